@@ -1,0 +1,63 @@
+-- What a text begins with, where white space or a name stands in front.
+use Rattle.std.proofs.Common.{◌≡◌, ℕ, List, [], ◌∷◌, ◌++◌, Bool, true, false, ◌&&◌, ◌||◌, ◌==◌, None, refl, sym, subst}
+use Rattle.std.proofs.lemmas.Bool.Decides.{Decides-eqb}
+use Rattle.std.specs.List.{list_all}
+use Rattle.std.specs.Prelude.{nat_le}
+use Rattle.pv_chars.specs.Spaces.{is_space, IsSpace, IsOptionalSpace}
+use Rattle.pv_chars.specs.Names.{is_name_start, is_name_byte, IsPlainName, LONGEST_NAME}
+use Rattle.pv_chars.specs.Scan.{after_bytes}
+use Rattle.pv_chars.proofs.Scanning.{begins}
+
+both : (x y : Bool) → (x && y) ≡ true → (x ≡ true) × (y ≡ true)
+both true y e = (refl, e)
+both false y e = cc
+
+-- none of the four white characters is one of these
+pub record HasNoSpace (p : ℕ → Bool) : Type 0 where
+  pub space : p 32 ≡ false
+  pub tab : p 9 ≡ false
+  pub return : p 13 ≡ false
+  pub feed : p 10 ≡ false
+
+no_space_by : (p : ℕ → Bool) → HasNoSpace p → (b : ℕ) (space tab return feed : Bool) → (b == 32) ≡ space → (b == 9) ≡ tab → (b == 13) ≡ return → (b == 10) ≡ feed → (space || tab || return || feed) ≡ true → p b ≡ false
+no_space_by p none b true tab return feed e f g h white = subst (λ c. p c ≡ false) (sym ((Decides-eqb b 32).0 e)) none.space
+no_space_by p none b false true return feed e f g h white = subst (λ c. p c ≡ false) (sym ((Decides-eqb b 9).0 f)) none.tab
+no_space_by p none b false false true feed e f g h white = subst (λ c. p c ≡ false) (sym ((Decides-eqb b 13).0 g)) none.return
+no_space_by p none b false false false true e f g h white = subst (λ c. p c ≡ false) (sym ((Decides-eqb b 10).0 h)) none.feed
+no_space_by p none b false false false false e f g h white = cc
+
+pub no_space : (p : ℕ → Bool) → HasNoSpace p → (b : ℕ) → is_space b ≡ true → p b ≡ false
+no_space p none b white = no_space_by p none b (b == 32) (b == 9) (b == 13) (b == 10) refl refl refl refl white
+
+pub names_have_no_space : HasNoSpace is_name_byte
+names_have_no_space = record { space = refl; tab = refl; return = refl; feed = refl }
+
+-- what begins no text doesn't begin it behind space either
+pub begins_behind : (p : ℕ → Bool) → HasNoSpace p → (space rest : List ℕ) → IsOptionalSpace space → begins p rest ≡ false → begins p (space ++ rest) ≡ false
+begins_behind p none [] rest s e = e
+begins_behind p none (b ∷ bs) rest s e = no_space p none b (both (is_space b) (list_all is_space bs) s).0
+
+pub begins_in_space : (p : ℕ → Bool) → HasNoSpace p → (space rest : List ℕ) → IsSpace space → begins p (space ++ rest) ≡ false
+begins_in_space p none [] rest s = absurd (s.some refl)
+begins_in_space p none (b ∷ bs) rest s = no_space p none b (both (is_space b) (list_all is_space bs) s.space).0
+
+-- a byte of one kind and none of the other
+pub unlike : (p : ℕ → Bool) (b : ℕ) (c : Bool) (other : ℕ → Bool) → p b ≡ true → (other b ≡ true → p b ≡ false) → other b ≡ c → c ≡ false
+unlike p b true other is apart e = let never = apart e in cc
+unlike p b false other is apart e = refl
+
+start_of : (b : ℕ) (bs : List ℕ) → IsPlainName (b ∷ bs) → is_name_start b ≡ true
+start_of b bs plain = (both (is_name_start b) (list_all is_name_byte bs) (both (is_name_start b && list_all is_name_byte bs) (nat_le _ LONGEST_NAME) plain).0).0
+
+pub name_begins : (name rest : List ℕ) → IsPlainName name → begins is_space (name ++ rest) ≡ false
+name_begins [] rest plain = cc
+name_begins (b ∷ bs) rest plain = unlike is_name_start b (is_space b) is_space (start_of b bs plain) (no_space is_name_start record { space = refl; tab = refl; return = refl; feed = refl } b) refl
+
+unequal : (c b : ℕ) (same : Bool) → is_name_start b ≡ true → is_name_start c ≡ false → (c == b) ≡ same → same ≡ false
+unequal c b true is other e = let at : is_name_start c ≡ is_name_start b = (λ i. is_name_start ((Decides-eqb c b).0 e i)) in cc
+unequal c b false is other e = refl
+
+-- a byte that begins no name doesn't stand in front of one
+pub name_not_after : (front : ℕ) (more name rest : List ℕ) → is_name_start front ≡ false → IsPlainName name → after_bytes (front ∷ more) (name ++ rest) ≡ None
+name_not_after front more [] rest other plain = cc
+name_not_after front more (b ∷ bs) rest other plain = rw (unequal front b (front == b) (start_of b bs plain) other refl) refl

@@ -1,0 +1,136 @@
+-- What the scanning functions say of a text and its parts: what they take is spelled so, and what is spelled so they take.
+use Rattle.std.proofs.Common.{◌≡◌, ℕ, suc, ◌+◌, List, [], ◌∷◌, ◌++◌, length, take, drop, Bool, true, false, ◌&&◌, ◌==◌, cond, Option, Some, None, refl, sym, ap, add-one, eq-eqb}
+use Rattle.std.proofs.lemmas.List.{take_at, drop_at, take-append-drop}
+use Rattle.std.proofs.lemmas.Bool.Decides.{Decides-eqb}
+use Rattle.std.proofs.lemmas.Option.{cond_some}
+use Rattle.std.specs.List.{list_all}
+use Rattle.std.specs.Prelude.{nat_le}
+use Rattle.pv_chars.specs.Spaces.{is_space, IsSpace, IsOptionalSpace}
+use Rattle.pv_chars.specs.Names.{is_name_start, is_name_byte, is_plain_name, IsPlainName, LONGEST_NAME}
+use Rattle.pv_chars.specs.Scan.{after_space, after_blank, name_length, name_at, short_name, after_bytes}
+
+-- the first byte is one of these
+abbrev pub begins : (ℕ → Bool) → List ℕ → Bool
+begins p [] = false
+begins p (b ∷ bs) = p b
+
+-- Optional space stands before the rest, and all of it.
+pub record TakesSpace (bytes rest : List ℕ) : Type 0 where
+  pub space : List ℕ
+  pub optional : IsOptionalSpace space
+  pub whole : bytes ≡ space ++ rest
+  pub ends : begins is_space rest ≡ false
+
+space_step : (b : ℕ) (bs : List ℕ) (white : Bool) → is_space b ≡ white → TakesSpace bs (after_space bs) → TakesSpace (b ∷ bs) (cond white (after_space bs) (b ∷ bs))
+space_step b bs true is below = record { space = b ∷ below.space; optional = rw is below.optional; whole = ap (λ r. b ∷ r) below.whole; ends = below.ends }
+space_step b bs false is below = record { space = []; optional = refl; whole = refl; ends = is }
+
+pub after_space_takes : (bytes : List ℕ) → TakesSpace bytes (after_space bytes)
+after_space_takes [] = record { space = []; optional = refl; whole = refl; ends = refl }
+after_space_takes (b ∷ bs) = space_step b bs (is_space b) refl (after_space_takes bs)
+
+both : (x y : Bool) → (x && y) ≡ true → (x ≡ true) × (y ≡ true)
+both true y e = (refl, e)
+both false y e = cc
+
+pub after_space-ended : (rest : List ℕ) → begins is_space rest ≡ false → after_space rest ≡ rest
+after_space-ended [] e = refl
+after_space-ended (b ∷ bs) e = rw e refl
+
+pub after_space-append : (space rest : List ℕ) → IsOptionalSpace space → begins is_space rest ≡ false → after_space (space ++ rest) ≡ rest
+after_space-append [] rest s e = after_space-ended rest e
+after_space-append (b ∷ bs) rest s e = let white = both (is_space b) (list_all is_space bs) s in rw white.0 (after_space-append bs rest white.1 e)
+
+-- Some space stands before the rest, and all of it.
+pub record TakesBlank (bytes rest : List ℕ) : Type 0 where
+  pub space : List ℕ
+  pub some : IsSpace space
+  pub whole : bytes ≡ space ++ rest
+  pub ends : begins is_space rest ≡ false
+
+blank_step : (b : ℕ) (bs rest : List ℕ) (white : Bool) → is_space b ≡ white → cond white (Some (after_space bs)) None ≡ Some rest → TakesBlank (b ∷ bs) rest
+blank_step b bs rest true is e =
+    let below = after_space_takes bs in
+    let same : after_space bs ≡ rest = cc in
+    record { space = b ∷ below.space; some = record { some = λ none. cc; space = rw is below.optional }; whole = ap (λ r. b ∷ r) (rw (← same) below.whole); ends = rw (← same) below.ends }
+blank_step b bs rest false is e = cc
+
+pub after_blank_takes : (bytes rest : List ℕ) → after_blank bytes ≡ Some rest → TakesBlank bytes rest
+unfolding after_blank
+after_blank_takes [] rest e = cc
+after_blank_takes (b ∷ bs) rest e = blank_step b bs rest (is_space b) refl e
+
+pub after_blank-append : (space rest : List ℕ) → IsSpace space → begins is_space rest ≡ false → after_blank (space ++ rest) ≡ Some rest
+unfolding after_blank
+after_blank-append [] rest s e = absurd (s.some refl)
+after_blank-append (b ∷ bs) rest s e = let white = both (is_space b) (list_all is_space bs) s.space in rw (white.0, after_space-append bs rest white.1 e) refl
+
+after_byte : (p : ℕ) (ps : List ℕ) (b : ℕ) (bs rest : List ℕ) (same : Bool) → (p == b) ≡ same → cond same (after_bytes ps bs) None ≡ Some rest → (after_bytes ps bs ≡ Some rest → bs ≡ ps ++ rest) → b ∷ bs ≡ p ∷ (ps ++ rest)
+after_byte p ps b bs rest true is e below = let at = (Decides-eqb p b).0 is in let after = below e in cc
+after_byte p ps b bs rest false is e below = cc
+
+pub after_bytes_takes : (front bytes rest : List ℕ) → after_bytes front bytes ≡ Some rest → bytes ≡ front ++ rest
+after_bytes_takes [] bytes rest e = cc
+after_bytes_takes (p ∷ ps) [] rest e = cc
+after_bytes_takes (p ∷ ps) (b ∷ bs) rest e = after_byte p ps b bs rest (p == b) refl e (after_bytes_takes ps bs rest)
+
+pub after_bytes-append : (front rest : List ℕ) → after_bytes front (front ++ rest) ≡ Some rest
+after_bytes-append [] rest = refl
+after_bytes-append (p ∷ ps) rest = rw (eq-eqb p p refl) (after_bytes-append ps rest)
+
+-- A plain name stands before the rest, and all of it.
+pub record TakesName (bytes name rest : List ℕ) : Type 0 where
+  pub plain : IsPlainName name
+  pub whole : bytes ≡ name ++ rest
+  pub ends : begins is_name_byte rest ≡ false
+
+-- so many name bytes stand in front, and no more
+record CountsNameBytes (bytes : List ℕ) (count : ℕ) : Type 0 where
+  in_name : list_all is_name_byte (take count bytes) ≡ true
+  as_many : length (take count bytes) ≡ count
+  ends : begins is_name_byte (drop count bytes) ≡ false
+
+length_step : (b : ℕ) (bs : List ℕ) (in_name : Bool) → is_name_byte b ≡ in_name → CountsNameBytes bs (name_length bs) → CountsNameBytes (b ∷ bs) (cond in_name (name_length bs + 1) 0)
+length_step b bs true is below = rw add-one record { in_name = rw is below.in_name; as_many = ap suc below.as_many; ends = below.ends }
+length_step b bs false is below = record { in_name = refl; as_many = refl; ends = is }
+
+name_length_counts : (bytes : List ℕ) → CountsNameBytes bytes (name_length bytes)
+name_length_counts [] = record { in_name = refl; as_many = refl; ends = refl }
+name_length_counts (b ∷ bs) = length_step b bs (is_name_byte b) refl (name_length_counts bs)
+
+starts_in_name : (b : ℕ) → is_name_start b ≡ true → is_name_byte b ≡ true
+starts_in_name b e = rw e refl
+
+name_length-append : (name rest : List ℕ) → list_all is_name_byte name ≡ true → begins is_name_byte rest ≡ false → name_length (name ++ rest) ≡ length name
+name_length-append [] [] all ends = refl
+name_length-append [] (b ∷ bs) all ends = rw ends refl
+name_length-append (b ∷ bs) rest all ends = let here = both (is_name_byte b) (list_all is_name_byte bs) all in rw (here.0, name_length-append bs rest here.1 ends, add-one) refl
+
+chosen : {A : Type 0} (test : Bool) (o : Option A) (y : A) → cond test o None ≡ Some y → (test ≡ true) × (o ≡ Some y)
+chosen true o y e = (refl, e)
+chosen false o y e = cc
+
+name_found : (b : ℕ) (bs name rest : List ℕ) → is_name_start b ≡ true → nat_le (suc (name_length bs)) LONGEST_NAME ≡ true → (b ∷ take (name_length bs) bs ≡ name) → drop (name_length bs) bs ≡ rest → TakesName (b ∷ bs) name rest
+name_found b bs name rest start short is_name is_rest =
+    let counts = name_length_counts bs in
+    let plain : is_plain_name (b ∷ take (name_length bs) bs) ≡ true = rw (start, counts.in_name, counts.as_many) short in
+    record { plain = rw (← is_name) plain; whole = rw (← is_name, ← is_rest) (ap (λ r. b ∷ r) (sym (take-append-drop (name_length bs) bs))); ends = rw (← is_rest) counts.ends }
+
+pub name_at_takes : (bytes name rest : List ℕ) → name_at bytes ≡ Some (name, rest) → TakesName bytes name rest
+unfolding name_at
+name_at_takes [] name rest e = cc
+name_at_takes (b ∷ bs) name rest e =
+    let start = chosen (is_name_start b) (short_name (name_length (b ∷ bs)) (b ∷ bs)) (name, rest) e in
+    let count : name_length (b ∷ bs) ≡ suc (name_length bs) = rw (starts_in_name b start.0, add-one) refl in
+    let short = cond_some _ _ _ (rw count at start.1) in
+    let halves : (b ∷ take (name_length bs) bs, drop (name_length bs) bs) ≡ (name, rest) = short.1 in
+    name_found b bs name rest start.0 short.0 (ap (λ (h : List ℕ × List ℕ). h.0) halves) (ap (λ (h : List ℕ × List ℕ). h.1) halves)
+
+pub name_at-append : (name rest : List ℕ) → IsPlainName name → begins is_name_byte rest ≡ false → name_at (name ++ rest) ≡ Some (name, rest)
+unfolding name_at
+name_at-append [] rest plain ends = cc
+name_at-append (b ∷ bs) rest plain ends =
+    let parts = both (is_name_start b && list_all is_name_byte bs) (nat_le (length (b ∷ bs)) LONGEST_NAME) plain in
+    let front = both (is_name_start b) (list_all is_name_byte bs) parts.0 in
+    let count = name_length-append bs rest front.1 ends in
+    rw (front.0, count, add-one, parts.1, take_at bs rest (length bs) refl, drop_at bs rest (length bs) refl) refl

@@ -1,0 +1,4 @@
+pub mod Spaces
+pub mod Names
+pub mod Texts
+pub mod Scan

@@ -1,0 +1,108 @@
+//! Parts of a text, read from the left: white space, names and fixed bytes.
+
+ghost use Rattle.std.specs.Prelude.{◌≡◌, ◌≤◌, ◌<◌, length, IfSome};
+ghost use Rattle.std.specs.Option.{option_map};
+ghost use Rattle.pv_chars.specs.Spaces.{is_space};
+ghost use Rattle.pv_chars.specs.Scan.{space_length, after_space, after_blank, name_length, name_at, after_bytes};
+
+use crate::names::{LONGEST_NAME, is_name_byte, is_name_start};
+
+/// White space of XML 1.0, section 2.3.
+pub fn is_space(b: u8) -> bool
+    ensures { result ≡ is_space b }
+{
+    b == b' ' || b == b'\t' || b == b'\r' || b == b'\n'
+}
+
+/// How many bytes at the front are white space.
+pub fn space_length(bytes: &[u8]) -> usize
+    ensures value { result ≡ space_length bytes.now }
+    ensures within { result ≤ length bytes.now }
+{
+    let mut count = 0;
+    for b in bytes {
+        if !is_space(*b) {
+            return count;
+        }
+        count += 1;
+    }
+    count
+}
+
+/// What stands after the white space at the front.
+pub fn after_space(bytes: &[u8]) -> &[u8]
+    ensures after { result.now ≡ after_space bytes.now }
+    ensures within { length result.now ≤ length bytes.now }
+{
+    let mut rest = bytes;
+    while let [b, after @ ..] = rest {
+        if !is_space(*b) {
+            break;
+        }
+        rest = after;
+    }
+    rest
+}
+
+/// What stands after the white space at the front, where there is some.
+#[tactic(auto, unfolding(crate::specs::Scan::after_blank))]
+pub fn after_blank(bytes: &[u8]) -> Option<&[u8]>
+    ensures after { option_map (λ r. r.now) result ≡ after_blank bytes.now }
+    ensures within { IfSome result (λ r. length r.now < length bytes.now) }
+{
+    match bytes {
+        [b, rest @ ..] if is_space(*b) => Some(after_space(rest)),
+        _ => None,
+    }
+}
+
+fn name_length(bytes: &[u8]) -> usize
+    ensures value { result ≡ name_length bytes.now }
+    ensures within { result ≤ length bytes.now }
+{
+    let mut count = 0;
+    for b in bytes {
+        if !is_name_byte(*b) {
+            return count;
+        }
+        count += 1;
+    }
+    count
+}
+
+/// The longest name at the front, and what stands after it; none where it is no plain name.
+#[tactic(auto, unfolding(crate::specs::Scan::name_at))]
+pub fn name_at(bytes: &[u8]) -> Option<(&[u8], &[u8])>
+    ensures name { option_map (λ r. (r.0.now, r.1.now)) result ≡ name_at bytes.now }
+    ensures within { IfSome result (λ r. length r.1.now ≤ length bytes.now) }
+{
+    match bytes {
+        [b, ..] if is_name_start(*b) => {
+            let count = name_length(bytes);
+            if count > LONGEST_NAME {
+                return None;
+            }
+            Some(bytes.split_at(count))
+        }
+        _ => None,
+    }
+}
+
+/// What stands after these bytes, where they stand at the front.
+pub fn after_bytes<'a>(front: &[u8], bytes: &'a [u8]) -> Option<&'a [u8]>
+    ensures after { option_map (λ r. r.now) result ≡ after_bytes front.now bytes.now }
+    ensures within { IfSome result (λ r. length r.now ≤ length bytes.now) }
+{
+    let mut left = front;
+    let mut rest = bytes;
+    while let [p, more @ ..] = left {
+        match rest {
+            [b, after @ ..] if b == p => {
+                left = more;
+                rest = after;
+            }
+            _ => return None,
+        }
+    }
+    Some(rest)
+}

@@ -1,0 +1,11 @@
+pub mod After
+pub mod Answer
+pub mod Ends
+pub mod Joins
+pub mod Listed
+pub mod Progress
+pub mod Reached
+pub mod Reading
+pub mod Tokens
+pub mod Unmarked
+pub mod Written

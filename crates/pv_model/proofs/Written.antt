@@ -1,0 +1,63 @@
+-- Marks written into a list from a place on.
+use Rattle.std.proofs.Common.{◌≡◌, ℕ, suc, ◌+◌, ◌≤◌, ◌<◌, Bool, false, ◌||◌, ◌&&◌, List, [], ◌∷◌, ◌++◌, length, take, drop, set, get_or, refl, sym, ap, ◌∙◌, arith, append_assoc, length-append, add-one}
+use Rattle.std.proofs.lemmas.List.{set_split, take_at, drop_at, drop-drop, length-take-le, take-append-le, take-take}
+use Rattle.pv_model.specs.Models.{PlainPart, name, seq, choice, opt, star, plus, PlainParts, no_parts, part}
+use Rattle.pv_model.specs.Marks.{mark_count, mark_count_all, is_end, may_be_empty, marks_after, marks_after_in_order, marks_after_in_each, written}
+
+mutual
+  pub length-marks_after : (p : PlainPart) (e : Bool) (y : ℕ) (ms : List Bool) → length (marks_after p e y ms) ≡ mark_count p
+  length-marks_after (name x) e y ms = refl
+  length-marks_after (seq ps) e y ms = length-in_order ps e y ms
+  length-marks_after (choice ps) e y ms = length-in_each ps e y ms
+  length-marks_after (opt p) e y ms = length-marks_after p e y ms
+  length-marks_after (star p) e y ms = ap suc (length-marks_after p (e || get_or ms 0 false) y (drop 1 ms))
+  length-marks_after (plus p) e y ms = ap suc (length-marks_after p (e || get_or ms 0 false) y (drop 1 ms))
+
+  length-in_order : (ps : PlainParts) (e : Bool) (y : ℕ) (ms : List Bool) → length (marks_after_in_order ps e y ms) ≡ mark_count_all ps
+  length-in_order no_parts e y ms = refl
+  length-in_order (part p ps) e y ms =
+      let rest = is_end p ms || e && may_be_empty p in
+      length-append (marks_after p e y ms) (marks_after_in_order ps rest y (drop (mark_count p) ms))
+      ∙ omega (arith, length-marks_after p e y ms, length-in_order ps rest y (drop (mark_count p) ms))
+
+  length-in_each : (ps : PlainParts) (e : Bool) (y : ℕ) (ms : List Bool) → length (marks_after_in_each ps e y ms) ≡ mark_count_all ps
+  length-in_each no_parts e y ms = refl
+  length-in_each (part p ps) e y ms =
+      length-append (marks_after p e y ms) (marks_after_in_each ps e y (drop (mark_count p) ms))
+      ∙ omega (arith, length-marks_after p e y ms, length-in_each ps e y (drop (mark_count p) ms))
+
+pub written_one : (at : ℕ) (b : Bool) (old : List Bool) → at + 1 ≤ length old → set old at b ≡ written at (b ∷ []) old
+written_one at b old h = let h1 : at < length old = omega arith in set_split old at b h1 ∙ rw (append_assoc, add-one)
+
+module _ (at n : ℕ) (new old now : List Bool) (e : length new ≡ n) (room : at + n ≤ length old) (w : now ≡ written at new old) where
+  length-front : length (take at old ++ new) ≡ at + n
+  length-front = omega (arith, length-append (take at old) new, length-take-le at old (omega arith))
+
+  pub drop-written : drop (at + n) now ≡ drop n (drop at old)
+  drop-written =
+      ap (drop (at + n)) w ∙ drop_at (take at old ++ new) (drop (at + length new) old) (at + n) length-front
+      ∙ ap (λ k. drop (at + k) old) e ∙ sym (drop-drop n at old)
+
+  pub take-written : take (at + n) now ≡ take at old ++ new
+  take-written = ap (take (at + n)) w ∙ take_at (take at old ++ new) (drop (at + length new) old) (at + n) length-front
+
+  pub written-written : (more : List Bool) → written (at + n) more now ≡ written at (new ++ more) old
+  written-written more =
+      let front : take (at + n) now ++ more ≡ take at old ++ (new ++ more) = ap (λ l. l ++ more) take-written ∙ append_assoc (take at old) new more in
+      let len : length (new ++ more) ≡ n + length more = length-append new more ∙ ap (λ k. k + length more) e in
+      let back : drop (at + n + length more) now ≡ drop (at + length (new ++ more)) old =
+      sym (drop-drop (length more) (at + n) now) ∙ ap (drop (length more)) drop-written ∙ drop-drop (length more) n (drop at old)
+      ∙ drop-drop (n + length more) at old ∙ ap (λ k. drop (at + k) old) (sym len) in
+      cc
+
+-- a mark and those behind it
+pub written_first : (at : ℕ) (b : Bool) (new old now : List Bool) → at + suc (length new) ≤ length old → now ≡ written (at + 1) new old → set now at b ≡ written at (b ∷ new) old
+written_first at b new old now h w =
+    let rest = drop (at + 1 + length new) old in
+    let w1 : now ≡ take (at + 1) old ++ (new ++ rest) = w ∙ append_assoc (take (at + 1) old) new rest in
+    let len : length (take (at + 1) old) ≡ at + 1 = length-take-le (at + 1) old (omega arith) in
+    let long : at < length now = omega (arith, ap length w1, length-append (take (at + 1) old) (new ++ rest)) in
+    let before : take at now ≡ take at old = ap (take at) w1 ∙ take-append-le at (take (at + 1) old) (new ++ rest) (omega arith) ∙ take-take at (at + 1) old (omega arith) in
+    let behind : drop (suc at) now ≡ new ++ rest = ap (drop (suc at)) w1 ∙ drop_at (take (at + 1) old) (new ++ rest) (suc at) (omega arith) in
+    let same : drop (at + suc (length new)) old ≡ rest = ap (λ k. drop k old) (omega arith) in
+    set_split now at b long ∙ rw (before, behind, same, append_assoc)

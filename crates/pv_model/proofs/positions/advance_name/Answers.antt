@@ -1,0 +1,17 @@
+use Rattle.std.proofs.Common.{◌≡◌, ◌&&◌, ◌==◌, ◌∙◌, ap, arith, rules, [], ◌∷◌}
+use Rattle.std.proofs.lemmas.Grind.{common_steps}
+use Rattle.pv_model.specs.Marks.{written}
+use Rattle.pv_model.proofs.Written.{written_one}
+use Rattle.pv_model.proofs.positions.advance_name.Goals as goal
+
+pub returns : goal.returns
+returns c =
+    let is : c.if-entered.is_end ≡ (c.args.entered && c.args.own.0 == c.args.name.0) = search rules in
+    record {
+      next = search rules;
+      was_end = grind (arith, common_steps);
+      is_end = is;
+      is_marked = is;
+      may_be_empty = search rules;
+      marks = written_one c.args.at c.if-entered.is_end c.args.marks.now c.requires ∙ ap (λ b. written c.args.at (b ∷ []) c.args.marks.now) is;
+    }

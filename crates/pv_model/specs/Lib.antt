@@ -1,0 +1,4 @@
+pub mod Marks
+pub mod Models
+pub mod Moves
+pub mod Read
