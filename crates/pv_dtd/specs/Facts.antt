@@ -1,0 +1,86 @@
+-- What every DTD keeps, as tests.
+use Rattle.std.specs.Prelude.{ℕ, suc, ◌-◌, max, Bool, true, false, not, ◌&&◌, nat_le, nat_lt, nat_eq, List, [], ◌∷◌, length}
+use Rattle.std.specs.List.{list_all, list_any, range_with_len}
+use Rattle.std.specs.Str.{bytes_eq}
+use Rattle.pv_chars.specs.Names.{is_plain_name}
+use Rattle.pv_model.specs.Models.{PlainPart, name, seq, choice, opt, star, plus, PlainParts, no_parts, part, PlainModel, empty, any, mixed, children}
+use Rattle.pv_dtd.specs.Plain.{PlainDtd, mentions}
+
+-- no two of the names are the same
+abbrev pub are_distinct : List (List ℕ) → Bool
+are_distinct [] = true
+are_distinct (n ∷ ns) = not (list_any (bytes_eq n) ns) && are_distinct ns
+
+abbrev pub are_distinct_numbers : List ℕ → Bool
+are_distinct_numbers [] = true
+are_distinct_numbers (n ∷ ns) = not (list_any (nat_eq n) ns) && are_distinct_numbers ns
+
+-- the names are plain, and differ
+abbrev pub are_names : List (List ℕ) → Bool
+are_names names = list_all is_plain_name names && are_distinct names
+
+-- a name is one of the DTD
+abbrev pub are_known : PlainDtd → Bool
+are_known g = list_all (λ y. nat_lt y (length g.names)) (mentions g.models)
+
+-- a name that isn't declared stands in some model
+abbrev pub are_mentioned : PlainDtd → Bool
+are_mentioned g = list_all (λ y. list_any (nat_eq y) (mentions g.models)) (range_with_len (length g.models) (length g.names - length g.models))
+
+abbrev pub has_operator : PlainPart → Bool
+has_operator (name y) = false
+has_operator (seq ps) = false
+has_operator (choice ps) = false
+has_operator (opt p) = true
+has_operator (star p) = true
+has_operator (plus p) = true
+
+abbrev pub members : PlainParts → ℕ
+members no_parts = 0
+members (part p ps) = suc (members ps)
+
+-- each sequence has a member, each choice two, and no `?`, `*` or `+` stands directly in another
+abbrev mutual
+  pub is_formed : PlainPart → Bool
+  is_formed (name y) = true
+  is_formed (seq ps) = nat_le 1 (members ps) && are_formed ps
+  is_formed (choice ps) = nat_le 2 (members ps) && are_formed ps
+  is_formed (opt p) = not (has_operator p) && is_formed p
+  is_formed (star p) = not (has_operator p) && is_formed p
+  is_formed (plus p) = not (has_operator p) && is_formed p
+
+  pub are_formed : PlainParts → Bool
+  are_formed no_parts = true
+  are_formed (part p ps) = is_formed p && are_formed ps
+
+-- how many sequences and choices stand one inside another
+abbrev mutual
+  pub nesting : PlainPart → ℕ
+  nesting (name y) = 0
+  nesting (seq ps) = suc (nesting_all ps)
+  nesting (choice ps) = suc (nesting_all ps)
+  nesting (opt p) = nesting p
+  nesting (star p) = nesting p
+  nesting (plus p) = nesting p
+
+  pub nesting_all : PlainParts → ℕ
+  nesting_all no_parts = 0
+  nesting_all (part p ps) = max (nesting p) (nesting_all ps)
+
+abbrev pub MOST_NESTING : ℕ
+MOST_NESTING = 64
+
+abbrev pub is_formed_model : PlainModel → Bool
+is_formed_model empty = true
+is_formed_model any = true
+is_formed_model (mixed ys) = are_distinct_numbers ys
+is_formed_model (children p) = is_formed p && nat_le (nesting p) MOST_NESTING
+
+abbrev pub MOST_TYPES : ℕ
+MOST_TYPES = 4096
+
+abbrev pub MOST_PARTS : ℕ
+MOST_PARTS = 65536
+
+abbrev pub MOST_BYTES : ℕ
+MOST_BYTES = 4194304

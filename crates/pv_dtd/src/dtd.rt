@@ -1,0 +1,107 @@
+//! A DTD that was read.
+
+ghost use Rattle.std.specs.Prelude.{◌≡◌, ◌≤◌, ◌+◌, IsTrue, length};
+ghost use Rattle.std.specs.List.{list_all};
+ghost use Rattle.pv_dtd.specs.Plain.{parts_in_models};
+ghost use Rattle.pv_dtd.specs.Facts.{are_names, are_known, are_mentioned, is_formed_model, MOST_TYPES, MOST_PARTS};
+ghost use Rattle.pv_dtd.specs.Seen.{dtd_of};
+
+use crate::names::NameTable;
+use indexmap::IndexSet;
+use pv_model::{ContentModel, NameId};
+
+/// Names and content models. The declared names come first, in order of declaration, and then those that are only mentioned.
+#[derive(Debug, Drop)]
+pub struct Dtd {
+    names: IndexSet<Vec<u8>>,
+    models: Vec<ContentModel>,
+    parts: u32,
+    pub ghost named: { length models.items ≤ length names.keys },
+    pub ghost distinct: { IsTrue (are_names (dtd_of names.keys models.items).names) },
+    pub ghost known: { IsTrue (are_known (dtd_of names.keys models.items)) },
+    pub ghost mentioned: { IsTrue (are_mentioned (dtd_of names.keys models.items)) },
+    pub ghost formed: { IsTrue (list_all is_formed_model (dtd_of names.keys models.items).models) },
+    pub ghost counted: { parts ≡ parts_in_models (dtd_of names.keys models.items).models },
+    pub ghost few_types: { length models.items ≤ MOST_TYPES },
+    pub ghost few_parts: { parts ≤ MOST_PARTS },
+    pub ghost few_names: { length names.keys ≤ MOST_TYPES + MOST_PARTS },
+}
+
+impl Dtd {
+    ghost use Rattle.pv_dtd.specs.Text.{IsOfText};
+    ghost use Rattle.std.specs.Prelude.{◌≡◌, ◌+◌, ◌<◌, length, map, slice_get, Some};
+    ghost use Rattle.std.specs.Option.{option_copied, option_map};
+    ghost use Rattle.pv_model.specs.Read.{plain_model};
+    ghost use Rattle.pv_dtd.specs.Plain.{declared, parts_in_models, number_of, model_of};
+    ghost use Rattle.pv_dtd.specs.Reads.{plain_dtd};
+
+    // The DTD of a text: its names, its models and the number of their parts.
+    pub(crate) fn of(names: NameTable, models: Vec<ContentModel>, parts: u32) -> Dtd
+        requires text { IsOfText (record { names = names; models = map plain_model models.items }) }
+        requires counted { parts ≡ parts_in_models (map plain_model models.items) }
+        ensures { plain_dtd result ≡ record { names = names; models = map plain_model models.items } }
+    {
+        Dtd {
+            names: names.into_set(),
+            models,
+            parts,
+        }
+    }
+
+    /// The number of declared names.
+    pub fn count(&self) -> u32
+        ensures { result ≡ declared (plain_dtd self.now) }
+    {
+        self.models.len() as u32
+    }
+
+    /// The number of all names.
+    pub fn names(&self) -> u32
+        ensures { result ≡ length (plain_dtd self.now).names }
+    {
+        self.names.len() as u32
+    }
+
+    /// The number of parts of all content models: nodes of content particles, and names listed in mixed models.
+    pub fn parts(&self) -> u32
+        ensures { result ≡ parts_in_models (plain_dtd self.now).models }
+    {
+        self.parts
+    }
+
+    /// The number of parts and names.
+    pub fn columns(&self) -> u32
+        ensures { result ≡ parts_in_models (plain_dtd self.now).models + length (plain_dtd self.now).names }
+    {
+        self.parts + self.names.len() as u32
+    }
+
+    /// The number of a name.
+    pub fn name_id(&self, name: &[u8]) -> Option<NameId>
+        ensures { option_map (λ (id : NameId). id.0) result ≡ number_of (plain_dtd self.now) name.now }
+    {
+        match self.names.get_index_of(name) {
+            Some(place) => Some(NameId(place as u32)),
+            None => None,
+        }
+    }
+
+    /// The name of a number.
+    pub fn name_of(&self, id: NameId) -> &[u8]
+        requires { id.0 < length (plain_dtd self.now).names }
+        ensures { slice_get (plain_dtd self.now).names id.0 ≡ Some result.now }
+    {
+        match self.names.get_index(id.0 as usize) {
+            Some(name) => name.as_slice(),
+            None => unreachable!(),
+        }
+    }
+
+    /// The content model of a name, where it is declared.
+    pub fn model_of(&self, id: NameId) -> Option<&ContentModel>
+        requires { id.0 < length (plain_dtd self.now).names }
+        ensures { option_map plain_model (option_copied result) ≡ model_of (plain_dtd self.now) id.0 }
+    {
+        self.models.get(id.0 as usize)
+    }
+}

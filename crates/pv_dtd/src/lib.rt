@@ -1,0 +1,18 @@
+//! Document type definitions: element declarations and what they say (XML 1.0, section 3.2).
+#![tactic(auto)]
+
+mod bytes;
+mod declarations;
+mod dtd;
+mod errors;
+mod laws;
+mod mixed;
+mod models;
+mod names;
+mod particles;
+mod reading;
+
+pub use dtd::Dtd;
+pub use errors::DtdError;
+pub use laws::one_meaning;
+pub use reading::read_dtd;

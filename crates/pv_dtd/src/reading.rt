@@ -1,0 +1,53 @@
+//! Reads a DTD.
+
+ghost use Rattle.std.specs.Prelude.{◌≡◌, ◌≤◌, length, IfOk, IfErr};
+ghost use Rattle.pv_dtd.specs.Plain.{PlainDtd};
+ghost use Rattle.pv_dtd.specs.Grammar.{IsDtdText};
+ghost use Rattle.pv_dtd.specs.Facts.{MOST_BYTES};
+ghost use Rattle.pv_dtd.specs.Reads.{plain_dtd, Refuses};
+ghost use Rattle.pv_dtd.specs.Reading.{Gives};
+ghost use Rattle.pv_dtd.specs.Text.{text_at};
+
+use crate::declarations::{declared_at, models_at};
+use crate::dtd::Dtd;
+use crate::errors::DtdError;
+use std::alloc::Global;
+
+/// The most bytes of a DTD.
+const BYTE_LIMIT: usize = 4_194_304;
+
+/// The most names that a DTD declares.
+const TYPE_LIMIT: usize = 4_096;
+
+/// The most parts of its content models.
+const PART_LIMIT: usize = 65_536;
+
+// The names are read first, so that the declared ones come first; the models are read with their numbers.
+fn text_at(alloc: Global, bytes: &[u8]) -> Result<Dtd, DtdError>
+    requires { length bytes.now ≤ MOST_BYTES }
+    ensures { Gives plain_dtd result (text_at bytes.now) }
+{
+    let mut names = declared_at(alloc, bytes)?;
+    if names.len() > TYPE_LIMIT {
+        return Err(DtdError::Syntax(0));
+    }
+    let (models, parts) = models_at(alloc, &mut names, bytes)?;
+    if parts > PART_LIMIT {
+        return Err(DtdError::Syntax(0));
+    }
+    Ok(Dtd::of(names, models, parts as u32))
+}
+
+/// The DTD that the bytes are. A refusal names the first item in fault by the number of whole items before it, which is 0 for now.
+pub fn read_dtd(alloc: Global, bytes: &[u8]) -> Result<Dtd, DtdError>
+    ensures read { IfOk result (λ dtd. IsDtdText bytes.now (plain_dtd dtd)) }
+    ensures refused { IfErr result (λ error. Refuses error ((g : PlainDtd) → IsDtdText bytes.now g → ⊥)) }
+{
+    if bytes.len() > BYTE_LIMIT {
+        return Err(DtdError::Syntax(0));
+    }
+    text_at(alloc, bytes)
+}
+
+#[cfg(test)]
+mod tests;

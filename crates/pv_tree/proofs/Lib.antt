@@ -1,0 +1,9 @@
+pub mod Every
+pub mod Levels
+pub mod Forests
+pub mod Owners
+pub mod Finding
+pub mod Alike
+pub mod Spread
+pub mod ValidLists
+pub mod FirstInvalid

@@ -1,0 +1,13 @@
+pub mod Plain
+pub mod Hedge
+pub mod View
+pub mod Words
+pub mod Tokens
+pub mod Lists
+pub mod Search
+pub mod Places
+pub mod Legal
+pub mod Texts
+pub mod Laws
+pub mod Read
+pub mod Docs

@@ -1,0 +1,36 @@
+-- What stands at a path of a document. The empty path is the document node, and [0] is its root.
+use Rattle.std.specs.Prelude.{ℕ, zero, suc, List, [], ◌∷◌, Option, Some, None, option_map, option_and_then, slice_get}
+use Rattle.pv_tree.specs.Plain.{Tree, element, text_node, cdata_node, misc_node, trees_of}
+
+-- the kids of an element, and none of any other node
+abbrev pub kids_of : {M : Type 0} → Tree M → List (Tree M)
+kids_of (element x attrs ending kids mark) = trees_of kids
+kids_of (text_node units) = []
+kids_of (cdata_node bytes) = []
+kids_of (misc_node bytes) = []
+
+-- the node at a path below this one
+abbrev pub node_below : {M : Type 0} → List ℕ → Tree M → Option (Tree M)
+node_below [] t = Some t
+node_below (i ∷ path) t = option_and_then (node_below path) (slice_get (kids_of t) i)
+
+pub data Spot (M : Type 0) : Type 0 where
+  at_document : Spot M
+  at_node : (node : Tree M) → Spot M
+
+abbrev pub spot_at : {M : Type 0} → List ℕ → Tree M → Option (Spot M)
+spot_at [] root = Some at_document
+spot_at (zero ∷ path) root = option_map at_node (node_below path root)
+spot_at (suc i ∷ path) root = None
+
+-- the list of an element
+abbrev pub list_of : {M : Type 0} → Tree M → Option (List (Tree M))
+list_of (element x attrs ending kids mark) = Some (trees_of kids)
+list_of (text_node units) = None
+list_of (cdata_node bytes) = None
+list_of (misc_node bytes) = None
+
+abbrev pub list_at : {M : Type 0} → List ℕ → Tree M → Option (List (Tree M))
+list_at [] root = Some (root ∷ [])
+list_at (zero ∷ path) root = option_and_then list_of (node_below path root)
+list_at (suc i ∷ path) root = None

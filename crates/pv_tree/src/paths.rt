@@ -1,0 +1,54 @@
+//! Places in a document.
+
+ghost use Rattle.std.specs.Prelude.{◌≡◌, IfOk};
+
+use pv_chars::NoMemory;
+use std::alloc::Global;
+use std::marker::Model;
+
+/// A place, seen as the list of the numbers of the kids that lead to it from the document node.
+///
+/// The empty path is the document node, `[0]` the root, and `[0, 2]` the root's third child node.
+#[derive(Debug, Drop)]
+pub struct Path {
+    places: Vec<u32>,
+}
+
+impl Model for Path {
+    ghost use Rattle.std.specs.Prelude.{List, ℕ};
+
+    ghost Value = { List ℕ };
+
+    ghost view = { λ p. p.places.items };
+}
+
+impl Path {
+    /// The path of these numbers.
+    pub fn new(alloc: Global, places: &[u32]) -> Result<Path, NoMemory>
+        ensures { IfOk result (λ p. p ≡ places.now) }
+    {
+        Ok(Path {
+            places: places.to_vec(alloc)?,
+        })
+    }
+
+    /// The numbers, from the document node down.
+    pub fn places(&self) -> &[u32]
+        ensures { result.now ≡ self.now }
+    {
+        self.places.as_slice()
+    }
+}
+
+#[cfg(test)]
+mod tests {
+    use super::Path;
+    use std::test::Fail;
+
+    #[test]
+    fn keeps_places(rt: HostRuntime) -> Result<(), Fail> {
+        let path = Path::new(rt.alloc(), &[0, 2])?;
+        assert_eq!(rt; path.places(), [0, 2].as_slice());
+        Ok(())
+    }
+}

@@ -1,0 +1,92 @@
+//! The words of lists of nodes.
+
+ghost use Rattle.std.specs.Prelude.{◌≡◌, ◌++◌, List, IfOk, OnOk, map};
+ghost use Rattle.pv_model.specs.Models.{PlainToken};
+ghost use Rattle.pv_model.specs.Read.{plain_token};
+ghost use Rattle.pv_dtd.specs.Plain.{number_of};
+ghost use Rattle.pv_dtd.specs.Reads.{plain_dtd};
+ghost use Rattle.pv_tree.specs.Hedge.{token};
+ghost use Rattle.pv_tree.specs.Words.{node_before, word_of};
+ghost use Rattle.pv_tree.specs.Tokens.{token_before};
+ghost use Rattle.pv_tree.specs.Read.{plain, forest};
+
+use crate::nodes::Node;
+use pv_chars::NoMemory;
+use pv_dtd::Dtd;
+use pv_model::Token;
+use std::alloc::Global;
+use std::marker::Model;
+
+/// Tokens, seen as their list.
+#[derive(Debug, Drop)]
+pub struct Tokens {
+    items: Vec<Token>,
+}
+
+impl Model for Tokens {
+    ghost use Rattle.std.specs.Prelude.{List};
+    ghost use Rattle.pv_model.specs.declared.models.Token.{Token};
+
+    ghost Value = { List Token };
+
+    ghost view = { λ t. t.items.items };
+}
+
+impl Tokens {
+    /// The tokens, which aren't copied.
+    pub fn of(items: Vec<Token>) -> Tokens
+        ensures { result ≡ items.items }
+    {
+        Tokens { items }
+    }
+
+    /// The tokens in order.
+    pub fn as_slice(&self) -> &[Token]
+        ensures { result.now ≡ self.now }
+    {
+        self.items.as_slice()
+    }
+}
+
+/// The word of some nodes: an element by its name, data for a text with a data unit and for a CDATA section, and nothing for others.
+pub fn word(alloc: Global, dtd: &Dtd, kids: &[Node]) -> Result<Tokens, NoMemory>
+    ensures { IfOk result (λ tokens. map plain_token tokens ≡ word_of (plain_dtd dtd.now) (forest kids.now)) }
+{
+    let mut tokens = Vec::new(alloc);
+    append_word(dtd, kids, &mut tokens)?;
+    Ok(Tokens::of(tokens))
+}
+
+/// Appends the word of some nodes.
+pub(crate) fn append_word(dtd: &Dtd, kids: &[Node], tokens: &mut Vec<Token>) -> Result<(), NoMemory>
+    ensures { OnOk result (map plain_token tokens.new.items ≡ map plain_token tokens.old.items ++ word_of (plain_dtd dtd.now) (forest kids.now)) }
+{
+    for kid in kids {
+        if let Some(token) = token_of(dtd, kid) {
+            tokens.push(token)?;
+        }
+    }
+    Ok(())
+}
+
+// The token of a node, where it has one.
+fn token_of(dtd: &Dtd, node: &Node) -> Option<Token>
+    ensures { (rest : List PlainToken) → node_before (plain_dtd dtd.now) (plain node.now) rest ≡ token_before result rest }
+{
+    match node {
+        Node::Elem { name, .. } => Some(name_token(dtd, name.as_slice())),
+        Node::Text(units) => units.has_data().then_some(Token::Text),
+        Node::Cdata(_) => Some(Token::Text),
+        Node::Misc(_) => None,
+    }
+}
+
+// The token of an element of this name.
+fn name_token(dtd: &Dtd, name: &[u8]) -> Token
+    ensures { plain_token result ≡ token (number_of (plain_dtd dtd.now) name.now) }
+{
+    match dtd.name_id(name) {
+        Some(id) => Token::Name(id),
+        None => Token::Other,
+    }
+}
