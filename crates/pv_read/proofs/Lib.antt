@@ -1,0 +1,10 @@
+pub mod Steps
+pub mod TextLemmas
+pub mod TagForms
+pub mod OneTree
+pub mod Content
+pub mod ReadIsSpelled
+pub mod SpelledIsRead
+pub mod Facts
+pub mod Documents
+pub mod OneDocument

@@ -1,0 +1,154 @@
+-- What a tag is read from, and how it is spelled.
+use Rattle.std.proofs.Common.{◌≡◌, ℕ, ◌+◌, List, [], ◌∷◌, ◌++◌, length, take, drop, Bool, true, false, ◌==◌, cond, codes, Option, Some, None, refl, sym, ap, ◌∙◌, add-one, arith}
+use Rattle.std.proofs.Math.Seq.{take-append_seam, drop-append_seam}
+use Rattle.std.specs.List.{list_all}
+use Rattle.std.proofs.lemmas.Bool.Decides.{Decides-eqb, nat_tests}
+use Rattle.pv_chars.specs.Spaces.{is_space, IsOptionalSpace}
+use Rattle.pv_chars.specs.Names.{is_name_byte, IsPlainName}
+use Rattle.pv_chars.specs.Scan.{space_length, after_bytes}
+use Rattle.pv_chars.proofs.Scanning.{begins, name_at_takes, name_at-append, after_bytes_takes, after_bytes-append}
+use Rattle.pv_read.proofs.Steps.{both, some_pair, bound}
+use Rattle.pv_read.specs.Reading.{PlainTag, tag_end, space_at, closed_tag, named_tag, start_tag_at, closed_end_tag, named_end_tag, end_tag_at}
+
+-- White space stands in front of the rest, and all of it.
+pub record CutsSpace (bytes space rest : List ℕ) : Type 0 where
+  pub optional : IsOptionalSpace space
+  pub whole : bytes ≡ space ++ rest
+  pub ends : begins is_space rest ≡ false
+
+cut_step : (b : ℕ) (bs : List ℕ) (white : Bool) → is_space b ≡ white → CutsSpace bs (take (space_length bs) bs) (drop (space_length bs) bs)
+    → CutsSpace (b ∷ bs) (take (cond white (space_length bs + 1) 0) (b ∷ bs)) (drop (cond white (space_length bs + 1) 0) (b ∷ bs))
+cut_step b bs true is below = rw add-one record { optional = rw is below.optional; whole = ap (λ r. b ∷ r) below.whole; ends = below.ends }
+cut_step b bs false is below = record { optional = refl; whole = refl; ends = is }
+
+pub space_at_cuts : (bytes : List ℕ) → CutsSpace bytes (space_at bytes).0 (space_at bytes).1
+space_at_cuts [] = record { optional = refl; whole = refl; ends = refl }
+space_at_cuts (b ∷ bs) = cut_step b bs (is_space b) refl (space_at_cuts bs)
+
+space_length-append : (space rest : List ℕ) → IsOptionalSpace space → begins is_space rest ≡ false → space_length (space ++ rest) ≡ length space
+space_length-append [] [] s e = refl
+space_length-append [] (b ∷ bs) s e = rw e refl
+space_length-append (b ∷ bs) rest s e = let white = both (is_space b) (list_all is_space bs) s in rw (white.0, space_length-append bs rest white.1 e, add-one) refl
+
+pub space_at-append : (space rest : List ℕ) → IsOptionalSpace space → begins is_space rest ≡ false → space_at (space ++ rest) ≡ (space, rest)
+space_at-append space rest s e = rw (space_length-append space rest s e, take-append_seam space rest, drop-append_seam space rest) refl
+
+-- `/>` or `>`
+abbrev pub closing : Bool → List ℕ
+closing true = codes "/>"
+closing false = codes ">"
+
+abbrev Closes : Type 0
+Closes = Option (Bool × List ℕ)
+
+one_byte : (b : ℕ) (rest : List ℕ) (is_short ends : Bool) → (b == 62) ≡ ends → cond {A = Closes} ends (Some (false, [])) None ≡ Some (is_short, rest) → b ∷ [] ≡ closing is_short ++ rest
+one_byte b rest is_short true is e = let at = (Decides-eqb b 62).0 is in let same = some_pair _ _ e in rw (← same.0, ← same.1, at) refl
+one_byte b rest is_short false is e = cc
+
+two_bytes : (b c : ℕ) (bs rest : List ℕ) (is_short ends : Bool) → (b == 62) ≡ ends → (slash : Bool) → (b == 47) ≡ slash → (after : Bool) → (c == 62) ≡ after
+    → cond {A = Closes} ends (Some (false, c ∷ bs)) (cond slash (cond after (Some (true, bs)) None) None) ≡ Some (is_short, rest) → b ∷ c ∷ bs ≡ closing is_short ++ rest
+two_bytes b c bs rest is_short true is slash is_slash after is_after e = let at = (Decides-eqb b 62).0 is in let same = some_pair _ _ e in rw (← same.0, ← same.1, at) refl
+two_bytes b c bs rest is_short false is true is_slash true is_after e =
+    let at = (Decides-eqb b 47).0 is_slash in
+    let to = (Decides-eqb c 62).0 is_after in
+    let same = some_pair _ _ e in
+    rw (← same.0, ← same.1, at, to) refl
+two_bytes b c bs rest is_short false is true is_slash false is_after e = cc
+two_bytes b c bs rest is_short false is false is_slash after is_after e = cc
+
+tag_end_takes : (bytes rest : List ℕ) (is_short : Bool) → tag_end bytes ≡ Some (is_short, rest) → bytes ≡ closing is_short ++ rest
+tag_end_takes [] rest is_short e = cc
+tag_end_takes (b ∷ []) rest is_short e = one_byte b rest is_short (b == 62) refl e
+tag_end_takes (b ∷ c ∷ bs) rest is_short e = two_bytes b c bs rest is_short (b == 62) refl (b == 47) refl (c == 62) refl e
+
+tag_end-append : (is_short : Bool) (rest : List ℕ) → tag_end (closing is_short ++ rest) ≡ Some (is_short, rest)
+tag_end-append true rest = refl
+tag_end-append false [] = refl
+tag_end-append false (b ∷ bs) = refl
+
+-- A start tag or empty-element tag is spelled before the rest.
+pub record TakesTag (bytes : List ℕ) (tag : PlainTag) (rest : List ℕ) : Type 0 where
+  pub name : IsPlainName tag.name
+  pub space : IsOptionalSpace tag.attrs
+  pub whole : bytes ≡ codes "<" ++ (tag.name ++ (tag.attrs ++ (closing tag.is_short ++ rest)))
+
+abbrev made : List ℕ → List ℕ → Bool × List ℕ → PlainTag × List ℕ
+made name space end = (record { name = name; attrs = space; is_short = end.0 }, end.1)
+
+closed_tag_takes : (name : List ℕ) (cut : List ℕ × List ℕ) (tag : PlainTag) (rest : List ℕ) → closed_tag name cut ≡ Some (tag, rest) → (tag.name ≡ name) × (tag.attrs ≡ cut.0) × (cut.1 ≡ closing tag.is_short ++ rest)
+closed_tag_takes name cut tag rest e =
+    let end = bound (tag_end cut.1) (λ (end : Bool × List ℕ). Some (made name cut.0 end)) (tag, rest) e in
+    let same = some_pair (made name cut.0 end.0) (tag, rest) end.2 in
+    let closed : cut.1 ≡ closing end.0.0 ++ end.0.1 = tag_end_takes cut.1 end.0.1 end.0.0 end.1 in
+    let is_short : end.0.0 ≡ tag.is_short = ap (λ (t : PlainTag). t.is_short) same.0 in
+    (sym (ap (λ (t : PlainTag). t.name) same.0), sym (ap (λ (t : PlainTag). t.attrs) same.0), cc)
+
+named_tag_takes : (bytes : List ℕ) (tag : PlainTag) (rest : List ℕ) → named_tag bytes ≡ Some (tag, rest)
+    → IsPlainName tag.name × IsOptionalSpace tag.attrs × (bytes ≡ tag.name ++ (tag.attrs ++ (closing tag.is_short ++ rest)))
+named_tag_takes bytes tag rest e =
+    let name = bound _ _ _ e in
+    let takes = name_at_takes _ _ _ name.1 in
+    let cut = space_at_cuts name.0.1 in
+    let close = closed_tag_takes name.0.0 (space_at name.0.1) tag rest name.2 in
+    (rw close.0 takes.plain, rw close.1 cut.optional, cc)
+
+pub start_tag_at_takes : (bytes : List ℕ) (tag : PlainTag) (rest : List ℕ) → start_tag_at bytes ≡ Some (tag, rest) → TakesTag bytes tag rest
+unfolding start_tag_at
+start_tag_at_takes bytes tag rest e =
+    let begun = bound (after_bytes (codes "<") bytes) named_tag _ e in
+    let named = named_tag_takes begun.0 tag rest begun.2 in
+    record { name = named.0; space = named.1; whole = after_bytes_takes (codes "<") _ _ begun.1 ∙ ap (λ r. codes "<" ++ r) named.2 }
+
+no_space_closes : (is_short : Bool) (rest : List ℕ) → begins is_space (closing is_short ++ rest) ≡ false
+no_space_closes true rest = refl
+no_space_closes false rest = refl
+
+no_name_closes : (is_short : Bool) (rest : List ℕ) → begins is_name_byte (closing is_short ++ rest) ≡ false
+no_name_closes true rest = refl
+no_name_closes false rest = refl
+
+space_is_no_name : (b : ℕ) → is_space b ≡ true → is_name_byte b ≡ false
+space_is_no_name b e = grind (arith, nat_tests)
+
+no_name_follows : (space rest : List ℕ) → IsOptionalSpace space → begins is_name_byte rest ≡ false → begins is_name_byte (space ++ rest) ≡ false
+no_name_follows [] rest space none = none
+no_name_follows (b ∷ bs) rest space none = space_is_no_name b (both (is_space b) (list_all is_space bs) space).0
+
+pub start_tag_at-append : (tag : PlainTag) (rest : List ℕ) → IsPlainName tag.name → IsOptionalSpace tag.attrs → start_tag_at (codes "<" ++ (tag.name ++ (tag.attrs ++ (closing tag.is_short ++ rest)))) ≡ Some (tag, rest)
+unfolding start_tag_at
+start_tag_at-append tag rest name space =
+    let named = name_at-append tag.name (tag.attrs ++ (closing tag.is_short ++ rest)) name (no_name_follows tag.attrs _ space (no_name_closes tag.is_short rest)) in
+    let spaced = space_at-append tag.attrs (closing tag.is_short ++ rest) space (no_space_closes tag.is_short rest) in
+    rw named (ap (closed_tag tag.name) spaced ∙ rw (tag_end-append tag.is_short rest) refl)
+
+-- The end tag of this name is spelled before the rest.
+pub record TakesEndTag (name bytes gap rest : List ℕ) : Type 0 where
+  pub space : IsOptionalSpace gap
+  pub whole : bytes ≡ codes "</" ++ (name ++ (gap ++ (codes ">" ++ rest)))
+
+closed_end_tag_takes : (cut : List ℕ × List ℕ) (gap rest : List ℕ) → closed_end_tag cut ≡ Some (gap, rest) → (gap ≡ cut.0) × (cut.1 ≡ codes ">" ++ rest)
+closed_end_tag_takes cut gap rest e =
+    let end = bound (after_bytes (codes ">") cut.1) (λ (rest : List ℕ). Some (cut.0, rest)) (gap, rest) e in
+    let same = some_pair (cut.0, end.0) (gap, rest) end.2 in
+    let closed = after_bytes_takes (codes ">") cut.1 end.0 end.1 in
+    (sym same.0, cc)
+
+named_end_tag_takes : (name bytes gap rest : List ℕ) → named_end_tag name bytes ≡ Some (gap, rest) → IsOptionalSpace gap × (bytes ≡ name ++ (gap ++ (codes ">" ++ rest)))
+named_end_tag_takes name bytes gap rest e =
+    let after = bound (after_bytes name bytes) (λ (after : List ℕ). closed_end_tag (space_at after)) (gap, rest) e in
+    let cut = space_at_cuts after.0 in
+    let close = closed_end_tag_takes (space_at after.0) gap rest after.2 in
+    let begun = after_bytes_takes name bytes after.0 after.1 in
+    (rw close.0 cut.optional, cc)
+
+pub end_tag_at_takes : (name bytes gap rest : List ℕ) → end_tag_at name bytes ≡ Some (gap, rest) → TakesEndTag name bytes gap rest
+unfolding end_tag_at
+end_tag_at_takes name bytes gap rest e =
+    let begun = bound (after_bytes (codes "</") bytes) (named_end_tag name) _ e in
+    let named = named_end_tag_takes name begun.0 gap rest begun.2 in
+    record { space = named.0; whole = after_bytes_takes (codes "</") _ _ begun.1 ∙ ap (λ r. codes "</" ++ r) named.1 }
+
+pub end_tag_at-append : (name gap rest : List ℕ) → IsOptionalSpace gap → end_tag_at name (codes "</" ++ (name ++ (gap ++ (codes ">" ++ rest)))) ≡ Some (gap, rest)
+unfolding end_tag_at
+end_tag_at-append name gap rest space =
+    rw (after_bytes-append name (gap ++ (codes ">" ++ rest))) (ap closed_end_tag (space_at-append gap (codes ">" ++ rest) space refl))

@@ -1,0 +1,12 @@
+-- The marks that a reader gives, and documents without their marks.
+use Rattle.std.specs.Prelude.{◌≡◌}
+use Rattle.pv_tree.specs.Plain.{PlainDoc, remarked, unmarked}
+
+-- The document and each of its elements have this mark.
+pub record HasMarks {M : Type 0} (mark : M) (doc : PlainDoc M) : Type 0 where
+  pub on_document : doc.mark ≡ mark
+  pub on_elements : remarked (λ _. mark) doc.root ≡ doc.root
+
+-- the document without its marks
+abbrev pub unmarked_doc : {M : Type 0} → PlainDoc M → PlainDoc Unit
+unmarked_doc doc = record { before = doc.before; root = unmarked doc.root; after = doc.after; mark = tt }

@@ -1,0 +1,71 @@
+-- A plain document as it is read, from the left. Mark m is given to each element.
+use Rattle.std.specs.Prelude.{◌≡◌, ℕ, suc, ◌+◌, Bool, true, false, List, [], ◌∷◌, ◌==◌, if◌then◌else◌, codes, Option, Some, None}
+use Rattle.pv_chars.specs.Scan.{◌>>=◌, split, space_length, name_at, after_bytes}
+use Rattle.pv_chars.specs.Texts.{units_of, is_plain_text}
+use Rattle.pv_tree.specs.Plain.{short, tagged, Tree, element, text_node, Forest, no_trees, tree}
+
+-- how many bytes stand before the first `<`
+abbrev pub text_length : List ℕ → ℕ
+text_length [] = 0
+text_length (b ∷ bs) = if b == 60 then 0 else text_length bs + 1
+
+-- the text run at the front, and what stands after it
+unfoldable pub text_at : List ℕ → Option (List ℕ × List ℕ)
+text_at bytes = let run = split (text_length bytes) bytes in if is_plain_text run.0 then Some run else None
+
+abbrev pub begins_end_tag : List ℕ → Bool
+begins_end_tag [] = false
+begins_end_tag (b ∷ []) = false
+begins_end_tag (b ∷ c ∷ bs) = if b == 60 then c == 47 else false
+
+-- a start tag or an empty-element tag
+pub record PlainTag : Type 0 where
+  pub name : List ℕ
+  pub attrs : List ℕ
+  pub is_short : Bool
+
+-- the end of such a tag: `/>` or `>`
+abbrev pub tag_end : List ℕ → Option (Bool × List ℕ)
+tag_end [] = None
+tag_end (b ∷ []) = if b == 62 then Some (false, []) else None
+tag_end (b ∷ c ∷ bs) = if b == 62 then Some (false, c ∷ bs) else if b == 47 then (if c == 62 then Some (true, bs) else None) else None
+
+-- white space at the front, and what stands after it
+abbrev pub space_at : List ℕ → List ℕ × List ℕ
+space_at bytes = split (space_length bytes) bytes
+
+-- a tag of this name and white space, from its end on
+abbrev pub closed_tag : List ℕ → List ℕ × List ℕ → Option (PlainTag × List ℕ)
+closed_tag name cut = tag_end cut.1 >>= λ end. Some (record { name = name; attrs = cut.0; is_short = end.0 }, end.1)
+
+-- a tag from its name on
+abbrev pub named_tag : List ℕ → Option (PlainTag × List ℕ)
+named_tag bytes = name_at bytes >>= λ name. closed_tag name.0 (space_at name.1)
+
+-- the start tag or empty-element tag at the front, and what stands after it
+unfoldable pub start_tag_at : List ℕ → Option (PlainTag × List ℕ)
+start_tag_at bytes = after_bytes (codes "<") bytes >>= named_tag
+
+-- an end tag with this white space, from its `>` on
+abbrev pub closed_end_tag : List ℕ × List ℕ → Option (List ℕ × List ℕ)
+closed_end_tag cut = after_bytes (codes ">") cut.1 >>= λ rest. Some (cut.0, rest)
+
+-- an end tag of this name, from its name on
+abbrev pub named_end_tag : List ℕ → List ℕ → Option (List ℕ × List ℕ)
+named_end_tag name bytes = after_bytes name bytes >>= λ gap. closed_end_tag (space_at gap)
+
+-- the end tag of this name at the front: the bytes between its name and `>`, and what stands after it
+unfoldable pub end_tag_at : List ℕ → List ℕ → Option (List ℕ × List ℕ)
+end_tag_at name bytes = after_bytes (codes "</") bytes >>= named_end_tag name
+
+mutual
+  -- An element of at most so many elements one inside another stands at the front, and then comes the rest.
+  pub data ReadsElement {M : Type 0} (m : M) : ℕ → List ℕ → Tree M → List ℕ → Type 0 where
+    short_tag : {d : ℕ} {bytes rest : List ℕ} {tag : PlainTag} → start_tag_at bytes ≡ Some (tag, rest) → tag.is_short ≡ true → ReadsElement m (suc d) bytes (element tag.name tag.attrs short no_trees m) rest
+    start_tag : {d : ℕ} {bytes inner end rest gap : List ℕ} {tag : PlainTag} {kids : Forest M} → start_tag_at bytes ≡ Some (tag, inner) → tag.is_short ≡ false → ReadsContent m d inner kids end → end_tag_at tag.name end ≡ Some (gap, rest) → ReadsElement m (suc d) bytes (element tag.name tag.attrs (tagged gap) kids m) rest
+
+  -- Content stands at the front, and then comes the rest, an end tag.
+  pub data ReadsContent {M : Type 0} (m : M) : ℕ → List ℕ → Forest M → List ℕ → Type 0 where
+    close : {d : ℕ} {bytes : List ℕ} → begins_end_tag bytes ≡ true → ReadsContent m d bytes no_trees bytes
+    run : {d : ℕ} {bytes text after rest : List ℕ} {kids : Forest M} → begins_end_tag bytes ≡ false → text_at bytes ≡ Some (text, after) → ReadsContent m d after kids rest → ReadsContent m d bytes (tree (text_node (units_of text)) kids) rest
+    inner : {d : ℕ} {bytes after rest : List ℕ} {t : Tree M} {kids : Forest M} → begins_end_tag bytes ≡ false → text_at bytes ≡ None → ReadsElement m d bytes t after → ReadsContent m d after kids rest → ReadsContent m d bytes (tree t kids) rest

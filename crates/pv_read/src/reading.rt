@@ -1,0 +1,50 @@
+//! Reads a document.
+
+ghost use Rattle.std.specs.Prelude.{IfOk, IfErr};
+ghost use Rattle.pv_tree.specs.Plain.{PlainDoc};
+ghost use Rattle.pv_tree.specs.Docs.{plain_doc};
+ghost use Rattle.pv_tree.specs.declared.nodes.Mark.{Mark};
+ghost use Rattle.pv_read.specs.Grammar.{IsDocumentText};
+ghost use Rattle.pv_read.specs.Errors.{Refuses};
+ghost use Rattle.pv_read.specs.Marks.{HasMarks};
+
+use crate::elements::element_at;
+use crate::errors::DocError;
+use crate::tags::space_at;
+use pv_chars::bytes_of;
+use pv_tree::{Doc, Mark};
+use std::alloc::Global;
+
+/// The most bytes of a document.
+const MOST_BYTES: usize = 67_108_864;
+/// The most elements that stand one inside another.
+const MOST_DEPTH: u32 = 512;
+
+/// The document that the bytes are, with blank marks. A refusal names the first item in fault by the number of whole items before
+/// it, which is 0 for now.
+pub fn read_doc(alloc: Global, bytes: &[u8], _root: &[u8]) -> Result<Doc, DocError>
+    ensures read { IfOk result (λ doc. IsDocumentText bytes.now (plain_doc doc)) }
+    ensures marks { IfOk result (λ doc. HasMarks Mark.BLANK (plain_doc doc)) }
+    ensures refused { IfErr result (λ error. Refuses error ((doc : PlainDoc Mark) → IsDocumentText bytes.now doc → ⊥)) }
+{
+    if bytes.len() > MOST_BYTES {
+        return Err(DocError::Syntax(0));
+    }
+    let (before, element) = space_at(bytes);
+    let (root, end) = element_at(alloc, element, MOST_DEPTH)?;
+    let (after, rest) = space_at(end);
+    if !rest.is_empty() {
+        return Err(DocError::Syntax(0));
+    }
+    let before = bytes_of(alloc, before)?;
+    let after = bytes_of(alloc, after)?;
+    Ok(Doc {
+        before,
+        root,
+        after,
+        mark: Mark::BLANK,
+    })
+}
+
+#[cfg(test)]
+mod tests;

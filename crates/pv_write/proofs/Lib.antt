@@ -1,0 +1,4 @@
+pub mod Spelled
+pub mod Merged
+pub mod Runs
+pub mod Views

@@ -1,0 +1,7 @@
+//! Writes documents.
+#![tactic(auto)]
+
+pub mod laws;
+mod writing;
+
+pub use writing::doc_bytes;
