@@ -1,0 +1,25 @@
+-- Faults of the outside, and what a call that answers one owes.
+use Rattle.std.specs.Prelude.{ℕ, ◌+◌, ◌-◌, ◌^◌, ◌≤◌, ◌<◌, min, List, length, take, Result, OnErr, Option}
+use Rattle.std.specs.Io.KnownBytes.{Appends}
+
+-- a count after one more, which stops at its last value
+abbrev pub one_more : ℕ → ℕ
+one_more count = min (count + 1) (2 ^ 64 - 1)
+
+-- a count rose, or stands at its last value
+abbrev pub Rose : ℕ → ℕ → Type 0
+Rose before now = one_more before ≤ now
+
+-- a count never falls, and an error comes only where it rose
+pub record HasCause {T E : Type 0} (before now : ℕ) (result : Result T E) : Type 0 where
+  pub later : before ≤ now
+  pub failed : OnErr result (Rose before now)
+
+-- at most the piece was taken, and some of it unless it is empty
+pub record TakesSome (count : ℕ) (piece : List ℕ) : Type 0 where
+  pub within : count ≤ length piece
+  pub some : 0 < length piece → 0 < count
+
+-- a front of these bytes was written
+abbrev pub AppendsFront : Option (List ℕ) → Option (List ℕ) → List ℕ → Type 0
+AppendsFront old new bytes = (k : ℕ) × (k ≤ length bytes) × Appends old new (take k bytes)

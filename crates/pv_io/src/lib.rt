@@ -1,0 +1,17 @@
+//! The outside: where bytes come from and go to, each with a count of faults.
+#![tactic(auto)]
+
+mod machine;
+mod memory;
+mod shelf;
+mod sink;
+mod source;
+
+pub use machine::{FolderShelf, ReadSource, WriteSink};
+pub use memory::{MemShelf, MemSink, MemSource};
+pub use shelf::{FetchError, Shelf};
+pub use sink::{Sink, write_all};
+pub use source::{Failed, Source};
+
+#[cfg(test)]
+mod tests;

@@ -1,0 +1,166 @@
+//! Devices of the machine: readers and writers of the standard library, and files by their paths.
+
+ghost use Rattle.std.specs.Prelude.{◌≡◌, ◌≤◌, if◌then◌else◌, is_err, vec_len, IfOk};
+ghost use Rattle.std.specs.Io.{ReadsAtMost};
+ghost use Rattle.std.specs.Io.KnownBytes.{ReadConsumes, WriteAppends};
+ghost use Rattle.pv_io.specs.Causes.{HasCause, TakesSome, Rose, one_more};
+ghost use Rattle.pv_io.specs.Files.{fetch_names, FetchFails, is_fault};
+
+use crate::shelf::{FetchError, Shelf};
+use crate::sink::Sink;
+use crate::source::{Failed, Source};
+use std::alloc::Global;
+use std::fs::OpenFile;
+use std::io::{ErrorKind, Read, Write};
+use std::marker::Model;
+use std::rt::Files;
+use std::{fs, io};
+
+/// Any reader of the standard library.
+#[derive(Drop)]
+pub struct ReadSource<R: Read> {
+    reader: R,
+    faults: u64,
+}
+
+impl<R: Read> ReadSource<R> {
+    pub fn new(reader: R) -> ReadSource<R>
+        ensures left { ⟦<ReadSource<R> as Source>⟧.left result ≡ R.remaining reader }
+        ensures faults { ⟦<ReadSource<R> as Source>⟧.faults result ≡ 0 }
+    {
+        ReadSource { reader, faults: 0 }
+    }
+}
+
+impl<R: Read> Source for ReadSource<R> {
+    ghost left = { λ s. R.remaining s.reader };
+
+    ghost faults = { λ s. s.faults };
+
+    fn fill(&mut self, buf: &mut [u8]) -> Result<usize, Failed>
+        ensures bound { ReadsAtMost result buf.new }
+        ensures bytes { ReadConsumes (R.remaining self.old.reader) (R.remaining self.new.reader) result buf.new }
+        ensures cause { HasCause self.old.faults self.new.faults result }
+
+        ensures counted { self.new.faults ≡ (if is_err result then one_more self.old.faults else self.old.faults) }
+    {
+        match self.reader.read(buf) {
+            Ok(count) => Ok(count),
+            Err(_) => {
+                self.faults = self.faults.saturating_add(1);
+                Err(Failed)
+            }
+        }
+    }
+}
+
+/// Any writer of the standard library.
+#[derive(Drop)]
+pub struct WriteSink<W: Write> {
+    writer: W,
+    faults: u64,
+}
+
+impl<W: Write> WriteSink<W> {
+    pub fn new(writer: W) -> WriteSink<W>
+        ensures written { ⟦<WriteSink<W> as Sink>⟧.written result ≡ W.contents writer }
+        ensures faults { ⟦<WriteSink<W> as Sink>⟧.faults result ≡ 0 }
+    {
+        WriteSink { writer, faults: 0 }
+    }
+}
+
+impl<W: Write> Sink for WriteSink<W> {
+    ghost written = { λ s. W.contents s.writer };
+
+    ghost faults = { λ s. s.faults };
+
+    fn put(&mut self, piece: &[u8]) -> Result<usize, Failed>
+        ensures bound { IfOk result (λ n. TakesSome n piece.now) }
+        ensures bytes { WriteAppends (W.contents self.old.writer) (W.contents self.new.writer) result piece.now }
+        ensures cause { HasCause self.old.faults self.new.faults result }
+
+        ensures counted { self.new.faults ≡ (if is_err result then one_more self.old.faults else self.old.faults) }
+    {
+        match self.writer.write(piece) {
+            Ok(count) if count > 0 || piece.is_empty() => Ok(count),
+            _ => {
+                self.faults = self.faults.saturating_add(1);
+                Err(Failed)
+            }
+        }
+    }
+}
+
+/// The machine's files, by their paths.
+#[derive(Drop)]
+pub struct FolderShelf<'a, R: Files> {
+    files: &'a R,
+    words: &'a [String],
+    faults: u64,
+}
+
+impl<'a, R: Files> Model for FolderShelf<'a, R> {
+    ghost use Rattle.std.specs.Prelude.{ℕ, List};
+    ghost use Rattle.pv_io.specs.Files.{fetch_names};
+    ghost use Rattle.pv_io.specs.Folder.{Folder};
+
+    ghost Value = { Folder };
+
+    ghost view = { λ s. record { names = fetch_names s.words.now; faults = s.faults } };
+}
+
+/// A whole file of at most so many bytes, or its first byte too many.
+fn bytes_up_to(files: &impl Files, alloc: Global, name: &str, most: usize) -> io::Result<Vec<u8>> {
+    let file = fs::open(files, name)?;
+    let mut bytes = Vec::new(alloc);
+    if let Ok(metadata) = file.metadata() {
+        let room = metadata.len().min(most as u64).saturating_add(1);
+        bytes.reserve_exact(room as usize)?;
+    }
+    file.take((most as u64).saturating_add(1))
+        .read_to_end(&mut bytes)?;
+    Ok(bytes)
+}
+
+impl<'a, R: Files> FolderShelf<'a, R> {
+    /// The words of the command line name the files.
+    pub fn new(files: &'a R, words: &'a [String]) -> FolderShelf<'a, R>
+        ensures { result ≡ record { names = fetch_names words.now; faults = 0 } }
+    {
+        FolderShelf {
+            files,
+            words,
+            faults: 0,
+        }
+    }
+}
+
+impl<'a, R: Files> Shelf for FolderShelf<'a, R> {
+    ghost use Rattle.std.specs.Prelude.{None};
+
+    ghost names = { λ s. s.names };
+
+    ghost files = { λ _. None };
+
+    ghost faults = { λ s. s.faults };
+
+    fn fetch(&mut self, alloc: Global, name: &str, most: usize) -> Result<Vec<u8>, FetchError>
+        ensures bound { IfOk result (λ v. vec_len v ≤ most) }
+        ensures later { self.old.faults ≤ self.new.faults }
+        ensures cause { FetchFails (Rose self.old.faults self.new.faults) result }
+        ensures names { self.new.names ≡ self.old.names }
+
+        ensures counted { self.new.faults ≡ (if is_fault result then one_more self.old.faults else self.old.faults) }
+    {
+        match bytes_up_to(self.files, alloc, name, most) {
+            Ok(bytes) if bytes.len() <= most => Ok(bytes),
+            Ok(_) => Err(FetchError::TooLong),
+            Err(error) if error.kind() == ErrorKind::OutOfMemory => Err(FetchError::NoMemory),
+            Err(_) => {
+                self.faults = self.faults.saturating_add(1);
+                Err(FetchError::Failed)
+            }
+        }
+    }
+}

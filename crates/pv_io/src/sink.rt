@@ -1,0 +1,36 @@
+//! Where output goes.
+
+ghost use Rattle.std.specs.Prelude.{◌≡◌, ◌≤◌, ◌<◌, List, ℕ, length, Option, IfOk, OnOk, OnErr, Some};
+ghost use Rattle.std.specs.Io.KnownBytes.{WriteAppends, Appends};
+ghost use Rattle.pv_io.specs.Causes.{HasCause, TakesSome, AppendsFront};
+
+use crate::source::Failed;
+
+/// Where output goes.
+pub trait Sink {
+    /// The bytes that were written, where they are known.
+    ghost written: { Self → Option (List ℕ) };
+
+    /// How often the sink has failed.
+    ghost faults: { Self → ℕ };
+
+    /// Writes a front of the piece, and answers how many bytes that is: at least one, unless the
+    /// piece is empty.
+    fn put(&mut self, piece: &[u8]) -> Result<usize, Failed>
+        ensures bound { IfOk result (λ n. TakesSome n piece.now) }
+        ensures bytes { WriteAppends (written self.old) (written self.new) result piece.now }
+        ensures cause { HasCause (faults self.old) (faults self.new) result };
+}
+
+/// Writes all of the bytes, or a front of them.
+pub fn write_all<K: Sink>(sink: &mut K, bytes: &[u8]) -> Result<(), Failed>
+    ensures ok { OnOk result (Appends (K.written sink.old) (K.written sink.new) bytes.now) }
+    ensures err { OnErr result (AppendsFront (K.written sink.old) (K.written sink.new) bytes.now) }
+    ensures cause { HasCause (K.faults sink.old) (K.faults sink.new) result }
+{
+    let mut at = 0;
+    while at < bytes.len() {
+        at += sink.put(&bytes[at..])?;
+    }
+    Ok(())
+}

@@ -1,0 +1,29 @@
+//! Where input comes from.
+
+ghost use Rattle.std.specs.Prelude.{List, ℕ, Option};
+ghost use Rattle.std.specs.Io.{ReadsAtMost};
+ghost use Rattle.std.specs.Io.KnownBytes.{ReadConsumes};
+ghost use Rattle.pv_io.specs.Causes.{HasCause};
+
+use thiserror::Error;
+
+/// The outside failed.
+#[derive(Clone, Copy, Debug, PartialEq, Eq, Error)]
+#[error("the outside failed")]
+pub struct Failed;
+
+/// Where input comes from.
+pub trait Source {
+    /// The bytes that are left, where they are known.
+    ghost left: { Self → Option (List ℕ) };
+
+    /// How often the source has failed.
+    ghost faults: { Self → ℕ };
+
+    /// Reads the next bytes into the front of the buffer, and answers how many. None are the end,
+    /// unless the buffer is empty.
+    fn fill(&mut self, buf: &mut [u8]) -> Result<usize, Failed>
+        ensures bound { ReadsAtMost result buf.new }
+        ensures bytes { ReadConsumes (left self.old) (left self.new) result buf.new }
+        ensures cause { HasCause (faults self.old) (faults self.new) result };
+}
