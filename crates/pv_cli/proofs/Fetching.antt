@@ -1,0 +1,33 @@
+-- What a fetch tells of the file, also where the shelf doesn't tell its files.
+use Rattle.std.proofs.Common.{◌≡◌, ℕ, ◌+◌, ◌≤◌, List, length, replicate, Option, Some, None, Result, Ok, Err, Vec, Global, vec_len, IfOk, sym, ap, refl, arith}
+use Rattle.std.proofs.lemmas.Grind.{common_steps}
+use Rattle.pv_io.specs.declared.shelf.FetchError.{FetchError}
+use Rattle.pv_io.specs.declared.shelf.FetchError.TheVariants.{Failed, TooLong, NoMemory}
+use Rattle.pv_io.specs.Files.{FetchTells, FetchGives, file_named}
+use Rattle.pv_cli.specs.Answer.{Answer, with_line}
+use Rattle.pv_cli.specs.Fetched.{IsGiven, IsTooLong}
+use Rattle.pv_cli.specs.Outcome.{IsFile}
+use Rattle.pv_cli.specs.Steps.{Stops}
+use Rattle.pv_cli.specs.declared.status.Status.TheVariants.{Limit}
+use Rattle.pv_cli.specs.declared.status.Stop.{Stop}
+use Rattle.pv_cli.specs.declared.status.Stop.TheVariants.{Refused, Faulty, Memory}
+
+pub fetch_file : (told : Option (List (List ℕ × List ℕ))) (name : List ℕ) (most : ℕ) (result : Result (Vec ℕ Global) FetchError) → IfOk result (λ v. vec_len v ≤ most) → FetchTells told name most result → (file : Option (List ℕ)) × IsFile told name file × FetchGives file most result
+fetch_file None name most (Ok v) bound tells = (Some v.items, tt, (refl, omega (arith, v.ok.0, bound)))
+fetch_file None name most (Err Failed) bound tells = (None, tt, tt)
+fetch_file None name most (Err TooLong) bound tells = (Some (replicate (most + 1) 0), tt, grind (arith, common_steps))
+fetch_file None name most (Err NoMemory) bound tells = (None, tt, tt)
+fetch_file (Some files) name most result bound tells = (file_named name files, refl, tells)
+
+pub file_given : (file : Option (List ℕ)) (most : ℕ) (v : Vec ℕ Global) → FetchGives file most (Ok v) → IsGiven file most v.items
+file_given None most v gives = absurd gives
+file_given (Some bytes) most v gives = record { is_file = ap Some (sym gives.0); within = omega (arith, ap length gives.0, gives.1) }
+
+pub file_beyond : (file : Option (List ℕ)) (most : ℕ) (passed : List ℕ) (a : Answer) → FetchGives file most (Err TooLong) → a ≡ with_line Limit passed → IsTooLong file most passed a
+file_beyond None most passed a gives is = absurd gives
+file_beyond (Some bytes) most passed a gives is = record { bytes = bytes; is_file = refl; beyond = gives; is_answer = is }
+
+pub stops_beyond : (file : Option (List ℕ)) (most : ℕ) (passed : List ℕ) (cause : Type 0) (stop : Stop) → FetchGives file most (Err TooLong) → Stops (λ a. a ≡ with_line Limit passed) ⊥ stop → Stops (IsTooLong file most passed) cause stop
+stops_beyond file most passed cause (Refused reply) gives stops = file_beyond file most passed _ gives stops
+stops_beyond file most passed cause Faulty gives stops = absurd stops
+stops_beyond file most passed cause Memory gives stops = tt

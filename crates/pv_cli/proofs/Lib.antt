@@ -1,0 +1,10 @@
+pub mod Fetching
+pub mod Chains
+pub mod Openings
+pub mod WordLemmas
+pub mod SessionLemmas
+pub mod ScriptLemmas
+pub mod Marks
+pub mod OneVerdict
+pub mod OneAnswer
+pub mod OneReplies

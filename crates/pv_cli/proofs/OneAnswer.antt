@@ -1,0 +1,66 @@
+-- Over given files there is one answer.
+use Rattle.std.proofs.Common.{◌≡◌, ℕ, List, length, codes, Option, Some, sym, ap, ◌∙◌, subst, arith}
+use Rattle.pv_dtd.specs.Plain.{PlainDtd}
+use Rattle.pv_dtd.specs.Grammar.{IsDtdText}
+use Rattle.pv_tree.specs.Laws.{IsValidByLists}
+use Rattle.pv_tree.specs.Plain.{PlainDoc}
+use Rattle.pv_tree.specs.declared.nodes.Mark.{Mark}
+use Rattle.pv_read.specs.Grammar.{IsDocumentText}
+use Rattle.pv_read.specs.Laws.{SpellsOneDocument}
+use Rattle.pv_cli.specs.Answer.{Answer, OnFile, no_file, too_long, given, OnDtd, is_dtd, no_dtd, OnDocument, is_document, no_document, MOST_DTD, MOST_DOC}
+use Rattle.pv_cli.specs.Laws.{HasOneValidAnswer}
+use Rattle.pv_cli.specs.Opening.{OnDocumentFile}
+use Rattle.pv_cli.specs.Valid.{TellsValidity}
+use Rattle.pv_cli.proofs.OneVerdict.{one_verdict, spelled_texts}
+
+-- a DTD text has one meaning
+abbrev pub IsOneDtd : Type 0
+IsOneDtd = (bytes : List ℕ) (g h : PlainDtd) → IsDtdText bytes g → IsDtdText bytes h → g ≡ h
+
+one_file : (file : Option (List ℕ)) (bytes other : List ℕ) → file ≡ Some bytes → file ≡ Some other → bytes ≡ other
+one_file file bytes other is are = let same : Some bytes ≡ Some other = sym is ∙ are in cc
+
+on_file : (file : Option (List ℕ)) (most : ℕ) (passed : List ℕ) (behind : List ℕ → Answer → Type 0) (a b : Answer) → ((bytes : List ℕ) → behind bytes a → behind bytes b → a ≡ b) →
+    OnFile file most passed behind a → OnFile file most passed behind b → a ≡ b
+on_file file most passed behind a b one (no_file is e) (no_file are f) = e ∙ sym f
+on_file file most passed behind a b one (no_file is e) (too_long bytes are beyond f) = cc
+on_file file most passed behind a b one (no_file is e) (given bytes are within f) = cc
+on_file file most passed behind a b one (too_long bytes is beyond e) (no_file are f) = cc
+on_file file most passed behind a b one (too_long bytes is beyond e) (too_long other are more f) = e ∙ sym f
+on_file file most passed behind a b one (too_long bytes is beyond e) (given other are within f) =
+    let same = ap length (one_file file bytes other is are) in absurd (omega arith)
+on_file file most passed behind a b one (given bytes is within e) (no_file are f) = cc
+on_file file most passed behind a b one (given bytes is within e) (too_long other are beyond f) =
+    let same = ap length (one_file file bytes other is are) in absurd (omega arith)
+on_file file most passed behind a b one (given bytes is within e) (given other are also f) =
+    one bytes e (subst (λ (bs : List ℕ). behind bs b) (sym (one_file file bytes other is are)) f)
+
+on_dtd : (one_dtd : IsOneDtd) (bytes : List ℕ) (behind : PlainDtd → Answer → Type 0) (a b : Answer) → ((g : PlainDtd) → behind g a → behind g b → a ≡ b) →
+    OnDtd bytes behind a → OnDtd bytes behind b → a ≡ b
+on_dtd one_dtd bytes behind a b one (is_dtd g is e) (is_dtd h are f) =
+    one g e (subst (λ (d : PlainDtd). behind d b) (sym (one_dtd bytes g h is are)) f)
+on_dtd one_dtd bytes behind a b one (is_dtd g is e) (no_dtd none f) = absurd (none g is)
+on_dtd one_dtd bytes behind a b one (no_dtd none e) (is_dtd g is f) = absurd (none g is)
+on_dtd one_dtd bytes behind a b one (no_dtd none e) (no_dtd never f) = e ∙ sym f
+
+on_document : (bytes : List ℕ) (behind : PlainDoc Mark → Answer → Type 0) (a b : Answer) →
+    ((doc same : PlainDoc Mark) → IsDocumentText bytes doc → IsDocumentText bytes same → behind doc a → behind same b → a ≡ b) →
+    OnDocument bytes behind a → OnDocument bytes behind b → a ≡ b
+on_document bytes behind a b one (is_document doc is e) (is_document same are f) = one doc same is are e f
+on_document bytes behind a b one (is_document doc is e) (no_document none f) = absurd (none doc is)
+on_document bytes behind a b one (no_document none e) (is_document doc is f) = absurd (none doc is)
+on_document bytes behind a b one (no_document none e) (no_document never f) = e ∙ sym f
+
+verdict_on_text : (one_document : SpellsOneDocument) (by_lists : IsValidByLists Mark) (root : List ℕ) (g : PlainDtd) (bytes : List ℕ) (a b : Answer) (doc same : PlainDoc Mark) →
+    IsDocumentText bytes doc → IsDocumentText bytes same → TellsValidity root g doc a → TellsValidity root g same b → a ≡ b
+verdict_on_text one_document by_lists root g bytes a b doc same is are e f =
+    one_verdict by_lists root g doc same a b (spelled_texts doc.root is.spelled.root is.spelled.is_root) (spelled_texts same.root are.spelled.root are.spelled.is_root)
+    (one_document bytes doc same is.spelled are.spelled) e f
+
+pub one_valid_answer : IsOneDtd → SpellsOneDocument → IsValidByLists Mark → HasOneValidAnswer
+one_valid_answer one_dtd one_document by_lists root dtd doc a b is are =
+    let on_doc : (g : PlainDtd) → OnDocumentFile doc (TellsValidity root g) a → OnDocumentFile doc (TellsValidity root g) b → a ≡ b =
+    λ g. on_file doc MOST_DOC (codes "limit document-file") (λ bytes. OnDocument bytes (TellsValidity root g)) a b
+    (λ bytes. on_document bytes (TellsValidity root g) a b (verdict_on_text one_document by_lists root g bytes a b)) in
+    on_file dtd MOST_DTD (codes "limit dtd-file") (λ bytes. OnDtd bytes (λ g. OnDocumentFile doc (TellsValidity root g))) a b
+    (λ bytes. on_dtd one_dtd bytes (λ g. OnDocumentFile doc (TellsValidity root g)) a b on_doc) is are

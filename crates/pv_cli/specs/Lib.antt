@@ -1,0 +1,14 @@
+pub mod Answer
+pub mod Commands
+pub mod Faults
+pub mod Fetched
+pub mod Laws
+pub mod Opening
+pub mod Outcome
+pub mod Paths
+pub mod Scripts
+pub mod Session
+pub mod Steps
+pub mod Turns
+pub mod Valid
+pub mod Words

@@ -1,0 +1,20 @@
+-- The script that an input gives.
+use Rattle.std.specs.Prelude.{◌≡◌, ◌≤◌, ◌<◌, ℕ, List, length, codes, Option, Some, None}
+use Rattle.pv_cli.specs.declared.status.Status.TheVariants.{Limit}
+use Rattle.pv_cli.specs.Answer.{Answer, with_line}
+use Rattle.pv_cli.specs.Session.{MOST_SCRIPT}
+
+-- the bytes that the input has left, where it tells them
+abbrev pub IsScript : Option (List ℕ) → List ℕ → Type 0
+IsScript None script = Unit {0}
+IsScript (Some left) script = script ≡ left
+
+-- these are all bytes of the script, and no more than it may have
+pub record IsWholeScript (script bytes : List ℕ) : Type 0 where
+  pub whole : bytes ≡ script
+  pub within : length script ≤ MOST_SCRIPT
+
+-- the answer where it has more
+pub record IsScriptRefusal (script : List ℕ) (a : Answer) : Type 0 where
+  pub beyond : MOST_SCRIPT < length script
+  pub is_answer : a ≡ with_line Limit (codes "limit script")

@@ -1,0 +1,101 @@
+//! One run of the program over objects in memory.
+
+ghost use Rattle.std.specs.Prelude.{◌≡◌, ◌<◌, map, string_bytes, IfOk, length, vec_len};
+ghost use Rattle.pv_io.specs.Files.{fetch_names};
+
+use pv_chars::NoMemory;
+use pv_cli::{Status, pvtag};
+use pv_io::{MemShelf, MemSink, MemSource};
+use pv_steps::Steps;
+use std::alloc::{AllocError, Global};
+use std::sync::ledger::{Blank, Ledger};
+use std::test::Fail;
+use std::thread::Threads;
+
+/// What a run is given.
+#[derive(Drop)]
+pub struct Given<'g, 'a> {
+    pub words: &'g [&'a str],
+    /// Names and their bytes.
+    pub files: &'g [(&'a str, &'a [u8])],
+    /// The bytes of the input, and how many come at once.
+    pub input: &'g [u8],
+    pub piece: usize,
+    /// The numbers of the calls that fail.
+    pub failing_fetches: &'g [u64],
+    pub failing_fills: &'g [u64],
+    pub failing_puts: &'g [u64],
+    ghost moves: { 0 < piece },
+}
+
+fn texts_of(alloc: Global, words: &[&str]) -> Result<Vec<String>, AllocError>
+    ensures { IfOk result (λ v. vec_len v ≡ length words.now) }
+{
+    let mut texts = Vec::new(alloc);
+    for word in words {
+        texts.push(String::from_str(alloc, *word)?)?;
+    }
+    Ok(texts)
+}
+
+// The words that name files: all but the first and the third.
+fn names_of(alloc: Global, words: &[String]) -> Result<Vec<String>, AllocError>
+    ensures { IfOk result (λ v. map (λ w. string_bytes w) v.items ≡ fetch_names words.now) }
+{
+    let mut names = Vec::new(alloc);
+    if words.len() > 1 {
+        names.push(words[1].clone()?)?;
+    }
+    if words.len() > 3 {
+        for word in &words[3..] {
+            names.push(word.clone()?)?;
+        }
+    }
+    Ok(names)
+}
+
+fn files_of(alloc: Global, files: &[(&str, &[u8])]) -> Result<Vec<(String, Vec<u8>)>, AllocError> {
+    let mut owned = Vec::new(alloc);
+    for file in files {
+        owned.push((String::from_str(alloc, file.0)?, file.1.to_vec(alloc)?))?;
+    }
+    Ok(owned)
+}
+
+// The files, to be fetched by the words that name files.
+fn shelf_of(alloc: Global, words: &[String], given: &Given<'_, '_>) -> Result<MemShelf, NoMemory>
+    ensures { IfOk result (λ shelf. shelf.names ≡ fetch_names words.now) }
+{
+    let names = names_of(alloc, words)?;
+    let files = files_of(alloc, given.files)?;
+    MemShelf::new(alloc, &names, &files, given.failing_fetches)
+}
+
+/// The status and the output of a run.
+pub fn answer<L: Ledger, R: AllocGlobal + Threads + Sync>(
+    rt: &R,
+    given: &Given<'_, '_>,
+    blank: Blank,
+) -> Result<(Status, Vec<u8>), Fail>
+    requires name { blank.name ≡ L.name }
+    requires parts { blank.parts ≡ L.parts }
+    requires some { 0 < L.parts }
+{
+    let alloc = rt.alloc();
+    let words = texts_of(alloc, given.words)?;
+    let mut shelf = match shelf_of(alloc, &words, given) {
+        Ok(shelf) => shelf,
+        Err(NoMemory) => return Err("no memory")?,
+    };
+    let mut input = MemSource::new(alloc, given.input, given.piece, given.failing_fills)
+        .ok()
+        .ok_or("no memory")?;
+    let mut out = MemSink::new(alloc, 4096, given.piece, given.failing_puts)
+        .ok()
+        .ok_or("no memory")?;
+    let mut steps = Steps::<L>::start(blank);
+    let status = pvtag(
+        rt, alloc, &words, &mut shelf, &mut input, &mut out, &mut steps,
+    );
+    Ok((status, out.written().to_vec(alloc)?))
+}

@@ -1,0 +1,13 @@
+//! Worked rows of the program, over objects in memory.
+#![tactic(auto)]
+
+#[cfg(test)]
+mod fixture;
+#[cfg(test)]
+mod outside;
+#[cfg(test)]
+mod session;
+#[cfg(test)]
+mod valid;
+#[cfg(test)]
+mod words;

@@ -1,0 +1,71 @@
+#!/usr/bin/env bash
+# The program as a user runs it: by the script at the root, with files, pipes and devices of the machine.
+set -u
+top=$(cd "$(dirname "$0")/.." && pwd)
+work=$(mktemp -d)
+trap 'rm -rf "$work"' EXIT
+passed=0
+failed=0
+
+# expect NAME STATUS OUTPUT COMMAND..
+expect() {
+    local name=$1 status=$2 output=$3
+    shift 3
+    local got got_status
+    got=$("$@" 2>errors.txt; echo "$?")
+    got_status=${got##*$'\n'}
+    got=${got%"$got_status"}
+    if [ "$got_status" = "$status" ] && [ "$got" = "$output" ] && [ ! -s errors.txt ]; then
+        passed=$((passed + 1))
+    else
+        failed=$((failed + 1))
+        echo "$name: status $got_status for $status, output '$got' for '$output', errors '$(cat errors.txt)'"
+    fi
+}
+
+cd "$work" || exit 1
+cp "$top/examples/article.dtd" a.dtd
+printf '<doc>Hello</doc>' >hello.xml
+printf '<doc><head>a</head><sec></sec></doc>' >valid.xml
+printf '<!ELEMENT doc (#PCDATA)>' >text.dtd
+printf '<!ELEMENT doc EMPTY>' >empty.dtd
+printf '<doc> </doc>' >blank.xml
+head -c 4194305 /dev/zero | tr '\0' ' ' >long.dtd
+head -c 4194304 /dev/zero | tr '\0' ' ' >spaces.dtd
+head -c 67108865 /dev/zero | tr '\0' ' ' >long.xml
+{ printf '<a>'; head -c 60000000 /dev/zero | tr '\0' x; printf '</a>'; } >text.xml
+{ printf '<a>'; yes '<a/>' | head -n 1000000 | tr -d '\n'; printf '</a>'; } >siblings.xml
+printf '<!ELEMENT a ANY>' >any.dtd
+printf 'show\n' >show.txt
+pvtag=$top/pvtag
+lf=$'\n'
+
+"$pvtag" valid text.dtd doc hello.xml >/dev/null || {
+    echo "the program doesn't run"
+    exit 1
+}
+expect "valid" 0 "valid$lf" "$pvtag" valid a.dtd doc valid.xml
+expect "invalid" 1 "invalid 0$lf" "$pvtag" valid a.dtd doc hello.xml
+expect "another root" 1 "invalid .$lf" "$pvtag" valid text.dtd p hello.xml
+expect "a blank in EMPTY" 1 "invalid 0$lf" "$pvtag" valid empty.dtd doc blank.xml
+expect "a missing file" 3 "" "$pvtag" valid text.dtd doc nothing.xml
+expect "a long DTD" 8 "limit dtd-file$lf" "$pvtag" valid long.dtd doc hello.xml
+expect "the longest DTD" 1 "invalid 0$lf" "$pvtag" valid spaces.dtd doc hello.xml
+expect "EMPTY with text" 1 "invalid 0$lf" "$pvtag" valid empty.dtd doc hello.xml
+expect "a long document" 8 "limit document-file$lf" "$pvtag" valid text.dtd doc long.xml
+expect "60 MB of text" 0 "valid$lf" "$pvtag" valid any.dtd a text.xml
+expect "1,000,000 siblings" 0 "valid$lf" "$pvtag" valid any.dtd a siblings.xml
+expect "one word" 2 "usage$lf" "$pvtag" valid
+expect "no words" 2 "usage$lf" "$pvtag"
+expect "no name" 2 "usage$lf" "$pvtag" valid text.dtd 1x hello.xml
+expect "a bad DTD" 6 "dtd syntax 0$lf" "$pvtag" valid hello.xml doc hello.xml
+expect "a bad document" 7 "document syntax 0$lf" "$pvtag" valid text.dtd doc text.dtd
+expect "a full device" 4 "" bash -c '"$0" valid text.dtd doc hello.xml >/dev/full' "$pvtag"
+expect "show from a file" 0 "show 16$lf<doc>Hello</doc>$lf" bash -c '"$0" session a.dtd doc hello.xml <show.txt' "$pvtag"
+expect "show by a pipe" 0 "show 16$lf<doc>Hello</doc>$lf" bash -c 'printf "show" | "$0" session a.dtd doc hello.xml' "$pvtag"
+expect "an empty script" 0 "" bash -c '"$0" session a.dtd doc hello.xml </dev/null' "$pvtag"
+expect "a closed pipe" 0 "4$lf" bash -c 'yes show | head -n 100000 >many.txt
+    ("$0" session a.dtd doc hello.xml <many.txt; echo "$?" >&3) 3>status.txt | head -c 1 >/dev/null
+    cat status.txt' "$pvtag"
+echo "program: $passed passed, $failed failed"
+[ "$failed" -eq 0 ]
