@@ -1,0 +1,58 @@
+-- Laws of one list, each a statement. M is the type of marks.
+use Rattle.std.specs.Prelude.{List, Some, ℕ, ◌+◌, ◌↔◌, ◌≡◌}
+use Rattle.pv_model.specs.Models.{PlainModel, PlainToken, empty}
+use Rattle.pv_dtd.specs.Plain.{PlainDtd, model_of}
+use Rattle.pv_tree.specs.Hedge.{Hedge, done, elements, word}
+use Rattle.pv_tree.specs.Lists.{IsValidList, Listed, Owner, an_element, the_document}
+use Rattle.pv_tree.specs.Plain.{Forest, Tree, cdata_node, element, misc_node, no_trees, text_node, tree}
+use Rattle.pv_missing.specs.Covering.{IsPossibleRootWith, IsPossibleWith}
+use Rattle.pv_missing.specs.Dtds.{IsProperDtd}
+use Rattle.pv_missing.specs.Extending.{Extends}
+use Rattle.pv_missing.specs.LiveWords.{IsLiveWord}
+use Rattle.pv_missing.specs.OneList.{CanFit, CanFitRoot, InsertsHere}
+use Rattle.pv_missing.specs.Productive.{AreProductive, IsProductiveName}
+use Rattle.pv_missing.specs.Verdicts.{IsFirstImpossible, IsLive, IsVerdict}
+use Rattle.pv_tree.specs.declared.nodes.Verdict.{Verdict}
+
+-- The live word of an element's content is possible, with n elements missing, exactly where n elements inserted at its level make the
+-- content fit. Of the elements there each has a productive name, and an EMPTY element has no content.
+abbrev pub OneList : Type 0
+OneList = (g : PlainDtd) (x n : ℕ) (m : PlainModel) (h : Hedge) (live : List PlainToken) → IsProperDtd g → model_of g x ≡ Some m →
+    (m ≡ empty → h ≡ done) → AreProductive g h → IsLiveWord g (word g h) live → IsPossibleWith g x n live ↔ CanFit g m n h
+
+-- the same of the document node
+abbrev pub RootList : Type 0
+RootList = (g : PlainDtd) (y n : ℕ) (h : Hedge) (live : List PlainToken) → IsProperDtd g → AreProductive g h → IsLiveWord g (word g h) live →
+    IsPossibleRootWith g y n live ↔ CanFitRoot g y n h
+
+-- what is inserted at one level is an extension by as many elements
+abbrev pub HereExtends : Type 0
+HereExtends = (g : PlainDtd) (n : ℕ) (h h' : Hedge) → InsertsHere g n h h' → Extends h h' × (elements h' ≡ n + elements h)
+
+abbrev pub IsProductiveOwner : PlainDtd → Owner → Type 0
+IsProductiveOwner g the_document = Unit {0}
+IsProductiveOwner g (an_element x) = IsProductiveName g x
+
+abbrev pub IsProductiveNode : {M : Type 0} → PlainDtd → Tree M → Type 0
+IsProductiveNode g (element x attrs ending kids mark) = IsProductiveName g x
+IsProductiveNode g (text_node units) = Unit {0}
+IsProductiveNode g (cdata_node bytes) = Unit {0}
+IsProductiveNode g (misc_node bytes) = Unit {0}
+
+-- each element among the kids has a productive name
+abbrev pub AreProductiveKids : {M : Type 0} → PlainDtd → Forest M → Type 0
+AreProductiveKids g no_trees = Unit {0}
+AreProductiveKids g (tree t rest) = IsProductiveNode g t × AreProductiveKids g rest
+
+-- a list that is valid by itself, whose owner and names are productive, is live
+abbrev pub OwnValidIsLive : (M : Type 0) → Type 0
+OwnValidIsLive M = (g : PlainDtd) (root : List ℕ) (list : Listed M) → IsValidList g root list → IsProductiveOwner g list.owner →
+    AreProductiveKids g list.kids → IsLive g root list
+
+-- a list has at most one verdict
+abbrev pub OneVerdict : (M : Type 0) → Type 0
+OneVerdict M = (g : PlainDtd) (root : List ℕ) (list : Listed M) (v v' : Verdict) → IsVerdict g root list v → IsVerdict g root list v' → v ≡ v'
+
+-- lists have at most one first impossible one
+abbrev pub OneFirst : (M : Type 0) → Type 0
+OneFirst M = (g : PlainDtd) (root : List ℕ) (lists : List (Listed M)) (p q : List ℕ) → IsFirstImpossible g root lists p → IsFirstImpossible g root lists q → p ≡ q

@@ -1,0 +1,65 @@
+-- The verdict of a list.
+use Rattle.std.specs.Prelude.{List, Some, [], ℕ, ◌++◌, ◌∷◌, ◌≡◌}
+use Rattle.std.specs.List.{AllByRecursion}
+use Rattle.pv_model.specs.Models.{PlainToken, empty}
+use Rattle.pv_dtd.specs.Plain.{PlainDtd, model_of, number_of}
+use Rattle.pv_tree.specs.Lists.{IsValidList, Listed, Owner, an_element, the_document}
+use Rattle.pv_tree.specs.Plain.{Forest, no_trees}
+use Rattle.pv_tree.specs.Words.{word_of}
+use Rattle.pv_missing.specs.Filling.{IsPossible, IsPossibleRoot}
+use Rattle.pv_missing.specs.LiveWords.{IsLiveWord}
+use Rattle.pv_missing.specs.Productive.{IsProductive}
+use Rattle.pv_tree.specs.declared.nodes.Verdict.{Verdict}
+use Rattle.pv_tree.specs.declared.nodes.Verdict.TheVariants as verdict
+
+-- The kids may stand in an element of this name: the name is productive, an EMPTY element has no kids of any kind, and the live word
+-- is possible for its content.
+pub record IsLiveContent {M : Type 0} (g : PlainDtd) (x : List ℕ) (kids : Forest M) : Type 0 where
+  pub number : ℕ
+  pub is_owner : number_of g x ≡ Some number
+  pub productive : IsProductive g number
+  pub no_kids : model_of g number ≡ Some empty → kids ≡ no_trees
+  pub live : List PlainToken
+  pub is_live : IsLiveWord g (word_of g kids) live
+  pub possible : IsPossible g number live
+
+-- they may stand in the document node: the DTD has the root's name, and the live word is possible
+pub record IsLiveRoot {M : Type 0} (g : PlainDtd) (root : List ℕ) (kids : Forest M) : Type 0 where
+  pub number : ℕ
+  pub is_owner : number_of g root ≡ Some number
+  pub live : List PlainToken
+  pub is_live : IsLiveWord g (word_of g kids) live
+  pub possible : IsPossibleRoot g number live
+
+abbrev pub IsLiveBy : {M : Type 0} → PlainDtd → List ℕ → Owner → Forest M → Type 0
+IsLiveBy g root the_document kids = IsLiveRoot g root kids
+IsLiveBy g root (an_element x) kids = IsLiveContent g x kids
+
+-- the list isn't impossible
+abbrev pub IsLive : {M : Type 0} → PlainDtd → List ℕ → Listed M → Type 0
+IsLive g root list = IsLiveBy g root list.owner list.kids
+
+-- Impossible where the list isn't live; else Valid where it is valid by itself, and Possible where it isn't
+abbrev pub Judges : Verdict → Type 0 → Type 0 → Type 0
+Judges verdict.Valid live own = live × own
+Judges verdict.Possible live own = live × (own → ⊥)
+Judges verdict.Impossible live own = live → ⊥
+
+-- the verdict of a list
+abbrev pub IsVerdict : {M : Type 0} → PlainDtd → List ℕ → Listed M → Verdict → Type 0
+IsVerdict g root list v = Judges v (IsLive g root list) (IsValidList g root list)
+
+-- the verdicts of lists, in their order
+abbrev pub AreVerdicts : {M : Type 0} → PlainDtd → List ℕ → List (Listed M) → List Verdict → Type 0
+AreVerdicts g root [] vs = vs ≡ []
+AreVerdicts g root (list ∷ lists) vs = (v : Verdict) × (rest : List Verdict) × (vs ≡ v ∷ rest) × IsVerdict g root list v × AreVerdicts g root lists rest
+
+-- the path of the first impossible list
+pub record IsFirstImpossible {M : Type 0} (g : PlainDtd) (root : List ℕ) (lists : List (Listed M)) (path : List ℕ) : Type 0 where
+  pub before : List (Listed M)
+  pub list : Listed M
+  pub after : List (Listed M)
+  pub is_split : lists ≡ before ++ list ∷ after
+  pub live_before : AllByRecursion (IsLive g root) before
+  pub impossible : IsLive g root list → ⊥
+  pub is_path : path ≡ list.path

@@ -1,0 +1,61 @@
+-- Laws of words, each a statement.
+use Rattle.std.specs.Prelude.{List, [], suc, ℕ, ◌++◌, ◌↔◌, ◌∷◌, ◌≡◌, ◌≤◌}
+use Rattle.std.specs.List.{AllByRecursion}
+use Rattle.pv_model.specs.Models.{PlainToken, named, other, text}
+use Rattle.pv_dtd.specs.Plain.{PlainDtd}
+use Rattle.pv_tree.specs.Hedge.{AreGood, Hedge, done, elem}
+use Rattle.pv_missing.specs.Covering.{IsPossibleRootWith, IsPossibleWith}
+use Rattle.pv_missing.specs.Dtds.{IsProperDtd}
+use Rattle.pv_missing.specs.Filling.{IsPossible, IsPossibleRoot}
+use Rattle.pv_missing.specs.LiveWords.{IsLiveWord}
+use Rattle.pv_missing.specs.Productive.{IsLeastSize, IsProductive, IsProductiveName}
+
+-- each name in the word is productive
+abbrev pub IsProductiveToken : PlainDtd → PlainToken → Type 0
+IsProductiveToken g (named y) = IsProductive g y
+IsProductiveToken g text = Unit {0}
+IsProductiveToken g other = Unit {0}
+
+abbrev pub AreProductiveTokens : PlainDtd → List PlainToken → Type 0
+AreProductiveTokens g w = AllByRecursion (IsProductiveToken g) w
+
+-- depths, and finite derivations with their numbers of missing elements, say the same
+abbrev pub DepthsAgree : Type 0
+DepthsAgree = (g : PlainDtd) (x : ℕ) (w : List PlainToken) →
+    (IsPossible g x w ↔ ((n : ℕ) × IsPossibleWith g x n w)) × (IsPossibleRoot g x w ↔ ((n : ℕ) × IsPossibleRootWith g x n w))
+
+-- a possible word stays possible where a token is left out
+abbrev pub LeftOut : Type 0
+LeftOut = (g : PlainDtd) (x : ℕ) (a b : List PlainToken) (t : PlainToken) →
+    (IsPossible g x (a ++ t ∷ b) → IsPossible g x (a ++ b)) × (IsPossibleRoot g x (a ++ t ∷ b) → IsPossibleRoot g x (a ++ b))
+
+-- and where a text is doubled, or two side by side are merged, with as many elements missing
+abbrev pub Doubled : Type 0
+Doubled = (g : PlainDtd) (x n : ℕ) (a b : List PlainToken) →
+    (IsPossibleWith g x n (a ++ text ∷ b) ↔ IsPossibleWith g x n (a ++ text ∷ text ∷ b)) ×
+    (IsPossibleRootWith g x n (a ++ text ∷ b) ↔ IsPossibleRootWith g x n (a ++ text ∷ text ∷ b))
+
+-- the live word is possible exactly where the word is, with as many elements missing
+abbrev pub LiveAgrees : Type 0
+LiveAgrees = (g : PlainDtd) (x n : ℕ) (w live : List PlainToken) → IsLiveWord g w live →
+    (IsPossibleWith g x n w ↔ IsPossibleWith g x n live) × (IsPossibleRootWith g x n w ↔ IsPossibleRootWith g x n live)
+
+-- an element for whose content some word is possible has a productive name
+abbrev pub OwnerIsProductive : Type 0
+OwnerIsProductive = (g : PlainDtd) (x : ℕ) (w : List PlainToken) → IsProperDtd g → IsPossible g x w → IsProductive g x
+
+-- a name is productive exactly where some hedge of one element of this name is good
+abbrev pub ProductiveNames : Type 0
+ProductiveNames = (g : PlainDtd) (x : List ℕ) → IsProductiveName g x ↔ ((attrs : List ℕ) × (kids : Hedge) × AreGood g (elem x attrs kids done))
+
+-- n elements are missing in empty content
+abbrev pub IsLeastInNothing : PlainDtd → ℕ → ℕ → Type 0
+IsLeastInNothing g x n = IsPossibleWith g x n [] × ((m : ℕ) → IsPossibleWith g x m [] → n ≤ m)
+
+-- the least size of a name is one more than the least number of elements missing in empty content
+abbrev pub SizeIsMissing : Type 0
+SizeIsMissing = (g : PlainDtd) (x n : ℕ) → IsProperDtd g → IsLeastSize g x (suc n) ↔ IsLeastInNothing g x n
+
+-- a word has at most one live word
+abbrev pub OneLiveWord : Type 0
+OneLiveWord = (g : PlainDtd) (w a b : List PlainToken) → IsLiveWord g w a → IsLiveWord g w b → a ≡ b

@@ -1,0 +1,19 @@
+//! What every DTD and every document of the program has.
+
+ghost use Rattle.pv_dtd.specs.Reads.{plain_dtd};
+ghost use Rattle.pv_tree.specs.Docs.{plain_doc};
+ghost use Rattle.pv_missing.specs.Dtds.{IsProperDtd};
+ghost use Rattle.pv_missing.specs.DocumentLaws.{IsProperDoc};
+
+use pv_dtd::Dtd;
+use pv_tree::Doc;
+
+/// The laws hold of every DTD.
+pub fn proper_dtd_law(_dtd: &Dtd)
+    ensures { IsProperDtd (plain_dtd _dtd.now) }
+{}
+
+/// The laws hold of every document.
+pub fn proper_doc_law(_doc: &Doc)
+    ensures { IsProperDoc (plain_doc _doc.now) }
+{}
