@@ -4,8 +4,7 @@ use Rattle.std.proofs.lemmas.Grind.{common_steps}
 use Rattle.pv_io.specs.declared.shelf.FetchError.{FetchError}
 use Rattle.pv_io.specs.declared.shelf.FetchError.TheVariants.{Failed, TooLong, NoMemory}
 use Rattle.pv_io.specs.Files.{FetchTells, FetchGives, file_named}
-use Rattle.pv_cli.specs.Answer.{Answer, with_line}
-use Rattle.pv_cli.specs.Fetched.{IsGiven, IsTooLong}
+use Rattle.pv_cli.specs.Answer.{Answer, with_line, IsGiven, IsTooLong}
 use Rattle.pv_cli.specs.Outcome.{IsFile}
 use Rattle.pv_cli.specs.Steps.{Stops}
 use Rattle.pv_cli.specs.declared.status.Status.TheVariants.{Limit}

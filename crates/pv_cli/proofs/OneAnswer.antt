@@ -1,13 +1,14 @@
 -- Over given files there is one answer.
-use Rattle.std.proofs.Common.{◌≡◌, ℕ, List, length, codes, Option, Some, sym, ap, ◌∙◌, subst, arith}
+use Rattle.std.proofs.Common.{◌≡◌, ℕ, List, length, codes, Option, Some, None, sym, ap, ◌∙◌, subst, arith}
 use Rattle.pv_dtd.specs.Plain.{PlainDtd}
+use Rattle.pv_dtd.specs.Facts.{MOST_DTD}
 use Rattle.pv_dtd.specs.Grammar.{IsDtdText}
 use Rattle.pv_tree.specs.Laws.{IsValidByLists}
 use Rattle.pv_tree.specs.Plain.{PlainDoc}
 use Rattle.pv_tree.specs.declared.nodes.Mark.{Mark}
-use Rattle.pv_read.specs.Grammar.{IsDocumentText}
+use Rattle.pv_read.specs.Grammar.{IsDocumentText, MOST_DOC}
 use Rattle.pv_read.specs.Laws.{SpellsOneDocument}
-use Rattle.pv_cli.specs.Answer.{Answer, OnFile, no_file, too_long, given, OnDtd, is_dtd, no_dtd, OnDocument, is_document, no_document, MOST_DTD, MOST_DOC}
+use Rattle.pv_cli.specs.Answer.{Answer, OnFile, no_file, too_long, given, IsGiven, IsTooLong, OnDtd, is_dtd, no_dtd, OnDocument, is_document, no_document}
 use Rattle.pv_cli.specs.Laws.{HasOneValidAnswer}
 use Rattle.pv_cli.specs.Opening.{OnDocumentFile}
 use Rattle.pv_cli.specs.Valid.{TellsValidity}
@@ -20,36 +21,43 @@ IsOneDtd = (bytes : List ℕ) (g h : PlainDtd) → IsDtdText bytes g → IsDtdTe
 one_file : (file : Option (List ℕ)) (bytes other : List ℕ) → file ≡ Some bytes → file ≡ Some other → bytes ≡ other
 one_file file bytes other is are = let same : Some bytes ≡ Some other = sym is ∙ are in cc
 
+no_bytes : (file : Option (List ℕ)) (bytes : List ℕ) → file ≡ None → file ≡ Some bytes → ⊥
+no_bytes file bytes is are = cc
+
+not_both : (file : Option (List ℕ)) (most : ℕ) (passed : List ℕ) (a : Answer) (bytes : List ℕ) → IsTooLong file most passed a → IsGiven file most bytes → ⊥
+not_both file most passed a bytes is are =
+    let same = ap length (one_file file is.bytes bytes is.is_file are.is_file) in
+    let beyond = is.beyond in
+    let within = are.within in absurd (omega arith)
+
 on_file : (file : Option (List ℕ)) (most : ℕ) (passed : List ℕ) (behind : List ℕ → Answer → Type 0) (a b : Answer) → ((bytes : List ℕ) → behind bytes a → behind bytes b → a ≡ b) →
     OnFile file most passed behind a → OnFile file most passed behind b → a ≡ b
 on_file file most passed behind a b one (no_file is e) (no_file are f) = e ∙ sym f
-on_file file most passed behind a b one (no_file is e) (too_long bytes are beyond f) = cc
-on_file file most passed behind a b one (no_file is e) (given bytes are within f) = cc
-on_file file most passed behind a b one (too_long bytes is beyond e) (no_file are f) = cc
-on_file file most passed behind a b one (too_long bytes is beyond e) (too_long other are more f) = e ∙ sym f
-on_file file most passed behind a b one (too_long bytes is beyond e) (given other are within f) =
-    let same = ap length (one_file file bytes other is are) in absurd (omega arith)
-on_file file most passed behind a b one (given bytes is within e) (no_file are f) = cc
-on_file file most passed behind a b one (given bytes is within e) (too_long other are beyond f) =
-    let same = ap length (one_file file bytes other is are) in absurd (omega arith)
-on_file file most passed behind a b one (given bytes is within e) (given other are also f) =
-    one bytes e (subst (λ (bs : List ℕ). behind bs b) (sym (one_file file bytes other is are)) f)
+on_file file most passed behind a b one (no_file is e) (too_long are) = absurd (no_bytes file are.bytes is are.is_file)
+on_file file most passed behind a b one (no_file is e) (given bytes are f) = absurd (no_bytes file bytes is are.is_file)
+on_file file most passed behind a b one (too_long is) (no_file are f) = absurd (no_bytes file is.bytes are is.is_file)
+on_file file most passed behind a b one (too_long is) (too_long are) = is.is_answer ∙ sym are.is_answer
+on_file file most passed behind a b one (too_long is) (given bytes are f) = absurd (not_both file most passed a bytes is are)
+on_file file most passed behind a b one (given bytes is e) (no_file are f) = absurd (no_bytes file bytes are is.is_file)
+on_file file most passed behind a b one (given bytes is e) (too_long are) = absurd (not_both file most passed b bytes are is)
+on_file file most passed behind a b one (given bytes is e) (given other are f) =
+    one bytes e (subst (λ (bs : List ℕ). behind bs b) (sym (one_file file bytes other is.is_file are.is_file)) f)
 
 on_dtd : (one_dtd : IsOneDtd) (bytes : List ℕ) (behind : PlainDtd → Answer → Type 0) (a b : Answer) → ((g : PlainDtd) → behind g a → behind g b → a ≡ b) →
     OnDtd bytes behind a → OnDtd bytes behind b → a ≡ b
 on_dtd one_dtd bytes behind a b one (is_dtd g is e) (is_dtd h are f) =
     one g e (subst (λ (d : PlainDtd). behind d b) (sym (one_dtd bytes g h is are)) f)
-on_dtd one_dtd bytes behind a b one (is_dtd g is e) (no_dtd none f) = absurd (none g is)
-on_dtd one_dtd bytes behind a b one (no_dtd none e) (is_dtd g is f) = absurd (none g is)
-on_dtd one_dtd bytes behind a b one (no_dtd none e) (no_dtd never f) = e ∙ sym f
+on_dtd one_dtd bytes behind a b one (is_dtd g is e) (no_dtd none) = absurd (none.0 g is)
+on_dtd one_dtd bytes behind a b one (no_dtd none) (is_dtd g is f) = absurd (none.0 g is)
+on_dtd one_dtd bytes behind a b one (no_dtd none) (no_dtd never) = none.1 ∙ sym never.1
 
 on_document : (bytes : List ℕ) (behind : PlainDoc Mark → Answer → Type 0) (a b : Answer) →
     ((doc same : PlainDoc Mark) → IsDocumentText bytes doc → IsDocumentText bytes same → behind doc a → behind same b → a ≡ b) →
     OnDocument bytes behind a → OnDocument bytes behind b → a ≡ b
 on_document bytes behind a b one (is_document doc is e) (is_document same are f) = one doc same is are e f
-on_document bytes behind a b one (is_document doc is e) (no_document none f) = absurd (none doc is)
-on_document bytes behind a b one (no_document none e) (is_document doc is f) = absurd (none doc is)
-on_document bytes behind a b one (no_document none e) (no_document never f) = e ∙ sym f
+on_document bytes behind a b one (is_document doc is e) (no_document none) = absurd (none.0 doc is)
+on_document bytes behind a b one (no_document none) (is_document doc is f) = absurd (none.0 doc is)
+on_document bytes behind a b one (no_document none) (no_document never) = none.1 ∙ sym never.1
 
 verdict_on_text : (one_document : SpellsOneDocument) (by_lists : IsValidByLists Mark) (root : List ℕ) (g : PlainDtd) (bytes : List ℕ) (a b : Answer) (doc same : PlainDoc Mark) →
     IsDocumentText bytes doc → IsDocumentText bytes same → TellsValidity root g doc a → TellsValidity root g same b → a ≡ b

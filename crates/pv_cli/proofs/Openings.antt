@@ -1,27 +1,27 @@
 -- What the steps of opening say of the answer.
 use Rattle.std.proofs.Common.{ℕ, List, codes, Option}
 use Rattle.pv_dtd.specs.Plain.{PlainDtd}
+use Rattle.pv_dtd.specs.Facts.{MOST_DTD}
 use Rattle.pv_dtd.specs.Grammar.{IsDtdText}
 use Rattle.pv_tree.specs.Plain.{PlainDoc}
 use Rattle.pv_tree.specs.declared.nodes.Mark.{Mark}
-use Rattle.pv_read.specs.Grammar.{IsDocumentText}
-use Rattle.pv_cli.specs.Answer.{Answer, OnFile, no_file, too_long, given, OnDtd, is_dtd, no_dtd, OnDocument, is_document, no_document, IsDtdRefusal, IsDocumentRefusal, MOST_DTD, MOST_DOC}
-use Rattle.pv_cli.specs.Fetched.{IsGiven, IsTooLong}
+use Rattle.pv_read.specs.Grammar.{IsDocumentText, MOST_DOC}
+use Rattle.pv_cli.specs.Answer.{Answer, OnFile, no_file, too_long, given, OnDtd, is_dtd, no_dtd, OnDocument, is_document, no_document, IsGiven, IsTooLong, IsDtdRefusal, IsDocumentRefusal}
 use Rattle.pv_cli.specs.Opening.{OnDtdFile, OnDocumentFile, OnFiles, IsDtdFile, IsDocumentFile, IsDtdFileRefusal, IsDocumentFileRefusal, IsRefusal}
 
 -- what is behind a step may be replaced by what follows from it
 pub behind_file : (file : Option (List ℕ)) (most : ℕ) (passed : List ℕ) (P Q : List ℕ → Answer → Type 0) → ((bytes : List ℕ) (a : Answer) → P bytes a → Q bytes a) → (a : Answer) → OnFile file most passed P a → OnFile file most passed Q a
 behind_file file most passed P Q so a (no_file none is) = no_file none is
-behind_file file most passed P Q so a (too_long bytes is_file beyond is) = too_long bytes is_file beyond is
-behind_file file most passed P Q so a (given bytes is_file within behind) = given bytes is_file within (so bytes a behind)
+behind_file file most passed P Q so a (too_long is) = too_long is
+behind_file file most passed P Q so a (given bytes is behind) = given bytes is (so bytes a behind)
 
 pub behind_dtd : (bytes : List ℕ) (P Q : PlainDtd → Answer → Type 0) → ((g : PlainDtd) (a : Answer) → P g a → Q g a) → (a : Answer) → OnDtd bytes P a → OnDtd bytes Q a
 behind_dtd bytes P Q so a (is_dtd g is behind) = is_dtd g is (so g a behind)
-behind_dtd bytes P Q so a (no_dtd none is) = no_dtd none is
+behind_dtd bytes P Q so a (no_dtd none) = no_dtd none
 
 pub behind_document : (bytes : List ℕ) (P Q : PlainDoc Mark → Answer → Type 0) → ((d : PlainDoc Mark) (a : Answer) → P d a → Q d a) → (a : Answer) → OnDocument bytes P a → OnDocument bytes Q a
 behind_document bytes P Q so a (is_document d is behind) = is_document d is (so d a behind)
-behind_document bytes P Q so a (no_document none is) = no_document none is
+behind_document bytes P Q so a (no_document none) = no_document none
 
 pub dtd_file_so : (file : Option (List ℕ)) (P Q : PlainDtd → Answer → Type 0) → ((g : PlainDtd) (a : Answer) → P g a → Q g a) → (a : Answer) → OnDtdFile file P a → OnDtdFile file Q a
 dtd_file_so file P Q so a on = behind_file file MOST_DTD (codes "limit dtd-file") (λ bytes. OnDtd bytes P) (λ bytes. OnDtd bytes Q) (λ bytes. behind_dtd bytes P Q so) a on
@@ -37,10 +37,10 @@ pub dtd_refused_so : (dtd doc : Option (List ℕ)) (a : Answer) → IsDtdFileRef
 dtd_refused_so dtd doc a is = dtd_file_so dtd (λ g b. ⊥) (λ g. OnDocumentFile doc (λ d b. ⊥)) (λ g b. absurd) a is
 
 pub on_dtd_file : (file : Option (List ℕ)) (g : PlainDtd) (Q : PlainDtd → Answer → Type 0) (a : Answer) → IsDtdFile file g → Q g a → OnDtdFile file Q a
-on_dtd_file file g Q a is behind = given is.bytes is.is_given.is_file is.is_given.within (is_dtd g is.is_dtd behind)
+on_dtd_file file g Q a is behind = given is.bytes is.is_given (is_dtd g is.is_dtd behind)
 
 pub on_document_file : (file : Option (List ℕ)) (d : PlainDoc Mark) (Q : PlainDoc Mark → Answer → Type 0) (a : Answer) → IsDocumentFile file d → Q d a → OnDocumentFile file Q a
-on_document_file file d Q a is behind = given is.bytes is.is_given.is_file is.is_given.within (is_document d is.is_document behind)
+on_document_file file d Q a is behind = given is.bytes is.is_given (is_document d is.is_document behind)
 
 pub document_refused_so : (dtd doc : Option (List ℕ)) (g : PlainDtd) → IsDtdFile dtd g → (a : Answer) → IsDocumentFileRefusal doc a → IsRefusal dtd doc a
 document_refused_so dtd doc g is a refusal = on_dtd_file dtd g (λ g. OnDocumentFile doc (λ d b. ⊥)) a is refusal
@@ -56,13 +56,13 @@ pub document_of_file : (file : Option (List ℕ)) (bytes : List ℕ) (d : PlainD
 document_of_file file bytes d given_bytes is = record { bytes = bytes; is_given = given_bytes; is_document = is }
 
 pub dtd_too_long : (file : Option (List ℕ)) (a : Answer) → IsTooLong file MOST_DTD (codes "limit dtd-file") a → IsDtdFileRefusal file a
-dtd_too_long file a is = too_long is.bytes is.is_file is.beyond is.is_answer
+dtd_too_long file a is = too_long is
 
 pub document_too_long : (file : Option (List ℕ)) (a : Answer) → IsTooLong file MOST_DOC (codes "limit document-file") a → IsDocumentFileRefusal file a
-document_too_long file a is = too_long is.bytes is.is_file is.beyond is.is_answer
+document_too_long file a is = too_long is
 
 pub dtd_refused_in : (file : Option (List ℕ)) (bytes : List ℕ) → IsGiven file MOST_DTD bytes → (a : Answer) → IsDtdRefusal bytes a → IsDtdFileRefusal file a
-dtd_refused_in file bytes is a refusal = given bytes is.is_file is.within (no_dtd refusal.0 refusal.1)
+dtd_refused_in file bytes is a refusal = given bytes is (no_dtd refusal)
 
 pub document_refused_in : (file : Option (List ℕ)) (bytes : List ℕ) → IsGiven file MOST_DOC bytes → (a : Answer) → IsDocumentRefusal bytes a → IsDocumentFileRefusal file a
-document_refused_in file bytes is a refusal = given bytes is.is_file is.within (no_document refusal.0 refusal.1)
+document_refused_in file bytes is a refusal = given bytes is (no_document refusal)

@@ -8,8 +8,8 @@ use Rattle.pv_cli.specs.declared.status.Stop.{Stop}
 use Rattle.pv_cli.specs.declared.status.Stop.TheVariants.{Refused, Faulty, Memory}
 use Rattle.pv_cli.specs.declared.status.Status.TheVariants.{Limit}
 use Rattle.pv_cli.specs.Answer.{with_line}
-use Rattle.pv_cli.specs.Scripts.{IsScript, IsWholeScript, IsScriptRefusal}
-use Rattle.pv_cli.specs.Session.{MOST_SCRIPT}
+use Rattle.pv_cli.specs.Scripts.{IsScript, IsWholeScript}
+use Rattle.pv_cli.specs.Session.{MOST_SCRIPT, IsScriptRefusal}
 use Rattle.pv_cli.specs.Steps.{Stops}
 
 pub consumes_more : (old mid new : Option (List ℕ)) (before piece : List ℕ) → Consumes old mid before → Consumes mid new piece → Consumes old new (before ++ piece)

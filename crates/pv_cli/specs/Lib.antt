@@ -1,7 +1,6 @@
 pub mod Answer
 pub mod Commands
 pub mod Faults
-pub mod Fetched
 pub mod Laws
 pub mod Opening
 pub mod Outcome

@@ -1,12 +1,12 @@
 -- Opening the files of a command. The order of work: DTD fetch, DTD, document fetch, document.
 use Rattle.std.specs.Prelude.{ℕ, List, codes, Option}
 use Rattle.pv_dtd.specs.Plain.{PlainDtd}
+use Rattle.pv_dtd.specs.Facts.{MOST_DTD}
 use Rattle.pv_dtd.specs.Grammar.{IsDtdText}
 use Rattle.pv_tree.specs.Plain.{PlainDoc}
 use Rattle.pv_tree.specs.declared.nodes.Mark.{Mark}
-use Rattle.pv_read.specs.Grammar.{IsDocumentText}
-use Rattle.pv_cli.specs.Answer.{Answer, OnFile, OnDtd, OnDocument, MOST_DTD, MOST_DOC}
-use Rattle.pv_cli.specs.Fetched.{IsGiven}
+use Rattle.pv_read.specs.Grammar.{IsDocumentText, MOST_DOC}
+use Rattle.pv_cli.specs.Answer.{Answer, OnFile, OnDtd, OnDocument, IsGiven}
 
 -- the answer behind the DTD that a file is
 abbrev pub OnDtdFile : Option (List ℕ) → (PlainDtd → Answer → Type 0) → Answer → Type 0

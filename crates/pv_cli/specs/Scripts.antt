@@ -1,7 +1,5 @@
 -- The script that an input gives.
-use Rattle.std.specs.Prelude.{◌≡◌, ◌≤◌, ◌<◌, ℕ, List, length, codes, Option, Some, None}
-use Rattle.pv_cli.specs.declared.status.Status.TheVariants.{Limit}
-use Rattle.pv_cli.specs.Answer.{Answer, with_line}
+use Rattle.std.specs.Prelude.{◌≡◌, ◌≤◌, ℕ, List, length, Option, Some, None}
 use Rattle.pv_cli.specs.Session.{MOST_SCRIPT}
 
 -- the bytes that the input has left, where it tells them
@@ -13,8 +11,3 @@ IsScript (Some left) script = script ≡ left
 pub record IsWholeScript (script bytes : List ℕ) : Type 0 where
   pub whole : bytes ≡ script
   pub within : length script ≤ MOST_SCRIPT
-
--- the answer where it has more
-pub record IsScriptRefusal (script : List ℕ) (a : Answer) : Type 0 where
-  pub beyond : MOST_SCRIPT < length script
-  pub is_answer : a ≡ with_line Limit (codes "limit script")

@@ -3,7 +3,8 @@
 ghost use Rattle.std.specs.Prelude.{◌≡◌, ◌≤◌, List, ℕ, OnOk, IfOk, vec_len};
 ghost use Rattle.std.specs.Io.KnownBytes.{IsAtEnd};
 ghost use Rattle.pv_io.specs.Causes.{Rose};
-ghost use Rattle.pv_cli.specs.Scripts.{IsScript, IsWholeScript, IsScriptRefusal};
+ghost use Rattle.pv_cli.specs.Scripts.{IsScript, IsWholeScript};
+ghost use Rattle.pv_cli.specs.Session.{IsScriptRefusal};
 ghost use Rattle.pv_cli.specs.Steps.{Steps};
 
 use crate::status::{Status, Stop};

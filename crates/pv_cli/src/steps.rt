@@ -6,9 +6,8 @@ ghost use Rattle.pv_dtd.specs.Grammar.{IsDtdText};
 ghost use Rattle.pv_dtd.specs.Reads.{plain_dtd};
 ghost use Rattle.pv_tree.specs.Docs.{plain_doc};
 ghost use Rattle.pv_read.specs.Grammar.{IsDocumentText};
-ghost use Rattle.pv_cli.specs.Answer.{with_line, IsDtdRefusal, IsDocumentRefusal};
+ghost use Rattle.pv_cli.specs.Answer.{with_line, IsGiven, IsTooLong, IsDtdRefusal, IsDocumentRefusal};
 ghost use Rattle.pv_cli.specs.Faults.{is_fault};
-ghost use Rattle.pv_cli.specs.Fetched.{IsGiven, IsTooLong};
 ghost use Rattle.pv_cli.specs.Outcome.{IsFile};
 ghost use Rattle.pv_cli.specs.Steps.{Steps, Stops};
 

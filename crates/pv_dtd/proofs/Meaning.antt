@@ -9,7 +9,7 @@ use Rattle.std.specs.Str.{bytes_eq}
 use Rattle.pv_model.specs.Models.{PlainModel}
 use Rattle.pv_chars.specs.Scan.{◌>>=◌}
 use Rattle.pv_dtd.specs.Plain.{PlainDtd, spelling_of, mentions, parts_in_models}
-use Rattle.pv_dtd.specs.Facts.{are_distinct, MOST_TYPES, MOST_PARTS, MOST_BYTES}
+use Rattle.pv_dtd.specs.Facts.{are_distinct, MOST_TYPES, MOST_PARTS, MOST_DTD}
 use Rattle.pv_dtd.specs.Grammar.{Declaration, IsWithinRules, IsDtdText}
 use Rattle.pv_dtd.specs.Reads.{plain_dtd, Refuses}
 use Rattle.pv_dtd.specs.declared.dtd.Dtd.{Dtd}
@@ -74,7 +74,7 @@ text_limits bytes g t =
 
 pub text_is_read : (bytes : List ℕ) (g : PlainDtd) → IsDtdText bytes g → dtd_at bytes ≡ Some g
 unfolding text_at
-text_is_read bytes g t = rw (at_most _ MOST_BYTES t.few_bytes, text_declared bytes g t, text_models bytes g t, text_limits bytes g t) refl
+text_is_read bytes g t = rw (at_most _ MOST_DTD t.few_bytes, text_declared bytes g t, text_models bytes g t, text_limits bytes g t) refl
 
 -- what is read is spelled
 spelt_named : (ns : List (List ℕ)) (ys : List ℕ) (xs : List (List ℕ)) → AreNamed ns ys xs → spelt ns ys ≡ xs
@@ -95,7 +95,7 @@ chosen false o y e = cc
 declared_then : (new : Bool) (types declared : List (List ℕ)) → cond new (Some types) None ≡ Some declared → (new ≡ true) × (types ≡ declared)
 declared_then new types declared e = cond_some new types declared e
 
-read_text : (bytes : List ℕ) (declared : List (List ℕ)) (f : Found (List PlainModel)) → length bytes ≤ MOST_BYTES → length declared ≤ MOST_TYPES → parts_in_models f.value ≤ MOST_PARTS → declared_at (suc (length bytes)) [] bytes ≡ Some declared → ReadsItems declared bytes f →
+read_text : (bytes : List ℕ) (declared : List (List ℕ)) (f : Found (List PlainModel)) → length bytes ≤ MOST_DTD → length declared ≤ MOST_TYPES → parts_in_models f.value ≤ MOST_PARTS → declared_at (suc (length bytes)) [] bytes ≡ Some declared → ReadsItems declared bytes f →
     IsDtdText bytes (record { names = f.names; models = f.value })
 read_text bytes declared f few_bytes few_types few_parts at r =
     let few : length bytes < suc (length bytes) = omega arith in
@@ -119,13 +119,13 @@ read_text bytes declared f few_bytes few_types few_parts at r =
 pub read_is_text : (bytes : List ℕ) (g : PlainDtd) → dtd_at bytes ≡ Some g → IsDtdText bytes g
 unfolding text_at
 read_is_text bytes g e =
-    let short = chosen (nat_le (length bytes) MOST_BYTES) (text_at bytes) g e in
+    let short = chosen (nat_le (length bytes) MOST_DTD) (text_at bytes) g e in
     let declared = bound (declared_at (suc (length bytes)) [] bytes) _ g short.1 in
     let models = bound (models_at (suc (length bytes)) declared.value bytes) _ g declared.others in
     let limits = cond_some (nat_le (length declared.value) MOST_TYPES && nat_le (parts_in_models models.value.value) MOST_PARTS) (record { names = models.value.names; models = models.value.value }) g models.others in
     let few = both (nat_le (length declared.value) MOST_TYPES) (nat_le (parts_in_models models.value.value) MOST_PARTS) limits.0 in
     subst (IsDtdText bytes) limits.1
-    (read_text bytes declared.value models.value (within (length bytes) MOST_BYTES short.0) (within (length declared.value) MOST_TYPES few.0) (within (parts_in_models models.value.value) MOST_PARTS few.1) declared.first
+    (read_text bytes declared.value models.value (within (length bytes) MOST_DTD short.0) (within (length declared.value) MOST_TYPES few.0) (within (parts_in_models models.value.value) MOST_PARTS few.1) declared.first
     (models_read (suc (length bytes)) declared.value bytes models.value models.first))
 
 -- a text has one meaning
@@ -133,16 +133,16 @@ pub one_meaning : (bytes : List ℕ) (g h : PlainDtd) → IsDtdText bytes g → 
 one_meaning bytes g h t u = same_some g h (sym (text_is_read bytes g t) ∙ text_is_read bytes h u)
 
 -- The steps of reading a text.
-pub text_at_is_text : (bytes : List ℕ) (g : PlainDtd) → length bytes ≤ MOST_BYTES → text_at bytes ≡ Some g → IsDtdText bytes g
-text_at_is_text bytes g few e = read_is_text bytes g (rw (at_most _ MOST_BYTES few) e)
+pub text_at_is_text : (bytes : List ℕ) (g : PlainDtd) → length bytes ≤ MOST_DTD → text_at bytes ≡ Some g → IsDtdText bytes g
+text_at_is_text bytes g few e = read_is_text bytes g (rw (at_most _ MOST_DTD few) e)
 
 pub text_not_at : (bytes : List ℕ) → text_at bytes ≡ None → (g : PlainDtd) → IsDtdText bytes g → ⊥
 text_not_at bytes e g t =
     let read : dtd_at bytes ≡ Some g = text_is_read bytes g t in
-    let at : text_at bytes ≡ Some g = rw (at_most _ MOST_BYTES t.few_bytes) at read in
+    let at : text_at bytes ≡ Some g = rw (at_most _ MOST_DTD t.few_bytes) at read in
     cc
 
-pub long_is_no_text : (bytes : List ℕ) → MOST_BYTES < length bytes → (g : PlainDtd) → IsDtdText bytes g → ⊥
+pub long_is_no_text : (bytes : List ℕ) → MOST_DTD < length bytes → (g : PlainDtd) → IsDtdText bytes g → ⊥
 long_is_no_text bytes long g t = absurd (omega (arith, t.few_bytes))
 
 over : (m n : ℕ) → n < m → nat_le m n ≡ false
@@ -180,7 +180,7 @@ module _ (bytes : List ℕ) where
       is_read types parts = rw (names, models, at_most (length declared) MOST_TYPES types, at_most (parts_in_models f.value) MOST_PARTS parts) refl
 
 -- what the reader returns
-pub gives_text : (bytes : List ℕ) → length bytes ≤ MOST_BYTES → (result : Result Dtd DtdError) → Gives plain_dtd result (text_at bytes) → IfOk result (λ dtd. IsDtdText bytes (plain_dtd dtd))
+pub gives_text : (bytes : List ℕ) → length bytes ≤ MOST_DTD → (result : Result Dtd DtdError) → Gives plain_dtd result (text_at bytes) → IfOk result (λ dtd. IsDtdText bytes (plain_dtd dtd))
 gives_text bytes few (Ok dtd) gives = text_at_is_text bytes (plain_dtd dtd) few gives
 gives_text bytes few (Err e) gives = tt
 

@@ -82,5 +82,5 @@ MOST_TYPES = 4096
 abbrev pub MOST_PARTS : ℕ
 MOST_PARTS = 65536
 
-abbrev pub MOST_BYTES : ℕ
-MOST_BYTES = 4194304
+abbrev pub MOST_DTD : ℕ
+MOST_DTD = 4194304

@@ -6,7 +6,7 @@ use Rattle.pv_chars.specs.Spaces.{IsSpace, IsOptionalSpace}
 use Rattle.pv_chars.specs.Names.{IsPlainName}
 use Rattle.pv_model.specs.Models.{PlainPart, name, seq, choice, opt, star, plus, PlainParts, no_parts, part, PlainModel, empty, any, mixed, children}
 use Rattle.pv_dtd.specs.Plain.{PlainDtd, spelling_of, mentions, parts_in_models}
-use Rattle.pv_dtd.specs.Facts.{are_distinct, are_distinct_numbers, has_operator, members, nesting, MOST_NESTING, MOST_TYPES, MOST_PARTS, MOST_BYTES}
+use Rattle.pv_dtd.specs.Facts.{are_distinct, are_distinct_numbers, has_operator, members, nesting, MOST_NESTING, MOST_TYPES, MOST_PARTS, MOST_DTD}
 
 -- the name of this number, where these are the names
 pub record SpellsName (names : List (List ℕ)) (y : ℕ) (bytes : List ℕ) : Type 0 where
@@ -124,4 +124,4 @@ pub record IsDtdText (bytes : List ℕ) (g : PlainDtd) : Type 0 where
   pub rules : (k : ℕ) (m : PlainModel) → slice_get g.models k ≡ Some m → IsWithinRules m
   pub few_types : length items ≤ MOST_TYPES
   pub few_parts : parts_in_models g.models ≤ MOST_PARTS
-  pub few_bytes : length bytes ≤ MOST_BYTES
+  pub few_bytes : length bytes ≤ MOST_DTD

@@ -3,7 +3,7 @@ use Rattle.std.specs.Prelude.{ℕ, zero, suc, List, [], ◌∷◌, ◌++◌, len
 use Rattle.pv_chars.specs.Scan.{◌>>=◌, after_space, after_blank, name_at, after_bytes}
 use Rattle.pv_model.specs.Models.{PlainModel, empty, any, mixed, children}
 use Rattle.pv_dtd.specs.Plain.{PlainDtd, place_of, parts_in_models}
-use Rattle.pv_dtd.specs.Facts.{are_distinct_numbers, MOST_NESTING, MOST_TYPES, MOST_PARTS, MOST_BYTES}
+use Rattle.pv_dtd.specs.Facts.{are_distinct_numbers, MOST_NESTING, MOST_TYPES, MOST_PARTS, MOST_DTD}
 use Rattle.pv_dtd.specs.Grammar.{IsDtdText}
 use Rattle.pv_dtd.specs.Reading.{Found, found, Reader, number_at, particle_at}
 
@@ -122,7 +122,7 @@ text_at bytes = do
   within_limits declared models
 
 abbrev pub dtd_at : List ℕ → Option PlainDtd
-dtd_at bytes = if nat_le (length bytes) MOST_BYTES then text_at bytes else None
+dtd_at bytes = if nat_le (length bytes) MOST_DTD then text_at bytes else None
 
 -- the DTD of some text
 abbrev pub IsOfText : PlainDtd → Type 0

@@ -3,7 +3,7 @@
 ghost use Rattle.std.specs.Prelude.{◌≡◌, ◌≤◌, length, IfOk, IfErr};
 ghost use Rattle.pv_dtd.specs.Plain.{PlainDtd};
 ghost use Rattle.pv_dtd.specs.Grammar.{IsDtdText};
-ghost use Rattle.pv_dtd.specs.Facts.{MOST_BYTES};
+ghost use Rattle.pv_dtd.specs.Facts.{MOST_DTD};
 ghost use Rattle.pv_dtd.specs.Reads.{plain_dtd, Refuses};
 ghost use Rattle.pv_dtd.specs.Reading.{Gives};
 ghost use Rattle.pv_dtd.specs.Text.{text_at};
@@ -24,7 +24,7 @@ const PART_LIMIT: usize = 65_536;
 
 // The names are read first, so that the declared ones come first; the models are read with their numbers.
 fn text_at(alloc: Global, bytes: &[u8]) -> Result<Dtd, DtdError>
-    requires { length bytes.now ≤ MOST_BYTES }
+    requires { length bytes.now ≤ MOST_DTD }
     ensures { Gives plain_dtd result (text_at bytes.now) }
 {
     let mut names = declared_at(alloc, bytes)?;

@@ -24,6 +24,7 @@ pub struct ReadSource<R: Read> {
 }
 
 impl<R: Read> ReadSource<R> {
+    /// A source of what this reader has left.
     pub fn new(reader: R) -> ReadSource<R>
         ensures left { ⟦<ReadSource<R> as Source>⟧.left result ≡ R.remaining reader }
         ensures faults { ⟦<ReadSource<R> as Source>⟧.faults result ≡ 0 }
@@ -62,6 +63,7 @@ pub struct WriteSink<W: Write> {
 }
 
 impl<W: Write> WriteSink<W> {
+    /// A sink that writes behind what this writer holds.
     pub fn new(writer: W) -> WriteSink<W>
         ensures written { ⟦<WriteSink<W> as Sink>⟧.written result ≡ W.contents writer }
         ensures faults { ⟦<WriteSink<W> as Sink>⟧.faults result ≡ 0 }

@@ -1,4 +1,4 @@
--- Six small DTDs, on which the definitions are tried.
+-- Small DTDs, on which the definitions are tried.
 use Rattle.std.specs.Prelude.{List, [], codes, suc, zero, ℕ, ◌∷◌}
 use Rattle.pv_model.specs.Models.{PlainModel, any, children, choice, empty, mixed, name, no_parts, opt, part, plus, seq, star}
 use Rattle.pv_dtd.specs.Plain.{PlainDtd}

@@ -13,8 +13,8 @@ use std::alloc::Global;
 /// Whether the word is one that the model allows (XML 1.0, section 3.2), where the names below `declared` are declared.
 /// A content particle need not be deterministic.
 ///
-/// Only a word for a content particle takes memory: a byte for each name and each repetition of the particle, and
-/// `NoMemory` says that there was none. The time is the length of the word times the size of the particle or of the
+/// Only a word for a content particle takes memory: a byte for each name and each repetition of the particle, 64 bytes
+/// at least; `NoMemory` says that there was none. The time is the length of the word times the size of the particle or of the
 /// list of names, at most, and the walk ends at the first token that no allowed word has there.
 pub fn matches(
     alloc: Global,

@@ -3,7 +3,7 @@ use Rattle.std.proofs.Common.{◌≡◌, ◌≤◌, ◌+◌, ℕ, List, [], ◌+
 use Rattle.pv_chars.specs.Spaces.{IsOptionalSpace}
 use Rattle.pv_tree.specs.Plain.{PlainDoc, Tree, depth_of, nodes_in, remarked}
 use Rattle.pv_tree.specs.Legal.{MOST_DEPTH, MOST_NODES}
-use Rattle.pv_read.specs.Grammar.{SpellsDocument, IsDocumentText, MOST_BYTES}
+use Rattle.pv_read.specs.Grammar.{SpellsDocument, IsDocumentText, MOST_DOC}
 use Rattle.pv_read.specs.Reading.{space_at, ReadsElement}
 use Rattle.pv_read.specs.Marks.{HasMarks}
 use Rattle.pv_read.proofs.OneTree.{one_element}
@@ -64,7 +64,7 @@ all_space bytes after rest is none =
     (whole ∙ append-nil after, rw first cut.optional)
 
 pub text_of : {M : Type 0} {m mark : M} (bytes before element end after rest kept_before kept_after : List ℕ) (root : Tree M) → (before, element) ≡ space_at bytes → ReadsElement m MOST_DEPTH element root end → (after, rest) ≡ space_at end → rest ≡ []
-    → length bytes ≤ MOST_BYTES → kept_before ≡ before → kept_after ≡ after → IsDocumentText bytes (record { before = kept_before; root = root; after = kept_after; mark = mark })
+    → length bytes ≤ MOST_DOC → kept_before ≡ before → kept_after ≡ after → IsDocumentText bytes (record { before = kept_before; root = root; after = kept_after; mark = mark })
 text_of {m = m} bytes before element end after rest kept_before kept_after root cut reads cut_end none few same_before same_after =
     let first : before ≡ (space_at bytes).0 = ap (λ (c : List ℕ × List ℕ). c.0) cut in
     let second : element ≡ (space_at bytes).1 = ap (λ (c : List ℕ × List ℕ). c.1) cut in

@@ -44,8 +44,8 @@ IsElement (text_node units) = ⊥
 IsElement (cdata_node bytes) = ⊥
 IsElement (misc_node bytes) = ⊥
 
-abbrev pub MOST_BYTES : ℕ
-MOST_BYTES = 67108864
+abbrev pub MOST_DOC : ℕ
+MOST_DOC = 67108864
 
 -- The bytes spell this document: S?, one element, S?.
 pub record SpellsDocument {M : Type 0} (bytes : List ℕ) (doc : PlainDoc M) : Type 0 where
@@ -60,4 +60,4 @@ pub record SpellsDocument {M : Type 0} (bytes : List ℕ) (doc : PlainDoc M) : T
 pub record IsDocumentText {M : Type 0} (bytes : List ℕ) (doc : PlainDoc M) : Type 0 where
   pub spelled : SpellsDocument bytes doc
   pub shallow : depth_of doc.root ≤ MOST_DEPTH
-  pub few_bytes : length bytes ≤ MOST_BYTES
+  pub few_bytes : length bytes ≤ MOST_DOC

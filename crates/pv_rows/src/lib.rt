@@ -1,4 +1,4 @@
-//! Worked rows of the program, over objects in memory.
+//! Worked rows, through the top call and other public calls, over objects in memory.
 #![tactic(auto)]
 
 #[cfg(test)]

@@ -8,7 +8,7 @@ use std::sync::ledger::{Blank, Book, Ledger, Share};
 
 /// How many steps were taken. Only `tick` changes it.
 ///
-/// A step is one check of a child list. Contracts bound how many are taken.
+/// A step is one check of a child list.
 #[derive(Drop)]
 pub struct Steps<L: Ledger> {
     book: Book<L>,

@@ -52,6 +52,7 @@ impl MemSink {
         })
     }
 
+    /// The bytes that were written.
     pub fn written(&self) -> &[u8]
         ensures bytes { result.now ≡ self.now.bytes }
         ensures within { length result.now ≤ self.now.room }

@@ -1,8 +1,7 @@
 use Rattle.std.proofs.Common.{refl}
 use Rattle.pv_io.specs.Causes.{Rose}
 use Rattle.pv_tree.specs.Docs.{plain_doc}
-use Rattle.pv_cli.specs.Scripts.{IsScriptRefusal}
-use Rattle.pv_cli.specs.Session.{IsSession, script_too_long, script_answered}
+use Rattle.pv_cli.specs.Session.{IsSession, IsScriptRefusal, script_too_long, script_answered}
 use Rattle.pv_cli.specs.declared.status.Status.TheVariants.{Done}
 use Rattle.pv_cli.proofs.Chains.{stops_so, stop_ends}
 use Rattle.pv_cli.proofs.program.converse.Goals as goal
@@ -12,7 +11,7 @@ returns-in-Err-clause-outcome g c = λ dtd.
     let step = c.in-Err.ensures.step in
     let rose = Rose (g.S.Source.faults c.args.input.now) (g.S.Source.faults c.read_script.new.input) in
     let session = IsSession step.0 dtd (plain_doc c.args.doc.now) in
-    (step.0, step.1, stop_ends session rose _ _ _ _ c.in-Err.stop (stops_so (IsScriptRefusal step.0) session rose rose c.in-Err.stop (λ a is. script_too_long is.beyond is.is_answer) (λ r. r) step.2) c.respond.ensures)
+    (step.0, step.1, stop_ends session rose _ _ _ _ c.in-Err.stop (stops_so (IsScriptRefusal step.0) session rose rose c.in-Err.stop (λ a is. script_too_long is) (λ r. r) step.2) c.respond.ensures)
 
 pub returns-in-Ok-answer_lines-clause-outcome : goal.returns-in-Ok-answer_lines-clause-outcome
 returns-in-Ok-answer_lines-clause-outcome g c = λ dtd.
