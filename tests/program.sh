@@ -45,6 +45,7 @@ lf=$'\n'
     exit 1
 }
 expect "valid" 0 "valid$lf" "$pvtag" valid a.dtd doc valid.xml
+expect "a letter" 0 "valid$lf" "$pvtag" valid "$top/examples/letter.dtd" letter "$top/examples/letter.xml"
 expect "invalid" 1 "invalid 0$lf" "$pvtag" valid a.dtd doc hello.xml
 expect "another root" 1 "invalid .$lf" "$pvtag" valid text.dtd p hello.xml
 expect "a blank in EMPTY" 1 "invalid 0$lf" "$pvtag" valid empty.dtd doc blank.xml
