@@ -11,16 +11,11 @@ ghost use Rattle.pv_cli.specs.Steps.{Steps};
 
 use crate::status::Stop;
 use crate::steps::{declarations, document, fetched};
-use pv_dtd::Dtd;
+use pv_dtd::{Dtd, MOST_DTD};
 use pv_io::Shelf;
+use pv_read::MOST_DOC;
 use pv_tree::Doc;
 use std::alloc::Global;
-
-/// The most bytes of a DTD file.
-const MOST_DTD: usize = 4_194_304;
-
-/// The most bytes of a document file.
-const MOST_DOC: usize = 67_108_864;
 
 /// A DTD and a document.
 #[derive(Drop)]

@@ -15,4 +15,4 @@ mod reading;
 pub use dtd::Dtd;
 pub use errors::DtdError;
 pub use laws::one_meaning;
-pub use reading::read_dtd;
+pub use reading::{MOST_DTD, read_dtd};

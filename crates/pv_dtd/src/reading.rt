@@ -14,13 +14,13 @@ use crate::errors::DtdError;
 use std::alloc::Global;
 
 /// The most bytes of a DTD.
-const BYTE_LIMIT: usize = 4_194_304;
+pub const MOST_DTD: usize = 4_194_304;
 
 /// The most names that a DTD declares.
-const TYPE_LIMIT: usize = 4_096;
+const MOST_TYPES: usize = 4_096;
 
 /// The most parts of its content models.
-const PART_LIMIT: usize = 65_536;
+const MOST_PARTS: usize = 65_536;
 
 // The names are read first, so that the declared ones come first; the models are read with their numbers.
 fn text_at(alloc: Global, bytes: &[u8]) -> Result<Dtd, DtdError>
@@ -28,11 +28,11 @@ fn text_at(alloc: Global, bytes: &[u8]) -> Result<Dtd, DtdError>
     ensures { Gives plain_dtd result (text_at bytes.now) }
 {
     let mut names = declared_at(alloc, bytes)?;
-    if names.len() > TYPE_LIMIT {
+    if names.len() > MOST_TYPES {
         return Err(DtdError::Syntax(0));
     }
     let (models, parts) = models_at(alloc, &mut names, bytes)?;
-    if parts > PART_LIMIT {
+    if parts > MOST_PARTS {
         return Err(DtdError::Syntax(0));
     }
     Ok(Dtd::of(names, models, parts as u32))
@@ -43,7 +43,7 @@ pub fn read_dtd(alloc: Global, bytes: &[u8]) -> Result<Dtd, DtdError>
     ensures read { IfOk result (λ dtd. IsDtdText bytes.now (plain_dtd dtd)) }
     ensures refused { IfErr result (λ error. Refuses error ((g : PlainDtd) → IsDtdText bytes.now g → ⊥)) }
 {
-    if bytes.len() > BYTE_LIMIT {
+    if bytes.len() > MOST_DTD {
         return Err(DtdError::Syntax(0));
     }
     text_at(alloc, bytes)

@@ -16,7 +16,7 @@ use pv_tree::{Doc, Mark};
 use std::alloc::Global;
 
 /// The most bytes of a document.
-const MOST_BYTES: usize = 67_108_864;
+pub const MOST_DOC: usize = 67_108_864;
 /// The most elements that stand one inside another.
 const MOST_DEPTH: u32 = 512;
 
@@ -27,7 +27,7 @@ pub fn read_doc(alloc: Global, bytes: &[u8], _root: &[u8]) -> Result<Doc, DocErr
     ensures marks { IfOk result (λ doc. HasMarks Mark.BLANK (plain_doc doc)) }
     ensures refused { IfErr result (λ error. Refuses error ((doc : PlainDoc Mark) → IsDocumentText bytes.now doc → ⊥)) }
 {
-    if bytes.len() > MOST_BYTES {
+    if bytes.len() > MOST_DOC {
         return Err(DocError::Syntax(0));
     }
     let (before, element) = space_at(bytes);
