@@ -7,7 +7,7 @@ use Rattle.std.specs.List.{list_all}
 use Rattle.std.specs.Prelude.{nat_le}
 use Rattle.pv_chars.specs.Spaces.{is_space, IsSpace, IsOptionalSpace}
 use Rattle.pv_chars.specs.Names.{is_name_start, is_name_byte, is_plain_name, IsPlainName, LONGEST_NAME}
-use Rattle.pv_chars.specs.Scan.{after_space, after_blank, name_length, name_at, short_name, after_bytes}
+use Rattle.pv_chars.specs.Scan.{space_length, after_space, after_blank, name_length, name_at, short_name, after_bytes}
 
 -- the first byte is one of these
 abbrev pub begins : (ℕ → Bool) → List ℕ → Bool
@@ -28,6 +28,15 @@ space_step b bs false is below = record { space = []; optional = refl; whole = r
 pub after_space_takes : (bytes : List ℕ) → TakesSpace bytes (after_space bytes)
 after_space_takes [] = record { space = []; optional = refl; whole = refl; ends = refl }
 after_space_takes (b ∷ bs) = space_step b bs (is_space b) refl (after_space_takes bs)
+
+after_step : (b : ℕ) (bs : List ℕ) (white : Bool) → drop (space_length bs) bs ≡ after_space bs → drop (cond white (space_length bs + 1) 0) (b ∷ bs) ≡ cond white (after_space bs) (b ∷ bs)
+after_step b bs true below = rw add-one below
+after_step b bs false below = refl
+
+-- what stands behind as many bytes as are white space
+pub drop_space : (bytes : List ℕ) → drop (space_length bytes) bytes ≡ after_space bytes
+drop_space [] = refl
+drop_space (b ∷ bs) = after_step b bs (is_space b) (drop_space bs)
 
 both : (x y : Bool) → (x && y) ≡ true → (x ≡ true) × (y ≡ true)
 both true y e = (refl, e)

@@ -1,6 +1,6 @@
 //! Parts of a text, read from the left: white space, names and fixed bytes.
 
-ghost use Rattle.std.specs.Prelude.{◌≡◌, ◌≤◌, ◌<◌, length, IfSome};
+ghost use Rattle.std.specs.Prelude.{◌≡◌, ◌≤◌, ◌<◌, ◌+◌, length, IfSome};
 ghost use Rattle.std.specs.Option.{option_map};
 ghost use Rattle.pv_chars.specs.Spaces.{is_space};
 ghost use Rattle.pv_chars.specs.Scan.{space_length, after_space, after_blank, name_length, name_at, after_bytes};
@@ -30,18 +30,12 @@ pub fn space_length(bytes: &[u8]) -> usize
 }
 
 /// What stands after the white space at the front.
+#[tactic(auto, using(crate::proofs::Scanning::drop_space))]
 pub fn after_space(bytes: &[u8]) -> &[u8]
     ensures after { result.now ≡ after_space bytes.now }
     ensures within { length result.now ≤ length bytes.now }
 {
-    let mut rest = bytes;
-    while let [b, after @ ..] = rest {
-        if !is_space(*b) {
-            break;
-        }
-        rest = after;
-    }
-    rest
+    bytes.split_at(space_length(bytes)).1
 }
 
 /// What stands after the white space at the front, where there is some.
@@ -91,7 +85,7 @@ pub fn name_at(bytes: &[u8]) -> Option<(&[u8], &[u8])>
 /// What stands after these bytes, where they stand at the front.
 pub fn after_bytes<'a>(front: &[u8], bytes: &'a [u8]) -> Option<&'a [u8]>
     ensures after { option_map (λ r. r.now) result ≡ after_bytes front.now bytes.now }
-    ensures within { IfSome result (λ r. length r.now ≤ length bytes.now) }
+    ensures within { IfSome result (λ r. length front.now + length r.now ≡ length bytes.now) }
 {
     let mut left = front;
     let mut rest = bytes;

@@ -7,9 +7,8 @@ ghost use Rattle.pv_dtd.specs.Plain.{parts_in_model, parts_in_models};
 ghost use Rattle.pv_dtd.specs.Reading.{Gives, found};
 ghost use Rattle.pv_dtd.specs.Text.{head_at, declaration_at, models_at, after_close, declared_at};
 
-use crate::bytes::after_byte;
 use crate::errors::DtdError;
-use crate::models::{Model, model_at};
+use crate::models::{ReadModel, model_at};
 use crate::names::NameTable;
 use pv_chars::scan::{after_blank, after_bytes, after_space, name_at};
 use pv_model::ContentModel;
@@ -32,7 +31,7 @@ fn declaration_at<'a>(
     alloc: Global,
     names: &mut NameTable,
     bytes: &'a [u8],
-) -> Result<Model<'a>, DtdError>
+) -> Result<ReadModel<'a>, DtdError>
     requires { length bytes.now < 2 ^ 62 }
     ensures read { Gives (λ r. found (plain_model r.model) names.new r.rest.now) result (declaration_at names.old bytes.now) }
     ensures counted { IfOk result (λ r. r.parts ≡ parts_in_model (plain_model r.model)) }
@@ -44,11 +43,11 @@ fn declaration_at<'a>(
     let Some(spec) = after_blank(after_name) else {
         return Err(DtdError::Syntax(0));
     };
-    let Model { model, parts, rest } = model_at(alloc, names, spec)?;
-    let Some(rest) = after_byte(b'>', after_space(rest)) else {
+    let ReadModel { model, parts, rest } = model_at(alloc, names, spec)?;
+    let Some(rest) = after_bytes(b">", after_space(rest)) else {
         return Err(DtdError::Syntax(0));
     };
-    Ok(Model { model, parts, rest })
+    Ok(ReadModel { model, parts, rest })
 }
 
 /// The models that a text declares, in order, and the number of their parts. The names have those that are declared, and get those that are only mentioned.

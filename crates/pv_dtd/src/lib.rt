@@ -1,7 +1,6 @@
 //! Document type definitions: element declarations and what they say (XML 1.0, section 3.2).
 #![tactic(auto)]
 
-mod bytes;
 mod declarations;
 mod dtd;
 mod errors;

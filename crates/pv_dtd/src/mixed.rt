@@ -8,16 +8,15 @@ ghost use Rattle.pv_dtd.specs.Plain.{parts_in_model};
 ghost use Rattle.pv_dtd.specs.Facts.{are_distinct_numbers};
 ghost use Rattle.pv_dtd.specs.Reading.{Gives, found};
 ghost use Rattle.pv_dtd.specs.Text.{listed_at, mixed_at, after_end};
-ghost use Rattle.pv_dtd.specs.declared.models.Model.{Model};
+ghost use Rattle.pv_dtd.specs.declared.models.ReadModel.{ReadModel};
 
-use crate::bytes::after_byte;
 use crate::errors::DtdError;
-use crate::models::Model;
+use crate::models::ReadModel;
 use crate::names::NameTable;
 use crate::particles::number_at;
 use indexmap::IndexSet;
 use pv_chars::NoMemory;
-use pv_chars::scan::after_space;
+use pv_chars::scan::{after_bytes, after_space};
 use pv_model::{ContentModel, NameId, Names};
 use std::alloc::Global;
 
@@ -47,7 +46,7 @@ fn listed_at<'a>(
     let mut rest = bytes;
     'listed: loop {
         let place = after_space(rest);
-        let Some(after) = after_byte(b'|', place) else {
+        let Some(after) = after_bytes(b"|", place) else {
             return Ok((ids, place));
         };
         let (id, after) = number_at(alloc, names, after_space(after))?;
@@ -61,7 +60,7 @@ fn after_end<'a>(ids: &[NameId], close: &'a [u8]) -> Option<&'a [u8]>
     ensures end { option_map (λ r. r.now) result ≡ after_end (numbers_of ids.now) close.now (after_bytes (codes "*") close.now) }
     ensures within { IfSome result (λ r. length r.now ≤ length close.now) }
 {
-    match after_byte(b'*', close) {
+    match after_bytes(b"*", close) {
         Some(after) => Some(after),
         None if ids.is_empty() => Some(close),
         None => None,
@@ -74,13 +73,13 @@ pub fn mixed_at<'a>(
     alloc: Global,
     names: &mut NameTable,
     bytes: &'a [u8],
-) -> Result<Model<'a>, DtdError>
+) -> Result<ReadModel<'a>, DtdError>
     ensures read { Gives (λ r. found (plain_model r.model) names.new r.rest.now) result (mixed_at names.old bytes.now) }
     ensures counted { IfOk result (λ r. r.parts ≡ parts_in_model (plain_model r.model)) }
     ensures within { IfOk result (λ r. r.parts + length r.rest.now < length bytes.now) }
 {
     let (ids, place) = listed_at(alloc, names, bytes)?;
-    let Some(close) = after_byte(b')', place) else {
+    let Some(close) = after_bytes(b")", place) else {
         return Err(DtdError::Syntax(0));
     };
     let Some(rest) = after_end(&ids, close) else {
@@ -90,7 +89,7 @@ pub fn mixed_at<'a>(
         return Err(DtdError::Syntax(0));
     }
     let parts = ids.len();
-    Ok(Model {
+    Ok(ReadModel {
         model: ContentModel::Mixed(Names::of(ids)),
         parts,
         rest,

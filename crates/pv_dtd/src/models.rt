@@ -6,7 +6,6 @@ ghost use Rattle.pv_dtd.specs.Plain.{parts_in_model};
 ghost use Rattle.pv_dtd.specs.Reading.{Gives, found};
 ghost use Rattle.pv_dtd.specs.Text.{children_at, group_model_at, model_at};
 
-use crate::bytes::after_byte;
 use crate::errors::DtdError;
 use crate::mixed::mixed_at;
 use crate::names::NameTable;
@@ -20,7 +19,7 @@ const MOST_NESTING: usize = 64;
 
 /// A content model, the number of its parts, and what stands behind it.
 #[derive(Drop)]
-pub struct Model<'a> {
+pub struct ReadModel<'a> {
     pub model: ContentModel,
     pub parts: usize,
     pub rest: &'a [u8],
@@ -31,14 +30,14 @@ fn children_at<'a>(
     alloc: Global,
     names: &mut NameTable,
     bytes: &'a [u8],
-) -> Result<Model<'a>, DtdError>
+) -> Result<ReadModel<'a>, DtdError>
     requires { length bytes.now < 2 ^ 62 }
     ensures read { Gives (λ r. found (plain_model r.model) names.new r.rest.now) result (children_at names.old bytes.now) }
     ensures counted { IfOk result (λ r. r.parts ≡ parts_in_model (plain_model r.model)) }
     ensures within { IfOk result (λ r. r.parts + length r.rest.now ≤ length bytes.now) }
 {
     let particle = particle_at(alloc, names, bytes, MOST_NESTING)?;
-    Ok(Model {
+    Ok(ReadModel {
         model: ContentModel::Children(Box::new(alloc, particle.part)?),
         parts: particle.parts,
         rest: particle.rest,
@@ -51,13 +50,13 @@ fn group_model_at<'a>(
     alloc: Global,
     names: &mut NameTable,
     bytes: &'a [u8],
-) -> Result<Model<'a>, DtdError>
+) -> Result<ReadModel<'a>, DtdError>
     requires { length bytes.now < 2 ^ 62 }
     ensures read { Gives (λ r. found (plain_model r.model) names.new r.rest.now) result (group_model_at names.old bytes.now) }
     ensures counted { IfOk result (λ r. r.parts ≡ parts_in_model (plain_model r.model)) }
     ensures within { IfOk result (λ r. r.parts + length r.rest.now ≤ length bytes.now) }
 {
-    let Some(inside) = after_byte(b'(', bytes) else {
+    let Some(inside) = after_bytes(b"(", bytes) else {
         return Err(DtdError::Syntax(0));
     };
     match after_bytes(b"#PCDATA", after_space(inside)) {
@@ -72,21 +71,21 @@ pub fn model_at<'a>(
     alloc: Global,
     names: &mut NameTable,
     bytes: &'a [u8],
-) -> Result<Model<'a>, DtdError>
+) -> Result<ReadModel<'a>, DtdError>
     requires { length bytes.now < 2 ^ 62 }
     ensures read { Gives (λ r. found (plain_model r.model) names.new r.rest.now) result (model_at names.old bytes.now) }
     ensures counted { IfOk result (λ r. r.parts ≡ parts_in_model (plain_model r.model)) }
     ensures within { IfOk result (λ r. r.parts + length r.rest.now ≤ length bytes.now) }
 {
     if let Some(rest) = after_bytes(b"EMPTY", bytes) {
-        return Ok(Model {
+        return Ok(ReadModel {
             model: ContentModel::Empty,
             parts: 0,
             rest,
         });
     }
     if let Some(rest) = after_bytes(b"ANY", bytes) {
-        return Ok(Model {
+        return Ok(ReadModel {
             model: ContentModel::Any,
             parts: 0,
             rest,

@@ -7,11 +7,10 @@ ghost use Rattle.pv_dtd.specs.Plain.{parts_in};
 ghost use Rattle.pv_dtd.specs.Reading.{Gives, found, number_at, word_at, operated, separator_at, group_of, group_from, others_at, group_at, bare_at, particle_at};
 ghost use Rattle.pv_dtd.specs.declared.particles.Particle.{Particle};
 
-use crate::bytes::after_byte;
 use crate::errors::DtdError;
 use crate::names::NameTable;
 use pv_chars::NoMemory;
-use pv_chars::scan::{after_space, name_at};
+use pv_chars::scan::{after_bytes, after_space, name_at};
 use pv_model::{NameId, Part, Parts};
 use std::alloc::Global;
 
@@ -137,7 +136,7 @@ fn bare_at<'a>(
     ensures counted { IfOk result (λ r. r.parts ≡ parts_in (plain_part r.part)) }
     ensures within { IfOk result (λ r. r.parts + length r.rest.now ≤ length bytes.now) }
 {
-    match after_byte(b'(', bytes) {
+    match after_bytes(b"(", bytes) {
         Some(_) if depth == 0 => Err(DtdError::Syntax(0)),
         Some(inside) => group_at(alloc, names, inside, depth - 1),
         None => word_at(alloc, names, bytes),
@@ -185,7 +184,7 @@ fn others_at<'a>(
     parts += 1;
     'members: loop {
         let place = after_space(rest);
-        if let Some(after) = after_byte(b')', place) {
+        if let Some(after) = after_bytes(b")", place) {
             let part = group_of(separator, members);
             return Ok(Particle {
                 part,
@@ -193,7 +192,7 @@ fn others_at<'a>(
                 rest: after,
             });
         }
-        let Some(after) = after_byte(separator, place) else {
+        let Some(after) = after_bytes(&[separator], place) else {
             return Err(DtdError::Syntax(0));
         };
         let next = particle_at(alloc, names, after_space(after), depth)?;
