@@ -20,8 +20,8 @@ pub const MOST_DOC: usize = 67_108_864;
 /// The most elements that stand one inside another.
 const MOST_DEPTH: u32 = 512;
 
-/// The document that the bytes are, with blank marks. A refusal names the first item in fault by the number of whole items before
-/// it, which is 0 for now.
+/// The document that the bytes are, with blank marks. Any bytes that are no plain document within the limits are refused as
+/// `Syntax(0)`, whatever is wrong with them and wherever that stands.
 pub fn read_doc(alloc: Global, bytes: &[u8], _root: &[u8]) -> Result<Doc, DocError>
     ensures read { IfOk result (λ doc. IsDocumentText bytes.now (plain_doc doc)) }
     ensures marks { IfOk result (λ doc. HasMarks Mark.BLANK (plain_doc doc)) }
