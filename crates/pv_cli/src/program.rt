@@ -1,6 +1,6 @@
 //! All that the program does.
 
-ghost use Rattle.std.specs.Prelude.{◌≡◌, ◌⊎◌, List, ℕ, codes, false, true};
+ghost use Rattle.std.specs.Prelude.{◌≡◌, ◌⊎◌, List, ℕ, None, codes, false, true};
 ghost use Rattle.std.specs.Io.KnownBytes.{IsAtEnd};
 ghost use Rattle.pv_io.specs.Causes.{Rose};
 ghost use Rattle.pv_io.specs.Files.{byte_lists, fetch_names};
@@ -104,6 +104,9 @@ pub fn pvtag<H: Shelf, S: Source, K: Sink, L: Ledger>(
     ensures outcome { (files : Files) × AreFiles (H.files shelf.old) (byte_lists words.now) files × (script : List ℕ) × IsScript (S.left input.old) script
         × Ends (IsAnswer (byte_lists words.now) files script) (Rose (H.faults shelf.old) (H.faults shelf.new) ⊎ Rose (S.faults input.old) (S.faults input.new))
         (Rose (K.faults out.old) (K.faults out.new)) (K.written out.old) (K.written out.new) result }
+
+    // Words that are no command ask the shelf for nothing.
+    ensures unasked { command_line_of (byte_lists words.now) ≡ None → shelf.new ≡ shelf.old }
 
     // Only `session` reads the input, and where all is done it has read it to its end.
     ensures untouched { is_session (command_line_of (byte_lists words.now)) ≡ false → input.new ≡ input.old }
