@@ -10,14 +10,24 @@ use crate::status::{Reply, Status};
 use itoa::Buffer;
 use std::alloc::{AllocError, Global};
 
+// The reply of a line of this text, which it ends.
+fn line_reply(status: Status, mut text: Vec<u8>) -> Result<Reply, AllocError>
+    requires { is_fault status ≡ false }
+    ensures { IfOk result (λ r. answer_in r ≡ with_line status text.items) }
+{
+    text.extend_from_slice(b"\n")?;
+    Ok(Reply {
+        status,
+        output: text,
+    })
+}
+
 /// The reply of this line.
 pub fn with_line(alloc: Global, status: Status, text: &[u8]) -> Result<Reply, AllocError>
     requires { is_fault status ≡ false }
     ensures { IfOk result (λ r. answer_in r ≡ with_line status text.now) }
 {
-    let mut output = Vec::from_slice(alloc, text)?;
-    output.extend_from_slice(b"\n")?;
-    Ok(Reply { status, output })
+    line_reply(status, Vec::from_slice(alloc, text)?)
 }
 
 /// The reply of a line of this text and a number.
@@ -32,7 +42,7 @@ pub fn with_number(
 {
     let mut line = Vec::from_slice(alloc, text)?;
     push_number(&mut line, number)?;
-    with_line(alloc, status, &line)
+    line_reply(status, line)
 }
 
 fn push_number(output: &mut Vec<u8>, number: u64) -> Result<(), AllocError>
@@ -78,7 +88,7 @@ pub fn with_path(
     requires { is_fault status ≡ false }
     ensures { IfOk result (λ r. answer_in r ≡ with_line status (text.now ++ path_text places.now)) }
 {
-    let mut output = Vec::from_slice(alloc, text)?;
-    push_path(&mut output, places)?;
-    with_line(alloc, status, &output)
+    let mut line = Vec::from_slice(alloc, text)?;
+    push_path(&mut line, places)?;
+    line_reply(status, line)
 }
