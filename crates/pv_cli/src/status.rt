@@ -1,6 +1,7 @@
 //! How the program ends, and what it writes.
 
 ghost use Rattle.std.specs.Prelude.{◌≡◌, false};
+ghost use Rattle.pv_cli.specs.Codes.{code_of};
 ghost use Rattle.pv_cli.specs.Faults.{is_fault};
 
 /// How the program ended.
@@ -24,6 +25,25 @@ pub enum Status {
     BadDocument,
     /// A limit was passed.
     Limit,
+}
+
+impl Status {
+    /// The exit status of the process. It is never 10, which says that the words couldn't be fetched.
+    pub fn code(self) -> u8
+        ensures { result ≡ code_of self }
+    {
+        match self {
+            Status::Done => 0,
+            Status::Negative => 1,
+            Status::Usage => 2,
+            Status::ReadFault => 3,
+            Status::WriteFault => 4,
+            Status::NoMemory => 5,
+            Status::BadDtd => 6,
+            Status::BadDocument => 7,
+            Status::Limit => 8,
+        }
+    }
 }
 
 /// An answer: a status, and what is to be written.

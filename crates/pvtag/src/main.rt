@@ -17,20 +17,6 @@ use std::{env, io};
 /// The exit status where the words after the program's name can't be fetched.
 const NO_WORDS: u8 = 10;
 
-fn status_code(status: Status) -> u8 {
-    match status {
-        Status::Done => 0,
-        Status::Negative => 1,
-        Status::Usage => 2,
-        Status::ReadFault => 3,
-        Status::WriteFault => 4,
-        Status::NoMemory => 5,
-        Status::BadDtd => 6,
-        Status::BadDocument => 7,
-        Status::Limit => 8,
-    }
-}
-
 fn words_of(rt: &(impl Env + AllocGlobal), alloc: Global) -> io::Result<Vec<String>> {
     let mut words = Vec::new(alloc);
     for word in env::args(rt)?.skip(1) {
@@ -62,5 +48,5 @@ fn main(rt: HostRuntime) -> ExitCode {
     let Ok(words) = words_of(&rt, rt.alloc()) else {
         return ExitCode::from(NO_WORDS);
     };
-    ExitCode::from(status_code(run::<Brand, HostRuntime>(&rt, &words, Blank::new(1))))
+    ExitCode::from(run::<Brand, HostRuntime>(&rt, &words, Blank::new(1)).code())
 }

@@ -1,0 +1,15 @@
+-- The number of each status, which is the exit status of the process.
+use Rattle.std.specs.Prelude.{ℕ}
+use Rattle.pv_cli.specs.declared.status.Status.{Status}
+use Rattle.pv_cli.specs.declared.status.Status.TheVariants.{Done, Negative, Usage, ReadFault, WriteFault, NoMemory, BadDtd, BadDocument, Limit}
+
+abbrev pub code_of : Status → ℕ
+code_of Done = 0
+code_of Negative = 1
+code_of Usage = 2
+code_of ReadFault = 3
+code_of WriteFault = 4
+code_of NoMemory = 5
+code_of BadDtd = 6
+code_of BadDocument = 7
+code_of Limit = 8
