@@ -12,20 +12,41 @@ use std::sync::ledger::{Blank, Ledger};
 use std::test::Fail;
 use std::thread::Threads;
 
+/// How many bytes come or go at once.
+#[derive(Clone, Copy)]
+pub struct Piece {
+    pub size: usize,
+    ghost moves: { 0 < size },
+}
+
 /// What a run is given.
-#[derive(Drop)]
+#[derive(Clone, Copy)]
 pub struct Given<'g, 'a> {
     pub words: &'g [&'a str],
     /// Names and their bytes.
     pub files: &'g [(&'a str, &'a [u8])],
-    /// The bytes of the input, and how many come at once.
+    /// The bytes of the input.
     pub input: &'g [u8],
-    pub piece: usize,
+    pub piece: Piece,
     /// The numbers of the calls that fail.
     pub failing_fetches: &'g [u64],
     pub failing_fills: &'g [u64],
     pub failing_puts: &'g [u64],
-    ghost moves: { 0 < piece },
+}
+
+impl<'g, 'a> Given<'g, 'a> {
+    /// These words and files: no input, one byte at once, and no call that fails.
+    pub fn plain(words: &'g [&'a str], files: &'g [(&'a str, &'a [u8])]) -> Given<'g, 'a> {
+        Given {
+            words,
+            files,
+            input: b"",
+            piece: Piece { size: 1 },
+            failing_fetches: &[],
+            failing_fills: &[],
+            failing_puts: &[],
+        }
+    }
 }
 
 fn texts_of(alloc: Global, words: &[&str]) -> Result<Vec<String>, AllocError>
@@ -87,10 +108,10 @@ pub fn answer<L: Ledger, R: AllocGlobal + Threads + Sync>(
         Ok(shelf) => shelf,
         Err(NoMemory) => return Err("no memory")?,
     };
-    let mut input = MemSource::new(alloc, given.input, given.piece, given.failing_fills)
+    let mut input = MemSource::new(alloc, given.input, given.piece.size, given.failing_fills)
         .ok()
         .ok_or("no memory")?;
-    let mut out = MemSink::new(alloc, 4096, given.piece, given.failing_puts)
+    let mut out = MemSink::new(alloc, 4096, given.piece.size, given.failing_puts)
         .ok()
         .ok_or("no memory")?;
     let mut steps = Steps::<L>::start(blank);

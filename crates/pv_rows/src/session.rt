@@ -2,7 +2,7 @@
 
 ghost use Rattle.std.specs.Prelude.{◌<◌};
 
-use crate::fixture::{Given, answer};
+use crate::fixture::{Given, Piece, answer};
 use crate::valid::DTD_A;
 use pv_cli::Status;
 use std::marker::Brand;
@@ -33,13 +33,9 @@ fn check<'a, R: AllocGlobal + Threads + Sync + Abort>(
             ("d.xml", doc.as_bytes()),
         ];
         let given = Given {
-            words: &WORDS,
-            files: &files,
             input: script.as_bytes(),
-            piece,
-            failing_fetches: &[],
-            failing_fills: &[],
-            failing_puts: &[],
+            piece: Piece { size: piece },
+            ..Given::plain(&WORDS, &files)
         };
         let (status, output) = answer::<Brand, R>(rt, &given, Blank::new(1))?;
         assert_eq!(rt; status, Status::Done, "the status of {script}");
@@ -83,13 +79,11 @@ fn outcome<R: AllocGlobal + Threads + Sync>(
 {
     let files = [("a.dtd", DTD_A.as_bytes()), ("d.xml", HELLO.as_bytes())];
     let given = Given {
-        words: &WORDS,
-        files: &files,
         input: script,
-        piece,
-        failing_fetches: &[],
+        piece: Piece { size: piece },
         failing_fills,
         failing_puts,
+        ..Given::plain(&WORDS, &files)
     };
     answer::<Brand, R>(rt, &given, Blank::new(1))
 }

@@ -37,18 +37,14 @@ fn check<'a, R: AllocGlobal + Threads + Sync + Abort>(
             ("a.dtd", dtd.as_bytes()),
             ("d.xml", doc.as_bytes()),
         ];
-        let given = Given {
-            words: &words,
-            files: &files,
-            input: b"",
-            piece: 1,
-            failing_fetches: &[],
-            failing_fills: &[],
-            failing_puts: &[],
-        };
+        let given = Given::plain(&words, &files);
         let (answered, output) = answer::<Brand, R>(rt, &given, Blank::new(1))?;
-        assert_eq!(rt; answered, *status, "the status on {doc}");
-        assert_eq!(rt; output.as_slice(), line.as_bytes(), "the output on {doc}");
+        assert_eq!(rt; answered, *status, "the status on {doc} by {dtd}");
+        assert_eq!(rt;
+            output.as_slice(),
+            line.as_bytes(),
+            "the output on {doc} by {dtd}"
+        );
     }
     Ok(())
 }
@@ -203,46 +199,77 @@ fn article(rt: HostRuntime) -> Result<(), Fail> {
 }
 
 #[test]
-fn content_models(rt: HostRuntime) -> Result<(), Fail> {
+fn mixed_content(rt: HostRuntime) -> Result<(), Fail> {
     let mixed = "<!ELEMENT a (#PCDATA|b)*><!ELEMENT b EMPTY><!ELEMENT c EMPTY>";
     let rows = [
-        (
-            "<!ELEMENT a (b)>",
-            "a",
-            "<a><b/></a>",
-            Status::Negative,
-            "invalid 0.0\n",
-        ),
         (mixed, "a", "<a>x<b/>y</a>", Status::Done, "valid\n"),
         (mixed, "a", "<a>x<c/></a>", Status::Negative, "invalid 0\n"),
     ];
     check(&rt, &rows)
 }
 
-// Each operator with a word that it allows and one that it doesn't.
+// Names that a DTD mentions, or that only the words or the document have.
+#[test]
+fn undeclared_names(rt: HostRuntime) -> Result<(), Fail> {
+    let kids = "<!ELEMENT a (b)>";
+    let mixed = "<!ELEMENT a (#PCDATA|b)*>";
+    let any = "<!ELEMENT a ANY><!ELEMENT c (b)>";
+    let no = Status::Negative;
+    let rows = [
+        (kids, "a", "<a><b/></a>", no, "invalid 0.0\n"),
+        (mixed, "a", "<a><b/></a>", no, "invalid 0.0\n"),
+        (any, "a", "<a><b/></a>", no, "invalid 0\n"),
+        (mixed, "b", "<b/>", no, "invalid 0\n"),
+        (TEXT, "p", "<p/>", no, "invalid 0\n"),
+    ];
+    check(&rt, &rows)
+}
+
+// Each operator with words that it allows and words that it doesn't.
 #[test]
 fn operators(rt: HostRuntime) -> Result<(), Fail> {
     let kids = "<!ELEMENT b EMPTY><!ELEMENT c EMPTY><!ELEMENT a ";
-    let models: [(&str, &str, &str); 10] = [
-        ("(b)>", "<a><b/></a>", "<a></a>"),
-        ("(b,c)>", "<a><b/><c/></a>", "<a><c/><b/></a>"),
-        ("(b|c)>", "<a><c/></a>", "<a><b/><c/></a>"),
-        ("(b?)>", "<a/>", "<a><b/><b/></a>"),
-        ("(b?)>", "<a><b/></a>", "<a><c/></a>"),
-        ("(b*)>", "<a/>", "<a><c/></a>"),
-        ("(b*)>", "<a><b/><b/></a>", "<a>x</a>"),
-        ("(b+)>", "<a><b/></a>", "<a> </a>"),
-        ("(b+)>", "<a><b/><b/></a>", "<a><b/><c/></a>"),
-        ("((b|c)+,b)>", "<a><c/><b/><b/></a>", "<a><b/></a>"),
+    let models: [(&str, &[&str], &[&str]); 7] = [
+        ("(b)>", &["<a><b/></a>"], &["<a></a>"]),
+        (
+            "(b,c)>",
+            &["<a><b/><c/></a>"],
+            &["<a/>", "<a><b/></a>", "<a><c/></a>", "<a><c/><b/></a>"],
+        ),
+        (
+            "(b|c)>",
+            &["<a><b/></a>", "<a><c/></a>"],
+            &["<a/>", "<a><b/><c/></a>"],
+        ),
+        (
+            "(b?)>",
+            &["<a/>", "<a><b/></a>"],
+            &["<a><b/><b/></a>", "<a><c/></a>"],
+        ),
+        (
+            "(b*)>",
+            &["<a/>", "<a><b/><b/></a>"],
+            &["<a><c/></a>", "<a>x</a>"],
+        ),
+        (
+            "(b+)>",
+            &["<a><b/></a>", "<a><b/><b/></a>"],
+            &["<a> </a>", "<a><b/><c/></a>"],
+        ),
+        ("((b|c)+,b)>", &["<a><c/><b/><b/></a>"], &["<a><b/></a>"]),
     ];
     for (model, allowed, refused) in models {
         let mut dtd = String::from_str(rt.alloc(), kids)?;
         dtd.push_str(model)?;
-        let rows = [
-            (dtd.as_str(), "a", allowed, Status::Done, "valid\n"),
-            (dtd.as_str(), "a", refused, Status::Negative, "invalid 0\n"),
-        ];
-        check(&rt, &rows)?;
+        for doc in allowed {
+            check(&rt, &[(dtd.as_str(), "a", *doc, Status::Done, "valid\n")])?;
+        }
+        for doc in refused {
+            check(
+                &rt,
+                &[(dtd.as_str(), "a", *doc, Status::Negative, "invalid 0\n")],
+            )?;
+        }
     }
     Ok(())
 }

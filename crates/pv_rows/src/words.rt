@@ -9,8 +9,8 @@ use std::test::Fail;
 #[test]
 fn words_and_lists(rt: HostRuntime) -> Result<(), Fail> {
     let alloc = rt.alloc();
-    let dtd = read_dtd(alloc, b"<!ELEMENT a (b|#PCDATA)><!ELEMENT b ANY>").is_err();
-    assert!(rt; dtd);
+    let refused = read_dtd(alloc, b"<!ELEMENT a (b|#PCDATA)><!ELEMENT b ANY>").is_err();
+    assert!(rt; refused);
     let dtd = read_dtd(alloc, b"<!ELEMENT a (#PCDATA|b)*><!ELEMENT b ANY>").map_err(|_| "no DTD")?;
     let doc = read_doc(alloc, b"<a> <b/>x<c/></a>", b"a").map_err(|_| "no document")?;
     let Node::Elem { kids, .. } = &doc.root else {
