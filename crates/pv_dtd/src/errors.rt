@@ -7,10 +7,11 @@ use pv_chars::NoMemory;
 use std::alloc::{AllocError, AllocFailed};
 use thiserror::Error;
 
-/// The first item in fault, by the number of whole items before it.
+/// Why there is no DTD. `Syntax`: the bytes are no plain DTD, or pass a limit; the number is always 0. `NoMemory`: there was too little
+/// memory to go on, and nothing is known of the bytes.
 #[derive(Debug, Drop, Error)]
 pub enum DtdError {
-    #[error("item {0} is no element declaration")]
+    #[error("item {0} is no part of a DTD here")]
     Syntax(u64),
     #[error("out of memory")]
     NoMemory,

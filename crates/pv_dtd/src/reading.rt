@@ -38,7 +38,8 @@ fn text_at(alloc: Global, bytes: &[u8]) -> Result<Dtd, DtdError>
     Ok(Dtd::of(names, models, parts as u32))
 }
 
-/// The DTD that the bytes are. A refusal names the first item in fault by the number of whole items before it, which is 0 for now.
+/// The DTD that the bytes are. Any bytes that are no plain DTD within the limits are refused as `Syntax(0)`, whatever is wrong with
+/// them and wherever that stands.
 pub fn read_dtd(alloc: Global, bytes: &[u8]) -> Result<Dtd, DtdError>
     ensures read { IfOk result (λ dtd. IsDtdText bytes.now (plain_dtd dtd)) }
     ensures refused { IfErr result (λ error. Refuses error ((g : PlainDtd) → IsDtdText bytes.now g → ⊥)) }

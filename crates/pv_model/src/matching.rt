@@ -13,9 +13,12 @@ use std::alloc::Global;
 /// Whether the word is one that the model allows (XML 1.0, section 3.2), where the names below `declared` are declared.
 /// A content particle need not be deterministic.
 ///
-/// Only a word for a content particle takes memory: a byte for each name and each repetition of the particle, 64 bytes
-/// at least; `NoMemory` says that there was none. The time is the length of the word times the size of the particle or of the
-/// list of names, at most, and the walk ends at the first token that no allowed word has there.
+/// Only a word for a content particle takes memory, and the empty word takes none. The marks are a byte for each name and each
+/// repetition of the particle, in a vector that begins with room for 64 and doubles when it is full, so they take 64 bytes, or
+/// else at most twice as many as there are marks. `NoMemory` says that there was no memory for them.
+///
+/// The empty word takes one walk of the particle, and any other two before its first token and one for each token. In mixed
+/// content each token takes a walk of the list of names. Matching ends at the first token that no allowed word has there.
 pub fn matches(
     alloc: Global,
     model: &ContentModel,
