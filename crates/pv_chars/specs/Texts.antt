@@ -41,13 +41,13 @@ is_ascii_char b = (b == 9) || (b == 10) || (b == 13) || (nat_le 32 b && nat_lt b
 abbrev pub is_text_char : ℕ → Bool
 is_text_char b = is_ascii_char b && not (b == 60) && not (b == 38)
 
-abbrev pub is_some : List ℕ → Bool
-is_some [] = false
-is_some (b ∷ bs) = true
+abbrev pub is_not_empty : List ℕ → Bool
+is_not_empty [] = false
+is_not_empty (b ∷ bs) = true
 
 -- plain character data (section 2.4): at least one character, none of them `<` or `&`, and no `]]>`
 abbrev pub is_plain_text : List ℕ → Bool
-is_plain_text bytes = is_some bytes && list_all is_text_char bytes && not (holds_close_mark (units_of bytes))
+is_plain_text bytes = is_not_empty bytes && list_all is_text_char bytes && not (holds_close_mark (units_of bytes))
 
 abbrev pub IsPlainText : List ℕ → Type 0
 IsPlainText bytes = IsTrue (is_plain_text bytes)

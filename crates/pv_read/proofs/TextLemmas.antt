@@ -8,7 +8,7 @@ use Rattle.std.proofs.lemmas.Bool.Decides.{nat_tests}
 use Rattle.std.proofs.lemmas.Grind.{common_steps}
 use Rattle.memchr.specs.Find.{is_byte, Passes, Nowhere, IsFirstByte}
 use Rattle.pv_chars.specs.Scan.{split}
-use Rattle.pv_chars.specs.Texts.{units_of, begins_close_mark, holds_close_mark, is_text_char, is_some, is_plain_text, IsPlainText}
+use Rattle.pv_chars.specs.Texts.{units_of, begins_close_mark, holds_close_mark, is_text_char, is_not_empty, is_plain_text, IsPlainText}
 use Rattle.pv_read.specs.Reading.{text_length, text_at, begins_end_tag}
 use Rattle.pv_read.proofs.Steps.{both, some_pair}
 
@@ -74,15 +74,15 @@ text_length-append (b ∷ bs) rest all ends = let here = both (is_text_char b) (
 
 pub text_chars : (text : List ℕ) → IsPlainText text → list_all is_text_char text ≡ true
 text_chars text plain =
-    let parts = both (is_some text && list_all is_text_char text) (not (holds_close_mark (units_of text))) plain in
-    (both (is_some text) (list_all is_text_char text) parts.0).1
+    let parts = both (is_not_empty text && list_all is_text_char text) (not (holds_close_mark (units_of text))) plain in
+    (both (is_not_empty text) (list_all is_text_char text) parts.0).1
 
 pub not_true : (b : Bool) → not b ≡ true → b ≡ false
 not_true true e = cc
 not_true false e = refl
 
 pub no_close_mark : (text : List ℕ) → IsPlainText text → holds_close_mark (units_of text) ≡ false
-no_close_mark text plain = not_true (holds_close_mark (units_of text)) (both (is_some text && list_all is_text_char text) (not (holds_close_mark (units_of text))) plain).1
+no_close_mark text plain = not_true (holds_close_mark (units_of text)) (both (is_not_empty text && list_all is_text_char text) (not (holds_close_mark (units_of text))) plain).1
 
 pub text_at-append : (text rest : List ℕ) → IsPlainText text → text_length rest ≡ 0 → text_at (text ++ rest) ≡ Some (text, rest)
 unfolding text_at

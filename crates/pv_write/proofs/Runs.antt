@@ -1,7 +1,7 @@
 -- Runs of plain units.
 use Rattle.std.proofs.Common.{◌≡◌, ℕ, List, [], ◌∷◌, ◌++◌, true, false, not, append-nil, append_assoc, refl, sym, ap, ◌∙◌}
 use Rattle.std.specs.List.{list_all}
-use Rattle.pv_chars.specs.Texts.{units_of, joined, is_some, is_text_char, begins_close_mark, holds_close_mark, IsPlainText}
+use Rattle.pv_chars.specs.Texts.{units_of, joined, is_not_empty, is_text_char, begins_close_mark, holds_close_mark, IsPlainText}
 use Rattle.pv_tree.specs.Legal.{is_plain_unit, are_plain_units, is_open}
 use Rattle.pv_read.proofs.Steps.{both}
 use Rattle.pv_read.proofs.TextLemmas.{not_true}
@@ -37,7 +37,7 @@ all_plain : (units : List (List ℕ)) → are_plain_units units ≡ true → lis
 all_plain [] plain = cc
 all_plain (unit ∷ units) plain = plain
 
-some_of : (units : List (List ℕ)) (bytes : List ℕ) → are_plain_units units ≡ true → is_some (joined units ++ bytes) ≡ true
+some_of : (units : List (List ℕ)) (bytes : List ℕ) → are_plain_units units ≡ true → is_not_empty (joined units ++ bytes) ≡ true
 some_of [] bytes plain = cc
 some_of ([] ∷ units) bytes plain = cc
 some_of ((b ∷ unit) ∷ units) bytes plain = refl
