@@ -1,0 +1,311 @@
+"""Compares `valid` with xmllint, and with a matcher of its own, on random plain DTDs and documents.
+
+Words: PROGRAM ROUNDS SEED. A round is one DTD, a dozen documents, each of which `show` must give back, and a dozen texts of each kind that
+were changed in one place or two. xmllint doesn't judge models that aren't deterministic, nor paths, which the matcher of its own does.
+Prints each difference, and ends with 1 where there is one.
+"""
+import os
+import random
+import re
+import subprocess
+import sys
+import tempfile
+
+NAMES = ["a", "b", "c", "d", "e"]
+SPACE = ["", "", "", " ", "\n", "\t \r\n"]
+
+
+def space():
+    return random.choice(SPACE)
+
+
+# Content particles: a name, or an operator with its members.
+def particle(depth):
+    form = random.choice(["name"] * 4 + ["seq", "choice", "?", "*", "+"])
+    if depth == 0 or form == "name":
+        return ("name", random.choice(NAMES))
+    if form in ("?", "*", "+"):
+        inner = particle(depth - 1)
+        return inner if inner[0] in ("?", "*", "+") else (form, inner)
+    least = 1 if form == "seq" else 2
+    return (form, [particle(depth - 1) for _ in range(random.randint(least, 3))])
+
+
+def group(depth):
+    while True:
+        found = particle(depth)
+        inner = found[1] if found[0] in ("?", "*", "+") else found
+        if inner[0] in ("seq", "choice"):
+            return found
+
+
+def spelled(part):
+    form, inner = part
+    if form == "name":
+        return inner
+    if form in ("?", "*", "+"):
+        return spelled(inner) + form
+    mark = "," if form == "seq" else "|"
+    return "(" + space() + (space() + mark + space()).join(spelled(member) for member in inner) + space() + ")"
+
+
+def model():
+    form = random.choice(["empty", "any", "mixed", "children", "children", "children"])
+    if form == "mixed":
+        return (form, random.sample(NAMES, random.randint(0, 3)))
+    return (form, group(3) if form == "children" else None)
+
+
+def specification(content):
+    form, inner = content
+    if form == "mixed":
+        names = "".join(space() + "|" + space() + name for name in inner)
+        return "(" + space() + "#PCDATA" + names + space() + ")" + ("*" if inner or random.random() < 0.3 else "")
+    return {"empty": "EMPTY", "any": "ANY"}.get(form) or spelled(inner)
+
+
+# The positions at which a match of the particle that begins at one of these ends.
+def ends(part, word, begins):
+    form, inner = part
+    if form == "name":
+        return {at + 1 for at in begins if word[at:at + 1] == [inner]}
+    if form == "seq":
+        for member in inner:
+            begins = ends(member, word, begins)
+        return begins
+    if form == "choice":
+        return set().union(*(ends(member, word, begins) for member in inner))
+    if form == "?":
+        return begins | ends(inner, word, begins)
+    found = begins if form == "*" else ends(inner, word, begins)
+    while True:
+        more = found | ends(inner, word, found)
+        if more == found:
+            return found
+        found = more
+
+
+# A word of the particle.
+def sample(part):
+    form, inner = part
+    if form == "name":
+        return [inner]
+    if form == "seq":
+        return sum((sample(member) for member in inner), [])
+    if form == "choice":
+        return sample(random.choice(inner))
+    count = {"?": random.randint(0, 1), "*": random.randint(0, 2), "+": random.randint(1, 2)}[form]
+    return sum((sample(inner) for _ in range(count)), [])
+
+
+# Elements are (name, kids), texts are strings.
+def element(models, name, depth):
+    content = models.get(name, ("any", None))
+    form, inner = content
+    kids = []
+    if depth > 0 and form == "children":
+        kids = sample(inner)
+    elif depth > 0 and form == "any":
+        kids = random.choices(sorted(models) + ["#"], k=random.randint(0, 3)) if models else []
+    elif depth > 0 and form == "mixed":
+        kids = random.choices(inner + ["#"], k=random.randint(0, 3))
+    made = []
+    for kid in kids:
+        made.append("x" if kid == "#" else element(models, kid, depth - 1))
+        if form == "children" and random.random() < 0.2:
+            made.append(random.choice([" ", "\n", "\t"]))
+    return (name, made)
+
+
+def elements(tree):
+    yield tree
+    for kid in tree[1]:
+        if not isinstance(kid, str):
+            yield from elements(kid)
+
+
+# Changes one list, so that a valid document becomes nearly valid.
+def change(tree):
+    _, kids = random.choice(list(elements(tree)))
+    at = random.randint(0, len(kids))
+    form = random.choice(["text", "white", "element", "drop", "double", "swap"])
+    if form == "text":
+        kids.insert(at, "y")
+    elif form == "white":
+        kids.insert(at, " ")
+    elif form == "element":
+        kids.insert(at, (random.choice(NAMES), []))
+    elif kids and form == "drop":
+        kids.pop(at - 1)
+    elif kids and form == "double":
+        kids.insert(at, kids[at - 1])
+    elif len(kids) > 1:
+        kids[0], kids[-1] = kids[-1], kids[0]
+
+
+def joined(kids):
+    found = []
+    for kid in kids:
+        if isinstance(kid, str) and found and isinstance(found[-1], str):
+            found[-1] += kid
+        else:
+            found.append(kid)
+    return found
+
+
+def text_of(tree):
+    name, kids = tree
+    if not kids and random.random() < 0.5:
+        return f"<{name}{space()}/>"
+    inner = "".join(kid if isinstance(kid, str) else text_of(kid) for kid in kids)
+    return f"<{name}{space()}>{inner}</{name}{space()}>"
+
+
+def is_list_valid(models, tree):
+    name, kids = tree
+    if name not in models:
+        return False
+    form, inner = models[name]
+    names = [kid[0] for kid in kids if not isinstance(kid, str)]
+    has_data = any(isinstance(kid, str) and kid.strip(" \t\r\n") for kid in kids)
+    if form == "empty":
+        return not kids
+    if form == "any":
+        return all(kid in models for kid in names)
+    if form == "mixed":
+        return all(kid in inner for kid in names)
+    return not has_data and len(names) in ends(inner, names, {0})
+
+
+def first_invalid(models, tree, path):
+    if not is_list_valid(models, tree):
+        return ".".join(map(str, path))
+    for at, kid in enumerate(joined(tree[1])):
+        if not isinstance(kid, str):
+            found = first_invalid(models, kid, path + [at])
+            if found:
+                return found
+    return None
+
+
+# The exit status of `valid`, and its output.
+def answer(program, root):
+    ran = subprocess.run([program, "valid", "a.dtd", root, "d.xml"], capture_output=True, text=True)
+    return (ran.returncode, ran.stdout)
+
+
+# What `valid` is to answer where this list, or none, is the first that isn't valid.
+def judgement(path):
+    return (1, f"invalid {path}\n") if path else (0, "valid\n")
+
+
+# Changes one place or two. No processing instruction comes of it: a plain text has none, and xmllint reads them.
+def changed(text, letters):
+    while True:
+        found = text
+        for _ in range(random.randint(1, 2)):
+            at = random.randint(0, len(found))
+            until = min(len(found), at + random.choice([0, 1, 1, 3]))
+            found = found[:at] + "".join(random.choices(letters, k=random.choice([0, 0, 1, 2]))) + found[until:]
+        if "<?" not in found:
+            return found
+
+
+# Whether a type is declared twice, or a name listed twice in a mixed model: no plain DTD, though xmllint reads it.
+def is_doubled(text):
+    declared = re.findall(r"<!ELEMENT\s+(\w+)", text)
+    listed = [re.findall(r"\w+", names) for names in re.findall(r"#PCDATA([^)]*)", text)]
+    return any(len(set(names)) < len(names) for names in [declared] + listed)
+
+
+def is_document(path):
+    return subprocess.run(["xmllint", "--noout", path], capture_output=True).returncode == 0
+
+
+def is_dtd(path):
+    ran = subprocess.run(["xmllint", "--noout", "--dtdvalid", path, "e.xml"], capture_output=True, text=True)
+    return "Could not parse DTD" not in ran.stderr
+
+
+# How many texts the program takes for a document, or for a DTD, and xmllint doesn't, or the other way round.
+def compare_changed(program, counts):
+    differences = 0
+    write("e.xml", "<a/>")
+    kinds = [("document", "d.xml", "<>/ab x\n]", 7), ("dtd", "a.dtd", "<!ELEMNTPYab>()|,?*+# \n", 6)]
+    for kind, path, letters, status in kinds:
+        good = open(path, newline="").read()
+        for _ in range(12):
+            text = changed(good, letters)
+            write(path, text)
+            is_one = is_document(path) if kind == "document" else is_dtd(path) and not is_doubled(text)
+            got = answer(program, "a")
+            counts["read" if is_one else "refused"] += 1
+            is_judged = got == (0, "valid\n") or got[0] == 1 and re.fullmatch(r"invalid (\.|[0-9.]+)\n", got[1])
+            if not is_judged if is_one else got != (status, f"{kind} syntax 0\n"):
+                differences += 1
+                print(f"got {got!r}, but xmllint {'reads' if is_one else 'refuses'} the {kind}")
+                print(text)
+        write(path, good)
+    return differences
+
+
+# Whether `show` gives the document back.
+def is_shown(program, root, text):
+    ran = subprocess.run([program, "session", "a.dtd", root, "d.xml"], input=b"show\n", capture_output=True)
+    return (ran.returncode, ran.stdout) == (0, f"show {len(text)}\n{text}\n".encode())
+
+
+def write(path, text):
+    with open(path, "w", newline="") as file:
+        file.write(text)
+
+
+# What xmllint says of the document: whether it is valid, nothing where a model isn't deterministic, or another fault.
+def xmllint(path):
+    ran = subprocess.run(["xmllint", "--noout", "--dtdvalid", "a.dtd", path], capture_output=True, text=True)
+    if "not determinist" in ran.stderr:
+        return None
+    return {0: True, 3: False}.get(ran.returncode, f"status {ran.returncode}")
+
+
+def round_of(program, counts):
+    declared = random.sample(NAMES, random.randint(1, len(NAMES)))
+    models = {name: model() for name in declared}
+    write("a.dtd", "".join(f"{space()}<!ELEMENT {name} {specification(content)}{space()}>" for name, content in models.items()))
+    differences = 0
+    for _ in range(12):
+        tree = element(models, random.choice(declared), random.randint(1, 4))
+        for _ in range(random.choice([0, 0, 0, 1, 1, 2])):
+            change(tree)
+        text = space() + text_of(tree) + space()
+        write("d.xml", text)
+        path = first_invalid(models, tree, [0])
+        theirs = xmllint("d.xml")
+        counts["invalid" if path else "valid"] += 1
+        counts["xmllint"] += theirs is not None
+        # xmllint isn't told the root's name.
+        root = random.choice([tree[0]] * 9 + NAMES)
+        want = judgement(path if root == tree[0] else ".")
+        got = answer(program, root)
+        shown = is_shown(program, root, text)
+        if got != want or theirs not in (None, path is None) or not shown:
+            differences += 1
+            print(f"got {got!r}, want {want!r}, xmllint {theirs}, given back: {shown}, root {root}")
+            print(open("a.dtd").read(), open("d.xml").read(), sep="\n")
+    return differences + compare_changed(program, counts)
+
+
+def main():
+    program, rounds, seed = os.path.abspath(sys.argv[1]), int(sys.argv[2]), int(sys.argv[3])
+    random.seed(seed)
+    counts = {"valid": 0, "invalid": 0, "xmllint": 0, "read": 0, "refused": 0}
+    with tempfile.TemporaryDirectory() as folder:
+        os.chdir(folder)
+        differences = sum(round_of(program, counts) for _ in range(rounds))
+        os.chdir("/")
+    print(f"{counts['valid']} valid and {counts['invalid']} invalid documents, {counts['xmllint']} of them judged by xmllint;",
+          f"changed texts: {counts['read']} read, {counts['refused']} refused; {differences} differences")
+    sys.exit(1 if differences else 0)
+
+
+main()
