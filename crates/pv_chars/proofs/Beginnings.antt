@@ -3,14 +3,11 @@ use Rattle.std.proofs.Common.{◌≡◌, ℕ, List, [], ◌∷◌, ◌++◌, Boo
 use Rattle.std.proofs.lemmas.Bool.Decides.{Decides-eqb}
 use Rattle.std.specs.List.{list_all}
 use Rattle.std.specs.Prelude.{nat_le}
+use Rattle.std.proofs.lemmas.Bool.{and_parts}
 use Rattle.pv_chars.specs.Spaces.{is_space, IsSpace, IsOptionalSpace}
 use Rattle.pv_chars.specs.Names.{is_name_start, is_name_byte, IsPlainName, LONGEST_NAME}
 use Rattle.pv_chars.specs.Scan.{after_bytes}
 use Rattle.pv_chars.proofs.Scanning.{begins}
-
-both : (x y : Bool) → (x && y) ≡ true → (x ≡ true) × (y ≡ true)
-both true y e = (refl, e)
-both false y e = cc
 
 -- none of the four white characters is one of these
 pub record HasNoSpace (p : ℕ → Bool) : Type 0 where
@@ -35,11 +32,11 @@ names_have_no_space = record { space = refl; tab = refl; return = refl; feed = r
 -- what begins no text doesn't begin it behind space either
 pub begins_behind : (p : ℕ → Bool) → HasNoSpace p → (space rest : List ℕ) → IsOptionalSpace space → begins p rest ≡ false → begins p (space ++ rest) ≡ false
 begins_behind p none [] rest s e = e
-begins_behind p none (b ∷ bs) rest s e = no_space p none b (both (is_space b) (list_all is_space bs) s).0
+begins_behind p none (b ∷ bs) rest s e = no_space p none b (and_parts (is_space b) (list_all is_space bs) s).0
 
 pub begins_in_space : (p : ℕ → Bool) → HasNoSpace p → (space rest : List ℕ) → IsSpace space → begins p (space ++ rest) ≡ false
 begins_in_space p none [] rest s = absurd (s.some refl)
-begins_in_space p none (b ∷ bs) rest s = no_space p none b (both (is_space b) (list_all is_space bs) s.space).0
+begins_in_space p none (b ∷ bs) rest s = no_space p none b (and_parts (is_space b) (list_all is_space bs) s.space).0
 
 -- a byte of one kind and none of the other
 pub unlike : (p : ℕ → Bool) (b : ℕ) (c : Bool) (other : ℕ → Bool) → p b ≡ true → (other b ≡ true → p b ≡ false) → other b ≡ c → c ≡ false
@@ -47,7 +44,7 @@ unlike p b true other is apart e = let never = apart e in cc
 unlike p b false other is apart e = refl
 
 start_of : (b : ℕ) (bs : List ℕ) → IsPlainName (b ∷ bs) → is_name_start b ≡ true
-start_of b bs plain = (both (is_name_start b) (list_all is_name_byte bs) (both (is_name_start b && list_all is_name_byte bs) (nat_le _ LONGEST_NAME) plain).0).0
+start_of b bs plain = (and_parts (is_name_start b) (list_all is_name_byte bs) (and_parts (is_name_start b && list_all is_name_byte bs) (nat_le _ LONGEST_NAME) plain).0).0
 
 pub name_begins : (name rest : List ℕ) → IsPlainName name → begins is_space (name ++ rest) ≡ false
 name_begins [] rest plain = cc

@@ -5,6 +5,7 @@ use Rattle.std.proofs.lemmas.Bool.Decides.{Decides-eqb}
 use Rattle.std.proofs.lemmas.Option.{cond_some}
 use Rattle.std.specs.List.{list_all}
 use Rattle.std.specs.Prelude.{nat_le}
+use Rattle.std.proofs.lemmas.Bool.{and_parts}
 use Rattle.pv_chars.specs.Spaces.{is_space, IsSpace, IsOptionalSpace}
 use Rattle.pv_chars.specs.Names.{is_name_start, is_name_byte, is_plain_name, IsPlainName, LONGEST_NAME}
 use Rattle.pv_chars.specs.Scan.{space_length, after_space, after_blank, name_length, name_at, short_name, after_bytes}
@@ -38,17 +39,13 @@ pub drop_space : (bytes : List ℕ) → drop (space_length bytes) bytes ≡ afte
 drop_space [] = refl
 drop_space (b ∷ bs) = after_step b bs (is_space b) (drop_space bs)
 
-both : (x y : Bool) → (x && y) ≡ true → (x ≡ true) × (y ≡ true)
-both true y e = (refl, e)
-both false y e = cc
-
 pub after_space-ended : (rest : List ℕ) → begins is_space rest ≡ false → after_space rest ≡ rest
 after_space-ended [] e = refl
 after_space-ended (b ∷ bs) e = rw e refl
 
 pub after_space-append : (space rest : List ℕ) → IsOptionalSpace space → begins is_space rest ≡ false → after_space (space ++ rest) ≡ rest
 after_space-append [] rest s e = after_space-ended rest e
-after_space-append (b ∷ bs) rest s e = let white = both (is_space b) (list_all is_space bs) s in rw white.0 (after_space-append bs rest white.1 e)
+after_space-append (b ∷ bs) rest s e = let white = and_parts (is_space b) (list_all is_space bs) s in rw white.0 (after_space-append bs rest white.1 e)
 
 -- Some space stands before the rest, and all of it.
 pub record TakesBlank (bytes rest : List ℕ) : Type 0 where
@@ -72,7 +69,7 @@ after_blank_takes (b ∷ bs) rest e = blank_step b bs rest (is_space b) refl e
 pub after_blank-append : (space rest : List ℕ) → IsSpace space → begins is_space rest ≡ false → after_blank (space ++ rest) ≡ Some rest
 unfolding after_blank
 after_blank-append [] rest s e = absurd (s.some refl)
-after_blank-append (b ∷ bs) rest s e = let white = both (is_space b) (list_all is_space bs) s.space in rw (white.0, after_space-append bs rest white.1 e) refl
+after_blank-append (b ∷ bs) rest s e = let white = and_parts (is_space b) (list_all is_space bs) s.space in rw (white.0, after_space-append bs rest white.1 e) refl
 
 after_byte : (p : ℕ) (ps : List ℕ) (b : ℕ) (bs rest : List ℕ) (same : Bool) → (p == b) ≡ same → cond same (after_bytes ps bs) None ≡ Some rest → (after_bytes ps bs ≡ Some rest → bs ≡ ps ++ rest) → b ∷ bs ≡ p ∷ (ps ++ rest)
 after_byte p ps b bs rest true is e below = let at = (Decides-eqb p b).0 is in let after = below e in cc
@@ -107,15 +104,15 @@ name_length_counts : (bytes : List ℕ) → CountsNameBytes bytes (name_length b
 name_length_counts [] = record { in_name = refl; as_many = refl; ends = refl }
 name_length_counts (b ∷ bs) = length_step b bs (is_name_byte b) refl (name_length_counts bs)
 
-starts_in_name : (b : ℕ) → is_name_start b ≡ true → is_name_byte b ≡ true
+pub starts_in_name : (b : ℕ) → is_name_start b ≡ true → is_name_byte b ≡ true
 starts_in_name b e = rw e refl
 
 name_length-append : (name rest : List ℕ) → list_all is_name_byte name ≡ true → begins is_name_byte rest ≡ false → name_length (name ++ rest) ≡ length name
 name_length-append [] [] all ends = refl
 name_length-append [] (b ∷ bs) all ends = rw ends refl
-name_length-append (b ∷ bs) rest all ends = let here = both (is_name_byte b) (list_all is_name_byte bs) all in rw (here.0, name_length-append bs rest here.1 ends, add-one) refl
+name_length-append (b ∷ bs) rest all ends = let here = and_parts (is_name_byte b) (list_all is_name_byte bs) all in rw (here.0, name_length-append bs rest here.1 ends, add-one) refl
 
-chosen : {A : Type 0} (test : Bool) (o : Option A) (y : A) → cond test o None ≡ Some y → (test ≡ true) × (o ≡ Some y)
+pub chosen : {A : Type 0} (test : Bool) (o : Option A) (y : A) → cond test o None ≡ Some y → (test ≡ true) × (o ≡ Some y)
 chosen true o y e = (refl, e)
 chosen false o y e = cc
 
@@ -139,7 +136,7 @@ pub name_at-append : (name rest : List ℕ) → IsPlainName name → begins is_n
 unfolding name_at
 name_at-append [] rest plain ends = cc
 name_at-append (b ∷ bs) rest plain ends =
-    let parts = both (is_name_start b && list_all is_name_byte bs) (nat_le (length (b ∷ bs)) LONGEST_NAME) plain in
-    let front = both (is_name_start b) (list_all is_name_byte bs) parts.0 in
+    let parts = and_parts (is_name_start b && list_all is_name_byte bs) (nat_le (length (b ∷ bs)) LONGEST_NAME) plain in
+    let front = and_parts (is_name_start b) (list_all is_name_byte bs) parts.0 in
     let count = name_length-append bs rest front.1 ends in
     rw (front.0, count, add-one, parts.1, take_at bs rest (length bs) refl, drop_at bs rest (length bs) refl) refl

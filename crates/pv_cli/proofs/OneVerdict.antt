@@ -1,6 +1,7 @@
 -- A document has one verdict.
-use Rattle.std.proofs.Common.{◌≡◌, ℕ, List, [], ◌∷◌, ◌++◌, ◌&&◌, Bool, true, false, IsTrue, codes, refl, sym, ap, ◌∙◌, subst}
+use Rattle.std.proofs.Common.{◌≡◌, ℕ, List, [], ◌∷◌, ◌++◌, IsTrue, codes, refl, sym, ap, ◌∙◌, subst}
 use Rattle.std.specs.List.{AllByRecursion}
+use Rattle.std.proofs.lemmas.Bool.{and_from}
 use Rattle.pv_chars.specs.Texts.{units_of, IsPlainText}
 use Rattle.pv_dtd.specs.Plain.{PlainDtd}
 use Rattle.pv_tree.specs.Hedge.{done, IsValid}
@@ -10,6 +11,7 @@ use Rattle.pv_tree.specs.Plain.{short, tagged, Tree, element, text_node, cdata_n
 use Rattle.pv_tree.specs.Texts.{has_unit, has_no_empty_text, have_no_empty_text}
 use Rattle.pv_tree.specs.View.{view}
 use Rattle.pv_tree.specs.declared.nodes.Mark.{Mark}
+use Rattle.pv_tree.proofs.Every.{all_right}
 use Rattle.pv_read.specs.Grammar.{SpellsNode, SpellsContent}
 use Rattle.pv_read.specs.Marks.{unmarked_doc}
 use Rattle.pv_cli.specs.Answer.{Answer, with_line}
@@ -17,10 +19,6 @@ use Rattle.pv_cli.specs.Paths.{path_text}
 use Rattle.pv_cli.specs.Valid.{TellsValidity, is_valid, is_invalid}
 use Rattle.pv_cli.specs.declared.status.Status.TheVariants.{Negative}
 use Rattle.pv_cli.proofs.Marks.{view-unmarked, first_invalid-unmarked}
-
-both_true : (a b : Bool) → IsTrue a → IsTrue b → IsTrue (a && b)
-both_true true b is also = also
-both_true false b is also = cc
 
 text_has_unit : (bytes : List ℕ) → IsPlainText bytes → IsTrue (has_unit (units_of bytes))
 text_has_unit [] plain = cc
@@ -38,7 +36,7 @@ mutual
   all_spelled_texts : {M : Type 0} (kids : Forest M) (bytes : List ℕ) → SpellsContent kids bytes → IsTrue (have_no_empty_text kids)
   all_spelled_texts no_trees bytes spells = refl
   all_spelled_texts (tree t rest) bytes (first, more, spells, whole_run, below, whole) =
-      both_true (has_no_empty_text t) (have_no_empty_text rest) (spelled_texts t first spells) (all_spelled_texts rest more below)
+      and_from (has_no_empty_text t) (have_no_empty_text rest) (spelled_texts t first spells) (all_spelled_texts rest more below)
 
 -- what stands first that isn't P is one
 one_first : {A : Type 0} (P : A → Type 0) (before after early late : List A) (x y : A) → before ++ x ∷ after ≡ early ++ y ∷ late →
@@ -63,15 +61,11 @@ one_invalid_path g root doc same path other e f h =
     let second = first_invalid-unmarked g root other same h in
     one_path g root (lists_of (unmarked_doc same)) path other (subst (λ (d : PlainDoc Unit). IsFirstInvalid g root (lists_of d) path) e first) second
 
-right_part : {A : Type 0} (P : A → Type 0) (xs ys : List A) → AllByRecursion P (xs ++ ys) → AllByRecursion P ys
-right_part P [] ys all = all
-right_part P (x ∷ xs) ys all = right_part P xs ys all.1
-
 not_both : (by_lists : IsValidByLists Mark) (g : PlainDtd) (root path : List ℕ) (doc : PlainDoc Mark) → IsTrue (has_no_empty_text doc.root) →
     IsValid g root (view doc.root) → IsFirstInvalid g root (lists_of doc) path → ⊥
 not_both by_lists g root path doc texts valid f =
     let all = subst (AllByRecursion (IsValidList g root)) f.is_split ((by_lists g root doc texts).1 valid) in
-    f.invalid (right_part (IsValidList g root) f.before (f.list ∷ f.after) all).0
+    f.invalid (all_right (IsValidList g root) f.before (f.list ∷ f.after) all).0
 
 same_view : {M : Type 0} (doc same : PlainDoc M) → unmarked_doc doc ≡ unmarked_doc same → view doc.root ≡ view same.root
 same_view doc same e =

@@ -1,21 +1,14 @@
 -- Where names differ, each has its own number.
-use Rattle.std.proofs.Common.{◌≡◌, ℕ, zero, suc, List, [], ◌∷◌, ◌&&◌, ◌||◌, not, Bool, true, false, cond, Some, refl, sym, ap, ◌∙◌}
+use Rattle.std.proofs.Common.{◌≡◌, ℕ, zero, suc, List, [], ◌∷◌, not, Bool, true, false, cond, Some, refl, sym, ap, ◌∙◌}
 use Rattle.std.proofs.lemmas.Slice.Eq.{bytes_eq-Decides}
 use Rattle.std.specs.List.{list_any, slice_get}
 use Rattle.std.specs.Option.{option_map}
 use Rattle.std.specs.Str.{bytes_eq}
+use Rattle.std.proofs.lemmas.Bool.{and_parts, or_right}
 use Rattle.pv_dtd.specs.Plain.{place_of}
 use Rattle.pv_dtd.specs.Facts.{are_distinct}
 use Rattle.pv_dtd.proofs.Binding.{same_some}
 use Rattle.pv_dtd.proofs.SpelledParts.{AreApart}
-
-both : (x y : Bool) → (x && y) ≡ true → (x ≡ true) × (y ≡ true)
-both true y e = (refl, e)
-both false y e = cc
-
-or_right : (a b : Bool) → b ≡ true → (a || b) ≡ true
-or_right true b e = refl
-or_right false b e = e
 
 pub any_at : (x : List ℕ) (ns : List (List ℕ)) (y : ℕ) → slice_get ns y ≡ Some x → list_any (bytes_eq x) ns ≡ true
 any_at x [] y e = cc
@@ -32,5 +25,5 @@ pub apart_from_distinct : (names : List (List ℕ)) → are_distinct names ≡ t
 apart_from_distinct [] distinct y x e = cc
 apart_from_distinct (n ∷ ns) distinct zero x e = rw ((bytes_eq-Decides x n).1 (sym (same_some _ _ e))) refl
 apart_from_distinct (n ∷ ns) distinct (suc y) x e =
-    let parts = both (not (list_any (bytes_eq n) ns)) (are_distinct ns) distinct in
+    let parts = and_parts (not (list_any (bytes_eq n) ns)) (are_distinct ns) distinct in
     later n x ns y (bytes_eq x n) refl parts.0 e (apart_from_distinct ns parts.1 y x e)

@@ -4,9 +4,11 @@ use Rattle.std.proofs.lemmas.Bool.Decides.{Decides-eqb}
 use Rattle.std.proofs.lemmas.List.Folds.{list_all-append}
 use Rattle.std.specs.List.{list_all}
 use Rattle.std.specs.Prelude.{nat_le}
+use Rattle.std.proofs.lemmas.Bool.{and_parts}
 use Rattle.pv_chars.specs.Spaces.{is_space, IsOptionalSpace}
 use Rattle.pv_chars.specs.Names.{is_name_start, is_name_byte, IsPlainName, LONGEST_NAME}
 use Rattle.pv_chars.proofs.Beginnings.{no_space}
+use Rattle.pv_chars.proofs.Scanning.{starts_in_name}
 use Rattle.pv_model.specs.Models.{PlainPart, name, seq, choice, opt, star, plus, PlainParts, no_parts, part, PlainModel, empty, any, mixed, children}
 use Rattle.pv_dtd.specs.Grammar.{SpellsPart, SpellsGroup, SpellsOthers, SpellsListed, SpellsMixed, SpellsModel}
 use Rattle.pv_dtd.specs.Text.{after_close}
@@ -27,14 +29,10 @@ inner_five a b c d e i j k l m = inner-append (a ++ b ++ c ++ d) e (inner-append
 inner_six : (a b c d e f : List ℕ) → IsInner a → IsInner b → IsInner c → IsInner d → IsInner e → IsInner f → IsInner (a ++ b ++ c ++ d ++ e ++ f)
 inner_six a b c d e f i j k l m n = inner-append (a ++ b ++ c ++ d ++ e) f (inner_five a b c d e i j k l m) n
 
-both : (x y : Bool) → (x && y) ≡ true → (x ≡ true) × (y ≡ true)
-both true y e = (refl, e)
-both false y e = cc
-
 pub space_is_inner : (space : List ℕ) → IsOptionalSpace space → IsInner space
 space_is_inner [] s = refl
 space_is_inner (b ∷ bs) s =
-    let parts = both (is_space b) (list_all is_space bs) s in
+    let parts = and_parts (is_space b) (list_all is_space bs) s in
     let other = no_space (λ c. c == 62) record { space = refl; tab = refl; return = refl; feed = refl } b parts.0 in
     rw other (space_is_inner bs parts.1)
 
@@ -44,16 +42,13 @@ named_by b false is named = refl
 
 bytes_are_inner : (bytes : List ℕ) → list_all is_name_byte bytes ≡ true → IsInner bytes
 bytes_are_inner [] s = refl
-bytes_are_inner (b ∷ bs) s = let parts = both (is_name_byte b) (list_all is_name_byte bs) s in rw (named_by b (b == 62) refl parts.0) (bytes_are_inner bs parts.1)
-
-start_in_name : (b : ℕ) → is_name_start b ≡ true → is_name_byte b ≡ true
-start_in_name b e = rw e refl
+bytes_are_inner (b ∷ bs) s = let parts = and_parts (is_name_byte b) (list_all is_name_byte bs) s in rw (named_by b (b == 62) refl parts.0) (bytes_are_inner bs parts.1)
 
 name_is_inner : (name : List ℕ) → IsPlainName name → IsInner name
 name_is_inner [] plain = refl
 name_is_inner (b ∷ bs) plain =
-    let parts = both (is_name_start b) (list_all is_name_byte bs) (both (is_name_start b && list_all is_name_byte bs) (nat_le _ LONGEST_NAME) plain).0 in
-    rw (named_by b (b == 62) refl (start_in_name b parts.0)) (bytes_are_inner bs parts.1)
+    let parts = and_parts (is_name_start b) (list_all is_name_byte bs) (and_parts (is_name_start b && list_all is_name_byte bs) (nat_le _ LONGEST_NAME) plain).0 in
+    rw (named_by b (b == 62) refl (starts_in_name b parts.0)) (bytes_are_inner bs parts.1)
 
 module _ (ns : List (List ℕ)) where
   mutual
@@ -97,4 +92,4 @@ closes_by b bs rest false inner below = below
 
 pub after_close-append : (front rest : List ℕ) → IsInner front → after_close (front ++ 62 ∷ rest) ≡ rest
 after_close-append [] rest s = refl
-after_close-append (b ∷ bs) rest s = let parts = both (is_inner b) (list_all is_inner bs) s in closes_by b bs rest (b == 62) parts.0 (after_close-append bs rest parts.1)
+after_close-append (b ∷ bs) rest s = let parts = and_parts (is_inner b) (list_all is_inner bs) s in closes_by b bs rest (b == 62) parts.0 (after_close-append bs rest parts.1)

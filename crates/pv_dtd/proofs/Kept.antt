@@ -3,14 +3,14 @@ use Rattle.std.proofs.Common.{◌≡◌, ℕ, suc, ◌≤◌, ◌<◌, inl, inr,
 use Rattle.std.proofs.lemmas.Bool.Decides.{nat_tests}
 use Rattle.std.proofs.lemmas.Option.{get_or_from_slice_get, slice_get_within}
 use Rattle.std.specs.List.{list_all, slice_get}
-use Rattle.std.specs.Prelude.{nat_le, nat_lt}
+use Rattle.std.specs.Prelude.{nat_lt}
 use Rattle.pv_chars.specs.Names.{is_plain_name, IsPlainName}
 use Rattle.pv_model.specs.Models.{PlainPart, name, seq, choice, opt, star, plus, PlainParts, no_parts, part, PlainModel, empty, any, mixed, children}
 use Rattle.pv_dtd.specs.Plain.{parts_in, parts_in_all, parts_in_model, parts_in_models, names_in, names_in_all, names_in_model, mentions}
 use Rattle.pv_dtd.specs.Facts.{is_formed, are_formed, members, has_operator, nesting, is_formed_model, MOST_NESTING}
 use Rattle.pv_dtd.specs.Grammar.{Declaration, SpellsPart, SpellsGroup, SpellsOthers, SpellsListed, SpellsModel, SpellsItems, IsWithinRules}
 use Rattle.pv_dtd.proofs.SpelledParts.{spelt}
-use Rattle.pv_dtd.proofs.Meaning.{models_of, types_of}
+use Rattle.pv_dtd.proofs.Meaning.{at_most, models_of, types_of}
 
 -- each of these numbers has a plain name
 abbrev pub AreNames : List (List ℕ) → List ℕ → Type 0
@@ -27,9 +27,6 @@ plain_names ns (y ∷ ys) a = rw (get_or_from_slice_get ns y a.0 [] a.1, a.2) (p
 
 below : (m n : ℕ) → m < n → nat_lt m n ≡ true
 below m n e = grind (arith, nat_tests)
-
-at_least : (m n : ℕ) → m ≤ n → nat_le m n ≡ true
-at_least m n e = grind (arith, nat_tests)
 
 pub known_names : (ns : List (List ℕ)) (ys : List ℕ) → AreNames ns ys → list_all (λ y. nat_lt y (length ns)) ys ≡ true
 known_names ns [] a = refl
@@ -75,8 +72,8 @@ module _ (ns : List (List ℕ)) where
   mutual
     part_formed : (p : PlainPart) (text : List ℕ) → SpellsPart ns p text → is_formed p ≡ true
     part_formed (name y) text s = refl
-    part_formed (seq ps) text s = let g = group_formed _ ps text s in rw (at_least 1 (members ps) g.0, g.1) refl
-    part_formed (choice ps) text s = let g = group_formed _ ps text s.1 in rw (at_least 2 (members ps) s.0, g.1) refl
+    part_formed (seq ps) text s = let g = group_formed _ ps text s in rw (at_most 1 (members ps) g.0, g.1) refl
+    part_formed (choice ps) text s = let g = group_formed _ ps text s.1 in rw (at_most 2 (members ps) s.0, g.1) refl
     part_formed (opt p) text s = let bare : not (has_operator p) ≡ true = s.1 in rw (bare, part_formed p s.0 s.2) refl
     part_formed (star p) text s = let bare : not (has_operator p) ≡ true = s.1 in rw (bare, part_formed p s.0 s.2) refl
     part_formed (plus p) text s = let bare : not (has_operator p) ≡ true = s.1 in rw (bare, part_formed p s.0 s.2) refl
@@ -93,7 +90,7 @@ module _ (ns : List (List ℕ)) where
   model_formed empty text s rules = refl
   model_formed any text s rules = refl
   model_formed (mixed ys) text s rules = rules
-  model_formed (children p) text s rules = rw (part_formed p text s.1, at_least (nesting p) MOST_NESTING rules) refl
+  model_formed (children p) text s rules = rw (part_formed p text s.1, at_most (nesting p) MOST_NESTING rules) refl
 
   pub items_formed : (items : List Declaration) (bytes : List ℕ) → SpellsItems ns items bytes → ((k : ℕ) (m : PlainModel) → slice_get (models_of items) k ≡ Some m → IsWithinRules m) → list_all is_formed_model (models_of items) ≡ true
   items_formed [] bytes s rules = refl

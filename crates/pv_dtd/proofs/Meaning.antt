@@ -6,8 +6,10 @@ use Rattle.std.proofs.lemmas.Option.{cond_some, get_or_from_slice_get}
 use Rattle.std.specs.List.{slice_get}
 use Rattle.std.specs.Prelude.{nat_le, slice_index_or, IfErr}
 use Rattle.std.specs.Str.{bytes_eq}
+use Rattle.std.proofs.lemmas.Bool.{and_parts}
 use Rattle.pv_model.specs.Models.{PlainModel}
 use Rattle.pv_chars.specs.Scan.{◌>>=◌}
+use Rattle.pv_chars.proofs.Scanning.{chosen}
 use Rattle.pv_dtd.specs.Plain.{PlainDtd, spelling_of, mentions, parts_in_models}
 use Rattle.pv_dtd.specs.Facts.{are_distinct, MOST_TYPES, MOST_PARTS, MOST_DTD}
 use Rattle.pv_dtd.specs.Grammar.{Declaration, IsWithinRules, IsDtdText}
@@ -32,15 +34,11 @@ types_of items = map (λ (d : Declaration). d.type_name) items
 abbrev pub models_of : List Declaration → List PlainModel
 models_of items = map (λ (d : Declaration). d.model) items
 
-at_most : (m n : ℕ) → m ≤ n → nat_le m n ≡ true
+pub at_most : (m n : ℕ) → m ≤ n → nat_le m n ≡ true
 at_most m n e = grind (arith, nat_tests)
 
 within : (m n : ℕ) → nat_le m n ≡ true → m ≤ n
 within m n e = grind (arith, nat_tests)
-
-both : (x y : Bool) → (x && y) ≡ true → (x ≡ true) × (y ≡ true)
-both true y e = (refl, e)
-both false y e = cc
 
 -- the names of a text's DTD
 pub text_names : (bytes : List ℕ) (g : PlainDtd) (t : IsDtdText bytes g) → g.names ≡ grown (types_of t.items) (spelt g.names (mentions g.models))
@@ -87,10 +85,6 @@ spelt_named ns (y ∷ ys) (x ∷ xs) e =
     let others : spelt ns ys ≡ xs = spelt_named ns ys xs cc in
     cc
 
-chosen : {A : Type 0} (test : Bool) (o : Option A) (y : A) → cond test o None ≡ Some y → (test ≡ true) × (o ≡ Some y)
-chosen true o y e = (refl, e)
-chosen false o y e = cc
-
 -- names that were declared differ
 declared_then : (new : Bool) (types declared : List (List ℕ)) → cond new (Some types) None ≡ Some declared → (new ≡ true) × (types ≡ declared)
 declared_then new types declared e = cond_some new types declared e
@@ -123,7 +117,7 @@ read_is_text bytes g e =
     let declared = bound (declared_at (suc (length bytes)) [] bytes) _ g short.1 in
     let models = bound (models_at (suc (length bytes)) declared.value bytes) _ g declared.others in
     let limits = cond_some (nat_le (length declared.value) MOST_TYPES && nat_le (parts_in_models models.value.value) MOST_PARTS) (record { names = models.value.names; models = models.value.value }) g models.others in
-    let few = both (nat_le (length declared.value) MOST_TYPES) (nat_le (parts_in_models models.value.value) MOST_PARTS) limits.0 in
+    let few = and_parts (nat_le (length declared.value) MOST_TYPES) (nat_le (parts_in_models models.value.value) MOST_PARTS) limits.0 in
     subst (IsDtdText bytes) limits.1
     (read_text bytes declared.value models.value (within (length bytes) MOST_DTD short.0) (within (length declared.value) MOST_TYPES few.0) (within (parts_in_models models.value.value) MOST_PARTS few.1) declared.first
     (models_read (suc (length bytes)) declared.value bytes models.value models.first))

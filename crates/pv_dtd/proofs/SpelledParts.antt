@@ -1,9 +1,10 @@
 -- A content particle that is spelled is read, where what stands behind it can't go on with it.
-use Rattle.std.proofs.Common.{◌≡◌, ℕ, zero, suc, ◌≤◌, ◌<◌, List, [], ◌∷◌, ◌++◌, length, map, codes, ◌||◌, ◌==◌, Bool, true, false, Some, refl, sym, ap, ◌∙◌, append_assoc, length-append, eq-eqb, arith}
+use Rattle.std.proofs.Common.{◌≡◌, ℕ, zero, suc, ◌≤◌, ◌<◌, List, [], ◌∷◌, ◌++◌, length, map, codes, ◌||◌, ◌==◌, Bool, false, Some, refl, sym, ap, ◌∙◌, append_assoc, length-append, eq-eqb, arith}
 use Rattle.std.proofs.lemmas.List.{map-append}
 use Rattle.std.proofs.lemmas.Option.{get_or_from_slice_get}
 use Rattle.std.specs.List.{slice_get}
 use Rattle.std.specs.Prelude.{slice_index_or}
+use Rattle.std.proofs.lemmas.Bool.{or_parts}
 use Rattle.pv_chars.specs.Spaces.{is_space, IsOptionalSpace}
 use Rattle.pv_chars.specs.Names.{is_name_byte}
 use Rattle.pv_chars.specs.Scan.{after_space}
@@ -33,22 +34,18 @@ spelt ns ys = map (λ y. slice_index_or ns y []) ys
 abbrev pub AreApart : List (List ℕ) → Type 0
 AreApart ns = (y : ℕ) (x : List ℕ) → slice_get ns y ≡ Some x → place_of ns x ≡ Some y
 
-either_false : (x y : Bool) → (x || y) ≡ false → (x ≡ false) × (y ≡ false)
-either_false true y e = cc
-either_false false y e = (refl, e)
-
 -- what begins no particle's rest begins no name's rest
 name_ends : (rest : List ℕ) → begins goes_on rest ≡ false → begins is_name_byte rest ≡ false
 name_ends [] e = refl
-name_ends (b ∷ bs) e = (either_false (is_name_byte b) (b == 63) (either_false (is_name_byte b || (b == 63)) (b == 42) (either_false (is_name_byte b || (b == 63) || (b == 42)) (b == 43) e).0).0).0
+name_ends (b ∷ bs) e = (or_parts (is_name_byte b) (b == 63) (or_parts (is_name_byte b || (b == 63)) (b == 42) (or_parts (is_name_byte b || (b == 63) || (b == 42)) (b == 43) e).0).0).0
 
 unoperated : (p : PlainPart) (names : List (List ℕ)) (rest : List ℕ) → begins goes_on rest ≡ false → operated p names rest ≡ found p names rest
 unfolding operated
 unoperated p names [] e = refl
 unoperated p names (b ∷ bs) e =
-    let third = either_false (is_name_byte b || (b == 63) || (b == 42)) (b == 43) e in
-    let second = either_false (is_name_byte b || (b == 63)) (b == 42) third.0 in
-    let first = either_false (is_name_byte b) (b == 63) second.0 in
+    let third = or_parts (is_name_byte b || (b == 63) || (b == 42)) (b == 43) e in
+    let second = or_parts (is_name_byte b || (b == 63)) (b == 42) third.0 in
+    let first = or_parts (is_name_byte b) (b == 63) second.0 in
     rw (first.1, second.1, third.1) refl
 
 module _ (ns : List (List ℕ)) (apart : AreApart ns) where

@@ -8,6 +8,7 @@ use Rattle.std.proofs.lemmas.Slice.Eq.{bytes_eq-Decides}
 use Rattle.std.specs.List.{list_all, list_any, slice_get, range_with_len}
 use Rattle.std.specs.Prelude.{nat_eq, slice_index_or}
 use Rattle.std.specs.Str.{bytes_eq}
+use Rattle.std.proofs.lemmas.Bool.{or_right}
 use Rattle.pv_chars.specs.Names.{is_plain_name}
 use Rattle.pv_model.specs.declared.models.ContentModel.{ContentModel}
 use Rattle.pv_model.specs.Read.{plain_model}
@@ -64,10 +65,6 @@ module _ (bytes : List ℕ) (g : PlainDtd) (t : IsDtdText bytes g) where
 get_behind : (front names : List (List ℕ)) (i : ℕ) → slice_get (front ++ names) (length front + i) ≡ slice_get names i
 get_behind [] names i = ap (slice_get names) (omega arith)
 get_behind (n ∷ ns) names i = let next : length (n ∷ ns) + i ≡ suc (length ns + i) = omega arith in rw next (get_behind ns names i)
-
-or_right : (a b : Bool) → b ≡ true → (a || b) ≡ true
-or_right true b e = refl
-or_right false b e = e
 
 -- a name that is mentioned is so by its number
 number_by : (ns : List (List ℕ)) → AreApart ns → (x : List ℕ) (y z : ℕ) (n : List ℕ) (ys : List ℕ) (same : Bool) → slice_get ns y ≡ Some x → slice_get ns z ≡ Some n → bytes_eq x n ≡ same → (same || list_any (bytes_eq x) (spelt ns ys)) ≡ true → (list_any (bytes_eq x) (spelt ns ys) ≡ true → list_any (nat_eq y) ys ≡ true) → (nat_eq y z || list_any (nat_eq y) ys) ≡ true

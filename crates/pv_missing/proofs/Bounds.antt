@@ -20,6 +20,13 @@ worth-join f (named y ∷ u) w = omega (arith, worth-join f u w)
 worth-join f (text ∷ u) w = worth-join f u w
 worth-join f (other ∷ u) w = worth-join f u w
 
+-- where nothing has a weight a word has none
+pub no_worth : (u : List PlainToken) → worth (λ _. 0) u ≡ 0
+no_worth [] = refl
+no_worth (named y ∷ u) = omega (arith, no_worth u)
+no_worth (text ∷ u) = no_worth u
+no_worth (other ∷ u) = no_worth u
+
 -- what a missing element of each number may gain is at most 1
 abbrev pub Gains : PlainDtd → (ℕ → ℕ) → (ℕ → ℕ) → Type 0
 Gains g a b = (y : ℕ) (m : PlainModel) (v : List PlainToken) → model_of g y ≡ Some m → Allows (declared g) m v → a y + worth b v ≤ suc (b y + worth a v)

@@ -1,5 +1,5 @@
 -- One level: a cover of the word is an insertion at this level, and the other way round.
-use Rattle.std.proofs.Common.{List, None, Option, Some, [], ap, arith, refl, subst, suc, ℕ, ◌+◌, ◌∙◌, ◌∷◌, ◌≡◌}
+use Rattle.std.proofs.Common.{List, None, Option, Some, [], ap, arith, refl, subst, suc, sym, ℕ, ◌++◌, ◌+◌, ◌∙◌, ◌∷◌, ◌≡◌}
 use Rattle.pv_model.specs.Models.{Allows, PlainModel, PlainToken, empty, named, text}
 use Rattle.pv_dtd.specs.Plain.{PlainDtd, declared, model_of, number_of, spelling_of}
 use Rattle.pv_tree.specs.Hedge.{Fits, Hedge, Leaf, cdata, data_unit, done, elem, leaf, misc, token, white, word}
@@ -9,6 +9,11 @@ use Rattle.pv_missing.specs.Extending.{join}
 use Rattle.pv_missing.proofs.Grow.{Grows, CanKeep, grow_done, grow_kept, grow_leaf, grow_new}
 use Rattle.pv_missing.proofs.Hedges.{Cut, cut}
 use Rattle.pv_missing.proofs.Names.{spelled}
+
+-- a join without tokens has none on either side
+pub empty_join : (a b : List PlainToken) → [] ≡ a ++ b → (a ≡ []) × (b ≡ [])
+empty_join [] b e = (refl, sym e)
+empty_join (t ∷ a) b e = absurd cc
 
 -- a token is of a name only where the number is that name's
 pub token-name : (o : Option ℕ) (y : ℕ) → token o ≡ named y → o ≡ Some y

@@ -14,7 +14,7 @@ use Rattle.pv_missing.specs.Productive.{IsProductive, IsProductiveName}
 use Rattle.pv_missing.specs.RowDocuments.{mentioned_name, tag, unknown_name}
 use Rattle.pv_missing.specs.RowDtds.{any_dtd, any_endless_dtd, doubling, doubling_dtd, pair_dtd, twice}
 use Rattle.pv_missing.specs.Rows.{AnyRow, DoublingRow, LiveWords, NumbersRow, PairRow, UnknownRow}
-use Rattle.pv_missing.proofs.Bounds.{gained, opened, worth, zero_same}
+use Rattle.pv_missing.proofs.Bounds.{gained, no_worth, opened, worth, zero_same}
 use Rattle.pv_missing.proofs.DocLists.{live_misses_by}
 use Rattle.pv_missing.proofs.LeftOut.{possible_productive}
 use Rattle.pv_missing.proofs.OneList.{covered_by_productive}
@@ -156,12 +156,6 @@ size_of y = suc (size_below (20 - y))
 
 size_step : (y : ℕ) → y < 20 → size_of y ≡ suc (size_of (suc y) + size_of (suc y))
 size_step y lt = let e : 20 - y ≡ suc (20 - suc y) = omega arith in let f = ap size_below e in omega (arith, f)
-
-no_worth : (u : List PlainToken) → worth (λ _. 0) u ≡ 0
-no_worth [] = refl
-no_worth (named y ∷ u) = omega (arith, no_worth u)
-no_worth (text ∷ u) = no_worth u
-no_worth (other ∷ u) = no_worth u
 
 twice_gains : (y : ℕ) (m : PlainModel) (v : List PlainToken) → y < 20 → model_of doubling_dtd y ≡ Some m → Allows 21 m v → size_of y ≤ suc (worth size_of v)
 twice_gains y m v lt e ok = let f = next_model y lt in let i : m ≡ twice (suc y) = cc in

@@ -14,6 +14,7 @@ use Rattle.pv_missing.specs.RowDtds.{endless_dtd, nested_dtd}
 use Rattle.pv_missing.specs.Rows.{EndlessRow, NestedRow}
 use Rattle.pv_missing.proofs.Bounds.{gained, opened, worth}
 use Rattle.pv_missing.proofs.DocLists.{live_misses_by}
+use Rattle.pv_missing.proofs.Growing.{empty_join}
 use Rattle.pv_missing.proofs.OneList.{covered_by_productive}
 use Rattle.pv_missing.proofs.Proper.{proper_dtd}
 use Rattle.pv_missing.proofs.RowTools.{ListRow, alone_productive, impossible_at, needs, new_before, possible_row, possible_with, valid_row}
@@ -130,17 +131,13 @@ endless_gains zero m v e ok = let i : m ≡ children (seq (part (name 0) no_part
     let a : Allows 1 (children (seq (part (name 0) no_parts))) v = subst (λ k. Allows 1 k v) i ok in a.1 ∙ ap (map named) (a_words a.0 a.2)
 endless_gains (suc y) m v e ok = absurd cc
 
-join_none : (a b : List PlainToken) → [] ≡ a ++ b → a ≡ []
-join_none [] b e = refl
-join_none (t ∷ a) b e = absurd cc
-
 -- nothing is missing where there is nothing
 never_none : (n : ℕ) (u w : List PlainToken) → Covers endless_dtd n u w → w ≡ [] → u ≡ []
 never_none n u w (cover_none _ z) e = refl
 never_none n u w (cover_text _ u' w' c) e = absurd cc
 never_none n u w (cover_kept _ y u' w' p c) e = absurd cc
 never_none n u w (cover_new _ a b y m v u' w1 w2 _ f j is ok c d) e =
-    let i = never_none a v w1 c (join_none w1 w2 (sym e ∙ j)) in let k = endless_gains y m v is ok in absurd cc
+    let i = never_none a v w1 c (empty_join w1 w2 (sym e ∙ j)).0 in let k = endless_gains y m v is ok in absurd cc
 
 pub endless_word : (n : ℕ) → Covers endless_dtd n (named 0 ∷ []) [] → ⊥
 endless_word n c = let e = never_none n (named 0 ∷ []) [] c refl in cc

@@ -4,36 +4,24 @@ use Rattle.std.proofs.Common.{Bool, List, [], false, length, refl, true, ℕ, �
 use Rattle.std.specs.List.{AllByRecursion, list_all, list_any}
 use Rattle.std.specs.Str.{bytes_eq}
 use Rattle.std.proofs.lemmas.Slice.Eq.{bytes_eq-Decides}
+use Rattle.std.proofs.lemmas.Bool.{and_parts, not-true, or_parts}
 use Rattle.pv_chars.specs.Names.{is_plain_name}
 use Rattle.pv_model.specs.Models.{PlainModel, PlainPart, PlainParts, any, children, choice, empty, mixed, name, no_parts, opt, part, plus, seq, star}
 use Rattle.pv_dtd.specs.Facts.{MOST_NESTING, are_distinct, are_formed, are_names, has_operator, is_formed, is_formed_model, members, nesting}
 use Rattle.pv_dtd.specs.Plain.{PlainDtd, declared}
 use Rattle.pv_missing.specs.Dtds.{AreDistinct, AreFullParts, IsFull, IsFullModel, IsProperDtd}
 
-both : (a b : Bool) → (a && b) ≡ true → (a ≡ true) × (b ≡ true)
-both true true e = (refl, refl)
-both true false e = absurd cc
-both false b e = absurd cc
-
-neither : (a b : Bool) → (a || b) ≡ false → (a ≡ false) × (b ≡ false)
-neither true b e = absurd cc
-neither false b e = (refl, e)
-
-not_true : (a : Bool) → not a ≡ true → a ≡ false
-not_true true e = absurd cc
-not_true false e = refl
-
 unequal : (n m : List ℕ) → bytes_eq n m ≡ false → n ≢ m
 unequal n m e f = let g = (bytes_eq-Decides n m).1 f in absurd cc
 
 all_unequal : (n : List ℕ) (ns : List (List ℕ)) → list_any (bytes_eq n) ns ≡ false → AllByRecursion (λ m. n ≢ m) ns
 all_unequal n [] e = tt
-all_unequal n (m ∷ ns) e = let p = neither (bytes_eq n m) (list_any (bytes_eq n) ns) e in (unequal n m p.0, all_unequal n ns p.1)
+all_unequal n (m ∷ ns) e = let p = or_parts (bytes_eq n m) (list_any (bytes_eq n) ns) e in (unequal n m p.0, all_unequal n ns p.1)
 
 distinct : (ns : List (List ℕ)) → are_distinct ns ≡ true → AreDistinct ns
 distinct [] e = tt
-distinct (n ∷ ns) e = let p = both (not (list_any (bytes_eq n) ns)) (are_distinct ns) e in
-    (all_unequal n ns (not_true (list_any (bytes_eq n) ns) p.0), distinct ns p.1)
+distinct (n ∷ ns) e = let p = and_parts (not (list_any (bytes_eq n) ns)) (are_distinct ns) e in
+    (all_unequal n ns (not-true (list_any (bytes_eq n) ns) p.0), distinct ns p.1)
 
 some_members : (ps : PlainParts) → nat_le 1 (members ps) ≡ true → ps ≢ no_parts
 some_members no_parts e f = absurd cc
@@ -42,25 +30,25 @@ some_members (part p ps) e f = cc
 mutual
   full : (p : PlainPart) → is_formed p ≡ true → IsFull p
   full (name y) e = tt
-  full (seq ps) e = let q = both (nat_le 1 (members ps)) (are_formed ps) e in (some_members ps q.0, all_full ps q.1)
-  full (choice ps) e = all_full ps (both (nat_le 2 (members ps)) (are_formed ps) e).1
-  full (opt p) e = full p (both (not (has_operator p)) (is_formed p) e).1
-  full (star p) e = full p (both (not (has_operator p)) (is_formed p) e).1
-  full (plus p) e = full p (both (not (has_operator p)) (is_formed p) e).1
+  full (seq ps) e = let q = and_parts (nat_le 1 (members ps)) (are_formed ps) e in (some_members ps q.0, all_full ps q.1)
+  full (choice ps) e = all_full ps (and_parts (nat_le 2 (members ps)) (are_formed ps) e).1
+  full (opt p) e = full p (and_parts (not (has_operator p)) (is_formed p) e).1
+  full (star p) e = full p (and_parts (not (has_operator p)) (is_formed p) e).1
+  full (plus p) e = full p (and_parts (not (has_operator p)) (is_formed p) e).1
 
   all_full : (ps : PlainParts) → are_formed ps ≡ true → AreFullParts ps
   all_full no_parts e = tt
-  all_full (part p ps) e = let q = both (is_formed p) (are_formed ps) e in (full p q.0, all_full ps q.1)
+  all_full (part p ps) e = let q = and_parts (is_formed p) (are_formed ps) e in (full p q.0, all_full ps q.1)
 
 full_model : (m : PlainModel) → is_formed_model m ≡ true → IsFullModel m
 full_model empty e = tt
 full_model any e = tt
 full_model (mixed ys) e = tt
-full_model (children p) e = full p (both (is_formed p) (nat_le (nesting p) MOST_NESTING) e).0
+full_model (children p) e = full p (and_parts (is_formed p) (nat_le (nesting p) MOST_NESTING) e).0
 
 full_all : (ms : List PlainModel) → list_all is_formed_model ms ≡ true → AllByRecursion IsFullModel ms
 full_all [] e = tt
-full_all (m ∷ ms) e = let p = both (is_formed_model m) (list_all is_formed_model ms) e in (full_model m p.0, full_all ms p.1)
+full_all (m ∷ ms) e = let p = and_parts (is_formed_model m) (list_all is_formed_model ms) e in (full_model m p.0, full_all ms p.1)
 
 pub proper_dtd : (g : PlainDtd) → IsTrue (are_names g.names) → declared g ≤ length g.names → IsTrue (list_all is_formed_model g.models) → IsProperDtd g
-proper_dtd g a b c = record { distinct = distinct g.names (both (list_all is_plain_name g.names) (are_distinct g.names) a).1; named = b; full = full_all g.models c }
+proper_dtd g a b c = record { distinct = distinct g.names (and_parts (list_all is_plain_name g.names) (are_distinct g.names) a).1; named = b; full = full_all g.models c }

@@ -5,18 +5,14 @@ use Rattle.pv_model.specs.Models.{Allows, PlainModel, PlainToken, empty, mixed, 
 use Rattle.pv_dtd.specs.Plain.{model_of}
 use Rattle.pv_missing.specs.Covering.{Covers, IsPossibleRootWith, IsPossibleWith}
 use Rattle.pv_missing.specs.RowDtds.{doc_model, item_model, list_model, sec_model, sections_dtd}
-use Rattle.pv_missing.proofs.Bounds.{AreTexts, IsModelOf, IsTokenOf, NameCase, Opened, covered_of, gained, is_kept, is_new, mixed_texts, name_case, opened, texts_same, worth, zero_same}
-use Rattle.pv_missing.proofs.Growing.{covers-none}
+use Rattle.pv_missing.proofs.Bounds.{AreTexts, IsModelOf, IsTokenOf, NameCase, Opened, covered_of, gained, is_kept, is_new, mixed_texts, name_case, no_worth, opened, texts_same, worth, zero_same}
+use Rattle.pv_missing.proofs.Growing.{covers-none, empty_join}
 use Rattle.pv_missing.proofs.Sections.{IsParagraphOrList, SecWords, doc_words, no_title, sec_words, with_title}
 use Rattle.pv_missing.proofs.Spanned.{all_at}
 
 -- a word of named tokens has a first name where its names have
 first_named : (ws b : List ℕ) (y : ℕ) → ws ≡ y ∷ b → map named ws ≡ named y ∷ map named b
 first_named ws b y e = ap (map named) e
-
-join_none : (a b : List PlainToken) → [] ≡ a ++ b → (a ≡ []) × (b ≡ [])
-join_none [] b e = (refl, sym e)
-join_none (t ∷ a) b e = absurd cc
 
 -- a missing head holds texts alone, and so nothing of a word that begins with a name
 head_texts : (a : ℕ) (m : PlainModel) (v w1 : List PlainToken) → model_of sections_dtd 1 ≡ Some m → Allows 9 m v → Covers sections_dtd a v w1 → AreTexts w1
@@ -92,7 +88,7 @@ em_split : (n : ℕ) (ys : List ℕ) (k : ℕ) (a : ℕ) (m : PlainModel) (v w1 
     Allows 9 m v → Covers sections_dtd a v w1 → (w2 ≡ named 5 ∷ [] → 2 ≤ k) → 2 ≤ n
 em_split n ys k a m v [] w2 e j is ok c next = omega (arith, e, next (sym j))
 em_split n ys k a m v (t ∷ w1) w2 e j is ok c next =
-    let i : t ≡ named 5 = cc in let z = join_none w1 w2 cc in
+    let i : t ≡ named 5 = cc in let z = empty_join w1 w2 cc in
     let s = sec_some a m v (named 5 ∷ []) is ok (rw (i, z.0) at c) not_em in omega (arith, e, s)
 
 em_case : (n : ℕ) (ys : List ℕ) → NameCase sections_dtd n 2 (map named ys) (named 5 ∷ []) → ((j : ℕ) → Covers sections_dtd j (map named ys) (named 5 ∷ []) → 2 ≤ j) → 2 ≤ n
@@ -111,7 +107,7 @@ title_split : (n : ℕ) (ys : List ℕ) (k : ℕ) (a : ℕ) (m : PlainModel) (v 
 title_split n ys k a m v [] w2 e j is ok c all one = omega (arith, e, all (sym j))
 title_split n ys k a m v (s ∷ []) w2 e j is ok c all one = let i : w2 ≡ named 3 ∷ [] = cc in omega (arith, e, one i)
 title_split n ys k a m v (s ∷ t ∷ w1) w2 e j is ok c all one =
-    let i : s ≡ named 4 = cc in let h : t ≡ named 3 = cc in let z = join_none w1 w2 cc in
+    let i : s ≡ named 4 = cc in let h : t ≡ named 3 = cc in let z = empty_join w1 w2 cc in
     let l = sec_some a m v (named 4 ∷ named 3 ∷ []) is ok (rw (i, h, z.0) at c) not_late_title in omega (arith, e, l)
 
 title_case : (n : ℕ) (ys : List ℕ) → AllByRecursion (λ x. x ≡ 2) ys → NameCase sections_dtd n 2 (map named ys) (named 4 ∷ named 3 ∷ []) →
@@ -135,12 +131,6 @@ doc_two_bound n w z p = let o = opened sections_dtd 0 n doc_model w refl p in le
     let q = gained sections_dtd (λ _. 1) (λ _. 0) (λ y m v i a. one_gains v) n o.whole w o.covers in
     let r = ap (worth (λ _. 1)) e in omega (arith, q, r, z, no_worth w, no_worth o.whole)
   where
-    no_worth : (u : List PlainToken) → worth (λ _. 0) u ≡ 0
-    no_worth [] = refl
-    no_worth (named y ∷ u) = omega (arith, no_worth u)
-    no_worth (text ∷ u) = no_worth u
-    no_worth (other ∷ u) = no_worth u
-
     one_gains : (v : List PlainToken) → 1 + worth (λ _. 0) v ≤ suc (0 + worth (λ _. 1) v)
     one_gains v = omega (arith, no_worth v)
 
@@ -171,7 +161,7 @@ text_split : (n k a : ℕ) (m : PlainModel) (v w1 w2 : List PlainToken) → n �
     Allows 9 m v → Covers sections_dtd a v w1 → (w2 ≡ text ∷ [] → 2 ≤ k) → 2 ≤ n
 text_split n k a m v [] w2 e j is ok c next = omega (arith, e, next (sym j))
 text_split n k a m v (t ∷ w1) w2 e j is ok c next =
-    let i : t ≡ text = cc in let z = join_none w1 w2 cc in
+    let i : t ≡ text = cc in let z = empty_join w1 w2 cc in
     let s = sec_some a m v (text ∷ []) is ok (rw (i, z.0) at c) (λ ws s f. no_first_text [] ws f) in omega (arith, e, s)
 
 text_case : (n : ℕ) (ys : List ℕ) → NameCase sections_dtd n 2 (map named ys) (text ∷ []) → ((j : ℕ) → Covers sections_dtd j (map named ys) (text ∷ []) → 2 ≤ j) → 2 ≤ n
@@ -204,12 +194,6 @@ root_worth (suc (suc (suc y))) = 0
 doc_worth : (v : List PlainToken) → Allows 9 doc_model v → 2 ≤ worth root_worth v
 doc_worth v (ws, e, m) = let f = doc_words ws m in let i : v ≡ named 1 ∷ named 2 ∷ map named f.0 = e ∙ ap (map named) f.1 in
     let j = ap (worth root_worth) i in omega (arith, j)
-
-no_worth : (u : List PlainToken) → worth (λ _. 0) u ≡ 0
-no_worth [] = refl
-no_worth (named y ∷ u) = omega (arith, no_worth u)
-no_worth (text ∷ u) = no_worth u
-no_worth (other ∷ u) = no_worth u
 
 root_gains : (y : ℕ) (m : PlainModel) (v : List PlainToken) → model_of sections_dtd y ≡ Some m → Allows 9 m v → root_worth y ≤ suc (worth root_worth v)
 root_gains zero m v e ok = let i : m ≡ doc_model = cc in let l = doc_worth v (subst (λ k. Allows 9 k v) i ok) in omega (arith, l)

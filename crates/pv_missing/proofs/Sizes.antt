@@ -7,14 +7,10 @@ use Rattle.pv_missing.specs.Covering.{Covers, IsPossibleWith, cover_kept, cover_
 use Rattle.pv_missing.specs.Dtds.{IsProperDtd}
 use Rattle.pv_missing.specs.Productive.{IsLeastSize}
 use Rattle.pv_missing.specs.WordLaws.{IsLeastInNothing, ProductiveNames, SizeIsMissing}
-use Rattle.pv_missing.proofs.Growing.{allows-empty}
+use Rattle.pv_missing.proofs.Growing.{allows-empty, empty_join}
 use Rattle.pv_missing.proofs.LeftOut.{good_covers, names, names_texts}
 use Rattle.pv_missing.proofs.Names.{spelled}
 use Rattle.pv_missing.proofs.Texts.{allows_texts}
-
-empty_join : (a b : List PlainToken) → [] ≡ a ++ b → (a ≡ []) × (b ≡ [])
-empty_join [] b e = (refl, sym e)
-empty_join (t ∷ a) b e = absurd cc
 
 module _ (g : PlainDtd) where
   record Sized (n : ℕ) (u : List PlainToken) : Type 0 where

@@ -1,15 +1,16 @@
 -- What the marks after one more name say: the particle was entered and begins with the name, or the name goes on from an old mark.
 use Rattle.std.proofs.Common.{◌≡◌, ℕ, Bool, ◌&&◌, ◌||◌, ◌==◌, ◌⊎◌, inl, inr, ◌↔◌, List, [], ◌∷◌, ◌++◌, IsTrue, refl, ap, eqb-true, eq-eqb}
+use Rattle.std.proofs.lemmas.Bool.{and_from, and_parts}
 use Rattle.pv_model.specs.Models.{PlainPart, name, seq, choice, opt, star, plus, PlainParts, no_parts, part, Rounds, round, Matches, MatchesAll, MatchesSome}
 use Rattle.pv_model.specs.Marks.{may_be_empty}
-use Rattle.pv_model.proofs.Joins.{or-cases, or-left, or-right, and-both, both-and, joined-first, first_round}
+use Rattle.pv_model.proofs.Joins.{or-cases, or-left, or-right, joined-first, first_round}
 use Rattle.pv_model.proofs.Reached.{Marked, AllMarked, Continues, ContinuesInOrder, ContinuesSome, ends, after, after_in_order, after_in_each}
 use Rattle.pv_model.proofs.Ends.{may_be_empty-means, ends-means}
 
 mutual
   after_from : (p : PlainPart) (e : Bool) (y : ℕ) (m : Marked p) (w : List ℕ) → Continues p (after p e y m) w → (IsTrue e × Matches p (y ∷ w)) ⊎ Continues p m (y ∷ w)
   after_from (name x) e y m w c =
-      let both = and-both e (x == y) c.0 in
+      let both = and_parts e (x == y) c.0 in
       let same : x ≡ y = eqb-true x y both.1 in
       let none : w ≡ [] = c.1 in
       inl (both.0, cc)
@@ -48,7 +49,7 @@ mutual
     | inr rest ↦ elim (after_in_order_from ps (ends p m.0 || e && may_be_empty p) y m.1 w rest) [
       | inl both ↦ elim (or-cases (ends p m.0) (e && may_be_empty p) both.0) [
         | inl n ↦ inr (inl ([], y ∷ w, refl, (ends-means p m.0).0 n, both.1))
-        | inr b ↦ let r = and-both e (may_be_empty p) b in inl (r.0, ([], y ∷ w, refl, (may_be_empty-means p).0 r.1, both.1))
+        | inr b ↦ let r = and_parts e (may_be_empty p) b in inl (r.0, ([], y ∷ w, refl, (may_be_empty-means p).0 r.1, both.1))
       ]
       | inr k ↦ inr (inr k)
     ]
@@ -77,7 +78,7 @@ mutual
         let is : y ∷ w ≡ x ∷ [] = both.1 in
         let same : x ≡ y = cc in
         let none : w ≡ [] = cc in
-        (both-and e (x == y) both.0 (eq-eqb x y same), none)
+        (and_from e (x == y) both.0 (eq-eqb x y same), none)
     | inr k ↦ let none : y ∷ w ≡ [] = k.1 in absurd cc
   ]
   after_to (seq ps) e y m w c = after_in_order_to ps e y m w c
@@ -110,7 +111,7 @@ mutual
   after_in_order_to (part p ps) e y m w c = elim c [
     | inl both ↦ elim (joined-first (Matches p) (MatchesAll ps) both.1.0 both.1.1 y w both.1.2 both.1.3 both.1.4) [
       | inl split ↦ inr (after_in_order_to ps (ends p m.0 || e && may_be_empty p) y m.1 w
-          (inl (or-right (ends p m.0) (e && may_be_empty p) (both-and e (may_be_empty p) both.0 ((may_be_empty-means p).1 split.0)), split.1)))
+          (inl (or-right (ends p m.0) (e && may_be_empty p) (and_from e (may_be_empty p) both.0 ((may_be_empty-means p).1 split.0)), split.1)))
       | inr more ↦ inl (more.0, both.1.1, more.1, after_to p e y m.0 more.0 (inl (both.0, more.2)), both.1.4)
     ]
     | inr k ↦ elim k [

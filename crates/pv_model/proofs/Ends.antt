@@ -1,8 +1,9 @@
 -- The empty word of a particle, and the words that can end it.
 use Rattle.std.proofs.Common.{Bool, true, false, ◌&&◌, ◌||◌, ◌⊎◌, inl, inr, ◌↔◌, [], IsTrue, refl}
+use Rattle.std.proofs.lemmas.Bool.{and_from, and_parts}
 use Rattle.pv_model.specs.Models.{PlainPart, name, seq, choice, opt, star, plus, PlainParts, no_parts, part, Rounds, no_round, Matches, MatchesAll, MatchesSome}
 use Rattle.pv_model.specs.Marks.{may_be_empty, all_may_be_empty, some_may_be_empty}
-use Rattle.pv_model.proofs.Joins.{or-cases, or-left, or-right, and-both, both-and, joined-none}
+use Rattle.pv_model.proofs.Joins.{or-cases, or-left, or-right, joined-none}
 use Rattle.pv_model.proofs.Reached.{Marked, AllMarked, Continues, ContinuesInOrder, ContinuesSome, ends, ends_in_order, ends_some}
 
 mutual
@@ -18,7 +19,7 @@ mutual
   all_match_empty no_parts before h = (h, refl)
   all_match_empty (part p ps) before h =
       let rest = all_match_empty ps (before && may_be_empty p) h in
-      let both = and-both before (may_be_empty p) rest.0 in
+      let both = and_parts before (may_be_empty p) rest.0 in
       (both.0, ([], [], refl, matches_empty p both.1, rest.1))
 
   some_matches_empty : (ps : PlainParts) (before : Bool) → IsTrue (some_may_be_empty before ps) → IsTrue before ⊎ MatchesSome ps []
@@ -42,7 +43,7 @@ mutual
   empty_matched_all no_parts before b m = b
   empty_matched_all (part p ps) before b m =
       let parts = joined-none (Matches p) (MatchesAll ps) m.0 m.1 m.2 m.3 m.4 in
-      empty_matched_all ps (before && may_be_empty p) (both-and before (may_be_empty p) b (empty_matched p parts.0)) parts.1
+      empty_matched_all ps (before && may_be_empty p) (and_from before (may_be_empty p) b (empty_matched p parts.0)) parts.1
 
   empty_matched_some : (ps : PlainParts) (before : Bool) → IsTrue before ⊎ MatchesSome ps [] → IsTrue (some_may_be_empty before ps)
   empty_matched_some no_parts before m = elim m [ inl b ↦ b | inr n ↦ absurd n ]
@@ -70,7 +71,7 @@ mutual
       elim (ends_continues_in_order ps (ends p m.0 || before && may_be_empty p) m.1 h) [
         | inl both ↦ elim (or-cases (ends p m.0) (before && may_be_empty p) both.0) [
           | inl e ↦ inr (inl ([], [], refl, ends_continues p m.0 e, both.1))
-          | inr b ↦ let r = and-both before (may_be_empty p) b in inl (r.0, ([], [], refl, matches_empty p r.1, both.1))
+          | inr b ↦ let r = and_parts before (may_be_empty p) b in inl (r.0, ([], [], refl, matches_empty p r.1, both.1))
         ]
         | inr c ↦ inr (inr c)
       ]
@@ -98,7 +99,7 @@ mutual
       continued_ends_in_order ps (ends p m.0 || before && may_be_empty p) m.1 (elim c [
         | inl b ↦
             let parts = joined-none (Matches p) (MatchesAll ps) b.1.0 b.1.1 b.1.2 b.1.3 b.1.4 in
-            inl (or-right (ends p m.0) (before && may_be_empty p) (both-and before (may_be_empty p) b.0 (empty_matched p parts.0)), parts.1)
+            inl (or-right (ends p m.0) (before && may_be_empty p) (and_from before (may_be_empty p) b.0 (empty_matched p parts.0)), parts.1)
         | inr n ↦ elim n [
           | inl one ↦
               let parts = joined-none (Continues p m.0) (MatchesAll ps) one.0 one.1 one.2 one.3 one.4 in

@@ -1,5 +1,5 @@
 -- How the first name of a joined word falls to one of its two parts.
-use Rattle.std.proofs.Common.{◌≡◌, ℕ, Bool, true, false, ◌&&◌, ◌||◌, ◌⊎◌, inl, inr, List, [], ◌∷◌, ◌++◌, IsTrue, sym, ◌∙◌, refl, subst}
+use Rattle.std.proofs.Common.{◌≡◌, ℕ, Bool, true, false, ◌||◌, ◌⊎◌, inl, inr, List, [], ◌∷◌, ◌++◌, IsTrue, sym, ◌∙◌, refl, subst}
 use Rattle.pv_model.specs.Models.{Rounds, no_round, round}
 
 pub or-cases : (a b : Bool) → IsTrue (a || b) → IsTrue a ⊎ IsTrue b
@@ -13,14 +13,6 @@ or-left false b h = absurd cc
 pub or-right : (a b : Bool) → IsTrue b → IsTrue (a || b)
 or-right true b h = refl
 or-right false b h = h
-
-pub and-both : (a b : Bool) → IsTrue (a && b) → IsTrue a × IsTrue b
-and-both true b h = (refl, h)
-and-both false b h = absurd cc
-
-pub both-and : (a b : Bool) → IsTrue a → IsTrue b → IsTrue (a && b)
-both-and true b h k = k
-both-and false b h k = absurd cc
 
 -- the empty word is joined of empty words
 pub joined-none : (A B : List ℕ → Type 0) (u v : List ℕ) → [] ≡ u ++ v → A u → B v → A [] × B []

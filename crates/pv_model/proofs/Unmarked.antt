@@ -1,15 +1,12 @@
 -- Before its first name a particle has no mark, and nothing continues.
-use Rattle.std.proofs.Common.{◌≡◌, ℕ, Bool, true, false, ◌||◌, inl, inr, List, [], refl, sym, ◌∙◌}
+use Rattle.std.proofs.Common.{◌≡◌, ℕ, Bool, true, false, inl, inr, List, [], refl, sym, ◌∙◌}
+use Rattle.std.proofs.lemmas.Bool.{or_parts}
 use Rattle.pv_model.specs.Models.{PlainPart, name, seq, choice, opt, star, plus, PlainParts, no_parts, part}
 use Rattle.pv_model.specs.Marks.{no_marks, no_marks_all, any_mark}
 use Rattle.pv_model.proofs.Reached.{Marked, AllMarked, Continues, ContinuesInOrder, ContinuesSome, ends, unmarked, all_unmarked}
 use Rattle.pv_model.proofs.Ends.{ends-means}
 use Rattle.pv_model.proofs.Progress.{any_mark-append}
 use Rattle.pv_model.proofs.Listed.{list_of, list_of_all}
-
-neither : (a b : Bool) → (a || b) ≡ false → (a ≡ false) × (b ≡ false)
-neither true b e = absurd cc
-neither false b e = (refl, e)
 
 mutual
   pub nothing_continues : (p : PlainPart) (w : List ℕ) → Continues p (unmarked p) w → ⊥
@@ -52,17 +49,17 @@ mutual
   no_mark_continues (seq ps) m w n c = no_mark_in_order ps m w n c
   no_mark_continues (choice ps) m w n c = no_mark_of_some ps m w n c
   no_mark_continues (opt p) m w n c = no_mark_continues p m w n c
-  no_mark_continues (star p) m w n c = no_mark_continues p m c.0 (neither (any_mark (list_of p m)) (ends p m) n).0 c.3
-  no_mark_continues (plus p) m w n c = no_mark_continues p m c.0 (neither (any_mark (list_of p m)) (ends p m) n).0 c.3
+  no_mark_continues (star p) m w n c = no_mark_continues p m c.0 (or_parts (any_mark (list_of p m)) (ends p m) n).0 c.3
+  no_mark_continues (plus p) m w n c = no_mark_continues p m c.0 (or_parts (any_mark (list_of p m)) (ends p m) n).0 c.3
 
   no_mark_in_order : (ps : PlainParts) (m : AllMarked ps) (w : List ℕ) → any_mark (list_of_all ps m) ≡ false → ContinuesInOrder ps m w → ⊥
   no_mark_in_order no_parts m w n c = c
   no_mark_in_order (part p ps) m w n c =
-      let both = neither (any_mark (list_of_all ps m.1)) (any_mark (list_of p m.0)) (sym (any_mark-append (list_of p m.0) (list_of_all ps m.1)) ∙ n) in
+      let both = or_parts (any_mark (list_of_all ps m.1)) (any_mark (list_of p m.0)) (sym (any_mark-append (list_of p m.0) (list_of_all ps m.1)) ∙ n) in
       elim c [ inl one ↦ no_mark_continues p m.0 one.0 both.1 one.3 | inr rest ↦ no_mark_in_order ps m.1 w both.0 rest ]
 
   no_mark_of_some : (ps : PlainParts) (m : AllMarked ps) (w : List ℕ) → any_mark (list_of_all ps m) ≡ false → ContinuesSome ps m w → ⊥
   no_mark_of_some no_parts m w n c = c
   no_mark_of_some (part p ps) m w n c =
-      let both = neither (any_mark (list_of_all ps m.1)) (any_mark (list_of p m.0)) (sym (any_mark-append (list_of p m.0) (list_of_all ps m.1)) ∙ n) in
+      let both = or_parts (any_mark (list_of_all ps m.1)) (any_mark (list_of p m.0)) (sym (any_mark-append (list_of p m.0) (list_of_all ps m.1)) ∙ n) in
       elim c [ inl one ↦ no_mark_continues p m.0 w both.1 one | inr rest ↦ no_mark_of_some ps m.1 w both.0 rest ]

@@ -1,13 +1,13 @@
 -- What each document that is spelled keeps.
-use Rattle.std.proofs.Common.{◌≡◌, ◌≤◌, ◌+◌, ◌*◌, ℕ, List, [], ◌∷◌, ◌++◌, Bool, true, false, not, ◌&&◌, ◌||◌, cond, IsTrue, codes, length, length-append, append-nil, refl, sym, subst, arith}
+use Rattle.std.proofs.Common.{◌≡◌, ◌≤◌, ◌+◌, ◌*◌, ℕ, List, [], ◌∷◌, ◌++◌, Bool, true, false, not, ◌&&◌, cond, IsTrue, codes, length, length-append, append-nil, refl, sym, subst, arith}
 use Rattle.std.specs.List.{list_all}
+use Rattle.std.proofs.lemmas.Bool.{and_parts, not-true, or_parts}
 use Rattle.pv_chars.specs.Names.{IsPlainName}
 use Rattle.pv_chars.specs.Texts.{units_of, is_text_char, IsPlainText, holds_close_mark, begins_close_mark}
 use Rattle.pv_tree.specs.Plain.{short, tagged, Tree, element, text_node, cdata_node, misc_node, Forest, no_trees, tree, nodes_in, nodes_in_all, is_element}
 use Rattle.pv_tree.specs.Legal.{is_formed, are_formed, is_plain_unit, are_plain_units, is_legal, are_legal, is_open, front_units, is_markless, are_markless, starts_markless}
 use Rattle.pv_read.specs.Grammar.{SpellsNode, SpellsContent, IsElement, IsWholeRun, begins_with_text}
-use Rattle.pv_read.proofs.Steps.{both}
-use Rattle.pv_read.proofs.TextLemmas.{text_chars, no_close_mark, not_true}
+use Rattle.pv_read.proofs.TextLemmas.{text_chars, no_close_mark}
 
 pub element_is : {M : Type 0} (t : Tree M) → IsElement t → IsTrue (is_element t)
 element_is (element x attrs ending kids mark) is = refl
@@ -32,7 +32,7 @@ plain_unit b e = e
 
 all_plain_units : (bytes : List ℕ) → list_all is_text_char bytes ≡ true → list_all is_plain_unit (units_of bytes) ≡ true
 all_plain_units [] all = refl
-all_plain_units (b ∷ bs) all = let here = both (is_text_char b) (list_all is_text_char bs) all in rw here.0 (all_plain_units bs here.1)
+all_plain_units (b ∷ bs) all = let here = and_parts (is_text_char b) (list_all is_text_char bs) all in rw here.0 (all_plain_units bs here.1)
 
 text_legal : (bytes : List ℕ) → IsPlainText bytes → are_plain_units (units_of bytes) ≡ true
 text_legal [] plain = cc
@@ -58,14 +58,10 @@ no_front (tree (text_node units) kids) none = cc
 no_front (tree (cdata_node held) kids) none = refl
 no_front (tree (misc_node held) kids) none = refl
 
-neither : (x y : Bool) → (x || y) ≡ false → (x ≡ false) × (y ≡ false)
-neither true y e = cc
-neither false y e = (refl, e)
-
 open_units : (units : List (List ℕ)) → holds_close_mark units ≡ false → is_open units [] ≡ true
 open_units [] none = refl
 open_units (unit ∷ units) none =
-    let parts = neither (begins_close_mark (unit ∷ units)) (holds_close_mark units) none in
+    let parts = or_parts (begins_close_mark (unit ∷ units)) (holds_close_mark units) none in
     let P : List (List ℕ) → Type 0 = λ after. (not (begins_close_mark (unit ∷ after)) && is_open units []) ≡ true in
     subst P (sym (append-nil units)) (rw parts.0 (open_units units parts.1))
 
@@ -107,7 +103,7 @@ few_with_first (element x attrs ending nodes mark) kids first more spells whole_
     rw length-append (omega arith)
 few_with_first (text_node units) kids first more (plain, is_units) whole_run few few_others =
     let some = text_some first plain in
-    let none : slack kids ≡ 0 = rw (not_true (begins_with_text kids) whole_run) refl in
+    let none : slack kids ≡ 0 = rw (not-true (begins_with_text kids) whole_run) refl in
     rw length-append (omega arith)
 few_with_first (cdata_node held) kids first more spells whole_run few few_others = absurd spells
 few_with_first (misc_node held) kids first more spells whole_run few few_others = absurd spells

@@ -3,11 +3,12 @@ use Rattle.std.proofs.Common.{◌≡◌, ℕ, ◌+◌, List, [], ◌∷◌, ◌+
 use Rattle.std.proofs.Math.Seq.{take-append_seam, drop-append_seam}
 use Rattle.std.specs.List.{list_all}
 use Rattle.std.proofs.lemmas.Bool.Decides.{Decides-eqb, nat_tests}
+use Rattle.std.proofs.lemmas.Bool.{and_parts}
 use Rattle.pv_chars.specs.Spaces.{is_space, IsOptionalSpace}
 use Rattle.pv_chars.specs.Names.{is_name_byte, IsPlainName}
 use Rattle.pv_chars.specs.Scan.{space_length, after_bytes}
 use Rattle.pv_chars.proofs.Scanning.{begins, name_at_takes, name_at-append, after_bytes_takes, after_bytes-append}
-use Rattle.pv_read.proofs.Steps.{both, some_pair, bound}
+use Rattle.pv_read.proofs.Steps.{some_pair, bound}
 use Rattle.pv_read.specs.Reading.{PlainTag, tag_end, space_at, closed_tag, named_tag, start_tag_at, closed_end_tag, named_end_tag, end_tag_at}
 
 -- White space stands in front of the rest, and all of it.
@@ -28,7 +29,7 @@ space_at_cuts (b ∷ bs) = cut_step b bs (is_space b) refl (space_at_cuts bs)
 space_length-append : (space rest : List ℕ) → IsOptionalSpace space → begins is_space rest ≡ false → space_length (space ++ rest) ≡ length space
 space_length-append [] [] s e = refl
 space_length-append [] (b ∷ bs) s e = rw e refl
-space_length-append (b ∷ bs) rest s e = let white = both (is_space b) (list_all is_space bs) s in rw (white.0, space_length-append bs rest white.1 e, add-one) refl
+space_length-append (b ∷ bs) rest s e = let white = and_parts (is_space b) (list_all is_space bs) s in rw (white.0, space_length-append bs rest white.1 e, add-one) refl
 
 pub space_at-append : (space rest : List ℕ) → IsOptionalSpace space → begins is_space rest ≡ false → space_at (space ++ rest) ≡ (space, rest)
 space_at-append space rest s e = rw (space_length-append space rest s e, take-append_seam space rest, drop-append_seam space rest) refl
@@ -112,7 +113,7 @@ space_is_no_name b e = grind (arith, nat_tests)
 
 no_name_follows : (space rest : List ℕ) → IsOptionalSpace space → begins is_name_byte rest ≡ false → begins is_name_byte (space ++ rest) ≡ false
 no_name_follows [] rest space none = none
-no_name_follows (b ∷ bs) rest space none = space_is_no_name b (both (is_space b) (list_all is_space bs) space).0
+no_name_follows (b ∷ bs) rest space none = space_is_no_name b (and_parts (is_space b) (list_all is_space bs) space).0
 
 pub start_tag_at-append : (tag : PlainTag) (rest : List ℕ) → IsPlainName tag.name → IsOptionalSpace tag.attrs → start_tag_at (codes "<" ++ (tag.name ++ (tag.attrs ++ (closing tag.is_short ++ rest)))) ≡ Some (tag, rest)
 unfolding start_tag_at

@@ -6,11 +6,12 @@ use Rattle.std.specs.List.{list_all}
 use Rattle.std.specs.Option.{unwrap_or}
 use Rattle.std.proofs.lemmas.Bool.Decides.{nat_tests}
 use Rattle.std.proofs.lemmas.Grind.{common_steps}
+use Rattle.std.proofs.lemmas.Bool.{and_parts, not-true}
 use Rattle.memchr.specs.Find.{is_byte, Passes, Nowhere, IsFirstByte}
 use Rattle.pv_chars.specs.Scan.{split}
 use Rattle.pv_chars.specs.Texts.{units_of, begins_close_mark, holds_close_mark, is_text_char, is_not_empty, is_plain_text, IsPlainText}
 use Rattle.pv_read.specs.Reading.{text_length, text_at, begins_end_tag}
-use Rattle.pv_read.proofs.Steps.{both, some_pair}
+use Rattle.pv_read.proofs.Steps.{some_pair}
 
 pub begins_close_mark-few : (bytes : List ℕ) → length bytes < 3 → begins_close_mark (units_of bytes) ≡ false
 begins_close_mark-few [] few = refl
@@ -70,19 +71,15 @@ text_char_no_tag b e = grind (arith, nat_tests)
 
 text_length-append : (text rest : List ℕ) → list_all is_text_char text ≡ true → text_length rest ≡ 0 → text_length (text ++ rest) ≡ length text
 text_length-append [] rest all ends = ends
-text_length-append (b ∷ bs) rest all ends = let here = both (is_text_char b) (list_all is_text_char bs) all in rw (text_char_no_tag b here.0, text_length-append bs rest here.1 ends, add-one) refl
+text_length-append (b ∷ bs) rest all ends = let here = and_parts (is_text_char b) (list_all is_text_char bs) all in rw (text_char_no_tag b here.0, text_length-append bs rest here.1 ends, add-one) refl
 
 pub text_chars : (text : List ℕ) → IsPlainText text → list_all is_text_char text ≡ true
 text_chars text plain =
-    let parts = both (is_not_empty text && list_all is_text_char text) (not (holds_close_mark (units_of text))) plain in
-    (both (is_not_empty text) (list_all is_text_char text) parts.0).1
-
-pub not_true : (b : Bool) → not b ≡ true → b ≡ false
-not_true true e = cc
-not_true false e = refl
+    let parts = and_parts (is_not_empty text && list_all is_text_char text) (not (holds_close_mark (units_of text))) plain in
+    (and_parts (is_not_empty text) (list_all is_text_char text) parts.0).1
 
 pub no_close_mark : (text : List ℕ) → IsPlainText text → holds_close_mark (units_of text) ≡ false
-no_close_mark text plain = not_true (holds_close_mark (units_of text)) (both (is_not_empty text && list_all is_text_char text) (not (holds_close_mark (units_of text))) plain).1
+no_close_mark text plain = not-true (holds_close_mark (units_of text)) (and_parts (is_not_empty text && list_all is_text_char text) (not (holds_close_mark (units_of text))) plain).1
 
 pub text_at-append : (text rest : List ℕ) → IsPlainText text → text_length rest ≡ 0 → text_at (text ++ rest) ≡ Some (text, rest)
 unfolding text_at
@@ -92,5 +89,5 @@ text_at-append text rest plain ends =
 pub begins_end_tag-text : (text rest : List ℕ) → IsPlainText text → begins_end_tag (text ++ rest) ≡ false
 begins_end_tag-text [] rest plain = cc
 begins_end_tag-text (b ∷ []) [] plain = refl
-begins_end_tag-text (b ∷ []) (c ∷ cs) plain = rw (text_char_no_tag b (both (is_text_char b) true (text_chars (b ∷ []) plain)).0) refl
-begins_end_tag-text (b ∷ c ∷ bs) rest plain = rw (text_char_no_tag b (both (is_text_char b) (list_all is_text_char (c ∷ bs)) (text_chars (b ∷ c ∷ bs) plain)).0) refl
+begins_end_tag-text (b ∷ []) (c ∷ cs) plain = rw (text_char_no_tag b (and_parts (is_text_char b) true (text_chars (b ∷ []) plain)).0) refl
+begins_end_tag-text (b ∷ c ∷ bs) rest plain = rw (text_char_no_tag b (and_parts (is_text_char b) (list_all is_text_char (c ∷ bs)) (text_chars (b ∷ c ∷ bs) plain)).0) refl

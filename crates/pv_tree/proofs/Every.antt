@@ -1,15 +1,6 @@
--- What holds of each element of joined lists, and of both of two tests.
-use Rattle.std.proofs.Common.{List, [], ◌∷◌, ◌++◌, Bool, true, false, ◌&&◌, IsTrue, refl}
+-- What holds of each element of joined lists.
+use Rattle.std.proofs.Common.{List, [], ◌∷◌, ◌++◌}
 use Rattle.std.specs.List.{AllByRecursion}
-
-pub both : (a b : Bool) → IsTrue (a && b) → IsTrue a × IsTrue b
-both true true h = (refl, refl)
-both true false h = cc
-both false b h = cc
-
-pub both_to : (a b : Bool) → IsTrue a → IsTrue b → IsTrue (a && b)
-both_to true b h k = k
-both_to false b h k = cc
 
 pub all_left : {A : Type 0} (P : A → Type 0) (xs ys : List A) → AllByRecursion P (xs ++ ys) → AllByRecursion P xs
 all_left P [] ys h = tt

@@ -1,6 +1,7 @@
 -- A document is valid exactly where each of its lists is valid by itself.
 use Rattle.std.proofs.Common.{◌≡◌, ◌↔◌, ℕ, suc, List, [], ◌∷◌, ◌++◌, ◌&&◌, IsTrue, Some, refl, ap}
 use Rattle.std.specs.List.{AllByRecursion, list_all}
+use Rattle.std.proofs.lemmas.Bool.{and_from, and_parts}
 use Rattle.pv_chars.specs.Spaces.{is_space}
 use Rattle.pv_chars.specs.Names.{is_plain_name}
 use Rattle.pv_dtd.specs.Plain.{PlainDtd, number_of, declared}
@@ -11,7 +12,7 @@ use Rattle.pv_tree.specs.Lists.{IsOwnValid, IsValidList, IsRootElement, lists_at
 use Rattle.pv_tree.specs.Texts.{has_unit, has_no_empty_text, have_no_empty_text}
 use Rattle.pv_tree.specs.View.{spread, view_before, view_all, view}
 use Rattle.pv_tree.specs.Words.{word_of}
-use Rattle.pv_tree.proofs.Every.{both, both_to, all_left, all_right, all_joined}
+use Rattle.pv_tree.proofs.Every.{all_left, all_right, all_joined}
 use Rattle.pv_tree.proofs.Alike.{alike_back, allows_alike}
 use Rattle.pv_tree.proofs.Spread.{word_alike}
 
@@ -80,7 +81,7 @@ mutual
   good_all_lists : {M : Type 0} (g : PlainDtd) (root path : List ℕ) (i : ℕ) (kids : Forest M) → IsTrue (have_no_empty_text kids) → AreGood g (view_all kids) → AllByRecursion (IsValidList g root) (lists_from path i kids)
   good_all_lists g root path i no_trees p r = tt
   good_all_lists g root path i (tree t rest) p r =
-      let q = both (has_no_empty_text t) (have_no_empty_text rest) p in
+      let q = and_parts (has_no_empty_text t) (have_no_empty_text rest) p in
       all_joined _ (lists_at (path ++ i ∷ []) t) (lists_from path (suc i) rest) (good_lists g root (path ++ i ∷ []) t (view_all rest) q.0 r)
       (good_all_lists g root path (suc i) rest q.1 (rest_good g t (view_all rest) r))
 
@@ -115,7 +116,7 @@ plain_has_unit (unit ∷ units) h = refl
 -- no text of a legal tree is empty
 mutual
   pub legal_texts : {M : Type 0} (t : Tree M) → IsTrue (is_legal t) → IsTrue (has_no_empty_text t)
-  legal_texts (element x attrs ending kids mark) h = legal_all_texts kids (both (is_plain_name x && list_all is_space attrs && is_legal_ending ending) (are_legal kids) h).1
+  legal_texts (element x attrs ending kids mark) h = legal_all_texts kids (and_parts (is_plain_name x && list_all is_space attrs && is_legal_ending ending) (are_legal kids) h).1
   legal_texts (text_node units) h = plain_has_unit units h
   legal_texts (cdata_node bytes) h = refl
   legal_texts (misc_node bytes) h = refl
@@ -123,5 +124,5 @@ mutual
   legal_all_texts : {M : Type 0} (kids : Forest M) → IsTrue (are_legal kids) → IsTrue (have_no_empty_text kids)
   legal_all_texts no_trees h = refl
   legal_all_texts (tree t rest) h =
-      let q = both (is_legal t) (are_legal rest) h in
-      both_to (has_no_empty_text t) (have_no_empty_text rest) (legal_texts t q.0) (legal_all_texts rest q.1)
+      let q = and_parts (is_legal t) (are_legal rest) h in
+      and_from (has_no_empty_text t) (have_no_empty_text rest) (legal_texts t q.0) (legal_all_texts rest q.1)

@@ -1,6 +1,7 @@
 -- Every document is written as a text with the same view.
 use Rattle.std.proofs.Common.{◌≡◌, ℕ, List, ◌++◌, Bool, true, ◌&&◌, IsTrue, refl, sym, ap, ◌∙◌, append_assoc, append-nil}
 use Rattle.std.specs.List.{list_all}
+use Rattle.std.proofs.lemmas.Bool.{and_parts}
 use Rattle.pv_chars.specs.Spaces.{is_space, IsOptionalSpace}
 use Rattle.pv_chars.specs.Names.{is_plain_name}
 use Rattle.pv_chars.specs.Texts.{joined}
@@ -8,7 +9,6 @@ use Rattle.pv_tree.specs.Plain.{short, tagged, Tree, element, text_node, cdata_n
 use Rattle.pv_tree.specs.Legal.{fits_kids, is_formed, are_formed, are_plain_units, is_legal, are_legal, front_units, is_open, is_markless, are_markless, starts_markless}
 use Rattle.pv_tree.specs.Hedge.{done}
 use Rattle.pv_read.specs.Grammar.{SpellsNode, SpellsContent, IsElement}
-use Rattle.pv_read.proofs.Steps.{both}
 use Rattle.pv_read.proofs.TextLemmas.{text_chars, no_close_mark}
 use Rattle.pv_read.proofs.Facts.{no_front}
 use Rattle.pv_write.specs.Text.{tree_text, forest_text, doc_text}
@@ -52,15 +52,15 @@ record LegalParts {M : Type 0} (x attrs : List ℕ) (gap_legal : Bool) (kids : F
 
 legal_parts : {M : Type 0} (x attrs : List ℕ) (gap_legal : Bool) (kids : Forest M) → (is_plain_name x && list_all is_space attrs && gap_legal && are_legal kids) ≡ true → LegalParts x attrs gap_legal kids
 legal_parts x attrs gap_legal kids legal =
-    let outer = both (is_plain_name x && list_all is_space attrs && gap_legal) (are_legal kids) legal in
-    let ends = both (is_plain_name x && list_all is_space attrs) gap_legal outer.0 in
-    let names = both (is_plain_name x) (list_all is_space attrs) ends.0 in
+    let outer = and_parts (is_plain_name x && list_all is_space attrs && gap_legal) (are_legal kids) legal in
+    let ends = and_parts (is_plain_name x && list_all is_space attrs) gap_legal outer.0 in
+    let names = and_parts (is_plain_name x) (list_all is_space attrs) ends.0 in
     record { name = names.0; space = names.1; ending = ends.1; inside = outer.1 }
 
 mutual
   pub element_spelled : {M : Type 0} (t : Tree M) → IsTrue (is_formed t) → IsTrue (is_legal t) → IsTrue (is_markless t) → IsElement t → SpellsNode (merged t) (tree_text t)
   element_spelled (element x attrs short kids mark) formed legal markless is =
-      let fits = both (fits_kids short kids) (are_formed kids) formed in
+      let fits = and_parts (fits_kids short kids) (are_formed kids) formed in
       let parts = legal_parts x attrs true kids legal in
       (parts.name, parts.space, rw (no_kids kids fits.0) refl, refl)
   element_spelled (element x attrs (tagged gap) kids mark) formed legal markless is =
@@ -73,10 +73,10 @@ mutual
   content_spelled : {M : Type 0} (kids : Forest M) → IsTrue (are_formed kids) → IsTrue (are_legal kids) → IsTrue (are_markless kids) → SpellsContent (merged_all kids) (forest_text kids)
   content_spelled no_trees formed legal markless = refl
   content_spelled (tree t kids) formed legal markless =
-      let is_formed_all = both (is_formed t) (are_formed kids) formed in
-      let is_legal_all = both (is_legal t) (are_legal kids) legal in
-      let markless_all = both (is_markless t && starts_markless t kids) (are_markless kids) markless in
-      let markless_first = both (is_markless t) (starts_markless t kids) markless_all.0 in
+      let is_formed_all = and_parts (is_formed t) (are_formed kids) formed in
+      let is_legal_all = and_parts (is_legal t) (are_legal kids) legal in
+      let markless_all = and_parts (is_markless t && starts_markless t kids) (are_markless kids) markless in
+      let markless_first = and_parts (is_markless t) (starts_markless t kids) markless_all.0 in
       node_put t kids (merged_all kids) (forest_text kids) (front_units-merged kids) is_legal_all.0 markless_first.1 (λ is. element_spelled t is_formed_all.0 is_legal_all.0 markless_first.0 is)
       (content_spelled kids is_formed_all.1 is_legal_all.1 markless_all.1)
 

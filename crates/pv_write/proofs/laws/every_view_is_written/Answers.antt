@@ -1,10 +1,10 @@
 use Rattle.std.specs.List.{list_all}
+use Rattle.std.proofs.lemmas.Bool.{and_parts}
 use Rattle.pv_chars.specs.Spaces.{is_space}
-use Rattle.pv_read.proofs.Steps.{both}
 use Rattle.pv_write.proofs.Views.{view_written}
 use Rattle.pv_write.proofs.laws.every_view_is_written.Goals as goal
 
 pub returns : goal.returns
 returns c = λ doc rooted formed legal markless margins.
-    let white = both (list_all is_space doc.before) (list_all is_space doc.after) margins in
+    let white = and_parts (list_all is_space doc.before) (list_all is_space doc.after) margins in
     view_written doc rooted formed legal markless white.0 white.1
