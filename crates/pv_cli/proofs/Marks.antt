@@ -4,7 +4,7 @@ use Rattle.std.proofs.lemmas.List.{map-append}
 use Rattle.std.specs.List.{AllByRecursion}
 use Rattle.pv_model.specs.Models.{PlainToken}
 use Rattle.pv_dtd.specs.Plain.{PlainDtd, number_of}
-use Rattle.pv_tree.specs.Hedge.{Hedge, elem}
+use Rattle.pv_dtd.specs.Hedge.{Hedge, elem}
 use Rattle.pv_tree.specs.Lists.{the_document, an_element, Listed, lists_at, lists_from, lists_of, IsOwnValid, IsRootElement, IsRootList, IsValidBy, IsValidList, IsFirstInvalid}
 use Rattle.pv_tree.specs.Plain.{Tree, element, text_node, cdata_node, misc_node, Forest, no_trees, tree, PlainDoc, unmarked, remarked_all}
 use Rattle.pv_tree.specs.View.{view_before, view_all}

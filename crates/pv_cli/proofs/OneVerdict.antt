@@ -4,7 +4,7 @@ use Rattle.std.specs.List.{AllByRecursion}
 use Rattle.std.proofs.lemmas.Bool.{and_from}
 use Rattle.pv_chars.specs.Texts.{units_of, IsPlainText}
 use Rattle.pv_dtd.specs.Plain.{PlainDtd}
-use Rattle.pv_tree.specs.Hedge.{done, IsValid}
+use Rattle.pv_dtd.specs.Hedge.{done, IsValid}
 use Rattle.pv_tree.specs.Laws.{IsValidByLists}
 use Rattle.pv_tree.specs.Lists.{Listed, lists_of, IsValidList, IsFirstInvalid}
 use Rattle.pv_tree.specs.Plain.{short, tagged, Tree, element, text_node, cdata_node, misc_node, Forest, no_trees, tree, PlainDoc}

@@ -1,7 +1,7 @@
 -- What `valid DTD ROOT DOC` answers.
 use Rattle.std.specs.Prelude.{◌≡◌, ℕ, List, ◌++◌, codes, Option}
 use Rattle.pv_dtd.specs.Plain.{PlainDtd}
-use Rattle.pv_tree.specs.Hedge.{IsValid}
+use Rattle.pv_dtd.specs.Hedge.{IsValid}
 use Rattle.pv_tree.specs.Lists.{IsFirstInvalid, lists_of}
 use Rattle.pv_tree.specs.Plain.{PlainDoc}
 use Rattle.pv_tree.specs.View.{view}

@@ -6,3 +6,5 @@ pub mod Reads
 pub mod Naming
 pub mod Reading
 pub mod Text
+pub mod Hedge
+pub mod Productive

@@ -5,7 +5,7 @@ use Rattle.std.proofs.lemmas.Option.{slice_get-get_or}
 use Rattle.pv_model.specs.Models.{Allows, IsOfMixed, Matches, MatchesAll, MatchesSome, PlainModel, PlainPart, PlainParts, PlainToken, Rounds, any, children, choice, empty, mixed, name, named, no_parts, no_round, opt, other, part, plus, round, seq, star, text}
 use Rattle.pv_dtd.specs.Plain.{PlainDtd, declared, model_of, names_in, names_in_all}
 use Rattle.pv_missing.specs.Covering.{Covers, IsPossibleWith, cover_kept, cover_new, cover_none, cover_text}
-use Rattle.pv_missing.specs.Productive.{IsProductive}
+use Rattle.pv_dtd.specs.Productive.{IsProductive}
 
 -- a word without names, and how many names a word has of each number, by weights
 abbrev pub worth : (ℕ → ℕ) → List PlainToken → ℕ

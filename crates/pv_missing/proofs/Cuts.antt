@@ -3,7 +3,7 @@ use Rattle.std.specs.Prelude.{IsTrue}
 use Rattle.std.proofs.Common.{Bool, List, [], false, if◌then◌else◌, refl, true, ℕ, ◌||◌, ◌↔◌, ◌∷◌, ◌≡◌, ◌≢◌}
 use Rattle.pv_chars.specs.Texts.{has_data, is_data, joined}
 use Rattle.pv_dtd.specs.Plain.{PlainDtd}
-use Rattle.pv_tree.specs.Hedge.{Hedge, Leaf, cdata, data_unit, done, elem, leaf, misc, white}
+use Rattle.pv_dtd.specs.Hedge.{Hedge, Leaf, cdata, data_unit, done, elem, leaf, misc, white}
 use Rattle.pv_tree.specs.Plain.{Forest, Tree, cdata_node, element, is_element, misc_node, no_trees, text_node, tree}
 use Rattle.pv_tree.specs.View.{spread, view, view_all, view_before}
 use Rattle.pv_missing.specs.DocumentLaws.{CutsChangeNothing}

@@ -1,9 +1,9 @@
 -- Insertion at every level is insertion at one level, where kept elements may be changed inside.
 use Rattle.std.proofs.Common.{List, Some, [], ap, arith, refl, suc, ℕ, ◌+◌, ◌∙◌, ◌≡◌}
 use Rattle.pv_dtd.specs.Plain.{PlainDtd, number_of}
-use Rattle.pv_tree.specs.Hedge.{AreGood, Fits, Hedge, Leaf, elem, elements, leaf}
+use Rattle.pv_dtd.specs.Hedge.{AreGood, Fits, Hedge, Leaf, elem, elements, leaf}
 use Rattle.pv_missing.specs.Extending.{Extends, both_done, join, new_element, same_element, same_leaf}
-use Rattle.pv_missing.specs.Productive.{IsProductiveName}
+use Rattle.pv_dtd.specs.Productive.{IsProductiveName}
 use Rattle.pv_missing.proofs.Grow.{Grows, grow_done, grow_kept, grow_leaf, grow_new}
 use Rattle.pv_missing.proofs.Hedges.{elements-join}
 

@@ -4,7 +4,7 @@ use Rattle.pv_model.specs.Models.{Allows, PlainModel, PlainToken, named, other, 
 use Rattle.pv_dtd.specs.Plain.{PlainDtd, declared, model_of}
 use Rattle.pv_missing.specs.Covering.{Covers, IsPossibleWith, cover_kept, cover_new, cover_none, cover_text}
 use Rattle.pv_missing.specs.Filling.{Fills, Pieces, StandsFor}
-use Rattle.pv_missing.specs.Productive.{IsProductive}
+use Rattle.pv_dtd.specs.Productive.{IsProductive}
 
 module _ (g : PlainDtd) where
   -- a cover of one thing and a cover of the next are a cover of both

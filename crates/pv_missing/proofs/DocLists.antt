@@ -4,7 +4,7 @@ use Rattle.std.proofs.Common.{List, [], arith, refl, ℕ, ◌+◌, ◌↔◌, �
 use Rattle.std.specs.List.{AllByRecursion}
 use Rattle.pv_model.specs.Models.{named}
 use Rattle.pv_dtd.specs.Plain.{PlainDtd}
-use Rattle.pv_tree.specs.Hedge.{done, word}
+use Rattle.pv_dtd.specs.Hedge.{done, word}
 use Rattle.pv_tree.specs.Lists.{IsValidList, Listed, Owner, an_element, lists_at, the_document}
 use Rattle.pv_tree.specs.Plain.{Forest, Tree, cdata_node, element, is_element, misc_node, no_trees, text_node, tree}
 use Rattle.pv_tree.specs.View.{view, view_all}

@@ -1,7 +1,7 @@
 -- One level of insertion: what happens inside the elements that are kept is a parameter.
 use Rattle.std.proofs.Common.{List, Some, [], suc, ℕ, ◌+◌, ◌≡◌}
 use Rattle.pv_dtd.specs.Plain.{PlainDtd, number_of}
-use Rattle.pv_tree.specs.Hedge.{Fits, Hedge, Leaf, done, elem, leaf}
+use Rattle.pv_dtd.specs.Hedge.{Fits, Hedge, Leaf, done, elem, leaf}
 use Rattle.pv_missing.specs.Extending.{join}
 
 -- Kept a x t k k': the element x with attributes t may have k' for its content k, at the cost a

@@ -1,6 +1,6 @@
 -- What an extension keeps, and completions.
 use Rattle.std.proofs.Common.{ap, append_assoc, arith, length, refl, sym, ◌++◌, ◌+◌, ◌∙◌, ◌∷◌, ◌≡◌}
-use Rattle.pv_tree.specs.Hedge.{Hedge, done, elem, elements, leaf}
+use Rattle.pv_dtd.specs.Hedge.{Hedge, done, elem, elements, leaf}
 use Rattle.pv_tree.specs.View.{view}
 use Rattle.pv_missing.specs.Completing.{LeavesOut}
 use Rattle.pv_missing.specs.DocumentLaws.{CompletionsInsert, ExtensionsComplete, KeepsLeaves}

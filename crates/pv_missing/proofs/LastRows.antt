@@ -4,13 +4,13 @@ use Rattle.std.proofs.Common.{List, None, Some, [], ap, arith, inl, inr, map, re
 use Rattle.std.proofs.lemmas.Bool.{cases_lt}
 use Rattle.pv_model.specs.Models.{Allows, PlainModel, PlainToken, any, children, empty, name, named, no_parts, opt, other, part, seq, text}
 use Rattle.pv_dtd.specs.Plain.{model_of, number_of}
-use Rattle.pv_tree.specs.Hedge.{AreGood, Hedge, cdata, data_unit, done, elem, leaf, misc, token, white, word}
+use Rattle.pv_dtd.specs.Hedge.{AreGood, Hedge, cdata, data_unit, done, elem, leaf, misc, token, white, word}
 use Rattle.pv_tree.specs.Lists.{IsOwnValid, an_element, lists_from, the_document}
 use Rattle.pv_tree.specs.Plain.{Tree, forest_of, no_trees, tree}
 use Rattle.pv_missing.specs.Covering.{IsPossibleWith, cover_none}
 use Rattle.pv_missing.specs.Dtds.{IsProperDtd}
 use Rattle.pv_missing.specs.LiveWords.{live_unproductive, live_name, live_none, live_other, live_text}
-use Rattle.pv_missing.specs.Productive.{IsProductive, IsProductiveName}
+use Rattle.pv_dtd.specs.Productive.{IsProductive, IsProductiveName}
 use Rattle.pv_missing.specs.RowDocuments.{mentioned_name, tag, unknown_name}
 use Rattle.pv_missing.specs.RowDtds.{any_dtd, any_endless_dtd, doubling, doubling_dtd, pair_dtd, twice}
 use Rattle.pv_missing.specs.Rows.{AnyRow, DoublingRow, LiveWords, NumbersRow, PairRow, UnknownRow}

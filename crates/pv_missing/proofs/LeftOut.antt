@@ -2,10 +2,10 @@
 use Rattle.std.proofs.Common.{List, Some, [], ap, refl, suc, ℕ, ◌++◌, ◌+◌, ◌∷◌, ◌≡◌}
 use Rattle.pv_model.specs.Models.{Allows, PlainModel, PlainToken, named, other, text}
 use Rattle.pv_dtd.specs.Plain.{PlainDtd, declared, model_of, spelling_of}
-use Rattle.pv_tree.specs.Hedge.{AreGood, Hedge, cdata, data_unit, done, elem, elements, leaf, misc, white, word}
+use Rattle.pv_dtd.specs.Hedge.{AreGood, Hedge, cdata, data_unit, done, elem, elements, leaf, misc, white, word}
 use Rattle.pv_missing.specs.Covering.{Covers, IsPossibleWith, cover_kept, cover_new, cover_none, cover_text}
 use Rattle.pv_missing.specs.Dtds.{IsProperDtd}
-use Rattle.pv_missing.specs.Productive.{IsProductive}
+use Rattle.pv_dtd.specs.Productive.{IsProductive}
 use Rattle.pv_missing.proofs.Growing.{allows-empty}
 use Rattle.pv_missing.proofs.Names.{spelled}
 use Rattle.pv_missing.proofs.Repeats.{Omits, Texts, omit_drop, omit_keep, omit_none, texts_drop, texts_keep, texts_none}

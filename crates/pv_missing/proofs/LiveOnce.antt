@@ -3,7 +3,7 @@ use Rattle.std.proofs.Common.{List, [], ap, refl, sym, ℕ, ◌∷◌, ◌≡◌
 use Rattle.pv_model.specs.Models.{PlainToken, named, other, text}
 use Rattle.pv_dtd.specs.Plain.{PlainDtd}
 use Rattle.pv_missing.specs.LiveWords.{IsLiveWord, live_unproductive, live_name, live_none, live_other, live_text}
-use Rattle.pv_missing.specs.Productive.{IsProductive}
+use Rattle.pv_dtd.specs.Productive.{IsProductive}
 use Rattle.pv_missing.specs.WordLaws.{OneLiveWord}
 
 once_text : (g : PlainDtd) (v w : List PlainToken) → IsLiveWord g v w → (r : List PlainToken) → v ≡ text ∷ r → (w' : List PlainToken) × (w ≡ text ∷ w') × IsLiveWord g r w'

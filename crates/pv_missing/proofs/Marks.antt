@@ -1,6 +1,6 @@
 -- Tags left out show an extension.
 use Rattle.std.proofs.Common.{[], ap, arith, length, length-append, refl, suc, ◌++◌, ◌+◌, ◌∙◌, ◌∷◌, ◌≡◌}
-use Rattle.pv_tree.specs.Hedge.{elements}
+use Rattle.pv_dtd.specs.Hedge.{elements}
 use Rattle.pv_missing.specs.Completing.{marks_done, marks_kept, marks_leaf, marks_new}
 use Rattle.pv_missing.specs.DocumentLaws.{ExtensionsHaveMarks, MarksShow}
 use Rattle.pv_missing.specs.Extending.{both_done, new_element, same_element, same_leaf}

@@ -3,14 +3,14 @@ use Rattle.std.proofs.Common.{List, Some, [], ap, arith, refl, sym, ℕ, ◌++�
 use Rattle.std.specs.List.{AllByRecursion}
 use Rattle.pv_model.specs.Models.{PlainModel, PlainToken, empty, named, other, text}
 use Rattle.pv_dtd.specs.Plain.{PlainDtd, model_of}
-use Rattle.pv_tree.specs.Hedge.{Hedge, cdata, data_unit, done, elem, elements, leaf, misc, white, word}
+use Rattle.pv_dtd.specs.Hedge.{Hedge, cdata, data_unit, done, elem, elements, leaf, misc, white, word}
 use Rattle.pv_missing.specs.Covering.{Covers, IsPossibleWith, cover_kept, cover_new, cover_none, cover_text}
 use Rattle.pv_missing.specs.Dtds.{IsProperDtd}
 use Rattle.pv_missing.specs.Extending.{Extends, both_done, join, new_element, same_element, same_leaf}
 use Rattle.pv_missing.specs.ListLaws.{HereExtends, OneList, RootList}
 use Rattle.pv_missing.specs.LiveWords.{IsLiveWord, live_unproductive, live_name, live_none, live_other, live_text}
 use Rattle.pv_missing.specs.OneList.{CanFit, CanFitRoot, InsertsHere, here_done, here_element, here_leaf, here_new}
-use Rattle.pv_missing.specs.Productive.{AreProductive, IsProductive, IsProductiveName}
+use Rattle.pv_dtd.specs.Productive.{AreProductive, IsProductive, IsProductiveName}
 use Rattle.pv_missing.specs.WordLaws.{AreProductiveTokens, LiveAgrees}
 use Rattle.pv_missing.proofs.Grow.{Grows, CanKeep, grow_done, grow_kept, grow_leaf, grow_new}
 use Rattle.pv_missing.proofs.Growing.{Grown, allows-empty, grow}

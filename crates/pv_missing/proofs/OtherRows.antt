@@ -3,12 +3,12 @@ use Rattle.std.specs.Prelude.{codes}
 use Rattle.std.proofs.Common.{List, Some, [], ap, arith, inl, inr, map, refl, subst, suc, sym, zero, ℕ, ◌++◌, ◌+◌, ◌∙◌, ◌∷◌, ◌≡◌, ◌≤◌, ◌⊎◌}
 use Rattle.pv_model.specs.Models.{Allows, Matches, PlainModel, PlainToken, children, empty, name, named, no_parts, opt, part, seq}
 use Rattle.pv_dtd.specs.Plain.{model_of, number_of}
-use Rattle.pv_tree.specs.Hedge.{elements}
+use Rattle.pv_dtd.specs.Hedge.{elements}
 use Rattle.pv_tree.specs.Lists.{IsOwnValid, an_element, lists_at, the_document}
 use Rattle.pv_tree.specs.Plain.{Forest, Tree, forest_of, no_trees, tree}
 use Rattle.pv_missing.specs.Covering.{Covers, IsPossibleWith, cover_kept, cover_new, cover_none, cover_text}
 use Rattle.pv_missing.specs.Dtds.{IsProperDtd}
-use Rattle.pv_missing.specs.Productive.{IsProductive, IsProductiveName}
+use Rattle.pv_dtd.specs.Productive.{IsProductive, IsProductiveName}
 use Rattle.pv_missing.specs.RowDocuments.{tag, three_ys}
 use Rattle.pv_missing.specs.RowDtds.{endless_dtd, nested_dtd}
 use Rattle.pv_missing.specs.Rows.{EndlessRow, NestedRow}

@@ -2,7 +2,7 @@
 use Rattle.std.proofs.Common.{List, Some, [], arith, refl, suc, ℕ, ◌++◌, ◌+◌, ◌∷◌, ◌≡◌, ◌≤◌}
 use Rattle.pv_model.specs.Models.{Allows, PlainModel, PlainToken, named}
 use Rattle.pv_dtd.specs.Plain.{PlainDtd, declared, model_of}
-use Rattle.pv_tree.specs.Hedge.{done}
+use Rattle.pv_dtd.specs.Hedge.{done}
 use Rattle.pv_tree.specs.Lists.{IsValidBy, IsValidList, Listed, Owner, an_element, lists_of, the_document}
 use Rattle.pv_tree.specs.Plain.{Forest, Tree}
 use Rattle.pv_tree.specs.View.{view}
@@ -11,7 +11,7 @@ use Rattle.pv_missing.specs.DocumentLaws.{IsProperDoc}
 use Rattle.pv_missing.specs.Dtds.{IsProperDtd}
 use Rattle.pv_missing.specs.ListLaws.{AreProductiveKids, IsProductiveOwner}
 use Rattle.pv_missing.specs.Missing.{MissInAll, Misses, MissesBy}
-use Rattle.pv_missing.specs.Productive.{IsProductive}
+use Rattle.pv_dtd.specs.Productive.{IsProductive}
 use Rattle.pv_missing.specs.RowDocuments.{doc_of}
 use Rattle.pv_missing.specs.Rows.{IsImpossibleAt, Needs}
 use Rattle.pv_missing.specs.Verdicts.{AreVerdicts, IsFirstImpossible, IsVerdict}

@@ -1,7 +1,7 @@
 -- Hedges with the same completions have the same least numbers.
 use Rattle.std.proofs.Common.{List, ap, arith, suc, ℕ, ◌+◌, ◌↔◌, ◌∙◌, ◌≡◌}
 use Rattle.pv_dtd.specs.Plain.{PlainDtd}
-use Rattle.pv_tree.specs.Hedge.{Hedge, elements}
+use Rattle.pv_dtd.specs.Hedge.{Hedge, elements}
 use Rattle.pv_missing.specs.Completing.{HasCompletion, IsLeast}
 use Rattle.pv_missing.specs.DocumentLaws.{SomeNumber}
 use Rattle.pv_missing.specs.Extending.{Extends, both_done, new_element, same_element, same_leaf}

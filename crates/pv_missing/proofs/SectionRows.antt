@@ -10,7 +10,7 @@ use Rattle.pv_tree.specs.Words.{word_of}
 use Rattle.pv_missing.specs.Covering.{Covers, IsPossibleRootWith, IsPossibleWith, cover_kept, cover_none, cover_text}
 use Rattle.pv_missing.specs.ListLaws.{AreProductiveKids}
 use Rattle.pv_missing.specs.Missing.{MissesInContent, MissesInRoot}
-use Rattle.pv_missing.specs.Productive.{IsProductive, IsProductiveName}
+use Rattle.pv_dtd.specs.Productive.{IsProductive, IsProductiveName}
 use Rattle.pv_missing.specs.RowDocuments.{comment_alone, em_alone, head_then_text, hello, p_alone, p_then_title, sec_then_head, sec_with, tag}
 use Rattle.pv_missing.specs.RowDtds.{doc_model, sec_model, sections_dtd}
 use Rattle.pv_missing.specs.Rows.{CommentRow, EmRow, HeadRow, HeadTextRow, HelloRow, ParagraphRow, ReferenceRow, TitleRow}

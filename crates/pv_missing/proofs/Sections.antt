@@ -4,7 +4,7 @@ use Rattle.std.specs.List.{AllByRecursion}
 use Rattle.pv_model.specs.Models.{Allows, Matches, Rounds, choice, empty, mixed, name, named, no_parts, no_round, opt, part, plus, round, seq, star}
 use Rattle.pv_missing.specs.Covering.{Covers, cover_none}
 use Rattle.pv_missing.specs.Dtds.{IsProperDtd}
-use Rattle.pv_missing.specs.Productive.{IsProductive}
+use Rattle.pv_dtd.specs.Productive.{IsProductive}
 use Rattle.pv_missing.specs.RowDtds.{doc_model, sec_model, sections_dtd}
 use Rattle.pv_missing.proofs.LeftOut.{possible_productive}
 use Rattle.pv_missing.proofs.Proper.{proper_dtd}

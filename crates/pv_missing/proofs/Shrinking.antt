@@ -2,10 +2,10 @@
 use Rattle.std.proofs.Common.{List, Some, [], ap, arith, refl, subst, suc, sym, ℕ, ◌+◌, ◌∙◌, ◌≡◌}
 use Rattle.pv_model.specs.Models.{PlainToken}
 use Rattle.pv_dtd.specs.Plain.{PlainDtd, number_of}
-use Rattle.pv_tree.specs.Hedge.{Fits, Hedge, Leaf, cdata, data_unit, elem, leaf, leaf_word, misc, white, word}
+use Rattle.pv_dtd.specs.Hedge.{Fits, Hedge, Leaf, cdata, data_unit, elem, leaf, leaf_word, misc, white, word}
 use Rattle.pv_missing.specs.Covering.{Covers, cover_kept, cover_new, cover_none, cover_text}
 use Rattle.pv_missing.specs.Extending.{join}
-use Rattle.pv_missing.specs.Productive.{IsProductiveName}
+use Rattle.pv_dtd.specs.Productive.{IsProductiveName}
 use Rattle.pv_missing.proofs.Grow.{Grows, CanKeep, grow_done, grow_kept, grow_leaf, grow_new}
 use Rattle.pv_missing.proofs.Growing.{CanKeep-join}
 use Rattle.pv_missing.proofs.Hedges.{word-join}

@@ -1,7 +1,7 @@
 -- The lists of a tree, in document order, miss what the lists of the hedge that it shows miss.
 use Rattle.std.proofs.Common.{List, Some, [], ap, arith, refl, suc, ℕ, ◌++◌, ◌+◌, ◌∷◌, ◌≡◌}
 use Rattle.pv_dtd.specs.Plain.{PlainDtd, number_of}
-use Rattle.pv_tree.specs.Hedge.{Hedge, word}
+use Rattle.pv_dtd.specs.Hedge.{Hedge, word}
 use Rattle.pv_tree.specs.Lists.{Listed, lists_at, lists_from}
 use Rattle.pv_tree.specs.Plain.{Forest, Tree, cdata_node, element, misc_node, no_trees, text_node, tree}
 use Rattle.pv_tree.specs.View.{spread, view_all, view_before}

@@ -3,7 +3,7 @@ use Rattle.std.proofs.Common.{Bool, List, [], false, if◌then◌else◌, refl, 
 use Rattle.pv_chars.specs.Texts.{has_data, is_data}
 use Rattle.pv_model.specs.Models.{PlainToken, text}
 use Rattle.pv_dtd.specs.Plain.{PlainDtd, number_of}
-use Rattle.pv_tree.specs.Hedge.{Hedge, data_unit, done, leaf_word, token, white, word}
+use Rattle.pv_dtd.specs.Hedge.{Hedge, data_unit, done, leaf_word, token, white, word}
 use Rattle.pv_tree.specs.Plain.{Forest, Tree, cdata_node, element, misc_node, no_trees, text_node, tree}
 use Rattle.pv_tree.specs.View.{spread, view_all, view_before}
 use Rattle.pv_tree.specs.Words.{node_before, word_of}

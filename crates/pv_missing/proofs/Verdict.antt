@@ -10,7 +10,7 @@ use Rattle.pv_tree.specs.Words.{node_before, word_of}
 use Rattle.pv_missing.specs.Covering.{Covers, cover_kept, cover_none, cover_text}
 use Rattle.pv_missing.specs.ListLaws.{AreProductiveKids, IsProductiveNode, IsProductiveOwner, OneFirst, OneVerdict, OwnValidIsLive}
 use Rattle.pv_missing.specs.Missing.{MissesInContent, MissesInRoot}
-use Rattle.pv_missing.specs.Productive.{IsProductiveName}
+use Rattle.pv_dtd.specs.Productive.{IsProductiveName}
 use Rattle.pv_missing.specs.Verdicts.{IsLive, IsLiveBy, Judges}
 use Rattle.pv_missing.proofs.DocLists.{misses_live_by}
 use Rattle.pv_tree.specs.declared.nodes.Verdict.{Verdict}

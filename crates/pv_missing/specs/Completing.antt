@@ -1,7 +1,7 @@
 -- Potential validity, the least number of missing elements, and completions.
 use Rattle.std.specs.Prelude.{List, [], length, suc, ℕ, ◌++◌, ◌+◌, ◌∷◌, ◌≡◌, ◌≤◌}
 use Rattle.pv_dtd.specs.Plain.{PlainDtd}
-use Rattle.pv_tree.specs.Hedge.{Hedge, IsValid, Leaf, done, elem, elements, leaf}
+use Rattle.pv_dtd.specs.Hedge.{Hedge, IsValid, Leaf, done, elem, elements, leaf}
 use Rattle.pv_tree.specs.Plain.{PlainDoc}
 use Rattle.pv_tree.specs.View.{view}
 use Rattle.pv_missing.specs.Extending.{Extends, join}

@@ -2,7 +2,7 @@
 use Rattle.std.specs.Prelude.{List, Some, [], suc, ℕ, ◌++◌, ◌+◌, ◌∷◌, ◌≡◌}
 use Rattle.pv_model.specs.Models.{Allows, PlainModel, PlainToken, named, text}
 use Rattle.pv_dtd.specs.Plain.{PlainDtd, declared, model_of}
-use Rattle.pv_missing.specs.Productive.{IsProductive}
+use Rattle.pv_dtd.specs.Productive.{IsProductive}
 
 -- the word w, with n missing elements put in, is cut into one piece for each token of u
 pub data Covers (g : PlainDtd) : ℕ → List PlainToken → List PlainToken → Type 0 where

@@ -2,7 +2,7 @@
 use Rattle.std.specs.Prelude.{IsTrue, List, false, length, ℕ, ◌+◌, ◌↔◌, ◌≡◌, ◌≢◌}
 use Rattle.std.specs.List.{AllByRecursion}
 use Rattle.pv_dtd.specs.Plain.{PlainDtd}
-use Rattle.pv_tree.specs.Hedge.{Hedge, IsValid, done, elem, elements}
+use Rattle.pv_dtd.specs.Hedge.{Hedge, IsValid, done, elem, elements}
 use Rattle.pv_tree.specs.Lists.{lists_of}
 use Rattle.pv_tree.specs.Plain.{PlainDoc, is_element}
 use Rattle.pv_tree.specs.View.{view}

@@ -1,6 +1,6 @@
 -- Hedges with elements inserted.
 use Rattle.std.specs.Prelude.{List, [], ℕ, ◌++◌, ◌∷◌, ◌≡◌}
-use Rattle.pv_tree.specs.Hedge.{Hedge, Leaf, done, elem, leaf}
+use Rattle.pv_dtd.specs.Hedge.{Hedge, Leaf, done, elem, leaf}
 
 -- the items of one hedge and then those of the other
 abbrev pub join : Hedge → Hedge → Hedge

@@ -2,7 +2,7 @@
 use Rattle.std.specs.Prelude.{List, Some, [], suc, zero, ℕ, ◌++◌, ◌∷◌, ◌≡◌, ◌⊎◌}
 use Rattle.pv_model.specs.Models.{Allows, PlainModel, PlainToken, named, other, text}
 use Rattle.pv_dtd.specs.Plain.{PlainDtd, declared, model_of}
-use Rattle.pv_missing.specs.Productive.{IsProductive}
+use Rattle.pv_dtd.specs.Productive.{IsProductive}
 
 -- w is cut into one piece for each token of u, in order: data for data, and for a name a piece that R allows
 abbrev pub Pieces : (ℕ → List PlainToken → Type 0) → List PlainToken → List PlainToken → Type 0

@@ -1,7 +1,6 @@
 pub mod Dtds
 pub mod Extending
 pub mod Completing
-pub mod Productive
 pub mod Filling
 pub mod Covering
 pub mod LiveWords

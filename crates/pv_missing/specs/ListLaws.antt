@@ -2,7 +2,7 @@
 use Rattle.std.specs.Prelude.{List, Some, ℕ, ◌+◌, ◌↔◌, ◌≡◌}
 use Rattle.pv_model.specs.Models.{PlainModel, PlainToken, empty}
 use Rattle.pv_dtd.specs.Plain.{PlainDtd, model_of}
-use Rattle.pv_tree.specs.Hedge.{Hedge, done, elements, word}
+use Rattle.pv_dtd.specs.Hedge.{Hedge, done, elements, word}
 use Rattle.pv_tree.specs.Lists.{IsValidList, Listed, Owner, an_element, the_document}
 use Rattle.pv_tree.specs.Plain.{Forest, Tree, cdata_node, element, misc_node, no_trees, text_node, tree}
 use Rattle.pv_missing.specs.Covering.{IsPossibleRootWith, IsPossibleWith}
@@ -10,7 +10,7 @@ use Rattle.pv_missing.specs.Dtds.{IsProperDtd}
 use Rattle.pv_missing.specs.Extending.{Extends}
 use Rattle.pv_missing.specs.LiveWords.{IsLiveWord}
 use Rattle.pv_missing.specs.OneList.{CanFit, CanFitRoot, InsertsHere}
-use Rattle.pv_missing.specs.Productive.{AreProductive, IsProductiveName}
+use Rattle.pv_dtd.specs.Productive.{AreProductive, IsProductiveName}
 use Rattle.pv_missing.specs.Verdicts.{IsFirstImpossible, IsLive, IsVerdict}
 use Rattle.pv_tree.specs.declared.nodes.Verdict.{Verdict}
 

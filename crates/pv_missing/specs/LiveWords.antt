@@ -2,7 +2,7 @@
 use Rattle.std.specs.Prelude.{List, [], ℕ, ◌∷◌}
 use Rattle.pv_model.specs.Models.{PlainToken, named, other, text}
 use Rattle.pv_dtd.specs.Plain.{PlainDtd}
-use Rattle.pv_missing.specs.Productive.{IsProductive}
+use Rattle.pv_dtd.specs.Productive.{IsProductive}
 
 -- the second word is the first with `other` in place of each name that isn't productive
 pub data IsLiveWord (g : PlainDtd) : List PlainToken → List PlainToken → Type 0 where

@@ -6,7 +6,7 @@ use Rattle.pv_tree.specs.Lists.{Listed, Owner, an_element, the_document}
 use Rattle.pv_tree.specs.Plain.{Forest, no_trees}
 use Rattle.pv_tree.specs.Words.{word_of}
 use Rattle.pv_missing.specs.Covering.{IsPossibleRootWith, IsPossibleWith}
-use Rattle.pv_missing.specs.Productive.{IsProductive}
+use Rattle.pv_dtd.specs.Productive.{IsProductive}
 
 -- the kids may stand in an element of this name, and n elements are missing among them
 pub record MissesInContent {M : Type 0} (g : PlainDtd) (x : List ℕ) (kids : Forest M) (n : ℕ) : Type 0 where

@@ -2,7 +2,7 @@
 use Rattle.std.specs.Prelude.{List, Some, [], suc, ℕ, ◌+◌, ◌∷◌, ◌≡◌}
 use Rattle.pv_model.specs.Models.{Allows, PlainModel, empty, named}
 use Rattle.pv_dtd.specs.Plain.{PlainDtd, declared, number_of}
-use Rattle.pv_tree.specs.Hedge.{Fits, Hedge, Leaf, done, elem, leaf, word}
+use Rattle.pv_dtd.specs.Hedge.{Fits, Hedge, Leaf, done, elem, leaf, word}
 use Rattle.pv_missing.specs.Extending.{join}
 
 -- The second hedge is the first with n elements inserted, each of which is declared and has content that fits it. Nothing is inserted

@@ -8,7 +8,7 @@ use Rattle.pv_tree.specs.Plain.{Forest, no_trees}
 use Rattle.pv_tree.specs.Words.{word_of}
 use Rattle.pv_missing.specs.Filling.{IsPossible, IsPossibleRoot}
 use Rattle.pv_missing.specs.LiveWords.{IsLiveWord}
-use Rattle.pv_missing.specs.Productive.{IsProductive}
+use Rattle.pv_dtd.specs.Productive.{IsProductive}
 use Rattle.pv_tree.specs.declared.nodes.Verdict.{Verdict}
 use Rattle.pv_tree.specs.declared.nodes.Verdict.TheVariants as verdict
 

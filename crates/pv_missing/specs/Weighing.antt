@@ -1,7 +1,7 @@
 -- The weights of the lists of a document, and their sum.
 use Rattle.std.specs.Prelude.{List, Some, [], length, min, ℕ, ◌+◌, ◌<◌, ◌∷◌, ◌≡◌, ◌≤◌}
 use Rattle.pv_dtd.specs.Plain.{PlainDtd, number_of}
-use Rattle.pv_tree.specs.Hedge.{Hedge}
+use Rattle.pv_dtd.specs.Hedge.{Hedge}
 use Rattle.pv_tree.specs.Lists.{Listed, Owner, an_element, the_document}
 use Rattle.pv_tree.specs.Plain.{Forest}
 use Rattle.pv_tree.specs.Words.{word_of}

@@ -3,12 +3,12 @@ use Rattle.std.specs.Prelude.{List, [], suc, ℕ, ◌++◌, ◌↔◌, ◌∷◌
 use Rattle.std.specs.List.{AllByRecursion}
 use Rattle.pv_model.specs.Models.{PlainToken, named, other, text}
 use Rattle.pv_dtd.specs.Plain.{PlainDtd}
-use Rattle.pv_tree.specs.Hedge.{AreGood, Hedge, done, elem}
+use Rattle.pv_dtd.specs.Hedge.{AreGood, Hedge, done, elem}
 use Rattle.pv_missing.specs.Covering.{IsPossibleRootWith, IsPossibleWith}
 use Rattle.pv_missing.specs.Dtds.{IsProperDtd}
 use Rattle.pv_missing.specs.Filling.{IsPossible, IsPossibleRoot}
 use Rattle.pv_missing.specs.LiveWords.{IsLiveWord}
-use Rattle.pv_missing.specs.Productive.{IsLeastSize, IsProductive, IsProductiveName}
+use Rattle.pv_dtd.specs.Productive.{IsLeastSize, IsProductive, IsProductiveName}
 
 -- each name in the word is productive
 abbrev pub IsProductiveToken : PlainDtd → PlainToken → Type 0

@@ -3,7 +3,7 @@ use Rattle.std.proofs.Common.{ℕ, List, [], ◌∷◌, IsTrue, true, refl, subs
 use Rattle.std.specs.List.{AllByRecursion}
 use Rattle.pv_dtd.specs.Plain.{PlainDtd}
 use Rattle.pv_tree.specs.Plain.{PlainDoc, tree, no_trees}
-use Rattle.pv_tree.specs.Hedge.{IsValid}
+use Rattle.pv_dtd.specs.Hedge.{IsValid}
 use Rattle.pv_tree.specs.Legal.{is_legal}
 use Rattle.pv_tree.specs.Lists.{the_document, IsValidList, IsFirstInvalid, IsRootElement, lists_at, lists_of}
 use Rattle.pv_tree.specs.View.{view}

@@ -4,7 +4,7 @@ use Rattle.pv_chars.specs.Texts.{is_data, has_data}
 use Rattle.pv_model.specs.Models.{PlainToken, named, text, other}
 use Rattle.pv_dtd.specs.Plain.{PlainDtd, number_of}
 use Rattle.pv_tree.specs.Plain.{Tree, element, text_node, cdata_node, misc_node, Forest, no_trees, tree}
-use Rattle.pv_tree.specs.Hedge.{Hedge, white, data_unit, leaf_word, token, word}
+use Rattle.pv_dtd.specs.Hedge.{Hedge, white, data_unit, leaf_word, token, word}
 use Rattle.pv_tree.specs.View.{spread, view_before, view_all}
 use Rattle.pv_tree.specs.Words.{node_before, word_of}
 use Rattle.pv_tree.proofs.Alike.{without_text, has_text, IsAlike}

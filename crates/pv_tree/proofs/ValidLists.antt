@@ -6,7 +6,7 @@ use Rattle.pv_chars.specs.Spaces.{is_space}
 use Rattle.pv_chars.specs.Names.{is_plain_name}
 use Rattle.pv_dtd.specs.Plain.{PlainDtd, number_of, declared}
 use Rattle.pv_tree.specs.Plain.{Tree, element, text_node, cdata_node, misc_node, Forest, no_trees, tree, PlainDoc}
-use Rattle.pv_tree.specs.Hedge.{Hedge, done, elem, word, Fits, AreGood, IsValid}
+use Rattle.pv_dtd.specs.Hedge.{Hedge, done, elem, word, Fits, AreGood, IsValid}
 use Rattle.pv_tree.specs.Legal.{is_legal, are_legal, is_legal_ending, are_plain_units}
 use Rattle.pv_tree.specs.Lists.{IsOwnValid, IsValidList, IsRootElement, lists_at, lists_from, lists_of}
 use Rattle.pv_tree.specs.Texts.{has_unit, has_no_empty_text, have_no_empty_text}

@@ -3,7 +3,7 @@ use Rattle.std.specs.Prelude.{◌↔◌, ℕ, List, IsTrue}
 use Rattle.std.specs.List.{AllByRecursion}
 use Rattle.pv_dtd.specs.Plain.{PlainDtd}
 use Rattle.pv_tree.specs.Plain.{Tree, PlainDoc}
-use Rattle.pv_tree.specs.Hedge.{IsValid}
+use Rattle.pv_dtd.specs.Hedge.{IsValid}
 use Rattle.pv_tree.specs.Legal.{is_legal}
 use Rattle.pv_tree.specs.Lists.{IsValidList, lists_of}
 use Rattle.pv_tree.specs.Texts.{has_no_empty_text}

@@ -1,5 +1,4 @@
 pub mod Plain
-pub mod Hedge
 pub mod View
 pub mod Words
 pub mod Tokens

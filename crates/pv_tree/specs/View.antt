@@ -2,7 +2,7 @@
 use Rattle.std.specs.Prelude.{ℕ, List, [], ◌∷◌, if◌then◌else◌}
 use Rattle.pv_chars.specs.Texts.{is_data}
 use Rattle.pv_tree.specs.Plain.{Tree, element, text_node, cdata_node, misc_node, Forest, no_trees, tree}
-use Rattle.pv_tree.specs.Hedge.{Leaf, white, data_unit, cdata, misc, Hedge, done, leaf, elem}
+use Rattle.pv_dtd.specs.Hedge.{Leaf, white, data_unit, cdata, misc, Hedge, done, leaf, elem}
 
 abbrev pub unit_leaf : List ℕ → Leaf
 unit_leaf unit = if is_data unit then data_unit unit else white unit

@@ -3,7 +3,7 @@ use Rattle.std.specs.Prelude.{List, [], ◌∷◌, if◌then◌else◌}
 use Rattle.pv_chars.specs.Texts.{has_data}
 use Rattle.pv_model.specs.Models.{PlainToken, text}
 use Rattle.pv_dtd.specs.Plain.{PlainDtd, number_of}
-use Rattle.pv_tree.specs.Hedge.{token}
+use Rattle.pv_dtd.specs.Hedge.{token}
 use Rattle.pv_tree.specs.Plain.{Tree, element, text_node, cdata_node, misc_node, Forest, no_trees, tree}
 
 -- An element by its name; a text with a data unit, and a CDATA section, are text; other nodes are nothing.

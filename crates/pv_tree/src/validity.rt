@@ -6,7 +6,7 @@ ghost use Rattle.pv_model.specs.Read.{plain_model};
 ghost use Rattle.pv_dtd.specs.Plain.{number_of, model_of};
 ghost use Rattle.pv_dtd.specs.Reads.{plain_dtd};
 ghost use Rattle.pv_tree.specs.Plain.{nodes_in, nodes_in_all};
-ghost use Rattle.pv_tree.specs.Hedge.{IsValid};
+ghost use Rattle.pv_dtd.specs.Hedge.{IsValid};
 ghost use Rattle.pv_tree.specs.Legal.{MOST_NODES};
 ghost use Rattle.pv_tree.specs.View.{view};
 ghost use Rattle.pv_tree.specs.Lists.{IsFirstInvalid, IsOwnValid, IsRootElement, lists_at, lists_from, lists_of};

@@ -5,7 +5,7 @@ ghost use Rattle.pv_model.specs.Models.{PlainToken};
 ghost use Rattle.pv_model.specs.Read.{plain_token};
 ghost use Rattle.pv_dtd.specs.Plain.{number_of};
 ghost use Rattle.pv_dtd.specs.Reads.{plain_dtd};
-ghost use Rattle.pv_tree.specs.Hedge.{token};
+ghost use Rattle.pv_dtd.specs.Hedge.{token};
 ghost use Rattle.pv_tree.specs.Words.{node_before, word_of};
 ghost use Rattle.pv_tree.specs.Tokens.{token_before};
 ghost use Rattle.pv_tree.specs.Read.{plain, forest};

@@ -1,7 +1,7 @@
 -- Trees whose texts side by side are one text: they show the same, and stand as deep.
 use Rattle.std.proofs.Common.{◌≡◌, ℕ, suc, List, [], ◌∷◌, ◌++◌, max, refl, ap, ◌∙◌, append_assoc, arith}
 use Rattle.pv_tree.specs.Plain.{Tree, element, text_node, cdata_node, misc_node, Forest, no_trees, tree, depth_of, depth_of_all}
-use Rattle.pv_tree.specs.Hedge.{Hedge, elem, leaf}
+use Rattle.pv_dtd.specs.Hedge.{Hedge, elem, leaf}
 use Rattle.pv_tree.specs.View.{unit_leaf, spread, view_before, view_all}
 use Rattle.pv_tree.specs.Legal.{front_units}
 

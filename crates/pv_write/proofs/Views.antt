@@ -7,7 +7,7 @@ use Rattle.pv_chars.specs.Names.{is_plain_name}
 use Rattle.pv_chars.specs.Texts.{joined}
 use Rattle.pv_tree.specs.Plain.{short, tagged, Tree, element, text_node, cdata_node, misc_node, Forest, no_trees, tree, is_element, PlainDoc}
 use Rattle.pv_tree.specs.Legal.{fits_kids, is_formed, are_formed, are_plain_units, is_legal, are_legal, front_units, is_open, is_markless, are_markless, starts_markless}
-use Rattle.pv_tree.specs.Hedge.{done}
+use Rattle.pv_dtd.specs.Hedge.{done}
 use Rattle.pv_read.specs.Grammar.{SpellsNode, SpellsContent, IsElement}
 use Rattle.pv_read.proofs.TextLemmas.{text_chars, no_close_mark}
 use Rattle.pv_read.proofs.Facts.{no_front}

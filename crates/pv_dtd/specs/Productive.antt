@@ -1,7 +1,7 @@
 -- Names of which some element is good.
 use Rattle.std.specs.Prelude.{List, Some, suc, ℕ, ◌≡◌, ◌≤◌}
 use Rattle.pv_dtd.specs.Plain.{PlainDtd, number_of}
-use Rattle.pv_tree.specs.Hedge.{AreGood, Fits, Hedge, done, elem, elements, leaf}
+use Rattle.pv_dtd.specs.Hedge.{AreGood, Fits, Hedge, done, elem, elements, leaf}
 
 -- some element of this number is good
 pub record IsProductive (g : PlainDtd) (y : ℕ) : Type 0 where
