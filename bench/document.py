@@ -1,4 +1,8 @@
-"""Writes a plain document of sections, paragraphs and inline elements, of at least so many bytes."""
+"""Writes a plain document for examples/article.dtd. Words: KIND BYTES.
+
+KIND is `nodes` (sections, paragraphs and inline elements, many small nodes), `texts` (paragraphs of a few thousand bytes of text) or
+`wide` (one section whose list has a paragraph for each hundred bytes). It has at least so many bytes.
+"""
 import random
 import sys
 
@@ -23,13 +27,33 @@ def section():
     return f"<sec><title>{words(4)}</title>\n" + "".join(blocks) + "</sec>\n"
 
 
+# A section of long paragraphs. They share a few texts, which are slow to make.
+LONG = [words(900) for _ in range(20)]
+
+
+def long_section():
+    return "<sec>" + "".join(f"<p>{random.choice(LONG)}</p>\n" for _ in range(4)) + "</sec>\n"
+
+
+def wide_paragraph():
+    return f"<p>{random.choice(LONG)[:90]}</p>\n"
+
+
+def fill(out, left, make):
+    while left > 0:
+        left -= out.write(make())
+
+
 def main():
     random.seed(1)
-    left = int(sys.argv[1])
-    out = sys.stdout
+    kind, left, out = sys.argv[1], int(sys.argv[2]), sys.stdout
     out.write(f"<doc><head>{words(5)}</head>\n")
-    while left > 0:
-        left -= out.write(section())
+    if kind == "wide":
+        out.write("<sec>")
+        fill(out, left, wide_paragraph)
+        out.write("</sec>")
+    else:
+        fill(out, left, {"nodes": section, "texts": long_section}[kind])
     out.write("</doc>\n")
 
 

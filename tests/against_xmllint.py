@@ -1,8 +1,8 @@
 """Compares `valid` with xmllint, and with a matcher of its own, on random plain DTDs and documents.
 
-Words: PROGRAM ROUNDS SEED. A round is one DTD, a dozen documents, each of which `show` must give back, and a dozen texts of each kind that
-were changed in one place or two. xmllint doesn't judge models that aren't deterministic, nor paths, which the matcher of its own does.
-Prints each difference, and ends with 1 where there is one.
+Words: PROGRAM ROUNDS SEED, and the most seconds, where not all rounds are wanted. A round is one DTD, a dozen documents, each of which
+`show` must give back, and a dozen texts of each kind that were changed in one place or two. xmllint doesn't judge models that aren't
+deterministic, nor paths, which the matcher of its own does. Prints each difference, and how many cases passed; ends with 1 where one failed.
 """
 import os
 import random
@@ -10,6 +10,7 @@ import re
 import subprocess
 import sys
 import tempfile
+import time
 
 NAMES = ["a", "b", "c", "d", "e"]
 SPACE = ["", "", "", " ", "\n", "\t \r\n"]
@@ -297,14 +298,21 @@ def round_of(program, counts):
 
 def main():
     program, rounds, seed = os.path.abspath(sys.argv[1]), int(sys.argv[2]), int(sys.argv[3])
+    until = time.monotonic() + float(sys.argv[4]) if len(sys.argv) > 4 else float("inf")
     random.seed(seed)
     counts = {"valid": 0, "invalid": 0, "xmllint": 0, "read": 0, "refused": 0}
+    differences = 0
     with tempfile.TemporaryDirectory() as folder:
         os.chdir(folder)
-        differences = sum(round_of(program, counts) for _ in range(rounds))
+        for _ in range(rounds):
+            if time.monotonic() >= until:
+                break
+            differences += round_of(program, counts)
         os.chdir("/")
+    cases = sum(counts.values()) - counts["xmllint"]
     print(f"{counts['valid']} valid and {counts['invalid']} invalid documents, {counts['xmllint']} of them judged by xmllint;",
-          f"changed texts: {counts['read']} read, {counts['refused']} refused; {differences} differences")
+          f"changed texts: {counts['read']} read, {counts['refused']} refused")
+    print(f"against xmllint: {cases - differences} passed, {differences} failed")
     sys.exit(1 if differences else 0)
 
 

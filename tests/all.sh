@@ -1,0 +1,69 @@
+#!/usr/bin/env bash
+# All tests: `rt ci` proves every crate, tries the must-fail edits and runs the crates' tests and the program; then the built program is
+# tried on the machine's files, and compared with xmllint where it is installed. The last line tells how many passed.
+set -u
+cd "$(dirname "$0")/.." || exit 1
+log=$(mktemp)
+trap 'rm -f "$log"' EXIT
+passed=0
+failed=0
+skipped=0
+
+# count LOG: adds what the last line of the form 'N passed, M failed' in it tells
+count() {
+    local line
+    line=$(grep -oE '[0-9]+ passed, [0-9]+ failed' "$1" | tail -n 1)
+    [ -n "$line" ] || {
+        failed=$((failed + 1))
+        return
+    }
+    passed=$((passed + ${line%% *}))
+    line=${line#*, }
+    failed=$((failed + ${line%% *}))
+}
+
+# finish: the last line, and the status
+finish() {
+    [ "$skipped" -eq 0 ] && echo "$passed passed, $failed failed" || echo "$passed passed, $failed failed, $skipped skipped"
+    [ "$failed" -eq 0 ]
+    exit
+}
+
+# check SECONDS COMMAND..: runs it, at most so long, and counts what it tells; a failure that it doesn't count is one
+check() {
+    local seconds=$1 before=$failed status
+    shift
+    timeout "$seconds" "$@" 2>&1 | tee "$log"
+    status=${PIPESTATUS[0]}
+    count "$log"
+    [ "$status" -eq 0 ] || [ "$failed" -gt "$before" ] || {
+        echo "$1: status $status"
+        failed=$((failed + 1))
+    }
+}
+
+# skip WHAT TOOL..: whether a tool is missing, which is said
+skip() {
+    local what=$1 tool
+    shift
+    for tool in "$@"; do
+        command -v "$tool" >/dev/null || {
+            echo "skipped: $what (no $tool)"
+            skipped=$((skipped + 1))
+            return 0
+        }
+    done
+    return 1
+}
+
+rt ci | tee "$log"
+status=${PIPESTATUS[0]}
+count "$log"
+[ "$status" -eq 0 ] || {
+    [ "$failed" -gt 0 ] || failed=1
+    finish
+}
+
+check 900 tests/program.sh
+skip "the comparison with xmllint" python3 xmllint || check 300 python3 tests/against_xmllint.py crates/pvtag/out/pvtag 10000 1 60
+finish
