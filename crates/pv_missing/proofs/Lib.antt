@@ -1,12 +1,10 @@
 pub mod Alike
 pub mod AlikeHedges
 pub mod Blanks
-pub mod Bounds
 pub mod Closed
 pub mod Counted
 pub mod Cuts
 pub mod Deep
-pub mod DeepRows
 pub mod Depth
 pub mod Derived
 pub mod DocLists
@@ -16,7 +14,6 @@ pub mod Growing
 pub mod HedgeLists
 pub mod Hedges
 pub mod Kept
-pub mod LastRows
 pub mod Laws
 pub mod LeftOut
 pub mod LiveOnce
@@ -27,15 +24,9 @@ pub mod Names
 pub mod Numbers
 pub mod OneList
 pub mod OpenTables
-pub mod OtherRows
 pub mod Proper
 pub mod Repeats
-pub mod RowTools
-pub mod RowWords
 pub mod Same
-pub mod SectionBounds
-pub mod SectionRows
-pub mod Sections
 pub mod Shrinking
 pub mod Sizes
 pub mod Sound

@@ -18,6 +18,3 @@ pub mod WordLaws
 pub mod ListLaws
 pub mod DocumentLaws
 pub mod TableLaws
-pub mod RowDtds
-pub mod RowDocuments
-pub mod Rows

@@ -6,7 +6,6 @@
 mod documents;
 mod dtds;
 mod lists;
-mod rows;
 mod tables;
 mod words;
 
@@ -18,11 +17,6 @@ pub use documents::{
 pub use dtds::{proper_doc_law, proper_dtd_law};
 pub use lists::{
     here_extends_law, one_first_law, one_list_law, one_verdict_law, own_valid_law, root_list_law,
-};
-pub use rows::{
-    any_row, blank_row, comment_row, completed_row, deep_row, doubling_row, em_row, endless_row,
-    head_row, head_text_row, hello_row, letter_row, nested_row, numbers_row, pair_row,
-    paragraph_row, reference_row, title_row, unknown_row, words_row,
 };
 pub use tables::{
     closed_below_law, content_weights_law, one_weight_law, parts_counted_law, root_weights_law,

@@ -1,0 +1,9 @@
+pub mod Bounds
+pub mod DeepRows
+pub mod LastRows
+pub mod OtherRows
+pub mod RowTools
+pub mod SectionBounds
+pub mod SectionRows
+pub mod Sections
+pub mod WordRows

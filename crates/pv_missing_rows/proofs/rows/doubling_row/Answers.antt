@@ -1,0 +1,5 @@
+use Rattle.pv_missing_rows.proofs.LastRows.{doubling_row}
+use Rattle.pv_missing_rows.proofs.rows.doubling_row.Goals as goal
+
+pub returns : goal.returns
+returns c = doubling_row

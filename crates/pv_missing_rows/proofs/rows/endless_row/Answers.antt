@@ -1,0 +1,5 @@
+use Rattle.pv_missing_rows.proofs.OtherRows.{endless_row}
+use Rattle.pv_missing_rows.proofs.rows.endless_row.Goals as goal
+
+pub returns : goal.returns
+returns c = endless_row

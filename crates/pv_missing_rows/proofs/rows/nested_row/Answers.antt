@@ -1,0 +1,5 @@
+use Rattle.pv_missing_rows.proofs.OtherRows.{nested_row}
+use Rattle.pv_missing_rows.proofs.rows.nested_row.Goals as goal
+
+pub returns : goal.returns
+returns c = nested_row

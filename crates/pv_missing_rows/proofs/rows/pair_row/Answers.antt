@@ -1,0 +1,5 @@
+use Rattle.pv_missing_rows.proofs.LastRows.{pair_row}
+use Rattle.pv_missing_rows.proofs.rows.pair_row.Goals as goal
+
+pub returns : goal.returns
+returns c = pair_row

@@ -1,0 +1,3 @@
+pub mod Dtds
+pub mod Documents
+pub mod Rows
