@@ -1,4 +1,4 @@
 pub mod Spaces
-pub mod Names
+pub mod PlainNames
 pub mod Texts
 pub mod Scan

@@ -3,15 +3,15 @@
 
 mod bytes;
 mod memory;
-mod names;
 mod numbers;
+mod plain_names;
 pub mod scan;
 mod texts;
 
 pub use bytes::{Bytes, bytes_of};
 pub use memory::NoMemory;
-pub use names::plain_name;
 pub use numbers::Numbers;
+pub use plain_names::plain_name;
 pub use texts::{Units, plain_units};
 
 #[cfg(test)]

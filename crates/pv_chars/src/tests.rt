@@ -1,4 +1,4 @@
-use crate::scan::{after_blank, after_bytes, after_space, name_at, space_length};
+use crate::scan::{after_blank, after_bytes, after_space, plain_name_at, space_length};
 use crate::{Numbers, bytes_of, plain_name, plain_units};
 use std::test::Fail;
 
@@ -39,8 +39,8 @@ fn parts_of_a_text(rt: HostRuntime) {
     assert_eq!(rt; after_blank(b"x"), None);
     assert_eq!(rt; after_bytes(b"<!", b"<!x"), Some(b"x".as_slice()));
     assert_eq!(rt; after_bytes(b"<!", b"<x"), None);
-    let (name, rest) = name_at(b"ab-1 c").unwrap_or((b"", b""));
+    let (name, rest) = plain_name_at(b"ab-1 c").unwrap_or((b"", b""));
     assert_eq!(rt; name, b"ab-1".as_slice());
     assert_eq!(rt; rest, b" c".as_slice());
-    assert!(rt; name_at(b"1").is_none());
+    assert!(rt; plain_name_at(b"1").is_none());
 }

@@ -1,7 +1,7 @@
 -- Command lines, and the answer to each.
 use Rattle.std.specs.Prelude.{◌≡◌, ℕ, Bool, true, false, List, [], ◌∷◌, codes, if◌then◌else◌, Option, Some, None}
 use Rattle.std.specs.Str.{bytes_eq}
-use Rattle.pv_chars.specs.Names.{is_plain_name}
+use Rattle.pv_chars.specs.PlainNames.{is_plain_name}
 use Rattle.pv_cli.specs.declared.status.Status.TheVariants.{Usage}
 use Rattle.pv_cli.specs.Answer.{Answer, with_line}
 use Rattle.pv_cli.specs.Session.{IsSessionAnswer}

@@ -6,9 +6,9 @@ use Rattle.std.specs.List.{list_all}
 use Rattle.std.specs.Prelude.{nat_le}
 use Rattle.std.proofs.lemmas.Bool.{and_parts}
 use Rattle.pv_chars.specs.Spaces.{is_space, IsOptionalSpace}
-use Rattle.pv_chars.specs.Names.{is_name_start, is_name_byte, IsPlainName, LONGEST_NAME}
+use Rattle.pv_chars.specs.PlainNames.{is_plain_name_start, is_plain_name_byte, IsPlainName, MAX_NAME_BYTES}
 use Rattle.pv_chars.proofs.Beginnings.{no_space}
-use Rattle.pv_chars.proofs.Scanning.{starts_in_name}
+use Rattle.pv_chars.proofs.Scanning.{starts_in_plain_name}
 use Rattle.pv_model.specs.Models.{PlainPart, name, seq, choice, opt, star, plus, PlainParts, no_parts, part, PlainModel, empty, any, mixed, children}
 use Rattle.pv_dtd.specs.Grammar.{SpellsPart, SpellsGroup, SpellsOthers, SpellsListed, SpellsMixed, SpellsModel}
 use Rattle.pv_dtd.specs.Text.{after_close}
@@ -36,19 +36,19 @@ space_is_inner (b ∷ bs) s =
     let other = no_space (λ c. c == 62) record { space = refl; tab = refl; return = refl; feed = refl } b parts.0 in
     rw other (space_is_inner bs parts.1)
 
-named_by : (b : ℕ) (close : Bool) → (b == 62) ≡ close → is_name_byte b ≡ true → not close ≡ true
-named_by b true is named = let at : is_name_byte b ≡ is_name_byte 62 = ap is_name_byte ((Decides-eqb b 62).0 is) in cc
+named_by : (b : ℕ) (close : Bool) → (b == 62) ≡ close → is_plain_name_byte b ≡ true → not close ≡ true
+named_by b true is named = let at : is_plain_name_byte b ≡ is_plain_name_byte 62 = ap is_plain_name_byte ((Decides-eqb b 62).0 is) in cc
 named_by b false is named = refl
 
-bytes_are_inner : (bytes : List ℕ) → list_all is_name_byte bytes ≡ true → IsInner bytes
+bytes_are_inner : (bytes : List ℕ) → list_all is_plain_name_byte bytes ≡ true → IsInner bytes
 bytes_are_inner [] s = refl
-bytes_are_inner (b ∷ bs) s = let parts = and_parts (is_name_byte b) (list_all is_name_byte bs) s in rw (named_by b (b == 62) refl parts.0) (bytes_are_inner bs parts.1)
+bytes_are_inner (b ∷ bs) s = let parts = and_parts (is_plain_name_byte b) (list_all is_plain_name_byte bs) s in rw (named_by b (b == 62) refl parts.0) (bytes_are_inner bs parts.1)
 
 name_is_inner : (name : List ℕ) → IsPlainName name → IsInner name
 name_is_inner [] plain = refl
 name_is_inner (b ∷ bs) plain =
-    let parts = and_parts (is_name_start b) (list_all is_name_byte bs) (and_parts (is_name_start b && list_all is_name_byte bs) (nat_le _ LONGEST_NAME) plain).0 in
-    rw (named_by b (b == 62) refl (starts_in_name b parts.0)) (bytes_are_inner bs parts.1)
+    let parts = and_parts (is_plain_name_start b) (list_all is_plain_name_byte bs) (and_parts (is_plain_name_start b && list_all is_plain_name_byte bs) (nat_le _ MAX_NAME_BYTES) plain).0 in
+    rw (named_by b (b == 62) refl (starts_in_plain_name b parts.0)) (bytes_are_inner bs parts.1)
 
 module _ (ns : List (List ℕ)) where
   mutual

@@ -1,7 +1,7 @@
 -- A content model that is read is spelled so.
 use Rattle.std.proofs.Common.{◌≡◌, ℕ, zero, suc, inl, inr, List, [], ◌∷◌, ◌++◌, length, codes, Bool, true, cond, Option, Some, None, refl, sym, ap, ◌∙◌, subst, append_assoc}
 use Rattle.pv_chars.specs.Spaces.{IsOptionalSpace}
-use Rattle.pv_chars.specs.Names.{IsPlainName}
+use Rattle.pv_chars.specs.PlainNames.{IsPlainName}
 use Rattle.pv_chars.specs.Scan.{after_space, after_bytes}
 use Rattle.pv_chars.proofs.Scanning.{after_space_takes, after_bytes_takes}
 use Rattle.pv_model.specs.Models.{PlainPart, name, seq, choice, opt, star, plus, PlainModel, empty, any, mixed, children}

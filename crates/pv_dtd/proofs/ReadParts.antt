@@ -1,8 +1,8 @@
 -- A content particle that is read is spelled so.
 use Rattle.std.proofs.Common.{◌≡◌, ℕ, zero, suc, ◌≤◌, List, [], ◌∷◌, ◌++◌, length, codes, ◌==◌, Bool, true, false, cond, Option, Some, None, inl, inr, ◌⊎◌, refl, sym, ap, ◌∙◌, subst, append_assoc, arith}
 use Rattle.pv_chars.specs.Spaces.{IsOptionalSpace}
-use Rattle.pv_chars.specs.Scan.{after_space, name_at, after_bytes}
-use Rattle.pv_chars.proofs.Scanning.{after_space_takes, after_space-append, after_bytes_takes, name_at_takes}
+use Rattle.pv_chars.specs.Scan.{after_space, plain_name_at, after_bytes}
+use Rattle.pv_chars.proofs.Scanning.{after_space_takes, after_space-append, after_bytes_takes, plain_name_at_takes}
 use Rattle.pv_model.specs.Models.{PlainPart, name, seq, choice, opt, star, plus, PlainParts, no_parts, part}
 use Rattle.pv_dtd.specs.Plain.{names_in, names_in_all}
 use Rattle.pv_dtd.specs.Facts.{members, nesting, nesting_all}
@@ -50,8 +50,8 @@ SpellsBare depth names p text = SpellsPart names p text × (nesting p ≤ depth)
 pub number_reads : (names : List (List ℕ)) (bytes : List ℕ) (f : Found ℕ) → number_at names bytes ≡ Some f → Reads SpellsName (λ y. y ∷ []) names bytes f
 unfolding number_at
 number_reads names bytes f e =
-    let word = bound (name_at bytes) (λ w. Some (found (number_in names w.0) (with_name names w.0) w.1)) f e in
-    let takes = name_at_takes bytes word.value.0 word.value.1 word.first in
+    let word = bound (plain_name_at bytes) (λ w. Some (found (number_in names w.0) (with_name names w.0) w.1)) f e in
+    let takes = plain_name_at_takes bytes word.value.0 word.value.1 word.first in
     let is = same_some _ _ word.others in
     subst (Reads SpellsName (λ y. y ∷ []) names bytes) is record {
       text = word.value.0;

@@ -1,8 +1,8 @@
 -- Declarations that are read are spelled so.
 use Rattle.std.proofs.Common.{◌≡◌, ℕ, zero, suc, List, [], ◌∷◌, ◌++◌, map, codes, Some, refl, sym, ap, ◌∙◌, subst, append_assoc, append-nil}
 use Rattle.std.specs.List.{slice_get}
-use Rattle.pv_chars.specs.Scan.{after_space, after_blank, name_at, after_bytes}
-use Rattle.pv_chars.proofs.Scanning.{TakesSpace, after_space_takes, after_blank_takes, after_bytes_takes, name_at_takes}
+use Rattle.pv_chars.specs.Scan.{after_space, after_blank, plain_name_at, after_bytes}
+use Rattle.pv_chars.proofs.Scanning.{TakesSpace, after_space_takes, after_blank_takes, after_bytes_takes, plain_name_at_takes}
 use Rattle.pv_model.specs.Models.{PlainModel}
 use Rattle.pv_dtd.specs.Plain.{names_in_model, mentions}
 use Rattle.pv_dtd.specs.Grammar.{Declaration, SpellsDeclaration, SpellsItems, IsWithinRules}
@@ -44,7 +44,7 @@ record ReadsHead (bytes name after : List ℕ) : Type 0 where
   start : List ℕ
   opened : after_bytes (codes "<!ELEMENT") bytes ≡ Some blank
   spaced : after_blank blank ≡ Some start
-  named : name_at start ≡ Some (name, after)
+  named : plain_name_at start ≡ Some (name, after)
 
 head_reads : (bytes : List ℕ) (head : List ℕ × List ℕ) → head_at bytes ≡ Some head → ReadsHead bytes head.0 head.1
 unfolding head_at
@@ -57,7 +57,7 @@ declaration_read : (names : List (List ℕ)) (bytes name after_name spec place r
     Reads Declares names_in_model names bytes (found model.value model.names rest)
 declaration_read names bytes name after_name spec place rest model head spaced r at closed =
     let before = after_blank_takes head.blank head.start head.spaced in
-    let takes = name_at_takes head.start name after_name head.named in
+    let takes = plain_name_at_takes head.start name after_name head.named in
     let between = after_blank_takes after_name spec spaced in
     let after : TakesSpace model.rest place = rw at (after_space_takes model.rest) in
     record {

@@ -2,7 +2,7 @@
 use Rattle.std.proofs.Common.{◌≡◌, ℕ, zero, suc, ◌≤◌, ◌<◌, inl, inr, List, [], ◌∷◌, ◌++◌, length, codes, ◌==◌, Bool, true, false, Some, None, refl, sym, ap, ◌∙◌, append_assoc, length-append, arith}
 use Rattle.std.proofs.lemmas.Bool.Decides.{Decides-eqb}
 use Rattle.pv_chars.specs.Spaces.{IsOptionalSpace}
-use Rattle.pv_chars.specs.Names.{is_name_byte}
+use Rattle.pv_chars.specs.PlainNames.{is_plain_name_byte}
 use Rattle.pv_chars.specs.Scan.{after_space, after_bytes}
 use Rattle.pv_chars.proofs.Scanning.{begins, after_space-append}
 use Rattle.pv_chars.proofs.Beginnings.{names_have_no_space, begins_behind, name_begins, name_not_after}
@@ -17,9 +17,9 @@ use Rattle.pv_dtd.proofs.SpelledParts.{goes_on, spelt, AreApart, number_is_read,
 
 module _ (ns : List (List ℕ)) (apart : AreApart ns) where
   -- no name goes on where other names, space or the end stand behind it
-  listed_begin : (ys : List ℕ) (text after rest : List ℕ) → SpellsListed ns ys text → IsOptionalSpace after → begins is_name_byte (text ++ (after ++ (codes ")" ++ rest))) ≡ false
-  listed_begin [] text after rest s space = rw s (begins_behind is_name_byte names_have_no_space after (codes ")" ++ rest) space refl)
-  listed_begin (y ∷ ys) text after rest s space = rw (s.8, regrouped s.0 124 s.1 s.2 s.3 (after ++ (codes ")" ++ rest))) (begins_behind is_name_byte names_have_no_space s.0 _ s.4 refl)
+  listed_begin : (ys : List ℕ) (text after rest : List ℕ) → SpellsListed ns ys text → IsOptionalSpace after → begins is_plain_name_byte (text ++ (after ++ (codes ")" ++ rest))) ≡ false
+  listed_begin [] text after rest s space = rw s (begins_behind is_plain_name_byte names_have_no_space after (codes ")" ++ rest) space refl)
+  listed_begin (y ∷ ys) text after rest s space = rw (s.8, regrouped s.0 124 s.1 s.2 s.3 (after ++ (codes ")" ++ rest))) (begins_behind is_plain_name_byte names_have_no_space s.0 _ s.4 refl)
 
   listed_are_read : (ys : List ℕ) (text : List ℕ) → SpellsListed ns ys text → (names : List (List ℕ)) (after rest : List ℕ) (steps : ℕ) → IsOptionalSpace after → GoesOn (grown names (spelt ns ys)) ns → length (text ++ (after ++ (codes ")" ++ rest))) < steps →
       listed_at steps names (text ++ (after ++ (codes ")" ++ rest))) ≡ Some (found ys (grown names (spelt ns ys)) (codes ")" ++ rest))

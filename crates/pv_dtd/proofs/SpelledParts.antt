@@ -6,9 +6,9 @@ use Rattle.std.specs.List.{slice_get}
 use Rattle.std.specs.Prelude.{slice_index_or}
 use Rattle.std.proofs.lemmas.Bool.{or_parts}
 use Rattle.pv_chars.specs.Spaces.{is_space, IsOptionalSpace}
-use Rattle.pv_chars.specs.Names.{is_name_byte}
+use Rattle.pv_chars.specs.PlainNames.{is_plain_name_byte}
 use Rattle.pv_chars.specs.Scan.{after_space}
-use Rattle.pv_chars.proofs.Scanning.{begins, after_space-append, name_at-append}
+use Rattle.pv_chars.proofs.Scanning.{begins, after_space-append, plain_name_at-append}
 use Rattle.pv_chars.proofs.Beginnings.{HasNoSpace, begins_behind, name_begins, name_not_after}
 use Rattle.pv_model.specs.Models.{PlainPart, name, seq, choice, opt, star, plus, PlainParts, no_parts, part}
 use Rattle.pv_dtd.specs.Plain.{place_of, names_in, names_in_all}
@@ -21,7 +21,7 @@ use Rattle.pv_dtd.proofs.Naming.{GoesOn, goes_on_then, grown, grown_goes_on, gro
 
 -- what may go on with a particle: a name's byte or an operator
 abbrev pub goes_on : ℕ → Bool
-goes_on b = is_name_byte b || (b == 63) || (b == 42) || (b == 43)
+goes_on b = is_plain_name_byte b || (b == 63) || (b == 42) || (b == 43)
 
 pub particles_have_no_space : HasNoSpace goes_on
 particles_have_no_space = record { space = refl; tab = refl; return = refl; feed = refl }
@@ -35,29 +35,29 @@ abbrev pub AreApart : List (List ℕ) → Type 0
 AreApart ns = (y : ℕ) (x : List ℕ) → slice_get ns y ≡ Some x → place_of ns x ≡ Some y
 
 -- what begins no particle's rest begins no name's rest
-name_ends : (rest : List ℕ) → begins goes_on rest ≡ false → begins is_name_byte rest ≡ false
+name_ends : (rest : List ℕ) → begins goes_on rest ≡ false → begins is_plain_name_byte rest ≡ false
 name_ends [] e = refl
-name_ends (b ∷ bs) e = (or_parts (is_name_byte b) (b == 63) (or_parts (is_name_byte b || (b == 63)) (b == 42) (or_parts (is_name_byte b || (b == 63) || (b == 42)) (b == 43) e).0).0).0
+name_ends (b ∷ bs) e = (or_parts (is_plain_name_byte b) (b == 63) (or_parts (is_plain_name_byte b || (b == 63)) (b == 42) (or_parts (is_plain_name_byte b || (b == 63) || (b == 42)) (b == 43) e).0).0).0
 
 unoperated : (p : PlainPart) (names : List (List ℕ)) (rest : List ℕ) → begins goes_on rest ≡ false → operated p names rest ≡ found p names rest
 unfolding operated
 unoperated p names [] e = refl
 unoperated p names (b ∷ bs) e =
-    let third = or_parts (is_name_byte b || (b == 63) || (b == 42)) (b == 43) e in
-    let second = or_parts (is_name_byte b || (b == 63)) (b == 42) third.0 in
-    let first = or_parts (is_name_byte b) (b == 63) second.0 in
+    let third = or_parts (is_plain_name_byte b || (b == 63) || (b == 42)) (b == 43) e in
+    let second = or_parts (is_plain_name_byte b || (b == 63)) (b == 42) third.0 in
+    let first = or_parts (is_plain_name_byte b) (b == 63) second.0 in
     rw (first.1, second.1, third.1) refl
 
 module _ (ns : List (List ℕ)) (apart : AreApart ns) where
   number_is : (names : List (List ℕ)) (y : ℕ) (x : List ℕ) → slice_get ns y ≡ Some x → GoesOn (with_name names x) ns → number_in names x ≡ y
   number_is names y x named on = same_some _ _ (sym (place_goes_on (with_name names x) ns on x _ (place-with_name names x)) ∙ apart y x named)
 
-  pub number_is_read : (names : List (List ℕ)) (y : ℕ) (x rest : List ℕ) → SpellsName ns y x → begins is_name_byte rest ≡ false → GoesOn (grown names (spelt ns (y ∷ []))) ns →
+  pub number_is_read : (names : List (List ℕ)) (y : ℕ) (x rest : List ℕ) → SpellsName ns y x → begins is_plain_name_byte rest ≡ false → GoesOn (grown names (spelt ns (y ∷ []))) ns →
       number_at names (x ++ rest) ≡ Some (found y (grown names (spelt ns (y ∷ []))) rest)
   unfolding number_at
   number_is_read names y x rest s ends on =
       let is : slice_index_or ns y [] ≡ x = get_or_from_slice_get ns y x [] s.named in
-      rw (is, name_at-append x rest s.plain ends, number_is names y x s.named (rw is at on)) refl
+      rw (is, plain_name_at-append x rest s.plain ends, number_is names y x s.named (rw is at on)) refl
 
   -- a particle begins with no space
   group_begins : (separator : List ℕ) (ps : PlainParts) (text rest : List ℕ) → SpellsGroup ns separator ps text → begins is_space (text ++ rest) ≡ false
@@ -80,12 +80,12 @@ module _ (ns : List (List ℕ)) (apart : AreApart ns) where
   behind names p rest = found p (grown names (spelt ns (names_in p))) rest
 
   abbrev BareIsRead : PlainPart → List ℕ → Type 0
-  BareIsRead p text = (depth : ℕ) (names : List (List ℕ)) (rest : List ℕ) → nesting p ≤ depth → begins is_name_byte rest ≡ false → GoesOn (grown names (spelt ns (names_in p))) ns → bare_at depth names (text ++ rest) ≡ Some (behind names p rest)
+  BareIsRead p text = (depth : ℕ) (names : List (List ℕ)) (rest : List ℕ) → nesting p ≤ depth → begins is_plain_name_byte rest ≡ false → GoesOn (grown names (spelt ns (names_in p))) ns → bare_at depth names (text ++ rest) ≡ Some (behind names p rest)
 
   abbrev PartIsRead : PlainPart → List ℕ → Type 0
   PartIsRead p text = (depth : ℕ) (names : List (List ℕ)) (rest : List ℕ) → nesting p ≤ depth → begins goes_on rest ≡ false → GoesOn (grown names (spelt ns (names_in p))) ns → particle_at depth names (text ++ rest) ≡ Some (behind names p rest)
 
-  word_is_read : (group : Reader PlainPart) (y : ℕ) (text : List ℕ) → SpellsName ns y text → (names : List (List ℕ)) (rest : List ℕ) → begins is_name_byte rest ≡ false → GoesOn (grown names (spelt ns (y ∷ []))) ns → bare_from group names (text ++ rest) ≡ Some (behind names (name y) rest)
+  word_is_read : (group : Reader PlainPart) (y : ℕ) (text : List ℕ) → SpellsName ns y text → (names : List (List ℕ)) (rest : List ℕ) → begins is_plain_name_byte rest ≡ false → GoesOn (grown names (spelt ns (y ∷ []))) ns → bare_from group names (text ++ rest) ≡ Some (behind names (name y) rest)
   unfolding word_at
   word_is_read group y text s names rest ends on = rw (name_not_after 40 [] text rest refl s.plain, number_is_read names y text rest s ends on) refl
 
@@ -101,7 +101,7 @@ module _ (ns : List (List ℕ)) (apart : AreApart ns) where
       rw (read depth names rest deep (name_ends rest ends) on, unoperated p (grown names (spelt ns (names_in p))) rest ends) refl
 
   -- with one
-  operated_is_part : (p q : PlainPart) (text inner : List ℕ) (b : ℕ) → names_in q ≡ names_in p → nesting q ≡ nesting p → is_name_byte b ≡ false → ((names : List (List ℕ)) (rest : List ℕ) → operated p names (b ∷ rest) ≡ found q names rest) → text ≡ inner ++ b ∷ [] → BareIsRead p inner → PartIsRead q text
+  operated_is_part : (p q : PlainPart) (text inner : List ℕ) (b : ℕ) → names_in q ≡ names_in p → nesting q ≡ nesting p → is_plain_name_byte b ≡ false → ((names : List (List ℕ)) (rest : List ℕ) → operated p names (b ∷ rest) ≡ found q names rest) → text ≡ inner ++ b ∷ [] → BareIsRead p inner → PartIsRead q text
   unfolding particle_from
   operated_is_part p q text inner b same deep_as other turns whole read depth names rest deep ends on =
       let all : text ++ rest ≡ inner ++ b ∷ rest = ap (λ t. t ++ rest) whole ∙ append_assoc inner (b ∷ []) rest in

@@ -3,9 +3,9 @@ use Rattle.std.proofs.Common.{◌≡◌, ℕ, zero, suc, ◌<◌, inl, inr, List
 use Rattle.std.specs.List.{slice_get, list_any}
 use Rattle.std.specs.Str.{bytes_eq}
 use Rattle.pv_chars.specs.Spaces.{is_space, IsOptionalSpace}
-use Rattle.pv_chars.specs.Names.{is_name_byte}
+use Rattle.pv_chars.specs.PlainNames.{is_plain_name_byte}
 use Rattle.pv_chars.specs.Scan.{◌>>=◌, after_space, after_blank}
-use Rattle.pv_chars.proofs.Scanning.{begins, after_space-append, after_blank-append, name_at-append}
+use Rattle.pv_chars.proofs.Scanning.{begins, after_space-append, after_blank-append, plain_name_at-append}
 use Rattle.pv_chars.proofs.Beginnings.{names_have_no_space, begins_behind, begins_in_space, name_begins}
 use Rattle.pv_model.specs.Models.{PlainModel, empty, any, mixed, children}
 use Rattle.pv_dtd.specs.Plain.{names_in_model, mentions}
@@ -50,7 +50,7 @@ module _ (ns : List (List ℕ)) (d : Declaration) (text : List ℕ) (s : SpellsD
   unfolding head_at
   head_is_read =
       let blank : after_blank (s.before_name ++ (d.type_name ++ tail)) ≡ Some (d.type_name ++ tail) = after_blank-append s.before_name (d.type_name ++ tail) s.space_before_name (name_begins d.type_name tail s.is_name) in
-      rw (whole, blank) (name_at-append d.type_name tail s.is_name (begins_in_space is_name_byte names_have_no_space s.before_model (s.model ++ end) s.space_before_model))
+      rw (whole, blank) (plain_name_at-append d.type_name tail s.is_name (begins_in_space is_plain_name_byte names_have_no_space s.before_model (s.model ++ end) s.space_before_model))
 
   pub after_declaration : after_close tail ≡ rest
   after_declaration =

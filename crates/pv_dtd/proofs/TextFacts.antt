@@ -9,7 +9,7 @@ use Rattle.std.specs.List.{list_all, list_any, slice_get, range_with_len}
 use Rattle.std.specs.Prelude.{nat_eq, slice_index_or}
 use Rattle.std.specs.Str.{bytes_eq}
 use Rattle.std.proofs.lemmas.Bool.{or_right}
-use Rattle.pv_chars.specs.Names.{is_plain_name}
+use Rattle.pv_chars.specs.PlainNames.{is_plain_name}
 use Rattle.pv_model.specs.declared.models.ContentModel.{ContentModel}
 use Rattle.pv_model.specs.Read.{plain_model}
 use Rattle.pv_dtd.specs.Plain.{PlainDtd, mentions, place_of}

@@ -1,6 +1,6 @@
 -- Content particles, read from the left. The names that came so far go in, and come out with the new ones.
 use Rattle.std.specs.Prelude.{◌≡◌, ℕ, zero, suc, List, [], ◌∷◌, length, codes, ◌==◌, if◌then◌else◌, Option, Some, None, Result, Ok, Err}
-use Rattle.pv_chars.specs.Scan.{◌>>=◌, after_space, name_at, after_bytes}
+use Rattle.pv_chars.specs.Scan.{◌>>=◌, after_space, plain_name_at, after_bytes}
 use Rattle.pv_model.specs.Models.{PlainPart, name, seq, choice, opt, star, plus, PlainParts, no_parts, part}
 use Rattle.pv_dtd.specs.declared.errors.DtdError.{DtdError}
 use Rattle.pv_dtd.specs.declared.errors.DtdError.TheVariants.{Syntax, NoMemory}
@@ -31,7 +31,7 @@ Reader X = List (List ℕ) → List ℕ → Option (Found X)
 -- a name, by its number
 unfoldable pub number_at : List (List ℕ) → List ℕ → Option (Found ℕ)
 number_at names bytes = do
-  word ← name_at bytes
+  word ← plain_name_at bytes
   Some (found (number_in names word.0) (with_name names word.0) word.1)
 
 -- a name as a particle

@@ -1,6 +1,6 @@
 -- Content models, declarations and whole texts, read from the left. The names that came so far go in, and come out with the new ones.
 use Rattle.std.specs.Prelude.{ℕ, zero, suc, List, [], ◌∷◌, ◌++◌, length, codes, nat_le, ◌==◌, ◌&&◌, if◌then◌else◌, is_some, Option, Some, None}
-use Rattle.pv_chars.specs.Scan.{◌>>=◌, after_space, after_blank, name_at, after_bytes}
+use Rattle.pv_chars.specs.Scan.{◌>>=◌, after_space, after_blank, plain_name_at, after_bytes}
 use Rattle.pv_model.specs.Models.{PlainModel, empty, any, mixed, children}
 use Rattle.pv_dtd.specs.Plain.{PlainDtd, place_of, parts_in_models}
 use Rattle.pv_dtd.specs.Facts.{are_distinct_numbers, MOST_NESTING, MOST_TYPES, MOST_PARTS, MOST_DTD}
@@ -63,7 +63,7 @@ unfoldable pub head_at : List ℕ → Option (List ℕ × List ℕ)
 head_at bytes = do
   blank ← after_bytes (codes "<!ELEMENT") bytes
   start ← after_blank blank
-  name_at start
+  plain_name_at start
 
 -- the model that a declaration declares, and what stands after the declaration
 unfoldable pub declaration_at : Reader PlainModel

@@ -10,7 +10,7 @@ ghost use Rattle.pv_dtd.specs.Text.{head_at, declaration_at, models_at, after_cl
 use crate::errors::DtdError;
 use crate::models::{ReadModel, model_at};
 use crate::names::NameTable;
-use pv_chars::scan::{after_blank, after_bytes, after_space, name_at};
+use pv_chars::scan::{after_blank, after_bytes, after_space, plain_name_at};
 use pv_model::ContentModel;
 use std::alloc::Global;
 
@@ -22,7 +22,7 @@ fn head_at(bytes: &[u8]) -> Option<(&[u8], &[u8])>
 {
     let blank = after_bytes(b"<!ELEMENT", bytes)?;
     let start = after_blank(blank)?;
-    name_at(start)
+    plain_name_at(start)
 }
 
 // The model that a declaration declares, and what stands behind the declaration.

@@ -10,7 +10,7 @@ ghost use Rattle.pv_dtd.specs.declared.particles.Particle.{Particle};
 use crate::errors::DtdError;
 use crate::names::NameTable;
 use pv_chars::NoMemory;
-use pv_chars::scan::{after_bytes, after_space, name_at};
+use pv_chars::scan::{after_bytes, after_space, plain_name_at};
 use pv_model::{NameId, Part, Parts};
 use std::alloc::Global;
 
@@ -32,7 +32,7 @@ pub fn number_at<'a>(
     ensures read { Gives (λ r. found r.0.0 names.new r.1.now) result (number_at names.old bytes.now) }
     ensures within { IfOk result (λ r. length r.1.now < length bytes.now) }
 {
-    let Some((word, rest)) = name_at(bytes) else {
+    let Some((word, rest)) = plain_name_at(bytes) else {
         return Err(DtdError::Syntax(0));
     };
     let id = names.number(alloc, word)?;

@@ -2,7 +2,7 @@
 use Rattle.std.proofs.Common.{◌≡◌, ◌≤◌, ◌+◌, ◌*◌, ℕ, List, [], ◌∷◌, ◌++◌, Bool, true, false, not, ◌&&◌, cond, IsTrue, codes, length, length-append, append-nil, refl, sym, subst, arith}
 use Rattle.std.specs.List.{list_all}
 use Rattle.std.proofs.lemmas.Bool.{and_parts, not-true, or_parts}
-use Rattle.pv_chars.specs.Names.{IsPlainName}
+use Rattle.pv_chars.specs.PlainNames.{IsPlainName}
 use Rattle.pv_chars.specs.Texts.{units_of, is_text_char, IsPlainText, holds_close_mark, begins_close_mark}
 use Rattle.pv_tree.specs.Plain.{short, tagged, Tree, element, text_node, cdata_node, misc_node, Forest, no_trees, tree, nodes_in, nodes_in_all, is_element}
 use Rattle.pv_tree.specs.Legal.{is_formed, are_formed, is_plain_unit, are_plain_units, is_legal, are_legal, is_open, front_units, is_markless, are_markless, starts_markless}

@@ -6,21 +6,21 @@ use Rattle.std.proofs.lemmas.Bool.Decides.{nat_tests}
 use Rattle.std.proofs.lemmas.Bool.{and_parts}
 use Rattle.pv_chars.specs.Spaces.{is_space}
 use Rattle.pv_chars.proofs.Scanning.{begins}
-use Rattle.pv_chars.specs.Names.{IsPlainName, is_name_start, is_name_byte, LONGEST_NAME}
+use Rattle.pv_chars.specs.PlainNames.{IsPlainName, is_plain_name_start, is_plain_name_byte, MAX_NAME_BYTES}
 use Rattle.pv_tree.specs.Plain.{short, tagged, Tree, element, text_node, cdata_node, misc_node, Forest, no_trees, tree, depth_of, depth_of_all, remarked, remarked_all}
 use Rattle.pv_read.specs.Grammar.{SpellsNode, SpellsContent, IsElement, IsWholeRun, begins_with_text}
 use Rattle.pv_read.specs.Reading.{PlainTag, text_length, begins_end_tag, ReadsElement, short_tag, start_tag, ReadsContent, close, run, inner}
 use Rattle.pv_read.proofs.TagForms.{closing, start_tag_at-append, end_tag_at-append}
 use Rattle.pv_read.proofs.TextLemmas.{text_at-append, text_at-none, begins_end_tag-text}
 
-start_no_slash : (b : ℕ) → is_name_start b ≡ true → (b == 47) ≡ false
+start_no_slash : (b : ℕ) → is_plain_name_start b ≡ true → (b == 47) ≡ false
 start_no_slash b e = grind (arith, nat_tests)
 
 name_no_end_tag : (name rest : List ℕ) → IsPlainName name → begins_end_tag (60 ∷ (name ++ rest)) ≡ false
 name_no_end_tag [] rest plain = cc
 name_no_end_tag (b ∷ bs) rest plain =
-    let parts = and_parts (is_name_start b && list_all is_name_byte bs) (nat_le (length (b ∷ bs)) LONGEST_NAME) plain in
-    start_no_slash b (and_parts (is_name_start b) (list_all is_name_byte bs) parts.0).0
+    let parts = and_parts (is_plain_name_start b && list_all is_plain_name_byte bs) (nat_le (length (b ∷ bs)) MAX_NAME_BYTES) plain in
+    start_no_slash b (and_parts (is_plain_name_start b) (list_all is_plain_name_byte bs) parts.0).0
 
 short_whole : (x attrs bytes rest : List ℕ) → bytes ≡ codes "<" ++ x ++ attrs ++ codes "/>" → bytes ++ rest ≡ codes "<" ++ (x ++ (attrs ++ (closing true ++ rest)))
 short_whole x attrs bytes rest whole = rw whole (simp append_assoc)

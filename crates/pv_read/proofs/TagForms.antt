@@ -5,9 +5,9 @@ use Rattle.std.specs.List.{list_all}
 use Rattle.std.proofs.lemmas.Bool.Decides.{Decides-eqb, nat_tests}
 use Rattle.std.proofs.lemmas.Bool.{and_parts}
 use Rattle.pv_chars.specs.Spaces.{is_space, IsOptionalSpace}
-use Rattle.pv_chars.specs.Names.{is_name_byte, IsPlainName}
+use Rattle.pv_chars.specs.PlainNames.{is_plain_name_byte, IsPlainName}
 use Rattle.pv_chars.specs.Scan.{space_length, after_bytes}
-use Rattle.pv_chars.proofs.Scanning.{begins, name_at_takes, name_at-append, after_bytes_takes, after_bytes-append}
+use Rattle.pv_chars.proofs.Scanning.{begins, plain_name_at_takes, plain_name_at-append, after_bytes_takes, after_bytes-append}
 use Rattle.pv_read.proofs.Steps.{some_pair, bound}
 use Rattle.pv_read.specs.Reading.{PlainTag, tag_end, space_at, closed_tag, named_tag, start_tag_at, closed_end_tag, named_end_tag, end_tag_at}
 
@@ -88,7 +88,7 @@ named_tag_takes : (bytes : List ℕ) (tag : PlainTag) (rest : List ℕ) → name
     → IsPlainName tag.name × IsOptionalSpace tag.attrs × (bytes ≡ tag.name ++ (tag.attrs ++ (closing tag.is_short ++ rest)))
 named_tag_takes bytes tag rest e =
     let name = bound _ _ _ e in
-    let takes = name_at_takes _ _ _ name.1 in
+    let takes = plain_name_at_takes _ _ _ name.1 in
     let cut = space_at_cuts name.0.1 in
     let close = closed_tag_takes name.0.0 (space_at name.0.1) tag rest name.2 in
     (rw close.0 takes.plain, rw close.1 cut.optional, cc)
@@ -104,21 +104,21 @@ no_space_closes : (is_short : Bool) (rest : List ℕ) → begins is_space (closi
 no_space_closes true rest = refl
 no_space_closes false rest = refl
 
-no_name_closes : (is_short : Bool) (rest : List ℕ) → begins is_name_byte (closing is_short ++ rest) ≡ false
+no_name_closes : (is_short : Bool) (rest : List ℕ) → begins is_plain_name_byte (closing is_short ++ rest) ≡ false
 no_name_closes true rest = refl
 no_name_closes false rest = refl
 
-space_is_no_name : (b : ℕ) → is_space b ≡ true → is_name_byte b ≡ false
+space_is_no_name : (b : ℕ) → is_space b ≡ true → is_plain_name_byte b ≡ false
 space_is_no_name b e = grind (arith, nat_tests)
 
-no_name_follows : (space rest : List ℕ) → IsOptionalSpace space → begins is_name_byte rest ≡ false → begins is_name_byte (space ++ rest) ≡ false
+no_name_follows : (space rest : List ℕ) → IsOptionalSpace space → begins is_plain_name_byte rest ≡ false → begins is_plain_name_byte (space ++ rest) ≡ false
 no_name_follows [] rest space none = none
 no_name_follows (b ∷ bs) rest space none = space_is_no_name b (and_parts (is_space b) (list_all is_space bs) space).0
 
 pub start_tag_at-append : (tag : PlainTag) (rest : List ℕ) → IsPlainName tag.name → IsOptionalSpace tag.attrs → start_tag_at (codes "<" ++ (tag.name ++ (tag.attrs ++ (closing tag.is_short ++ rest)))) ≡ Some (tag, rest)
 unfolding start_tag_at
 start_tag_at-append tag rest name space =
-    let named = name_at-append tag.name (tag.attrs ++ (closing tag.is_short ++ rest)) name (no_name_follows tag.attrs _ space (no_name_closes tag.is_short rest)) in
+    let named = plain_name_at-append tag.name (tag.attrs ++ (closing tag.is_short ++ rest)) name (no_name_follows tag.attrs _ space (no_name_closes tag.is_short rest)) in
     let spaced = space_at-append tag.attrs (closing tag.is_short ++ rest) space (no_space_closes tag.is_short rest) in
     rw named (ap (closed_tag tag.name) spaced ∙ rw (tag_end-append tag.is_short rest) refl)
 

@@ -1,7 +1,7 @@
 -- The grammar of a plain document (XML 1.0, sections 2.1, 2.4 and 3.1): elements with plain names and no attributes, and plain texts.
 use Rattle.std.specs.Prelude.{◌≡◌, ◌≤◌, ℕ, Bool, true, false, not, List, [], ◌++◌, length, codes, IsTrue}
 use Rattle.pv_chars.specs.Spaces.{IsOptionalSpace}
-use Rattle.pv_chars.specs.Names.{IsPlainName}
+use Rattle.pv_chars.specs.PlainNames.{IsPlainName}
 use Rattle.pv_chars.specs.Texts.{units_of, IsPlainText}
 use Rattle.pv_tree.specs.Plain.{short, tagged, Tree, element, text_node, cdata_node, misc_node, Forest, no_trees, tree, PlainDoc, depth_of}
 use Rattle.pv_tree.specs.Legal.{MOST_DEPTH}

@@ -1,6 +1,6 @@
 -- A plain document as it is read, from the left. Mark m is given to each element.
 use Rattle.std.specs.Prelude.{◌≡◌, ℕ, suc, ◌+◌, Bool, true, false, List, [], ◌∷◌, ◌==◌, if◌then◌else◌, codes, Option, Some, None}
-use Rattle.pv_chars.specs.Scan.{◌>>=◌, split, space_length, name_at, after_bytes}
+use Rattle.pv_chars.specs.Scan.{◌>>=◌, split, space_length, plain_name_at, after_bytes}
 use Rattle.pv_chars.specs.Texts.{units_of, is_plain_text}
 use Rattle.pv_tree.specs.Plain.{short, tagged, Tree, element, text_node, Forest, no_trees, tree}
 
@@ -40,7 +40,7 @@ closed_tag name cut = tag_end cut.1 >>= λ end. Some (record { name = name; attr
 
 -- a tag from its name on
 abbrev pub named_tag : List ℕ → Option (PlainTag × List ℕ)
-named_tag bytes = name_at bytes >>= λ name. closed_tag name.0 (space_at name.1)
+named_tag bytes = plain_name_at bytes >>= λ name. closed_tag name.0 (space_at name.1)
 
 -- the start tag or empty-element tag at the front, and what stands after it
 unfoldable pub start_tag_at : List ℕ → Option (PlainTag × List ℕ)

@@ -4,7 +4,7 @@ ghost use Rattle.std.specs.Prelude.{◌≡◌, ◌≤◌, ◌<◌, length, IfSom
 ghost use Rattle.std.specs.Option.{option_map};
 ghost use Rattle.pv_read.specs.Reading.{begins_end_tag, tag_end, space_at, start_tag_at, end_tag_at};
 
-use pv_chars::scan::{after_bytes, name_at, space_length};
+use pv_chars::scan::{after_bytes, plain_name_at, space_length};
 
 /// A start tag or an empty-element tag, by its parts in the text.
 #[derive(Clone, Copy)]
@@ -50,7 +50,7 @@ pub fn start_tag_at(bytes: &[u8]) -> Option<(StartTag<'_>, &[u8])>
     ensures within { IfSome result (λ r. length r.1.now < length bytes.now) }
 {
     let tag = after_bytes(b"<", bytes)?;
-    let (name, after_name) = name_at(tag)?;
+    let (name, after_name) = plain_name_at(tag)?;
     let (attrs, end) = space_at(after_name);
     let (is_short, rest) = tag_end(end)?;
     Some((

@@ -3,7 +3,7 @@ use Rattle.std.proofs.Common.{◌≡◌, ◌↔◌, ℕ, suc, List, [], ◌∷�
 use Rattle.std.specs.List.{AllByRecursion, list_all}
 use Rattle.std.proofs.lemmas.Bool.{and_from, and_parts}
 use Rattle.pv_chars.specs.Spaces.{is_space}
-use Rattle.pv_chars.specs.Names.{is_plain_name}
+use Rattle.pv_chars.specs.PlainNames.{is_plain_name}
 use Rattle.pv_dtd.specs.Plain.{PlainDtd, number_of, declared}
 use Rattle.pv_tree.specs.Plain.{Tree, element, text_node, cdata_node, misc_node, Forest, no_trees, tree, PlainDoc}
 use Rattle.pv_dtd.specs.Hedge.{Hedge, done, elem, word, Fits, AreGood, IsValid}

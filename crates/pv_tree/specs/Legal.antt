@@ -2,7 +2,7 @@
 use Rattle.std.specs.Prelude.{ℕ, Bool, true, false, not, ◌&&◌, List, [], ◌∷◌, ◌++◌}
 use Rattle.std.specs.List.{list_all}
 use Rattle.pv_chars.specs.Spaces.{is_space}
-use Rattle.pv_chars.specs.Names.{is_plain_name}
+use Rattle.pv_chars.specs.PlainNames.{is_plain_name}
 use Rattle.pv_chars.specs.Texts.{is_text_char, begins_close_mark}
 use Rattle.pv_tree.specs.Plain.{Ending, short, tagged, Tree, element, text_node, cdata_node, misc_node, Forest, no_trees, tree, PlainDoc}
 

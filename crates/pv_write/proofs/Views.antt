@@ -3,7 +3,7 @@ use Rattle.std.proofs.Common.{◌≡◌, ℕ, List, ◌++◌, Bool, true, ◌&&�
 use Rattle.std.specs.List.{list_all}
 use Rattle.std.proofs.lemmas.Bool.{and_parts}
 use Rattle.pv_chars.specs.Spaces.{is_space, IsOptionalSpace}
-use Rattle.pv_chars.specs.Names.{is_plain_name}
+use Rattle.pv_chars.specs.PlainNames.{is_plain_name}
 use Rattle.pv_chars.specs.Texts.{joined}
 use Rattle.pv_tree.specs.Plain.{short, tagged, Tree, element, text_node, cdata_node, misc_node, Forest, no_trees, tree, is_element, PlainDoc}
 use Rattle.pv_tree.specs.Legal.{fits_kids, is_formed, are_formed, are_plain_units, is_legal, are_legal, front_units, is_open, is_markless, are_markless, starts_markless}

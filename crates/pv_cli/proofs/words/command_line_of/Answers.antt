@@ -2,7 +2,7 @@ use Rattle.std.proofs.Common.{◌≡◌, List, length, String, string_bytes, Glo
 use Rattle.std.proofs.lemmas.Grind.{common_steps}
 use Rattle.std.specs.Str.{bytes_eq}
 use Rattle.pv_io.specs.Files.{byte_lists}
-use Rattle.pv_chars.specs.Names.{is_plain_name}
+use Rattle.pv_chars.specs.PlainNames.{is_plain_name}
 use Rattle.pv_cli.specs.Commands.{command_line_of}
 use Rattle.pv_cli.proofs.WordLemmas.{four, not_four, valid_words, session_words, other_command, other_root, length-byte_lists}
 use Rattle.pv_cli.proofs.words.command_line_of.Goals as goal
