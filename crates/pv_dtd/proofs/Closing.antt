@@ -9,7 +9,7 @@ use Rattle.pv_chars.specs.Spaces.{is_space, IsOptionalSpace}
 use Rattle.pv_chars.specs.PlainNames.{is_plain_name_start, is_plain_name_byte, IsPlainName, MAX_NAME_BYTES}
 use Rattle.pv_chars.proofs.Beginnings.{no_space}
 use Rattle.pv_chars.proofs.Scanning.{starts_in_plain_name}
-use Rattle.pv_model.specs.Models.{PlainPart, name, seq, choice, opt, star, plus, PlainParts, no_parts, part, PlainModel, empty, any, mixed, children}
+use Rattle.pv_model.specs.Plain.{PlainPart, name, seq, choice, opt, star, plus, PlainParts, no_parts, part, PlainModel, empty, any, mixed, children}
 use Rattle.pv_dtd.specs.Grammar.{SpellsPart, SpellsGroup, SpellsOthers, SpellsListed, SpellsMixed, SpellsModel}
 use Rattle.pv_dtd.specs.Text.{after_close}
 

@@ -1,6 +1,6 @@
 -- The declarations that were read, and those that are still to come.
 use Rattle.std.proofs.Common.{◌≡◌, ℕ, zero, suc, ◌+◌, ◌<◌, List, [], ◌∷◌, ◌++◌, length, is_some, true, false, Option, Some, None, refl, sym, ap, ◌∙◌, append-nil, arith}
-use Rattle.pv_model.specs.Models.{PlainModel}
+use Rattle.pv_model.specs.Plain.{PlainModel}
 use Rattle.pv_chars.specs.Scan.{◌>>=◌, after_space}
 use Rattle.pv_dtd.specs.Plain.{place_of, parts_in_model, parts_in_models}
 use Rattle.pv_dtd.specs.Reading.{Found, found}

@@ -5,7 +5,7 @@ use Rattle.std.proofs.lemmas.Option.{get_or_from_slice_get, slice_get_within}
 use Rattle.std.specs.List.{list_all, slice_get}
 use Rattle.std.specs.Prelude.{nat_lt}
 use Rattle.pv_chars.specs.PlainNames.{is_plain_name, IsPlainName}
-use Rattle.pv_model.specs.Models.{PlainPart, name, seq, choice, opt, star, plus, PlainParts, no_parts, part, PlainModel, empty, any, mixed, children}
+use Rattle.pv_model.specs.Plain.{PlainPart, name, seq, choice, opt, star, plus, PlainParts, no_parts, part, PlainModel, empty, any, mixed, children}
 use Rattle.pv_dtd.specs.Plain.{parts_in, parts_in_all, parts_in_model, parts_in_models, names_in, names_in_all, names_in_model, mentions}
 use Rattle.pv_dtd.specs.Facts.{is_formed, are_formed, members, has_operator, nesting, is_formed_model, MOST_NESTING}
 use Rattle.pv_dtd.specs.Grammar.{Declaration, SpellsPart, SpellsGroup, SpellsOthers, SpellsListed, SpellsModel, SpellsItems, IsWithinRules}

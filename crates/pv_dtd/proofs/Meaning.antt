@@ -7,7 +7,7 @@ use Rattle.std.specs.List.{slice_get}
 use Rattle.std.specs.Prelude.{nat_le, slice_index_or, IfErr}
 use Rattle.std.specs.Str.{bytes_eq}
 use Rattle.std.proofs.lemmas.Bool.{and_parts}
-use Rattle.pv_model.specs.Models.{PlainModel}
+use Rattle.pv_model.specs.Plain.{PlainModel}
 use Rattle.pv_chars.specs.Scan.{◌>>=◌}
 use Rattle.pv_chars.proofs.Scanning.{chosen}
 use Rattle.pv_dtd.specs.Plain.{PlainDtd, spelling_of, mentions, parts_in_models}

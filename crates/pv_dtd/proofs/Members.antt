@@ -1,6 +1,6 @@
 -- The members of a group that were read, and those that are still to come.
 use Rattle.std.proofs.Common.{◌≡◌, ℕ, zero, suc, ◌+◌, ◌<◌, List, [], ◌∷◌, ◌++◌, length, codes, Option, Some, None, refl, sym, ap, ◌∙◌, arith}
-use Rattle.pv_model.specs.Models.{PlainPart, PlainParts, no_parts, part, parts_of}
+use Rattle.pv_model.specs.Plain.{PlainPart, PlainParts, no_parts, part, parts_of}
 use Rattle.pv_chars.specs.Scan.{◌>>=◌, after_space, after_bytes}
 use Rattle.pv_dtd.specs.Plain.{parts_in, parts_in_all}
 use Rattle.pv_dtd.specs.Reading.{Found, found, Reader, group_of, group_from, others_at, more_at}

@@ -4,7 +4,7 @@ use Rattle.pv_chars.specs.Spaces.{IsOptionalSpace}
 use Rattle.pv_chars.specs.PlainNames.{IsPlainName}
 use Rattle.pv_chars.specs.Scan.{after_space, after_bytes}
 use Rattle.pv_chars.proofs.Scanning.{after_space_takes, after_bytes_takes}
-use Rattle.pv_model.specs.Models.{PlainPart, name, seq, choice, opt, star, plus, PlainModel, empty, any, mixed, children}
+use Rattle.pv_model.specs.Plain.{PlainPart, name, seq, choice, opt, star, plus, PlainModel, empty, any, mixed, children}
 use Rattle.pv_dtd.specs.Plain.{names_in_model}
 use Rattle.pv_dtd.specs.Facts.{are_distinct_numbers, MOST_NESTING}
 use Rattle.pv_dtd.specs.Grammar.{SpellsName, SpellsPart, SpellsListed, SpellsMixed, SpellsModel, IsGroup, IsWithinRules}

@@ -3,7 +3,7 @@ use Rattle.std.proofs.Common.{◌≡◌, ℕ, zero, suc, ◌≤◌, List, [], �
 use Rattle.pv_chars.specs.Spaces.{IsOptionalSpace}
 use Rattle.pv_chars.specs.Scan.{after_space, plain_name_at, after_bytes}
 use Rattle.pv_chars.proofs.Scanning.{after_space_takes, after_space-append, after_bytes_takes, plain_name_at_takes}
-use Rattle.pv_model.specs.Models.{PlainPart, name, seq, choice, opt, star, plus, PlainParts, no_parts, part}
+use Rattle.pv_model.specs.Plain.{PlainPart, name, seq, choice, opt, star, plus, PlainParts, no_parts, part}
 use Rattle.pv_dtd.specs.Plain.{names_in, names_in_all}
 use Rattle.pv_dtd.specs.Facts.{members, nesting, nesting_all}
 use Rattle.pv_dtd.specs.Grammar.{SpellsName, SpellsPart, SpellsGroup, SpellsOthers, IsBare}

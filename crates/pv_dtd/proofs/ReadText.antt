@@ -3,7 +3,7 @@ use Rattle.std.proofs.Common.{◌≡◌, ℕ, zero, suc, List, [], ◌∷◌, �
 use Rattle.std.specs.List.{slice_get}
 use Rattle.pv_chars.specs.Scan.{after_space, after_blank, plain_name_at, after_bytes}
 use Rattle.pv_chars.proofs.Scanning.{TakesSpace, after_space_takes, after_blank_takes, after_bytes_takes, plain_name_at_takes}
-use Rattle.pv_model.specs.Models.{PlainModel}
+use Rattle.pv_model.specs.Plain.{PlainModel}
 use Rattle.pv_dtd.specs.Plain.{names_in_model, mentions}
 use Rattle.pv_dtd.specs.Grammar.{Declaration, SpellsDeclaration, SpellsItems, IsWithinRules}
 use Rattle.pv_dtd.specs.Reading.{Found, found, Reader}

@@ -6,7 +6,7 @@ use Rattle.pv_chars.specs.PlainNames.{is_plain_name_byte}
 use Rattle.pv_chars.specs.Scan.{after_space, after_bytes}
 use Rattle.pv_chars.proofs.Scanning.{begins, after_space-append}
 use Rattle.pv_chars.proofs.Beginnings.{names_have_no_space, begins_behind, name_begins, name_not_after}
-use Rattle.pv_model.specs.Models.{PlainPart, name, seq, choice, opt, star, plus, PlainParts, no_parts, part, PlainModel, empty, any, mixed, children}
+use Rattle.pv_model.specs.Plain.{PlainPart, name, seq, choice, opt, star, plus, PlainParts, no_parts, part, PlainModel, empty, any, mixed, children}
 use Rattle.pv_dtd.specs.Plain.{names_in, names_in_model}
 use Rattle.pv_dtd.specs.Facts.{nesting, MOST_NESTING}
 use Rattle.pv_dtd.specs.Grammar.{SpellsPart, SpellsGroup, SpellsListed, SpellsMixed, SpellsModel, IsGroup, IsWithinRules}

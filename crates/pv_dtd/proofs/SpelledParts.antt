@@ -10,7 +10,7 @@ use Rattle.pv_chars.specs.PlainNames.{is_plain_name_byte}
 use Rattle.pv_chars.specs.Scan.{after_space}
 use Rattle.pv_chars.proofs.Scanning.{begins, after_space-append, plain_name_at-append}
 use Rattle.pv_chars.proofs.Beginnings.{HasNoSpace, begins_behind, name_begins, name_not_after}
-use Rattle.pv_model.specs.Models.{PlainPart, name, seq, choice, opt, star, plus, PlainParts, no_parts, part}
+use Rattle.pv_model.specs.Plain.{PlainPart, name, seq, choice, opt, star, plus, PlainParts, no_parts, part}
 use Rattle.pv_dtd.specs.Plain.{place_of, names_in, names_in_all}
 use Rattle.pv_dtd.specs.Facts.{members, nesting, nesting_all}
 use Rattle.pv_dtd.specs.Grammar.{SpellsName, SpellsPart, SpellsGroup, SpellsOthers, IsBare}

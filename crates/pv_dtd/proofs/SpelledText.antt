@@ -7,7 +7,7 @@ use Rattle.pv_chars.specs.PlainNames.{is_plain_name_byte}
 use Rattle.pv_chars.specs.Scan.{◌>>=◌, after_space, after_blank}
 use Rattle.pv_chars.proofs.Scanning.{begins, after_space-append, after_blank-append, plain_name_at-append}
 use Rattle.pv_chars.proofs.Beginnings.{names_have_no_space, begins_behind, begins_in_space, name_begins}
-use Rattle.pv_model.specs.Models.{PlainModel, empty, any, mixed, children}
+use Rattle.pv_model.specs.Plain.{PlainModel, empty, any, mixed, children}
 use Rattle.pv_dtd.specs.Plain.{names_in_model, mentions}
 use Rattle.pv_dtd.specs.Grammar.{Declaration, SpellsModel, SpellsDeclaration, SpellsItems, IsWithinRules}
 use Rattle.pv_dtd.specs.Reading.{found}

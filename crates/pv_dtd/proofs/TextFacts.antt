@@ -11,7 +11,7 @@ use Rattle.std.specs.Str.{bytes_eq}
 use Rattle.std.proofs.lemmas.Bool.{or_right}
 use Rattle.pv_chars.specs.PlainNames.{is_plain_name}
 use Rattle.pv_model.specs.declared.models.ContentModel.{ContentModel}
-use Rattle.pv_model.specs.Read.{plain_model}
+use Rattle.pv_model.specs.PlainForms.{plain_model}
 use Rattle.pv_dtd.specs.Plain.{PlainDtd, mentions, place_of}
 use Rattle.pv_dtd.specs.Facts.{are_names, are_known, are_mentioned, is_formed_model, MOST_TYPES, MOST_PARTS}
 use Rattle.pv_dtd.specs.Grammar.{IsDtdText, each_once, Declaration}

@@ -3,7 +3,7 @@ use Rattle.std.specs.Prelude.{ℕ, suc, ◌-◌, max, Bool, true, false, not, �
 use Rattle.std.specs.List.{list_all, list_any, range_with_len}
 use Rattle.std.specs.Str.{bytes_eq}
 use Rattle.pv_chars.specs.PlainNames.{is_plain_name}
-use Rattle.pv_model.specs.Models.{PlainPart, name, seq, choice, opt, star, plus, PlainParts, no_parts, part, PlainModel, empty, any, mixed, children}
+use Rattle.pv_model.specs.Plain.{PlainPart, name, seq, choice, opt, star, plus, PlainParts, no_parts, part, PlainModel, empty, any, mixed, children}
 use Rattle.pv_dtd.specs.Plain.{PlainDtd, mentions}
 
 -- no two of the names are the same

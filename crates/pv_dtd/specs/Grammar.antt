@@ -4,7 +4,7 @@ use Rattle.std.specs.List.{list_any}
 use Rattle.std.specs.Str.{bytes_eq}
 use Rattle.pv_chars.specs.Spaces.{IsSpace, IsOptionalSpace}
 use Rattle.pv_chars.specs.PlainNames.{IsPlainName}
-use Rattle.pv_model.specs.Models.{PlainPart, name, seq, choice, opt, star, plus, PlainParts, no_parts, part, PlainModel, empty, any, mixed, children}
+use Rattle.pv_model.specs.Plain.{PlainPart, name, seq, choice, opt, star, plus, PlainParts, no_parts, part, PlainModel, empty, any, mixed, children}
 use Rattle.pv_dtd.specs.Plain.{PlainDtd, spelling_of, mentions, parts_in_models}
 use Rattle.pv_dtd.specs.Facts.{are_distinct, are_distinct_numbers, has_operator, members, nesting, MOST_NESTING, MOST_TYPES, MOST_PARTS, MOST_DTD}
 

@@ -1,6 +1,7 @@
 -- Hedges, and when one is valid (XML 1.0, section 3, the constraint Element Valid).
 use Rattle.std.specs.Prelude.{◌≡◌, ℕ, ◌+◌, suc, List, [], ◌∷◌, Option, Some, None}
-use Rattle.pv_model.specs.Models.{PlainModel, empty, PlainToken, named, text, other, Allows}
+use Rattle.pv_model.specs.Plain.{PlainModel, empty, PlainToken, named, text, other}
+use Rattle.pv_model.specs.Models.{Allows}
 use Rattle.pv_dtd.specs.Plain.{PlainDtd, number_of, model_of, declared}
 
 -- a unit of white space or of data, a CDATA section, and a comment or processing instruction, by their bytes

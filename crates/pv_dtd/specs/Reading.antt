@@ -1,7 +1,7 @@
 -- Content particles, read from the left. The names that came so far go in, and come out with the new ones.
 use Rattle.std.specs.Prelude.{◌≡◌, ℕ, zero, suc, List, [], ◌∷◌, length, codes, ◌==◌, if◌then◌else◌, Option, Some, None, Result, Ok, Err}
 use Rattle.pv_chars.specs.Scan.{◌>>=◌, after_space, plain_name_at, after_bytes}
-use Rattle.pv_model.specs.Models.{PlainPart, name, seq, choice, opt, star, plus, PlainParts, no_parts, part}
+use Rattle.pv_model.specs.Plain.{PlainPart, name, seq, choice, opt, star, plus, PlainParts, no_parts, part}
 use Rattle.pv_dtd.specs.declared.errors.DtdError.{DtdError}
 use Rattle.pv_dtd.specs.declared.errors.DtdError.TheVariants.{Syntax, NoMemory}
 use Rattle.pv_dtd.specs.Naming.{with_name, number_in}

@@ -2,7 +2,7 @@
 use Rattle.std.specs.Prelude.{ℕ, List, map, Vec}
 use Rattle.std.specs.declared.alloc.Global.{Global}
 use Rattle.pv_model.specs.declared.models.ContentModel.{ContentModel}
-use Rattle.pv_model.specs.Read.{plain_model}
+use Rattle.pv_model.specs.PlainForms.{plain_model}
 use Rattle.pv_dtd.specs.Plain.{PlainDtd}
 
 abbrev pub dtd_of : List (Vec ℕ Global) → List ContentModel → PlainDtd

@@ -1,7 +1,7 @@
 -- Content models, declarations and whole texts, read from the left. The names that came so far go in, and come out with the new ones.
 use Rattle.std.specs.Prelude.{ℕ, zero, suc, List, [], ◌∷◌, ◌++◌, length, codes, nat_le, ◌==◌, ◌&&◌, if◌then◌else◌, is_some, Option, Some, None}
 use Rattle.pv_chars.specs.Scan.{◌>>=◌, after_space, after_blank, plain_name_at, after_bytes}
-use Rattle.pv_model.specs.Models.{PlainModel, empty, any, mixed, children}
+use Rattle.pv_model.specs.Plain.{PlainModel, empty, any, mixed, children}
 use Rattle.pv_dtd.specs.Plain.{PlainDtd, place_of, parts_in_models}
 use Rattle.pv_dtd.specs.Facts.{are_distinct_numbers, MOST_NESTING, MOST_TYPES, MOST_PARTS, MOST_DTD}
 use Rattle.pv_dtd.specs.Grammar.{IsDtdText}

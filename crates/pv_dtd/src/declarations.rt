@@ -2,7 +2,7 @@
 
 ghost use Rattle.std.specs.Prelude.{◌≡◌, ◌≤◌, ◌<◌, ◌+◌, ◌^◌, [], suc, map, length, IfOk, IfSome};
 ghost use Rattle.std.specs.Option.{option_map};
-ghost use Rattle.pv_model.specs.Read.{plain_model};
+ghost use Rattle.pv_model.specs.PlainForms.{plain_model};
 ghost use Rattle.pv_dtd.specs.Plain.{parts_in_model, parts_in_models};
 ghost use Rattle.pv_dtd.specs.Reading.{Gives, found};
 ghost use Rattle.pv_dtd.specs.Text.{head_at, declaration_at, models_at, after_close, declared_at};

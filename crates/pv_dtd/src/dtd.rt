@@ -31,7 +31,7 @@ impl Dtd {
     ghost use Rattle.pv_dtd.specs.Text.{IsOfText};
     ghost use Rattle.std.specs.Prelude.{◌≡◌, ◌+◌, ◌<◌, length, map, slice_get, Some};
     ghost use Rattle.std.specs.Option.{option_copied, option_map};
-    ghost use Rattle.pv_model.specs.Read.{plain_model};
+    ghost use Rattle.pv_model.specs.PlainForms.{plain_model};
     ghost use Rattle.pv_dtd.specs.Plain.{declared, parts_in_models, number_of, model_of};
     ghost use Rattle.pv_dtd.specs.Reads.{plain_dtd};
 

@@ -3,7 +3,7 @@
 ghost use Rattle.std.specs.Prelude.{◌≡◌, ◌≤◌, ◌+◌, ◌<◌, suc, length, codes, IfOk, IfSome};
 ghost use Rattle.std.specs.Option.{option_map};
 ghost use Rattle.pv_chars.specs.Scan.{after_bytes};
-ghost use Rattle.pv_model.specs.Read.{plain_model, numbers_of};
+ghost use Rattle.pv_model.specs.PlainForms.{plain_model, numbers_of};
 ghost use Rattle.pv_dtd.specs.Plain.{parts_in_model};
 ghost use Rattle.pv_dtd.specs.Facts.{are_distinct_numbers};
 ghost use Rattle.pv_dtd.specs.Reading.{Gives, found};

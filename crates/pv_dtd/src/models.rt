@@ -1,7 +1,7 @@
 //! Reads content models (XML 1.0, section 3.2).
 
 ghost use Rattle.std.specs.Prelude.{◌≡◌, ◌≤◌, ◌<◌, ◌+◌, ◌^◌, length, IfOk};
-ghost use Rattle.pv_model.specs.Read.{plain_model};
+ghost use Rattle.pv_model.specs.PlainForms.{plain_model};
 ghost use Rattle.pv_dtd.specs.Plain.{parts_in_model};
 ghost use Rattle.pv_dtd.specs.Reading.{Gives, found};
 ghost use Rattle.pv_dtd.specs.Text.{children_at, group_model_at, model_at};

@@ -1,8 +1,8 @@
 //! Reads content particles (XML 1.0, section 3.2.1).
 
 ghost use Rattle.std.specs.Prelude.{◌≡◌, ◌≤◌, ◌<◌, ◌+◌, ◌^◌, suc, length, map, IfOk};
-ghost use Rattle.pv_model.specs.Models.{parts_of};
-ghost use Rattle.pv_model.specs.Read.{plain_part};
+ghost use Rattle.pv_model.specs.Plain.{parts_of};
+ghost use Rattle.pv_model.specs.PlainForms.{plain_part};
 ghost use Rattle.pv_dtd.specs.Plain.{parts_in};
 ghost use Rattle.pv_dtd.specs.Reading.{Gives, found, number_at, word_at, operated, separator_at, group_of, group_from, others_at, group_at, bare_at, particle_at};
 ghost use Rattle.pv_dtd.specs.declared.particles.Particle.{Particle};

@@ -1,6 +1,6 @@
 -- White units, misc and cuts in texts change nothing.
 use Rattle.std.proofs.Common.{List, Some, refl, ℕ, ◌∷◌, ◌≡◌}
-use Rattle.pv_model.specs.Models.{PlainToken, text}
+use Rattle.pv_model.specs.Plain.{PlainToken, text}
 use Rattle.pv_dtd.specs.Plain.{PlainDtd, number_of}
 use Rattle.pv_dtd.specs.Hedge.{Hedge, Leaf, cdata, data_unit, done, elem, leaf, leaf_word, misc, token, white, word}
 use Rattle.pv_missing.proofs.AlikeHedges.{Alike, IsBlank, IsEmptyName, IsText, Unchanged, alike_blank, alike_done, alike_elem, alike_leaf, alike_merge, alike_text, alike_white}

@@ -1,6 +1,6 @@
 -- Hedges that differ in nothing that counts: white units, misc, and how often a text is cut.
 use Rattle.std.proofs.Common.{List, Some, ℕ, ◌↔◌, ◌≡◌}
-use Rattle.pv_model.specs.Models.{empty}
+use Rattle.pv_model.specs.Plain.{empty}
 use Rattle.pv_dtd.specs.Plain.{PlainDtd, model_of, number_of}
 use Rattle.pv_dtd.specs.Hedge.{Hedge, Leaf, cdata, data_unit, done, elem, leaf, misc, white}
 use Rattle.pv_missing.specs.Completing.{HasCompletion}

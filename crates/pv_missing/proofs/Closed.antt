@@ -1,7 +1,7 @@
 -- No derivation weighs less than a closed table says.
 use Rattle.std.specs.Prelude.{option_map}
 use Rattle.std.proofs.Common.{List, None, Option, Some, arith, length, refl, subst, suc, sym, ℕ, ◌+◌, ◌≡◌, ◌≤◌}
-use Rattle.pv_model.specs.Models.{PlainPart, PlainParts, PlainToken, children, choice, mixed, name, no_parts, opt, part, plus, seq, star}
+use Rattle.pv_model.specs.Plain.{PlainPart, PlainParts, PlainToken, children, choice, mixed, name, no_parts, opt, part, plus, seq, star}
 use Rattle.pv_dtd.specs.Plain.{PlainDtd, parts_in}
 use Rattle.pv_missing.specs.Closed.{IsClosed}
 use Rattle.pv_missing.specs.Derivations.{Derives, any_name, any_none, any_text, children_part, empty_none, kept, missing, mixed_name, mixed_none, mixed_text, opt_none, opt_one, part_choice, part_name, part_seq, plus_more, plus_one, rest_last, rest_then, star_more, star_none}

@@ -1,7 +1,7 @@
 -- Declared names are among the names.
 use Rattle.std.proofs.Common.{List, Vec, arith, length, ℕ, ◌≤◌}
 use Rattle.std.proofs.lemmas.List.{length-map}
-use Rattle.pv_model.specs.Read.{plain_model}
+use Rattle.pv_model.specs.PlainForms.{plain_model}
 use Rattle.pv_dtd.specs.Plain.{declared}
 use Rattle.pv_dtd.specs.Seen.{dtd_of}
 use Rattle.pv_missing.proofs.LeftOut.{names}

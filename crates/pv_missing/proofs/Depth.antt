@@ -1,6 +1,7 @@
 -- Depths and finite derivations say the same.
 use Rattle.std.proofs.Common.{List, Some, [], ap, append-nil, append_assoc, arith, inl, inr, refl, suc, sym, zero, ℕ, ◌++◌, ◌+◌, ◌∙◌, ◌∷◌, ◌≡◌}
-use Rattle.pv_model.specs.Models.{Allows, PlainModel, PlainToken, named, other, text}
+use Rattle.pv_model.specs.Plain.{PlainModel, PlainToken, named, other, text}
+use Rattle.pv_model.specs.Models.{Allows}
 use Rattle.pv_dtd.specs.Plain.{PlainDtd, declared, model_of}
 use Rattle.pv_missing.specs.Covering.{Covers, IsPossibleWith, cover_kept, cover_new, cover_none, cover_text}
 use Rattle.pv_missing.specs.Filling.{Fills, Pieces, StandsFor}

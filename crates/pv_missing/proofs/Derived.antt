@@ -2,7 +2,8 @@
 use Rattle.std.specs.Prelude.{Contains}
 use Rattle.std.proofs.Common.{List, Some, [], ap, append-nil, append_assoc, arith, inl, inr, map, refl, suc, sym, ℕ, ◌++◌, ◌+◌, ◌∙◌, ◌∷◌, ◌≡◌, ◌≢◌, ◌≤◌, ◌⊎◌}
 use Rattle.std.specs.List.{AllByRecursion}
-use Rattle.pv_model.specs.Models.{Allows, IsOfAny, IsOfMixed, Matches, MatchesAll, MatchesSome, PlainModel, PlainPart, PlainParts, PlainToken, Rounds, any, children, choice, empty, mixed, name, named, no_parts, no_round, opt, part, plus, round, seq, star, text}
+use Rattle.pv_model.specs.Plain.{PlainModel, PlainPart, PlainParts, PlainToken, any, children, choice, empty, mixed, name, named, no_parts, opt, part, plus, seq, star, text}
+use Rattle.pv_model.specs.Models.{Allows, IsOfAny, IsOfMixed, Matches, MatchesAll, MatchesSome, Rounds, no_round, round}
 use Rattle.pv_dtd.specs.Plain.{IsDeclared, PlainDtd, declared, model_of}
 use Rattle.pv_missing.specs.Covering.{Covers, IsPossibleWith, cover_kept, cover_new, cover_none, cover_text}
 use Rattle.pv_missing.specs.Dtds.{AreFullParts, IsFull}

@@ -2,7 +2,7 @@
 use Rattle.std.specs.Prelude.{IsTrue}
 use Rattle.std.proofs.Common.{List, [], arith, refl, ℕ, ◌+◌, ◌↔◌, ◌∷◌, ◌≡◌, ◌≢◌}
 use Rattle.std.specs.List.{AllByRecursion}
-use Rattle.pv_model.specs.Models.{named}
+use Rattle.pv_model.specs.Plain.{named}
 use Rattle.pv_dtd.specs.Plain.{PlainDtd}
 use Rattle.pv_dtd.specs.Hedge.{done, word}
 use Rattle.pv_tree.specs.Lists.{IsValidList, Listed, Owner, an_element, lists_at, the_document}

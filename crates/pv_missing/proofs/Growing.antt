@@ -1,6 +1,7 @@
 -- One level: a cover of the word is an insertion at this level, and the other way round.
 use Rattle.std.proofs.Common.{List, None, Option, Some, [], ap, arith, refl, subst, suc, sym, ℕ, ◌++◌, ◌+◌, ◌∙◌, ◌∷◌, ◌≡◌}
-use Rattle.pv_model.specs.Models.{Allows, PlainModel, PlainToken, empty, named, text}
+use Rattle.pv_model.specs.Plain.{PlainModel, PlainToken, empty, named, text}
+use Rattle.pv_model.specs.Models.{Allows}
 use Rattle.pv_dtd.specs.Plain.{PlainDtd, declared, model_of, number_of, spelling_of}
 use Rattle.pv_dtd.specs.Hedge.{Fits, Hedge, Leaf, cdata, data_unit, done, elem, leaf, misc, token, white, word}
 use Rattle.pv_missing.specs.Covering.{Covers, cover_kept, cover_new, cover_none, cover_text}

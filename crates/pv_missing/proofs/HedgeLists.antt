@@ -1,7 +1,7 @@
 -- What a list owes, and the theorem: a document is potentially valid exactly where no list is impossible, and the
 -- numbers of elements that its lists miss add up to the number inserted.
 use Rattle.std.proofs.Common.{List, Some, [], ℕ, ◌+◌, ◌↔◌, ◌∷◌, ◌≡◌}
-use Rattle.pv_model.specs.Models.{empty, named}
+use Rattle.pv_model.specs.Plain.{empty, named}
 use Rattle.pv_dtd.specs.Plain.{PlainDtd, model_of, number_of}
 use Rattle.pv_dtd.specs.Hedge.{Hedge, done, elem, leaf, word}
 use Rattle.pv_missing.specs.Completing.{HasCompletion}

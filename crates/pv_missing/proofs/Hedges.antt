@@ -1,6 +1,6 @@
 -- Cutting hedges.
 use Rattle.std.proofs.Common.{List, [], ap, arith, refl, ◌++◌, ◌+◌, ◌∷◌, ◌≡◌}
-use Rattle.pv_model.specs.Models.{PlainToken, text}
+use Rattle.pv_model.specs.Plain.{PlainToken, text}
 use Rattle.pv_dtd.specs.Plain.{PlainDtd, number_of}
 use Rattle.pv_dtd.specs.Hedge.{Hedge, Leaf, cdata, data_unit, done, elem, elements, leaf, misc, token, white, word}
 use Rattle.pv_missing.specs.Extending.{join}

@@ -1,6 +1,6 @@
 -- The other laws.
 use Rattle.std.proofs.Common.{List, [], ap, append-nil, refl, ℕ, ◌++◌, ◌∙◌, ◌∷◌, ◌≡◌}
-use Rattle.pv_model.specs.Models.{PlainToken, named, text}
+use Rattle.pv_model.specs.Plain.{PlainToken, named, text}
 use Rattle.pv_dtd.specs.Plain.{PlainDtd}
 use Rattle.pv_missing.specs.Covering.{Covers, IsPossibleWith}
 use Rattle.pv_missing.specs.Filling.{Pieces, StandsFor}

@@ -1,6 +1,7 @@
 -- Names may be left out too, since a productive name may stand with no content of the word; what is possible has a productive owner.
 use Rattle.std.proofs.Common.{List, Some, [], ap, refl, suc, ℕ, ◌++◌, ◌+◌, ◌∷◌, ◌≡◌}
-use Rattle.pv_model.specs.Models.{Allows, PlainModel, PlainToken, named, other, text}
+use Rattle.pv_model.specs.Plain.{PlainModel, PlainToken, named, other, text}
+use Rattle.pv_model.specs.Models.{Allows}
 use Rattle.pv_dtd.specs.Plain.{PlainDtd, declared, model_of, spelling_of}
 use Rattle.pv_dtd.specs.Hedge.{AreGood, Hedge, cdata, data_unit, done, elem, elements, leaf, misc, white, word}
 use Rattle.pv_missing.specs.Covering.{Covers, IsPossibleWith, cover_kept, cover_new, cover_none, cover_text}

@@ -1,6 +1,6 @@
 -- A word has one live word.
 use Rattle.std.proofs.Common.{List, [], ap, refl, sym, ℕ, ◌∷◌, ◌≡◌}
-use Rattle.pv_model.specs.Models.{PlainToken, named, other, text}
+use Rattle.pv_model.specs.Plain.{PlainToken, named, other, text}
 use Rattle.pv_dtd.specs.Plain.{PlainDtd}
 use Rattle.pv_missing.specs.LiveWords.{IsLiveWord, live_unproductive, live_name, live_none, live_other, live_text}
 use Rattle.pv_dtd.specs.Productive.{IsProductive}

@@ -1,6 +1,6 @@
 -- Locality: a document is potentially valid exactly where no list is impossible, and the numbers add up.
 use Rattle.std.proofs.Common.{List, Some, [], ap, arith, refl, ℕ, ◌+◌, ◌∙◌, ◌∷◌, ◌≡◌}
-use Rattle.pv_model.specs.Models.{named}
+use Rattle.pv_model.specs.Plain.{named}
 use Rattle.pv_dtd.specs.Plain.{PlainDtd, number_of}
 use Rattle.pv_dtd.specs.Hedge.{AreGood, Fits, Hedge, IsValid, done, elem, leaf, token, word}
 use Rattle.pv_missing.specs.Completing.{HasCompletion}

@@ -1,7 +1,7 @@
 -- The parts that stand at a number.
 use Rattle.std.specs.Prelude.{option_and_then, option_map}
 use Rattle.std.proofs.Common.{None, Option, Some, ap, refl, slice_get, suc, ℕ, ◌+◌, ◌≡◌}
-use Rattle.pv_model.specs.Models.{PlainPart, PlainParts, part}
+use Rattle.pv_model.specs.Plain.{PlainPart, PlainParts, part}
 use Rattle.pv_dtd.specs.Plain.{PlainDtd, parts_in}
 use Rattle.pv_missing.specs.Numbering.{Numbered, numbered, numbered_members, numbered_models, part_at, rest_at}
 use Rattle.pv_missing.proofs.Numbers.{Holds, found, holds_head, holds_left, holds_right, holds_tail, length-numbered, numbered-within, within}

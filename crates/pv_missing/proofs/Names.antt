@@ -5,7 +5,7 @@ use Rattle.std.specs.List.{AllByRecursion}
 use Rattle.std.specs.Str.{bytes_eq}
 use Rattle.std.proofs.lemmas.Option.{slice_get-get_or, slice_get_within}
 use Rattle.std.proofs.lemmas.Slice.Eq.{bytes_eq-Decides}
-use Rattle.pv_model.specs.Models.{PlainModel}
+use Rattle.pv_model.specs.Plain.{PlainModel}
 use Rattle.pv_dtd.specs.Plain.{PlainDtd, model_of, number_of, place_of, spelling_of}
 use Rattle.pv_missing.specs.Dtds.{AreDistinct, IsProperDtd}
 

@@ -3,7 +3,7 @@ use Rattle.std.specs.Prelude.{Contains}
 use Rattle.std.proofs.Common.{List, None, Option, Some, [], ap, append-nil, append_assoc, arith, length, length-append, map, refl, slice_get, suc, sym, zero, ℕ, ◌++◌, ◌+◌, ◌∙◌, ◌∷◌, ◌≡◌}
 use Rattle.std.proofs.lemmas.List.{length-map}
 use Rattle.std.proofs.lemmas.Option.{slice_get-get_or}
-use Rattle.pv_model.specs.Models.{PlainModel, PlainPart, PlainParts, any, children, choice, empty, mixed, name, no_parts, opt, part, plus, seq, star}
+use Rattle.pv_model.specs.Plain.{PlainModel, PlainPart, PlainParts, any, children, choice, empty, mixed, name, no_parts, opt, part, plus, seq, star}
 use Rattle.pv_dtd.specs.Plain.{parts_in, parts_in_all, parts_in_model, parts_in_models}
 use Rattle.pv_missing.specs.Numbering.{Numbered, listed_name, member_numbers, numbered, numbered_choices, numbered_members, numbered_model, numbered_models, parts_before}
 use Rattle.pv_missing.specs.Symbols.{IsMember, here, later}

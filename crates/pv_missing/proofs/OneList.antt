@@ -1,7 +1,7 @@
 -- The law of one list, in both directions, and that names that aren't productive count for nothing.
 use Rattle.std.proofs.Common.{List, Some, [], ap, arith, refl, sym, ℕ, ◌++◌, ◌+◌, ◌↔◌, ◌∙◌, ◌∷◌, ◌≡◌}
 use Rattle.std.specs.List.{AllByRecursion}
-use Rattle.pv_model.specs.Models.{PlainModel, PlainToken, empty, named, other, text}
+use Rattle.pv_model.specs.Plain.{PlainModel, PlainToken, empty, named, other, text}
 use Rattle.pv_dtd.specs.Plain.{PlainDtd, model_of}
 use Rattle.pv_dtd.specs.Hedge.{Hedge, cdata, data_unit, done, elem, elements, leaf, misc, white, word}
 use Rattle.pv_missing.specs.Covering.{Covers, IsPossibleWith, cover_kept, cover_new, cover_none, cover_text}

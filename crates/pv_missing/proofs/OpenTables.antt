@@ -3,7 +3,7 @@ use Rattle.std.specs.Prelude.{Contains, min, option_map}
 use Rattle.std.proofs.Common.{List, None, Some, ap, arith, inl, inr, length, refl, slice_get, suc, ℕ, ◌+◌, ◌≡◌, ◌≢◌, ◌≤◌, ◌⊎◌}
 use Rattle.std.proofs.lemmas.Bool.{cases_lt}
 use Rattle.std.proofs.lemmas.Option.{slice_get-get_or, slice_get_within}
-use Rattle.pv_model.specs.Models.{PlainPart, PlainParts, PlainToken, children, choice, mixed, name, named, no_parts, opt, part, plus, seq, star}
+use Rattle.pv_model.specs.Plain.{PlainPart, PlainParts, PlainToken, children, choice, mixed, name, named, no_parts, opt, part, plus, seq, star}
 use Rattle.pv_dtd.specs.Plain.{PlainDtd, model_of, parts_in}
 use Rattle.pv_missing.specs.Closed.{IsClosed}
 use Rattle.pv_missing.specs.Derivations.{Derives, IsWeight, any_name, any_none, any_text, children_part, empty_none, heaviest, kept, missing, mixed_name, mixed_none, mixed_text, opt_none, opt_one, part_choice, part_name, part_seq, plus_more, plus_one, rest_last, rest_then, star_more, star_none}

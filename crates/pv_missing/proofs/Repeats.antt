@@ -1,6 +1,6 @@
 -- Tokens left out, and texts repeated.
 use Rattle.std.proofs.Common.{List, [], ◌∷◌}
-use Rattle.pv_model.specs.Models.{PlainToken, text}
+use Rattle.pv_model.specs.Plain.{PlainToken, text}
 
 -- the second is the first, where each text may be left out or repeated
 pub data Texts : List PlainToken → List PlainToken → Type 0 where

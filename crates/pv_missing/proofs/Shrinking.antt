@@ -1,6 +1,6 @@
 -- One level, the other way: an insertion at this level is a cover of the word.
 use Rattle.std.proofs.Common.{List, Some, [], ap, arith, refl, subst, suc, sym, ℕ, ◌+◌, ◌∙◌, ◌≡◌}
-use Rattle.pv_model.specs.Models.{PlainToken}
+use Rattle.pv_model.specs.Plain.{PlainToken}
 use Rattle.pv_dtd.specs.Plain.{PlainDtd, number_of}
 use Rattle.pv_dtd.specs.Hedge.{Fits, Hedge, Leaf, cdata, data_unit, elem, leaf, leaf_word, misc, white, word}
 use Rattle.pv_missing.specs.Covering.{Covers, cover_kept, cover_new, cover_none, cover_text}

@@ -1,6 +1,7 @@
 -- Least sizes are what is missing in nothing; and tokens may be left out at every site.
 use Rattle.std.proofs.Common.{List, Some, [], ap, arith, refl, suc, sym, ℕ, ◌++◌, ◌+◌, ◌∙◌, ◌∷◌, ◌≡◌}
-use Rattle.pv_model.specs.Models.{Allows, PlainModel, PlainToken, named}
+use Rattle.pv_model.specs.Plain.{PlainModel, PlainToken, named}
+use Rattle.pv_model.specs.Models.{Allows}
 use Rattle.pv_dtd.specs.Plain.{PlainDtd, declared, model_of, spelling_of}
 use Rattle.pv_dtd.specs.Hedge.{AreGood, Fits, Hedge, done, elem, elements, word}
 use Rattle.pv_missing.specs.Covering.{Covers, IsPossibleWith, cover_kept, cover_new, cover_none, cover_text}

@@ -1,7 +1,8 @@
 -- A derivation over a word whose names are productive is a cover of the same weight.
 use Rattle.std.proofs.Common.{List, Some, [], append-nil, arith, inl, inr, map, refl, suc, sym, ℕ, ◌++◌, ◌+◌, ◌∷◌, ◌≡◌}
 use Rattle.std.specs.List.{AllByRecursion}
-use Rattle.pv_model.specs.Models.{IsOfAny, IsOfMixed, Matches, MatchesAll, MatchesSome, PlainPart, PlainParts, PlainToken, Rounds, any, children, choice, empty, mixed, name, named, no_parts, no_round, opt, part, plus, round, seq, star, text}
+use Rattle.pv_model.specs.Plain.{PlainPart, PlainParts, PlainToken, any, children, choice, empty, mixed, name, named, no_parts, opt, part, plus, seq, star, text}
+use Rattle.pv_model.specs.Models.{IsOfAny, IsOfMixed, Matches, MatchesAll, MatchesSome, Rounds, no_round, round}
 use Rattle.pv_dtd.specs.Plain.{PlainDtd, declared, model_of}
 use Rattle.pv_missing.specs.Covering.{Covers, IsPossibleWith, cover_kept, cover_new, cover_none, cover_text}
 use Rattle.pv_missing.specs.Symbols.{IsMember, Symbol, here, later, of_content, of_name, of_part, of_rest}

@@ -1,7 +1,7 @@
 -- Derivations over all of a word, and what may stand there.
 use Rattle.std.proofs.Common.{List, Some, [], append-nil, arith, length, refl, slice_get, suc, sym, zero, ℕ, ◌∷◌, ◌≡◌, ◌≤◌}
 use Rattle.std.specs.List.{AllByRecursion}
-use Rattle.pv_model.specs.Models.{PlainToken, children}
+use Rattle.pv_model.specs.Plain.{PlainToken, children}
 use Rattle.pv_dtd.specs.Plain.{PlainDtd}
 use Rattle.pv_missing.specs.Derivations.{Derives}
 use Rattle.pv_missing.specs.Dtds.{IsFullModel, IsProperDtd}

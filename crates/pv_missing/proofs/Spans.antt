@@ -1,7 +1,7 @@
 -- Derivations over spans and over words.
 use Rattle.std.proofs.Common.{List, Some, [], ap, append_assoc, arith, drop, length, length-append, refl, slice_get, suc, sym, take, ℕ, ◌++◌, ◌+◌, ◌-◌, ◌<◌, ◌∙◌, ◌∷◌, ◌≡◌, ◌≢◌, ◌≤◌}
 use Rattle.std.proofs.lemmas.List.{length-take-le, take-append-drop}
-use Rattle.pv_model.specs.Models.{PlainToken, name, named, part, plus, star, text}
+use Rattle.pv_model.specs.Plain.{PlainToken, name, named, part, plus, star, text}
 use Rattle.pv_missing.specs.Derivations.{any_name, any_none, any_text, children_part, empty_none, kept, missing, mixed_name, mixed_none, mixed_text, opt_none, opt_one, part_choice, part_name, part_seq, plus_more, plus_one, rest_last, rest_then, star_more, star_none}
 use Rattle.pv_missing.specs.Symbols.{of_content, of_name, of_part, of_rest}
 use Rattle.pv_missing.proofs.Stands.{SpansAreWords, Stands, WordsAreSpans}

@@ -1,6 +1,6 @@
 -- The word that stands at a span.
 use Rattle.std.proofs.Common.{List, length, ℕ, ◌++◌, ◌+◌, ◌≡◌}
-use Rattle.pv_model.specs.Models.{PlainToken}
+use Rattle.pv_model.specs.Plain.{PlainToken}
 use Rattle.pv_dtd.specs.Plain.{PlainDtd}
 use Rattle.pv_missing.specs.Derivations.{Derives}
 use Rattle.pv_missing.specs.Symbols.{Symbol}

@@ -1,7 +1,8 @@
 -- Texts may be left out, doubled and merged; names may be left out.
 use Rattle.std.proofs.Common.{List, Some, [], ap, map, refl, suc, ℕ, ◌++◌, ◌+◌, ◌∙◌, ◌∷◌, ◌≡◌}
 use Rattle.std.specs.List.{AllByRecursion}
-use Rattle.pv_model.specs.Models.{Allows, IsOfAny, IsOfMixed, PlainModel, PlainToken, any, children, empty, mixed, named, text}
+use Rattle.pv_model.specs.Plain.{PlainModel, PlainToken, any, children, empty, mixed, named, text}
+use Rattle.pv_model.specs.Models.{Allows, IsOfAny, IsOfMixed}
 use Rattle.pv_dtd.specs.Plain.{PlainDtd, declared, model_of}
 use Rattle.pv_missing.specs.Covering.{Covers, IsPossibleWith, cover_kept, cover_new, cover_none, cover_text}
 use Rattle.pv_dtd.specs.Productive.{IsProductive}

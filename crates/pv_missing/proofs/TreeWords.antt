@@ -1,7 +1,7 @@
 -- The word of a list of nodes and the word of what it shows differ in how often a text comes.
 use Rattle.std.proofs.Common.{Bool, List, [], false, if◌then◌else◌, refl, true, ℕ, ◌||◌, ◌∷◌, ◌≡◌}
 use Rattle.pv_chars.specs.Texts.{has_data, is_data}
-use Rattle.pv_model.specs.Models.{PlainToken, text}
+use Rattle.pv_model.specs.Plain.{PlainToken, text}
 use Rattle.pv_dtd.specs.Plain.{PlainDtd, number_of}
 use Rattle.pv_dtd.specs.Hedge.{Hedge, data_unit, done, leaf_word, token, white, word}
 use Rattle.pv_tree.specs.Plain.{Forest, Tree, cdata_node, element, misc_node, no_trees, text_node, tree}

@@ -2,7 +2,7 @@
 use Rattle.std.specs.Prelude.{min}
 use Rattle.std.proofs.Common.{List, [], arith, inl, inr, length, suc, ℕ, ◌<◌, ◌∷◌, ◌≡◌, ◌≤◌, ◌⊎◌}
 use Rattle.std.proofs.lemmas.Bool.{cases_lt}
-use Rattle.pv_model.specs.Models.{PlainToken, named}
+use Rattle.pv_model.specs.Plain.{PlainToken, named}
 use Rattle.pv_dtd.specs.Plain.{PlainDtd}
 use Rattle.pv_tree.specs.Lists.{Listed, Owner, an_element, the_document}
 use Rattle.pv_tree.specs.Plain.{Forest, PlainDoc}

@@ -1,7 +1,7 @@
 -- Derivations over words in place of spans of one word.
 use Rattle.std.specs.Prelude.{Contains}
 use Rattle.std.proofs.Common.{List, Some, [], suc, ℕ, ◌++◌, ◌+◌, ◌∷◌, ◌≡◌, ◌≢◌, ◌≤◌}
-use Rattle.pv_model.specs.Models.{PlainPart, PlainParts, PlainToken, any, children, choice, empty, mixed, name, named, no_parts, opt, part, plus, seq, star, text}
+use Rattle.pv_model.specs.Plain.{PlainPart, PlainParts, PlainToken, any, children, choice, empty, mixed, name, named, no_parts, opt, part, plus, seq, star, text}
 use Rattle.pv_dtd.specs.Plain.{IsDeclared, PlainDtd, model_of}
 use Rattle.pv_missing.specs.Derivations.{heaviest}
 use Rattle.pv_missing.specs.Dtds.{IsFull}

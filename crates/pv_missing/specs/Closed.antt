@@ -1,6 +1,6 @@
 -- Closed tables of weights.
 use Rattle.std.specs.Prelude.{List, Some, length, min, slice_get, suc, ℕ, ◌+◌, ◌<◌, ◌≡◌, ◌≤◌}
-use Rattle.pv_model.specs.Models.{PlainPart, PlainParts, PlainToken, any, children, choice, empty, mixed, name, named, no_parts, opt, part, plus, seq, star, text}
+use Rattle.pv_model.specs.Plain.{PlainPart, PlainParts, PlainToken, any, children, choice, empty, mixed, name, named, no_parts, opt, part, plus, seq, star, text}
 use Rattle.pv_dtd.specs.Plain.{IsDeclared, PlainDtd, model_of, parts_in}
 use Rattle.pv_missing.specs.Derivations.{heaviest}
 use Rattle.pv_missing.specs.Numbering.{PlainSite, content_site, first_part, member_numbers, name_site, part_at, part_site, rest_at, rest_site}

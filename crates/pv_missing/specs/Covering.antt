@@ -1,6 +1,7 @@
 -- The same with the number of missing elements, and without depths.
 use Rattle.std.specs.Prelude.{List, Some, [], suc, ℕ, ◌++◌, ◌+◌, ◌∷◌, ◌≡◌}
-use Rattle.pv_model.specs.Models.{Allows, PlainModel, PlainToken, named, text}
+use Rattle.pv_model.specs.Plain.{PlainModel, PlainToken, named, text}
+use Rattle.pv_model.specs.Models.{Allows}
 use Rattle.pv_dtd.specs.Plain.{PlainDtd, declared, model_of}
 use Rattle.pv_dtd.specs.Productive.{IsProductive}
 

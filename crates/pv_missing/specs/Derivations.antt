@@ -1,6 +1,6 @@
 -- What the symbols of the missing grammar derive over spans of a word, and at what weight.
 use Rattle.std.specs.Prelude.{Contains, List, Some, slice_get, suc, ℕ, ◌+◌, ◌<◌, ◌≡◌, ◌≤◌}
-use Rattle.pv_model.specs.Models.{PlainPart, PlainParts, PlainToken, any, children, choice, empty, mixed, name, named, no_parts, opt, part, plus, seq, star, text}
+use Rattle.pv_model.specs.Plain.{PlainPart, PlainParts, PlainToken, any, children, choice, empty, mixed, name, named, no_parts, opt, part, plus, seq, star, text}
 use Rattle.pv_dtd.specs.Plain.{IsDeclared, PlainDtd, model_of}
 use Rattle.pv_missing.specs.Symbols.{IsMember, Symbol, of_content, of_name, of_part, of_rest}
 

@@ -1,7 +1,7 @@
 -- What the laws ask of a DTD; every DTD of the program has it.
 use Rattle.std.specs.Prelude.{List, [], length, ℕ, ◌∷◌, ◌≢◌, ◌≤◌}
 use Rattle.std.specs.List.{AllByRecursion}
-use Rattle.pv_model.specs.Models.{PlainModel, PlainPart, PlainParts, any, children, choice, empty, mixed, name, no_parts, opt, part, plus, seq, star}
+use Rattle.pv_model.specs.Plain.{PlainModel, PlainPart, PlainParts, any, children, choice, empty, mixed, name, no_parts, opt, part, plus, seq, star}
 use Rattle.pv_dtd.specs.Plain.{PlainDtd, declared}
 
 -- no two of the names are the same

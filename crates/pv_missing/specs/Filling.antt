@@ -1,6 +1,7 @@
 -- Which words may stand where an element, or the content of an element, is wanted.
 use Rattle.std.specs.Prelude.{List, Some, [], suc, zero, ℕ, ◌++◌, ◌∷◌, ◌≡◌, ◌⊎◌}
-use Rattle.pv_model.specs.Models.{Allows, PlainModel, PlainToken, named, other, text}
+use Rattle.pv_model.specs.Plain.{PlainModel, PlainToken, named, other, text}
+use Rattle.pv_model.specs.Models.{Allows}
 use Rattle.pv_dtd.specs.Plain.{PlainDtd, declared, model_of}
 use Rattle.pv_dtd.specs.Productive.{IsProductive}
 

@@ -1,6 +1,6 @@
 -- Laws of one list, each a statement. M is the type of marks.
 use Rattle.std.specs.Prelude.{List, Some, ℕ, ◌+◌, ◌↔◌, ◌≡◌}
-use Rattle.pv_model.specs.Models.{PlainModel, PlainToken, empty}
+use Rattle.pv_model.specs.Plain.{PlainModel, PlainToken, empty}
 use Rattle.pv_dtd.specs.Plain.{PlainDtd, model_of}
 use Rattle.pv_dtd.specs.Hedge.{Hedge, done, elements, word}
 use Rattle.pv_tree.specs.Lists.{IsValidList, Listed, Owner, an_element, the_document}

@@ -1,6 +1,6 @@
 -- Live words.
 use Rattle.std.specs.Prelude.{List, [], ℕ, ◌∷◌}
-use Rattle.pv_model.specs.Models.{PlainToken, named, other, text}
+use Rattle.pv_model.specs.Plain.{PlainToken, named, other, text}
 use Rattle.pv_dtd.specs.Plain.{PlainDtd}
 use Rattle.pv_dtd.specs.Productive.{IsProductive}
 

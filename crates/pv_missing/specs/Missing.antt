@@ -1,6 +1,6 @@
 -- How many elements are missing in the lists of a document. Words are as good as live words here.
 use Rattle.std.specs.Prelude.{List, Some, [], ℕ, ◌+◌, ◌∷◌, ◌≡◌}
-use Rattle.pv_model.specs.Models.{empty}
+use Rattle.pv_model.specs.Plain.{empty}
 use Rattle.pv_dtd.specs.Plain.{PlainDtd, model_of, number_of}
 use Rattle.pv_tree.specs.Lists.{Listed, Owner, an_element, the_document}
 use Rattle.pv_tree.specs.Plain.{Forest, no_trees}

@@ -1,7 +1,7 @@
 -- The numbers of parts: content particles and names listed in mixed models, from left to right through the DTD, each particle before its
 -- members.
 use Rattle.std.specs.Prelude.{List, None, Option, Some, [], map, option_and_then, option_map, slice_get, suc, zero, ℕ, ◌++◌, ◌+◌, ◌∷◌}
-use Rattle.pv_model.specs.Models.{PlainModel, PlainPart, PlainParts, any, children, choice, empty, mixed, name, no_parts, opt, part, plus, seq, star}
+use Rattle.pv_model.specs.Plain.{PlainModel, PlainPart, PlainParts, any, children, choice, empty, mixed, name, no_parts, opt, part, plus, seq, star}
 use Rattle.pv_dtd.specs.Plain.{PlainDtd, parts_in, parts_in_model}
 use Rattle.pv_missing.specs.Symbols.{Symbol, of_content, of_name, of_part, of_rest}
 

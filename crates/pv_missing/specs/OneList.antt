@@ -1,6 +1,7 @@
 -- Insertion at one level.
 use Rattle.std.specs.Prelude.{List, Some, [], suc, ℕ, ◌+◌, ◌∷◌, ◌≡◌}
-use Rattle.pv_model.specs.Models.{Allows, PlainModel, empty, named}
+use Rattle.pv_model.specs.Plain.{PlainModel, empty, named}
+use Rattle.pv_model.specs.Models.{Allows}
 use Rattle.pv_dtd.specs.Plain.{PlainDtd, declared, number_of}
 use Rattle.pv_dtd.specs.Hedge.{Fits, Hedge, Leaf, done, elem, leaf, word}
 use Rattle.pv_missing.specs.Extending.{join}

@@ -1,7 +1,7 @@
 -- Hedges with texts that no insertion cuts, and with no white units and no misc.
 use Rattle.std.specs.Prelude.{Bool, List, None, Option, Some, false, if◌then◌else◌, true, ℕ, ◌↔◌}
 use Rattle.pv_chars.specs.Texts.{has_data, joined}
-use Rattle.pv_model.specs.Models.{PlainModel, any, children, empty, mixed}
+use Rattle.pv_model.specs.Plain.{PlainModel, any, children, empty, mixed}
 use Rattle.pv_dtd.specs.Plain.{PlainDtd, model_of, number_of}
 use Rattle.pv_dtd.specs.Hedge.{Hedge, Leaf, cdata, data_unit, done, elem, leaf, misc, white}
 use Rattle.pv_tree.specs.Plain.{Forest, Tree, cdata_node, element, misc_node, no_trees, text_node, tree}

@@ -1,7 +1,7 @@
 -- The symbols of the missing grammar: an element of a name, the content of one, a content particle, and the members of a sequence from
 -- some member on.
 use Rattle.std.specs.Prelude.{ℕ}
-use Rattle.pv_model.specs.Models.{PlainPart, PlainParts, part}
+use Rattle.pv_model.specs.Plain.{PlainPart, PlainParts, part}
 
 pub data Symbol : Type 0 where
   of_name : ℕ → Symbol

@@ -1,6 +1,6 @@
 -- Laws of derivations and tables, each a statement.
 use Rattle.std.specs.Prelude.{List, Some, length, ℕ, ◌≡◌, ◌≤◌}
-use Rattle.pv_model.specs.Models.{PlainToken}
+use Rattle.pv_model.specs.Plain.{PlainToken}
 use Rattle.pv_dtd.specs.Plain.{PlainDtd, parts_in_models}
 use Rattle.pv_missing.specs.Closed.{IsClosed}
 use Rattle.pv_missing.specs.Covering.{IsPossibleRootWith, IsPossibleWith}

@@ -1,7 +1,7 @@
 -- The verdict of a list.
 use Rattle.std.specs.Prelude.{List, Some, [], ℕ, ◌++◌, ◌∷◌, ◌≡◌}
 use Rattle.std.specs.List.{AllByRecursion}
-use Rattle.pv_model.specs.Models.{PlainToken, empty}
+use Rattle.pv_model.specs.Plain.{PlainToken, empty}
 use Rattle.pv_dtd.specs.Plain.{PlainDtd, model_of, number_of}
 use Rattle.pv_tree.specs.Lists.{IsValidList, Listed, Owner, an_element, the_document}
 use Rattle.pv_tree.specs.Plain.{Forest, no_trees}

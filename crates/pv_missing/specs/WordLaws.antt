@@ -1,7 +1,7 @@
 -- Laws of words, each a statement.
 use Rattle.std.specs.Prelude.{List, [], suc, ℕ, ◌++◌, ◌↔◌, ◌∷◌, ◌≡◌, ◌≤◌}
 use Rattle.std.specs.List.{AllByRecursion}
-use Rattle.pv_model.specs.Models.{PlainToken, named, other, text}
+use Rattle.pv_model.specs.Plain.{PlainToken, named, other, text}
 use Rattle.pv_dtd.specs.Plain.{PlainDtd}
 use Rattle.pv_dtd.specs.Hedge.{AreGood, Hedge, done, elem}
 use Rattle.pv_missing.specs.Covering.{IsPossibleRootWith, IsPossibleWith}

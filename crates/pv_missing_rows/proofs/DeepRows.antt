@@ -2,7 +2,8 @@
 use Rattle.std.specs.Prelude.{codes}
 use Rattle.std.proofs.Common.{List, Some, [], append-nil, arith, refl, suc, zero, ℕ, ◌++◌, ◌∷◌, ◌≡◌}
 use Rattle.std.specs.List.{AllByRecursion}
-use Rattle.pv_model.specs.Models.{Allows, IsOfMixed, empty, mixed, named, text}
+use Rattle.pv_model.specs.Plain.{empty, mixed, named, text}
+use Rattle.pv_model.specs.Models.{Allows, IsOfMixed}
 use Rattle.pv_dtd.specs.Plain.{model_of, number_of}
 use Rattle.pv_tree.specs.Lists.{IsOwnValid, IsRootList, an_element, lists_at, the_document}
 use Rattle.pv_tree.specs.Plain.{Forest, forest_of, no_trees, tree}

@@ -2,7 +2,8 @@
 use Rattle.std.specs.Prelude.{codes}
 use Rattle.std.proofs.Common.{List, None, Some, [], ap, arith, inl, inr, map, refl, slice_get, subst, suc, zero, ℕ, ◌++◌, ◌+◌, ◌-◌, ◌<◌, ◌∙◌, ◌∷◌, ◌≡◌, ◌≤◌, ◌⊎◌}
 use Rattle.std.proofs.lemmas.Bool.{cases_lt}
-use Rattle.pv_model.specs.Models.{Allows, PlainModel, PlainToken, any, children, empty, name, named, no_parts, opt, other, part, seq, text}
+use Rattle.pv_model.specs.Plain.{PlainModel, PlainToken, any, children, empty, name, named, no_parts, opt, other, part, seq, text}
+use Rattle.pv_model.specs.Models.{Allows}
 use Rattle.pv_dtd.specs.Plain.{model_of, number_of}
 use Rattle.pv_dtd.specs.Hedge.{AreGood, Hedge, cdata, data_unit, done, elem, leaf, misc, token, white, word}
 use Rattle.pv_tree.specs.Lists.{IsOwnValid, an_element, lists_from, the_document}

@@ -1,7 +1,8 @@
 -- The rows on the other small DTDs.
 use Rattle.std.specs.Prelude.{codes}
 use Rattle.std.proofs.Common.{List, Some, [], ap, arith, inl, inr, map, refl, subst, suc, sym, zero, ℕ, ◌++◌, ◌+◌, ◌∙◌, ◌∷◌, ◌≡◌, ◌≤◌, ◌⊎◌}
-use Rattle.pv_model.specs.Models.{Allows, Matches, PlainModel, PlainToken, children, empty, name, named, no_parts, opt, part, seq}
+use Rattle.pv_model.specs.Plain.{PlainModel, PlainToken, children, empty, name, named, no_parts, opt, part, seq}
+use Rattle.pv_model.specs.Models.{Allows, Matches}
 use Rattle.pv_dtd.specs.Plain.{model_of, number_of}
 use Rattle.pv_dtd.specs.Hedge.{elements}
 use Rattle.pv_tree.specs.Lists.{IsOwnValid, an_element, lists_at, the_document}

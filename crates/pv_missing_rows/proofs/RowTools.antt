@@ -1,6 +1,7 @@
 -- What the rows are proved with.
 use Rattle.std.proofs.Common.{List, Some, [], arith, refl, suc, ℕ, ◌++◌, ◌+◌, ◌∷◌, ◌≡◌, ◌≤◌}
-use Rattle.pv_model.specs.Models.{Allows, PlainModel, PlainToken, named}
+use Rattle.pv_model.specs.Plain.{PlainModel, PlainToken, named}
+use Rattle.pv_model.specs.Models.{Allows}
 use Rattle.pv_dtd.specs.Plain.{PlainDtd, declared, model_of}
 use Rattle.pv_dtd.specs.Hedge.{done}
 use Rattle.pv_tree.specs.Lists.{IsValidBy, IsValidList, Listed, Owner, an_element, lists_of, the_document}

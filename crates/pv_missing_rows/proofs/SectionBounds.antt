@@ -1,7 +1,8 @@
 -- How many elements are missing in words of the DTD of sections, at least.
 use Rattle.std.proofs.Common.{List, Some, [], ap, arith, inl, inr, map, refl, subst, suc, sym, zero, ℕ, ◌++◌, ◌+◌, ◌∙◌, ◌∷◌, ◌≡◌, ◌≤◌}
 use Rattle.std.specs.List.{AllByRecursion}
-use Rattle.pv_model.specs.Models.{Allows, PlainModel, PlainToken, empty, mixed, named, other, text}
+use Rattle.pv_model.specs.Plain.{PlainModel, PlainToken, empty, mixed, named, other, text}
+use Rattle.pv_model.specs.Models.{Allows}
 use Rattle.pv_dtd.specs.Plain.{model_of}
 use Rattle.pv_missing.specs.Covering.{Covers, IsPossibleRootWith, IsPossibleWith}
 use Rattle.pv_missing_rows.specs.Dtds.{doc_model, item_model, list_model, sec_model, sections_dtd}

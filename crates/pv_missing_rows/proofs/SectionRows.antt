@@ -2,7 +2,8 @@
 use Rattle.std.specs.Prelude.{codes}
 use Rattle.std.proofs.Common.{List, Some, [], ap, append-nil, arith, map, refl, subst, ℕ, ◌∷◌, ◌≡◌, ◌≤◌}
 use Rattle.std.specs.List.{AllByRecursion}
-use Rattle.pv_model.specs.Models.{Allows, IsOfMixed, Matches, PlainToken, mixed, name, named, no_parts, part, plus, seq, text}
+use Rattle.pv_model.specs.Plain.{PlainToken, mixed, name, named, no_parts, part, plus, seq, text}
+use Rattle.pv_model.specs.Models.{Allows, IsOfMixed, Matches}
 use Rattle.pv_dtd.specs.Plain.{model_of, number_of}
 use Rattle.pv_tree.specs.Lists.{IsOwnValid, an_element, lists_from, the_document}
 use Rattle.pv_tree.specs.Plain.{Forest, element, forest_of, no_trees, tagged, tree}

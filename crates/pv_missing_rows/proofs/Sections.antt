@@ -1,7 +1,8 @@
 -- The content models of the DTD of sections.
 use Rattle.std.proofs.Common.{List, [], append-nil, arith, inl, inr, refl, ℕ, ◌++◌, ◌∷◌, ◌≡◌, ◌⊎◌}
 use Rattle.std.specs.List.{AllByRecursion}
-use Rattle.pv_model.specs.Models.{Allows, Matches, Rounds, choice, empty, mixed, name, named, no_parts, no_round, opt, part, plus, round, seq, star}
+use Rattle.pv_model.specs.Plain.{choice, empty, mixed, name, named, no_parts, opt, part, plus, seq, star}
+use Rattle.pv_model.specs.Models.{Allows, Matches, Rounds, no_round, round}
 use Rattle.pv_missing.specs.Covering.{Covers, cover_none}
 use Rattle.pv_missing.specs.Dtds.{IsProperDtd}
 use Rattle.pv_dtd.specs.Productive.{IsProductive}

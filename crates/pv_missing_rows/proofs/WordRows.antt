@@ -1,6 +1,6 @@
 -- The rows of words.
 use Rattle.std.proofs.Common.{[], refl, ℕ, ◌∷◌}
-use Rattle.pv_model.specs.Models.{empty, named, other, text}
+use Rattle.pv_model.specs.Plain.{empty, named, other, text}
 use Rattle.pv_missing.specs.Covering.{IsPossibleWith, cover_none}
 use Rattle.pv_missing_rows.specs.Dtds.{any_dtd, endless_dtd, nested_dtd, sections_dtd}
 use Rattle.pv_missing_rows.specs.Rows.{OtherWords, SectionWords}

@@ -1,6 +1,6 @@
 -- Small DTDs, on which the definitions are tried.
 use Rattle.std.specs.Prelude.{List, [], codes, suc, zero, ℕ, ◌∷◌}
-use Rattle.pv_model.specs.Models.{PlainModel, any, children, choice, empty, mixed, name, no_parts, opt, part, plus, seq, star}
+use Rattle.pv_model.specs.Plain.{PlainModel, any, children, choice, empty, mixed, name, no_parts, opt, part, plus, seq, star}
 use Rattle.pv_dtd.specs.Plain.{PlainDtd}
 
 -- <!ELEMENT doc (head, sec+)> <!ELEMENT head (#PCDATA)> <!ELEMENT sec (title?, (p|list)*)> <!ELEMENT title (#PCDATA)>

@@ -1,7 +1,7 @@
 -- What the definitions say of small words and documents, each a statement.
 use Rattle.std.specs.Prelude.{List, None, Some, [], codes, length, ℕ, ◌∷◌, ◌≡◌}
 use Rattle.std.specs.List.{AllByRecursion}
-use Rattle.pv_model.specs.Models.{choice, name, named, no_parts, other, part, star, text}
+use Rattle.pv_model.specs.Plain.{choice, name, named, no_parts, other, part, star, text}
 use Rattle.pv_dtd.specs.Plain.{PlainDtd}
 use Rattle.pv_tree.specs.Lists.{IsOwnValid, lists_of}
 use Rattle.pv_tree.specs.Plain.{Tree, forest_of}

@@ -7,5 +7,5 @@ pub mod Progress
 pub mod Reached
 pub mod Reading
 pub mod Tokens
-pub mod Unmarked
+pub mod Unheld
 pub mod Written

@@ -1,7 +1,7 @@
 -- Names that are listed.
 use Rattle.std.proofs.Common.{◌≡◌, ℕ, zero, suc, ◌<◌, ◌↔◌, Bool, List, [], ◌∷◌, length, eqb, eqb-true, eq-eqb, IsTrue, Contains, slice_index_or, inl, inr, arith}
 use Rattle.std.specs.List.{list_any}
-use Rattle.pv_model.specs.Read.{numbers_of}
+use Rattle.pv_model.specs.PlainForms.{numbers_of}
 use Rattle.pv_model.specs.declared.models.NameId.{NameId}
 use Rattle.pv_model.proofs.Joins.{or-cases, or-left, or-right}
 

@@ -1,30 +1,30 @@
--- Marks written into a list from a place on.
+-- Positions written into a list from a place on.
 use Rattle.std.proofs.Common.{◌≡◌, ℕ, suc, ◌+◌, ◌≤◌, ◌<◌, Bool, false, ◌||◌, ◌&&◌, List, [], ◌∷◌, ◌++◌, length, take, drop, set, get_or, refl, sym, ap, ◌∙◌, arith, append_assoc, length-append, add-one}
 use Rattle.std.proofs.lemmas.List.{set_split, take_at, drop_at, drop-drop, length-take-le, take-append-le, take-take}
-use Rattle.pv_model.specs.Models.{PlainPart, name, seq, choice, opt, star, plus, PlainParts, no_parts, part}
-use Rattle.pv_model.specs.Marks.{mark_count, mark_count_all, is_end, may_be_empty, marks_after, marks_after_in_order, marks_after_in_each, written}
+use Rattle.pv_model.specs.Plain.{PlainPart, name, seq, choice, opt, star, plus, PlainParts, no_parts, part}
+use Rattle.pv_model.specs.Positions.{position_count, position_count_all, is_end, may_be_empty, positions_after, positions_after_in_order, positions_after_in_each, written}
 
 mutual
-  pub length-marks_after : (p : PlainPart) (e : Bool) (y : ℕ) (ms : List Bool) → length (marks_after p e y ms) ≡ mark_count p
-  length-marks_after (name x) e y ms = refl
-  length-marks_after (seq ps) e y ms = length-in_order ps e y ms
-  length-marks_after (choice ps) e y ms = length-in_each ps e y ms
-  length-marks_after (opt p) e y ms = length-marks_after p e y ms
-  length-marks_after (star p) e y ms = ap suc (length-marks_after p (e || get_or ms 0 false) y (drop 1 ms))
-  length-marks_after (plus p) e y ms = ap suc (length-marks_after p (e || get_or ms 0 false) y (drop 1 ms))
+  pub length-positions_after : (p : PlainPart) (e : Bool) (y : ℕ) (ms : List Bool) → length (positions_after p e y ms) ≡ position_count p
+  length-positions_after (name x) e y ms = refl
+  length-positions_after (seq ps) e y ms = length-in_order ps e y ms
+  length-positions_after (choice ps) e y ms = length-in_each ps e y ms
+  length-positions_after (opt p) e y ms = length-positions_after p e y ms
+  length-positions_after (star p) e y ms = ap suc (length-positions_after p (e || get_or ms 0 false) y (drop 1 ms))
+  length-positions_after (plus p) e y ms = ap suc (length-positions_after p (e || get_or ms 0 false) y (drop 1 ms))
 
-  length-in_order : (ps : PlainParts) (e : Bool) (y : ℕ) (ms : List Bool) → length (marks_after_in_order ps e y ms) ≡ mark_count_all ps
+  length-in_order : (ps : PlainParts) (e : Bool) (y : ℕ) (ms : List Bool) → length (positions_after_in_order ps e y ms) ≡ position_count_all ps
   length-in_order no_parts e y ms = refl
   length-in_order (part p ps) e y ms =
       let rest = is_end p ms || e && may_be_empty p in
-      length-append (marks_after p e y ms) (marks_after_in_order ps rest y (drop (mark_count p) ms))
-      ∙ omega (arith, length-marks_after p e y ms, length-in_order ps rest y (drop (mark_count p) ms))
+      length-append (positions_after p e y ms) (positions_after_in_order ps rest y (drop (position_count p) ms))
+      ∙ omega (arith, length-positions_after p e y ms, length-in_order ps rest y (drop (position_count p) ms))
 
-  length-in_each : (ps : PlainParts) (e : Bool) (y : ℕ) (ms : List Bool) → length (marks_after_in_each ps e y ms) ≡ mark_count_all ps
+  length-in_each : (ps : PlainParts) (e : Bool) (y : ℕ) (ms : List Bool) → length (positions_after_in_each ps e y ms) ≡ position_count_all ps
   length-in_each no_parts e y ms = refl
   length-in_each (part p ps) e y ms =
-      length-append (marks_after p e y ms) (marks_after_in_each ps e y (drop (mark_count p) ms))
-      ∙ omega (arith, length-marks_after p e y ms, length-in_each ps e y (drop (mark_count p) ms))
+      length-append (positions_after p e y ms) (positions_after_in_each ps e y (drop (position_count p) ms))
+      ∙ omega (arith, length-positions_after p e y ms, length-in_each ps e y (drop (position_count p) ms))
 
 pub written_one : (at : ℕ) (b : Bool) (old : List Bool) → at + 1 ≤ length old → set old at b ≡ written at (b ∷ []) old
 written_one at b old h = let h1 : at < length old = omega arith in set_split old at b h1 ∙ rw (append_assoc, add-one)
@@ -50,7 +50,7 @@ module _ (at n : ℕ) (new old now : List Bool) (e : length new ≡ n) (room : a
       ∙ drop-drop (n + length more) at old ∙ ap (λ k. drop (at + k) old) (sym len) in
       cc
 
--- a mark and those behind it
+-- a position and those behind it
 pub written_first : (at : ℕ) (b : Bool) (new old now : List Bool) → at + suc (length new) ≤ length old → now ≡ written (at + 1) new old → set now at b ≡ written at (b ∷ new) old
 written_first at b new old now h w =
     let rest = drop (at + 1 + length new) old in

@@ -1,4 +1,5 @@
-pub mod Marks
 pub mod Models
 pub mod Moves
-pub mod Read
+pub mod Plain
+pub mod PlainForms
+pub mod Positions

@@ -1,10 +1,10 @@
-//! How far a word has come in a content particle: a mark for each of the particle's names.
+//! How far a word has come in a content particle: a position for each of the particle's names.
 
 ghost use Rattle.std.specs.Prelude.{◌≡◌, ◌+◌, ◌≤◌, ◌++◌, ◌&&◌, ◌||◌, length, OnOk};
-ghost use Rattle.pv_model.specs.Models.{name as one_name, seq, choice, plus};
-ghost use Rattle.pv_model.specs.Marks.{mark_count, no_marks, may_be_empty};
+ghost use Rattle.pv_model.specs.Plain.{name as one_name, seq, choice, plus};
+ghost use Rattle.pv_model.specs.Positions.{position_count, no_positions, may_be_empty};
 ghost use Rattle.pv_model.specs.Moves.{Moves};
-ghost use Rattle.pv_model.specs.Read.{plain_part, plain_parts};
+ghost use Rattle.pv_model.specs.PlainForms.{plain_part, plain_parts};
 
 use crate::models::{NameId, NoMemory, Part};
 
@@ -45,37 +45,37 @@ fn some_may_be_empty(parts: &[Part]) -> bool
     some
 }
 
-/// Appends the part's marks before the first name is read. Each name has one: the names read so far can end with it.
+/// Appends the part's positions before the first name is read. Each name has one: the names read so far can end with it.
 /// Each repetition has one before its member's: they can end a round.
-#[cycle(push_marks)]
-pub fn push_marks(part: &Part, marks: &mut Vec<bool>) -> Result<(), NoMemory>
-    ensures { OnOk result (marks.new.items ≡ marks.old.items ++ no_marks (plain_part part.now)) }
+#[cycle(push_positions)]
+pub fn push_positions(part: &Part, positions: &mut Vec<bool>) -> Result<(), NoMemory>
+    ensures { OnOk result (positions.new.items ≡ positions.old.items ++ no_positions (plain_part part.now)) }
 {
     match part {
         Part::Name(_) => {
-            marks.push(false)?;
+            positions.push(false)?;
             Ok(())
         }
-        Part::Seq(parts) => push_all_marks(parts, marks),
-        Part::Choice(parts) => push_all_marks(parts, marks),
-        Part::Opt(inner) => push_marks(inner, marks),
+        Part::Seq(parts) => push_all_positions(parts, positions),
+        Part::Choice(parts) => push_all_positions(parts, positions),
+        Part::Opt(inner) => push_positions(inner, positions),
         Part::Star(inner) => {
-            marks.push(false)?;
-            push_marks(inner, marks)
+            positions.push(false)?;
+            push_positions(inner, positions)
         }
         Part::Plus(inner) => {
-            marks.push(false)?;
-            push_marks(inner, marks)
+            positions.push(false)?;
+            push_positions(inner, positions)
         }
     }
 }
 
-#[cycle(push_marks)]
-fn push_all_marks(parts: &[Part], marks: &mut Vec<bool>) -> Result<(), NoMemory>
-    ensures { OnOk result (marks.new.items ≡ marks.old.items ++ no_marks (seq (plain_parts parts.now))) }
+#[cycle(push_positions)]
+fn push_all_positions(parts: &[Part], positions: &mut Vec<bool>) -> Result<(), NoMemory>
+    ensures { OnOk result (positions.new.items ≡ positions.old.items ++ no_positions (seq (plain_parts parts.now))) }
 {
     for part in parts {
-        push_marks(part, marks)?;
+        push_positions(part, positions)?;
     }
     Ok(())
 }
@@ -83,7 +83,7 @@ fn push_all_marks(parts: &[Part], marks: &mut Vec<bool>) -> Result<(), NoMemory>
 /// What one more name of a word did in a part.
 #[derive(Clone, Copy)]
 pub struct Moved {
-    /// The place of the first mark behind those of the part.
+    /// The place of the first position behind those of the part.
     pub next: usize,
 
     /// Whether the names before this one were a word of the part.
@@ -92,8 +92,8 @@ pub struct Moved {
     /// Whether they are one with it.
     pub is_end: bool,
 
-    /// Whether the part has a mark left. Without one, no names behind this one make a word of it.
-    pub is_marked: bool,
+    /// Whether the part has a position left. Without one, no names behind this one make a word of it.
+    pub is_reached: bool,
 
     /// Whether the empty word is a word of the part.
     pub may_be_empty: bool,
@@ -112,12 +112,12 @@ impl Moved {
         ensures next { result.next ≡ self.next }
         ensures was_end { result.was_end ≡ was_end }
         ensures is_end { result.is_end ≡ self.is_end }
-        ensures is_marked { result.is_marked ≡ (self.is_marked || self.is_end) }
+        ensures is_reached { result.is_reached ≡ (self.is_reached || self.is_end) }
         ensures may_be_empty { result.may_be_empty ≡ self.may_be_empty }
     {
         Moved {
             was_end,
-            is_marked: self.is_marked || self.is_end,
+            is_reached: self.is_reached || self.is_end,
             ..self
         }
     }
@@ -127,14 +127,14 @@ impl Moved {
         ensures next { result.next ≡ part.next }
         ensures was_end { result.was_end ≡ (part.was_end || self.was_end && part.may_be_empty) }
         ensures is_end { result.is_end ≡ (part.is_end || self.is_end && part.may_be_empty) }
-        ensures is_marked { result.is_marked ≡ (self.is_marked || part.is_marked) }
+        ensures is_reached { result.is_reached ≡ (self.is_reached || part.is_reached) }
         ensures may_be_empty { result.may_be_empty ≡ (self.may_be_empty && part.may_be_empty) }
     {
         Moved {
             next: part.next,
             was_end: part.was_end || self.was_end && part.may_be_empty,
             is_end: part.is_end || self.is_end && part.may_be_empty,
-            is_marked: self.is_marked || part.is_marked,
+            is_reached: self.is_reached || part.is_reached,
             may_be_empty: self.may_be_empty && part.may_be_empty,
         }
     }
@@ -144,86 +144,104 @@ impl Moved {
         ensures next { result.next ≡ part.next }
         ensures was_end { result.was_end ≡ (self.was_end || part.was_end) }
         ensures is_end { result.is_end ≡ (self.is_end || part.is_end) }
-        ensures is_marked { result.is_marked ≡ (self.is_marked || part.is_marked) }
+        ensures is_reached { result.is_reached ≡ (self.is_reached || part.is_reached) }
         ensures may_be_empty { result.may_be_empty ≡ (self.may_be_empty || part.may_be_empty) }
     {
         Moved {
             next: part.next,
             was_end: self.was_end || part.was_end,
             is_end: self.is_end || part.is_end,
-            is_marked: self.is_marked || part.is_marked,
+            is_reached: self.is_reached || part.is_reached,
             may_be_empty: self.may_be_empty || part.may_be_empty,
         }
     }
 }
 
-/// Moves the part's marks, which begin at a place, over one more name. The part may begin with it if it is entered.
+/// Moves the part's positions, which begin at a place, over one more name. The part may begin with it if it is entered.
 #[cycle(advance)]
 #[inline(always)]
-pub fn advance(part: &Part, entered: bool, name: NameId, marks: &mut [bool], at: usize) -> Moved
-    requires { at + mark_count (plain_part part.now) ≤ length marks.old }
-    ensures { Moves (plain_part part.now) entered name.0 at marks.old marks.new result }
+pub fn advance(part: &Part, entered: bool, name: NameId, positions: &mut [bool], at: usize) -> Moved
+    requires { at + position_count (plain_part part.now) ≤ length positions.old }
+    ensures { Moves (plain_part part.now) entered name.0 at positions.old positions.new result }
 {
     // Most parts are names, and a name takes less than half the time outside the recursion.
     match part {
-        Part::Name(own) => advance_name(*own, entered, name, marks, at),
-        _ => advance_group(part, entered, name, marks, at),
+        Part::Name(own) => advance_name(*own, entered, name, positions, at),
+        _ => advance_group(part, entered, name, positions, at),
     }
 }
 
 #[cycle(advance)]
 #[inline(never)]
-fn advance_group(part: &Part, entered: bool, name: NameId, marks: &mut [bool], at: usize) -> Moved
-    requires { at + mark_count (plain_part part.now) ≤ length marks.old }
-    ensures { Moves (plain_part part.now) entered name.0 at marks.old marks.new result }
+fn advance_group(
+    part: &Part,
+    entered: bool,
+    name: NameId,
+    positions: &mut [bool],
+    at: usize,
+) -> Moved
+    requires { at + position_count (plain_part part.now) ≤ length positions.old }
+    ensures { Moves (plain_part part.now) entered name.0 at positions.old positions.new result }
 {
     match part {
-        Part::Name(own) => advance_name(*own, entered, name, marks, at),
-        Part::Seq(parts) => advance_in_order(parts, entered, name, marks, at),
-        Part::Choice(parts) => advance_each(parts, entered, name, marks, at),
+        Part::Name(own) => advance_name(*own, entered, name, positions, at),
+        Part::Seq(parts) => advance_in_order(parts, entered, name, positions, at),
+        Part::Choice(parts) => advance_each(parts, entered, name, positions, at),
         Part::Opt(inner) => {
-            let one = advance(inner, entered, name, marks, at);
+            let one = advance(inner, entered, name, positions, at);
             Moved {
                 may_be_empty: true,
                 ..one
             }
         }
         Part::Star(inner) => {
-            let rounds = advance_rounds(inner, entered, name, marks, at);
+            let rounds = advance_rounds(inner, entered, name, positions, at);
             Moved {
                 may_be_empty: true,
                 ..rounds
             }
         }
-        Part::Plus(inner) => advance_rounds(inner, entered, name, marks, at),
+        Part::Plus(inner) => advance_rounds(inner, entered, name, positions, at),
     }
 }
 
-fn advance_name(own: NameId, entered: bool, name: NameId, marks: &mut [bool], at: usize) -> Moved
-    requires { at + mark_count (one_name own.0) ≤ length marks.old }
-    ensures { Moves (one_name own.0) entered name.0 at marks.old marks.new result }
+fn advance_name(
+    own: NameId,
+    entered: bool,
+    name: NameId,
+    positions: &mut [bool],
+    at: usize,
+) -> Moved
+    requires { at + position_count (one_name own.0) ≤ length positions.old }
+    ensures { Moves (one_name own.0) entered name.0 at positions.old positions.new result }
 {
-    let was_end = marks[at];
+    let was_end = positions[at];
     let is_end = entered && own == name;
-    marks[at] = is_end;
+    positions[at] = is_end;
     Moved {
         next: at + 1,
         was_end,
         is_end,
-        is_marked: is_end,
+        is_reached: is_end,
         may_be_empty: false,
     }
 }
 
 #[cycle(advance)]
-fn advance_rounds(inner: &Part, entered: bool, name: NameId, marks: &mut [bool], at: usize) -> Moved
-    requires { at + mark_count (plus (plain_part inner.now)) ≤ length marks.old }
-    ensures { Moves (plus (plain_part inner.now)) entered name.0 at marks.old marks.new result }
+fn advance_rounds(
+    inner: &Part,
+    entered: bool,
+    name: NameId,
+    positions: &mut [bool],
+    at: usize,
+) -> Moved
+    requires { at + position_count (plus (plain_part inner.now)) ≤ length positions.old }
+    ensures { Moves (plus (plain_part inner.now)) entered name.0 at positions.old positions.new result }
 {
-    let was_end = marks[at];
+    let was_end = positions[at];
     let entering = entered || was_end;
-    let round = advance(inner, entering, name, marks, at + 1);
-    marks[at] = round.is_end;
+    let round = advance(inner, entering, name, positions, at + 1);
+    positions[at] = round.is_end;
     round.repeated(was_end)
 }
 
@@ -232,22 +250,22 @@ fn advance_in_order(
     parts: &[Part],
     entered: bool,
     name: NameId,
-    marks: &mut [bool],
+    positions: &mut [bool],
     at: usize,
 ) -> Moved
-    requires { at + mark_count (seq (plain_parts parts.now)) ≤ length marks.old }
-    ensures { Moves (seq (plain_parts parts.now)) entered name.0 at marks.old marks.new result }
+    requires { at + position_count (seq (plain_parts parts.now)) ≤ length positions.old }
+    ensures { Moves (seq (plain_parts parts.now)) entered name.0 at positions.old positions.new result }
 {
     let mut all = Moved {
         next: at,
         was_end: false,
         is_end: false,
-        is_marked: false,
+        is_reached: false,
         may_be_empty: true,
     };
     let mut entering = entered;
     for part in parts {
-        let one = advance(part, entering, name, marks, all.next);
+        let one = advance(part, entering, name, positions, all.next);
         entering = one.enters_next(entering);
         all = all.followed_by(one);
     }
@@ -255,19 +273,25 @@ fn advance_in_order(
 }
 
 #[cycle(advance)]
-fn advance_each(parts: &[Part], entered: bool, name: NameId, marks: &mut [bool], at: usize) -> Moved
-    requires { at + mark_count (choice (plain_parts parts.now)) ≤ length marks.old }
-    ensures { Moves (choice (plain_parts parts.now)) entered name.0 at marks.old marks.new result }
+fn advance_each(
+    parts: &[Part],
+    entered: bool,
+    name: NameId,
+    positions: &mut [bool],
+    at: usize,
+) -> Moved
+    requires { at + position_count (choice (plain_parts parts.now)) ≤ length positions.old }
+    ensures { Moves (choice (plain_parts parts.now)) entered name.0 at positions.old positions.new result }
 {
     let mut some = Moved {
         next: at,
         was_end: false,
         is_end: false,
-        is_marked: false,
+        is_reached: false,
         may_be_empty: false,
     };
     for part in parts {
-        let one = advance(part, entered, name, marks, some.next);
+        let one = advance(part, entered, name, positions, some.next);
         some = some.or(one);
     }
     some

@@ -1,7 +1,8 @@
 -- Words that differ only in how often data stands there are allowed alike.
 use Rattle.std.proofs.Common.{◌≡◌, ℕ, List, [], ◌∷◌, map, Bool, true, false, refl, sym, ap, ◌∙◌}
 use Rattle.std.specs.List.{AllByRecursion}
-use Rattle.pv_model.specs.Models.{PlainModel, empty, any, mixed, children, PlainToken, named, text, other, Allows, IsOfAny, IsOfMixed}
+use Rattle.pv_model.specs.Plain.{PlainModel, empty, any, mixed, children, PlainToken, named, text, other}
+use Rattle.pv_model.specs.Models.{Allows, IsOfAny, IsOfMixed}
 
 -- the tokens that aren't data
 abbrev pub without_text : List PlainToken → List PlainToken

@@ -3,7 +3,8 @@ use Rattle.std.proofs.Common.{◌≡◌, ◌↔◌, ◌==◌, IsTrue, ℕ, ◌<�
 use Rattle.std.proofs.lemmas.Bool.{eqb-true}
 use Rattle.std.specs.Option.{option_and_then, option_map}
 use Rattle.std.specs.Str.{bytes_eq}
-use Rattle.pv_model.specs.Models.{PlainModel, empty, Allows}
+use Rattle.pv_model.specs.Plain.{PlainModel, empty}
+use Rattle.pv_model.specs.Models.{Allows}
 use Rattle.pv_dtd.specs.Plain.{PlainDtd, place_of, model_of, declared}
 use Rattle.pv_tree.specs.Plain.{Forest, no_trees}
 use Rattle.pv_tree.specs.Words.{word_of}

@@ -1,7 +1,7 @@
 -- The word of some trees and that of the hedge that they show.
 use Rattle.std.proofs.Common.{◌≡◌, ℕ, List, [], ◌∷◌, Bool, true, false, ◌||◌, Option, Some, None, if◌then◌else◌, refl, sym, ap, ◌∙◌}
 use Rattle.pv_chars.specs.Texts.{is_data, has_data}
-use Rattle.pv_model.specs.Models.{PlainToken, named, text, other}
+use Rattle.pv_model.specs.Plain.{PlainToken, named, text, other}
 use Rattle.pv_dtd.specs.Plain.{PlainDtd, number_of}
 use Rattle.pv_tree.specs.Plain.{Tree, element, text_node, cdata_node, misc_node, Forest, no_trees, tree}
 use Rattle.pv_dtd.specs.Hedge.{Hedge, white, data_unit, leaf_word, token, word}

@@ -1,7 +1,8 @@
 -- The lists of a document in document order, and which of them are valid by themselves.
 use Rattle.std.specs.Prelude.{◌≡◌, ℕ, suc, List, [], ◌∷◌, ◌++◌, Option, Some}
 use Rattle.std.specs.List.{AllByRecursion}
-use Rattle.pv_model.specs.Models.{PlainModel, empty, Allows}
+use Rattle.pv_model.specs.Plain.{PlainModel, empty}
+use Rattle.pv_model.specs.Models.{Allows}
 use Rattle.pv_dtd.specs.Plain.{PlainDtd, number_of, model_of, declared}
 use Rattle.pv_tree.specs.Plain.{Tree, element, text_node, cdata_node, misc_node, Forest, no_trees, tree, PlainDoc}
 use Rattle.pv_tree.specs.Words.{word_of}

@@ -1,7 +1,7 @@
 -- The token that a node may have, before others.
 use Rattle.std.specs.Prelude.{List, ◌∷◌, Option, Some, None}
-use Rattle.pv_model.specs.Models.{PlainToken}
-use Rattle.pv_model.specs.Read.{plain_token}
+use Rattle.pv_model.specs.Plain.{PlainToken}
+use Rattle.pv_model.specs.PlainForms.{plain_token}
 use Rattle.pv_model.specs.declared.models.Token.{Token}
 
 abbrev pub token_before : Option Token → List PlainToken → List PlainToken

@@ -1,7 +1,7 @@
 -- The words of lists of nodes.
 use Rattle.std.specs.Prelude.{List, [], ◌∷◌, if◌then◌else◌}
 use Rattle.pv_chars.specs.Texts.{has_data}
-use Rattle.pv_model.specs.Models.{PlainToken, text}
+use Rattle.pv_model.specs.Plain.{PlainToken, text}
 use Rattle.pv_dtd.specs.Plain.{PlainDtd, number_of}
 use Rattle.pv_dtd.specs.Hedge.{token}
 use Rattle.pv_tree.specs.Plain.{Tree, element, text_node, cdata_node, misc_node, Forest, no_trees, tree}

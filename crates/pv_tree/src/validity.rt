@@ -2,7 +2,7 @@
 
 ghost use Rattle.std.specs.Prelude.{◌≡◌, ◌≤◌, ◌↔◌, ℕ, List, IsNone, IsTrue, IfOk, IfSome};
 ghost use Rattle.std.specs.Option.{option_copied, option_map, option_and_then};
-ghost use Rattle.pv_model.specs.Read.{plain_model};
+ghost use Rattle.pv_model.specs.PlainForms.{plain_model};
 ghost use Rattle.pv_dtd.specs.Plain.{number_of, model_of};
 ghost use Rattle.pv_dtd.specs.Reads.{plain_dtd};
 ghost use Rattle.pv_tree.specs.Plain.{nodes_in, nodes_in_all};

@@ -1,8 +1,8 @@
 //! The words of lists of nodes.
 
 ghost use Rattle.std.specs.Prelude.{◌≡◌, ◌++◌, List, IfOk, OnOk, map};
-ghost use Rattle.pv_model.specs.Models.{PlainToken};
-ghost use Rattle.pv_model.specs.Read.{plain_token};
+ghost use Rattle.pv_model.specs.Plain.{PlainToken};
+ghost use Rattle.pv_model.specs.PlainForms.{plain_token};
 ghost use Rattle.pv_dtd.specs.Plain.{number_of};
 ghost use Rattle.pv_dtd.specs.Reads.{plain_dtd};
 ghost use Rattle.pv_dtd.specs.Hedge.{token};

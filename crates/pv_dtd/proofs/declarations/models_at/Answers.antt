@@ -2,7 +2,7 @@ use Rattle.std.proofs.Common.{◌≡◌, ◌<◌, length, map, [], ◌∷◌, ap
 use Rattle.std.proofs.lemmas.Grind.{common_steps}
 use Rattle.std.proofs.lemmas.List.{map-append}
 use Rattle.std.proofs.lemmas.Result.{err_from_is_err_and}
-use Rattle.pv_model.specs.Read.{plain_model}
+use Rattle.pv_model.specs.PlainForms.{plain_model}
 use Rattle.pv_dtd.proofs.Passing.{passed_on}
 use Rattle.pv_dtd.proofs.Listed.{so_far_none}
 use Rattle.pv_dtd.proofs.Declared.{no_more, no_declaration, one_more, parts_in_models-push}

@@ -1,5 +1,5 @@
 use Rattle.std.proofs.Common.{◌≡◌, ◌≤◌, ◌+◌, length, map}
-use Rattle.pv_model.specs.Read.{plain_model}
+use Rattle.pv_model.specs.PlainForms.{plain_model}
 use Rattle.pv_dtd.specs.Plain.{parts_in_models}
 use Rattle.pv_dtd.specs.Text.{models_at}
 use Rattle.pv_dtd.proofs.Listed.{IsReadSoFar}

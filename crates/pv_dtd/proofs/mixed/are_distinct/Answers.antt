@@ -1,6 +1,6 @@
 use Rattle.std.proofs.Common.{arith}
 use Rattle.std.proofs.lemmas.Grind.{common_steps}
-use Rattle.pv_model.specs.Read.{numbers_of}
+use Rattle.pv_model.specs.PlainForms.{numbers_of}
 use Rattle.pv_dtd.proofs.Distinct.{new-distinct_numbers}
 use Rattle.pv_dtd.proofs.mixed.are_distinct.Goals as goal
 

@@ -1,6 +1,6 @@
 use Rattle.std.proofs.Common.{◌≡◌, [], drop}
 use Rattle.std.specs.Prelude.{nat_eq}
-use Rattle.pv_model.specs.Read.{numbers_of}
+use Rattle.pv_model.specs.PlainForms.{numbers_of}
 use Rattle.pv_dtd.proofs.Distinct.{are_new}
 use Rattle.pv_dtd.proofs.mixed.are_distinct.Given as goal
 

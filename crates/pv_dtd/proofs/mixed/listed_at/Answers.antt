@@ -2,7 +2,7 @@ use Rattle.std.proofs.Common.{◌<◌, length, [], ◌∷◌, ap, ◌∙◌, len
 use Rattle.std.proofs.lemmas.List.{map-append}
 use Rattle.std.proofs.lemmas.Result.{err_from_is_err_and}
 use Rattle.pv_model.specs.declared.models.NameId.{NameId}
-use Rattle.pv_model.specs.Read.{numbers_of}
+use Rattle.pv_model.specs.PlainForms.{numbers_of}
 use Rattle.pv_dtd.proofs.Passing.{passed_on}
 use Rattle.pv_dtd.proofs.Listed.{so_far_none, no_more, no_name, one_more}
 use Rattle.pv_dtd.proofs.mixed.listed_at.Goals as goal

@@ -1,5 +1,5 @@
 use Rattle.std.proofs.Common.{◌≤◌, ◌+◌, length}
-use Rattle.pv_model.specs.Read.{numbers_of}
+use Rattle.pv_model.specs.PlainForms.{numbers_of}
 use Rattle.pv_dtd.specs.Text.{listed_at}
 use Rattle.pv_dtd.proofs.Listed.{IsReadSoFar}
 use Rattle.pv_dtd.proofs.mixed.listed_at.Given as goal

@@ -1,7 +1,7 @@
 use Rattle.std.proofs.Common.{◌<◌, length, map, [], ◌∷◌, ap, ◌∙◌, refl, arith}
 use Rattle.std.proofs.lemmas.List.{map-append}
 use Rattle.std.proofs.lemmas.Result.{err_from_is_err_and}
-use Rattle.pv_model.specs.Read.{plain_part}
+use Rattle.pv_model.specs.PlainForms.{plain_part}
 use Rattle.pv_dtd.proofs.Passing.{passed_on}
 use Rattle.pv_dtd.proofs.Members.{so_far_first, closes, no_separator, no_member, so_far_more, parts_in_all-push}
 use Rattle.pv_dtd.proofs.particles.+particles.Goals as goal

@@ -1,6 +1,6 @@
 use Rattle.std.proofs.Common.{◌≡◌, ◌≤◌, ◌+◌, suc, length, map, ◌*◌}
-use Rattle.pv_model.specs.Models.{parts_of}
-use Rattle.pv_model.specs.Read.{plain_part}
+use Rattle.pv_model.specs.Plain.{parts_of}
+use Rattle.pv_model.specs.PlainForms.{plain_part}
 use Rattle.pv_dtd.specs.Plain.{parts_in, parts_in_all}
 use Rattle.pv_dtd.specs.Reading.{particle_at}
 use Rattle.pv_dtd.proofs.Members.{IsGroupSoFar}

@@ -1,6 +1,6 @@
 use Rattle.std.proofs.Common.{map}
 use Rattle.std.proofs.lemmas.Result.{IfOk-weaker}
-use Rattle.pv_model.specs.Read.{plain_part, plain_token}
+use Rattle.pv_model.specs.PlainForms.{plain_part, plain_token}
 use Rattle.pv_model.proofs.Answer.{read-means}
 use Rattle.pv_model.proofs.matching.matches.Goals as goal
 

@@ -1,7 +1,7 @@
 use Rattle.std.proofs.Common.{◌≡◌, drop}
-use Rattle.pv_model.specs.Models.{seq, choice}
-use Rattle.pv_model.specs.Marks.{may_be_empty, all_may_be_empty, some_may_be_empty}
-use Rattle.pv_model.specs.Read.{plain_parts}
+use Rattle.pv_model.specs.Plain.{seq, choice}
+use Rattle.pv_model.specs.Positions.{may_be_empty, all_may_be_empty, some_may_be_empty}
+use Rattle.pv_model.specs.PlainForms.{plain_parts}
 use Rattle.pv_model.proofs.positions.+may_be_empty.Given as goal
 
 abbrev pub invariant-all_may_be_empty-loop-part : goal.invariant-all_may_be_empty-loop-part

@@ -1,6 +1,6 @@
 use Rattle.std.proofs.Common.{◌≡◌, ◌&&◌, ◌==◌, ◌∙◌, ap, arith, rules, [], ◌∷◌}
 use Rattle.std.proofs.lemmas.Grind.{common_steps}
-use Rattle.pv_model.specs.Marks.{written}
+use Rattle.pv_model.specs.Positions.{written}
 use Rattle.pv_model.proofs.Written.{written_one}
 use Rattle.pv_model.proofs.positions.advance_name.Goals as goal
 
@@ -11,7 +11,7 @@ returns c =
       next = search rules;
       was_end = grind (arith, common_steps);
       is_end = is;
-      is_marked = is;
+      is_reached = is;
       may_be_empty = search rules;
-      marks = written_one c.args.at c.if-entered.is_end c.args.marks.now c.requires ∙ ap (λ b. written c.args.at (b ∷ []) c.args.marks.now) is;
+      positions = written_one c.args.at c.if-entered.is_end c.args.positions.now c.requires ∙ ap (λ b. written c.args.at (b ∷ []) c.args.positions.now) is;
     }

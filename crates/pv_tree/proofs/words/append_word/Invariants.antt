@@ -1,5 +1,5 @@
 use Rattle.std.proofs.Common.{◌≡◌, ◌++◌, drop, map}
-use Rattle.pv_model.specs.Read.{plain_token}
+use Rattle.pv_model.specs.PlainForms.{plain_token}
 use Rattle.pv_dtd.specs.Reads.{plain_dtd}
 use Rattle.pv_tree.specs.Words.{word_of}
 use Rattle.pv_tree.specs.Read.{forest}
