@@ -4,23 +4,12 @@ use Rattle.pv_dtd.specs.Plain.{PlainDtd, number_of}
 use Rattle.pv_dtd.specs.Hedge.{AreGood, Fits, Hedge, Leaf, elem, elements, leaf}
 use Rattle.pv_missing.specs.Extending.{Extends, both_done, join, new_element, same_element, same_leaf}
 use Rattle.pv_dtd.specs.Productive.{IsProductiveName}
-use Rattle.pv_missing.proofs.Grow.{Grows, grow_done, grow_kept, grow_leaf, grow_new}
+use Rattle.pv_missing.specs.DocumentLaws.{LevelsAgree}
+use Rattle.pv_missing.specs.Levels.{Inserts, IsCompleted, IsGoodExtension, insert_done, insert_kept, insert_leaf, insert_new}
 use Rattle.pv_missing.proofs.Hedges.{elements-join}
 
--- the second is the first with n good elements inserted, and all its elements are good
-pub record GoodExtension (g : PlainDtd) (n : ℕ) (k k' : Hedge) : Type 0 where
-  pub extends : Extends k k'
-  pub good : AreGood g k'
-  pub count : elements k' ≡ n + elements k
-
-pub record Keeps (g : PlainDtd) (n : ℕ) (x t : List ℕ) (k k' : Hedge) : Type 0 where
-  pub y : ℕ
-  pub is_number : number_of g x ≡ Some y
-  pub fits : Fits g y k'
-  pub inside : GoodExtension g n k k'
-
-pub Keeps-productive : (g : PlainDtd) (a : ℕ) (x t : List ℕ) (k k' : Hedge) → Keeps g a x t k k' → IsProductiveName g x
-Keeps-productive g a x t k k' r = record {
+pub IsCompleted-productive : (g : PlainDtd) (a : ℕ) (x t : List ℕ) (k k' : Hedge) → IsCompleted g a x t k k' → IsProductiveName g x
+IsCompleted-productive g a x t k k' r = record {
   number = r.y;
   is_number = r.is_number;
   productive = record { kids = k'; fits = r.fits; good = r.inside.good };
@@ -28,7 +17,7 @@ Keeps-productive g a x t k k' r = record {
 
 pub record GrowsBy (g : PlainDtd) (h h' : Hedge) : Type 0 where
   pub n : ℕ
-  pub grows : Grows g (Keeps g) n h h'
+  pub grows : Inserts g (IsCompleted g) n h h'
   pub count : elements h' ≡ n + elements h
 
 module _ (g : PlainDtd) where
@@ -36,7 +25,7 @@ module _ (g : PlainDtd) where
       GrowsBy g (elem x t k h) (elem x t k' h')
   kept_step x t k k' h h' e y is f good r s = record {
     n = r.n + s.n;
-    grows = grow_kept (r.n + s.n) r.n s.n x t k k' h h' refl
+    grows = insert_kept (r.n + s.n) r.n s.n x t k k' h h' refl
         (record { y = y; is_number = is; fits = f; inside = record { extends = e; good = good; count = r.count } }) s.grows;
     count = let p = r.count in let q = s.count in omega arith;
   }
@@ -45,22 +34,22 @@ module _ (g : PlainDtd) where
       GrowsBy g h (elem x [] k' h')
   new_step x h h1 h2 k' h' e y is f r s = record {
     n = suc (r.n + s.n);
-    grows = grow_new (suc (r.n + s.n)) r.n s.n x y h h1 h2 k' h' refl e is f r.grows s.grows;
+    grows = insert_new (suc (r.n + s.n)) r.n s.n x y h h1 h2 k' h' refl e is f r.grows s.grows;
     count = let p = r.count in let q = s.count in let j = ap elements e ∙ elements-join h1 h2 in omega arith;
   }
 
   leaf_step : (l : Leaf) (h h' : Hedge) → GrowsBy g h h' → GrowsBy g (leaf l h) (leaf l h')
-  leaf_step l h h' r = record { n = r.n; grows = grow_leaf r.n l h h' r.grows; count = r.count }
+  leaf_step l h h' r = record { n = r.n; grows = insert_leaf r.n l h h' r.grows; count = r.count }
 
   pub ext_grows : (h h' : Hedge) → Extends h h' → AreGood g h' → GrowsBy g h h'
-  ext_grows h h' both_done a = record { n = 0; grows = grow_done 0 refl; count = omega arith }
+  ext_grows h h' both_done a = record { n = 0; grows = insert_done 0 refl; count = omega arith }
   ext_grows h h' (same_leaf l r r' e) a = leaf_step l r r' (ext_grows r r' e a)
   ext_grows h h' (same_element x t k k' r r' e f) a =
       kept_step x t k k' r r' e a.0 a.1 a.2 a.3 (ext_grows k k' e a.3) (ext_grows r r' f a.4)
   ext_grows h h' (new_element x _ h1 h2 k' r' j e f) a =
       new_step x h h1 h2 k' r' j a.0 a.1 a.2 (ext_grows h1 k' e a.3) (ext_grows h2 r' f a.4)
 
-  kept_ext : (n a b : ℕ) (x t : List ℕ) (k k' h h' : Hedge) → n ≡ a + b → Keeps g a x t k k' → GoodExtension g b h h' → GoodExtension g n (elem x t k h) (elem x t k' h')
+  kept_ext : (n a b : ℕ) (x t : List ℕ) (k k' h h' : Hedge) → n ≡ a + b → IsCompleted g a x t k k' → IsGoodExtension g b h h' → IsGoodExtension g n (elem x t k h) (elem x t k' h')
   kept_ext n a b x t k k' h h' e r s = record {
     extends = same_element x t k k' h h' r.inside.extends s.extends;
     good = (r.y, r.is_number, r.fits, r.inside.good, s.good);
@@ -68,18 +57,25 @@ module _ (g : PlainDtd) where
   }
 
   new_ext : (n a b : ℕ) (x : List ℕ) (y : ℕ) (h h1 h2 k' h' : Hedge) → n ≡ suc (a + b) → h ≡ join h1 h2 → number_of g x ≡ Some y → Fits g y k' →
-      GoodExtension g a h1 k' → GoodExtension g b h2 h' → GoodExtension g n h (elem x [] k' h')
+      IsGoodExtension g a h1 k' → IsGoodExtension g b h2 h' → IsGoodExtension g n h (elem x [] k' h')
   new_ext n a b x y h h1 h2 k' h' e j is f r s = record {
     extends = new_element x h h1 h2 k' h' j r.extends s.extends;
     good = (y, is, f, r.good, s.good);
     count = let p = r.count in let q = s.count in let t = ap elements j ∙ elements-join h1 h2 in omega arith;
   }
 
-  leaf_ext : (n : ℕ) (l : Leaf) (h h' : Hedge) → GoodExtension g n h h' → GoodExtension g n (leaf l h) (leaf l h')
+  leaf_ext : (n : ℕ) (l : Leaf) (h h' : Hedge) → IsGoodExtension g n h h' → IsGoodExtension g n (leaf l h) (leaf l h')
   leaf_ext n l h h' s = record { extends = same_leaf l h h' s.extends; good = s.good; count = s.count }
 
-  pub grows_ext : (n : ℕ) (h h' : Hedge) → Grows g (Keeps g) n h h' → GoodExtension g n h h'
-  grows_ext n h h' (grow_done _ z) = record { extends = both_done; good = tt; count = omega arith }
-  grows_ext n h h' (grow_leaf _ l r r' e) = leaf_ext n l r r' (grows_ext n r r' e)
-  grows_ext n h h' (grow_kept _ a b x t k k' r r' e p q) = kept_ext n a b x t k k' r r' e p (grows_ext b r r' q)
-  grows_ext n h h' (grow_new _ a b x y _ h1 h2 k' r' e j is f p q) = new_ext n a b x y h h1 h2 k' r' e j is f (grows_ext a h1 k' p) (grows_ext b h2 r' q)
+  pub grows_ext : (n : ℕ) (h h' : Hedge) → Inserts g (IsCompleted g) n h h' → IsGoodExtension g n h h'
+  grows_ext n h h' (insert_done _ z) = record { extends = both_done; good = tt; count = omega arith }
+  grows_ext n h h' (insert_leaf _ l r r' e) = leaf_ext n l r r' (grows_ext n r r' e)
+  grows_ext n h h' (insert_kept _ a b x t k k' r r' e p q) = kept_ext n a b x t k k' r r' e p (grows_ext b r r' q)
+  grows_ext n h h' (insert_new _ a b x y _ h1 h2 k' r' e j is f p q) = new_ext n a b x y h h1 h2 k' r' e j is f (grows_ext a h1 k' p) (grows_ext b h2 r' q)
+
+-- a good extension is one that is made level by level, by as many elements
+pub levels_agree : LevelsAgree
+levels_agree g n h h' = (
+  (λ i. grows_ext g n h h' i),
+  (λ e. let r = ext_grows g h h' e.extends e.good in let c : r.n ≡ n = let p = r.count in let q = e.count in omega arith in rw c at r.grows),
+)

@@ -11,13 +11,14 @@ use Rattle.pv_tree.specs.View.{view, view_all}
 use Rattle.pv_tree.specs.Words.{word_of}
 use Rattle.pv_missing.specs.Completing.{HasCompletion}
 use Rattle.pv_missing.specs.Covering.{Covers, IsPossibleWith}
-use Rattle.pv_missing.specs.DocumentLaws.{Locality, NumbersAddUp}
+use Rattle.pv_missing.specs.DocumentLaws.{IsPotentiallyValidByLists, Locality, NumbersAddUp}
 use Rattle.pv_missing.specs.Dtds.{IsProperDtd}
+use Rattle.pv_missing.specs.ListLaws.{LiveMisses}
 use Rattle.pv_missing.specs.Missing.{MissInAll, MissesBy, MissesInContent, MissesInRoot}
 use Rattle.pv_missing.specs.Units.{HasUnits}
 use Rattle.pv_missing.specs.Verdicts.{AreVerdicts, IsLive, IsLiveBy, IsLiveContent, IsLiveRoot, Judges}
 use Rattle.pv_missing.proofs.HedgeLists.{NoneImpossible}
-use Rattle.pv_missing.proofs.Laws.{depths}
+use Rattle.pv_missing.proofs.PossibleWords.{depths}
 use Rattle.pv_missing.proofs.Locality.{locality}
 use Rattle.pv_missing.proofs.OneList.{covered_live, live_agrees}
 use Rattle.pv_missing.proofs.Same.{some_number}
@@ -118,25 +119,42 @@ module _ {M : Type 0} (g : PlainDtd) (root : List ℕ) where
     possible = (depths g p.number (word_of g k)).0.1 (n, p.possible);
   }
 
-  fine_misses : (lists : List (Listed M)) (vs : List Verdict) → AreVerdicts g root lists vs → AllByRecursion (λ v. v ≢ verdict.Impossible) vs →
-      (n : ℕ) × MissInAll g root lists n
-  fine_misses [] vs e a = (0, refl)
-  fine_misses (list ∷ lists) vs (v, rest, e, j, d) a =
-      let b : AllByRecursion (λ v. v ≢ verdict.Impossible) (v ∷ rest) = rw e at a in
-      let p = live_misses_by list.owner list.kids (judged_live (IsLive g root list) (IsValidList g root list) v j b.0) in
-      let q = fine_misses lists rest d b.1 in (p.0 + q.0, (p.0, q.0, refl, p.1, q.1))
+  live_missing : (lists : List (Listed M)) → AllByRecursion (IsLive g root) lists → (n : ℕ) × MissInAll g root lists n
+  live_missing [] a = (0, refl)
+  live_missing (list ∷ lists) a =
+      let p = live_misses_by list.owner list.kids a.0 in let q = live_missing lists a.1 in (p.0 + q.0, (p.0, q.0, refl, p.1, q.1))
 
-  misses_fine : (lists : List (Listed M)) (vs : List Verdict) (n : ℕ) → AreVerdicts g root lists vs → MissInAll g root lists n →
+  missing_live : (lists : List (Listed M)) (n : ℕ) → MissInAll g root lists n → AllByRecursion (IsLive g root) lists
+  missing_live [] n p = tt
+  missing_live (list ∷ lists) n (a, b, f, p, q) = (misses_live_by list.owner list.kids a p, missing_live lists b q)
+
+  fine_live : (lists : List (Listed M)) (vs : List Verdict) → AreVerdicts g root lists vs → AllByRecursion (λ v. v ≢ verdict.Impossible) vs →
+      AllByRecursion (IsLive g root) lists
+  fine_live [] vs e a = tt
+  fine_live (list ∷ lists) vs (v, rest, e, j, d) a =
+      let b : AllByRecursion (λ v. v ≢ verdict.Impossible) (v ∷ rest) = rw e at a in
+      (judged_live (IsLive g root list) (IsValidList g root list) v j b.0, fine_live lists rest d b.1)
+
+  live_fine : (lists : List (Listed M)) (vs : List Verdict) → AreVerdicts g root lists vs → AllByRecursion (IsLive g root) lists →
       AllByRecursion (λ v. v ≢ verdict.Impossible) vs
-  misses_fine [] vs n e p = rw e tt
-  misses_fine (list ∷ lists) vs n (v, rest, e, j, d) (a, b, f, p, q) =
-      rw e (live_judged (IsLive g root list) (IsValidList g root list) v j (misses_live_by list.owner list.kids a p), misses_fine lists rest b d q)
+  live_fine [] vs e a = rw e tt
+  live_fine (list ∷ lists) vs (v, rest, e, j, d) a =
+      rw e (live_judged (IsLive g root list) (IsValidList g root list) v j a.0, live_fine lists rest d a.1)
+
+pub live_misses : (M : Type 0) → LiveMisses M
+live_misses M g root list = ((λ l. live_misses_by g root list.owner list.kids l), (λ p. misses_live_by g root list.owner list.kids p.0 p.1))
 
 pub numbers_add_up : (M : Type 0) → NumbersAddUp M
 numbers_add_up M g root doc n proper p = adds_up g root doc.root n proper p.rooted p.units
 
-pub doc_locality : (M : Type 0) → Locality M
-doc_locality M g root doc vs proper p v = (
-  (λ q. let c = (some_number g root (view doc.root)).0 q in misses_fine g root (root_lists doc.root) vs c.0 v ((numbers_add_up M g root doc c.0 proper p).0 c.1)),
-  (λ a. let m = fine_misses g root (root_lists doc.root) vs v a in (some_number g root (view doc.root)).1 (m.0, (numbers_add_up M g root doc m.0 proper p).1 m.1)),
+pub live_locality : (M : Type 0) → IsPotentiallyValidByLists M
+live_locality M g root doc proper p = (
+  (λ q. let c = (some_number g root (view doc.root)).0 q in missing_live g root (root_lists doc.root) c.0 ((numbers_add_up M g root doc c.0 proper p).0 c.1)),
+  (λ a. let m = live_missing g root (root_lists doc.root) a in (some_number g root (view doc.root)).1 (m.0, (numbers_add_up M g root doc m.0 proper p).1 m.1)),
+)
+
+pub verdict_locality : (M : Type 0) → Locality M
+verdict_locality M g root doc vs proper p v = (
+  (λ q. live_fine g root (root_lists doc.root) vs v ((live_locality M g root doc proper p).0 q)),
+  (λ a. (live_locality M g root doc proper p).1 (fine_live g root (root_lists doc.root) vs v a)),
 )

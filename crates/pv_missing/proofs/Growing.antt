@@ -7,7 +7,8 @@ use Rattle.pv_dtd.specs.Hedge.{Fits, Hedge, Leaf, cdata, data_unit, done, elem, 
 use Rattle.pv_missing.specs.Covering.{Covers, cover_kept, cover_new, cover_none, cover_text}
 use Rattle.pv_missing.specs.Dtds.{IsProperDtd}
 use Rattle.pv_missing.specs.Extending.{join}
-use Rattle.pv_missing.proofs.Grow.{Grows, CanKeep, grow_done, grow_kept, grow_leaf, grow_new}
+use Rattle.pv_missing.specs.Levels.{Inserts, insert_done, insert_kept, insert_leaf, insert_new}
+use Rattle.pv_missing.proofs.Grow.{CanKeep}
 use Rattle.pv_missing.proofs.Hedges.{Cut, cut}
 use Rattle.pv_missing.proofs.Names.{spelled}
 
@@ -36,7 +37,7 @@ allows-empty g m u e a = let P : PlainModel → Type 0 = λ x. Allows (declared 
 module _ (g : PlainDtd) (Kept : ℕ → List ℕ → List ℕ → Hedge → Hedge → Type 0) where
   pub record Grown (n : ℕ) (h : Hedge) (u : List PlainToken) : Type 0 where
     pub hedge : Hedge
-    pub grows : Grows g Kept n h hedge
+    pub grows : Inserts g Kept n h hedge
     pub is_word : word g hedge ≡ u
     pub none : h ≡ done → u ≡ [] → hedge ≡ done
 
@@ -75,7 +76,7 @@ module _ (g : PlainDtd) (Kept : ℕ → List ℕ → List ℕ → Hedge → Hedg
   along : (n : ℕ) (l : Leaf) (h : Hedge) (u : List PlainToken) → ((v : Hedge) → word g (leaf l v) ≡ word g v) → Grown n h u → Grown n (leaf l h) u
   along n l h u same r = record {
     hedge = leaf l r.hedge;
-    grows = grow_leaf n l h r.hedge r.grows;
+    grows = insert_leaf n l h r.hedge r.grows;
     is_word = same r.hedge ∙ r.is_word;
     none = λ e _. absurd cc;
   }
@@ -84,14 +85,14 @@ module _ (g : PlainDtd) (Kept : ℕ → List ℕ → List ℕ → Hedge → Hedg
   kept_text : (n : ℕ) (l : Leaf) (h : Hedge) (u : List PlainToken) → ((v : Hedge) → word g (leaf l v) ≡ text ∷ word g v) → Grown n h u → Grown n (leaf l h) (text ∷ u)
   kept_text n l h u same r = record {
     hedge = leaf l r.hedge;
-    grows = grow_leaf n l h r.hedge r.grows;
+    grows = insert_leaf n l h r.hedge r.grows;
     is_word = same r.hedge ∙ ap (◌∷◌ text) r.is_word;
     none = λ e _. absurd cc;
   }
 
   -- at the end nothing but leaves that are no tokens is left
   none_step : (c : ℕ) (h : Hedge) → word g h ≡ [] → CanKeep Kept c h → Grown c h []
-  none_step c done e i = record { hedge = done; grows = grow_done c i; is_word = refl; none = λ _ _. refl }
+  none_step c done e i = record { hedge = done; grows = insert_done c i; is_word = refl; none = λ _ _. refl }
   none_step c (leaf (white b) h) e i = along c (white b) h [] (λ v. refl) (none_step c h e i)
   none_step c (leaf (misc b) h) e i = along c (misc b) h [] (λ v. refl) (none_step c h e i)
   none_step c (leaf (data_unit b) h) e i = absurd cc
@@ -119,7 +120,7 @@ module _ (g : PlainDtd) (Kept : ℕ → List ℕ → List ℕ → Hedge → Hedg
       go : Grown (n + i.1) h u → Grown (n + c) (elem x t k h) (named y ∷ u)
       go r = record {
         hedge = elem x t i.3 r.hedge;
-        grows = grow_kept (n + c) i.0 (n + i.1) x t k i.3 h r.hedge (let s = i.2 in omega arith) i.4 r.grows;
+        grows = insert_kept (n + c) i.0 (n + i.1) x t k i.3 h r.hedge (let s = i.2 in omega arith) i.4 r.grows;
         is_word = let f = r.is_word in cc;
         none = λ f _. absurd cc;
       }
@@ -129,7 +130,7 @@ module _ (g : PlainDtd) (Kept : ℕ → List ℕ → List ℕ → Hedge → Hedg
       model_of g y ≡ Some m → Allows (declared g) m v → (s : Split c h1 h2) → Grown (a + s.left) h1 v → Grown (b + s.right) h2 u → Grown (n + c) h (named y ∷ u)
   new_step proper n a b c y m v u h h1 h2 e j none is ok s front back = record {
     hedge = elem (spelling_of g y) [] front.hedge back.hedge;
-    grows = grow_new (n + c) (a + s.left) (b + s.right) (spelling_of g y) y h h1 h2 front.hedge back.hedge (let f = s.is_sum in omega arith) j
+    grows = insert_new (n + c) (a + s.left) (b + s.right) (spelling_of g y) y h h1 h2 front.hedge back.hedge (let f = s.is_sum in omega arith) j
         (spelled g proper y m is) fits front.grows back.grows;
     is_word = let f = back.is_word in let q = spelled g proper y m is in simp q (ap (◌∷◌ (named y)) f);
     none = λ f z. absurd cc;

@@ -18,11 +18,11 @@ keeps_leaves h h' (same_leaf l r r' e) = ap (◌∷◌ l) (keeps_leaves r r' e)
 keeps_leaves h h' (same_element x t k k' r r' e f) = rw (keeps_leaves k k' e, keeps_leaves r r' f) refl
 keeps_leaves h h' (new_element x _ h1 h2 k' r' j e f) = rw (keeps_leaves h1 k' e, keeps_leaves h2 r' f) (sym (ap leaves_of j ∙ leaves-join h1 h2))
 
-pub completions_insert : (M : Type 0) → CompletionsInsert M
-completions_insert M g root doc body marks k c = record { hedge = view body.root; extends = c.extends; valid = c.valid; inserted = c.inserted }
+pub completions_insert : (M N : Type 0) → CompletionsInsert M N
+completions_insert M N g root doc body marks k c = record { hedge = view body.root; extends = c.extends; valid = c.valid; inserted = c.inserted }
 
-pub extensions_complete : (M : Type 0) → ExtensionsComplete M
-extensions_complete M g root doc body v e b a =
+pub extensions_complete : (M N : Type 0) → ExtensionsComplete M N
+extensions_complete M N g root doc body v e b a =
     let m = has_marks 0 (view doc.root) (view body.root) e in
     let l : LeavesOut 0 (elements (view body.root)) m.0 (view doc.root) (view body.root) = let z : 0 + elements (view body.root) ≡ elements (view body.root) = omega arith in rw z at m.1 in
     let s = marks_show 0 (elements (view body.root)) m.0 (view doc.root) (view body.root) l in

@@ -14,8 +14,8 @@ pub mod Growing
 pub mod HedgeLists
 pub mod Hedges
 pub mod Kept
-pub mod Laws
 pub mod LeftOut
+pub mod LiveFacts
 pub mod LiveOnce
 pub mod Locality
 pub mod Located
@@ -24,6 +24,7 @@ pub mod Names
 pub mod Numbers
 pub mod OneList
 pub mod OpenTables
+pub mod PossibleWords
 pub mod Proper
 pub mod Repeats
 pub mod Same
@@ -37,6 +38,7 @@ pub mod Texts
 pub mod TreeLists
 pub mod TreeWords
 pub mod Units
+pub mod ValidLists
 pub mod Verdict
 pub mod Weights
 pub mod WordDerivations

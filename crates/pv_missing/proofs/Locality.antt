@@ -6,7 +6,8 @@ use Rattle.pv_dtd.specs.Hedge.{AreGood, Fits, Hedge, IsValid, done, elem, leaf, 
 use Rattle.pv_missing.specs.Completing.{HasCompletion}
 use Rattle.pv_missing.specs.Dtds.{IsProperDtd}
 use Rattle.pv_missing.specs.Extending.{Extends, both_done, join, new_element, same_element, same_leaf}
-use Rattle.pv_missing.proofs.Deep.{GoodExtension, GrowsBy, Keeps, Keeps-productive, ext_grows, grows_ext}
+use Rattle.pv_missing.specs.Levels.{IsCompleted, IsGoodExtension}
+use Rattle.pv_missing.proofs.Deep.{GrowsBy, IsCompleted-productive, ext_grows, grows_ext}
 use Rattle.pv_missing.proofs.Grow.{CanKeep}
 use Rattle.pv_missing.proofs.Growing.{Grown, allows-empty, grow, token-name}
 use Rattle.pv_missing.proofs.HedgeLists.{AllLive, HedgeLocality, IsLiveHedge, NoneImpossible}
@@ -23,10 +24,10 @@ ext_into_done h h' (new_element x _ h1 h2 k' r' j f f') e = absurd cc
 module _ (g : PlainDtd) where
   -- a live list, whose elements can be kept, is made to fit
   fit : (x t : List ℕ) (k h : Hedge) (n y a b c : ℕ) → n ≡ a + (b + c) → number_of g x ≡ Some y → (l : IsLiveHedge g y a k) →
-      Grown g (Keeps g) (a + b) k l.possible.whole → CanKeep (Keeps g) c h → CanKeep (Keeps g) n (elem x t k h)
+      Grown g (IsCompleted g) (a + b) k l.possible.whole → CanKeep (IsCompleted g) c h → CanKeep (IsCompleted g) n (elem x t k h)
   fit x t k h n y a b c e is l r i = (a + b, c, omega arith, r.hedge, keeps, i)
     where
-      good : GoodExtension g (a + b) k r.hedge
+      good : IsGoodExtension g (a + b) k r.hedge
       good = grows_ext g (a + b) k r.hedge r.grows
 
       fits : Fits g y r.hedge
@@ -37,14 +38,14 @@ module _ (g : PlainDtd) where
         allowed = rw r.is_word l.possible.allowed;
       }
 
-      keeps : Keeps g (a + b) x t k r.hedge
+      keeps : IsCompleted g (a + b) x t k r.hedge
       keeps = record { y = y; is_number = is; fits = fits; inside = good }
 
-  pub lists_keep : IsProperDtd g → (n : ℕ) (h : Hedge) → AllLive g n h → CanKeep (Keeps g) n h
+  pub lists_keep : IsProperDtd g → (n : ℕ) (h : Hedge) → AllLive g n h → CanKeep (IsCompleted g) n h
   lists_keep proper n done e = e
   lists_keep proper n (leaf l h) e = lists_keep proper n h e
   lists_keep proper n (elem x t k h) (y, a, b, c, s, is, l, inside, rest) =
-      fit x t k h n y a b c s is l (grow g (Keeps g) proper a b l.possible.whole (word g k) k l.possible.covers refl (lists_keep proper b k inside)) (lists_keep proper c h rest)
+      fit x t k h n y a b c s is l (grow g (IsCompleted g) proper a b l.possible.whole (word g k) k l.possible.covers refl (lists_keep proper b k inside)) (lists_keep proper c h rest)
 
   -- an element that can be kept has a live list
   pub record Lists (n : ℕ) (y : ℕ) (k : Hedge) : Type 0 where
@@ -52,9 +53,9 @@ module _ (g : PlainDtd) where
     pub within : ℕ
     pub is_sum : n ≡ missing + within
     pub live : IsLiveHedge g y missing k
-    pub keeping : CanKeep (Keeps g) within k
+    pub keeping : CanKeep (IsCompleted g) within k
 
-  list_of : (n : ℕ) (x t : List ℕ) (k k' : Hedge) (r : Keeps g n x t k k') → Lists n r.y k
+  list_of : (n : ℕ) (x t : List ℕ) (k k' : Hedge) (r : IsCompleted g n x t k k') → Lists n r.y k
   list_of n x t k k' r = record {
     missing = s.missing;
     within = s.within;
@@ -70,15 +71,15 @@ module _ (g : PlainDtd) where
       by : GrowsBy g k k'
       by = ext_grows g k k' r.inside.extends r.inside.good
 
-      s : Shrunk g (Keeps g) (Keeps-productive g) by.n k k'
-      s = shrink g (Keeps g) (Keeps-productive g) by.n k k' by.grows
+      s : Shrunk g (IsCompleted g) (IsCompleted-productive g) by.n k k'
+      s = shrink g (IsCompleted g) (IsCompleted-productive g) by.n k k' by.grows
 
-  pub keep_lists : (n : ℕ) (h : Hedge) → CanKeep (Keeps g) n h → AllLive g n h
+  pub keep_lists : (n : ℕ) (h : Hedge) → CanKeep (IsCompleted g) n h → AllLive g n h
   keep_lists n done e = e
   keep_lists n (leaf l h) e = keep_lists n h e
   keep_lists n (elem x t k h) (a, b, s, k', keeps, rest) = go (λ m i. keep_lists m k i) (keep_lists b h rest) (list_of a x t k k' keeps)
     where
-      go : ((m : ℕ) → CanKeep (Keeps g) m k → AllLive g m k) → AllLive g b h → Lists a keeps.y k → AllLive g n (elem x t k h)
+      go : ((m : ℕ) → CanKeep (IsCompleted g) m k → AllLive g m k) → AllLive g b h → Lists a keeps.y k → AllLive g n (elem x t k h)
       go inner r l = (keeps.y, l.missing, l.within, b, let p = l.is_sum in omega arith, keeps.is_number, l.live, inner l.within l.keeping, r)
 
 -- no leaf stands directly in the hedge
@@ -129,8 +130,8 @@ module _ (g : PlainDtd) (root x t : List ℕ) (k : Hedge) (n : ℕ) where
       by : GrowsBy g (elem x t k done) c.hedge
       by = ext_grows g (elem x t k done) c.hedge c.extends c.valid.good
 
-      s : Shrunk g (Keeps g) (Keeps-productive g) by.n (elem x t k done) c.hedge
-      s = shrink g (Keeps g) (Keeps-productive g) by.n (elem x t k done) c.hedge by.grows
+      s : Shrunk g (IsCompleted g) (IsCompleted-productive g) by.n (elem x t k done) c.hedge
+      s = shrink g (IsCompleted g) (IsCompleted-productive g) by.n (elem x t k done) c.hedge by.grows
 
       top : AreGood g (elem root c.valid.attrs c.valid.kids done)
       top = rw c.valid.is_root at c.valid.good
@@ -146,11 +147,11 @@ module _ (g : PlainDtd) (root x t : List ℕ) (k : Hedge) (n : ℕ) where
     inserted = let p = good.count in let q = c.is_sum in omega arith;
   }
     where
-      r : Grown g (Keeps g) (c.above + c.below) (elem x t k done) (named c.number ∷ [])
-      r = grow g (Keeps g) proper c.above c.below (named c.number ∷ []) (word g (elem x t k done)) (elem x t k done) c.document refl
+      r : Grown g (IsCompleted g) (c.above + c.below) (elem x t k done) (named c.number ∷ [])
+      r = grow g (IsCompleted g) proper c.above c.below (named c.number ∷ []) (word g (elem x t k done)) (elem x t k done) c.document refl
           (lists_keep g proper c.below (elem x t k done) c.lists)
 
-      good : GoodExtension g (c.above + c.below) (elem x t k done) r.hedge
+      good : IsGoodExtension g (c.above + c.below) (elem x t k done) r.hedge
       good = grows_ext g (c.above + c.below) (elem x t k done) r.hedge r.grows
 
 pub locality : HedgeLocality

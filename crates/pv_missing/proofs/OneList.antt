@@ -9,17 +9,13 @@ use Rattle.pv_missing.specs.Dtds.{IsProperDtd}
 use Rattle.pv_missing.specs.Extending.{Extends, both_done, join, new_element, same_element, same_leaf}
 use Rattle.pv_missing.specs.ListLaws.{HereExtends, OneList, RootList}
 use Rattle.pv_missing.specs.LiveWords.{IsLiveWord, live_unproductive, live_name, live_none, live_other, live_text}
-use Rattle.pv_missing.specs.OneList.{CanFit, CanFitRoot, InsertsHere, here_done, here_element, here_leaf, here_new}
 use Rattle.pv_dtd.specs.Productive.{AreProductive, IsProductive, IsProductiveName}
 use Rattle.pv_missing.specs.WordLaws.{AreProductiveTokens, LiveAgrees}
-use Rattle.pv_missing.proofs.Grow.{Grows, CanKeep, grow_done, grow_kept, grow_leaf, grow_new}
+use Rattle.pv_missing.specs.Levels.{CanFit, CanFitRoot, Inserts, Stays, insert_done, insert_kept, insert_leaf, insert_new}
+use Rattle.pv_missing.proofs.Grow.{CanKeep}
 use Rattle.pv_missing.proofs.Growing.{Grown, allows-empty, grow}
 use Rattle.pv_missing.proofs.Hedges.{elements-join}
 use Rattle.pv_missing.proofs.Shrinking.{Shrunk, shrink}
-
--- nothing is inserted inside an element that was there
-abbrev pub Stays : ℕ → List ℕ → List ℕ → Hedge → Hedge → Type 0
-Stays n x t k k' = (n ≡ 0) × (k' ≡ k)
 
 -- each element may stay as it is, at no cost
 pub stays_keep : (h : Hedge) → CanKeep Stays 0 h
@@ -41,37 +37,18 @@ productive_front g done b p = (tt, p)
 productive_front g (leaf l a) b p = productive_front g a b p
 productive_front g (elem x t k a) b p = let q = productive_front g a b p.1 in ((p.0, q.0), q.1)
 
-pub with_live : (g : PlainDtd) (n : ℕ) (h h' : Hedge) → Grows g Stays n h h' → AreProductive g h → Grows g (StaysLive g) n h h'
-with_live g n h h' (grow_done _ z) p = grow_done n z
-with_live g n h h' (grow_leaf _ l r r' e) p = grow_leaf n l r r' (with_live g n r r' e p)
-with_live g n h h' (grow_kept _ a b x t k k' r r' e s f) p = grow_kept n a b x t k k' r r' e (s, p.0) (with_live g b r r' f p.1)
-with_live g n h h' (grow_new _ a b x y _ h1 h2 k' r' e j is f d1 d2) p =
+pub with_live : (g : PlainDtd) (n : ℕ) (h h' : Hedge) → Inserts g Stays n h h' → AreProductive g h → Inserts g (StaysLive g) n h h'
+with_live g n h h' (insert_done _ z) p = insert_done n z
+with_live g n h h' (insert_leaf _ l r r' e) p = insert_leaf n l r r' (with_live g n r r' e p)
+with_live g n h h' (insert_kept _ a b x t k k' r r' e s f) p = insert_kept n a b x t k k' r r' e (s, p.0) (with_live g b r r' f p.1)
+with_live g n h h' (insert_new _ a b x y _ h1 h2 k' r' e j is f d1 d2) p =
     let q = productive_front g h1 h2 (rw j at p) in
-    grow_new n a b x y h h1 h2 k' r' e j is f (with_live g a h1 k' d1 q.0) (with_live g b h2 r' d2 q.1)
+    insert_new n a b x y h h1 h2 k' r' e j is f (with_live g a h1 k' d1 q.0) (with_live g b h2 r' d2 q.1)
 
 pub without_live : (g : PlainDtd) (c : ℕ) (h : Hedge) → CanKeep (StaysLive g) c h → CanKeep Stays c h
 without_live g c done e = e
 without_live g c (leaf l h) i = without_live g c h i
 without_live g c (elem x t k h) (a, b, s, k', r, i) = (a, b, s, k', r.0, without_live g b h i)
-
--- insertion at one level, by either relation
-pub here_grows : (g : PlainDtd) (n : ℕ) (h h' : Hedge) → InsertsHere g n h h' → Grows g Stays n h h'
-here_grows g n h h' (here_done _ z) = grow_done n z
-here_grows g n h h' (here_leaf _ l r r' e) = grow_leaf n l r r' (here_grows g n r r' e)
-here_grows g n h h' (here_element _ x t k r r' e) = grow_kept n 0 n x t k k r r' (omega arith) (refl, refl) (here_grows g n r r' e)
-here_grows g n h h' (here_new _ a b x y _ h1 h2 k' r' e j is f d1 d2) =
-    grow_new n a b x y h h1 h2 k' r' e j is f (here_grows g a h1 k' d1) (here_grows g b h2 r' d2)
-
-here_kept : (g : PlainDtd) (n a b : ℕ) (x t : List ℕ) (k k' h h' : Hedge) → n ≡ a + b → Stays a x t k k' → InsertsHere g b h h' →
-    InsertsHere g n (elem x t k h) (elem x t k' h')
-here_kept g n a b x t k k' h h' e s r = let p : n ≡ b = let q = s.0 in omega arith in rw (s.1, p) (here_element b x t k h h' r)
-
-pub grows_here : (g : PlainDtd) (n : ℕ) (h h' : Hedge) → Grows g Stays n h h' → InsertsHere g n h h'
-grows_here g n h h' (grow_done _ z) = here_done n z
-grows_here g n h h' (grow_leaf _ l r r' e) = here_leaf n l r r' (grows_here g n r r' e)
-grows_here g n h h' (grow_kept _ a b x t k k' r r' e s f) = here_kept g n a b x t k k' r r' e s (grows_here g b r r' f)
-grows_here g n h h' (grow_new _ a b x y _ h1 h2 k' r' e j is f d1 d2) =
-    here_new n a b x y h h1 h2 k' r' e j is f (grows_here g a h1 k' d1) (grows_here g b h2 r' d2)
 
 -- the live word of productive names is the word
 pub live_same : (g : PlainDtd) (w live : List PlainToken) → IsLiveWord g w live → AreProductiveTokens g w → live ≡ w
@@ -93,7 +70,7 @@ one_list_up : (g : PlainDtd) (x n : ℕ) (m : PlainModel) (h : Hedge) → model_
     Grown g Stays (n + 0) h p.whole → CanFit g m n h
 one_list_up g x n m h is none p r = record {
   hedge = r.hedge;
-  inserts = let e : n + 0 ≡ n = omega arith in grows_here g n h r.hedge (rw e at r.grows);
+  inserts = let e : n + 0 ≡ n = omega arith in rw e at r.grows;
   no_kids = λ z. r.none (none z) (allows-empty g p.model p.whole (same ∙ z) p.allowed);
   allowed = rw r.is_word (rw same at p.allowed);
 }
@@ -115,7 +92,7 @@ one_word : (g : PlainDtd) (x n : ℕ) (m : PlainModel) (h : Hedge) → IsProperD
     IsPossibleWith g x n (word g h) ↔ CanFit g m n h
 one_word g x n m h proper is none p = (
   (λ q. one_list_up g x n m h is none q (grow g Stays proper n 0 q.whole (word g h) h q.covers refl (stays_keep h))),
-  (λ f. one_list_down g x n m h is f (shrink g (StaysLive g) (λ a x t k k' r. r.1) n h f.hedge (with_live g n h f.hedge (here_grows g n h f.hedge f.inserts) p))),
+  (λ f. one_list_down g x n m h is f (shrink g (StaysLive g) (λ a x t k k' r. r.1) n h f.hedge (with_live g n h f.hedge f.inserts p))),
 )
 
 pub one_list : OneList
@@ -124,7 +101,7 @@ one_list g x n m h live proper is none p l = rw (live_same g (word g h) live l (
 root_up : (g : PlainDtd) (y n : ℕ) (h : Hedge) → Grown g Stays (n + 0) h (named y ∷ []) → CanFitRoot g y n h
 root_up g y n h r = record {
   hedge = r.hedge;
-  inserts = let e : n + 0 ≡ n = omega arith in grows_here g n h r.hedge (rw e at r.grows);
+  inserts = let e : n + 0 ≡ n = omega arith in rw e at r.grows;
   is_root = r.is_word;
 }
 
@@ -137,7 +114,7 @@ root_down g y n h f s =
 root_word : (g : PlainDtd) (y n : ℕ) (h : Hedge) → IsProperDtd g → AreProductive g h → Covers g n (named y ∷ []) (word g h) ↔ CanFitRoot g y n h
 root_word g y n h proper p = (
   (λ c. root_up g y n h (grow g Stays proper n 0 (named y ∷ []) (word g h) h c refl (stays_keep h))),
-  (λ f. root_down g y n h f (shrink g (StaysLive g) (λ a x t k k' r. r.1) n h f.hedge (with_live g n h f.hedge (here_grows g n h f.hedge f.inserts) p))),
+  (λ f. root_down g y n h f (shrink g (StaysLive g) (λ a x t k k' r. r.1) n h f.hedge (with_live g n h f.hedge f.inserts p))),
 )
 
 pub root_list : RootList
@@ -150,10 +127,11 @@ extends_refl (elem x t k h) = same_element x t k k h h (extends_refl k) (extends
 
 -- what is inserted at one level is an extension
 pub here_extends : HereExtends
-here_extends g n h h' (here_done _ z) = (both_done, omega arith)
-here_extends g n h h' (here_leaf _ l r r' e) = let p = here_extends g n r r' e in (same_leaf l r r' p.0, p.1)
-here_extends g n h h' (here_element _ x t k r r' e) = let p = here_extends g n r r' e in (same_element x t k k r r' (extends_refl k) p.0, omega (arith, p.1))
-here_extends g n h h' (here_new _ a b x y _ h1 h2 k' r' e j is f d1 d2) =
+here_extends g n h h' (insert_done _ z) = (both_done, omega arith)
+here_extends g n h h' (insert_leaf _ l r r' e) = let p = here_extends g n r r' e in (same_leaf l r r' p.0, p.1)
+here_extends g n h h' (insert_kept _ a b x t k k' r r' s q e) = let p = here_extends g b r r' e in let z = q.0 in let i = q.1 in
+    rw i (same_element x t k k r r' (extends_refl k) p.0, omega (arith, p.1))
+here_extends g n h h' (insert_new _ a b x y _ h1 h2 k' r' e j is f d1 d2) =
     let p = here_extends g a h1 k' d1 in let q = here_extends g b h2 r' d2 in let s = ap elements j ∙ elements-join h1 h2 in
     (new_element x h h1 h2 k' r' j p.0 q.0, omega (arith, p.1, q.1))
 
@@ -181,7 +159,7 @@ coverable_same g w w' (live_unproductive y x x' p r) a = absurd (p a.0)
 coverable_same g w w' (live_text x x' r) a = ap (◌∷◌ text) (coverable_same g x x' r a.1)
 coverable_same g w w' (live_other x x' r) a = absurd a.0
 
-same_coverable : (g : PlainDtd) (w w' : List PlainToken) → IsLiveWord g w w' → AllByRecursion (IsCoverable g) w' → w' ≡ w
+pub same_coverable : (g : PlainDtd) (w w' : List PlainToken) → IsLiveWord g w w' → AllByRecursion (IsCoverable g) w' → w' ≡ w
 same_coverable g w w' live_none a = refl
 same_coverable g w w' (live_name y x x' p r) a = ap (◌∷◌ (named y)) (same_coverable g x x' r a.1)
 same_coverable g w w' (live_unproductive y x x' p r) a = absurd a.0

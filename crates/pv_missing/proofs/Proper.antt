@@ -1,6 +1,6 @@
 -- Every DTD of the program is a proper one, and every document has a proper tree.
-use Rattle.std.specs.Prelude.{IsTrue, nat_le, not, ◌&&◌}
-use Rattle.std.proofs.Common.{Bool, List, [], false, length, refl, true, ℕ, ◌||◌, ◌∷◌, ◌≡◌, ◌≢◌, ◌≤◌}
+use Rattle.std.specs.Prelude.{IsTrue, nat_le, not}
+use Rattle.std.proofs.Common.{List, [], false, length, true, ℕ, ◌∷◌, ◌≡◌, ◌≢◌, ◌≤◌}
 use Rattle.std.specs.List.{AllByRecursion, list_all, list_any}
 use Rattle.std.specs.Str.{bytes_eq}
 use Rattle.std.proofs.lemmas.Slice.Eq.{bytes_eq-Decides}

@@ -6,7 +6,8 @@ use Rattle.pv_dtd.specs.Hedge.{Fits, Hedge, Leaf, cdata, data_unit, elem, leaf, 
 use Rattle.pv_missing.specs.Covering.{Covers, cover_kept, cover_new, cover_none, cover_text}
 use Rattle.pv_missing.specs.Extending.{join}
 use Rattle.pv_dtd.specs.Productive.{IsProductiveName}
-use Rattle.pv_missing.proofs.Grow.{Grows, CanKeep, grow_done, grow_kept, grow_leaf, grow_new}
+use Rattle.pv_missing.specs.Levels.{Inserts, insert_done, insert_kept, insert_leaf, insert_new}
+use Rattle.pv_missing.proofs.Grow.{CanKeep}
 use Rattle.pv_missing.proofs.Growing.{CanKeep-join}
 use Rattle.pv_missing.proofs.Hedges.{word-join}
 
@@ -55,8 +56,8 @@ module _ (g : PlainDtd) (Kept : ℕ → List ℕ → List ℕ → Hedge → Hedg
         subst P (sym j) (CanKeep-join g Kept s.within t.within h1 h2 s.keeping t.keeping);
   }
 
-  pub shrink : (n : ℕ) (h h' : Hedge) → Grows g Kept n h h' → Shrunk n h h'
-  shrink n h h' (grow_done _ z) = record { missing = 0; within = 0; is_sum = omega arith; covers = cover_none 0 refl; keeping = refl }
-  shrink n h h' (grow_leaf _ l a a' r) = leaf_step n l a a' (shrink n a a' r)
-  shrink n h h' (grow_kept _ a b x t k k' r r' e p q) = kept_step n a b x t k k' r r' e p (shrink b r r' q)
-  shrink n h h' (grow_new _ a b x y _ h1 h2 k' r' e j is f p q) = new_step n a b x y h h1 h2 k' r' e j is f (shrink a h1 k' p) (shrink b h2 r' q)
+  pub shrink : (n : ℕ) (h h' : Hedge) → Inserts g Kept n h h' → Shrunk n h h'
+  shrink n h h' (insert_done _ z) = record { missing = 0; within = 0; is_sum = omega arith; covers = cover_none 0 refl; keeping = refl }
+  shrink n h h' (insert_leaf _ l a a' r) = leaf_step n l a a' (shrink n a a' r)
+  shrink n h h' (insert_kept _ a b x t k k' r r' e p q) = kept_step n a b x t k k' r r' e p (shrink b r r' q)
+  shrink n h h' (insert_new _ a b x y _ h1 h2 k' r' e j is f p q) = new_step n a b x y h h1 h2 k' r' e j is f (shrink a h1 k' p) (shrink b h2 r' q)

@@ -1,5 +1,5 @@
 -- Least sizes are what is missing in nothing; and tokens may be left out at every site.
-use Rattle.std.proofs.Common.{List, Some, [], ap, arith, refl, suc, sym, ℕ, ◌++◌, ◌+◌, ◌∙◌, ◌∷◌, ◌≡◌}
+use Rattle.std.proofs.Common.{List, Some, [], ap, arith, refl, suc, sym, ℕ, ◌+◌, ◌∙◌, ◌∷◌, ◌≡◌}
 use Rattle.pv_model.specs.Plain.{PlainModel, PlainToken, named}
 use Rattle.pv_model.specs.Models.{Allows}
 use Rattle.pv_dtd.specs.Plain.{PlainDtd, declared, model_of, spelling_of}

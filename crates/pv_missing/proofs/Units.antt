@@ -1,6 +1,6 @@
 -- Every text of a legal tree has a unit.
 use Rattle.std.specs.Prelude.{◌&&◌}
-use Rattle.std.proofs.Common.{Bool, List, [], false, refl, true, ℕ, ◌∷◌, ◌≡◌, ◌≢◌}
+use Rattle.std.proofs.Common.{List, [], true, ℕ, ◌∷◌, ◌≡◌, ◌≢◌}
 use Rattle.std.specs.List.{list_all}
 use Rattle.std.proofs.lemmas.Bool.{and_parts}
 use Rattle.pv_chars.specs.PlainNames.{is_plain_name}

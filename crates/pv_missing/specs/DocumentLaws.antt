@@ -1,4 +1,4 @@
--- Laws of whole documents, each a statement. M is the type of marks.
+-- Laws of whole documents, each a statement. M is the type of a document's marks, and N that of its completion's.
 use Rattle.std.specs.Prelude.{IsTrue, List, false, length, ℕ, ◌+◌, ◌↔◌, ◌≡◌, ◌≢◌}
 use Rattle.std.specs.List.{AllByRecursion}
 use Rattle.pv_dtd.specs.Plain.{PlainDtd}
@@ -9,10 +9,11 @@ use Rattle.pv_tree.specs.View.{view}
 use Rattle.pv_missing.specs.Completing.{Completes, HasCompletion, IsPotentiallyValid, LeavesOut}
 use Rattle.pv_missing.specs.Dtds.{IsProperDtd}
 use Rattle.pv_missing.specs.Extending.{Extends, leaves_of}
+use Rattle.pv_missing.specs.Levels.{Inserts, IsCompleted, IsGoodExtension}
 use Rattle.pv_missing.specs.Missing.{MissInAll}
 use Rattle.pv_missing.specs.Simpler.{SameMissing, bare, uncut}
 use Rattle.pv_missing.specs.Units.{HasUnits}
-use Rattle.pv_missing.specs.Verdicts.{AreVerdicts}
+use Rattle.pv_missing.specs.Verdicts.{AreVerdicts, IsLive}
 use Rattle.pv_missing.specs.Weighing.{SumIsLeast, WeighInAll}
 use Rattle.pv_tree.specs.declared.nodes.Verdict.{Verdict}
 use Rattle.pv_tree.specs.declared.nodes.Verdict.TheVariants as verdict
@@ -22,7 +23,12 @@ pub record IsProperDoc {M : Type 0} (doc : PlainDoc M) : Type 0 where
   pub rooted : IsTrue (is_element doc.root)
   pub units : HasUnits doc.root
 
--- a document is potentially valid exactly where no list of it is impossible, at any depth
+-- a document is potentially valid exactly where each of its lists is live, at any depth
+abbrev pub IsPotentiallyValidByLists : (M : Type 0) → Type 0
+IsPotentiallyValidByLists M = (g : PlainDtd) (root : List ℕ) (doc : PlainDoc M) → IsProperDtd g → IsProperDoc doc →
+    IsPotentiallyValid g root (view doc.root) ↔ AllByRecursion (IsLive g root) (lists_of doc)
+
+-- so, where the lists have these verdicts, exactly where none of them is Impossible
 abbrev pub Locality : (M : Type 0) → Type 0
 Locality M = (g : PlainDtd) (root : List ℕ) (doc : PlainDoc M) (vs : List Verdict) → IsProperDtd g → IsProperDoc doc → AreVerdicts g root (lists_of doc) vs →
     IsPotentiallyValid g root (view doc.root) ↔ AllByRecursion (λ v. v ≢ verdict.Impossible) vs
@@ -56,15 +62,20 @@ MarksShow = (m e : ℕ) (marks : List ℕ) (h h' : Hedge) → LeavesOut m e mark
 abbrev pub ExtensionsHaveMarks : Type 0
 ExtensionsHaveMarks = (m : ℕ) (h h' : Hedge) → Extends h h' → (marks : List ℕ) × LeavesOut m (m + elements h') marks h h'
 
+-- A good extension by n elements is what is made level by level, by n elements in all: declared elements with content that fits them stand
+-- at this level, and each element that was there is good with the content that it got.
+abbrev pub LevelsAgree : Type 0
+LevelsAgree = (g : PlainDtd) (n : ℕ) (h h' : Hedge) → Inserts g (IsCompleted g) n h h' ↔ IsGoodExtension g n h h'
+
 -- an extension keeps all leaves, in their order
 abbrev pub KeepsLeaves : Type 0
 KeepsLeaves = (h h' : Hedge) → Extends h h' → leaves_of h' ≡ leaves_of h
 
 -- a completion inserts so many elements, and whatever valid document extends another completes it
-abbrev pub CompletionsInsert : (M : Type 0) → Type 0
-CompletionsInsert M = (g : PlainDtd) (root : List ℕ) (doc body : PlainDoc M) (marks : List ℕ) (k : ℕ) → Completes g root doc body marks k →
+abbrev pub CompletionsInsert : (M N : Type 0) → Type 0
+CompletionsInsert M N = (g : PlainDtd) (root : List ℕ) (doc : PlainDoc M) (body : PlainDoc N) (marks : List ℕ) (k : ℕ) → Completes g root doc body marks k →
     HasCompletion g root k (view doc.root)
 
-abbrev pub ExtensionsComplete : (M : Type 0) → Type 0
-ExtensionsComplete M = (g : PlainDtd) (root : List ℕ) (doc body : PlainDoc M) → IsValid g root (view body.root) → Extends (view doc.root) (view body.root) →
+abbrev pub ExtensionsComplete : (M N : Type 0) → Type 0
+ExtensionsComplete M N = (g : PlainDtd) (root : List ℕ) (doc : PlainDoc M) (body : PlainDoc N) → IsValid g root (view body.root) → Extends (view doc.root) (view body.root) →
     body.before ≡ doc.before → body.after ≡ doc.after → (marks : List ℕ) × (k : ℕ) × Completes g root doc body marks k

@@ -6,7 +6,7 @@ pub mod Covering
 pub mod LiveWords
 pub mod Verdicts
 pub mod Missing
-pub mod OneList
+pub mod Levels
 pub mod Symbols
 pub mod Derivations
 pub mod Numbering

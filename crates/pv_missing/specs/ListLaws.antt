@@ -9,10 +9,13 @@ use Rattle.pv_missing.specs.Covering.{IsPossibleRootWith, IsPossibleWith}
 use Rattle.pv_missing.specs.Dtds.{IsProperDtd}
 use Rattle.pv_missing.specs.Extending.{Extends}
 use Rattle.pv_missing.specs.LiveWords.{IsLiveWord}
-use Rattle.pv_missing.specs.OneList.{CanFit, CanFitRoot, InsertsHere}
+use Rattle.pv_missing.specs.Levels.{CanFit, CanFitRoot, InsertsHere}
 use Rattle.pv_dtd.specs.Productive.{AreProductive, IsProductiveName}
 use Rattle.pv_missing.specs.Verdicts.{IsFirstImpossible, IsLive, IsVerdict}
+use Rattle.pv_missing.specs.Missing.{Misses}
+use Rattle.pv_missing.specs.Weighing.{Weighs}
 use Rattle.pv_tree.specs.declared.nodes.Verdict.{Verdict}
+use Rattle.pv_tree.specs.declared.nodes.Verdict.TheVariants as verdict
 
 -- The live word of an element's content is possible, with n elements missing, exactly where n elements inserted at its level make the
 -- content fit. Of the elements there each has a productive name, and an EMPTY element has no content.
@@ -48,6 +51,15 @@ AreProductiveKids g (tree t rest) = IsProductiveNode g t × AreProductiveKids g 
 abbrev pub OwnValidIsLive : (M : Type 0) → Type 0
 OwnValidIsLive M = (g : PlainDtd) (root : List ℕ) (list : Listed M) → IsValidList g root list → IsProductiveOwner g list.owner →
     AreProductiveKids g list.kids → IsLive g root list
+
+-- a list is live exactly where some number of elements is missing in it
+abbrev pub LiveMisses : (M : Type 0) → Type 0
+LiveMisses M = (g : PlainDtd) (root : List ℕ) (list : Listed M) → IsLive g root list ↔ ((n : ℕ) × Misses g root list n)
+
+-- in a Valid list nothing is missing, and it weighs 0
+abbrev pub ValidMissesNone : (M : Type 0) → Type 0
+ValidMissesNone M = (g : PlainDtd) (root : List ℕ) (list : Listed M) → IsProperDtd g → IsVerdict g root list verdict.Valid →
+    Misses g root list 0 × Weighs g root list 0
 
 -- a list has at most one verdict
 abbrev pub OneVerdict : (M : Type 0) → Type 0

@@ -1,5 +1,5 @@
 -- Laws of words, each a statement.
-use Rattle.std.specs.Prelude.{List, [], suc, ℕ, ◌++◌, ◌↔◌, ◌∷◌, ◌≡◌, ◌≤◌}
+use Rattle.std.specs.Prelude.{List, [], length, suc, ℕ, ◌++◌, ◌↔◌, ◌∷◌, ◌≡◌, ◌≤◌}
 use Rattle.std.specs.List.{AllByRecursion}
 use Rattle.pv_model.specs.Plain.{PlainToken, named, other, text}
 use Rattle.pv_dtd.specs.Plain.{PlainDtd}
@@ -39,6 +39,16 @@ Doubled = (g : PlainDtd) (x n : ℕ) (a b : List PlainToken) →
 abbrev pub LiveAgrees : Type 0
 LiveAgrees = (g : PlainDtd) (x n : ℕ) (w live : List PlainToken) → IsLiveWord g w live →
     (IsPossibleWith g x n w ↔ IsPossibleWith g x n live) × (IsPossibleRootWith g x n w ↔ IsPossibleRootWith g x n live)
+
+-- a live word has productive names only, has as many tokens as the word, and is the word itself where it is possible
+pub record FollowsWord (g : PlainDtd) (w live : List PlainToken) : Type 0 where
+  pub names : AreProductiveTokens g live
+  pub same_length : length live ≡ length w
+  pub itself : (x : ℕ) → IsPossible g x live → live ≡ w
+  pub itself_at_root : (x : ℕ) → IsPossibleRoot g x live → live ≡ w
+
+abbrev pub LiveFollows : Type 0
+LiveFollows = (g : PlainDtd) (w live : List PlainToken) → IsLiveWord g w live → FollowsWord g w live
 
 -- an element for whose content some word is possible has a productive name
 abbrev pub OwnerIsProductive : Type 0

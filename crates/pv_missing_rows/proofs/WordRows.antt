@@ -7,7 +7,7 @@ use Rattle.pv_missing_rows.specs.Rows.{OtherWords, SectionWords}
 use Rattle.pv_missing_rows.proofs.Bounds.{opened}
 use Rattle.pv_missing.proofs.Growing.{covers-none}
 use Rattle.pv_missing_rows.proofs.LastRows.{other_never}
-use Rattle.pv_missing.proofs.Laws.{depths}
+use Rattle.pv_missing.proofs.PossibleWords.{depths}
 use Rattle.pv_missing_rows.proofs.OtherRows.{endless_word, three_word}
 use Rattle.pv_missing_rows.proofs.RowTools.{possible_with}
 use Rattle.pv_missing_rows.proofs.SectionBounds.{no_late_head}

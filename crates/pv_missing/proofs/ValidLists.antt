@@ -1,0 +1,79 @@
+-- In a list that is valid nothing is missing, and it weighs 0.
+use Rattle.std.proofs.Common.{List, [], arith, length, refl, ℕ, ◌∷◌, ◌≡◌, ◌≤◌}
+use Rattle.std.specs.List.{AllByRecursion}
+use Rattle.pv_model.specs.Plain.{PlainToken, named, other, text}
+use Rattle.pv_dtd.specs.Plain.{PlainDtd, number_of}
+use Rattle.pv_tree.specs.Lists.{IsOwnValid, IsRootList, IsValidBy, Owner, an_element, the_document}
+use Rattle.pv_tree.specs.Plain.{Forest, cdata_node, element, misc_node, no_trees, text_node, tree}
+use Rattle.pv_tree.specs.Words.{word_of}
+use Rattle.pv_missing.specs.Covering.{Covers, cover_kept, cover_none, cover_text}
+use Rattle.pv_missing.specs.Derivations.{Derives, IsWeight}
+use Rattle.pv_missing.specs.Dtds.{IsProperDtd}
+use Rattle.pv_missing.specs.ListLaws.{ValidMissesNone}
+use Rattle.pv_missing.specs.Missing.{MissesBy, MissesInContent, MissesInRoot}
+use Rattle.pv_missing.specs.Symbols.{Symbol, of_content, of_name}
+use Rattle.pv_missing.specs.Weighing.{WeighsBy}
+use Rattle.pv_missing.proofs.DocLists.{live_misses_by}
+use Rattle.pv_missing.proofs.OneList.{IsCoverable, covered_by_productive, covered_names}
+use Rattle.pv_missing.proofs.Spanned.{content_weights, root_weights}
+
+-- a word that can be covered covers itself
+covers_itself : (g : PlainDtd) (w : List PlainToken) → AllByRecursion (IsCoverable g) w → Covers g 0 w w
+covers_itself g [] a = cover_none 0 refl
+covers_itself g (named y ∷ w) a = cover_kept 0 y w w a.0 (covers_itself g w a.1)
+covers_itself g (text ∷ w) a = cover_text 0 w w (covers_itself g w a.1)
+covers_itself g (other ∷ w) a = absurd a.0
+
+weighs_nothing : (g : PlainDtd) (w : List PlainToken) (s : Symbol) → (m : ℕ) × (m ≤ 0) × Derives g w m s 0 (length w) → IsWeight g w s 0 (length w) 0
+weighs_nothing g w s (m, le, d) = record { bounded = omega arith; least = λ n _. omega arith; reached = λ _. let e : m ≡ 0 = omega arith in rw e at d }
+
+module _ {M : Type 0} (g : PlainDtd) (root : List ℕ) where
+  own_misses : (x : List ℕ) (k : Forest M) (n : ℕ) → IsOwnValid g (number_of g x) k → MissesInContent g x k n → MissesInContent g x k 0
+  own_misses x k n o p = record {
+    number = p.number;
+    is_owner = p.is_owner;
+    productive = p.productive;
+    no_kids = p.no_kids;
+    possible = record {
+      model = o.model;
+      is_model = let e : o.number ≡ p.number = let a = o.is_owner in let b = p.is_owner in cc in rw e at o.is_model;
+      whole = word_of g k;
+      allowed = o.allowed;
+      covers = covers_itself g (word_of g k) (covered_by_productive g n p.possible.whole (word_of g k) p.possible.covers);
+    };
+  }
+
+  root_misses : (k : Forest M) (n : ℕ) → IsRootList root k → MissesInRoot g root k n → MissesInRoot g root k 0
+  root_misses no_trees n o p = absurd o
+  root_misses (tree (element x a e k m) r) n o p = let s : x ≡ root = o.0 in let i = p.is_owner in let f : number_of g x ≡ number_of g root = cc in record {
+    number = p.number;
+    is_owner = p.is_owner;
+    possible = let c = covered_by_productive g n (named p.number ∷ []) (word_of g (tree (element x a e k m) r)) p.possible in
+        rw (o.1, f, i) (cover_kept 0 p.number [] [] (rw (o.1, f, i) at c).0 (cover_none 0 refl));
+  }
+  root_misses (tree (text_node us) r) n o p = absurd o.0
+  root_misses (tree (cdata_node b) r) n o p = absurd o.0
+  root_misses (tree (misc_node b) r) n o p = absurd o.0
+
+  none_missing : (o : Owner) (k : Forest M) (n : ℕ) → IsValidBy g root o k → MissesBy g root o k n → MissesBy g root o k 0
+  none_missing the_document k n v p = root_misses k n v p
+  none_missing (an_element x) k n v p = own_misses x k n v p
+
+  weighs_none : IsProperDtd g → (o : Owner) (k : Forest M) → MissesBy g root o k 0 → WeighsBy g root o k 0
+  weighs_none proper the_document k p = (
+    p.number,
+    p.is_owner,
+    weighs_nothing g (word_of g k) (of_name p.number)
+        ((root_weights g p.number 0 (word_of g k) proper (covered_names g 0 (named p.number ∷ []) (word_of g k) p.possible)).1 p.possible),
+  )
+  weighs_none proper (an_element x) k p = (
+    p.number,
+    p.is_owner,
+    weighs_nothing g (word_of g k) (of_content p.number)
+        ((content_weights g p.number 0 (word_of g k) proper (covered_names g 0 p.possible.whole (word_of g k) p.possible.covers)).1 p.possible),
+  )
+
+pub valid_misses_none : (M : Type 0) → ValidMissesNone M
+valid_misses_none M g root list proper v =
+    let l = live_misses_by g root list.owner list.kids v.0 in let z = none_missing g root list.owner list.kids l.0 v.1 l.1 in
+    (z, weighs_none g root proper list.owner list.kids z)

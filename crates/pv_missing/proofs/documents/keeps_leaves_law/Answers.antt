@@ -1,5 +1,0 @@
-use Rattle.pv_missing.proofs.Kept.{keeps_leaves}
-use Rattle.pv_missing.proofs.documents.keeps_leaves_law.Goals as goal
-
-pub returns : goal.returns
-returns c = keeps_leaves

@@ -1,5 +1,0 @@
-use Rattle.pv_missing.proofs.Same.{some_number}
-use Rattle.pv_missing.proofs.documents.some_number_law.Goals as goal
-
-pub returns : goal.returns
-returns c = some_number

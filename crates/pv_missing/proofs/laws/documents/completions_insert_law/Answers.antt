@@ -1,0 +1,5 @@
+use Rattle.pv_missing.proofs.Kept.{completions_insert}
+use Rattle.pv_missing.proofs.laws.documents.completions_insert_law.Goals as goal
+
+pub returns : goal.returns
+returns g c = completions_insert _ _

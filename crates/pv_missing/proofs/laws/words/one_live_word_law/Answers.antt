@@ -1,0 +1,5 @@
+use Rattle.pv_missing.proofs.LiveOnce.{one_live_word}
+use Rattle.pv_missing.proofs.laws.words.one_live_word_law.Goals as goal
+
+pub returns : goal.returns
+returns c = one_live_word

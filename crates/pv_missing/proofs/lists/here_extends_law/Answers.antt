@@ -1,5 +1,0 @@
-use Rattle.pv_missing.proofs.OneList.{here_extends}
-use Rattle.pv_missing.proofs.lists.here_extends_law.Goals as goal
-
-pub returns : goal.returns
-returns c = here_extends

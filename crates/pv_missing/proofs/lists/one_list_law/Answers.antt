@@ -1,5 +1,0 @@
-use Rattle.pv_missing.proofs.OneList.{one_list}
-use Rattle.pv_missing.proofs.lists.one_list_law.Goals as goal
-
-pub returns : goal.returns
-returns c = one_list

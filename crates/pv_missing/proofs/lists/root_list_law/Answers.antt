@@ -1,5 +1,0 @@
-use Rattle.pv_missing.proofs.OneList.{root_list}
-use Rattle.pv_missing.proofs.lists.root_list_law.Goals as goal
-
-pub returns : goal.returns
-returns c = root_list

@@ -1,5 +1,0 @@
-use Rattle.pv_missing.proofs.Sizes.{size_is_missing}
-use Rattle.pv_missing.proofs.words.size_law.Goals as goal
-
-pub returns : goal.returns
-returns c = size_is_missing

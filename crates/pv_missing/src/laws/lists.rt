@@ -1,0 +1,43 @@
+//! Laws of one list. `M` is the type of marks.
+
+ghost use Rattle.pv_missing.specs.ListLaws.{HereExtends, LiveMisses, OneFirst, OneList, OneVerdict, OwnValidIsLive, RootList, ValidMissesNone};
+
+/// The live word of an element is possible exactly where elements inserted at its own level make its content fit.
+pub fn one_list_law()
+    ensures { OneList }
+{}
+
+/// The same of the document node.
+pub fn root_list_law()
+    ensures { RootList }
+{}
+
+/// Elements inserted at one level make an extension.
+pub fn here_extends_law()
+    ensures { HereExtends }
+{}
+
+/// A list that is valid by itself, whose owner and names are productive, is not impossible.
+pub fn own_valid_law<M>()
+    ensures { OwnValidIsLive M }
+{}
+
+/// A list is live exactly where some number of elements is missing in it.
+pub fn live_misses_law<M>()
+    ensures { LiveMisses M }
+{}
+
+/// In a list that is valid nothing is missing, and it weighs 0.
+pub fn valid_misses_none_law<M>()
+    ensures { ValidMissesNone M }
+{}
+
+/// A list has at most one verdict.
+pub fn one_verdict_law<M>()
+    ensures { OneVerdict M }
+{}
+
+/// At most one list is the first impossible one.
+pub fn one_first_law<M>()
+    ensures { OneFirst M }
+{}
