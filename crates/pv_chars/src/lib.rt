@@ -2,13 +2,16 @@
 #![tactic(auto)]
 
 mod bytes;
+mod characters;
 mod memory;
 mod numbers;
 mod plain_names;
 pub mod scan;
 mod texts;
+pub mod utf8;
 
 pub use bytes::{Bytes, bytes_of};
+pub use characters::{is_char, is_name_char, is_name_start};
 pub use memory::NoMemory;
 pub use numbers::Numbers;
 pub use plain_names::plain_name;

@@ -1,0 +1,11 @@
+-- Names (XML 1.0, section 2.3).
+use Rattle.std.specs.Prelude.{◌≡◌, ℕ, List, ◌++◌, IsTrue, encode_utf8}
+use Rattle.pv_chars.specs.Characters.{is_name_start, is_name_char, AreAll}
+
+-- Name: one NameStartChar, and then any number of NameChars
+pub record IsName (bytes : List ℕ) : Type 0 where
+  pub first : ℕ
+  pub others : List ℕ
+  pub is_start : IsTrue (is_name_start first)
+  pub are_name_chars : AreAll is_name_char others
+  pub whole : bytes ≡ encode_utf8 first ++ others

@@ -1,0 +1,32 @@
+//! Characters by their code points.
+
+ghost use Rattle.std.specs.Prelude.{◌≡◌};
+ghost use Rattle.pv_chars.specs.Characters.{is_char, is_name_start, is_name_char};
+
+/// Whether the code point is a Char (XML 1.0, section 2.2).
+pub fn is_char(c: u32) -> bool
+    ensures { result ≡ is_char c }
+{
+    matches!(c, 0x9 | 0xA | 0xD | 0x20..=0xD7FF | 0xE000..=0xFFFD | 0x10000..=0x10FFFF)
+}
+
+/// Whether a Name may begin with the code point (XML 1.0, section 2.3, NameStartChar).
+pub fn is_name_start(c: u32) -> bool
+    ensures { result ≡ is_name_start c }
+{
+    match c {
+        0x3A | 0x41..=0x5A | 0x5F | 0x61..=0x7A => true,
+        0xC0..=0xD6 | 0xD8..=0xF6 | 0xF8..=0x2FF | 0x370..=0x37D => true,
+        0x37F..=0x1FFF | 0x200C..=0x200D | 0x2070..=0x218F | 0x2C00..=0x2FEF => true,
+        0x3001..=0xD7FF | 0xF900..=0xFDCF | 0xFDF0..=0xFFFD | 0x10000..=0xEFFFF => true,
+        _ => false,
+    }
+}
+
+/// Whether the code point may stand in a Name (XML 1.0, section 2.3, NameChar).
+pub fn is_name_char(c: u32) -> bool
+    ensures { result ≡ is_name_char c }
+{
+    is_name_start(c)
+        || matches!(c, 0x2D | 0x2E | 0x30..=0x39 | 0xB7 | 0x300..=0x36F | 0x203F..=0x2040)
+}
