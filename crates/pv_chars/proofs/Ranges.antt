@@ -1,11 +1,8 @@
 -- What the ranges of characters hold.
-use Rattle.std.proofs.Common.{◌≡◌, ℕ, ◌<◌, ◌≤◌, List, [], ◌∷◌, Bool, true, false, ◌&&◌, ◌||◌, ◌⊎◌, inl, inr, refl, arith}
-use Rattle.std.proofs.lemmas.Bool.{and_parts, or_cases, leb-true, ltb-true, le-leb, lt-ltb, le-ltb}
+use Rattle.std.proofs.Common.{◌≡◌, ℕ, true, arith}
 use Rattle.std.proofs.lemmas.Bool.Decides.{nat_tests}
-use Rattle.std.specs.Prelude.{nat_le, nat_lt}
 use Rattle.std.specs.Char.{IsScalar}
-use lib.Utf8.{scalar}
-use Rattle.pv_chars.specs.Characters.{Range, is_within, is_in, is_char, is_name_start, is_name_char}
+use Rattle.pv_chars.specs.Characters.{is_char, is_name_start, is_name_char}
 
 pub char_is_scalar : (c : ℕ) → is_char c ≡ true → IsScalar c
 char_is_scalar c h = grind (arith, nat_tests)

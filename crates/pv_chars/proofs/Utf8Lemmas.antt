@@ -1,12 +1,15 @@
 -- What `char_at` reads is what UTF-8 spells.
-use Rattle.std.proofs.Common.{◌≡◌, ℕ, ◌+◌, ◌-◌, ◌*◌, ◌/◌, ◌%◌, ◌<◌, ◌≤◌, List, [], ◌∷◌, ◌++◌, Bool, true, false, cond, ◌&&◌, ◌||◌, ◌⊎◌, inl, inr, ⊎_elim, Option, Some, None, refl, sym, ap, subst, ◌∙◌, arith}
-use Rattle.std.proofs.lemmas.Bool.{and_parts, and_from, cases_lt, le-leb, lt-ltb, le-ltb, lt-leb, leb-true, ltb-true, ltb-false, cases_Bool, or_cases}
-use Rattle.std.proofs.lemmas.Bool.Decides.{nat_tests}
+use Rattle.std.proofs.Common.{◌≡◌, ℕ, ◌+◌, ◌-◌, ◌*◌, ◌/◌, ◌<◌, ◌≤◌, List, [], ◌∷◌, ◌++◌, Bool, true, false, cond, ◌&&◌, ◌||◌, ◌⊎◌, inl, inr, ⊎_elim, Some, refl, sym, ap, subst, ◌∙◌, arith}
+use Rattle.std.proofs.lemmas.Bool.{and_parts, and_from, cases_lt, le-leb, lt-ltb, le-ltb, leb-true, ltb-true, ltb-false, or_cases}
 use Rattle.std.proofs.lemmas.Option.{cond_some}
 use Rattle.std.specs.Prelude.{nat_le, nat_lt}
 use Rattle.std.specs.Char.{IsScalar}
-use lib.Utf8.{encode, scalar, scalar_cases, low_scalar, next}
-use Rattle.pv_chars.specs.Characters.{BeginsWith}
+use Rattle.std.specs.Option.{MatchOption}
+use Rattle.std.proofs.Common.{length, length-append}
+use Rattle.std.proofs.lemmas.Str.{len_utf8_bounds, length-encode}
+use lib.Utf8.{encode, scalar_cases, low_scalar, next}
+use Rattle.pv_chars.specs.Characters.{BeginsWith, BeginsWithNone}
+use Rattle.pv_chars.proofs.Options.{match_read}
 use Rattle.pv_chars.specs.Utf8.{char_at, continues, of_two, code_of_three, is_of_three, of_three, code_of_four, is_of_four, of_four, led_by, led_by_three, led_by_four}
 
 below : {X : Type 0} (m n : ℕ) (a b : X) → m < n → cond (nat_lt m n) a b ≡ a
@@ -163,3 +166,12 @@ char_at-encode c rest is = by (cases_lt c 128) (cases_lt c 2048) (cases_lt c 655
         let top = below_top c s in
         let code : code_of_four a (next (c / 4096)) (next (c / 64)) (next c) ≡ c = omega arith in
         rw (four_bytes c l, le-ltb a 128 (omega arith), le-ltb a 224 (omega arith), le-ltb a 240 (omega arith), is_continues (next (c / 4096)) record { low = omega arith; high = omega arith }, is_continues (next (c / 64)) record { low = omega arith; high = omega arith }, is_continues (next c) record { low = omega arith; high = omega arith }, code, le-leb 0x10000 c l, lt-ltb c 0x110000 top) refl
+
+pub char_at_reads : (bytes : List ℕ) → MatchOption (char_at bytes) (BeginsWithNone bytes) (λ p. BeginsWith bytes p.0 p.1)
+char_at_reads bytes =
+    match_read (char_at bytes) (BeginsWithNone bytes) (λ p. BeginsWith bytes p.0 p.1)
+    (λ none c rest begins. let read = char_at-encode c rest begins.scalar in let same : char_at bytes ≡ Some (c, rest) = rw begins.whole read in cc)
+    (λ p some. char_at_takes bytes p.0 p.1 some)
+
+pub begins_shorter : (bytes : List ℕ) (c : ℕ) (rest : List ℕ) → BeginsWith bytes c rest → length rest < length bytes
+begins_shorter bytes c rest b = let long = (len_utf8_bounds c).0 in omega (arith, ap length b.whole, length-append (encode c) rest, length-encode c)

@@ -48,6 +48,14 @@ pub record BeginsWith (bytes : List ℕ) (c : ℕ) (rest : List ℕ) : Type 0 wh
   pub scalar : IsScalar c
   pub whole : bytes ≡ encode_utf8 c ++ rest
 
+-- no code point stands at the front
+abbrev pub BeginsWithNone : List ℕ → Type 0
+BeginsWithNone bytes = (c : ℕ) (rest : List ℕ) → BeginsWith bytes c rest → ⊥
+
+-- no code point that passes the test stands at the front
+abbrev pub BeginsNo : (ℕ → Bool) → List ℕ → Type 0
+BeginsNo test bytes = (c : ℕ) (rest : List ℕ) → IsTrue (test c) → bytes ≡ encode_utf8 c ++ rest → ⊥
+
 -- Code points that pass the test, one after the other, in UTF-8.
 pub record AreAll (test : ℕ → Bool) (bytes : List ℕ) : Type 0 where
   pub codes : List ℕ
@@ -57,3 +65,10 @@ pub record AreAll (test : ℕ → Bool) (bytes : List ℕ) : Type 0 where
 -- Chars, one after the other
 abbrev pub IsChars : List ℕ → Type 0
 IsChars bytes = AreAll is_char bytes
+
+-- As many code points as pass the test stand at the front, and this stands after them.
+pub record TakesAll (test : ℕ → Bool) (bytes rest : List ℕ) : Type 0 where
+  pub front : List ℕ
+  pub are_all : AreAll test front
+  pub whole : bytes ≡ front ++ rest
+  pub ends : BeginsNo test rest

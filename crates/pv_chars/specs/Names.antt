@@ -1,6 +1,6 @@
 -- Names (XML 1.0, section 2.3).
 use Rattle.std.specs.Prelude.{◌≡◌, ℕ, List, ◌++◌, IsTrue, encode_utf8}
-use Rattle.pv_chars.specs.Characters.{is_name_start, is_name_char, AreAll}
+use Rattle.pv_chars.specs.Characters.{is_name_start, is_name_char, AreAll, BeginsNo}
 
 -- Name: one NameStartChar, and then any number of NameChars
 pub record IsName (bytes : List ℕ) : Type 0 where
@@ -9,3 +9,13 @@ pub record IsName (bytes : List ℕ) : Type 0 where
   pub is_start : IsTrue (is_name_start first)
   pub are_name_chars : AreAll is_name_char others
   pub whole : bytes ≡ encode_utf8 first ++ others
+
+-- This Name stands at the front, the longest there, and this stands after it.
+pub record TakesName (bytes name rest : List ℕ) : Type 0 where
+  pub is_name : IsName name
+  pub whole : bytes ≡ name ++ rest
+  pub ends : BeginsNo is_name_char rest
+
+-- no Name stands at the front
+abbrev pub BeginsNoName : List ℕ → Type 0
+BeginsNoName bytes = (name rest : List ℕ) → IsName name → bytes ≡ name ++ rest → ⊥

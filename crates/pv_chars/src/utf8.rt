@@ -1,13 +1,15 @@
 //! Code points in UTF-8.
 
-ghost use Rattle.std.specs.Prelude.{◌≡◌, ◌<◌, ◌≤◌, length, IfSome, ℕ, List, MatchOption};
+ghost use Rattle.std.specs.Prelude.{◌≡◌, ◌<◌, ◌≤◌, length, IfSome, MatchOption};
 ghost use Rattle.std.specs.Option.{option_map};
-ghost use Rattle.pv_chars.specs.Characters.{BeginsWith};
+ghost use Rattle.pv_chars.specs.Characters.{BeginsWith, BeginsWithNone};
 ghost use Rattle.pv_chars.specs.Utf8.{char_at, continues, of_two, of_three, of_four, led_by, led_by_three, led_by_four};
 
 /// The first byte of a code point of two bytes, three bytes or four bytes.
 const LEADS_TWO: u8 = 0xC0;
+
 const LEADS_THREE: u8 = 0xE0;
+
 const LEADS_FOUR: u8 = 0xF0;
 /// What a byte that continues a code point has beside its six bits.
 const CONTINUES: u8 = 0x80;
@@ -36,7 +38,9 @@ fn of_three(a: u8, b: u8, c: u8, rest: &[u8]) -> Option<(u32, &[u8])>
     if !continues(b) || !continues(c) {
         return None;
     }
-    let code = (a - LEADS_THREE) as u32 * 4096 + (b - CONTINUES) as u32 * 64 + (c - CONTINUES) as u32;
+    let code = (a - LEADS_THREE) as u32 * 4096
+        + (b - CONTINUES) as u32 * 64
+        + (c - CONTINUES) as u32;
     if code < 0x800 || (code >= 0xD800 && code < 0xE000) {
         return None;
     }
@@ -79,9 +83,8 @@ fn led_by(a: u8, rest: &[u8]) -> Option<(u32, &[u8])>
     }
 }
 
-/// The code point at the front, in UTF-8's shortest form, and what stands after it.
 #[tactic(auto, unfolding(crate::specs::Utf8::char_at))]
-pub fn char_at(bytes: &[u8]) -> Option<(u32, &[u8])>
+fn read_char(bytes: &[u8]) -> Option<(u32, &[u8])>
     ensures { option_map (λ r. (r.0, r.1.now)) result ≡ char_at bytes.now }
 {
     match bytes {
@@ -89,4 +92,12 @@ pub fn char_at(bytes: &[u8]) -> Option<(u32, &[u8])>
         [a, rest @ ..] => led_by(*a, rest),
         [] => None,
     }
+}
+
+/// The code point at the front, in UTF-8's shortest form, and what stands after it.
+pub fn char_at(bytes: &[u8]) -> Option<(u32, &[u8])>
+    ensures found { MatchOption result (BeginsWithNone bytes.now) (λ r. BeginsWith bytes.now r.0 r.1.now) }
+    ensures shorter { IfSome result (λ r. length r.1.now < length bytes.now) }
+{
+    read_char(bytes)
 }

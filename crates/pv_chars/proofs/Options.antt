@@ -1,0 +1,21 @@
+-- What a function answers, told of what its answer points to.
+use Rattle.std.proofs.Common.{◌≡◌, Option, Some, None, refl, sym, subst}
+use Rattle.std.specs.Option.{option_map, MatchOption, IfSome}
+
+match_map : {A B : Type 0} (f : A → B) (r : Option A) (P : Type 0) (Q : B → Type 0) → MatchOption (option_map f r) P Q → MatchOption r P (λ x. Q (f x))
+match_map f None P Q h = h
+match_map f (Some x) P Q h = h
+
+-- what holds of an answer in plain terms holds of the answer
+pub match_mapped : {A B : Type 0} (f : A → B) (r : Option A) (o : Option B) (P : Type 0) (Q : B → Type 0) → option_map f r ≡ o → MatchOption o P Q → MatchOption r P (λ x. Q (f x))
+match_mapped {A} {B} f r o P Q e h = let M : Option B → Type 0 = λ v. MatchOption v P Q in match_map f r P Q (subst M (sym e) h)
+
+-- by what a reading function gives
+pub match_read : {B : Type 0} (o : Option B) (P : Type 0) (Q : B → Type 0) → (o ≡ None → P) → ((x : B) → o ≡ Some x → Q x) → MatchOption o P Q
+match_read None P Q none some = none refl
+match_read (Some x) P Q none some = some x refl
+
+-- what follows from it
+pub match_some : {A : Type 0} (r : Option A) (P : Type 0) (Q R : A → Type 0) → ((x : A) → Q x → R x) → MatchOption r P Q → IfSome r R
+match_some None P Q R f h = tt
+match_some (Some x) P Q R f h = f x h
