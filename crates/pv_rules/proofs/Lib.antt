@@ -1,0 +1,11 @@
+pub mod Derived
+pub mod Numbers
+pub mod Located
+pub mod ByKind
+pub mod Facts
+pub mod Spans
+pub mod Members
+pub mod Flattening
+pub mod FlatModels
+pub mod FlatNumbers
+pub mod SitesKept

@@ -1,0 +1,44 @@
+-- Laws of what rules derive, each a statement; the first five hold under rules of any kind.
+use Rattle.std.specs.Prelude.{Bool, IsTrue, List, length, ℕ, ◌<◌, ◌≡◌, ◌≤◌}
+use Rattle.std.specs.List.{AllByRecursion}
+use Rattle.pv_model.specs.Models.{PlainToken}
+use Rattle.pv_dtd.specs.Facts.{are_known}
+use Rattle.pv_dtd.specs.Plain.{PlainDtd, declared}
+use Rattle.pv_rules.specs.Derivations.{Derives, IsClosed, IsClosedSet, IsWeight, heaviest}
+use Rattle.pv_rules.specs.Kinds.{OfSite}
+use Rattle.pv_rules.specs.Rules.{Goal, IsSpan, Rule, over}
+use Rattle.pv_rules.specs.Sites.{HasSite, PlainSite}
+
+-- no derivation weighs less than a closed table says
+abbrev pub ClosedIsBelow : (G : Type 0) → (G → ℕ → List G → Type 0) → Type 0
+ClosedIsBelow G R = (t : G → ℕ) → IsClosed R t → (n : ℕ) (x : G) → Derives R n x → t x ≤ n
+
+-- what has a derivation is in each closed set
+abbrev pub ClosedSetHolds : (G : Type 0) → (G → ℕ → List G → Type 0) → Type 0
+ClosedSetHolds G R = (S : G → Bool) → IsClosedSet R (λ x. IsTrue (S x)) → (n : ℕ) (x : G) → Derives R n x → IsTrue (S x)
+
+-- a weight is unique
+abbrev pub OneWeight : (G : Type 0) → (G → ℕ → List G → Type 0) → Type 0
+OneWeight G R = (x : G) (a b : ℕ) → IsWeight R x a → IsWeight R x b → a ≡ b
+
+-- the table of all weights is closed
+abbrev pub WeightsAreClosed : (G : Type 0) → (G → ℕ → List G → Type 0) → Type 0
+WeightsAreClosed G R = (t : G → ℕ) → ((x : G) → IsWeight R x (t x)) → IsClosed R t
+
+-- the values of a closed table that are attained are weights
+abbrev pub AttainedAreWeights : (G : Type 0) → (G → ℕ → List G → Type 0) → Type 0
+AttainedAreWeights G R = (t : G → ℕ) → IsClosed R t → (x : G) → t x ≤ heaviest → (t x < heaviest → Derives R (t x) x) → IsWeight R x (t x)
+
+-- a rule is over a span of the word, and its right sides over spans within that one
+abbrev pub RulesAreOverSpans : PlainDtd → List PlainToken → Type 0
+RulesAreOverSpans g w = (s : PlainSite) (i j c : ℕ) (xs : List Goal) → Rule g w (over s i j) c xs →
+    IsSpan w i j × AllByRecursion (λ x. (i ≤ x.from) × (x.from ≤ x.to) × (x.to ≤ j)) xs
+
+-- a rule has one of the forms of what stands at its site
+abbrev pub RulesAreOfTheirKind : PlainDtd → List PlainToken → Type 0
+RulesAreOfTheirKind g w = (s : PlainSite) (i j c : ℕ) (xs : List Goal) → Rule g w (over s i j) c xs → OfSite g w i j c xs s
+
+-- where the models speak of names of the DTD alone, the right sides of a rule of one of its sites are sites of it
+abbrev pub RulesKeepSites : PlainDtd → List PlainToken → Type 0
+RulesKeepSites g w = IsTrue (are_known g) → declared g ≤ length g.names → (s : PlainSite) (i j c : ℕ) (xs : List Goal) → Rule g w (over s i j) c xs → HasSite g s →
+    AllByRecursion (λ x. HasSite g x.site) xs

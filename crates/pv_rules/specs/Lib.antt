@@ -1,0 +1,9 @@
+pub mod Numbering
+pub mod Sites
+pub mod Rules
+pub mod Derivations
+pub mod Kinds
+pub mod Laws
+pub mod Flat
+pub mod PartLaws
+pub mod PlainForms

@@ -1,0 +1,58 @@
+//! The laws of rules, parts and derivations, each the contract of a function that does nothing.
+
+ghost use Rattle.std.specs.Prelude.{List};
+ghost use Rattle.pv_model.specs.Models.{PlainToken};
+ghost use Rattle.pv_dtd.specs.Plain.{PlainDtd};
+ghost use Rattle.pv_rules.specs.Rules.{Goal, Rule};
+ghost use Rattle.pv_rules.specs.Laws.{AttainedAreWeights, ClosedIsBelow, ClosedSetHolds, OneWeight, RulesAreOfTheirKind, RulesAreOverSpans, RulesKeepSites, WeightsAreClosed};
+ghost use Rattle.pv_rules.specs.PartLaws.{FlatByNumber, PartsByNumber};
+
+/// No derivation weighs less than a closed table says.
+pub fn closed_below_law()
+    ensures { (g : PlainDtd) (w : List PlainToken) → ClosedIsBelow Goal (Rule g w) }
+{}
+
+/// Whatever has a derivation is in each closed set.
+pub fn closed_set_law()
+    ensures { (g : PlainDtd) (w : List PlainToken) → ClosedSetHolds Goal (Rule g w) }
+{}
+
+/// A weight is unique.
+pub fn one_weight_law()
+    ensures { (g : PlainDtd) (w : List PlainToken) → OneWeight Goal (Rule g w) }
+{}
+
+/// The table of all weights is closed.
+pub fn weights_closed_law()
+    ensures { (g : PlainDtd) (w : List PlainToken) → WeightsAreClosed Goal (Rule g w) }
+{}
+
+/// Values of a closed table that are attained are weights.
+pub fn attained_law()
+    ensures { (g : PlainDtd) (w : List PlainToken) → AttainedAreWeights Goal (Rule g w) }
+{}
+
+/// Each rule is over a span of the word, and its right sides over spans within.
+pub fn spans_law()
+    ensures { (g : PlainDtd) (w : List PlainToken) → RulesAreOverSpans g w }
+{}
+
+/// The rules of a site by what stands there.
+pub fn kinds_law()
+    ensures { (g : PlainDtd) (w : List PlainToken) → RulesAreOfTheirKind g w }
+{}
+
+/// The right sides of a rule are sites of the DTD where the left side is one.
+pub fn sites_law()
+    ensures { (g : PlainDtd) (w : List PlainToken) → RulesKeepSites g w }
+{}
+
+/// What stands at the numbers within and behind a part.
+pub fn parts_law()
+    ensures { (g : PlainDtd) → PartsByNumber g }
+{}
+
+/// The parts laid out flat are those of the numbers.
+pub fn flat_law()
+    ensures { (g : PlainDtd) → FlatByNumber g }
+{}

@@ -1,0 +1,23 @@
+//! The missing grammar: what missing elements may add to a document, as sites and rules over the tokens of a word.
+//!
+//! A site is an element of a name, the content of one, a part of a content model, or the members of a sequence from one on
+//! (`specs/Sites.antt`), parts being numbered through the whole DTD (`specs/Numbering.antt`). `specs/Rules.antt` has the rules, each
+//! once, as one relation of a site and a span, a cost, and the sites and spans that it is put together from. What rules derive, weights,
+//! and what it means that a table or a set is closed (`specs/Derivations.antt`) are said of rules of any kind. The laws are functions
+//! that do nothing. `FlatDtd` has the parts of a DTD laid out flat, by number.
+#![tactic(auto)]
+
+mod flat;
+mod laws;
+mod layout;
+mod sites;
+
+pub use flat::{ContentKind, FlatContent, FlatDtd, FlatPart, Kind, Membership};
+pub use laws::{
+    attained_law, closed_below_law, closed_set_law, flat_law, kinds_law, one_weight_law, parts_law,
+    sites_law, spans_law, weights_closed_law,
+};
+pub use sites::Site;
+
+#[cfg(test)]
+mod tests;
