@@ -1,6 +1,6 @@
 -- What stands at the numbers within and behind a part.
 use Rattle.std.proofs.Common.{List, None, Some, ap, arith, length, length-append, refl, slice_get, suc, ℕ, ◌+◌, ◌++◌, ◌≡◌, ◌≤◌}
-use Rattle.pv_model.specs.Models.{PlainPart, PlainParts, children, choice, mixed, name, opt, part, plus, seq, star}
+use Rattle.pv_model.specs.Plain.{PlainPart, PlainParts, children, choice, mixed, name, opt, part, plus, seq, star}
 use Rattle.pv_dtd.specs.Plain.{PlainDtd, model_of, parts_in, parts_in_models}
 use Rattle.pv_rules.specs.Numbering.{IsMemberAt, first_part, numbered, numbered_models, part_at, rest_at}
 use Rattle.pv_rules.specs.PartLaws.{PartsByNumber}

@@ -1,6 +1,6 @@
 -- Content models laid out flat, one after another.
 use Rattle.std.proofs.Common.{List, Some, [], ap, append_assoc, arith, drop, length, length-append, refl, slice_get, subst, suc, zero, ℕ, ◌++◌, ◌+◌, ◌<◌, ◌∷◌, ◌≡◌}
-use Rattle.pv_model.specs.Models.{PlainModel, any, children, empty, mixed}
+use Rattle.pv_model.specs.Plain.{PlainModel, any, children, empty, mixed}
 use Rattle.pv_dtd.specs.Plain.{parts_in_model, parts_in_models}
 use Rattle.pv_rules.specs.Flat.{flat_contents, flat_model, flat_models, flat_names, one_content}
 use Rattle.pv_rules.specs.declared.flat.FlatContent.{FlatContent}

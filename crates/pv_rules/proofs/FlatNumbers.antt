@@ -1,7 +1,7 @@
 -- The parts laid out flat are those of the numbers.
 use Rattle.std.specs.Prelude.{false, option_and_then, option_map}
 use Rattle.std.proofs.Common.{List, None, Option, Some, [], ap, arith, length, map, refl, slice_get, suc, true, zero, ℕ, ◌++◌, ◌+◌, ◌∙◌, ◌∷◌, ◌≡◌}
-use Rattle.pv_model.specs.Models.{PlainModel, PlainPart, PlainParts, any, children, choice, empty, mixed, name, no_parts, opt, part, plus, seq, star}
+use Rattle.pv_model.specs.Plain.{PlainModel, PlainPart, PlainParts, any, children, choice, empty, mixed, name, no_parts, opt, part, plus, seq, star}
 use Rattle.pv_dtd.specs.Plain.{PlainDtd, parts_in, parts_in_model}
 use Rattle.pv_rules.specs.Flat.{flat_contents, flat_members, flat_model, flat_models, flat_names, flat_part, flat_parts, one_content, one_part}
 use Rattle.pv_rules.specs.Numbering.{Numbered, listed_name, numbered, numbered_choices, numbered_members, numbered_model, numbered_models, parts_before}

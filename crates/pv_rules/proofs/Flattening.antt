@@ -5,8 +5,8 @@ use Rattle.std.proofs.Math.ListN.{set}
 use Rattle.std.proofs.Math.Seq.{drop-cons, get_or-append_seam, set-append_seam}
 use Rattle.std.proofs.lemmas.Bool.{cases_lt, le-ltb, lt-ltb}
 use Rattle.std.proofs.Math.Dec.{ltb}
-use Rattle.pv_model.specs.Models.{PlainPart, PlainParts, choice, name, no_parts, opt, part, plus, seq, star}
-use Rattle.pv_model.specs.Read.{plain_part, plain_parts}
+use Rattle.pv_model.specs.Plain.{PlainPart, PlainParts, choice, name, no_parts, opt, part, plus, seq, star}
+use Rattle.pv_model.specs.PlainForms.{plain_part, plain_parts}
 use Rattle.pv_model.specs.declared.models.Part.{Part}
 use Rattle.pv_dtd.specs.Plain.{parts_in, parts_in_all}
 use Rattle.pv_rules.specs.Flat.{are_some, flat_members, flat_part, flat_within, kind_of, one_part, membership_of}

@@ -5,7 +5,7 @@ use Rattle.std.proofs.Common.{List, None, Option, Some, [], Bool, arith, get_or,
 use Rattle.std.proofs.lemmas.Bool.{and_parts, ltb-true}
 use Rattle.std.proofs.lemmas.List.Folds.{list_all-append}
 use Rattle.std.proofs.lemmas.Option.{slice_get-get_or}
-use Rattle.pv_model.specs.Models.{PlainModel, PlainPart, PlainParts, PlainToken, any, children, choice, empty, mixed, name, no_parts, opt, part, plus, seq, star}
+use Rattle.pv_model.specs.Plain.{PlainModel, PlainPart, PlainParts, PlainToken, any, children, choice, empty, mixed, name, no_parts, opt, part, plus, seq, star}
 use Rattle.pv_dtd.specs.Facts.{are_known}
 use Rattle.pv_dtd.specs.Plain.{PlainDtd, declared, mentions, names_in, names_in_all, names_in_model}
 use Rattle.pv_rules.specs.Laws.{RulesKeepSites}

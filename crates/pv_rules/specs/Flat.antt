@@ -1,6 +1,6 @@
 -- The parts and content models of a DTD laid out flat, each by itself.
 use Rattle.std.specs.Prelude.{Bool, List, [], false, suc, true, ℕ, ◌++◌, ◌+◌, ◌∷◌}
-use Rattle.pv_model.specs.Models.{PlainModel, PlainPart, PlainParts, any, children, choice, empty, mixed, name, no_parts, opt, part, plus, seq, star}
+use Rattle.pv_model.specs.Plain.{PlainModel, PlainPart, PlainParts, any, children, choice, empty, mixed, name, no_parts, opt, part, plus, seq, star}
 use Rattle.pv_dtd.specs.Plain.{PlainDtd, parts_in, parts_in_model}
 use Rattle.pv_rules.specs.declared.flat.ContentKind.{ContentKind}
 use Rattle.pv_rules.specs.declared.flat.ContentKind.TheVariants as content

@@ -1,7 +1,7 @@
 -- The rules of a site by what stands there: each rule has one of these forms. The variables are a span of the word, a cost, and the
 -- right sides.
 use Rattle.std.specs.Prelude.{List, None, Option, Some, [], length, slice_get, suc, ℕ, ◌+◌, ◌<◌, ◌≡◌, ◌≤◌, ◌⊎◌, ◌∷◌}
-use Rattle.pv_model.specs.Models.{PlainModel, PlainPart, PlainParts, PlainToken, any, children, choice, empty, mixed, name, named, no_parts, opt, part, plus, seq, star, text}
+use Rattle.pv_model.specs.Plain.{PlainModel, PlainPart, PlainParts, PlainToken, any, children, choice, empty, mixed, name, named, no_parts, opt, part, plus, seq, star, text}
 use Rattle.pv_dtd.specs.Plain.{IsDeclared, PlainDtd, model_of, parts_in}
 use Rattle.pv_rules.specs.Numbering.{IsMemberAt, first_part, part_at, rest_at}
 use Rattle.pv_rules.specs.Rules.{Goal, IsSpan, over}

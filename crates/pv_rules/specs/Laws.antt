@@ -1,7 +1,7 @@
 -- Laws of what rules derive, each a statement; the first five hold under rules of any kind.
 use Rattle.std.specs.Prelude.{Bool, IsTrue, List, length, ℕ, ◌<◌, ◌≡◌, ◌≤◌}
 use Rattle.std.specs.List.{AllByRecursion}
-use Rattle.pv_model.specs.Models.{PlainToken}
+use Rattle.pv_model.specs.Plain.{PlainToken}
 use Rattle.pv_dtd.specs.Facts.{are_known}
 use Rattle.pv_dtd.specs.Plain.{PlainDtd, declared}
 use Rattle.pv_rules.specs.Derivations.{Derives, IsClosed, IsClosedSet, IsWeight, heaviest}

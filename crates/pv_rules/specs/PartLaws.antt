@@ -1,6 +1,6 @@
 -- Laws of the numbers of parts: what stands within and behind a part, and what is laid out flat.
 use Rattle.std.specs.Prelude.{List, None, Option, Some, length, true, slice_get, suc, ℕ, ◌+◌, ◌≡◌, ◌≤◌}
-use Rattle.pv_model.specs.Models.{PlainModel, PlainPart, PlainParts, children, choice, mixed, name, no_parts, opt, part, plus, seq, star}
+use Rattle.pv_model.specs.Plain.{PlainModel, PlainPart, PlainParts, children, choice, mixed, name, no_parts, opt, part, plus, seq, star}
 use Rattle.pv_dtd.specs.Plain.{PlainDtd, model_of, parts_in, parts_in_models}
 use Rattle.pv_rules.specs.Flat.{are_some, flat_contents, flat_parts, one_content, one_part, membership_of}
 use Rattle.pv_rules.specs.declared.flat.Membership.{Membership}

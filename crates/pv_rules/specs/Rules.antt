@@ -1,6 +1,6 @@
 -- The rules of the missing grammar: from what a site of the grammar may be put together over a span of a word, and at what cost.
 use Rattle.std.specs.Prelude.{List, Some, [], length, slice_get, suc, ℕ, ◌+◌, ◌<◌, ◌∷◌, ◌≡◌, ◌≤◌}
-use Rattle.pv_model.specs.Models.{PlainPart, PlainParts, PlainToken, any, children, choice, empty, mixed, name, named, no_parts, opt, part, plus, seq, star, text}
+use Rattle.pv_model.specs.Plain.{PlainPart, PlainParts, PlainToken, any, children, choice, empty, mixed, name, named, no_parts, opt, part, plus, seq, star, text}
 use Rattle.pv_dtd.specs.Plain.{IsDeclared, PlainDtd, model_of, parts_in}
 use Rattle.pv_rules.specs.Numbering.{IsMemberAt, first_part, part_at, rest_at}
 use Rattle.pv_rules.specs.Sites.{PlainSite, content_site, name_site, part_site, rest_site}

@@ -99,7 +99,7 @@ impl FlatDtd {
 }
 
 ghost use Rattle.std.specs.Prelude.{◌≡◌, ◌<◌, slice_get, Some};
-ghost use Rattle.pv_model.specs.Read.{plain_model};
+ghost use Rattle.pv_model.specs.PlainForms.{plain_model};
 ghost use Rattle.pv_dtd.specs.Plain.{declared, model_of};
 ghost use Rattle.pv_dtd.specs.Reads.{plain_dtd};
 

@@ -1,7 +1,7 @@
 //! The laws of rules, parts and derivations, each the contract of a function that does nothing.
 
 ghost use Rattle.std.specs.Prelude.{List};
-ghost use Rattle.pv_model.specs.Models.{PlainToken};
+ghost use Rattle.pv_model.specs.Plain.{PlainToken};
 ghost use Rattle.pv_dtd.specs.Plain.{PlainDtd};
 ghost use Rattle.pv_rules.specs.Rules.{Goal, Rule};
 ghost use Rattle.pv_rules.specs.Laws.{AttainedAreWeights, ClosedIsBelow, ClosedSetHolds, OneWeight, RulesAreOfTheirKind, RulesAreOverSpans, RulesKeepSites, WeightsAreClosed};

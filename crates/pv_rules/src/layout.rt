@@ -1,7 +1,7 @@
 //! Laying out content models, part by part.
 
 ghost use Rattle.std.specs.Prelude.{◌≡◌, ◌+◌, ◌++◌, ◌<◌, ◌≤◌, ◌^◌, length, OnOk};
-ghost use Rattle.pv_model.specs.Read.{numbers_of, plain_model, plain_part, plain_parts};
+ghost use Rattle.pv_model.specs.PlainForms.{numbers_of, plain_model, plain_part, plain_parts};
 ghost use Rattle.pv_dtd.specs.Plain.{parts_in, parts_in_all, parts_in_model};
 ghost use Rattle.pv_rules.specs.Flat.{content_kind_of, flat_members, flat_model, flat_names, flat_part, flat_within, kind_of, membership_of};
 

@@ -1,5 +1,5 @@
 use Rattle.std.proofs.Common.{ap, arith, drop, refl, ◌∙◌, ◌≡◌, ◌+◌}
-use Rattle.pv_model.specs.Read.{plain_part, plain_parts}
+use Rattle.pv_model.specs.PlainForms.{plain_part, plain_parts}
 use Rattle.pv_rules.specs.Flat.{are_some, membership_of}
 use Rattle.pv_rules.proofs.Flattening.{finished, fits_more, follows, members_more, pushed_length}
 use Rattle.pv_rules.proofs.layout.+push_part.Goals as goal

@@ -1,5 +1,5 @@
 use Rattle.std.proofs.Common.{◌≡◌, ◌++◌, ◌+◌, ◌<◌, drop, length}
-use Rattle.pv_model.specs.Read.{plain_parts}
+use Rattle.pv_model.specs.PlainForms.{plain_parts}
 use Rattle.pv_dtd.specs.Plain.{parts_in_all}
 use Rattle.pv_rules.specs.Flat.{flat_members}
 use Rattle.pv_rules.proofs.layout.+push_part.Given as goal

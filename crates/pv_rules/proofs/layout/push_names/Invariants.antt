@@ -1,5 +1,5 @@
 use Rattle.std.proofs.Common.{◌≡◌, ◌++◌, ◌+◌, ◌<◌, drop, length}
-use Rattle.pv_model.specs.Read.{numbers_of}
+use Rattle.pv_model.specs.PlainForms.{numbers_of}
 use Rattle.pv_rules.specs.Flat.{flat_names}
 use Rattle.pv_rules.proofs.layout.push_names.Given as goal
 

@@ -1,5 +1,5 @@
 use Rattle.std.proofs.Common.{[], arith, length, ◌++◌, ◌+◌, ◌∷◌, ◌≡◌}
-use Rattle.pv_model.specs.Read.{plain_model}
+use Rattle.pv_model.specs.PlainForms.{plain_model}
 use Rattle.pv_dtd.specs.Plain.{parts_in_model}
 use Rattle.pv_dtd.specs.Reads.{plain_dtd}
 use Rattle.pv_rules.specs.Flat.{one_content}
