@@ -1,12 +1,12 @@
 -- Over given files there is one answer.
 use Rattle.std.proofs.Common.{◌≡◌, ℕ, List, length, codes, Option, Some, None, sym, ap, ◌∙◌, subst, arith}
 use Rattle.pv_dtd.specs.Plain.{PlainDtd}
-use Rattle.pv_dtd.specs.Facts.{MOST_DTD}
+use Rattle.pv_dtd.specs.Facts.{MAX_DTD_BYTES}
 use Rattle.pv_dtd.specs.Grammar.{IsDtdText}
 use Rattle.pv_tree.specs.Laws.{IsValidByLists}
 use Rattle.pv_tree.specs.Plain.{PlainDoc}
 use Rattle.pv_tree.specs.declared.nodes.Mark.{Mark}
-use Rattle.pv_read.specs.Grammar.{IsDocumentText, MOST_DOC}
+use Rattle.pv_read.specs.Grammar.{IsDocumentText, MAX_DOC_BYTES}
 use Rattle.pv_read.specs.Laws.{SpellsOneDocument}
 use Rattle.pv_cli.specs.Answer.{Answer, OnFile, no_file, too_long, given, IsGiven, IsTooLong, OnDtd, is_dtd, no_dtd, OnDocument, is_document, no_document}
 use Rattle.pv_cli.specs.Laws.{HasOneValidAnswer}
@@ -68,7 +68,7 @@ verdict_on_text one_document by_lists root g bytes a b doc same is are e f =
 pub one_valid_answer : IsOneDtd → SpellsOneDocument → IsValidByLists Mark → HasOneValidAnswer
 one_valid_answer one_dtd one_document by_lists root dtd doc a b is are =
     let on_doc : (g : PlainDtd) → OnDocumentFile doc (TellsValidity root g) a → OnDocumentFile doc (TellsValidity root g) b → a ≡ b =
-    λ g. on_file doc MOST_DOC (codes "limit document-file") (λ bytes. OnDocument bytes (TellsValidity root g)) a b
+    λ g. on_file doc MAX_DOC_BYTES (codes "limit document-file") (λ bytes. OnDocument bytes (TellsValidity root g)) a b
     (λ bytes. on_document bytes (TellsValidity root g) a b (verdict_on_text one_document by_lists root g bytes a b)) in
-    on_file dtd MOST_DTD (codes "limit dtd-file") (λ bytes. OnDtd bytes (λ g. OnDocumentFile doc (TellsValidity root g))) a b
+    on_file dtd MAX_DTD_BYTES (codes "limit dtd-file") (λ bytes. OnDtd bytes (λ g. OnDocumentFile doc (TellsValidity root g))) a b
     (λ bytes. on_dtd one_dtd bytes (λ g. OnDocumentFile doc (TellsValidity root g)) a b on_doc) is are

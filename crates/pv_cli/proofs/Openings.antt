@@ -1,11 +1,11 @@
 -- What the steps of opening say of the answer.
 use Rattle.std.proofs.Common.{ℕ, List, codes, Option}
 use Rattle.pv_dtd.specs.Plain.{PlainDtd}
-use Rattle.pv_dtd.specs.Facts.{MOST_DTD}
+use Rattle.pv_dtd.specs.Facts.{MAX_DTD_BYTES}
 use Rattle.pv_dtd.specs.Grammar.{IsDtdText}
 use Rattle.pv_tree.specs.Plain.{PlainDoc}
 use Rattle.pv_tree.specs.declared.nodes.Mark.{Mark}
-use Rattle.pv_read.specs.Grammar.{IsDocumentText, MOST_DOC}
+use Rattle.pv_read.specs.Grammar.{IsDocumentText, MAX_DOC_BYTES}
 use Rattle.pv_cli.specs.Answer.{Answer, OnFile, no_file, too_long, given, OnDtd, is_dtd, no_dtd, OnDocument, is_document, no_document, IsGiven, IsTooLong, IsDtdRefusal, IsDocumentRefusal}
 use Rattle.pv_cli.specs.Opening.{OnDtdFile, OnDocumentFile, OnFiles, IsDtdFile, IsDocumentFile, IsDtdFileRefusal, IsDocumentFileRefusal, IsRefusal}
 
@@ -24,10 +24,10 @@ behind_document bytes P Q so a (is_document d is behind) = is_document d is (so 
 behind_document bytes P Q so a (no_document none) = no_document none
 
 pub dtd_file_so : (file : Option (List ℕ)) (P Q : PlainDtd → Answer → Type 0) → ((g : PlainDtd) (a : Answer) → P g a → Q g a) → (a : Answer) → OnDtdFile file P a → OnDtdFile file Q a
-dtd_file_so file P Q so a on = behind_file file MOST_DTD (codes "limit dtd-file") (λ bytes. OnDtd bytes P) (λ bytes. OnDtd bytes Q) (λ bytes. behind_dtd bytes P Q so) a on
+dtd_file_so file P Q so a on = behind_file file MAX_DTD_BYTES (codes "limit dtd-file") (λ bytes. OnDtd bytes P) (λ bytes. OnDtd bytes Q) (λ bytes. behind_dtd bytes P Q so) a on
 
 pub document_file_so : (file : Option (List ℕ)) (P Q : PlainDoc Mark → Answer → Type 0) → ((d : PlainDoc Mark) (a : Answer) → P d a → Q d a) → (a : Answer) → OnDocumentFile file P a → OnDocumentFile file Q a
-document_file_so file P Q so a on = behind_file file MOST_DOC (codes "limit document-file") (λ bytes. OnDocument bytes P) (λ bytes. OnDocument bytes Q) (λ bytes. behind_document bytes P Q so) a on
+document_file_so file P Q so a on = behind_file file MAX_DOC_BYTES (codes "limit document-file") (λ bytes. OnDocument bytes P) (λ bytes. OnDocument bytes Q) (λ bytes. behind_document bytes P Q so) a on
 
 -- a refusal is the answer, whatever is behind
 pub refused : (dtd doc : Option (List ℕ)) (Q : PlainDtd → PlainDoc Mark → Answer → Type 0) (a : Answer) → IsRefusal dtd doc a → OnFiles dtd doc Q a
@@ -49,20 +49,20 @@ pub on_files : (dtd doc : Option (List ℕ)) (g : PlainDtd) (d : PlainDoc Mark) 
 on_files dtd doc g d Q a is_g is_d behind = on_dtd_file dtd g (λ g. OnDocumentFile doc (Q g)) a is_g (on_document_file doc d (Q g) a is_d behind)
 
 -- the bytes of a given file
-pub dtd_of_file : (file : Option (List ℕ)) (bytes : List ℕ) (g : PlainDtd) → IsGiven file MOST_DTD bytes → IsDtdText bytes g → IsDtdFile file g
+pub dtd_of_file : (file : Option (List ℕ)) (bytes : List ℕ) (g : PlainDtd) → IsGiven file MAX_DTD_BYTES bytes → IsDtdText bytes g → IsDtdFile file g
 dtd_of_file file bytes g given_bytes is = record { bytes = bytes; is_given = given_bytes; is_dtd = is }
 
-pub document_of_file : (file : Option (List ℕ)) (bytes : List ℕ) (d : PlainDoc Mark) → IsGiven file MOST_DOC bytes → IsDocumentText bytes d → IsDocumentFile file d
+pub document_of_file : (file : Option (List ℕ)) (bytes : List ℕ) (d : PlainDoc Mark) → IsGiven file MAX_DOC_BYTES bytes → IsDocumentText bytes d → IsDocumentFile file d
 document_of_file file bytes d given_bytes is = record { bytes = bytes; is_given = given_bytes; is_document = is }
 
-pub dtd_too_long : (file : Option (List ℕ)) (a : Answer) → IsTooLong file MOST_DTD (codes "limit dtd-file") a → IsDtdFileRefusal file a
+pub dtd_too_long : (file : Option (List ℕ)) (a : Answer) → IsTooLong file MAX_DTD_BYTES (codes "limit dtd-file") a → IsDtdFileRefusal file a
 dtd_too_long file a is = too_long is
 
-pub document_too_long : (file : Option (List ℕ)) (a : Answer) → IsTooLong file MOST_DOC (codes "limit document-file") a → IsDocumentFileRefusal file a
+pub document_too_long : (file : Option (List ℕ)) (a : Answer) → IsTooLong file MAX_DOC_BYTES (codes "limit document-file") a → IsDocumentFileRefusal file a
 document_too_long file a is = too_long is
 
-pub dtd_refused_in : (file : Option (List ℕ)) (bytes : List ℕ) → IsGiven file MOST_DTD bytes → (a : Answer) → IsDtdRefusal bytes a → IsDtdFileRefusal file a
+pub dtd_refused_in : (file : Option (List ℕ)) (bytes : List ℕ) → IsGiven file MAX_DTD_BYTES bytes → (a : Answer) → IsDtdRefusal bytes a → IsDtdFileRefusal file a
 dtd_refused_in file bytes is a refusal = given bytes is (no_dtd refusal)
 
-pub document_refused_in : (file : Option (List ℕ)) (bytes : List ℕ) → IsGiven file MOST_DOC bytes → (a : Answer) → IsDocumentRefusal bytes a → IsDocumentFileRefusal file a
+pub document_refused_in : (file : Option (List ℕ)) (bytes : List ℕ) → IsGiven file MAX_DOC_BYTES bytes → (a : Answer) → IsDocumentRefusal bytes a → IsDocumentFileRefusal file a
 document_refused_in file bytes is a refusal = given bytes is (no_document refusal)

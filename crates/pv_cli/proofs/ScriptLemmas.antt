@@ -9,7 +9,7 @@ use Rattle.pv_cli.specs.declared.status.Stop.TheVariants.{Refused, Faulty, Memor
 use Rattle.pv_cli.specs.declared.status.Status.TheVariants.{Limit}
 use Rattle.pv_cli.specs.Answer.{with_line}
 use Rattle.pv_cli.specs.Scripts.{IsScript, IsWholeScript}
-use Rattle.pv_cli.specs.Session.{MOST_SCRIPT, IsScriptRefusal}
+use Rattle.pv_cli.specs.Session.{MAX_SCRIPT_BYTES, IsScriptRefusal}
 use Rattle.pv_cli.specs.Steps.{Stops}
 
 pub consumes_more : (old mid new : Option (List ℕ)) (before piece : List ℕ) → Consumes old mid before → Consumes mid new piece → Consumes old new (before ++ piece)
@@ -19,7 +19,7 @@ consumes_more (Some o) (Some m) None before piece p q = absurd q
 consumes_more (Some o) (Some m) (Some n) before piece p q = p ∙ ap (λ h. before ++ h) q ∙ sym (append_assoc before piece n)
 
 -- where the end was reached, what was given is the script
-pub script_given : (old mid new : Option (List ℕ)) (bytes : List ℕ) → Consumes old mid bytes → Consumes mid new [] → IsAtEnd new → length bytes ≤ MOST_SCRIPT → (script : List ℕ) × IsScript old script × IsWholeScript script bytes
+pub script_given : (old mid new : Option (List ℕ)) (bytes : List ℕ) → Consumes old mid bytes → Consumes mid new [] → IsAtEnd new → length bytes ≤ MAX_SCRIPT_BYTES → (script : List ℕ) × IsScript old script × IsWholeScript script bytes
 script_given None mid new bytes p q end within = (bytes, tt, record { whole = refl; within = within })
 script_given (Some o) None new bytes p q end within = absurd p
 script_given (Some o) (Some m) None bytes p q end within = absurd q
@@ -36,13 +36,13 @@ longer : (n : ℕ) → (script : List ℕ) × (n < length script)
 longer n = (replicate (n + 1) 0, grind (arith, common_steps))
 
 -- a script of which more than so many bytes were given
-pub script_beyond : (old mid new : Option (List ℕ)) (bytes piece : List ℕ) → Consumes old mid bytes → Consumes mid new piece → MOST_SCRIPT < length bytes + length piece → (script : List ℕ) × IsScript old script × (MOST_SCRIPT < length script)
-script_beyond None mid new bytes piece p q more = let long = longer MOST_SCRIPT in (long.0, tt, long.1)
+pub script_beyond : (old mid new : Option (List ℕ)) (bytes piece : List ℕ) → Consumes old mid bytes → Consumes mid new piece → MAX_SCRIPT_BYTES < length bytes + length piece → (script : List ℕ) × IsScript old script × (MAX_SCRIPT_BYTES < length script)
+script_beyond None mid new bytes piece p q more = let long = longer MAX_SCRIPT_BYTES in (long.0, tt, long.1)
 script_beyond (Some o) None new bytes piece p q more = absurd p
 script_beyond (Some o) (Some m) None bytes piece p q more = absurd q
 script_beyond (Some o) (Some m) (Some n) bytes piece p q more = (o, refl, grind (arith, common_steps, p, q, more))
 
-pub stops_script : (script : List ℕ) (cause : Type 0) (stop : Stop) → MOST_SCRIPT < length script → Stops (λ a. a ≡ with_line Limit (codes "limit script")) ⊥ stop → Stops (IsScriptRefusal script) cause stop
+pub stops_script : (script : List ℕ) (cause : Type 0) (stop : Stop) → MAX_SCRIPT_BYTES < length script → Stops (λ a. a ≡ with_line Limit (codes "limit script")) ⊥ stop → Stops (IsScriptRefusal script) cause stop
 stops_script script cause (Refused reply) beyond stops = record { beyond = beyond; is_answer = stops }
 stops_script script cause Faulty beyond stops = absurd stops
 stops_script script cause Memory beyond stops = tt

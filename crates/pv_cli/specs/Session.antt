@@ -36,18 +36,18 @@ pub data Replies (silent : List ℕ) : ℕ → State → List (List ℕ) → Lis
   ended : {number : ℕ} {state : State} {line : List ℕ} {lines : List (List ℕ)} {out : List ℕ} → is_among number silent ≡ false →
       command_of line ≡ Some quit → out ≡ [] → Replies silent number state (line ∷ lines) out
 
-abbrev pub MOST_SCRIPT : ℕ
-MOST_SCRIPT = 1048576
+abbrev pub MAX_SCRIPT_BYTES : ℕ
+MAX_SCRIPT_BYTES = 1048576
 
 -- the answer where the script has more
 pub record IsScriptRefusal (script : List ℕ) (a : Answer) : Type 0 where
-  pub beyond : MOST_SCRIPT < length script
+  pub beyond : MAX_SCRIPT_BYTES < length script
   pub is_answer : a ≡ with_line Limit (codes "limit script")
 
 -- the answer behind the document: the script is too long, or the replies to its lines, counted from 1
 pub data IsSession (script : List ℕ) (g : PlainDtd) (doc : PlainDoc Mark) (a : Answer) : Type 0 where
   script_too_long : IsScriptRefusal script a → IsSession script g doc a
-  script_answered : length script ≤ MOST_SCRIPT → (silent : List ℕ) (out : List ℕ) → Replies silent 1 doc (lines_of script) out →
+  script_answered : length script ≤ MAX_SCRIPT_BYTES → (silent : List ℕ) (out : List ℕ) → Replies silent 1 doc (lines_of script) out →
       a ≡ record { status = Done; output = out } → IsSession script g doc a
 
 abbrev pub IsSessionAnswer : Option (List ℕ) → Option (List ℕ) → List ℕ → Answer → Type 0

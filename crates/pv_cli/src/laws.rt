@@ -2,7 +2,7 @@
 
 ghost use Rattle.pv_cli.specs.Laws.{HasOneValidAnswer, HasOneOutput, HasOneOutputOverText};
 
-use pv_dtd::one_meaning;
+use pv_dtd::one_meaning_law;
 use pv_read::laws::one_document;
 use pv_tree::valid_lists_law;
 use pv_write::laws::spelled_is_written;
@@ -11,7 +11,7 @@ use pv_write::laws::spelled_is_written;
 pub fn one_valid_answer()
     ensures { HasOneValidAnswer }
 {
-    one_meaning();
+    one_meaning_law();
     one_document();
     valid_lists_law();
 }

@@ -2,7 +2,7 @@
 
 ghost use Rattle.std.specs.Prelude.{◌≡◌, ◌≤◌, List, ℕ, Option, Contains};
 ghost use Rattle.pv_io.specs.Causes.{Rose};
-ghost use Rattle.pv_dtd.specs.Reads.{plain_dtd};
+ghost use Rattle.pv_dtd.specs.PlainForms.{plain_dtd};
 ghost use Rattle.pv_tree.specs.Docs.{plain_doc};
 ghost use Rattle.pv_cli.specs.Commands.{Files};
 ghost use Rattle.pv_cli.specs.Opening.{IsDtdFile, IsDocumentFile, IsDtdFileRefusal, IsDocumentFileRefusal, IsRefusal};
@@ -11,9 +11,9 @@ ghost use Rattle.pv_cli.specs.Steps.{Steps};
 
 use crate::status::Stop;
 use crate::steps::{declarations, document, fetched};
-use pv_dtd::{Dtd, MOST_DTD};
+use pv_dtd::{Dtd, MAX_DTD_BYTES};
 use pv_io::Shelf;
-use pv_read::MOST_DOC;
+use pv_read::MAX_DOC_BYTES;
 use pv_tree::Doc;
 use std::alloc::Global;
 
@@ -32,7 +32,7 @@ fn dtd_in<H: Shelf>(alloc: Global, shelf: &mut H, name: &str) -> Result<Dtd, Sto
     ensures names { H.names shelf.new ≡ H.names shelf.old }
     ensures files { H.files shelf.new ≡ H.files shelf.old }
 {
-    let bytes = fetched(alloc, shelf, name, MOST_DTD, b"limit dtd-file")?;
+    let bytes = fetched(alloc, shelf, name, MAX_DTD_BYTES, b"limit dtd-file")?;
     declarations(alloc, &bytes)
 }
 
@@ -42,7 +42,7 @@ fn document_in<H: Shelf>(alloc: Global, shelf: &mut H, name: &str, root: &[u8]) 
         × Steps (λ doc. IsDocumentFile file (plain_doc doc)) (IsDocumentFileRefusal file) (Rose (H.faults shelf.old) (H.faults shelf.new)) result }
     ensures later { H.faults shelf.old ≤ H.faults shelf.new }
 {
-    let bytes = fetched(alloc, shelf, name, MOST_DOC, b"limit document-file")?;
+    let bytes = fetched(alloc, shelf, name, MAX_DOC_BYTES, b"limit document-file")?;
     document(alloc, &bytes, root)
 }
 

@@ -13,7 +13,7 @@ use pv_io::Source;
 use std::alloc::{AllocError, Global};
 
 /// The most bytes of a script.
-const MOST_SCRIPT: usize = 1_048_576;
+const MAX_SCRIPT_BYTES: usize = 1_048_576;
 
 /// The bytes that one `fill` is asked for.
 const PIECE: usize = 65_536;
@@ -41,7 +41,7 @@ pub fn read_script<S: Source>(alloc: Global, input: &mut S) -> Result<Vec<u8>, S
         if count == 0 {
             return Ok(script);
         }
-        if count > MOST_SCRIPT - script.len() {
+        if count > MAX_SCRIPT_BYTES - script.len() {
             return Err(refused(alloc, Status::Limit, b"limit script"));
         }
         script.extend_from_slice(&piece[..count])?;

@@ -3,7 +3,7 @@
 ghost use Rattle.std.specs.Prelude.{◌≡◌, ◌≤◌, ◌++◌, List, ℕ, Option, codes, decimal, Contains, false};
 ghost use Rattle.pv_io.specs.Causes.{Rose};
 ghost use Rattle.pv_dtd.specs.Grammar.{IsDtdText};
-ghost use Rattle.pv_dtd.specs.Reads.{plain_dtd};
+ghost use Rattle.pv_dtd.specs.PlainForms.{plain_dtd};
 ghost use Rattle.pv_tree.specs.Docs.{plain_doc};
 ghost use Rattle.pv_read.specs.Grammar.{IsDocumentText};
 ghost use Rattle.pv_cli.specs.Answer.{with_line, IsGiven, IsTooLong, IsDtdRefusal, IsDocumentRefusal};

@@ -1,6 +1,6 @@
 //! The command `valid`.
 
-ghost use Rattle.pv_dtd.specs.Reads.{plain_dtd};
+ghost use Rattle.pv_dtd.specs.PlainForms.{plain_dtd};
 ghost use Rattle.pv_tree.specs.Docs.{plain_doc};
 ghost use Rattle.pv_cli.specs.Steps.{Answers};
 ghost use Rattle.pv_cli.specs.Valid.{TellsValidity};

@@ -7,7 +7,7 @@ use Rattle.std.specs.Prelude.{nat_lt}
 use Rattle.pv_chars.specs.PlainNames.{is_plain_name, IsPlainName}
 use Rattle.pv_model.specs.Plain.{PlainPart, name, seq, choice, opt, star, plus, PlainParts, no_parts, part, PlainModel, empty, any, mixed, children}
 use Rattle.pv_dtd.specs.Plain.{parts_in, parts_in_all, parts_in_model, parts_in_models, names_in, names_in_all, names_in_model, mentions}
-use Rattle.pv_dtd.specs.Facts.{is_formed, are_formed, members, has_operator, nesting, is_formed_model, MOST_NESTING}
+use Rattle.pv_dtd.specs.Facts.{is_formed, are_formed, members, has_operator, nesting, is_formed_model, MAX_NESTING}
 use Rattle.pv_dtd.specs.Grammar.{Declaration, SpellsPart, SpellsGroup, SpellsOthers, SpellsListed, SpellsModel, SpellsItems, IsWithinRules}
 use Rattle.pv_dtd.proofs.SpelledParts.{spelt}
 use Rattle.pv_dtd.proofs.Meaning.{at_most, models_of, types_of}
@@ -90,7 +90,7 @@ module _ (ns : List (List ℕ)) where
   model_formed empty text s rules = refl
   model_formed any text s rules = refl
   model_formed (mixed ys) text s rules = rules
-  model_formed (children p) text s rules = rw (part_formed p text s.1, at_most (nesting p) MOST_NESTING rules) refl
+  model_formed (children p) text s rules = rw (part_formed p text s.1, at_most (nesting p) MAX_NESTING rules) refl
 
   pub items_formed : (items : List Declaration) (bytes : List ℕ) → SpellsItems ns items bytes → ((k : ℕ) (m : PlainModel) → slice_get (models_of items) k ≡ Some m → IsWithinRules m) → list_all is_formed_model (models_of items) ≡ true
   items_formed [] bytes s rules = refl

@@ -11,9 +11,9 @@ use Rattle.pv_model.specs.Plain.{PlainModel}
 use Rattle.pv_chars.specs.Scan.{◌>>=◌}
 use Rattle.pv_chars.proofs.Scanning.{chosen}
 use Rattle.pv_dtd.specs.Plain.{PlainDtd, spelling_of, mentions, parts_in_models}
-use Rattle.pv_dtd.specs.Facts.{are_distinct, MOST_TYPES, MOST_PARTS, MOST_DTD}
+use Rattle.pv_dtd.specs.Facts.{are_distinct, MAX_TYPES, MAX_PARTS, MAX_DTD_BYTES}
 use Rattle.pv_dtd.specs.Grammar.{Declaration, IsWithinRules, IsDtdText}
-use Rattle.pv_dtd.specs.Reads.{plain_dtd, Refuses}
+use Rattle.pv_dtd.specs.PlainForms.{plain_dtd, Refuses}
 use Rattle.pv_dtd.specs.declared.dtd.Dtd.{Dtd}
 use Rattle.pv_dtd.specs.declared.errors.DtdError.{DtdError}
 use Rattle.pv_dtd.specs.declared.errors.DtdError.TheVariants.{Syntax, NoMemory}
@@ -67,12 +67,12 @@ text_declared bytes g t =
 
 text_limits : (bytes : List ℕ) (g : PlainDtd) (t : IsDtdText bytes g) → within_limits (types_of t.items) (found g.models g.names []) ≡ Some g
 text_limits bytes g t =
-    let types : length (types_of t.items) ≤ MOST_TYPES = omega (arith, t.few_types, length-map t.items (λ (d : Declaration). d.type_name)) in
-    rw (at_most _ MOST_TYPES types, at_most _ MOST_PARTS t.few_parts) refl
+    let types : length (types_of t.items) ≤ MAX_TYPES = omega (arith, t.few_types, length-map t.items (λ (d : Declaration). d.type_name)) in
+    rw (at_most _ MAX_TYPES types, at_most _ MAX_PARTS t.few_parts) refl
 
 pub text_is_read : (bytes : List ℕ) (g : PlainDtd) → IsDtdText bytes g → dtd_at bytes ≡ Some g
 unfolding text_at
-text_is_read bytes g t = rw (at_most _ MOST_DTD t.few_bytes, text_declared bytes g t, text_models bytes g t, text_limits bytes g t) refl
+text_is_read bytes g t = rw (at_most _ MAX_DTD_BYTES t.few_bytes, text_declared bytes g t, text_models bytes g t, text_limits bytes g t) refl
 
 -- what is read is spelled
 spelt_named : (ns : List (List ℕ)) (ys : List ℕ) (xs : List (List ℕ)) → AreNamed ns ys xs → spelt ns ys ≡ xs
@@ -89,7 +89,7 @@ spelt_named ns (y ∷ ys) (x ∷ xs) e =
 declared_then : (new : Bool) (types declared : List (List ℕ)) → cond new (Some types) None ≡ Some declared → (new ≡ true) × (types ≡ declared)
 declared_then new types declared e = cond_some new types declared e
 
-read_text : (bytes : List ℕ) (declared : List (List ℕ)) (f : Found (List PlainModel)) → length bytes ≤ MOST_DTD → length declared ≤ MOST_TYPES → parts_in_models f.value ≤ MOST_PARTS → declared_at (suc (length bytes)) [] bytes ≡ Some declared → ReadsItems declared bytes f →
+read_text : (bytes : List ℕ) (declared : List (List ℕ)) (f : Found (List PlainModel)) → length bytes ≤ MAX_DTD_BYTES → length declared ≤ MAX_TYPES → parts_in_models f.value ≤ MAX_PARTS → declared_at (suc (length bytes)) [] bytes ≡ Some declared → ReadsItems declared bytes f →
     IsDtdText bytes (record { names = f.names; models = f.value })
 read_text bytes declared f few_bytes few_types few_parts at r =
     let few : length bytes < suc (length bytes) = omega arith in
@@ -97,7 +97,7 @@ read_text bytes declared f few_bytes few_types few_parts at r =
     let distinct : are_distinct (types_of r.items) ≡ true = sym (new-distinct (types_of r.items)) ∙ is.0 in
     let mentioned : spelt f.names (mentions f.value) ≡ r.mentioned = spelt_named f.names (mentions f.value) r.mentioned r.named in
     let grows : f.names ≡ grown (types_of r.items) (spelt f.names (mentions f.value)) = r.grows ∙ ap (λ ns. grown ns r.mentioned) (sym is.1) ∙ ap (grown (types_of r.items)) (sym mentioned) in
-    let types : length r.items ≤ MOST_TYPES = omega (arith, few_types, ap length is.1, length-map r.items (λ (d : Declaration). d.type_name)) in
+    let types : length r.items ≤ MAX_TYPES = omega (arith, few_types, ap length is.1, length-map r.items (λ (d : Declaration). d.type_name)) in
     record {
       items = r.items;
       spelled = r.spelled;
@@ -113,13 +113,13 @@ read_text bytes declared f few_bytes few_types few_parts at r =
 pub read_is_text : (bytes : List ℕ) (g : PlainDtd) → dtd_at bytes ≡ Some g → IsDtdText bytes g
 unfolding text_at
 read_is_text bytes g e =
-    let short = chosen (nat_le (length bytes) MOST_DTD) (text_at bytes) g e in
+    let short = chosen (nat_le (length bytes) MAX_DTD_BYTES) (text_at bytes) g e in
     let declared = bound (declared_at (suc (length bytes)) [] bytes) _ g short.1 in
     let models = bound (models_at (suc (length bytes)) declared.value bytes) _ g declared.others in
-    let limits = cond_some (nat_le (length declared.value) MOST_TYPES && nat_le (parts_in_models models.value.value) MOST_PARTS) (record { names = models.value.names; models = models.value.value }) g models.others in
-    let few = and_parts (nat_le (length declared.value) MOST_TYPES) (nat_le (parts_in_models models.value.value) MOST_PARTS) limits.0 in
+    let limits = cond_some (nat_le (length declared.value) MAX_TYPES && nat_le (parts_in_models models.value.value) MAX_PARTS) (record { names = models.value.names; models = models.value.value }) g models.others in
+    let few = and_parts (nat_le (length declared.value) MAX_TYPES) (nat_le (parts_in_models models.value.value) MAX_PARTS) limits.0 in
     subst (IsDtdText bytes) limits.1
-    (read_text bytes declared.value models.value (within (length bytes) MOST_DTD short.0) (within (length declared.value) MOST_TYPES few.0) (within (parts_in_models models.value.value) MOST_PARTS few.1) declared.first
+    (read_text bytes declared.value models.value (within (length bytes) MAX_DTD_BYTES short.0) (within (length declared.value) MAX_TYPES few.0) (within (parts_in_models models.value.value) MAX_PARTS few.1) declared.first
     (models_read (suc (length bytes)) declared.value bytes models.value models.first))
 
 -- a text has one meaning
@@ -127,16 +127,16 @@ pub one_meaning : (bytes : List ℕ) (g h : PlainDtd) → IsDtdText bytes g → 
 one_meaning bytes g h t u = same_some g h (sym (text_is_read bytes g t) ∙ text_is_read bytes h u)
 
 -- The steps of reading a text.
-pub text_at_is_text : (bytes : List ℕ) (g : PlainDtd) → length bytes ≤ MOST_DTD → text_at bytes ≡ Some g → IsDtdText bytes g
-text_at_is_text bytes g few e = read_is_text bytes g (rw (at_most _ MOST_DTD few) e)
+pub text_at_is_text : (bytes : List ℕ) (g : PlainDtd) → length bytes ≤ MAX_DTD_BYTES → text_at bytes ≡ Some g → IsDtdText bytes g
+text_at_is_text bytes g few e = read_is_text bytes g (rw (at_most _ MAX_DTD_BYTES few) e)
 
 pub text_not_at : (bytes : List ℕ) → text_at bytes ≡ None → (g : PlainDtd) → IsDtdText bytes g → ⊥
 text_not_at bytes e g t =
     let read : dtd_at bytes ≡ Some g = text_is_read bytes g t in
-    let at : text_at bytes ≡ Some g = rw (at_most _ MOST_DTD t.few_bytes) at read in
+    let at : text_at bytes ≡ Some g = rw (at_most _ MAX_DTD_BYTES t.few_bytes) at read in
     cc
 
-pub long_is_no_text : (bytes : List ℕ) → MOST_DTD < length bytes → (g : PlainDtd) → IsDtdText bytes g → ⊥
+pub long_is_no_text : (bytes : List ℕ) → MAX_DTD_BYTES < length bytes → (g : PlainDtd) → IsDtdText bytes g → ⊥
 long_is_no_text bytes long g t = absurd (omega (arith, t.few_bytes))
 
 over : (m n : ℕ) → n < m → nat_le m n ≡ false
@@ -152,11 +152,11 @@ module _ (bytes : List ℕ) where
     unfolding text_at
     no_models none = rw (names, none) refl
 
-    many_by : (models : Option (Found (List PlainModel))) → MOST_TYPES < length declared → (models >>= λ f. within_limits declared f) ≡ None
+    many_by : (models : Option (Found (List PlainModel))) → MAX_TYPES < length declared → (models >>= λ f. within_limits declared f) ≡ None
     many_by None many = refl
-    many_by (Some f) many = rw (over (length declared) MOST_TYPES many) refl
+    many_by (Some f) many = rw (over (length declared) MAX_TYPES many) refl
 
-    pub many_types : MOST_TYPES < length declared → text_at bytes ≡ None
+    pub many_types : MAX_TYPES < length declared → text_at bytes ≡ None
     unfolding text_at
     many_types many = rw names (many_by (models_at (suc (length bytes)) declared bytes) many)
 
@@ -165,16 +165,16 @@ module _ (bytes : List ℕ) where
     and_false false = refl
 
     module _ (f : Found (List PlainModel)) (models : models_at (suc (length bytes)) declared bytes ≡ Some f) where
-      pub many_parts : MOST_PARTS < parts_in_models f.value → text_at bytes ≡ None
+      pub many_parts : MAX_PARTS < parts_in_models f.value → text_at bytes ≡ None
       unfolding text_at
-      many_parts many = rw (names, models, over (parts_in_models f.value) MOST_PARTS many, and_false (nat_le (length declared) MOST_TYPES)) refl
+      many_parts many = rw (names, models, over (parts_in_models f.value) MAX_PARTS many, and_false (nat_le (length declared) MAX_TYPES)) refl
 
-      pub is_read : length declared ≤ MOST_TYPES → parts_in_models f.value ≤ MOST_PARTS → text_at bytes ≡ Some (record { names = f.names; models = f.value })
+      pub is_read : length declared ≤ MAX_TYPES → parts_in_models f.value ≤ MAX_PARTS → text_at bytes ≡ Some (record { names = f.names; models = f.value })
       unfolding text_at
-      is_read types parts = rw (names, models, at_most (length declared) MOST_TYPES types, at_most (parts_in_models f.value) MOST_PARTS parts) refl
+      is_read types parts = rw (names, models, at_most (length declared) MAX_TYPES types, at_most (parts_in_models f.value) MAX_PARTS parts) refl
 
 -- what the reader returns
-pub gives_text : (bytes : List ℕ) → length bytes ≤ MOST_DTD → (result : Result Dtd DtdError) → Gives plain_dtd result (text_at bytes) → IfOk result (λ dtd. IsDtdText bytes (plain_dtd dtd))
+pub gives_text : (bytes : List ℕ) → length bytes ≤ MAX_DTD_BYTES → (result : Result Dtd DtdError) → Gives plain_dtd result (text_at bytes) → IfOk result (λ dtd. IsDtdText bytes (plain_dtd dtd))
 gives_text bytes few (Ok dtd) gives = text_at_is_text bytes (plain_dtd dtd) few gives
 gives_text bytes few (Err e) gives = tt
 

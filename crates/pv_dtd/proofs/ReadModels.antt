@@ -6,7 +6,7 @@ use Rattle.pv_chars.specs.Scan.{after_space, after_bytes}
 use Rattle.pv_chars.proofs.Scanning.{after_space_takes, after_bytes_takes}
 use Rattle.pv_model.specs.Plain.{PlainPart, name, seq, choice, opt, star, plus, PlainModel, empty, any, mixed, children}
 use Rattle.pv_dtd.specs.Plain.{names_in_model}
-use Rattle.pv_dtd.specs.Facts.{are_distinct_numbers, MOST_NESTING}
+use Rattle.pv_dtd.specs.Facts.{are_distinct_numbers, MAX_NESTING}
 use Rattle.pv_dtd.specs.Grammar.{SpellsName, SpellsPart, SpellsListed, SpellsMixed, SpellsModel, IsGroup, IsWithinRules}
 use Rattle.pv_dtd.specs.Reading.{Found, found, Reader, number_at, particle_at}
 use Rattle.pv_dtd.specs.Text.{listed_by, listed_at, after_end, mixed_at, children_at, group_by, group_model_at, model_by, model_at}
@@ -149,8 +149,8 @@ begins_group names (plus p) text rest inside s e = begins_group names p s.0 (cod
 children_read : (names : List (List ℕ)) (bytes inside : List ℕ) → bytes ≡ codes "(" ++ inside → (f : Found PlainModel) → children_at names bytes ≡ Some f → ReadsModel names bytes f
 unfolding children_at
 children_read names bytes inside opened f e =
-    let p = bound (particle_at MOST_NESTING names bytes) _ f e in
-    let r = particle_reads MOST_NESTING names bytes p.value p.first in
+    let p = bound (particle_at MAX_NESTING names bytes) _ f e in
+    let r = particle_reads MAX_NESTING names bytes p.value p.first in
     subst (ReadsModel names bytes) (same_some _ _ p.others) record {
       text = r.text;
       mentioned = r.mentioned;

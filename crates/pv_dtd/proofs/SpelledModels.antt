@@ -8,7 +8,7 @@ use Rattle.pv_chars.proofs.Scanning.{begins, after_space-append}
 use Rattle.pv_chars.proofs.Beginnings.{names_have_no_space, begins_behind, name_begins, name_not_after}
 use Rattle.pv_model.specs.Plain.{PlainPart, name, seq, choice, opt, star, plus, PlainParts, no_parts, part, PlainModel, empty, any, mixed, children}
 use Rattle.pv_dtd.specs.Plain.{names_in, names_in_model}
-use Rattle.pv_dtd.specs.Facts.{nesting, MOST_NESTING}
+use Rattle.pv_dtd.specs.Facts.{nesting, MAX_NESTING}
 use Rattle.pv_dtd.specs.Grammar.{SpellsPart, SpellsGroup, SpellsListed, SpellsMixed, SpellsModel, IsGroup, IsWithinRules}
 use Rattle.pv_dtd.specs.Reading.{found, particle_at}
 use Rattle.pv_dtd.specs.Text.{listed_at, after_end, mixed_at, children_at, group_model_at, model_at}
@@ -111,12 +111,12 @@ module _ (ns : List (List ℕ)) (apart : AreApart ns) where
   group_opens (star p) text group s = more_opens text s.0 (codes "*") s.3 (group_opens p s.0 group s.2)
   group_opens (plus p) text group s = more_opens text s.0 (codes "+") s.3 (group_opens p s.0 group s.2)
 
-  children_are_read : (p : PlainPart) (text : List ℕ) → Opens text → SpellsPart ns p text → nesting p ≤ MOST_NESTING → (names : List (List ℕ)) (rest : List ℕ) → begins goes_on rest ≡ false → GoesOn (grown names (spelt ns (names_in p))) ns →
+  children_are_read : (p : PlainPart) (text : List ℕ) → Opens text → SpellsPart ns p text → nesting p ≤ MAX_NESTING → (names : List (List ℕ)) (rest : List ℕ) → begins goes_on rest ≡ false → GoesOn (grown names (spelt ns (names_in p))) ns →
       model_at names (text ++ rest) ≡ Some (found (children p) (grown names (spelt ns (names_in p))) rest)
   unfolding model_at group_model_at children_at
   children_are_read p text o s shallow names rest ends on =
       let all : text ++ rest ≡ 40 ∷ (o.inside ++ rest) = ap (λ u. u ++ rest) o.opened in
-      let read : particle_at MOST_NESTING names (40 ∷ (o.inside ++ rest)) ≡ Some (found p (grown names (spelt ns (names_in p))) rest) = ap (particle_at MOST_NESTING names) (sym all) ∙ part_is_read ns apart p text s MOST_NESTING names rest shallow ends on in
+      let read : particle_at MAX_NESTING names (40 ∷ (o.inside ++ rest)) ≡ Some (found p (grown names (spelt ns (names_in p))) rest) = ap (particle_at MAX_NESTING names) (sym all) ∙ part_is_read ns apart p text s MAX_NESTING names rest shallow ends on in
       rw (all, o.particle rest, read) refl
 
   pub model_is_read : (m : PlainModel) (text : List ℕ) → SpellsModel ns m text → IsWithinRules m → (names : List (List ℕ)) (rest : List ℕ) → begins goes_on rest ≡ false → GoesOn (grown names (spelt ns (names_in_model m))) ns →

@@ -13,9 +13,9 @@ use Rattle.pv_chars.specs.PlainNames.{is_plain_name}
 use Rattle.pv_model.specs.declared.models.ContentModel.{ContentModel}
 use Rattle.pv_model.specs.PlainForms.{plain_model}
 use Rattle.pv_dtd.specs.Plain.{PlainDtd, mentions, place_of}
-use Rattle.pv_dtd.specs.Facts.{are_names, are_known, are_mentioned, is_formed_model, MOST_TYPES, MOST_PARTS}
+use Rattle.pv_dtd.specs.Facts.{are_names, are_known, are_mentioned, is_formed_model, MAX_TYPES, MAX_PARTS}
 use Rattle.pv_dtd.specs.Grammar.{IsDtdText, each_once, Declaration}
-use Rattle.pv_dtd.specs.Seen.{dtd_of}
+use Rattle.pv_dtd.specs.Facts.{dtd_of}
 use Rattle.pv_dtd.specs.Text.{IsOfText}
 use Rattle.pv_dtd.proofs.Binding.{same_some}
 use Rattle.pv_dtd.proofs.Once.{grown-once, once_all, once_one_of, once_fewer}
@@ -56,10 +56,10 @@ module _ (bytes : List ℕ) (g : PlainDtd) (t : IsDtdText bytes g) where
   pub named_kept : length g.models ≤ length g.names
   named_kept = omega (arith, names_count)
 
-  pub types_kept : length g.models ≤ MOST_TYPES
+  pub types_kept : length g.models ≤ MAX_TYPES
   types_kept = omega (arith, t.few_types, ap length t.models, length-map t.items (λ (d : Declaration). d.model))
 
-  pub few_kept : length g.names ≤ MOST_TYPES + MOST_PARTS
+  pub few_kept : length g.names ≤ MAX_TYPES + MAX_PARTS
   few_kept = omega (arith, names_count, types_kept, once_fewer mentioned (types_of t.items), length-map (mentions g.models) (λ y. slice_index_or g.names y []), fewer_mentions g.models, t.few_parts)
 
 get_behind : (front names : List (List ℕ)) (i : ℕ) → slice_get (front ++ names) (length front + i) ≡ slice_get names i
@@ -111,10 +111,10 @@ module _ (keys : List (Vec ℕ Global)) (models : List ContentModel) (text : IsO
   pub held_named : length models ≤ length keys
   held_named = omega (arith, named_kept text.0 (dtd_of keys models) text.1, keys_count, models_count)
 
-  pub held_types : length models ≤ MOST_TYPES
+  pub held_types : length models ≤ MAX_TYPES
   held_types = omega (arith, types_kept text.0 (dtd_of keys models) text.1, models_count)
 
-  pub held_names : length keys ≤ MOST_TYPES + MOST_PARTS
+  pub held_names : length keys ≤ MAX_TYPES + MAX_PARTS
   held_names = omega (arith, few_kept text.0 (dtd_of keys models) text.1, keys_count)
 
 pub text_held : (keys : List (Vec ℕ Global)) (models : List ContentModel) (names : List (List ℕ)) → map (λ v. v.items) keys ≡ names → IsOfText (record { names = names; models = map plain_model models }) → IsOfText (dtd_of keys models)

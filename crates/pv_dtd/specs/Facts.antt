@@ -1,10 +1,17 @@
 -- What every DTD keeps, as tests.
-use Rattle.std.specs.Prelude.{ℕ, suc, ◌-◌, max, Bool, true, false, not, ◌&&◌, nat_le, nat_lt, nat_eq, List, [], ◌∷◌, length}
+use Rattle.std.specs.Prelude.{ℕ, suc, ◌-◌, max, Bool, true, false, not, ◌&&◌, nat_le, nat_lt, nat_eq, List, [], ◌∷◌, length, map, Vec}
 use Rattle.std.specs.List.{list_all, list_any, range_with_len}
 use Rattle.std.specs.Str.{bytes_eq}
+use Rattle.std.specs.declared.alloc.Global.{Global}
 use Rattle.pv_chars.specs.PlainNames.{is_plain_name}
 use Rattle.pv_model.specs.Plain.{PlainPart, name, seq, choice, opt, star, plus, PlainParts, no_parts, part, PlainModel, empty, any, mixed, children}
+use Rattle.pv_model.specs.declared.models.ContentModel.{ContentModel}
+use Rattle.pv_model.specs.PlainForms.{plain_model}
 use Rattle.pv_dtd.specs.Plain.{PlainDtd, mentions}
+
+-- what the names and models that a DTD holds are seen as
+abbrev pub dtd_of : List (Vec ℕ Global) → List ContentModel → PlainDtd
+dtd_of names models = record { names = map (λ v. v.items) names; models = map plain_model models }
 
 -- no two of the names are the same
 abbrev pub are_distinct : List (List ℕ) → Bool
@@ -67,20 +74,20 @@ abbrev mutual
   nesting_all no_parts = 0
   nesting_all (part p ps) = max (nesting p) (nesting_all ps)
 
-abbrev pub MOST_NESTING : ℕ
-MOST_NESTING = 64
+abbrev pub MAX_NESTING : ℕ
+MAX_NESTING = 64
 
 abbrev pub is_formed_model : PlainModel → Bool
 is_formed_model empty = true
 is_formed_model any = true
 is_formed_model (mixed ys) = are_distinct_numbers ys
-is_formed_model (children p) = is_formed p && nat_le (nesting p) MOST_NESTING
+is_formed_model (children p) = is_formed p && nat_le (nesting p) MAX_NESTING
 
-abbrev pub MOST_TYPES : ℕ
-MOST_TYPES = 4096
+abbrev pub MAX_TYPES : ℕ
+MAX_TYPES = 4096
 
-abbrev pub MOST_PARTS : ℕ
-MOST_PARTS = 65536
+abbrev pub MAX_PARTS : ℕ
+MAX_PARTS = 65536
 
-abbrev pub MOST_DTD : ℕ
-MOST_DTD = 4194304
+abbrev pub MAX_DTD_BYTES : ℕ
+MAX_DTD_BYTES = 4194304

@@ -6,7 +6,7 @@ use Rattle.pv_chars.specs.Spaces.{IsSpace, IsOptionalSpace}
 use Rattle.pv_chars.specs.PlainNames.{IsPlainName}
 use Rattle.pv_model.specs.Plain.{PlainPart, name, seq, choice, opt, star, plus, PlainParts, no_parts, part, PlainModel, empty, any, mixed, children}
 use Rattle.pv_dtd.specs.Plain.{PlainDtd, spelling_of, mentions, parts_in_models}
-use Rattle.pv_dtd.specs.Facts.{are_distinct, are_distinct_numbers, has_operator, members, nesting, MOST_NESTING, MOST_TYPES, MOST_PARTS, MOST_DTD}
+use Rattle.pv_dtd.specs.Facts.{are_distinct, are_distinct_numbers, has_operator, members, nesting, MAX_NESTING, MAX_TYPES, MAX_PARTS, MAX_DTD_BYTES}
 
 -- the name of this number, where these are the names
 pub record SpellsName (names : List (List ℕ)) (y : ℕ) (bytes : List ℕ) : Type 0 where
@@ -111,7 +111,7 @@ abbrev pub IsWithinRules : PlainModel → Type 0
 IsWithinRules empty = Unit {0}
 IsWithinRules any = Unit {0}
 IsWithinRules (mixed ys) = IsTrue (are_distinct_numbers ys)
-IsWithinRules (children p) = nesting p ≤ MOST_NESTING
+IsWithinRules (children p) = nesting p ≤ MAX_NESTING
 
 -- The bytes are a plain DTD text, and this is the DTD. Its names are the declared ones in order of declaration, and then those that
 -- are only mentioned in order of first mention.
@@ -122,6 +122,6 @@ pub record IsDtdText (bytes : List ℕ) (g : PlainDtd) : Type 0 where
   pub names : g.names ≡ each_once [] (map (λ (d : Declaration). d.type_name) items ++ map (spelling_of g) (mentions g.models))
   pub declared_once : IsTrue (are_distinct (map (λ (d : Declaration). d.type_name) items))
   pub rules : (k : ℕ) (m : PlainModel) → slice_get g.models k ≡ Some m → IsWithinRules m
-  pub few_types : length items ≤ MOST_TYPES
-  pub few_parts : parts_in_models g.models ≤ MOST_PARTS
-  pub few_bytes : length bytes ≤ MOST_DTD
+  pub few_types : length items ≤ MAX_TYPES
+  pub few_parts : parts_in_models g.models ≤ MAX_PARTS
+  pub few_bytes : length bytes ≤ MAX_DTD_BYTES

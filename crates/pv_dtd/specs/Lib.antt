@@ -1,8 +1,7 @@
 pub mod Plain
 pub mod Facts
 pub mod Grammar
-pub mod Seen
-pub mod Reads
+pub mod PlainForms
 pub mod Naming
 pub mod Reading
 pub mod Text

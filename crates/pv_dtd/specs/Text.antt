@@ -3,7 +3,7 @@ use Rattle.std.specs.Prelude.{ℕ, zero, suc, List, [], ◌∷◌, ◌++◌, len
 use Rattle.pv_chars.specs.Scan.{◌>>=◌, after_space, after_blank, plain_name_at, after_bytes}
 use Rattle.pv_model.specs.Plain.{PlainModel, empty, any, mixed, children}
 use Rattle.pv_dtd.specs.Plain.{PlainDtd, place_of, parts_in_models}
-use Rattle.pv_dtd.specs.Facts.{are_distinct_numbers, MOST_NESTING, MOST_TYPES, MOST_PARTS, MOST_DTD}
+use Rattle.pv_dtd.specs.Facts.{are_distinct_numbers, MAX_NESTING, MAX_TYPES, MAX_PARTS, MAX_DTD_BYTES}
 use Rattle.pv_dtd.specs.Grammar.{IsDtdText}
 use Rattle.pv_dtd.specs.Reading.{Found, found, Reader, number_at, particle_at}
 
@@ -36,7 +36,7 @@ mixed_at names bytes = do
 
 unfoldable pub children_at : Reader PlainModel
 children_at names bytes = do
-  p ← particle_at MOST_NESTING names bytes
+  p ← particle_at MAX_NESTING names bytes
   Some (found (children p.value) p.names p.rest)
 
 -- a mixed model where #PCDATA stood in front, and else a content particle
@@ -112,7 +112,7 @@ declared_at (suc steps) seen bytes = declared_by (declared_at steps) seen (after
 -- the DTD of these names and models, where there aren't too many
 abbrev pub within_limits : List (List ℕ) → Found (List PlainModel) → Option PlainDtd
 within_limits declared models =
-    if nat_le (length declared) MOST_TYPES && nat_le (parts_in_models models.value) MOST_PARTS then Some (record { names = models.names; models = models.value }) else None
+    if nat_le (length declared) MAX_TYPES && nat_le (parts_in_models models.value) MAX_PARTS then Some (record { names = models.names; models = models.value }) else None
 
 -- The DTD that a text is. The declared names come first.
 unfoldable pub text_at : List ℕ → Option PlainDtd
@@ -122,7 +122,7 @@ text_at bytes = do
   within_limits declared models
 
 abbrev pub dtd_at : List ℕ → Option PlainDtd
-dtd_at bytes = if nat_le (length bytes) MOST_DTD then text_at bytes else None
+dtd_at bytes = if nat_le (length bytes) MAX_DTD_BYTES then text_at bytes else None
 
 -- the DTD of some text
 abbrev pub IsOfText : PlainDtd → Type 0

@@ -3,8 +3,7 @@
 ghost use Rattle.std.specs.Prelude.{◌≡◌, ◌≤◌, ◌+◌, IsTrue, length};
 ghost use Rattle.std.specs.List.{list_all};
 ghost use Rattle.pv_dtd.specs.Plain.{parts_in_models};
-ghost use Rattle.pv_dtd.specs.Facts.{are_names, are_known, are_mentioned, is_formed_model, MOST_TYPES, MOST_PARTS};
-ghost use Rattle.pv_dtd.specs.Seen.{dtd_of};
+ghost use Rattle.pv_dtd.specs.Facts.{dtd_of, are_names, are_known, are_mentioned, is_formed_model, MAX_TYPES, MAX_PARTS};
 
 use crate::names::NameTable;
 use indexmap::IndexSet;
@@ -22,9 +21,9 @@ pub struct Dtd {
     pub ghost mentioned: { IsTrue (are_mentioned (dtd_of names.keys models.items)) },
     pub ghost formed: { IsTrue (list_all is_formed_model (dtd_of names.keys models.items).models) },
     pub ghost counted: { parts ≡ parts_in_models (dtd_of names.keys models.items).models },
-    pub ghost few_types: { length models.items ≤ MOST_TYPES },
-    pub ghost few_parts: { parts ≤ MOST_PARTS },
-    pub ghost few_names: { length names.keys ≤ MOST_TYPES + MOST_PARTS },
+    pub ghost few_types: { length models.items ≤ MAX_TYPES },
+    pub ghost few_parts: { parts ≤ MAX_PARTS },
+    pub ghost few_names: { length names.keys ≤ MAX_TYPES + MAX_PARTS },
 }
 
 impl Dtd {
@@ -33,7 +32,7 @@ impl Dtd {
     ghost use Rattle.std.specs.Option.{option_copied, option_map};
     ghost use Rattle.pv_model.specs.PlainForms.{plain_model};
     ghost use Rattle.pv_dtd.specs.Plain.{declared, parts_in_models, number_of, model_of};
-    ghost use Rattle.pv_dtd.specs.Reads.{plain_dtd};
+    ghost use Rattle.pv_dtd.specs.PlainForms.{plain_dtd};
 
     // The DTD of a text: its names, its models and the number of their parts.
     pub(crate) fn of(names: NameTable, models: Vec<ContentModel>, parts: u32) -> Dtd

@@ -5,6 +5,6 @@ ghost use Rattle.pv_dtd.specs.Plain.{PlainDtd};
 ghost use Rattle.pv_dtd.specs.Grammar.{IsDtdText};
 
 /// A text is one DTD.
-pub fn one_meaning()
+pub fn one_meaning_law()
     ensures { (bytes : List ℕ) (g h : PlainDtd) → IsDtdText bytes g → IsDtdText bytes h → g ≡ h }
 {}

@@ -13,5 +13,5 @@ mod reading;
 
 pub use dtd::Dtd;
 pub use errors::DtdError;
-pub use laws::one_meaning;
-pub use reading::{MOST_DTD, read_dtd};
+pub use laws::one_meaning_law;
+pub use reading::{MAX_DTD_BYTES, read_dtd};

@@ -15,7 +15,7 @@ use pv_model::ContentModel;
 use std::alloc::Global;
 
 /// How deep groups may stand one inside another.
-const MOST_NESTING: usize = 64;
+const MAX_NESTING: usize = 64;
 
 /// A content model, the number of its parts, and what stands behind it.
 #[derive(Drop)]
@@ -36,7 +36,7 @@ fn children_at<'a>(
     ensures counted { IfOk result (λ r. r.parts ≡ parts_in_model (plain_model r.model)) }
     ensures within { IfOk result (λ r. r.parts + length r.rest.now ≤ length bytes.now) }
 {
-    let particle = particle_at(alloc, names, bytes, MOST_NESTING)?;
+    let particle = particle_at(alloc, names, bytes, MAX_NESTING)?;
     Ok(ReadModel {
         model: ContentModel::Children(Box::new(alloc, particle.part)?),
         parts: particle.parts,

@@ -3,8 +3,8 @@
 ghost use Rattle.std.specs.Prelude.{◌≡◌, ◌≤◌, length, IfOk, IfErr};
 ghost use Rattle.pv_dtd.specs.Plain.{PlainDtd};
 ghost use Rattle.pv_dtd.specs.Grammar.{IsDtdText};
-ghost use Rattle.pv_dtd.specs.Facts.{MOST_DTD};
-ghost use Rattle.pv_dtd.specs.Reads.{plain_dtd, Refuses};
+ghost use Rattle.pv_dtd.specs.Facts.{MAX_DTD_BYTES};
+ghost use Rattle.pv_dtd.specs.PlainForms.{plain_dtd, Refuses};
 ghost use Rattle.pv_dtd.specs.Reading.{Gives};
 ghost use Rattle.pv_dtd.specs.Text.{text_at};
 
@@ -14,25 +14,25 @@ use crate::errors::DtdError;
 use std::alloc::Global;
 
 /// The most bytes of a DTD.
-pub const MOST_DTD: usize = 4_194_304;
+pub const MAX_DTD_BYTES: usize = 4_194_304;
 
 /// The most names that a DTD declares.
-const MOST_TYPES: usize = 4_096;
+const MAX_TYPES: usize = 4_096;
 
 /// The most parts of its content models.
-const MOST_PARTS: usize = 65_536;
+const MAX_PARTS: usize = 65_536;
 
 // The names are read first, so that the declared ones come first; the models are read with their numbers.
 fn text_at(alloc: Global, bytes: &[u8]) -> Result<Dtd, DtdError>
-    requires { length bytes.now ≤ MOST_DTD }
+    requires { length bytes.now ≤ MAX_DTD_BYTES }
     ensures { Gives plain_dtd result (text_at bytes.now) }
 {
     let mut names = declared_at(alloc, bytes)?;
-    if names.len() > MOST_TYPES {
+    if names.len() > MAX_TYPES {
         return Err(DtdError::Syntax(0));
     }
     let (models, parts) = models_at(alloc, &mut names, bytes)?;
-    if parts > MOST_PARTS {
+    if parts > MAX_PARTS {
         return Err(DtdError::Syntax(0));
     }
     Ok(Dtd::of(names, models, parts as u32))
@@ -44,7 +44,7 @@ pub fn read_dtd(alloc: Global, bytes: &[u8]) -> Result<Dtd, DtdError>
     ensures read { IfOk result (λ dtd. IsDtdText bytes.now (plain_dtd dtd)) }
     ensures refused { IfErr result (λ error. Refuses error ((g : PlainDtd) → IsDtdText bytes.now g → ⊥)) }
 {
-    if bytes.len() > MOST_DTD {
+    if bytes.len() > MAX_DTD_BYTES {
         return Err(DtdError::Syntax(0));
     }
     text_at(alloc, bytes)

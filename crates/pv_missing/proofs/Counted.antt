@@ -3,7 +3,7 @@ use Rattle.std.proofs.Common.{List, Vec, arith, length, ℕ, ◌≤◌}
 use Rattle.std.proofs.lemmas.List.{length-map}
 use Rattle.pv_model.specs.PlainForms.{plain_model}
 use Rattle.pv_dtd.specs.Plain.{declared}
-use Rattle.pv_dtd.specs.Seen.{dtd_of}
+use Rattle.pv_dtd.specs.Facts.{dtd_of}
 use Rattle.pv_missing.proofs.LeftOut.{names}
 use Rattle.std.specs.declared.alloc.Global.{Global}
 use Rattle.pv_model.specs.declared.models.ContentModel.{ContentModel}

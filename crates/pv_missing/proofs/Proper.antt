@@ -7,7 +7,7 @@ use Rattle.std.proofs.lemmas.Slice.Eq.{bytes_eq-Decides}
 use Rattle.std.proofs.lemmas.Bool.{and_parts, not-true, or_parts}
 use Rattle.pv_chars.specs.PlainNames.{is_plain_name}
 use Rattle.pv_model.specs.Plain.{PlainModel, PlainPart, PlainParts, any, children, choice, empty, mixed, name, no_parts, opt, part, plus, seq, star}
-use Rattle.pv_dtd.specs.Facts.{MOST_NESTING, are_distinct, are_formed, are_names, has_operator, is_formed, is_formed_model, members, nesting}
+use Rattle.pv_dtd.specs.Facts.{MAX_NESTING, are_distinct, are_formed, are_names, has_operator, is_formed, is_formed_model, members, nesting}
 use Rattle.pv_dtd.specs.Plain.{PlainDtd, declared}
 use Rattle.pv_missing.specs.Dtds.{AreDistinct, AreFullParts, IsFull, IsFullModel, IsProperDtd}
 
@@ -44,7 +44,7 @@ full_model : (m : PlainModel) → is_formed_model m ≡ true → IsFullModel m
 full_model empty e = tt
 full_model any e = tt
 full_model (mixed ys) e = tt
-full_model (children p) e = full p (and_parts (is_formed p) (nat_le (nesting p) MOST_NESTING) e).0
+full_model (children p) e = full p (and_parts (is_formed p) (nat_le (nesting p) MAX_NESTING) e).0
 
 full_all : (ms : List PlainModel) → list_all is_formed_model ms ≡ true → AllByRecursion IsFullModel ms
 full_all [] e = tt

@@ -2,8 +2,8 @@
 use Rattle.std.proofs.Common.{◌≡◌, ◌≤◌, ◌+◌, ℕ, List, [], ◌++◌, length, length-append, append-nil, append_assoc, refl, sym, ap, ◌∙◌, arith}
 use Rattle.pv_chars.specs.Spaces.{IsOptionalSpace}
 use Rattle.pv_tree.specs.Plain.{PlainDoc, Tree, depth_of, nodes_in, remarked}
-use Rattle.pv_tree.specs.Legal.{MOST_DEPTH, MOST_NODES}
-use Rattle.pv_read.specs.Grammar.{SpellsDocument, IsDocumentText, MOST_DOC}
+use Rattle.pv_tree.specs.Legal.{MAX_DEPTH, MAX_NODES}
+use Rattle.pv_read.specs.Grammar.{SpellsDocument, IsDocumentText, MAX_DOC_BYTES}
 use Rattle.pv_read.specs.Reading.{space_at, ReadsElement}
 use Rattle.pv_read.specs.Marks.{HasMarks}
 use Rattle.pv_read.proofs.OneTree.{one_element}
@@ -48,7 +48,7 @@ spelled_is_read m d bytes doc s shallow =
       white = s.space_after;
     }
 
-pub few_nodes : {M : Type 0} (bytes : List ℕ) (doc : PlainDoc M) → IsDocumentText bytes doc → nodes_in doc.root ≤ MOST_NODES
+pub few_nodes : {M : Type 0} (bytes : List ℕ) (doc : PlainDoc M) → IsDocumentText bytes doc → nodes_in doc.root ≤ MAX_NODES
 few_nodes bytes doc t =
     let few = few_in doc.root t.spelled.root t.spelled.is_root t.spelled.is_element in
     let whole : length bytes ≡ length doc.before + length t.spelled.root + length doc.after = rw t.spelled.whole (simp length-append refl) in
@@ -63,28 +63,28 @@ all_space bytes after rest is none =
     let whole : bytes ≡ after ++ [] = cc in
     (whole ∙ append-nil after, rw first cut.optional)
 
-pub text_of : {M : Type 0} {m mark : M} (bytes before element end after rest kept_before kept_after : List ℕ) (root : Tree M) → (before, element) ≡ space_at bytes → ReadsElement m MOST_DEPTH element root end → (after, rest) ≡ space_at end → rest ≡ []
-    → length bytes ≤ MOST_DOC → kept_before ≡ before → kept_after ≡ after → IsDocumentText bytes (record { before = kept_before; root = root; after = kept_after; mark = mark })
+pub text_of : {M : Type 0} {m mark : M} (bytes before element end after rest kept_before kept_after : List ℕ) (root : Tree M) → (before, element) ≡ space_at bytes → ReadsElement m MAX_DEPTH element root end → (after, rest) ≡ space_at end → rest ≡ []
+    → length bytes ≤ MAX_DOC_BYTES → kept_before ≡ before → kept_after ≡ after → IsDocumentText bytes (record { before = kept_before; root = root; after = kept_after; mark = mark })
 text_of {m = m} bytes before element end after rest kept_before kept_after root cut reads cut_end none few same_before same_after =
     let first : before ≡ (space_at bytes).0 = ap (λ (c : List ℕ × List ℕ). c.0) cut in
     let second : element ≡ (space_at bytes).1 = ap (λ (c : List ℕ × List ℕ). c.1) cut in
     let last = all_space end after rest cut_end none in
-    let read : ReadsDocument m MOST_DEPTH bytes kept_before root kept_after = record { before_is = sym first ∙ sym same_before; reads = rw (← second, same_after, ← last.0) reads; white = rw same_after last.1 } in
+    let read : ReadsDocument m MAX_DEPTH bytes kept_before root kept_after = record { before_is = sym first ∙ sym same_before; reads = rw (← second, same_after, ← last.0) reads; white = rw same_after last.1 } in
     record { spelled = read_is_spelled read; shallow = (spelled_element reads).shallow; few_bytes = few }
 
 pub marks_of : {M : Type 0} {m : M} (d : ℕ) (bytes before after : List ℕ) (root : Tree M) (rest : List ℕ) → ReadsElement m d bytes root rest → HasMarks m (record { before = before; root = root; after = after; mark = m })
 marks_of d bytes before after root rest reads = record { on_document = refl; on_elements = (spelled_element reads).marks }
 
-pub no_element : {M : Type 0} (m : M) (bytes before element : List ℕ) → (before, element) ≡ space_at bytes → ((t : Tree M) (rest : List ℕ) → ReadsElement m MOST_DEPTH element t rest → ⊥) → (doc : PlainDoc M) → IsDocumentText bytes doc → ⊥
+pub no_element : {M : Type 0} (m : M) (bytes before element : List ℕ) → (before, element) ≡ space_at bytes → ((t : Tree M) (rest : List ℕ) → ReadsElement m MAX_DEPTH element t rest → ⊥) → (doc : PlainDoc M) → IsDocumentText bytes doc → ⊥
 no_element m bytes before element cut none doc text =
-    let read = spelled_is_read m MOST_DEPTH bytes doc text.spelled text.shallow in
+    let read = spelled_is_read m MAX_DEPTH bytes doc text.spelled text.shallow in
     let second : element ≡ (space_at bytes).1 = ap (λ (c : List ℕ × List ℕ). c.1) cut in
     none _ _ (rw (← second) at read.reads)
 
-pub more_behind : {M : Type 0} (m : M) (bytes before element end after rest : List ℕ) (root : Tree M) → (before, element) ≡ space_at bytes → ReadsElement m MOST_DEPTH element root end → (after, rest) ≡ space_at end → (rest ≡ [] → ⊥)
+pub more_behind : {M : Type 0} (m : M) (bytes before element end after rest : List ℕ) (root : Tree M) → (before, element) ≡ space_at bytes → ReadsElement m MAX_DEPTH element root end → (after, rest) ≡ space_at end → (rest ≡ [] → ⊥)
     → (doc : PlainDoc M) → IsDocumentText bytes doc → ⊥
 more_behind m bytes before element end after rest root cut reads cut_end some doc text =
-    let read = spelled_is_read m MOST_DEPTH bytes doc text.spelled text.shallow in
+    let read = spelled_is_read m MAX_DEPTH bytes doc text.spelled text.shallow in
     let second : element ≡ (space_at bytes).1 = ap (λ (c : List ℕ × List ℕ). c.1) cut in
     let same = one_element reads (rw (← second) at read.reads) in
     let white = space_at-append doc.after [] read.white refl in

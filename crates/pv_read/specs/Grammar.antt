@@ -4,7 +4,7 @@ use Rattle.pv_chars.specs.Spaces.{IsOptionalSpace}
 use Rattle.pv_chars.specs.PlainNames.{IsPlainName}
 use Rattle.pv_chars.specs.Texts.{units_of, IsPlainText}
 use Rattle.pv_tree.specs.Plain.{short, tagged, Tree, element, text_node, cdata_node, misc_node, Forest, no_trees, tree, PlainDoc, depth_of}
-use Rattle.pv_tree.specs.Legal.{MOST_DEPTH}
+use Rattle.pv_tree.specs.Legal.{MAX_DEPTH}
 
 abbrev pub begins_with_text : {M : Type 0} → Forest M → Bool
 begins_with_text no_trees = false
@@ -44,8 +44,8 @@ IsElement (text_node units) = ⊥
 IsElement (cdata_node bytes) = ⊥
 IsElement (misc_node bytes) = ⊥
 
-abbrev pub MOST_DOC : ℕ
-MOST_DOC = 67108864
+abbrev pub MAX_DOC_BYTES : ℕ
+MAX_DOC_BYTES = 67108864
 
 -- The bytes spell this document: S?, one element, S?.
 pub record SpellsDocument {M : Type 0} (bytes : List ℕ) (doc : PlainDoc M) : Type 0 where
@@ -59,5 +59,5 @@ pub record SpellsDocument {M : Type 0} (bytes : List ℕ) (doc : PlainDoc M) : T
 -- The bytes are a plain document text, and this is the document. Elements stand at most 512 deep.
 pub record IsDocumentText {M : Type 0} (bytes : List ℕ) (doc : PlainDoc M) : Type 0 where
   pub spelled : SpellsDocument bytes doc
-  pub shallow : depth_of doc.root ≤ MOST_DEPTH
-  pub few_bytes : length bytes ≤ MOST_DOC
+  pub shallow : depth_of doc.root ≤ MAX_DEPTH
+  pub few_bytes : length bytes ≤ MAX_DOC_BYTES

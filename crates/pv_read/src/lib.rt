@@ -9,4 +9,4 @@ mod tags;
 mod texts;
 
 pub use errors::DocError;
-pub use reading::{MOST_DOC, read_doc};
+pub use reading::{MAX_DOC_BYTES, read_doc};

@@ -16,9 +16,9 @@ use pv_tree::{Doc, Mark};
 use std::alloc::Global;
 
 /// The most bytes of a document.
-pub const MOST_DOC: usize = 67_108_864;
+pub const MAX_DOC_BYTES: usize = 67_108_864;
 /// The most elements that stand one inside another.
-const MOST_DEPTH: u32 = 512;
+const MAX_DEPTH: u32 = 512;
 
 /// The document that the bytes are, with blank marks. Any bytes that are no plain document within the limits are refused as
 /// `Syntax(0)`, whatever is wrong with them and wherever that stands.
@@ -27,11 +27,11 @@ pub fn read_doc(alloc: Global, bytes: &[u8], _root: &[u8]) -> Result<Doc, DocErr
     ensures marks { IfOk result (λ doc. HasMarks Mark.BLANK (plain_doc doc)) }
     ensures refused { IfErr result (λ error. Refuses error ((doc : PlainDoc Mark) → IsDocumentText bytes.now doc → ⊥)) }
 {
-    if bytes.len() > MOST_DOC {
+    if bytes.len() > MAX_DOC_BYTES {
         return Err(DocError::Syntax(0));
     }
     let (before, element) = space_at(bytes);
-    let (root, end) = element_at(alloc, element, MOST_DEPTH)?;
+    let (root, end) = element_at(alloc, element, MAX_DEPTH)?;
     let (after, rest) = space_at(end);
     if !rest.is_empty() {
         return Err(DocError::Syntax(0));

@@ -85,8 +85,8 @@ abbrev mutual
 abbrev pub has_plain_margins : {M : Type 0} → PlainDoc M → Bool
 has_plain_margins doc = list_all is_space doc.before && list_all is_space doc.after
 
-abbrev pub MOST_DEPTH : ℕ
-MOST_DEPTH = 512
+abbrev pub MAX_DEPTH : ℕ
+MAX_DEPTH = 512
 
-abbrev pub MOST_NODES : ℕ
-MOST_NODES = 33554433
+abbrev pub MAX_NODES : ℕ
+MAX_NODES = 33554433

@@ -3,7 +3,7 @@
 ghost use Rattle.std.specs.Prelude.{◌≡◌, ◌≤◌, map};
 ghost use Rattle.std.specs.Option.{option_copied, option_map};
 ghost use Rattle.pv_tree.specs.Plain.{depth_of, nodes_in};
-ghost use Rattle.pv_tree.specs.Legal.{MOST_DEPTH, MOST_NODES};
+ghost use Rattle.pv_tree.specs.Legal.{MAX_DEPTH, MAX_NODES};
 ghost use Rattle.pv_tree.specs.Places.{kids_of, list_at, list_of, node_below, spot_at};
 ghost use Rattle.pv_tree.specs.Read.{plain, plain_all};
 ghost use Rattle.pv_tree.specs.Docs.{plain_doc, plain_found};
@@ -95,7 +95,7 @@ impl Node {
 
     // How many elements stand one inside another.
     fn depth(&self) -> u32
-        requires { depth_of (plain self.now) ≤ MOST_DEPTH }
+        requires { depth_of (plain self.now) ≤ MAX_DEPTH }
         ensures { result ≡ depth_of (plain self.now) }
     {
         match self {
@@ -114,7 +114,7 @@ impl Node {
 
     // The number of nodes, this one included.
     fn nodes(&self) -> u64
-        requires { nodes_in (plain self.now) ≤ MOST_NODES }
+        requires { nodes_in (plain self.now) ≤ MAX_NODES }
         ensures { result ≡ nodes_in (plain self.now) }
     {
         match self {

@@ -4,10 +4,10 @@ ghost use Rattle.std.specs.Prelude.{◌≡◌, ◌≤◌, ◌↔◌, ℕ, List, 
 ghost use Rattle.std.specs.Option.{option_copied, option_map, option_and_then};
 ghost use Rattle.pv_model.specs.PlainForms.{plain_model};
 ghost use Rattle.pv_dtd.specs.Plain.{number_of, model_of};
-ghost use Rattle.pv_dtd.specs.Reads.{plain_dtd};
+ghost use Rattle.pv_dtd.specs.PlainForms.{plain_dtd};
 ghost use Rattle.pv_tree.specs.Plain.{nodes_in, nodes_in_all};
 ghost use Rattle.pv_dtd.specs.Hedge.{IsValid};
-ghost use Rattle.pv_tree.specs.Legal.{MOST_NODES};
+ghost use Rattle.pv_tree.specs.Legal.{MAX_NODES};
 ghost use Rattle.pv_tree.specs.View.{view};
 ghost use Rattle.pv_tree.specs.Lists.{IsFirstInvalid, IsOwnValid, IsRootElement, lists_at, lists_from, lists_of};
 ghost use Rattle.pv_tree.specs.Search.{Finds};
@@ -67,7 +67,7 @@ fn has_invalid(
     places: &mut Vec<u32>,
     tokens: &mut Vec<Token>,
 ) -> Result<bool, NoMemory>
-    requires { nodes_in (plain node.now) ≤ MOST_NODES }
+    requires { nodes_in (plain node.now) ≤ MAX_NODES }
     ensures { (root : List ℕ) → IfOk result (Finds (plain_dtd dtd.now) root (lists_at places.old.items (plain node.now)) places.old.items places.new.items) }
 {
     let Node::Elem { name, kids, .. } = node else {
@@ -88,7 +88,7 @@ fn has_invalid_kid(
     places: &mut Vec<u32>,
     tokens: &mut Vec<Token>,
 ) -> Result<bool, NoMemory>
-    requires { nodes_in_all (forest kids.now) ≤ MOST_NODES }
+    requires { nodes_in_all (forest kids.now) ≤ MAX_NODES }
     ensures { (root : List ℕ) → IfOk result (Finds (plain_dtd dtd.now) root (lists_from places.old.items 0 (forest kids.now)) places.old.items places.new.items) }
 {
     for (i, kid) in kids.iter().enumerate() {

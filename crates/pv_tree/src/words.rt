@@ -4,7 +4,7 @@ ghost use Rattle.std.specs.Prelude.{◌≡◌, ◌++◌, List, IfOk, OnOk, map};
 ghost use Rattle.pv_model.specs.Plain.{PlainToken};
 ghost use Rattle.pv_model.specs.PlainForms.{plain_token};
 ghost use Rattle.pv_dtd.specs.Plain.{number_of};
-ghost use Rattle.pv_dtd.specs.Reads.{plain_dtd};
+ghost use Rattle.pv_dtd.specs.PlainForms.{plain_dtd};
 ghost use Rattle.pv_dtd.specs.Hedge.{token};
 ghost use Rattle.pv_tree.specs.Words.{node_before, word_of};
 ghost use Rattle.pv_tree.specs.Tokens.{token_before};

@@ -1,6 +1,6 @@
 //! What every DTD and every document of the program has.
 
-ghost use Rattle.pv_dtd.specs.Reads.{plain_dtd};
+ghost use Rattle.pv_dtd.specs.PlainForms.{plain_dtd};
 ghost use Rattle.pv_tree.specs.Docs.{plain_doc};
 ghost use Rattle.pv_missing.specs.Dtds.{IsProperDtd};
 ghost use Rattle.pv_missing.specs.DocumentLaws.{IsProperDoc};

@@ -1,6 +1,6 @@
 use Rattle.std.proofs.lemmas.Result.{err_from_is_err_and}
 use Rattle.pv_io.specs.Causes.{Rose}
-use Rattle.pv_dtd.specs.Reads.{plain_dtd}
+use Rattle.pv_dtd.specs.PlainForms.{plain_dtd}
 use Rattle.pv_dtd.specs.Grammar.{IsDtdText}
 use Rattle.pv_cli.specs.Answer.{IsDtdRefusal}
 use Rattle.pv_cli.specs.Opening.{IsDtdFile, IsDtdFileRefusal}

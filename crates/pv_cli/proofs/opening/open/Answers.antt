@@ -1,6 +1,6 @@
 use Rattle.std.proofs.lemmas.Result.{err_from_is_err_and}
 use Rattle.pv_io.specs.Causes.{Rose}
-use Rattle.pv_dtd.specs.Reads.{plain_dtd}
+use Rattle.pv_dtd.specs.PlainForms.{plain_dtd}
 use Rattle.pv_cli.specs.Opening.{IsDtdFileRefusal, IsDocumentFileRefusal, IsRefusal}
 use Rattle.pv_cli.proofs.Chains.{some_file, stops_so, rose_since}
 use Rattle.pv_cli.proofs.Openings.{dtd_refused_so, document_refused_so}

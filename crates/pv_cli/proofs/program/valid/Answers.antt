@@ -1,6 +1,6 @@
 use Rattle.std.proofs.lemmas.Result.{err_from_is_err_and}
 use Rattle.pv_io.specs.Causes.{Rose}
-use Rattle.pv_dtd.specs.Reads.{plain_dtd}
+use Rattle.pv_dtd.specs.PlainForms.{plain_dtd}
 use Rattle.pv_tree.specs.Docs.{plain_doc}
 use Rattle.pv_cli.specs.Opening.{IsRefusal}
 use Rattle.pv_cli.specs.Valid.{TellsValidity, IsValidAnswer}

@@ -1,7 +1,7 @@
 use Rattle.std.proofs.Common.{◌≡◌, ◌<◌, ◌≤◌, ◌+◌, [], length, take, arith}
 use Rattle.std.proofs.lemmas.Grind.{common_steps}
 use Rattle.std.proofs.lemmas.Result.{err_from_is_err_and}
-use Rattle.pv_cli.specs.Session.{MOST_SCRIPT}
+use Rattle.pv_cli.specs.Session.{MAX_SCRIPT_BYTES}
 use Rattle.pv_cli.proofs.Chains.{rose_since}
 use Rattle.pv_cli.proofs.ScriptLemmas.{consumes_none, consumes_more, script_given, some_script, script_beyond, stops_script, piece_kept, length-take-le}
 use Rattle.pv_cli.proofs.script.read_script.Goals as goal
@@ -30,12 +30,12 @@ returns-then-count-eq0-clause-step g c =
     let bytes = c.in-Ok.ensures.bytes in
     let none : take c.in-Ok.count c.fill.new.buf ≡ [] = grind (arith, common_steps, c.if-count-eq0.true) in
     let room : 0 < length c.fill.new.buf = omega (arith, c.pieces.invariant.room, c.deref_mut.ensures.len, c.fill.auto.buf) in
-    let within : length c.pieces.script.items ≤ MOST_SCRIPT = omega (arith, c.pieces.script.ok.0, c.pieces.invariant.within) in
+    let within : length c.pieces.script.items ≤ MAX_SCRIPT_BYTES = omega (arith, c.pieces.script.ok.0, c.pieces.invariant.within) in
     script_given _ _ _ _ c.pieces.invariant.given (rw none at bytes.0) (bytes.1 c.if-count-eq0.true room) within
 
 pub returns-then-count-len-clause-step : goal.returns-then-count-len-clause-step
 returns-then-count-len-clause-step g c =
-    let more : MOST_SCRIPT < length c.pieces.script.items + length (take c.in-Ok.count c.fill.new.buf) = omega (arith, c.pieces.script.ok.0, c.len.ensures, c.if-count-len.true, c.in-Ok.ensures.bound.1) in
+    let more : MAX_SCRIPT_BYTES < length c.pieces.script.items + length (take c.in-Ok.count c.fill.new.buf) = omega (arith, c.pieces.script.ok.0, c.len.ensures, c.if-count-len.true, c.in-Ok.ensures.bound.1) in
     let script = script_beyond _ _ _ _ _ c.pieces.invariant.given c.in-Ok.ensures.bytes.0 more in
     (script.0, script.1, stops_script script.0 _ c.refused.result script.2 c.refused.ensures)
 

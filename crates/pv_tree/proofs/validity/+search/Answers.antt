@@ -2,7 +2,7 @@ use Rattle.std.proofs.Common.{◌≡◌, ◌++◌, ℕ, ◌+◌, List, [], ◌�
 use Rattle.std.proofs.lemmas.Result.{IfOk-weaker}
 use Rattle.std.specs.List.{AllByRecursion}
 use Rattle.pv_dtd.specs.Plain.{number_of}
-use Rattle.pv_dtd.specs.Reads.{plain_dtd}
+use Rattle.pv_dtd.specs.PlainForms.{plain_dtd}
 use Rattle.pv_tree.specs.Plain.{no_trees, nodes_in_all}
 use Rattle.pv_tree.specs.Lists.{IsFirstInvalid, IsValidList, IsOwnValid, lists_at, lists_from}
 use Rattle.pv_tree.specs.Search.{Finds}

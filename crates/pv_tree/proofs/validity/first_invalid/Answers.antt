@@ -1,6 +1,6 @@
 use Rattle.std.proofs.Common.{◌≡◌, ℕ, List, [], ◌∷◌, ◌++◌, true, refl}
 use Rattle.std.specs.List.{AllByRecursion}
-use Rattle.pv_dtd.specs.Reads.{plain_dtd}
+use Rattle.pv_dtd.specs.PlainForms.{plain_dtd}
 use Rattle.pv_tree.specs.Lists.{IsFirstInvalid, IsValidList, IsRootElement, lists_at, lists_of}
 use Rattle.pv_tree.specs.Read.{plain}
 use Rattle.pv_tree.specs.Docs.{plain_doc}

@@ -2,7 +2,7 @@ use Rattle.std.proofs.Common.{◌≡◌, Some, ap, ◌∙◌, sym}
 use Rattle.pv_model.specs.PlainForms.{plain_model}
 use Rattle.pv_model.specs.Plain.{empty}
 use Rattle.pv_dtd.specs.Plain.{number_of}
-use Rattle.pv_dtd.specs.Reads.{plain_dtd}
+use Rattle.pv_dtd.specs.PlainForms.{plain_dtd}
 use Rattle.pv_tree.proofs.Owners.{model_for, own_valid-empty}
 use Rattle.pv_tree.proofs.validity.is_own_valid.Goals as goal
 

@@ -1,5 +1,5 @@
 use Rattle.std.proofs.Common.{arith}
-use Rattle.pv_dtd.specs.Seen.{dtd_of}
+use Rattle.pv_dtd.specs.Facts.{dtd_of}
 use Rattle.pv_dtd.proofs.TextFacts.{names_kept, known_kept, mentioned_kept, formed_kept, held_named, held_types, held_names, text_held}
 use Rattle.pv_dtd.proofs.dtd.Dtd.of.Goals as goal
 

@@ -1,4 +1,4 @@
-use Rattle.pv_dtd.specs.Reads.{plain_dtd}
+use Rattle.pv_dtd.specs.PlainForms.{plain_dtd}
 use Rattle.pv_missing.proofs.Counted.{counted}
 use Rattle.pv_missing.proofs.Proper.{proper_dtd}
 use Rattle.pv_missing.proofs.laws.dtds.proper_dtd_law.Goals as goal

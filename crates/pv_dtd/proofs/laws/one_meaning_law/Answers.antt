@@ -1,5 +1,5 @@
 use Rattle.pv_dtd.proofs.Meaning.{one_meaning}
-use Rattle.pv_dtd.proofs.laws.one_meaning.Goals as goal
+use Rattle.pv_dtd.proofs.laws.one_meaning_law.Goals as goal
 
 pub returns : goal.returns
 returns c = one_meaning

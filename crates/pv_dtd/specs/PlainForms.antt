@@ -1,7 +1,7 @@
 -- The plain form of a DTD, and what a refusal says.
 use Rattle.std.specs.Prelude.{◌≡◌}
 use Rattle.pv_dtd.specs.Plain.{PlainDtd}
-use Rattle.pv_dtd.specs.Seen.{dtd_of}
+use Rattle.pv_dtd.specs.Facts.{dtd_of}
 use Rattle.pv_dtd.specs.declared.dtd.Dtd.{Dtd}
 use Rattle.pv_dtd.specs.declared.errors.DtdError.{DtdError}
 use Rattle.pv_dtd.specs.declared.errors.DtdError.TheVariants.{Syntax, NoMemory}
