@@ -59,7 +59,7 @@ pub struct FlatDtd {
 impl FlatDtd {
     ghost use Rattle.std.specs.Prelude.{◌≡◌, ◌<◌, IfOk, slice_get};
     ghost use Rattle.std.specs.Option.{option_copied};
-    ghost use Rattle.pv_dtd.specs.Reads.{plain_dtd};
+    ghost use Rattle.pv_dtd.specs.PlainForms.{plain_dtd};
     ghost use Rattle.pv_rules.specs.PlainForms.{IsFlat};
 
     /// Lays out the parts of a DTD, in one pass over its content models.
@@ -101,7 +101,7 @@ impl FlatDtd {
 ghost use Rattle.std.specs.Prelude.{◌≡◌, ◌<◌, slice_get, Some};
 ghost use Rattle.pv_model.specs.PlainForms.{plain_model};
 ghost use Rattle.pv_dtd.specs.Plain.{declared, model_of};
-ghost use Rattle.pv_dtd.specs.Reads.{plain_dtd};
+ghost use Rattle.pv_dtd.specs.PlainForms.{plain_dtd};
 
 /// The content model of a declared name.
 fn declared_model(dtd: &Dtd, name: u32) -> &ContentModel

@@ -1,7 +1,7 @@
 use Rattle.std.proofs.Common.{[], arith, length, ◌++◌, ◌+◌, ◌∷◌, ◌≡◌}
 use Rattle.pv_model.specs.PlainForms.{plain_model}
 use Rattle.pv_dtd.specs.Plain.{parts_in_model}
-use Rattle.pv_dtd.specs.Reads.{plain_dtd}
+use Rattle.pv_dtd.specs.PlainForms.{plain_dtd}
 use Rattle.pv_rules.specs.Flat.{one_content}
 use Rattle.pv_rules.proofs.FlatModels.{contents_more, fits_now, model_fits, model_length, parts_more}
 use Rattle.pv_rules.proofs.flat.FlatDtd.of.Goals as goal

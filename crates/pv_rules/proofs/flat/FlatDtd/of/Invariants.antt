@@ -1,6 +1,6 @@
 use Rattle.std.proofs.Common.{◌≡◌, ◌++◌, ◌+◌, ◌<◌, drop, length}
 use Rattle.pv_dtd.specs.Plain.{parts_in_models}
-use Rattle.pv_dtd.specs.Reads.{plain_dtd}
+use Rattle.pv_dtd.specs.PlainForms.{plain_dtd}
 use Rattle.pv_rules.specs.Flat.{flat_contents, flat_models}
 use Rattle.pv_rules.proofs.flat.FlatDtd.of.Given as goal
 
