@@ -19,7 +19,6 @@ pub mod LiveFacts
 pub mod LiveOnce
 pub mod Locality
 pub mod Located
-pub mod Marks
 pub mod Names
 pub mod Numbers
 pub mod OneList
@@ -34,6 +33,7 @@ pub mod Sound
 pub mod Spanned
 pub mod Spans
 pub mod Stands
+pub mod Tags
 pub mod Texts
 pub mod TreeLists
 pub mod TreeWords

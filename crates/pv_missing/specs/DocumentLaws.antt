@@ -56,11 +56,11 @@ abbrev pub BlanksChangeNothing : Type 0
 BlanksChangeNothing = (g : PlainDtd) (root x t : List ℕ) (k : Hedge) → IsProperDtd g → SameMissing g root (elem x t k done) (bare g false (elem x t k done))
 
 -- tags left out show an extension by as many elements, and each extension can be shown so
-abbrev pub MarksShow : Type 0
-MarksShow = (m e : ℕ) (marks : List ℕ) (h h' : Hedge) → LeavesOut m e marks h h' → Extends h h' × (elements h' ≡ length marks + elements h) × (e ≡ m + elements h')
+abbrev pub TagsExtend : Type 0
+TagsExtend = (m e : ℕ) (added : List ℕ) (h h' : Hedge) → LeavesOut m e added h h' → Extends h h' × (elements h' ≡ length added + elements h) × (e ≡ m + elements h')
 
-abbrev pub ExtensionsHaveMarks : Type 0
-ExtensionsHaveMarks = (m : ℕ) (h h' : Hedge) → Extends h h' → (marks : List ℕ) × LeavesOut m (m + elements h') marks h h'
+abbrev pub ExtensionsHaveTags : Type 0
+ExtensionsHaveTags = (m : ℕ) (h h' : Hedge) → Extends h h' → (added : List ℕ) × LeavesOut m (m + elements h') added h h'
 
 -- A good extension by n elements is what is made level by level, by n elements in all: declared elements with content that fits them stand
 -- at this level, and each element that was there is good with the content that it got.
@@ -73,9 +73,9 @@ KeepsLeaves = (h h' : Hedge) → Extends h h' → leaves_of h' ≡ leaves_of h
 
 -- a completion inserts so many elements, and whatever valid document extends another completes it
 abbrev pub CompletionsInsert : (M N : Type 0) → Type 0
-CompletionsInsert M N = (g : PlainDtd) (root : List ℕ) (doc : PlainDoc M) (body : PlainDoc N) (marks : List ℕ) (k : ℕ) → Completes g root doc body marks k →
+CompletionsInsert M N = (g : PlainDtd) (root : List ℕ) (doc : PlainDoc M) (body : PlainDoc N) (added : List ℕ) (k : ℕ) → Completes g root doc body added k →
     HasCompletion g root k (view doc.root)
 
 abbrev pub ExtensionsComplete : (M N : Type 0) → Type 0
 ExtensionsComplete M N = (g : PlainDtd) (root : List ℕ) (doc : PlainDoc M) (body : PlainDoc N) → IsValid g root (view body.root) → Extends (view doc.root) (view body.root) →
-    body.before ≡ doc.before → body.after ≡ doc.after → (marks : List ℕ) × (k : ℕ) × Completes g root doc body marks k
+    body.before ≡ doc.before → body.after ≡ doc.after → (added : List ℕ) × (k : ℕ) × Completes g root doc body added k

@@ -1,6 +1,6 @@
 //! Laws of whole documents. `M` is the type of marks, and `N` that of the marks of a completion.
 
-ghost use Rattle.pv_missing.specs.DocumentLaws.{BlanksChangeNothing, CompletionsInsert, CutsChangeNothing, ExtensionsComplete, ExtensionsHaveMarks, IsPotentiallyValidByLists, KeepsLeaves, LevelsAgree, Locality, MarksShow, NumbersAddUp, SomeNumber, WeightsAddUp};
+ghost use Rattle.pv_missing.specs.DocumentLaws.{BlanksChangeNothing, CompletionsInsert, CutsChangeNothing, ExtensionsComplete, ExtensionsHaveTags, IsPotentiallyValidByLists, KeepsLeaves, LevelsAgree, Locality, TagsExtend, NumbersAddUp, SomeNumber, WeightsAddUp};
 
 /// A document is potentially valid exactly where each of its lists is live.
 pub fn live_lists_law<M>()
@@ -38,13 +38,13 @@ pub fn blanks_law()
 {}
 
 /// Tags left out show an extension by as many elements.
-pub fn marks_show_law()
-    ensures { MarksShow }
+pub fn tags_extend_law()
+    ensures { TagsExtend }
 {}
 
 /// Each extension can be shown by tags left out.
-pub fn has_marks_law()
-    ensures { ExtensionsHaveMarks }
+pub fn has_tags_law()
+    ensures { ExtensionsHaveTags }
 {}
 
 /// An extension keeps all text, comments and processing instructions, in their order.
