@@ -3,7 +3,7 @@ use Rattle.std.proofs.Common.{Bool, List, ap, false, refl, subst, sym, true, ℕ
 use Rattle.pv_dtd.specs.Plain.{PlainDtd, number_of}
 use Rattle.pv_dtd.specs.Hedge.{Hedge, Leaf, cdata, data_unit, done, elem, leaf, misc, white}
 use Rattle.pv_missing.specs.DocumentLaws.{BlanksChangeNothing}
-use Rattle.pv_missing.specs.Simpler.{bare, is_empty_model, is_empty_number, keep_if}
+use Rattle.pv_missing.specs.SameMissing.{bare, is_empty_model, is_empty_number, keep_if}
 use Rattle.pv_missing.proofs.Alike.{unchanged}
 use Rattle.pv_missing.proofs.AlikeHedges.{Alike, IsEmptyName, alike_blank, alike_done, alike_elem, alike_leaf}
 use Rattle.pv_missing.proofs.Same.{same_missing}

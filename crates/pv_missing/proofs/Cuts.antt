@@ -7,8 +7,8 @@ use Rattle.pv_dtd.specs.Hedge.{Hedge, Leaf, cdata, data_unit, done, elem, leaf, 
 use Rattle.pv_tree.specs.Plain.{Forest, Tree, cdata_node, element, is_element, misc_node, no_trees, text_node, tree}
 use Rattle.pv_tree.specs.View.{spread, view, view_all, view_before}
 use Rattle.pv_missing.specs.DocumentLaws.{CutsChangeNothing}
-use Rattle.pv_missing.specs.Dtds.{IsProperDtd}
-use Rattle.pv_missing.specs.Simpler.{SameMissing, uncut, uncut_all, uncut_before}
+use Rattle.pv_missing.specs.Proper.{IsProperDtd}
+use Rattle.pv_missing.specs.SameMissing.{SameMissing, uncut, uncut_all, uncut_before}
 use Rattle.pv_missing.specs.Units.{HasUnits, HaveUnits}
 use Rattle.pv_missing.proofs.Alike.{unchanged}
 use Rattle.pv_missing.proofs.AlikeHedges.{Alike, IsText, alike_blank, alike_done, alike_elem, alike_leaf, alike_merge, alike_text, alike_white}

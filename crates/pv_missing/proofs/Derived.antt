@@ -6,9 +6,8 @@ use Rattle.pv_model.specs.Plain.{PlainModel, PlainPart, PlainParts, PlainToken, 
 use Rattle.pv_model.specs.Models.{Allows, IsOfAny, IsOfMixed, Matches, MatchesAll, MatchesSome, Rounds, no_round, round}
 use Rattle.pv_dtd.specs.Plain.{IsDeclared, PlainDtd, declared, model_of}
 use Rattle.pv_missing.specs.Covering.{Covers, IsPossibleWith, cover_kept, cover_new, cover_none, cover_text}
-use Rattle.pv_missing.specs.Dtds.{AreFullParts, IsFull}
-use Rattle.pv_missing.specs.Symbols.{IsMember, Symbol, here, later, of_content, of_name, of_part, of_rest}
-use Rattle.pv_missing.proofs.WordDerivations.{AreFull, AtMost, DerivesWord, word_any_name, word_any_none, word_any_text, word_children_part, word_empty_none, word_kept, word_missing, word_mixed_name, word_mixed_none, word_mixed_text, word_opt_none, word_opt_one, word_part_choice, word_part_name, word_part_seq, word_plus_more, word_plus_one, word_rest_last, word_rest_then, word_star_more, word_star_none}
+use Rattle.pv_missing.specs.Proper.{AreFullParts, IsFull}
+use Rattle.pv_missing.proofs.WordDerivations.{IsMember, Symbol, in_front, behind, of_content, of_name, of_part, of_rest, AreFull, AtMost, DerivesWord, word_any_name, word_any_none, word_any_text, word_children_part, word_empty_none, word_kept, word_missing, word_mixed_name, word_mixed_none, word_mixed_text, word_opt_none, word_opt_one, word_part_choice, word_part_name, word_part_seq, word_plus_more, word_plus_one, word_rest_last, word_rest_then, word_star_more, word_star_none}
 
 pub map_join : (a b : List ℕ) → map named (a ++ b) ≡ map named a ++ map named b
 map_join [] b = refl
@@ -138,7 +137,7 @@ module _ (g : PlainDtd) where
     pub most : AtMost g n (of_part member) w
 
   one_more : (n : ℕ) (p : PlainPart) (ps : PlainParts) (w : List PlainToken) → SomeMember n ps w → SomeMember n (part p ps) w
-  one_more n p ps w s = record { member = s.member; is_member = later p ps s.is_member; most = s.most }
+  one_more n p ps w s = record { member = s.member; is_member = behind p ps s.is_member; most = s.most }
 
   up : (n : ℕ) (s t : Symbol) (w : List PlainToken) → ((k : ℕ) → DerivesWord g k s w → DerivesWord g k t w) → AtMost g n s w → AtMost g n t w
   up n s t w f m = record { weight = m.weight; is_most = m.is_most; derives = f m.weight m.derives }
@@ -184,7 +183,7 @@ module _ (g : PlainDtd) where
 
   some_case : (n : ℕ) (p : PlainPart) (ps : PlainParts) (us : List ℕ) (w : List PlainToken) → Each p → ((MatchesSome ps us) → SomeMember n ps w) →
       Matches p us ⊎ MatchesSome ps us → Pieced g n (map named us) w → SomeMember n (part p ps) w
-  some_case n p ps us w each next (inl m) q = record { member = p; is_member = here ps; most = each n us w m q }
+  some_case n p ps us w each next (inl m) q = record { member = p; is_member = in_front ps; most = each n us w m q }
   some_case n p ps us w each next (inr m) q = one_more n p ps w (next m)
 
   mutual

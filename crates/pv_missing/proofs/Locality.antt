@@ -4,7 +4,7 @@ use Rattle.pv_model.specs.Plain.{named}
 use Rattle.pv_dtd.specs.Plain.{PlainDtd, number_of}
 use Rattle.pv_dtd.specs.Hedge.{AreGood, Fits, Hedge, IsValid, done, elem, leaf, token, word}
 use Rattle.pv_missing.specs.Completing.{HasCompletion}
-use Rattle.pv_missing.specs.Dtds.{IsProperDtd}
+use Rattle.pv_missing.specs.Proper.{IsProperDtd}
 use Rattle.pv_missing.specs.Extending.{Extends, both_done, join, new_element, same_element, same_leaf}
 use Rattle.pv_missing.specs.Levels.{IsCompleted, IsGoodExtension}
 use Rattle.pv_missing.proofs.Deep.{GrowsBy, IsCompleted-productive, ext_grows, grows_ext}

@@ -7,7 +7,7 @@ use Rattle.std.proofs.lemmas.Option.{slice_get-get_or, slice_get_within}
 use Rattle.std.proofs.lemmas.Slice.Eq.{bytes_eq-Decides}
 use Rattle.pv_model.specs.Plain.{PlainModel}
 use Rattle.pv_dtd.specs.Plain.{PlainDtd, model_of, number_of, place_of, spelling_of}
-use Rattle.pv_missing.specs.Dtds.{AreDistinct, IsProperDtd}
+use Rattle.pv_missing.specs.Proper.{AreDistinct, IsProperDtd}
 
 head_or_tail : (n x : List ℕ) (ns : List (List ℕ)) (y : ℕ) (b : Bool) → bytes_eq x n ≡ b → (if b then Some 0 else option_map suc (place_of ns x)) ≡ Some y →
     ((y' : ℕ) → place_of ns x ≡ Some y' → slice_get ns y' ≡ Some x) → slice_get (n ∷ ns) y ≡ Some x

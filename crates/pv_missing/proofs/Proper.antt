@@ -9,7 +9,7 @@ use Rattle.pv_chars.specs.PlainNames.{is_plain_name}
 use Rattle.pv_model.specs.Plain.{PlainModel, PlainPart, PlainParts, any, children, choice, empty, mixed, name, no_parts, opt, part, plus, seq, star}
 use Rattle.pv_dtd.specs.Facts.{MAX_NESTING, are_distinct, are_formed, are_names, has_operator, is_formed, is_formed_model, members, nesting}
 use Rattle.pv_dtd.specs.Plain.{PlainDtd, declared}
-use Rattle.pv_missing.specs.Dtds.{AreDistinct, AreFullParts, IsFull, IsFullModel, IsProperDtd}
+use Rattle.pv_missing.specs.Proper.{AreDistinct, AreFullParts, IsFull, IsFullModel, IsProperDtd}
 
 unequal : (n m : List ℕ) → bytes_eq n m ≡ false → n ≢ m
 unequal n m e f = let g = (bytes_eq-Decides n m).1 f in absurd cc

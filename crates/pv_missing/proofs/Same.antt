@@ -5,7 +5,7 @@ use Rattle.pv_dtd.specs.Hedge.{Hedge, elements}
 use Rattle.pv_missing.specs.Completing.{HasCompletion, IsLeast}
 use Rattle.pv_missing.specs.DocumentLaws.{SomeNumber}
 use Rattle.pv_missing.specs.Extending.{Extends, both_done, new_element, same_element, same_leaf}
-use Rattle.pv_missing.specs.Simpler.{SameMissing}
+use Rattle.pv_missing.specs.SameMissing.{SameMissing}
 use Rattle.pv_missing.proofs.Hedges.{elements-join}
 
 -- an extension has some number of new elements

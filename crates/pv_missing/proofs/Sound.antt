@@ -5,11 +5,10 @@ use Rattle.pv_model.specs.Plain.{PlainPart, PlainParts, PlainToken, any, childre
 use Rattle.pv_model.specs.Models.{IsOfAny, IsOfMixed, Matches, MatchesAll, MatchesSome, Rounds, no_round, round}
 use Rattle.pv_dtd.specs.Plain.{PlainDtd, declared, model_of}
 use Rattle.pv_missing.specs.Covering.{Covers, IsPossibleWith, cover_kept, cover_new, cover_none, cover_text}
-use Rattle.pv_missing.specs.Symbols.{IsMember, Symbol, here, later, of_content, of_name, of_part, of_rest}
 use Rattle.pv_missing.specs.WordLaws.{AreProductiveTokens, IsProductiveToken}
 use Rattle.pv_missing.proofs.Depth.{covers-join}
 use Rattle.pv_missing.proofs.Derived.{map_join}
-use Rattle.pv_missing.proofs.WordDerivations.{DerivesWord, word_any_name, word_any_none, word_any_text, word_children_part, word_empty_none, word_kept, word_missing, word_mixed_name, word_mixed_none, word_mixed_text, word_opt_none, word_opt_one, word_part_choice, word_part_name, word_part_seq, word_plus_more, word_plus_one, word_rest_last, word_rest_then, word_star_more, word_star_none}
+use Rattle.pv_missing.proofs.WordDerivations.{IsMember, Symbol, in_front, behind, of_content, of_name, of_part, of_rest, DerivesWord, word_any_name, word_any_none, word_any_text, word_children_part, word_empty_none, word_kept, word_missing, word_mixed_name, word_mixed_none, word_mixed_text, word_opt_none, word_opt_one, word_part_choice, word_part_name, word_part_seq, word_plus_more, word_plus_one, word_rest_last, word_rest_then, word_star_more, word_star_none}
 
 -- covered by a word of this language
 pub record CoveredBy (g : PlainDtd) (L : List ℕ → Type 0) (n : ℕ) (w : List PlainToken) : Type 0 where
@@ -28,8 +27,8 @@ split P [] b p = (tt, p)
 split P (t ∷ a) b p = let q = split P a b p.1 in ((p.0, q.0), q.1)
 
 some_member : (p : PlainPart) (ps : PlainParts) (us : List ℕ) → IsMember p ps → Matches p us → MatchesSome ps us
-some_member p ps us (here qs) m = inl m
-some_member p ps us (later q qs i) m = inr (some_member p qs us i m)
+some_member p ps us (in_front qs) m = inl m
+some_member p ps us (behind q qs i) m = inr (some_member p qs us i m)
 
 plus_rounds : (p : PlainPart) (us : List ℕ) → Matches (plus p) us → Rounds (Matches p) us
 plus_rounds p us (u, v, e, m, r) = round u v us e m r

@@ -3,15 +3,17 @@ use Rattle.std.proofs.Common.{List, Some, [], append-nil, arith, length, refl, s
 use Rattle.std.specs.List.{AllByRecursion}
 use Rattle.pv_model.specs.Plain.{PlainToken, children}
 use Rattle.pv_dtd.specs.Plain.{PlainDtd}
-use Rattle.pv_missing.specs.Derivations.{Derives}
-use Rattle.pv_missing.specs.Dtds.{IsFullModel, IsProperDtd}
-use Rattle.pv_missing.specs.Symbols.{Symbol, of_content, of_name}
-use Rattle.pv_missing.specs.TableLaws.{ContentDerives, RootDerives}
+use Rattle.pv_rules.specs.Derivations.{Derives}
+use Rattle.pv_rules.specs.Rules.{Rule, over}
+use Rattle.pv_rules.specs.Sites.{PlainSite, content_site, name_site}
+use Rattle.pv_missing.specs.Proper.{IsFullModel, IsProperDtd}
+use Rattle.pv_missing.specs.WordLaws.{ContentDerives, RootDerives}
 use Rattle.pv_missing.proofs.Derived.{possible_derives, root_derives}
 use Rattle.pv_missing.proofs.Sound.{sound}
-use Rattle.pv_missing.proofs.Spans.{spans_words, words_spans}
-use Rattle.pv_missing.proofs.Stands.{Stands}
-use Rattle.pv_missing.proofs.WordDerivations.{AreFull, AtMost}
+use Rattle.pv_missing.proofs.FromWords.{from_word}
+use Rattle.pv_missing.proofs.Standing.{Stands}
+use Rattle.pv_missing.proofs.ToWords.{to_word}
+use Rattle.pv_missing.proofs.WordDerivations.{AreFull, AtMost, of_content, of_name}
 
 pub all_at : {A : Type 0} (P : A → Type 0) (xs : List A) (i : ℕ) (x : A) → AllByRecursion P xs → slice_get xs i ≡ Some x → P x
 all_at P [] i x a e = absurd cc
@@ -24,17 +26,24 @@ full_models g proper x p e = all_at IsFullModel g.models x (children p) proper.f
 all_stands : (w : List PlainToken) → Stands w 0 (length w) w
 all_stands w = record { front = []; back = []; is_word = sym (append-nil w); starts = refl; ends = omega arith }
 
-spanned : (g : PlainDtd) (w : List PlainToken) (n : ℕ) (s : Symbol) → AtMost g n s w → (m : ℕ) × (m ≤ n) × Derives g w m s 0 (length w)
-spanned g w n s a = (a.weight, a.is_most, words_spans g w a.weight s 0 (length w) w (all_stands w) a.derives)
+-- a derivation over the whole word, of at most this weight
+abbrev pub DerivesAtMost : PlainDtd → List PlainToken → ℕ → PlainSite → Type 0
+DerivesAtMost g w n s = (m : ℕ) × (m ≤ n) × Derives (Rule g w) m (over s 0 (length w))
+
+name_spanned : (g : PlainDtd) (w : List PlainToken) (n x : ℕ) → AtMost g n (of_name x) w → DerivesAtMost g w n (name_site x)
+name_spanned g w n x a = (a.weight, a.is_most, from_word g w a.weight (of_name x) 0 (length w) w (all_stands w) a.derives)
+
+content_spanned : (g : PlainDtd) (w : List PlainToken) (n x : ℕ) → AtMost g n (of_content x) w → DerivesAtMost g w n (content_site x)
+content_spanned g w n x a = (a.weight, a.is_most, from_word g w a.weight (of_content x) 0 (length w) w (all_stands w) a.derives)
 
 pub content_weights : ContentDerives
 content_weights g x n w proper p = (
-  (λ d. sound g n (of_content x) w (spans_words g w n (of_content x) 0 (length w) w (all_stands w) d) p),
-  (λ q. spanned g w n (of_content x) (possible_derives g (full_models g proper) x n w q)),
+  (λ d. sound g n (of_content x) w (to_word g w n (content_site x) 0 (length w) w (all_stands w) d) p),
+  (λ q. content_spanned g w n x (possible_derives g (full_models g proper) x n w q)),
 )
 
 pub root_weights : RootDerives
 root_weights g x n w proper p = (
-  (λ d. sound g n (of_name x) w (spans_words g w n (of_name x) 0 (length w) w (all_stands w) d) p),
-  (λ q. spanned g w n (of_name x) (root_derives g (full_models g proper) x n w q)),
+  (λ d. sound g n (of_name x) w (to_word g w n (name_site x) 0 (length w) w (all_stands w) d) p),
+  (λ q. name_spanned g w n x (root_derives g (full_models g proper) x n w q)),
 )

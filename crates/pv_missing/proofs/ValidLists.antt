@@ -1,5 +1,5 @@
 -- In a list that is valid nothing is missing, and it weighs 0.
-use Rattle.std.proofs.Common.{List, [], arith, length, refl, ℕ, ◌∷◌, ◌≡◌, ◌≤◌}
+use Rattle.std.proofs.Common.{List, [], arith, refl, ℕ, ◌∷◌, ◌≡◌}
 use Rattle.std.specs.List.{AllByRecursion}
 use Rattle.pv_model.specs.Plain.{PlainToken, named, other, text}
 use Rattle.pv_dtd.specs.Plain.{PlainDtd, number_of}
@@ -7,15 +7,14 @@ use Rattle.pv_tree.specs.Lists.{IsOwnValid, IsRootList, IsValidBy, Owner, an_ele
 use Rattle.pv_tree.specs.Plain.{Forest, cdata_node, element, misc_node, no_trees, text_node, tree}
 use Rattle.pv_tree.specs.Words.{word_of}
 use Rattle.pv_missing.specs.Covering.{Covers, cover_kept, cover_none, cover_text}
-use Rattle.pv_missing.specs.Derivations.{Derives, IsWeight}
-use Rattle.pv_missing.specs.Dtds.{IsProperDtd}
+use Rattle.pv_rules.specs.Sites.{PlainSite, content_site, name_site}
+use Rattle.pv_missing.specs.Proper.{IsProperDtd}
 use Rattle.pv_missing.specs.ListLaws.{ValidMissesNone}
 use Rattle.pv_missing.specs.Missing.{MissesBy, MissesInContent, MissesInRoot}
-use Rattle.pv_missing.specs.Symbols.{Symbol, of_content, of_name}
-use Rattle.pv_missing.specs.Weighing.{WeighsBy}
+use Rattle.pv_missing.specs.Weighing.{WeighsBy, WeighsWhole}
 use Rattle.pv_missing.proofs.DocLists.{live_misses_by}
 use Rattle.pv_missing.proofs.OneList.{IsCoverable, covered_by_productive, covered_names}
-use Rattle.pv_missing.proofs.Spanned.{content_weights, root_weights}
+use Rattle.pv_missing.proofs.Spanned.{DerivesAtMost, content_weights, root_weights}
 
 -- a word that can be covered covers itself
 covers_itself : (g : PlainDtd) (w : List PlainToken) → AllByRecursion (IsCoverable g) w → Covers g 0 w w
@@ -24,7 +23,7 @@ covers_itself g (named y ∷ w) a = cover_kept 0 y w w a.0 (covers_itself g w a.
 covers_itself g (text ∷ w) a = cover_text 0 w w (covers_itself g w a.1)
 covers_itself g (other ∷ w) a = absurd a.0
 
-weighs_nothing : (g : PlainDtd) (w : List PlainToken) (s : Symbol) → (m : ℕ) × (m ≤ 0) × Derives g w m s 0 (length w) → IsWeight g w s 0 (length w) 0
+weighs_nothing : (g : PlainDtd) (w : List PlainToken) (s : PlainSite) → DerivesAtMost g w 0 s → WeighsWhole g w s 0
 weighs_nothing g w s (m, le, d) = record { bounded = omega arith; least = λ n _. omega arith; reached = λ _. let e : m ≡ 0 = omega arith in rw e at d }
 
 module _ {M : Type 0} (g : PlainDtd) (root : List ℕ) where
@@ -63,13 +62,13 @@ module _ {M : Type 0} (g : PlainDtd) (root : List ℕ) where
   weighs_none proper the_document k p = (
     p.number,
     p.is_owner,
-    weighs_nothing g (word_of g k) (of_name p.number)
+    weighs_nothing g (word_of g k) (name_site p.number)
         ((root_weights g p.number 0 (word_of g k) proper (covered_names g 0 (named p.number ∷ []) (word_of g k) p.possible)).1 p.possible),
   )
   weighs_none proper (an_element x) k p = (
     p.number,
     p.is_owner,
-    weighs_nothing g (word_of g k) (of_content p.number)
+    weighs_nothing g (word_of g k) (content_site p.number)
         ((content_weights g p.number 0 (word_of g k) proper (covered_names g 0 p.possible.whole (word_of g k) p.possible.covers)).1 p.possible),
   )
 

@@ -1,11 +1,21 @@
--- Derivations over words in place of spans of one word.
+-- The missing grammar over terms and words, in place of numbers and spans: what its symbols derive.
 use Rattle.std.specs.Prelude.{Contains}
 use Rattle.std.proofs.Common.{List, Some, [], suc, ℕ, ◌++◌, ◌+◌, ◌∷◌, ◌≡◌, ◌≢◌, ◌≤◌}
 use Rattle.pv_model.specs.Plain.{PlainPart, PlainParts, PlainToken, any, children, choice, empty, mixed, name, named, no_parts, opt, part, plus, seq, star, text}
 use Rattle.pv_dtd.specs.Plain.{IsDeclared, PlainDtd, model_of}
-use Rattle.pv_missing.specs.Derivations.{heaviest}
-use Rattle.pv_missing.specs.Dtds.{IsFull}
-use Rattle.pv_missing.specs.Symbols.{IsMember, Symbol, of_content, of_name, of_part, of_rest}
+use Rattle.pv_missing.specs.Proper.{IsFull}
+
+-- the symbols: an element of a name, the content of one, a content particle, and the members of a sequence from some member on
+pub data Symbol : Type 0 where
+  of_name : ℕ → Symbol
+  of_content : ℕ → Symbol
+  of_part : PlainPart → Symbol
+  of_rest : PlainParts → Symbol
+
+-- p is one of the members
+pub data IsMember (p : PlainPart) : PlainParts → Type 0 where
+  in_front : (ps : PlainParts) → IsMember p (part p ps)
+  behind : (q : PlainPart) (ps : PlainParts) → IsMember p ps → IsMember p (part q ps)
 
 -- the symbol has a derivation of this weight over this word
 pub data DerivesWord (g : PlainDtd) : ℕ → Symbol → List PlainToken → Type 0 where
@@ -35,12 +45,6 @@ pub data DerivesWord (g : PlainDtd) : ℕ → Symbol → List PlainToken → Typ
   word_rest_last : (n : ℕ) (p : PlainPart) (w : List PlainToken) → DerivesWord g n (of_part p) w → DerivesWord g n (of_rest (part p no_parts)) w
   word_rest_then : (n a b : ℕ) (p q : PlainPart) (ps : PlainParts) (u v w : List PlainToken) → n ≡ a + b → w ≡ u ++ v →
       DerivesWord g a (of_part p) u → DerivesWord g b (of_rest (part q ps)) v → DerivesWord g n (of_rest (part p (part q ps))) w
-
--- the weight of a symbol over a word: the least of its derivations, cut
-pub record IsWordWeight (g : PlainDtd) (s : Symbol) (w : List PlainToken) (k : ℕ) : Type 0 where
-  pub bounded : k ≤ heaviest
-  pub least : (n : ℕ) → DerivesWord g n s w → k ≤ n
-  pub reached : suc k ≤ heaviest → DerivesWord g k s w
 
 abbrev pub AreFull : PlainDtd → Type 0
 AreFull g = (x : ℕ) (p : PlainPart) → model_of g x ≡ Some (children p) → IsFull p

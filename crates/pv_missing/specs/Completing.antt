@@ -24,19 +24,25 @@ pub record IsLeast (g : PlainDtd) (root : List ℕ) (n : ℕ) (h : Hedge) : Type
   pub completes : HasCompletion g root n h
   pub least : (m : ℕ) → HasCompletion g root m h → n ≤ m
 
--- The elements of h' are numbered in document order, from m up to e. Those with the numbers in `added`, in rising order, have no
--- attributes, and h' without their tags is h.
+-- The elements of h' are numbered in document order, from m up to e. Those with the numbers in
+-- `added`, in rising order, have no attributes, and h' without their tags is h.
 pub data LeavesOut : ℕ → ℕ → List ℕ → Hedge → Hedge → Type 0 where
   out_done : (m e : ℕ) → e ≡ m → LeavesOut m e [] done done
-  out_leaf : (m e : ℕ) (added : List ℕ) (l : Leaf) (h h' : Hedge) → LeavesOut m e added h h' → LeavesOut m e added (leaf l h) (leaf l h')
+  out_leaf : (m e : ℕ) (added : List ℕ) (l : Leaf) (h h' : Hedge) → LeavesOut m e added h h' →
+      LeavesOut m e added (leaf l h) (leaf l h')
   out_kept : (m i e : ℕ) (added one two x t : List ℕ) (k k' h h' : Hedge) → added ≡ one ++ two →
-      LeavesOut (suc m) i one k k' → LeavesOut i e two h h' → LeavesOut m e added (elem x t k h) (elem x t k' h')
-  out_new : (m i e : ℕ) (added one two x : List ℕ) (h h1 h2 k' h' : Hedge) → added ≡ m ∷ (one ++ two) → h ≡ join h1 h2 →
-      LeavesOut (suc m) i one h1 k' → LeavesOut i e two h2 h' → LeavesOut m e added h (elem x [] k' h')
+      LeavesOut (suc m) i one k k' → LeavesOut i e two h h' →
+      LeavesOut m e added (elem x t k h) (elem x t k' h')
+  out_new : (m i e : ℕ) (added one two x : List ℕ) (h h1 h2 k' h' : Hedge) →
+      added ≡ m ∷ (one ++ two) → h ≡ join h1 h2 →
+      LeavesOut (suc m) i one h1 k' → LeavesOut i e two h2 h' →
+      LeavesOut m e added h (elem x [] k' h')
 
--- The second document is valid, is the first with k elements inserted, and has its bytes before and after the root; `added` are the
--- numbers of the inserted elements in document order, the root having the number 0.
-pub record Completes {M N : Type 0} (g : PlainDtd) (root : List ℕ) (doc : PlainDoc M) (body : PlainDoc N) (added : List ℕ) (k : ℕ) : Type 0 where
+-- The second document is valid, is the first with k elements inserted, and has its bytes before and
+-- after the root; `added` are the numbers of the inserted elements in document order, the root
+-- having the number 0.
+pub record Completes {M N : Type 0} (g : PlainDtd) (root : List ℕ) (doc : PlainDoc M)
+    (body : PlainDoc N) (added : List ℕ) (k : ℕ) : Type 0 where
   pub valid : IsValid g root (view body.root)
   pub extends : Extends (view doc.root) (view body.root)
   pub inserted : elements (view body.root) ≡ k + elements (view doc.root)

@@ -9,8 +9,10 @@ use Rattle.pv_dtd.specs.Productive.{IsProductive}
 pub data Covers (g : PlainDtd) : ℕ → List PlainToken → List PlainToken → Type 0 where
   cover_none : (n : ℕ) → n ≡ 0 → Covers g n [] []
   cover_text : (n : ℕ) (u w : List PlainToken) → Covers g n u w → Covers g n (text ∷ u) (text ∷ w)
-  cover_kept : (n y : ℕ) (u w : List PlainToken) → IsProductive g y → Covers g n u w → Covers g n (named y ∷ u) (named y ∷ w)
-  cover_new : (n a b y : ℕ) (m : PlainModel) (v u w1 w2 w : List PlainToken) → n ≡ suc (a + b) → w ≡ w1 ++ w2 → model_of g y ≡ Some m →
+  cover_kept : (n y : ℕ) (u w : List PlainToken) → IsProductive g y → Covers g n u w →
+      Covers g n (named y ∷ u) (named y ∷ w)
+  cover_new : (n a b y : ℕ) (m : PlainModel) (v u w1 w2 w : List PlainToken) → n ≡ suc (a + b) →
+      w ≡ w1 ++ w2 → model_of g y ≡ Some m →
       Allows (declared g) m v → Covers g a v w1 → Covers g b u w2 → Covers g n (named y ∷ u) w
 
 -- the word is possible for the content of an element of number x, with n missing elements

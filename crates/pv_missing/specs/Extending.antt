@@ -8,13 +8,15 @@ join done b = b
 join (leaf l a) b = leaf l (join a b)
 join (elem x t k a) b = elem x t k (join a b)
 
--- The second hedge is the first with elements inserted: a new element has no attributes, and stands round some items that follow one
--- another, or round none. A unit is never cut.
+-- The second hedge is the first with elements inserted: a new element has no attributes, and stands
+-- round some items that follow one another, or round none. A unit is never cut.
 pub data Extends : Hedge → Hedge → Type 0 where
   both_done : Extends done done
   same_leaf : (l : Leaf) (h h' : Hedge) → Extends h h' → Extends (leaf l h) (leaf l h')
-  same_element : (x t : List ℕ) (k k' h h' : Hedge) → Extends k k' → Extends h h' → Extends (elem x t k h) (elem x t k' h')
-  new_element : (x : List ℕ) (h h1 h2 k' h' : Hedge) → h ≡ join h1 h2 → Extends h1 k' → Extends h2 h' → Extends h (elem x [] k' h')
+  same_element : (x t : List ℕ) (k k' h h' : Hedge) → Extends k k' → Extends h h' →
+      Extends (elem x t k h) (elem x t k' h')
+  new_element : (x : List ℕ) (h h1 h2 k' h' : Hedge) → h ≡ join h1 h2 → Extends h1 k' →
+      Extends h2 h' → Extends h (elem x [] k' h')
 
 -- the leaves at all depths, in document order
 abbrev pub leaves_of : Hedge → List Leaf

@@ -1,4 +1,4 @@
-pub mod Dtds
+pub mod Proper
 pub mod Extending
 pub mod Completing
 pub mod Filling
@@ -7,14 +7,9 @@ pub mod LiveWords
 pub mod Verdicts
 pub mod Missing
 pub mod Levels
-pub mod Symbols
-pub mod Derivations
-pub mod Numbering
-pub mod Closed
 pub mod Units
 pub mod Weighing
-pub mod Simpler
+pub mod SameMissing
 pub mod WordLaws
 pub mod ListLaws
 pub mod DocumentLaws
-pub mod TableLaws

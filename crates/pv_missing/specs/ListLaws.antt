@@ -1,12 +1,12 @@
 -- Laws of one list, each a statement. M is the type of marks.
-use Rattle.std.specs.Prelude.{List, Some, ℕ, ◌+◌, ◌↔◌, ◌≡◌}
+use Rattle.std.specs.Prelude.{List, Some, ℕ, ◌+◌, ◌↔◌, ◌<◌, ◌≡◌, ◌≤◌}
 use Rattle.pv_model.specs.Plain.{PlainModel, PlainToken, empty}
 use Rattle.pv_dtd.specs.Plain.{PlainDtd, model_of}
 use Rattle.pv_dtd.specs.Hedge.{Hedge, done, elements, word}
 use Rattle.pv_tree.specs.Lists.{IsValidList, Listed, Owner, an_element, the_document}
 use Rattle.pv_tree.specs.Plain.{Forest, Tree, cdata_node, element, misc_node, no_trees, text_node, tree}
 use Rattle.pv_missing.specs.Covering.{IsPossibleRootWith, IsPossibleWith}
-use Rattle.pv_missing.specs.Dtds.{IsProperDtd}
+use Rattle.pv_missing.specs.Proper.{IsProperDtd}
 use Rattle.pv_missing.specs.Extending.{Extends}
 use Rattle.pv_missing.specs.LiveWords.{IsLiveWord}
 use Rattle.pv_missing.specs.Levels.{CanFit, CanFitRoot, InsertsHere}
@@ -14,23 +14,29 @@ use Rattle.pv_dtd.specs.Productive.{AreProductive, IsProductiveName}
 use Rattle.pv_missing.specs.Verdicts.{IsFirstImpossible, IsLive, IsVerdict}
 use Rattle.pv_missing.specs.Missing.{Misses}
 use Rattle.pv_missing.specs.Weighing.{Weighs}
+use Rattle.pv_rules.specs.Derivations.{heaviest}
 use Rattle.pv_tree.specs.declared.nodes.Verdict.{Verdict}
 use Rattle.pv_tree.specs.declared.nodes.Verdict.TheVariants as verdict
 
--- The live word of an element's content is possible, with n elements missing, exactly where n elements inserted at its level make the
--- content fit. Of the elements there each has a productive name, and an EMPTY element has no content.
+-- The live word of an element's content is possible, with n elements missing, exactly where n
+-- elements inserted at its level make the content fit. Of the elements there each has a productive
+-- name, and an EMPTY element has no content.
 abbrev pub OneList : Type 0
-OneList = (g : PlainDtd) (x n : ℕ) (m : PlainModel) (h : Hedge) (live : List PlainToken) → IsProperDtd g → model_of g x ≡ Some m →
-    (m ≡ empty → h ≡ done) → AreProductive g h → IsLiveWord g (word g h) live → IsPossibleWith g x n live ↔ CanFit g m n h
+OneList = (g : PlainDtd) (x n : ℕ) (m : PlainModel) (h : Hedge) (live : List PlainToken) →
+    IsProperDtd g → model_of g x ≡ Some m →
+    (m ≡ empty → h ≡ done) → AreProductive g h → IsLiveWord g (word g h) live →
+    IsPossibleWith g x n live ↔ CanFit g m n h
 
 -- the same of the document node
 abbrev pub RootList : Type 0
-RootList = (g : PlainDtd) (y n : ℕ) (h : Hedge) (live : List PlainToken) → IsProperDtd g → AreProductive g h → IsLiveWord g (word g h) live →
+RootList = (g : PlainDtd) (y n : ℕ) (h : Hedge) (live : List PlainToken) → IsProperDtd g →
+    AreProductive g h → IsLiveWord g (word g h) live →
     IsPossibleRootWith g y n live ↔ CanFitRoot g y n h
 
 -- what is inserted at one level is an extension by as many elements
 abbrev pub HereExtends : Type 0
-HereExtends = (g : PlainDtd) (n : ℕ) (h h' : Hedge) → InsertsHere g n h h' → Extends h h' × (elements h' ≡ n + elements h)
+HereExtends = (g : PlainDtd) (n : ℕ) (h h' : Hedge) → InsertsHere g n h h' →
+    Extends h h' × (elements h' ≡ n + elements h)
 
 abbrev pub IsProductiveOwner : PlainDtd → Owner → Type 0
 IsProductiveOwner g the_document = Unit {0}
@@ -49,22 +55,34 @@ AreProductiveKids g (tree t rest) = IsProductiveNode g t × AreProductiveKids g 
 
 -- a list that is valid by itself, whose owner and names are productive, is live
 abbrev pub OwnValidIsLive : (M : Type 0) → Type 0
-OwnValidIsLive M = (g : PlainDtd) (root : List ℕ) (list : Listed M) → IsValidList g root list → IsProductiveOwner g list.owner →
-    AreProductiveKids g list.kids → IsLive g root list
+OwnValidIsLive M = (g : PlainDtd) (root : List ℕ) (list : Listed M) →
+    IsValidList g root list → IsProductiveOwner g list.owner → AreProductiveKids g list.kids →
+    IsLive g root list
 
 -- a list is live exactly where some number of elements is missing in it
 abbrev pub LiveMisses : (M : Type 0) → Type 0
-LiveMisses M = (g : PlainDtd) (root : List ℕ) (list : Listed M) → IsLive g root list ↔ ((n : ℕ) × Misses g root list n)
+LiveMisses M = (g : PlainDtd) (root : List ℕ) (list : Listed M) →
+    IsLive g root list ↔ ((n : ℕ) × Misses g root list n)
 
 -- in a Valid list nothing is missing, and it weighs 0
 abbrev pub ValidMissesNone : (M : Type 0) → Type 0
-ValidMissesNone M = (g : PlainDtd) (root : List ℕ) (list : Listed M) → IsProperDtd g → IsVerdict g root list verdict.Valid →
+ValidMissesNone M = (g : PlainDtd) (root : List ℕ) (list : Listed M) →
+    IsProperDtd g → IsVerdict g root list verdict.Valid →
     Misses g root list 0 × Weighs g root list 0
+
+-- The weight of a live list is at most each number of elements missing in it, and is such a number
+-- where it isn't cut.
+abbrev pub WeightIsLeast : (M : Type 0) → Type 0
+WeightIsLeast M = (g : PlainDtd) (root : List ℕ) (list : Listed M) (n k : ℕ) →
+    IsProperDtd g → Misses g root list n → Weighs g root list k →
+    (k ≤ n) × (k < heaviest → Misses g root list k)
 
 -- a list has at most one verdict
 abbrev pub OneVerdict : (M : Type 0) → Type 0
-OneVerdict M = (g : PlainDtd) (root : List ℕ) (list : Listed M) (v v' : Verdict) → IsVerdict g root list v → IsVerdict g root list v' → v ≡ v'
+OneVerdict M = (g : PlainDtd) (root : List ℕ) (list : Listed M) (v v' : Verdict) →
+    IsVerdict g root list v → IsVerdict g root list v' → v ≡ v'
 
 -- lists have at most one first impossible one
 abbrev pub OneFirst : (M : Type 0) → Type 0
-OneFirst M = (g : PlainDtd) (root : List ℕ) (lists : List (Listed M)) (p q : List ℕ) → IsFirstImpossible g root lists p → IsFirstImpossible g root lists q → p ≡ q
+OneFirst M = (g : PlainDtd) (root : List ℕ) (lists : List (Listed M)) (p q : List ℕ) →
+    IsFirstImpossible g root lists p → IsFirstImpossible g root lists q → p ≡ q

@@ -9,7 +9,8 @@ use Rattle.pv_missing.specs.Covering.{IsPossibleRootWith, IsPossibleWith}
 use Rattle.pv_dtd.specs.Productive.{IsProductive}
 
 -- the kids may stand in an element of this name, and n elements are missing among them
-pub record MissesInContent {M : Type 0} (g : PlainDtd) (x : List ℕ) (kids : Forest M) (n : ℕ) : Type 0 where
+pub record MissesInContent {M : Type 0} (g : PlainDtd) (x : List ℕ) (kids : Forest M) (n : ℕ)
+    : Type 0 where
   pub number : ℕ
   pub is_owner : number_of g x ≡ Some number
   pub productive : IsProductive g number
@@ -17,7 +18,8 @@ pub record MissesInContent {M : Type 0} (g : PlainDtd) (x : List ℕ) (kids : Fo
   pub possible : IsPossibleWith g number n (word_of g kids)
 
 -- they may stand in the document node, and n elements are missing above and beside the root
-pub record MissesInRoot {M : Type 0} (g : PlainDtd) (root : List ℕ) (kids : Forest M) (n : ℕ) : Type 0 where
+pub record MissesInRoot {M : Type 0} (g : PlainDtd) (root : List ℕ) (kids : Forest M) (n : ℕ)
+    : Type 0 where
   pub number : ℕ
   pub is_owner : number_of g root ≡ Some number
   pub possible : IsPossibleRootWith g number n (word_of g kids)
@@ -33,4 +35,5 @@ Misses g root list n = MissesBy g root list.owner list.kids n
 -- each list is live, and n elements are missing in them in all
 abbrev pub MissInAll : {M : Type 0} → PlainDtd → List ℕ → List (Listed M) → ℕ → Type 0
 MissInAll g root [] n = n ≡ 0
-MissInAll g root (list ∷ lists) n = (a : ℕ) × (b : ℕ) × (n ≡ a + b) × Misses g root list a × MissInAll g root lists b
+MissInAll g root (list ∷ lists) n = (a : ℕ) × (b : ℕ) × (n ≡ a + b) × Misses g root list a ×
+    MissInAll g root lists b

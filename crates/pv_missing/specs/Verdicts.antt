@@ -12,8 +12,8 @@ use Rattle.pv_dtd.specs.Productive.{IsProductive}
 use Rattle.pv_tree.specs.declared.nodes.Verdict.{Verdict}
 use Rattle.pv_tree.specs.declared.nodes.Verdict.TheVariants as verdict
 
--- The kids may stand in an element of this name: the name is productive, an EMPTY element has no kids of any kind, and the live word
--- is possible for its content.
+-- The kids may stand in an element of this name: the name is productive, an EMPTY element has no
+-- kids of any kind, and the live word is possible for its content.
 pub record IsLiveContent {M : Type 0} (g : PlainDtd) (x : List ℕ) (kids : Forest M) : Type 0 where
   pub number : ℕ
   pub is_owner : number_of g x ≡ Some number
@@ -39,7 +39,8 @@ IsLiveBy g root (an_element x) kids = IsLiveContent g x kids
 abbrev pub IsLive : {M : Type 0} → PlainDtd → List ℕ → Listed M → Type 0
 IsLive g root list = IsLiveBy g root list.owner list.kids
 
--- Impossible where the list isn't live; else Valid where it is valid by itself, and Possible where it isn't
+-- Impossible where the list isn't live; else Valid where it is valid by itself, and Possible where
+-- it isn't
 abbrev pub Judges : Verdict → Type 0 → Type 0 → Type 0
 Judges verdict.Valid live own = live × own
 Judges verdict.Possible live own = live × (own → ⊥)
@@ -52,10 +53,12 @@ IsVerdict g root list v = Judges v (IsLive g root list) (IsValidList g root list
 -- the verdicts of lists, in their order
 abbrev pub AreVerdicts : {M : Type 0} → PlainDtd → List ℕ → List (Listed M) → List Verdict → Type 0
 AreVerdicts g root [] vs = vs ≡ []
-AreVerdicts g root (list ∷ lists) vs = (v : Verdict) × (rest : List Verdict) × (vs ≡ v ∷ rest) × IsVerdict g root list v × AreVerdicts g root lists rest
+AreVerdicts g root (list ∷ lists) vs = (v : Verdict) × (rest : List Verdict) × (vs ≡ v ∷ rest) ×
+    IsVerdict g root list v × AreVerdicts g root lists rest
 
 -- the path of the first impossible list
-pub record IsFirstImpossible {M : Type 0} (g : PlainDtd) (root : List ℕ) (lists : List (Listed M)) (path : List ℕ) : Type 0 where
+pub record IsFirstImpossible {M : Type 0} (g : PlainDtd) (root : List ℕ) (lists : List (Listed M))
+    (path : List ℕ) : Type 0 where
   pub before : List (Listed M)
   pub list : Listed M
   pub after : List (Listed M)

@@ -4,8 +4,11 @@ use Rattle.std.specs.List.{AllByRecursion}
 use Rattle.pv_model.specs.Plain.{PlainToken, named, other, text}
 use Rattle.pv_dtd.specs.Plain.{PlainDtd}
 use Rattle.pv_dtd.specs.Hedge.{AreGood, Hedge, done, elem}
+use Rattle.pv_rules.specs.Derivations.{Derives}
+use Rattle.pv_rules.specs.Rules.{Rule, over}
+use Rattle.pv_rules.specs.Sites.{content_site, name_site}
 use Rattle.pv_missing.specs.Covering.{IsPossibleRootWith, IsPossibleWith}
-use Rattle.pv_missing.specs.Dtds.{IsProperDtd}
+use Rattle.pv_missing.specs.Proper.{IsProperDtd}
 use Rattle.pv_missing.specs.Filling.{IsPossible, IsPossibleRoot}
 use Rattle.pv_missing.specs.LiveWords.{IsLiveWord}
 use Rattle.pv_dtd.specs.Productive.{IsLeastSize, IsProductive, IsProductiveName}
@@ -22,12 +25,14 @@ AreProductiveTokens g w = AllByRecursion (IsProductiveToken g) w
 -- depths, and finite derivations with their numbers of missing elements, say the same
 abbrev pub DepthsAgree : Type 0
 DepthsAgree = (g : PlainDtd) (x : ℕ) (w : List PlainToken) →
-    (IsPossible g x w ↔ ((n : ℕ) × IsPossibleWith g x n w)) × (IsPossibleRoot g x w ↔ ((n : ℕ) × IsPossibleRootWith g x n w))
+    (IsPossible g x w ↔ ((n : ℕ) × IsPossibleWith g x n w)) ×
+    (IsPossibleRoot g x w ↔ ((n : ℕ) × IsPossibleRootWith g x n w))
 
 -- a possible word stays possible where a token is left out
 abbrev pub LeftOut : Type 0
 LeftOut = (g : PlainDtd) (x : ℕ) (a b : List PlainToken) (t : PlainToken) →
-    (IsPossible g x (a ++ t ∷ b) → IsPossible g x (a ++ b)) × (IsPossibleRoot g x (a ++ t ∷ b) → IsPossibleRoot g x (a ++ b))
+    (IsPossible g x (a ++ t ∷ b) → IsPossible g x (a ++ b)) ×
+    (IsPossibleRoot g x (a ++ t ∷ b) → IsPossibleRoot g x (a ++ b))
 
 -- and where a text is doubled, or two side by side are merged, with as many elements missing
 abbrev pub Doubled : Type 0
@@ -38,9 +43,11 @@ Doubled = (g : PlainDtd) (x n : ℕ) (a b : List PlainToken) →
 -- the live word is possible exactly where the word is, with as many elements missing
 abbrev pub LiveAgrees : Type 0
 LiveAgrees = (g : PlainDtd) (x n : ℕ) (w live : List PlainToken) → IsLiveWord g w live →
-    (IsPossibleWith g x n w ↔ IsPossibleWith g x n live) × (IsPossibleRootWith g x n w ↔ IsPossibleRootWith g x n live)
+    (IsPossibleWith g x n w ↔ IsPossibleWith g x n live) ×
+    (IsPossibleRootWith g x n w ↔ IsPossibleRootWith g x n live)
 
--- a live word has productive names only, has as many tokens as the word, and is the word itself where it is possible
+-- a live word has productive names only, has as many tokens as the word, and is the word itself
+-- where it is possible
 pub record FollowsWord (g : PlainDtd) (w live : List PlainToken) : Type 0 where
   pub names : AreProductiveTokens g live
   pub same_length : length live ≡ length w
@@ -52,11 +59,13 @@ LiveFollows = (g : PlainDtd) (w live : List PlainToken) → IsLiveWord g w live 
 
 -- an element for whose content some word is possible has a productive name
 abbrev pub OwnerIsProductive : Type 0
-OwnerIsProductive = (g : PlainDtd) (x : ℕ) (w : List PlainToken) → IsProperDtd g → IsPossible g x w → IsProductive g x
+OwnerIsProductive = (g : PlainDtd) (x : ℕ) (w : List PlainToken) → IsProperDtd g →
+    IsPossible g x w → IsProductive g x
 
 -- a name is productive exactly where some hedge of one element of this name is good
 abbrev pub ProductiveNames : Type 0
-ProductiveNames = (g : PlainDtd) (x : List ℕ) → IsProductiveName g x ↔ ((attrs : List ℕ) × (kids : Hedge) × AreGood g (elem x attrs kids done))
+ProductiveNames = (g : PlainDtd) (x : List ℕ) →
+    IsProductiveName g x ↔ ((attrs : List ℕ) × (kids : Hedge) × AreGood g (elem x attrs kids done))
 
 -- n elements are missing in empty content
 abbrev pub IsLeastInNothing : PlainDtd → ℕ → ℕ → Type 0
@@ -64,8 +73,26 @@ IsLeastInNothing g x n = IsPossibleWith g x n [] × ((m : ℕ) → IsPossibleWit
 
 -- the least size of a name is one more than the least number of elements missing in empty content
 abbrev pub SizeIsMissing : Type 0
-SizeIsMissing = (g : PlainDtd) (x n : ℕ) → IsProperDtd g → IsLeastSize g x (suc n) ↔ IsLeastInNothing g x n
+SizeIsMissing = (g : PlainDtd) (x n : ℕ) → IsProperDtd g →
+    IsLeastSize g x (suc n) ↔ IsLeastInNothing g x n
 
 -- a word has at most one live word
 abbrev pub OneLiveWord : Type 0
 OneLiveWord = (g : PlainDtd) (w a b : List PlainToken) → IsLiveWord g w a → IsLiveWord g w b → a ≡ b
+
+-- A word whose names are productive is possible exactly where the content has a derivation over all
+-- of it; the derivation needs no more than the missing elements weigh.
+abbrev pub ContentDerives : Type 0
+ContentDerives = (g : PlainDtd) (x n : ℕ) (w : List PlainToken) → IsProperDtd g →
+    AreProductiveTokens g w →
+    (Derives (Rule g w) n (over (content_site x) 0 (length w)) → IsPossibleWith g x n w) ×
+    (IsPossibleWith g x n w → (m : ℕ) × (m ≤ n) ×
+    Derives (Rule g w) m (over (content_site x) 0 (length w)))
+
+-- the same of the document node
+abbrev pub RootDerives : Type 0
+RootDerives = (g : PlainDtd) (x n : ℕ) (w : List PlainToken) → IsProperDtd g →
+    AreProductiveTokens g w →
+    (Derives (Rule g w) n (over (name_site x) 0 (length w)) → IsPossibleRootWith g x n w) ×
+    (IsPossibleRootWith g x n w → (m : ℕ) × (m ≤ n) ×
+    Derives (Rule g w) m (over (name_site x) 0 (length w)))

@@ -1,7 +1,6 @@
 //! The laws of potential validity: each is the contract of a function that does nothing.
 
 pub mod documents;
-pub mod dtds;
 pub mod lists;
-pub mod tables;
+pub mod proper;
 pub mod words;

@@ -5,3 +5,5 @@
 #![tactic(auto)]
 
 pub mod laws;
+
+pub use pv_rules::Site;

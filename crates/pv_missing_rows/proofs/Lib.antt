@@ -1,9 +1,12 @@
+pub mod AnyRows
 pub mod Bounds
 pub mod DeepRows
-pub mod LastRows
-pub mod OtherRows
+pub mod DoublingRows
+pub mod NestedRows
+pub mod PairRows
 pub mod RowTools
 pub mod SectionBounds
 pub mod SectionRows
 pub mod Sections
+pub mod TableRows
 pub mod WordRows

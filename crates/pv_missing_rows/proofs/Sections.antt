@@ -4,7 +4,7 @@ use Rattle.std.specs.List.{AllByRecursion}
 use Rattle.pv_model.specs.Plain.{choice, empty, mixed, name, named, no_parts, opt, part, plus, seq, star}
 use Rattle.pv_model.specs.Models.{Allows, Matches, Rounds, no_round, round}
 use Rattle.pv_missing.specs.Covering.{Covers, cover_none}
-use Rattle.pv_missing.specs.Dtds.{IsProperDtd}
+use Rattle.pv_missing.specs.Proper.{IsProperDtd}
 use Rattle.pv_dtd.specs.Productive.{IsProductive}
 use Rattle.pv_missing_rows.specs.Dtds.{doc_model, sec_model, sections_dtd}
 use Rattle.pv_missing.proofs.LeftOut.{possible_productive}

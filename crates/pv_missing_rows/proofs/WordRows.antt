@@ -1,14 +1,14 @@
--- The rows of words.
+-- The rows of words and of the numbers of parts.
 use Rattle.std.proofs.Common.{[], refl, ℕ, ◌∷◌}
 use Rattle.pv_model.specs.Plain.{empty, named, other, text}
 use Rattle.pv_missing.specs.Covering.{IsPossibleWith, cover_none}
 use Rattle.pv_missing_rows.specs.Dtds.{any_dtd, endless_dtd, nested_dtd, sections_dtd}
-use Rattle.pv_missing_rows.specs.Rows.{OtherWords, SectionWords}
+use Rattle.pv_missing_rows.specs.Rows.{NumbersRow, OtherWords, SectionWords}
 use Rattle.pv_missing_rows.proofs.Bounds.{opened}
 use Rattle.pv_missing.proofs.Growing.{covers-none}
-use Rattle.pv_missing_rows.proofs.LastRows.{other_never}
+use Rattle.pv_missing_rows.proofs.AnyRows.{other_never}
 use Rattle.pv_missing.proofs.PossibleWords.{depths}
-use Rattle.pv_missing_rows.proofs.OtherRows.{endless_word, three_word}
+use Rattle.pv_missing_rows.proofs.NestedRows.{endless_word, three_word}
 use Rattle.pv_missing_rows.proofs.RowTools.{possible_with}
 use Rattle.pv_missing_rows.proofs.SectionBounds.{no_late_head}
 use Rattle.pv_missing_rows.proofs.SectionRows.{hello_word, root_word, title_word}
@@ -34,3 +34,6 @@ other_words = (
   (λ p. let q = (depths endless_dtd 0 []).1.0 p in endless_word q.0 q.1),
   (λ p. let q = (depths any_dtd 0 (named 1 ∷ other ∷ [])).0.0 p in other_never 0 q.0 q.1),
 )
+
+pub numbers_row : NumbersRow
+numbers_row = (refl, refl, refl, refl, refl, refl, refl)

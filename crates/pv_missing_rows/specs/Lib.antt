@@ -1,3 +1,4 @@
 pub mod Dtds
 pub mod Documents
 pub mod Rows
+pub mod Tables

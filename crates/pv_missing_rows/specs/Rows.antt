@@ -9,7 +9,7 @@ use Rattle.pv_tree.specs.View.{view}
 use Rattle.pv_missing.specs.Completing.{IsLeast, IsPotentiallyValid}
 use Rattle.pv_missing.specs.Filling.{IsPossible, IsPossibleRoot}
 use Rattle.pv_missing.specs.LiveWords.{IsLiveWord}
-use Rattle.pv_missing.specs.Numbering.{first_part, numbered_models, part_at, rest_at}
+use Rattle.pv_rules.specs.Numbering.{first_part, numbered_models, part_at, rest_at}
 use Rattle.pv_missing_rows.specs.Documents.{blank_in_br, comment_alone, completed_letter, doc_of, em_alone, head_then_text, hello, letter, mentioned_name, nested_em, p_alone, p_then_title, sec_then_head, sec_with, tag, three_ys, unknown_name}
 use Rattle.pv_missing_rows.specs.Dtds.{any_dtd, any_endless_dtd, doubling_dtd, endless_dtd, nested_dtd, pair_dtd, sections_dtd}
 use Rattle.pv_missing.specs.Verdicts.{AreVerdicts, IsFirstImpossible, IsVerdict}
@@ -22,7 +22,8 @@ Needs g root t vs n = AreVerdicts g root (lists_of (doc_of t)) vs × IsLeast g r
 
 -- the document is impossible, and the list at this path is the first that is
 abbrev pub IsImpossibleAt : PlainDtd → List ℕ → Tree Unit → List ℕ → Type 0
-IsImpossibleAt g root t path = IsFirstImpossible g root (lists_of (doc_of t)) path × (IsPotentiallyValid g root (view t) → ⊥)
+IsImpossibleAt g root t path = IsFirstImpossible g root (lists_of (doc_of t)) path ×
+    (IsPotentiallyValid g root (view t) → ⊥)
 
 -- words of the content of doc, of the document node and of the content of br
 abbrev pub SectionWords : Type 0
@@ -96,11 +97,13 @@ DoublingRow = Needs doubling_dtd (codes "t0") (tag (codes "t0") []) (verdict.Val
 
 -- a name that the DTD doesn't have, and one that it only mentions
 abbrev pub UnknownRow : Type 0
-UnknownRow = IsImpossibleAt any_dtd (codes "r") unknown_name (0 ∷ []) × IsImpossibleAt any_dtd (codes "r") mentioned_name (0 ∷ 0 ∷ [])
+UnknownRow = IsImpossibleAt any_dtd (codes "r") unknown_name (0 ∷ []) ×
+    IsImpossibleAt any_dtd (codes "r") mentioned_name (0 ∷ 0 ∷ [])
 
 -- all lists are valid, at any depth
 abbrev pub DeepRow : Type 0
-DeepRow = (n : ℕ) → AllByRecursion (λ list. IsVerdict sections_dtd (codes "em") list verdict.Valid) (lists_of (doc_of (nested_em n)))
+DeepRow = (n : ℕ) →
+    AllByRecursion (λ list. IsVerdict sections_dtd (codes "em") list verdict.Valid) (lists_of (doc_of (nested_em n)))
 
 abbrev pub LetterRow : Type 0
 LetterRow = Needs sections_dtd (codes "doc") letter (verdict.Valid ∷ verdict.Valid ∷ verdict.Valid ∷ verdict.Possible ∷ verdict.Valid ∷ verdict.Valid ∷ []) 1

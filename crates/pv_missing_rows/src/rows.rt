@@ -1,5 +1,6 @@
 //! What the definitions say of small words and documents.
 
+ghost use Rattle.pv_missing_rows.specs.Tables.{TableRow};
 ghost use Rattle.pv_missing_rows.specs.Rows.{AnyRow, BlankRow, CommentRow, CompletedRow, DeepRow, DoublingRow, EmRow, EndlessRow, HeadRow, HeadTextRow, HelloRow, LetterRow, LiveWords, NestedRow, NumbersRow, OtherWords, PairRow, ParagraphRow, ReferenceRow, SectionWords, TitleRow, UnknownRow};
 
 /// Words of the content of elements and of the document node, each with its answer.
@@ -102,4 +103,9 @@ pub fn any_row()
 /// Some parts by their numbers.
 pub fn numbers_row()
     ensures { NumbersRow }
+{}
+
+/// The table of `<a/>` is closed, isn't closed without its entry of a missing element, and one b completes the document.
+pub fn table_row()
+    ensures { TableRow }
 {}

@@ -1,6 +1,6 @@
 //! Laws of one list. `M` is the type of marks.
 
-ghost use Rattle.pv_missing.specs.ListLaws.{HereExtends, LiveMisses, OneFirst, OneList, OneVerdict, OwnValidIsLive, RootList, ValidMissesNone};
+ghost use Rattle.pv_missing.specs.ListLaws.{HereExtends, LiveMisses, OneFirst, OneList, OneVerdict, OwnValidIsLive, RootList, ValidMissesNone, WeightIsLeast};
 
 /// The live word of an element is possible exactly where elements inserted at its own level make its content fit.
 pub fn one_list_law()
@@ -30,6 +30,11 @@ pub fn live_misses_law<M>()
 /// In a list that is valid nothing is missing, and it weighs 0.
 pub fn valid_misses_none_law<M>()
     ensures { ValidMissesNone M }
+{}
+
+/// The weight of a live list is at most each number missing in it, and is such a number where it isn't cut.
+pub fn weight_is_least_law<M>()
+    ensures { WeightIsLeast M }
 {}
 
 /// A list has at most one verdict.

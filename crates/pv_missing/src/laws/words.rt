@@ -1,6 +1,6 @@
 //! Laws of words.
 
-ghost use Rattle.pv_missing.specs.WordLaws.{DepthsAgree, Doubled, LeftOut, LiveAgrees, LiveFollows, OneLiveWord, OwnerIsProductive, ProductiveNames, SizeIsMissing};
+ghost use Rattle.pv_missing.specs.WordLaws.{ContentDerives, DepthsAgree, Doubled, LeftOut, LiveAgrees, LiveFollows, OneLiveWord, OwnerIsProductive, ProductiveNames, RootDerives, SizeIsMissing};
 
 /// A word is possible by depths exactly where it is possible with some number of missing elements.
 pub fn depths_law()
@@ -45,4 +45,14 @@ pub fn one_live_word_law()
 /// A name is productive exactly where some element of this name is good.
 pub fn productive_names_law()
     ensures { ProductiveNames }
+{}
+
+/// A word of productive names is possible for the content of an element exactly where the content derives it.
+pub fn content_derives_law()
+    ensures { ContentDerives }
+{}
+
+/// The same of the document node and the root's name.
+pub fn root_derives_law()
+    ensures { RootDerives }
 {}

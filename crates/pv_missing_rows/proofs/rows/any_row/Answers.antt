@@ -1,4 +1,4 @@
-use Rattle.pv_missing_rows.proofs.LastRows.{any_row}
+use Rattle.pv_missing_rows.proofs.AnyRows.{any_row}
 use Rattle.pv_missing_rows.proofs.rows.any_row.Goals as goal
 
 pub returns : goal.returns

@@ -1,4 +1,4 @@
-use Rattle.pv_missing_rows.proofs.OtherRows.{nested_row}
+use Rattle.pv_missing_rows.proofs.NestedRows.{nested_row}
 use Rattle.pv_missing_rows.proofs.rows.nested_row.Goals as goal
 
 pub returns : goal.returns

@@ -1,4 +1,4 @@
-use Rattle.pv_missing_rows.proofs.LastRows.{live_words}
+use Rattle.pv_missing_rows.proofs.AnyRows.{live_words}
 use Rattle.pv_missing_rows.proofs.WordRows.{other_words, section_words}
 use Rattle.pv_missing_rows.proofs.rows.words_row.Goals as goal
 

@@ -1,8 +1,10 @@
--- What the laws ask of a DTD; every DTD of the program has it.
-use Rattle.std.specs.Prelude.{List, [], length, ℕ, ◌∷◌, ◌≢◌, ◌≤◌}
+-- What the laws ask of a DTD and of a document; every one of the program has it.
+use Rattle.std.specs.Prelude.{IsTrue, List, [], length, ℕ, ◌∷◌, ◌≢◌, ◌≤◌}
 use Rattle.std.specs.List.{AllByRecursion}
 use Rattle.pv_model.specs.Plain.{PlainModel, PlainPart, PlainParts, any, children, choice, empty, mixed, name, no_parts, opt, part, plus, seq, star}
 use Rattle.pv_dtd.specs.Plain.{PlainDtd, declared}
+use Rattle.pv_tree.specs.Plain.{PlainDoc, is_element}
+use Rattle.pv_missing.specs.Units.{HasUnits}
 
 -- no two of the names are the same
 abbrev pub AreDistinct : List (List ℕ) → Type 0
@@ -34,3 +36,8 @@ pub record IsProperDtd (g : PlainDtd) : Type 0 where
   pub distinct : AreDistinct g.names
   pub named : declared g ≤ length g.names
   pub full : AllByRecursion IsFullModel g.models
+
+-- the root is an element, and no text is without units
+pub record IsProperDoc {M : Type 0} (doc : PlainDoc M) : Type 0 where
+  pub rooted : IsTrue (is_element doc.root)
+  pub units : HasUnits doc.root

@@ -1,5 +1,5 @@
 use Rattle.pv_missing.proofs.Spanned.{content_weights}
-use Rattle.pv_missing.proofs.laws.tables.content_weights_law.Goals as goal
+use Rattle.pv_missing.proofs.laws.words.content_derives_law.Goals as goal
 
 pub returns : goal.returns
 returns c = content_weights

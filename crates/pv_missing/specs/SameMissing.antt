@@ -44,13 +44,15 @@ keep_if keep (misc b) h = if keep then leaf (misc b) h else h
 keep_if keep (data_unit b) h = leaf (data_unit b) h
 keep_if keep (cdata b) h = leaf (cdata b) h
 
--- the hedge without its white units and misc, but for those in elements that are to be empty; `keep` says whether its owner is such a one
+-- the hedge without its white units and misc, but for those in elements that are to be empty;
+-- `keep` says whether its owner is such a one
 abbrev pub bare : PlainDtd → Bool → Hedge → Hedge
 bare g keep done = done
 bare g keep (leaf l h) = keep_if keep l (bare g keep h)
 bare g keep (elem x t k h) = elem x t (bare g (is_empty_number g (number_of g x)) k) (bare g keep h)
 
--- both hedges are potentially valid or neither is, and their least numbers of missing elements are the same
+-- both hedges are potentially valid or neither is, and their least numbers of missing elements are
+-- the same
 pub record SameMissing (g : PlainDtd) (root : List ℕ) (h h2 : Hedge) : Type 0 where
   pub same_validity : IsPotentiallyValid g root h ↔ IsPotentiallyValid g root h2
   pub same_least : (n : ℕ) → IsLeast g root n h ↔ IsLeast g root n h2

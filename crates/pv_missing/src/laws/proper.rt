@@ -2,8 +2,7 @@
 
 ghost use Rattle.pv_dtd.specs.PlainForms.{plain_dtd};
 ghost use Rattle.pv_tree.specs.Docs.{plain_doc};
-ghost use Rattle.pv_missing.specs.Dtds.{IsProperDtd};
-ghost use Rattle.pv_missing.specs.DocumentLaws.{IsProperDoc};
+ghost use Rattle.pv_missing.specs.Proper.{IsProperDoc, IsProperDtd};
 
 use pv_dtd::Dtd;
 use pv_tree::Doc;

@@ -8,7 +8,7 @@ use Rattle.pv_dtd.specs.Hedge.{elements}
 use Rattle.pv_tree.specs.Lists.{IsOwnValid, an_element, lists_at, the_document}
 use Rattle.pv_tree.specs.Plain.{Forest, Tree, forest_of, no_trees, tree}
 use Rattle.pv_missing.specs.Covering.{Covers, IsPossibleWith, cover_kept, cover_new, cover_none, cover_text}
-use Rattle.pv_missing.specs.Dtds.{IsProperDtd}
+use Rattle.pv_missing.specs.Proper.{IsProperDtd}
 use Rattle.pv_dtd.specs.Productive.{IsProductive, IsProductiveName}
 use Rattle.pv_missing_rows.specs.Documents.{tag, three_ys}
 use Rattle.pv_missing_rows.specs.Dtds.{endless_dtd, nested_dtd}

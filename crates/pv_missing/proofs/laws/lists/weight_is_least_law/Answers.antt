@@ -1,0 +1,5 @@
+use Rattle.pv_missing.proofs.Weights.{weight_is_least}
+use Rattle.pv_missing.proofs.laws.lists.weight_is_least_law.Goals as goal
+
+pub returns : goal.returns
+returns g c = weight_is_least _
