@@ -1,13 +1,14 @@
 -- Characters one after the other, and what stands after them.
 use Rattle.std.proofs.Common.{◌≡◌, ℕ, ◌-◌, List, [], ◌∷◌, ◌++◌, length, take, drop, Bool, true, false, refl, sym, ap, ◌∙◌, arith, append_assoc, length-append}
-use Rattle.std.proofs.lemmas.Bool.{and_parts, and_from}
+use Rattle.std.proofs.lemmas.Bool.{and_parts, and_from, ne_eqb}
+use Rattle.std.specs.Prelude.{IsTrue, ◌==◌}
 use Rattle.std.proofs.lemmas.List.{take_at, drop_at, append-nil}
 use Rattle.std.proofs.lemmas.List.Folds.{list_all-append}
 use Rattle.std.proofs.lemmas.Str.{encode_same, encodes-append, len_utf8_bounds, length-encode}
 use Rattle.std.specs.List.{list_all}
 use Rattle.std.specs.Char.{IsScalar}
 use lib.Utf8.{encode, encodes}
-use Rattle.pv_chars.specs.Characters.{BeginsWith, BeginsWithNone, BeginsNo, AreAll}
+use Rattle.pv_chars.specs.Characters.{BeginsWith, BeginsWithNone, BeginsNo, AreAll, TakesAll}
 
 pub none_in_nothing : (test : ℕ → Bool) → AreAll test []
 none_in_nothing test = record { codes = []; pass = refl; spelled = refl }
@@ -56,3 +57,10 @@ pub cut_at : (bytes front rest : List ℕ) → bytes ≡ front ++ rest → (take
 cut_at bytes front rest whole =
     let count : length bytes - length rest ≡ length front = omega (arith, ap length whole, length-append front rest) in
     (rw (count, whole) (take_at front rest (length front) refl), rw (count, whole) (drop_at front rest (length front) refl))
+
+-- As many as pass stand at the front and this after them: all pass exactly where this is empty.
+pub all_where_empty : (test : ℕ → Bool) (bytes rest : List ℕ) (empty : Bool) → TakesAll test bytes rest → empty ≡ (length rest == 0) → (IsTrue empty → AreAll test bytes) × (AreAll test bytes → IsTrue empty)
+all_where_empty test bytes [] empty taken e = ((λ t. rw (taken.whole, append-nil taken.front) taken.are_all), (λ all. e))
+all_where_empty test bytes (b ∷ bs) empty taken e =
+    let full : (length (b ∷ bs) == 0) ≡ false = ne_eqb (length (b ∷ bs)) 0 (λ none. omega arith) in
+    ((λ t. let no_more : empty ≡ true = t in cc), (λ all. let same = (same_all test taken.front bytes (b ∷ bs) [] taken.are_all all taken.ends (nothing_begins test) (sym taken.whole ∙ sym (append-nil bytes))).1 in cc))

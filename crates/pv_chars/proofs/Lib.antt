@@ -6,3 +6,6 @@ pub mod Utf8Lemmas
 pub mod Ranges
 pub mod CharacterLemmas
 pub mod NameLemmas
+pub mod Delimited
+pub mod Delimiting
+pub mod MarkupLemmas

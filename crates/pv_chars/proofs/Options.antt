@@ -19,3 +19,11 @@ match_read (Some x) P Q none some = some x refl
 pub match_some : {A : Type 0} (r : Option A) (P : Type 0) (Q R : A → Type 0) → ((x : A) → Q x → R x) → MatchOption r P Q → IfSome r R
 match_some None P Q R f h = tt
 match_some (Some x) P Q R f h = f x h
+
+-- by a question mark where there is nothing
+pub match_none : {A : Type 0} (r : Option A) (P : Type 0) (Q : A → Type 0) → r ≡ None → P → MatchOption r P Q
+match_none {A} r P Q e p = let M : Option A → Type 0 = λ v. MatchOption v P Q in subst M (sym e) p
+
+pub match_same : {A : Type 0} (r : Option A) (P P' : Type 0) (Q Q' : A → Type 0) → (P → P') → ((x : A) → Q x → Q' x) → MatchOption r P Q → MatchOption r P' Q'
+match_same None P P' Q Q' f g h = f h
+match_same (Some x) P P' Q Q' f g h = g x h

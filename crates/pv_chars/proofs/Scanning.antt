@@ -1,9 +1,10 @@
 -- What the scanning functions say of a text and its parts: what they take is spelled so, and what is spelled so they take.
-use Rattle.std.proofs.Common.{◌≡◌, ℕ, suc, ◌+◌, List, [], ◌∷◌, ◌++◌, length, take, drop, Bool, true, false, ◌&&◌, ◌==◌, cond, Option, Some, None, refl, sym, ap, add-one, eq-eqb}
+use Rattle.std.proofs.Common.{◌≡◌, ◌≢◌, Bor, ℕ, suc, ◌+◌, List, [], ◌∷◌, ◌++◌, length, take, drop, Bool, true, false, ◌&&◌, ◌==◌, cond, Option, Some, None, refl, sym, ap, add-one, eq-eqb}
 use Rattle.std.proofs.lemmas.List.{take_at, drop_at, take-append-drop}
 use Rattle.std.proofs.lemmas.Bool.Decides.{Decides-eqb}
 use Rattle.std.proofs.lemmas.Option.{cond_some}
 use Rattle.std.specs.List.{list_all}
+use Rattle.std.specs.Option.{MatchOption, option_map}
 use Rattle.std.specs.Prelude.{nat_le}
 use Rattle.std.proofs.lemmas.Bool.{and_parts}
 use Rattle.pv_chars.specs.Spaces.{is_space, IsSpace, IsOptionalSpace}
@@ -83,6 +84,14 @@ after_bytes_takes (p ∷ ps) (b ∷ bs) rest e = after_byte p ps b bs rest (p ==
 pub after_bytes-append : (front rest : List ℕ) → after_bytes front (front ++ rest) ≡ Some rest
 after_bytes-append [] rest = refl
 after_bytes-append (p ∷ ps) rest = rw (eq-eqb p p refl) (after_bytes-append ps rest)
+
+pub after_bytes_is : (front bytes : List ℕ) (r : Option (Bor (List ℕ))) → MatchOption r ((rest : List ℕ) → bytes ≢ front ++ rest) (λ x. bytes ≡ front ++ x.now) → option_map (λ x. x.now) r ≡ after_bytes front bytes
+after_bytes_is front bytes (Some x) e = rw e (sym (after_bytes-append front x.now))
+after_bytes_is front bytes None none = by (after_bytes front bytes) refl
+  where
+    by : (o : Option (List ℕ)) → after_bytes front bytes ≡ o → None ≡ after_bytes front bytes
+    by None e = sym e
+    by (Some rest) e = absurd (none rest (after_bytes_takes front bytes rest e))
 
 -- A plain name stands before the rest, and all of it.
 pub record TakesPlainName (bytes name rest : List ℕ) : Type 0 where

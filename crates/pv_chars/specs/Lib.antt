@@ -2,6 +2,8 @@ pub mod Spaces
 pub mod Characters
 pub mod PlainNames
 pub mod Names
+pub mod Fronts
+pub mod Markup
 pub mod Texts
 pub mod Scan
 pub mod Utf8

@@ -1,7 +1,9 @@
 //! Characters by their code points.
 
-ghost use Rattle.std.specs.Prelude.{◌≡◌};
-ghost use Rattle.pv_chars.specs.Characters.{is_char, is_name_start, is_name_char};
+ghost use Rattle.std.specs.Prelude.{◌≡◌, ◌↔◌, IsTrue};
+ghost use Rattle.pv_chars.specs.Characters.{is_char, is_name_start, is_name_char, IsChars, TakesAll};
+
+use crate::utf8::char_at;
 
 /// Whether the code point is a Char (XML 1.0, section 2.2).
 pub fn is_char(c: u32) -> bool
@@ -29,4 +31,25 @@ pub fn is_name_char(c: u32) -> bool
 {
     is_name_start(c)
         || matches!(c, 0x2D | 0x2E | 0x30..=0x39 | 0xB7 | 0x300..=0x36F | 0x203F..=0x2040)
+}
+
+/// What stands after the Chars at the front.
+fn after_chars(bytes: &[u8]) -> &[u8]
+    ensures { TakesAll is_char bytes.now result.now }
+{
+    let mut rest = bytes;
+    'chars: while let Some((c, more)) = char_at(rest) {
+        if !is_char(c) {
+            return rest;
+        }
+        rest = more;
+    }
+    rest
+}
+
+/// Whether the bytes are Chars, one after the other, in UTF-8 (XML 1.0, section 2.2).
+pub fn are_chars(bytes: &[u8]) -> bool
+    ensures { IsTrue result ↔ IsChars bytes.now }
+{
+    after_chars(bytes).is_empty()
 }

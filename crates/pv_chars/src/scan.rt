@@ -1,6 +1,6 @@
 //! Parts of a text, read from the left: white space, names and fixed bytes.
 
-ghost use Rattle.std.specs.Prelude.{◌≡◌, ◌≤◌, ◌<◌, ◌+◌, length, IfSome};
+ghost use Rattle.std.specs.Prelude.{◌≡◌, ◌≢◌, ◌≤◌, ◌<◌, ◌+◌, ℕ, List, ◌++◌, length, IfSome, MatchOption};
 ghost use Rattle.std.specs.Option.{option_map};
 ghost use Rattle.pv_chars.specs.Spaces.{is_space};
 ghost use Rattle.pv_chars.specs.Scan.{space_length, after_space, after_blank, plain_name_length, plain_name_at, after_bytes};
@@ -84,19 +84,9 @@ pub fn plain_name_at(bytes: &[u8]) -> Option<(&[u8], &[u8])>
 
 /// What stands after these bytes, where they stand at the front.
 pub fn after_bytes<'a>(front: &[u8], bytes: &'a [u8]) -> Option<&'a [u8]>
+    ensures found { MatchOption result ((rest : List ℕ) → bytes.now ≢ front.now ++ rest) (λ r. bytes.now ≡ front.now ++ r.now) }
     ensures after { option_map (λ r. r.now) result ≡ after_bytes front.now bytes.now }
     ensures within { IfSome result (λ r. length front.now + length r.now ≡ length bytes.now) }
 {
-    let mut left = front;
-    let mut rest = bytes;
-    while let [p, more @ ..] = left {
-        match rest {
-            [b, after @ ..] if b == p => {
-                left = more;
-                rest = after;
-            }
-            _ => return None,
-        }
-    }
-    Some(rest)
+    bytes.strip_prefix(front)
 }

@@ -1,0 +1,44 @@
+-- Comments, processing instructions and CDATA sections (XML 1.0, sections 2.5 to 2.7).
+use Rattle.std.specs.Prelude.{◌≡◌, ◌⊎◌, ℕ, List, [], ◌++◌, codes, map}
+use Rattle.std.specs.Char.{to_ascii_lowercase}
+use Rattle.pv_chars.specs.Spaces.{IsSpace}
+use Rattle.pv_chars.specs.Characters.{IsChars}
+use Rattle.pv_chars.specs.Names.{IsName}
+use Rattle.pv_chars.specs.Fronts.{Holds}
+
+-- Comment: `<!--`, Chars that hold no `--` and don't end in `-`, `-->`
+pub record IsComment (bytes : List ℕ) : Type 0 where
+  pub text : List ℕ
+  pub are_chars : IsChars text
+  pub no_dashes : Holds text (codes "--") → ⊥
+  pub no_dash_at_end : (front : List ℕ) → text ≡ front ++ codes "-" → ⊥
+  pub whole : bytes ≡ codes "<!--" ++ (text ++ codes "-->")
+
+-- PITarget: a Name other than `xml` in any case
+pub record IsTarget (bytes : List ℕ) : Type 0 where
+  pub is_name : IsName bytes
+  pub not_xml : map to_ascii_lowercase bytes ≡ codes "xml" → ⊥
+
+-- what stands behind a target: nothing, or S and Chars that hold no `?>`
+pub record IsInstructionText (bytes : List ℕ) : Type 0 where
+  pub space : List ℕ
+  pub text : List ℕ
+  pub is_space : IsSpace space
+  pub are_chars : IsChars text
+  pub no_end : Holds text (codes "?>") → ⊥
+  pub whole : bytes ≡ space ++ text
+
+-- PI: `<?`, PITarget, then nothing or S and Chars that hold no `?>`, `?>`
+pub record IsInstruction (bytes : List ℕ) : Type 0 where
+  pub target : List ℕ
+  pub behind : List ℕ
+  pub is_target : IsTarget target
+  pub is_behind : (behind ≡ []) ⊎ IsInstructionText behind
+  pub whole : bytes ≡ codes "<?" ++ (target ++ (behind ++ codes "?>"))
+
+-- CDSect: `<![CDATA[`, Chars that hold no `]]>`, `]]>`
+pub record IsCdata (bytes : List ℕ) : Type 0 where
+  pub text : List ℕ
+  pub are_chars : IsChars text
+  pub no_end : Holds text (codes "]]>") → ⊥
+  pub whole : bytes ≡ codes "<![CDATA[" ++ (text ++ codes "]]>")

@@ -1,0 +1,15 @@
+//! What stands before a delimiter.
+
+ghost use Rattle.std.specs.Prelude.{MatchOption};
+ghost use Rattle.pv_chars.specs.Fronts.{Holds, EndsAt};
+
+use memchr::memmem;
+
+/// What stands before the first place of the delimiter, and what stands after it.
+pub fn up_to<'a>(delimiter: &[u8], bytes: &'a [u8]) -> Option<(&'a [u8], &'a [u8])>
+    ensures { MatchOption result (Holds bytes.now delimiter.now → ⊥) (λ r. EndsAt delimiter.now bytes.now r.0.now r.1.now) }
+{
+    let at = memmem::find(bytes, delimiter)?;
+    let (before, found) = bytes.split_at(at);
+    Some((before, found.split_at(delimiter.len()).1))
+}
