@@ -9,3 +9,5 @@ pub mod NameLemmas
 pub mod Delimited
 pub mod Delimiting
 pub mod MarkupLemmas
+pub mod SpaceLemmas
+pub mod InstructionLemmas

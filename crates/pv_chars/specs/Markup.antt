@@ -19,21 +19,25 @@ pub record IsTarget (bytes : List ℕ) : Type 0 where
   pub is_name : IsName bytes
   pub not_xml : map to_ascii_lowercase bytes ≡ codes "xml" → ⊥
 
--- what stands behind a target: nothing, or S and Chars that hold no `?>`
-pub record IsInstructionText (bytes : List ℕ) : Type 0 where
+-- S and Chars
+pub record IsSpacedChars (bytes : List ℕ) : Type 0 where
   pub space : List ℕ
   pub text : List ℕ
   pub is_space : IsSpace space
   pub are_chars : IsChars text
-  pub no_end : Holds text (codes "?>") → ⊥
   pub whole : bytes ≡ space ++ text
+
+-- nothing, or S and Chars
+abbrev pub IsBehindTarget : List ℕ → Type 0
+IsBehindTarget bytes = (bytes ≡ []) ⊎ IsSpacedChars bytes
 
 -- PI: `<?`, PITarget, then nothing or S and Chars that hold no `?>`, `?>`
 pub record IsInstruction (bytes : List ℕ) : Type 0 where
   pub target : List ℕ
   pub behind : List ℕ
   pub is_target : IsTarget target
-  pub is_behind : (behind ≡ []) ⊎ IsInstructionText behind
+  pub is_behind : IsBehindTarget behind
+  pub no_end : Holds behind (codes "?>") → ⊥
   pub whole : bytes ≡ codes "<?" ++ (target ++ (behind ++ codes "?>"))
 
 -- CDSect: `<![CDATA[`, Chars that hold no `]]>`, `]]>`

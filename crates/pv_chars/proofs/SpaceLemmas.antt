@@ -1,0 +1,44 @@
+-- White space as characters.
+use Rattle.std.proofs.Common.{◌≡◌, ℕ, ◌<◌, List, [], ◌∷◌, ◌++◌, Bool, true, false, refl, sym, ap, ◌∙◌, arith}
+use Rattle.std.proofs.lemmas.Bool.{and_parts, and_from}
+use Rattle.std.proofs.lemmas.Bool.Decides.{nat_tests}
+use Rattle.std.proofs.lemmas.Str.{encode_same, encode_ascii}
+use Rattle.std.specs.List.{list_all}
+use lib.Utf8.{encodes}
+use Rattle.pv_chars.specs.Spaces.{is_space, IsSpace, IsOptionalSpace}
+use Rattle.pv_chars.specs.Characters.{is_char, is_name_char, IsChars, BeginsNo}
+
+pub space_is_ascii : (b : ℕ) → is_space b ≡ true → b < 128
+space_is_ascii b e = grind (arith, nat_tests)
+
+pub space_is_char : (b : ℕ) → is_space b ≡ true → is_char b ≡ true
+space_is_char b e = grind (arith, nat_tests)
+
+pub space_in_no_name : (b : ℕ) → is_space b ≡ true → is_name_char b ≡ false
+space_in_no_name b e = grind (arith, nat_tests)
+
+space_pass : (space : List ℕ) → list_all is_space space ≡ true → list_all is_char space ≡ true
+space_pass [] e = refl
+space_pass (b ∷ bs) e = let parts = and_parts (is_space b) (list_all is_space bs) e in and_from (is_char b) (list_all is_char bs) (space_is_char b parts.0) (space_pass bs parts.1)
+
+space_spelled : (space : List ℕ) → list_all is_space space ≡ true → space ≡ encodes space
+space_spelled [] e = refl
+space_spelled (b ∷ bs) e =
+    let parts = and_parts (is_space b) (list_all is_space bs) e in
+    ap (λ l. b ∷ l) (space_spelled bs parts.1) ∙ ap (λ l. l ++ encodes bs) (sym (encode_ascii b (space_is_ascii b parts.0)))
+
+pub space_are_chars : (space : List ℕ) → IsOptionalSpace space → IsChars space
+space_are_chars space e = record { codes = space; pass = space_pass space e; spelled = space_spelled space e }
+
+-- a byte of ASCII that doesn't pass begins no character that does
+pub ascii_ends : (test : ℕ → Bool) (b : ℕ) (bs : List ℕ) → b < 128 → test b ≡ false → BeginsNo test (b ∷ bs)
+ascii_ends test b bs low other c rest pass whole =
+    let same = (encode_same b c bs rest (ap (λ l. l ++ bs) (encode_ascii b low) ∙ whole)).0 in
+    let passes : test b ≡ true = rw same pass in cc
+
+-- white space ends a name
+pub space_ends_name : (space rest : List ℕ) → IsSpace space → BeginsNo is_name_char (space ++ rest)
+space_ends_name [] rest s = absurd (s.some refl)
+space_ends_name (b ∷ bs) rest s =
+    let white = (and_parts (is_space b) (list_all is_space bs) s.space).0 in
+    ascii_ends is_name_char b (bs ++ rest) (space_is_ascii b white) (space_in_no_name b white)
