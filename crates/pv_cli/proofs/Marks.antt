@@ -5,11 +5,11 @@ use Rattle.std.specs.List.{AllByRecursion}
 use Rattle.pv_model.specs.Plain.{PlainToken}
 use Rattle.pv_dtd.specs.Plain.{PlainDtd, number_of}
 use Rattle.pv_dtd.specs.Hedge.{Hedge, elem}
-use Rattle.pv_tree.specs.Lists.{the_document, an_element, Listed, lists_at, lists_from, lists_of, IsOwnValid, IsRootElement, IsRootList, IsValidBy, IsValidList, IsFirstInvalid}
+use Rattle.pv_tree.specs.Lists.{the_document, an_element, Listed, lists_at, lists_from, lists_of, IsOwnValid, IsRootElement, IsRootList, IsValidBy, IsValidList, IsFirstNot}
 use Rattle.pv_tree.specs.Plain.{Tree, element, text_node, cdata_node, misc_node, Forest, no_trees, tree, PlainDoc, unmarked, remarked_all}
 use Rattle.pv_tree.specs.View.{view_before, view_all}
 use Rattle.pv_tree.specs.Words.{node_before, word_of}
-use Rattle.pv_read.specs.Marks.{unmarked_doc}
+use Rattle.pv_tree.specs.Marks.{unmarked_doc}
 
 abbrev pub all_unmarked : {M : Type 0} → Forest M → Forest Unit
 all_unmarked kids = remarked_all (λ _. tt) kids
@@ -119,13 +119,13 @@ all_valid_to g root [] all = tt
 all_valid_to g root (list ∷ lists) all = (valid_to g root list all.0, all_valid_to g root lists all.1)
 
 -- the first invalid list stays where it is
-pub first_invalid-unmarked : {M : Type 0} (g : PlainDtd) (root path : List ℕ) (doc : PlainDoc M) → IsFirstInvalid g root (lists_of doc) path → IsFirstInvalid g root (lists_of (unmarked_doc doc)) path
+pub first_invalid-unmarked : {M : Type 0} (g : PlainDtd) (root path : List ℕ) (doc : PlainDoc M) → IsFirstNot (IsValidList g root) (lists_of doc) path → IsFirstNot (IsValidList g root) (lists_of (unmarked_doc doc)) path
 first_invalid-unmarked g root path doc f = record {
   before = map unmarked_list f.before;
   list = unmarked_list f.list;
   after = map unmarked_list f.after;
   is_split = lists_of-unmarked doc ∙ ap (map unmarked_list) f.is_split ∙ map-append unmarked_list f.before (f.list ∷ f.after);
-  valid_before = all_valid_to g root f.before f.valid_before;
-  invalid = λ v. f.invalid (valid_from g root f.list v);
+  all_before = all_valid_to g root f.before f.all_before;
+  is_not = λ v. f.is_not (valid_from g root f.list v);
   is_path = f.is_path;
 }

@@ -3,16 +3,16 @@
 ghost use Rattle.pv_cli.specs.Laws.{HasOneValidAnswer, HasOneOutput, HasOneOutputOverText};
 
 use pv_dtd::one_meaning_law;
-use pv_read::laws::one_document;
-use pv_tree::valid_lists_law;
-use pv_write::laws::spelled_is_written;
+use pv_read::laws::one_document_law;
+use pv_tree::laws::valid_lists_law;
+use pv_write::laws::spelled_is_written_law;
 
 /// Over given files `valid` has one answer.
 pub fn one_valid_answer()
     ensures { HasOneValidAnswer }
 {
     one_meaning_law();
-    one_document();
+    one_document_law();
     valid_lists_law();
 }
 
@@ -21,5 +21,5 @@ pub fn one_session_output()
     ensures lines { HasOneOutput }
     ensures over_text { HasOneOutputOverText }
 {
-    spelled_is_written();
+    spelled_is_written_law();
 }

@@ -9,7 +9,7 @@ use Rattle.pv_tree.specs.View.{spread, view, view_all, view_before}
 use Rattle.pv_missing.specs.DocumentLaws.{CutsChangeNothing}
 use Rattle.pv_missing.specs.Proper.{IsProperDtd}
 use Rattle.pv_missing.specs.SameMissing.{SameMissing, uncut, uncut_all, uncut_before}
-use Rattle.pv_missing.specs.Units.{HasUnits, HaveUnits}
+use Rattle.pv_tree.specs.Units.{HasUnits, HaveUnits}
 use Rattle.pv_missing.proofs.Alike.{unchanged}
 use Rattle.pv_missing.proofs.AlikeHedges.{Alike, IsText, alike_blank, alike_done, alike_elem, alike_leaf, alike_merge, alike_text, alike_white}
 use Rattle.pv_missing.proofs.Same.{same_missing}

@@ -15,7 +15,7 @@ use Rattle.pv_missing.specs.DocumentLaws.{IsPotentiallyValidByLists, Locality, N
 use Rattle.pv_missing.specs.Proper.{IsProperDtd}
 use Rattle.pv_missing.specs.ListLaws.{LiveMisses}
 use Rattle.pv_missing.specs.Missing.{MissInAll, MissesBy, MissesInContent, MissesInRoot}
-use Rattle.pv_missing.specs.Units.{HasUnits}
+use Rattle.pv_tree.specs.Units.{HasUnits}
 use Rattle.pv_missing.specs.Verdicts.{AreVerdicts, IsLive, IsLiveBy, IsLiveContent, IsLiveRoot, Judges}
 use Rattle.pv_missing.proofs.HedgeLists.{NoneImpossible}
 use Rattle.pv_missing.proofs.PossibleWords.{depths}

@@ -33,7 +33,6 @@ pub mod Texts
 pub mod ToWords
 pub mod TreeLists
 pub mod TreeWords
-pub mod Units
 pub mod ValidLists
 pub mod Verdict
 pub mod Weights

@@ -7,7 +7,7 @@ use Rattle.pv_dtd.specs.Hedge.{Hedge, data_unit, done, leaf_word, token, white, 
 use Rattle.pv_tree.specs.Plain.{Forest, Tree, cdata_node, element, misc_node, no_trees, text_node, tree}
 use Rattle.pv_tree.specs.View.{spread, view_all, view_before}
 use Rattle.pv_tree.specs.Words.{node_before, word_of}
-use Rattle.pv_missing.specs.Units.{HaveUnits}
+use Rattle.pv_tree.specs.Units.{HaveUnits}
 use Rattle.pv_missing.proofs.Repeats.{Texts, texts_again, texts_drop, texts_keep, texts_none}
 
 one_text : (w v : List PlainToken) (b : Bool) → Texts (if b then text ∷ w else w) v → Texts (text ∷ w) (text ∷ v)

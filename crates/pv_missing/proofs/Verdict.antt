@@ -7,6 +7,7 @@ use Rattle.pv_dtd.specs.Plain.{PlainDtd, number_of}
 use Rattle.pv_tree.specs.Lists.{IsOwnValid, IsRootList, IsValidBy, IsValidList, Listed, Owner, an_element, the_document}
 use Rattle.pv_tree.specs.Plain.{Forest, Tree, cdata_node, element, misc_node, no_trees, text_node, tree}
 use Rattle.pv_tree.specs.Words.{node_before, word_of}
+use Rattle.pv_tree.proofs.Firsts.{one_first as first_is_one}
 use Rattle.pv_missing.specs.Covering.{Covers, cover_kept, cover_none, cover_text}
 use Rattle.pv_missing.specs.ListLaws.{AreProductiveKids, IsProductiveNode, IsProductiveOwner, OneFirst, OneVerdict, OwnValidIsLive}
 use Rattle.pv_missing.specs.Missing.{MissesInContent, MissesInRoot}
@@ -72,18 +73,5 @@ own_live g root (an_element x) k v p q = misses_live_by g root (an_element x) k 
 pub own_valid_live : (M : Type 0) → OwnValidIsLive M
 own_valid_live M g root list v p q = own_live g root list.owner list.kids v p q
 
-moved_live : {M : Type 0} (g : PlainDtd) (root : List ℕ) (a b : Listed M) → a ≡ b → IsLive g root a → IsLive g root b
-moved_live g root a b e l = subst (λ x. IsLive g root x) e l
-
--- two splits at an impossible list behind live ones are one
-same_split : {M : Type 0} (g : PlainDtd) (root : List ℕ) (b c : List (Listed M)) (l k : Listed M) (u v : List (Listed M)) → b ++ l ∷ u ≡ c ++ k ∷ v →
-    AllByRecursion (IsLive g root) b → AllByRecursion (IsLive g root) c → (IsLive g root l → ⊥) → (IsLive g root k → ⊥) → l ≡ k
-same_split g root [] [] l k u v e p q m n = cc
-same_split g root [] (x ∷ c) l k u v e p q m n = absurd (m (moved_live g root x l (cc) q.0))
-same_split g root (x ∷ b) [] l k u v e p q m n = absurd (n (moved_live g root x k (cc) p.0))
-same_split g root (x ∷ b) (y ∷ c) l k u v e p q m n = same_split g root b c l k u v (cc) p.1 q.1 m n
-
 pub one_first : (M : Type 0) → OneFirst M
-one_first M g root lists p q a b =
-    let e = same_split g root a.before b.before a.list b.list a.after b.after (sym a.is_split ∙ b.is_split) a.live_before b.live_before a.impossible b.impossible in
-    a.is_path ∙ ap (λ l. l.path) e ∙ sym b.is_path
+one_first M g root lists p q a b = first_is_one (IsLive g root) lists p q a b

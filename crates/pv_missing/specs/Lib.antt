@@ -7,7 +7,6 @@ pub mod LiveWords
 pub mod Verdicts
 pub mod Missing
 pub mod Levels
-pub mod Units
 pub mod Weighing
 pub mod SameMissing
 pub mod WordLaws

@@ -4,7 +4,7 @@ use Rattle.std.specs.List.{AllByRecursion}
 use Rattle.pv_model.specs.Plain.{PlainModel, PlainPart, PlainParts, any, children, choice, empty, mixed, name, no_parts, opt, part, plus, seq, star}
 use Rattle.pv_dtd.specs.Plain.{PlainDtd, declared}
 use Rattle.pv_tree.specs.Plain.{PlainDoc, is_element}
-use Rattle.pv_missing.specs.Units.{HasUnits}
+use Rattle.pv_tree.specs.Units.{HasUnits}
 
 -- no two of the names are the same
 abbrev pub AreDistinct : List (List ℕ) → Type 0

@@ -4,24 +4,23 @@ use Rattle.pv_chars.specs.Texts.{has_data, joined}
 use Rattle.pv_model.specs.Plain.{PlainModel, any, children, empty, mixed}
 use Rattle.pv_dtd.specs.Plain.{PlainDtd, model_of, number_of}
 use Rattle.pv_dtd.specs.Hedge.{Hedge, Leaf, cdata, data_unit, done, elem, leaf, misc, white}
-use Rattle.pv_tree.specs.Plain.{Forest, Tree, cdata_node, element, misc_node, no_trees, text_node, tree}
+use Rattle.pv_tree.specs.Plain.{Forest, Tree}
+use Rattle.pv_tree.specs.View.{shown_all, shown_before}
 use Rattle.pv_missing.specs.Completing.{IsLeast, IsPotentiallyValid}
 
--- the bytes of a text as one leaf
+-- the bytes of a text as one leaf, before a hedge
 abbrev pub whole_leaf : List (List ℕ) → Leaf
 whole_leaf units = if has_data units then data_unit (joined units) else white (joined units)
 
--- the hedge that a tree shows, each text as one leaf
-abbrev mutual
-  pub uncut_before : {M : Type 0} → Tree M → Hedge → Hedge
-  uncut_before (element x attrs ending kids mark) h = elem x attrs (uncut_all kids) h
-  uncut_before (text_node units) h = leaf (whole_leaf units) h
-  uncut_before (cdata_node bytes) h = leaf (cdata bytes) h
-  uncut_before (misc_node bytes) h = leaf (misc bytes) h
+abbrev pub put_whole : List (List ℕ) → Hedge → Hedge
+put_whole units h = leaf (whole_leaf units) h
 
-  pub uncut_all : {M : Type 0} → Forest M → Hedge
-  uncut_all no_trees = done
-  uncut_all (tree t rest) = uncut_before t (uncut_all rest)
+-- the hedge that a tree shows, each text as one leaf
+abbrev pub uncut_before : {M : Type 0} → Tree M → Hedge → Hedge
+uncut_before t h = shown_before put_whole t h
+
+abbrev pub uncut_all : {M : Type 0} → Forest M → Hedge
+uncut_all kids = shown_all put_whole kids
 
 abbrev pub uncut : {M : Type 0} → Tree M → Hedge
 uncut t = uncut_before t done

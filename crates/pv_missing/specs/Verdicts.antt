@@ -1,9 +1,8 @@
 -- The verdict of a list.
-use Rattle.std.specs.Prelude.{List, Some, [], ℕ, ◌++◌, ◌∷◌, ◌≡◌}
-use Rattle.std.specs.List.{AllByRecursion}
+use Rattle.std.specs.Prelude.{List, Some, [], ℕ, ◌∷◌, ◌≡◌}
 use Rattle.pv_model.specs.Plain.{PlainToken, empty}
 use Rattle.pv_dtd.specs.Plain.{PlainDtd, model_of, number_of}
-use Rattle.pv_tree.specs.Lists.{IsValidList, Listed, Owner, an_element, the_document}
+use Rattle.pv_tree.specs.Lists.{IsFirstNot, IsValidList, Listed, Owner, an_element, the_document}
 use Rattle.pv_tree.specs.Plain.{Forest, no_trees}
 use Rattle.pv_tree.specs.Words.{word_of}
 use Rattle.pv_missing.specs.Filling.{IsPossible, IsPossibleRoot}
@@ -57,12 +56,5 @@ AreVerdicts g root (list ∷ lists) vs = (v : Verdict) × (rest : List Verdict) 
     IsVerdict g root list v × AreVerdicts g root lists rest
 
 -- the path of the first impossible list
-pub record IsFirstImpossible {M : Type 0} (g : PlainDtd) (root : List ℕ) (lists : List (Listed M))
-    (path : List ℕ) : Type 0 where
-  pub before : List (Listed M)
-  pub list : Listed M
-  pub after : List (Listed M)
-  pub is_split : lists ≡ before ++ list ∷ after
-  pub live_before : AllByRecursion (IsLive g root) before
-  pub impossible : IsLive g root list → ⊥
-  pub is_path : path ≡ list.path
+abbrev pub IsFirstImpossible : {M : Type 0} → PlainDtd → List ℕ → List (Listed M) → List ℕ → Type 0
+IsFirstImpossible g root lists path = IsFirstNot (IsLive g root) lists path

@@ -52,8 +52,8 @@ unknown_row = (
     list = record { path = 0 ∷ []; owner = an_element (codes "r"); kids = forest_of (tag (codes "s") [] ∷ tag (codes "zz") [] ∷ []) };
     after = lists_from (0 ∷ []) 0 (forest_of (tag (codes "s") [] ∷ tag (codes "zz") [] ∷ []));
     is_split = refl;
-    live_before = (own_live any_dtd (codes "r") the_document (tree unknown_name no_trees) (refl, refl) tt (r_name, tt), tt);
-    impossible = λ l. let p = live_misses_by any_dtd (codes "r") (an_element (codes "r")) (forest_of (tag (codes "s") [] ∷ tag (codes "zz") [] ∷ [])) l in
+    all_before = (own_live any_dtd (codes "r") the_document (tree unknown_name no_trees) (refl, refl) tt (r_name, tt), tt);
+    is_not = λ l. let p = live_misses_by any_dtd (codes "r") (an_element (codes "r")) (forest_of (tag (codes "s") [] ∷ tag (codes "zz") [] ∷ [])) l in
         other_never p.1.number p.0 p.1.possible;
     is_path = refl;
   }),
@@ -64,7 +64,7 @@ unknown_row = (
     list = record { path = 0 ∷ 0 ∷ []; owner = an_element (codes "s"); kids = forest_of (tag (codes "u") [] ∷ []) };
     after = lists_from (0 ∷ 0 ∷ []) 0 (forest_of (tag (codes "u") [] ∷ []));
     is_split = refl;
-    live_before = (
+    all_before = (
       own_live any_dtd (codes "r") the_document (tree mentioned_name no_trees) (refl, refl) tt (r_name, tt),
       (
         own_live any_dtd (codes "r") (an_element (codes "r")) (forest_of (tag (codes "s") (tag (codes "u") [] ∷ []) ∷ []))
@@ -72,7 +72,7 @@ unknown_row = (
         tt,
       ),
     );
-    impossible = λ l. let p = live_misses_by any_dtd (codes "r") (an_element (codes "s")) (forest_of (tag (codes "u") [] ∷ [])) l in
+    is_not = λ l. let p = live_misses_by any_dtd (codes "r") (an_element (codes "s")) (forest_of (tag (codes "u") [] ∷ [])) l in
         u_unproductive (covered_by_productive any_dtd p.0 p.1.possible.whole (named 2 ∷ []) p.1.possible.covers).0;
     is_path = refl;
   }),
@@ -123,8 +123,8 @@ any_row = (
     list = record { path = 0 ∷ []; owner = an_element (codes "r"); kids = forest_of (tag (codes "a") [] ∷ []) };
     after = lists_from (0 ∷ []) 0 (forest_of (tag (codes "a") [] ∷ []));
     is_split = refl;
-    live_before = (own_live any_endless_dtd (codes "r") the_document (tree a_in_r no_trees) (refl, refl) tt (r_any, tt), tt);
-    impossible = λ l. let p = live_misses_by any_endless_dtd (codes "r") (an_element (codes "r")) (forest_of (tag (codes "a") [] ∷ [])) l in
+    all_before = (own_live any_endless_dtd (codes "r") the_document (tree a_in_r no_trees) (refl, refl) tt (r_any, tt), tt);
+    is_not = λ l. let p = live_misses_by any_endless_dtd (codes "r") (an_element (codes "r")) (forest_of (tag (codes "a") [] ∷ [])) l in
         endless_unproductive (covered_by_productive any_endless_dtd p.0 p.1.possible.whole (named 1 ∷ []) p.1.possible.covers).0;
     is_path = refl;
   }),

@@ -13,7 +13,7 @@ use Rattle.pv_missing.specs.ListLaws.{AreProductiveKids}
 use Rattle.pv_missing_rows.specs.Documents.{blank_in_br, chars, completed_letter, letter, nested_em, tag}
 use Rattle.pv_missing_rows.specs.Dtds.{doc_model, sec_model, sections_dtd}
 use Rattle.pv_missing_rows.specs.Rows.{BlankRow, CompletedRow, DeepRow, LetterRow}
-use Rattle.pv_missing.specs.Units.{HasUnits}
+use Rattle.pv_tree.specs.Units.{HasUnits}
 use Rattle.pv_missing.specs.Verdicts.{IsLiveBy, IsVerdict}
 use Rattle.pv_missing_rows.proofs.RowTools.{impossible_at, needs, valid_row}
 use Rattle.pv_missing_rows.proofs.SectionRows.{br_name, doc_name, doc_own, em_name, head_name, in_paragraph, mixed_row, p_name, possible_sec, sec_name, title_name}
@@ -66,8 +66,8 @@ blank_row = impossible_at sections_dtd (codes "doc") proper_sections blank_in_br
       list = record { path = 0 ∷ 1 ∷ 0 ∷ 0 ∷ []; owner = an_element (codes "br"); kids = br_kids };
       after = [];
       is_split = refl;
-      live_before = (own_live sections_dtd (codes "doc") the_document (tree blank_in_br no_trees) (refl, refl) tt (doc_name, tt), (doc_live, (head_live, (sec_live, (p_live, tt)))));
-      impossible = br_impossible;
+      all_before = (own_live sections_dtd (codes "doc") the_document (tree blank_in_br no_trees) (refl, refl) tt (doc_name, tt), (doc_live, (head_live, (sec_live, (p_live, tt)))));
+      is_not = br_impossible;
       is_path = refl;
     })
 

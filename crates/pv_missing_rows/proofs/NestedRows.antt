@@ -156,8 +156,8 @@ endless_row = impossible_at endless_dtd (codes "a") proper_endless a_in_a [] (re
   list = record { path = []; owner = the_document; kids = tree a_in_a no_trees };
   after = lists_at (0 ∷ []) a_in_a;
   is_split = refl;
-  live_before = tt;
-  impossible = λ l. let p = live_misses_by endless_dtd (codes "a") the_document (tree a_in_a no_trees) l in
+  all_before = tt;
+  is_not = λ l. let p = live_misses_by endless_dtd (codes "a") the_document (tree a_in_a no_trees) l in
       let q = covered_by_productive endless_dtd p.0 (named p.1.number ∷ []) (named 0 ∷ []) p.1.possible in a_unproductive q.0;
   is_path = refl;
 })

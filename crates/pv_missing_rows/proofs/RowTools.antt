@@ -76,7 +76,7 @@ module _ (g : PlainDtd) (root : List ℕ) where
   none_missing : (lists : List (Listed Unit)) (path : List ℕ) (n : ℕ) → (f : IsFirstImpossible g root lists path) → MissInAll g root lists n → ⊥
   none_missing lists path n f m =
       let p = miss_split g root f.before (f.list ∷ f.after) n (rw f.is_split at m) in
-      f.impossible (misses_live_by g root f.list.owner f.list.kids p.back.0 p.back.3)
+      f.is_not (misses_live_by g root f.list.owner f.list.kids p.back.0 p.back.3)
 
   pub impossible_at : IsProperDtd g → (t : Tree Unit) (path : List ℕ) → IsProperDoc (doc_of t) → IsFirstImpossible g root (lists_of (doc_of t)) path → IsImpossibleAt g root t path
   impossible_at proper t path p f = (

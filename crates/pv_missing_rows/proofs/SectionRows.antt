@@ -300,8 +300,8 @@ head_row = impossible_at sections_dtd (codes "doc") proper_sections sec_then_hea
   list = record { path = 0 ∷ []; owner = an_element (codes "doc"); kids = forest_of (tag (codes "sec") [] ∷ tag (codes "head") [] ∷ []) };
   after = lists_from (0 ∷ []) 0 (forest_of (tag (codes "sec") [] ∷ tag (codes "head") [] ∷ []));
   is_split = refl;
-  live_before = (own_live sections_dtd (codes "doc") the_document (tree sec_then_head no_trees) (refl, refl) tt (doc_name, tt), tt);
-  impossible = λ l. let p = live_misses_by sections_dtd (codes "doc") (an_element (codes "doc")) (forest_of (tag (codes "sec") [] ∷ tag (codes "head") [] ∷ [])) l in
+  all_before = (own_live sections_dtd (codes "doc") the_document (tree sec_then_head no_trees) (refl, refl) tt (doc_name, tt), tt);
+  is_not = λ l. let p = live_misses_by sections_dtd (codes "doc") (an_element (codes "doc")) (forest_of (tag (codes "sec") [] ∷ tag (codes "head") [] ∷ [])) l in
       let e : p.1.number ≡ 0 = let i = p.1.is_owner in cc in no_late_head p.0 (rw e at p.1.possible);
   is_path = refl;
 })

@@ -5,7 +5,7 @@ use Rattle.pv_tree.specs.Plain.{PlainDoc, Tree, depth_of, nodes_in, remarked}
 use Rattle.pv_tree.specs.Legal.{MAX_DEPTH, MAX_NODES}
 use Rattle.pv_read.specs.Grammar.{SpellsDocument, IsDocumentText, MAX_DOC_BYTES}
 use Rattle.pv_read.specs.Reading.{space_at, ReadsElement}
-use Rattle.pv_read.specs.Marks.{HasMarks}
+use Rattle.pv_tree.specs.Marks.{HasMarks}
 use Rattle.pv_read.proofs.OneTree.{one_element}
 use Rattle.pv_read.proofs.TagForms.{space_at_cuts, space_at-append}
 use Rattle.pv_read.proofs.ReadIsSpelled.{spelled_element}

@@ -2,7 +2,7 @@
 use Rattle.std.proofs.Common.{◌≡◌, ℕ, List, max, refl, sym, ap, ◌∙◌, arith}
 use Rattle.pv_tree.specs.Plain.{PlainDoc, Tree, element, text_node, cdata_node, misc_node, Forest, no_trees, tree, depth_of, remarked, remarked_all, unmarked}
 use Rattle.pv_read.specs.Grammar.{SpellsDocument}
-use Rattle.pv_read.specs.Marks.{unmarked_doc}
+use Rattle.pv_tree.specs.Marks.{unmarked_doc}
 use Rattle.pv_read.proofs.OneTree.{one_element}
 use Rattle.pv_read.proofs.Documents.{spelled_is_read}
 

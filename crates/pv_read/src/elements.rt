@@ -3,6 +3,7 @@
 ghost use Rattle.std.specs.Prelude.{◌≡◌, ◌≤◌, ◌<◌, length, List, ℕ, IfOk, IfErr};
 ghost use Rattle.pv_tree.specs.Plain.{Tree, Forest, short, tagged, element, no_trees};
 ghost use Rattle.pv_tree.specs.Read.{plain, forest};
+ghost use Rattle.pv_tree.specs.Marks.{blank_mark};
 ghost use Rattle.pv_tree.specs.declared.nodes.Mark.{Mark};
 ghost use Rattle.pv_read.specs.Errors.{Refuses};
 ghost use Rattle.pv_read.specs.Reading.{ReadsElement, ReadsContent};
@@ -16,7 +17,7 @@ use std::alloc::Global;
 
 // The element of an empty-element tag.
 fn short_element(alloc: Global, tag: &StartTag<'_>) -> Result<Node, NoMemory>
-    ensures { IfOk result (λ node. plain node ≡ element tag.now.name.now tag.now.attrs.now short no_trees Mark.BLANK) }
+    ensures { IfOk result (λ node. plain node ≡ element tag.now.name.now tag.now.attrs.now short no_trees blank_mark) }
 {
     Ok(Node::Elem {
         name: bytes_of(alloc, tag.name)?,
@@ -34,7 +35,7 @@ fn tagged_element(
     kids: Nodes,
     gap: &[u8],
 ) -> Result<Node, NoMemory>
-    ensures { IfOk result (λ node. plain node ≡ element tag.now.name.now tag.now.attrs.now (tagged gap.now) (forest kids.items) Mark.BLANK) }
+    ensures { IfOk result (λ node. plain node ≡ element tag.now.name.now tag.now.attrs.now (tagged gap.now) (forest kids.items) blank_mark) }
 {
     Ok(Node::Elem {
         name: bytes_of(alloc, tag.name)?,
@@ -52,8 +53,8 @@ pub fn element_at<'a>(
     bytes: &'a [u8],
     depth: u32,
 ) -> Result<(Node, &'a [u8]), DocError>
-    ensures reads { IfOk result (λ r. ReadsElement Mark.BLANK depth bytes.now (plain r.0) r.1.now) }
-    ensures refused { IfErr result (λ error. Refuses error ((t : Tree Mark) (rest : List ℕ) → ReadsElement Mark.BLANK depth bytes.now t rest → ⊥)) }
+    ensures reads { IfOk result (λ r. ReadsElement blank_mark depth bytes.now (plain r.0) r.1.now) }
+    ensures refused { IfErr result (λ error. Refuses error ((t : Tree Mark) (rest : List ℕ) → ReadsElement blank_mark depth bytes.now t rest → ⊥)) }
     ensures within { IfOk result (λ r. length r.1.now < length bytes.now) }
 {
     let Some((tag, rest)) = start_tag_at(bytes) else {
@@ -75,8 +76,8 @@ pub fn element_at<'a>(
 /// The content up to an end tag, which stands at the front of the rest.
 #[cycle(elements)]
 fn content_at<'a>(alloc: Global, bytes: &'a [u8], depth: u32) -> Result<(Nodes, &'a [u8]), DocError>
-    ensures reads { IfOk result (λ r. ReadsContent Mark.BLANK depth bytes.now (forest r.0.items) r.1.now) }
-    ensures refused { IfErr result (λ error. Refuses error ((kids : Forest Mark) (rest : List ℕ) → ReadsContent Mark.BLANK depth bytes.now kids rest → ⊥)) }
+    ensures reads { IfOk result (λ r. ReadsContent blank_mark depth bytes.now (forest r.0.items) r.1.now) }
+    ensures refused { IfErr result (λ error. Refuses error ((kids : Forest Mark) (rest : List ℕ) → ReadsContent blank_mark depth bytes.now kids rest → ⊥)) }
     ensures within { IfOk result (λ r. length r.1.now ≤ length bytes.now) }
 {
     let mut kids: Nodes = Vec::new(alloc);

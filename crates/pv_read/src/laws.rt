@@ -3,6 +3,6 @@
 ghost use Rattle.pv_read.specs.Laws.{SpellsOneDocument};
 
 /// A text has one tree, marks aside.
-pub fn one_document()
+pub fn one_document_law()
     ensures { SpellsOneDocument }
 {}

@@ -6,7 +6,7 @@ ghost use Rattle.pv_tree.specs.Docs.{plain_doc};
 ghost use Rattle.pv_tree.specs.declared.nodes.Mark.{Mark};
 ghost use Rattle.pv_read.specs.Grammar.{IsDocumentText};
 ghost use Rattle.pv_read.specs.Errors.{Refuses};
-ghost use Rattle.pv_read.specs.Marks.{HasMarks};
+ghost use Rattle.pv_tree.specs.Marks.{HasMarks, blank_mark};
 
 use crate::elements::element_at;
 use crate::errors::DocError;
@@ -24,7 +24,7 @@ const MAX_DEPTH: u32 = 512;
 /// `Syntax(0)`, whatever is wrong with them and wherever that stands.
 pub fn read_doc(alloc: Global, bytes: &[u8], _root: &[u8]) -> Result<Doc, DocError>
     ensures read { IfOk result (λ doc. IsDocumentText bytes.now (plain_doc doc)) }
-    ensures marks { IfOk result (λ doc. HasMarks Mark.BLANK (plain_doc doc)) }
+    ensures marks { IfOk result (λ doc. HasMarks blank_mark (plain_doc doc)) }
     ensures refused { IfErr result (λ error. Refuses error ((doc : PlainDoc Mark) → IsDocumentText bytes.now doc → ⊥)) }
 {
     if bytes.len() > MAX_DOC_BYTES {

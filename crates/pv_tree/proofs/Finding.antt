@@ -1,51 +1,28 @@
 -- A search of lists, part by part.
-use Rattle.std.proofs.Common.{◌≡◌, ℕ, ◌+◌, ◌-◌, suc, take, arith, List, [], ◌∷◌, ◌++◌, length, add-one, Bool, true, false, refl, sym, ap, ◌∙◌, append_assoc}
+use Rattle.std.proofs.Common.{◌≡◌, ℕ, ◌+◌, ◌-◌, suc, take, arith, List, [], ◌∷◌, ◌++◌, length, add-one, Bool, true, false, refl}
 use Rattle.std.proofs.lemmas.Grind.{common_steps}
 use Rattle.std.specs.List.{AllByRecursion}
 use Rattle.pv_dtd.specs.Plain.{PlainDtd, number_of}
 use Rattle.pv_tree.specs.Plain.{Tree, element, Forest, tree, Ending}
-use Rattle.pv_tree.specs.Lists.{Listed, an_element, IsValidList, IsOwnValid, IsFirstInvalid, lists_at, lists_from}
+use Rattle.pv_tree.specs.Lists.{Listed, an_element, IsValidList, IsOwnValid, IsFirstNot, lists_at, lists_from}
 use Rattle.pv_tree.specs.Search.{Finds}
 use Rattle.pv_tree.proofs.Every.{all_joined}
-
--- the first of some lists is the first of these and more
-pub first_before : {M : Type 0} (g : PlainDtd) (root : List ℕ) (xs ys : List (Listed M)) (path : List ℕ) → IsFirstInvalid g root xs path → IsFirstInvalid g root (xs ++ ys) path
-first_before g root xs ys path f = record {
-  before = f.before;
-  list = f.list;
-  after = f.after ++ ys;
-  is_split = ap (λ zs. zs ++ ys) f.is_split ∙ append_assoc f.before (f.list ∷ f.after) ys;
-  valid_before = f.valid_before;
-  invalid = f.invalid;
-  is_path = f.is_path;
-}
-
--- the first behind lists that are valid by themselves
-first_behind : {M : Type 0} (g : PlainDtd) (root : List ℕ) (xs ys : List (Listed M)) (path : List ℕ) → AllByRecursion (IsValidList g root) xs → IsFirstInvalid g root ys path → IsFirstInvalid g root (xs ++ ys) path
-first_behind g root xs ys path valid f = record {
-  before = xs ++ f.before;
-  list = f.list;
-  after = f.after;
-  is_split = ap (λ zs. xs ++ zs) f.is_split ∙ sym (append_assoc xs f.before (f.list ∷ f.after));
-  valid_before = all_joined (IsValidList g root) xs f.before valid f.valid_before;
-  invalid = f.invalid;
-  is_path = f.is_path;
-}
+use Rattle.pv_tree.proofs.Firsts.{first_before, first_behind}
 
 pub finds_behind : {M : Type 0} (g : PlainDtd) (root : List ℕ) (xs ys : List (Listed M)) (old new : List ℕ) (found : Bool) → AllByRecursion (IsValidList g root) xs → Finds g root ys old new found → Finds g root (xs ++ ys) old new found
-finds_behind g root xs ys old new true valid f = first_behind g root xs ys new valid f
+finds_behind g root xs ys old new true valid f = first_behind (IsValidList g root) xs ys new valid f
 finds_behind g root xs ys old new false valid f = (all_joined (IsValidList g root) xs ys valid f.0, f.1)
 
 -- an element's own list is the first
 pub finds_own : {M : Type 0} (g : PlainDtd) (root : List ℕ) (x attrs : List ℕ) (e : Ending) (kids : Forest M) (mark : M) (path : List ℕ) → (IsOwnValid g (number_of g x) kids → ⊥)
-    → IsFirstInvalid g root (lists_at path (element x attrs e kids mark)) path
+    → IsFirstNot (IsValidList g root) (lists_at path (element x attrs e kids mark)) path
 finds_own g root x attrs e kids mark path bad = record {
   before = [];
   list = record { path = path; owner = an_element x; kids = kids };
   after = lists_from path 0 kids;
   is_split = refl;
-  valid_before = tt;
-  invalid = bad;
+  all_before = tt;
+  is_not = bad;
   is_path = refl;
 }
 
@@ -56,9 +33,9 @@ finds_kids g root x attrs e kids mark path new found own f =
     finds_behind g root (record { path = path; owner = an_element x; kids = kids } ∷ []) (lists_from path 0 kids) path new found (own, tt) f
 
 -- the lists of the first of some trees, and then those of the others
-pub first_in_kid : {M : Type 0} (g : PlainDtd) (root path : List ℕ) (i : ℕ) (kids : Forest M) (t : Tree M) (rest : Forest M) (new : List ℕ) → kids ≡ tree t rest → IsFirstInvalid g root (lists_at (path ++ i ∷ []) t) new
+pub first_in_kid : {M : Type 0} (g : PlainDtd) (root path : List ℕ) (i : ℕ) (kids : Forest M) (t : Tree M) (rest : Forest M) (new : List ℕ) → kids ≡ tree t rest → IsFirstNot (IsValidList g root) (lists_at (path ++ i ∷ []) t) new
     → Finds g root (lists_from path i kids) path new true
-first_in_kid g root path i kids t rest new e f = rw e (first_before g root (lists_at (path ++ i ∷ []) t) (lists_from path (suc i) rest) new f)
+first_in_kid g root path i kids t rest new e f = rw e (first_before (IsValidList g root) (lists_at (path ++ i ∷ []) t) (lists_from path (suc i) rest) new f)
 
 pub finds_behind_kid : {M : Type 0} (g : PlainDtd) (root path : List ℕ) (i : ℕ) (kids : Forest M) (t : Tree M) (rest : Forest M) (new : List ℕ) (found : Bool) → kids ≡ tree t rest
     → AllByRecursion (IsValidList g root) (lists_at (path ++ i ∷ []) t) → Finds g root (lists_from path (i + 1) rest) path new found → Finds g root (lists_from path i kids) path new found

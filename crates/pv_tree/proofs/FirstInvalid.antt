@@ -5,32 +5,32 @@ use Rattle.pv_dtd.specs.Plain.{PlainDtd}
 use Rattle.pv_tree.specs.Plain.{PlainDoc, tree, no_trees}
 use Rattle.pv_dtd.specs.Hedge.{IsValid}
 use Rattle.pv_tree.specs.Legal.{is_legal}
-use Rattle.pv_tree.specs.Lists.{the_document, IsValidList, IsFirstInvalid, IsRootElement, lists_at, lists_of}
+use Rattle.pv_tree.specs.Lists.{the_document, IsValidList, IsFirstNot, IsRootElement, lists_at, lists_of}
 use Rattle.pv_tree.specs.View.{view}
 use Rattle.pv_tree.proofs.Every.{all_right}
 use Rattle.pv_tree.proofs.ValidLists.{valid_lists, legal_texts}
 use Rattle.pv_tree.proofs.Finding.{finds_behind}
 
 -- a document with an invalid list isn't valid
-pub not_valid : {M : Type 0} (g : PlainDtd) (root path : List ℕ) (doc : PlainDoc M) → IsTrue (is_legal doc.root) → IsFirstInvalid g root (lists_of doc) path → IsValid g root (view doc.root) → ⊥
+pub not_valid : {M : Type 0} (g : PlainDtd) (root path : List ℕ) (doc : PlainDoc M) → IsTrue (is_legal doc.root) → IsFirstNot (IsValidList g root) (lists_of doc) path → IsValid g root (view doc.root) → ⊥
 not_valid g root path doc legal f v =
     let all = subst (AllByRecursion (IsValidList g root)) f.is_split ((valid_lists g root doc (legal_texts doc.root legal)).1 v) in
-    f.invalid (all_right (IsValidList g root) f.before (f.list ∷ f.after) all).0
+    f.is_not (all_right (IsValidList g root) f.before (f.list ∷ f.after) all).0
 
 -- the list of the document node is the first
-pub root_invalid : {M : Type 0} (g : PlainDtd) (root : List ℕ) (doc : PlainDoc M) → (IsRootElement root doc.root → ⊥) → IsFirstInvalid g root (lists_of doc) []
+pub root_invalid : {M : Type 0} (g : PlainDtd) (root : List ℕ) (doc : PlainDoc M) → (IsRootElement root doc.root → ⊥) → IsFirstNot (IsValidList g root) (lists_of doc) []
 root_invalid g root doc bad = record {
   before = [];
   list = record { path = []; owner = the_document; kids = tree doc.root no_trees };
   after = lists_at (0 ∷ []) doc.root;
   is_split = refl;
-  valid_before = tt;
-  invalid = λ v. bad v.0;
+  all_before = tt;
+  is_not = λ v. bad v.0;
   is_path = refl;
 }
 
 -- the others come behind it
-pub below_invalid : {M : Type 0} (g : PlainDtd) (root path : List ℕ) (doc : PlainDoc M) → IsRootElement root doc.root → IsFirstInvalid g root (lists_at (0 ∷ []) doc.root) path → IsFirstInvalid g root (lists_of doc) path
+pub below_invalid : {M : Type 0} (g : PlainDtd) (root path : List ℕ) (doc : PlainDoc M) → IsRootElement root doc.root → IsFirstNot (IsValidList g root) (lists_at (0 ∷ []) doc.root) path → IsFirstNot (IsValidList g root) (lists_of doc) path
 below_invalid g root path doc is f =
     finds_behind g root (record { path = []; owner = the_document; kids = tree doc.root no_trees } ∷ []) (lists_at (0 ∷ []) doc.root) [] path true ((is, refl), tt) f
 

@@ -1,4 +1,5 @@
 pub mod Every
+pub mod Firsts
 pub mod Levels
 pub mod Forests
 pub mod Owners

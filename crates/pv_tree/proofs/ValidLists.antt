@@ -1,7 +1,7 @@
 -- A document is valid exactly where each of its lists is valid by itself.
-use Rattle.std.proofs.Common.{◌≡◌, ◌↔◌, ℕ, suc, List, [], ◌∷◌, ◌++◌, ◌&&◌, IsTrue, Some, refl, ap}
+use Rattle.std.proofs.Common.{◌≡◌, ◌≢◌, ◌↔◌, ℕ, suc, List, [], ◌∷◌, ◌++◌, ◌&&◌, IsTrue, Some, refl, ap}
 use Rattle.std.specs.List.{AllByRecursion, list_all}
-use Rattle.std.proofs.lemmas.Bool.{and_from, and_parts}
+use Rattle.std.proofs.lemmas.Bool.{and_parts}
 use Rattle.pv_chars.specs.Spaces.{is_space}
 use Rattle.pv_chars.specs.PlainNames.{is_plain_name}
 use Rattle.pv_dtd.specs.Plain.{PlainDtd, number_of, declared}
@@ -9,23 +9,23 @@ use Rattle.pv_tree.specs.Plain.{Tree, element, text_node, cdata_node, misc_node,
 use Rattle.pv_dtd.specs.Hedge.{Hedge, done, elem, word, Fits, AreGood, IsValid}
 use Rattle.pv_tree.specs.Legal.{is_legal, are_legal, is_legal_ending, are_plain_units}
 use Rattle.pv_tree.specs.Lists.{IsOwnValid, IsValidList, IsRootElement, lists_at, lists_from, lists_of}
-use Rattle.pv_tree.specs.Texts.{has_unit, has_no_empty_text, have_no_empty_text}
+use Rattle.pv_tree.specs.Units.{HasUnits, HaveUnits}
 use Rattle.pv_tree.specs.View.{spread, view_before, view_all, view}
 use Rattle.pv_tree.specs.Words.{word_of}
 use Rattle.pv_tree.proofs.Every.{all_left, all_right, all_joined}
 use Rattle.pv_tree.proofs.Alike.{alike_back, allows_alike}
 use Rattle.pv_tree.proofs.Spread.{word_alike}
 
--- where no text is empty, nothing is seen only where nothing is there
-view_none : {M : Type 0} (kids : Forest M) → IsTrue (have_no_empty_text kids) → view_all kids ≡ done → kids ≡ no_trees
+-- where each text has a unit, nothing is seen only where nothing is there
+view_none : {M : Type 0} (kids : Forest M) → HaveUnits kids → view_all kids ≡ done → kids ≡ no_trees
 view_none no_trees p e = refl
 view_none (tree (element x attrs ending kids mark) rest) p e = cc
-view_none (tree (text_node []) rest) p e = cc
+view_none (tree (text_node []) rest) p e = absurd (p.0 refl)
 view_none (tree (text_node (unit ∷ units)) rest) p e = cc
 view_none (tree (cdata_node bytes) rest) p e = cc
 view_none (tree (misc_node bytes) rest) p e = cc
 
-fits_own : {M : Type 0} (g : PlainDtd) (x : List ℕ) (y : ℕ) (kids : Forest M) → IsTrue (have_no_empty_text kids) → number_of g x ≡ Some y → Fits g y (view_all kids) → IsOwnValid g (number_of g x) kids
+fits_own : {M : Type 0} (g : PlainDtd) (x : List ℕ) (y : ℕ) (kids : Forest M) → HaveUnits kids → number_of g x ≡ Some y → Fits g y (view_all kids) → IsOwnValid g (number_of g x) kids
 fits_own g x y kids p is f = record {
   number = y;
   is_owner = is;
@@ -72,18 +72,17 @@ rest_good g (cdata_node bytes) h r = r
 rest_good g (misc_node bytes) h r = r
 
 mutual
-  good_lists : {M : Type 0} (g : PlainDtd) (root path : List ℕ) (t : Tree M) (h : Hedge) → IsTrue (has_no_empty_text t) → AreGood g (view_before t h) → AllByRecursion (IsValidList g root) (lists_at path t)
+  good_lists : {M : Type 0} (g : PlainDtd) (root path : List ℕ) (t : Tree M) (h : Hedge) → HasUnits t → AreGood g (view_before t h) → AllByRecursion (IsValidList g root) (lists_at path t)
   good_lists g root path (element x attrs ending kids mark) h p (y, is, fits, below, rest) = (fits_own g x y kids p is fits, good_all_lists g root path 0 kids p below)
   good_lists g root path (text_node units) h p r = tt
   good_lists g root path (cdata_node bytes) h p r = tt
   good_lists g root path (misc_node bytes) h p r = tt
 
-  good_all_lists : {M : Type 0} (g : PlainDtd) (root path : List ℕ) (i : ℕ) (kids : Forest M) → IsTrue (have_no_empty_text kids) → AreGood g (view_all kids) → AllByRecursion (IsValidList g root) (lists_from path i kids)
+  good_all_lists : {M : Type 0} (g : PlainDtd) (root path : List ℕ) (i : ℕ) (kids : Forest M) → HaveUnits kids → AreGood g (view_all kids) → AllByRecursion (IsValidList g root) (lists_from path i kids)
   good_all_lists g root path i no_trees p r = tt
   good_all_lists g root path i (tree t rest) p r =
-      let q = and_parts (has_no_empty_text t) (have_no_empty_text rest) p in
-      all_joined _ (lists_at (path ++ i ∷ []) t) (lists_from path (suc i) rest) (good_lists g root (path ++ i ∷ []) t (view_all rest) q.0 r)
-      (good_all_lists g root path (suc i) rest q.1 (rest_good g t (view_all rest) r))
+      all_joined _ (lists_at (path ++ i ∷ []) t) (lists_from path (suc i) rest) (good_lists g root (path ++ i ∷ []) t (view_all rest) p.0 r)
+      (good_all_lists g root path (suc i) rest p.1 (rest_good g t (view_all rest) r))
 
 root_valid : {M : Type 0} (g : PlainDtd) (root path : List ℕ) (t : Tree M) → IsRootElement root t → AllByRecursion (IsValidList g root) (lists_at path t) → IsValid g root (view t)
 root_valid g root path (element x attrs ending kids mark) e v = record {
@@ -103,26 +102,24 @@ is_root root attrs kids (text_node (unit ∷ units)) e = absurd cc
 is_root root attrs kids (cdata_node bytes) e = absurd cc
 is_root root attrs kids (misc_node bytes) e = absurd cc
 
-pub valid_lists : {M : Type 0} (g : PlainDtd) (root : List ℕ) (doc : PlainDoc M) → IsTrue (has_no_empty_text doc.root) → AllByRecursion (IsValidList g root) (lists_of doc) ↔ IsValid g root (view doc.root)
+pub valid_lists : {M : Type 0} (g : PlainDtd) (root : List ℕ) (doc : PlainDoc M) → HasUnits doc.root → AllByRecursion (IsValidList g root) (lists_of doc) ↔ IsValid g root (view doc.root)
 valid_lists g root doc p = (
   λ v. root_valid g root (0 ∷ []) doc.root v.0.0 v.1,
   λ v. ((is_root root v.attrs v.kids doc.root v.is_root, refl), good_lists g root (0 ∷ []) doc.root done p v.good),
 )
 
-plain_has_unit : (units : List (List ℕ)) → IsTrue (are_plain_units units) → IsTrue (has_unit units)
-plain_has_unit [] h = cc
-plain_has_unit (unit ∷ units) h = refl
+plain_has_unit : (units : List (List ℕ)) → IsTrue (are_plain_units units) → units ≢ []
+plain_has_unit [] h e = absurd cc
+plain_has_unit (unit ∷ units) h e = cc
 
--- no text of a legal tree is empty
+-- each text of a legal tree has a unit
 mutual
-  pub legal_texts : {M : Type 0} (t : Tree M) → IsTrue (is_legal t) → IsTrue (has_no_empty_text t)
+  pub legal_texts : {M : Type 0} (t : Tree M) → IsTrue (is_legal t) → HasUnits t
   legal_texts (element x attrs ending kids mark) h = legal_all_texts kids (and_parts (is_plain_name x && list_all is_space attrs && is_legal_ending ending) (are_legal kids) h).1
   legal_texts (text_node units) h = plain_has_unit units h
-  legal_texts (cdata_node bytes) h = refl
-  legal_texts (misc_node bytes) h = refl
+  legal_texts (cdata_node bytes) h = tt
+  legal_texts (misc_node bytes) h = tt
 
-  legal_all_texts : {M : Type 0} (kids : Forest M) → IsTrue (are_legal kids) → IsTrue (have_no_empty_text kids)
-  legal_all_texts no_trees h = refl
-  legal_all_texts (tree t rest) h =
-      let q = and_parts (is_legal t) (are_legal rest) h in
-      and_from (has_no_empty_text t) (have_no_empty_text rest) (legal_texts t q.0) (legal_all_texts rest q.1)
+  legal_all_texts : {M : Type 0} (kids : Forest M) → IsTrue (are_legal kids) → HaveUnits kids
+  legal_all_texts no_trees h = tt
+  legal_all_texts (tree t rest) h = let q = and_parts (is_legal t) (are_legal rest) h in (legal_texts t q.0, legal_all_texts rest q.1)

@@ -6,7 +6,8 @@ pub mod Lists
 pub mod Search
 pub mod Places
 pub mod Legal
-pub mod Texts
+pub mod Units
+pub mod Marks
 pub mod Laws
 pub mod Read
 pub mod Docs

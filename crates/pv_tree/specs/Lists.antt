@@ -62,12 +62,12 @@ IsValidBy g root (an_element x) kids = IsOwnValid g (number_of g x) kids
 abbrev pub IsValidList : {M : Type 0} → PlainDtd → List ℕ → Listed M → Type 0
 IsValidList g root list = IsValidBy g root list.owner list.kids
 
--- the path of the first list that isn't valid by itself
-pub record IsFirstInvalid {M : Type 0} (g : PlainDtd) (root : List ℕ) (lists : List (Listed M)) (path : List ℕ) : Type 0 where
+-- the path of the first of some lists that isn't so
+pub record IsFirstNot {M : Type 0} (P : Listed M → Type 0) (lists : List (Listed M)) (path : List ℕ) : Type 0 where
   pub before : List (Listed M)
   pub list : Listed M
   pub after : List (Listed M)
   pub is_split : lists ≡ before ++ list ∷ after
-  pub valid_before : AllByRecursion (IsValidList g root) before
-  pub invalid : IsValidList g root list → ⊥
+  pub all_before : AllByRecursion P before
+  pub is_not : P list → ⊥
   pub is_path : path ≡ list.path

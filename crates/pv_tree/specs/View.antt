@@ -7,22 +7,29 @@ use Rattle.pv_dtd.specs.Hedge.{Leaf, white, data_unit, cdata, misc, Hedge, done,
 abbrev pub unit_leaf : List ℕ → Leaf
 unit_leaf unit = if is_data unit then data_unit unit else white unit
 
--- the units before a hedge
+-- the units of a text before a hedge
 abbrev pub spread : List (List ℕ) → Hedge → Hedge
 spread [] h = h
 spread (unit ∷ units) h = leaf (unit_leaf unit) (spread units h)
 
+-- The hedge that a tree shows, before another. What a text shows is told by a function, which puts its units before a hedge.
 abbrev mutual
-  -- the tree before a hedge
-  pub view_before : {M : Type 0} → Tree M → Hedge → Hedge
-  view_before (element x attrs ending kids mark) h = elem x attrs (view_all kids) h
-  view_before (text_node units) h = spread units h
-  view_before (cdata_node bytes) h = leaf (cdata bytes) h
-  view_before (misc_node bytes) h = leaf (misc bytes) h
+  pub shown_before : {M : Type 0} → (List (List ℕ) → Hedge → Hedge) → Tree M → Hedge → Hedge
+  shown_before text (element x attrs ending kids mark) h = elem x attrs (shown_all text kids) h
+  shown_before text (text_node units) h = text units h
+  shown_before text (cdata_node bytes) h = leaf (cdata bytes) h
+  shown_before text (misc_node bytes) h = leaf (misc bytes) h
 
-  pub view_all : {M : Type 0} → Forest M → Hedge
-  view_all no_trees = done
-  view_all (tree t rest) = view_before t (view_all rest)
+  pub shown_all : {M : Type 0} → (List (List ℕ) → Hedge → Hedge) → Forest M → Hedge
+  shown_all text no_trees = done
+  shown_all text (tree t rest) = shown_before text t (shown_all text rest)
+
+-- the tree before a hedge
+abbrev pub view_before : {M : Type 0} → Tree M → Hedge → Hedge
+view_before t h = shown_before spread t h
+
+abbrev pub view_all : {M : Type 0} → Forest M → Hedge
+view_all kids = shown_all spread kids
 
 abbrev pub view : {M : Type 0} → Tree M → Hedge
 view t = view_before t done

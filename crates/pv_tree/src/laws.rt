@@ -1,6 +1,6 @@
 //! Laws on lists and validity.
 
-ghost use Rattle.pv_tree.specs.Laws.{IsValidByLists, LegalTextsHaveUnits};
+ghost use Rattle.pv_tree.specs.Laws.{IsBlank, IsValidByLists, LegalTextsHaveUnits};
 ghost use Rattle.pv_tree.specs.declared.nodes.Mark.{Mark};
 
 /// A document is valid exactly where each of its lists is valid by itself.
@@ -8,7 +8,12 @@ pub fn valid_lists_law()
     ensures { IsValidByLists Mark }
 {}
 
-/// No text of a legal tree is empty.
+/// Each text of a legal tree has a unit.
 pub fn legal_texts_law()
     ensures { LegalTextsHaveUnits Mark }
+{}
+
+/// `Mark::BLANK` is the mark of a list that nothing is known of.
+pub fn blank_mark_law()
+    ensures { IsBlank }
 {}

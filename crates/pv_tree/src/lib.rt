@@ -2,7 +2,7 @@
 #![tactic(auto)]
 
 mod document;
-mod laws;
+pub mod laws;
 mod nodes;
 mod paths;
 mod places;
@@ -10,7 +10,6 @@ mod validity;
 mod words;
 
 pub use document::Doc;
-pub use laws::{legal_texts_law, valid_lists_law};
 pub use nodes::{End, Mark, Node, Nodes, Verdict};
 pub use paths::Path;
 pub use places::Found;

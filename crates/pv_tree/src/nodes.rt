@@ -2,14 +2,15 @@
 
 use pv_chars::{Bytes, Units};
 
-/// What is known of a child list.
+/// What is known of a child list. `Impossible` is asked first: a list may be valid by itself and be no part of any valid document,
+/// as that of an element whose name isn't productive.
 #[derive(Clone, Copy, Debug, PartialEq, Eq)]
 pub enum Verdict {
-    /// The list is valid by itself.
+    /// The list isn't `Impossible`, and it is valid by itself.
     Valid,
-    /// It isn't, and inserting elements can make it so.
+    /// The list isn't `Impossible`, and it isn't valid by itself.
     Possible,
-    /// It isn't, and inserting elements can't make it so.
+    /// No insertion of elements makes the list a part of a valid document.
     Impossible,
 }
 

@@ -9,7 +9,7 @@ ghost use Rattle.pv_tree.specs.Plain.{nodes_in, nodes_in_all};
 ghost use Rattle.pv_dtd.specs.Hedge.{IsValid};
 ghost use Rattle.pv_tree.specs.Legal.{MAX_NODES};
 ghost use Rattle.pv_tree.specs.View.{view};
-ghost use Rattle.pv_tree.specs.Lists.{IsFirstInvalid, IsOwnValid, IsRootElement, lists_at, lists_from, lists_of};
+ghost use Rattle.pv_tree.specs.Lists.{IsFirstNot, IsOwnValid, IsRootElement, IsValidList, lists_at, lists_from, lists_of};
 ghost use Rattle.pv_tree.specs.Search.{Finds};
 ghost use Rattle.pv_tree.specs.Read.{plain, forest};
 ghost use Rattle.pv_tree.specs.Docs.{plain_doc};
@@ -31,7 +31,7 @@ pub fn first_invalid(
     doc: &Doc,
 ) -> Result<Option<Path>, NoMemory>
     ensures valid { IfOk result (λ found. IsNone found ↔ IsValid (plain_dtd dtd.now) root.now (view (plain_doc doc.now).root)) }
-    ensures first { IfOk result (λ found. IfSome found (IsFirstInvalid (plain_dtd dtd.now) root.now (lists_of (plain_doc doc.now)))) }
+    ensures first { IfOk result (λ found. IfSome found (IsFirstNot (IsValidList (plain_dtd dtd.now) root.now) (lists_of (plain_doc doc.now)))) }
 {
     if !is_root(root, &doc.root) {
         return Ok(Some(Path::new(alloc, &[])?));

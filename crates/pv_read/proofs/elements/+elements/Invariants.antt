@@ -1,6 +1,6 @@
 use Rattle.std.proofs.Common.{length, ◌+◌, ◌*◌}
 use Rattle.pv_tree.specs.Read.{plain_all}
-use Rattle.pv_tree.specs.declared.nodes.TheConstants as constants
+use Rattle.pv_tree.specs.Marks.{blank_mark}
 use Rattle.pv_read.proofs.Content.{Siblings}
 use Rattle.pv_read.proofs.elements.+elements.Given as goal
 
@@ -12,7 +12,7 @@ decreases-element_at l = 2 * l.depth
 
 -- content of the rest makes these kids content of all, and content of all leaves content of the rest
 abbrev pub invariant-content_at-siblings : goal.invariant-content_at-siblings
-invariant-content_at-siblings l = Siblings constants.Mark.BLANK l.depth l.bytes (plain_all l.kids.items) l.rest
+invariant-content_at-siblings l = Siblings blank_mark l.depth l.bytes (plain_all l.kids.items) l.rest
 
 abbrev pub decreases-content_at-siblings : goal.decreases-content_at-siblings
 decreases-content_at-siblings l = length l.rest

@@ -4,7 +4,7 @@ use Rattle.std.specs.List.{AllByRecursion}
 use Rattle.pv_dtd.specs.Plain.{number_of}
 use Rattle.pv_dtd.specs.PlainForms.{plain_dtd}
 use Rattle.pv_tree.specs.Plain.{no_trees, nodes_in_all}
-use Rattle.pv_tree.specs.Lists.{IsFirstInvalid, IsValidList, IsOwnValid, lists_at, lists_from}
+use Rattle.pv_tree.specs.Lists.{IsFirstNot, IsValidList, IsOwnValid, lists_at, lists_from}
 use Rattle.pv_tree.specs.Search.{Finds}
 use Rattle.pv_tree.specs.Read.{plain, plain_end, forest}
 use Rattle.pv_tree.proofs.Levels.{plain-Elem}
@@ -35,7 +35,7 @@ has_invalid_kid-returns-then-branch t c =
     let rest = forest (drop (c.loop-i.i + 1) c.args.kids.now) in
     let step = forest-drop c.args.kids.now c.loop-i.i kid (omega arith) c.index-kids-i.is in
     λ root.
-    let below : IsFirstInvalid g root (lists_at (c.loop-i.places.items ++ c.loop-i.i ∷ []) (plain kid)) c.has_invalid.new.places.items = rw (c.if-branch.true, c.in_ok-push.ensures.items) at (c.in_ok-has_invalid.ensures root) in
+    let below : IsFirstNot (IsValidList g root) (lists_at (c.loop-i.places.items ++ c.loop-i.i ∷ []) (plain kid)) c.has_invalid.new.places.items = rw (c.if-branch.true, c.in_ok-push.ensures.items) at (c.in_ok-has_invalid.ensures root) in
     let all = c.loop-i.invariant.found root c.has_invalid.new.places.items true (first_in_kid g root c.loop-i.places.items c.loop-i.i _ (plain kid) rest c.has_invalid.new.places.items step below) in
     rw c.loop-i.invariant.same_places at all
 

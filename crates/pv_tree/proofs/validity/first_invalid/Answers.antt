@@ -1,7 +1,7 @@
 use Rattle.std.proofs.Common.{◌≡◌, ℕ, List, [], ◌∷◌, ◌++◌, true, refl}
 use Rattle.std.specs.List.{AllByRecursion}
 use Rattle.pv_dtd.specs.PlainForms.{plain_dtd}
-use Rattle.pv_tree.specs.Lists.{IsFirstInvalid, IsValidList, IsRootElement, lists_at, lists_of}
+use Rattle.pv_tree.specs.Lists.{IsFirstNot, IsValidList, IsRootElement, lists_at, lists_of}
 use Rattle.pv_tree.specs.Read.{plain}
 use Rattle.pv_tree.specs.Docs.{plain_doc}
 use Rattle.pv_tree.proofs.FirstInvalid.{not_valid, root_invalid, below_invalid, all_valid}
@@ -16,12 +16,12 @@ returns-then-not-is_root-clause-first c =
 places_of_root : (old pushed : List ℕ) → old ≡ [] → pushed ≡ old ++ 0 ∷ [] → pushed ≡ 0 ∷ []
 places_of_root old pushed e f = rw e at f
 
-first_at : (c : After-drop-places-then-branch) → IsFirstInvalid (plain_dtd c.args.dtd.now) c.args.root.now (lists_of (plain_doc c.args.doc.now)) c.in_ok-new-2.field-0
+first_at : (c : After-drop-places-then-branch) → IsFirstNot (IsValidList (plain_dtd c.args.dtd.now) c.args.root.now) (lists_of (plain_doc c.args.doc.now)) c.in_ok-new-2.field-0
 first_at c =
     let g = plain_dtd c.args.dtd.now in
     let is : IsRootElement c.args.root.now (plain c.args.doc.now.root) = c.is_root.ensures.0 c.if-not-is_root.false in
     let places = places_of_root _ _ c.new-places.ensures.items c.in_ok-push.ensures.items in
-    let below : IsFirstInvalid g c.args.root.now (lists_at (0 ∷ []) (plain c.args.doc.now.root)) c.has_invalid.new.places.items = rw (c.if-branch.true, places) at (c.in_ok-has_invalid.ensures c.args.root.now) in
+    let below : IsFirstNot (IsValidList g c.args.root.now) (lists_at (0 ∷ []) (plain c.args.doc.now.root)) c.has_invalid.new.places.items = rw (c.if-branch.true, places) at (c.in_ok-has_invalid.ensures c.args.root.now) in
     rw (c.in_ok-new-2.ensures, c.deref.ensures.value) (below_invalid g c.args.root.now c.has_invalid.new.places.items (plain_doc c.args.doc.now) is below)
 
 pub returns-then-branch-clause-valid : goal.returns-then-branch-clause-valid

@@ -1,8 +1,9 @@
--- Trees in which each text has a unit; every document of the program has such a tree.
+-- Trees in which each text has a unit.
 use Rattle.std.specs.Prelude.{[], ◌≢◌}
 use Rattle.pv_tree.specs.Plain.{Forest, Tree, cdata_node, element, misc_node, no_trees, text_node, tree}
 
 abbrev mutual
+  -- each text has a unit, at all depths
   pub HasUnits : {M : Type 0} → Tree M → Type 0
   HasUnits (element x attrs ending kids mark) = HaveUnits kids
   HasUnits (text_node units) = units ≢ []

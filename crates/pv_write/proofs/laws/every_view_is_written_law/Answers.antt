@@ -2,7 +2,7 @@ use Rattle.std.specs.List.{list_all}
 use Rattle.std.proofs.lemmas.Bool.{and_parts}
 use Rattle.pv_chars.specs.Spaces.{is_space}
 use Rattle.pv_write.proofs.Views.{view_written}
-use Rattle.pv_write.proofs.laws.every_view_is_written.Goals as goal
+use Rattle.pv_write.proofs.laws.every_view_is_written_law.Goals as goal
 
 pub returns : goal.returns
 returns c = λ doc rooted formed legal markless margins.

@@ -1,6 +1,12 @@
--- The marks that a reader gives, and documents without their marks.
+-- The marks of a document. They are no part of its meaning.
 use Rattle.std.specs.Prelude.{◌≡◌}
 use Rattle.pv_tree.specs.Plain.{PlainDoc, remarked, unmarked}
+use Rattle.pv_tree.specs.declared.nodes.Mark.{Mark}
+use Rattle.pv_tree.specs.declared.nodes.Verdict.TheVariants as verdict
+
+-- the mark of a list that nothing is known of
+abbrev pub blank_mark : Mark
+blank_mark = record { verdict = verdict.Valid; stamp = 0; left = 0; nodes = 0 }
 
 -- The document and each of its elements have this mark.
 pub record HasMarks {M : Type 0} (mark : M) (doc : PlainDoc M) : Type 0 where
