@@ -19,7 +19,8 @@ hello = tag (codes "doc") (chars (codes "Hello") ∷ [])
 
 -- <doc><head>He</head>llo</doc>
 abbrev pub head_then_text : Tree Unit
-head_then_text = tag (codes "doc") (tag (codes "head") (chars (codes "He") ∷ []) ∷ chars (codes "llo") ∷ [])
+head_then_text = tag (codes "doc") (
+    tag (codes "head") (chars (codes "He") ∷ []) ∷ chars (codes "llo") ∷ [])
 
 -- <doc><em>x</em></doc>
 abbrev pub em_alone : Tree Unit
@@ -27,7 +28,8 @@ em_alone = tag (codes "doc") (tag (codes "em") (chars (codes "x") ∷ []) ∷ []
 
 -- <doc><p>a</p><title>b</title></doc>
 abbrev pub p_then_title : Tree Unit
-p_then_title = tag (codes "doc") (tag (codes "p") (chars (codes "a") ∷ []) ∷ tag (codes "title") (chars (codes "b") ∷ []) ∷ [])
+p_then_title = tag (codes "doc") (
+    tag (codes "p") (chars (codes "a") ∷ []) ∷ tag (codes "title") (chars (codes "b") ∷ []) ∷ [])
 
 -- <doc><sec/><head/></doc>
 abbrev pub sec_then_head : Tree Unit
@@ -39,7 +41,8 @@ p_alone = tag (codes "p") (chars (codes "a") ∷ [])
 
 -- <doc><head/><sec><p><br> </br></p></sec></doc>
 abbrev pub blank_in_br : Tree Unit
-blank_in_br = tag (codes "doc") (tag (codes "head") [] ∷ tag (codes "sec") (tag (codes "p") (tag (codes "br") (chars (codes " ") ∷ []) ∷ []) ∷ []) ∷ [])
+blank_in_br = tag (codes "doc") (tag (codes "head") [] ∷
+    tag (codes "sec") (tag (codes "p") (tag (codes "br") (chars (codes " ") ∷ []) ∷ []) ∷ []) ∷ [])
 
 -- <doc><!--c--> </doc>
 abbrev pub comment_alone : Tree Unit
@@ -47,7 +50,8 @@ comment_alone = tag (codes "doc") (misc_node (codes "<!--c-->") ∷ chars (codes
 
 -- <doc><head/><sec>..</sec></doc>, with this text in the sec
 abbrev pub sec_with : List (List ℕ) → Tree Unit
-sec_with units = tag (codes "doc") (tag (codes "head") [] ∷ tag (codes "sec") (text_node units ∷ []) ∷ [])
+sec_with units = tag (codes "doc") (
+    tag (codes "head") [] ∷ tag (codes "sec") (text_node units ∷ []) ∷ [])
 
 -- <x><y/><y/><y/></x>
 abbrev pub three_ys : Tree Unit
@@ -73,7 +77,8 @@ newline = text_node ((10 ∷ []) ∷ [])
 abbrev pub attribute : ℕ → List ℕ → List ℕ → List ℕ
 attribute quote x value = 32 ∷ (x ++ 61 ∷ quote ∷ value ++ quote ∷ [])
 
--- the root of a letter with white space, attributes, a reference, a CDATA section and a processing instruction:
+-- the root of a letter with white space, attributes, a reference, a CDATA section and a processing
+-- instruction:
 --
 -- <doc id="d1">
 -- <head>On caf&#233;s</head>
@@ -84,11 +89,14 @@ attribute quote x value = 32 ∷ (x ++ 61 ∷ quote ∷ value ++ quote ∷ [])
 -- <?page 2?>
 -- </doc>
 abbrev pub letter_head : Tree Unit
-letter_head = tag (codes "head") (text_node (units_of (codes "On caf") ++ codes "&#233;" ∷ units_of (codes "s")) ∷ [])
+letter_head = tag (codes "head") (
+    text_node (units_of (codes "On caf") ++ codes "&#233;" ∷ units_of (codes "s")) ∷ [])
 
 abbrev pub letter_sec : Tree Unit
-letter_sec = element (codes "sec") (attribute 39 (codes "class") (codes "intro")) (tagged []) (forest_of (
-    text_node ((10 ∷ []) ∷ units_of (codes "Caf") ++ (195 ∷ 169 ∷ []) ∷ units_of (codes "s opened early. See ")) ∷
+letter_sec = element (codes "sec") (attribute 39 (codes "class") (codes "intro")) (tagged [])
+    (forest_of (
+    text_node ((10 ∷ []) ∷ units_of (codes "Caf") ++ (195 ∷ 169 ∷ []) ∷
+    units_of (codes "s opened early. See ")) ∷
     cdata_node (codes "<![CDATA[<menu>]]>") ∷
     text_node (units_of (codes " below.") ++ (10 ∷ []) ∷ []) ∷
     tag (codes "em") (chars (codes "Tea") ∷ []) ∷
@@ -98,7 +106,8 @@ letter_sec = element (codes "sec") (attribute 39 (codes "class") (codes "intro")
 
 abbrev pub letter : Tree Unit
 letter = element (codes "doc") (attribute 34 (codes "id") (codes "d1")) (tagged []) (forest_of (
-    newline ∷ letter_head ∷ newline ∷ letter_sec ∷ newline ∷ misc_node (codes "<?page 2?>") ∷ newline ∷ [])) tt
+    newline ∷ letter_head ∷ newline ∷ letter_sec ∷ newline ∷
+    misc_node (codes "<?page 2?>") ∷ newline ∷ [])) tt
 
 -- the same letter completed, with this sec in the place of its own:
 --
@@ -108,7 +117,8 @@ letter = element (codes "doc") (attribute 34 (codes "id") (codes "d1")) (tagged 
 -- </sec>
 abbrev pub first_p : Tree Unit
 first_p = tag (codes "p") (
-    text_node ((10 ∷ []) ∷ units_of (codes "Caf") ++ (195 ∷ 169 ∷ []) ∷ units_of (codes "s opened early. See ")) ∷
+    text_node ((10 ∷ []) ∷ units_of (codes "Caf") ++ (195 ∷ 169 ∷ []) ∷
+    units_of (codes "s opened early. See ")) ∷
     cdata_node (codes "<![CDATA[<menu>]]>") ∷
     text_node (units_of (codes " below.") ++ (10 ∷ []) ∷ []) ∷ [])
 
@@ -119,9 +129,12 @@ second_p = tag (codes "p") (
     element (codes "br") (32 ∷ []) short no_trees tt ∷ [])
 
 abbrev pub completed_sec : Tree Unit
-completed_sec = element (codes "sec") (attribute 39 (codes "class") (codes "intro")) (tagged []) (forest_of (
+completed_sec = element (codes "sec") (attribute 39 (codes "class") (codes "intro")) (tagged [])
+    (forest_of (
     tag (codes "title") (chars (codes "Opening") ∷ []) ∷ first_p ∷ second_p ∷ newline ∷ [])) tt
 
 abbrev pub completed_letter : Tree Unit
-completed_letter = element (codes "doc") (attribute 34 (codes "id") (codes "d1")) (tagged []) (forest_of (
-    newline ∷ letter_head ∷ newline ∷ completed_sec ∷ newline ∷ misc_node (codes "<?page 2?>") ∷ newline ∷ [])) tt
+completed_letter = element (codes "doc") (attribute 34 (codes "id") (codes "d1")) (tagged [])
+    (forest_of (
+    newline ∷ letter_head ∷ newline ∷ completed_sec ∷ newline ∷
+    misc_node (codes "<?page 2?>") ∷ newline ∷ [])) tt

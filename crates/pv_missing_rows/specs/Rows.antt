@@ -43,7 +43,8 @@ OtherWords =
 
 -- live words
 abbrev pub LiveWords : Type 0
-LiveWords = IsLiveWord any_dtd (named 1 ∷ named 2 ∷ text ∷ other ∷ []) (named 1 ∷ other ∷ text ∷ other ∷ [])
+LiveWords =
+    IsLiveWord any_dtd (named 1 ∷ named 2 ∷ text ∷ other ∷ []) (named 1 ∷ other ∷ text ∷ other ∷ [])
 
 -- two elements are missing in <doc>Hello</doc>, a head round the text and an empty sec
 abbrev pub HelloRow : Type 0
@@ -51,13 +52,16 @@ HelloRow = Needs sections_dtd (codes "doc") hello (verdict.Valid ∷ verdict.Pos
 
 -- a text behind a head misses a sec and a title or p in it
 abbrev pub HeadTextRow : Type 0
-HeadTextRow = Needs sections_dtd (codes "doc") head_then_text (verdict.Valid ∷ verdict.Possible ∷ verdict.Valid ∷ []) 2
+HeadTextRow = Needs sections_dtd (codes "doc") head_then_text
+    (verdict.Valid ∷ verdict.Possible ∷ verdict.Valid ∷ []) 2
 
 abbrev pub EmRow : Type 0
-EmRow = Needs sections_dtd (codes "doc") em_alone (verdict.Valid ∷ verdict.Possible ∷ verdict.Valid ∷ []) 3
+EmRow = Needs sections_dtd (codes "doc") em_alone
+    (verdict.Valid ∷ verdict.Possible ∷ verdict.Valid ∷ []) 3
 
 abbrev pub TitleRow : Type 0
-TitleRow = Needs sections_dtd (codes "doc") p_then_title (verdict.Valid ∷ verdict.Possible ∷ verdict.Valid ∷ verdict.Valid ∷ []) 3
+TitleRow = Needs sections_dtd (codes "doc") p_then_title
+    (verdict.Valid ∷ verdict.Possible ∷ verdict.Valid ∷ verdict.Valid ∷ []) 3
 
 abbrev pub HeadRow : Type 0
 HeadRow = IsImpossibleAt sections_dtd (codes "doc") sec_then_head (0 ∷ [])
@@ -70,17 +74,21 @@ abbrev pub BlankRow : Type 0
 BlankRow = IsImpossibleAt sections_dtd (codes "doc") blank_in_br (0 ∷ 1 ∷ 0 ∷ 0 ∷ [])
 
 abbrev pub CommentRow : Type 0
-CommentRow = Needs sections_dtd (codes "doc") comment_alone (verdict.Valid ∷ verdict.Possible ∷ []) 2
+CommentRow = Needs sections_dtd (codes "doc") comment_alone
+    (verdict.Valid ∷ verdict.Possible ∷ []) 2
 
 -- a reference to white space is data, and a literal blank isn't
 abbrev pub ReferenceRow : Type 0
 ReferenceRow =
-    Needs sections_dtd (codes "doc") (sec_with (codes "&#32;" ∷ [])) (verdict.Valid ∷ verdict.Valid ∷ verdict.Valid ∷ verdict.Possible ∷ []) 1 ×
-    Needs sections_dtd (codes "doc") (sec_with ((32 ∷ []) ∷ [])) (verdict.Valid ∷ verdict.Valid ∷ verdict.Valid ∷ verdict.Valid ∷ []) 0
+    Needs sections_dtd (codes "doc") (sec_with (codes "&#32;" ∷ []))
+    (verdict.Valid ∷ verdict.Valid ∷ verdict.Valid ∷ verdict.Possible ∷ []) 1 ×
+    Needs sections_dtd (codes "doc") (sec_with ((32 ∷ []) ∷ []))
+    (verdict.Valid ∷ verdict.Valid ∷ verdict.Valid ∷ verdict.Valid ∷ []) 0
 
 -- missing elements one inside another
 abbrev pub NestedRow : Type 0
-NestedRow = Needs nested_dtd (codes "x") three_ys (verdict.Valid ∷ verdict.Possible ∷ verdict.Valid ∷ verdict.Valid ∷ verdict.Valid ∷ []) 3
+NestedRow = Needs nested_dtd (codes "x") three_ys
+    (verdict.Valid ∷ verdict.Possible ∷ verdict.Valid ∷ verdict.Valid ∷ verdict.Valid ∷ []) 3
 
 -- a name that isn't productive
 abbrev pub EndlessRow : Type 0
@@ -89,11 +97,13 @@ EndlessRow = IsImpossibleAt endless_dtd (codes "a") (tag (codes "a") (tag (codes
 abbrev pub PairRow : Type 0
 PairRow =
     Needs pair_dtd (codes "a") (tag (codes "a") []) (verdict.Valid ∷ verdict.Possible ∷ []) 1 ×
-    Needs pair_dtd (codes "a") (tag (codes "a") (tag (codes "b") [] ∷ [])) (verdict.Valid ∷ verdict.Valid ∷ verdict.Valid ∷ []) 0
+    Needs pair_dtd (codes "a") (tag (codes "a") (tag (codes "b") [] ∷ []))
+    (verdict.Valid ∷ verdict.Valid ∷ verdict.Valid ∷ []) 0
 
 -- more elements are missing than any weight says
 abbrev pub DoublingRow : Type 0
-DoublingRow = Needs doubling_dtd (codes "t0") (tag (codes "t0") []) (verdict.Valid ∷ verdict.Possible ∷ []) 2097150
+DoublingRow = Needs doubling_dtd (codes "t0") (tag (codes "t0") [])
+    (verdict.Valid ∷ verdict.Possible ∷ []) 2097150
 
 -- a name that the DTD doesn't have, and one that it only mentions
 abbrev pub UnknownRow : Type 0
@@ -103,21 +113,26 @@ UnknownRow = IsImpossibleAt any_dtd (codes "r") unknown_name (0 ∷ []) ×
 -- all lists are valid, at any depth
 abbrev pub DeepRow : Type 0
 DeepRow = (n : ℕ) →
-    AllByRecursion (λ list. IsVerdict sections_dtd (codes "em") list verdict.Valid) (lists_of (doc_of (nested_em n)))
+    AllByRecursion (λ list. IsVerdict sections_dtd (codes "em") list verdict.Valid)
+    (lists_of (doc_of (nested_em n)))
 
 abbrev pub LetterRow : Type 0
-LetterRow = Needs sections_dtd (codes "doc") letter (verdict.Valid ∷ verdict.Valid ∷ verdict.Valid ∷ verdict.Possible ∷ verdict.Valid ∷ verdict.Valid ∷ []) 1
+LetterRow = Needs sections_dtd (codes "doc") letter
+    (verdict.Valid ∷ verdict.Valid ∷ verdict.Valid ∷ verdict.Possible ∷ verdict.Valid ∷
+    verdict.Valid ∷ []) 1
 
 -- nothing is missing in the completed letter
 abbrev pub CompletedRow : Type 0
 CompletedRow =
     Needs sections_dtd (codes "doc") completed_letter
-    (verdict.Valid ∷ verdict.Valid ∷ verdict.Valid ∷ verdict.Valid ∷ verdict.Valid ∷ verdict.Valid ∷ verdict.Valid ∷ verdict.Valid ∷ verdict.Valid ∷ []) 0
+    (verdict.Valid ∷ verdict.Valid ∷ verdict.Valid ∷ verdict.Valid ∷ verdict.Valid ∷
+    verdict.Valid ∷ verdict.Valid ∷ verdict.Valid ∷ verdict.Valid ∷ []) 0
 
 -- ANY allows the word of <r><a/></r>, but its a isn't productive
 abbrev pub AnyRow : Type 0
 AnyRow =
-    IsImpossibleAt any_endless_dtd (codes "r") (tag (codes "r") (tag (codes "a") [] ∷ [])) (0 ∷ []) ×
+    IsImpossibleAt any_endless_dtd (codes "r") (tag (codes "r") (tag (codes "a") [] ∷ []))
+    (0 ∷ []) ×
     IsOwnValid {M = Unit} any_endless_dtd (Some 0) (forest_of (tag (codes "a") [] ∷ []))
 
 -- the numbers of some parts
@@ -128,5 +143,6 @@ NumbersRow =
     (first_part sections_dtd 8 ≡ 18) ×
     (part_at sections_dtd 6 ≡ Some (name 3)) ×
     (part_at sections_dtd 12 ≡ Some (name 6)) ×
-    (rest_at sections_dtd 7 ≡ Some (part (star (choice (part (name 4) (part (name 7) no_parts)))) no_parts)) ×
+    (rest_at sections_dtd 7 ≡
+    Some (part (star (choice (part (name 4) (part (name 7) no_parts)))) no_parts)) ×
     (rest_at sections_dtd 8 ≡ None)

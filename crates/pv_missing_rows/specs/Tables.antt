@@ -1,4 +1,5 @@
--- The table by which it can be seen that <a/> misses one element, and no less, under <!ELEMENT a (b)> <!ELEMENT b EMPTY>.
+-- The table by which it can be seen that <a/> misses one element, and no less, under
+-- <!ELEMENT a (b)> <!ELEMENT b EMPTY>.
 use Rattle.std.specs.Prelude.{[], codes, suc, zero, ℕ, ◌∷◌, ◌≡◌}
 use Rattle.pv_rules.specs.Derivations.{IsClosed, heaviest}
 use Rattle.pv_rules.specs.Rules.{Goal, Rule, over}
@@ -38,4 +39,5 @@ pub record TableRow : Type 0 where
   pub closed : IsClosed (Rule pair_dtd []) (pair_table 1)
   pub whole : pair_table 1 (over (content_site 0) 0 0) ≡ 1
   pub open_without : IsClosed (Rule pair_dtd []) (pair_table heaviest) → ⊥
-  pub completes : Completes pair_dtd (codes "a") (doc_of (tag (codes "a") [])) (doc_of (tag (codes "a") (tag (codes "b") [] ∷ []))) (1 ∷ []) 1
+  pub completes : Completes pair_dtd (codes "a") (doc_of (tag (codes "a") []))
+      (doc_of (tag (codes "a") (tag (codes "b") [] ∷ []))) (1 ∷ []) 1
