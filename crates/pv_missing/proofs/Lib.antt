@@ -14,6 +14,7 @@ pub mod HedgeLists
 pub mod Hedges
 pub mod Kept
 pub mod LeftOut
+pub mod ListDerivations
 pub mod LiveFacts
 pub mod LiveOnce
 pub mod Locality

@@ -1,6 +1,6 @@
 -- Laws of whole documents, each a statement. M is the type of a document's marks, and N that of its
 -- completion's.
-use Rattle.std.specs.Prelude.{List, false, length, ℕ, ◌+◌, ◌↔◌, ◌≡◌, ◌≢◌}
+use Rattle.std.specs.Prelude.{List, false, length, ℕ, ◌+◌, ◌↔◌, ◌≡◌, ◌≢◌, ◌≤◌}
 use Rattle.std.specs.List.{AllByRecursion}
 use Rattle.pv_dtd.specs.Plain.{PlainDtd}
 use Rattle.pv_dtd.specs.Hedge.{Hedge, IsValid, done, elem, elements}
@@ -14,7 +14,7 @@ use Rattle.pv_missing.specs.Levels.{Inserts, IsCompleted, IsGoodExtension}
 use Rattle.pv_missing.specs.Missing.{MissInAll}
 use Rattle.pv_missing.specs.SameMissing.{SameMissing, bare, uncut}
 use Rattle.pv_missing.specs.Verdicts.{AreVerdicts, IsLive}
-use Rattle.pv_missing.specs.Weighing.{SumIsLeast, WeighInAll}
+use Rattle.pv_missing.specs.Weighing.{BoundInAll, SumIsLeast, WeighInAll}
 use Rattle.pv_tree.specs.declared.nodes.Verdict.{Verdict}
 use Rattle.pv_tree.specs.declared.nodes.Verdict.TheVariants as verdict
 
@@ -41,6 +41,12 @@ abbrev pub WeightsAddUp : (M : Type 0) → Type 0
 WeightsAddUp M = (g : PlainDtd) (root : List ℕ) (doc : PlainDoc M) (s : ℕ) →
     IsProperDtd g → IsProperDoc doc → IsPotentiallyValid g root (view doc.root) →
     WeighInAll g root (lists_of doc) s → SumIsLeast g root s (view doc.root)
+
+-- a sum of bounds of the lists is at most the number of each completion
+abbrev pub BoundsAddUp : (M : Type 0) → Type 0
+BoundsAddUp M = (g : PlainDtd) (root : List ℕ) (doc : PlainDoc M) (s : ℕ) →
+    IsProperDtd g → IsProperDoc doc → BoundInAll g root (lists_of doc) s →
+    (n : ℕ) → HasCompletion g root n (view doc.root) → s ≤ n
 
 -- potentially valid means that some number of elements can be inserted
 abbrev pub SomeNumber : Type 0

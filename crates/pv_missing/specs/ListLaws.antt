@@ -13,8 +13,11 @@ use Rattle.pv_missing.specs.Levels.{CanFit, CanFitRoot, InsertsHere}
 use Rattle.pv_dtd.specs.Productive.{AreProductive, IsProductiveName}
 use Rattle.pv_missing.specs.Verdicts.{IsFirstImpossible, IsLive, IsVerdict}
 use Rattle.pv_missing.specs.Missing.{Misses}
-use Rattle.pv_missing.specs.Weighing.{Weighs}
-use Rattle.pv_rules.specs.Derivations.{heaviest}
+use Rattle.pv_missing.specs.Weighing.{IsBound, Weighs, site_of, whole}
+use Rattle.pv_rules.specs.Derivations.{Derives, IsClosed, heaviest}
+use Rattle.pv_rules.specs.Rules.{Goal, Rule}
+use Rattle.pv_rules.specs.Sites.{PlainSite}
+use Rattle.pv_tree.specs.Words.{word_of}
 use Rattle.pv_tree.specs.declared.nodes.Verdict.{Verdict}
 use Rattle.pv_tree.specs.declared.nodes.Verdict.TheVariants as verdict
 
@@ -69,6 +72,21 @@ abbrev pub ValidMissesNone : (M : Type 0) → Type 0
 ValidMissesNone M = (g : PlainDtd) (root : List ℕ) (list : Listed M) →
     IsProperDtd g → IsVerdict g root list verdict.Valid →
     Misses g root list 0 × Weighs g root list 0
+
+-- The whole word of a live list has a derivation of a weight where so many elements are missing in
+-- the list; where n are missing, it has one that weighs no more.
+abbrev pub DerivationsMiss : (M : Type 0) → Type 0
+DerivationsMiss M = (g : PlainDtd) (root : List ℕ) (list : Listed M) (s : PlainSite) (n : ℕ) →
+    IsProperDtd g → IsLive g root list → site_of g root list.owner ≡ Some s →
+    (Derives (Rule g (word_of g list.kids)) n (whole s (word_of g list.kids)) → Misses g root list n) ×
+    (Misses g root list n →
+    (m : ℕ) × (m ≤ n) × Derives (Rule g (word_of g list.kids)) m (whole s (word_of g list.kids)))
+
+-- the value of a closed table at the whole word of a list is a bound
+abbrev pub ClosedIsBound : (M : Type 0) → Type 0
+ClosedIsBound M = (g : PlainDtd) (root : List ℕ) (list : Listed M) (s : PlainSite) (t : Goal → ℕ) →
+    IsProperDtd g → site_of g root list.owner ≡ Some s → IsClosed (Rule g (word_of g list.kids)) t →
+    IsBound g root list (t (whole s (word_of g list.kids)))
 
 -- The weight of a live list is at most each number of elements missing in it, and is such a number
 -- where it isn't cut.

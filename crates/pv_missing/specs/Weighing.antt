@@ -1,30 +1,30 @@
--- The weights of the lists of a document, and their sum.
-use Rattle.std.specs.Prelude.{List, Some, [], length, min, ℕ, ◌+◌, ◌<◌, ◌∷◌, ◌≡◌, ◌≤◌}
+-- The weights of the lists of a document, bounds of what is missing in them, and the sums of these.
+use Rattle.std.specs.Prelude.{List, Option, Some, [], length, min, option_map, ℕ, ◌+◌, ◌<◌, ◌∷◌, ◌≡◌, ◌≤◌}
 use Rattle.pv_model.specs.Plain.{PlainToken}
 use Rattle.pv_dtd.specs.Plain.{PlainDtd, number_of}
 use Rattle.pv_dtd.specs.Hedge.{Hedge}
 use Rattle.pv_tree.specs.Lists.{Listed, Owner, an_element, the_document}
-use Rattle.pv_tree.specs.Plain.{Forest}
 use Rattle.pv_tree.specs.Words.{word_of}
-use Rattle.pv_missing.specs.Completing.{HasCompletion, IsLeast}
 use Rattle.pv_rules.specs.Derivations.{IsWeight, heaviest}
-use Rattle.pv_rules.specs.Rules.{Rule, over}
+use Rattle.pv_rules.specs.Rules.{Goal, Rule, over}
 use Rattle.pv_rules.specs.Sites.{PlainSite, content_site, name_site}
+use Rattle.pv_missing.specs.Completing.{HasCompletion, IsLeast}
+use Rattle.pv_missing.specs.Missing.{Misses}
 
--- the weight of a site over a whole word
-abbrev pub WeighsWhole : PlainDtd → List PlainToken → PlainSite → ℕ → Type 0
-WeighsWhole g w s k = IsWeight (Rule g w) (over s 0 (length w)) k
+-- the site of what an owner's kids are to be: the content of an element, or for the document node an
+-- element of the root's name
+abbrev pub site_of : PlainDtd → List ℕ → Owner → Option PlainSite
+site_of g root the_document = option_map name_site (number_of g root)
+site_of g root (an_element x) = option_map content_site (number_of g x)
 
--- the weight of the whole word of these kids, at the name of the root or at the content of the
--- owner
-abbrev pub WeighsBy : {M : Type 0} → PlainDtd → List ℕ → Owner → Forest M → ℕ → Type 0
-WeighsBy g root the_document kids k = (y : ℕ) × (number_of g root ≡ Some y) ×
-    WeighsWhole g (word_of g kids) (name_site y) k
-WeighsBy g root (an_element x) kids k = (y : ℕ) × (number_of g x ≡ Some y) ×
-    WeighsWhole g (word_of g kids) (content_site y) k
+-- a site over a whole word
+abbrev pub whole : PlainSite → List PlainToken → Goal
+whole s w = over s 0 (length w)
 
+-- the weight of the whole word of the list
 abbrev pub Weighs : {M : Type 0} → PlainDtd → List ℕ → Listed M → ℕ → Type 0
-Weighs g root list k = WeighsBy g root list.owner list.kids k
+Weighs g root list k = (s : PlainSite) × (site_of g root list.owner ≡ Some s) ×
+    IsWeight (Rule g (word_of g list.kids)) (whole s (word_of g list.kids)) k
 
 -- s is the sum of the weights of the lists, not cut
 abbrev pub WeighInAll : {M : Type 0} → PlainDtd → List ℕ → List (Listed M) → ℕ → Type 0
@@ -38,3 +38,13 @@ pub record SumIsLeast (g : PlainDtd) (root : List ℕ) (s : ℕ) (h : Hedge) : T
   pub below : (n : ℕ) → HasCompletion g root n h → s ≤ n
   pub reached : s < heaviest → HasCompletion g root s h
   pub cut : (n : ℕ) → IsLeast g root n h → min heaviest n ≡ min heaviest s
+
+-- no fewer than k elements are missing in the list, if any number is
+abbrev pub IsBound : {M : Type 0} → PlainDtd → List ℕ → Listed M → ℕ → Type 0
+IsBound g root list k = (n : ℕ) → Misses g root list n → k ≤ n
+
+-- s is a sum of bounds of the lists
+abbrev pub BoundInAll : {M : Type 0} → PlainDtd → List ℕ → List (Listed M) → ℕ → Type 0
+BoundInAll g root [] s = s ≡ 0
+BoundInAll g root (list ∷ lists) s = (a : ℕ) × (b : ℕ) × (s ≡ a + b) × IsBound g root list a ×
+    BoundInAll g root lists b

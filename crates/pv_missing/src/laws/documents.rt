@@ -1,6 +1,6 @@
 //! Laws of whole documents. `M` is the type of marks, and `N` that of the marks of a completion.
 
-ghost use Rattle.pv_missing.specs.DocumentLaws.{BlanksChangeNothing, CompletionsInsert, CutsChangeNothing, ExtensionsComplete, ExtensionsHaveTags, IsPotentiallyValidByLists, KeepsLeaves, LevelsAgree, Locality, TagsExtend, NumbersAddUp, SomeNumber, WeightsAddUp};
+ghost use Rattle.pv_missing.specs.DocumentLaws.{BlanksChangeNothing, BoundsAddUp, CompletionsInsert, CutsChangeNothing, ExtensionsComplete, ExtensionsHaveTags, IsPotentiallyValidByLists, KeepsLeaves, LevelsAgree, Locality, TagsExtend, NumbersAddUp, SomeNumber, WeightsAddUp};
 
 /// A document is potentially valid exactly where each of its lists is live.
 pub fn live_lists_law<M>()
@@ -20,6 +20,11 @@ pub fn numbers_add_up_law<M>()
 /// The weights of the lists add up to the least number of missing elements.
 pub fn weights_add_up_law<M>()
     ensures { WeightsAddUp M }
+{}
+
+/// A sum of bounds of the lists is at most the number of each completion.
+pub fn bounds_add_up_law<M>()
+    ensures { BoundsAddUp M }
 {}
 
 /// A hedge is potentially valid exactly where some number of elements can be inserted to make it valid.

@@ -1,6 +1,6 @@
 //! Laws of one list. `M` is the type of marks.
 
-ghost use Rattle.pv_missing.specs.ListLaws.{HereExtends, LiveMisses, OneFirst, OneList, OneVerdict, OwnValidIsLive, RootList, ValidMissesNone, WeightIsLeast};
+ghost use Rattle.pv_missing.specs.ListLaws.{ClosedIsBound, DerivationsMiss, HereExtends, LiveMisses, OneFirst, OneList, OneVerdict, OwnValidIsLive, RootList, ValidMissesNone, WeightIsLeast};
 
 /// The live word of an element is possible exactly where elements inserted at its own level make its content fit.
 pub fn one_list_law()
@@ -30,6 +30,16 @@ pub fn live_misses_law<M>()
 /// In a list that is valid nothing is missing, and it weighs 0.
 pub fn valid_misses_none_law<M>()
     ensures { ValidMissesNone M }
+{}
+
+/// What the whole word of a live list derives is what is missing in the list.
+pub fn derivations_miss_law<M>()
+    ensures { DerivationsMiss M }
+{}
+
+/// The value of a closed table at the whole word of a list is at most each number missing in it.
+pub fn closed_is_bound_law<M>()
+    ensures { ClosedIsBound M }
 {}
 
 /// The weight of a live list is at most each number missing in it, and is such a number where it isn't cut.
