@@ -4,12 +4,12 @@ use Rattle.std.proofs.lemmas.Grind.{common_steps}
 use Rattle.pv_io.specs.declared.shelf.FetchError.{FetchError}
 use Rattle.pv_io.specs.declared.shelf.FetchError.TheVariants.{Failed, TooLong, NoMemory}
 use Rattle.pv_io.specs.Files.{FetchTells, FetchGives, file_named}
-use Rattle.pv_cli.specs.Answer.{Answer, with_line, IsGiven, IsTooLong}
-use Rattle.pv_cli.specs.Outcome.{IsFile}
-use Rattle.pv_cli.specs.Steps.{Stops}
 use Rattle.pv_cli.specs.declared.status.Status.TheVariants.{Limit}
-use Rattle.pv_cli.specs.declared.status.Stop.{Stop}
-use Rattle.pv_cli.specs.declared.status.Stop.TheVariants.{Refused, Faulty, Memory}
+use Rattle.pv_cli.specs.Opening.{IsFile, IsGiven, IsTooLong}
+use Rattle.pv_cli.specs.Response.{PlainResponse, with_line, plain_response}
+use Rattle.pv_cli.specs.Stage.{StopsBy}
+use Rattle.pv_cli.specs.declared.stop.Stop.{Stop}
+use Rattle.pv_cli.specs.declared.stop.Stop.TheVariants.{Refused, ShelfFault, InputFault, NoMemory as OutOfMemory}
 
 pub fetch_file : (told : Option (List (List ℕ × List ℕ))) (name : List ℕ) (most : ℕ) (result : Result (Vec ℕ Global) FetchError) → IfOk result (λ v. vec_len v ≤ most) → FetchTells told name most result → (file : Option (List ℕ)) × IsFile told name file × FetchGives file most result
 fetch_file None name most (Ok v) bound tells = (Some v.items, tt, (refl, omega (arith, v.ok.0, bound)))
@@ -22,11 +22,13 @@ pub file_given : (file : Option (List ℕ)) (most : ℕ) (v : Vec ℕ Global) �
 file_given None most v gives = absurd gives
 file_given (Some bytes) most v gives = record { is_file = ap Some (sym gives.0); within = omega (arith, ap length gives.0, gives.1) }
 
-pub file_beyond : (file : Option (List ℕ)) (most : ℕ) (passed : List ℕ) (a : Answer) → FetchGives file most (Err TooLong) → a ≡ with_line Limit passed → IsTooLong file most passed a
-file_beyond None most passed a gives is = absurd gives
-file_beyond (Some bytes) most passed a gives is = record { bytes = bytes; is_file = refl; beyond = gives; is_answer = is }
+pub file_beyond : (file : Option (List ℕ)) (most : ℕ) (passed : List ℕ) (r : PlainResponse) → FetchGives file most (Err TooLong) → r ≡ with_line Limit passed → IsTooLong file most passed r
+file_beyond None most passed r gives is = absurd gives
+file_beyond (Some bytes) most passed r gives is = record { bytes = bytes; is_file = refl; beyond = gives; is_response = is }
 
-pub stops_beyond : (file : Option (List ℕ)) (most : ℕ) (passed : List ℕ) (cause : Type 0) (stop : Stop) → FetchGives file most (Err TooLong) → Stops (λ a. a ≡ with_line Limit passed) ⊥ stop → Stops (IsTooLong file most passed) cause stop
-stops_beyond file most passed cause (Refused reply) gives stops = file_beyond file most passed _ gives stops
-stops_beyond file most passed cause Faulty gives stops = absurd stops
-stops_beyond file most passed cause Memory gives stops = tt
+pub stops_beyond : (file : Option (List ℕ)) (most : ℕ) (passed : List ℕ) (stop : Stop) → FetchGives file most (Err TooLong) →
+    StopsBy (λ r. r ≡ with_line Limit passed) ⊥ stop → StopsBy (IsTooLong file most passed) (Unit {0}) stop
+stops_beyond file most passed (Refused r) gives stops = file_beyond file most passed (plain_response r) gives stops
+stops_beyond file most passed ShelfFault gives stops = absurd stops
+stops_beyond file most passed InputFault gives stops = stops
+stops_beyond file most passed OutOfMemory gives stops = tt

@@ -1,11 +1,9 @@
 -- Lines have the same replies where there was no memory for the same of them.
-use Rattle.std.proofs.Common.{◌≡◌, ℕ, suc, List, [], ◌∷◌, ◌++◌, Some, refl, sym, ap, ◌∙◌}
+use Rattle.std.proofs.Common.{◌≡◌, ℕ, suc, List, [], ◌∷◌, ◌++◌, Some, sym, ap, ◌∙◌}
 use Rattle.pv_script.specs.Commands.{quit, command_of}
 use Rattle.pv_script.specs.Replies.{PlainReply, document, no_memory, reply_bytes}
-use Rattle.pv_write.specs.Laws.{WritesWhatIsSpelled}
 use Rattle.pv_write.specs.Text.{doc_text}
-use Rattle.pv_cli.specs.Laws.{HasOneOutput, HasOneOutputOverText}
-use Rattle.pv_cli.specs.Session.{State, RepliesTo, unknown, shown, Replies, no_lines, without_memory, answered, ended}
+use Rattle.pv_cli.specs.Session.{State, RepliesTo, unknown, shown, Place, Replies, no_lines, without_memory, answered, ended}
 
 -- what a line does to two states of the same text
 one_reply : (state other : State) (line : List ℕ) (reply also : PlainReply) (after later : State) → doc_text state ≡ doc_text other → RepliesTo state line reply after → RepliesTo other line also later →
@@ -20,27 +18,20 @@ no_quit : (state : State) (line : List ℕ) (reply : PlainReply) (after : State)
 no_quit state line reply after (unknown none is stays) ends = cc
 no_quit state line reply after (shown some is stays) ends = cc
 
-pub one_replies : (silent : List ℕ) (number : ℕ) (state other : State) (lines : List (List ℕ)) (out also : List ℕ) → doc_text state ≡ doc_text other →
-    Replies silent number state lines out → Replies silent number other lines also → out ≡ also
-one_replies silent number state other [] out also same (no_lines e) (no_lines f) = e ∙ sym f
-one_replies silent number state other (line ∷ lines) out also same (without_memory is r e) (without_memory are s f) =
-    e ∙ ap (λ rest. reply_bytes no_memory ++ rest) (one_replies silent (suc number) state other lines _ _ same r s) ∙ sym f
-one_replies silent number state other (line ∷ lines) out also same (without_memory is r e) (answered p a s f) = cc
-one_replies silent number state other (line ∷ lines) out also same (without_memory is r e) (ended p ends f) = cc
-one_replies silent number state other (line ∷ lines) out also same (answered p a r e) (without_memory is s f) = cc
-one_replies silent number state other (line ∷ lines) out also same (answered p a r e) (answered q b s f) =
+pub one_replies : (silent : List ℕ) (number : ℕ) (state other : State) (lines : List (List ℕ)) (out also : List ℕ) (place spot : Place) → doc_text state ≡ doc_text other →
+    Replies silent number state lines out place → Replies silent number other lines also spot → out ≡ also
+one_replies silent number state other [] out also place spot same (no_lines e at) (no_lines f on) = e ∙ sym f
+one_replies silent number state other (line ∷ lines) out also place spot same (without_memory is r e) (without_memory are s f) =
+    e ∙ ap (λ rest. reply_bytes no_memory ++ rest) (one_replies silent (suc number) state other lines _ _ place spot same r s) ∙ sym f
+one_replies silent number state other (line ∷ lines) out also place spot same (without_memory is r e) (answered p a s f) = cc
+one_replies silent number state other (line ∷ lines) out also place spot same (without_memory is r e) (ended p ends f at) = cc
+one_replies silent number state other (line ∷ lines) out also place spot same (answered p a r e) (without_memory is s f) = cc
+one_replies silent number state other (line ∷ lines) out also place spot same (answered p a r e) (answered q b s f) =
     let here = one_reply state other line _ _ _ _ same a b in
-    let below = one_replies silent (suc number) _ _ lines _ _ here.1 r s in
+    let below = one_replies silent (suc number) _ _ lines _ _ place spot here.1 r s in
     let first = here.0 in
     cc
-one_replies silent number state other (line ∷ lines) out also same (answered p a r e) (ended q ends f) = absurd (no_quit state line _ _ a ends)
-one_replies silent number state other (line ∷ lines) out also same (ended p ends e) (without_memory is s f) = cc
-one_replies silent number state other (line ∷ lines) out also same (ended p ends e) (answered q b s f) = absurd (no_quit other line _ _ b ends)
-one_replies silent number state other (line ∷ lines) out also same (ended p ends e) (ended q also_ends f) = e ∙ sym f
-
-pub one_output : HasOneOutput
-one_output silent number state lines out also r s = one_replies silent number state state lines out also refl r s
-
-pub one_output_over_text : WritesWhatIsSpelled → HasOneOutputOverText
-one_output_over_text written silent number bytes doc same lines out also is are r s =
-    one_replies silent number doc same lines out also (written bytes doc is.spelled ∙ sym (written bytes same are.spelled)) r s
+one_replies silent number state other (line ∷ lines) out also place spot same (answered p a r e) (ended q ends f at) = absurd (no_quit state line _ _ a ends)
+one_replies silent number state other (line ∷ lines) out also place spot same (ended p ends e at) (without_memory is s f) = cc
+one_replies silent number state other (line ∷ lines) out also place spot same (ended p ends e at) (answered q b s f) = absurd (no_quit other line _ _ b ends)
+one_replies silent number state other (line ∷ lines) out also place spot same (ended p ends e at) (ended q also_ends f on) = e ∙ sym f

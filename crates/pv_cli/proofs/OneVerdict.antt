@@ -14,7 +14,7 @@ use Rattle.pv_tree.proofs.Every.{all_right}
 use Rattle.pv_tree.proofs.Firsts.{one_first}
 use Rattle.pv_read.specs.Grammar.{SpellsNode, SpellsContent}
 use Rattle.pv_tree.specs.Marks.{unmarked_doc}
-use Rattle.pv_cli.specs.Answer.{Answer, with_line}
+use Rattle.pv_cli.specs.Response.{PlainResponse, with_line}
 use Rattle.pv_cli.specs.Paths.{path_text}
 use Rattle.pv_cli.specs.Valid.{TellsValidity, is_valid, is_invalid}
 use Rattle.pv_cli.specs.declared.status.Status.TheVariants.{Negative}
@@ -55,7 +55,7 @@ same_view : {M : Type 0} (doc same : PlainDoc M) → unmarked_doc doc ≡ unmark
 same_view doc same e =
     sym (view-unmarked doc.root done) ∙ ap (λ (d : PlainDoc Unit). view d.root) e ∙ view-unmarked same.root done
 
-pub one_verdict : (by_lists : IsValidByLists Mark) (root : List ℕ) (g : PlainDtd) (doc same : PlainDoc Mark) (a b : Answer) → HasUnits doc.root → HasUnits same.root →
+pub one_verdict : (by_lists : IsValidByLists Mark) (root : List ℕ) (g : PlainDtd) (doc same : PlainDoc Mark) (a b : PlainResponse) → HasUnits doc.root → HasUnits same.root →
     unmarked_doc doc ≡ unmarked_doc same → TellsValidity root g doc a → TellsValidity root g same b → a ≡ b
 one_verdict by_lists root g doc same a b texts others e (is_valid v is) (is_valid w are) = is ∙ sym are
 one_verdict by_lists root g doc same a b texts others e (is_valid v is) (is_invalid path f are) =

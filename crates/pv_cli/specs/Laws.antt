@@ -1,22 +1,43 @@
--- Laws on answers.
-use Rattle.std.specs.Prelude.{◌≡◌, ℕ, List, Option}
-use Rattle.pv_tree.specs.Plain.{PlainDoc}
-use Rattle.pv_tree.specs.declared.nodes.Mark.{Mark}
-use Rattle.pv_read.specs.Grammar.{IsDocumentText}
-use Rattle.pv_cli.specs.Answer.{Answer}
-use Rattle.pv_cli.specs.Session.{State, Replies}
-use Rattle.pv_cli.specs.Valid.{IsValidAnswer}
+-- Laws on what the program does.
+use Rattle.std.specs.Prelude.{◌≡◌, ◌⊎◌, ℕ, List, ◌++◌, Option}
+use Rattle.std.specs.Io.KnownBytes.{Appends}
+use Rattle.pv_io.specs.Causes.{Rose}
+use Rattle.pv_cli.specs.declared.status.Status.{Status}
+use Rattle.pv_cli.specs.declared.status.Status.TheVariants.{NoMemory}
+use Rattle.pv_cli.specs.CommandLine.{PlainCommandLine}
+use Rattle.pv_cli.specs.Course.{Course, responds}
+use Rattle.pv_cli.specs.Opening.{Files}
+use Rattle.pv_cli.specs.Program.{IsDefined, Devices, Runs}
+use Rattle.pv_cli.specs.Response.{PlainResponse}
+use Rattle.pv_cli.specs.Session.{State, Place, at_line, at_quit, Replies}
 
--- over given files `valid` has one answer
-abbrev pub HasOneValidAnswer : Type 0
-HasOneValidAnswer = (root : List ℕ) (dtd doc : Option (List ℕ)) (a b : Answer) → IsValidAnswer root dtd doc a → IsValidAnswer root dtd doc b → a ≡ b
+-- the replies to a piece of a script, and then those to the lines behind it, are the replies to both
+abbrev pub JoinsReplies : Type 0
+JoinsReplies = (silent : List ℕ) (number next : ℕ) (state middle : State) (lines more : List (List ℕ)) (out rest : List ℕ) (place : Place) →
+    Replies silent number state lines out (at_line next middle) → Replies silent next middle more rest place →
+    Replies silent number state (lines ++ more) (out ++ rest) place
 
--- lines have one output, where it is told which of them there was no memory for
-abbrev pub HasOneOutput : Type 0
-HasOneOutput = (silent : List ℕ) (number : ℕ) (state : State) (lines : List (List ℕ)) (out other : List ℕ) →
-    Replies silent number state lines out → Replies silent number state lines other → out ≡ other
+-- lines behind a `quit` have no reply
+abbrev pub EndsAtQuit : Type 0
+EndsAtQuit = (silent : List ℕ) (number : ℕ) (state : State) (lines more : List (List ℕ)) (out : List ℕ) →
+    Replies silent number state lines out at_quit → Replies silent number state (lines ++ more) out at_quit
 
--- and so they have over two documents that one text spells
-abbrev pub HasOneOutputOverText : Type 0
-HasOneOutputOverText = (silent : List ℕ) (number : ℕ) (bytes : List ℕ) (doc same : PlainDoc Mark) (lines : List (List ℕ)) (out other : List ℕ) →
-    IsDocumentText bytes doc → IsDocumentText bytes same → Replies silent number doc lines out → Replies silent number same lines other → out ≡ other
+-- over given files, and where what was taken from the input and the lines that there was no memory for are given, a command has one
+-- response
+abbrev pub HasOneResponse : Type 0
+HasOneResponse = (line : Option PlainCommandLine) (files : Files) (course other : Course) (r also : PlainResponse) →
+    IsDefined line files course → IsDefined line files other → course.taken ≡ other.taken → course.silent ≡ other.silent →
+    course.ending ≡ responds r → other.ending ≡ responds also → r ≡ also
+
+-- a defined response was written
+pub record Answered {S : Type 0} {line : Option PlainCommandLine} {before after : Devices S} {status : Status} (run : Runs line before after status) : Type 0 where
+  pub response : PlainResponse
+  pub is_response : run.course.ending ≡ responds response
+  pub is_status : status ≡ response.status
+  pub written : Appends before.written after.written response.output
+
+-- where no count of faults rose, a defined response was written, or there was no memory
+abbrev pub IsComplete : Type 0 → Type 0
+IsComplete S = (line : Option PlainCommandLine) (before after : Devices S) (status : Status) (run : Runs line before after status) →
+    (Rose before.shelf_faults after.shelf_faults → ⊥) → (Rose before.input_faults after.input_faults → ⊥) →
+    (Rose before.output_faults after.output_faults → ⊥) → (status ≡ NoMemory) ⊎ Answered run

@@ -1,43 +1,75 @@
--- Opening the files of a command. The order of work: DTD fetch, DTD, document fetch, document.
-use Rattle.std.specs.Prelude.{ℕ, List, codes, Option}
+-- Opening the files of a command, in the order of work: DTD fetch, DTD, document fetch, document.
+use Rattle.std.specs.Prelude.{◌≡◌, ◌≤◌, ◌<◌, ℕ, List, ◌++◌, length, codes, decimal, Option, Some, None}
 use Rattle.pv_dtd.specs.Plain.{PlainDtd}
 use Rattle.pv_dtd.specs.Facts.{MAX_DTD_BYTES}
 use Rattle.pv_dtd.specs.Grammar.{IsDtdText}
+use Rattle.pv_dtd.specs.PlainForms.{plain_dtd}
+use Rattle.pv_tree.specs.Docs.{plain_doc}
 use Rattle.pv_tree.specs.Plain.{PlainDoc}
 use Rattle.pv_tree.specs.declared.nodes.Mark.{Mark}
+use Rattle.pv_io.specs.Files.{file_named}
 use Rattle.pv_read.specs.Grammar.{IsDocumentText, MAX_DOC_BYTES}
-use Rattle.pv_cli.specs.Answer.{Answer, OnFile, OnDtd, OnDocument, IsGiven}
+use Rattle.pv_cli.specs.declared.opening.Opened.{Opened}
+use Rattle.pv_cli.specs.declared.status.Status.TheVariants.{BadDtd, BadDocument, Limit}
+use Rattle.pv_cli.specs.Response.{PlainResponse, with_line}
+use Rattle.pv_cli.specs.Stage.{Stage, followed_by, keeping}
 
--- the answer behind the DTD that a file is
-abbrev pub OnDtdFile : Option (List ℕ) → (PlainDtd → Answer → Type 0) → Answer → Type 0
-OnDtdFile file behind a = OnFile file MAX_DTD_BYTES (codes "limit dtd-file") (λ bytes. OnDtd bytes behind) a
+-- the files of a command line, each where it names one: none where there is no such file
+pub record Files : Type 0 where
+  pub dtd : Option (List ℕ)
+  pub doc : Option (List ℕ)
 
--- the answer behind the document that a file is
-abbrev pub OnDocumentFile : Option (List ℕ) → (PlainDoc Mark → Answer → Type 0) → Answer → Type 0
-OnDocumentFile file behind a = OnFile file MAX_DOC_BYTES (codes "limit document-file") (λ bytes. OnDocument bytes behind) a
+-- the file of this name, where the shelf tells its files
+abbrev pub IsFile : Option (List (List ℕ × List ℕ)) → List ℕ → Option (List ℕ) → Type 0
+IsFile None name file = Unit {0}
+IsFile (Some files) name file = file ≡ file_named name files
 
--- the answer behind both
-abbrev pub OnFiles : Option (List ℕ) → Option (List ℕ) → (PlainDtd → PlainDoc Mark → Answer → Type 0) → Answer → Type 0
-OnFiles dtd doc behind a = OnDtdFile dtd (λ g. OnDocumentFile doc (behind g)) a
+-- the file holds these bytes, and no more than so many
+pub record IsGiven (file : Option (List ℕ)) (most : ℕ) (bytes : List ℕ) : Type 0 where
+  pub is_file : file ≡ Some bytes
+  pub within : length bytes ≤ most
 
--- the file is this DTD
-pub record IsDtdFile (file : Option (List ℕ)) (g : PlainDtd) : Type 0 where
+-- the response where the file holds more
+pub record IsTooLong (file : Option (List ℕ)) (most : ℕ) (passed : List ℕ) (r : PlainResponse) : Type 0 where
   pub bytes : List ℕ
-  pub is_given : IsGiven file MAX_DTD_BYTES bytes
-  pub is_dtd : IsDtdText bytes g
+  pub is_file : file ≡ Some bytes
+  pub beyond : most < length bytes
+  pub is_response : r ≡ with_line Limit passed
 
--- the file is this document
-pub record IsDocumentFile (file : Option (List ℕ)) (doc : PlainDoc Mark) : Type 0 where
-  pub bytes : List ℕ
-  pub is_given : IsGiven file MAX_DOC_BYTES bytes
-  pub is_document : IsDocumentText bytes doc
+-- fetching a file of at most so many bytes; the line says `passed` where it has more
+abbrev pub fetch_stage : Option (List ℕ) → ℕ → List ℕ → Stage (List ℕ)
+fetch_stage file most passed = record {
+  Opens = IsGiven file most;
+  Refuses = IsTooLong file most passed;
+  AsksShelf = Unit {0};
+}
 
--- the answer where a file isn't a DTD, isn't a document, or where two files aren't both
-abbrev pub IsDtdFileRefusal : Option (List ℕ) → Answer → Type 0
-IsDtdFileRefusal file a = OnDtdFile file (λ g b. ⊥) a
+-- the response to bytes that are no DTD
+pub data RefusesDtd (bytes : List ℕ) (r : PlainResponse) : Type 0 where
+  no_dtd : ((g : PlainDtd) → IsDtdText bytes g → ⊥) → r ≡ with_line BadDtd (codes "dtd syntax " ++ decimal 0) → RefusesDtd bytes r
 
-abbrev pub IsDocumentFileRefusal : Option (List ℕ) → Answer → Type 0
-IsDocumentFileRefusal file a = OnDocumentFile file (λ d b. ⊥) a
+-- reading a DTD
+abbrev pub dtd_stage : List ℕ → Stage PlainDtd
+dtd_stage bytes = record { Opens = IsDtdText bytes; Refuses = RefusesDtd bytes; AsksShelf = ⊥ }
 
-abbrev pub IsRefusal : Option (List ℕ) → Option (List ℕ) → Answer → Type 0
-IsRefusal dtd doc a = OnFiles dtd doc (λ g d b. ⊥) a
+-- the response to bytes that are no document with this root
+pub data RefusesDocument (root bytes : List ℕ) (r : PlainResponse) : Type 0 where
+  no_document : ((doc : PlainDoc Mark) → IsDocumentText bytes doc → ⊥) → r ≡ with_line BadDocument (codes "document syntax " ++ decimal 0) →
+      RefusesDocument root bytes r
+
+-- reading a document
+abbrev pub document_stage : List ℕ → List ℕ → Stage (PlainDoc Mark)
+document_stage root bytes = record { Opens = IsDocumentText bytes; Refuses = RefusesDocument root bytes; AsksShelf = ⊥ }
+
+abbrev pub dtd_file_stage : Option (List ℕ) → Stage PlainDtd
+dtd_file_stage file = followed_by (fetch_stage file MAX_DTD_BYTES (codes "limit dtd-file")) dtd_stage
+
+abbrev pub document_file_stage : List ℕ → Option (List ℕ) → Stage (PlainDoc Mark)
+document_file_stage root file = followed_by (fetch_stage file MAX_DOC_BYTES (codes "limit document-file")) (document_stage root)
+
+-- opening a DTD and then a document
+abbrev pub opening_stage : List ℕ → Files → Stage (PlainDtd × PlainDoc Mark)
+opening_stage root files = followed_by (dtd_file_stage files.dtd) (λ g. keeping g (document_file_stage root files.doc))
+
+abbrev pub plain_opened : Opened → PlainDtd × PlainDoc Mark
+plain_opened opened = (plain_dtd opened.dtd, plain_doc opened.doc)

@@ -1,10 +1,15 @@
--- What one line of a session gives, as the program returns it.
-use Rattle.std.specs.Prelude.{◌≡◌, ℕ, List, Option, Some, None, Vec}
+-- What the parts of a session return.
+use Rattle.std.specs.Prelude.{◌≡◌, ◌≤◌, ℕ, List, length, Option, Some, None, Vec, Result, Ok, Err}
+use Rattle.std.specs.Io.KnownBytes.{Consumes, IsAtEnd}
 use Rattle.std.specs.declared.alloc.Global.{Global}
+use Rattle.pv_io.specs.Causes.{Stays, Rose}
 use Rattle.pv_script.specs.Commands.{quit, command_of}
 use Rattle.pv_script.specs.Replies.{PlainReply, document, reply_bytes}
 use Rattle.pv_write.specs.Text.{doc_text}
-use Rattle.pv_cli.specs.Session.{State, RepliesTo}
+use Rattle.pv_cli.specs.declared.stop.Stop.{Stop}
+use Rattle.pv_cli.specs.declared.stop.Stop.TheVariants.{Refused, ShelfFault, InputFault, NoMemory}
+use Rattle.pv_cli.specs.Session.{State, RepliesTo, MAX_SCRIPT_BYTES, IsScriptRefusal}
+use Rattle.pv_cli.specs.Response.{plain_response}
 
 abbrev pub IsShownAs : State → List ℕ → Type 0
 IsShownAs state text = text ≡ reply_bytes (document (doc_text state))
@@ -13,3 +18,36 @@ IsShownAs state text = text ≡ reply_bytes (document (doc_text state))
 abbrev pub IsTurn : State → List ℕ → Option (Vec ℕ Global) → Type 0
 IsTurn state line None = command_of line ≡ Some quit
 IsTurn state line (Some text) = (reply : PlainReply) × RepliesTo state line reply state × (text.items ≡ reply_bytes reply)
+
+-- a script of at most so many bytes, to the end of the input
+pub record IsWholeScript (new : Option (List ℕ)) (script bytes : List ℕ) : Type 0 where
+  pub whole : bytes ≡ script
+  pub within : length script ≤ MAX_SCRIPT_BYTES
+  pub at_end : IsAtEnd new
+
+abbrev pub StopsScript : List ℕ → Stop → Type 0
+StopsScript script (Refused response) = IsScriptRefusal script (plain_response response)
+StopsScript script ShelfFault = ⊥
+StopsScript script InputFault = Unit {0}
+StopsScript script NoMemory = Unit {0}
+
+abbrev pub GivesScript : Option (List ℕ) → List ℕ → Result (Vec ℕ Global) Stop → Type 0
+GivesScript new script (Ok v) = IsWholeScript new script v.items
+GivesScript new script (Err stop) = StopsScript script stop
+
+-- the bytes that were taken, and what was made of them
+pub record TakesScript (old new : Option (List ℕ)) (result : Result (Vec ℕ Global) Stop) : Type 0 where
+  pub script : List ℕ
+  pub taken : Consumes old new script
+  pub gives : GivesScript new script result
+
+abbrev pub StopCountsInput : ℕ → ℕ → Stop → Type 0
+StopCountsInput before after (Refused response) = Stays before after
+StopCountsInput before after ShelfFault = Stays before after
+StopCountsInput before after InputFault = Rose before after
+StopCountsInput before after NoMemory = Stays before after
+
+-- the input's count of faults rose where it failed, and else it stayed
+abbrev pub InputCounts : {X : Type 0} → ℕ → ℕ → Result X Stop → Type 0
+InputCounts before after (Ok x) = Stays before after
+InputCounts before after (Err stop) = StopCountsInput before after stop

@@ -1,25 +1,30 @@
-//! Laws on answers. Their functions do nothing.
+//! Laws on what the program does. Their functions do nothing.
 
-ghost use Rattle.pv_cli.specs.Laws.{HasOneValidAnswer, HasOneOutput, HasOneOutputOverText};
+ghost use Rattle.pv_cli.specs.Laws.{HasOneResponse, IsComplete, JoinsReplies, EndsAtQuit};
 
 use pv_dtd::one_meaning_law;
+use pv_io::Source;
 use pv_read::laws::one_document_law;
 use pv_tree::laws::valid_lists_law;
 use pv_write::laws::spelled_is_written_law;
 
-/// Over given files `valid` has one answer.
-pub fn one_valid_answer()
-    ensures { HasOneValidAnswer }
+/// Over given files a command has one response, and `session` one for each script and each set of lines that there was no memory for.
+pub fn one_response_law()
+    ensures { HasOneResponse }
 {
     one_meaning_law();
     one_document_law();
     valid_lists_law();
-}
-
-/// The lines of a script have one output, where it is told which of them there was no memory for.
-pub fn one_session_output()
-    ensures lines { HasOneOutput }
-    ensures over_text { HasOneOutputOverText }
-{
     spelled_is_written_law();
 }
+
+/// Where no device failed, the defined response was written, or there was no memory.
+pub fn complete_law<S: Source>()
+    ensures { IsComplete S }
+{}
+
+/// The replies to a script are those to its pieces.
+pub fn replies_law()
+    ensures joined { JoinsReplies }
+    ensures ended { EndsAtQuit }
+{}

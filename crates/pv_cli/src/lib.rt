@@ -1,18 +1,19 @@
-//! The program, whatever its files, its input and its output are.
+//! The program, whatever its files, its input and its output are. Each command goes through the order of work, stage by stage
+//! (`specs/Stage.antt`): it opens its files (`opening`), and then responds (`valid`) or answers a script (`session`). `pvtag` promises the
+//! status and the bytes that are defined for its words and files, and each fault with its cause (`specs/Program.antt`).
 #![tactic(auto)]
 
-mod conversions;
+mod command_line;
 pub mod laws;
-mod lines;
 mod opening;
+mod paths;
 mod program;
 mod respond;
-mod script;
+mod response;
 mod session;
 mod status;
-mod steps;
+mod stop;
 mod valid;
-mod words;
 
 pub use program::pvtag;
 pub use status::Status;

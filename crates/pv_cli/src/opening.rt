@@ -1,19 +1,19 @@
-//! Opening the files of a command.
+//! Opens the files of a command: fetches their bytes and reads them.
 
-ghost use Rattle.std.specs.Prelude.{◌≡◌, ◌≤◌, List, ℕ, Option, Contains};
-ghost use Rattle.pv_io.specs.Causes.{Rose};
+ghost use Rattle.std.specs.Prelude.{◌≡◌, ◌++◌, List, ℕ, Option, codes, decimal, Contains, false};
+ghost use Rattle.pv_cli.specs.Opening.{Files, IsFile, fetch_stage, dtd_stage, document_stage, dtd_file_stage, document_file_stage, opening_stage, plain_opened};
+ghost use Rattle.pv_cli.specs.Response.{with_line};
+ghost use Rattle.pv_cli.specs.Stage.{StopsBy, Returns, ShelfCounts};
+ghost use Rattle.pv_cli.specs.Status.{is_fault};
 ghost use Rattle.pv_dtd.specs.PlainForms.{plain_dtd};
 ghost use Rattle.pv_tree.specs.Docs.{plain_doc};
-ghost use Rattle.pv_cli.specs.Commands.{Files};
-ghost use Rattle.pv_cli.specs.Opening.{IsDtdFile, IsDocumentFile, IsDtdFileRefusal, IsDocumentFileRefusal, IsRefusal};
-ghost use Rattle.pv_cli.specs.Outcome.{IsFile};
-ghost use Rattle.pv_cli.specs.Steps.{Steps};
 
-use crate::status::Stop;
-use crate::steps::{declarations, document, fetched};
-use pv_dtd::{Dtd, MAX_DTD_BYTES};
-use pv_io::Shelf;
-use pv_read::MAX_DOC_BYTES;
+use crate::response::Response;
+use crate::status::Status;
+use crate::stop::Stop;
+use pv_dtd::{Dtd, DtdError, MAX_DTD_BYTES, read_dtd};
+use pv_io::{FetchError, Shelf};
+use pv_read::{DocError, MAX_DOC_BYTES, read_doc};
 use pv_tree::Doc;
 use std::alloc::Global;
 
@@ -24,29 +24,112 @@ pub struct Opened {
     pub doc: Doc,
 }
 
-fn dtd_in<H: Shelf>(alloc: Global, shelf: &mut H, name: &str) -> Result<Dtd, Stop>
+/// Refuses with this line.
+pub fn refuse(alloc: Global, status: Status, text: &[u8]) -> Stop
+    requires { is_fault status ≡ false }
+    ensures { StopsBy (λ r. r ≡ with_line status text.now) ⊥ result }
+{
+    match Response::with_line(alloc, status, text) {
+        Ok(response) => Stop::Refused(response),
+        Err(_) => Stop::NoMemory,
+    }
+}
+
+// Refuses with a line of this text and the number of an item.
+fn refuse_item(alloc: Global, status: Status, text: &[u8], item: u64) -> Stop
+    requires { is_fault status ≡ false }
+    ensures { StopsBy (λ r. r ≡ with_line status (text.now ++ decimal item)) ⊥ result }
+{
+    match Response::with_number(alloc, status, text, item) {
+        Ok(response) => Stop::Refused(response),
+        Err(_) => Stop::NoMemory,
+    }
+}
+
+// The bytes of a file of at most so many. The line says `passed` where it has more.
+fn fetch<H: Shelf>(
+    alloc: Global,
+    shelf: &mut H,
+    name: &str,
+    most: usize,
+    passed: &[u8],
+) -> Result<Vec<u8>, Stop>
     requires { Contains (H.names shelf.old) name.now }
-    ensures step { (file : Option (List ℕ)) × IsFile (H.files shelf.old) name.now file
-        × Steps (λ dtd. IsDtdFile file (plain_dtd dtd)) (IsDtdFileRefusal file) (Rose (H.faults shelf.old) (H.faults shelf.new)) result }
-    ensures later { H.faults shelf.old ≤ H.faults shelf.new }
+    ensures file { (file : Option (List ℕ)) × IsFile (H.files shelf.old) name.now file
+        × Returns (λ v. v.items) (fetch_stage file most passed.now) result }
+    ensures counts { ShelfCounts (H.faults shelf.old) (H.faults shelf.new) result }
     ensures names { H.names shelf.new ≡ H.names shelf.old }
     ensures files { H.files shelf.new ≡ H.files shelf.old }
 {
-    let bytes = fetched(alloc, shelf, name, MAX_DTD_BYTES, b"limit dtd-file")?;
-    declarations(alloc, &bytes)
+    match shelf.fetch(alloc, name, most) {
+        Ok(bytes) => Ok(bytes),
+        Err(FetchError::TooLong) => Err(refuse(alloc, Status::Limit, passed)),
+        Err(FetchError::Failed) => Err(Stop::ShelfFault),
+        Err(FetchError::NoMemory) => Err(Stop::NoMemory),
+    }
 }
 
-fn document_in<H: Shelf>(alloc: Global, shelf: &mut H, name: &str, root: &[u8]) -> Result<Doc, Stop>
-    requires { Contains (H.names shelf.old) name.now }
-    ensures step { (file : Option (List ℕ)) × IsFile (H.files shelf.old) name.now file
-        × Steps (λ doc. IsDocumentFile file (plain_doc doc)) (IsDocumentFileRefusal file) (Rose (H.faults shelf.old) (H.faults shelf.new)) result }
-    ensures later { H.faults shelf.old ≤ H.faults shelf.new }
+// The DTD that the bytes are.
+fn dtd_of(alloc: Global, bytes: &[u8]) -> Result<Dtd, Stop>
+    ensures { Returns plain_dtd (dtd_stage bytes.now) result }
 {
-    let bytes = fetched(alloc, shelf, name, MAX_DOC_BYTES, b"limit document-file")?;
-    document(alloc, &bytes, root)
+    match read_dtd(alloc, bytes) {
+        Ok(dtd) => Ok(dtd),
+        Err(DtdError::Syntax(item)) => {
+            Err(refuse_item(alloc, Status::BadDtd, b"dtd syntax ", item))
+        }
+        Err(DtdError::NoMemory) => Err(Stop::NoMemory),
+    }
 }
 
-/// The DTD and the document of these names.
+// The document that the bytes are.
+fn document_of(alloc: Global, bytes: &[u8], root: &[u8]) -> Result<Doc, Stop>
+    ensures { Returns plain_doc (document_stage root.now bytes.now) result }
+{
+    match read_doc(alloc, bytes, root) {
+        Ok(doc) => Ok(doc),
+        Err(DocError::Syntax(item)) => Err(refuse_item(
+            alloc,
+            Status::BadDocument,
+            b"document syntax ",
+            item,
+        )),
+        Err(DocError::NoMemory) => Err(Stop::NoMemory),
+    }
+}
+
+/// The DTD in the file of this name.
+pub fn open_dtd<H: Shelf>(alloc: Global, shelf: &mut H, name: &str) -> Result<Dtd, Stop>
+    requires { Contains (H.names shelf.old) name.now }
+    ensures file { (file : Option (List ℕ)) × IsFile (H.files shelf.old) name.now file
+        × Returns plain_dtd (dtd_file_stage file) result }
+    ensures counts { ShelfCounts (H.faults shelf.old) (H.faults shelf.new) result }
+    ensures names { H.names shelf.new ≡ H.names shelf.old }
+    ensures files { H.files shelf.new ≡ H.files shelf.old }
+{
+    let bytes = fetch(alloc, shelf, name, MAX_DTD_BYTES, b"limit dtd-file")?;
+    dtd_of(alloc, &bytes)
+}
+
+// The document in the file of this name.
+fn open_document<H: Shelf>(
+    alloc: Global,
+    shelf: &mut H,
+    name: &str,
+    root: &[u8],
+) -> Result<Doc, Stop>
+    requires { Contains (H.names shelf.old) name.now }
+    ensures file { (file : Option (List ℕ)) × IsFile (H.files shelf.old) name.now file
+        × Returns plain_doc (document_file_stage root.now file) result }
+    ensures counts { ShelfCounts (H.faults shelf.old) (H.faults shelf.new) result }
+    ensures names { H.names shelf.new ≡ H.names shelf.old }
+    ensures files { H.files shelf.new ≡ H.files shelf.old }
+{
+    let bytes = fetch(alloc, shelf, name, MAX_DOC_BYTES, b"limit document-file")?;
+    document_of(alloc, &bytes, root)
+}
+
+/// The DTD and the document in the files of these names.
 pub fn open<H: Shelf>(
     alloc: Global,
     shelf: &mut H,
@@ -56,12 +139,13 @@ pub fn open<H: Shelf>(
 ) -> Result<Opened, Stop>
     requires dtd_named { Contains (H.names shelf.old) dtd.now }
     requires doc_named { Contains (H.names shelf.old) doc.now }
-    ensures step { (files : Files) × IsFile (H.files shelf.old) dtd.now files.dtd × IsFile (H.files shelf.old) doc.now files.doc
-        × Steps (λ o. IsDtdFile files.dtd (plain_dtd o.dtd) × IsDocumentFile files.doc (plain_doc o.doc)) (IsRefusal files.dtd files.doc)
-        (Rose (H.faults shelf.old) (H.faults shelf.new)) result }
-    ensures later { H.faults shelf.old ≤ H.faults shelf.new }
+    ensures files_read { (files : Files) × IsFile (H.files shelf.old) dtd.now files.dtd × IsFile (H.files shelf.old) doc.now files.doc
+        × Returns plain_opened (opening_stage root.now files) result }
+    ensures counts { ShelfCounts (H.faults shelf.old) (H.faults shelf.new) result }
+    ensures names { H.names shelf.new ≡ H.names shelf.old }
+    ensures files { H.files shelf.new ≡ H.files shelf.old }
 {
-    let dtd = dtd_in(alloc, shelf, dtd)?;
-    let doc = document_in(alloc, shelf, doc, root)?;
+    let dtd = open_dtd(alloc, shelf, dtd)?;
+    let doc = open_document(alloc, shelf, doc, root)?;
     Ok(Opened { dtd, doc })
 }

@@ -1,89 +1,30 @@
 //! All that the program does.
 
-ghost use Rattle.std.specs.Prelude.{◌≡◌, ◌⊎◌, List, ℕ, None, codes, false, true};
-ghost use Rattle.std.specs.Io.KnownBytes.{IsAtEnd};
-ghost use Rattle.pv_io.specs.Causes.{Rose};
-ghost use Rattle.pv_io.specs.Files.{byte_lists, fetch_names};
-ghost use Rattle.pv_cli.specs.Answer.{with_line};
-ghost use Rattle.pv_cli.specs.Commands.{Files, IsAnswer, is_session, command_line_of};
-ghost use Rattle.pv_cli.specs.Outcome.{AreFiles, IsFile, Ends};
-ghost use Rattle.pv_cli.specs.Scripts.{IsScript};
-ghost use Rattle.pv_cli.specs.Session.{IsSession, IsSessionAnswer};
-ghost use Rattle.pv_cli.specs.Steps.{Answers};
-ghost use Rattle.pv_cli.specs.Valid.{IsValidAnswer};
-ghost use Rattle.pv_cli.specs.Words.{AreNamed};
+ghost use Rattle.std.specs.Prelude.{◌≡◌, codes, false};
+ghost use Rattle.pv_cli.specs.CommandLine.{command_line_of, asks_shelf};
+ghost use Rattle.pv_cli.specs.Program.{Runs, devices};
+ghost use Rattle.pv_cli.specs.Response.{with_line};
+ghost use Rattle.pv_cli.specs.Stage.{TellsBy};
 ghost use Rattle.pv_cli.specs.declared.status.Status.TheVariants.{Usage};
-ghost use Rattle.pv_dtd.specs.Plain.{PlainDtd};
-ghost use Rattle.pv_tree.specs.Docs.{plain_doc};
+ghost use Rattle.pv_io.specs.Files.{byte_lists, fetch_names};
 
-use crate::lines::with_line;
-use crate::opening::open;
+use crate::command_line::{CommandLine, command_line_of};
 use crate::respond::respond;
-use crate::script::read_script;
-use crate::session::answer_lines;
-use crate::status::{Reply, Status, Stop};
-use crate::valid::verdict;
-use crate::words::{CommandLine, Named, command_line_of};
+use crate::response::Response;
+use crate::session::session;
+use crate::status::Status;
+use crate::stop::Stop;
+use crate::valid::valid;
 use pv_io::{Shelf, Sink, Source};
 use pv_steps::Steps;
-use pv_tree::Doc;
 use std::alloc::Global;
 use std::sync::ledger::Ledger;
 use std::thread::Threads;
 
-// The answer of `valid`.
-fn valid<H: Shelf>(alloc: Global, shelf: &mut H, named: &Named<'_>) -> Result<Reply, Stop>
-    requires { AreNamed (H.names shelf.old) named.now }
-    ensures { (files : Files) × IsFile (H.files shelf.old) named.now.dtd.now files.dtd × IsFile (H.files shelf.old) named.now.doc.now files.doc
-        × Answers (IsValidAnswer named.now.root.now files.dtd files.doc) (Rose (H.faults shelf.old) (H.faults shelf.new)) result }
+fn usage(alloc: Global) -> Result<Response, Stop>
+    ensures { TellsBy (λ r. r ≡ with_line Usage (codes "usage")) result }
 {
-    let opened = open(alloc, shelf, named.dtd, named.root, named.doc)?;
-    verdict(alloc, &opened, named.root)
-}
-
-// Reads the script, and writes the replies to its lines.
-fn converse<S: Source, K: Sink>(alloc: Global, doc: &Doc, input: &mut S, out: &mut K) -> Status
-    ensures outcome { (g : PlainDtd) → (script : List ℕ) × IsScript (S.left input.old) script
-        × Ends (IsSession script g (plain_doc doc.now)) (Rose (S.faults input.old) (S.faults input.new))
-        (Rose (K.faults out.old) (K.faults out.new)) (K.written out.old) (K.written out.new) result }
-    ensures ended { result ≡ Status.Done → IsAtEnd (S.left input.new) }
-{
-    let script = match read_script(alloc, input) {
-        Ok(script) => script,
-        Err(stop) => return respond(out, Err(stop)),
-    };
-    match answer_lines(alloc, doc, &script, out) {
-        Ok(()) => Status::Done,
-        Err(_) => Status::WriteFault,
-    }
-}
-
-// Opens the files, and answers the script.
-fn session<H: Shelf, S: Source, K: Sink>(
-    alloc: Global,
-    shelf: &mut H,
-    named: &Named<'_>,
-    input: &mut S,
-    out: &mut K,
-) -> Status
-    requires { AreNamed (H.names shelf.old) named.now }
-    ensures outcome { (files : Files) × IsFile (H.files shelf.old) named.now.dtd.now files.dtd × IsFile (H.files shelf.old) named.now.doc.now files.doc
-        × (script : List ℕ) × IsScript (S.left input.old) script
-        × Ends (IsSessionAnswer files.dtd files.doc script) (Rose (H.faults shelf.old) (H.faults shelf.new) ⊎ Rose (S.faults input.old) (S.faults input.new))
-        (Rose (K.faults out.old) (K.faults out.new)) (K.written out.old) (K.written out.new) result }
-    ensures ended { result ≡ Status.Done → IsAtEnd (S.left input.new) }
-{
-    let opened = match open(alloc, shelf, named.dtd, named.root, named.doc) {
-        Ok(opened) => opened,
-        Err(stop) => return respond(out, Err(stop)),
-    };
-    converse(alloc, &opened.doc, input, out)
-}
-
-fn usage(alloc: Global) -> Result<Reply, Stop>
-    ensures { Answers (λ a. a ≡ with_line Usage (codes "usage")) ⊥ result }
-{
-    Ok(with_line(alloc, Status::Usage, b"usage")?)
+    Ok(Response::with_line(alloc, Status::Usage, b"usage")?)
 }
 
 /// All that the program does: the words are those after its name.
@@ -100,17 +41,15 @@ pub fn pvtag<H: Shelf, S: Source, K: Sink, L: Ledger>(
 ) -> Status
     requires { H.names shelf.old ≡ fetch_names words.now }
 
-    // There are files and a script, those that the shelf and the input tell where they tell them, whose defined answer this is.
-    ensures outcome { (files : Files) × AreFiles (H.files shelf.old) (byte_lists words.now) files × (script : List ℕ) × IsScript (S.left input.old) script
-        × Ends (IsAnswer (byte_lists words.now) files script) (Rose (H.faults shelf.old) (H.faults shelf.new) ⊎ Rose (S.faults input.old) (S.faults input.new))
-        (Rose (K.faults out.old) (K.faults out.new)) (K.written out.old) (K.written out.new) result }
+    // The status, the output and the causes of faults.
+    ensures runs { Runs (command_line_of (byte_lists words.now))
+        (devices (H.files shelf.old) (H.faults shelf.old) input.old (S.left input.old) (S.faults input.old) (K.written out.old) (K.faults out.old))
+        (devices (H.files shelf.new) (H.faults shelf.new) input.new (S.left input.new) (S.faults input.new) (K.written out.new) (K.faults out.new)) result }
 
-    // Words that are no command ask the shelf for nothing.
-    ensures unasked { command_line_of (byte_lists words.now) ≡ None → shelf.new ≡ shelf.old }
-
-    // Only `session` reads the input, and where all is done it has read it to its end.
-    ensures untouched { is_session (command_line_of (byte_lists words.now)) ≡ false → input.new ≡ input.old }
-    ensures ended { result ≡ Status.Done → is_session (command_line_of (byte_lists words.now)) ≡ true → IsAtEnd (S.left input.new) }
+    // What stays.
+    ensures unasked { asks_shelf (command_line_of (byte_lists words.now)) ≡ false → shelf.new ≡ shelf.old }
+    ensures names { H.names shelf.new ≡ H.names shelf.old }
+    ensures files { H.files shelf.new ≡ H.files shelf.old }
     ensures steps { steps.new ≡ steps.old }
 {
     match command_line_of(words) {

@@ -1,23 +1,31 @@
-//! Writes an answer.
+//! Writes a response.
 
-ghost use Rattle.pv_io.specs.Causes.{Rose};
-ghost use Rattle.pv_cli.specs.Outcome.{Responds};
+ghost use Rattle.pv_cli.specs.Course.{responds};
+ghost use Rattle.pv_cli.specs.Program.{Writes, ending_of};
+ghost use Rattle.pv_cli.specs.Response.{plain_response};
 
-use crate::status::{Reply, Status, Stop};
+use crate::response::Response;
+use crate::status::Status;
+use crate::stop::Stop;
 use pv_io::{Sink, write_all};
 
-/// Writes what a command gave, and tells the status.
-pub fn respond<K: Sink>(out: &mut K, answer: Result<Reply, Stop>) -> Status
-    ensures { Responds answer (Rose (K.faults out.old) (K.faults out.new)) (K.written out.old) (K.written out.new) result }
+fn write<K: Sink>(out: &mut K, response: &Response) -> Status
+    ensures { Writes (responds (plain_response response.now)) (K.written out.old) (K.written out.new) (K.faults out.old) (K.faults out.new) result }
 {
-    let reply = match answer {
-        Ok(reply) => reply,
-        Err(Stop::Refused(reply)) => reply,
-        Err(Stop::Faulty) => return Status::ReadFault,
-        Err(Stop::Memory) => return Status::NoMemory,
-    };
-    match write_all(out, &reply.output) {
-        Ok(()) => reply.status,
+    match write_all(out, &response.output) {
+        Ok(()) => response.status,
         Err(_) => Status::WriteFault,
+    }
+}
+
+/// Writes the response, where there is one, and tells the status.
+pub fn respond<K: Sink>(out: &mut K, answer: Result<Response, Stop>) -> Status
+    ensures { Writes (ending_of answer) (K.written out.old) (K.written out.new) (K.faults out.old) (K.faults out.new) result }
+{
+    match answer {
+        Ok(response) => write(out, &response),
+        Err(Stop::Refused(response)) => write(out, &response),
+        Err(Stop::ShelfFault | Stop::InputFault) => Status::ReadFault,
+        Err(Stop::NoMemory) => Status::NoMemory,
     }
 }

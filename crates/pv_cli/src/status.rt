@@ -1,8 +1,7 @@
-//! How the program ends, and what it writes.
+//! How the program ends.
 
-ghost use Rattle.std.specs.Prelude.{◌≡◌, false};
-ghost use Rattle.pv_cli.specs.Codes.{code_of};
-ghost use Rattle.pv_cli.specs.Faults.{is_fault};
+ghost use Rattle.std.specs.Prelude.{◌≡◌};
+ghost use Rattle.pv_cli.specs.Status.{code_of};
 
 /// How the program ended.
 #[derive(Clone, Copy, Debug, PartialEq, Eq)]
@@ -44,23 +43,4 @@ impl Status {
             Status::Limit => 8,
         }
     }
-}
-
-/// An answer: a status, and what is to be written.
-#[derive(Drop)]
-pub struct Reply {
-    pub status: Status,
-    pub output: Vec<u8>,
-    ghost plain: { is_fault status ≡ false },
-}
-
-/// Why a command ends early.
-#[derive(Drop)]
-pub enum Stop {
-    /// This is its answer.
-    Refused(Reply),
-    /// A file couldn't be read.
-    Faulty,
-    /// There was no memory.
-    Memory,
 }

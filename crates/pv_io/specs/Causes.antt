@@ -1,19 +1,22 @@
 -- Faults of the outside, and what a call that answers one owes.
-use Rattle.std.specs.Prelude.{ℕ, ◌+◌, ◌-◌, ◌^◌, ◌≤◌, ◌<◌, min, List, length, take, Result, OnErr, Option}
+use Rattle.std.specs.Prelude.{◌≡◌, ℕ, ◌+◌, ◌-◌, ◌^◌, ◌≤◌, ◌<◌, min, List, length, take, Result, MatchResult, Option}
 use Rattle.std.specs.Io.KnownBytes.{Appends}
 
 -- a count after one more, which stops at its last value
 abbrev pub one_more : ℕ → ℕ
 one_more count = min (count + 1) (2 ^ 64 - 1)
 
+-- a count stays
+abbrev pub Stays : ℕ → ℕ → Type 0
+Stays before now = now ≡ before
+
 -- a count rose, or stands at its last value
 abbrev pub Rose : ℕ → ℕ → Type 0
-Rose before now = one_more before ≤ now
+Rose before now = (before ≤ now) × (one_more before ≤ now)
 
--- a count never falls, and an error comes only where it rose
-pub record HasCause {T E : Type 0} (before now : ℕ) (result : Result T E) : Type 0 where
-  pub later : before ≤ now
-  pub failed : OnErr result (Rose before now)
+-- a call that answers an error counted a fault, and every other call counted none
+abbrev pub HasCause : {T E : Type 0} → ℕ → ℕ → Result T E → Type 0
+HasCause before now result = MatchResult result (λ _. Stays before now) (λ _. Rose before now)
 
 -- at most the piece was taken, and some of it unless it is empty
 pub record TakesSome (count : ℕ) (piece : List ℕ) : Type 0 where

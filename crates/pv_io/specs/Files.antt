@@ -2,6 +2,7 @@
 use Rattle.std.specs.Prelude.{◌≡◌, ℕ, ◌<◌, ◌≤◌, List, [], ◌∷◌, length, if◌then◌else◌, Bool, true, false, Result, Ok, Err, Option, Some, None, Vec, String, string_bytes, map, take, drop, ◌++◌}
 use Rattle.std.specs.Str.{bytes_eq}
 use Rattle.std.specs.declared.alloc.Global.{Global}
+use Rattle.pv_io.specs.Causes.{Stays, Rose}
 use Rattle.pv_io.specs.declared.shelf.FetchError.{FetchError}
 use Rattle.pv_io.specs.declared.shelf.FetchError.TheVariants.{Failed, TooLong, NoMemory}
 
@@ -31,12 +32,12 @@ abbrev pub FetchTells : Option (List (List ℕ × List ℕ)) → List ℕ → �
 FetchTells None name most result = Unit {0}
 FetchTells (Some files) name most result = FetchGives (file_named name files) most result
 
--- `Failed` comes only with its cause
-abbrev pub FetchFails : Type 0 → Result (Vec ℕ Global) FetchError → Type 0
-FetchFails cause (Ok v) = Unit {0}
-FetchFails cause (Err Failed) = cause
-FetchFails cause (Err TooLong) = Unit {0}
-FetchFails cause (Err NoMemory) = Unit {0}
+-- a fetch that answers `Failed` counted a fault, and every other fetch counted none
+abbrev pub FetchHasCause : ℕ → ℕ → Result (Vec ℕ Global) FetchError → Type 0
+FetchHasCause before now (Ok v) = Stays before now
+FetchHasCause before now (Err Failed) = Rose before now
+FetchHasCause before now (Err TooLong) = Stays before now
+FetchHasCause before now (Err NoMemory) = Stays before now
 
 -- whether a fetch was a fault of the shelf
 abbrev pub is_fault : Result (Vec ℕ Global) FetchError → Bool

@@ -3,8 +3,8 @@
 ghost use Rattle.std.specs.Prelude.{◌≡◌, ◌≤◌, if◌then◌else◌, is_err, vec_len, IfOk};
 ghost use Rattle.std.specs.Io.{ReadsAtMost};
 ghost use Rattle.std.specs.Io.KnownBytes.{ReadConsumes, WriteAppends};
-ghost use Rattle.pv_io.specs.Causes.{HasCause, TakesSome, Rose, one_more};
-ghost use Rattle.pv_io.specs.Files.{fetch_names, FetchFails, is_fault};
+ghost use Rattle.pv_io.specs.Causes.{HasCause, TakesSome, one_more};
+ghost use Rattle.pv_io.specs.Files.{fetch_names, FetchHasCause, is_fault};
 
 use crate::shelf::{FetchError, Shelf};
 use crate::sink::Sink;
@@ -149,8 +149,7 @@ impl<'a, R: Files> Shelf for FolderShelf<'a, R> {
 
     fn fetch(&mut self, alloc: Global, name: &str, most: usize) -> Result<Vec<u8>, FetchError>
         ensures bound { IfOk result (λ v. vec_len v ≤ most) }
-        ensures later { self.old.faults ≤ self.new.faults }
-        ensures cause { FetchFails (Rose self.old.faults self.new.faults) result }
+        ensures cause { FetchHasCause self.old.faults self.new.faults result }
         ensures names { self.new.names ≡ self.old.names }
 
         ensures counted { self.new.faults ≡ (if is_fault result then one_more self.old.faults else self.old.faults) }

@@ -1,8 +1,7 @@
 //! Files by their names.
 
 ghost use Rattle.std.specs.Prelude.{◌≡◌, ◌≤◌, List, ℕ, Option, IfOk, Contains, vec_len};
-ghost use Rattle.pv_io.specs.Causes.{Rose};
-ghost use Rattle.pv_io.specs.Files.{FetchTells, FetchFails};
+ghost use Rattle.pv_io.specs.Files.{FetchTells, FetchHasCause};
 
 use std::alloc::Global;
 use thiserror::Error;
@@ -34,8 +33,7 @@ pub trait Shelf {
         requires { Contains (names self.old) name.now }
         ensures bound { IfOk result (λ v. vec_len v ≤ most) }
         ensures bytes { FetchTells (files self.old) name.now most result }
-        ensures later { faults self.old ≤ faults self.new }
-        ensures cause { FetchFails (Rose (faults self.old) (faults self.new)) result }
+        ensures cause { FetchHasCause (faults self.old) (faults self.new) result }
         ensures names { names self.new ≡ names self.old }
         ensures files { files self.new ≡ files self.old };
 }

@@ -1,10 +1,15 @@
-//! The program over the machine's files and streams.
+//! The program over the machine's files and streams: `run` ends with the exit status of what `pvtag` answers, whatever the devices are.
 #![tactic(auto)]
 
 ghost use Rattle.std.specs.Prelude.{◌≡◌, ◌<◌};
+ghost use Rattle.std.specs.Process.{exit_status};
+ghost use Rattle.pv_cli.specs.CommandLine.{command_line_of};
+ghost use Rattle.pv_cli.specs.Program.{Runs, devices};
+ghost use Rattle.pv_cli.specs.Status.{code_of};
+ghost use Rattle.pv_io.specs.Files.{byte_lists, fetch_names};
 
 use pv_cli::{Status, pvtag};
-use pv_io::{FolderShelf, ReadSource, WriteSink};
+use pv_io::{FolderShelf, ReadSource, Shelf, Sink, Source, WriteSink};
 use pv_steps::Steps;
 use std::alloc::Global;
 use std::marker::Brand;
@@ -25,22 +30,47 @@ fn words_of(rt: &(impl Env + AllocGlobal), alloc: Global) -> io::Result<Vec<Stri
     Ok(words)
 }
 
-fn run<L: Ledger, R: Files + AllocGlobal + Input + Print + Threads + Sync>(
+/// Runs the program over these devices, and ends with the number of its status.
+fn run<H: Shelf, S: Source, K: Sink, L: Ledger>(
+    rt: &(impl Threads + Sync),
+    alloc: Global,
+    words: &[String],
+    shelf: &mut H,
+    input: &mut S,
+    out: &mut K,
+    steps: &mut Steps<L>,
+) -> ExitCode
+    requires { H.names shelf.old ≡ fetch_names words.now }
+    ensures { (status : Status) × (exit_status result ≡ code_of status) × Runs (command_line_of (byte_lists words.now))
+        (devices (H.files shelf.old) (H.faults shelf.old) input.old (S.left input.old) (S.faults input.old) (K.written out.old) (K.faults out.old))
+        (devices (H.files shelf.new) (H.faults shelf.new) input.new (S.left input.new) (S.faults input.new) (K.written out.new) (K.faults out.new)) status }
+{
+    let status = pvtag(rt, alloc, words, shelf, input, out, steps);
+    ExitCode::from(status.code())
+}
+
+// The same over the machine's files, its input and its output.
+fn run_here<L: Ledger, R: Files + AllocGlobal + Input + Print + Threads + Sync>(
     rt: &R,
     words: &[String],
     blank: Blank,
-) -> Status
+) -> ExitCode
     requires name { blank.name ≡ L.name }
     requires parts { blank.parts ≡ L.parts }
     requires some { 0 < L.parts }
 {
-    let alloc = rt.alloc();
     let mut shelf = FolderShelf::new(rt, words);
     let mut input = ReadSource::new(rt.reader());
     let mut out = WriteSink::new(io::writer(rt));
     let mut steps = Steps::<L>::start(blank);
-    pvtag(
-        rt, alloc, words, &mut shelf, &mut input, &mut out, &mut steps,
+    run(
+        rt,
+        rt.alloc(),
+        words,
+        &mut shelf,
+        &mut input,
+        &mut out,
+        &mut steps,
     )
 }
 
@@ -48,5 +78,5 @@ fn main(rt: HostRuntime) -> ExitCode {
     let Ok(words) = words_of(&rt, rt.alloc()) else {
         return ExitCode::from(NO_WORDS);
     };
-    ExitCode::from(run::<Brand, HostRuntime>(&rt, &words, Blank::new(1)).code())
+    run_here::<Brand, HostRuntime>(&rt, &words, Blank::new(1))
 }

@@ -2,8 +2,7 @@
 
 ghost use Rattle.std.specs.Prelude.{◌≡◌, ◌≤◌, ◌<◌, ◌↔◌, ◌⊎◌, [], map, length, Some, IfOk, IsNone, IsSome, IfSome, Contains, vec_len, string_bytes, Err};
 ghost use Rattle.std.specs.Option.{option_map};
-ghost use Rattle.pv_io.specs.Causes.{Rose};
-ghost use Rattle.pv_io.specs.Files.{FetchTells, FetchFails, file_named, named_files, byte_lists, is_fault, HoldsMore};
+ghost use Rattle.pv_io.specs.Files.{FetchTells, FetchHasCause, file_named, named_files, byte_lists, is_fault, HoldsMore};
 ghost use Rattle.pv_io.specs.Memory.{no_calls, after_call, FetchFaults};
 
 use super::calls::Calls;
@@ -92,8 +91,7 @@ impl Shelf for MemShelf {
     fn fetch(&mut self, alloc: Global, name: &str, most: usize) -> Result<Vec<u8>, FetchError>
         ensures bound { IfOk result (λ v. vec_len v ≤ most) }
         ensures bytes { FetchTells (Some self.old.files) name.now most result }
-        ensures later { self.old.calls.faults ≤ self.new.calls.faults }
-        ensures cause { FetchFails (Rose self.old.calls.faults self.new.calls.faults) result }
+        ensures cause { FetchHasCause self.old.calls.faults self.new.calls.faults result }
         ensures names { self.new.names ≡ self.old.names }
         ensures files { self.new.files ≡ self.old.files }
 

@@ -1,11 +1,11 @@
-use Rattle.std.proofs.Common.{◌≡◌, [], refl, ap, arith}
+use Rattle.std.proofs.Common.{◌≡◌, [], refl, ap, ◌∙◌}
 use Rattle.std.proofs.lemmas.Result.{err_from_is_err_and}
 use Rattle.pv_script.specs.Lines.{lines_of}
-use Rattle.pv_cli.proofs.SessionLemmas.{told_first, told_more, told_silent, told_end, told_quit, told_failed, told_failed_silent}
+use Rattle.pv_cli.proofs.Replies.{told_first, told_more, told_silent, told_end, told_quit, told_failed, told_failed_silent}
 use Rattle.pv_cli.proofs.session.answer_lines.Goals as goal
 
 pub lines-init : goal.lines-init
-lines-init g c = record { later = omega arith; told = told_first _ _ _ }
+lines-init g c = record { stays = refl; told = told_first _ _ _ }
 
 pub returns-in_err-write_all-in-Ok-Some-clause-err : goal.returns-in_err-write_all-in-Ok-Some-clause-err
 returns-in_err-write_all-in-Ok-Some-clause-err g c =
@@ -32,12 +32,12 @@ lines-preserved-in_ok-write_all-in-Ok-Some g c =
     let told = rw c.in-Some.ensures.line at c.lines.invariant.told in
     let turn = rw c.in-Ok-Some.field-0-is at c.in-Ok-Some.ensures in
     let written = rw (c.deref.ensures.value, turn.2) at c.in_ok-write_all-in-Ok-Some.ensures.ok in
-    record { later = omega (arith, c.lines.invariant.later, c.write_all.ensures.cause.later); told = told_more _ _ _ _ _ _ _ turn.0 told turn.1 written }
+    record { stays = c.in_ok-write_all-in-Ok-Some.ensures.cause ∙ c.lines.invariant.stays; told = told_more _ _ _ _ _ _ _ turn.0 told turn.1 written }
 
 pub lines-preserved : goal.lines-preserved
 lines-preserved g c =
     let told = rw c.in-Some.ensures.line at c.lines.invariant.told in
-    record { later = omega (arith, c.lines.invariant.later, c.write_all-in-Err.ensures.cause.later); told = told_silent _ _ _ _ _ _ _ told c.in_ok-write_all-in-Err.ensures.ok }
+    record { stays = c.in_ok-write_all-in-Err.ensures.cause ∙ c.lines.invariant.stays; told = told_silent _ _ _ _ _ _ _ told c.in_ok-write_all-in-Err.ensures.ok }
 
 pub returns-clause-ok : goal.returns-clause-ok
 returns-clause-ok g c =

@@ -1,12 +1,13 @@
-use Rattle.std.proofs.Common.{◌≤◌, length}
+use Rattle.std.proofs.Common.{length}
+use Rattle.pv_io.specs.Causes.{Stays}
 use Rattle.pv_tree.specs.Docs.{plain_doc}
 use Rattle.pv_script.specs.Lines.{lines_of}
-use Rattle.pv_cli.proofs.SessionLemmas.{Told}
+use Rattle.pv_cli.proofs.Replies.{Told}
 use Rattle.pv_cli.proofs.session.answer_lines.Given as goal
 
 abbrev pub invariant-lines : goal.invariant-lines
 invariant-lines g l = record {
-  later : g.K.Sink.faults l.initial.out ≤ g.K.Sink.faults l.out;
+  stays : Stays (g.K.Sink.faults l.initial.out) (g.K.Sink.faults l.out);
   told : Told (g.K.Sink.written l.initial.out) (g.K.Sink.written l.out) (plain_doc l.doc) (lines_of l.script) (lines_of l.rest);
 }
 

@@ -1,0 +1,197 @@
+-- Over given files, script and silent lines there is one response.
+use Rattle.std.proofs.Common.{◌≡◌, ◌⊎◌, inl, inr, ℕ, List, length, codes, Option, Some, None, sym, ap, ◌∙◌, subst, arith}
+use Rattle.pv_dtd.specs.Plain.{PlainDtd}
+use Rattle.pv_dtd.specs.Facts.{MAX_DTD_BYTES}
+use Rattle.pv_dtd.specs.Grammar.{IsDtdText}
+use Rattle.pv_tree.specs.Laws.{IsValidByLists}
+use Rattle.pv_tree.specs.Plain.{PlainDoc}
+use Rattle.pv_tree.specs.declared.nodes.Mark.{Mark}
+use Rattle.pv_read.specs.Grammar.{IsDocumentText, MAX_DOC_BYTES}
+use Rattle.pv_read.specs.Laws.{SpellsOneDocument}
+use Rattle.pv_script.specs.Lines.{lines_of}
+use Rattle.pv_write.specs.Laws.{WritesWhatIsSpelled}
+use Rattle.pv_write.specs.Text.{doc_text}
+use Rattle.pv_cli.specs.CommandLine.{valid, session}
+use Rattle.pv_cli.specs.Course.{Ending, responds, Course}
+use Rattle.pv_cli.specs.Laws.{HasOneResponse}
+use Rattle.pv_cli.specs.Opening.{Files, IsGiven, IsTooLong, fetch_stage, RefusesDtd, no_dtd, dtd_stage, RefusesDocument, no_document, document_stage, dtd_file_stage, document_file_stage, opening_stage}
+use Rattle.pv_cli.specs.Response.{PlainResponse}
+use Rattle.pv_cli.specs.Session.{State, IsScriptRefusal, IsAnswered, Answers, too_long, answered_all, failed, without_room, Converses}
+use Rattle.pv_cli.specs.Stage.{Stage, followed_by, keeping, Behind, opened, refused, stopped, short_of_memory, Responds, responded, short_of_memory as out_of_memory}
+use Rattle.pv_cli.specs.Valid.{TellsValidity}
+use Rattle.pv_cli.proofs.OneReplies.{one_replies}
+use Rattle.pv_cli.proofs.OneVerdict.{one_verdict, spelled_texts}
+
+-- a stage opens or refuses, and refuses with one response; what it opens is the same in this sense
+pub record IsSure {X : Type 0} (stage : Stage X) (Same : X → X → Type 0) : Type 0 where
+  pub not_both : (x : X) (r : PlainResponse) → stage.Opens x → stage.Refuses r → ⊥
+  pub one_refusal : (r also : PlainResponse) → stage.Refuses r → stage.Refuses also → r ≡ also
+  pub same : (x y : X) → stage.Opens x → stage.Opens y → Same x y
+
+abbrev pub IsEqual : {X : Type 0} → X → X → Type 0
+IsEqual x y = x ≡ y
+
+opens_same : {X Y : Type 0} (first : Stage X) (second : X → Stage Y) (x z : X) (y : Y) → x ≡ z → (second x).Opens y → (second z).Opens y
+opens_same first second x z y is = subst (λ (v : _). (second v).Opens y) is
+
+refuses_same : {X Y : Type 0} (first : Stage X) (second : X → Stage Y) (x z : X) (r : PlainResponse) → x ≡ z → (second x).Refuses r → (second z).Refuses r
+refuses_same first second x z r is = subst (λ (v : _). (second v).Refuses r) is
+
+followed_not_both : {X Y : Type 0} (first : Stage X) (second : X → Stage Y) (Same : Y → Y → Type 0) → IsSure first IsEqual → ((x : X) → IsSure (second x) Same) →
+    (y : Y) (r : PlainResponse) → (followed_by first second).Opens y → (followed_by first second).Refuses r → ⊥
+followed_not_both first second Same sure behind y r opens (inl refuses) = sure.not_both opens.0 r opens.1 refuses
+followed_not_both first second Same sure behind y r opens (inr refuses) =
+    (behind refuses.0).not_both y r (opens_same first second opens.0 refuses.0 y (sure.same opens.0 refuses.0 opens.1 refuses.1) opens.2) refuses.2
+
+followed_one_refusal : {X Y : Type 0} (first : Stage X) (second : X → Stage Y) (Same : Y → Y → Type 0) → IsSure first IsEqual → ((x : X) → IsSure (second x) Same) →
+    (r also : PlainResponse) → (followed_by first second).Refuses r → (followed_by first second).Refuses also → r ≡ also
+followed_one_refusal first second Same sure behind r also (inl refuses) (inl others) = sure.one_refusal r also refuses others
+followed_one_refusal first second Same sure behind r also (inl refuses) (inr others) = absurd (sure.not_both others.0 r others.1 refuses)
+followed_one_refusal first second Same sure behind r also (inr refuses) (inl others) = absurd (sure.not_both refuses.0 also refuses.1 others)
+followed_one_refusal first second Same sure behind r also (inr refuses) (inr others) =
+    (behind others.0).one_refusal r also (refuses_same first second refuses.0 others.0 r (sure.same refuses.0 others.0 refuses.1 others.1) refuses.2) others.2
+
+followed_sure : {X Y : Type 0} (first : Stage X) (second : X → Stage Y) (Same : Y → Y → Type 0) → IsSure first IsEqual → ((x : X) → IsSure (second x) Same) →
+    IsSure (followed_by first second) Same
+followed_sure first second Same sure behind = record {
+  not_both = followed_not_both first second Same sure behind;
+  one_refusal = followed_one_refusal first second Same sure behind;
+  same = λ y z opens others. (behind others.0).same y z (opens_same first second opens.0 others.0 y (sure.same opens.0 others.0 opens.1 others.1) opens.2) others.2;
+}
+
+-- two pairs whose first parts are equal
+abbrev pub IsSamePair : {X Y : Type 0} → (Y → Y → Type 0) → X × Y → X × Y → Type 0
+IsSamePair Same a b = (a.0 ≡ b.0) × Same a.1 b.1
+
+keeping_sure : {X Y : Type 0} (x : X) (stage : Stage Y) (Same : Y → Y → Type 0) → IsSure stage Same → IsSure (keeping x stage) (IsSamePair Same)
+keeping_sure x stage Same sure = record {
+  not_both = λ both r opens refuses. sure.not_both both.1 r opens.1 refuses;
+  one_refusal = sure.one_refusal;
+  same = λ a b opens others. (opens.0 ∙ sym others.0, sure.same a.1 b.1 opens.1 others.1);
+}
+
+one_file : (file : Option (List ℕ)) (bytes other : List ℕ) → file ≡ Some bytes → file ≡ Some other → bytes ≡ other
+one_file file bytes other is are = let same : Some bytes ≡ Some other = sym is ∙ are in cc
+
+fetch_not_both : (file : Option (List ℕ)) (most : ℕ) (passed bytes : List ℕ) (r : PlainResponse) → IsGiven file most bytes → IsTooLong file most passed r → ⊥
+fetch_not_both file most passed bytes r is are =
+    let same = ap length (one_file file are.bytes bytes are.is_file is.is_file) in
+    let beyond = are.beyond in
+    let within = is.within in absurd (omega arith)
+
+fetch_sure : (file : Option (List ℕ)) (most : ℕ) (passed : List ℕ) → IsSure (fetch_stage file most passed) IsEqual
+fetch_sure file most passed = record {
+  not_both = fetch_not_both file most passed;
+  one_refusal = λ r also is are. is.is_response ∙ sym are.is_response;
+  same = λ bytes other is are. one_file file bytes other is.is_file are.is_file;
+}
+
+-- a DTD text has one meaning
+abbrev pub IsOneDtd : Type 0
+IsOneDtd = (bytes : List ℕ) (g h : PlainDtd) → IsDtdText bytes g → IsDtdText bytes h → g ≡ h
+
+dtd_not_both : (bytes : List ℕ) (g : PlainDtd) (r : PlainResponse) → IsDtdText bytes g → RefusesDtd bytes r → ⊥
+dtd_not_both bytes g r is (no_dtd none line) = none g is
+
+dtd_one_refusal : (bytes : List ℕ) (r also : PlainResponse) → RefusesDtd bytes r → RefusesDtd bytes also → r ≡ also
+dtd_one_refusal bytes r also (no_dtd none line) (no_dtd never other) = line ∙ sym other
+
+dtd_sure : IsOneDtd → (bytes : List ℕ) → IsSure (dtd_stage bytes) IsEqual
+dtd_sure one bytes = record { not_both = dtd_not_both bytes; one_refusal = dtd_one_refusal bytes; same = one bytes }
+
+-- two documents with one text
+pub record IsSameText (doc same : PlainDoc Mark) : Type 0 where
+  pub bytes : List ℕ
+  pub is_text : IsDocumentText bytes doc
+  pub is_same : IsDocumentText bytes same
+
+document_not_both : (root bytes : List ℕ) (doc : PlainDoc Mark) (r : PlainResponse) → IsDocumentText bytes doc → RefusesDocument root bytes r → ⊥
+document_not_both root bytes doc r is (no_document none line) = none doc is
+
+document_one_refusal : (root bytes : List ℕ) (r also : PlainResponse) → RefusesDocument root bytes r → RefusesDocument root bytes also → r ≡ also
+document_one_refusal root bytes r also (no_document none line) (no_document never other) = line ∙ sym other
+
+document_sure : (root bytes : List ℕ) → IsSure (document_stage root bytes) IsSameText
+document_sure root bytes = record {
+  not_both = document_not_both root bytes;
+  one_refusal = document_one_refusal root bytes;
+  same = λ doc same is are. record { bytes = bytes; is_text = is; is_same = are };
+}
+
+opening_sure : IsOneDtd → (root : List ℕ) (files : Files) → IsSure (opening_stage root files) (IsSamePair IsSameText)
+opening_sure one root files =
+    followed_sure (dtd_file_stage files.dtd) (λ g. keeping g (document_file_stage root files.doc)) (IsSamePair IsSameText)
+    (followed_sure (fetch_stage files.dtd MAX_DTD_BYTES (codes "limit dtd-file")) dtd_stage IsEqual (fetch_sure files.dtd MAX_DTD_BYTES (codes "limit dtd-file")) (dtd_sure one))
+    (λ g. keeping_sure g (document_file_stage root files.doc) IsSameText
+    (followed_sure (fetch_stage files.doc MAX_DOC_BYTES (codes "limit document-file")) (document_stage root) IsSameText (fetch_sure files.doc MAX_DOC_BYTES (codes "limit document-file")) (document_sure root)))
+
+-- where a run over a stage responds, it went on, or this is the stage's refusal
+went_on : {X : Type 0} (stage : Stage X) (Goes : X → Course → Type 0) (course : Course) (r : PlainResponse) → Behind stage Goes course → course.ending ≡ responds r →
+    ((x : X) × stage.Opens x × Goes x course) ⊎ stage.Refuses r
+went_on stage Goes course r (opened x opens goes) ends = inl (x, opens, goes)
+went_on stage Goes course r (refused s refuses is) ends =
+    let here = ap (λ (c : Course). c.ending) is in
+    let same : s ≡ r = cc in inr (subst stage.Refuses same refuses)
+went_on stage Goes course r (stopped asks is) ends = let here = ap (λ (c : Course). c.ending) is in cc
+went_on stage Goes course r (short_of_memory is) ends = let here = ap (λ (c : Course). c.ending) is in cc
+
+one_of : {X : Type 0} (stage : Stage X) (Same : X → X → Type 0) (Goes : X → Course → Type 0) (course other : Course) (r also : PlainResponse) → IsSure stage Same →
+    ((x y : X) → Same x y → Goes x course → Goes y other → r ≡ also) →
+    ((x : X) × stage.Opens x × Goes x course) ⊎ stage.Refuses r → ((x : X) × stage.Opens x × Goes x other) ⊎ stage.Refuses also → r ≡ also
+one_of stage Same Goes course other r also sure one (inl here) (inl there) = one here.0 there.0 (sure.same here.0 there.0 here.1 there.1) here.2 there.2
+one_of stage Same Goes course other r also sure one (inl here) (inr refuses) = absurd (sure.not_both here.0 also here.1 refuses)
+one_of stage Same Goes course other r also sure one (inr refuses) (inl there) = absurd (sure.not_both there.0 r there.1 refuses)
+one_of stage Same Goes course other r also sure one (inr refuses) (inr others) = sure.one_refusal r also refuses others
+
+told : (P : PlainResponse → Type 0) (course : Course) (r : PlainResponse) → Responds P course → course.ending ≡ responds r → P r
+told P course r (responded s is ends) at =
+    let here = ap (λ (c : Course). c.ending) ends in
+    let same : s ≡ r = cc in subst P same is
+told P course r (out_of_memory ends) at = let here = ap (λ (c : Course). c.ending) ends in cc
+
+verdict_on_text : SpellsOneDocument → IsValidByLists Mark → (root : List ℕ) (g h : PlainDtd) (doc same : PlainDoc Mark) (r also : PlainResponse) → g ≡ h → IsSameText doc same →
+    TellsValidity root g doc r → TellsValidity root h same also → r ≡ also
+verdict_on_text one by_lists root g h doc same r also is text tells others =
+    one_verdict by_lists root g doc same r also (spelled_texts doc.root text.is_text.spelled.root text.is_text.spelled.is_root) (spelled_texts same.root text.is_same.spelled.root text.is_same.spelled.is_root)
+    (one text.bytes doc same text.is_text.spelled text.is_same.spelled) tells (subst (λ (d : PlainDtd). TellsValidity root d same also) (sym is) others)
+
+-- what a session responds: that the script is too long, or the replies
+abbrev pub SessionResponds : State → List ℕ → List ℕ → PlainResponse → Type 0
+SessionResponds doc script silent r = IsScriptRefusal script r ⊎ IsAnswered doc script silent (responds r)
+
+session_responds : (doc : State) (script silent : List ℕ) (ending : Ending) (r : PlainResponse) → Answers doc script silent ending → ending ≡ responds r → SessionResponds doc script silent r
+session_responds doc script silent ending r (too_long s refuses is) at = let same : s ≡ r = cc in inl (subst (IsScriptRefusal script) same refuses)
+session_responds doc script silent ending r (answered_all is) at = inr (subst (IsAnswered doc script silent) at is)
+session_responds doc script silent ending r (failed is) at = cc
+session_responds doc script silent ending r (without_room is) at = cc
+
+one_session : (doc same : State) (script silent : List ℕ) (r also : PlainResponse) → doc_text doc ≡ doc_text same → SessionResponds doc script silent r → SessionResponds same script silent also → r ≡ also
+one_session doc same script silent r also text (inl is) (inl are) = is.is_response ∙ sym are.is_response
+one_session doc same script silent r also text (inl is) (inr are) = let beyond = is.beyond in let within = are.within in absurd (omega arith)
+one_session doc same script silent r also text (inr is) (inl are) = let beyond = are.beyond in let within = is.within in absurd (omega arith)
+one_session doc same script silent r also text (inr is) (inr are) =
+    let out = one_replies silent 1 doc same (lines_of script) is.out are.out is.place are.place text is.replies are.replies in
+    let here = is.is_ending in
+    let there = are.is_ending in cc
+
+conversation_on_text : WritesWhatIsSpelled → (doc same : PlainDoc Mark) (course other : Course) (r also : PlainResponse) → IsSameText doc same → course.taken ≡ other.taken → course.silent ≡ other.silent →
+    course.ending ≡ responds r → other.ending ≡ responds also → Converses doc course → Converses same other → r ≡ also
+conversation_on_text written doc same course other r also text taken silent at on talks others =
+    let script : talks.script ≡ others.script = let t = talks.is_taken in let s = others.is_taken in cc in
+    let here = session_responds doc talks.script course.silent course.ending r talks.answers at in
+    let there = session_responds same others.script other.silent other.ending also others.answers on in
+    let moved = subst (λ (s : List ℕ). SessionResponds same s course.silent also) (sym script) (subst (λ (m : List ℕ). SessionResponds same others.script m also) (sym silent) there) in
+    one_session doc same talks.script course.silent r also (written text.bytes doc text.is_text.spelled ∙ sym (written text.bytes same text.is_same.spelled)) here moved
+
+pub one_response : IsOneDtd → SpellsOneDocument → IsValidByLists Mark → WritesWhatIsSpelled → HasOneResponse
+one_response dtds documents by_lists written None files course other r also is are taken silent at on = told _ course r is at ∙ sym (told _ other also are on)
+one_response dtds documents by_lists written (Some (valid dtd root doc)) files course other r also is are taken silent at on =
+    one_of (opening_stage root files) (IsSamePair IsSameText) (λ both. Responds (TellsValidity root both.0 both.1)) course other r also (opening_sure dtds root files)
+    (λ x y same goes others. verdict_on_text documents by_lists root x.0 y.0 x.1 y.1 r also same.0 same.1 (told (TellsValidity root x.0 x.1) course r goes at) (told (TellsValidity root y.0 y.1) other also others on))
+    (went_on (opening_stage root files) (λ both. Responds (TellsValidity root both.0 both.1)) course r is at)
+    (went_on (opening_stage root files) (λ both. Responds (TellsValidity root both.0 both.1)) other also are on)
+one_response dtds documents by_lists written (Some (session dtd root doc)) files course other r also is are taken silent at on =
+    one_of (opening_stage root files) (IsSamePair IsSameText) (λ both. Converses both.1) course other r also (opening_sure dtds root files)
+    (λ x y same goes others. conversation_on_text written x.1 y.1 course other r also same.1 taken silent at on goes others)
+    (went_on (opening_stage root files) (λ both. Converses both.1) course r is at)
+    (went_on (opening_stage root files) (λ both. Converses both.1) other also are on)

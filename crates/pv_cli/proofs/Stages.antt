@@ -1,0 +1,99 @@
+-- Stages, one behind another, up to where a run stops.
+use Rattle.std.proofs.Common.{◌≡◌, inl, inr, ℕ, List, Option, Some, None, Result, Ok, Err, refl}
+use Rattle.pv_io.specs.Files.{file_named}
+use Rattle.pv_cli.specs.declared.response.Response.{Response}
+use Rattle.pv_cli.specs.declared.status.Status.{Status}
+use Rattle.pv_cli.specs.declared.stop.Stop.{Stop}
+use Rattle.pv_cli.specs.declared.stop.Stop.TheVariants.{Refused, ShelfFault, InputFault, NoMemory}
+use Rattle.pv_cli.specs.Course.{Ending, responds, shelf_fault, input_fault, no_memory, Course, unread}
+use Rattle.pv_cli.specs.Opening.{IsFile}
+use Rattle.pv_cli.specs.CommandLine.{PlainCommandLine}
+use Rattle.pv_cli.specs.Program.{CountsShelf, CountsInput, Writes, Runs, Finds, devices, ending_of}
+use Rattle.pv_cli.specs.Response.{PlainResponse}
+use Rattle.pv_cli.specs.Stage.{Stage, followed_by, Behind, refused, stopped, short_of_memory, Responds, responded, short_of_memory as without_memory, StopsBy, TellsBy, StopCounts}
+
+-- the file of a name that isn't asked for
+pub some_file : (told : Option (List (List ℕ × List ℕ))) (name : List ℕ) → (file : Option (List ℕ)) × IsFile told name file
+some_file None name = (None, tt)
+some_file (Some files) name = (file_named name files, refl)
+
+-- where the first of two stages stops, both do
+pub stopped_first : {X Y : Type 0} (first : Stage X) (second : X → Stage Y) (stop : Stop) → StopsBy first.Refuses first.AsksShelf stop →
+    StopsBy (followed_by first second).Refuses (followed_by first second).AsksShelf stop
+stopped_first first second (Refused r) stops = inl stops
+stopped_first first second ShelfFault stops = inl stops
+stopped_first first second InputFault stops = stops
+stopped_first first second NoMemory stops = tt
+
+-- and so they do where the second stops
+pub stopped_second : {X Y : Type 0} (first : Stage X) (second : X → Stage Y) (x : X) (stop : Stop) → first.Opens x →
+    StopsBy (second x).Refuses (second x).AsksShelf stop → StopsBy (followed_by first second).Refuses (followed_by first second).AsksShelf stop
+stopped_second first second x (Refused r) opens stops = inr (x, opens, stops)
+stopped_second first second x ShelfFault opens stops = inr (x, opens, stops)
+stopped_second first second x InputFault opens stops = stops
+stopped_second first second x NoMemory opens stops = tt
+
+-- a run ends where a stage stops
+pub stop_ends : {X : Type 0} (stage : Stage X) (Goes : X → Course → Type 0) (stop : Stop) → StopsBy stage.Refuses stage.AsksShelf stop →
+    Behind stage Goes (unread (ending_of (Err stop)))
+stop_ends stage Goes (Refused r) stops = refused _ stops refl
+stop_ends stage Goes ShelfFault stops = stopped stops refl
+stop_ends stage Goes InputFault stops = absurd stops
+stop_ends stage Goes NoMemory stops = short_of_memory refl
+
+-- and where the order of work ends
+pub tells_ends : (P : PlainResponse → Type 0) (result : Result Response Stop) → TellsBy P result → Responds P (unread (ending_of result))
+tells_ends P (Ok r) tells = responded _ tells refl
+tells_ends P (Err (Refused r)) tells = responded _ tells refl
+tells_ends P (Err ShelfFault) tells = absurd tells
+tells_ends P (Err InputFault) tells = absurd tells
+tells_ends P (Err NoMemory) tells = without_memory refl
+
+pub stop_counts : (before after : ℕ) (stop : Stop) → StopCounts before after stop → CountsShelf (ending_of (Err stop)) before after
+stop_counts before after (Refused r) counts = counts
+stop_counts before after ShelfFault counts = counts
+stop_counts before after InputFault counts = counts
+stop_counts before after NoMemory counts = counts
+
+-- what didn't ask the shelf left its count
+pub tells_counts : (P : PlainResponse → Type 0) (before : ℕ) (result : Result Response Stop) → TellsBy P result → CountsShelf (ending_of result) before before
+tells_counts P before (Ok r) tells = refl
+tells_counts P before (Err (Refused r)) tells = refl
+tells_counts P before (Err ShelfFault) tells = absurd tells
+tells_counts P before (Err InputFault) tells = absurd tells
+tells_counts P before (Err NoMemory) tells = refl
+
+pub stop_leaves_input : (Refuses : PlainResponse → Type 0) (Asks : Type 0) (stop : Stop) → StopsBy Refuses Asks stop → ending_of (Err stop) ≡ input_fault → ⊥
+stop_leaves_input Refuses Asks (Refused r) stops is = cc
+stop_leaves_input Refuses Asks ShelfFault stops is = cc
+stop_leaves_input Refuses Asks InputFault stops is = stops
+stop_leaves_input Refuses Asks NoMemory stops is = cc
+
+pub tells_leaves_input : (P : PlainResponse → Type 0) (result : Result Response Stop) → TellsBy P result → ending_of result ≡ input_fault → ⊥
+tells_leaves_input P (Ok r) tells is = cc
+tells_leaves_input P (Err stop) tells is = stop_leaves_input P ⊥ stop tells is
+
+input_stays : (ending : Ending) (count : ℕ) → (ending ≡ input_fault → ⊥) → CountsInput ending count count
+input_stays (responds r) count not = refl
+input_stays shelf_fault count not = refl
+input_stays input_fault count not = absurd (not refl)
+input_stays no_memory count not = refl
+
+-- what a command found that leaves the input alone, once it is written
+pub found_runs : {S : Type 0} (line : Option PlainCommandLine) (told now : Option (List (List ℕ × List ℕ))) (before after : ℕ) (result : Result Response Stop)
+    (input : S) (left : Option (List ℕ)) (input_faults : ℕ) (old new : Option (List ℕ)) (first last : ℕ) (status : Status) →
+    Finds line told before after result → Writes (ending_of result) old new first last status →
+    Runs line (devices told before input left input_faults old first) (devices now after input left input_faults new last) status
+found_runs line told now before after result input left input_faults old new first last status finds writes = record {
+  files = finds.files;
+  are_files = finds.are_files;
+  course = unread (ending_of result);
+  is_defined = finds.is_defined;
+  shows = record {
+    shelf = finds.shelf;
+    input = input_stays (ending_of result) input_faults finds.no_input_fault;
+    taken = refl;
+    output = writes;
+    finished = λ done. tt;
+  };
+}

@@ -1,0 +1,5 @@
+use Rattle.pv_cli.proofs.OneResponse.{one_response}
+use Rattle.pv_cli.proofs.laws.one_response_law.Goals as goal
+
+pub returns : goal.returns
+returns c = one_response c.one_meaning_law.ensures c.one_document_law.ensures c.valid_lists_law.ensures c.spelled_is_written_law.ensures

@@ -1,7 +1,0 @@
-use Rattle.pv_cli.proofs.Chains.{dtd_refused}
-use Rattle.pv_cli.proofs.steps.declarations.Goals as goal
-
-pub returns-in-Err-Syntax : goal.returns-in-Err-Syntax
-returns-in-Err-Syntax c =
-    let refuses = rw c.in-Err-Syntax.field-0-is at c.in-Err-Syntax.ensures.refused in
-    dtd_refused _ _ _ refuses.0 refuses.1 c.refused_at.ensures

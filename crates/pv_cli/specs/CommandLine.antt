@@ -1,0 +1,42 @@
+-- The command lines.
+use Rattle.std.specs.Prelude.{ℕ, Bool, true, false, List, [], ◌∷◌, codes, if◌then◌else◌, Option, Some, None, Contains}
+use Rattle.std.specs.Str.{bytes_eq}
+use Rattle.pv_chars.specs.PlainNames.{is_plain_name}
+use Rattle.pv_cli.specs.declared.command_line.CommandLine.{CommandLine}
+use Rattle.pv_cli.specs.declared.command_line.CommandLine.TheVariants.{Valid, Session}
+use Rattle.pv_cli.specs.declared.command_line.Named.{Named}
+
+-- `valid DTD ROOT DOC` and `session DTD ROOT DOC`
+pub data PlainCommandLine : Type 0 where
+  valid : (dtd root doc : List ℕ) → PlainCommandLine
+  session : (dtd root doc : List ℕ) → PlainCommandLine
+
+-- a command with a DTD, a root and a document
+abbrev pub on_document : List ℕ → List ℕ → List ℕ → List ℕ → Option PlainCommandLine
+on_document command dtd root doc =
+    if bytes_eq command (codes "valid") then Some (valid dtd root doc)
+    else if bytes_eq command (codes "session") then Some (session dtd root doc)
+    else None
+
+-- the command line that these words are; ROOT is a name
+unfoldable pub command_line_of : List (List ℕ) → Option PlainCommandLine
+command_line_of (command ∷ dtd ∷ root ∷ doc ∷ []) = if is_plain_name root then on_document command dtd root doc else None
+command_line_of words = None
+
+-- words that are no command line ask the shelf for nothing
+abbrev pub asks_shelf : Option PlainCommandLine → Bool
+asks_shelf None = false
+asks_shelf (Some (valid dtd root doc)) = true
+asks_shelf (Some (session dtd root doc)) = true
+
+abbrev pub plain_command_line : CommandLine → PlainCommandLine
+plain_command_line (Valid n) = valid n.dtd.now n.root.now n.doc.now
+plain_command_line (Session n) = session n.dtd.now n.root.now n.doc.now
+
+abbrev pub AreNamed : List (List ℕ) → Named → Type 0
+AreNamed names n = Contains names n.dtd.now × Contains names n.doc.now
+
+-- its files are among these names
+abbrev pub HasNamedFiles : List (List ℕ) → CommandLine → Type 0
+HasNamedFiles names (Valid n) = AreNamed names n
+HasNamedFiles names (Session n) = AreNamed names n

@@ -1,0 +1,123 @@
+-- What a run of the program does.
+use Rattle.std.specs.Prelude.{◌≡◌, ℕ, List, [], codes, Option, Some, None, Result, Ok, Err}
+use Rattle.std.specs.Io.KnownBytes.{Appends, Consumes, IsAtEnd}
+use Rattle.pv_io.specs.Causes.{AppendsFront, Stays, Rose}
+use Rattle.pv_cli.specs.declared.status.Status.{Status}
+use Rattle.pv_cli.specs.declared.status.Status.TheVariants.{Done, Usage, ReadFault, WriteFault, NoMemory as OutOfMemory}
+use Rattle.pv_cli.specs.declared.response.Response.{Response}
+use Rattle.pv_cli.specs.declared.stop.Stop.{Stop}
+use Rattle.pv_cli.specs.declared.stop.Stop.TheVariants.{Refused, ShelfFault, InputFault, NoMemory}
+use Rattle.pv_cli.specs.CommandLine.{PlainCommandLine, valid, session}
+use Rattle.pv_cli.specs.Course.{Ending, responds, shelf_fault, input_fault, no_memory, Course, unread}
+use Rattle.pv_cli.specs.Opening.{Files, IsFile}
+use Rattle.pv_cli.specs.Response.{PlainResponse, with_line, plain_response}
+use Rattle.pv_cli.specs.Session.{IsSessionCourse}
+use Rattle.pv_cli.specs.Stage.{Responds}
+use Rattle.pv_cli.specs.Valid.{IsValidCourse}
+
+-- the files are those that a command line names, where the shelf tells them
+abbrev pub AreFiles : Option (List (List ℕ × List ℕ)) → Option PlainCommandLine → Files → Type 0
+AreFiles told None files = Unit {0}
+AreFiles told (Some (valid dtd root doc)) files = IsFile told dtd files.dtd × IsFile told doc files.doc
+AreFiles told (Some (session dtd root doc)) files = IsFile told dtd files.dtd × IsFile told doc files.doc
+
+-- the courses that a command line may take over its files
+abbrev pub IsDefined : Option PlainCommandLine → Files → Course → Type 0
+IsDefined None files course = Responds (λ r. r ≡ with_line Usage (codes "usage")) course
+IsDefined (Some (valid dtd root doc)) files course = IsValidCourse root files course
+IsDefined (Some (session dtd root doc)) files course = IsSessionCourse root files course
+
+-- the devices at one moment: the input, what the shelf and the input and the output tell of their bytes, and their counts of faults
+pub record Devices (S : Type 0) : Type 0 where
+  pub files : Option (List (List ℕ × List ℕ))
+  pub shelf_faults : ℕ
+  pub input : S
+  pub left : Option (List ℕ)
+  pub input_faults : ℕ
+  pub written : Option (List ℕ)
+  pub output_faults : ℕ
+
+abbrev pub devices : {S : Type 0} → Option (List (List ℕ × List ℕ)) → ℕ → S → Option (List ℕ) → ℕ → Option (List ℕ) → ℕ → Devices S
+devices files shelf_faults input left input_faults written output_faults = record {
+  files = files;
+  shelf_faults = shelf_faults;
+  input = input;
+  left = left;
+  input_faults = input_faults;
+  written = written;
+  output_faults = output_faults;
+}
+
+-- the count of a device rose where the run ended at a fault of it, and else it stayed
+abbrev pub CountsShelf : Ending → ℕ → ℕ → Type 0
+CountsShelf (responds r) before after = Stays before after
+CountsShelf shelf_fault before after = Rose before after
+CountsShelf input_fault before after = Stays before after
+CountsShelf no_memory before after = Stays before after
+
+abbrev pub CountsInput : Ending → ℕ → ℕ → Type 0
+CountsInput (responds r) before after = Stays before after
+CountsInput shelf_fault before after = Stays before after
+CountsInput input_fault before after = Rose before after
+CountsInput no_memory before after = Stays before after
+
+-- these bytes were taken from the input, or it stayed as it was
+abbrev pub Takes : {S : Type 0} → Option (List ℕ) → Devices S → Devices S → Type 0
+Takes None before after = after.input ≡ before.input
+Takes (Some bytes) before after = Consumes before.left after.left bytes
+
+-- where bytes were taken from the input, nothing is left of it
+abbrev pub ReadsAll : Option (List ℕ) → Option (List ℕ) → Type 0
+ReadsAll None left = Unit {0}
+ReadsAll (Some bytes) left = IsAtEnd left
+
+abbrev pub status_of : Ending → Status
+status_of (responds r) = r.status
+status_of shelf_fault = ReadFault
+status_of input_fault = ReadFault
+status_of no_memory = OutOfMemory
+
+abbrev pub output_of : Ending → List ℕ
+output_of (responds r) = r.output
+output_of shelf_fault = []
+output_of input_fault = []
+output_of no_memory = []
+
+-- The status of an ending, and what is written then. Where writing a response fails, a front of it is written.
+pub data Writes (ending : Ending) (old new : Option (List ℕ)) (before after : ℕ) (status : Status) : Type 0 where
+  wrote : status ≡ status_of ending → Appends old new (output_of ending) → Stays before after → Writes ending old new before after status
+  cut_off : (r : PlainResponse) → ending ≡ responds r → status ≡ WriteFault → AppendsFront old new r.output → Rose before after →
+      Writes ending old new before after status
+
+-- the devices and the status show this course
+pub record Shows {S : Type 0} (course : Course) (before after : Devices S) (status : Status) : Type 0 where
+  pub shelf : CountsShelf course.ending before.shelf_faults after.shelf_faults
+  pub input : CountsInput course.ending before.input_faults after.input_faults
+  pub taken : Takes course.taken before after
+  pub output : Writes course.ending before.written after.written before.output_faults after.output_faults status
+  pub finished : status ≡ Done → ReadsAll course.taken after.left
+
+-- What a run does: there are files, those that the shelf tells where it tells them, and a course that is defined for the command line
+-- over these files, which the devices and the status show.
+pub record Runs {S : Type 0} (line : Option PlainCommandLine) (before after : Devices S) (status : Status) : Type 0 where
+  pub files : Files
+  pub are_files : AreFiles before.files line files
+  pub course : Course
+  pub is_defined : IsDefined line files course
+  pub shows : Shows course before after status
+
+-- how a command that leaves the input alone ended
+abbrev pub ending_of : Result Response Stop → Ending
+ending_of (Ok response) = responds (plain_response response)
+ending_of (Err (Refused response)) = responds (plain_response response)
+ending_of (Err ShelfFault) = shelf_fault
+ending_of (Err InputFault) = input_fault
+ending_of (Err NoMemory) = no_memory
+
+-- what such a command does, up to the writing of its response
+pub record Finds (line : Option PlainCommandLine) (told : Option (List (List ℕ × List ℕ))) (before after : ℕ) (result : Result Response Stop) : Type 0 where
+  pub files : Files
+  pub are_files : AreFiles told line files
+  pub is_defined : IsDefined line files (unread (ending_of result))
+  pub shelf : CountsShelf (ending_of result) before after
+  pub no_input_fault : ending_of result ≡ input_fault → ⊥

@@ -1,0 +1,22 @@
+-- The statuses of the program: their numbers, and those that need a cause.
+use Rattle.std.specs.Prelude.{ℕ, Bool, true, false}
+use Rattle.pv_cli.specs.declared.status.Status.{Status}
+use Rattle.pv_cli.specs.declared.status.Status.TheVariants.{Done, Negative, Usage, ReadFault, WriteFault, NoMemory, BadDtd, BadDocument, Limit}
+
+-- the exit status of the process
+abbrev pub code_of : Status → ℕ
+code_of Done = 0
+code_of Negative = 1
+code_of Usage = 2
+code_of ReadFault = 3
+code_of WriteFault = 4
+code_of NoMemory = 5
+code_of BadDtd = 6
+code_of BadDocument = 7
+code_of Limit = 8
+
+abbrev pub is_fault : Status → Bool
+is_fault ReadFault = true
+is_fault WriteFault = true
+is_fault NoMemory = true
+is_fault _ = false

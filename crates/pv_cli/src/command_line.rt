@@ -1,0 +1,51 @@
+//! Command lines.
+
+ghost use Rattle.std.specs.Prelude.{◌≡◌, IfSome};
+ghost use Rattle.std.specs.Option.{option_map};
+ghost use Rattle.pv_io.specs.Files.{byte_lists, fetch_names};
+ghost use Rattle.pv_cli.specs.CommandLine.{command_line_of, plain_command_line, HasNamedFiles};
+
+use pv_chars::plain_name;
+
+/// A root name, and the names of a DTD and a document.
+#[derive(Clone, Copy)]
+pub struct Named<'a> {
+    pub dtd: &'a str,
+    pub root: &'a [u8],
+    pub doc: &'a str,
+}
+
+/// A well-formed command line.
+#[derive(Clone, Copy)]
+pub enum CommandLine<'a> {
+    Valid(Named<'a>),
+    Session(Named<'a>),
+}
+
+/// The command line that the words are; none where they are none.
+pub fn command_line_of(words: &[String]) -> Option<CommandLine<'_>>
+    ensures line { option_map plain_command_line result ≡ command_line_of (byte_lists words.now) }
+    ensures named { IfSome result (HasNamedFiles (fetch_names words.now)) }
+{
+    if words.len() != 4 {
+        return None;
+    }
+    let [command, dtd, root, doc] = words else {
+        unreachable!()
+    };
+    if !plain_name(root.as_bytes()) {
+        return None;
+    }
+    let named = Named {
+        dtd: dtd.as_str(),
+        root: root.as_bytes(),
+        doc: doc.as_str(),
+    };
+    if command.as_str() == "valid" {
+        return Some(CommandLine::Valid(named));
+    }
+    if command.as_str() == "session" {
+        return Some(CommandLine::Session(named));
+    }
+    None
+}

@@ -1,0 +1,71 @@
+//! What a command writes.
+
+ghost use Rattle.std.specs.Prelude.{◌≡◌, ◌++◌, IfOk, decimal, false};
+ghost use Rattle.pv_cli.specs.Paths.{path_text};
+ghost use Rattle.pv_cli.specs.Status.{is_fault};
+
+use crate::paths::{push_number, push_path};
+use crate::status::Status;
+use std::alloc::{AllocError, Global};
+
+/// What a command writes: a status, and bytes.
+#[derive(Drop)]
+pub struct Response {
+    pub status: Status,
+    pub output: Vec<u8>,
+    ghost defined: { is_fault status ≡ false },
+}
+
+impl Response {
+    ghost use Rattle.pv_cli.specs.Response.{plain_response, with_line};
+
+    // The line of this text, which is ended here.
+    fn of_text(status: Status, mut text: Vec<u8>) -> Result<Response, AllocError>
+        requires { is_fault status ≡ false }
+        ensures { IfOk result (λ r. plain_response r ≡ with_line status text.items) }
+    {
+        text.extend_from_slice(b"\n")?;
+        Ok(Response {
+            status,
+            output: text,
+        })
+    }
+
+    /// The line of this text.
+    pub fn with_line(alloc: Global, status: Status, text: &[u8]) -> Result<Response, AllocError>
+        requires { is_fault status ≡ false }
+        ensures { IfOk result (λ r. plain_response r ≡ with_line status text.now) }
+    {
+        Response::of_text(status, Vec::from_slice(alloc, text)?)
+    }
+
+    /// The line of this text and a number.
+    pub fn with_number(
+        alloc: Global,
+        status: Status,
+        text: &[u8],
+        number: u64,
+    ) -> Result<Response, AllocError>
+        requires { is_fault status ≡ false }
+        ensures { IfOk result (λ r. plain_response r ≡ with_line status (text.now ++ decimal number)) }
+    {
+        let mut line = Vec::from_slice(alloc, text)?;
+        push_number(&mut line, number)?;
+        Response::of_text(status, line)
+    }
+
+    /// The line of this text and a path.
+    pub fn with_path(
+        alloc: Global,
+        status: Status,
+        text: &[u8],
+        places: &[u32],
+    ) -> Result<Response, AllocError>
+        requires { is_fault status ≡ false }
+        ensures { IfOk result (λ r. plain_response r ≡ with_line status (text.now ++ path_text places.now)) }
+    {
+        let mut line = Vec::from_slice(alloc, text)?;
+        push_path(&mut line, places)?;
+        Response::of_text(status, line)
+    }
+}
