@@ -2,7 +2,11 @@
 use Rattle.std.proofs.Common.{◌≡◌, ℕ, ◌+◌, ◌<◌, ◌≤◌, ⊎_elim, List, ◌++◌, length, take, drop, get_or, refl, sym, ap, ◌∙◌, arith, length-append}
 use Rattle.std.proofs.lemmas.List.{take_at, drop_at, take-append-drop, drop-drop, get_or_append_left, get_or-append-add, length-take}
 use Rattle.std.proofs.lemmas.Bool.{cases_lt}
-use Rattle.memchr.specs.Find.{OccursAt, Nowhere, NoneBefore}
+use Rattle.std.proofs.Common.{add-one, suc, [], ◌∷◌}
+use Rattle.std.proofs.Math.Seq.{split_at}
+use Rattle.std.proofs.lemmas.List.{get_or_at}
+use Rattle.std.proofs.lemmas.Bool.{eq-eqb, eqb-true}
+use Rattle.memchr.specs.Find.{is_byte, Passes, OccursAt, Nowhere, NoneBefore}
 use Rattle.memchr.proofs.lemmas.MatchLemmas.{OccursAt-split}
 use Rattle.pv_chars.specs.Fronts.{Holds, EndsAt}
 
@@ -43,3 +47,22 @@ same_end delimiter bytes before after other more a b =
 -- as two cuts give it
 pub ends_cut : (delimiter bytes before found after : List ℕ) (k : ℕ) → OccursAt bytes delimiter k → NoneBefore (OccursAt bytes delimiter) 0 (length bytes + 1) k → before ≡ take k bytes → found ≡ drop k bytes → after ≡ drop (length delimiter) found → EndsAt delimiter bytes before after
 ends_cut delimiter bytes before found after k occurs none front back behind = rw (front, behind ∙ ap (drop (length delimiter)) back ∙ drop-drop (length delimiter) k bytes) (ends_where delimiter bytes k occurs none)
+
+-- ---- a delimiter of one byte
+byte_behind : (byte : ℕ) (bytes before after : List ℕ) → bytes ≡ before ++ (byte ∷ after) → Passes (is_byte byte) bytes (length before)
+byte_behind byte bytes before after whole = eq-eqb _ _ (ap (λ l. get_or l (length before) 0) whole ∙ get_or_at before byte after 0 (length before) refl)
+
+pub byte_nowhere : (byte : ℕ) (bytes : List ℕ) → Nowhere (Passes (is_byte byte) bytes) 0 (length bytes) → Holds bytes (byte ∷ []) → ⊥
+byte_nowhere byte bytes none holds = none (length holds.before) (omega arith) (omega (arith, ap length holds.whole, length-append holds.before (byte ∷ holds.after))) (byte_behind byte bytes holds.before holds.after holds.whole)
+
+pub byte_ends : (byte : ℕ) (bytes before found after : List ℕ) (k : ℕ) → Passes (is_byte byte) bytes k → NoneBefore (Passes (is_byte byte) bytes) 0 (length bytes) k → before ≡ take k bytes → found ≡ drop k bytes → after ≡ drop 1 found → EndsAt (byte ∷ []) bytes before after
+byte_ends byte bytes before found after k passes none front back behind =
+    let at : get_or bytes k 0 ≡ byte = eqb-true _ _ passes in
+    let cut : bytes ≡ take k bytes ++ (get_or bytes k 0 ∷ drop (suc k) bytes) = split_at bytes k 0 none.high in
+    let rest : after ≡ drop (suc k) bytes = behind ∙ ap (drop 1) back ∙ drop-drop 1 k bytes ∙ ap (λ n. drop n bytes) (add-one k) in
+    record {
+      whole = cut ∙ ap (λ b. take k bytes ++ (b ∷ drop (suc k) bytes)) at ∙ ap (λ l. l ++ (byte ∷ drop (suc k) bytes)) (sym front) ∙ ap (λ l. before ++ (byte ∷ l)) (sym rest);
+      first = λ other more whole.
+          let least = not_less k (length other) (λ less. none.before (length other) (omega arith) less (byte_behind byte bytes other more whole)) in
+          omega (arith, ap length front, length-take k bytes);
+    }

@@ -11,3 +11,6 @@ pub mod Delimiting
 pub mod MarkupLemmas
 pub mod SpaceLemmas
 pub mod InstructionLemmas
+pub mod QuoteLemmas
+pub mod PartLemmas
+pub mod DeclarationLemmas

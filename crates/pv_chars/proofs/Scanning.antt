@@ -7,14 +7,10 @@ use Rattle.std.specs.List.{list_all}
 use Rattle.std.specs.Option.{MatchOption, option_map}
 use Rattle.std.specs.Prelude.{nat_le}
 use Rattle.std.proofs.lemmas.Bool.{and_parts}
+pub use Rattle.pv_chars.specs.Spaces.{begins}
 use Rattle.pv_chars.specs.Spaces.{is_space, IsSpace, IsOptionalSpace}
 use Rattle.pv_chars.specs.PlainNames.{is_plain_name_start, is_plain_name_byte, is_plain_name, IsPlainName, MAX_NAME_BYTES}
 use Rattle.pv_chars.specs.Scan.{space_length, after_space, after_blank, plain_name_length, plain_name_at, short_plain_name, after_bytes}
-
--- the first byte is one of these
-abbrev pub begins : (ℕ → Bool) → List ℕ → Bool
-begins p [] = false
-begins p (b ∷ bs) = p b
 
 -- Optional space stands before the rest, and all of it.
 pub record TakesSpace (bytes rest : List ℕ) : Type 0 where

@@ -4,6 +4,7 @@ pub mod PlainNames
 pub mod Names
 pub mod Fronts
 pub mod Markup
+pub mod Declarations
 pub mod Texts
 pub mod Scan
 pub mod Utf8

@@ -2,6 +2,7 @@
 #![tactic(auto)]
 
 mod characters;
+pub mod declarations;
 pub mod delimiters;
 mod lists;
 pub mod markup;

@@ -1,0 +1,16 @@
+use Rattle.std.proofs.Common.{[], ◌∷◌}
+use Rattle.pv_chars.specs.Fronts.{Holds, EndsAt}
+use Rattle.pv_chars.proofs.Options.{match_none}
+use Rattle.pv_chars.proofs.Delimited.{byte_nowhere, byte_ends}
+use Rattle.pv_chars.proofs.delimiters.up_to_byte.Goals as goal
+
+pub returns-in_err-at : goal.returns-in_err-at
+returns-in_err-at c =
+    let bytes = c.args.bytes.now in
+    let byte = c.args.byte in
+    match_none _ (Holds bytes (byte ∷ []) → ⊥) (λ r. EndsAt (byte ∷ []) bytes r.0.now r.1.now) c.from_residual.ensures (byte_nowhere byte bytes c.in_err-at.ensures)
+
+pub returns : goal.returns
+returns c =
+    let found = c.in_ok-at.ensures in
+    byte_ends c.args.byte c.args.bytes.now c.split_at.result.0.now c.split_at.result.1.now c.split_at-2.result.1.now c.in_ok-at.at found.1 found.0 c.split_at.ensures.front c.split_at.ensures.back c.split_at-2.ensures.back
