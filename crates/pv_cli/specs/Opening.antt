@@ -4,7 +4,7 @@ use Rattle.pv_dtd.specs.Plain.{PlainDtd}
 use Rattle.pv_dtd.specs.Facts.{MAX_DTD_BYTES}
 use Rattle.pv_dtd.specs.Grammar.{IsDtdText}
 use Rattle.pv_dtd.specs.PlainForms.{plain_dtd}
-use Rattle.pv_tree.specs.Docs.{plain_doc}
+use Rattle.pv_tree.specs.PlainDocs.{plain_doc}
 use Rattle.pv_tree.specs.Plain.{PlainDoc}
 use Rattle.pv_tree.specs.declared.nodes.Mark.{Mark}
 use Rattle.pv_io.specs.Files.{file_named}

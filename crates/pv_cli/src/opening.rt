@@ -6,7 +6,7 @@ ghost use Rattle.pv_cli.specs.Response.{with_line};
 ghost use Rattle.pv_cli.specs.Stage.{StopsBy, Returns, ShelfCounts};
 ghost use Rattle.pv_cli.specs.Status.{is_fault};
 ghost use Rattle.pv_dtd.specs.PlainForms.{plain_dtd};
-ghost use Rattle.pv_tree.specs.Docs.{plain_doc};
+ghost use Rattle.pv_tree.specs.PlainDocs.{plain_doc};
 
 use crate::response::Response;
 use crate::status::Status;

@@ -9,7 +9,7 @@ ghost use Rattle.pv_cli.specs.Session.{Replies, Place, Converses};
 ghost use Rattle.pv_cli.specs.Turns.{IsTurn, IsShownAs, TakesScript, InputCounts};
 ghost use Rattle.pv_io.specs.Causes.{HasCause, AppendsFront};
 ghost use Rattle.pv_script.specs.Lines.{lines_of};
-ghost use Rattle.pv_tree.specs.Docs.{plain_doc};
+ghost use Rattle.pv_tree.specs.PlainDocs.{plain_doc};
 
 use crate::command_line::Named;
 use crate::opening::{open, refuse};

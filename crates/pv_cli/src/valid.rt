@@ -6,7 +6,7 @@ ghost use Rattle.pv_cli.specs.Program.{Finds};
 ghost use Rattle.pv_cli.specs.Stage.{TellsBy};
 ghost use Rattle.pv_cli.specs.Valid.{TellsValidity};
 ghost use Rattle.pv_dtd.specs.PlainForms.{plain_dtd};
-ghost use Rattle.pv_tree.specs.Docs.{plain_doc};
+ghost use Rattle.pv_tree.specs.PlainDocs.{plain_doc};
 
 use crate::command_line::Named;
 use crate::opening::{Opened, open};

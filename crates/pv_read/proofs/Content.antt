@@ -2,7 +2,7 @@
 use Rattle.std.proofs.Common.{◌≡◌, ◌≤◌, ◌<◌, ◌-◌, ℕ, zero, suc, true, false, List, [], ◌∷◌, ◌++◌, length, Some, None, refl, ap, rules, arith}
 use Rattle.pv_chars.specs.Texts.{units_of}
 use Rattle.pv_tree.specs.Plain.{Tree, element, text_node, tagged, short, no_trees, Forest, tree, forest_of}
-use Rattle.pv_tree.specs.Read.{plain, plain_all}
+use Rattle.pv_tree.specs.PlainForms.{plain, plain_all}
 use Rattle.pv_tree.specs.declared.nodes.Node.{Node, the_lemmas}
 use Rattle.pv_tree.specs.declared.nodes.Node.TheVariants.{Text}
 use Rattle.pv_read.specs.Errors.{Refuses}

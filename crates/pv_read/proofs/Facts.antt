@@ -5,7 +5,7 @@ use Rattle.std.proofs.lemmas.Bool.{and_parts, not-true, or_parts}
 use Rattle.pv_chars.specs.PlainNames.{IsPlainName}
 use Rattle.pv_chars.specs.Texts.{units_of, is_text_char, IsPlainText, holds_close_mark, begins_close_mark}
 use Rattle.pv_tree.specs.Plain.{short, tagged, Tree, element, text_node, cdata_node, misc_node, Forest, no_trees, tree, nodes_in, nodes_in_all, is_element}
-use Rattle.pv_tree.specs.Legal.{is_formed, are_formed, is_plain_unit, are_plain_units, is_legal, are_legal, is_open, front_units, is_markless, are_markless, starts_markless}
+use Rattle.pv_tree.specs.Legal.{is_formed, are_formed, is_plain_unit, are_plain_units, is_legal, are_legal, is_open, front_units, has_no_close_mark, have_no_close_mark, starts_no_close_mark}
 use Rattle.pv_read.specs.Grammar.{SpellsNode, SpellsContent, IsElement, IsWholeRun, begins_with_text}
 use Rattle.pv_read.proofs.TextLemmas.{text_chars, no_close_mark}
 
@@ -65,23 +65,23 @@ open_units (unit ∷ units) none =
     let P : List (List ℕ) → Type 0 = λ after. (not (begins_close_mark (unit ∷ after)) && is_open units []) ≡ true in
     subst P (sym (append-nil units)) (rw parts.0 (open_units units parts.1))
 
-text_markless : {M : Type 0} (t : Tree M) (kids : Forest M) (bytes : List ℕ) → SpellsNode t bytes → IsWholeRun t kids → IsTrue (starts_markless t kids)
-text_markless (element x attrs ending nodes mark) kids bytes spells whole_run = refl
-text_markless (text_node units) kids bytes (plain, is_units) whole_run = rw (no_front kids whole_run, is_units) (open_units (units_of bytes) (no_close_mark bytes plain))
-text_markless (cdata_node held) kids bytes spells whole_run = refl
-text_markless (misc_node held) kids bytes spells whole_run = refl
+text_starts_no_close_mark : {M : Type 0} (t : Tree M) (kids : Forest M) (bytes : List ℕ) → SpellsNode t bytes → IsWholeRun t kids → IsTrue (starts_no_close_mark t kids)
+text_starts_no_close_mark (element x attrs ending nodes mark) kids bytes spells whole_run = refl
+text_starts_no_close_mark (text_node units) kids bytes (plain, is_units) whole_run = rw (no_front kids whole_run, is_units) (open_units (units_of bytes) (no_close_mark bytes plain))
+text_starts_no_close_mark (cdata_node held) kids bytes spells whole_run = refl
+text_starts_no_close_mark (misc_node held) kids bytes spells whole_run = refl
 
 mutual
-  pub markless : {M : Type 0} (t : Tree M) (bytes : List ℕ) → SpellsNode t bytes → IsTrue (is_markless t)
-  markless (element x attrs short kids mark) bytes (name, space, none, whole) = rw none refl
-  markless (element x attrs (tagged gap) kids mark) bytes (content, name, space, white, spells, whole) = all_markless kids content spells
-  markless (text_node units) bytes spells = refl
-  markless (cdata_node held) bytes spells = refl
-  markless (misc_node held) bytes spells = refl
+  pub spelled_no_close_mark : {M : Type 0} (t : Tree M) (bytes : List ℕ) → SpellsNode t bytes → IsTrue (has_no_close_mark t)
+  spelled_no_close_mark (element x attrs short kids mark) bytes (name, space, none, whole) = rw none refl
+  spelled_no_close_mark (element x attrs (tagged gap) kids mark) bytes (content, name, space, white, spells, whole) = all_no_close_mark kids content spells
+  spelled_no_close_mark (text_node units) bytes spells = refl
+  spelled_no_close_mark (cdata_node held) bytes spells = refl
+  spelled_no_close_mark (misc_node held) bytes spells = refl
 
-  all_markless : {M : Type 0} (kids : Forest M) (bytes : List ℕ) → SpellsContent kids bytes → IsTrue (are_markless kids)
-  all_markless no_trees bytes spells = refl
-  all_markless (tree t kids) bytes (first, more, spells, whole_run, below, whole) = rw (markless t first spells, text_markless t kids first spells whole_run) (all_markless kids more below)
+  all_no_close_mark : {M : Type 0} (kids : Forest M) (bytes : List ℕ) → SpellsContent kids bytes → IsTrue (have_no_close_mark kids)
+  all_no_close_mark no_trees bytes spells = refl
+  all_no_close_mark (tree t kids) bytes (first, more, spells, whole_run, below, whole) = rw (spelled_no_close_mark t first spells, text_starts_no_close_mark t kids first spells whole_run) (all_no_close_mark kids more below)
 
 -- two nodes take at least five bytes, where no text stands in front
 abbrev slack : {M : Type 0} → Forest M → ℕ

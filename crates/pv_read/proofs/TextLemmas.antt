@@ -2,15 +2,15 @@
 use Rattle.std.proofs.Common.{◌≡◌, ◌<◌, ◌+◌, ℕ, zero, suc, Bool, true, false, not, ◌&&◌, ◌==◌, cond, List, [], ◌∷◌, ◌++◌, take, drop, Option, Some, None, length, refl, sym, add-one, arith}
 use Rattle.std.proofs.Math.Seq.{take-append_seam, drop-append_seam}
 use Rattle.std.proofs.lemmas.List.{take-append-drop}
-use Rattle.std.specs.List.{list_all}
+use Rattle.std.specs.List.{list_all, list_any}
 use Rattle.std.specs.Option.{unwrap_or}
 use Rattle.std.proofs.lemmas.Bool.Decides.{nat_tests}
 use Rattle.std.proofs.lemmas.Grind.{common_steps}
-use Rattle.std.proofs.lemmas.Bool.{and_parts, not-true}
+use Rattle.std.proofs.lemmas.Bool.{and_parts, or_parts, not-true}
 use Rattle.memchr.specs.Find.{is_byte, Passes, Nowhere, IsFirstByte}
 use Rattle.pv_chars.specs.Scan.{split}
 use Rattle.pv_chars.specs.Texts.{units_of, begins_close_mark, holds_close_mark, is_text_char, is_not_empty, is_plain_text, IsPlainText}
-use Rattle.pv_read.specs.Reading.{text_length, text_at, begins_end_tag}
+use Rattle.pv_read.specs.Reading.{is_end, text_length, text_at, begins_end_tag}
 use Rattle.pv_read.proofs.Steps.{some_pair}
 
 pub begins_close_mark-few : (bytes : List ℕ) → length bytes < 3 → begins_close_mark (units_of bytes) ≡ false
@@ -18,6 +18,18 @@ begins_close_mark-few [] few = refl
 begins_close_mark-few (a ∷ []) few = refl
 begins_close_mark-few (a ∷ b ∷ []) few = refl
 begins_close_mark-few (a ∷ b ∷ c ∷ bs) few = absurd (omega arith)
+
+no_end_no_begin : (a : ℕ) (bytes : List ℕ) → list_any is_end bytes ≡ false → begins_close_mark (units_of (a ∷ bytes)) ≡ false
+no_end_no_begin a [] none = refl
+no_end_no_begin a (b ∷ []) none = refl
+no_end_no_begin a (b ∷ c ∷ bytes) none = grind (arith, nat_tests)
+
+-- where no `>` stands, no `]]>` does
+pub no_end_no_mark : (bytes : List ℕ) → list_any is_end bytes ≡ false → holds_close_mark (units_of bytes) ≡ false
+no_end_no_mark [] none = refl
+no_end_no_mark (b ∷ bytes) none =
+    let parts = or_parts (is_end b) (list_any is_end bytes) none in
+    rw (no_end_no_begin b bytes parts.1) (no_end_no_mark bytes parts.1)
 
 text_length-nowhere : (bytes : List ℕ) → Nowhere (Passes (is_byte 60) bytes) 0 (length bytes) → text_length bytes ≡ length bytes
 text_length-nowhere [] none = refl

@@ -9,6 +9,10 @@ abbrev pub text_length : List ℕ → ℕ
 text_length [] = 0
 text_length (b ∷ bs) = if b == 60 then 0 else text_length bs + 1
 
+-- the byte `>`
+abbrev pub is_end : ℕ → Bool
+is_end b = b == 62
+
 -- the text run at the front, and what stands after it
 unfoldable pub text_at : List ℕ → Option (List ℕ × List ℕ)
 text_at bytes = let run = split (text_length bytes) bytes in if is_plain_text run.0 then Some run else None

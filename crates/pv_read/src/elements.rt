@@ -2,7 +2,7 @@
 
 ghost use Rattle.std.specs.Prelude.{◌≡◌, ◌≤◌, ◌<◌, length, List, ℕ, IfOk, IfErr};
 ghost use Rattle.pv_tree.specs.Plain.{Tree, Forest, short, tagged, element, no_trees};
-ghost use Rattle.pv_tree.specs.Read.{plain, forest};
+ghost use Rattle.pv_tree.specs.PlainForms.{plain, forest};
 ghost use Rattle.pv_tree.specs.Marks.{blank_mark};
 ghost use Rattle.pv_tree.specs.declared.nodes.Mark.{Mark};
 ghost use Rattle.pv_read.specs.Errors.{Refuses};

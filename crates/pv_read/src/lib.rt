@@ -10,3 +10,6 @@ mod texts;
 
 pub use errors::DocError;
 pub use reading::{MAX_DOC_BYTES, read_doc};
+
+#[cfg(test)]
+mod tests;

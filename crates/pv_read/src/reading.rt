@@ -2,7 +2,7 @@
 
 ghost use Rattle.std.specs.Prelude.{IfOk, IfErr};
 ghost use Rattle.pv_tree.specs.Plain.{PlainDoc};
-ghost use Rattle.pv_tree.specs.Docs.{plain_doc};
+ghost use Rattle.pv_tree.specs.PlainDocs.{plain_doc};
 ghost use Rattle.pv_tree.specs.declared.nodes.Mark.{Mark};
 ghost use Rattle.pv_read.specs.Grammar.{IsDocumentText};
 ghost use Rattle.pv_read.specs.Errors.{Refuses};
@@ -45,6 +45,3 @@ pub fn read_doc(alloc: Global, bytes: &[u8], _root: &[u8]) -> Result<Doc, DocErr
         mark: Mark::BLANK,
     })
 }
-
-#[cfg(test)]
-mod tests;

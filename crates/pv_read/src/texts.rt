@@ -2,8 +2,9 @@
 
 ghost use Rattle.std.specs.Prelude.{◌≡◌, ◌≤◌, ◌<◌, length, IfSome, Option};
 ghost use Rattle.std.specs.Option.{option_map};
-ghost use Rattle.pv_chars.specs.Texts.{units_of, is_text_char, begins_close_mark, is_plain_text, IsPlainText};
-ghost use Rattle.pv_read.specs.Reading.{text_length, text_at};
+ghost use Rattle.std.specs.List.{list_all, list_any};
+ghost use Rattle.pv_chars.specs.Texts.{units_of, is_text_char, begins_close_mark, holds_close_mark, is_plain_text, IsPlainText};
+ghost use Rattle.pv_read.specs.Reading.{is_end, text_length, text_at};
 
 use memchr::memchr;
 
@@ -19,18 +20,41 @@ fn begins_close_mark(bytes: &[u8]) -> bool
     matches!(bytes, [b']', b']', b'>', ..])
 }
 
-/// Whether the bytes are one run of plain character data.
-fn is_plain_text(bytes: &[u8]) -> bool
-    ensures { result ≡ is_plain_text bytes.now }
+// Whether `]]>` stands in the bytes.
+fn holds_close_mark(bytes: &[u8]) -> bool
+    ensures { result ≡ holds_close_mark (units_of bytes.now) }
 {
     let mut rest = bytes;
-    while let [b, after @ ..] = rest {
-        if !is_text_char(*b) || begins_close_mark(rest) {
-            return false;
+    while let [_, after @ ..] = rest {
+        if begins_close_mark(rest) {
+            return true;
         }
         rest = after;
     }
-    !bytes.is_empty()
+    false
+}
+
+// Whether each byte may stand in a text, and whether one is `>`. All are looked at, so that many can be at a time.
+fn all_and_any(bytes: &[u8]) -> (bool, bool)
+    ensures all { result.0 ≡ list_all is_text_char bytes.now }
+    ensures any { result.1 ≡ list_any is_end bytes.now }
+{
+    let mut all = true;
+    let mut any = false;
+    for b in bytes {
+        all &= is_text_char(*b);
+        any |= *b == b'>';
+    }
+    (all, any)
+}
+
+// Whether the bytes are one run of plain character data. Only where a `>` stands may there be `]]>`.
+#[tactic(auto, using(crate::proofs::TextLemmas::no_end_no_mark))]
+fn is_plain_text(bytes: &[u8]) -> bool
+    ensures { result ≡ is_plain_text bytes.now }
+{
+    let (all, any) = all_and_any(bytes);
+    !bytes.is_empty() && all && !(any && holds_close_mark(bytes))
 }
 
 // How many bytes stand before the first `<`.

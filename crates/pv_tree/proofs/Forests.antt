@@ -2,7 +2,7 @@
 use Rattle.std.proofs.Common.{◌≡◌, ℕ, ◌+◌, ◌<◌, ◌≤◌, List, [], ◌∷◌, length, drop, get_or, refl, ap, ◌∙◌, sym, arith}
 use Rattle.std.proofs.lemmas.List.{drop_all, drop_more}
 use Rattle.pv_tree.specs.Plain.{Tree, element, text_node, cdata_node, misc_node, no_trees, tree, nodes_in, nodes_in_all}
-use Rattle.pv_tree.specs.Read.{plain, forest}
+use Rattle.pv_tree.specs.PlainForms.{plain, forest}
 use Rattle.pv_tree.specs.declared.nodes.Node.{Node}
 
 pub forest-drop : (nodes : List Node) (i : ℕ) (kid : Node) → i < length nodes → kid ≡ get_or nodes i kid → forest (drop i nodes) ≡ tree (plain kid) (forest (drop (i + 1) nodes))

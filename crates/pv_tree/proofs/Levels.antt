@@ -4,7 +4,7 @@ use Rattle.std.proofs.lemmas.Option.{slice_get-map}
 use Rattle.std.specs.Option.{option_map, option_and_then}
 use Rattle.pv_tree.specs.Plain.{Tree, element, trees_of, forest_of}
 use Rattle.pv_tree.specs.Places.{kids_of, list_of, node_below}
-use Rattle.pv_tree.specs.Read.{plain, plain_all, plain_end, forest}
+use Rattle.pv_tree.specs.PlainForms.{plain, plain_all, plain_end, forest}
 use Rattle.pv_tree.specs.declared.nodes.End.{End}
 use Rattle.pv_tree.specs.declared.nodes.Mark.{Mark}
 use Rattle.pv_tree.specs.declared.nodes.Node.{Node, Elem, the_lemmas}

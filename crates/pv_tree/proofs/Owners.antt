@@ -9,7 +9,7 @@ use Rattle.pv_dtd.specs.Plain.{PlainDtd, place_of, model_of, declared}
 use Rattle.pv_tree.specs.Plain.{Forest, no_trees}
 use Rattle.pv_tree.specs.Words.{word_of}
 use Rattle.pv_tree.specs.Lists.{IsOwnValid}
-use Rattle.pv_tree.specs.Read.{forest}
+use Rattle.pv_tree.specs.PlainForms.{forest}
 use Rattle.pv_tree.specs.declared.nodes.Node.{Node}
 
 below_rest : (n : ℕ) (o : Option ℕ) (y : ℕ) → ((z : ℕ) → o ≡ Some z → z < n) → option_map suc o ≡ Some y → y < suc n

@@ -65,21 +65,21 @@ is_open (unit ∷ units) after = not (begins_close_mark (unit ∷ units ++ after
 
 -- no run of texts side by side spells `]]>`, at any depth
 abbrev mutual
-  pub is_markless : {M : Type 0} → Tree M → Bool
-  is_markless (element x attrs ending kids mark) = are_markless kids
-  is_markless (text_node units) = true
-  is_markless (cdata_node bytes) = true
-  is_markless (misc_node bytes) = true
+  pub has_no_close_mark : {M : Type 0} → Tree M → Bool
+  has_no_close_mark (element x attrs ending kids mark) = have_no_close_mark kids
+  has_no_close_mark (text_node units) = true
+  has_no_close_mark (cdata_node bytes) = true
+  has_no_close_mark (misc_node bytes) = true
 
-  pub are_markless : {M : Type 0} → Forest M → Bool
-  are_markless no_trees = true
-  are_markless (tree t rest) = is_markless t && starts_markless t rest && are_markless rest
+  pub have_no_close_mark : {M : Type 0} → Forest M → Bool
+  have_no_close_mark no_trees = true
+  have_no_close_mark (tree t rest) = has_no_close_mark t && starts_no_close_mark t rest && have_no_close_mark rest
 
-  pub starts_markless : {M : Type 0} → Tree M → Forest M → Bool
-  starts_markless (element x attrs ending kids mark) rest = true
-  starts_markless (text_node units) rest = is_open units (front_units rest)
-  starts_markless (cdata_node bytes) rest = true
-  starts_markless (misc_node bytes) rest = true
+  pub starts_no_close_mark : {M : Type 0} → Tree M → Forest M → Bool
+  starts_no_close_mark (element x attrs ending kids mark) rest = true
+  starts_no_close_mark (text_node units) rest = is_open units (front_units rest)
+  starts_no_close_mark (cdata_node bytes) rest = true
+  starts_no_close_mark (misc_node bytes) rest = true
 
 -- the bytes before and after the root are white space
 abbrev pub has_plain_margins : {M : Type 0} → PlainDoc M → Bool

@@ -9,5 +9,5 @@ pub mod Legal
 pub mod Units
 pub mod Marks
 pub mod Laws
-pub mod Read
-pub mod Docs
+pub mod PlainForms
+pub mod PlainDocs

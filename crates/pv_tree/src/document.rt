@@ -1,13 +1,15 @@
 //! A document.
 
-ghost use Rattle.std.specs.Prelude.{◌≤◌, IsTrue};
+ghost use Rattle.std.specs.Prelude.{◌≡◌, ◌≤◌, IsTrue};
 ghost use Rattle.std.specs.List.{list_all};
 ghost use Rattle.pv_chars.specs.Spaces.{is_space};
 ghost use Rattle.pv_tree.specs.Plain.{depth_of, nodes_in, is_element};
-ghost use Rattle.pv_tree.specs.Legal.{is_formed, is_legal, is_markless, MAX_DEPTH, MAX_NODES};
-ghost use Rattle.pv_tree.specs.Read.{plain};
+ghost use Rattle.pv_tree.specs.Legal.{is_formed, is_legal, has_no_close_mark, MAX_DEPTH, MAX_NODES};
+ghost use Rattle.pv_tree.specs.PlainForms.{plain, plain_all};
 
 use crate::nodes::{Mark, Node};
+use crate::paths::Path;
+use crate::places::Found;
 use pv_chars::Bytes;
 
 /// A document: the bytes before the root's tag, the root element, and the bytes after its end.
@@ -23,7 +25,49 @@ pub struct Doc {
     pub ghost shallow: { depth_of (plain root) ≤ MAX_DEPTH },
     pub ghost small: { nodes_in (plain root) ≤ MAX_NODES },
     pub ghost legal: { IsTrue (is_legal (plain root)) },
-    pub ghost markless: { IsTrue (is_markless (plain root)) },
+    pub ghost no_close_mark: { IsTrue (has_no_close_mark (plain root)) },
     pub ghost white_before: { IsTrue (list_all is_space before) },
     pub ghost white_after: { IsTrue (list_all is_space after) },
+}
+
+impl Doc {
+    ghost use Rattle.std.specs.Option.{option_map};
+    ghost use Rattle.pv_tree.specs.Places.{list_at, spot_at};
+    ghost use Rattle.pv_tree.specs.PlainDocs.{plain_doc, plain_found};
+
+    /// What stands at a path.
+    pub fn node_at(&self, path: &Path) -> Option<Found<'_>>
+        ensures { option_map plain_found result ≡ spot_at path.now (plain_doc self.now).root }
+    {
+        match path.places() {
+            [] => Some(Found::Document),
+            [0, below @ ..] => Some(Found::Inner(self.root.find(below)?)),
+            [_, ..] => None,
+        }
+    }
+
+    /// The list at a path: that of the document node, or of an element.
+    pub fn kids_at(&self, path: &Path) -> Option<&[Node]>
+        ensures { option_map (λ kids. plain_all kids.now) result ≡ list_at path.now (plain_doc self.now).root }
+    {
+        match path.places() {
+            [] => Some(std::slice::from_ref(&self.root)),
+            [0, below @ ..] => self.root.find(below)?.list(),
+            [_, ..] => None,
+        }
+    }
+
+    /// How many elements stand one inside another, the root included.
+    pub fn depth(&self) -> u32
+        ensures { result ≡ depth_of (plain_doc self.now).root }
+    {
+        self.root.depth()
+    }
+
+    /// The number of nodes below the document node, the root included.
+    pub fn nodes(&self) -> u64
+        ensures { result ≡ nodes_in (plain_doc self.now).root }
+    {
+        self.root.nodes()
+    }
 }

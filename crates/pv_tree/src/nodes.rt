@@ -1,5 +1,12 @@
 //! Nodes, and the marks that elements carry.
 
+ghost use Rattle.std.specs.Prelude.{◌≡◌, ◌≤◌};
+ghost use Rattle.std.specs.Option.{option_copied, option_map};
+ghost use Rattle.pv_tree.specs.Plain.{depth_of, nodes_in};
+ghost use Rattle.pv_tree.specs.Legal.{MAX_DEPTH, MAX_NODES};
+ghost use Rattle.pv_tree.specs.Places.{kids_of, list_of, node_below};
+ghost use Rattle.pv_tree.specs.PlainForms.{plain, plain_all};
+
 use pv_chars::{Bytes, Units};
 
 /// What is known of a child list. `Impossible` is asked first: a list may be valid by itself and be no part of any valid document,
@@ -61,8 +68,75 @@ pub enum Node {
     },
     /// A run of character data and references.
     Text(Units),
-    /// A CDATA section, with its marks.
+    /// A CDATA section, with its delimiters.
     Cdata(Bytes),
-    /// A comment or a processing instruction, with its marks.
+    /// A comment or a processing instruction, with its delimiters.
     Misc(Bytes),
+}
+
+impl Node {
+    // The node at a path below this one.
+    pub(crate) fn find(&self, path: &[u32]) -> Option<&Node>
+        ensures { option_map plain (option_copied result) ≡ node_below path.now (plain self.now) }
+    {
+        let mut at = self;
+        for place in path {
+            at = at.kids().get(*place as usize)?;
+        }
+        Some(at)
+    }
+
+    // The kids of an element, and none of any other node.
+    fn kids(&self) -> &[Node]
+        ensures { plain_all result.now ≡ kids_of (plain self.now) }
+    {
+        match self {
+            Node::Elem { kids, .. } => kids.as_slice(),
+            Node::Text(_) | Node::Cdata(_) | Node::Misc(_) => &[],
+        }
+    }
+
+    // The list of an element.
+    pub(crate) fn list(&self) -> Option<&[Node]>
+        ensures { option_map (λ kids. plain_all kids.now) result ≡ list_of (plain self.now) }
+    {
+        match self {
+            Node::Elem { kids, .. } => Some(kids.as_slice()),
+            Node::Text(_) | Node::Cdata(_) | Node::Misc(_) => None,
+        }
+    }
+
+    // How many elements stand one inside another.
+    pub(crate) fn depth(&self) -> u32
+        requires { depth_of (plain self.now) ≤ MAX_DEPTH }
+        ensures { result ≡ depth_of (plain self.now) }
+    {
+        match self {
+            Node::Elem { kids, .. } => {
+                let mut deepest = 0;
+                for kid in kids {
+                    deepest = deepest.max(kid.depth());
+                }
+                deepest + 1
+            }
+            Node::Text(_) | Node::Cdata(_) | Node::Misc(_) => 0,
+        }
+    }
+
+    // The number of nodes, this one included.
+    pub(crate) fn nodes(&self) -> u64
+        requires { nodes_in (plain self.now) ≤ MAX_NODES }
+        ensures { result ≡ nodes_in (plain self.now) }
+    {
+        match self {
+            Node::Elem { kids, .. } => {
+                let mut sum = 1;
+                for kid in kids {
+                    sum += kid.nodes();
+                }
+                sum
+            }
+            Node::Text(_) | Node::Cdata(_) | Node::Misc(_) => 1,
+        }
+    }
 }

@@ -39,16 +39,3 @@ impl Path {
         self.places.as_slice()
     }
 }
-
-#[cfg(test)]
-mod tests {
-    use super::Path;
-    use std::test::Fail;
-
-    #[test]
-    fn keeps_places(rt: HostRuntime) -> Result<(), Fail> {
-        let path = Path::new(rt.alloc(), &[0, 2])?;
-        assert_eq!(rt; path.places(), [0, 2].as_slice());
-        Ok(())
-    }
-}

@@ -11,8 +11,8 @@ ghost use Rattle.pv_tree.specs.Legal.{MAX_NODES};
 ghost use Rattle.pv_tree.specs.View.{view};
 ghost use Rattle.pv_tree.specs.Lists.{IsFirstNot, IsOwnValid, IsRootElement, IsValidList, lists_at, lists_from, lists_of};
 ghost use Rattle.pv_tree.specs.Search.{Finds};
-ghost use Rattle.pv_tree.specs.Read.{plain, forest};
-ghost use Rattle.pv_tree.specs.Docs.{plain_doc};
+ghost use Rattle.pv_tree.specs.PlainForms.{plain, forest};
+ghost use Rattle.pv_tree.specs.PlainDocs.{plain_doc};
 
 use crate::document::Doc;
 use crate::nodes::Node;
@@ -52,9 +52,7 @@ fn is_root(root: &[u8], node: &Node) -> bool
 {
     match node {
         Node::Elem { name, .. } => name.as_slice() == root,
-        Node::Text(_) => false,
-        Node::Cdata(_) => false,
-        Node::Misc(_) => false,
+        Node::Text(_) | Node::Cdata(_) | Node::Misc(_) => false,
     }
 }
 

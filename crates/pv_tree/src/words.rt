@@ -8,7 +8,7 @@ ghost use Rattle.pv_dtd.specs.PlainForms.{plain_dtd};
 ghost use Rattle.pv_dtd.specs.Hedge.{token};
 ghost use Rattle.pv_tree.specs.Words.{node_before, word_of};
 ghost use Rattle.pv_tree.specs.Tokens.{token_before};
-ghost use Rattle.pv_tree.specs.Read.{plain, forest};
+ghost use Rattle.pv_tree.specs.PlainForms.{plain, forest};
 
 use crate::nodes::Node;
 use pv_chars::NoMemory;

@@ -6,7 +6,7 @@ use Rattle.pv_chars.specs.Spaces.{is_space, IsOptionalSpace}
 use Rattle.pv_chars.specs.PlainNames.{is_plain_name}
 use Rattle.pv_chars.specs.Texts.{joined}
 use Rattle.pv_tree.specs.Plain.{short, tagged, Tree, element, text_node, cdata_node, misc_node, Forest, no_trees, tree, is_element, PlainDoc}
-use Rattle.pv_tree.specs.Legal.{fits_kids, is_formed, are_formed, are_plain_units, is_legal, are_legal, front_units, is_open, is_markless, are_markless, starts_markless}
+use Rattle.pv_tree.specs.Legal.{fits_kids, is_formed, are_formed, are_plain_units, is_legal, are_legal, front_units, is_open, has_no_close_mark, have_no_close_mark, starts_no_close_mark}
 use Rattle.pv_dtd.specs.Hedge.{done}
 use Rattle.pv_read.specs.Grammar.{SpellsNode, SpellsContent, IsElement}
 use Rattle.pv_read.proofs.TextLemmas.{text_chars, no_close_mark}
@@ -32,7 +32,7 @@ text_put units (tree (cdata_node held) kids) bytes (first, others, spells, whole
 text_put units (tree (misc_node held) kids) bytes (first, others, spells, whole_run, below, whole) plain opens = absurd spells
 
 -- a node before content that is spelled
-node_put : {M : Type 0} (t : Tree M) (kids merged_kids : Forest M) (bytes : List ℕ) → front_units merged_kids ≡ front_units kids → IsTrue (is_legal t) → IsTrue (starts_markless t kids)
+node_put : {M : Type 0} (t : Tree M) (kids merged_kids : Forest M) (bytes : List ℕ) → front_units merged_kids ≡ front_units kids → IsTrue (is_legal t) → IsTrue (starts_no_close_mark t kids)
     → (IsElement t → SpellsNode (merged t) (tree_text t)) → SpellsContent merged_kids bytes → SpellsContent (put (merged t) merged_kids) (tree_text t ++ bytes)
 node_put (element x attrs ending nodes mark) kids merged_kids bytes same legal starts spells below = (_, bytes, spells tt, tt, below, refl)
 node_put (text_node units) kids merged_kids bytes same legal starts spells below = text_put units merged_kids bytes below legal (rw same starts)
@@ -58,27 +58,27 @@ legal_parts x attrs gap_legal kids legal =
     record { name = names.0; space = names.1; ending = ends.1; inside = outer.1 }
 
 mutual
-  pub element_spelled : {M : Type 0} (t : Tree M) → IsTrue (is_formed t) → IsTrue (is_legal t) → IsTrue (is_markless t) → IsElement t → SpellsNode (merged t) (tree_text t)
-  element_spelled (element x attrs short kids mark) formed legal markless is =
+  pub element_spelled : {M : Type 0} (t : Tree M) → IsTrue (is_formed t) → IsTrue (is_legal t) → IsTrue (has_no_close_mark t) → IsElement t → SpellsNode (merged t) (tree_text t)
+  element_spelled (element x attrs short kids mark) formed legal closed is =
       let fits = and_parts (fits_kids short kids) (are_formed kids) formed in
       let parts = legal_parts x attrs true kids legal in
       (parts.name, parts.space, rw (no_kids kids fits.0) refl, refl)
-  element_spelled (element x attrs (tagged gap) kids mark) formed legal markless is =
+  element_spelled (element x attrs (tagged gap) kids mark) formed legal closed is =
       let parts = legal_parts x attrs (list_all is_space gap) kids legal in
-      (forest_text kids, parts.name, parts.space, parts.ending, content_spelled kids formed parts.inside markless, refl)
-  element_spelled (text_node units) formed legal markless is = absurd is
-  element_spelled (cdata_node held) formed legal markless is = absurd is
-  element_spelled (misc_node held) formed legal markless is = absurd is
+      (forest_text kids, parts.name, parts.space, parts.ending, content_spelled kids formed parts.inside closed, refl)
+  element_spelled (text_node units) formed legal closed is = absurd is
+  element_spelled (cdata_node held) formed legal closed is = absurd is
+  element_spelled (misc_node held) formed legal closed is = absurd is
 
-  content_spelled : {M : Type 0} (kids : Forest M) → IsTrue (are_formed kids) → IsTrue (are_legal kids) → IsTrue (are_markless kids) → SpellsContent (merged_all kids) (forest_text kids)
-  content_spelled no_trees formed legal markless = refl
-  content_spelled (tree t kids) formed legal markless =
+  content_spelled : {M : Type 0} (kids : Forest M) → IsTrue (are_formed kids) → IsTrue (are_legal kids) → IsTrue (have_no_close_mark kids) → SpellsContent (merged_all kids) (forest_text kids)
+  content_spelled no_trees formed legal closed = refl
+  content_spelled (tree t kids) formed legal closed =
       let is_formed_all = and_parts (is_formed t) (are_formed kids) formed in
       let is_legal_all = and_parts (is_legal t) (are_legal kids) legal in
-      let markless_all = and_parts (is_markless t && starts_markless t kids) (are_markless kids) markless in
-      let markless_first = and_parts (is_markless t) (starts_markless t kids) markless_all.0 in
-      node_put t kids (merged_all kids) (forest_text kids) (front_units-merged kids) is_legal_all.0 markless_first.1 (λ is. element_spelled t is_formed_all.0 is_legal_all.0 markless_first.0 is)
-      (content_spelled kids is_formed_all.1 is_legal_all.1 markless_all.1)
+      let closed_all = and_parts (has_no_close_mark t && starts_no_close_mark t kids) (have_no_close_mark kids) closed in
+      let closed_first = and_parts (has_no_close_mark t) (starts_no_close_mark t kids) closed_all.0 in
+      node_put t kids (merged_all kids) (forest_text kids) (front_units-merged kids) is_legal_all.0 closed_first.1 (λ is. element_spelled t is_formed_all.0 is_legal_all.0 closed_first.0 is)
+      (content_spelled kids is_formed_all.1 is_legal_all.1 closed_all.1)
 
 is_element_is : {M : Type 0} (t : Tree M) → IsTrue (is_element t) → IsElement t
 is_element_is (element x attrs ending kids mark) is = tt
@@ -92,9 +92,9 @@ merged_is_element (text_node units) is = is
 merged_is_element (cdata_node held) is = is
 merged_is_element (misc_node held) is = is
 
-pub view_written : {M : Type 0} (doc : PlainDoc M) → IsTrue (is_element doc.root) → IsTrue (is_formed doc.root) → IsTrue (is_legal doc.root) → IsTrue (is_markless doc.root)
+pub view_written : {M : Type 0} (doc : PlainDoc M) → IsTrue (is_element doc.root) → IsTrue (is_formed doc.root) → IsTrue (is_legal doc.root) → IsTrue (has_no_close_mark doc.root)
     → IsOptionalSpace doc.before → IsOptionalSpace doc.after → SpellsView (doc_text doc) doc
-view_written doc rooted formed legal markless white_before white_after =
+view_written doc rooted formed legal closed white_before white_after =
     let is = is_element_is doc.root rooted in
     record {
       root = merged doc.root;
@@ -102,7 +102,7 @@ view_written doc rooted formed legal markless white_before white_after =
         root = tree_text doc.root;
         space_before = white_before;
         is_element = merged_is_element doc.root is;
-        is_root = element_spelled doc.root formed legal markless is;
+        is_root = element_spelled doc.root formed legal closed is;
         space_after = white_after;
         whole = refl;
       };

@@ -5,3 +5,6 @@ pub mod laws;
 mod writing;
 
 pub use writing::doc_bytes;
+
+#[cfg(test)]
+mod tests;

@@ -1,8 +1,8 @@
 //! Writes a document.
 
 ghost use Rattle.std.specs.Prelude.{◌≡◌, ◌++◌, codes, List, ℕ, IfOk, OnOk};
-ghost use Rattle.pv_tree.specs.Docs.{plain_doc};
-ghost use Rattle.pv_tree.specs.Read.{plain, forest};
+ghost use Rattle.pv_tree.specs.PlainDocs.{plain_doc};
+ghost use Rattle.pv_tree.specs.PlainForms.{plain, forest};
 ghost use Rattle.pv_read.specs.Grammar.{IsDocumentText};
 ghost use Rattle.pv_write.specs.Text.{tree_text, forest_text, doc_text};
 ghost use Rattle.pv_write.specs.Writes.{SpellsView};
@@ -88,6 +88,3 @@ fn write_end(name: &Bytes, gap: &Bytes, out: &mut Vec<u8>) -> Result<(), NoMemor
     out.push(b'>')?;
     Ok(())
 }
-
-#[cfg(test)]
-mod tests;

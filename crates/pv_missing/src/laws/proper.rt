@@ -1,7 +1,7 @@
 //! What every DTD and every document of the program has.
 
 ghost use Rattle.pv_dtd.specs.PlainForms.{plain_dtd};
-ghost use Rattle.pv_tree.specs.Docs.{plain_doc};
+ghost use Rattle.pv_tree.specs.PlainDocs.{plain_doc};
 ghost use Rattle.pv_missing.specs.Proper.{IsProperDoc, IsProperDtd};
 
 use pv_dtd::Dtd;

@@ -1,6 +1,6 @@
 use Rattle.std.proofs.Common.{length}
 use Rattle.pv_io.specs.Causes.{Stays}
-use Rattle.pv_tree.specs.Docs.{plain_doc}
+use Rattle.pv_tree.specs.PlainDocs.{plain_doc}
 use Rattle.pv_script.specs.Lines.{lines_of}
 use Rattle.pv_cli.proofs.Replies.{Told}
 use Rattle.pv_cli.proofs.session.answer_lines.Given as goal

@@ -1,5 +1,5 @@
 use Rattle.std.proofs.Common.{Some, [], Err, refl}
-use Rattle.pv_tree.specs.Docs.{plain_doc}
+use Rattle.pv_tree.specs.PlainDocs.{plain_doc}
 use Rattle.pv_cli.specs.Course.{responds}
 use Rattle.pv_cli.specs.Program.{wrote, cut_off, ending_of}
 use Rattle.pv_cli.specs.Response.{PlainResponse}

@@ -1,5 +1,5 @@
 use Rattle.std.proofs.Common.{refl}
-use Rattle.pv_tree.specs.Docs.{plain_doc}
+use Rattle.pv_tree.specs.PlainDocs.{plain_doc}
 use Rattle.pv_write.specs.Text.{doc_text}
 use Rattle.pv_script.specs.Replies.{document}
 use Rattle.pv_cli.specs.Session.{shown}

@@ -1,5 +1,5 @@
 use Rattle.std.proofs.Common.{length, ◌+◌, ◌*◌}
-use Rattle.pv_tree.specs.Read.{plain_all}
+use Rattle.pv_tree.specs.PlainForms.{plain_all}
 use Rattle.pv_tree.specs.Marks.{blank_mark}
 use Rattle.pv_read.proofs.Content.{Siblings}
 use Rattle.pv_read.proofs.elements.+elements.Given as goal

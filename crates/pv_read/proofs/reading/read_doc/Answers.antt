@@ -1,12 +1,12 @@
 use Rattle.std.proofs.Common.{◌≡◌, refl, [], arith}
 use Rattle.std.proofs.lemmas.Grind.{common_steps}
 use Rattle.std.proofs.lemmas.Result.{err_from_is_err_and}
-use Rattle.pv_tree.specs.Read.{plain}
+use Rattle.pv_tree.specs.PlainForms.{plain}
 use Rattle.pv_tree.specs.declared.nodes.TheConstants as constants
 use Rattle.pv_read.specs.Grammar.{IsDocumentText}
 use Rattle.pv_read.proofs.Content.{Refuses-weaker}
 use Rattle.pv_read.proofs.Documents.{text_of, marks_of, no_element, more_behind, few_nodes}
-use Rattle.pv_read.proofs.Facts.{element_is, formed, legal, markless}
+use Rattle.pv_read.proofs.Facts.{element_is, formed, legal, spelled_no_close_mark}
 use Rattle.pv_read.proofs.reading.read_doc.Goals as goal
 
 pub returns-in_err-root-clause-refused : goal.returns-in_err-root-clause-refused
@@ -31,7 +31,7 @@ invariant_of-result c =
       shallow = text.shallow;
       small = few_nodes _ _ text;
       legal = legal root text.spelled.root text.spelled.is_root;
-      markless = markless root text.spelled.root text.spelled.is_root;
+      no_close_mark = spelled_no_close_mark root text.spelled.root text.spelled.is_root;
       white_before = text.spelled.space_before;
       white_after = text.spelled.space_after;
     }

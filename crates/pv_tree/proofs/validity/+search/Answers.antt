@@ -6,7 +6,7 @@ use Rattle.pv_dtd.specs.PlainForms.{plain_dtd}
 use Rattle.pv_tree.specs.Plain.{no_trees, nodes_in_all}
 use Rattle.pv_tree.specs.Lists.{IsFirstNot, IsValidList, IsOwnValid, lists_at, lists_from}
 use Rattle.pv_tree.specs.Search.{Finds}
-use Rattle.pv_tree.specs.Read.{plain, plain_end, forest}
+use Rattle.pv_tree.specs.PlainForms.{plain, plain_end, forest}
 use Rattle.pv_tree.proofs.Levels.{plain-Elem}
 use Rattle.pv_tree.proofs.Forests.{forest-drop, forest-end, length-nodes}
 use Rattle.pv_tree.proofs.Finding.{finds_own, finds_kids, first_in_kid, finds_behind_kid, places_back}

@@ -3,7 +3,7 @@ use Rattle.pv_dtd.specs.PlainForms.{plain_dtd}
 use Rattle.pv_tree.specs.Plain.{nodes_in_all}
 use Rattle.pv_tree.specs.Legal.{MAX_NODES}
 use Rattle.pv_tree.specs.Lists.{lists_from}
-use Rattle.pv_tree.specs.Read.{forest}
+use Rattle.pv_tree.specs.PlainForms.{forest}
 use Rattle.pv_tree.specs.Search.{Finds}
 use Rattle.pv_tree.proofs.validity.+search.Given as goal
 

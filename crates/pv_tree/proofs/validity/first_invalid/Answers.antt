@@ -2,8 +2,8 @@ use Rattle.std.proofs.Common.{◌≡◌, ℕ, List, [], ◌∷◌, ◌++◌, tru
 use Rattle.std.specs.List.{AllByRecursion}
 use Rattle.pv_dtd.specs.PlainForms.{plain_dtd}
 use Rattle.pv_tree.specs.Lists.{IsFirstNot, IsValidList, IsRootElement, lists_at, lists_of}
-use Rattle.pv_tree.specs.Read.{plain}
-use Rattle.pv_tree.specs.Docs.{plain_doc}
+use Rattle.pv_tree.specs.PlainForms.{plain}
+use Rattle.pv_tree.specs.PlainDocs.{plain_doc}
 use Rattle.pv_tree.proofs.FirstInvalid.{not_valid, root_invalid, below_invalid, all_valid}
 use Rattle.pv_tree.proofs.validity.first_invalid.Goals as goal
 use Rattle.pv_tree.proofs.validity.first_invalid.Goals.{After-drop-places-then-branch}

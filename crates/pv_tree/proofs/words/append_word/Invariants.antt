@@ -2,7 +2,7 @@ use Rattle.std.proofs.Common.{◌≡◌, ◌++◌, drop, map}
 use Rattle.pv_model.specs.PlainForms.{plain_token}
 use Rattle.pv_dtd.specs.PlainForms.{plain_dtd}
 use Rattle.pv_tree.specs.Words.{word_of}
-use Rattle.pv_tree.specs.Read.{forest}
+use Rattle.pv_tree.specs.PlainForms.{forest}
 use Rattle.pv_tree.proofs.words.append_word.Given as goal
 
 abbrev pub invariant-loop-kid : goal.invariant-loop-kid

@@ -1,5 +1,5 @@
 use Rattle.std.proofs.Common.{◌≡◌, ◌++◌, drop}
-use Rattle.pv_tree.specs.Read.{forest}
+use Rattle.pv_tree.specs.PlainForms.{forest}
 use Rattle.pv_write.specs.Text.{forest_text}
 use Rattle.pv_write.proofs.writing.+writing.Given as goal
 

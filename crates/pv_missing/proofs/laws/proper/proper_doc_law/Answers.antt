@@ -1,4 +1,4 @@
-use Rattle.pv_tree.specs.Docs.{plain_doc}
+use Rattle.pv_tree.specs.PlainDocs.{plain_doc}
 use Rattle.pv_tree.proofs.ValidLists.{legal_texts}
 use Rattle.pv_missing.proofs.laws.proper.proper_doc_law.Goals as goal
 

@@ -1,6 +1,6 @@
 use Rattle.std.proofs.Common.{◌≡◌, ◌+◌, drop, max}
 use Rattle.pv_tree.specs.Plain.{depth_of, depth_of_all}
-use Rattle.pv_tree.specs.Read.{plain, forest}
+use Rattle.pv_tree.specs.PlainForms.{plain, forest}
 use Rattle.pv_tree.proofs.nodes.Node.+depth.Given as goal
 
 abbrev pub invariant-loop-kid : goal.invariant-loop-kid

@@ -1,6 +1,6 @@
 use Rattle.std.proofs.Common.{◌≡◌, ◌+◌, drop}
 use Rattle.pv_tree.specs.Plain.{nodes_in, nodes_in_all}
-use Rattle.pv_tree.specs.Read.{plain, forest}
+use Rattle.pv_tree.specs.PlainForms.{plain, forest}
 use Rattle.pv_tree.proofs.nodes.Node.+nodes.Given as goal
 
 abbrev pub invariant-loop-kid : goal.invariant-loop-kid

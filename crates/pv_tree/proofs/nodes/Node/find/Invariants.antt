@@ -1,6 +1,6 @@
 use Rattle.std.proofs.Common.{◌≡◌, drop}
 use Rattle.pv_tree.specs.Places.{node_below}
-use Rattle.pv_tree.specs.Read.{plain}
+use Rattle.pv_tree.specs.PlainForms.{plain}
 use Rattle.pv_tree.proofs.nodes.Node.find.Given as goal
 
 abbrev pub invariant-loop-place : goal.invariant-loop-place

@@ -1,7 +1,7 @@
 -- The plain document that a document of the program is, and what stands at a path of it.
 use Rattle.pv_tree.specs.Plain.{PlainDoc}
 use Rattle.pv_tree.specs.Places.{Spot, at_document, at_node}
-use Rattle.pv_tree.specs.Read.{plain}
+use Rattle.pv_tree.specs.PlainForms.{plain}
 use Rattle.pv_tree.specs.declared.nodes.Mark.{Mark}
 use Rattle.pv_tree.specs.declared.document.Doc.{Doc}
 use Rattle.pv_tree.specs.declared.places.Found.{Found}

@@ -1,5 +1,6 @@
-use super::*;
-use pv_tree::{End, Node};
+use crate::{DocError, read_doc};
+use pv_tree::{End, Mark, Node};
+use std::alloc::Global;
 use std::test::*;
 
 #[test]

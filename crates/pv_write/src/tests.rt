@@ -1,4 +1,4 @@
-use super::*;
+use crate::doc_bytes;
 use pv_read::read_doc;
 use std::test::*;
 
