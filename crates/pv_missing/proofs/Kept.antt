@@ -26,4 +26,4 @@ extensions_complete M N g root doc body v e b a =
     let m = has_tags 0 (view doc.root) (view body.root) e in
     let l : LeavesOut 0 (elements (view body.root)) m.0 (view doc.root) (view body.root) = let z : 0 + elements (view body.root) ≡ elements (view body.root) = omega arith in rw z at m.1 in
     let s = tags_extend 0 (elements (view body.root)) m.0 (view doc.root) (view body.root) l in
-    (m.0, length m.0, record { valid = v; extends = e; inserted = s.1; same_before = b; same_after = a; counted = refl; left_out = l })
+    (m.0, length m.0, record { valid = v; extends = e; inserted = s.1; same_before = b; same_after = a; counted = refl; tags = l })

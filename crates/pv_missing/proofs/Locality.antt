@@ -156,6 +156,3 @@ module _ (g : PlainDtd) (root x t : List ℕ) (k : Hedge) (n : ℕ) where
 
 pub locality : HedgeLocality
 locality g root x t k n proper = (down g root x t k n, up g root x t k n proper)
-
-pub locality_down : (g : PlainDtd) (root x t : List ℕ) (k : Hedge) (n : ℕ) → HasCompletion g root n (elem x t k done) → NoneImpossible g root n (elem x t k done)
-locality_down g root x t k n c = down g root x t k n c

@@ -1,10 +1,9 @@
 -- Verdicts of lists.
-use Rattle.std.proofs.Common.{Bool, List, [], ap, false, if◌then◌else◌, refl, subst, sym, true, ℕ, ◌++◌, ◌∙◌, ◌∷◌, ◌≡◌}
-use Rattle.std.specs.List.{AllByRecursion}
+use Rattle.std.proofs.Common.{Bool, List, [], false, if◌then◌else◌, refl, true, ℕ, ◌∷◌, ◌≡◌}
 use Rattle.pv_chars.specs.Texts.{has_data}
 use Rattle.pv_model.specs.Plain.{PlainToken, text}
 use Rattle.pv_dtd.specs.Plain.{PlainDtd, number_of}
-use Rattle.pv_tree.specs.Lists.{IsOwnValid, IsRootList, IsValidBy, IsValidList, Listed, Owner, an_element, the_document}
+use Rattle.pv_tree.specs.Lists.{IsOwnValid, IsRootList, IsValidBy, IsValidList, Owner, an_element, the_document}
 use Rattle.pv_tree.specs.Plain.{Forest, Tree, cdata_node, element, misc_node, no_trees, text_node, tree}
 use Rattle.pv_tree.specs.Words.{node_before, word_of}
 use Rattle.pv_tree.proofs.Firsts.{one_first as first_is_one}

@@ -49,4 +49,4 @@ pub record Completes {M N : Type 0} (g : PlainDtd) (root : List ℕ) (doc : Plai
   pub same_before : body.before ≡ doc.before
   pub same_after : body.after ≡ doc.after
   pub counted : length added ≡ k
-  pub left_out : LeavesOut 0 (elements (view body.root)) added (view doc.root) (view body.root)
+  pub tags : LeavesOut 0 (elements (view body.root)) added (view doc.root) (view body.root)

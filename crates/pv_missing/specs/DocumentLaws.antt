@@ -63,7 +63,7 @@ abbrev pub BlanksChangeNothing : Type 0
 BlanksChangeNothing = (g : PlainDtd) (root x t : List ℕ) (k : Hedge) → IsProperDtd g →
     SameMissing g root (elem x t k done) (bare g false (elem x t k done))
 
--- tags left out show an extension by as many elements, and each extension can be shown so
+-- elements whose tags can be left out make an extension by as many, and each extension can be shown so
 abbrev pub TagsExtend : Type 0
 TagsExtend = (m e : ℕ) (added : List ℕ) (h h' : Hedge) → LeavesOut m e added h h' →
     Extends h h' × (elements h' ≡ length added + elements h) × (e ≡ m + elements h')

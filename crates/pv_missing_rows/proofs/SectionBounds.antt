@@ -11,10 +11,6 @@ use Rattle.pv_missing.proofs.Growing.{covers-none, empty_join}
 use Rattle.pv_missing_rows.proofs.Sections.{IsParagraphOrList, SecWords, doc_words, no_title, sec_words, with_title}
 use Rattle.pv_missing.proofs.Spanned.{all_at}
 
--- a word of named tokens has a first name where its names have
-first_named : (ws b : List ℕ) (y : ℕ) → ws ≡ y ∷ b → map named ws ≡ named y ∷ map named b
-first_named ws b y e = ap (map named) e
-
 -- a missing head holds texts alone, and so nothing of a word that begins with a name
 head_texts : (a : ℕ) (m : PlainModel) (v w1 : List PlainToken) → model_of sections_dtd 1 ≡ Some m → Allows 9 m v → Covers sections_dtd a v w1 → AreTexts w1
 head_texts a m v w1 e ok c = let i : m ≡ mixed [] = cc in

@@ -63,7 +63,7 @@ table_row = record {
     same_before = refl;
     same_after = refl;
     counted = refl;
-    left_out = out_kept 0 2 2 (1 ∷ []) (1 ∷ []) [] (codes "a") [] done (elem (codes "b") [] done done) done done refl
+    tags = out_kept 0 2 2 (1 ∷ []) (1 ∷ []) [] (codes "a") [] done (elem (codes "b") [] done done) done done refl
         (out_new 1 2 2 (1 ∷ []) [] [] (codes "b") done done done done done refl refl (out_done 2 2 refl) (out_done 2 2 refl)) (out_done 2 2 refl);
   };
 }

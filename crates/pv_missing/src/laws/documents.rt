@@ -42,7 +42,7 @@ pub fn blanks_law()
     ensures { BlanksChangeNothing }
 {}
 
-/// Tags left out show an extension by as many elements.
+/// Elements whose tags can be left out make an extension by as many.
 pub fn tags_extend_law()
     ensures { TagsExtend }
 {}
