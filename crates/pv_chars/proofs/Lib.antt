@@ -14,3 +14,4 @@ pub mod InstructionLemmas
 pub mod QuoteLemmas
 pub mod PartLemmas
 pub mod DeclarationLemmas
+pub mod ReferenceLemmas

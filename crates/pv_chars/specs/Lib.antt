@@ -5,6 +5,7 @@ pub mod Names
 pub mod Fronts
 pub mod Markup
 pub mod Declarations
+pub mod References
 pub mod Texts
 pub mod Scan
 pub mod Utf8

@@ -9,6 +9,7 @@ pub mod markup;
 mod memory;
 mod names;
 mod plain_names;
+pub mod references;
 pub mod scan;
 mod texts;
 pub mod utf8;
