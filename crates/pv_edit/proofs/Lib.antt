@@ -1,0 +1,10 @@
+pub mod Filled
+pub mod Levels
+pub mod Paths
+pub mod Searching
+pub mod Standing
+pub mod Depths
+pub mod Listing
+pub mod Deep
+pub mod Parted
+pub mod Refusing

@@ -1,0 +1,7 @@
+use Rattle.pv_tree.specs.PlainForms.{plain, plain_all}
+use Rattle.pv_edit.proofs.Parted.{next_is}
+use Rattle.pv_edit.proofs.places.next_text.Goals as goal
+
+pub returns : goal.returns
+returns c =
+    rw (next_is c.args.path.now (plain c.args.doc.now.root) (plain_all c.around.result.0.now) (plain c.around.result.1.now) (plain_all c.around.result.2.now) c.around.ensures) c.first_text.ensures

@@ -1,0 +1,13 @@
+use Rattle.std.proofs.Common.{◌++◌, ◌∙◌, ap, sym, List}
+use Rattle.pv_tree.specs.Plain.{Tree, forest_of}
+use Rattle.pv_tree.specs.PlainForms.{plain_all}
+use Rattle.pv_tree.specs.declared.nodes.Mark.{Mark}
+use Rattle.pv_edit.specs.Reasons.{spells_close_mark}
+use Rattle.pv_edit.proofs.Parted.{unwrapped-list}
+use Rattle.pv_edit.proofs.runs.unwrap_makes_close_mark.Goals as goal
+
+pub returns : goal.returns
+returns c =
+    c.spell_close_mark.ensures
+    ∙ ap (λ (l : List (Tree Mark)). spells_close_mark (forest_of (plain_all c.around.result.0.now ++ (l ++ plain_all c.around.result.2.now)))) c.kids_of.ensures
+    ∙ ap (λ (l : List (Tree Mark)). spells_close_mark (forest_of l)) (sym (unwrapped-list c.around.ensures))

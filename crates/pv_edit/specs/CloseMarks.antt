@@ -1,0 +1,45 @@
+-- Texts that stand side by side, searched from the left for `]]>`.
+use Rattle.std.specs.Prelude.{ℕ, Bool, true, false, ◌&&◌, ◌==◌, List, [], ◌∷◌, codes, Option, Some, None, option_and_then, if◌then◌else◌}
+use Rattle.std.specs.Str.{bytes_eq}
+use Rattle.pv_tree.specs.Plain.{Tree, element, text_node, cdata_node, misc_node}
+use Rattle.pv_edit.specs.declared.close_marks.Brackets.{Brackets}
+use Rattle.pv_edit.specs.declared.close_marks.Brackets.TheVariants.{Zero, One, Two}
+
+-- one more `]`
+abbrev pub one_more : Brackets → Brackets
+one_more Zero = One
+one_more One = Two
+one_more Two = Two
+
+abbrev pub are_two : Brackets → Bool
+are_two Zero = false
+are_two One = false
+are_two Two = true
+
+-- what stands at the end behind one more unit, where that is a `]`, and where it is a `>`; none where that ends a `]]>`
+abbrev pub behind : Brackets → Bool → Bool → Option Brackets
+behind b is_bracket is_angle = if is_bracket then Some (one_more b) else (if is_angle && are_two b then None else Some Zero)
+
+abbrev pub after_unit : Brackets → List ℕ → Option Brackets
+after_unit b unit = behind b (bytes_eq unit (codes "]")) (bytes_eq unit (codes ">"))
+
+abbrev pub after_byte : Brackets → ℕ → Option Brackets
+after_byte b byte = behind b (byte == 93) (byte == 62)
+
+abbrev pub search_units : Brackets → List (List ℕ) → Option Brackets
+search_units b [] = Some b
+search_units b (unit ∷ units) = option_and_then (λ c. search_units c units) (after_unit b unit)
+
+abbrev pub search_tree : {M : Type 0} → Brackets → Tree M → Option Brackets
+search_tree b (element x attrs ending kids mark) = Some Zero
+search_tree b (text_node units) = search_units b units
+search_tree b (cdata_node bytes) = Some Zero
+search_tree b (misc_node bytes) = Some Zero
+
+abbrev pub search_trees : {M : Type 0} → Brackets → List (Tree M) → Option Brackets
+search_trees b [] = Some b
+search_trees b (t ∷ ts) = option_and_then (λ c. search_trees c ts) (search_tree b t)
+
+-- three parts of a list, one behind the other
+abbrev pub search_parts : {M : Type 0} → List (Tree M) → List (Tree M) → List (Tree M) → Option Brackets
+search_parts front middle back = option_and_then (λ b. option_and_then (λ c. search_trees c back) (search_trees b middle)) (search_trees Zero front)

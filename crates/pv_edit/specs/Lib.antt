@@ -1,0 +1,10 @@
+pub mod Given
+pub mod Changes
+pub mod Effects
+pub mod Reasons
+pub mod Inverses
+pub mod ChangedLists
+pub mod Places
+pub mod CloseMarks
+pub mod Refusals
+pub mod Fitting

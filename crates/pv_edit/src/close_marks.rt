@@ -1,0 +1,99 @@
+//! The search of texts that stand side by side for `]]>` (XML 1.0, section 2.4).
+
+ghost use Rattle.std.specs.Prelude.{◌≡◌, ◌++◌};
+ghost use Rattle.pv_chars.specs.Texts.{units_of};
+ghost use Rattle.pv_tree.specs.Plain.{forest_of};
+ghost use Rattle.pv_tree.specs.PlainForms.{plain, plain_all};
+ghost use Rattle.pv_edit.specs.Effects.{one_text};
+ghost use Rattle.pv_edit.specs.Reasons.{spells_close_mark};
+ghost use Rattle.pv_edit.specs.CloseMarks.{after_byte, search_parts, search_tree, search_trees, search_units};
+
+use pv_tree::Node;
+
+/// How many `]` stand at the end of what was searched: none, one, or at least two.
+#[derive(Clone, Copy, Debug, PartialEq, Eq)]
+pub(crate) enum Brackets {
+    Zero,
+    One,
+    Two,
+}
+
+/// What stands at the end behind one more byte; none where that ends a `]]>`.
+fn after_byte(before: Brackets, byte: u8) -> Option<Brackets>
+    ensures { result ≡ after_byte before byte }
+{
+    if byte == b']' {
+        return Some(match before {
+            Brackets::Zero => Brackets::One,
+            Brackets::One => Brackets::Two,
+            Brackets::Two => Brackets::Two,
+        });
+    }
+    if byte == b'>' && before == Brackets::Two {
+        return None;
+    }
+    Some(Brackets::Zero)
+}
+
+/// What stands at the end behind the bytes of a text; none where `]]>` was found.
+pub(crate) fn search_text(before: Brackets, bytes: &[u8]) -> Option<Brackets>
+    ensures { result ≡ search_units before (units_of bytes.now) }
+{
+    let mut at_end = before;
+    for byte in bytes {
+        at_end = after_byte(at_end, *byte)?;
+    }
+    Some(at_end)
+}
+
+/// What stands at the end behind some nodes; none where `]]>` was found. All nodes but texts end the run.
+pub(crate) fn search_nodes(before: Brackets, nodes: &[Node]) -> Option<Brackets>
+    ensures { result ≡ search_trees before (plain_all nodes.now) }
+{
+    let mut at_end = before;
+    for node in nodes {
+        at_end = search_node(at_end, node)?;
+    }
+    Some(at_end)
+}
+
+fn search_node(before: Brackets, node: &Node) -> Option<Brackets>
+    ensures { result ≡ search_tree before (plain node.now) }
+{
+    match node {
+        Node::Elem { .. } => Some(Brackets::Zero),
+        Node::Text(units) => search_text(before, units.bytes()),
+        Node::Cdata(_) => Some(Brackets::Zero),
+        Node::Misc(_) => Some(Brackets::Zero),
+    }
+}
+
+/// Whether texts that stand side by side among these nodes, in this order, spell `]]>`.
+pub(crate) fn spell_close_mark(front: &[Node], middle: &[Node], back: &[Node]) -> bool
+    ensures { result ≡ spells_close_mark (forest_of (plain_all front.now ++ (plain_all middle.now ++ plain_all back.now))) }
+{
+    search_three(front, middle, back).is_none()
+}
+
+fn search_three(front: &[Node], middle: &[Node], back: &[Node]) -> Option<Brackets>
+    ensures { result ≡ search_parts (plain_all front.now) (plain_all middle.now) (plain_all back.now) }
+{
+    let at_front = search_nodes(Brackets::Zero, front)?;
+    let at_middle = search_nodes(at_front, middle)?;
+    search_nodes(at_middle, back)
+}
+
+/// Whether they do with a text among them.
+pub(crate) fn spell_close_mark_with(front: &[Node], text: &[u8], back: &[Node]) -> bool
+    ensures { result ≡ spells_close_mark (forest_of (plain_all front.now ++ (one_text (units_of text.now) ++ plain_all back.now))) }
+{
+    search_with(front, text, back).is_none()
+}
+
+fn search_with(front: &[Node], text: &[u8], back: &[Node]) -> Option<Brackets>
+    ensures { result ≡ search_parts (plain_all front.now) (one_text (units_of text.now)) (plain_all back.now) }
+{
+    let at_front = search_nodes(Brackets::Zero, front)?;
+    let at_text = search_text(at_front, text)?;
+    search_nodes(at_text, back)
+}

@@ -1,0 +1,170 @@
+//! Kids that give way to others, in one list.
+
+ghost use Rattle.std.specs.Prelude.{◌≡◌, ◌+◌, ◌++◌, ◌≤◌, [], ◌∷◌, OnOk, OnErr, IsTrue, length, vec_len, vec_capacity};
+ghost use Rattle.std.specs.List.{between};
+ghost use Rattle.pv_tree.specs.Plain.{element};
+ghost use Rattle.pv_tree.specs.Places.{kids_of};
+ghost use Rattle.pv_tree.specs.PlainForms.{forest, plain, plain_all, plain_end};
+ghost use Rattle.pv_edit.specs.Changes.{in_place_of};
+ghost use Rattle.pv_edit.specs.Reasons.{is_one_element};
+ghost use Rattle.pv_edit.specs.Fitting.{Fits, plain_filling, filled};
+
+use pv_chars::{Bytes, NoMemory};
+use pv_tree::{End, Mark, Node};
+
+/// What comes in place of some kids.
+#[derive(Debug, Drop)]
+pub(crate) enum Filling {
+    /// These nodes.
+    Others(Vec<Node>),
+    /// An element around them.
+    Around { name: Bytes, attrs: Bytes, end: End },
+    /// Their own kids.
+    Inner,
+    /// The same under another name.
+    Named(Bytes),
+}
+
+/// Puts others in place of the kids from one place up to another.
+pub(crate) fn fill(
+    kids: &mut Vec<Node>,
+    from: usize,
+    to: usize,
+    filling: Filling,
+) -> Result<(), NoMemory>
+    requires order { from ≤ to }
+    requires within { to ≤ vec_len kids.old }
+    requires fits { Fits (plain_filling filling) (between from to (plain_all kids.old.items)) }
+    ensures ok { OnOk result (plain_all kids.new.items ≡ filled from to (plain_filling filling) (plain_all kids.old.items)) }
+    ensures err { OnErr result (plain_all kids.new.items ≡ plain_all kids.old.items) }
+{
+    kids.reserve(room_for(&filling, &kids[from..to]))?;
+    let mut tail = kids.split_off(to)?;
+    match kids.split_off(from) {
+        Ok(middle) => {
+            put_in_place(kids, middle, filling);
+            move_behind(kids, &mut tail);
+            Ok(())
+        }
+        Err(_) => {
+            move_behind(kids, &mut tail);
+            Err(NoMemory)
+        }
+    }
+}
+
+// How many nodes come in place of these.
+fn room_for(filling: &Filling, middle: &[Node]) -> usize
+    requires { Fits (plain_filling filling.now) (plain_all middle.now) }
+    ensures { result ≡ length (in_place_of (plain_filling filling.now) (plain_all middle.now)) }
+{
+    match filling {
+        Filling::Others(nodes) => nodes.len(),
+        Filling::Around { .. } => 1,
+        Filling::Inner => match middle {
+            [only] => kid_count(only),
+            _ => unreachable!(),
+        },
+        Filling::Named(_) => 1,
+    }
+}
+
+fn kid_count(node: &Node) -> usize
+    ensures { result ≡ length (kids_of (plain node.now)) }
+{
+    match node {
+        Node::Elem { kids, .. } => kids.len(),
+        Node::Text(_) => 0,
+        Node::Cdata(_) => 0,
+        Node::Misc(_) => 0,
+    }
+}
+
+// Puts behind some kids, which have room for it, what comes in place of these.
+fn put_in_place(kids: &mut Vec<Node>, mut middle: Vec<Node>, filling: Filling)
+    requires fits { Fits (plain_filling filling) (plain_all middle.items) }
+    requires room { vec_len kids.old + length (in_place_of (plain_filling filling) (plain_all middle.items)) ≤ vec_capacity kids.old }
+    ensures items { plain_all kids.new.items ≡ plain_all kids.old.items ++ in_place_of (plain_filling filling) (plain_all middle.items) }
+    ensures len { vec_len kids.new ≡ vec_len kids.old + length (in_place_of (plain_filling filling) (plain_all middle.items)) }
+    ensures capacity { vec_capacity kids.old ≤ vec_capacity kids.new }
+{
+    match filling {
+        Filling::Others(mut nodes) => move_behind(kids, &mut nodes),
+        Filling::Around { name, attrs, end } => kids.push_reserved(Node::Elem {
+            name,
+            attrs,
+            end,
+            kids: middle,
+            mark: Mark::BLANK,
+        }),
+        Filling::Inner => {
+            let mut parts = parts_of(middle);
+            move_behind(kids, &mut parts.kids);
+        }
+        Filling::Named(name) => {
+            let Parts {
+                attrs,
+                end,
+                kids: inner,
+                mark,
+                ..
+            } = parts_of(middle);
+            kids.push_reserved(Node::Elem {
+                name,
+                attrs,
+                end,
+                kids: inner,
+                mark,
+            });
+        }
+    }
+}
+
+// An element, taken apart.
+#[derive(Drop)]
+struct Parts {
+    name: Bytes,
+    attrs: Bytes,
+    end: End,
+    kids: Vec<Node>,
+    mark: Mark,
+}
+
+// The parts of the only node, an element.
+fn parts_of(mut nodes: Vec<Node>) -> Parts
+    requires { IsTrue (is_one_element (plain_all nodes.items)) }
+    ensures { plain_all nodes.items ≡ element result.name result.attrs (plain_end result.end) (forest result.kids.items) result.mark ∷ [] }
+{
+    let Some(
+        Node::Elem {
+            name,
+            attrs,
+            end,
+            kids,
+            mark,
+        },
+    ) = nodes.pop()
+    else {
+        unreachable!()
+    };
+    Parts {
+        name,
+        attrs,
+        end,
+        kids,
+        mark,
+    }
+}
+
+// Moves the nodes of another vector behind those of one that has room for them.
+fn move_behind(kids: &mut Vec<Node>, more: &mut Vec<Node>)
+    requires { vec_len kids.old + vec_len more.old ≤ vec_capacity kids.old }
+    ensures items { kids.new.items ≡ kids.old.items ++ more.old.items }
+    ensures len { vec_len kids.new ≡ vec_len kids.old + vec_len more.old }
+    ensures capacity { vec_capacity kids.old ≤ vec_capacity kids.new }
+{
+    match kids.append(more) {
+        Ok(()) => {}
+        Err(_) => unreachable!(),
+    }
+}

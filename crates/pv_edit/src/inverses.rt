@@ -1,0 +1,53 @@
+//! What leads back from an edited document.
+
+use pv_chars::{Bytes, Units};
+use pv_tree::{End, Path};
+
+/// What undoes an edit. Paths are those of the edited document. `short` tells that the element whose list was changed ended by `/>`
+/// before.
+#[derive(Debug, Drop)]
+pub enum Inverse {
+    /// Puts an element's kids in its place.
+    TakeOut {
+        path: Path,
+        short: bool,
+    },
+    /// Puts the kids from `from` up to but not including `to` back into an element.
+    PutBack {
+        path: Path,
+        from: u32,
+        to: u32,
+        name: Bytes,
+        attrs: Bytes,
+        end: End,
+    },
+    /// Gives an element its name back.
+    Name {
+        path: Path,
+        name: Bytes,
+    },
+    /// Joins a text and the text behind it.
+    Merge {
+        path: Path,
+    },
+    /// Cuts a text before unit `at`.
+    Divide {
+        path: Path,
+        at: u64,
+    },
+    /// Gives a text its units back.
+    Text {
+        path: Path,
+        text: Units,
+    },
+    /// Takes a text away.
+    Discard {
+        path: Path,
+        short: bool,
+    },
+    /// Puts a text back.
+    Restore {
+        path: Path,
+        text: Units,
+    },
+}

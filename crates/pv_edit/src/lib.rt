@@ -1,0 +1,20 @@
+//! Edits of a document: which change each makes, why one is refused, and how it is undone.
+#![tactic(auto)]
+
+mod answers;
+mod close_marks;
+mod descent;
+mod edits;
+mod filling;
+mod given;
+mod inverses;
+mod places;
+mod reasons;
+mod runs;
+mod shapes;
+
+pub use answers::{Done, EditAnswer, VerdictRow, VerdictRows};
+pub use edits::{Edit, Edits};
+pub use inverses::Inverse;
+pub use reasons::{EditError, Reason};
+pub use shapes::shape;
