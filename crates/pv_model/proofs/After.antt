@@ -5,11 +5,11 @@ use Rattle.pv_model.specs.Plain.{PlainPart, name, seq, choice, opt, star, plus, 
 use Rattle.pv_model.specs.Models.{Rounds, round, Matches, MatchesAll, MatchesSome}
 use Rattle.pv_model.specs.Positions.{may_be_empty}
 use Rattle.pv_model.proofs.Joins.{or-cases, or-left, or-right, joined-first, first_round}
-use Rattle.pv_model.proofs.Reached.{Held, AllHeld, Continues, ContinuesInOrder, ContinuesSome, ends, after, after_in_order, after_in_each}
+use Rattle.pv_model.proofs.Reached.{Positions, AllPositions, Continues, ContinuesInOrder, ContinuesSome, ends, after, after_in_order, after_in_each}
 use Rattle.pv_model.proofs.Ends.{may_be_empty-means, ends-means}
 
 mutual
-  after_from : (p : PlainPart) (e : Bool) (y : ℕ) (m : Held p) (w : List ℕ) → Continues p (after p e y m) w → (IsTrue e × Matches p (y ∷ w)) ⊎ Continues p m (y ∷ w)
+  after_from : (p : PlainPart) (e : Bool) (y : ℕ) (m : Positions p) (w : List ℕ) → Continues p (after p e y m) w → (IsTrue e × Matches p (y ∷ w)) ⊎ Continues p m (y ∷ w)
   after_from (name x) e y m w c =
       let both = and_parts e (x == y) c.0 in
       let same : x ≡ y = eqb-true x y both.1 in
@@ -37,7 +37,7 @@ mutual
         | inr k ↦ inr (y ∷ c.0, c.1, eq, k, c.4)
       ]
 
-  after_in_order_from : (ps : PlainParts) (e : Bool) (y : ℕ) (m : AllHeld ps) (w : List ℕ) → ContinuesInOrder ps (after_in_order ps e y m) w →
+  after_in_order_from : (ps : PlainParts) (e : Bool) (y : ℕ) (m : AllPositions ps) (w : List ℕ) → ContinuesInOrder ps (after_in_order ps e y m) w →
       (IsTrue e × MatchesAll ps (y ∷ w)) ⊎ ContinuesInOrder ps m (y ∷ w)
   after_in_order_from no_parts e y m w c = absurd c
   after_in_order_from (part p ps) e y m w c = elim c [
@@ -56,7 +56,7 @@ mutual
     ]
   ]
 
-  after_in_each_from : (ps : PlainParts) (e : Bool) (y : ℕ) (m : AllHeld ps) (w : List ℕ) → ContinuesSome ps (after_in_each ps e y m) w →
+  after_in_each_from : (ps : PlainParts) (e : Bool) (y : ℕ) (m : AllPositions ps) (w : List ℕ) → ContinuesSome ps (after_in_each ps e y m) w →
       (IsTrue e × MatchesSome ps (y ∷ w)) ⊎ ContinuesSome ps m (y ∷ w)
   after_in_each_from no_parts e y m w c = absurd c
   after_in_each_from (part p ps) e y m w c = elim c [
@@ -65,7 +65,7 @@ mutual
   ]
 
 -- a round that the name begins, where the next step for its member is known
-next_round : (p : PlainPart) (e : Bool) (y : ℕ) (m : Held p) (w : List ℕ) → IsTrue (e || ends p m) → Rounds (Matches p) (y ∷ w) →
+next_round : (p : PlainPart) (e : Bool) (y : ℕ) (m : Positions p) (w : List ℕ) → IsTrue (e || ends p m) → Rounds (Matches p) (y ∷ w) →
     ((u : List ℕ) → (IsTrue (e || ends p m) × Matches p (y ∷ u)) ⊎ Continues p m (y ∷ u) → Continues p (after p (e || ends p m) y m) u) →
     (u : List ℕ) × (v : List ℕ) × (w ≡ u ++ v) × Continues p (after p (e || ends p m) y m) u × Rounds (Matches p) v
 next_round p e y m w h r step =
@@ -73,7 +73,7 @@ next_round p e y m w h r step =
     (f.0, f.1, f.2, step f.0 (inl (h, f.3)), f.4)
 
 mutual
-  after_to : (p : PlainPart) (e : Bool) (y : ℕ) (m : Held p) (w : List ℕ) → (IsTrue e × Matches p (y ∷ w)) ⊎ Continues p m (y ∷ w) → Continues p (after p e y m) w
+  after_to : (p : PlainPart) (e : Bool) (y : ℕ) (m : Positions p) (w : List ℕ) → (IsTrue e × Matches p (y ∷ w)) ⊎ Continues p m (y ∷ w) → Continues p (after p e y m) w
   after_to (name x) e y m w c = elim c [
     | inl both ↦
         let is : y ∷ w ≡ x ∷ [] = both.1 in
@@ -106,7 +106,7 @@ mutual
     ]
   ]
 
-  after_in_order_to : (ps : PlainParts) (e : Bool) (y : ℕ) (m : AllHeld ps) (w : List ℕ) → (IsTrue e × MatchesAll ps (y ∷ w)) ⊎ ContinuesInOrder ps m (y ∷ w) →
+  after_in_order_to : (ps : PlainParts) (e : Bool) (y : ℕ) (m : AllPositions ps) (w : List ℕ) → (IsTrue e × MatchesAll ps (y ∷ w)) ⊎ ContinuesInOrder ps m (y ∷ w) →
       ContinuesInOrder ps (after_in_order ps e y m) w
   after_in_order_to no_parts e y m w c = elim c [ inl both ↦ let none : y ∷ w ≡ [] = both.1 in absurd cc | inr k ↦ absurd k ]
   after_in_order_to (part p ps) e y m w c = elim c [
@@ -125,7 +125,7 @@ mutual
     ]
   ]
 
-  after_in_each_to : (ps : PlainParts) (e : Bool) (y : ℕ) (m : AllHeld ps) (w : List ℕ) → (IsTrue e × MatchesSome ps (y ∷ w)) ⊎ ContinuesSome ps m (y ∷ w) →
+  after_in_each_to : (ps : PlainParts) (e : Bool) (y : ℕ) (m : AllPositions ps) (w : List ℕ) → (IsTrue e × MatchesSome ps (y ∷ w)) ⊎ ContinuesSome ps m (y ∷ w) →
       ContinuesSome ps (after_in_each ps e y m) w
   after_in_each_to no_parts e y m w c = elim c [ inl both ↦ absurd both.1 | inr k ↦ absurd k ]
   after_in_each_to (part p ps) e y m w c = elim c [
@@ -136,5 +136,5 @@ mutual
     | inr k ↦ elim k [ inl one ↦ inl (after_to p e y m.0 w (inr one)) | inr rest ↦ inr (after_in_each_to ps e y m.1 w (inr rest)) ]
   ]
 
-pub after-means : (p : PlainPart) (e : Bool) (y : ℕ) (m : Held p) (w : List ℕ) → Continues p (after p e y m) w ↔ ((IsTrue e × Matches p (y ∷ w)) ⊎ Continues p m (y ∷ w))
+pub after-means : (p : PlainPart) (e : Bool) (y : ℕ) (m : Positions p) (w : List ℕ) → Continues p (after p e y m) w ↔ ((IsTrue e × Matches p (y ∷ w)) ⊎ Continues p m (y ∷ w))
 after-means p e y m w = (after_from p e y m w, after_to p e y m w)

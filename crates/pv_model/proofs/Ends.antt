@@ -5,7 +5,7 @@ use Rattle.pv_model.specs.Plain.{PlainPart, name, seq, choice, opt, star, plus, 
 use Rattle.pv_model.specs.Models.{Rounds, no_round, Matches, MatchesAll, MatchesSome}
 use Rattle.pv_model.specs.Positions.{may_be_empty, all_may_be_empty, some_may_be_empty}
 use Rattle.pv_model.proofs.Joins.{or-cases, or-left, or-right, joined-none}
-use Rattle.pv_model.proofs.Reached.{Held, AllHeld, Continues, ContinuesInOrder, ContinuesSome, ends, ends_in_order, ends_some}
+use Rattle.pv_model.proofs.Reached.{Positions, AllPositions, Continues, ContinuesInOrder, ContinuesSome, ends, ends_in_order, ends_some}
 
 mutual
   matches_empty : (p : PlainPart) → IsTrue (may_be_empty p) → Matches p []
@@ -58,7 +58,7 @@ pub may_be_empty-means : (p : PlainPart) → IsTrue (may_be_empty p) ↔ Matches
 may_be_empty-means p = (matches_empty p, empty_matched p)
 
 mutual
-  ends_continues : (p : PlainPart) (m : Held p) → IsTrue (ends p m) → Continues p m []
+  ends_continues : (p : PlainPart) (m : Positions p) → IsTrue (ends p m) → Continues p m []
   ends_continues (name y) m h = (h, refl)
   ends_continues (seq ps) m h = elim (ends_continues_in_order ps false m h) [ inl f ↦ absurd cc | inr c ↦ c ]
   ends_continues (choice ps) m h = elim (ends_continues_some ps false m h) [ inl f ↦ absurd cc | inr c ↦ c ]
@@ -66,7 +66,7 @@ mutual
   ends_continues (star p) m h = ([], [], refl, ends_continues p m h, no_round)
   ends_continues (plus p) m h = ([], [], refl, ends_continues p m h, no_round)
 
-  ends_continues_in_order : (ps : PlainParts) (before : Bool) (m : AllHeld ps) → IsTrue (ends_in_order before ps m) → (IsTrue before × MatchesAll ps []) ⊎ ContinuesInOrder ps m []
+  ends_continues_in_order : (ps : PlainParts) (before : Bool) (m : AllPositions ps) → IsTrue (ends_in_order before ps m) → (IsTrue before × MatchesAll ps []) ⊎ ContinuesInOrder ps m []
   ends_continues_in_order no_parts before m h = inl (h, refl)
   ends_continues_in_order (part p ps) before m h =
       elim (ends_continues_in_order ps (ends p m.0 || before && may_be_empty p) m.1 h) [
@@ -77,7 +77,7 @@ mutual
         | inr c ↦ inr (inr c)
       ]
 
-  ends_continues_some : (ps : PlainParts) (before : Bool) (m : AllHeld ps) → IsTrue (ends_some before ps m) → IsTrue before ⊎ ContinuesSome ps m []
+  ends_continues_some : (ps : PlainParts) (before : Bool) (m : AllPositions ps) → IsTrue (ends_some before ps m) → IsTrue before ⊎ ContinuesSome ps m []
   ends_continues_some no_parts before m h = inl h
   ends_continues_some (part p ps) before m h =
       elim (ends_continues_some ps (before || ends p m.0) m.1 h) [
@@ -86,7 +86,7 @@ mutual
       ]
 
 mutual
-  continued_ends : (p : PlainPart) (m : Held p) → Continues p m [] → IsTrue (ends p m)
+  continued_ends : (p : PlainPart) (m : Positions p) → Continues p m [] → IsTrue (ends p m)
   continued_ends (name y) m c = c.0
   continued_ends (seq ps) m c = continued_ends_in_order ps false m (inr c)
   continued_ends (choice ps) m c = continued_ends_some ps false m (inr c)
@@ -94,7 +94,7 @@ mutual
   continued_ends (star p) m c = let parts = joined-none (Continues p m) (Rounds (Matches p)) c.0 c.1 c.2 c.3 c.4 in continued_ends p m parts.0
   continued_ends (plus p) m c = let parts = joined-none (Continues p m) (Rounds (Matches p)) c.0 c.1 c.2 c.3 c.4 in continued_ends p m parts.0
 
-  continued_ends_in_order : (ps : PlainParts) (before : Bool) (m : AllHeld ps) → (IsTrue before × MatchesAll ps []) ⊎ ContinuesInOrder ps m [] → IsTrue (ends_in_order before ps m)
+  continued_ends_in_order : (ps : PlainParts) (before : Bool) (m : AllPositions ps) → (IsTrue before × MatchesAll ps []) ⊎ ContinuesInOrder ps m [] → IsTrue (ends_in_order before ps m)
   continued_ends_in_order no_parts before m c = elim c [ inl b ↦ b.0 | inr n ↦ absurd n ]
   continued_ends_in_order (part p ps) before m c =
       continued_ends_in_order ps (ends p m.0 || before && may_be_empty p) m.1 (elim c [
@@ -109,7 +109,7 @@ mutual
         ]
       ])
 
-  continued_ends_some : (ps : PlainParts) (before : Bool) (m : AllHeld ps) → IsTrue before ⊎ ContinuesSome ps m [] → IsTrue (ends_some before ps m)
+  continued_ends_some : (ps : PlainParts) (before : Bool) (m : AllPositions ps) → IsTrue before ⊎ ContinuesSome ps m [] → IsTrue (ends_some before ps m)
   continued_ends_some no_parts before m c = elim c [ inl b ↦ b | inr n ↦ absurd n ]
   continued_ends_some (part p ps) before m c =
       continued_ends_some ps (before || ends p m.0) m.1 (elim c [
@@ -117,5 +117,5 @@ mutual
         | inr n ↦ elim n [ inl one ↦ inl (or-right before (ends p m.0) (continued_ends p m.0 one)) | inr rest ↦ inr rest ]
       ])
 
-pub ends-means : (p : PlainPart) (m : Held p) → IsTrue (ends p m) ↔ Continues p m []
+pub ends-means : (p : PlainPart) (m : Positions p) → IsTrue (ends p m) ↔ Continues p m []
 ends-means p m = (ends_continues p m, continued_ends p m)

@@ -1,3 +1,6 @@
+pub mod LaidOut
+pub mod Layouts
+pub mod Members
 pub mod Models
 pub mod Moves
 pub mod Plain

@@ -1,6 +1,6 @@
--- The positions that tell how far a word has come in a content particle.
--- Each name of the particle has a position: the names read so far can end with this one. Each repetition has a position
--- before those of its member: the names read so far can end a round. They stand in the order of the declaration.
+-- How far a word has come in a content particle: for each position whether it is reached, in the order of the declaration.
+-- Each name has a position, and each repetition has one before its member's. The first is reached if the names read so far
+-- can end with it, and the second if they can end a round.
 use Rattle.std.specs.Prelude.{ℕ, suc, ◌+◌, Bool, true, false, ◌&&◌, ◌||◌, ◌==◌, List, [], ◌∷◌, ◌++◌, length, get_or, take, drop, if◌then◌else◌}
 use Rattle.pv_model.specs.Plain.{PlainPart, name, seq, choice, opt, star, plus, PlainParts, no_parts, part, PlainToken, named, text, other}
 
@@ -19,17 +19,17 @@ abbrev mutual
 
 -- the positions before the first name
 abbrev mutual
-  pub no_positions : PlainPart → List Bool
-  no_positions (name y) = false ∷ []
-  no_positions (seq ps) = no_positions_all ps
-  no_positions (choice ps) = no_positions_all ps
-  no_positions (opt p) = no_positions p
-  no_positions (star p) = false ∷ no_positions p
-  no_positions (plus p) = false ∷ no_positions p
+  pub unreached_positions : PlainPart → List Bool
+  unreached_positions (name y) = false ∷ []
+  unreached_positions (seq ps) = unreached_positions_all ps
+  unreached_positions (choice ps) = unreached_positions_all ps
+  unreached_positions (opt p) = unreached_positions p
+  unreached_positions (star p) = false ∷ unreached_positions p
+  unreached_positions (plus p) = false ∷ unreached_positions p
 
-  pub no_positions_all : PlainParts → List Bool
-  no_positions_all no_parts = []
-  no_positions_all (part p ps) = no_positions p ++ no_positions_all ps
+  pub unreached_positions_all : PlainParts → List Bool
+  unreached_positions_all no_parts = []
+  unreached_positions_all (part p ps) = unreached_positions p ++ unreached_positions_all ps
 
 -- the empty word is a word of the particle
 abbrev mutual
@@ -113,10 +113,10 @@ abbrev mutual
   positions_after_in_each (part p ps) entered y ms =
       positions_after p entered y ms ++ positions_after_in_each ps entered y (drop (position_count p) ms)
 
--- some name is held
-abbrev pub any_position : List Bool → Bool
-any_position [] = false
-any_position (b ∷ ms) = any_position ms || b
+-- some position is reached
+abbrev pub any_reached : List Bool → Bool
+any_reached [] = false
+any_reached (b ∷ ms) = any_reached ms || b
 
 -- the old list with these in it from a place on
 abbrev pub written : ℕ → List Bool → List Bool → List Bool
@@ -127,6 +127,6 @@ written at new old = take at old ++ new ++ drop (at + length new) old
 abbrev pub reads : PlainPart → Bool → Bool → List Bool → List PlainToken → Bool
 reads p entered ended ms [] = ended
 reads p entered ended ms (named y ∷ u) =
-    if any_position (positions_after p entered y ms) then reads p false (is_end_after p entered y ms) (positions_after p entered y ms) u else false
+    if any_reached (positions_after p entered y ms) then reads p false (is_end_after p entered y ms) (positions_after p entered y ms) u else false
 reads p entered ended ms (text ∷ u) = false
 reads p entered ended ms (other ∷ u) = false

@@ -2,23 +2,26 @@
 
 ghost use Rattle.std.specs.Prelude.{◌≡◌, ◌↔◌, IsTrue, true, IfOk, map};
 ghost use Rattle.std.specs.List.{AllByRecursion};
-ghost use Rattle.pv_model.specs.Models.{Allows, IsOfAny, IsOfMixed};
-ghost use Rattle.pv_model.specs.Positions.{may_be_empty, no_positions, reads};
-ghost use Rattle.pv_model.specs.PlainForms.{plain_model, plain_part, plain_token, numbers_of};
+ghost use Rattle.pv_model.specs.Models.{Allows, IsOfAny};
+ghost use Rattle.pv_model.specs.PlainForms.{plain_model, plain_token};
 
-use crate::models::{ContentModel, NameId, NoMemory, Part, Token};
-use crate::positions::{advance, may_be_empty, push_positions};
+use crate::children::has_children;
+use crate::mixed::has_mixed;
+use crate::models::{ContentModel, NoMemory, Token};
 use std::alloc::Global;
 
 /// Whether the word is one that the model allows (XML 1.0, section 3.2), where the names below `declared` are declared.
 /// A content particle need not be deterministic.
 ///
-/// Only a word for a content particle takes memory, and the empty word takes none. The positions are a byte for each name and each
-/// repetition of the particle, in a vector that begins with room for 64 and doubles when it is full, so they take 64 bytes, or
-/// else at most twice as many as there are positions. `NoMemory` says that there was no memory for them.
+/// `NoMemory` says that there was no memory for the match. An empty word takes none, and EMPTY and ANY take none. In mixed
+/// content only a word of 1,024 tokens or more takes memory, for a set of the listed names, where these are 256 or more. In
+/// a content particle any other word takes a byte for each name and each repetition, and a word of 64 tokens or more, in a
+/// particle with 64 of these or more, takes memory for the particle laid out in pairs and for the places of its names.
 ///
-/// The empty word takes one walk of the particle, and any other two before its first token and one for each token. In mixed
-/// content each token takes a walk of the list of names. Matching ends at the first token that no allowed word has there.
+/// The time grows with the word and the model together, and not with their product. A word of a particle that is laid out
+/// takes, for each token, the steps from the top of the pairs to the places that the names so far can end with and to those
+/// where the token's name may follow: in a deterministic particle one place, and as many levels as the logarithm of its size
+/// and its depth ask. Matching ends at the first token that no allowed word has there.
 pub fn matches(
     alloc: Global,
     model: &ContentModel,
@@ -30,8 +33,8 @@ pub fn matches(
     match model {
         ContentModel::Empty => Ok(word.is_empty()),
         ContentModel::Any => Ok(are_declared(declared, word)),
-        ContentModel::Mixed(names) => Ok(are_listed(names.as_slice(), word)),
-        ContentModel::Children(part) => has_word(alloc, part, word),
+        ContentModel::Mixed(names) => has_mixed(alloc, names.as_slice(), word),
+        ContentModel::Children(part) => has_children(alloc, part, word),
     }
 }
 
@@ -56,56 +59,3 @@ fn is_declared(declared: u32, token: Token) -> bool
         Token::Other => false,
     }
 }
-
-/// Whether each token is data or an element of a listed name.
-fn are_listed(names: &[NameId], word: &[Token]) -> bool
-    ensures { IsTrue result ↔ AllByRecursion (IsOfMixed (numbers_of names.now)) (map plain_token word.now) }
-{
-    for token in word {
-        if !is_listed(names, *token) {
-            return false;
-        }
-    }
-    true
-}
-
-fn is_listed(names: &[NameId], token: Token) -> bool
-    ensures { IsTrue result ↔ IsOfMixed (numbers_of names.now) (plain_token token) }
-{
-    match token {
-        Token::Name(name) => names.contains(&name),
-        Token::Text => true,
-        Token::Other => false,
-    }
-}
-
-/// Room for the positions of most particles, taken at once.
-const POSITIONS_AT_ONCE: usize = 64;
-
-/// Whether the part has the word.
-fn has_word(alloc: Global, part: &Part, word: &[Token]) -> Result<bool, NoMemory>
-    ensures { IfOk result (λ b. b ≡ reads (plain_part part.now) true (may_be_empty (plain_part part.now)) (no_positions (plain_part part.now)) (map plain_token word.now)) }
-{
-    let mut is_end = may_be_empty(part);
-    if word.is_empty() {
-        return Ok(is_end);
-    }
-    let mut positions = Vec::with_capacity(alloc, POSITIONS_AT_ONCE)?;
-    push_positions(part, &mut positions)?;
-    let mut entered = true;
-    for token in word {
-        let Token::Name(name) = token else {
-            return Ok(false);
-        };
-        let moved = advance(part, entered, *name, &mut positions, 0);
-        if !moved.is_reached {
-            return Ok(false);
-        }
-        is_end = moved.is_end;
-        entered = false;
-    }
-    Ok(is_end)
-}
-
-#[cfg(test)]
-mod tests;

@@ -1,8 +1,11 @@
-//! How far a word has come in a content particle: a position for each of the particle's names.
+//! How far a word has come in a content particle: for each position whether it is reached.
+//!
+//! Each name has a position, and each repetition has one before its member's. The first is reached if the names read so far
+//! can end with it, and the second if they can end a round.
 
 ghost use Rattle.std.specs.Prelude.{◌≡◌, ◌+◌, ◌≤◌, ◌++◌, ◌&&◌, ◌||◌, length, OnOk};
 ghost use Rattle.pv_model.specs.Plain.{name as one_name, seq, choice, plus};
-ghost use Rattle.pv_model.specs.Positions.{position_count, no_positions, may_be_empty};
+ghost use Rattle.pv_model.specs.Positions.{position_count, unreached_positions, may_be_empty};
 ghost use Rattle.pv_model.specs.Moves.{Moves};
 ghost use Rattle.pv_model.specs.PlainForms.{plain_part, plain_parts};
 
@@ -45,11 +48,10 @@ fn some_may_be_empty(parts: &[Part]) -> bool
     some
 }
 
-/// Appends the part's positions before the first name is read. Each name has one: the names read so far can end with it.
-/// Each repetition has one before its member's: they can end a round.
+/// Appends the part's positions before the first name is read, none of them reached.
 #[cycle(push_positions)]
 pub fn push_positions(part: &Part, positions: &mut Vec<bool>) -> Result<(), NoMemory>
-    ensures { OnOk result (positions.new.items ≡ positions.old.items ++ no_positions (plain_part part.now)) }
+    ensures { OnOk result (positions.new.items ≡ positions.old.items ++ unreached_positions (plain_part part.now)) }
 {
     match part {
         Part::Name(_) => {
@@ -72,7 +74,7 @@ pub fn push_positions(part: &Part, positions: &mut Vec<bool>) -> Result<(), NoMe
 
 #[cycle(push_positions)]
 fn push_all_positions(parts: &[Part], positions: &mut Vec<bool>) -> Result<(), NoMemory>
-    ensures { OnOk result (positions.new.items ≡ positions.old.items ++ no_positions (seq (plain_parts parts.now))) }
+    ensures { OnOk result (positions.new.items ≡ positions.old.items ++ unreached_positions (seq (plain_parts parts.now))) }
 {
     for part in parts {
         push_positions(part, positions)?;
@@ -92,7 +94,7 @@ pub struct Moved {
     /// Whether they are one with it.
     pub is_end: bool,
 
-    /// Whether the part has a position left. Without one, no names behind this one make a word of it.
+    /// Whether a position of the part is reached. Without one, no names behind this one make a word of it.
     pub is_reached: bool,
 
     /// Whether the empty word is a word of the part.

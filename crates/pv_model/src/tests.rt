@@ -1,5 +1,5 @@
 use super::*;
-use crate::models::{Names, Parts};
+use std::alloc::Global;
 use std::process::Abort;
 use std::test::Fail;
 
@@ -167,5 +167,41 @@ fn long_word(rt: HostRuntime) -> Result<(), Fail> {
     assert!(rt; matches(alloc, &model, 100, &word)?);
     word.push(Token::Name(NameId(98)))?;
     assert!(rt; !matches(alloc, &model, 100, &word)?);
+    Ok(())
+}
+
+/// Words for which large models are laid out: (n0?, n1?, .., n299?) and (n0 | n1 | .. | n299)+, and a mixed list of these.
+#[test]
+fn large_models(rt: HostRuntime) -> Result<(), Fail> {
+    let alloc = rt.alloc();
+    let mut options = Vec::new(alloc);
+    let mut choices = Vec::new(alloc);
+    let mut listed = Vec::new(alloc);
+    let mut even = Vec::new(alloc);
+    for n in 0..300 {
+        options.push(opt(alloc, Part::Name(NameId(n)))?)?;
+        choices.push(Part::Name(NameId(n)))?;
+        listed.push(NameId(n))?;
+        if n % 2 == 0 {
+            even.push(Token::Name(NameId(n)))?;
+        }
+    }
+    let in_order = children(alloc, Part::Seq(options))?;
+    let rounds = children(alloc, plus(alloc, Part::Choice(choices))?)?;
+    let mixed = ContentModel::Mixed(Names::of(listed));
+    for model in [&in_order, &rounds, &mixed] {
+        assert!(rt; matches(alloc, model, 400, &even)?);
+    }
+    even.push(Token::Name(NameId(0)))?;
+    assert!(rt; !matches(alloc, &in_order, 400, &even)?);
+    assert!(rt; matches(alloc, &rounds, 400, &even)?);
+    even.push(Token::Text)?;
+    assert!(rt; !matches(alloc, &rounds, 400, &even)?);
+    for _ in 0..1000 {
+        even.push(Token::Text)?;
+    }
+    assert!(rt; matches(alloc, &mixed, 400, &even)?);
+    even.push(Token::Name(NameId(300)))?;
+    assert!(rt; !matches(alloc, &mixed, 400, &even)?);
     Ok(())
 }

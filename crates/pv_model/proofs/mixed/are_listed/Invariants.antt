@@ -2,7 +2,7 @@ use Rattle.std.proofs.Common.{◌↔◌, map, drop}
 use Rattle.std.specs.List.{AllByRecursion}
 use Rattle.pv_model.specs.Models.{IsOfMixed}
 use Rattle.pv_model.specs.PlainForms.{plain_token, numbers_of}
-use Rattle.pv_model.proofs.matching.are_listed.Given as goal
+use Rattle.pv_model.proofs.mixed.are_listed.Given as goal
 
 abbrev pub invariant-loop-token : goal.invariant-loop-token
 invariant-loop-token l =

@@ -2,7 +2,7 @@ use Rattle.std.proofs.Common.{◌≡◌, eqb}
 use Rattle.std.specs.List.{list_any}
 use Rattle.pv_model.specs.declared.models.NameId.{NameId}
 use Rattle.pv_model.proofs.Tokens.{listed}
-use Rattle.pv_model.proofs.matching.is_listed.Goals as goal
+use Rattle.pv_model.proofs.mixed.is_listed.Goals as goal
 
 pub returns-in-Name : goal.returns-in-Name
 returns-in-Name c =

@@ -1,7 +1,0 @@
-use Rattle.std.proofs.Common.{map, drop}
-use Rattle.pv_model.specs.PlainForms.{plain_part, plain_token}
-use Rattle.pv_model.proofs.Reading.{IsReading}
-use Rattle.pv_model.proofs.matching.has_word.Given as goal
-
-abbrev pub invariant-loop-token : goal.invariant-loop-token
-invariant-loop-token l = IsReading (plain_part l.part) (map plain_token l.word) l.entered l.is_end l.positions.items (map plain_token (drop l.token-index l.word))

@@ -1,0 +1,146 @@
+//! A content particle laid out for long words: its members stand in pairs, so that few steps lead to a name, and its
+//! names and repetitions have places in order.
+
+ghost use Rattle.std.specs.Prelude.{◌≡◌, IfOk, OnOk};
+ghost use Rattle.pv_model.specs.PlainForms.{plain_layout, plain_part, plain_parts};
+ghost use Rattle.pv_model.specs.Plain.{seq, choice, plus};
+ghost use Rattle.pv_model.specs.LaidOut.{IsLaidOut};
+ghost use Rattle.pv_model.specs.Layouts.{has_empty_word};
+
+use crate::models::{NoMemory, Part};
+use crate::places::Places;
+use std::alloc::Global;
+
+/// A content particle in pairs: no word, the empty word alone, a name at a place, a pair in order, a pair to choose from,
+/// an optional particle, or one repeated at least once, with a place behind those of its member.
+///
+/// The places of a pair's second member begin at its middle.
+#[derive(Debug, Drop)]
+pub enum Layout {
+    Nothing,
+    Blank,
+    Name {
+        place: usize,
+        name: u32,
+    },
+    InOrder {
+        middle: usize,
+        first_may_be_empty: bool,
+        second_may_be_empty: bool,
+        first: Box<Layout>,
+        second: Box<Layout>,
+    },
+    Either {
+        middle: usize,
+        first: Box<Layout>,
+        second: Box<Layout>,
+    },
+    Opt(Box<Layout>),
+    Plus {
+        place: usize,
+        member: Box<Layout>,
+    },
+}
+
+impl Layout {
+    /// Whether the empty word is a word of the particle.
+    pub fn may_be_empty(&self) -> bool
+        ensures { result ≡ has_empty_word (plain_layout self.now) }
+    {
+        match self {
+            Layout::Nothing => false,
+            Layout::Blank => true,
+            Layout::Name { .. } => false,
+            Layout::InOrder {
+                first_may_be_empty,
+                second_may_be_empty,
+                ..
+            } => *first_may_be_empty && *second_may_be_empty,
+            Layout::Either { first, second, .. } => {
+                first.may_be_empty() || second.may_be_empty()
+            }
+            Layout::Opt(_) => true,
+            Layout::Plus { member, .. } => member.may_be_empty(),
+        }
+    }
+}
+
+/// Lays the part out, and adds its places.
+#[cycle(lay_out)]
+pub fn lay_out(alloc: Global, part: &Part, places: &mut Places) -> Result<Layout, NoMemory>
+    ensures { IfOk result (λ l. IsLaidOut (plain_part part.now) (plain_layout l) places.old places.new) }
+{
+    match part {
+        Part::Name(name) => Ok(Layout::Name {
+            place: places.add_name(alloc, name.0)?,
+            name: name.0,
+        }),
+        Part::Seq(parts) => lay_out_in_order(alloc, parts, places),
+        Part::Choice(parts) => lay_out_choice(alloc, parts, places),
+        Part::Opt(inner) => {
+            let member = lay_out(alloc, inner, places)?;
+            Ok(Layout::Opt(Box::new(alloc, member)?))
+        }
+        Part::Star(inner) => {
+            let rounds = lay_out_rounds(alloc, inner, places)?;
+            Ok(Layout::Opt(Box::new(alloc, rounds)?))
+        }
+        Part::Plus(inner) => lay_out_rounds(alloc, inner, places),
+    }
+}
+
+#[cycle(lay_out)]
+fn lay_out_rounds(alloc: Global, inner: &Part, places: &mut Places) -> Result<Layout, NoMemory>
+    ensures { IfOk result (λ l. IsLaidOut (plus (plain_part inner.now)) (plain_layout l) places.old places.new) }
+{
+    let member = lay_out(alloc, inner, places)?;
+    let place = places.add()?;
+    Ok(Layout::Plus {
+        place,
+        member: Box::new(alloc, member)?,
+    })
+}
+
+#[cycle(lay_out)]
+fn lay_out_in_order(alloc: Global, parts: &[Part], places: &mut Places) -> Result<Layout, NoMemory>
+    ensures { IfOk result (λ l. IsLaidOut (seq (plain_parts parts.now)) (plain_layout l) places.old places.new) }
+{
+    match parts {
+        [] => Ok(Layout::Blank),
+        [only] => lay_out(alloc, only, places),
+        _ => {
+            let (front, back) = parts.split_at(parts.len() / 2);
+            let first = lay_out_in_order(alloc, front, places)?;
+            let middle = places.count();
+            let second = lay_out_in_order(alloc, back, places)?;
+            Ok(Layout::InOrder {
+                middle,
+                first_may_be_empty: first.may_be_empty(),
+                second_may_be_empty: second.may_be_empty(),
+                first: Box::new(alloc, first)?,
+                second: Box::new(alloc, second)?,
+            })
+        }
+    }
+}
+
+#[cycle(lay_out)]
+fn lay_out_choice(alloc: Global, parts: &[Part], places: &mut Places) -> Result<Layout, NoMemory>
+    ensures { IfOk result (λ l. IsLaidOut (choice (plain_parts parts.now)) (plain_layout l) places.old places.new) }
+{
+    match parts {
+        [] => Ok(Layout::Nothing),
+        [only] => lay_out(alloc, only, places),
+        _ => {
+            let (front, back) = parts.split_at(parts.len() / 2);
+            let first = lay_out_choice(alloc, front, places)?;
+            let middle = places.count();
+            let second = lay_out_choice(alloc, back, places)?;
+            Ok(Layout::Either {
+                middle,
+                first: Box::new(alloc, first)?,
+                second: Box::new(alloc, second)?,
+            })
+        }
+    }
+}
