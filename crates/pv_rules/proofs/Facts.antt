@@ -1,8 +1,8 @@
 -- What stands at the numbers within and behind a part.
-use Rattle.std.proofs.Common.{List, None, Some, ap, arith, length, length-append, refl, slice_get, suc, ℕ, ◌+◌, ◌++◌, ◌≡◌, ◌≤◌}
-use Rattle.pv_model.specs.Plain.{PlainPart, PlainParts, children, choice, mixed, name, opt, part, plus, seq, star}
-use Rattle.pv_dtd.specs.Plain.{PlainDtd, model_of, parts_in, parts_in_models}
-use Rattle.pv_rules.specs.Numbering.{IsMemberAt, first_part, numbered, numbered_models, part_at, rest_at}
+use Rattle.std.proofs.Common.{List, None, Some, [], ap, arith, length, length-append, refl, slice_get, suc, zero, ℕ, ◌+◌, ◌++◌, ◌∷◌, ◌≡◌, ◌≤◌}
+use Rattle.pv_model.specs.Plain.{PlainModel, PlainPart, PlainParts, children, choice, mixed, name, opt, part, plus, seq, star}
+use Rattle.pv_dtd.specs.Plain.{PlainDtd, model_of, parts_in, parts_in_model, parts_in_models}
+use Rattle.pv_rules.specs.Numbering.{IsMemberAt, first_part, numbered, numbered_models, part_at, parts_before, rest_at}
 use Rattle.pv_rules.specs.PartLaws.{PartsByNumber}
 use Rattle.pv_rules.proofs.Located.{first_holds, others_hold, part_after, part_holds, part_is, part_within, rest_holds, rest_is}
 use Rattle.pv_rules.proofs.Numbers.{choice_holds, length-models, length-numbered, listed_at, model_holds}
@@ -39,10 +39,16 @@ module _ (g : PlainDtd) where
         length-append (numbered p h.0) h.1.back,
       )
 
+contents_within : (ms : List PlainModel) (x : ℕ) (m : PlainModel) → slice_get ms x ≡ Some m → parts_before ms x + parts_in_model m ≤ parts_in_models ms
+contents_within [] x m e = absurd cc
+contents_within (n ∷ ms) zero m e = let i : n ≡ m = cc in let z = ap parts_in_model i in omega arith
+contents_within (n ∷ ms) (suc x) m e = let h = contents_within ms x m e in omega arith
+
 pub parts_by_number : (g : PlainDtd) → PartsByNumber g
 parts_by_number g = record {
   counted = length-models g.models;
   within = within g;
+  content_within = λ x m e. contents_within g.models x m e;
   listed = listed g;
   outermost = outermost g;
   in_opt = λ q p e. part_after g (opt p) p q refl e;

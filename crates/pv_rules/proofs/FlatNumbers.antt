@@ -88,9 +88,15 @@ contents_at (n ∷ ms) q zero m e = let i : n ≡ m = cc in let z : q + 0 ≡ q 
 contents_at (n ∷ ms) q (suc x) m e =
     let z : q + (parts_in_model n + parts_before ms x) ≡ q + parts_in_model n + parts_before ms x = omega arith in rw z (contents_at ms (q + parts_in_model n) x m e)
 
+no_content_at : (ms : List PlainModel) (q x : ℕ) → slice_get ms x ≡ None → slice_get (flat_contents q ms) x ≡ None
+no_content_at [] q x e = refl
+no_content_at (n ∷ ms) q zero e = absurd cc
+no_content_at (n ∷ ms) q (suc x) e = no_content_at ms (q + parts_in_model n) x e
+
 pub flat_by_number : (g : PlainDtd) → FlatByNumber g
 flat_by_number g = record {
   parts = λ q p e. entry g q ∙ some_entry g q p (slice_get (numbered_models g.models) q) e;
   no_more = λ q e. entry g q ∙ no_entry g q (slice_get (numbered_models g.models) q) e;
   contents = λ x m e. let z : 0 + parts_before g.models x ≡ parts_before g.models x = omega arith in rw z at (contents_at g.models 0 x m e);
+  no_content = λ x e. no_content_at g.models 0 x e;
 }

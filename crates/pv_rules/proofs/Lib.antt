@@ -9,3 +9,5 @@ pub mod Flattening
 pub mod FlatModels
 pub mod FlatNumbers
 pub mod SitesKept
+pub mod FlatKinds
+pub mod Formed

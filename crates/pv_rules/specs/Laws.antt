@@ -34,6 +34,10 @@ abbrev pub RulesAreOverSpans : PlainDtd → List PlainToken → Type 0
 RulesAreOverSpans g w = (s : PlainSite) (i j c : ℕ) (xs : List Goal) → Rule g w (over s i j) c xs →
     IsSpan w i j × AllByRecursion (λ x. (i ≤ x.from) × (x.from ≤ x.to) × (x.to ≤ j)) xs
 
+-- a rule costs at most 1, and has at most two right sides
+abbrev pub RulesAreSmall : PlainDtd → List PlainToken → Type 0
+RulesAreSmall g w = (s : PlainSite) (i j c : ℕ) (xs : List Goal) → Rule g w (over s i j) c xs → (c ≤ 1) × (length xs ≤ 2)
+
 -- a rule has one of the forms of what stands at its site
 abbrev pub RulesAreOfTheirKind : PlainDtd → List PlainToken → Type 0
 RulesAreOfTheirKind g w = (s : PlainSite) (i j c : ℕ) (xs : List Goal) → Rule g w (over s i j) c xs → OfSite g w i j c xs s

@@ -4,8 +4,8 @@ ghost use Rattle.std.specs.Prelude.{List};
 ghost use Rattle.pv_model.specs.Plain.{PlainToken};
 ghost use Rattle.pv_dtd.specs.Plain.{PlainDtd};
 ghost use Rattle.pv_rules.specs.Rules.{Goal, Rule};
-ghost use Rattle.pv_rules.specs.Laws.{AttainedAreWeights, ClosedIsBelow, ClosedSetHolds, OneWeight, RulesAreOfTheirKind, RulesAreOverSpans, RulesKeepSites, WeightsAreClosed};
-ghost use Rattle.pv_rules.specs.PartLaws.{FlatByNumber, PartsByNumber};
+ghost use Rattle.pv_rules.specs.Laws.{AttainedAreWeights, ClosedIsBelow, ClosedSetHolds, OneWeight, RulesAreOfTheirKind, RulesAreOverSpans, RulesAreSmall, RulesKeepSites, WeightsAreClosed};
+ghost use Rattle.pv_rules.specs.PartLaws.{FlatByNumber, PartsAreFormed, PartsByNumber};
 
 /// No derivation weighs less than a closed table says.
 pub fn closed_below_law()
@@ -37,6 +37,11 @@ pub fn spans_law()
     ensures { (g : PlainDtd) (w : List PlainToken) → RulesAreOverSpans g w }
 {}
 
+/// A rule costs at most 1, and has at most two right sides.
+pub fn small_law()
+    ensures { (g : PlainDtd) (w : List PlainToken) → RulesAreSmall g w }
+{}
+
 /// The rules of a site by what stands there.
 pub fn kinds_law()
     ensures { (g : PlainDtd) (w : List PlainToken) → RulesAreOfTheirKind g w }
@@ -50,6 +55,11 @@ pub fn sites_law()
 /// What stands at the numbers within and behind a part.
 pub fn parts_law()
     ensures { (g : PlainDtd) → PartsByNumber g }
+{}
+
+/// Each part is formed as the models are.
+pub fn formed_law()
+    ensures { (g : PlainDtd) → PartsAreFormed g }
 {}
 
 /// The parts laid out flat are those of the numbers.

@@ -1,0 +1,13 @@
+pub mod Spellings
+pub mod Grown
+pub mod Paid
+pub mod SizeLaws
+pub mod Weighing
+pub mod LeastSums
+pub mod Passing
+pub mod Flattened
+pub mod Cutting
+pub mod Raising
+pub mod Settled
+pub mod RegularDtds
+pub mod Sized

@@ -1,0 +1,16 @@
+use Rattle.std.proofs.Common.{subst}
+use Rattle.std.proofs.lemmas.List.{length-map}
+use Rattle.pv_dtd.specs.Reads.{plain_dtd}
+use Rattle.pv_productive.specs.PlainForms.{table_of}
+use Rattle.pv_productive.specs.Tables.{ArePartsSettled, IsRaised}
+use Rattle.pv_productive.proofs.Raising.{all_raised}
+use Rattle.pv_productive.proofs.raise.raise_all.Goals as goal
+
+pub returns : goal.returns
+returns c =
+    let n = c.parts.ensures in
+    all_raised (plain_dtd c.args.layout.now.dtd) (table_of c.args.sizes.now) (table_of c.raise_parts-parts.new.sizes) (table_of c.raise_names-names.new.sizes)
+    c.raise_parts-parts.result c.raise_names-names.result (simp length-map c.args.layout.now.dtd.named) c.requires
+    (subst (λ x. IsRaised (plain_dtd c.args.layout.now.dtd) (ArePartsSettled (plain_dtd c.args.layout.now.dtd) 0 x) (table_of c.args.sizes.now)
+    (table_of c.raise_parts-parts.new.sizes) c.raise_parts-parts.result) (rw c.dtd.ensures at n) c.raise_parts-parts.ensures)
+    c.raise_names-names.ensures

@@ -1,0 +1,7 @@
+use Rattle.pv_dtd.specs.Reads.{plain_dtd}
+use Rattle.pv_productive.specs.PlainForms.{table_of}
+use Rattle.pv_productive.specs.Tables.{IsAttained}
+use Rattle.pv_productive.proofs.spread.spread.Given as goal
+
+abbrev pub invariant-loop : goal.invariant-loop
+invariant-loop l = IsAttained (plain_dtd l.layout.dtd) (table_of l.sizes)

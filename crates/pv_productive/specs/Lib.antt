@@ -1,0 +1,5 @@
+pub mod Regular
+pub mod Sizes
+pub mod Laws
+pub mod Tables
+pub mod PlainForms
