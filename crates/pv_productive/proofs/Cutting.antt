@@ -1,6 +1,6 @@
 -- Sums of sizes, cut.
-use Rattle.std.specs.Prelude.{min, nat_le}
-use Rattle.std.proofs.Common.{Bool, arith, false, if◌then◌else◌, inl, inr, refl, true, ℕ, ◌<◌, ◌≡◌, ◌≤◌, ◌⊎◌, ap, ◌∙◌}
+use Rattle.std.specs.Prelude.{min}
+use Rattle.std.proofs.Common.{arith, if◌then◌else◌, inl, inr, ℕ, ◌<◌, ◌≡◌, ◌≤◌, ap}
 use Rattle.std.proofs.lemmas.Bool.{cases_lt, le-leb, lt-leb}
 use Rattle.pv_rules.specs.Derivations.{heaviest}
 use Rattle.pv_productive.specs.Tables.{cut, no_size}

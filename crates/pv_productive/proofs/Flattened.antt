@@ -1,5 +1,5 @@
 -- The parts laid out flat of a layout are those of its DTD.
-use Rattle.pv_dtd.specs.Reads.{plain_dtd}
+use Rattle.pv_dtd.specs.PlainForms.{plain_dtd}
 use Rattle.pv_rules.specs.PlainForms.{IsFlat}
 use Rattle.pv_productive.specs.declared.layout.Layout.{Layout}
 

@@ -1,9 +1,9 @@
 -- What has a derivation over no tokens has a hedge of good elements, as many as the derivation weighs.
-use Rattle.std.proofs.Common.{List, Some, [], ap, append-nil, append_assoc, arith, inl, inr, map, refl, slice_get, suc, sym, ℕ, ◌++◌, ◌+◌, ◌∙◌, ◌∷◌, ◌≡◌}
+use Rattle.std.proofs.Common.{List, Some, [], ap, append-nil, append_assoc, arith, inl, inr, map, refl, suc, sym, ℕ, ◌++◌, ◌+◌, ◌∙◌, ◌∷◌, ◌≡◌}
 use Rattle.std.proofs.lemmas.List.{map-append}
-use Rattle.pv_model.specs.Plain.{PlainModel, PlainPart, PlainParts, PlainToken, any, children, choice, empty, mixed, name, named, no_parts, opt, part, plus, seq, star}
-use Rattle.pv_model.specs.Models.{Matches, MatchesAll, MatchesSome, no_round, round}
-use Rattle.pv_dtd.specs.Plain.{PlainDtd, model_of, spelling_of}
+use Rattle.pv_model.specs.Plain.{PlainPart, PlainParts, any, children, choice, empty, mixed, name, named, no_parts, opt, part, plus, seq, star}
+use Rattle.pv_model.specs.Models.{Matches, MatchesAll, MatchesSome, no_round}
+use Rattle.pv_dtd.specs.Plain.{PlainDtd, spelling_of}
 use Rattle.pv_dtd.specs.Hedge.{AreGood, Fits, Hedge, done, elem, elements, word}
 use Rattle.pv_rules.specs.Derivations.{Derives}
 use Rattle.pv_rules.specs.Numbering.{IsMemberAt, first_part, here, later, part_at, rest_at}

@@ -3,7 +3,7 @@ use Rattle.std.proofs.Common.{List, None, Option, Some, [], ap, arith, length, r
 use Rattle.pv_model.specs.Plain.{PlainModel, PlainPart, PlainParts, any, children, choice, empty, mixed, name, no_parts, opt, part, plus, seq, star}
 use Rattle.pv_dtd.specs.Facts.{is_formed}
 use Rattle.pv_dtd.specs.Plain.{PlainDtd, model_of, parts_in, parts_in_models}
-use Rattle.pv_rules.specs.Flat.{content_kind_of, flat_contents, one_content}
+use Rattle.pv_rules.specs.Flat.{content_kind_of, one_content}
 use Rattle.pv_rules.specs.Kinds.{OfPart}
 use Rattle.pv_rules.specs.Numbering.{first_part, part_at, rest_at}
 use Rattle.pv_rules.specs.PlainForms.{IsFlat}

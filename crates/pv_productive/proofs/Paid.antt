@@ -1,15 +1,15 @@
 -- What a good hedge holds has derivations over no tokens, which weigh no more than its elements.
-use Rattle.std.specs.Prelude.{IsTrue, nat_le, not, ◌&&◌}
+use Rattle.std.specs.Prelude.{nat_le, not}
 use Rattle.std.proofs.Common.{List, None, Option, Some, [], arith, inl, inr, map, refl, subst, suc, true, ℕ, ◌++◌, ◌+◌, ◌∷◌, ◌≡◌, ◌≤◌}
 use Rattle.std.proofs.lemmas.Bool.{and_parts}
 use Rattle.pv_model.specs.Plain.{PlainModel, PlainPart, PlainParts, PlainToken, any, children, choice, empty, mixed, name, named, no_parts, opt, part, plus, seq, star}
-use Rattle.pv_model.specs.Models.{Allows, Matches, MatchesAll, MatchesSome, Rounds}
+use Rattle.pv_model.specs.Models.{Allows, Matches, MatchesAll, MatchesSome}
 use Rattle.pv_dtd.specs.Facts.{are_formed, has_operator, is_formed, members}
 use Rattle.pv_dtd.specs.Plain.{PlainDtd, declared, model_of, number_of, parts_in}
 use Rattle.pv_dtd.specs.Hedge.{AreGood, Fits, Hedge, cdata, data_unit, done, elem, elements, leaf, misc, token, white, word}
-use Rattle.pv_rules.specs.Derivations.{DeriveAll, Derives, by_rule, none_left, one_more}
+use Rattle.pv_rules.specs.Derivations.{Derives, by_rule, none_left, one_more}
 use Rattle.pv_rules.specs.Numbering.{IsMemberAt, first_part, here, later, part_at, rest_at}
-use Rattle.pv_rules.specs.Rules.{Goal, IsSpan, Rule, any_none, children_part, empty_none, missing, mixed_none, opt_none, over, part_choice, part_name, part_seq, plus_one, rest_last, rest_then, star_none}
+use Rattle.pv_rules.specs.Rules.{IsSpan, Rule, any_none, children_part, empty_none, missing, mixed_none, opt_none, over, part_choice, part_name, part_seq, plus_one, rest_last, rest_then, star_none}
 use Rattle.pv_rules.specs.Sites.{PlainSite, content_site, name_site, part_site, rest_site}
 use Rattle.pv_rules.proofs.Facts.{parts_by_number}
 use Rattle.pv_rules.proofs.Formed.{parts_formed}

@@ -2,13 +2,13 @@
 use Rattle.std.specs.Prelude.{min}
 use Rattle.std.specs.List.{AllByRecursion}
 use Rattle.std.specs.Coded.{le_prop}
-use Rattle.std.proofs.Common.{List, None, Option, Some, [], arith, inl, inr, length, refl, suc, ℕ, ◌+◌, ◌<◌, ◌∷◌, ◌≡◌, ◌≤◌}
+use Rattle.std.proofs.Common.{List, [], arith, inl, inr, length, refl, suc, ℕ, ◌+◌, ◌<◌, ◌∷◌, ◌≡◌, ◌≤◌}
 use Rattle.std.proofs.Math.Logic.{∥∥₁_elim, ∥∥₁_map}
 use Rattle.std.proofs.lemmas.Bool.{cases_lt}
 use Rattle.pv_dtd.specs.Plain.{PlainDtd}
 use Rattle.pv_dtd.specs.Hedge.{AreGood, Fits, Hedge, elements}
 use Rattle.pv_dtd.specs.Productive.{IsLeastSize, IsProductive}
-use Rattle.pv_rules.specs.Derivations.{Derives, IsClosed, IsClosedSet, heaviest, sum_of}
+use Rattle.pv_rules.specs.Derivations.{IsClosed, IsClosedSet, heaviest, sum_of}
 use Rattle.pv_rules.specs.Rules.{Goal, Rule, missing, over}
 use Rattle.pv_rules.specs.Sites.{PlainSite, content_site, name_site}
 use Rattle.pv_rules.proofs.Derived.{closed_below, held}
@@ -16,7 +16,7 @@ use Rattle.pv_rules.proofs.Spans.{over_spans, small_rules}
 use Rattle.pv_productive.specs.Regular.{IsRegular}
 use Rattle.pv_productive.specs.Sizes.{IsCutSize}
 use Rattle.pv_productive.specs.Tables.{AreSizes, IsAttained, IsSettled, Table, cut, no_size, size_at, size_of, total}
-use Rattle.pv_productive.proofs.Cutting.{cut_few, cut_least}
+use Rattle.pv_productive.proofs.Cutting.{cut_few}
 use Rattle.pv_productive.proofs.Grown.{grown}
 use Rattle.pv_productive.proofs.Paid.{Nothing, by_one, derived, none_span}
 use Rattle.pv_productive.proofs.Weighing.{derivation, weigh}

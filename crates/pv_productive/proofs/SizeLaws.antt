@@ -1,7 +1,7 @@
 -- The laws of productive names.
 use Rattle.std.proofs.Common.{arith, suc, ℕ, ◌≡◌}
 use Rattle.pv_dtd.specs.Plain.{PlainDtd}
-use Rattle.pv_dtd.specs.Productive.{IsLeastSize, IsProductive}
+use Rattle.pv_dtd.specs.Productive.{IsLeastSize}
 use Rattle.pv_productive.specs.Laws.{IsLeastOverNothing, ProductiveDerives, SizeIsWeight}
 use Rattle.pv_productive.specs.Regular.{IsRegular}
 use Rattle.pv_rules.specs.Rules.{over}

@@ -1,6 +1,6 @@
 -- What the sizes of a grammar say of its names.
 use Rattle.std.specs.Coded.{le_prop}
-use Rattle.std.proofs.Common.{arith, inl, inr, suc, subst, sym, ℕ, ◌<◌, ◌≡◌, ◌≤◌}
+use Rattle.std.proofs.Common.{inl, inr, subst, sym, ℕ, ◌<◌, ◌≡◌}
 use Rattle.std.proofs.Math.Logic.{∥∥₁_elim, ∥∥₁_map}
 use Rattle.std.proofs.lemmas.Bool.{cases_lt}
 use Rattle.pv_dtd.specs.Productive.{IsProductive}
@@ -9,7 +9,7 @@ use Rattle.pv_productive.specs.Sizes.{IsCutSize}
 use Rattle.pv_productive.specs.Tables.{no_size, size_at}
 use Rattle.pv_productive.specs.declared.grammar.Grammar.{Grammar}
 use Rattle.pv_productive.proofs.RegularDtds.{regular}
-use Rattle.pv_productive.proofs.Settled.{productive_held, size_held}
+use Rattle.pv_productive.proofs.Settled.{size_held}
 
 module _ (g : Grammar) (y v : ℕ) (e : v ≡ size_at g.sizes.items y) where
   pub cut_size : v < no_size → IsCutSize (dtd_of g) y v

@@ -1,12 +1,11 @@
 -- Each site has a weight over no tokens, wherever weights are cut; so what merely has a derivation has one.
-use Rattle.std.specs.Prelude.{IsTrue, nat_le}
 use Rattle.std.specs.Coded.{le_prop}
-use Rattle.std.proofs.Common.{Bool, List, None, Option, Some, [], arith, ap, false, inl, inr, refl, subst, suc, true, zero, ℕ, ◌+◌, ◌<◌, ◌∷◌, ◌≡◌, ◌≤◌, ◌⊎◌}
+use Rattle.std.proofs.Common.{List, None, Option, Some, [], arith, ap, inl, inr, refl, subst, suc, zero, ℕ, ◌+◌, ◌<◌, ◌∷◌, ◌≡◌, ◌≤◌, ◌⊎◌}
 use Rattle.std.proofs.Math.Logic.{∥∥₁_elim}
-use Rattle.std.proofs.lemmas.Bool.{cases_lt, le-leb, leb-true}
+use Rattle.std.proofs.lemmas.Bool.{cases_lt}
 use Rattle.pv_model.specs.Plain.{PlainModel, PlainPart, PlainParts, any, children, choice, empty, mixed, name, no_parts, opt, part, plus, seq, star}
 use Rattle.pv_dtd.specs.Plain.{PlainDtd, model_of, parts_in}
-use Rattle.pv_rules.specs.Derivations.{DeriveAll, Derives, by_rule, none_left, one_more}
+use Rattle.pv_rules.specs.Derivations.{DeriveAll, by_rule, none_left, one_more}
 use Rattle.pv_rules.specs.Kinds.{OfContent, OfName, OfPart, OfRest}
 use Rattle.pv_rules.specs.Numbering.{IsMemberAt, first_part, here, later, part_at, rest_at}
 use Rattle.pv_rules.specs.Rules.{Goal, Rule, any_none, children_part, empty_none, missing, mixed_none, opt_none, over, part_choice, part_name, part_seq, plus_one, rest_last, rest_then, star_none}

@@ -1,6 +1,6 @@
 -- The plain forms of a table of sizes and of the DTD of a grammar.
 use Rattle.pv_dtd.specs.Plain.{PlainDtd}
-use Rattle.pv_dtd.specs.Reads.{plain_dtd}
+use Rattle.pv_dtd.specs.PlainForms.{plain_dtd}
 use Rattle.pv_productive.specs.Tables.{Table}
 use Rattle.pv_productive.specs.declared.grammar.Grammar.{Grammar}
 use Rattle.pv_productive.specs.declared.sizes.Sizes.{Sizes}

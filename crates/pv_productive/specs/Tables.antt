@@ -1,5 +1,5 @@
 -- Tables of sizes that are raised until nothing changes, over no tokens.
-use Rattle.std.specs.Prelude.{Bool, List, Option, Some, None, [], false, length, min, nat_le, slice_index_or, slice_set, suc, sum, true, ℕ, if◌then◌else◌, ◌+◌, ◌<◌, ◌≡◌, ◌≤◌, ◌∷◌}
+use Rattle.std.specs.Prelude.{Bool, List, Option, Some, None, [], false, length, min, nat_le, slice_index_or, slice_set, suc, sum, true, ℕ, if◌then◌else◌, ◌+◌, ◌<◌, ◌≡◌, ◌≤◌}
 use Rattle.pv_model.specs.Plain.{PlainModel, PlainPart, PlainParts, any, children, choice, empty, mixed}
 use Rattle.pv_dtd.specs.Plain.{PlainDtd, model_of, parts_in_all, parts_in_models}
 use Rattle.pv_dtd.specs.Productive.{IsProductive}

@@ -1,6 +1,6 @@
 //! A DTD together with the least size of each of its names.
 
-ghost use Rattle.pv_dtd.specs.Reads.{plain_dtd};
+ghost use Rattle.pv_dtd.specs.PlainForms.{plain_dtd};
 ghost use Rattle.pv_productive.specs.Tables.{AreSizes};
 
 use crate::layout::Layout;
@@ -20,7 +20,7 @@ pub struct Grammar {
 impl Grammar {
     ghost use Rattle.std.specs.Prelude.{◌≡◌, ◌<◌, ◌↔◌, IfOk, IsTrue, MatchOption, length};
     ghost use Rattle.pv_dtd.specs.Productive.{IsProductive};
-    ghost use Rattle.pv_dtd.specs.Reads.{plain_dtd};
+    ghost use Rattle.pv_dtd.specs.PlainForms.{plain_dtd};
     ghost use Rattle.pv_rules.specs.PlainForms.{IsFlat};
     ghost use Rattle.pv_productive.specs.PlainForms.{dtd_of};
     ghost use Rattle.pv_productive.specs.Sizes.{IsCutSize};

@@ -1,6 +1,6 @@
 //! The laws of productive names, each the contract of a function that does nothing.
 
-ghost use Rattle.pv_dtd.specs.Reads.{plain_dtd};
+ghost use Rattle.pv_dtd.specs.PlainForms.{plain_dtd};
 ghost use Rattle.pv_productive.specs.Laws.{ProductiveDerives, SizeIsWeight};
 ghost use Rattle.pv_productive.specs.Regular.{IsRegular};
 

@@ -1,7 +1,7 @@
 //! A DTD with its parts laid out flat.
 
 ghost use Rattle.std.specs.Prelude.{◌≡◌};
-ghost use Rattle.pv_dtd.specs.Reads.{plain_dtd};
+ghost use Rattle.pv_dtd.specs.PlainForms.{plain_dtd};
 ghost use Rattle.pv_rules.specs.Flat.{flat_contents, flat_parts};
 
 use pv_dtd::Dtd;
@@ -20,7 +20,7 @@ pub struct Layout {
 
 impl Layout {
     ghost use Rattle.std.specs.Prelude.{◌≡◌, IfOk, slice_get};
-    ghost use Rattle.pv_dtd.specs.Reads.{plain_dtd};
+    ghost use Rattle.pv_dtd.specs.PlainForms.{plain_dtd};
     ghost use Rattle.pv_rules.specs.PlainForms.{IsFlat};
 
     /// Lays out the parts of a DTD.

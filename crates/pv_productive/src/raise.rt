@@ -2,7 +2,7 @@
 
 ghost use Rattle.std.specs.Prelude.{ℕ, ◌≡◌, ◌≤◌, ◌+◌, ◌<◌, ◌^◌, length};
 ghost use Rattle.pv_dtd.specs.Plain.{parts_in_models};
-ghost use Rattle.pv_dtd.specs.Reads.{plain_dtd};
+ghost use Rattle.pv_dtd.specs.PlainForms.{plain_dtd};
 ghost use Rattle.pv_rules.specs.Sites.{name_site, part_site, rest_site};
 ghost use Rattle.pv_productive.specs.PlainForms.{table_of};
 ghost use Rattle.pv_productive.specs.Tables.{AreNamesSettled, ArePartsSettled, IsAttained, IsRaised, IsSettled, IsSettledAt};

@@ -1,7 +1,7 @@
 //! Building a grammar.
 
 ghost use Rattle.std.specs.Prelude.{◌≡◌, IfOk};
-ghost use Rattle.pv_dtd.specs.Reads.{plain_dtd};
+ghost use Rattle.pv_dtd.specs.PlainForms.{plain_dtd};
 ghost use Rattle.pv_productive.specs.PlainForms.{dtd_of};
 
 use crate::grammar::Grammar;

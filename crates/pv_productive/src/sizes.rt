@@ -37,7 +37,7 @@ pub fn cut(sum: u64) -> u32
 
 impl Sizes {
     ghost use Rattle.std.specs.Prelude.{◌≡◌, IfOk};
-    ghost use Rattle.pv_dtd.specs.Reads.{plain_dtd};
+    ghost use Rattle.pv_dtd.specs.PlainForms.{plain_dtd};
     ghost use Rattle.pv_productive.specs.PlainForms.{table_of};
     ghost use Rattle.pv_productive.specs.Tables.{IsAttained, size_at};
 

@@ -1,7 +1,7 @@
 //! Lowering sizes where they may be lowered: a content model is looked at again when a name that it mentions has a smaller size.
 
 ghost use Rattle.std.specs.Prelude.{OnOk};
-ghost use Rattle.pv_dtd.specs.Reads.{plain_dtd};
+ghost use Rattle.pv_dtd.specs.PlainForms.{plain_dtd};
 ghost use Rattle.pv_productive.specs.PlainForms.{table_of};
 ghost use Rattle.pv_productive.specs.Tables.{IsAttained};
 

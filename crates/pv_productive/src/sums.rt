@@ -1,7 +1,7 @@
 //! The least number of elements that the rules of the missing grammar give a site over no tokens, by the sizes found so far.
 
 ghost use Rattle.std.specs.Prelude.{◌≡◌, ◌+◌, ◌<◌, ◌^◌};
-ghost use Rattle.pv_dtd.specs.Reads.{plain_dtd};
+ghost use Rattle.pv_dtd.specs.PlainForms.{plain_dtd};
 ghost use Rattle.pv_rules.specs.Sites.{content_site, name_site, part_site, rest_site};
 ghost use Rattle.pv_productive.specs.PlainForms.{table_of};
 ghost use Rattle.pv_productive.specs.Tables.{IsChoiceAt, IsLeastMember, IsLeastSum, size_of};

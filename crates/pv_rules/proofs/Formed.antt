@@ -1,10 +1,10 @@
 -- Each part is formed as the models are.
-use Rattle.std.specs.Prelude.{IsTrue, nat_le, not, option_map, slice_get, ◌&&◌}
+use Rattle.std.specs.Prelude.{IsTrue, nat_le, not, option_map, slice_get}
 use Rattle.std.specs.List.{AllByRecursion, list_all}
 use Rattle.std.proofs.Common.{List, None, Option, Some, [], map, refl, suc, true, zero, ℕ, ◌++◌, ◌≡◌, ◌∷◌}
 use Rattle.std.proofs.lemmas.Bool.{and_parts}
 use Rattle.pv_model.specs.Plain.{PlainModel, PlainPart, PlainParts, any, children, choice, empty, mixed, name, no_parts, opt, part, plus, seq, star}
-use Rattle.pv_dtd.specs.Facts.{MOST_NESTING, are_formed, has_operator, is_formed, is_formed_model, members, nesting}
+use Rattle.pv_dtd.specs.Facts.{MAX_NESTING, are_formed, has_operator, is_formed, is_formed_model, members, nesting}
 use Rattle.pv_dtd.specs.Plain.{PlainDtd}
 use Rattle.pv_rules.specs.Numbering.{Numbered, listed_name, numbered, numbered_choices, numbered_members, numbered_model, numbered_models}
 use Rattle.pv_rules.specs.PartLaws.{PartsAreFormed}
@@ -45,7 +45,7 @@ model_formed : (m : PlainModel) → is_formed_model m ≡ true → AreAllFormed 
 model_formed empty e = tt
 model_formed any e = tt
 model_formed (mixed ys) e = listed_formed ys
-model_formed (children p) e = formed p None (and_parts (is_formed p) (nat_le (nesting p) MOST_NESTING) e).0
+model_formed (children p) e = formed p None (and_parts (is_formed p) (nat_le (nesting p) MAX_NESTING) e).0
 
 models_formed : (ms : List PlainModel) → list_all is_formed_model ms ≡ true → AreAllFormed (numbered_models ms)
 models_formed [] e = tt

@@ -1,6 +1,6 @@
 use Rattle.std.proofs.Common.{subst}
 use Rattle.std.proofs.lemmas.List.{length-map}
-use Rattle.pv_dtd.specs.Reads.{plain_dtd}
+use Rattle.pv_dtd.specs.PlainForms.{plain_dtd}
 use Rattle.pv_productive.specs.PlainForms.{table_of}
 use Rattle.pv_productive.specs.Tables.{ArePartsSettled, IsRaised}
 use Rattle.pv_productive.proofs.Raising.{all_raised}

@@ -1,6 +1,6 @@
 use Rattle.std.proofs.Common.{arith, sym}
 use Rattle.std.proofs.lemmas.List.{length-map}
-use Rattle.pv_dtd.specs.Reads.{plain_dtd}
+use Rattle.pv_dtd.specs.PlainForms.{plain_dtd}
 use Rattle.pv_productive.proofs.Flattened.{flattened}
 use Rattle.pv_productive.proofs.LeastSums.{content_within}
 use Rattle.pv_productive.proofs.raise.raise_content.Goals as goal

@@ -1,5 +1,5 @@
-use Rattle.std.proofs.Common.{ap, subst, ◌∙◌, ◌≡◌}
-use Rattle.pv_dtd.specs.Reads.{plain_dtd}
+use Rattle.std.proofs.Common.{subst, ◌≡◌}
+use Rattle.pv_dtd.specs.PlainForms.{plain_dtd}
 use Rattle.pv_productive.specs.PlainForms.{table_of}
 use Rattle.pv_productive.specs.Tables.{IsLowered, cut}
 use Rattle.pv_productive.proofs.Raising.{raised_rest}

@@ -1,4 +1,4 @@
-use Rattle.pv_dtd.specs.Reads.{plain_dtd}
+use Rattle.pv_dtd.specs.PlainForms.{plain_dtd}
 use Rattle.pv_productive.specs.PlainForms.{table_of}
 use Rattle.pv_productive.specs.Tables.{IsAttained, sum_in}
 use Rattle.pv_productive.proofs.settle.build.Given as goal

@@ -1,8 +1,8 @@
-use Rattle.std.proofs.Common.{Some, arith, inl, inr, refl, suc, sym, ◌+◌, ◌<◌, ◌≡◌}
+use Rattle.std.proofs.Common.{Some, arith, inl, inr, refl, suc, sym, ◌+◌, ◌≡◌}
 use Rattle.std.proofs.lemmas.Bool.{cases_lt}
 use Rattle.pv_model.specs.Plain.{PlainPart, PlainParts, choice}
-use Rattle.pv_dtd.specs.Plain.{parts_in, parts_in_all}
-use Rattle.pv_dtd.specs.Reads.{plain_dtd}
+use Rattle.pv_dtd.specs.Plain.{parts_in}
+use Rattle.pv_dtd.specs.PlainForms.{plain_dtd}
 use Rattle.pv_rules.specs.Numbering.{IsMemberAt, part_at}
 use Rattle.pv_rules.proofs.Facts.{parts_by_number}
 use Rattle.pv_rules.proofs.FlatKinds.{end_of, some_flat}

@@ -1,6 +1,6 @@
 use Rattle.std.proofs.Common.{Some, ◌-◌, ◌≡◌}
 use Rattle.pv_model.specs.Plain.{PlainParts, choice}
-use Rattle.pv_dtd.specs.Reads.{plain_dtd}
+use Rattle.pv_dtd.specs.PlainForms.{plain_dtd}
 use Rattle.pv_rules.specs.Numbering.{part_at}
 use Rattle.pv_productive.specs.PlainForms.{table_of}
 use Rattle.pv_productive.proofs.Passing.{IsPassed}

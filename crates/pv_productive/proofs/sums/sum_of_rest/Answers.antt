@@ -1,5 +1,5 @@
-use Rattle.std.proofs.Common.{arith, sym, ◌+◌}
-use Rattle.pv_dtd.specs.Reads.{plain_dtd}
+use Rattle.std.proofs.Common.{arith, sym}
+use Rattle.pv_dtd.specs.PlainForms.{plain_dtd}
 use Rattle.pv_rules.proofs.FlatKinds.{followed_at, last_at, no_rest, outside_at}
 use Rattle.pv_productive.specs.PlainForms.{table_of}
 use Rattle.pv_productive.proofs.Flattened.{flattened}

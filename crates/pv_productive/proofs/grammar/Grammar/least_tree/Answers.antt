@@ -1,6 +1,4 @@
-use Rattle.std.proofs.Common.{arith, subst, sym, ◌<◌, ◌∙◌, ◌≡◌}
-use Rattle.pv_productive.specs.PlainForms.{dtd_of}
-use Rattle.pv_productive.specs.Sizes.{IsCutSize}
+use Rattle.std.proofs.Common.{arith, ◌∙◌, ◌≡◌}
 use Rattle.pv_productive.specs.Tables.{size_at}
 use Rattle.pv_productive.proofs.Sized.{cut_size, size_small}
 use Rattle.pv_productive.proofs.grammar.Grammar.least_tree.Goals as goal
