@@ -1,4 +1,8 @@
 //! A counter of steps that takes no bytes and does nothing at run time.
+//!
+//! Its value is a ghost, seen by contracts alone: a counter begins at 0 (`start`), and each `tick` makes it one more. So
+//! nothing can read it while a program runs, and a test of it would only show that its calls return: what it counts is
+//! proved, at each call that takes one, and tested by none.
 #![tactic(auto)]
 
 ghost use Rattle.std.specs.Prelude.{◌≡◌, ℕ, ◌+◌, ◌<◌};
@@ -6,7 +10,7 @@ ghost use Rattle.std.specs.Prelude.{◌≡◌, ℕ, ◌+◌, ◌<◌};
 use std::marker::Model;
 use std::sync::ledger::{Blank, Book, Ledger, Share};
 
-/// How many steps were taken. Only `tick` changes it.
+/// How many steps were taken, as a ghost. Only `tick` changes it.
 ///
 /// A step is one check of a child list.
 #[derive(Drop)]
@@ -24,7 +28,7 @@ impl<L: Ledger> Model for Steps<L> {
 }
 
 impl<L: Ledger> Steps<L> {
-    /// A counter that stands at 0.
+    /// A counter that stands at 0, over a blank book of its ledger.
     pub fn start(blank: Blank) -> Steps<L>
         requires name { blank.name ≡ L.name }
         requires parts { blank.parts ≡ L.parts }
