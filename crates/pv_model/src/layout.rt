@@ -91,7 +91,8 @@ pub fn lay_out(alloc: Global, part: &Part, places: &mut Places) -> Result<Layout
 
 #[cycle(lay_out)]
 fn lay_out_rounds(alloc: Global, inner: &Part, places: &mut Places) -> Result<Layout, NoMemory>
-    ensures { IfOk result (λ l. IsLaidOut (plus (plain_part inner.now)) (plain_layout l) places.old places.new) }
+    ensures { IfOk result (λ l.
+        IsLaidOut (plus (plain_part inner.now)) (plain_layout l) places.old places.new) }
 {
     let member = lay_out(alloc, inner, places)?;
     let place = places.add()?;
@@ -103,7 +104,8 @@ fn lay_out_rounds(alloc: Global, inner: &Part, places: &mut Places) -> Result<La
 
 #[cycle(lay_out)]
 fn lay_out_in_order(alloc: Global, parts: &[Part], places: &mut Places) -> Result<Layout, NoMemory>
-    ensures { IfOk result (λ l. IsLaidOut (seq (plain_parts parts.now)) (plain_layout l) places.old places.new) }
+    ensures { IfOk result (λ l.
+        IsLaidOut (seq (plain_parts parts.now)) (plain_layout l) places.old places.new) }
 {
     match parts {
         [] => Ok(Layout::Blank),
@@ -126,7 +128,8 @@ fn lay_out_in_order(alloc: Global, parts: &[Part], places: &mut Places) -> Resul
 
 #[cycle(lay_out)]
 fn lay_out_choice(alloc: Global, parts: &[Part], places: &mut Places) -> Result<Layout, NoMemory>
-    ensures { IfOk result (λ l. IsLaidOut (choice (plain_parts parts.now)) (plain_layout l) places.old places.new) }
+    ensures { IfOk result (λ l.
+        IsLaidOut (choice (plain_parts parts.now)) (plain_layout l) places.old places.new) }
 {
     match parts {
         [] => Ok(Layout::Nothing),

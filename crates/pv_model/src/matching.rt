@@ -28,7 +28,8 @@ pub fn matches(
     declared: u32,
     word: &[Token],
 ) -> Result<bool, NoMemory>
-    ensures { IfOk result (λ b. IsTrue b ↔ Allows declared (plain_model model.now) (map plain_token word.now)) }
+    ensures { IfOk result (λ b. IsTrue b ↔
+        Allows declared (plain_model model.now) (map plain_token word.now)) }
 {
     match model {
         ContentModel::Empty => Ok(word.is_empty()),

@@ -30,7 +30,8 @@ pub fn has_mixed(alloc: Global, names: &[NameId], word: &[Token]) -> Result<bool
 }
 
 fn are_listed(names: &[NameId], word: &[Token]) -> bool
-    ensures { IsTrue result ↔ AllByRecursion (IsOfMixed (numbers_of names.now)) (map plain_token word.now) }
+    ensures { IsTrue result ↔
+        AllByRecursion (IsOfMixed (numbers_of names.now)) (map plain_token word.now) }
 {
     for token in word {
         if !is_listed(names, *token) {
@@ -52,7 +53,8 @@ fn is_listed(names: &[NameId], token: Token) -> bool
 
 /// The numbers of the names.
 fn set_of(alloc: Global, names: &[NameId]) -> Result<HashSet<u32>, NoMemory>
-    ensures { IfOk result (λ s. (y : ℕ) → IsTrue (contains nat_eq s y) ↔ Contains (numbers_of names.now) y) }
+    ensures { IfOk result (λ s. (y : ℕ) →
+        IsTrue (contains nat_eq s y) ↔ Contains (numbers_of names.now) y) }
 {
     let mut numbers = HashSet::new(alloc);
     for name in names {

@@ -58,7 +58,8 @@ impl Places {
     pub fn add_name(&mut self, alloc: Global, name: u32) -> Result<usize, NoMemory>
         ensures place { IfOk result (λ place. place ≡ self.old.count) }
         ensures count { OnOk result (self.new.count ≡ self.old.count + 1) }
-        ensures places { OnOk result ((y : ℕ) → listed self.new y ≡ listed self.old y ++ (if name == y then self.old.count ∷ [] else [])) }
+        ensures places { OnOk result ((y : ℕ) → listed self.new y ≡
+            listed self.old y ++ (if name == y then self.old.count ∷ [] else [])) }
     {
         let place = self.add()?;
         let mut places = self.by_name.remove(&name).unwrap_or(Vec::new(alloc));

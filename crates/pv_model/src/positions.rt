@@ -51,7 +51,8 @@ fn some_may_be_empty(parts: &[Part]) -> bool
 /// Appends the part's positions before the first name is read, none of them reached.
 #[cycle(push_positions)]
 pub fn push_positions(part: &Part, positions: &mut Vec<bool>) -> Result<(), NoMemory>
-    ensures { OnOk result (positions.new.items ≡ positions.old.items ++ unreached_positions (plain_part part.now)) }
+    ensures { OnOk result (positions.new.items ≡
+        positions.old.items ++ unreached_positions (plain_part part.now)) }
 {
     match part {
         Part::Name(_) => {
@@ -74,7 +75,8 @@ pub fn push_positions(part: &Part, positions: &mut Vec<bool>) -> Result<(), NoMe
 
 #[cycle(push_positions)]
 fn push_all_positions(parts: &[Part], positions: &mut Vec<bool>) -> Result<(), NoMemory>
-    ensures { OnOk result (positions.new.items ≡ positions.old.items ++ unreached_positions (seq (plain_parts parts.now))) }
+    ensures { OnOk result (positions.new.items ≡
+        positions.old.items ++ unreached_positions (seq (plain_parts parts.now))) }
 {
     for part in parts {
         push_positions(part, positions)?;

@@ -130,7 +130,8 @@ pub fn advance(
 }
 
 fn push_if(places: &mut Vec<usize>, is_reached: bool, place: usize) -> Result<(), NoMemory>
-    ensures { OnOk result (places.new.items ≡ places.old.items ++ (if is_reached then place ∷ [] else [])) }
+    ensures { OnOk result (places.new.items ≡
+        places.old.items ++ (if is_reached then place ∷ [] else [])) }
 {
     if is_reached {
         places.push(place)?;
