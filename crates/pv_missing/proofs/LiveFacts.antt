@@ -2,8 +2,8 @@
 use Rattle.std.proofs.Common.{List, [], ap, length, refl, suc, ◌∷◌, ◌≡◌}
 use Rattle.pv_model.specs.Plain.{PlainToken, named}
 use Rattle.pv_dtd.specs.Plain.{PlainDtd}
-use Rattle.pv_missing.specs.LiveWords.{IsLiveWord, live_unproductive, live_name, live_none, live_other, live_text}
-use Rattle.pv_missing.specs.WordLaws.{AreProductiveTokens, LiveFollows}
+use Rattle.pv_missing.specs.LiveWords.{AreProductiveTokens, IsLiveWord, live_name, live_none, live_other, live_text, live_unproductive}
+use Rattle.pv_missing.specs.WordLaws.{LiveFollows}
 use Rattle.pv_missing.proofs.PossibleWords.{depths}
 use Rattle.pv_missing.proofs.OneList.{covered_by_productive, same_coverable}
 

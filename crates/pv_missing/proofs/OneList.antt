@@ -8,9 +8,9 @@ use Rattle.pv_missing.specs.Covering.{Covers, IsPossibleWith, cover_kept, cover_
 use Rattle.pv_missing.specs.Proper.{IsProperDtd}
 use Rattle.pv_missing.specs.Extending.{Extends, both_done, join, new_element, same_element, same_leaf}
 use Rattle.pv_missing.specs.ListLaws.{HereExtends, OneList, RootList}
-use Rattle.pv_missing.specs.LiveWords.{IsLiveWord, live_unproductive, live_name, live_none, live_other, live_text}
+use Rattle.pv_missing.specs.LiveWords.{AreProductiveTokens, IsLiveWord, live_name, live_none, live_other, live_text, live_unproductive}
 use Rattle.pv_dtd.specs.Productive.{AreProductive, IsProductive, IsProductiveName}
-use Rattle.pv_missing.specs.WordLaws.{AreProductiveTokens, LiveAgrees}
+use Rattle.pv_missing.specs.WordLaws.{LiveAgrees}
 use Rattle.pv_missing.specs.Levels.{CanFit, CanFitRoot, Inserts, Stays, insert_done, insert_kept, insert_leaf, insert_new}
 use Rattle.pv_missing.proofs.Grow.{CanKeep}
 use Rattle.pv_missing.proofs.Growing.{Grown, allows-empty, grow}

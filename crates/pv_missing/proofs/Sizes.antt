@@ -4,10 +4,10 @@ use Rattle.pv_model.specs.Plain.{PlainModel, PlainToken, named}
 use Rattle.pv_model.specs.Models.{Allows}
 use Rattle.pv_dtd.specs.Plain.{PlainDtd, declared, model_of, spelling_of}
 use Rattle.pv_dtd.specs.Hedge.{AreGood, Fits, Hedge, done, elem, elements, word}
-use Rattle.pv_missing.specs.Covering.{Covers, IsPossibleWith, cover_kept, cover_new, cover_none, cover_text}
+use Rattle.pv_missing.specs.Covering.{Covers, IsLeastInNothing, IsPossibleWith, cover_kept, cover_new, cover_none, cover_text}
 use Rattle.pv_missing.specs.Proper.{IsProperDtd}
 use Rattle.pv_dtd.specs.Productive.{IsLeastSize}
-use Rattle.pv_missing.specs.WordLaws.{IsLeastInNothing, ProductiveNames, SizeIsMissing}
+use Rattle.pv_missing.specs.WordLaws.{ProductiveNames, SizeIsMissing}
 use Rattle.pv_missing.proofs.Growing.{allows-empty, empty_join}
 use Rattle.pv_missing.proofs.LeftOut.{good_covers, names, names_texts}
 use Rattle.pv_missing.proofs.Names.{spelled}

@@ -8,10 +8,10 @@ use Rattle.pv_tree.specs.Plain.{Forest, Tree, cdata_node, element, misc_node, no
 use Rattle.pv_tree.specs.Words.{node_before, word_of}
 use Rattle.pv_tree.proofs.Firsts.{one_first as first_is_one}
 use Rattle.pv_missing.specs.Covering.{Covers, cover_kept, cover_none, cover_text}
-use Rattle.pv_missing.specs.ListLaws.{AreProductiveKids, IsProductiveNode, IsProductiveOwner, OneFirst, OneVerdict, OwnValidIsLive}
+use Rattle.pv_missing.specs.ListLaws.{OneFirst, OneVerdict, OwnValidIsLive}
 use Rattle.pv_missing.specs.Missing.{MissesInContent, MissesInRoot}
 use Rattle.pv_dtd.specs.Productive.{IsProductiveName}
-use Rattle.pv_missing.specs.Verdicts.{IsLive, IsLiveBy, Judges}
+use Rattle.pv_missing.specs.Verdicts.{AreProductiveKids, IsLive, IsLiveBy, IsProductiveNode, IsProductiveOwner, Judges}
 use Rattle.pv_missing.proofs.DocLists.{misses_live_by}
 use Rattle.pv_tree.specs.declared.nodes.Verdict.{Verdict}
 use Rattle.pv_tree.specs.declared.nodes.Verdict.TheVariants as verdict

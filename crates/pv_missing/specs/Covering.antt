@@ -1,5 +1,5 @@
 -- The same with the number of missing elements, and without depths.
-use Rattle.std.specs.Prelude.{List, Some, [], suc, ℕ, ◌++◌, ◌+◌, ◌∷◌, ◌≡◌}
+use Rattle.std.specs.Prelude.{List, Some, [], suc, ℕ, ◌++◌, ◌+◌, ◌∷◌, ◌≡◌, ◌≤◌}
 use Rattle.pv_model.specs.Plain.{PlainModel, PlainToken, named, text}
 use Rattle.pv_model.specs.Models.{Allows}
 use Rattle.pv_dtd.specs.Plain.{PlainDtd, declared, model_of}
@@ -26,3 +26,7 @@ pub record IsPossibleWith (g : PlainDtd) (x n : ℕ) (w : List PlainToken) : Typ
 -- the word is possible for the document node, with n missing elements
 abbrev pub IsPossibleRootWith : PlainDtd → ℕ → ℕ → List PlainToken → Type 0
 IsPossibleRootWith g x n w = Covers g n (named x ∷ []) w
+
+-- n is the least number of elements missing in empty content
+abbrev pub IsLeastInNothing : PlainDtd → ℕ → ℕ → Type 0
+IsLeastInNothing g x n = IsPossibleWith g x n [] × ((m : ℕ) → IsPossibleWith g x m [] → n ≤ m)

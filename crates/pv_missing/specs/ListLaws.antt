@@ -3,15 +3,14 @@ use Rattle.std.specs.Prelude.{List, Some, ℕ, ◌+◌, ◌↔◌, ◌<◌, ◌�
 use Rattle.pv_model.specs.Plain.{PlainModel, PlainToken, empty}
 use Rattle.pv_dtd.specs.Plain.{PlainDtd, model_of}
 use Rattle.pv_dtd.specs.Hedge.{Hedge, done, elements, word}
-use Rattle.pv_tree.specs.Lists.{IsValidList, Listed, Owner, an_element, the_document}
-use Rattle.pv_tree.specs.Plain.{Forest, Tree, cdata_node, element, misc_node, no_trees, text_node, tree}
+use Rattle.pv_tree.specs.Lists.{IsValidList, Listed}
 use Rattle.pv_missing.specs.Covering.{IsPossibleRootWith, IsPossibleWith}
 use Rattle.pv_missing.specs.Proper.{IsProperDtd}
 use Rattle.pv_missing.specs.Extending.{Extends}
 use Rattle.pv_missing.specs.LiveWords.{IsLiveWord}
 use Rattle.pv_missing.specs.Levels.{CanFit, CanFitRoot, InsertsHere}
-use Rattle.pv_dtd.specs.Productive.{AreProductive, IsProductiveName}
-use Rattle.pv_missing.specs.Verdicts.{IsFirstImpossible, IsLive, IsVerdict}
+use Rattle.pv_dtd.specs.Productive.{AreProductive}
+use Rattle.pv_missing.specs.Verdicts.{AreProductiveKids, IsFirstImpossible, IsLive, IsProductiveOwner, IsVerdict}
 use Rattle.pv_missing.specs.Missing.{Misses}
 use Rattle.pv_missing.specs.Weighing.{IsBound, Weighs, site_of, whole}
 use Rattle.pv_rules.specs.Derivations.{Derives, IsClosed, heaviest}
@@ -40,21 +39,6 @@ RootList = (g : PlainDtd) (y n : ℕ) (h : Hedge) (live : List PlainToken) → I
 abbrev pub HereExtends : Type 0
 HereExtends = (g : PlainDtd) (n : ℕ) (h h' : Hedge) → InsertsHere g n h h' →
     Extends h h' × (elements h' ≡ n + elements h)
-
-abbrev pub IsProductiveOwner : PlainDtd → Owner → Type 0
-IsProductiveOwner g the_document = Unit {0}
-IsProductiveOwner g (an_element x) = IsProductiveName g x
-
-abbrev pub IsProductiveNode : {M : Type 0} → PlainDtd → Tree M → Type 0
-IsProductiveNode g (element x attrs ending kids mark) = IsProductiveName g x
-IsProductiveNode g (text_node units) = Unit {0}
-IsProductiveNode g (cdata_node bytes) = Unit {0}
-IsProductiveNode g (misc_node bytes) = Unit {0}
-
--- each element among the kids has a productive name
-abbrev pub AreProductiveKids : {M : Type 0} → PlainDtd → Forest M → Type 0
-AreProductiveKids g no_trees = Unit {0}
-AreProductiveKids g (tree t rest) = IsProductiveNode g t × AreProductiveKids g rest
 
 -- a list that is valid by itself, whose owner and names are productive, is live
 abbrev pub OwnValidIsLive : (M : Type 0) → Type 0

@@ -3,11 +3,11 @@ use Rattle.std.specs.Prelude.{List, Some, [], ℕ, ◌∷◌, ◌≡◌}
 use Rattle.pv_model.specs.Plain.{PlainToken, empty}
 use Rattle.pv_dtd.specs.Plain.{PlainDtd, model_of, number_of}
 use Rattle.pv_tree.specs.Lists.{IsFirstNot, IsValidList, Listed, Owner, an_element, the_document}
-use Rattle.pv_tree.specs.Plain.{Forest, no_trees}
+use Rattle.pv_tree.specs.Plain.{Forest, Tree, cdata_node, element, misc_node, no_trees, text_node, tree}
 use Rattle.pv_tree.specs.Words.{word_of}
 use Rattle.pv_missing.specs.Filling.{IsPossible, IsPossibleRoot}
 use Rattle.pv_missing.specs.LiveWords.{IsLiveWord}
-use Rattle.pv_dtd.specs.Productive.{IsProductive}
+use Rattle.pv_dtd.specs.Productive.{IsProductive, IsProductiveName}
 use Rattle.pv_tree.specs.declared.nodes.Verdict.{Verdict}
 use Rattle.pv_tree.specs.declared.nodes.Verdict.TheVariants as verdict
 
@@ -58,3 +58,19 @@ AreVerdicts g root (list ∷ lists) vs = (v : Verdict) × (rest : List Verdict) 
 -- the path of the first impossible list
 abbrev pub IsFirstImpossible : {M : Type 0} → PlainDtd → List ℕ → List (Listed M) → List ℕ → Type 0
 IsFirstImpossible g root lists path = IsFirstNot (IsLive g root) lists path
+
+-- the owner's name is productive
+abbrev pub IsProductiveOwner : PlainDtd → Owner → Type 0
+IsProductiveOwner g the_document = Unit {0}
+IsProductiveOwner g (an_element x) = IsProductiveName g x
+
+abbrev pub IsProductiveNode : {M : Type 0} → PlainDtd → Tree M → Type 0
+IsProductiveNode g (element x attrs ending kids mark) = IsProductiveName g x
+IsProductiveNode g (text_node units) = Unit {0}
+IsProductiveNode g (cdata_node bytes) = Unit {0}
+IsProductiveNode g (misc_node bytes) = Unit {0}
+
+-- each element among the kids has a productive name
+abbrev pub AreProductiveKids : {M : Type 0} → PlainDtd → Forest M → Type 0
+AreProductiveKids g no_trees = Unit {0}
+AreProductiveKids g (tree t rest) = IsProductiveNode g t × AreProductiveKids g rest

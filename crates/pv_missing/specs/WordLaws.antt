@@ -1,26 +1,16 @@
 -- Laws of words, each a statement.
-use Rattle.std.specs.Prelude.{List, [], length, suc, ℕ, ◌++◌, ◌↔◌, ◌∷◌, ◌≡◌, ◌≤◌}
-use Rattle.std.specs.List.{AllByRecursion}
-use Rattle.pv_model.specs.Plain.{PlainToken, named, other, text}
+use Rattle.std.specs.Prelude.{List, length, suc, ℕ, ◌++◌, ◌↔◌, ◌∷◌, ◌≡◌, ◌≤◌}
+use Rattle.pv_model.specs.Plain.{PlainToken, text}
 use Rattle.pv_dtd.specs.Plain.{PlainDtd}
 use Rattle.pv_dtd.specs.Hedge.{AreGood, Hedge, done, elem}
 use Rattle.pv_rules.specs.Derivations.{Derives}
 use Rattle.pv_rules.specs.Rules.{Rule, over}
 use Rattle.pv_rules.specs.Sites.{content_site, name_site}
-use Rattle.pv_missing.specs.Covering.{IsPossibleRootWith, IsPossibleWith}
+use Rattle.pv_missing.specs.Covering.{IsLeastInNothing, IsPossibleRootWith, IsPossibleWith}
 use Rattle.pv_missing.specs.Proper.{IsProperDtd}
 use Rattle.pv_missing.specs.Filling.{IsPossible, IsPossibleRoot}
-use Rattle.pv_missing.specs.LiveWords.{IsLiveWord}
+use Rattle.pv_missing.specs.LiveWords.{AreProductiveTokens, FollowsWord, IsLiveWord}
 use Rattle.pv_dtd.specs.Productive.{IsLeastSize, IsProductive, IsProductiveName}
-
--- each name in the word is productive
-abbrev pub IsProductiveToken : PlainDtd → PlainToken → Type 0
-IsProductiveToken g (named y) = IsProductive g y
-IsProductiveToken g text = Unit {0}
-IsProductiveToken g other = Unit {0}
-
-abbrev pub AreProductiveTokens : PlainDtd → List PlainToken → Type 0
-AreProductiveTokens g w = AllByRecursion (IsProductiveToken g) w
 
 -- depths, and finite derivations with their numbers of missing elements, say the same
 abbrev pub DepthsAgree : Type 0
@@ -48,12 +38,6 @@ LiveAgrees = (g : PlainDtd) (x n : ℕ) (w live : List PlainToken) → IsLiveWor
 
 -- a live word has productive names only, has as many tokens as the word, and is the word itself
 -- where it is possible
-pub record FollowsWord (g : PlainDtd) (w live : List PlainToken) : Type 0 where
-  pub names : AreProductiveTokens g live
-  pub same_length : length live ≡ length w
-  pub itself : (x : ℕ) → IsPossible g x live → live ≡ w
-  pub itself_at_root : (x : ℕ) → IsPossibleRoot g x live → live ≡ w
-
 abbrev pub LiveFollows : Type 0
 LiveFollows = (g : PlainDtd) (w live : List PlainToken) → IsLiveWord g w live → FollowsWord g w live
 
@@ -66,10 +50,6 @@ OwnerIsProductive = (g : PlainDtd) (x : ℕ) (w : List PlainToken) → IsProperD
 abbrev pub ProductiveNames : Type 0
 ProductiveNames = (g : PlainDtd) (x : List ℕ) →
     IsProductiveName g x ↔ ((attrs : List ℕ) × (kids : Hedge) × AreGood g (elem x attrs kids done))
-
--- n elements are missing in empty content
-abbrev pub IsLeastInNothing : PlainDtd → ℕ → ℕ → Type 0
-IsLeastInNothing g x n = IsPossibleWith g x n [] × ((m : ℕ) → IsPossibleWith g x m [] → n ≤ m)
 
 -- the least size of a name is one more than the least number of elements missing in empty content
 abbrev pub SizeIsMissing : Type 0

@@ -9,12 +9,11 @@ use Rattle.pv_tree.specs.Lists.{IsOwnValid, IsRootList, an_element, lists_at, th
 use Rattle.pv_tree.specs.Plain.{Forest, forest_of, no_trees, tree}
 use Rattle.pv_tree.specs.Words.{word_of}
 use Rattle.pv_missing.specs.Covering.{Covers, cover_kept, cover_none, cover_text}
-use Rattle.pv_missing.specs.ListLaws.{AreProductiveKids}
 use Rattle.pv_missing_rows.specs.Documents.{blank_in_br, chars, completed_letter, letter, nested_em, tag}
 use Rattle.pv_missing_rows.specs.Dtds.{doc_model, sec_model, sections_dtd}
 use Rattle.pv_missing_rows.specs.Rows.{BlankRow, CompletedRow, DeepRow, LetterRow}
 use Rattle.pv_tree.specs.Units.{HasUnits}
-use Rattle.pv_missing.specs.Verdicts.{IsLiveBy, IsVerdict}
+use Rattle.pv_missing.specs.Verdicts.{AreProductiveKids, IsLiveBy, IsVerdict}
 use Rattle.pv_missing_rows.proofs.RowTools.{impossible_at, needs, valid_row}
 use Rattle.pv_missing_rows.proofs.SectionRows.{br_name, doc_name, doc_own, em_name, head_name, in_paragraph, mixed_row, p_name, possible_sec, sec_name, title_name}
 use Rattle.pv_missing_rows.proofs.Sections.{br_good, doc_two, em_good, head_good, p_good, proper_sections, sec_paragraph, sec_title_paragraphs, title_good}

@@ -9,12 +9,11 @@ use Rattle.pv_tree.specs.Plain.{Forest, Tree}
 use Rattle.pv_tree.specs.View.{view}
 use Rattle.pv_missing.specs.Covering.{Covers, IsPossibleWith, cover_new}
 use Rattle.pv_missing.specs.Proper.{IsProperDoc, IsProperDtd}
-use Rattle.pv_missing.specs.ListLaws.{AreProductiveKids, IsProductiveOwner}
 use Rattle.pv_missing.specs.Missing.{MissInAll, Misses, MissesBy}
 use Rattle.pv_dtd.specs.Productive.{IsProductive}
 use Rattle.pv_missing_rows.specs.Documents.{doc_of}
 use Rattle.pv_missing_rows.specs.Rows.{IsImpossibleAt, Needs}
-use Rattle.pv_missing.specs.Verdicts.{AreVerdicts, IsFirstImpossible, IsVerdict}
+use Rattle.pv_missing.specs.Verdicts.{AreProductiveKids, AreVerdicts, IsFirstImpossible, IsProductiveOwner, IsVerdict}
 use Rattle.pv_missing.proofs.DocLists.{misses_live_by, numbers_add_up}
 use Rattle.pv_missing.proofs.Same.{some_number}
 use Rattle.pv_missing.proofs.TreeLists.{miss_split}
