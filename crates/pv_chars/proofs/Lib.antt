@@ -15,3 +15,6 @@ pub mod QuoteLemmas
 pub mod PartLemmas
 pub mod DeclarationLemmas
 pub mod ReferenceLemmas
+pub mod UnitReading
+pub mod CutLemmas
+pub mod MeansLemmas

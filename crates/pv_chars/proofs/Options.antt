@@ -1,6 +1,6 @@
 -- What a function answers, told of what its answer points to.
-use Rattle.std.proofs.Common.{◌≡◌, Option, Some, None, refl, sym, subst}
-use Rattle.std.specs.Option.{option_map, MatchOption, IfSome}
+use Rattle.std.proofs.Common.{◌≡◌, Option, Some, None, false, refl, sym, subst}
+use Rattle.std.specs.Option.{option_map, MatchOption, IfSome, is_some}
 
 match_map : {A B : Type 0} (f : A → B) (r : Option A) (P : Type 0) (Q : B → Type 0) → MatchOption (option_map f r) P Q → MatchOption r P (λ x. Q (f x))
 match_map f None P Q h = h
@@ -27,3 +27,8 @@ match_none {A} r P Q e p = let M : Option A → Type 0 = λ v. MatchOption v P Q
 pub match_same : {A : Type 0} (r : Option A) (P P' : Type 0) (Q Q' : A → Type 0) → (P → P') → ((x : A) → Q x → Q' x) → MatchOption r P Q → MatchOption r P' Q'
 match_same None P P' Q Q' f g h = f h
 match_same (Some x) P P' Q Q' f g h = g x h
+
+-- where nothing was found
+pub match_not_some : {A : Type 0} (r : Option A) (P : Type 0) (Q : A → Type 0) → is_some r ≡ false → MatchOption r P Q → P
+match_not_some None P Q e h = h
+match_not_some (Some x) P Q e h = cc

@@ -1,14 +1,13 @@
 -- References, read from the front.
-use Rattle.std.proofs.Common.{◌≡◌, ◌≢◌, ℕ, zero, suc, ◌+◌, ◌*◌, ◌<◌, ◌≤◌, min, ◌⊎◌, inl, inr, ⊎_elim, List, [], ◌∷◌, ◌++◌, Bool, true, false, ◌&&◌, length, get_or, take, drop, refl, sym, ap, subst, ◌∙◌, arith, append_assoc, length-append}
-use Rattle.std.proofs.lemmas.Bool.{and_parts, and_from, cases_lt, ltb-true, le-ltb, lt-leb, le-leb, lt-ltb}
+use Rattle.std.proofs.Common.{◌≡◌, ◌≢◌, ℕ, ◌+◌, ◌*◌, ◌<◌, ◌≤◌, min, ◌⊎◌, inl, inr, ⊎_elim, List, [], ◌∷◌, ◌++◌, Bool, true, false, length, refl, sym, ap, subst, ◌∙◌, arith, append_assoc, length-append}
+use Rattle.std.proofs.lemmas.Bool.{and_parts, and_from, cases_lt, ltb-true, lt-ltb}
 use Rattle.std.proofs.lemmas.Bool.Decides.{nat_tests}
-use Rattle.std.proofs.lemmas.List.{append-nil}
-use Rattle.std.proofs.Math.Nat.{mul-le-mul_left, mul-le-mul_right}
+use Rattle.std.proofs.Math.Nat.{mul-le-mul_left}
 use Rattle.std.specs.Prelude.{codes, IsTrue}
 use Rattle.std.specs.List.{list_all}
 use Rattle.std.specs.Char.{is_digit, digit_value}
 use Rattle.pv_chars.specs.Characters.{is_char, is_name_char}
-use Rattle.pv_chars.specs.Names.{IsName, TakesName, BeginsNoName}
+use Rattle.pv_chars.specs.Names.{TakesName}
 use Rattle.pv_chars.specs.Fronts.{Begins, BeginsNone}
 use Rattle.pv_chars.specs.References.{number, number_behind, IsCharRefIn, IsCharRef, IsEntityRef, BeginsNoEntityRef, TakesDigits, PAST_CHARS}
 use Rattle.pv_chars.proofs.NameLemmas.{same_name}
@@ -89,7 +88,7 @@ pub no_digit_at_end : (base : ℕ) (rest : List ℕ) → rest ≡ [] → (x : �
 no_digit_at_end base rest e x xs is f = cc
 
 -- digits and rest are determined
-same_digits_by : (base : ℕ) (xs ys r t : List ℕ) → list_all (λ d. is_digit d base) xs ≡ true → list_all (λ d. is_digit d base) ys ≡ true → ((d : ℕ) (more : List ℕ) → IsTrue (is_digit d base) → r ≢ d ∷ more) → ((d : ℕ) (more : List ℕ) → IsTrue (is_digit d base) → t ≢ d ∷ more) → xs ++ r ≡ ys ++ t → (xs ≡ ys) × (r ≡ t)
+pub same_digits_by : (base : ℕ) (xs ys r t : List ℕ) → list_all (λ d. is_digit d base) xs ≡ true → list_all (λ d. is_digit d base) ys ≡ true → ((d : ℕ) (more : List ℕ) → IsTrue (is_digit d base) → r ≢ d ∷ more) → ((d : ℕ) (more : List ℕ) → IsTrue (is_digit d base) → t ≢ d ∷ more) → xs ++ r ≡ ys ++ t → (xs ≡ ys) × (r ≡ t)
 same_digits_by base [] [] r t a b p q e = (refl, e)
 same_digits_by base [] (y ∷ ys) r t a b p q e = absurd (p y (ys ++ t) (and_parts (is_digit y base) (list_all (λ d. is_digit d base) ys) b).0 e)
 same_digits_by base (x ∷ xs) [] r t a b p q e = absurd (q x (xs ++ r) (and_parts (is_digit x base) (list_all (λ d. is_digit d base) xs) a).0 (sym e))
@@ -100,7 +99,7 @@ same_digits_by base (x ∷ xs) (y ∷ ys) r t a b p q e =
     ((λ i. head i ∷ others.0 i), others.1)
 
 -- ---- references by digits
-semicolon_ends : (base : ℕ) (rest : List ℕ) → base ≤ 36 → (d : ℕ) (more : List ℕ) → IsTrue (is_digit d base) → codes ";" ++ rest ≢ d ∷ more
+pub semicolon_ends : (base : ℕ) (rest : List ℕ) → base ≤ 36 → (d : ℕ) (more : List ℕ) → IsTrue (is_digit d base) → codes ";" ++ rest ≢ d ∷ more
 semicolon_ends base rest known d more is e =
     let same : 59 ≡ d = cc in
     let digit : digit_value 59 < base = ltb-true (digit_value 59) base (let P : ℕ → Type 0 = λ x. is_digit x base ≡ true in subst P (sym same) is) in omega arith

@@ -18,19 +18,19 @@ below m n a b h = rw (lt-ltb m n h) refl
 above : {X : Type 0} (m n : ℕ) (a b : X) → n ≤ m → cond (nat_lt m n) a b ≡ b
 above m n a b h = rw (le-ltb m n h) refl
 
-one_byte : (c : ℕ) → c < 128 → encode c ≡ c ∷ []
+pub one_byte : (c : ℕ) → c < 128 → encode c ≡ c ∷ []
 unfolding encode
 one_byte c h = below c 128 _ _ h
 
-two_bytes : (c : ℕ) → 128 ≤ c → c < 2048 → encode c ≡ (192 + c / 64) ∷ next c ∷ []
+pub two_bytes : (c : ℕ) → 128 ≤ c → c < 2048 → encode c ≡ (192 + c / 64) ∷ next c ∷ []
 unfolding encode
 two_bytes c l h = above c 128 _ _ l ∙ below c 2048 _ _ h
 
-three_bytes : (c : ℕ) → 2048 ≤ c → c < 65536 → encode c ≡ (224 + c / 4096) ∷ next (c / 64) ∷ next c ∷ []
+pub three_bytes : (c : ℕ) → 2048 ≤ c → c < 65536 → encode c ≡ (224 + c / 4096) ∷ next (c / 64) ∷ next c ∷ []
 unfolding encode
 three_bytes c l h = above c 128 _ _ (omega arith) ∙ above c 2048 _ _ l ∙ below c 65536 _ _ h
 
-four_bytes : (c : ℕ) → 65536 ≤ c → encode c ≡ (240 + c / 262144) ∷ next (c / 4096) ∷ next (c / 64) ∷ next c ∷ []
+pub four_bytes : (c : ℕ) → 65536 ≤ c → encode c ≡ (240 + c / 262144) ∷ next (c / 4096) ∷ next (c / 64) ∷ next c ∷ []
 unfolding encode
 four_bytes c l = above c 128 _ _ (omega arith) ∙ above c 2048 _ _ (omega arith) ∙ above c 65536 _ _ l
 
@@ -43,14 +43,14 @@ renamed : (bytes : List ℕ) (found wanted : ℕ × List ℕ) → found ≡ want
 renamed bytes found wanted e begins = let P : ℕ × List ℕ → Type 0 = λ p. BeginsWith bytes p.0 p.1 in subst P e begins
 
 -- a byte that continues a code point
-record Continues (b : ℕ) : Type 0 where
-  low : 128 ≤ b
-  high : b < 192
+pub record Continues (b : ℕ) : Type 0 where
+  pub low : 128 ≤ b
+  pub high : b < 192
 
 continues_is : (b : ℕ) → continues b ≡ true → Continues b
 continues_is b e = let parts = and_parts (nat_le 0x80 b) (nat_lt b 0xC0) e in record { low = leb-true 128 b parts.0; high = ltb-true b 192 parts.1 }
 
-is_continues : (b : ℕ) → Continues b → continues b ≡ true
+pub is_continues : (b : ℕ) → Continues b → continues b ≡ true
 is_continues b h = and_from (nat_le 0x80 b) (nat_lt b 0xC0) (le-leb 128 b h.low) (lt-ltb b 192 h.high)
 
 of_two_takes : (a b d : ℕ) (rest t : List ℕ) → a < 0xE0 → of_two a b rest ≡ Some (d, t) → BeginsWith (a ∷ b ∷ rest) d t

@@ -7,5 +7,7 @@ pub mod Markup
 pub mod Declarations
 pub mod References
 pub mod Texts
+pub mod Units
 pub mod Scan
 pub mod Utf8
+pub mod Laws

@@ -1,7 +1,6 @@
 -- References (XML 1.0, section 4.1).
-use Rattle.std.specs.Prelude.{◌≡◌, ◌≢◌, ◌⊎◌, ℕ, ◌+◌, ◌*◌, Bool, min, List, [], ◌∷◌, ◌++◌, codes, IsTrue}
-use Rattle.std.specs.List.{list_all, list_any}
-use Rattle.std.specs.Str.{bytes_eq}
+use Rattle.std.specs.Prelude.{◌≡◌, ◌≢◌, ◌⊎◌, ℕ, ◌+◌, ◌*◌, min, List, [], ◌∷◌, ◌++◌, codes, IsTrue}
+use Rattle.std.specs.List.{list_all}
 use Rattle.std.specs.Char.{is_digit, digit_value}
 use Rattle.pv_chars.specs.Characters.{is_char}
 use Rattle.pv_chars.specs.Names.{IsName}
@@ -34,8 +33,8 @@ pub record IsEntityRef (name bytes : List ℕ) : Type 0 where
   pub whole : bytes ≡ codes "&" ++ (name ++ codes ";")
 
 -- one of the five names that need no declaration (section 4.6)
-abbrev pub is_predefined : List ℕ → Bool
-is_predefined name = list_any (bytes_eq name) (codes "lt" ∷ codes "gt" ∷ codes "amp" ∷ codes "apos" ∷ codes "quot" ∷ [])
+abbrev pub IsPredefined : List ℕ → Type 0
+IsPredefined name = (name ≡ codes "lt") ⊎ ((name ≡ codes "gt") ⊎ ((name ≡ codes "amp") ⊎ ((name ≡ codes "apos") ⊎ (name ≡ codes "quot"))))
 
 -- Reference: a CharRef or an EntityRef of any name
 abbrev pub IsReference : List ℕ → Type 0

@@ -1,4 +1,4 @@
-use Rattle.std.proofs.Common.{◌≡◌, ◌≢◌, ◌++◌, List, ℕ, sym, ◌∙◌, true, false}
+use Rattle.std.proofs.Common.{◌≡◌, ◌≢◌, ◌++◌, List, ℕ, sym, ◌∙◌, false}
 use Rattle.std.specs.Prelude.{codes}
 use Rattle.pv_chars.specs.Characters.{is_char}
 use Rattle.pv_chars.specs.Fronts.{Begins, BeginsNone}

@@ -1,4 +1,4 @@
-use Rattle.std.proofs.Common.{◌≡◌, length}
+use Rattle.std.proofs.Common.{length}
 use Rattle.pv_chars.proofs.ReferenceLemmas.{HasDigits}
 use Rattle.pv_chars.proofs.references.digits_at.Given as goal
 
