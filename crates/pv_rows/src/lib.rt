@@ -2,6 +2,8 @@
 #![tactic(auto)]
 
 #[cfg(test)]
+mod dtds;
+#[cfg(test)]
 mod fixture;
 #[cfg(test)]
 mod outside;

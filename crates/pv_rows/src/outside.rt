@@ -1,5 +1,6 @@
 //! Rows on words, on faults of the outside, and on exit statuses.
 
+use crate::dtds::TEXT;
 use crate::fixture::{Given, answer};
 use pv_cli::Status;
 use std::marker::Brand;
@@ -8,29 +9,26 @@ use std::sync::ledger::Blank;
 use std::test::Fail;
 use std::thread::Threads;
 
-const DTD: &[u8] = b"<!ELEMENT doc (#PCDATA)>";
+const HELLO: &[u8] = b"<doc>Hello</doc>";
 
-const DOC: &[u8] = b"<doc>Hello</doc>";
+const VALID: [&str; 4] = ["valid", "a.dtd", "doc", "d.xml"];
 
-const WORDS: [&str; 4] = ["valid", "a.dtd", "doc", "d.xml"];
+const SESSION: [&str; 4] = ["session", "a.dtd", "doc", "d.xml"];
 
-// The words are no command, whatever the files are.
-fn check<'a, R: AllocGlobal + Threads + Sync + Abort>(
+// What a run is given, and its status and output.
+fn check<R: AllocGlobal + Threads + Sync + Abort>(
     rt: &R,
-    words: &[&'a str],
-    files: &[(&'a str, &'a [u8])],
-    failing_fetches: &[u64],
+    given: &Given<'_, '_>,
+    status: Status,
+    output: &[u8],
 ) -> Result<(), Fail> {
-    let given = Given {
-        failing_fetches,
-        ..Given::plain(words, files)
-    };
-    let (status, output) = answer::<Brand, R>(rt, &given, Blank::new(1))?;
-    assert_eq!(rt; status, Status::Usage);
-    assert_eq!(rt; output.as_slice(), b"usage\n".as_slice());
+    let (answered, written) = answer::<Brand, R>(rt, given, Blank::new(1))?;
+    assert_eq!(rt; answered, status);
+    assert_eq!(rt; written.as_slice(), output);
     Ok(())
 }
 
+// Words that are no command, whatever the files are.
 #[test]
 fn words(rt: HostRuntime) -> Result<(), Fail> {
     let lines: [&[&str]; 5] = [
@@ -40,34 +38,70 @@ fn words(rt: HostRuntime) -> Result<(), Fail> {
         &["valid", "a.dtd", "doc", "d.xml", "more"],
         &["vali", "a.dtd", "doc", "d.xml"],
     ];
+    let files: [(&str, &[u8]); 2] = [("a.dtd", TEXT.as_bytes()), ("d.xml", HELLO)];
     for words in lines {
-        check(&rt, words, &[("a.dtd", DTD), ("d.xml", DOC)], &[])?;
-        check(&rt, words, &[], &[0])?;
+        let failing = Given {
+            failing_fetches: &[0],
+            ..Given::plain(words, &[])
+        };
+        check(&rt, &Given::plain(words, &files), Status::Usage, b"usage\n")?;
+        check(&rt, &failing, Status::Usage, b"usage\n")?;
     }
     Ok(())
 }
 
 #[test]
 fn faults(rt: HostRuntime) -> Result<(), Fail> {
-    let both: &[(&str, &[u8])] = &[("a.dtd", DTD), ("d.xml", DOC)];
-    // The DTD is read before the document is fetched.
+    let both: &[(&str, &[u8])] = &[("a.dtd", TEXT.as_bytes()), ("d.xml", HELLO)];
+    let no_doc: &[(&str, &[u8])] = &[("a.dtd", TEXT.as_bytes())];
     let bad_dtd: &[(&str, &[u8])] = &[("a.dtd", b"<!ELEMENT doc>")];
-    let rows: [(&[(&str, &[u8])], &[u64], &[u64], Status, &[u8]); 5] = [
-        (both, &[1], &[], Status::ReadFault, b""),
-        (&[("a.dtd", DTD)], &[], &[], Status::ReadFault, b""),
-        (bad_dtd, &[], &[], Status::BadDtd, b"dtd syntax 0\n"),
-        (both, &[], &[2], Status::WriteFault, b"va"),
-        (both, &[2], &[6], Status::Done, b"valid\n"),
+    let bad_doc: &[(&str, &[u8])] = &[("a.dtd", TEXT.as_bytes()), ("d.xml", b"<doc>")];
+    // Words, files, the calls that fail of the shelf, the input and the output, and how that ends.
+    let rows: [(&[&str], &[(&str, &[u8])], [&[u64]; 3], Status, &[u8]); 9] = [
+        (&VALID, both, [&[1], &[], &[]], Status::ReadFault, b""),
+        (&VALID, no_doc, [&[], &[], &[]], Status::ReadFault, b""),
+        (&VALID, both, [&[], &[], &[2]], Status::WriteFault, b"va"),
+        (&VALID, both, [&[2], &[0], &[6]], Status::Done, b"valid\n"),
+        // The DTD is read before the document is fetched.
+        (
+            &VALID,
+            bad_dtd,
+            [&[], &[], &[]],
+            Status::BadDtd,
+            b"dtd syntax 0\n",
+        ),
+        (
+            &VALID,
+            bad_dtd,
+            [&[1], &[], &[]],
+            Status::BadDtd,
+            b"dtd syntax 0\n",
+        ),
+        // Both are read before the input is asked.
+        (
+            &SESSION,
+            bad_dtd,
+            [&[], &[0], &[]],
+            Status::BadDtd,
+            b"dtd syntax 0\n",
+        ),
+        (
+            &SESSION,
+            bad_doc,
+            [&[], &[0], &[]],
+            Status::BadDocument,
+            b"document syntax 0\n",
+        ),
+        (&SESSION, both, [&[], &[0], &[]], Status::ReadFault, b""),
     ];
-    for (files, failing_fetches, failing_puts, status, output) in rows {
+    for (words, files, failing, status, output) in rows {
         let given = Given {
-            failing_fetches,
-            failing_puts,
-            ..Given::plain(&WORDS, files)
+            failing_fetches: failing[0],
+            failing_fills: failing[1],
+            failing_puts: failing[2],
+            ..Given::plain(words, files)
         };
-        let (answered, written) = answer::<Brand, HostRuntime>(&rt, &given, Blank::new(1))?;
-        assert_eq!(rt; answered, status);
-        assert_eq!(rt; written.as_slice(), output);
+        check(&rt, &given, status, output)?;
     }
     Ok(())
 }

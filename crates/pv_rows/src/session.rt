@@ -2,8 +2,8 @@
 
 ghost use Rattle.std.specs.Prelude.{◌<◌};
 
+use crate::dtds::ARTICLE;
 use crate::fixture::{Given, Piece, answer};
-use crate::valid::DTD_A;
 use pv_cli::Status;
 use std::marker::Brand;
 use std::process::Abort;
@@ -29,7 +29,7 @@ fn check<'a, R: AllocGlobal + Threads + Sync + Abort>(
 {
     for (doc, script, replies) in rows {
         let files: [(&'a str, &'a [u8]); 2] = [
-            ("a.dtd", DTD_A.as_bytes()),
+            ("a.dtd", ARTICLE.as_bytes()),
             ("d.xml", doc.as_bytes()),
         ];
         let given = Given {
@@ -77,7 +77,7 @@ fn outcome<R: AllocGlobal + Threads + Sync>(
 ) -> Result<(Status, Vec<u8>), Fail>
     requires { 0 < piece }
 {
-    let files = [("a.dtd", DTD_A.as_bytes()), ("d.xml", HELLO.as_bytes())];
+    let files = [("a.dtd", ARTICLE.as_bytes()), ("d.xml", HELLO.as_bytes())];
     let given = Given {
         input: script,
         piece: Piece { size: piece },
