@@ -17,7 +17,7 @@ use Rattle.pv_cli.specs.Laws.{HasOneResponse}
 use Rattle.pv_cli.specs.Opening.{Files, IsGiven, IsTooLong, fetch_stage, RefusesDtd, no_dtd, dtd_stage, RefusesDocument, no_document, document_stage, dtd_file_stage, document_file_stage, opening_stage}
 use Rattle.pv_cli.specs.Response.{PlainResponse}
 use Rattle.pv_cli.specs.Session.{State, IsScriptRefusal, IsAnswered, Answers, too_long, answered_all, failed, without_room, Converses}
-use Rattle.pv_cli.specs.Stage.{Stage, followed_by, keeping, Behind, opened, refused, stopped, short_of_memory, Responds, responded, short_of_memory as out_of_memory}
+use Rattle.pv_cli.specs.Stage.{Stage, followed_by, beside, Behind, opened, refused, stopped, short_of_memory, Responds, responded, short_of_memory as out_of_memory}
 use Rattle.pv_cli.specs.Valid.{TellsValidity}
 use Rattle.pv_cli.proofs.OneReplies.{one_replies}
 use Rattle.pv_cli.proofs.OneVerdict.{one_verdict, spelled_texts}
@@ -63,8 +63,8 @@ followed_sure first second Same sure behind = record {
 abbrev pub IsSamePair : {X Y : Type 0} → (Y → Y → Type 0) → X × Y → X × Y → Type 0
 IsSamePair Same a b = (a.0 ≡ b.0) × Same a.1 b.1
 
-keeping_sure : {X Y : Type 0} (x : X) (stage : Stage Y) (Same : Y → Y → Type 0) → IsSure stage Same → IsSure (keeping x stage) (IsSamePair Same)
-keeping_sure x stage Same sure = record {
+beside_sure : {X Y : Type 0} (x : X) (stage : Stage Y) (Same : Y → Y → Type 0) → IsSure stage Same → IsSure (beside x stage) (IsSamePair Same)
+beside_sure x stage Same sure = record {
   not_both = λ both r opens refuses. sure.not_both both.1 r opens.1 refuses;
   one_refusal = sure.one_refusal;
   same = λ a b opens others. (opens.0 ∙ sym others.0, sure.same a.1 b.1 opens.1 others.1);
@@ -120,9 +120,9 @@ document_sure root bytes = record {
 
 opening_sure : IsOneDtd → (root : List ℕ) (files : Files) → IsSure (opening_stage root files) (IsSamePair IsSameText)
 opening_sure one root files =
-    followed_sure (dtd_file_stage files.dtd) (λ g. keeping g (document_file_stage root files.doc)) (IsSamePair IsSameText)
+    followed_sure (dtd_file_stage files.dtd) (λ g. beside g (document_file_stage root files.doc)) (IsSamePair IsSameText)
     (followed_sure (fetch_stage files.dtd MAX_DTD_BYTES (codes "limit dtd-file")) dtd_stage IsEqual (fetch_sure files.dtd MAX_DTD_BYTES (codes "limit dtd-file")) (dtd_sure one))
-    (λ g. keeping_sure g (document_file_stage root files.doc) IsSameText
+    (λ g. beside_sure g (document_file_stage root files.doc) IsSameText
     (followed_sure (fetch_stage files.doc MAX_DOC_BYTES (codes "limit document-file")) (document_stage root) IsSameText (fetch_sure files.doc MAX_DOC_BYTES (codes "limit document-file")) (document_sure root)))
 
 -- where a run over a stage responds, it went on, or this is the stage's refusal

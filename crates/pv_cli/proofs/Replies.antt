@@ -11,6 +11,7 @@ use Rattle.pv_script.specs.Replies.{PlainReply, document, no_command, no_memory,
 use Rattle.pv_write.specs.Text.{doc_text}
 use Rattle.pv_cli.specs.Laws.{JoinsReplies, EndsAtQuit}
 use Rattle.pv_cli.specs.Session.{State, RepliesTo, unknown, shown, is_among, Place, at_line, at_quit, Replies, no_lines, without_memory, answered, ended}
+use Rattle.pv_cli.specs.Turns.{HasReplies}
 
 joined : (silent : List ℕ) (number next : ℕ) (state middle : State) (lines more : List (List ℕ)) (out rest : List ℕ) (here place : Place) →
     here ≡ at_line next middle → Replies silent number state lines out here → Replies silent next middle more rest place →
@@ -142,10 +143,6 @@ pub record Told (old now : Option (List ℕ)) (doc : State) (all left : List (Li
   pub replies : Replies silent 1 doc before out (at_line number doc)
   pub written : Appends old now out
 
--- replies to all lines, of which these were written
-abbrev pub AllTold : State → List (List ℕ) → (List ℕ → Type 0) → Type 0
-AllTold doc all IsWritten = (silent : List ℕ) × (replies : List ℕ) × (place : Place) × Replies silent 1 doc all replies place × IsWritten replies
-
 pub told_first : (old : Option (List ℕ)) (doc : State) (all : List (List ℕ)) → Told old old doc all all
 told_first old doc all = record {
   before = [];
@@ -196,29 +193,53 @@ told_silent old mid new doc all line lines told written = record {
 }
 
 -- all lines were answered, or a `quit` was reached, or writing failed in a reply
-pub told_end : (old now : Option (List ℕ)) (doc : State) (all : List (List ℕ)) → Told old now doc all [] → AllTold doc all (Appends old now)
+pub told_end : (old now : Option (List ℕ)) (doc : State) (all : List (List ℕ)) → Told old now doc all [] → HasReplies doc all (Appends old now)
 told_end old now doc all told =
-    (told.silent, told.out, at_line told.number doc, rw (told.is_cut, whole told.before) told.replies, told.written)
+    record {
+      silent = told.silent;
+      out = told.out;
+      place = at_line told.number doc;
+      replies = rw (told.is_cut, whole told.before) told.replies;
+      written = told.written;
+    }
 
 pub told_quit : (old now : Option (List ℕ)) (doc : State) (all : List (List ℕ)) (line : List ℕ) (lines : List (List ℕ)) →
-    Told old now doc all (line ∷ lines) → command_of line ≡ Some quit → AllTold doc all (Appends old now)
+    Told old now doc all (line ∷ lines) → command_of line ≡ Some quit → HasReplies doc all (Appends old now)
 told_quit old now doc all line lines told is =
     let both = joins_replies told.silent 1 told.number doc doc told.before (line ∷ lines) told.out [] at_quit told.replies (ended (not_among told.number told.silent told.below) is refl refl) in
-    (told.silent, told.out, at_quit, rw told.is_cut (rw (whole told.out) at both), told.written)
+    record {
+      silent = told.silent;
+      out = told.out;
+      place = at_quit;
+      replies = rw told.is_cut (rw (whole told.out) at both);
+      written = told.written;
+    }
 
 pub told_failed : (old mid new : Option (List ℕ)) (doc : State) (all : List (List ℕ)) (line : List ℕ) (lines : List (List ℕ)) (reply : PlainReply) →
-    Told old mid doc all (line ∷ lines) → RepliesTo doc line reply doc → AppendsFront mid new (reply_bytes reply) → AllTold doc all (AppendsFront old new)
+    Told old mid doc all (line ∷ lines) → RepliesTo doc line reply doc → AppendsFront mid new (reply_bytes reply) → HasReplies doc all (AppendsFront old new)
 told_failed old mid new doc all line lines reply told by front =
     let rest = some_replies told.silent (suc told.number) doc lines in
     let both = joins_replies told.silent 1 told.number doc doc told.before (line ∷ lines) told.out (reply_bytes reply ++ rest.0) rest.1 told.replies
     (answered (not_among told.number told.silent told.below) by rest.2 refl) in
-    (told.silent, told.out ++ (reply_bytes reply ++ rest.0), rest.1, rw told.is_cut both, front_behind old mid new told.out (reply_bytes reply) rest.0 told.written front)
+    record {
+      silent = told.silent;
+      out = told.out ++ (reply_bytes reply ++ rest.0);
+      place = rest.1;
+      replies = rw told.is_cut both;
+      written = front_behind old mid new told.out (reply_bytes reply) rest.0 told.written front;
+    }
 
 pub told_failed_silent : (old mid new : Option (List ℕ)) (doc : State) (all : List (List ℕ)) (line : List ℕ) (lines : List (List ℕ)) →
-    Told old mid doc all (line ∷ lines) → AppendsFront mid new (reply_bytes no_memory) → AllTold doc all (AppendsFront old new)
+    Told old mid doc all (line ∷ lines) → AppendsFront mid new (reply_bytes no_memory) → HasReplies doc all (AppendsFront old new)
 told_failed_silent old mid new doc all line lines told front =
     let silent = told.number ∷ told.silent in
     let rest = some_replies silent (suc told.number) doc lines in
     let both = joins_replies silent 1 told.number doc doc told.before (line ∷ lines) told.out (reply_bytes no_memory ++ rest.0) rest.1
     (now_silent old mid doc all (line ∷ lines) told) (without_memory (among_first told.number told.silent) rest.2 refl) in
-    (silent, told.out ++ (reply_bytes no_memory ++ rest.0), rest.1, rw told.is_cut both, front_behind old mid new told.out (reply_bytes no_memory) rest.0 told.written front)
+    record {
+      silent = told.number ∷ told.silent;
+      out = told.out ++ (reply_bytes no_memory ++ rest.0);
+      place = rest.1;
+      replies = rw told.is_cut both;
+      written = front_behind old mid new told.out (reply_bytes no_memory) rest.0 told.written front;
+    }

@@ -12,7 +12,7 @@ use Rattle.pv_read.specs.Grammar.{IsDocumentText, MAX_DOC_BYTES}
 use Rattle.pv_cli.specs.declared.opening.Opened.{Opened}
 use Rattle.pv_cli.specs.declared.status.Status.TheVariants.{BadDtd, BadDocument, Limit}
 use Rattle.pv_cli.specs.Response.{PlainResponse, with_line}
-use Rattle.pv_cli.specs.Stage.{Stage, followed_by, keeping}
+use Rattle.pv_cli.specs.Stage.{Stage, followed_by, beside}
 
 -- the files of a command line, each where it names one: none where there is no such file
 pub record Files : Type 0 where
@@ -69,7 +69,7 @@ document_file_stage root file = followed_by (fetch_stage file MAX_DOC_BYTES (cod
 
 -- opening a DTD and then a document
 abbrev pub opening_stage : List ℕ → Files → Stage (PlainDtd × PlainDoc Mark)
-opening_stage root files = followed_by (dtd_file_stage files.dtd) (λ g. keeping g (document_file_stage root files.doc))
+opening_stage root files = followed_by (dtd_file_stage files.dtd) (λ g. beside g (document_file_stage root files.doc))
 
 abbrev pub plain_opened : Opened → PlainDtd × PlainDoc Mark
 plain_opened opened = (plain_dtd opened.dtd, plain_doc opened.doc)

@@ -22,8 +22,8 @@ followed_by {X} first second = record {
 }
 
 -- a stage that also hands on what was opened before it
-abbrev pub keeping : {X Y : Type 0} → X → Stage Y → Stage (X × Y)
-keeping x stage = record {
+abbrev pub beside : {X Y : Type 0} → X → Stage Y → Stage (X × Y)
+beside x stage = record {
   Opens = λ both. (both.0 ≡ x) × stage.Opens both.1;
   Refuses = stage.Refuses;
   AsksShelf = stage.AsksShelf;

@@ -8,7 +8,7 @@ use Rattle.pv_script.specs.Replies.{PlainReply, document, reply_bytes}
 use Rattle.pv_write.specs.Text.{doc_text}
 use Rattle.pv_cli.specs.declared.stop.Stop.{Stop}
 use Rattle.pv_cli.specs.declared.stop.Stop.TheVariants.{Refused, ShelfFault, InputFault, NoMemory}
-use Rattle.pv_cli.specs.Session.{State, RepliesTo, MAX_SCRIPT_BYTES, IsScriptRefusal}
+use Rattle.pv_cli.specs.Session.{State, RepliesTo, Place, Replies, MAX_SCRIPT_BYTES, IsScriptRefusal}
 use Rattle.pv_cli.specs.Response.{plain_response}
 
 abbrev pub IsShownAs : State → List ℕ → Type 0
@@ -18,6 +18,14 @@ IsShownAs state text = text ≡ reply_bytes (document (doc_text state))
 abbrev pub IsTurn : State → List ℕ → Option (Vec ℕ Global) → Type 0
 IsTurn state line None = command_of line ≡ Some quit
 IsTurn state line (Some text) = (reply : PlainReply) × RepliesTo state line reply state × (text.items ≡ reply_bytes reply)
+
+-- there are replies to all of these lines, which were written like this
+pub record HasReplies (doc : State) (lines : List (List ℕ)) (AreWritten : List ℕ → Type 0) : Type 0 where
+  pub silent : List ℕ
+  pub out : List ℕ
+  pub place : Place
+  pub replies : Replies silent 1 doc lines out place
+  pub written : AreWritten out
 
 -- a script of at most so many bytes, to the end of the input
 pub record IsWholeScript (new : Option (List ℕ)) (script bytes : List ℕ) : Type 0 where

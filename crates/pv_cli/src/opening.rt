@@ -139,7 +139,8 @@ pub fn open<H: Shelf>(
 ) -> Result<Opened, Stop>
     requires dtd_named { Contains (H.names shelf.old) dtd.now }
     requires doc_named { Contains (H.names shelf.old) doc.now }
-    ensures files_read { (files : Files) × IsFile (H.files shelf.old) dtd.now files.dtd × IsFile (H.files shelf.old) doc.now files.doc
+    ensures files_read { (files : Files) × IsFile (H.files shelf.old) dtd.now files.dtd
+        × IsFile (H.files shelf.old) doc.now files.doc
         × Returns plain_opened (opening_stage root.now files) result }
     ensures counts { ShelfCounts (H.faults shelf.old) (H.faults shelf.new) result }
     ensures names { H.names shelf.new ≡ H.names shelf.old }

@@ -10,7 +10,8 @@ use crate::stop::Stop;
 use pv_io::{Sink, write_all};
 
 fn write<K: Sink>(out: &mut K, response: &Response) -> Status
-    ensures { Writes (responds (plain_response response.now)) (K.written out.old) (K.written out.new) (K.faults out.old) (K.faults out.new) result }
+    ensures { Writes (responds (plain_response response.now)) (K.written out.old) (K.written out.new)
+        (K.faults out.old) (K.faults out.new) result }
 {
     match write_all(out, &response.output) {
         Ok(()) => response.status,
@@ -20,7 +21,8 @@ fn write<K: Sink>(out: &mut K, response: &Response) -> Status
 
 /// Writes the response, where there is one, and tells the status.
 pub fn respond<K: Sink>(out: &mut K, answer: Result<Response, Stop>) -> Status
-    ensures { Writes (ending_of answer) (K.written out.old) (K.written out.new) (K.faults out.old) (K.faults out.new) result }
+    ensures { Writes (ending_of answer) (K.written out.old) (K.written out.new)
+        (K.faults out.old) (K.faults out.new) result }
 {
     match answer {
         Ok(response) => write(out, &response),

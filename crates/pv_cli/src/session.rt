@@ -5,8 +5,8 @@ ghost use Rattle.std.specs.Io.KnownBytes.{Appends};
 ghost use Rattle.pv_cli.specs.CommandLine.{AreNamed, session};
 ghost use Rattle.pv_cli.specs.Course.{Course};
 ghost use Rattle.pv_cli.specs.Program.{devices, Runs, Shows};
-ghost use Rattle.pv_cli.specs.Session.{Replies, Place, Converses};
-ghost use Rattle.pv_cli.specs.Turns.{IsTurn, IsShownAs, TakesScript, InputCounts};
+ghost use Rattle.pv_cli.specs.Session.{Converses};
+ghost use Rattle.pv_cli.specs.Turns.{HasReplies, IsTurn, IsShownAs, TakesScript, InputCounts};
 ghost use Rattle.pv_io.specs.Causes.{HasCause, AppendsFront};
 ghost use Rattle.pv_script.specs.Lines.{lines_of};
 ghost use Rattle.pv_tree.specs.PlainDocs.{plain_doc};
@@ -79,12 +79,10 @@ fn turn(alloc: Global, doc: &Doc, line: &[u8]) -> Result<Option<Vec<u8>>, NoMemo
 
 // Answers the lines of a script in order, up to the first `quit`. A line that there is no memory for answers so, and changes nothing.
 fn answer_lines<K: Sink>(alloc: Global, doc: &Doc, script: &[u8], out: &mut K) -> Result<(), Failed>
-    ensures ok { OnOk result ((silent : List ℕ) × (replies : List ℕ) × (place : Place)
-        × Replies silent 1 (plain_doc doc.now) (lines_of script.now) replies place
-        × Appends (K.written out.old) (K.written out.new) replies) }
-    ensures err { OnErr result ((silent : List ℕ) × (replies : List ℕ) × (place : Place)
-        × Replies silent 1 (plain_doc doc.now) (lines_of script.now) replies place
-        × AppendsFront (K.written out.old) (K.written out.new) replies) }
+    ensures ok { OnOk result (HasReplies (plain_doc doc.now) (lines_of script.now)
+        (Appends (K.written out.old) (K.written out.new))) }
+    ensures err { OnErr result (HasReplies (plain_doc doc.now) (lines_of script.now)
+        (AppendsFront (K.written out.old) (K.written out.new))) }
     ensures cause { HasCause (K.faults out.old) (K.faults out.new) result }
 {
     let mut rest = script;
@@ -101,10 +99,12 @@ fn answer_lines<K: Sink>(alloc: Global, doc: &Doc, script: &[u8], out: &mut K) -
 
 // Reads the script, and writes the replies to its lines.
 fn converse<S: Source, K: Sink>(alloc: Global, doc: &Doc, input: &mut S, out: &mut K) -> Status
-    ensures { (files : Option (List (List ℕ × List ℕ))) → (shelf : ℕ) → (course : Course) × Converses (plain_doc doc.now) course
-        × Shows course
-        (devices files shelf input.old (S.left input.old) (S.faults input.old) (K.written out.old) (K.faults out.old))
-        (devices files shelf input.new (S.left input.new) (S.faults input.new) (K.written out.new) (K.faults out.new)) result }
+    ensures { (files : Option (List (List ℕ × List ℕ))) → (shelf : ℕ) →
+        (course : Course) × Converses (plain_doc doc.now) course × Shows course
+        (devices files shelf input.old (S.left input.old) (S.faults input.old)
+        (K.written out.old) (K.faults out.old))
+        (devices files shelf input.new (S.left input.new) (S.faults input.new)
+        (K.written out.new) (K.faults out.new)) result }
 {
     let script = match read_script(alloc, input) {
         Ok(script) => script,
@@ -126,8 +126,10 @@ pub fn session<H: Shelf, S: Source, K: Sink>(
 ) -> Status
     requires { AreNamed (H.names shelf.old) named.now }
     ensures runs { Runs (Some (session named.now.dtd.now named.now.root.now named.now.doc.now))
-        (devices (H.files shelf.old) (H.faults shelf.old) input.old (S.left input.old) (S.faults input.old) (K.written out.old) (K.faults out.old))
-        (devices (H.files shelf.new) (H.faults shelf.new) input.new (S.left input.new) (S.faults input.new) (K.written out.new) (K.faults out.new)) result }
+        (devices (H.files shelf.old) (H.faults shelf.old) input.old (S.left input.old)
+        (S.faults input.old) (K.written out.old) (K.faults out.old))
+        (devices (H.files shelf.new) (H.faults shelf.new) input.new (S.left input.new)
+        (S.faults input.new) (K.written out.new) (K.faults out.new)) result }
     ensures names { H.names shelf.new ≡ H.names shelf.old }
     ensures files { H.files shelf.new ≡ H.files shelf.old }
 {

@@ -1,4 +1,5 @@
-//! The outside: where bytes come from and go to, each with a count of faults.
+//! The outside: where bytes come from and go to, each with a count of faults. A call that answers an error counted a fault, and every other
+//! call counted none (`specs/Causes.antt`); what a device tells of its bytes is what its calls gave and took.
 #![tactic(auto)]
 
 mod machine;

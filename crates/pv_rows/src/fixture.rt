@@ -23,8 +23,8 @@ pub struct Piece {
 #[derive(Clone, Copy)]
 pub struct Given<'g, 'a> {
     pub words: &'g [&'a str],
-    /// Names and their bytes.
-    pub files: &'g [(&'a str, &'a [u8])],
+    /// Names and their texts.
+    pub files: &'g [(&'a str, &'a str)],
     /// The bytes of the input.
     pub input: &'g [u8],
     pub piece: Piece,
@@ -36,7 +36,7 @@ pub struct Given<'g, 'a> {
 
 impl<'g, 'a> Given<'g, 'a> {
     /// These words and files: no input, one byte at once, and no call that fails.
-    pub fn plain(words: &'g [&'a str], files: &'g [(&'a str, &'a [u8])]) -> Given<'g, 'a> {
+    pub fn plain(words: &'g [&'a str], files: &'g [(&'a str, &'a str)]) -> Given<'g, 'a> {
         Given {
             words,
             files,
@@ -75,10 +75,13 @@ fn names_of(alloc: Global, words: &[String]) -> Result<Vec<String>, AllocError>
     Ok(names)
 }
 
-fn files_of(alloc: Global, files: &[(&str, &[u8])]) -> Result<Vec<(String, Vec<u8>)>, AllocError> {
+fn files_of(alloc: Global, files: &[(&str, &str)]) -> Result<Vec<(String, Vec<u8>)>, AllocError> {
     let mut owned = Vec::new(alloc);
     for file in files {
-        owned.push((String::from_str(alloc, file.0)?, file.1.to_vec(alloc)?))?;
+        owned.push((
+            String::from_str(alloc, file.0)?,
+            file.1.as_bytes().to_vec(alloc)?,
+        ))?;
     }
     Ok(owned)
 }

@@ -9,26 +9,35 @@ use std::sync::ledger::Blank;
 use std::test::Fail;
 use std::thread::Threads;
 
-const HELLO: &[u8] = b"<doc>Hello</doc>";
-
-const VALID: [&str; 4] = ["valid", "a.dtd", "doc", "d.xml"];
-
-const SESSION: [&str; 4] = ["session", "a.dtd", "doc", "d.xml"];
+const HELLO: &str = "<doc>Hello</doc>";
 
 // What a run is given, and its status and output.
 fn check<R: AllocGlobal + Threads + Sync + Abort>(
     rt: &R,
     given: &Given<'_, '_>,
     status: Status,
-    output: &[u8],
+    output: &str,
 ) -> Result<(), Fail> {
     let (answered, written) = answer::<Brand, R>(rt, given, Blank::new(1))?;
     assert_eq!(rt; answered, status);
-    assert_eq!(rt; written.as_slice(), output);
+    assert_eq!(rt; written.as_slice(), output.as_bytes());
     Ok(())
 }
 
-// Words that are no command, whatever the files are.
+// The words are no command, whatever the files are.
+fn check_usage<'a, R: AllocGlobal + Threads + Sync + Abort>(
+    rt: &R,
+    words: &[&'a str],
+    files: &[(&'a str, &'a str)],
+    failing_fetches: &[u64],
+) -> Result<(), Fail> {
+    let given = Given {
+        failing_fetches,
+        ..Given::plain(words, files)
+    };
+    check(rt, &given, Status::Usage, "usage\n")
+}
+
 #[test]
 fn words(rt: HostRuntime) -> Result<(), Fail> {
     let lines: [&[&str]; 5] = [
@@ -38,70 +47,107 @@ fn words(rt: HostRuntime) -> Result<(), Fail> {
         &["valid", "a.dtd", "doc", "d.xml", "more"],
         &["vali", "a.dtd", "doc", "d.xml"],
     ];
-    let files: [(&str, &[u8]); 2] = [("a.dtd", TEXT.as_bytes()), ("d.xml", HELLO)];
     for words in lines {
-        let failing = Given {
-            failing_fetches: &[0],
-            ..Given::plain(words, &[])
-        };
-        check(&rt, &Given::plain(words, &files), Status::Usage, b"usage\n")?;
-        check(&rt, &failing, Status::Usage, b"usage\n")?;
+        check_usage(&rt, words, &[("a.dtd", TEXT), ("d.xml", HELLO)], &[])?;
+        check_usage(&rt, words, &[], &[0])?;
     }
     Ok(())
 }
 
+struct Row {
+    command: &'static str,
+    dtd: &'static str,
+    /// Its name and its bytes. The words name `d.xml`.
+    doc: (&'static str, &'static str),
+    /// The numbers of the calls that fail: of the shelf, the input and the output.
+    failing: (&'static [u64], &'static [u64], &'static [u64]),
+    ends: (Status, &'static str),
+}
+
+static FAULTS: [Row; 9] = [
+    Row {
+        command: "valid",
+        dtd: TEXT,
+        doc: ("d.xml", HELLO),
+        failing: (&[1], &[], &[]),
+        ends: (Status::ReadFault, ""),
+    },
+    Row {
+        command: "valid",
+        dtd: TEXT,
+        doc: ("other.xml", HELLO),
+        failing: (&[], &[], &[]),
+        ends: (Status::ReadFault, ""),
+    },
+    Row {
+        command: "valid",
+        dtd: TEXT,
+        doc: ("d.xml", HELLO),
+        failing: (&[], &[], &[2]),
+        ends: (Status::WriteFault, "va"),
+    },
+    Row {
+        command: "valid",
+        dtd: TEXT,
+        doc: ("d.xml", HELLO),
+        failing: (&[2], &[0], &[6]),
+        ends: (Status::Done, "valid\n"),
+    },
+    // The DTD is read before the document is fetched.
+    Row {
+        command: "valid",
+        dtd: "<!ELEMENT doc>",
+        doc: ("other.xml", HELLO),
+        failing: (&[], &[], &[]),
+        ends: (Status::BadDtd, "dtd syntax 0\n"),
+    },
+    Row {
+        command: "valid",
+        dtd: "<!ELEMENT doc>",
+        doc: ("d.xml", HELLO),
+        failing: (&[1], &[], &[]),
+        ends: (Status::BadDtd, "dtd syntax 0\n"),
+    },
+    // Both are read before the input is asked.
+    Row {
+        command: "session",
+        dtd: "<!ELEMENT doc>",
+        doc: ("d.xml", HELLO),
+        failing: (&[], &[0], &[]),
+        ends: (Status::BadDtd, "dtd syntax 0\n"),
+    },
+    Row {
+        command: "session",
+        dtd: TEXT,
+        doc: ("d.xml", "<doc>"),
+        failing: (&[], &[0], &[]),
+        ends: (Status::BadDocument, "document syntax 0\n"),
+    },
+    Row {
+        command: "session",
+        dtd: TEXT,
+        doc: ("d.xml", HELLO),
+        failing: (&[], &[0], &[]),
+        ends: (Status::ReadFault, ""),
+    },
+];
+
+fn check_row<R: AllocGlobal + Threads + Sync + Abort>(rt: &R, row: &Row) -> Result<(), Fail> {
+    let words: [&'static str; 4] = [row.command, "a.dtd", "doc", "d.xml"];
+    let files: [(&'static str, &'static str); 2] = [("a.dtd", row.dtd), row.doc];
+    let given = Given {
+        failing_fetches: row.failing.0,
+        failing_fills: row.failing.1,
+        failing_puts: row.failing.2,
+        ..Given::plain(&words, &files)
+    };
+    check(rt, &given, row.ends.0, row.ends.1)
+}
+
 #[test]
 fn faults(rt: HostRuntime) -> Result<(), Fail> {
-    let both: &[(&str, &[u8])] = &[("a.dtd", TEXT.as_bytes()), ("d.xml", HELLO)];
-    let no_doc: &[(&str, &[u8])] = &[("a.dtd", TEXT.as_bytes())];
-    let bad_dtd: &[(&str, &[u8])] = &[("a.dtd", b"<!ELEMENT doc>")];
-    let bad_doc: &[(&str, &[u8])] = &[("a.dtd", TEXT.as_bytes()), ("d.xml", b"<doc>")];
-    // Words, files, the calls that fail of the shelf, the input and the output, and how that ends.
-    let rows: [(&[&str], &[(&str, &[u8])], [&[u64]; 3], Status, &[u8]); 9] = [
-        (&VALID, both, [&[1], &[], &[]], Status::ReadFault, b""),
-        (&VALID, no_doc, [&[], &[], &[]], Status::ReadFault, b""),
-        (&VALID, both, [&[], &[], &[2]], Status::WriteFault, b"va"),
-        (&VALID, both, [&[2], &[0], &[6]], Status::Done, b"valid\n"),
-        // The DTD is read before the document is fetched.
-        (
-            &VALID,
-            bad_dtd,
-            [&[], &[], &[]],
-            Status::BadDtd,
-            b"dtd syntax 0\n",
-        ),
-        (
-            &VALID,
-            bad_dtd,
-            [&[1], &[], &[]],
-            Status::BadDtd,
-            b"dtd syntax 0\n",
-        ),
-        // Both are read before the input is asked.
-        (
-            &SESSION,
-            bad_dtd,
-            [&[], &[0], &[]],
-            Status::BadDtd,
-            b"dtd syntax 0\n",
-        ),
-        (
-            &SESSION,
-            bad_doc,
-            [&[], &[0], &[]],
-            Status::BadDocument,
-            b"document syntax 0\n",
-        ),
-        (&SESSION, both, [&[], &[0], &[]], Status::ReadFault, b""),
-    ];
-    for (words, files, failing, status, output) in rows {
-        let given = Given {
-            failing_fetches: failing[0],
-            failing_fills: failing[1],
-            failing_puts: failing[2],
-            ..Given::plain(words, files)
-        };
-        check(&rt, &given, status, output)?;
+    for row in &FAULTS {
+        check_row(&rt, row)?;
     }
     Ok(())
 }

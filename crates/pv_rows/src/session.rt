@@ -28,10 +28,7 @@ fn check<'a, R: AllocGlobal + Threads + Sync + Abort>(
     requires { 0 < piece }
 {
     for (doc, script, replies) in rows {
-        let files: [(&'a str, &'a [u8]); 2] = [
-            ("a.dtd", ARTICLE.as_bytes()),
-            ("d.xml", doc.as_bytes()),
-        ];
+        let files: [(&'a str, &'a str); 2] = [("a.dtd", ARTICLE), ("d.xml", *doc)];
         let given = Given {
             input: script.as_bytes(),
             piece: Piece { size: piece },
@@ -77,7 +74,7 @@ fn outcome<R: AllocGlobal + Threads + Sync>(
 ) -> Result<(Status, Vec<u8>), Fail>
     requires { 0 < piece }
 {
-    let files = [("a.dtd", ARTICLE.as_bytes()), ("d.xml", HELLO.as_bytes())];
+    let files = [("a.dtd", ARTICLE), ("d.xml", HELLO)];
     let given = Given {
         input: script,
         piece: Piece { size: piece },

@@ -21,10 +21,7 @@ fn check<'a, R: AllocGlobal + Threads + Sync + Abort>(
 ) -> Result<(), Fail> {
     for (dtd, root, doc, status, line) in rows {
         let words: [&'a str; 4] = ["valid", "a.dtd", *root, "d.xml"];
-        let files: [(&'a str, &'a [u8]); 2] = [
-            ("a.dtd", dtd.as_bytes()),
-            ("d.xml", doc.as_bytes()),
-        ];
+        let files: [(&'a str, &'a str); 2] = [("a.dtd", *dtd), ("d.xml", *doc)];
         let given = Given::plain(&words, &files);
         let (answered, output) = answer::<Brand, R>(rt, &given, Blank::new(1))?;
         assert_eq!(rt; answered, *status, "the status on {doc} by {dtd}");

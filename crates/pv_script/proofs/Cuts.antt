@@ -1,14 +1,14 @@
 -- A script cut at its first LF, and a line cut before the CR bytes at its end.
 use Rattle.std.proofs.Common.{◌≡◌, ℕ, suc, zero, ◌<◌, ◌≤◌, List, [], ◌∷◌, get_or, length, take, drop, false, nat_eq, refl, ap, arith}
 use Rattle.memchr.specs.Find.{Nowhere, Passes, is_byte}
-use Rattle.pv_script.specs.Lines.{begun_with, pieces_of, kept_before, without_returns}
+use Rattle.pv_script.specs.Lines.{with_first_byte, pieces_of, with_byte_before, without_returns}
 
 -- a CR behind the first n bytes is dropped
 pub without_returns-return : (xs : List ℕ) (n : ℕ) → n < length xs → get_or xs n 0 ≡ 13 → without_returns (take n xs) ≡ without_returns (take (suc n) xs)
 without_returns-return [] n within last = absurd (omega arith)
 without_returns-return (x ∷ xs) zero within last = grind arith
 without_returns-return (x ∷ xs) (suc n) within last =
-    ap (kept_before x) (without_returns-return xs n (omega arith) last)
+    ap (with_byte_before x) (without_returns-return xs n (omega arith) last)
 
 -- a line that ends with another byte stays as it is
 pub without_returns-other : (xs : List ℕ) (n : ℕ) → n < length xs → (get_or xs n 0 ≡ 13 → ⊥) → without_returns (take (suc n) xs) ≡ take (suc n) xs
@@ -16,7 +16,7 @@ without_returns-other [] n within last = absurd (omega arith)
 without_returns-other (x ∷ xs) zero within last = grind arith
 without_returns-other (x ∷ []) (suc n) within last = absurd (omega arith)
 without_returns-other (x ∷ y ∷ ys) (suc n) within last =
-    ap (kept_before x) (without_returns-other (y ∷ ys) n (omega arith) last)
+    ap (with_byte_before x) (without_returns-other (y ∷ ys) n (omega arith) last)
 
 -- no LF stands in the first n bytes
 abbrev pub NoFeed : List ℕ → ℕ → Type 0
@@ -44,4 +44,4 @@ pieces_of-free (b ∷ []) some free = let other = head_free b [] 0 free in rw ot
 pieces_of-free (b ∷ c ∷ cs) some free =
     let rest = pieces_of-free (c ∷ cs) (omega arith) (tail_free b (c ∷ cs) (length (c ∷ cs)) free) in
     let other = head_free b (c ∷ cs) (length (c ∷ cs)) free in
-    rw other (ap (begun_with b) rest)
+    rw other (ap (with_first_byte b) rest)

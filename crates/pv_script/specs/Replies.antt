@@ -15,14 +15,14 @@ plain_reply NoCommand = no_command
 plain_reply NoMemory = no_memory
 
 -- a line with its LF
-abbrev pub ended : List ℕ → List ℕ
-ended line = line ++ codes "\n"
+abbrev pub with_feed : List ℕ → List ℕ
+with_feed line = line ++ codes "\n"
 
 -- the number of the document's bytes, and then these bytes
 abbrev pub document_reply : List ℕ → List ℕ
-document_reply bytes = ended (codes "show " ++ decimal (length bytes)) ++ ended bytes
+document_reply bytes = with_feed (codes "show " ++ decimal (length bytes)) ++ with_feed bytes
 
 abbrev pub reply_bytes : PlainReply → List ℕ
 reply_bytes (document bytes) = document_reply bytes
-reply_bytes no_command = ended (codes "no command")
-reply_bytes no_memory = ended (codes "no memory")
+reply_bytes no_command = with_feed (codes "no command")
+reply_bytes no_memory = with_feed (codes "no memory")

@@ -1,4 +1,5 @@
-//! Scripts: their lines, their commands, and the replies.
+//! Scripts: their lines, their commands, and the replies. `next_line` gives the lines of `specs/Lines.antt`, `read_command` the command of
+//! a line (`specs/Commands.antt`), and `reply_text` the bytes of a reply (`specs/Replies.antt`).
 #![tactic(auto)]
 
 mod commands;

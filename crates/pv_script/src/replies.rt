@@ -16,7 +16,7 @@ pub enum Reply {
     NoMemory,
 }
 
-fn shown(alloc: Global, bytes: &[u8]) -> Result<Vec<u8>, NoMemory>
+fn document_text(alloc: Global, bytes: &[u8]) -> Result<Vec<u8>, NoMemory>
     ensures { IfOk result (λ text. text.items ≡ document_reply bytes.now) }
 {
     let mut text = Vec::from_slice(alloc, b"show ")?;
@@ -33,7 +33,7 @@ pub fn reply_text(alloc: Global, reply: &Reply) -> Result<Vec<u8>, NoMemory>
     ensures { IfOk result (λ text. text.items ≡ reply_bytes (plain_reply reply.now)) }
 {
     match reply {
-        Reply::Show(bytes) => shown(alloc, bytes.as_slice()),
+        Reply::Show(bytes) => document_text(alloc, bytes.as_slice()),
         Reply::NoCommand => Ok(Vec::from_slice(alloc, b"no command\n")?),
         Reply::NoMemory => Ok(Vec::from_slice(alloc, b"no memory\n")?),
     }

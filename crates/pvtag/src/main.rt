@@ -42,8 +42,10 @@ fn run<H: Shelf, S: Source, K: Sink, L: Ledger>(
 ) -> ExitCode
     requires { H.names shelf.old ≡ fetch_names words.now }
     ensures { (status : Status) × (exit_status result ≡ code_of status) × Runs (command_line_of (byte_lists words.now))
-        (devices (H.files shelf.old) (H.faults shelf.old) input.old (S.left input.old) (S.faults input.old) (K.written out.old) (K.faults out.old))
-        (devices (H.files shelf.new) (H.faults shelf.new) input.new (S.left input.new) (S.faults input.new) (K.written out.new) (K.faults out.new)) status }
+        (devices (H.files shelf.old) (H.faults shelf.old) input.old (S.left input.old)
+        (S.faults input.old) (K.written out.old) (K.faults out.old))
+        (devices (H.files shelf.new) (H.faults shelf.new) input.new (S.left input.new)
+        (S.faults input.new) (K.written out.new) (K.faults out.new)) status }
 {
     let status = pvtag(rt, alloc, words, shelf, input, out, steps);
     ExitCode::from(status.code())

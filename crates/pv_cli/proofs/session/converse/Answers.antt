@@ -27,14 +27,14 @@ pub returns-in-Ok-answer_lines : goal.returns-in-Ok-answer_lines
 returns-in-Ok-answer_lines g c = λ files shelf.
     let took = c.in-Ok.ensures.script in
     let told = rw (c.deref.ensures.value, took.gives.whole) at c.in-Ok-answer_lines.ensures.ok in
-    let response : PlainResponse = record { status = Done; output = told.1 } in (
-      record { taken = Some took.script; silent = told.0; ending = responds response },
-      record { script = took.script; is_taken = refl; answers = answered_all (record { within = took.gives.within; out = told.1; place = told.2; replies = told.3; is_ending = refl }) },
+    let response : PlainResponse = record { status = Done; output = told.out } in (
+      record { taken = Some took.script; silent = told.silent; ending = responds response },
+      record { script = took.script; is_taken = refl; answers = answered_all (record { within = took.gives.within; out = told.out; place = told.place; replies = told.replies; is_ending = refl }) },
       record {
         shelf = refl;
         input = c.in-Ok.ensures.counts;
         taken = took.taken;
-        output = wrote refl told.4 c.in-Ok-answer_lines.ensures.cause;
+        output = wrote refl told.written c.in-Ok-answer_lines.ensures.cause;
         finished = λ done. took.gives.at_end;
       },
     )
@@ -43,14 +43,14 @@ pub returns : goal.returns
 returns g c = λ files shelf.
     let took = c.in-Ok.ensures.script in
     let told = rw (c.deref.ensures.value, took.gives.whole) at c.in-Err-answer_lines.ensures.err in
-    let response : PlainResponse = record { status = Done; output = told.1 } in (
-      record { taken = Some took.script; silent = told.0; ending = responds response },
-      record { script = took.script; is_taken = refl; answers = answered_all (record { within = took.gives.within; out = told.1; place = told.2; replies = told.3; is_ending = refl }) },
+    let response : PlainResponse = record { status = Done; output = told.out } in (
+      record { taken = Some took.script; silent = told.silent; ending = responds response },
+      record { script = took.script; is_taken = refl; answers = answered_all (record { within = took.gives.within; out = told.out; place = told.place; replies = told.replies; is_ending = refl }) },
       record {
         shelf = refl;
         input = c.in-Ok.ensures.counts;
         taken = took.taken;
-        output = cut_off response refl refl told.4 c.in-Err-answer_lines.ensures.cause;
+        output = cut_off response refl refl told.written c.in-Err-answer_lines.ensures.cause;
         finished = λ done. took.gives.at_end;
       },
     )
