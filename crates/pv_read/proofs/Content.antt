@@ -8,7 +8,8 @@ use Rattle.pv_tree.specs.declared.nodes.Node.TheVariants.{Text}
 use Rattle.pv_read.specs.Errors.{Refuses}
 use Rattle.pv_read.specs.declared.errors.DocError.{DocError}
 use Rattle.pv_read.specs.declared.errors.DocError.TheVariants.{Syntax, NoMemory}
-use Rattle.pv_read.specs.Reading.{PlainTag, start_tag_at, end_tag_at, text_at, begins_end_tag, ReadsElement, short_tag, start_tag, ReadsContent, close, run, inner}
+use Rattle.pv_read.specs.Reading.{PlainTag, TakesTag, BeginsNoTag, end_tag_at, text_at, begins_end_tag, ReadsElement, short_tag, start_tag, ReadsContent, close, run, inner}
+use Rattle.pv_read.proofs.TagForms.{one_tag}
 use Rattle.pv_read.proofs.OneTree.{same_pair, one_element, one_content}
 
 -- these trees, and then the others
@@ -79,12 +80,12 @@ pub Refuses-weaker : (e : DocError) (P Q : Type 0) → (P → Q) → Refuses e P
 Refuses-weaker (Syntax k) P Q f (at, p) = (at, f p)
 Refuses-weaker NoMemory P Q f p = tt
 
-pub reads_short : {M : Type 0} {m : M} {d : ℕ} {bytes rest : List ℕ} {tag : PlainTag} {t : Tree M} → start_tag_at bytes ≡ Some (tag, rest) → tag.is_short ≡ true → 0 < d → t ≡ element tag.name tag.attrs short no_trees m → ReadsElement m d bytes t rest
+pub reads_short : {M : Type 0} {m : M} {d : ℕ} {bytes rest : List ℕ} {tag : PlainTag} {t : Tree M} → TakesTag bytes tag rest → tag.is_short ≡ true → 0 < d → t ≡ element tag.name tag.attrs short no_trees m → ReadsElement m d bytes t rest
 reads_short {d = zero} start is_short some is = absurd (omega arith)
 reads_short {d = suc d} start is_short some is = rw is (short_tag start is_short)
 
 pub reads_tagged : {M : Type 0} {m : M} {d : ℕ} {bytes inner end rest gap : List ℕ} {tag : PlainTag} {kids : Forest M} {t : Tree M}
-    → start_tag_at bytes ≡ Some (tag, inner) → tag.is_short ≡ false → 0 < d → ReadsContent m (d - 1) inner kids end → end_tag_at tag.name end ≡ Some (gap, rest)
+    → TakesTag bytes tag inner → tag.is_short ≡ false → 0 < d → ReadsContent m (d - 1) inner kids end → end_tag_at tag.name end ≡ Some (gap, rest)
     → t ≡ element tag.name tag.attrs (tagged gap) kids m → ReadsElement m d bytes t rest
 reads_tagged {d = zero} start is_tagged some reads end is = absurd (omega arith)
 reads_tagged {d = suc d} start is_tagged some reads end is =
@@ -92,11 +93,29 @@ reads_tagged {d = suc d} start is_tagged some reads end is =
     rw is (start_tag start is_tagged (rw same at reads) end)
 
 pub no_end_tag : {M : Type 0} {m : M} {d : ℕ} {bytes inner end rest : List ℕ} {tag : PlainTag} {kids : Forest M} {t : Tree M}
-    → start_tag_at bytes ≡ Some (tag, inner) → tag.is_short ≡ false → ReadsContent m (d - 1) inner kids end → end_tag_at tag.name end ≡ None
+    → TakesTag bytes tag inner → tag.is_short ≡ false → ReadsContent m (d - 1) inner kids end → end_tag_at tag.name end ≡ None
     → ReadsElement m d bytes t rest → ⊥
-no_end_tag start is_tagged reads none (short_tag e s) = let same = same_pair _ _ _ _ _ start e in cc
+no_end_tag start is_tagged reads none (short_tag e s) = let same = one_tag start e in cc
 no_end_tag {d = suc d} start is_tagged reads none (start_tag e s c g) =
     let less : suc d - 1 ≡ d = omega arith in
-    let same = same_pair _ _ _ _ _ start e in
+    let same = one_tag start e in
     let below = one_content (rw less at reads) (rw (← same.1) at c) in
     cc
+
+-- where no tag stands no element does
+pub no_tag : {M : Type 0} {m : M} {d : ℕ} {bytes rest : List ℕ} {t : Tree M} → BeginsNoTag bytes → ReadsElement m d bytes t rest → ⊥
+no_tag none (short_tag e s) = none _ _ e
+no_tag none (start_tag e s c g) = none _ _ e
+
+pub no_depth : {M : Type 0} {m : M} {d : ℕ} {bytes rest : List ℕ} {t : Tree M} → d ≡ 0 → ReadsElement m d bytes t rest → ⊥
+no_depth none (short_tag e s) = omega (arith, none)
+no_depth none (start_tag e s c g) = omega (arith, none)
+
+-- where no content stands behind a start tag no element does
+pub no_content : {M : Type 0} {m : M} {d : ℕ} {bytes inner rest : List ℕ} {tag : PlainTag} {t : Tree M} → TakesTag bytes tag inner → tag.is_short ≡ false
+    → ((kids : Forest M) (end : List ℕ) → ReadsContent m (d - 1) inner kids end → ⊥) → ReadsElement m d bytes t rest → ⊥
+no_content start is_tagged none (short_tag e s) = let same = one_tag start e in cc
+no_content {d = suc d} start is_tagged none (start_tag {end = end} {kids = kids} e s c g) =
+    let less : suc d - 1 ≡ d = omega arith in
+    let same = one_tag start e in
+    none kids end (rw (less, same.1) c)

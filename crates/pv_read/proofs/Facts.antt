@@ -2,10 +2,13 @@
 use Rattle.std.proofs.Common.{◌≡◌, ◌≤◌, ◌+◌, ◌*◌, ℕ, List, [], ◌∷◌, ◌++◌, Bool, true, false, not, ◌&&◌, cond, IsTrue, codes, length, length-append, append-nil, refl, sym, subst, arith}
 use Rattle.std.specs.List.{list_all}
 use Rattle.std.proofs.lemmas.Bool.{and_parts, not-true, or_parts}
-use Rattle.pv_chars.specs.PlainNames.{IsPlainName}
+use Rattle.pv_chars.specs.Names.{IsName}
+use Rattle.pv_chars.proofs.NameLemmas.{name_chars_are_scalars}
+use Rattle.pv_chars.proofs.Ranges.{name_start_is_name_char}
+use Rattle.pv_chars.proofs.Utf8Lemmas.{begins_shorter}
 use Rattle.pv_chars.specs.Texts.{units_of, is_text_char, IsPlainText, holds_close_mark, begins_close_mark}
 use Rattle.pv_tree.specs.Plain.{short, tagged, Tree, element, text_node, cdata_node, misc_node, Forest, no_trees, tree, nodes_in, nodes_in_all, is_element}
-use Rattle.pv_tree.specs.Legal.{is_formed, are_formed, is_plain_unit, are_plain_units, is_legal, are_legal, is_open, front_units, has_no_close_mark, have_no_close_mark, starts_no_close_mark}
+use Rattle.pv_tree.specs.Legal.{HasNames, HaveNames, is_formed, are_formed, is_plain_unit, are_plain_units, is_legal, are_legal, is_open, front_units, has_no_close_mark, have_no_close_mark, starts_no_close_mark}
 use Rattle.pv_read.specs.Grammar.{SpellsNode, SpellsContent, IsElement, IsWholeRun, begins_with_text}
 use Rattle.pv_read.proofs.TextLemmas.{text_chars, no_close_mark}
 
@@ -40,8 +43,8 @@ text_legal (b ∷ bs) plain = all_plain_units (b ∷ bs) (text_chars (b ∷ bs) 
 
 mutual
   pub legal : {M : Type 0} (t : Tree M) (bytes : List ℕ) → SpellsNode t bytes → IsTrue (is_legal t)
-  legal (element x attrs short kids mark) bytes (name, space, none, whole) = rw (name, space, none) refl
-  legal (element x attrs (tagged gap) kids mark) bytes (content, name, space, white, spells, whole) = rw (name, space, white) (all_legal kids content spells)
+  legal (element x attrs short kids mark) bytes (name, space, none, whole) = rw (space, none) refl
+  legal (element x attrs (tagged gap) kids mark) bytes (content, name, space, white, spells, whole) = rw (space, white) (all_legal kids content spells)
   legal (text_node units) bytes (plain, is_units) = rw is_units (text_legal bytes plain)
   legal (cdata_node held) bytes spells = absurd spells
   legal (misc_node held) bytes spells = absurd spells
@@ -49,6 +52,18 @@ mutual
   all_legal : {M : Type 0} (kids : Forest M) (bytes : List ℕ) → SpellsContent kids bytes → IsTrue (are_legal kids)
   all_legal no_trees bytes spells = refl
   all_legal (tree t kids) bytes (first, more, spells, whole_run, below, whole) = rw (legal t first spells) (all_legal kids more below)
+
+mutual
+  pub named : {M : Type 0} (t : Tree M) (bytes : List ℕ) → SpellsNode t bytes → HasNames t
+  named (element x attrs short kids mark) bytes (name, space, none, whole) = (name, rw none tt)
+  named (element x attrs (tagged gap) kids mark) bytes (content, name, space, white, spells, whole) = (name, all_named kids content spells)
+  named (text_node units) bytes spells = tt
+  named (cdata_node held) bytes spells = tt
+  named (misc_node held) bytes spells = tt
+
+  all_named : {M : Type 0} (kids : Forest M) (bytes : List ℕ) → SpellsContent kids bytes → HaveNames kids
+  all_named no_trees bytes spells = tt
+  all_named (tree t kids) bytes (first, more, spells, whole_run, below, whole) = (named t first spells, all_named kids more below)
 
 -- no text stands in front of a forest that begins with none
 pub no_front : {M : Type 0} (kids : Forest M) → IsTrue (not (begins_with_text kids)) → front_units kids ≡ []
@@ -108,9 +123,14 @@ few_with_first (text_node units) kids first more (plain, is_units) whole_run few
 few_with_first (cdata_node held) kids first more spells whole_run few few_others = absurd spells
 few_with_first (misc_node held) kids first more spells whole_run few few_others = absurd spells
 
-name_some : (name : List ℕ) → IsPlainName name → 1 ≤ length name
-name_some [] plain = cc
-name_some (b ∷ bs) plain = omega arith
+name_some : (name : List ℕ) → IsName name → 1 ≤ length name
+name_some name is =
+    let scalar = name_chars_are_scalars is.first (name_start_is_name_char is.first is.is_start) in
+    let shorter = begins_shorter name is.first is.others (record { scalar = scalar; whole = is.whole }) in
+    omega arith
+
+pub no_empty_name : IsName [] → ⊥
+no_empty_name is = let some = name_some [] is in omega arith
 
 short_length : (x attrs : List ℕ) → length (codes "<" ++ x ++ attrs ++ codes "/>") ≡ 3 + length x + length attrs
 short_length x attrs = simp length-append (omega arith)

@@ -4,7 +4,7 @@ use Rattle.pv_chars.specs.Texts.{units_of}
 use Rattle.pv_tree.specs.Plain.{tagged, Tree, element, text_node, cdata_node, misc_node, Forest, tree, depth_of, depth_of_all, remarked, remarked_all}
 use Rattle.pv_read.specs.Grammar.{SpellsNode, SpellsContent, IsElement, IsWholeRun, begins_with_text}
 use Rattle.pv_read.specs.Reading.{text_at, ReadsElement, short_tag, start_tag, ReadsContent, close, run, inner}
-use Rattle.pv_read.proofs.TagForms.{start_tag_at_takes, end_tag_at_takes}
+use Rattle.pv_read.proofs.TagForms.{tag_spelled, end_tag_at_takes}
 use Rattle.pv_read.proofs.TextLemmas.{text_at_takes, text_at-none}
 
 pub record SpelledElement {M : Type 0} (m : M) (d : ℕ) (bytes : List ℕ) (t : Tree M) (rest : List ℕ) : Type 0 where
@@ -50,7 +50,7 @@ around_content name attrs content gap bytes inside end rest is_bytes is_inside i
 mutual
   pub spelled_element : {M : Type 0} {m : M} {d : ℕ} {bytes rest : List ℕ} {t : Tree M} → ReadsElement m d bytes t rest → SpelledElement m d bytes t rest
   spelled_element {m = m} {d = suc d} {bytes = bytes} {rest = rest} (short_tag {tag = tag} e s) =
-      let takes = start_tag_at_takes bytes tag rest e in
+      let takes = tag_spelled bytes tag rest e in
       record {
         front = codes "<" ++ tag.name ++ tag.attrs ++ codes "/>";
         spells = (takes.name, takes.space, refl, refl);
@@ -60,7 +60,7 @@ mutual
         marks = refl;
       }
   spelled_element {m = m} {d = suc d} {bytes = bytes} {rest = rest} (start_tag {inner = inside} {end = end} {gap = gap} {tag = tag} {kids = kids} e s c g) =
-      let takes = start_tag_at_takes bytes tag inside e in
+      let takes = tag_spelled bytes tag inside e in
       let below = spelled_content c in
       let ends = end_tag_at_takes tag.name end gap rest g in
       record {

@@ -1,26 +1,27 @@
 -- What is spelled is read.
 use Rattle.std.proofs.Common.{◌≡◌, ◌≤◌, ℕ, zero, suc, List, [], ◌∷◌, ◌++◌, Bool, true, false, not, cond, ◌&&◌, IsTrue, codes, length, refl, ◌==◌, append_assoc, arith}
-use Rattle.std.specs.Prelude.{nat_le}
-use Rattle.std.specs.List.{list_all}
-use Rattle.std.proofs.lemmas.Bool.Decides.{nat_tests}
-use Rattle.std.proofs.lemmas.Bool.{and_parts}
+use Rattle.std.proofs.lemmas.Bool.Decides.{Decides-eqb}
 use Rattle.pv_chars.specs.Spaces.{is_space}
-use Rattle.pv_chars.proofs.Scanning.{begins}
-use Rattle.pv_chars.specs.PlainNames.{IsPlainName, is_plain_name_start, is_plain_name_byte, MAX_NAME_BYTES}
+use Rattle.pv_chars.specs.Spaces.{begins}
+use Rattle.pv_chars.specs.Characters.{is_name_start}
+use Rattle.pv_chars.specs.Names.{IsName}
+use Rattle.pv_chars.proofs.SpaceLemmas.{ascii_ends}
+use Rattle.pv_read.proofs.Facts.{no_empty_name}
 use Rattle.pv_tree.specs.Plain.{short, tagged, Tree, element, text_node, cdata_node, misc_node, Forest, no_trees, tree, depth_of, depth_of_all, remarked, remarked_all}
 use Rattle.pv_read.specs.Grammar.{SpellsNode, SpellsContent, IsElement, IsWholeRun, begins_with_text}
 use Rattle.pv_read.specs.Reading.{PlainTag, text_length, begins_end_tag, ReadsElement, short_tag, start_tag, ReadsContent, close, run, inner}
-use Rattle.pv_read.proofs.TagForms.{closing, start_tag_at-append, end_tag_at-append}
+use Rattle.pv_read.proofs.TagForms.{closing, tag_taken, end_tag_at-append}
 use Rattle.pv_read.proofs.TextLemmas.{text_at-append, text_at-none, begins_end_tag-text}
 
-start_no_slash : (b : ℕ) → is_plain_name_start b ≡ true → (b == 47) ≡ false
-start_no_slash b e = grind (arith, nat_tests)
+name_no_slash : (b : ℕ) (bs : List ℕ) (slash : Bool) → (b == 47) ≡ slash → IsName (b ∷ bs) → slash ≡ false
+name_no_slash b bs true is name =
+    let same : b ≡ 47 = (Decides-eqb b 47).0 is in
+    absurd (ascii_ends is_name_start 47 bs (omega arith) refl name.first name.others name.is_start (rw same at name.whole))
+name_no_slash b bs false is name = refl
 
-name_no_end_tag : (name rest : List ℕ) → IsPlainName name → begins_end_tag (60 ∷ (name ++ rest)) ≡ false
-name_no_end_tag [] rest plain = cc
-name_no_end_tag (b ∷ bs) rest plain =
-    let parts = and_parts (is_plain_name_start b && list_all is_plain_name_byte bs) (nat_le (length (b ∷ bs)) MAX_NAME_BYTES) plain in
-    start_no_slash b (and_parts (is_plain_name_start b) (list_all is_plain_name_byte bs) parts.0).0
+name_no_end_tag : (name rest : List ℕ) → IsName name → begins_end_tag (60 ∷ (name ++ rest)) ≡ false
+name_no_end_tag [] rest name = absurd (no_empty_name name)
+name_no_end_tag (b ∷ bs) rest name = name_no_slash b bs (b == 47) refl name
 
 short_whole : (x attrs bytes rest : List ℕ) → bytes ≡ codes "<" ++ x ++ attrs ++ codes "/>" → bytes ++ rest ≡ codes "<" ++ (x ++ (attrs ++ (closing true ++ rest)))
 short_whole x attrs bytes rest whole = rw whole (simp append_assoc)
@@ -82,12 +83,12 @@ mutual
   reads_element zero (element x attrs ending kids mark) bytes rest spells is shallow = absurd (omega arith)
   reads_element (suc d) (element x attrs short kids mark) bytes rest (name, space, none, whole) is shallow =
       let tag : PlainTag = record { name = x; attrs = attrs; is_short = true } in
-      rw (short_whole x attrs bytes rest whole, none) (short_tag {tag = tag} (start_tag_at-append tag rest name space) refl)
+      rw (short_whole x attrs bytes rest whole, none) (short_tag {tag = tag} (tag_taken tag rest name space) refl)
   reads_element (suc d) (element x attrs (tagged gap) kids mark) bytes rest (content, name, space, white, spells, whole) is shallow =
       let tag : PlainTag = record { name = x; attrs = attrs; is_short = false } in
       let end = codes "</" ++ (x ++ (gap ++ (codes ">" ++ rest))) in
       let below = reads_content d kids content end spells (omega arith) refl in
-      rw (tagged_whole x attrs content gap bytes rest whole) (start_tag {tag = tag} (start_tag_at-append tag (inside content x gap rest) name space) refl below (end_tag_at-append x gap rest white))
+      rw (tagged_whole x attrs content gap bytes rest whole) (start_tag {tag = tag} (tag_taken tag (inside content x gap rest) name space) refl below (end_tag_at-append x gap rest white))
   reads_element d (text_node units) bytes rest spells is shallow = absurd is
   reads_element d (cdata_node held) bytes rest spells is shallow = absurd is
   reads_element d (misc_node held) bytes rest spells is shallow = absurd is

@@ -1,15 +1,22 @@
 -- What a tag is read from, and how it is spelled.
-use Rattle.std.proofs.Common.{◌≡◌, ℕ, ◌+◌, List, [], ◌∷◌, ◌++◌, length, take, drop, Bool, true, false, ◌==◌, cond, codes, Option, Some, None, refl, sym, ap, ◌∙◌, add-one, arith}
+use Rattle.std.specs.Prelude.{MatchOption}
+use Rattle.std.specs.Option.{option_map}
+use Rattle.std.proofs.Common.{◌≡◌, ◌≢◌, ℕ, ◌+◌, List, [], ◌∷◌, ◌++◌, length, take, drop, Bool, true, false, ◌==◌, cond, codes, Option, Some, None, refl, sym, ap, ◌∙◌, add-one, arith}
 use Rattle.std.proofs.Math.Seq.{take-append_seam, drop-append_seam}
 use Rattle.std.specs.List.{list_all}
 use Rattle.std.proofs.lemmas.Bool.Decides.{Decides-eqb, nat_tests}
 use Rattle.std.proofs.lemmas.Bool.{and_parts}
 use Rattle.pv_chars.specs.Spaces.{is_space, IsOptionalSpace}
-use Rattle.pv_chars.specs.PlainNames.{is_plain_name_byte, IsPlainName}
+use Rattle.pv_chars.specs.Characters.{is_name_char, BeginsNo}
+use Rattle.pv_chars.specs.Names.{IsName, TakesName, BeginsNoName}
 use Rattle.pv_chars.specs.Scan.{space_length, after_bytes}
-use Rattle.pv_chars.proofs.Scanning.{begins, plain_name_at_takes, plain_name_at-append, after_bytes_takes, after_bytes-append}
+use Rattle.pv_chars.specs.Spaces.{begins}
+use Rattle.pv_chars.proofs.Scanning.{after_bytes_takes, after_bytes-append}
+use Rattle.pv_chars.proofs.MarkupLemmas.{behind}
+use Rattle.pv_chars.proofs.NameLemmas.{same_name}
+use Rattle.pv_chars.proofs.SpaceLemmas.{ascii_ends, space_ends_name}
 use Rattle.pv_read.proofs.Steps.{some_pair, bound}
-use Rattle.pv_read.specs.Reading.{PlainTag, tag_end, space_at, closed_tag, named_tag, start_tag_at, closed_end_tag, named_end_tag, end_tag_at}
+use Rattle.pv_read.specs.Reading.{PlainTag, tag_end, space_at, closed_tag, TakesTag, BeginsNoTag, closed_end_tag, named_end_tag, end_tag_at}
 
 -- White space stands in front of the rest, and all of it.
 pub record CutsSpace (bytes space rest : List ℕ) : Type 0 where
@@ -68,8 +75,8 @@ tag_end-append false [] = refl
 tag_end-append false (b ∷ bs) = refl
 
 -- A start tag or empty-element tag is spelled before the rest.
-pub record TakesTag (bytes : List ℕ) (tag : PlainTag) (rest : List ℕ) : Type 0 where
-  pub name : IsPlainName tag.name
+pub record SpellsTag (bytes : List ℕ) (tag : PlainTag) (rest : List ℕ) : Type 0 where
+  pub name : IsName tag.name
   pub space : IsOptionalSpace tag.attrs
   pub whole : bytes ≡ codes "<" ++ (tag.name ++ (tag.attrs ++ (closing tag.is_short ++ rest)))
 
@@ -84,43 +91,68 @@ closed_tag_takes name cut tag rest e =
     let is_short : end.0.0 ≡ tag.is_short = ap (λ (t : PlainTag). t.is_short) same.0 in
     (sym (ap (λ (t : PlainTag). t.name) same.0), sym (ap (λ (t : PlainTag). t.attrs) same.0), cc)
 
-named_tag_takes : (bytes : List ℕ) (tag : PlainTag) (rest : List ℕ) → named_tag bytes ≡ Some (tag, rest)
-    → IsPlainName tag.name × IsOptionalSpace tag.attrs × (bytes ≡ tag.name ++ (tag.attrs ++ (closing tag.is_short ++ rest)))
-named_tag_takes bytes tag rest e =
-    let name = bound _ _ _ e in
-    let takes = plain_name_at_takes _ _ _ name.1 in
-    let cut = space_at_cuts name.0.1 in
-    let close = closed_tag_takes name.0.0 (space_at name.0.1) tag rest name.2 in
-    (rw close.0 takes.plain, rw close.1 cut.optional, cc)
+pub tag_spelled : (bytes : List ℕ) (tag : PlainTag) (rest : List ℕ) → TakesTag bytes tag rest → SpellsTag bytes tag rest
+tag_spelled bytes tag rest t =
+    let cut = space_at_cuts t.behind in
+    let close = closed_tag_takes tag.name (space_at t.behind) tag rest t.is_closed in
+    let behind_is : t.behind ≡ tag.attrs ++ (closing tag.is_short ++ rest) = cc in
+    record {
+      name = t.is_named.is_name;
+      space = rw close.1 cut.optional;
+      whole = t.is_begun ∙ ap (λ r. codes "<" ++ r) (t.is_named.whole ∙ ap (λ r. tag.name ++ r) behind_is);
+    }
 
-pub start_tag_at_takes : (bytes : List ℕ) (tag : PlainTag) (rest : List ℕ) → start_tag_at bytes ≡ Some (tag, rest) → TakesTag bytes tag rest
-unfolding start_tag_at
-start_tag_at_takes bytes tag rest e =
-    let begun = bound (after_bytes (codes "<") bytes) named_tag _ e in
-    let named = named_tag_takes begun.0 tag rest begun.2 in
-    record { name = named.0; space = named.1; whole = after_bytes_takes (codes "<") _ _ begun.1 ∙ ap (λ r. codes "<" ++ r) named.2 }
+same_closed : (bytes named name behind_name : List ℕ) (tag : PlainTag) (rest : List ℕ) → bytes ≡ codes "<" ++ named → TakesName named name behind_name → TakesTag bytes tag rest
+    → closed_tag name (space_at behind_name) ≡ Some (tag, rest)
+same_closed bytes named name behind_name tag rest begun takes t =
+    let same_begun : named ≡ t.named = behind (codes "<") named t.named (sym begun ∙ t.is_begun) in
+    let same = same_name named name behind_name tag.name t.behind takes (rw (← same_begun) at t.is_named) in
+    rw (same.0, same.1) t.is_closed
+
+-- one tag stands at the front
+pub one_tag : {bytes rest more : List ℕ} {tag other : PlainTag} → TakesTag bytes tag rest → TakesTag bytes other more → (tag ≡ other) × (rest ≡ more)
+one_tag {bytes = bytes} {rest = rest} {more = more} {tag = tag} {other = other} a b =
+    some_pair (tag, rest) (other, more) (sym a.is_closed ∙ same_closed bytes a.named tag.name a.behind other more a.is_begun a.is_named b)
+
+pub no_tag_start : (bytes : List ℕ) → ((rest : List ℕ) → bytes ≢ codes "<" ++ rest) → BeginsNoTag bytes
+no_tag_start bytes none tag rest t = none t.named t.is_begun
+
+pub no_tag_name : (bytes named : List ℕ) → bytes ≡ codes "<" ++ named → BeginsNoName named → BeginsNoTag bytes
+no_tag_name bytes named begun none tag rest t =
+    let same_begun : named ≡ t.named = behind (codes "<") named t.named (sym begun ∙ t.is_begun) in
+    none tag.name t.behind t.is_named.is_name (same_begun ∙ t.is_named.whole)
+
+-- a tag is found by what stands behind its name
+pub tag_by : {A : Type 0} (f : A → PlainTag × List ℕ) (r : Option A) (bytes named name behind_name : List ℕ) → bytes ≡ codes "<" ++ named → TakesName named name behind_name
+    → option_map f r ≡ closed_tag name (space_at behind_name) → MatchOption r (BeginsNoTag bytes) (λ x. TakesTag bytes (f x).0 (f x).1)
+tag_by f (Some x) bytes named name behind_name begun takes e =
+    let close = closed_tag_takes name (space_at behind_name) (f x).0 (f x).1 (sym e) in
+    record { named = named; behind = behind_name; is_begun = begun; is_named = rw close.0 takes; is_closed = sym (e ∙ ap (λ n. closed_tag n (space_at behind_name)) (sym close.0)) }
+tag_by f None bytes named name behind_name begun takes e =
+    λ tag rest t. let closed = same_closed bytes named name behind_name tag rest begun takes t in cc
 
 no_space_closes : (is_short : Bool) (rest : List ℕ) → begins is_space (closing is_short ++ rest) ≡ false
 no_space_closes true rest = refl
 no_space_closes false rest = refl
 
-no_name_closes : (is_short : Bool) (rest : List ℕ) → begins is_plain_name_byte (closing is_short ++ rest) ≡ false
-no_name_closes true rest = refl
-no_name_closes false rest = refl
+no_name_closes : (is_short : Bool) (rest : List ℕ) → BeginsNo is_name_char (closing is_short ++ rest)
+no_name_closes true rest = ascii_ends is_name_char 47 (62 ∷ rest) (omega arith) refl
+no_name_closes false rest = ascii_ends is_name_char 62 rest (omega arith) refl
 
-space_is_no_name : (b : ℕ) → is_space b ≡ true → is_plain_name_byte b ≡ false
-space_is_no_name b e = grind (arith, nat_tests)
-
-no_name_follows : (space rest : List ℕ) → IsOptionalSpace space → begins is_plain_name_byte rest ≡ false → begins is_plain_name_byte (space ++ rest) ≡ false
+no_name_follows : (space rest : List ℕ) → IsOptionalSpace space → BeginsNo is_name_char rest → BeginsNo is_name_char (space ++ rest)
 no_name_follows [] rest space none = none
-no_name_follows (b ∷ bs) rest space none = space_is_no_name b (and_parts (is_space b) (list_all is_space bs) space).0
+no_name_follows (b ∷ bs) rest space none = space_ends_name (b ∷ bs) rest (record { some = λ e. cc; space = space })
 
-pub start_tag_at-append : (tag : PlainTag) (rest : List ℕ) → IsPlainName tag.name → IsOptionalSpace tag.attrs → start_tag_at (codes "<" ++ (tag.name ++ (tag.attrs ++ (closing tag.is_short ++ rest)))) ≡ Some (tag, rest)
-unfolding start_tag_at
-start_tag_at-append tag rest name space =
-    let named = plain_name_at-append tag.name (tag.attrs ++ (closing tag.is_short ++ rest)) name (no_name_follows tag.attrs _ space (no_name_closes tag.is_short rest)) in
+pub tag_taken : (tag : PlainTag) (rest : List ℕ) → IsName tag.name → IsOptionalSpace tag.attrs → TakesTag (codes "<" ++ (tag.name ++ (tag.attrs ++ (closing tag.is_short ++ rest)))) tag rest
+tag_taken tag rest name space =
     let spaced = space_at-append tag.attrs (closing tag.is_short ++ rest) space (no_space_closes tag.is_short rest) in
-    rw named (ap (closed_tag tag.name) spaced ∙ rw (tag_end-append tag.is_short rest) refl)
+    record {
+      named = tag.name ++ (tag.attrs ++ (closing tag.is_short ++ rest));
+      behind = tag.attrs ++ (closing tag.is_short ++ rest);
+      is_begun = refl;
+      is_named = record { is_name = name; whole = refl; ends = no_name_follows tag.attrs (closing tag.is_short ++ rest) space (no_name_closes tag.is_short rest) };
+      is_closed = ap (closed_tag tag.name) spaced ∙ rw (tag_end-append tag.is_short rest) refl;
+    }
 
 -- The end tag of this name is spelled before the rest.
 pub record TakesEndTag (name bytes gap rest : List ℕ) : Type 0 where

@@ -1,7 +1,7 @@
--- The grammar of a plain document (XML 1.0, sections 2.1, 2.4 and 3.1): elements with plain names and no attributes, and plain texts.
+-- The grammar of a plain document (XML 1.0, sections 2.1, 2.4 and 3.1): elements without attributes, and plain texts.
 use Rattle.std.specs.Prelude.{◌≡◌, ◌≤◌, ℕ, Bool, true, false, not, List, [], ◌++◌, length, codes, IsTrue}
 use Rattle.pv_chars.specs.Spaces.{IsOptionalSpace}
-use Rattle.pv_chars.specs.PlainNames.{IsPlainName}
+use Rattle.pv_chars.specs.Names.{IsName}
 use Rattle.pv_chars.specs.Texts.{units_of, IsPlainText}
 use Rattle.pv_tree.specs.Plain.{short, tagged, Tree, element, text_node, cdata_node, misc_node, Forest, no_trees, tree, PlainDoc, depth_of}
 use Rattle.pv_tree.specs.Legal.{MAX_DEPTH}
@@ -24,9 +24,9 @@ abbrev mutual
   -- element: EmptyElemTag, or STag content ETag of the same name; or CharData
   pub SpellsNode : {M : Type 0} → Tree M → List ℕ → Type 0
   SpellsNode (element x attrs short kids mark) bytes =
-      IsPlainName x × IsOptionalSpace attrs × (kids ≡ no_trees) × (bytes ≡ codes "<" ++ x ++ attrs ++ codes "/>")
+      IsName x × IsOptionalSpace attrs × (kids ≡ no_trees) × (bytes ≡ codes "<" ++ x ++ attrs ++ codes "/>")
   SpellsNode (element x attrs (tagged gap) kids mark) bytes =
-      (content : List ℕ) × IsPlainName x × IsOptionalSpace attrs × IsOptionalSpace gap × SpellsContent kids content ×
+      (content : List ℕ) × IsName x × IsOptionalSpace attrs × IsOptionalSpace gap × SpellsContent kids content ×
       (bytes ≡ codes "<" ++ x ++ attrs ++ codes ">" ++ content ++ codes "</" ++ x ++ gap ++ codes ">")
   SpellsNode (text_node units) bytes = IsPlainText bytes × (units ≡ units_of bytes)
   SpellsNode (cdata_node inner) bytes = ⊥

@@ -1,6 +1,7 @@
 -- A plain document as it is read, from the left. Mark m is given to each element.
-use Rattle.std.specs.Prelude.{◌≡◌, ℕ, suc, ◌+◌, Bool, true, false, List, [], ◌∷◌, ◌==◌, if◌then◌else◌, codes, Option, Some, None}
-use Rattle.pv_chars.specs.Scan.{◌>>=◌, split, space_length, plain_name_at, after_bytes}
+use Rattle.std.specs.Prelude.{◌≡◌, ℕ, suc, ◌+◌, Bool, true, false, List, [], ◌∷◌, ◌++◌, ◌==◌, if◌then◌else◌, codes, Option, Some, None}
+use Rattle.pv_chars.specs.Scan.{◌>>=◌, split, space_length, after_bytes}
+use Rattle.pv_chars.specs.Names.{TakesName}
 use Rattle.pv_chars.specs.Texts.{units_of, is_plain_text}
 use Rattle.pv_tree.specs.Plain.{short, tagged, Tree, element, text_node, Forest, no_trees, tree}
 
@@ -42,13 +43,17 @@ space_at bytes = split (space_length bytes) bytes
 abbrev pub closed_tag : List ℕ → List ℕ × List ℕ → Option (PlainTag × List ℕ)
 closed_tag name cut = tag_end cut.1 >>= λ end. Some (record { name = name; attrs = cut.0; is_short = end.0 }, end.1)
 
--- a tag from its name on
-abbrev pub named_tag : List ℕ → Option (PlainTag × List ℕ)
-named_tag bytes = plain_name_at bytes >>= λ name. closed_tag name.0 (space_at name.1)
+-- This start tag or empty-element tag stands at the front, its name the longest there, and this stands after it.
+pub record TakesTag (bytes : List ℕ) (tag : PlainTag) (rest : List ℕ) : Type 0 where
+  pub named : List ℕ
+  pub behind : List ℕ
+  pub is_begun : bytes ≡ codes "<" ++ named
+  pub is_named : TakesName named tag.name behind
+  pub is_closed : closed_tag tag.name (space_at behind) ≡ Some (tag, rest)
 
--- the start tag or empty-element tag at the front, and what stands after it
-unfoldable pub start_tag_at : List ℕ → Option (PlainTag × List ℕ)
-start_tag_at bytes = after_bytes (codes "<") bytes >>= named_tag
+-- no start tag or empty-element tag stands at the front
+abbrev pub BeginsNoTag : List ℕ → Type 0
+BeginsNoTag bytes = (tag : PlainTag) (rest : List ℕ) → TakesTag bytes tag rest → ⊥
 
 -- an end tag with this white space, from its `>` on
 abbrev pub closed_end_tag : List ℕ × List ℕ → Option (List ℕ × List ℕ)
@@ -65,8 +70,8 @@ end_tag_at name bytes = after_bytes (codes "</") bytes >>= named_end_tag name
 mutual
   -- An element of at most so many elements one inside another stands at the front, and then comes the rest.
   pub data ReadsElement {M : Type 0} (m : M) : ℕ → List ℕ → Tree M → List ℕ → Type 0 where
-    short_tag : {d : ℕ} {bytes rest : List ℕ} {tag : PlainTag} → start_tag_at bytes ≡ Some (tag, rest) → tag.is_short ≡ true → ReadsElement m (suc d) bytes (element tag.name tag.attrs short no_trees m) rest
-    start_tag : {d : ℕ} {bytes inner end rest gap : List ℕ} {tag : PlainTag} {kids : Forest M} → start_tag_at bytes ≡ Some (tag, inner) → tag.is_short ≡ false → ReadsContent m d inner kids end → end_tag_at tag.name end ≡ Some (gap, rest) → ReadsElement m (suc d) bytes (element tag.name tag.attrs (tagged gap) kids m) rest
+    short_tag : {d : ℕ} {bytes rest : List ℕ} {tag : PlainTag} → TakesTag bytes tag rest → tag.is_short ≡ true → ReadsElement m (suc d) bytes (element tag.name tag.attrs short no_trees m) rest
+    start_tag : {d : ℕ} {bytes inner end rest gap : List ℕ} {tag : PlainTag} {kids : Forest M} → TakesTag bytes tag inner → tag.is_short ≡ false → ReadsContent m d inner kids end → end_tag_at tag.name end ≡ Some (gap, rest) → ReadsElement m (suc d) bytes (element tag.name tag.attrs (tagged gap) kids m) rest
 
   -- Content stands at the front, and then comes the rest, an end tag.
   pub data ReadsContent {M : Type 0} (m : M) : ℕ → List ℕ → Forest M → List ℕ → Type 0 where

@@ -1,10 +1,11 @@
 //! Tags (XML 1.0, section 3.1).
 
-ghost use Rattle.std.specs.Prelude.{◌≡◌, ◌≤◌, ◌<◌, length, IfSome};
+ghost use Rattle.std.specs.Prelude.{◌≡◌, ◌≤◌, ◌<◌, length, IfSome, MatchOption};
 ghost use Rattle.std.specs.Option.{option_map};
-ghost use Rattle.pv_read.specs.Reading.{begins_end_tag, tag_end, space_at, start_tag_at, end_tag_at};
+ghost use Rattle.pv_read.specs.Reading.{begins_end_tag, tag_end, space_at, closed_tag, TakesTag, BeginsNoTag, end_tag_at};
 
-use pv_chars::scan::{after_bytes, plain_name_at, space_length};
+use pv_chars::name_at;
+use pv_chars::scan::{after_bytes, space_length};
 
 /// A start tag or an empty-element tag, by its parts in the text.
 #[derive(Clone, Copy)]
@@ -43,15 +44,12 @@ fn tag_end(bytes: &[u8]) -> Option<(bool, &[u8])>
     }
 }
 
-/// The start tag or empty-element tag at the front, and what stands after it.
-#[tactic(auto, unfolding(crate::specs::Reading::start_tag_at))]
-pub fn start_tag_at(bytes: &[u8]) -> Option<(StartTag<'_>, &[u8])>
-    ensures tag { option_map (λ r. (record { name = r.0.name.now; attrs = r.0.attrs.now; is_short = r.0.is_short }, r.1.now)) result ≡ start_tag_at bytes.now }
+// The tag of this name, from the bytes behind the name on.
+fn closed_tag<'a>(name: &'a [u8], bytes: &'a [u8]) -> Option<(StartTag<'a>, &'a [u8])>
+    ensures tag { option_map (λ r. (record { name = r.0.name.now; attrs = r.0.attrs.now; is_short = r.0.is_short }, r.1.now)) result ≡ closed_tag name.now (space_at bytes.now) }
     ensures within { IfSome result (λ r. length r.1.now < length bytes.now) }
 {
-    let tag = after_bytes(b"<", bytes)?;
-    let (name, after_name) = plain_name_at(tag)?;
-    let (attrs, end) = space_at(after_name);
+    let (attrs, end) = space_at(bytes);
     let (is_short, rest) = tag_end(end)?;
     Some((
         StartTag {
@@ -61,6 +59,16 @@ pub fn start_tag_at(bytes: &[u8]) -> Option<(StartTag<'_>, &[u8])>
         },
         rest,
     ))
+}
+
+/// The start tag or empty-element tag at the front, and what stands after it.
+pub fn start_tag_at(bytes: &[u8]) -> Option<(StartTag<'_>, &[u8])>
+    ensures tag { MatchOption result (BeginsNoTag bytes.now) (λ r. TakesTag bytes.now (record { name = r.0.name.now; attrs = r.0.attrs.now; is_short = r.0.is_short }) r.1.now) }
+    ensures within { IfSome result (λ r. length r.1.now < length bytes.now) }
+{
+    let tag = after_bytes(b"<", bytes)?;
+    let (name, after_name) = name_at(tag)?;
+    closed_tag(name, after_name)
 }
 
 /// The end tag of this name at the front: the bytes between its name and `>`, and what stands after it.

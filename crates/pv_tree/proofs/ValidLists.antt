@@ -3,7 +3,6 @@ use Rattle.std.proofs.Common.{◌≡◌, ◌≢◌, ◌↔◌, ℕ, suc, List, [
 use Rattle.std.specs.List.{AllByRecursion, list_all}
 use Rattle.std.proofs.lemmas.Bool.{and_parts}
 use Rattle.pv_chars.specs.Spaces.{is_space}
-use Rattle.pv_chars.specs.PlainNames.{is_plain_name}
 use Rattle.pv_dtd.specs.Plain.{PlainDtd, number_of, declared}
 use Rattle.pv_tree.specs.Plain.{Tree, element, text_node, cdata_node, misc_node, Forest, no_trees, tree, PlainDoc}
 use Rattle.pv_dtd.specs.Hedge.{Hedge, done, elem, word, Fits, AreGood, IsValid}
@@ -115,7 +114,7 @@ plain_has_unit (unit ∷ units) h e = cc
 -- each text of a legal tree has a unit
 mutual
   pub legal_texts : {M : Type 0} (t : Tree M) → IsTrue (is_legal t) → HasUnits t
-  legal_texts (element x attrs ending kids mark) h = legal_all_texts kids (and_parts (is_plain_name x && list_all is_space attrs && is_legal_ending ending) (are_legal kids) h).1
+  legal_texts (element x attrs ending kids mark) h = legal_all_texts kids (and_parts (list_all is_space attrs && is_legal_ending ending) (are_legal kids) h).1
   legal_texts (text_node units) h = plain_has_unit units h
   legal_texts (cdata_node bytes) h = tt
   legal_texts (misc_node bytes) h = tt

@@ -2,7 +2,7 @@
 use Rattle.std.specs.Prelude.{ℕ, Bool, true, false, not, ◌&&◌, List, [], ◌∷◌, ◌++◌}
 use Rattle.std.specs.List.{list_all}
 use Rattle.pv_chars.specs.Spaces.{is_space}
-use Rattle.pv_chars.specs.PlainNames.{is_plain_name}
+use Rattle.pv_chars.specs.Names.{IsName}
 use Rattle.pv_chars.specs.Texts.{is_text_char, begins_close_mark}
 use Rattle.pv_tree.specs.Plain.{Ending, short, tagged, Tree, element, text_node, cdata_node, misc_node, Forest, no_trees, tree, PlainDoc}
 
@@ -37,11 +37,23 @@ abbrev pub is_legal_ending : Ending → Bool
 is_legal_ending short = true
 is_legal_ending (tagged gap) = list_all is_space gap
 
--- The bytes of each node are those of a plain document: plain names, no attributes, plain texts of at least one unit, and no CDATA
--- sections, comments or processing instructions.
+-- each element's name is a Name, at all depths
+abbrev mutual
+  pub HasNames : {M : Type 0} → Tree M → Type 0
+  HasNames (element x attrs ending kids mark) = IsName x × HaveNames kids
+  HasNames (text_node units) = Unit {0}
+  HasNames (cdata_node bytes) = Unit {0}
+  HasNames (misc_node bytes) = Unit {0}
+
+  pub HaveNames : {M : Type 0} → Forest M → Type 0
+  HaveNames no_trees = Unit {0}
+  HaveNames (tree t rest) = HasNames t × HaveNames rest
+
+-- The other bytes of each node are those of a plain document: no attributes, plain texts of at least one unit, and no CDATA sections,
+-- comments or processing instructions.
 abbrev mutual
   pub is_legal : {M : Type 0} → Tree M → Bool
-  is_legal (element x attrs ending kids mark) = is_plain_name x && list_all is_space attrs && is_legal_ending ending && are_legal kids
+  is_legal (element x attrs ending kids mark) = list_all is_space attrs && is_legal_ending ending && are_legal kids
   is_legal (text_node units) = are_plain_units units
   is_legal (cdata_node bytes) = false
   is_legal (misc_node bytes) = false

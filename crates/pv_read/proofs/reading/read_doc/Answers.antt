@@ -6,7 +6,7 @@ use Rattle.pv_tree.specs.declared.nodes.TheConstants as constants
 use Rattle.pv_read.specs.Grammar.{IsDocumentText}
 use Rattle.pv_read.proofs.Content.{Refuses-weaker}
 use Rattle.pv_read.proofs.Documents.{text_of, marks_of, no_element, more_behind, few_nodes}
-use Rattle.pv_read.proofs.Facts.{element_is, formed, legal, spelled_no_close_mark}
+use Rattle.pv_read.proofs.Facts.{element_is, formed, legal, named, spelled_no_close_mark}
 use Rattle.pv_read.proofs.reading.read_doc.Goals as goal
 
 pub returns-in_err-root-clause-refused : goal.returns-in_err-root-clause-refused
@@ -30,6 +30,7 @@ invariant_of-result c =
       formed = formed root text.spelled.root text.spelled.is_root;
       shallow = text.shallow;
       small = few_nodes _ _ text;
+      named = ∣ named root text.spelled.root text.spelled.is_root ∣₁;
       legal = legal root text.spelled.root text.spelled.is_root;
       no_close_mark = spelled_no_close_mark root text.spelled.root text.spelled.is_root;
       white_before = text.spelled.space_before;

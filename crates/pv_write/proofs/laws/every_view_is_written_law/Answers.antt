@@ -5,6 +5,6 @@ use Rattle.pv_write.proofs.Views.{view_written}
 use Rattle.pv_write.proofs.laws.every_view_is_written_law.Goals as goal
 
 pub returns : goal.returns
-returns c = λ doc rooted formed legal closed margins.
+returns c = λ doc rooted named formed legal closed margins.
     let white = and_parts (list_all is_space doc.before) (list_all is_space doc.after) margins in
-    view_written doc rooted formed legal closed white.0 white.1
+    view_written doc rooted named formed legal closed white.0 white.1
