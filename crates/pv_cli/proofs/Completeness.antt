@@ -1,12 +1,12 @@
 -- Where nothing failed, the defined response was written.
 use Rattle.std.proofs.Common.{◌≡◌, ◌⊎◌, inl, inr, ℕ, Option, List, refl}
 use Rattle.std.specs.Io.KnownBytes.{Appends}
-use Rattle.pv_io.specs.Causes.{Rose}
+use Rattle.pv_io.specs.Causes.{Stays, Rose}
 use Rattle.pv_cli.specs.declared.status.Status.{Status}
-use Rattle.pv_cli.specs.declared.status.Status.TheVariants.{NoMemory}
+use Rattle.pv_cli.specs.declared.status.Status.TheVariants.{ReadFault, WriteFault, NoMemory}
 use Rattle.pv_cli.specs.CommandLine.{PlainCommandLine}
 use Rattle.pv_cli.specs.Course.{Ending, responds, shelf_fault, input_fault, no_memory}
-use Rattle.pv_cli.specs.Laws.{IsComplete, Answered}
+use Rattle.pv_cli.specs.Laws.{IsComplete, Answered, FaultsShow}
 use Rattle.pv_cli.specs.Program.{Devices, CountsShelf, CountsInput, Writes, wrote, cut_off, Runs}
 use Rattle.pv_cli.specs.Response.{PlainResponse}
 
@@ -32,3 +32,32 @@ pub complete : (S : Type 0) → IsComplete S
 complete S line before after status run no_shelf no_input no_output =
     answered line before after status run
     (ends_well run.course.ending _ _ _ _ _ _ _ _ status run.shows.shelf run.shows.input run.shows.output no_shelf no_input no_output)
+
+-- a count that rose shows in the status
+output_stays : (ending : Ending) (old new : Option (List ℕ)) (before after : ℕ) (status : Status) → Writes ending old new before after status →
+    (status ≡ WriteFault → ⊥) → Stays before after
+output_stays ending old new before after status (wrote is written stays) not = stays
+output_stays ending old new before after status (cut_off r is fault front rose) not = absurd (not fault)
+
+shelf_stays : (ending : Ending) (old new : Option (List ℕ)) (first last before after : ℕ) (status : Status) → Writes ending old new first last status →
+    CountsShelf ending before after → (status ≡ ReadFault → ⊥) → Stays before after
+shelf_stays (responds r) old new first last before after status writes counts not = counts
+shelf_stays shelf_fault old new first last before after status (wrote is written stays) counts not = absurd (not is)
+shelf_stays shelf_fault old new first last before after status (cut_off r is fault front rose) counts not = cc
+shelf_stays input_fault old new first last before after status writes counts not = counts
+shelf_stays no_memory old new first last before after status writes counts not = counts
+
+input_stays : (ending : Ending) (old new : Option (List ℕ)) (first last before after : ℕ) (status : Status) → Writes ending old new first last status →
+    CountsInput ending before after → (status ≡ ReadFault → ⊥) → Stays before after
+input_stays (responds r) old new first last before after status writes counts not = counts
+input_stays shelf_fault old new first last before after status writes counts not = counts
+input_stays input_fault old new first last before after status (wrote is written stays) counts not = absurd (not is)
+input_stays input_fault old new first last before after status (cut_off r is fault front rose) counts not = cc
+input_stays no_memory old new first last before after status writes counts not = counts
+
+pub faults_show : (S : Type 0) → FaultsShow S
+faults_show S line before after status run = record {
+  output = output_stays run.course.ending _ _ _ _ status run.shows.output;
+  shelf = shelf_stays run.course.ending _ _ _ _ _ _ status run.shows.output run.shows.shelf;
+  input = input_stays run.course.ending _ _ _ _ _ _ status run.shows.output run.shows.input;
+}

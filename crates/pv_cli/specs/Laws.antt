@@ -1,9 +1,9 @@
 -- Laws on what the program does.
 use Rattle.std.specs.Prelude.{◌≡◌, ◌⊎◌, ℕ, List, ◌++◌, Option}
 use Rattle.std.specs.Io.KnownBytes.{Appends}
-use Rattle.pv_io.specs.Causes.{Rose}
+use Rattle.pv_io.specs.Causes.{Stays, Rose}
 use Rattle.pv_cli.specs.declared.status.Status.{Status}
-use Rattle.pv_cli.specs.declared.status.Status.TheVariants.{NoMemory}
+use Rattle.pv_cli.specs.declared.status.Status.TheVariants.{ReadFault, WriteFault, NoMemory}
 use Rattle.pv_cli.specs.CommandLine.{PlainCommandLine}
 use Rattle.pv_cli.specs.Course.{Course, responds}
 use Rattle.pv_cli.specs.Opening.{Files}
@@ -41,3 +41,13 @@ abbrev pub IsComplete : Type 0 → Type 0
 IsComplete S = (line : Option PlainCommandLine) (before after : Devices S) (status : Status) (run : Runs line before after status) →
     (Rose before.shelf_faults after.shelf_faults → ⊥) → (Rose before.input_faults after.input_faults → ⊥) →
     (Rose before.output_faults after.output_faults → ⊥) → (status ≡ NoMemory) ⊎ Answered run
+
+-- the count of the output rises with status 4 alone, and those of the shelf and the input with status 3 alone
+pub record CountsStay {S : Type 0} (before after : Devices S) (status : Status) : Type 0 where
+  pub output : (status ≡ WriteFault → ⊥) → Stays before.output_faults after.output_faults
+  pub shelf : (status ≡ ReadFault → ⊥) → Stays before.shelf_faults after.shelf_faults
+  pub input : (status ≡ ReadFault → ⊥) → Stays before.input_faults after.input_faults
+
+abbrev pub FaultsShow : Type 0 → Type 0
+FaultsShow S = (line : Option PlainCommandLine) (before after : Devices S) (status : Status) →
+    Runs line before after status → CountsStay before after status

@@ -1,6 +1,6 @@
 //! Laws on what the program does. Their functions do nothing.
 
-ghost use Rattle.pv_cli.specs.Laws.{HasOneResponse, IsComplete, JoinsReplies, EndsAtQuit};
+ghost use Rattle.pv_cli.specs.Laws.{HasOneResponse, IsComplete, FaultsShow, JoinsReplies, EndsAtQuit};
 
 use pv_dtd::one_meaning_law;
 use pv_io::Source;
@@ -21,6 +21,11 @@ pub fn one_response_law()
 /// Where no device failed, the defined response was written, or there was no memory.
 pub fn complete_law<S: Source>()
     ensures { IsComplete S }
+{}
+
+/// A fault that a device counted shows in the status.
+pub fn faults_law<S: Source>()
+    ensures { FaultsShow S }
 {}
 
 /// The replies to a script are those to its pieces.
