@@ -18,3 +18,6 @@ mod sums;
 pub use grammar::Grammar;
 pub use laws::{productive_law, regular_law, size_law};
 pub use settle::build;
+
+#[cfg(test)]
+mod tests;
