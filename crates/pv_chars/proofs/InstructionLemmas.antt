@@ -11,6 +11,7 @@ use Rattle.pv_chars.specs.Fronts.{Begins, BeginsNone, Holds, EndsAt}
 use Rattle.pv_chars.specs.Markup.{IsSpacedChars, IsBehindTarget, IsInstruction}
 use Rattle.pv_chars.proofs.CharacterLemmas.{AreAll-append}
 use Rattle.pv_chars.proofs.NameLemmas.{same_name}
+use Rattle.pv_chars.proofs.Arms.{others_of}
 use Rattle.pv_chars.proofs.SpaceLemmas.{space_are_chars, space_ends_name, ascii_ends}
 use Rattle.pv_chars.proofs.Delimited.{same_end}
 use Rattle.pv_chars.proofs.Delimiting.{ends_behind, by_no_border, two_have_no_border}
@@ -105,10 +106,6 @@ one_instruction bytes rest more a b =
     let e : bytes ≡ codes "<?" ++ start = a.whole ∙ ap (λ l. l ++ rest) i.whole ∙ append_assoc (codes "<?") (i.target ++ (i.behind ++ codes "?>")) rest in
     let first = instruction_ends bytes start rest e a in
     (same_behind bytes start _ _ _ rest more e first.named first.ends b).1
-
--- all but the first of some bytes, as a pattern gives it
-pub others_of : (b : ℕ) (more : List ℕ) → take (length (b ∷ more) - 1) (drop 1 (b ∷ more)) ≡ more
-others_of b more = take_all (length (b ∷ more) - 1) more (omega arith)
 
 behind_target_by : (b : ℕ) (more text : List ℕ) (chars : Bool) → text ≡ more → is_space b ≡ true → ((IsTrue chars → IsChars text) × (IsChars text → IsTrue chars)) → (IsTrue chars → IsBehindTarget (b ∷ more)) × (IsBehindTarget (b ∷ more) → IsTrue chars)
 behind_target_by b more text chars same white tells = (

@@ -2,6 +2,7 @@ pub mod UnitLemmas
 pub mod Scanning
 pub mod Beginnings
 pub mod Options
+pub mod Arms
 pub mod Utf8Lemmas
 pub mod Ranges
 pub mod CharacterLemmas

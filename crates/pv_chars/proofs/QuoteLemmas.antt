@@ -5,12 +5,6 @@ use Rattle.pv_chars.specs.Declarations.{is_quote, IsQuoted, BeginsNoQuoted}
 use Rattle.pv_chars.proofs.Delimited.{same_end}
 use Rattle.pv_chars.proofs.Delimiting.{HasNoBorder, ends_behind, by_no_border}
 use Rattle.pv_chars.proofs.MarkupLemmas.{none_before_end}
-use Rattle.pv_chars.proofs.InstructionLemmas.{others_of}
-
--- the first of some bytes and the others, as a pattern gives them
-pub cons_of : (bytes : List ℕ) → 1 ≤ length bytes → bytes ≡ get_or bytes 0 0 ∷ take (length bytes - 1) (drop 1 bytes)
-cons_of [] some = absurd (omega arith)
-cons_of (b ∷ more) some = ap (λ l. b ∷ l) (sym (others_of b more))
 
 one_has_no_border : (a : ℕ) → HasNoBorder (a ∷ [])
 one_has_no_border a [] n o e f some more = omega arith

@@ -1,23 +1,17 @@
 -- What the scanning functions say of a text and its parts: what they take is spelled so, and what is spelled so they take.
-use Rattle.std.proofs.Common.{◌≡◌, ◌≢◌, Bor, ℕ, suc, ◌+◌, List, [], ◌∷◌, ◌++◌, length, take, drop, Bool, true, false, ◌&&◌, ◌==◌, cond, Option, Some, None, refl, sym, ap, add-one, eq-eqb}
+use Rattle.std.proofs.Common.{◌≡◌, ◌≢◌, Bor, ℕ, suc, ◌+◌, List, [], ◌∷◌, ◌++◌, length, take, drop, Bool, true, false, ◌&&◌, ◌==◌, cond, Option, Some, None, refl, sym, ap, ◌∙◌, add-one, eq-eqb}
 use Rattle.std.proofs.lemmas.List.{take_at, drop_at, take-append-drop}
 use Rattle.std.proofs.lemmas.Bool.Decides.{Decides-eqb}
 use Rattle.std.proofs.lemmas.Option.{cond_some}
 use Rattle.std.specs.List.{list_all}
 use Rattle.std.specs.Option.{MatchOption, option_map}
+use Rattle.pv_chars.proofs.Options.{match_read}
 use Rattle.std.specs.Prelude.{nat_le}
 use Rattle.std.proofs.lemmas.Bool.{and_parts}
-pub use Rattle.pv_chars.specs.Spaces.{begins}
+pub use Rattle.pv_chars.specs.Spaces.{begins, TakesSpace, TakesBlank}
 use Rattle.pv_chars.specs.Spaces.{is_space, IsSpace, IsOptionalSpace}
 use Rattle.pv_chars.specs.PlainNames.{is_plain_name_start, is_plain_name_byte, is_plain_name, IsPlainName, MAX_NAME_BYTES}
 use Rattle.pv_chars.specs.Scan.{space_length, after_space, after_blank, plain_name_length, plain_name_at, short_plain_name, after_bytes}
-
--- Optional space stands before the rest, and all of it.
-pub record TakesSpace (bytes rest : List ℕ) : Type 0 where
-  pub space : List ℕ
-  pub optional : IsOptionalSpace space
-  pub whole : bytes ≡ space ++ rest
-  pub ends : begins is_space rest ≡ false
 
 space_step : (b : ℕ) (bs : List ℕ) (white : Bool) → is_space b ≡ white → TakesSpace bs (after_space bs) → TakesSpace (b ∷ bs) (cond white (after_space bs) (b ∷ bs))
 space_step b bs true is below = record { space = b ∷ below.space; optional = rw is below.optional; whole = ap (λ r. b ∷ r) below.whole; ends = below.ends }
@@ -44,13 +38,6 @@ pub after_space-append : (space rest : List ℕ) → IsOptionalSpace space → b
 after_space-append [] rest s e = after_space-ended rest e
 after_space-append (b ∷ bs) rest s e = let white = and_parts (is_space b) (list_all is_space bs) s in rw white.0 (after_space-append bs rest white.1 e)
 
--- Some space stands before the rest, and all of it.
-pub record TakesBlank (bytes rest : List ℕ) : Type 0 where
-  pub space : List ℕ
-  pub some : IsSpace space
-  pub whole : bytes ≡ space ++ rest
-  pub ends : begins is_space rest ≡ false
-
 blank_step : (b : ℕ) (bs rest : List ℕ) (white : Bool) → is_space b ≡ white → cond white (Some (after_space bs)) None ≡ Some rest → TakesBlank (b ∷ bs) rest
 blank_step b bs rest true is e =
     let below = after_space_takes bs in
@@ -67,6 +54,34 @@ pub after_blank-append : (space rest : List ℕ) → IsSpace space → begins is
 unfolding after_blank
 after_blank-append [] rest s e = absurd (s.some refl)
 after_blank-append (b ∷ bs) rest s e = let white = and_parts (is_space b) (list_all is_space bs) s.space in rw (white.0, after_space-append bs rest white.1 e) refl
+
+pub after_blank_none : (bytes : List ℕ) → after_blank bytes ≡ None → begins is_space bytes ≡ false
+unfolding after_blank
+after_blank_none [] e = refl
+after_blank_none (b ∷ bs) e = by (is_space b) refl e
+  where
+    by : (white : Bool) → is_space b ≡ white → cond white (Some (after_space bs)) None ≡ None → is_space b ≡ false
+    by true is f = cc
+    by false is f = is
+
+pub after_blank_tells : (bytes : List ℕ) → MatchOption (after_blank bytes) (begins is_space bytes ≡ false) (TakesBlank bytes)
+after_blank_tells bytes = match_read (after_blank bytes) (begins is_space bytes ≡ false) (TakesBlank bytes) (after_blank_none bytes) (after_blank_takes bytes)
+
+-- as many bytes as are white space, and no more
+front_step : (b : ℕ) (bs : List ℕ) (white : Bool) → is_space b ≡ white → list_all is_space (take (space_length bs) bs) ≡ true → list_all is_space (take (cond white (space_length bs + 1) 0) (b ∷ bs)) ≡ true
+front_step b bs true is below = rw add-one (rw is below)
+front_step b bs false is below = refl
+
+pub space_front : (bytes : List ℕ) → list_all is_space (take (space_length bytes) bytes) ≡ true
+space_front [] = refl
+space_front (b ∷ bs) = front_step b bs (is_space b) refl (space_front bs)
+
+pub space_ends : (bytes : List ℕ) → begins is_space (drop (space_length bytes) bytes) ≡ false
+space_ends bytes = rw (drop_space bytes) (after_space_takes bytes).ends
+
+-- a white byte, and what stands after the white space behind it
+pub blank_where : (bytes more rest : List ℕ) (b : ℕ) → bytes ≡ b ∷ more → is_space b ≡ true → TakesSpace more rest → TakesBlank bytes rest
+blank_where bytes more rest b e white taken = record { space = b ∷ taken.space; some = record { some = λ none. cc; space = rw white taken.optional }; whole = e ∙ ap (λ l. b ∷ l) taken.whole; ends = taken.ends }
 
 after_byte : (p : ℕ) (ps : List ℕ) (b : ℕ) (bs rest : List ℕ) (same : Bool) → (p == b) ≡ same → cond same (after_bytes ps bs) None ≡ Some rest → (after_bytes ps bs ≡ Some rest → bs ≡ ps ++ rest) → b ∷ bs ≡ p ∷ (ps ++ rest)
 after_byte p ps b bs rest true is e below = let at = (Decides-eqb p b).0 is in let after = below e in cc

@@ -1,5 +1,7 @@
 -- Names (XML 1.0, section 2.3).
-use Rattle.std.specs.Prelude.{◌≡◌, ℕ, List, ◌++◌, IsTrue, encode_utf8}
+use Rattle.std.specs.Prelude.{◌≡◌, ℕ, Bool, false, ◌&&◌, List, [], ◌∷◌, ◌++◌, IsTrue, encode_utf8}
+use Rattle.std.specs.List.{list_all}
+use Rattle.std.specs.Str.{chars, is_utf8}
 use Rattle.pv_chars.specs.Characters.{is_name_start, is_name_char, AreAll, BeginsNo}
 
 -- Name: one NameStartChar, and then any number of NameChars
@@ -19,3 +21,12 @@ pub record TakesName (bytes name rest : List ℕ) : Type 0 where
 -- no Name stands at the front
 abbrev pub BeginsNoName : List ℕ → Type 0
 BeginsNoName bytes = (name rest : List ℕ) → IsName name → bytes ≡ name ++ rest → ⊥
+
+-- a NameStartChar, and then NameChars
+abbrev pub are_name_codes : List ℕ → Bool
+are_name_codes [] = false
+are_name_codes (c ∷ cs) = is_name_start c && list_all is_name_char cs
+
+-- the same as a test: UTF-8 of such code points
+abbrev pub is_name : List ℕ → Bool
+is_name bytes = is_utf8 bytes && are_name_codes (chars bytes)

@@ -1,8 +1,8 @@
 //! Names.
 
-ghost use Rattle.std.specs.Prelude.{◌<◌, ◌≤◌, ◌↔◌, length, IfSome, IsTrue, MatchOption};
+ghost use Rattle.std.specs.Prelude.{◌≡◌, ◌<◌, ◌≤◌, ◌↔◌, length, IfSome, IsTrue, MatchOption};
 ghost use Rattle.pv_chars.specs.Characters.{is_name_char, TakesAll};
-ghost use Rattle.pv_chars.specs.Names.{IsName, TakesName, BeginsNoName};
+ghost use Rattle.pv_chars.specs.Names.{IsName, TakesName, BeginsNoName, is_name};
 
 use crate::characters::{is_name_char, is_name_start};
 use crate::utf8::char_at;
@@ -37,7 +37,8 @@ pub fn name_at(bytes: &[u8]) -> Option<(&[u8], &[u8])>
 
 /// Whether the bytes are a Name (XML 1.0, section 2.3).
 pub fn is_name(bytes: &[u8]) -> bool
-    ensures { IsTrue result ↔ IsName bytes.now }
+    ensures exact { IsTrue result ↔ IsName bytes.now }
+    ensures value { result ≡ is_name bytes.now }
 {
     match name_at(bytes) {
         Some((_, rest)) => rest.is_empty(),

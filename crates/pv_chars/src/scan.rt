@@ -1,8 +1,8 @@
 //! Parts of a text, read from the left: white space, names and fixed bytes.
 
-ghost use Rattle.std.specs.Prelude.{◌≡◌, ◌≢◌, ◌≤◌, ◌<◌, ◌+◌, ℕ, List, ◌++◌, length, IfSome, MatchOption};
+ghost use Rattle.std.specs.Prelude.{◌≡◌, ◌≢◌, ◌≤◌, ◌<◌, ◌+◌, ℕ, false, List, ◌++◌, length, take, drop, IfSome, MatchOption};
 ghost use Rattle.std.specs.Option.{option_map};
-ghost use Rattle.pv_chars.specs.Spaces.{is_space};
+ghost use Rattle.pv_chars.specs.Spaces.{is_space, begins, IsOptionalSpace, TakesSpace, TakesBlank};
 ghost use Rattle.pv_chars.specs.Scan.{space_length, after_space, after_blank, plain_name_length, plain_name_at, after_bytes};
 
 use crate::plain_names::{MAX_NAME_BYTES, is_plain_name_byte, is_plain_name_start};
@@ -15,7 +15,10 @@ pub fn is_space(b: u8) -> bool
 }
 
 /// How many bytes at the front are white space.
+#[tactic(auto, using(crate::proofs::Scanning::space_ends))]
 pub fn space_length(bytes: &[u8]) -> usize
+    ensures front { IsOptionalSpace (take result bytes.now) }
+    ensures ends { begins is_space (drop result bytes.now) ≡ false }
     ensures value { result ≡ space_length bytes.now }
     ensures within { result ≤ length bytes.now }
 {
@@ -32,6 +35,7 @@ pub fn space_length(bytes: &[u8]) -> usize
 /// What stands after the white space at the front.
 #[tactic(auto, using(crate::proofs::Scanning::drop_space))]
 pub fn after_space(bytes: &[u8]) -> &[u8]
+    ensures taken { TakesSpace bytes.now result.now }
     ensures after { result.now ≡ after_space bytes.now }
     ensures within { length result.now ≤ length bytes.now }
 {
@@ -41,6 +45,7 @@ pub fn after_space(bytes: &[u8]) -> &[u8]
 /// What stands after the white space at the front, where there is some.
 #[tactic(auto, unfolding(crate::specs::Scan::after_blank))]
 pub fn after_blank(bytes: &[u8]) -> Option<&[u8]>
+    ensures found { MatchOption result (begins is_space bytes.now ≡ false) (λ r. TakesBlank bytes.now r.now) }
     ensures after { option_map (λ r. r.now) result ≡ after_blank bytes.now }
     ensures within { IfSome result (λ r. length r.now < length bytes.now) }
 {

@@ -2,7 +2,8 @@ use Rattle.std.proofs.Common.{◌∷◌, [], sym, ◌∙◌, get_or, take, drop,
 use Rattle.pv_chars.specs.Fronts.{Begins, Holds, EndsAt}
 use Rattle.pv_chars.specs.Declarations.{IsQuoted, BeginsNoQuoted}
 use Rattle.pv_chars.proofs.Options.{match_same}
-use Rattle.pv_chars.proofs.QuoteLemmas.{cons_of, quoted_by, no_quoted_by_end}
+use Rattle.pv_chars.proofs.QuoteLemmas.{quoted_by, no_quoted_by_end}
+use Rattle.pv_chars.proofs.Arms.{cons_of}
 use Rattle.pv_chars.proofs.declarations.quoted_at.Goals as goal
 
 pub returns-in-len1-up : goal.returns-in-len1-up

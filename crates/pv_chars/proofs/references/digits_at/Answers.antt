@@ -1,5 +1,5 @@
 use Rattle.std.proofs.Common.{get_or, take, drop, length, ◌-◌}
-use Rattle.pv_chars.proofs.QuoteLemmas.{cons_of}
+use Rattle.pv_chars.proofs.Arms.{cons_of}
 use Rattle.pv_chars.proofs.ReferenceLemmas.{digit_read}
 use Rattle.pv_chars.proofs.references.digits_at.Goals as goal
 
