@@ -18,7 +18,8 @@ fn is_quote(b: u8) -> bool
 
 /// The value in quotes at the front, without its quotes, and what stands after it.
 pub fn quoted_at(bytes: &[u8]) -> Option<(&[u8], &[u8])>
-    ensures { MatchOption result (BeginsNoQuoted bytes.now) (λ r. Begins (IsQuoted r.0.now) bytes.now r.1.now) }
+    ensures { MatchOption result (BeginsNoQuoted bytes.now)
+        (λ r. Begins (IsQuoted r.0.now) bytes.now r.1.now) }
 {
     match bytes {
         [quote, inside @ ..] if is_quote(*quote) => up_to_byte(*quote, inside),
@@ -30,7 +31,8 @@ pub fn quoted_at(bytes: &[u8]) -> Option<(&[u8], &[u8])>
 pub fn part_at<'a>(word: &[u8], bytes: &'a [u8]) -> Option<(&'a [u8], &'a [u8])>
     requires some { word.now ≢ [] }
     requires black { begins is_space word.now ≡ false }
-    ensures { MatchOption result (BeginsNoPart word.now bytes.now) (λ r. Begins (IsPart word.now r.0.now) bytes.now r.1.now) }
+    ensures { MatchOption result (BeginsNoPart word.now bytes.now)
+        (λ r. Begins (IsPart word.now r.0.now) bytes.now r.1.now) }
 {
     let start = after_blank(bytes)?;
     let named = after_bytes(word, start)?;
@@ -69,7 +71,8 @@ fn is_yes_or_no(value: &[u8]) -> bool
 
 /// What stands after the version at the front (XML 1.0, section 2.8, VersionInfo).
 pub fn after_version(bytes: &[u8]) -> Option<&[u8]>
-    ensures { MatchOption result (BeginsNone IsVersionInfo bytes.now) (λ r. Begins IsVersionInfo bytes.now r.now) }
+    ensures { MatchOption result (BeginsNone IsVersionInfo bytes.now)
+        (λ r. Begins IsVersionInfo bytes.now r.now) }
 {
     let (value, rest) = part_at(b"version", bytes)?;
     if !is_version_num(value) {
@@ -80,7 +83,8 @@ pub fn after_version(bytes: &[u8]) -> Option<&[u8]>
 
 /// What stands after the encoding at the front (XML 1.0, section 4.3.3, EncodingDecl).
 pub fn after_encoding(bytes: &[u8]) -> Option<&[u8]>
-    ensures { MatchOption result (BeginsNone IsEncodingDecl bytes.now) (λ r. Begins IsEncodingDecl bytes.now r.now) }
+    ensures { MatchOption result (BeginsNone IsEncodingDecl bytes.now)
+        (λ r. Begins IsEncodingDecl bytes.now r.now) }
 {
     let (value, rest) = part_at(b"encoding", bytes)?;
     if !is_enc_name(value) {
@@ -91,7 +95,8 @@ pub fn after_encoding(bytes: &[u8]) -> Option<&[u8]>
 
 /// What stands after the standalone part at the front (XML 1.0, section 2.9, SDDecl).
 pub fn after_standalone(bytes: &[u8]) -> Option<&[u8]>
-    ensures { MatchOption result (BeginsNone IsStandaloneDecl bytes.now) (λ r. Begins IsStandaloneDecl bytes.now r.now) }
+    ensures { MatchOption result (BeginsNone IsStandaloneDecl bytes.now)
+        (λ r. Begins IsStandaloneDecl bytes.now r.now) }
 {
     let (value, rest) = part_at(b"standalone", bytes)?;
     if !is_yes_or_no(value) {
@@ -102,7 +107,8 @@ pub fn after_standalone(bytes: &[u8]) -> Option<&[u8]>
 
 /// What stands after the text declaration at the front (XML 1.0, section 4.3.1, in this project's profile).
 pub fn after_text_decl(bytes: &[u8]) -> Option<&[u8]>
-    ensures { MatchOption result (BeginsNone IsTextDecl bytes.now) (λ r. Begins IsTextDecl bytes.now r.now) }
+    ensures { MatchOption result (BeginsNone IsTextDecl bytes.now)
+        (λ r. Begins IsTextDecl bytes.now r.now) }
 {
     let start = after_bytes(b"<?xml", bytes)?;
     let version = after_version(start).unwrap_or(start);

@@ -7,7 +7,8 @@ use memchr::{memchr, memmem};
 
 /// What stands before the first place of the delimiter, and what stands after it.
 pub fn up_to<'a>(delimiter: &[u8], bytes: &'a [u8]) -> Option<(&'a [u8], &'a [u8])>
-    ensures { MatchOption result (Holds bytes.now delimiter.now → ⊥) (λ r. EndsAt delimiter.now bytes.now r.0.now r.1.now) }
+    ensures { MatchOption result (Holds bytes.now delimiter.now → ⊥)
+        (λ r. EndsAt delimiter.now bytes.now r.0.now r.1.now) }
 {
     let at = memmem::find(bytes, delimiter)?;
     let (before, found) = bytes.split_at(at);
@@ -16,7 +17,8 @@ pub fn up_to<'a>(delimiter: &[u8], bytes: &'a [u8]) -> Option<(&'a [u8], &'a [u8
 
 /// What stands before the first place of the byte, and what stands after it.
 pub fn up_to_byte(byte: u8, bytes: &[u8]) -> Option<(&[u8], &[u8])>
-    ensures { MatchOption result (Holds bytes.now (byte ∷ []) → ⊥) (λ r. EndsAt (byte ∷ []) bytes.now r.0.now r.1.now) }
+    ensures { MatchOption result (Holds bytes.now (byte ∷ []) → ⊥)
+        (λ r. EndsAt (byte ∷ []) bytes.now r.0.now r.1.now) }
 {
     let at = memchr(byte, bytes)?;
     let (before, found) = bytes.split_at(at);

@@ -33,7 +33,8 @@ fn is_behind_target(bytes: &[u8]) -> bool
 
 /// What stands after the processing instruction at the front (XML 1.0, section 2.6).
 pub fn after_instruction(bytes: &[u8]) -> Option<&[u8]>
-    ensures { MatchOption result (BeginsNone IsInstruction bytes.now) (λ r. Begins IsInstruction bytes.now r.now) }
+    ensures { MatchOption result (BeginsNone IsInstruction bytes.now)
+        (λ r. Begins IsInstruction bytes.now r.now) }
 {
     let start = after_bytes(b"<?", bytes)?;
     let (target, after) = name_at(start)?;

@@ -32,7 +32,8 @@ fn digits_at(base: u32, bytes: &[u8]) -> (u32, &[u8])
 fn after_ref_in<'a>(base: u32, front: &[u8], bytes: &'a [u8]) -> Option<&'a [u8]>
     requires some { 2 ≤ base }
     requires known { base ≤ 36 }
-    ensures { MatchOption result (BeginsNone (IsCharRefIn base front.now) bytes.now) (λ r. Begins (IsCharRefIn base front.now) bytes.now r.now) }
+    ensures { MatchOption result (BeginsNone (IsCharRefIn base front.now) bytes.now)
+        (λ r. Begins (IsCharRefIn base front.now) bytes.now r.now) }
 {
     let start = after_bytes(front, bytes)?;
     let (value, end) = digits_at(base, start);
@@ -58,7 +59,8 @@ pub fn after_char_ref(bytes: &[u8]) -> Option<&[u8]>
 
 /// The name in the entity reference at the front (XML 1.0, section 4.1, EntityRef), and what stands after it.
 pub fn entity_ref_at(bytes: &[u8]) -> Option<(&[u8], &[u8])>
-    ensures { MatchOption result (BeginsNoEntityRef bytes.now) (λ r. Begins (IsEntityRef r.0.now) bytes.now r.1.now) }
+    ensures { MatchOption result (BeginsNoEntityRef bytes.now)
+        (λ r. Begins (IsEntityRef r.0.now) bytes.now r.1.now) }
 {
     let start = after_bytes(b"&", bytes)?;
     let (name, end) = name_at(start)?;

@@ -89,7 +89,8 @@ pub fn plain_name_at(bytes: &[u8]) -> Option<(&[u8], &[u8])>
 
 /// What stands after these bytes, where they stand at the front.
 pub fn after_bytes<'a>(front: &[u8], bytes: &'a [u8]) -> Option<&'a [u8]>
-    ensures found { MatchOption result ((rest : List ℕ) → bytes.now ≢ front.now ++ rest) (λ r. bytes.now ≡ front.now ++ r.now) }
+    ensures found { MatchOption result ((rest : List ℕ) → bytes.now ≢ front.now ++ rest)
+        (λ r. bytes.now ≡ front.now ++ r.now) }
     ensures after { option_map (λ r. r.now) result ≡ after_bytes front.now bytes.now }
     ensures within { IfSome result (λ r. length front.now + length r.now ≡ length bytes.now) }
 {

@@ -223,7 +223,9 @@ fn text_count(bytes: &[u8]) -> Result<usize, TextError>
 
 /// The units of a text, or the first fault from the left.
 pub fn text_units(alloc: Global, bytes: &[u8]) -> Result<Units, TextError>
-    ensures { MatchResult result (λ u. TextMeans bytes.now (Ok u)) (λ e. (e ≡ TextError.NoMemory) ⊎ TextMeans bytes.now (Err e)) }
+    ensures { MatchResult result
+        (λ u. TextMeans bytes.now (Ok u))
+        (λ e. (e ≡ TextError.NoMemory) ⊎ TextMeans bytes.now (Err e)) }
 {
     if bytes.is_empty() {
         return Err(TextError::Empty);
