@@ -1,6 +1,6 @@
 //! A document.
 
-ghost use Rattle.std.specs.Prelude.{◌≡◌, ◌≤◌, IsTrue};
+ghost use Rattle.std.specs.Prelude.{◌≡◌, ◌≤◌, IsTrue, IfOk};
 ghost use Rattle.std.specs.List.{list_all};
 ghost use Rattle.pv_chars.specs.Spaces.{is_space};
 ghost use Rattle.pv_tree.specs.Plain.{depth_of, nodes_in, is_element};
@@ -10,7 +10,8 @@ ghost use Rattle.pv_tree.specs.PlainForms.{plain, plain_all};
 use crate::nodes::{Mark, Node};
 use crate::paths::Path;
 use crate::places::Found;
-use pv_chars::Bytes;
+use pv_chars::{Bytes, NoMemory, bytes_of};
+use std::alloc::Global;
 
 /// A document: the bytes before the root's tag, the root element, and the bytes after its end.
 #[derive(Debug, Drop)]
@@ -70,5 +71,20 @@ impl Doc {
         ensures { result ≡ nodes_in (plain_doc self.now).root }
     {
         self.root.nodes()
+    }
+
+    /// An equal document with equal marks.
+    pub fn copy(&self, alloc: Global) -> Result<Doc, NoMemory>
+        ensures { IfOk result (λ doc. plain_doc doc ≡ plain_doc self.now) }
+    {
+        let before = bytes_of(alloc, self.before.as_slice())?;
+        let root = self.root.copy(alloc)?;
+        let after = bytes_of(alloc, self.after.as_slice())?;
+        Ok(Doc {
+            before,
+            root,
+            after,
+            mark: self.mark,
+        })
     }
 }

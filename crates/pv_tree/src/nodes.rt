@@ -1,13 +1,14 @@
 //! Nodes, and the marks that elements carry.
 
-ghost use Rattle.std.specs.Prelude.{◌≡◌, ◌≤◌};
+ghost use Rattle.std.specs.Prelude.{◌≡◌, ◌≤◌, IfOk};
 ghost use Rattle.std.specs.Option.{option_copied, option_map};
 ghost use Rattle.pv_tree.specs.Plain.{depth_of, nodes_in};
 ghost use Rattle.pv_tree.specs.Legal.{MAX_DEPTH, MAX_NODES};
 ghost use Rattle.pv_tree.specs.Places.{kids_of, list_of, node_below};
-ghost use Rattle.pv_tree.specs.PlainForms.{plain, plain_all};
+ghost use Rattle.pv_tree.specs.PlainForms.{plain, plain_all, plain_end};
 
-use pv_chars::{Bytes, Units};
+use pv_chars::{Bytes, NoMemory, Units, bytes_of, plain_units};
+use std::alloc::Global;
 
 /// What is known of a child list. `Impossible` is asked first: a list may be valid by itself and be no part of any valid document,
 /// as that of an element whose name isn't productive.
@@ -139,4 +140,59 @@ impl Node {
             Node::Text(_) | Node::Cdata(_) | Node::Misc(_) => 1,
         }
     }
+
+    // An equal node with equal marks.
+    #[cycle(copy)]
+    pub(crate) fn copy(&self, alloc: Global) -> Result<Node, NoMemory>
+        ensures { IfOk result (λ n. plain n ≡ plain self.now) }
+    {
+        match self {
+            Node::Elem {
+                name,
+                attrs,
+                end,
+                kids,
+                mark,
+            } => {
+                let name = bytes_of(alloc, name.as_slice())?;
+                let attrs = bytes_of(alloc, attrs.as_slice())?;
+                let end = end.copy(alloc)?;
+                let kids = copy_all(alloc, kids)?;
+                Ok(Node::Elem {
+                    name,
+                    attrs,
+                    end,
+                    kids,
+                    mark: *mark,
+                })
+            }
+            Node::Text(units) => Ok(Node::Text(plain_units(alloc, units.bytes())?)),
+            Node::Cdata(bytes) => Ok(Node::Cdata(bytes_of(alloc, bytes.as_slice())?)),
+            Node::Misc(bytes) => Ok(Node::Misc(bytes_of(alloc, bytes.as_slice())?)),
+        }
+    }
+}
+
+impl End {
+    // An equal end.
+    fn copy(&self, alloc: Global) -> Result<End, NoMemory>
+        ensures { IfOk result (λ e. plain_end e ≡ plain_end self.now) }
+    {
+        match self {
+            End::Short => Ok(End::Short),
+            End::Tagged(gap) => Ok(End::Tagged(bytes_of(alloc, gap.as_slice())?)),
+        }
+    }
+}
+
+// Equal nodes side by side, in a vector of just their number.
+#[cycle(copy)]
+fn copy_all(alloc: Global, nodes: &[Node]) -> Result<Nodes, NoMemory>
+    ensures { IfOk result (λ copies. plain_all copies.items ≡ plain_all nodes.now) }
+{
+    let mut copies = Vec::with_capacity(alloc, nodes.len())?;
+    for node in nodes {
+        copies.push(node.copy(alloc)?)?;
+    }
+    Ok(copies)
 }
