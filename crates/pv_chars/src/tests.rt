@@ -1,12 +1,12 @@
 use crate::declarations::{after_text_decl, after_xml_decl, quoted_at};
 use crate::markup::{after_cdata, after_comment, after_instruction};
 use crate::references::{after_char_ref, entity_ref_at};
-use crate::scan::{after_blank, after_bytes, after_space, plain_name_at, space_length};
+use crate::scan::{after_blank, space_length};
 use crate::unit_text::Units;
 use crate::utf8::char_at;
 use crate::{
     Numbers, TextError, are_chars, bytes_of, is_char, is_name, is_name_char, is_name_start,
-    name_at, plain_name, plain_units, text_units,
+    plain_name, plain_units, text_units,
 };
 use std::test::Fail;
 
@@ -27,145 +27,119 @@ fn ranges(rt: HostRuntime) {
 #[test]
 fn shortest_forms(rt: HostRuntime) {
     for (bytes, code) in [
-        (b"A".as_slice(), 0x41),
-        (b"\xC2\x80", 0x80),
-        (b"\xDF\xBF", 0x7FF),
-        (b"\xE0\xA0\x80", 0x800),
-        (b"\xED\x9F\xBF", 0xD7FF),
-        (b"\xEE\x80\x80", 0xE000),
-        (b"\xEF\xBF\xBF", 0xFFFF),
-        (b"\xF0\x90\x80\x80", 0x10000),
-        (b"\xF4\x8F\xBF\xBF", 0x10FFFF),
+        (b"A".as_slice(), Some((0x41, b"".as_slice()))),
+        (b"\xC2\x80", Some((0x80, b""))),
+        (b"\xDF\xBFx", Some((0x7FF, b"x"))),
+        (b"\xE0\xA0\x80", Some((0x800, b""))),
+        (b"\xED\x9F\xBF", Some((0xD7FF, b""))),
+        (b"\xEE\x80\x80", Some((0xE000, b""))),
+        (b"\xEF\xBF\xBF", Some((0xFFFF, b""))),
+        (b"\xF0\x90\x80\x80", Some((0x10000, b""))),
+        (b"\xF4\x8F\xBF\xBF", Some((0x10FFFF, b""))),
+        (b"", None),
+        (b"\x80", None),
+        (b"\xBF", None),
+        (b"\xC0\x80", None),
+        (b"\xC1\xBF", None),
+        (b"\xC2", None),
+        (b"\xC2A", None),
+        (b"\xE0\x9F\xBF", None),
+        (b"\xE2\x82", None),
+        (b"\xED\xA0\x80", None),
+        (b"\xED\xBF\xBF", None),
+        (b"\xF0\x8F\xBF\xBF", None),
+        (b"\xF0\x9F\x98", None),
+        (b"\xF4\x90\x80\x80", None),
+        (b"\xF5\x80\x80\x80", None),
+        (b"\xFF", None),
     ] {
-        let (c, rest) = char_at(bytes).unwrap_or((0, b"none"));
-        assert_eq!(rt; c, code);
-        assert!(rt; rest.is_empty());
+        assert!(rt; char_at(bytes) == code);
     }
-}
-
-#[test]
-fn no_characters(rt: HostRuntime) {
-    for bytes in [
-        b"".as_slice(),
-        b"\x80",
-        b"\xBF",
-        b"\xC0\x80",
-        b"\xC1\xBF",
-        b"\xC2",
-        b"\xC2A",
-        b"\xE0\x9F\xBF",
-        b"\xE2\x82",
-        b"\xED\xA0\x80",
-        b"\xED\xBF\xBF",
-        b"\xF0\x8F\xBF\xBF",
-        b"\xF0\x9F\x98",
-        b"\xF4\x90\x80\x80",
-        b"\xF5\x80\x80\x80",
-        b"\xFF",
-    ] {
-        assert!(rt; char_at(bytes).is_none());
-    }
-    assert!(rt; are_chars("текст €\t".as_bytes()));
-    assert!(rt; !are_chars(b"a\x00"));
-    assert!(rt; !are_chars(b"\xEF\xBF\xBE"));
 }
 
 #[test]
 fn names(rt: HostRuntime) {
-    for name in ["_a.1-B", "a:b", "Имя", "é\u{B7}", "𐀀"] {
-        assert!(rt; is_name(name.as_bytes()));
-    }
-    for name in [
-        b"".as_slice(),
-        b"1a",
-        b"-a",
-        b"a b",
-        b"\xC3",
-        b"a\xFF",
-        b"\xCC\x80",
+    for (bytes, is) in [
+        ("_a.1-B".as_bytes(), true),
+        ("a:b".as_bytes(), true),
+        ("Имя".as_bytes(), true),
+        ("é\u{B7}".as_bytes(), true),
+        ("𐀀".as_bytes(), true),
+        (b"", false),
+        (b"1a", false),
+        (b"a b", false),
+        (b"\xC3", false),
+        (b"a\xFF", false),
+        (b"\xCC\x80", false),
     ] {
-        assert!(rt; !is_name(name));
+        assert!(rt; is_name(bytes) == is);
     }
-    let (name, rest) = name_at("Имя=".as_bytes()).unwrap_or((b"", b""));
-    assert_eq!(rt; name, "Имя".as_bytes());
-    assert_eq!(rt; rest, b"=".as_slice());
-    assert!(rt; name_at(b"=").is_none());
 }
 
 #[test]
 fn markup(rt: HostRuntime) {
-    assert_eq!(rt; after_comment(b"<!--a-b-->c"), Some(b"c".as_slice()));
-    for bytes in [
-        b"<!--a--b-->".as_slice(),
-        b"<!--a--->",
-        b"<!-->",
-        b"<!--a",
-        b"<!--\xFF-->",
+    for (bytes, rest) in [
+        (b"<!--a-b-->c".as_slice(), Some(b"c".as_slice())),
+        (b"<!--a--b-->", None),
+        (b"<!--a--->", None),
+        (b"<!-->", None),
+        (b"<!--\xFF-->", None),
     ] {
-        assert!(rt; after_comment(bytes).is_none());
+        assert!(rt; after_comment(bytes) == rest);
     }
-    assert_eq!(rt; after_instruction(b"<?a?>c"), Some(b"c".as_slice()));
-    assert_eq!(rt;
-        after_instruction(b"<?xml-s  ?b? ?>c"),
-        Some(b"c".as_slice())
-    );
-    for bytes in [
-        b"<?xml ?>".as_slice(),
-        b"<?XmL?>",
-        b"<?a",
-        b"<?a>?>",
-        b"<? a?>",
-        b"<?a?b?>",
+    for (bytes, rest) in [
+        (b"<?a?>c".as_slice(), Some(b"c".as_slice())),
+        (b"<?xml-s  ?b? ?>", Some(b"")),
+        (b"<?XmL?>", None),
+        (b"<?a>?>", None),
+        (b"<?a?b?>", None),
     ] {
-        assert!(rt; after_instruction(bytes).is_none());
+        assert!(rt; after_instruction(bytes) == rest);
     }
-    assert_eq!(rt; after_cdata(b"<![CDATA[a]]]>c"), Some(b"c".as_slice()));
-    assert!(rt; after_cdata(b"<![CDATA[a]]").is_none());
+    assert!(rt; after_cdata(b"<![CDATA[a]]]>c") == Some(b"c".as_slice()));
 }
 
 #[test]
 fn declarations(rt: HostRuntime) {
-    let text = b"<?xml encoding = \"us-ASCII\" ?>c";
-    assert_eq!(rt; after_text_decl(text), Some(b"c".as_slice()));
-    assert!(rt; after_xml_decl(text).is_none());
-    let all = b"<?xml version='1.10' encoding='utf-8' standalone='no'?>c";
-    assert_eq!(rt; after_xml_decl(all), Some(b"c".as_slice()));
-    assert_eq!(rt; after_text_decl(all), Some(b"c".as_slice()));
-    for bytes in [
-        b"<?xml?>".as_slice(),
-        b"<?xml version='1.'?>",
-        b"<?xml version='2.0'?>",
-        b"<?xml version='1.0\"?>",
-        b"<?xmlversion='1.0'?>",
-        b"<?xml standalone='yes' version='1.0'?>",
-        b"<?xml encoding='latin1'?>",
+    for (bytes, rest, as_text) in [
+        (
+            b"<?xml version='1.10'?>c".as_slice(),
+            Some(b"c".as_slice()),
+            Some(b"c".as_slice()),
+        ),
+        (
+            b"<?xml version='1.0' encoding=\"utf-8\" standalone='no' ?>",
+            Some(b""),
+            Some(b""),
+        ),
+        (b"<?xml encoding = 'us-ASCII'?>", None, Some(b"")),
+        (b"<?xml?>", None, None),
+        (b"<?xml version='1.'?>", None, None),
+        (b"<?xml version='1.0\"?>", None, None),
+        (b"<?xml standalone='yes' version='1.0'?>", None, None),
+        (b"<?xml version='1.0' encoding='latin1'?>", None, None),
     ] {
-        assert!(rt; after_text_decl(bytes).is_none());
+        assert!(rt; after_xml_decl(bytes) == rest);
+        assert!(rt; after_text_decl(bytes) == as_text);
     }
-    let (value, rest) = quoted_at(b"'a\"b'c").unwrap_or((b"", b""));
-    assert_eq!(rt; value, b"a\"b".as_slice());
-    assert_eq!(rt; rest, b"c".as_slice());
+    assert!(rt; quoted_at(b"'a\"b'c") == Some((b"a\"b".as_slice(), b"c".as_slice())));
 }
 
 #[test]
 fn references(rt: HostRuntime) {
-    assert_eq!(rt; after_char_ref(b"&#00065;c"), Some(b"c".as_slice()));
-    assert_eq!(rt; after_char_ref(b"&#x10fffF;c"), Some(b"c".as_slice()));
-    for bytes in [
-        b"&#;".as_slice(),
-        b"&#x;",
-        b"&#0;",
-        b"&#xFFFF;",
-        b"&#x110000;",
-        b"&#1a;",
-        b"&#65",
+    for (bytes, rest) in [
+        (b"&#00065;c".as_slice(), Some(b"c".as_slice())),
+        (b"&#x10fffF;", Some(b"")),
+        (b"&#;", None),
+        (b"&#0;", None),
+        (b"&#xFFFF;", None),
+        (b"&#x110000;", None),
+        (b"&#1a;", None),
+        (b"&#65", None),
     ] {
-        assert!(rt; after_char_ref(bytes).is_none());
+        assert!(rt; after_char_ref(bytes) == rest);
     }
-    let (name, rest) = entity_ref_at(b"&lt;c").unwrap_or((b"", b""));
-    assert_eq!(rt; name, b"lt".as_slice());
-    assert_eq!(rt; rest, b"c".as_slice());
-    assert!(rt; entity_ref_at(b"&lt").is_none());
+    assert!(rt; entity_ref_at(b"&lt;c") == Some((b"lt".as_slice(), b"c".as_slice())));
 }
 
 fn units_of(rt: &HostRuntime, bytes: &[u8]) -> Result<Units, Fail> {
@@ -174,28 +148,27 @@ fn units_of(rt: &HostRuntime, bytes: &[u8]) -> Result<Units, Fail> {
 
 #[test]
 fn texts(rt: HostRuntime) -> Result<(), Fail> {
-    let units = units_of(&rt, "a &#32;é".as_bytes())?;
-    assert_eq!(rt; units.len(), 4);
-    assert_eq!(rt; units.bytes(), "a &#32;é".as_bytes());
-    assert!(rt; units.has_data());
-    assert!(rt; !units_of(&rt, b" \t\r\n")?.has_data());
-    assert!(rt; units_of(&rt, b"&#32;")?.has_data());
-    assert_eq!(rt; units_of(&rt, b"plain")?.len(), 5);
+    for (bytes, count, has_data) in [
+        ("a &#32;é".as_bytes(), 4, true),
+        (b" \t\r\n", 4, false),
+        (b"&#32;", 1, true),
+        (b"plain", 5, true),
+    ] {
+        let units = units_of(&rt, bytes)?;
+        assert!(rt; units.len() == count && units.has_data() == has_data);
+        assert!(rt; units.bytes() == bytes);
+    }
     Ok(())
 }
 
 #[test]
 fn parts_of_texts(rt: HostRuntime) -> Result<(), Fail> {
     let units = units_of(&rt, "a &#32;é".as_bytes())?;
-    assert_eq!(rt; units.len(), 4);
+    assert!(rt; units.len() == 4);
     let part = units.part(rt.alloc(), 1, 3).map_err(|_| "no memory")?;
-    assert_eq!(rt; part.bytes(), b" &#32;".as_slice());
-    let end = units_of(&rt, b">")?;
-    let both = units_of(&rt, b"]]")?
-        .joined(rt.alloc(), &end)
-        .map_err(|_| "no memory")?;
-    assert_eq!(rt; both.bytes(), b"]]>".as_slice());
-    assert_eq!(rt; both.len(), 3);
+    assert!(rt; part.bytes() == b" &#32;".as_slice());
+    let both = part.joined(rt.alloc(), &units).map_err(|_| "no memory")?;
+    assert!(rt; both.bytes() == " &#32;a &#32;é".as_bytes());
     Ok(())
 }
 
@@ -219,31 +192,21 @@ fn faults_of_texts(rt: HostRuntime) {
 }
 
 #[test]
-fn plain_texts_and_lists(rt: HostRuntime) -> Result<(), Fail> {
+fn lists(rt: HostRuntime) -> Result<(), Fail> {
     let alloc = rt.alloc();
-    assert!(rt; plain_name(b"_a.1-B"));
-    assert!(rt; !plain_name(b"a:b"));
-    let units = plain_units(alloc, b"a \n").map_err(|_| "no memory")?;
-    assert_eq!(rt; units.len(), 3);
-    assert_eq!(rt; units.bytes(), b"a \n".as_slice());
-    assert!(rt; units.has_data());
     let bytes = bytes_of(alloc, b"xyz").map_err(|_| "no memory")?;
-    assert_eq!(rt; bytes.as_slice(), b"xyz".as_slice());
+    assert!(rt; bytes.as_slice() == b"xyz".as_slice());
     let numbers = Numbers::of([1, 2].to_vec(alloc)?);
-    assert_eq!(rt; numbers.as_slice(), [1, 2].as_slice());
+    assert!(rt; numbers.as_slice() == [1, 2].as_slice());
+    let plain = plain_units(alloc, b"a \n").map_err(|_| "no memory")?;
+    assert!(rt; plain.len() == 3);
     Ok(())
 }
 
 #[test]
-fn space_and_bytes(rt: HostRuntime) {
-    assert_eq!(rt; space_length(b" \t\r\nx "), 4);
-    assert_eq!(rt; after_space(b" \t\r\nx "), b"x ".as_slice());
-    assert_eq!(rt; after_blank(b" x"), Some(b"x".as_slice()));
-    assert_eq!(rt; after_blank(b"x"), None);
-    assert_eq!(rt; after_bytes(b"<!", b"<!x"), Some(b"x".as_slice()));
-    assert_eq!(rt; after_bytes(b"<!", b"<x"), None);
-    let (name, rest) = plain_name_at(b"ab-1 c").unwrap_or((b"", b""));
-    assert_eq!(rt; name, b"ab-1".as_slice());
-    assert_eq!(rt; rest, b" c".as_slice());
-    assert!(rt; plain_name_at(b"1").is_none());
+fn space(rt: HostRuntime) {
+    assert!(rt; space_length(b" \t\r\nx ") == 4);
+    assert!(rt; after_blank(b" x") == Some(b"x".as_slice()));
+    assert!(rt; are_chars("текст €\t".as_bytes()));
+    assert!(rt; !are_chars(b"a\x00") && !plain_name(b"a:b"));
 }
