@@ -27,13 +27,6 @@ leaf_texts (data_unit b) u v r = texts_keep text u v r
 leaf_texts (cdata b) u v r = texts_keep text u v r
 leaf_texts (misc b) u v r = r
 
--- a text that comes may come once more
-pub once_more : (r v : List PlainToken) → Texts r v → (w : List PlainToken) → v ≡ text ∷ w → Texts r (text ∷ v)
-once_more r v texts_none w e = absurd cc
-once_more r v (texts_keep t x x' s) w e = let p : t ≡ text = cc in rw p (texts_again x (text ∷ x') (texts_keep text x x' s))
-once_more r v (texts_drop x x' s) w e = texts_drop x (text ∷ v) (once_more x v s w e)
-once_more r v (texts_again x x' s) w e = texts_again x (text ∷ x') (texts_again x x' s)
-
 pub alike_to : (g : PlainDtd) (h h2 : Hedge) → Alike g h h2 → Texts (word g h) (word g h2)
 alike_to g h h2 alike_done = texts_none
 alike_to g h h2 (alike_leaf l a b r) = leaf_texts l (word g a) (word g b) (alike_to g a b r)

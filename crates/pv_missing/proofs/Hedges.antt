@@ -5,11 +5,6 @@ use Rattle.pv_dtd.specs.Plain.{PlainDtd, number_of}
 use Rattle.pv_dtd.specs.Hedge.{Hedge, Leaf, cdata, data_unit, done, elem, elements, leaf, misc, token, white, word}
 use Rattle.pv_missing.specs.Extending.{join}
 
-pub join-done : (h : Hedge) → join h done ≡ h
-join-done done = refl
-join-done (leaf l h) = ap (leaf l) (join-done h)
-join-done (elem x t k h) = ap (elem x t k) (join-done h)
-
 pub word-join : (g : PlainDtd) (a b : Hedge) → word g (join a b) ≡ word g a ++ word g b
 word-join g done b = refl
 word-join g (leaf (white c) a) b = word-join g a b

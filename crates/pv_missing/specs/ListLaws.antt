@@ -57,7 +57,7 @@ ValidMissesNone M = (g : PlainDtd) (root : List ℕ) (list : Listed M) →
     IsProperDtd g → IsVerdict g root list verdict.Valid →
     Misses g root list 0 × Weighs g root list 0
 
--- The whole word of a live list has a derivation of a weight where so many elements are missing in
+-- The whole word of a live list has a derivation of a weight only where so many elements are missing in
 -- the list; where n are missing, it has one that weighs no more.
 abbrev pub DerivationsMiss : (M : Type 0) → Type 0
 DerivationsMiss M = (g : PlainDtd) (root : List ℕ) (list : Listed M) (s : PlainSite) (n : ℕ) →
