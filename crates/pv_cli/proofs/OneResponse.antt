@@ -2,7 +2,8 @@
 use Rattle.std.proofs.Common.{◌≡◌, ◌⊎◌, inl, inr, ℕ, List, length, codes, Option, Some, None, sym, ap, ◌∙◌, subst, arith}
 use Rattle.pv_dtd.specs.Plain.{PlainDtd}
 use Rattle.pv_dtd.specs.Facts.{MAX_DTD_BYTES}
-use Rattle.pv_dtd.specs.Grammar.{IsDtdText}
+use Rattle.pv_dtd.specs.Laws.{OneMeaning}
+use Rattle.pv_dtd.specs.Meaning.{Outcome, is_dtd, faulty, TextMeans}
 use Rattle.pv_tree.specs.Laws.{IsValidByLists}
 use Rattle.pv_tree.specs.Plain.{PlainDoc}
 use Rattle.pv_tree.specs.declared.nodes.Mark.{Mark}
@@ -14,7 +15,7 @@ use Rattle.pv_write.specs.Text.{doc_text}
 use Rattle.pv_cli.specs.CommandLine.{valid, session}
 use Rattle.pv_cli.specs.Course.{Ending, responds, Course}
 use Rattle.pv_cli.specs.Laws.{HasOneResponse}
-use Rattle.pv_cli.specs.Opening.{Files, IsGiven, IsTooLong, fetch_stage, RefusesDtd, no_dtd, dtd_stage, RefusesDocument, no_document, document_stage, dtd_file_stage, document_file_stage, opening_stage}
+use Rattle.pv_cli.specs.Opening.{Files, IsGiven, IsTooLong, fetch_stage, RefusesDtd, no_dtd, dtd_refusal, dtd_stage, RefusesDocument, no_document, document_stage, dtd_file_stage, document_file_stage, opening_stage}
 use Rattle.pv_cli.specs.Response.{PlainResponse}
 use Rattle.pv_cli.specs.Session.{State, IsScriptRefusal, IsAnswered, Answers, too_long, answered_all, failed, without_room, Converses}
 use Rattle.pv_cli.specs.Stage.{Stage, followed_by, beside, Behind, opened, refused, stopped, short_of_memory, Responds, responded, short_of_memory as out_of_memory}
@@ -87,17 +88,25 @@ fetch_sure file most passed = record {
 }
 
 -- a DTD text has one meaning
-abbrev pub IsOneDtd : Type 0
-IsOneDtd = (bytes : List ℕ) (g h : PlainDtd) → IsDtdText bytes g → IsDtdText bytes h → g ≡ h
+same_meaning : OneMeaning → (bytes : List ℕ) (o p : Outcome) → TextMeans bytes o → TextMeans bytes p → o ≡ p
+same_meaning one bytes o p a b = (one bytes).only o a ∙ sym ((one bytes).only p b)
 
-dtd_not_both : (bytes : List ℕ) (g : PlainDtd) (r : PlainResponse) → IsDtdText bytes g → RefusesDtd bytes r → ⊥
-dtd_not_both bytes g r is (no_dtd none line) = none g is
+dtd_not_both : OneMeaning → (bytes : List ℕ) (g : PlainDtd) (r : PlainResponse) → TextMeans bytes (is_dtd g) → RefusesDtd bytes r → ⊥
+dtd_not_both one bytes g r is (no_dtd kind k means line) = let same = same_meaning one bytes (is_dtd g) (faulty kind k) is means in cc
 
-dtd_one_refusal : (bytes : List ℕ) (r also : PlainResponse) → RefusesDtd bytes r → RefusesDtd bytes also → r ≡ also
-dtd_one_refusal bytes r also (no_dtd none line) (no_dtd never other) = line ∙ sym other
+dtd_one_refusal : OneMeaning → (bytes : List ℕ) (r also : PlainResponse) → RefusesDtd bytes r → RefusesDtd bytes also → r ≡ also
+dtd_one_refusal one bytes r also (no_dtd kind k means line) (no_dtd other n again next) =
+    let same = same_meaning one bytes (faulty kind k) (faulty other n) means again in
+    let of_kind : kind ≡ other = cc in
+    let behind : k ≡ n = cc in
+    line ∙ ap (λ x. dtd_refusal x k) of_kind ∙ ap (dtd_refusal other) behind ∙ sym next
 
-dtd_sure : IsOneDtd → (bytes : List ℕ) → IsSure (dtd_stage bytes) IsEqual
-dtd_sure one bytes = record { not_both = dtd_not_both bytes; one_refusal = dtd_one_refusal bytes; same = one bytes }
+dtd_sure : OneMeaning → (bytes : List ℕ) → IsSure (dtd_stage bytes) IsEqual
+dtd_sure one bytes = record {
+  not_both = dtd_not_both one bytes;
+  one_refusal = dtd_one_refusal one bytes;
+  same = λ g h is are. let same = same_meaning one bytes (is_dtd g) (is_dtd h) is are in cc;
+}
 
 -- two documents with one text
 pub record IsSameText (doc same : PlainDoc Mark) : Type 0 where
@@ -118,7 +127,7 @@ document_sure root bytes = record {
   same = λ doc same is are. record { bytes = bytes; is_text = is; is_same = are };
 }
 
-opening_sure : IsOneDtd → (root : List ℕ) (files : Files) → IsSure (opening_stage root files) (IsSamePair IsSameText)
+opening_sure : OneMeaning → (root : List ℕ) (files : Files) → IsSure (opening_stage root files) (IsSamePair IsSameText)
 opening_sure one root files =
     followed_sure (dtd_file_stage files.dtd) (λ g. beside g (document_file_stage root files.doc)) (IsSamePair IsSameText)
     (followed_sure (fetch_stage files.dtd MAX_DTD_BYTES (codes "limit dtd-file")) dtd_stage IsEqual (fetch_sure files.dtd MAX_DTD_BYTES (codes "limit dtd-file")) (dtd_sure one))
@@ -183,7 +192,7 @@ conversation_on_text written doc same course other r also text taken silent at o
     let moved = subst (λ (s : List ℕ). SessionResponds same s course.silent also) (sym script) (subst (λ (m : List ℕ). SessionResponds same others.script m also) (sym silent) there) in
     one_session doc same talks.script course.silent r also (written text.bytes doc text.is_text.spelled ∙ sym (written text.bytes same text.is_same.spelled)) here moved
 
-pub one_response : IsOneDtd → SpellsOneDocument → IsValidByLists Mark → WritesWhatIsSpelled → HasOneResponse
+pub one_response : OneMeaning → SpellsOneDocument → IsValidByLists Mark → WritesWhatIsSpelled → HasOneResponse
 one_response dtds documents by_lists written None files course other r also is are taken silent at on = told _ course r is at ∙ sym (told _ other also are on)
 one_response dtds documents by_lists written (Some (valid dtd root doc)) files course other r also is are taken silent at on =
     one_of (opening_stage root files) (IsSamePair IsSameText) (λ both. Responds (TellsValidity root both.0 both.1)) course other r also (opening_sure dtds root files)

@@ -2,7 +2,8 @@
 use Rattle.std.specs.Prelude.{◌≡◌, ◌≤◌, ◌<◌, ℕ, List, ◌++◌, length, codes, decimal, Option, Some, None}
 use Rattle.pv_dtd.specs.Plain.{PlainDtd}
 use Rattle.pv_dtd.specs.Facts.{MAX_DTD_BYTES}
-use Rattle.pv_dtd.specs.Grammar.{IsDtdText}
+use Rattle.pv_dtd.specs.Kinds.{Kind, parameter, nesting, syntax, twice, mixed_twice, limit}
+use Rattle.pv_dtd.specs.Meaning.{TextMeans, is_dtd, faulty}
 use Rattle.pv_dtd.specs.PlainForms.{plain_dtd}
 use Rattle.pv_tree.specs.PlainDocs.{plain_doc}
 use Rattle.pv_tree.specs.Plain.{PlainDoc}
@@ -44,13 +45,22 @@ fetch_stage file most passed = record {
   AsksShelf = Unit {0};
 }
 
+-- the response to a DTD whose first fault is of this kind, behind so many whole items
+abbrev pub dtd_refusal : Kind → ℕ → PlainResponse
+dtd_refusal parameter k = with_line BadDtd (codes "dtd parameter " ++ decimal k)
+dtd_refusal nesting k = with_line Limit (codes "limit dtd " ++ decimal k)
+dtd_refusal syntax k = with_line BadDtd (codes "dtd syntax " ++ decimal k)
+dtd_refusal twice k = with_line BadDtd (codes "dtd twice " ++ decimal k)
+dtd_refusal mixed_twice k = with_line BadDtd (codes "dtd mixed-twice " ++ decimal k)
+dtd_refusal limit k = with_line Limit (codes "limit dtd " ++ decimal k)
+
 -- the response to bytes that are no DTD
 pub data RefusesDtd (bytes : List ℕ) (r : PlainResponse) : Type 0 where
-  no_dtd : ((g : PlainDtd) → IsDtdText bytes g → ⊥) → r ≡ with_line BadDtd (codes "dtd syntax " ++ decimal 0) → RefusesDtd bytes r
+  no_dtd : (kind : Kind) (k : ℕ) → TextMeans bytes (faulty kind k) → r ≡ dtd_refusal kind k → RefusesDtd bytes r
 
 -- reading a DTD
 abbrev pub dtd_stage : List ℕ → Stage PlainDtd
-dtd_stage bytes = record { Opens = IsDtdText bytes; Refuses = RefusesDtd bytes; AsksShelf = ⊥ }
+dtd_stage bytes = record { Opens = λ g. TextMeans bytes (is_dtd g); Refuses = RefusesDtd bytes; AsksShelf = ⊥ }
 
 -- the response to bytes that are no document with this root
 pub data RefusesDocument (root bytes : List ℕ) (r : PlainResponse) : Type 0 where

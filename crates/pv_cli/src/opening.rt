@@ -78,6 +78,24 @@ fn dtd_of(alloc: Global, bytes: &[u8]) -> Result<Dtd, Stop>
         Err(DtdError::Syntax(item)) => {
             Err(refuse_item(alloc, Status::BadDtd, b"dtd syntax ", item))
         }
+        Err(DtdError::Twice(item)) => {
+            Err(refuse_item(alloc, Status::BadDtd, b"dtd twice ", item))
+        }
+        Err(DtdError::MixedTwice(item)) => Err(refuse_item(
+            alloc,
+            Status::BadDtd,
+            b"dtd mixed-twice ",
+            item,
+        )),
+        Err(DtdError::Parameter(item)) => Err(refuse_item(
+            alloc,
+            Status::BadDtd,
+            b"dtd parameter ",
+            item,
+        )),
+        Err(DtdError::Limit(item)) => {
+            Err(refuse_item(alloc, Status::Limit, b"limit dtd ", item))
+        }
         Err(DtdError::NoMemory) => Err(Stop::NoMemory),
     }
 }

@@ -8,7 +8,10 @@ use Rattle.std.proofs.lemmas.Bool.{and_parts, or_right}
 use Rattle.pv_dtd.specs.Plain.{place_of}
 use Rattle.pv_dtd.specs.Facts.{are_distinct}
 use Rattle.pv_dtd.proofs.Binding.{same_some}
-use Rattle.pv_dtd.proofs.SpelledParts.{AreApart}
+
+-- each name has its first place for its number
+abbrev pub AreApart : List (List ℕ) → Type 0
+AreApart ns = (y : ℕ) (x : List ℕ) → slice_get ns y ≡ Some x → place_of ns x ≡ Some y
 
 pub any_at : (x : List ℕ) (ns : List (List ℕ)) (y : ℕ) → slice_get ns y ≡ Some x → list_any (bytes_eq x) ns ≡ true
 any_at x [] y e = cc

@@ -6,12 +6,7 @@ use Rattle.std.specs.List.{slice_get}
 use Rattle.std.specs.Option.{option_map}
 use Rattle.std.specs.Str.{bytes_eq}
 use Rattle.pv_dtd.specs.Plain.{place_of}
-use Rattle.pv_dtd.specs.Naming.{with_name, number_in}
-
--- more has these names in front
-pub record GoesOn (names more : List (List ℕ)) : Type 0 where
-  pub added : List (List ℕ)
-  pub whole : more ≡ names ++ added
+use Rattle.pv_dtd.specs.Naming.{with_name, number_in, GoesOn, grown}
 
 pub goes_on_self : (names : List (List ℕ)) → GoesOn names names
 goes_on_self names = record { added = []; whole = sym (append-nil names) }
@@ -25,11 +20,6 @@ with_name_goes_on_by names x false = record { added = x ∷ []; whole = refl }
 
 pub with_name_goes_on : (names : List (List ℕ)) (x : List ℕ) → GoesOn names (with_name names x)
 with_name_goes_on names x = with_name_goes_on_by names x (is_some (place_of names x))
-
--- the names, and behind them the new ones of these
-abbrev pub grown : List (List ℕ) → List (List ℕ) → List (List ℕ)
-grown names [] = names
-grown names (x ∷ xs) = grown (with_name names x) xs
 
 pub grown_goes_on : (names xs : List (List ℕ)) → GoesOn names (grown names xs)
 grown_goes_on names [] = goes_on_self names

@@ -6,12 +6,12 @@ use Rattle.std.proofs.lemmas.Slice.Eq.{bytes_eq-Decides}
 use Rattle.std.specs.List.{list_all, list_any, slice_get}
 use Rattle.std.specs.Str.{bytes_eq}
 use Rattle.pv_dtd.specs.Facts.{are_distinct}
-use Rattle.pv_dtd.specs.Grammar.{each_once}
-use Rattle.pv_dtd.specs.Naming.{with_name}
+use Rattle.pv_dtd.specs.Numbering.{each_once}
+use Rattle.pv_dtd.specs.Naming.{with_name, grown}
 use Rattle.pv_dtd.proofs.Binding.{same_some}
 use Rattle.pv_dtd.proofs.Places.{is_some-place}
 use Rattle.pv_dtd.proofs.Distinct.{are_new, new-distinct}
-use Rattle.pv_dtd.proofs.Naming.{grown, grown-append}
+use Rattle.pv_dtd.proofs.Naming.{grown-append}
 
 -- the same names are among both
 abbrev pub HaveSame : List (List ℕ) → List (List ℕ) → Type 0

@@ -51,7 +51,7 @@ pub is_some-place : (x : List ℕ) (names : List (List ℕ)) → is_some (place_
 is_some-place x [] = refl
 is_some-place x (n ∷ ns) = place_step (place_of ns x) (bytes_eq x n) _ (is_some-place x ns)
 
-list_any-map : {A B : Type 0} (f : A → B) (p : B → Bool) (xs : List A) → list_any p (map f xs) ≡ list_any (λ x. p (f x)) xs
+pub list_any-map : {A B : Type 0} (f : A → B) (p : B → Bool) (xs : List A) → list_any p (map f xs) ≡ list_any (λ x. p (f x)) xs
 list_any-map f p [] = refl
 list_any-map f p (x ∷ xs) = rw (list_any-map f p xs) refl
 

@@ -3,11 +3,15 @@ use Rattle.std.specs.Prelude.{ℕ, suc, ◌-◌, max, Bool, true, false, not, �
 use Rattle.std.specs.List.{list_all, list_any, range_with_len}
 use Rattle.std.specs.Str.{bytes_eq}
 use Rattle.std.specs.declared.alloc.Global.{Global}
-use Rattle.pv_chars.specs.PlainNames.{is_plain_name}
+use Rattle.pv_chars.specs.Names.{IsName}
 use Rattle.pv_model.specs.Plain.{PlainPart, name, seq, choice, opt, star, plus, PlainParts, no_parts, part, PlainModel, empty, any, mixed, children}
 use Rattle.pv_model.specs.declared.models.ContentModel.{ContentModel}
 use Rattle.pv_model.specs.PlainForms.{plain_model}
 use Rattle.pv_dtd.specs.Plain.{PlainDtd, mentions}
+
+-- the most bytes of a name that a DTD keeps
+abbrev pub MAX_NAME_BYTES : ℕ
+MAX_NAME_BYTES = 256
 
 -- what the names and models that a DTD holds are seen as
 abbrev pub dtd_of : List (Vec ℕ Global) → List ContentModel → PlainDtd
@@ -22,9 +26,18 @@ abbrev pub are_distinct_numbers : List ℕ → Bool
 are_distinct_numbers [] = true
 are_distinct_numbers (n ∷ ns) = not (list_any (nat_eq n) ns) && are_distinct_numbers ns
 
--- the names are plain, and differ
+-- a name of at most 256 bytes
+abbrev pub is_short : List ℕ → Bool
+is_short n = nat_le (length n) MAX_NAME_BYTES
+
+-- the names are short, and differ
 abbrev pub are_names : List (List ℕ) → Bool
-are_names names = list_all is_plain_name names && are_distinct names
+are_names names = list_all is_short names && are_distinct names
+
+-- each is a Name
+abbrev pub AreLegal : List (List ℕ) → Type 0
+AreLegal [] = Unit {0}
+AreLegal (n ∷ ns) = IsName n × AreLegal ns
 
 -- a name is one of the DTD
 abbrev pub are_known : PlainDtd → Bool

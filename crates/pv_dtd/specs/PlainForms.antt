@@ -1,15 +1,37 @@
--- The plain form of a DTD, and what a refusal says.
-use Rattle.std.specs.Prelude.{◌≡◌}
+-- The plain form of a DTD, and what its answers say of a text.
+use Rattle.std.specs.Prelude.{◌≡◌, ◌⊎◌, ℕ, List, Result, Ok, Err}
 use Rattle.pv_dtd.specs.Plain.{PlainDtd}
 use Rattle.pv_dtd.specs.Facts.{dtd_of}
+use Rattle.pv_dtd.specs.Kinds.{Kind, parameter, nesting, syntax, twice, mixed_twice, limit}
+use Rattle.pv_dtd.specs.Meaning.{Outcome, is_dtd, faulty, TextMeans}
 use Rattle.pv_dtd.specs.declared.dtd.Dtd.{Dtd}
 use Rattle.pv_dtd.specs.declared.errors.DtdError.{DtdError}
-use Rattle.pv_dtd.specs.declared.errors.DtdError.TheVariants.{Syntax, NoMemory}
+use Rattle.pv_dtd.specs.declared.errors.DtdError.TheVariants.{Syntax, Twice, MixedTwice, Parameter, Limit, NoMemory}
 
 abbrev pub plain_dtd : Dtd → PlainDtd
 plain_dtd d = dtd_of d.names.keys d.models.items
 
--- a refusal other than want of memory has this cause, and is at item 0
-abbrev pub Refuses : DtdError → Type 0 → Type 0
-Refuses (Syntax k) cause = (k ≡ 0) × cause
-Refuses NoMemory cause = Unit {0}
+-- the refusal of a text whose first fault is of this kind, behind so many items
+abbrev pub refusal : Kind → ℕ → DtdError
+refusal parameter k = Parameter k
+refusal nesting k = Limit k
+refusal syntax k = Syntax k
+refusal twice k = Twice k
+refusal mixed_twice k = MixedTwice k
+refusal limit k = Limit k
+
+-- a refusal, other than want of memory, is of the text's first fault
+abbrev pub Refuses : List ℕ → DtdError → Type 0
+Refuses bytes (Syntax k) = TextMeans bytes (faulty syntax k)
+Refuses bytes (Twice k) = TextMeans bytes (faulty twice k)
+Refuses bytes (MixedTwice k) = TextMeans bytes (faulty mixed_twice k)
+Refuses bytes (Parameter k) = TextMeans bytes (faulty parameter k)
+Refuses bytes (Limit k) = TextMeans bytes (faulty nesting k) ⊎ TextMeans bytes (faulty limit k)
+Refuses bytes NoMemory = Unit {0}
+
+-- the answer to a text that means this, unless memory ran out
+abbrev pub Answers : Outcome → Result Dtd DtdError → Type 0
+Answers (is_dtd g) (Ok dtd) = plain_dtd dtd ≡ g
+Answers (is_dtd g) (Err error) = error ≡ NoMemory
+Answers (faulty kind k) (Ok dtd) = ⊥
+Answers (faulty kind k) (Err error) = (error ≡ refusal kind k) ⊎ (error ≡ NoMemory)

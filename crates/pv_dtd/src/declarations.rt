@@ -1,115 +1,142 @@
-//! Reads element type declarations (XML 1.0, section 3.2).
+//! Reads items: element declarations, skipped declarations, comments, processing instructions and the text declaration.
 
-ghost use Rattle.std.specs.Prelude.{◌≡◌, ◌≤◌, ◌<◌, ◌+◌, ◌^◌, [], suc, map, length, IfOk, IfSome};
+ghost use Rattle.std.specs.Prelude.{◌≡◌, ◌≤◌, ◌<◌, length, IfOk, IfSome};
 ghost use Rattle.std.specs.Option.{option_map};
-ghost use Rattle.pv_model.specs.PlainForms.{plain_model};
-ghost use Rattle.pv_dtd.specs.Plain.{parts_in_model, parts_in_models};
-ghost use Rattle.pv_dtd.specs.Reading.{Gives, found};
-ghost use Rattle.pv_dtd.specs.Text.{head_at, declaration_at, models_at, after_close, declared_at};
+ghost use Rattle.pv_dtd.specs.CharReading.{comment_at, instruction_at, text_declaration_at, is_chars};
+ghost use Rattle.pv_dtd.specs.ItemReading.{element_at, skipped_word, behind_chars, skipped_at, front_at, item_at};
+ghost use Rattle.pv_dtd.specs.NamedForms.{named_item};
 
-use crate::errors::DtdError;
-use crate::models::{ReadModel, model_at};
-use crate::names::NameTable;
-use pv_chars::scan::{after_blank, after_bytes, after_space, plain_name_at};
-use pv_model::ContentModel;
+use crate::fronts::{after_stop, after_white, name_at};
+use crate::items::SpelledItem;
+use crate::models::model_at;
+use pv_chars::declarations::after_text_decl;
+use pv_chars::markup::{after_comment, after_instruction};
+use pv_chars::scan::{after_blank, after_bytes, after_space};
+use pv_chars::{NoMemory, are_chars};
 use std::alloc::Global;
 
-// The name that a declaration declares, and what stands behind it.
-#[tactic(auto, unfolding(crate::specs::Text::head_at))]
-fn head_at(bytes: &[u8]) -> Option<(&[u8], &[u8])>
-    ensures head { option_map (λ r. (r.0.now, r.1.now)) result ≡ head_at bytes.now }
-    ensures within { IfSome result (λ r. length r.1.now < length bytes.now) }
+fn comment_at(bytes: &[u8]) -> Option<&[u8]>
+    ensures read { option_map (λ r. r.now) result ≡ comment_at bytes.now }
+    ensures within { IfSome result (λ r. length r.now < length bytes.now) }
 {
-    let blank = after_bytes(b"<!ELEMENT", bytes)?;
-    let start = after_blank(blank)?;
-    plain_name_at(start)
+    after_comment(bytes)
 }
 
-// The model that a declaration declares, and what stands behind the declaration.
-#[tactic(auto, unfolding(crate::specs::Text::declaration_at))]
-fn declaration_at<'a>(
-    alloc: Global,
-    names: &mut NameTable,
-    bytes: &'a [u8],
-) -> Result<ReadModel<'a>, DtdError>
-    requires { length bytes.now < 2 ^ 62 }
-    ensures read { Gives (λ r. found (plain_model r.model) names.new r.rest.now) result (declaration_at names.old bytes.now) }
-    ensures counted { IfOk result (λ r. r.parts ≡ parts_in_model (plain_model r.model)) }
-    ensures within { IfOk result (λ r. r.parts + length r.rest.now < length bytes.now) }
+fn instruction_at(bytes: &[u8]) -> Option<&[u8]>
+    ensures read { option_map (λ r. r.now) result ≡ instruction_at bytes.now }
+    ensures within { IfSome result (λ r. length r.now < length bytes.now) }
 {
-    let Some((_, after_name)) = head_at(bytes) else {
-        return Err(DtdError::Syntax(0));
+    after_instruction(bytes)
+}
+
+fn text_declaration_at(bytes: &[u8]) -> Option<&[u8]>
+    ensures read { option_map (λ r. r.now) result ≡ text_declaration_at bytes.now }
+    ensures within { IfSome result (λ r. length r.now < length bytes.now) }
+{
+    after_text_decl(bytes)
+}
+
+fn is_chars(bytes: &[u8]) -> bool
+    ensures { result ≡ is_chars bytes.now }
+{
+    are_chars(bytes)
+}
+
+#[tactic(auto, unfolding(crate::specs::ItemReading::element_at))]
+fn element_at<'a>(
+    alloc: Global,
+    bytes: &'a [u8],
+) -> Result<Option<(SpelledItem<'a>, &'a [u8])>, NoMemory>
+    ensures read { IfOk result (λ o. option_map (λ r. (named_item r.0, r.1.now)) o ≡ element_at bytes.now) }
+    ensures within { IfOk result (λ o. IfSome o (λ r. length r.1.now < length bytes.now)) }
+{
+    let Some(blank) = after_bytes(b"<!ELEMENT", bytes) else {
+        return Ok(None);
+    };
+    let Some(start) = after_blank(blank) else {
+        return Ok(None);
+    };
+    let Some((name, after_name)) = name_at(start) else {
+        return Ok(None);
     };
     let Some(spec) = after_blank(after_name) else {
-        return Err(DtdError::Syntax(0));
+        return Ok(None);
     };
-    let ReadModel { model, parts, rest } = model_at(alloc, names, spec)?;
-    let Some(rest) = after_bytes(b">", after_space(rest)) else {
-        return Err(DtdError::Syntax(0));
+    let Some((model, after_model)) = model_at(alloc, spec)? else {
+        return Ok(None);
     };
-    Ok(ReadModel { model, parts, rest })
+    let Some(rest) = after_bytes(b">", after_space(after_model)) else {
+        return Ok(None);
+    };
+    Ok(Some((SpelledItem::Element(name, model), rest)))
 }
 
-/// The models that a text declares, in order, and the number of their parts. The names have those that are declared, and get those that are only mentioned.
-pub fn models_at(
+/// What stands behind the word of a declaration that is skipped.
+#[tactic(auto, unfolding(crate::specs::ItemReading::skipped_word, crate::specs::ItemReading::or_else))]
+pub fn skipped_word(bytes: &[u8]) -> Option<&[u8]>
+    ensures word { option_map (λ r. r.now) result ≡ skipped_word bytes.now }
+    ensures within { IfSome result (λ r. length r.now < length bytes.now) }
+{
+    after_bytes(b"<!ATTLIST", bytes)
+        .or(after_bytes(b"<!ENTITY", bytes))
+        .or(after_bytes(b"<!NOTATION", bytes))
+}
+
+// The rest, where what stands before it and one byte are Chars.
+#[tactic(auto, unfolding(crate::specs::ItemReading::behind_chars))]
+fn behind_chars<'a>(bytes: &[u8], rest: &'a [u8]) -> Option<&'a [u8]>
+    requires { length rest.now < length bytes.now }
+    ensures read { option_map (λ r. r.now) result ≡ behind_chars bytes.now rest.now }
+    ensures within { IfSome result (λ r. length r.now ≤ length rest.now) }
+{
+    let inside = bytes.split_at(bytes.len() - (rest.len() + 1)).0;
+    if is_chars(inside) { Some(rest) } else { None }
+}
+
+#[tactic(auto, unfolding(crate::specs::ItemReading::skipped_at))]
+fn skipped_at(bytes: &[u8]) -> Option<&[u8]>
+    ensures read { option_map (λ r. r.now) result ≡ skipped_at bytes.now }
+    ensures within { IfSome result (λ r. length r.now < length bytes.now) }
+{
+    let blank = skipped_word(bytes)?;
+    let inside = after_white(blank)?;
+    let rest = after_stop(b'>', b">%<", inside)?;
+    behind_chars(inside, rest)
+}
+
+#[tactic(auto, unfolding(crate::specs::ItemReading::front_at))]
+fn front_at(front: bool, bytes: &[u8]) -> Option<&[u8]>
+    ensures read { option_map (λ r. r.now) result ≡ front_at front bytes.now }
+    ensures within { IfSome result (λ r. length r.now < length bytes.now) }
+{
+    if front {
+        text_declaration_at(bytes)
+    } else {
+        None
+    }
+}
+
+/// The item in front, and what stands behind it. A text declaration is one where this is the front of the text.
+#[tactic(auto, unfolding(crate::specs::ItemReading::item_at, crate::specs::ItemReading::read_as, crate::specs::ItemReading::or_else))]
+pub fn item_at<'a>(
     alloc: Global,
-    names: &mut NameTable,
-    bytes: &[u8],
-) -> Result<(Vec<ContentModel>, usize), DtdError>
-    requires { length bytes.now < 2 ^ 62 }
-    ensures read { Gives (λ r. found (map plain_model r.0.items) names.new []) result (models_at (suc (length bytes.now)) names.old bytes.now) }
-    ensures counted { IfOk result (λ r. r.1 ≡ parts_in_models (map plain_model r.0.items)) }
+    front: bool,
+    bytes: &'a [u8],
+) -> Result<Option<(SpelledItem<'a>, &'a [u8])>, NoMemory>
+    ensures read { IfOk result (λ o. option_map (λ r. (named_item r.0, r.1.now)) o ≡ item_at front bytes.now) }
+    ensures within { IfOk result (λ o. IfSome o (λ r. length r.1.now < length bytes.now)) }
 {
-    let mut models: Vec<ContentModel> = Vec::new(alloc);
-    let mut parts = 0;
-    let mut rest = bytes;
-    'declarations: loop {
-        let place = after_space(rest);
-        if place.is_empty() {
-            return Ok((models, parts));
-        }
-        let next = declaration_at(alloc, names, place)?;
-        models.push(next.model)?;
-        parts += next.parts;
-        rest = next.rest;
+    if let Some(rest) = front_at(front, bytes) {
+        return Ok(Some((SpelledItem::TextDeclaration, rest)));
     }
-}
-
-// What stands behind the first `>`.
-fn after_close(bytes: &[u8]) -> &[u8]
-    ensures after { result.now ≡ after_close bytes.now }
-    ensures within { length result.now ≤ length bytes.now }
-{
-    let mut rest = bytes;
-    while let [b, after @ ..] = rest {
-        if *b == b'>' {
-            return after;
-        }
-        rest = after;
+    if let Some(rest) = skipped_at(bytes) {
+        return Ok(Some((SpelledItem::Skipped, rest)));
     }
-    rest
-}
-
-/// The names that a text declares, in order. One that is declared twice is refused.
-///
-/// Of a declaration it looks at no more than its name: what stands between that and the `>` is left to [`models_at`].
-pub fn declared_at(alloc: Global, bytes: &[u8]) -> Result<NameTable, DtdError>
-    ensures { Gives (λ names. names) result (declared_at (suc (length bytes.now)) [] bytes.now) }
-{
-    let mut names = NameTable::new(alloc);
-    let mut rest = bytes;
-    'declarations: loop {
-        let place = after_space(rest);
-        if place.is_empty() {
-            return Ok(names);
-        }
-        let Some((name, after_name)) = head_at(place) else {
-            return Err(DtdError::Syntax(0));
-        };
-        if names.contains(name) {
-            return Err(DtdError::Syntax(0));
-        }
-        names.number(alloc, name)?;
-        rest = after_close(after_name);
+    if let Some(rest) = comment_at(bytes) {
+        return Ok(Some((SpelledItem::Comment, rest)));
     }
+    if let Some(rest) = instruction_at(bytes) {
+        return Ok(Some((SpelledItem::Instruction, rest)));
+    }
+    element_at(alloc, bytes)
 }

@@ -3,7 +3,7 @@
 ghost use Rattle.std.specs.Prelude.{◌≡◌, ◌≤◌, ◌+◌, IsTrue, length};
 ghost use Rattle.std.specs.List.{list_all};
 ghost use Rattle.pv_dtd.specs.Plain.{parts_in_models};
-ghost use Rattle.pv_dtd.specs.Facts.{dtd_of, are_names, are_known, are_mentioned, is_formed_model, MAX_TYPES, MAX_PARTS};
+ghost use Rattle.pv_dtd.specs.Facts.{dtd_of, are_names, AreLegal, are_known, are_mentioned, is_formed_model, MAX_TYPES, MAX_PARTS};
 
 use crate::names::NameTable;
 use indexmap::IndexSet;
@@ -16,6 +16,7 @@ pub struct Dtd {
     models: Vec<ContentModel>,
     parts: u32,
     pub ghost named: { length models.items ≤ length names.keys },
+    pub ghost legal: { ∥ AreLegal (dtd_of names.keys models.items).names ∥₁ },
     pub ghost distinct: { IsTrue (are_names (dtd_of names.keys models.items).names) },
     pub ghost known: { IsTrue (are_known (dtd_of names.keys models.items)) },
     pub ghost mentioned: { IsTrue (are_mentioned (dtd_of names.keys models.items)) },
@@ -27,16 +28,16 @@ pub struct Dtd {
 }
 
 impl Dtd {
-    ghost use Rattle.pv_dtd.specs.Text.{IsOfText};
+    ghost use Rattle.pv_dtd.specs.SoFar.{IsOfItems};
     ghost use Rattle.std.specs.Prelude.{◌≡◌, ◌+◌, ◌<◌, length, map, slice_get, Some};
     ghost use Rattle.std.specs.Option.{option_copied, option_map};
     ghost use Rattle.pv_model.specs.PlainForms.{plain_model};
     ghost use Rattle.pv_dtd.specs.Plain.{declared, parts_in_models, number_of, model_of};
     ghost use Rattle.pv_dtd.specs.PlainForms.{plain_dtd};
 
-    // The DTD of a text: its names, its models and the number of their parts.
+    // The DTD of these names and models, with so many parts.
     pub(crate) fn of(names: NameTable, models: Vec<ContentModel>, parts: u32) -> Dtd
-        requires text { IsOfText (record { names = names; models = map plain_model models.items }) }
+        requires items { IsOfItems (record { names = names; models = map plain_model models.items }) }
         requires counted { parts ≡ parts_in_models (map plain_model models.items) }
         ensures { plain_dtd result ≡ record { names = names; models = map plain_model models.items } }
     {

@@ -1,10 +1,8 @@
 //! Laws of DTD texts, each the contract of a function that does nothing.
 
-ghost use Rattle.std.specs.Prelude.{◌≡◌, ℕ, List};
-ghost use Rattle.pv_dtd.specs.Plain.{PlainDtd};
-ghost use Rattle.pv_dtd.specs.Grammar.{IsDtdText};
+ghost use Rattle.pv_dtd.specs.Laws.{OneMeaning};
 
-/// A text is one DTD.
+/// A text has exactly one meaning: a DTD, or its first item in fault with its kind.
 pub fn one_meaning_law()
-    ensures { (bytes : List ℕ) (g h : PlainDtd) → IsDtdText bytes g → IsDtdText bytes h → g ≡ h }
+    ensures { OneMeaning }
 {}

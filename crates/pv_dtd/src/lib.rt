@@ -4,12 +4,17 @@
 mod declarations;
 mod dtd;
 mod errors;
+mod faults;
+mod fronts;
+mod items;
 mod laws;
-mod mixed;
 mod models;
 mod names;
+mod numbering;
 mod particles;
+mod parts;
 mod reading;
+mod rules;
 
 pub use dtd::Dtd;
 pub use errors::DtdError;

@@ -1,91 +1,43 @@
 //! Reads content particles (XML 1.0, section 3.2.1).
 
-ghost use Rattle.std.specs.Prelude.{◌≡◌, ◌≤◌, ◌<◌, ◌+◌, ◌^◌, suc, length, map, IfOk};
-ghost use Rattle.pv_model.specs.Plain.{parts_of};
-ghost use Rattle.pv_model.specs.PlainForms.{plain_part};
-ghost use Rattle.pv_dtd.specs.Plain.{parts_in};
-ghost use Rattle.pv_dtd.specs.Reading.{Gives, found, number_at, word_at, operated, separator_at, group_of, group_from, others_at, group_at, bare_at, particle_at};
-ghost use Rattle.pv_dtd.specs.declared.particles.Particle.{Particle};
+ghost use Rattle.std.specs.Prelude.{◌≡◌, ◌≤◌, ◌<◌, ◌^◌, suc, length, map, IfOk, IfSome};
+ghost use Rattle.std.specs.Option.{option_map};
+ghost use Rattle.pv_dtd.specs.PartReading.{word_at, with_operator, separator_at, group_of, group_from, others_at, group_at, bare_at, particle_at};
+ghost use Rattle.pv_dtd.specs.NamedForms.{named_part, named_parts};
 
-use crate::errors::DtdError;
-use crate::names::NameTable;
+use crate::fronts::name_at;
+use crate::items::SpelledPart;
 use pv_chars::NoMemory;
-use pv_chars::scan::{after_bytes, after_space, plain_name_at};
-use pv_model::{NameId, Part, Parts};
+use pv_chars::scan::{after_bytes, after_space};
 use std::alloc::Global;
 
-/// A particle, the number of its parts, and what stands behind it.
-#[derive(Drop)]
-pub struct Particle<'a> {
-    pub part: Part,
-    pub parts: usize,
-    pub rest: &'a [u8],
+#[tactic(auto, unfolding(crate::specs::PartReading::word_at))]
+fn word_at(bytes: &[u8]) -> Option<(SpelledPart<'_>, &[u8])>
+    ensures read { option_map (λ r. (named_part r.0, r.1.now)) result ≡ word_at bytes.now }
+    ensures within { IfSome result (λ r. length r.1.now ≤ length bytes.now) }
+{
+    let (name, rest) = name_at(bytes)?;
+    Some((SpelledPart::Name(name), rest))
 }
 
-/// A name, by its number, and what stands behind it.
-#[tactic(auto, unfolding(crate::specs::Reading::number_at))]
-pub fn number_at<'a>(
+#[tactic(auto, unfolding(crate::specs::PartReading::with_operator))]
+fn with_operator<'a>(
     alloc: Global,
-    names: &mut NameTable,
-    bytes: &'a [u8],
-) -> Result<(NameId, &'a [u8]), DtdError>
-    ensures read { Gives (λ r. found r.0.0 names.new r.1.now) result (number_at names.old bytes.now) }
-    ensures within { IfOk result (λ r. length r.1.now < length bytes.now) }
+    part: SpelledPart<'a>,
+    rest: &'a [u8],
+) -> Result<(SpelledPart<'a>, &'a [u8]), NoMemory>
+    ensures read { IfOk result (λ r. (named_part r.0, r.1.now) ≡ with_operator (named_part part.entry) rest.now) }
+    ensures within { IfOk result (λ r. length r.1.now ≤ length rest.now) }
 {
-    let Some((word, rest)) = plain_name_at(bytes) else {
-        return Err(DtdError::Syntax(0));
-    };
-    let id = names.number(alloc, word)?;
-    Ok((id, rest))
-}
-
-#[tactic(auto, unfolding(crate::specs::Reading::word_at))]
-fn word_at<'a>(
-    alloc: Global,
-    names: &mut NameTable,
-    bytes: &'a [u8],
-) -> Result<Particle<'a>, DtdError>
-    ensures read { Gives (λ r. found (plain_part r.part) names.new r.rest.now) result (word_at names.old bytes.now) }
-    ensures counted { IfOk result (λ r. r.parts ≡ parts_in (plain_part r.part)) }
-    ensures within { IfOk result (λ r. r.parts + length r.rest.now ≤ length bytes.now) }
-{
-    let (id, rest) = number_at(alloc, names, bytes)?;
-    Ok(Particle {
-        part: Part::Name(id),
-        parts: 1,
-        rest,
-    })
-}
-
-#[tactic(auto, unfolding(crate::specs::Reading::operated))]
-fn operated(alloc: Global, particle: Particle<'_>) -> Result<Particle<'_>, NoMemory>
-    requires { particle.parts + length particle.rest.now < 2 ^ 63 }
-    ensures read { IfOk result (λ r. (ns : _) → found (plain_part r.part) ns r.rest.now ≡ operated (plain_part particle.entry.part) ns particle.entry.rest.now) }
-    ensures counted { IfOk result (λ r. r.parts + parts_in (plain_part particle.entry.part) ≡ particle.entry.parts + parts_in (plain_part r.part)) }
-    ensures within { IfOk result (λ r. r.parts + length r.rest.now ≤ particle.entry.parts + length particle.entry.rest.now) }
-{
-    let Particle { part, parts, rest } = particle;
     match rest {
-        [b'?', after @ ..] => Ok(Particle {
-            part: Part::Opt(Box::new(alloc, part)?),
-            parts: parts + 1,
-            rest: after,
-        }),
-        [b'*', after @ ..] => Ok(Particle {
-            part: Part::Star(Box::new(alloc, part)?),
-            parts: parts + 1,
-            rest: after,
-        }),
-        [b'+', after @ ..] => Ok(Particle {
-            part: Part::Plus(Box::new(alloc, part)?),
-            parts: parts + 1,
-            rest: after,
-        }),
-        _ => Ok(Particle { part, parts, rest }),
+        [b'?', after @ ..] => Ok((SpelledPart::Opt(Box::new(alloc, part)?), after)),
+        [b'*', after @ ..] => Ok((SpelledPart::Star(Box::new(alloc, part)?), after)),
+        [b'+', after @ ..] => Ok((SpelledPart::Plus(Box::new(alloc, part)?), after)),
+        _ => Ok((part, rest)),
     }
 }
 
-#[tactic(auto, unfolding(crate::specs::Reading::separator_at))]
+#[tactic(auto, unfolding(crate::specs::PartReading::separator_at))]
 fn separator_at(bytes: &[u8]) -> u8
     ensures { result ≡ separator_at bytes.now }
 {
@@ -95,109 +47,94 @@ fn separator_at(bytes: &[u8]) -> u8
     }
 }
 
-fn group_of(separator: u8, members: Parts) -> Part
-    ensures { plain_part result ≡ group_of separator (parts_of (map plain_part members.items)) }
+fn group_of<'a>(separator: u8, members: Vec<SpelledPart<'a>>) -> SpelledPart<'a>
+    ensures { named_part result ≡ group_of separator (named_parts members.entry.items) }
 {
     if separator == b'|' {
-        Part::Choice(members)
+        SpelledPart::Choice(members)
     } else {
-        Part::Seq(members)
+        SpelledPart::Seq(members)
     }
 }
 
 /// A name, a choice or a sequence, with its operator. Groups stand one inside another at most `depth` deep.
 #[cycle(particles)]
-#[tactic(auto, unfolding(crate::specs::Reading::particle_from))]
+#[tactic(auto, unfolding(crate::specs::PartReading::particle_from))]
 pub fn particle_at<'a>(
     alloc: Global,
-    names: &mut NameTable,
     bytes: &'a [u8],
     depth: usize,
-) -> Result<Particle<'a>, DtdError>
-    requires { length bytes.now < 2 ^ 62 }
-    ensures read { Gives (λ r. found (plain_part r.part) names.new r.rest.now) result (particle_at depth names.old bytes.now) }
-    ensures counted { IfOk result (λ r. r.parts ≡ parts_in (plain_part r.part)) }
-    ensures within { IfOk result (λ r. r.parts + length r.rest.now ≤ length bytes.now) }
+) -> Result<Option<(SpelledPart<'a>, &'a [u8])>, NoMemory>
+    ensures read { IfOk result (λ o. option_map (λ r. (named_part r.0, r.1.now)) o ≡ particle_at depth bytes.now) }
+    ensures within { IfOk result (λ o. IfSome o (λ r. length r.1.now ≤ length bytes.now)) }
 {
-    let bare = bare_at(alloc, names, bytes, depth)?;
-    Ok(operated(alloc, bare)?)
+    let Some((part, rest)) = bare_at(alloc, bytes, depth)? else {
+        return Ok(None);
+    };
+    Ok(Some(with_operator(alloc, part, rest)?))
 }
 
 #[cycle(particles)]
-#[tactic(auto, unfolding(crate::specs::Reading::bare_at))]
+#[tactic(auto, unfolding(crate::specs::PartReading::bare_at))]
 fn bare_at<'a>(
     alloc: Global,
-    names: &mut NameTable,
     bytes: &'a [u8],
     depth: usize,
-) -> Result<Particle<'a>, DtdError>
-    requires { length bytes.now < 2 ^ 62 }
-    ensures read { Gives (λ r. found (plain_part r.part) names.new r.rest.now) result (bare_at depth names.old bytes.now) }
-    ensures counted { IfOk result (λ r. r.parts ≡ parts_in (plain_part r.part)) }
-    ensures within { IfOk result (λ r. r.parts + length r.rest.now ≤ length bytes.now) }
+) -> Result<Option<(SpelledPart<'a>, &'a [u8])>, NoMemory>
+    ensures read { IfOk result (λ o. option_map (λ r. (named_part r.0, r.1.now)) o ≡ bare_at depth bytes.now) }
+    ensures within { IfOk result (λ o. IfSome o (λ r. length r.1.now ≤ length bytes.now)) }
 {
     match after_bytes(b"(", bytes) {
-        Some(_) if depth == 0 => Err(DtdError::Syntax(0)),
-        Some(inside) => group_at(alloc, names, inside, depth - 1),
-        None => word_at(alloc, names, bytes),
+        Some(_) if depth == 0 => Ok(None),
+        Some(inside) => group_at(alloc, inside, depth - 1),
+        None => Ok(word_at(bytes)),
     }
 }
 
 #[cycle(particles)]
-#[tactic(auto, unfolding(crate::specs::Reading::group_at))]
+#[tactic(auto, unfolding(crate::specs::PartReading::group_at))]
 fn group_at<'a>(
     alloc: Global,
-    names: &mut NameTable,
     bytes: &'a [u8],
     depth: usize,
-) -> Result<Particle<'a>, DtdError>
-    requires { length bytes.now < 2 ^ 62 }
-    ensures read { Gives (λ r. found (plain_part r.part) names.new r.rest.now) result (group_at (particle_at depth) names.old bytes.now) }
-    ensures counted { IfOk result (λ r. r.parts ≡ parts_in (plain_part r.part)) }
-    ensures within { IfOk result (λ r. r.parts + length r.rest.now ≤ length bytes.now) }
+) -> Result<Option<(SpelledPart<'a>, &'a [u8])>, NoMemory>
+    ensures read { IfOk result (λ o. option_map (λ r. (named_part r.0, r.1.now)) o ≡ group_at (particle_at depth) bytes.now) }
+    ensures within { IfOk result (λ o. IfSome o (λ r. length r.1.now ≤ length bytes.now)) }
 {
-    let first = particle_at(alloc, names, after_space(bytes), depth)?;
-    let separator = separator_at(after_space(first.rest));
-    others_at(alloc, names, separator, first, depth)
+    let Some((first, rest)) = particle_at(alloc, after_space(bytes), depth)? else {
+        return Ok(None);
+    };
+    let separator = separator_at(after_space(rest));
+    others_at(alloc, separator, first, rest, depth)
 }
 
 // The others of a group, behind its first member.
 #[cycle(particles)]
 fn others_at<'a>(
     alloc: Global,
-    names: &mut NameTable,
     separator: u8,
-    first: Particle<'a>,
+    first: SpelledPart<'a>,
+    behind: &'a [u8],
     depth: usize,
-) -> Result<Particle<'a>, DtdError>
-    requires { first.parts + length first.rest.now < 2 ^ 62 }
-    ensures read { Gives (λ r. found (plain_part r.part) names.new r.rest.now) result (group_from separator (plain_part first.entry.part) (others_at (particle_at depth) separator (suc (length first.entry.rest.now)) names.old first.entry.rest.now)) }
-    ensures counted { IfOk result (λ r. r.parts + parts_in (plain_part first.entry.part) ≡ first.entry.parts + parts_in (plain_part r.part)) }
-    ensures within { IfOk result (λ r. r.parts + length r.rest.now ≤ first.entry.parts + length first.entry.rest.now) }
+) -> Result<Option<(SpelledPart<'a>, &'a [u8])>, NoMemory>
+    ensures read { IfOk result (λ o. option_map (λ r. (named_part r.0, r.1.now)) o
+        ≡ group_from separator (named_part first.entry) (others_at (particle_at depth) separator (suc (length behind.now)) behind.now)) }
+    ensures within { IfOk result (λ o. IfSome o (λ r. length r.1.now ≤ length behind.now)) }
 {
-    let Particle {
-        part,
-        mut parts,
-        mut rest,
-    } = first;
-    let mut members = vec![in alloc; part]?;
-    parts += 1;
+    let mut members = vec![in alloc; first]?;
+    let mut rest = behind;
     'members: loop {
         let place = after_space(rest);
         if let Some(after) = after_bytes(b")", place) {
-            let part = group_of(separator, members);
-            return Ok(Particle {
-                part,
-                parts,
-                rest: after,
-            });
+            return Ok(Some((group_of(separator, members), after)));
         }
         let Some(after) = after_bytes(&[separator], place) else {
-            return Err(DtdError::Syntax(0));
+            return Ok(None);
         };
-        let next = particle_at(alloc, names, after_space(after), depth)?;
-        members.push(next.part)?;
-        parts += next.parts;
-        rest = next.rest;
+        let Some((next, behind_next)) = particle_at(alloc, after_space(after), depth)? else {
+            return Ok(None);
+        };
+        members.push(next)?;
+        rest = behind_next;
     }
 }

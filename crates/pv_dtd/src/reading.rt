@@ -1,54 +1,155 @@
-//! Reads a DTD.
+//! Reads a DTD, in one pass from left to right.
 
-ghost use Rattle.std.specs.Prelude.{◌≡◌, ◌≤◌, length, IfOk, IfErr};
-ghost use Rattle.pv_dtd.specs.Plain.{PlainDtd};
-ghost use Rattle.pv_dtd.specs.Grammar.{IsDtdText};
-ghost use Rattle.pv_dtd.specs.Facts.{MAX_DTD_BYTES};
-ghost use Rattle.pv_dtd.specs.PlainForms.{plain_dtd, Refuses};
-ghost use Rattle.pv_dtd.specs.Reading.{Gives};
-ghost use Rattle.pv_dtd.specs.Text.{text_at};
+ghost use Rattle.std.specs.Prelude.{◌≡◌, ◌≤◌, ◌+◌, ◌++◌, ◌&&◌, ◌^◌, [], map, length, nat_eq, OnOk, IfOk, IfErr};
+ghost use Rattle.pv_dtd.specs.Facts.{MAX_DTD_BYTES, MAX_PARTS};
+ghost use Rattle.pv_dtd.specs.Items.{declared_by, model_in, parts_by};
+ghost use Rattle.pv_dtd.specs.Meaning.{Outcome, is_dtd, TextMeans, IsBehindMark, is_place};
+ghost use Rattle.pv_dtd.specs.NamedForms.{named_model, named_item};
+ghost use Rattle.pv_dtd.specs.Naming.{grown};
+ghost use Rattle.pv_dtd.specs.PlainForms.{plain_dtd, Refuses, Answers, refusal};
+ghost use Rattle.pv_dtd.specs.RuleKinds.{kind_of};
+ghost use Rattle.pv_dtd.specs.SoFar.{Tells, Declares};
+ghost use Rattle.pv_dtd.specs.Numbering.{numbered};
 
-use crate::declarations::{declared_at, models_at};
+use crate::declarations::item_at;
 use crate::dtd::Dtd;
 use crate::errors::DtdError;
+use crate::faults::{has_parameter, is_too_deep};
+use crate::items::{SpelledItem, SpelledModel};
+use crate::names::NameTable;
+use crate::numbering::models_of;
+use crate::parts::parts_of;
+use crate::rules::{Rule, broken_rule};
+use pv_chars::NoMemory;
+use pv_chars::scan::{after_bytes, after_space, is_space};
 use std::alloc::Global;
 
 /// The most bytes of a DTD.
 pub const MAX_DTD_BYTES: usize = 4_194_304;
 
-/// The most names that a DTD declares.
-const MAX_TYPES: usize = 4_096;
-
-/// The most parts of its content models.
-const MAX_PARTS: usize = 65_536;
-
-// The names are read first, so that the declared ones come first; the models are read with their numbers.
-fn text_at(alloc: Global, bytes: &[u8]) -> Result<Dtd, DtdError>
-    requires { length bytes.now ≤ MAX_DTD_BYTES }
-    ensures { Gives plain_dtd result (text_at bytes.now) }
+// Whether nothing stands before the place of this rest, no item and no white space.
+fn is_front(count: u64, rest: &[u8]) -> bool
+    ensures { result ≡ (nat_eq count 0 && is_place rest.now) }
 {
-    let mut names = declared_at(alloc, bytes)?;
-    if names.len() > MAX_TYPES {
-        return Err(DtdError::Syntax(0));
+    match rest {
+        [b, ..] => count == 0 && !is_space(*b),
+        [] => false,
     }
-    let (models, parts) = models_at(alloc, &mut names, bytes)?;
-    if parts > MAX_PARTS {
-        return Err(DtdError::Syntax(0));
-    }
-    Ok(Dtd::of(names, models, parts as u32))
 }
 
-/// The DTD that the bytes are. Any bytes that are no plain DTD within the limits are refused as `Syntax(0)`, whatever is wrong with
-/// them and wherever that stands.
+// The refusal of an item that breaks a rule, behind so many items.
+fn refusal(rule: Rule, count: u64) -> DtdError
+    ensures { result ≡ refusal (kind_of rule) count }
+{
+    match rule {
+        Rule::Twice => DtdError::Twice(count),
+        Rule::MixedTwice => DtdError::MixedTwice(count),
+        Rule::Limit => DtdError::Limit(count),
+    }
+}
+
+// What was read so far: the models in order, and the number of their parts.
+#[derive(Drop)]
+struct Declared<'a> {
+    models: Vec<SpelledModel<'a>>,
+    parts: u64,
+}
+
+// Puts what an item declares behind the names, models and parts.
+fn add<'a>(
+    alloc: Global,
+    names: &mut NameTable,
+    declared: &mut Declared<'a>,
+    item: SpelledItem<'a>,
+) -> Result<(), NoMemory>
+    requires { declared.old.parts + parts_by (named_item item) ≤ MAX_PARTS }
+    ensures names { OnOk result (names.new ≡ grown names.old (declared_by (named_item item.entry))) }
+    ensures models { OnOk result (map named_model declared.new.models.items ≡ map named_model declared.old.models.items ++ model_in (named_item item.entry)) }
+    ensures parts { OnOk result (declared.new.parts ≡ declared.old.parts + parts_by (named_item item.entry)) }
+{
+    match item {
+        SpelledItem::Element(name, model) => {
+            names.number(alloc, name)?;
+            declared.parts += parts_of(&model);
+            declared.models.push(model)?;
+            Ok(())
+        }
+        SpelledItem::TextDeclaration => Ok(()),
+        SpelledItem::Skipped => Ok(()),
+        SpelledItem::Comment => Ok(()),
+        SpelledItem::Instruction => Ok(()),
+    }
+}
+
+// The models that the items of a text declare; the names get those that they declare.
+fn declarations<'a>(
+    alloc: Global,
+    names: &mut NameTable,
+    bytes: &'a [u8],
+) -> Result<Declared<'a>, DtdError>
+    requires empty { names.old ≡ [] }
+    requires short { length bytes.now ≤ MAX_DTD_BYTES }
+    ensures { Tells (λ d items. Declares names.new (map named_model d.models.items) d.parts items) bytes.now result }
+{
+    let mut declared = Declared {
+        models: Vec::new(alloc),
+        parts: 0,
+    };
+    let mut count: u64 = 0;
+    let mut rest = bytes;
+    'items: loop {
+        let place = after_space(rest);
+        if place.is_empty() {
+            return Ok(declared);
+        }
+        if has_parameter(place) {
+            return Err(DtdError::Parameter(count));
+        }
+        if is_too_deep(place) {
+            return Err(DtdError::Limit(count));
+        }
+        let Some((item, more)) = item_at(alloc, is_front(count, rest), place)? else {
+            return Err(DtdError::Syntax(count));
+        };
+        if let Some(rule) = broken_rule(alloc, names, declared.parts, &item)? {
+            return Err(refusal(rule, count));
+        }
+        add(alloc, names, &mut declared, item)?;
+        count += 1;
+        rest = more;
+    }
+}
+
+// The DTD that the items of a text are.
+fn dtd_of(alloc: Global, bytes: &[u8]) -> Result<Dtd, DtdError>
+    requires { length bytes.now ≤ MAX_DTD_BYTES }
+    ensures { Tells (λ dtd items. plain_dtd dtd ≡ numbered items) bytes.now result }
+{
+    let mut names = NameTable::new(alloc);
+    let declared = declarations(alloc, &mut names, bytes)?;
+    let models = models_of(alloc, &mut names, declared.models.as_slice())?;
+    Ok(Dtd::of(names, models, declared.parts as u32))
+}
+
+// What stands behind the byte order mark, where there is one.
+fn after_mark(bytes: &[u8]) -> &[u8]
+    ensures behind { IsBehindMark bytes.now result.now }
+    ensures within { length result.now ≤ length bytes.now }
+{
+    match after_bytes(b"\xEF\xBB\xBF", bytes) {
+        Some(rest) => rest,
+        None => bytes,
+    }
+}
+
+/// The DTD that the bytes are, or their first item in fault, by its kind and the number of whole items before it.
 pub fn read_dtd(alloc: Global, bytes: &[u8]) -> Result<Dtd, DtdError>
-    ensures read { IfOk result (λ dtd. IsDtdText bytes.now (plain_dtd dtd)) }
-    ensures refused { IfErr result (λ error. Refuses error ((g : PlainDtd) → IsDtdText bytes.now g → ⊥)) }
+    ensures read { IfOk result (λ dtd. TextMeans bytes.now (is_dtd (plain_dtd dtd))) }
+    ensures refused { IfErr result (λ error. Refuses bytes.now error) }
+    ensures exactly { (o : Outcome) → TextMeans bytes.now o → Answers o result }
 {
     if bytes.len() > MAX_DTD_BYTES {
-        return Err(DtdError::Syntax(0));
+        return Err(DtdError::Limit(0));
     }
-    text_at(alloc, bytes)
+    dtd_of(alloc, after_mark(bytes))
 }
-
-#[cfg(test)]
-mod tests;

@@ -5,9 +5,8 @@ use Rattle.std.specs.List.{AllByRecursion, list_all, list_any}
 use Rattle.std.specs.Str.{bytes_eq}
 use Rattle.std.proofs.lemmas.Slice.Eq.{bytes_eq-Decides}
 use Rattle.std.proofs.lemmas.Bool.{and_parts, not-true, or_parts}
-use Rattle.pv_chars.specs.PlainNames.{is_plain_name}
 use Rattle.pv_model.specs.Plain.{PlainModel, PlainPart, PlainParts, any, children, choice, empty, mixed, name, no_parts, opt, part, plus, seq, star}
-use Rattle.pv_dtd.specs.Facts.{MAX_NESTING, are_distinct, are_formed, are_names, has_operator, is_formed, is_formed_model, members, nesting}
+use Rattle.pv_dtd.specs.Facts.{MAX_NESTING, are_distinct, are_formed, are_names, has_operator, is_short, is_formed, is_formed_model, members, nesting}
 use Rattle.pv_dtd.specs.Plain.{PlainDtd, declared}
 use Rattle.pv_missing.specs.Proper.{AreDistinct, AreFullParts, IsFull, IsFullModel, IsProperDtd}
 
@@ -51,4 +50,4 @@ full_all [] e = tt
 full_all (m ∷ ms) e = let p = and_parts (is_formed_model m) (list_all is_formed_model ms) e in (full_model m p.0, full_all ms p.1)
 
 pub proper_dtd : (g : PlainDtd) → IsTrue (are_names g.names) → declared g ≤ length g.names → IsTrue (list_all is_formed_model g.models) → IsProperDtd g
-proper_dtd g a b c = record { distinct = distinct g.names (and_parts (list_all is_plain_name g.names) (are_distinct g.names) a).1; named = b; full = full_all g.models c }
+proper_dtd g a b c = record { distinct = distinct g.names (and_parts (list_all is_short g.names) (are_distinct g.names) a).1; named = b; full = full_all g.models c }

@@ -1,4 +1,4 @@
-use Rattle.pv_dtd.proofs.Meaning.{one_meaning}
+use Rattle.pv_dtd.proofs.TextMeaning.{one_meaning}
 use Rattle.pv_dtd.proofs.laws.one_meaning_law.Goals as goal
 
 pub returns : goal.returns

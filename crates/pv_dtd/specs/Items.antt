@@ -1,0 +1,139 @@
+-- The items of a DTD text, with names as they are spelled.
+use Rattle.std.specs.Prelude.{ℕ, suc, ◌+◌, List, [], ◌∷◌, ◌++◌, length}
+use Rattle.std.specs.List.{flat_map}
+
+-- a content particle
+mutual
+  pub data NamedPart : Type 0 where
+    name : List ℕ → NamedPart
+    seq : NamedParts → NamedPart
+    choice : NamedParts → NamedPart
+    opt : NamedPart → NamedPart
+    star : NamedPart → NamedPart
+    plus : NamedPart → NamedPart
+
+  pub data NamedParts : Type 0 where
+    no_parts : NamedParts
+    part : NamedPart → NamedParts → NamedParts
+
+pub data NamedModel : Type 0 where
+  empty : NamedModel
+  any : NamedModel
+  mixed : List (List ℕ) → NamedModel
+  children : NamedPart → NamedModel
+
+pub data Item : Type 0 where
+  text_declaration : Item
+  element : (name : List ℕ) → (model : NamedModel) → Item
+  skipped : Item
+  comment : Item
+  instruction : Item
+
+abbrev pub named_parts_of : List NamedPart → NamedParts
+named_parts_of [] = no_parts
+named_parts_of (p ∷ ps) = part p (named_parts_of ps)
+
+-- the names that stand in a content particle, from left to right
+abbrev mutual
+  pub spelled_in : NamedPart → List (List ℕ)
+  spelled_in (name n) = n ∷ []
+  spelled_in (seq ps) = spelled_in_all ps
+  spelled_in (choice ps) = spelled_in_all ps
+  spelled_in (opt p) = spelled_in p
+  spelled_in (star p) = spelled_in p
+  spelled_in (plus p) = spelled_in p
+
+  pub spelled_in_all : NamedParts → List (List ℕ)
+  spelled_in_all no_parts = []
+  spelled_in_all (part p ps) = spelled_in p ++ spelled_in_all ps
+
+abbrev pub spelled_in_model : NamedModel → List (List ℕ)
+spelled_in_model empty = []
+spelled_in_model any = []
+spelled_in_model (mixed names) = names
+spelled_in_model (children p) = spelled_in p
+
+-- the names that a mixed model lists
+abbrev pub listed_in_model : NamedModel → List (List ℕ)
+listed_in_model empty = []
+listed_in_model any = []
+listed_in_model (mixed names) = names
+listed_in_model (children p) = []
+
+-- the name that an item declares
+abbrev pub declared_by : Item → List (List ℕ)
+declared_by text_declaration = []
+declared_by (element n model) = n ∷ []
+declared_by skipped = []
+declared_by comment = []
+declared_by instruction = []
+
+-- the model that it declares
+abbrev pub model_in : Item → List NamedModel
+model_in text_declaration = []
+model_in (element n model) = model ∷ []
+model_in skipped = []
+model_in comment = []
+model_in instruction = []
+
+-- the names that an item mentions
+abbrev pub mentioned_by : Item → List (List ℕ)
+mentioned_by text_declaration = []
+mentioned_by (element n model) = spelled_in_model model
+mentioned_by skipped = []
+mentioned_by comment = []
+mentioned_by instruction = []
+
+-- the names that it lists in a mixed model
+abbrev pub listed_by : Item → List (List ℕ)
+listed_by text_declaration = []
+listed_by (element n model) = listed_in_model model
+listed_by skipped = []
+listed_by comment = []
+listed_by instruction = []
+
+-- the names that items declare, in order
+abbrev pub declared_in : List Item → List (List ℕ)
+declared_in items = flat_map declared_by items
+
+-- the models that items declare, in order
+abbrev pub models_in : List Item → List NamedModel
+models_in items = flat_map model_in items
+
+-- the names that models mention, in order
+abbrev pub mentioned_in : List NamedModel → List (List ℕ)
+mentioned_in models = flat_map spelled_in_model models
+
+-- the nodes of a content particle
+abbrev mutual
+  pub nodes_in : NamedPart → ℕ
+  nodes_in (name n) = 1
+  nodes_in (seq ps) = suc (nodes_in_all ps)
+  nodes_in (choice ps) = suc (nodes_in_all ps)
+  nodes_in (opt p) = suc (nodes_in p)
+  nodes_in (star p) = suc (nodes_in p)
+  nodes_in (plus p) = suc (nodes_in p)
+
+  pub nodes_in_all : NamedParts → ℕ
+  nodes_in_all no_parts = 0
+  nodes_in_all (part p ps) = nodes_in p + nodes_in_all ps
+
+-- the parts of a model: the nodes of a content particle, or the names listed in a mixed model
+abbrev pub parts_of_model : NamedModel → ℕ
+parts_of_model empty = 0
+parts_of_model any = 0
+parts_of_model (mixed names) = length names
+parts_of_model (children p) = nodes_in p
+
+-- the parts of all models
+abbrev pub parts_of_models : List NamedModel → ℕ
+parts_of_models [] = 0
+parts_of_models (m ∷ ms) = parts_of_model m + parts_of_models ms
+
+-- the parts of the model that an item declares
+abbrev pub parts_by : Item → ℕ
+parts_by text_declaration = 0
+parts_by (element n model) = parts_of_model model
+parts_by skipped = 0
+parts_by comment = 0
+parts_by instruction = 0

@@ -1,0 +1,53 @@
+-- What a text means: a DTD, or its first item in fault.
+use Rattle.std.specs.Prelude.{◌≡◌, ◌≤◌, ◌<◌, ◌⊎◌, ℕ, not, Bool, false, List, [], ◌∷◌, ◌++◌, length, IsTrue}
+use Rattle.pv_chars.specs.Spaces.{is_space, IsOptionalSpace}
+use Rattle.pv_dtd.specs.Plain.{PlainDtd}
+use Rattle.pv_dtd.specs.Facts.{MAX_DTD_BYTES}
+use Rattle.pv_dtd.specs.Items.{Item}
+use Rattle.pv_dtd.specs.Numbering.{numbered}
+use Rattle.pv_dtd.specs.Spelling.{Begins}
+use Rattle.pv_dtd.specs.Kinds.{Kind, limit, HasFault, IsFirstFault}
+
+-- something other than white space stands in front
+abbrev pub is_place : List ℕ → Bool
+is_place [] = false
+is_place (b ∷ bs) = not (is_space b)
+
+-- the rest has this behind its white space
+pub record HasPlace (rest place : List ℕ) : Type 0 where
+  pub space : List ℕ
+  pub is_space : IsOptionalSpace space
+  pub whole : rest ≡ space ++ place
+  pub is_place : IsTrue (is_place place)
+
+-- the place of this rest is the front of the text: no item and no white space stands before it
+abbrev pub is_front : List Item → List ℕ → Bool
+is_front [] rest = is_place rest
+is_front (i ∷ before) rest = false
+
+-- a DTD, or the kind of a text's first fault and the number of items before it
+pub data Outcome : Type 0 where
+  is_dtd : PlainDtd → Outcome
+  faulty : Kind → ℕ → Outcome
+
+-- behind these items, the rest means this
+pub data Means : List Item → List ℕ → Outcome → Type 0 where
+  ends : {before : List Item} {rest : List ℕ} → IsOptionalSpace rest → Means before rest (is_dtd (numbered before))
+  item : {before : List Item} {rest place more : List ℕ} {i : Item} {o : Outcome} →
+      HasPlace rest place → Begins (is_front before rest) place i more → ((kind : Kind) → HasFault before (is_front before rest) place kind → ⊥) →
+      Means (before ++ i ∷ []) more o → Means before rest o
+  fault : {before : List Item} {rest place : List ℕ} {kind : Kind} →
+      HasPlace rest place → IsFirstFault before (is_front before rest) place kind → Means before rest (faulty kind (length before))
+
+-- the byte order mark
+abbrev pub BYTE_ORDER_MARK : List ℕ
+BYTE_ORDER_MARK = 239 ∷ 187 ∷ 191 ∷ []
+
+-- what stands behind the byte order mark of a text, where it has one
+abbrev pub IsBehindMark : List ℕ → List ℕ → Type 0
+IsBehindMark bytes rest = (bytes ≡ BYTE_ORDER_MARK ++ rest) ⊎ (((other : List ℕ) → bytes ≡ BYTE_ORDER_MARK ++ other → ⊥) × (bytes ≡ rest))
+
+-- A text means this. One that is too long passes a limit, whatever it holds.
+pub data TextMeans (bytes : List ℕ) : Outcome → Type 0 where
+  too_long : MAX_DTD_BYTES < length bytes → TextMeans bytes (faulty limit 0)
+  items : {rest : List ℕ} {o : Outcome} → length bytes ≤ MAX_DTD_BYTES → IsBehindMark bytes rest → Means [] rest o → TextMeans bytes o

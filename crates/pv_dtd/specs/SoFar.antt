@@ -1,0 +1,71 @@
+-- What the items of a text leave, and what the reader of items answers.
+use Rattle.std.specs.Prelude.{◌≡◌, ◌⊎◌, ◌≤◌, ℕ, Bool, true, false, List, [], ◌∷◌, length, IsTrue, Result, Ok, Err, not}
+use Rattle.std.specs.List.{list_any}
+use Rattle.pv_dtd.specs.Plain.{PlainDtd}
+use Rattle.pv_dtd.specs.Facts.{are_distinct, MAX_TYPES, MAX_PARTS, MAX_NESTING}
+use Rattle.pv_dtd.specs.Items.{NamedModel, empty, any, mixed, children, Item, text_declaration, element, skipped, comment, instruction, declared_by, declared_in, models_in, mentioned_by, listed_by, parts_of_models}
+use Rattle.pv_dtd.specs.Spelling.{Spells, depth_of}
+use Rattle.pv_dtd.specs.Numbering.{numbered}
+use Rattle.pv_dtd.specs.Kinds.{parameter, nesting, syntax, twice, mixed_twice, limit, is_too_long}
+use Rattle.pv_dtd.specs.Meaning.{is_dtd, faulty, Means}
+use Rattle.pv_dtd.specs.declared.errors.DtdError.{DtdError}
+use Rattle.pv_dtd.specs.declared.errors.DtdError.TheVariants.{Syntax, Twice, MixedTwice, Parameter, Limit, NoMemory}
+
+-- no group in the model stands too deep
+abbrev pub IsShallow : NamedModel → Type 0
+IsShallow empty = Unit {0}
+IsShallow any = Unit {0}
+IsShallow (mixed names) = Unit {0}
+IsShallow (children p) = depth_of p ≤ MAX_NESTING
+
+abbrev pub IsShallowItem : Item → Type 0
+IsShallowItem text_declaration = Unit {0}
+IsShallowItem (element n model) = IsShallow model
+IsShallowItem skipped = Unit {0}
+IsShallowItem comment = Unit {0}
+IsShallowItem instruction = Unit {0}
+
+-- an item that is spelled somewhere, and keeps its own rules
+pub record IsSound (i : Item) : Type 0 where
+  pub text : List ℕ
+  pub spelled : Spells i text
+  pub shallow : IsShallowItem i
+  pub differ : are_distinct (listed_by i) ≡ true
+  pub short : list_any is_too_long (declared_by i) ≡ false
+  pub mentions_short : list_any is_too_long (mentioned_by i) ≡ false
+
+abbrev pub AreSound : List Item → Type 0
+AreSound [] = Unit {0}
+AreSound (i ∷ items) = IsSound i × AreSound items
+
+-- items that keep the rules and limits together
+pub record AreRuled (items : List Item) : Type 0 where
+  pub sound : AreSound items
+  pub once : are_distinct (declared_in items) ≡ true
+  pub few_types : length (declared_in items) ≤ MAX_TYPES
+  pub few_parts : parts_of_models (models_in items) ≤ MAX_PARTS
+
+-- These are the names, the models and the number of parts that items declare.
+pub record Declares (names : List (List ℕ)) (models : List NamedModel) (parts : ℕ) (items : List Item) : Type 0 where
+  pub ruled : AreRuled items
+  pub names_are : names ≡ declared_in items
+  pub models_are : models ≡ models_in items
+  pub parts_are : parts ≡ parts_of_models (models_in items)
+
+-- a DTD of ruled items
+abbrev pub IsOfItems : PlainDtd → Type 0
+IsOfItems g = (items : List Item) × AreRuled items × (g ≡ numbered items)
+
+-- what a refusal other than want of memory says of the rest
+abbrev pub TellsFault : List ℕ → DtdError → Type 0
+TellsFault rest (Syntax k) = Means [] rest (faulty syntax k)
+TellsFault rest (Twice k) = Means [] rest (faulty twice k)
+TellsFault rest (MixedTwice k) = Means [] rest (faulty mixed_twice k)
+TellsFault rest (Parameter k) = Means [] rest (faulty parameter k)
+TellsFault rest (Limit k) = Means [] rest (faulty nesting k) ⊎ Means [] rest (faulty limit k)
+TellsFault rest NoMemory = Unit {0}
+
+-- What a reader answers is what the rest means, unless memory ran out: where it is a DTD, what was read holds its items.
+abbrev pub Tells : {X : Type 0} → (X → List Item → Type 0) → List ℕ → Result X DtdError → Type 0
+Tells Holds rest (Ok x) = (items : List Item) × Means [] rest (is_dtd (numbered items)) × Holds x items
+Tells Holds rest (Err e) = TellsFault rest e
