@@ -4,7 +4,7 @@ use Rattle.std.specs.List.{list_all}
 use Rattle.pv_chars.specs.Spaces.{is_space}
 use Rattle.pv_tree.specs.Plain.{Ending, short, tagged, Tree, element, text_node, cdata_node, misc_node, trees_of, is_element, depth_of, nodes_in, PlainDoc}
 use Rattle.pv_tree.specs.Places.{Spot, at_document, at_node, spot_at}
-use Rattle.pv_tree.specs.Legal.{HasNames, is_formed, is_legal, has_no_close_mark, MAX_DEPTH, MAX_NODES}
+use Rattle.pv_tree.specs.Legal.{has_names, is_formed, is_legal, has_no_close_mark, MAX_DEPTH, MAX_NODES}
 use Rattle.pv_tree.specs.PlainForms.{plain_end}
 use Rattle.pv_tree.specs.declared.nodes.End.{End}
 use Rattle.pv_tree.specs.declared.nodes.End.TheVariants as end
@@ -84,7 +84,7 @@ pub record IsKept {M : Type 0} (doc : PlainDoc M) : Type 0 where
   pub formed : IsTrue (is_formed doc.root)
   pub shallow : depth_of doc.root ≤ MAX_DEPTH
   pub small : nodes_in doc.root ≤ MAX_NODES
-  pub named : ∥ HasNames doc.root ∥₁
+  pub named : IsTrue (has_names doc.root)
   pub legal : IsTrue (is_legal doc.root)
   pub no_close_mark : IsTrue (has_no_close_mark doc.root)
   pub white_before : IsTrue (list_all is_space doc.before)

@@ -3,12 +3,12 @@ use Rattle.std.proofs.Common.{◌≡◌, ◌≤◌, ◌+◌, ◌*◌, ℕ, List,
 use Rattle.std.specs.List.{list_all}
 use Rattle.std.proofs.lemmas.Bool.{and_parts, not-true, or_parts}
 use Rattle.pv_chars.specs.Names.{IsName}
-use Rattle.pv_chars.proofs.NameLemmas.{name_chars_are_scalars}
+use Rattle.pv_chars.proofs.NameLemmas.{is_name-IsName, name_chars_are_scalars}
 use Rattle.pv_chars.proofs.Ranges.{name_start_is_name_char}
 use Rattle.pv_chars.proofs.Utf8Lemmas.{begins_shorter}
 use Rattle.pv_chars.specs.Texts.{units_of, is_text_char, IsPlainText, holds_close_mark, begins_close_mark}
 use Rattle.pv_tree.specs.Plain.{short, tagged, Tree, element, text_node, cdata_node, misc_node, Forest, no_trees, tree, nodes_in, nodes_in_all, is_element}
-use Rattle.pv_tree.specs.Legal.{HasNames, HaveNames, is_formed, are_formed, is_plain_unit, are_plain_units, is_legal, are_legal, is_open, front_units, has_no_close_mark, have_no_close_mark, starts_no_close_mark}
+use Rattle.pv_tree.specs.Legal.{has_names, have_names, is_formed, are_formed, is_plain_unit, are_plain_units, is_legal, are_legal, is_open, front_units, has_no_close_mark, have_no_close_mark, starts_no_close_mark}
 use Rattle.pv_read.specs.Grammar.{SpellsNode, SpellsContent, IsElement, IsWholeRun, begins_with_text}
 use Rattle.pv_read.proofs.TextLemmas.{text_chars, no_close_mark}
 
@@ -54,16 +54,16 @@ mutual
   all_legal (tree t kids) bytes (first, more, spells, whole_run, below, whole) = rw (legal t first spells) (all_legal kids more below)
 
 mutual
-  pub named : {M : Type 0} (t : Tree M) (bytes : List ℕ) → SpellsNode t bytes → HasNames t
-  named (element x attrs short kids mark) bytes (name, space, none, whole) = (name, rw none tt)
-  named (element x attrs (tagged gap) kids mark) bytes (content, name, space, white, spells, whole) = (name, all_named kids content spells)
-  named (text_node units) bytes spells = tt
-  named (cdata_node held) bytes spells = tt
-  named (misc_node held) bytes spells = tt
+  pub named : {M : Type 0} (t : Tree M) (bytes : List ℕ) → SpellsNode t bytes → IsTrue (has_names t)
+  named (element x attrs short kids mark) bytes (name, space, none, whole) = rw (is_name-IsName x name, none) refl
+  named (element x attrs (tagged gap) kids mark) bytes (content, name, space, white, spells, whole) = rw (is_name-IsName x name) (all_named kids content spells)
+  named (text_node units) bytes spells = refl
+  named (cdata_node held) bytes spells = refl
+  named (misc_node held) bytes spells = refl
 
-  all_named : {M : Type 0} (kids : Forest M) (bytes : List ℕ) → SpellsContent kids bytes → HaveNames kids
-  all_named no_trees bytes spells = tt
-  all_named (tree t kids) bytes (first, more, spells, whole_run, below, whole) = (named t first spells, all_named kids more below)
+  all_named : {M : Type 0} (kids : Forest M) (bytes : List ℕ) → SpellsContent kids bytes → IsTrue (have_names kids)
+  all_named no_trees bytes spells = refl
+  all_named (tree t kids) bytes (first, more, spells, whole_run, below, whole) = rw (named t first spells) (all_named kids more below)
 
 -- no text stands in front of a forest that begins with none
 pub no_front : {M : Type 0} (kids : Forest M) → IsTrue (not (begins_with_text kids)) → front_units kids ≡ []

@@ -2,7 +2,7 @@
 use Rattle.std.specs.Prelude.{ℕ, Bool, true, false, not, ◌&&◌, List, [], ◌∷◌, ◌++◌}
 use Rattle.std.specs.List.{list_all}
 use Rattle.pv_chars.specs.Spaces.{is_space}
-use Rattle.pv_chars.specs.Names.{IsName}
+use Rattle.pv_chars.specs.Names.{is_name}
 use Rattle.pv_chars.specs.Texts.{is_text_char, begins_close_mark}
 use Rattle.pv_tree.specs.Plain.{Ending, short, tagged, Tree, element, text_node, cdata_node, misc_node, Forest, no_trees, tree, PlainDoc}
 
@@ -39,15 +39,15 @@ is_legal_ending (tagged gap) = list_all is_space gap
 
 -- each element's name is a Name, at all depths
 abbrev mutual
-  pub HasNames : {M : Type 0} → Tree M → Type 0
-  HasNames (element x attrs ending kids mark) = IsName x × HaveNames kids
-  HasNames (text_node units) = Unit {0}
-  HasNames (cdata_node bytes) = Unit {0}
-  HasNames (misc_node bytes) = Unit {0}
+  pub has_names : {M : Type 0} → Tree M → Bool
+  has_names (element x attrs ending kids mark) = is_name x && have_names kids
+  has_names (text_node units) = true
+  has_names (cdata_node bytes) = true
+  has_names (misc_node bytes) = true
 
-  pub HaveNames : {M : Type 0} → Forest M → Type 0
-  HaveNames no_trees = Unit {0}
-  HaveNames (tree t rest) = HasNames t × HaveNames rest
+  pub have_names : {M : Type 0} → Forest M → Bool
+  have_names no_trees = true
+  have_names (tree t rest) = has_names t && have_names rest
 
 -- The other bytes of each node are those of a plain document: no attributes, plain texts of at least one unit, and no CDATA sections,
 -- comments or processing instructions.

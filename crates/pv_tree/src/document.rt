@@ -4,7 +4,7 @@ ghost use Rattle.std.specs.Prelude.{◌≡◌, ◌≤◌, IsTrue, IfOk};
 ghost use Rattle.std.specs.List.{list_all};
 ghost use Rattle.pv_chars.specs.Spaces.{is_space};
 ghost use Rattle.pv_tree.specs.Plain.{depth_of, nodes_in, is_element};
-ghost use Rattle.pv_tree.specs.Legal.{HasNames, is_formed, is_legal, has_no_close_mark, MAX_DEPTH, MAX_NODES};
+ghost use Rattle.pv_tree.specs.Legal.{has_names, is_formed, is_legal, has_no_close_mark, MAX_DEPTH, MAX_NODES};
 ghost use Rattle.pv_tree.specs.PlainForms.{plain, plain_all};
 
 use crate::nodes::{Mark, Node};
@@ -25,7 +25,7 @@ pub struct Doc {
     pub ghost formed: { IsTrue (is_formed (plain root)) },
     pub ghost shallow: { depth_of (plain root) ≤ MAX_DEPTH },
     pub ghost small: { nodes_in (plain root) ≤ MAX_NODES },
-    pub ghost named: { ∥ HasNames (plain root) ∥₁ },
+    pub ghost named: { IsTrue (has_names (plain root)) },
     pub ghost legal: { IsTrue (is_legal (plain root)) },
     pub ghost no_close_mark: { IsTrue (has_no_close_mark (plain root)) },
     pub ghost white_before: { IsTrue (list_all is_space before) },

@@ -2,10 +2,12 @@
 use Rattle.std.proofs.Common.{◌≡◌, ℕ, List, ◌++◌, Bool, true, ◌&&◌, IsTrue, refl, sym, ap, ◌∙◌, append_assoc, append-nil}
 use Rattle.std.specs.List.{list_all}
 use Rattle.std.proofs.lemmas.Bool.{and_parts}
+use Rattle.pv_chars.specs.Names.{is_name}
 use Rattle.pv_chars.specs.Spaces.{is_space, IsOptionalSpace}
 use Rattle.pv_chars.specs.Texts.{joined}
+use Rattle.pv_chars.proofs.NameLemmas.{IsName-is_name}
 use Rattle.pv_tree.specs.Plain.{short, tagged, Tree, element, text_node, cdata_node, misc_node, Forest, no_trees, tree, is_element, PlainDoc}
-use Rattle.pv_tree.specs.Legal.{HasNames, HaveNames, fits_kids, is_formed, are_formed, are_plain_units, is_legal, are_legal, front_units, is_open, has_no_close_mark, have_no_close_mark, starts_no_close_mark}
+use Rattle.pv_tree.specs.Legal.{has_names, have_names, fits_kids, is_formed, are_formed, are_plain_units, is_legal, are_legal, front_units, is_open, has_no_close_mark, have_no_close_mark, starts_no_close_mark}
 use Rattle.pv_dtd.specs.Hedge.{done}
 use Rattle.pv_read.specs.Grammar.{SpellsNode, SpellsContent, IsElement}
 use Rattle.pv_read.proofs.TextLemmas.{text_chars, no_close_mark}
@@ -55,27 +57,30 @@ legal_parts x attrs gap_legal kids legal =
     record { space = ends.0; ending = ends.1; inside = outer.1 }
 
 mutual
-  pub element_spelled : {M : Type 0} (t : Tree M) → HasNames t → IsTrue (is_formed t) → IsTrue (is_legal t) → IsTrue (has_no_close_mark t) → IsElement t → SpellsNode (merged t) (tree_text t)
+  pub element_spelled : {M : Type 0} (t : Tree M) → IsTrue (has_names t) → IsTrue (is_formed t) → IsTrue (is_legal t) → IsTrue (has_no_close_mark t) → IsElement t → SpellsNode (merged t) (tree_text t)
   element_spelled (element x attrs short kids mark) named formed legal closed is =
       let fits = and_parts (fits_kids short kids) (are_formed kids) formed in
       let parts = legal_parts x attrs true kids legal in
-      (named.0, parts.space, rw (no_kids kids fits.0) refl, refl)
+      let names = and_parts (is_name x) (have_names kids) named in
+      (IsName-is_name x names.0, parts.space, rw (no_kids kids fits.0) refl, refl)
   element_spelled (element x attrs (tagged gap) kids mark) named formed legal closed is =
       let parts = legal_parts x attrs (list_all is_space gap) kids legal in
-      (forest_text kids, named.0, parts.space, parts.ending, content_spelled kids named.1 formed parts.inside closed, refl)
+      let names = and_parts (is_name x) (have_names kids) named in
+      (forest_text kids, IsName-is_name x names.0, parts.space, parts.ending, content_spelled kids names.1 formed parts.inside closed, refl)
   element_spelled (text_node units) named formed legal closed is = absurd is
   element_spelled (cdata_node held) named formed legal closed is = absurd is
   element_spelled (misc_node held) named formed legal closed is = absurd is
 
-  content_spelled : {M : Type 0} (kids : Forest M) → HaveNames kids → IsTrue (are_formed kids) → IsTrue (are_legal kids) → IsTrue (have_no_close_mark kids) → SpellsContent (merged_all kids) (forest_text kids)
+  content_spelled : {M : Type 0} (kids : Forest M) → IsTrue (have_names kids) → IsTrue (are_formed kids) → IsTrue (are_legal kids) → IsTrue (have_no_close_mark kids) → SpellsContent (merged_all kids) (forest_text kids)
   content_spelled no_trees named formed legal closed = refl
   content_spelled (tree t kids) named formed legal closed =
       let is_formed_all = and_parts (is_formed t) (are_formed kids) formed in
+      let named_all = and_parts (has_names t) (have_names kids) named in
       let is_legal_all = and_parts (is_legal t) (are_legal kids) legal in
       let closed_all = and_parts (has_no_close_mark t && starts_no_close_mark t kids) (have_no_close_mark kids) closed in
       let closed_first = and_parts (has_no_close_mark t) (starts_no_close_mark t kids) closed_all.0 in
-      node_put t kids (merged_all kids) (forest_text kids) (front_units-merged kids) is_legal_all.0 closed_first.1 (λ is. element_spelled t named.0 is_formed_all.0 is_legal_all.0 closed_first.0 is)
-      (content_spelled kids named.1 is_formed_all.1 is_legal_all.1 closed_all.1)
+      node_put t kids (merged_all kids) (forest_text kids) (front_units-merged kids) is_legal_all.0 closed_first.1 (λ is. element_spelled t named_all.0 is_formed_all.0 is_legal_all.0 closed_first.0 is)
+      (content_spelled kids named_all.1 is_formed_all.1 is_legal_all.1 closed_all.1)
 
 is_element_is : {M : Type 0} (t : Tree M) → IsTrue (is_element t) → IsElement t
 is_element_is (element x attrs ending kids mark) is = tt
@@ -89,7 +94,7 @@ merged_is_element (text_node units) is = is
 merged_is_element (cdata_node held) is = is
 merged_is_element (misc_node held) is = is
 
-pub view_written : {M : Type 0} (doc : PlainDoc M) → IsTrue (is_element doc.root) → HasNames doc.root → IsTrue (is_formed doc.root) → IsTrue (is_legal doc.root) → IsTrue (has_no_close_mark doc.root)
+pub view_written : {M : Type 0} (doc : PlainDoc M) → IsTrue (is_element doc.root) → IsTrue (has_names doc.root) → IsTrue (is_formed doc.root) → IsTrue (is_legal doc.root) → IsTrue (has_no_close_mark doc.root)
     → IsOptionalSpace doc.before → IsOptionalSpace doc.after → SpellsView (doc_text doc) doc
 view_written doc rooted named formed legal closed white_before white_after =
     let is = is_element_is doc.root rooted in

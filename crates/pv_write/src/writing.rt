@@ -15,7 +15,7 @@ use std::alloc::Global;
 pub fn doc_bytes(alloc: Global, doc: &Doc) -> Result<Vec<u8>, NoMemory>
     ensures text { IfOk result (λ bytes. bytes.items ≡ doc_text (plain_doc doc.now)) }
     ensures read { IfOk result (λ bytes. (text : List ℕ) → IsDocumentText text (plain_doc doc.now) → bytes.items ≡ text) }
-    ensures view { IfOk result (λ bytes. ∥ SpellsView bytes.items (plain_doc doc.now) ∥₁) }
+    ensures view { IfOk result (λ bytes. SpellsView bytes.items (plain_doc doc.now)) }
 {
     let mut out = Vec::new(alloc);
     out.extend_from_slice(doc.before.as_slice())?;

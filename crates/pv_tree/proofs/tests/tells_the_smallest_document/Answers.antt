@@ -2,6 +2,7 @@ use lib.Utf8.{encode}
 use Rattle.std.proofs.Common.{rules, arith, ℕ, [], ◌∷◌, refl}
 use Rattle.std.proofs.lemmas.Grind.{common_steps}
 use Rattle.pv_chars.specs.Names.{IsName}
+use Rattle.pv_chars.proofs.NameLemmas.{is_name-IsName}
 use Rattle.pv_tree.proofs.Levels.{plain-Elem}
 use Rattle.pv_tree.proofs.tests.tells_the_smallest_document.Goals as goal
 
@@ -15,7 +16,7 @@ invariant_of-doc g c = record {
   formed = rw (plain-Elem _ _ _ _ _, c.new.ensures.items) refl;
   shallow = rw (plain-Elem _ _ _ _ _, c.new.ensures.items) (omega arith);
   small = rw (plain-Elem _ _ _ _ _, c.new.ensures.items) (omega arith);
-  named = rw (plain-Elem _ _ _ _ _, c.in_ok-bytes_of.ensures, c.new.ensures.items) (∣ (a_is_name, tt) ∣₁);
+  named = rw (plain-Elem _ _ _ _ _, c.in_ok-bytes_of.ensures, c.new.ensures.items, is_name-IsName _ a_is_name) refl;
   legal = rw (plain-Elem _ _ _ _ _, c.in_ok-bytes_of-2.ensures, c.new.ensures.items) refl;
   no_close_mark = rw (plain-Elem _ _ _ _ _, c.new.ensures.items) refl;
   white_before = rw c.in_ok-bytes_of-3.ensures refl;

@@ -1,6 +1,5 @@
 use Rattle.std.proofs.Common.{◌≡◌, ◌∙◌, arith}
 use Rattle.std.proofs.lemmas.Grind.{common_steps}
-use Rattle.std.proofs.Math.Logic.{∥∥₁_map}
 use Rattle.pv_tree.specs.PlainDocs.{plain_doc}
 use Rattle.pv_write.specs.Text.{doc_text}
 use Rattle.pv_write.proofs.Spelled.{doc_text-spelled}
@@ -16,4 +15,4 @@ pub returns-clause-view : goal.returns-clause-view
 returns-clause-view c =
     let written : c.extend_from_slice-2.new.self.items ≡ doc_text (plain_doc c.args.doc.now) = grind (arith, common_steps) in
     let doc = c.args.doc.now in
-    ∥∥₁_map doc.named (λ named. rw written (view_written (plain_doc doc) doc.rooted named doc.formed doc.legal doc.no_close_mark doc.white_before doc.white_after))
+    rw written (view_written (plain_doc doc) doc.rooted doc.named doc.formed doc.legal doc.no_close_mark doc.white_before doc.white_after)
