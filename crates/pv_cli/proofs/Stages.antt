@@ -10,7 +10,7 @@ use Rattle.pv_cli.specs.Opening.{IsFile}
 use Rattle.pv_cli.specs.CommandLine.{PlainCommandLine}
 use Rattle.pv_cli.specs.Program.{CountsShelf, CountsInput, Writes, Runs, Finds, devices, ending_of}
 use Rattle.pv_cli.specs.Response.{PlainResponse}
-use Rattle.pv_cli.specs.Stage.{Stage, followed_by, Behind, refused, stopped, short_of_memory, Responds, responded, short_of_memory as without_memory, StopsBy, TellsBy, StopCounts}
+use Rattle.pv_cli.specs.Stage.{Stage, followed_by, Behind, refused, stopped, short_of_memory, Responds, responded, short_of_memory as without_memory, StopsBy, Returns, TellsBy, StopCounts}
 
 -- the file of a name that isn't asked for
 pub some_file : (told : Option (List (List ℕ × List ℕ))) (name : List ℕ) → (file : Option (List ℕ)) × IsFile told name file
@@ -32,6 +32,11 @@ stopped_second first second x (Refused r) opens stops = inr (x, opens, stops)
 stopped_second first second x ShelfFault opens stops = inr (x, opens, stops)
 stopped_second first second x InputFault opens stops = stops
 stopped_second first second x NoMemory opens stops = tt
+
+-- and what the second returns is what both do
+pub returned_second : {X Y Z : Type 0} (plain : Z → Y) (first : Stage X) (second : X → Stage Y) (x : X) (r : Result Z Stop) → first.Opens x → Returns plain (second x) r → Returns plain (followed_by first second) r
+returned_second plain first second x (Ok z) opens is = (x, opens, is)
+returned_second plain first second x (Err stop) opens is = stopped_second first second x stop opens is
 
 -- a run ends where a stage stops
 pub stop_ends : {X : Type 0} (stage : Stage X) (Goes : X → Course → Type 0) (stop : Stop) → StopsBy stage.Refuses stage.AsksShelf stop →

@@ -239,7 +239,7 @@ fn depths(rt: HostRuntime) -> Result<(), Fail> {
             "a",
             "<a><b/></a>",
             Status::Limit,
-            "limit dtd 0\n",
+            "limit dtd 1\n",
         ),
         (ANY, "a", deep.as_str(), DONE, "valid\n"),
         (
