@@ -1,7 +1,7 @@
 -- What a text means: one thing only, and what a loop over units has found.
 use Rattle.std.proofs.Common.{◌≡◌, ◌≢◌, ℕ, zero, suc, ◌+◌, ◌<◌, ◌≤◌, ◌-◌, ◌⊎◌, inl, inr, List, [], ◌∷◌, ◌++◌, Bool, true, false, ◌&&◌, ◌==◌, not, length, take, drop, add-one, Result, Ok, Err, refl, sym, ap, subst, ◌∙◌, arith, append_assoc, length-append}
 use Rattle.std.proofs.lemmas.List.{append-nil, nil_from_length, take-append-drop, drop-drop, length-take, length-drop}
-use Rattle.std.proofs.lemmas.Bool.{and_parts, ltb-true, eqb-true}
+use Rattle.std.proofs.lemmas.Bool.{and_parts, ltb-true, eqb-true, eqb-false, not-true}
 use Rattle.std.proofs.lemmas.Str.{encode_ascii}
 use Rattle.std.specs.Prelude.{codes, nat_lt}
 use Rattle.std.specs.List.{list_all}
@@ -17,7 +17,7 @@ use Rattle.pv_chars.specs.Texts.{is_data, has_data}
 use Rattle.pv_chars.specs.References.{IsPredefined}
 use Rattle.pv_chars.proofs.Utf8Lemmas.{one_byte, two_bytes, three_bytes, four_bytes}
 use Rattle.pv_chars.specs.Texts.{joined}
-use Rattle.pv_chars.specs.Units.{is_literal, is_simple, IsUnit, AllUnits, BeginsCloseMark, BeginsUnit, HasTextFault, Means, ends, unit, fault, TextMeans, MeansUnits, IsCut, AreUnits, units_in, HasUnitFault, BeginsAnyUnit, BeginsSomeUnit}
+use Rattle.pv_chars.specs.Units.{is_literal, is_simple, is_lone, IsUnit, AllUnits, BeginsCloseMark, BeginsUnit, HasTextFault, Means, ends, unit, fault, TextMeans, MeansUnits, IsCut, AreUnits, units_in, HasUnitFault, BeginsAnyUnit, BeginsSomeUnit}
 use Rattle.pv_chars.specs.declared.errors.TextError.{TextError}
 use Rattle.pv_chars.specs.declared.errors.TextError.TheVariants.{Empty, BadChar, BadReference, Entity, CloseMark, NoMemory}
 use Rattle.pv_chars.proofs.CharacterLemmas.{cut_at}
@@ -318,3 +318,9 @@ part_view bytes start end part items from to are less within s e p i = cut_is it
 -- the same text under another name of its bytes
 pub are_units_at : (bytes items : List ℕ) (count : ℕ) → IsCut items count → bytes ≡ items → AreUnits bytes
 are_units_at bytes items count c e = subst AreUnits (sym e) (are_units_of items count c)
+
+-- ---- a byte that is a unit whatever stands behind it
+pub lone_unit : (bytes rest : List ℕ) (b : ℕ) → bytes ≡ b ∷ rest → is_lone b ≡ true → BeginsSomeUnit bytes rest
+lone_unit bytes rest b e is =
+    let parts = and_parts (is_simple b) (not (b == 93)) is in
+    (b ∷ [], record { is_unit = simple_unit b parts.0; whole = e; no_close_mark = λ mark. let first = mark.1 in let same : b ≡ 93 = cc in let apart = eqb-false b 93 (not-true (b == 93) parts.1) in apart same })

@@ -1,5 +1,5 @@
 -- Values in quotes, read from the front.
-use Rattle.std.proofs.Common.{◌≡◌, ℕ, ◌-◌, ◌≤◌, List, [], ◌∷◌, ◌++◌, true, false, length, get_or, take, drop, refl, sym, ap, ◌∙◌, arith, append_assoc, length-append}
+use Rattle.std.proofs.Common.{◌≡◌, ℕ, List, [], ◌∷◌, ◌++◌, true, false, length, refl, sym, ap, ◌∙◌, arith, append_assoc, length-append}
 use Rattle.pv_chars.specs.Fronts.{Begins, Holds, EndsAt}
 use Rattle.pv_chars.specs.Declarations.{is_quote, IsQuoted, BeginsNoQuoted}
 use Rattle.pv_chars.proofs.Delimited.{same_end}

@@ -140,3 +140,7 @@ pub record MeansUnits (bytes : List ℕ) (count : ℕ) : Type 0 where
 -- a character of ASCII that stands for itself and isn't `>`: a run of them is a text of as many units
 abbrev pub is_simple : ℕ → Bool
 is_simple b = is_literal b && nat_lt b 128 && not (b == 62)
+
+-- the same, and it doesn't begin `]]>`: it is a unit whatever stands behind it
+abbrev pub is_lone : ℕ → Bool
+is_lone b = is_simple b && not (b == 93)

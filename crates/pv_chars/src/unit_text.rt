@@ -7,7 +7,7 @@ ghost use Rattle.pv_chars.specs.Texts.{joined, has_data};
 ghost use Rattle.std.specs.List.{list_all};
 ghost use Rattle.pv_chars.specs.declared.errors.TextError.{TextError};
 ghost use Rattle.pv_chars.specs.References.{IsPredefined};
-ghost use Rattle.pv_chars.specs.Units.{HasTextFault, HasUnitFault, BeginsAnyUnit, BeginsSomeUnit, BeginsAmpersand, Means, MeansUnits, TextMeans, is_simple, units_in, AllUnits, AreUnits};
+ghost use Rattle.pv_chars.specs.Units.{HasTextFault, HasUnitFault, BeginsAnyUnit, BeginsSomeUnit, BeginsAmpersand, Means, MeansUnits, TextMeans, is_simple, is_lone, units_in, AllUnits, AreUnits};
 
 use crate::characters::is_char;
 use crate::references::{after_char_ref, entity_ref_at};
@@ -68,8 +68,8 @@ fn after_any_unit(bytes: &[u8], at: usize) -> Result<&[u8], TextError>
     Ok(rest)
 }
 
-// What stands after the unit at the front.
-fn after_unit(bytes: &[u8], at: usize) -> Result<&[u8], TextError>
+// What stands after the unit at the front, by a look at all of it.
+fn after_other_unit(bytes: &[u8], at: usize) -> Result<&[u8], TextError>
     requires { bytes.now ≢ [] }
     ensures { MatchResult result (λ r. BeginsSomeUnit bytes.now r.now) (λ e. HasTextFault e at bytes.now) }
 {
@@ -77,6 +77,26 @@ fn after_unit(bytes: &[u8], at: usize) -> Result<&[u8], TextError>
         return Err(TextError::CloseMark(at));
     }
     after_any_unit(bytes, at)
+}
+
+// A byte that is a unit whatever stands behind it.
+fn is_lone(b: u8) -> bool
+    ensures { result ≡ is_lone b }
+{
+    is_simple(b) && b != b']'
+}
+
+// What stands after the unit at the front.
+fn after_unit(bytes: &[u8], at: usize) -> Result<&[u8], TextError>
+    requires { bytes.now ≢ [] }
+    ensures { MatchResult result
+        (λ r. BeginsSomeUnit bytes.now r.now)
+        (λ e. HasTextFault e at bytes.now) }
+{
+    match bytes {
+        [b, rest @ ..] if is_lone(*b) => Ok(rest),
+        _ => after_other_unit(bytes, at),
+    }
 }
 
 // How many units the bytes are.
