@@ -2,7 +2,7 @@
 use Rattle.std.proofs.Common.{◌≡◌, ℕ, ◌<◌, ◌≤◌, List, [], ◌∷◌, length, get_or, String, Global, Some, None, true, false, codes, refl, arith}
 use Rattle.std.specs.Str.{bytes_eq}
 use Rattle.pv_io.specs.Files.{byte_lists}
-use Rattle.pv_chars.specs.PlainNames.{is_plain_name}
+use Rattle.pv_chars.specs.Names.{is_name}
 use Rattle.pv_cli.specs.CommandLine.{command_line_of, valid, session}
 
 pub four : {A : Type 0} (xs : List A) (a b c d : A) → 4 ≤ length xs → length xs < 5 → a ≡ get_or xs 0 a → b ≡ get_or xs 1 b → c ≡ get_or xs 2 c → d ≡ get_or xs 3 d → xs ≡ a ∷ b ∷ c ∷ d ∷ []
@@ -22,19 +22,19 @@ not_four (x ∷ y ∷ z ∷ []) other = refl
 not_four (x ∷ y ∷ z ∷ w ∷ []) other = absurd (other refl)
 not_four (x ∷ y ∷ z ∷ w ∷ v ∷ vs) other = refl
 
-pub valid_words : (command dtd root doc : List ℕ) → is_plain_name root ≡ true → bytes_eq command (codes "valid") ≡ true → command_line_of (command ∷ dtd ∷ root ∷ doc ∷ []) ≡ Some (valid dtd root doc)
+pub valid_words : (command dtd root doc : List ℕ) → is_name root ≡ true → bytes_eq command (codes "valid") ≡ true → command_line_of (command ∷ dtd ∷ root ∷ doc ∷ []) ≡ Some (valid dtd root doc)
 unfolding command_line_of
 valid_words command dtd root doc named is = rw (named, is) refl
 
-pub session_words : (command dtd root doc : List ℕ) → is_plain_name root ≡ true → bytes_eq command (codes "valid") ≡ false → bytes_eq command (codes "session") ≡ true → command_line_of (command ∷ dtd ∷ root ∷ doc ∷ []) ≡ Some (session dtd root doc)
+pub session_words : (command dtd root doc : List ℕ) → is_name root ≡ true → bytes_eq command (codes "valid") ≡ false → bytes_eq command (codes "session") ≡ true → command_line_of (command ∷ dtd ∷ root ∷ doc ∷ []) ≡ Some (session dtd root doc)
 unfolding command_line_of
 session_words command dtd root doc named other is = rw (named, other, is) refl
 
-pub other_command : (command dtd root doc : List ℕ) → is_plain_name root ≡ true → bytes_eq command (codes "valid") ≡ false → bytes_eq command (codes "session") ≡ false → command_line_of (command ∷ dtd ∷ root ∷ doc ∷ []) ≡ None
+pub other_command : (command dtd root doc : List ℕ) → is_name root ≡ true → bytes_eq command (codes "valid") ≡ false → bytes_eq command (codes "session") ≡ false → command_line_of (command ∷ dtd ∷ root ∷ doc ∷ []) ≡ None
 unfolding command_line_of
 other_command command dtd root doc named is also = rw (named, is, also) refl
 
-pub other_root : (command dtd root doc : List ℕ) → is_plain_name root ≡ false → command_line_of (command ∷ dtd ∷ root ∷ doc ∷ []) ≡ None
+pub other_root : (command dtd root doc : List ℕ) → is_name root ≡ false → command_line_of (command ∷ dtd ∷ root ∷ doc ∷ []) ≡ None
 unfolding command_line_of
 other_root command dtd root doc named = rw named refl
 

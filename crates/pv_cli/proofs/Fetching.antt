@@ -3,7 +3,7 @@ use Rattle.std.proofs.Common.{◌≡◌, ℕ, ◌+◌, ◌≤◌, List, length, 
 use Rattle.std.proofs.lemmas.Grind.{common_steps}
 use Rattle.pv_io.specs.declared.shelf.FetchError.{FetchError}
 use Rattle.pv_io.specs.declared.shelf.FetchError.TheVariants.{Failed, TooLong, NoMemory}
-use Rattle.pv_io.specs.Files.{FetchTells, FetchGives, file_named}
+use Rattle.pv_io.specs.Files.{FetchTells, FetchGives, HoldsMore, file_named}
 use Rattle.pv_cli.specs.declared.status.Status.TheVariants.{Limit}
 use Rattle.pv_cli.specs.Opening.{IsFile, IsGiven, IsTooLong}
 use Rattle.pv_cli.specs.Response.{PlainResponse, with_line, plain_response}
@@ -27,8 +27,12 @@ file_beyond None most passed r gives is = absurd gives
 file_beyond (Some bytes) most passed r gives is = record { bytes = bytes; is_file = refl; beyond = gives; is_response = is }
 
 pub stops_beyond : (file : Option (List ℕ)) (most : ℕ) (passed : List ℕ) (stop : Stop) → FetchGives file most (Err TooLong) →
-    StopsBy (λ r. r ≡ with_line Limit passed) ⊥ stop → StopsBy (IsTooLong file most passed) (Unit {0}) stop
+    StopsBy (λ r. r ≡ with_line Limit passed) ⊥ stop → StopsBy (IsTooLong file most passed) (HoldsMore file most → ⊥) stop
 stops_beyond file most passed (Refused r) gives stops = file_beyond file most passed (plain_response r) gives stops
 stops_beyond file most passed ShelfFault gives stops = absurd stops
 stops_beyond file most passed InputFault gives stops = stops
 stops_beyond file most passed OutOfMemory gives stops = tt
+
+pub not_beyond : (file : Option (List ℕ)) (most : ℕ) → FetchGives file most (Err Failed) → HoldsMore file most → ⊥
+not_beyond None most gives holds = holds
+not_beyond (Some bytes) most gives holds = omega (arith, gives, holds)

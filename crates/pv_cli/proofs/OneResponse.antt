@@ -171,7 +171,7 @@ SessionResponds doc script silent r = IsScriptRefusal script r ⊎ IsAnswered do
 session_responds : (doc : State) (script silent : List ℕ) (ending : Ending) (r : PlainResponse) → Answers doc script silent ending → ending ≡ responds r → SessionResponds doc script silent r
 session_responds doc script silent ending r (too_long s refuses is) at = let same : s ≡ r = cc in inl (subst (IsScriptRefusal script) same refuses)
 session_responds doc script silent ending r (answered_all is) at = inr (subst (IsAnswered doc script silent) at is)
-session_responds doc script silent ending r (failed is) at = cc
+session_responds doc script silent ending r (failed within is) at = cc
 session_responds doc script silent ending r (without_room is) at = cc
 
 one_session : (doc same : State) (script silent : List ℕ) (r also : PlainResponse) → doc_text doc ≡ doc_text same → SessionResponds doc script silent r → SessionResponds same script silent also → r ≡ also

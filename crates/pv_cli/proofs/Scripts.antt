@@ -32,7 +32,7 @@ consumes_kept (Some o) (Some m) (Some n) before p q = p ∙ ap (λ h. before ++ 
 pub stops_script : (script : List ℕ) (stop : Stop) → MAX_SCRIPT_BYTES < length script → StopsBy (λ r. r ≡ with_line Limit (codes "limit script")) ⊥ stop → StopsScript script stop
 stops_script script (Refused r) beyond stops = record { beyond = beyond; is_response = stops }
 stops_script script ShelfFault beyond stops = stops
-stops_script script InputFault beyond stops = tt
+stops_script script InputFault beyond stops = absurd stops
 stops_script script NoMemory beyond stops = tt
 
 -- what a buffer holds after its front was written, where all of it was

@@ -1,7 +1,7 @@
 -- The command lines.
 use Rattle.std.specs.Prelude.{ℕ, Bool, true, false, List, [], ◌∷◌, codes, if◌then◌else◌, Option, Some, None, Contains}
 use Rattle.std.specs.Str.{bytes_eq}
-use Rattle.pv_chars.specs.PlainNames.{is_plain_name}
+use Rattle.pv_chars.specs.Names.{is_name}
 use Rattle.pv_cli.specs.declared.command_line.CommandLine.{CommandLine}
 use Rattle.pv_cli.specs.declared.command_line.CommandLine.TheVariants.{Valid, Session}
 use Rattle.pv_cli.specs.declared.command_line.Named.{Named}
@@ -18,9 +18,9 @@ on_document command dtd root doc =
     else if bytes_eq command (codes "session") then Some (session dtd root doc)
     else None
 
--- the command line that these words are; ROOT is a name
+-- the command line that these words are; ROOT is a Name of XML
 unfoldable pub command_line_of : List (List ℕ) → Option PlainCommandLine
-command_line_of (command ∷ dtd ∷ root ∷ doc ∷ []) = if is_plain_name root then on_document command dtd root doc else None
+command_line_of (command ∷ dtd ∷ root ∷ doc ∷ []) = if is_name root then on_document command dtd root doc else None
 command_line_of words = None
 
 -- words that are no command line ask the shelf for nothing

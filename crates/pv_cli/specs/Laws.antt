@@ -2,6 +2,7 @@
 use Rattle.std.specs.Prelude.{◌≡◌, ◌⊎◌, ℕ, List, ◌++◌, Option}
 use Rattle.std.specs.Io.KnownBytes.{Appends}
 use Rattle.pv_io.specs.Causes.{Stays, Rose}
+use Rattle.pv_write.specs.Text.{doc_text}
 use Rattle.pv_cli.specs.declared.status.Status.{Status}
 use Rattle.pv_cli.specs.declared.status.Status.TheVariants.{ReadFault, WriteFault, NoMemory}
 use Rattle.pv_cli.specs.CommandLine.{PlainCommandLine}
@@ -21,6 +22,12 @@ JoinsReplies = (silent : List ℕ) (number next : ℕ) (state middle : State) (l
 abbrev pub EndsAtQuit : Type 0
 EndsAtQuit = (silent : List ℕ) (number : ℕ) (state : State) (lines more : List (List ℕ)) (out : List ℕ) →
     Replies silent number state lines out at_quit → Replies silent number state (lines ++ more) out at_quit
+
+-- Lines have one output, counted from any number and begun in any state, where there was no memory for the same of them. Two states of one
+-- text, which differ in marks at most, give the same.
+abbrev pub HasOneOutput : Type 0
+HasOneOutput = (silent : List ℕ) (number : ℕ) (state other : State) (lines : List (List ℕ)) (out also : List ℕ) (place spot : Place) →
+    doc_text state ≡ doc_text other → Replies silent number state lines out place → Replies silent number other lines also spot → out ≡ also
 
 -- over given files, and where what was taken from the input and the lines that there was no memory for are given, a command has one
 -- response

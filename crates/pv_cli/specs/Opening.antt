@@ -8,7 +8,7 @@ use Rattle.pv_dtd.specs.PlainForms.{plain_dtd}
 use Rattle.pv_tree.specs.PlainDocs.{plain_doc}
 use Rattle.pv_tree.specs.Plain.{PlainDoc}
 use Rattle.pv_tree.specs.declared.nodes.Mark.{Mark}
-use Rattle.pv_io.specs.Files.{file_named}
+use Rattle.pv_io.specs.Files.{file_named, HoldsMore}
 use Rattle.pv_read.specs.Grammar.{IsDocumentText, MAX_DOC_BYTES}
 use Rattle.pv_cli.specs.declared.opening.Opened.{Opened}
 use Rattle.pv_cli.specs.declared.status.Status.TheVariants.{BadDtd, BadDocument, Limit}
@@ -37,12 +37,12 @@ pub record IsTooLong (file : Option (List ℕ)) (most : ℕ) (passed : List ℕ)
   pub beyond : most < length bytes
   pub is_response : r ≡ with_line Limit passed
 
--- fetching a file of at most so many bytes; the line says `passed` where it has more
+-- Fetching a file of at most so many bytes; the line says `passed` where it has more, and then it is no fault of the shelf.
 abbrev pub fetch_stage : Option (List ℕ) → ℕ → List ℕ → Stage (List ℕ)
 fetch_stage file most passed = record {
   Opens = IsGiven file most;
   Refuses = IsTooLong file most passed;
-  AsksShelf = Unit {0};
+  AsksShelf = HoldsMore file most → ⊥;
 }
 
 -- the response to a DTD whose first fault is of this kind, behind so many whole items

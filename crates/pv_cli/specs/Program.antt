@@ -1,5 +1,5 @@
 -- What a run of the program does.
-use Rattle.std.specs.Prelude.{◌≡◌, ℕ, List, [], codes, Option, Some, None, Result, Ok, Err}
+use Rattle.std.specs.Prelude.{◌≡◌, ◌⊎◌, ℕ, List, [], codes, Option, Some, None, Result, Ok, Err}
 use Rattle.std.specs.Io.KnownBytes.{Appends, Consumes, IsAtEnd}
 use Rattle.pv_io.specs.Causes.{AppendsFront, Stays, Rose}
 use Rattle.pv_cli.specs.declared.status.Status.{Status}
@@ -89,13 +89,20 @@ pub data Writes (ending : Ending) (old new : Option (List ℕ)) (before after : 
   cut_off : (r : PlainResponse) → ending ≡ responds r → status ≡ WriteFault → AppendsFront old new r.output → Rose before after →
       Writes ending old new before after status
 
--- the devices and the status show this course
+-- The devices and the status show this course. Where all was done but for the writing, the input was read to its end.
 pub record Shows {S : Type 0} (course : Course) (before after : Devices S) (status : Status) : Type 0 where
   pub shelf : CountsShelf course.ending before.shelf_faults after.shelf_faults
   pub input : CountsInput course.ending before.input_faults after.input_faults
   pub taken : Takes course.taken before after
   pub output : Writes course.ending before.written after.written before.output_faults after.output_faults status
-  pub finished : status ≡ Done → ReadsAll course.taken after.left
+  pub finished : status_of course.ending ≡ Done → ReadsAll course.taken after.left
+
+-- how such a run may end, whatever the files are: as a course that is defined for the command line, or at a fault of its output
+pub record EndsLike (line : Option PlainCommandLine) (status : Status) : Type 0 where
+  pub files : Files
+  pub course : Course
+  pub is_defined : IsDefined line files course
+  pub is_status : (status ≡ status_of course.ending) ⊎ ((r : PlainResponse) × (course.ending ≡ responds r) × (status ≡ WriteFault))
 
 -- What a run does: there are files, those that the shelf tells where it tells them, and a course that is defined for the command line
 -- over these files, which the devices and the status show.

@@ -61,11 +61,11 @@ pub record IsScriptRefusal (script : List ℕ) (r : PlainResponse) : Type 0 wher
   pub beyond : MAX_SCRIPT_BYTES < length script
   pub is_response : r ≡ with_line Limit (codes "limit script")
 
--- how a session on a document ends over the script that was taken from its input
+-- How a session on a document ends over the script that was taken from its input. A script past its limit is no fault of the input.
 pub data Answers (doc : State) (script silent : List ℕ) (ending : Ending) : Type 0 where
   too_long : (r : PlainResponse) → IsScriptRefusal script r → ending ≡ responds r → Answers doc script silent ending
   answered_all : IsAnswered doc script silent ending → Answers doc script silent ending
-  failed : ending ≡ input_fault → Answers doc script silent ending
+  failed : length script ≤ MAX_SCRIPT_BYTES → ending ≡ input_fault → Answers doc script silent ending
   without_room : ending ≡ short_of_memory → Answers doc script silent ending
 
 pub record Converses (doc : State) (course : Course) : Type 0 where

@@ -36,7 +36,7 @@ pub record IsWholeScript (new : Option (List ℕ)) (script bytes : List ℕ) : T
 abbrev pub StopsScript : List ℕ → Stop → Type 0
 StopsScript script (Refused response) = IsScriptRefusal script (plain_response response)
 StopsScript script ShelfFault = ⊥
-StopsScript script InputFault = Unit {0}
+StopsScript script InputFault = length script ≤ MAX_SCRIPT_BYTES
 StopsScript script NoMemory = Unit {0}
 
 abbrev pub GivesScript : Option (List ℕ) → List ℕ → Result (Vec ℕ Global) Stop → Type 0

@@ -5,7 +5,7 @@ ghost use Rattle.std.specs.Option.{option_map};
 ghost use Rattle.pv_io.specs.Files.{byte_lists, fetch_names};
 ghost use Rattle.pv_cli.specs.CommandLine.{command_line_of, plain_command_line, HasNamedFiles};
 
-use pv_chars::plain_name;
+use pv_chars::is_name;
 
 /// A root name, and the names of a DTD and a document.
 #[derive(Clone, Copy)]
@@ -33,7 +33,7 @@ pub fn command_line_of(words: &[String]) -> Option<CommandLine<'_>>
     let [command, dtd, root, doc] = words else {
         unreachable!()
     };
-    if !plain_name(root.as_bytes()) {
+    if !is_name(root.as_bytes()) {
         return None;
     }
     let named = Named {

@@ -1,6 +1,6 @@
 //! Laws on what the program does. Their functions do nothing.
 
-ghost use Rattle.pv_cli.specs.Laws.{HasOneResponse, IsComplete, FaultsShow, JoinsReplies, EndsAtQuit};
+ghost use Rattle.pv_cli.specs.Laws.{HasOneResponse, IsComplete, FaultsShow, HasOneOutput, JoinsReplies, EndsAtQuit};
 
 use pv_dtd::one_meaning_law;
 use pv_io::Source;
@@ -28,8 +28,9 @@ pub fn faults_law<S: Source>()
     ensures { FaultsShow S }
 {}
 
-/// The replies to a script are those to its pieces.
+/// The replies to a script are determined, and are those to its pieces.
 pub fn replies_law()
+    ensures one { HasOneOutput }
     ensures joined { JoinsReplies }
     ensures ended { EndsAtQuit }
 {}

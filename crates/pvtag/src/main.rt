@@ -4,7 +4,7 @@
 ghost use Rattle.std.specs.Prelude.{◌≡◌, ◌<◌};
 ghost use Rattle.std.specs.Process.{exit_status};
 ghost use Rattle.pv_cli.specs.CommandLine.{command_line_of};
-ghost use Rattle.pv_cli.specs.Program.{Runs, devices};
+ghost use Rattle.pv_cli.specs.Program.{EndsLike, Runs, devices};
 ghost use Rattle.pv_cli.specs.Status.{code_of};
 ghost use Rattle.pv_io.specs.Files.{byte_lists, fetch_names};
 
@@ -51,7 +51,8 @@ fn run<H: Shelf, S: Source, K: Sink, L: Ledger>(
     ExitCode::from(status.code())
 }
 
-// The same over the machine's files, its input and its output.
+// The same over the machine's files, its input and its output: what these hold isn't known, but the exit status is one with which the
+// command line may end.
 fn run_here<L: Ledger, R: Files + AllocGlobal + Input + Print + Threads + Sync>(
     rt: &R,
     words: &[String],
@@ -60,6 +61,8 @@ fn run_here<L: Ledger, R: Files + AllocGlobal + Input + Print + Threads + Sync>(
     requires name { blank.name ≡ L.name }
     requires parts { blank.parts ≡ L.parts }
     requires some { 0 < L.parts }
+    ensures { (status : Status) × (exit_status result ≡ code_of status)
+        × EndsLike (command_line_of (byte_lists words.now)) status }
 {
     let mut shelf = FolderShelf::new(rt, words);
     let mut input = ReadSource::new(rt.reader());

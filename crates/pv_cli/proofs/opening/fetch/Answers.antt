@@ -1,4 +1,4 @@
-use Rattle.pv_cli.proofs.Fetching.{fetch_file, file_given, stops_beyond}
+use Rattle.pv_cli.proofs.Fetching.{fetch_file, file_given, not_beyond, stops_beyond}
 use Rattle.pv_cli.proofs.opening.fetch.Goals as goal
 
 pub returns-in-Ok-clause-file : goal.returns-in-Ok-clause-file
@@ -14,7 +14,7 @@ returns-in-Err-TooLong-clause-file g c =
 pub returns-in-Err-Failed-clause-file : goal.returns-in-Err-Failed-clause-file
 returns-in-Err-Failed-clause-file g c =
     let file = fetch_file _ c.args.name.now c.args.most _ tt (rw c.in-Err-Failed.field-0-is at c.in-Err-Failed.ensures.bytes) in
-    (file.0, file.1, tt)
+    (file.0, file.1, not_beyond file.0 c.args.most file.2)
 
 pub returns-in-Err-NoMemory-clause-file : goal.returns-in-Err-NoMemory-clause-file
 returns-in-Err-NoMemory-clause-file g c =

@@ -19,7 +19,7 @@ returns-in-Err g c = λ files shelf.
         input = stop_counts_input _ _ stop c.in-Err.ensures.counts;
         taken = took.taken;
         output = c.respond.ensures;
-        finished = λ done. absurd (stop_not_done took.script stop _ _ _ _ _ took.gives c.respond.ensures done);
+        finished = λ done. absurd (stop_not_done took.script stop took.gives done);
       },
     )
 

@@ -22,7 +22,7 @@ pub returns-in_default-clause-script : goal.returns-in_default-clause-script
 returns-in_default-clause-script g c = record {
   script = c.pieces.script.items;
   taken = consumes_kept _ _ _ _ c.pieces.invariant.given c.in_default.ensures.bytes;
-  gives = tt;
+  gives = omega (arith, c.pieces.script.ok.0, c.pieces.invariant.within);
 }
 
 pub returns-then-count-eq0-clause-script : goal.returns-then-count-eq0-clause-script
