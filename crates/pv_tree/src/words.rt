@@ -11,42 +11,13 @@ ghost use Rattle.pv_tree.specs.Tokens.{token_before};
 ghost use Rattle.pv_tree.specs.PlainForms.{plain, forest};
 
 use crate::nodes::Node;
-use pv_chars::NoMemory;
+use pv_chars::{List, NoMemory};
 use pv_dtd::Dtd;
 use pv_model::Token;
 use std::alloc::Global;
-use std::marker::Model;
 
-/// Tokens, seen as their list.
-#[derive(Debug, Drop)]
-pub struct Tokens {
-    items: Vec<Token>,
-}
-
-impl Model for Tokens {
-    ghost use Rattle.std.specs.Prelude.{List};
-    ghost use Rattle.pv_model.specs.declared.models.Token.{Token};
-
-    ghost Value = { List Token };
-
-    ghost view = { λ t. t.items.items };
-}
-
-impl Tokens {
-    /// The tokens, which aren't copied.
-    pub fn of(items: Vec<Token>) -> Tokens
-        ensures { result ≡ items.items }
-    {
-        Tokens { items }
-    }
-
-    /// The tokens in order.
-    pub fn as_slice(&self) -> &[Token]
-        ensures { result.now ≡ self.now }
-    {
-        self.items.as_slice()
-    }
-}
+/// A list of tokens.
+pub type Tokens = List<Token>;
 
 /// The word of some nodes: an element by its name, data for a text with a data unit and for a CDATA section, and nothing for others.
 pub fn word(alloc: Global, dtd: &Dtd, kids: &[Node]) -> Result<Tokens, NoMemory>
@@ -54,7 +25,7 @@ pub fn word(alloc: Global, dtd: &Dtd, kids: &[Node]) -> Result<Tokens, NoMemory>
 {
     let mut tokens = Vec::new(alloc);
     append_word(dtd, kids, &mut tokens)?;
-    Ok(Tokens::of(tokens))
+    Ok(List::of(tokens))
 }
 
 /// Appends the word of some nodes.
