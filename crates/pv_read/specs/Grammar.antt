@@ -36,7 +36,8 @@ abbrev mutual
   pub SpellsContent : {M : Type 0} → Forest M → List ℕ → Type 0
   SpellsContent no_trees bytes = bytes ≡ []
   SpellsContent (tree t rest) bytes =
-      (first : List ℕ) × (others : List ℕ) × SpellsNode t first × IsWholeRun t rest × SpellsContent rest others × (bytes ≡ first ++ others)
+      (first : List ℕ) × (others : List ℕ) ×
+      SpellsNode t first × IsWholeRun t rest × SpellsContent rest others × (bytes ≡ first ++ others)
 
 abbrev pub IsElement : {M : Type 0} → Tree M → Type 0
 IsElement (element x attrs ending kids mark) = Unit {0}

@@ -7,4 +7,5 @@ use Rattle.pv_tree.specs.Marks.{unmarked_doc}
 
 -- a text spells at most one document, marks aside
 abbrev pub SpellsOneDocument : Type 0
-SpellsOneDocument = (bytes : List ℕ) (doc other : PlainDoc Mark) → SpellsDocument bytes doc → SpellsDocument bytes other → unmarked_doc doc ≡ unmarked_doc other
+SpellsOneDocument = (bytes : List ℕ) (doc other : PlainDoc Mark) →
+    SpellsDocument bytes doc → SpellsDocument bytes other → unmarked_doc doc ≡ unmarked_doc other

@@ -20,8 +20,11 @@ pub const MAX_DOC_BYTES: usize = 67_108_864;
 /// The most elements that stand one inside another.
 const MAX_DEPTH: u32 = 512;
 
-/// The document that the bytes are, with blank marks. Any bytes that are no plain document within the limits are refused as
-/// `Syntax(0)`, whatever is wrong with them and wherever that stands.
+/// The document that the bytes are, with blank marks (XML 1.0, sections 2.1 and 3.1).
+///
+/// Errors: `Syntax(0)` for any bytes that are no plain document within the limits, whatever is wrong with them and wherever that stands;
+/// `NoMemory` where memory runs out, which says nothing of the bytes. The name of the root element isn't looked at yet: a document with
+/// another root is read too.
 pub fn read_doc(alloc: Global, bytes: &[u8], _root: &[u8]) -> Result<Doc, DocError>
     ensures read { IfOk result (λ doc. IsDocumentText bytes.now (plain_doc doc)) }
     ensures marks { IfOk result (λ doc. HasMarks blank_mark (plain_doc doc)) }

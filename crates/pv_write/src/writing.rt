@@ -11,7 +11,7 @@ use pv_chars::{Bytes, NoMemory};
 use pv_tree::{Doc, End, Node};
 use std::alloc::Global;
 
-/// The bytes of a document. Texts side by side are written as one run.
+/// The bytes of a document. Texts side by side are written as one run. The one error is want of memory.
 pub fn doc_bytes(alloc: Global, doc: &Doc) -> Result<Vec<u8>, NoMemory>
     ensures text { IfOk result (λ bytes. bytes.items ≡ doc_text (plain_doc doc.now)) }
     ensures read { IfOk result (λ bytes. (text : List ℕ) → IsDocumentText text (plain_doc doc.now) → bytes.items ≡ text) }
