@@ -35,3 +35,6 @@ pub const MIXED_UNDECLARED: &str = "<!ELEMENT a (#PCDATA|b)*>";
 
 /// An element that isn't declared.
 pub const UNDECLARED: &str = "<!ELEMENT a (b)>";
+
+/// An element with a name in Greek.
+pub const GREEK: &str = "<!ELEMENT λόγος (#PCDATA)>";

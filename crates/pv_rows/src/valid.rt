@@ -1,7 +1,8 @@
 //! Rows of `valid`.
 
 use crate::dtds::{
-    ANY, ANY_OR_EMPTY, ANY_OR_ENDLESS, ARTICLE, EMPTY, MIXED, MIXED_UNDECLARED, TEXT, UNDECLARED,
+    ANY, ANY_OR_EMPTY, ANY_OR_ENDLESS, ARTICLE, EMPTY, GREEK, MIXED, MIXED_UNDECLARED, TEXT,
+    UNDECLARED,
 };
 use crate::fixture::{Given, answer};
 use pv_cli::Status;
@@ -42,7 +43,7 @@ const BAD_DTD: Status = Status::BadDtd;
 
 const BAD_DOCUMENT: Status = Status::BadDocument;
 
-static JUDGED: [Row<'static>; 22] = [
+static JUDGED: [Row<'static>; 24] = [
     (TEXT, "doc", "<doc>Hello</doc>", DONE, "valid\n"),
     (TEXT, "p", "<doc>Hello</doc>", NEGATIVE, "invalid .\n"),
     (TEXT, "doc", " <doc >x</doc >\n", DONE, "valid\n"),
@@ -72,6 +73,8 @@ static JUDGED: [Row<'static>; 22] = [
     ),
     (ANY_OR_ENDLESS, "a", "<a><b/></a>", NEGATIVE, "invalid 0\n"),
     (MIXED_UNDECLARED, "b", "<b/>", NEGATIVE, "invalid 0\n"),
+    (GREEK, "λόγος", "<λόγος>x</λόγος>", DONE, "valid\n"),
+    (GREEK, "λόγος", "<λόγου/>", NEGATIVE, "invalid .\n"),
     (
         ARTICLE,
         "doc",
