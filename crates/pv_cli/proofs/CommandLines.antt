@@ -1,9 +1,9 @@
--- Command lines of four words.
+-- Command lines of two words and of four.
 use Rattle.std.proofs.Common.{◌≡◌, ℕ, ◌<◌, ◌≤◌, List, [], ◌∷◌, length, get_or, String, Global, Some, None, true, false, codes, refl, arith}
 use Rattle.std.specs.Str.{bytes_eq}
 use Rattle.pv_io.specs.Files.{byte_lists}
 use Rattle.pv_chars.specs.Names.{is_name}
-use Rattle.pv_cli.specs.CommandLine.{command_line_of, valid, session}
+use Rattle.pv_cli.specs.CommandLine.{command_line_of, listing, valid, session}
 
 pub four : {A : Type 0} (xs : List A) (a b c d : A) → 4 ≤ length xs → length xs < 5 → a ≡ get_or xs 0 a → b ≡ get_or xs 1 b → c ≡ get_or xs 2 c → d ≡ get_or xs 3 d → xs ≡ a ∷ b ∷ c ∷ d ∷ []
 four [] a b c d more less p q r s = absurd (omega arith)
@@ -13,14 +13,28 @@ four (x ∷ y ∷ z ∷ []) a b c d more less p q r s = absurd (omega arith)
 four (x ∷ y ∷ z ∷ w ∷ []) a b c d more less p q r s = cc
 four (x ∷ y ∷ z ∷ w ∷ v ∷ vs) a b c d more less p q r s = absurd (omega arith)
 
-pub not_four : (words : List (List ℕ)) → (length words ≡ 4 → ⊥) → command_line_of words ≡ None
+pub two : {A : Type 0} (xs : List A) (a b : A) → 2 ≤ length xs → length xs < 3 → a ≡ get_or xs 0 a → b ≡ get_or xs 1 b → xs ≡ a ∷ b ∷ []
+two [] a b more less p q = absurd (omega arith)
+two (x ∷ []) a b more less p q = absurd (omega arith)
+two (x ∷ y ∷ []) a b more less p q = cc
+two (x ∷ y ∷ z ∷ zs) a b more less p q = absurd (omega arith)
+
+pub not_four : (words : List (List ℕ)) → (length words ≡ 2 → ⊥) → (length words ≡ 4 → ⊥) → command_line_of words ≡ None
 unfolding command_line_of
-not_four [] other = refl
-not_four (x ∷ []) other = refl
-not_four (x ∷ y ∷ []) other = refl
-not_four (x ∷ y ∷ z ∷ []) other = refl
-not_four (x ∷ y ∷ z ∷ w ∷ []) other = absurd (other refl)
-not_four (x ∷ y ∷ z ∷ w ∷ v ∷ vs) other = refl
+not_four [] never other = refl
+not_four (x ∷ []) never other = refl
+not_four (x ∷ y ∷ []) never other = absurd (never refl)
+not_four (x ∷ y ∷ z ∷ []) never other = refl
+not_four (x ∷ y ∷ z ∷ w ∷ []) never other = absurd (other refl)
+not_four (x ∷ y ∷ z ∷ w ∷ v ∷ vs) never other = refl
+
+pub listing_words : (command dtd : List ℕ) → bytes_eq command (codes "dtd") ≡ true → command_line_of (command ∷ dtd ∷ []) ≡ Some (listing dtd)
+unfolding command_line_of
+listing_words command dtd is = rw is refl
+
+pub other_two : (command dtd : List ℕ) → bytes_eq command (codes "dtd") ≡ false → command_line_of (command ∷ dtd ∷ []) ≡ None
+unfolding command_line_of
+other_two command dtd is = rw is refl
 
 pub valid_words : (command dtd root doc : List ℕ) → is_name root ≡ true → bytes_eq command (codes "valid") ≡ true → command_line_of (command ∷ dtd ∷ root ∷ doc ∷ []) ≡ Some (valid dtd root doc)
 unfolding command_line_of

@@ -9,3 +9,5 @@ pub mod OneVerdict
 pub mod Replies
 pub mod Scripts
 pub mod Stages
+pub mod OneListing
+pub mod Listings

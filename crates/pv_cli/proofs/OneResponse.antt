@@ -12,14 +12,16 @@ use Rattle.pv_read.specs.Laws.{SpellsOneDocument}
 use Rattle.pv_script.specs.Lines.{lines_of}
 use Rattle.pv_write.specs.Laws.{WritesWhatIsSpelled}
 use Rattle.pv_write.specs.Text.{doc_text}
-use Rattle.pv_cli.specs.CommandLine.{valid, session}
+use Rattle.pv_cli.specs.CommandLine.{listing, valid, session}
 use Rattle.pv_cli.specs.Course.{Ending, responds, Course}
 use Rattle.pv_cli.specs.Laws.{HasOneResponse}
+use Rattle.pv_cli.specs.Listing.{ListsDtd}
 use Rattle.pv_cli.specs.Opening.{Files, IsGiven, IsTooLong, fetch_stage, RefusesDtd, no_dtd, dtd_refusal, dtd_stage, RefusesDocument, no_document, document_stage, dtd_file_stage, document_file_stage, opening_stage}
 use Rattle.pv_cli.specs.Response.{PlainResponse}
 use Rattle.pv_cli.specs.Session.{State, IsScriptRefusal, IsAnswered, Answers, too_long, answered_all, failed, without_room, Converses}
 use Rattle.pv_cli.specs.Stage.{Stage, followed_by, beside, Behind, opened, refused, stopped, short_of_memory, Responds, responded, short_of_memory as out_of_memory}
 use Rattle.pv_cli.specs.Valid.{TellsValidity}
+use Rattle.pv_cli.proofs.OneListing.{one_listing}
 use Rattle.pv_cli.proofs.OneReplies.{one_replies}
 use Rattle.pv_cli.proofs.OneVerdict.{one_verdict, spelled_texts}
 
@@ -194,6 +196,13 @@ conversation_on_text written doc same course other r also text taken silent at o
 
 pub one_response : OneMeaning → SpellsOneDocument → IsValidByLists Mark → WritesWhatIsSpelled → HasOneResponse
 one_response dtds documents by_lists written None files course other r also is are taken silent at on = told _ course r is at ∙ sym (told _ other also are on)
+one_response dtds documents by_lists written (Some (listing dtd)) files course other r also is are taken silent at on =
+    one_of (dtd_file_stage files.dtd) IsEqual (λ g. Responds (ListsDtd g)) course other r also
+    (followed_sure (fetch_stage files.dtd MAX_DTD_BYTES (codes "limit dtd-file")) dtd_stage IsEqual (fetch_sure files.dtd MAX_DTD_BYTES (codes "limit dtd-file")) (dtd_sure dtds))
+    (λ g h same goes others. one_listing g r also (told (ListsDtd g) course r goes at)
+    (subst (λ (d : PlainDtd). ListsDtd d also) (sym same) (told (ListsDtd h) other also others on)))
+    (went_on (dtd_file_stage files.dtd) (λ g. Responds (ListsDtd g)) course r is at)
+    (went_on (dtd_file_stage files.dtd) (λ g. Responds (ListsDtd g)) other also are on)
 one_response dtds documents by_lists written (Some (valid dtd root doc)) files course other r also is are taken silent at on =
     one_of (opening_stage root files) (IsSamePair IsSameText) (λ both. Responds (TellsValidity root both.0 both.1)) course other r also (opening_sure dtds root files)
     (λ x y same goes others. verdict_on_text documents by_lists root x.0 y.0 x.1 y.1 r also same.0 same.1 (told (TellsValidity root x.0 x.1) course r goes at) (told (TellsValidity root y.0 y.1) other also others on))

@@ -3,11 +3,12 @@ use Rattle.std.specs.Prelude.{ℕ, Bool, true, false, List, [], ◌∷◌, codes
 use Rattle.std.specs.Str.{bytes_eq}
 use Rattle.pv_chars.specs.Names.{is_name}
 use Rattle.pv_cli.specs.declared.command_line.CommandLine.{CommandLine}
-use Rattle.pv_cli.specs.declared.command_line.CommandLine.TheVariants.{Valid, Session}
+use Rattle.pv_cli.specs.declared.command_line.CommandLine.TheVariants.{Listing, Valid, Session}
 use Rattle.pv_cli.specs.declared.command_line.Named.{Named}
 
--- `valid DTD ROOT DOC` and `session DTD ROOT DOC`
+-- `dtd DTD`, `valid DTD ROOT DOC` and `session DTD ROOT DOC`
 pub data PlainCommandLine : Type 0 where
+  listing : (dtd : List ℕ) → PlainCommandLine
   valid : (dtd root doc : List ℕ) → PlainCommandLine
   session : (dtd root doc : List ℕ) → PlainCommandLine
 
@@ -21,15 +22,18 @@ on_document command dtd root doc =
 -- the command line that these words are; ROOT is a Name of XML
 unfoldable pub command_line_of : List (List ℕ) → Option PlainCommandLine
 command_line_of (command ∷ dtd ∷ root ∷ doc ∷ []) = if is_name root then on_document command dtd root doc else None
+command_line_of (command ∷ dtd ∷ []) = if bytes_eq command (codes "dtd") then Some (listing dtd) else None
 command_line_of words = None
 
 -- words that are no command line ask the shelf for nothing
 abbrev pub asks_shelf : Option PlainCommandLine → Bool
 asks_shelf None = false
+asks_shelf (Some (listing dtd)) = true
 asks_shelf (Some (valid dtd root doc)) = true
 asks_shelf (Some (session dtd root doc)) = true
 
 abbrev pub plain_command_line : CommandLine → PlainCommandLine
+plain_command_line (Listing name) = listing name.now
 plain_command_line (Valid n) = valid n.dtd.now n.root.now n.doc.now
 plain_command_line (Session n) = session n.dtd.now n.root.now n.doc.now
 
@@ -38,5 +42,6 @@ AreNamed names n = Contains names n.dtd.now × Contains names n.doc.now
 
 -- its files are among these names
 abbrev pub HasNamedFiles : List (List ℕ) → CommandLine → Type 0
+HasNamedFiles names (Listing name) = Contains names name.now
 HasNamedFiles names (Valid n) = AreNamed names n
 HasNamedFiles names (Session n) = AreNamed names n

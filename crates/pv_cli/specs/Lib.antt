@@ -1,6 +1,7 @@
 pub mod CommandLine
 pub mod Course
 pub mod Laws
+pub mod Listing
 pub mod Opening
 pub mod Paths
 pub mod Program

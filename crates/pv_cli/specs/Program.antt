@@ -7,8 +7,9 @@ use Rattle.pv_cli.specs.declared.status.Status.TheVariants.{Done, Usage, ReadFau
 use Rattle.pv_cli.specs.declared.response.Response.{Response}
 use Rattle.pv_cli.specs.declared.stop.Stop.{Stop}
 use Rattle.pv_cli.specs.declared.stop.Stop.TheVariants.{Refused, ShelfFault, InputFault, NoMemory}
-use Rattle.pv_cli.specs.CommandLine.{PlainCommandLine, valid, session}
+use Rattle.pv_cli.specs.CommandLine.{PlainCommandLine, listing, valid, session}
 use Rattle.pv_cli.specs.Course.{Ending, responds, shelf_fault, input_fault, no_memory, Course, unread}
+use Rattle.pv_cli.specs.Listing.{IsListingCourse}
 use Rattle.pv_cli.specs.Opening.{Files, IsFile}
 use Rattle.pv_cli.specs.Response.{PlainResponse, with_line, plain_response}
 use Rattle.pv_cli.specs.Session.{IsSessionCourse}
@@ -18,12 +19,14 @@ use Rattle.pv_cli.specs.Valid.{IsValidCourse}
 -- the files are those that a command line names, where the shelf tells them
 abbrev pub AreFiles : Option (List (List ℕ × List ℕ)) → Option PlainCommandLine → Files → Type 0
 AreFiles told None files = Unit {0}
+AreFiles told (Some (listing dtd)) files = IsFile told dtd files.dtd
 AreFiles told (Some (valid dtd root doc)) files = IsFile told dtd files.dtd × IsFile told doc files.doc
 AreFiles told (Some (session dtd root doc)) files = IsFile told dtd files.dtd × IsFile told doc files.doc
 
 -- the courses that a command line may take over its files
 abbrev pub IsDefined : Option PlainCommandLine → Files → Course → Type 0
 IsDefined None files course = Responds (λ r. r ≡ with_line Usage (codes "usage")) course
+IsDefined (Some (listing dtd)) files course = IsListingCourse files course
 IsDefined (Some (valid dtd root doc)) files course = IsValidCourse root files course
 IsDefined (Some (session dtd root doc)) files course = IsSessionCourse root files course
 

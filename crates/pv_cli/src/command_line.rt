@@ -1,6 +1,6 @@
 //! Command lines.
 
-ghost use Rattle.std.specs.Prelude.{◌≡◌, IfSome};
+ghost use Rattle.std.specs.Prelude.{◌≡◌, IfSome, length};
 ghost use Rattle.std.specs.Option.{option_map};
 ghost use Rattle.pv_io.specs.Files.{byte_lists, fetch_names};
 ghost use Rattle.pv_cli.specs.CommandLine.{command_line_of, plain_command_line, HasNamedFiles};
@@ -18,8 +18,25 @@ pub struct Named<'a> {
 /// A well-formed command line.
 #[derive(Clone, Copy)]
 pub enum CommandLine<'a> {
+    Listing(&'a str),
     Valid(Named<'a>),
     Session(Named<'a>),
+}
+
+// The command line that two words are.
+fn line_of_two(words: &[String]) -> Option<CommandLine<'_>>
+    requires { length words.now ≡ 2 }
+    ensures line { option_map plain_command_line result ≡ command_line_of (byte_lists words.now) }
+    ensures named { IfSome result (HasNamedFiles (fetch_names words.now)) }
+{
+    let [command, dtd] = words else {
+        unreachable!()
+    };
+    if command.as_str() == "dtd" {
+        Some(CommandLine::Listing(dtd.as_str()))
+    } else {
+        None
+    }
 }
 
 /// The command line that the words are; none where they are none.
@@ -27,6 +44,9 @@ pub fn command_line_of(words: &[String]) -> Option<CommandLine<'_>>
     ensures line { option_map plain_command_line result ≡ command_line_of (byte_lists words.now) }
     ensures named { IfSome result (HasNamedFiles (fetch_names words.now)) }
 {
+    if words.len() == 2 {
+        return line_of_two(words);
+    }
     if words.len() != 4 {
         return None;
     }

@@ -9,6 +9,7 @@ ghost use Rattle.pv_cli.specs.declared.status.Status.TheVariants.{Usage};
 ghost use Rattle.pv_io.specs.Files.{byte_lists, fetch_names};
 
 use crate::command_line::{CommandLine, command_line_of};
+use crate::listing::listing;
 use crate::respond::respond;
 use crate::response::Response;
 use crate::session::session;
@@ -57,6 +58,7 @@ pub fn pvtag<H: Shelf, S: Source, K: Sink, L: Ledger>(
     match command_line_of(words) {
         Some(CommandLine::Valid(named)) => respond(out, valid(alloc, shelf, &named)),
         Some(CommandLine::Session(named)) => session(alloc, shelf, &named, input, out),
+        Some(CommandLine::Listing(name)) => respond(out, listing(alloc, shelf, name)),
         None => respond(out, usage(alloc)),
     }
 }

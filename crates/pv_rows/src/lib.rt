@@ -6,6 +6,8 @@ mod dtds;
 #[cfg(test)]
 mod fixture;
 #[cfg(test)]
+mod listing;
+#[cfg(test)]
 mod outside;
 #[cfg(test)]
 mod session;

@@ -10,7 +10,8 @@ use Rattle.pv_cli.proofs.command_line.command_line_of.Goals as goal
 pub returns-then-words-ne4-clause-line : goal.returns-then-words-ne4-clause-line
 returns-then-words-ne4-clause-line c =
     let other : length (byte_lists c.args.words.now) ≡ 4 → ⊥ = λ e. grind (arith, length-byte_lists c.args.words.now) in
-    sym (not_four _ other)
+    let never : length (byte_lists c.args.words.now) ≡ 2 → ⊥ = λ e. grind (arith, length-byte_lists c.args.words.now) in
+    sym (not_four _ never other)
 
 pub returns-then-not-is_name-clause-line : goal.returns-then-not-is_name-clause-line
 returns-then-not-is_name-clause-line c =

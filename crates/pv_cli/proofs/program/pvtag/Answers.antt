@@ -1,6 +1,6 @@
 use Rattle.std.proofs.Common.{◌≡◌, sym, Some, None, codes}
 use Rattle.pv_io.specs.Files.{byte_lists}
-use Rattle.pv_cli.specs.CommandLine.{command_line_of, valid, session}
+use Rattle.pv_cli.specs.CommandLine.{command_line_of, listing, valid, session}
 use Rattle.pv_cli.specs.Response.{PlainResponse, with_line}
 use Rattle.pv_cli.specs.declared.status.Status.TheVariants.{Usage}
 use Rattle.pv_cli.proofs.Stages.{found_runs, tells_ends, tells_counts, tells_leaves_input}
@@ -17,6 +17,12 @@ returns-in-Some-Session-clause-runs g c =
     let named = c.in-Some-Session.named in
     let line : command_line_of (byte_lists c.args.words.now) ≡ Some (session named.dtd.now named.root.now named.doc.now) = sym (rw c.in-Some-Session.field-0-is at c.in-Some-Session.ensures.line) in
     rw line c.session.ensures.runs
+
+pub returns-in-Some-Listing-clause-runs : goal.returns-in-Some-Listing-clause-runs
+returns-in-Some-Listing-clause-runs g c =
+    let name = c.in-Some-Listing.name in
+    let line : command_line_of (byte_lists c.args.words.now) ≡ Some (listing name.now) = sym (rw c.in-Some-Listing.field-0-is at c.in-Some-Listing.ensures.line) in
+    rw line (found_runs _ _ _ _ _ c.listing.result _ _ _ _ _ _ _ _ c.listing.ensures.finds c.respond-in-Some-Listing.ensures)
 
 pub returns-in-None-clause-runs : goal.returns-in-None-clause-runs
 returns-in-None-clause-runs g c =

@@ -1,0 +1,12 @@
+use Rattle.std.proofs.Common.{◌≡◌, ◌++◌, ℕ, List, Result, Ok, Err, decimal, refl}
+use Rattle.std.specs.Result.{OnOk}
+use Rattle.std.specs.declared.alloc.AllocError.{AllocError}
+use Rattle.pv_cli.specs.Listing.{IsTreeText, counted}
+use Rattle.pv_productive.specs.PlainForms.{dtd_of}
+use Rattle.pv_cli.proofs.Listings.{tree_put}
+use Rattle.pv_cli.proofs.listing.push_tree.Goals as goal
+
+pub returns-then-size-lt-OVER : goal.returns-then-size-lt-OVER
+returns-then-size-lt-OVER c =
+    tree_put c.push_number.result (dtd_of c.args.grammar.now) c.args.name _ _ (decimal c.in-Some.size) (counted c.in-Some.size c.in-Some.ensures c.if-size-lt-OVER.true refl)
+    c.push_number.ensures
