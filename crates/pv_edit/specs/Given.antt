@@ -1,12 +1,12 @@
 -- The names and texts that an edit brings.
 use Rattle.std.specs.Prelude.{ℕ, Bool, not, ◌&&◌, ◌||◌, ◌==◌, List}
 use Rattle.std.specs.List.{list_any}
-use Rattle.pv_chars.specs.PlainNames.{is_plain_name}
+use Rattle.pv_chars.specs.Names.{is_name}
 use Rattle.pv_chars.specs.Texts.{is_plain_text, units_of}
 
 -- a name that an element may be given
 abbrev pub is_new_name : List ℕ → Bool
-is_new_name name = is_plain_name name
+is_new_name name = is_name name
 
 -- a literal CR or LF
 abbrev pub is_line_end : ℕ → Bool

@@ -6,13 +6,13 @@ ghost use Rattle.pv_chars.specs.Texts.{holds_close_mark, is_ascii_char, is_plain
 ghost use Rattle.pv_edit.specs.Given.{is_line_end, is_new_name, is_new_text};
 
 use crate::close_marks::{Brackets, search_text};
-use pv_chars::plain_name;
+use pv_chars::is_name;
 
 /// Whether an element may be given this name.
 pub(crate) fn is_new_name(name: &[u8]) -> bool
     ensures { result ≡ is_new_name name.now }
 {
-    plain_name(name)
+    is_name(name)
 }
 
 /// Whether these bytes may be put into a document as a text.

@@ -4,6 +4,8 @@
 #[cfg(test)]
 mod dtds;
 #[cfg(test)]
+mod edits;
+#[cfg(test)]
 mod fixture;
 #[cfg(test)]
 mod listing;
