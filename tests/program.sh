@@ -68,5 +68,35 @@ expect "an empty script" 0 "" bash -c '"$0" session a.dtd doc hello.xml </dev/nu
 expect "a closed pipe" 0 "4$lf" bash -c 'yes show | head -n 100000 >many.txt
     ("$0" session a.dtd doc hello.xml <many.txt; echo "$?" >&3) 3>status.txt | head -c 1 >/dev/null
     cat status.txt' "$pvtag"
+
+# DTDs at their limits and one past them, and bytes that are no characters. Each is read by `valid`, on a document that it declares.
+printf '<a/>' >a.xml
+types() { echo '<!ELEMENT a EMPTY>'; seq -f '<!ELEMENT e%g EMPTY>' "$1"; }
+parts() { printf '<!ELEMENT a EMPTY><!ELEMENT b (#PCDATA'; seq -f '|n%g' "$1" | tr -d '\n'; printf ')*>'; }
+named() { printf '<!ELEMENT a EMPTY><!ELEMENT '; head -c "$1" /dev/zero | tr '\0' n; printf ' EMPTY>'; }
+# dtd NAME STATUS LINE: what `valid` says by the DTD in one.dtd
+dtd() { expect "$1" "$2" "$3$lf" "$pvtag" valid one.dtd a a.xml; }
+types 4095 >one.dtd
+dtd "4,096 types" 0 valid
+types 4096 >one.dtd
+dtd "4,097 types" 8 "limit dtd 4096"
+parts 65536 >one.dtd
+dtd "65,536 parts" 0 valid
+parts 65537 >one.dtd
+dtd "65,537 parts" 8 "limit dtd 1"
+named 256 >one.dtd
+dtd "a name of 256 bytes" 0 valid
+named 257 >one.dtd
+dtd "a name of 257 bytes" 8 "limit dtd 1"
+printf '<!ELEMENT a EMPTY><!ATTLIST a b CDATA "\xc3\xa9\xf0\x90\x80\x80">' >one.dtd
+dtd "characters of two and four bytes" 0 valid
+for bytes in '\xff' '\xed\xa0\x80' '\xc0\xaf' '\xe0\x80\xaf' '\xf4\x90\x80\x80' '\xc3' '\x00' '\xef\xbf\xbf'; do
+    printf "<!ELEMENT a EMPTY><!ELEMENT n$bytes EMPTY>" >one.dtd
+    dtd "$bytes in a name" 6 "dtd syntax 1"
+    printf "<!ELEMENT a EMPTY><!--$bytes-->" >one.dtd
+    dtd "$bytes in a comment" 6 "dtd syntax 1"
+    printf "<!ELEMENT a EMPTY><!ATTLIST a b CDATA '$bytes'>" >one.dtd
+    dtd "$bytes in a literal" 6 "dtd syntax 1"
+done
 echo "program: $passed passed, $failed failed"
 [ "$failed" -eq 0 ]

@@ -1,0 +1,65 @@
+"""Times `dtd` on the largest DTDs within the limits. Words: the repository's folder, and how many runs of each.
+
+The runs are interleaved; the best of each is told, in milliseconds of processor time, and the last line that the program wrote.
+"""
+import os
+import subprocess
+import sys
+import tempfile
+
+# The limits of a DTD.
+TYPES = 4_096
+PARTS = 65_536
+
+
+# 4,096 types that share the parts: a sequence of 15 names each, so that a type has 16 parts.
+def wide():
+    others = ",".join(f"e{number}?" for number in range(7)) + ",e7"
+    return "".join(f"<!ELEMENT e{number} {'EMPTY' if number < 8 else f'({others})'}>\n" for number in range(TYPES))
+
+
+# Types each of which needs the next, the first declared first: each size rests on all that come behind it.
+def chain():
+    return "".join(f"<!ELEMENT e{number} (e{number + 1})>\n" for number in range(TYPES - 1)) + f"<!ELEMENT e{TYPES - 1} EMPTY>\n"
+
+
+# The same, declared the other way round.
+def backwards():
+    return "\n".join(reversed(chain().splitlines())) + "\n"
+
+
+# One mixed model of 65,000 names.
+def mixed():
+    return f"<!ELEMENT a (#PCDATA|{'|'.join(f'n{number}' for number in range(65_000))})*>\n"
+
+
+# Types that need two of the next, so that sizes grow past the limit.
+def doubling():
+    return "".join(f"<!ELEMENT e{number} (e{number + 1},e{number + 1})>\n" for number in range(TYPES - 1)) + f"<!ELEMENT e{TYPES - 1} EMPTY>\n"
+
+
+def run(words):
+    child = subprocess.Popen(words, stdout=subprocess.PIPE)
+    output = child.stdout.read()
+    _, status, used = os.wait4(child.pid, 0)
+    child.returncode = os.waitstatus_to_exitcode(status)
+    last = output.decode().rstrip("\n").rsplit("\n", 1)[-1]
+    return used.ru_utime + used.ru_stime, f"status {child.returncode}, {last}"
+
+
+def main():
+    program, rounds = f"{sys.argv[1]}/crates/pvtag/out/pvtag", int(sys.argv[2])
+    with tempfile.TemporaryDirectory() as folder:
+        best = {}
+        for made in (wide, chain, backwards, mixed, doubling):
+            with open(f"{folder}/{made.__name__}.dtd", "w") as file:
+                file.write(made())
+        for _ in range(rounds):
+            for name in sorted(os.listdir(folder)):
+                seconds, told = run([program, "dtd", f"{folder}/{name}"])
+                best[name] = (min(best.get(name, (seconds,))[0], seconds), told)
+        for name, (seconds, told) in best.items():
+            print(f"{name:14} {os.path.getsize(f'{folder}/{name}'):>9,} bytes {1000 * seconds:7.0f} ms   {told}")
+
+
+main()
