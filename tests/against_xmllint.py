@@ -1,4 +1,4 @@
-"""Compares `valid` with xmllint, and with a matcher of its own, on random DTDs and plain documents, with names in several scripts.
+"""Compares `valid` with xmllint, and with a matcher of its own, on random plain DTDs and documents.
 
 Words: PROGRAM ROUNDS SEED, and the most seconds, where not all rounds are wanted. A round is one DTD, a dozen documents, each of which
 `show` must give back, and a dozen texts of each kind that were changed in one place or two. xmllint doesn't judge models that aren't
@@ -12,18 +12,8 @@ import sys
 import tempfile
 import time
 
-# The names of a round are five of these.
-ALL_NAMES = ["a", "b", "c", "d", "e", "_x", "b-c", "d.e", "é", "e·f", "Ωμέγα", "ж1", "名前", "𐀀"]
-NAMES = ALL_NAMES[:5]
+NAMES = ["a", "b", "c", "d", "e"]
 SPACE = ["", "", "", " ", "\n", "\t \r\n"]
-
-# What a DTD has between its declarations: all of it is skipped.
-SKIPPED = [
-    "<!-- a comment -->", "<!---->", "<!-- - <!ELEMENT> ' % -->", "<!--名-->", "<?p?>", "<?p q ?r? > ?>", "<?名 a?>",
-    "<!ATTLIST a x CDATA #IMPLIED>", "<!ATTLIST b\ty (p|q) 'p' z NMTOKENS #IMPLIED >", "<!ATTLIST c w CDATA \"> '\">",
-    "<!ENTITY t 'text'>", "<!ENTITY u \"<em>'</em>\" >", "<!ENTITY v SYSTEM 'v.xml'>", "<!NOTATION n PUBLIC 'n'>", "<!NOTATION m SYSTEM \"m\">",
-]
-TEXT_DECLARATIONS = ["<?xml version='1.0' encoding='UTF-8'?>", '<?xml encoding="utf-8" ?>', "<?xml\nversion = \"1.0\" encoding\t='utf-8'?>"]
 
 
 def space():
@@ -201,8 +191,8 @@ def first_invalid(models, tree, path):
 
 # The exit status of `valid`, and its output.
 def answer(program, root):
-    ran = subprocess.run([program, "valid", "a.dtd", root, "d.xml"], capture_output=True)
-    return (ran.returncode, ran.stdout.decode())
+    ran = subprocess.run([program, "valid", "a.dtd", root, "d.xml"], capture_output=True, text=True)
+    return (ran.returncode, ran.stdout)
 
 
 # What `valid` is to answer where this list, or none, is the first that isn't valid.
@@ -224,9 +214,8 @@ def changed(text, letters):
 
 # Whether a type is declared twice, or a name listed twice in a mixed model: a fault, though xmllint reads it.
 def is_doubled(text):
-    text = re.sub(r"<!--.*?-->", "", text, flags=re.S)
-    declared = re.findall(r"<!ELEMENT\s+([\w.·-]+)", text)
-    listed = [re.findall(r"[\w.·-]+", names) for names in re.findall(r"#PCDATA([^)]*)", text)]
+    declared = re.findall(r"<!ELEMENT\s+(\w+)", text)
+    listed = [re.findall(r"\w+", names) for names in re.findall(r"#PCDATA([^)]*)", text)]
     return any(len(set(names)) < len(names) for names in [declared] + listed)
 
 
@@ -235,17 +224,17 @@ def is_document(path):
 
 
 def is_dtd(path):
-    ran = subprocess.run(["xmllint", "--noout", "--dtdvalid", path, "e.xml"], capture_output=True)
-    return b"Could not parse DTD" not in ran.stderr
+    ran = subprocess.run(["xmllint", "--noout", "--dtdvalid", path, "e.xml"], capture_output=True, text=True)
+    return "Could not parse DTD" not in ran.stderr
 
 
 # How many texts the program takes for a document, or for a DTD, and xmllint doesn't, or the other way round.
 def compare_changed(program, counts):
     differences = 0
     write("e.xml", "<a/>")
-    kinds = [("document", "d.xml", "<>/ab x\n]é", 7, "document syntax"), ("dtd", "a.dtd", "<!ELEMNTPYab>()|,?*+# -'\"·名\n", 6, "dtd (syntax|twice|mixed-twice)")]
+    kinds = [("document", "d.xml", "<>/ab x\n]", 7, "document syntax"), ("dtd", "a.dtd", "<!ELEMNTPYab>()|,?*+# \n", 6, "dtd (syntax|twice|mixed-twice)")]
     for kind, path, letters, status, refusal in kinds:
-        good = open(path, newline="", encoding="utf-8").read()
+        good = open(path, newline="").read()
         for _ in range(12):
             text = changed(good, letters)
             write(path, text)
@@ -265,38 +254,26 @@ def compare_changed(program, counts):
 # Whether `show` gives the document back.
 def is_shown(program, root, text):
     ran = subprocess.run([program, "session", "a.dtd", root, "d.xml"], input=b"show\n", capture_output=True)
-    data = text.encode()
-    return (ran.returncode, ran.stdout) == (0, b"show %d\n%s\n" % (len(data), data))
+    return (ran.returncode, ran.stdout) == (0, f"show {len(text)}\n{text}\n".encode())
 
 
 def write(path, text):
-    with open(path, "w", newline="", encoding="utf-8") as file:
+    with open(path, "w", newline="") as file:
         file.write(text)
 
 
 # What xmllint says of the document: whether it is valid, nothing where a model isn't deterministic, or another fault.
 def xmllint(path):
-    ran = subprocess.run(["xmllint", "--noout", "--dtdvalid", "a.dtd", path], capture_output=True)
-    if b"not determinist" in ran.stderr:
+    ran = subprocess.run(["xmllint", "--noout", "--dtdvalid", "a.dtd", path], capture_output=True, text=True)
+    if "not determinist" in ran.stderr:
         return None
     return {0: True, 3: False}.get(ran.returncode, f"status {ran.returncode}")
 
 
-# The text of a DTD: its declarations in order, among what is skipped.
-def dtd_text(models):
-    text = random.choice(["", "", "\ufeff"]) + random.choice(["", "", random.choice(TEXT_DECLARATIONS)])
-    for name, content in models.items():
-        while random.random() < 0.3:
-            text += space() + random.choice(SKIPPED)
-        text += f"{space()}<!ELEMENT {name} {specification(content)}{space()}>"
-    return text + space()
-
-
 def round_of(program, counts):
-    NAMES[:] = random.sample(ALL_NAMES, 5)
     declared = random.sample(NAMES, random.randint(1, len(NAMES)))
     models = {name: model() for name in declared}
-    write("a.dtd", dtd_text(models))
+    write("a.dtd", "".join(f"{space()}<!ELEMENT {name} {specification(content)}{space()}>" for name, content in models.items()))
     differences = 0
     for _ in range(12):
         tree = element(models, random.choice(declared), random.randint(1, 4))
@@ -309,14 +286,14 @@ def round_of(program, counts):
         counts["invalid" if path else "valid"] += 1
         counts["xmllint"] += theirs is not None
         # xmllint isn't told the root's name.
-        root = random.choice([tree[0]] * 9 + list(NAMES))
+        root = random.choice([tree[0]] * 9 + NAMES)
         want = judgement(path if root == tree[0] else ".")
         got = answer(program, root)
         shown = is_shown(program, root, text)
         if got != want or theirs not in (None, path is None) or not shown:
             differences += 1
             print(f"got {got!r}, want {want!r}, xmllint {theirs}, given back: {shown}, root {root}")
-            print(open("a.dtd", encoding="utf-8").read(), open("d.xml", encoding="utf-8").read(), sep="\n")
+            print(open("a.dtd").read(), open("d.xml").read(), sep="\n")
     return differences + compare_changed(program, counts)
 
 

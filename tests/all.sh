@@ -65,5 +65,5 @@ count "$log"
 }
 
 check 900 tests/program.sh
-skip "the comparison with xmllint" python3 xmllint || check 300 python3 tests/against_xmllint.py crates/pvtag/out/pvtag 10000 1 60
+skip "the comparison with xmllint" python3 xmllint || check 300 python3 tests/against_xmllint.py crates/pvtag/out/pvtag 200 1 120
 finish
