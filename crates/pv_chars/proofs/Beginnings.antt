@@ -1,12 +1,9 @@
--- What a text begins with, where white space or a name stands in front.
-use Rattle.std.proofs.Common.{◌≡◌, ℕ, List, [], ◌∷◌, ◌++◌, Bool, true, false, ◌&&◌, ◌||◌, ◌==◌, None, refl, sym, subst}
+-- What a text begins with, where white space stands in front.
+use Rattle.std.proofs.Common.{◌≡◌, ℕ, List, [], ◌∷◌, ◌++◌, Bool, true, false, ◌||◌, ◌==◌, refl, sym, subst}
 use Rattle.std.proofs.lemmas.Bool.Decides.{Decides-eqb}
 use Rattle.std.specs.List.{list_all}
-use Rattle.std.specs.Prelude.{nat_le}
 use Rattle.std.proofs.lemmas.Bool.{and_parts}
 use Rattle.pv_chars.specs.Spaces.{is_space, IsSpace, IsOptionalSpace}
-use Rattle.pv_chars.specs.PlainNames.{is_plain_name_start, is_plain_name_byte, IsPlainName, MAX_NAME_BYTES}
-use Rattle.pv_chars.specs.Scan.{after_bytes}
 use Rattle.pv_chars.proofs.Scanning.{begins}
 
 -- none of the four white characters is one of these
@@ -26,9 +23,6 @@ no_space_by p none b false false false false e f g h white = cc
 pub no_space : (p : ℕ → Bool) → HasNoSpace p → (b : ℕ) → is_space b ≡ true → p b ≡ false
 no_space p none b white = no_space_by p none b (b == 32) (b == 9) (b == 13) (b == 10) refl refl refl refl white
 
-pub names_have_no_space : HasNoSpace is_plain_name_byte
-names_have_no_space = record { space = refl; tab = refl; return = refl; feed = refl }
-
 -- what begins no text doesn't begin it behind space either
 pub begins_behind : (p : ℕ → Bool) → HasNoSpace p → (space rest : List ℕ) → IsOptionalSpace space → begins p rest ≡ false → begins p (space ++ rest) ≡ false
 begins_behind p none [] rest s e = e
@@ -42,19 +36,3 @@ begins_in_space p none (b ∷ bs) rest s = no_space p none b (and_parts (is_spac
 pub unlike : (p : ℕ → Bool) (b : ℕ) (c : Bool) (other : ℕ → Bool) → p b ≡ true → (other b ≡ true → p b ≡ false) → other b ≡ c → c ≡ false
 unlike p b true other is apart e = let never = apart e in cc
 unlike p b false other is apart e = refl
-
-start_of : (b : ℕ) (bs : List ℕ) → IsPlainName (b ∷ bs) → is_plain_name_start b ≡ true
-start_of b bs plain = (and_parts (is_plain_name_start b) (list_all is_plain_name_byte bs) (and_parts (is_plain_name_start b && list_all is_plain_name_byte bs) (nat_le _ MAX_NAME_BYTES) plain).0).0
-
-pub name_begins : (name rest : List ℕ) → IsPlainName name → begins is_space (name ++ rest) ≡ false
-name_begins [] rest plain = cc
-name_begins (b ∷ bs) rest plain = unlike is_plain_name_start b (is_space b) is_space (start_of b bs plain) (no_space is_plain_name_start record { space = refl; tab = refl; return = refl; feed = refl } b) refl
-
-unequal : (c b : ℕ) (same : Bool) → is_plain_name_start b ≡ true → is_plain_name_start c ≡ false → (c == b) ≡ same → same ≡ false
-unequal c b true is other e = let at : is_plain_name_start c ≡ is_plain_name_start b = (λ i. is_plain_name_start ((Decides-eqb c b).0 e i)) in cc
-unequal c b false is other e = refl
-
--- a byte that begins no name doesn't stand in front of one
-pub name_not_after : (front : ℕ) (more name rest : List ℕ) → is_plain_name_start front ≡ false → IsPlainName name → after_bytes (front ∷ more) (name ++ rest) ≡ None
-name_not_after front more [] rest other plain = cc
-name_not_after front more (b ∷ bs) rest other plain = rw (unequal front b (front == b) (start_of b bs plain) other refl) refl

@@ -1,17 +1,13 @@
 -- What the scanning functions say of a text and its parts: what they take is spelled so, and what is spelled so they take.
-use Rattle.std.proofs.Common.{◌≡◌, ◌≢◌, Bor, ℕ, suc, ◌+◌, List, [], ◌∷◌, ◌++◌, length, take, drop, Bool, true, false, ◌&&◌, ◌==◌, cond, Option, Some, None, refl, sym, ap, ◌∙◌, add-one, eq-eqb}
-use Rattle.std.proofs.lemmas.List.{take_at, drop_at, take-append-drop}
+use Rattle.std.proofs.Common.{◌≡◌, ◌≢◌, Bor, ℕ, ◌+◌, List, [], ◌∷◌, ◌++◌, take, drop, Bool, true, false, ◌==◌, cond, Option, Some, None, refl, sym, ap, ◌∙◌, add-one, eq-eqb}
 use Rattle.std.proofs.lemmas.Bool.Decides.{Decides-eqb}
-use Rattle.std.proofs.lemmas.Option.{cond_some}
 use Rattle.std.specs.List.{list_all}
 use Rattle.std.specs.Option.{MatchOption, option_map}
 use Rattle.pv_chars.proofs.Options.{match_read}
-use Rattle.std.specs.Prelude.{nat_le}
 use Rattle.std.proofs.lemmas.Bool.{and_parts}
 pub use Rattle.pv_chars.specs.Spaces.{begins, TakesSpace, TakesBlank}
 use Rattle.pv_chars.specs.Spaces.{is_space, IsSpace, IsOptionalSpace}
-use Rattle.pv_chars.specs.PlainNames.{is_plain_name_start, is_plain_name_byte, is_plain_name, IsPlainName, MAX_NAME_BYTES}
-use Rattle.pv_chars.specs.Scan.{space_length, after_space, after_blank, plain_name_length, plain_name_at, short_plain_name, after_bytes}
+use Rattle.pv_chars.specs.Scan.{space_length, after_space, after_blank, after_bytes}
 
 space_step : (b : ℕ) (bs : List ℕ) (white : Bool) → is_space b ≡ white → TakesSpace bs (after_space bs) → TakesSpace (b ∷ bs) (cond white (after_space bs) (b ∷ bs))
 space_step b bs true is below = record { space = b ∷ below.space; optional = rw is below.optional; whole = ap (λ r. b ∷ r) below.whole; ends = below.ends }
@@ -104,59 +100,6 @@ after_bytes_is front bytes None none = by (after_bytes front bytes) refl
     by None e = sym e
     by (Some rest) e = absurd (none rest (after_bytes_takes front bytes rest e))
 
--- A plain name stands before the rest, and all of it.
-pub record TakesPlainName (bytes name rest : List ℕ) : Type 0 where
-  pub plain : IsPlainName name
-  pub whole : bytes ≡ name ++ rest
-  pub ends : begins is_plain_name_byte rest ≡ false
-
--- so many name bytes stand in front, and no more
-record CountsNameBytes (bytes : List ℕ) (count : ℕ) : Type 0 where
-  in_name : list_all is_plain_name_byte (take count bytes) ≡ true
-  as_many : length (take count bytes) ≡ count
-  ends : begins is_plain_name_byte (drop count bytes) ≡ false
-
-length_step : (b : ℕ) (bs : List ℕ) (in_name : Bool) → is_plain_name_byte b ≡ in_name → CountsNameBytes bs (plain_name_length bs) → CountsNameBytes (b ∷ bs) (cond in_name (plain_name_length bs + 1) 0)
-length_step b bs true is below = rw add-one record { in_name = rw is below.in_name; as_many = ap suc below.as_many; ends = below.ends }
-length_step b bs false is below = record { in_name = refl; as_many = refl; ends = is }
-
-name_length_counts : (bytes : List ℕ) → CountsNameBytes bytes (plain_name_length bytes)
-name_length_counts [] = record { in_name = refl; as_many = refl; ends = refl }
-name_length_counts (b ∷ bs) = length_step b bs (is_plain_name_byte b) refl (name_length_counts bs)
-
-pub starts_in_plain_name : (b : ℕ) → is_plain_name_start b ≡ true → is_plain_name_byte b ≡ true
-starts_in_plain_name b e = rw e refl
-
-plain_name_length-append : (name rest : List ℕ) → list_all is_plain_name_byte name ≡ true → begins is_plain_name_byte rest ≡ false → plain_name_length (name ++ rest) ≡ length name
-plain_name_length-append [] [] all ends = refl
-plain_name_length-append [] (b ∷ bs) all ends = rw ends refl
-plain_name_length-append (b ∷ bs) rest all ends = let here = and_parts (is_plain_name_byte b) (list_all is_plain_name_byte bs) all in rw (here.0, plain_name_length-append bs rest here.1 ends, add-one) refl
-
 pub chosen : {A : Type 0} (test : Bool) (o : Option A) (y : A) → cond test o None ≡ Some y → (test ≡ true) × (o ≡ Some y)
 chosen true o y e = (refl, e)
 chosen false o y e = cc
-
-name_found : (b : ℕ) (bs name rest : List ℕ) → is_plain_name_start b ≡ true → nat_le (suc (plain_name_length bs)) MAX_NAME_BYTES ≡ true → (b ∷ take (plain_name_length bs) bs ≡ name) → drop (plain_name_length bs) bs ≡ rest → TakesPlainName (b ∷ bs) name rest
-name_found b bs name rest start short is_name is_rest =
-    let counts = name_length_counts bs in
-    let plain : is_plain_name (b ∷ take (plain_name_length bs) bs) ≡ true = rw (start, counts.in_name, counts.as_many) short in
-    record { plain = rw (← is_name) plain; whole = rw (← is_name, ← is_rest) (ap (λ r. b ∷ r) (sym (take-append-drop (plain_name_length bs) bs))); ends = rw (← is_rest) counts.ends }
-
-pub plain_name_at_takes : (bytes name rest : List ℕ) → plain_name_at bytes ≡ Some (name, rest) → TakesPlainName bytes name rest
-unfolding plain_name_at
-plain_name_at_takes [] name rest e = cc
-plain_name_at_takes (b ∷ bs) name rest e =
-    let start = chosen (is_plain_name_start b) (short_plain_name (plain_name_length (b ∷ bs)) (b ∷ bs)) (name, rest) e in
-    let count : plain_name_length (b ∷ bs) ≡ suc (plain_name_length bs) = rw (starts_in_plain_name b start.0, add-one) refl in
-    let short = cond_some _ _ _ (rw count at start.1) in
-    let halves : (b ∷ take (plain_name_length bs) bs, drop (plain_name_length bs) bs) ≡ (name, rest) = short.1 in
-    name_found b bs name rest start.0 short.0 (ap (λ (h : List ℕ × List ℕ). h.0) halves) (ap (λ (h : List ℕ × List ℕ). h.1) halves)
-
-pub plain_name_at-append : (name rest : List ℕ) → IsPlainName name → begins is_plain_name_byte rest ≡ false → plain_name_at (name ++ rest) ≡ Some (name, rest)
-unfolding plain_name_at
-plain_name_at-append [] rest plain ends = cc
-plain_name_at-append (b ∷ bs) rest plain ends =
-    let parts = and_parts (is_plain_name_start b && list_all is_plain_name_byte bs) (nat_le (length (b ∷ bs)) MAX_NAME_BYTES) plain in
-    let front = and_parts (is_plain_name_start b) (list_all is_plain_name_byte bs) parts.0 in
-    let count = plain_name_length-append bs rest front.1 ends in
-    rw (front.0, count, add-one, parts.1, take_at bs rest (length bs) refl, drop_at bs rest (length bs) refl) refl

@@ -1,6 +1,5 @@
 pub mod Spaces
 pub mod Characters
-pub mod PlainNames
 pub mod Names
 pub mod Fronts
 pub mod Markup

@@ -16,7 +16,6 @@ mod lists;
 pub mod markup;
 mod memory;
 mod names;
-mod plain_names;
 pub mod references;
 pub mod scan;
 mod texts;
@@ -28,7 +27,6 @@ pub use errors::TextError;
 pub use lists::{Bytes, List, Numbers, bytes_of};
 pub use memory::NoMemory;
 pub use names::{is_name, name_at};
-pub use plain_names::plain_name;
 pub use texts::{Units, plain_units};
 pub use unit_text::text_units;
 

@@ -1,11 +1,9 @@
-//! Parts of a text, read from the left: white space, names and fixed bytes.
+//! Parts of a text, read from the left: white space and fixed bytes.
 
 ghost use Rattle.std.specs.Prelude.{◌≡◌, ◌≢◌, ◌≤◌, ◌<◌, ◌+◌, ℕ, false, List, ◌++◌, length, take, drop, IfSome, MatchOption};
 ghost use Rattle.std.specs.Option.{option_map};
 ghost use Rattle.pv_chars.specs.Spaces.{is_space, begins, IsOptionalSpace, TakesSpace, TakesBlank};
-ghost use Rattle.pv_chars.specs.Scan.{space_length, after_space, after_blank, plain_name_length, plain_name_at, after_bytes};
-
-use crate::plain_names::{MAX_NAME_BYTES, is_plain_name_byte, is_plain_name_start};
+ghost use Rattle.pv_chars.specs.Scan.{space_length, after_space, after_blank, after_bytes};
 
 /// White space of XML 1.0, section 2.3.
 pub fn is_space(b: u8) -> bool
@@ -51,38 +49,6 @@ pub fn after_blank(bytes: &[u8]) -> Option<&[u8]>
 {
     match bytes {
         [b, rest @ ..] if is_space(*b) => Some(after_space(rest)),
-        _ => None,
-    }
-}
-
-fn plain_name_length(bytes: &[u8]) -> usize
-    ensures value { result ≡ plain_name_length bytes.now }
-    ensures within { result ≤ length bytes.now }
-{
-    let mut count = 0;
-    for b in bytes {
-        if !is_plain_name_byte(*b) {
-            return count;
-        }
-        count += 1;
-    }
-    count
-}
-
-/// The longest name at the front, and what stands after it; none where it is no plain name.
-#[tactic(auto, unfolding(crate::specs::Scan::plain_name_at))]
-pub fn plain_name_at(bytes: &[u8]) -> Option<(&[u8], &[u8])>
-    ensures name { option_map (λ r. (r.0.now, r.1.now)) result ≡ plain_name_at bytes.now }
-    ensures within { IfSome result (λ r. length r.1.now ≤ length bytes.now) }
-{
-    match bytes {
-        [b, ..] if is_plain_name_start(*b) => {
-            let count = plain_name_length(bytes);
-            if count > MAX_NAME_BYTES {
-                return None;
-            }
-            Some(bytes.split_at(count))
-        }
         _ => None,
     }
 }

@@ -6,7 +6,7 @@ use crate::unit_text::Units;
 use crate::utf8::char_at;
 use crate::{
     Numbers, TextError, are_chars, bytes_of, is_char, is_name, is_name_char, is_name_start,
-    plain_name, plain_units, text_units,
+    plain_units, text_units,
 };
 use std::test::Fail;
 
@@ -208,5 +208,5 @@ fn space(rt: HostRuntime) {
     assert!(rt; space_length(b" \t\r\nx ") == 4);
     assert!(rt; after_blank(b" x") == Some(b"x".as_slice()));
     assert!(rt; are_chars("текст €\t".as_bytes()));
-    assert!(rt; !are_chars(b"a\x00") && !plain_name(b"a:b"));
+    assert!(rt; !are_chars(b"a\x00"));
 }
