@@ -32,7 +32,7 @@ root_invalid g root doc bad = record {
 -- the others come behind it
 pub below_invalid : {M : Type 0} (g : PlainDtd) (root path : List ℕ) (doc : PlainDoc M) → IsRootElement root doc.root → IsFirstNot (IsValidList g root) (lists_at (0 ∷ []) doc.root) path → IsFirstNot (IsValidList g root) (lists_of doc) path
 below_invalid g root path doc is f =
-    finds_behind g root (record { path = []; owner = the_document; kids = tree doc.root no_trees } ∷ []) (lists_at (0 ∷ []) doc.root) [] path true ((is, refl), tt) f
+    finds_behind (IsValidList g root) (record { path = []; owner = the_document; kids = tree doc.root no_trees } ∷ []) (lists_at (0 ∷ []) doc.root) [] path true ((is, refl), tt) f
 
 pub all_valid : {M : Type 0} (g : PlainDtd) (root : List ℕ) (doc : PlainDoc M) → IsTrue (is_legal doc.root) → IsRootElement root doc.root → AllByRecursion (IsValidList g root) (lists_at (0 ∷ []) doc.root) → IsValid g root (view doc.root)
 all_valid g root doc legal is all = (valid_lists g root doc (legal_texts doc.root legal)).0 ((is, refl), all)

@@ -1,6 +1,7 @@
 pub mod Plain
 pub mod View
 pub mod Words
+pub mod Heads
 pub mod Tokens
 pub mod Lists
 pub mod Search

@@ -66,7 +66,7 @@ fn has_invalid(
     tokens: &mut Vec<Token>,
 ) -> Result<bool, NoMemory>
     requires { nodes_in (plain node.now) ≤ MAX_NODES }
-    ensures { (root : List ℕ) → IfOk result (Finds (plain_dtd dtd.now) root (lists_at places.old.items (plain node.now)) places.old.items places.new.items) }
+    ensures { (root : List ℕ) → IfOk result (Finds (IsValidList (plain_dtd dtd.now) root) (lists_at places.old.items (plain node.now)) places.old.items places.new.items) }
 {
     let Node::Elem { name, kids, .. } = node else {
         return Ok(false);
@@ -87,7 +87,7 @@ fn has_invalid_kid(
     tokens: &mut Vec<Token>,
 ) -> Result<bool, NoMemory>
     requires { nodes_in_all (forest kids.now) ≤ MAX_NODES }
-    ensures { (root : List ℕ) → IfOk result (Finds (plain_dtd dtd.now) root (lists_from places.old.items 0 (forest kids.now)) places.old.items places.new.items) }
+    ensures { (root : List ℕ) → IfOk result (Finds (IsValidList (plain_dtd dtd.now) root) (lists_from places.old.items 0 (forest kids.now)) places.old.items places.new.items) }
 {
     for (i, kid) in kids.iter().enumerate() {
         places.push(i as u32)?;

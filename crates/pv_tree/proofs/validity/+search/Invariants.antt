@@ -2,7 +2,7 @@ use Rattle.std.proofs.Common.{◌≡◌, ◌≤◌, ℕ, List, Bool, drop}
 use Rattle.pv_dtd.specs.PlainForms.{plain_dtd}
 use Rattle.pv_tree.specs.Plain.{nodes_in_all}
 use Rattle.pv_tree.specs.Legal.{MAX_NODES}
-use Rattle.pv_tree.specs.Lists.{lists_from}
+use Rattle.pv_tree.specs.Lists.{IsValidList, lists_from}
 use Rattle.pv_tree.specs.PlainForms.{forest}
 use Rattle.pv_tree.specs.Search.{Finds}
 use Rattle.pv_tree.proofs.validity.+search.Given as goal
@@ -12,5 +12,5 @@ abbrev pub invariant-has_invalid_kid-loop-i : goal.invariant-has_invalid_kid-loo
 invariant-has_invalid_kid-loop-i l = record {
   same_places : l.places.items ≡ l.fn.places.items;
   few_nodes : nodes_in_all (forest (drop l.i l.kids)) ≤ MAX_NODES;
-  found : (root new : List ℕ) (b : Bool) → Finds (plain_dtd l.dtd) root (lists_from l.places.items l.i (forest (drop l.i l.kids))) l.places.items new b → Finds (plain_dtd l.dtd) root (lists_from l.places.items 0 (forest l.kids)) l.places.items new b;
+  found : (root new : List ℕ) (b : Bool) → Finds (IsValidList (plain_dtd l.dtd) root) (lists_from l.places.items l.i (forest (drop l.i l.kids))) l.places.items new b → Finds (IsValidList (plain_dtd l.dtd) root) (lists_from l.places.items 0 (forest l.kids)) l.places.items new b;
 }
