@@ -7,12 +7,14 @@ pub mod Deep
 pub mod Depth
 pub mod Derived
 pub mod DocLists
+pub mod Following
 pub mod FromWords
 pub mod Grow
 pub mod Growing
 pub mod HedgeLists
 pub mod Hedges
 pub mod Kept
+pub mod Known
 pub mod LeftOut
 pub mod ListDerivations
 pub mod LiveFacts
@@ -36,5 +38,8 @@ pub mod TreeLists
 pub mod TreeWords
 pub mod ValidLists
 pub mod Verdict
+pub mod VerdictHeads
+pub mod VerdictLists
+pub mod VerdictWords
 pub mod Weights
 pub mod WordDerivations

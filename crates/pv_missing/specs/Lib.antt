@@ -5,6 +5,8 @@ pub mod Filling
 pub mod Covering
 pub mod LiveWords
 pub mod Verdicts
+pub mod WordVerdicts
+pub mod Widths
 pub mod Missing
 pub mod Levels
 pub mod Weighing
@@ -12,3 +14,5 @@ pub mod SameMissing
 pub mod WordLaws
 pub mod ListLaws
 pub mod DocumentLaws
+pub mod VerdictLaws
+pub mod PlainForms

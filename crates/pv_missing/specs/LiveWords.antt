@@ -1,5 +1,5 @@
 -- Live words.
-use Rattle.std.specs.Prelude.{List, [], length, ℕ, ◌∷◌, ◌≡◌}
+use Rattle.std.specs.Prelude.{List, [], length, ℕ, ◌<◌, ◌∷◌, ◌≡◌}
 use Rattle.std.specs.List.{AllByRecursion}
 use Rattle.pv_model.specs.Plain.{PlainToken, named, other, text}
 use Rattle.pv_dtd.specs.Plain.{PlainDtd}
@@ -15,6 +15,12 @@ pub data IsLiveWord (g : PlainDtd) : List PlainToken → List PlainToken → Typ
       IsLiveWord g w w' → IsLiveWord g (named y ∷ w) (other ∷ w')
   live_text : (w w' : List PlainToken) → IsLiveWord g w w' → IsLiveWord g (text ∷ w) (text ∷ w')
   live_other : (w w' : List PlainToken) → IsLiveWord g w w' → IsLiveWord g (other ∷ w) (other ∷ w')
+
+-- the DTD has the name
+abbrev pub IsKnownToken : PlainDtd → PlainToken → Type 0
+IsKnownToken g (named y) = y < length g.names
+IsKnownToken g text = Unit {0}
+IsKnownToken g other = Unit {0}
 
 -- each name in the word is productive
 abbrev pub IsProductiveToken : PlainDtd → PlainToken → Type 0

@@ -1,5 +1,6 @@
 -- The verdict of a list.
-use Rattle.std.specs.Prelude.{List, Some, [], ℕ, ◌∷◌, ◌≡◌}
+use Rattle.std.specs.Prelude.{Bool, List, MatchOption, Option, Some, [], count_by, false, true, ℕ, ◌∷◌, ◌≡◌}
+use Rattle.std.specs.List.{AllByRecursion}
 use Rattle.pv_model.specs.Plain.{PlainToken, empty}
 use Rattle.pv_dtd.specs.Plain.{PlainDtd, model_of, number_of}
 use Rattle.pv_tree.specs.Lists.{IsFirstNot, IsValidList, Listed, Owner, an_element, the_document}
@@ -58,6 +59,34 @@ AreVerdicts g root (list ∷ lists) vs = (v : Verdict) × (rest : List Verdict) 
 -- the path of the first impossible list
 abbrev pub IsFirstImpossible : {M : Type 0} → PlainDtd → List ℕ → List (Listed M) → List ℕ → Type 0
 IsFirstImpossible g root lists path = IsFirstNot (IsLive g root) lists path
+
+abbrev pub is_possible : Verdict → Bool
+is_possible verdict.Valid = false
+is_possible verdict.Possible = true
+is_possible verdict.Impossible = false
+
+-- how many of the verdicts are Possible
+abbrev pub possible_in : List Verdict → ℕ
+possible_in vs = count_by is_possible vs
+
+-- the lists have verdicts, and so many of these are Possible
+pub record HavePossible {M : Type 0} (g : PlainDtd) (root : List ℕ) (lists : List (Listed M)) (n : ℕ)
+    : Type 0 where
+  pub verdicts : List Verdict
+  pub are_verdicts : AreVerdicts g root lists verdicts
+  pub count : n ≡ possible_in verdicts
+
+-- verdicts of lists, and the path of the first impossible list, where there is one
+pub record PlainVerdicts : Type 0 where
+  pub verdicts : List Verdict
+  pub first : Option (List ℕ)
+
+-- these lists have them
+pub record HaveVerdicts {M : Type 0} (g : PlainDtd) (root : List ℕ) (lists : List (Listed M))
+    (vs : PlainVerdicts) : Type 0 where
+  pub are_verdicts : AreVerdicts g root lists vs.verdicts
+  pub is_first : MatchOption vs.first (AllByRecursion (IsLive g root) lists)
+      (IsFirstImpossible g root lists)
 
 -- the owner's name is productive
 abbrev pub IsProductiveOwner : PlainDtd → Owner → Type 0

@@ -3,4 +3,5 @@
 pub mod documents;
 pub mod lists;
 pub mod proper;
+pub mod verdicts;
 pub mod words;

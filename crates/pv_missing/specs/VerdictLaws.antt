@@ -1,0 +1,34 @@
+-- Laws of verdicts, each a statement. M and N are types of marks.
+use Rattle.std.specs.Prelude.{List, ℕ, ◌↔◌, ◌≡◌}
+use Rattle.std.specs.List.{Contains}
+use Rattle.pv_dtd.specs.Plain.{PlainDtd}
+use Rattle.pv_tree.specs.Heads.{heads_of}
+use Rattle.pv_tree.specs.Lists.{Listed}
+use Rattle.pv_tree.specs.Words.{word_of}
+use Rattle.pv_missing.specs.Verdicts.{AreVerdicts, IsFirstImpossible, IsVerdict}
+use Rattle.pv_missing.specs.WordVerdicts.{HoldsOne, IsVerdictByWord, has_no_trees}
+use Rattle.pv_tree.specs.declared.nodes.Verdict.{Verdict}
+use Rattle.pv_tree.specs.declared.nodes.Verdict.TheVariants as verdict
+
+-- lists have at most one list of verdicts
+abbrev pub OneListOfVerdicts : (M : Type 0) → Type 0
+OneListOfVerdicts M = (g : PlainDtd) (root : List ℕ) (lists : List (Listed M)) (vs vs' : List Verdict) →
+    AreVerdicts g root lists vs → AreVerdicts g root lists vs' → vs ≡ vs'
+
+-- some verdict is Impossible exactly where there is a first impossible list
+abbrev pub ImpossibleHasFirst : (M : Type 0) → Type 0
+ImpossibleHasFirst M = (g : PlainDtd) (root : List ℕ) (lists : List (Listed M)) (vs : List Verdict) →
+    AreVerdicts g root lists vs →
+    Contains vs verdict.Impossible ↔ ((path : List ℕ) × IsFirstImpossible g root lists path)
+
+-- a verdict looks at the owner and at the heads of the kids alone
+abbrev pub VerdictByHeads : (M N : Type 0) → Type 0
+VerdictByHeads M N = (g : PlainDtd) (root : List ℕ) (list : Listed M) (other : Listed N) (v : Verdict) →
+    list.owner ≡ other.owner → heads_of list.kids ≡ heads_of other.kids →
+    IsVerdict g root list v ↔ IsVerdict g root other v
+
+-- and of these at the word, and at whether there are no kids of any kind
+abbrev pub VerdictByWord : (M : Type 0) → Type 0
+VerdictByWord M = (g : PlainDtd) (root : List ℕ) (list : Listed M) (v : Verdict) →
+    HoldsOne list.owner list.kids →
+    IsVerdict g root list v ↔ IsVerdictByWord g root list.owner (word_of g list.kids) (has_no_trees list.kids) v
