@@ -2,7 +2,7 @@
 
 ghost use Rattle.pv_cli.specs.Laws.{HasOneResponse, IsComplete, FaultsShow, HasOneOutput, JoinsReplies, EndsAtQuit};
 
-use pv_dtd::one_meaning_law;
+use pv_dtd::laws::one_meaning_law;
 use pv_io::Source;
 use pv_read::laws::one_document_law;
 use pv_tree::laws::valid_lists_law;

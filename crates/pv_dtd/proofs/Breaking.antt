@@ -1,5 +1,5 @@
 -- The rules that an item breaks behind earlier ones.
-use Rattle.std.proofs.Common.{◌≡◌, ◌≤◌, ◌+◌, ℕ, List, [], ◌∷◌, ◌++◌, length, Bool, true, false, not, ◌||◌, cond, is_some, Option, Some, None, refl, sym, ap, ◌∙◌, append-nil, length-append, arith}
+use Rattle.std.proofs.Common.{◌≡◌, ◌≤◌, ◌+◌, ℕ, List, [], ◌++◌, length, Bool, true, false, not, ◌||◌, cond, is_some, Some, None, refl, sym, ◌∙◌, length-append, arith}
 use Rattle.std.proofs.Math.Bool.{or-false}
 use Rattle.std.proofs.lemmas.Bool.{le-leb, leb-true}
 use Rattle.std.specs.Prelude.{nat_le}
@@ -7,8 +7,8 @@ use Rattle.std.specs.List.{list_any}
 use Rattle.std.specs.Str.{bytes_eq}
 use Rattle.pv_dtd.specs.Plain.{place_of}
 use Rattle.pv_dtd.specs.Facts.{are_distinct, MAX_TYPES, MAX_PARTS}
-use Rattle.pv_dtd.specs.Items.{NamedModel, Item, text_declaration, element, skipped, comment, instruction, declared_by, mentioned_by, parts_by, listed_by, listed_in_model}
-use Rattle.pv_dtd.specs.Kinds.{Kind, twice, mixed_twice, limit, declares_again, lists_twice, is_too_long, passes_limit}
+use Rattle.pv_dtd.specs.Items.{NamedModel, Item, element, declared_by, mentioned_by, parts_by, listed_by, listed_in_model}
+use Rattle.pv_dtd.specs.Kinds.{twice, mixed_twice, limit, declares_again, lists_twice, is_too_long, passes_limit}
 use Rattle.pv_dtd.specs.ItemReading.{broken_rule}
 use Rattle.pv_dtd.proofs.Places.{is_some-place}
 

@@ -1,15 +1,14 @@
 -- Characters, comments and processing instructions: what is read is one, and what is one is read.
-use Rattle.std.proofs.Common.{◌≡◌, ◌≢◌, ◌≤◌, ◌<◌, ℕ, zero, suc, List, [], ◌∷◌, ◌++◌, codes, length, map, Bool, true, false, ◌&&◌, not, cond, inl, inr, Option, Some, None, refl, sym, ap, ◌∙◌, subst, append-nil, append_assoc, length-append, arith}
+use Rattle.std.proofs.Common.{◌≡◌, ◌≢◌, ◌≤◌, ◌<◌, ℕ, List, [], ◌∷◌, ◌++◌, codes, length, map, Bool, true, false, ◌&&◌, not, cond, inl, inr, Option, Some, None, refl, sym, ap, ◌∙◌, subst, append-nil, length-append, arith}
 use Rattle.std.specs.Option.{MatchOption, IfSome}
 use Rattle.std.specs.Char.{to_ascii_lowercase}
-use Rattle.std.specs.Str.{bytes_eq}
 use Rattle.std.proofs.lemmas.Bool.{and_parts}
 use Rattle.std.proofs.lemmas.Slice.Eq.{bytes_eq-Decides}
 use Rattle.pv_chars.specs.Spaces.{is_space, IsOptionalSpace}
-use Rattle.pv_chars.specs.Characters.{is_char, IsChars, AreAll, TakesAll, BeginsNo}
+use Rattle.pv_chars.specs.Characters.{is_char, IsChars, TakesAll}
 use Rattle.pv_chars.specs.Names.{TakesName}
 use Rattle.pv_chars.specs.Fronts.{Begins, BeginsNone, Holds, EndsAt}
-use Rattle.pv_chars.specs.Markup.{IsComment, IsInstruction, IsBehindTarget, IsSpacedChars}
+use Rattle.pv_chars.specs.Markup.{IsComment, IsInstruction, IsBehindTarget}
 use Rattle.pv_chars.specs.Scan.{◌>>=◌, after_bytes}
 use Rattle.pv_chars.proofs.Scanning.{after_bytes_takes, after_bytes-append}
 use Rattle.pv_chars.proofs.CharacterLemmas.{PassScalars, AreAll-append, same_all, nothing_begins}
@@ -18,7 +17,6 @@ use Rattle.pv_chars.proofs.SpaceLemmas.{space_are_chars}
 use Rattle.pv_chars.proofs.MarkupLemmas.{comment_by, no_comment_start, no_comment_end, no_comment_text, no_comment_close, one_comment}
 use Rattle.pv_chars.proofs.InstructionLemmas.{spaced_by, behind_target_is, instruction_by, no_instruction_start, no_instruction_name, no_instruction_target, no_instruction_end, no_instruction_text, one_instruction}
 use Rattle.pv_dtd.specs.CharReading.{behind_all, is_nothing, is_chars, name_at, up_to_by, up_to, comment_at, may_follow_target, is_xml, instruction_at}
-use Rattle.pv_dtd.proofs.Binding.{same_some}
 use Rattle.pv_dtd.proofs.OneFront.{found, begun_is_read}
 use Rattle.pv_dtd.proofs.NameBytes.{behind_all_takes, name_at_takes, no_name}
 

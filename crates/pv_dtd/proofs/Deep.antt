@@ -1,10 +1,10 @@
 -- Parentheses that are open before the first '>'.
-use Rattle.std.proofs.Common.{◌≡◌, ◌<◌, ◌≤◌, ℕ, suc, ◌+◌, List, [], ◌∷◌, ◌++◌, codes, Bool, true, false, ◌||◌, ◌==◌, not, cond, Option, Some, None, refl, sym, ap, ◌∙◌, append_assoc, IsTrue, arith}
+use Rattle.std.proofs.Common.{◌≡◌, ◌<◌, ℕ, suc, ◌+◌, List, [], ◌∷◌, ◌++◌, codes, Bool, true, false, ◌||◌, ◌==◌, not, cond, Option, Some, None, refl, sym, ap, ◌∙◌, append_assoc, arith}
 use Rattle.std.specs.Prelude.{nat_lt, nat_eq}
 use Rattle.std.proofs.lemmas.Bool.{ltb-true, lt-ltb, or_right}
 use Rattle.std.proofs.lemmas.Bool.Decides.{Decides-eqb}
 use Rattle.pv_chars.specs.Scan.{after_bytes}
-use Rattle.pv_chars.proofs.Scanning.{after_bytes_takes, after_bytes-append}
+use Rattle.pv_chars.proofs.Scanning.{after_bytes_takes}
 use Rattle.pv_dtd.specs.Facts.{MAX_NESTING}
 use Rattle.pv_dtd.specs.Spelling.{is_one_of}
 use Rattle.pv_dtd.specs.Kinds.{IsTooDeep, how_many}

@@ -1,12 +1,10 @@
 -- Names that grow keep their numbers.
-use Rattle.std.proofs.Common.{◌≡◌, ℕ, suc, List, [], ◌∷◌, ◌++◌, length, map, unwrap_or, Some, refl, sym, ap, ◌∙◌, append_assoc, append-nil, subst}
+use Rattle.std.proofs.Common.{◌≡◌, ℕ, List, [], ◌∷◌, ◌++◌, map, unwrap_or, refl, sym, ap, ◌∙◌, append_assoc, append-nil, subst}
 use Rattle.std.proofs.lemmas.List.{map-append}
 use Rattle.std.proofs.lemmas.Grind.{flat_map-append}
-use Rattle.std.specs.List.{flat_map}
 use Rattle.pv_model.specs.Plain.{PlainPart, PlainParts, PlainModel, parts_of}
 use Rattle.pv_model.specs.Plain as plain
-use Rattle.pv_dtd.specs.Plain.{PlainDtd, place_of}
-use Rattle.pv_dtd.specs.Items.{NamedPart, NamedParts, no_parts, part, named_parts_of, NamedModel, Item, spelled_in, spelled_in_all, spelled_in_model, mentioned_in}
+use Rattle.pv_dtd.specs.Items.{NamedPart, named_parts_of, NamedModel, spelled_in, spelled_in_all, spelled_in_model, mentioned_in}
 use Rattle.pv_dtd.specs.Numbering.{number_among, with_numbers, all_with_numbers, model_with_numbers}
 use Rattle.pv_dtd.specs.Naming.{with_name, number_in, GoesOn, grown, NumbersNames, NumbersPart, NumbersParts, NumbersModel, NumbersModels}
 use Rattle.pv_dtd.proofs.Naming.{goes_on_then, with_name_goes_on, grown_goes_on, grown-append, place_goes_on, place-with_name}

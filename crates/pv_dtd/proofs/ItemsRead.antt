@@ -1,19 +1,17 @@
 -- Items: what is read is spelled so, and what is spelled so is read.
-use Rattle.std.proofs.Common.{◌≡◌, ◌≢◌, ◌≤◌, ◌<◌, ◌⊎◌, inl, inr, ℕ, suc, ◌+◌, ◌-◌, List, [], ◌∷◌, ◌++◌, length, take, codes, Bool, true, false, ◌&&◌, ◌==◌, not, cond, Option, Some, None, refl, sym, ap, ◌∙◌, append_assoc, length-append, subst, arith}
+use Rattle.std.proofs.Common.{◌≡◌, ◌⊎◌, inl, inr, ℕ, suc, ◌-◌, List, [], ◌∷◌, ◌++◌, length, take, codes, Bool, true, false, ◌&&◌, ◌==◌, not, Option, Some, None, refl, sym, ap, ◌∙◌, append_assoc, length-append, subst, arith}
 use Rattle.std.proofs.lemmas.Bool.Decides.{Decides-eqb}
 use Rattle.std.proofs.lemmas.Bool.{and_parts}
 use Rattle.std.proofs.lemmas.List.{take_at}
 use Rattle.std.specs.List.{list_all}
 use Rattle.pv_chars.specs.Spaces.{is_space, IsSpace, IsOptionalSpace}
 use Rattle.pv_chars.specs.Scan.{after_space, after_blank, after_bytes}
-use Rattle.pv_chars.proofs.Scanning.{begins, after_space_takes, after_space-append, after_blank_takes, after_blank-append, after_bytes_takes, after_bytes-append, chosen}
+use Rattle.pv_chars.proofs.Scanning.{after_space_takes, after_space-append, after_blank_takes, after_blank-append, after_bytes_takes, after_bytes-append, chosen}
 use Rattle.pv_chars.proofs.Beginnings.{no_space, begins_in_space, begins_behind}
-use Rattle.pv_chars.specs.Characters.{IsChars}
-use Rattle.pv_chars.specs.Markup.{IsComment, IsInstruction}
 use Rattle.pv_dtd.specs.CharReading.{name_at, is_chars, comment_at, instruction_at, text_declaration_at}
 use Rattle.pv_dtd.specs.Items.{NamedModel, Item, text_declaration, element, skipped, comment, instruction}
 use Rattle.pv_chars.specs.Declarations.{is_quote}
-use Rattle.pv_dtd.specs.Spelling.{Begins, Spells, SpellsElement, SpellsSkipped, MayStand, IsSkippedWord, IsQuotedText, is_one_of, may_not_be_skipped}
+use Rattle.pv_dtd.specs.Spelling.{Begins, Spells, SpellsElement, SpellsSkipped, MayStand, IsSkippedWord, is_one_of, may_not_be_skipped}
 use Rattle.pv_dtd.specs.ItemReading.{or_else, model_at, element_at, skipped_word, after_white, stop_at, where_it_is, after_stop, behind_chars, skipped_at, read_as, front_at, item_at}
 use Rattle.pv_dtd.specs.SoFar.{IsShallow, IsShallowItem}
 use Rattle.pv_dtd.proofs.Binding.{bound, same_some}

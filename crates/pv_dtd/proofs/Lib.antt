@@ -25,4 +25,9 @@ pub mod Growing
 pub mod SoFar
 pub mod TextMeaning
 pub mod Telling
+pub mod Numbered
+pub mod Among
+pub mod NamesKept
 pub mod Kept
+pub mod Proper
+pub mod ProductiveNames

@@ -1,5 +1,5 @@
 -- A content model that is read is spelled so.
-use Rattle.std.proofs.Common.{◌≡◌, ℕ, zero, suc, ◌≤◌, inl, inr, List, [], ◌∷◌, ◌++◌, length, codes, Bool, true, Option, Some, None, refl, sym, ap, ◌∙◌, subst, append_assoc}
+use Rattle.std.proofs.Common.{◌≡◌, ℕ, zero, suc, inl, inr, List, [], ◌∷◌, ◌++◌, length, codes, Option, Some, None, refl, sym, ap, ◌∙◌, subst, append_assoc}
 use Rattle.std.proofs.lemmas.Bool.{and_parts}
 use Rattle.std.specs.List.{list_all}
 use Rattle.pv_chars.specs.Spaces.{IsOptionalSpace}
@@ -8,8 +8,8 @@ use Rattle.pv_chars.proofs.Scanning.{after_space_takes, after_bytes_takes}
 use Rattle.pv_chars.specs.Names.{IsName}
 use Rattle.pv_dtd.specs.CharReading.{name_at}
 use Rattle.pv_dtd.specs.Facts.{MAX_NESTING}
-use Rattle.pv_dtd.specs.Items.{NamedPart, name, seq, choice, opt, star, plus, NamedModel, empty, any, mixed, children}
-use Rattle.pv_dtd.specs.Spelling.{SpellsPart, SpellsListed, SpellsMixed, SpellsModel, IsGroup, depth_of}
+use Rattle.pv_dtd.specs.Items.{NamedPart, name, seq, choice, opt, star, plus, NamedModel, mixed}
+use Rattle.pv_dtd.specs.Spelling.{SpellsPart, SpellsListed, SpellsMixed, SpellsModel, IsGroup}
 use Rattle.pv_dtd.specs.PartReading.{Reader, particle_at}
 use Rattle.pv_dtd.specs.ItemReading.{listed_by, listed_at, after_end, mixed_at, children_at, group_by, group_model_at, model_by, model_at}
 use Rattle.pv_dtd.specs.SoFar.{IsShallow}

@@ -1,5 +1,5 @@
 -- Names at the front of a text, and the bytes that may stand in a name.
-use Rattle.std.proofs.Common.{◌≡◌, ◌≢◌, ◌≤◌, ◌<◌, ◌⊎◌, inl, inr, ℕ, zero, suc, ◌+◌, ◌-◌, ◌*◌, ◌/◌, List, [], ◌∷◌, ◌++◌, length, take, drop, Bool, true, false, ◌==◌, ◌||◌, ◌&&◌, not, cond, subst, Option, Some, None, refl, sym, ap, ◌∙◌, append_assoc, length-append, arith}
+use Rattle.std.proofs.Common.{◌≡◌, ◌≢◌, ◌≤◌, ◌<◌, ◌⊎◌, inl, inr, ℕ, zero, suc, ◌+◌, ◌/◌, List, [], ◌∷◌, ◌++◌, length, Bool, true, false, ◌==◌, ◌||◌, ◌&&◌, not, cond, subst, Option, Some, None, refl, sym, ap, ◌∙◌, append_assoc, length-append, arith}
 use Rattle.std.specs.Prelude.{nat_le}
 use Rattle.std.specs.List.{list_all, range_with_len}
 use Rattle.std.proofs.lemmas.Bool.{and_parts, and_from, cases_lt, lt-ltb, le-ltb, le-leb, or_right}
@@ -8,14 +8,14 @@ use Rattle.std.proofs.lemmas.List.Folds.{list_all-append}
 use Rattle.std.proofs.lemmas.Str.{len_utf8_bounds, length-encode}
 use lib.Utf8.{encode, encodes, next}
 use Rattle.pv_chars.specs.Spaces.{is_space}
-use Rattle.pv_chars.specs.Characters.{is_name_start, is_name_char, is_char, BeginsWith, BeginsWithNone, BeginsNo, AreAll, TakesAll}
+use Rattle.pv_chars.specs.Characters.{is_name_start, is_name_char, BeginsWith, BeginsNo, TakesAll}
 use Rattle.pv_chars.specs.Names.{IsName, TakesName, BeginsNoName}
 use Rattle.pv_chars.specs.Scan.{after_bytes}
 use Rattle.pv_chars.specs.Utf8.{char_at}
 use Rattle.pv_chars.proofs.Scanning.{begins, chosen}
 use Rattle.pv_chars.proofs.Beginnings.{HasNoSpace, no_space}
 use Rattle.pv_chars.proofs.Utf8Lemmas.{char_at_takes, char_at-encode, begins_shorter}
-use Rattle.pv_chars.proofs.CharacterLemmas.{PassScalars, none_in_nothing, AreAll-append, AreAll-one, ends_at_other, ends_at_none, nothing_begins, same_all, cut_at}
+use Rattle.pv_chars.proofs.CharacterLemmas.{PassScalars, none_in_nothing, AreAll-append, AreAll-one, ends_at_other, ends_at_none, nothing_begins}
 use Rattle.pv_chars.proofs.NameLemmas.{name_chars_are_scalars, name_is_run, same_name}
 use Rattle.pv_chars.proofs.NameLemmas.{name_by as takes_by, no_name_by_start, no_name_by_none}
 use Rattle.pv_dtd.specs.CharReading.{behind_char, behind_all, name_by, name_at}

@@ -1,10 +1,10 @@
 -- A text has exactly one meaning.
-use Rattle.std.proofs.Common.{◌≡◌, ◌≢◌, ◌<◌, ◌≤◌, inl, inr, ℕ, zero, suc, List, [], ◌∷◌, ◌++◌, length, codes, Bool, true, false, not, IsTrue, is_some, cond, Option, Some, None, refl, sym, ap, ◌∙◌, append-nil, append_assoc, length-append, subst, arith}
+use Rattle.std.proofs.Common.{◌≡◌, ◌≢◌, ◌<◌, inl, inr, ℕ, zero, suc, List, [], ◌∷◌, ◌++◌, length, codes, Bool, true, false, not, IsTrue, is_some, cond, Option, Some, None, refl, sym, ap, ◌∙◌, append-nil, length-append, subst, arith}
 use Rattle.std.proofs.lemmas.Bool.{cases_order}
 use Rattle.pv_chars.specs.Spaces.{is_space, IsOptionalSpace}
 use Rattle.pv_chars.specs.Scan.{after_space}
 use Rattle.pv_chars.proofs.Scanning.{begins, after_space_takes, after_space-append}
-use Rattle.pv_dtd.specs.Items.{Item, text_declaration, element, skipped, comment, instruction, listed_by, declared_in, models_in, parts_of_models}
+use Rattle.pv_dtd.specs.Items.{Item, text_declaration, element, skipped, comment, instruction, declared_in, models_in, parts_of_models}
 use Rattle.pv_dtd.specs.Spelling.{Begins, Spells, IsSkippedWord}
 use Rattle.pv_dtd.specs.Kinds.{Kind, parameter, nesting, syntax, twice, mixed_twice, limit, HasParameter, IsTooDeep, HasFault, IsFirstFault, Breaks, rank, declares_again, lists_twice, passes_limit}
 use Rattle.pv_dtd.specs.Meaning.{is_place, HasPlace, is_front, Outcome, is_dtd, faulty, Means, ends, item, fault}

@@ -1,7 +1,7 @@
 -- A reference of a parameter entity, or a conditional section: what is read as one is one, and what is one is read.
-use Rattle.std.proofs.Common.{◌≡◌, ◌⊎◌, inl, inr, ℕ, List, [], ◌∷◌, ◌++◌, codes, Bool, true, false, Option, Some, None, is_some, refl, sym, ap, ◌∙◌, append_assoc}
+use Rattle.std.proofs.Common.{◌≡◌, ◌⊎◌, inl, inr, ℕ, List, ◌∷◌, ◌++◌, codes, true, Some, None, is_some, refl, ◌∙◌, append_assoc}
 use Rattle.pv_chars.specs.Scan.{after_bytes}
-use Rattle.pv_chars.proofs.Scanning.{after_bytes_takes, after_bytes-append}
+use Rattle.pv_chars.proofs.Scanning.{after_bytes_takes}
 use Rattle.pv_dtd.specs.Spelling.{IsSkippedWord, ends_or_refers}
 use Rattle.pv_dtd.specs.Kinds.{HasParameter, reference, section, inside}
 use Rattle.pv_dtd.specs.ItemReading.{or_else, skipped_word, where_it_is, declaration_word, inner_parameter_at, parameter_at}

@@ -1,5 +1,5 @@
 -- A content particle that is spelled is read, where what stands behind it can't go on with it.
-use Rattle.std.proofs.Common.{◌≡◌, ℕ, zero, suc, ◌≤◌, ◌<◌, List, [], ◌∷◌, ◌++◌, length, codes, ◌||◌, ◌==◌, Bool, false, Some, refl, sym, ap, ◌∙◌, append_assoc, length-append, eq-eqb, arith}
+use Rattle.std.proofs.Common.{◌≡◌, ℕ, zero, suc, ◌≤◌, ◌<◌, List, [], ◌∷◌, ◌++◌, length, codes, ◌||◌, ◌==◌, Bool, false, Some, refl, ap, ◌∙◌, append_assoc, length-append, eq-eqb, arith}
 use Rattle.std.proofs.lemmas.Bool.{or_parts}
 use Rattle.pv_chars.specs.Spaces.{is_space, IsOptionalSpace}
 use Rattle.pv_chars.specs.Scan.{after_space}

@@ -1,8 +1,8 @@
 -- How deep groups stand, by the parentheses that are open.
-use Rattle.std.proofs.Common.{◌≡◌, ◌<◌, ◌≤◌, ◌⊎◌, inl, inr, ℕ, suc, ◌+◌, max, List, [], ◌∷◌, ◌++◌, codes, Bool, true, false, ◌&&◌, ◌||◌, ◌==◌, not, cond, refl, sym, ap, ◌∙◌, append_assoc, subst, IsTrue, arith}
+use Rattle.std.proofs.Common.{◌≡◌, ◌<◌, inl, inr, ℕ, suc, ◌+◌, max, List, [], ◌∷◌, ◌++◌, codes, Bool, true, false, ◌||◌, ◌==◌, not, cond, refl, sym, ap, ◌∙◌, append_assoc, subst, arith}
 use Rattle.std.specs.Prelude.{nat_eq}
-use Rattle.std.specs.List.{list_all, list_any}
-use Rattle.std.proofs.lemmas.List.Folds.{list_all-append, list_any-append}
+use Rattle.std.specs.List.{list_all}
+use Rattle.std.proofs.lemmas.List.Folds.{list_any-append}
 use Rattle.std.proofs.lemmas.Bool.{and_parts, cases_order}
 use Rattle.std.proofs.lemmas.Bool.Decides.{Decides-eqb}
 use Rattle.pv_chars.specs.Spaces.{is_space, IsOptionalSpace}
@@ -10,7 +10,7 @@ use Rattle.pv_chars.proofs.Beginnings.{no_space}
 use Rattle.pv_chars.specs.Names.{IsName}
 use Rattle.pv_dtd.specs.Facts.{MAX_NESTING}
 use Rattle.pv_dtd.specs.Items.{NamedPart, name, seq, choice, opt, star, plus, NamedParts, no_parts, part, NamedModel, empty, any, mixed, children, Item, text_declaration, element, skipped, comment, instruction}
-use Rattle.pv_dtd.specs.Spelling.{Begins, SpellsPart, SpellsGroup, SpellsOthers, SpellsModel, SpellsElement, depth_of, depth_of_all, is_one_of}
+use Rattle.pv_dtd.specs.Spelling.{Begins, SpellsPart, SpellsGroup, SpellsOthers, SpellsElement, depth_of, depth_of_all, is_one_of}
 use Rattle.pv_dtd.specs.Kinds.{IsTooDeep, how_many}
 use Rattle.pv_dtd.proofs.NameBytes.{is_name_byte, name_bytes}
 use Rattle.pv_dtd.specs.SoFar.{IsShallow, IsShallowItem}

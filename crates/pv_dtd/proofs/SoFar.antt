@@ -1,5 +1,5 @@
 -- The items that were read, and what the rest means behind them.
-use Rattle.std.proofs.Common.{◌≡◌, ◌≢◌, ◌≤◌, ◌<◌, ◌+◌, ℕ, suc, List, [], ◌∷◌, ◌++◌, length, Bool, true, false, ◌&&◌, ◌||◌, not, is_some, cond, inl, inr, Option, Some, None, option_map, refl, sym, ap, ◌∙◌, length-append, append-nil, subst, arith}
+use Rattle.std.proofs.Common.{◌≡◌, ◌≢◌, ◌≤◌, ◌<◌, ◌+◌, ℕ, List, [], ◌∷◌, ◌++◌, length, Bool, true, false, ◌&&◌, not, is_some, Some, None, refl, sym, ap, ◌∙◌, length-append, append-nil, subst, arith}
 use Rattle.std.specs.Prelude.{nat_eq}
 use Rattle.std.proofs.lemmas.Grind.{flat_map-append}
 use Rattle.std.proofs.lemmas.List.Folds.{list_any-append}
@@ -10,18 +10,18 @@ use Rattle.std.specs.Str.{bytes_eq}
 use Rattle.std.specs.List.{flat_map, list_any}
 use Rattle.pv_chars.specs.Scan.{after_space}
 use Rattle.pv_dtd.specs.Facts.{are_distinct, MAX_TYPES, MAX_PARTS}
-use Rattle.pv_dtd.specs.Items.{NamedModel, Item, text_declaration, element, skipped, comment, instruction, declared_by, declared_in, model_in, models_in, mentioned_by, parts_by, parts_of_model, parts_of_models}
+use Rattle.pv_dtd.specs.Items.{NamedModel, Item, text_declaration, element, skipped, comment, instruction, declared_by, declared_in, model_in, models_in, mentioned_by, parts_by, parts_of_models}
 use Rattle.pv_dtd.specs.Kinds.{Kind, parameter, nesting, syntax, declares_again, is_too_long}
 use Rattle.pv_dtd.specs.Meaning.{is_place, is_front, Outcome, is_dtd, faulty, Means, ends, item, fault}
 use Rattle.pv_dtd.specs.Numbering.{numbered}
 use Rattle.pv_dtd.specs.Naming.{grown}
 use Rattle.pv_dtd.specs.ItemReading.{item_at, parameter_at, is_too_deep, early_kind, broken_rule}
-use Rattle.pv_dtd.specs.SoFar.{IsSound, AreSound, AreRuled, Declares}
+use Rattle.pv_dtd.specs.SoFar.{IsSound, AreSound, Declares}
 use Rattle.pv_dtd.specs.Plain.{place_of}
 use Rattle.pv_dtd.proofs.Places.{is_some-place}
 use Rattle.pv_dtd.proofs.Distinct.{bytes_eq-swap}
 use Rattle.pv_dtd.proofs.ItemsRead.{item_read}
-use Rattle.pv_dtd.proofs.Breaking.{Keeps, kept}
+use Rattle.pv_dtd.proofs.Breaking.{kept}
 use Rattle.pv_dtd.proofs.OneMeaning.{goes_to, all_space, no_item, rule_broken, no_rule_broken, early_fault, item_begins}
 
 -- Behind so many items, which declare these names, models and parts, the rest means what the text means.

@@ -1,12 +1,11 @@
 -- What the readers' answers tell of a text.
-use Rattle.std.proofs.Common.{◌≡◌, ◌≤◌, ℕ, List, [], ◌++◌, length, map, Result, Ok, Err, inl, inr, refl, sym, ap, ◌∙◌, subst, arith}
+use Rattle.std.proofs.Common.{◌≡◌, ◌≤◌, ℕ, List, [], length, map, Result, Ok, Err, inl, inr, refl, sym, ap, ◌∙◌, subst}
 use Rattle.std.specs.Result.{IfOk, IfErr}
 use Rattle.pv_model.specs.Plain.{PlainModel}
 use Rattle.pv_dtd.specs.Plain.{PlainDtd}
 use Rattle.pv_dtd.specs.Facts.{MAX_DTD_BYTES}
 use Rattle.pv_dtd.specs.Items.{NamedModel, Item, declared_in, models_in, mentioned_in}
-use Rattle.pv_dtd.specs.Kinds.{Kind, parameter, nesting, syntax, twice, mixed_twice, limit}
-use Rattle.pv_dtd.specs.Meaning.{Outcome, is_dtd, faulty, Means, IsBehindMark, TextMeans, too_long, items}
+use Rattle.pv_dtd.specs.Meaning.{Outcome, is_dtd, faulty, Means, IsBehindMark, TextMeans, items}
 use Rattle.pv_dtd.specs.Numbering.{numbered, names_of, number_among, model_with_numbers}
 use Rattle.pv_dtd.specs.Naming.{grown, NumbersModels}
 use Rattle.pv_dtd.specs.PlainForms.{plain_dtd, refusal, Refuses, Answers}

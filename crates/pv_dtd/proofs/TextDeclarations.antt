@@ -1,18 +1,18 @@
 -- Text declarations: what is read is one, and what is one is read.
-use Rattle.std.proofs.Common.{◌≡◌, ◌≢◌, ◌<◌, ℕ, List, [], ◌∷◌, ◌++◌, codes, length, map, Bool, true, false, ◌||◌, ◌&&◌, ◌⊎◌, not, cond, unwrap_or, inl, inr, Option, Some, None, refl, sym, ap, ◌∙◌, subst, append_assoc, arith}
+use Rattle.std.proofs.Common.{◌≡◌, ◌≢◌, ℕ, List, [], ◌∷◌, ◌++◌, codes, length, map, Bool, true, false, ◌||◌, ◌⊎◌, not, cond, unwrap_or, inl, inr, Option, Some, None, refl, ap, ◌∙◌, append_assoc, arith}
 use Rattle.std.specs.Option.{MatchOption}
 use Rattle.std.specs.Prelude.{nat_eq}
 use Rattle.std.specs.List.{list_all}
 use Rattle.std.specs.Char.{to_ascii_lowercase, is_ascii_digit}
 use Rattle.std.specs.Str.{bytes_eq}
-use Rattle.std.proofs.lemmas.Bool.{and_parts, or_parts, or_right}
+use Rattle.std.proofs.lemmas.Bool.{and_parts, or_right}
 use Rattle.std.proofs.lemmas.Bool.Decides.{Decides-eqb}
 use Rattle.std.proofs.lemmas.Slice.Eq.{bytes_eq-Decides}
 use Rattle.pv_chars.specs.Spaces.{is_space}
 use Rattle.pv_chars.specs.Characters.{is_name_char, BeginsNo}
 use Rattle.pv_chars.specs.Names.{IsName, TakesName}
 use Rattle.pv_chars.specs.Scan.{◌>>=◌, after_bytes, after_blank, after_space}
-use Rattle.pv_chars.specs.Fronts.{Begins, BeginsNone, Holds, EndsAt}
+use Rattle.pv_chars.specs.Fronts.{Begins, BeginsNone}
 use Rattle.pv_chars.specs.Markup.{IsInstruction}
 use Rattle.pv_chars.specs.Declarations.{is_quote, IsQuoted, BeginsNoQuoted, IsPart, BeginsNoPart, IsPartOf, IsVersionNum, IsEncName, IsYesOrNo, IsVersionInfo, IsEncodingDecl, IsStandaloneDecl, IsOptional, IsTextDecl}
 use Rattle.pv_chars.proofs.Scanning.{begins, after_bytes_takes, after_bytes-append}

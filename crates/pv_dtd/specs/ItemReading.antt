@@ -4,7 +4,7 @@ use Rattle.pv_chars.specs.Spaces.{is_space}
 use Rattle.pv_chars.specs.Scan.{◌>>=◌, after_space, after_blank, after_bytes}
 use Rattle.pv_dtd.specs.CharReading.{name_at, comment_at, instruction_at, text_declaration_at, is_chars}
 use Rattle.pv_dtd.specs.Facts.{MAX_NESTING}
-use Rattle.pv_dtd.specs.Items.{NamedPart, NamedModel, empty, any, mixed, children, Item, text_declaration, element, skipped, comment, instruction}
+use Rattle.pv_dtd.specs.Items.{NamedModel, empty, any, mixed, children, Item, text_declaration, element, skipped, comment, instruction}
 use Rattle.pv_chars.specs.Declarations.{is_quote}
 use Rattle.pv_dtd.specs.Spelling.{is_one_of}
 use Rattle.pv_dtd.specs.Kinds.{Kind, parameter, nesting, twice, mixed_twice, limit, declares_again, lists_twice, passes_limit}

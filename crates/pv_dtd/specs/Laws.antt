@@ -1,5 +1,8 @@
--- Laws of DTD texts, each a statement.
-use Rattle.std.specs.Prelude.{◌≡◌, ℕ, List}
+-- Laws of DTDs and their texts, each a statement.
+use Rattle.std.specs.Prelude.{◌≡◌, ◌↔◌, ℕ, List}
+use Rattle.pv_dtd.specs.Plain.{PlainDtd}
+use Rattle.pv_dtd.specs.Hedge.{AreGood, Hedge, done, elem}
+use Rattle.pv_dtd.specs.Productive.{IsProductiveName}
 use Rattle.pv_dtd.specs.Meaning.{Outcome, TextMeans}
 
 -- a text has exactly one meaning
@@ -10,3 +13,8 @@ pub record HasOneMeaning (bytes : List ℕ) : Type 0 where
 
 abbrev pub OneMeaning : Type 0
 OneMeaning = (bytes : List ℕ) → HasOneMeaning bytes
+
+-- a name is productive exactly where some hedge of one element of this name is good
+abbrev pub ProductiveNames : Type 0
+ProductiveNames = (g : PlainDtd) (x : List ℕ) →
+    IsProductiveName g x ↔ ((attrs : List ℕ) × (kids : Hedge) × AreGood g (elem x attrs kids done))

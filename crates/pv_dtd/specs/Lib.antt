@@ -1,5 +1,6 @@
 pub mod Plain
 pub mod Facts
+pub mod Proper
 pub mod Hedge
 pub mod Productive
 pub mod CharReading

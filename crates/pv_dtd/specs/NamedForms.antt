@@ -1,5 +1,5 @@
 -- What the items that are read are seen as.
-use Rattle.std.specs.Prelude.{ℕ, List, map}
+use Rattle.std.specs.Prelude.{List, map}
 use Rattle.pv_dtd.specs.Items.{NamedPart, name, seq, choice, opt, star, plus, NamedParts, named_parts_of, NamedModel, empty, any, mixed, children, Item, text_declaration, element, skipped, comment, instruction}
 use Rattle.pv_dtd.specs.declared.items.SpelledPart.{SpelledPart, fold-SpelledPart}
 use Rattle.pv_dtd.specs.declared.items.SpelledPart.TheOpen.{SpelledPart-F}

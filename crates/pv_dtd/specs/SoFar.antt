@@ -1,5 +1,5 @@
 -- What the items of a text leave, and what the reader of items answers.
-use Rattle.std.specs.Prelude.{◌≡◌, ◌⊎◌, ◌≤◌, ℕ, Bool, true, false, List, [], ◌∷◌, length, IsTrue, Result, Ok, Err, not}
+use Rattle.std.specs.Prelude.{◌≡◌, ◌⊎◌, ◌≤◌, ℕ, true, false, List, [], ◌∷◌, length, Result, Ok, Err}
 use Rattle.std.specs.List.{list_any}
 use Rattle.pv_dtd.specs.Plain.{PlainDtd}
 use Rattle.pv_dtd.specs.Facts.{are_distinct, MAX_TYPES, MAX_PARTS, MAX_NESTING}

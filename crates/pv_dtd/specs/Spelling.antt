@@ -1,5 +1,5 @@
 -- How the items of a DTD text are spelled (XML 1.0, sections 2.5, 2.6, 3.2, 3.3, 4.2, 4.3.1 and 4.7).
-use Rattle.std.specs.Prelude.{◌≡◌, ◌≢◌, ◌≤◌, ℕ, suc, max, ◌⊎◌, ◌||◌, ◌==◌, not, nat_eq, Bool, true, false, List, [], ◌∷◌, ◌++◌, codes, IsTrue}
+use Rattle.std.specs.Prelude.{◌≡◌, ◌≤◌, ℕ, suc, max, ◌⊎◌, ◌==◌, not, nat_eq, Bool, true, false, List, [], ◌∷◌, ◌++◌, codes, IsTrue}
 use Rattle.std.specs.List.{list_all, list_any}
 use Rattle.pv_chars.specs.Spaces.{IsSpace, IsOptionalSpace}
 use Rattle.pv_chars.specs.Characters.{IsChars}

@@ -8,8 +8,8 @@ use crate::declarations::skipped_word;
 use crate::fronts::after_stop;
 use pv_chars::scan::after_bytes;
 
-/// How many parentheses may be open.
-const MAX_NESTING: usize = 64;
+/// How many parentheses may be open in an element declaration, and so how many groups may stand one inside another.
+pub const MAX_NESTING: usize = 64;
 
 // What stands behind the word of a declaration.
 #[tactic(auto, unfolding(crate::specs::ItemReading::declaration_word, crate::specs::ItemReading::or_else))]

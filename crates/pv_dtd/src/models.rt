@@ -6,15 +6,13 @@ ghost use Rattle.pv_chars.specs.Scan.{after_bytes};
 ghost use Rattle.pv_dtd.specs.ItemReading.{listed_at, after_end, mixed_at, children_at, group_model_at, model_at};
 ghost use Rattle.pv_dtd.specs.NamedForms.{named_model};
 
+use crate::faults::MAX_NESTING;
 use crate::fronts::name_at;
 use crate::items::SpelledModel;
 use crate::particles::particle_at;
 use pv_chars::NoMemory;
 use pv_chars::scan::{after_bytes, after_space};
 use std::alloc::Global;
-
-/// How deep groups may stand one inside another.
-const MAX_NESTING: usize = 64;
 
 // The names that are listed behind `#PCDATA`, and what stands behind them and space.
 fn listed_at<'a>(

@@ -7,7 +7,7 @@ use Rattle.pv_dtd.specs.Hedge.{Hedge, Leaf, cdata, data_unit, done, elem, leaf, 
 use Rattle.pv_tree.specs.Plain.{Forest, Tree, cdata_node, element, is_element, misc_node, no_trees, text_node, tree}
 use Rattle.pv_tree.specs.View.{spread, view, view_all, view_before}
 use Rattle.pv_missing.specs.DocumentLaws.{CutsChangeNothing}
-use Rattle.pv_missing.specs.Proper.{IsProperDtd}
+use Rattle.pv_dtd.specs.Proper.{IsProperDtd}
 use Rattle.pv_missing.specs.SameMissing.{SameMissing, uncut, uncut_all, uncut_before}
 use Rattle.pv_tree.specs.Units.{HasUnits, HaveUnits}
 use Rattle.pv_missing.proofs.Alike.{unchanged}

@@ -6,7 +6,7 @@ use Rattle.pv_model.specs.Plain.{PlainModel, PlainPart, PlainParts, PlainToken, 
 use Rattle.pv_model.specs.Models.{Allows, IsOfAny, IsOfMixed, Matches, MatchesAll, MatchesSome, Rounds, no_round, round}
 use Rattle.pv_dtd.specs.Plain.{IsDeclared, PlainDtd, declared, model_of}
 use Rattle.pv_missing.specs.Covering.{Covers, IsPossibleWith, cover_kept, cover_new, cover_none, cover_text}
-use Rattle.pv_missing.specs.Proper.{AreFullParts, IsFull}
+use Rattle.pv_dtd.specs.Proper.{AreFullParts, IsFull}
 use Rattle.pv_missing.proofs.WordDerivations.{IsMember, Symbol, in_front, behind, of_content, of_name, of_part, of_rest, AreFull, AtMost, DerivesWord, word_any_name, word_any_none, word_any_text, word_children_part, word_empty_none, word_kept, word_missing, word_mixed_name, word_mixed_none, word_mixed_text, word_opt_none, word_opt_one, word_part_choice, word_part_name, word_part_seq, word_plus_more, word_plus_one, word_rest_last, word_rest_then, word_star_more, word_star_none}
 
 pub map_join : (a b : List ℕ) → map named (a ++ b) ≡ map named a ++ map named b

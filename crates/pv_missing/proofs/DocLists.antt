@@ -12,7 +12,7 @@ use Rattle.pv_tree.specs.Words.{word_of}
 use Rattle.pv_missing.specs.Completing.{HasCompletion}
 use Rattle.pv_missing.specs.Covering.{Covers, IsPossibleWith}
 use Rattle.pv_missing.specs.DocumentLaws.{IsPotentiallyValidByLists, Locality, NumbersAddUp}
-use Rattle.pv_missing.specs.Proper.{IsProperDtd}
+use Rattle.pv_dtd.specs.Proper.{IsProperDtd}
 use Rattle.pv_missing.specs.ListLaws.{LiveMisses}
 use Rattle.pv_missing.specs.Missing.{MissInAll, MissesBy, MissesInContent, MissesInRoot}
 use Rattle.pv_tree.specs.Units.{HasUnits}

@@ -6,7 +6,7 @@ use Rattle.pv_dtd.specs.Plain.{PlainDtd, model_of, number_of}
 use Rattle.pv_dtd.specs.Hedge.{Hedge, done, elem, leaf, word}
 use Rattle.pv_missing.specs.Completing.{HasCompletion}
 use Rattle.pv_missing.specs.Covering.{Covers, IsPossibleWith}
-use Rattle.pv_missing.specs.Proper.{IsProperDtd}
+use Rattle.pv_dtd.specs.Proper.{IsProperDtd}
 use Rattle.pv_dtd.specs.Productive.{IsProductive}
 
 -- the list k of an element of number y isn't impossible, and n elements are missing in it

@@ -5,10 +5,10 @@ use Rattle.pv_model.specs.Models.{Allows}
 use Rattle.pv_dtd.specs.Plain.{PlainDtd, declared, model_of, spelling_of}
 use Rattle.pv_dtd.specs.Hedge.{AreGood, Hedge, cdata, data_unit, done, elem, elements, leaf, misc, white, word}
 use Rattle.pv_missing.specs.Covering.{Covers, IsPossibleWith, cover_kept, cover_new, cover_none, cover_text}
-use Rattle.pv_missing.specs.Proper.{IsProperDtd}
+use Rattle.pv_dtd.specs.Proper.{IsProperDtd}
 use Rattle.pv_dtd.specs.Productive.{IsProductive}
 use Rattle.pv_missing.proofs.Growing.{allows-empty}
-use Rattle.pv_missing.proofs.Names.{spelled}
+use Rattle.pv_dtd.proofs.Proper.{spelled}
 use Rattle.pv_missing.proofs.Repeats.{Omits, Texts, omit_drop, omit_keep, omit_none, texts_drop, texts_keep, texts_none}
 use Rattle.pv_missing.proofs.Texts.{allows_texts}
 

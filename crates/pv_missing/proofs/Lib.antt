@@ -20,10 +20,8 @@ pub mod ListDerivations
 pub mod LiveFacts
 pub mod LiveOnce
 pub mod Locality
-pub mod Names
 pub mod OneList
 pub mod PossibleWords
-pub mod Proper
 pub mod Repeats
 pub mod Same
 pub mod Shrinking

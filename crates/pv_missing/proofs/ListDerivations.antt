@@ -10,7 +10,7 @@ use Rattle.pv_rules.specs.Derivations.{Derives}
 use Rattle.pv_rules.specs.Rules.{Goal, Rule}
 use Rattle.pv_rules.specs.Sites.{PlainSite, content_site, name_site}
 use Rattle.pv_rules.proofs.Derived.{closed_below}
-use Rattle.pv_missing.specs.Proper.{IsProperDtd}
+use Rattle.pv_dtd.specs.Proper.{IsProperDtd}
 use Rattle.pv_missing.specs.ListLaws.{ClosedIsBound, DerivationsMiss, WeightIsLeast}
 use Rattle.pv_missing.specs.Missing.{MissesBy}
 use Rattle.pv_missing.specs.Weighing.{site_of, whole}

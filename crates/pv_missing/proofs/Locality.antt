@@ -4,14 +4,14 @@ use Rattle.pv_model.specs.Plain.{named}
 use Rattle.pv_dtd.specs.Plain.{PlainDtd, number_of}
 use Rattle.pv_dtd.specs.Hedge.{AreGood, Fits, Hedge, IsValid, done, elem, leaf, token, word}
 use Rattle.pv_missing.specs.Completing.{HasCompletion}
-use Rattle.pv_missing.specs.Proper.{IsProperDtd}
+use Rattle.pv_dtd.specs.Proper.{IsProperDtd}
 use Rattle.pv_missing.specs.Extending.{Extends, both_done, join, new_element, same_element, same_leaf}
 use Rattle.pv_missing.specs.Levels.{IsCompleted, IsGoodExtension}
 use Rattle.pv_missing.proofs.Deep.{GrowsBy, IsCompleted-productive, ext_grows, grows_ext}
 use Rattle.pv_missing.proofs.Grow.{CanKeep}
 use Rattle.pv_missing.proofs.Growing.{Grown, allows-empty, grow, token-name}
 use Rattle.pv_missing.proofs.HedgeLists.{AllLive, HedgeLocality, IsLiveHedge, NoneImpossible}
-use Rattle.pv_missing.proofs.Names.{one_name}
+use Rattle.pv_dtd.proofs.Proper.{one_name}
 use Rattle.pv_missing.proofs.Shrinking.{Shrunk, shrink}
 
 -- nothing extends to nothing but itself

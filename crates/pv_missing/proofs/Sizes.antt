@@ -5,12 +5,12 @@ use Rattle.pv_model.specs.Models.{Allows}
 use Rattle.pv_dtd.specs.Plain.{PlainDtd, declared, model_of, spelling_of}
 use Rattle.pv_dtd.specs.Hedge.{AreGood, Fits, Hedge, done, elem, elements, word}
 use Rattle.pv_missing.specs.Covering.{Covers, IsLeastInNothing, IsPossibleWith, cover_kept, cover_new, cover_none, cover_text}
-use Rattle.pv_missing.specs.Proper.{IsProperDtd}
+use Rattle.pv_dtd.specs.Proper.{IsProperDtd}
 use Rattle.pv_dtd.specs.Productive.{IsLeastSize}
-use Rattle.pv_missing.specs.WordLaws.{ProductiveNames, SizeIsMissing}
+use Rattle.pv_missing.specs.WordLaws.{SizeIsMissing}
 use Rattle.pv_missing.proofs.Growing.{allows-empty, empty_join}
 use Rattle.pv_missing.proofs.LeftOut.{good_covers, names, names_texts}
-use Rattle.pv_missing.proofs.Names.{spelled}
+use Rattle.pv_dtd.proofs.Proper.{spelled}
 use Rattle.pv_missing.proofs.Texts.{allows_texts}
 
 module _ (g : PlainDtd) where
@@ -72,9 +72,3 @@ size_from g x n proper l = let q = sized_fits g x n l.0 (sized g proper n l.0.wh
 
 pub size_is_missing : SizeIsMissing
 size_is_missing g x n proper = (size_to g x n proper, size_from g x n proper)
-
-pub productive_names : ProductiveNames
-productive_names g x = (
-  (λ p. ([], p.productive.kids, (p.number, p.is_number, p.productive.fits, p.productive.good, tt))),
-  (λ p. record { number = p.2.0; is_number = p.2.1; productive = record { kids = p.1; fits = p.2.2; good = p.2.3 } }),
-)

@@ -6,7 +6,7 @@ use Rattle.pv_dtd.specs.Plain.{PlainDtd}
 use Rattle.pv_rules.specs.Derivations.{Derives}
 use Rattle.pv_rules.specs.Rules.{Rule, over}
 use Rattle.pv_rules.specs.Sites.{PlainSite, content_site, name_site}
-use Rattle.pv_missing.specs.Proper.{IsFullModel, IsProperDtd}
+use Rattle.pv_dtd.specs.Proper.{IsFullModel, IsProperDtd}
 use Rattle.pv_missing.specs.WordLaws.{ContentDerives, RootDerives}
 use Rattle.pv_missing.proofs.Derived.{possible_derives, root_derives}
 use Rattle.pv_missing.proofs.Sound.{sound}

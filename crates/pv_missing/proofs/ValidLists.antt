@@ -10,7 +10,7 @@ use Rattle.pv_missing.specs.Covering.{Covers, cover_kept, cover_none, cover_text
 use Rattle.pv_rules.specs.Derivations.{IsWeight}
 use Rattle.pv_rules.specs.Rules.{Rule}
 use Rattle.pv_rules.specs.Sites.{PlainSite, content_site, name_site}
-use Rattle.pv_missing.specs.Proper.{IsProperDtd}
+use Rattle.pv_dtd.specs.Proper.{IsProperDtd}
 use Rattle.pv_missing.specs.ListLaws.{ValidMissesNone}
 use Rattle.pv_missing.specs.Missing.{Misses, MissesBy, MissesInContent, MissesInRoot}
 use Rattle.pv_missing.specs.Weighing.{Weighs, site_of, whole}

@@ -9,7 +9,8 @@ use Rattle.pv_tree.specs.View.{view}
 use Rattle.pv_missing.specs.Completing.{HasCompletion}
 use Rattle.pv_rules.specs.Derivations.{heaviest}
 use Rattle.pv_missing.specs.DocumentLaws.{BoundsAddUp, WeightsAddUp}
-use Rattle.pv_missing.specs.Proper.{IsProperDoc, IsProperDtd}
+use Rattle.pv_dtd.specs.Proper.{IsProperDtd}
+use Rattle.pv_missing.specs.Proper.{IsProperDoc}
 use Rattle.pv_missing.specs.Missing.{MissInAll}
 use Rattle.pv_missing.specs.Weighing.{BoundInAll, SumIsLeast, WeighInAll}
 use Rattle.pv_missing.proofs.DocLists.{numbers_add_up, root_lists}

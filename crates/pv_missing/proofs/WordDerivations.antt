@@ -3,7 +3,7 @@ use Rattle.std.specs.Prelude.{Contains}
 use Rattle.std.proofs.Common.{List, Some, [], suc, ℕ, ◌++◌, ◌+◌, ◌∷◌, ◌≡◌, ◌≢◌, ◌≤◌}
 use Rattle.pv_model.specs.Plain.{PlainPart, PlainParts, PlainToken, any, children, choice, empty, mixed, name, named, no_parts, opt, part, plus, seq, star, text}
 use Rattle.pv_dtd.specs.Plain.{IsDeclared, PlainDtd, model_of}
-use Rattle.pv_missing.specs.Proper.{IsFull}
+use Rattle.pv_dtd.specs.Proper.{IsFull}
 
 -- the symbols: an element of a name, the content of one, a content particle, and the members of a sequence from some member on
 pub data Symbol : Type 0 where

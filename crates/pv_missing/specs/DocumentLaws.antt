@@ -8,7 +8,8 @@ use Rattle.pv_tree.specs.Lists.{lists_of}
 use Rattle.pv_tree.specs.Plain.{PlainDoc}
 use Rattle.pv_tree.specs.View.{view}
 use Rattle.pv_missing.specs.Completing.{Completes, HasCompletion, IsPotentiallyValid, LeavesOut}
-use Rattle.pv_missing.specs.Proper.{IsProperDoc, IsProperDtd}
+use Rattle.pv_dtd.specs.Proper.{IsProperDtd}
+use Rattle.pv_missing.specs.Proper.{IsProperDoc}
 use Rattle.pv_missing.specs.Extending.{Extends, leaves_of}
 use Rattle.pv_missing.specs.Levels.{Inserts, IsCompleted, IsGoodExtension}
 use Rattle.pv_missing.specs.Missing.{MissInAll}

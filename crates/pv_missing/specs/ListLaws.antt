@@ -5,7 +5,7 @@ use Rattle.pv_dtd.specs.Plain.{PlainDtd, model_of}
 use Rattle.pv_dtd.specs.Hedge.{Hedge, done, elements, word}
 use Rattle.pv_tree.specs.Lists.{IsValidList, Listed}
 use Rattle.pv_missing.specs.Covering.{IsPossibleRootWith, IsPossibleWith}
-use Rattle.pv_missing.specs.Proper.{IsProperDtd}
+use Rattle.pv_dtd.specs.Proper.{IsProperDtd}
 use Rattle.pv_missing.specs.Extending.{Extends}
 use Rattle.pv_missing.specs.LiveWords.{IsLiveWord}
 use Rattle.pv_missing.specs.Levels.{CanFit, CanFitRoot, InsertsHere}

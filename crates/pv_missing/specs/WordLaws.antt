@@ -2,15 +2,14 @@
 use Rattle.std.specs.Prelude.{List, length, suc, ℕ, ◌++◌, ◌↔◌, ◌∷◌, ◌≡◌, ◌≤◌}
 use Rattle.pv_model.specs.Plain.{PlainToken, text}
 use Rattle.pv_dtd.specs.Plain.{PlainDtd}
-use Rattle.pv_dtd.specs.Hedge.{AreGood, Hedge, done, elem}
 use Rattle.pv_rules.specs.Derivations.{Derives}
 use Rattle.pv_rules.specs.Rules.{Rule, over}
 use Rattle.pv_rules.specs.Sites.{content_site, name_site}
 use Rattle.pv_missing.specs.Covering.{IsLeastInNothing, IsPossibleRootWith, IsPossibleWith}
-use Rattle.pv_missing.specs.Proper.{IsProperDtd}
+use Rattle.pv_dtd.specs.Proper.{IsProperDtd}
 use Rattle.pv_missing.specs.Filling.{IsPossible, IsPossibleRoot}
 use Rattle.pv_missing.specs.LiveWords.{AreProductiveTokens, FollowsWord, IsLiveWord}
-use Rattle.pv_dtd.specs.Productive.{IsLeastSize, IsProductive, IsProductiveName}
+use Rattle.pv_dtd.specs.Productive.{IsLeastSize, IsProductive}
 
 -- depths, and finite derivations with their numbers of missing elements, say the same
 abbrev pub DepthsAgree : Type 0
@@ -45,11 +44,6 @@ LiveFollows = (g : PlainDtd) (w live : List PlainToken) → IsLiveWord g w live 
 abbrev pub OwnerIsProductive : Type 0
 OwnerIsProductive = (g : PlainDtd) (x : ℕ) (w : List PlainToken) → IsProperDtd g →
     IsPossible g x w → IsProductive g x
-
--- a name is productive exactly where some hedge of one element of this name is good
-abbrev pub ProductiveNames : Type 0
-ProductiveNames = (g : PlainDtd) (x : List ℕ) →
-    IsProductiveName g x ↔ ((attrs : List ℕ) × (kids : Hedge) × AreGood g (elem x attrs kids done))
 
 -- the least size of a name is one more than the least number of elements missing in empty content
 abbrev pub SizeIsMissing : Type 0

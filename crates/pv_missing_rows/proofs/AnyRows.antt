@@ -8,7 +8,7 @@ use Rattle.pv_dtd.specs.Hedge.{AreGood, Hedge, cdata, data_unit, done, elem, lea
 use Rattle.pv_tree.specs.Lists.{an_element, lists_from, the_document}
 use Rattle.pv_tree.specs.Plain.{Tree, forest_of, no_trees, tree}
 use Rattle.pv_missing.specs.Covering.{IsPossibleWith}
-use Rattle.pv_missing.specs.Proper.{IsProperDtd}
+use Rattle.pv_dtd.specs.Proper.{IsProperDtd}
 use Rattle.pv_missing.specs.LiveWords.{live_unproductive, live_name, live_none, live_other, live_text}
 use Rattle.pv_dtd.specs.Productive.{IsProductive, IsProductiveName}
 use Rattle.pv_missing_rows.specs.Documents.{mentioned_name, tag, unknown_name}
@@ -16,7 +16,7 @@ use Rattle.pv_missing_rows.specs.Dtds.{any_dtd, any_endless_dtd}
 use Rattle.pv_missing_rows.specs.Rows.{AnyRow, LiveWords, UnknownRow}
 use Rattle.pv_missing.proofs.DocLists.{live_misses_by}
 use Rattle.pv_missing.proofs.OneList.{covered_by_productive}
-use Rattle.pv_missing.proofs.Proper.{proper_dtd}
+use Rattle.pv_dtd.proofs.Proper.{proper_dtd}
 use Rattle.pv_missing_rows.proofs.RowTools.{alone_productive, impossible_at}
 use Rattle.pv_missing.proofs.Verdict.{own_live}
 

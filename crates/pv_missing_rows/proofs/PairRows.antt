@@ -7,14 +7,14 @@ use Rattle.pv_dtd.specs.Plain.{model_of, number_of}
 use Rattle.pv_tree.specs.Lists.{IsOwnValid, an_element}
 use Rattle.pv_tree.specs.Plain.{no_trees}
 use Rattle.pv_missing.specs.Covering.{IsPossibleWith, cover_none}
-use Rattle.pv_missing.specs.Proper.{IsProperDtd}
+use Rattle.pv_dtd.specs.Proper.{IsProperDtd}
 use Rattle.pv_dtd.specs.Productive.{IsProductive, IsProductiveName}
 use Rattle.pv_missing_rows.specs.Documents.{tag}
 use Rattle.pv_missing_rows.specs.Dtds.{pair_dtd}
 use Rattle.pv_missing_rows.specs.Rows.{PairRow}
 use Rattle.pv_missing_rows.proofs.Bounds.{opened, zero_same}
 use Rattle.pv_missing.proofs.LeftOut.{possible_productive}
-use Rattle.pv_missing.proofs.Proper.{proper_dtd}
+use Rattle.pv_dtd.proofs.Proper.{proper_dtd}
 use Rattle.pv_missing_rows.proofs.RowTools.{alone_productive, needs, new_before, possible_row, possible_with, valid_row}
 use Rattle.pv_tree.specs.declared.nodes.Verdict.TheVariants as verdict
 

@@ -8,7 +8,8 @@ use Rattle.pv_tree.specs.Lists.{IsValidBy, IsValidList, Listed, Owner, an_elemen
 use Rattle.pv_tree.specs.Plain.{Forest, Tree}
 use Rattle.pv_tree.specs.View.{view}
 use Rattle.pv_missing.specs.Covering.{Covers, IsPossibleWith, cover_new}
-use Rattle.pv_missing.specs.Proper.{IsProperDoc, IsProperDtd}
+use Rattle.pv_dtd.specs.Proper.{IsProperDtd}
+use Rattle.pv_missing.specs.Proper.{IsProperDoc}
 use Rattle.pv_missing.specs.Missing.{MissInAll, Misses, MissesBy}
 use Rattle.pv_dtd.specs.Productive.{IsProductive}
 use Rattle.pv_missing_rows.specs.Documents.{doc_of}

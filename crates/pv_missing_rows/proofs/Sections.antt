@@ -4,11 +4,11 @@ use Rattle.std.specs.List.{AllByRecursion}
 use Rattle.pv_model.specs.Plain.{choice, empty, mixed, name, named, no_parts, opt, part, plus, seq, star}
 use Rattle.pv_model.specs.Models.{Allows, Matches, Rounds, no_round, round}
 use Rattle.pv_missing.specs.Covering.{Covers, cover_none}
-use Rattle.pv_missing.specs.Proper.{IsProperDtd}
+use Rattle.pv_dtd.specs.Proper.{IsProperDtd}
 use Rattle.pv_dtd.specs.Productive.{IsProductive}
 use Rattle.pv_missing_rows.specs.Dtds.{doc_model, sec_model, sections_dtd}
 use Rattle.pv_missing.proofs.LeftOut.{possible_productive}
-use Rattle.pv_missing.proofs.Proper.{proper_dtd}
+use Rattle.pv_dtd.proofs.Proper.{proper_dtd}
 use Rattle.pv_missing_rows.proofs.RowTools.{alone_productive, new_before, possible_with}
 
 pub proper_sections : IsProperDtd sections_dtd

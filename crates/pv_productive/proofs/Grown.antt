@@ -11,10 +11,10 @@ use Rattle.pv_rules.specs.Rules.{Goal, Rule, any_name, any_none, any_text, child
 use Rattle.pv_rules.specs.Sites.{PlainSite, content_site, name_site, part_site, rest_site}
 use Rattle.pv_rules.proofs.Derived.{HaveAll, passed}
 use Rattle.pv_rules.proofs.Facts.{parts_by_number}
-use Rattle.pv_productive.specs.Regular.{IsRegular}
-use Rattle.pv_productive.proofs.Spellings.{spelled}
+use Rattle.pv_dtd.specs.Proper.{IsProperDtd}
+use Rattle.pv_dtd.proofs.Proper.{spelled}
 
-module _ (g : PlainDtd) (regular : IsRegular g) where
+module _ (g : PlainDtd) (proper : IsProperDtd g) where
   -- good elements of these names, n elements in all, can be put before each hedge
   pub record Put (n : ℕ) (u : List ℕ) (h : Hedge) : Type 0 where
     pub hedge : Hedge
@@ -53,7 +53,7 @@ module _ (g : PlainDtd) (regular : IsRegular g) where
 
   put_element : (y n : ℕ) → Content y n → CanPut (suc n) (y ∷ [])
   put_element y n (k, f, a, e) h b =
-      let s = spelled g regular y f.model f.is_model in
+      let s = spelled g proper y f.model f.is_model in
       record {
         hedge = elem (spelling_of g y) [] k h;
         good = (y, s, f, a, b);

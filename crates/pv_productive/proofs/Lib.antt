@@ -1,4 +1,3 @@
-pub mod Spellings
 pub mod Grown
 pub mod Paid
 pub mod SizeLaws
@@ -9,5 +8,4 @@ pub mod Flattened
 pub mod Cutting
 pub mod Raising
 pub mod Settled
-pub mod RegularDtds
 pub mod Sized

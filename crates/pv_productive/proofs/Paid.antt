@@ -1,10 +1,7 @@
 -- What a good hedge holds has derivations over no tokens, which weigh no more than its elements.
-use Rattle.std.specs.Prelude.{nat_le, not}
 use Rattle.std.proofs.Common.{List, None, Option, Some, [], arith, inl, inr, map, refl, subst, suc, true, ℕ, ◌++◌, ◌+◌, ◌∷◌, ◌≡◌, ◌≤◌}
-use Rattle.std.proofs.lemmas.Bool.{and_parts}
 use Rattle.pv_model.specs.Plain.{PlainModel, PlainPart, PlainParts, PlainToken, any, children, choice, empty, mixed, name, named, no_parts, opt, part, plus, seq, star}
 use Rattle.pv_model.specs.Models.{Allows, Matches, MatchesAll, MatchesSome}
-use Rattle.pv_dtd.specs.Facts.{are_formed, has_operator, is_formed, members}
 use Rattle.pv_dtd.specs.Plain.{PlainDtd, declared, model_of, number_of, parts_in}
 use Rattle.pv_dtd.specs.Hedge.{AreGood, Fits, Hedge, cdata, data_unit, done, elem, elements, leaf, misc, token, white, word}
 use Rattle.pv_rules.specs.Derivations.{Derives, by_rule, none_left, one_more}
@@ -12,8 +9,8 @@ use Rattle.pv_rules.specs.Numbering.{IsMemberAt, first_part, here, later, part_a
 use Rattle.pv_rules.specs.Rules.{IsSpan, Rule, any_none, children_part, empty_none, missing, mixed_none, opt_none, over, part_choice, part_name, part_seq, plus_one, rest_last, rest_then, star_none}
 use Rattle.pv_rules.specs.Sites.{PlainSite, content_site, name_site, part_site, rest_site}
 use Rattle.pv_rules.proofs.Facts.{parts_by_number}
-use Rattle.pv_rules.proofs.Formed.{parts_formed}
-use Rattle.pv_productive.specs.Regular.{IsRegular}
+use Rattle.pv_dtd.specs.Proper.{AreFullParts, IsFull, IsProperDtd}
+use Rattle.pv_dtd.proofs.Proper.{full_children}
 
 module _ (g : PlainDtd) where
   -- the site has a derivation over no tokens
@@ -64,56 +61,55 @@ module _ (g : PlainDtd) where
 
   mutual
     -- a word of a part
-    paid_part : (p : PlainPart) (q : ℕ) → part_at g q ≡ Some p → is_formed p ≡ true → (w : List ℕ) (n : ℕ) → Matches p w → Paid w n → Within n (part_site q)
+    paid_part : (p : PlainPart) (q : ℕ) → part_at g q ≡ Some p → IsFull p → (w : List ℕ) (n : ℕ) → Matches p w → Paid w n → Within n (part_site q)
     paid_part (name y) q e f w n m p =
         let t : Paid (y ∷ []) n = subst (λ x. Paid x n) m p in
         passed_on n (part_site q) (name_site y) (part_name q y 0 0 none_span e) (t.0, let z = t.2 in omega arith, t.3)
-    paid_part (seq no_parts) q e f w n m p = absurd cc
+    paid_part (seq no_parts) q e f w n m p = absurd (f.0 refl)
     paid_part (seq (part o ps)) q e f w n m p =
         passed_on n (part_site q) (rest_site (suc q)) (part_seq q 0 0 o ps none_span e)
-        (paid_all (part o ps) (suc q) o ps refl ((parts_by_number g).in_seq q o ps e) (and_parts (nat_le 1 (members (part o ps))) (are_formed (part o ps)) f).1 w n m p)
+        (paid_all (part o ps) (suc q) o ps refl ((parts_by_number g).in_seq q o ps e) f.1 w n m p)
     paid_part (choice ps) q e f w n m p =
-        let t = paid_some ps (suc q) (λ o r a. (parts_by_number g).in_choice q r o ps e a) (and_parts (nat_le 2 (members ps)) (are_formed ps) f).1 w n m p in
+        let t = paid_some ps (suc q) (λ o r a. (parts_by_number g).in_choice q r o ps e a) f w n m p in
         passed_on n (part_site q) (part_site t.1) (part_choice q t.1 0 0 t.0 ps none_span e t.2) t.3
     paid_part (opt o) q e f w n m p = (0, omega arith, by_none (part_site q) (opt_none q 0 o (omega arith) e))
     paid_part (star o) q e f w n m p = (0, omega arith, by_none (part_site q) (star_none q 0 o (omega arith) e))
     paid_part (plus o) q e f w n (u, v, j, m, r) p =
         let s = split u v n (subst (λ x. Paid x n) j p) in
         passed_on n (part_site q) (part_site (suc q)) (plus_one q 0 0 o none_span e)
-        (let t = paid_part o (suc q) ((parts_by_number g).in_plus q o e) (and_parts (not (has_operator o)) (is_formed o) f).1 u s.0 m s.3 in
+        (let t = paid_part o (suc q) ((parts_by_number g).in_plus q o e) f u s.0 m s.3 in
         (t.0, let z = s.2 in let y = t.1 in omega arith, t.2))
 
     -- a word of a sequence from a member on
-    paid_all : (qs : PlainParts) (q : ℕ) (o : PlainPart) (ps : PlainParts) → qs ≡ part o ps → rest_at g q ≡ Some (part o ps) → are_formed qs ≡ true →
+    paid_all : (qs : PlainParts) (q : ℕ) (o : PlainPart) (ps : PlainParts) → qs ≡ part o ps → rest_at g q ≡ Some (part o ps) → AreFullParts qs →
         (w : List ℕ) (n : ℕ) → MatchesAll qs w → Paid w n → Within n (rest_site q)
     paid_all no_parts q o ps i e f w n m p = absurd cc
     paid_all (part a no_parts) q o ps i e f w n (u, v, j, m, r) p =
         let s = split u v n (subst (λ x. Paid x n) j p) in
         let h : rest_at g q ≡ Some (part a no_parts) = rw i e in
         passed_on n (rest_site q) (part_site q) (rest_last q 0 0 a none_span h)
-        (let t = paid_part a q ((parts_by_number g).member q a no_parts h) (and_parts (is_formed a) (are_formed no_parts) f).0 u s.0 m s.3 in
+        (let t = paid_part a q ((parts_by_number g).member q a no_parts h) f.0 u s.0 m s.3 in
         (t.0, let z = s.2 in let y = t.1 in omega arith, t.2))
     paid_all (part a (part b bs)) q o ps i e f w n (u, v, j, m, r) p =
         let s = split u v n (subst (λ x. Paid x n) j p) in
         let h : rest_at g q ≡ Some (part a (part b bs)) = rw i e in
-        let k = and_parts (is_formed a) (are_formed (part b bs)) f in
-        let t = paid_part a q ((parts_by_number g).member q a (part b bs) h) k.0 u s.0 m s.3 in
-        let x = paid_all (part b bs) (q + parts_in a) b bs refl ((parts_by_number g).next q a b bs h) k.1 v s.1 r s.4 in (
+        let t = paid_part a q ((parts_by_number g).member q a (part b bs) h) f.0 u s.0 m s.3 in
+        let x = paid_all (part b bs) (q + parts_in a) b bs refl ((parts_by_number g).next q a b bs h) f.1 v s.1 r s.4 in (
           t.0 + x.0,
           (let z = s.2 in let y = t.1 in let c = x.1 in omega arith),
           by_two t.0 x.0 (rest_site q) (part_site q) (rest_site (q + parts_in a)) (rest_then q 0 0 0 a b bs (omega arith) (omega arith) (omega arith) h) t.2 x.2,
         )
 
     -- a word of some member
-    paid_some : (ps : PlainParts) (q : ℕ) → ((p : PlainPart) (r : ℕ) → IsMemberAt p r q ps → part_at g r ≡ Some p) → are_formed ps ≡ true →
+    paid_some : (ps : PlainParts) (q : ℕ) → ((p : PlainPart) (r : ℕ) → IsMemberAt p r q ps → part_at g r ≡ Some p) → AreFullParts ps →
         (w : List ℕ) (n : ℕ) → MatchesSome ps w → Paid w n → Member q ps n
     paid_some no_parts q a f w n m p = absurd m
     paid_some (part o ps) q a f w n (inl m) p =
-        (o, q, here q ps refl, paid_part o q (a o q (here q ps refl)) (and_parts (is_formed o) (are_formed ps) f).0 w n m p)
+        (o, q, here q ps refl, paid_part o q (a o q (here q ps refl)) f.0 w n m p)
     paid_some (part o ps) q a f w n (inr m) p =
-        later_member q n o ps (paid_some ps (q + parts_in o) (are_parts q o ps a) (and_parts (is_formed o) (are_formed ps) f).1 w n m p)
+        later_member q n o ps (paid_some ps (q + parts_in o) (are_parts q o ps a) f.1 w n m p)
 
-  module _ (regular : IsRegular g) where
+  module _ (proper : IsProperDtd g) where
     -- content that fits, where its elements have derivations
     paid_content : (y : ℕ) (k : Hedge) (m : PlainModel) → model_of g y ≡ Some m → Allows (declared g) m (word g k) →
         ((u : List ℕ) → word g k ≡ map named u → Paid u (elements k)) → Within (elements k) (content_site y)
@@ -122,7 +118,7 @@ module _ (g : PlainDtd) where
     paid_content y k (mixed ys) e a p = (0, omega arith, by_none (content_site y) (mixed_none y 0 ys (omega arith) e))
     paid_content y k (children o) e (u, w, m) p =
         let h = (parts_by_number g).outermost y o e in
-        let f = parts_formed g regular.formed (first_part g y) o h in
+        let f = full_children g proper y o e in
         passed_on (elements k) (content_site y) (part_site (first_part g y)) (children_part y 0 0 o none_span e)
         (paid_part o (first_part g y) h f u (elements k) m (p u w))
 

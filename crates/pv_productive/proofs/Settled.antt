@@ -13,7 +13,7 @@ use Rattle.pv_rules.specs.Rules.{Goal, Rule, missing, over}
 use Rattle.pv_rules.specs.Sites.{PlainSite, content_site, name_site}
 use Rattle.pv_rules.proofs.Derived.{closed_below, held}
 use Rattle.pv_rules.proofs.Spans.{over_spans, small_rules}
-use Rattle.pv_productive.specs.Regular.{IsRegular}
+use Rattle.pv_dtd.specs.Proper.{IsProperDtd}
 use Rattle.pv_productive.specs.Sizes.{IsCutSize}
 use Rattle.pv_productive.specs.Tables.{AreSizes, IsAttained, IsSettled, Table, cut, no_size, size_at, size_of, total}
 use Rattle.pv_productive.proofs.Cutting.{cut_few}
@@ -68,7 +68,7 @@ module _ (g : PlainDtd) (t : Table) (settled : IsSettled g t) where
       let b = closed_below Goal (Rule g []) cut_size sizes_closed n (over s 0 0) d in
       (a, omega arith)
 
-module _ (g : PlainDtd) (r : IsRegular g) where
+module _ (g : PlainDtd) (r : IsProperDtd g) where
   -- an element of a name, by its content
   of_kids : (y : ℕ) (k : Hedge) → Fits g y k → AreGood g k → (n : ℕ) × (n ≤ suc (elements k)) × Nothing g n (name_site y)
   of_kids y k f a =

@@ -3,7 +3,7 @@ use Rattle.std.proofs.Common.{arith, suc, ℕ, ◌≡◌}
 use Rattle.pv_dtd.specs.Plain.{PlainDtd}
 use Rattle.pv_dtd.specs.Productive.{IsLeastSize}
 use Rattle.pv_productive.specs.Laws.{IsLeastOverNothing, ProductiveDerives, SizeIsWeight}
-use Rattle.pv_productive.specs.Regular.{IsRegular}
+use Rattle.pv_dtd.specs.Proper.{IsProperDtd}
 use Rattle.pv_rules.specs.Rules.{over}
 use Rattle.pv_rules.specs.Sites.{content_site}
 use Rattle.pv_productive.proofs.Grown.{grown}
@@ -15,7 +15,7 @@ productive_derives g y r = (
   (λ d. let c = grown g r d.0 (over (content_site y) 0 0) d.1 in record { kids = c.0; fits = c.1; good = c.2 }),
 )
 
-size_to : (g : PlainDtd) (y n : ℕ) → IsRegular g → IsLeastSize g y (suc n) → IsLeastOverNothing g y n
+size_to : (g : PlainDtd) (y n : ℕ) → IsProperDtd g → IsLeastSize g y (suc n) → IsLeastOverNothing g y n
 size_to g y n r s =
     let d = derived g r y s.kids s.fits s.good in
     let c = grown g r d.0 (over (content_site y) 0 0) d.2 in
@@ -25,7 +25,7 @@ size_to g y n r s =
       least = λ m h. let k = grown g r m (over (content_site y) 0 0) h in let l = s.least k.0 k.1 k.2 in let z = k.3 in omega arith;
     }
 
-size_from : (g : PlainDtd) (y n : ℕ) → IsRegular g → IsLeastOverNothing g y n → IsLeastSize g y (suc n)
+size_from : (g : PlainDtd) (y n : ℕ) → IsProperDtd g → IsLeastOverNothing g y n → IsLeastSize g y (suc n)
 size_from g y n r l =
     let c = grown g r n (over (content_site y) 0 0) l.derives in
     record {

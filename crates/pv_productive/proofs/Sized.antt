@@ -8,12 +8,12 @@ use Rattle.pv_productive.specs.PlainForms.{dtd_of}
 use Rattle.pv_productive.specs.Sizes.{IsCutSize}
 use Rattle.pv_productive.specs.Tables.{no_size, size_at}
 use Rattle.pv_productive.specs.declared.grammar.Grammar.{Grammar}
-use Rattle.pv_productive.proofs.RegularDtds.{regular}
+use Rattle.pv_dtd.proofs.Proper.{proper}
 use Rattle.pv_productive.proofs.Settled.{size_held}
 
 module _ (g : Grammar) (y v : ℕ) (e : v ≡ size_at g.sizes.items y) where
   pub cut_size : v < no_size → IsCutSize (dtd_of g) y v
-  cut_size lt = size_held (dtd_of g) (regular g.layout.dtd) y v (∥∥₁_map g.sized (λ a. subst (IsCutSize (dtd_of g) y) (sym e) (a.some_tree y (rw e at lt))))
+  cut_size lt = size_held (dtd_of g) (proper g.layout.dtd) y v (∥∥₁_map g.sized (λ a. subst (IsCutSize (dtd_of g) y) (sym e) (a.some_tree y (rw e at lt))))
 
   pub productive_sized : v < no_size → IsProductive (dtd_of g) y
   productive_sized lt = (cut_size lt).productive

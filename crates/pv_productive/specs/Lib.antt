@@ -1,4 +1,3 @@
-pub mod Regular
 pub mod Sizes
 pub mod Laws
 pub mod Tables

@@ -1,10 +1,6 @@
 //! The laws of productive names, each the contract of a function that does nothing.
 
-ghost use Rattle.pv_dtd.specs.PlainForms.{plain_dtd};
 ghost use Rattle.pv_productive.specs.Laws.{ProductiveDerives, SizeIsWeight};
-ghost use Rattle.pv_productive.specs.Regular.{IsRegular};
-
-use pv_dtd::Dtd;
 
 /// A name is productive exactly where its content has a derivation over no tokens.
 pub fn productive_law()
@@ -14,9 +10,4 @@ pub fn productive_law()
 /// The least size of a name is one more than the least weight of its content over no tokens.
 pub fn size_law()
     ensures { SizeIsWeight }
-{}
-
-/// The laws hold of every DTD.
-pub fn regular_law(_dtd: &Dtd)
-    ensures { IsRegular (plain_dtd _dtd.now) }
 {}

@@ -7,7 +7,7 @@
 #![tactic(auto)]
 
 mod grammar;
-mod laws;
+pub mod laws;
 mod layout;
 mod raise;
 mod settle;
@@ -16,7 +16,6 @@ mod spread;
 mod sums;
 
 pub use grammar::Grammar;
-pub use laws::{productive_law, regular_law, size_law};
 pub use settle::build;
 
 #[cfg(test)]

@@ -1,6 +1,6 @@
 //! Laws of words.
 
-ghost use Rattle.pv_missing.specs.WordLaws.{ContentDerives, DepthsAgree, Doubled, LeftOut, LiveAgrees, LiveFollows, OneLiveWord, OwnerIsProductive, ProductiveNames, RootDerives, SizeIsMissing};
+ghost use Rattle.pv_missing.specs.WordLaws.{ContentDerives, DepthsAgree, Doubled, LeftOut, LiveAgrees, LiveFollows, OneLiveWord, OwnerIsProductive, RootDerives, SizeIsMissing};
 
 /// A word is possible by depths exactly where it is possible with some number of missing elements.
 pub fn depths_law()
@@ -40,11 +40,6 @@ pub fn size_law()
 /// A word has at most one live word.
 pub fn one_live_word_law()
     ensures { OneLiveWord }
-{}
-
-/// A name is productive exactly where some element of this name is good.
-pub fn productive_names_law()
-    ensures { ProductiveNames }
 {}
 
 /// A word of productive names is possible for the content of an element exactly where the content derives it.

@@ -1,4 +1,4 @@
-use Rattle.std.proofs.Common.{◌≡◌, ℕ, List, Bool, true, false, refl, sym}
+use Rattle.std.proofs.Common.{◌≡◌, ℕ, List, Bool, true, false, refl}
 use Rattle.pv_chars.specs.Characters.{IsChars}
 use Rattle.pv_dtd.specs.CharReading.{is_chars}
 use Rattle.pv_dtd.proofs.CharFacts.{chars_are, are_chars}

@@ -1,4 +1,4 @@
-use Rattle.std.proofs.Common.{◌≡◌, ℕ, List, option_map, Option, Some, None, sym, refl}
+use Rattle.std.proofs.Common.{◌≡◌, ℕ, List, option_map, Option, Some, None, sym}
 use Rattle.std.specs.Option.{MatchOption}
 use Rattle.pv_chars.specs.Names.{TakesName, BeginsNoName}
 use Rattle.pv_dtd.specs.CharReading.{name_at}

@@ -1,7 +1,6 @@
-use Rattle.std.proofs.Common.{◌≡◌, ◌<◌, ◌≤◌, ◌-◌, ℕ, zero, suc, List, length, map, codes, [], ◌∷◌, Option, Some, None, ap, ◌∙◌, refl, sym, arith}
+use Rattle.std.proofs.Common.{◌≡◌, ◌<◌, ◌≤◌, ◌-◌, ℕ, zero, suc, List, length, map, codes, [], ◌∷◌, Some, None, ap, ◌∙◌, arith}
 use Rattle.std.proofs.lemmas.List.{map-append}
 use Rattle.pv_chars.specs.Scan.{after_bytes}
-use Rattle.pv_dtd.specs.Items.{NamedPart}
 use Rattle.pv_dtd.specs.NamedForms.{named_part}
 use Rattle.pv_dtd.specs.PartReading.{bare_at, group_at, particle_at}
 use Rattle.pv_dtd.proofs.Members.{so_far_first, closes, no_separator, no_member, so_far_more}

@@ -1,7 +1,7 @@
-use Rattle.std.proofs.Common.{◌≡◌, ◌+◌, ◌-◌, ◌^◌, min, ℕ, List, [], ◌∷◌, ◌++◌, map, take, ap, ◌∙◌, refl, sym, arith}
+use Rattle.std.proofs.Common.{◌≡◌, ◌+◌, ℕ, List, [], ◌∷◌, ◌++◌, map, take, ap, ◌∙◌, sym, arith}
 use Rattle.std.proofs.lemmas.List.{take_more, map-append}
 use Rattle.pv_dtd.specs.Items.{NamedPart, named_parts_of, nodes_in, nodes_in_all}
-use Rattle.pv_dtd.specs.NamedForms.{named_part, named_parts}
+use Rattle.pv_dtd.specs.NamedForms.{named_part}
 use Rattle.pv_dtd.proofs.parts.+nodes.Goals as goal
 
 nodes-push : (members : List NamedPart) (p : NamedPart) → nodes_in_all (named_parts_of (members ++ p ∷ [])) ≡ nodes_in_all (named_parts_of members) + nodes_in p

@@ -1,7 +1,5 @@
-use Rattle.std.proofs.Common.{◌≡◌, ◌<◌, ◌&&◌, [], length, map, Some, None, option_map, sym, ap, ◌∙◌, inl, arith}
-use Rattle.std.specs.Prelude.{nat_eq}
+use Rattle.std.proofs.Common.{◌≡◌, ◌<◌, [], length, Some, None, sym, ap, ◌∙◌, inl, arith}
 use Rattle.std.proofs.lemmas.Grind.{common_steps}
-use Rattle.pv_dtd.specs.Meaning.{is_place}
 use Rattle.pv_dtd.specs.ItemReading.{item_at, broken_rule}
 use Rattle.pv_dtd.specs.NamedForms.{named_item}
 use Rattle.pv_dtd.specs.RuleKinds.{kind_of}

@@ -1,11 +1,11 @@
-use Rattle.std.proofs.Common.{◌≡◌, map, ap, subst, sym, ◌∙◌}
+use Rattle.std.proofs.Common.{map, ap, subst, sym, ◌∙◌}
 use Rattle.pv_model.specs.PlainForms.{plain_model}
 use Rattle.pv_dtd.specs.Plain.{PlainDtd, parts_in_models}
 use Rattle.pv_dtd.specs.Items.{mentioned_in, models_in}
 use Rattle.pv_dtd.specs.NamedForms.{named_model}
 use Rattle.pv_dtd.specs.Naming.{grown, NumbersModels}
 use Rattle.pv_dtd.proofs.Telling.{numbered_are}
-use Rattle.pv_dtd.proofs.Kept.{parts_numbered}
+use Rattle.pv_dtd.proofs.Numbered.{parts_numbered}
 use Rattle.pv_dtd.proofs.reading.dtd_of.Goals as goal
 
 pub of-requires-clause-items : goal.of-requires-clause-items

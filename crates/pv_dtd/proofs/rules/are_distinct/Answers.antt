@@ -1,4 +1,4 @@
-use Rattle.std.proofs.Common.{◌≡◌, ◌<◌, ◌+◌, ℕ, suc, List, [], ◌∷◌, ◌++◌, length, map, drop, get_or, cond, not, Bool, true, false, refl, sym, ap, ◌∙◌, add-one, drop-cons, arith}
+use Rattle.std.proofs.Common.{◌≡◌, ◌<◌, ◌+◌, ℕ, List, [], ◌∷◌, ◌++◌, length, map, drop, get_or, cond, not, Bool, true, false, refl, sym, ap, ◌∙◌, add-one, drop-cons, arith}
 use Rattle.std.proofs.lemmas.Grind.{common_steps}
 use Rattle.std.proofs.lemmas.List.{map-append}
 use Rattle.std.specs.List.{list_any}

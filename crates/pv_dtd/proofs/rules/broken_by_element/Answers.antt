@@ -1,4 +1,4 @@
-use Rattle.std.proofs.Common.{◌≡◌, true, false, sym, ap, ◌∙◌}
+use Rattle.std.proofs.Common.{true, false, sym, ap, ◌∙◌}
 use Rattle.pv_dtd.specs.Facts.{are_distinct}
 use Rattle.pv_dtd.specs.NamedForms.{named_model}
 use Rattle.pv_dtd.proofs.Breaking.{broken_by}
