@@ -18,8 +18,11 @@ pub struct Named<'a> {
 /// A well-formed command line.
 #[derive(Clone, Copy)]
 pub enum CommandLine<'a> {
+    /// `dtd DTD`.
     Listing(&'a str),
+    /// `valid DTD ROOT DOC`.
     Valid(Named<'a>),
+    /// `session DTD ROOT DOC`.
     Session(Named<'a>),
 }
 

@@ -9,10 +9,13 @@ use thiserror::Error;
 /// Why a file was not fetched.
 #[derive(Clone, Copy, Debug, PartialEq, Eq, Error)]
 pub enum FetchError {
+    /// The file couldn't be opened or read.
     #[error("the file couldn't be read")]
     Failed,
+    /// The file has more bytes than were asked for.
     #[error("the file is too long")]
     TooLong,
+    /// There was too little memory; nothing is known of the file.
     #[error("out of memory")]
     NoMemory,
 }

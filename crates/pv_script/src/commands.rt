@@ -9,15 +9,19 @@ use thiserror::Error;
 /// What a line asks for.
 #[derive(Clone, Copy, Debug, PartialEq, Eq)]
 pub enum Command {
+    /// `show`: tell the document.
     Show,
+    /// `quit`: end the session.
     Quit,
 }
 
 /// Why no command was read.
 #[derive(Clone, Copy, Debug, PartialEq, Eq, Error)]
 pub enum CommandError {
+    /// The line is none of the commands.
     #[error("the line is no command")]
     Unknown,
+    /// There was too little memory; nothing is known of the line.
     #[error("out of memory")]
     NoMemory,
 }

@@ -12,7 +12,9 @@ use std::alloc::Global;
 pub enum Reply {
     /// The document's bytes.
     Show(Bytes),
+    /// The line is no command.
     NoCommand,
+    /// There was too little memory for the line.
     NoMemory,
 }
 
