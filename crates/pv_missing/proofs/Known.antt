@@ -9,10 +9,10 @@ use Rattle.pv_dtd.specs.Plain.{PlainDtd, number_of}
 use Rattle.pv_tree.specs.Plain.{Forest, Tree, cdata_node, element, misc_node, no_trees, text_node, tree}
 use Rattle.pv_tree.specs.Words.{node_before, word_of}
 use Rattle.pv_missing.specs.LiveWords.{IsKnownToken}
-use Rattle.pv_missing.proofs.Names.{place_name}
+use Rattle.pv_dtd.proofs.Naming.{get-place}
 
 name_known : (g : PlainDtd) (x : List ℕ) (o : Option ℕ) → number_of g x ≡ o → IsKnownToken g (token o)
-name_known g x (Some y) e = slice_get_within g.names y x (place_name g.names x y e)
+name_known g x (Some y) e = slice_get_within g.names y x (get-place g.names x y e)
 name_known g x None e = tt
 
 text_known : (g : PlainDtd) (b : Bool) (w : List PlainToken) → AllByRecursion (IsKnownToken g) w → AllByRecursion (IsKnownToken g) (if b then text ∷ w else w)

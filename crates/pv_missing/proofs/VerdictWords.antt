@@ -10,7 +10,7 @@ use Rattle.pv_tree.specs.Words.{node_before, word_of}
 use Rattle.pv_missing.specs.VerdictLaws.{VerdictByWord}
 use Rattle.pv_missing.specs.Verdicts.{IsLiveBy, IsLiveContent, IsLiveRoot, Judges}
 use Rattle.pv_missing.specs.WordVerdicts.{HoldsOne, IsLiveByWord, IsLiveContentWord, IsLiveRootWord, IsOwnValidWord, IsRootWord, IsValidByWord, has_no_trees}
-use Rattle.pv_missing.proofs.Names.{one_name}
+use Rattle.pv_dtd.proofs.Proper.{one_name}
 use Rattle.pv_tree.specs.declared.nodes.Verdict.{Verdict}
 use Rattle.pv_tree.specs.declared.nodes.Verdict.TheVariants as verdict
 
