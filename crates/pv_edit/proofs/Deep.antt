@@ -33,7 +33,7 @@ both true true h = (refl, refl)
 both true false h = absurd cc
 both false b h = absurd cc
 
-whole_range : (from to : ℕ) → not ((from == 0) && (to == 1)) ≡ false → (from ≡ 0) × (to ≡ 1)
+pub whole_range : (from to : ℕ) → not ((from == 0) && (to == 1)) ≡ false → (from ≡ 0) × (to ≡ 1)
 whole_range from to h = let b = both (from == 0) (to == 1) h in ((Decides-eqb from 0).0 b.0, (Decides-eqb to 1).0 b.1)
 
 pub wrap-deep : {M : Type 0} (blank : M) (from to : ℕ) (name : List ℕ) (path : List ℕ) (root : Tree M) (ts : List (Tree M)) → ListAt path root ts → from ≤ to → (is_top path && not ((from == 0) && (to == 1))) ≡ false → depth_of root ≤ MAX_DEPTH

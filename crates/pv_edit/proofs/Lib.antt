@@ -8,3 +8,10 @@ pub mod Listing
 pub mod Deep
 pub mod Parted
 pub mod Refusing
+pub mod Whole
+pub mod Cutting
+pub mod Passing
+pub mod Making
+pub mod Undoing
+pub mod Undone
+pub mod Leading

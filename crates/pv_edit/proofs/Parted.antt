@@ -17,11 +17,11 @@ use Rattle.pv_edit.specs.Reasons.{is_spot, is_text, kids_at, lacks_text, lacks_e
 use Rattle.pv_edit.specs.Places.{IsInner, IsParted, first_spot}
 use Rattle.pv_edit.proofs.Listing.{has_parent, spot-kid}
 
-get-front : {X : Type 0} (front back : List X) (x : X) → slice_get (front ++ x ∷ back) (length front) ≡ Some x
+pub get-front : {X : Type 0} (front back : List X) (x : X) → slice_get (front ++ x ∷ back) (length front) ≡ Some x
 get-front [] back x = refl
 get-front (y ∷ front) back x = get-front front back x
 
-get-more : {X : Type 0} (front back : List X) (x : X) → slice_get (front ++ x ∷ back) (length front + 1) ≡ slice_get back 0
+pub get-more : {X : Type 0} (front back : List X) (x : X) → slice_get (front ++ x ∷ back) (length front + 1) ≡ slice_get back 0
 get-more [] back x = refl
 get-more (y ∷ front) back x = let e : length (y ∷ front) + 1 ≡ suc (length front + 1) = omega arith in rw e (get-more front back x)
 

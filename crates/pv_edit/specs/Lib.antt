@@ -8,3 +8,4 @@ pub mod Places
 pub mod CloseMarks
 pub mod Refusals
 pub mod Fitting
+pub mod Laws

@@ -8,6 +8,7 @@ mod edits;
 mod filling;
 mod given;
 mod inverses;
+pub mod laws;
 mod places;
 mod reasons;
 mod runs;
