@@ -51,7 +51,7 @@ parts_false false false true e = cc
 parts_false false true c e = cc
 parts_false true b c e = cc
 
-kept_by : (declared : List (List ℕ)) (parts : ℕ) (i : Item) (t m l : Bool) → declares_again declared i ≡ t → lists_twice i ≡ m → passes_limit declared parts i ≡ l → None ≡ cond t (Some twice) (cond m (Some mixed_twice) (cond l (Some limit) None)) → Keeps declared parts i
+pub kept_by : (declared : List (List ℕ)) (parts : ℕ) (i : Item) (t m l : Bool) → declares_again declared i ≡ t → lists_twice i ≡ m → passes_limit declared parts i ≡ l → None ≡ cond t (Some twice) (cond m (Some mixed_twice) (cond l (Some limit) None)) → Keeps declared parts i
 kept_by declared parts i true m l a b c e = cc
 kept_by declared parts i false true l a b c e = cc
 kept_by declared parts i false false true a b c e = cc

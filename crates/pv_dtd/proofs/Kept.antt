@@ -62,7 +62,7 @@ one_each skipped = refl
 one_each comment = refl
 one_each instruction = refl
 
-as_many : (items : List Item) → length (models_in items) ≡ length (declared_in items)
+pub as_many : (items : List Item) → length (models_in items) ≡ length (declared_in items)
 as_many [] = refl
 as_many (i ∷ items) = omega (arith, one_each i, as_many items, length-append (model_in i) (models_in items), length-append (declared_by i) (declared_in items))
 

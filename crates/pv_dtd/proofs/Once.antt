@@ -4,6 +4,7 @@ use Rattle.std.proofs.Math.Bool.{or-false}
 use Rattle.std.proofs.lemmas.List.Folds.{list_any-append}
 use Rattle.std.proofs.lemmas.Slice.Eq.{bytes_eq-Decides}
 use Rattle.std.specs.List.{list_all, list_any, slice_get}
+use Rattle.std.proofs.lemmas.Bool.{and_parts}
 use Rattle.std.specs.Str.{bytes_eq}
 use Rattle.pv_dtd.specs.Facts.{are_distinct}
 use Rattle.pv_dtd.specs.Numbering.{each_once}
@@ -75,6 +76,27 @@ once_all_by p x seen xs false true is all below = rw is (below (x ∷ seen) all)
 pub once_all : (p : List ℕ → Bool) (xs seen : List (List ℕ)) → list_all p xs ≡ true → list_all p (each_once seen xs) ≡ true
 once_all p [] seen all = refl
 once_all p (x ∷ xs) seen all = once_all_by p x seen xs (list_any (bytes_eq x) seen) (p x) refl all (once_all p xs)
+
+-- and what holds of each once holds of all
+one_passes : (p : List ℕ → Bool) (x : List ℕ) (seen : List (List ℕ)) → list_all p seen ≡ true → list_any (bytes_eq x) seen ≡ true → p x ≡ true
+one_passes p x [] all there = cc
+one_passes p x (n ∷ ns) all there = let two = and_parts (p n) (list_all p ns) all in by (bytes_eq x n) refl there two.0 (one_passes p x ns two.1)
+  where
+    by : (same : Bool) → bytes_eq x n ≡ same → (same || list_any (bytes_eq x) ns) ≡ true → p n ≡ true → (list_any (bytes_eq x) ns ≡ true → p x ≡ true) → p x ≡ true
+    by true is e first others = ap p ((bytes_eq-Decides x n).0 is) ∙ first
+    by false is e first others = others e
+
+all_once_by : (p : List ℕ → Bool) (x : List ℕ) (seen xs : List (List ℕ)) (there : Bool) → list_any (bytes_eq x) seen ≡ there → list_all p seen ≡ true → list_all p (cond there (each_once seen xs) (x ∷ each_once (x ∷ seen) xs)) ≡ true →
+    ((seen : List (List ℕ)) → list_all p seen ≡ true → list_all p (each_once seen xs) ≡ true → list_all p xs ≡ true) → (p x && list_all p xs) ≡ true
+all_once_by p x seen xs true is before all below = rw (one_passes p x seen before is) (below seen before all)
+all_once_by p x seen xs false is before all below =
+    let two = and_parts (p x) (list_all p (each_once (x ∷ seen) xs)) all in
+    let seen_too : list_all p (x ∷ seen) ≡ true = rw (two.0, before) refl in
+    rw two.0 (below (x ∷ seen) seen_too two.1)
+
+pub all_once : (p : List ℕ → Bool) (xs seen : List (List ℕ)) → list_all p seen ≡ true → list_all p (each_once seen xs) ≡ true → list_all p xs ≡ true
+all_once p [] seen before all = refl
+all_once p (x ∷ xs) seen before all = all_once_by p x seen xs (list_any (bytes_eq x) seen) refl before all (λ s b e. all_once p xs s b e)
 
 -- each of them is one of the names
 one_of_by : (n x : List ℕ) (ns seen : List (List ℕ)) (k : ℕ) (there : Bool) → ((seen : List (List ℕ)) (j : ℕ) → slice_get (each_once seen ns) j ≡ Some x → list_any (bytes_eq x) ns ≡ true) → slice_get (cond there (each_once seen ns) (n ∷ each_once (n ∷ seen) ns)) k ≡ Some x → (bytes_eq x n || list_any (bytes_eq x) ns) ≡ true

@@ -41,14 +41,14 @@ parameter_read place rest e =
     either_read (λ r. HasParameter place) _ _ rest f
     (λ g. section rest (after_bytes_takes (codes "<![") place rest g)) (inner_read place rest))
 
-declaration_is_taken : (word rest : List ℕ) → (word ≡ codes "<!ELEMENT") ⊎ IsSkippedWord word → declaration_word (word ++ rest) ≡ Some rest
+pub declaration_is_taken : (word rest : List ℕ) → (word ≡ codes "<!ELEMENT") ⊎ IsSkippedWord word → declaration_word (word ++ rest) ≡ Some rest
 unfolding declaration_word skipped_word or_else
 declaration_is_taken word rest (inl is) = rw is refl
 declaration_is_taken word rest (inr (inl is)) = rw is refl
 declaration_is_taken word rest (inr (inr (inl is))) = rw is refl
 declaration_is_taken word rest (inr (inr (inr is))) = rw is refl
 
-begins_otherwise : (word rest : List ℕ) → (word ≡ codes "<!ELEMENT") ⊎ IsSkippedWord word → (after_bytes (codes "%") (word ++ rest) ≡ None) × (after_bytes (codes "<![") (word ++ rest) ≡ None)
+pub begins_otherwise : (word rest : List ℕ) → (word ≡ codes "<!ELEMENT") ⊎ IsSkippedWord word → (after_bytes (codes "%") (word ++ rest) ≡ None) × (after_bytes (codes "<![") (word ++ rest) ≡ None)
 begins_otherwise word rest (inl is) = rw is (refl, refl)
 begins_otherwise word rest (inr (inl is)) = rw is (refl, refl)
 begins_otherwise word rest (inr (inr (inl is))) = rw is (refl, refl)

@@ -20,9 +20,9 @@ abbrev pub is_mark : ℕ → Bool
 is_mark b = (b == 40) || (b == 41) || (b == 62)
 
 -- no '>', and as many parentheses are opened as closed
-record IsLevel (text : List ℕ) : Type 0 where
-  unclosed : is_one_of text 62 ≡ false
-  level : how_many 40 text ≡ how_many 41 text
+pub record IsLevel (text : List ℕ) : Type 0 where
+  pub unclosed : is_one_of text 62 ≡ false
+  pub level : how_many 40 text ≡ how_many 41 text
 
 -- so many are open somewhere, and no '>' stands before
 record Rises (n : ℕ) (text : List ℕ) : Type 0 where
@@ -32,7 +32,7 @@ record Rises (n : ℕ) (text : List ℕ) : Type 0 where
   unclosed : is_one_of before 62 ≡ false
   deep : how_many 40 before ≡ n + how_many 41 before
 
-how_many-append : (byte : ℕ) (a b : List ℕ) → how_many byte (a ++ b) ≡ how_many byte a + how_many byte b
+pub how_many-append : (byte : ℕ) (a b : List ℕ) → how_many byte (a ++ b) ≡ how_many byte a + how_many byte b
 how_many-append byte [] b = omega arith
 how_many-append byte (x ∷ xs) b = by (x == byte) (how_many-append byte xs b)
   where
@@ -40,10 +40,10 @@ how_many-append byte (x ∷ xs) b = by (x == byte) (how_many-append byte xs b)
     by true e = omega (arith, e)
     by false e = e
 
-none-append : (a b : List ℕ) → is_one_of a 62 ≡ false → is_one_of b 62 ≡ false → is_one_of (a ++ b) 62 ≡ false
+pub none-append : (a b : List ℕ) → is_one_of a 62 ≡ false → is_one_of b 62 ≡ false → is_one_of (a ++ b) 62 ≡ false
 none-append a b e f = list_any-append (nat_eq 62) a b ∙ rw (e, f) refl
 
-level-append : (a b : List ℕ) → IsLevel a → IsLevel b → IsLevel (a ++ b)
+pub level-append : (a b : List ℕ) → IsLevel a → IsLevel b → IsLevel (a ++ b)
 level-append a b e f = record { unclosed = none-append a b e.unclosed f.unclosed; level = omega (arith, e.level, f.level, how_many-append 40 a b, how_many-append 41 a b) }
 
 rises_behind : (n : ℕ) (a b : List ℕ) → IsLevel a → Rises n b → Rises n (a ++ b)
@@ -83,21 +83,21 @@ level_by b bs false false false p q r all l = record { unclosed = rw (other (nat
     other true is = let at = (Decides-eqb 62 b).0 is in let back = (Decides-eqb b 62).1 (sym at) in cc
     other false is = refl
 
-plain_level : (text : List ℕ) → list_all (λ b. not (is_mark b)) text ≡ true → IsLevel text
+pub plain_level : (text : List ℕ) → list_all (λ b. not (is_mark b)) text ≡ true → IsLevel text
 plain_level [] all = record { unclosed = refl; level = refl }
 plain_level (b ∷ bs) all =
     let here = and_parts (not (is_mark b)) (list_all (λ b. not (is_mark b)) bs) all in
     level_by b bs (b == 40) (b == 41) (b == 62) refl refl refl here.0 (plain_level bs here.1)
 
-space_level : (space : List ℕ) → IsOptionalSpace space → IsLevel space
-space_level space s = plain_level space (all space s)
-  where
-    all : (space : List ℕ) → IsOptionalSpace space → list_all (λ b. not (is_mark b)) space ≡ true
-    all [] s = refl
-    all (b ∷ bs) s =
-        let here = and_parts (is_space b) (list_all is_space bs) s in
-        let white = no_space is_mark record { space = refl; tab = refl; return = refl; feed = refl } b here.0 in
-        rw white (all bs here.1)
+pub plain_space : (space : List ℕ) → IsOptionalSpace space → list_all (λ b. not (is_mark b)) space ≡ true
+plain_space [] s = refl
+plain_space (b ∷ bs) s =
+    let here = and_parts (is_space b) (list_all is_space bs) s in
+    let white = no_space is_mark record { space = refl; tab = refl; return = refl; feed = refl } b here.0 in
+    rw white (plain_space bs here.1)
+
+pub space_level : (space : List ℕ) → IsOptionalSpace space → IsLevel space
+space_level space s = plain_level space (plain_space space s)
 
 mark_by : (b : ℕ) (o c e : Bool) → (b == 40) ≡ o → (b == 41) ≡ c → (b == 62) ≡ e → is_name_byte b ≡ true → not (o || c || e) ≡ true
 mark_by b true c e p q r named = let at = ap is_name_byte ((Decides-eqb b 40).0 p) in cc
@@ -105,8 +105,8 @@ mark_by b false true e p q r named = let at = ap is_name_byte ((Decides-eqb b 41
 mark_by b false false true p q r named = let at = ap is_name_byte ((Decides-eqb b 62).0 r) in cc
 mark_by b false false false p q r named = refl
 
-name_level : (n : List ℕ) → IsName n → IsLevel n
-name_level n is = plain_level n (all n (name_bytes n is))
+pub plain_name : (n : List ℕ) → IsName n → list_all (λ b. not (is_mark b)) n ≡ true
+plain_name n is = all n (name_bytes n is)
   where
     all : (n : List ℕ) → list_all is_name_byte n ≡ true → list_all (λ b. not (is_mark b)) n ≡ true
     all [] e = refl
@@ -114,21 +114,24 @@ name_level n is = plain_level n (all n (name_bytes n is))
         let here = and_parts (is_name_byte b) (list_all is_name_byte bs) e in
         rw (mark_by b (b == 40) (b == 41) (b == 62) refl refl refl here.0) (all bs here.1)
 
+pub name_level : (n : List ℕ) → IsName n → IsLevel n
+name_level n is = plain_level n (plain_name n is)
+
 -- the separators and operators
 separator_level : (separator : List ℕ) → list_all (λ b. not (is_mark b)) separator ≡ true → IsLevel separator
 separator_level separator e = plain_level separator e
 
-opened_level : (inner : List ℕ) → IsLevel inner → IsLevel (40 ∷ (inner ++ codes ")"))
+pub opened_level : (inner : List ℕ) → IsLevel inner → IsLevel (40 ∷ (inner ++ codes ")"))
 opened_level inner l = record { unclosed = none-append inner (codes ")") l.unclosed refl; level = omega (arith, l.level, how_many-append 40 inner (codes ")"), how_many-append 41 inner (codes ")")) }
 
-group_regrouped : (before first others after : List ℕ) → codes "(" ++ before ++ first ++ others ++ after ++ codes ")" ≡ 40 ∷ ((before ++ (first ++ (others ++ after))) ++ codes ")")
+pub group_regrouped : (before first others after : List ℕ) → codes "(" ++ before ++ first ++ others ++ after ++ codes ")" ≡ 40 ∷ ((before ++ (first ++ (others ++ after))) ++ codes ")")
 group_regrouped before first others after = simp append_assoc
 
-others_regrouped : (before separator space next others : List ℕ) → before ++ separator ++ space ++ next ++ others ≡ before ++ (separator ++ (space ++ (next ++ others)))
+pub others_regrouped : (before separator space next others : List ℕ) → before ++ separator ++ space ++ next ++ others ≡ before ++ (separator ++ (space ++ (next ++ others)))
 others_regrouped before separator space next others = simp append_assoc
 
 mutual
-  part_level : (p : NamedPart) (text : List ℕ) → SpellsPart p text → IsLevel text
+  pub part_level : (p : NamedPart) (text : List ℕ) → SpellsPart p text → IsLevel text
   part_level (name n) text s = rw s.1 (name_level n s.0)
   part_level (seq ps) text s = group_level (codes ",") ps text refl s
   part_level (choice ps) text s = group_level (codes "|") ps text refl s.1
@@ -142,7 +145,7 @@ mutual
       rw (s.8, group_regrouped s.0 s.1 s.2 s.3) (opened_level (s.0 ++ (s.1 ++ (s.2 ++ s.3)))
       (level-append s.0 (s.1 ++ (s.2 ++ s.3)) (space_level s.0 s.4) (level-append s.1 (s.2 ++ s.3) (part_level p s.1 s.5) (level-append s.2 s.3 (others_level separator ps s.2 plain s.6) (space_level s.3 s.7)))))
 
-  others_level : (separator : List ℕ) (ps : NamedParts) (text : List ℕ) → list_all (λ b. not (is_mark b)) separator ≡ true → SpellsOthers separator ps text → IsLevel text
+  pub others_level : (separator : List ℕ) (ps : NamedParts) (text : List ℕ) → list_all (λ b. not (is_mark b)) separator ≡ true → SpellsOthers separator ps text → IsLevel text
   others_level separator no_parts text plain s = rw s record { unclosed = refl; level = refl }
   others_level separator (part p ps) text plain s =
       rw (s.8, others_regrouped s.0 separator s.1 s.2 s.3) (level-append s.0 (separator ++ (s.1 ++ (s.2 ++ s.3))) (space_level s.0 s.4)

@@ -13,15 +13,16 @@ use Rattle.pv_dtd.specs.Facts.{are_distinct, MAX_TYPES, MAX_PARTS}
 use Rattle.pv_dtd.specs.Items.{NamedModel, Item, text_declaration, element, skipped, comment, instruction, declared_by, declared_in, model_in, models_in, mentioned_by, parts_by, parts_of_models}
 use Rattle.pv_dtd.specs.Kinds.{Kind, parameter, nesting, syntax, declares_again, is_too_long}
 use Rattle.pv_dtd.specs.Meaning.{is_place, is_front, Outcome, is_dtd, faulty, Means, ends, item, fault}
+use Rattle.pv_dtd.specs.Spelling.{Begins}
 use Rattle.pv_dtd.specs.Numbering.{numbered}
 use Rattle.pv_dtd.specs.Naming.{grown}
 use Rattle.pv_dtd.specs.ItemReading.{item_at, parameter_at, is_too_deep, early_kind, broken_rule}
-use Rattle.pv_dtd.specs.SoFar.{IsSound, AreSound, Declares}
+use Rattle.pv_dtd.specs.SoFar.{IsShallowItem, IsSound, AreSound, AreRuled, Declares}
 use Rattle.pv_dtd.specs.Plain.{place_of}
 use Rattle.pv_dtd.proofs.Places.{is_some-place}
 use Rattle.pv_dtd.proofs.Distinct.{bytes_eq-swap}
 use Rattle.pv_dtd.proofs.ItemsRead.{item_read}
-use Rattle.pv_dtd.proofs.Breaking.{kept}
+use Rattle.pv_dtd.proofs.Breaking.{Keeps, kept}
 use Rattle.pv_dtd.proofs.OneMeaning.{goes_to, all_space, no_item, rule_broken, no_rule_broken, early_fault, item_begins}
 
 -- Behind so many items, which declare these names, models and parts, the rest means what the text means.
@@ -54,11 +55,11 @@ sound-append : (items : List Item) (i : Item) → AreSound items → IsSound i �
 sound-append [] i s is = (is, tt)
 sound-append (j ∷ js) i s is = (s.0, sound-append js i s.1 is)
 
-parts-append : (ms ns : List NamedModel) → parts_of_models (ms ++ ns) ≡ parts_of_models ms + parts_of_models ns
+pub parts-append : (ms ns : List NamedModel) → parts_of_models (ms ++ ns) ≡ parts_of_models ms + parts_of_models ns
 parts-append [] ns = omega arith
 parts-append (m ∷ ms) ns = omega (arith, parts-append ms ns)
 
-parts_of_item : (i : Item) → parts_of_models (model_in i) ≡ parts_by i
+pub parts_of_item : (i : Item) → parts_of_models (model_in i) ≡ parts_by i
 parts_of_item text_declaration = refl
 parts_of_item (element n model) = omega arith
 parts_of_item skipped = refl
@@ -89,6 +90,20 @@ differ_behind names text_declaration d new = ap are_distinct (append-nil names) 
 differ_behind names skipped d new = ap are_distinct (append-nil names) ∙ d
 differ_behind names comment d new = ap are_distinct (append-nil names) ∙ d
 differ_behind names instruction d new = ap are_distinct (append-nil names) ∙ d
+
+pub joined : {A : Type 0} (f : Item → List A) (before : List Item) (i : Item) → flat_map f (before ++ i ∷ []) ≡ flat_map f before ++ f i
+joined f before i = flat_map-append f before (i ∷ []) ∙ ap (λ xs. flat_map f before ++ xs) (append-nil (f i))
+
+-- ruled items, and behind them one that keeps the rules
+pub ruled_more : (before : List Item) (i : Item) → AreRuled before → {front : Bool} {place rest : List ℕ} → Begins front place i rest → IsShallowItem i → Keeps (declared_in before) (parts_of_models (models_in before)) i → AreRuled (before ++ i ∷ [])
+ruled_more before i r b shallow k =
+    let long = or_parts (list_any is_too_long (declared_by i)) (list_any is_too_long (mentioned_by i)) (sym (list_any-append is_too_long (declared_by i) (mentioned_by i)) ∙ k.short) in
+    record {
+      sound = sound-append before i r.sound record { text = b.text; spelled = b.spelled; shallow = shallow; differ = k.differ; short = long.0; mentions_short = long.1 };
+      once = ap are_distinct (joined declared_by before i) ∙ differ_behind (declared_in before) i r.once k.new;
+      few_types = omega (arith, ap length (joined declared_by before i), k.few_types);
+      few_parts = omega (arith, ap parts_of_models (joined model_in before i), parts-append (models_in before) (model_in i), parts_of_item i, k.few_parts);
+    }
 
 module _ (bytes : List ℕ) (count : ℕ) (names : List (List ℕ)) (models : List NamedModel) (parts : ℕ) (rest : List ℕ) (s : AreSoFar bytes count names models parts rest) (place : List ℕ) (at : place ≡ after_space rest) where
   pub all_read : place ≡ [] → (items : List Item) × Means [] bytes (is_dtd (numbered items)) × Declares names models parts items
@@ -136,30 +151,21 @@ module _ (bytes : List ℕ) (count : ℕ) (names : List (List ℕ)) (models : Li
         pub few_more : None ≡ broken_rule names parts i → parts + parts_by i ≤ MAX_PARTS
         few_more keeps = (kept names parts i keeps).few_parts
 
-        joined : {A : Type 0} (f : Item → List A) → flat_map f (s.before ++ i ∷ []) ≡ flat_map f s.before ++ f i
-        joined f = flat_map-append f s.before (i ∷ []) ∙ ap (λ xs. flat_map f s.before ++ xs) (append-nil (f i))
-
         pub one_more : None ≡ broken_rule names parts i → (after : List (List ℕ)) → after ≡ grown names (declared_by i) → (all : List NamedModel) → all ≡ models ++ model_in i → (sum : ℕ) → sum ≡ parts + parts_by i →
             length more < length place → length place ≤ length rest → AreSoFar bytes (count + 1) after all sum more
         one_more keeps after is_after all is_all sum is_sum shorter within =
             let k = kept names parts i keeps in
             let begun = item_read front place (i, more) is_read in
-            let long = or_parts (list_any is_too_long (declared_by i)) (list_any is_too_long (mentioned_by i)) (sym (list_any-append is_too_long (declared_by i) (mentioned_by i)) ∙ k.short) in
-            let names_are : names ++ declared_by i ≡ declared_in (s.before ++ i ∷ []) = ap (λ ns. ns ++ declared_by i) s.declares.names_are ∙ sym (joined declared_by) in
-            let parts_are : sum ≡ parts_of_models (models_in (s.before ++ i ∷ [])) = is_sum ∙ omega (arith, s.declares.parts_are, ap parts_of_models (joined model_in), parts-append (models_in s.before) (model_in i), parts_of_item i) in
-            let once : are_distinct names ≡ true = ap are_distinct s.declares.names_are ∙ s.declares.ruled.once in
+            let behind = subst (λ n. Keeps (declared_in s.before) n i) s.declares.parts_are (subst (λ ns. Keeps ns parts i) s.declares.names_are k) in
+            let names_are : names ++ declared_by i ≡ declared_in (s.before ++ i ∷ []) = ap (λ ns. ns ++ declared_by i) s.declares.names_are ∙ sym (joined declared_by s.before i) in
+            let parts_are : sum ≡ parts_of_models (models_in (s.before ++ i ∷ [])) = is_sum ∙ omega (arith, s.declares.parts_are, ap parts_of_models (joined model_in s.before i), parts-append (models_in s.before) (model_in i), parts_of_item i) in
             record {
               before = s.before ++ i ∷ [];
               counted = omega (arith, s.counted, length-append s.before (i ∷ []));
               declares = record {
-                ruled = record {
-                  sound = sound-append s.before i s.declares.ruled.sound record { text = begun.begun.text; spelled = begun.begun.spelled; shallow = begun.shallow; differ = k.differ; short = long.0; mentions_short = long.1 };
-                  once = ap are_distinct (sym names_are) ∙ differ_behind names i once k.new;
-                  few_types = omega (arith, ap length names_are, k.few_types);
-                  few_parts = omega (arith, parts_are, is_sum, k.few_parts);
-                };
+                ruled = ruled_more s.before i s.declares.ruled begun.begun begun.shallow behind;
                 names_are = is_after ∙ declared_behind names i k.new ∙ names_are;
-                models_are = is_all ∙ ap (λ ms. ms ++ model_in i) s.declares.models_are ∙ sym (joined model_in);
+                models_are = is_all ∙ ap (λ ms. ms ++ model_in i) s.declares.models_are ∙ sym (joined model_in s.before i);
                 parts_are = parts_are;
               };
               within = omega (arith, s.within, shorter, within);

@@ -11,6 +11,7 @@ pub mod Naming
 pub mod Spelling
 pub mod Kinds
 pub mod Meaning
+pub mod DtdTexts
 pub mod PartReading
 pub mod ItemReading
 pub mod SoFar

@@ -4,8 +4,9 @@
 //! the grammar of items in `specs/Spelling.antt` and the kinds of faults in `specs/Kinds.antt`). Names get their numbers in
 //! `specs/Numbering.antt`. `Dtd` holds names and content models; contracts see it as a `PlainDtd` (`specs/Plain.antt`), and its ghost
 //! fields say what each DTD keeps (`specs/Facts.antt`). What it means that an element is good, a document valid or a name productive is
-//! said here, of hedges (`specs/Hedge.antt`, `specs/Productive.antt`). `laws` has what follows: each text has one meaning, and what other
-//! laws ask of a DTD holds of every one (`specs/Proper.antt`).
+//! said here, of hedges (`specs/Hedge.antt`, `specs/Productive.antt`). `laws` has what follows: each text has one meaning; it means a DTD
+//! exactly where it is a text of this DTD by XML's productions (`specs/DtdTexts.antt`) and the limits hold; and what other laws ask of a
+//! DTD holds of every one (`specs/Proper.antt`).
 #![tactic(auto)]
 
 mod declarations;
