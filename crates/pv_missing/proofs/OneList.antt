@@ -120,7 +120,7 @@ root_word g y n h proper p = (
 pub root_list : RootList
 root_list g y n h live proper p l = rw (live_same g (word g h) live l (productive_tokens g h p)) (root_word g y n h proper p)
 
-extends_refl : (h : Hedge) → Extends h h
+pub extends_refl : (h : Hedge) → Extends h h
 extends_refl done = both_done
 extends_refl (leaf l h) = same_leaf l h h (extends_refl h)
 extends_refl (elem x t k h) = same_element x t k k h h (extends_refl k) (extends_refl h)

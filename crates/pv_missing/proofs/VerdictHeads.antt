@@ -61,7 +61,7 @@ root_alike g root k k' e l = record {
   possible = l.possible;
 }
 
-live_alike : {M N : Type 0} (g : PlainDtd) (root : List ℕ) (o : Owner) (k : Forest M) (k' : Forest N) → heads_of k ≡ heads_of k' → IsLiveBy g root o k → IsLiveBy g root o k'
+pub live_alike : {M N : Type 0} (g : PlainDtd) (root : List ℕ) (o : Owner) (k : Forest M) (k' : Forest N) → heads_of k ≡ heads_of k' → IsLiveBy g root o k → IsLiveBy g root o k'
 live_alike g root the_document k k' e l = root_alike g root k k' e l
 live_alike g root (an_element x) k k' e l = content_alike g x k k' e l
 

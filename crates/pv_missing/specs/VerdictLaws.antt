@@ -3,9 +3,15 @@ use Rattle.std.specs.Prelude.{List, ℕ, ◌↔◌, ◌≡◌}
 use Rattle.std.specs.List.{Contains}
 use Rattle.pv_dtd.specs.Plain.{PlainDtd}
 use Rattle.pv_tree.specs.Heads.{heads_of}
-use Rattle.pv_tree.specs.Lists.{Listed}
+use Rattle.pv_dtd.specs.Hedge.{IsValid}
+use Rattle.pv_dtd.specs.Proper.{IsProperDtd}
+use Rattle.pv_tree.specs.Lists.{Listed, lists_of}
+use Rattle.pv_tree.specs.Plain.{PlainDoc}
+use Rattle.pv_tree.specs.View.{view}
 use Rattle.pv_tree.specs.Words.{word_of}
-use Rattle.pv_missing.specs.Verdicts.{AreVerdicts, IsFirstImpossible, IsVerdict}
+use Rattle.pv_missing.specs.Completing.{IsPotentiallyValid}
+use Rattle.pv_missing.specs.Proper.{IsProperDoc}
+use Rattle.pv_missing.specs.Verdicts.{AreVerdicts, IsFirstImpossible, IsVerdict, possible_in}
 use Rattle.pv_missing.specs.WordVerdicts.{HoldsOne, IsVerdictByWord, has_no_trees}
 use Rattle.pv_tree.specs.declared.nodes.Verdict.{Verdict}
 use Rattle.pv_tree.specs.declared.nodes.Verdict.TheVariants as verdict
@@ -32,3 +38,9 @@ abbrev pub VerdictByWord : (M : Type 0) → Type 0
 VerdictByWord M = (g : PlainDtd) (root : List ℕ) (list : Listed M) (v : Verdict) →
     HoldsOne list.owner list.kids →
     IsVerdict g root list v ↔ IsVerdictByWord g root list.owner (word_of g list.kids) (has_no_trees list.kids) v
+
+-- a document is valid exactly where it is potentially valid and none of its lists is Possible
+abbrev pub NonePossible : (M : Type 0) → Type 0
+NonePossible M = (g : PlainDtd) (root : List ℕ) (doc : PlainDoc M) (vs : List Verdict) →
+    IsProperDtd g → IsProperDoc doc → AreVerdicts g root (lists_of doc) vs →
+    IsValid g root (view doc.root) ↔ (IsPotentiallyValid g root (view doc.root) × (possible_in vs ≡ 0))

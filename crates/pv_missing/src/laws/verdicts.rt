@@ -1,6 +1,6 @@
 //! Laws of verdicts. `M` and `N` are types of marks.
 
-ghost use Rattle.pv_missing.specs.VerdictLaws.{ImpossibleHasFirst, OneListOfVerdicts, VerdictByHeads, VerdictByWord};
+ghost use Rattle.pv_missing.specs.VerdictLaws.{ImpossibleHasFirst, NonePossible, OneListOfVerdicts, VerdictByHeads, VerdictByWord};
 
 /// Lists have at most one list of verdicts.
 pub fn one_list_of_verdicts_law<M>()
@@ -20,4 +20,9 @@ pub fn verdict_by_heads_law<M, N>()
 /// A verdict looks at the owner, at the word, and at whether there are no kids of any kind.
 pub fn verdict_by_word_law<M>()
     ensures { VerdictByWord M }
+{}
+
+/// A document is valid exactly where it is potentially valid and none of its lists is Possible.
+pub fn none_possible_law<M>()
+    ensures { NonePossible M }
 {}
