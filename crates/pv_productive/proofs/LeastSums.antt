@@ -109,7 +109,7 @@ module _ (g : PlainDtd) (t : Table) where
 
 module _ (g : PlainDtd) (flat : FlatDtd) (are : IsFlat g flat) where
   -- the content model that a flat one was made of
-  content_case : (x : ℕ) (f : FlatContent) (o : Option PlainModel) → model_of g x ≡ o → slice_get flat.contents.items x ≡ Some f →
+  pub content_case : (x : ℕ) (f : FlatContent) (o : Option PlainModel) → model_of g x ≡ o → slice_get flat.contents.items x ≡ Some f →
       (m : PlainModel) × (model_of g x ≡ Some m) × (f ≡ one_content (first_part g x) m)
   content_case x f None e h = absurd (let n = (flat_by_number g).no_content x e in let z = are.contents in cc)
   content_case x f (Some m) e h = (m, e, let n = (flat_by_number g).contents x m e in let z = are.contents in cc)

@@ -1,0 +1,145 @@
+-- The rules of a part are laid out.
+use Rattle.std.proofs.Common.{List, None, Option, Some, [], ap, arith, inl, inr, refl, subst, suc, sym, ℕ, ◌+◌, ◌<◌, ◌∙◌, ◌∷◌, ◌≡◌, ◌≤◌, ◌⊎◌}
+use Rattle.std.proofs.lemmas.Bool.{cases_lt}
+use Rattle.pv_model.specs.Plain.{PlainPart, PlainParts, choice, name, opt, plus, seq, star}
+use Rattle.pv_model.specs.declared.models.Token.{Token}
+use Rattle.pv_dtd.specs.Plain.{PlainDtd, declared, parts_in, parts_in_all}
+use Rattle.pv_rules.specs.Numbering.{IsMemberAt, part_at}
+use Rattle.pv_rules.proofs.Members.{first_at, member_within, members_apart, next_at, some_part}
+use Rattle.pv_reach.specs.Adding.{Adds, AreSound, Grow, IsRuleOfPart, LaysOut}
+use Rattle.pv_reach.specs.Columns.{Has, IsPartRule, RightSide, member_columns, of_part, part_column, token_of}
+use Rattle.pv_reach.specs.declared.rules.ColumnRule.{ColumnRule}
+use Rattle.pv_reach.proofs.Pushing.{adds_as, grow_none, grow_twice, has_as, sound_more}
+
+-- a column without rules
+pub laid_none : (g : PlainDtd) (old : List ColumnRule) (l : ℕ) (S : RightSide) → ((o : Option Token) (cs : List ℕ) → S o cs → ⊥) → LaysOut g old old l S
+laid_none g old l S never = record { sound = λ s. s; grow = grow_none old; complete = λ o cs s. absurd (never o cs s) }
+
+module _ (g : PlainDtd) (q c : ℕ) (is : c ≡ part_column g q) (p : PlainPart) (at : part_at g q ≡ Some p) where
+  abbrev S : RightSide
+  S = IsRuleOfPart g q
+
+  -- the part at this number is the one that is known
+  its : (o : Option Token) (cs : List ℕ) → S o cs → IsPartRule g q p o cs
+  its o cs (n, e, rule) = let z : n ≡ p = cc in let P : PlainPart → Type 0 = λ v. IsPartRule g q v o cs in subst P z rule
+
+  pub laid_one : (old new : List ColumnRule) (o : Option Token) (cs : List ℕ) → IsPartRule g q p o cs → Adds old new c o cs →
+      ((u : Option Token) (ds : List ℕ) → IsPartRule g q p u ds → (u ≡ o) × (ds ≡ cs)) → LaysOut g old new (part_column g q) S
+  laid_one old new o cs rule adds only = go (adds_as old new c (part_column g q) o cs cs is refl adds)
+    where
+      go : Adds old new (part_column g q) o cs → LaysOut g old new (part_column g q) S
+      go a = record {
+        sound = sound_more g old new (part_column g q) o cs (of_part q p at refl rule) a;
+        grow = a.grow;
+        complete = λ u ds s. let r = only u ds (its u ds s) in has_as new (part_column g q) (part_column g q) u o ds cs refl r.0 r.1 a.has;
+      }
+
+  pub laid_two : (old mid new : List ColumnRule) (o u : Option Token) (cs ds : List ℕ) → IsPartRule g q p o cs → IsPartRule g q p u ds → Adds old mid c o cs → Adds mid new c u ds →
+      ((v : Option Token) (es : List ℕ) → IsPartRule g q p v es → ((v ≡ o) × (es ≡ cs)) ⊎ ((v ≡ u) × (es ≡ ds))) → LaysOut g old new (part_column g q) S
+  laid_two old mid new o u cs ds one two a b only =
+      go (adds_as old mid c (part_column g q) o cs cs is refl a) (adds_as mid new c (part_column g q) u ds ds is refl b)
+    where
+      go : Adds old mid (part_column g q) o cs → Adds mid new (part_column g q) u ds → LaysOut g old new (part_column g q) S
+      go a b = record {
+        sound = λ s. sound_more g mid new (part_column g q) u ds (of_part q p at refl two) b (sound_more g old mid (part_column g q) o cs (of_part q p at refl one) a s);
+        grow = grow_twice old mid new a.grow b.grow;
+        complete = λ v es s. elim (only v es (its v es s)) [
+          | inl r ↦ has_as new (part_column g q) (part_column g q) v o es cs refl r.0 r.1 (b.grow.keeps (part_column g q) o cs a.has)
+          | inr r ↦ has_as new (part_column g q) (part_column g q) v u es ds refl r.0 r.1 b.has
+        ];
+      }
+
+module _ (g : PlainDtd) (q c : ℕ) (is : c ≡ part_column g q) where
+  pub name_two : (y n : ℕ) (old mid new : List ColumnRule) → part_at g q ≡ Some (name y) → n ≡ declared g → y < n → Adds old mid c (Some (token_of y)) [] → Adds mid new c None (y ∷ []) →
+      LaysOut g old new (part_column g q) (IsRuleOfPart g q)
+  name_two y n old mid new at e lt a b =
+      laid_two g q c is (name y) at old mid new (Some (token_of y)) None [] (y ∷ []) (inl (refl, refl)) (inr (omega arith, refl, refl)) a b
+      (λ v es rule. elim rule [ inl r ↦ inl r | inr r ↦ inr (r.1, r.2) ])
+
+  pub name_one : (y n : ℕ) (old new : List ColumnRule) → part_at g q ≡ Some (name y) → n ≡ declared g → n ≤ y → Adds old new c (Some (token_of y)) [] →
+      LaysOut g old new (part_column g q) (IsRuleOfPart g q)
+  name_one y n old new at e le a =
+      laid_one g q c is (name y) at old new (Some (token_of y)) [] (inl (refl, refl)) a
+      (λ v es rule. elim rule [ inl r ↦ r | inr r ↦ absurd (let l = r.0 in omega arith) ])
+
+  pub seq_laid : (old new : List ColumnRule) (ps : PlainParts) (cs : List ℕ) → part_at g q ≡ Some (seq ps) → cs ≡ member_columns g (suc q) ps → Adds old new c None cs →
+      LaysOut g old new (part_column g q) (IsRuleOfPart g q)
+  seq_laid old new ps cs at e a = laid_one g q c is (seq ps) at old new None cs (refl, e) a (λ v es rule. (rule.0, rule.1 ∙ sym e))
+
+  next_column : (d : ℕ) → d ≡ c + 1 → d ≡ part_column g (suc q)
+  next_column d e = omega arith
+
+  two_columns : (d b : ℕ) → d ≡ c + 1 → b ≡ c → d ∷ b ∷ [] ≡ part_column g (suc q) ∷ part_column g q ∷ []
+  two_columns d b e f = let x : d ≡ part_column g (suc q) = omega arith in let y : b ≡ part_column g q = omega arith in cc
+
+  pub opt_laid : (old mid new : List ColumnRule) (p : PlainPart) → part_at g q ≡ Some (opt p) → Adds old mid c None [] → Adds mid new c None ((c + 1) ∷ []) →
+      LaysOut g old new (part_column g q) (IsRuleOfPart g q)
+  opt_laid old mid new p at a b =
+      let z : c + 1 ≡ part_column g (suc q) = omega arith in
+      laid_two g q c is (opt p) at old mid new None None [] ((c + 1) ∷ []) (refl, inl refl) (refl, inr (ap (λ v. v ∷ []) z)) a b
+      (λ v es rule. elim rule.1 [ inl r ↦ inl (rule.0, r) | inr r ↦ inr (rule.0, r ∙ sym (ap (λ v. v ∷ []) z)) ])
+
+  pub star_laid : (old mid new : List ColumnRule) (p : PlainPart) → part_at g q ≡ Some (star p) → Adds old mid c None [] → Adds mid new c None ((c + 1) ∷ c ∷ []) →
+      LaysOut g old new (part_column g q) (IsRuleOfPart g q)
+  star_laid old mid new p at a b =
+      let z = two_columns (c + 1) c refl refl in
+      laid_two g q c is (star p) at old mid new None None [] ((c + 1) ∷ c ∷ []) (refl, inl refl) (refl, inr z) a b
+      (λ v es rule. elim rule.1 [ inl r ↦ inl (rule.0, r) | inr r ↦ inr (rule.0, r ∙ sym z) ])
+
+  pub plus_laid : (old mid new : List ColumnRule) (p : PlainPart) → part_at g q ≡ Some (plus p) → Adds old mid c None ((c + 1) ∷ []) → Adds mid new c None ((c + 1) ∷ c ∷ []) →
+      LaysOut g old new (part_column g q) (IsRuleOfPart g q)
+  plus_laid old mid new p at a b =
+      let y : c + 1 ≡ part_column g (suc q) = omega arith in
+      let x = ap (λ v. v ∷ []) y in
+      let z = two_columns (c + 1) c refl refl in
+      laid_two g q c is (plus p) at old mid new None None ((c + 1) ∷ []) ((c + 1) ∷ c ∷ []) (refl, inl x) (refl, inr z) a b
+      (λ v es rule. elim rule.1 [ inl r ↦ inl (rule.0, r ∙ sym x) | inr r ↦ inr (rule.0, r ∙ sym z) ])
+
+-- the members of choice number q before number m have their rules, and one stands there if any is left
+pub record IsPassed (g : PlainDtd) (q : ℕ) (ps : PlainParts) (old now : List ColumnRule) (m : ℕ) : Type 0 where
+  pub sound : AreSound g old → AreSound g now
+  pub grow : Grow old now
+  pub next : m < suc q + parts_in_all ps → (p : PlainPart) × IsMemberAt p m (suc q) ps
+  pub passed : (p : PlainPart) (r : ℕ) → IsMemberAt p r (suc q) ps → r < m → Has now (part_column g q) None (part_column g r ∷ [])
+
+pub passed_none : (g : PlainDtd) (q : ℕ) (ps : PlainParts) (old : List ColumnRule) (m : ℕ) → m ≡ suc q → IsPassed g q ps old old m
+passed_none g q ps old m e = record {
+  sound = λ s. s;
+  grow = grow_none old;
+  next = λ lt. rw e (first_at (suc q) ps (omega arith));
+  passed = λ p r a lt. absurd (let w = member_within p r (suc q) ps a in omega arith);
+}
+
+module _ (g : PlainDtd) (q : ℕ) (ps : PlainParts) (old now new : List ColumnRule) (m c d : ℕ) (is : c ≡ part_column g q) (its : d ≡ part_column g m) (at : part_at g q ≡ Some (choice ps))
+    (l : IsPassed g q ps old now m) (p : PlainPart) (a : IsMemberAt p m (suc q) ps) where
+  -- one member more
+  pub passed_more : (n : ℕ) → n ≡ m + parts_in p → Adds now new c None (d ∷ []) → IsPassed g q ps old new n
+  passed_more n e adds = go (adds_as now new c (part_column g q) None (d ∷ []) (part_column g m ∷ []) is (ap (λ v. v ∷ []) its) adds)
+    where
+      passed_case : Adds now new (part_column g q) None (part_column g m ∷ []) → (o : PlainPart) (r : ℕ) → IsMemberAt o r (suc q) ps → r < m + parts_in p → (suc r ≤ m) ⊎ (m ≤ r) →
+          Has new (part_column g q) None (part_column g r ∷ [])
+      passed_case b o r h lt (inl x) = b.grow.keeps (part_column g q) None (part_column g r ∷ []) (l.passed o r h x)
+      passed_case b o r h lt (inr x) =
+          let z : m ≡ r = members_apart p o m r (suc q) ps a h x lt in
+          let P : ℕ → Type 0 = λ v. Has new (part_column g q) None (part_column g v ∷ []) in subst P z b.has
+
+      go : Adds now new (part_column g q) None (part_column g m ∷ []) → IsPassed g q ps old new n
+      go b = record {
+        sound = λ s. sound_more g now new (part_column g q) None (part_column g m ∷ []) (of_part q (choice ps) at refl (p, m, a, refl, refl)) b (l.sound s);
+        grow = grow_twice old now new l.grow b.grow;
+        next = λ lt. rw e (next_at p m (suc q) ps a (omega arith));
+        passed = λ o r h lt. passed_case b o r h (omega arith) (cases_lt r m);
+      }
+
+pub choice_laid : (g : PlainDtd) (q : ℕ) (ps : PlainParts) (old now : List ColumnRule) (m : ℕ) → part_at g q ≡ Some (choice ps) → IsPassed g q ps old now m → suc q + parts_in_all ps ≤ m →
+    LaysOut g old now (part_column g q) (IsRuleOfPart g q)
+choice_laid g q ps old now m at l e = record {
+  sound = l.sound;
+  grow = l.grow;
+  complete = λ o cs s. go o cs (its g q (part_column g q) refl (choice ps) at o cs s);
+}
+  where
+    go : (o : Option Token) (cs : List ℕ) → IsPartRule g q (choice ps) o cs → Has now (part_column g q) o cs
+    go o cs (p, r, a, f, h) =
+        has_as now (part_column g q) (part_column g q) o None cs (part_column g r ∷ []) refl f h
+        (l.passed p r a (let w = member_within p r (suc q) ps a in let z = some_part p in omega arith))

@@ -1,0 +1,16 @@
+pub mod Cells
+pub mod Closing
+pub mod FormedDtds
+pub mod Laying
+pub mod Listing
+pub mod Membering
+pub mod Naming
+pub mod PossibleSites
+pub mod Placing
+pub mod Pushing
+pub mod Ranging
+pub mod Emptied
+pub mod ColumnsDerive
+pub mod Raising
+pub mod SitesReach
+pub mod Spans

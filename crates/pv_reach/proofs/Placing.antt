@@ -1,0 +1,40 @@
+-- Numbers that are placed once.
+use Rattle.std.proofs.Common.{Bool, Contains, List, [], ap, arith, false, get_or, inl, inr, length, refl, replicate, suc, sym, take, true, zero, ℕ, ◌++◌, ◌+◌, ◌<◌, ◌∙◌, ◌∷◌, ◌≡◌, ◌⊎◌}
+use Rattle.std.proofs.lemmas.List.Elements.{Contains-append_left, Contains-append_right}
+use Rattle.pv_reach.proofs.Naming.{either_name}
+
+-- what is marked is placed, and so is what the loop has passed
+pub record ArePlaced (names once : List ℕ) (marks : List Bool) (i : ℕ) : Type 0 where
+  pub marked : (x : ℕ) → get_or marks x false ≡ true → Contains once x
+  pub passed : (x : ℕ) → Contains (take i names) x → Contains once x
+
+module _ (names once : List ℕ) (marks : List Bool) (i : ℕ) (before : ArePlaced names once marks i) (lt : i < length names) where
+  pub placed_before : get_or marks (get_or names i 0) false ≡ true → ArePlaced names once marks (i + 1)
+  placed_before e = record {
+    marked = before.marked;
+    passed = λ x con. elim (either_name names i lt x con) [ inl c ↦ before.passed x c | inr z ↦ rw z (before.marked (get_or names i 0) e) ];
+  }
+
+  pub placed_now : (new : List ℕ) (after : List Bool) → new ≡ once ++ (get_or names i 0 ∷ []) → ((x : ℕ) → get_or after x false ≡ true → (x ≡ get_or names i 0) ⊎ (get_or marks x false ≡ true)) →
+      ArePlaced names new after (i + 1)
+  placed_now new after e marks_of = record {
+    marked = λ x m. elim (marks_of x m) [ inl z ↦ rw z here | inr k ↦ kept x (before.marked x k) ];
+    passed = λ x con. elim (either_name names i lt x con) [ inl c ↦ kept x (before.passed x c) | inr z ↦ rw z here ];
+  }
+    where
+      kept : (x : ℕ) → Contains once x → Contains new x
+      kept x c = rw e (Contains-append_left once (get_or names i 0 ∷ []) x c)
+
+      here : Contains new (get_or names i 0)
+      here = rw e (Contains-append_right once (get_or names i 0 ∷ []) (get_or names i 0) (0, omega arith, refl))
+
+unmarked : (n x : ℕ) → get_or (replicate n false) x false ≡ false
+unmarked zero x = refl
+unmarked (suc n) zero = refl
+unmarked (suc n) (suc x) = unmarked n x
+
+pub placed_none : (names once : List ℕ) (marks : List Bool) (n : ℕ) → marks ≡ replicate n false → ArePlaced names once marks 0
+placed_none names once marks n e = record {
+  marked = λ x m. absurd (let z = unmarked n x in let y = ap (λ v. get_or v x false) e in cc);
+  passed = λ x t. absurd (let l = t.1 in omega arith);
+}

@@ -1,0 +1,23 @@
+use Rattle.std.proofs.Common.{Contains, List, arith, ap, false, get_or, rules, subst, sym, take, ℕ, ◌∙◌, ◌≡◌}
+use Rattle.std.proofs.lemmas.List.{take_all}
+use Rattle.pv_reach.proofs.Placing.{placed_before, placed_none, placed_now}
+use Rattle.pv_reach.proofs.order.each_once.Goals.{then-not-is_marked+in_ok-push, else-not-is_marked}
+use Rattle.pv_reach.proofs.order.each_once.Goals as goal
+
+pub loop-name-init : goal.loop-name-init
+loop-name-init c = placed_none c.args.names.now c.new-once.result.items c.in_ok-marks.marks.items c.args.count (c.in_ok-marks.ensures.items_if_clones_equal (λ y e. e))
+
+pub loop-name-preserved : goal.loop-name-preserved
+loop-name-preserved c = elim c.if-not-is_marked.branch [
+  | then-not-is_marked+in_ok-push w ↦
+      rw (w.once-is, w.marks-is)
+      (placed_now c.args.names.now c.loop-name.once.items c.loop-name.marks.items c.loop-name.name-index c.loop-name.invariant c.loop-name-test.true w.push.new.self.items w.mark.new.marks.items
+      w.in_ok-push.ensures.items w.mark.ensures)
+  | else-not-is_marked w ↦
+      rw (w.once-is, w.marks-is)
+      (placed_before c.args.names.now c.loop-name.once.items c.loop-name.marks.items c.loop-name.name-index c.loop-name.invariant c.loop-name-test.true
+      (ap (λ v. get_or v (get_or c.args.names.now c.loop-name.name-index 0) false) (sym c.deref.ensures.value) ∙ sym c.is_marked.ensures ∙ w.if-not-is_marked.false))
+]
+
+pub returns : goal.returns
+returns c = λ x con. c.loop-name.invariant.passed x (let P : List ℕ → Type 0 = λ v. Contains v x in subst P (sym (take_all c.loop-name.name-index c.args.names.now (let t = c.loop-name-test.false in omega arith))) con)

@@ -1,0 +1,7 @@
+pub mod ColumnRules
+pub mod Tables
+pub mod Columns
+pub mod Adding
+pub mod Deriving
+pub mod Possible
+pub mod Parts

@@ -1,0 +1,149 @@
+//! The furthest place that each column of a grammar reaches from each place of a word.
+//!
+//! The table has a row of columns for each place. A cell is one past the furthest place that its
+//! column reaches from there, and 0 where it reaches none, so raising a cell is the only change.
+//! Rows are filled from the last place to the first. At a place the rules are gone over until none
+//! raises a cell: a right side reads its token first, and then goes from each column to the next one
+//! by the furthest places, which is enough since the ends from a place are an interval.
+ghost use Rattle.std.specs.Prelude.{◌↔◌, IsTrue, [], ◌∷◌, ◌≡◌, ◌≤◌, ◌<◌, ℕ, suc, ◌+◌, ◌*◌, ◌^◌, IfOk, IfSome, IsNone, All, Contains, slice_index, length, false, true};
+ghost use Rattle.pv_reach.specs.ColumnRules.{Reads, Reaches, TokensMayBeMissing, EndsAreIntervals, InRange};
+ghost use Rattle.pv_reach.specs.Tables.{cell, past, IsTable, IsAttained, IsClosedAt, IsComplete, IsFurthest, room};
+
+use crate::rules::ColumnRule;
+use pv_model::Token;
+use std::alloc::{AllocError, Global};
+
+/// One past the furthest place that the columns reach from `start`; 0 where they reach none.
+fn past_columns(columns: &[usize], start: usize, word: &[Token], width: usize, table: &[u32]) -> u32
+    requires start { start ≤ length word.now }
+    requires short { length word.now < 2 ^ 26 }
+    requires in_range { All (λ c. c < width) columns.now }
+    requires table { IsTable word.now width table.now }
+    ensures { result ≡ past width table.now columns.now start }
+{
+    let mut place = start;
+    for column in columns {
+        let bound = table[place * width + column];
+        if bound == 0 {
+            return 0;
+        }
+        place = bound as usize - 1;
+    }
+    place as u32 + 1
+}
+
+/// One past the furthest place that a rule offers from `start`; 0 where it offers none.
+fn past_rule(rule: &ColumnRule, start: usize, word: &[Token], width: usize, table: &[u32]) -> u32
+    requires start { start ≤ length word.now }
+    requires short { length word.now < 2 ^ 26 }
+    requires in_range { All (λ c. c < width) rule.now.columns.items }
+    requires table { IsTable word.now width table.now }
+    ensures offered { 0 < result → (m : ℕ) × Reads word.now rule.now.token start m × (result ≡ past width table.now rule.now.columns.items m) }
+    ensures most { (m : ℕ) → Reads word.now rule.now.token start m → past width table.now rule.now.columns.items m ≤ result }
+{
+    match rule.token {
+        None => past_columns(&rule.columns, start, word, width, table),
+        Some(token) => {
+            if start < word.len() && word[start] == token {
+                past_columns(&rule.columns, start + 1, word, width, table)
+            } else {
+                0
+            }
+        }
+    }
+}
+
+/// Raises the cells of a place by each rule once, and tells whether any changed.
+fn raise(
+    rules: &[ColumnRule],
+    place: usize,
+    word: &[Token],
+    width: usize,
+    table: &mut [u32],
+) -> bool
+    requires place { place ≤ length word.now }
+    requires short { length word.now < 2 ^ 26 }
+    requires in_range { InRange width rules.now }
+    requires table { IsTable word.now width table.old }
+    requires attained { IsAttained rules.now word.now width table.old }
+    ensures table { IsTable word.now width table.new }
+    ensures attained { IsAttained rules.now word.now width table.new }
+    ensures rises { (k : ℕ) → slice_index table.old k ≤ slice_index table.new k }
+    ensures closed { result ≡ false → IsClosedAt rules.now word.now width table.new place }
+    ensures less { result ≡ true → room (suc (length word.now)) table.new < room (suc (length word.now)) table.old }
+{
+    let mut changed = false;
+    for rule in rules {
+        let bound = past_rule(rule, place, word, width, table);
+        let at = place * width + rule.left;
+        if table[at] < bound {
+            table[at] = bound;
+            changed = true;
+        }
+    }
+    changed
+}
+
+/// The table of furthest places.
+pub fn fill(
+    alloc: Global,
+    rules: &[ColumnRule],
+    word: &[Token],
+    width: usize,
+) -> Result<Vec<u32>, AllocError>
+    requires short { length word.now < 2 ^ 26 }
+    requires narrow { width < 2 ^ 26 }
+    requires in_range { InRange width rules.now }
+    requires missing { TokensMayBeMissing rules.now word.now }
+    ensures { IfOk result (λ t. IsFurthest rules.now word.now width t.items) }
+{
+    let mut table = vec![in alloc; 0u32; (word.len() + 1) * width]?;
+    for place in (0..word.len() + 1).rev() {
+        while raise(rules, place, word, width, &mut table) {}
+    }
+    Ok(table)
+}
+
+/// The furthest place that the columns reach from `start`, if they reach any.
+pub fn furthest_place(
+    rules: &[ColumnRule],
+    columns: &[usize],
+    start: usize,
+    word: &[Token],
+    width: usize,
+    table: &[u32],
+) -> Option<usize>
+    requires start { start ≤ length word.now }
+    requires short { length word.now < 2 ^ 26 }
+    requires in_range { All (λ c. c < width) columns.now }
+    requires missing { TokensMayBeMissing rules.now word.now }
+    requires table { IsFurthest rules.now word.now width table.now }
+    ensures none { IsNone result → (j : ℕ) → ¬ Reaches rules.now word.now columns.now start j }
+    ensures some { IfSome result (λ j. Reaches rules.now word.now columns.now start j) }
+    ensures most { IfSome result (λ j. (k : ℕ) → Reaches rules.now word.now columns.now start k → k ≤ j) }
+{
+    match past_columns(columns, start, word, width, table) {
+        0 => None,
+        bound => Some(bound as usize - 1),
+    }
+}
+
+/// Whether a column reaches the end of the word from its beginning.
+pub fn reaches_end(
+    alloc: Global,
+    rules: &[ColumnRule],
+    word: &[Token],
+    width: usize,
+    column: usize,
+) -> Result<bool, AllocError>
+    requires short { length word.now < 2 ^ 26 }
+    requires narrow { width < 2 ^ 26 }
+    requires column { column < width }
+    requires in_range { InRange width rules.now }
+    requires missing { TokensMayBeMissing rules.now word.now }
+    ensures { IfOk result (λ b. IsTrue b ↔
+        Reaches rules.now word.now (column ∷ []) 0 (length word.now)) }
+{
+    let table = fill(alloc, rules, word, width)?;
+    Ok(furthest_place(rules, &[column], 0, word, width, &table) == Some(word.len()))
+}
