@@ -7,7 +7,7 @@ use Rattle.std.specs.List.{list_all}
 use Rattle.pv_chars.specs.Spaces.{is_space, IsSpace, IsOptionalSpace}
 use Rattle.pv_chars.specs.Scan.{after_space, after_blank, after_bytes}
 use Rattle.pv_chars.proofs.Scanning.{after_space_takes, after_space-append, after_blank_takes, after_blank-append, after_bytes_takes, after_bytes-append, chosen}
-use Rattle.pv_chars.proofs.Beginnings.{no_space, begins_in_space, begins_behind}
+use Rattle.pv_chars.proofs.Beginnings.{begins_in_space, begins_behind}
 use Rattle.pv_dtd.specs.CharReading.{name_at, is_chars, comment_at, instruction_at, text_declaration_at}
 use Rattle.pv_dtd.specs.Items.{NamedModel, Item, text_declaration, element, skipped, comment, instruction}
 use Rattle.pv_chars.specs.Declarations.{is_quote}
@@ -15,7 +15,7 @@ use Rattle.pv_dtd.specs.Spelling.{Begins, Spells, SpellsElement, SpellsSkipped, 
 use Rattle.pv_dtd.specs.ItemReading.{or_else, model_at, element_at, skipped_word, after_white, stop_at, where_it_is, after_stop, behind_chars, skipped_at, read_as, front_at, item_at}
 use Rattle.pv_dtd.specs.SoFar.{IsShallow, IsShallowItem}
 use Rattle.pv_dtd.proofs.Binding.{bound, same_some}
-use Rattle.pv_dtd.proofs.NameBytes.{is_name_byte, names_have_no_space, name_at_takes, name_at-append, name_begins}
+use Rattle.pv_dtd.proofs.NameBytes.{is_name_byte, names_have_no_space, name_at_takes, name_at-append, name_begins, space_passes}
 use Rattle.pv_dtd.proofs.CharFacts.{chars_are, are_chars, chars_behind_space, comment_takes, comment_at-append, comment_opens, instruction_takes, instruction_at-append, instruction_opens}
 use Rattle.pv_dtd.proofs.TextDeclarations.{no_declaration, declaration_takes, text_declaration_at-append, declaration_opens}
 use Rattle.pv_dtd.proofs.PartsSpelled.{goes_on, particles_have_no_space}
@@ -179,16 +179,8 @@ skipped_read front bytes rest e =
 abbrev is_outside : ℕ → Bool
 is_outside b = not (is_quote b) && not (may_not_be_skipped b)
 
-not_not : (test : Bool) → not test ≡ false → test ≡ true
-not_not true e = refl
-not_not false e = sym e
-
 space_is_outside : (space : List ℕ) → IsOptionalSpace space → list_all is_outside space ≡ true
-space_is_outside [] s = refl
-space_is_outside (b ∷ bs) s =
-    let here = and_parts (is_space b) (list_all is_space bs) s in
-    let white = no_space (λ c. not (is_outside c)) record { space = refl; tab = refl; return = refl; feed = refl } b here.0 in
-    rw (not_not (is_outside b) white) (space_is_outside bs here.1)
+space_is_outside = space_passes is_outside record { space = refl; tab = refl; return = refl; feed = refl }
 
 pub skipped_is_read : (text rest : List ℕ) → SpellsSkipped text → skipped_at (text ++ rest) ≡ Some rest
 unfolding skipped_at after_white where_it_is behind_chars

@@ -7,7 +7,7 @@ use Rattle.std.proofs.lemmas.Bool.Decides.{Decides-eqb}
 use Rattle.std.proofs.lemmas.List.Folds.{list_all-append}
 use Rattle.std.proofs.lemmas.Str.{len_utf8_bounds, length-encode}
 use lib.Utf8.{encode, encodes, next}
-use Rattle.pv_chars.specs.Spaces.{is_space}
+use Rattle.pv_chars.specs.Spaces.{is_space, IsOptionalSpace}
 use Rattle.pv_chars.specs.Characters.{is_name_start, is_name_char, BeginsWith, BeginsNo, TakesAll}
 use Rattle.pv_chars.specs.Names.{IsName, TakesName, BeginsNoName}
 use Rattle.pv_chars.specs.Scan.{after_bytes}
@@ -85,6 +85,27 @@ run_bytes (c ∷ cs) all =
 
 pub name_bytes : (name : List ℕ) → IsName name → list_all is_name_byte name ≡ true
 name_bytes name is = let run = name_is_run name is in ap (list_all is_name_byte) run.spelled ∙ run_bytes run.codes run.pass
+
+-- white space passes a test that its four bytes pass
+not_not : (test : Bool) → not test ≡ false → test ≡ true
+not_not true e = refl
+not_not false e = sym e
+
+pub space_passes : (p : ℕ → Bool) → HasNoSpace (λ b. not (p b)) → (space : List ℕ) → IsOptionalSpace space → list_all p space ≡ true
+space_passes p four [] s = refl
+space_passes p four (b ∷ bs) s =
+    let here = and_parts (is_space b) (list_all is_space bs) s in
+    rw (not_not (p b) (no_space (λ c. not (p c)) four b here.0)) (space_passes p four bs here.1)
+
+-- and a name one that the bytes of names pass
+bytes_pass : (p : ℕ → Bool) → ((b : ℕ) → is_name_byte b ≡ true → p b ≡ true) → (name : List ℕ) → list_all is_name_byte name ≡ true → list_all p name ≡ true
+bytes_pass p each [] e = refl
+bytes_pass p each (b ∷ bs) e =
+    let here = and_parts (is_name_byte b) (list_all is_name_byte bs) e in
+    rw (each b here.0) (bytes_pass p each bs here.1)
+
+pub name_passes : (p : ℕ → Bool) → ((b : ℕ) → is_name_byte b ≡ true → p b ≡ true) → (name : List ℕ) → IsName name → list_all p name ≡ true
+name_passes p each name is = bytes_pass p each name (name_bytes name is)
 
 encode_some : (c : ℕ) (rest : List ℕ) → encode c ++ rest ≢ []
 encode_some c rest e = let long = (len_utf8_bounds c).0 in omega (arith, ap length e, length-append (encode c) rest, length-encode c)

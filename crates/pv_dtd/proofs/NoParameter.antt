@@ -2,19 +2,17 @@
 use Rattle.std.proofs.Common.{◌≡◌, ◌⊎◌, inl, inr, ℕ, List, [], ◌∷◌, ◌++◌, codes, Bool, true, false, ◌&&◌, ◌||◌, ◌==◌, not, None, is_some, refl, sym, ap, ◌∙◌, append_assoc, append-nil}
 use Rattle.std.specs.Prelude.{nat_eq}
 use Rattle.std.specs.List.{list_all}
-use Rattle.std.proofs.lemmas.Bool.{and_parts}
 use Rattle.std.proofs.lemmas.Bool.Decides.{Decides-eqb}
-use Rattle.pv_chars.specs.Spaces.{is_space, IsOptionalSpace}
+use Rattle.pv_chars.specs.Spaces.{IsOptionalSpace}
 use Rattle.pv_chars.specs.Names.{IsName}
 use Rattle.pv_chars.specs.Declarations.{is_quote}
-use Rattle.pv_chars.proofs.Beginnings.{no_space}
 use Rattle.pv_dtd.specs.Items.{NamedModel, Item, text_declaration, element, skipped, comment, instruction}
 use Rattle.pv_dtd.specs.Spelling.{Begins, SpellsElement, SpellsSkipped, IsSkippedWord, IsQuotedText, nothing, ends_or_refers, may_not_be_skipped}
 use Rattle.pv_dtd.specs.Kinds.{HasParameter}
 use Rattle.pv_dtd.specs.ItemReading.{or_else, skipped_word, where_it_is, declaration_word, inner_parameter_at, parameter_at}
 use Rattle.pv_dtd.proofs.AllBytes.{PassMarks, all_inside, inside_element, element_whole}
 use Rattle.pv_dtd.proofs.CharFacts.{comment_opens, instruction_opens}
-use Rattle.pv_dtd.proofs.NameBytes.{is_name_byte, name_bytes}
+use Rattle.pv_dtd.proofs.NameBytes.{is_name_byte, space_passes, name_passes}
 use Rattle.pv_dtd.proofs.Parameters.{parameter_is_read, declaration_is_taken, begins_otherwise}
 use Rattle.pv_dtd.proofs.Quoted.{stop_at-append, plain_before, fewer_stop}
 
@@ -22,16 +20,8 @@ use Rattle.pv_dtd.proofs.Quoted.{stop_at-append, plain_before, fewer_stop}
 abbrev is_plain : ℕ → Bool
 is_plain b = not (is_quote b) && not (ends_or_refers b)
 
-not_not : (test : Bool) → not test ≡ false → test ≡ true
-not_not true e = refl
-not_not false e = sym e
-
 space_is_plain : (space : List ℕ) → IsOptionalSpace space → list_all is_plain space ≡ true
-space_is_plain [] s = refl
-space_is_plain (b ∷ bs) s =
-    let here = and_parts (is_space b) (list_all is_space bs) s in
-    let white = no_space (λ c. not (is_plain c)) record { space = refl; tab = refl; return = refl; feed = refl } b here.0 in
-    rw (not_not (is_plain b) white) (space_is_plain bs here.1)
+space_is_plain = space_passes is_plain record { space = refl; tab = refl; return = refl; feed = refl }
 
 plain_by : (b : ℕ) (double single end refers : Bool) → (b == 34) ≡ double → (b == 39) ≡ single → nat_eq b 62 ≡ end → nat_eq b 37 ≡ refers → is_name_byte b ≡ true → (not (double || single) && not (end || (refers || false))) ≡ true
 plain_by b true single end refers p q r t named = let at = ap is_name_byte ((Decides-eqb b 34).0 p) in cc
@@ -41,14 +31,7 @@ plain_by b false false false true p q r t named = let at = ap is_name_byte ((Dec
 plain_by b false false false false p q r t named = refl
 
 name_is_plain : (n : List ℕ) → IsName n → list_all is_plain n ≡ true
-name_is_plain n is = all n (name_bytes n is)
-  where
-    all : (n : List ℕ) → list_all is_name_byte n ≡ true → list_all is_plain n ≡ true
-    all [] e = refl
-    all (b ∷ bs) e =
-        let here = and_parts (is_name_byte b) (list_all is_name_byte bs) e in
-        let plain : is_plain b ≡ true = plain_by b (b == 34) (b == 39) (nat_eq b 62) (nat_eq b 37) refl refl refl refl here.0 in
-        rw plain (all bs here.1)
+name_is_plain = name_passes is_plain (λ b. plain_by b (b == 34) (b == 39) (nat_eq b 62) (nat_eq b 37) refl refl refl refl)
 
 pass_plain : PassMarks is_plain
 pass_plain = record {

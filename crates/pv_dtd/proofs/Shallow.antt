@@ -5,14 +5,13 @@ use Rattle.std.specs.List.{list_all}
 use Rattle.std.proofs.lemmas.List.Folds.{list_any-append}
 use Rattle.std.proofs.lemmas.Bool.{and_parts, cases_order}
 use Rattle.std.proofs.lemmas.Bool.Decides.{Decides-eqb}
-use Rattle.pv_chars.specs.Spaces.{is_space, IsOptionalSpace}
-use Rattle.pv_chars.proofs.Beginnings.{no_space}
+use Rattle.pv_chars.specs.Spaces.{IsOptionalSpace}
 use Rattle.pv_chars.specs.Names.{IsName}
 use Rattle.pv_dtd.specs.Facts.{MAX_NESTING}
 use Rattle.pv_dtd.specs.Items.{NamedPart, name, seq, choice, opt, star, plus, NamedParts, no_parts, part, NamedModel, empty, any, mixed, children, Item, text_declaration, element, skipped, comment, instruction}
 use Rattle.pv_dtd.specs.Spelling.{Begins, SpellsPart, SpellsGroup, SpellsOthers, SpellsElement, depth_of, depth_of_all, is_one_of}
 use Rattle.pv_dtd.specs.Kinds.{IsTooDeep, how_many}
-use Rattle.pv_dtd.proofs.NameBytes.{is_name_byte, name_bytes}
+use Rattle.pv_dtd.proofs.NameBytes.{is_name_byte, space_passes, name_passes}
 use Rattle.pv_dtd.specs.SoFar.{IsShallow, IsShallowItem}
 
 -- a parenthesis or '>'
@@ -90,11 +89,7 @@ plain_level (b ∷ bs) all =
     level_by b bs (b == 40) (b == 41) (b == 62) refl refl refl here.0 (plain_level bs here.1)
 
 pub plain_space : (space : List ℕ) → IsOptionalSpace space → list_all (λ b. not (is_mark b)) space ≡ true
-plain_space [] s = refl
-plain_space (b ∷ bs) s =
-    let here = and_parts (is_space b) (list_all is_space bs) s in
-    let white = no_space is_mark record { space = refl; tab = refl; return = refl; feed = refl } b here.0 in
-    rw white (plain_space bs here.1)
+plain_space = space_passes (λ b. not (is_mark b)) record { space = refl; tab = refl; return = refl; feed = refl }
 
 pub space_level : (space : List ℕ) → IsOptionalSpace space → IsLevel space
 space_level space s = plain_level space (plain_space space s)
@@ -106,13 +101,7 @@ mark_by b false false true p q r named = let at = ap is_name_byte ((Decides-eqb 
 mark_by b false false false p q r named = refl
 
 pub plain_name : (n : List ℕ) → IsName n → list_all (λ b. not (is_mark b)) n ≡ true
-plain_name n is = all n (name_bytes n is)
-  where
-    all : (n : List ℕ) → list_all is_name_byte n ≡ true → list_all (λ b. not (is_mark b)) n ≡ true
-    all [] e = refl
-    all (b ∷ bs) e =
-        let here = and_parts (is_name_byte b) (list_all is_name_byte bs) e in
-        rw (mark_by b (b == 40) (b == 41) (b == 62) refl refl refl here.0) (all bs here.1)
+plain_name = name_passes (λ b. not (is_mark b)) (λ b. mark_by b (b == 40) (b == 41) (b == 62) refl refl refl)
 
 pub name_level : (n : List ℕ) → IsName n → IsLevel n
 name_level n is = plain_level n (plain_name n is)

@@ -27,3 +27,6 @@ mod rules;
 pub use dtd::Dtd;
 pub use errors::DtdError;
 pub use reading::{MAX_DTD_BYTES, read_dtd};
+
+#[cfg(test)]
+mod tests;
