@@ -1,8 +1,10 @@
-"""Compares `valid` with xmllint, and with a matcher of its own, on random plain DTDs and documents.
+"""Compares `valid` with xmllint, and with a matcher of its own, on random DTDs and plain documents.
 
 Words: PROGRAM ROUNDS SEED, and the most seconds, where not all rounds are wanted. A round is one DTD, a dozen documents, each of which
-`show` must give back, and a dozen texts of each kind that were changed in one place or two. xmllint doesn't judge models that aren't
-deterministic, nor paths, which the matcher of its own does. Prints each difference, and how many cases passed; ends with 1 where one failed.
+`show` must give back, and a dozen texts of each kind that were changed in one place or two. A DTD has names in several scripts, comments,
+processing instructions, and declarations of attributes, entities and notations; the documents are ASCII. What is changed of a DTD are
+element declarations and comments. xmllint doesn't judge models that aren't deterministic, nor paths, which the matcher of its own does.
+Prints each difference, and how many cases passed; ends with 1 where one failed.
 """
 import os
 import random
@@ -13,6 +15,8 @@ import tempfile
 import time
 
 NAMES = ["a", "b", "c", "d", "e"]
+# Names that stand in DTDs alone: Latin with accents, Greek, Cyrillic, Hebrew, Devanagari, Chinese, and beyond the first 65,536 characters.
+OTHER_NAMES = ["été", "λόγος", "имя-1", "שם", "नाम", "名前", "e\u0301·2", "𐀀_x"]
 SPACE = ["", "", "", " ", "\n", "\t \r\n"]
 
 
@@ -20,11 +24,16 @@ def space():
     return random.choice(SPACE)
 
 
+# White space that has to stand.
+def gap():
+    return random.choice([" ", " ", "\n", "\t \r\n"])
+
+
 # Content particles: a name, or an operator with its members.
 def particle(depth):
     form = random.choice(["name"] * 4 + ["seq", "choice", "?", "*", "+"])
     if depth == 0 or form == "name":
-        return ("name", random.choice(NAMES))
+        return ("name", random.choice(NAMES * 6 + OTHER_NAMES))
     if form in ("?", "*", "+"):
         inner = particle(depth - 1)
         return inner if inner[0] in ("?", "*", "+") else (form, inner)
@@ -53,7 +62,7 @@ def spelled(part):
 def model():
     form = random.choice(["empty", "any", "mixed", "children", "children", "children"])
     if form == "mixed":
-        return (form, random.sample(NAMES, random.randint(0, 3)))
+        return (form, random.sample(NAMES, random.randint(0, 3)) + random.sample(OTHER_NAMES, random.choice([0, 0, 0, 1, 2])))
     return (form, group(3) if form == "children" else None)
 
 
@@ -86,7 +95,7 @@ def ends(part, word, begins):
         found = more
 
 
-# A word of the particle.
+# A word of the particle; names that no document has are left out of it by who takes it.
 def sample(part):
     form, inner = part
     if form == "name":
@@ -111,7 +120,7 @@ def element(models, name, depth):
     elif depth > 0 and form == "mixed":
         kids = random.choices(inner + ["#"], k=random.randint(0, 3))
     made = []
-    for kid in kids:
+    for kid in filter(str.isascii, kids):
         made.append("x" if kid == "#" else element(models, kid, depth - 1))
         if form == "children" and random.random() < 0.2:
             made.append(random.choice([" ", "\n", "\t"]))
@@ -189,9 +198,53 @@ def first_invalid(models, tree, path):
     return None
 
 
+# A comment, with what means something elsewhere.
+def comment():
+    return "<!--" + "".join(random.choices(["-x", " ", "%p;", ">", "<!ELEMENT a (b)>", "'", '"', "?>", "]]>", "имя", "名", "&", "\n"], k=random.randint(0, 4))) + "-->"
+
+
+def instruction():
+    target = random.choice(["x", "xm", "имя"])
+    data = "".join(random.choices(["?", " ", "%p;", "<!ELEMENT a (b)>", "'", '"', "--", "名", "&", "\n"], k=random.randint(0, 4)))
+    return f"<?{target} {data}?>" if data else f"<?{target}?>"
+
+
+# A declaration that is skipped, of its own name by this number; none that makes a document invalid, and none that xmllint refuses.
+def skipped(number):
+    quote = random.choice("'\"")
+    other = "'" if quote == '"' else '"'
+    value = "".join(random.choices(["x", " ", ">", "]]>", "--", "?>", "имя", "&#38;", other], k=random.randint(0, 4)))
+    form = random.choice(["default", "enumeration", "entity", "system", "public", "notation"])
+    if form == "default":
+        reference = random.choice(["", "%", "%p;"])
+        return f"<!ATTLIST{gap()}{random.choice(NAMES + OTHER_NAMES)}{gap()}имя{number}{gap()}CDATA{gap()}{quote}{value}{reference}{quote}{space()}>"
+    if form == "enumeration":
+        return f"<!ATTLIST{gap()}{random.choice(NAMES)}{gap()}x{number}{gap()}(p{space()}|{space()}q){gap()}#IMPLIED{space()}>"
+    if form == "entity":
+        return f"<!ENTITY{gap()}e{number}{gap()}{quote}{value}{quote}{space()}>"
+    if form == "system":
+        return f"<!ENTITY{gap()}имя{number}{gap()}SYSTEM{gap()}{quote}a%20b{quote}{space()}>"
+    if form == "public":
+        return f"<!ENTITY{gap()}e{number}{gap()}PUBLIC{gap()}{quote}-//x%//y{quote}{gap()}{quote}a{quote}{space()}>"
+    return f"<!NOTATION{gap()}имя{number}{gap()}SYSTEM{gap()}{quote}a%{quote}{space()}>"
+
+
+# The declarations with other items around them, and with comments alone that hold no '%'.
+def dtd_texts(declarations):
+    whole = random.choice(["", "", "<?xml encoding='UTF-8'?>", '<?xml version="1.0" encoding="utf-8" ?>'])
+    plain = ""
+    for number, declaration in enumerate(declarations):
+        remark = random.choice([comment, str])()
+        more = [random.choice([instruction, lambda: skipped(2 * number + at)])() for at in range(random.randint(0, 2))]
+        between = [remark] + more if random.random() < 0.5 else more + [remark]
+        whole += "".join(space() + item for item in between) + space() + declaration
+        plain += space() + remark.replace("%", "x") + space() + declaration
+    return whole + space(), plain + space()
+
+
 # The exit status of `valid`, and its output.
 def answer(program, root):
-    ran = subprocess.run([program, "valid", "a.dtd", root, "d.xml"], capture_output=True, text=True)
+    ran = subprocess.run([program, "valid", "a.dtd", root, "d.xml"], capture_output=True, encoding="utf-8", errors="replace")
     return (ran.returncode, ran.stdout)
 
 
@@ -214,8 +267,9 @@ def changed(text, letters):
 
 # Whether a type is declared twice, or a name listed twice in a mixed model: a fault, though xmllint reads it.
 def is_doubled(text):
-    declared = re.findall(r"<!ELEMENT\s+(\w+)", text)
-    listed = [re.findall(r"\w+", names) for names in re.findall(r"#PCDATA([^)]*)", text)]
+    text = re.sub(r"<!--.*?-->", "", text, flags=re.DOTALL)
+    declared = re.findall(r"<!ELEMENT\s+([^\s(>]+)", text)
+    listed = [re.findall(r"[^\s|]+", names) for names in re.findall(r"#PCDATA([^)]*)", text)]
     return any(len(set(names)) < len(names) for names in [declared] + listed)
 
 
@@ -224,19 +278,20 @@ def is_document(path):
 
 
 def is_dtd(path):
-    ran = subprocess.run(["xmllint", "--noout", "--dtdvalid", path, "e.xml"], capture_output=True, text=True)
+    ran = subprocess.run(["xmllint", "--noout", "--dtdvalid", path, "e.xml"], capture_output=True, encoding="utf-8", errors="replace")
     return "Could not parse DTD" not in ran.stderr
 
 
-# How many texts the program takes for a document, or for a DTD, and xmllint doesn't, or the other way round.
-def compare_changed(program, counts):
+# How many texts the program takes for a document, or for a DTD, and xmllint doesn't, or the other way round. What is changed of a DTD
+# are its declarations and comments: of a declaration that is skipped the program looks at quotes alone.
+def compare_changed(program, plain, counts):
     differences = 0
     write("e.xml", "<a/>")
     kinds = [("document", "d.xml", "<>/ab x\n]", 7, "document syntax"), ("dtd", "a.dtd", "<!ELEMNTPYab>()|,?*+# \n", 6, "dtd (syntax|twice|mixed-twice)")]
     for kind, path, letters, status, refusal in kinds:
-        good = open(path, newline="").read()
+        good = read(path)
         for _ in range(12):
-            text = changed(good, letters)
+            text = changed(good if kind == "document" else plain, letters)
             write(path, text)
             is_one = is_document(path) if kind == "document" else is_dtd(path) and not is_doubled(text)
             got = answer(program, "a")
@@ -257,14 +312,19 @@ def is_shown(program, root, text):
     return (ran.returncode, ran.stdout) == (0, f"show {len(text)}\n{text}\n".encode())
 
 
+def read(path):
+    with open(path, newline="", encoding="utf-8") as file:
+        return file.read()
+
+
 def write(path, text):
-    with open(path, "w", newline="") as file:
+    with open(path, "w", newline="", encoding="utf-8") as file:
         file.write(text)
 
 
 # What xmllint says of the document: whether it is valid, nothing where a model isn't deterministic, or another fault.
 def xmllint(path):
-    ran = subprocess.run(["xmllint", "--noout", "--dtdvalid", "a.dtd", path], capture_output=True, text=True)
+    ran = subprocess.run(["xmllint", "--noout", "--dtdvalid", "a.dtd", path], capture_output=True, encoding="utf-8", errors="replace")
     if "not determinist" in ran.stderr:
         return None
     return {0: True, 3: False}.get(ran.returncode, f"status {ran.returncode}")
@@ -272,8 +332,9 @@ def xmllint(path):
 
 def round_of(program, counts):
     declared = random.sample(NAMES, random.randint(1, len(NAMES)))
-    models = {name: model() for name in declared}
-    write("a.dtd", "".join(f"{space()}<!ELEMENT {name} {specification(content)}{space()}>" for name, content in models.items()))
+    models = {name: model() for name in declared + random.sample(OTHER_NAMES, random.choice([0, 0, 1, 2]))}
+    whole, plain = dtd_texts([f"<!ELEMENT{gap()}{name}{gap()}{specification(content)}{space()}>" for name, content in models.items()])
+    write("a.dtd", whole)
     differences = 0
     for _ in range(12):
         tree = element(models, random.choice(declared), random.randint(1, 4))
@@ -286,15 +347,15 @@ def round_of(program, counts):
         counts["invalid" if path else "valid"] += 1
         counts["xmllint"] += theirs is not None
         # xmllint isn't told the root's name.
-        root = random.choice([tree[0]] * 9 + NAMES)
+        root = random.choice([tree[0]] * 9 + NAMES + OTHER_NAMES[:1])
         want = judgement(path if root == tree[0] else ".")
         got = answer(program, root)
         shown = is_shown(program, root, text)
         if got != want or theirs not in (None, path is None) or not shown:
             differences += 1
             print(f"got {got!r}, want {want!r}, xmllint {theirs}, given back: {shown}, root {root}")
-            print(open("a.dtd").read(), open("d.xml").read(), sep="\n")
-    return differences + compare_changed(program, counts)
+            print(read("a.dtd"), read("d.xml"), sep="\n")
+    return differences + compare_changed(program, plain, counts)
 
 
 def main():
