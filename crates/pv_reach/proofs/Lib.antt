@@ -1,6 +1,7 @@
 pub mod Cells
 pub mod Closing
 pub mod FormedDtds
+pub mod Judging
 pub mod Laying
 pub mod Listing
 pub mod Membering

@@ -63,14 +63,9 @@ fn add_mixed(
     ensures { IfOk result (λ _. LaysOut (dtd_of grammar.now) rules.old.items rules.new.items
         name (IsRuleOfContent (dtd_of grammar.now) name)) }
 {
-    add(alloc, rules, name as usize, None, &[])?;
-    add(
-        alloc,
-        rules,
-        name as usize,
-        Some(Token::Text),
-        &[name as usize],
-    )?;
+    let column = name as usize;
+    add(alloc, rules, column, None, &[])?;
+    add(alloc, rules, column, Some(Token::Text), &[column])?;
     add_listed(alloc, grammar, name, content.first, content.end, rules)?;
     Ok(())
 }

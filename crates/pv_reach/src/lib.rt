@@ -18,9 +18,11 @@ mod parts;
 mod productive;
 mod rules;
 mod table;
+mod verdict;
 mod words;
 
 pub use errors::ReachError;
+pub use verdict::list_verdict;
 pub use words::possible;
 
 #[cfg(test)]

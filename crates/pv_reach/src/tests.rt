@@ -1,14 +1,16 @@
-//! Words that are possible, and words that aren't.
+//! Words that are possible, and words that aren't; verdicts of lists.
 
 ghost use Rattle.std.specs.Prelude.{◌≡◌, ◌<◌};
 
 use super::*;
 use crate::productive::are_productive;
+use pv_chars::bytes_of;
 use pv_dtd::read_dtd;
 use pv_missing::Of;
 use pv_model::{NameId, Token};
 use pv_productive::{Grammar, build};
 use pv_steps::Steps;
+use pv_tree::{End, Mark, Node, Verdict};
 use std::alloc::Global;
 use std::marker::Brand;
 use std::process::Abort;
@@ -98,5 +100,55 @@ fn possible_words(rt: HostRuntime) -> Result<(), Fail> {
         ANYTHING,
         &[(elem(0), &[name(1), Token::Other], false)],
     )?;
+    Ok(())
+}
+
+fn element(alloc: Global, name: &str) -> Result<Node, Fail> {
+    Ok(Node::Elem {
+        name: bytes_of(alloc, name.as_bytes())?,
+        attrs: bytes_of(alloc, b"")?,
+        end: End::Short,
+        kids: Vec::new(alloc),
+        mark: Mark::BLANK,
+    })
+}
+
+/// The verdict of a list, where the DTD has the owner's name.
+fn verdict<L: Ledger>(
+    alloc: Global,
+    grammar: &Grammar,
+    owner: u32,
+    kids: &[Node],
+    blank: Blank,
+) -> Result<Verdict, ReachError>
+    requires name { blank.name ≡ L.name }
+    requires parts { blank.parts ≡ L.parts }
+    requires some { 0 < L.parts }
+{
+    let mut steps = Steps::<L>::start(blank);
+    let of = (owner < grammar.dtd().names()).then_some(Of::Elem(NameId(owner)));
+    list_verdict(alloc, grammar, of, kids, &mut steps)
+}
+
+#[test]
+fn verdicts(rt: HostRuntime) -> Result<(), Fail> {
+    let alloc = rt.alloc();
+    let grammar = build(alloc, read_dtd(alloc, ARTICLE.as_bytes())?)?;
+    let comment = [Node::Misc(bytes_of(alloc, b"<!---->")?)];
+    let sections = [element(alloc, "sec")?, element(alloc, "p")?];
+    let unknown = [element(alloc, "q")?];
+    let (doc, sec, br) = (0, 2, 6);
+    for (owner, kids, wanted) in [
+        (br, [].as_slice(), Verdict::Valid),
+        (br, comment.as_slice(), Verdict::Impossible),
+        (sec, comment.as_slice(), Verdict::Valid),
+        (doc, sections.as_slice(), Verdict::Possible),
+        (sec, sections.as_slice(), Verdict::Impossible),
+        (doc, unknown.as_slice(), Verdict::Impossible),
+        (9, [].as_slice(), Verdict::Impossible),
+    ] {
+        let found = verdict::<Brand>(alloc, &grammar, owner, kids, Blank::new(1))?;
+        assert_eq!(rt; found, wanted, "{kids:?} in {owner}");
+    }
     Ok(())
 }

@@ -24,7 +24,7 @@ use std::alloc::{AllocError, Global};
 use std::sync::ledger::Ledger;
 
 /// Whether a word isn't too wide.
-fn is_narrow(grammar: &Grammar, tokens: usize) -> bool
+pub(crate) fn is_narrow(grammar: &Grammar, tokens: usize) -> bool
     requires { tokens < 2 ^ 63 }
     ensures { IsTrue result ↔ FitsVerdict (dtd_of grammar.now) tokens }
 {
@@ -32,7 +32,7 @@ fn is_narrow(grammar: &Grammar, tokens: usize) -> bool
 }
 
 /// Whether the content of a name derives the whole word.
-fn content_derives(
+pub(crate) fn content_derives(
     alloc: Global,
     grammar: &Grammar,
     id: NameId,
@@ -52,7 +52,7 @@ fn content_derives(
 }
 
 /// Whether the word is one element of this name.
-fn is_element(id: NameId, word: &[Token]) -> bool
+pub(crate) fn is_element(id: NameId, word: &[Token]) -> bool
     ensures { IsTrue result ↔ (map plain_token word.now ≡ named id.0 ∷ []) }
 {
     word.len() == 1 && word[0] == Token::Name(id)

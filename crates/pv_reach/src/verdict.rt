@@ -1,0 +1,151 @@
+//! The verdict of a list.
+
+ghost use Rattle.std.specs.Prelude.{◌≡◌, ◌↔◌, ◌+◌, ◌<◌, ◌^◌, ℕ, Bool, IsTrue, List, IfErr, IfOk, IfSome, length, map};
+ghost use Rattle.pv_model.specs.Plain.{empty};
+ghost use Rattle.pv_model.specs.PlainForms.{plain_model, plain_token};
+ghost use Rattle.pv_rules.specs.Sites.{HasSite, content_site, name_site};
+ghost use Rattle.pv_productive.specs.PlainForms.{dtd_of};
+ghost use Rattle.pv_tree.specs.Lists.{Listed};
+ghost use Rattle.pv_tree.specs.PlainForms.{forest};
+ghost use Rattle.pv_tree.specs.Words.{word_of};
+ghost use Rattle.pv_tree.specs.declared.nodes.Mark.{Mark};
+ghost use Rattle.pv_missing.specs.LiveWords.{AreProductiveTokens};
+ghost use Rattle.pv_missing.specs.PlainForms.{plain_of};
+ghost use Rattle.pv_missing.specs.Verdicts.{IsVerdict};
+ghost use Rattle.pv_missing.specs.WordVerdicts.{HoldsOne};
+ghost use Rattle.pv_missing.specs.Widths.{FitsVerdict};
+ghost use Rattle.pv_reach.specs.Possible.{IsJudged, IsOwner};
+ghost use Rattle.pv_reach.specs.declared.errors.ReachError.TheVariants.{TooWide as too_wide};
+
+use crate::errors::ReachError;
+use crate::productive::are_productive;
+use crate::words::{content_derives, is_element, is_narrow};
+use pv_missing::Of;
+use pv_model::{ContentModel, NameId, NoMemory, Token, matches};
+use pv_productive::Grammar;
+use pv_steps::Steps;
+use pv_tree::{Node, Verdict, word};
+use std::alloc::Global;
+use std::sync::ledger::Ledger;
+
+/// The verdict of the document node's list by its word.
+fn judge_root(
+    alloc: Global,
+    grammar: &Grammar,
+    id: NameId,
+    word: &[Token],
+) -> Result<Verdict, NoMemory>
+    requires fits { FitsVerdict (dtd_of grammar.now) (length word.now) }
+    requires productive { AreProductiveTokens (dtd_of grammar.now) (map plain_token word.now) }
+    ensures { IfOk result (λ verdict. (none : Bool) → IsJudged (dtd_of grammar.now) (name_site id.0)
+        (map plain_token word.now) none verdict) }
+{
+    if is_element(id, word) {
+        return Ok(Verdict::Valid);
+    }
+    if content_derives(alloc, grammar, id, word)? {
+        Ok(Verdict::Possible)
+    } else {
+        Ok(Verdict::Impossible)
+    }
+}
+
+/// The verdict of an element's list by its word; a word that the content model allows needs no table.
+fn judge_content(
+    alloc: Global,
+    grammar: &Grammar,
+    id: NameId,
+    word: &[Token],
+    is_bare: bool,
+) -> Result<Verdict, NoMemory>
+    requires known { HasSite (dtd_of grammar.now) (content_site id.0) }
+    requires fits { FitsVerdict (dtd_of grammar.now) (length word.now) }
+    requires productive { AreProductiveTokens (dtd_of grammar.now) (map plain_token word.now) }
+    ensures { IfOk result (λ verdict. IsJudged (dtd_of grammar.now) (content_site id.0)
+        (map plain_token word.now) is_bare verdict) }
+{
+    if !grammar.is_productive(id) {
+        return Ok(Verdict::Impossible);
+    }
+    let Some(model) = grammar.dtd().model_of(id) else {
+        return Ok(Verdict::Impossible);
+    };
+    if !may_have_kids(model, is_bare) {
+        return Ok(Verdict::Impossible);
+    }
+    if matches(alloc, model, grammar.dtd().count(), word)? {
+        return Ok(Verdict::Valid);
+    }
+    if content_derives(alloc, grammar, id, word)? {
+        Ok(Verdict::Possible)
+    } else {
+        Ok(Verdict::Impossible)
+    }
+}
+
+/// Whether an element of this model may have kids, or has none of any kind.
+fn may_have_kids(model: &ContentModel, is_bare: bool) -> bool
+    ensures { IsTrue result ↔ (plain_model model.now ≡ empty → IsTrue is_bare) }
+{
+    match model {
+        ContentModel::Empty => is_bare,
+        ContentModel::Any => true,
+        ContentModel::Mixed(_) => true,
+        ContentModel::Children(_) => true,
+    }
+}
+
+/// The verdict of a list by its owner, its word, and whether it has no kids of any kind.
+fn judge(
+    alloc: Global,
+    grammar: &Grammar,
+    of: Of,
+    word: &[Token],
+    is_bare: bool,
+) -> Result<Verdict, NoMemory>
+    requires known { HasSite (dtd_of grammar.now) (plain_of of) }
+    requires fits { FitsVerdict (dtd_of grammar.now) (length word.now) }
+    ensures { IfOk result (λ verdict. IsJudged (dtd_of grammar.now) (plain_of of)
+        (map plain_token word.now) is_bare verdict) }
+{
+    if !are_productive(grammar, word) {
+        return Ok(Verdict::Impossible);
+    }
+    match of {
+        Of::Root(id) => judge_root(alloc, grammar, id, word),
+        Of::Elem(id) => judge_content(alloc, grammar, id, word, is_bare),
+    }
+}
+
+/// The verdict of a list: `owner` is `None` where the DTD doesn't have the name of the element that owns it, or, for the document node,
+/// the root's name.
+///
+/// `TooWide` is asked before the verdict. A list that is valid by itself, whose owner and names are productive, takes no table.
+pub fn list_verdict<L: Ledger>(
+    alloc: Global,
+    grammar: &Grammar,
+    owner: Option<Of>,
+    kids: &[Node],
+    steps: &mut Steps<L>,
+) -> Result<Verdict, ReachError>
+    requires { IfSome owner (λ of. HasSite (dtd_of grammar.now) (plain_of of)) }
+    ensures verdict { IfOk result (λ verdict. (root : List ℕ) (list : Listed Mark) →
+        list.kids ≡ forest kids.now → IsOwner (dtd_of grammar.now) root list owner →
+        HoldsOne list.owner list.kids → IsVerdict (dtd_of grammar.now) root list verdict) }
+    ensures fits { IfOk result (λ _. FitsVerdict (dtd_of grammar.now)
+        (length (word_of (dtd_of grammar.now) (forest kids.now)))) }
+    ensures wide { IfErr result (λ e. e ≡ too_wide → ¬ FitsVerdict (dtd_of grammar.now)
+        (length (word_of (dtd_of grammar.now) (forest kids.now)))) }
+    ensures steps { steps.new ≡ steps.old + 1 }
+{
+    steps.tick();
+    let tokens = word(alloc, grammar.dtd(), kids)?;
+    if !is_narrow(grammar, tokens.as_slice().len()) {
+        return Err(ReachError::TooWide);
+    }
+    let Some(of) = owner else {
+        return Ok(Verdict::Impossible);
+    };
+    let verdict = judge(alloc, grammar, of, tokens.as_slice(), kids.is_empty())?;
+    Ok(verdict)
+}
