@@ -1,0 +1,121 @@
+-- Walks over lists, part by part.
+use Rattle.std.proofs.Common.{Err, List, None, Ok, Option, Result, Some, [], add-one, append-nil, append_assoc, arith, length, length-append, refl, subst, sym, ℕ, ◌+◌, ◌++◌, ◌≤◌, ◌∷◌, ◌≡◌}
+use Rattle.std.specs.Prelude.{IsNone, MatchOption, MatchResult, OnOk, ◌↔◌}
+use Rattle.std.specs.List.{AllByRecursion}
+use Rattle.pv_dtd.specs.Plain.{PlainDtd}
+use Rattle.pv_tree.specs.Lists.{IsFirstNot, Listed, an_element, lists_at, lists_from, lists_of, the_document}
+use Rattle.pv_tree.specs.Plain.{Forest, PlainDoc, Tree, no_trees, tree}
+use Rattle.pv_tree.specs.View.{view}
+use Rattle.pv_tree.proofs.Every.{all_joined, all_right}
+use Rattle.pv_tree.proofs.Firsts.{first_before, first_behind}
+use Rattle.pv_missing.specs.Completing.{IsPotentiallyValid}
+use Rattle.pv_missing.specs.DocumentLaws.{IsPotentiallyValidByLists}
+use Rattle.pv_dtd.specs.Proper.{IsProperDtd}
+use Rattle.pv_missing.specs.Proper.{IsProperDoc}
+use Rattle.pv_rules.specs.Sites.{PlainSite}
+use Rattle.pv_missing.specs.Weighing.{site_of}
+use Rattle.pv_missing.specs.Verdicts.{AreVerdicts, HaveVerdicts, IsFirstImpossible, IsLive, IsVerdict, PlainVerdicts}
+use Rattle.pv_tree.specs.declared.nodes.Mark.{Mark}
+use Rattle.pv_tree.specs.declared.nodes.Verdict.{Verdict}
+use Rattle.pv_tree.specs.declared.nodes.Verdict.TheVariants as verdict
+use Rattle.pv_fresh.specs.Walks.{GoesOver, first_after}
+
+verdicts_more : {M : Type 0} (g : PlainDtd) (root : List ℕ) (lists : List (Listed M)) (vs : List Verdict) (list : Listed M) (v : Verdict) → AreVerdicts g root lists vs → IsVerdict g root list v →
+    AreVerdicts g root (lists ++ list ∷ []) (vs ++ v ∷ [])
+verdicts_more g root [] vs list v a j = let none : vs ≡ [] = a in (v, [], rw none refl, j, refl)
+verdicts_more g root (l ∷ lists) vs list v a j =
+    let more = verdicts_more g root lists a.1 list v a.4 j in
+    let whole = a.2 in (a.0, a.1 ++ v ∷ [], rw whole refl, a.3, more)
+
+first_more : {M : Type 0} (g : PlainDtd) (root : List ℕ) (lists : List (Listed M)) (first : Option (List ℕ)) (list : Listed M) (v : Verdict) →
+    MatchOption first (AllByRecursion (IsLive g root) lists) (IsFirstImpossible g root lists) → IsVerdict g root list v →
+    MatchOption (first_after first v list.path) (AllByRecursion (IsLive g root) (lists ++ list ∷ [])) (IsFirstImpossible g root (lists ++ list ∷ []))
+first_more g root lists (Some path) list v f j = first_before (IsLive g root) lists (list ∷ []) path f
+first_more g root lists None list verdict.Valid f j = all_joined (IsLive g root) lists (list ∷ []) f (j.0, tt)
+first_more g root lists None list verdict.Possible f j = all_joined (IsLive g root) lists (list ∷ []) f (j.0, tt)
+first_more g root lists None list verdict.Impossible f j = first_behind (IsLive g root) lists (list ∷ []) list.path f
+    (record { before = []; list = list; after = []; is_split = refl; all_before = tt; is_not = j; is_path = refl })
+
+pub have_none : (g : PlainDtd) (root : List ℕ) (vs : PlainVerdicts) → vs.verdicts ≡ [] → vs.first ≡ None → HaveVerdicts {M = Mark} g root [] vs
+have_none g root vs e f = record { are_verdicts = e; is_first = rw f tt }
+
+-- one list more
+pub goes_one : (g : PlainDtd) (root : List ℕ) (list : Listed Mark) (before after : PlainVerdicts) (from to : ℕ) (v : Verdict) → after.verdicts ≡ before.verdicts ++ v ∷ [] → after.first ≡ first_after before.first v list.path →
+    IsVerdict g root list v → to ≡ from + 1 → GoesOver g root (list ∷ []) before after from to
+goes_one g root list before after from to v vs f j n = record {
+  finds = λ past have. record {
+    are_verdicts = rw vs (verdicts_more g root past before.verdicts list v have.are_verdicts j);
+    is_first = rw f (first_more g root past before.first list v have.is_first j);
+  };
+  counts = n;
+}
+
+pub goes_nowhere : (g : PlainDtd) (root : List ℕ) (state : PlainVerdicts) (from : ℕ) → GoesOver g root [] state state from from
+goes_nowhere g root state from = record { finds = λ past have. rw append-nil have; counts = omega arith }
+
+pub goes_on : (g : PlainDtd) (root : List ℕ) (lists more : List (Listed Mark)) (first middle last : PlainVerdicts) (from at to : ℕ) → GoesOver g root lists first middle from at → GoesOver g root more middle last at to →
+    GoesOver g root (lists ++ more) first last from to
+goes_on g root lists more first middle last from at to a b = record {
+  finds = λ past have. rw (sym (append_assoc past lists more)) (b.finds (past ++ lists) (a.finds past have));
+  counts = let m = a.counts in let n = b.counts in let k = length-append lists more in omega arith;
+}
+
+-- a walk that breaks off behind these lists took no more steps than there are lists
+pub breaks_off : (lists more : List (Listed Mark)) (from at to : ℕ) → at ≡ from + length lists → to ≤ at + length more → to ≤ from + length (lists ++ more)
+breaks_off lists more from at to n h = let k = length-append lists more in omega arith
+
+-- and among them
+pub breaks_early : (lists more : List (Listed Mark)) (from to : ℕ) → to ≤ from + length lists → to ≤ from + length (lists ++ more)
+breaks_early lists more from to h = let k = length-append lists more in omega arith
+
+-- a list, and then what a call says of others
+pub goes_match : {E : Type 0} (g : PlainDtd) (r : Result (Unit {0}) E) (lists more : List (Listed Mark)) (first middle last : PlainVerdicts) (from at to : ℕ) →
+    ((root : List ℕ) → GoesOver g root lists first middle from at) →
+    MatchResult r (λ _. (root : List ℕ) → GoesOver g root more middle last at to) (λ _. to ≤ at + length more) →
+    MatchResult r (λ _. (root : List ℕ) → GoesOver g root (lists ++ more) first last from to) (λ _. to ≤ from + length (lists ++ more))
+goes_match g (Ok u) lists more first middle last from at to a b = λ root. goes_on g root lists more first middle last from at to (a root) (b root)
+goes_match g (Err e) lists more first middle last from at to a b = breaks_off lists more from at to (a []).counts b
+
+-- the lists of the first of some trees, and then those of the others
+pub from_first : {M : Type 0} (path : List ℕ) (i : ℕ) (kids : Forest M) (t : Tree M) (rest : Forest M) → kids ≡ tree t rest → lists_from path i kids ≡ lists_at (path ++ i ∷ []) t ++ lists_from path (i + 1) rest
+from_first path i kids t rest e = rw (e, add-one) refl
+
+pub on_ok_both : {E A B C : Type 0} (r : Result (Unit {0}) E) → (A → B → C) → OnOk r A → OnOk r B → OnOk r C
+on_ok_both (Ok u) f a b = f a b
+on_ok_both (Err e) f a b = tt
+
+-- a document has no list behind that of its root but those of its elements
+pub root_first : {M : Type 0} (P : Listed M → Type 0) (doc : PlainDoc M) → (P (record { path = []; owner = the_document; kids = tree doc.root no_trees }) → ⊥) → IsFirstNot P (lists_of doc) []
+root_first P doc bad = record {
+  before = [];
+  list = record { path = []; owner = the_document; kids = tree doc.root no_trees };
+  after = lists_at (0 ∷ []) doc.root;
+  is_split = refl;
+  all_before = tt;
+  is_not = bad;
+  is_path = refl;
+}
+
+pub first_below : {M : Type 0} (P : Listed M → Type 0) (doc : PlainDoc M) (path : List ℕ) → P (record { path = []; owner = the_document; kids = tree doc.root no_trees }) → IsFirstNot P (lists_at (0 ∷ []) doc.root) path →
+    IsFirstNot P (lists_of doc) path
+first_below P doc path own f = first_behind P (record { path = []; owner = the_document; kids = tree doc.root no_trees } ∷ []) (lists_at (0 ∷ []) doc.root) path (own, tt) f
+
+-- there is no impossible list exactly where the document is potentially valid
+pub none_is_possible : {M : Type 0} (by_lists : IsPotentiallyValidByLists M) (g : PlainDtd) (root : List ℕ) (doc : PlainDoc M) (first : Option (List ℕ)) → IsProperDtd g → IsProperDoc doc →
+    MatchOption first (AllByRecursion (IsLive g root) (lists_of doc)) (IsFirstImpossible g root (lists_of doc)) → IsNone first ↔ IsPotentiallyValid g root (view doc.root)
+none_is_possible by_lists g root doc None p q f = (λ e. (by_lists g root doc p q).1 f, λ v. refl)
+none_is_possible by_lists g root doc (Some path) p q f = (
+  λ e. absurd cc,
+  λ v. absurd (let all = subst (AllByRecursion (IsLive g root)) f.is_split ((by_lists g root doc p q).0 v) in f.is_not (all_right (IsLive g root) f.before (f.list ∷ f.after) all).0),
+)
+
+-- the places of the root
+pub places_of_root : (old pushed : List ℕ) → old ≡ [] → pushed ≡ old ++ 0 ∷ [] → pushed ≡ 0 ∷ []
+places_of_root old pushed e f = rw e at f
+
+-- the owner of an element's list, and of the document node's, whatever the DTD is told by
+pub element_site : (g d : PlainDtd) (root x y : List ℕ) (o : Option PlainSite) → g ≡ d → x ≡ y → site_of g x (an_element x) ≡ o → site_of d root (an_element y) ≡ o
+element_site g d root x y o e f h = subst (λ (z : List ℕ). site_of d root (an_element z) ≡ o) f (subst (λ (z : PlainDtd). site_of z root (an_element x) ≡ o) e h)
+
+pub root_site : (g d : PlainDtd) (root : List ℕ) (o : Option PlainSite) → g ≡ d → site_of g root the_document ≡ o → site_of d root the_document ≡ o
+root_site g d root o e h = subst (λ (z : PlainDtd). site_of z root the_document ≡ o) e h

@@ -1,0 +1,90 @@
+//! The check of a whole document.
+
+ghost use Rattle.std.specs.Prelude.{◌≡◌, ◌≤◌, ◌+◌, ◌↔◌, IfErr, IfOk, IsNone, MatchResult, OnOk, length};
+ghost use Rattle.std.specs.List.{AllByRecursion};
+ghost use Rattle.pv_productive.specs.PlainForms.{dtd_of};
+ghost use Rattle.pv_tree.specs.Lists.{lists_of};
+ghost use Rattle.pv_tree.specs.PlainDocs.{plain_doc};
+ghost use Rattle.pv_tree.specs.View.{view};
+ghost use Rattle.pv_missing.specs.Completing.{IsPotentiallyValid};
+ghost use Rattle.pv_missing.specs.Verdicts.{HaveVerdicts};
+ghost use Rattle.pv_missing.specs.Widths.{IsListForVerdict};
+ghost use Rattle.pv_fresh.specs.Answers.{HasCause};
+ghost use Rattle.pv_fresh.specs.Walks.{verdicts_of};
+
+use crate::errors::FreshError;
+use crate::judging::{judge_list, judge_node};
+use crate::owners::root_owner;
+use crate::walk::Walk;
+use crate::widths::first_too_wide;
+use pv_chars::NoMemory;
+use pv_dtd::laws::proper_dtd_law;
+use pv_missing::Verdicts;
+use pv_missing::laws::documents::live_lists_law;
+use pv_missing::laws::proper::proper_doc_law;
+use pv_productive::Grammar;
+use pv_steps::Steps;
+use pv_tree::{Doc, Mark};
+use std::alloc::Global;
+use std::sync::ledger::Ledger;
+
+/// The verdicts of all lists of a document, in document order, and the path of the first Impossible one. There is none exactly where the
+/// document is potentially valid.
+///
+/// The widths of all lists come first, and take no memory but for a path.
+pub fn check_doc<L: Ledger>(
+    alloc: Global,
+    grammar: &Grammar,
+    root: &[u8],
+    doc: &Doc,
+    steps: &mut Steps<L>,
+) -> Result<Verdicts, FreshError>
+    ensures verdicts { IfOk result (HaveVerdicts (dtd_of grammar.now) root.now
+        (lists_of (plain_doc doc.now))) }
+    ensures possible { IfOk result (λ vs. IsNone vs.first ↔
+        IsPotentiallyValid (dtd_of grammar.now) root.now (view (plain_doc doc.now).root)) }
+    ensures narrow { OnOk result (AllByRecursion (IsListForVerdict (dtd_of grammar.now))
+        (lists_of (plain_doc doc.now))) }
+    ensures refused { IfErr result (HasCause (dtd_of grammar.now) (plain_doc doc.now)) }
+    ensures steps { OnOk result (steps.new ≡ steps.old + length (lists_of (plain_doc doc.now))) }
+    ensures few_steps { steps.new ≤ steps.old + length (lists_of (plain_doc doc.now)) }
+{
+    live_lists_law::<Mark>();
+    proper_dtd_law(grammar.dtd());
+    proper_doc_law(doc);
+    if let Some(path) = first_too_wide(alloc, grammar.dtd(), doc)? {
+        return Err(FreshError::TooWide(path));
+    }
+    let walk = judge_doc(alloc, grammar, root, doc, steps)?;
+    Ok(Verdicts::of(walk.verdicts, walk.first))
+}
+
+// The walk over all lists, of which none is too wide.
+fn judge_doc<L: Ledger>(
+    alloc: Global,
+    grammar: &Grammar,
+    root: &[u8],
+    doc: &Doc,
+    steps: &mut Steps<L>,
+) -> Result<Walk, NoMemory>
+    requires { AllByRecursion (IsListForVerdict (dtd_of grammar.now))
+        (lists_of (plain_doc doc.now)) }
+    ensures verdicts { IfOk result (λ walk. HaveVerdicts (dtd_of grammar.now) root.now
+        (lists_of (plain_doc doc.now)) (verdicts_of walk)) }
+    ensures steps { OnOk result (steps.new ≡ steps.old + length (lists_of (plain_doc doc.now))) }
+    ensures few_steps { steps.new ≤ steps.old + length (lists_of (plain_doc doc.now)) }
+{
+    let mut walk = Walk::new(alloc);
+    let owner = root_owner(grammar.dtd(), root);
+    judge_list(
+        alloc,
+        grammar,
+        owner,
+        std::slice::from_ref(&doc.root),
+        &mut walk,
+        steps,
+    )?;
+    walk.places.push(0)?;
+    judge_node(alloc, grammar, &doc.root, &mut walk, steps)?;
+    Ok(walk)
+}

@@ -1,0 +1,110 @@
+//! The first list that is too wide for a verdict.
+
+ghost use Rattle.std.specs.Prelude.{◌≡◌, ◌≤◌, ◌<◌, ◌^◌, ◌↔◌, List, ℕ, IfOk, IsTrue, MatchOption, length, suc, if◌then◌else◌};
+ghost use Rattle.std.specs.List.{AllByRecursion};
+ghost use Rattle.pv_model.specs.Plain.{PlainToken};
+ghost use Rattle.pv_dtd.specs.Plain.{PlainDtd};
+ghost use Rattle.pv_dtd.specs.PlainForms.{plain_dtd};
+ghost use Rattle.pv_tree.specs.Legal.{MAX_NODES};
+ghost use Rattle.pv_tree.specs.Lists.{lists_at, lists_from, lists_of};
+ghost use Rattle.pv_tree.specs.Plain.{nodes_in, nodes_in_all};
+ghost use Rattle.pv_tree.specs.PlainDocs.{plain_doc};
+ghost use Rattle.pv_tree.specs.PlainForms.{plain, forest};
+ghost use Rattle.pv_tree.specs.Search.{Finds};
+ghost use Rattle.pv_tree.specs.Words.{node_before, word_of};
+ghost use Rattle.pv_missing.specs.Widths.{FitsVerdict, IsFirstTooWide, IsListForVerdict};
+
+use pv_chars::NoMemory;
+use pv_dtd::Dtd;
+use pv_tree::{Doc, Node, Path};
+use std::alloc::Global;
+
+/// One more than the tokens of a list, times the parts and names of the DTD, is at most so many.
+const MOST_CELLS: u64 = 67_108_864;
+
+/// The path of the first list that is too wide for a verdict.
+pub fn first_too_wide(alloc: Global, dtd: &Dtd, doc: &Doc) -> Result<Option<Path>, NoMemory>
+    ensures { IfOk result (λ found. MatchOption found
+        (AllByRecursion (IsListForVerdict (plain_dtd dtd.now)) (lists_of (plain_doc doc.now)))
+        (IsFirstTooWide (plain_dtd dtd.now) (lists_of (plain_doc doc.now)))) }
+{
+    if !is_narrow(dtd, std::slice::from_ref(&doc.root)) {
+        return Ok(Some(Path::new(alloc, &[])?));
+    }
+    let mut places = Vec::new(alloc);
+    places.push(0)?;
+    if has_too_wide(dtd, &doc.root, &mut places)? {
+        Ok(Some(Path::new(alloc, &places)?))
+    } else {
+        Ok(None)
+    }
+}
+
+// Whether a list of this subtree is too wide. The places of the node become those of the first such list.
+#[cycle(widths)]
+fn has_too_wide(dtd: &Dtd, node: &Node, places: &mut Vec<u32>) -> Result<bool, NoMemory>
+    requires { nodes_in (plain node.now) ≤ MAX_NODES }
+    ensures { IfOk result (Finds (IsListForVerdict (plain_dtd dtd.now))
+        (lists_at places.old.items (plain node.now)) places.old.items places.new.items) }
+{
+    let Node::Elem { kids, .. } = node else {
+        return Ok(false);
+    };
+    if !is_narrow(dtd, kids) {
+        return Ok(true);
+    }
+    has_too_wide_kid(dtd, kids, places)
+}
+
+// The same of nodes side by side, at the places of their list.
+#[cycle(widths)]
+fn has_too_wide_kid(dtd: &Dtd, kids: &[Node], places: &mut Vec<u32>) -> Result<bool, NoMemory>
+    requires { nodes_in_all (forest kids.now) ≤ MAX_NODES }
+    ensures { IfOk result (Finds (IsListForVerdict (plain_dtd dtd.now))
+        (lists_from places.old.items 0 (forest kids.now)) places.old.items places.new.items) }
+{
+    for (i, kid) in kids.iter().enumerate() {
+        places.push(i as u32)?;
+        if has_too_wide(dtd, kid, places)? {
+            return Ok(true);
+        }
+        places.pop();
+    }
+    Ok(false)
+}
+
+// Whether the list of these kids isn't too wide.
+fn is_narrow(dtd: &Dtd, kids: &[Node]) -> bool
+    requires { length kids.now ≤ MAX_NODES }
+    ensures { IsTrue result ↔ FitsVerdict (plain_dtd dtd.now)
+        (length (word_of (plain_dtd dtd.now) (forest kids.now))) }
+{
+    (tokens_in(kids) + 1) * u64::from(dtd.columns()) <= MOST_CELLS
+}
+
+// The number of tokens of the word of these kids.
+fn tokens_in(kids: &[Node]) -> u64
+    requires { length kids.now ≤ MAX_NODES }
+    ensures count { (g : PlainDtd) → result ≡ length (word_of g (forest kids.now)) }
+    ensures most { result ≤ length kids.now }
+{
+    let mut count = 0;
+    for kid in kids {
+        if has_token(kid) {
+            count += 1;
+        }
+    }
+    count
+}
+
+// Whether the node has a token in the word of its list.
+fn has_token(node: &Node) -> bool
+    ensures { (g : PlainDtd) (rest : List PlainToken) → length (node_before g (plain node.now) rest)
+        ≡ (if result then suc (length rest) else length rest) }
+{
+    match node {
+        Node::Elem { .. } | Node::Cdata(_) => true,
+        Node::Text(units) => units.has_data(),
+        Node::Misc(_) => false,
+    }
+}
