@@ -3,7 +3,7 @@ use Rattle.std.proofs.Common.{◌≡◌, ℕ, ◌<◌, ◌≤◌, List, [], ◌�
 use Rattle.std.specs.Str.{bytes_eq}
 use Rattle.pv_io.specs.Files.{byte_lists}
 use Rattle.pv_chars.specs.Names.{is_name}
-use Rattle.pv_cli.specs.CommandLine.{command_line_of, listing, valid, session}
+use Rattle.pv_cli.specs.CommandLine.{command_line_of, listing, valid, check, session}
 
 pub four : {A : Type 0} (xs : List A) (a b c d : A) → 4 ≤ length xs → length xs < 5 → a ≡ get_or xs 0 a → b ≡ get_or xs 1 b → c ≡ get_or xs 2 c → d ≡ get_or xs 3 d → xs ≡ a ∷ b ∷ c ∷ d ∷ []
 four [] a b c d more less p q r s = absurd (omega arith)
@@ -40,13 +40,17 @@ pub valid_words : (command dtd root doc : List ℕ) → is_name root ≡ true �
 unfolding command_line_of
 valid_words command dtd root doc named is = rw (named, is) refl
 
-pub session_words : (command dtd root doc : List ℕ) → is_name root ≡ true → bytes_eq command (codes "valid") ≡ false → bytes_eq command (codes "session") ≡ true → command_line_of (command ∷ dtd ∷ root ∷ doc ∷ []) ≡ Some (session dtd root doc)
+pub check_words : (command dtd root doc : List ℕ) → is_name root ≡ true → bytes_eq command (codes "valid") ≡ false → bytes_eq command (codes "check") ≡ true → command_line_of (command ∷ dtd ∷ root ∷ doc ∷ []) ≡ Some (check dtd root doc)
 unfolding command_line_of
-session_words command dtd root doc named other is = rw (named, other, is) refl
+check_words command dtd root doc named other is = rw (named, other, is) refl
 
-pub other_command : (command dtd root doc : List ℕ) → is_name root ≡ true → bytes_eq command (codes "valid") ≡ false → bytes_eq command (codes "session") ≡ false → command_line_of (command ∷ dtd ∷ root ∷ doc ∷ []) ≡ None
+pub session_words : (command dtd root doc : List ℕ) → is_name root ≡ true → bytes_eq command (codes "valid") ≡ false → bytes_eq command (codes "check") ≡ false → bytes_eq command (codes "session") ≡ true → command_line_of (command ∷ dtd ∷ root ∷ doc ∷ []) ≡ Some (session dtd root doc)
 unfolding command_line_of
-other_command command dtd root doc named is also = rw (named, is, also) refl
+session_words command dtd root doc named other another is = rw (named, other, another, is) refl
+
+pub other_command : (command dtd root doc : List ℕ) → is_name root ≡ true → bytes_eq command (codes "valid") ≡ false → bytes_eq command (codes "check") ≡ false → bytes_eq command (codes "session") ≡ false → command_line_of (command ∷ dtd ∷ root ∷ doc ∷ []) ≡ None
+unfolding command_line_of
+other_command command dtd root doc named is another also = rw (named, is, another, also) refl
 
 pub other_root : (command dtd root doc : List ℕ) → is_name root ≡ false → command_line_of (command ∷ dtd ∷ root ∷ doc ∷ []) ≡ None
 unfolding command_line_of

@@ -9,5 +9,6 @@ pub mod OneVerdict
 pub mod Replies
 pub mod Scripts
 pub mod Stages
+pub mod OneCheck
 pub mod OneListing
 pub mod Listings

@@ -1,5 +1,5 @@
 -- Validity doesn't see marks.
-use Rattle.std.proofs.Common.{◌≡◌, ℕ, suc, List, [], ◌∷◌, ◌++◌, map, refl, ap, ◌∙◌}
+use Rattle.std.proofs.Common.{◌≡◌, ℕ, suc, List, [], ◌∷◌, ◌++◌, map, refl, sym, subst, ap, ◌∙◌}
 use Rattle.std.proofs.lemmas.List.{map-append}
 use Rattle.std.specs.List.{AllByRecursion}
 use Rattle.pv_model.specs.Plain.{PlainToken}
@@ -44,7 +44,7 @@ mutual
       let whole = map-append unmarked_list (lists_at (path ++ i ∷ []) t) (lists_from path (suc i) rest) in
       cc
 
-lists_of-unmarked : {M : Type 0} (doc : PlainDoc M) → lists_of (unmarked_doc doc) ≡ map unmarked_list (lists_of doc)
+pub lists_of-unmarked : {M : Type 0} (doc : PlainDoc M) → lists_of (unmarked_doc doc) ≡ map unmarked_list (lists_of doc)
 lists_of-unmarked doc =
     ap (λ lists. record { path = []; owner = the_document; kids = tree (unmarked doc.root) no_trees } ∷ lists) (lists_at-unmarked (0 ∷ []) doc.root)
 
@@ -54,7 +54,7 @@ node_before-unmarked g (text_node units) u = refl
 node_before-unmarked g (cdata_node bytes) u = refl
 node_before-unmarked g (misc_node bytes) u = refl
 
-word_of-unmarked : {M : Type 0} (g : PlainDtd) (kids : Forest M) → word_of g (all_unmarked kids) ≡ word_of g kids
+pub word_of-unmarked : {M : Type 0} (g : PlainDtd) (kids : Forest M) → word_of g (all_unmarked kids) ≡ word_of g kids
 word_of-unmarked g no_trees = refl
 word_of-unmarked g (tree t rest) = node_before-unmarked g t (word_of g (all_unmarked rest)) ∙ ap (node_before g t) (word_of-unmarked g rest)
 
@@ -114,18 +114,28 @@ valid_from g root list valid = elim list.owner as (λ o. IsValidBy g root o (all
   | an_element x ↦ own_valid_from g x list.kids
 ] valid
 
-all_valid_to : {M : Type 0} (g : PlainDtd) (root : List ℕ) (lists : List (Listed M)) → AllByRecursion (IsValidList g root) lists → AllByRecursion (IsValidList g root) (map unmarked_list lists)
-all_valid_to g root [] all = tt
-all_valid_to g root (list ∷ lists) all = (valid_to g root list all.0, all_valid_to g root lists all.1)
+all_to : {M : Type 0} (P : Listed M → Type 0) (Q : Listed Unit → Type 0) → ((list : Listed M) → P list → Q (unmarked_list list)) → (lists : List (Listed M)) → AllByRecursion P lists → AllByRecursion Q (map unmarked_list lists)
+all_to P Q to [] all = tt
+all_to P Q to (list ∷ lists) all = (to list all.0, all_to P Q to lists all.1)
 
--- the first invalid list stays where it is
-pub first_invalid-unmarked : {M : Type 0} (g : PlainDtd) (root path : List ℕ) (doc : PlainDoc M) → IsFirstNot (IsValidList g root) (lists_of doc) path → IsFirstNot (IsValidList g root) (lists_of (unmarked_doc doc)) path
-first_invalid-unmarked g root path doc f = record {
+-- what holds of each list holds of each without its marks
+pub all-unmarked : {M : Type 0} (P : Listed M → Type 0) (Q : Listed Unit → Type 0) → ((list : Listed M) → P list → Q (unmarked_list list)) → (doc : PlainDoc M) → AllByRecursion P (lists_of doc) →
+    AllByRecursion Q (lists_of (unmarked_doc doc))
+all-unmarked P Q to doc all = subst (AllByRecursion Q) (sym (lists_of-unmarked doc)) (all_to P Q to (lists_of doc) all)
+
+-- and the first that isn't so stays where it is
+pub first-unmarked : {M : Type 0} (P : Listed M → Type 0) (Q : Listed Unit → Type 0) → ((list : Listed M) → P list → Q (unmarked_list list)) → ((list : Listed M) → Q (unmarked_list list) → P list) →
+    (path : List ℕ) (doc : PlainDoc M) → IsFirstNot P (lists_of doc) path → IsFirstNot Q (lists_of (unmarked_doc doc)) path
+first-unmarked P Q to from path doc f = record {
   before = map unmarked_list f.before;
   list = unmarked_list f.list;
   after = map unmarked_list f.after;
   is_split = lists_of-unmarked doc ∙ ap (map unmarked_list) f.is_split ∙ map-append unmarked_list f.before (f.list ∷ f.after);
-  all_before = all_valid_to g root f.before f.all_before;
-  is_not = λ v. f.is_not (valid_from g root f.list v);
+  all_before = all_to P Q to f.before f.all_before;
+  is_not = λ v. f.is_not (from f.list v);
   is_path = f.is_path;
 }
+
+-- the first invalid list stays where it is
+pub first_invalid-unmarked : {M : Type 0} (g : PlainDtd) (root path : List ℕ) (doc : PlainDoc M) → IsFirstNot (IsValidList g root) (lists_of doc) path → IsFirstNot (IsValidList g root) (lists_of (unmarked_doc doc)) path
+first_invalid-unmarked g root path doc f = first-unmarked (IsValidList g root) (IsValidList g root) (valid_to g root) (valid_from g root) path doc f

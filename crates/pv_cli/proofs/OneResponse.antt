@@ -12,7 +12,7 @@ use Rattle.pv_read.specs.Laws.{SpellsOneDocument}
 use Rattle.pv_script.specs.Lines.{lines_of}
 use Rattle.pv_write.specs.Laws.{WritesWhatIsSpelled}
 use Rattle.pv_write.specs.Text.{doc_text}
-use Rattle.pv_cli.specs.CommandLine.{listing, valid, session}
+use Rattle.pv_cli.specs.CommandLine.{listing, valid, check, session}
 use Rattle.pv_cli.specs.Course.{Ending, responds, Course}
 use Rattle.pv_cli.specs.Laws.{HasOneResponse}
 use Rattle.pv_cli.specs.Listing.{ListsDtd}
@@ -21,6 +21,8 @@ use Rattle.pv_cli.specs.Response.{PlainResponse}
 use Rattle.pv_cli.specs.Session.{State, IsScriptRefusal, IsAnswered, Answers, too_long, answered_all, failed, without_room, Converses}
 use Rattle.pv_cli.specs.Stage.{Stage, followed_by, beside, Behind, opened, refused, stopped, short_of_memory, Responds, responded, short_of_memory as out_of_memory}
 use Rattle.pv_cli.specs.Valid.{TellsValidity}
+use Rattle.pv_cli.specs.Check.{TellsPossibility}
+use Rattle.pv_cli.proofs.OneCheck.{one_possibility}
 use Rattle.pv_cli.proofs.OneListing.{one_listing}
 use Rattle.pv_cli.proofs.OneReplies.{one_replies}
 use Rattle.pv_cli.proofs.OneVerdict.{one_verdict, spelled_texts}
@@ -166,6 +168,11 @@ verdict_on_text one by_lists root g h doc same r also is text tells others =
     one_verdict by_lists root g doc same r also (spelled_texts doc.root text.is_text.spelled.root text.is_text.spelled.is_root) (spelled_texts same.root text.is_same.spelled.root text.is_same.spelled.is_root)
     (one text.bytes doc same text.is_text.spelled text.is_same.spelled) tells (subst (λ (d : PlainDtd). TellsValidity root d same also) (sym is) others)
 
+possibility_on_text : SpellsOneDocument → (root : List ℕ) (g h : PlainDtd) (doc same : PlainDoc Mark) (r also : PlainResponse) → g ≡ h → IsSameText doc same →
+    TellsPossibility root g doc r → TellsPossibility root h same also → r ≡ also
+possibility_on_text one root g h doc same r also is text tells others =
+    one_possibility root g doc same r also (one text.bytes doc same text.is_text.spelled text.is_same.spelled) tells (subst (λ (d : PlainDtd). TellsPossibility root d same also) (sym is) others)
+
 -- what a session responds: that the script is too long, or the replies
 abbrev pub SessionResponds : State → List ℕ → List ℕ → PlainResponse → Type 0
 SessionResponds doc script silent r = IsScriptRefusal script r ⊎ IsAnswered doc script silent (responds r)
@@ -208,6 +215,11 @@ one_response dtds documents by_lists written (Some (valid dtd root doc)) files c
     (λ x y same goes others. verdict_on_text documents by_lists root x.0 y.0 x.1 y.1 r also same.0 same.1 (told (TellsValidity root x.0 x.1) course r goes at) (told (TellsValidity root y.0 y.1) other also others on))
     (went_on (opening_stage root files) (λ both. Responds (TellsValidity root both.0 both.1)) course r is at)
     (went_on (opening_stage root files) (λ both. Responds (TellsValidity root both.0 both.1)) other also are on)
+one_response dtds documents by_lists written (Some (check dtd root doc)) files course other r also is are taken silent at on =
+    one_of (opening_stage root files) (IsSamePair IsSameText) (λ both. Responds (TellsPossibility root both.0 both.1)) course other r also (opening_sure dtds root files)
+    (λ x y same goes others. possibility_on_text documents root x.0 y.0 x.1 y.1 r also same.0 same.1 (told (TellsPossibility root x.0 x.1) course r goes at) (told (TellsPossibility root y.0 y.1) other also others on))
+    (went_on (opening_stage root files) (λ both. Responds (TellsPossibility root both.0 both.1)) course r is at)
+    (went_on (opening_stage root files) (λ both. Responds (TellsPossibility root both.0 both.1)) other also are on)
 one_response dtds documents by_lists written (Some (session dtd root doc)) files course other r also is are taken silent at on =
     one_of (opening_stage root files) (IsSamePair IsSameText) (λ both. Converses both.1) course other r also (opening_sure dtds root files)
     (λ x y same goes others. conversation_on_text written x.1 y.1 course other r also same.1 taken silent at on goes others)

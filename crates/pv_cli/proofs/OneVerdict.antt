@@ -51,7 +51,7 @@ not_both by_lists g root path doc texts valid f =
     let all = subst (AllByRecursion (IsValidList g root)) f.is_split ((by_lists g root doc texts).1 valid) in
     f.is_not (all_right (IsValidList g root) f.before (f.list ∷ f.after) all).0
 
-same_view : {M : Type 0} (doc same : PlainDoc M) → unmarked_doc doc ≡ unmarked_doc same → view doc.root ≡ view same.root
+pub same_view : {M : Type 0} (doc same : PlainDoc M) → unmarked_doc doc ≡ unmarked_doc same → view doc.root ≡ view same.root
 same_view doc same e =
     sym (view-unmarked doc.root done) ∙ ap (λ (d : PlainDoc Unit). view d.root) e ∙ view-unmarked same.root done
 

@@ -17,6 +17,13 @@ pub some_file : (told : Option (List (List ℕ × List ℕ))) (name : List ℕ) 
 some_file None name = (None, tt)
 some_file (Some files) name = (file_named name files, refl)
 
+-- a stop with one kind of response is one with another
+pub stops_as : (P Q : PlainResponse → Type 0) (stop : Stop) → ((r : PlainResponse) → P r → Q r) → StopsBy P ⊥ stop → StopsBy Q ⊥ stop
+stops_as P Q (Refused r) f s = f _ s
+stops_as P Q ShelfFault f s = s
+stops_as P Q InputFault f s = s
+stops_as P Q NoMemory f s = s
+
 -- where the first of two stages stops, both do
 pub stopped_first : {X Y : Type 0} (first : Stage X) (second : X → Stage Y) (stop : Stop) → StopsBy first.Refuses first.AsksShelf stop →
     StopsBy (followed_by first second).Refuses (followed_by first second).AsksShelf stop

@@ -3,19 +3,21 @@ use Rattle.std.specs.Prelude.{ℕ, Bool, true, false, List, [], ◌∷◌, codes
 use Rattle.std.specs.Str.{bytes_eq}
 use Rattle.pv_chars.specs.Names.{is_name}
 use Rattle.pv_cli.specs.declared.command_line.CommandLine.{CommandLine}
-use Rattle.pv_cli.specs.declared.command_line.CommandLine.TheVariants.{Listing, Valid, Session}
+use Rattle.pv_cli.specs.declared.command_line.CommandLine.TheVariants.{Listing, Valid, Check, Session}
 use Rattle.pv_cli.specs.declared.command_line.Named.{Named}
 
--- `dtd DTD`, `valid DTD ROOT DOC` and `session DTD ROOT DOC`
+-- `dtd DTD`, and `valid`, `check` and `session` with DTD ROOT DOC
 pub data PlainCommandLine : Type 0 where
   listing : (dtd : List ℕ) → PlainCommandLine
   valid : (dtd root doc : List ℕ) → PlainCommandLine
+  check : (dtd root doc : List ℕ) → PlainCommandLine
   session : (dtd root doc : List ℕ) → PlainCommandLine
 
 -- a command with a DTD, a root and a document
 abbrev pub on_document : List ℕ → List ℕ → List ℕ → List ℕ → Option PlainCommandLine
 on_document command dtd root doc =
     if bytes_eq command (codes "valid") then Some (valid dtd root doc)
+    else if bytes_eq command (codes "check") then Some (check dtd root doc)
     else if bytes_eq command (codes "session") then Some (session dtd root doc)
     else None
 
@@ -30,11 +32,21 @@ abbrev pub asks_shelf : Option PlainCommandLine → Bool
 asks_shelf None = false
 asks_shelf (Some (listing dtd)) = true
 asks_shelf (Some (valid dtd root doc)) = true
+asks_shelf (Some (check dtd root doc)) = true
 asks_shelf (Some (session dtd root doc)) = true
+
+-- the command lines that check lists, in a step for each
+abbrev pub checks_lists : Option PlainCommandLine → Bool
+checks_lists None = false
+checks_lists (Some (listing dtd)) = false
+checks_lists (Some (valid dtd root doc)) = false
+checks_lists (Some (check dtd root doc)) = true
+checks_lists (Some (session dtd root doc)) = false
 
 abbrev pub plain_command_line : CommandLine → PlainCommandLine
 plain_command_line (Listing name) = listing name.now
 plain_command_line (Valid n) = valid n.dtd.now n.root.now n.doc.now
+plain_command_line (Check n) = check n.dtd.now n.root.now n.doc.now
 plain_command_line (Session n) = session n.dtd.now n.root.now n.doc.now
 
 abbrev pub AreNamed : List (List ℕ) → Named → Type 0
@@ -44,4 +56,5 @@ AreNamed names n = Contains names n.dtd.now × Contains names n.doc.now
 abbrev pub HasNamedFiles : List (List ℕ) → CommandLine → Type 0
 HasNamedFiles names (Listing name) = Contains names name.now
 HasNamedFiles names (Valid n) = AreNamed names n
+HasNamedFiles names (Check n) = AreNamed names n
 HasNamedFiles names (Session n) = AreNamed names n

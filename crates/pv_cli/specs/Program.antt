@@ -7,7 +7,8 @@ use Rattle.pv_cli.specs.declared.status.Status.TheVariants.{Done, Usage, ReadFau
 use Rattle.pv_cli.specs.declared.response.Response.{Response}
 use Rattle.pv_cli.specs.declared.stop.Stop.{Stop}
 use Rattle.pv_cli.specs.declared.stop.Stop.TheVariants.{Refused, ShelfFault, InputFault, NoMemory}
-use Rattle.pv_cli.specs.CommandLine.{PlainCommandLine, listing, valid, session}
+use Rattle.pv_cli.specs.Check.{IsCheckCourse}
+use Rattle.pv_cli.specs.CommandLine.{PlainCommandLine, listing, valid, check, session}
 use Rattle.pv_cli.specs.Course.{Ending, responds, shelf_fault, input_fault, no_memory, Course, unread}
 use Rattle.pv_cli.specs.Listing.{IsListingCourse}
 use Rattle.pv_cli.specs.Opening.{Files, IsFile}
@@ -21,6 +22,7 @@ abbrev pub AreFiles : Option (List (List ℕ × List ℕ)) → Option PlainComma
 AreFiles told None files = Unit {0}
 AreFiles told (Some (listing dtd)) files = IsFile told dtd files.dtd
 AreFiles told (Some (valid dtd root doc)) files = IsFile told dtd files.dtd × IsFile told doc files.doc
+AreFiles told (Some (check dtd root doc)) files = IsFile told dtd files.dtd × IsFile told doc files.doc
 AreFiles told (Some (session dtd root doc)) files = IsFile told dtd files.dtd × IsFile told doc files.doc
 
 -- the courses that a command line may take over its files
@@ -28,6 +30,7 @@ abbrev pub IsDefined : Option PlainCommandLine → Files → Course → Type 0
 IsDefined None files course = Responds (λ r. r ≡ with_line Usage (codes "usage")) course
 IsDefined (Some (listing dtd)) files course = IsListingCourse files course
 IsDefined (Some (valid dtd root doc)) files course = IsValidCourse root files course
+IsDefined (Some (check dtd root doc)) files course = IsCheckCourse root files course
 IsDefined (Some (session dtd root doc)) files course = IsSessionCourse root files course
 
 -- the devices at one moment: the input, what the shelf and the input and the output tell of their bytes, and their counts of faults

@@ -22,6 +22,7 @@ pub enum CommandLine<'a> {
     Listing(&'a str),
     /// `valid DTD ROOT DOC`.
     Valid(Named<'a>),
+    Check(Named<'a>),
     /// `session DTD ROOT DOC`.
     Session(Named<'a>),
 }
@@ -66,6 +67,9 @@ pub fn command_line_of(words: &[String]) -> Option<CommandLine<'_>>
     };
     if command.as_str() == "valid" {
         return Some(CommandLine::Valid(named));
+    }
+    if command.as_str() == "check" {
+        return Some(CommandLine::Check(named));
     }
     if command.as_str() == "session" {
         return Some(CommandLine::Session(named));

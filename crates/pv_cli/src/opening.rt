@@ -2,6 +2,7 @@
 
 ghost use Rattle.std.specs.Prelude.{◌≡◌, ◌++◌, List, ℕ, Option, codes, decimal, Contains, false};
 ghost use Rattle.pv_cli.specs.Opening.{Files, IsFile, fetch_stage, dtd_stage, document_stage, dtd_file_stage, document_file_stage, opening_stage, plain_opened};
+ghost use Rattle.pv_cli.specs.Paths.{path_text};
 ghost use Rattle.pv_cli.specs.Response.{with_line};
 ghost use Rattle.pv_cli.specs.Stage.{StopsBy, Returns, ShelfCounts};
 ghost use Rattle.pv_cli.specs.Status.{is_fault};
@@ -41,6 +42,17 @@ fn refuse_item(alloc: Global, status: Status, text: &[u8], item: u64) -> Stop
     ensures { StopsBy (λ r. r ≡ with_line status (text.now ++ decimal item)) ⊥ result }
 {
     match Response::with_number(alloc, status, text, item) {
+        Ok(response) => Stop::Refused(response),
+        Err(_) => Stop::NoMemory,
+    }
+}
+
+/// Refuses with a line of this text and a path.
+pub fn refuse_path(alloc: Global, status: Status, text: &[u8], places: &[u32]) -> Stop
+    requires { is_fault status ≡ false }
+    ensures { StopsBy (λ r. r ≡ with_line status (text.now ++ path_text places.now)) ⊥ result }
+{
+    match Response::with_path(alloc, status, text, places) {
         Ok(response) => Stop::Refused(response),
         Err(_) => Stop::NoMemory,
     }

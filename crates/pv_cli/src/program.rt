@@ -1,13 +1,14 @@
 //! All that the program does.
 
 ghost use Rattle.std.specs.Prelude.{◌≡◌, codes, false};
-ghost use Rattle.pv_cli.specs.CommandLine.{command_line_of, asks_shelf};
+ghost use Rattle.pv_cli.specs.CommandLine.{command_line_of, asks_shelf, checks_lists};
 ghost use Rattle.pv_cli.specs.Program.{Runs, devices};
 ghost use Rattle.pv_cli.specs.Response.{with_line};
 ghost use Rattle.pv_cli.specs.Stage.{TellsBy};
 ghost use Rattle.pv_cli.specs.declared.status.Status.TheVariants.{Usage};
 ghost use Rattle.pv_io.specs.Files.{byte_lists, fetch_names};
 
+use crate::check::check;
 use crate::command_line::{CommandLine, command_line_of};
 use crate::listing::listing;
 use crate::respond::respond;
@@ -30,7 +31,7 @@ fn usage(alloc: Global) -> Result<Response, Stop>
 
 /// All that the program does: the words are those after its name.
 ///
-/// The shelf's names are the words but number 0 and number 2, counted from 0. No command touches `steps` yet.
+/// The shelf's names are the words but number 0 and number 2, counted from 0. `steps` counts the lists that `check` finds verdicts of.
 pub fn pvtag<H: Shelf, S: Source, K: Sink, L: Ledger>(
     _rt: &(impl Threads + Sync),
     alloc: Global,
@@ -53,10 +54,11 @@ pub fn pvtag<H: Shelf, S: Source, K: Sink, L: Ledger>(
     ensures unasked { asks_shelf (command_line_of (byte_lists words.now)) ≡ false → shelf.new ≡ shelf.old }
     ensures names { H.names shelf.new ≡ H.names shelf.old }
     ensures files { H.files shelf.new ≡ H.files shelf.old }
-    ensures steps { steps.new ≡ steps.old }
+    ensures steps { checks_lists (command_line_of (byte_lists words.now)) ≡ false → steps.new ≡ steps.old }
 {
     match command_line_of(words) {
         Some(CommandLine::Valid(named)) => respond(out, valid(alloc, shelf, &named)),
+        Some(CommandLine::Check(named)) => respond(out, check(alloc, shelf, &named, steps)),
         Some(CommandLine::Session(named)) => session(alloc, shelf, &named, input, out),
         Some(CommandLine::Listing(name)) => respond(out, listing(alloc, shelf, name)),
         None => respond(out, usage(alloc)),

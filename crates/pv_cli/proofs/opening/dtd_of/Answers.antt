@@ -2,17 +2,10 @@ use Rattle.std.proofs.Common.{⊎_elim, ◌≡◌, ℕ, List}
 use Rattle.pv_dtd.specs.Kinds.{Kind, parameter, syntax, twice, mixed_twice, nesting, limit}
 use Rattle.pv_dtd.specs.Meaning.{faulty, TextMeans}
 use Rattle.pv_cli.specs.Opening.{RefusesDtd, no_dtd, dtd_refusal}
-use Rattle.pv_cli.specs.Response.{PlainResponse}
 use Rattle.pv_cli.specs.Stage.{StopsBy}
 use Rattle.pv_cli.specs.declared.stop.Stop.{Stop}
-use Rattle.pv_cli.specs.declared.stop.Stop.TheVariants.{Refused, ShelfFault, InputFault, NoMemory}
+use Rattle.pv_cli.proofs.Stages.{stops_as}
 use Rattle.pv_cli.proofs.opening.dtd_of.Goals as goal
-
-stops_as : (P Q : PlainResponse → Type 0) (stop : Stop) → ((r : PlainResponse) → P r → Q r) → StopsBy P ⊥ stop → StopsBy Q ⊥ stop
-stops_as P Q (Refused r) f s = f _ s
-stops_as P Q ShelfFault f s = s
-stops_as P Q InputFault f s = s
-stops_as P Q NoMemory f s = s
 
 -- a stop with the response to the text's first fault
 refused : (bytes : List ℕ) (kind : Kind) (k : ℕ) (stop : Stop) → TextMeans bytes (faulty kind k) → StopsBy (λ r. r ≡ dtd_refusal kind k) ⊥ stop → StopsBy (RefusesDtd bytes) ⊥ stop

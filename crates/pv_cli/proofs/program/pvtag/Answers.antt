@@ -1,6 +1,6 @@
 use Rattle.std.proofs.Common.{◌≡◌, sym, Some, None, codes}
 use Rattle.pv_io.specs.Files.{byte_lists}
-use Rattle.pv_cli.specs.CommandLine.{command_line_of, listing, valid, session}
+use Rattle.pv_cli.specs.CommandLine.{command_line_of, listing, valid, check, session}
 use Rattle.pv_cli.specs.Response.{PlainResponse, with_line}
 use Rattle.pv_cli.specs.declared.status.Status.TheVariants.{Usage}
 use Rattle.pv_cli.proofs.Stages.{found_runs, tells_ends, tells_counts, tells_leaves_input}
@@ -11,6 +11,12 @@ returns-in-Some-Valid-clause-runs g c =
     let named = c.in-Some-Valid.named in
     let line : command_line_of (byte_lists c.args.words.now) ≡ Some (valid named.dtd.now named.root.now named.doc.now) = sym (rw c.in-Some-Valid.field-0-is at c.in-Some-Valid.ensures.line) in
     rw line (found_runs _ _ _ _ _ c.valid.result _ _ _ _ _ _ _ _ c.valid.ensures.finds c.respond.ensures)
+
+pub returns-in-Some-Check-clause-runs : goal.returns-in-Some-Check-clause-runs
+returns-in-Some-Check-clause-runs g c =
+    let named = c.in-Some-Check.named in
+    let line : command_line_of (byte_lists c.args.words.now) ≡ Some (check named.dtd.now named.root.now named.doc.now) = sym (rw c.in-Some-Check.field-0-is at c.in-Some-Check.ensures.line) in
+    rw line (found_runs _ _ _ _ _ c.check.result _ _ _ _ _ _ _ _ c.check.ensures.finds c.respond-in-Some-Check.ensures)
 
 pub returns-in-Some-Session-clause-runs : goal.returns-in-Some-Session-clause-runs
 returns-in-Some-Session-clause-runs g c =
