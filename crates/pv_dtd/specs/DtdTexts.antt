@@ -1,4 +1,4 @@
--- What a DTD text is, limits aside (XML 1.0, section 4.3.2, production extSubset; 3.1 and 3.2.2), and the limits.
+-- What a DTD text is, limits aside (XML 1.0, section 2.8, productions extSubset and extSubsetDecl; 3.2 and 3.2.2), and the limits.
 use Rattle.std.specs.Prelude.{◌≡◌, ◌≤◌, ℕ, List, [], ◌∷◌, ◌++◌, IsTrue, false, length}
 use Rattle.std.specs.List.{AllByRecursion, list_all}
 use Rattle.pv_chars.specs.Spaces.{IsOptionalSpace}
@@ -11,7 +11,8 @@ use Rattle.pv_dtd.specs.Spelling.{Spells, MayStand}
 use Rattle.pv_dtd.specs.Numbering.{numbered}
 use Rattle.pv_dtd.specs.Meaning.{IsBehindMark}
 
--- (markupdecl | S)*: items other than a text declaration, with S? before each and behind the last
+-- (markupdecl | S)*: items other than a text declaration, with S? before each and behind the last; no conditional section and no
+-- reference of a parameter entity is part of a DTD here
 abbrev pub SpellsDeclarations : List Item → List ℕ → Type 0
 SpellsDeclarations [] text = IsOptionalSpace text
 SpellsDeclarations (i ∷ items) text =
