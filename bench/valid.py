@@ -69,4 +69,5 @@ def main():
                 print(f"  {name:28} {1000 * seconds:7.0f} ms  {memory:8,} kB   time {seconds / base[0]:.2f}  memory {memory / base[1]:.2f}")
 
 
-main()
+if __name__ == "__main__":
+    main()

@@ -1,6 +1,7 @@
 #!/usr/bin/env bash
 # All tests: `rt ci` proves every crate, tries the must-fail edits and runs the crates' tests and the program; then the built program is
-# tried on the machine's files, and compared with xmllint where it is installed. The last line tells how many passed.
+# tried on the machine's files, and compared with a search that inserts elements and with xmllint, where Python and xmllint are installed. The
+# last line tells how many passed.
 set -u
 cd "$(dirname "$0")/.." || exit 1
 log=$(mktemp)
@@ -65,5 +66,6 @@ count "$log"
 }
 
 check 900 tests/program.sh
+skip "the comparison with insertions" python3 || check 300 python3 tests/against_insertions.py crates/pvtag/out/pvtag 500 1
 skip "the comparison with xmllint" python3 xmllint || check 300 python3 tests/against_xmllint.py crates/pvtag/out/pvtag 200 1 120
 finish

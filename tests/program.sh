@@ -56,6 +56,9 @@ expect "EMPTY with text" 1 "invalid 0$lf" "$pvtag" valid empty.dtd doc hello.xml
 expect "a long document" 8 "limit document-file$lf" "$pvtag" valid text.dtd doc long.xml
 expect "60 MB of text" 0 "valid$lf" "$pvtag" valid any.dtd a text.xml
 expect "1,000,000 siblings" 0 "valid$lf" "$pvtag" valid any.dtd a siblings.xml
+expect "check, possible" 0 "possible 1$lf" "$pvtag" check "$top/examples/letter.dtd" letter "$top/examples/letter-draft.xml"
+expect "check, impossible" 1 "impossible 0$lf" "$pvtag" check "$top/examples/letter.dtd" letter "$top/examples/letter-swapped.xml"
+expect "check, valid" 0 "valid$lf" "$pvtag" check a.dtd doc valid.xml
 expect "one word" 2 "usage$lf" "$pvtag" valid
 expect "no words" 2 "usage$lf" "$pvtag"
 expect "no name" 2 "usage$lf" "$pvtag" valid text.dtd 1x hello.xml
@@ -98,5 +101,26 @@ for bytes in '\xff' '\xed\xa0\x80' '\xc0\xaf' '\xe0\x80\xaf' '\xf4\x90\x80\x80' 
     printf "<!ELEMENT a EMPTY><!ATTLIST a b CDATA '$bytes'>" >one.dtd
     dtd "$bytes in a literal" 6 "dtd syntax 1"
 done
+
+# Documents for `check`: many lists, long lists, and lists at the widest and one past it.
+repeat() { yes "$2" | head -n "$1" | tr -d '\n'; }
+# check NAME STATUS LINE: what `check` says of one.xml by the DTD in one.dtd and its root
+check() { expect "$1" "$2" "$3$lf" "$pvtag" check "$4" "$5" one.xml; }
+{ printf '<doc><head/>'; repeat 1055 '<sec/>'; printf '</doc>'; } >one.xml
+check "1,055 sections" 0 valid a.dtd doc
+{ printf '<doc><head/>'; repeat 1056 '<sec/>'; printf '</doc>'; } >one.xml
+check "1,056 sections" 0 valid a.dtd doc
+{ printf '<doc><head/>'; repeat 20000 '<sec>t</sec>'; printf '</doc>'; } >one.xml
+check "20,000 sections with text" 0 "possible 20000" a.dtd doc
+{ repeat 512 '<em>'; repeat 512 '</em>'; } >one.xml
+check "512 elements in one another" 0 valid a.dtd em
+{ printf '<!ELEMENT r (#PCDATA'; seq -f '|a%g' 4000 | tr -d '\n'; printf ')*><!ELEMENT a1 EMPTY>'; } >one.dtd
+{ printf '<r>'; repeat 8386 '<a1/>'; printf '</r>'; } >one.xml
+check "the widest list" 0 valid one.dtd r
+{ printf '<r>'; repeat 8387 '<a1/>'; printf '</r>'; } >one.xml
+check "a list too wide" 8 "limit width 0" one.dtd r
+printf '<!ELEMENT a (b, c?)><!ELEMENT b (a?)><!ELEMENT c EMPTY>' >one.dtd
+{ printf '<a>'; repeat 2000 '<c/>'; printf '</a>'; } >one.xml
+check "2,000 kids by left recursion" 0 "possible 1" one.dtd a
 echo "program: $passed passed, $failed failed"
 [ "$failed" -eq 0 ]
