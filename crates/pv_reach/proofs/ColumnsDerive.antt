@@ -30,14 +30,14 @@ get_plain (u ∷ us) zero t e = let i : u ≡ t = cc in rw i refl
 get_plain (u ∷ us) (suc i) t e = get_plain us i t e
 
 module _ (g : PlainDtd) (w : List PlainToken) where
-  to_none : (s : PlainSite) (i : ℕ) → Rule g w (over s i i) 0 [] → DerivesAt g w s i i
+  pub to_none : (s : PlainSite) (i : ℕ) → Rule g w (over s i i) 0 [] → DerivesAt g w s i i
   to_none s i r = (0, by_rule 0 0 0 (over s i i) [] refl r (none_left 0 refl))
 
   pub to_one : (c : ℕ) (s r : PlainSite) (i j k l : ℕ) → Rule g w (over s i j) c (over r k l ∷ []) → DerivesAt g w r k l → DerivesAt g w s i j
   to_one c s r i j k l rule (n, d) =
       (c + n, by_rule (c + n) c n (over s i j) (over r k l ∷ []) refl rule (one_more n n 0 (over r k l) [] (omega arith) d (none_left 0 refl)))
 
-  to_two : (s r o : PlainSite) (i k j : ℕ) → Rule g w (over s i j) 0 (over r i k ∷ over o k j ∷ []) → DerivesAt g w r i k → DerivesAt g w o k j → DerivesAt g w s i j
+  pub to_two : (s r o : PlainSite) (i k j : ℕ) → Rule g w (over s i j) 0 (over r i k ∷ over o k j ∷ []) → DerivesAt g w r i k → DerivesAt g w o k j → DerivesAt g w s i j
   to_two s r o i k j rule (a, d) (b, f) = (
     a + b,
     by_rule (a + b) 0 (a + b) (over s i j) (over r i k ∷ over o k j ∷ []) (omega arith) rule
@@ -48,7 +48,7 @@ module _ (g : PlainDtd) (w : List PlainToken) where
   spanned s i j (n, by_rule _ c m _ xs e r d) = (over_spans g w s i j c xs r).0
 
   -- the rules of two sides, also where the first of them is over nothing
-  mixed_more : (x e i k j : ℕ) (ys : List ℕ) → model_of g x ≡ Some (mixed ys) → e < length ys → DerivesAt g w (part_site (first_part g x + e)) i k → DerivesAt g w (content_site x) k j →
+  pub mixed_more : (x e i k j : ℕ) (ys : List ℕ) → model_of g x ≡ Some (mixed ys) → e < length ys → DerivesAt g w (part_site (first_part g x + e)) i k → DerivesAt g w (content_site x) k j →
       DerivesAt g w (content_site x) i j
   mixed_more x e i k j ys m l d f =
       let a = spanned (part_site (first_part g x + e)) i k d in let b = spanned (content_site x) k j f in
@@ -57,7 +57,7 @@ module _ (g : PlainDtd) (w : List PlainToken) where
         | inr le ↦ let z : k ≡ i = omega arith in let P : ℕ → Type 0 = λ v. DerivesAt g w (content_site x) v j in subst P z f
       ]
 
-  any_more : (x y i k j : ℕ) → model_of g x ≡ Some any → IsDeclared g y → DerivesAt g w (name_site y) i k → DerivesAt g w (content_site x) k j → DerivesAt g w (content_site x) i j
+  pub any_more : (x y i k j : ℕ) → model_of g x ≡ Some any → IsDeclared g y → DerivesAt g w (name_site y) i k → DerivesAt g w (content_site x) k j → DerivesAt g w (content_site x) i j
   any_more x y i k j m l d f =
       let a = spanned (name_site y) i k d in let b = spanned (content_site x) k j f in
       elim (cases_lt i k) [
@@ -65,7 +65,7 @@ module _ (g : PlainDtd) (w : List PlainToken) where
         | inr le ↦ let z : k ≡ i = omega arith in let P : ℕ → Type 0 = λ v. DerivesAt g w (content_site x) v j in subst P z f
       ]
 
-  star_again : (q i k j : ℕ) (p : PlainPart) → part_at g q ≡ Some (star p) → DerivesAt g w (part_site (suc q)) i k → DerivesAt g w (part_site q) k j → DerivesAt g w (part_site q) i j
+  pub star_again : (q i k j : ℕ) (p : PlainPart) → part_at g q ≡ Some (star p) → DerivesAt g w (part_site (suc q)) i k → DerivesAt g w (part_site q) k j → DerivesAt g w (part_site q) i j
   star_again q i k j p e d f =
       let a = spanned (part_site (suc q)) i k d in let b = spanned (part_site q) k j f in
       elim (cases_lt i k) [
@@ -73,7 +73,7 @@ module _ (g : PlainDtd) (w : List PlainToken) where
         | inr le ↦ let z : k ≡ i = omega arith in let P : ℕ → Type 0 = λ v. DerivesAt g w (part_site q) v j in subst P z f
       ]
 
-  plus_again : (q i k j : ℕ) (p : PlainPart) → part_at g q ≡ Some (plus p) → DerivesAt g w (part_site (suc q)) i k → DerivesAt g w (part_site q) k j → DerivesAt g w (part_site q) i j
+  pub plus_again : (q i k j : ℕ) (p : PlainPart) → part_at g q ≡ Some (plus p) → DerivesAt g w (part_site (suc q)) i k → DerivesAt g w (part_site q) k j → DerivesAt g w (part_site q) i j
   plus_again q i k j p e d f =
       let a = spanned (part_site (suc q)) i k d in let b = spanned (part_site q) k j f in
       elim (cases_lt i k) [

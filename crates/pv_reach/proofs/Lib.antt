@@ -15,3 +15,4 @@ pub mod ColumnsDerive
 pub mod Raising
 pub mod SitesReach
 pub mod Spans
+pub mod Within

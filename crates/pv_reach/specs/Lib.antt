@@ -1,4 +1,5 @@
 pub mod ColumnRules
+pub mod Laws
 pub mod Tables
 pub mod Columns
 pub mod Adding

@@ -11,6 +11,7 @@ mod adding;
 mod any;
 mod contents;
 mod errors;
+pub mod laws;
 mod layout;
 mod marks;
 mod order;

@@ -1,0 +1,5 @@
+use Rattle.pv_reach.proofs.Within.{spans_within}
+use Rattle.pv_reach.proofs.laws.spans_within_law.Goals as goal
+
+pub returns : goal.returns
+returns c = spans_within
