@@ -3,6 +3,7 @@ pub mod Closing
 pub mod FormedDtds
 pub mod Judging
 pub mod Laying
+pub mod Leading
 pub mod Listing
 pub mod Membering
 pub mod Naming
@@ -16,3 +17,4 @@ pub mod Raising
 pub mod SitesReach
 pub mod Spans
 pub mod Within
+pub mod Widening

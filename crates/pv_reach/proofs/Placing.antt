@@ -28,7 +28,7 @@ module _ (names once : List ℕ) (marks : List Bool) (i : ℕ) (before : ArePlac
       here : Contains new (get_or names i 0)
       here = rw e (Contains-append_right once (get_or names i 0 ∷ []) (get_or names i 0) (0, omega arith, refl))
 
-unmarked : (n x : ℕ) → get_or (replicate n false) x false ≡ false
+pub unmarked : (n x : ℕ) → get_or (replicate n false) x false ≡ false
 unmarked zero x = refl
 unmarked (suc n) zero = refl
 unmarked (suc n) (suc x) = unmarked n x

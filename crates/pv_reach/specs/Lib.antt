@@ -6,3 +6,4 @@ pub mod Adding
 pub mod Deriving
 pub mod Possible
 pub mod Parts
+pub mod Following

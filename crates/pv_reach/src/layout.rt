@@ -1,15 +1,20 @@
 //! The rules of a DTD, by columns.
 
-ghost use Rattle.std.specs.Prelude.{◌≡◌, ℕ, Contains, IfOk};
+ghost use Rattle.std.specs.Prelude.{◌≡◌, ◌+◌, ◌<◌, ◌≤◌, ◌^◌, ℕ, Contains, IfOk, length};
 ghost use Rattle.pv_dtd.specs.Plain.{IsDeclared};
 ghost use Rattle.pv_productive.specs.PlainForms.{dtd_of};
 ghost use Rattle.pv_reach.specs.Adding.{LaysOutNames};
+ghost use Rattle.pv_reach.specs.ColumnRules.{InRange};
 ghost use Rattle.pv_reach.specs.Columns.{AreRules};
+ghost use Rattle.pv_reach.specs.Following.{Widens};
 
 use crate::any::add_any;
 use crate::contents::add_name;
-use crate::order::inner_first;
+use crate::finding::find_all;
+use crate::following::widen;
+use crate::order::{inner_first, names_on_cycles};
 use crate::rules::ColumnRule;
+use crate::table::fill;
 use pv_productive::Grammar;
 use std::alloc::{AllocError, Global};
 
@@ -39,4 +44,40 @@ pub fn rules_of(alloc: Global, grammar: &Grammar) -> Result<Vec<ColumnRule>, All
     add_names(alloc, grammar, &names, &mut rules)?;
     add_any(alloc, grammar, &mut rules)?;
     Ok(rules)
+}
+
+/// The least number of tokens for which further columns are laid out.
+const LONG: usize = 64;
+
+/// The first 4,096 of some names, or all.
+fn first_of(names: &[u32]) -> &[u32]
+    ensures { length result.now ≤ 4096 }
+{
+    if names.len() <= 4096 {
+        return names;
+    }
+    &names[..4096]
+}
+
+/// For a word of at least 64 tokens, adds further columns for what may stand behind columns that lead back to themselves; tells the number
+/// of columns. Without them the rounds at each place could grow with the word.
+pub fn add_further(
+    alloc: Global,
+    grammar: &Grammar,
+    tokens: usize,
+    width: usize,
+    rules: &mut Vec<ColumnRule>,
+) -> Result<usize, AllocError>
+    requires range { InRange width rules.old.items }
+    requires narrow { width + 4096 < 2 ^ 26 }
+    ensures widens { IfOk result (λ wider. Widens rules.old.items rules.new.items width wider) }
+    ensures narrow { IfOk result (λ wider. (width ≤ wider) × (wider < 2 ^ 26)) }
+{
+    if tokens < LONG {
+        return Ok(width);
+    }
+    let names = names_on_cycles(alloc, grammar)?;
+    let table = fill(alloc, rules, &[], width)?;
+    let found = find_all(alloc, rules, &table, first_of(&names), width)?;
+    widen(alloc, &found, width, rules)
 }

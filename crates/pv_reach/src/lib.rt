@@ -11,6 +11,8 @@ mod adding;
 mod any;
 mod contents;
 mod errors;
+mod finding;
+mod following;
 pub mod laws;
 mod layout;
 mod marks;

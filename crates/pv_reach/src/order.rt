@@ -19,11 +19,14 @@ struct Visit {
     end: u32,
 }
 
-/// The names whose content is gone through, one within another, and which names were among them.
+/// The names whose content is gone through, one within another; which names were among them, and which are so no more; and those that
+/// were come to again while they were.
 #[derive(Debug, Drop)]
 struct Visits {
     open: Vec<Visit>,
     entered: Vec<bool>,
+    left: Vec<bool>,
+    heads: Vec<u32>,
 }
 
 impl Visits {
@@ -32,7 +35,10 @@ impl Visits {
         let Some(content) = content_of(grammar, name) else {
             return Ok(());
         };
-        if is_marked(self.entered.as_slice(), name as usize) {
+        if is_marked(&self.entered, name as usize) {
+            if !is_marked(&self.left, name as usize) {
+                self.heads.push(name)?;
+            }
             return Ok(());
         }
         mark(&mut self.entered, name as usize);
@@ -74,24 +80,34 @@ fn place_from(
         if visit.next < visit.end {
             visits.go_on(grammar, visit)?;
         } else {
+            mark(&mut visits.left, visit.name as usize);
             names.push(visit.name)?;
         }
     }
     Ok(())
 }
 
-/// The declared names from inner ones outwards, each behind those that its content leads to, but where they lead back to it.
-fn inner_names(alloc: Global, grammar: &Grammar) -> Result<Vec<u32>, AllocError> {
+/// The declared names from inner ones outwards, each behind those that its content leads to, but where they lead back to it; and the
+/// names that such a way back leads to.
+fn inner_names(alloc: Global, grammar: &Grammar) -> Result<(Vec<u32>, Vec<u32>), AllocError> {
     let count = grammar.dtd().count();
     let mut names = Vec::new(alloc);
     let mut visits = Visits {
         open: Vec::new(alloc),
         entered: vec![in alloc; false; count as usize]?,
+        left: vec![in alloc; false; count as usize]?,
+        heads: Vec::new(alloc),
     };
     for name in 0..count {
         place_from(grammar, name, &mut visits, &mut names)?;
     }
-    Ok(names)
+    Ok((names, visits.heads))
+}
+
+/// Names whose content leads back to them: one at least on each such way.
+pub fn names_on_cycles(alloc: Global, grammar: &Grammar) -> Result<Vec<u32>, AllocError> {
+    let (_, heads) = inner_names(alloc, grammar)?;
+    Ok(heads)
 }
 
 /// The numbers in their order, each where it stands first.
@@ -113,7 +129,7 @@ fn each_once(alloc: Global, names: &[u32], count: u32) -> Result<Vec<u32>, Alloc
 pub fn inner_first(alloc: Global, grammar: &Grammar) -> Result<Vec<u32>, AllocError>
     ensures { IfOk result (λ names. (x : ℕ) → IsDeclared (dtd_of grammar.now) x → Contains names.items x) }
 {
-    let mut names = inner_names(alloc, grammar)?;
+    let (mut names, _) = inner_names(alloc, grammar)?;
     for name in 0..grammar.dtd().count() {
         names.push(name)?;
     }

@@ -26,6 +26,10 @@ const NESTED: &str = "<!ELEMENT x ((x, y)?)><!ELEMENT y EMPTY>";
 
 const ENDLESS: &str = "<!ELEMENT a (a)>";
 
+/// The content of `a` leads back to itself with a `c` behind it; that of `d` does so through several names.
+const LEADING_BACK: &str = "<!ELEMENT a (b, c?)><!ELEMENT b (a?)><!ELEMENT c EMPTY>\
+    <!ELEMENT d (e, c?)><!ELEMENT e (f|c)><!ELEMENT f (g?, c?)><!ELEMENT g (d+)>";
+
 const ANYTHING: &str = "<!ELEMENT r ANY><!ELEMENT s (u?)>";
 
 fn name(id: u32) -> Token {
@@ -103,6 +107,19 @@ fn possible_words(rt: HostRuntime) -> Result<(), Fail> {
     Ok(())
 }
 
+#[test]
+fn long_words(rt: HostRuntime) -> Result<(), Fail> {
+    let alloc = rt.alloc();
+    let word = vec![in alloc; name(2); 20_000]?;
+    let (a, d) = (Of::Elem(NameId(0)), Of::Elem(NameId(3)));
+    check(
+        &rt,
+        alloc,
+        LEADING_BACK,
+        &[(a, &word, true), (d, &word, true)],
+    )
+}
+
 fn element(alloc: Global, name: &str) -> Result<Node, Fail> {
     Ok(Node::Elem {
         name: bytes_of(alloc, name.as_bytes())?,
@@ -130,25 +147,35 @@ fn verdict<L: Ledger>(
     list_verdict(alloc, grammar, of, kids, &mut steps)
 }
 
+fn check_list(
+    rt: &impl Abort,
+    alloc: Global,
+    grammar: &Grammar,
+    owner: u32,
+    kids: &[Node],
+    wanted: Verdict,
+) -> Result<(), Fail> {
+    let found = verdict::<Brand>(alloc, grammar, owner, kids, Blank::new(1))?;
+    assert_eq!(rt; found, wanted, "{kids:?} in {owner}");
+    Ok(())
+}
+
 #[test]
 fn verdicts(rt: HostRuntime) -> Result<(), Fail> {
     let alloc = rt.alloc();
     let grammar = build(alloc, read_dtd(alloc, ARTICLE.as_bytes())?)?;
-    let comment = [Node::Misc(bytes_of(alloc, b"<!---->")?)];
-    let sections = [element(alloc, "sec")?, element(alloc, "p")?];
-    let unknown = [element(alloc, "q")?];
     let (doc, sec, br) = (0, 2, 6);
-    for (owner, kids, wanted) in [
-        (br, [].as_slice(), Verdict::Valid),
-        (br, comment.as_slice(), Verdict::Impossible),
-        (sec, comment.as_slice(), Verdict::Valid),
-        (doc, sections.as_slice(), Verdict::Possible),
-        (sec, sections.as_slice(), Verdict::Impossible),
-        (doc, unknown.as_slice(), Verdict::Impossible),
-        (9, [].as_slice(), Verdict::Impossible),
-    ] {
-        let found = verdict::<Brand>(alloc, &grammar, owner, kids, Blank::new(1))?;
-        assert_eq!(rt; found, wanted, "{kids:?} in {owner}");
-    }
+    let mut kids = Vec::new(alloc);
+    check_list(&rt, alloc, &grammar, br, &kids, Verdict::Valid)?;
+    check_list(&rt, alloc, &grammar, 9, &kids, Verdict::Impossible)?;
+    kids.push(Node::Misc(bytes_of(alloc, b"<!---->")?))?;
+    check_list(&rt, alloc, &grammar, br, &kids, Verdict::Impossible)?;
+    check_list(&rt, alloc, &grammar, sec, &kids, Verdict::Valid)?;
+    kids.push(element(alloc, "sec")?)?;
+    kids.push(element(alloc, "p")?)?;
+    check_list(&rt, alloc, &grammar, doc, &kids, Verdict::Possible)?;
+    check_list(&rt, alloc, &grammar, sec, &kids, Verdict::Impossible)?;
+    kids.push(element(alloc, "q")?)?;
+    check_list(&rt, alloc, &grammar, doc, &kids, Verdict::Impossible)?;
     Ok(())
 }

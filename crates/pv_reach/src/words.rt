@@ -14,7 +14,7 @@ ghost use Rattle.pv_reach.specs.declared.errors.ReachError.TheVariants.{TooWide 
 
 use crate::adding::any_column;
 use crate::errors::ReachError;
-use crate::layout::rules_of;
+use crate::layout::{add_further, rules_of};
 use crate::table::reaches_end;
 use pv_missing::Of;
 use pv_model::{NameId, Token};
@@ -46,8 +46,14 @@ pub(crate) fn content_derives(
     if id.0 >= grammar.dtd().count() {
         return Ok(false);
     }
-    let rules = rules_of(alloc, grammar)?;
-    let width = any_column(grammar) + 1;
+    let mut rules = rules_of(alloc, grammar)?;
+    let width = add_further(
+        alloc,
+        grammar,
+        word.len(),
+        any_column(grammar) + 1,
+        &mut rules,
+    )?;
     reaches_end(alloc, &rules, word, width, id.0 as usize)
 }
 

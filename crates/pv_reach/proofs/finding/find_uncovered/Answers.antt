@@ -1,0 +1,10 @@
+use Rattle.std.proofs.Common.{Err, IfOk, IfSome, None, Ok, Option, Result, Some, arith, subst, sym, ℕ, ◌<◌, ◌≡◌}
+use Rattle.pv_reach.specs.Following.{AreFollowers}
+use Rattle.pv_reach.specs.declared.following.Followers.{Followers}
+use Rattle.pv_reach.proofs.Listing.{if_ok_as}
+use Rattle.pv_reach.proofs.Widening.{found_within}
+use Rattle.pv_reach.proofs.finding.find_uncovered.Goals as goal
+
+pub returns : goal.returns
+returns c =
+    if_ok_as c.find.result _ _ (λ found h. found_within c.args.rules.now c.args.width c.args.column found c.if-column-width.false h) (c.find.ensures c.args.width c.requires.range)
