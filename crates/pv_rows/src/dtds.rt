@@ -27,6 +27,18 @@ pub const ANY_OR_EMPTY: &str = "<!ELEMENT a ANY><!ELEMENT b EMPTY>";
 /// Any content, and an element that needs one that isn't declared.
 pub const ANY_OR_ENDLESS: &str = "<!ELEMENT a ANY><!ELEMENT c (b)>";
 
+/// Pairs, of which a first member may hold another.
+pub const NESTED: &str = "<!ELEMENT x ((x, y)?)><!ELEMENT y EMPTY>";
+
+/// An element that needs another of its kind.
+pub const ENDLESS: &str = "<!ELEMENT a (a)>";
+
+/// Any content, and an element that needs another of its kind.
+pub const ENDLESS_IN_ANY: &str = "<!ELEMENT a ANY><!ELEMENT c (c)>";
+
+/// Any content, and an element that may hold one that isn't declared.
+pub const OPTIONAL_UNDECLARED: &str = "<!ELEMENT r ANY><!ELEMENT s (u?)>";
+
 /// Text and one element, beside another that it doesn't list.
 pub const MIXED: &str = "<!ELEMENT a (#PCDATA|b)*><!ELEMENT b EMPTY><!ELEMENT c EMPTY>";
 
