@@ -55,7 +55,6 @@ def cases(top, folder):
     yield "18 MB, without every tenth pair of tags", article, "doc", without_tags(text), False
     for count in (20_000, 200_000):
         yield f"{count:,} kids, every other one missing", ROW, "a", row("b", count), False
-    for count in (2_000, 20_000):
         yield f"{count:,} kids by left recursion", LEFT, "a", row("c", count), False
         yield f"{count:,} kids by left recursion through several names", LONG_LEFT, "a", row("c", count), False
     # Eight columns, so that (n + 1) * 8 is the limit.
