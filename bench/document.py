@@ -1,7 +1,8 @@
-"""Writes a plain document for examples/article.dtd. Words: KIND BYTES.
+"""Writes a document for examples/article.dtd. Words: KIND BYTES.
 
-KIND is `nodes` (sections, paragraphs and inline elements, many small nodes), `texts` (paragraphs of a few thousand bytes of text) or
-`wide` (one section whose list has a paragraph for each hundred bytes). It has at least so many bytes.
+KIND is `nodes` (sections, paragraphs and inline elements, many small nodes), `texts` (paragraphs of a few thousand bytes of text), `wide` (one
+section whose list has a paragraph for each hundred bytes) or `marked` (as `nodes`, with attributes, references, comments, CDATA sections and
+letters beyond ASCII; ATTRIBUTES declares the attributes). It has at least so many bytes.
 """
 import random
 import sys
@@ -39,6 +40,20 @@ def wide_paragraph():
     return f"<p>{random.choice(LONG)[:90]}</p>\n"
 
 
+ATTRIBUTES = "<!ATTLIST p id CDATA #IMPLIED class CDATA #IMPLIED>\n<!ATTLIST em n CDATA #IMPLIED>\n"
+
+
+def marked_paragraph():
+    number = random.randrange(100_000)
+    other = random.choice(["<!-- " + words(4) + " -->", "<![CDATA[<" + words(2) + ">]]>", "<?mark " + words(1) + "?>", "&#233;t\u00e9 &amp; caf\u00e9"])
+    return f"<p id=\"p{number}\" class='note'>{words(9)} <em n = \"a &lt; b\">{words(3)}</em> {words(8)} &gt; {other} {words(9)}<br/></p>\n"
+
+
+def marked_section():
+    blocks = (marked_paragraph() for _ in range(random.randint(2, 6)))
+    return f"<sec><title>{words(4)}</title>\n" + "".join(blocks) + "</sec>\n"
+
+
 def fill(out, left, make):
     while left > 0:
         left -= out.write(make())
@@ -53,8 +68,9 @@ def main():
         fill(out, left, wide_paragraph)
         out.write("</sec>")
     else:
-        fill(out, left, {"nodes": section, "texts": long_section}[kind])
+        fill(out, left, {"nodes": section, "texts": long_section, "marked": marked_section}[kind])
     out.write("</doc>\n")
 
 
-main()
+if __name__ == "__main__":
+    main()

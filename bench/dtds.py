@@ -12,7 +12,7 @@ TYPES = 4_096
 PARTS = 65_536
 
 
-# 4,096 types that share the parts: a sequence of 15 names each, so that a type has 16 parts.
+# 4,096 types that share the parts: a sequence of 8 names each, seven of them optional, so that a type has 16 parts.
 def wide():
     others = ",".join(f"e{number}?" for number in range(7)) + ",e7"
     return "".join(f"<!ELEMENT e{number} {'EMPTY' if number < 8 else f'({others})'}>\n" for number in range(TYPES))

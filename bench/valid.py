@@ -9,7 +9,14 @@ import subprocess
 import sys
 import tempfile
 
-DOCUMENTS = [("many small nodes", "nodes", 18_000_000), ("long texts", "texts", 18_000_000), ("a wide list", "wide", 18_000_000)]
+from document import ATTRIBUTES
+
+DOCUMENTS = [
+    ("many small nodes", "nodes", 18_000_000),
+    ("long texts", "texts", 18_000_000),
+    ("a wide list", "wide", 18_000_000),
+    ("attributes, references and comments", "marked", 18_000_000),
+]
 
 
 # The programs that are installed, each with its words for a DTD and a document; `inner` is the document with a DOCTYPE.
@@ -55,6 +62,8 @@ def main():
     programs = validators(top)
     with tempfile.TemporaryDirectory() as folder:
         dtd = shutil.copy(f"{top}/examples/article.dtd", folder)
+        with open(dtd, "a") as file:
+            file.write(ATTRIBUTES)
         for title, kind, size in DOCUMENTS:
             doc, inner = f"{folder}/{kind}.xml", f"{folder}/{kind}-inner.xml"
             with open(doc, "w") as file:

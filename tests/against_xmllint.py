@@ -287,7 +287,7 @@ def is_dtd(path):
 def compare_changed(program, plain, counts):
     differences = 0
     write("e.xml", "<a/>")
-    kinds = [("document", "d.xml", "<>/ab x\n]", 7, "document syntax"), ("dtd", "a.dtd", "<!ELEMNTPYab>()|,?*+# \n", 6, "dtd (syntax|twice|mixed-twice)")]
+    kinds = [("document", "d.xml", "<>/ab x\n]", 7, "document (syntax|mismatch)"), ("dtd", "a.dtd", "<!ELEMNTPYab>()|,?*+# \n", 6, "dtd (syntax|twice|mixed-twice)")]
     for kind, path, letters, status, refusal in kinds:
         good = read(path)
         for _ in range(12):

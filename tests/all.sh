@@ -66,6 +66,7 @@ count "$log"
 }
 
 check 900 tests/program.sh
-skip "the comparison with insertions" python3 || check 300 python3 tests/against_insertions.py crates/pvtag/out/pvtag 500 1
+skip "the comparison with insertions" python3 || check 300 python3 tests/against_insertions.py crates/pvtag/out/pvtag 850 1
 skip "the comparison with xmllint" python3 xmllint || check 300 python3 tests/against_xmllint.py crates/pvtag/out/pvtag 200 1 120
+skip "the comparison of broken documents" python3 xmllint || check 300 python3 tests/broken_documents.py crates/pvtag/out/pvtag 2000 1
 finish

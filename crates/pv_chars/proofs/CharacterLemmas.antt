@@ -1,14 +1,14 @@
 -- Characters one after the other, and what stands after them.
-use Rattle.std.proofs.Common.{◌≡◌, ℕ, ◌-◌, List, [], ◌∷◌, ◌++◌, length, take, drop, Bool, true, false, refl, sym, ap, ◌∙◌, arith, append_assoc, length-append}
-use Rattle.std.proofs.lemmas.Bool.{and_parts, and_from, ne_eqb}
-use Rattle.std.specs.Prelude.{IsTrue, ◌==◌}
+use Rattle.std.proofs.Common.{◌≡◌, ℕ, ◌-◌, ◌<◌, List, [], ◌∷◌, ◌++◌, length, take, drop, Bool, true, false, refl, sym, ap, ◌∙◌, arith, append_assoc, length-append}
+use Rattle.std.proofs.lemmas.Bool.{and_parts, and_from, ne_eqb, ltb-true}
+use Rattle.std.specs.Prelude.{IsTrue, ◌==◌, nat_lt}
 use Rattle.std.proofs.lemmas.List.{take_at, drop_at, append-nil}
 use Rattle.std.proofs.lemmas.List.Folds.{list_all-append}
-use Rattle.std.proofs.lemmas.Str.{encode_same, encodes-append, len_utf8_bounds, length-encode}
+use Rattle.std.proofs.lemmas.Str.{encode_same, encode_ascii, encodes-append, len_utf8_bounds, length-encode}
 use Rattle.std.specs.List.{list_all}
 use Rattle.std.specs.Char.{IsScalar}
 use lib.Utf8.{encode, encodes}
-use Rattle.pv_chars.specs.Characters.{BeginsWith, BeginsWithNone, BeginsNo, AreAll, TakesAll}
+use Rattle.pv_chars.specs.Characters.{is_char, is_ascii_char, BeginsWith, BeginsWithNone, BeginsNo, AreAll, TakesAll}
 
 pub none_in_nothing : (test : ℕ → Bool) → AreAll test []
 none_in_nothing test = record { codes = []; pass = refl; spelled = refl }
@@ -18,6 +18,21 @@ AreAll-append test xs ys a b = record { codes = a.codes ++ b.codes; pass = list_
 
 pub AreAll-one : (test : ℕ → Bool) (c : ℕ) → test c ≡ true → AreAll test (encode c)
 AreAll-one test c e = record { codes = c ∷ []; pass = and_from (test c) true e refl; spelled = sym (append-nil (encode c)) }
+
+-- bytes of ASCII that pass, one after the other
+module _ (p test : ℕ → Bool) (tells : (b : ℕ) → p b ≡ true → (test b ≡ true) × (b < 128)) where
+  bytes_pass : (bytes : List ℕ) → list_all p bytes ≡ true → list_all test bytes ≡ true
+  bytes_pass [] e = refl
+  bytes_pass (b ∷ bs) e = let parts = and_parts (p b) (list_all p bs) e in and_from (test b) (list_all test bs) (tells b parts.0).0 (bytes_pass bs parts.1)
+
+  bytes_spell : (bytes : List ℕ) → list_all p bytes ≡ true → bytes ≡ encodes bytes
+  bytes_spell [] e = refl
+  bytes_spell (b ∷ bs) e =
+      let parts = and_parts (p b) (list_all p bs) e in
+      ap (λ l. b ∷ l) (bytes_spell bs parts.1) ∙ ap (λ l. l ++ encodes bs) (sym (encode_ascii b (tells b parts.0).1))
+
+  pub AreAll-ascii : (bytes : List ℕ) → list_all p bytes ≡ true → AreAll test bytes
+  AreAll-ascii bytes e = record { codes = bytes; pass = bytes_pass bytes e; spelled = bytes_spell bytes e }
 
 -- one more character is taken
 pub one_more : (test : ℕ → Bool) (bytes front rest more : List ℕ) (c : ℕ) → AreAll test front → bytes ≡ front ++ rest → BeginsWith rest c more → test c ≡ true → (longer : List ℕ) × AreAll test longer × (bytes ≡ longer ++ more)
@@ -64,3 +79,7 @@ all_where_empty test bytes [] empty taken e = ((λ t. rw (taken.whole, append-ni
 all_where_empty test bytes (b ∷ bs) empty taken e =
     let full : (length (b ∷ bs) == 0) ≡ false = ne_eqb (length (b ∷ bs)) 0 (λ none. omega arith) in
     ((λ t. let no_more : empty ≡ true = t in cc), (λ all. let same = (same_all test taken.front bytes (b ∷ bs) [] taken.are_all all taken.ends (nothing_begins test) (sym taken.whole ∙ sym (append-nil bytes))).1 in cc))
+
+-- Chars of ASCII are Chars
+pub where_ascii_chars : (bytes : List ℕ) (all : Bool) → all ≡ list_all is_ascii_char bytes → all ≡ true → AreAll is_char bytes
+where_ascii_chars bytes all e is = AreAll-ascii is_ascii_char is_char (λ b pass. let parts = and_parts (is_char b) (nat_lt b 128) pass in (parts.0, ltb-true b 128 parts.1)) bytes (sym e ∙ is)

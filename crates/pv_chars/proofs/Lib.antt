@@ -1,4 +1,3 @@
-pub mod UnitLemmas
 pub mod Scanning
 pub mod Beginnings
 pub mod Options
@@ -19,3 +18,4 @@ pub mod ReferenceLemmas
 pub mod UnitReading
 pub mod CutLemmas
 pub mod MeansLemmas
+pub mod CloseMarks

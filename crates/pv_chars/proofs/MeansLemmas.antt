@@ -192,7 +192,7 @@ units_bytes (u ∷ us) all =
 pub count_fits : (bytes : List ℕ) (count : ℕ) → IsCut bytes count → count ≤ length bytes
 count_fits bytes count c = let h = units_bytes c.units c.are_units in omega (arith, c.count_is, ap length c.whole)
 
-AllUnits-append : (us vs : List (List ℕ)) → AllUnits us → AllUnits vs → AllUnits (us ++ vs)
+pub AllUnits-append : (us vs : List (List ℕ)) → AllUnits us → AllUnits vs → AllUnits (us ++ vs)
 AllUnits-append [] vs a b = b
 AllUnits-append (u ∷ us) vs a b = (a.0, AllUnits-append us vs a.1 b)
 

@@ -28,13 +28,13 @@ quotes_have_no_space : HasNoSpace is_quote
 quotes_have_no_space = record { space = refl; tab = refl; return = refl; feed = refl }
 
 -- a value in quotes begins with no white space
-quoted_begins : (bytes value rest : List ℕ) → Begins (IsQuoted value) bytes rest → begins is_space bytes ≡ false
+pub quoted_begins : (bytes value rest : List ℕ) → Begins (IsQuoted value) bytes rest → begins is_space bytes ≡ false
 quoted_begins bytes value rest b =
     let i = b.is_item in
     let whole : bytes ≡ i.quote ∷ ((value ++ i.quote ∷ []) ++ rest) = b.whole ∙ ap (λ l. l ++ rest) i.whole in
     rw whole (unlike is_quote i.quote (is_space i.quote) is_space i.is_quote (no_space is_quote quotes_have_no_space i.quote) refl)
 
-word_begins : (word rest : List ℕ) → word ≢ [] → begins is_space word ≡ false → begins is_space (word ++ rest) ≡ false
+pub word_begins : (word rest : List ℕ) → word ≢ [] → begins is_space word ≡ false → begins is_space (word ++ rest) ≡ false
 word_begins [] rest some black = absurd (some refl)
 word_begins (x ∷ xs) rest some black = black
 

@@ -7,6 +7,7 @@ use Rattle.std.specs.List.{list_all}
 use lib.Utf8.{encodes}
 use Rattle.pv_chars.specs.Spaces.{is_space, IsSpace, IsOptionalSpace}
 use Rattle.pv_chars.specs.Characters.{is_char, is_name_char, IsChars, BeginsNo}
+use Rattle.pv_chars.proofs.CharacterLemmas.{AreAll-ascii}
 
 pub space_is_ascii : (b : ℕ) → is_space b ≡ true → b < 128
 space_is_ascii b e = grind (arith, nat_tests)
@@ -17,18 +18,8 @@ space_is_char b e = grind (arith, nat_tests)
 pub space_in_no_name : (b : ℕ) → is_space b ≡ true → is_name_char b ≡ false
 space_in_no_name b e = grind (arith, nat_tests)
 
-space_pass : (space : List ℕ) → list_all is_space space ≡ true → list_all is_char space ≡ true
-space_pass [] e = refl
-space_pass (b ∷ bs) e = let parts = and_parts (is_space b) (list_all is_space bs) e in and_from (is_char b) (list_all is_char bs) (space_is_char b parts.0) (space_pass bs parts.1)
-
-space_spelled : (space : List ℕ) → list_all is_space space ≡ true → space ≡ encodes space
-space_spelled [] e = refl
-space_spelled (b ∷ bs) e =
-    let parts = and_parts (is_space b) (list_all is_space bs) e in
-    ap (λ l. b ∷ l) (space_spelled bs parts.1) ∙ ap (λ l. l ++ encodes bs) (sym (encode_ascii b (space_is_ascii b parts.0)))
-
 pub space_are_chars : (space : List ℕ) → IsOptionalSpace space → IsChars space
-space_are_chars space e = record { codes = space; pass = space_pass space e; spelled = space_spelled space e }
+space_are_chars space e = AreAll-ascii is_space is_char (λ b white. (space_is_char b white, space_is_ascii b white)) space e
 
 -- a byte of ASCII that doesn't pass begins no character that does
 pub ascii_ends : (test : ℕ → Bool) (b : ℕ) (bs : List ℕ) → b < 128 → test b ≡ false → BeginsNo test (b ∷ bs)

@@ -46,15 +46,15 @@ literal_start bytes u more b low other is e s = literal_is_other is.code b is.is
 ref_start : (base : ℕ) (front bytes u more : List ℕ) → IsCharRefIn base (38 ∷ front) u → bytes ≡ u ++ more → StartsWith 38 bytes
 ref_start base front bytes u more is e = (_, e ∙ ap (λ l. l ++ more) is.whole)
 
-char_ref_start : (bytes u more : List ℕ) → IsCharRef u → bytes ≡ u ++ more → StartsWith 38 bytes
+pub char_ref_start : (bytes u more : List ℕ) → IsCharRef u → bytes ≡ u ++ more → StartsWith 38 bytes
 char_ref_start bytes u more (inl is) e = ref_start 10 (35 ∷ []) bytes u more is e
 char_ref_start bytes u more (inr is) e = ref_start 16 (35 ∷ 120 ∷ []) bytes u more is e
 
-entity_start : (bytes u more name : List ℕ) → IsEntityRef name u → bytes ≡ u ++ more → StartsWith 38 bytes
+pub entity_start : (bytes u more name : List ℕ) → IsEntityRef name u → bytes ≡ u ++ more → StartsWith 38 bytes
 entity_start bytes u more name is e = (_, e ∙ ap (λ l. l ++ more) is.whole)
 
 -- a reference by a name isn't one by digits
-name_not_hash : (bytes u more name rest : List ℕ) → IsEntityRef name u → bytes ≡ u ++ more → bytes ≡ 38 ∷ 35 ∷ rest → ⊥
+pub name_not_hash : (bytes u more name rest : List ℕ) → IsEntityRef name u → bytes ≡ u ++ more → bytes ≡ 38 ∷ 35 ∷ rest → ⊥
 name_not_hash bytes u more name rest is e f =
     let n = is.is_name in
     let within : (name ++ codes ";") ++ more ≡ 35 ∷ rest = behind (codes "&") ((name ++ codes ";") ++ more) (35 ∷ rest) (sym (append_assoc (codes "&") (name ++ codes ";") more) ∙ ap (λ l. l ++ more) (sym is.whole) ∙ sym e ∙ f) in
@@ -62,7 +62,7 @@ name_not_hash bytes u more name rest is e f =
     let same : n.first ≡ 35 = code_at_start n.first 35 ((n.others ++ codes ";") ++ more) (35 ∷ rest) rest (omega arith) start refl in
     let is_start : is_name_start 35 ≡ true = let P : ℕ → Type 0 = λ k. is_name_start k ≡ true in subst P same n.is_start in cc
 
-char_ref_hash : (bytes u more : List ℕ) → IsCharRef u → bytes ≡ u ++ more → (rest : List ℕ) × (bytes ≡ 38 ∷ 35 ∷ rest)
+pub char_ref_hash : (bytes u more : List ℕ) → IsCharRef u → bytes ≡ u ++ more → (rest : List ℕ) × (bytes ≡ 38 ∷ 35 ∷ rest)
 char_ref_hash bytes u more (inl is) e = (_, e ∙ ap (λ l. l ++ more) is.whole)
 char_ref_hash bytes u more (inr is) e = (_, e ∙ ap (λ l. l ++ more) is.whole)
 

@@ -1,5 +1,5 @@
 -- Characters by their code points (XML 1.0, section 2.2), those of names (section 2.3), and their bytes in UTF-8.
-use Rattle.std.specs.Prelude.{◌≡◌, ℕ, Bool, ◌&&◌, nat_le, List, [], ◌∷◌, ◌++◌, IsTrue, encode_utf8, encode_utf8_all}
+use Rattle.std.specs.Prelude.{◌≡◌, ℕ, Bool, ◌&&◌, nat_le, nat_lt, List, [], ◌∷◌, ◌++◌, IsTrue, encode_utf8, encode_utf8_all}
 use Rattle.std.specs.List.{list_all, list_any}
 use Rattle.std.specs.Char.{IsScalar}
 
@@ -36,6 +36,10 @@ other_name_ranges = from_to 45 45 ∷ from_to 46 46 ∷ from_to 48 57 ∷ from_t
 
 abbrev pub is_char : ℕ → Bool
 is_char c = is_in char_ranges c
+
+-- a Char of ASCII
+abbrev pub is_ascii_char : ℕ → Bool
+is_ascii_char c = is_char c && nat_lt c 128
 
 abbrev pub is_name_start : ℕ → Bool
 is_name_start c = is_in name_start_ranges c

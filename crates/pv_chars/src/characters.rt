@@ -1,7 +1,8 @@
 //! Characters by their code points.
 
 ghost use Rattle.std.specs.Prelude.{◌≡◌, ◌↔◌, IsTrue};
-ghost use Rattle.pv_chars.specs.Characters.{is_char, is_name_start, is_name_char, IsChars, TakesAll};
+ghost use Rattle.std.specs.List.{list_all};
+ghost use Rattle.pv_chars.specs.Characters.{is_char, is_ascii_char, is_name_start, is_name_char, IsChars, TakesAll};
 
 use crate::utf8::char_at;
 
@@ -47,9 +48,27 @@ fn after_chars(bytes: &[u8]) -> &[u8]
     rest
 }
 
+// A byte that is a Char.
+fn is_ascii_char(b: u8) -> bool
+    ensures { result ≡ is_ascii_char b }
+{
+    (b == b'\t' || b == b'\n' || b == b'\r' || b >= b' ') && b < 128
+}
+
+// Whether each byte is a Char. All are looked at, so that many can be at a time.
+fn are_ascii_chars(bytes: &[u8]) -> bool
+    ensures { result ≡ list_all is_ascii_char bytes.now }
+{
+    let mut all = true;
+    for b in bytes {
+        all &= is_ascii_char(*b);
+    }
+    all
+}
+
 /// Whether the bytes are Chars, one after the other, in UTF-8 (XML 1.0, section 2.2).
 pub fn are_chars(bytes: &[u8]) -> bool
     ensures { IsTrue result ↔ IsChars bytes.now }
 {
-    after_chars(bytes).is_empty()
+    are_ascii_chars(bytes) || after_chars(bytes).is_empty()
 }

@@ -27,7 +27,7 @@ pub fn quoted_at(bytes: &[u8]) -> Option<(&[u8], &[u8])>
     }
 }
 
-// The value of the part with this word at the front, and what stands after it.
+/// The value of the part with this word at the front, and what stands after it.
 pub fn part_at<'a>(word: &[u8], bytes: &'a [u8]) -> Option<(&'a [u8], &'a [u8])>
     requires some { word.now ≢ [] }
     requires black { begins is_space word.now ≡ false }

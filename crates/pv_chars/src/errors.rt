@@ -1,13 +1,18 @@
 //! Why bytes are no text.
 
-/// Why bytes are no text: nothing at all, or, by its place in bytes, the first thing from the left that is no unit. That
-/// is no Char in UTF-8 or a `<`, a `&` that begins no reference, a reference to a name that isn't predefined, or `]]>`.
+/// Why bytes are no text: nothing at all, or the first thing from the left that is no unit, by its place in bytes.
 #[derive(Clone, Copy, Debug, PartialEq, Eq)]
 pub enum TextError {
+    /// There are no bytes.
     Empty,
+    /// A `<`, or no Char in UTF-8 (XML 1.0, section 2.2).
     BadChar(usize),
+    /// A `&` that begins no reference (section 4.1).
     BadReference(usize),
+    /// A reference to a name that isn't predefined (section 4.6).
     Entity(usize),
+    /// `]]>` (section 2.4).
     CloseMark(usize),
+    /// There was too little memory, and nothing is known of the bytes.
     NoMemory,
 }

@@ -18,8 +18,7 @@ mod memory;
 mod names;
 pub mod references;
 pub mod scan;
-mod texts;
-pub mod unit_text;
+mod unit_text;
 pub mod utf8;
 
 pub use characters::{are_chars, is_char, is_name_char, is_name_start};
@@ -27,8 +26,7 @@ pub use errors::TextError;
 pub use lists::{Bytes, List, Numbers, bytes_of};
 pub use memory::NoMemory;
 pub use names::{is_name, name_at};
-pub use texts::{Units, plain_units};
-pub use unit_text::text_units;
+pub use unit_text::{Units, are_simple, is_predefined, text_units};
 
 #[cfg(test)]
 mod tests;

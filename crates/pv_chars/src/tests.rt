@@ -2,11 +2,10 @@ use crate::declarations::{after_text_decl, after_xml_decl, quoted_at};
 use crate::markup::{after_cdata, after_comment, after_instruction};
 use crate::references::{after_char_ref, entity_ref_at};
 use crate::scan::{after_blank, space_length};
-use crate::unit_text::Units;
 use crate::utf8::char_at;
 use crate::{
-    Numbers, TextError, are_chars, bytes_of, is_char, is_name, is_name_char, is_name_start,
-    plain_units, text_units,
+    Numbers, TextError, Units, are_chars, bytes_of, is_char, is_name, is_name_char, is_name_start,
+    text_units,
 };
 use std::test::Fail;
 
@@ -169,6 +168,8 @@ fn parts_of_texts(rt: HostRuntime) -> Result<(), Fail> {
     assert!(rt; part.bytes() == b" &#32;".as_slice());
     let both = part.joined(rt.alloc(), &units).map_err(|_| "no memory")?;
     assert!(rt; both.bytes() == " &#32;a &#32;é".as_bytes());
+    let copy = both.copy(rt.alloc()).map_err(|_| "no memory")?;
+    assert!(rt; copy.len() == 6 && copy.bytes() == both.bytes());
     Ok(())
 }
 
@@ -198,8 +199,6 @@ fn lists(rt: HostRuntime) -> Result<(), Fail> {
     assert!(rt; bytes.as_slice() == b"xyz".as_slice());
     let numbers = Numbers::of([1, 2].to_vec(alloc)?);
     assert!(rt; numbers.as_slice() == [1, 2].as_slice());
-    let plain = plain_units(alloc, b"a \n").map_err(|_| "no memory")?;
-    assert!(rt; plain.len() == 3);
     Ok(())
 }
 

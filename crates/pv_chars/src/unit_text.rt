@@ -1,10 +1,9 @@
 //! Texts, cut into units.
 
 ghost use Rattle.std.specs.Prelude.{◌≡◌, ◌≢◌, ◌<◌, ◌≤◌, ◌-◌, ◌↔◌, ◌⊎◌, [], ◌++◌, length, take, drop, not, IsTrue, IfOk, MatchResult, Ok, Err};
-ghost use Rattle.std.specs.List.{list_any};
+ghost use Rattle.std.specs.List.{list_all, list_any};
 ghost use Rattle.pv_chars.specs.Spaces.{is_space};
 ghost use Rattle.pv_chars.specs.Texts.{joined, has_data};
-ghost use Rattle.std.specs.List.{list_all};
 ghost use Rattle.pv_chars.specs.declared.errors.TextError.{TextError};
 ghost use Rattle.pv_chars.specs.References.{IsPredefined};
 ghost use Rattle.pv_chars.specs.Units.{HasTextFault, HasUnitFault, BeginsAnyUnit, BeginsSomeUnit, BeginsAmpersand, Means, MeansUnits, TextMeans, is_simple, is_lone, units_in, AllUnits, AreUnits};
@@ -21,8 +20,8 @@ const AMPERSAND: u32 = 0x26;
 
 const LESS_THAN: u32 = 0x3C;
 
-// One of the five names that need no declaration (XML 1.0, section 4.6).
-fn is_predefined(name: &[u8]) -> bool
+/// Whether it is one of the five names that need no declaration (XML 1.0, section 4.6).
+pub fn is_predefined(name: &[u8]) -> bool
     ensures { IsTrue result ↔ IsPredefined name.now }
 {
     name == b"lt".as_slice()
@@ -121,8 +120,8 @@ fn is_simple(b: u8) -> bool
         && b != b'>'
 }
 
-// Whether each byte stands for itself. All are looked at, so that many can be at a time.
-fn are_simple(bytes: &[u8]) -> bool
+/// Whether each byte is a character that stands for itself and isn't `>`. All are looked at, so that many can be at a time.
+pub fn are_simple(bytes: &[u8]) -> bool
     ensures { result ≡ list_all is_simple bytes.now }
 {
     let mut all = true;
@@ -176,6 +175,16 @@ impl Units {
         ensures { result ≡ has_data self.now }
     {
         has_black(self.bytes.as_slice())
+    }
+
+    /// The same units.
+    pub fn copy(&self, alloc: Global) -> Result<Units, NoMemory>
+        ensures { IfOk result (λ u. u ≡ self.now) }
+    {
+        Ok(Units {
+            bytes: Vec::from_slice(alloc, self.bytes.as_slice())?,
+            count: self.count,
+        })
     }
 
     /// The units from number `from` up to but not including `to`.

@@ -1,22 +1,28 @@
 -- Over given files, script and silent lines there is one response.
-use Rattle.std.proofs.Common.{◌≡◌, ◌⊎◌, inl, inr, ℕ, List, length, codes, Option, Some, None, sym, ap, ◌∙◌, subst, arith}
+use Rattle.std.proofs.Common.{◌≡◌, ◌⊎◌, inl, inr, ℕ, List, [], length, codes, Option, Some, None, sym, ap, ◌∙◌, subst, arith}
 use Rattle.pv_dtd.specs.Plain.{PlainDtd}
 use Rattle.pv_dtd.specs.Facts.{MAX_DTD_BYTES}
 use Rattle.pv_dtd.specs.Laws.{OneMeaning}
 use Rattle.pv_dtd.specs.Meaning.{Outcome, is_dtd, faulty, TextMeans}
 use Rattle.pv_tree.specs.Laws.{IsValidByLists}
+use Rattle.pv_tree.specs.Marks.{blank_mark}
 use Rattle.pv_tree.specs.Plain.{PlainDoc}
+use Rattle.pv_tree.specs.Units.{HasUnits}
 use Rattle.pv_tree.specs.declared.nodes.Mark.{Mark}
-use Rattle.pv_read.specs.Grammar.{IsDocumentText, MAX_DOC_BYTES}
-use Rattle.pv_read.specs.Laws.{SpellsOneDocument}
+use Rattle.pv_read.specs.Grammar.{IsDocumentText}
+use Rattle.pv_read.specs.Kinds.{Kind}
+use Rattle.pv_read.specs.Meaning.{MAX_DOC_BYTES, Outcome as DocumentOutcome, is_document, faulty as faulty_document, too_long as too_long_document, DocumentMeans}
+use Rattle.pv_read.specs.DocumentLaws.{DocumentsMeanOne, MeansWhatItSpells, SpellsOneDocument, with_marks}
+use Rattle.pv_read.proofs.DocumentFacts.{keeps}
 use Rattle.pv_script.specs.Lines.{lines_of}
 use Rattle.pv_write.specs.Laws.{WritesWhatIsSpelled}
 use Rattle.pv_write.specs.Text.{doc_text}
 use Rattle.pv_cli.specs.CommandLine.{listing, valid, check, session}
+use Rattle.pv_cli.specs.Documents.{document_refusal, RefusesDocument, no_document, too_many_bytes, document_stage}
 use Rattle.pv_cli.specs.Course.{Ending, responds, Course}
 use Rattle.pv_cli.specs.Laws.{HasOneResponse}
 use Rattle.pv_cli.specs.Listing.{ListsDtd}
-use Rattle.pv_cli.specs.Opening.{Files, IsGiven, IsTooLong, fetch_stage, RefusesDtd, no_dtd, dtd_refusal, dtd_stage, RefusesDocument, no_document, document_stage, dtd_file_stage, document_file_stage, opening_stage}
+use Rattle.pv_cli.specs.Opening.{Files, IsGiven, IsTooLong, fetch_stage, RefusesDtd, no_dtd, dtd_refusal, dtd_stage, dtd_file_stage, document_file_stage, opening_stage}
 use Rattle.pv_cli.specs.Response.{PlainResponse}
 use Rattle.pv_cli.specs.Session.{State, IsScriptRefusal, IsAnswered, Answers, too_long, answered_all, failed, without_room, Converses}
 use Rattle.pv_cli.specs.Stage.{Stage, followed_by, beside, Behind, opened, refused, stopped, short_of_memory, Responds, responded, short_of_memory as out_of_memory}
@@ -25,7 +31,7 @@ use Rattle.pv_cli.specs.Check.{TellsPossibility}
 use Rattle.pv_cli.proofs.OneCheck.{one_possibility}
 use Rattle.pv_cli.proofs.OneListing.{one_listing}
 use Rattle.pv_cli.proofs.OneReplies.{one_replies}
-use Rattle.pv_cli.proofs.OneVerdict.{one_verdict, spelled_texts}
+use Rattle.pv_cli.proofs.OneVerdict.{one_verdict}
 
 -- a stage opens or refuses, and refuses with one response; what it opens is the same in this sense
 pub record IsSure {X : Type 0} (stage : Stage X) (Same : X → X → Type 0) : Type 0 where
@@ -114,29 +120,48 @@ dtd_sure one bytes = record {
 
 -- two documents with one text
 pub record IsSameText (doc same : PlainDoc Mark) : Type 0 where
+  pub root : List ℕ
   pub bytes : List ℕ
-  pub is_text : IsDocumentText bytes doc
-  pub is_same : IsDocumentText bytes same
+  pub is_text : IsDocumentText root bytes doc
+  pub is_same : IsDocumentText root bytes same
 
-document_not_both : (root bytes : List ℕ) (doc : PlainDoc Mark) (r : PlainResponse) → IsDocumentText bytes doc → RefusesDocument root bytes r → ⊥
-document_not_both root bytes doc r is (no_document none line) = none doc is
+-- the laws on document texts that the proof stands on
+pub record ReadsOne : Type 0 where
+  pub means_one : DocumentsMeanOne
+  pub means : MeansWhatItSpells
+  pub spells_one : SpellsOneDocument
 
-document_one_refusal : (root bytes : List ℕ) (r also : PlainResponse) → RefusesDocument root bytes r → RefusesDocument root bytes also → r ≡ also
-document_one_refusal root bytes r also (no_document none line) (no_document never other) = line ∙ sym other
+document_not_both : ReadsOne → (root bytes : List ℕ) (doc : PlainDoc Mark) (r : PlainResponse) → IsDocumentText root bytes doc → RefusesDocument root bytes r → ⊥
+document_not_both one root bytes doc r is (no_document kind k means line) =
+    let same = one.means_one root bytes (is_document (with_marks blank_mark doc)) (faulty_document kind k) (one.means blank_mark root bytes doc is) means in cc
+document_not_both one root bytes doc r is (too_many_bytes beyond line) =
+    let same = one.means_one root bytes (is_document (with_marks blank_mark doc)) too_long_document (one.means blank_mark root bytes doc is) beyond in cc
 
-document_sure : (root bytes : List ℕ) → IsSure (document_stage root bytes) IsSameText
-document_sure root bytes = record {
-  not_both = document_not_both root bytes;
-  one_refusal = document_one_refusal root bytes;
-  same = λ doc same is are. record { bytes = bytes; is_text = is; is_same = are };
+document_one_refusal : ReadsOne → (root bytes : List ℕ) (r also : PlainResponse) → RefusesDocument root bytes r → RefusesDocument root bytes also → r ≡ also
+document_one_refusal one root bytes r also (no_document kind k means line) (no_document other n again next) =
+    let same = one.means_one root bytes (faulty_document kind k) (faulty_document other n) means again in
+    let of_kind : kind ≡ other = cc in
+    let behind : k ≡ n = cc in
+    line ∙ ap (λ x. document_refusal x k) of_kind ∙ ap (document_refusal other) behind ∙ sym next
+document_one_refusal one root bytes r also (no_document kind k means line) (too_many_bytes beyond next) =
+    let same = one.means_one root bytes (faulty_document kind k) too_long_document means beyond in cc
+document_one_refusal one root bytes r also (too_many_bytes beyond line) (no_document kind k means next) =
+    let same = one.means_one root bytes too_long_document (faulty_document kind k) beyond means in cc
+document_one_refusal one root bytes r also (too_many_bytes beyond line) (too_many_bytes again next) = line ∙ sym next
+
+document_sure : ReadsOne → (root bytes : List ℕ) → IsSure (document_stage root bytes) IsSameText
+document_sure one root bytes = record {
+  not_both = document_not_both one root bytes;
+  one_refusal = document_one_refusal one root bytes;
+  same = λ doc same is are. record { root = root; bytes = bytes; is_text = is; is_same = are };
 }
 
-opening_sure : OneMeaning → (root : List ℕ) (files : Files) → IsSure (opening_stage root files) (IsSamePair IsSameText)
-opening_sure one root files =
+opening_sure : OneMeaning → ReadsOne → (root : List ℕ) (files : Files) → IsSure (opening_stage root files) (IsSamePair IsSameText)
+opening_sure one documents root files =
     followed_sure (dtd_file_stage files.dtd) (λ g. beside g (document_file_stage root files.doc)) (IsSamePair IsSameText)
     (followed_sure (fetch_stage files.dtd MAX_DTD_BYTES (codes "limit dtd-file")) dtd_stage IsEqual (fetch_sure files.dtd MAX_DTD_BYTES (codes "limit dtd-file")) (dtd_sure one))
     (λ g. beside_sure g (document_file_stage root files.doc) IsSameText
-    (followed_sure (fetch_stage files.doc MAX_DOC_BYTES (codes "limit document-file")) (document_stage root) IsSameText (fetch_sure files.doc MAX_DOC_BYTES (codes "limit document-file")) (document_sure root)))
+    (followed_sure (fetch_stage files.doc MAX_DOC_BYTES (codes "limit document-file")) (document_stage root) IsSameText (fetch_sure files.doc MAX_DOC_BYTES (codes "limit document-file")) (document_sure documents root)))
 
 -- where a run over a stage responds, it went on, or this is the stage's refusal
 went_on : {X : Type 0} (stage : Stage X) (Goes : X → Course → Type 0) (course : Course) (r : PlainResponse) → Behind stage Goes course → course.ending ≡ responds r →
@@ -162,16 +187,19 @@ told P course r (responded s is ends) at =
     let same : s ≡ r = cc in subst P same is
 told P course r (out_of_memory ends) at = let here = ap (λ (c : Course). c.ending) ends in cc
 
+has_units : (doc : PlainDoc Mark) (root bytes : List ℕ) → IsDocumentText root bytes doc → HasUnits doc.root
+has_units doc root bytes text = (keeps root bytes doc text).units
+
 verdict_on_text : SpellsOneDocument → IsValidByLists Mark → (root : List ℕ) (g h : PlainDtd) (doc same : PlainDoc Mark) (r also : PlainResponse) → g ≡ h → IsSameText doc same →
     TellsValidity root g doc r → TellsValidity root h same also → r ≡ also
 verdict_on_text one by_lists root g h doc same r also is text tells others =
-    one_verdict by_lists root g doc same r also (spelled_texts doc.root text.is_text.spelled.root text.is_text.spelled.is_root) (spelled_texts same.root text.is_same.spelled.root text.is_same.spelled.is_root)
-    (one text.bytes doc same text.is_text.spelled text.is_same.spelled) tells (subst (λ (d : PlainDtd). TellsValidity root d same also) (sym is) others)
+    one_verdict by_lists root g doc same r also (has_units doc text.root text.bytes text.is_text) (has_units same text.root text.bytes text.is_same)
+    (one text.root text.bytes doc same text.is_text.spelled text.is_same.spelled) tells (subst (λ (d : PlainDtd). TellsValidity root d same also) (sym is) others)
 
 possibility_on_text : SpellsOneDocument → (root : List ℕ) (g h : PlainDtd) (doc same : PlainDoc Mark) (r also : PlainResponse) → g ≡ h → IsSameText doc same →
     TellsPossibility root g doc r → TellsPossibility root h same also → r ≡ also
 possibility_on_text one root g h doc same r also is text tells others =
-    one_possibility root g doc same r also (one text.bytes doc same text.is_text.spelled text.is_same.spelled) tells (subst (λ (d : PlainDtd). TellsPossibility root d same also) (sym is) others)
+    one_possibility root g doc same r also (one text.root text.bytes doc same text.is_text.spelled text.is_same.spelled) tells (subst (λ (d : PlainDtd). TellsPossibility root d same also) (sym is) others)
 
 -- what a session responds: that the script is too long, or the replies
 abbrev pub SessionResponds : State → List ℕ → List ℕ → PlainResponse → Type 0
@@ -199,9 +227,9 @@ conversation_on_text written doc same course other r also text taken silent at o
     let here = session_responds doc talks.script course.silent course.ending r talks.answers at in
     let there = session_responds same others.script other.silent other.ending also others.answers on in
     let moved = subst (λ (s : List ℕ). SessionResponds same s course.silent also) (sym script) (subst (λ (m : List ℕ). SessionResponds same others.script m also) (sym silent) there) in
-    one_session doc same talks.script course.silent r also (written text.bytes doc text.is_text.spelled ∙ sym (written text.bytes same text.is_same.spelled)) here moved
+    one_session doc same talks.script course.silent r also (written text.root text.bytes doc text.is_text.spelled ∙ sym (written text.root text.bytes same text.is_same.spelled)) here moved
 
-pub one_response : OneMeaning → SpellsOneDocument → IsValidByLists Mark → WritesWhatIsSpelled → HasOneResponse
+pub one_response : OneMeaning → ReadsOne → IsValidByLists Mark → WritesWhatIsSpelled → HasOneResponse
 one_response dtds documents by_lists written None files course other r also is are taken silent at on = told _ course r is at ∙ sym (told _ other also are on)
 one_response dtds documents by_lists written (Some (listing dtd)) files course other r also is are taken silent at on =
     one_of (dtd_file_stage files.dtd) IsEqual (λ g. Responds (ListsDtd g)) course other r also
@@ -211,17 +239,17 @@ one_response dtds documents by_lists written (Some (listing dtd)) files course o
     (went_on (dtd_file_stage files.dtd) (λ g. Responds (ListsDtd g)) course r is at)
     (went_on (dtd_file_stage files.dtd) (λ g. Responds (ListsDtd g)) other also are on)
 one_response dtds documents by_lists written (Some (valid dtd root doc)) files course other r also is are taken silent at on =
-    one_of (opening_stage root files) (IsSamePair IsSameText) (λ both. Responds (TellsValidity root both.0 both.1)) course other r also (opening_sure dtds root files)
-    (λ x y same goes others. verdict_on_text documents by_lists root x.0 y.0 x.1 y.1 r also same.0 same.1 (told (TellsValidity root x.0 x.1) course r goes at) (told (TellsValidity root y.0 y.1) other also others on))
+    one_of (opening_stage root files) (IsSamePair IsSameText) (λ both. Responds (TellsValidity root both.0 both.1)) course other r also (opening_sure dtds documents root files)
+    (λ x y same goes others. verdict_on_text documents.spells_one by_lists root x.0 y.0 x.1 y.1 r also same.0 same.1 (told (TellsValidity root x.0 x.1) course r goes at) (told (TellsValidity root y.0 y.1) other also others on))
     (went_on (opening_stage root files) (λ both. Responds (TellsValidity root both.0 both.1)) course r is at)
     (went_on (opening_stage root files) (λ both. Responds (TellsValidity root both.0 both.1)) other also are on)
 one_response dtds documents by_lists written (Some (check dtd root doc)) files course other r also is are taken silent at on =
-    one_of (opening_stage root files) (IsSamePair IsSameText) (λ both. Responds (TellsPossibility root both.0 both.1)) course other r also (opening_sure dtds root files)
-    (λ x y same goes others. possibility_on_text documents root x.0 y.0 x.1 y.1 r also same.0 same.1 (told (TellsPossibility root x.0 x.1) course r goes at) (told (TellsPossibility root y.0 y.1) other also others on))
+    one_of (opening_stage root files) (IsSamePair IsSameText) (λ both. Responds (TellsPossibility root both.0 both.1)) course other r also (opening_sure dtds documents root files)
+    (λ x y same goes others. possibility_on_text documents.spells_one root x.0 y.0 x.1 y.1 r also same.0 same.1 (told (TellsPossibility root x.0 x.1) course r goes at) (told (TellsPossibility root y.0 y.1) other also others on))
     (went_on (opening_stage root files) (λ both. Responds (TellsPossibility root both.0 both.1)) course r is at)
     (went_on (opening_stage root files) (λ both. Responds (TellsPossibility root both.0 both.1)) other also are on)
 one_response dtds documents by_lists written (Some (session dtd root doc)) files course other r also is are taken silent at on =
-    one_of (opening_stage root files) (IsSamePair IsSameText) (λ both. Converses both.1) course other r also (opening_sure dtds root files)
+    one_of (opening_stage root files) (IsSamePair IsSameText) (λ both. Converses both.1) course other r also (opening_sure dtds documents root files)
     (λ x y same goes others. conversation_on_text written x.1 y.1 course other r also same.1 taken silent at on goes others)
     (went_on (opening_stage root files) (λ both. Converses both.1) course r is at)
     (went_on (opening_stage root files) (λ both. Converses both.1) other also are on)

@@ -1,41 +1,22 @@
 -- A document has one verdict.
-use Rattle.std.proofs.Common.{◌≡◌, ◌≢◌, ℕ, List, [], ◌∷◌, ◌++◌, codes, sym, ap, ◌∙◌, subst}
+use Rattle.std.proofs.Common.{◌≡◌, ℕ, List, ◌∷◌, ◌++◌, codes, sym, ap, ◌∙◌, subst}
 use Rattle.std.specs.List.{AllByRecursion}
-use Rattle.pv_chars.specs.Texts.{units_of, IsPlainText}
 use Rattle.pv_dtd.specs.Plain.{PlainDtd}
 use Rattle.pv_dtd.specs.Hedge.{done, IsValid}
 use Rattle.pv_tree.specs.Laws.{IsValidByLists}
 use Rattle.pv_tree.specs.Lists.{lists_of, IsValidList, IsFirstNot}
-use Rattle.pv_tree.specs.Plain.{short, tagged, Tree, element, text_node, cdata_node, misc_node, Forest, no_trees, tree, PlainDoc}
-use Rattle.pv_tree.specs.Units.{HasUnits, HaveUnits}
+use Rattle.pv_tree.specs.Plain.{PlainDoc}
+use Rattle.pv_tree.specs.Units.{HasUnits}
 use Rattle.pv_tree.specs.View.{view}
 use Rattle.pv_tree.specs.declared.nodes.Mark.{Mark}
 use Rattle.pv_tree.proofs.Every.{all_right}
 use Rattle.pv_tree.proofs.Firsts.{one_first}
-use Rattle.pv_read.specs.Grammar.{SpellsNode, SpellsContent}
 use Rattle.pv_tree.specs.Marks.{unmarked_doc}
 use Rattle.pv_cli.specs.Response.{PlainResponse, with_line}
 use Rattle.pv_cli.specs.Paths.{path_text}
 use Rattle.pv_cli.specs.Valid.{TellsValidity, is_valid, is_invalid}
 use Rattle.pv_cli.specs.declared.status.Status.TheVariants.{Negative}
 use Rattle.pv_cli.proofs.Marks.{view-unmarked, first_invalid-unmarked}
-
-text_has_unit : (bytes : List ℕ) → IsPlainText bytes → units_of bytes ≢ []
-text_has_unit [] plain e = absurd cc
-text_has_unit (b ∷ bs) plain e = cc
-
--- each text that is spelled has a unit
-mutual
-  pub spelled_texts : {M : Type 0} (t : Tree M) (bytes : List ℕ) → SpellsNode t bytes → HasUnits t
-  spelled_texts (element x attrs short kids mark) bytes (name, space, none, whole) = rw none tt
-  spelled_texts (element x attrs (tagged gap) kids mark) bytes (content, name, space, white, spells, whole) = all_spelled_texts kids content spells
-  spelled_texts (text_node units) bytes (plain, is_units) = rw is_units (text_has_unit bytes plain)
-  spelled_texts (cdata_node held) bytes spells = tt
-  spelled_texts (misc_node held) bytes spells = tt
-
-  all_spelled_texts : {M : Type 0} (kids : Forest M) (bytes : List ℕ) → SpellsContent kids bytes → HaveUnits kids
-  all_spelled_texts no_trees bytes spells = tt
-  all_spelled_texts (tree t rest) bytes (first, more, spells, whole_run, below, whole) = (spelled_texts t first spells, all_spelled_texts rest more below)
 
 -- one of two documents without marks is the other
 pub one_invalid_path : {M : Type 0} (g : PlainDtd) (root : List ℕ) (doc same : PlainDoc M) (path other : List ℕ) → unmarked_doc doc ≡ unmarked_doc same →

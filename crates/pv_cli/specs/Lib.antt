@@ -3,6 +3,7 @@ pub mod CommandLine
 pub mod Course
 pub mod Laws
 pub mod Listing
+pub mod Documents
 pub mod Opening
 pub mod Paths
 pub mod Program

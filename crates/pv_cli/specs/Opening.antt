@@ -9,10 +9,11 @@ use Rattle.pv_tree.specs.PlainDocs.{plain_doc}
 use Rattle.pv_tree.specs.Plain.{PlainDoc}
 use Rattle.pv_tree.specs.declared.nodes.Mark.{Mark}
 use Rattle.pv_io.specs.Files.{file_named, HoldsMore}
-use Rattle.pv_read.specs.Grammar.{IsDocumentText, MAX_DOC_BYTES}
+use Rattle.pv_read.specs.Meaning.{MAX_DOC_BYTES}
 use Rattle.pv_cli.specs.declared.opening.Opened.{Opened}
-use Rattle.pv_cli.specs.declared.status.Status.TheVariants.{BadDtd, BadDocument, Limit}
+use Rattle.pv_cli.specs.declared.status.Status.TheVariants.{BadDtd, Limit}
 use Rattle.pv_cli.specs.Response.{PlainResponse, with_line}
+use Rattle.pv_cli.specs.Documents.{document_stage}
 use Rattle.pv_cli.specs.Stage.{Stage, followed_by, beside}
 
 -- the files of a command line, each where it names one: none where there is no such file
@@ -61,15 +62,6 @@ pub data RefusesDtd (bytes : List ℕ) (r : PlainResponse) : Type 0 where
 -- reading a DTD
 abbrev pub dtd_stage : List ℕ → Stage PlainDtd
 dtd_stage bytes = record { Opens = λ g. TextMeans bytes (is_dtd g); Refuses = RefusesDtd bytes; AsksShelf = ⊥ }
-
--- the response to bytes that are no document with this root
-pub data RefusesDocument (root bytes : List ℕ) (r : PlainResponse) : Type 0 where
-  no_document : ((doc : PlainDoc Mark) → IsDocumentText bytes doc → ⊥) → r ≡ with_line BadDocument (codes "document syntax " ++ decimal 0) →
-      RefusesDocument root bytes r
-
--- reading a document
-abbrev pub document_stage : List ℕ → List ℕ → Stage (PlainDoc Mark)
-document_stage root bytes = record { Opens = IsDocumentText bytes; Refuses = RefusesDocument root bytes; AsksShelf = ⊥ }
 
 abbrev pub dtd_file_stage : Option (List ℕ) → Stage PlainDtd
 dtd_file_stage file = followed_by (fetch_stage file MAX_DTD_BYTES (codes "limit dtd-file")) dtd_stage

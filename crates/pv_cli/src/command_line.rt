@@ -22,6 +22,7 @@ pub enum CommandLine<'a> {
     Listing(&'a str),
     /// `valid DTD ROOT DOC`.
     Valid(Named<'a>),
+    /// `check DTD ROOT DOC`.
     Check(Named<'a>),
     /// `session DTD ROOT DOC`.
     Session(Named<'a>),

@@ -4,7 +4,7 @@ ghost use Rattle.pv_cli.specs.Laws.{HasOneResponse, IsComplete, FaultsShow, HasO
 
 use pv_dtd::laws::one_meaning_law;
 use pv_io::Source;
-use pv_read::laws::one_document_law;
+use pv_read::laws::{meant_law, one_document_law, one_meaning_law as one_document_meaning_law};
 use pv_tree::laws::valid_lists_law;
 use pv_write::laws::spelled_is_written_law;
 
@@ -13,6 +13,8 @@ pub fn one_response_law()
     ensures { HasOneResponse }
 {
     one_meaning_law();
+    one_document_meaning_law();
+    meant_law();
     one_document_law();
     valid_lists_law();
     spelled_is_written_law();

@@ -1,7 +1,8 @@
 //! Opens the files of a command: fetches their bytes and reads them.
 
 ghost use Rattle.std.specs.Prelude.{◌≡◌, ◌++◌, List, ℕ, Option, codes, decimal, Contains, false};
-ghost use Rattle.pv_cli.specs.Opening.{Files, IsFile, fetch_stage, dtd_stage, document_stage, dtd_file_stage, document_file_stage, opening_stage, plain_opened};
+ghost use Rattle.pv_cli.specs.Opening.{Files, IsFile, fetch_stage, dtd_stage, dtd_file_stage, document_file_stage, opening_stage, plain_opened};
+ghost use Rattle.pv_cli.specs.Documents.{document_stage};
 ghost use Rattle.pv_cli.specs.Paths.{path_text};
 ghost use Rattle.pv_cli.specs.Response.{with_line};
 ghost use Rattle.pv_cli.specs.Stage.{StopsBy, Returns, ShelfCounts};
@@ -124,6 +125,22 @@ fn document_of(alloc: Global, bytes: &[u8], root: &[u8]) -> Result<Doc, Stop>
             b"document syntax ",
             item,
         )),
+        Err(DocError::Mismatch(item)) => Err(refuse_item(
+            alloc,
+            Status::BadDocument,
+            b"document mismatch ",
+            item,
+        )),
+        Err(DocError::Entity(item)) => Err(refuse_item(
+            alloc,
+            Status::BadDocument,
+            b"document entity ",
+            item,
+        )),
+        Err(DocError::Subset) => Err(refuse(alloc, Status::BadDocument, b"document subset")),
+        Err(DocError::DoctypeName) => Err(refuse(alloc, Status::BadDocument, b"document doctype")),
+        Err(DocError::Deep(item)) => Err(refuse_item(alloc, Status::Limit, b"limit depth ", item)),
+        Err(DocError::Limit) => Err(refuse(alloc, Status::Limit, b"limit document-file")),
         Err(DocError::NoMemory) => Err(Stop::NoMemory),
     }
 }

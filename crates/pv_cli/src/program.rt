@@ -31,7 +31,7 @@ fn usage(alloc: Global) -> Result<Response, Stop>
 
 /// All that the program does: the words are those after its name.
 ///
-/// The shelf's names are the words but number 0 and number 2, counted from 0. `steps` counts the lists that `check` finds verdicts of.
+/// The shelf's names are the words but number 0 and number 2, counted from 0. `steps` counts the verdicts that `check` finds; other commands leave it.
 pub fn pvtag<H: Shelf, S: Source, K: Sink, L: Ledger>(
     _rt: &(impl Threads + Sync),
     alloc: Global,

@@ -166,7 +166,7 @@ pub declaration_opens : (bytes rest : List ℕ) → text_declaration_at bytes �
 declaration_opens bytes rest e = let b = declaration_takes bytes rest e in let o = text_decl_opens b.item b.is_item in (o.0 ++ rest, b.whole ∙ ap (λ l. l ++ rest) o.1 ∙ append_assoc (codes "<?xml") o.0 rest)
 
 -- An instruction is no text declaration.
-xml_is_name : IsName (codes "xml")
+pub xml_is_name : IsName (codes "xml")
 xml_is_name = record {
   first = 120;
   others = 109 ∷ 108 ∷ [];
@@ -175,7 +175,7 @@ xml_is_name = record {
   whole = rw (one_byte 120 (omega arith)) refl;
 }
 
-part_ends : (word bytes rest : List ℕ) (IsValue : List ℕ → Type 0) → IsPartOf word IsValue bytes → BeginsNo is_name_char (bytes ++ rest)
+pub part_ends : (word bytes rest : List ℕ) (IsValue : List ℕ → Type 0) → IsPartOf word IsValue bytes → BeginsNo is_name_char (bytes ++ rest)
 part_ends word bytes rest IsValue is =
     let p = is.2 in
     rw (p.whole, append_assoc p.space (word ++ (p.equals ++ p.quoted)) rest) (space_ends_name p.space ((word ++ (p.equals ++ p.quoted)) ++ rest) p.is_space)

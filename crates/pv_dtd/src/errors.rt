@@ -19,7 +19,7 @@ pub enum DtdError {
     /// The item lists a name twice in a mixed model.
     #[error("item {0} lists a name twice")]
     MixedTwice(u64),
-    /// A reference of a parameter entity or a conditional section stands there.
+    /// A reference of a parameter entity or a conditional section stands there, or a declaration with a `%` outside quotes.
     #[error("item {0} refers to a parameter entity")]
     Parameter(u64),
     /// More than 64 parentheses are open, a name is longer than 256 bytes, or there are more than 4,096 declared names or 65,536

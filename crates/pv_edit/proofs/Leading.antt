@@ -1,15 +1,14 @@
 -- Where an inverse leads.
-use Rattle.std.proofs.Common.{◌≡◌, ◌∙◌, ap, sym, refl, Option, Some, None, subst, List, ℕ}
+use Rattle.std.proofs.Common.{◌≡◌, ◌∙◌, ap, refl, Option, Some, None, subst, List, ℕ}
 use Rattle.pv_tree.specs.Plain.{Tree, PlainDoc}
 use Rattle.pv_tree.specs.Marks.{unmarked_doc}
-use Rattle.pv_edit.specs.Changes.{Change, doc_after, root_after}
+use Rattle.pv_edit.specs.Changes.{doc_after, root_after}
 use Rattle.pv_edit.specs.Effects.{change_of}
 use Rattle.pv_edit.specs.Inverses.{LeadsBack, change_back, inverse_of, reverted}
-use Rattle.pv_edit.specs.Reasons.{Outcome, gives, refuses, outcome, reason_of}
-use Rattle.pv_edit.specs.declared.edits.Edit.{Edit}
+use Rattle.pv_edit.specs.Reasons.{gives, outcome, reason_of}
 use Rattle.pv_edit.specs.declared.reasons.Reason.{Reason}
 use Rattle.pv_edit.specs.declared.inverses.Inverse.{Inverse}
-use Rattle.pv_edit.proofs.Undone.{Returns, inverse-returns}
+use Rattle.pv_edit.proofs.Undone.{inverse-returns}
 use Rattle.pv_edit.proofs.Undone.{edited as edited_root}
 
 pub given-reason : {M : Type 0} (o : Option Reason) (doc made : PlainDoc M) → outcome o doc ≡ gives made → o ≡ None
@@ -24,7 +23,7 @@ pub leads : {M : Type 0} (inverse : Inverse) (edited : PlainDoc M) (before : Pla
 leads inverse edited before l =
     let reason = given-reason (reason_of tt before.root l.edit) _ _ l.is_edited in
     let doc = given-doc (reason_of tt before.root l.edit) _ _ l.is_edited in
-    let r = inverse-returns before.root l.edit l.kept.rooted l.kept.formed reason in
+    let r = inverse-returns before.root l.edit l.kept.rooted l.kept.formed l.kept.units reason in
     subst (λ (d : PlainDoc Unit). reverted tt d inverse ≡ before) doc
     (subst (λ (i : Inverse). reverted tt (doc_after (change_of tt before.root l.edit) before) i ≡ before) l.is_inverse
     (ap (λ (t : Tree Unit). record before { root = t }) (ap (λ (p : List ℕ). root_after p (change_back tt (edited_root before.root l.edit) (inverse_of before.root l.edit)) (edited_root before.root l.edit)) r.same ∙ r.back)))

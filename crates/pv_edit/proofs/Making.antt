@@ -1,21 +1,19 @@
 -- The change of an edit that isn't refused can be made.
-use Rattle.std.proofs.Common.{◌≡◌, ◌∙◌, ap, sym, refl, ℕ, zero, suc, ◌+◌, ◌<◌, ◌≤◌, true, false, not, List, [], ◌∷◌, ◌++◌, length, Some, None, slice_get, arith, subst, IsTrue}
+use Rattle.std.proofs.Common.{◌≡◌, ◌∙◌, ap, refl, ℕ, zero, suc, ◌+◌, true, false, not, List, [], ◌∷◌, ◌++◌, length, None, arith}
 use Rattle.std.proofs.lemmas.Bool.{not-false}
 use Rattle.std.proofs.lemmas.List.{append-nil}
 use Rattle.std.proofs.lemmas.Option.{slice_get_within}
-use Rattle.std.specs.List.{between}
 use Rattle.pv_tree.specs.Plain.{Tree, element, text_node, cdata_node, misc_node, is_element, trees_of}
 use Rattle.pv_tree.specs.Places.{kids_of}
-use Rattle.pv_edit.specs.Changes.{Change, list_after}
+use Rattle.pv_edit.specs.Changes.{list_after}
 use Rattle.pv_edit.specs.Effects.{change_of, parent_of, place_of}
-use Rattle.pv_edit.specs.Reasons.{is_top, is_root, is_one_element, kids_at, reason_of, lacks_element}
-use Rattle.pv_edit.specs.declared.edits.Edit.{Edit}
+use Rattle.pv_edit.specs.Reasons.{is_top, is_one_element, kids_at, reason_of, lacks_element}
 use Rattle.pv_edit.specs.declared.edits.Edit.TheVariants.{Wrap, Insert, Unwrap, Rename, Split, Join, SetText, AddText, DelText}
 use Rattle.pv_edit.proofs.Listing.{listed}
 use Rattle.pv_edit.proofs.Deep.{whole_range}
-use Rattle.pv_edit.proofs.Whole.{Owner, owner-of, Made}
+use Rattle.pv_edit.proofs.Whole.{owner-of, Made}
 use Rattle.pv_edit.proofs.Cutting.{between-kid}
-use Rattle.pv_edit.proofs.Passing.{TextAt, text-at, ElementAt, element-at, next-kid, text-inside, WrapPasses, wrap-passes, insert-passes, UnwrapPasses, unwrap-passes, rename-passes, split-passes, join-passes, set-passes, add-passes, del-passes}
+use Rattle.pv_edit.proofs.Passing.{text-at, element-at, next-kid, text-inside, WrapPasses, wrap-passes, insert-passes, UnwrapPasses, unwrap-passes, rename-passes, split-passes, join-passes, set-passes, add-passes, del-passes}
 
 pub never : {A : Type 0} (l : List ℕ) → is_top l ≡ false → is_top l ≡ true → A
 never l h k = absurd cc

@@ -1,26 +1,19 @@
 -- What stands where an edit is to be made that isn't refused.
-use Rattle.std.proofs.Common.{◌≡◌, ◌∙◌, ap, sym, refl, ℕ, zero, suc, ◌+◌, ◌<◌, ◌≤◌, Bool, true, false, not, ◌&&◌, ◌||◌, List, [], ◌∷◌, ◌++◌, length, take, drop, Option, Some, None, slice_get, arith, subst, IsTrue}
-use Rattle.std.specs.Prelude.{nat_lt, nat_le, ◌==◌}
-use Rattle.std.proofs.lemmas.Bool.{or_parts, ltb-false, leb-false, eqb-false, not-false, eqb-true}
-use Rattle.std.proofs.lemmas.Option.{slice_get_within}
-use Rattle.std.specs.List.{between, splice}
-use Rattle.pv_tree.specs.Plain.{Ending, Tree, element, text_node, cdata_node, misc_node, Forest, is_element, trees_of}
-use Rattle.pv_tree.specs.Places.{spot_at, kids_of}
+use Rattle.std.proofs.Common.{◌≡◌, ◌∙◌, ap, sym, refl, ℕ, zero, suc, ◌+◌, ◌<◌, ◌≤◌, Bool, true, false, not, ◌&&◌, List, [], ◌∷◌, length, Option, Some, None, slice_get, arith, subst, IsTrue}
+use Rattle.std.specs.Prelude.{◌==◌}
+use Rattle.std.proofs.lemmas.Bool.{or_parts, ltb-false, leb-false, eqb-false, not-false}
+use Rattle.pv_tree.specs.Plain.{Ending, Tree, element, text_node, cdata_node, misc_node, Forest, is_element}
+use Rattle.pv_tree.specs.Places.{spot_at}
 use Rattle.pv_tree.specs.Places.{at_node as at_spot}
-use Rattle.pv_edit.specs.Changes.{Change, list_after, all_kids}
 use Rattle.pv_edit.specs.Effects.{change_of, parent_of, place_of, next_of, units_on, units_at}
-use Rattle.pv_edit.specs.Fitting.{Fits}
 use Rattle.pv_edit.specs.Given.{is_new_name, is_new_text}
-use Rattle.pv_edit.specs.Reasons.{is_spot, is_text, is_top, is_root, is_one_element, kids_at, lacks_node, lacks_list, lacks_text, lacks_element, goes_too_deep, makes_close_mark, unless, reason_of}
+use Rattle.pv_edit.specs.Reasons.{is_spot, is_text, is_top, is_root, is_one_element, kids_at, lacks_list, lacks_text, lacks_element, goes_too_deep, makes_close_mark, unless, reason_of}
 use Rattle.pv_edit.specs.declared.reasons.Reason.{Reason}
 use Rattle.pv_edit.specs.declared.edits.Edit.{Edit}
 use Rattle.pv_edit.specs.declared.edits.Edit.TheVariants.{Wrap, Insert, Unwrap, Rename, Split, Join, SetText, AddText, DelText}
 use Rattle.pv_edit.proofs.Paths.{parent-kid, place-kid}
-use Rattle.pv_edit.proofs.Listing.{ListAt, HasParent, has_parent, listed}
+use Rattle.pv_edit.proofs.Listing.{ListAt, has_parent}
 use Rattle.pv_edit.proofs.Parted.{inner_text, inner_element}
-use Rattle.pv_edit.proofs.Deep.{whole_range}
-use Rattle.pv_edit.proofs.Whole.{Owner, owner-of, Made}
-use Rattle.pv_edit.proofs.Cutting.{between-kid, between-kids}
 
 passes : (t : Bool) (r : Reason) (later : Option Reason) → unless t r later ≡ None → (t ≡ false) × (later ≡ None)
 passes true r later h = absurd cc
@@ -209,3 +202,10 @@ del-passes blank root path h =
     let b = passes _ _ _ a.1 in
     let c = passes _ _ _ b.1 in
     record { text = b.0; no_mark = c.0 }
+
+-- the text of an edit that isn't refused
+pub set-given : {M : Type 0} (blank : M) (root : Tree M) (edit : Edit) {path text : List ℕ} → reason_of blank root edit ≡ None → edit ≡ SetText path text → is_new_text text ≡ true
+set-given blank root edit {path} {text} h e = (set-passes blank root path text (subst (λ (d : Edit). reason_of blank root d ≡ None) e h)).given
+
+pub add-given : {M : Type 0} (blank : M) (root : Tree M) (edit : Edit) {path : List ℕ} {at : ℕ} {text : List ℕ} → reason_of blank root edit ≡ None → edit ≡ AddText path at text → is_new_text text ≡ true
+add-given blank root edit {path} {at} {text} h e = (add-passes blank root path at text (subst (λ (d : Edit). reason_of blank root d ≡ None) e h)).given

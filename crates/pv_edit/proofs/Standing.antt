@@ -14,7 +14,7 @@ pub data NodeAt {M : Type 0} : List ℕ → Tree M → Tree M → Type 0 where
   here : {t : Tree M} → NodeAt [] t t
   down : {i : ℕ} {path x attrs : List ℕ} {e : Ending} {kids : Forest M} {m : M} {k u : Tree M} → KidAt i kids k → NodeAt path k u → NodeAt (i ∷ path) (element x attrs e kids m) u
 
-kid_at : {M : Type 0} (i : ℕ) (kids : Forest M) (k : Tree M) → slice_get (trees_of kids) i ≡ Some k → KidAt i kids k
+pub kid_at : {M : Type 0} (i : ℕ) (kids : Forest M) (k : Tree M) → slice_get (trees_of kids) i ≡ Some k → KidAt i kids k
 kid_at i no_trees k h = absurd cc
 kid_at zero (tree t rest) k h = let e : t ≡ k = cc in subst (λ u. KidAt zero (tree t rest) u) e first
 kid_at (suc i) (tree t rest) k h = later (kid_at i rest k h)

@@ -1,10 +1,10 @@
 -- A change of a list that undoes another.
-use Rattle.std.proofs.Common.{◌≡◌, ◌∙◌, ap, sym, refl, ℕ, zero, suc, ◌+◌, ◌<◌, ◌≤◌, Bool, true, false, ◌&&◌, List, [], ◌∷◌, ◌++◌, length, Option, Some, None, arith, subst, IsTrue}
+use Rattle.std.proofs.Common.{◌≡◌, ◌∙◌, ap, sym, refl, ℕ, zero, suc, ◌+◌, ◌<◌, true, false, List, [], ◌∷◌, length, Some, arith, subst}
 use Rattle.std.specs.List.{between}
 use Rattle.std.specs.Option.{option_map}
 use Rattle.std.proofs.lemmas.Bool.{and_parts, and_from}
 use Rattle.pv_tree.specs.Plain.{Ending, short, tagged, Tree, element, Forest, no_trees, tree, forest_of, trees_of}
-use Rattle.pv_tree.specs.Places.{Spot, spot_at, node_below}
+use Rattle.pv_tree.specs.Places.{spot_at, node_below}
 use Rattle.pv_tree.specs.Places.{at_node as at_spot}
 use Rattle.pv_tree.specs.Legal.{is_formed, are_formed, fits_kids}
 use Rattle.pv_tree.proofs.Levels.{trees-forest}

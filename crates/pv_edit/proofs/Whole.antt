@@ -1,12 +1,12 @@
 -- The document node as an element: then each list of a document is that of an element of one tree.
-use Rattle.std.proofs.Common.{◌≡◌, ◌∙◌, ap, sym, refl, ℕ, zero, suc, ◌≤◌, true, false, List, [], ◌∷◌, length, Bool, Option, Some, None, arith, subst}
+use Rattle.std.proofs.Common.{◌≡◌, ◌∙◌, ap, sym, refl, ℕ, zero, suc, ◌≤◌, true, false, List, [], ◌∷◌, length, Bool, Some, arith, subst}
 use Rattle.std.specs.Option.{option_and_then, option_map}
 use Rattle.std.specs.List.{between}
 use Rattle.pv_tree.specs.Plain.{Ending, tagged, Tree, element, Forest, no_trees, tree, forest_of, trees_of}
 use Rattle.pv_tree.specs.Places.{node_below, list_of, list_at, spot_at}
 use Rattle.pv_tree.specs.Places.{at_node as at_spot}
 use Rattle.pv_edit.specs.Changes.{Change, list_after, ending_after, owner_after, change_below, first_tree, root_after}
-use Rattle.pv_edit.specs.Fitting.{Fits, Suits, Takes, CanChange}
+use Rattle.pv_edit.specs.Fitting.{Fits, Suits, CanChange}
 use Rattle.pv_edit.specs.Reasons.{is_top, items_of, kids_at}
 use Rattle.pv_edit.proofs.Standing.{NodeAt, here, down, at_node, first}
 use Rattle.pv_edit.proofs.Listing.{ListAt, top, inside}

@@ -43,3 +43,8 @@ search_trees b (t ∷ ts) = option_and_then (λ c. search_trees c ts) (search_tr
 -- three parts of a list, one behind the other
 abbrev pub search_parts : {M : Type 0} → List (Tree M) → List (Tree M) → List (Tree M) → Option Brackets
 search_parts front middle back = option_and_then (λ b. option_and_then (λ c. search_trees c back) (search_trees b middle)) (search_trees Zero front)
+
+-- the same by the bytes of a text
+abbrev pub search_bytes : Brackets → List ℕ → Option Brackets
+search_bytes b [] = Some b
+search_bytes b (byte ∷ bytes) = option_and_then (λ c. search_bytes c bytes) (after_byte b byte)

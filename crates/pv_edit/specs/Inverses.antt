@@ -1,10 +1,9 @@
 -- What undoes an edit, and where it leads.
 use Rattle.std.specs.Prelude.{◌≡◌, ◌≤◌, ℕ, ◌+◌, Bool, true, false, List, [], ◌∷◌, ◌++◌, length, Option, Some, None, IsTrue}
-use Rattle.std.specs.List.{list_all}
-use Rattle.pv_chars.specs.Spaces.{is_space}
 use Rattle.pv_tree.specs.Plain.{Ending, short, tagged, Tree, element, text_node, cdata_node, misc_node, trees_of, is_element, depth_of, nodes_in, PlainDoc}
 use Rattle.pv_tree.specs.Places.{Spot, at_document, at_node, spot_at}
-use Rattle.pv_tree.specs.Legal.{has_names, is_formed, is_legal, has_no_close_mark, MAX_DEPTH, MAX_NODES}
+use Rattle.pv_tree.specs.Legal.{has_names, is_formed, IsLegal, has_no_close_mark, MAX_DEPTH, MAX_NODES}
+use Rattle.pv_tree.specs.Units.{HasUnits}
 use Rattle.pv_tree.specs.PlainForms.{plain_end}
 use Rattle.pv_tree.specs.declared.nodes.End.{End}
 use Rattle.pv_tree.specs.declared.nodes.End.TheVariants as end
@@ -78,22 +77,21 @@ change_back blank root (Restore path units) = fill (parent_of path) (place_of pa
 abbrev pub reverted : {M : Type 0} → M → PlainDoc M → Inverse → PlainDoc M
 reverted blank doc inverse = doc_after (change_back blank doc.root inverse) doc
 
--- what each document keeps
-pub record IsKept {M : Type 0} (doc : PlainDoc M) : Type 0 where
-  pub rooted : IsTrue (is_element doc.root)
-  pub formed : IsTrue (is_formed doc.root)
-  pub shallow : depth_of doc.root ≤ MAX_DEPTH
-  pub small : nodes_in doc.root ≤ MAX_NODES
-  pub named : IsTrue (has_names doc.root)
-  pub legal : IsTrue (is_legal doc.root)
-  pub no_close_mark : IsTrue (has_no_close_mark doc.root)
-  pub white_before : IsTrue (list_all is_space doc.before)
-  pub white_after : IsTrue (list_all is_space doc.after)
+-- what each document keeps of its tree
+pub record IsKept {M : Type 0} (root : Tree M) : Type 0 where
+  pub rooted : IsTrue (is_element root)
+  pub formed : IsTrue (is_formed root)
+  pub shallow : depth_of root ≤ MAX_DEPTH
+  pub small : nodes_in root ≤ MAX_NODES
+  pub named : IsTrue (has_names root)
+  pub units : HasUnits root
+  pub legal : ∥ IsLegal root ∥₁
+  pub no_close_mark : IsTrue (has_no_close_mark root)
 
 -- An inverse leads from an edited document to another where some edit leads from there to the edited one, and this is its inverse.
 -- Marks don't count.
 pub record LeadsBack {M : Type 0} (inverse : Inverse) (edited : PlainDoc M) (before : PlainDoc Unit) : Type 0 where
   pub edit : Edit
-  pub kept : IsKept before
+  pub kept : IsKept before.root
   pub is_edited : applied tt before edit ≡ gives (unmarked_doc edited)
   pub is_inverse : inverse_of before.root edit ≡ inverse

@@ -9,3 +9,6 @@ pub mod CloseMarks
 pub mod Refusals
 pub mod Fitting
 pub mod Laws
+pub mod Plans
+pub mod Leaves
+pub mod Origins

@@ -1,13 +1,13 @@
 //! The search of texts that stand side by side for `]]>` (XML 1.0, section 2.4).
 
 ghost use Rattle.std.specs.Prelude.{◌≡◌, ◌++◌};
-ghost use Rattle.pv_chars.specs.Texts.{units_of};
 ghost use Rattle.pv_tree.specs.Plain.{forest_of};
 ghost use Rattle.pv_tree.specs.PlainForms.{plain, plain_all};
 ghost use Rattle.pv_edit.specs.Effects.{one_text};
 ghost use Rattle.pv_edit.specs.Reasons.{spells_close_mark};
-ghost use Rattle.pv_edit.specs.CloseMarks.{after_byte, search_parts, search_tree, search_trees, search_units};
+ghost use Rattle.pv_edit.specs.CloseMarks.{after_byte, search_bytes, search_parts, search_tree, search_trees, search_units};
 
+use pv_chars::Units;
 use pv_tree::Node;
 
 /// How many `]` stand at the end of what was searched: none, one, or at least two.
@@ -35,15 +35,22 @@ fn after_byte(before: Brackets, byte: u8) -> Option<Brackets>
     Some(Brackets::Zero)
 }
 
-/// What stands at the end behind the bytes of a text; none where `]]>` was found.
-pub(crate) fn search_text(before: Brackets, bytes: &[u8]) -> Option<Brackets>
-    ensures { result ≡ search_units before (units_of bytes.now) }
+// What stands at the end behind some bytes of a text; none where `]]>` was found.
+fn search_bytes(before: Brackets, bytes: &[u8]) -> Option<Brackets>
+    ensures { result ≡ search_bytes before bytes.now }
 {
     let mut at_end = before;
     for byte in bytes {
         at_end = after_byte(at_end, *byte)?;
     }
     Some(at_end)
+}
+
+/// What stands at the end behind a text; none where `]]>` was found.
+pub(crate) fn search_text(before: Brackets, text: &Units) -> Option<Brackets>
+    ensures { result ≡ search_units before text.now }
+{
+    search_bytes(before, text.bytes())
 }
 
 /// What stands at the end behind some nodes; none where `]]>` was found. All nodes but texts end the run.
@@ -62,7 +69,7 @@ fn search_node(before: Brackets, node: &Node) -> Option<Brackets>
 {
     match node {
         Node::Elem { .. } => Some(Brackets::Zero),
-        Node::Text(units) => search_text(before, units.bytes()),
+        Node::Text(units) => search_text(before, units),
         Node::Cdata(_) => Some(Brackets::Zero),
         Node::Misc(_) => Some(Brackets::Zero),
     }
@@ -84,14 +91,14 @@ fn search_three(front: &[Node], middle: &[Node], back: &[Node]) -> Option<Bracke
 }
 
 /// Whether they do with a text among them.
-pub(crate) fn spell_close_mark_with(front: &[Node], text: &[u8], back: &[Node]) -> bool
-    ensures { result ≡ spells_close_mark (forest_of (plain_all front.now ++ (one_text (units_of text.now) ++ plain_all back.now))) }
+pub(crate) fn spell_close_mark_with(front: &[Node], text: &Units, back: &[Node]) -> bool
+    ensures { result ≡ spells_close_mark (forest_of (plain_all front.now ++ (one_text text.now ++ plain_all back.now))) }
 {
     search_with(front, text, back).is_none()
 }
 
-fn search_with(front: &[Node], text: &[u8], back: &[Node]) -> Option<Brackets>
-    ensures { result ≡ search_parts (plain_all front.now) (one_text (units_of text.now)) (plain_all back.now) }
+fn search_with(front: &[Node], text: &Units, back: &[Node]) -> Option<Brackets>
+    ensures { result ≡ search_parts (plain_all front.now) (one_text text.now) (plain_all back.now) }
 {
     let at_front = search_nodes(Brackets::Zero, front)?;
     let at_text = search_text(at_front, text)?;

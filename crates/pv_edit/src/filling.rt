@@ -69,7 +69,8 @@ fn room_for(filling: &Filling, middle: &[Node]) -> usize
     }
 }
 
-fn kid_count(node: &Node) -> usize
+/// The number of an element's kids, and 0 for any other node.
+pub(crate) fn kid_count(node: &Node) -> usize
     ensures { result ≡ length (kids_of (plain node.now)) }
 {
     match node {

@@ -1,12 +1,12 @@
 //! The names and texts that an edit brings.
 
-ghost use Rattle.std.specs.Prelude.{◌≡◌};
-ghost use Rattle.std.specs.List.{list_all, list_any};
-ghost use Rattle.pv_chars.specs.Texts.{holds_close_mark, is_ascii_char, is_plain_text, is_text_char, units_of};
-ghost use Rattle.pv_edit.specs.Given.{is_line_end, is_new_name, is_new_text};
+ghost use Rattle.std.specs.Prelude.{◌≡◌, ◌↔◌, is_some, IsTrue, IfOk, IfSome};
+ghost use Rattle.std.specs.List.{list_any};
+ghost use Rattle.pv_chars.specs.declared.errors.TextError.TheVariants as text_error;
+ghost use Rattle.pv_edit.specs.Given.{is_line_end, is_new_name, is_new_text, new_units};
 
-use crate::close_marks::{Brackets, search_text};
-use pv_chars::is_name;
+use pv_chars::{NoMemory, TextError, Units, is_name, text_units};
+use std::alloc::Global;
 
 /// Whether an element may be given this name.
 pub(crate) fn is_new_name(name: &[u8]) -> bool
@@ -15,28 +15,26 @@ pub(crate) fn is_new_name(name: &[u8]) -> bool
     is_name(name)
 }
 
-/// Whether these bytes may be put into a document as a text.
-pub(crate) fn is_new_text(text: &[u8]) -> bool
-    ensures { result ≡ is_new_text text.now }
+/// The units of a text that may be put into a document; none where these bytes are no such text.
+pub(crate) fn new_units(alloc: Global, text: &[u8]) -> Result<Option<Units>, NoMemory>
+    ensures given { IfOk result (λ units. is_some units ≡ is_new_text text.now) }
+    ensures units { IfOk result (λ units. IfSome units (λ u. u ≡ new_units text.now)) }
 {
-    is_plain_text(text) && !has_line_end(text)
-}
-
-fn is_plain_text(text: &[u8]) -> bool
-    ensures { result ≡ is_plain_text text.now }
-{
-    !text.is_empty() && are_text_chars(text) && !holds_close_mark(text)
-}
-
-fn are_text_chars(text: &[u8]) -> bool
-    ensures { result ≡ list_all is_text_char text.now }
-{
-    for byte in text {
-        if !is_text_char(*byte) {
-            return false;
-        }
+    if has_line_end(text) {
+        return Ok(None);
     }
-    true
+    match text_units(alloc, text) {
+        Ok(units) => Ok(Some(units)),
+        Err(error) if is_want(&error) => Err(NoMemory),
+        Err(_) => Ok(None),
+    }
+}
+
+// Whether there was too little memory.
+fn is_want(error: &TextError) -> bool
+    ensures { IsTrue result ↔ (error.now ≡ text_error.NoMemory) }
+{
+    matches!(error, TextError::NoMemory)
 }
 
 fn has_line_end(text: &[u8]) -> bool
@@ -48,26 +46,6 @@ fn has_line_end(text: &[u8]) -> bool
         }
     }
     false
-}
-
-fn holds_close_mark(text: &[u8]) -> bool
-    ensures { result ≡ holds_close_mark (units_of text.now) }
-{
-    search_text(Brackets::Zero, text).is_none()
-}
-
-// One that may stand in character data (XML 1.0, section 2.4).
-fn is_text_char(byte: u8) -> bool
-    ensures { result ≡ is_text_char byte }
-{
-    is_ascii_char(byte) && byte != b'<' && byte != b'&'
-}
-
-// A Char of ASCII (section 2.2).
-fn is_ascii_char(byte: u8) -> bool
-    ensures { result ≡ is_ascii_char byte }
-{
-    byte == b'\t' || byte == b'\n' || byte == b'\r' || (byte >= b' ' && byte < 128)
 }
 
 // A literal CR or LF.

@@ -13,7 +13,7 @@ ghost use Rattle.pv_edit.specs.declared.edits.Edit.TheVariants as edit;
 ghost use Rattle.pv_edit.specs.declared.reasons.EditError.TheVariants.{Shape};
 
 use crate::edits::Edit;
-use crate::given::{is_new_name, is_new_text};
+use crate::given::{is_new_name, new_units};
 use crate::places::{
     kids_at, lacks_element, lacks_list, lacks_node, next_text, parent_of, text_at,
 };
@@ -49,7 +49,9 @@ pub(crate) fn first_reason(alloc: Global, doc: &Doc, edit: &Edit) -> Result<(), 
         Edit::Split { path, at } => split_shape(doc, path, *at),
         Edit::Join { path } => join_shape(alloc, doc, path),
         Edit::SetText { path, text } => set_text_shape(alloc, doc, path, text.as_slice()),
-        Edit::AddText { path, at, text } => add_text_shape(doc, path, *at, text.as_slice()),
+        Edit::AddText { path, at, text } => {
+            add_text_shape(alloc, doc, path, *at, text.as_slice())
+        }
         Edit::DelText { path } => del_text_shape(alloc, doc, path),
     }
 }
@@ -227,25 +229,35 @@ pub(crate) fn set_text_shape(
 {
     unless(lacks_node(doc, path), Reason::NoNode)?;
     unless(text_at(doc, path).is_none(), Reason::NotText)?;
-    unless(!is_new_text(text), Reason::BadText)?;
+    let Some(units) = new_units(alloc, text)? else {
+        return Err(EditError::Shape(Reason::BadText));
+    };
     let parent = parent_of(alloc, path)?;
     unless(
-        set_text_makes_close_mark(doc, &parent, path, text),
+        set_text_makes_close_mark(doc, &parent, path, &units),
         Reason::CloseMark,
     )
 }
 
 /// Whether a new text can be put into a list.
-pub(crate) fn add_text_shape(doc: &Doc, path: &Path, at: u32, text: &[u8]) -> Result<(), EditError>
+pub(crate) fn add_text_shape(
+    alloc: Global,
+    doc: &Doc,
+    path: &Path,
+    at: u32,
+    text: &[u8],
+) -> Result<(), EditError>
     ensures { let reason = reason_of blank_mark (plain_doc doc.now).root (edit.AddText path.now at text.now) in MatchResult result (λ _. reason ≡ None) (IsRefusal reason) }
 {
     unless(lacks_node(doc, path), Reason::NoNode)?;
     unless(lacks_list(doc, path), Reason::NotElement)?;
     unless(kids_at(doc, path).len() < at as usize, Reason::Range)?;
-    unless(!is_new_text(text), Reason::BadText)?;
+    let Some(units) = new_units(alloc, text)? else {
+        return Err(EditError::Shape(Reason::BadText));
+    };
     unless(is_top(path.places()), Reason::RootShape)?;
     unless(
-        add_text_makes_close_mark(doc, path, at, text),
+        add_text_makes_close_mark(doc, path, at, &units),
         Reason::CloseMark,
     )
 }

@@ -1,10 +1,14 @@
 -- Small documents, on which the definitions are tried.
 use Rattle.std.specs.Prelude.{List, [], codes, suc, zero, ℕ, ◌++◌, ◌∷◌}
-use Rattle.pv_chars.specs.Texts.{units_of}
 use Rattle.pv_tree.specs.Plain.{PlainDoc, Tree, cdata_node, element, forest_of, misc_node, no_trees, short, tagged, text_node}
 
 abbrev pub tag : List ℕ → List (Tree Unit) → Tree Unit
 tag x kids = element x [] (tagged []) (forest_of kids) tt
+
+-- literal characters of ASCII, each a unit
+abbrev pub units_of : List ℕ → List (List ℕ)
+units_of [] = []
+units_of (b ∷ bs) = (b ∷ []) ∷ units_of bs
 
 -- a text of literal characters
 abbrev pub chars : List ℕ → Tree Unit

@@ -1,5 +1,5 @@
 -- The verdict of a list by its word.
-use Rattle.std.proofs.Common.{Bool, IsTrue, List, None, Option, Some, [], ap, false, length, map, option_map, refl, rules, subst, suc, sym, true, ℕ, ◌∙◌, ◌∷◌, ◌==◌, ◌≡◌, ◌↔◌}
+use Rattle.std.proofs.Common.{Bool, IsTrue, List, None, Option, Some, [], ap, false, length, map, option_map, refl, rules, subst, suc, sym, ℕ, ◌∙◌, ◌∷◌, ◌==◌, ◌≡◌, ◌↔◌}
 use Rattle.std.specs.List.{AllByRecursion}
 use Rattle.pv_model.specs.Models.{Allows, IsOfAny, IsOfMixed}
 use Rattle.pv_model.specs.Plain.{PlainModel, PlainToken, any, children, empty, mixed, named, other, text}
@@ -12,9 +12,9 @@ use Rattle.pv_tree.specs.Words.{word_of}
 use Rattle.pv_tree.specs.declared.nodes.Node.{Node}
 use Rattle.pv_missing.specs.Filling.{IsPossible, Pieces, StandsFor}
 use Rattle.pv_missing.specs.LiveWords.{AreProductiveTokens, IsLiveWord, live_name, live_none, live_other, live_text}
-use Rattle.pv_missing.specs.Verdicts.{IsVerdict, Judges}
+use Rattle.pv_missing.specs.Verdicts.{IsVerdict}
 use Rattle.pv_missing.specs.Weighing.{site_of}
-use Rattle.pv_missing.specs.WordVerdicts.{HoldsOne, IsLiveByWord, IsLiveContentWord, IsLiveRootWord, IsOwnValidWord, IsRootWord, IsValidByWord, IsVerdictByWord, has_no_trees}
+use Rattle.pv_missing.specs.WordVerdicts.{HoldsOne, IsLiveContentWord, IsLiveRootWord, IsOwnValidWord, IsRootWord, IsVerdictByWord, has_no_trees}
 use Rattle.pv_missing.proofs.LiveFacts.{live_follows}
 use Rattle.pv_missing.proofs.LiveOnce.{one_live_word}
 use Rattle.pv_missing.proofs.VerdictWords.{same_judged, verdict_by_word}

@@ -1,11 +1,11 @@
 -- Columns that lead to one another at one place.
-use Rattle.std.proofs.Common.{Bool, Contains, List, None, Option, [], ap, arith, false, get_or, inl, inr, length, refl, replicate, subst, suc, sym, true, zero, ℕ, ◌++◌, ◌+◌, ◌*◌, ◌∙◌, ◌<◌, ◌∷◌, ◌≡◌, ◌⊎◌}
+use Rattle.std.proofs.Common.{Bool, Contains, List, None, [], ap, arith, false, get_or, inl, inr, length, refl, replicate, subst, suc, sym, true, zero, ℕ, ◌++◌, ◌+◌, ◌*◌, ◌∙◌, ◌<◌, ◌∷◌, ◌≡◌, ◌⊎◌}
 use Rattle.std.proofs.lemmas.Bool.{cases_lt}
 use Rattle.std.proofs.lemmas.List.{get_or_past}
 use Rattle.std.proofs.lemmas.List.Elements.{Contains-append_cases}
 use Rattle.std.proofs.lemmas.Grind.{get_or_default_zero}
 use Rattle.pv_model.specs.declared.models.Token.{Token}
-use Rattle.pv_reach.specs.ColumnRules.{InRange, Reaches, TokensMayBeMissing, by_rule, done}
+use Rattle.pv_reach.specs.ColumnRules.{InRange, Reaches, by_rule, done}
 use Rattle.pv_reach.specs.Following.{AreAbove, AreBare, AreBelow, AreFollowers, IsBehind, MayFollow, ReachesAll}
 use Rattle.pv_reach.specs.Tables.{IsFurthest}
 use Rattle.pv_reach.specs.declared.rules.ColumnRule.{ColumnRule}

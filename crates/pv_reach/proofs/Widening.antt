@@ -4,7 +4,7 @@ use Rattle.pv_model.specs.declared.models.Token.{Token}
 use Rattle.pv_reach.specs.Adding.{Adds}
 use Rattle.pv_reach.specs.ColumnRules.{InRange, Reaches, Reads, TokensMayBeMissing, by_rule, done}
 use Rattle.pv_reach.specs.Columns.{Has}
-use Rattle.pv_reach.specs.Following.{AddsFollowers, AreFollowers, AreFound, IsForFollowers, MayFollow, Widens, behind, none, one}
+use Rattle.pv_reach.specs.Following.{AddsFollowers, AreFollowers, AreFound, IsForFollowers, Widens, behind, none, one}
 use Rattle.pv_reach.specs.declared.following.Followers.{Followers}
 use Rattle.pv_reach.specs.declared.rules.ColumnRule.{ColumnRule}
 use Rattle.pv_reach.proofs.Closing.{columns_in_range}

@@ -3,13 +3,13 @@ use Rattle.std.specs.List.{AllByRecursion}
 use Rattle.std.proofs.Common.{List, Some, [], arith, drop, inl, inr, length, refl, slice_get, subst, suc, sym, take, ℕ, ◌+◌, ◌<◌, ◌∷◌, ◌≡◌, ◌≤◌, ◌⊎◌}
 use Rattle.std.proofs.lemmas.Bool.{cases_lt}
 use Rattle.std.proofs.lemmas.List.{length-take-le, take-append-drop}
-use Rattle.pv_model.specs.Plain.{PlainPart, PlainParts, PlainToken, named, part}
+use Rattle.pv_model.specs.Plain.{PlainToken, named}
 use Rattle.pv_dtd.specs.Plain.{PlainDtd, parts_in}
 use Rattle.pv_dtd.specs.Productive.{IsProductive}
 use Rattle.pv_dtd.specs.Proper.{IsProperDtd}
 use Rattle.pv_dtd.proofs.Proper.{full_children}
 use Rattle.pv_rules.specs.Derivations.{by_rule, none_left}
-use Rattle.pv_rules.specs.Numbering.{first_part, rest_at}
+use Rattle.pv_rules.specs.Numbering.{first_part}
 use Rattle.pv_rules.specs.Rules.{Goal, IsSpan, Rule, any_name, any_none, any_text, children_part, empty_none, kept, missing, mixed_name, mixed_none, mixed_text, opt_none, opt_one, over, part_choice, part_name, part_seq, plus_more, plus_one, rest_last, rest_then, star_more, star_none}
 use Rattle.pv_rules.specs.Sites.{PlainSite, content_site, name_site, part_site, rest_site}
 use Rattle.pv_rules.proofs.Derived.{held}

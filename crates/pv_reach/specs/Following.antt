@@ -1,5 +1,5 @@
 -- What may stand behind a column that leads back to itself at one place, and a further column for any number of those.
-use Rattle.std.specs.Prelude.{Bool, Contains, List, None, Option, [], false, get_or, length, suc, true, ℕ, ◌↔◌, ◌<◌, ◌∷◌, ◌≡◌, ◌⊎◌}
+use Rattle.std.specs.Prelude.{Bool, Contains, List, None, Option, [], false, get_or, length, true, ℕ, ◌↔◌, ◌<◌, ◌∷◌, ◌≡◌, ◌⊎◌}
 use Rattle.pv_model.specs.declared.models.Token.{Token}
 use Rattle.pv_reach.specs.Adding.{Grow}
 use Rattle.pv_reach.specs.ColumnRules.{InRange, Reaches, TokensMayBeMissing}

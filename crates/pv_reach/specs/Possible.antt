@@ -6,7 +6,7 @@ use Rattle.pv_model.specs.Plain.{PlainModel, PlainToken, empty, named}
 use Rattle.pv_dtd.specs.Plain.{PlainDtd, declared, model_of}
 use Rattle.pv_dtd.specs.Productive.{IsProductive}
 use Rattle.pv_rules.specs.Sites.{PlainSite, content_site, name_site, part_site, rest_site}
-use Rattle.pv_tree.specs.Lists.{Listed, Owner}
+use Rattle.pv_tree.specs.Lists.{Listed}
 use Rattle.pv_missing.specs.Filling.{IsPossible, IsPossibleRoot}
 use Rattle.pv_missing.specs.LiveWords.{IsLiveWord}
 use Rattle.pv_missing.specs.PlainForms.{plain_of}

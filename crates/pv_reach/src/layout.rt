@@ -49,14 +49,19 @@ pub fn rules_of(alloc: Global, grammar: &Grammar) -> Result<Vec<ColumnRule>, All
 /// The least number of tokens for which further columns are laid out.
 const LONG: usize = 64;
 
-/// The first 4,096 of some names, or all.
-fn first_of(names: &[u32]) -> &[u32]
+/// How many tokens there are for each name whose followers are looked for. A search goes over all rules some times, as the table does for
+/// each token: so the searches take no longer than a part of the table.
+const TOKENS_A_SEARCH: usize = 16;
+
+/// The first of some names: at most 4,096, and one for each 16 tokens.
+fn first_of(names: &[u32], tokens: usize) -> &[u32]
     ensures { length result.now ≤ 4096 }
 {
-    if names.len() <= 4096 {
+    let most = 4096.min(tokens / TOKENS_A_SEARCH);
+    if names.len() <= most {
         return names;
     }
-    &names[..4096]
+    &names[..most]
 }
 
 /// For a word of at least 64 tokens, adds further columns for what may stand behind columns that lead back to themselves; tells the number
@@ -78,6 +83,6 @@ pub fn add_further(
     }
     let names = names_on_cycles(alloc, grammar)?;
     let table = fill(alloc, rules, &[], width)?;
-    let found = find_all(alloc, rules, &table, first_of(&names), width)?;
+    let found = find_all(alloc, rules, &table, first_of(&names, tokens), width)?;
     widen(alloc, &found, width, rules)
 }

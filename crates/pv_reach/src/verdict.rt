@@ -121,6 +121,7 @@ fn judge(
 /// the root's name.
 ///
 /// `TooWide` is asked before the verdict. A list that is valid by itself, whose owner and names are productive, takes no table.
+/// The document node's list is its root alone; of other kids with this owner nothing is said.
 pub fn list_verdict<L: Ledger>(
     alloc: Global,
     grammar: &Grammar,

@@ -1,10 +1,14 @@
--- The grammar of a plain document (XML 1.0, sections 2.1, 2.4 and 3.1): elements without attributes, and plain texts.
+-- The grammar of a document by its tree (XML 1.0, sections 2.1, 2.4 to 2.8 and 3.1).
 use Rattle.std.specs.Prelude.{◌≡◌, ◌≤◌, ℕ, Bool, true, false, not, List, [], ◌++◌, length, codes, IsTrue}
 use Rattle.pv_chars.specs.Spaces.{IsOptionalSpace}
 use Rattle.pv_chars.specs.Names.{IsName}
-use Rattle.pv_chars.specs.Texts.{units_of, IsPlainText}
+use Rattle.pv_chars.specs.Markup.{IsCdata}
+use Rattle.pv_chars.specs.Units.{units_in}
 use Rattle.pv_tree.specs.Plain.{short, tagged, Tree, element, text_node, cdata_node, misc_node, Forest, no_trees, tree, PlainDoc, depth_of}
+use Rattle.pv_tree.specs.Attributes.{IsAttributes, IsCharacterData, IsKnownReference}
+use Rattle.pv_tree.specs.Prolog.{IsCommentOrInstruction, IsProlog, IsEpilog}
 use Rattle.pv_tree.specs.Legal.{MAX_DEPTH}
+use Rattle.pv_read.specs.Meaning.{MAX_DOC_BYTES}
 
 abbrev pub begins_with_text : {M : Type 0} → Forest M → Bool
 begins_with_text no_trees = false
@@ -21,18 +25,18 @@ IsWholeRun (cdata_node bytes) rest = Unit {0}
 IsWholeRun (misc_node bytes) rest = Unit {0}
 
 abbrev mutual
-  -- element: EmptyElemTag, or STag content ETag of the same name; or CharData
+  -- element: EmptyElemTag, or STag content ETag of the same name; or character data with references, CDSect, Comment or PI
   pub SpellsNode : {M : Type 0} → Tree M → List ℕ → Type 0
   SpellsNode (element x attrs short kids mark) bytes =
-      IsName x × IsOptionalSpace attrs × (kids ≡ no_trees) × (bytes ≡ codes "<" ++ x ++ attrs ++ codes "/>")
+      IsName x × IsAttributes IsKnownReference attrs × (kids ≡ no_trees) × (bytes ≡ codes "<" ++ x ++ attrs ++ codes "/>")
   SpellsNode (element x attrs (tagged gap) kids mark) bytes =
-      (content : List ℕ) × IsName x × IsOptionalSpace attrs × IsOptionalSpace gap × SpellsContent kids content ×
+      (content : List ℕ) × IsName x × IsAttributes IsKnownReference attrs × IsOptionalSpace gap × SpellsContent kids content ×
       (bytes ≡ codes "<" ++ x ++ attrs ++ codes ">" ++ content ++ codes "</" ++ x ++ gap ++ codes ">")
-  SpellsNode (text_node units) bytes = IsPlainText bytes × (units ≡ units_of bytes)
-  SpellsNode (cdata_node inner) bytes = ⊥
-  SpellsNode (misc_node inner) bytes = ⊥
+  SpellsNode (text_node units) bytes = IsCharacterData IsKnownReference bytes × (units ≡ units_in bytes)
+  SpellsNode (cdata_node section) bytes = IsCdata section × (bytes ≡ section)
+  SpellsNode (misc_node misc) bytes = IsCommentOrInstruction misc × (bytes ≡ misc)
 
-  -- content: CharData? (element CharData?)*
+  -- content: elements, character data with references, CDSects, Comments and PIs, one behind another
   pub SpellsContent : {M : Type 0} → Forest M → List ℕ → Type 0
   SpellsContent no_trees bytes = bytes ≡ []
   SpellsContent (tree t rest) bytes =
@@ -45,20 +49,17 @@ IsElement (text_node units) = ⊥
 IsElement (cdata_node bytes) = ⊥
 IsElement (misc_node bytes) = ⊥
 
-abbrev pub MAX_DOC_BYTES : ℕ
-MAX_DOC_BYTES = 67108864
-
--- The bytes spell this document: S?, one element, S?.
-pub record SpellsDocument {M : Type 0} (bytes : List ℕ) (doc : PlainDoc M) : Type 0 where
-  pub root : List ℕ
-  pub space_before : IsOptionalSpace doc.before
+-- document: the bytes spell a prolog, one element, and Misc*. A document type declaration, where there is one, names this root.
+pub record SpellsDocument {M : Type 0} (root bytes : List ℕ) (doc : PlainDoc M) : Type 0 where
+  pub element : List ℕ
+  pub is_prolog : IsProlog root doc.before
   pub is_element : IsElement doc.root
-  pub is_root : SpellsNode doc.root root
-  pub space_after : IsOptionalSpace doc.after
-  pub whole : bytes ≡ doc.before ++ root ++ doc.after
+  pub is_root : SpellsNode doc.root element
+  pub is_epilog : IsEpilog doc.after
+  pub whole : bytes ≡ doc.before ++ element ++ doc.after
 
--- The bytes are a plain document text, and this is the document. Elements stand at most 512 deep.
-pub record IsDocumentText {M : Type 0} (bytes : List ℕ) (doc : PlainDoc M) : Type 0 where
-  pub spelled : SpellsDocument bytes doc
+-- The bytes are a document text for this root, and this is the document. Elements stand at most 512 deep.
+pub record IsDocumentText {M : Type 0} (root bytes : List ℕ) (doc : PlainDoc M) : Type 0 where
+  pub spelled : SpellsDocument root bytes doc
   pub shallow : depth_of doc.root ≤ MAX_DEPTH
   pub few_bytes : length bytes ≤ MAX_DOC_BYTES

@@ -7,12 +7,33 @@ use pv_chars::NoMemory;
 use std::alloc::{AllocError, AllocFailed};
 use thiserror::Error;
 
-/// Why there is no document. `Syntax`: the bytes are no plain document, or pass a limit; the number is always 0. `NoMemory`: there was
-/// too little memory to go on, and nothing is known of the bytes.
+/// Why there is no document. A number counts the whole items before the first one in fault; text runs are items, and a byte order
+/// mark is none. Where several kinds of fault stand at one item, the kind is `Subset`, or else the first of `Syntax`, `Entity`,
+/// `Mismatch`, `DoctypeName` and `Deep`.
 #[derive(Debug, Drop, Error)]
 pub enum DocError {
+    /// No item stands here, or one that may not stand here, or the text ends before its root does.
     #[error("item {0} is no part of a document here")]
     Syntax(u64),
+    /// An end tag of another name than that of the innermost open element.
+    #[error("item {0} ends an element of another name")]
+    Mismatch(u64),
+    /// A reference to a name that would need a declaration: another than `lt`, `gt`, `amp`, `apos` and `quot`.
+    #[error("item {0} refers to a name that isn't declared")]
+    Entity(u64),
+    /// A document type declaration with an internal subset.
+    #[error("the document type declaration has an internal subset")]
+    Subset,
+    /// A document type declaration of another name than the root's.
+    #[error("the document type declaration has another name than the root")]
+    DoctypeName,
+    /// An element inside 512 others.
+    #[error("item {0} opens an element too deep")]
+    Deep(u64),
+    /// More than 67,108,864 bytes.
+    #[error("the document has too many bytes")]
+    Limit,
+    /// There was too little memory to go on, and nothing is known of the bytes.
     #[error("out of memory")]
     NoMemory,
 }

@@ -1,16 +1,22 @@
 //! Reads documents (XML 1.0, sections 2 and 3.1).
 //!
-//! `read_doc` gives the document that some bytes spell (`IsDocumentText`, specs/Grammar.antt): elements without attributes, with names in
-//! any script, and plain texts, within the limits on bytes and on depth. It refuses any other bytes, and only those, but for want of
-//! memory (`Refuses`, specs/Errors.antt). Some bytes spell at most one document, marks aside (specs/Laws.antt). specs/Reading.antt says
-//! the same from the left, as the functions read.
+//! A document text is items, one behind another (`BeginsItem`, specs/Items.antt): `forms` reads one from the front. What the items so far
+//! leave is the place and the open elements with their kids (`Left`, specs/Left.antt). `read_doc` reads item by item with a stack of open
+//! elements, and gives the document that the text means, or its first item in fault (`DocumentMeans`, specs/Meaning.antt, `Refuses`,
+//! specs/Errors.antt). The same document is the one that the text spells by its tree (`IsDocumentText`, specs/Grammar.antt). `laws` has
+//! what follows: a text means exactly one thing.
 #![tactic(auto)]
 
-mod elements;
+mod content;
+mod epilog;
 mod errors;
+mod faults;
+pub mod forms;
 pub mod laws;
+mod open;
+mod places;
+mod prolog;
 mod reading;
-mod tags;
 mod texts;
 
 pub use errors::DocError;

@@ -1,49 +1,111 @@
-//! Reads a document.
+//! Reads a document, in one pass from left to right.
 
-ghost use Rattle.std.specs.Prelude.{IfOk, IfErr};
-ghost use Rattle.pv_tree.specs.Plain.{PlainDoc};
+ghost use Rattle.std.specs.Prelude.{◌≡◌, ◌≤◌, ◌<◌, ◌+◌, ◌++◌, suc, ℕ, List, [], length, IfOk, IfErr};
+ghost use Rattle.pv_tree.specs.Plain.{nodes_in};
+ghost use Rattle.pv_tree.specs.Legal.{MAX_NODES};
+ghost use Rattle.pv_tree.specs.PlainForms.{plain};
 ghost use Rattle.pv_tree.specs.PlainDocs.{plain_doc};
+ghost use Rattle.pv_tree.specs.Marks.{HasMarks, blank_mark};
 ghost use Rattle.pv_tree.specs.declared.nodes.Mark.{Mark};
 ghost use Rattle.pv_read.specs.Grammar.{IsDocumentText};
+ghost use Rattle.pv_read.specs.Left.{in_epilog};
+ghost use Rattle.pv_read.specs.Meaning.{MAX_DOC_BYTES as MOST_BYTES, Outcome, is_document, Means, DocumentMeans, StartsWith};
 ghost use Rattle.pv_read.specs.Errors.{Refuses};
-ghost use Rattle.pv_tree.specs.Marks.{HasMarks, blank_mark};
+ghost use Rattle.pv_read.specs.PlainForms.{Answers};
+ghost use Rattle.pv_read.specs.Steps.{Leads};
+ghost use Rattle.pv_read.specs.Prologs.{behind_tag};
+ghost use Rattle.pv_read.specs.Epilogs.{document};
 
-use crate::elements::element_at;
+use crate::content::read_content;
+use crate::epilog::read_epilog;
 use crate::errors::DocError;
-use crate::tags::space_at;
+use crate::open::empty_element;
+use crate::prolog::{RootTag, root_tag};
 use pv_chars::bytes_of;
-use pv_tree::{Doc, Mark};
+use pv_chars::scan::after_bytes;
+use pv_tree::{Doc, Mark, Node};
 use std::alloc::Global;
 
 /// The most bytes of a document.
 pub const MAX_DOC_BYTES: usize = 67_108_864;
-/// The most elements that stand one inside another.
-const MAX_DEPTH: u32 = 512;
 
-/// The document that the bytes are, with blank marks (XML 1.0, sections 2.1 and 3.1).
+/// What stands behind the byte order mark, where there is one.
+pub fn after_mark(bytes: &[u8]) -> &[u8]
+    ensures behind { (mark : List ℕ) × StartsWith bytes.now mark result.now }
+    ensures within { length result.now ≤ length bytes.now }
+{
+    match after_bytes(b"\xEF\xBB\xBF", bytes) {
+        Some(rest) => rest,
+        None => bytes,
+    }
+}
+
+// The root that this tag opens, what stands behind it, and the number of items up to its end.
+fn root_at<'a>(
+    alloc: Global,
+    root: &[u8],
+    opening: &RootTag<'a>,
+) -> Result<(Node, &'a [u8], u64), DocError>
+    requires { suc opening.now.count + length opening.now.rest.now ≤ MOST_BYTES }
+    ensures read { IfOk result (λ r. (before : List ℕ) →
+        Leads blank_mark root.now (suc opening.now.count) (behind_tag before opening.now.is_short opening.now.tag.name.now opening.now.tag.attrs.now) opening.now.rest.now
+        r.2 (in_epilog before (plain r.0) []) r.1.now) }
+    ensures refused { IfErr result (λ e. (before : List ℕ) →
+        Refuses (Means blank_mark root.now (suc opening.now.count)
+        (behind_tag before opening.now.is_short opening.now.tag.name.now opening.now.tag.attrs.now) opening.now.rest.now) e) }
+    ensures few { IfOk result (λ r. r.2 + length r.1.now ≤ suc opening.now.count + length opening.now.rest.now) }
+{
+    let count = opening.count + 1;
+    if opening.is_short {
+        return Ok((empty_element(alloc, &opening.tag)?, opening.rest, count));
+    }
+    read_content(alloc, root, &opening.tag, opening.rest, count)
+}
+
+// A document by its parts: the root, and what stands before and after it.
+#[derive(Drop)]
+struct Parts<'a> {
+    before: &'a [u8],
+    root: Node,
+    after: &'a [u8],
+}
+
+// The parts of the document that the bytes are.
+fn parts_of<'a>(alloc: Global, bytes: &'a [u8], root: &[u8]) -> Result<Parts<'a>, DocError>
+    requires { length bytes.now ≤ MOST_BYTES }
+    ensures read { IfOk result (λ p. DocumentMeans blank_mark root.now bytes.now (is_document (document p.before.now (plain p.root) p.after.now))) }
+    ensures refused { IfErr result (λ e. Refuses (DocumentMeans blank_mark root.now bytes.now) e) }
+{
+    let opening = root_tag(root, after_mark(bytes))?;
+    let (element, after, count) = root_at(alloc, root, &opening)?;
+    read_epilog(root, after, count)?;
+    Ok(Parts {
+        before: bytes.split_at(bytes.len() - opening.place.len()).0,
+        root: element,
+        after,
+    })
+}
+
+/// The document that the bytes are, with blank marks, where the root's name is this one (XML 1.0, section 2.1).
 ///
-/// Errors: `Syntax(0)` for any bytes that are no plain document within the limits, whatever is wrong with them and wherever that stands;
-/// `NoMemory` where memory runs out, which says nothing of the bytes. The name of the root element isn't looked at yet: a document with
-/// another root is read too.
-pub fn read_doc(alloc: Global, bytes: &[u8], _root: &[u8]) -> Result<Doc, DocError>
-    ensures read { IfOk result (λ doc. IsDocumentText bytes.now (plain_doc doc)) }
+/// The name is that of the document type declaration, where there is one: the root itself may have another.
+pub fn read_doc(alloc: Global, bytes: &[u8], root: &[u8]) -> Result<Doc, DocError>
+    ensures read { IfOk result (λ doc. IsDocumentText root.now bytes.now (plain_doc doc)) }
+    ensures means { IfOk result (λ doc. DocumentMeans blank_mark root.now bytes.now (is_document (plain_doc doc))) }
+    ensures few { IfOk result (λ doc. nodes_in (plain_doc doc).root < MAX_NODES) }
     ensures marks { IfOk result (λ doc. HasMarks blank_mark (plain_doc doc)) }
-    ensures refused { IfErr result (λ error. Refuses error ((doc : PlainDoc Mark) → IsDocumentText bytes.now doc → ⊥)) }
+    ensures refused { IfErr result (λ error. Refuses (DocumentMeans blank_mark root.now bytes.now) error) }
+    ensures exactly { (o : Outcome Mark) → DocumentMeans blank_mark root.now bytes.now o → Answers o result }
 {
     if bytes.len() > MAX_DOC_BYTES {
-        return Err(DocError::Syntax(0));
+        return Err(DocError::Limit);
     }
-    let (before, element) = space_at(bytes);
-    let (root, end) = element_at(alloc, element, MAX_DEPTH)?;
-    let (after, rest) = space_at(end);
-    if !rest.is_empty() {
-        return Err(DocError::Syntax(0));
-    }
-    let before = bytes_of(alloc, before)?;
-    let after = bytes_of(alloc, after)?;
+    let parts = parts_of(alloc, bytes, root)?;
+    let before = bytes_of(alloc, parts.before)?;
+    let after = bytes_of(alloc, parts.after)?;
     Ok(Doc {
         before,
-        root,
+        root: parts.root,
         after,
         mark: Mark::BLANK,
     })

@@ -4,7 +4,7 @@ ghost use Rattle.std.specs.Prelude.{◌≡◌, ◌<◌};
 
 use crate::dtds::{
     ANY, ANY_OR_EMPTY, ANY_OR_ENDLESS, ARTICLE, DOUBLING, EMPTY, ENDLESS, ENDLESS_IN_ANY,
-    MIXED_UNDECLARED, NESTED, OPTIONAL_UNDECLARED, TEXT,
+    MIXED_UNDECLARED, NESTED, OPTIONAL_UNDECLARED, REALISTIC, TEXT,
 };
 use crate::fixture::{Given, answer};
 use pv_cli::Status;
@@ -46,7 +46,7 @@ fn check<'a, R: AllocGlobal + Threads + Sync + Abort>(
     Ok(())
 }
 
-static POSSIBLE: [Row<'static>; 15] = [
+static POSSIBLE: [Row<'static>; 19] = [
     (ARTICLE, "doc", "<doc>Hello</doc>", "possible 1\n"),
     (ARTICLE, "doc", "<doc><em>x</em></doc>", "possible 1\n"),
     (
@@ -58,6 +58,21 @@ static POSSIBLE: [Row<'static>; 15] = [
     // The root itself is missing.
     (ARTICLE, "doc", "<p>a</p>", "possible 1\n"),
     (ARTICLE, "doc", "<doc> </doc>", "possible 1\n"),
+    (ARTICLE, "doc", "<doc><!--c--> </doc>", "possible 1\n"),
+    // A reference to a blank is data, and so is a CDATA section.
+    (
+        ARTICLE,
+        "doc",
+        "<doc><head/><sec>&#32;</sec></doc>",
+        "possible 1\n",
+    ),
+    (
+        ARTICLE,
+        "doc",
+        "<doc><head/><sec><![CDATA[]]></sec></doc>",
+        "possible 1\n",
+    ),
+    (ARTICLE, "doc", REALISTIC, "possible 1\n"),
     (ARTICLE, "doc", "<doc><head/><sec> </sec></doc>", "valid\n"),
     (
         ARTICLE,
@@ -77,7 +92,7 @@ static POSSIBLE: [Row<'static>; 15] = [
     (TEXT, "doc", "<doc>x</doc>", "valid\n"),
 ];
 
-static IMPOSSIBLE: [Row<'static>; 15] = [
+static IMPOSSIBLE: [Row<'static>; 16] = [
     (ARTICLE, "doc", "<doc><sec/><head/></doc>", "impossible 0\n"),
     // A blank in an element that is to be empty.
     (
@@ -87,6 +102,7 @@ static IMPOSSIBLE: [Row<'static>; 15] = [
         "impossible 0.1.0.0\n",
     ),
     (EMPTY, "doc", "<doc>x</doc>", "impossible 0\n"),
+    (EMPTY, "doc", "<doc><!--c--></doc>", "impossible 0\n"),
     // The first in document order, though another is higher.
     (
         ARTICLE,

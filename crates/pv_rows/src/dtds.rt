@@ -1,4 +1,4 @@
-//! The DTDs of the rows, under plain names.
+//! The DTDs of the rows, and a document, under plain names.
 
 /// An article of sections with paragraphs and lists.
 pub const ARTICLE: &str = "<!ELEMENT doc (head, sec+)>
@@ -10,6 +10,36 @@ pub const ARTICLE: &str = "<!ELEMENT doc (head, sec+)>
 <!ELEMENT br EMPTY>
 <!ELEMENT list (item, item+)>
 <!ELEMENT item (p+)>
+";
+
+/// A document of an article, with items of every kind.
+pub const REALISTIC: &str = "<?xml version=\"1.0\" encoding=\"UTF-8\"?>
+<!DOCTYPE doc SYSTEM \"a.dtd\">
+<!-- draft -->
+<doc id=\"d1\">
+<head>On caf&#233;s</head>
+<sec class='intro'>
+Cafés opened early. See <![CDATA[<menu>]]> below.
+<em>Tea</em> came later.<br />
+</sec>
+<?page 2?>
+</doc>
+";
+
+/// What `show` replies on it.
+pub const REALISTIC_SHOWN: &str = "show 252
+<?xml version=\"1.0\" encoding=\"UTF-8\"?>
+<!DOCTYPE doc SYSTEM \"a.dtd\">
+<!-- draft -->
+<doc id=\"d1\">
+<head>On caf&#233;s</head>
+<sec class='intro'>
+Cafés opened early. See <![CDATA[<menu>]]> below.
+<em>Tea</em> came later.<br />
+</sec>
+<?page 2?>
+</doc>
+
 ";
 
 /// One element of text.
@@ -24,14 +54,17 @@ pub const ANY: &str = "<!ELEMENT a ANY>";
 /// Any content, and an element without content.
 pub const ANY_OR_EMPTY: &str = "<!ELEMENT a ANY><!ELEMENT b EMPTY>";
 
+/// Any content, and an element that may hold one that isn't declared.
+pub const ANY_OR_OPTIONAL: &str = "<!ELEMENT r ANY><!ELEMENT s (u?)>";
+
+/// An element that needs itself.
+pub const ENDLESS: &str = "<!ELEMENT a (a)>";
+
 /// Any content, and an element that needs one that isn't declared.
 pub const ANY_OR_ENDLESS: &str = "<!ELEMENT a ANY><!ELEMENT c (b)>";
 
 /// Pairs, of which a first member may hold another.
 pub const NESTED: &str = "<!ELEMENT x ((x, y)?)><!ELEMENT y EMPTY>";
-
-/// An element that needs another of its kind.
-pub const ENDLESS: &str = "<!ELEMENT a (a)>";
 
 /// Any content, and an element that needs another of its kind.
 pub const ENDLESS_IN_ANY: &str = "<!ELEMENT a ANY><!ELEMENT c (c)>";

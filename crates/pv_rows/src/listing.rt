@@ -94,7 +94,7 @@ static LISTED: [Row<'static>; 12] = [
     ),
 ];
 
-static REFUSED: [Row<'static>; 25] = [
+static REFUSED: [Row<'static>; 31] = [
     (
         "<!ELEMENT a EMPTY><!ELEMENT a ANY>",
         BAD_DTD,
@@ -146,6 +146,16 @@ static REFUSED: [Row<'static>; 25] = [
     ("<!--", BAD_DTD, "dtd syntax 0\n"),
     ("<?p", BAD_DTD, "dtd syntax 0\n"),
     ("<!ENTITY a '", BAD_DTD, "dtd syntax 0\n"),
+    ("<!NOTATION", BAD_DTD, "dtd syntax 0\n"),
+    ("<!NOTATION n", BAD_DTD, "dtd syntax 0\n"),
+    ("<!--c--><!NOTATION n SYSTEM 'x", BAD_DTD, "dtd syntax 1\n"),
+    ("<?xml", BAD_DTD, "dtd syntax 0\n"),
+    ("<?xml encoding='utf-8", BAD_DTD, "dtd syntax 0\n"),
+    (
+        "\u{feff}<?xml version='1.0' encoding='utf-8'",
+        BAD_DTD,
+        "dtd syntax 0\n",
+    ),
     ("\0", BAD_DTD, "dtd syntax 0\n"),
     ("<!--\0-->", BAD_DTD, "dtd syntax 0\n"),
 ];

@@ -54,40 +54,46 @@ fn words(rt: HostRuntime) -> Result<(), Fail> {
     Ok(())
 }
 
+const VALID: &[&str] = &["valid", "a.dtd", "doc", "d.xml"];
+
+const SESSION: &[&str] = &["session", "a.dtd", "doc", "d.xml"];
+
+const LISTING: &[&str] = &["dtd", "a.dtd"];
+
 struct Row {
-    command: &'static str,
+    words: &'static [&'static str],
     dtd: &'static str,
-    /// Its name and its bytes. The words name `d.xml`.
+    /// Its name and its bytes. The words of most rows name `d.xml`.
     doc: (&'static str, &'static str),
     /// The numbers of the calls that fail: of the shelf, the input and the output.
     failing: (&'static [u64], &'static [u64], &'static [u64]),
     ends: (Status, &'static str),
 }
 
-static FAULTS: [Row; 9] = [
+static FAULTS: [Row; 12] = [
     Row {
-        command: "valid",
+        words: VALID,
         dtd: TEXT,
         doc: ("d.xml", HELLO),
         failing: (&[1], &[], &[]),
         ends: (Status::ReadFault, ""),
     },
     Row {
-        command: "valid",
+        words: VALID,
         dtd: TEXT,
         doc: ("other.xml", HELLO),
         failing: (&[], &[], &[]),
         ends: (Status::ReadFault, ""),
     },
     Row {
-        command: "valid",
+        words: VALID,
         dtd: TEXT,
         doc: ("d.xml", HELLO),
         failing: (&[], &[], &[2]),
         ends: (Status::WriteFault, "va"),
     },
     Row {
-        command: "valid",
+        words: VALID,
         dtd: TEXT,
         doc: ("d.xml", HELLO),
         failing: (&[2], &[0], &[6]),
@@ -95,36 +101,58 @@ static FAULTS: [Row; 9] = [
     },
     // The DTD is read before the document is fetched.
     Row {
-        command: "valid",
+        words: VALID,
         dtd: "<!ELEMENT doc>",
         doc: ("other.xml", HELLO),
         failing: (&[], &[], &[]),
         ends: (Status::BadDtd, "dtd syntax 0\n"),
     },
     Row {
-        command: "valid",
+        words: VALID,
         dtd: "<!ELEMENT doc>",
         doc: ("d.xml", HELLO),
         failing: (&[1], &[], &[]),
         ends: (Status::BadDtd, "dtd syntax 0\n"),
     },
+    // The DTD is fetched once, and nothing else.
+    Row {
+        words: LISTING,
+        dtd: TEXT,
+        doc: ("d.xml", HELLO),
+        failing: (&[1], &[0], &[]),
+        ends: (Status::Done, "doc mixed 1\ntypes 1 parts 0 undeclared 0\n"),
+    },
+    Row {
+        words: LISTING,
+        dtd: "<!ELEMENT doc>",
+        doc: ("other.xml", HELLO),
+        failing: (&[1], &[0], &[]),
+        ends: (Status::BadDtd, "dtd syntax 0\n"),
+    },
+    Row {
+        words: LISTING,
+        dtd: TEXT,
+        doc: ("d.xml", HELLO),
+        failing: (&[0], &[], &[]),
+        ends: (Status::ReadFault, ""),
+    },
     // Both are read before the input is asked.
     Row {
-        command: "session",
+        words: SESSION,
         dtd: "<!ELEMENT doc>",
         doc: ("d.xml", HELLO),
         failing: (&[], &[0], &[]),
         ends: (Status::BadDtd, "dtd syntax 0\n"),
     },
     Row {
-        command: "session",
+        words: SESSION,
         dtd: TEXT,
         doc: ("d.xml", "<doc>"),
         failing: (&[], &[0], &[]),
-        ends: (Status::BadDocument, "document syntax 0\n"),
+        ends: (Status::BadDocument, "document syntax 1\n"),
     },
     Row {
-        command: "session",
+        words: SESSION,
         dtd: TEXT,
         doc: ("d.xml", HELLO),
         failing: (&[], &[0], &[]),
@@ -133,13 +161,12 @@ static FAULTS: [Row; 9] = [
 ];
 
 fn check_row<R: AllocGlobal + Threads + Sync + Abort>(rt: &R, row: &Row) -> Result<(), Fail> {
-    let words: [&'static str; 4] = [row.command, "a.dtd", "doc", "d.xml"];
     let files: [(&'static str, &'static str); 2] = [("a.dtd", row.dtd), row.doc];
     let given = Given {
         failing_fetches: row.failing.0,
         failing_fills: row.failing.1,
         failing_puts: row.failing.2,
-        ..Given::plain(&words, &files)
+        ..Given::plain(row.words, &files)
     };
     check(rt, &given, row.ends.0, row.ends.1)
 }

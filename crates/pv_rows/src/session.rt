@@ -2,7 +2,7 @@
 
 ghost use Rattle.std.specs.Prelude.{◌<◌};
 
-use crate::dtds::ARTICLE;
+use crate::dtds::{ARTICLE, REALISTIC, REALISTIC_SHOWN};
 use crate::fixture::{Given, Piece, answer};
 use pv_cli::Status;
 use std::marker::Brand;
@@ -59,6 +59,7 @@ fn scripts(rt: HostRuntime) -> Result<(), Fail> {
         (HELLO, "show\r\r\n", "show 16\n<doc>Hello</doc>\n"),
         (HELLO, "show \nundo\n", "no command\nno command\n"),
         (" <doc\n/> ", "show\nquit\nshow", "show 9\n <doc\n/> \n"),
+        (REALISTIC, "show\n", REALISTIC_SHOWN),
     ];
     check(&rt, &rows, 1)?;
     check(&rt, &rows, 65_536)

@@ -1,8 +1,8 @@
 //! Rows of `valid`.
 
 use crate::dtds::{
-    ANY, ANY_OR_EMPTY, ANY_OR_ENDLESS, ARTICLE, EMPTY, GREEK, MIXED, MIXED_UNDECLARED, TEXT,
-    UNDECLARED,
+    ANY, ANY_OR_EMPTY, ANY_OR_ENDLESS, ANY_OR_OPTIONAL, ARTICLE, EMPTY, ENDLESS, GREEK, MIXED,
+    MIXED_UNDECLARED, REALISTIC, TEXT, UNDECLARED,
 };
 use crate::fixture::{Given, answer};
 use pv_cli::Status;
@@ -13,10 +13,11 @@ use std::sync::ledger::Blank;
 use std::test::Fail;
 use std::thread::Threads;
 
-// A DTD, a root and a document, and the status and the line that `valid` gives.
-type Row<'a> = (&'a str, &'a str, &'a str, Status, &'a str);
+/// A DTD, a root and a document, and the status and the line that `valid` gives.
+pub type Row<'a> = (&'a str, &'a str, &'a str, Status, &'a str);
 
-fn check<'a, R: AllocGlobal + Threads + Sync + Abort>(
+/// Runs `valid` on each row.
+pub fn check<'a, R: AllocGlobal + Threads + Sync + Abort>(
     rt: &R,
     rows: &[Row<'a>],
 ) -> Result<(), Fail> {
@@ -35,15 +36,13 @@ fn check<'a, R: AllocGlobal + Threads + Sync + Abort>(
     Ok(())
 }
 
-const DONE: Status = Status::Done;
+pub const DONE: Status = Status::Done;
 
 const NEGATIVE: Status = Status::Negative;
 
 const BAD_DTD: Status = Status::BadDtd;
 
-const BAD_DOCUMENT: Status = Status::BadDocument;
-
-static JUDGED: [Row<'static>; 24] = [
+static JUDGED: [Row<'static>; 31] = [
     (TEXT, "doc", "<doc>Hello</doc>", DONE, "valid\n"),
     (TEXT, "p", "<doc>Hello</doc>", NEGATIVE, "invalid .\n"),
     (TEXT, "doc", " <doc >x</doc >\n", DONE, "valid\n"),
@@ -51,6 +50,22 @@ static JUDGED: [Row<'static>; 24] = [
     (EMPTY, "doc", "<doc></doc>", DONE, "valid\n"),
     (EMPTY, "doc", "<doc>Hello</doc>", NEGATIVE, "invalid 0\n"),
     (EMPTY, "doc", "<doc> </doc>", NEGATIVE, "invalid 0\n"),
+    // A CDATA section is data, also where it is empty.
+    (
+        EMPTY,
+        "doc",
+        "<doc><![CDATA[]]></doc>",
+        NEGATIVE,
+        "invalid 0\n",
+    ),
+    (
+        ARTICLE,
+        "doc",
+        "<doc><head/><![CDATA[]]><sec/></doc>",
+        NEGATIVE,
+        "invalid 0\n",
+    ),
+    (TEXT, "doc", "<doc><![CDATA[]]></doc>", DONE, "valid\n"),
     (ANY, "a", "<a><a>x</a></a>", DONE, "valid\n"),
     (ANY, "a", "<a><b/></a>", NEGATIVE, "invalid 0\n"),
     (
@@ -105,9 +120,25 @@ static JUDGED: [Row<'static>; 24] = [
         "invalid 0.1.0\n",
     ),
     (ARTICLE, "doc", "<p>a</p>", NEGATIVE, "invalid .\n"),
+    (ARTICLE, "doc", REALISTIC, NEGATIVE, "invalid 0.3\n"),
+    (ENDLESS, "a", "<a><a/></a>", NEGATIVE, "invalid 0.0\n"),
+    (
+        ANY_OR_OPTIONAL,
+        "r",
+        "<r><s/><zz/></r>",
+        NEGATIVE,
+        "invalid 0\n",
+    ),
+    (
+        ANY_OR_OPTIONAL,
+        "r",
+        "<r><s><u/></s></r>",
+        NEGATIVE,
+        "invalid 0.0.0\n",
+    ),
 ];
 
-static REFUSED: [Row<'static>; 12] = [
+static REFUSED: [Row<'static>; 7] = [
     (
         "<!ELEMENT a (b|c,d)>",
         "a",
@@ -131,19 +162,20 @@ static REFUSED: [Row<'static>; 12] = [
         "dtd mixed-twice 0\n",
     ),
     ("<!ELEMENT a>", "a", "<a/>", BAD_DTD, "dtd syntax 0\n"),
-    (ANY, "a", "<a></b>", BAD_DOCUMENT, "document syntax 0\n"),
     (
-        ANY,
+        "<!ENTITY % x \"y\">",
         "a",
-        "<a><b></a></b>",
-        BAD_DOCUMENT,
-        "document syntax 0\n",
+        "<a/>",
+        BAD_DTD,
+        "dtd parameter 0\n",
     ),
-    (ANY, "a", "<a/><a/>", BAD_DOCUMENT, "document syntax 0\n"),
-    (ANY, "a", "x<a/>", BAD_DOCUMENT, "document syntax 0\n"),
-    (ANY, "a", "", BAD_DOCUMENT, "document syntax 0\n"),
-    (ANY, "a", "<a", BAD_DOCUMENT, "document syntax 0\n"),
-    (ANY, "a", "<a>]]></a>", BAD_DOCUMENT, "document syntax 0\n"),
+    (
+        "<!ELEMENT a (%b;)>",
+        "a",
+        "<a/>",
+        BAD_DTD,
+        "dtd parameter 0\n",
+    ),
 ];
 
 // Content models with an operator each, then documents that they allow and documents that they don't.
@@ -200,8 +232,8 @@ fn rows(rt: HostRuntime) -> Result<(), Fail> {
     Ok(())
 }
 
-// So many times `open`, then `inner`, and as many times `close`.
-fn nested(
+/// So many times `open`, then `inner`, and as many times `close`.
+pub fn nested(
     alloc: Global,
     count: usize,
     open: &str,
@@ -219,46 +251,58 @@ fn nested(
     Ok(text)
 }
 
-// A type of so many groups, one inside another.
-fn grouped(alloc: Global, count: usize) -> Result<String, AllocError> {
-    let mut text = String::from_str(alloc, "<!ELEMENT b EMPTY><!ELEMENT a ")?;
+// Groups, one inside another, in a declaration of `a` behind `first` and before `last`.
+fn grouped(alloc: Global, first: &str, count: usize, last: &str) -> Result<String, AllocError> {
+    let mut text = String::from_str(alloc, first)?;
+    text.push_str("<!ELEMENT a ")?;
     text.push_str(&nested(alloc, count, "(", "b", ")")?)?;
-    text.push_str(">")?;
+    text.push_str(last)?;
     Ok(text)
 }
 
 #[test]
-fn depths(rt: HostRuntime) -> Result<(), Fail> {
-    let alloc = rt.alloc();
-    let groups = grouped(alloc, 64)?;
-    let more_groups = grouped(alloc, 65)?;
-    let deep = nested(alloc, 512, "<a>", "", "</a>")?;
-    let deeper = nested(alloc, 513, "<a>", "", "</a>")?;
-    let deepest = nested(alloc, 10_000, "<a>", "", "</a>")?;
+fn groups(rt: HostRuntime) -> Result<(), Fail> {
+    let limit = Status::Limit;
     let rows = [
-        (groups.as_str(), "a", "<a><b/></a>", DONE, "valid\n"),
-        (
-            more_groups.as_str(),
-            "a",
-            "<a><b/></a>",
-            Status::Limit,
-            "limit dtd 1\n",
-        ),
-        (ANY, "a", deep.as_str(), DONE, "valid\n"),
-        (
-            ANY,
-            "a",
-            deeper.as_str(),
-            BAD_DOCUMENT,
-            "document syntax 0\n",
-        ),
-        (
-            ANY,
-            "a",
-            deepest.as_str(),
-            BAD_DOCUMENT,
-            "document syntax 0\n",
-        ),
+        ("<!ELEMENT b EMPTY>", 64, ">", DONE, "valid\n"),
+        ("<!ELEMENT b EMPTY>", 65, ">", limit, "limit dtd 1\n"),
+        ("", 64, ">", NEGATIVE, "invalid 0.0\n"),
+        ("", 65, ">", limit, "limit dtd 0\n"),
+        // The item has one more fault, or the next item has: nesting, then syntax.
+        ("", 65, "", limit, "limit dtd 0\n"),
+        ("", 65, ">%p;", limit, "limit dtd 0\n"),
+        // A parameter comes before nesting.
+        ("", 65, "%p;>", BAD_DTD, "dtd parameter 0\n"),
+        ("", 65, "%p;", BAD_DTD, "dtd parameter 0\n"),
     ];
-    check(&rt, &rows)
+    for (first, count, last, status, line) in rows {
+        let dtd = grouped(rt.alloc(), first, count, last)?;
+        check(&rt, &[(dtd.as_str(), "a", "<a><b/></a>", status, line)])?;
+    }
+    Ok(())
+}
+
+#[test]
+fn depths(rt: HostRuntime) -> Result<(), Fail> {
+    let limit = Status::Limit;
+    let bad = Status::BadDocument;
+    let rows = [
+        (511, "<em>", "<em/>", DONE, "valid\n"),
+        (512, "<em>", "", DONE, "valid\n"),
+        (512, "<em>", "<em/>", limit, "limit depth 512\n"),
+        (513, "<em>", "", limit, "limit depth 512\n"),
+        (10_000, "<em>", "", limit, "limit depth 512\n"),
+        // Texts before the tag that is too deep are items too.
+        (512, "<em>", "x<em/>", limit, "limit depth 513\n"),
+        (513, "<em>x", "", limit, "limit depth 1024\n"),
+        // The tag has one more fault.
+        (512, "<em>", "<em a='&b;'/>", bad, "document entity 512\n"),
+        (512, "<em>x", "<em a='&b;'>", bad, "document entity 1024\n"),
+        (512, "<em>", "<em a='&;'/>", bad, "document syntax 512\n"),
+    ];
+    for (count, open, inner, status, line) in rows {
+        let doc = nested(rt.alloc(), count, open, inner, "</em>")?;
+        check(&rt, &[(ARTICLE, "em", doc.as_str(), status, line)])?;
+    }
+    Ok(())
 }

@@ -1,20 +1,20 @@
 -- A document is valid or has a first invalid list.
-use Rattle.std.proofs.Common.{ℕ, List, [], ◌∷◌, IsTrue, true, refl, subst}
+use Rattle.std.proofs.Common.{ℕ, List, [], ◌∷◌, true, refl, subst}
 use Rattle.std.specs.List.{AllByRecursion}
 use Rattle.pv_dtd.specs.Plain.{PlainDtd}
 use Rattle.pv_tree.specs.Plain.{PlainDoc, tree, no_trees}
 use Rattle.pv_dtd.specs.Hedge.{IsValid}
-use Rattle.pv_tree.specs.Legal.{is_legal}
+use Rattle.pv_tree.specs.Units.{HasUnits}
 use Rattle.pv_tree.specs.Lists.{the_document, IsValidList, IsFirstNot, IsRootElement, lists_at, lists_of}
 use Rattle.pv_tree.specs.View.{view}
 use Rattle.pv_tree.proofs.Every.{all_right}
-use Rattle.pv_tree.proofs.ValidLists.{valid_lists, legal_texts}
+use Rattle.pv_tree.proofs.ValidLists.{valid_lists}
 use Rattle.pv_tree.proofs.Finding.{finds_behind}
 
 -- a document with an invalid list isn't valid
-pub not_valid : {M : Type 0} (g : PlainDtd) (root path : List ℕ) (doc : PlainDoc M) → IsTrue (is_legal doc.root) → IsFirstNot (IsValidList g root) (lists_of doc) path → IsValid g root (view doc.root) → ⊥
-not_valid g root path doc legal f v =
-    let all = subst (AllByRecursion (IsValidList g root)) f.is_split ((valid_lists g root doc (legal_texts doc.root legal)).1 v) in
+pub not_valid : {M : Type 0} (g : PlainDtd) (root path : List ℕ) (doc : PlainDoc M) → HasUnits doc.root → IsFirstNot (IsValidList g root) (lists_of doc) path → IsValid g root (view doc.root) → ⊥
+not_valid g root path doc units f v =
+    let all = subst (AllByRecursion (IsValidList g root)) f.is_split ((valid_lists g root doc units).1 v) in
     f.is_not (all_right (IsValidList g root) f.before (f.list ∷ f.after) all).0
 
 -- the list of the document node is the first
@@ -34,5 +34,5 @@ pub below_invalid : {M : Type 0} (g : PlainDtd) (root path : List ℕ) (doc : Pl
 below_invalid g root path doc is f =
     finds_behind (IsValidList g root) (record { path = []; owner = the_document; kids = tree doc.root no_trees } ∷ []) (lists_at (0 ∷ []) doc.root) [] path true ((is, refl), tt) f
 
-pub all_valid : {M : Type 0} (g : PlainDtd) (root : List ℕ) (doc : PlainDoc M) → IsTrue (is_legal doc.root) → IsRootElement root doc.root → AllByRecursion (IsValidList g root) (lists_at (0 ∷ []) doc.root) → IsValid g root (view doc.root)
-all_valid g root doc legal is all = (valid_lists g root doc (legal_texts doc.root legal)).0 ((is, refl), all)
+pub all_valid : {M : Type 0} (g : PlainDtd) (root : List ℕ) (doc : PlainDoc M) → HasUnits doc.root → IsRootElement root doc.root → AllByRecursion (IsValidList g root) (lists_at (0 ∷ []) doc.root) → IsValid g root (view doc.root)
+all_valid g root doc units is all = (valid_lists g root doc units).0 ((is, refl), all)

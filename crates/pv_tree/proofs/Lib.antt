@@ -8,3 +8,6 @@ pub mod Alike
 pub mod Spread
 pub mod ValidLists
 pub mod FirstInvalid
+pub mod CharacterData
+pub mod Decidable
+pub mod DecidedForms

@@ -1,12 +1,9 @@
 -- A document is valid exactly where each of its lists is valid by itself.
-use Rattle.std.proofs.Common.{◌≡◌, ◌≢◌, ◌↔◌, ℕ, suc, List, [], ◌∷◌, ◌++◌, ◌&&◌, IsTrue, Some, refl, ap}
-use Rattle.std.specs.List.{AllByRecursion, list_all}
-use Rattle.std.proofs.lemmas.Bool.{and_parts}
-use Rattle.pv_chars.specs.Spaces.{is_space}
+use Rattle.std.proofs.Common.{◌≡◌, ◌↔◌, ℕ, suc, List, [], ◌∷◌, ◌++◌, Some, refl, ap}
+use Rattle.std.specs.List.{AllByRecursion}
 use Rattle.pv_dtd.specs.Plain.{PlainDtd, number_of, declared}
 use Rattle.pv_tree.specs.Plain.{Tree, element, text_node, cdata_node, misc_node, Forest, no_trees, tree, PlainDoc}
 use Rattle.pv_dtd.specs.Hedge.{Hedge, done, elem, word, Fits, AreGood, IsValid}
-use Rattle.pv_tree.specs.Legal.{is_legal, are_legal, is_legal_ending, are_plain_units}
 use Rattle.pv_tree.specs.Lists.{IsOwnValid, IsValidList, IsRootElement, lists_at, lists_from, lists_of}
 use Rattle.pv_tree.specs.Units.{HasUnits, HaveUnits}
 use Rattle.pv_tree.specs.View.{spread, view_before, view_all, view}
@@ -106,19 +103,3 @@ valid_lists g root doc p = (
   λ v. root_valid g root (0 ∷ []) doc.root v.0.0 v.1,
   λ v. ((is_root root v.attrs v.kids doc.root v.is_root, refl), good_lists g root (0 ∷ []) doc.root done p v.good),
 )
-
-plain_has_unit : (units : List (List ℕ)) → IsTrue (are_plain_units units) → units ≢ []
-plain_has_unit [] h e = absurd cc
-plain_has_unit (unit ∷ units) h e = cc
-
--- each text of a legal tree has a unit
-mutual
-  pub legal_texts : {M : Type 0} (t : Tree M) → IsTrue (is_legal t) → HasUnits t
-  legal_texts (element x attrs ending kids mark) h = legal_all_texts kids (and_parts (list_all is_space attrs && is_legal_ending ending) (are_legal kids) h).1
-  legal_texts (text_node units) h = plain_has_unit units h
-  legal_texts (cdata_node bytes) h = tt
-  legal_texts (misc_node bytes) h = tt
-
-  legal_all_texts : {M : Type 0} (kids : Forest M) → IsTrue (are_legal kids) → HaveUnits kids
-  legal_all_texts no_trees h = tt
-  legal_all_texts (tree t rest) h = let q = and_parts (is_legal t) (are_legal rest) h in (legal_texts t q.0, legal_all_texts rest q.1)

@@ -1,10 +1,13 @@
--- What every document keeps, as tests.
+-- What every document keeps of its tree.
 use Rattle.std.specs.Prelude.{ℕ, Bool, true, false, not, ◌&&◌, List, [], ◌∷◌, ◌++◌}
-use Rattle.std.specs.List.{list_all}
-use Rattle.pv_chars.specs.Spaces.{is_space}
+use Rattle.pv_chars.specs.Spaces.{IsOptionalSpace}
 use Rattle.pv_chars.specs.Names.{is_name}
-use Rattle.pv_chars.specs.Texts.{is_text_char, begins_close_mark}
-use Rattle.pv_tree.specs.Plain.{Ending, short, tagged, Tree, element, text_node, cdata_node, misc_node, Forest, no_trees, tree, PlainDoc}
+use Rattle.pv_chars.specs.Texts.{begins_close_mark}
+use Rattle.pv_chars.specs.Units.{AllUnits}
+use Rattle.pv_chars.specs.Markup.{IsCdata}
+use Rattle.pv_tree.specs.Attributes.{IsAttributes, IsKnownReference}
+use Rattle.pv_tree.specs.Prolog.{IsCommentOrInstruction}
+use Rattle.pv_tree.specs.Plain.{Ending, short, tagged, Tree, element, text_node, cdata_node, misc_node, Forest, no_trees, tree}
 
 abbrev pub fits_kids : {M : Type 0} → Ending → Forest M → Bool
 fits_kids short no_trees = true
@@ -23,20 +26,6 @@ abbrev mutual
   are_formed no_trees = true
   are_formed (tree t rest) = is_formed t && are_formed rest
 
--- one literal character that may stand in character data
-abbrev pub is_plain_unit : List ℕ → Bool
-is_plain_unit [] = false
-is_plain_unit (b ∷ []) = is_text_char b
-is_plain_unit (b ∷ c ∷ bs) = false
-
-abbrev pub are_plain_units : List (List ℕ) → Bool
-are_plain_units [] = false
-are_plain_units (unit ∷ units) = is_plain_unit unit && list_all is_plain_unit units
-
-abbrev pub is_legal_ending : Ending → Bool
-is_legal_ending short = true
-is_legal_ending (tagged gap) = list_all is_space gap
-
 -- each element's name is a Name, at all depths
 abbrev mutual
   pub has_names : {M : Type 0} → Tree M → Bool
@@ -49,18 +38,22 @@ abbrev mutual
   have_names no_trees = true
   have_names (tree t rest) = has_names t && have_names rest
 
--- The other bytes of each node are those of a plain document: no attributes, plain texts of at least one unit, and no CDATA sections,
--- comments or processing instructions.
-abbrev mutual
-  pub is_legal : {M : Type 0} → Tree M → Bool
-  is_legal (element x attrs ending kids mark) = list_all is_space attrs && is_legal_ending ending && are_legal kids
-  is_legal (text_node units) = are_plain_units units
-  is_legal (cdata_node bytes) = false
-  is_legal (misc_node bytes) = false
+-- the bytes between the name of an end tag and its `>` are S?
+abbrev pub IsLegalEnding : Ending → Type 0
+IsLegalEnding short = Unit {0}
+IsLegalEnding (tagged gap) = IsOptionalSpace gap
 
-  pub are_legal : {M : Type 0} → Forest M → Bool
-  are_legal no_trees = true
-  are_legal (tree t rest) = is_legal t && are_legal rest
+-- The other bytes of each node are legal: attributes, units, a CDATA section, a comment or processing instruction.
+abbrev mutual
+  pub IsLegal : {M : Type 0} → Tree M → Type 0
+  IsLegal (element x attrs ending kids mark) = IsAttributes IsKnownReference attrs × IsLegalEnding ending × AreLegal kids
+  IsLegal (text_node units) = AllUnits units
+  IsLegal (cdata_node bytes) = IsCdata bytes
+  IsLegal (misc_node bytes) = IsCommentOrInstruction bytes
+
+  pub AreLegal : {M : Type 0} → Forest M → Type 0
+  AreLegal no_trees = Unit {0}
+  AreLegal (tree t rest) = IsLegal t × AreLegal rest
 
 -- the units of the texts that stand at the front, one beside another
 abbrev pub front_units : {M : Type 0} → Forest M → List (List ℕ)
@@ -92,10 +85,6 @@ abbrev mutual
   starts_no_close_mark (text_node units) rest = is_open units (front_units rest)
   starts_no_close_mark (cdata_node bytes) rest = true
   starts_no_close_mark (misc_node bytes) rest = true
-
--- the bytes before and after the root are white space
-abbrev pub has_plain_margins : {M : Type 0} → PlainDoc M → Bool
-has_plain_margins doc = list_all is_space doc.before && list_all is_space doc.after
 
 abbrev pub MAX_DEPTH : ℕ
 MAX_DEPTH = 512

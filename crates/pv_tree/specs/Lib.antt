@@ -6,6 +6,8 @@ pub mod Tokens
 pub mod Lists
 pub mod Search
 pub mod Places
+pub mod Attributes
+pub mod Prolog
 pub mod Legal
 pub mod Units
 pub mod Marks

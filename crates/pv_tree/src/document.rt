@@ -1,10 +1,10 @@
 //! A document.
 
-ghost use Rattle.std.specs.Prelude.{◌≡◌, ◌≤◌, IsTrue, IfOk};
-ghost use Rattle.std.specs.List.{list_all};
-ghost use Rattle.pv_chars.specs.Spaces.{is_space};
+ghost use Rattle.std.specs.Prelude.{◌≡◌, ◌≤◌, ℕ, List, IsTrue, IfOk};
 ghost use Rattle.pv_tree.specs.Plain.{depth_of, nodes_in, is_element};
-ghost use Rattle.pv_tree.specs.Legal.{has_names, is_formed, is_legal, has_no_close_mark, MAX_DEPTH, MAX_NODES};
+ghost use Rattle.pv_tree.specs.Legal.{has_names, is_formed, IsLegal, has_no_close_mark, MAX_DEPTH, MAX_NODES};
+ghost use Rattle.pv_tree.specs.Units.{HasUnits, HasUnits-prop};
+ghost use Rattle.pv_tree.specs.Prolog.{IsEpilog, IsProlog};
 ghost use Rattle.pv_tree.specs.PlainForms.{plain, plain_all};
 
 use crate::nodes::{Mark, Node};
@@ -26,10 +26,11 @@ pub struct Doc {
     pub ghost shallow: { depth_of (plain root) ≤ MAX_DEPTH },
     pub ghost small: { nodes_in (plain root) ≤ MAX_NODES },
     pub ghost named: { IsTrue (has_names (plain root)) },
-    pub ghost legal: { IsTrue (is_legal (plain root)) },
+    pub ghost units: { HasUnits (plain root) } by { HasUnits-prop (plain root) },
+    pub ghost legal: { ∥ IsLegal (plain root) ∥₁ },
     pub ghost no_close_mark: { IsTrue (has_no_close_mark (plain root)) },
-    pub ghost white_before: { IsTrue (list_all is_space before) },
-    pub ghost white_after: { IsTrue (list_all is_space after) },
+    pub ghost prolog: { ∥ ((name : List ℕ) × IsProlog name before) ∥₁ },
+    pub ghost epilog: { ∥ IsEpilog after ∥₁ },
 }
 
 impl Doc {

@@ -1,16 +1,11 @@
 //! Laws on lists and validity.
 
-ghost use Rattle.pv_tree.specs.Laws.{IsBlank, IsValidByLists, LegalTextsHaveUnits};
+ghost use Rattle.pv_tree.specs.Laws.{IsBlank, IsValidByLists};
 ghost use Rattle.pv_tree.specs.declared.nodes.Mark.{Mark};
 
 /// A document is valid exactly where each of its lists is valid by itself.
 pub fn valid_lists_law()
     ensures { IsValidByLists Mark }
-{}
-
-/// Each text of a legal tree has a unit.
-pub fn legal_texts_law()
-    ensures { LegalTextsHaveUnits Mark }
 {}
 
 /// `Mark::BLANK` is the mark of a list that nothing is known of.

@@ -7,7 +7,7 @@ ghost use Rattle.pv_tree.specs.Legal.{MAX_DEPTH, MAX_NODES};
 ghost use Rattle.pv_tree.specs.Places.{kids_of, list_of, node_below};
 ghost use Rattle.pv_tree.specs.PlainForms.{plain, plain_all, plain_end};
 
-use pv_chars::{Bytes, NoMemory, Units, bytes_of, plain_units};
+use pv_chars::{Bytes, NoMemory, Units, bytes_of};
 use std::alloc::Global;
 
 /// What is known of a child list. `Impossible` is asked first: a list may be valid by itself and be no part of any valid document,
@@ -166,7 +166,7 @@ impl Node {
                     mark: *mark,
                 })
             }
-            Node::Text(units) => Ok(Node::Text(plain_units(alloc, units.bytes())?)),
+            Node::Text(units) => Ok(Node::Text(units.copy(alloc)?)),
             Node::Cdata(bytes) => Ok(Node::Cdata(bytes_of(alloc, bytes.as_slice())?)),
             Node::Misc(bytes) => Ok(Node::Misc(bytes_of(alloc, bytes.as_slice())?)),
         }

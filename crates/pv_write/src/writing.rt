@@ -3,7 +3,8 @@
 ghost use Rattle.std.specs.Prelude.{◌≡◌, ◌++◌, codes, List, ℕ, IfOk, OnOk};
 ghost use Rattle.pv_tree.specs.PlainDocs.{plain_doc};
 ghost use Rattle.pv_tree.specs.PlainForms.{plain, forest};
-ghost use Rattle.pv_read.specs.Grammar.{IsDocumentText};
+ghost use Rattle.pv_tree.specs.Prolog.{IsProlog};
+ghost use Rattle.pv_read.specs.Grammar.{SpellsDocument};
 ghost use Rattle.pv_write.specs.Text.{tree_text, forest_text, doc_text};
 ghost use Rattle.pv_write.specs.Writes.{SpellsView};
 
@@ -14,8 +15,8 @@ use std::alloc::Global;
 /// The bytes of a document. Texts side by side are written as one run. The one error is want of memory.
 pub fn doc_bytes(alloc: Global, doc: &Doc) -> Result<Vec<u8>, NoMemory>
     ensures text { IfOk result (λ bytes. bytes.items ≡ doc_text (plain_doc doc.now)) }
-    ensures read { IfOk result (λ bytes. (text : List ℕ) → IsDocumentText text (plain_doc doc.now) → bytes.items ≡ text) }
-    ensures view { IfOk result (λ bytes. SpellsView bytes.items (plain_doc doc.now)) }
+    ensures read { IfOk result (λ bytes. (root text : List ℕ) → SpellsDocument root text (plain_doc doc.now) → bytes.items ≡ text) }
+    ensures view { IfOk result (λ bytes. (root : List ℕ) → IsProlog root doc.now.before → SpellsView root bytes.items (plain_doc doc.now)) }
 {
     let mut out = Vec::new(alloc);
     out.extend_from_slice(doc.before.as_slice())?;

@@ -55,3 +55,19 @@ returns-clause-finds g c =
       shelf = rw c.in_ok-dtd.ensures.counts (tells_counts tells _ c.tell.result told);
       no_input_fault = tells_leaves_input tells c.tell.result told;
     }
+
+pub invariant_of-doc-2 : goal.invariant_of-doc-2
+invariant_of-doc-2 g c =
+    let doc = c.in_ok-dtd.field-0.doc in
+    record {
+      rooted = doc.rooted;
+      formed = doc.formed;
+      shallow = doc.shallow;
+      small = doc.small;
+      named = doc.named;
+      units = doc.units;
+      legal = doc.legal;
+      no_close_mark = doc.no_close_mark;
+      prolog = doc.prolog;
+      epilog = doc.epilog;
+    }

@@ -1,11 +1,14 @@
-use Rattle.std.proofs.Common.{◌∙◌, ap, sym, List}
-use Rattle.pv_chars.specs.Texts.{units_of}
+use Rattle.std.proofs.Common.{◌∙◌, ap, sym, List, ℕ}
 use Rattle.pv_tree.specs.Plain.{Tree, forest_of}
 use Rattle.pv_tree.specs.declared.nodes.Mark.{Mark}
-use Rattle.pv_edit.specs.Effects.{one_text}
-use Rattle.pv_edit.specs.Reasons.{spells_close_mark}
+use Rattle.pv_edit.specs.Effects.{one_text, fill_node}
+use Rattle.pv_edit.specs.Reasons.{makes_close_mark, spells_close_mark}
+use Rattle.pv_edit.specs.Changes.{others}
+use Rattle.pv_tree.specs.PlainForms.{plain}
 use Rattle.pv_edit.proofs.Parted.{parted-splice}
 use Rattle.pv_edit.proofs.runs.set_text_makes_close_mark.Goals as goal
 
 pub returns : goal.returns
-returns c = c.spell_close_mark_with.ensures ∙ ap (λ (l : List (Tree Mark)). spells_close_mark (forest_of l)) (sym (parted-splice c.around.ensures (one_text (units_of c.args.text.now))))
+returns c text e =
+    c.spell_close_mark_with.ensures ∙ ap (λ (l : List (Tree Mark)). spells_close_mark (forest_of l)) (sym (parted-splice c.around.ensures (one_text c.args.units.now)))
+    ∙ ap (λ (u : List (List ℕ)). makes_close_mark (fill_node c.args.path.now (others (one_text u))) (plain c.args.doc.now.root)) e

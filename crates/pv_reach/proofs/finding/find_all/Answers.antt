@@ -1,4 +1,4 @@
-use Rattle.std.proofs.Common.{IfSome, Option, Some, arith, length-append, subst, ◌<◌, ◌∷◌, []}
+use Rattle.std.proofs.Common.{IfSome, Option, arith, length-append, subst, ◌<◌, ◌∷◌, []}
 use Rattle.pv_reach.specs.Following.{AreFollowers}
 use Rattle.pv_reach.specs.declared.following.Followers.{Followers}
 use Rattle.pv_reach.proofs.Widening.{found_more}

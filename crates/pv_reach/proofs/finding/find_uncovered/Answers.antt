@@ -1,6 +1,3 @@
-use Rattle.std.proofs.Common.{Err, IfOk, IfSome, None, Ok, Option, Result, Some, arith, subst, sym, ℕ, ◌<◌, ◌≡◌}
-use Rattle.pv_reach.specs.Following.{AreFollowers}
-use Rattle.pv_reach.specs.declared.following.Followers.{Followers}
 use Rattle.pv_reach.proofs.Listing.{if_ok_as}
 use Rattle.pv_reach.proofs.Widening.{found_within}
 use Rattle.pv_reach.proofs.finding.find_uncovered.Goals as goal

@@ -1,4 +1,4 @@
-use Rattle.std.proofs.Common.{Contains, List, arith, subst, sym, ℕ, ◌∙◌, ◌≡◌, ◌⊎◌}
+use Rattle.std.proofs.Common.{Contains, List, subst, sym, ℕ, ◌∙◌, ◌⊎◌}
 use Rattle.pv_reach.specs.Following.{IsBehind}
 use Rattle.pv_reach.proofs.Leading.{all_bare, followers_more, followers_none}
 use Rattle.pv_reach.proofs.finding.followers_of.Goals.{then-is_marked+then-is_open+in_ok-push_behind, else-is_marked}

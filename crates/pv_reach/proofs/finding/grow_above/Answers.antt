@@ -1,4 +1,4 @@
-use Rattle.std.proofs.Common.{Bool, Contains, List, ap, false, get_or, length, subst, sym, true, ℕ, ◌<◌, ◌∙◌, ◌≡◌, ◌⊎◌}
+use Rattle.std.proofs.Common.{Bool, Contains, List, false, get_or, length, subst, sym, true, ℕ, ◌<◌, ◌≡◌}
 use Rattle.pv_reach.proofs.Leading.{above_more, all_bare}
 use Rattle.pv_reach.proofs.finding.grow_above.Goals.{then-not-is_marked+then-is_open+then-is_any_marked, else-not-is_marked}
 use Rattle.pv_reach.proofs.finding.grow_above.Goals as goal

@@ -1,4 +1,4 @@
-use Rattle.std.proofs.Common.{Bool, Contains, List, ap, false, get_or, subst, sym, true, ℕ, ◌∙◌, ◌≡◌, ◌⊎◌}
+use Rattle.std.proofs.Common.{Contains, List, ap, false, get_or, subst, sym, true, ℕ, ◌∙◌, ◌≡◌, ◌⊎◌}
 use Rattle.pv_reach.proofs.Leading.{all_bare, below_more}
 use Rattle.pv_reach.proofs.finding.grow_below.Goals.{then-is_marked+then-is_open+then-not-are_marked, else-is_marked}
 use Rattle.pv_reach.proofs.finding.grow_below.Goals as goal

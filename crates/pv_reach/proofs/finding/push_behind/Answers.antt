@@ -1,4 +1,4 @@
-use Rattle.std.proofs.Common.{List, Option, Some, arith, false, get_or, subst, sym, true, ℕ, ◌+◌, ◌<◌, ◌∙◌, ◌≡◌}
+use Rattle.std.proofs.Common.{arith, false, get_or, subst, sym, true, ℕ, ◌+◌, ◌<◌, ◌∙◌, ◌≡◌}
 use Rattle.pv_reach.proofs.Leading.{behind_more}
 use Rattle.pv_reach.proofs.finding.push_behind.Goals.{in-Some+in_ok-push, in_default+then-is_marked, in_default+else-is_marked}
 use Rattle.pv_reach.proofs.finding.push_behind.Goals as goal

@@ -1,4 +1,4 @@
-use Rattle.std.proofs.Common.{Contains, ap, arith, suc, sym, ◌+◌, ◌≡◌, ℕ, subst}
+use Rattle.std.proofs.Common.{Contains, arith, suc, sym, ◌+◌, ◌≡◌, ℕ, subst}
 use Rattle.pv_reach.specs.Following.{Widens}
 use Rattle.pv_reach.proofs.Widening.{followers_wider, widens_more, widens_self}
 use Rattle.pv_reach.proofs.following.widen.Goals as goal

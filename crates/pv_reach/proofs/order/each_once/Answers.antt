@@ -1,4 +1,4 @@
-use Rattle.std.proofs.Common.{Contains, List, arith, ap, false, get_or, rules, subst, sym, take, ℕ, ◌∙◌, ◌≡◌}
+use Rattle.std.proofs.Common.{Contains, List, arith, ap, false, get_or, subst, sym, ℕ, ◌∙◌}
 use Rattle.std.proofs.lemmas.List.{take_all}
 use Rattle.pv_reach.proofs.Placing.{placed_before, placed_none, placed_now}
 use Rattle.pv_reach.proofs.order.each_once.Goals.{then-not-is_marked+in_ok-push, else-not-is_marked}

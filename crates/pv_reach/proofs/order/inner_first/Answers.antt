@@ -1,6 +1,5 @@
 use Rattle.std.proofs.Common.{Contains, List, ap, arith, subst, sym, ℕ, ◌∙◌}
 use Rattle.pv_dtd.specs.Plain.{declared}
-use Rattle.pv_productive.specs.PlainForms.{dtd_of}
 use Rattle.pv_reach.proofs.Listing.{if_ok_as}
 use Rattle.pv_reach.proofs.Naming.{one_more_name}
 use Rattle.pv_reach.proofs.order.inner_first.Goals as goal

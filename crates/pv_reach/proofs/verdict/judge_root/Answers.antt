@@ -1,5 +1,5 @@
-use Rattle.std.proofs.Common.{[], false, map, refl, sym, true, true≢false, ◌∙◌, ◌∷◌, ◌≡◌}
-use Rattle.pv_model.specs.Plain.{PlainToken, named}
+use Rattle.std.proofs.Common.{[], map, refl, sym, true≢false, ◌∙◌, ◌∷◌, ◌≡◌}
+use Rattle.pv_model.specs.Plain.{named}
 use Rattle.pv_model.specs.PlainForms.{plain_token}
 use Rattle.pv_dtd.proofs.Proper.{proper}
 use Rattle.pv_rules.specs.Sites.{name_site}

@@ -6,7 +6,7 @@ use Rattle.pv_tree.specs.PlainForms.{forest}
 use Rattle.pv_tree.specs.declared.nodes.Mark.{Mark}
 use Rattle.pv_productive.specs.PlainForms.{dtd_of}
 use Rattle.pv_missing.specs.WordVerdicts.{has_no_trees}
-use Rattle.pv_reach.proofs.Judging.{bare_kids, list_judged, unowned_list_judged}
+use Rattle.pv_reach.proofs.Judging.{bare_kids, list_judged}
 use Rattle.pv_reach.proofs.verdict.list_verdict.Goals as goal
 
 pub returns-clause-verdict : goal.returns-clause-verdict

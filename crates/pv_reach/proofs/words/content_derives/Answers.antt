@@ -1,5 +1,4 @@
-use Rattle.std.proofs.Common.{IsTrue, List, [], ap, arith, length, map, subst, suc, sym, ℕ, ◌+◌, ◌<◌, ◌∙◌, ◌∷◌, ◌↔◌, ◌≡◌}
-use Rattle.pv_model.specs.PlainForms.{plain_token}
+use Rattle.std.proofs.Common.{List, [], ap, arith, length, subst, sym, ℕ, ◌+◌, ◌<◌, ◌∙◌, ◌∷◌, ◌≡◌}
 use Rattle.pv_dtd.specs.Plain.{declared}
 use Rattle.pv_productive.specs.PlainForms.{dtd_of}
 use Rattle.pv_reach.specs.declared.rules.ColumnRule.{ColumnRule}

@@ -26,7 +26,7 @@ first_at c =
 
 pub returns-then-branch-clause-valid : goal.returns-then-branch-clause-valid
 returns-then-branch-clause-valid c =
-    (λ e. absurd cc, λ v. absurd (not_valid (plain_dtd c.args.dtd.now) c.args.root.now c.in_ok-new-2.field-0 (plain_doc c.args.doc.now) c.args.doc.now.legal (first_at c) v))
+    (λ e. absurd cc, λ v. absurd (not_valid (plain_dtd c.args.dtd.now) c.args.root.now c.in_ok-new-2.field-0 (plain_doc c.args.doc.now) c.args.doc.now.units (first_at c) v))
 
 pub returns-then-branch-clause-first : goal.returns-then-branch-clause-first
 returns-then-branch-clause-first c = first_at c
@@ -37,4 +37,4 @@ returns-clause-valid c =
     let is : IsRootElement c.args.root.now (plain c.args.doc.now.root) = c.is_root.ensures.0 c.if-not-is_root.false in
     let places = places_of_root _ _ c.new-places.ensures.items c.in_ok-push.ensures.items in
     let below : AllByRecursion (IsValidList g c.args.root.now) (lists_at (0 ∷ []) (plain c.args.doc.now.root)) = (rw (c.if-branch.false, places) at (c.in_ok-has_invalid.ensures c.args.root.now)).0 in
-    (λ e. all_valid g c.args.root.now (plain_doc c.args.doc.now) c.args.doc.now.legal is below, λ v. refl)
+    (λ e. all_valid g c.args.root.now (plain_doc c.args.doc.now) c.args.doc.now.units is below, λ v. refl)

@@ -2,4 +2,4 @@ use Rattle.pv_write.proofs.Spelled.{doc_text-spelled}
 use Rattle.pv_write.proofs.laws.spelled_is_written_law.Goals as goal
 
 pub returns : goal.returns
-returns c = λ bytes doc spelled. doc_text-spelled bytes doc spelled
+returns c = doc_text-spelled

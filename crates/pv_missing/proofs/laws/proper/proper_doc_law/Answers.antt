@@ -1,6 +1,5 @@
 use Rattle.pv_tree.specs.PlainDocs.{plain_doc}
-use Rattle.pv_tree.proofs.ValidLists.{legal_texts}
 use Rattle.pv_missing.proofs.laws.proper.proper_doc_law.Goals as goal
 
 pub returns : goal.returns
-returns c = let d = c.args._doc.now in record { rooted = d.rooted; units = legal_texts (plain_doc d).root d.legal }
+returns c = let d = c.args._doc.now in record { rooted = d.rooted; units = d.units }

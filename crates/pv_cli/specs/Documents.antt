@@ -1,0 +1,29 @@
+-- Reading the document of a command.
+use Rattle.std.specs.Prelude.{◌≡◌, ℕ, List, ◌++◌, codes, decimal}
+use Rattle.pv_tree.specs.Plain.{PlainDoc}
+use Rattle.pv_tree.specs.Marks.{blank_mark}
+use Rattle.pv_tree.specs.declared.nodes.Mark.{Mark}
+use Rattle.pv_read.specs.Grammar.{IsDocumentText}
+use Rattle.pv_read.specs.Kinds.{Kind, subset, syntax, entity, mismatch, doctype_name, deep}
+use Rattle.pv_read.specs.Meaning.{faulty, too_long, DocumentMeans}
+use Rattle.pv_cli.specs.declared.status.Status.TheVariants.{BadDocument, Limit}
+use Rattle.pv_cli.specs.Response.{PlainResponse, with_line}
+use Rattle.pv_cli.specs.Stage.{Stage}
+
+-- the response to a document whose first fault is of this kind, behind so many whole items
+abbrev pub document_refusal : Kind → ℕ → PlainResponse
+document_refusal subset k = with_line BadDocument (codes "document subset")
+document_refusal syntax k = with_line BadDocument (codes "document syntax " ++ decimal k)
+document_refusal entity k = with_line BadDocument (codes "document entity " ++ decimal k)
+document_refusal mismatch k = with_line BadDocument (codes "document mismatch " ++ decimal k)
+document_refusal doctype_name k = with_line BadDocument (codes "document doctype")
+document_refusal deep k = with_line Limit (codes "limit depth " ++ decimal k)
+
+-- the response to bytes that are no document with this root
+pub data RefusesDocument (root bytes : List ℕ) (r : PlainResponse) : Type 0 where
+  no_document : (kind : Kind) (k : ℕ) → DocumentMeans blank_mark root bytes (faulty kind k) → r ≡ document_refusal kind k → RefusesDocument root bytes r
+  too_many_bytes : DocumentMeans blank_mark root bytes too_long → r ≡ with_line Limit (codes "limit document-file") → RefusesDocument root bytes r
+
+-- reading a document
+abbrev pub document_stage : List ℕ → List ℕ → Stage (PlainDoc Mark)
+document_stage root bytes = record { Opens = IsDocumentText root bytes; Refuses = RefusesDocument root bytes; AsksShelf = ⊥ }

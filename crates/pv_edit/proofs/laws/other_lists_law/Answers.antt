@@ -1,0 +1,5 @@
+use Rattle.pv_edit.proofs.KeptLists.{keeps-lists}
+use Rattle.pv_edit.proofs.laws.other_lists_law.Goals as goal
+
+pub returns : goal.returns
+returns c = keeps-lists

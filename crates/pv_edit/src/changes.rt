@@ -1,0 +1,64 @@
+//! Documents changed: edits made and taken back.
+
+ghost use Rattle.std.specs.Prelude.{◌≡◌, ◌<◌, IfOk, IfErr, OnOk, OnErr};
+ghost use Rattle.pv_tree.specs.Plain.{PlainDoc, nodes_in};
+ghost use Rattle.pv_tree.specs.Legal.{MAX_NODES};
+ghost use Rattle.pv_tree.specs.PlainDocs.{plain_doc};
+ghost use Rattle.pv_tree.specs.Marks.{blank_mark, unmarked_doc};
+ghost use Rattle.pv_edit.specs.Changes.{doc_after, root_after};
+ghost use Rattle.pv_edit.specs.Fitting.{CanChange, plain_change};
+ghost use Rattle.pv_edit.specs.Inverses.{IsKept, LeadsBack, inverse_of, reverted};
+ghost use Rattle.pv_edit.specs.Reasons.{applied, gives};
+ghost use Rattle.pv_edit.specs.Refusals.{IsRefused};
+
+use crate::descent::change_root;
+use crate::edits::Edit;
+use crate::inverses::Inverse;
+use crate::plans::{Plan, Task, plan_of};
+use crate::reasons::EditError;
+use crate::shapes::first_reason;
+use crate::ways_back::task_back;
+use pv_chars::NoMemory;
+use pv_tree::Doc;
+use std::alloc::Global;
+
+/// Makes an edit on a document, and gives what undoes it. After an error the document is as it was.
+///
+/// New elements have blank marks, and all other marks stay.
+pub fn apply(alloc: Global, doc: &mut Doc, edit: &Edit) -> Result<Inverse, EditError>
+    requires { nodes_in (plain_doc doc.old).root < MAX_NODES }
+    ensures made { OnOk result (applied blank_mark (plain_doc doc.old) edit.now ≡ gives (plain_doc doc.new)) }
+    ensures inverse { IfOk result (λ inverse. inverse ≡ inverse_of (plain_doc doc.old).root edit.now) }
+    ensures leads_back { IfOk result (λ inverse. LeadsBack inverse (plain_doc doc.new) (unmarked_doc (plain_doc doc.old))) }
+    ensures refused { IfErr result (IsRefused (applied blank_mark (plain_doc doc.old) edit.now)) }
+    ensures unchanged { OnErr result (plain_doc doc.new ≡ plain_doc doc.old) }
+{
+    first_reason(alloc, doc, edit)?;
+    let Plan { task, inverse } = plan_of(alloc, doc, edit)?;
+    make(alloc, doc, task)?;
+    Ok(inverse)
+}
+
+/// Takes an edit back: makes the document that an inverse leads to. After an error the document is as it was.
+///
+/// A restored element has a blank mark, and all other marks stay.
+pub fn revert(alloc: Global, doc: &mut Doc, inverse: &Inverse) -> Result<(), NoMemory>
+    requires { (before : PlainDoc Unit) × LeadsBack inverse.now (plain_doc doc.old) before }
+    ensures made { OnOk result (plain_doc doc.new ≡ reverted blank_mark (plain_doc doc.old) inverse.now) }
+    ensures led { (before : PlainDoc Unit) → LeadsBack inverse.now (plain_doc doc.old) before → OnOk result (unmarked_doc (plain_doc doc.new) ≡ before) }
+    ensures unchanged { OnErr result (plain_doc doc.new ≡ plain_doc doc.old) }
+{
+    let task = task_back(alloc, doc, inverse)?;
+    make(alloc, doc, task)
+}
+
+// Makes a change that has been made ready, or leaves the document as it is.
+fn make(alloc: Global, doc: &mut Doc, task: Task) -> Result<(), NoMemory>
+    requires can { CanChange task.list (plain_change task.list task.change) (plain_doc doc.old).root }
+    requires kept { IsKept (root_after task.list (plain_change task.list task.change) (plain_doc doc.old).root) }
+    ensures ok { OnOk result (plain_doc doc.new ≡ doc_after (plain_change task.list task.change) (plain_doc doc.old)) }
+    ensures err { OnErr result (plain_doc doc.new ≡ plain_doc doc.old) }
+{
+    let Task { list, change } = task;
+    change_root(alloc, &mut doc.root, list.places(), change)
+}

@@ -1,0 +1,268 @@
+//! What an edit is going to do: its change and its inverse, made before the tree is touched.
+
+ghost use Rattle.std.specs.Prelude.{◌≡◌, ◌<◌, ◌≤◌, ◌+◌, ◌∷◌, ◌++◌, [], false, IfOk, IsTrue, length};
+ghost use Rattle.pv_tree.specs.Plain.{element, is_element, no_trees, short};
+ghost use Rattle.pv_tree.specs.Places.{at_node, kids_of, spot_at};
+ghost use Rattle.pv_tree.specs.PlainDocs.{plain_doc};
+ghost use Rattle.pv_tree.specs.PlainForms.{plain, plain_end};
+ghost use Rattle.pv_tree.specs.Marks.{blank_mark};
+ghost use Rattle.pv_edit.specs.Changes.{others};
+ghost use Rattle.pv_edit.specs.Effects.{fill, parent_of, place_of};
+ghost use Rattle.pv_edit.specs.Fitting.{plain_change, plain_filling};
+ghost use Rattle.pv_edit.specs.Inverses.{ends_short, is_short, put_back};
+ghost use Rattle.pv_edit.specs.Reasons.{lacks_element, reason_of};
+ghost use Rattle.pv_edit.specs.Plans.{IsPlan};
+ghost use Rattle.pv_edit.specs.declared.edits.Edit.TheVariants as edit;
+
+use crate::descent::Change;
+use crate::edits::{Edit, path_of};
+use crate::filling::{Filling, kid_count};
+use crate::inverses::Inverse;
+use crate::places::parent_of;
+use crate::text_plans::{add_text_plan, del_text_plan, join_plan, set_text_plan, split_plan};
+use pv_chars::{List, NoMemory, bytes_of};
+use pv_tree::{Doc, End, Found, Mark, Node, Path};
+use std::alloc::Global;
+
+/// A change of the list at a path.
+#[derive(Debug, Drop)]
+pub(crate) struct Task {
+    pub list: Path,
+    pub change: Change,
+}
+
+/// What an edit does, and what undoes it.
+#[derive(Debug, Drop)]
+pub(crate) struct Plan {
+    pub task: Task,
+    pub inverse: Inverse,
+}
+
+/// The plan of an edit that can be made.
+pub(crate) fn plan_of(alloc: Global, doc: &Doc, edit: &Edit) -> Result<Plan, NoMemory>
+    requires { reason_of blank_mark (plain_doc doc.now).root edit.now ≡ None }
+    ensures { IfOk result (IsPlan (plain_doc doc.now).root edit.now) }
+{
+    match edit {
+        Edit::Wrap {
+            path,
+            from,
+            to,
+            name,
+        } => wrap_plan(alloc, doc, path, *from, *to, name.as_slice()),
+        Edit::Insert { path, at, name } => insert_plan(alloc, doc, path, *at, name.as_slice()),
+        Edit::Unwrap { path } => unwrap_plan(alloc, doc, path),
+        Edit::Rename { path, name } => rename_plan(alloc, doc, path, name.as_slice()),
+        Edit::Split { path, at } => split_plan(alloc, doc, path, *at),
+        Edit::Join { path } => join_plan(alloc, doc, path),
+        Edit::SetText { path, text } => set_text_plan(alloc, doc, path, text.as_slice()),
+        Edit::AddText { path, at, text } => add_text_plan(alloc, doc, path, *at, text.as_slice()),
+        Edit::DelText { path } => del_text_plan(alloc, doc, path),
+    }
+}
+
+/// The change of the kids from one place up to another in the list at a path.
+pub(crate) fn list_task(list: Path, from: u32, to: u32, filling: Filling) -> Task
+    ensures { plain_change result.list result.change ≡ fill list from to (plain_filling filling) }
+{
+    let change = Change {
+        from: from as usize,
+        to: to as usize,
+        filling,
+        shorten: false,
+    };
+    Task { list, change }
+}
+
+/// The change of so many kids from the node at a path on.
+pub(crate) fn node_task(
+    alloc: Global,
+    path: &Path,
+    count: usize,
+    filling: Filling,
+) -> Result<Task, NoMemory>
+    requires { count ≤ 2 }
+    ensures { IfOk result (λ task. plain_change task.list task.change ≡ fill (parent_of path.now) (place_of path.now) (place_of path.now + count) (plain_filling filling)) }
+{
+    let from = last_place(path.places()) as usize;
+    let change = Change {
+        from,
+        to: from + count,
+        filling,
+        shorten: false,
+    };
+    Ok(Task {
+        list: parent_of(alloc, path)?,
+        change,
+    })
+}
+
+/// Which of its parent's kids the node at a path is.
+pub(crate) fn last_place(path: &[u32]) -> u32
+    ensures { result ≡ place_of path.now }
+{
+    match path {
+        [.., place] => *place,
+        [] => 0,
+    }
+}
+
+/// The path of a kid.
+pub(crate) fn kid_path(alloc: Global, path: &Path, place: u32) -> Result<Path, NoMemory>
+    ensures { IfOk result (λ p. p ≡ path.now ++ place ∷ []) }
+{
+    let mut places = path.places().to_vec(alloc)?;
+    places.push(place)?;
+    Path::new(alloc, &places)
+}
+
+/// Whether an element that ends by `/>` stands at a path.
+pub(crate) fn ends_short(doc: &Doc, path: &Path) -> bool
+    ensures { result ≡ ends_short (spot_at path.now (plain_doc doc.now).root) }
+{
+    match doc.node_at(path) {
+        Some(Found::Inner(Node::Elem { end, .. })) => is_short(end),
+        _ => false,
+    }
+}
+
+fn is_short(end: &End) -> bool
+    ensures { result ≡ is_short (plain_end end.now) }
+{
+    matches!(end, End::Short)
+}
+
+/// One node, to come in place of others.
+pub(crate) fn one_node(alloc: Global, node: Node) -> Result<Filling, NoMemory>
+    ensures { IfOk result (λ filling. plain_filling filling ≡ others (plain node ∷ [])) }
+{
+    let mut nodes = Vec::with_capacity(alloc, 1)?;
+    nodes.push_reserved(node);
+    Ok(Filling::Others(nodes))
+}
+
+fn wrap_plan(
+    alloc: Global,
+    doc: &Doc,
+    path: &Path,
+    from: u32,
+    to: u32,
+    name: &[u8],
+) -> Result<Plan, NoMemory>
+    ensures { IfOk result (IsPlan (plain_doc doc.now).root (edit.Wrap path.now from to name.now)) }
+{
+    let filling = Filling::Around {
+        name: bytes_of(alloc, name)?,
+        attrs: List::of(Vec::new(alloc)),
+        end: End::Tagged(List::of(Vec::new(alloc))),
+    };
+    let inverse = Inverse::TakeOut {
+        path: kid_path(alloc, path, from)?,
+        short: ends_short(doc, path),
+    };
+    let task = list_task(path_of(alloc, path)?, from, to, filling);
+    Ok(Plan { task, inverse })
+}
+
+fn insert_plan(
+    alloc: Global,
+    doc: &Doc,
+    path: &Path,
+    at: u32,
+    name: &[u8],
+) -> Result<Plan, NoMemory>
+    ensures { IfOk result (IsPlan (plain_doc doc.now).root (edit.Insert path.now at name.now)) }
+{
+    let filling = one_node(alloc, new_element(alloc, name)?)?;
+    let inverse = Inverse::TakeOut {
+        path: kid_path(alloc, path, at)?,
+        short: ends_short(doc, path),
+    };
+    let task = list_task(path_of(alloc, path)?, at, at, filling);
+    Ok(Plan { task, inverse })
+}
+
+// An element without attributes and kids.
+fn new_element(alloc: Global, name: &[u8]) -> Result<Node, NoMemory>
+    ensures { IfOk result (λ node. plain node ≡ element name.now [] short no_trees blank_mark) }
+{
+    Ok(Node::Elem {
+        name: bytes_of(alloc, name)?,
+        attrs: List::of(Vec::new(alloc)),
+        end: End::Short,
+        kids: Vec::new(alloc),
+        mark: Mark::BLANK,
+    })
+}
+
+fn unwrap_plan(alloc: Global, doc: &Doc, path: &Path) -> Result<Plan, NoMemory>
+    requires { lacks_element path.now (plain_doc doc.now).root ≡ false }
+    ensures { IfOk result (IsPlan (plain_doc doc.now).root (edit.Unwrap path.now)) }
+{
+    let task = node_task(alloc, path, 1, Filling::Inner)?;
+    let inverse = put_back(alloc, doc, path)?;
+    Ok(Plan { task, inverse })
+}
+
+// What puts the kids of the element at a path back into it.
+fn put_back(alloc: Global, doc: &Doc, path: &Path) -> Result<Inverse, NoMemory>
+    requires { lacks_element path.now (plain_doc doc.now).root ≡ false }
+    ensures { IfOk result (λ i. i ≡ put_back (parent_of path.now) (place_of path.now) (spot_at path.now (plain_doc doc.now).root)) }
+{
+    match doc.node_at(path) {
+        Some(Found::Inner(node)) => put_into(alloc, path, node),
+        _ => unreachable!(),
+    }
+}
+
+// What puts an element's kids back into it, where it stood at this path.
+fn put_into(alloc: Global, path: &Path, node: &Node) -> Result<Inverse, NoMemory>
+    requires elem { IsTrue (is_element (plain node.now)) }
+    requires fits { place_of path.now + length (kids_of (plain node.now)) < 4294967296 }
+    ensures { IfOk result (λ i. i ≡ put_back (parent_of path.now) (place_of path.now) (Some (at_node (plain node.now)))) }
+{
+    let from = last_place(path.places());
+    let to = from + kid_count(node) as u32;
+    match node {
+        Node::Elem {
+            name,
+            attrs,
+            end,
+            ..
+        } => Ok(Inverse::PutBack {
+            path: parent_of(alloc, path)?,
+            from,
+            to,
+            name: bytes_of(alloc, name.as_slice())?,
+            attrs: bytes_of(alloc, attrs.as_slice())?,
+            end: equal_end(alloc, end)?,
+        }),
+        _ => unreachable!(),
+    }
+}
+
+/// An equal end.
+pub(crate) fn equal_end(alloc: Global, end: &End) -> Result<End, NoMemory>
+    ensures { IfOk result (λ e. e ≡ end.now) }
+{
+    match end {
+        End::Short => Ok(End::Short),
+        End::Tagged(gap) => Ok(End::Tagged(bytes_of(alloc, gap.as_slice())?)),
+    }
+}
+
+fn rename_plan(alloc: Global, doc: &Doc, path: &Path, name: &[u8]) -> Result<Plan, NoMemory>
+    requires { lacks_element path.now (plain_doc doc.now).root ≡ false }
+    ensures { IfOk result (IsPlan (plain_doc doc.now).root (edit.Rename path.now name.now)) }
+{
+    let Some(Found::Inner(Node::Elem { name: old, .. })) = doc.node_at(path) else {
+        unreachable!()
+    };
+    let inverse = Inverse::Name {
+        path: path_of(alloc, path)?,
+        name: bytes_of(alloc, old.as_slice())?,
+    };
+    let filling = Filling::Named(bytes_of(alloc, name)?);
+    let task = node_task(alloc, path, 1, filling)?;
+    Ok(Plan { task, inverse })
+}

@@ -1,0 +1,92 @@
+//! What an inverse is going to do: its change, made before the tree is touched.
+
+ghost use Rattle.std.specs.Prelude.{◌≡◌, IfOk};
+ghost use Rattle.pv_tree.specs.PlainDocs.{plain_doc};
+ghost use Rattle.pv_tree.specs.PlainForms.{plain_end};
+ghost use Rattle.pv_tree.specs.Marks.{blank_mark};
+ghost use Rattle.pv_edit.specs.Changes.{around, others};
+ghost use Rattle.pv_edit.specs.Effects.{fill, fill_node, one_text, parent_of, place_of};
+ghost use Rattle.pv_edit.specs.Fitting.{plain_change, plain_filling};
+ghost use Rattle.pv_edit.specs.Plans.{IsReady, IsTask};
+
+use crate::descent::Change;
+use crate::edits::path_of;
+use crate::filling::Filling;
+use crate::inverses::Inverse;
+use crate::places::parent_of;
+use crate::plans::{Task, equal_end, last_place, list_task, node_task, one_node};
+use crate::text_plans::{cut_task, join_task};
+use pv_chars::{Bytes, NoMemory, Units, bytes_of};
+use pv_tree::{Doc, End, Node, Path};
+use std::alloc::Global;
+
+/// The change of an inverse.
+pub(crate) fn task_back(alloc: Global, doc: &Doc, inverse: &Inverse) -> Result<Task, NoMemory>
+    requires { IsReady (plain_doc doc.now).root inverse.now }
+    ensures { IfOk result (IsTask (plain_doc doc.now).root inverse.now) }
+{
+    match inverse {
+        Inverse::TakeOut { path, short } => replaced(alloc, path, Filling::Inner, *short),
+        Inverse::PutBack {
+            path,
+            from,
+            to,
+            name,
+            attrs,
+            end,
+        } => {
+            let filling = element(alloc, name, attrs, end)?;
+            Ok(list_task(path_of(alloc, path)?, *from, *to, filling))
+        }
+        Inverse::Name { path, name } => {
+            let filling = Filling::Named(bytes_of(alloc, name.as_slice())?);
+            node_task(alloc, path, 1, filling)
+        }
+        Inverse::Merge { path } => join_task(alloc, doc, path),
+        Inverse::Divide { path, at } => cut_task(alloc, doc, path, *at as usize),
+        Inverse::Text { path, text } => node_task(alloc, path, 1, text_again(alloc, text)?),
+        Inverse::Discard { path, short } => {
+            replaced(alloc, path, Filling::Others(Vec::new(alloc)), *short)
+        }
+        Inverse::Restore { path, text } => restored(alloc, path, text),
+    }
+}
+
+// Something in place of a node, whose parent may end by `/>` again.
+fn replaced(alloc: Global, path: &Path, filling: Filling, short: bool) -> Result<Task, NoMemory>
+    ensures { IfOk result (λ task. plain_change task.list task.change ≡ record (fill_node path.now (plain_filling filling)) { shorten = short }) }
+{
+    let Task { list, change } = node_task(alloc, path, 1, filling)?;
+    let change = Change {
+        shorten: short,
+        ..change
+    };
+    Ok(Task { list, change })
+}
+
+// An element that comes back around kids.
+fn element(alloc: Global, name: &Bytes, attrs: &Bytes, end: &End) -> Result<Filling, NoMemory>
+    ensures { IfOk result (λ filling. plain_filling filling ≡ around name.now attrs.now (plain_end end.now) blank_mark) }
+{
+    Ok(Filling::Around {
+        name: bytes_of(alloc, name.as_slice())?,
+        attrs: bytes_of(alloc, attrs.as_slice())?,
+        end: equal_end(alloc, end)?,
+    })
+}
+
+// A text that comes back.
+fn text_again(alloc: Global, text: &Units) -> Result<Filling, NoMemory>
+    ensures { IfOk result (λ filling. plain_filling filling ≡ others (one_text text.now)) }
+{
+    one_node(alloc, Node::Text(text.copy(alloc)?))
+}
+
+// A text that comes back before the kid at its place.
+fn restored(alloc: Global, path: &Path, text: &Units) -> Result<Task, NoMemory>
+    ensures { IfOk result (λ task. plain_change task.list task.change ≡ fill (parent_of path.now) (place_of path.now) (place_of path.now) (others (one_text text.now))) }
+{
+    let place = last_place(path.places());
+    let filling = text_again(alloc, text)?;
+    Ok(list_task(parent_of(alloc, path)?, place, place, filling))
+}

@@ -1,0 +1,248 @@
+-- What the bytes of the items so far say of what these items leave.
+use Rattle.std.proofs.Common.{◌≡◌, ◌≤◌, ◌+◌, ℕ, suc, List, [], ◌∷◌, ◌++◌, Bool, true, false, not, inl, inr, IsTrue, length, append-nil, append_assoc, refl, sym, ap, ◌∙◌, arith}
+use Rattle.std.specs.List.{AllByRecursion}
+use Rattle.pv_chars.specs.Names.{IsName}
+use Rattle.pv_chars.specs.Declarations.{IsOptional, IsXmlDecl}
+use Rattle.pv_chars.specs.Texts.{joined}
+use Rattle.pv_chars.proofs.MeansLemmas.{joined-append}
+use Rattle.pv_dtd.specs.Meaning.{BYTE_ORDER_MARK}
+use Rattle.pv_tree.specs.Plain.{tagged, Tree, element, text_node, cdata_node, misc_node, Forest, no_trees, tree, forest_of, depth_of, depth_of_all, remarked, remarked_all}
+use Rattle.pv_tree.specs.Attributes.{AreMadeOf, IsAttributes, IsKnownReference}
+use Rattle.pv_tree.specs.Prolog.{IsMisc, IsDoctype, IsProlog, IsEpilog}
+use Rattle.pv_tree.specs.Legal.{MAX_DEPTH}
+use Rattle.pv_read.proofs.Pieces.{nothing}
+use Rattle.pv_read.specs.Grammar.{SpellsNode, SpellsContent, IsElement, IsWholeRun, begins_with_text}
+use Rattle.pv_read.specs.Items.{start_tag, bytes_of, IsRunEnd}
+use Rattle.pv_read.specs.Left.{Open, Stage, at_front, before_doctype, behind_doctype, behind_misc, takes_doctype, Left, in_prolog, in_content, in_epilog}
+
+-- ---- the prolog
+-- The byte order mark, XMLDecl and Misc*, each of which may be left out: what may stand before a document type declaration.
+pub record IsBeforeDoctype (bytes : List ℕ) : Type 0 where
+  pub mark : List ℕ
+  pub declaration : List ℕ
+  pub misc : List ℕ
+  pub is_mark : IsOptional (λ b. b ≡ BYTE_ORDER_MARK) mark
+  pub is_declaration : IsOptional IsXmlDecl declaration
+  pub is_misc : AreMadeOf IsMisc misc
+  pub whole : bytes ≡ mark ++ (declaration ++ misc)
+
+abbrev pub IsPrologAt : List ℕ → Stage → List ℕ → Type 0
+IsPrologAt root at_front bytes = IsOptional (λ b. b ≡ BYTE_ORDER_MARK) bytes
+IsPrologAt root before_doctype bytes = IsBeforeDoctype bytes
+IsPrologAt root behind_doctype bytes = IsProlog root bytes
+
+-- what all of two lists are, all of both are
+pub all_join : {A : Type 0} (P : A → Type 0) (xs ys : List A) → AllByRecursion P xs → AllByRecursion P ys → AllByRecursion P (xs ++ ys)
+all_join P [] ys all others = others
+all_join P (x ∷ xs) ys all others = (all.0, all_join P xs ys all.1 others)
+
+pub made_of_both : (P : List ℕ → Type 0) (bytes more : List ℕ) → AreMadeOf P bytes → AreMadeOf P more → AreMadeOf P (bytes ++ more)
+made_of_both P bytes more made others = record {
+  pieces = made.pieces ++ others.pieces;
+  are_pieces = all_join P made.pieces others.pieces made.are_pieces others.are_pieces;
+  whole = ap (λ front. front ++ more) made.whole ∙ ap (λ rest. joined made.pieces ++ rest) others.whole ∙ sym (joined-append made.pieces others.pieces);
+}
+
+pub made_of_more : (P : List ℕ → Type 0) (bytes piece : List ℕ) → AreMadeOf P bytes → P piece → AreMadeOf P (bytes ++ piece)
+made_of_more P bytes piece made is = made_of_both P bytes piece made (record { pieces = piece ∷ []; are_pieces = (is, tt); whole = sym (append-nil piece) })
+
+mark_alone : (bytes : List ℕ) → IsOptional (λ b. b ≡ BYTE_ORDER_MARK) bytes → IsBeforeDoctype bytes
+mark_alone bytes is = record { mark = bytes; declaration = []; misc = []; is_mark = is; is_declaration = inl refl; is_misc = nothing IsMisc; whole = sym (append-nil bytes) }
+
+no_doctype : (root bytes : List ℕ) → IsBeforeDoctype bytes → IsProlog root bytes
+no_doctype root bytes b = record {
+  mark = b.mark;
+  declaration = b.declaration;
+  misc = b.misc;
+  doctype = [];
+  more_misc = [];
+  is_mark = b.is_mark;
+  is_declaration = b.is_declaration;
+  is_misc = b.is_misc;
+  is_doctype = inl refl;
+  is_more_misc = nothing IsMisc;
+  whole = b.whole ∙ ap (λ misc. b.mark ++ (b.declaration ++ misc)) (sym (append-nil b.misc));
+}
+
+pub prolog_at : (root : List ℕ) (stage : Stage) (bytes : List ℕ) → IsPrologAt root stage bytes → IsProlog root bytes
+prolog_at root at_front bytes is = no_doctype root bytes (mark_alone bytes is)
+prolog_at root before_doctype bytes is = no_doctype root bytes is
+prolog_at root behind_doctype bytes is = is
+
+misc_before : (bytes misc : List ℕ) → IsBeforeDoctype bytes → IsMisc misc → IsBeforeDoctype (bytes ++ misc)
+misc_before bytes misc b is = record {
+  mark = b.mark;
+  declaration = b.declaration;
+  misc = b.misc ++ misc;
+  is_mark = b.is_mark;
+  is_declaration = b.is_declaration;
+  is_misc = made_of_more IsMisc b.misc misc b.is_misc is;
+  whole = ap (λ front. front ++ misc) b.whole ∙ simp append_assoc;
+}
+
+misc_behind : (root bytes misc : List ℕ) → IsProlog root bytes → IsMisc misc → IsProlog root (bytes ++ misc)
+misc_behind root bytes misc p is = record {
+  mark = p.mark;
+  declaration = p.declaration;
+  misc = p.misc;
+  doctype = p.doctype;
+  more_misc = p.more_misc ++ misc;
+  is_mark = p.is_mark;
+  is_declaration = p.is_declaration;
+  is_misc = p.is_misc;
+  is_doctype = p.is_doctype;
+  is_more_misc = made_of_more IsMisc p.more_misc misc p.is_more_misc is;
+  whole = ap (λ front. front ++ misc) p.whole ∙ simp append_assoc;
+}
+
+pub with_misc : (root : List ℕ) (stage : Stage) (bytes misc : List ℕ) → IsPrologAt root stage bytes → IsMisc misc → IsPrologAt root (behind_misc stage) (bytes ++ misc)
+with_misc root at_front bytes misc p is = misc_before bytes misc (mark_alone bytes p) is
+with_misc root before_doctype bytes misc p is = misc_before bytes misc p is
+with_misc root behind_doctype bytes misc p is = misc_behind root bytes misc p is
+
+pub with_declaration : (bytes declaration : List ℕ) → IsOptional (λ b. b ≡ BYTE_ORDER_MARK) bytes → IsXmlDecl declaration → IsBeforeDoctype (bytes ++ declaration)
+with_declaration bytes declaration p is = record {
+  mark = bytes;
+  declaration = declaration;
+  misc = [];
+  is_mark = p;
+  is_declaration = inr is;
+  is_misc = nothing IsMisc;
+  whole = ap (λ rest. bytes ++ rest) (sym (append-nil declaration));
+}
+
+doctype_behind : (root bytes doctype : List ℕ) → IsBeforeDoctype bytes → IsDoctype root doctype → IsProlog root (bytes ++ doctype)
+doctype_behind root bytes doctype b is = record {
+  mark = b.mark;
+  declaration = b.declaration;
+  misc = b.misc;
+  doctype = doctype;
+  more_misc = [];
+  is_mark = b.is_mark;
+  is_declaration = b.is_declaration;
+  is_misc = b.is_misc;
+  is_doctype = inr is;
+  is_more_misc = nothing IsMisc;
+  whole = ap (λ front. front ++ doctype) b.whole ∙ simp (append_assoc, append-nil);
+}
+
+pub with_doctype : (root : List ℕ) (stage : Stage) (bytes doctype : List ℕ) → takes_doctype stage ≡ true → IsPrologAt root stage bytes → IsDoctype root doctype → IsProlog root (bytes ++ doctype)
+with_doctype root at_front bytes doctype may p is = doctype_behind root bytes doctype (mark_alone bytes p) is
+with_doctype root before_doctype bytes doctype may p is = doctype_behind root bytes doctype p is
+with_doctype root behind_doctype bytes doctype may p is = cc
+
+-- ---- the kids so far of an open element
+abbrev pub is_text : {M : Type 0} → Tree M → Bool
+is_text t = begins_with_text (tree t no_trees)
+
+abbrev pub ends_in_text : {M : Type 0} → List (Tree M) → Bool
+ends_in_text [] = false
+ends_in_text (t ∷ []) = is_text t
+ends_in_text (t ∷ u ∷ ts) = ends_in_text (u ∷ ts)
+
+-- The element is not deeper than may be where so many are open, and has the mark throughout.
+pub record IsProperKid {M : Type 0} (m : M) (level : ℕ) (t : Tree M) : Type 0 where
+  pub shallow : level + depth_of t ≤ MAX_DEPTH
+  pub marks : remarked (λ _. m) t ≡ t
+
+-- The bytes spell these kids, which are proper ones.
+pub record SpellsKids {M : Type 0} (m : M) (level : ℕ) (kids : List (Tree M)) (bytes : List ℕ) : Type 0 where
+  pub spells : SpellsContent (forest_of kids) bytes
+  pub proper : AllByRecursion (IsProperKid m level) kids
+
+-- a text follows no text
+whole_before : {M : Type 0} (k t : Tree M) → (is_text t ≡ true → is_text k ≡ false) → IsWholeRun k (tree t no_trees)
+whole_before (element x attrs ending kids mark) t follows = tt
+whole_before (text_node units) t follows = by (is_text t) refl
+  where
+    by : (b : Bool) → is_text t ≡ b → IsTrue (not (is_text t))
+    by true e = let no : true ≡ false = follows e in cc
+    by false e = rw e refl
+whole_before (cdata_node section) t follows = tt
+whole_before (misc_node misc) t follows = tt
+
+same_run : {M : Type 0} (k t : Tree M) (rest more : Forest M) → IsWholeRun k (tree t rest) → IsWholeRun k (tree t more)
+same_run (element x attrs ending kids mark) t rest more whole_run = tt
+same_run (text_node units) (element x attrs ending kids mark) rest more whole_run = refl
+same_run (text_node units) (text_node others) rest more whole_run = whole_run
+same_run (text_node units) (cdata_node section) rest more whole_run = refl
+same_run (text_node units) (misc_node misc) rest more whole_run = refl
+same_run (cdata_node section) t rest more whole_run = tt
+same_run (misc_node misc) t rest more whole_run = tt
+
+spells_put : {M : Type 0} (kids : List (Tree M)) (t : Tree M) (bytes first : List ℕ) → SpellsContent (forest_of kids) bytes → SpellsNode t first → (is_text t ≡ true → ends_in_text kids ≡ false)
+    → SpellsContent (forest_of (kids ++ t ∷ [])) (bytes ++ first)
+spells_put [] t bytes first spells node follows = (first, [], node, whole_alone t, refl, ap (λ front. front ++ first) spells ∙ sym (append-nil first))
+  where
+    whole_alone : {M : Type 0} (t : Tree M) → IsWholeRun t no_trees
+    whole_alone (element x attrs ending kids mark) = tt
+    whole_alone (text_node units) = refl
+    whole_alone (cdata_node section) = tt
+    whole_alone (misc_node misc) = tt
+spells_put (k ∷ []) t bytes first (front, others, spells, whole_run, below, whole) node follows =
+    (front, others ++ first, spells, whole_before k t follows, spells_put [] t others first below node (λ is. refl), ap (λ b. b ++ first) whole ∙ append_assoc front others first)
+spells_put (k ∷ l ∷ kids) t bytes first (front, others, spells, whole_run, below, whole) node follows =
+    (front, others ++ first, spells, same_run k l (forest_of kids) (forest_of (kids ++ t ∷ [])) whole_run, spells_put (l ∷ kids) t others first below node follows, ap (λ b. b ++ first) whole ∙ append_assoc front others first)
+
+pub no_kids : {M : Type 0} (m : M) (level : ℕ) → SpellsKids {M = M} m level [] []
+no_kids m level = record { spells = refl; proper = tt }
+
+-- one more kid
+pub kid_put : {M : Type 0} {m : M} {level : ℕ} {kids : List (Tree M)} {bytes : List ℕ} (t : Tree M) (first : List ℕ) → SpellsKids m level kids bytes → SpellsNode t first → IsProperKid m level t
+    → (is_text t ≡ true → ends_in_text kids ≡ false) → SpellsKids m level (kids ++ t ∷ []) (bytes ++ first)
+kid_put {m = m} {level = level} {kids = kids} {bytes = bytes} t first s node proper follows =
+    record { spells = spells_put kids t bytes first s.spells node follows; proper = all_join (IsProperKid m level) kids (t ∷ []) s.proper (proper, tt) }
+
+pub ends_in-put : {M : Type 0} (kids : List (Tree M)) (t : Tree M) → ends_in_text (kids ++ t ∷ []) ≡ is_text t
+ends_in-put [] t = refl
+ends_in-put (k ∷ []) t = refl
+ends_in-put (k ∷ l ∷ kids) t = ends_in-put (l ∷ kids) t
+
+-- what the kids of an element keep, the element keeps
+kids_shallow : {M : Type 0} (m : M) (level : ℕ) (kids : List (Tree M)) → level ≤ MAX_DEPTH → AllByRecursion (IsProperKid m level) kids → level + depth_of_all (forest_of kids) ≤ MAX_DEPTH
+kids_shallow m level [] within all = omega arith
+kids_shallow m level (k ∷ kids) within all =
+    let here = all.0.shallow in
+    let below = kids_shallow m level kids within all.1 in
+    omega arith
+
+kids_marked : {M : Type 0} (m : M) (level : ℕ) (kids : List (Tree M)) → AllByRecursion (IsProperKid m level) kids → remarked_all (λ _. m) (forest_of kids) ≡ forest_of kids
+kids_marked m level [] all = refl
+kids_marked m level (k ∷ kids) all = let here = all.0.marks in let below = kids_marked m level kids all.1 in cc
+
+pub closed_proper : {M : Type 0} (m : M) (level : ℕ) (kids : List (Tree M)) (name attrs gap : List ℕ) → suc level ≤ MAX_DEPTH → AllByRecursion (IsProperKid m (suc level)) kids
+    → IsProperKid m level (element name attrs (tagged gap) (forest_of kids) m)
+closed_proper m level kids name attrs gap within all =
+    let deep = kids_shallow m (suc level) kids within all in
+    record { shallow = omega arith; marks = ap (λ k. element name attrs (tagged gap) k m) (kids_marked m (suc level) kids all) }
+
+-- ---- the open elements, innermost first
+abbrev pub SpellsOpen : {M : Type 0} → M → List (Open M) → List ℕ → Type 0
+SpellsOpen m [] bytes = bytes ≡ []
+SpellsOpen m (o ∷ outer) bytes =
+    (around : List ℕ) × (content : List ℕ) × SpellsOpen m outer around × IsName o.name × IsAttributes IsKnownReference o.attrs ×
+    (suc (length outer) ≤ MAX_DEPTH) × SpellsKids m (suc (length outer)) o.kids content ×
+    (bytes ≡ around ++ (bytes_of (start_tag o.name o.attrs) ++ content))
+
+-- ---- all that is left
+pub record InContent {M : Type 0} (m : M) (root done before : List ℕ) (inner : Open M) (outer : List (Open M)) (rest : List ℕ) : Type 0 where
+  pub opens : List ℕ
+  pub is_prolog : IsProlog root before
+  pub spells : SpellsOpen m (inner ∷ outer) opens
+  pub whole : done ≡ before ++ opens
+  pub run : ends_in_text inner.kids ≡ true → IsRunEnd rest
+
+pub record InEpilog {M : Type 0} (m : M) (root done before : List ℕ) (t : Tree M) (after : List ℕ) : Type 0 where
+  pub element : List ℕ
+  pub is_prolog : IsProlog root before
+  pub is_element : IsElement t
+  pub is_root : SpellsNode t element
+  pub proper : IsProperKid m 0 t
+  pub is_epilog : IsEpilog after
+  pub whole : done ≡ before ++ (element ++ after)
+
+-- these bytes say this of what is left, before the rest
+abbrev pub Says : {M : Type 0} → M → (root done : List ℕ) → Left M → (rest : List ℕ) → Type 0
+Says m root done (in_prolog stage before) rest = IsPrologAt root stage before × (done ≡ before)
+Says m root done (in_content before inner outer) rest = InContent m root done before inner outer rest
+Says m root done (in_epilog before t after) rest = InEpilog m root done before t after

@@ -1,0 +1,104 @@
+-- The kinds of faults of a document text, in the order in which they are tested.
+use Rattle.std.specs.Prelude.{◌≡◌, ◌≤◌, ◌<◌, ℕ, Bool, true, false, List, ◌++◌, codes, Some, None, IsTrue}
+use Rattle.pv_tree.specs.Legal.{MAX_DEPTH}
+use Rattle.pv_tree.specs.Prolog.{IsDoctypeFront}
+use Rattle.pv_read.specs.Items.{Item, xml_declaration, doctype, comment_or_instruction, cdata_section, start_tag, empty_tag, end_tag, text_run, HasKnownReferences, BeginsItem}
+use Rattle.pv_read.specs.Left.{Left, in_prolog, in_content, in_epilog, takes_doctype, left_by, open_elements, IsWholeAt}
+
+pub data Kind : Type 0 where
+  subset : Kind
+  syntax : Kind
+  entity : Kind
+  mismatch : Kind
+  doctype_name : Kind
+  deep : Kind
+
+-- The front of a document type declaration, and `[`.
+pub record BeginsSubset (bytes : List ℕ) : Type 0 where
+  pub name : List ℕ
+  pub front : List ℕ
+  pub more : List ℕ
+  pub is_front : IsDoctypeFront name front
+  pub whole : bytes ≡ front ++ (codes "[" ++ more)
+
+-- a document type declaration may stand here
+abbrev pub may_stand_doctype : {M : Type 0} → Left M → Bool
+may_stand_doctype (in_prolog stage before) = takes_doctype stage
+may_stand_doctype (in_content before inner outer) = false
+may_stand_doctype (in_epilog before root after) = false
+
+-- An item of this property stands at the front, and it may stand here.
+pub record Stands {M : Type 0} (m : M) (left : Left M) (rest : List ℕ) (P : Item → Type 0) : Type 0 where
+  pub item : Item
+  pub more : List ℕ
+  pub next : Left M
+  pub begins : BeginsItem item rest more
+  pub may_stand : left_by m left item ≡ Some next
+  pub has_property : P item
+
+-- the innermost open element doesn't have this name
+abbrev pub IsOtherName : {M : Type 0} → Left M → List ℕ → Type 0
+IsOtherName (in_prolog stage before) name = ⊥
+IsOtherName (in_content before inner outer) name = name ≡ inner.name → ⊥
+IsOtherName (in_epilog before root after) name = ⊥
+
+-- an end tag of another name than that of the innermost open element
+abbrev pub IsMismatch : {M : Type 0} → Left M → Item → Type 0
+IsMismatch left (xml_declaration bytes) = ⊥
+IsMismatch left (doctype name bytes) = ⊥
+IsMismatch left (comment_or_instruction bytes) = ⊥
+IsMismatch left (cdata_section bytes) = ⊥
+IsMismatch left (start_tag name attrs) = ⊥
+IsMismatch left (empty_tag name attrs) = ⊥
+IsMismatch left (end_tag name gap) = IsOtherName left name
+IsMismatch left (text_run bytes) = ⊥
+
+-- a document type declaration of another name than the root's
+abbrev pub IsOtherDoctype : List ℕ → Item → Type 0
+IsOtherDoctype root (xml_declaration bytes) = ⊥
+IsOtherDoctype root (doctype name bytes) = name ≡ root → ⊥
+IsOtherDoctype root (comment_or_instruction bytes) = ⊥
+IsOtherDoctype root (cdata_section bytes) = ⊥
+IsOtherDoctype root (start_tag name attrs) = ⊥
+IsOtherDoctype root (empty_tag name attrs) = ⊥
+IsOtherDoctype root (end_tag name gap) = ⊥
+IsOtherDoctype root (text_run bytes) = ⊥
+
+-- it opens an element
+abbrev pub opens : Item → Bool
+opens (xml_declaration bytes) = false
+opens (doctype name bytes) = false
+opens (comment_or_instruction bytes) = false
+opens (cdata_section bytes) = false
+opens (start_tag name attrs) = true
+opens (empty_tag name attrs) = true
+opens (end_tag name gap) = false
+opens (text_run bytes) = false
+
+-- it opens an element, and as many are open as may be
+abbrev pub IsTooDeep : {M : Type 0} → Left M → Item → Type 0
+IsTooDeep left i = IsTrue (opens i) × (MAX_DEPTH ≤ open_elements left)
+
+-- a fault of this kind stands at the front of the rest
+abbrev pub HasFault : {M : Type 0} → M → List ℕ → Left M → List ℕ → Kind → Type 0
+HasFault m root left rest subset = IsTrue (may_stand_doctype left) × BeginsSubset rest
+HasFault m root left rest syntax =
+    (IsWholeAt left rest → ⊥) × ((i : Item) (more : List ℕ) → BeginsItem i rest more → left_by m left i ≡ None)
+HasFault m root left rest entity = Stands m left rest (λ i. HasKnownReferences i → ⊥)
+HasFault m root left rest mismatch = Stands m left rest (IsMismatch left)
+HasFault m root left rest doctype_name = Stands m left rest (IsOtherDoctype root)
+HasFault m root left rest deep = Stands m left rest (IsTooDeep left)
+
+-- the order of the kinds
+abbrev pub rank : Kind → ℕ
+rank subset = 0
+rank syntax = 1
+rank entity = 2
+rank mismatch = 3
+rank doctype_name = 4
+rank deep = 5
+
+-- the first kind of fault that stands at the front
+pub record IsFirstFault {M : Type 0} (m : M) (root : List ℕ) (left : Left M) (rest : List ℕ) (kind : Kind) : Type 0 where
+  pub holds : HasFault m root left rest kind
+  pub first : (earlier : Kind) → rank earlier < rank kind → HasFault m root left rest earlier → ⊥
