@@ -14,7 +14,7 @@ ghost use Rattle.pv_missing.specs.PlainForms.{plain_of};
 ghost use Rattle.pv_missing.specs.Verdicts.{IsVerdict};
 ghost use Rattle.pv_missing.specs.Widths.{FitsVerdict, IsListForVerdict};
 ghost use Rattle.pv_missing.specs.WordVerdicts.{HoldsOne};
-ghost use Rattle.pv_reach.specs.Possible.{IsOwner};
+ghost use Rattle.pv_reach.specs.Owners.{IsOwner};
 ghost use Rattle.pv_fresh.specs.Walks.{GoesOver, first_after, verdicts_of};
 
 use crate::owners::element_owner;

@@ -16,11 +16,9 @@ ghost use Rattle.pv_missing.specs.Widths.{FitsVerdict, IsFirstTooWide, IsListFor
 
 use pv_chars::NoMemory;
 use pv_dtd::Dtd;
+use pv_missing::is_narrow;
 use pv_tree::{Doc, Node, Path};
 use std::alloc::Global;
-
-/// One more than the tokens of a list, times the parts and names of the DTD, is at most so many.
-const MOST_CELLS: u64 = 67_108_864;
 
 /// The path of the first list that is too wide for a verdict.
 pub fn first_too_wide(alloc: Global, dtd: &Dtd, doc: &Doc) -> Result<Option<Path>, NoMemory>
@@ -28,7 +26,7 @@ pub fn first_too_wide(alloc: Global, dtd: &Dtd, doc: &Doc) -> Result<Option<Path
         (AllByRecursion (IsListForVerdict (plain_dtd dtd.now)) (lists_of (plain_doc doc.now)))
         (IsFirstTooWide (plain_dtd dtd.now) (lists_of (plain_doc doc.now)))) }
 {
-    if !is_narrow(dtd, std::slice::from_ref(&doc.root)) {
+    if !is_list_narrow(dtd, std::slice::from_ref(&doc.root)) {
         return Ok(Some(Path::new(alloc, &[])?));
     }
     let mut places = Vec::new(alloc);
@@ -50,7 +48,7 @@ fn has_too_wide(dtd: &Dtd, node: &Node, places: &mut Vec<u32>) -> Result<bool, N
     let Node::Elem { kids, .. } = node else {
         return Ok(false);
     };
-    if !is_narrow(dtd, kids) {
+    if !is_list_narrow(dtd, kids) {
         return Ok(true);
     }
     has_too_wide_kid(dtd, kids, places)
@@ -74,12 +72,12 @@ fn has_too_wide_kid(dtd: &Dtd, kids: &[Node], places: &mut Vec<u32>) -> Result<b
 }
 
 // Whether the list of these kids isn't too wide.
-fn is_narrow(dtd: &Dtd, kids: &[Node]) -> bool
+fn is_list_narrow(dtd: &Dtd, kids: &[Node]) -> bool
     requires { length kids.now ≤ MAX_NODES }
     ensures { IsTrue result ↔ FitsVerdict (plain_dtd dtd.now)
         (length (word_of (plain_dtd dtd.now) (forest kids.now))) }
 {
-    (tokens_in(kids) + 1) * u64::from(dtd.columns()) <= MOST_CELLS
+    is_narrow(dtd, tokens_in(kids))
 }
 
 // The number of tokens of the word of these kids.

@@ -1,5 +1,5 @@
 -- A live word, token by token.
-use Rattle.std.proofs.Common.{List, [], append-nil, append_assoc, ap, arith, drop, get_or, length, map, ◌+◌, ◌++◌, ◌<◌, ◌≤◌, ◌∙◌, ◌∷◌, ◌≡◌, ℕ, refl, sym, subst}
+use Rattle.std.proofs.Common.{List, [], append-nil, append_assoc, ap, drop, get_or, length, map, ◌+◌, ◌++◌, ◌<◌, ◌≤◌, ◌∙◌, ◌∷◌, ◌≡◌, ℕ}
 use Rattle.std.proofs.lemmas.List.{drop_all, drop_more, map-append}
 use Rattle.std.specs.List.{AllByRecursion}
 use Rattle.pv_model.specs.Plain.{PlainToken}

@@ -1,5 +1,5 @@
 -- The DTD has the names in a word.
-use Rattle.std.proofs.Common.{Bool, List, None, Option, Some, false, if◌then◌else◌, length, refl, true, ℕ, ◌<◌, ◌∷◌, ◌≡◌}
+use Rattle.std.proofs.Common.{Bool, List, None, Option, Some, false, if◌then◌else◌, refl, true, ℕ, ◌∷◌, ◌≡◌}
 use Rattle.std.specs.List.{AllByRecursion}
 use Rattle.std.proofs.lemmas.Option.{slice_get_within}
 use Rattle.pv_chars.specs.Texts.{has_data}

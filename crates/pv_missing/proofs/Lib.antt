@@ -36,6 +36,7 @@ pub mod TreeLists
 pub mod TreeWords
 pub mod ValidLists
 pub mod Verdict
+pub mod NoneImpossible
 pub mod NonePossible
 pub mod VerdictHeads
 pub mod VerdictLists

@@ -2,10 +2,8 @@
 use Rattle.std.proofs.Common.{List, [], ap, arith, cond, refl, sym, ℕ, ◌+◌, ◌∙◌, ◌∷◌, ◌≡◌}
 use Rattle.std.proofs.lemmas.List.Sums.{sum_by-cons}
 use Rattle.std.specs.List.{AllByRecursion}
-use Rattle.pv_dtd.specs.Hedge.{IsValid}
 use Rattle.pv_dtd.specs.Plain.{PlainDtd}
 use Rattle.pv_tree.specs.Lists.{IsValidList, Listed, lists_of}
-use Rattle.pv_tree.specs.Plain.{PlainDoc}
 use Rattle.pv_tree.specs.View.{view}
 use Rattle.pv_tree.proofs.ValidLists.{valid_lists}
 use Rattle.pv_missing.specs.VerdictLaws.{NonePossible}

@@ -1,6 +1,5 @@
 -- What a verdict looks at.
-use Rattle.std.proofs.Common.{Bool, IsTrue, List, [], ap, false, if◌then◌else◌, refl, sym, true, ℕ, ◌∙◌, ◌∷◌, ◌≡◌, ◌↔◌}
-use Rattle.pv_chars.specs.Texts.{has_data}
+use Rattle.std.proofs.Common.{List, [], ap, if◌then◌else◌, refl, sym, ℕ, ◌∙◌, ◌∷◌, ◌≡◌, ◌↔◌}
 use Rattle.pv_model.specs.Plain.{PlainToken, text}
 use Rattle.pv_dtd.specs.Hedge.{token}
 use Rattle.pv_dtd.specs.Plain.{PlainDtd, number_of}

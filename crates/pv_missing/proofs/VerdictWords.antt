@@ -1,15 +1,17 @@
--- The verdict of a list by its word.
-use Rattle.std.proofs.Common.{Bool, IsTrue, List, None, Option, Some, [], false, if◌then◌else◌, refl, sym, true, ℕ, ◌∷◌, ◌≡◌, ◌↔◌}
+-- The verdict of a list by its owner's site and its word.
+use Rattle.std.proofs.Common.{Bool, IsTrue, List, None, Option, Some, [], false, if◌then◌else◌, option_map, refl, subst, true, ℕ, ◌∷◌, ◌≡◌, ◌↔◌}
 use Rattle.pv_chars.specs.Texts.{has_data}
-use Rattle.pv_model.specs.Plain.{PlainToken, named, other, text}
+use Rattle.pv_model.specs.Plain.{named, text}
 use Rattle.pv_dtd.specs.Hedge.{token}
 use Rattle.pv_dtd.specs.Plain.{PlainDtd, number_of}
+use Rattle.pv_rules.specs.Sites.{content_site, name_site}
 use Rattle.pv_tree.specs.Lists.{IsOwnValid, IsRootElement, IsRootList, IsValidBy, Owner, an_element, the_document}
 use Rattle.pv_tree.specs.Plain.{Forest, Tree, cdata_node, element, misc_node, no_trees, text_node, tree}
 use Rattle.pv_tree.specs.Words.{node_before, word_of}
 use Rattle.pv_missing.specs.VerdictLaws.{VerdictByWord}
 use Rattle.pv_missing.specs.Verdicts.{IsLiveBy, IsLiveContent, IsLiveRoot, Judges}
-use Rattle.pv_missing.specs.WordVerdicts.{HoldsOne, IsLiveByWord, IsLiveContentWord, IsLiveRootWord, IsOwnValidWord, IsRootWord, IsValidByWord, has_no_trees}
+use Rattle.pv_missing.specs.Weighing.{site_of}
+use Rattle.pv_missing.specs.WordVerdicts.{HoldsOne, IsLiveAt, IsLiveByWord, IsValidAt, IsValidByWord, has_no_trees}
 use Rattle.pv_dtd.proofs.Proper.{one_name}
 use Rattle.pv_tree.specs.declared.nodes.Verdict.{Verdict}
 use Rattle.pv_tree.specs.declared.nodes.Verdict.TheVariants as verdict
@@ -27,27 +29,30 @@ pub none_has : {M : Type 0} (k : Forest M) → IsTrue (has_no_trees k) → k ≡
 none_has no_trees h = refl
 none_has (tree t r) h = absurd cc
 
-live_content_by : {M : Type 0} (g : PlainDtd) (x : List ℕ) (k : Forest M) → IsLiveContent g x k ↔ IsLiveContentWord g x (word_of g k) (has_no_trees k)
-live_content_by g x k = (
-  λ l. record { number = l.number; is_owner = l.is_owner; productive = l.productive; no_kids = λ e. none_is k (l.no_kids e); live = l.live; is_live = l.is_live; possible = l.possible },
-  λ l. record { number = l.number; is_owner = l.is_owner; productive = l.productive; no_kids = λ e. none_has k (l.no_kids e); live = l.live; is_live = l.is_live; possible = l.possible },
-)
+module _ {M : Type 0} (g : PlainDtd) (x : List ℕ) (k : Forest M) where
+  -- an element's list, where its name has this number
+  content_there : (o : Option ℕ) → number_of g x ≡ o → IsLiveContent g x k → IsLiveByWord g (option_map content_site o) (word_of g k) (has_no_trees k)
+  content_there None e l = absurd (let a = l.is_owner in cc)
+  content_there (Some y) e l =
+      let z : l.number ≡ y = let a = l.is_owner in cc in
+      let P : ℕ → Type 0 = λ v. IsLiveAt g (content_site v) (word_of g k) (has_no_trees k) in
+      subst P z (record { may_have = (l.productive, λ f. none_is k (l.no_kids f)); live = l.live; is_live = l.is_live; possible = l.possible })
 
-live_root_by : {M : Type 0} (g : PlainDtd) (root : List ℕ) (k : Forest M) → IsLiveRoot g root k ↔ IsLiveRootWord g root (word_of g k)
-live_root_by g root k = (
-  λ l. record { number = l.number; is_owner = l.is_owner; live = l.live; is_live = l.is_live; possible = l.possible },
-  λ l. record { number = l.number; is_owner = l.is_owner; live = l.live; is_live = l.is_live; possible = l.possible },
-)
+  content_back : (o : Option ℕ) → number_of g x ≡ o → IsLiveByWord g (option_map content_site o) (word_of g k) (has_no_trees k) → IsLiveContent g x k
+  content_back None e l = absurd l
+  content_back (Some y) e l =
+      record { number = y; is_owner = e; productive = l.may_have.0; no_kids = λ f. none_has k (l.may_have.1 f); live = l.live; is_live = l.is_live; possible = l.possible }
 
-live_by : {M : Type 0} (g : PlainDtd) (root : List ℕ) (o : Owner) (k : Forest M) → IsLiveBy g root o k ↔ IsLiveByWord g root o (word_of g k) (has_no_trees k)
-live_by g root the_document k = live_root_by g root k
-live_by g root (an_element x) k = live_content_by g x k
+  own_there : (o : Option ℕ) → IsOwnValid g o k → IsValidByWord g (option_map content_site o) (word_of g k) (has_no_trees k)
+  own_there None l = absurd (let a = l.is_owner in cc)
+  own_there (Some y) l =
+      let z : l.number ≡ y = let a = l.is_owner in cc in
+      let P : ℕ → Type 0 = λ v. IsValidAt g (content_site v) (word_of g k) (has_no_trees k) in
+      subst P z (l.model, l.is_model, (λ f. none_is k (l.no_kids f)), l.allowed)
 
-own_there : {M : Type 0} (g : PlainDtd) (x : List ℕ) (k : Forest M) → IsOwnValid g (number_of g x) k → IsOwnValidWord g x (word_of g k) (has_no_trees k)
-own_there g x k o = record { number = o.number; is_owner = o.is_owner; model = o.model; is_model = o.is_model; no_kids = λ e. none_is k (o.no_kids e); allowed = o.allowed }
-
-own_back : {M : Type 0} (g : PlainDtd) (x : List ℕ) (k : Forest M) → IsOwnValidWord g x (word_of g k) (has_no_trees k) → IsOwnValid g (number_of g x) k
-own_back g x k o = record { number = o.number; is_owner = o.is_owner; model = o.model; is_model = o.is_model; no_kids = λ e. none_has k (o.no_kids e); allowed = o.allowed }
+  own_back : (o : Option ℕ) → IsValidByWord g (option_map content_site o) (word_of g k) (has_no_trees k) → IsOwnValid g o k
+  own_back None l = absurd l
+  own_back (Some y) l = record { number = y; is_owner = refl; model = l.0; is_model = l.1; no_kids = λ f. none_has k (l.2 f); allowed = l.3 }
 
 root_word : {M : Type 0} (g : PlainDtd) (root : List ℕ) (y : ℕ) (t : Tree M) → number_of g root ≡ Some y → IsRootElement root t → node_before g t [] ≡ named y ∷ []
 root_word g root y (element x a e k m) n r = let s : x ≡ root = r in rw (s, n) refl
@@ -69,19 +74,38 @@ root_of_word g root y (text_node us) n w = absurd (text_or_none (has_data us) y 
 root_of_word g root y (cdata_node b) n w = absurd cc
 root_of_word g root y (misc_node b) n w = absurd cc
 
-root_there : {M : Type 0} (g : PlainDtd) (root : List ℕ) (k : Forest M) → IsLiveRoot g root k → (t : Tree M) → k ≡ tree t no_trees → IsRootList root k → IsRootWord g root (word_of g k)
-root_there g root k l t e r = record { number = l.number; is_owner = l.is_owner; is_word = rw e (root_word g root l.number t l.is_owner (rw e at r).0) }
+module _ {M : Type 0} (g : PlainDtd) (root : List ℕ) (k : Forest M) where
+  -- the document node's list, where the root's name has this number
+  at_root_there : (o : Option ℕ) → number_of g root ≡ o → IsLiveRoot g root k → IsLiveByWord g (option_map name_site o) (word_of g k) (has_no_trees k)
+  at_root_there None e l = absurd (let a = l.is_owner in cc)
+  at_root_there (Some y) e l =
+      let z : l.number ≡ y = let a = l.is_owner in cc in
+      let P : ℕ → Type 0 = λ v. IsLiveAt g (name_site v) (word_of g k) (has_no_trees k) in
+      subst P z (record { may_have = tt; live = l.live; is_live = l.is_live; possible = l.possible })
 
-root_back : {M : Type 0} (g : PlainDtd) (root : List ℕ) (k : Forest M) (t : Tree M) → k ≡ tree t no_trees → IsRootWord g root (word_of g k) → IsRootList root k
-root_back g root k t e w = rw e (root_of_word g root w.number t w.is_owner (rw e at w.is_word), refl)
+  at_root_back : (o : Option ℕ) → number_of g root ≡ o → IsLiveByWord g (option_map name_site o) (word_of g k) (has_no_trees k) → IsLiveRoot g root k
+  at_root_back None e l = absurd l
+  at_root_back (Some y) e l = record { number = y; is_owner = e; live = l.live; is_live = l.is_live; possible = l.possible }
 
-valid_there : {M : Type 0} (g : PlainDtd) (root : List ℕ) (o : Owner) (k : Forest M) → HoldsOne o k → IsLiveBy g root o k → IsValidBy g root o k → IsValidByWord g root o (word_of g k) (has_no_trees k)
-valid_there g root the_document k h l v = root_there g root k l h.0 h.1 v
-valid_there g root (an_element x) k h l v = own_there g x k v
+  root_there : (o : Option ℕ) → number_of g root ≡ o → IsLiveRoot g root k → (t : Tree M) → k ≡ tree t no_trees → IsRootList root k → IsValidByWord g (option_map name_site o) (word_of g k) (has_no_trees k)
+  root_there None n l t e r = absurd (let a = l.is_owner in cc)
+  root_there (Some y) n l t e r = rw e (root_word g root y t n (rw e at r).0)
 
-valid_back : {M : Type 0} (g : PlainDtd) (root : List ℕ) (o : Owner) (k : Forest M) → HoldsOne o k → IsLiveBy g root o k → IsValidByWord g root o (word_of g k) (has_no_trees k) → IsValidBy g root o k
-valid_back g root the_document k h l v = root_back g root k h.0 h.1 v
-valid_back g root (an_element x) k h l v = own_back g x k v
+  root_back : (o : Option ℕ) → number_of g root ≡ o → (t : Tree M) → k ≡ tree t no_trees → IsValidByWord g (option_map name_site o) (word_of g k) (has_no_trees k) → IsRootList root k
+  root_back None n t e w = absurd w
+  root_back (Some y) n t e w = rw e (root_of_word g root y t n (rw e at w), refl)
+
+live_by : {M : Type 0} (g : PlainDtd) (root : List ℕ) (o : Owner) (k : Forest M) → IsLiveBy g root o k ↔ IsLiveByWord g (site_of g root o) (word_of g k) (has_no_trees k)
+live_by g root the_document k = (at_root_there g root k (number_of g root) refl, at_root_back g root k (number_of g root) refl)
+live_by g root (an_element x) k = (content_there g x k (number_of g x) refl, content_back g x k (number_of g x) refl)
+
+valid_there : {M : Type 0} (g : PlainDtd) (root : List ℕ) (o : Owner) (k : Forest M) → HoldsOne o k → IsLiveBy g root o k → IsValidBy g root o k → IsValidByWord g (site_of g root o) (word_of g k) (has_no_trees k)
+valid_there g root the_document k h l v = root_there g root k (number_of g root) refl l h.0 h.1 v
+valid_there g root (an_element x) k h l v = own_there g x k (number_of g x) v
+
+valid_back : {M : Type 0} (g : PlainDtd) (root : List ℕ) (o : Owner) (k : Forest M) → HoldsOne o k → IsLiveBy g root o k → IsValidByWord g (site_of g root o) (word_of g k) (has_no_trees k) → IsValidBy g root o k
+valid_back g root the_document k h l v = root_back g root k (number_of g root) refl h.0 h.1 v
+valid_back g root (an_element x) k h l v = own_back g x k (number_of g x) v
 
 pub verdict_by_word : (M : Type 0) → VerdictByWord M
 verdict_by_word M g root list v h =

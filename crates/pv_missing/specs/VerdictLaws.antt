@@ -11,7 +11,8 @@ use Rattle.pv_tree.specs.View.{view}
 use Rattle.pv_tree.specs.Words.{word_of}
 use Rattle.pv_missing.specs.Completing.{IsPotentiallyValid}
 use Rattle.pv_missing.specs.Proper.{IsProperDoc}
-use Rattle.pv_missing.specs.Verdicts.{AreVerdicts, IsFirstImpossible, IsVerdict, possible_in}
+use Rattle.pv_missing.specs.Verdicts.{AreVerdicts, IsFirstImpossible, IsVerdict, impossible_in, possible_in}
+use Rattle.pv_missing.specs.Weighing.{site_of}
 use Rattle.pv_missing.specs.WordVerdicts.{HoldsOne, IsVerdictByWord, has_no_trees}
 use Rattle.pv_tree.specs.declared.nodes.Verdict.{Verdict}
 use Rattle.pv_tree.specs.declared.nodes.Verdict.TheVariants as verdict
@@ -33,14 +34,21 @@ VerdictByHeads M N = (g : PlainDtd) (root : List ℕ) (list : Listed M) (other :
     list.owner ≡ other.owner → heads_of list.kids ≡ heads_of other.kids →
     IsVerdict g root list v ↔ IsVerdict g root other v
 
--- and of these at the word, and at whether there are no kids of any kind
+-- and of these at the owner's site, at the word, and at whether there are no kids of any kind
 abbrev pub VerdictByWord : (M : Type 0) → Type 0
 VerdictByWord M = (g : PlainDtd) (root : List ℕ) (list : Listed M) (v : Verdict) →
     HoldsOne list.owner list.kids →
-    IsVerdict g root list v ↔ IsVerdictByWord g root list.owner (word_of g list.kids) (has_no_trees list.kids) v
+    IsVerdict g root list v ↔ IsVerdictByWord g (site_of g root list.owner)
+    (word_of g list.kids) (has_no_trees list.kids) v
 
 -- a document is valid exactly where it is potentially valid and none of its lists is Possible
 abbrev pub NonePossible : (M : Type 0) → Type 0
 NonePossible M = (g : PlainDtd) (root : List ℕ) (doc : PlainDoc M) (vs : List Verdict) →
     IsProperDtd g → IsProperDoc doc → AreVerdicts g root (lists_of doc) vs →
     IsValid g root (view doc.root) ↔ (IsPotentiallyValid g root (view doc.root) × (possible_in vs ≡ 0))
+
+-- a document is potentially valid exactly where the number of its Impossible lists is 0
+abbrev pub NoneImpossible : (M : Type 0) → Type 0
+NoneImpossible M = (g : PlainDtd) (root : List ℕ) (doc : PlainDoc M) (vs : List Verdict) →
+    IsProperDtd g → IsProperDoc doc → AreVerdicts g root (lists_of doc) vs →
+    IsPotentiallyValid g root (view doc.root) ↔ (impossible_in vs ≡ 0)

@@ -69,6 +69,15 @@ is_possible verdict.Impossible = false
 abbrev pub possible_in : List Verdict → ℕ
 possible_in vs = count_by is_possible vs
 
+abbrev pub is_impossible : Verdict → Bool
+is_impossible verdict.Valid = false
+is_impossible verdict.Possible = false
+is_impossible verdict.Impossible = true
+
+-- how many of them are Impossible
+abbrev pub impossible_in : List Verdict → ℕ
+impossible_in vs = count_by is_impossible vs
+
 -- the lists have verdicts, and so many of these are Possible
 pub record HavePossible {M : Type 0} (g : PlainDtd) (root : List ℕ) (lists : List (Listed M)) (n : ℕ)
     : Type 0 where

@@ -1,9 +1,10 @@
--- The verdict of a list by what it looks at alone: its owner, its word, and whether it has no kids of any kind.
-use Rattle.std.specs.Prelude.{Bool, IsTrue, List, Some, [], false, true, ℕ, ◌∷◌, ◌≡◌}
+-- The verdict of a list by what it looks at alone: the site of its owner, its word, and whether it has no kids of any kind.
+use Rattle.std.specs.Prelude.{Bool, IsTrue, List, None, Option, Some, [], false, true, ◌∷◌, ◌≡◌}
 use Rattle.pv_model.specs.Models.{Allows}
 use Rattle.pv_model.specs.Plain.{PlainModel, PlainToken, empty, named}
-use Rattle.pv_dtd.specs.Plain.{PlainDtd, declared, model_of, number_of}
+use Rattle.pv_dtd.specs.Plain.{PlainDtd, declared, model_of}
 use Rattle.pv_dtd.specs.Productive.{IsProductive}
+use Rattle.pv_rules.specs.Sites.{PlainSite, content_site, name_site, part_site, rest_site}
 use Rattle.pv_tree.specs.Lists.{Owner, an_element, the_document}
 use Rattle.pv_tree.specs.Plain.{Forest, Tree, no_trees, tree}
 use Rattle.pv_missing.specs.Filling.{IsPossible, IsPossibleRoot}
@@ -20,50 +21,48 @@ abbrev pub HoldsOne : {M : Type 0} → Owner → Forest M → Type 0
 HoldsOne {M} the_document kids = (t : Tree M) × (kids ≡ tree t no_trees)
 HoldsOne (an_element x) kids = Unit {0}
 
--- kids of this word, or none at all, may stand in an element of this name
-pub record IsLiveContentWord (g : PlainDtd) (x : List ℕ) (word : List PlainToken) (none : Bool)
-    : Type 0 where
-  pub number : ℕ
-  pub is_owner : number_of g x ≡ Some number
-  pub productive : IsProductive g number
-  pub no_kids : model_of g number ≡ Some empty → IsTrue none
-  pub live : List PlainToken
-  pub is_live : IsLiveWord g word live
-  pub possible : IsPossible g number live
+-- the word is possible for the document node whose root is to have this name, or for the content of
+-- an element of this name
+abbrev pub IsPossibleAt : PlainDtd → PlainSite → List PlainToken → Type 0
+IsPossibleAt g (name_site x) w = IsPossibleRoot g x w
+IsPossibleAt g (content_site x) w = IsPossible g x w
+IsPossibleAt g (part_site q) w = ⊥
+IsPossibleAt g (rest_site q) w = ⊥
 
--- they may stand in the document node
-pub record IsLiveRootWord (g : PlainDtd) (root : List ℕ) (word : List PlainToken) : Type 0 where
-  pub number : ℕ
-  pub is_owner : number_of g root ≡ Some number
-  pub live : List PlainToken
-  pub is_live : IsLiveWord g word live
-  pub possible : IsPossibleRoot g number live
+-- an element has a productive name, and none that is EMPTY has kids of any kind
+abbrev pub MayHaveKids : PlainDtd → PlainSite → Bool → Type 0
+MayHaveKids g (name_site x) none = Unit {0}
+MayHaveKids g (content_site x) none = IsProductive g x × (model_of g x ≡ Some empty → IsTrue none)
+MayHaveKids g (part_site q) none = ⊥
+MayHaveKids g (rest_site q) none = ⊥
 
-abbrev pub IsLiveByWord : PlainDtd → List ℕ → Owner → List PlainToken → Bool → Type 0
-IsLiveByWord g root the_document word none = IsLiveRootWord g root word
-IsLiveByWord g root (an_element x) word none = IsLiveContentWord g x word none
+-- kids of this word, or none at all, may stand there
+pub record IsLiveAt (g : PlainDtd) (s : PlainSite) (w : List PlainToken) (none : Bool) : Type 0
+  where
+    pub may_have : MayHaveKids g s none
+    pub live : List PlainToken
+    pub is_live : IsLiveWord g w live
+    pub possible : IsPossibleAt g s live
 
--- they fit an element of this name by themselves
-pub record IsOwnValidWord (g : PlainDtd) (x : List ℕ) (word : List PlainToken) (none : Bool)
-    : Type 0 where
-  pub number : ℕ
-  pub is_owner : number_of g x ≡ Some number
-  pub model : PlainModel
-  pub is_model : model_of g number ≡ Some model
-  pub no_kids : model ≡ empty → IsTrue none
-  pub allowed : Allows (declared g) model word
+-- they are one element of the root's name, or fit an element of this name by themselves
+abbrev pub IsValidAt : PlainDtd → PlainSite → List PlainToken → Bool → Type 0
+IsValidAt g (name_site x) w none = w ≡ named x ∷ []
+IsValidAt g (content_site x) w none =
+    (m : PlainModel) × (model_of g x ≡ Some m) × (m ≡ empty → IsTrue none) × Allows (declared g) m w
+IsValidAt g (part_site q) w none = ⊥
+IsValidAt g (rest_site q) w none = ⊥
 
--- they are one element of the root's name
-pub record IsRootWord (g : PlainDtd) (root : List ℕ) (word : List PlainToken) : Type 0 where
-  pub number : ℕ
-  pub is_owner : number_of g root ≡ Some number
-  pub is_word : word ≡ named number ∷ []
+-- the same where the owner has a site, which it has where the DTD has its name
+abbrev pub IsLiveByWord : PlainDtd → Option PlainSite → List PlainToken → Bool → Type 0
+IsLiveByWord g None w none = ⊥
+IsLiveByWord g (Some s) w none = IsLiveAt g s w none
 
-abbrev pub IsValidByWord : PlainDtd → List ℕ → Owner → List PlainToken → Bool → Type 0
-IsValidByWord g root the_document word none = IsRootWord g root word
-IsValidByWord g root (an_element x) word none = IsOwnValidWord g x word none
+abbrev pub IsValidByWord : PlainDtd → Option PlainSite → List PlainToken → Bool → Type 0
+IsValidByWord g None w none = ⊥
+IsValidByWord g (Some s) w none = IsValidAt g s w none
 
--- the verdict of a list of this owner and this word; `none` says whether it has no kids of any kind
-abbrev pub IsVerdictByWord : PlainDtd → List ℕ → Owner → List PlainToken → Bool → Verdict → Type 0
-IsVerdictByWord g root owner word none v =
-    Judges v (IsLiveByWord g root owner word none) (IsValidByWord g root owner word none)
+-- the verdict of a list whose owner has this site and whose word is this one; `none` says whether it
+-- has no kids of any kind
+abbrev pub IsVerdictByWord : PlainDtd → Option PlainSite → List PlainToken → Bool → Verdict → Type 0
+IsVerdictByWord g owner w none v =
+    Judges v (IsLiveByWord g owner w none) (IsValidByWord g owner w none)

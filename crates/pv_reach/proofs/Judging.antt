@@ -1,12 +1,12 @@
--- The verdict of a list by its word.
-use Rattle.std.proofs.Common.{Bool, IsTrue, List, None, Option, Some, [], ap, false, length, map, option_map, refl, rules, subst, suc, sym, ℕ, ◌∙◌, ◌∷◌, ◌==◌, ◌≡◌, ◌↔◌}
+-- The verdict of a list by its owner's site and its word.
+use Rattle.std.proofs.Common.{Bool, IsTrue, List, Option, Some, [], ap, false, length, map, refl, rules, subst, suc, sym, ℕ, ◌∙◌, ◌∷◌, ◌==◌, ◌≡◌}
 use Rattle.std.specs.List.{AllByRecursion}
 use Rattle.pv_model.specs.Models.{Allows, IsOfAny, IsOfMixed}
 use Rattle.pv_model.specs.Plain.{PlainModel, PlainToken, any, children, empty, mixed, named, other, text}
-use Rattle.pv_dtd.specs.Plain.{PlainDtd, declared, model_of, number_of}
+use Rattle.pv_dtd.specs.Plain.{PlainDtd, declared, model_of}
 use Rattle.pv_dtd.specs.Productive.{IsProductive}
 use Rattle.pv_rules.specs.Sites.{PlainSite, content_site, name_site, part_site, rest_site}
-use Rattle.pv_tree.specs.Lists.{Listed, Owner, an_element, the_document}
+use Rattle.pv_tree.specs.Lists.{Listed}
 use Rattle.pv_tree.specs.PlainForms.{forest}
 use Rattle.pv_tree.specs.Words.{word_of}
 use Rattle.pv_tree.specs.declared.nodes.Node.{Node}
@@ -14,11 +14,10 @@ use Rattle.pv_missing.specs.Filling.{IsPossible, Pieces, StandsFor}
 use Rattle.pv_missing.specs.LiveWords.{AreProductiveTokens, IsLiveWord, live_name, live_none, live_other, live_text}
 use Rattle.pv_missing.specs.Verdicts.{IsVerdict}
 use Rattle.pv_missing.specs.Weighing.{site_of}
-use Rattle.pv_missing.specs.WordVerdicts.{HoldsOne, IsLiveContentWord, IsLiveRootWord, IsOwnValidWord, IsRootWord, IsVerdictByWord, has_no_trees}
+use Rattle.pv_missing.specs.WordVerdicts.{HoldsOne, IsLiveAt, IsPossibleAt, IsValidAt, IsVerdictByWord, MayHaveKids, has_no_trees}
 use Rattle.pv_missing.proofs.LiveFacts.{live_follows}
 use Rattle.pv_missing.proofs.LiveOnce.{one_live_word}
-use Rattle.pv_missing.proofs.VerdictWords.{same_judged, verdict_by_word}
-use Rattle.pv_reach.specs.Possible.{IsJudged, IsLiveAt, IsPossibleAt, IsValidAt, MayHaveKids}
+use Rattle.pv_missing.proofs.VerdictWords.{verdict_by_word}
 use Rattle.pv_tree.specs.declared.nodes.Verdict.{Verdict}
 use Rattle.pv_tree.specs.declared.nodes.Verdict.TheVariants as verdict
 
@@ -37,7 +36,7 @@ module _ (g : PlainDtd) (w : List PlainToken) where
   live_productive (part_site q) live l p = absurd p
   live_productive (rest_site q) live l p = absurd p
 
-  pub unproductive_judged : (s : PlainSite) (none : Bool) → (AreProductiveTokens g w → ⊥) → IsJudged g s w none verdict.Impossible
+  pub unproductive_judged : (s : PlainSite) (none : Bool) → (AreProductiveTokens g w → ⊥) → IsVerdictByWord g (Some s) w none verdict.Impossible
   unproductive_judged s none not = λ l. not (live_productive s l.live l.is_live l.possible)
 
   module _ (s : PlainSite) (none : Bool) (productive : AreProductiveTokens g w) where
@@ -48,13 +47,13 @@ module _ (g : PlainDtd) (w : List PlainToken) where
     live_at : MayHaveKids g s none → IsPossibleAt g s w → IsLiveAt g s w none
     live_at may p = record { may_have = may; live = w; is_live = live_self g w productive; possible = p }
 
-    pub judged_valid : MayHaveKids g s none → IsPossibleAt g s w → IsValidAt g s w none → IsJudged g s w none verdict.Valid
+    pub judged_valid : MayHaveKids g s none → IsPossibleAt g s w → IsValidAt g s w none → IsVerdictByWord g (Some s) w none verdict.Valid
     judged_valid may p v = (live_at may p, v)
 
-    pub judged_possible : MayHaveKids g s none → IsPossibleAt g s w → (IsValidAt g s w none → ⊥) → IsJudged g s w none verdict.Possible
+    pub judged_possible : MayHaveKids g s none → IsPossibleAt g s w → (IsValidAt g s w none → ⊥) → IsVerdictByWord g (Some s) w none verdict.Possible
     judged_possible may p n = (live_at may p, n)
 
-    pub judged_impossible : (IsPossibleAt g s w → ⊥) → IsJudged g s w none verdict.Impossible
+    pub judged_impossible : (IsPossibleAt g s w → ⊥) → IsVerdictByWord g (Some s) w none verdict.Impossible
     judged_impossible n = λ l. n (live_possible l)
 
 -- no element of the word has a name that the DTD doesn't have
@@ -97,7 +96,7 @@ pub allowed_possible : (g : PlainDtd) (x : ℕ) (m : PlainModel) (w : List Plain
 allowed_possible g x m w e a p = (0, (m, e, w, a, own_pieces g w p (allowed_named (declared g) m w a)))
 
 -- an element of the root's name is what the document node is to hold
-pub root_valid_judged : (g : PlainDtd) (w : List PlainToken) (x : ℕ) (none : Bool) → AreProductiveTokens g w → w ≡ named x ∷ [] → IsJudged g (name_site x) w none verdict.Valid
+pub root_valid_judged : (g : PlainDtd) (w : List PlainToken) (x : ℕ) (none : Bool) → AreProductiveTokens g w → w ≡ named x ∷ [] → IsVerdictByWord g (Some (name_site x)) w none verdict.Valid
 root_valid_judged g w x none productive e =
     let P : List PlainToken → Type 0 = AreProductiveTokens g in let p = subst P e productive in
     judged_valid g w (name_site x) none productive tt (0, (p.0, e)) e
@@ -107,82 +106,24 @@ module _ (g : PlainDtd) (w : List PlainToken) (x : ℕ) (m : PlainModel) (none :
   may_have_kids : MayHaveKids g (content_site x) none
   may_have_kids = (owner, λ e. kids (cc))
 
-  pub content_valid_judged : Allows (declared g) m w → IsJudged g (content_site x) w none verdict.Valid
+  pub content_valid_judged : Allows (declared g) m w → IsVerdictByWord g (Some (content_site x)) w none verdict.Valid
   content_valid_judged a = judged_valid g w (content_site x) none productive may_have_kids (allowed_possible g x m w at a productive) (m, at, kids, a)
 
-  pub content_possible_judged : (Allows (declared g) m w → ⊥) → IsPossible g x w → IsJudged g (content_site x) w none verdict.Possible
+  pub content_possible_judged : (Allows (declared g) m w → ⊥) → IsPossible g x w → IsVerdictByWord g (Some (content_site x)) w none verdict.Possible
   content_possible_judged not p = judged_possible g w (content_site x) none productive may_have_kids p (λ v. not (let z : v.0 ≡ m = let a = v.1 in cc in rw z at v.3))
 
 -- where an EMPTY element has kids, its list is impossible
-pub kids_judged : (g : PlainDtd) (w : List PlainToken) (x : ℕ) (m : PlainModel) (none : Bool) → model_of g x ≡ Some m → ((m ≡ empty → IsTrue none) → ⊥) → IsJudged g (content_site x) w none verdict.Impossible
+pub kids_judged : (g : PlainDtd) (w : List PlainToken) (x : ℕ) (m : PlainModel) (none : Bool) → model_of g x ≡ Some m → ((m ≡ empty → IsTrue none) → ⊥) → IsVerdictByWord g (Some (content_site x)) w none verdict.Impossible
 kids_judged g w x m none at not = λ l. not (λ e. l.may_have.1 (at ∙ ap (λ v. Some v) e))
 
--- the verdict by the owner's site is that by the owner
-module _ (g : PlainDtd) (root : List ℕ) (w : List PlainToken) (none : Bool) where
-  root_live : (x : ℕ) → number_of g root ≡ Some x → IsLiveAt g (name_site x) w none ↔ IsLiveRootWord g root w
-  root_live x e = (
-    (λ l. record { number = x; is_owner = e; live = l.live; is_live = l.is_live; possible = l.possible }),
-    (λ l.
-        let z : l.number ≡ x = let a = l.is_owner in cc in
-        record { may_have = tt; live = l.live; is_live = l.is_live; possible = let P : ℕ → Type 0 = λ v. IsPossibleAt g (name_site v) l.live in subst P z l.possible }),
-  )
-
-  content_live : (name : List ℕ) (x : ℕ) → number_of g name ≡ Some x → IsLiveAt g (content_site x) w none ↔ IsLiveContentWord g name w none
-  content_live name x e = (
-    (λ l. record { number = x; is_owner = e; productive = l.may_have.0; no_kids = l.may_have.1; live = l.live; is_live = l.is_live; possible = l.possible }),
-    (λ l.
-        let z : l.number ≡ x = let a = l.is_owner in cc in
-        let P : ℕ → Type 0 = λ v. MayHaveKids g (content_site v) none × IsPossibleAt g (content_site v) l.live in
-        let q = subst P z ((l.productive, l.no_kids), l.possible) in
-        record { may_have = q.0; live = l.live; is_live = l.is_live; possible = q.1 }),
-  )
-
-  root_valid : (x : ℕ) → number_of g root ≡ Some x → IsValidAt g (name_site x) w none ↔ IsRootWord g root w
-  root_valid x e = (
-    (λ v. record { number = x; is_owner = e; is_word = v }),
-    (λ v. let z : v.number ≡ x = let a = v.is_owner in cc in rw z at v.is_word),
-  )
-
-  content_valid : (name : List ℕ) (x : ℕ) → number_of g name ≡ Some x → IsValidAt g (content_site x) w none ↔ IsOwnValidWord g name w none
-  content_valid name x e = (
-    (λ v. record { number = x; is_owner = e; model = v.0; is_model = v.1; no_kids = v.2; allowed = v.3 }),
-    (λ v. let z : v.number ≡ x = let a = v.is_owner in cc in (v.model, rw z at v.is_model, v.no_kids, v.allowed)),
-  )
-
-  judged_owner : (o : Option ℕ) (f : ℕ → PlainSite) (s : PlainSite) → option_map f o ≡ Some s → (x : ℕ) × (o ≡ Some x) × (f x ≡ s)
-  judged_owner None f s e = absurd cc
-  judged_owner (Some x) f s e = (x, refl, cc)
-
-  pub judged_by_word : (owner : Owner) (s : PlainSite) (v : Verdict) → site_of g root owner ≡ Some s → IsJudged g s w none v → IsVerdictByWord g root owner w none v
-  judged_by_word the_document s v e j =
-      let a = judged_owner (number_of g root) name_site s e in
-      let i : IsJudged g (name_site a.0) w none v = let P : PlainSite → Type 0 = λ t. IsJudged g t w none v in subst P (sym a.2) j in
-      (same_judged v _ _ _ _ (root_live a.0 a.1) (λ _ o. (root_valid a.0 a.1).0 o) (λ _ o. (root_valid a.0 a.1).1 o)).0 i
-  judged_by_word (an_element name) s v e j =
-      let a = judged_owner (number_of g name) content_site s e in
-      let i : IsJudged g (content_site a.0) w none v = let P : PlainSite → Type 0 = λ t. IsJudged g t w none v in subst P (sym a.2) j in
-      (same_judged v _ _ _ _ (content_live name a.0 a.1) (λ _ o. (content_valid name a.0 a.1).0 o) (λ _ o. (content_valid name a.0 a.1).1 o)).0 i
-
-  no_number : (o : Option ℕ) (f : ℕ → PlainSite) (x : ℕ) → option_map f o ≡ None → o ≡ Some x → ⊥
-  no_number None f x e h = cc
-  no_number (Some y) f x e h = cc
-
-  -- without an owner's number a list is impossible
-  pub unowned_judged : (owner : Owner) → site_of g root owner ≡ None → IsVerdictByWord g root owner w none verdict.Impossible
-  unowned_judged the_document e = λ l. no_number (number_of g root) name_site l.number e l.is_owner
-  unowned_judged (an_element name) e = λ l. no_number (number_of g name) content_site l.number e l.is_owner
-
 -- the verdict of a list by that of its word
-pub list_judged : (M : Type 0) (g : PlainDtd) (root : List ℕ) (list : Listed M) (w : List PlainToken) (none : Bool) (s : PlainSite) (v : Verdict) → w ≡ word_of g list.kids → none ≡ has_no_trees list.kids →
-    HoldsOne list.owner list.kids → site_of g root list.owner ≡ Some s → IsJudged g s w none v → IsVerdict g root list v
-list_judged M g root list w none s v e f one at j =
-    let P : List PlainToken → Type 0 = λ u. IsVerdictByWord g root list.owner u (has_no_trees list.kids) v in
-    let Q : Bool → Type 0 = λ b. IsVerdictByWord g root list.owner w b v in
-    (verdict_by_word M g root list v one).1 (subst P e (subst Q f (judged_by_word g root w none list.owner s v at j)))
-
-pub unowned_list_judged : (M : Type 0) (g : PlainDtd) (root : List ℕ) (list : Listed M) → HoldsOne list.owner list.kids → site_of g root list.owner ≡ None → IsVerdict g root list verdict.Impossible
-unowned_list_judged M g root list one at =
-    (verdict_by_word M g root list verdict.Impossible one).1 (unowned_judged g root (word_of g list.kids) (has_no_trees list.kids) list.owner at)
+pub list_judged : (M : Type 0) (g : PlainDtd) (root : List ℕ) (list : Listed M) (w : List PlainToken) (none : Bool) (o : Option PlainSite) (v : Verdict) → w ≡ word_of g list.kids → none ≡ has_no_trees list.kids →
+    HoldsOne list.owner list.kids → site_of g root list.owner ≡ o → IsVerdictByWord g o w none v → IsVerdict g root list v
+list_judged M g root list w none o v e f one at j =
+    let P : List PlainToken → Type 0 = λ u. IsVerdictByWord g o u (has_no_trees list.kids) v in
+    let Q : Bool → Type 0 = λ b. IsVerdictByWord g o w b v in
+    let R : Option PlainSite → Type 0 = λ p. IsVerdictByWord g p (word_of g list.kids) (has_no_trees list.kids) v in
+    (verdict_by_word M g root list v one).1 (subst R (sym at) (subst P e (subst Q f j)))
 
 more_than_none : (n : ℕ) → (suc n == 0) ≡ false
 more_than_none n = search rules

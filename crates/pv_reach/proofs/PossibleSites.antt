@@ -19,7 +19,7 @@ use Rattle.pv_missing.specs.PlainForms.{plain_of}
 use Rattle.pv_missing.specs.declared.owners.Of.{Of}
 use Rattle.pv_missing.specs.declared.owners.Of.TheVariants as of
 use Rattle.std.proofs.lemmas.List.{length-map}
-use Rattle.pv_reach.specs.Possible.{IsPossibleAt}
+use Rattle.pv_missing.specs.WordVerdicts.{IsPossibleAt}
 use Rattle.pv_missing.proofs.Spanned.{content_weights, root_weights}
 use Rattle.pv_reach.specs.declared.rules.ColumnRule.{ColumnRule}
 use Rattle.pv_reach.specs.ColumnRules.{Reaches}

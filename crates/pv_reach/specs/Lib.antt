@@ -4,6 +4,6 @@ pub mod Tables
 pub mod Columns
 pub mod Adding
 pub mod Deriving
-pub mod Possible
+pub mod Owners
 pub mod Parts
 pub mod Following

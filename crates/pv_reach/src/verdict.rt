@@ -1,6 +1,6 @@
 //! The verdict of a list.
 
-ghost use Rattle.std.specs.Prelude.{◌≡◌, ◌↔◌, ◌+◌, ◌<◌, ◌^◌, ℕ, Bool, IsTrue, List, IfErr, IfOk, IfSome, length, map};
+ghost use Rattle.std.specs.Prelude.{◌≡◌, ◌↔◌, ◌+◌, ◌<◌, ◌^◌, ℕ, Bool, IsTrue, List, IfErr, IfOk, IfSome, Some, length, map};
 ghost use Rattle.pv_model.specs.Plain.{empty};
 ghost use Rattle.pv_model.specs.PlainForms.{plain_model, plain_token};
 ghost use Rattle.pv_rules.specs.Sites.{HasSite, content_site, name_site};
@@ -12,15 +12,15 @@ ghost use Rattle.pv_tree.specs.declared.nodes.Mark.{Mark};
 ghost use Rattle.pv_missing.specs.LiveWords.{AreProductiveTokens};
 ghost use Rattle.pv_missing.specs.PlainForms.{plain_of};
 ghost use Rattle.pv_missing.specs.Verdicts.{IsVerdict};
-ghost use Rattle.pv_missing.specs.WordVerdicts.{HoldsOne};
+ghost use Rattle.pv_missing.specs.WordVerdicts.{HoldsOne, IsVerdictByWord};
 ghost use Rattle.pv_missing.specs.Widths.{FitsVerdict};
-ghost use Rattle.pv_reach.specs.Possible.{IsJudged, IsOwner};
+ghost use Rattle.pv_reach.specs.Owners.{IsOwner};
 ghost use Rattle.pv_reach.specs.declared.errors.ReachError.TheVariants.{TooWide as too_wide};
 
 use crate::errors::ReachError;
 use crate::productive::are_productive;
-use crate::words::{content_derives, is_element, is_narrow};
-use pv_missing::Of;
+use crate::words::{content_derives, is_element};
+use pv_missing::{Of, is_narrow};
 use pv_model::{ContentModel, NameId, NoMemory, Token, matches};
 use pv_productive::Grammar;
 use pv_steps::Steps;
@@ -37,7 +37,7 @@ fn judge_root(
 ) -> Result<Verdict, NoMemory>
     requires fits { FitsVerdict (dtd_of grammar.now) (length word.now) }
     requires productive { AreProductiveTokens (dtd_of grammar.now) (map plain_token word.now) }
-    ensures { IfOk result (λ verdict. (none : Bool) → IsJudged (dtd_of grammar.now) (name_site id.0)
+    ensures { IfOk result (λ verdict. (none : Bool) → IsVerdictByWord (dtd_of grammar.now) (Some (name_site id.0))
         (map plain_token word.now) none verdict) }
 {
     if is_element(id, word) {
@@ -61,10 +61,11 @@ fn judge_content(
     requires known { HasSite (dtd_of grammar.now) (content_site id.0) }
     requires fits { FitsVerdict (dtd_of grammar.now) (length word.now) }
     requires productive { AreProductiveTokens (dtd_of grammar.now) (map plain_token word.now) }
-    ensures { IfOk result (λ verdict. IsJudged (dtd_of grammar.now) (content_site id.0)
+    ensures { IfOk result (λ verdict. IsVerdictByWord (dtd_of grammar.now) (Some (content_site id.0))
         (map plain_token word.now) is_bare verdict) }
 {
-    if !grammar.is_productive(id) {
+    let has_elements = grammar.is_productive(id);
+    if !has_elements {
         return Ok(Verdict::Impossible);
     }
     let Some(model) = grammar.dtd().model_of(id) else {
@@ -105,7 +106,7 @@ fn judge(
 ) -> Result<Verdict, NoMemory>
     requires known { HasSite (dtd_of grammar.now) (plain_of of) }
     requires fits { FitsVerdict (dtd_of grammar.now) (length word.now) }
-    ensures { IfOk result (λ verdict. IsJudged (dtd_of grammar.now) (plain_of of)
+    ensures { IfOk result (λ verdict. IsVerdictByWord (dtd_of grammar.now) (Some (plain_of of))
         (map plain_token word.now) is_bare verdict) }
 {
     if !are_productive(grammar, word) {
@@ -141,7 +142,7 @@ pub fn list_verdict<L: Ledger>(
 {
     steps.tick();
     let tokens = word(alloc, grammar.dtd(), kids)?;
-    if !is_narrow(grammar, tokens.as_slice().len()) {
+    if !is_narrow(grammar.dtd(), tokens.as_slice().len() as u64) {
         return Err(ReachError::TooWide);
     }
     let Some(of) = owner else {

@@ -1,6 +1,6 @@
 //! Whether a word is possible.
 
-ghost use Rattle.std.specs.Prelude.{◌≡◌, ◌↔◌, ◌∷◌, ◌+◌, ◌<◌, ◌^◌, [], IfErr, IfOk, IsTrue, length, map};
+ghost use Rattle.std.specs.Prelude.{◌≡◌, ◌↔◌, ◌∷◌, ◌+◌, [], IfErr, IfOk, IsTrue, length, map};
 ghost use Rattle.pv_model.specs.PlainForms.{plain_token};
 ghost use Rattle.pv_model.specs.Plain.{named};
 ghost use Rattle.pv_rules.specs.Sites.{HasSite, content_site};
@@ -8,28 +8,20 @@ ghost use Rattle.pv_productive.specs.PlainForms.{dtd_of};
 ghost use Rattle.pv_missing.specs.LiveWords.{AreProductiveTokens};
 ghost use Rattle.pv_missing.specs.PlainForms.{plain_of};
 ghost use Rattle.pv_missing.specs.Widths.{FitsVerdict};
+ghost use Rattle.pv_missing.specs.WordVerdicts.{IsPossibleAt};
 ghost use Rattle.pv_reach.specs.Deriving.{DerivesAt};
-ghost use Rattle.pv_reach.specs.Possible.{IsPossibleAt};
 ghost use Rattle.pv_reach.specs.declared.errors.ReachError.TheVariants.{TooWide as too_wide};
 
 use crate::adding::any_column;
 use crate::errors::ReachError;
 use crate::layout::{add_further, rules_of};
 use crate::table::reaches_end;
-use pv_missing::Of;
+use pv_missing::{Of, is_narrow};
 use pv_model::{NameId, Token};
 use pv_productive::Grammar;
 use pv_steps::Steps;
 use std::alloc::{AllocError, Global};
 use std::sync::ledger::Ledger;
-
-/// Whether a word isn't too wide.
-pub(crate) fn is_narrow(grammar: &Grammar, tokens: usize) -> bool
-    requires { tokens < 2 ^ 63 }
-    ensures { IsTrue result ↔ FitsVerdict (dtd_of grammar.now) tokens }
-{
-    (tokens as u128 + 1) * u128::from(grammar.dtd().columns()) <= 67_108_864
-}
 
 /// Whether the content of a name derives the whole word.
 pub(crate) fn content_derives(
@@ -84,7 +76,7 @@ pub fn possible<L: Ledger>(
     ensures steps { steps.new ≡ steps.old + 1 }
 {
     steps.tick();
-    if !is_narrow(grammar, word.len()) {
+    if !is_narrow(grammar.dtd(), word.len() as u64) {
         return Err(ReachError::TooWide);
     }
     let derives = match of {

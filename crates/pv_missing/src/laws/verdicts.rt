@@ -1,6 +1,6 @@
 //! Laws of verdicts. `M` and `N` are types of marks.
 
-ghost use Rattle.pv_missing.specs.VerdictLaws.{ImpossibleHasFirst, NonePossible, OneListOfVerdicts, VerdictByHeads, VerdictByWord};
+ghost use Rattle.pv_missing.specs.VerdictLaws.{ImpossibleHasFirst, NoneImpossible, NonePossible, OneListOfVerdicts, VerdictByHeads, VerdictByWord};
 
 /// Lists have at most one list of verdicts.
 pub fn one_list_of_verdicts_law<M>()
@@ -17,7 +17,7 @@ pub fn verdict_by_heads_law<M, N>()
     ensures { VerdictByHeads M N }
 {}
 
-/// A verdict looks at the owner, at the word, and at whether there are no kids of any kind.
+/// A verdict looks at the owner's site, at the word, and at whether there are no kids of any kind.
 pub fn verdict_by_word_law<M>()
     ensures { VerdictByWord M }
 {}
@@ -25,4 +25,9 @@ pub fn verdict_by_word_law<M>()
 /// A document is valid exactly where it is potentially valid and none of its lists is Possible.
 pub fn none_possible_law<M>()
     ensures { NonePossible M }
+{}
+
+/// A document is potentially valid exactly where the number of its Impossible lists is 0.
+pub fn none_impossible_law<M>()
+    ensures { NoneImpossible M }
 {}

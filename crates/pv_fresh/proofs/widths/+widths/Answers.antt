@@ -13,23 +13,23 @@ use Rattle.pv_tree.proofs.Finding.{finds_own, finds_kids, first_in_kid, finds_be
 use Rattle.pv_missing.specs.Widths.{IsListForVerdict}
 use Rattle.pv_fresh.proofs.widths.+widths.Goals as goal
 
-pub has_too_wide-is_narrow-requires : goal.has_too_wide-is_narrow-requires
-has_too_wide-is_narrow-requires t c =
+pub has_too_wide-is_list_narrow-requires : goal.has_too_wide-is_list_narrow-requires
+has_too_wide-is_list_narrow-requires t c =
     let few : suc (nodes_in_all (forest c.in-Elem.kids.items)) ≤ MAX_NODES = rw (c.in-Elem.is, plain-Elem) at c.requires in
     rw c.deref.ensures.value (omega (arith, few, length-nodes c.in-Elem.kids.items))
 
-pub has_too_wide-returns-then-not-is_narrow : goal.has_too_wide-returns-then-not-is_narrow
-has_too_wide-returns-then-not-is_narrow t c =
+pub has_too_wide-returns-then-not-is_list_narrow : goal.has_too_wide-returns-then-not-is_list_narrow
+has_too_wide-returns-then-not-is_list_narrow t c =
     let g = plain_dtd c.args.dtd.now in
     rw (c.in-Elem.is, plain-Elem) (finds_own (IsListForVerdict g) c.in-Elem.name c.in-Elem.attrs (plain_end c.in-Elem.end) (forest c.in-Elem.kids.items) c.in-Elem.mark c.args.places.now.items
-    (λ fits. let h : c.is_narrow.result ≡ true = c.is_narrow.ensures.1 (rw c.deref.ensures.value fits) in cc))
+    (λ fits. let h : c.is_list_narrow.result ≡ true = c.is_list_narrow.ensures.1 (rw c.deref.ensures.value fits) in cc))
 
 pub has_too_wide-returns : goal.has_too_wide-returns
 has_too_wide-returns t c =
     let g = plain_dtd c.args.dtd.now in
     rw (c.in-Elem.is, plain-Elem) (IfOk-weaker c.has_too_wide_kid.result _ _
     (λ found. finds_kids (IsListForVerdict g) c.in-Elem.name c.in-Elem.attrs (plain_end c.in-Elem.end) (forest c.in-Elem.kids.items) c.in-Elem.mark c.args.places.now.items c.has_too_wide_kid.new.places.items found
-    (rw c.deref.ensures.value at (c.is_narrow.ensures.0 c.if-not-is_narrow.false)))
+    (rw c.deref.ensures.value at (c.is_list_narrow.ensures.0 c.if-not-is_list_narrow.false)))
     (rw c.deref-2.ensures.value at c.has_too_wide_kid.ensures))
 
 pub has_too_wide_kid-overflow_cast-i : goal.has_too_wide_kid-overflow_cast-i

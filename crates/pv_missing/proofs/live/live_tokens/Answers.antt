@@ -1,4 +1,3 @@
-use Rattle.std.proofs.Common.{arith}
 use Rattle.pv_model.specs.declared.models.Token.TheVariants as token
 use Rattle.pv_productive.specs.PlainForms.{dtd_of}
 use Rattle.pv_missing.proofs.Following.{follows_all, follows_more, known_first}

@@ -1,4 +1,4 @@
-use Rattle.std.proofs.Common.{ap, map, option_map, sym, ◌∙◌}
+use Rattle.std.proofs.Common.{Some, ap, map, option_map, sym, ◌∙◌}
 use Rattle.pv_model.specs.PlainForms.{plain_token}
 use Rattle.pv_missing.specs.PlainForms.{plain_of}
 use Rattle.pv_tree.specs.Words.{word_of}
@@ -13,5 +13,5 @@ pub returns-clause-verdict : goal.returns-clause-verdict
 returns-clause-verdict g c = λ root list k o h.
     let d = dtd_of c.args.grammar.now in
     let w = ap (λ v. map plain_token v) c.as_slice-2.ensures ∙ c.in_ok-tokens.ensures ∙ ap (λ e. word_of e (forest c.args.kids.now)) c.dtd.ensures ∙ sym (ap (λ v. word_of d v) k) in
-    list_judged Mark d root list (map plain_token c.as_slice-2.result.now) c.is_empty.result (plain_of c.in-Some.of) c.in_ok-verdict.verdict w
+    list_judged Mark d root list (map plain_token c.as_slice-2.result.now) c.is_empty.result (Some (plain_of c.in-Some.of)) c.in_ok-verdict.verdict w
     (bare_kids c.args.kids.now c.is_empty.result c.is_empty.ensures ∙ sym (ap (λ v. has_no_trees v) k)) h (o ∙ ap (λ v. option_map plain_of v) c.in-Some.is) c.in_ok-verdict.ensures

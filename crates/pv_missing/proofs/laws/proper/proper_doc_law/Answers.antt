@@ -1,4 +1,3 @@
-use Rattle.pv_tree.specs.PlainDocs.{plain_doc}
 use Rattle.pv_missing.proofs.laws.proper.proper_doc_law.Goals as goal
 
 pub returns : goal.returns
