@@ -11,6 +11,7 @@ use Rattle.pv_tree.specs.Marks.{unmarked_doc}
 use Rattle.pv_edit.specs.Changes.{Change, list_after, root_after, doc_after}
 use Rattle.pv_edit.specs.Effects.{change_of, next_of, parent_of, place_of}
 use Rattle.pv_edit.specs.Given.{is_new_name}
+use Rattle.pv_edit.specs.Laws.{MarksDontCount, unmarked_outcome}
 use Rattle.pv_edit.specs.Inverses.{IsKept, LeadsBack, ends_short, name_on, end_of, put_back, inverse_of}
 use Rattle.pv_edit.specs.Reasons.{is_given, is_spot, is_root, is_one_element, items_of, kids_at, lacks_node, lacks_list, lacks_element, lacks_text, goes_too_deep, makes_close_mark, spells_close_mark, unless, reason_of, applied, outcome, gives}
 use Rattle.pv_edit.specs.declared.reasons.Reason.{Reason}
@@ -169,3 +170,18 @@ made-leads {M = M} blank doc made edit k h =
       is_edited = ap (λ (o : Option Reason). outcome o (doc_after (change_of tt (remarked f doc.root) edit) (unmarked_doc doc))) none ∙ ap gives edited;
       is_inverse = inverse-as f doc.root edit;
     }
+
+-- an outcome without its marks
+outcome-as : {M : Type 0} (o : Option Reason) (doc : PlainDoc M) → outcome o (unmarked_doc doc) ≡ unmarked_outcome (outcome o doc)
+outcome-as None doc = refl
+outcome-as (Some reason) doc = refl
+
+pub marks-dont-count : (M : Type 0) → MarksDontCount M
+marks-dont-count M blank doc edit =
+    let f : M → Unit = λ _. tt in
+    let edited : doc_after (change_of tt (remarked f doc.root) edit) (unmarked_doc doc) ≡ unmarked_doc (doc_after (change_of blank doc.root edit) doc) =
+    ap (λ (t : Tree Unit). record (unmarked_doc doc) { root = t }) (root-edited f blank doc.root edit) in (
+      ap (λ (o : Option Reason). outcome o (doc_after (change_of tt (remarked f doc.root) edit) (unmarked_doc doc))) (reason-as f blank doc.root edit)
+          ∙ ap (outcome (reason_of blank doc.root edit)) edited ∙ outcome-as (reason_of blank doc.root edit) (doc_after (change_of blank doc.root edit) doc),
+      inverse-as f doc.root edit,
+    )

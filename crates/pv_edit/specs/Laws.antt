@@ -12,7 +12,7 @@ use Rattle.pv_tree.specs.Marks.{unmarked_doc}
 use Rattle.pv_edit.specs.Given.{is_line_end, is_new_text, new_units}
 use Rattle.pv_edit.specs.Inverses.{IsKept, LeadsBack, change_back, inverse_of, reverted}
 use Rattle.pv_edit.specs.Leaves.{IsOfTags, leaves_in}
-use Rattle.pv_edit.specs.Reasons.{applied, gives}
+use Rattle.pv_edit.specs.Reasons.{Outcome, applied, gives, refuses}
 use Rattle.pv_edit.specs.declared.edits.Edit.{Edit}
 use Rattle.pv_edit.specs.declared.inverses.Inverse.{Inverse}
 
@@ -45,3 +45,13 @@ OtherListsStay M = (blank : M) (doc made : PlainDoc M) (edit : Edit) → IsTrue 
 abbrev pub OtherListsStayUndone : Type 0 → Type 0
 OtherListsStayUndone M = (blank : M) (inverse : Inverse) (doc : PlainDoc M) (before : PlainDoc Unit) (l : LeadsBack inverse doc before) →
     (path : List ℕ) (kids : List (Tree M)) → list_at path (reverted blank doc inverse).root ≡ Some kids → IsNone path (changed_lists (undoes l.edit)) → IsKeptList (change_back blank doc.root inverse) doc (reverted blank doc inverse) path
+
+-- the outcome without the marks of its document
+abbrev pub unmarked_outcome : {M : Type 0} → Outcome M → Outcome Unit
+unmarked_outcome (gives doc) = gives (unmarked_doc doc)
+unmarked_outcome (refuses reason) = refuses reason
+
+-- An edit does the same whatever the marks of the document are, and has the same inverse.
+abbrev pub MarksDontCount : Type 0 → Type 0
+MarksDontCount M = (blank : M) (doc : PlainDoc M) (edit : Edit) →
+    (applied tt (unmarked_doc doc) edit ≡ unmarked_outcome (applied blank doc edit)) × (inverse_of (unmarked_doc doc).root edit ≡ inverse_of doc.root edit)

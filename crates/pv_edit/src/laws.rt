@@ -1,7 +1,7 @@
 //! Laws on edits and their inverses.
 
 ghost use Rattle.pv_tree.specs.declared.nodes.Mark.{Mark};
-ghost use Rattle.pv_edit.specs.Laws.{EditsKeep, InversesLeadBack, LeadsToOne, NewTextsMeanUnits, OtherListsStay, OtherListsStayUndone, TagsKeepLeaves};
+ghost use Rattle.pv_edit.specs.Laws.{EditsKeep, InversesLeadBack, LeadsToOne, MarksDontCount, NewTextsMeanUnits, OtherListsStay, OtherListsStayUndone, TagsKeepLeaves};
 
 /// The document that an inverse makes of an edited one is the one that it leads back to.
 pub fn leads_back_law()
@@ -36,4 +36,9 @@ pub fn other_lists_law()
 /// The same where an edit is taken back.
 pub fn other_lists_undone_law()
     ensures { OtherListsStayUndone Mark }
+{}
+
+/// An edit does the same whatever the marks of the document are.
+pub fn marks_law()
+    ensures { MarksDontCount Mark }
 {}
