@@ -1,6 +1,7 @@
 -- A filling in place of some kids, from vectors to lists of trees.
-use Rattle.std.proofs.Common.{◌≡◌, ℕ, ◌+◌, ◌-◌, ◌≤◌, List, [], ◌∷◌, ◌++◌, Vec, Global, length, take, drop, sym, ap, ◌∙◌, arith, append_assoc}
-use Rattle.std.proofs.lemmas.List.{length-map, map-append, take-map, drop-map, drop-take, take-take, append-nil}
+use Rattle.std.proofs.Common.{◌≡◌, ℕ, ◌+◌, ◌-◌, ◌≤◌, List, [], ◌∷◌, ◌++◌, Vec, Global, length, take, drop, refl, sym, ap, ◌∙◌, arith, append_assoc}
+use Rattle.std.proofs.Math.Seq.{take-append_seam, drop-append_seam}
+use Rattle.std.proofs.lemmas.List.{length-map, length-append, length-take-le, length-drop, map-append, take-map, drop-map, append-nil}
 use Rattle.std.specs.List.{between}
 use Rattle.pv_tree.specs.Plain.{Tree, Ending, element}
 use Rattle.pv_tree.specs.PlainForms.{plain, plain_all, plain_end, forest}
@@ -12,29 +13,49 @@ use Rattle.pv_tree.specs.Places.{kids_of}
 use Rattle.pv_tree.specs.Marks.{blank_mark}
 use Rattle.pv_edit.specs.Changes as changes
 use Rattle.pv_edit.specs.Changes.{in_place_of, all_kids}
-use Rattle.pv_edit.specs.Fitting.{plain_filling, filled}
+use Rattle.pv_edit.specs.Fitting.{plain_filling, with_filling}
 use Rattle.pv_edit.specs.declared.filling.Filling.{Filling}
 use Rattle.pv_edit.specs.declared.filling.Filling.TheVariants.{Around, Inner, Named}
-
-drop_below : {X : Type 0} (i j : ℕ) (xs : List X) → i ≤ j → drop i (take j xs) ≡ take (j - i) (drop i xs)
-drop_below i j xs h = let e : j ≡ i + (j - i) = omega arith in ap (λ n. drop i (take n xs)) e ∙ drop-take i (j - i) xs
 
 -- the kids that give way
 pub slice_plain : (from to : ℕ) (items : List Node) → plain_all (take (to - from) (drop from items)) ≡ between from to (plain_all items)
 slice_plain from to items = sym (take-map plain (to - from) (drop from items)) ∙ ap (take (to - from)) (sym (drop-map plain from items))
 
-pub middle_plain : (from to : ℕ) (items front middle : List Node) → from ≤ to → front ≡ take to items → middle ≡ drop from front → plain_all middle ≡ between from to (plain_all items)
-middle_plain from to items front middle h f m = ap plain_all (m ∙ ap (drop from) f ∙ drop_below from to items h) ∙ slice_plain from to items
+-- the last so many, moved before those from a place on
+rotated : {X : Type 0} (a b f : List X) (from n : ℕ) → length a ≡ from → length b ≡ n → take from ((a ++ b) ++ f) ++ (drop n (drop from ((a ++ b) ++ f)) ++ take n (drop from ((a ++ b) ++ f))) ≡ a ++ (f ++ b)
+rotated a b f from n e g = rw (← e, ← g, append_assoc a b f, take-append_seam a (b ++ f), drop-append_seam a (b ++ f), drop-append_seam b f, take-append_seam b f) refl
 
--- what stays, what comes in place, and what stays behind
-pub filled_items : (from to : ℕ) (filling : changes.Filling Mark) (items front kept middle tail put all : List Node) → from ≤ to → front ≡ take to items → kept ≡ take from front → middle ≡ drop from front → tail ≡ drop to items
-    → plain_all put ≡ plain_all kept ++ in_place_of filling (plain_all middle) → all ≡ put ++ tail → plain_all all ≡ filled from to filling (plain_all items)
-filled_items from to filling items front kept middle tail put all h f k m t p a =
-    let k2 : plain_all kept ≡ take from (plain_all items) = ap plain_all (k ∙ ap (take from) f ∙ take-take from to items h) ∙ sym (take-map plain from items) in
-    let m2 = middle_plain from to items front middle h f m in
-    let t2 : plain_all tail ≡ drop to (plain_all items) = ap plain_all t ∙ sym (drop-map plain to items) in
-    let a2 : plain_all all ≡ plain_all put ++ plain_all tail = ap plain_all a ∙ map-append plain put tail in
-    a2 ∙ rw (p, k2, m2, t2) (append_assoc (take from (plain_all items)) (in_place_of filling (between from to (plain_all items))) (drop to (plain_all items)))
+plain_three : (a b c : List Node) → plain_all (a ++ (b ++ c)) ≡ plain_all a ++ (plain_all b ++ plain_all c)
+plain_three a b c = map-append plain a (b ++ c) ∙ ap (λ (l : List (Tree Mark)). plain_all a ++ l) (map-append plain b c)
+
+plain_rotated : (from n : ℕ) (ks : List Node) → plain_all (take from ks ++ (drop n (drop from ks) ++ take n (drop from ks))) ≡ take from (plain_all ks) ++ (drop n (drop from (plain_all ks)) ++ take n (drop from (plain_all ks)))
+plain_rotated from n ks =
+    plain_three (take from ks) (drop n (drop from ks)) (take n (drop from ks))
+    ∙ sym (rw (take-map plain from ks, drop-map plain from ks, drop-map plain n (drop from ks), take-map plain n (drop from ks)) refl)
+
+plain_left : (from to : ℕ) (items : List Node) → plain_all (take from items ++ drop to items) ≡ take from (plain_all items) ++ drop to (plain_all items)
+plain_left from to items = map-append plain (take from items) (drop to items) ∙ sym (rw (take-map plain from items, drop-map plain to items) refl)
+
+-- what stays, with what comes in place behind it, which is then moved
+pub filled_items : (from to n : ℕ) (filling : changes.Filling Mark) (items left middle put all : List Node) → from ≤ to → to ≤ length items → n ≡ length items - to → left ≡ take from items ++ drop to items
+    → middle ≡ take (to - from) (drop from items) → plain_all put ≡ plain_all left ++ in_place_of filling (plain_all middle) → all ≡ take from put ++ (drop n (drop from put) ++ take n (drop from put))
+    → plain_all all ≡ with_filling from to filling (plain_all items)
+filled_items from to n filling items left middle put all h w c l m p a =
+    let ts = plain_all items in
+    let count : length ts ≡ length items = length-map items plain in
+    let m2 : plain_all middle ≡ between from to ts = ap plain_all m ∙ slice_plain from to items in
+    let p2 : plain_all put ≡ (take from ts ++ drop to ts) ++ in_place_of filling (between from to ts) = p ∙ rw (ap plain_all l ∙ plain_left from to items, m2) refl in
+    ap plain_all a ∙ plain_rotated from n put
+    ∙ ap (λ (l : List (Tree Mark)). take from l ++ (drop n (drop from l) ++ take n (drop from l))) p2
+    ∙ rotated (take from ts) (drop to ts) (in_place_of filling (between from to ts)) from n (length-take-le from ts (omega (arith, count))) (length-drop to ts ∙ ap (λ (k : ℕ). k - to) count ∙ sym c)
+
+pub left_length : (from to : ℕ) (items left : List Node) → from ≤ to → to ≤ length items → left ≡ take from items ++ drop to items → length left ≡ from + (length items - to)
+left_length from to items left h w l = ap length l ∙ rw (length-append (take from items) (drop to items), length-take-le from items (omega arith), length-drop to items) refl
+
+pub filled_length : {M : Type 0} (from to : ℕ) (filling : changes.Filling M) (ts : List (Tree M)) → from ≤ to → to ≤ length ts → length (with_filling from to filling ts) ≡ from + (length (in_place_of filling (between from to ts)) + (length ts - to))
+filled_length from to filling ts h w =
+    let ins = in_place_of filling (between from to ts) in
+    rw (length-append (take from ts) (ins ++ drop to ts), length-append ins (drop to ts), length-take-le from ts (omega arith), length-drop to ts) refl
 
 -- the kids of one element
 pub inner_is : (filling : Filling) (ts : List (Tree Mark)) (x attrs : List ℕ) (e : Ending) (ks : List Node) (m : Mark) → filling ≡ Inner → ts ≡ element x attrs e (forest ks) m ∷ [] → in_place_of (plain_filling filling) ts ≡ plain_all ks

@@ -12,7 +12,7 @@ use Rattle.pv_tree.specs.Plain.{Ending, short, tagged, Tree, element, text_node,
 use Rattle.pv_tree.specs.Places.{kids_of}
 use Rattle.pv_edit.specs.Changes.{Change, in_place_of, all_kids, with_name, list_after}
 use Rattle.pv_edit.specs.Effects.{change_of, parent_of, place_of, next_of, units_at}
-use Rattle.pv_edit.specs.Given.{is_line_end, is_text, is_unit, is_new_text, new_units}
+use Rattle.pv_edit.specs.Given.{is_line_end, is_character_data, is_unit, is_new_text, new_units}
 use Rattle.pv_edit.specs.Reasons.{is_top, is_one_element, kids_at, lacks_element, spells_close_mark, reason_of}
 use Rattle.pv_edit.specs.declared.edits.Edit.TheVariants.{Wrap, Insert, Unwrap, Rename, Split, Join, SetText, AddText, DelText}
 use Rattle.pv_edit.proofs.Deep.{whole_range}
@@ -184,7 +184,7 @@ parts-units n us all =
 
 pub given-units : (text : List ℕ) → is_new_text text ≡ true → AllUnits (new_units text) × (new_units text ≢ [])
 given-units text h =
-    let t = tested-text text (and_parts (is_text text) (not (list_any is_line_end text)) h).0 in
+    let t = tested-text text (and_parts (is_character_data text) (not (list_any is_line_end text)) h).0 in
     (t.all, λ e. t.some (t.whole ∙ ap joined e))
 
 -- of a text that gives way

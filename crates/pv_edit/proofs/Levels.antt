@@ -6,7 +6,6 @@ use Rattle.std.proofs.Math.ListN.{get_or-map}
 use Rattle.std.proofs.lemmas.Option.{slice_get-map, slice_get_within, get_or_from_slice_get}
 use Rattle.std.proofs.lemmas.Grind.{common_steps}
 use Rattle.std.proofs.lemmas.List.{map-set, length-map, length-append}
-use Rattle.std.proofs.Math.Seq.{map-set_same}
 use Rattle.pv_tree.specs.Plain.{Tree, element, text_node, cdata_node, misc_node, Forest, no_trees, tree, forest_of, trees_of, is_element}
 use Rattle.pv_tree.specs.Places.{kids_of, node_below}
 use Rattle.pv_tree.specs.PlainForms.{plain, plain_all}
@@ -25,18 +24,9 @@ with_kids-twice (text_node u) xs ys = refl
 with_kids-twice (cdata_node u) xs ys = refl
 with_kids-twice (misc_node u) xs ys = refl
 
-with_kids-same : {M : Type 0} (t : Tree M) → with_kids (kids_of t) t ≡ t
-with_kids-same (element x attrs e k m) = ap (λ f. element x attrs e f m) (forest-trees k)
-with_kids-same (text_node u) = refl
-with_kids-same (cdata_node u) = refl
-with_kids-same (misc_node u) = refl
-
 -- kids put back where they were taken out
 pub put_back : {M : Type 0} (t u v : Tree M) (ls : List (Tree M)) → u ≡ with_kids [] t → v ≡ with_kids ls u → v ≡ with_kids ls t
 put_back t u v ls f h = h ∙ ap (with_kids ls) f ∙ with_kids-twice t [] ls
-
-pub unchanged : (t u v : Tree Mark) (ks ls : List Node) → plain_all ks ≡ kids_of t → u ≡ with_kids [] t → v ≡ with_kids (plain_all ls) u → plain_all ls ≡ plain_all ks → v ≡ t
-unchanged t u v ks ls e f h same = put_back t u v (plain_all ls) f h ∙ ap (λ l. with_kids l t) (same ∙ e) ∙ with_kids-same t
 
 -- a path's first place and the rest, as the code sees them
 pub path-split : (path : List ℕ) → 1 ≤ length path → path ≡ get_or path 0 0 ∷ take (length path - 1) (drop 1 path)
@@ -92,9 +82,6 @@ spot_elem (i ∷ path) P (element x attrs e k m) n h = refl
 spot_elem (i ∷ path) P (text_node u) n h = absurd h
 spot_elem (i ∷ path) P (cdata_node u) n h = absurd h
 spot_elem (i ∷ path) P (misc_node u) n h = absurd h
-
-pub set_same : (ks : List Node) (i : ℕ) (d kid : Node) → plain kid ≡ plain (get_or ks i d) → plain_all (slice_set ks i kid) ≡ plain_all ks
-set_same ks i d kid h = map-set_same plain ks i kid d h
 
 too_many : (b : Node) (bs : List Node) (first : Node) (ts : List (Tree Mark)) → plain_all ((b ∷ bs) ++ first ∷ []) ≡ ts → length ts ≡ 1 → ⊥
 too_many b bs first ts e n = let m : length (plain_all (bs ++ first ∷ [])) ≡ length bs + 1 = simp (length-map, length-append) (omega arith) in omega (arith, m, ap length e)

@@ -1,4 +1,5 @@
 pub mod Filled
+pub mod Roomy
 pub mod Levels
 pub mod Paths
 pub mod Searching

@@ -45,7 +45,7 @@ node-below-kid (j ∷ path) i t =
     elim (slice_get (kids_of t) j) as (λ o. option_and_then (node_below (path ++ i ∷ [])) o ≡ option_and_then (λ u. slice_get (kids_of u) i) (option_and_then (node_below path) o))
     [ None ↦ refl | Some u ↦ node-below-kid path i u ]
 
-kids-items : {M : Type 0} (t : Tree M) → kids_of t ≡ items_of (list_of t)
+pub kids-items : {M : Type 0} (t : Tree M) → kids_of t ≡ items_of (list_of t)
 kids-items (element x attrs e kids m) = refl
 kids-items (text_node units) = refl
 kids-items (cdata_node bytes) = refl

@@ -21,7 +21,7 @@ use Rattle.pv_chars.proofs.MeansLemmas.{text_means_only}
 use Rattle.pv_chars.proofs.CutLemmas.{units_in-joined}
 use Rattle.pv_chars.proofs.NameLemmas.{IsName-is_name}
 use Rattle.pv_chars.proofs.Ranges.{char_is_scalar}
-use Rattle.pv_edit.specs.Given.{is_line_end, is_new_text, new_units, is_some_bytes, is_one_literal, inner_part, are_char_digits, is_char_ref_in, is_unit, is_text}
+use Rattle.pv_edit.specs.Given.{is_line_end, is_new_text, new_units, is_some_bytes, is_one_literal, inner_part, are_char_digits, is_char_ref_in, is_unit, is_character_data}
 
 -- ---- one unit
 literal-tested : (u : List ℕ) → IsLiteral u → (is_utf8 u && is_one_literal (chars u)) ≡ true
@@ -210,7 +210,7 @@ meant-text bytes out (inr m) =
 pub text-means : (bytes : List ℕ) → IsText bytes → TextMeans bytes (Ok (units_in bytes))
 text-means bytes t = inr (t.some, subst (λ (l : List ℕ). Means [] l (Ok (units_in bytes))) (sym t.whole) (means-units [] (units_in bytes) t.all t.no_mark))
 
-pub tested-text : (bytes : List ℕ) → is_text bytes ≡ true → IsText bytes
+pub tested-text : (bytes : List ℕ) → is_character_data bytes ≡ true → IsText bytes
 tested-text bytes h =
     let us = units_in bytes in
     let p = and_parts (is_some_bytes bytes && list_all is_unit us && bytes_eq (joined us) bytes) (not (holds_close_mark us)) h in
@@ -218,26 +218,26 @@ tested-text bytes h =
     let r = and_parts (is_some_bytes bytes) (list_all is_unit us) q.0 in
     record { some = tested-some bytes r.0; all = tested-units us r.1; whole = sym ((bytes_eq-Decides (joined us) bytes).0 q.1); no_mark = not-true (holds_close_mark us) p.1 }
 
-text-tested : (bytes : List ℕ) → IsText bytes → is_text bytes ≡ true
+text-tested : (bytes : List ℕ) → IsText bytes → is_character_data bytes ≡ true
 text-tested bytes t =
     let us = units_in bytes in
     and_from _ _ (and_from _ _ (and_from (is_some_bytes bytes) (list_all is_unit us) (some-tested bytes t.some) (units-tested us t.all)) ((bytes_eq-Decides (joined us) bytes).1 (sym t.whole))) (not_from_false (holds_close_mark us) t.no_mark)
 
-pub meant-tested : (bytes : List ℕ) (out : List (List ℕ)) → TextMeans bytes (Ok out) → (is_text bytes ≡ true) × (out ≡ units_in bytes)
+pub meant-tested : (bytes : List ℕ) (out : List (List ℕ)) → TextMeans bytes (Ok out) → (is_character_data bytes ≡ true) × (out ≡ units_in bytes)
 meant-tested bytes out m = let t = meant-text bytes out m in (text-tested bytes t.0, t.1)
 
 pub new-text : (bytes : List ℕ) → IsTrue (is_new_text bytes) ↔ (TextMeans bytes (Ok (new_units bytes)) × (list_any is_line_end bytes ≡ false))
 new-text bytes = (
-  λ h. let p = and_parts (is_text bytes) (not (list_any is_line_end bytes)) h in (text-means bytes (tested-text bytes p.0), not-true (list_any is_line_end bytes) p.1),
-  λ m. and_from (is_text bytes) (not (list_any is_line_end bytes)) (meant-tested bytes (units_in bytes) m.0).0 (not_from_false (list_any is_line_end bytes) m.1),
+  λ h. let p = and_parts (is_character_data bytes) (not (list_any is_line_end bytes)) h in (text-means bytes (tested-text bytes p.0), not-true (list_any is_line_end bytes) p.1),
+  λ m. and_from (is_character_data bytes) (not (list_any is_line_end bytes)) (meant-tested bytes (units_in bytes) m.0).0 (not_from_false (list_any is_line_end bytes) m.1),
 )
 
 pub new-tested : (bytes : List ℕ) (out : List (List ℕ)) (line_end : Bool) → TextMeans bytes (Ok out) → line_end ≡ list_any is_line_end bytes → line_end ≡ false → true ≡ is_new_text bytes
-new-tested bytes out line_end m e f = sym (and_from (is_text bytes) (not (list_any is_line_end bytes)) (meant-tested bytes out m).0 (not_from_false (list_any is_line_end bytes) (sym e ∙ f)))
+new-tested bytes out line_end m e f = sym (and_from (is_character_data bytes) (not (list_any is_line_end bytes)) (meant-tested bytes out m).0 (not_from_false (list_any is_line_end bytes) (sym e ∙ f)))
 
 pub refused-text : (bytes : List ℕ) (e : TextError) → (e ≡ NoMemory) ⊎ TextMeans bytes (Err e) → (e ≡ NoMemory → ⊥) → false ≡ is_new_text bytes
 refused-text bytes e (inl m) h = absurd (h m)
 refused-text bytes e (inr m) h =
     sym (false_from_ne_true (is_new_text bytes) (λ t.
-    let p = and_parts (is_text bytes) (not (list_any is_line_end bytes)) t in
+    let p = and_parts (is_character_data bytes) (not (list_any is_line_end bytes)) t in
     let same = text_means_only bytes (Err e) (Ok (units_in bytes)) m (text-means bytes (tested-text bytes p.0)) in cc))

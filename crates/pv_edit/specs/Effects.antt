@@ -24,16 +24,16 @@ abbrev pub next_of : List ℕ → List ℕ
 next_of path = parent_of path ++ (place_of path + 1) ∷ []
 
 -- the units of a text
-abbrev pub units_in : {M : Type 0} → Tree M → List (List ℕ)
-units_in (element x attrs ending kids mark) = []
-units_in (text_node units) = units
-units_in (cdata_node bytes) = []
-units_in (misc_node bytes) = []
+abbrev pub node_units : {M : Type 0} → Tree M → List (List ℕ)
+node_units (element x attrs ending kids mark) = []
+node_units (text_node units) = units
+node_units (cdata_node bytes) = []
+node_units (misc_node bytes) = []
 
 abbrev pub units_on : {M : Type 0} → Option (Spot M) → List (List ℕ)
 units_on None = []
 units_on (Some at_document) = []
-units_on (Some (at_node t)) = units_in t
+units_on (Some (at_node t)) = node_units t
 
 -- the units of the text at a path
 abbrev pub units_at : {M : Type 0} → List ℕ → Tree M → List (List ℕ)

@@ -27,8 +27,8 @@ Fits plain_changes.inner ts = IsTrue (is_one_element ts)
 Fits (plain_changes.named name) ts = IsTrue (is_one_element ts)
 
 -- the trees with a filling in place of some
-abbrev pub filled : {M : Type 0} → ℕ → ℕ → plain_changes.Filling M → List (Tree M) → List (Tree M)
-filled from to filling ts = splice ts from to (in_place_of filling (between from to ts))
+abbrev pub with_filling : {M : Type 0} → ℕ → ℕ → plain_changes.Filling M → List (Tree M) → List (Tree M)
+with_filling from to filling ts = splice ts from to (in_place_of filling (between from to ts))
 
 -- the change of the list at a path
 abbrev pub plain_change : List ℕ → Change → plain_changes.Change Mark

@@ -41,8 +41,8 @@ is_unit bytes =
     || list_any (bytes_eq bytes) (codes "&lt;" ∷ codes "&gt;" ∷ codes "&amp;" ∷ codes "&apos;" ∷ codes "&quot;" ∷ [])))
 
 -- the bytes are units, at least one, and no `]]>` stands among them
-abbrev pub is_text : List ℕ → Bool
-is_text bytes = is_some_bytes bytes && list_all is_unit (units_in bytes) && bytes_eq (joined (units_in bytes)) bytes && not (holds_close_mark (units_in bytes))
+abbrev pub is_character_data : List ℕ → Bool
+is_character_data bytes = is_some_bytes bytes && list_all is_unit (units_in bytes) && bytes_eq (joined (units_in bytes)) bytes && not (holds_close_mark (units_in bytes))
 
 -- a literal CR or LF
 abbrev pub is_line_end : ℕ → Bool
@@ -50,7 +50,7 @@ is_line_end b = (b == 13) || (b == 10)
 
 -- a text that may be put into a document: character data with no literal line end
 abbrev pub is_new_text : List ℕ → Bool
-is_new_text bytes = is_text bytes && not (list_any is_line_end bytes)
+is_new_text bytes = is_character_data bytes && not (list_any is_line_end bytes)
 
 -- its units
 abbrev pub new_units : List ℕ → List (List ℕ)

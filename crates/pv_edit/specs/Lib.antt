@@ -1,3 +1,4 @@
+pub mod Edits
 pub mod Given
 pub mod Changes
 pub mod Effects
@@ -8,6 +9,7 @@ pub mod Places
 pub mod CloseMarks
 pub mod Refusals
 pub mod Fitting
+pub mod Rooms
 pub mod Laws
 pub mod Plans
 pub mod Leaves

@@ -4,21 +4,25 @@ use crate::reasons::Reason;
 use pv_chars::List;
 use pv_tree::{Path, Verdict};
 
-/// What an accepted change cost: the lists that were checked, and how many lists are Possible after it.
+/// What an accepted change cost, and what it left.
 #[derive(Clone, Copy, Debug, PartialEq, Eq)]
 pub struct Done {
+    /// The lists that were checked.
     pub checked: u32,
+    /// The lists that are Possible after it.
     pub left: u64,
 }
 
-/// Why an edit isn't accepted. `Shape`: it can't be made, by its first reason. `Impossible`: inserting elements could no longer make
-/// the document valid; the path is that of the first impossible list. `Limit`: the document would be past a limit. `NoMemory`: there
-/// was too little memory.
+/// Why an edit isn't accepted.
 #[derive(Debug, Drop)]
 pub enum EditAnswer {
+    /// It can't be made; this is the first reason.
     Shape(Reason),
+    /// Inserting elements could no longer make the document valid; this is the path of the first impossible list.
     Impossible(Path),
+    /// The document would be past a limit.
     Limit,
+    /// There was too little memory.
     NoMemory,
 }
 

@@ -16,6 +16,7 @@ use crate::edits::Edit;
 use crate::inverses::Inverse;
 use crate::plans::{Plan, Task, plan_of};
 use crate::reasons::EditError;
+use crate::rooms::room_for;
 use crate::shapes::first_reason;
 use crate::ways_back::task_back;
 use pv_chars::NoMemory;
@@ -60,5 +61,7 @@ fn make(alloc: Global, doc: &mut Doc, task: Task) -> Result<(), NoMemory>
     ensures err { OnErr result (plain_doc doc.new ≡ plain_doc doc.old) }
 {
     let Task { list, change } = task;
-    change_root(alloc, &mut doc.root, list.places(), change)
+    let room = room_for(alloc, doc, &list, &change)?;
+    change_root(alloc, &mut doc.root, list.places(), change, room);
+    Ok(())
 }

@@ -1,14 +1,16 @@
 //! A change of one list, wherever it stands in a tree.
 
-ghost use Rattle.std.specs.Prelude.{◌≡◌, [], OnOk, OnErr, IsSomeAnd, IsTrue};
+ghost use Rattle.std.specs.Prelude.{◌≡◌, [], ◌∷◌, IsSomeAnd, IsTrue};
 ghost use Rattle.pv_tree.specs.Plain.{is_element};
 ghost use Rattle.pv_tree.specs.Places.{kids_of, node_below};
 ghost use Rattle.pv_tree.specs.PlainForms.{plain, plain_all, plain_end};
 ghost use Rattle.pv_edit.specs.Changes.{change_below, ending_after, owner_after, root_after, with_list};
-ghost use Rattle.pv_edit.specs.Fitting.{CanChange, Takes, plain_change, with_kids};
+ghost use Rattle.pv_edit.specs.Fitting.{CanChange, TakesTop, plain_change, with_kids};
+ghost use Rattle.pv_edit.specs.Rooms.{HasRoom, HasRoomAt, TakesIn};
 
 use crate::filling::{Filling, fill};
-use pv_chars::{List, NoMemory};
+use crate::rooms::{Room, in_wider};
+use pv_chars::List;
 use pv_tree::{End, Node};
 use std::alloc::Global;
 use std::mem;
@@ -23,66 +25,55 @@ pub(crate) struct Change {
     pub shorten: bool,
 }
 
-/// Changes the list at a path, or leaves the root as it is.
-pub(crate) fn change_root(
-    alloc: Global,
-    root: &mut Node,
-    list: &[u32],
-    change: Change,
-) -> Result<(), NoMemory>
-    requires { CanChange list.now (plain_change list.now change) (plain root.old) }
-    ensures ok { OnOk result (plain root.new ≡ root_after list.now (plain_change list.now change) (plain root.old)) }
-    ensures err { OnErr result (plain root.new ≡ plain root.old) }
+/// Changes the list at a path, in memory that was taken before.
+pub(crate) fn change_root(alloc: Global, root: &mut Node, list: &[u32], change: Change, room: Room)
+    requires can { CanChange list.now (plain_change list.now change) (plain root.old) }
+    requires room { HasRoomAt room list.now (plain_change list.now change) (plain root.old) }
+    ensures { plain root.new ≡ root_after list.now (plain_change list.now change) (plain root.old) }
 {
     match list {
-        [] => change_top(alloc, root, change),
-        [_, below @ ..] => change_below(alloc, root, below, change),
+        [] => change_top(alloc, root, change, room),
+        [_, below @ ..] => change_below(alloc, root, below, change, room),
     }
 }
 
 // Changes the list of the document node, which holds the root alone.
-fn change_top(alloc: Global, root: &mut Node, change: Change) -> Result<(), NoMemory>
-    requires { CanChange [] (plain_change [] change) (plain root.old) }
-    ensures ok { OnOk result (plain root.new ≡ root_after [] (plain_change [] change) (plain root.old)) }
-    ensures err { OnErr result (plain root.new ≡ plain root.old) }
+fn change_top(alloc: Global, root: &mut Node, change: Change, room: Room)
+    requires can { TakesTop (plain_change [] change) (plain root.old) }
+    requires room { HasRoom room 0 (plain_change [] change) (plain root.old ∷ []) }
+    ensures { plain root.new ≡ root_after [] (plain_change [] change) (plain root.old) }
 {
-    let mut kids = Vec::with_capacity(alloc, 1)?;
+    let Room {
+        list: mut kids,
+        taken,
+    } = room;
     kids.push_reserved(mem::replace(root, placeholder(alloc)));
-    let outcome = fill(&mut kids, change.from, change.to, change.filling);
+    fill(&mut kids, change.from, change.to, change.filling, taken);
     let Some(first) = kids.pop() else {
         unreachable!()
     };
     drop(mem::replace(root, first));
-    outcome
 }
 
 // Changes the list of the element at a path below a node.
-fn change_below(
-    alloc: Global,
-    node: &mut Node,
-    path: &[u32],
-    change: Change,
-) -> Result<(), NoMemory>
-    requires { IsSomeAnd (node_below path.now (plain node.old)) (Takes (plain_change [] change)) }
-    ensures ok { OnOk result (plain node.new ≡ change_below path.now (owner_after (plain_change [] change)) (plain node.old)) }
-    ensures err { OnErr result (plain node.new ≡ plain node.old) }
+fn change_below(alloc: Global, node: &mut Node, path: &[u32], change: Change, room: Room)
+    requires { IsSomeAnd (node_below path.now (plain node.old)) (TakesIn room (plain_change [] change)) }
+    ensures { plain node.new ≡ change_below path.now (owner_after (plain_change [] change)) (plain node.old) }
 {
     match path {
-        [] => change_owner(alloc, node, change),
+        [] => change_owner(alloc, node, change, room),
         [first, rest @ ..] => {
             let mut kids = take_kids(alloc, node);
-            let outcome = change_below(alloc, &mut kids[*first as usize], rest, change);
+            change_below(alloc, &mut kids[*first as usize], rest, change, room);
             put_kids(alloc, node, kids);
-            outcome
         }
     }
 }
 
 // Changes the list of an element.
-fn change_owner(alloc: Global, node: &mut Node, change: Change) -> Result<(), NoMemory>
-    requires { Takes (plain_change [] change) (plain node.old) }
-    ensures ok { OnOk result (plain node.new ≡ owner_after (plain_change [] change) (plain node.old)) }
-    ensures err { OnErr result (plain node.new ≡ plain node.old) }
+fn change_owner(alloc: Global, node: &mut Node, change: Change, room: Room)
+    requires { TakesIn room (plain_change [] change) (plain node.old) }
+    ensures { plain node.new ≡ owner_after (plain_change [] change) (plain node.old) }
 {
     let Change {
         from,
@@ -90,17 +81,9 @@ fn change_owner(alloc: Global, node: &mut Node, change: Change) -> Result<(), No
         filling,
         shorten,
     } = change;
-    let mut kids = take_kids(alloc, node);
-    match fill(&mut kids, from, to, filling) {
-        Ok(()) => {
-            put_list(alloc, node, kids, shorten);
-            Ok(())
-        }
-        Err(_) => {
-            put_kids(alloc, node, kids);
-            Err(NoMemory)
-        }
-    }
+    let mut kids = in_wider(take_kids(alloc, node), room.list);
+    fill(&mut kids, from, to, filling, room.taken);
+    put_list(alloc, node, kids, shorten);
 }
 
 // A node that stands nowhere.

@@ -1,6 +1,7 @@
 //! Edits.
 
 ghost use Rattle.std.specs.Prelude.{◌≡◌, IfOk};
+ghost use Rattle.pv_edit.specs.Edits.{path_named};
 
 use pv_chars::{Bytes, List, NoMemory, bytes_of};
 use pv_tree::Path;
@@ -62,50 +63,54 @@ impl Edit {
     pub fn copy(&self, alloc: Global) -> Result<Edit, NoMemory>
         ensures { IfOk result (λ e. e ≡ self.now) }
     {
+        let path = path_of(alloc, self.path())?;
         Ok(match self {
-            Edit::Wrap {
+            Edit::Wrap { from, to, name, .. } => Edit::Wrap {
                 path,
-                from,
-                to,
-                name,
-            } => Edit::Wrap {
-                path: path_of(alloc, path)?,
                 from: *from,
                 to: *to,
                 name: bytes_of(alloc, name.as_slice())?,
             },
-            Edit::Insert { path, at, name } => Edit::Insert {
-                path: path_of(alloc, path)?,
+            Edit::Insert { at, name, .. } => Edit::Insert {
+                path,
                 at: *at,
                 name: bytes_of(alloc, name.as_slice())?,
             },
-            Edit::Unwrap { path } => Edit::Unwrap {
-                path: path_of(alloc, path)?,
-            },
-            Edit::Rename { path, name } => Edit::Rename {
-                path: path_of(alloc, path)?,
+            Edit::Unwrap { .. } => Edit::Unwrap { path },
+            Edit::Rename { name, .. } => Edit::Rename {
+                path,
                 name: bytes_of(alloc, name.as_slice())?,
             },
-            Edit::Split { path, at } => Edit::Split {
-                path: path_of(alloc, path)?,
-                at: *at,
-            },
-            Edit::Join { path } => Edit::Join {
-                path: path_of(alloc, path)?,
-            },
-            Edit::SetText { path, text } => Edit::SetText {
-                path: path_of(alloc, path)?,
+            Edit::Split { at, .. } => Edit::Split { path, at: *at },
+            Edit::Join { .. } => Edit::Join { path },
+            Edit::SetText { text, .. } => Edit::SetText {
+                path,
                 text: bytes_of(alloc, text.as_slice())?,
             },
-            Edit::AddText { path, at, text } => Edit::AddText {
-                path: path_of(alloc, path)?,
+            Edit::AddText { at, text, .. } => Edit::AddText {
+                path,
                 at: *at,
                 text: bytes_of(alloc, text.as_slice())?,
             },
-            Edit::DelText { path } => Edit::DelText {
-                path: path_of(alloc, path)?,
-            },
+            Edit::DelText { .. } => Edit::DelText { path },
         })
+    }
+
+    // The path that it names.
+    fn path(&self) -> &Path
+        ensures { result.now ≡ path_named self.now }
+    {
+        match self {
+            Edit::Wrap { path, .. } => path,
+            Edit::Insert { path, .. } => path,
+            Edit::Unwrap { path } => path,
+            Edit::Rename { path, .. } => path,
+            Edit::Split { path, .. } => path,
+            Edit::Join { path } => path,
+            Edit::SetText { path, .. } => path,
+            Edit::AddText { path, .. } => path,
+            Edit::DelText { path } => path,
+        }
     }
 }
 

@@ -1,15 +1,15 @@
 //! Kids that give way to others, in one list.
 
-ghost use Rattle.std.specs.Prelude.{◌≡◌, ◌+◌, ◌++◌, ◌≤◌, [], ◌∷◌, OnOk, OnErr, IsTrue, length, vec_len, vec_capacity};
+ghost use Rattle.std.specs.Prelude.{◌≡◌, ◌+◌, ◌-◌, ◌++◌, ◌≤◌, [], ◌∷◌, IsTrue, drop, length, take, vec_len, vec_capacity};
 ghost use Rattle.std.specs.List.{between};
 ghost use Rattle.pv_tree.specs.Plain.{element};
 ghost use Rattle.pv_tree.specs.Places.{kids_of};
 ghost use Rattle.pv_tree.specs.PlainForms.{forest, plain, plain_all, plain_end};
 ghost use Rattle.pv_edit.specs.Changes.{in_place_of};
 ghost use Rattle.pv_edit.specs.Reasons.{is_one_element};
-ghost use Rattle.pv_edit.specs.Fitting.{Fits, plain_filling, filled};
+ghost use Rattle.pv_edit.specs.Fitting.{Fits, plain_filling, with_filling};
 
-use pv_chars::{Bytes, NoMemory};
+use pv_chars::Bytes;
 use pv_tree::{End, Mark, Node};
 
 /// What comes in place of some kids.
@@ -25,36 +25,50 @@ pub(crate) enum Filling {
     Named(Bytes),
 }
 
-/// Puts others in place of the kids from one place up to another.
-pub(crate) fn fill(
-    kids: &mut Vec<Node>,
-    from: usize,
-    to: usize,
-    filling: Filling,
-) -> Result<(), NoMemory>
+/// Puts others in place of the kids from one place up to another, in a list that has room for them. Those that give way go through the
+/// vector `taken`.
+pub(crate) fn fill(kids: &mut Vec<Node>, from: usize, to: usize, filling: Filling, taken: Vec<Node>)
     requires order { from ≤ to }
     requires within { to ≤ vec_len kids.old }
     requires fits { Fits (plain_filling filling) (between from to (plain_all kids.old.items)) }
-    ensures ok { OnOk result (plain_all kids.new.items ≡ filled from to (plain_filling filling) (plain_all kids.old.items)) }
-    ensures err { OnErr result (plain_all kids.new.items ≡ plain_all kids.old.items) }
+    requires room { length (with_filling from to (plain_filling filling) (plain_all kids.old.items)) ≤ vec_capacity kids.old }
+    requires empty { taken.items ≡ [] }
+    requires taken { to - from ≤ vec_capacity taken }
+    ensures { plain_all kids.new.items ≡ with_filling from to (plain_filling filling) (plain_all kids.old.items) }
 {
-    kids.reserve(room_for(&filling, &kids[from..to]))?;
-    let mut tail = kids.split_off(to)?;
-    match kids.split_off(from) {
-        Ok(middle) => {
-            put_in_place(kids, middle, filling);
-            move_behind(kids, &mut tail);
-            Ok(())
-        }
-        Err(_) => {
-            move_behind(kids, &mut tail);
-            Err(NoMemory)
-        }
-    }
+    let middle = take_range(kids, from, to, taken);
+    let left = kids.len();
+    put_in_place(kids, middle, filling);
+    let count = kids.len() - left;
+    move_last(kids, from, count);
 }
 
-// How many nodes come in place of these.
-fn room_for(filling: &Filling, middle: &[Node]) -> usize
+// Takes the kids from one place up to another out, into a vector that has room for them.
+fn take_range(kids: &mut Vec<Node>, from: usize, to: usize, mut taken: Vec<Node>) -> Vec<Node>
+    requires order { from ≤ to }
+    requires within { to ≤ vec_len kids.old }
+    requires empty { taken.items ≡ [] }
+    requires taken { to - from ≤ vec_capacity taken }
+    ensures taken { result.items ≡ take (to - from) (drop from kids.old.items) }
+    ensures items { kids.new.items ≡ take from kids.old.items ++ drop to kids.old.items }
+    ensures capacity { vec_capacity kids.new ≡ vec_capacity kids.old }
+{
+    for kid in kids.drain(from..to) {
+        taken.push_reserved(kid);
+    }
+    taken
+}
+
+// Moves the last so many kids before those from a place on.
+fn move_last(kids: &mut Vec<Node>, from: usize, count: usize)
+    requires { from + count ≤ vec_len kids.old }
+    ensures { kids.new.items ≡ take from kids.old.items ++ (drop (vec_len kids.old - from - count) (drop from kids.old.items) ++ take (vec_len kids.old - from - count) (drop from kids.old.items)) }
+{
+    kids[from..].rotate_right(count);
+}
+
+/// How many nodes come in place of these.
+pub(crate) fn count_in_place(filling: &Filling, middle: &[Node]) -> usize
     requires { Fits (plain_filling filling.now) (plain_all middle.now) }
     ensures { result ≡ length (in_place_of (plain_filling filling.now) (plain_all middle.now)) }
 {
@@ -157,8 +171,8 @@ fn parts_of(mut nodes: Vec<Node>) -> Parts
     }
 }
 
-// Moves the nodes of another vector behind those of one that has room for them.
-fn move_behind(kids: &mut Vec<Node>, more: &mut Vec<Node>)
+/// Moves the nodes of another vector behind those of one that has room for them.
+pub(crate) fn move_behind(kids: &mut Vec<Node>, more: &mut Vec<Node>)
     requires { vec_len kids.old + vec_len more.old ≤ vec_capacity kids.old }
     ensures items { kids.new.items ≡ kids.old.items ++ more.old.items }
     ensures len { vec_len kids.new ≡ vec_len kids.old + vec_len more.old }

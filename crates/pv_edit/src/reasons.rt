@@ -30,11 +30,13 @@ pub enum Reason {
     CloseMark,
 }
 
-/// Why an edit isn't made. `Shape`: its first reason. `NoMemory`: there was too little memory.
+/// Why an edit isn't made.
 #[derive(Debug, Drop, Error)]
 pub enum EditError {
+    /// It can't be made; this is the first reason.
     #[error("the edit can't be made on this document")]
     Shape(Reason),
+    /// There was too little memory.
     #[error("out of memory")]
     NoMemory,
 }

@@ -26,7 +26,7 @@ pub(crate) fn task_back(alloc: Global, doc: &Doc, inverse: &Inverse) -> Result<T
     ensures { IfOk result (IsTask (plain_doc doc.now).root inverse.now) }
 {
     match inverse {
-        Inverse::TakeOut { path, short } => replaced(alloc, path, Filling::Inner, *short),
+        Inverse::TakeOut { path, short } => removal_task(alloc, path, Filling::Inner, *short),
         Inverse::PutBack {
             path,
             from,
@@ -46,14 +46,14 @@ pub(crate) fn task_back(alloc: Global, doc: &Doc, inverse: &Inverse) -> Result<T
         Inverse::Divide { path, at } => cut_task(alloc, doc, path, *at as usize),
         Inverse::Text { path, text } => node_task(alloc, path, 1, text_again(alloc, text)?),
         Inverse::Discard { path, short } => {
-            replaced(alloc, path, Filling::Others(Vec::new(alloc)), *short)
+            removal_task(alloc, path, Filling::Others(Vec::new(alloc)), *short)
         }
-        Inverse::Restore { path, text } => restored(alloc, path, text),
+        Inverse::Restore { path, text } => restore_task(alloc, path, text),
     }
 }
 
 // Something in place of a node, whose parent may end by `/>` again.
-fn replaced(alloc: Global, path: &Path, filling: Filling, short: bool) -> Result<Task, NoMemory>
+fn removal_task(alloc: Global, path: &Path, filling: Filling, short: bool) -> Result<Task, NoMemory>
     ensures { IfOk result (λ task. plain_change task.list task.change ≡ record (fill_node path.now (plain_filling filling)) { shorten = short }) }
 {
     let Task { list, change } = node_task(alloc, path, 1, filling)?;
@@ -83,7 +83,7 @@ fn text_again(alloc: Global, text: &Units) -> Result<Filling, NoMemory>
 }
 
 // A text that comes back before the kid at its place.
-fn restored(alloc: Global, path: &Path, text: &Units) -> Result<Task, NoMemory>
+fn restore_task(alloc: Global, path: &Path, text: &Units) -> Result<Task, NoMemory>
     ensures { IfOk result (λ task. plain_change task.list task.change ≡ fill (parent_of path.now) (place_of path.now) (place_of path.now) (others (one_text text.now))) }
 {
     let place = last_place(path.places());

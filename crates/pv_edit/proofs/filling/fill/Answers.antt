@@ -1,36 +1,30 @@
-use Rattle.std.proofs.Common.{◌-◌, take, drop, length, arith, ap, sym, ◌∙◌, List}
+use Rattle.std.proofs.Common.{◌≤◌, ◌-◌, length, vec_len, ap, ◌∙◌, arith, List}
+use Rattle.std.proofs.lemmas.List.{length-map}
 use Rattle.pv_tree.specs.Plain.{Tree}
-use Rattle.pv_tree.specs.PlainForms.{plain_all}
+use Rattle.pv_tree.specs.PlainForms.{plain, plain_all}
 use Rattle.pv_tree.specs.declared.nodes.Mark.{Mark}
-use Rattle.pv_tree.specs.declared.nodes.Node.{Node}
 use Rattle.pv_edit.specs.Changes.{in_place_of}
 use Rattle.pv_edit.specs.Fitting.{plain_filling}
-use Rattle.pv_edit.proofs.Filled.{slice_plain, middle_plain, filled_items}
+use Rattle.pv_edit.proofs.Filled.{slice_plain, filled_items, filled_length, left_length}
 use Rattle.pv_edit.proofs.filling.fill.Goals as goal
 
-pub room_for-requires : goal.room_for-requires
-room_for-requires c = rw (c.deref.ensures.value, slice_plain c.args.from c.args.to c.args.kids.now.items) c.requires.fits
-
 pub put_in_place-requires-clause-fits : goal.put_in_place-requires-clause-fits
-put_in_place-requires-clause-fits c =
-    let m = middle_plain c.args.from c.args.to c.args.kids.now.items c.split_off.new.self.items c.in-Ok.middle.items c.requires.order (c.in_ok-tail.ensures.items ∙ ap (take c.args.to) c.reserve.ensures.items) c.in-Ok.ensures.tail in
-    rw m c.requires.fits
+put_in_place-requires-clause-fits c = rw (ap plain_all c.take_range-middle.ensures.taken ∙ slice_plain c.args.from c.args.to c.args.kids.now.items) c.requires.fits
 
 pub put_in_place-requires-clause-room : goal.put_in_place-requires-clause-room
 put_in_place-requires-clause-room c =
-    let m = middle_plain c.args.from c.args.to c.args.kids.now.items c.split_off.new.self.items c.in-Ok.middle.items c.requires.order (c.in_ok-tail.ensures.items ∙ ap (take c.args.to) c.reserve.ensures.items) c.in-Ok.ensures.tail in
-    let s = ap plain_all (ap (λ (l : List Node). take (c.args.to - c.args.from) (drop c.args.from l)) c.deref.ensures.value) ∙ slice_plain c.args.from c.args.to c.args.kids.now.items in
-    let r = c.room_for.ensures ∙ ap (λ (l : List (Tree Mark)). length (in_place_of (plain_filling c.args.filling) l)) (s ∙ sym m) in
-    omega (arith, r, c.in_ok-reserve.ensures.ok, c.in_ok-tail.ensures.capacity, c.in-Ok.ensures.capacity, c.in-Ok.ensures.len, c.reserve.ensures.len, c.requires.order, c.requires.within)
+    let ks = c.args.kids.now.items in
+    let count = length-map ks plain in
+    let m = ap (λ (l : List (Tree Mark)). length (in_place_of (plain_filling c.args.filling) l)) (ap plain_all c.take_range-middle.ensures.taken ∙ slice_plain c.args.from c.args.to ks) in
+    let n = filled_length c.args.from c.args.to (plain_filling c.args.filling) (plain_all ks) c.requires.order (omega (arith, count, c.requires.within, c.args.kids.now.ok.0)) in
+    let l = left_length c.args.from c.args.to ks _ c.requires.order (omega (arith, c.requires.within, c.args.kids.now.ok.0)) c.take_range-middle.ensures.items in
+    omega (arith, count, m, n, l, c.requires.room, c.requires.within, c.args.kids.now.ok.0, c.take_range-middle.new.kids.ok.0, c.take_range-middle.ensures.capacity)
 
-pub move_behind-requires : goal.move_behind-requires
-move_behind-requires c =
-    let m = middle_plain c.args.from c.args.to c.args.kids.now.items c.split_off.new.self.items c.in-Ok.middle.items c.requires.order (c.in_ok-tail.ensures.items ∙ ap (take c.args.to) c.reserve.ensures.items) c.in-Ok.ensures.tail in
-    let s = ap plain_all (ap (λ (l : List Node). take (c.args.to - c.args.from) (drop c.args.from l)) c.deref.ensures.value) ∙ slice_plain c.args.from c.args.to c.args.kids.now.items in
-    let r = c.room_for.ensures ∙ ap (λ (l : List (Tree Mark)). length (in_place_of (plain_filling c.args.filling) l)) (s ∙ sym m) in
-    omega (arith, r, c.in_ok-reserve.ensures.ok, c.in_ok-tail.ensures.capacity, c.in-Ok.ensures.capacity, c.in-Ok.ensures.len, c.reserve.ensures.len, c.in_ok-tail.ensures.tail_len, c.put_in_place.ensures.len, c.put_in_place.ensures.capacity, c.requires.order, c.requires.within)
-
-pub returns-in-Ok-clause-ok : goal.returns-in-Ok-clause-ok
-returns-in-Ok-clause-ok c =
-    filled_items c.args.from c.args.to (plain_filling c.args.filling) c.args.kids.now.items c.split_off.new.self.items c.split_off-2.new.self.items c.in-Ok.middle.items c.in_ok-tail.tail.items c.put_in_place.new.kids.items c.move_behind.new.kids.items
-    c.requires.order (c.in_ok-tail.ensures.items ∙ ap (take c.args.to) c.reserve.ensures.items) c.in-Ok.ensures.items c.in-Ok.ensures.tail (c.in_ok-tail.ensures.tail ∙ ap (drop c.args.to) c.reserve.ensures.items) c.put_in_place.ensures.items c.move_behind.ensures.items
+pub returns : goal.returns
+returns c =
+    let ks = c.args.kids.now.items in
+    let within : c.args.to ≤ length ks = omega (arith, c.requires.within, c.args.kids.now.ok.0) in
+    let l = left_length c.args.from c.args.to ks _ c.requires.order within c.take_range-middle.ensures.items in
+    filled_items c.args.from c.args.to (vec_len c.put_in_place.new.kids - c.args.from - (c.len.result - c.len-left.result)) (plain_filling c.args.filling) ks c.take_range-middle.new.kids.items c.take_range-middle.result.items c.put_in_place.new.kids.items c.move_last.new.kids.items
+    c.requires.order within (omega (arith, l, c.put_in_place.ensures.len, c.len.ensures, c.len-left.ensures, c.requires.within, c.requires.order, c.args.kids.now.ok.0, c.take_range-middle.new.kids.ok.0))
+    c.take_range-middle.ensures.items c.take_range-middle.ensures.taken c.put_in_place.ensures.items c.move_last.ensures
