@@ -9,6 +9,7 @@ ghost use Rattle.pv_tree.specs.View.{view};
 ghost use Rattle.pv_missing.specs.Completing.{IsPotentiallyValid};
 ghost use Rattle.pv_missing.specs.Verdicts.{HaveVerdicts};
 ghost use Rattle.pv_missing.specs.Widths.{IsListForVerdict};
+ghost use Rattle.pv_reach.specs.Plans.{IsPlan};
 ghost use Rattle.pv_fresh.specs.Answers.{HasCause};
 ghost use Rattle.pv_fresh.specs.Walks.{verdicts_of};
 
@@ -23,6 +24,7 @@ use pv_missing::Verdicts;
 use pv_missing::laws::documents::live_lists_law;
 use pv_missing::laws::proper::proper_doc_law;
 use pv_productive::Grammar;
+use pv_reach::Plan;
 use pv_steps::Steps;
 use pv_tree::{Doc, Mark};
 use std::alloc::Global;
@@ -31,7 +33,7 @@ use std::sync::ledger::Ledger;
 /// The verdicts of all lists of a document, in document order, and the path of the first Impossible one. There is none exactly where the
 /// document is potentially valid.
 ///
-/// The widths of all lists come first, and take no memory but for a path.
+/// The widths of all lists come first, and take no memory but for a path. Then the rules of the grammar are laid out, once for all lists.
 pub fn check_doc<L: Ledger>(
     alloc: Global,
     grammar: &Grammar,
@@ -55,7 +57,8 @@ pub fn check_doc<L: Ledger>(
     if let Some(path) = first_too_wide(alloc, grammar.dtd(), doc)? {
         return Err(FreshError::TooWide(path));
     }
-    let walk = judge_doc(alloc, grammar, root, doc, steps)?;
+    let plan = Plan::of(alloc, grammar)?;
+    let walk = judge_doc(alloc, grammar, &plan, root, doc, steps)?;
     Ok(Verdicts::of(walk.verdicts, walk.first))
 }
 
@@ -63,11 +66,13 @@ pub fn check_doc<L: Ledger>(
 fn judge_doc<L: Ledger>(
     alloc: Global,
     grammar: &Grammar,
+    plan: &Plan,
     root: &[u8],
     doc: &Doc,
     steps: &mut Steps<L>,
 ) -> Result<Walk, NoMemory>
-    requires { AllByRecursion (IsListForVerdict (dtd_of grammar.now))
+    requires plan { IsPlan (dtd_of grammar.now) plan.now }
+    requires fits { AllByRecursion (IsListForVerdict (dtd_of grammar.now))
         (lists_of (plain_doc doc.now)) }
     ensures verdicts { IfOk result (λ walk. HaveVerdicts (dtd_of grammar.now) root.now
         (lists_of (plain_doc doc.now)) (verdicts_of walk)) }
@@ -79,12 +84,13 @@ fn judge_doc<L: Ledger>(
     judge_list(
         alloc,
         grammar,
+        plan,
         owner,
         std::slice::from_ref(&doc.root),
         &mut walk,
         steps,
     )?;
     walk.places.push(0)?;
-    judge_node(alloc, grammar, &doc.root, &mut walk, steps)?;
+    judge_node(alloc, grammar, plan, &doc.root, &mut walk, steps)?;
     Ok(walk)
 }

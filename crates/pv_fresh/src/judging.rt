@@ -15,6 +15,7 @@ ghost use Rattle.pv_missing.specs.Verdicts.{IsVerdict};
 ghost use Rattle.pv_missing.specs.Widths.{FitsVerdict, IsListForVerdict};
 ghost use Rattle.pv_missing.specs.WordVerdicts.{HoldsOne};
 ghost use Rattle.pv_reach.specs.Owners.{IsOwner};
+ghost use Rattle.pv_reach.specs.Plans.{IsPlan};
 ghost use Rattle.pv_fresh.specs.Walks.{GoesOver, first_after, verdicts_of};
 
 use crate::owners::element_owner;
@@ -22,7 +23,7 @@ use crate::walk::Walk;
 use pv_chars::NoMemory;
 use pv_missing::Of;
 use pv_productive::Grammar;
-use pv_reach::{ReachError, list_verdict};
+use pv_reach::{Plan, ReachError, list_verdict_by};
 use pv_steps::Steps;
 use pv_tree::{Node, Verdict};
 use std::alloc::Global;
@@ -32,10 +33,12 @@ use std::sync::ledger::Ledger;
 fn verdict_of<L: Ledger>(
     alloc: Global,
     grammar: &Grammar,
+    plan: &Plan,
     owner: Option<Of>,
     kids: &[Node],
     steps: &mut Steps<L>,
 ) -> Result<Verdict, NoMemory>
+    requires plan { IsPlan (dtd_of grammar.now) plan.now }
     requires known { IfSome owner (λ of. HasSite (dtd_of grammar.now) (plain_of of)) }
     requires fits { FitsVerdict (dtd_of grammar.now)
         (length (word_of (dtd_of grammar.now) (forest kids.now))) }
@@ -44,7 +47,7 @@ fn verdict_of<L: Ledger>(
         HoldsOne list.owner list.kids → IsVerdict (dtd_of grammar.now) root list verdict) }
     ensures steps { steps.new ≡ steps.old + 1 }
 {
-    match list_verdict(alloc, grammar, owner, kids, steps) {
+    match list_verdict_by(alloc, grammar, plan, owner, kids, steps) {
         Ok(verdict) => Ok(verdict),
         Err(ReachError::TooWide) => unreachable!(),
         Err(ReachError::NoMemory) => Err(NoMemory),
@@ -55,11 +58,13 @@ fn verdict_of<L: Ledger>(
 pub fn judge_list<L: Ledger>(
     alloc: Global,
     grammar: &Grammar,
+    plan: &Plan,
     owner: Option<Of>,
     kids: &[Node],
     walk: &mut Walk,
     steps: &mut Steps<L>,
 ) -> Result<(), NoMemory>
+    requires plan { IsPlan (dtd_of grammar.now) plan.now }
     requires known { IfSome owner (λ of. HasSite (dtd_of grammar.now) (plain_of of)) }
     requires fits { FitsVerdict (dtd_of grammar.now)
         (length (word_of (dtd_of grammar.now) (forest kids.now))) }
@@ -71,7 +76,7 @@ pub fn judge_list<L: Ledger>(
     ensures places { walk.new.places ≡ walk.old.places }
     ensures steps { steps.new ≡ steps.old + 1 }
 {
-    let verdict = verdict_of(alloc, grammar, owner, kids, steps)?;
+    let verdict = verdict_of(alloc, grammar, plan, owner, kids, steps)?;
     walk.push(alloc, verdict)
 }
 
@@ -80,10 +85,12 @@ pub fn judge_list<L: Ledger>(
 pub fn judge_node<L: Ledger>(
     alloc: Global,
     grammar: &Grammar,
+    plan: &Plan,
     node: &Node,
     walk: &mut Walk,
     steps: &mut Steps<L>,
 ) -> Result<(), NoMemory>
+    requires plan { IsPlan (dtd_of grammar.now) plan.now }
     requires small { nodes_in (plain node.now) ≤ MAX_NODES }
     requires fits { AllByRecursion (IsListForVerdict (dtd_of grammar.now))
         (lists_at walk.old.places.items (plain node.now)) }
@@ -98,8 +105,8 @@ pub fn judge_node<L: Ledger>(
         return Ok(());
     };
     let owner = element_owner(grammar.dtd(), name.as_slice());
-    judge_list(alloc, grammar, owner, kids, walk, steps)?;
-    judge_kids(alloc, grammar, kids, walk, steps)
+    judge_list(alloc, grammar, plan, owner, kids, walk, steps)?;
+    judge_kids(alloc, grammar, plan, kids, walk, steps)
 }
 
 // The same of nodes side by side, at the places of their list.
@@ -107,10 +114,12 @@ pub fn judge_node<L: Ledger>(
 fn judge_kids<L: Ledger>(
     alloc: Global,
     grammar: &Grammar,
+    plan: &Plan,
     kids: &[Node],
     walk: &mut Walk,
     steps: &mut Steps<L>,
 ) -> Result<(), NoMemory>
+    requires plan { IsPlan (dtd_of grammar.now) plan.now }
     requires small { nodes_in_all (forest kids.now) ≤ MAX_NODES }
     requires fits { AllByRecursion (IsListForVerdict (dtd_of grammar.now))
         (lists_from walk.old.places.items 0 (forest kids.now)) }
@@ -123,7 +132,7 @@ fn judge_kids<L: Ledger>(
 {
     for (i, kid) in kids.iter().enumerate() {
         walk.places.push(i as u32)?;
-        judge_node(alloc, grammar, kid, walk, steps)?;
+        judge_node(alloc, grammar, plan, kid, walk, steps)?;
         walk.places.pop();
     }
     Ok(())

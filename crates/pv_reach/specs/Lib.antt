@@ -7,3 +7,4 @@ pub mod Deriving
 pub mod Owners
 pub mod Parts
 pub mod Following
+pub mod Plans

@@ -46,30 +46,22 @@ pub fn rules_of(alloc: Global, grammar: &Grammar) -> Result<Vec<ColumnRule>, All
     Ok(rules)
 }
 
-/// The least number of tokens for which further columns are laid out.
-const LONG: usize = 64;
-
-/// How many tokens there are for each name whose followers are looked for. A search goes over all rules some times, as the table does for
-/// each token: so the searches take no longer than a part of the table.
-const TOKENS_A_SEARCH: usize = 16;
-
-/// The first of some names: at most 4,096, and one for each 16 tokens.
-fn first_of(names: &[u32], tokens: usize) -> &[u32]
+/// The first of some names.
+fn first_of(names: &[u32]) -> &[u32]
     ensures { length result.now ≤ 4096 }
 {
-    let most = 4096.min(tokens / TOKENS_A_SEARCH);
+    let most = 256.min(names.len());
     if names.len() <= most {
         return names;
     }
     &names[..most]
 }
 
-/// For a word of at least 64 tokens, adds further columns for what may stand behind columns that lead back to themselves; tells the number
-/// of columns. Without them the rounds at each place could grow with the word.
+/// Adds further columns for what may stand behind columns that lead back to themselves; tells the number of columns. Without them the rounds
+/// at each place could grow with the word.
 pub fn add_further(
     alloc: Global,
     grammar: &Grammar,
-    tokens: usize,
     width: usize,
     rules: &mut Vec<ColumnRule>,
 ) -> Result<usize, AllocError>
@@ -78,11 +70,8 @@ pub fn add_further(
     ensures widens { IfOk result (λ wider. Widens rules.old.items rules.new.items width wider) }
     ensures narrow { IfOk result (λ wider. (width ≤ wider) × (wider < 2 ^ 26)) }
 {
-    if tokens < LONG {
-        return Ok(width);
-    }
     let names = names_on_cycles(alloc, grammar)?;
     let table = fill(alloc, rules, &[], width)?;
-    let found = find_all(alloc, rules, &table, first_of(&names, tokens), width)?;
+    let found = find_all(alloc, rules, &table, first_of(&names), width)?;
     widen(alloc, &found, width, rules)
 }

@@ -18,6 +18,7 @@ mod layout;
 mod marks;
 mod order;
 mod parts;
+mod plan;
 mod productive;
 mod rules;
 mod table;
@@ -25,7 +26,8 @@ mod verdict;
 mod words;
 
 pub use errors::ReachError;
-pub use verdict::list_verdict;
+pub use plan::Plan;
+pub use verdict::{list_verdict, list_verdict_by, word_verdict};
 pub use words::possible;
 
 #[cfg(test)]

@@ -1,6 +1,7 @@
 //! The verdict of a list.
 
 ghost use Rattle.std.specs.Prelude.{◌≡◌, ◌↔◌, ◌+◌, ◌<◌, ◌^◌, ℕ, Bool, IsTrue, List, IfErr, IfOk, IfSome, Some, length, map};
+ghost use Rattle.std.specs.Option.{option_map};
 ghost use Rattle.pv_model.specs.Plain.{empty};
 ghost use Rattle.pv_model.specs.PlainForms.{plain_model, plain_token};
 ghost use Rattle.pv_rules.specs.Sites.{HasSite, content_site, name_site};
@@ -15,9 +16,11 @@ ghost use Rattle.pv_missing.specs.Verdicts.{IsVerdict};
 ghost use Rattle.pv_missing.specs.WordVerdicts.{HoldsOne, IsVerdictByWord};
 ghost use Rattle.pv_missing.specs.Widths.{FitsVerdict};
 ghost use Rattle.pv_reach.specs.Owners.{IsOwner};
+ghost use Rattle.pv_reach.specs.Plans.{IsPlan};
 ghost use Rattle.pv_reach.specs.declared.errors.ReachError.TheVariants.{TooWide as too_wide};
 
 use crate::errors::ReachError;
+use crate::plan::Plan;
 use crate::productive::are_productive;
 use crate::words::{content_derives, is_element};
 use pv_missing::{Of, is_narrow};
@@ -32,9 +35,11 @@ use std::sync::ledger::Ledger;
 fn judge_root(
     alloc: Global,
     grammar: &Grammar,
+    plan: &Plan,
     id: NameId,
     word: &[Token],
 ) -> Result<Verdict, NoMemory>
+    requires plan { IsPlan (dtd_of grammar.now) plan.now }
     requires fits { FitsVerdict (dtd_of grammar.now) (length word.now) }
     requires productive { AreProductiveTokens (dtd_of grammar.now) (map plain_token word.now) }
     ensures { IfOk result (λ verdict. (none : Bool) → IsVerdictByWord (dtd_of grammar.now) (Some (name_site id.0))
@@ -43,7 +48,7 @@ fn judge_root(
     if is_element(id, word) {
         return Ok(Verdict::Valid);
     }
-    if content_derives(alloc, grammar, id, word)? {
+    if content_derives(alloc, grammar, plan, id, word)? {
         Ok(Verdict::Possible)
     } else {
         Ok(Verdict::Impossible)
@@ -54,10 +59,12 @@ fn judge_root(
 fn judge_content(
     alloc: Global,
     grammar: &Grammar,
+    plan: &Plan,
     id: NameId,
     word: &[Token],
     is_bare: bool,
 ) -> Result<Verdict, NoMemory>
+    requires plan { IsPlan (dtd_of grammar.now) plan.now }
     requires known { HasSite (dtd_of grammar.now) (content_site id.0) }
     requires fits { FitsVerdict (dtd_of grammar.now) (length word.now) }
     requires productive { AreProductiveTokens (dtd_of grammar.now) (map plain_token word.now) }
@@ -77,7 +84,7 @@ fn judge_content(
     if matches(alloc, model, grammar.dtd().count(), word)? {
         return Ok(Verdict::Valid);
     }
-    if content_derives(alloc, grammar, id, word)? {
+    if content_derives(alloc, grammar, plan, id, word)? {
         Ok(Verdict::Possible)
     } else {
         Ok(Verdict::Impossible)
@@ -100,10 +107,12 @@ fn may_have_kids(model: &ContentModel, is_bare: bool) -> bool
 fn judge(
     alloc: Global,
     grammar: &Grammar,
+    plan: &Plan,
     of: Of,
     word: &[Token],
     is_bare: bool,
 ) -> Result<Verdict, NoMemory>
+    requires plan { IsPlan (dtd_of grammar.now) plan.now }
     requires known { HasSite (dtd_of grammar.now) (plain_of of) }
     requires fits { FitsVerdict (dtd_of grammar.now) (length word.now) }
     ensures { IfOk result (λ verdict. IsVerdictByWord (dtd_of grammar.now) (Some (plain_of of))
@@ -113,15 +122,121 @@ fn judge(
         return Ok(Verdict::Impossible);
     }
     match of {
-        Of::Root(id) => judge_root(alloc, grammar, id, word),
-        Of::Elem(id) => judge_content(alloc, grammar, id, word, is_bare),
+        Of::Root(id) => judge_root(alloc, grammar, plan, id, word),
+        Of::Elem(id) => judge_content(alloc, grammar, plan, id, word, is_bare),
     }
+}
+
+/// The verdict of a list whose owner may have no site, where the list isn't too wide.
+fn judge_word(
+    alloc: Global,
+    grammar: &Grammar,
+    plan: &Plan,
+    owner: Option<Of>,
+    word: &[Token],
+    is_bare: bool,
+) -> Result<Verdict, ReachError>
+    requires plan { IsPlan (dtd_of grammar.now) plan.now }
+    requires known { IfSome owner (λ of. HasSite (dtd_of grammar.now) (plain_of of)) }
+    ensures verdict { IfOk result (λ verdict. IsVerdictByWord (dtd_of grammar.now)
+        (option_map plain_of owner) (map plain_token word.now) is_bare verdict) }
+    ensures fits { IfOk result (λ _. FitsVerdict (dtd_of grammar.now) (length word.now)) }
+    ensures wide { IfErr result (λ e. e ≡ too_wide →
+        ¬ FitsVerdict (dtd_of grammar.now) (length word.now)) }
+{
+    if !is_narrow(grammar.dtd(), word.len() as u64) {
+        return Err(ReachError::TooWide);
+    }
+    let Some(of) = owner else {
+        return Ok(Verdict::Impossible);
+    };
+    let verdict = judge(alloc, grammar, plan, of, word, is_bare)?;
+    Ok(verdict)
+}
+
+/// The verdict of the list of these kids, where it isn't too wide.
+fn judge_kids(
+    alloc: Global,
+    grammar: &Grammar,
+    plan: &Plan,
+    owner: Option<Of>,
+    kids: &[Node],
+) -> Result<Verdict, ReachError>
+    requires plan { IsPlan (dtd_of grammar.now) plan.now }
+    requires known { IfSome owner (λ of. HasSite (dtd_of grammar.now) (plain_of of)) }
+    ensures verdict { IfOk result (λ verdict. (root : List ℕ) (list : Listed Mark) →
+        list.kids ≡ forest kids.now → IsOwner (dtd_of grammar.now) root list owner →
+        HoldsOne list.owner list.kids → IsVerdict (dtd_of grammar.now) root list verdict) }
+    ensures fits { IfOk result (λ _. FitsVerdict (dtd_of grammar.now)
+        (length (word_of (dtd_of grammar.now) (forest kids.now)))) }
+    ensures wide { IfErr result (λ e. e ≡ too_wide → ¬ FitsVerdict (dtd_of grammar.now)
+        (length (word_of (dtd_of grammar.now) (forest kids.now)))) }
+{
+    let tokens = word(alloc, grammar.dtd(), kids)?;
+    let verdict = judge_word(
+        alloc,
+        grammar,
+        plan,
+        owner,
+        tokens.as_slice(),
+        kids.is_empty(),
+    )?;
+    Ok(verdict)
+}
+
+/// The verdict of a list by a plan of the grammar, its owner, its word, and whether it has no kids of any kind: as that of `list_verdict`,
+/// without a tree.
+pub fn word_verdict<L: Ledger>(
+    alloc: Global,
+    grammar: &Grammar,
+    plan: &Plan,
+    owner: Option<Of>,
+    word: &[Token],
+    is_bare: bool,
+    steps: &mut Steps<L>,
+) -> Result<Verdict, ReachError>
+    requires plan { IsPlan (dtd_of grammar.now) plan.now }
+    requires known { IfSome owner (λ of. HasSite (dtd_of grammar.now) (plain_of of)) }
+    ensures verdict { IfOk result (λ verdict. IsVerdictByWord (dtd_of grammar.now)
+        (option_map plain_of owner) (map plain_token word.now) is_bare verdict) }
+    ensures fits { IfOk result (λ _. FitsVerdict (dtd_of grammar.now) (length word.now)) }
+    ensures wide { IfErr result (λ e. e ≡ too_wide →
+        ¬ FitsVerdict (dtd_of grammar.now) (length word.now)) }
+    ensures steps { steps.new ≡ steps.old + 1 }
+{
+    steps.tick();
+    judge_word(alloc, grammar, plan, owner, word, is_bare)
+}
+
+/// The verdict of a list by a plan of the grammar, as `list_verdict` finds it.
+pub fn list_verdict_by<L: Ledger>(
+    alloc: Global,
+    grammar: &Grammar,
+    plan: &Plan,
+    owner: Option<Of>,
+    kids: &[Node],
+    steps: &mut Steps<L>,
+) -> Result<Verdict, ReachError>
+    requires plan { IsPlan (dtd_of grammar.now) plan.now }
+    requires known { IfSome owner (λ of. HasSite (dtd_of grammar.now) (plain_of of)) }
+    ensures verdict { IfOk result (λ verdict. (root : List ℕ) (list : Listed Mark) →
+        list.kids ≡ forest kids.now → IsOwner (dtd_of grammar.now) root list owner →
+        HoldsOne list.owner list.kids → IsVerdict (dtd_of grammar.now) root list verdict) }
+    ensures fits { IfOk result (λ _. FitsVerdict (dtd_of grammar.now)
+        (length (word_of (dtd_of grammar.now) (forest kids.now)))) }
+    ensures wide { IfErr result (λ e. e ≡ too_wide → ¬ FitsVerdict (dtd_of grammar.now)
+        (length (word_of (dtd_of grammar.now) (forest kids.now)))) }
+    ensures steps { steps.new ≡ steps.old + 1 }
+{
+    steps.tick();
+    judge_kids(alloc, grammar, plan, owner, kids)
 }
 
 /// The verdict of a list: `owner` is `None` where the DTD doesn't have the name of the element that owns it, or, for the document node,
 /// the root's name.
 ///
-/// `TooWide` is asked before the verdict. A list that is valid by itself, whose owner and names are productive, takes no table.
+/// `TooWide` is asked before the verdict. A list that is valid by itself, whose owner and names are productive, takes no table. The call makes
+/// a plan of the grammar; who asks for many verdicts makes it once, for `list_verdict_by`.
 /// The document node's list is its root alone; of other kids with this owner nothing is said.
 pub fn list_verdict<L: Ledger>(
     alloc: Global,
@@ -141,13 +256,6 @@ pub fn list_verdict<L: Ledger>(
     ensures steps { steps.new ≡ steps.old + 1 }
 {
     steps.tick();
-    let tokens = word(alloc, grammar.dtd(), kids)?;
-    if !is_narrow(grammar.dtd(), tokens.as_slice().len() as u64) {
-        return Err(ReachError::TooWide);
-    }
-    let Some(of) = owner else {
-        return Ok(Verdict::Impossible);
-    };
-    let verdict = judge(alloc, grammar, of, tokens.as_slice(), kids.is_empty())?;
-    Ok(verdict)
+    let plan = Plan::of(alloc, grammar)?;
+    judge_kids(alloc, grammar, &plan, owner, kids)
 }

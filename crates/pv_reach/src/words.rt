@@ -10,11 +10,11 @@ ghost use Rattle.pv_missing.specs.PlainForms.{plain_of};
 ghost use Rattle.pv_missing.specs.Widths.{FitsVerdict};
 ghost use Rattle.pv_missing.specs.WordVerdicts.{IsPossibleAt};
 ghost use Rattle.pv_reach.specs.Deriving.{DerivesAt};
+ghost use Rattle.pv_reach.specs.Plans.{IsPlan};
 ghost use Rattle.pv_reach.specs.declared.errors.ReachError.TheVariants.{TooWide as too_wide};
 
-use crate::adding::any_column;
 use crate::errors::ReachError;
-use crate::layout::{add_further, rules_of};
+use crate::plan::Plan;
 use crate::table::reaches_end;
 use pv_missing::{Of, is_narrow};
 use pv_model::{NameId, Token};
@@ -27,9 +27,11 @@ use std::sync::ledger::Ledger;
 pub(crate) fn content_derives(
     alloc: Global,
     grammar: &Grammar,
+    plan: &Plan,
     id: NameId,
     word: &[Token],
 ) -> Result<bool, AllocError>
+    requires plan { IsPlan (dtd_of grammar.now) plan.now }
     requires fits { FitsVerdict (dtd_of grammar.now) (length word.now) }
     requires productive { AreProductiveTokens (dtd_of grammar.now) (map plain_token word.now) }
     ensures { IfOk result (λ b. IsTrue b ↔ DerivesAt (dtd_of grammar.now)
@@ -38,15 +40,7 @@ pub(crate) fn content_derives(
     if id.0 >= grammar.dtd().count() {
         return Ok(false);
     }
-    let mut rules = rules_of(alloc, grammar)?;
-    let width = add_further(
-        alloc,
-        grammar,
-        word.len(),
-        any_column(grammar) + 1,
-        &mut rules,
-    )?;
-    reaches_end(alloc, &rules, word, width, id.0 as usize)
+    reaches_end(alloc, &plan.rules, word, plan.width, id.0 as usize)
 }
 
 /// Whether the word is one element of this name.
@@ -54,6 +48,27 @@ pub(crate) fn is_element(id: NameId, word: &[Token]) -> bool
     ensures { IsTrue result ↔ (map plain_token word.now ≡ named id.0 ∷ []) }
 {
     word.len() == 1 && word[0] == Token::Name(id)
+}
+
+/// Whether a word that isn't too wide is possible, by a plan of the grammar.
+fn is_possible(
+    alloc: Global,
+    grammar: &Grammar,
+    plan: &Plan,
+    of: Of,
+    word: &[Token],
+) -> Result<bool, AllocError>
+    requires plan { IsPlan (dtd_of grammar.now) plan.now }
+    requires fits { FitsVerdict (dtd_of grammar.now) (length word.now) }
+    requires productive { AreProductiveTokens (dtd_of grammar.now) (map plain_token word.now) }
+    ensures { IfOk result (λ b. IsTrue b ↔
+        IsPossibleAt (dtd_of grammar.now) (plain_of of) (map plain_token word.now)) }
+{
+    let derives = match of {
+        Of::Root(id) => is_element(id, word) || content_derives(alloc, grammar, plan, id, word)?,
+        Of::Elem(id) => content_derives(alloc, grammar, plan, id, word)?,
+    };
+    Ok(derives)
 }
 
 /// Whether a word of productive names is possible for the document node or for the content of an element.
@@ -79,9 +94,7 @@ pub fn possible<L: Ledger>(
     if !is_narrow(grammar.dtd(), word.len() as u64) {
         return Err(ReachError::TooWide);
     }
-    let derives = match of {
-        Of::Root(id) => is_element(id, word) || content_derives(alloc, grammar, id, word)?,
-        Of::Elem(id) => content_derives(alloc, grammar, id, word)?,
-    };
+    let plan = Plan::of(alloc, grammar)?;
+    let derives = is_possible(alloc, grammar, &plan, of, word)?;
     Ok(derives)
 }

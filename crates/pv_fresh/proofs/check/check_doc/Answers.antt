@@ -5,4 +5,4 @@ use Rattle.pv_fresh.proofs.check.check_doc.Goals as goal
 
 pub returns-clause-possible : goal.returns-clause-possible
 returns-clause-possible g c =
-    none_is_possible c.live_lists_law.ensures (dtd_of c.args.grammar.now) c.args.root.now (plain_doc c.args.doc.now) _ (rw c.dtd.ensures at c.proper_dtd_law.ensures) c.proper_doc_law.ensures (rw c.of.ensures c.in_ok-walk.ensures.verdicts.is_first)
+    none_is_possible c.live_lists_law.ensures (dtd_of c.args.grammar.now) c.args.root.now (plain_doc c.args.doc.now) _ (rw c.dtd.ensures at c.proper_dtd_law.ensures) c.proper_doc_law.ensures (rw c.of-2.ensures c.in_ok-walk.ensures.verdicts.is_first)

@@ -26,14 +26,17 @@ judge_kids-judge_node-requires g t c κs within = (
   (
     within,
     (
-      (let step = forest-drop c.args.kids.now c.loop-i.i c.index-kids-i.result (omega arith) c.index-kids-i.is in
-          omega (arith, ap nodes_in_all step, c.loop-i.invariant.few_nodes, c.requires.small)),
-      (let d = dtd_of c.args.grammar.now in
-          let kid = c.index-kids-i.result in
-          let rest = forest (drop (c.loop-i.i + 1) c.args.kids.now) in
-          let path = c.loop-i.walk.places.items in
-          let whole = from_first path c.loop-i.i (forest (drop c.loop-i.i c.args.kids.now)) (plain kid) rest (forest-drop c.args.kids.now c.loop-i.i kid (omega arith) c.index-kids-i.is) in
-          rw c.in_ok-push.ensures.items (all_left (IsListForVerdict d) (lists_at (path ++ c.loop-i.i ∷ []) (plain kid)) (lists_from path (c.loop-i.i + 1) rest) (rw whole at c.loop-i.invariant.fits))),
+      c.requires.plan,
+      (
+        (let step = forest-drop c.args.kids.now c.loop-i.i c.index-kids-i.result (omega arith) c.index-kids-i.is in
+            omega (arith, ap nodes_in_all step, c.loop-i.invariant.few_nodes, c.requires.small)),
+        (let d = dtd_of c.args.grammar.now in
+            let kid = c.index-kids-i.result in
+            let rest = forest (drop (c.loop-i.i + 1) c.args.kids.now) in
+            let path = c.loop-i.walk.places.items in
+            let whole = from_first path c.loop-i.i (forest (drop c.loop-i.i c.args.kids.now)) (plain kid) rest (forest-drop c.args.kids.now c.loop-i.i kid (omega arith) c.index-kids-i.is) in
+            rw c.in_ok-push.ensures.items (all_left (IsListForVerdict d) (lists_at (path ++ c.loop-i.i ∷ []) (plain kid)) (lists_from path (c.loop-i.i + 1) rest) (rw whole at c.loop-i.invariant.fits))),
+      ),
     ),
   ),
 )
