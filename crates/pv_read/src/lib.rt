@@ -8,19 +8,19 @@
 #![tactic(auto)]
 
 mod content;
-mod epilog;
+pub mod epilog;
 mod errors;
-mod faults;
+pub mod faults;
 pub mod forms;
 pub mod laws;
 mod open;
-mod places;
-mod prolog;
+pub mod places;
+pub mod prolog;
 mod reading;
 mod texts;
 
 pub use errors::DocError;
-pub use reading::{MAX_DOC_BYTES, read_doc};
+pub use reading::{MAX_DOC_BYTES, after_mark, read_doc};
 
 #[cfg(test)]
 mod tests;

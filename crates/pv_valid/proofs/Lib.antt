@@ -1,0 +1,7 @@
+pub mod Growing
+pub mod Judged
+pub mod Stack
+pub mod EmptyElements
+pub mod Behind
+pub mod Taken
+pub mod Whole

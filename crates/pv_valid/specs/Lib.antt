@@ -1,0 +1,3 @@
+pub mod WholeLists
+pub mod OpenLists
+pub mod Contents

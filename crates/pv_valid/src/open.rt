@@ -1,0 +1,248 @@
+//! The lists of the open elements, as far as they were read.
+
+ghost use Rattle.std.specs.Prelude.{◌≡◌, ◌≤◌, ◌<◌, ◌+◌, ◌↔◌, ℕ, List, [], ◌∷◌, ◌++◌, length, map, true, not, IsTrue, OnOk, IfOk};
+ghost use Rattle.std.specs.List.{list_any};
+ghost use Rattle.std.specs.Option.{option_copied, option_map, option_and_then, option_to_list};
+ghost use Rattle.pv_chars.specs.Spaces.{is_space};
+ghost use Rattle.pv_model.specs.PlainForms.{plain_model, plain_token};
+ghost use Rattle.pv_dtd.specs.Plain.{number_of, model_of};
+ghost use Rattle.pv_dtd.specs.PlainForms.{plain_dtd};
+ghost use Rattle.pv_dtd.specs.Hedge.{token};
+ghost use Rattle.pv_tree.specs.Plain.{Ending, forest_of};
+ghost use Rattle.pv_tree.specs.Lists.{IsOwnValid, IsValidList, lists_at};
+ghost use Rattle.pv_tree.specs.declared.nodes.Mark.{Mark};
+ghost use Rattle.pv_read.specs.Items.{HasKnownReferences};
+ghost use Rattle.pv_read.specs.Left.{Open, opened};
+ghost use Rattle.pv_read.specs.PlainItems.{plain_item};
+ghost use Rattle.pv_read.specs.Places.{may_stand_in_content};
+ghost use Rattle.pv_valid.specs.Contents.{IsBehind};
+ghost use Rattle.pv_valid.specs.OpenLists.{HasRead, HasRoom, HasEnded, ended, MOST_KIDS};
+ghost use Rattle.pv_valid.specs.WholeLists.{next_path, whole_lists, TellsFirst};
+ghost use Rattle.pv_valid.specs.declared.open.OpenList.{OpenList};
+
+use crate::fitting::fits;
+use pv_chars::NoMemory;
+use pv_chars::scan::is_space;
+use pv_dtd::Dtd;
+use pv_model::{ContentModel, Token};
+use pv_read::forms::Item;
+use pv_tree::Path;
+use std::alloc::Global;
+
+/// The list of an open element.
+#[derive(Clone, Copy)]
+pub struct OpenList<'a> {
+    pub name: &'a [u8],
+    pub model: Option<&'a ContentModel>,
+    pub token: Token,
+    /// The number of the kids so far.
+    pub kids: u32,
+    /// The number of the tokens before those of its word.
+    pub start: usize,
+    /// Whether a list that was whole before the element began isn't valid.
+    pub is_behind: bool,
+}
+
+impl<'a> OpenList<'a> {
+    /// That of an element that begins.
+    pub fn of(dtd: &'a Dtd, name: &'a [u8], start: usize, is_behind: bool) -> OpenList<'a>
+        ensures name { result.name.now ≡ name.now }
+        ensures model { option_map plain_model (option_copied result.model)
+            ≡ option_and_then (model_of (plain_dtd dtd.now)) (number_of (plain_dtd dtd.now) name.now) }
+        ensures token { plain_token result.token ≡ token (number_of (plain_dtd dtd.now) name.now) }
+        ensures kids { result.kids ≡ 0 }
+        ensures start { result.start ≡ start }
+        ensures is_behind { result.is_behind ≡ is_behind }
+    {
+        match dtd.name_id(name) {
+            Some(id) => OpenList {
+                name,
+                model: dtd.model_of(id),
+                token: Token::Name(id),
+                kids: 0,
+                start,
+                is_behind,
+            },
+            None => OpenList {
+                name,
+                model: None,
+                token: Token::Other,
+                kids: 0,
+                start,
+                is_behind,
+            },
+        }
+    }
+}
+
+// The places of the kids that are open in the document node and in these elements, outermost first.
+fn places_in(alloc: Global, outer: &[OpenList<'_>]) -> Result<Vec<u32>, NoMemory>
+    ensures { IfOk result (λ places. places.items ≡ 0 ∷ map (λ (list : OpenList). list.kids) outer.now) }
+{
+    let mut places = Vec::new(alloc);
+    places.push(0)?;
+    for list in outer {
+        places.push(list.kids)?;
+    }
+    Ok(places)
+}
+
+/// The list of the innermost open element, those around it, outermost first, the tokens of their words, one behind another, and the path
+/// of the first list that is whole and isn't valid by itself.
+#[derive(Drop)]
+pub struct OpenLists<'a> {
+    pub inner: OpenList<'a>,
+    pub outer: Vec<OpenList<'a>>,
+    pub tokens: Vec<Token>,
+    pub found: Option<Path>,
+}
+
+impl<'a> OpenLists<'a> {
+    /// Where the root begins.
+    pub fn of(alloc: Global, dtd: &'a Dtd, name: &'a [u8]) -> OpenLists<'a>
+        ensures read { (root attrs : List ℕ) → HasRead (plain_dtd dtd.now) root result (opened name.now attrs) [] }
+        ensures room { HasRoom result }
+    {
+        OpenLists {
+            inner: OpenList::of(dtd, name, 0, false),
+            outer: Vec::new(alloc),
+            tokens: Vec::new(alloc),
+            found: None,
+        }
+    }
+
+    // One more open element, the innermost.
+    fn open(&mut self, dtd: &'a Dtd, name: &'a [u8]) -> Result<(), NoMemory>
+        ensures read { (root attrs : List ℕ) (inner : Open Mark) (outer : List (Open Mark)) →
+            HasRead (plain_dtd dtd.now) root self.old inner outer →
+            OnOk result (HasRead (plain_dtd dtd.now) root self.new (opened name.now attrs) (inner ∷ outer)) }
+        ensures room { HasRoom self.old → OnOk result (HasRoom self.new) }
+    {
+        self.outer.push(self.inner)?;
+        self.inner = OpenList::of(dtd, name, self.tokens.len(), self.found.is_some());
+        Ok(())
+    }
+
+    // One more kid of the innermost open element, with the token that it has.
+    fn add_kid(&mut self, token: Option<Token>) -> Result<(), NoMemory>
+        requires { self.old.inner.kids < MOST_KIDS }
+        ensures inner { OnOk result (self.new.inner ≡ record self.old.inner { kids = self.old.inner.kids + 1 }) }
+        ensures outer { self.new.outer ≡ self.old.outer }
+        ensures tokens { OnOk result (self.new.tokens.items ≡ self.old.tokens.items ++ option_to_list token) }
+        ensures found { self.new.found ≡ self.old.found }
+    {
+        self.inner.kids += 1;
+        match token {
+            Some(token) => {
+                self.tokens.push(token)?;
+                Ok(())
+            }
+            None => Ok(()),
+        }
+    }
+
+    // The path of the innermost open element.
+    fn path(&self, alloc: Global) -> Result<Path, NoMemory>
+        ensures { IfOk result (λ path. path ≡ 0 ∷ map (λ (list : OpenList). list.kids) self.now.outer.items) }
+    {
+        let places = places_in(alloc, &self.outer)?;
+        Path::new(alloc, &places)
+    }
+
+    // Whether the list of the innermost open element is valid by itself.
+    fn is_valid(&self, alloc: Global, dtd: &Dtd) -> Result<bool, NoMemory>
+        requires { self.now.inner.start ≤ length self.now.tokens.items }
+        ensures { (root : List ℕ) (inner : Open Mark) (outer : List (Open Mark)) →
+            HasRead (plain_dtd dtd.now) root self.now inner outer →
+            IfOk result (λ valid. IsTrue valid ↔
+            IsOwnValid (plain_dtd dtd.now) (number_of (plain_dtd dtd.now) inner.name) (forest_of inner.kids)) }
+    {
+        let word = &self.tokens[self.inner.start..];
+        fits(alloc, dtd, self.inner.model, self.inner.kids > 0, word)
+    }
+
+    // Finds the list of the innermost open element, where it is the first that isn't valid by itself.
+    fn judge(&mut self, alloc: Global, dtd: &Dtd) -> Result<(), NoMemory>
+        requires { self.old.inner.start ≤ length self.old.tokens.items }
+        ensures found { (root attrs : List ℕ) (inner : Open Mark) (outer : List (Open Mark)) (ending : Ending) (mark : Mark) →
+            HasRead (plain_dtd dtd.now) root self.old inner outer →
+            OnOk result (TellsFirst (IsValidList (plain_dtd dtd.now) root)
+            (whole_lists outer ++ lists_at (next_path outer) (ended inner attrs ending mark)) self.new.found) }
+        ensures inner { self.new.inner ≡ self.old.inner }
+        ensures outer { self.new.outer ≡ self.old.outer }
+        ensures tokens { self.new.tokens ≡ self.old.tokens }
+    {
+        if self.inner.is_behind {
+            return Ok(());
+        }
+        if self.is_valid(alloc, dtd)? {
+            return Ok(());
+        }
+        self.found = Some(self.path(alloc)?);
+        Ok(())
+    }
+
+    /// The innermost open element ends: it is a kid of the one around it, or the root, and then this says true.
+    pub fn close(&mut self, alloc: Global, dtd: &Dtd) -> Result<bool, NoMemory>
+        requires { HasRoom self.old }
+        ensures { (root attrs : List ℕ) (inner : Open Mark) (outer : List (Open Mark)) (ending : Ending) (mark : Mark) →
+            HasRead (plain_dtd dtd.now) root self.old inner outer →
+            IfOk result (λ whole. HasEnded (plain_dtd dtd.now) root self.new whole outer (ended inner attrs ending mark)) }
+    {
+        self.judge(alloc, dtd)?;
+        let token = self.inner.token;
+        self.tokens.truncate(self.inner.start);
+        let Some(around) = self.outer.pop() else {
+            return Ok(true);
+        };
+        self.inner = around;
+        self.add_kid(Some(token))?;
+        Ok(false)
+    }
+
+    /// One more item in the root, and whether it makes the root whole.
+    pub fn add(&mut self, alloc: Global, dtd: &'a Dtd, item: &Item<'a>) -> Result<bool, NoMemory>
+        requires room { HasRoom self.old }
+        requires stands { may_stand_in_content (plain_item item.now) ≡ true }
+        requires known { HasKnownReferences (plain_item item.now) }
+        ensures { (root : List ℕ) (inner : Open Mark) (outer : List (Open Mark)) →
+            HasRead (plain_dtd dtd.now) root self.old inner outer →
+            IfOk result (λ whole. IsBehind (plain_dtd dtd.now) root self.new whole inner outer (plain_item item.now)) }
+    {
+        match item {
+            Item::StartTag(tag) => {
+                self.open(dtd, tag.name)?;
+                Ok(false)
+            }
+            Item::EmptyTag(tag) => {
+                self.open(dtd, tag.name)?;
+                let whole = self.close(alloc, dtd)?;
+                Ok(whole)
+            }
+            Item::EndTag { .. } => {
+                let whole = self.close(alloc, dtd)?;
+                Ok(whole)
+            }
+            Item::TextRun(run) => {
+                self.add_kid(holds_data(run).then_some(Token::Text))?;
+                Ok(false)
+            }
+            Item::CdataSection(_) => {
+                self.add_kid(Some(Token::Text))?;
+                Ok(false)
+            }
+            Item::CommentOrInstruction(_) => {
+                self.add_kid(None)?;
+                Ok(false)
+            }
+            Item::XmlDeclaration(_) | Item::Doctype { .. } => unreachable!(),
+        }
+    }
+}
+
+// Whether anything but white space stands in the bytes.
+fn holds_data(bytes: &[u8]) -> bool
+    ensures { result ≡ list_any (λ b. not (is_space b)) bytes.now }
+{
+    bytes.iter().any(|b| !is_space(*b))
+}
