@@ -87,7 +87,8 @@ BeginsAmpersand bytes = (more : List ℕ) × (bytes ≡ codes "&" ++ more)
 pub data Means : List (List ℕ) → List ℕ → Result (List (List ℕ)) TextError → Type 0 where
   ends : {before : List (List ℕ)} {rest : List ℕ} → rest ≡ [] → Means before rest (Ok before)
   unit : {before : List (List ℕ)} {rest : List ℕ} {o : Result (List (List ℕ)) TextError} (u more : List ℕ) → BeginsUnit rest u more → Means (before ++ u ∷ []) more o → Means before rest o
-  fault : {before : List (List ℕ)} {rest : List ℕ} (e : TextError) → HasTextFault e (length (joined before)) rest → Means before rest (Err e)
+  fault : {before : List (List ℕ)} {rest : List ℕ} (e : TextError) →
+      HasTextFault e (length (joined before)) rest → Means before rest (Err e)
 
 -- what a text means: its units, or the first fault from the left
 abbrev pub TextMeans : List ℕ → Result (List (List ℕ)) TextError → Type 0

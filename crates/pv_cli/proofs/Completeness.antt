@@ -1,20 +1,20 @@
 -- Where nothing failed, the defined response was written.
 use Rattle.std.proofs.Common.{◌≡◌, ◌⊎◌, inl, inr, ℕ, Option, List, refl}
 use Rattle.std.specs.Io.KnownBytes.{Appends}
-use Rattle.pv_io.specs.Causes.{Stays, Rose}
+use Rattle.pv_io.specs.Causes.{CountStays, Rose}
 use Rattle.pv_cli.specs.declared.status.Status.{Status}
 use Rattle.pv_cli.specs.declared.status.Status.TheVariants.{ReadFault, WriteFault, NoMemory}
 use Rattle.pv_cli.specs.CommandLine.{PlainCommandLine}
-use Rattle.pv_cli.specs.Course.{Ending, responds, shelf_fault, input_fault, no_memory}
+use Rattle.pv_cli.specs.Course.{RunEnding, responds, shelf_fault, input_fault, no_memory}
 use Rattle.pv_cli.specs.Laws.{IsComplete, Answered, FaultsShow}
 use Rattle.pv_cli.specs.Program.{Devices, CountsShelf, CountsInput, Writes, wrote, cut_off, Runs}
 use Rattle.pv_cli.specs.Response.{PlainResponse}
 
 -- the parts of `Answered` that speak of the ending alone
-abbrev pub EndsWell : Ending → Option (List ℕ) → Option (List ℕ) → Status → Type 0
+abbrev pub EndsWell : RunEnding → Option (List ℕ) → Option (List ℕ) → Status → Type 0
 EndsWell ending old new status = (r : PlainResponse) × (ending ≡ responds r) × (status ≡ r.status) × Appends old new r.output
 
-ends_well : (ending : Ending) (shelf_old shelf_new input_old input_new old_count new_count : ℕ) (old new : Option (List ℕ)) (status : Status) →
+ends_well : (ending : RunEnding) (shelf_old shelf_new input_old input_new old_count new_count : ℕ) (old new : Option (List ℕ)) (status : Status) →
     CountsShelf ending shelf_old shelf_new → CountsInput ending input_old input_new → Writes ending old new old_count new_count status →
     (Rose shelf_old shelf_new → ⊥) → (Rose input_old input_new → ⊥) → (Rose old_count new_count → ⊥) → (status ≡ NoMemory) ⊎ EndsWell ending old new status
 ends_well ending so sn io in_ oc nc old new status shelf input (cut_off r is fault front rose) no_shelf no_input no_output = absurd (no_output rose)
@@ -34,21 +34,21 @@ complete S line before after status run no_shelf no_input no_output =
     (ends_well run.course.ending _ _ _ _ _ _ _ _ status run.shows.shelf run.shows.input run.shows.output no_shelf no_input no_output)
 
 -- a count that rose shows in the status
-output_stays : (ending : Ending) (old new : Option (List ℕ)) (before after : ℕ) (status : Status) → Writes ending old new before after status →
-    (status ≡ WriteFault → ⊥) → Stays before after
+output_stays : (ending : RunEnding) (old new : Option (List ℕ)) (before after : ℕ) (status : Status) → Writes ending old new before after status →
+    (status ≡ WriteFault → ⊥) → CountStays before after
 output_stays ending old new before after status (wrote is written stays) not = stays
 output_stays ending old new before after status (cut_off r is fault front rose) not = absurd (not fault)
 
-shelf_stays : (ending : Ending) (old new : Option (List ℕ)) (first last before after : ℕ) (status : Status) → Writes ending old new first last status →
-    CountsShelf ending before after → (status ≡ ReadFault → ⊥) → Stays before after
+shelf_stays : (ending : RunEnding) (old new : Option (List ℕ)) (first last before after : ℕ) (status : Status) → Writes ending old new first last status →
+    CountsShelf ending before after → (status ≡ ReadFault → ⊥) → CountStays before after
 shelf_stays (responds r) old new first last before after status writes counts not = counts
 shelf_stays shelf_fault old new first last before after status (wrote is written stays) counts not = absurd (not is)
 shelf_stays shelf_fault old new first last before after status (cut_off r is fault front rose) counts not = cc
 shelf_stays input_fault old new first last before after status writes counts not = counts
 shelf_stays no_memory old new first last before after status writes counts not = counts
 
-input_stays : (ending : Ending) (old new : Option (List ℕ)) (first last before after : ℕ) (status : Status) → Writes ending old new first last status →
-    CountsInput ending before after → (status ≡ ReadFault → ⊥) → Stays before after
+input_stays : (ending : RunEnding) (old new : Option (List ℕ)) (first last before after : ℕ) (status : Status) → Writes ending old new first last status →
+    CountsInput ending before after → (status ≡ ReadFault → ⊥) → CountStays before after
 input_stays (responds r) old new first last before after status writes counts not = counts
 input_stays shelf_fault old new first last before after status writes counts not = counts
 input_stays input_fault old new first last before after status (wrote is written stays) counts not = absurd (not is)

@@ -5,7 +5,7 @@ use Rattle.pv_dtd.specs.Plain.{PlainDtd}
 use Rattle.pv_tree.specs.Heads.{heads_of}
 use Rattle.pv_tree.specs.Lists.{Listed, IsFirstNot, lists_of}
 use Rattle.pv_tree.specs.Marks.{unmarked_doc}
-use Rattle.pv_tree.specs.Plain.{Forest, no_trees, tree, Tree, element, text_node, cdata_node, misc_node, PlainDoc, unmarked}
+use Rattle.pv_tree.specs.Plain.{Forest, no_trees, tree, Tree, element, text_node, cdata_node, misc_node, PlainDoc, without_marks}
 use Rattle.pv_tree.specs.Heads.{head_of}
 use Rattle.pv_tree.specs.View.{view}
 use Rattle.pv_tree.specs.Words.{word_of}
@@ -22,51 +22,51 @@ use Rattle.pv_cli.specs.Check.{TellsPossibility, is_impossible, is_possible, is_
 use Rattle.pv_cli.specs.Paths.{path_text}
 use Rattle.pv_cli.specs.Response.{PlainResponse, with_line}
 use Rattle.pv_cli.specs.declared.status.Status.TheVariants.{Done, Limit, Negative}
-use Rattle.pv_cli.proofs.Marks.{all_unmarked, all-unmarked, first-unmarked, lists_of-unmarked, unmarked_list, word_of-unmarked}
+use Rattle.pv_cli.proofs.Marks.{all_without_marks, all-without_marks, first-without_marks, lists_of-without_marks, unmarked_list, word_of-without_marks}
 use Rattle.pv_cli.proofs.OneVerdict.{same_view}
 
-head-unmarked : {M : Type 0} (t : Tree M) → head_of (unmarked t) ≡ head_of t
-head-unmarked (element x a e k m) = refl
-head-unmarked (text_node us) = refl
-head-unmarked (cdata_node b) = refl
-head-unmarked (misc_node b) = refl
+head-without_marks : {M : Type 0} (t : Tree M) → head_of (without_marks t) ≡ head_of t
+head-without_marks (element x a e k m) = refl
+head-without_marks (text_node us) = refl
+head-without_marks (cdata_node b) = refl
+head-without_marks (misc_node b) = refl
 
-heads-unmarked : {M : Type 0} (kids : Forest M) → heads_of (all_unmarked kids) ≡ heads_of kids
-heads-unmarked no_trees = refl
-heads-unmarked (tree t rest) = let h = head-unmarked t in let r = heads-unmarked rest in cc
+heads-without_marks : {M : Type 0} (kids : Forest M) → heads_of (all_without_marks kids) ≡ heads_of kids
+heads-without_marks no_trees = refl
+heads-without_marks (tree t rest) = let h = head-without_marks t in let r = heads-without_marks rest in cc
 
 fits_to : {M : Type 0} (g : PlainDtd) (list : Listed M) → IsListForVerdict g list → IsListForVerdict g (unmarked_list list)
-fits_to g list fits = subst (λ w. FitsVerdict g (length w)) (sym (word_of-unmarked g list.kids)) fits
+fits_to g list fits = subst (λ w. FitsVerdict g (length w)) (sym (word_of-without_marks g list.kids)) fits
 
 fits_from : {M : Type 0} (g : PlainDtd) (list : Listed M) → IsListForVerdict g (unmarked_list list) → IsListForVerdict g list
-fits_from g list fits = subst (λ w. FitsVerdict g (length w)) (word_of-unmarked g list.kids) fits
+fits_from g list fits = subst (λ w. FitsVerdict g (length w)) (word_of-without_marks g list.kids) fits
 
 live_to : {M : Type 0} (g : PlainDtd) (root : List ℕ) (list : Listed M) → IsLive g root list → IsLive g root (unmarked_list list)
-live_to g root list l = live_alike g root list.owner list.kids (all_unmarked list.kids) (sym (heads-unmarked list.kids)) l
+live_to g root list l = live_alike g root list.owner list.kids (all_without_marks list.kids) (sym (heads-without_marks list.kids)) l
 
 live_from : {M : Type 0} (g : PlainDtd) (root : List ℕ) (list : Listed M) → IsLive g root (unmarked_list list) → IsLive g root list
-live_from g root list l = live_alike g root list.owner (all_unmarked list.kids) list.kids (heads-unmarked list.kids) l
+live_from g root list l = live_alike g root list.owner (all_without_marks list.kids) list.kids (heads-without_marks list.kids) l
 
 verdicts_to : {M : Type 0} (g : PlainDtd) (root : List ℕ) (lists : List (Listed M)) (vs : List Verdict) → AreVerdicts g root lists vs → AreVerdicts g root (map unmarked_list lists) vs
 verdicts_to g root [] vs a = a
 verdicts_to {M} g root (list ∷ lists) vs a =
-    (a.0, a.1, a.2, (verdict_by_heads M Unit g root list (unmarked_list list) a.0 refl (sym (heads-unmarked list.kids))).0 a.3, verdicts_to g root lists a.1 a.4)
+    (a.0, a.1, a.2, (verdict_by_heads M Unit g root list (unmarked_list list) a.0 refl (sym (heads-without_marks list.kids))).0 a.3, verdicts_to g root lists a.1 a.4)
 
-verdicts-unmarked : {M : Type 0} (g : PlainDtd) (root : List ℕ) (doc : PlainDoc M) (vs : List Verdict) → AreVerdicts g root (lists_of doc) vs → AreVerdicts g root (lists_of (unmarked_doc doc)) vs
-verdicts-unmarked g root doc vs a = subst (λ lists. AreVerdicts g root lists vs) (sym (lists_of-unmarked doc)) (verdicts_to g root (lists_of doc) vs a)
+verdicts-without_marks : {M : Type 0} (g : PlainDtd) (root : List ℕ) (doc : PlainDoc M) (vs : List Verdict) → AreVerdicts g root (lists_of doc) vs → AreVerdicts g root (lists_of (unmarked_doc doc)) vs
+verdicts-without_marks g root doc vs a = subst (λ lists. AreVerdicts g root lists vs) (sym (lists_of-without_marks doc)) (verdicts_to g root (lists_of doc) vs a)
 
 -- one of two documents without marks is the other
 one_count : {M : Type 0} (g : PlainDtd) (root : List ℕ) (doc same : PlainDoc M) (n m : ℕ) → unmarked_doc doc ≡ unmarked_doc same → HavePossible g root (lists_of doc) n → HavePossible g root (lists_of same) m → n ≡ m
 one_count g root doc same n m e h k =
-    let first = subst (λ (d : PlainDoc Unit). AreVerdicts g root (lists_of d) h.verdicts) e (verdicts-unmarked g root doc h.verdicts h.are_verdicts) in
-    let second = verdicts-unmarked g root same k.verdicts k.are_verdicts in
+    let first = subst (λ (d : PlainDoc Unit). AreVerdicts g root (lists_of d) h.verdicts) e (verdicts-without_marks g root doc h.verdicts h.are_verdicts) in
+    let second = verdicts-without_marks g root same k.verdicts k.are_verdicts in
     h.count ∙ ap possible_in (one_list_of_verdicts Unit g root (lists_of (unmarked_doc same)) h.verdicts k.verdicts first second) ∙ sym k.count
 
 one_path : {M : Type 0} (P : Listed M → Type 0) (Q : Listed Unit → Type 0) → ((list : Listed M) → P list → Q (unmarked_list list)) → ((list : Listed M) → Q (unmarked_list list) → P list) →
     (doc same : PlainDoc M) (path other : List ℕ) → unmarked_doc doc ≡ unmarked_doc same → IsFirstNot P (lists_of doc) path → IsFirstNot P (lists_of same) other → path ≡ other
 one_path P Q to from doc same path other e f h =
-    let first = subst (λ (d : PlainDoc Unit). IsFirstNot Q (lists_of d) path) e (first-unmarked P Q to from path doc f) in
-    one_first Q (lists_of (unmarked_doc same)) path other first (first-unmarked P Q to from other same h)
+    let first = subst (λ (d : PlainDoc Unit). IsFirstNot Q (lists_of d) path) e (first-without_marks P Q to from path doc f) in
+    one_first Q (lists_of (unmarked_doc same)) path other first (first-without_marks P Q to from other same h)
 
 -- not all lists are so where there is a first that isn't
 none_first : {M : Type 0} (P : Listed M → Type 0) (lists : List (Listed M)) (path : List ℕ) → AllByRecursion P lists → IsFirstNot P lists path → ⊥
@@ -75,8 +75,8 @@ none_first P lists path all f = f.is_not (all_right P f.before (f.list ∷ f.aft
 not_wide : {M : Type 0} (g : PlainDtd) (doc same : PlainDoc M) (path : List ℕ) → unmarked_doc doc ≡ unmarked_doc same → AllByRecursion (IsListForVerdict g) (lists_of doc) → IsFirstTooWide g (lists_of same) path → ⊥
 not_wide g doc same path e all f =
     none_first (IsListForVerdict g) (lists_of (unmarked_doc same)) path
-    (subst (λ (d : PlainDoc Unit). AllByRecursion (IsListForVerdict g) (lists_of d)) e (all-unmarked (IsListForVerdict g) (IsListForVerdict g) (fits_to g) doc all))
-    (first-unmarked (IsListForVerdict g) (IsListForVerdict g) (fits_to g) (fits_from g) path same f)
+    (subst (λ (d : PlainDoc Unit). AllByRecursion (IsListForVerdict g) (lists_of d)) e (all-without_marks (IsListForVerdict g) (IsListForVerdict g) (fits_to g) doc all))
+    (first-without_marks (IsListForVerdict g) (IsListForVerdict g) (fits_to g) (fits_from g) path same f)
 
 pub one_possibility : (root : List ℕ) (g : PlainDtd) (doc same : PlainDoc Mark) (a b : PlainResponse) → unmarked_doc doc ≡ unmarked_doc same →
     TellsPossibility root g doc a → TellsPossibility root g same b → a ≡ b

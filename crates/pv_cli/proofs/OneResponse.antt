@@ -3,7 +3,7 @@ use Rattle.std.proofs.Common.{◌≡◌, ◌⊎◌, inl, inr, ℕ, List, [], len
 use Rattle.pv_dtd.specs.Plain.{PlainDtd}
 use Rattle.pv_dtd.specs.Facts.{MAX_DTD_BYTES}
 use Rattle.pv_dtd.specs.Laws.{OneMeaning}
-use Rattle.pv_dtd.specs.Meaning.{Outcome, is_dtd, faulty, TextMeans}
+use Rattle.pv_dtd.specs.Meaning.{Outcome, is_dtd, faulty, DtdTextMeans}
 use Rattle.pv_tree.specs.Laws.{IsValidByLists}
 use Rattle.pv_tree.specs.Marks.{blank_mark}
 use Rattle.pv_tree.specs.Plain.{PlainDoc}
@@ -19,12 +19,12 @@ use Rattle.pv_write.specs.Laws.{WritesWhatIsSpelled}
 use Rattle.pv_write.specs.Text.{doc_text}
 use Rattle.pv_cli.specs.CommandLine.{listing, valid, check, session}
 use Rattle.pv_cli.specs.Documents.{document_refusal, RefusesDocument, no_document, too_many_bytes, document_stage}
-use Rattle.pv_cli.specs.Course.{Ending, responds, Course}
+use Rattle.pv_cli.specs.Course.{RunEnding, responds, Course}
 use Rattle.pv_cli.specs.Laws.{HasOneResponse}
 use Rattle.pv_cli.specs.Listing.{ListsDtd}
 use Rattle.pv_cli.specs.Opening.{Files, IsGiven, IsTooLong, fetch_stage, RefusesDtd, no_dtd, dtd_refusal, dtd_stage, dtd_file_stage, document_file_stage, opening_stage}
 use Rattle.pv_cli.specs.Response.{PlainResponse}
-use Rattle.pv_cli.specs.Session.{State, IsScriptRefusal, IsAnswered, Answers, too_long, answered_all, failed, without_room, Converses}
+use Rattle.pv_cli.specs.Session.{State, IsScriptRefusal, IsAnswered, EndsSession, too_long, answered_all, failed, without_room, Converses}
 use Rattle.pv_cli.specs.Stage.{Stage, followed_by, beside, Behind, opened, refused, stopped, short_of_memory, Responds, responded, short_of_memory as out_of_memory}
 use Rattle.pv_cli.specs.Valid.{TellsValidity}
 use Rattle.pv_cli.specs.Check.{TellsPossibility}
@@ -98,10 +98,10 @@ fetch_sure file most passed = record {
 }
 
 -- a DTD text has one meaning
-same_meaning : OneMeaning → (bytes : List ℕ) (o p : Outcome) → TextMeans bytes o → TextMeans bytes p → o ≡ p
+same_meaning : OneMeaning → (bytes : List ℕ) (o p : Outcome) → DtdTextMeans bytes o → DtdTextMeans bytes p → o ≡ p
 same_meaning one bytes o p a b = (one bytes).only o a ∙ sym ((one bytes).only p b)
 
-dtd_not_both : OneMeaning → (bytes : List ℕ) (g : PlainDtd) (r : PlainResponse) → TextMeans bytes (is_dtd g) → RefusesDtd bytes r → ⊥
+dtd_not_both : OneMeaning → (bytes : List ℕ) (g : PlainDtd) (r : PlainResponse) → DtdTextMeans bytes (is_dtd g) → RefusesDtd bytes r → ⊥
 dtd_not_both one bytes g r is (no_dtd kind k means line) = let same = same_meaning one bytes (is_dtd g) (faulty kind k) is means in cc
 
 dtd_one_refusal : OneMeaning → (bytes : List ℕ) (r also : PlainResponse) → RefusesDtd bytes r → RefusesDtd bytes also → r ≡ also
@@ -205,7 +205,7 @@ possibility_on_text one root g h doc same r also is text tells others =
 abbrev pub SessionResponds : State → List ℕ → List ℕ → PlainResponse → Type 0
 SessionResponds doc script silent r = IsScriptRefusal script r ⊎ IsAnswered doc script silent (responds r)
 
-session_responds : (doc : State) (script silent : List ℕ) (ending : Ending) (r : PlainResponse) → Answers doc script silent ending → ending ≡ responds r → SessionResponds doc script silent r
+session_responds : (doc : State) (script silent : List ℕ) (ending : RunEnding) (r : PlainResponse) → EndsSession doc script silent ending → ending ≡ responds r → SessionResponds doc script silent r
 session_responds doc script silent ending r (too_long s refuses is) at = let same : s ≡ r = cc in inl (subst (IsScriptRefusal script) same refuses)
 session_responds doc script silent ending r (answered_all is) at = inr (subst (IsAnswered doc script silent) at is)
 session_responds doc script silent ending r (failed within is) at = cc

@@ -16,14 +16,14 @@ use Rattle.pv_cli.specs.Response.{PlainResponse, with_line}
 use Rattle.pv_cli.specs.Paths.{path_text}
 use Rattle.pv_cli.specs.Valid.{TellsValidity, is_valid, is_invalid}
 use Rattle.pv_cli.specs.declared.status.Status.TheVariants.{Negative}
-use Rattle.pv_cli.proofs.Marks.{view-unmarked, first_invalid-unmarked}
+use Rattle.pv_cli.proofs.Marks.{view-without_marks, first_invalid-without_marks}
 
 -- one of two documents without marks is the other
 pub one_invalid_path : {M : Type 0} (g : PlainDtd) (root : List ℕ) (doc same : PlainDoc M) (path other : List ℕ) → unmarked_doc doc ≡ unmarked_doc same →
     IsFirstNot (IsValidList g root) (lists_of doc) path → IsFirstNot (IsValidList g root) (lists_of same) other → path ≡ other
 one_invalid_path g root doc same path other e f h =
-    let first = first_invalid-unmarked g root path doc f in
-    let second = first_invalid-unmarked g root other same h in
+    let first = first_invalid-without_marks g root path doc f in
+    let second = first_invalid-without_marks g root other same h in
     one_first (IsValidList g root) (lists_of (unmarked_doc same)) path other (subst (λ (d : PlainDoc Unit). IsFirstNot (IsValidList g root) (lists_of d) path) e first) second
 
 not_both : (by_lists : IsValidByLists Mark) (g : PlainDtd) (root path : List ℕ) (doc : PlainDoc Mark) → HasUnits doc.root →
@@ -34,7 +34,7 @@ not_both by_lists g root path doc texts valid f =
 
 pub same_view : {M : Type 0} (doc same : PlainDoc M) → unmarked_doc doc ≡ unmarked_doc same → view doc.root ≡ view same.root
 same_view doc same e =
-    sym (view-unmarked doc.root done) ∙ ap (λ (d : PlainDoc Unit). view d.root) e ∙ view-unmarked same.root done
+    sym (view-without_marks doc.root done) ∙ ap (λ (d : PlainDoc Unit). view d.root) e ∙ view-without_marks same.root done
 
 pub one_verdict : (by_lists : IsValidByLists Mark) (root : List ℕ) (g : PlainDtd) (doc same : PlainDoc Mark) (a b : PlainResponse) → HasUnits doc.root → HasUnits same.root →
     unmarked_doc doc ≡ unmarked_doc same → TellsValidity root g doc a → TellsValidity root g same b → a ≡ b

@@ -5,10 +5,10 @@ use Rattle.pv_cli.specs.declared.response.Response.{Response}
 use Rattle.pv_cli.specs.declared.status.Status.{Status}
 use Rattle.pv_cli.specs.declared.stop.Stop.{Stop}
 use Rattle.pv_cli.specs.declared.stop.Stop.TheVariants.{Refused, ShelfFault, InputFault, NoMemory}
-use Rattle.pv_cli.specs.Course.{Ending, responds, shelf_fault, input_fault, no_memory, Course, unread}
+use Rattle.pv_cli.specs.Course.{RunEnding, responds, shelf_fault, input_fault, no_memory, Course, without_input}
 use Rattle.pv_cli.specs.Opening.{IsFile}
 use Rattle.pv_cli.specs.CommandLine.{PlainCommandLine}
-use Rattle.pv_cli.specs.Program.{CountsShelf, CountsInput, Writes, Runs, Finds, devices, ending_of}
+use Rattle.pv_cli.specs.Program.{CountsShelf, CountsInput, Writes, Runs, FindsResponse, devices, ending_of}
 use Rattle.pv_cli.specs.Response.{PlainResponse}
 use Rattle.pv_cli.specs.Stage.{Stage, followed_by, Behind, refused, stopped, short_of_memory, Responds, responded, short_of_memory as without_memory, StopsBy, Returns, TellsBy, StopCounts}
 
@@ -47,14 +47,14 @@ returned_second plain first second x (Err stop) opens is = stopped_second first 
 
 -- a run ends where a stage stops
 pub stop_ends : {X : Type 0} (stage : Stage X) (Goes : X → Course → Type 0) (stop : Stop) → StopsBy stage.Refuses stage.AsksShelf stop →
-    Behind stage Goes (unread (ending_of (Err stop)))
+    Behind stage Goes (without_input (ending_of (Err stop)))
 stop_ends stage Goes (Refused r) stops = refused _ stops refl
 stop_ends stage Goes ShelfFault stops = stopped stops refl
 stop_ends stage Goes InputFault stops = absurd stops
 stop_ends stage Goes NoMemory stops = short_of_memory refl
 
 -- and where the order of work ends
-pub tells_ends : (P : PlainResponse → Type 0) (result : Result Response Stop) → TellsBy P result → Responds P (unread (ending_of result))
+pub tells_ends : (P : PlainResponse → Type 0) (result : Result Response Stop) → TellsBy P result → Responds P (without_input (ending_of result))
 tells_ends P (Ok r) tells = responded _ tells refl
 tells_ends P (Err (Refused r)) tells = responded _ tells refl
 tells_ends P (Err ShelfFault) tells = absurd tells
@@ -85,7 +85,7 @@ pub tells_leaves_input : (P : PlainResponse → Type 0) (result : Result Respons
 tells_leaves_input P (Ok r) tells is = cc
 tells_leaves_input P (Err stop) tells is = stop_leaves_input P ⊥ stop tells is
 
-input_stays : (ending : Ending) (count : ℕ) → (ending ≡ input_fault → ⊥) → CountsInput ending count count
+input_stays : (ending : RunEnding) (count : ℕ) → (ending ≡ input_fault → ⊥) → CountsInput ending count count
 input_stays (responds r) count not = refl
 input_stays shelf_fault count not = refl
 input_stays input_fault count not = absurd (not refl)
@@ -94,12 +94,12 @@ input_stays no_memory count not = refl
 -- what a command found that leaves the input alone, once it is written
 pub found_runs : {S : Type 0} (line : Option PlainCommandLine) (told now : Option (List (List ℕ × List ℕ))) (before after : ℕ) (result : Result Response Stop)
     (input : S) (left : Option (List ℕ)) (input_faults : ℕ) (old new : Option (List ℕ)) (first last : ℕ) (status : Status) →
-    Finds line told before after result → Writes (ending_of result) old new first last status →
+    FindsResponse line told before after result → Writes (ending_of result) old new first last status →
     Runs line (devices told before input left input_faults old first) (devices now after input left input_faults new last) status
 found_runs line told now before after result input left input_faults old new first last status finds writes = record {
   files = finds.files;
   are_files = finds.are_files;
-  course = unread (ending_of result);
+  course = without_input (ending_of result);
   is_defined = finds.is_defined;
   shows = record {
     shelf = finds.shelf;

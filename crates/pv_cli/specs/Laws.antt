@@ -1,7 +1,7 @@
 -- Laws on what the program does.
 use Rattle.std.specs.Prelude.{◌≡◌, ◌⊎◌, ℕ, List, ◌++◌, Option}
 use Rattle.std.specs.Io.KnownBytes.{Appends}
-use Rattle.pv_io.specs.Causes.{Stays, Rose}
+use Rattle.pv_io.specs.Causes.{CountStays, Rose}
 use Rattle.pv_write.specs.Text.{doc_text}
 use Rattle.pv_cli.specs.declared.status.Status.{Status}
 use Rattle.pv_cli.specs.declared.status.Status.TheVariants.{ReadFault, WriteFault, NoMemory}
@@ -51,9 +51,9 @@ IsComplete S = (line : Option PlainCommandLine) (before after : Devices S) (stat
 
 -- the count of the output rises with status 4 alone, and those of the shelf and the input with status 3 alone
 pub record CountsStay {S : Type 0} (before after : Devices S) (status : Status) : Type 0 where
-  pub output : (status ≡ WriteFault → ⊥) → Stays before.output_faults after.output_faults
-  pub shelf : (status ≡ ReadFault → ⊥) → Stays before.shelf_faults after.shelf_faults
-  pub input : (status ≡ ReadFault → ⊥) → Stays before.input_faults after.input_faults
+  pub output : (status ≡ WriteFault → ⊥) → CountStays before.output_faults after.output_faults
+  pub shelf : (status ≡ ReadFault → ⊥) → CountStays before.shelf_faults after.shelf_faults
+  pub input : (status ≡ ReadFault → ⊥) → CountStays before.input_faults after.input_faults
 
 abbrev pub FaultsShow : Type 0 → Type 0
 FaultsShow S = (line : Option PlainCommandLine) (before after : Devices S) (status : Status) →

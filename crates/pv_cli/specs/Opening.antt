@@ -3,7 +3,7 @@ use Rattle.std.specs.Prelude.{◌≡◌, ◌≤◌, ◌<◌, ℕ, List, ◌++◌
 use Rattle.pv_dtd.specs.Plain.{PlainDtd}
 use Rattle.pv_dtd.specs.Facts.{MAX_DTD_BYTES}
 use Rattle.pv_dtd.specs.Kinds.{Kind, parameter, nesting, syntax, twice, mixed_twice, limit}
-use Rattle.pv_dtd.specs.Meaning.{TextMeans, is_dtd, faulty}
+use Rattle.pv_dtd.specs.Meaning.{DtdTextMeans, is_dtd, faulty}
 use Rattle.pv_dtd.specs.PlainForms.{plain_dtd}
 use Rattle.pv_tree.specs.PlainDocs.{plain_doc}
 use Rattle.pv_tree.specs.Plain.{PlainDoc}
@@ -57,11 +57,11 @@ dtd_refusal limit k = with_line Limit (codes "limit dtd " ++ decimal k)
 
 -- the response to bytes that are no DTD
 pub data RefusesDtd (bytes : List ℕ) (r : PlainResponse) : Type 0 where
-  no_dtd : (kind : Kind) (k : ℕ) → TextMeans bytes (faulty kind k) → r ≡ dtd_refusal kind k → RefusesDtd bytes r
+  no_dtd : (kind : Kind) (k : ℕ) → DtdTextMeans bytes (faulty kind k) → r ≡ dtd_refusal kind k → RefusesDtd bytes r
 
 -- reading a DTD
 abbrev pub dtd_stage : List ℕ → Stage PlainDtd
-dtd_stage bytes = record { Opens = λ g. TextMeans bytes (is_dtd g); Refuses = RefusesDtd bytes; AsksShelf = ⊥ }
+dtd_stage bytes = record { Opens = λ g. DtdTextMeans bytes (is_dtd g); Refuses = RefusesDtd bytes; AsksShelf = ⊥ }
 
 abbrev pub dtd_file_stage : Option (List ℕ) → Stage PlainDtd
 dtd_file_stage file = followed_by (fetch_stage file MAX_DTD_BYTES (codes "limit dtd-file")) dtd_stage

@@ -1,7 +1,7 @@
 -- What a run of the program does.
 use Rattle.std.specs.Prelude.{◌≡◌, ◌⊎◌, ℕ, List, [], codes, Option, Some, None, Result, Ok, Err}
 use Rattle.std.specs.Io.KnownBytes.{Appends, Consumes, IsAtEnd}
-use Rattle.pv_io.specs.Causes.{AppendsFront, Stays, Rose}
+use Rattle.pv_io.specs.Causes.{AppendsFront, CountStays, Rose}
 use Rattle.pv_cli.specs.declared.status.Status.{Status}
 use Rattle.pv_cli.specs.declared.status.Status.TheVariants.{Done, Usage, ReadFault, WriteFault, NoMemory as OutOfMemory}
 use Rattle.pv_cli.specs.declared.response.Response.{Response}
@@ -9,7 +9,7 @@ use Rattle.pv_cli.specs.declared.stop.Stop.{Stop}
 use Rattle.pv_cli.specs.declared.stop.Stop.TheVariants.{Refused, ShelfFault, InputFault, NoMemory}
 use Rattle.pv_cli.specs.Check.{IsCheckCourse}
 use Rattle.pv_cli.specs.CommandLine.{PlainCommandLine, listing, valid, check, session}
-use Rattle.pv_cli.specs.Course.{Ending, responds, shelf_fault, input_fault, no_memory, Course, unread}
+use Rattle.pv_cli.specs.Course.{RunEnding, responds, shelf_fault, input_fault, no_memory, Course, without_input}
 use Rattle.pv_cli.specs.Listing.{IsListingCourse}
 use Rattle.pv_cli.specs.Opening.{Files, IsFile}
 use Rattle.pv_cli.specs.Response.{PlainResponse, with_line, plain_response}
@@ -55,43 +55,43 @@ devices files shelf_faults input left input_faults written output_faults = recor
 }
 
 -- the count of a device rose where the run ended at a fault of it, and else it stayed
-abbrev pub CountsShelf : Ending → ℕ → ℕ → Type 0
-CountsShelf (responds r) before after = Stays before after
+abbrev pub CountsShelf : RunEnding → ℕ → ℕ → Type 0
+CountsShelf (responds r) before after = CountStays before after
 CountsShelf shelf_fault before after = Rose before after
-CountsShelf input_fault before after = Stays before after
-CountsShelf no_memory before after = Stays before after
+CountsShelf input_fault before after = CountStays before after
+CountsShelf no_memory before after = CountStays before after
 
-abbrev pub CountsInput : Ending → ℕ → ℕ → Type 0
-CountsInput (responds r) before after = Stays before after
-CountsInput shelf_fault before after = Stays before after
+abbrev pub CountsInput : RunEnding → ℕ → ℕ → Type 0
+CountsInput (responds r) before after = CountStays before after
+CountsInput shelf_fault before after = CountStays before after
 CountsInput input_fault before after = Rose before after
-CountsInput no_memory before after = Stays before after
+CountsInput no_memory before after = CountStays before after
 
 -- these bytes were taken from the input, or it stayed as it was
-abbrev pub Takes : {S : Type 0} → Option (List ℕ) → Devices S → Devices S → Type 0
-Takes None before after = after.input ≡ before.input
-Takes (Some bytes) before after = Consumes before.left after.left bytes
+abbrev pub TakesInput : {S : Type 0} → Option (List ℕ) → Devices S → Devices S → Type 0
+TakesInput None before after = after.input ≡ before.input
+TakesInput (Some bytes) before after = Consumes before.left after.left bytes
 
 -- where bytes were taken from the input, nothing is left of it
 abbrev pub ReadsAll : Option (List ℕ) → Option (List ℕ) → Type 0
 ReadsAll None left = Unit {0}
 ReadsAll (Some bytes) left = IsAtEnd left
 
-abbrev pub status_of : Ending → Status
+abbrev pub status_of : RunEnding → Status
 status_of (responds r) = r.status
 status_of shelf_fault = ReadFault
 status_of input_fault = ReadFault
 status_of no_memory = OutOfMemory
 
-abbrev pub output_of : Ending → List ℕ
+abbrev pub output_of : RunEnding → List ℕ
 output_of (responds r) = r.output
 output_of shelf_fault = []
 output_of input_fault = []
 output_of no_memory = []
 
 -- The status of an ending, and what is written then. Where writing a response fails, a front of it is written.
-pub data Writes (ending : Ending) (old new : Option (List ℕ)) (before after : ℕ) (status : Status) : Type 0 where
-  wrote : status ≡ status_of ending → Appends old new (output_of ending) → Stays before after → Writes ending old new before after status
+pub data Writes (ending : RunEnding) (old new : Option (List ℕ)) (before after : ℕ) (status : Status) : Type 0 where
+  wrote : status ≡ status_of ending → Appends old new (output_of ending) → CountStays before after → Writes ending old new before after status
   cut_off : (r : PlainResponse) → ending ≡ responds r → status ≡ WriteFault → AppendsFront old new r.output → Rose before after →
       Writes ending old new before after status
 
@@ -99,7 +99,7 @@ pub data Writes (ending : Ending) (old new : Option (List ℕ)) (before after : 
 pub record Shows {S : Type 0} (course : Course) (before after : Devices S) (status : Status) : Type 0 where
   pub shelf : CountsShelf course.ending before.shelf_faults after.shelf_faults
   pub input : CountsInput course.ending before.input_faults after.input_faults
-  pub taken : Takes course.taken before after
+  pub taken : TakesInput course.taken before after
   pub output : Writes course.ending before.written after.written before.output_faults after.output_faults status
   pub finished : status_of course.ending ≡ Done → ReadsAll course.taken after.left
 
@@ -120,7 +120,7 @@ pub record Runs {S : Type 0} (line : Option PlainCommandLine) (before after : De
   pub shows : Shows course before after status
 
 -- how a command that leaves the input alone ended
-abbrev pub ending_of : Result Response Stop → Ending
+abbrev pub ending_of : Result Response Stop → RunEnding
 ending_of (Ok response) = responds (plain_response response)
 ending_of (Err (Refused response)) = responds (plain_response response)
 ending_of (Err ShelfFault) = shelf_fault
@@ -128,9 +128,9 @@ ending_of (Err InputFault) = input_fault
 ending_of (Err NoMemory) = no_memory
 
 -- what such a command does, up to the writing of its response
-pub record Finds (line : Option PlainCommandLine) (told : Option (List (List ℕ × List ℕ))) (before after : ℕ) (result : Result Response Stop) : Type 0 where
+pub record FindsResponse (line : Option PlainCommandLine) (told : Option (List (List ℕ × List ℕ))) (before after : ℕ) (result : Result Response Stop) : Type 0 where
   pub files : Files
   pub are_files : AreFiles told line files
-  pub is_defined : IsDefined line files (unread (ending_of result))
+  pub is_defined : IsDefined line files (without_input (ending_of result))
   pub shelf : CountsShelf (ending_of result) before after
   pub no_input_fault : ending_of result ≡ input_fault → ⊥

@@ -8,7 +8,7 @@ use Rattle.pv_script.specs.Commands.{show, quit, command_of}
 use Rattle.pv_script.specs.Lines.{lines_of}
 use Rattle.pv_script.specs.Replies.{PlainReply, document, no_command, no_memory, reply_bytes}
 use Rattle.pv_cli.specs.declared.status.Status.TheVariants.{Done, Limit}
-use Rattle.pv_cli.specs.Course.{Course, Ending, responds, input_fault, no_memory as short_of_memory}
+use Rattle.pv_cli.specs.Course.{Course, RunEnding, responds, input_fault, no_memory as short_of_memory}
 use Rattle.pv_cli.specs.Opening.{Files, opening_stage}
 use Rattle.pv_cli.specs.Response.{PlainResponse, with_line}
 use Rattle.pv_cli.specs.Stage.{Behind}
@@ -49,7 +49,7 @@ abbrev pub MAX_SCRIPT_BYTES : ℕ
 MAX_SCRIPT_BYTES = 1048576
 
 -- the replies to the lines of a script, counted from 1
-pub record IsAnswered (doc : State) (script silent : List ℕ) (ending : Ending) : Type 0 where
+pub record IsAnswered (doc : State) (script silent : List ℕ) (ending : RunEnding) : Type 0 where
   pub within : length script ≤ MAX_SCRIPT_BYTES
   pub out : List ℕ
   pub place : Place
@@ -62,16 +62,16 @@ pub record IsScriptRefusal (script : List ℕ) (r : PlainResponse) : Type 0 wher
   pub is_response : r ≡ with_line Limit (codes "limit script")
 
 -- How a session on a document ends over the script that was taken from its input. A script past its limit is no fault of the input.
-pub data Answers (doc : State) (script silent : List ℕ) (ending : Ending) : Type 0 where
-  too_long : (r : PlainResponse) → IsScriptRefusal script r → ending ≡ responds r → Answers doc script silent ending
-  answered_all : IsAnswered doc script silent ending → Answers doc script silent ending
-  failed : length script ≤ MAX_SCRIPT_BYTES → ending ≡ input_fault → Answers doc script silent ending
-  without_room : ending ≡ short_of_memory → Answers doc script silent ending
+pub data EndsSession (doc : State) (script silent : List ℕ) (ending : RunEnding) : Type 0 where
+  too_long : (r : PlainResponse) → IsScriptRefusal script r → ending ≡ responds r → EndsSession doc script silent ending
+  answered_all : IsAnswered doc script silent ending → EndsSession doc script silent ending
+  failed : length script ≤ MAX_SCRIPT_BYTES → ending ≡ input_fault → EndsSession doc script silent ending
+  without_room : ending ≡ short_of_memory → EndsSession doc script silent ending
 
 pub record Converses (doc : State) (course : Course) : Type 0 where
   pub script : List ℕ
   pub is_taken : course.taken ≡ Some script
-  pub answers : Answers doc script course.silent course.ending
+  pub answers : EndsSession doc script course.silent course.ending
 
 abbrev pub IsSessionCourse : List ℕ → Files → Course → Type 0
 IsSessionCourse root files course = Behind (opening_stage root files) (λ opened. Converses opened.1) course

@@ -1,7 +1,7 @@
 -- The order of work: stages, one behind another. Each opens something, or refuses, or stops.
 use Rattle.std.specs.Prelude.{◌≡◌, ◌⊎◌, ℕ, Result, Ok, Err}
-use Rattle.pv_io.specs.Causes.{Stays, Rose}
-use Rattle.pv_cli.specs.Course.{Course, unread, responds, shelf_fault, no_memory}
+use Rattle.pv_io.specs.Causes.{CountStays, Rose}
+use Rattle.pv_cli.specs.Course.{Course, without_input, responds, shelf_fault, no_memory}
 use Rattle.pv_cli.specs.Response.{PlainResponse, plain_response}
 use Rattle.pv_cli.specs.declared.response.Response.{Response}
 use Rattle.pv_cli.specs.declared.stop.Stop.{Stop}
@@ -33,14 +33,14 @@ beside x stage = record {
 -- ends, the input wasn't asked.
 pub data Behind {X : Type 0} (stage : Stage X) (Goes : X → Course → Type 0) (course : Course) : Type 0 where
   opened : (x : X) → stage.Opens x → Goes x course → Behind stage Goes course
-  refused : (r : PlainResponse) → stage.Refuses r → course ≡ unread (responds r) → Behind stage Goes course
-  stopped : stage.AsksShelf → course ≡ unread shelf_fault → Behind stage Goes course
-  short_of_memory : course ≡ unread no_memory → Behind stage Goes course
+  refused : (r : PlainResponse) → stage.Refuses r → course ≡ without_input (responds r) → Behind stage Goes course
+  stopped : stage.AsksShelf → course ≡ without_input shelf_fault → Behind stage Goes course
+  short_of_memory : course ≡ without_input no_memory → Behind stage Goes course
 
 -- the end of the order of work: such a response, or want of memory
 pub data Responds (IsResponse : PlainResponse → Type 0) (course : Course) : Type 0 where
-  responded : (r : PlainResponse) → IsResponse r → course ≡ unread (responds r) → Responds IsResponse course
-  short_of_memory : course ≡ unread no_memory → Responds IsResponse course
+  responded : (r : PlainResponse) → IsResponse r → course ≡ without_input (responds r) → Responds IsResponse course
+  short_of_memory : course ≡ without_input no_memory → Responds IsResponse course
 
 -- why a stage stopped
 abbrev pub StopsBy : (PlainResponse → Type 0) → Type 0 → Stop → Type 0
@@ -55,14 +55,14 @@ Returns plain stage (Ok x) = stage.Opens (plain x)
 Returns plain stage (Err stop) = StopsBy stage.Refuses stage.AsksShelf stop
 
 abbrev pub StopCounts : ℕ → ℕ → Stop → Type 0
-StopCounts before after (Refused response) = Stays before after
+StopCounts before after (Refused response) = CountStays before after
 StopCounts before after ShelfFault = Rose before after
-StopCounts before after InputFault = Stays before after
-StopCounts before after NoMemory = Stays before after
+StopCounts before after InputFault = CountStays before after
+StopCounts before after NoMemory = CountStays before after
 
 -- the shelf's count of faults rose where it failed, and else it stayed
 abbrev pub ShelfCounts : {X : Type 0} → ℕ → ℕ → Result X Stop → Type 0
-ShelfCounts before after (Ok x) = Stays before after
+ShelfCounts before after (Ok x) = CountStays before after
 ShelfCounts before after (Err stop) = StopCounts before after stop
 
 -- what the end of the order of work returned

@@ -15,8 +15,8 @@ code_of BadDtd = 6
 code_of BadDocument = 7
 code_of Limit = 8
 
-abbrev pub is_fault : Status → Bool
-is_fault ReadFault = true
-is_fault WriteFault = true
-is_fault NoMemory = true
-is_fault _ = false
+abbrev pub needs_cause : Status → Bool
+needs_cause ReadFault = true
+needs_cause WriteFault = true
+needs_cause NoMemory = true
+needs_cause _ = false

@@ -2,7 +2,7 @@
 use Rattle.std.specs.Prelude.{◌≡◌, ◌≤◌, ℕ, List, length, Option, Some, None, Vec, Result, Ok, Err}
 use Rattle.std.specs.Io.KnownBytes.{Consumes, IsAtEnd}
 use Rattle.std.specs.declared.alloc.Global.{Global}
-use Rattle.pv_io.specs.Causes.{Stays, Rose}
+use Rattle.pv_io.specs.Causes.{CountStays, Rose}
 use Rattle.pv_script.specs.Commands.{quit, command_of}
 use Rattle.pv_script.specs.Replies.{PlainReply, document, reply_bytes}
 use Rattle.pv_write.specs.Text.{doc_text}
@@ -50,12 +50,12 @@ pub record TakesScript (old new : Option (List ℕ)) (result : Result (Vec ℕ G
   pub gives : GivesScript new script result
 
 abbrev pub StopCountsInput : ℕ → ℕ → Stop → Type 0
-StopCountsInput before after (Refused response) = Stays before after
-StopCountsInput before after ShelfFault = Stays before after
+StopCountsInput before after (Refused response) = CountStays before after
+StopCountsInput before after ShelfFault = CountStays before after
 StopCountsInput before after InputFault = Rose before after
-StopCountsInput before after NoMemory = Stays before after
+StopCountsInput before after NoMemory = CountStays before after
 
 -- the input's count of faults rose where it failed, and else it stayed
 abbrev pub InputCounts : {X : Type 0} → ℕ → ℕ → Result X Stop → Type 0
-InputCounts before after (Ok x) = Stays before after
+InputCounts before after (Ok x) = CountStays before after
 InputCounts before after (Err stop) = StopCountsInput before after stop

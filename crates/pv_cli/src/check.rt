@@ -3,7 +3,7 @@
 ghost use Rattle.std.specs.Prelude.{◌≡◌, ◌≤◌, IfOk, Some};
 ghost use Rattle.pv_cli.specs.Check.{TellsPossibility, possible_text};
 ghost use Rattle.pv_cli.specs.CommandLine.{AreNamed, check};
-ghost use Rattle.pv_cli.specs.Program.{Finds};
+ghost use Rattle.pv_cli.specs.Program.{FindsResponse};
 ghost use Rattle.pv_cli.specs.Response.{plain_response, with_line};
 ghost use Rattle.pv_cli.specs.Stage.{TellsBy};
 ghost use Rattle.pv_cli.specs.declared.status.Status.TheVariants.{Done};
@@ -72,7 +72,7 @@ pub fn check<H: Shelf, L: Ledger>(
     steps: &mut Steps<L>,
 ) -> Result<Response, Stop>
     requires { AreNamed (H.names shelf.old) named.now }
-    ensures finds { Finds (Some (check named.now.dtd.now named.now.root.now named.now.doc.now))
+    ensures finds { FindsResponse (Some (check named.now.dtd.now named.now.root.now named.now.doc.now))
         (H.files shelf.old) (H.faults shelf.old) (H.faults shelf.new) result }
     ensures names { H.names shelf.new ≡ H.names shelf.old }
     ensures files { H.files shelf.new ≡ H.files shelf.old }

@@ -3,7 +3,7 @@
 ghost use Rattle.std.specs.Prelude.{◌≡◌, ◌++◌, ◌<◌, OnOk, IfOk, Some, codes, slice_get, Contains, List, ℕ};
 ghost use Rattle.pv_cli.specs.CommandLine.{listing};
 ghost use Rattle.pv_cli.specs.Listing.{AreNameLines, IsNameLine, IsTreeText, ListsDtd, model_text, totals};
-ghost use Rattle.pv_cli.specs.Program.{Finds};
+ghost use Rattle.pv_cli.specs.Program.{FindsResponse};
 ghost use Rattle.pv_cli.specs.Stage.{TellsBy};
 ghost use Rattle.pv_dtd.specs.Plain.{declared, model_of};
 ghost use Rattle.pv_dtd.specs.PlainForms.{plain_dtd};
@@ -111,7 +111,7 @@ fn tell(alloc: Global, grammar: &Grammar) -> Result<Response, Stop>
 /// The names that a DTD declares, each with its least tree, and the numbers of its types and parts.
 pub fn listing<H: Shelf>(alloc: Global, shelf: &mut H, name: &str) -> Result<Response, Stop>
     requires { Contains (H.names shelf.old) name.now }
-    ensures finds { Finds (Some (listing name.now)) (H.files shelf.old) (H.faults shelf.old) (H.faults shelf.new) result }
+    ensures finds { FindsResponse (Some (listing name.now)) (H.files shelf.old) (H.faults shelf.old) (H.faults shelf.new) result }
     ensures names { H.names shelf.new ≡ H.names shelf.old }
     ensures files { H.files shelf.new ≡ H.files shelf.old }
 {

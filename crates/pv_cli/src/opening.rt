@@ -6,7 +6,7 @@ ghost use Rattle.pv_cli.specs.Documents.{document_stage};
 ghost use Rattle.pv_cli.specs.Paths.{path_text};
 ghost use Rattle.pv_cli.specs.Response.{with_line};
 ghost use Rattle.pv_cli.specs.Stage.{StopsBy, Returns, ShelfCounts};
-ghost use Rattle.pv_cli.specs.Status.{is_fault};
+ghost use Rattle.pv_cli.specs.Status.{needs_cause};
 ghost use Rattle.pv_dtd.specs.PlainForms.{plain_dtd};
 ghost use Rattle.pv_tree.specs.PlainDocs.{plain_doc};
 
@@ -28,7 +28,7 @@ pub struct Opened {
 
 /// Refuses with this line.
 pub fn refuse(alloc: Global, status: Status, text: &[u8]) -> Stop
-    requires { is_fault status ≡ false }
+    requires { needs_cause status ≡ false }
     ensures { StopsBy (λ r. r ≡ with_line status text.now) ⊥ result }
 {
     match Response::with_line(alloc, status, text) {
@@ -39,7 +39,7 @@ pub fn refuse(alloc: Global, status: Status, text: &[u8]) -> Stop
 
 // Refuses with a line of this text and the number of an item.
 fn refuse_item(alloc: Global, status: Status, text: &[u8], item: u64) -> Stop
-    requires { is_fault status ≡ false }
+    requires { needs_cause status ≡ false }
     ensures { StopsBy (λ r. r ≡ with_line status (text.now ++ decimal item)) ⊥ result }
 {
     match Response::with_number(alloc, status, text, item) {
@@ -50,7 +50,7 @@ fn refuse_item(alloc: Global, status: Status, text: &[u8], item: u64) -> Stop
 
 /// Refuses with a line of this text and a path.
 pub fn refuse_path(alloc: Global, status: Status, text: &[u8], places: &[u32]) -> Stop
-    requires { is_fault status ≡ false }
+    requires { needs_cause status ≡ false }
     ensures { StopsBy (λ r. r ≡ with_line status (text.now ++ path_text places.now)) ⊥ result }
 {
     match Response::with_path(alloc, status, text, places) {

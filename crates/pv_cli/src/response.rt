@@ -2,7 +2,7 @@
 
 ghost use Rattle.std.specs.Prelude.{◌≡◌, ◌++◌, IfOk, decimal, false};
 ghost use Rattle.pv_cli.specs.Paths.{path_text};
-ghost use Rattle.pv_cli.specs.Status.{is_fault};
+ghost use Rattle.pv_cli.specs.Status.{needs_cause};
 
 use crate::paths::{push_number, push_path};
 use crate::status::Status;
@@ -13,7 +13,7 @@ use std::alloc::{AllocError, Global};
 pub struct Response {
     pub status: Status,
     pub output: Vec<u8>,
-    ghost defined: { is_fault status ≡ false },
+    ghost defined: { needs_cause status ≡ false },
 }
 
 impl Response {
@@ -21,7 +21,7 @@ impl Response {
 
     // The line of this text, which is ended here.
     fn of_text(status: Status, mut text: Vec<u8>) -> Result<Response, AllocError>
-        requires { is_fault status ≡ false }
+        requires { needs_cause status ≡ false }
         ensures { IfOk result (λ r. plain_response r ≡ with_line status text.items) }
     {
         text.extend_from_slice(b"\n")?;
@@ -33,7 +33,7 @@ impl Response {
 
     /// The line of this text.
     pub fn with_line(alloc: Global, status: Status, text: &[u8]) -> Result<Response, AllocError>
-        requires { is_fault status ≡ false }
+        requires { needs_cause status ≡ false }
         ensures { IfOk result (λ r. plain_response r ≡ with_line status text.now) }
     {
         Response::of_text(status, Vec::from_slice(alloc, text)?)
@@ -46,7 +46,7 @@ impl Response {
         text: &[u8],
         number: u64,
     ) -> Result<Response, AllocError>
-        requires { is_fault status ≡ false }
+        requires { needs_cause status ≡ false }
         ensures { IfOk result (λ r. plain_response r ≡ with_line status (text.now ++ decimal number)) }
     {
         let mut line = Vec::from_slice(alloc, text)?;
@@ -61,7 +61,7 @@ impl Response {
         text: &[u8],
         places: &[u32],
     ) -> Result<Response, AllocError>
-        requires { is_fault status ≡ false }
+        requires { needs_cause status ≡ false }
         ensures { IfOk result (λ r. plain_response r ≡ with_line status (text.now ++ path_text places.now)) }
     {
         let mut line = Vec::from_slice(alloc, text)?;

@@ -7,7 +7,7 @@ ghost use Rattle.pv_cli.specs.Course.{Course};
 ghost use Rattle.pv_cli.specs.Program.{devices, Runs, Shows};
 ghost use Rattle.pv_cli.specs.Session.{Converses};
 ghost use Rattle.pv_cli.specs.Turns.{HasReplies, IsTurn, IsShownAs, TakesScript, InputCounts};
-ghost use Rattle.pv_io.specs.Causes.{HasCause, AppendsFront};
+ghost use Rattle.pv_io.specs.Causes.{CountsFault, AppendsFront};
 ghost use Rattle.pv_script.specs.Lines.{lines_of};
 ghost use Rattle.pv_tree.specs.PlainDocs.{plain_doc};
 
@@ -83,7 +83,7 @@ fn answer_lines<K: Sink>(alloc: Global, doc: &Doc, script: &[u8], out: &mut K) -
         (Appends (K.written out.old) (K.written out.new))) }
     ensures err { OnErr result (HasReplies (plain_doc doc.now) (lines_of script.now)
         (AppendsFront (K.written out.old) (K.written out.new))) }
-    ensures cause { HasCause (K.faults out.old) (K.faults out.new) result }
+    ensures cause { CountsFault (K.faults out.old) (K.faults out.new) result }
 {
     let mut rest = script;
     'lines: while let Some((line, after)) = next_line(rest) {

@@ -2,7 +2,7 @@
 
 ghost use Rattle.std.specs.Prelude.{◌≡◌, Some};
 ghost use Rattle.pv_cli.specs.CommandLine.{AreNamed, valid};
-ghost use Rattle.pv_cli.specs.Program.{Finds};
+ghost use Rattle.pv_cli.specs.Program.{FindsResponse};
 ghost use Rattle.pv_cli.specs.Stage.{TellsBy};
 ghost use Rattle.pv_cli.specs.Valid.{TellsValidity};
 ghost use Rattle.pv_dtd.specs.PlainForms.{plain_dtd};
@@ -30,7 +30,7 @@ fn tell(alloc: Global, opened: &Opened, root: &[u8]) -> Result<Response, Stop>
 /// Whether a document is valid for a DTD.
 pub fn valid<H: Shelf>(alloc: Global, shelf: &mut H, named: &Named<'_>) -> Result<Response, Stop>
     requires { AreNamed (H.names shelf.old) named.now }
-    ensures finds { Finds (Some (valid named.now.dtd.now named.now.root.now named.now.doc.now))
+    ensures finds { FindsResponse (Some (valid named.now.dtd.now named.now.root.now named.now.doc.now))
         (H.files shelf.old) (H.faults shelf.old) (H.faults shelf.new) result }
     ensures names { H.names shelf.new ≡ H.names shelf.old }
     ensures files { H.files shelf.new ≡ H.files shelf.old }

@@ -8,7 +8,7 @@ use Rattle.pv_chars.specs.Scan.{after_bytes}
 use Rattle.pv_chars.proofs.Scanning.{after_bytes-append}
 use Rattle.pv_dtd.specs.Facts.{MAX_NESTING}
 use Rattle.pv_dtd.specs.Items.{NamedPart, name, seq, choice, opt, star, plus, NamedParts, no_parts, part, NamedModel, empty, any, mixed, children, Item, text_declaration, element, skipped, comment, instruction}
-use Rattle.pv_dtd.specs.Spelling.{Begins, SpellsPart, SpellsGroup, SpellsOthers, SpellsMixed, SpellsModel, SpellsElement, IsSkippedWord, depth_of, depth_of_all, is_one_of}
+use Rattle.pv_dtd.specs.Spelling.{StandsAt, SpellsPart, SpellsGroup, SpellsOthers, SpellsMixed, SpellsModel, SpellsElement, IsSkippedWord, nesting_of, nesting_of_all, is_one_of}
 use Rattle.pv_dtd.specs.Kinds.{IsTooDeep, how_many}
 use Rattle.pv_dtd.specs.SoFar.{IsShallow, IsShallowItem}
 use Rattle.pv_dtd.proofs.CharFacts.{comment_opens, instruction_opens}
@@ -78,32 +78,32 @@ bounded_in n inner level f (b ∷ bs) rest e =
         omega (arith, none, level.level, ap (how_many 40) last, how_many-append 40 middle rest, ap (how_many 40) is, ap (how_many 41) is, how_many-append 40 inner middle, how_many-append 41 inner middle)
 
 mutual
-  part_bounded : (p : NamedPart) (text : List ℕ) → SpellsPart p text → IsBounded (depth_of p) text
+  part_bounded : (p : NamedPart) (text : List ℕ) → SpellsPart p text → IsBounded (nesting_of p) text
   part_bounded (name n) text s = rw s.1 (plain_bounded 0 n (plain_name n s.0))
   part_bounded (seq ps) text s = group_bounded (codes ",") ps text refl s
   part_bounded (choice ps) text s = group_bounded (codes "|") ps text refl s.1
-  part_bounded (opt p) text s = rw s.3 (bounded-append (depth_of p) s.0 (codes "?") (part_level p s.0 s.2) (part_bounded p s.0 s.2) (plain_bounded (depth_of p) (codes "?") refl))
-  part_bounded (star p) text s = rw s.3 (bounded-append (depth_of p) s.0 (codes "*") (part_level p s.0 s.2) (part_bounded p s.0 s.2) (plain_bounded (depth_of p) (codes "*") refl))
-  part_bounded (plus p) text s = rw s.3 (bounded-append (depth_of p) s.0 (codes "+") (part_level p s.0 s.2) (part_bounded p s.0 s.2) (plain_bounded (depth_of p) (codes "+") refl))
+  part_bounded (opt p) text s = rw s.3 (bounded-append (nesting_of p) s.0 (codes "?") (part_level p s.0 s.2) (part_bounded p s.0 s.2) (plain_bounded (nesting_of p) (codes "?") refl))
+  part_bounded (star p) text s = rw s.3 (bounded-append (nesting_of p) s.0 (codes "*") (part_level p s.0 s.2) (part_bounded p s.0 s.2) (plain_bounded (nesting_of p) (codes "*") refl))
+  part_bounded (plus p) text s = rw s.3 (bounded-append (nesting_of p) s.0 (codes "+") (part_level p s.0 s.2) (part_bounded p s.0 s.2) (plain_bounded (nesting_of p) (codes "+") refl))
 
-  group_bounded : (separator : List ℕ) (ps : NamedParts) (text : List ℕ) → list_all (λ b. not (is_mark b)) separator ≡ true → SpellsGroup separator ps text → IsBounded (suc (depth_of_all ps)) text
+  group_bounded : (separator : List ℕ) (ps : NamedParts) (text : List ℕ) → list_all (λ b. not (is_mark b)) separator ≡ true → SpellsGroup separator ps text → IsBounded (suc (nesting_of_all ps)) text
   group_bounded separator no_parts text plain s = absurd s
   group_bounded separator (part p ps) text plain s =
-      let n = max (depth_of p) (depth_of_all ps) in
+      let n = max (nesting_of p) (nesting_of_all ps) in
       let behind = s.2 ++ s.3 in
       let behind_level : IsLevel behind = level-append s.2 s.3 (others_level separator ps s.2 plain s.6) (space_level s.3 s.7) in
-      let first : IsBounded n s.1 = bounded_more (depth_of p) n s.1 (omega arith) (part_bounded p s.1 s.5) in
-      let others : IsBounded n s.2 = bounded_more (depth_of_all ps) n s.2 (omega arith) (others_bounded separator ps s.2 plain s.6) in
+      let first : IsBounded n s.1 = bounded_more (nesting_of p) n s.1 (omega arith) (part_bounded p s.1 s.5) in
+      let others : IsBounded n s.2 = bounded_more (nesting_of_all ps) n s.2 (omega arith) (others_bounded separator ps s.2 plain s.6) in
       let behind_bounded = bounded-append n s.2 s.3 (others_level separator ps s.2 plain s.6) others (plain_bounded n s.3 (plain_space s.3 s.7)) in
       let all = bounded-append n s.0 (s.1 ++ behind) (space_level s.0 s.4) (plain_bounded n s.0 (plain_space s.0 s.4)) (bounded-append n s.1 behind (part_level p s.1 s.5) first behind_bounded) in
       rw (s.8, group_regrouped s.0 s.1 s.2 s.3) (bounded_in n (s.0 ++ (s.1 ++ behind)) (level-append s.0 (s.1 ++ behind) (space_level s.0 s.4) (level-append s.1 behind (part_level p s.1 s.5) behind_level)) all)
 
-  others_bounded : (separator : List ℕ) (ps : NamedParts) (text : List ℕ) → list_all (λ b. not (is_mark b)) separator ≡ true → SpellsOthers separator ps text → IsBounded (depth_of_all ps) text
+  others_bounded : (separator : List ℕ) (ps : NamedParts) (text : List ℕ) → list_all (λ b. not (is_mark b)) separator ≡ true → SpellsOthers separator ps text → IsBounded (nesting_of_all ps) text
   others_bounded separator no_parts text plain s = rw s (bounded_none [] refl)
   others_bounded separator (part p ps) text plain s =
-      let n = max (depth_of p) (depth_of_all ps) in
-      let next : IsBounded n s.2 = bounded_more (depth_of p) n s.2 (omega arith) (part_bounded p s.2 s.6) in
-      let others : IsBounded n s.3 = bounded_more (depth_of_all ps) n s.3 (omega arith) (others_bounded separator ps s.3 plain s.7) in
+      let n = max (nesting_of p) (nesting_of_all ps) in
+      let next : IsBounded n s.2 = bounded_more (nesting_of p) n s.2 (omega arith) (part_bounded p s.2 s.6) in
+      let others : IsBounded n s.3 = bounded_more (nesting_of_all ps) n s.3 (omega arith) (others_bounded separator ps s.3 plain s.7) in
       rw (s.8, others_regrouped s.0 separator s.1 s.2 s.3) (bounded-append n s.0 (separator ++ (s.1 ++ (s.2 ++ s.3))) (space_level s.0 s.4) (plain_bounded n s.0 (plain_space s.0 s.4))
       (bounded-append n separator (s.1 ++ (s.2 ++ s.3)) (plain_level separator plain) (plain_bounded n separator plain)
       (bounded-append n s.1 (s.2 ++ s.3) (space_level s.1 s.5) (plain_bounded n s.1 (plain_space s.1 s.5)) (bounded-append n s.2 s.3 (part_level p s.2 s.6) next others))))
@@ -142,7 +142,7 @@ model_calm empty text s shallow = rw s (plain_calm (codes "EMPTY") refl)
 model_calm any text s shallow = rw s (plain_calm (codes "ANY") refl)
 model_calm (mixed names) text (inl s) shallow = mixed_calm names (codes "*") text refl s
 model_calm (mixed names) text (inr s) shallow = mixed_calm names [] text refl s.1
-model_calm (children p) text s shallow = calm_of text (part_level p text s.1) (bounded_more (depth_of p) MAX_NESTING text shallow (part_bounded p text s.1))
+model_calm (children p) text s shallow = calm_of text (part_level p text s.1) (bounded_more (nesting_of p) MAX_NESTING text shallow (part_bounded p text s.1))
 
 element_calm : (n : List ℕ) (m : NamedModel) (text : List ℕ) (s : SpellsElement n m text) → IsShallow m → IsCalm (inside_element n m text s)
 element_calm n m text s shallow =
@@ -188,7 +188,7 @@ not_element place none deep =
     cc
 
 -- where groups stand no deeper than the limit, no place is too deep
-pub begins_not_deep : (front : Bool) (place : List ℕ) (i : Item) (rest : List ℕ) → Begins front place i rest → IsShallowItem i → IsTooDeep place → ⊥
+pub begins_not_deep : (front : Bool) (place : List ℕ) (i : Item) (rest : List ℕ) → StandsAt front place i rest → IsShallowItem i → IsTooDeep place → ⊥
 begins_not_deep front place (element n model) rest b shallow deep = element_not_deep n model place b.text rest b.whole b.spelled shallow deep
 begins_not_deep front place text_declaration rest b shallow deep = not_element place (rw (b.whole, b.spelled.whole) refl) deep
 begins_not_deep front place skipped rest b shallow deep = not_element place (by b.spelled.word b.spelled.is_word b.spelled.whole) deep

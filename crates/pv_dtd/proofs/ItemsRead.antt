@@ -11,7 +11,7 @@ use Rattle.pv_chars.proofs.Beginnings.{begins_in_space, begins_behind}
 use Rattle.pv_dtd.specs.CharReading.{name_at, is_chars, comment_at, instruction_at, text_declaration_at}
 use Rattle.pv_dtd.specs.Items.{NamedModel, Item, text_declaration, element, skipped, comment, instruction}
 use Rattle.pv_chars.specs.Declarations.{is_quote}
-use Rattle.pv_dtd.specs.Spelling.{Begins, Spells, SpellsElement, SpellsSkipped, MayStand, IsSkippedWord, is_one_of, may_not_be_skipped}
+use Rattle.pv_dtd.specs.Spelling.{StandsAt, Spells, SpellsElement, SpellsSkipped, MayStand, IsSkippedWord, is_one_of, may_not_be_skipped}
 use Rattle.pv_dtd.specs.ItemReading.{or_else, model_at, element_at, skipped_word, after_white, stop_at, where_it_is, after_stop, behind_chars, skipped_at, read_as, front_at, item_at}
 use Rattle.pv_dtd.specs.SoFar.{IsShallow, IsShallowItem}
 use Rattle.pv_dtd.proofs.Binding.{bound, same_some}
@@ -24,7 +24,7 @@ use Rattle.pv_dtd.proofs.ModelsSpelled.{model_is_read, model_begins}
 use Rattle.pv_dtd.proofs.Quoted.{Stops, stops_takes, stop_at-append, plain_before}
 
 pub record Begun (front : Bool) (bytes : List ℕ) (x : Item × List ℕ) : Type 0 where
-  pub begun : Begins front bytes x.0 x.1
+  pub begun : StandsAt front bytes x.0 x.1
   pub shallow : IsShallowItem x.0
 
 -- the one or the other
@@ -147,7 +147,7 @@ taken_before text rest b = take_at text (b ∷ rest) _ (omega (arith, length-app
 taken_is : (inside behind text rest : List ℕ) (b : ℕ) → behind ≡ rest → inside ≡ text ++ b ∷ rest → take (length inside - suc (length behind)) inside ≡ text
 taken_is inside behind text rest b e f = rw (e, f) (taken_before text rest b)
 
-pub skipped_read : (front : Bool) (bytes rest : List ℕ) → skipped_at bytes ≡ Some rest → Begins front bytes skipped rest
+pub skipped_read : (front : Bool) (bytes rest : List ℕ) → skipped_at bytes ≡ Some rest → StandsAt front bytes skipped rest
 unfolding skipped_at behind_chars
 skipped_read front bytes rest e =
     let blank = bound (skipped_word bytes) _ rest e in
@@ -289,5 +289,5 @@ spelled_is_read front (element n model) text rest s may shallow =
     let no_skipped : skipped_at (text ++ rest) ≡ None = rw s.whole refl in
     rw (no_front front (text ++ rest) (not_declared (text ++ rest) none), no_skipped, no_comment (text ++ rest) none_too, no_instruction (text ++ rest) none) (element_is_read n model text rest s shallow)
 
-pub item_is_read : (front : Bool) (place : List ℕ) (i : Item) (rest : List ℕ) → Begins front place i rest → IsShallowItem i → item_at front place ≡ Some (i, rest)
+pub item_is_read : (front : Bool) (place : List ℕ) (i : Item) (rest : List ℕ) → StandsAt front place i rest → IsShallowItem i → item_at front place ≡ Some (i, rest)
 item_is_read front place i rest b shallow = ap (item_at front) b.whole ∙ spelled_is_read front i b.text rest b.spelled b.may_stand shallow

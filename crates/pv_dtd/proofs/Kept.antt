@@ -11,9 +11,9 @@ use Rattle.pv_model.specs.declared.models.ContentModel.{ContentModel}
 use Rattle.pv_model.specs.PlainForms.{plain_model}
 use Rattle.pv_dtd.specs.Plain.{PlainDtd, place_of, parts_in_models, mentions}
 use Rattle.pv_dtd.specs.Facts.{dtd_of, are_names, AreLegal, is_short, are_distinct, are_known, are_mentioned, nesting, is_formed_model, MAX_TYPES, MAX_PARTS, MAX_NESTING}
-use Rattle.pv_dtd.specs.Items.{NamedPart, name, seq, choice, opt, star, plus, NamedParts, no_parts, part, NamedModel, empty, any, mixed, children, Item, text_declaration, element, skipped, comment, instruction, spelled_in, spelled_in_all, spelled_in_model, mentioned_by, declared_by, declared_in, model_in, models_in, mentioned_in, nodes_in, nodes_in_all, parts_of_model, parts_of_models}
-use Rattle.pv_dtd.specs.Numbering.{with_numbers, model_with_numbers, number_among, each_once, names_of, numbered}
-use Rattle.pv_dtd.proofs.Once.{distinct-once, once_all, once_one_of, once_fewer, once-distinct, grown-once}
+use Rattle.pv_dtd.specs.Items.{NamedPart, name, seq, choice, opt, star, plus, NamedParts, no_parts, part, NamedModel, empty, any, mixed, children, Item, text_declaration, element, skipped, comment, instruction, spelled_in, spelled_in_all, spelled_in_model, mentioned_by, declared_by, declared_in, model_in, models_in, mentioned_in, particles_in, particles_in_all, parts_of_model, parts_of_models}
+use Rattle.pv_dtd.specs.Numbering.{with_numbers, model_with_numbers, number_among, each_once, names_of, dtd_of_items}
+use Rattle.pv_dtd.proofs.Once.{distinct-once, once_all, once_one_of, once_fewer, once-distinct, with_names-once}
 use Rattle.pv_dtd.proofs.Apart.{apart_from_distinct}
 use Rattle.pv_dtd.specs.SoFar.{IsSound, AreSound, AreRuled, IsOfItems}
 use Rattle.pv_dtd.proofs.Numbered.{mentions_numbered, nesting_numbered, part_formed, parts_numbered}
@@ -68,7 +68,7 @@ as_many (i ∷ items) = omega (arith, one_each i, as_many items, length-append (
 
 -- a name that is mentioned is a part
 mutual
-  fewer_in : (p : NamedPart) → length (spelled_in p) ≤ nodes_in p
+  fewer_in : (p : NamedPart) → length (spelled_in p) ≤ particles_in p
   fewer_in (name n) = omega arith
   fewer_in (seq ps) = omega (arith, fewer_in_all ps)
   fewer_in (choice ps) = omega (arith, fewer_in_all ps)
@@ -76,7 +76,7 @@ mutual
   fewer_in (star p) = omega (arith, fewer_in p)
   fewer_in (plus p) = omega (arith, fewer_in p)
 
-  fewer_in_all : (ps : NamedParts) → length (spelled_in_all ps) ≤ nodes_in_all ps
+  fewer_in_all : (ps : NamedParts) → length (spelled_in_all ps) ≤ particles_in_all ps
   fewer_in_all no_parts = omega arith
   fewer_in_all (part p ps) = omega (arith, length-append (spelled_in p) (spelled_in_all ps), fewer_in p, fewer_in_all ps)
 
@@ -109,33 +109,33 @@ module _ (items : List Item) (r : AreRuled items) where
   pub legal_kept : AreLegal names
   legal_kept = once_legal (declared_in items ++ mentioned) [] (legal-append (declared_in items) mentioned (declared_legal items r.sound) (mentioned_legal items r.sound))
 
-  pub known_kept : IsTrue (are_known (numbered items))
+  pub known_kept : IsTrue (are_known (dtd_of_items items))
   known_kept = rw (mentions_numbered (number_among names) (models_in items)) (known_all names mentioned all_among)
 
-  pub formed_kept : IsTrue (list_all is_formed_model (numbered items).models)
+  pub formed_kept : IsTrue (list_all is_formed_model (dtd_of_items items).models)
   formed_kept = items_formed names items r.sound all_among
 
   names_split : names ≡ declared_in items ++ each_once (declared_in items) mentioned
-  names_split = once-distinct (declared_in items) mentioned r.once ∙ grown-once mentioned (declared_in items) (declared_in items) (λ x. refl)
+  names_split = once-distinct (declared_in items) mentioned r.once ∙ with_names-once mentioned (declared_in items) (declared_in items) (λ x. refl)
 
-  models_count : length (numbered items).models ≡ length (declared_in items)
+  models_count : length (dtd_of_items items).models ≡ length (declared_in items)
   models_count = length-map (models_in items) (model_with_numbers (number_among names)) ∙ as_many items
 
   names_count : length names ≡ length (declared_in items) + length (each_once (declared_in items) mentioned)
   names_count = ap length names_split ∙ length-append (declared_in items) (each_once (declared_in items) mentioned)
 
-  pub named_kept : length (numbered items).models ≤ length names
+  pub named_kept : length (dtd_of_items items).models ≤ length names
   named_kept = omega (arith, names_count, models_count)
 
-  pub types_kept : length (numbered items).models ≤ MAX_TYPES
+  pub types_kept : length (dtd_of_items items).models ≤ MAX_TYPES
   types_kept = omega (arith, models_count, r.few_types)
 
   pub few_kept : length names ≤ MAX_TYPES + MAX_PARTS
   few_kept = omega (arith, names_count, r.few_types, once_fewer mentioned (declared_in items), fewer_mentions (models_in items), r.few_parts)
 
-  mentioned_at : (i : ℕ) → i < length names - length (numbered items).models → list_any (nat_eq (length (numbered items).models + i)) (mentions (numbered items).models) ≡ true
+  mentioned_at : (i : ℕ) → i < length names - length (dtd_of_items items).models → list_any (nat_eq (length (dtd_of_items items).models + i)) (mentions (dtd_of_items items).models) ≡ true
   mentioned_at i h =
-      let y = length (numbered items).models + i in
+      let y = length (dtd_of_items items).models + i in
       let x = slice_index_or names y [] in
       let at : slice_get names y ≡ Some x = slice_get-get_or names y [] (omega arith) in
       let behind : slice_get (each_once (declared_in items) mentioned) i ≡ Some x = sym (get_behind (declared_in items) (each_once (declared_in items) mentioned) i) ∙ ap (λ n. slice_get (declared_in items ++ each_once (declared_in items) mentioned) (n + i)) (sym models_count) ∙ ap (λ ns. slice_get ns y) (sym names_split) ∙ at in
@@ -143,8 +143,8 @@ module _ (items : List Item) (r : AreRuled items) where
       let number : number_among names x ≡ y = ap (λ o. unwrap_or o 0) place in
       ap (list_any (nat_eq y)) (mentions_numbered (number_among names) (models_in items)) ∙ any_number names x mentioned y number (once_one_of x mentioned (declared_in items) i behind)
 
-  pub mentioned_kept : IsTrue (are_mentioned (numbered items))
-  mentioned_kept = all_in_range (λ y. list_any (nat_eq y) (mentions (numbered items).models)) (length names - length (numbered items).models) (length (numbered items).models) mentioned_at
+  pub mentioned_kept : IsTrue (are_mentioned (dtd_of_items items))
+  mentioned_kept = all_in_range (λ y. list_any (nat_eq y) (mentions (dtd_of_items items).models)) (length names - length (dtd_of_items items).models) (length (dtd_of_items items).models) mentioned_at
 
 -- The same of the names and models that a DTD holds.
 module _ (keys : List (Vec ℕ Global)) (models : List ContentModel) (of : IsOfItems (dtd_of keys models)) where
@@ -157,7 +157,7 @@ module _ (keys : List (Vec ℕ Global)) (models : List ContentModel) (of : IsOfI
   names_are : (dtd_of keys models).names ≡ names_of of.0
   names_are = ap (λ (g : PlainDtd). g.names) of.2
 
-  models_are : (dtd_of keys models).models ≡ (numbered of.0).models
+  models_are : (dtd_of keys models).models ≡ (dtd_of_items of.0).models
   models_are = ap (λ (g : PlainDtd). g.models) of.2
 
   pub held_named : length models ≤ length keys

@@ -11,7 +11,7 @@ use Rattle.pv_dtd.specs.Facts.{MAX_NESTING}
 use Rattle.pv_dtd.specs.Items.{NamedPart, name, seq, choice, opt, star, plus, NamedModel, mixed}
 use Rattle.pv_dtd.specs.Spelling.{SpellsPart, SpellsListed, SpellsMixed, SpellsModel, IsGroup}
 use Rattle.pv_dtd.specs.PartReading.{Reader, particle_at}
-use Rattle.pv_dtd.specs.ItemReading.{listed_by, listed_at, after_end, mixed_at, children_at, group_by, group_model_at, model_by, model_at}
+use Rattle.pv_dtd.specs.ItemReading.{names_after_bar, listed_at, after_end, mixed_at, children_at, group_by, group_model_at, model_by, model_at}
 use Rattle.pv_dtd.specs.SoFar.{IsShallow}
 use Rattle.pv_dtd.proofs.Binding.{bound, same_some}
 use Rattle.pv_dtd.proofs.NameBytes.{is_name_byte, name_at_takes, name_bytes, name_some}
@@ -49,7 +49,7 @@ abbrev AreListed : Reader (List (List ℕ)) → Type 0
 AreListed others = (bytes : List ℕ) (f : List (List ℕ) × List ℕ) → others bytes ≡ Some f → ReadsListed bytes f
 
 listed_by_read : (others : Reader (List (List ℕ))) → AreListed others → (bytes : List ℕ) (f : List (List ℕ) × List ℕ) (o : Option (List ℕ)) → after_bytes (codes "|") (after_space bytes) ≡ o →
-    listed_by others (after_space bytes) o ≡ Some f → ReadsListed bytes f
+    names_after_bar others (after_space bytes) o ≡ Some f → ReadsListed bytes f
 listed_by_read others below bytes f None is e =
     let space = after_space_takes bytes in
     subst (ReadsListed bytes) (same_some _ _ e) record { text = []; after = space.space; spelled = refl; space_after = space.optional; whole = space.whole }

@@ -7,7 +7,7 @@ use Rattle.pv_chars.proofs.Scanning.{begins, after_space-append}
 use Rattle.pv_chars.proofs.Beginnings.{begins_behind}
 use Rattle.pv_dtd.specs.Facts.{MAX_NESTING}
 use Rattle.pv_dtd.specs.Items.{NamedPart, name, seq, choice, opt, star, plus, NamedParts, no_parts, part, NamedModel, empty, any, mixed, children}
-use Rattle.pv_dtd.specs.Spelling.{SpellsPart, SpellsGroup, SpellsListed, SpellsMixed, SpellsModel, IsGroup, depth_of}
+use Rattle.pv_dtd.specs.Spelling.{SpellsPart, SpellsGroup, SpellsListed, SpellsMixed, SpellsModel, IsGroup, nesting_of}
 use Rattle.pv_dtd.specs.PartReading.{particle_at}
 use Rattle.pv_dtd.specs.ItemReading.{listed_at, after_end, mixed_at, children_at, group_model_at, model_at}
 use Rattle.pv_dtd.proofs.NameBytes.{is_name_byte, names_have_no_space, name_begins, name_not_after, name_at-append}
@@ -109,7 +109,7 @@ group_opens (opt p) text group s = more_opens text s.0 (codes "?") s.3 (group_op
 group_opens (star p) text group s = more_opens text s.0 (codes "*") s.3 (group_opens p s.0 group s.2)
 group_opens (plus p) text group s = more_opens text s.0 (codes "+") s.3 (group_opens p s.0 group s.2)
 
-children_are_read : (p : NamedPart) (text : List ℕ) → Opens text → SpellsPart p text → depth_of p ≤ MAX_NESTING → (rest : List ℕ) → begins goes_on rest ≡ false → model_at (text ++ rest) ≡ Some (children p, rest)
+children_are_read : (p : NamedPart) (text : List ℕ) → Opens text → SpellsPart p text → nesting_of p ≤ MAX_NESTING → (rest : List ℕ) → begins goes_on rest ≡ false → model_at (text ++ rest) ≡ Some (children p, rest)
 unfolding model_at group_model_at children_at
 children_are_read p text o s shallow rest ends =
     let all : text ++ rest ≡ 40 ∷ (o.inside ++ rest) = ap (λ u. u ++ rest) o.opened in

@@ -6,7 +6,7 @@ use Rattle.std.specs.List.{slice_get}
 use Rattle.std.specs.Option.{option_map}
 use Rattle.std.specs.Str.{bytes_eq}
 use Rattle.pv_dtd.specs.Plain.{place_of}
-use Rattle.pv_dtd.specs.Naming.{with_name, number_in, GoesOn, grown}
+use Rattle.pv_dtd.specs.Naming.{with_name, number_in, GoesOn, with_names}
 
 pub goes_on_self : (names : List (List ℕ)) → GoesOn names names
 goes_on_self names = record { added = []; whole = sym (append-nil names) }
@@ -21,13 +21,13 @@ with_name_goes_on_by names x false = record { added = x ∷ []; whole = refl }
 pub with_name_goes_on : (names : List (List ℕ)) (x : List ℕ) → GoesOn names (with_name names x)
 with_name_goes_on names x = with_name_goes_on_by names x (is_some (place_of names x))
 
-pub grown_goes_on : (names xs : List (List ℕ)) → GoesOn names (grown names xs)
+pub grown_goes_on : (names xs : List (List ℕ)) → GoesOn names (with_names names xs)
 grown_goes_on names [] = goes_on_self names
 grown_goes_on names (x ∷ xs) = goes_on_then names (with_name names x) _ (with_name_goes_on names x) (grown_goes_on (with_name names x) xs)
 
-pub grown-append : (names xs ys : List (List ℕ)) → grown names (xs ++ ys) ≡ grown (grown names xs) ys
-grown-append names [] ys = refl
-grown-append names (x ∷ xs) ys = grown-append (with_name names x) xs ys
+pub with_names-append : (names xs ys : List (List ℕ)) → with_names names (xs ++ ys) ≡ with_names (with_names names xs) ys
+with_names-append names [] ys = refl
+with_names-append names (x ∷ xs) ys = with_names-append (with_name names x) xs ys
 
 get_front : (names added : List (List ℕ)) (y : ℕ) (x : List ℕ) → slice_get names y ≡ Some x → slice_get (names ++ added) y ≡ Some x
 get_front [] added y x e = cc

@@ -4,13 +4,13 @@ use Rattle.std.proofs.lemmas.Bool.{le-leb}
 use Rattle.std.proofs.lemmas.List.{length-map, map-append}
 use Rattle.pv_dtd.specs.Plain.{parts_in, parts_in_all, parts_in_model, parts_in_models, names_in, names_in_all, names_in_model, mentions}
 use Rattle.pv_dtd.specs.Facts.{has_operator, members, is_formed, are_formed, nesting, nesting_all}
-use Rattle.pv_dtd.specs.Items.{NamedPart, name, seq, choice, opt, star, plus, NamedParts, no_parts, part, NamedModel, empty, any, mixed, children, spelled_in, spelled_in_all, spelled_in_model, mentioned_in, nodes_in, nodes_in_all, parts_of_model, parts_of_models}
-use Rattle.pv_dtd.specs.Spelling.{IsBare, member_count, depth_of, depth_of_all, SpellsPart, SpellsGroup, SpellsOthers}
+use Rattle.pv_dtd.specs.Items.{NamedPart, name, seq, choice, opt, star, plus, NamedParts, no_parts, part, NamedModel, empty, any, mixed, children, spelled_in, spelled_in_all, spelled_in_model, mentioned_in, particles_in, particles_in_all, parts_of_model, parts_of_models}
+use Rattle.pv_dtd.specs.Spelling.{IsBare, member_count, nesting_of, nesting_of_all, SpellsPart, SpellsGroup, SpellsOthers}
 use Rattle.pv_dtd.specs.Numbering.{with_numbers, all_with_numbers, model_with_numbers}
 
 -- numbers for names leave the number of parts
 mutual
-  nodes_numbered : (f : List ℕ → ℕ) (p : NamedPart) → parts_in (with_numbers f p) ≡ nodes_in p
+  nodes_numbered : (f : List ℕ → ℕ) (p : NamedPart) → parts_in (with_numbers f p) ≡ particles_in p
   nodes_numbered f (name n) = refl
   nodes_numbered f (seq ps) = ap suc (all_nodes_numbered f ps)
   nodes_numbered f (choice ps) = ap suc (all_nodes_numbered f ps)
@@ -18,7 +18,7 @@ mutual
   nodes_numbered f (star p) = ap suc (nodes_numbered f p)
   nodes_numbered f (plus p) = ap suc (nodes_numbered f p)
 
-  all_nodes_numbered : (f : List ℕ → ℕ) (ps : NamedParts) → parts_in_all (all_with_numbers f ps) ≡ nodes_in_all ps
+  all_nodes_numbered : (f : List ℕ → ℕ) (ps : NamedParts) → parts_in_all (all_with_numbers f ps) ≡ particles_in_all ps
   all_nodes_numbered f no_parts = refl
   all_nodes_numbered f (part p ps) = rw (nodes_numbered f p, all_nodes_numbered f ps) refl
 
@@ -70,7 +70,7 @@ bare_numbered f (star p) b = absurd b
 bare_numbered f (plus p) b = absurd b
 
 mutual
-  pub nesting_numbered : (f : List ℕ → ℕ) (p : NamedPart) → nesting (with_numbers f p) ≡ depth_of p
+  pub nesting_numbered : (f : List ℕ → ℕ) (p : NamedPart) → nesting (with_numbers f p) ≡ nesting_of p
   nesting_numbered f (name n) = refl
   nesting_numbered f (seq ps) = ap suc (all_nesting_numbered f ps)
   nesting_numbered f (choice ps) = ap suc (all_nesting_numbered f ps)
@@ -78,7 +78,7 @@ mutual
   nesting_numbered f (star p) = nesting_numbered f p
   nesting_numbered f (plus p) = nesting_numbered f p
 
-  all_nesting_numbered : (f : List ℕ → ℕ) (ps : NamedParts) → nesting_all (all_with_numbers f ps) ≡ depth_of_all ps
+  all_nesting_numbered : (f : List ℕ → ℕ) (ps : NamedParts) → nesting_all (all_with_numbers f ps) ≡ nesting_of_all ps
   all_nesting_numbered f no_parts = refl
   all_nesting_numbered f (part p ps) = rw (nesting_numbered f p, all_nesting_numbered f ps) refl
 

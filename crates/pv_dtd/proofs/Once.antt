@@ -8,11 +8,11 @@ use Rattle.std.proofs.lemmas.Bool.{and_parts}
 use Rattle.std.specs.Str.{bytes_eq}
 use Rattle.pv_dtd.specs.Facts.{are_distinct}
 use Rattle.pv_dtd.specs.Numbering.{each_once}
-use Rattle.pv_dtd.specs.Naming.{with_name, grown}
+use Rattle.pv_dtd.specs.Naming.{with_name, with_names}
 use Rattle.pv_dtd.proofs.Binding.{same_some}
 use Rattle.pv_dtd.proofs.Places.{is_some-place}
 use Rattle.pv_dtd.proofs.Distinct.{are_new, new-distinct}
-use Rattle.pv_dtd.proofs.Naming.{grown-append}
+use Rattle.pv_dtd.proofs.Naming.{with_names-append}
 
 -- the same names are among both
 abbrev pub HaveSame : List (List ℕ) → List (List ℕ) → Type 0
@@ -31,15 +31,15 @@ same_with names seen n same x =
 with_name_if : (names : List (List ℕ)) (x : List ℕ) (there : Bool) → list_any (bytes_eq x) names ≡ there → with_name names x ≡ cond there names (names ++ x ∷ [])
 with_name_if names x there is = ap (λ b. cond b names (names ++ x ∷ [])) (is_some-place x names ∙ is)
 
-grown_once_by : (names seen : List (List ℕ)) → HaveSame names seen → (x : List ℕ) (xs : List (List ℕ)) (there : Bool) → list_any (bytes_eq x) seen ≡ there → ((names seen : List (List ℕ)) → HaveSame names seen → grown names xs ≡ names ++ each_once seen xs) →
-    grown (with_name names x) xs ≡ names ++ cond there (each_once seen xs) (x ∷ each_once (x ∷ seen) xs)
-grown_once_by names seen same x xs true is below = ap (λ ns. grown ns xs) (with_name_if names x true (same x ∙ is)) ∙ below names seen same
+grown_once_by : (names seen : List (List ℕ)) → HaveSame names seen → (x : List ℕ) (xs : List (List ℕ)) (there : Bool) → list_any (bytes_eq x) seen ≡ there → ((names seen : List (List ℕ)) → HaveSame names seen → with_names names xs ≡ names ++ each_once seen xs) →
+    with_names (with_name names x) xs ≡ names ++ cond there (each_once seen xs) (x ∷ each_once (x ∷ seen) xs)
+grown_once_by names seen same x xs true is below = ap (λ ns. with_names ns xs) (with_name_if names x true (same x ∙ is)) ∙ below names seen same
 grown_once_by names seen same x xs false is below =
-    ap (λ ns. grown ns xs) (with_name_if names x false (same x ∙ is)) ∙ below (names ++ x ∷ []) (x ∷ seen) (same_with names seen x same) ∙ append_assoc names (x ∷ []) (each_once (x ∷ seen) xs)
+    ap (λ ns. with_names ns xs) (with_name_if names x false (same x ∙ is)) ∙ below (names ++ x ∷ []) (x ∷ seen) (same_with names seen x same) ∙ append_assoc names (x ∷ []) (each_once (x ∷ seen) xs)
 
-pub grown-once : (xs names seen : List (List ℕ)) → HaveSame names seen → grown names xs ≡ names ++ each_once seen xs
-grown-once [] names seen same = sym (append-nil names)
-grown-once (x ∷ xs) names seen same = grown_once_by names seen same x xs (list_any (bytes_eq x) seen) refl (grown-once xs)
+pub with_names-once : (xs names seen : List (List ℕ)) → HaveSame names seen → with_names names xs ≡ names ++ each_once seen xs
+with_names-once [] names seen same = sym (append-nil names)
+with_names-once (x ∷ xs) names seen same = grown_once_by names seen same x xs (list_any (bytes_eq x) seen) refl (with_names-once xs)
 
 new_once_by : (names seen : List (List ℕ)) → HaveSame names seen → (x : List ℕ) (xs : List (List ℕ)) (there : Bool) → list_any (bytes_eq x) seen ≡ there → ((names seen : List (List ℕ)) → HaveSame names seen → are_new bytes_eq names (each_once seen xs) ≡ true) →
     are_new bytes_eq names (cond there (each_once seen xs) (x ∷ each_once (x ∷ seen) xs)) ≡ true
@@ -54,18 +54,18 @@ pub distinct-once : (xs : List (List ℕ)) → are_distinct (each_once [] xs) �
 distinct-once xs = sym (new-distinct (each_once [] xs)) ∙ new-once xs [] [] (λ x. refl)
 
 -- names that are new all go behind
-grown_new_by : (names : List (List ℕ)) (x : List ℕ) (xs : List (List ℕ)) (there : Bool) → list_any (bytes_eq x) names ≡ there → (not there && are_new bytes_eq (names ++ x ∷ []) xs) ≡ true → (are_new bytes_eq (names ++ x ∷ []) xs ≡ true → grown (names ++ x ∷ []) xs ≡ (names ++ x ∷ []) ++ xs) → grown (with_name names x) xs ≡ names ++ x ∷ xs
+grown_new_by : (names : List (List ℕ)) (x : List ℕ) (xs : List (List ℕ)) (there : Bool) → list_any (bytes_eq x) names ≡ there → (not there && are_new bytes_eq (names ++ x ∷ []) xs) ≡ true → (are_new bytes_eq (names ++ x ∷ []) xs ≡ true → with_names (names ++ x ∷ []) xs ≡ (names ++ x ∷ []) ++ xs) → with_names (with_name names x) xs ≡ names ++ x ∷ xs
 grown_new_by names x xs true is new below = cc
-grown_new_by names x xs false is new below = ap (λ ns. grown ns xs) (with_name_if names x false is) ∙ below new ∙ append_assoc names (x ∷ []) xs
+grown_new_by names x xs false is new below = ap (λ ns. with_names ns xs) (with_name_if names x false is) ∙ below new ∙ append_assoc names (x ∷ []) xs
 
-grown-new : (names xs : List (List ℕ)) → are_new bytes_eq names xs ≡ true → grown names xs ≡ names ++ xs
-grown-new names [] new = sym (append-nil names)
-grown-new names (x ∷ xs) new = grown_new_by names x xs (list_any (bytes_eq x) names) refl new (grown-new (names ++ x ∷ []) xs)
+with_names-new : (names xs : List (List ℕ)) → are_new bytes_eq names xs ≡ true → with_names names xs ≡ names ++ xs
+with_names-new names [] new = sym (append-nil names)
+with_names-new names (x ∷ xs) new = grown_new_by names x xs (list_any (bytes_eq x) names) refl new (with_names-new (names ++ x ∷ []) xs)
 
 -- names that differ, and then others, each once
-pub once-distinct : (declared mentioned : List (List ℕ)) → are_distinct declared ≡ true → each_once [] (declared ++ mentioned) ≡ grown declared mentioned
+pub once-distinct : (declared mentioned : List (List ℕ)) → are_distinct declared ≡ true → each_once [] (declared ++ mentioned) ≡ with_names declared mentioned
 once-distinct declared mentioned distinct =
-    sym (grown-once (declared ++ mentioned) [] [] (λ x. refl)) ∙ grown-append [] declared mentioned ∙ ap (λ ns. grown ns mentioned) (grown-new [] declared (new-distinct declared ∙ distinct))
+    sym (with_names-once (declared ++ mentioned) [] [] (λ x. refl)) ∙ with_names-append [] declared mentioned ∙ ap (λ ns. with_names ns mentioned) (with_names-new [] declared (new-distinct declared ∙ distinct))
 
 -- what holds of all holds of each once
 once_all_by : (p : List ℕ → Bool) (x : List ℕ) (seen : List (List ℕ)) (xs : List (List ℕ)) (there holds : Bool) → p x ≡ holds → (holds && list_all p xs) ≡ true → ((seen : List (List ℕ)) → list_all p xs ≡ true → list_all p (each_once seen xs) ≡ true) → list_all p (cond there (each_once seen xs) (x ∷ each_once (x ∷ seen) xs)) ≡ true

@@ -5,7 +5,7 @@ use Rattle.pv_chars.specs.Spaces.{is_space, IsOptionalSpace}
 use Rattle.pv_chars.specs.Scan.{after_space}
 use Rattle.pv_chars.proofs.Scanning.{begins, after_space_takes, after_space-append}
 use Rattle.pv_dtd.specs.Items.{Item, text_declaration, element, skipped, comment, instruction, declared_in, models_in, parts_of_models}
-use Rattle.pv_dtd.specs.Spelling.{Begins, Spells, IsSkippedWord}
+use Rattle.pv_dtd.specs.Spelling.{StandsAt, Spells, IsSkippedWord}
 use Rattle.pv_dtd.specs.Kinds.{Kind, parameter, nesting, syntax, twice, mixed_twice, limit, HasParameter, IsTooDeep, HasFault, IsFirstFault, Breaks, rank, declares_again, lists_twice, passes_limit}
 use Rattle.pv_dtd.specs.Meaning.{is_place, HasPlace, is_front, Outcome, is_dtd, faulty, Means, ends, item, fault}
 use Rattle.pv_dtd.specs.ItemReading.{item_at, parameter_at, is_too_deep, early_kind, broken_rule}
@@ -53,7 +53,7 @@ all_space rest e =
     subst IsOptionalSpace (sym all) run.optional
 
 -- At most one item begins a place that isn't too deep.
-pub same_item : {front : Bool} {place : List ℕ} {i j : Item} {more others : List ℕ} → (IsTooDeep place → ⊥) → Begins front place i more → Begins front place j others → (i ≡ j) × (more ≡ others)
+pub same_item : {front : Bool} {place : List ℕ} {i j : Item} {more others : List ℕ} → (IsTooDeep place → ⊥) → StandsAt front place i more → StandsAt front place j others → (i ≡ j) × (more ≡ others)
 same_item {front} {place} {i} {j} {more} {others} shallow a b =
     let found : Some (i, more) ≡ Some (j, others) = sym (item_is_read front place i more a (begins_shallow front place i more a shallow)) ∙ item_is_read front place j others b (begins_shallow front place j others b shallow) in
     let pair : (i, more) ≡ (j, others) = same_some _ _ found in
@@ -96,7 +96,7 @@ module _ (before : List Item) (front : Bool) (place : List ℕ) (early : early_k
   not_too_deep = (no_early place early).1
 
   module _ (i : Item) (rest : List ℕ) (at : item_at front place ≡ Some (i, rest)) where
-    pub item_begins : Begins front place i rest
+    pub item_begins : StandsAt front place i rest
     item_begins = (item_read front place (i, rest) at).begun
 
     some_item : HasFault before front place syntax → ⊥
@@ -170,7 +170,7 @@ module _ (before : List Item) (front : Bool) (place : List ℕ) (early : early_k
   pub no_item : item_at front place ≡ None → IsFirstFault before front place syntax
   no_item none = record { holds = nothing_begins; first = first }
     where
-      nothing_begins : (i : Item) (rest : List ℕ) → Begins front place i rest → ⊥
+      nothing_begins : (i : Item) (rest : List ℕ) → StandsAt front place i rest → ⊥
       nothing_begins i rest b = let some = item_is_read front place i rest b (begins_shallow front place i rest b not_too_deep) in cc
 
       first : (earlier : Kind) → rank earlier < 2 → HasFault before front place earlier → ⊥
@@ -243,7 +243,7 @@ some_length : (text : List ℕ) → text ≢ [] → 0 < length text
 some_length [] some = absurd (some refl)
 some_length (b ∷ bs) some = omega arith
 
-pub shorter : (front : Bool) (place : List ℕ) (i : Item) (rest : List ℕ) → Begins front place i rest → length rest < length place
+pub shorter : (front : Bool) (place : List ℕ) (i : Item) (rest : List ℕ) → StandsAt front place i rest → length rest < length place
 shorter front place i rest b = let longer = some_length b.text (text_some i b.text b.spelled) in omega (arith, longer, ap length b.whole, length-append b.text rest)
 
 goes_shorter : (rest place : List ℕ) → HasPlace rest place → (n : ℕ) → length rest < suc n → length place < suc n

@@ -6,7 +6,7 @@ use Rattle.pv_chars.specs.Scan.{after_space, after_bytes}
 use Rattle.pv_chars.proofs.Scanning.{after_space_takes, after_space-append, after_bytes_takes}
 use Rattle.pv_dtd.specs.CharReading.{name_at}
 use Rattle.pv_dtd.specs.Items.{NamedPart, name, seq, choice, opt, star, plus, NamedParts, no_parts, part}
-use Rattle.pv_dtd.specs.Spelling.{SpellsPart, SpellsGroup, SpellsOthers, IsBare, member_count, depth_of, depth_of_all}
+use Rattle.pv_dtd.specs.Spelling.{SpellsPart, SpellsGroup, SpellsOthers, IsBare, member_count, nesting_of, nesting_of_all}
 use Rattle.pv_dtd.specs.PartReading.{Reader, word_at, with_operator, more_at, others_by, others_at, separator_at, group_of, group_at, bare_by, too_deep, particle_from, bare_at, particle_at}
 use Rattle.pv_dtd.proofs.Binding.{bound, same_some}
 use Rattle.pv_dtd.proofs.NameBytes.{name_at_takes}
@@ -19,10 +19,10 @@ pub record Reads {X : Type 0} (Spells : X → List ℕ → Type 0) (bytes : List
 
 -- a particle in at most so many groups
 abbrev pub SpellsWithin : ℕ → NamedPart → List ℕ → Type 0
-SpellsWithin depth p text = SpellsPart p text × (depth_of p ≤ depth)
+SpellsWithin depth p text = SpellsPart p text × (nesting_of p ≤ depth)
 
 abbrev pub SpellsBare : ℕ → NamedPart → List ℕ → Type 0
-SpellsBare depth p text = SpellsPart p text × (depth_of p ≤ depth) × IsBare p
+SpellsBare depth p text = SpellsPart p text × (nesting_of p ≤ depth) × IsBare p
 
 word_reads : (bytes : List ℕ) (f : NamedPart × List ℕ) → word_at bytes ≡ Some f → (depth : ℕ) → Reads (SpellsBare depth) bytes f
 unfolding word_at
@@ -78,7 +78,7 @@ record ReadsOthers (depth : ℕ) (separator : List ℕ) (bytes : List ℕ) (f : 
   after : List ℕ
   spelled : SpellsOthers separator f.0 text
   space_after : IsOptionalSpace after
-  within : depth_of_all f.0 ≤ depth
+  within : nesting_of_all f.0 ≤ depth
   whole : bytes ≡ text ++ (after ++ (codes ")" ++ f.1))
 
 -- the pieces of one more member, joined
@@ -167,7 +167,7 @@ group_joined bytes inside before inner first rest text after end a b c d = rw (a
 
 module _ (depth : ℕ) (bytes inside : List ℕ) (first : NamedPart × List ℕ) (others : NamedParts × List ℕ) (opened : bytes ≡ codes "(" ++ inside) (member : Reads (SpellsWithin depth) (after_space inside) first) where
   group_by : (separator : ℕ) (q : NamedPart) →
-      ((text : List ℕ) → SpellsGroup (separator ∷ []) (part first.0 others.0) text → depth_of first.0 ≤ depth → depth_of_all others.0 ≤ depth → SpellsBare (suc depth) q text) →
+      ((text : List ℕ) → SpellsGroup (separator ∷ []) (part first.0 others.0) text → nesting_of first.0 ≤ depth → nesting_of_all others.0 ≤ depth → SpellsBare (suc depth) q text) →
       ReadsOthers depth (separator ∷ []) first.1 others → Reads (SpellsBare (suc depth)) bytes (q, others.1)
   group_by separator q spells rest =
       let before = after_space_takes inside in

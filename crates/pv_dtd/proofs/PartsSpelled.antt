@@ -7,7 +7,7 @@ use Rattle.pv_chars.proofs.Scanning.{begins, after_space-append}
 use Rattle.pv_chars.proofs.Beginnings.{HasNoSpace, begins_behind}
 use Rattle.pv_chars.specs.Names.{IsName}
 use Rattle.pv_dtd.specs.Items.{NamedPart, name, seq, choice, opt, star, plus, NamedParts, no_parts, part}
-use Rattle.pv_dtd.specs.Spelling.{SpellsPart, SpellsGroup, SpellsOthers, IsBare, member_count, depth_of, depth_of_all}
+use Rattle.pv_dtd.specs.Spelling.{SpellsPart, SpellsGroup, SpellsOthers, IsBare, member_count, nesting_of, nesting_of_all}
 use Rattle.pv_dtd.specs.PartReading.{Reader, word_at, with_operator, more_at, others_at, separator_at, group_of, group_at, bare_from, too_deep, particle_from, bare_at, particle_at}
 use Rattle.pv_dtd.proofs.NameBytes.{is_name_byte, name_at-append, name_begins, name_not_after}
 
@@ -49,10 +49,10 @@ part_begins (star p) text rest s = longer_begins text s.0 (codes "*") rest s.3 (
 part_begins (plus p) text rest s = longer_begins text s.0 (codes "+") rest s.3 (part_begins p s.0 (codes "+" ++ rest) s.2)
 
 abbrev BareIsRead : NamedPart → List ℕ → Type 0
-BareIsRead p text = (depth : ℕ) (rest : List ℕ) → depth_of p ≤ depth → begins is_name_byte rest ≡ false → bare_at depth (text ++ rest) ≡ Some (p, rest)
+BareIsRead p text = (depth : ℕ) (rest : List ℕ) → nesting_of p ≤ depth → begins is_name_byte rest ≡ false → bare_at depth (text ++ rest) ≡ Some (p, rest)
 
 abbrev PartIsRead : NamedPart → List ℕ → Type 0
-PartIsRead p text = (depth : ℕ) (rest : List ℕ) → depth_of p ≤ depth → begins goes_on rest ≡ false → particle_at depth (text ++ rest) ≡ Some (p, rest)
+PartIsRead p text = (depth : ℕ) (rest : List ℕ) → nesting_of p ≤ depth → begins goes_on rest ≡ false → particle_at depth (text ++ rest) ≡ Some (p, rest)
 
 word_is_read : (group : Reader NamedPart) (n text : List ℕ) → IsName n → text ≡ n → (rest : List ℕ) → begins is_name_byte rest ≡ false → bare_from group (text ++ rest) ≡ Some (name n, rest)
 unfolding word_at
@@ -69,7 +69,7 @@ unfolding particle_from
 bare_is_part p text read depth rest deep ends = rw (read depth rest deep (name_ends rest ends), no_operator p rest ends) refl
 
 -- with one
-operated_is_part : (p q : NamedPart) (text inner : List ℕ) (b : ℕ) → depth_of q ≡ depth_of p → is_name_byte b ≡ false → ((rest : List ℕ) → with_operator p (b ∷ rest) ≡ (q, rest)) → text ≡ inner ++ b ∷ [] → BareIsRead p inner → PartIsRead q text
+operated_is_part : (p q : NamedPart) (text inner : List ℕ) (b : ℕ) → nesting_of q ≡ nesting_of p → is_name_byte b ≡ false → ((rest : List ℕ) → with_operator p (b ∷ rest) ≡ (q, rest)) → text ≡ inner ++ b ∷ [] → BareIsRead p inner → PartIsRead q text
 unfolding particle_from
 operated_is_part p q text inner b deep_as other turns whole read depth rest deep ends =
     let all : text ++ rest ≡ inner ++ b ∷ rest = ap (λ t. t ++ rest) whole ∙ append_assoc inner (b ∷ []) rest in
@@ -99,7 +99,7 @@ others_begin separator mark no_parts text after rest s space = rw s (begins_behi
 others_begin separator mark (part p ps) text after rest s space = rw (s.8, regrouped s.0 separator s.1 s.2 s.3 (after ++ (codes ")" ++ rest))) (begins_behind goes_on particles_have_no_space s.0 _ s.4 mark.ends)
 
 abbrev OthersAreRead : ℕ → NamedParts → List ℕ → Type 0
-OthersAreRead separator ps text = (depth : ℕ) (after rest : List ℕ) (steps : ℕ) → depth_of_all ps ≤ depth → IsOptionalSpace after → length (text ++ (after ++ (codes ")" ++ rest))) < steps →
+OthersAreRead separator ps text = (depth : ℕ) (after rest : List ℕ) (steps : ℕ) → nesting_of_all ps ≤ depth → IsOptionalSpace after → length (text ++ (after ++ (codes ")" ++ rest))) < steps →
     others_at (particle_at depth) separator steps (text ++ (after ++ (codes ")" ++ rest))) ≡ Some (ps, rest)
 
 none_are_read : (separator : ℕ) (text : List ℕ) → text ≡ [] → OthersAreRead separator no_parts text
@@ -117,12 +117,12 @@ others_are_read separator mark p ps text before space next others b c s t whole 
     let inner = next ++ (others ++ end) in
     let at_mark : after_space (text ++ end) ≡ separator ∷ (space ++ inner) = ap after_space all ∙ after_space-append before (separator ∷ (space ++ inner)) b mark.no_white in
     let at_next : after_space (space ++ inner) ≡ inner = after_space-append space inner c (part_begins p next (others ++ end) s) in
-    let shallow : depth_of p ≤ depth = omega arith in
+    let shallow : nesting_of p ≤ depth = omega arith in
     let read_first = first depth (others ++ end) shallow (others_begin separator mark ps others after rest t d) in
     let lengths = simp length-append at (ap length all) in
     let few_left = simp length-append at few in
     let shorter : length (others ++ end) < steps = simp length-append (omega (arith, lengths, few_left)) in
-    let shallow_rest : depth_of_all ps ≤ depth = omega arith in
+    let shallow_rest : nesting_of_all ps ≤ depth = omega arith in
     let read_rest = below depth after rest steps shallow_rest d shorter in
     rw (at_mark, mark.no_close, eq-eqb separator separator refl, at_next, read_first, read_rest) refl
 
@@ -138,7 +138,7 @@ bar_stands (part p ps) others after rest some s = rw (s.8, regrouped s.0 124 s.1
 
 module _ (separator : ℕ) (p : NamedPart) (ps : NamedParts) (text before first others after : List ℕ) (whole : text ≡ codes "(" ++ before ++ first ++ others ++ after ++ codes ")") (b : IsOptionalSpace before) (s : SpellsPart p first) (t : SpellsOthers (separator ∷ []) ps others) (a : IsOptionalSpace after)
     (mark : IsMark separator) (stands : (rest : List ℕ) → separator_at (after_space (others ++ (after ++ (codes ")" ++ rest)))) ≡ separator) (member : PartIsRead p first) (more : OthersAreRead separator ps others) where
-  group_is_read : (depth : ℕ) (rest : List ℕ) → depth_of p ≤ depth → depth_of_all ps ≤ depth → bare_at (suc depth) (text ++ rest) ≡ Some (group_of separator (part p ps), rest)
+  group_is_read : (depth : ℕ) (rest : List ℕ) → nesting_of p ≤ depth → nesting_of_all ps ≤ depth → bare_at (suc depth) (text ++ rest) ≡ Some (group_of separator (part p ps), rest)
   unfolding bare_at group_at
   group_is_read depth rest shallow shallow_rest =
       let behind_first = others ++ (after ++ (codes ")" ++ rest)) in
@@ -151,9 +151,9 @@ module _ (separator : ℕ) (p : NamedPart) (ps : NamedParts) (text before first 
       rw (all, at_first, read_first, stands rest, read_rest) refl
 
 abbrev GroupIsRead : NamedPart → List ℕ → Type 0
-GroupIsRead q text = (depth : ℕ) (rest : List ℕ) → depth_of q ≤ suc depth → bare_at (suc depth) (text ++ rest) ≡ Some (q, rest)
+GroupIsRead q text = (depth : ℕ) (rest : List ℕ) → nesting_of q ≤ suc depth → bare_at (suc depth) (text ++ rest) ≡ Some (q, rest)
 
-group_is_bare : (q : NamedPart) (text : List ℕ) → 1 ≤ depth_of q → GroupIsRead q text → BareIsRead q text
+group_is_bare : (q : NamedPart) (text : List ℕ) → 1 ≤ nesting_of q → GroupIsRead q text → BareIsRead q text
 group_is_bare q text some read zero rest deep ends = absurd (omega arith)
 group_is_bare q text some read (suc depth) rest deep ends = read depth rest deep
 

@@ -9,7 +9,7 @@ use Rattle.pv_chars.specs.Spaces.{IsOptionalSpace}
 use Rattle.pv_chars.specs.Names.{IsName}
 use Rattle.pv_dtd.specs.Facts.{MAX_NESTING}
 use Rattle.pv_dtd.specs.Items.{NamedPart, name, seq, choice, opt, star, plus, NamedParts, no_parts, part, NamedModel, empty, any, mixed, children, Item, text_declaration, element, skipped, comment, instruction}
-use Rattle.pv_dtd.specs.Spelling.{Begins, SpellsPart, SpellsGroup, SpellsOthers, SpellsElement, depth_of, depth_of_all, is_one_of}
+use Rattle.pv_dtd.specs.Spelling.{StandsAt, SpellsPart, SpellsGroup, SpellsOthers, SpellsElement, nesting_of, nesting_of_all, is_one_of}
 use Rattle.pv_dtd.specs.Kinds.{IsTooDeep, how_many}
 use Rattle.pv_dtd.proofs.NameBytes.{is_name_byte, space_passes, name_passes}
 use Rattle.pv_dtd.specs.SoFar.{IsShallow, IsShallowItem}
@@ -141,30 +141,30 @@ mutual
       (level-append separator (s.1 ++ (s.2 ++ s.3)) (separator_level separator plain) (level-append s.1 (s.2 ++ s.3) (space_level s.1 s.5) (level-append s.2 s.3 (part_level p s.2 s.6) (others_level separator ps s.3 plain s.7)))))
 
 mutual
-  part_rises : (p : NamedPart) (text : List ℕ) → SpellsPart p text → Rises (depth_of p) text
+  part_rises : (p : NamedPart) (text : List ℕ) → SpellsPart p text → Rises (nesting_of p) text
   part_rises (name n) text s = no_rise text
   part_rises (seq ps) text s = group_rises (codes ",") ps text refl s
   part_rises (choice ps) text s = group_rises (codes "|") ps text refl s.1
-  part_rises (opt p) text s = rw s.3 (rises_before (depth_of p) s.0 (codes "?") (part_rises p s.0 s.2))
-  part_rises (star p) text s = rw s.3 (rises_before (depth_of p) s.0 (codes "*") (part_rises p s.0 s.2))
-  part_rises (plus p) text s = rw s.3 (rises_before (depth_of p) s.0 (codes "+") (part_rises p s.0 s.2))
+  part_rises (opt p) text s = rw s.3 (rises_before (nesting_of p) s.0 (codes "?") (part_rises p s.0 s.2))
+  part_rises (star p) text s = rw s.3 (rises_before (nesting_of p) s.0 (codes "*") (part_rises p s.0 s.2))
+  part_rises (plus p) text s = rw s.3 (rises_before (nesting_of p) s.0 (codes "+") (part_rises p s.0 s.2))
 
-  group_rises : (separator : List ℕ) (ps : NamedParts) (text : List ℕ) → list_all (λ b. not (is_mark b)) separator ≡ true → SpellsGroup separator ps text → Rises (suc (depth_of_all ps)) text
+  group_rises : (separator : List ℕ) (ps : NamedParts) (text : List ℕ) → list_all (λ b. not (is_mark b)) separator ≡ true → SpellsGroup separator ps text → Rises (suc (nesting_of_all ps)) text
   group_rises separator no_parts text plain s = absurd s
   group_rises separator (part p ps) text plain s =
       let behind = s.2 ++ s.3 in
-      let first : Rises (depth_of p) (s.1 ++ behind) = rises_before (depth_of p) s.1 behind (part_rises p s.1 s.5) in
-      let others : Rises (depth_of_all ps) (s.1 ++ behind) = rises_behind (depth_of_all ps) s.1 behind (part_level p s.1 s.5) (rises_before (depth_of_all ps) s.2 s.3 (others_rise separator ps s.2 plain s.6)) in
-      let all = rises_behind (max (depth_of p) (depth_of_all ps)) s.0 (s.1 ++ behind) (space_level s.0 s.4) (rises_to (depth_of p) (depth_of_all ps) (s.1 ++ behind) first others) in
-      rw (s.8, group_regrouped s.0 s.1 s.2 s.3) (rises_in (max (depth_of p) (depth_of_all ps)) ((s.0 ++ (s.1 ++ behind)) ++ codes ")") (rises_before (max (depth_of p) (depth_of_all ps)) (s.0 ++ (s.1 ++ behind)) (codes ")") all))
+      let first : Rises (nesting_of p) (s.1 ++ behind) = rises_before (nesting_of p) s.1 behind (part_rises p s.1 s.5) in
+      let others : Rises (nesting_of_all ps) (s.1 ++ behind) = rises_behind (nesting_of_all ps) s.1 behind (part_level p s.1 s.5) (rises_before (nesting_of_all ps) s.2 s.3 (others_rise separator ps s.2 plain s.6)) in
+      let all = rises_behind (max (nesting_of p) (nesting_of_all ps)) s.0 (s.1 ++ behind) (space_level s.0 s.4) (rises_to (nesting_of p) (nesting_of_all ps) (s.1 ++ behind) first others) in
+      rw (s.8, group_regrouped s.0 s.1 s.2 s.3) (rises_in (max (nesting_of p) (nesting_of_all ps)) ((s.0 ++ (s.1 ++ behind)) ++ codes ")") (rises_before (max (nesting_of p) (nesting_of_all ps)) (s.0 ++ (s.1 ++ behind)) (codes ")") all))
 
-  others_rise : (separator : List ℕ) (ps : NamedParts) (text : List ℕ) → list_all (λ b. not (is_mark b)) separator ≡ true → SpellsOthers separator ps text → Rises (depth_of_all ps) text
+  others_rise : (separator : List ℕ) (ps : NamedParts) (text : List ℕ) → list_all (λ b. not (is_mark b)) separator ≡ true → SpellsOthers separator ps text → Rises (nesting_of_all ps) text
   others_rise separator no_parts text plain s = no_rise text
   others_rise separator (part p ps) text plain s =
-      let first : Rises (depth_of p) (s.2 ++ s.3) = rises_before (depth_of p) s.2 s.3 (part_rises p s.2 s.6) in
-      let others : Rises (depth_of_all ps) (s.2 ++ s.3) = rises_behind (depth_of_all ps) s.2 s.3 (part_level p s.2 s.6) (others_rise separator ps s.3 plain s.7) in
-      let both = rises_to (depth_of p) (depth_of_all ps) (s.2 ++ s.3) first others in
-      let n = max (depth_of p) (depth_of_all ps) in
+      let first : Rises (nesting_of p) (s.2 ++ s.3) = rises_before (nesting_of p) s.2 s.3 (part_rises p s.2 s.6) in
+      let others : Rises (nesting_of_all ps) (s.2 ++ s.3) = rises_behind (nesting_of_all ps) s.2 s.3 (part_level p s.2 s.6) (others_rise separator ps s.3 plain s.7) in
+      let both = rises_to (nesting_of p) (nesting_of_all ps) (s.2 ++ s.3) first others in
+      let n = max (nesting_of p) (nesting_of_all ps) in
       rw (s.8, others_regrouped s.0 separator s.1 s.2 s.3) (rises_behind n s.0 (separator ++ (s.1 ++ (s.2 ++ s.3))) (space_level s.0 s.4) (rises_behind n separator (s.1 ++ (s.2 ++ s.3)) (separator_level separator plain) (rises_behind n s.1 (s.2 ++ s.3) (space_level s.1 s.5) both)))
 
 not_false : (test : Bool) → test ≡ false → not test ≡ true
@@ -174,11 +174,11 @@ not_false test e = rw e refl
 element_regrouped : (before n between spec after rest : List ℕ) → (codes "<!ELEMENT" ++ before ++ n ++ between ++ spec ++ after ++ codes ">") ++ rest ≡ codes "<!ELEMENT" ++ ((before ++ (n ++ (between ++ spec))) ++ (after ++ (codes ">" ++ rest)))
 element_regrouped before n between spec after rest = simp append_assoc
 
-deep_by : (n : List ℕ) (p : NamedPart) (place text rest : List ℕ) → place ≡ text ++ rest → (s : SpellsElement n (children p) text) → MAX_NESTING < depth_of p → IsTooDeep place
+deep_by : (n : List ℕ) (p : NamedPart) (place text rest : List ℕ) → place ≡ text ++ rest → (s : SpellsElement n (children p) text) → MAX_NESTING < nesting_of p → IsTooDeep place
 deep_by n p place text rest whole s deep =
     let front : IsLevel s.before_name = space_level s.before_name s.space_before_name.space in
-    let rises = rises_behind (depth_of p) s.before_name (n ++ (s.before_spec ++ s.spec)) front (rises_behind (depth_of p) n (s.before_spec ++ s.spec) (name_level n s.is_name)
-    (rises_behind (depth_of p) s.before_spec s.spec (space_level s.before_spec s.space_before_spec.space) (part_rises p s.spec s.is_spec.1))) in
+    let rises = rises_behind (nesting_of p) s.before_name (n ++ (s.before_spec ++ s.spec)) front (rises_behind (nesting_of p) n (s.before_spec ++ s.spec) (name_level n s.is_name)
+    (rises_behind (nesting_of p) s.before_spec s.spec (space_level s.before_spec s.space_before_spec.space) (part_rises p s.spec s.is_spec.1))) in
     record {
       before = rises.before;
       rest = rises.rest ++ (s.after ++ (codes ">" ++ rest));
@@ -192,13 +192,13 @@ shallow_model n empty place text rest whole s shallow = tt
 shallow_model n any place text rest whole s shallow = tt
 shallow_model n (mixed names) place text rest whole s shallow = tt
 shallow_model n (children p) place text rest whole s shallow =
-    elim (cases_order (depth_of p) MAX_NESTING) [
+    elim (cases_order (nesting_of p) MAX_NESTING) [
       | inl same ↦ omega (arith, same)
       | inr (inl less) ↦ omega (arith, less)
       | inr (inr more) ↦ absurd (shallow (deep_by n p place text rest whole s more))
     ]
 
-pub begins_shallow : (front : Bool) (place : List ℕ) (i : Item) (rest : List ℕ) → Begins front place i rest → (IsTooDeep place → ⊥) → IsShallowItem i
+pub begins_shallow : (front : Bool) (place : List ℕ) (i : Item) (rest : List ℕ) → StandsAt front place i rest → (IsTooDeep place → ⊥) → IsShallowItem i
 begins_shallow front place text_declaration rest b shallow = tt
 begins_shallow front place (element n model) rest b shallow = shallow_model n model place b.text rest b.whole b.spelled shallow
 begins_shallow front place skipped rest b shallow = tt

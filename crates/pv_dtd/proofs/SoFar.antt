@@ -13,9 +13,9 @@ use Rattle.pv_dtd.specs.Facts.{are_distinct, MAX_TYPES, MAX_PARTS}
 use Rattle.pv_dtd.specs.Items.{NamedModel, Item, text_declaration, element, skipped, comment, instruction, declared_by, declared_in, model_in, models_in, mentioned_by, parts_by, parts_of_models}
 use Rattle.pv_dtd.specs.Kinds.{Kind, parameter, nesting, syntax, declares_again, is_too_long}
 use Rattle.pv_dtd.specs.Meaning.{is_place, is_front, Outcome, is_dtd, faulty, Means, ends, item, fault}
-use Rattle.pv_dtd.specs.Spelling.{Begins}
-use Rattle.pv_dtd.specs.Numbering.{numbered}
-use Rattle.pv_dtd.specs.Naming.{grown}
+use Rattle.pv_dtd.specs.Spelling.{StandsAt}
+use Rattle.pv_dtd.specs.Numbering.{dtd_of_items}
+use Rattle.pv_dtd.specs.Naming.{with_names}
 use Rattle.pv_dtd.specs.ItemReading.{item_at, parameter_at, is_too_deep, early_kind, broken_rule}
 use Rattle.pv_dtd.specs.SoFar.{IsShallowItem, IsSound, AreSound, AreRuled, Declares}
 use Rattle.pv_dtd.specs.Plain.{place_of}
@@ -75,7 +75,7 @@ differ-push (m ∷ ns) n d new =
     rw (other, two.0, differ-push ns n two.1 apart.1) refl
 
 -- a new name goes behind
-declared_behind : (names : List (List ℕ)) (i : Item) → declares_again names i ≡ false → grown names (declared_by i) ≡ names ++ declared_by i
+declared_behind : (names : List (List ℕ)) (i : Item) → declares_again names i ≡ false → with_names names (declared_by i) ≡ names ++ declared_by i
 declared_behind names (element n model) new =
     let none : is_some (place_of names n) ≡ false = is_some-place n names ∙ sym (or-false (list_any (bytes_eq n) names)) ∙ new in
     rw none refl
@@ -95,7 +95,7 @@ pub joined : {A : Type 0} (f : Item → List A) (before : List Item) (i : Item) 
 joined f before i = flat_map-append f before (i ∷ []) ∙ ap (λ xs. flat_map f before ++ xs) (append-nil (f i))
 
 -- ruled items, and behind them one that keeps the rules
-pub ruled_more : (before : List Item) (i : Item) → AreRuled before → {front : Bool} {place rest : List ℕ} → Begins front place i rest → IsShallowItem i → Keeps (declared_in before) (parts_of_models (models_in before)) i → AreRuled (before ++ i ∷ [])
+pub ruled_more : (before : List Item) (i : Item) → AreRuled before → {front : Bool} {place rest : List ℕ} → StandsAt front place i rest → IsShallowItem i → Keeps (declared_in before) (parts_of_models (models_in before)) i → AreRuled (before ++ i ∷ [])
 ruled_more before i r b shallow k =
     let long = or_parts (list_any is_too_long (declared_by i)) (list_any is_too_long (mentioned_by i)) (sym (list_any-append is_too_long (declared_by i) (mentioned_by i)) ∙ k.short) in
     record {
@@ -106,8 +106,8 @@ ruled_more before i r b shallow k =
     }
 
 module _ (bytes : List ℕ) (count : ℕ) (names : List (List ℕ)) (models : List NamedModel) (parts : ℕ) (rest : List ℕ) (s : AreSoFar bytes count names models parts rest) (place : List ℕ) (at : place ≡ after_space rest) where
-  pub all_read : place ≡ [] → (items : List Item) × Means [] bytes (is_dtd (numbered items)) × Declares names models parts items
-  all_read none = (s.before, s.behind (is_dtd (numbered s.before)) (ends (all_space rest (sym at ∙ none))), s.declares)
+  pub all_read : place ≡ [] → (items : List Item) × Means [] bytes (is_dtd (dtd_of_items items)) × Declares names models parts items
+  all_read none = (s.before, s.behind (is_dtd (dtd_of_items s.before)) (ends (all_space rest (sym at ∙ none))), s.declares)
 
   few_names : length names ≤ MAX_TYPES
   few_names = omega (arith, ap length s.declares.names_are, s.declares.ruled.few_types)
@@ -151,7 +151,7 @@ module _ (bytes : List ℕ) (count : ℕ) (names : List (List ℕ)) (models : Li
         pub few_more : None ≡ broken_rule names parts i → parts + parts_by i ≤ MAX_PARTS
         few_more keeps = (kept names parts i keeps).few_parts
 
-        pub one_more : None ≡ broken_rule names parts i → (after : List (List ℕ)) → after ≡ grown names (declared_by i) → (all : List NamedModel) → all ≡ models ++ model_in i → (sum : ℕ) → sum ≡ parts + parts_by i →
+        pub one_more : None ≡ broken_rule names parts i → (after : List (List ℕ)) → after ≡ with_names names (declared_by i) → (all : List NamedModel) → all ≡ models ++ model_in i → (sum : ℕ) → sum ≡ parts + parts_by i →
             length more < length place → length place ≤ length rest → AreSoFar bytes (count + 1) after all sum more
         one_more keeps after is_after all is_all sum is_sum shorter within =
             let k = kept names parts i keeps in

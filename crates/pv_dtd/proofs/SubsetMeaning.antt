@@ -5,9 +5,9 @@ use Rattle.std.specs.List.{list_all}
 use Rattle.pv_chars.specs.Spaces.{is_space, IsOptionalSpace}
 use Rattle.pv_dtd.specs.Plain.{PlainDtd}
 use Rattle.pv_dtd.specs.Items.{Item, text_declaration, element, skipped, comment, instruction}
-use Rattle.pv_dtd.specs.Spelling.{Begins, Spells, MayStand, IsSkippedWord}
+use Rattle.pv_dtd.specs.Spelling.{StandsAt, Spells, MayStand, IsSkippedWord}
 use Rattle.pv_dtd.specs.Kinds.{nesting}
-use Rattle.pv_dtd.specs.Numbering.{numbered}
+use Rattle.pv_dtd.specs.Numbering.{dtd_of_items}
 use Rattle.pv_dtd.specs.Meaning.{is_place, HasPlace, is_front, Outcome, is_dtd, Means, ends, item, fault}
 use Rattle.pv_dtd.specs.DtdTexts.{SpellsDeclarations, SpellsSubset, plain, behind_declaration}
 use Rattle.pv_dtd.specs.SoFar.{AreRuled}
@@ -41,7 +41,7 @@ pub record Read (before : List Item) (rest : List ℕ) (g : PlainDtd) : Type 0 w
   pub items : List Item
   pub spelled : SpellsRest (is_front before rest) items rest
   pub ruled : AreRuled (before ++ items)
-  pub is_dtd : g ≡ numbered (before ++ items)
+  pub is_dtd : g ≡ dtd_of_items (before ++ items)
 
 dtd_is : (a b : PlainDtd) → (is_dtd a) ≡ (is_dtd b) → b ≡ a
 dtd_is a b e = cc
@@ -51,7 +51,7 @@ read {before} (ends s) g e r = record {
   items = [];
   spelled = s;
   ruled = subst AreRuled (sym (append-nil before)) r;
-  is_dtd = dtd_is (numbered before) g e ∙ ap numbered (sym (append-nil before));
+  is_dtd = dtd_is (dtd_of_items before) g e ∙ ap dtd_of_items (sym (append-nil before));
 }
 read {before} {rest} (item {place} {more} {i} at begins none m) g e r =
     let shallow = begins_shallow (is_front before rest) place i more begins (none nesting) in
@@ -60,7 +60,7 @@ read {before} {rest} (item {place} {more} {i} at begins none m) g e r =
       items = i ∷ behind.items;
       spelled = (at.space, begins.text, more, at.is_space, begins.may_stand, begins.spelled, to_declarations _ behind.items more (not_front before i more) behind.spelled, at.whole ∙ ap (λ t. at.space ++ t) begins.whole ∙ sym (append_assoc at.space begins.text more));
       ruled = subst AreRuled (append_assoc before (i ∷ []) behind.items) behind.ruled;
-      is_dtd = behind.is_dtd ∙ ap numbered (append_assoc before (i ∷ []) behind.items);
+      is_dtd = behind.is_dtd ∙ ap dtd_of_items (append_assoc before (i ∷ []) behind.items);
     }
 read (fault at f) g e r = cc
 
@@ -77,17 +77,17 @@ item_is_place skipped text rest s = by s.word s.is_word s.whole
 item_is_place comment text rest s = rw (comment_opens text s).1 refl
 item_is_place instruction text rest s = rw (instruction_opens text s).1 refl
 
-pub means : (items before : List Item) (rest : List ℕ) → SpellsRest (is_front before rest) items rest → AreRuled (before ++ items) → Means before rest (is_dtd (numbered (before ++ items)))
-means [] before rest s r = subst (λ is. Means before rest (is_dtd (numbered is))) (sym (append-nil before)) (ends s)
+pub means : (items before : List Item) (rest : List ℕ) → SpellsRest (is_front before rest) items rest → AreRuled (before ++ items) → Means before rest (is_dtd (dtd_of_items (before ++ items)))
+means [] before rest s r = subst (λ is. Means before rest (is_dtd (dtd_of_items is))) (sym (append-nil before)) (ends s)
 means (i ∷ items) before rest s r =
     let place = s.1 ++ s.2 in
     let grouped = append_assoc before (i ∷ []) items in
     let all : AreRuled ((before ++ i ∷ []) ++ items) = subst AreRuled (sym grouped) r in
     let at : HasPlace rest place = record { space = s.0; is_space = s.3; whole = s.7 ∙ append_assoc s.0 s.1 s.2; is_place = item_is_place i s.1 s.2 s.5 } in
-    let begins : Begins (is_front before rest) place i s.2 = record { text = s.1; spelled = s.5; may_stand = s.4; whole = refl } in
+    let begins : StandsAt (is_front before rest) place i s.2 = record { text = s.1; spelled = s.5; may_stand = s.4; whole = refl } in
     let none = no_fault before i (ruled-left (before ++ i ∷ []) items all) (is_front before rest) place s.2 begins in
     let behind = means items (before ++ i ∷ []) s.2 (from_declarations _ items s.2 (not_front before i s.2) s.6) all in
-    subst (λ is. Means before rest (is_dtd (numbered is))) grouped (item at begins none behind)
+    subst (λ is. Means before rest (is_dtd (dtd_of_items is))) grouped (item at begins none behind)
 
 -- at the front of a text
 no_space_before : (space others : List ℕ) → IsOptionalSpace space → is_place (space ++ others) ≡ true → space ≡ []

@@ -5,9 +5,9 @@ use Rattle.pv_model.specs.Plain.{PlainModel}
 use Rattle.pv_dtd.specs.Plain.{PlainDtd}
 use Rattle.pv_dtd.specs.Facts.{MAX_DTD_BYTES}
 use Rattle.pv_dtd.specs.Items.{NamedModel, Item, declared_in, models_in, mentioned_in}
-use Rattle.pv_dtd.specs.Meaning.{Outcome, is_dtd, faulty, Means, IsBehindMark, TextMeans, items}
-use Rattle.pv_dtd.specs.Numbering.{numbered, names_of, number_among, model_with_numbers}
-use Rattle.pv_dtd.specs.Naming.{grown, NumbersModels}
+use Rattle.pv_dtd.specs.Meaning.{Outcome, is_dtd, faulty, Means, IsBehindMark, DtdTextMeans, items}
+use Rattle.pv_dtd.specs.Numbering.{dtd_of_items, names_of, number_among, model_with_numbers}
+use Rattle.pv_dtd.specs.Naming.{with_names, NumbersModels}
 use Rattle.pv_dtd.specs.PlainForms.{plain_dtd, refusal, Refuses, Answers}
 use Rattle.pv_dtd.specs.RuleKinds.{kind_of}
 use Rattle.pv_dtd.specs.SoFar.{Tells, TellsFault, Declares}
@@ -26,9 +26,9 @@ tells_rule rest MixedTwiceRule k e is m = rw is m
 tells_rule rest LimitRule k e is m = rw is (inr m)
 
 -- all names and models, with numbers for names
-pub numbered_are : (read : List Item) (names : List (List ℕ)) (models : List NamedModel) (parts : ℕ) → Declares names models parts read → (all : List (List ℕ)) (numbers : List PlainModel) → all ≡ grown names (mentioned_in models) → NumbersModels all models numbers → (record { names = all; models = numbers }) ≡ numbered read
+pub numbered_are : (read : List Item) (names : List (List ℕ)) (models : List NamedModel) (parts : ℕ) → Declares names models parts read → (all : List (List ℕ)) (numbers : List PlainModel) → all ≡ with_names names (mentioned_in models) → NumbersModels all models numbers → (record { names = all; models = numbers }) ≡ dtd_of_items read
 numbered_are read names models parts d all numbers is_all placed =
-    let whole : all ≡ names_of read = is_all ∙ ap (λ ms. grown names (mentioned_in ms)) d.models_are ∙ ap (λ ns. grown ns (mentioned_in (models_in read))) d.names_are ∙ sym (once-distinct (declared_in read) (mentioned_in (models_in read)) d.ruled.once) in
+    let whole : all ≡ names_of read = is_all ∙ ap (λ ms. with_names names (mentioned_in ms)) d.models_are ∙ ap (λ ns. with_names ns (mentioned_in (models_in read))) d.names_are ∙ sym (once-distinct (declared_in read) (mentioned_in (models_in read)) d.ruled.once) in
     let is_models : numbers ≡ map (model_with_numbers (number_among (names_of read))) (models_in read) =
     sym (placed all (goes_on_self all)) ∙ ap (λ ns. map (model_with_numbers (number_among ns)) models) whole ∙ ap (map (model_with_numbers (number_among (names_of read)))) d.models_are in
     pair_of all (names_of read) numbers _ whole is_models
@@ -37,10 +37,10 @@ numbered_are read names models parts d all numbers is_all placed =
     pair_of a b ms ns e f = cc
 
 abbrev pub HoldsItems : Dtd → List Item → Type 0
-HoldsItems d read = plain_dtd d ≡ numbered read
+HoldsItems d read = plain_dtd d ≡ dtd_of_items read
 
 module _ (bytes rest : List ℕ) (short : length bytes ≤ MAX_DTD_BYTES) (mark : IsBehindMark bytes rest) where
-  pub read_by : (r : Result Dtd DtdError) → Tells HoldsItems rest r → IfOk r (λ d. TextMeans bytes (is_dtd (plain_dtd d)))
+  pub read_by : (r : Result Dtd DtdError) → Tells HoldsItems rest r → IfOk r (λ d. DtdTextMeans bytes (is_dtd (plain_dtd d)))
   read_by (Ok d) t = items short mark (subst (λ g. Means [] rest (is_dtd g)) (sym t.2) t.1)
   read_by (Err e) t = tt
 
@@ -62,7 +62,7 @@ without_memory : (o : Outcome) → Answers o (Err NoMemory)
 without_memory (is_dtd g) = refl
 without_memory (faulty kind k) = inr refl
 
-refused_exactly : (bytes : List ℕ) (e : DtdError) → Refuses bytes e → (o : Outcome) → TextMeans bytes o → Answers o (Err e)
+refused_exactly : (bytes : List ℕ) (e : DtdError) → Refuses bytes e → (o : Outcome) → DtdTextMeans bytes o → Answers o (Err e)
 refused_exactly bytes (Syntax k) r o m = subst (λ p. Answers p (Err (Syntax k))) (same_text_meaning bytes r m) (inl refl)
 refused_exactly bytes (Twice k) r o m = subst (λ p. Answers p (Err (Twice k))) (same_text_meaning bytes r m) (inl refl)
 refused_exactly bytes (MixedTwice k) r o m = subst (λ p. Answers p (Err (MixedTwice k))) (same_text_meaning bytes r m) (inl refl)
@@ -71,6 +71,6 @@ refused_exactly bytes (Limit k) (inl r) o m = subst (λ p. Answers p (Err (Limit
 refused_exactly bytes (Limit k) (inr r) o m = subst (λ p. Answers p (Err (Limit k))) (same_text_meaning bytes r m) (inl refl)
 refused_exactly bytes NoMemory r o m = without_memory o
 
-pub exactly : (bytes : List ℕ) (r : Result Dtd DtdError) → IfOk r (λ d. TextMeans bytes (is_dtd (plain_dtd d))) → IfErr r (λ e. Refuses bytes e) → (o : Outcome) → TextMeans bytes o → Answers o r
+pub exactly : (bytes : List ℕ) (r : Result Dtd DtdError) → IfOk r (λ d. DtdTextMeans bytes (is_dtd (plain_dtd d))) → IfErr r (λ e. Refuses bytes e) → (o : Outcome) → DtdTextMeans bytes o → Answers o r
 exactly bytes (Ok d) read refused o m = subst (λ p. Answers p (Ok d)) (same_text_meaning bytes read m) refl
 exactly bytes (Err e) read refused o m = refused_exactly bytes e refused o m

@@ -9,7 +9,7 @@ use Rattle.pv_dtd.specs.Facts.{are_distinct, is_short, MAX_NESTING, MAX_DTD_BYTE
 use Rattle.pv_dtd.specs.Items.{NamedModel, empty, any, mixed, children, Item, text_declaration, element, skipped, comment, instruction, declared_by, declared_in, models_in, mentioned_by, mentioned_in}
 use Rattle.pv_dtd.specs.Spelling.{Spells}
 use Rattle.pv_dtd.specs.Kinds.{is_too_long}
-use Rattle.pv_dtd.specs.Numbering.{numbered, names_of, number_among, model_with_numbers}
+use Rattle.pv_dtd.specs.Numbering.{dtd_of_items, names_of, number_among, model_with_numbers}
 use Rattle.pv_dtd.specs.DtdTexts.{SpellsDeclarations, SpellsSubset, plain, behind_declaration, ListNoneTwice, nesting_in, KeepsLimits}
 use Rattle.pv_dtd.specs.SoFar.{IsShallow, IsShallowItem, AreSound, AreRuled}
 use Rattle.pv_dtd.proofs.Numbered.{nesting_numbered, parts_numbered}
@@ -86,7 +86,7 @@ module _ (f : List ℕ → ℕ) where
 pub listed_once : (items : List Item) → AreRuled items → ListNoneTwice items
 listed_once items r = none_twice (number_among (names_of items)) items r.sound
 
-pub limits_kept : (bytes : List ℕ) (items : List Item) → length bytes ≤ MAX_DTD_BYTES → AreRuled items → KeepsLimits bytes (numbered items)
+pub limits_kept : (bytes : List ℕ) (items : List Item) → length bytes ≤ MAX_DTD_BYTES → AreRuled items → KeepsLimits bytes (dtd_of_items items)
 limits_kept bytes items few r = record {
   few_bytes = few;
   few_types = types_kept items r;
@@ -95,11 +95,11 @@ limits_kept bytes items few r = record {
   shallow = all_shallow (number_among (names_of items)) items r.sound;
 }
 
-pub ruled : (bytes text : List ℕ) (items : List Item) → SpellsSubset items text → are_distinct (declared_in items) ≡ true → ListNoneTwice items → KeepsLimits bytes (numbered items) → AreRuled items
+pub ruled : (bytes text : List ℕ) (items : List Item) → SpellsSubset items text → are_distinct (declared_in items) ≡ true → ListNoneTwice items → KeepsLimits bytes (dtd_of_items items) → AreRuled items
 ruled bytes text items s once listed k =
     let f = number_among (names_of items) in
     let short = all_parts is_short (declared_in items) (mentioned_in (models_in items)) (all_once is_short (declared_in items ++ mentioned_in (models_in items)) [] refl k.short_names) in
-    let count : length (numbered items).models ≡ length (declared_in items) = length-map (models_in items) (model_with_numbers f) ∙ as_many items in
+    let count : length (dtd_of_items items).models ≡ length (declared_in items) = length-map (models_in items) (model_with_numbers f) ∙ as_many items in
     record {
       sound = sound f items (subset_spelled items text s) listed short.0 short.1 k.shallow;
       once = once;

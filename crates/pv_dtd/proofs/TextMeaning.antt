@@ -5,7 +5,7 @@ use Rattle.pv_chars.specs.Scan.{after_bytes}
 use Rattle.pv_chars.proofs.Scanning.{after_bytes_takes, after_bytes-append}
 use Rattle.pv_dtd.specs.Facts.{MAX_DTD_BYTES}
 use Rattle.pv_dtd.specs.Kinds.{limit}
-use Rattle.pv_dtd.specs.Meaning.{Outcome, faulty, Means, BYTE_ORDER_MARK, IsBehindMark, TextMeans, too_long, items}
+use Rattle.pv_dtd.specs.Meaning.{Outcome, faulty, Means, BYTE_ORDER_MARK, IsBehindMark, DtdTextMeans, too_long, items}
 use Rattle.pv_dtd.specs.Laws.{HasOneMeaning}
 use Rattle.pv_dtd.proofs.Binding.{same_some}
 use Rattle.pv_dtd.proofs.OneMeaning.{same_meaning, meant}
@@ -16,7 +16,7 @@ same_behind bytes rest more (inl a) (inr b) = absurd (b.0 rest a)
 same_behind bytes rest more (inr a) (inl b) = absurd (a.0 more b)
 same_behind bytes rest more (inr a) (inr b) = sym a.1 ∙ b.1
 
-pub same_text_meaning : (bytes : List ℕ) {o p : Outcome} → TextMeans bytes o → TextMeans bytes p → o ≡ p
+pub same_text_meaning : (bytes : List ℕ) {o p : Outcome} → DtdTextMeans bytes o → DtdTextMeans bytes p → o ≡ p
 same_text_meaning bytes (too_long a) (too_long b) = refl
 same_text_meaning bytes (too_long a) (items few m n) = absurd (omega arith)
 same_text_meaning bytes (items few m n) (too_long b) = absurd (omega arith)
@@ -26,10 +26,10 @@ some_behind : (bytes : List ℕ) (o : Option (List ℕ)) → after_bytes BYTE_OR
 some_behind bytes (Some rest) is = (rest, inl (after_bytes_takes BYTE_ORDER_MARK bytes rest is))
 some_behind bytes None is = (bytes, inr ((λ other w. let some = after_bytes-append BYTE_ORDER_MARK other in let at = ap (after_bytes BYTE_ORDER_MARK) w in cc), refl))
 
-some_meaning : (bytes : List ℕ) → (o : Outcome) × TextMeans bytes o
+some_meaning : (bytes : List ℕ) → (o : Outcome) × DtdTextMeans bytes o
 some_meaning bytes = by (cases_lt MAX_DTD_BYTES (length bytes))
   where
-    by : (MAX_DTD_BYTES < length bytes) ⊎ (length bytes ≤ MAX_DTD_BYTES) → (o : Outcome) × TextMeans bytes o
+    by : (MAX_DTD_BYTES < length bytes) ⊎ (length bytes ≤ MAX_DTD_BYTES) → (o : Outcome) × DtdTextMeans bytes o
     by (inl long) = (faulty limit 0, too_long long)
     by (inr short) =
         let behind = some_behind bytes (after_bytes BYTE_ORDER_MARK bytes) refl in

@@ -11,7 +11,7 @@ use Rattle.pv_dtd.specs.Facts.{are_distinct, MAX_TYPES, MAX_PARTS}
 use Rattle.pv_dtd.specs.Items.{Item, text_declaration, element, skipped, comment, instruction, declared_by, declared_in, model_in, models_in, mentioned_by, parts_by, parts_of_models}
 use Rattle.pv_dtd.specs.Kinds.{Kind, parameter, nesting, syntax, twice, mixed_twice, limit, HasFault, Breaks, declares_again, lists_twice, is_too_long, passes_limit}
 use Rattle.pv_dtd.specs.SoFar.{IsShallowItem, IsSound, AreSound, AreRuled}
-use Rattle.pv_dtd.specs.Spelling.{Begins}
+use Rattle.pv_dtd.specs.Spelling.{StandsAt}
 use Rattle.pv_dtd.proofs.Bounded.{begins_not_deep}
 use Rattle.pv_dtd.proofs.Breaking.{Keeps, kept_by}
 use Rattle.pv_dtd.proofs.Distinct.{bytes_eq-swap}
@@ -20,7 +20,7 @@ use Rattle.pv_dtd.proofs.OneMeaning.{same_item}
 use Rattle.pv_dtd.proofs.SoFar.{joined, parts-append, parts_of_item}
 
 -- an item of which no kind of fault holds keeps the rules
-module _ (before : List Item) (front : Bool) (place : List ℕ) (i : Item) (rest : List ℕ) (begins : Begins front place i rest) (none : (kind : Kind) → HasFault before front place kind → ⊥) where
+module _ (before : List Item) (front : Bool) (place : List ℕ) (i : Item) (rest : List ℕ) (begins : StandsAt front place i rest) (none : (kind : Kind) → HasFault before front place kind → ⊥) where
   kept_rule : (rule : Item → Bool) → (Breaks front place rule → ⊥) → rule i ≡ false
   kept_rule rule unbroken = by (rule i) refl
     where
@@ -96,7 +96,7 @@ module _ (before : List Item) (i : Item) (r : AreRuled (before ++ i ∷ [])) whe
       let parts : nat_le (parts_of_models (models_in before) + parts_by i) MAX_PARTS ≡ true = le-leb _ _ (omega (arith, r.few_parts, ap parts_of_models (joined model_in before i), parts-append (models_in before) (model_in i), parts_of_item i)) in
       rw (long, types, parts) refl
 
-  module _ (front : Bool) (place rest : List ℕ) (begins : Begins front place i rest) where
+  module _ (front : Bool) (place rest : List ℕ) (begins : StandsAt front place i rest) where
     unbroken : (rule : Item → Bool) → rule i ≡ false → Breaks front place rule → ⊥
     unbroken rule e b =
         let same = (same_item (begins_not_deep front place i rest begins last_shallow) begins b.2).0 in

@@ -8,7 +8,7 @@ use Rattle.pv_dtd.specs.Plain.{PlainDtd, declared, parts_in_models}
 use Rattle.pv_dtd.specs.Facts.{are_distinct, is_short, nesting, MAX_DTD_BYTES, MAX_TYPES, MAX_PARTS, MAX_NESTING}
 use Rattle.pv_dtd.specs.Items.{Item, text_declaration, declared_in, listed_by}
 use Rattle.pv_dtd.specs.Spelling.{Spells, MayStand}
-use Rattle.pv_dtd.specs.Numbering.{numbered}
+use Rattle.pv_dtd.specs.Numbering.{dtd_of_items}
 use Rattle.pv_dtd.specs.Meaning.{IsBehindMark}
 
 -- (markupdecl | S)*: items other than a text declaration, with S? before each and behind the last; no conditional section and no
@@ -23,7 +23,8 @@ SpellsDeclarations (i ∷ items) text =
 -- extSubset: TextDecl? (markupdecl | S)*
 pub data SpellsSubset (items : List Item) (text : List ℕ) : Type 0 where
   plain : SpellsDeclarations items text → SpellsSubset items text
-  behind_declaration : (first others : List ℕ) (more : List Item) → items ≡ text_declaration ∷ more → IsTextDecl first → SpellsDeclarations more others →
+  behind_declaration : (first others : List ℕ) (more : List Item) →
+      items ≡ text_declaration ∷ more → IsTextDecl first → SpellsDeclarations more others →
       text ≡ first ++ others → SpellsSubset items text
 
 -- no mixed model lists a name twice
@@ -38,7 +39,7 @@ pub record IsDtdText (bytes : List ℕ) (g : PlainDtd) : Type 0 where
   pub spelled : SpellsSubset items rest
   pub declared_once : IsTrue (are_distinct (declared_in items))
   pub listed_once : ListNoneTwice items
-  pub is_dtd : g ≡ numbered items
+  pub is_dtd : g ≡ dtd_of_items items
 
 -- how many sequences and choices stand one inside another in a model
 abbrev pub nesting_in : PlainModel → ℕ

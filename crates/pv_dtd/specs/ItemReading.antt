@@ -16,9 +16,9 @@ or_else (Some x) other = Some x
 or_else None other = other
 
 -- a listed name and the others, where '|' stood in front, and else nothing more
-abbrev pub listed_by : Reader (List (List ℕ)) → List ℕ → Option (List ℕ) → Option (List (List ℕ) × List ℕ)
-listed_by others place None = Some ([], place)
-listed_by others place (Some after) = do
+abbrev pub names_after_bar : Reader (List (List ℕ)) → List ℕ → Option (List ℕ) → Option (List (List ℕ) × List ℕ)
+names_after_bar others place None = Some ([], place)
+names_after_bar others place (Some after) = do
   name ← name_at (after_space after)
   more ← others name.1
   Some (name.0 ∷ more.0, more.1)
@@ -26,7 +26,7 @@ listed_by others place (Some after) = do
 -- (S? '|' S? Name)* S?, in at most so many steps
 unfoldable pub listed_at : ℕ → Reader (List (List ℕ))
 listed_at zero bytes = None
-listed_at (suc steps) bytes = listed_by (listed_at steps) (after_space bytes) (after_bytes (codes "|") (after_space bytes))
+listed_at (suc steps) bytes = names_after_bar (listed_at steps) (after_space bytes) (after_bytes (codes "|") (after_space bytes))
 
 -- what stands behind the end of a mixed model; a model that lists no name may stand without its '*'
 abbrev pub after_end : List (List ℕ) → List ℕ → Option (List ℕ) → Option (List ℕ)

@@ -106,24 +106,24 @@ mentioned_in models = flat_map spelled_in_model models
 
 -- the nodes of a content particle
 abbrev mutual
-  pub nodes_in : NamedPart → ℕ
-  nodes_in (name n) = 1
-  nodes_in (seq ps) = suc (nodes_in_all ps)
-  nodes_in (choice ps) = suc (nodes_in_all ps)
-  nodes_in (opt p) = suc (nodes_in p)
-  nodes_in (star p) = suc (nodes_in p)
-  nodes_in (plus p) = suc (nodes_in p)
+  pub particles_in : NamedPart → ℕ
+  particles_in (name n) = 1
+  particles_in (seq ps) = suc (particles_in_all ps)
+  particles_in (choice ps) = suc (particles_in_all ps)
+  particles_in (opt p) = suc (particles_in p)
+  particles_in (star p) = suc (particles_in p)
+  particles_in (plus p) = suc (particles_in p)
 
-  pub nodes_in_all : NamedParts → ℕ
-  nodes_in_all no_parts = 0
-  nodes_in_all (part p ps) = nodes_in p + nodes_in_all ps
+  pub particles_in_all : NamedParts → ℕ
+  particles_in_all no_parts = 0
+  particles_in_all (part p ps) = particles_in p + particles_in_all ps
 
 -- the parts of a model: the nodes of a content particle, or the names listed in a mixed model
 abbrev pub parts_of_model : NamedModel → ℕ
 parts_of_model empty = 0
 parts_of_model any = 0
 parts_of_model (mixed names) = length names
-parts_of_model (children p) = nodes_in p
+parts_of_model (children p) = particles_in p
 
 -- the parts of all models
 abbrev pub parts_of_models : List NamedModel → ℕ

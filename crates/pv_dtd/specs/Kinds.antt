@@ -4,7 +4,7 @@ use Rattle.std.specs.List.{list_any}
 use Rattle.std.specs.Str.{bytes_eq}
 use Rattle.pv_dtd.specs.Facts.{are_distinct, MAX_TYPES, MAX_PARTS, MAX_NESTING, is_short}
 use Rattle.pv_dtd.specs.Items.{Item, declared_by, declared_in, models_in, listed_by, mentioned_by, parts_by, parts_of_models}
-use Rattle.pv_dtd.specs.Spelling.{Begins, IsQuotedText, IsSkippedWord, ends_or_refers, is_one_of}
+use Rattle.pv_dtd.specs.Spelling.{StandsAt, IsQuotedText, IsSkippedWord, ends_or_refers, is_one_of}
 
 pub data Kind : Type 0 where
   parameter : Kind
@@ -18,7 +18,8 @@ pub data Kind : Type 0 where
 pub data HasParameter : List ℕ → Type 0 where
   reference : {place : List ℕ} (rest : List ℕ) → place ≡ codes "%" ++ rest → HasParameter place
   section : {place : List ℕ} (rest : List ℕ) → place ≡ codes "<![" ++ rest → HasParameter place
-  inside : {place : List ℕ} (word before rest : List ℕ) → (word ≡ codes "<!ELEMENT") ⊎ IsSkippedWord word → IsQuotedText ends_or_refers before →
+  inside : {place : List ℕ} (word before rest : List ℕ) →
+      (word ≡ codes "<!ELEMENT") ⊎ IsSkippedWord word → IsQuotedText ends_or_refers before →
       place ≡ word ++ before ++ codes "%" ++ rest → HasParameter place
 
 -- how often a byte stands in a text
@@ -36,7 +37,7 @@ pub record IsTooDeep (place : List ℕ) : Type 0 where
 
 -- the item that stands at the place breaks this rule
 abbrev pub Breaks : Bool → List ℕ → (Item → Bool) → Type 0
-Breaks front place rule = (i : Item) × (rest : List ℕ) × Begins front place i rest × IsTrue (rule i)
+Breaks front place rule = (i : Item) × (rest : List ℕ) × StandsAt front place i rest × IsTrue (rule i)
 
 -- the item declares one of the names that were declared
 abbrev pub declares_again : List (List ℕ) → Item → Bool
@@ -58,7 +59,7 @@ passes_limit declared parts i =
 abbrev pub HasFault : List Item → Bool → List ℕ → Kind → Type 0
 HasFault before front place parameter = HasParameter place
 HasFault before front place nesting = IsTooDeep place
-HasFault before front place syntax = (i : Item) (rest : List ℕ) → Begins front place i rest → ⊥
+HasFault before front place syntax = (i : Item) (rest : List ℕ) → StandsAt front place i rest → ⊥
 HasFault before front place twice = Breaks front place (declares_again (declared_in before))
 HasFault before front place mixed_twice = Breaks front place lists_twice
 HasFault before front place limit = Breaks front place (passes_limit (declared_in before) (parts_of_models (models_in before)))

@@ -4,8 +4,8 @@ use Rattle.pv_chars.specs.Spaces.{is_space, IsOptionalSpace}
 use Rattle.pv_dtd.specs.Plain.{PlainDtd}
 use Rattle.pv_dtd.specs.Facts.{MAX_DTD_BYTES}
 use Rattle.pv_dtd.specs.Items.{Item}
-use Rattle.pv_dtd.specs.Numbering.{numbered}
-use Rattle.pv_dtd.specs.Spelling.{Begins}
+use Rattle.pv_dtd.specs.Numbering.{dtd_of_items}
+use Rattle.pv_dtd.specs.Spelling.{StandsAt}
 use Rattle.pv_dtd.specs.Kinds.{Kind, limit, HasFault, IsFirstFault}
 
 -- something other than white space stands in front
@@ -32,9 +32,10 @@ pub data Outcome : Type 0 where
 
 -- behind these items, the rest means this
 pub data Means : List Item → List ℕ → Outcome → Type 0 where
-  ends : {before : List Item} {rest : List ℕ} → IsOptionalSpace rest → Means before rest (is_dtd (numbered before))
+  ends : {before : List Item} {rest : List ℕ} → IsOptionalSpace rest →
+      Means before rest (is_dtd (dtd_of_items before))
   item : {before : List Item} {rest place more : List ℕ} {i : Item} {o : Outcome} →
-      HasPlace rest place → Begins (is_front before rest) place i more → ((kind : Kind) → HasFault before (is_front before rest) place kind → ⊥) →
+      HasPlace rest place → StandsAt (is_front before rest) place i more → ((kind : Kind) → HasFault before (is_front before rest) place kind → ⊥) →
       Means (before ++ i ∷ []) more o → Means before rest o
   fault : {before : List Item} {rest place : List ℕ} {kind : Kind} →
       HasPlace rest place → IsFirstFault before (is_front before rest) place kind → Means before rest (faulty kind (length before))
@@ -48,6 +49,7 @@ abbrev pub IsBehindMark : List ℕ → List ℕ → Type 0
 IsBehindMark bytes rest = (bytes ≡ BYTE_ORDER_MARK ++ rest) ⊎ (((other : List ℕ) → bytes ≡ BYTE_ORDER_MARK ++ other → ⊥) × (bytes ≡ rest))
 
 -- A text means this. One that is too long passes a limit, whatever it holds.
-pub data TextMeans (bytes : List ℕ) : Outcome → Type 0 where
-  too_long : MAX_DTD_BYTES < length bytes → TextMeans bytes (faulty limit 0)
-  items : {rest : List ℕ} {o : Outcome} → length bytes ≤ MAX_DTD_BYTES → IsBehindMark bytes rest → Means [] rest o → TextMeans bytes o
+pub data DtdTextMeans (bytes : List ℕ) : Outcome → Type 0 where
+  too_long : MAX_DTD_BYTES < length bytes → DtdTextMeans bytes (faulty limit 0)
+  items : {rest : List ℕ} {o : Outcome} → length bytes ≤ MAX_DTD_BYTES → IsBehindMark bytes rest →
+      Means [] rest o → DtdTextMeans bytes o

@@ -19,22 +19,27 @@ pub record GoesOn (names more : List (List ℕ)) : Type 0 where
   pub whole : more ≡ names ++ added
 
 -- the names, and behind them the new ones of these
-abbrev pub grown : List (List ℕ) → List (List ℕ) → List (List ℕ)
-grown names [] = names
-grown names (x ∷ xs) = grown (with_name names x) xs
+abbrev pub with_names : List (List ℕ) → List (List ℕ) → List (List ℕ)
+with_names names [] = names
+with_names names (x ∷ xs) = with_names (with_name names x) xs
 
 -- These are the numbers of names, however the names go on; and so for particles and models.
 abbrev pub NumbersNames : List (List ℕ) → List (List ℕ) → List ℕ → Type 0
-NumbersNames names xs ys = (more : List (List ℕ)) → GoesOn names more → map (number_among more) xs ≡ ys
+NumbersNames names xs ys = (more : List (List ℕ)) → GoesOn names more →
+    map (number_among more) xs ≡ ys
 
 abbrev pub NumbersPart : List (List ℕ) → NamedPart → PlainPart → Type 0
-NumbersPart names p q = (more : List (List ℕ)) → GoesOn names more → with_numbers (number_among more) p ≡ q
+NumbersPart names p q = (more : List (List ℕ)) → GoesOn names more →
+    with_numbers (number_among more) p ≡ q
 
 abbrev pub NumbersParts : List (List ℕ) → NamedParts → PlainParts → Type 0
-NumbersParts names ps qs = (more : List (List ℕ)) → GoesOn names more → all_with_numbers (number_among more) ps ≡ qs
+NumbersParts names ps qs = (more : List (List ℕ)) → GoesOn names more →
+    all_with_numbers (number_among more) ps ≡ qs
 
 abbrev pub NumbersModel : List (List ℕ) → NamedModel → PlainModel → Type 0
-NumbersModel names m n = (more : List (List ℕ)) → GoesOn names more → model_with_numbers (number_among more) m ≡ n
+NumbersModel names m n = (more : List (List ℕ)) → GoesOn names more →
+    model_with_numbers (number_among more) m ≡ n
 
 abbrev pub NumbersModels : List (List ℕ) → List NamedModel → List PlainModel → Type 0
-NumbersModels names ms ns = (more : List (List ℕ)) → GoesOn names more → map (model_with_numbers (number_among more)) ms ≡ ns
+NumbersModels names ms ns = (more : List (List ℕ)) → GoesOn names more →
+    map (model_with_numbers (number_among more)) ms ≡ ns

@@ -41,5 +41,5 @@ abbrev pub names_of : List Item → List (List ℕ)
 names_of items = each_once [] (declared_in items ++ mentioned_in (models_in items))
 
 -- the DTD that items are
-abbrev pub numbered : List Item → PlainDtd
-numbered items = record { names = names_of items; models = map (model_with_numbers (number_among (names_of items))) (models_in items) }
+abbrev pub dtd_of_items : List Item → PlainDtd
+dtd_of_items items = record { names = names_of items; models = map (model_with_numbers (number_among (names_of items))) (models_in items) }

@@ -3,7 +3,7 @@ use Rattle.std.specs.Prelude.{◌≡◌, ◌⊎◌, ℕ, List, Result, Ok, Err}
 use Rattle.pv_dtd.specs.Plain.{PlainDtd}
 use Rattle.pv_dtd.specs.Facts.{dtd_of}
 use Rattle.pv_dtd.specs.Kinds.{Kind, parameter, nesting, syntax, twice, mixed_twice, limit}
-use Rattle.pv_dtd.specs.Meaning.{Outcome, is_dtd, faulty, TextMeans}
+use Rattle.pv_dtd.specs.Meaning.{Outcome, is_dtd, faulty, DtdTextMeans}
 use Rattle.pv_dtd.specs.declared.dtd.Dtd.{Dtd}
 use Rattle.pv_dtd.specs.declared.errors.DtdError.{DtdError}
 use Rattle.pv_dtd.specs.declared.errors.DtdError.TheVariants.{Syntax, Twice, MixedTwice, Parameter, Limit, NoMemory}
@@ -22,11 +22,11 @@ refusal limit k = Limit k
 
 -- a refusal, other than want of memory, is of the text's first fault
 abbrev pub Refuses : List ℕ → DtdError → Type 0
-Refuses bytes (Syntax k) = TextMeans bytes (faulty syntax k)
-Refuses bytes (Twice k) = TextMeans bytes (faulty twice k)
-Refuses bytes (MixedTwice k) = TextMeans bytes (faulty mixed_twice k)
-Refuses bytes (Parameter k) = TextMeans bytes (faulty parameter k)
-Refuses bytes (Limit k) = TextMeans bytes (faulty nesting k) ⊎ TextMeans bytes (faulty limit k)
+Refuses bytes (Syntax k) = DtdTextMeans bytes (faulty syntax k)
+Refuses bytes (Twice k) = DtdTextMeans bytes (faulty twice k)
+Refuses bytes (MixedTwice k) = DtdTextMeans bytes (faulty mixed_twice k)
+Refuses bytes (Parameter k) = DtdTextMeans bytes (faulty parameter k)
+Refuses bytes (Limit k) = DtdTextMeans bytes (faulty nesting k) ⊎ DtdTextMeans bytes (faulty limit k)
 Refuses bytes NoMemory = Unit {0}
 
 -- the answer to a text that means this, unless memory ran out

@@ -4,8 +4,8 @@ use Rattle.std.specs.List.{list_any}
 use Rattle.pv_dtd.specs.Plain.{PlainDtd}
 use Rattle.pv_dtd.specs.Facts.{are_distinct, MAX_TYPES, MAX_PARTS, MAX_NESTING}
 use Rattle.pv_dtd.specs.Items.{NamedModel, empty, any, mixed, children, Item, text_declaration, element, skipped, comment, instruction, declared_by, declared_in, models_in, mentioned_by, listed_by, parts_of_models}
-use Rattle.pv_dtd.specs.Spelling.{Spells, depth_of}
-use Rattle.pv_dtd.specs.Numbering.{numbered}
+use Rattle.pv_dtd.specs.Spelling.{Spells, nesting_of}
+use Rattle.pv_dtd.specs.Numbering.{dtd_of_items}
 use Rattle.pv_dtd.specs.Kinds.{parameter, nesting, syntax, twice, mixed_twice, limit, is_too_long}
 use Rattle.pv_dtd.specs.Meaning.{is_dtd, faulty, Means}
 use Rattle.pv_dtd.specs.declared.errors.DtdError.{DtdError}
@@ -16,7 +16,7 @@ abbrev pub IsShallow : NamedModel → Type 0
 IsShallow empty = Unit {0}
 IsShallow any = Unit {0}
 IsShallow (mixed names) = Unit {0}
-IsShallow (children p) = depth_of p ≤ MAX_NESTING
+IsShallow (children p) = nesting_of p ≤ MAX_NESTING
 
 abbrev pub IsShallowItem : Item → Type 0
 IsShallowItem text_declaration = Unit {0}
@@ -54,7 +54,7 @@ pub record Declares (names : List (List ℕ)) (models : List NamedModel) (parts 
 
 -- a DTD of ruled items
 abbrev pub IsOfItems : PlainDtd → Type 0
-IsOfItems g = (items : List Item) × AreRuled items × (g ≡ numbered items)
+IsOfItems g = (items : List Item) × AreRuled items × (g ≡ dtd_of_items items)
 
 -- what a refusal other than want of memory says of the rest
 abbrev pub TellsFault : List ℕ → DtdError → Type 0
@@ -67,5 +67,5 @@ TellsFault rest NoMemory = Unit {0}
 
 -- What a reader answers is what the rest means, unless memory ran out: where it is a DTD, what was read holds its items.
 abbrev pub Tells : {X : Type 0} → (X → List Item → Type 0) → List ℕ → Result X DtdError → Type 0
-Tells Holds rest (Ok x) = (items : List Item) × Means [] rest (is_dtd (numbered items)) × Holds x items
+Tells Holds rest (Ok x) = (items : List Item) × Means [] rest (is_dtd (dtd_of_items items)) × Holds x items
 Tells Holds rest (Err e) = TellsFault rest e

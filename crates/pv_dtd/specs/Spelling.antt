@@ -23,17 +23,17 @@ member_count (part p ps) = suc (member_count ps)
 
 -- how many choices and sequences stand one inside another
 abbrev mutual
-  pub depth_of : NamedPart → ℕ
-  depth_of (name n) = 0
-  depth_of (seq ps) = suc (depth_of_all ps)
-  depth_of (choice ps) = suc (depth_of_all ps)
-  depth_of (opt p) = depth_of p
-  depth_of (star p) = depth_of p
-  depth_of (plus p) = depth_of p
+  pub nesting_of : NamedPart → ℕ
+  nesting_of (name n) = 0
+  nesting_of (seq ps) = suc (nesting_of_all ps)
+  nesting_of (choice ps) = suc (nesting_of_all ps)
+  nesting_of (opt p) = nesting_of p
+  nesting_of (star p) = nesting_of p
+  nesting_of (plus p) = nesting_of p
 
-  pub depth_of_all : NamedParts → ℕ
-  depth_of_all no_parts = 0
-  depth_of_all (part p ps) = max (depth_of p) (depth_of_all ps)
+  pub nesting_of_all : NamedParts → ℕ
+  nesting_of_all no_parts = 0
+  nesting_of_all (part p ps) = max (nesting_of p) (nesting_of_all ps)
 
 abbrev mutual
   -- cp, choice and seq, with their operators
@@ -111,8 +111,10 @@ pub record SpellsElement (name : List ℕ) (model : NamedModel) (text : List ℕ
 -- Bytes other than quotes and the ones that stop, and literals in quotes, which hold any bytes but their quote.
 pub data IsQuotedText (stops : ℕ → Bool) : List ℕ → Type 0 where
   nothing : {text : List ℕ} → text ≡ [] → IsQuotedText stops text
-  byte : {text : List ℕ} (b : ℕ) (more : List ℕ) → is_quote b ≡ false → stops b ≡ false → IsQuotedText stops more → text ≡ b ∷ more → IsQuotedText stops text
-  literal : {text : List ℕ} (quote : ℕ) (inner more : List ℕ) → is_quote quote ≡ true → IsTrue (list_all (λ b. not (b == quote)) inner) → IsQuotedText stops more →
+  byte : {text : List ℕ} (b : ℕ) (more : List ℕ) → is_quote b ≡ false → stops b ≡ false →
+      IsQuotedText stops more → text ≡ b ∷ more → IsQuotedText stops text
+  literal : {text : List ℕ} (quote : ℕ) (inner more : List ℕ) → is_quote quote ≡ true →
+      IsTrue (list_all (λ b. not (b == quote)) inner) → IsQuotedText stops more →
       text ≡ quote ∷ (inner ++ quote ∷ more) → IsQuotedText stops text
 
 abbrev pub is_one_of : List ℕ → ℕ → Bool
@@ -157,7 +159,7 @@ MayStand front comment = Unit {0}
 MayStand front instruction = Unit {0}
 
 -- an item stands at a place, which is the front of the text or not, and this behind it
-pub record Begins (front : Bool) (place : List ℕ) (i : Item) (rest : List ℕ) : Type 0 where
+pub record StandsAt (front : Bool) (place : List ℕ) (i : Item) (rest : List ℕ) : Type 0 where
   pub text : List ℕ
   pub spelled : Spells i text
   pub may_stand : MayStand front i

@@ -4,7 +4,7 @@ ghost use Rattle.std.specs.Prelude.{◌≡◌, map, IfOk, OnOk};
 ghost use Rattle.pv_model.specs.PlainForms.{numbers_of, plain_part, plain_parts, plain_model};
 ghost use Rattle.pv_dtd.specs.Items.{spelled_in, spelled_in_all, spelled_in_model, mentioned_in};
 ghost use Rattle.pv_dtd.specs.NamedForms.{named_part, named_parts, named_model};
-ghost use Rattle.pv_dtd.specs.Naming.{grown, NumbersNames, NumbersPart, NumbersParts, NumbersModel, NumbersModels};
+ghost use Rattle.pv_dtd.specs.Naming.{with_names, NumbersNames, NumbersPart, NumbersParts, NumbersModel, NumbersModels};
 
 use crate::items::{SpelledModel, SpelledPart};
 use crate::names::NameTable;
@@ -18,7 +18,7 @@ fn numbers_of(
     names: &mut NameTable,
     listed: &[&[u8]],
 ) -> Result<Vec<NameId>, NoMemory>
-    ensures names { OnOk result (names.new ≡ grown names.old (map (λ n. n.now) listed.now)) }
+    ensures names { OnOk result (names.new ≡ with_names names.old (map (λ n. n.now) listed.now)) }
     ensures numbers { IfOk result (λ v. NumbersNames names.new (map (λ n. n.now) listed.now) (numbers_of v.items)) }
 {
     let mut numbers: Vec<NameId> = Vec::new(alloc);
@@ -31,7 +31,7 @@ fn numbers_of(
 // A particle with numbers for names.
 #[cycle(numbering)]
 fn part_of(alloc: Global, names: &mut NameTable, part: &SpelledPart) -> Result<Part, NoMemory>
-    ensures names { OnOk result (names.new ≡ grown names.old (spelled_in (named_part part.now))) }
+    ensures names { OnOk result (names.new ≡ with_names names.old (spelled_in (named_part part.now))) }
     ensures numbers { IfOk result (λ q. NumbersPart names.new (named_part part.now) (plain_part q)) }
 {
     match part {
@@ -52,7 +52,7 @@ fn parts_of(
     names: &mut NameTable,
     members: &[SpelledPart],
 ) -> Result<Parts, NoMemory>
-    ensures names { OnOk result (names.new ≡ grown names.old (spelled_in_all (named_parts members.now))) }
+    ensures names { OnOk result (names.new ≡ with_names names.old (spelled_in_all (named_parts members.now))) }
     ensures numbers { IfOk result (λ qs. NumbersParts names.new (named_parts members.now) (plain_parts qs.items)) }
 {
     let mut parts: Parts = Vec::new(alloc);
@@ -67,7 +67,7 @@ fn model_of(
     names: &mut NameTable,
     model: &SpelledModel,
 ) -> Result<ContentModel, NoMemory>
-    ensures names { OnOk result (names.new ≡ grown names.old (spelled_in_model (named_model model.now))) }
+    ensures names { OnOk result (names.new ≡ with_names names.old (spelled_in_model (named_model model.now))) }
     ensures numbers { IfOk result (λ m. NumbersModel names.new (named_model model.now) (plain_model m)) }
 {
     match model {
@@ -90,7 +90,7 @@ pub fn models_of(
     names: &mut NameTable,
     spelled: &[SpelledModel],
 ) -> Result<Vec<ContentModel>, NoMemory>
-    ensures names { OnOk result (names.new ≡ grown names.old (mentioned_in (map named_model spelled.now))) }
+    ensures names { OnOk result (names.new ≡ with_names names.old (mentioned_in (map named_model spelled.now))) }
     ensures numbers { IfOk result (λ v. NumbersModels names.new (map named_model spelled.now) (map plain_model v.items)) }
 {
     let mut models: Vec<ContentModel> = Vec::new(alloc);

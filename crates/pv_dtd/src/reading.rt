@@ -3,13 +3,13 @@
 ghost use Rattle.std.specs.Prelude.{◌≡◌, ◌≤◌, ◌+◌, ◌++◌, ◌&&◌, ◌^◌, [], map, length, nat_eq, OnOk, IfOk, IfErr};
 ghost use Rattle.pv_dtd.specs.Facts.{MAX_DTD_BYTES, MAX_PARTS};
 ghost use Rattle.pv_dtd.specs.Items.{declared_by, model_in, parts_by};
-ghost use Rattle.pv_dtd.specs.Meaning.{Outcome, is_dtd, TextMeans, IsBehindMark, is_place};
+ghost use Rattle.pv_dtd.specs.Meaning.{Outcome, is_dtd, DtdTextMeans, IsBehindMark, is_place};
 ghost use Rattle.pv_dtd.specs.NamedForms.{named_model, named_item};
-ghost use Rattle.pv_dtd.specs.Naming.{grown};
+ghost use Rattle.pv_dtd.specs.Naming.{with_names};
 ghost use Rattle.pv_dtd.specs.PlainForms.{plain_dtd, Refuses, Answers, refusal};
 ghost use Rattle.pv_dtd.specs.RuleKinds.{kind_of};
 ghost use Rattle.pv_dtd.specs.SoFar.{Tells, Declares};
-ghost use Rattle.pv_dtd.specs.Numbering.{numbered};
+ghost use Rattle.pv_dtd.specs.Numbering.{dtd_of_items};
 
 use crate::declarations::item_at;
 use crate::dtd::Dtd;
@@ -63,7 +63,7 @@ fn add<'a>(
     item: SpelledItem<'a>,
 ) -> Result<(), NoMemory>
     requires { declared.old.parts + parts_by (named_item item) ≤ MAX_PARTS }
-    ensures names { OnOk result (names.new ≡ grown names.old (declared_by (named_item item.entry))) }
+    ensures names { OnOk result (names.new ≡ with_names names.old (declared_by (named_item item.entry))) }
     ensures models { OnOk result (map named_model declared.new.models.items ≡ map named_model declared.old.models.items ++ model_in (named_item item.entry)) }
     ensures parts { OnOk result (declared.new.parts ≡ declared.old.parts + parts_by (named_item item.entry)) }
 {
@@ -123,7 +123,7 @@ fn declarations<'a>(
 // The DTD that the items of a text are.
 fn dtd_of(alloc: Global, bytes: &[u8]) -> Result<Dtd, DtdError>
     requires { length bytes.now ≤ MAX_DTD_BYTES }
-    ensures { Tells (λ dtd items. plain_dtd dtd ≡ numbered items) bytes.now result }
+    ensures { Tells (λ dtd items. plain_dtd dtd ≡ dtd_of_items items) bytes.now result }
 {
     let mut names = NameTable::new(alloc);
     let declared = declarations(alloc, &mut names, bytes)?;
@@ -144,9 +144,9 @@ fn after_mark(bytes: &[u8]) -> &[u8]
 
 /// The DTD that the bytes are, or their first item in fault, by its kind and the number of whole items before it.
 pub fn read_dtd(alloc: Global, bytes: &[u8]) -> Result<Dtd, DtdError>
-    ensures read { IfOk result (λ dtd. TextMeans bytes.now (is_dtd (plain_dtd dtd))) }
+    ensures read { IfOk result (λ dtd. DtdTextMeans bytes.now (is_dtd (plain_dtd dtd))) }
     ensures refused { IfErr result (λ error. Refuses bytes.now error) }
-    ensures exactly { (o : Outcome) → TextMeans bytes.now o → Answers o result }
+    ensures exactly { (o : Outcome) → DtdTextMeans bytes.now o → Answers o result }
 {
     if bytes.len() > MAX_DTD_BYTES {
         return Err(DtdError::Limit(0));

@@ -3,7 +3,7 @@ use Rattle.std.proofs.Common.{◌≡◌, ◌∙◌, ap, sym, refl, ℕ, zero, su
 use Rattle.std.specs.Prelude.{nat_lt, nat_le, ◌==◌}
 use Rattle.std.specs.Option.{option_map, option_and_then}
 use Rattle.std.proofs.lemmas.List.{length-map}
-use Rattle.pv_tree.specs.Plain.{Tree, element, text_node, cdata_node, misc_node, forest_of, trees_of, is_element, remarked, depth_of, PlainDoc}
+use Rattle.pv_tree.specs.Plain.{Tree, element, text_node, cdata_node, misc_node, forest_of, trees_of, is_element, map_marks, depth_of, PlainDoc}
 use Rattle.pv_tree.specs.Places.{Spot, at_document, node_below, list_of, list_at, spot_at}
 use Rattle.pv_tree.specs.Places.{at_node as at_spot}
 use Rattle.pv_tree.specs.Legal.{MAX_DEPTH}
@@ -27,44 +27,44 @@ given-as : {A B : Type 0} (g : A → B) (o : Option A) → is_given (option_map 
 given-as g None = refl
 given-as g (Some x) = refl
 
-list-of-as : {M N : Type 0} (f : M → N) (t : Tree M) → list_of (remarked f t) ≡ option_map (map (remarked f)) (list_of t)
+list-of-as : {M N : Type 0} (f : M → N) (t : Tree M) → list_of (map_marks f t) ≡ option_map (map (map_marks f)) (list_of t)
 list-of-as f (element x attrs e kids m) = ap Some (trees-as f kids)
 list-of-as f (text_node units) = refl
 list-of-as f (cdata_node bytes) = refl
 list-of-as f (misc_node bytes) = refl
 
-list-at-as : {M N : Type 0} (f : M → N) (path : List ℕ) (root : Tree M) → list_at path (remarked f root) ≡ option_map (map (remarked f)) (list_at path root)
+list-at-as : {M N : Type 0} (f : M → N) (path : List ℕ) (root : Tree M) → list_at path (map_marks f root) ≡ option_map (map (map_marks f)) (list_at path root)
 list-at-as f [] root = refl
 list-at-as f (zero ∷ path) root =
     ap (option_and_then list_of) (node-as f path root)
-    ∙ elim (node_below path root) as (λ o. option_and_then list_of (option_map (remarked f) o) ≡ option_map (map (remarked f)) (option_and_then list_of o)) [ None ↦ refl | Some u ↦ list-of-as f u ]
+    ∙ elim (node_below path root) as (λ o. option_and_then list_of (option_map (map_marks f) o) ≡ option_map (map (map_marks f)) (option_and_then list_of o)) [ None ↦ refl | Some u ↦ list-of-as f u ]
 list-at-as f (suc i ∷ path) root = refl
 
-items-as : {M N : Type 0} (f : M → N) (o : Option (List (Tree M))) → items_of (option_map (map (remarked f)) o) ≡ map (remarked f) (items_of o)
+items-as : {M N : Type 0} (f : M → N) (o : Option (List (Tree M))) → items_of (option_map (map (map_marks f)) o) ≡ map (map_marks f) (items_of o)
 items-as f None = refl
 items-as f (Some ts) = refl
 
-kids-at-as : {M N : Type 0} (f : M → N) (path : List ℕ) (root : Tree M) → kids_at path (remarked f root) ≡ map (remarked f) (kids_at path root)
+kids-at-as : {M N : Type 0} (f : M → N) (path : List ℕ) (root : Tree M) → kids_at path (map_marks f root) ≡ map (map_marks f) (kids_at path root)
 kids-at-as f path root = ap items_of (list-at-as f path root) ∙ items-as f (list_at path root)
 
-kids-number-as : {M N : Type 0} (f : M → N) (path : List ℕ) (root : Tree M) → length (kids_at path (remarked f root)) ≡ length (kids_at path root)
-kids-number-as f path root = ap length (kids-at-as f path root) ∙ length-map (kids_at path root) (remarked f)
+kids-number-as : {M N : Type 0} (f : M → N) (path : List ℕ) (root : Tree M) → length (kids_at path (map_marks f root)) ≡ length (kids_at path root)
+kids-number-as f path root = ap length (kids-at-as f path root) ∙ length-map (kids_at path root) (map_marks f)
 
-lacks-node-as : {M N : Type 0} (f : M → N) (path : List ℕ) (root : Tree M) → lacks_node path (remarked f root) ≡ lacks_node path root
+lacks-node-as : {M N : Type 0} (f : M → N) (path : List ℕ) (root : Tree M) → lacks_node path (map_marks f root) ≡ lacks_node path root
 lacks-node-as f path root = ap not (ap is_given (spot-as f path root) ∙ given-as (spot_as f) (spot_at path root))
 
-lacks-list-as : {M N : Type 0} (f : M → N) (path : List ℕ) (root : Tree M) → lacks_list path (remarked f root) ≡ lacks_list path root
-lacks-list-as f path root = ap not (ap is_given (list-at-as f path root) ∙ given-as (map (remarked f)) (list_at path root))
+lacks-list-as : {M N : Type 0} (f : M → N) (path : List ℕ) (root : Tree M) → lacks_list path (map_marks f root) ≡ lacks_list path root
+lacks-list-as f path root = ap not (ap is_given (list-at-as f path root) ∙ given-as (map (map_marks f)) (list_at path root))
 
 element-on-as : {M N : Type 0} (f : M → N) (o : Option (Spot M)) → is_spot is_element (option_map (spot_as f) o) ≡ is_spot is_element o
 element-on-as f None = refl
 element-on-as f (Some at_document) = refl
 element-on-as f (Some (at_spot t)) = element-as f t
 
-lacks-element-as : {M N : Type 0} (f : M → N) (path : List ℕ) (root : Tree M) → lacks_element path (remarked f root) ≡ lacks_element path root
+lacks-element-as : {M N : Type 0} (f : M → N) (path : List ℕ) (root : Tree M) → lacks_element path (map_marks f root) ≡ lacks_element path root
 lacks-element-as f path root = ap not (ap (is_spot is_element) (spot-as f path root) ∙ element-on-as f (spot_at path root))
 
-change-of-as : {M N : Type 0} (f : M → N) (blank : M) (root : Tree M) (edit : Edit) → change_as f (change_of blank root edit) ≡ change_of (f blank) (remarked f root) edit
+change-of-as : {M N : Type 0} (f : M → N) (blank : M) (root : Tree M) (edit : Edit) → change_as f (change_of blank root edit) ≡ change_of (f blank) (map_marks f root) edit
 change-of-as f blank root (Wrap path from to name) = refl
 change-of-as f blank root (Insert path at name) = refl
 change-of-as f blank root (Unwrap path) = refl
@@ -75,21 +75,21 @@ change-of-as f blank root (SetText path text) = refl
 change-of-as f blank root (AddText path at text) = refl
 change-of-as f blank root (DelText path) = refl
 
-deep-as : {M N : Type 0} (f : M → N) (blank : M) (root : Tree M) (edit : Edit) → goes_too_deep (change_of (f blank) (remarked f root) edit) (remarked f root) ≡ goes_too_deep (change_of blank root edit) root
+deep-as : {M N : Type 0} (f : M → N) (blank : M) (root : Tree M) (edit : Edit) → goes_too_deep (change_of (f blank) (map_marks f root) edit) (map_marks f root) ≡ goes_too_deep (change_of blank root edit) root
 deep-as f blank root edit =
     let c = change_of blank root edit in
-    ap (λ d. goes_too_deep d (remarked f root)) (sym (change-of-as f blank root edit)) ∙ ap (nat_lt MAX_DEPTH) (ap depth_of (root-as f c.list c root) ∙ depth-as f (root_after c.list c root))
+    ap (λ d. goes_too_deep d (map_marks f root)) (sym (change-of-as f blank root edit)) ∙ ap (nat_lt MAX_DEPTH) (ap depth_of (root-as f c.list c root) ∙ depth-as f (root_after c.list c root))
 
-mark-as : {M N : Type 0} (f : M → N) (blank : M) (root : Tree M) (edit : Edit) → makes_close_mark (change_of (f blank) (remarked f root) edit) (remarked f root) ≡ makes_close_mark (change_of blank root edit) root
+mark-as : {M N : Type 0} (f : M → N) (blank : M) (root : Tree M) (edit : Edit) → makes_close_mark (change_of (f blank) (map_marks f root) edit) (map_marks f root) ≡ makes_close_mark (change_of blank root edit) root
 mark-as f blank root edit =
     let c = change_of blank root edit in
-    ap (λ d. makes_close_mark d (remarked f root)) (sym (change-of-as f blank root edit))
+    ap (λ d. makes_close_mark d (map_marks f root)) (sym (change-of-as f blank root edit))
     ∙ ap (λ ts. spells_close_mark (forest_of (list_after (change_as f c) ts))) (kids-at-as f c.list root) ∙ ap (λ ts. spells_close_mark (forest_of ts)) (list-as f c (kids_at c.list root)) ∙ spells-as f (list_after c (kids_at c.list root))
 
 unless-as : {a b : Bool} (r : Reason) {x y : Option Reason} → a ≡ b → x ≡ y → unless a r x ≡ unless b r y
 unless-as {b = b} r {x = x} e g = ap (λ t. unless t r x) e ∙ ap (unless b r) g
 
-pub reason-as : {M N : Type 0} (f : M → N) (blank : M) (root : Tree M) (edit : Edit) → reason_of (f blank) (remarked f root) edit ≡ reason_of blank root edit
+pub reason-as : {M N : Type 0} (f : M → N) (blank : M) (root : Tree M) (edit : Edit) → reason_of (f blank) (map_marks f root) edit ≡ reason_of blank root edit
 reason-as f blank root (Wrap path from to name) =
     unless-as NoNode (lacks-node-as f path root) (unless-as NotElement (lacks-list-as f path root) (unless-as Range (ap (λ n. nat_lt to from || nat_lt n to) (kids-number-as f path root))
     (unless-as BadName refl (unless-as RootShape refl (unless-as Deep (deep-as f blank root (Wrap path from to name)) refl)))))
@@ -104,7 +104,7 @@ reason-as f blank root (Split path at) =
     unless-as NoNode (lacks-node-as f path root) (unless-as NotText (text-as f path root) (unless-as Range (ap (λ (us : List (List ℕ)). (at == 0) || nat_le (length us) at) (units-as f path root)) refl))
 reason-as f blank root (Join path) =
     unless-as NoNode (lacks-node-as f path root)
-    (unless-as NotText (ap (λ b. b || lacks_text (next_of path) (remarked f root)) (text-as f path root) ∙ ap (λ b. lacks_text path root || b) (text-as f (next_of path) root)) refl)
+    (unless-as NotText (ap (λ b. b || lacks_text (next_of path) (map_marks f root)) (text-as f path root) ∙ ap (λ b. lacks_text path root || b) (text-as f (next_of path) root)) refl)
 reason-as f blank root (SetText path text) =
     unless-as NoNode (lacks-node-as f path root) (unless-as NotText (text-as f path root) (unless-as BadText refl (unless-as CloseMark (mark-as f blank root (SetText path text)) refl)))
 reason-as f blank root (AddText path at text) =
@@ -120,7 +120,7 @@ short-on-as f (Some (at_spot (text_node units))) = refl
 short-on-as f (Some (at_spot (cdata_node bytes))) = refl
 short-on-as f (Some (at_spot (misc_node bytes))) = refl
 
-short-as : {M N : Type 0} (f : M → N) (path : List ℕ) (root : Tree M) → ends_short (spot_at path (remarked f root)) ≡ ends_short (spot_at path root)
+short-as : {M N : Type 0} (f : M → N) (path : List ℕ) (root : Tree M) → ends_short (spot_at path (map_marks f root)) ≡ ends_short (spot_at path root)
 short-as f path root = ap ends_short (spot-as f path root) ∙ short-on-as f (spot_at path root)
 
 name-on-as : {M N : Type 0} (f : M → N) (o : Option (Spot M)) → name_on (option_map (spot_as f) o) ≡ name_on o
@@ -134,12 +134,12 @@ name-on-as f (Some (at_spot (misc_node bytes))) = refl
 put-as : {M N : Type 0} (f : M → N) (list : List ℕ) (i : ℕ) (o : Option (Spot M)) → put_back list i (option_map (spot_as f) o) ≡ put_back list i o
 put-as f list i None = refl
 put-as f list i (Some at_document) = refl
-put-as f list i (Some (at_spot (element x attrs e kids m))) = ap (λ n. PutBack list i (i + n) x attrs (end_of e)) (ap length (trees-as f kids) ∙ length-map (trees_of kids) (remarked f))
+put-as f list i (Some (at_spot (element x attrs e kids m))) = ap (λ n. PutBack list i (i + n) x attrs (end_of e)) (ap length (trees-as f kids) ∙ length-map (trees_of kids) (map_marks f))
 put-as f list i (Some (at_spot (text_node units))) = refl
 put-as f list i (Some (at_spot (cdata_node bytes))) = refl
 put-as f list i (Some (at_spot (misc_node bytes))) = refl
 
-pub inverse-as : {M N : Type 0} (f : M → N) (root : Tree M) (edit : Edit) → inverse_of (remarked f root) edit ≡ inverse_of root edit
+pub inverse-as : {M N : Type 0} (f : M → N) (root : Tree M) (edit : Edit) → inverse_of (map_marks f root) edit ≡ inverse_of root edit
 inverse-as f root (Wrap path from to name) = ap (TakeOut (path ++ from ∷ [])) (short-as f path root)
 inverse-as f root (Insert path at name) = ap (TakeOut (path ++ at ∷ [])) (short-as f path root)
 inverse-as f root (Unwrap path) = ap (put_back (parent_of path) (place_of path)) (spot-as f path root) ∙ put-as f (parent_of path) (place_of path) (spot_at path root)
@@ -150,10 +150,10 @@ inverse-as f root (SetText path text) = ap (Text path) (units-as f path root)
 inverse-as f root (AddText path at text) = ap (Discard (path ++ at ∷ [])) (short-as f path root)
 inverse-as f root (DelText path) = ap (Restore path) (units-as f path root)
 
-root-edited : {M N : Type 0} (f : M → N) (blank : M) (root : Tree M) (edit : Edit) → root_after (change_of (f blank) (remarked f root) edit).list (change_of (f blank) (remarked f root) edit) (remarked f root) ≡ remarked f (root_after (change_of blank root edit).list (change_of blank root edit) root)
+root-edited : {M N : Type 0} (f : M → N) (blank : M) (root : Tree M) (edit : Edit) → root_after (change_of (f blank) (map_marks f root) edit).list (change_of (f blank) (map_marks f root) edit) (map_marks f root) ≡ map_marks f (root_after (change_of blank root edit).list (change_of blank root edit) root)
 root-edited {N = N} f blank root edit =
     let c = change_of blank root edit in
-    ap (λ (d : Change N). root_after d.list d (remarked f root)) (sym (change-of-as f blank root edit)) ∙ root-as f c.list c root
+    ap (λ (d : Change N). root_after d.list d (map_marks f root)) (sym (change-of-as f blank root edit)) ∙ root-as f c.list c root
 
 -- the inverse of an edit leads back
 pub made-leads : {M : Type 0} (blank : M) (doc made : PlainDoc M) (edit : Edit) → IsKept doc.root → applied blank doc edit ≡ gives made → LeadsBack (inverse_of doc.root edit) made (unmarked_doc doc)
@@ -161,13 +161,13 @@ made-leads {M = M} blank doc made edit k h =
     let f : M → Unit = λ _. tt in
     let reason = given-reason (reason_of blank doc.root edit) _ made h in
     let same = given-doc (reason_of blank doc.root edit) _ made h in
-    let none : reason_of tt (remarked f doc.root) edit ≡ None = reason-as f blank doc.root edit ∙ reason in
-    let edited : doc_after (change_of tt (remarked f doc.root) edit) (unmarked_doc doc) ≡ unmarked_doc made =
+    let none : reason_of tt (map_marks f doc.root) edit ≡ None = reason-as f blank doc.root edit ∙ reason in
+    let edited : doc_after (change_of tt (map_marks f doc.root) edit) (unmarked_doc doc) ≡ unmarked_doc made =
     ap (λ (t : Tree Unit). record (unmarked_doc doc) { root = t }) (root-edited f blank doc.root edit) ∙ ap unmarked_doc same in
     record {
       edit = edit;
       kept = kept-to f doc.root k;
-      is_edited = ap (λ (o : Option Reason). outcome o (doc_after (change_of tt (remarked f doc.root) edit) (unmarked_doc doc))) none ∙ ap gives edited;
+      is_edited = ap (λ (o : Option Reason). outcome o (doc_after (change_of tt (map_marks f doc.root) edit) (unmarked_doc doc))) none ∙ ap gives edited;
       is_inverse = inverse-as f doc.root edit;
     }
 
@@ -179,9 +179,9 @@ outcome-as (Some reason) doc = refl
 pub marks-dont-count : (M : Type 0) → MarksDontCount M
 marks-dont-count M blank doc edit =
     let f : M → Unit = λ _. tt in
-    let edited : doc_after (change_of tt (remarked f doc.root) edit) (unmarked_doc doc) ≡ unmarked_doc (doc_after (change_of blank doc.root edit) doc) =
+    let edited : doc_after (change_of tt (map_marks f doc.root) edit) (unmarked_doc doc) ≡ unmarked_doc (doc_after (change_of blank doc.root edit) doc) =
     ap (λ (t : Tree Unit). record (unmarked_doc doc) { root = t }) (root-edited f blank doc.root edit) in (
-      ap (λ (o : Option Reason). outcome o (doc_after (change_of tt (remarked f doc.root) edit) (unmarked_doc doc))) (reason-as f blank doc.root edit)
+      ap (λ (o : Option Reason). outcome o (doc_after (change_of tt (map_marks f doc.root) edit) (unmarked_doc doc))) (reason-as f blank doc.root edit)
           ∙ ap (outcome (reason_of blank doc.root edit)) edited ∙ outcome-as (reason_of blank doc.root edit) (doc_after (change_of blank doc.root edit) doc),
       inverse-as f doc.root edit,
     )

@@ -1,6 +1,6 @@
 -- An inverse can be made where it leads back, and makes the document that it leads to.
 use Rattle.std.proofs.Common.{true, false, ◌≡◌, ◌∙◌, ap, sym, ℕ, ◌<◌, List, length, subst}
-use Rattle.pv_tree.specs.Plain.{Tree, PlainDoc, remarked, unmarked}
+use Rattle.pv_tree.specs.Plain.{Tree, PlainDoc, map_marks, without_marks}
 use Rattle.pv_tree.specs.Marks.{unmarked_doc}
 use Rattle.pv_edit.specs.Changes.{Change, doc_after, root_after}
 use Rattle.pv_edit.specs.Effects.{change_of, next_of}
@@ -19,11 +19,11 @@ use Rattle.pv_edit.proofs.Whole.{can-change}
 -- The inverse can be made on this root, and leads to that one.
 pub record Backs {M : Type 0} (blank : M) (root : Tree M) (inverse : Inverse) (before : Tree Unit) : Type 0 where
   pub can : CanChange (change_back blank root inverse).list (change_back blank root inverse) root
-  pub same : remarked (λ _. tt) (root_after (change_back blank root inverse).list (change_back blank root inverse) root) ≡ before
+  pub same : map_marks (λ _. tt) (root_after (change_back blank root inverse).list (change_back blank root inverse) root) ≡ before
   pub ready : IsReady root inverse
   pub unshort : is_top (change_back blank root inverse).list ≡ true → (change_back blank root inverse).shorten ≡ false
 
-ready-as : {M N : Type 0} (f : M → N) (root : Tree M) (inverse : Inverse) → IsReady (remarked f root) inverse → IsReady root inverse
+ready-as : {M N : Type 0} (f : M → N) (root : Tree M) (inverse : Inverse) → IsReady (map_marks f root) inverse → IsReady root inverse
 ready-as f root (TakeOut path shorten) h = tt
 ready-as f root (PutBack path from to name attrs e) h = tt
 ready-as f root (Name path name) h = tt
@@ -35,16 +35,16 @@ ready-as f root (Restore path units) h = tt
 
 -- whatever the marks are
 marked-backs : {M : Type 0} (blank : M) (root : Tree M) (inverse : Inverse) (before : Tree Unit)
-    → CanChange (change_back tt (unmarked root) inverse).list (change_back tt (unmarked root) inverse) (unmarked root)
-    → root_after (change_back tt (unmarked root) inverse).list (change_back tt (unmarked root) inverse) (unmarked root) ≡ before → IsReady (unmarked root) inverse
-    → (is_top (change_back tt (unmarked root) inverse).list ≡ true → (change_back tt (unmarked root) inverse).shorten ≡ false) → Backs blank root inverse before
+    → CanChange (change_back tt (without_marks root) inverse).list (change_back tt (without_marks root) inverse) (without_marks root)
+    → root_after (change_back tt (without_marks root) inverse).list (change_back tt (without_marks root) inverse) (without_marks root) ≡ before → IsReady (without_marks root) inverse
+    → (is_top (change_back tt (without_marks root) inverse).list ≡ true → (change_back tt (without_marks root) inverse).shorten ≡ false) → Backs blank root inverse before
 marked-backs {M = M} blank root inverse before can back ready unshort =
     let f : M → Unit = λ _. tt in
     let d = change_back blank root inverse in
     let e = back-as f blank root inverse in
     record {
-      can = can-as f d.list d root (subst (λ (c : Change Unit). CanChange c.list c (unmarked root)) (sym e) can);
-      same = sym (root-as f d.list d root) ∙ ap (λ (c : Change Unit). root_after c.list c (unmarked root)) e ∙ back;
+      can = can-as f d.list d root (subst (λ (c : Change Unit). CanChange c.list c (without_marks root)) (sym e) can);
+      same = sym (root-as f d.list d root) ∙ ap (λ (c : Change Unit). root_after c.list c (without_marks root)) e ∙ back;
       ready = ready-as f root inverse ready;
       unshort = subst (λ (c : Change Unit). is_top c.list ≡ true → c.shorten ≡ false) (sym e) unshort;
     }
@@ -60,7 +60,7 @@ doc-edited inverse doc before l = given-doc (reason_of tt before.root l.edit) _ 
 pub backs : {M : Type 0} (blank : M) (inverse : Inverse) (doc : PlainDoc M) (before : PlainDoc Unit) → LeadsBack inverse doc before → Backs blank doc.root inverse before.root
 backs blank inverse doc before l =
     let r = edited-returns inverse doc before l in
-    let e : edited before.root l.edit ≡ unmarked doc.root = ap (λ (d : PlainDoc Unit). d.root) (doc-edited inverse doc before l) in
+    let e : edited before.root l.edit ≡ without_marks doc.root = ap (λ (d : PlainDoc Unit). d.root) (doc-edited inverse doc before l) in
     let d = change_back tt (edited before.root l.edit) inverse in
     marked-backs blank doc.root inverse before.root
     (subst (λ (t : Tree Unit). CanChange (change_back tt t inverse).list (change_back tt t inverse) t) e (subst (λ (p : List ℕ). CanChange p d (edited before.root l.edit)) (sym r.same) (can-change r.path d (edited before.root l.edit) r.ts r.made)))

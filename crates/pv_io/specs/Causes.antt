@@ -7,16 +7,16 @@ abbrev pub one_more : ℕ → ℕ
 one_more count = min (count + 1) (2 ^ 64 - 1)
 
 -- a count stays
-abbrev pub Stays : ℕ → ℕ → Type 0
-Stays before now = now ≡ before
+abbrev pub CountStays : ℕ → ℕ → Type 0
+CountStays before now = now ≡ before
 
 -- a count rose, or stands at its last value
 abbrev pub Rose : ℕ → ℕ → Type 0
 Rose before now = (before ≤ now) × (one_more before ≤ now)
 
 -- a call that answers an error counted a fault, and every other call counted none
-abbrev pub HasCause : {T E : Type 0} → ℕ → ℕ → Result T E → Type 0
-HasCause before now result = MatchResult result (λ _. Stays before now) (λ _. Rose before now)
+abbrev pub CountsFault : {T E : Type 0} → ℕ → ℕ → Result T E → Type 0
+CountsFault before now result = MatchResult result (λ _. CountStays before now) (λ _. Rose before now)
 
 -- at most the piece was taken, and some of it unless it is empty
 pub record TakesSome (count : ℕ) (piece : List ℕ) : Type 0 where

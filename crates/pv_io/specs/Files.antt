@@ -2,7 +2,7 @@
 use Rattle.std.specs.Prelude.{◌≡◌, ℕ, ◌<◌, ◌≤◌, List, [], ◌∷◌, length, if◌then◌else◌, Bool, true, false, Result, Ok, Err, Option, Some, None, Vec, String, string_bytes, map, take, drop, ◌++◌}
 use Rattle.std.specs.Str.{bytes_eq}
 use Rattle.std.specs.declared.alloc.Global.{Global}
-use Rattle.pv_io.specs.Causes.{Stays, Rose}
+use Rattle.pv_io.specs.Causes.{CountStays, Rose}
 use Rattle.pv_io.specs.declared.shelf.FetchError.{FetchError}
 use Rattle.pv_io.specs.declared.shelf.FetchError.TheVariants.{Failed, TooLong, NoMemory}
 
@@ -33,11 +33,11 @@ FetchTells None name most result = Unit {0}
 FetchTells (Some files) name most result = FetchGives (file_named name files) most result
 
 -- a fetch that answers `Failed` counted a fault, and every other fetch counted none
-abbrev pub FetchHasCause : ℕ → ℕ → Result (Vec ℕ Global) FetchError → Type 0
-FetchHasCause before now (Ok v) = Stays before now
-FetchHasCause before now (Err Failed) = Rose before now
-FetchHasCause before now (Err TooLong) = Stays before now
-FetchHasCause before now (Err NoMemory) = Stays before now
+abbrev pub FetchCountsFault : ℕ → ℕ → Result (Vec ℕ Global) FetchError → Type 0
+FetchCountsFault before now (Ok v) = CountStays before now
+FetchCountsFault before now (Err Failed) = Rose before now
+FetchCountsFault before now (Err TooLong) = CountStays before now
+FetchCountsFault before now (Err NoMemory) = CountStays before now
 
 -- whether a fetch was a fault of the shelf
 abbrev pub is_fault : Result (Vec ℕ Global) FetchError → Bool
@@ -51,11 +51,11 @@ abbrev pub byte_lists : List (String Global) → List (List ℕ)
 byte_lists texts = map (λ w. string_bytes w) texts
 
 -- a file with its name
-abbrev pub named : String Global × Vec ℕ Global → List ℕ × List ℕ
-named file = (string_bytes file.0, file.1.items)
+abbrev pub file_with_name : String Global × Vec ℕ Global → List ℕ × List ℕ
+file_with_name file = (string_bytes file.0, file.1.items)
 
 abbrev pub named_files : List (String Global × Vec ℕ Global) → List (List ℕ × List ℕ)
-named_files files = map named files
+named_files files = map file_with_name files
 
 -- the words of a command line that name files: all but the first and the third
 abbrev pub fetch_names : List (String Global) → List (List ℕ)

@@ -3,8 +3,8 @@
 ghost use Rattle.std.specs.Prelude.{◌≡◌, ◌≤◌, if◌then◌else◌, is_err, vec_len, IfOk};
 ghost use Rattle.std.specs.Io.{ReadsAtMost};
 ghost use Rattle.std.specs.Io.KnownBytes.{ReadConsumes, WriteAppends};
-ghost use Rattle.pv_io.specs.Causes.{HasCause, TakesSome, one_more};
-ghost use Rattle.pv_io.specs.Files.{fetch_names, FetchHasCause, is_fault};
+ghost use Rattle.pv_io.specs.Causes.{CountsFault, TakesSome, one_more};
+ghost use Rattle.pv_io.specs.Files.{fetch_names, FetchCountsFault, is_fault};
 
 use crate::shelf::{FetchError, Shelf};
 use crate::sink::Sink;
@@ -41,7 +41,7 @@ impl<R: Read> Source for ReadSource<R> {
     fn fill(&mut self, buf: &mut [u8]) -> Result<usize, Failed>
         ensures bound { ReadsAtMost result buf.new }
         ensures bytes { ReadConsumes (R.remaining self.old.reader) (R.remaining self.new.reader) result buf.new }
-        ensures cause { HasCause self.old.faults self.new.faults result }
+        ensures cause { CountsFault self.old.faults self.new.faults result }
 
         ensures counted { self.new.faults ≡ (if is_err result then one_more self.old.faults else self.old.faults) }
     {
@@ -80,7 +80,7 @@ impl<W: Write> Sink for WriteSink<W> {
     fn put(&mut self, piece: &[u8]) -> Result<usize, Failed>
         ensures bound { IfOk result (λ n. TakesSome n piece.now) }
         ensures bytes { WriteAppends (W.contents self.old.writer) (W.contents self.new.writer) result piece.now }
-        ensures cause { HasCause self.old.faults self.new.faults result }
+        ensures cause { CountsFault self.old.faults self.new.faults result }
 
         ensures counted { self.new.faults ≡ (if is_err result then one_more self.old.faults else self.old.faults) }
     {
@@ -149,7 +149,7 @@ impl<'a, R: Files> Shelf for FolderShelf<'a, R> {
 
     fn fetch(&mut self, alloc: Global, name: &str, most: usize) -> Result<Vec<u8>, FetchError>
         ensures bound { IfOk result (λ v. vec_len v ≤ most) }
-        ensures cause { FetchHasCause self.old.faults self.new.faults result }
+        ensures cause { FetchCountsFault self.old.faults self.new.faults result }
         ensures names { self.new.names ≡ self.old.names }
 
         ensures counted { self.new.faults ≡ (if is_fault result then one_more self.old.faults else self.old.faults) }

@@ -1,7 +1,7 @@
 //! Files by their names.
 
 ghost use Rattle.std.specs.Prelude.{◌≡◌, ◌≤◌, List, ℕ, Option, IfOk, Contains, vec_len};
-ghost use Rattle.pv_io.specs.Files.{FetchTells, FetchHasCause};
+ghost use Rattle.pv_io.specs.Files.{FetchTells, FetchCountsFault};
 
 use std::alloc::Global;
 use thiserror::Error;
@@ -36,7 +36,7 @@ pub trait Shelf {
         requires { Contains (names self.old) name.now }
         ensures bound { IfOk result (λ v. vec_len v ≤ most) }
         ensures bytes { FetchTells (files self.old) name.now most result }
-        ensures cause { FetchHasCause (faults self.old) (faults self.new) result }
+        ensures cause { FetchCountsFault (faults self.old) (faults self.new) result }
         ensures names { names self.new ≡ names self.old }
         ensures files { files self.new ≡ files self.old };
 }

@@ -2,7 +2,7 @@
 
 ghost use Rattle.std.specs.Prelude.{◌≡◌, ◌≤◌, ◌<◌, List, ℕ, length, Option, IfOk, OnOk, OnErr, Some};
 ghost use Rattle.std.specs.Io.KnownBytes.{WriteAppends, Appends};
-ghost use Rattle.pv_io.specs.Causes.{HasCause, TakesSome, AppendsFront};
+ghost use Rattle.pv_io.specs.Causes.{CountsFault, TakesSome, AppendsFront};
 
 use crate::source::Failed;
 
@@ -19,14 +19,14 @@ pub trait Sink {
     fn put(&mut self, piece: &[u8]) -> Result<usize, Failed>
         ensures bound { IfOk result (λ n. TakesSome n piece.now) }
         ensures bytes { WriteAppends (written self.old) (written self.new) result piece.now }
-        ensures cause { HasCause (faults self.old) (faults self.new) result };
+        ensures cause { CountsFault (faults self.old) (faults self.new) result };
 }
 
 /// Writes all of the bytes, or a front of them.
 pub fn write_all<K: Sink>(sink: &mut K, bytes: &[u8]) -> Result<(), Failed>
     ensures ok { OnOk result (Appends (K.written sink.old) (K.written sink.new) bytes.now) }
     ensures err { OnErr result (AppendsFront (K.written sink.old) (K.written sink.new) bytes.now) }
-    ensures cause { HasCause (K.faults sink.old) (K.faults sink.new) result }
+    ensures cause { CountsFault (K.faults sink.old) (K.faults sink.new) result }
 {
     let mut at = 0;
     while at < bytes.len() {

@@ -23,12 +23,12 @@ AdvancesFrom-nothing e y before called old was is w i = record { from = λ a b m
 pub AdvancesFrom-blank : (e : Bool) (y : ℕ) (before called old : List ℕ) (was is : Bool) → was ≡ false → is ≡ false → AdvancesFrom blank e y before called old old was is
 AdvancesFrom-blank e y before called old was is w i = record { from = λ a b m n q p. rw (w, i) (Advances-nothing blank e y m old refl (λ t. refl)) }
 
-pub AdvancesFrom-one : (place x : ℕ) (e : Bool) (y : ℕ) (before called old new : List ℕ) (was is : Bool) → was ≡ has_some before → is ≡ (e && x == y) →
-    new ≡ old ++ (if is then place ∷ [] else []) → AdvancesFrom (one place x) e y before called old new was is
-AdvancesFrom-one place x e y before called old new was is w i next = record {
+pub AdvancesFrom-one : (place x : ℕ) (e : Bool) (y : ℕ) (before called old new : List ℕ) (ends was is : Bool) → was ≡ has_some before → is ≡ ends →
+    ends ≡ (e && x == y) → new ≡ old ++ (if ends then place ∷ [] else []) → AdvancesFrom (one place x) e y before called old new was is
+AdvancesFrom-one place x e y before called old new ends was is w same i next = record {
   from = λ a b m n q p. record {
     before = w ∙ ap has_some q ∙ has_some-place m place;
-    now = i;
+    now = same ∙ i;
     next = next ∙ ap (λ t. old ++ (if t then place ∷ [] else [])) i;
   };
 }
@@ -74,10 +74,10 @@ AdvancesFrom-optional g e y before called old new was is h = record {
       record { before = one.before; now = one.now; next = one.next };
 }
 
-pub AdvancesFrom-repeated : (place : ℕ) (g : PlainLayout) (e : Bool) (y : ℕ) (before called inner own old mid new : List ℕ) (w1 i1 was is e2 : Bool) → IsSplit place before inner own →
-    was ≡ has_some own → e2 ≡ (e || was) → AdvancesFrom g e2 y inner called old mid w1 i1 → new ≡ mid ++ (if i1 then place ∷ [] else []) → is ≡ i1 →
-    AdvancesFrom (repeated place g) e y before called old new was is
-AdvancesFrom-repeated place g e y before called inner own old mid new w1 i1 was is e2 split some enters round next ended = record {
+pub AdvancesFrom-repeated : (place : ℕ) (g : PlainLayout) (e : Bool) (y : ℕ) (before called inner own old mid new : List ℕ) (w1 i1 w was is e2 : Bool) → IsSplit place before inner own →
+    w ≡ was → was ≡ has_some own → e2 ≡ (e || was) → AdvancesFrom g e2 y inner called old mid w1 i1 → new ≡ mid ++ (if i1 then place ∷ [] else []) → is ≡ i1 →
+    AdvancesFrom (repeated place g) e y before called old new w is
+AdvancesFrom-repeated place g e y before called inner own old mid new w1 i1 w was is e2 split same some enters round next ended = record {
   from = λ a b m n q p.
       let r = split (reached g m) (if ends g m then place ∷ [] else []) q (reached-before g a place n.0 m) (AreFrom-place (ends g m) place place (omega arith)) in
       let was2 : was ≡ ends g m = some ∙ ap has_some r.1 ∙ has_some-place (ends g m) place in
@@ -85,7 +85,7 @@ AdvancesFrom-repeated place g e y before called inner own old mid new w1 i1 was 
       let P : Bool → Type 0 = λ t. Advances g t y m old mid w1 i1 in
       let one = subst P enters2 (round.from a place m n.0 r.0 p) in
       record {
-        before = was2;
+        before = same ∙ was2;
         now = ended ∙ one.now;
         next = next ∙ rw (one.now, one.next, append_assoc);
       };

@@ -3,10 +3,10 @@ use Rattle.std.proofs.Common.{◌≡◌, ℕ, suc, ◌+◌, ◌≤◌, get_or, s
 use Rattle.std.proofs.lemmas.List.{drop-drop}
 use Rattle.std.proofs.Math.Bool.{or-false, or_assoc}
 use Rattle.pv_model.specs.Plain.{PlainPart, PlainParts, part, plus}
-use Rattle.pv_model.specs.Positions.{position_count, position_count_all, all_may_be_empty, some_may_be_empty, is_end_in_order, is_end_of_some, is_end_after_in_order, is_end_after_of_some, positions_after, positions_after_in_order, positions_after_in_each, any_reached, written}
+use Rattle.pv_model.specs.Positions.{position_count, position_count_all, all_may_be_empty, some_may_be_empty, is_end_in_order, is_end_of_some, is_end_after_in_order, is_end_after_of_some, positions_after, positions_after_in_order, positions_after_in_each, any_reached, overwrite}
 use Rattle.pv_model.specs.Moves.{Moves}
 use Rattle.pv_model.specs.declared.positions.Moved.{Moved}
-use Rattle.pv_model.proofs.Written.{length-positions_after, drop-written, written-written, written_first}
+use Rattle.pv_model.proofs.Written.{length-positions_after, drop-overwrite, overwrite-overwrite, overwrite_first}
 
 or-swap : (a b c : Bool) → (a || (b || c)) ≡ ((a || c) || b)
 or-swap true b c = refl
@@ -29,7 +29,7 @@ pub record InOrder (whole : PlainParts) (entered : Bool) (y at : ℕ) (old : Lis
   pub is_end : is_end_after_in_order so_far.is_end rest entering y (drop so_far.next now) ≡ is_end_after_in_order false whole entered y (drop at old)
   pub is_reached : (any_reached (positions_after_in_order rest entering y (drop so_far.next now)) || so_far.is_reached) ≡ any_reached (positions_after_in_order whole entered y (drop at old))
   pub may_be_empty : all_may_be_empty so_far.may_be_empty rest ≡ all_may_be_empty true whole
-  pub positions : written so_far.next (positions_after_in_order rest entering y (drop so_far.next now)) now ≡ written at (positions_after_in_order whole entered y (drop at old)) old
+  pub positions : overwrite so_far.next (positions_after_in_order rest entering y (drop so_far.next now)) now ≡ overwrite at (positions_after_in_order whole entered y (drop at old)) old
 
 -- of a choice
 pub record InEach (whole : PlainParts) (entered : Bool) (y at : ℕ) (old : List Bool) (rest : PlainParts) (so_far : Moved) (now : List Bool) : Type 0 where
@@ -39,19 +39,19 @@ pub record InEach (whole : PlainParts) (entered : Bool) (y at : ℕ) (old : List
   pub is_end : is_end_after_of_some so_far.is_end rest entered y (drop so_far.next now) ≡ is_end_after_of_some false whole entered y (drop at old)
   pub is_reached : (any_reached (positions_after_in_each rest entered y (drop so_far.next now)) || so_far.is_reached) ≡ any_reached (positions_after_in_each whole entered y (drop at old))
   pub may_be_empty : some_may_be_empty so_far.may_be_empty rest ≡ some_may_be_empty false whole
-  pub positions : written so_far.next (positions_after_in_each rest entered y (drop so_far.next now)) now ≡ written at (positions_after_in_each whole entered y (drop at old)) old
+  pub positions : overwrite so_far.next (positions_after_in_each rest entered y (drop so_far.next now)) now ≡ overwrite at (positions_after_in_each whole entered y (drop at old)) old
 
 module _ (p : PlainPart) (entered : Bool) (y at : ℕ) (now after : List Bool) (one : Moved) (room : at + position_count p ≤ length now) (m : Moves p entered y at now after one) where
   -- the positions behind stay
   behind : drop one.next after ≡ drop (position_count p) (drop at now)
   behind =
       ap (λ k. drop k after) m.next
-      ∙ drop-written at (position_count p) (positions_after p entered y (drop at now)) now after (length-positions_after p entered y (drop at now)) room m.positions
+      ∙ drop-overwrite at (position_count p) (positions_after p entered y (drop at now)) now after (length-positions_after p entered y (drop at now)) room m.positions
 
-  joined : (more : List Bool) → written one.next more after ≡ written at (positions_after p entered y (drop at now) ++ more) now
+  joined : (more : List Bool) → overwrite one.next more after ≡ overwrite at (positions_after p entered y (drop at now) ++ more) now
   joined more =
-      ap (λ k. written k more after) m.next
-      ∙ written-written at (position_count p) (positions_after p entered y (drop at now)) now after (length-positions_after p entered y (drop at now)) room m.positions more
+      ap (λ k. overwrite k more after) m.next
+      ∙ overwrite-overwrite at (position_count p) (positions_after p entered y (drop at now)) now after (length-positions_after p entered y (drop at now)) room m.positions more
 
 -- one more member
 pub InOrder-more : (whole : PlainParts) (entered : Bool) (y at : ℕ) (old : List Bool) (p : PlainPart) (ps : PlainParts) (entering : Bool) (so_far : Moved) (now : List Bool) →
@@ -98,7 +98,7 @@ Moves-rounds p entered y at old inner round found entering room e m next was is 
     let tail : drop (at + 1) old ≡ drop 1 (drop at old) = sym (drop-drop 1 at old) in
     let new = positions_after p entering y (drop (at + 1) old) in
     let long : length new ≡ position_count p = length-positions_after p entering y (drop (at + 1) old) in
-    let first = written_first at round.is_end new old inner (omega arith) m.positions in
+    let first = overwrite_first at round.is_end new old inner (omega arith) m.positions in
     let ended = m.is_end in
     let marked2 = m.is_reached in
     record {

@@ -8,7 +8,7 @@ use Rattle.pv_model.specs.declared.models.Token.TheVariants as token
 use Rattle.pv_model.proofs.Answer.{read-means}
 use Rattle.std.proofs.lemmas.List.{append-nil, drop_all}
 use Rattle.pv_model.specs.Plain.{PlainPart, name, seq, choice, opt, star, plus, PlainParts, no_parts, part, PlainToken, named}
-use Rattle.pv_model.specs.Positions.{position_count, position_count_all, may_be_empty, unreached_positions, unreached_positions_all, is_end_after, positions_after, any_reached, written, reads}
+use Rattle.pv_model.specs.Positions.{position_count, position_count_all, may_be_empty, unreached_positions, unreached_positions_all, is_end_after, positions_after, any_reached, overwrite, reads}
 use Rattle.pv_model.proofs.Written.{length-positions_after}
 
 pub record IsReading (p : PlainPart) (word : List PlainToken) (entered ended : Bool) (positions : List Bool) (rest : List PlainToken) : Type 0 where
@@ -35,17 +35,17 @@ IsReading-none p word ended positions e m = record {
   answer = rw (e, m);
 }
 
--- all positions are written
-written_whole : (new old : List Bool) → length new ≡ length old → written 0 new old ≡ new
-written_whole new old e =
+-- all positions are overwritten
+overwrite_whole : (new old : List Bool) → length new ≡ length old → overwrite 0 new old ≡ new
+overwrite_whole new old e =
     ap (λ l. new ++ l) (drop_all (0 + length new) old (omega arith)) ∙ append-nil new
 
 -- a name after which some position is reached
 pub IsReading-more : (p : PlainPart) (word : List PlainToken) (entered ended : Bool) (positions : List Bool) (y : ℕ) (rest : List PlainToken) →
     IsReading p word entered ended positions (named y ∷ rest) → any_reached (positions_after p entered y positions) ≡ true → (ended2 : Bool) (new : List Bool) →
-    ended2 ≡ is_end_after p entered y positions → new ≡ written 0 (positions_after p entered y positions) positions → IsReading p word false ended2 new rest
+    ended2 ≡ is_end_after p entered y positions → new ≡ overwrite 0 (positions_after p entered y positions) positions → IsReading p word false ended2 new rest
 IsReading-more p word entered ended positions y rest r some ended2 new e w =
-    let whole : new ≡ positions_after p entered y positions = w ∙ written_whole (positions_after p entered y positions) positions (length-positions_after p entered y positions ∙ sym r.count) in
+    let whole : new ≡ positions_after p entered y positions = w ∙ overwrite_whole (positions_after p entered y positions) positions (length-positions_after p entered y positions ∙ sym r.count) in
     record {
       count = ap length whole ∙ length-positions_after p entered y positions;
       answer = rw (e, whole) (rw some at r.answer);

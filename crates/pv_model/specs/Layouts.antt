@@ -101,7 +101,8 @@ pub record Advances (g : PlainLayout) (entered : Bool) (y : ℕ) (m : Reach g) (
 
 -- the same, by the places that are reached and those that have the name
 pub record AdvancesFrom (g : PlainLayout) (entered : Bool) (y : ℕ) (places called old new : List ℕ) (was_end is_end : Bool) : Type 0 where
-  pub from : (a b : ℕ) (m : Reach g) → IsNumbered g a b → places ≡ reached g m → called ≡ places_of g y → Advances g entered y m old new was_end is_end
+  pub from : (a b : ℕ) (m : Reach g) → IsNumbered g a b → places ≡ reached g m →
+      called ≡ places_of g y → Advances g entered y m old new was_end is_end
 
 -- two parts of a list of places, of which the first stand before the middle
 abbrev pub AreBefore : ℕ → List ℕ → Type 0
@@ -114,4 +115,5 @@ AreFrom middle (k ∷ ks) = (middle ≤ k) × AreFrom middle ks
 
 abbrev pub IsSplit : ℕ → List ℕ → List ℕ → List ℕ → Type 0
 IsSplit middle all front back =
-    (xs ys : List ℕ) → all ≡ xs ++ ys → AreBefore middle xs → AreFrom middle ys → (front ≡ xs) × (back ≡ ys)
+    (xs ys : List ℕ) → all ≡ xs ++ ys → AreBefore middle xs → AreFrom middle ys →
+    (front ≡ xs) × (back ≡ ys)

@@ -119,8 +119,8 @@ any_reached [] = false
 any_reached (b ∷ ms) = any_reached ms || b
 
 -- the old list with these in it from a place on
-abbrev pub written : ℕ → List Bool → List Bool → List Bool
-written at new old = take at old ++ new ++ drop (at + length new) old
+abbrev pub overwrite : ℕ → List Bool → List Bool → List Bool
+overwrite at new old = take at old ++ new ++ drop (at + length new) old
 
 -- the particle has a word that begins with the names read so far, which gave these positions and are a word themselves or not,
 -- and goes on with these tokens; it is entered before the first name

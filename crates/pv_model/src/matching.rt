@@ -18,10 +18,11 @@ use std::alloc::Global;
 /// a content particle any other word takes a byte for each name and each repetition, and a word of 64 tokens or more, in a
 /// particle with 64 of these or more, takes memory for the particle laid out in pairs and for the places of its names.
 ///
-/// The time grows with the word and the model together, and not with their product. A word of a particle that is laid out
-/// takes, for each token, the steps from the top of the pairs to the places that the names so far can end with and to those
-/// where the token's name may follow: in a deterministic particle one place, and as many levels as the logarithm of its size
-/// and its depth ask. Matching ends at the first token that no allowed word has there.
+/// In a deterministic particle the time grows with the word and the model together, and not with their product. A word of a
+/// particle that is laid out takes, for each token, the steps from the top of the pairs to the places that the names so far
+/// can end with and to those where the token's name may follow: in a deterministic particle one place, and as many levels as
+/// the logarithm of its size and its depth ask; in another perhaps all places. Matching ends at the first token that no
+/// allowed word has there.
 pub fn matches(
     alloc: Global,
     model: &ContentModel,

@@ -81,11 +81,8 @@ pub fn advance(
         Layout::Blank => Ok(Ends::none()),
         Layout::Name { place, name: own } => {
             let is_end = entered && *own == name;
-            push_if(next, is_end, *place)?;
-            Ok(Ends {
-                was_end: !reached.is_empty(),
-                is_end,
-            })
+            let ends = end_at(*place, !reached.is_empty(), is_end, next)?;
+            Ok(ends)
         }
         Layout::InOrder {
             middle,
@@ -120,23 +117,27 @@ pub fn advance(
             let (inner, own) = split(reached, *place);
             let was_end = !own.is_empty();
             let round = advance(member, entered || was_end, name, inner, called, next)?;
-            push_if(next, round.is_end, *place)?;
-            Ok(Ends {
-                was_end,
-                is_end: round.is_end,
-            })
+            let ends = end_at(*place, was_end, round.is_end, next)?;
+            Ok(ends)
         }
     }
 }
 
-fn push_if(places: &mut Vec<usize>, is_reached: bool, place: usize) -> Result<(), NoMemory>
-    ensures { OnOk result (places.new.items ≡
-        places.old.items ++ (if is_reached then place ∷ [] else [])) }
+/// The ends of a name or a repetition, whose place is appended if it is reached.
+fn end_at(
+    place: usize,
+    was_end: bool,
+    is_end: bool,
+    next: &mut Vec<usize>,
+) -> Result<Ends, NoMemory>
+    ensures ends { IfOk result (λ e. (e.was_end ≡ was_end) × (e.is_end ≡ is_end)) }
+    ensures next { OnOk result (next.new.items ≡
+        next.old.items ++ (if is_end then place ∷ [] else [])) }
 {
-    if is_reached {
-        places.push(place)?;
+    if is_end {
+        next.push(place)?;
     }
-    Ok(())
+    Ok(Ends { was_end, is_end })
 }
 
 /// The places before the middle, and those from it on, of places in order.

@@ -18,8 +18,10 @@ pub record IsLeastOverNothing (g : PlainDtd) (y n : ℕ) : Type 0 where
 
 -- a name is productive exactly where its content has a derivation over no tokens
 abbrev pub ProductiveDerives : Type 0
-ProductiveDerives = (g : PlainDtd) (y : ℕ) → IsProperDtd g → IsProductive g y ↔ ((n : ℕ) × DerivesNothing g y n)
+ProductiveDerives = (g : PlainDtd) (y : ℕ) → IsProperDtd g →
+    IsProductive g y ↔ ((n : ℕ) × DerivesNothing g y n)
 
 -- the least size of a name is one more than the least weight of its content over no tokens
 abbrev pub SizeIsWeight : Type 0
-SizeIsWeight = (g : PlainDtd) (y n : ℕ) → IsProperDtd g → IsLeastSize g y (suc n) ↔ IsLeastOverNothing g y n
+SizeIsWeight = (g : PlainDtd) (y n : ℕ) → IsProperDtd g →
+    IsLeastSize g y (suc n) ↔ IsLeastOverNothing g y n

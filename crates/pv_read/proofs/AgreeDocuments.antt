@@ -7,7 +7,7 @@ use Rattle.pv_chars.proofs.SpaceLemmas.{space_is_ascii}
 use Rattle.pv_chars.specs.Texts.{joined}
 use Rattle.pv_chars.specs.Declarations.{IsOptional, IsXmlDecl}
 use Rattle.pv_dtd.specs.Meaning.{BYTE_ORDER_MARK}
-use Rattle.pv_tree.specs.Plain.{short, tagged, Tree, element, text_node, cdata_node, misc_node, PlainDoc, depth_of, depth_of_all, remarked, remarked_all}
+use Rattle.pv_tree.specs.Plain.{short, tagged, Tree, element, text_node, cdata_node, misc_node, PlainDoc, depth_of, depth_of_all, map_marks, map_marks_all}
 use Rattle.pv_tree.specs.Attributes.{AreMadeOf}
 use Rattle.pv_tree.specs.Prolog.{IsMisc, IsDoctype}
 use Rattle.pv_tree.specs.Legal.{MAX_DEPTH}
@@ -15,24 +15,24 @@ use Rattle.pv_read.specs.DocumentLaws.{with_marks}
 use Rattle.pv_read.specs.Grammar.{SpellsDocument, SpellsNode, IsElement, IsDocumentText}
 use Rattle.pv_read.specs.Items.{end_tag, bytes_of, IsRunEnd}
 use Rattle.pv_read.proofs.AgreeForms.{node_ends_run}
-use Rattle.pv_read.specs.Left.{Left, at_front, Stage, in_prolog, in_epilog, opened, empty_element}
+use Rattle.pv_read.specs.Left.{Left, at_front, PlainStage, in_prolog, in_epilog, just_opened, empty_element}
 use Rattle.pv_read.specs.Meaning.{is_document, ends, StartsWith, marked, unmarked, DocumentMeans, items}
 use Rattle.pv_read.proofs.AgreeNodes.{HoldsBefore, within_of, empty_means, tagged_means, content_means}
 use Rattle.pv_read.proofs.AgreeMeans.{ItemsAreOne, MeansAt, means_before}
 use Rattle.pv_read.proofs.AgreeProlog.{prolog_means, epilog_means}
 
 -- the root behind the prolog
-root_means : {M : Type 0} (m : M) (root before rest : List ℕ) (limit : ℕ) (P : Left M → List ℕ → Type 0) (stage : Stage) → HoldsBefore m root limit P → (t : Tree M) (bytes : List ℕ) → IsElement t → SpellsNode t bytes → depth_of t ≤ limit
-    → P (in_epilog before (remarked (λ _. m) t) []) rest → P (in_prolog stage before) (bytes ++ rest)
+root_means : {M : Type 0} (m : M) (root before rest : List ℕ) (limit : ℕ) (P : Left M → List ℕ → Type 0) (stage : PlainStage) → HoldsBefore m root limit P → (t : Tree M) (bytes : List ℕ) → IsElement t → SpellsNode t bytes → depth_of t ≤ limit
+    → P (in_epilog before (map_marks (λ _. m) t) []) rest → P (in_prolog stage before) (bytes ++ rest)
 root_means m root before rest limit P stage steps (element x attrs short kids mark) bytes is (name, are, none, whole) within behind =
-    let same : remarked (λ _. m) (element x attrs short kids mark) ≡ empty_element m x attrs = rw none refl in
+    let same : map_marks (λ _. m) (element x attrs short kids mark) ≡ empty_element m x attrs = rw none refl in
     subst (λ b. P (in_prolog stage before) (b ++ rest)) (sym whole)
     (empty_means m root (in_prolog stage before) (in_epilog before (empty_element m x attrs) []) x attrs rest limit P steps name are refl (within_of limit (depth_of_all kids) 0 (omega arith))
     (subst (λ t. P (in_epilog before t []) rest) same behind))
 root_means m root before rest limit P stage steps (element x attrs (tagged gap) kids mark) bytes is (content, name, are, white, spells, whole) within behind =
     subst (λ b. P (in_prolog stage before) (b ++ rest)) (sym whole)
-    (tagged_means m root (in_prolog stage before) before x attrs gap content rest (remarked_all (λ _. m) kids) [] limit P steps name are white refl (within_of limit (depth_of_all kids) 0 (omega arith))
-    (content_means m root before limit P steps kids (opened x attrs) [] content (bytes_of (end_tag x gap) ++ rest) spells (inr (_, refl)) (omega arith)) behind)
+    (tagged_means m root (in_prolog stage before) before x attrs gap content rest (map_marks_all (λ _. m) kids) [] limit P steps name are white refl (within_of limit (depth_of_all kids) 0 (omega arith))
+    (content_means m root before limit P steps kids (just_opened x attrs) [] content (bytes_of (end_tag x gap) ++ rest) spells (inr (_, refl)) (omega arith)) behind)
 root_means m root before rest limit P stage steps (text_node units) bytes is spells within behind = absurd is
 root_means m root before rest limit P stage steps (cdata_node section) bytes is spells within behind = absurd is
 root_means m root before rest limit P stage steps (misc_node misc) bytes is spells within behind = absurd is
@@ -103,10 +103,10 @@ pub record HoldsAtStart {M : Type 0} (bytes : List ℕ) (P : Left M → List ℕ
   pub back : P end [] → P (in_prolog at_front mark) rest
 
 pub holds_at_start : {M : Type 0} (m : M) (root bytes : List ℕ) (doc : PlainDoc M) (limit : ℕ) (P : Left M → List ℕ → Type 0) → HoldsBefore m root limit P → SpellsDocument root bytes doc → depth_of doc.root ≤ limit
-    → HoldsAtStart bytes P (in_epilog doc.before (remarked (λ _. m) doc.root) doc.after)
+    → HoldsAtStart bytes P (in_epilog doc.before (map_marks (λ _. m) doc.root) doc.after)
 holds_at_start m root bytes doc limit P steps s within =
     let p = s.is_prolog in
-    let t = remarked (λ _. m) doc.root in
+    let t = map_marks (λ _. m) doc.root in
     let behind = s.element ++ doc.after in
     let rest = p.declaration ++ (p.misc ++ (p.doctype ++ (p.more_misc ++ behind))) in
     let whole : bytes ≡ p.mark ++ rest = s.whole ∙ ap (λ b. b ++ s.element ++ doc.after) p.whole ∙ simp append_assoc refl in

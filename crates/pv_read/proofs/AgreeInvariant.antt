@@ -6,14 +6,14 @@ use Rattle.pv_chars.specs.Declarations.{IsOptional, IsXmlDecl}
 use Rattle.pv_chars.specs.Texts.{joined}
 use Rattle.pv_chars.proofs.MeansLemmas.{joined-append}
 use Rattle.pv_dtd.specs.Meaning.{BYTE_ORDER_MARK}
-use Rattle.pv_tree.specs.Plain.{tagged, Tree, element, text_node, cdata_node, misc_node, Forest, no_trees, tree, forest_of, depth_of, depth_of_all, remarked, remarked_all}
+use Rattle.pv_tree.specs.Plain.{tagged, Tree, element, text_node, cdata_node, misc_node, Forest, no_trees, tree, forest_of, depth_of, depth_of_all, map_marks, map_marks_all}
 use Rattle.pv_tree.specs.Attributes.{AreMadeOf, IsAttributes, IsKnownReference}
 use Rattle.pv_tree.specs.Prolog.{IsMisc, IsDoctype, IsProlog, IsEpilog}
 use Rattle.pv_tree.specs.Legal.{MAX_DEPTH}
 use Rattle.pv_read.proofs.Pieces.{nothing}
 use Rattle.pv_read.specs.Grammar.{SpellsNode, SpellsContent, IsElement, IsWholeRun, begins_with_text}
 use Rattle.pv_read.specs.Items.{start_tag, bytes_of, IsRunEnd}
-use Rattle.pv_read.specs.Left.{Open, Stage, at_front, before_doctype, behind_doctype, behind_misc, takes_doctype, Left, in_prolog, in_content, in_epilog}
+use Rattle.pv_read.specs.Left.{Open, PlainStage, at_front, before_doctype, behind_doctype, behind_misc, takes_doctype, Left, in_prolog, in_content, in_epilog}
 
 -- ---- the prolog
 -- The byte order mark, XMLDecl and Misc*, each of which may be left out: what may stand before a document type declaration.
@@ -26,7 +26,7 @@ pub record IsBeforeDoctype (bytes : List ℕ) : Type 0 where
   pub is_misc : AreMadeOf IsMisc misc
   pub whole : bytes ≡ mark ++ (declaration ++ misc)
 
-abbrev pub IsPrologAt : List ℕ → Stage → List ℕ → Type 0
+abbrev pub IsPrologAt : List ℕ → PlainStage → List ℕ → Type 0
 IsPrologAt root at_front bytes = IsOptional (λ b. b ≡ BYTE_ORDER_MARK) bytes
 IsPrologAt root before_doctype bytes = IsBeforeDoctype bytes
 IsPrologAt root behind_doctype bytes = IsProlog root bytes
@@ -64,7 +64,7 @@ no_doctype root bytes b = record {
   whole = b.whole ∙ ap (λ misc. b.mark ++ (b.declaration ++ misc)) (sym (append-nil b.misc));
 }
 
-pub prolog_at : (root : List ℕ) (stage : Stage) (bytes : List ℕ) → IsPrologAt root stage bytes → IsProlog root bytes
+pub prolog_at : (root : List ℕ) (stage : PlainStage) (bytes : List ℕ) → IsPrologAt root stage bytes → IsProlog root bytes
 prolog_at root at_front bytes is = no_doctype root bytes (mark_alone bytes is)
 prolog_at root before_doctype bytes is = no_doctype root bytes is
 prolog_at root behind_doctype bytes is = is
@@ -95,7 +95,7 @@ misc_behind root bytes misc p is = record {
   whole = ap (λ front. front ++ misc) p.whole ∙ simp append_assoc;
 }
 
-pub with_misc : (root : List ℕ) (stage : Stage) (bytes misc : List ℕ) → IsPrologAt root stage bytes → IsMisc misc → IsPrologAt root (behind_misc stage) (bytes ++ misc)
+pub with_misc : (root : List ℕ) (stage : PlainStage) (bytes misc : List ℕ) → IsPrologAt root stage bytes → IsMisc misc → IsPrologAt root (behind_misc stage) (bytes ++ misc)
 with_misc root at_front bytes misc p is = misc_before bytes misc (mark_alone bytes p) is
 with_misc root before_doctype bytes misc p is = misc_before bytes misc p is
 with_misc root behind_doctype bytes misc p is = misc_behind root bytes misc p is
@@ -126,7 +126,7 @@ doctype_behind root bytes doctype b is = record {
   whole = ap (λ front. front ++ doctype) b.whole ∙ simp (append_assoc, append-nil);
 }
 
-pub with_doctype : (root : List ℕ) (stage : Stage) (bytes doctype : List ℕ) → takes_doctype stage ≡ true → IsPrologAt root stage bytes → IsDoctype root doctype → IsProlog root (bytes ++ doctype)
+pub with_doctype : (root : List ℕ) (stage : PlainStage) (bytes doctype : List ℕ) → takes_doctype stage ≡ true → IsPrologAt root stage bytes → IsDoctype root doctype → IsProlog root (bytes ++ doctype)
 with_doctype root at_front bytes doctype may p is = doctype_behind root bytes doctype (mark_alone bytes p) is
 with_doctype root before_doctype bytes doctype may p is = doctype_behind root bytes doctype p is
 with_doctype root behind_doctype bytes doctype may p is = cc
@@ -143,7 +143,7 @@ ends_in_text (t ∷ u ∷ ts) = ends_in_text (u ∷ ts)
 -- The element is not deeper than may be where so many are open, and has the mark throughout.
 pub record IsProperKid {M : Type 0} (m : M) (level : ℕ) (t : Tree M) : Type 0 where
   pub shallow : level + depth_of t ≤ MAX_DEPTH
-  pub marks : remarked (λ _. m) t ≡ t
+  pub marks : map_marks (λ _. m) t ≡ t
 
 -- The bytes spell these kids, which are proper ones.
 pub record SpellsKids {M : Type 0} (m : M) (level : ℕ) (kids : List (Tree M)) (bytes : List ℕ) : Type 0 where
@@ -206,7 +206,7 @@ kids_shallow m level (k ∷ kids) within all =
     let below = kids_shallow m level kids within all.1 in
     omega arith
 
-kids_marked : {M : Type 0} (m : M) (level : ℕ) (kids : List (Tree M)) → AllByRecursion (IsProperKid m level) kids → remarked_all (λ _. m) (forest_of kids) ≡ forest_of kids
+kids_marked : {M : Type 0} (m : M) (level : ℕ) (kids : List (Tree M)) → AllByRecursion (IsProperKid m level) kids → map_marks_all (λ _. m) (forest_of kids) ≡ forest_of kids
 kids_marked m level [] all = refl
 kids_marked m level (k ∷ kids) all = let here = all.0.marks in let below = kids_marked m level kids all.1 in cc
 

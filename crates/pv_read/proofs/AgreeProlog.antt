@@ -10,7 +10,7 @@ use Rattle.pv_tree.specs.Plain.{Tree}
 use Rattle.pv_tree.specs.Attributes.{AreMadeOf}
 use Rattle.pv_tree.specs.Prolog.{IsMisc, IsCommentOrInstruction, IsDoctype, IsProlog}
 use Rattle.pv_read.specs.Items.{xml_declaration, doctype, comment_or_instruction, text_run, IsRunEnd}
-use Rattle.pv_read.specs.Left.{Stage, at_front, before_doctype, behind_doctype, behind_misc, takes_doctype, Left, in_prolog, in_epilog, left_by}
+use Rattle.pv_read.specs.Left.{PlainStage, at_front, before_doctype, behind_doctype, behind_misc, takes_doctype, Left, in_prolog, in_epilog, left_by}
 use Rattle.pv_read.proofs.AgreeInvariant.{made_of_both}
 use Rattle.pv_read.proofs.AgreeForms.{data_form, space_data, misc_ends_run}
 use Rattle.pv_read.proofs.AgreeNodes.{HoldsBefore}
@@ -57,9 +57,9 @@ module _ {M : Type 0} (m : M) (root : List ℕ) (limit : ℕ) (P : Left M → Li
   -- ---- the prolog
   -- these bytes of the prolog leave this, where a document type declaration may stand or may not
   abbrev IsBehind : Bool → List ℕ → Left M → Type 0
-  IsBehind may b left = (stage : Stage) × (left ≡ in_prolog stage b) × (takes_doctype stage ≡ may)
+  IsBehind may b left = (stage : PlainStage) × (left ≡ in_prolog stage b) × (takes_doctype stage ≡ may)
 
-  behind_may : (stage : Stage) → takes_doctype (behind_misc stage) ≡ takes_doctype stage
+  behind_may : (stage : PlainStage) → takes_doctype (behind_misc stage) ≡ takes_doctype stage
   behind_may at_front = refl
   behind_may before_doctype = refl
   behind_may behind_doctype = refl
@@ -109,7 +109,7 @@ module _ {M : Type 0} (m : M) (root : List ℕ) (limit : ℕ) (P : Left M → Li
 
   -- Misc*, and a document type declaration with Misc*, or not
   doctype_part_means : (misc doctype more b rest : List ℕ) (left : Left M) → AreMadeOf IsMisc misc → IsOptional (IsDoctype root) doctype → AreMadeOf IsMisc more → IsBehind true b left → IsRunEnd rest
-      → ((stage : Stage) → P (in_prolog stage (b ++ (misc ++ (doctype ++ more)))) rest) → P left (misc ++ (doctype ++ (more ++ rest)))
+      → ((stage : PlainStage) → P (in_prolog stage (b ++ (misc ++ (doctype ++ more)))) rest) → P left (misc ++ (doctype ++ (more ++ rest)))
   doctype_part_means misc declared more b rest left is_misc (inl none) is_more at ends behind =
       let both = made_of_both IsMisc misc more is_misc is_more in
       let whole : misc ++ more ≡ misc ++ (declared ++ more) = ap (λ d. misc ++ (d ++ more)) (sym none) in
@@ -123,7 +123,7 @@ module _ {M : Type 0} (m : M) (root : List ℕ) (limit : ℕ) (P : Left M → Li
       (λ last is_last. subst (λ l. P l rest) (sym is_last.1) (subst (λ l. P (in_prolog is_last.0 l) rest) (sym (simp append_assoc refl)) (behind is_last.0)))))
 
   -- the prolog, behind the byte order mark or nothing
-  pub prolog_means : (before rest : List ℕ) (p : IsProlog root before) → IsRunEnd rest → ((stage : Stage) → P (in_prolog stage before) rest)
+  pub prolog_means : (before rest : List ℕ) (p : IsProlog root before) → IsRunEnd rest → ((stage : PlainStage) → P (in_prolog stage before) rest)
       → P (in_prolog at_front p.mark) (p.declaration ++ (p.misc ++ (p.doctype ++ (p.more_misc ++ rest))))
   prolog_means before rest p ends behind =
       let whole : (p.mark ++ p.declaration) ++ (p.misc ++ (p.doctype ++ p.more_misc)) ≡ before = append_assoc p.mark p.declaration (p.misc ++ (p.doctype ++ p.more_misc)) ∙ sym p.whole in

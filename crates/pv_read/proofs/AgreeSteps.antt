@@ -15,7 +15,7 @@ use Rattle.pv_tree.specs.Prolog.{IsMisc, IsDoctype, IsProlog}
 use Rattle.pv_tree.specs.Legal.{MAX_DEPTH}
 use Rattle.pv_read.specs.Grammar.{SpellsNode, SpellsContent}
 use Rattle.pv_read.specs.Items.{Item, xml_declaration, doctype, comment_or_instruction, cdata_section, start_tag, empty_tag, end_tag, text_run, bytes_of, HasForm, HasKnownReferences, IsRunEnd, BeginsItem}
-use Rattle.pv_read.specs.Left.{Open, Stage, at_front, before_doctype, behind_doctype, behind_misc, Left, in_prolog, in_content, in_epilog, left_by, opened, closed, with_kid, joined_to, empty_element}
+use Rattle.pv_read.specs.Left.{Open, PlainStage, at_front, before_doctype, behind_doctype, behind_misc, Left, in_prolog, in_content, in_epilog, left_by, just_opened, closed_element, with_kid, joined_to, empty_element}
 use Rattle.pv_read.specs.Kinds.{Kind, entity, mismatch, doctype_name, deep, Stands, IsMismatch, IsOtherDoctype, IsTooDeep, HasFault}
 use Rattle.pv_read.proofs.DocumentFacts.{pieces_are_units}
 use Rattle.pv_read.proofs.Pieces.{nothing}
@@ -67,17 +67,17 @@ said : {M : Type 0} (m : M) (root done rest : List ℕ) (x next : Left M) → So
 said m root done rest x next e s = let same : x ≡ next = cc in subst (λ l. Says m root done l rest) same s
 
 -- ---- in the prolog
-more_prolog : {M : Type 0} (m : M) (root done before bytes more : List ℕ) (stage : Stage) (next : Left M) → Some (in_prolog stage (before ++ bytes)) ≡ Some next → IsPrologAt root stage (before ++ bytes) → done ≡ before
+more_prolog : {M : Type 0} (m : M) (root done before bytes more : List ℕ) (stage : PlainStage) (next : Left M) → Some (in_prolog stage (before ++ bytes)) ≡ Some next → IsPrologAt root stage (before ++ bytes) → done ≡ before
     → Says m root (done ++ bytes) next more
 more_prolog m root done before bytes more stage next e is whole = said m root (done ++ bytes) more (in_prolog stage (before ++ bytes)) next e (is, ap (λ front. front ++ bytes) whole)
 
-declaration_stands : {M : Type 0} (m : M) (root done before bytes more : List ℕ) (stage : Stage) (next : Left M) → IsPrologAt root stage before → done ≡ before → HasForm (xml_declaration bytes)
+declaration_stands : {M : Type 0} (m : M) (root done before bytes more : List ℕ) (stage : PlainStage) (next : Left M) → IsPrologAt root stage before → done ≡ before → HasForm (xml_declaration bytes)
     → left_by m (in_prolog stage before) (xml_declaration bytes) ≡ Some next → Says m root (done ++ bytes) next more
 declaration_stands m root done before bytes more at_front next prolog whole form e = more_prolog m root done before bytes more before_doctype next e (with_declaration before bytes prolog form) whole
 declaration_stands m root done before bytes more before_doctype next prolog whole form e = cc
 declaration_stands m root done before bytes more behind_doctype next prolog whole form e = cc
 
-doctype_stands : {M : Type 0} (m : M) (root done before name bytes more : List ℕ) (stage : Stage) (next : Left M) → IsPrologAt root stage before → done ≡ before → HasForm (doctype name bytes)
+doctype_stands : {M : Type 0} (m : M) (root done before name bytes more : List ℕ) (stage : PlainStage) (next : Left M) → IsPrologAt root stage before → done ≡ before → HasForm (doctype name bytes)
     → left_by m (in_prolog stage before) (doctype name bytes) ≡ Some next → name ≡ root → Says m root (done ++ bytes) next more
 doctype_stands m root done before name bytes more at_front next prolog whole form e same =
     more_prolog m root done before bytes more behind_doctype next e (with_doctype root at_front before bytes refl prolog (subst (λ n. IsDoctype n bytes) same form)) whole
@@ -85,7 +85,7 @@ doctype_stands m root done before name bytes more before_doctype next prolog who
     more_prolog m root done before bytes more behind_doctype next e (with_doctype root before_doctype before bytes refl prolog (subst (λ n. IsDoctype n bytes) same form)) whole
 doctype_stands m root done before name bytes more behind_doctype next prolog whole form e same = cc
 
-white_stands : {M : Type 0} (m : M) (root done before bytes more : List ℕ) (stage : Stage) (next : Left M) → IsPrologAt root stage before → done ≡ before → HasForm (text_run bytes)
+white_stands : {M : Type 0} (m : M) (root done before bytes more : List ℕ) (stage : PlainStage) (next : Left M) → IsPrologAt root stage before → done ≡ before → HasForm (text_run bytes)
     → left_by m (in_prolog stage before) (text_run bytes) ≡ Some next → Says m root (done ++ bytes) next more
 white_stands {M} m root done before bytes more stage next prolog whole form e = by (list_all is_space bytes) refl e
   where
@@ -94,7 +94,7 @@ white_stands {M} m root done before bytes more stage next prolog whole form e = 
     by false is e = cc
 
 open_first : {M : Type 0} (m : M) (root done before name attrs more : List ℕ) → IsProlog root before → done ≡ before → IsName name → IsAttributes IsKnownReference attrs → 1 ≤ MAX_DEPTH
-    → InContent m root (done ++ bytes_of (start_tag name attrs)) before (opened {M = M} name attrs) [] more
+    → InContent m root (done ++ bytes_of (start_tag name attrs)) before (just_opened {M = M} name attrs) [] more
 open_first {M} m root done before name attrs more prolog whole is_name are_attrs within = record {
   opens = bytes_of (start_tag name attrs);
   is_prolog = prolog;
@@ -122,7 +122,7 @@ empty_root m root done before name attrs prolog whole is_name are_attrs within =
   whole = ap (λ front. front ++ bytes_of (empty_tag name attrs)) whole ∙ ap (λ rest. before ++ rest) (sym (append-nil (bytes_of (empty_tag name attrs))));
 }
 
-pub step_in_prolog : {M : Type 0} (m : M) (root done before rest more : List ℕ) (stage : Stage) (next : Left M) (i : Item) → Says m root done (in_prolog stage before) rest
+pub step_in_prolog : {M : Type 0} (m : M) (root done before rest more : List ℕ) (stage : PlainStage) (next : Left M) (i : Item) → Says m root done (in_prolog stage before) rest
     → BeginsItem i rest more → left_by m (in_prolog stage before) i ≡ Some next → IsProper {M = M} root (in_prolog stage before) i → Says m root (done ++ bytes_of i) next more
 step_in_prolog m root done before rest more stage next (xml_declaration bytes) (prolog, whole) begins stands proper = declaration_stands m root done before bytes more stage next prolog whole begins.has_form stands
 step_in_prolog m root done before rest more stage next (doctype name bytes) (prolog, whole) begins stands proper =
@@ -132,7 +132,7 @@ step_in_prolog m root done before rest more stage next (comment_or_instruction b
 step_in_prolog m root done before rest more stage next (cdata_section bytes) (prolog, whole) begins stands proper = cc
 step_in_prolog m root done before rest more stage next (start_tag name attrs) (prolog, whole) begins stands proper =
     let deep = not_past 0 (λ past. proper.within (refl, past)) in
-    said m root (done ++ bytes_of (start_tag name attrs)) more (in_content before (opened name attrs) []) next stands
+    said m root (done ++ bytes_of (start_tag name attrs)) more (in_content before (just_opened name attrs) []) next stands
     (open_first m root done before name attrs more (prolog_at root stage before prolog) whole begins.has_form.0 proper.known deep)
 step_in_prolog m root done before rest more stage next (empty_tag name attrs) (prolog, whole) begins stands proper =
     let deep = not_past 0 (λ past. proper.within (refl, past)) in
@@ -188,7 +188,7 @@ text_stands m root done before inner outer rest more bytes said chars whole ends
     by false e = e
 
 open_inner : {M : Type 0} (m : M) (root done before : List ℕ) (inner : Open M) (outer : List (Open M)) (rest more name attrs : List ℕ) → InContent m root done before inner outer rest
-    → IsName name → IsAttributes IsKnownReference attrs → suc (suc (length outer)) ≤ MAX_DEPTH → InContent m root (done ++ bytes_of (start_tag name attrs)) before (opened name attrs) (inner ∷ outer) more
+    → IsName name → IsAttributes IsKnownReference attrs → suc (suc (length outer)) ≤ MAX_DEPTH → InContent m root (done ++ bytes_of (start_tag name attrs)) before (just_opened name attrs) (inner ∷ outer) more
 open_inner m root done before inner outer rest more name attrs said is_name are_attrs within = record {
   opens = said.opens ++ bytes_of (start_tag name attrs);
   is_prolog = said.is_prolog;
@@ -199,11 +199,11 @@ open_inner m root done before inner outer rest more name attrs said is_name are_
 
 -- an end tag behind the kids of the innermost element
 closed_spelled : {M : Type 0} (m : M) (o : Open M) (content gap : List ℕ) → IsName o.name → IsAttributes IsKnownReference o.attrs → IsOptionalSpace gap → SpellsContent (forest_of o.kids) content
-    → SpellsNode (closed m o gap) (bytes_of (start_tag o.name o.attrs) ++ (content ++ bytes_of (end_tag o.name gap)))
+    → SpellsNode (closed_element m o gap) (bytes_of (start_tag o.name o.attrs) ++ (content ++ bytes_of (end_tag o.name gap)))
 closed_spelled m o content gap is_name are_attrs white spells = (content, is_name, are_attrs, white, spells, sym (simp append_assoc refl))
 
 close_stands : {M : Type 0} (m : M) (root done before : List ℕ) (inner : Open M) (outer : List (Open M)) (rest more gap : List ℕ) → InContent m root done before inner outer rest → IsOptionalSpace gap
-    → Says m root (done ++ bytes_of (end_tag inner.name gap)) (joined_to before outer (closed m inner gap)) more
+    → Says m root (done ++ bytes_of (end_tag inner.name gap)) (joined_to before outer (closed_element m inner gap)) more
 close_stands m root done before inner [] rest more gap said white =
     let s = said.spells in
     let none : s.0 ≡ [] = s.2 in
@@ -225,9 +225,9 @@ close_stands m root done before inner (o ∷ outer) rest more gap said white =
     record {
       opens = s.0 ++ element;
       is_prolog = said.is_prolog;
-      spells = (above.0, above.1 ++ element, above.2, above.3, above.4, above.5, kid_put (closed m inner gap) element above.6 node proper (λ is. cc), ap (λ b. b ++ element) above.7 ∙ simp append_assoc refl);
+      spells = (above.0, above.1 ++ element, above.2, above.3, above.4, above.5, kid_put (closed_element m inner gap) element above.6 node proper (λ is. cc), ap (λ b. b ++ element) above.7 ∙ simp append_assoc refl);
       whole = ap (λ b. b ++ bytes_of (end_tag inner.name gap)) (said.whole ∙ ap (λ b. before ++ b) s.7) ∙ simp append_assoc refl;
-      run = λ e. let other : is_text (closed m inner gap) ≡ true = sym (ends_in-put o.kids (closed m inner gap)) ∙ e in cc;
+      run = λ e. let other : is_text (closed_element m inner gap) ≡ true = sym (ends_in-put o.kids (closed_element m inner gap)) ∙ e in cc;
     }
 
 pub step_in_content : {M : Type 0} (m : M) (root done before : List ℕ) (inner : Open M) (outer : List (Open M)) (rest more : List ℕ) (next : Left M) (i : Item) → InContent m root done before inner outer rest
@@ -244,7 +244,7 @@ step_in_content m root done before inner outer rest more next (cdata_section byt
     (no_text_stands m root done before inner outer rest more (cdata_node bytes) bytes prior (begins.has_form, refl) (record { shallow = omega arith; marks = refl }) refl)
 step_in_content m root done before inner outer rest more next (start_tag name attrs) prior begins stands proper =
     let deep = not_past (suc (length outer)) (λ past. proper.within (refl, past)) in
-    said m root (done ++ bytes_of (start_tag name attrs)) more (in_content before (opened name attrs) (inner ∷ outer)) next stands
+    said m root (done ++ bytes_of (start_tag name attrs)) more (in_content before (just_opened name attrs) (inner ∷ outer)) next stands
     (open_inner m root done before inner outer rest more name attrs prior begins.has_form.0 proper.known deep)
 step_in_content m root done before inner outer rest more next (empty_tag name attrs) prior begins stands proper =
     let deep = not_past (suc (length outer)) (λ past. proper.within (refl, past)) in
@@ -252,8 +252,8 @@ step_in_content m root done before inner outer rest more next (empty_tag name at
     (no_text_stands m root done before inner outer rest more (empty_element m name attrs) (bytes_of (empty_tag name attrs)) prior (empty_spelled m name attrs begins.has_form.0 proper.known) (empty_proper m (suc (length outer)) name attrs deep) refl)
 step_in_content m root done before inner outer rest more next (end_tag name gap) prior begins stands proper =
     let same : name ≡ inner.name = same_names name inner.name proper.matches in
-    said m root (done ++ bytes_of (end_tag name gap)) more (joined_to before outer (closed m inner gap)) next stands
-    (subst (λ n. Says m root (done ++ bytes_of (end_tag n gap)) (joined_to before outer (closed m inner gap)) more) (sym same) (close_stands m root done before inner outer rest more gap prior begins.has_form.1))
+    said m root (done ++ bytes_of (end_tag name gap)) more (joined_to before outer (closed_element m inner gap)) next stands
+    (subst (λ n. Says m root (done ++ bytes_of (end_tag n gap)) (joined_to before outer (closed_element m inner gap)) more) (sym same) (close_stands m root done before inner outer rest more gap prior begins.has_form.1))
 step_in_content m root done before inner outer rest more next (text_run bytes) prior begins stands proper =
     said m root (done ++ bytes) more (in_content before (with_kid inner (text_node (units_in bytes))) outer) next stands
     (text_stands m root done before inner outer rest more bytes prior proper.known begins.whole begins.ends_well prior.spells.5)

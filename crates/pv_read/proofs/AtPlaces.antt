@@ -5,7 +5,7 @@ use Rattle.pv_chars.specs.Spaces.{is_space}
 use Rattle.pv_tree.specs.Legal.{MAX_DEPTH}
 use Rattle.pv_read.specs.Items.{Item, xml_declaration, doctype, comment_or_instruction, cdata_section, start_tag, empty_tag, end_tag, text_run}
 use Rattle.pv_read.specs.Left.{Left, in_prolog, in_content, in_epilog, left_by, takes_doctype, is_at_front, open_elements}
-use Rattle.pv_read.specs.Kinds.{may_stand_doctype, BeginsSubset, IsMismatch, opens, IsTooDeep, HasFault, subset}
+use Rattle.pv_read.specs.Kinds.{may_stand_doctype, BeginsSubset, IsMismatch, opens_element, IsTooDeep, HasFault, subset}
 use Rattle.pv_read.specs.Places.{PlainPlace, place_of, takes_doctype_at, open_at, may_stand, IsMismatchAt}
 
 doctype_there : {M : Type 0} (left : Left M) → may_stand_doctype left ≡ takes_doctype_at (place_of left)
@@ -133,8 +133,8 @@ module _ {M : Type 0} (m : M) (root rest : List ℕ) (left : Left M) (place : Pl
     pub mismatch_of : IsMismatch left i → IsMismatchAt place i
     mismatch_of h = subst (λ (A : Type 0). A) (sym mismatch_is) h
 
-    pub deep_at : IsTrue (opens i) × (MAX_DEPTH ≤ open_at place) → IsTooDeep left i
+    pub deep_at : IsTrue (opens_element i) × (MAX_DEPTH ≤ open_at place) → IsTooDeep left i
     deep_at h = let same = open_there left ∙ ap open_at at in (h.0, rw same h.1)
 
-    pub deep_of : IsTooDeep left i → IsTrue (opens i) × (MAX_DEPTH ≤ open_at place)
+    pub deep_of : IsTooDeep left i → IsTrue (opens_element i) × (MAX_DEPTH ≤ open_at place)
     deep_of h = let same = open_there left ∙ ap open_at at in (h.0, rw (← same) h.1)

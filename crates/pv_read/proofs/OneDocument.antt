@@ -3,7 +3,7 @@ use Rattle.std.proofs.Common.{◌≡◌, ℕ, max, List, [], Some, refl, sym, ap
 use Rattle.pv_chars.specs.Scan.{after_bytes}
 use Rattle.pv_chars.proofs.Scanning.{after_bytes-append}
 use Rattle.pv_dtd.specs.Meaning.{BYTE_ORDER_MARK}
-use Rattle.pv_tree.specs.Plain.{Tree, element, text_node, cdata_node, misc_node, Forest, no_trees, tree, PlainDoc, depth_of, remarked, remarked_all, unmarked}
+use Rattle.pv_tree.specs.Plain.{Tree, element, text_node, cdata_node, misc_node, Forest, no_trees, tree, PlainDoc, depth_of, map_marks, map_marks_all, without_marks}
 use Rattle.pv_tree.specs.Marks.{unmarked_doc}
 use Rattle.pv_read.specs.Grammar.{SpellsDocument}
 use Rattle.pv_read.specs.Items.{Item, BeginsItem}
@@ -53,11 +53,11 @@ module _ {M : Type 0} (m : M) where
 
   -- two documents that are spelled leave one thing
   same_documents : (root bytes : List ℕ) (doc other : PlainDoc M) → SpellsDocument root bytes doc → SpellsDocument root bytes other
-      → in_epilog doc.before (remarked (λ _. m) doc.root) doc.after ≡ in_epilog other.before (remarked (λ _. m) other.root) other.after
+      → in_epilog doc.before (map_marks (λ _. m) doc.root) doc.after ≡ in_epilog other.before (map_marks (λ _. m) other.root) other.after
   same_documents root bytes doc other spells spells_other =
       let limit = max (depth_of doc.root) (depth_of other.root) in
-      let end = in_epilog doc.before (remarked (λ _. m) doc.root) doc.after in
-      let other_end = in_epilog other.before (remarked (λ _. m) other.root) other.after in
+      let end = in_epilog doc.before (map_marks (λ _. m) doc.root) doc.after in
+      let other_end = in_epilog other.before (map_marks (λ _. m) other.root) other.after in
       let own_start = holds_at_start m root bytes doc limit (λ left rest. EndsIn m left rest end) (items_hold_before m root limit end) spells (omega arith) in
       let other_start = holds_at_start m root bytes other limit (λ left rest. EndsIn m left rest other_end) (items_hold_before m root limit other_end) spells_other (omega arith) in
       let start = same_start bytes own_start.mark own_start.rest other_start.mark other_start.rest own_start.starts other_start.starts in
@@ -67,23 +67,23 @@ module _ {M : Type 0} (m : M) where
 
 -- ---- marks aside
 mutual
-  remarked_twice : {M N : Type 0} (f : M → N) (g : M → M) (t : Tree M) → remarked f (remarked g t) ≡ remarked (λ m. f (g m)) t
+  remarked_twice : {M N : Type 0} (f : M → N) (g : M → M) (t : Tree M) → map_marks f (map_marks g t) ≡ map_marks (λ m. f (g m)) t
   remarked_twice f g (element x attrs ending kids mark) = ap (λ k. element x attrs ending k (f (g mark))) (all_remarked_twice f g kids)
   remarked_twice f g (text_node units) = refl
   remarked_twice f g (cdata_node section) = refl
   remarked_twice f g (misc_node misc) = refl
 
-  all_remarked_twice : {M N : Type 0} (f : M → N) (g : M → M) (kids : Forest M) → remarked_all f (remarked_all g kids) ≡ remarked_all (λ m. f (g m)) kids
+  all_remarked_twice : {M N : Type 0} (f : M → N) (g : M → M) (kids : Forest M) → map_marks_all f (map_marks_all g kids) ≡ map_marks_all (λ m. f (g m)) kids
   all_remarked_twice f g no_trees = refl
-  all_remarked_twice f g (tree t kids) = ap (λ s. tree s (remarked_all f (remarked_all g kids))) (remarked_twice f g t) ∙ ap (tree (remarked (λ m. f (g m)) t)) (all_remarked_twice f g kids)
+  all_remarked_twice f g (tree t kids) = ap (λ s. tree s (map_marks_all f (map_marks_all g kids))) (remarked_twice f g t) ∙ ap (tree (map_marks (λ m. f (g m)) t)) (all_remarked_twice f g kids)
 
-same_unmarked : {M : Type 0} (m : M) (doc other : PlainDoc M) → in_epilog doc.before (remarked (λ _. m) doc.root) doc.after ≡ in_epilog other.before (remarked (λ _. m) other.root) other.after → unmarked_doc doc ≡ unmarked_doc other
+same_unmarked : {M : Type 0} (m : M) (doc other : PlainDoc M) → in_epilog doc.before (map_marks (λ _. m) doc.root) doc.after ≡ in_epilog other.before (map_marks (λ _. m) other.root) other.after → unmarked_doc doc ≡ unmarked_doc other
 same_unmarked {M} m doc other same =
     let without : M → Unit {0} = λ _. tt in
     let before : doc.before ≡ other.before = cc in
     let after : doc.after ≡ other.after = cc in
-    let root : remarked (λ _. m) doc.root ≡ remarked (λ _. m) other.root = cc in
-    let unmarked_root : unmarked doc.root ≡ unmarked other.root = sym (remarked_twice without (λ _. m) doc.root) ∙ ap (remarked without) root ∙ remarked_twice without (λ _. m) other.root in
+    let root : map_marks (λ _. m) doc.root ≡ map_marks (λ _. m) other.root = cc in
+    let unmarked_root : without_marks doc.root ≡ without_marks other.root = sym (remarked_twice without (λ _. m) doc.root) ∙ ap (map_marks without) root ∙ remarked_twice without (λ _. m) other.root in
     λ i. record { before = before i; root = unmarked_root i; after = after i; mark = tt }
 
 pub one_document : {M : Type 0} (m : M) (root bytes : List ℕ) (doc other : PlainDoc M) → SpellsDocument root bytes doc → SpellsDocument root bytes other → unmarked_doc doc ≡ unmarked_doc other

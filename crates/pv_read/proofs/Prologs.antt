@@ -5,8 +5,8 @@ use Rattle.pv_chars.specs.Spaces.{is_space}
 use Rattle.pv_tree.specs.Marks.{blank_mark}
 use Rattle.pv_tree.specs.declared.nodes.Mark.{Mark}
 use Rattle.pv_read.specs.Items.{Item, xml_declaration, doctype, comment_or_instruction, cdata_section, start_tag, empty_tag, end_tag, text_run, bytes_of}
-use Rattle.pv_read.specs.Left.{Left, Stage, at_front, in_prolog, left_by, IsWholeAt, takes_doctype, is_at_front}
-use Rattle.pv_read.specs.Kinds.{opens}
+use Rattle.pv_read.specs.Left.{Left, PlainStage, at_front, in_prolog, left_by, IsWholeAt, takes_doctype, is_at_front}
+use Rattle.pv_read.specs.Kinds.{opens_element}
 use Rattle.pv_read.specs.Meaning.{Outcome, Means, item}
 use Rattle.pv_read.specs.Errors.{Refuses}
 use Rattle.pv_read.specs.Places.{stage_behind, place_of, prolog}
@@ -19,7 +19,7 @@ pub by_test : {A : Type 0} (b : Bool) (x y : A) → cond b (Some x) None ≡ Som
 by_test true x y e = cc
 by_test false x y e = cc
 
-behind_is : {M : Type 0} (m : M) (stage : Stage) (before : List ℕ) (i : Item) (next : Left M) → opens i ≡ false
+behind_is : {M : Type 0} (m : M) (stage : PlainStage) (before : List ℕ) (i : Item) (next : Left M) → opens_element i ≡ false
     → left_by m (in_prolog stage before) i ≡ Some next → in_prolog (stage_behind stage i) (before ++ bytes_of i) ≡ next
 behind_is m stage before (xml_declaration bytes) next closed is = by_test (is_at_front stage) _ next is
 behind_is m stage before (doctype name bytes) next closed is = by_test (takes_doctype stage) _ next is
@@ -36,9 +36,9 @@ takes_leads {i = i} k t o means = item i t.begins t.stands t.no_fault means
 pub no_items : (root text : List ℕ) → ReadsProlog root text at_front text 0
 no_items root text = record { before = []; whole = refl; few = omega arith; leads = λ mark o means. rw append-nil at means }
 
-module _ {root text rest : List ℕ} {stage : Stage} {count : ℕ} (r : ReadsProlog root text stage rest count) (i : Item) (more : List ℕ)
+module _ {root text rest : List ℕ} {stage : PlainStage} {count : ℕ} (r : ReadsProlog root text stage rest count) (i : Item) (more : List ℕ)
     (taken : (left : Left Mark) → place_of left ≡ prolog stage → TakesItem blank_mark root left rest i more) (less : length more < length rest) where
-  pub one_more : (behind : Stage) (next : ℕ) → opens i ≡ false → behind ≡ stage_behind stage i → next ≡ count + 1 → ReadsProlog root text behind more next
+  pub one_more : (behind : PlainStage) (next : ℕ) → opens_element i ≡ false → behind ≡ stage_behind stage i → next ≡ count + 1 → ReadsProlog root text behind more next
   one_more behind next closed is_behind is_next =
       let begins = (taken (in_prolog stage []) refl).begins in
       record {
@@ -63,7 +63,7 @@ module _ {root text rest : List ℕ} {stage : Stage} {count : ℕ} (r : ReadsPro
       same_some : {x y : Left Mark} → Some x ≡ Some y → x ≡ y
       same_some e = cc
 
-module _ {root text rest : List ℕ} {stage : Stage} {count : ℕ} (r : ReadsProlog root text stage rest count) (e : DocError) where
+module _ {root text rest : List ℕ} {stage : PlainStage} {count : ℕ} (r : ReadsProlog root text stage rest count) (e : DocError) where
   pub refused_in : ((left : Left Mark) → place_of left ≡ prolog stage → (IsWholeAt left rest → ⊥) → Refuses (Means blank_mark root count left rest) e)
       → (mark : List ℕ) → Refuses (Means blank_mark root 0 (in_prolog at_front mark) text) e
   refused_in refuses mark = Refuses-weaker _ _ (r.leads mark) e (refuses (in_prolog stage (mark ++ r.before)) refl (λ whole. whole))

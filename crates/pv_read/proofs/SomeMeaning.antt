@@ -7,7 +7,7 @@ use Rattle.pv_tree.specs.declared.nodes.Mark.{Mark}
 use Rattle.pv_read.specs.DocumentLaws.{HasOneMeaning}
 use Rattle.pv_read.specs.Items.{Item, xml_declaration, doctype, comment_or_instruction, cdata_section, start_tag, empty_tag, end_tag, text_run, HasKnownReferences, BeginsItem}
 use Rattle.pv_read.specs.Left.{Left, at_front, in_prolog, in_content, in_epilog, left_by, open_elements, IsWholeAt}
-use Rattle.pv_read.specs.Kinds.{Kind, subset, syntax, entity, mismatch, doctype_name, deep, BeginsSubset, may_stand_doctype, IsMismatch, IsOtherDoctype, opens, IsTooDeep, HasFault, IsFirstFault}
+use Rattle.pv_read.specs.Kinds.{Kind, subset, syntax, entity, mismatch, doctype_name, deep, BeginsSubset, may_stand_doctype, IsMismatch, IsOtherDoctype, opens_element, IsTooDeep, HasFault, IsFirstFault}
 use Rattle.pv_read.specs.Meaning.{MAX_DOC_BYTES, Outcome, is_document, faulty, too_long, Means, ends, item, fault, StartsWith, DocumentMeans, long, items}
 use Rattle.pv_read.specs.Places.{place_of, may_stand}
 use Rattle.pv_read.specs.PlainItems.{BeginsNoItem}
@@ -62,7 +62,7 @@ where_true true (inr other) = inr (λ h. other h.1)
 where_true false is = inr (λ h. let never = h.0 in cc)
 
 deep_decided : (left : Left Mark) (i : Item) → Decided (IsTooDeep left i)
-deep_decided left i = where_true (opens i) (at_most MAX_DEPTH (open_elements left))
+deep_decided left i = where_true (opens_element i) (at_most MAX_DEPTH (open_elements left))
 
 subset_decided : (root rest : List ℕ) (left : Left Mark) → Decided (BeginsSubset rest) → Decided (HasFault blank_mark root left rest subset)
 subset_decided root rest left is = where_true (may_stand_doctype left) is

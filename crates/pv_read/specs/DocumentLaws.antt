@@ -1,6 +1,6 @@
 -- Laws on documents and their texts.
 use Rattle.std.specs.Prelude.{◌≡◌, ◌↔◌, ℕ, List}
-use Rattle.pv_tree.specs.Plain.{PlainDoc, remarked}
+use Rattle.pv_tree.specs.Plain.{PlainDoc, map_marks}
 use Rattle.pv_tree.specs.Marks.{HasMarks, blank_mark, unmarked_doc}
 use Rattle.pv_tree.specs.declared.nodes.Mark.{Mark}
 use Rattle.pv_read.specs.Grammar.{SpellsDocument, IsDocumentText}
@@ -13,7 +13,8 @@ GrammarsAgree = (m : Mark) (root bytes : List ℕ) (doc : PlainDoc Mark) →
 
 -- a text means at most one thing
 abbrev pub DocumentsMeanOne : Type 0
-DocumentsMeanOne = (root bytes : List ℕ) (o p : Outcome Mark) → DocumentMeans blank_mark root bytes o → DocumentMeans blank_mark root bytes p → o ≡ p
+DocumentsMeanOne = (root bytes : List ℕ) (o p : Outcome Mark) →
+    DocumentMeans blank_mark root bytes o → DocumentMeans blank_mark root bytes p → o ≡ p
 
 -- a text means exactly one thing
 pub record HasOneMeaning (root bytes : List ℕ) : Type 0 where
@@ -23,7 +24,7 @@ pub record HasOneMeaning (root bytes : List ℕ) : Type 0 where
 
 -- the document with other marks
 abbrev pub with_marks : {M : Type 0} → M → PlainDoc M → PlainDoc M
-with_marks m doc = record { before = doc.before; root = remarked (λ _. m) doc.root; after = doc.after; mark = m }
+with_marks m doc = record { before = doc.before; root = map_marks (λ _. m) doc.root; after = doc.after; mark = m }
 
 -- the document that a text spells by its tree is what it means by its items, whatever the marks
 abbrev pub MeansWhatItSpells : Type 0

@@ -12,11 +12,13 @@ pub record ReadsEpilog (root end : List ℕ) (first : ℕ) (rest : List ℕ) (co
   pub after : List ℕ
   pub whole : end ≡ after ++ rest
   pub few : count + length rest ≤ first + length end
-  pub leads : (before : List ℕ) (t : Tree Mark) → Leads blank_mark root first (in_epilog before t []) end count (in_epilog before t after) rest
+  pub leads : (before : List ℕ) (t : Tree Mark) →
+      Leads blank_mark root first (in_epilog before t []) end count (in_epilog before t after) rest
 
 abbrev pub document : List ℕ → Tree Mark → List ℕ → PlainDoc Mark
 document before t after = record { before = before; root = t; after = after; mark = blank_mark }
 
 -- whatever root so many items end, the rest is what stands after it in the document
 abbrev pub EndsDocument : List ℕ → ℕ → List ℕ → Type 0
-EndsDocument root count end = (before : List ℕ) (t : Tree Mark) → Means blank_mark root count (in_epilog before t []) end (is_document (document before t end))
+EndsDocument root count end = (before : List ℕ) (t : Tree Mark) →
+    Means blank_mark root count (in_epilog before t []) end (is_document (document before t end))

@@ -65,19 +65,19 @@ IsOtherDoctype root (end_tag name gap) = ⊥
 IsOtherDoctype root (text_run bytes) = ⊥
 
 -- it opens an element
-abbrev pub opens : Item → Bool
-opens (xml_declaration bytes) = false
-opens (doctype name bytes) = false
-opens (comment_or_instruction bytes) = false
-opens (cdata_section bytes) = false
-opens (start_tag name attrs) = true
-opens (empty_tag name attrs) = true
-opens (end_tag name gap) = false
-opens (text_run bytes) = false
+abbrev pub opens_element : Item → Bool
+opens_element (xml_declaration bytes) = false
+opens_element (doctype name bytes) = false
+opens_element (comment_or_instruction bytes) = false
+opens_element (cdata_section bytes) = false
+opens_element (start_tag name attrs) = true
+opens_element (empty_tag name attrs) = true
+opens_element (end_tag name gap) = false
+opens_element (text_run bytes) = false
 
 -- it opens an element, and as many are open as may be
 abbrev pub IsTooDeep : {M : Type 0} → Left M → Item → Type 0
-IsTooDeep left i = IsTrue (opens i) × (MAX_DEPTH ≤ open_elements left)
+IsTooDeep left i = IsTrue (opens_element i) × (MAX_DEPTH ≤ open_elements left)
 
 -- a fault of this kind stands at the front of the rest
 abbrev pub HasFault : {M : Type 0} → M → List ℕ → Left M → List ℕ → Kind → Type 0

@@ -13,46 +13,46 @@ pub record Open (M : Type 0) : Type 0 where
   pub kids : List (Tree M)
 
 -- where in the prolog: at its front, with no item yet; before a document type declaration; behind one
-pub data Stage : Type 0 where
-  at_front : Stage
-  before_doctype : Stage
-  behind_doctype : Stage
+pub data PlainStage : Type 0 where
+  at_front : PlainStage
+  before_doctype : PlainStage
+  behind_doctype : PlainStage
 
 -- in the prolog, with its bytes so far; in the root, with the innermost open element and those around it, innermost first;
 -- behind the root, with the bytes since
 pub data Left (M : Type 0) : Type 0 where
-  in_prolog : (stage : Stage) → (before : List ℕ) → Left M
+  in_prolog : (stage : PlainStage) → (before : List ℕ) → Left M
   in_content : (before : List ℕ) → (inner : Open M) → (outer : List (Open M)) → Left M
   in_epilog : (before : List ℕ) → (root : Tree M) → (after : List ℕ) → Left M
 
 -- the stage behind a misc
-abbrev pub behind_misc : Stage → Stage
+abbrev pub behind_misc : PlainStage → PlainStage
 behind_misc at_front = before_doctype
 behind_misc before_doctype = before_doctype
 behind_misc behind_doctype = behind_doctype
 
 -- a document type declaration may stand at this stage
-abbrev pub takes_doctype : Stage → Bool
+abbrev pub takes_doctype : PlainStage → Bool
 takes_doctype at_front = true
 takes_doctype before_doctype = true
 takes_doctype behind_doctype = false
 
-abbrev pub is_at_front : Stage → Bool
+abbrev pub is_at_front : PlainStage → Bool
 is_at_front at_front = true
 is_at_front before_doctype = false
 is_at_front behind_doctype = false
 
 -- an element that has just been opened
-abbrev pub opened : {M : Type 0} → List ℕ → List ℕ → Open M
-opened name attrs = record { name = name; attrs = attrs; kids = [] }
+abbrev pub just_opened : {M : Type 0} → List ℕ → List ℕ → Open M
+just_opened name attrs = record { name = name; attrs = attrs; kids = [] }
 
 -- the element of an empty-element tag
 abbrev pub empty_element : {M : Type 0} → M → List ℕ → List ℕ → Tree M
 empty_element m name attrs = element name attrs short no_trees m
 
 -- the open element, ended by an end tag
-abbrev pub closed : {M : Type 0} → M → Open M → List ℕ → Tree M
-closed m e gap = element e.name e.attrs (tagged gap) (forest_of e.kids) m
+abbrev pub closed_element : {M : Type 0} → M → Open M → List ℕ → Tree M
+closed_element m e gap = element e.name e.attrs (tagged gap) (forest_of e.kids) m
 
 -- the open element with one more kid
 abbrev pub with_kid : {M : Type 0} → Open M → Tree M → Open M
@@ -64,12 +64,12 @@ joined_to before [] t = in_epilog before t []
 joined_to before (inner ∷ outer) t = in_content before (with_kid inner t) outer
 
 -- What an item in the prolog leaves; none where it may not stand there.
-abbrev pub left_in_prolog : {M : Type 0} → M → Stage → List ℕ → Item → Option (Left M)
+abbrev pub left_in_prolog : {M : Type 0} → M → PlainStage → List ℕ → Item → Option (Left M)
 left_in_prolog m stage before (xml_declaration bytes) = if is_at_front stage then Some (in_prolog before_doctype (before ++ bytes)) else None
 left_in_prolog m stage before (doctype name bytes) = if takes_doctype stage then Some (in_prolog behind_doctype (before ++ bytes)) else None
 left_in_prolog m stage before (comment_or_instruction bytes) = Some (in_prolog (behind_misc stage) (before ++ bytes))
 left_in_prolog m stage before (cdata_section bytes) = None
-left_in_prolog m stage before (start_tag name attrs) = Some (in_content before (opened name attrs) [])
+left_in_prolog m stage before (start_tag name attrs) = Some (in_content before (just_opened name attrs) [])
 left_in_prolog m stage before (empty_tag name attrs) = Some (in_epilog before (empty_element m name attrs) [])
 left_in_prolog m stage before (end_tag name gap) = None
 left_in_prolog m stage before (text_run bytes) = if list_all is_space bytes then Some (in_prolog (behind_misc stage) (before ++ bytes)) else None
@@ -80,9 +80,9 @@ left_in_content m before inner outer (xml_declaration bytes) = None
 left_in_content m before inner outer (doctype name bytes) = None
 left_in_content m before inner outer (comment_or_instruction bytes) = Some (in_content before (with_kid inner (misc_node bytes)) outer)
 left_in_content m before inner outer (cdata_section bytes) = Some (in_content before (with_kid inner (cdata_node bytes)) outer)
-left_in_content m before inner outer (start_tag name attrs) = Some (in_content before (opened name attrs) (inner ∷ outer))
+left_in_content m before inner outer (start_tag name attrs) = Some (in_content before (just_opened name attrs) (inner ∷ outer))
 left_in_content m before inner outer (empty_tag name attrs) = Some (in_content before (with_kid inner (empty_element m name attrs)) outer)
-left_in_content m before inner outer (end_tag name gap) = Some (joined_to before outer (closed m inner gap))
+left_in_content m before inner outer (end_tag name gap) = Some (joined_to before outer (closed_element m inner gap))
 left_in_content m before inner outer (text_run bytes) = Some (in_content before (with_kid inner (text_node (units_in bytes))) outer)
 
 -- What an item behind the root leaves; none where it may not stand there.

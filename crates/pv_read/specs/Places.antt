@@ -3,11 +3,11 @@ use Rattle.std.specs.Prelude.{◌≡◌, ℕ, suc, Bool, true, false, List, leng
 use Rattle.std.specs.List.{list_all}
 use Rattle.pv_chars.specs.Spaces.{is_space}
 use Rattle.pv_read.specs.Items.{Item, xml_declaration, doctype, comment_or_instruction, cdata_section, start_tag, empty_tag, end_tag, text_run}
-use Rattle.pv_read.specs.Left.{Left, Stage, before_doctype, behind_doctype, in_prolog, in_content, in_epilog, takes_doctype, is_at_front, behind_misc}
+use Rattle.pv_read.specs.Left.{Left, PlainStage, before_doctype, behind_doctype, in_prolog, in_content, in_epilog, takes_doctype, is_at_front, behind_misc}
 
 -- in the prolog at this stage; in an element of this name, with so many open ones; behind the root
 pub data PlainPlace : Type 0 where
-  prolog : (stage : Stage) → PlainPlace
+  prolog : (stage : PlainStage) → PlainPlace
   content : (name : List ℕ) → (open_elements : ℕ) → PlainPlace
   epilog : PlainPlace
 
@@ -29,7 +29,7 @@ open_at (content name open_elements) = open_elements
 open_at epilog = 0
 
 -- the item may stand in the prolog at this stage
-abbrev pub may_stand_in_prolog : Stage → Item → Bool
+abbrev pub may_stand_in_prolog : PlainStage → Item → Bool
 may_stand_in_prolog stage (xml_declaration bytes) = is_at_front stage
 may_stand_in_prolog stage (doctype name bytes) = takes_doctype stage
 may_stand_in_prolog stage (comment_or_instruction bytes) = true
@@ -83,7 +83,7 @@ IsMismatchAt (content name open_elements) i = IsMismatchIn name i
 IsMismatchAt epilog i = ⊥
 
 -- the stage behind an item that may stand in the prolog
-abbrev pub stage_behind : Stage → Item → Stage
+abbrev pub stage_behind : PlainStage → Item → PlainStage
 stage_behind stage (xml_declaration bytes) = before_doctype
 stage_behind stage (doctype name bytes) = behind_doctype
 stage_behind stage (comment_or_instruction bytes) = behind_misc stage

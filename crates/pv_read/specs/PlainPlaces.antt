@@ -1,12 +1,12 @@
 -- The plain form of a place.
-use Rattle.pv_read.specs.Left.{Stage, at_front, before_doctype, behind_doctype}
+use Rattle.pv_read.specs.Left.{PlainStage, at_front, before_doctype, behind_doctype}
 use Rattle.pv_read.specs.Places.{PlainPlace, prolog, content, epilog}
 use Rattle.pv_read.specs.declared.places.PrologStage.{PrologStage}
 use Rattle.pv_read.specs.declared.places.PrologStage.TheVariants as stage
 use Rattle.pv_read.specs.declared.places.Place.{Place}
 use Rattle.pv_read.specs.declared.places.Place.TheVariants as place
 
-abbrev pub plain_stage : PrologStage → Stage
+abbrev pub plain_stage : PrologStage → PlainStage
 plain_stage stage.AtFront = at_front
 plain_stage stage.BeforeDoctype = before_doctype
 plain_stage stage.BehindDoctype = behind_doctype

@@ -27,7 +27,8 @@ ends_tag (b ∷ bs) = (b == 62) || (b == 47)
 pub record TakesAttributes (R : List ℕ → Type 0) (bytes attrs rest : List ℕ) : Type 0 where
   pub are_attributes : IsAttributes R attrs
   pub whole : bytes ≡ attrs ++ rest
-  pub only : (other more : List ℕ) → IsAttributes R other → bytes ≡ other ++ more → ends_tag more ≡ true → (attrs ≡ other) × (rest ≡ more)
+  pub only : (other more : List ℕ) → IsAttributes R other → bytes ≡ other ++ more →
+      ends_tag more ≡ true → (attrs ≡ other) × (rest ≡ more)
 
 -- S, this word and S stand at the front, and this after them.
 pub record TakesWord (word bytes rest : List ℕ) : Type 0 where
@@ -45,11 +46,13 @@ ends_front (b ∷ bs) = (b == 62) || (b == 91)
 
 -- no front of a document type declaration stands before its end or an internal subset
 abbrev pub BeginsNoDoctypeFront : List ℕ → Type 0
-BeginsNoDoctypeFront bytes = (name front more : List ℕ) → IsDoctypeFront name front → bytes ≡ front ++ more → ends_front more ≡ true → ⊥
+BeginsNoDoctypeFront bytes = (name front more : List ℕ) → IsDoctypeFront name front →
+    bytes ≡ front ++ more → ends_front more ≡ true → ⊥
 
 -- The front of a document type declaration of this name, and this after it. No other stands before an end or an internal subset.
 pub record TakesDoctypeFront (bytes name rest : List ℕ) : Type 0 where
   pub front : List ℕ
   pub is_front : IsDoctypeFront name front
   pub whole : bytes ≡ front ++ rest
-  pub only : (other another more : List ℕ) → IsDoctypeFront other another → bytes ≡ another ++ more → ends_front more ≡ true → (name ≡ other) × (rest ≡ more)
+  pub only : (other another more : List ℕ) → IsDoctypeFront other another →
+      bytes ≡ another ++ more → ends_front more ≡ true → (name ≡ other) × (rest ≡ more)

@@ -13,4 +13,5 @@ pub record BeginsText (bytes : List ℕ) (units : List (List ℕ)) (rest : List 
 
 -- no such text run stands at the front
 abbrev pub BeginsNoText : List ℕ → Type 0
-BeginsNoText bytes = (run rest : List ℕ) → BeginsItem (text_run run) bytes rest → IsCharacterData IsKnownReference run → ⊥
+BeginsNoText bytes = (run rest : List ℕ) → BeginsItem (text_run run) bytes rest →
+    IsCharacterData IsKnownReference run → ⊥

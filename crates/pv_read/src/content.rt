@@ -3,7 +3,7 @@
 ghost use Rattle.std.specs.Prelude.{◌≤◌, ◌<◌, ◌+◌, [], ℕ, List, length, IfOk, IfErr};
 ghost use Rattle.pv_tree.specs.PlainForms.{plain};
 ghost use Rattle.pv_tree.specs.Marks.{blank_mark};
-ghost use Rattle.pv_read.specs.Left.{in_content, in_epilog, opened};
+ghost use Rattle.pv_read.specs.Left.{in_content, in_epilog, just_opened};
 ghost use Rattle.pv_read.specs.Meaning.{MAX_DOC_BYTES, Means};
 ghost use Rattle.pv_read.specs.Errors.{Refuses};
 ghost use Rattle.pv_read.specs.Steps.{Leads};
@@ -49,9 +49,9 @@ pub fn read_content<'a>(
 ) -> Result<(Node, &'a [u8], u64), DocError>
     requires { first + length bytes.now ≤ MAX_DOC_BYTES }
     ensures read { IfOk result (λ r. (before : List ℕ) →
-        Leads blank_mark root.now first (in_content before (opened tag.now.name.now tag.now.attrs.now) []) bytes.now r.2 (in_epilog before (plain r.0) []) r.1.now) }
+        Leads blank_mark root.now first (in_content before (just_opened tag.now.name.now tag.now.attrs.now) []) bytes.now r.2 (in_epilog before (plain r.0) []) r.1.now) }
     ensures refused { IfErr result (λ e. (before : List ℕ) →
-        Refuses (Means blank_mark root.now first (in_content before (opened tag.now.name.now tag.now.attrs.now) []) bytes.now) e) }
+        Refuses (Means blank_mark root.now first (in_content before (just_opened tag.now.name.now tag.now.attrs.now) []) bytes.now) e) }
     ensures few { IfOk result (λ r. r.2 + length r.1.now ≤ first + length bytes.now) }
 {
     let mut elements = OpenElements::of(alloc, tag);

@@ -5,7 +5,7 @@ ghost use Rattle.pv_tree.specs.declared.nodes.Mark.{Mark};
 ghost use Rattle.pv_tree.specs.Marks.{blank_mark};
 ghost use Rattle.pv_tree.specs.Legal.{MAX_DEPTH as MOST_DEPTH};
 ghost use Rattle.pv_read.specs.Left.{Left, IsWholeAt};
-ghost use Rattle.pv_read.specs.Kinds.{BeginsSubset, opens};
+ghost use Rattle.pv_read.specs.Kinds.{BeginsSubset, opens_element};
 ghost use Rattle.pv_read.specs.Meaning.{Means};
 ghost use Rattle.pv_read.specs.Errors.{Refuses};
 ghost use Rattle.pv_read.specs.PlainItems.{plain_item};
@@ -15,7 +15,7 @@ ghost use Rattle.pv_read.specs.Steps.{TakesItem};
 
 use crate::errors::DocError;
 use crate::forms::{Item, begins_subset, has_known_references, item_at};
-use crate::places::{Place, is_other_doctype, opens};
+use crate::places::{Place, is_other_doctype, opens_element};
 
 /// The most elements that stand one inside another.
 const MAX_DEPTH: usize = 512;
@@ -29,9 +29,9 @@ fn has_subset(place: &Place<'_>, rest: &[u8]) -> bool
 
 // Whether the item opens an element inside too many.
 fn is_too_deep(place: &Place<'_>, item: &Item<'_>) -> bool
-    ensures { IsTrue result ↔ (IsTrue (opens (plain_item item.now)) × (MOST_DEPTH ≤ open_at (plain_place place.now))) }
+    ensures { IsTrue result ↔ (IsTrue (opens_element (plain_item item.now)) × (MOST_DEPTH ≤ open_at (plain_place place.now))) }
 {
-    opens(item) && place.open_elements() >= MAX_DEPTH
+    opens_element(item) && place.open_elements() >= MAX_DEPTH
 }
 
 /// The item at the front and what stands after it, or the first kind of fault there, behind so many items at this place.

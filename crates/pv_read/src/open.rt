@@ -4,7 +4,7 @@ ghost use Rattle.std.specs.Prelude.{◌≡◌, ℕ, List, [], ◌∷◌, IsTrue,
 ghost use Rattle.pv_tree.specs.Plain.{tagged, element};
 ghost use Rattle.pv_tree.specs.PlainForms.{plain, forest};
 ghost use Rattle.pv_tree.specs.Marks.{blank_mark};
-ghost use Rattle.pv_read.specs.Left.{left_by, opened, with_kid, empty_element, closed, joined_to};
+ghost use Rattle.pv_read.specs.Left.{left_by, just_opened, with_kid, empty_element, closed_element, joined_to};
 ghost use Rattle.pv_read.specs.PlainItems.{plain_item};
 ghost use Rattle.pv_read.specs.PlainPlaces.{plain_place};
 ghost use Rattle.pv_read.specs.Places.{place_of};
@@ -28,7 +28,7 @@ pub struct OpenElement<'a> {
 impl<'a> OpenElement<'a> {
     /// The element that a start tag opens.
     fn of(alloc: Global, tag: &Tag<'a>) -> OpenElement<'a>
-        ensures { plain_open result ≡ opened tag.now.name.now tag.now.attrs.now }
+        ensures { plain_open result ≡ just_opened tag.now.name.now tag.now.attrs.now }
     {
         OpenElement {
             name: tag.name,
@@ -82,7 +82,7 @@ pub struct OpenElements<'a> {
 impl<'a> OpenElements<'a> {
     /// The root alone, which this tag opens.
     pub fn of(alloc: Global, tag: &Tag<'a>) -> OpenElements<'a>
-        ensures inner { plain_open result.inner ≡ opened tag.now.name.now tag.now.attrs.now }
+        ensures inner { plain_open result.inner ≡ just_opened tag.now.name.now tag.now.attrs.now }
         ensures outer { result.outer.items ≡ [] }
     {
         OpenElements {
@@ -109,7 +109,7 @@ impl<'a> OpenElements<'a> {
 
     // One more open element, the innermost.
     fn open(&mut self, alloc: Global, tag: &Tag<'a>) -> Result<(), NoMemory>
-        ensures inner { OnOk result (plain_open self.new.inner ≡ opened tag.now.name.now tag.now.attrs.now) }
+        ensures inner { OnOk result (plain_open self.new.inner ≡ just_opened tag.now.name.now tag.now.attrs.now) }
         ensures outer { OnOk result (opens_of self.new.outer.items ≡ plain_open self.old.inner ∷ opens_of self.old.outer.items) }
     {
         let inner = mem::replace(&mut self.inner, OpenElement::of(alloc, tag));
@@ -120,7 +120,7 @@ impl<'a> OpenElements<'a> {
     // The innermost open element ends: it is a kid of the one around it, or the root.
     fn close(&mut self, alloc: Global, gap: &[u8]) -> Result<Option<Node>, NoMemory>
         ensures { IfOk result (λ root. (before : List ℕ) → left_after before self.new root ≡
-            joined_to before (opens_of self.old.outer.items) (closed blank_mark (plain_open self.old.inner) gap.now)) }
+            joined_to before (opens_of self.old.outer.items) (closed_element blank_mark (plain_open self.old.inner) gap.now)) }
     {
         let kids = mem::replace(&mut self.inner.kids, Vec::new(alloc));
         let element = tagged_element(alloc, self.inner.name, self.inner.attrs, kids, gap)?;

@@ -4,7 +4,7 @@ ghost use Rattle.std.specs.Prelude.{◌≡◌, ◌↔◌, IsTrue};
 ghost use Rattle.std.specs.List.{list_all};
 ghost use Rattle.pv_chars.specs.Spaces.{is_space};
 ghost use Rattle.pv_read.specs.Left.{is_at_front, takes_doctype, behind_misc};
-ghost use Rattle.pv_read.specs.Kinds.{IsOtherDoctype, opens};
+ghost use Rattle.pv_read.specs.Kinds.{IsOtherDoctype, opens_element};
 ghost use Rattle.pv_read.specs.PlainItems.{plain_item};
 ghost use Rattle.pv_read.specs.PlainPlaces.{plain_stage, plain_place};
 ghost use Rattle.pv_read.specs.Places.{takes_doctype_at, open_at, may_stand_in_prolog, may_stand_in_content, may_stand_in_epilog, may_stand, IsMismatchIn, IsMismatchAt, stage_behind};
@@ -153,8 +153,8 @@ pub fn is_other_doctype(root: &[u8], item: &Item<'_>) -> bool
 }
 
 /// Whether the item opens an element.
-pub fn opens(item: &Item<'_>) -> bool
-    ensures { result ≡ opens (plain_item item.now) }
+pub fn opens_element(item: &Item<'_>) -> bool
+    ensures { result ≡ opens_element (plain_item item.now) }
 {
     match item {
         Item::XmlDeclaration(_) => false,
@@ -168,11 +168,14 @@ pub fn opens(item: &Item<'_>) -> bool
     }
 }
 
-/// In the prolog at a stage; in the root, with the name of the innermost open element and the number of open ones; behind the root.
+/// Where an item of a document stands.
 #[derive(Clone, Copy)]
 pub enum Place<'a> {
+    /// In the prolog, at a stage of it (XML 1.0, section 2.8).
     Prolog(PrologStage),
+    /// In the root, with the name of the innermost open element and the number of open ones.
     Content(&'a [u8], usize),
+    /// Behind the root.
     Epilog,
 }
 

@@ -2,10 +2,10 @@
 use Rattle.std.proofs.Common.{List, None, Some, [], ap, arith, length, length-append, refl, slice_get, suc, zero, ℕ, ◌+◌, ◌++◌, ◌∷◌, ◌≡◌, ◌≤◌}
 use Rattle.pv_model.specs.Plain.{PlainModel, PlainPart, PlainParts, children, choice, mixed, name, opt, part, plus, seq, star}
 use Rattle.pv_dtd.specs.Plain.{PlainDtd, model_of, parts_in, parts_in_model, parts_in_models}
-use Rattle.pv_rules.specs.Numbering.{IsMemberAt, first_part, numbered, numbered_models, part_at, parts_before, rest_at}
+use Rattle.pv_rules.specs.Numbering.{IsMemberAt, first_part, numbered_particle, numbered_models, part_at, parts_before, rest_at}
 use Rattle.pv_rules.specs.PartLaws.{PartsByNumber}
 use Rattle.pv_rules.proofs.Located.{first_holds, others_hold, part_after, part_holds, part_is, part_within, rest_holds, rest_is}
-use Rattle.pv_rules.proofs.Numbers.{choice_holds, length-models, length-numbered, listed_at, model_holds}
+use Rattle.pv_rules.proofs.Numbers.{choice_holds, length-models, length-numbered_particle, listed_at, model_holds}
 
 module _ (g : PlainDtd) where
   in_seq : (q : ℕ) (p : PlainPart) (ps : PlainParts) → part_at g q ≡ Some (seq (part p ps)) → rest_at g (suc q) ≡ Some (part p ps)
@@ -34,9 +34,9 @@ module _ (g : PlainDtd) where
       omega (
         arith,
         length-models g.models,
-        length-numbered p h.0,
-        length-append h.1.front (numbered p h.0 ++ h.1.back),
-        length-append (numbered p h.0) h.1.back,
+        length-numbered_particle p h.0,
+        length-append h.1.front (numbered_particle p h.0 ++ h.1.back),
+        length-append (numbered_particle p h.0) h.1.back,
       )
 
 contents_within : (ms : List PlainModel) (x : ℕ) (m : PlainModel) → slice_get ms x ≡ Some m → parts_before ms x + parts_in_model m ≤ parts_in_models ms

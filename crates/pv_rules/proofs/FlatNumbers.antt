@@ -4,11 +4,11 @@ use Rattle.std.proofs.Common.{List, None, Option, Some, [], ap, arith, length, m
 use Rattle.pv_model.specs.Plain.{PlainModel, PlainPart, PlainParts, any, children, choice, empty, mixed, name, no_parts, opt, part, plus, seq, star}
 use Rattle.pv_dtd.specs.Plain.{PlainDtd, parts_in, parts_in_model}
 use Rattle.pv_rules.specs.Flat.{flat_contents, flat_members, flat_model, flat_models, flat_names, flat_part, flat_parts, one_content, one_part}
-use Rattle.pv_rules.specs.Numbering.{Numbered, listed_name, numbered, numbered_choices, numbered_members, numbered_model, numbered_models, parts_before}
+use Rattle.pv_rules.specs.Numbering.{Numbered, listed_name, numbered_particle, numbered_choices, numbered_members, numbered_model, numbered_models, parts_before}
 use Rattle.pv_rules.specs.PartLaws.{FlatByNumber, membership_at}
 use Rattle.pv_rules.specs.declared.flat.FlatPart.{FlatPart}
 use Rattle.pv_rules.specs.declared.flat.Membership.TheVariants as membership
-use Rattle.pv_rules.proofs.Numbers.{length-model, length-numbered}
+use Rattle.pv_rules.proofs.Numbers.{length-model, length-numbered_particle}
 
 -- numbered parts laid out flat, from number q on
 abbrev pub flat_from : ℕ → List Numbered → List FlatPart
@@ -23,7 +23,7 @@ flat_from-append q (suc n) (e ∷ a) b l =
     rw z (ap (λ x. one_part q (membership_at e.rest) e.self ∷ x) (flat_from-append (suc q) n a b (omega arith)))
 
 mutual
-  flat_is : (q : ℕ) (p : PlainPart) (r : Option PlainParts) → flat_part q (membership_at r) p ≡ flat_from q (numbered p r)
+  flat_is : (q : ℕ) (p : PlainPart) (r : Option PlainParts) → flat_part q (membership_at r) p ≡ flat_from q (numbered_particle p r)
   flat_is q (name y) r = refl
   flat_is q (seq ps) r = ap (λ x. one_part q (membership_at r) (seq ps) ∷ x) (members_are (suc q) ps)
   flat_is q (choice ps) r = ap (λ x. one_part q (membership_at r) (choice ps) ∷ x) (choices_are (suc q) ps)
@@ -35,7 +35,7 @@ mutual
   members_are q no_parts = refl
   members_are q (part p ps) =
       rw (
-        flat_from-append q (parts_in p) (numbered p (Some (part p ps))) (numbered_members ps) (length-numbered p (Some (part p ps))),
+        flat_from-append q (parts_in p) (numbered_particle p (Some (part p ps))) (numbered_members ps) (length-numbered_particle p (Some (part p ps))),
         ← flat_is q p (Some (part p ps)),
         ← members_are (q + parts_in p) ps,
       ) refl
@@ -44,7 +44,7 @@ mutual
   choices_are q no_parts = refl
   choices_are q (part p ps) =
       rw (
-        flat_from-append q (parts_in p) (numbered p None) (numbered_choices ps) (length-numbered p None),
+        flat_from-append q (parts_in p) (numbered_particle p None) (numbered_choices ps) (length-numbered_particle p None),
         ← flat_is q p None,
         ← choices_are (q + parts_in p) ps,
       ) refl

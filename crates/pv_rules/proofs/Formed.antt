@@ -6,7 +6,7 @@ use Rattle.std.proofs.lemmas.Bool.{and_parts}
 use Rattle.pv_model.specs.Plain.{PlainModel, PlainPart, PlainParts, any, children, choice, empty, mixed, name, no_parts, opt, part, plus, seq, star}
 use Rattle.pv_dtd.specs.Facts.{MAX_NESTING, are_formed, has_operator, is_formed, is_formed_model, members, nesting}
 use Rattle.pv_dtd.specs.Plain.{PlainDtd}
-use Rattle.pv_rules.specs.Numbering.{Numbered, listed_name, numbered, numbered_choices, numbered_members, numbered_model, numbered_models}
+use Rattle.pv_rules.specs.Numbering.{Numbered, listed_name, numbered_particle, numbered_choices, numbered_members, numbered_model, numbered_models}
 use Rattle.pv_rules.specs.PartLaws.{PartsAreFormed}
 
 abbrev AreAllFormed : List Numbered → Type 0
@@ -17,7 +17,7 @@ joined [] b f h = h
 joined (e ∷ a) b f h = (f.0, joined a b f.1 h)
 
 mutual
-  formed : (p : PlainPart) (r : Option PlainParts) → is_formed p ≡ true → AreAllFormed (numbered p r)
+  formed : (p : PlainPart) (r : Option PlainParts) → is_formed p ≡ true → AreAllFormed (numbered_particle p r)
   formed (name y) r e = (e, tt)
   formed (seq ps) r e = (e, members_formed ps (and_parts (nat_le 1 (members ps)) (are_formed ps) e).1)
   formed (choice ps) r e = (e, choices_formed ps (and_parts (nat_le 2 (members ps)) (are_formed ps) e).1)
@@ -29,13 +29,13 @@ mutual
   members_formed no_parts e = tt
   members_formed (part p ps) e =
       let s = and_parts (is_formed p) (are_formed ps) e in
-      joined (numbered p (Some (part p ps))) (numbered_members ps) (formed p (Some (part p ps)) s.0) (members_formed ps s.1)
+      joined (numbered_particle p (Some (part p ps))) (numbered_members ps) (formed p (Some (part p ps)) s.0) (members_formed ps s.1)
 
   choices_formed : (ps : PlainParts) → are_formed ps ≡ true → AreAllFormed (numbered_choices ps)
   choices_formed no_parts e = tt
   choices_formed (part p ps) e =
       let s = and_parts (is_formed p) (are_formed ps) e in
-      joined (numbered p None) (numbered_choices ps) (formed p None s.0) (choices_formed ps s.1)
+      joined (numbered_particle p None) (numbered_choices ps) (formed p None s.0) (choices_formed ps s.1)
 
 listed_formed : (ys : List ℕ) → AreAllFormed (map listed_name ys)
 listed_formed [] = tt

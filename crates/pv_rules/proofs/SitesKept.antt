@@ -9,7 +9,7 @@ use Rattle.pv_model.specs.Plain.{PlainModel, PlainPart, PlainParts, PlainToken, 
 use Rattle.pv_dtd.specs.Facts.{are_known}
 use Rattle.pv_dtd.specs.Plain.{PlainDtd, declared, mentions, names_in, names_in_all, names_in_model}
 use Rattle.pv_rules.specs.Laws.{RulesKeepSites}
-use Rattle.pv_rules.specs.Numbering.{Numbered, first_part, listed_name, numbered, numbered_choices, numbered_members, numbered_model, numbered_models, part_at, rest_at}
+use Rattle.pv_rules.specs.Numbering.{Numbered, first_part, listed_name, numbered_particle, numbered_choices, numbered_members, numbered_model, numbered_models, part_at, rest_at}
 use Rattle.pv_rules.specs.Rules.{any_name, any_none, any_text, children_part, empty_none, kept, missing, mixed_name, mixed_none, mixed_text, opt_none, opt_one, part_choice, part_name, part_seq, plus_more, plus_one, rest_last, rest_then, star_more, star_none}
 use Rattle.pv_rules.proofs.Facts.{parts_by_number}
 
@@ -39,7 +39,7 @@ one_below : (n y : ℕ) → list_all (is_below n) (y ∷ []) ≡ true → y < n
 one_below n y e = ltb-true y n (and_parts (is_below n y) true e).0
 
 mutual
-  below : (n : ℕ) (p : PlainPart) (r : Option PlainParts) → list_all (is_below n) (names_in p) ≡ true → AreBelow n (numbered p r)
+  below : (n : ℕ) (p : PlainPart) (r : Option PlainParts) → list_all (is_below n) (names_in p) ≡ true → AreBelow n (numbered_particle p r)
   below n (name y) r e = (one_below n y e, tt)
   below n (seq ps) r e = (tt, members_below n ps e)
   below n (choice ps) r e = (tt, choices_below n ps e)
@@ -51,13 +51,13 @@ mutual
   members_below n no_parts e = tt
   members_below n (part p ps) e =
       let s = split n (names_in p) (names_in_all ps) e in
-      joined n (numbered p (Some (part p ps))) (numbered_members ps) (below n p (Some (part p ps)) s.0) (members_below n ps s.1)
+      joined n (numbered_particle p (Some (part p ps))) (numbered_members ps) (below n p (Some (part p ps)) s.0) (members_below n ps s.1)
 
   choices_below : (n : ℕ) (ps : PlainParts) → list_all (is_below n) (names_in_all ps) ≡ true → AreBelow n (numbered_choices ps)
   choices_below n no_parts e = tt
   choices_below n (part p ps) e =
       let s = split n (names_in p) (names_in_all ps) e in
-      joined n (numbered p None) (numbered_choices ps) (below n p None s.0) (choices_below n ps s.1)
+      joined n (numbered_particle p None) (numbered_choices ps) (below n p None s.0) (choices_below n ps s.1)
 
 listed_below : (n : ℕ) (ys : List ℕ) → list_all (is_below n) ys ≡ true → AreBelow n (map listed_name ys)
 listed_below n [] e = tt

@@ -15,7 +15,8 @@ ClosedIsBelow G R = (t : G → ℕ) → IsClosed R t → (n : ℕ) (x : G) → D
 
 -- what has a derivation is in each closed set
 abbrev pub ClosedSetHolds : (G : Type 0) → (G → ℕ → List G → Type 0) → Type 0
-ClosedSetHolds G R = (S : G → Bool) → IsClosedSet R (λ x. IsTrue (S x)) → (n : ℕ) (x : G) → Derives R n x → IsTrue (S x)
+ClosedSetHolds G R = (S : G → Bool) → IsClosedSet R (λ x. IsTrue (S x)) → (n : ℕ) (x : G) →
+    Derives R n x → IsTrue (S x)
 
 -- a weight is unique
 abbrev pub OneWeight : (G : Type 0) → (G → ℕ → List G → Type 0) → Type 0
@@ -27,7 +28,8 @@ WeightsAreClosed G R = (t : G → ℕ) → ((x : G) → IsWeight R x (t x)) → 
 
 -- the values of a closed table that are attained are weights
 abbrev pub AttainedAreWeights : (G : Type 0) → (G → ℕ → List G → Type 0) → Type 0
-AttainedAreWeights G R = (t : G → ℕ) → IsClosed R t → (x : G) → t x ≤ heaviest → (t x < heaviest → Derives R (t x) x) → IsWeight R x (t x)
+AttainedAreWeights G R = (t : G → ℕ) → IsClosed R t → (x : G) → t x ≤ heaviest →
+    (t x < heaviest → Derives R (t x) x) → IsWeight R x (t x)
 
 -- a rule is over a span of the word, and its right sides over spans within that one
 abbrev pub RulesAreOverSpans : PlainDtd → List PlainToken → Type 0
@@ -36,13 +38,16 @@ RulesAreOverSpans g w = (s : PlainSite) (i j c : ℕ) (xs : List Goal) → Rule 
 
 -- a rule costs at most 1, and has at most two right sides
 abbrev pub RulesAreSmall : PlainDtd → List PlainToken → Type 0
-RulesAreSmall g w = (s : PlainSite) (i j c : ℕ) (xs : List Goal) → Rule g w (over s i j) c xs → (c ≤ 1) × (length xs ≤ 2)
+RulesAreSmall g w = (s : PlainSite) (i j c : ℕ) (xs : List Goal) → Rule g w (over s i j) c xs →
+    (c ≤ 1) × (length xs ≤ 2)
 
 -- a rule has one of the forms of what stands at its site
 abbrev pub RulesAreOfTheirKind : PlainDtd → List PlainToken → Type 0
-RulesAreOfTheirKind g w = (s : PlainSite) (i j c : ℕ) (xs : List Goal) → Rule g w (over s i j) c xs → OfSite g w i j c xs s
+RulesAreOfTheirKind g w = (s : PlainSite) (i j c : ℕ) (xs : List Goal) →
+    Rule g w (over s i j) c xs → OfSite g w i j c xs s
 
 -- where the models speak of names of the DTD alone, the right sides of a rule of one of its sites are sites of it
 abbrev pub RulesKeepSites : PlainDtd → List PlainToken → Type 0
-RulesKeepSites g w = IsTrue (are_known g) → declared g ≤ length g.names → (s : PlainSite) (i j c : ℕ) (xs : List Goal) → Rule g w (over s i j) c xs → HasSite g s →
+RulesKeepSites g w = IsTrue (are_known g) → declared g ≤ length g.names →
+    (s : PlainSite) (i j c : ℕ) (xs : List Goal) → Rule g w (over s i j) c xs → HasSite g s →
     AllByRecursion (λ x. HasSite g x.site) xs

@@ -8,15 +8,11 @@
 #![tactic(auto)]
 
 mod flat;
-mod laws;
+pub mod laws;
 mod layout;
 mod sites;
 
 pub use flat::{ContentKind, FlatContent, FlatDtd, FlatPart, Kind, Membership};
-pub use laws::{
-    attained_law, closed_below_law, closed_set_law, flat_law, formed_law, kinds_law,
-    one_weight_law, parts_law, sites_law, small_law, spans_law, weights_closed_law,
-};
 pub use sites::Site;
 
 #[cfg(test)]

@@ -12,7 +12,8 @@ use Rattle.pv_tree.specs.declared.nodes.TheConstants as constants
 
 -- A document in which each text has a unit is valid exactly where each of its lists is valid by itself.
 abbrev pub IsValidByLists : Type 0 → Type 0
-IsValidByLists M = (g : PlainDtd) (root : List ℕ) (doc : PlainDoc M) → HasUnits doc.root → AllByRecursion (IsValidList g root) (lists_of doc) ↔ IsValid g root (view doc.root)
+IsValidByLists M = (g : PlainDtd) (root : List ℕ) (doc : PlainDoc M) → HasUnits doc.root →
+    AllByRecursion (IsValidList g root) (lists_of doc) ↔ IsValid g root (view doc.root)
 
 -- The blank mark of the program is the one of the definition.
 abbrev pub IsBlank : Type 0

@@ -29,19 +29,19 @@ trees_of (tree t rest) = t ∷ trees_of rest
 
 -- the tree with other marks
 abbrev mutual
-  pub remarked : {M N : Type 0} → (M → N) → Tree M → Tree N
-  remarked f (element x attrs ending kids mark) = element x attrs ending (remarked_all f kids) (f mark)
-  remarked f (text_node units) = text_node units
-  remarked f (cdata_node bytes) = cdata_node bytes
-  remarked f (misc_node bytes) = misc_node bytes
+  pub map_marks : {M N : Type 0} → (M → N) → Tree M → Tree N
+  map_marks f (element x attrs ending kids mark) = element x attrs ending (map_marks_all f kids) (f mark)
+  map_marks f (text_node units) = text_node units
+  map_marks f (cdata_node bytes) = cdata_node bytes
+  map_marks f (misc_node bytes) = misc_node bytes
 
-  pub remarked_all : {M N : Type 0} → (M → N) → Forest M → Forest N
-  remarked_all f no_trees = no_trees
-  remarked_all f (tree t rest) = tree (remarked f t) (remarked_all f rest)
+  pub map_marks_all : {M N : Type 0} → (M → N) → Forest M → Forest N
+  map_marks_all f no_trees = no_trees
+  map_marks_all f (tree t rest) = tree (map_marks f t) (map_marks_all f rest)
 
 -- the tree without its marks
-abbrev pub unmarked : {M : Type 0} → Tree M → Tree Unit
-unmarked t = remarked (λ _. tt) t
+abbrev pub without_marks : {M : Type 0} → Tree M → Tree Unit
+without_marks t = map_marks (λ _. tt) t
 
 -- the nodes at all depths
 abbrev mutual

@@ -5,6 +5,8 @@ use crate::nodes::Node;
 /// What stands at a path: the document node, or a node of the tree.
 #[derive(Clone, Copy, Debug)]
 pub enum Found<'a> {
+    /// The document node, at the path without places.
     Document,
+    /// A node of the tree.
     Inner(&'a Node),
 }

@@ -8,8 +8,10 @@ use Rattle.pv_write.specs.Writes.{IsLegalDocument, SpellsView}
 
 -- what a text spells is written as that text
 abbrev pub WritesWhatIsSpelled : Type 0
-WritesWhatIsSpelled = (root bytes : List ℕ) (doc : PlainDoc Mark) → SpellsDocument root bytes doc → doc_text doc ≡ bytes
+WritesWhatIsSpelled = (root bytes : List ℕ) (doc : PlainDoc Mark) → SpellsDocument root bytes doc →
+    doc_text doc ≡ bytes
 
 -- every legal document is written as a text of a tree with the same view, at any depth and size
 abbrev pub WritesEveryView : Type 0
-WritesEveryView = (root : List ℕ) (doc : PlainDoc Mark) → IsLegalDocument root doc → SpellsView root (doc_text doc) doc
+WritesEveryView = (root : List ℕ) (doc : PlainDoc Mark) → IsLegalDocument root doc →
+    SpellsView root (doc_text doc) doc

@@ -1,13 +1,13 @@
 -- How a run may end, whatever its devices hold.
 use Rattle.std.proofs.Common.{◌≡◌, ◌⊎◌, inl, inr, ℕ, List, Option}
 use Rattle.pv_cli.specs.CommandLine.{PlainCommandLine}
-use Rattle.pv_cli.specs.Course.{Ending, responds}
+use Rattle.pv_cli.specs.Course.{RunEnding, responds}
 use Rattle.pv_cli.specs.Program.{Devices, EndsLike, Runs, Writes, wrote, cut_off, status_of}
 use Rattle.pv_cli.specs.Response.{PlainResponse}
 use Rattle.pv_cli.specs.declared.status.Status.{Status}
 use Rattle.pv_cli.specs.declared.status.Status.TheVariants.{WriteFault}
 
-is_status : (ending : Ending) (old new : Option (List ℕ)) (before after : ℕ) (status : Status) → Writes ending old new before after status →
+is_status : (ending : RunEnding) (old new : Option (List ℕ)) (before after : ℕ) (status : Status) → Writes ending old new before after status →
     (status ≡ status_of ending) ⊎ ((r : PlainResponse) × (ending ≡ responds r) × (status ≡ WriteFault))
 is_status ending old new before after status (wrote is written stays) = inl is
 is_status ending old new before after status (cut_off r is fault front rose) = inr (r, is, fault)

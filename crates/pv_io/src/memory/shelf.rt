@@ -2,7 +2,7 @@
 
 ghost use Rattle.std.specs.Prelude.{◌≡◌, ◌≤◌, ◌<◌, ◌↔◌, ◌⊎◌, [], map, length, Some, IfOk, IsNone, IsSome, IfSome, Contains, vec_len, string_bytes, Err};
 ghost use Rattle.std.specs.Option.{option_map};
-ghost use Rattle.pv_io.specs.Files.{FetchTells, FetchHasCause, file_named, named_files, byte_lists, is_fault, HoldsMore};
+ghost use Rattle.pv_io.specs.Files.{FetchTells, FetchCountsFault, file_named, named_files, byte_lists, is_fault, HoldsMore};
 ghost use Rattle.pv_io.specs.Memory.{no_calls, after_call, FetchFaults};
 
 use super::calls::Calls;
@@ -91,7 +91,7 @@ impl Shelf for MemShelf {
     fn fetch(&mut self, alloc: Global, name: &str, most: usize) -> Result<Vec<u8>, FetchError>
         ensures bound { IfOk result (λ v. vec_len v ≤ most) }
         ensures bytes { FetchTells (Some self.old.files) name.now most result }
-        ensures cause { FetchHasCause self.old.calls.faults self.new.calls.faults result }
+        ensures cause { FetchCountsFault self.old.calls.faults self.new.calls.faults result }
         ensures names { self.new.names ≡ self.old.names }
         ensures files { self.new.files ≡ self.old.files }
 

@@ -2,7 +2,7 @@
 
 ghost use Rattle.std.specs.Prelude.{◌≡◌, ◌≤◌, ◌<◌, ◌-◌, ◌↔◌, ◌⊎◌, min, length, Some, IfOk, IsErr, is_err, []};
 ghost use Rattle.std.specs.Io.KnownBytes.{WriteAppends};
-ghost use Rattle.pv_io.specs.Causes.{HasCause, TakesSome};
+ghost use Rattle.pv_io.specs.Causes.{CountsFault, TakesSome};
 ghost use Rattle.pv_io.specs.Memory.{no_calls, after_call, FailsNow};
 
 use super::calls::Calls;
@@ -69,7 +69,7 @@ impl Sink for MemSink {
     fn put(&mut self, piece: &[u8]) -> Result<usize, Failed>
         ensures bound { IfOk result (λ n. TakesSome n piece.now) }
         ensures bytes { WriteAppends (Some self.old.bytes) (Some self.new.bytes) result piece.now }
-        ensures cause { HasCause self.old.calls.faults self.new.calls.faults result }
+        ensures cause { CountsFault self.old.calls.faults self.new.calls.faults result }
 
         ensures fails { IsErr result ↔ (FailsNow self.old.calls ⊎ ((0 < length piece.now) × (self.old.room ≤ length self.old.bytes))) }
         ensures size { IfOk result (λ n. n ≡ min (min (length piece.now) self.old.piece) (self.old.room - length self.old.bytes)) }

@@ -3,7 +3,7 @@
 ghost use Rattle.std.specs.Prelude.{◌≡◌, ◌≤◌, ◌<◌, ◌↔◌, min, length, Some, IfOk, IsErr, is_err, OnErr, ◌++◌, take, drop, []};
 ghost use Rattle.std.specs.Io.{ReadsAtMost};
 ghost use Rattle.std.specs.Io.KnownBytes.{ReadConsumes};
-ghost use Rattle.pv_io.specs.Causes.{HasCause};
+ghost use Rattle.pv_io.specs.Causes.{CountsFault};
 ghost use Rattle.pv_io.specs.Memory.{no_calls, after_call, FailsNow};
 
 use super::calls::Calls;
@@ -60,7 +60,7 @@ impl Source for MemSource {
     fn fill(&mut self, buf: &mut [u8]) -> Result<usize, Failed>
         ensures bound { ReadsAtMost result buf.new }
         ensures bytes { ReadConsumes (Some self.old.left) (Some self.new.left) result buf.new }
-        ensures cause { HasCause self.old.calls.faults self.new.calls.faults result }
+        ensures cause { CountsFault self.old.calls.faults self.new.calls.faults result }
 
         ensures fails { IsErr result ↔ FailsNow self.old.calls }
         ensures size { IfOk result (λ n. n ≡ min (min (length self.old.left) (length buf.old)) self.old.piece) }

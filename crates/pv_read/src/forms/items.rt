@@ -19,7 +19,9 @@ pub enum Item<'a> {
     CommentOrInstruction(&'a [u8]),
     /// A CDATA section (section 2.7), with its marks.
     CdataSection(&'a [u8]),
+    /// A start tag (section 3.1).
     StartTag(Tag<'a>),
+    /// An empty-element tag (section 3.1).
     EmptyTag(Tag<'a>),
     /// An end tag, and the white space between its name and `>`.
     EndTag { name: &'a [u8], gap: &'a [u8] },

@@ -1,6 +1,6 @@
 use Rattle.std.proofs.Common.{⊎_elim, ◌≡◌, ℕ, List}
 use Rattle.pv_dtd.specs.Kinds.{Kind, parameter, syntax, twice, mixed_twice, nesting, limit}
-use Rattle.pv_dtd.specs.Meaning.{faulty, TextMeans}
+use Rattle.pv_dtd.specs.Meaning.{faulty, DtdTextMeans}
 use Rattle.pv_cli.specs.Opening.{RefusesDtd, no_dtd, dtd_refusal}
 use Rattle.pv_cli.specs.Stage.{StopsBy}
 use Rattle.pv_cli.specs.declared.stop.Stop.{Stop}
@@ -8,7 +8,7 @@ use Rattle.pv_cli.proofs.Stages.{stops_as}
 use Rattle.pv_cli.proofs.opening.dtd_of.Goals as goal
 
 -- a stop with the response to the text's first fault
-refused : (bytes : List ℕ) (kind : Kind) (k : ℕ) (stop : Stop) → TextMeans bytes (faulty kind k) → StopsBy (λ r. r ≡ dtd_refusal kind k) ⊥ stop → StopsBy (RefusesDtd bytes) ⊥ stop
+refused : (bytes : List ℕ) (kind : Kind) (k : ℕ) (stop : Stop) → DtdTextMeans bytes (faulty kind k) → StopsBy (λ r. r ≡ dtd_refusal kind k) ⊥ stop → StopsBy (RefusesDtd bytes) ⊥ stop
 refused bytes kind k stop means stops = stops_as (λ r. r ≡ dtd_refusal kind k) (RefusesDtd bytes) stop (λ r e. no_dtd kind k means e) stops
 
 pub returns-in-Err-Syntax : goal.returns-in-Err-Syntax

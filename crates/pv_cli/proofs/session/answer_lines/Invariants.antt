@@ -1,5 +1,5 @@
 use Rattle.std.proofs.Common.{length}
-use Rattle.pv_io.specs.Causes.{Stays}
+use Rattle.pv_io.specs.Causes.{CountStays}
 use Rattle.pv_tree.specs.PlainDocs.{plain_doc}
 use Rattle.pv_script.specs.Lines.{lines_of}
 use Rattle.pv_cli.proofs.Replies.{Told}
@@ -7,7 +7,7 @@ use Rattle.pv_cli.proofs.session.answer_lines.Given as goal
 
 abbrev pub invariant-lines : goal.invariant-lines
 invariant-lines g l = record {
-  stays : Stays (g.K.Sink.faults l.initial.out) (g.K.Sink.faults l.out);
+  stays : CountStays (g.K.Sink.faults l.initial.out) (g.K.Sink.faults l.out);
   told : Told (g.K.Sink.written l.initial.out) (g.K.Sink.written l.out) (plain_doc l.doc) (lines_of l.script) (lines_of l.rest);
 }
 

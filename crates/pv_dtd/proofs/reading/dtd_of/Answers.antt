@@ -3,7 +3,7 @@ use Rattle.pv_model.specs.PlainForms.{plain_model}
 use Rattle.pv_dtd.specs.Plain.{PlainDtd, parts_in_models}
 use Rattle.pv_dtd.specs.Items.{mentioned_in, models_in}
 use Rattle.pv_dtd.specs.NamedForms.{named_model}
-use Rattle.pv_dtd.specs.Naming.{grown, NumbersModels}
+use Rattle.pv_dtd.specs.Naming.{with_names, NumbersModels}
 use Rattle.pv_dtd.proofs.Telling.{numbered_are}
 use Rattle.pv_dtd.proofs.Numbered.{parts_numbered}
 use Rattle.pv_dtd.proofs.reading.dtd_of.Goals as goal
@@ -11,7 +11,7 @@ use Rattle.pv_dtd.proofs.reading.dtd_of.Goals as goal
 pub of-requires-clause-items : goal.of-requires-clause-items
 of-requires-clause-items c =
     let told = c.in_ok-declared.ensures in
-    let names = c.in_ok-models.ensures.names ∙ ap (λ ms. grown c.declarations.new.names (mentioned_in (map named_model ms))) c.as_slice.ensures.value in
+    let names = c.in_ok-models.ensures.names ∙ ap (λ ms. with_names c.declarations.new.names (mentioned_in (map named_model ms))) c.as_slice.ensures.value in
     let placed = subst (λ ms. NumbersModels c.models_of.new.names (map named_model ms) (map plain_model c.in_ok-models.models.items)) c.as_slice.ensures.value c.in_ok-models.ensures.numbers in
     (told.0, told.2.ruled, numbered_are told.0 _ _ _ told.2 _ _ names placed)
 
@@ -25,6 +25,6 @@ of-requires-clause-counted c =
 pub returns : goal.returns
 returns c =
     let told = c.in_ok-declared.ensures in
-    let names = c.in_ok-models.ensures.names ∙ ap (λ ms. grown c.declarations.new.names (mentioned_in (map named_model ms))) c.as_slice.ensures.value in
+    let names = c.in_ok-models.ensures.names ∙ ap (λ ms. with_names c.declarations.new.names (mentioned_in (map named_model ms))) c.as_slice.ensures.value in
     let placed = subst (λ ms. NumbersModels c.models_of.new.names (map named_model ms) (map plain_model c.in_ok-models.models.items)) c.as_slice.ensures.value c.in_ok-models.ensures.numbers in
     (told.0, told.1, c.of.ensures ∙ numbered_are told.0 _ _ _ told.2 _ _ names placed)

@@ -1,6 +1,6 @@
 use Rattle.std.proofs.Common.{length, ◌-◌, ◌≤◌, take}
 use Rattle.std.specs.Io.KnownBytes.{Appends}
-use Rattle.pv_io.specs.Causes.{Stays}
+use Rattle.pv_io.specs.Causes.{CountStays}
 use Rattle.pv_io.proofs.sink.write_all.Given as goal
 
 -- the first bytes were written, with no fault
@@ -8,7 +8,7 @@ abbrev pub invariant-loop-at : goal.invariant-loop-at
 invariant-loop-at g l = record {
   within : l.at ≤ length l.bytes;
   written : Appends (g.K.Sink.written l.initial.sink) (g.K.Sink.written l.sink) (take l.at l.bytes);
-  stays : Stays (g.K.Sink.faults l.initial.sink) (g.K.Sink.faults l.sink);
+  stays : CountStays (g.K.Sink.faults l.initial.sink) (g.K.Sink.faults l.sink);
 }
 
 abbrev pub decreases-loop-at : goal.decreases-loop-at

@@ -1,7 +1,7 @@
 use Rattle.std.proofs.Common.{◌≡◌, ◌&&◌, ◌==◌, ◌∙◌, ap, arith, rules, [], ◌∷◌}
 use Rattle.std.proofs.lemmas.Grind.{common_steps}
-use Rattle.pv_model.specs.Positions.{written}
-use Rattle.pv_model.proofs.Written.{written_one}
+use Rattle.pv_model.specs.Positions.{overwrite}
+use Rattle.pv_model.proofs.Written.{overwrite_one}
 use Rattle.pv_model.proofs.positions.advance_name.Goals as goal
 
 pub returns : goal.returns
@@ -13,5 +13,5 @@ returns c =
       is_end = is;
       is_reached = is;
       may_be_empty = search rules;
-      positions = written_one c.args.at c.if-entered.is_end c.args.positions.now c.requires ∙ ap (λ b. written c.args.at (b ∷ []) c.args.positions.now) is;
+      positions = overwrite_one c.args.at c.if-entered.is_end c.args.positions.now c.requires ∙ ap (λ b. overwrite c.args.at (b ∷ []) c.args.positions.now) is;
     }

@@ -1,4 +1,4 @@
-use Rattle.std.proofs.Common.{◌≡◌, ◌∙◌, ◌&&◌, ◌||◌, ◌==◌, not, ap, rules, refl, IsTrue, []}
+use Rattle.std.proofs.Common.{◌≡◌, ◌∙◌, ◌&&◌, ◌||◌, ◌==◌, not, ap, rules, IsTrue, []}
 use Rattle.pv_model.proofs.LayoutSteps.{none_where, AdvancesFrom-passed, AdvancesFrom-one, AdvancesFrom-in_order, AdvancesFrom-either, AdvancesFrom-optional, AdvancesFrom-repeated}
 use Rattle.pv_model.proofs.reach.+advance.Goals as goal
 use Rattle.pv_model.proofs.reach.+advance.Goals.{then-not-entered, else-not-entered}
@@ -11,10 +11,13 @@ returns-then-is_empty-2 t c =
     ] in
     AdvancesFrom-passed _ _ _ _ _ _ _ _ (none_where c.args.reached.now c.is_empty.result c.is_empty.ensures c.if-is_empty.true) uncalled c.none.ensures.was_end c.none.ensures.is_end
 
-pub returns-in_ok-push_if-in-Name : goal.returns-in_ok-push_if-in-Name
-returns-in_ok-push_if-in-Name t c =
+pub returns-in_ok-ends-in-Name : goal.returns-in_ok-ends-in-Name
+returns-in_ok-ends-in-Name t c =
     let is : c.if-entered.is_end ≡ (c.args.entered && c.in-Name.own == c.args.name) = search rules in
-    rw c.in-Name.is (AdvancesFrom-one _ _ _ _ _ _ _ _ _ _ (ap not c.is_empty-in-Name.ensures) is c.in_ok-push_if-in-Name.ensures)
+    let ends = c.in_ok-ends-in-Name.ensures.ends in
+    rw c.in-Name.is (
+    AdvancesFrom-one _ _ _ _ _ _ _ _ _ _ _ (ends.0 ∙ ap not c.is_empty-in-Name.ensures) ends.1 is c.in_ok-ends-in-Name.ensures.next
+    )
 
 pub returns-in_ok-back-in-InOrder : goal.returns-in_ok-back-in-InOrder
 returns-in_ok-back-in-InOrder t c =
@@ -36,10 +39,11 @@ pub returns-in_ok-ends-in-Opt : goal.returns-in_ok-ends-in-Opt
 returns-in_ok-ends-in-Opt t c =
     rw c.in-Opt.is (AdvancesFrom-optional _ _ _ _ _ _ _ _ _ (rw c.deref-in-Opt.ensures at c.in_ok-ends-in-Opt.ensures))
 
-pub returns-in_ok-push_if-in-Plus : goal.returns-in_ok-push_if-in-Plus
-returns-in_ok-push_if-in-Plus t c =
+pub returns-in_ok-ends-in-Plus : goal.returns-in_ok-ends-in-Plus
+returns-in_ok-ends-in-Plus t c =
+    let ends = c.in_ok-ends-in-Plus.ensures.ends in
     let enters : c.if-entered-2.advance ≡ (c.args.entered || not c.is_empty-was_end.result) = search rules in
     rw c.in-Plus.is (
-    AdvancesFrom-repeated _ _ _ _ _ _ _ _ _ _ _ _ _ _ _ _ c.split-in-Plus.ensures (ap not c.is_empty-was_end.ensures) enters
-    (rw c.deref-in-Plus.ensures at c.in_ok-round-in-Plus.ensures) c.in_ok-push_if-in-Plus.ensures refl
+    AdvancesFrom-repeated _ _ _ _ _ _ _ _ _ _ _ _ _ _ _ _ _ c.split-in-Plus.ensures ends.0 (ap not c.is_empty-was_end.ensures) enters
+    (rw c.deref-in-Plus.ensures at c.in_ok-round-in-Plus.ensures) c.in_ok-ends-in-Plus.ensures.next ends.1
     )
