@@ -20,7 +20,7 @@ use Rattle.pv_tree.specs.Words.{node_before}
 use Rattle.pv_tree.specs.declared.nodes.Mark.{Mark}
 use Rattle.pv_read.specs.Items.{Item, xml_declaration, doctype, comment_or_instruction, cdata_section, start_tag, empty_tag, end_tag, text_run, HasKnownReferences}
 use Rattle.pv_read.specs.Kinds.{entity}
-use Rattle.pv_read.specs.Left.{Left, Open, in_content, opened, with_kid, left_by}
+use Rattle.pv_read.specs.Left.{Left, Open, in_content, just_opened, with_kid, left_by}
 use Rattle.pv_read.specs.Places.{may_stand_in_content}
 use Rattle.pv_read.specs.Steps.{TakesItem}
 use Rattle.pv_read.proofs.Decided.{known_is_decided}
@@ -43,8 +43,8 @@ word_by g false false units is e = rw is refl
 
 module _ (g : PlainDtd) (root : List ℕ) (inner : Open Mark) (outer : List (Open Mark)) where
   -- an element begins
-  pub behind_start : (new : OpenLists) (name attrs : List ℕ) → HasRead g root new (opened name attrs) (inner ∷ outer) → IsBehind g root new false inner outer (start_tag name attrs)
-  behind_start new name attrs r = record { next = opened name attrs; around = inner ∷ outer; left_is = λ before. refl; has_read = r; few_kids = omega arith }
+  pub behind_start : (new : OpenLists) (name attrs : List ℕ) → HasRead g root new (just_opened name attrs) (inner ∷ outer) → IsBehind g root new false inner outer (start_tag name attrs)
+  behind_start new name attrs r = record { next = just_opened name attrs; around = inner ∷ outer; left_is = λ before. refl; has_read = r; few_kids = omega arith }
 
   kid_few : (o : Open Mark) (os : List (Open Mark)) (t : Tree Mark) → kids_in (with_kid o t ∷ os) ≤ suc (kids_in (o ∷ os))
   kid_few o os t = omega (arith, length-append o.kids (t ∷ []))
@@ -70,9 +70,9 @@ module _ (g : PlainDtd) (root : List ℕ) (inner : Open Mark) (outer : List (Ope
   kid_behind new i t is r = record { next = with_kid inner t; around = outer; left_is = is; has_read = r; few_kids = kid_few inner outer t }
 
   -- an element begins and ends
-  pub behind_empty : (new : OpenLists) (whole : Bool) (name attrs : List ℕ) → HasEnded g root new whole (inner ∷ outer) (ended (opened name attrs) attrs short blank_mark) → IsBehind g root new whole inner outer (empty_tag name attrs)
+  pub behind_empty : (new : OpenLists) (whole : Bool) (name attrs : List ℕ) → HasEnded g root new whole (inner ∷ outer) (ended (just_opened name attrs) attrs short blank_mark) → IsBehind g root new whole inner outer (empty_tag name attrs)
   behind_empty new true name attrs h = absurd h
-  behind_empty new false name attrs h = kid_behind new (empty_tag name attrs) (ended (opened name attrs) attrs short blank_mark) (λ before. refl) h
+  behind_empty new false name attrs h = kid_behind new (empty_tag name attrs) (ended (just_opened name attrs) attrs short blank_mark) (λ before. refl) h
 
   -- ---- a kid without lists
   module _ (old new : OpenLists) (r : HasRead g root old inner outer) (inner_is : new.inner ≡ record old.inner { kids = old.inner.kids + 1 }) (outer_is : new.outer.items ≡ old.outer.items) (found_is : new.found ≡ old.found)

@@ -14,7 +14,7 @@ use Rattle.pv_tree.specs.Plain.{Tree, Ending, Forest, no_trees, tree, element, f
 use Rattle.pv_tree.specs.Lists.{an_element, IsOwnValid, IsValidList, lists_at, lists_from}
 use Rattle.pv_tree.specs.Words.{node_before, word_of}
 use Rattle.pv_tree.specs.declared.nodes.Mark.{Mark}
-use Rattle.pv_read.specs.Left.{Open, opened, with_kid}
+use Rattle.pv_read.specs.Left.{Open, just_opened, with_kid}
 use Rattle.pv_valid.specs.WholeLists.{next_path, whole_lists, kids_in, TellsFirst, TellsWhether}
 use Rattle.pv_valid.specs.OpenLists.{IsOpen, AreOpen, HasRead, HasRoot, HasEnded, HasRoom, MOST_KIDS, ended}
 use Rattle.pv_valid.specs.declared.open.OpenList.{OpenList}
@@ -50,7 +50,7 @@ cut_off old mid cut tokens inner_is tokens_are cut_is is =
 
 module _ (g : PlainDtd) (root : List ℕ) where
   begun : (list : OpenList) (name attrs : List ℕ) (outer : List (Open Mark)) (tokens : List PlainToken) → Begins g list name → list.start ≡ length tokens
-      → TellsWhether (IsValidList g root) (whole_lists outer) list.is_behind → IsOpen g root list (opened name attrs) outer tokens tokens
+      → TellsWhether (IsValidList g root) (whole_lists outer) list.is_behind → IsOpen g root list (just_opened name attrs) outer tokens tokens
   begun list name attrs outer tokens b start behind = record {
     is_name = b.is_name;
     is_model = b.is_model;
@@ -63,21 +63,21 @@ module _ (g : PlainDtd) (root : List ℕ) where
 
   -- the root begins
   pub root_begun : (new : OpenLists) (name attrs : List ℕ) → Begins g new.inner name → new.inner.start ≡ 0 → new.inner.is_behind ≡ false → new.outer.items ≡ [] → new.tokens.items ≡ [] → new.found ≡ None
-      → HasRead g root new (opened name attrs) []
+      → HasRead g root new (just_opened name attrs) []
   root_begun new name attrs b start behind outer tokens found =
       let so : TellsWhether (IsValidList g root) (whole_lists []) new.inner.is_behind = subst (TellsWhether (IsValidList g root) (whole_lists [])) (sym behind) tt in
       let stack : reverse new.outer.items ≡ [] = ap reverse outer in
       let word : map plain_token new.tokens.items ≡ [] = ap (map plain_token) tokens in
       record {
         are_open = rw (stack, word) ([], begun new.inner name attrs [] [] b start so, refl);
-        is_first = subst (TellsFirst (IsValidList g root) (whole_lists (opened name attrs ∷ []))) (sym found) tt;
+        is_first = subst (TellsFirst (IsValidList g root) (whole_lists (just_opened name attrs ∷ []))) (sym found) tt;
       }
 
   -- one more element begins
   pub element_begun : (old new : OpenLists) (inner : Open Mark) (outer : List (Open Mark)) (name attrs : List ℕ) → HasRead g root old inner outer
       → Begins g new.inner name → new.inner.start ≡ length old.tokens.items → new.inner.is_behind ≡ is_some old.found
       → new.outer.items ≡ old.outer.items ++ old.inner ∷ [] → new.tokens.items ≡ old.tokens.items → new.found ≡ old.found
-      → HasRead g root new (opened name attrs) (inner ∷ outer)
+      → HasRead g root new (just_opened name attrs) (inner ∷ outer)
   element_begun old new inner outer name attrs r b start behind outer_is tokens_are found_is =
       let stack : reverse new.outer.items ≡ old.inner ∷ reverse old.outer.items = ap reverse outer_is ∙ behind_one old.inner old.outer.items in
       let word : map plain_token new.tokens.items ≡ map plain_token old.tokens.items = ap (map plain_token) tokens_are in

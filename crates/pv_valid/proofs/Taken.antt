@@ -5,7 +5,7 @@ use Rattle.pv_tree.specs.Marks.{blank_mark}
 use Rattle.pv_tree.specs.declared.nodes.Mark.{Mark}
 use Rattle.pv_read.specs.Errors.{Refuses}
 use Rattle.pv_read.specs.Items.{Item, HasKnownReferences}
-use Rattle.pv_read.specs.Left.{Left, Open, in_content, in_epilog, opened, IsWholeAt}
+use Rattle.pv_read.specs.Left.{Left, Open, in_content, in_epilog, just_opened, IsWholeAt}
 use Rattle.pv_read.specs.Meaning.{MAX_DOC_BYTES, Outcome, Means}
 use Rattle.pv_read.specs.Places.{PlainPlace, content, place_of, may_stand_in_content}
 use Rattle.pv_read.specs.Steps.{TakesItem}
@@ -38,7 +38,7 @@ module _ {g : PlainDtd} {root name attrs bytes : List ℕ} {first : ℕ} {lists 
   room less = has_room g root lists r.inner r.outer r.has_read (omega (arith, r.few, r.few_kids))
 
   pub refused_at : (e : DocError) → ((before : List ℕ) (inner : Open Mark) (outer : List (Open Mark)) → HasRead g root lists inner outer → Refuses (Means blank_mark root count (in_content before inner outer) rest) e)
-      → (before : List ℕ) → Refuses (Means blank_mark root first (in_content before (opened name attrs) []) bytes) e
+      → (before : List ℕ) → Refuses (Means blank_mark root first (in_content before (just_opened name attrs) []) bytes) e
   refused_at e refuses before = Refuses-weaker _ _ (r.leads before) e (refuses before r.inner r.outer r.has_read)
 
   module _ (new : OpenLists) (more : List ℕ) (less : length more < length rest) (next : ℕ) (next_is : next ≡ count + 1) where
@@ -70,5 +70,5 @@ module _ {g : PlainDtd} {root name attrs bytes : List ℕ} {first : ℕ} {lists 
               r.leads before o (takes_leads count taken o (subst (λ l. Means blank_mark root (suc count) l more o) left_is (subst (λ k. Means blank_mark root k (in_epilog before t.is_behind.tree []) more o) count_is means)));
         }
 
-pub none_read : (g : PlainDtd) (root name attrs bytes : List ℕ) (first : ℕ) (lists : OpenLists) → HasRead g root lists (opened name attrs) [] → ReadsContent g root name attrs bytes first lists bytes first
-none_read g root name attrs bytes first lists r = record { inner = opened name attrs; outer = []; has_read = r; few_kids = omega arith; few = omega arith; leads = λ before o means. means }
+pub none_read : (g : PlainDtd) (root name attrs bytes : List ℕ) (first : ℕ) (lists : OpenLists) → HasRead g root lists (just_opened name attrs) [] → ReadsContent g root name attrs bytes first lists bytes first
+none_read g root name attrs bytes first lists r = record { inner = just_opened name attrs; outer = []; has_read = r; few_kids = omega arith; few = omega arith; leads = λ before o means. means }

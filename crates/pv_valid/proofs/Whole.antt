@@ -10,7 +10,7 @@ use Rattle.pv_tree.specs.View.{view}
 use Rattle.pv_tree.specs.declared.nodes.Mark.{Mark}
 use Rattle.pv_tree.proofs.FirstInvalid.{not_valid, root_invalid, below_invalid, all_valid}
 use Rattle.pv_read.specs.Epilogs.{document, EndsDocument}
-use Rattle.pv_read.specs.Left.{opened}
+use Rattle.pv_read.specs.Left.{just_opened}
 use Rattle.pv_read.specs.Meaning.{MAX_DOC_BYTES, is_document, StartsWith, DocumentMeans, Means}
 use Rattle.pv_read.specs.Prologs.{behind_tag, OpensRoot}
 use Rattle.pv_read.specs.declared.prolog.RootTag.{RootTag}
@@ -25,11 +25,11 @@ use Rattle.pv_valid.specs.Contents.{ReadsRoot}
 use Rattle.pv_valid.specs.declared.open.OpenLists.{OpenLists}
 
 -- a root of an empty-element tag
-pub short_root : (g : PlainDtd) (root name attrs bytes : List ℕ) (count next : ℕ) (is_short whole : Bool) (lists : OpenLists) → HasEnded g root lists whole [] (ended (opened name attrs) attrs short blank_mark)
+pub short_root : (g : PlainDtd) (root name attrs bytes : List ℕ) (count next : ℕ) (is_short whole : Bool) (lists : OpenLists) → HasEnded g root lists whole [] (ended (just_opened name attrs) attrs short blank_mark)
     → is_short ≡ true → next ≡ suc count → ReadsRoot g root is_short name attrs bytes (suc count) lists bytes next
 short_root g root name attrs bytes count next is_short false lists h is same = absurd h
 short_root g root name attrs bytes count next is_short true lists h is same = record {
-  tree = ended (opened name attrs) attrs short blank_mark;
+  tree = ended (just_opened name attrs) attrs short blank_mark;
   has_root = h;
   few = omega arith;
   leads = λ before o means. rw (is, ← same) means;

@@ -5,7 +5,7 @@ use Rattle.pv_tree.specs.Plain.{Tree}
 use Rattle.pv_tree.specs.Marks.{blank_mark}
 use Rattle.pv_tree.specs.declared.nodes.Mark.{Mark}
 use Rattle.pv_read.specs.Items.{Item}
-use Rattle.pv_read.specs.Left.{Open, in_content, in_epilog, opened, left_by}
+use Rattle.pv_read.specs.Left.{Open, in_content, in_epilog, just_opened, left_by}
 use Rattle.pv_read.specs.Prologs.{behind_tag}
 use Rattle.pv_read.specs.Steps.{Leads, TakesItem}
 use Rattle.pv_valid.specs.WholeLists.{kids_in}
@@ -51,7 +51,7 @@ pub record ReadsContent (g : PlainDtd) (root name attrs bytes : List ℕ) (first
   pub few_kids : kids_in (inner ∷ outer) ≤ count
   pub few : count + length rest ≤ first + length bytes
   pub leads : (before : List ℕ) →
-      Leads blank_mark root first (in_content before (opened name attrs) []) bytes count (in_content before inner outer) rest
+      Leads blank_mark root first (in_content before (just_opened name attrs) []) bytes count (in_content before inner outer) rest
 
 -- The root that this tag opens behind so many items, with what stands after it.
 pub record ReadsRoot (g : PlainDtd) (root : List ℕ) (short : Bool) (name attrs bytes : List ℕ) (first : ℕ)

@@ -5,7 +5,7 @@ ghost use Rattle.pv_dtd.specs.PlainForms.{plain_dtd};
 ghost use Rattle.pv_tree.specs.Marks.{blank_mark};
 ghost use Rattle.pv_tree.specs.declared.nodes.Mark.{Mark};
 ghost use Rattle.pv_read.specs.Errors.{Refuses};
-ghost use Rattle.pv_read.specs.Left.{Open, in_content, opened};
+ghost use Rattle.pv_read.specs.Left.{Open, in_content, just_opened};
 ghost use Rattle.pv_read.specs.Meaning.{MAX_DOC_BYTES, Means};
 ghost use Rattle.pv_valid.specs.Contents.{TakesInto, ReadsRoot};
 ghost use Rattle.pv_valid.specs.OpenLists.{HasRead, HasRoom};
@@ -59,7 +59,7 @@ pub fn read_content<'a>(
         first r.0 r.1.now r.2) }
     ensures refused { IfErr result (λ e. (before : List ℕ) →
         Refuses (Means blank_mark root.now first
-        (in_content before (opened tag.now.name.now tag.now.attrs.now) []) bytes.now) e) }
+        (in_content before (just_opened tag.now.name.now tag.now.attrs.now) []) bytes.now) e) }
 {
     let mut lists = OpenLists::of(alloc, dtd, tag.name);
     let mut rest = bytes;

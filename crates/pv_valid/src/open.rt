@@ -12,7 +12,7 @@ ghost use Rattle.pv_tree.specs.Plain.{Ending, forest_of};
 ghost use Rattle.pv_tree.specs.Lists.{IsOwnValid, IsValidList, lists_at};
 ghost use Rattle.pv_tree.specs.declared.nodes.Mark.{Mark};
 ghost use Rattle.pv_read.specs.Items.{HasKnownReferences};
-ghost use Rattle.pv_read.specs.Left.{Open, opened};
+ghost use Rattle.pv_read.specs.Left.{Open, just_opened};
 ghost use Rattle.pv_read.specs.PlainItems.{plain_item};
 ghost use Rattle.pv_read.specs.Places.{may_stand_in_content};
 ghost use Rattle.pv_valid.specs.Contents.{IsBehind};
@@ -100,7 +100,7 @@ pub struct OpenLists<'a> {
 impl<'a> OpenLists<'a> {
     /// Where the root begins.
     pub fn of(alloc: Global, dtd: &'a Dtd, name: &'a [u8]) -> OpenLists<'a>
-        ensures read { (root attrs : List ℕ) → HasRead (plain_dtd dtd.now) root result (opened name.now attrs) [] }
+        ensures read { (root attrs : List ℕ) → HasRead (plain_dtd dtd.now) root result (just_opened name.now attrs) [] }
         ensures room { HasRoom result }
     {
         OpenLists {
@@ -115,7 +115,7 @@ impl<'a> OpenLists<'a> {
     fn open(&mut self, dtd: &'a Dtd, name: &'a [u8]) -> Result<(), NoMemory>
         ensures read { (root attrs : List ℕ) (inner : Open Mark) (outer : List (Open Mark)) →
             HasRead (plain_dtd dtd.now) root self.old inner outer →
-            OnOk result (HasRead (plain_dtd dtd.now) root self.new (opened name.now attrs) (inner ∷ outer)) }
+            OnOk result (HasRead (plain_dtd dtd.now) root self.new (just_opened name.now attrs) (inner ∷ outer)) }
         ensures room { HasRoom self.old → OnOk result (HasRoom self.new) }
     {
         self.outer.push(self.inner)?;

@@ -4,7 +4,7 @@ use Rattle.pv_dtd.specs.PlainForms.{plain_dtd}
 use Rattle.pv_tree.specs.Marks.{blank_mark}
 use Rattle.pv_tree.specs.Plain.{short, tagged}
 use Rattle.pv_read.specs.Items.{HasKnownReferences}
-use Rattle.pv_read.specs.Left.{opened}
+use Rattle.pv_read.specs.Left.{just_opened}
 use Rattle.pv_read.specs.PlainItems.{plain_item}
 use Rattle.pv_valid.proofs.Behind.{behind_start, behind_end, behind_empty, behind_misc, behind_cdata, behind_text}
 use Rattle.pv_valid.proofs.open.OpenLists.add.Goals as goal
@@ -19,7 +19,7 @@ returns-in_ok-whole-in-EmptyTag c = λ root inner outer r.
     let name = c.in-EmptyTag.tag.name.now in
     let attrs = c.in-EmptyTag.tag.attrs.now in
     rw is (behind_empty (plain_dtd c.args.dtd.now) root inner outer c.close.new.self c.in_ok-whole-in-EmptyTag.whole name attrs
-    (c.in_ok-whole-in-EmptyTag.ensures root attrs (opened name attrs) (inner ∷ outer) short blank_mark (c.in_ok-open-in-EmptyTag.ensures.read root attrs inner outer r)))
+    (c.in_ok-whole-in-EmptyTag.ensures root attrs (just_opened name attrs) (inner ∷ outer) short blank_mark (c.in_ok-open-in-EmptyTag.ensures.read root attrs inner outer r)))
 
 pub returns-in_ok-whole-in-EndTag : goal.returns-in_ok-whole-in-EndTag
 returns-in_ok-whole-in-EndTag c = λ root inner outer r.
