@@ -8,7 +8,8 @@ ghost use Rattle.pv_tree.specs.Marks.{blank_mark, unmarked_doc};
 ghost use Rattle.pv_edit.specs.Changes.{doc_after, root_after};
 ghost use Rattle.pv_edit.specs.Fitting.{CanChange, plain_change};
 ghost use Rattle.pv_edit.specs.Inverses.{IsKept, LeadsBack, inverse_of, reverted};
-ghost use Rattle.pv_edit.specs.Reasons.{applied, gives};
+ghost use Rattle.pv_edit.specs.Reasons.{applied, gives, reason_of};
+ghost use Rattle.pv_edit.specs.Plans.{IsPlan, IsTask};
 ghost use Rattle.pv_edit.specs.Refusals.{IsRefused};
 
 use crate::descent::change_root;
@@ -23,6 +24,24 @@ use pv_chars::NoMemory;
 use pv_tree::Doc;
 use std::alloc::Global;
 
+/// What an edit is going to do, and what undoes it: all that can be made ready before the document is touched.
+pub fn plan(alloc: Global, doc: &Doc, edit: &Edit) -> Result<Plan, EditError>
+    ensures plan { IfOk result (IsPlan (plain_doc doc.now).root edit.now) }
+    ensures given { IfOk result (λ _. reason_of blank_mark (plain_doc doc.now).root edit.now ≡ None) }
+    ensures refused { IfErr result (IsRefused (applied blank_mark (plain_doc doc.now) edit.now)) }
+{
+    first_reason(alloc, doc, edit)?;
+    Ok(plan_of(alloc, doc, edit)?)
+}
+
+/// What an inverse is going to do.
+pub fn plan_back(alloc: Global, doc: &Doc, inverse: &Inverse) -> Result<Task, NoMemory>
+    requires { (before : PlainDoc Unit) × LeadsBack inverse.now (plain_doc doc.now) before }
+    ensures { IfOk result (IsTask (plain_doc doc.now).root inverse.now) }
+{
+    task_back(alloc, doc, inverse)
+}
+
 /// Makes an edit on a document, and gives what undoes it. After an error the document is as it was.
 ///
 /// New elements have blank marks, and all other marks stay.
@@ -34,8 +53,7 @@ pub fn apply(alloc: Global, doc: &mut Doc, edit: &Edit) -> Result<Inverse, EditE
     ensures refused { IfErr result (IsRefused (applied blank_mark (plain_doc doc.old) edit.now)) }
     ensures unchanged { OnErr result (plain_doc doc.new ≡ plain_doc doc.old) }
 {
-    first_reason(alloc, doc, edit)?;
-    let Plan { task, inverse } = plan_of(alloc, doc, edit)?;
+    let Plan { task, inverse } = plan(alloc, doc, edit)?;
     make(alloc, doc, task)?;
     Ok(inverse)
 }
@@ -49,12 +67,12 @@ pub fn revert(alloc: Global, doc: &mut Doc, inverse: &Inverse) -> Result<(), NoM
     ensures led { (before : PlainDoc Unit) → LeadsBack inverse.now (plain_doc doc.old) before → OnOk result (unmarked_doc (plain_doc doc.new) ≡ before) }
     ensures unchanged { OnErr result (plain_doc doc.new ≡ plain_doc doc.old) }
 {
-    let task = task_back(alloc, doc, inverse)?;
+    let task = plan_back(alloc, doc, inverse)?;
     make(alloc, doc, task)
 }
 
-// Makes a change that has been made ready, or leaves the document as it is.
-fn make(alloc: Global, doc: &mut Doc, task: Task) -> Result<(), NoMemory>
+/// Makes a change that has been made ready, or leaves the document as it is.
+pub fn make(alloc: Global, doc: &mut Doc, task: Task) -> Result<(), NoMemory>
     requires can { CanChange task.list (plain_change task.list task.change) (plain_doc doc.old).root }
     requires kept { IsKept (root_after task.list (plain_change task.list task.change) (plain_doc doc.old).root) }
     ensures ok { OnOk result (plain_doc doc.new ≡ doc_after (plain_change task.list task.change) (plain_doc doc.old)) }

@@ -17,7 +17,7 @@ use std::mem;
 
 /// A change of one list: others come in place of the kids from one place up to another.
 #[derive(Debug, Drop)]
-pub(crate) struct Change {
+pub struct Change {
     pub from: usize,
     pub to: usize,
     pub filling: Filling,
@@ -91,8 +91,8 @@ fn placeholder(alloc: Global) -> Node {
     Node::Misc(List::of(Vec::new(alloc)))
 }
 
-// Takes an element's kids out.
-fn take_kids(alloc: Global, node: &mut Node) -> Vec<Node>
+/// Takes an element's kids out.
+pub fn take_kids(alloc: Global, node: &mut Node) -> Vec<Node>
     requires { IsTrue (is_element (plain node.old)) }
     ensures taken { plain_all result.items ≡ kids_of (plain node.old) }
     ensures rest { plain node.new ≡ with_kids [] (plain node.old) }
@@ -118,8 +118,8 @@ fn take_kids(alloc: Global, node: &mut Node) -> Vec<Node>
     kids
 }
 
-// Gives an element kids.
-fn put_kids(alloc: Global, node: &mut Node, kids: Vec<Node>)
+/// Gives an element kids, in place of those it has.
+pub fn put_kids(alloc: Global, node: &mut Node, kids: Vec<Node>)
     requires { IsTrue (is_element (plain node.old)) }
     ensures { plain node.new ≡ with_kids (plain_all kids.items) (plain node.old) }
 {

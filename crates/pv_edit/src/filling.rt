@@ -14,7 +14,7 @@ use pv_tree::{End, Mark, Node};
 
 /// What comes in place of some kids.
 #[derive(Debug, Drop)]
-pub(crate) enum Filling {
+pub enum Filling {
     /// These nodes.
     Others(Vec<Node>),
     /// An element around them.

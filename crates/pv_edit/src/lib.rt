@@ -23,8 +23,11 @@ mod text_plans;
 mod ways_back;
 
 pub use answers::{Done, EditAnswer, VerdictRow, VerdictRows};
-pub use changes::{apply, revert};
+pub use changes::{apply, make, plan, plan_back, revert};
+pub use descent::{Change, put_kids, take_kids};
 pub use edits::{Edit, Edits};
+pub use filling::Filling;
 pub use inverses::Inverse;
+pub use plans::{Plan, Task};
 pub use reasons::{EditError, Reason};
 pub use shapes::shape;

@@ -26,14 +26,14 @@ use std::alloc::Global;
 
 /// A change of the list at a path.
 #[derive(Debug, Drop)]
-pub(crate) struct Task {
+pub struct Task {
     pub list: Path,
     pub change: Change,
 }
 
 /// What an edit does, and what undoes it.
 #[derive(Debug, Drop)]
-pub(crate) struct Plan {
+pub struct Plan {
     pub task: Task,
     pub inverse: Inverse,
 }

@@ -30,19 +30,19 @@ kept doc = record {
 pub make-requires-clause-can : goal.make-requires-clause-can
 make-requires-clause-can c =
     let root = plain c.args.doc.now.root in
-    subst (λ (d : Change Mark). CanChange d.list d root) (sym c.in_ok-task.ensures.change) (edit-can blank_mark blank_mark root c.args.edit.now c.args.doc.now.rooted c.in_ok-first_reason.ensures)
+    subst (λ (d : Change Mark). CanChange d.list d root) (sym c.in_ok-task.ensures.plan.change) (edit-can blank_mark blank_mark root c.args.edit.now c.args.doc.now.rooted c.in_ok-task.ensures.given)
 
 pub make-requires-clause-kept : goal.make-requires-clause-kept
 make-requires-clause-kept c =
     let root = plain c.args.doc.now.root in
-    subst (λ (d : Change Mark). IsKept (root_after d.list d root)) (sym c.in_ok-task.ensures.change)
-    (edit-kept blank_mark blank_mark root c.args.edit.now (kept c.args.doc.now) (omega arith) c.in_ok-first_reason.ensures)
+    subst (λ (d : Change Mark). IsKept (root_after d.list d root)) (sym c.in_ok-task.ensures.plan.change)
+    (edit-kept blank_mark blank_mark root c.args.edit.now (kept c.args.doc.now) (omega arith) c.in_ok-task.ensures.given)
 
 pub returns-clause-leads_back : goal.returns-clause-leads_back
 returns-clause-leads_back c =
     let old = plain_doc c.args.doc.now in
     let new = plain_doc c.make.new.doc in
     let given : applied blank_mark old c.args.edit.now ≡ gives new =
-    ap (λ (r : Option Reason). outcome r (doc_after (change_of blank_mark (plain c.args.doc.now.root) c.args.edit.now) old)) c.in_ok-first_reason.ensures
-    ∙ ap gives (sym (c.in_ok-make.ensures.ok ∙ ap (λ (d : Change Mark). doc_after d old) c.in_ok-task.ensures.change)) in
-    subst (λ (i : Inverse). LeadsBack i new (unmarked_doc old)) (sym c.in_ok-task.ensures.inverse) (made-leads blank_mark old new c.args.edit.now (kept c.args.doc.now) given)
+    ap (λ (r : Option Reason). outcome r (doc_after (change_of blank_mark (plain c.args.doc.now.root) c.args.edit.now) old)) c.in_ok-task.ensures.given
+    ∙ ap gives (sym (c.in_ok-make.ensures.ok ∙ ap (λ (d : Change Mark). doc_after d old) c.in_ok-task.ensures.plan.change)) in
+    subst (λ (i : Inverse). LeadsBack i new (unmarked_doc old)) (sym c.in_ok-task.ensures.plan.inverse) (made-leads blank_mark old new c.args.edit.now (kept c.args.doc.now) given)

@@ -10,9 +10,6 @@ use Rattle.pv_edit.specs.Inverses.{IsKept}
 use Rattle.pv_edit.proofs.Reverting.{backs, back-kept, back-doc}
 use Rattle.pv_edit.proofs.changes.revert.Goals as goal
 
-pub task_back-requires : goal.task_back-requires
-task_back-requires c = (backs blank_mark c.args.inverse.now (plain_doc c.args.doc.now) c.requires.0 c.requires.1).ready
-
 pub make-requires-clause-can : goal.make-requires-clause-can
 make-requires-clause-can c =
     subst (λ (d : Change Mark). CanChange d.list d (plain c.args.doc.now.root)) (sym c.in_ok-task.ensures) (backs blank_mark c.args.inverse.now (plain_doc c.args.doc.now) c.requires.0 c.requires.1).can
