@@ -1,0 +1,11 @@
+pub mod Numbering
+pub mod Putting
+pub mod Members
+pub mod Leasts
+pub mod LeastContents
+pub mod Raising
+pub mod Finishing
+pub mod Cuts
+pub mod Flats
+pub mod Known
+pub mod Answering

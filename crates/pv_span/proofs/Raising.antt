@@ -1,0 +1,167 @@
+-- A chart in whose row at hand a value was lowered.
+use Rattle.std.specs.Prelude.{min}
+use Rattle.std.specs.List.{AllByRecursion}
+use Rattle.std.proofs.Common.{Bool, List, [], ap, arith, false, inl, inr, length, refl, subst, suc, true, ℕ, ◌+◌, ◌<◌, ◌||◌, ◌∙◌, ◌∷◌, ◌≡◌, ◌≤◌, ◌⊎◌}
+use Rattle.std.proofs.Math.ListN.{get_or-eq_default}
+use Rattle.std.proofs.lemmas.Bool.{cases_lt, or_parts}
+use Rattle.std.proofs.lemmas.List.{get_or_default}
+use Rattle.pv_model.specs.Plain.{PlainToken}
+use Rattle.pv_dtd.specs.Plain.{PlainDtd, parts_in_models}
+use Rattle.pv_rules.specs.Derivations.{DeriveAll, by_rule, heaviest, none_left, one_more, sum_of}
+use Rattle.pv_rules.specs.Rules.{Goal, Rule, over}
+use Rattle.pv_rules.specs.Sites.{PlainSite}
+use Rattle.pv_rules.proofs.Spans.{over_spans}
+use Rattle.pv_productive.specs.Tables.{cut, no_size}
+use Rattle.pv_productive.proofs.Cutting.{cut_below, cut_few, cut_least, cut_mono}
+use Rattle.pv_span.specs.Charts.{AreSettled, HasValue, IsAttained, IsDone, IsRaised, IsSettledAt, IsSound, PlainChart, row_at, span_number, value_of}
+use Rattle.pv_span.specs.Least.{IsLeastAt}
+use Rattle.pv_span.specs.Rows.{HasCell, IsLowered, PlainRow, put, sum_in, value_in}
+use Rattle.pv_span.proofs.Numbering.{strictly_within, within}
+use Rattle.pv_span.proofs.Putting.{put_each, put_less, put_sized, same_or_not}
+
+module _ (g : PlainDtd) (w : List PlainToken) where
+  -- a chart with other rows whose values over the spans that are done are those of this one
+  module _ (t : PlainChart) (rows : List PlainRow) (row : PlainRow) (long : t.tokens ≡ length w) where
+    abbrev other : PlainChart
+    other = record { tokens = t.tokens; rows = rows; row = row }
+
+    abbrev pub IsSame : Type 0
+    IsSame = (k : ℕ) → k < length rows → row_at other k ≡ row_at t k
+
+    same_sum : IsSame → (i j : ℕ) → IsDone w other i j → (xs : List Goal) → AllByRecursion (λ (x : Goal). (i ≤ x.from) × (x.from ≤ x.to) × (x.to ≤ j)) xs →
+        sum_of (value_of other) xs ≡ sum_of (value_of t) xs
+    same_sum same i j d [] a = refl
+    same_sum same i j d (x ∷ xs) a =
+        let p = a.0 in
+        let s = d.0.1 in
+        let m = d.1 in
+        let l = within t.tokens i j x.from x.to p.0 p.1 p.2 (omega arith) in
+        let e = ap (λ r. value_in r x.site) (same (span_number t.tokens x.from x.to) (omega arith)) in
+        let f = same_sum same i j d xs a.1 in omega arith
+
+    pub resound : IsSame → ((s : PlainSite) (i j : ℕ) → IsDone w other i j → HasValue g w (over s i j) (value_of t (over s i j)) × IsSettledAt g w t (over s i j)) → IsSound g w other
+    resound same all = record {
+      long = long;
+      attained = λ s i j d. let e = ap (λ r. value_in r s) (same (span_number t.tokens i j) d.1) in rw e (all s i j d).0;
+      settled = λ s i j d c xs r.
+          let e = ap (λ o. value_in o s) (same (span_number t.tokens i j) d.1) in
+          let f = same_sum same i j d xs (over_spans g w s i j c xs r).1 in
+          rw (e, f) ((all s i j d).1 c xs r);
+    }
+
+module _ (g : PlainDtd) (w : List PlainToken) (i j : ℕ) where
+  module _ (t : PlainChart) (a : IsAttained g w i j t) where
+    -- the row at hand is that of the span
+    pub at_hand : (s : PlainSite) → value_of t (over s i j) ≡ value_in t.row s
+    at_hand s = ap (λ r. value_in r s) (get_or-eq_default t.rows t.row (let e = a.next in omega arith))
+
+    inner_attained : (s : PlainSite) (m k : ℕ) → i ≤ m → m ≤ k → k ≤ j → (i < m) ⊎ (k < j) → HasValue g w (over s m k) (value_of t (over s m k))
+    inner_attained s m k p q r h =
+        let n = a.next in let l = a.span.1 in let z = a.sound.long in
+        a.sound.attained s m k ((q, omega arith), (let f = strictly_within t.tokens i j m k p q r (omega arith) h in omega arith))
+
+    right_attained : (s : PlainSite) (m k : ℕ) → i ≤ m → m ≤ k → k ≤ j → HasValue g w (over s m k) (value_of t (over s m k))
+    right_attained s m k p q r = elim (cases_lt i m) [
+      | inl lt ↦ inner_attained s m k p q r (inl lt)
+      | inr le ↦ elim (cases_lt k j) [
+        | inl lt ↦ inner_attained s m k p q r (inr lt)
+        | inr ge ↦ (
+            let e : m ≡ i = omega arith in let f : k ≡ j = omega arith in
+            rw (e, f) (let h = at_hand s in rw h (a.attained s))
+            )
+      ]
+    ]
+
+    all_attained : (xs : List Goal) → AllByRecursion (λ (x : Goal). (i ≤ x.from) × (x.from ≤ x.to) × (x.to ≤ j)) xs → sum_of (value_of t) xs < no_size →
+        (m : ℕ) × DeriveAll (Rule g w) m xs × (min heaviest (sum_of (value_of t) xs) ≡ min heaviest m)
+    all_attained [] n f = (0, none_left 0 refl, refl)
+    all_attained (x ∷ xs) n f =
+        let p = n.0 in
+        let d = (right_attained x.site x.from x.to p.0 p.1 p.2).1 (omega arith) in
+        let r = all_attained xs n.1 (omega arith) in
+        (d.0 + r.0, one_more (d.0 + r.0) d.0 r.0 x xs refl d.1 r.1, let y = d.2 in let z = r.2 in omega arith)
+
+    pub sum_attained : (s : PlainSite) (k : ℕ) → IsLeastAt g w (value_of t) (over s i j) k → HasValue g w (over s i j) (cut k)
+    sum_attained s k l = (
+      cut_least k,
+      λ f.
+          let few = cut_below k f in
+          let b = l.attained few in
+          let z = b.3 in
+          let r = all_attained b.1 (over_spans g w s i j b.0 b.1 b.2).1 (omega arith) in
+          (b.0 + r.0, by_rule (b.0 + r.0) b.0 r.0 (over s i j) b.1 refl b.2 r.1, let e = cut_few k few in let y = r.2 in omega arith),
+    )
+
+    pub sum_settled : (s : PlainSite) (k : ℕ) → IsLeastAt g w (value_of t) (over s i j) k → value_in t.row s ≤ cut k → IsSettledAt g w t (over s i j)
+    sum_settled s k l e c xs r = let h = at_hand s in let m = cut_mono k (c + sum_of (value_of t) xs) (l.below c xs r) in omega arith
+
+  abbrev pub At : PlainSite → PlainChart → Type 0
+  At s t = IsSettledAt g w t (over s i j)
+
+  -- nothing changed
+  kept : (P : PlainChart → Type 0) (old new : PlainChart) → IsAttained g w i j old → new ≡ old → P old → IsRaised g w i j P old new false
+  kept P old new a e p = record { attained = rw e a; same = λ _. e; settled = λ _. p; less = λ f. absurd cc }
+
+  changed : (P : PlainChart → Type 0) (old new : PlainChart) → IsAttained g w i j new → sum_in new.row < sum_in old.row → IsRaised g w i j P old new true
+  changed P old new a l = record { attained = a; same = λ f. absurd cc; settled = λ f. absurd cc; less = λ _. l }
+
+  abbrev with_row : PlainChart → PlainRow → PlainChart
+  with_row t r = record { tokens = t.tokens; rows = t.rows; row = r }
+
+  put_attained : (t : PlainChart) (s : PlainSite) (k : ℕ) → IsAttained g w i j t → HasCell t.row s → HasValue g w (over s i j) k → IsAttained g w i j (with_row t (put t.row s k))
+  put_attained t s k a lt h = record {
+    sound = resound g w t t.rows (put t.row s k) a.sound.long (λ m l. get_or_default t.rows m (put t.row s k) t.row l)
+        (λ o m n d. (a.sound.attained o m n d, a.sound.settled o m n d));
+    span = a.span;
+    next = a.next;
+    is_row = put_sized t.row k (length g.names) (parts_in_models g.models) s a.is_row;
+    attained = put_each t.row k (λ o v. HasValue g w (over o i j) v) s lt h a.attained;
+  }
+
+  pub raised : (old : PlainChart) (row : PlainRow) (s : PlainSite) (k : ℕ) (b : Bool) → IsAttained g w i j old → HasCell old.row s → IsLeastAt g w (value_of old) (over s i j) k →
+      IsLowered old.row row s (cut k) b → IsRaised g w i j (At s) old (with_row old row) b
+  raised old row s k true a lt l f =
+      let d = f.lowered refl in
+      let e = ap (λ r. with_row old r) d.1 in
+      changed (At s) old (with_row old row) (rw e (put_attained old s (cut k) a lt (sum_attained old a s k l)))
+      (let z = put_less old.row (cut k) s lt d.0 in rw d.1 z)
+  raised old row s k false a lt l f =
+      let d = f.kept refl in kept (At s) old (with_row old row) a (ap (λ r. with_row old r) d.1) (sum_settled old a s k l d.0)
+
+  pub raised_none : (t : PlainChart) (P : PlainChart → Type 0) → IsAttained g w i j t → P t → IsRaised g w i j P t t false
+  raised_none t P a p = kept P t t a refl p
+
+  -- values don't grow
+  not_more : (P : PlainChart → Type 0) (old new : PlainChart) (b : Bool) → IsRaised g w i j P old new b → sum_in new.row ≤ sum_in old.row
+  not_more P old new true r = let l = r.less refl in omega arith
+  not_more P old new false r = let e = r.same refl in rw e (omega arith)
+
+  less_both : (P Q : PlainChart → Type 0) (a b c : PlainChart) (x y : Bool) → IsRaised g w i j P a b x → IsRaised g w i j Q b c y → (x || y) ≡ true → sum_in c.row < sum_in a.row
+  less_both P Q a b c true y r s e = let l = r.less refl in let m = not_more Q b c y s in omega arith
+  less_both P Q a b c false y r s e = let l = s.less e in let m = not_more P a b false r in omega arith
+
+  -- one after the other
+  pub raised_both : (P Q : PlainChart → Type 0) (a b c : PlainChart) (x y : Bool) → IsRaised g w i j P a b x → IsRaised g w i j Q b c y →
+      IsRaised g w i j (λ t. P t × Q t) a c (x || y)
+  raised_both P Q a b c x y r s = record {
+    attained = s.attained;
+    same = λ e. let p = or_parts x y e in s.same p.1 ∙ r.same p.0;
+    settled = λ e. let p = or_parts x y e in (r.settled p.0, subst Q (r.same p.0) (s.settled p.1));
+    less = λ e. less_both P Q a b c x y r s e;
+  }
+
+  pub raised_map : (P Q : PlainChart → Type 0) (a b : PlainChart) (x : Bool) → ((t : PlainChart) → P t → Q t) → IsRaised g w i j P a b x → IsRaised g w i j Q a b x
+  raised_map P Q a b x f r = record { attained = r.attained; same = r.same; settled = λ e. f a (r.settled e); less = r.less }
+
+  module _ (f h : ℕ → PlainSite) where
+    pair_more : (first end m : ℕ) (t : PlainChart) → m ≡ suc first → AreSettled g w i j f h m end t × (At (f first) t × At (h first) t) → AreSettled g w i j f h first end t
+    pair_more first end m t e (p, d) q l r = elim (same_or_not q first) [ inl z ↦ rw z d | inr ne ↦ p q (omega arith) r ]
+
+    -- two sites more, of the number before those that were raised
+    pub pair_raised : (first end m : ℕ) (a b c d : PlainChart) (x y z : Bool) → m ≡ suc first → IsRaised g w i j (AreSettled g w i j f h m end) a b x →
+        IsRaised g w i j (At (f first)) b c y → IsRaised g w i j (At (h first)) c d z → IsRaised g w i j (AreSettled g w i j f h first end) a d (x || (y || z))
+    pair_raised first end m a b c d x y z e r s t =
+        raised_map (λ u. AreSettled g w i j f h m end u × (At (f first) u × At (h first) u)) (AreSettled g w i j f h first end) a d (x || (y || z))
+        (λ u k. pair_more first end m u e k)
+        (raised_both (AreSettled g w i j f h m end) (λ u. At (f first) u × At (h first) u) a b d x (y || z) r
+        (raised_both (At (f first)) (At (h first)) b c d y z s t))

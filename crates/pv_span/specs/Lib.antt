@@ -1,0 +1,5 @@
+pub mod Rows
+pub mod Charts
+pub mod Least
+pub mod PlainForms
+pub mod Weights

@@ -1,0 +1,78 @@
+//! Whether a word is possible.
+
+ghost use Rattle.std.specs.Prelude.{◌≡◌, ◌↔◌, ◌+◌, IfErr, IfOk, IsTrue, length, map};
+ghost use Rattle.pv_model.specs.PlainForms.{plain_token};
+ghost use Rattle.pv_rules.specs.PlainForms.{plain_site};
+ghost use Rattle.pv_rules.specs.Sites.{HasSite};
+ghost use Rattle.pv_productive.specs.PlainForms.{dtd_of};
+ghost use Rattle.pv_missing.specs.LiveWords.{AreProductiveTokens};
+ghost use Rattle.pv_missing.specs.PlainForms.{plain_of};
+ghost use Rattle.pv_missing.specs.Widths.{FitsWeights};
+ghost use Rattle.pv_missing.specs.WordVerdicts.{IsPossibleAt};
+ghost use Rattle.pv_span.specs.declared.errors.SpanError.TheVariants.{TooWide as too_wide};
+
+use crate::errors::SpanError;
+use crate::fill::fill;
+use crate::rows::NONE;
+use crate::weighing::is_narrow;
+use pv_missing::Of;
+use pv_model::{NoMemory, Token};
+use pv_productive::Grammar;
+use pv_rules::Site;
+use pv_steps::Steps;
+use std::alloc::Global;
+use std::sync::ledger::Ledger;
+
+/// The site of the owner of a list.
+fn site_of(of: Of) -> Site
+    ensures { plain_site result ≡ plain_of of }
+{
+    match of {
+        Of::Root(id) => Site::Name(id),
+        Of::Elem(id) => Site::Content(id),
+    }
+}
+
+/// Whether the owner's site derives the whole word.
+pub(crate) fn derives(
+    alloc: Global,
+    grammar: &Grammar,
+    of: Of,
+    word: &[Token],
+) -> Result<bool, NoMemory>
+    requires site { HasSite (dtd_of grammar.now) (plain_of of) }
+    requires productive { AreProductiveTokens (dtd_of grammar.now) (map plain_token word.now) }
+    requires fits { FitsWeights (dtd_of grammar.now) (length word.now) }
+    ensures { IfOk result (λ b. IsTrue b ↔
+        IsPossibleAt (dtd_of grammar.now) (plain_of of) (map plain_token word.now)) }
+{
+    let chart = fill(alloc, grammar, word)?;
+    Ok(chart.at(site_of(of), 0, word.len() as u32) < NONE)
+}
+
+/// Whether a word of productive names is possible for the document node or for the content of an element.
+///
+/// `TooWide` is asked first, and takes no memory.
+pub fn member<L: Ledger>(
+    alloc: Global,
+    grammar: &Grammar,
+    of: Of,
+    word: &[Token],
+    steps: &mut Steps<L>,
+) -> Result<bool, SpanError>
+    requires site { HasSite (dtd_of grammar.now) (plain_of of) }
+    requires productive { AreProductiveTokens (dtd_of grammar.now) (map plain_token word.now) }
+    ensures possible { IfOk result (λ b. IsTrue b ↔
+        IsPossibleAt (dtd_of grammar.now) (plain_of of) (map plain_token word.now)) }
+    ensures fits { IfOk result (λ _. FitsWeights (dtd_of grammar.now) (length word.now)) }
+    ensures wide { IfErr result (λ e. e ≡ too_wide →
+        ¬ FitsWeights (dtd_of grammar.now) (length word.now)) }
+    ensures steps { steps.new ≡ steps.old + 1 }
+{
+    steps.tick();
+    if !is_narrow(grammar, word.len()) {
+        return Err(SpanError::TooWide);
+    }
+    let derives = derives(alloc, grammar, of, word)?;
+    Ok(derives)
+}

@@ -1,0 +1,69 @@
+//! The weights of all sites over all spans of a word.
+
+ghost use Rattle.std.specs.Prelude.{◌≡◌, ◌↔◌, ◌<◌, ◌≤◌, ◌^◌, IfErr, IfOk, IsTrue, length, map};
+ghost use Rattle.pv_model.specs.PlainForms.{plain_token};
+ghost use Rattle.pv_rules.specs.PlainForms.{plain_site};
+ghost use Rattle.pv_rules.specs.Rules.{over};
+ghost use Rattle.pv_productive.specs.PlainForms.{dtd_of};
+ghost use Rattle.pv_missing.specs.LiveWords.{AreProductiveTokens};
+ghost use Rattle.pv_missing.specs.Widths.{FitsWeights};
+ghost use Rattle.pv_span.specs.Weights.{AreWeights, tokens_of, weight_of};
+ghost use Rattle.pv_span.specs.declared.errors.SpanError.TheVariants.{TooWide as too_wide};
+
+use crate::charts::Chart;
+use crate::errors::SpanError;
+use crate::fill::fill;
+use crate::raise::HEAVIEST;
+use pv_model::Token;
+use pv_productive::Grammar;
+use pv_rules::Site;
+use std::alloc::Global;
+
+/// The weights of all sites over all spans of a word.
+#[derive(Debug, Drop)]
+pub struct Spans {
+    chart: Chart,
+}
+
+impl Spans {
+    /// The weight of a site over a span: the least number of elements missing there, or 1,000,001 where that is more than 1,000,000 or the
+    /// site can't stand for the span.
+    pub fn at(&self, site: Site, from: u32, to: u32) -> u32
+        requires { (from ≤ to) × (to ≤ tokens_of self.now) }
+        ensures { result ≡ weight_of self.now (over (plain_site site) from to) }
+    {
+        self.chart.at(site, from, to).min(HEAVIEST)
+    }
+}
+
+/// Whether a word isn't too wide for weights.
+pub(crate) fn is_narrow(grammar: &Grammar, tokens: usize) -> bool
+    ensures { IsTrue result ↔ FitsWeights (dtd_of grammar.now) tokens }
+{
+    let columns = u64::from(grammar.dtd().columns());
+    if columns == 0 {
+        return true;
+    }
+    if tokens >= 8192 {
+        return false;
+    }
+    let places = tokens as u64 + 1;
+    places * (places + 1) / 2 * columns <= 16_777_216
+}
+
+/// The weights of all sites over all spans of a word whose names are productive.
+///
+/// `TooWide` is asked first, and takes no memory. The chart takes eight bytes for each column and each span of the word, and some bytes for
+/// each span.
+pub fn weights(alloc: Global, grammar: &Grammar, word: &[Token]) -> Result<Spans, SpanError>
+    requires productive { AreProductiveTokens (dtd_of grammar.now) (map plain_token word.now) }
+    ensures weights { IfOk result (λ spans. AreWeights (dtd_of grammar.now) (map plain_token word.now) spans) }
+    ensures fits { IfOk result (λ _. FitsWeights (dtd_of grammar.now) (length word.now)) }
+    ensures wide { IfErr result (λ e. e ≡ too_wide → ¬ FitsWeights (dtd_of grammar.now) (length word.now)) }
+{
+    if !is_narrow(grammar, word.len()) {
+        return Err(SpanError::TooWide);
+    }
+    let chart = fill(alloc, grammar, word)?;
+    Ok(Spans { chart })
+}
