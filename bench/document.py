@@ -1,8 +1,9 @@
 """Writes a document for examples/article.dtd. Words: KIND BYTES.
 
 KIND is `nodes` (sections, paragraphs and inline elements, many small nodes), `texts` (paragraphs of a few thousand bytes of text), `wide` (one
-section whose list has a paragraph for each hundred bytes) or `marked` (as `nodes`, with attributes, references, comments, CDATA sections and
-letters beyond ASCII; ATTRIBUTES declares the attributes). It has at least so many bytes.
+section whose list has a paragraph for each hundred bytes), `children` (one section whose list has an empty paragraph for each four bytes),
+`deep` (paragraphs of inline elements, one in another, 512 elements deep) or `marked` (as `nodes`, with attributes, references, comments,
+CDATA sections and letters beyond ASCII; ATTRIBUTES declares the attributes). It has at least so many bytes.
 """
 import random
 import sys
@@ -40,6 +41,15 @@ def wide_paragraph():
     return f"<p>{random.choice(LONG)[:90]}</p>\n"
 
 
+def empty_paragraphs():
+    return "<p/>" * 1000
+
+
+# Three elements stand around those of a paragraph.
+def deep_paragraph():
+    return "<p>" + "<em>" * 509 + "</em>" * 509 + "</p>\n"
+
+
 ATTRIBUTES = "<!ATTLIST p id CDATA #IMPLIED class CDATA #IMPLIED>\n<!ATTLIST em n CDATA #IMPLIED>\n"
 
 
@@ -63,9 +73,10 @@ def main():
     random.seed(1)
     kind, left, out = sys.argv[1], int(sys.argv[2]), sys.stdout
     out.write(f"<doc><head>{words(5)}</head>\n")
-    if kind == "wide":
+    one_list = {"wide": wide_paragraph, "children": empty_paragraphs, "deep": deep_paragraph}
+    if kind in one_list:
         out.write("<sec>")
-        fill(out, left, wide_paragraph)
+        fill(out, left, one_list[kind])
         out.write("</sec>")
     else:
         fill(out, left, {"nodes": section, "texts": long_section, "marked": marked_section}[kind])

@@ -15,6 +15,8 @@ DOCUMENTS = [
     ("many small nodes", "nodes", 18_000_000),
     ("long texts", "texts", 18_000_000),
     ("a wide list", "wide", 18_000_000),
+    ("one list of 4,000,000 children", "children", 16_000_000),
+    ("512 elements deep", "deep", 18_000_000),
     ("attributes, references and comments", "marked", 18_000_000),
 ]
 
@@ -46,14 +48,17 @@ def run(words, told):
     return used.ru_utime + used.ru_stime, memory, child.returncode
 
 
+# A program that refuses the document is left out: libxml2 stops at 256 elements one inside another.
 def compare(programs, dtd, doc, inner, rounds):
     best = {name: (float("inf"), float("inf")) for name in programs}
     for _ in range(rounds):
-        for name, words in programs.items():
-            seconds, memory, status = run(words(dtd, doc, inner), f"{dtd}.memory")
+        for name in list(best):
+            seconds, memory, status = run(programs[name](dtd, doc, inner), f"{dtd}.memory")
             if status != 0:
                 print(f"{name}: status {status}")
-            best[name] = (min(best[name][0], seconds), min(best[name][1], memory))
+                del best[name]
+            else:
+                best[name] = (min(best[name][0], seconds), min(best[name][1], memory))
     return best
 
 

@@ -9,6 +9,7 @@ pub mod OneVerdict
 pub mod Replies
 pub mod Scripts
 pub mod Stages
+pub mod Validities
 pub mod OneCheck
 pub mod OneListing
 pub mod Listings

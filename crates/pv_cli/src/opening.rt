@@ -2,12 +2,15 @@
 
 ghost use Rattle.std.specs.Prelude.{◌≡◌, ◌++◌, List, ℕ, Option, codes, decimal, Contains, false};
 ghost use Rattle.pv_cli.specs.Opening.{Files, IsFile, fetch_stage, dtd_stage, dtd_file_stage, document_file_stage, opening_stage, plain_opened};
-ghost use Rattle.pv_cli.specs.Documents.{document_stage};
+ghost use Rattle.pv_cli.specs.Documents.{document_stage, RefusesDocument};
 ghost use Rattle.pv_cli.specs.Paths.{path_text};
 ghost use Rattle.pv_cli.specs.Response.{with_line};
 ghost use Rattle.pv_cli.specs.Stage.{StopsBy, Returns, ShelfCounts};
 ghost use Rattle.pv_cli.specs.Status.{needs_cause};
 ghost use Rattle.pv_dtd.specs.PlainForms.{plain_dtd};
+ghost use Rattle.pv_read.specs.Errors.{Refuses};
+ghost use Rattle.pv_read.specs.Meaning.{DocumentMeans, MAX_DOC_BYTES as MOST_BYTES};
+ghost use Rattle.pv_tree.specs.Marks.{blank_mark};
 ghost use Rattle.pv_tree.specs.PlainDocs.{plain_doc};
 
 use crate::response::Response;
@@ -113,35 +116,36 @@ fn dtd_of(alloc: Global, bytes: &[u8]) -> Result<Dtd, Stop>
     }
 }
 
+/// Refuses bytes that are no document, for this reason.
+pub fn refuse_document(alloc: Global, error: DocError) -> Stop
+    ensures { (root bytes : List ℕ) → Refuses (DocumentMeans blank_mark root bytes) error
+        → StopsBy (RefusesDocument root bytes) ⊥ result }
+{
+    match error {
+        DocError::Syntax(item) => {
+            refuse_item(alloc, Status::BadDocument, b"document syntax ", item)
+        }
+        DocError::Mismatch(item) => {
+            refuse_item(alloc, Status::BadDocument, b"document mismatch ", item)
+        }
+        DocError::Entity(item) => {
+            refuse_item(alloc, Status::BadDocument, b"document entity ", item)
+        }
+        DocError::Subset => refuse(alloc, Status::BadDocument, b"document subset"),
+        DocError::DoctypeName => refuse(alloc, Status::BadDocument, b"document doctype"),
+        DocError::Deep(item) => refuse_item(alloc, Status::Limit, b"limit depth ", item),
+        DocError::Limit => refuse(alloc, Status::Limit, b"limit document-file"),
+        DocError::NoMemory => Stop::NoMemory,
+    }
+}
+
 // The document that the bytes are.
 fn document_of(alloc: Global, bytes: &[u8], root: &[u8]) -> Result<Doc, Stop>
     ensures { Returns plain_doc (document_stage root.now bytes.now) result }
 {
     match read_doc(alloc, bytes, root) {
         Ok(doc) => Ok(doc),
-        Err(DocError::Syntax(item)) => Err(refuse_item(
-            alloc,
-            Status::BadDocument,
-            b"document syntax ",
-            item,
-        )),
-        Err(DocError::Mismatch(item)) => Err(refuse_item(
-            alloc,
-            Status::BadDocument,
-            b"document mismatch ",
-            item,
-        )),
-        Err(DocError::Entity(item)) => Err(refuse_item(
-            alloc,
-            Status::BadDocument,
-            b"document entity ",
-            item,
-        )),
-        Err(DocError::Subset) => Err(refuse(alloc, Status::BadDocument, b"document subset")),
-        Err(DocError::DoctypeName) => Err(refuse(alloc, Status::BadDocument, b"document doctype")),
-        Err(DocError::Deep(item)) => Err(refuse_item(alloc, Status::Limit, b"limit depth ", item)),
-        Err(DocError::Limit) => Err(refuse(alloc, Status::Limit, b"limit document-file")),
-        Err(DocError::NoMemory) => Err(Stop::NoMemory),
+        Err(error) => Err(refuse_document(alloc, error)),
     }
 }
 
@@ -158,6 +162,18 @@ pub fn open_dtd<H: Shelf>(alloc: Global, shelf: &mut H, name: &str) -> Result<Dt
     dtd_of(alloc, &bytes)
 }
 
+/// The bytes of the document in the file of this name.
+pub fn fetch_document<H: Shelf>(alloc: Global, shelf: &mut H, name: &str) -> Result<Vec<u8>, Stop>
+    requires { Contains (H.names shelf.old) name.now }
+    ensures file { (file : Option (List ℕ)) × IsFile (H.files shelf.old) name.now file
+        × Returns (λ v. v.items) (fetch_stage file MOST_BYTES (codes "limit document-file")) result }
+    ensures counts { ShelfCounts (H.faults shelf.old) (H.faults shelf.new) result }
+    ensures names { H.names shelf.new ≡ H.names shelf.old }
+    ensures files { H.files shelf.new ≡ H.files shelf.old }
+{
+    fetch(alloc, shelf, name, MAX_DOC_BYTES, b"limit document-file")
+}
+
 // The document in the file of this name.
 fn open_document<H: Shelf>(
     alloc: Global,
@@ -172,7 +188,7 @@ fn open_document<H: Shelf>(
     ensures names { H.names shelf.new ≡ H.names shelf.old }
     ensures files { H.files shelf.new ≡ H.files shelf.old }
 {
-    let bytes = fetch(alloc, shelf, name, MAX_DOC_BYTES, b"limit document-file")?;
+    let bytes = fetch_document(alloc, shelf, name)?;
     document_of(alloc, &bytes, root)
 }
 

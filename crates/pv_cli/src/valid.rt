@@ -3,25 +3,30 @@
 ghost use Rattle.std.specs.Prelude.{◌≡◌, Some};
 ghost use Rattle.pv_cli.specs.CommandLine.{AreNamed, valid};
 ghost use Rattle.pv_cli.specs.Program.{FindsResponse};
-ghost use Rattle.pv_cli.specs.Stage.{TellsBy};
-ghost use Rattle.pv_cli.specs.Valid.{TellsValidity};
+ghost use Rattle.pv_cli.specs.Response.{plain_response};
+ghost use Rattle.pv_cli.specs.Stage.{Returns};
+ghost use Rattle.pv_cli.specs.Valid.{validity_stage};
 ghost use Rattle.pv_dtd.specs.PlainForms.{plain_dtd};
-ghost use Rattle.pv_tree.specs.PlainDocs.{plain_doc};
 
 use crate::command_line::Named;
-use crate::opening::{Opened, open};
+use crate::opening::{fetch_document, open_dtd, refuse_document};
 use crate::response::Response;
 use crate::status::Status;
 use crate::stop::Stop;
+use pv_dtd::Dtd;
 use pv_io::Shelf;
-use pv_tree::first_invalid;
+use pv_valid::first_invalid_in;
 use std::alloc::Global;
 
-// Whether the document is valid, or else the path of its first list that isn't.
-fn tell(alloc: Global, opened: &Opened, root: &[u8]) -> Result<Response, Stop>
-    ensures { TellsBy (TellsValidity root.now (plain_dtd opened.now.dtd) (plain_doc opened.now.doc)) result }
+// Whether the document that the bytes are is valid, or else the path of its first list that isn't.
+fn tell(alloc: Global, dtd: &Dtd, root: &[u8], bytes: &[u8]) -> Result<Response, Stop>
+    ensures { Returns plain_response (validity_stage root.now (plain_dtd dtd.now) bytes.now) result }
 {
-    match first_invalid(alloc, &opened.dtd, root, &opened.doc)? {
+    let found = match first_invalid_in(alloc, dtd, root, bytes) {
+        Ok(found) => found,
+        Err(error) => return Err(refuse_document(alloc, error)),
+    };
+    match found {
         None => Ok(Response::with_line(alloc, Status::Done, b"valid")?),
         Some(path) => Ok(Response::with_path(alloc, Status::Negative, b"invalid ", path.places())?),
     }
@@ -35,6 +40,7 @@ pub fn valid<H: Shelf>(alloc: Global, shelf: &mut H, named: &Named<'_>) -> Resul
     ensures names { H.names shelf.new ≡ H.names shelf.old }
     ensures files { H.files shelf.new ≡ H.files shelf.old }
 {
-    let opened = open(alloc, shelf, named.dtd, named.root, named.doc)?;
-    tell(alloc, &opened, named.root)
+    let dtd = open_dtd(alloc, shelf, named.dtd)?;
+    let bytes = fetch_document(alloc, shelf, named.doc)?;
+    tell(alloc, &dtd, named.root, &bytes)
 }

@@ -14,6 +14,8 @@ mod fixture;
 #[cfg(test)]
 mod listing;
 #[cfg(test)]
+mod one_pass;
+#[cfg(test)]
 mod outside;
 #[cfg(test)]
 mod session;

@@ -1,34 +1,63 @@
+use Rattle.std.proofs.Common.{codes}
 use Rattle.std.proofs.lemmas.Result.{err_from_is_err_and}
-use Rattle.pv_cli.specs.Opening.{opening_stage, plain_opened}
-use Rattle.pv_cli.specs.Stage.{Responds, opened}
+use Rattle.pv_dtd.specs.PlainForms.{plain_dtd}
+use Rattle.pv_read.specs.Meaning.{MAX_DOC_BYTES}
+use Rattle.pv_cli.specs.Documents.{document_stage}
+use Rattle.pv_cli.specs.Opening.{Files, dtd_file_stage, document_file_stage, fetch_stage, opening_stage}
+use Rattle.pv_cli.specs.Stage.{Responds, beside}
 use Rattle.pv_cli.specs.Valid.{TellsValidity}
-use Rattle.pv_cli.proofs.Stages.{stop_ends, stop_counts, stop_leaves_input, tells_ends, tells_counts, tells_leaves_input}
+use Rattle.pv_cli.proofs.Stages.{some_file, stop_ends, stop_counts, stop_leaves_input, stopped_first, stopped_second}
+use Rattle.pv_cli.proofs.Validities.{told_ends, told_counts, told_leaves_input}
 use Rattle.pv_cli.proofs.valid.valid.Goals as goal
 
-pub returns-in_err-opened-clause-finds : goal.returns-in_err-opened-clause-finds
-returns-in_err-opened-clause-finds g c =
-    let read = c.in_err-opened.ensures.files_read in
+pub returns-in_err-dtd-clause-finds : goal.returns-in_err-dtd-clause-finds
+returns-in_err-dtd-clause-finds g c =
+    let dtd = c.in_err-dtd.ensures.file in
+    let doc = some_file _ c.args.named.now.doc.now in
     let root = c.args.named.now.root.now in
-    let stage = opening_stage root read.0 in
-    let stop = c.in_err-opened.field-0.0 in
+    let files : Files = record { dtd = dtd.0; doc = doc.0 } in
+    let stage = opening_stage root files in
+    let stop = c.in_err-dtd.field-0.0 in
     let p = err_from_is_err_and c.from_residual.result c.from_residual.ensures.1 in
+    let stops = stopped_first (dtd_file_stage dtd.0) (λ g. beside g (document_file_stage root doc.0)) stop dtd.2 in
     rw (p.1, p.2) (record {
-      files = read.0;
-      are_files = (read.1, read.2);
-      is_defined = stop_ends stage (λ both. Responds (TellsValidity root both.0 both.1)) stop read.3;
-      shelf = stop_counts _ _ stop c.in_err-opened.ensures.counts;
-      no_input_fault = stop_leaves_input stage.Refuses stage.AsksShelf stop read.3;
+      files = files;
+      are_files = (dtd.1, doc.1);
+      is_defined = stop_ends stage (λ both. Responds (TellsValidity root both.0 both.1)) stop stops;
+      shelf = stop_counts _ _ stop c.in_err-dtd.ensures.counts;
+      no_input_fault = stop_leaves_input stage.Refuses stage.AsksShelf stop stops;
+    })
+
+pub returns-in_err-bytes-clause-finds : goal.returns-in_err-bytes-clause-finds
+returns-in_err-bytes-clause-finds g c =
+    let dtd = c.in_ok-dtd.ensures.file in
+    let doc = c.in_err-bytes.ensures.file in
+    let root = c.args.named.now.root.now in
+    let files : Files = record { dtd = dtd.0; doc = doc.0 } in
+    let stage = opening_stage root files in
+    let stop = c.in_err-bytes.field-0.0 in
+    let p = err_from_is_err_and c.from_residual-in_err-bytes.result c.from_residual-in_err-bytes.ensures.1 in
+    let stops = stopped_second (dtd_file_stage dtd.0) (λ g. beside g (document_file_stage root doc.0)) (plain_dtd c.in_ok-dtd.dtd) stop dtd.2
+    (stopped_first (fetch_stage doc.0 MAX_DOC_BYTES (codes "limit document-file")) (document_stage root) stop doc.2) in
+    rw (p.1, p.2) (record {
+      files = files;
+      are_files = (dtd.1, rw (← c.open_dtd.ensures.files) doc.1);
+      is_defined = stop_ends stage (λ both. Responds (TellsValidity root both.0 both.1)) stop stops;
+      shelf = stop_counts _ _ stop (rw c.in_ok-dtd.ensures.counts at c.in_err-bytes.ensures.counts);
+      no_input_fault = stop_leaves_input stage.Refuses stage.AsksShelf stop stops;
     })
 
 pub returns-clause-finds : goal.returns-clause-finds
 returns-clause-finds g c =
-    let read = c.in_ok-opened.ensures.files_read in
-    let both = plain_opened c.in_ok-opened.opened in
-    let tells = TellsValidity c.args.named.now.root.now both.0 both.1 in
+    let dtd = c.in_ok-dtd.ensures.file in
+    let doc = c.in_ok-bytes.ensures.file in
+    let root = c.args.named.now.root.now in
+    let d = plain_dtd c.in_ok-dtd.dtd in
+    let files : Files = record { dtd = dtd.0; doc = doc.0 } in
     record {
-      files = read.0;
-      are_files = (read.1, read.2);
-      is_defined = opened both read.3 (tells_ends tells c.tell.result c.tell.ensures);
-      shelf = rw c.in_ok-opened.ensures.counts (tells_counts tells _ c.tell.result c.tell.ensures);
-      no_input_fault = tells_leaves_input tells c.tell.result c.tell.ensures;
+      files = files;
+      are_files = (dtd.1, rw (← c.open_dtd.ensures.files) doc.1);
+      is_defined = told_ends root d _ files c.tell.result dtd.2 doc.2 (rw c.deref.ensures.value at c.tell.ensures);
+      shelf = rw (c.in_ok-bytes.ensures.counts, c.in_ok-dtd.ensures.counts) (told_counts root d _ _ c.tell.result c.tell.ensures);
+      no_input_fault = told_leaves_input root d _ c.tell.result c.tell.ensures;
     }

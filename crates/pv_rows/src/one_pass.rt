@@ -1,0 +1,82 @@
+//! Validity in one pass over the bytes, and by the tree: the same answer, for each document.
+
+use pv_dtd::{Dtd, read_dtd};
+use pv_read::{DocError, read_doc};
+use pv_tree::{Path, first_invalid};
+use pv_valid::first_invalid_in;
+use std::alloc::{AllocError, Global};
+use std::test::Fail;
+
+const DTD: &str = "<!ELEMENT doc (head, (p | e)*)>
+<!ELEMENT head (#PCDATA)>
+<!ELEMENT p (#PCDATA | head)*>
+<!ELEMENT e EMPTY>";
+
+/// A document, and what is told of it: the places of the first list that isn't valid by itself, or the fault.
+type Row<'a> = (&'a str, &'a str);
+
+static ROWS: [Row<'static>; 13] = [
+    ("<doc><head/></doc>\n", "valid"),
+    (
+        "<!--c--><doc ><head>a</head><p>b<head/></p><e/></doc >",
+        "valid",
+    ),
+    // An element's list comes before those of its kids, and an earlier kid's before a later one's.
+    ("<doc><p><p/></p><e> </e></doc>", "[0]"),
+    ("<doc><head/><p><e/></p><e>x</e></doc>", "[0, 1]"),
+    (
+        "<doc><head/><p><head><e>x</e></head><e/></p></doc>",
+        "[0, 1]",
+    ),
+    // Texts and comments have places, and an EMPTY element has no kid at all.
+    ("<doc><head/><!--c--> <e/><e><!--c--></e></doc>", "[0, 4]"),
+    ("<doc><head/> <e><?pi?></e> <x/></doc>", "[0]"),
+    // The root's name is compared, and then no other list matters.
+    ("<p/>", "[]"),
+    ("<p><e>x</e></p>", "[]"),
+    // A fault anywhere comes before any list.
+    (
+        "<doc><p/>&nbsp;</doc>",
+        "item 2 refers to a name that isn't declared",
+    ),
+    (
+        "<doc><p></e></doc>",
+        "item 2 ends an element of another name",
+    ),
+    (
+        "<doc><p/></doc></doc>",
+        "item 3 is no part of a document here",
+    ),
+    (
+        "<!DOCTYPE p><doc/>",
+        "the document type declaration has another name than the root",
+    ),
+];
+
+fn by_tree(alloc: Global, dtd: &Dtd, bytes: &[u8]) -> Result<Option<Path>, DocError> {
+    let doc = read_doc(alloc, bytes, b"doc")?;
+    let found = first_invalid(alloc, dtd, b"doc", &doc)?;
+    Ok(found)
+}
+
+fn told(alloc: Global, answer: Result<Option<Path>, DocError>) -> Result<String, AllocError> {
+    match answer {
+        Ok(None) => format!(in alloc; "valid"),
+        Ok(Some(path)) => format!(in alloc; "{:?}", path.places()),
+        Err(error) => format!(in alloc; "{error}"),
+    }
+}
+
+#[test]
+fn one_pass_and_tree(rt: HostRuntime) -> Result<(), Fail> {
+    let alloc = rt.alloc();
+    let dtd = read_dtd(alloc, DTD.as_bytes()).map_err(|_| "no DTD")?;
+    for (doc, expected) in &ROWS {
+        let bytes = doc.as_bytes();
+        let in_pass = told(alloc, first_invalid_in(alloc, &dtd, b"doc", bytes))?;
+        assert_eq!(rt; in_pass.as_str(), *expected, "in one pass: {doc}");
+        let tree = told(alloc, by_tree(alloc, &dtd, bytes))?;
+        assert_eq!(rt; tree.as_str(), *expected, "by the tree: {doc}");
+    }
+    Ok(())
+}
