@@ -33,3 +33,4 @@ pub mod Staying
 pub mod Unchanged
 pub mod KeptLists
 pub mod KeptBack
+pub mod RunSearches

@@ -38,7 +38,7 @@ mutual
   all-depth-as f (tree t rest) = ap (λ n. max n (depth_of_all (map_marks_all f rest))) (depth-as f t) ∙ ap (max (depth_of t)) (all-depth-as f rest)
 
 mutual
-  nodes-as : {M N : Type 0} (f : M → N) (t : Tree M) → nodes_in (map_marks f t) ≡ nodes_in t
+  pub nodes-as : {M N : Type 0} (f : M → N) (t : Tree M) → nodes_in (map_marks f t) ≡ nodes_in t
   nodes-as f (element x attrs e kids m) = ap suc (all-nodes-as f kids)
   nodes-as f (text_node units) = refl
   nodes-as f (cdata_node bytes) = refl

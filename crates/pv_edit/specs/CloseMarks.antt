@@ -1,5 +1,5 @@
 -- Texts that stand side by side, searched from the left for `]]>`.
-use Rattle.std.specs.Prelude.{ℕ, Bool, true, false, ◌&&◌, ◌==◌, List, [], ◌∷◌, codes, Option, Some, None, option_and_then, if◌then◌else◌}
+use Rattle.std.specs.Prelude.{◌≡◌, ◌++◌, ℕ, Bool, true, false, ◌&&◌, ◌==◌, List, [], ◌∷◌, codes, Option, Some, None, option_and_then, if◌then◌else◌}
 use Rattle.std.specs.Str.{bytes_eq}
 use Rattle.pv_tree.specs.Plain.{Tree, element, text_node, cdata_node, misc_node}
 use Rattle.pv_edit.specs.declared.close_marks.Brackets.{Brackets}
@@ -43,6 +43,30 @@ search_trees b (t ∷ ts) = option_and_then (λ c. search_trees c ts) (search_tr
 -- three parts of a list, one behind the other
 abbrev pub search_parts : {M : Type 0} → List (Tree M) → List (Tree M) → List (Tree M) → Option Brackets
 search_parts front middle back = option_and_then (λ b. option_and_then (λ c. search_trees c back) (search_trees b middle)) (search_trees Zero front)
+
+-- the same up to the first node that is no text
+abbrev pub search_run : {M : Type 0} → Brackets → List (Tree M) → Option Brackets
+search_run b [] = Some b
+search_run b (element x attrs ending kids mark ∷ ts) = Some Zero
+search_run b (text_node units ∷ ts) = option_and_then (λ c. search_run c ts) (search_units b units)
+search_run b (cdata_node bytes ∷ ts) = Some Zero
+search_run b (misc_node bytes ∷ ts) = Some Zero
+
+-- a list ends by a run: nothing that stands before it counts in a search
+pub record EndsBy {M : Type 0} (ts run : List (Tree M)) : Type 0 where
+  pub front : List (Tree M)
+  pub whole : ts ≡ front ++ run
+  pub stops : (b : Brackets) → search_trees Zero front ≡ Some b → b ≡ Zero
+
+-- a run, what stands behind it, and the run at the front of what stands behind that
+abbrev pub search_near : {M : Type 0} → List (Tree M) → List (Tree M) → List (Tree M) → Option Brackets
+search_near run middle back = option_and_then (λ b. option_and_then (λ c. search_run c back) (search_trees b middle)) (search_trees Zero run)
+
+-- the search of three parts needs no more than the last run of the first
+pub record IsNear {M : Type 0} (front middle back : List (Tree M)) (result : Option Brackets) : Type 0 where
+  pub run : List (Tree M)
+  pub ends : EndsBy front run
+  pub is : result ≡ search_near run middle back
 
 -- the same by the bytes of a text
 abbrev pub search_bytes : Brackets → List ℕ → Option Brackets

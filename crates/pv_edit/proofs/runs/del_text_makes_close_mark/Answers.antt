@@ -3,7 +3,16 @@ use Rattle.pv_tree.specs.Plain.{Tree, forest_of}
 use Rattle.pv_tree.specs.declared.nodes.Mark.{Mark}
 use Rattle.pv_edit.specs.Reasons.{spells_close_mark}
 use Rattle.pv_edit.proofs.Parted.{parted-splice}
+use Rattle.pv_tree.specs.PlainForms.{plain}
+use Rattle.pv_edit.specs.Effects.{parent_of}
+use Rattle.pv_edit.proofs.RunSearches.{kids-unbroken, parted-front, parted-back}
 use Rattle.pv_edit.proofs.runs.del_text_makes_close_mark.Goals as goal
 
 pub returns : goal.returns
 returns c = c.spell_close_mark.ensures ∙ ap (λ (l : List (Tree Mark)). spells_close_mark (forest_of l)) (sym (parted-splice c.around.ensures []))
+
+pub spell_close_mark-requires-clause-front : goal.spell_close_mark-requires-clause-front
+spell_close_mark-requires-clause-front c = parted-front c.around.ensures (kids-unbroken (parent_of c.args.path.now) (plain c.args.doc.now.root) c.args.doc.now.rooted c.args.doc.now.no_close_mark)
+
+pub spell_close_mark-requires-clause-back : goal.spell_close_mark-requires-clause-back
+spell_close_mark-requires-clause-back c = parted-back c.around.ensures (kids-unbroken (parent_of c.args.path.now) (plain c.args.doc.now.root) c.args.doc.now.rooted c.args.doc.now.no_close_mark)
