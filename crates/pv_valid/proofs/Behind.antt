@@ -1,11 +1,11 @@
 -- What is known behind an item in the root.
-use Rattle.std.proofs.Common.{◌≡◌, ◌≤◌, ℕ, suc, ◌+◌, List, [], ◌∷◌, ◌++◌, length, map, Bool, true, false, not, Option, Some, None, option_to_list, refl, sym, ap, ◌∙◌, subst, length-append, append-nil, inl, inr, ◌⊎◌, arith}
+use Rattle.std.proofs.Common.{◌≡◌, ◌≤◌, ℕ, suc, ◌+◌, List, [], ◌∷◌, ◌++◌, length, map, Bool, true, false, not, Option, Some, None, option_to_list, refl, sym, ap, ◌∙◌, length-append, inl, inr, ◌⊎◌, arith}
 use Rattle.std.specs.Bool.{then_some}
 use Rattle.std.specs.List.{list_any}
 use Rattle.std.proofs.lemmas.List.{map-append}
 use Rattle.pv_chars.specs.Spaces.{is_space}
 use Rattle.pv_chars.specs.Texts.{joined, has_data}
-use Rattle.pv_chars.specs.Units.{units_in, IsCut}
+use Rattle.pv_chars.specs.Units.{units_in}
 use Rattle.pv_chars.proofs.MeansLemmas.{cut_data}
 use Rattle.pv_model.specs.Plain.{PlainToken, text}
 use Rattle.pv_model.specs.PlainForms.{plain_token}
@@ -14,8 +14,7 @@ use Rattle.pv_model.specs.declared.models.Token.TheVariants.{Text}
 use Rattle.pv_dtd.specs.Plain.{PlainDtd}
 use Rattle.pv_tree.specs.Attributes.{IsCharacterData, IsKnownReference}
 use Rattle.pv_tree.specs.Marks.{blank_mark}
-use Rattle.pv_tree.specs.Plain.{Tree, short, tagged, element, text_node, cdata_node, misc_node, forest_of}
-use Rattle.pv_tree.specs.Lists.{lists_at}
+use Rattle.pv_tree.specs.Plain.{Tree, short, tagged, text_node, cdata_node, misc_node}
 use Rattle.pv_tree.specs.Words.{node_before}
 use Rattle.pv_tree.specs.declared.nodes.Mark.{Mark}
 use Rattle.pv_read.specs.Items.{Item, xml_declaration, doctype, comment_or_instruction, cdata_section, start_tag, empty_tag, end_tag, text_run, HasKnownReferences}
@@ -25,9 +24,9 @@ use Rattle.pv_read.specs.Places.{may_stand_in_content}
 use Rattle.pv_read.specs.Steps.{TakesItem}
 use Rattle.pv_read.proofs.Decided.{known_is_decided}
 use Rattle.pv_read.proofs.DocumentFacts.{data_are_units, data_joined}
-use Rattle.pv_valid.specs.WholeLists.{kids_in, next_path}
+use Rattle.pv_valid.specs.WholeLists.{kids_in}
 use Rattle.pv_valid.specs.OpenLists.{HasRead, HasEnded, ended}
-use Rattle.pv_valid.specs.Contents.{GoesOn, EndsRoot, IsBehind}
+use Rattle.pv_valid.specs.Contents.{IsBehind}
 use Rattle.pv_valid.specs.declared.open.OpenLists.{OpenLists}
 use Rattle.pv_valid.proofs.Stack.{kid_added}
 

@@ -4,7 +4,7 @@ use Rattle.pv_chars.specs.Texts.{has_data}
 use Rattle.pv_model.specs.Plain.{PlainToken, text}
 use Rattle.pv_dtd.specs.Plain.{PlainDtd}
 use Rattle.pv_tree.specs.Plain.{Tree, element, text_node, cdata_node, misc_node, forest_of}
-use Rattle.pv_tree.specs.Lists.{Listed, lists_at, lists_from}
+use Rattle.pv_tree.specs.Lists.{lists_at, lists_from}
 use Rattle.pv_tree.specs.Words.{node_before, word_of}
 use Rattle.pv_tree.specs.declared.nodes.Mark.{Mark}
 use Rattle.pv_read.specs.Left.{Open, with_kid}

@@ -5,3 +5,4 @@ pub mod EmptyElements
 pub mod Behind
 pub mod Taken
 pub mod Whole
+pub mod SimpleRuns

@@ -1,5 +1,5 @@
 -- What is known of the open elements where one more begins, gains a kid, or ends.
-use Rattle.std.proofs.Common.{◌≡◌, ◌≤◌, ◌<◌, ℕ, ◌+◌, ◌-◌, suc, List, [], ◌∷◌, ◌++◌, length, take, drop, map, reverse, Bool, true, false, not, Option, Some, None, is_some, option_to_list, IsTrue, ◌↔◌, nat_lt, refl, sym, ap, ◌∙◌, subst, append_assoc, append-nil, length-append, length-drop, arith}
+use Rattle.std.proofs.Common.{◌≡◌, ◌≤◌, ◌<◌, ℕ, ◌+◌, ◌-◌, suc, List, [], ◌∷◌, ◌++◌, length, take, drop, map, reverse, Bool, true, false, Some, None, is_some, IsTrue, ◌↔◌, refl, sym, ap, ◌∙◌, subst, append_assoc, append-nil, length-append, length-drop, arith}
 use Rattle.std.specs.List.{AllByRecursion}
 use Rattle.std.specs.Option.{option_copied, option_map, option_and_then}
 use Rattle.std.proofs.lemmas.List.{reverse-append, reverse-reverse, map_push, length-map, length-reverse, take-map, take_at, drop_at, drop-map}
@@ -10,13 +10,13 @@ use Rattle.pv_model.specs.Plain.{PlainToken}
 use Rattle.pv_model.specs.PlainForms.{plain_model, plain_token}
 use Rattle.pv_dtd.specs.Plain.{PlainDtd, number_of, model_of}
 use Rattle.pv_dtd.specs.Hedge.{token}
-use Rattle.pv_tree.specs.Plain.{Tree, Ending, Forest, no_trees, tree, element, forest_of}
+use Rattle.pv_tree.specs.Plain.{Tree, Ending, no_trees, forest_of}
 use Rattle.pv_tree.specs.Lists.{an_element, IsOwnValid, IsValidList, lists_at, lists_from}
 use Rattle.pv_tree.specs.Words.{node_before, word_of}
 use Rattle.pv_tree.specs.declared.nodes.Mark.{Mark}
 use Rattle.pv_read.specs.Left.{Open, just_opened, with_kid}
 use Rattle.pv_valid.specs.WholeLists.{next_path, whole_lists, kids_in, TellsFirst, TellsWhether}
-use Rattle.pv_valid.specs.OpenLists.{IsOpen, AreOpen, HasRead, HasRoot, HasEnded, HasRoom, MOST_KIDS, ended}
+use Rattle.pv_valid.specs.OpenLists.{IsOpen, AreOpen, HasRead, HasEnded, HasRoom, MOST_KIDS, ended}
 use Rattle.pv_valid.specs.declared.open.OpenList.{OpenList}
 use Rattle.pv_valid.specs.declared.open.OpenLists.{OpenLists}
 use Rattle.pv_valid.proofs.Growing.{whole_lists-with_kid, word_of-behind}

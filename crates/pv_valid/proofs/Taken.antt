@@ -1,23 +1,22 @@
 -- The items of a root, one behind another, over the open elements.
-use Rattle.std.proofs.Common.{◌≡◌, ◌≤◌, ◌<◌, ◌+◌, ℕ, suc, List, [], ◌∷◌, length, Bool, true, false, Some, refl, sym, ap, ◌∙◌, subst, arith}
+use Rattle.std.proofs.Common.{◌≡◌, ◌≤◌, ◌<◌, ◌+◌, ℕ, suc, List, [], length, true, false, Some, sym, ap, ◌∙◌, subst, arith}
 use Rattle.pv_dtd.specs.Plain.{PlainDtd}
 use Rattle.pv_tree.specs.Marks.{blank_mark}
 use Rattle.pv_tree.specs.declared.nodes.Mark.{Mark}
 use Rattle.pv_read.specs.Errors.{Refuses}
-use Rattle.pv_read.specs.Items.{Item, HasKnownReferences}
-use Rattle.pv_read.specs.Left.{Left, Open, in_content, in_epilog, just_opened, IsWholeAt}
-use Rattle.pv_read.specs.Meaning.{MAX_DOC_BYTES, Outcome, Means}
-use Rattle.pv_read.specs.Places.{PlainPlace, content, place_of, may_stand_in_content}
+use Rattle.pv_read.specs.Items.{Item}
+use Rattle.pv_read.specs.Left.{Left, Open, in_content, in_epilog, just_opened}
+use Rattle.pv_read.specs.Meaning.{MAX_DOC_BYTES, Means}
+use Rattle.pv_read.specs.Places.{content, place_of, may_stand_in_content}
 use Rattle.pv_read.specs.Steps.{TakesItem}
 use Rattle.pv_read.specs.declared.errors.DocError.{DocError}
 use Rattle.pv_read.proofs.Prologs.{takes_leads}
 use Rattle.pv_read.proofs.Refusing.{Refuses-weaker}
-use Rattle.pv_valid.specs.WholeLists.{kids_in}
-use Rattle.pv_valid.specs.OpenLists.{HasRead, HasRoom, HasRoot, MOST_KIDS}
-use Rattle.pv_valid.specs.Contents.{GoesOn, EndsRoot, IsBehind, TakesInto, ReadsContent, ReadsRoot}
+use Rattle.pv_valid.specs.OpenLists.{HasRead, HasRoom}
+use Rattle.pv_valid.specs.Contents.{TakesInto, ReadsContent, ReadsRoot}
 use Rattle.pv_valid.specs.declared.open.OpenLists.{OpenLists}
 use Rattle.pv_valid.proofs.Stack.{inner_name, outer_length, has_room}
-use Rattle.pv_valid.proofs.Behind.{may_stand, known_taken}
+use Rattle.pv_valid.proofs.Behind.{may_stand}
 
 same_some : {x y : Left Mark} → Some x ≡ Some y → x ≡ y
 same_some e = cc

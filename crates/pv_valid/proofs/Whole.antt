@@ -1,5 +1,5 @@
 -- What the lists of a whole root tell of the document.
-use Rattle.std.proofs.Common.{◌≡◌, ◌≤◌, ◌+◌, ◌-◌, ◌↔◌, ℕ, suc, List, [], ◌∷◌, length, take, Bool, true, false, Option, Some, None, IsNone, IfSome, refl, sym, ap, ◌∙◌, subst, arith}
+use Rattle.std.proofs.Common.{◌≡◌, ◌≤◌, ◌-◌, ◌↔◌, ℕ, suc, List, [], ◌∷◌, length, take, Bool, true, false, Option, Some, None, IsNone, IfSome, refl, sym, ◌∙◌, subst, arith}
 use Rattle.pv_dtd.specs.Hedge.{IsValid}
 use Rattle.pv_dtd.specs.Plain.{PlainDtd}
 use Rattle.pv_tree.specs.Lists.{IsFirstNot, IsRootElement, IsValidList, lists_at, lists_of}
@@ -11,8 +11,8 @@ use Rattle.pv_tree.specs.declared.nodes.Mark.{Mark}
 use Rattle.pv_tree.proofs.FirstInvalid.{not_valid, root_invalid, below_invalid, all_valid}
 use Rattle.pv_read.specs.Epilogs.{document, EndsDocument}
 use Rattle.pv_read.specs.Left.{just_opened}
-use Rattle.pv_read.specs.Meaning.{MAX_DOC_BYTES, is_document, StartsWith, DocumentMeans, Means}
-use Rattle.pv_read.specs.Prologs.{behind_tag, OpensRoot}
+use Rattle.pv_read.specs.Meaning.{MAX_DOC_BYTES, is_document, StartsWith, DocumentMeans}
+use Rattle.pv_read.specs.Prologs.{OpensRoot}
 use Rattle.pv_read.specs.declared.prolog.RootTag.{RootTag}
 use Rattle.pv_read.proofs.Agreement.{spelled_where_meant}
 use Rattle.pv_read.proofs.DocumentFacts.{keeps}
@@ -20,7 +20,7 @@ use Rattle.pv_read.proofs.OneItem.{one_item}
 use Rattle.pv_read.proofs.OneMeaning.{same_document_meaning}
 use Rattle.pv_read.proofs.Telling.{read_whole}
 use Rattle.pv_valid.specs.WholeLists.{TellsFirst}
-use Rattle.pv_valid.specs.OpenLists.{HasEnded, HasRoot, ended}
+use Rattle.pv_valid.specs.OpenLists.{HasEnded, ended}
 use Rattle.pv_valid.specs.Contents.{ReadsRoot}
 use Rattle.pv_valid.specs.declared.open.OpenLists.{OpenLists}
 

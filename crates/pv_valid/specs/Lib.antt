@@ -1,3 +1,4 @@
 pub mod WholeLists
 pub mod OpenLists
 pub mod Contents
+pub mod Runs

@@ -10,12 +10,11 @@ ghost use Rattle.pv_read.specs.Meaning.{MAX_DOC_BYTES, Means};
 ghost use Rattle.pv_valid.specs.Contents.{TakesInto, ReadsRoot};
 ghost use Rattle.pv_valid.specs.OpenLists.{HasRead, HasRoom};
 
+use crate::items::item_in;
 use crate::open::OpenLists;
 use pv_dtd::Dtd;
 use pv_read::DocError;
-use pv_read::faults::next_item;
 use pv_read::forms::Tag;
-use pv_read::places::Place;
 use std::alloc::Global;
 
 // Reads one item behind so many: whether it makes the root whole, and what stands after it.
@@ -38,8 +37,8 @@ fn read_item<'a>(
         Refuses (Means blank_mark root.now count (in_content before inner outer) rest.now) e) }
     ensures within { IfOk result (λ r. length r.1.now < length rest.now) }
 {
-    let place = Place::Content(lists.inner.name, lists.outer.len() + 1);
-    let (item, more) = next_item(&place, root, rest, count)?;
+    let open_elements = lists.outer.len() + 1;
+    let (item, more) = item_in(lists.inner.name, open_elements, root, rest, count)?;
     let whole = lists.add(alloc, dtd, &item)?;
     Ok((whole, more))
 }

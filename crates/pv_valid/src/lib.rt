@@ -7,6 +7,7 @@
 
 mod content;
 mod fitting;
+mod items;
 mod open;
 mod reading;
 

@@ -1,11 +1,8 @@
-use Rattle.std.proofs.Common.{◌≡◌, ◌+◌, List, ℕ, [], suc, length, arith}
+use Rattle.std.proofs.Common.{◌≡◌, ◌+◌, [], suc, length, arith}
 use Rattle.std.proofs.lemmas.Result.{err_from_is_err_and}
 use Rattle.pv_dtd.specs.PlainForms.{plain_dtd}
-use Rattle.pv_tree.specs.declared.nodes.Mark.{Mark}
-use Rattle.pv_read.specs.Left.{Open, in_content}
+use Rattle.pv_read.specs.Left.{in_content}
 use Rattle.pv_read.specs.PlainItems.{plain_item}
-use Rattle.pv_read.specs.Places.{place_of, content}
-use Rattle.pv_valid.specs.OpenLists.{HasRead}
 use Rattle.pv_valid.proofs.Taken.{place_is, item_stands}
 use Rattle.pv_valid.proofs.Behind.{known_taken}
 use Rattle.pv_valid.proofs.content.read_item.Goals as goal
@@ -13,27 +10,27 @@ use Rattle.pv_valid.proofs.content.read_item.Goals as goal
 pub returns-in_err-item-clause-refused : goal.returns-in_err-item-clause-refused
 returns-in_err-item-clause-refused c =
     let from = err_from_is_err_and c.from_residual.result c.from_residual.ensures.1 in
-    let many : c.len.result + 1 ≡ suc (length c.args.lists.now.outer.items) = omega arith in
+    let many : c.len-open_elements.result + 1 ≡ suc (length c.args.lists.now.outer.items) = omega arith in
     rw (from.1, from.2) (λ before inner outer r.
-    c.in_err-item.ensures.refused (in_content before inner outer) (place_is (plain_dtd c.args.dtd.now) c.args.root.now c.args.lists.now inner outer r before (c.len.result + 1) many) (λ whole. whole))
+    c.in_err-item.ensures.refused (in_content before inner outer) (place_is (plain_dtd c.args.dtd.now) c.args.root.now c.args.lists.now inner outer r before (c.len-open_elements.result + 1) many) (λ whole. whole))
 
 pub add-requires-clause-stands : goal.add-requires-clause-stands
 add-requires-clause-stands c =
     let read = c.requires.read in
-    let many : c.len.result + 1 ≡ suc (length c.args.lists.now.outer.items) = omega arith in
-    item_stands (c.in_ok-item.ensures.taken (in_content [] read.0 read.1) (place_is (plain_dtd c.args.dtd.now) c.args.root.now c.args.lists.now read.0 read.1 read.2 [] (c.len.result + 1) many))
+    let many : c.len-open_elements.result + 1 ≡ suc (length c.args.lists.now.outer.items) = omega arith in
+    item_stands (c.in_ok-item.ensures.taken (in_content [] read.0 read.1) (place_is (plain_dtd c.args.dtd.now) c.args.root.now c.args.lists.now read.0 read.1 read.2 [] (c.len-open_elements.result + 1) many))
 
 pub add-requires-clause-known : goal.add-requires-clause-known
 add-requires-clause-known c =
     let read = c.requires.read in
-    let many : c.len.result + 1 ≡ suc (length c.args.lists.now.outer.items) = omega arith in
-    known_taken (c.in_ok-item.ensures.taken (in_content [] read.0 read.1) (place_is (plain_dtd c.args.dtd.now) c.args.root.now c.args.lists.now read.0 read.1 read.2 [] (c.len.result + 1) many))
+    let many : c.len-open_elements.result + 1 ≡ suc (length c.args.lists.now.outer.items) = omega arith in
+    known_taken (c.in_ok-item.ensures.taken (in_content [] read.0 read.1) (place_is (plain_dtd c.args.dtd.now) c.args.root.now c.args.lists.now read.0 read.1 read.2 [] (c.len-open_elements.result + 1) many))
 
 pub returns-clause-step : goal.returns-clause-step
 returns-clause-step c = λ inner outer r.
-    let many : c.len.result + 1 ≡ suc (length c.args.lists.now.outer.items) = omega arith in
+    let many : c.len-open_elements.result + 1 ≡ suc (length c.args.lists.now.outer.items) = omega arith in
     record {
       item = plain_item c.in_ok-item.item;
-      taken = λ before. c.in_ok-item.ensures.taken (in_content before inner outer) (place_is (plain_dtd c.args.dtd.now) c.args.root.now c.args.lists.now inner outer r before (c.len.result + 1) many);
+      taken = λ before. c.in_ok-item.ensures.taken (in_content before inner outer) (place_is (plain_dtd c.args.dtd.now) c.args.root.now c.args.lists.now inner outer r before (c.len-open_elements.result + 1) many);
       is_behind = c.in_ok-whole.ensures c.args.root.now inner outer r;
     }

@@ -1,9 +1,8 @@
-use Rattle.std.proofs.Common.{◌≡◌, true, refl, ap, sym, ◌∙◌, subst, ◌∷◌, Some, None}
+use Rattle.std.proofs.Common.{refl, ap, ◌∷◌, Some, None}
 use Rattle.pv_model.specs.declared.models.Token.TheVariants.{Text}
 use Rattle.pv_dtd.specs.PlainForms.{plain_dtd}
 use Rattle.pv_tree.specs.Marks.{blank_mark}
 use Rattle.pv_tree.specs.Plain.{short, tagged}
-use Rattle.pv_read.specs.Items.{HasKnownReferences}
 use Rattle.pv_read.specs.Left.{just_opened}
 use Rattle.pv_read.specs.PlainItems.{plain_item}
 use Rattle.pv_valid.proofs.Behind.{behind_start, behind_end, behind_empty, behind_misc, behind_cdata, behind_text}

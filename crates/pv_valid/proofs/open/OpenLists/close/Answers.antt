@@ -1,4 +1,4 @@
-use Rattle.std.proofs.Common.{◌≡◌, true, refl, ap, sym, ◌∙◌, [], ◌∷◌, ◌++◌, take, List, ◌+◌, vec_len, arith}
+use Rattle.std.proofs.Common.{ap, sym, ◌∙◌, vec_len, arith}
 use Rattle.pv_dtd.specs.PlainForms.{plain_dtd}
 use Rattle.pv_valid.specs.declared.open.OpenLists.{OpenLists}
 use Rattle.pv_valid.proofs.Stack.{root_ended, kid_ended, none_popped, cut_off}

@@ -1,8 +1,5 @@
-use Rattle.std.proofs.Common.{◌≡◌, true, refl, ◌∙◌}
-use Rattle.pv_dtd.specs.Plain.{number_of}
+use Rattle.std.proofs.Common.{◌≡◌, true, ◌∙◌}
 use Rattle.pv_dtd.specs.PlainForms.{plain_dtd}
-use Rattle.pv_tree.specs.Plain.{forest_of}
-use Rattle.pv_tree.specs.Lists.{IsOwnValid}
 use Rattle.pv_valid.proofs.Stack.{judged_behind, judged_valid, judged_invalid, inner_path}
 use Rattle.pv_valid.proofs.open.OpenLists.judge.Goals as goal
 
