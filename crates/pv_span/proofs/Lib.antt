@@ -9,3 +9,5 @@ pub mod Cuts
 pub mod Flats
 pub mod Known
 pub mod Answering
+pub mod Judging
+pub mod Summing

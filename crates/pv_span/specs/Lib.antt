@@ -3,3 +3,4 @@ pub mod Charts
 pub mod Least
 pub mod PlainForms
 pub mod Weights
+pub mod Laws

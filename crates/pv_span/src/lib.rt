@@ -11,14 +11,17 @@ mod charts;
 mod contents;
 mod errors;
 mod fill;
+pub mod laws;
 mod membership;
 mod parts;
 mod raise;
 mod rows;
 mod tables;
+mod verdict;
 mod weighing;
 
 pub use errors::SpanError;
 pub use membership::member;
 pub use tables::{Entries, Entry, Table, Tables};
+pub use verdict::list_verdict;
 pub use weighing::{Spans, weights};

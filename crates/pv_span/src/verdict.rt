@@ -1,0 +1,167 @@
+//! The verdict of a list, by a chart of its live word.
+
+ghost use Rattle.std.specs.Prelude.{◌≡◌, ◌↔◌, ◌+◌, ◌<◌, ◌^◌, ℕ, IfErr, IfOk, IfSome, IsTrue, List, Some, length, map};
+ghost use Rattle.pv_model.specs.Plain.{empty};
+ghost use Rattle.pv_model.specs.PlainForms.{plain_token};
+ghost use Rattle.pv_dtd.specs.Plain.{model_of};
+ghost use Rattle.pv_rules.specs.Sites.{HasSite, content_site};
+ghost use Rattle.pv_productive.specs.PlainForms.{dtd_of};
+ghost use Rattle.pv_tree.specs.Lists.{Listed};
+ghost use Rattle.pv_tree.specs.PlainForms.{forest};
+ghost use Rattle.pv_tree.specs.Words.{word_of};
+ghost use Rattle.pv_tree.specs.declared.nodes.Mark.{Mark};
+ghost use Rattle.pv_missing.specs.LiveWords.{IsLiveWord};
+ghost use Rattle.pv_missing.specs.PlainForms.{plain_of};
+ghost use Rattle.pv_missing.specs.Verdicts.{IsVerdict};
+ghost use Rattle.pv_missing.specs.Widths.{FitsWeights};
+ghost use Rattle.pv_missing.specs.WordVerdicts.{HoldsOne, IsValidAt, IsVerdictByWord, MayHaveKids};
+ghost use Rattle.pv_reach.specs.Owners.{IsOwner};
+ghost use Rattle.pv_span.specs.declared.errors.SpanError.TheVariants.{TooWide as too_wide};
+
+use crate::errors::SpanError;
+use crate::membership::derives;
+use crate::weighing::is_narrow;
+use pv_missing::{Of, live_word};
+use pv_model::{ContentModel, NameId, NoMemory, Token, matches};
+use pv_productive::Grammar;
+use pv_steps::Steps;
+use pv_tree::{Node, Verdict, word};
+use std::alloc::Global;
+use std::sync::ledger::Ledger;
+
+/// Whether elements of a name are declared EMPTY.
+fn is_empty_element(grammar: &Grammar, id: NameId) -> bool
+    requires { HasSite (dtd_of grammar.now) (content_site id.0) }
+    ensures { IsTrue result ↔ (model_of (dtd_of grammar.now) id.0 ≡ Some empty) }
+{
+    let Some(model) = grammar.dtd().model_of(id) else {
+        return false;
+    };
+    match model {
+        ContentModel::Empty => true,
+        ContentModel::Any => false,
+        ContentModel::Mixed(_) => false,
+        ContentModel::Children(_) => false,
+    }
+}
+
+/// Whether a list of this owner may have kids, or has none of any kind.
+fn may_have_kids(grammar: &Grammar, of: Of, is_bare: bool) -> bool
+    requires { HasSite (dtd_of grammar.now) (plain_of of) }
+    ensures { IsTrue result ↔ MayHaveKids (dtd_of grammar.now) (plain_of of) is_bare }
+{
+    match of {
+        Of::Root(_) => true,
+        Of::Elem(id) => {
+            let is_productive = grammar.is_productive(id);
+            is_productive && (is_bare || !is_empty_element(grammar, id))
+        }
+    }
+}
+
+/// Whether kids of this word are what an element of this name is to hold, EMPTY elements with kids of any kind aside.
+fn fits_element(
+    alloc: Global,
+    grammar: &Grammar,
+    id: NameId,
+    word: &[Token],
+    is_bare: bool,
+) -> Result<bool, NoMemory>
+    requires known { HasSite (dtd_of grammar.now) (content_site id.0) }
+    requires kids { model_of (dtd_of grammar.now) id.0 ≡ Some empty → IsTrue is_bare }
+    ensures { IfOk result (λ b. IsTrue b ↔ IsValidAt (dtd_of grammar.now) (content_site id.0)
+        (map plain_token word.now) is_bare) }
+{
+    let Some(model) = grammar.dtd().model_of(id) else {
+        return Ok(false);
+    };
+    matches(alloc, model, grammar.dtd().count(), word)
+}
+
+/// Whether a list of this owner and this word, which may have the kids that it has, is valid by itself.
+fn is_valid(
+    alloc: Global,
+    grammar: &Grammar,
+    of: Of,
+    word: &[Token],
+    is_bare: bool,
+) -> Result<bool, NoMemory>
+    requires known { HasSite (dtd_of grammar.now) (plain_of of) }
+    requires kids { MayHaveKids (dtd_of grammar.now) (plain_of of) is_bare }
+    ensures { IfOk result (λ b. IsTrue b ↔ IsValidAt (dtd_of grammar.now) (plain_of of)
+        (map plain_token word.now) is_bare) }
+{
+    match of {
+        Of::Root(id) => Ok(word.len() == 1 && word[0] == Token::Name(id)),
+        Of::Elem(id) => fits_element(alloc, grammar, id, word, is_bare),
+    }
+}
+
+/// The verdict of a list by its owner, its word with its live word, and whether it has no kids of any kind.
+fn judge(
+    alloc: Global,
+    grammar: &Grammar,
+    of: Of,
+    word: &[Token],
+    live: &[Token],
+    is_bare: bool,
+) -> Result<Verdict, NoMemory>
+    requires known { HasSite (dtd_of grammar.now) (plain_of of) }
+    requires live { IsLiveWord (dtd_of grammar.now) (map plain_token word.now) (map plain_token live.now) }
+    requires fits { FitsWeights (dtd_of grammar.now) (length live.now) }
+    ensures { IfOk result (λ verdict. IsVerdictByWord (dtd_of grammar.now) (Some (plain_of of))
+        (map plain_token word.now) is_bare verdict) }
+{
+    if !may_have_kids(grammar, of, is_bare) {
+        return Ok(Verdict::Impossible);
+    }
+    if !derives(alloc, grammar, of, live)? {
+        return Ok(Verdict::Impossible);
+    }
+    if is_valid(alloc, grammar, of, word, is_bare)? {
+        Ok(Verdict::Valid)
+    } else {
+        Ok(Verdict::Possible)
+    }
+}
+
+/// The verdict of a list: `owner` is `None` where the DTD doesn't have the name of the element that owns it, or, for the document node,
+/// the root's name.
+///
+/// `TooWide` is asked before the verdict. The document node's list is its root alone; of other kids with this owner nothing is said.
+pub fn list_verdict<L: Ledger>(
+    alloc: Global,
+    grammar: &Grammar,
+    owner: Option<Of>,
+    kids: &[Node],
+    steps: &mut Steps<L>,
+) -> Result<Verdict, SpanError>
+    requires { IfSome owner (λ of. HasSite (dtd_of grammar.now) (plain_of of)) }
+    ensures verdict { IfOk result (λ verdict. (root : List ℕ) (list : Listed Mark) →
+        list.kids ≡ forest kids.now → IsOwner (dtd_of grammar.now) root list owner →
+        HoldsOne list.owner list.kids → IsVerdict (dtd_of grammar.now) root list verdict) }
+    ensures fits { IfOk result (λ _. FitsWeights (dtd_of grammar.now)
+        (length (word_of (dtd_of grammar.now) (forest kids.now)))) }
+    ensures wide { IfErr result (λ e. e ≡ too_wide → ¬ FitsWeights (dtd_of grammar.now)
+        (length (word_of (dtd_of grammar.now) (forest kids.now)))) }
+    ensures steps { steps.new ≡ steps.old + 1 }
+{
+    steps.tick();
+    let tokens = word(alloc, grammar.dtd(), kids)?;
+    if !is_narrow(grammar, tokens.as_slice().len()) {
+        return Err(SpanError::TooWide);
+    }
+    let Some(of) = owner else {
+        return Ok(Verdict::Impossible);
+    };
+    let live = live_word(alloc, grammar, kids)?;
+    let verdict = judge(
+        alloc,
+        grammar,
+        of,
+        tokens.as_slice(),
+        live.as_slice(),
+        kids.is_empty(),
+    )?;
+    Ok(verdict)
+}
