@@ -1,0 +1,9 @@
+pub mod ListPlaces
+pub mod OtherMarks
+pub mod ListMarks
+pub mod Widths
+pub mod Ways
+pub mod Judged
+pub mod LastItems
+pub mod Moves
+pub mod Steps

@@ -1,0 +1,92 @@
+-- Edits one after the other, and the ways back.
+use Rattle.std.proofs.Common.{List, [], ap, refl, subst, sym, ◌++◌, ◌∙◌, ◌∷◌, ◌≡◌, ℕ}
+use Rattle.pv_dtd.specs.Plain.{PlainDtd}
+use Rattle.pv_edit.specs.Inverses.{LeadsBack}
+use Rattle.pv_edit.specs.Reasons.{Outcome, applied, gives}
+use Rattle.pv_edit.specs.declared.edits.Edit.{Edit}
+use Rattle.pv_edit.specs.declared.inverses.Inverse.{Inverse}
+use Rattle.pv_session.specs.Keeping.{IsGuarded, IsMade, LeadsOn, LeadsTo}
+use Rattle.pv_session.specs.Sessions.{Replays}
+use Rattle.pv_tree.specs.Marks.{unmarked_doc}
+use Rattle.pv_tree.specs.Plain.{PlainDoc}
+
+-- ---- replays
+pub one_replay : (doc after other : PlainDoc Unit) (edits : List Edit) → Replays doc edits after → Replays doc edits other → after ≡ other
+one_replay doc after other [] a b = a ∙ sym b
+one_replay doc after other (edit ∷ edits) (next, e, a) (last, f, b) =
+    let same : gives next ≡ gives last = sym e ∙ f in
+    let n : next ≡ last = cc in
+    one_replay last after other edits (subst (λ (d : PlainDoc Unit). Replays d edits after) n a) b
+
+pub replays_more : (doc last after : PlainDoc Unit) (edits : List Edit) (edit : Edit) → Replays doc edits last → applied tt last edit ≡ gives after → Replays doc (edits ++ edit ∷ []) after
+replays_more doc last after [] edit r a = (after, subst (λ (d : PlainDoc Unit). applied tt d edit ≡ gives after) r a, refl)
+replays_more doc last after (e ∷ edits) edit (next, f, r) a = (next, f, replays_more next last after edits edit r a)
+
+module _ (g : PlainDtd) (root : List ℕ) where
+  pub replays : (doc after : PlainDoc Unit) (edits : List Edit) (ways : List Inverse) → LeadsTo g root doc edits ways after → Replays doc edits after
+  replays doc after [] [] l = l
+  replays doc after [] (way ∷ ways) l = absurd l
+  replays doc after (edit ∷ edits) [] l = absurd l
+  replays doc after (edit ∷ edits) (way ∷ ways) (next, guarded, made, l) = (next, made.is_edited, replays next after edits ways l)
+
+  -- ---- the past
+  -- one more edit
+  pub leads_more : (doc last after : PlainDoc Unit) (edits : List Edit) (ways : List Inverse) (edit : Edit) (way : Inverse) → LeadsTo g root doc edits ways last → IsGuarded g root last → IsMade last edit way after →
+      LeadsTo g root doc (edits ++ edit ∷ []) (ways ++ way ∷ []) after
+  leads_more doc last after [] [] edit way l guarded made =
+      (after, subst (IsGuarded g root) l guarded, subst (λ (d : PlainDoc Unit). IsMade d edit way after) l made, refl)
+  leads_more doc last after [] (w ∷ ways) edit way l guarded made = absurd l
+  leads_more doc last after (e ∷ edits) [] edit way l guarded made = absurd l
+  leads_more doc last after (e ∷ edits) (w ∷ ways) edit way (next, g1, m, l) guarded made = (next, g1, m, leads_more next last after edits ways edit way l guarded made)
+
+  -- the last edit and its way back
+  pub record IsLast (doc : PlainDoc Unit) (edits : List Edit) (ways : List Inverse) (edit : Edit) (way : Inverse) (after : PlainDoc Unit) : Type 0 where
+    pub before : PlainDoc Unit
+    pub led : LeadsTo g root doc edits ways before
+    pub guarded : IsGuarded g root before
+    pub made : IsMade before edit way after
+
+  pub last_edit : (doc after : PlainDoc Unit) (edits : List Edit) (ways : List Inverse) (edit : Edit) (way : Inverse) → LeadsTo g root doc (edits ++ edit ∷ []) (ways ++ way ∷ []) after → IsLast doc edits ways edit way after
+  last_edit doc after [] [] edit way (next, guarded, made, l) = record { before = doc; led = refl; guarded = guarded; made = subst (IsMade doc edit way) (sym l) made }
+  last_edit doc after [] (w ∷ []) edit way (next, guarded, made, l) = absurd l
+  last_edit doc after [] (w ∷ v ∷ ways) edit way (next, guarded, made, l) = absurd l
+  last_edit doc after (e ∷ []) [] edit way (next, guarded, made, l) = absurd l
+  last_edit doc after (e ∷ f ∷ edits) [] edit way (next, guarded, made, l) = absurd l
+  last_edit doc after (e ∷ edits) (w ∷ ways) edit way (next, guarded, made, l) =
+      let rest = last_edit next after edits ways edit way l in
+      record { before = rest.before; led = (next, guarded, made, rest.led); guarded = rest.guarded; made = rest.made }
+
+  -- there are as many ways back as edits
+  pub both_empty : (doc after : PlainDoc Unit) (edits : List Edit) (ways : List Inverse) → LeadsTo g root doc edits ways after → ways ≡ [] → edits ≡ []
+  both_empty doc after [] ways l e = refl
+  both_empty doc after (edit ∷ edits) [] l e = absurd l
+  both_empty doc after (edit ∷ edits) (way ∷ ways) l e = absurd cc
+
+  pub empty_both : (doc after : PlainDoc Unit) (edits : List Edit) (ways : List Inverse) → LeadsTo g root doc edits ways after → edits ≡ [] → ways ≡ []
+  empty_both doc after edits [] l e = refl
+  empty_both doc after [] (way ∷ ways) l e = absurd l
+  empty_both doc after (edit ∷ edits) (way ∷ ways) l e = absurd cc
+
+  -- the way back leads back from a document whatever its marks are
+  pub goes_back : {M : Type 0} (before : PlainDoc Unit) (edit : Edit) (way : Inverse) (edited : PlainDoc M) → IsMade before edit way (unmarked_doc edited) → LeadsBack way edited before
+  goes_back before edit way edited made = record { edit = edit; kept = made.kept; is_edited = made.is_edited; is_inverse = made.is_inverse }
+
+  -- ---- undone edits
+  pub leads_on_more : (doc next after : PlainDoc Unit) (edits : List Edit) (edit : Edit) → LeadsOn g root next edits after → applied tt doc edit ≡ gives next → IsGuarded g root next →
+      LeadsOn g root doc (edits ++ edit ∷ []) after
+  leads_on_more doc next after [] edit l a guarded =
+      (doc, refl, subst (λ (d : PlainDoc Unit). applied tt doc edit ≡ gives d) (sym l) a, subst (IsGuarded g root) (sym l) guarded)
+  leads_on_more doc next after (e ∷ edits) edit (last, l, b, h) a guarded = (last, leads_on_more doc next last edits edit l a guarded, b, h)
+
+  pub record IsNext (doc : PlainDoc Unit) (edits : List Edit) (edit : Edit) (after : PlainDoc Unit) : Type 0 where
+    pub next : PlainDoc Unit
+    pub is_edited : applied tt doc edit ≡ gives next
+    pub guarded : IsGuarded g root next
+    pub leads : LeadsOn g root next edits after
+
+  pub next_undone : (doc after : PlainDoc Unit) (edits : List Edit) (edit : Edit) → LeadsOn g root doc (edits ++ edit ∷ []) after → IsNext doc edits edit after
+  next_undone doc after [] edit (last, l, a, guarded) =
+      record { next = after; is_edited = subst (λ (d : PlainDoc Unit). applied tt d edit ≡ gives after) l a; guarded = guarded; leads = refl }
+  next_undone doc after (e ∷ edits) edit (last, l, a, guarded) =
+      let rest = next_undone doc last edits edit l in
+      record { next = rest.next; is_edited = rest.is_edited; guarded = rest.guarded; leads = (last, rest.leads, a, guarded) }

@@ -1,0 +1,5 @@
+use Rattle.pv_session.proofs.Steps.{one_answer}
+use Rattle.pv_session.proofs.laws.one_answer_law.Goals as goal
+
+pub returns : goal.returns
+returns c = one_answer

@@ -1,0 +1,9 @@
+pub mod Sessions
+pub mod Accepting
+pub mod Steps
+pub mod Answers
+pub mod Keeping
+pub mod Codes
+pub mod PlainForms
+pub mod Reaching
+pub mod Laws

@@ -1,0 +1,23 @@
+//! Laws of sessions.
+
+ghost use Rattle.pv_session.specs.Keeping.{IsSession};
+ghost use Rattle.pv_session.specs.Laws.{ReplaysToOne, StepsHaveOneAnswer};
+
+use crate::session::Session;
+
+/// Edits lead from a document to one other at most.
+pub fn replay_law()
+    ensures { ReplaysToOne }
+{}
+
+/// A move has one answer, and there is one session behind it.
+pub fn one_answer_law()
+    ensures { StepsHaveOneAnswer }
+{}
+
+/// What each session keeps.
+pub fn session_law(_session: &Session)
+    ensures { IsSession _session.now }
+{
+    _session.kept();
+}

@@ -1,0 +1,18 @@
+//! Guarded sessions: edits of a document, each refused exactly where it could not be made, would be past a limit, or would leave a
+//! document that inserting elements can't make valid.
+//!
+//! What a session is at is a `PlainSession` (specs/Sessions.antt): the document that was opened, the edits since, those that were undone,
+//! and the document now. specs/Accepting.antt says which edits are accepted, and specs/Steps.antt what `edit`, `undo` and `redo` answer and
+//! leave behind. What each session keeps stands in specs/Keeping.antt.
+#![tactic(auto)]
+
+mod answers;
+mod checking;
+mod counts;
+pub mod laws;
+mod making;
+mod moving_back;
+mod session;
+
+pub use answers::BackAnswer;
+pub use session::Session;
