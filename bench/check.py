@@ -20,6 +20,12 @@ ROW = "<!ELEMENT a (b, c)*><!ELEMENT b EMPTY><!ELEMENT c EMPTY>"
 WIDE = "<!ELEMENT a (b, c)*><!ELEMENT b EMPTY><!ELEMENT c EMPTY><!ELEMENT d EMPTY>"
 
 
+# Cycles in a chain: each name's content leads back to it, with an `x` behind it, and on to the next name.
+def chain(count):
+    names = "".join(f"<!ELEMENT a{i} (b{i}, x?)><!ELEMENT b{i} (a{i}?, a{i + 1}?)>" for i in range(count))
+    return f"{names}<!ELEMENT a{count} EMPTY><!ELEMENT x EMPTY>"
+
+
 # The document without the tags of every tenth element but the first.
 def without_tags(text):
     found, number = [], 0
@@ -40,8 +46,8 @@ def without_tags(text):
     return "".join(found)
 
 
-def row(kid, count):
-    return "<a>" + f"<{kid}/>" * count + "</a>"
+def row(kid, count, root="a"):
+    return f"<{root}>" + f"<{kid}/>" * count + f"</{root}>"
 
 
 # Title, DTD, root, document, and whether xmllint is told beside it.
@@ -57,6 +63,9 @@ def cases(top, folder):
         yield f"{count:,} kids, every other one missing", ROW, "a", row("b", count), False
         yield f"{count:,} kids by left recursion", LEFT, "a", row("c", count), False
         yield f"{count:,} kids by left recursion through several names", LONG_LEFT, "a", row("c", count), False
+    # 11,000 columns, so that 6,098 kids are the most.
+    for count in (600, 6_000):
+        yield f"{count:,} kids by a chain of 1,000 cycles", chain(1_000), "a0", row("x", count, "a0"), False
     # Eight columns, so that (n + 1) * 8 is the limit.
     yield "the widest list", WIDE, "a", row("b", 8_388_607), False
 

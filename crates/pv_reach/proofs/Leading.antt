@@ -1,18 +1,17 @@
 -- Columns that lead to one another at one place.
-use Rattle.std.proofs.Common.{Bool, Contains, List, None, [], ap, arith, false, get_or, inl, inr, length, refl, replicate, subst, suc, sym, true, zero, ℕ, ◌++◌, ◌+◌, ◌*◌, ◌∙◌, ◌<◌, ◌∷◌, ◌≡◌, ◌⊎◌}
-use Rattle.std.proofs.lemmas.Bool.{cases_lt}
-use Rattle.std.proofs.lemmas.List.{get_or_past}
-use Rattle.std.proofs.lemmas.List.Elements.{Contains-append_cases}
-use Rattle.std.proofs.lemmas.Grind.{get_or_default_zero}
+use Rattle.std.proofs.Common.{Bool, Contains, List, None, [], ap, arith, false, get_or, inl, inr, length, refl, replicate, subst, suc, sym, true, zero, ℕ, ◌∙◌, ◌<◌, ◌∷◌, ◌≡◌, ◌⊎◌}
 use Rattle.pv_model.specs.declared.models.Token.{Token}
-use Rattle.pv_reach.specs.ColumnRules.{InRange, Reaches, by_rule, done}
-use Rattle.pv_reach.specs.Following.{AreAbove, AreBare, AreBelow, AreFollowers, IsBehind, MayFollow, ReachesAll}
-use Rattle.pv_reach.specs.Tables.{IsFurthest}
+use Rattle.pv_dtd.specs.Productive.{IsProductive}
+use Rattle.pv_dtd.specs.Plain.{PlainDtd}
+use Rattle.pv_reach.specs.ColumnRules.{Reaches, by_rule, done}
+use Rattle.pv_reach.specs.Columns.{AreRules}
+use Rattle.pv_reach.specs.Leading.{AreAlike, AreBare, AreEdges, AreLed, IsEdgeOf, IsHead, Leads, MayFollow, ReachesAll, Turned, along, here}
+use Rattle.pv_reach.specs.declared.edges.Edge.{Edge}
 use Rattle.pv_reach.specs.declared.rules.ColumnRule.{ColumnRule}
-use Rattle.pv_reach.proofs.Closing.{columns_in_range}
-use Rattle.pv_reach.proofs.Emptied.{moved}
+use Rattle.pv_reach.proofs.Emptied.{nothing_reached}
+use Rattle.pv_reach.proofs.FormedDtds.{IsFormedDtd}
 use Rattle.pv_reach.proofs.Placing.{unmarked}
-use Rattle.pv_reach.proofs.Spans.{join, reaches_within}
+use Rattle.pv_reach.proofs.Spans.{join}
 
 module _ (rules : List ColumnRule) where
   -- each of the columns reaches over no tokens
@@ -56,96 +55,72 @@ module _ (rules : List ColumnRule) where
     follows a k m below above less lt word h i j d q =
         below word h j (by_columns r con e word h j (two_reach r.columns.items k m bare less lt word h i j (above word h i d) q))
 
-  pub all_bare : (table cs : List ℕ) → AreBare rules table → ((k : ℕ) → k < length cs → 0 < get_or table (get_or cs k 0) 0) → AllBare cs
-  all_bare table cs are some k lt = are.bare (get_or cs k 0) (some k lt)
+  pub all_bare : (marks : List Bool) (cs : List ℕ) → AreBare rules marks → ((k : ℕ) → k < length cs → get_or marks (get_or cs k 0) false ≡ true) → AllBare cs
+  all_bare marks cs are some k lt = are.bare (get_or cs k 0) (some k lt)
 
-  -- the columns that reach in a table over the empty word
-  pub bare_of : (width : ℕ) (table : List ℕ) → IsFurthest rules [] width table → AreBare rules table
-  bare_of width table is = record { bare = bare }
-    where
-      bare_case : (c v : ℕ) → c < length table → get_or table c 0 ≡ v → 0 < v → (word : List Token) (p : ℕ) → Reaches rules word (c ∷ []) p p
-      bare_case c zero lt e some word p = absurd (omega arith)
-      bare_case c (suc j) lt e some word p =
-          let l = is.sized.long in
-          let d = is.attained.reaches c 0 j (omega arith) (omega arith) (let z : 0 * width + c ≡ c = omega arith in rw z e) in
-          let w = reaches_within rules [] (c ∷ []) 0 j d (omega arith) in
-          moved rules [] word (c ∷ []) 0 j p d (omega arith)
-
-      bare : (c : ℕ) → 0 < get_or table c 0 → (word : List Token) (p : ℕ) → Reaches rules word (c ∷ []) p p
-      bare c some = bare_case c (get_or table c 0) (within c some) refl some
-        where
-          within : (x : ℕ) → 0 < get_or table x 0 → x < length table
-          within x lt = elim (cases_lt x (length table)) [ inl less ↦ less | inr ge ↦ absurd (let z = get_or_past table x 0 ge in omega arith) ]
-
-  -- a rule whose column is below a marks its columns
-  pub below_more : (a : ℕ) (old new : List Bool) (r : ColumnRule) → Contains rules r → r.token ≡ None → AllBare r.columns.items → get_or old r.left false ≡ true → AreBelow rules a old →
-      ((x : ℕ) → get_or new x false ≡ true → Contains r.columns.items x ⊎ (get_or old x false ≡ true)) → AreBelow rules a new
-  below_more a old new r con e bare left are marks = record {
-    below = λ x m. elim (marks x m) [
-      | inr k ↦ are.below x k
-      | inl c ↦ (λ word i j d. are.below r.left left word i j (leads r con e bare (index c) (within c) word i j (let P : ℕ → Type 0 = λ v. Reaches rules word (v ∷ []) i j in subst P (sym (is c)) d)))
+  -- one more column that reaches over no tokens
+  pub bare_more : (old new : List Bool) (r : ColumnRule) → Contains rules r → r.token ≡ None → ((k : ℕ) → k < length r.columns.items → get_or old (get_or r.columns.items k 0) false ≡ true) → AreBare rules old →
+      ((x : ℕ) → get_or new x false ≡ true → (x ≡ r.left) ⊎ (get_or old x false ≡ true)) → AreBare rules new
+  bare_more old new r con e some are marks = record {
+    bare = λ x m word p. elim (marks x m) [
+      | inr k ↦ are.bare x k word p
+      | inl z ↦ (let P : ℕ → Type 0 = λ v. Reaches rules word (v ∷ []) p p in
+          subst P (sym z) (by_columns r con e word p p (bare_all r.columns.items (all_bare old r.columns.items are some) word p)))
     ];
   }
-    where
-      index : {x : ℕ} → Contains r.columns.items x → ℕ
-      index c = c.0
 
-      within : {x : ℕ} → (c : Contains r.columns.items x) → index c < length r.columns.items
-      within c = c.1
-
-      is : {x : ℕ} → (c : Contains r.columns.items x) → get_or r.columns.items (index c) 0 ≡ x
-      is {x} c = sym (get_or_default_zero r.columns.items c.0 x c.1) ∙ c.2
-
-  -- a rule with a column above a marks its own column
-  pub above_more : (a : ℕ) (old new : List Bool) (r : ColumnRule) (k : ℕ) → Contains rules r → r.token ≡ None → AllBare r.columns.items → k < length r.columns.items → get_or old (get_or r.columns.items k 0) false ≡ true →
-      AreAbove rules a old → ((x : ℕ) → get_or new x false ≡ true → (x ≡ r.left) ⊎ (get_or old x false ≡ true)) → AreAbove rules a new
-  above_more a old new r k con e bare lt marked are marks = record {
-    above = λ x m. elim (marks x m) [
-      | inr n ↦ are.above x n
-      | inl z ↦ (λ word i j d.
+  -- the edges of one more rule
+  pub edges_more : (marks : List Bool) (old new : List Edge) (r : ColumnRule) → Contains rules r → r.token ≡ None → ((k : ℕ) → k < length r.columns.items → get_or marks (get_or r.columns.items k 0) false ≡ true) → AreBare rules marks →
+      AreEdges rules old → ((e : Edge) → Contains new e → Contains old e ⊎ IsEdgeOf r e) → AreEdges rules new
+  edges_more marks old new r con e some are before either = record {
+    leads = λ x c. elim (either x c) [
+      | inl o ↦ before.leads x o
+      | inr h ↦ (λ word i j d.
           let P : ℕ → Type 0 = λ v. Reaches rules word (v ∷ []) i j in
-          subst P (sym z) (leads r con e bare k lt word i j (are.above (get_or r.columns.items k 0) marked word i j d)))
+          subst P (sym h.2) (leads r con e (all_bare marks r.columns.items are some) h.0 h.1 word i j (subst P h.3 d)))
     ];
   }
 
-  -- what stands behind a column above a, in a rule of a column below it, may follow a
-  pub followers_more : (width a : ℕ) (below above : List Bool) (old new : List ℕ) (r : ColumnRule) → InRange width rules → Contains rules r → r.token ≡ None → AllBare r.columns.items → get_or below r.left false ≡ true →
-      AreBelow rules a below → AreAbove rules a above → AreFollowers rules width a old → ((q : ℕ) → Contains new q → Contains old q ⊎ IsBehind above r.columns.items q) → AreFollowers rules width a new
-  followers_more width a below above old new r range con e bare left are up before either = record {
-    follow = λ q c. elim (either q c) [ inl o ↦ before.follow q o | inr b ↦ here q b ];
-  }
+  leads_all : (edges : List Edge) → AreEdges rules edges → (c d : ℕ) → Leads edges c d → ReachesAll rules c d
+  leads_all edges are c d (here _ _ e) = λ word i j r. let P : ℕ → Type 0 = λ v. Reaches rules word (v ∷ []) i j in subst P (sym e) r
+  leads_all edges are c d (along _ _ x con e l) = λ word i j r.
+      let P : ℕ → Type 0 = λ v. Reaches rules word (v ∷ []) i j in
+      subst P (sym e) (are.leads x con word i j (leads_all edges are x.to d l word i j r))
+
+  -- a column that leads to one, and is led to by it, reaches the same
+  pub alike : (edges turned : List Edge) (above below heads : List ℕ) (n : ℕ) → AreEdges rules edges → Turned edges turned → length heads ≡ n → length above ≡ n → length below ≡ n → AreLed edges above → AreLed turned below →
+      ((c : ℕ) → c < n → IsHead above below c (get_or heads c 0)) → AreAlike rules heads
+  alike edges turned above below heads n are back long la lb up down is = record { alike = λ c lt. go c lt (is c (omega arith)) }
     where
-      here : (q : ℕ) → IsBehind above r.columns.items q → (q < width) × MayFollow rules a q
-      here q (k, m, less, lt, marked, z) =
-          let P : ℕ → Type 0 = λ v. (v < width) × MayFollow rules a v in
-          subst P z ((columns_in_range width rules r range con).1 m 0 lt, follows r con e bare a k m (are.below r.left left) (up.above (get_or r.columns.items k 0) marked) less lt)
+      As : ℕ → ℕ → Type 0
+      As c v = (v < length heads) × ReachesAll rules c v × ReachesAll rules v c
 
--- one more column behind a marked one
-pub behind_more : (marks : List Bool) (cs start old new : List ℕ) (k m : ℕ) → new ≡ old ++ (get_or cs m 0 ∷ []) → k < m → m < length cs → get_or marks (get_or cs k 0) false ≡ true →
-    ((q : ℕ) → Contains old q → Contains start q ⊎ IsBehind marks cs q) → (q : ℕ) → Contains new q → Contains start q ⊎ IsBehind marks cs q
-behind_more marks cs start old new k m e less lt marked before q con =
-    let P : List ℕ → Type 0 = λ v. Contains v q in
-    elim (Contains-append_cases old (get_or cs m 0 ∷ []) q (subst P e con)) [ inl c ↦ before q c | inr c ↦ inr (k, m, less, lt, marked, alone (get_or cs m 0) q c) ]
-  where
-    same : (y z i : ℕ) → i < 1 → get_or (y ∷ []) i z ≡ z → y ≡ z
-    same y z zero less e = e
-    same y z (suc i) less e = absurd (omega arith)
+      go : (c : ℕ) → c < length heads → IsHead above below c (get_or heads c 0) → As c (get_or heads c 0)
+      go c lt (inl e) = subst (As c) (sym e) (lt, (λ word i j d. d), (λ word i j d. d))
+      go c lt (inr (ca, cb, ea, eb)) =
+          let u = up.led c ca in
+          let w = down.led c cb in
+          let there = leads_all edges are c (get_or above c 0) u.1 in
+          let P : ℕ → Type 0 = λ v. ReachesAll rules v c in
+          let back_again = turned_all c (get_or below c 0) w.1 in
+          subst (As c) (sym ea) (omega (arith, u.0), there, subst P (sym eb ∙ ea) back_again)
+        where
+          turned_all : (x y : ℕ) → Leads turned x y → ReachesAll rules y x
+          turned_all x y (here _ _ e) = λ word i j r. let P : ℕ → Type 0 = λ v. Reaches rules word (v ∷ []) i j in subst P e r
+          turned_all x y (along _ _ f con e l) = λ word i j r.
+              let b = back.back f con in
+              let P : ℕ → Type 0 = λ v. Reaches rules word (v ∷ []) i j in
+              turned_all f.to y l word i j (subst P b.2 (are.leads b.0 b.1 word i j (subst P (sym b.3) (subst P e r))))
 
-    alone : (y z : ℕ) → Contains (y ∷ []) z → y ≡ z
-    alone y z c = same y z c.0 c.1 c.2
-
-module _ (rules : List ColumnRule) (a n : ℕ) (none marks : List Bool) (e : none ≡ replicate n false) (only : (x : ℕ) → get_or marks x false ≡ true → (x ≡ a) ⊎ (get_or none x false ≡ true)) where
-  -- the column itself is below and above it
-  itself : (x : ℕ) → get_or marks x false ≡ true → x ≡ a
-  itself x m = elim (only x m) [ inl z ↦ z | inr k ↦ absurd (let z = unmarked n x in let y = ap (λ v. get_or v x false) e in cc) ]
-
-  pub below_self : AreBelow rules a marks
-  below_self = record { below = λ c m word i j d. let P : ℕ → Type 0 = λ v. Reaches rules word (v ∷ []) i j in subst P (itself c m) d }
-
-  pub above_self : AreAbove rules a marks
-  above_self = record { above = λ c m word i j d. let P : ℕ → Type 0 = λ v. Reaches rules word (v ∷ []) i j in subst P (sym (itself c m)) d }
-
-pub followers_none : (rules : List ColumnRule) (width a : ℕ) (followers : List ℕ) → followers ≡ [] → AreFollowers rules width a followers
-followers_none rules width a followers e = record {
-  follow = λ q c. absurd (let P : List ℕ → Type 0 = λ v. Contains v q in let l = (subst P e c).1 in omega arith);
+-- the contents of productive names reach over no tokens
+pub bare_names : (g : PlainDtd) (rules : List ColumnRule) (none marks : List Bool) (n : ℕ) → AreRules g rules → IsFormedDtd g → none ≡ replicate n false →
+    ((x : ℕ) → get_or marks x false ≡ true → IsProductive g x ⊎ (get_or none x false ≡ true)) → AreBare rules marks
+bare_names g rules none marks n are formed e is = record {
+  bare = λ c m word p. elim (is c m) [
+    | inl q ↦ (nothing_reached g rules word are formed c p q).1
+    | inr k ↦ absurd (let z = unmarked n c in let y = ap (λ v. get_or v c false) e in cc)
+  ];
 }
+
+pub edges_none : (rules : List ColumnRule) (edges : List Edge) → edges ≡ [] → AreEdges rules edges
+edges_none rules edges e = record { leads = λ x c. absurd (let P : List Edge → Type 0 = λ v. Contains v x in let l = (subst P e c).1 in omega arith) }

@@ -17,4 +17,5 @@ pub mod Raising
 pub mod SitesReach
 pub mod Spans
 pub mod Within
-pub mod Widening
+pub mod Replacing
+pub mod Sweeping

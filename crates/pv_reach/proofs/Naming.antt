@@ -171,12 +171,12 @@ one_more_name old new n e below x lt = rw e (elim (cases_lt x n) [
   | inr ge ↦ (let z : x ≡ n = omega arith in Contains-append_right old (n ∷ []) x (0, omega arith, sym z))
 ])
 
-pub laid_names : (g : PlainDtd) (names : List ℕ) (old mid new : List ColumnRule) → old ≡ [] → IsFormedDtd g → ((x : ℕ) → IsDeclared g x → Contains names x) → LaysOutNames g old mid (Contains names) →
+pub laid_names : (g : PlainDtd) (old mid new : List ColumnRule) → old ≡ [] → IsFormedDtd g → LaysOutNames g old mid (IsDeclared g) →
     LaysOut g mid new (any_column g) (IsRuleOfAny g) → AreRules g new
-laid_names g names old mid new e formed all l a =
+laid_names g old mid new e formed l a =
     all_laid g new formed (a.sound (l.sound (rw e record { holds = λ k o cs h. absurd (nothing k o cs h) })))
-    (λ x d o cs r. a.grow.keeps x o cs (l.contents x (all x d) o cs r))
-    (λ x q d w o cs r. a.grow.keeps (part_column g q) o cs (l.parts x q (all x d) w o cs r))
+    (λ x d o cs r. a.grow.keeps x o cs (l.contents x d o cs r))
+    (λ x q d w o cs r. a.grow.keeps (part_column g q) o cs (l.parts x q d w o cs r))
     a.complete
   where
     nothing : (k : ℕ) (o : Option Token) (cs : List ℕ) → Has [] k o cs → ⊥

@@ -16,7 +16,7 @@ use Rattle.pv_reach.proofs.Closing.{columns_in_range, past_reaches}
 same_or_not : (k i : ℕ) → (k ≡ i) ⊎ (k ≢ i)
 same_or_not k i = elim (cases_lt k i) [ inl lt ↦ inr (omega arith) | inr le ↦ elim (cases_lt i k) [ inl lt ↦ inr (omega arith) | inr ge ↦ inl (omega arith) ] ]
 
-set_at : (P : ℕ → ℕ → Type 0) (table : List ℕ) (i v k : ℕ) → i < length table → (k ≡ i → P v k) → (k ≢ i → P (get_or table k 0) k) → P (get_or (set table i v) k 0) k
+pub set_at : (P : ℕ → ℕ → Type 0) (table : List ℕ) (i v k : ℕ) → i < length table → (k ≡ i → P v k) → (k ≢ i → P (get_or table k 0) k) → P (get_or (set table i v) k 0) k
 set_at P table i v k lt here there = elim (same_or_not k i) [
   | inl e ↦ (let q : get_or (set table i v) k 0 ≡ v = rw e (get_or-set_same table i v 0 lt) in rw q (here e))
   | inr ne ↦ (let q : get_or (set table i v) k 0 ≡ get_or table k 0 = rw get_or-set_other in rw q (there ne))

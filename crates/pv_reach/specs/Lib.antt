@@ -6,5 +6,6 @@ pub mod Adding
 pub mod Deriving
 pub mod Owners
 pub mod Parts
-pub mod Following
+pub mod Leading
+pub mod Merging
 pub mod Plans

@@ -1,15 +1,14 @@
 -- Rules that are laid out for all words.
-use Rattle.std.specs.Prelude.{List, ℕ, ◌<◌, ◌≤◌, ◌^◌}
+use Rattle.std.specs.Prelude.{List, ◌<◌, ◌^◌}
 use Rattle.pv_dtd.specs.Plain.{PlainDtd}
 use Rattle.pv_reach.specs.Columns.{AreRules, width_of}
-use Rattle.pv_reach.specs.Following.{Widens}
+use Rattle.pv_reach.specs.Merging.{Replaces}
 use Rattle.pv_reach.specs.declared.plan.Plan.{Plan}
 use Rattle.pv_reach.specs.declared.rules.ColumnRule.{ColumnRule}
 
--- By the plan's rules the columns of the DTD reach what they reach by the DTD's own.
+-- By the plan's rules the columns that stand for those of the DTD reach what these reach by the DTD's own.
 pub record IsPlan (g : PlainDtd) (plan : Plan) : Type 0 where
   pub rules : List ColumnRule
   pub are_rules : AreRules g rules
-  pub widens : Widens rules plan.rules.items (width_of g) plan.width
-  pub wide : width_of g ≤ plan.width
+  pub replaces : Replaces rules plan.rules.items (width_of g) plan.width plan.heads.items
   pub narrow : plan.width < 2 ^ 26

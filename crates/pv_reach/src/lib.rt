@@ -4,23 +4,30 @@
 //! pv_missing). It fills a table (`specs/Tables.antt`): for each place of the word and each column, the furthest place that the column
 //! reaches from there. A column is the content of a name or a part of a content model, and has the rules of the missing grammar, which
 //! reach from one place to another by a token and by columns (`specs/Columns.antt`, `ColumnRules.antt`). Since the ends that are reached
-//! from a place are all places up to the furthest one, a number for each is enough.
+//! from a place are all places up to the furthest one, a number for each is enough. The rules are laid out once for a grammar, in a plan
+//! (`specs/Plans.antt`), over one column for all that lead to one another (`specs/Leading.antt`, `Merging.antt`).
 #![tactic(auto)]
 
 mod adding;
 mod any;
+mod bare;
+mod chains;
+mod components;
 mod contents;
+mod edges;
 mod errors;
-mod finding;
-mod following;
 pub mod laws;
 mod layout;
+mod leaving;
+mod led;
 mod marks;
+mod merging;
 mod order;
 mod parts;
 mod plan;
 mod productive;
 mod rules;
+mod sweep;
 mod table;
 mod verdict;
 mod words;

@@ -1,30 +1,65 @@
 //! The rules of a grammar, laid out once for all words.
 
-ghost use Rattle.std.specs.Prelude.{IfOk};
+ghost use Rattle.std.specs.Prelude.{◌≡◌, ◌<◌, ◌^◌, IfOk};
 ghost use Rattle.pv_productive.specs.PlainForms.{dtd_of};
+ghost use Rattle.pv_reach.specs.Columns.{AreRules, width_of};
 ghost use Rattle.pv_reach.specs.Plans.{IsPlan};
 
 use crate::adding::any_column;
-use crate::layout::{add_further, rules_of};
+use crate::bare::bare_columns;
+use crate::components::components_of;
+use crate::layout::rules_of;
+use crate::led::merging_of;
+use crate::merging::merge;
+use crate::order::rule_order;
 use crate::rules::ColumnRule;
 use pv_chars::NoMemory;
 use pv_productive::Grammar;
-use std::alloc::Global;
+use std::alloc::{AllocError, Global};
 
 /// The rules by which the columns of a grammar reach over words: whoever finds many verdicts lays them out once.
 #[derive(Debug, Drop)]
 pub struct Plan {
     pub(crate) rules: Vec<ColumnRule>,
+    /// For each column of the DTD the one that stands for it.
+    pub(crate) heads: Vec<usize>,
     pub(crate) width: usize,
 }
 
 impl Plan {
-    /// Lays out the rules of a grammar.
+    /// Lays out the rules of a grammar, in a time about linear in it.
     pub fn of(alloc: Global, grammar: &Grammar) -> Result<Plan, NoMemory>
         ensures { IfOk result (λ plan. IsPlan (dtd_of grammar.now) plan) }
     {
-        let mut rules = rules_of(alloc, grammar)?;
-        let width = add_further(alloc, grammar, any_column(grammar) + 1, &mut rules)?;
-        Ok(Plan { rules, width })
+        let rules = rules_of(alloc, grammar)?;
+        let plan = plan_over(alloc, grammar, &rules)?;
+        Ok(plan)
     }
+}
+
+/// The number of columns of a DTD.
+fn width_of(grammar: &Grammar) -> usize
+    ensures width { result ≡ width_of (dtd_of grammar.now) }
+    ensures narrow { result < 2 ^ 25 }
+{
+    any_column(grammar) + 1
+}
+
+/// The plan of a grammar by its rules.
+fn plan_over(alloc: Global, grammar: &Grammar, rules: &[ColumnRule]) -> Result<Plan, AllocError>
+    requires { AreRules (dtd_of grammar.now) rules.now }
+    ensures { IfOk result (λ plan. IsPlan (dtd_of grammar.now) plan) }
+{
+    let width = width_of(grammar);
+    let bare = bare_columns(alloc, grammar, rules, width)?;
+    let components = components_of(alloc, rules, &bare, width)?;
+    let order = rule_order(alloc, rules, &components.columns, width)?;
+    let merging = merging_of(alloc, rules, bare, components.heads)?;
+    let merged = merge(alloc, rules, &merging, &order)?;
+    let wider = width + merging.led.len();
+    Ok(Plan {
+        rules: merged,
+        heads: merging.heads,
+        width: wider,
+    })
 }

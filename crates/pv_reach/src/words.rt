@@ -14,6 +14,7 @@ ghost use Rattle.pv_reach.specs.Plans.{IsPlan};
 ghost use Rattle.pv_reach.specs.declared.errors.ReachError.TheVariants.{TooWide as too_wide};
 
 use crate::errors::ReachError;
+use crate::merging::head_of;
 use crate::plan::Plan;
 use crate::table::reaches_end;
 use pv_missing::{Of, is_narrow};
@@ -40,7 +41,8 @@ pub(crate) fn content_derives(
     if id.0 >= grammar.dtd().count() {
         return Ok(false);
     }
-    reaches_end(alloc, &plan.rules, word, plan.width, id.0 as usize)
+    let column = head_of(&plan.heads, id.0 as usize);
+    reaches_end(alloc, &plan.rules, word, plan.width, column)
 }
 
 /// Whether the word is one element of this name.

@@ -4,20 +4,20 @@ use Rattle.pv_reach.proofs.Placing.{placed_before, placed_none, placed_now}
 use Rattle.pv_reach.proofs.order.each_once.Goals.{then-not-is_marked+in_ok-push, else-not-is_marked}
 use Rattle.pv_reach.proofs.order.each_once.Goals as goal
 
-pub loop-name-init : goal.loop-name-init
-loop-name-init c = placed_none c.args.names.now c.new-once.result.items c.in_ok-marks.marks.items c.args.count (c.in_ok-marks.ensures.items_if_clones_equal (λ y e. e))
+pub loop-number-init : goal.loop-number-init
+loop-number-init c = placed_none c.args.numbers.now c.new-once.result.items c.in_ok-marks.marks.items c.args.count (c.in_ok-marks.ensures.items_if_clones_equal (λ y e. e))
 
-pub loop-name-preserved : goal.loop-name-preserved
-loop-name-preserved c = elim c.if-not-is_marked.branch [
+pub loop-number-preserved : goal.loop-number-preserved
+loop-number-preserved c = elim c.if-not-is_marked.branch [
   | then-not-is_marked+in_ok-push w ↦
       rw (w.once-is, w.marks-is)
-      (placed_now c.args.names.now c.loop-name.once.items c.loop-name.marks.items c.loop-name.name-index c.loop-name.invariant c.loop-name-test.true w.push.new.self.items w.mark.new.marks.items
+      (placed_now c.args.numbers.now c.loop-number.once.items c.loop-number.marks.items c.loop-number.number-index c.loop-number.invariant c.loop-number-test.true w.push.new.self.items w.mark.new.marks.items
       w.in_ok-push.ensures.items w.mark.ensures)
   | else-not-is_marked w ↦
       rw (w.once-is, w.marks-is)
-      (placed_before c.args.names.now c.loop-name.once.items c.loop-name.marks.items c.loop-name.name-index c.loop-name.invariant c.loop-name-test.true
-      (ap (λ v. get_or v (get_or c.args.names.now c.loop-name.name-index 0) false) (sym c.deref.ensures.value) ∙ sym c.is_marked.ensures ∙ w.if-not-is_marked.false))
+      (placed_before c.args.numbers.now c.loop-number.once.items c.loop-number.marks.items c.loop-number.number-index c.loop-number.invariant c.loop-number-test.true
+      (ap (λ v. get_or v (get_or c.args.numbers.now c.loop-number.number-index 0) false) (sym c.deref.ensures.value) ∙ sym c.is_marked.ensures ∙ w.if-not-is_marked.false))
 ]
 
 pub returns : goal.returns
-returns c = λ x con. c.loop-name.invariant.passed x (let P : List ℕ → Type 0 = λ v. Contains v x in subst P (sym (take_all c.loop-name.name-index c.args.names.now (let t = c.loop-name-test.false in omega arith))) con)
+returns c = λ x con. c.loop-number.invariant.passed x (let P : List ℕ → Type 0 = λ v. Contains v x in subst P (sym (take_all c.loop-number.number-index c.args.numbers.now (let t = c.loop-number-test.false in omega arith))) con)

@@ -1,5 +1,5 @@
 use Rattle.pv_reach.proofs.Placing.{ArePlaced}
 use Rattle.pv_reach.proofs.order.each_once.Given as goal
 
-abbrev pub invariant-loop-name : goal.invariant-loop-name
-invariant-loop-name l = ArePlaced l.names l.once.items l.marks.items l.name-index
+abbrev pub invariant-loop-number : goal.invariant-loop-number
+invariant-loop-number l = ArePlaced l.numbers l.once.items l.marks.items l.number-index

@@ -1,0 +1,44 @@
+//! Numbers chained by a key.
+
+use std::alloc::{AllocError, Global};
+
+/// The numbers of a list of keys, chained by key: the first of each key, and the next one behind each number.
+#[derive(Debug, Drop)]
+pub struct Chains {
+    first: Vec<Option<usize>>,
+    next: Vec<Option<usize>>,
+}
+
+impl Chains {
+    /// The chains of these keys, each in order; keys from `width` on have none.
+    pub fn of(alloc: Global, keys: &[usize], width: usize) -> Result<Chains, AllocError> {
+        let mut first = vec![in alloc; None; width]?;
+        let mut next = vec![in alloc; None; keys.len()]?;
+        for number in (0..keys.len()).rev() {
+            let key = keys[number];
+            if key < first.len() && number < next.len() {
+                next[number] = first[key];
+                first[key] = Some(number);
+            }
+        }
+        Ok(Chains { first, next })
+    }
+
+    /// The first number of a key.
+    pub fn first(&self, key: usize) -> Option<usize> {
+        if key < self.first.len() {
+            self.first[key]
+        } else {
+            None
+        }
+    }
+
+    /// The next number of the same key.
+    pub fn next(&self, number: usize) -> Option<usize> {
+        if number < self.next.len() {
+            self.next[number]
+        } else {
+            None
+        }
+    }
+}

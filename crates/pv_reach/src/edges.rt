@@ -1,0 +1,60 @@
+//! Columns that lead to others at one place.
+//!
+//! A column leads to each column on the right of its rules without a token, where all of these reach over no tokens: it reaches whatever
+//! they reach.
+
+ghost use Rattle.std.specs.Prelude.{◌≡◌, ◌⊎◌, ℕ, Contains, IfOk};
+ghost use Rattle.pv_reach.specs.Leading.{AreBare, AreEdges, IsEdgeOf, Turned};
+
+use crate::bare::is_open;
+use crate::rules::ColumnRule;
+use std::alloc::{AllocError, Global};
+
+/// A column, and one that it leads to.
+#[derive(Clone, Copy, Debug)]
+pub struct Edge {
+    pub from: usize,
+    pub to: usize,
+}
+
+/// Appends the edges of a rule.
+fn push_edges(rule: &ColumnRule, edges: &mut Vec<Edge>) -> Result<(), AllocError>
+    ensures { IfOk result (λ _. (e : Edge) → Contains edges.new.items e →
+        Contains edges.old.items e ⊎ IsEdgeOf rule.now e) }
+{
+    for column in &rule.columns {
+        edges.push(Edge {
+            from: rule.left,
+            to: *column,
+        })?;
+    }
+    Ok(())
+}
+
+/// The edges of the rules, where these columns reach over no tokens.
+pub fn edges_of(alloc: Global, rules: &[ColumnRule], bare: &[bool]) -> Result<Vec<Edge>, AllocError>
+    requires { AreBare rules.now bare.now }
+    ensures { IfOk result (λ edges. AreEdges rules.now edges.items) }
+{
+    let mut edges = Vec::new(alloc);
+    for rule in rules {
+        if is_open(rule, bare) {
+            push_edges(rule, &mut edges)?;
+        }
+    }
+    Ok(edges)
+}
+
+/// The edges the other way.
+pub fn turned_edges(alloc: Global, edges: &[Edge]) -> Result<Vec<Edge>, AllocError>
+    ensures { IfOk result (λ turned. Turned edges.now turned.items) }
+{
+    let mut turned = Vec::new(alloc);
+    for edge in edges {
+        turned.push(Edge {
+            from: edge.to,
+            to: edge.from,
+        })?;
+    }
+    Ok(turned)
+}
