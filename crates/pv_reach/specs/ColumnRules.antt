@@ -11,17 +11,21 @@ Reads word (Some t) i m = (slice_get word i ≡ Some t) × (m ≡ suc i)
 -- the columns, one after another, derive the tokens from place i up to place j
 pub data Reaches (rules : List ColumnRule) (word : List Token) : List ℕ → ℕ → ℕ → Type 0 where
   done : (i j : ℕ) → i ≡ j → Reaches rules word [] i j
-  by_rule : (c : ℕ) (rest : List ℕ) (r : ColumnRule) (i m k j : ℕ) → Contains rules r → c ≡ r.left → Reads word r.token i m →
-      Reaches rules word r.columns.items m k → Reaches rules word rest k j → Reaches rules word (c ∷ rest) i j
+  by_rule : (c : ℕ) (rest : List ℕ) (r : ColumnRule) (i m k j : ℕ) → Contains rules r → c ≡ r.left →
+      Reads word r.token i m →
+      Reaches rules word r.columns.items m k → Reaches rules word rest k j →
+      Reaches rules word (c ∷ rest) i j
 
 -- a rule holds also without its token, as a missing element stands for one that is there
 abbrev pub TokensMayBeMissing : List ColumnRule → List Token → Type 0
-TokensMayBeMissing rules word = (r : ColumnRule) (t : Token) (p i j : ℕ) → Contains rules r → r.token ≡ Some t → slice_get word p ≡ Some t →
+TokensMayBeMissing rules word = (r : ColumnRule) (t : Token) (p i j : ℕ) → Contains rules r →
+    r.token ≡ Some t → slice_get word p ≡ Some t →
     Reaches rules word r.columns.items i j → Reaches rules word (r.left ∷ []) i j
 
 -- what reaches a span reaches each span within it, and each empty span
 abbrev pub EndsAreIntervals : Type 0
-EndsAreIntervals = (rules : List ColumnRule) (word : List Token) → TokensMayBeMissing rules word → (cs : List ℕ) (i j a b : ℕ) →
+EndsAreIntervals = (rules : List ColumnRule) (word : List Token) → TokensMayBeMissing rules word →
+    (cs : List ℕ) (i j a b : ℕ) →
     Reaches rules word cs i j → a ≤ b → (a ≡ b) ⊎ ((i ≤ a) × (b ≤ j)) → Reaches rules word cs a b
 
 abbrev pub InRange : ℕ → List ColumnRule → Type 0

@@ -1,4 +1,5 @@
--- The columns of a DTD, first the contents of its names, then its parts, and at last any content; and the rules of each.
+-- The columns of a DTD, first the contents of its names, then its parts, and at last any content;
+-- and the rules of each.
 use Rattle.std.specs.Prelude.{Contains, List, None, Option, Some, [], length, suc, ℕ, ◌+◌, ◌<◌, ◌∷◌, ◌≡◌, ◌⊎◌}
 use Rattle.pv_model.specs.Plain.{PlainModel, PlainPart, PlainParts, any, children, choice, empty, mixed, name, no_parts, opt, part, plus, seq, star}
 use Rattle.pv_model.specs.declared.models.Token.{Token}
@@ -50,18 +51,22 @@ IsPartRule g q (opt p) o cs =
 IsPartRule g q (star p) o cs =
     (o ≡ None) × ((cs ≡ []) ⊎ (cs ≡ part_column g (suc q) ∷ part_column g q ∷ []))
 IsPartRule g q (plus p) o cs =
-    (o ≡ None) × ((cs ≡ part_column g (suc q) ∷ []) ⊎ (cs ≡ part_column g (suc q) ∷ part_column g q ∷ []))
+    (o ≡ None) × ((cs ≡ part_column g (suc q) ∷ []) ⊎
+    (cs ≡ part_column g (suc q) ∷ part_column g q ∷ []))
 
 abbrev pub IsAnyRule : PlainDtd → RightSide
 IsAnyRule g o cs =
     ((o ≡ None) × (cs ≡ [])) ⊎ (((o ≡ Some Text) × (cs ≡ any_column g ∷ [])) ⊎
     ((y : ℕ) × IsDeclared g y ×
-    (((o ≡ Some (token_of y)) × (cs ≡ any_column g ∷ [])) ⊎ ((o ≡ None) × (cs ≡ y ∷ any_column g ∷ [])))))
+    (((o ≡ Some (token_of y)) × (cs ≡ any_column g ∷ [])) ⊎
+    ((o ≡ None) × (cs ≡ y ∷ any_column g ∷ [])))))
 
 -- the rules of a DTD; those of any content, where some name has it
 pub data IsRule (g : PlainDtd) (l : ℕ) (o : Option Token) (cs : List ℕ) : Type 0 where
-  of_content : (x : ℕ) (m : PlainModel) → model_of g x ≡ Some m → l ≡ x → IsContentRule g x m o cs → IsRule g l o cs
-  of_part : (q : ℕ) (p : PlainPart) → part_at g q ≡ Some p → l ≡ part_column g q → IsPartRule g q p o cs → IsRule g l o cs
+  of_content : (x : ℕ) (m : PlainModel) → model_of g x ≡ Some m → l ≡ x → IsContentRule g x m o cs →
+      IsRule g l o cs
+  of_part : (q : ℕ) (p : PlainPart) → part_at g q ≡ Some p → l ≡ part_column g q →
+      IsPartRule g q p o cs → IsRule g l o cs
   of_any : (x : ℕ) → model_of g x ≡ Some any → l ≡ any_column g → IsAnyRule g o cs → IsRule g l o cs
 
 -- a rule of the list that has this column, token and columns

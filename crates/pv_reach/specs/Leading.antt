@@ -7,7 +7,8 @@ use Rattle.pv_reach.specs.declared.rules.ColumnRule.{ColumnRule}
 
 -- column c reaches whatever column d reaches
 abbrev pub ReachesAll : List ColumnRule → ℕ → ℕ → Type 0
-ReachesAll rules c d = (word : List Token) (i j : ℕ) → Reaches rules word (d ∷ []) i j → Reaches rules word (c ∷ []) i j
+ReachesAll rules c d = (word : List Token) (i j : ℕ) → Reaches rules word (d ∷ []) i j →
+    Reaches rules word (c ∷ []) i j
 
 -- what column a reaches, it reaches with what q reaches behind it
 abbrev pub MayFollow : List ColumnRule → ℕ → ℕ → Type 0
@@ -16,33 +17,40 @@ MayFollow rules a q = (word : List Token) (h i j : ℕ) → Reaches rules word (
 
 -- a marked column reaches over no tokens, at every place
 pub record AreBare (rules : List ColumnRule) (marks : List Bool) : Type 0 where
-  pub bare : (c : ℕ) → get_or marks c false ≡ true → (word : List Token) (p : ℕ) → Reaches rules word (c ∷ []) p p
+  pub bare : (c : ℕ) → get_or marks c false ≡ true → (word : List Token) (p : ℕ) →
+      Reaches rules word (c ∷ []) p p
 
 -- the edge leads from the rule's column to one on its right
 abbrev pub IsEdgeOf : ColumnRule → Edge → Type 0
-IsEdgeOf r e = (k : ℕ) × (k < length r.columns.items) × (e.from ≡ r.left) × (e.to ≡ get_or r.columns.items k 0)
+IsEdgeOf r e = (k : ℕ) × (k < length r.columns.items) × (e.from ≡ r.left) ×
+    (e.to ≡ get_or r.columns.items k 0)
 
 pub record AreEdges (rules : List ColumnRule) (edges : List Edge) : Type 0 where
   pub leads : (e : Edge) → Contains edges e → ReachesAll rules e.from e.to
 
 -- each of the second edges is one of the first the other way
 pub record Turned (edges turned : List Edge) : Type 0 where
-  pub back : (e : Edge) → Contains turned e → (f : Edge) × Contains edges f × (f.from ≡ e.to) × (f.to ≡ e.from)
+  pub back : (e : Edge) → Contains turned e → (f : Edge) × Contains edges f × (f.from ≡ e.to) ×
+      (f.to ≡ e.from)
 
 -- edges lead from column c to column d, one after another
 pub data Leads (edges : List Edge) : ℕ → ℕ → Type 0 where
   here : (c d : ℕ) → c ≡ d → Leads edges c d
-  along : (c d : ℕ) (e : Edge) → Contains edges e → c ≡ e.from → Leads edges e.to d → Leads edges c d
+  along : (c d : ℕ) (e : Edge) → Contains edges e → c ≡ e.from → Leads edges e.to d →
+      Leads edges c d
 
 -- each column leads to the one that the table has for it
 pub record AreLed (edges : List Edge) (table : List ℕ) : Type 0 where
-  pub led : (c : ℕ) → c < length table → (get_or table c 0 < length table) × Leads edges c (get_or table c 0)
+  pub led : (c : ℕ) → c < length table → (get_or table c 0 < length table) ×
+      Leads edges c (get_or table c 0)
 
 -- a column's own, or the one that both tables have for it
 abbrev pub IsHead : List ℕ → List ℕ → ℕ → ℕ → Type 0
-IsHead above below c v = (v ≡ c) ⊎ ((c < length above) × (c < length below) × (v ≡ get_or above c 0) × (v ≡ get_or below c 0))
+IsHead above below c v = (v ≡ c) ⊎ ((c < length above) × (c < length below) ×
+    (v ≡ get_or above c 0) × (v ≡ get_or below c 0))
 
 -- each column reaches the same as the one that stands for it
 pub record AreAlike (rules : List ColumnRule) (heads : List ℕ) : Type 0 where
   pub alike : (c : ℕ) → c < length heads →
-      (get_or heads c 0 < length heads) × ReachesAll rules c (get_or heads c 0) × ReachesAll rules (get_or heads c 0) c
+      (get_or heads c 0 < length heads) × ReachesAll rules c (get_or heads c 0) ×
+      ReachesAll rules (get_or heads c 0) c

@@ -1,4 +1,5 @@
--- Rules over the columns that stand for others, and over further columns for what may stand behind those.
+-- Rules over the columns that stand for others, and over further columns for what may stand behind
+-- those.
 use Rattle.std.specs.Prelude.{All, List, None, Option, [], get_or, length, map, ℕ, ◌+◌, ◌<◌, ◌^◌, ◌∷◌, ◌≡◌, ◌≤◌, ◌⊎◌, ◌↔◌}
 use Rattle.pv_model.specs.declared.models.Token.{Token}
 use Rattle.pv_reach.specs.Adding.{Grow}
@@ -16,28 +17,36 @@ abbrev pub heads_of : List ℕ → List ℕ → List ℕ
 heads_of heads cs = map (λ c. get_or heads c 0) cs
 
 -- a rule of the list, over the columns that stand for its own
-pub record IsMergedRule (rules : List ColumnRule) (heads : List ℕ) (l : ℕ) (o : Option Token) (cs : List ℕ) : Type 0 where
+pub record IsMergedRule (rules : List ColumnRule) (heads : List ℕ) (l : ℕ) (o : Option Token)
+    (cs : List ℕ) : Type 0 where
   pub left : ℕ
   pub columns : List ℕ
   pub has : Has rules left o columns
   pub is_left : l ≡ head_of heads left
   pub are_columns : cs ≡ heads_of heads columns
 
--- the rules of the further column of the k-th column that has one, and the rule by which it stands behind that one
-pub data IsFurtherRule (rules : List ColumnRule) (width : ℕ) (led : List ℕ) (l : ℕ) (o : Option Token) (cs : List ℕ) : Type 0 where
-  none : (k : ℕ) → k < length led → l ≡ width + k → o ≡ None → cs ≡ [] → IsFurtherRule rules width led l o cs
-  one : (k q : ℕ) → k < length led → q < width → MayFollow rules (get_or led k 0) q → l ≡ width + k → o ≡ None →
+-- the rules of the further column of the k-th column that has one, and the rule by which it stands
+-- behind that one
+pub data IsFurtherRule (rules : List ColumnRule) (width : ℕ) (led : List ℕ) (l : ℕ)
+    (o : Option Token) (cs : List ℕ) : Type 0 where
+  none : (k : ℕ) → k < length led → l ≡ width + k → o ≡ None → cs ≡ [] →
+      IsFurtherRule rules width led l o cs
+  one : (k q : ℕ) → k < length led → q < width → MayFollow rules (get_or led k 0) q →
+      l ≡ width + k → o ≡ None →
       cs ≡ q ∷ (width + k) ∷ [] → IsFurtherRule rules width led l o cs
-  behind : (k : ℕ) → k < length led → l ≡ get_or led k 0 → o ≡ None → cs ≡ get_or led k 0 ∷ (width + k) ∷ [] →
+  behind : (k : ℕ) → k < length led → l ≡ get_or led k 0 → o ≡ None →
+      cs ≡ get_or led k 0 ∷ (width + k) ∷ [] →
       IsFurtherRule rules width led l o cs
 
 -- the list has no other rules
 pub record AreMerged (rules : List ColumnRule) (m : Merging) (new : List ColumnRule) : Type 0 where
   pub only : (l : ℕ) (o : Option Token) (cs : List ℕ) → Has new l o cs →
-      IsMergedRule rules m.heads.items l o cs ⊎ IsFurtherRule rules (length m.heads.items) m.led.items l o cs
+      IsMergedRule rules m.heads.items l o cs ⊎
+      IsFurtherRule rules (length m.heads.items) m.led.items l o cs
 
 -- such rules were added to a list
-pub record AddsMerged (rules : List ColumnRule) (m : Merging) (old new : List ColumnRule) : Type 0 where
+pub record AddsMerged (rules : List ColumnRule) (m : Merging) (old new : List ColumnRule)
+    : Type 0 where
   pub grow : Grow old new
   pub merged : AreMerged rules m old → AreMerged rules m new
 
@@ -46,7 +55,8 @@ abbrev pub HasMerged : List ColumnRule → Merging → List ColumnRule → ℕ �
 HasMerged rules m new i = (r : ColumnRule) → r ≡ get_or rules i r →
     Has new (head_of m.heads.items r.left) r.token (heads_of m.heads.items r.columns.items)
 
--- what rules are merged by: which columns reach over no tokens, which stand for others, and which have further ones
+-- what rules are merged by: which columns reach over no tokens, which stand for others, and which
+-- have further ones
 pub record IsMerging (rules : List ColumnRule) (m : Merging) : Type 0 where
   pub bare : AreBare rules m.bare.items
   pub alike : AreAlike rules m.heads.items
@@ -54,7 +64,8 @@ pub record IsMerging (rules : List ColumnRule) (m : Merging) : Type 0 where
   pub led : All (λ a. a < length m.heads.items) m.led.items
   pub narrow : length m.heads.items + length m.led.items < 2 ^ 26
 
--- Over columns that stand for those that were there, the rules reach what these reached; and tokens may still be missing.
+-- Over columns that stand for those that were there, the rules reach what these reached; and tokens
+-- may still be missing.
 pub record Replaces (old new : List ColumnRule) (width wider : ℕ) (heads : List ℕ) : Type 0 where
   pub in_range : InRange wider new
   pub columns : (c : ℕ) → c < width → head_of heads c < wider
@@ -64,6 +75,7 @@ pub record Replaces (old new : List ColumnRule) (width wider : ℕ) (heads : Lis
 
 -- what stands from this place of the rule on may follow the column that has this further one
 abbrev pub MayStandBehind : List ColumnRule → Merging → ℕ → ℕ → ℕ → Type 0
-MayStandBehind rules m number first further = (r : ColumnRule) → r ≡ get_or rules number r → (i : ℕ) → first ≤ i →
+MayStandBehind rules m number first further = (r : ColumnRule) → r ≡ get_or rules number r →
+    (i : ℕ) → first ≤ i →
     i < length r.columns.items → IsFurtherRule rules (length m.heads.items) m.led.items further None
     (head_of m.heads.items (get_or r.columns.items i 0) ∷ further ∷ [])

@@ -6,7 +6,8 @@ use Rattle.pv_reach.specs.Merging.{Replaces}
 use Rattle.pv_reach.specs.declared.plan.Plan.{Plan}
 use Rattle.pv_reach.specs.declared.rules.ColumnRule.{ColumnRule}
 
--- By the plan's rules the columns that stand for those of the DTD reach what these reach by the DTD's own.
+-- By the plan's rules the columns that stand for those of the DTD reach what these reach by the
+-- DTD's own.
 pub record IsPlan (g : PlainDtd) (plan : Plan) : Type 0 where
   pub rules : List ColumnRule
   pub are_rules : AreRules g rules
