@@ -6,6 +6,7 @@ pub mod Marks
 pub mod OneReplies
 pub mod OneResponse
 pub mod OneVerdict
+pub mod Turning
 pub mod Replies
 pub mod Scripts
 pub mod Stages

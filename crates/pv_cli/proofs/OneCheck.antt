@@ -19,7 +19,7 @@ use Rattle.pv_missing.specs.Completing.{IsPotentiallyValid}
 use Rattle.pv_missing.specs.Verdicts.{AreVerdicts, HavePossible, IsFirstImpossible, IsLive, possible_in}
 use Rattle.pv_missing.specs.Widths.{FitsVerdict, IsFirstTooWide, IsListForVerdict}
 use Rattle.pv_cli.specs.Check.{TellsPossibility, is_impossible, is_possible, is_too_wide, possible_text}
-use Rattle.pv_cli.specs.Paths.{path_text}
+use Rattle.pv_script.specs.Paths.{path_text}
 use Rattle.pv_cli.specs.Response.{PlainResponse, with_line}
 use Rattle.pv_cli.specs.declared.status.Status.TheVariants.{Done, Limit, Negative}
 use Rattle.pv_cli.proofs.Marks.{all_without_marks, all-without_marks, first-without_marks, lists_of-without_marks, unmarked_list, word_of-without_marks}

@@ -13,7 +13,7 @@ use Rattle.pv_tree.proofs.Every.{all_right}
 use Rattle.pv_tree.proofs.Firsts.{one_first}
 use Rattle.pv_tree.specs.Marks.{unmarked_doc}
 use Rattle.pv_cli.specs.Response.{PlainResponse, with_line}
-use Rattle.pv_cli.specs.Paths.{path_text}
+use Rattle.pv_script.specs.Paths.{path_text}
 use Rattle.pv_cli.specs.Valid.{TellsValidity, is_valid, is_invalid}
 use Rattle.pv_cli.specs.declared.status.Status.TheVariants.{Negative}
 use Rattle.pv_cli.proofs.Marks.{view-without_marks, first_invalid-without_marks}

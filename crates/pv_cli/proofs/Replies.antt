@@ -1,13 +1,19 @@
 -- The replies to a script, line by line.
-use Rattle.std.proofs.Common.{◌≡◌, ℕ, suc, ◌+◌, ◌<◌, ◌≤◌, Bool, true, false, List, [], ◌∷◌, ◌++◌, length, take, Option, Some, None, refl, sym, ap, ◌∙◌, append_assoc, arith}
+use Rattle.std.proofs.Common.{◌≡◌, ℕ, suc, ◌+◌, ◌<◌, ◌≤◌, Bool, true, false, List, [], ◌∷◌, ◌++◌, length, take, Option, Some, None, ◌⊎◌, inl, inr, refl, sym, ap, ◌∙◌, append_assoc, arith}
 use Rattle.std.proofs.Math.Seq.{take-append-add}
 use Rattle.std.proofs.lemmas.Grind.{common_steps}
 use Rattle.std.proofs.lemmas.List.{take-append-le}
 use Rattle.std.specs.List.{AllByRecursion}
 use Rattle.std.specs.Io.KnownBytes.{Appends}
 use Rattle.pv_io.specs.Causes.{AppendsFront}
-use Rattle.pv_script.specs.Commands.{PlainCommand, show, quit, command_of}
-use Rattle.pv_script.specs.Replies.{PlainReply, document, no_command, no_memory, reply_bytes}
+use Rattle.pv_script.specs.Commands.{SpellsCommand, IsNoCommand}
+use Rattle.pv_script.specs.Replies.{reply_bytes}
+use Rattle.pv_script.specs.declared.commands.Command.{Command}
+use Rattle.pv_script.specs.declared.commands.Command.TheVariants as commands
+use Rattle.pv_script.specs.declared.replies.Reply.{Reply}
+use Rattle.pv_script.specs.declared.replies.Reply.TheVariants as replies_of
+use Rattle.pv_script.proofs.Spelling.{some-command}
+use Rattle.pv_cli.proofs.Turning.{other_reply}
 use Rattle.pv_write.specs.Text.{doc_text}
 use Rattle.pv_cli.specs.Laws.{JoinsReplies, EndsAtQuit}
 use Rattle.pv_cli.specs.Session.{State, RepliesTo, unknown, shown, is_among, Place, at_line, at_quit, Replies, no_lines, without_memory, answered, ended}
@@ -21,8 +27,8 @@ joined silent number next state middle [] more out rest here place at (no_lines 
     let same : state ≡ middle = cc in
     rw (none, line, same) behind
 joined silent number next state middle (line ∷ lines) more out rest here place at (without_memory {rest = below} is by whole) behind =
-    without_memory is (joined silent (suc number) next state middle lines more below rest here place at by behind) (ap (λ h. h ++ rest) whole ∙ append_assoc (reply_bytes no_memory) below rest)
-joined silent number next state middle (line ∷ lines) more out rest here place at (answered {after = after} {reply = reply} {rest = below} is to by whole) behind =
+    without_memory is (joined silent (suc number) next state middle lines more below rest here place at by behind) (ap (λ h. h ++ rest) whole ∙ append_assoc (reply_bytes replies_of.NoMemory) below rest)
+joined silent number next state middle (line ∷ lines) more out rest here place at (answered {after = after} {answer = reply} {rest = below} is to by whole) behind =
     answered is to (joined silent (suc number) next after middle lines more below rest here place at by behind) (ap (λ h. h ++ rest) whole ∙ append_assoc (reply_bytes reply) below rest)
 joined silent number next state middle (line ∷ lines) more out rest here place at (ended is quits none ends) behind = cc
 
@@ -84,13 +90,20 @@ later_silent other silent number next state middle (line ∷ lines) out here les
 
 -- every list of lines has replies
 data Case : State → List ℕ → Type 0 where
-  replies_with : (state : State) (line : List ℕ) (reply : PlainReply) → RepliesTo state line reply state → Case state line
-  quits : (state : State) (line : List ℕ) → command_of line ≡ Some quit → Case state line
+  replies_with : (state : State) (line : List ℕ) (reply : Reply) → RepliesTo state line reply state → Case state line
+  quits : (state : State) (line : List ℕ) → SpellsCommand line commands.Quit → Case state line
 
-case_of : (state : State) (line : List ℕ) (o : Option PlainCommand) → command_of line ≡ o → Case state line
-case_of state line None is = replies_with state line no_command (unknown is refl refl)
-case_of state line (Some show) is = replies_with state line (document (doc_text state)) (shown is refl refl)
-case_of state line (Some quit) is = quits state line is
+other_line : (state : State) (line : List ℕ) (command : Command) → SpellsCommand line command → (command ≡ commands.Show → ⊥) → (command ≡ commands.Quit → ⊥) → Case state line
+other_line state line command spelled no_show no_quit = replies_with state line replies_of.NoCommand (other_reply state line command spelled no_show no_quit)
+
+case_of : (state : State) (line : List ℕ) → ((command : Command) × SpellsCommand line command) ⊎ IsNoCommand line → Case state line
+case_of state line (inr none) = replies_with state line replies_of.NoCommand (unknown (none commands.Show) (none commands.Quit) refl refl)
+case_of state line (inl (commands.Show, spelled)) = replies_with state line (replies_of.Show (doc_text state)) (shown spelled refl refl)
+case_of state line (inl (commands.Quit, spelled)) = quits state line spelled
+case_of state line (inl (commands.Edit edit, spelled)) = other_line state line (commands.Edit edit) spelled (λ same. cc) (λ same. cc)
+case_of state line (inl (commands.Undo, spelled)) = other_line state line commands.Undo spelled (λ same. cc) (λ same. cc)
+case_of state line (inl (commands.Redo, spelled)) = other_line state line commands.Redo spelled (λ same. cc) (λ same. cc)
+case_of state line (inl (commands.History, spelled)) = other_line state line commands.History spelled (λ same. cc) (λ same. cc)
 
 -- some replies, wherever they end
 abbrev pub SomeReplies : List ℕ → ℕ → State → List (List ℕ) → Type 0
@@ -98,14 +111,14 @@ SomeReplies silent number state lines = (out : List ℕ) × (place : Place) × R
 
 replies_behind : (silent : List ℕ) (number : ℕ) (state : State) (line : List ℕ) (lines : List (List ℕ)) (b : Bool) → is_among number silent ≡ b → Case state line →
     SomeReplies silent (suc number) state lines → SomeReplies silent number state (line ∷ lines)
-replies_behind silent number state line lines true is c behind = (reply_bytes no_memory ++ behind.0, behind.1, without_memory is behind.2 refl)
+replies_behind silent number state line lines true is c behind = (reply_bytes replies_of.NoMemory ++ behind.0, behind.1, without_memory is behind.2 refl)
 replies_behind silent number state line lines false is (replies_with s l reply by) behind = (reply_bytes reply ++ behind.0, behind.1, answered is by behind.2 refl)
 replies_behind silent number state line lines false is (quits s l ends) behind = ([], at_quit, ended is ends refl refl)
 
 pub some_replies : (silent : List ℕ) (number : ℕ) (state : State) (lines : List (List ℕ)) → SomeReplies silent number state lines
 some_replies silent number state [] = ([], at_line number state, no_lines refl refl)
 some_replies silent number state (line ∷ lines) =
-    replies_behind silent number state line lines (is_among number silent) refl (case_of state line (command_of line) refl) (some_replies silent (suc number) state lines)
+    replies_behind silent number state line lines (is_among number silent) refl (case_of state line (some-command line)) (some_replies silent (suc number) state lines)
 
 -- a front of the bytes behind what was appended is a front of all
 take_behind : (done piece rest : List ℕ) (k : ℕ) → k ≤ length piece → take (length done + k) (done ++ (piece ++ rest)) ≡ done ++ take k piece
@@ -158,7 +171,7 @@ told_first old doc all = record {
 cut_on : (all before : List (List ℕ)) (line : List ℕ) (lines : List (List ℕ)) → all ≡ before ++ (line ∷ lines) → all ≡ (before ++ (line ∷ [])) ++ lines
 cut_on all before line lines is = is ∙ sym (append_assoc before (line ∷ []) lines)
 
-pub told_more : (old mid new : Option (List ℕ)) (doc : State) (all : List (List ℕ)) (line : List ℕ) (lines : List (List ℕ)) (reply : PlainReply) →
+pub told_more : (old mid new : Option (List ℕ)) (doc : State) (all : List (List ℕ)) (line : List ℕ) (lines : List (List ℕ)) (reply : Reply) →
     Told old mid doc all (line ∷ lines) → RepliesTo doc line reply doc → Appends mid new (reply_bytes reply) → Told old new doc all lines
 told_more old mid new doc all line lines reply told by written = record {
   before = told.before ++ line ∷ [];
@@ -179,17 +192,17 @@ now_silent old now doc all left told =
     later_silent told.number told.silent 1 told.number doc doc told.before told.out (at_line told.number doc) (omega arith) refl told.replies
 
 pub told_silent : (old mid new : Option (List ℕ)) (doc : State) (all : List (List ℕ)) (line : List ℕ) (lines : List (List ℕ)) →
-    Told old mid doc all (line ∷ lines) → Appends mid new (reply_bytes no_memory) → Told old new doc all lines
+    Told old mid doc all (line ∷ lines) → Appends mid new (reply_bytes replies_of.NoMemory) → Told old new doc all lines
 told_silent old mid new doc all line lines told written = record {
   before = told.before ++ line ∷ [];
   is_cut = cut_on all told.before line lines told.is_cut;
   silent = told.number ∷ told.silent;
   number = suc told.number;
   below = (omega arith, all_below_next told.number told.silent told.below);
-  out = told.out ++ reply_bytes no_memory;
-  replies = joins_replies (told.number ∷ told.silent) 1 told.number doc doc told.before (line ∷ []) told.out (reply_bytes no_memory) (at_line (suc told.number) doc)
-      (now_silent old mid doc all (line ∷ lines) told) (without_memory (among_first told.number told.silent) (no_lines refl refl) (sym (whole (reply_bytes no_memory))));
-  written = appends_behind old mid new told.out (reply_bytes no_memory) told.written written;
+  out = told.out ++ reply_bytes replies_of.NoMemory;
+  replies = joins_replies (told.number ∷ told.silent) 1 told.number doc doc told.before (line ∷ []) told.out (reply_bytes replies_of.NoMemory) (at_line (suc told.number) doc)
+      (now_silent old mid doc all (line ∷ lines) told) (without_memory (among_first told.number told.silent) (no_lines refl refl) (sym (whole (reply_bytes replies_of.NoMemory))));
+  written = appends_behind old mid new told.out (reply_bytes replies_of.NoMemory) told.written written;
 }
 
 -- all lines were answered, or a `quit` was reached, or writing failed in a reply
@@ -204,7 +217,7 @@ told_end old now doc all told =
     }
 
 pub told_quit : (old now : Option (List ℕ)) (doc : State) (all : List (List ℕ)) (line : List ℕ) (lines : List (List ℕ)) →
-    Told old now doc all (line ∷ lines) → command_of line ≡ Some quit → HasReplies doc all (Appends old now)
+    Told old now doc all (line ∷ lines) → SpellsCommand line commands.Quit → HasReplies doc all (Appends old now)
 told_quit old now doc all line lines told is =
     let both = joins_replies told.silent 1 told.number doc doc told.before (line ∷ lines) told.out [] at_quit told.replies (ended (not_among told.number told.silent told.below) is refl refl) in
     record {
@@ -215,7 +228,7 @@ told_quit old now doc all line lines told is =
       written = told.written;
     }
 
-pub told_failed : (old mid new : Option (List ℕ)) (doc : State) (all : List (List ℕ)) (line : List ℕ) (lines : List (List ℕ)) (reply : PlainReply) →
+pub told_failed : (old mid new : Option (List ℕ)) (doc : State) (all : List (List ℕ)) (line : List ℕ) (lines : List (List ℕ)) (reply : Reply) →
     Told old mid doc all (line ∷ lines) → RepliesTo doc line reply doc → AppendsFront mid new (reply_bytes reply) → HasReplies doc all (AppendsFront old new)
 told_failed old mid new doc all line lines reply told by front =
     let rest = some_replies told.silent (suc told.number) doc lines in
@@ -230,16 +243,16 @@ told_failed old mid new doc all line lines reply told by front =
     }
 
 pub told_failed_silent : (old mid new : Option (List ℕ)) (doc : State) (all : List (List ℕ)) (line : List ℕ) (lines : List (List ℕ)) →
-    Told old mid doc all (line ∷ lines) → AppendsFront mid new (reply_bytes no_memory) → HasReplies doc all (AppendsFront old new)
+    Told old mid doc all (line ∷ lines) → AppendsFront mid new (reply_bytes replies_of.NoMemory) → HasReplies doc all (AppendsFront old new)
 told_failed_silent old mid new doc all line lines told front =
     let silent = told.number ∷ told.silent in
     let rest = some_replies silent (suc told.number) doc lines in
-    let both = joins_replies silent 1 told.number doc doc told.before (line ∷ lines) told.out (reply_bytes no_memory ++ rest.0) rest.1
+    let both = joins_replies silent 1 told.number doc doc told.before (line ∷ lines) told.out (reply_bytes replies_of.NoMemory ++ rest.0) rest.1
     (now_silent old mid doc all (line ∷ lines) told) (without_memory (among_first told.number told.silent) rest.2 refl) in
     record {
       silent = told.number ∷ told.silent;
-      out = told.out ++ (reply_bytes no_memory ++ rest.0);
+      out = told.out ++ (reply_bytes replies_of.NoMemory ++ rest.0);
       place = rest.1;
       replies = rw told.is_cut both;
-      written = front_behind old mid new told.out (reply_bytes no_memory) rest.0 told.written front;
+      written = front_behind old mid new told.out (reply_bytes replies_of.NoMemory) rest.0 told.written front;
     }

@@ -12,7 +12,7 @@ use Rattle.pv_missing.specs.Widths.{IsFirstTooWide, IsListForVerdict}
 use Rattle.pv_cli.specs.declared.status.Status.TheVariants.{Done, Limit, Negative}
 use Rattle.pv_cli.specs.Course.{Course}
 use Rattle.pv_cli.specs.Opening.{Files, opening_stage}
-use Rattle.pv_cli.specs.Paths.{path_text}
+use Rattle.pv_script.specs.Paths.{path_text}
 use Rattle.pv_cli.specs.Response.{PlainResponse, with_line}
 use Rattle.pv_cli.specs.Stage.{Behind, Responds}
 

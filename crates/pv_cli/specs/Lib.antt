@@ -5,7 +5,6 @@ pub mod Laws
 pub mod Listing
 pub mod Documents
 pub mod Opening
-pub mod Paths
 pub mod Program
 pub mod Response
 pub mod Session

@@ -1,12 +1,15 @@
 -- What `session DTD ROOT DOC` responds: one reply for each line of its script.
-use Rattle.std.specs.Prelude.{◌≡◌, ◌≤◌, ◌<◌, ℕ, suc, Bool, true, false, nat_eq, List, [], ◌∷◌, ◌++◌, length, codes, Some, None}
+use Rattle.std.specs.Prelude.{◌≡◌, ◌≤◌, ◌<◌, ℕ, suc, Bool, true, false, nat_eq, List, [], ◌∷◌, ◌++◌, length, codes, Some}
 use Rattle.std.specs.List.{list_any}
 use Rattle.pv_tree.specs.Plain.{PlainDoc}
 use Rattle.pv_tree.specs.declared.nodes.Mark.{Mark}
 use Rattle.pv_write.specs.Text.{doc_text}
-use Rattle.pv_script.specs.Commands.{show, quit, command_of}
+use Rattle.pv_script.specs.Commands.{SpellsCommand}
 use Rattle.pv_script.specs.Lines.{lines_of}
-use Rattle.pv_script.specs.Replies.{PlainReply, document, no_command, no_memory, reply_bytes}
+use Rattle.pv_script.specs.Replies.{reply_bytes}
+use Rattle.pv_script.specs.declared.commands.Command.TheVariants as command
+use Rattle.pv_script.specs.declared.replies.Reply.{Reply}
+use Rattle.pv_script.specs.declared.replies.Reply.TheVariants as reply
 use Rattle.pv_cli.specs.declared.status.Status.TheVariants.{Done, Limit}
 use Rattle.pv_cli.specs.Course.{Course, RunEnding, responds, input_fault, no_memory as short_of_memory}
 use Rattle.pv_cli.specs.Opening.{Files, opening_stage}
@@ -17,10 +20,11 @@ use Rattle.pv_cli.specs.Stage.{Behind}
 abbrev pub State : Type 0
 State = PlainDoc Mark
 
--- what a line that doesn't end the session does: the reply to it, and the state behind it
-pub data RepliesTo (before : State) (line : List ℕ) (reply : PlainReply) (after : State) : Type 0 where
-  unknown : command_of line ≡ None → reply ≡ no_command → after ≡ before → RepliesTo before line reply after
-  shown : command_of line ≡ Some show → reply ≡ document (doc_text before) → after ≡ before → RepliesTo before line reply after
+-- what a line that doesn't end the session does: the answer to it, and the state behind it
+pub data RepliesTo (before : State) (line : List ℕ) (answer : Reply) (after : State) : Type 0 where
+  unknown : (SpellsCommand line command.Show → ⊥) → (SpellsCommand line command.Quit → ⊥) → answer ≡ reply.NoCommand → after ≡ before →
+      RepliesTo before line answer after
+  shown : SpellsCommand line command.Show → answer ≡ reply.Show (doc_text before) → after ≡ before → RepliesTo before line answer after
 
 abbrev pub is_among : ℕ → List ℕ → Bool
 is_among number numbers = list_any (nat_eq number) numbers
@@ -36,13 +40,13 @@ pub data Replies (silent : List ℕ) : ℕ → State → List (List ℕ) → Lis
   no_lines : {number : ℕ} {state : State} {out : List ℕ} {place : Place} → out ≡ [] → place ≡ at_line number state →
       Replies silent number state [] out place
   without_memory : {number : ℕ} {state : State} {line : List ℕ} {lines : List (List ℕ)} {rest out : List ℕ} {place : Place} →
-      is_among number silent ≡ true → Replies silent (suc number) state lines rest place → out ≡ reply_bytes no_memory ++ rest →
+      is_among number silent ≡ true → Replies silent (suc number) state lines rest place → out ≡ reply_bytes reply.NoMemory ++ rest →
       Replies silent number state (line ∷ lines) out place
-  answered : {number : ℕ} {state after : State} {line : List ℕ} {lines : List (List ℕ)} {reply : PlainReply} {rest out : List ℕ} {place : Place} →
-      is_among number silent ≡ false → RepliesTo state line reply after → Replies silent (suc number) after lines rest place →
-      out ≡ reply_bytes reply ++ rest → Replies silent number state (line ∷ lines) out place
+  answered : {number : ℕ} {state after : State} {line : List ℕ} {lines : List (List ℕ)} {answer : Reply} {rest out : List ℕ} {place : Place} →
+      is_among number silent ≡ false → RepliesTo state line answer after → Replies silent (suc number) after lines rest place →
+      out ≡ reply_bytes answer ++ rest → Replies silent number state (line ∷ lines) out place
   ended : {number : ℕ} {state : State} {line : List ℕ} {lines : List (List ℕ)} {out : List ℕ} {place : Place} →
-      is_among number silent ≡ false → command_of line ≡ Some quit → out ≡ [] → place ≡ at_quit →
+      is_among number silent ≡ false → SpellsCommand line command.Quit → out ≡ [] → place ≡ at_quit →
       Replies silent number state (line ∷ lines) out place
 
 abbrev pub MAX_SCRIPT_BYTES : ℕ

@@ -3,8 +3,11 @@ use Rattle.std.specs.Prelude.{◌≡◌, ◌≤◌, ℕ, List, length, Option, S
 use Rattle.std.specs.Io.KnownBytes.{Consumes, IsAtEnd}
 use Rattle.std.specs.declared.alloc.Global.{Global}
 use Rattle.pv_io.specs.Causes.{CountStays, Rose}
-use Rattle.pv_script.specs.Commands.{quit, command_of}
-use Rattle.pv_script.specs.Replies.{PlainReply, document, reply_bytes}
+use Rattle.pv_script.specs.Commands.{SpellsCommand}
+use Rattle.pv_script.specs.Replies.{reply_bytes}
+use Rattle.pv_script.specs.declared.commands.Command.TheVariants as command
+use Rattle.pv_script.specs.declared.replies.Reply.{Reply}
+use Rattle.pv_script.specs.declared.replies.Reply.TheVariants as reply
 use Rattle.pv_write.specs.Text.{doc_text}
 use Rattle.pv_cli.specs.declared.stop.Stop.{Stop}
 use Rattle.pv_cli.specs.declared.stop.Stop.TheVariants.{Refused, ShelfFault, InputFault, NoMemory}
@@ -12,12 +15,12 @@ use Rattle.pv_cli.specs.Session.{State, RepliesTo, Place, Replies, MAX_SCRIPT_BY
 use Rattle.pv_cli.specs.Response.{plain_response}
 
 abbrev pub IsShownAs : State → List ℕ → Type 0
-IsShownAs state text = text ≡ reply_bytes (document (doc_text state))
+IsShownAs state text = text ≡ reply_bytes (reply.Show (doc_text state))
 
 -- the text of a reply that leaves the state, or the end
 abbrev pub IsTurn : State → List ℕ → Option (Vec ℕ Global) → Type 0
-IsTurn state line None = command_of line ≡ Some quit
-IsTurn state line (Some text) = (reply : PlainReply) × RepliesTo state line reply state × (text.items ≡ reply_bytes reply)
+IsTurn state line None = SpellsCommand line command.Quit
+IsTurn state line (Some text) = (answer : Reply) × RepliesTo state line answer state × (text.items ≡ reply_bytes answer)
 
 -- there are replies to all of these lines, which were written like this
 pub record HasReplies (doc : State) (lines : List (List ℕ)) (AreWritten : List ℕ → Type 0) : Type 0 where

@@ -11,7 +11,7 @@ use Rattle.pv_read.specs.Grammar.{IsDocumentText}
 use Rattle.pv_cli.specs.Course.{Course}
 use Rattle.pv_cli.specs.Documents.{RefusesDocument}
 use Rattle.pv_cli.specs.Opening.{Files, opening_stage}
-use Rattle.pv_cli.specs.Paths.{path_text}
+use Rattle.pv_script.specs.Paths.{path_text}
 use Rattle.pv_cli.specs.Response.{PlainResponse, with_line}
 use Rattle.pv_cli.specs.Stage.{Behind, Responds, Stage}
 

@@ -8,7 +8,6 @@ mod command_line;
 pub mod laws;
 mod listing;
 mod opening;
-mod paths;
 mod program;
 mod respond;
 mod response;

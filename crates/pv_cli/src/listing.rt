@@ -12,13 +12,13 @@ ghost use Rattle.pv_productive.specs.PlainForms.{dtd_of};
 ghost use Rattle.pv_model.specs.Plain.{PlainModel};
 
 use crate::opening::open_dtd;
-use crate::paths::push_number;
 use crate::response::Response;
 use crate::status::Status;
 use crate::stop::Stop;
 use pv_io::Shelf;
 use pv_model::{ContentModel, NameId};
 use pv_productive::{Grammar, build};
+use pv_script::push_number;
 use std::alloc::{AllocError, Global};
 
 /// The number from which a least tree is `over`.

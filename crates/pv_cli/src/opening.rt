@@ -3,7 +3,7 @@
 ghost use Rattle.std.specs.Prelude.{◌≡◌, ◌++◌, List, ℕ, Option, codes, decimal, Contains, false};
 ghost use Rattle.pv_cli.specs.Opening.{Files, IsFile, fetch_stage, dtd_stage, dtd_file_stage, document_file_stage, opening_stage, plain_opened};
 ghost use Rattle.pv_cli.specs.Documents.{document_stage, RefusesDocument};
-ghost use Rattle.pv_cli.specs.Paths.{path_text};
+ghost use Rattle.pv_script.specs.Paths.{path_text};
 ghost use Rattle.pv_cli.specs.Response.{with_line};
 ghost use Rattle.pv_cli.specs.Stage.{StopsBy, Returns, ShelfCounts};
 ghost use Rattle.pv_cli.specs.Status.{needs_cause};

@@ -1,11 +1,11 @@
 //! What a command writes.
 
 ghost use Rattle.std.specs.Prelude.{◌≡◌, ◌++◌, IfOk, decimal, false};
-ghost use Rattle.pv_cli.specs.Paths.{path_text};
+ghost use Rattle.pv_script.specs.Paths.{path_text};
 ghost use Rattle.pv_cli.specs.Status.{needs_cause};
 
-use crate::paths::{push_number, push_path};
 use crate::status::Status;
+use pv_script::{push_number, push_path};
 use std::alloc::{AllocError, Global};
 
 /// What a command writes: a status, and bytes.

@@ -1,6 +1,6 @@
 //! The command `session`.
 
-ghost use Rattle.std.specs.Prelude.{◌≡◌, List, ℕ, Option, Some, OnOk, OnErr, IfOk, vec_len};
+ghost use Rattle.std.specs.Prelude.{◌≡◌, List, ℕ, Option, Some, OnOk, OnErr, IfOk, IsSomeAnd, vec_len};
 ghost use Rattle.std.specs.Io.KnownBytes.{Appends};
 ghost use Rattle.pv_cli.specs.CommandLine.{AreNamed, session};
 ghost use Rattle.pv_cli.specs.Course.{Course};
@@ -9,6 +9,8 @@ ghost use Rattle.pv_cli.specs.Session.{Converses};
 ghost use Rattle.pv_cli.specs.Turns.{HasReplies, IsTurn, IsShownAs, TakesScript, InputCounts};
 ghost use Rattle.pv_io.specs.Causes.{CountsFault, AppendsFront};
 ghost use Rattle.pv_script.specs.Lines.{lines_of};
+ghost use Rattle.pv_script.specs.Replies.{reply_bytes};
+ghost use Rattle.pv_script.specs.declared.replies.Reply.TheVariants as reply;
 ghost use Rattle.pv_tree.specs.PlainDocs.{plain_doc};
 
 use crate::command_line::Named;
@@ -65,6 +67,13 @@ fn show(alloc: Global, doc: &Doc) -> Result<Vec<u8>, NoMemory>
     reply_text(alloc, &reply)
 }
 
+// The reply to a line that asks for nothing that is answered.
+fn no_command(alloc: Global) -> Result<Option<Vec<u8>>, NoMemory>
+    ensures { IfOk result (λ turn. IsSomeAnd turn (λ text. text.items ≡ reply_bytes reply.NoCommand)) }
+{
+    Ok(Some(reply_text(alloc, &Reply::NoCommand)?))
+}
+
 // The reply to a line, or none where it ends the session.
 fn turn(alloc: Global, doc: &Doc, line: &[u8]) -> Result<Option<Vec<u8>>, NoMemory>
     ensures { IfOk result (IsTurn (plain_doc doc.now) line.now) }
@@ -72,7 +81,11 @@ fn turn(alloc: Global, doc: &Doc, line: &[u8]) -> Result<Option<Vec<u8>>, NoMemo
     match read_command(alloc, line) {
         Ok(Command::Show) => Ok(Some(show(alloc, doc)?)),
         Ok(Command::Quit) => Ok(None),
-        Err(CommandError::Unknown) => Ok(Some(reply_text(alloc, &Reply::NoCommand)?)),
+        Ok(Command::Edit(_)) => no_command(alloc),
+        Ok(Command::Undo) => no_command(alloc),
+        Ok(Command::Redo) => no_command(alloc),
+        Ok(Command::History) => no_command(alloc),
+        Err(CommandError::Unknown) => no_command(alloc),
         Err(CommandError::NoMemory) => Err(NoMemory),
     }
 }

@@ -1,20 +1,40 @@
--- The commands of a script as plain data.
-use Rattle.std.specs.Prelude.{ℕ, List, codes, if◌then◌else◌, Option, Some, None}
-use Rattle.std.specs.Str.{bytes_eq}
+-- The commands of a script, and the lines that spell them.
+use Rattle.std.specs.Prelude.{◌≡◌, ℕ, List, [], codes, Option, Some, None, Result, Ok, Err}
+use Rattle.pv_script.specs.Edits.{edit_text, numbers_in, AreNumbers}
 use Rattle.pv_script.specs.declared.commands.Command.{Command}
-use Rattle.pv_script.specs.declared.commands.Command.TheVariants.{Show, Quit}
+use Rattle.pv_script.specs.declared.commands.Command.TheVariants as command
+use Rattle.pv_script.specs.declared.commands.CommandError.{CommandError}
+use Rattle.pv_script.specs.declared.commands.CommandError.TheVariants.{Unknown, NoMemory}
 
-pub data PlainCommand : Type 0 where
-  show : PlainCommand
-  quit : PlainCommand
+-- the line of a command
+abbrev pub command_text : Command → List ℕ
+command_text (command.Edit edit) = edit_text edit
+command_text command.Undo = codes "undo"
+command_text command.Redo = codes "redo"
+command_text command.History = codes "history"
+command_text command.Show = codes "show"
+command_text command.Quit = codes "quit"
 
-abbrev pub plain_command : Command → PlainCommand
-plain_command Show = show
-plain_command Quit = quit
+-- the numbers in it
+abbrev pub command_numbers : Command → List ℕ
+command_numbers (command.Edit edit) = numbers_in edit
+command_numbers command.Undo = []
+command_numbers command.Redo = []
+command_numbers command.History = []
+command_numbers command.Show = []
+command_numbers command.Quit = []
 
--- the command that a line is
-abbrev pub command_of : List ℕ → Option PlainCommand
-command_of line =
-    if bytes_eq line (codes "show") then Some show
-    else if bytes_eq line (codes "quit") then Some quit
-    else None
+-- The line spells the command. No number in it is past the largest.
+pub record SpellsCommand (line : List ℕ) (command : Command) : Type 0 where
+  pub text : line ≡ command_text command
+  pub numbers : AreNumbers (command_numbers command)
+
+-- the line is no command
+abbrev pub IsNoCommand : List ℕ → Type 0
+IsNoCommand line = (command : Command) → SpellsCommand line command → ⊥
+
+-- What a reader made of what it was given: a value, that there is none, or no answer for want of memory.
+abbrev pub Reads : {A : Type 0} → Option A → Result A CommandError → Type 0
+Reads o (Ok x) = o ≡ Some x
+Reads o (Err Unknown) = o ≡ None
+Reads o (Err NoMemory) = Unit {0}

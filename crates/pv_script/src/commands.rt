@@ -1,14 +1,27 @@
 //! The commands of a script.
 
 ghost use Rattle.std.specs.Prelude.{◌≡◌, Some, None, Err, IfOk};
-ghost use Rattle.pv_script.specs.Commands.{command_of, plain_command};
+ghost use Rattle.pv_script.specs.Commands.{SpellsCommand, IsNoCommand, Reads};
+ghost use Rattle.pv_script.specs.Reading.{command_of};
+ghost use Rattle.pv_script.specs.declared.commands.CommandError.TheVariants.{NoMemory as no_memory};
 
-use std::alloc::Global;
+use crate::arguments::{is_word, read_edit};
+use pv_chars::NoMemory;
+use pv_edit::Edit;
+use std::alloc::{AllocError, AllocFailed, Global};
 use thiserror::Error;
 
 /// What a line asks for.
-#[derive(Clone, Copy, Debug, PartialEq, Eq)]
+#[derive(Debug, Drop)]
 pub enum Command {
+    /// `wrap`, `insert`, `unwrap`, `rename`, `split`, `join`, `text`, `addtext` or `deltext`: make this edit.
+    Edit(Edit),
+    /// `undo`: take the last edit back.
+    Undo,
+    /// `redo`: make the edit again that was taken back last.
+    Redo,
+    /// `history`: tell the edits that were made.
+    History,
     /// `show`: tell the document.
     Show,
     /// `quit`: end the session.
@@ -26,14 +39,53 @@ pub enum CommandError {
     NoMemory,
 }
 
-/// The command that the line is, without the CR bytes at its end.
-pub fn read_command(_alloc: Global, line: &[u8]) -> Result<Command, CommandError>
-    ensures read { IfOk result (λ command. command_of line.now ≡ Some (plain_command command)) }
-    ensures unknown { result ≡ Err CommandError.Unknown → command_of line.now ≡ None }
-{
-    match line {
-        b"show" => Ok(Command::Show),
-        b"quit" => Ok(Command::Quit),
-        _ => Err(CommandError::Unknown),
+impl From<NoMemory> for CommandError {
+    ghost from_gives = { λ _ e. e ≡ no_memory };
+
+    fn from(_: NoMemory) -> CommandError {
+        CommandError::NoMemory
     }
+}
+
+impl From<AllocError> for CommandError {
+    ghost from_gives = { λ _ e. e ≡ no_memory };
+
+    fn from(_: AllocError) -> CommandError {
+        CommandError::NoMemory
+    }
+}
+
+impl<T: Drop> From<AllocFailed<T>> for CommandError {
+    ghost from_gives = { λ _ e. e ≡ no_memory };
+
+    fn from(_: AllocFailed<T>) -> CommandError {
+        CommandError::NoMemory
+    }
+}
+
+// The command that a line is, read from the left.
+fn command_of(alloc: Global, line: &[u8]) -> Result<Command, CommandError>
+    ensures { Reads (command_of line.now) result }
+{
+    if is_word(line, b"undo") {
+        Ok(Command::Undo)
+    } else if is_word(line, b"redo") {
+        Ok(Command::Redo)
+    } else if is_word(line, b"history") {
+        Ok(Command::History)
+    } else if is_word(line, b"show") {
+        Ok(Command::Show)
+    } else if is_word(line, b"quit") {
+        Ok(Command::Quit)
+    } else {
+        Ok(Command::Edit(read_edit(alloc, line)?))
+    }
+}
+
+/// The command that the line is, without the CR bytes at its end.
+pub fn read_command(alloc: Global, line: &[u8]) -> Result<Command, CommandError>
+    ensures read { IfOk result (λ command. SpellsCommand line.now command) }
+    ensures unknown { result ≡ Err CommandError.Unknown → IsNoCommand line.now }
+{
+    command_of(alloc, line)
 }

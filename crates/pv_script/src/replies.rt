@@ -1,42 +1,242 @@
 //! The replies to a script's lines.
 
-ghost use Rattle.std.specs.Prelude.{◌≡◌, IfOk};
-ghost use Rattle.pv_script.specs.Replies.{reply_bytes, plain_reply, document_reply};
+ghost use Rattle.std.specs.Prelude.{◌≡◌, [], ◌∷◌, ◌++◌, codes, decimal, length, IfOk, OnOk};
+ghost use Rattle.pv_script.specs.Paths.{path_text};
+ghost use Rattle.pv_script.specs.Replies.{reply_bytes, reason_word, verdict_word, edit_lines, row_text, row_lines};
+ghost use Rattle.pv_script.specs.Words.{words, with_feed};
 
-use itoa::Buffer;
+use crate::edits::{push_edit, push_next_number, push_next_word};
+use crate::paths::{push_number, push_path};
 use pv_chars::{Bytes, NoMemory};
-use std::alloc::Global;
+use pv_edit::{Done, Edit, Edits, Reason, VerdictRow, VerdictRows};
+use pv_tree::{Path, Verdict};
+use std::alloc::{AllocError, Global};
 
 /// The answer to a line.
 #[derive(Debug, Drop)]
 pub enum Reply {
-    /// The document's bytes.
-    Show(Bytes),
-    /// The line is no command.
-    NoCommand,
+    /// The edit, undo or redo was made.
+    Okay(Done),
+    /// The edit can't be made: its first reason.
+    Shape(Reason),
+    /// Inserting elements could no longer make the document valid: the path of the first impossible list.
+    Impossible(Path),
+    /// There is nothing left to undo or redo.
+    NoHistory,
+    /// The document would be past a limit.
+    Limit,
     /// There was too little memory for the line.
     NoMemory,
+    /// The line is no command.
+    NoCommand,
+    /// So many elements are missing.
+    Need(u64),
+    /// A list is too wide for weights: the path of the first.
+    Wide(Path),
+    /// More than 1,000,000 elements are missing.
+    Heavy,
+    /// The document's bytes.
+    Show(Bytes),
+    /// The number of inserted elements, and the bytes of the completed document.
+    Completed(u64, Bytes),
+    /// The edits that were made, oldest first.
+    History(Edits),
+    /// What is known of each list, in document order.
+    Verdicts(VerdictRows),
 }
 
-fn document_text(alloc: Global, bytes: &[u8]) -> Result<Vec<u8>, NoMemory>
-    ensures { IfOk result (λ text. text.items ≡ document_reply bytes.now) }
+/// The word of a reason.
+fn reason_word(reason: Reason) -> &'static [u8]
+    ensures { result.now ≡ reason_word reason }
 {
-    let mut text = Vec::from_slice(alloc, b"show ")?;
-    text.extend_from_slice(Buffer::new().format(bytes.len()).as_bytes())?;
+    match reason {
+        Reason::NoNode => b"no-node",
+        Reason::NotElement => b"not-element",
+        Reason::NotText => b"not-text",
+        Reason::Range => b"range",
+        Reason::BadName => b"bad-name",
+        Reason::BadText => b"bad-text",
+        Reason::RootShape => b"root-shape",
+        Reason::Deep => b"deep",
+        Reason::CloseMark => b"close-mark",
+    }
+}
+
+/// The word of a verdict.
+fn verdict_word(verdict: Verdict) -> &'static [u8]
+    ensures { result.now ≡ verdict_word verdict }
+{
+    match verdict {
+        Verdict::Valid => b"valid",
+        Verdict::Possible => b"possible",
+        Verdict::Impossible => b"impossible",
+    }
+}
+
+// Appends a line with its LF.
+fn push_line(text: &mut Vec<u8>, line: &[u8]) -> Result<(), AllocError>
+    ensures { OnOk result (text.new.items ≡ text.old.items ++ with_feed line.now) }
+{
+    text.extend_from_slice(line)?;
     text.push(b'\n')?;
+    Ok(())
+}
+
+// Appends a line of two words.
+fn push_words(text: &mut Vec<u8>, word: &[u8], next: &[u8]) -> Result<(), AllocError>
+    ensures { OnOk result (text.new.items ≡
+        text.old.items ++ with_feed (words (word.now ∷ next.now ∷ []))) }
+{
+    text.extend_from_slice(word)?;
+    push_next_word(text, next)?;
+    text.push(b'\n')?;
+    Ok(())
+}
+
+// Appends a line of a word and a path.
+fn push_with_path(text: &mut Vec<u8>, word: &[u8], path: &Path) -> Result<(), AllocError>
+    ensures { OnOk result (text.new.items ≡
+        text.old.items ++ with_feed (words (word.now ∷ path_text path.now ∷ []))) }
+{
+    text.extend_from_slice(word)?;
+    text.push(b' ')?;
+    push_path(text, path.places())?;
+    text.push(b'\n')?;
+    Ok(())
+}
+
+// Appends a line of a word and a number.
+fn push_with_number(text: &mut Vec<u8>, word: &[u8], number: u64) -> Result<(), AllocError>
+    ensures { OnOk result (text.new.items ≡
+        text.old.items ++ with_feed (words (word.now ∷ decimal number ∷ []))) }
+{
+    text.extend_from_slice(word)?;
+    push_next_number(text, number)?;
+    text.push(b'\n')?;
+    Ok(())
+}
+
+// Appends a line of a word and two numbers.
+fn push_with_numbers(
+    text: &mut Vec<u8>,
+    word: &[u8],
+    number: u64,
+    next: u64,
+) -> Result<(), AllocError>
+    ensures { OnOk result (text.new.items ≡
+        text.old.items ++ with_feed (words (word.now ∷ decimal number ∷ decimal next ∷ []))) }
+{
+    text.extend_from_slice(word)?;
+    push_next_number(text, number)?;
+    push_next_number(text, next)?;
+    text.push(b'\n')?;
+    Ok(())
+}
+
+// Appends a document's bytes, with an LF.
+fn push_body(text: &mut Vec<u8>, bytes: &[u8]) -> Result<(), AllocError>
+    ensures { OnOk result (text.new.items ≡ text.old.items ++ with_feed bytes.now) }
+{
     text.reserve_exact(bytes.len() + 1)?;
-    text.extend_from_slice(bytes)?;
+    push_line(text, bytes)
+}
+
+// Appends the line of each edit.
+fn push_edits(text: &mut Vec<u8>, edits: &[Edit]) -> Result<(), AllocError>
+    ensures { OnOk result (text.new.items ≡ text.old.items ++ edit_lines edits.now) }
+{
+    for edit in edits {
+        push_edit(text, edit)?;
+        text.push(b'\n')?;
+    }
+    Ok(())
+}
+
+// Appends what is known of a list.
+fn push_row(text: &mut Vec<u8>, row: &VerdictRow) -> Result<(), AllocError>
+    ensures { OnOk result (text.new.items ≡ text.old.items ++ with_feed (row_text row.now)) }
+{
+    push_path(text, row.path.places())?;
+    push_next_word(text, verdict_word(row.verdict))?;
+    push_next_number(text, row.stamp)?;
     text.push(b'\n')?;
-    Ok(text)
+    Ok(())
+}
+
+// Appends the line of each list.
+fn push_rows(text: &mut Vec<u8>, rows: &[VerdictRow]) -> Result<(), AllocError>
+    ensures { OnOk result (text.new.items ≡ text.old.items ++ row_lines rows.now) }
+{
+    for row in rows {
+        push_row(text, row)?;
+    }
+    Ok(())
+}
+
+// Appends a reply that holds more than one line.
+fn push_completed(text: &mut Vec<u8>, inserted: u64, bytes: &[u8]) -> Result<(), AllocError>
+    ensures { OnOk result (text.new.items ≡ text.old.items ++
+        (with_feed (words (codes "completed" ∷ decimal inserted ∷ decimal (length bytes.now) ∷ []))
+        ++ with_feed bytes.now)) }
+{
+    push_with_numbers(text, b"completed", inserted, bytes.len() as u64)?;
+    push_body(text, bytes)
+}
+
+fn push_shown(text: &mut Vec<u8>, bytes: &[u8]) -> Result<(), AllocError>
+    ensures { OnOk result (text.new.items ≡ text.old.items ++
+        (with_feed (words (codes "show" ∷ decimal (length bytes.now) ∷ []))
+        ++ with_feed bytes.now)) }
+{
+    push_with_number(text, b"show", bytes.len() as u64)?;
+    push_body(text, bytes)
+}
+
+fn push_history(text: &mut Vec<u8>, edits: &[Edit]) -> Result<(), AllocError>
+    ensures { OnOk result (text.new.items ≡ text.old.items ++
+        (with_feed (words (codes "history" ∷ decimal (length edits.now) ∷ []))
+        ++ edit_lines edits.now)) }
+{
+    push_with_number(text, b"history", edits.len() as u64)?;
+    push_edits(text, edits)
+}
+
+fn push_verdicts(text: &mut Vec<u8>, rows: &[VerdictRow]) -> Result<(), AllocError>
+    ensures { OnOk result (text.new.items ≡ text.old.items ++
+        (with_feed (words (codes "verdicts" ∷ decimal (length rows.now) ∷ []))
+        ++ row_lines rows.now)) }
+{
+    push_with_number(text, b"verdicts", rows.len() as u64)?;
+    push_rows(text, rows)
+}
+
+// Appends a reply.
+fn push_reply(text: &mut Vec<u8>, reply: &Reply) -> Result<(), AllocError>
+    ensures { OnOk result (text.new.items ≡ text.old.items ++ reply_bytes reply.now) }
+{
+    match reply {
+        Reply::Okay(done) => { push_with_numbers(text, b"ok", u64::from(done.checked), done.left) }
+        Reply::Shape(reason) => push_words(text, b"no shape", reason_word(*reason)),
+        Reply::Impossible(path) => push_with_path(text, b"no impossible", path),
+        Reply::NoHistory => push_line(text, b"no history"),
+        Reply::Limit => push_line(text, b"no limit"),
+        Reply::NoMemory => push_line(text, b"no memory"),
+        Reply::NoCommand => push_line(text, b"no command"),
+        Reply::Need(number) => push_with_number(text, b"need", *number),
+        Reply::Wide(path) => push_with_path(text, b"no wide", path),
+        Reply::Heavy => push_line(text, b"no heavy"),
+        Reply::Show(bytes) => push_shown(text, bytes.as_slice()),
+        Reply::Completed(inserted, bytes) => push_completed(text, *inserted, bytes.as_slice()),
+        Reply::History(edits) => push_history(text, edits.as_slice()),
+        Reply::Verdicts(rows) => push_verdicts(text, rows.as_slice()),
+    }
 }
 
 /// The bytes of a reply.
 pub fn reply_text(alloc: Global, reply: &Reply) -> Result<Vec<u8>, NoMemory>
-    ensures { IfOk result (λ text. text.items ≡ reply_bytes (plain_reply reply.now)) }
+    ensures { IfOk result (λ text. text.items ≡ reply_bytes reply.now) }
 {
-    match reply {
-        Reply::Show(bytes) => document_text(alloc, bytes.as_slice()),
-        Reply::NoCommand => Ok(Vec::from_slice(alloc, b"no command\n")?),
-        Reply::NoMemory => Ok(Vec::from_slice(alloc, b"no memory\n")?),
-    }
+    let mut text = Vec::new(alloc);
+    push_reply(&mut text, reply)?;
+    Ok(text)
 }

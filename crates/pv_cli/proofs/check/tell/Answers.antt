@@ -4,7 +4,7 @@ use Rattle.pv_productive.specs.PlainForms.{dtd_of}
 use Rattle.pv_tree.specs.Lists.{lists_of}
 use Rattle.pv_tree.specs.PlainDocs.{plain_doc}
 use Rattle.pv_cli.specs.Check.{TellsPossibility, is_impossible, is_possible, is_too_wide}
-use Rattle.pv_cli.specs.Paths.{path_text}
+use Rattle.pv_script.specs.Paths.{path_text}
 use Rattle.pv_cli.specs.Response.{with_line}
 use Rattle.pv_cli.specs.Stage.{StopsBy}
 use Rattle.pv_cli.specs.declared.status.Status.TheVariants.{Limit, Negative}

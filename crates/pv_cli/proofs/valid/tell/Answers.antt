@@ -2,7 +2,7 @@ use Rattle.std.proofs.Common.{◌≡◌, ◌++◌, codes, refl, ap, ◌∙◌}
 use Rattle.pv_tree.specs.Marks.{blank_mark}
 use Rattle.pv_read.proofs.Agreement.{spelled_where_meant}
 use Rattle.pv_cli.specs.Response.{with_line}
-use Rattle.pv_cli.specs.Paths.{path_text}
+use Rattle.pv_script.specs.Paths.{path_text}
 use Rattle.pv_cli.specs.Valid.{is_valid, is_invalid}
 use Rattle.pv_cli.specs.declared.status.Status.TheVariants.{Negative}
 use Rattle.pv_cli.proofs.valid.tell.Goals as goal

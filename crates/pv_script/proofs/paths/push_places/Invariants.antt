@@ -1,6 +1,6 @@
 use Rattle.std.proofs.Common.{◌≡◌, ◌++◌, drop}
-use Rattle.pv_cli.specs.Paths.{places_text}
-use Rattle.pv_cli.proofs.paths.push_places.Given as goal
+use Rattle.pv_script.specs.Paths.{places_text}
+use Rattle.pv_script.proofs.paths.push_places.Given as goal
 
 -- what is written so far, and what is left to write, is all
 abbrev pub invariant-loop-place : goal.invariant-loop-place

@@ -1,0 +1,61 @@
+-- The arguments of edits are read as they are written.
+use Rattle.std.proofs.Common.{◌≡◌, ℕ, ◌≤◌, List, [], ◌∷◌, ◌++◌, Option, Some, None, refl, sym, ap, ◌∙◌, arith, codes, decimal}
+use Rattle.std.specs.Option.{option_map, option_and_then}
+use Rattle.pv_edit.specs.declared.edits.Edit.{Edit}
+use Rattle.pv_edit.specs.declared.edits.Edit.TheVariants.{Wrap, Insert, Unwrap, Rename, Split, Join, SetText, AddText, DelText}
+use Rattle.pv_script.specs.Edits.{MAX_NUMBER, AreNumbers, edit_text, numbers_in}
+use Rattle.pv_script.specs.Paths.{path_text}
+use Rattle.pv_script.specs.Reading.{first_word, number_of, path_of, on_path, on_number, wrap_of, insert_of, unwrap_of, rename_of, split_of, join_of, set_text_of, add_text_of, del_text_of}
+use Rattle.pv_script.proofs.Numbers.{decimal-free, number_of-decimal, number-word}
+use Rattle.pv_script.proofs.PathWords.{path-free, path_of-path_text, path-word}
+use Rattle.pv_script.proofs.Words.{first_word-free, first_word-whole}
+
+pub on_path-written : {A : Type 0} (f : List ℕ → List ℕ → Option A) (path rest : List ℕ) → AreNumbers path → on_path f (path_text path ++ (32 ∷ rest)) ≡ f path rest
+on_path-written f path rest all = rw (first_word-free (path_text path) rest (path-free 32 path (omega arith) all), path_of-path_text path all) refl
+
+pub on_number-written : {A : Type 0} (f : ℕ → List ℕ → Option A) (n : ℕ) (rest : List ℕ) → n ≤ MAX_NUMBER → on_number f (decimal n ++ (32 ∷ rest)) ≡ f n rest
+on_number-written f n rest within = rw (first_word-free (decimal n) rest (decimal-free 32 n (omega arith) within), number_of-decimal n within) refl
+
+-- the bytes are a path, a blank, and what this is made of
+pub record IsOnPath {A : Type 0} (f : List ℕ → List ℕ → Option A) (bytes : List ℕ) (made : A) : Type 0 where
+  pub path : List ℕ
+  pub rest : List ℕ
+  pub whole : bytes ≡ path_text path ++ (32 ∷ rest)
+  pub within : AreNumbers path
+  pub makes : f path rest ≡ Some made
+
+on-path-word : {A : Type 0} (f : List ℕ → List ℕ → Option A) (bytes word rest : List ℕ) (made : A) (p : Option (List ℕ)) → bytes ≡ word ++ (32 ∷ rest) → path_of word ≡ p →
+    option_and_then (λ path. f path rest) (path_of word) ≡ Some made → IsOnPath f bytes made
+on-path-word f bytes word rest made None whole is found = let these = rw is at found in cc
+on-path-word f bytes word rest made (Some path) whole is found =
+    let read = path-word word path is in
+    record { path = path; rest = rest; whole = whole ∙ ap (λ w. w ++ (32 ∷ rest)) read.text; within = read.within; makes = rw is at found }
+
+on-path-by : {A : Type 0} (f : List ℕ → List ℕ → Option A) (bytes : List ℕ) (made : A) (o : Option (List ℕ × List ℕ)) → first_word bytes ≡ o → on_path f bytes ≡ Some made → IsOnPath f bytes made
+on-path-by f bytes made None at found = let these = rw at at found in cc
+on-path-by f bytes made (Some (word, rest)) at found = on-path-word f bytes word rest made (path_of word) (first_word-whole bytes word rest at) refl (rw at at found)
+
+pub on-path : {A : Type 0} (f : List ℕ → List ℕ → Option A) (bytes : List ℕ) (made : A) → on_path f bytes ≡ Some made → IsOnPath f bytes made
+on-path f bytes made found = on-path-by f bytes made (first_word bytes) refl found
+
+-- the bytes are a number, a blank, and what this is made of
+pub record IsOnNumber {A : Type 0} (f : ℕ → List ℕ → Option A) (bytes : List ℕ) (made : A) : Type 0 where
+  pub number : ℕ
+  pub rest : List ℕ
+  pub whole : bytes ≡ decimal number ++ (32 ∷ rest)
+  pub within : number ≤ MAX_NUMBER
+  pub makes : f number rest ≡ Some made
+
+on-number-word : {A : Type 0} (f : ℕ → List ℕ → Option A) (bytes word rest : List ℕ) (made : A) (p : Option ℕ) → bytes ≡ word ++ (32 ∷ rest) → number_of word ≡ p →
+    option_and_then (λ n. f n rest) (number_of word) ≡ Some made → IsOnNumber f bytes made
+on-number-word f bytes word rest made None whole is found = let these = rw is at found in cc
+on-number-word f bytes word rest made (Some n) whole is found =
+    let read = number-word word n is in
+    record { number = n; rest = rest; whole = whole ∙ ap (λ w. w ++ (32 ∷ rest)) read.digits; within = read.within; makes = rw is at found }
+
+on-number-by : {A : Type 0} (f : ℕ → List ℕ → Option A) (bytes : List ℕ) (made : A) (o : Option (List ℕ × List ℕ)) → first_word bytes ≡ o → on_number f bytes ≡ Some made → IsOnNumber f bytes made
+on-number-by f bytes made None at found = let these = rw at at found in cc
+on-number-by f bytes made (Some (word, rest)) at found = on-number-word f bytes word rest made (number_of word) (first_word-whole bytes word rest at) refl (rw at at found)
+
+pub on-number : {A : Type 0} (f : ℕ → List ℕ → Option A) (bytes : List ℕ) (made : A) → on_number f bytes ≡ Some made → IsOnNumber f bytes made
+on-number f bytes made found = on-number-by f bytes made (first_word bytes) refl found

@@ -1,0 +1,228 @@
+-- A line spells a command exactly where it is read as that command.
+use Rattle.std.proofs.Common.{◌≡◌, ℕ, ◌≤◌, List, [], ◌∷◌, ◌++◌, Option, Some, None, Bool, true, false, inl, inr, ◌⊎◌, refl, sym, ap, ◌∙◌, arith, codes, decimal}
+use Rattle.std.specs.Prelude.{if◌then◌else◌}
+use Rattle.std.proofs.lemmas.Slice.Eq.{bytes_eq-Decides}
+use Rattle.std.specs.Option.{option_map}
+use Rattle.std.specs.Str.{bytes_eq}
+use Rattle.pv_edit.specs.declared.edits.Edit.{Edit}
+use Rattle.pv_edit.specs.declared.edits.Edit.TheVariants.{Wrap, Insert, Unwrap, Rename, Split, Join, SetText, AddText, DelText}
+use Rattle.pv_script.specs.Commands.{command_text, command_numbers, SpellsCommand, IsNoCommand}
+use Rattle.pv_script.specs.Edits.{MAX_NUMBER, AreNumbers, edit_text, numbers_in}
+use Rattle.pv_script.specs.Laws.{OneCommand, CommandOrNone}
+use Rattle.pv_script.specs.Paths.{path_text}
+use Rattle.pv_script.specs.Reading.{first_word, number_of, path_of, on_path, on_number, wrap_of, insert_of, unwrap_of, rename_of, split_of, join_of, set_text_of, add_text_of, del_text_of, edit_of, edit_in, command_of}
+use Rattle.pv_script.specs.declared.commands.Command.{Command}
+use Rattle.pv_script.specs.declared.commands.Command.TheVariants as commands
+use Rattle.pv_script.proofs.ArgumentWords.{on_path-written, on_number-written, on-path, on-number}
+use Rattle.pv_script.proofs.Numbers.{number_of-decimal, number-word}
+use Rattle.pv_script.proofs.PathWords.{path_of-path_text, path-word}
+use Rattle.pv_script.proofs.Words.{first_word-whole}
+
+-- what follows the path of an edit
+abbrev wrap_on : List ℕ → List ℕ → Option Edit
+wrap_on path = on_number (λ from. on_number (λ to name. Some (Wrap path from to name)))
+
+abbrev insert_on : List ℕ → List ℕ → Option Edit
+insert_on path = on_number (λ at name. Some (Insert path at name))
+
+abbrev rename_on : List ℕ → List ℕ → Option Edit
+rename_on path name = Some (Rename path name)
+
+abbrev split_on : List ℕ → List ℕ → Option Edit
+split_on path rest = option_map (Split path) (number_of rest)
+
+abbrev set_text_on : List ℕ → List ℕ → Option Edit
+set_text_on path text = Some (SetText path text)
+
+abbrev add_text_on : List ℕ → List ℕ → Option Edit
+add_text_on path = on_number (λ at text. Some (AddText path at text))
+
+-- the line of an edit is read as that edit
+edit-read : (edit : Edit) → AreNumbers (numbers_in edit) → edit_in (edit_text edit) ≡ Some edit
+edit-read (Wrap path from to name) all =
+    on_path-written wrap_on path (decimal from ++ (32 ∷ (decimal to ++ (32 ∷ name)))) all.1.1
+    ∙ on_number-written (λ (i : ℕ). on_number (λ (j : ℕ) (x : List ℕ). Some (Wrap path i j x))) from (decimal to ++ (32 ∷ name)) all.0
+    ∙ on_number-written (λ (j : ℕ) (x : List ℕ). Some (Wrap path from j x)) to name all.1.0
+edit-read (Insert path at name) all =
+    on_path-written insert_on path (decimal at ++ (32 ∷ name)) all.1
+    ∙ on_number-written (λ (i : ℕ) (x : List ℕ). Some (Insert path i x)) at name all.0
+edit-read (Unwrap path) all = ap (option_map Unwrap) (path_of-path_text path all)
+edit-read (Rename path name) all = on_path-written rename_on path name all
+edit-read (Split path at) all = on_path-written split_on path (decimal at) all.1 ∙ ap (option_map (Split path)) (number_of-decimal at all.0)
+edit-read (Join path) all = ap (option_map Join) (path_of-path_text path all)
+edit-read (SetText path text) all = on_path-written set_text_on path text all
+edit-read (AddText path at text) all =
+    on_path-written add_text_on path (decimal at ++ (32 ∷ text)) all.1
+    ∙ on_number-written (λ (i : ℕ) (x : List ℕ). Some (AddText path i x)) at text all.0
+edit-read (DelText path) all = ap (option_map DelText) (path_of-path_text path all)
+
+pub command-read : (command : Command) → AreNumbers (command_numbers command) → command_of (command_text command) ≡ Some command
+command-read (commands.Edit (Wrap path from to name)) all = ap (option_map commands.Edit) (edit-read (Wrap path from to name) all)
+command-read (commands.Edit (Insert path at name)) all = ap (option_map commands.Edit) (edit-read (Insert path at name) all)
+command-read (commands.Edit (Unwrap path)) all = ap (option_map commands.Edit) (edit-read (Unwrap path) all)
+command-read (commands.Edit (Rename path name)) all = ap (option_map commands.Edit) (edit-read (Rename path name) all)
+command-read (commands.Edit (Split path at)) all = ap (option_map commands.Edit) (edit-read (Split path at) all)
+command-read (commands.Edit (Join path)) all = ap (option_map commands.Edit) (edit-read (Join path) all)
+command-read (commands.Edit (SetText path text)) all = ap (option_map commands.Edit) (edit-read (SetText path text) all)
+command-read (commands.Edit (AddText path at text)) all = ap (option_map commands.Edit) (edit-read (AddText path at text) all)
+command-read (commands.Edit (DelText path)) all = ap (option_map commands.Edit) (edit-read (DelText path) all)
+command-read commands.Undo all = refl
+command-read commands.Redo all = refl
+command-read commands.History all = refl
+command-read commands.Show all = refl
+command-read commands.Quit all = refl
+
+-- a word, a blank and these arguments spell the edit
+record IsSpelled (word bytes : List ℕ) (edit : Edit) : Type 0 where
+  text : word ++ (32 ∷ bytes) ≡ edit_text edit
+  within : AreNumbers (numbers_in edit)
+
+wrap-spelled : (bytes : List ℕ) (edit : Edit) → wrap_of bytes ≡ Some edit → IsSpelled (codes "wrap") bytes edit
+wrap-spelled bytes edit found =
+    let p = on-path wrap_on bytes edit found in
+    let q = on-number (λ (i : ℕ). on_number (λ (j : ℕ) (x : List ℕ). Some (Wrap p.path i j x))) p.rest edit p.makes in
+    let r = on-number (λ (j : ℕ) (x : List ℕ). Some (Wrap p.path q.number j x)) q.rest edit q.makes in
+    let these = r.makes in
+    let is : Wrap p.path q.number r.number r.rest ≡ edit = cc in
+    rw (← is) record {
+      text = ap (λ b. codes "wrap" ++ (32 ∷ b)) (p.whole ∙ ap (λ b. path_text p.path ++ (32 ∷ b)) (q.whole ∙ ap (λ b. decimal q.number ++ (32 ∷ b)) r.whole));
+      within = (q.within, (r.within, p.within));
+    }
+
+insert-spelled : (bytes : List ℕ) (edit : Edit) → insert_of bytes ≡ Some edit → IsSpelled (codes "insert") bytes edit
+insert-spelled bytes edit found =
+    let p = on-path insert_on bytes edit found in
+    let q = on-number (λ (i : ℕ) (x : List ℕ). Some (Insert p.path i x)) p.rest edit p.makes in
+    let these = q.makes in
+    let is : Insert p.path q.number q.rest ≡ edit = cc in
+    rw (← is) record {
+      text = ap (λ b. codes "insert" ++ (32 ∷ b)) (p.whole ∙ ap (λ b. path_text p.path ++ (32 ∷ b)) q.whole);
+      within = (q.within, p.within);
+    }
+
+add-text-spelled : (bytes : List ℕ) (edit : Edit) → add_text_of bytes ≡ Some edit → IsSpelled (codes "addtext") bytes edit
+add-text-spelled bytes edit found =
+    let p = on-path add_text_on bytes edit found in
+    let q = on-number (λ (i : ℕ) (x : List ℕ). Some (AddText p.path i x)) p.rest edit p.makes in
+    let these = q.makes in
+    let is : AddText p.path q.number q.rest ≡ edit = cc in
+    rw (← is) record {
+      text = ap (λ b. codes "addtext" ++ (32 ∷ b)) (p.whole ∙ ap (λ b. path_text p.path ++ (32 ∷ b)) q.whole);
+      within = (q.within, p.within);
+    }
+
+rename-spelled : (bytes : List ℕ) (edit : Edit) → rename_of bytes ≡ Some edit → IsSpelled (codes "rename") bytes edit
+rename-spelled bytes edit found =
+    let p = on-path rename_on bytes edit found in
+    let these = p.makes in
+    let is : Rename p.path p.rest ≡ edit = cc in
+    rw (← is) record { text = ap (λ b. codes "rename" ++ (32 ∷ b)) p.whole; within = p.within }
+
+set-text-spelled : (bytes : List ℕ) (edit : Edit) → set_text_of bytes ≡ Some edit → IsSpelled (codes "text") bytes edit
+set-text-spelled bytes edit found =
+    let p = on-path set_text_on bytes edit found in
+    let these = p.makes in
+    let is : SetText p.path p.rest ≡ edit = cc in
+    rw (← is) record { text = ap (λ b. codes "text" ++ (32 ∷ b)) p.whole; within = p.within }
+
+split-by : (bytes path rest : List ℕ) (edit : Edit) (o : Option ℕ) → number_of rest ≡ o → option_map (Split path) o ≡ Some edit → bytes ≡ path_text path ++ (32 ∷ rest) → AreNumbers path →
+    IsSpelled (codes "split") bytes edit
+split-by bytes path rest edit None is makes whole within = cc
+split-by bytes path rest edit (Some n) is makes whole within =
+    let number = number-word rest n is in
+    let this : Split path n ≡ edit = cc in
+    rw (← this) record { text = ap (λ b. codes "split" ++ (32 ∷ b)) (whole ∙ ap (λ b. path_text path ++ (32 ∷ b)) number.digits); within = (number.within, within) }
+
+split-spelled : (bytes : List ℕ) (edit : Edit) → split_of bytes ≡ Some edit → IsSpelled (codes "split") bytes edit
+split-spelled bytes edit found =
+    let p = on-path split_on bytes edit found in
+    split-by bytes p.path p.rest edit (number_of p.rest) refl p.makes p.whole p.within
+
+unwrap-by : (bytes : List ℕ) (edit : Edit) (o : Option (List ℕ)) → path_of bytes ≡ o → option_map Unwrap o ≡ Some edit → IsSpelled (codes "unwrap") bytes edit
+unwrap-by bytes edit None is makes = cc
+unwrap-by bytes edit (Some path) is makes =
+    let read = path-word bytes path is in
+    let this : Unwrap path ≡ edit = cc in
+    rw (← this) record { text = ap (λ b. codes "unwrap" ++ (32 ∷ b)) read.text; within = read.within }
+
+join-by : (bytes : List ℕ) (edit : Edit) (o : Option (List ℕ)) → path_of bytes ≡ o → option_map Join o ≡ Some edit → IsSpelled (codes "join") bytes edit
+join-by bytes edit None is makes = cc
+join-by bytes edit (Some path) is makes =
+    let read = path-word bytes path is in
+    let this : Join path ≡ edit = cc in
+    rw (← this) record { text = ap (λ b. codes "join" ++ (32 ∷ b)) read.text; within = read.within }
+
+del-text-by : (bytes : List ℕ) (edit : Edit) (o : Option (List ℕ)) → path_of bytes ≡ o → option_map DelText o ≡ Some edit → IsSpelled (codes "deltext") bytes edit
+del-text-by bytes edit None is makes = cc
+del-text-by bytes edit (Some path) is makes =
+    let read = path-word bytes path is in
+    let this : DelText path ≡ edit = cc in
+    rw (← this) record { text = ap (λ b. codes "deltext" ++ (32 ∷ b)) read.text; within = read.within }
+
+-- where the word is this, the edit is spelled by it
+on-word : (word name bytes : List ℕ) (edit : Edit) (chosen other : Option Edit) (same : Bool) → bytes_eq word name ≡ same → (chosen ≡ Some edit → IsSpelled name bytes edit) → (other ≡ Some edit → IsSpelled word bytes edit) →
+    (if same then chosen else other) ≡ Some edit → IsSpelled word bytes edit
+on-word word name bytes edit chosen other true is here later found = rw ((bytes_eq-Decides word name).0 is) (here found)
+on-word word name bytes edit chosen other false is here later found = later found
+
+edit-spelled : (word bytes : List ℕ) (edit : Edit) → edit_of word bytes ≡ Some edit → IsSpelled word bytes edit
+edit-spelled word bytes edit =
+    on-word word (codes "wrap") bytes edit _ _ (bytes_eq word (codes "wrap")) refl (wrap-spelled bytes edit)
+    (on-word word (codes "insert") bytes edit _ _ (bytes_eq word (codes "insert")) refl (insert-spelled bytes edit)
+    (on-word word (codes "unwrap") bytes edit _ _ (bytes_eq word (codes "unwrap")) refl (unwrap-by bytes edit (path_of bytes) refl)
+    (on-word word (codes "rename") bytes edit _ _ (bytes_eq word (codes "rename")) refl (rename-spelled bytes edit)
+    (on-word word (codes "split") bytes edit _ _ (bytes_eq word (codes "split")) refl (split-spelled bytes edit)
+    (on-word word (codes "join") bytes edit _ _ (bytes_eq word (codes "join")) refl (join-by bytes edit (path_of bytes) refl)
+    (on-word word (codes "text") bytes edit _ _ (bytes_eq word (codes "text")) refl (set-text-spelled bytes edit)
+    (on-word word (codes "addtext") bytes edit _ _ (bytes_eq word (codes "addtext")) refl (add-text-spelled bytes edit)
+    (on-word word (codes "deltext") bytes edit _ _ (bytes_eq word (codes "deltext")) refl (del-text-by bytes edit (path_of bytes) refl)
+    (λ never. cc)))))))))
+
+line-by : (line : List ℕ) (edit : Edit) (o : Option (List ℕ × List ℕ)) → first_word line ≡ o → edit_in line ≡ Some edit → (line ≡ edit_text edit) × AreNumbers (numbers_in edit)
+line-by line edit None is found = let these = rw is at found in cc
+line-by line edit (Some (word, bytes)) is found =
+    let spelled = edit-spelled word bytes edit (rw is at found) in
+    (first_word-whole line word bytes is ∙ spelled.text, spelled.within)
+
+edit-in-line : (line : List ℕ) (command : Command) (o : Option Edit) → edit_in line ≡ o → option_map commands.Edit o ≡ Some command → SpellsCommand line command
+edit-in-line line command None is found = cc
+edit-in-line line command (Some edit) is found =
+    let line_is = line-by line edit (first_word line) refl is in
+    let this : commands.Edit edit ≡ command = cc in
+    rw (← this) record { text = line_is.0; numbers = line_is.1 }
+
+-- where the line is this, the command is spelled by it
+on-line : (line name : List ℕ) (command this : Command) (other : Option Command) (same : Bool) → bytes_eq line name ≡ same → (command_text this ≡ name) → AreNumbers (command_numbers this) →
+    (other ≡ Some command → SpellsCommand line command) → (if same then Some this else other) ≡ Some command → SpellsCommand line command
+on-line line name command this other true is text within later found =
+    let chosen : this ≡ command = cc in
+    rw (← chosen) record { text = (bytes_eq-Decides line name).0 is ∙ sym text; numbers = within }
+on-line line name command this other false is text within later found = later found
+
+pub command-spelled : (line : List ℕ) (command : Command) → command_of line ≡ Some command → SpellsCommand line command
+command-spelled line command =
+    on-line line (codes "undo") command commands.Undo _ (bytes_eq line (codes "undo")) refl refl tt
+    (on-line line (codes "redo") command commands.Redo _ (bytes_eq line (codes "redo")) refl refl tt
+    (on-line line (codes "history") command commands.History _ (bytes_eq line (codes "history")) refl refl tt
+    (on-line line (codes "show") command commands.Show _ (bytes_eq line (codes "show")) refl refl tt
+    (on-line line (codes "quit") command commands.Quit _ (bytes_eq line (codes "quit")) refl refl tt
+    (edit-in-line line command (edit_in line) refl)))))
+
+pub spelled-read : (line : List ℕ) (command : Command) → SpellsCommand line command → command_of line ≡ Some command
+spelled-read line command spelled = ap command_of spelled.text ∙ command-read command spelled.numbers
+
+pub no-command : (line : List ℕ) → command_of line ≡ None → IsNoCommand line
+no-command line none command spelled = let some = spelled-read line command spelled in cc
+
+pub one-command : OneCommand
+one-command line one other spelled also =
+    let first = spelled-read line one spelled in
+    let second = spelled-read line other also in
+    cc
+
+command-or-none : (line : List ℕ) (o : Option Command) → command_of line ≡ o → ((command : Command) × SpellsCommand line command) ⊎ IsNoCommand line
+command-or-none line None is = inr (no-command line is)
+command-or-none line (Some command) is = inl (command, command-spelled line command is)
+
+pub some-command : CommandOrNone
+some-command line = command-or-none line (command_of line) refl

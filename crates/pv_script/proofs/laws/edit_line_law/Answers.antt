@@ -1,0 +1,5 @@
+use Rattle.pv_script.proofs.Again.{again}
+use Rattle.pv_script.proofs.laws.edit_line_law.Goals as goal
+
+pub returns : goal.returns
+returns c = again

@@ -1,0 +1,99 @@
+-- Lines read from the left, as functions on lists. Which command a line spells is said in Commands.antt.
+use Rattle.std.specs.Prelude.{ℕ, ◌&&◌, ◌==◌, nat_le, List, [], ◌∷◌, codes, decimal, Option, Some, None, option_and_then, option_map, if◌then◌else◌}
+use Rattle.std.specs.Str.{bytes_eq}
+use Rattle.std.specs.Str.Parse.{digits_value}
+use Rattle.pv_edit.specs.declared.edits.Edit.{Edit}
+use Rattle.pv_edit.specs.declared.edits.Edit.TheVariants.{Wrap, Insert, Unwrap, Rename, Split, Join, SetText, AddText, DelText}
+use Rattle.pv_script.specs.Edits.{MAX_NUMBER}
+use Rattle.pv_script.specs.Lines.{with_first_byte}
+use Rattle.pv_script.specs.declared.commands.Command.{Command}
+use Rattle.pv_script.specs.declared.commands.Command.TheVariants as command
+
+abbrev pub with_byte_in_front : ℕ → List ℕ × List ℕ → List ℕ × List ℕ
+with_byte_in_front b cut = (b ∷ cut.0, cut.1)
+
+-- the word before the first blank, and what stands behind the blank
+abbrev pub first_word : List ℕ → Option (List ℕ × List ℕ)
+first_word [] = None
+first_word (b ∷ bs) = if b == 32 then Some ([], bs) else option_map (with_byte_in_front b) (first_word bs)
+
+-- the number that is written so
+abbrev pub number_of : List ℕ → Option ℕ
+number_of word =
+    if bytes_eq (decimal (digits_value 10 word)) word && nat_le (digits_value 10 word) MAX_NUMBER
+    then Some (digits_value 10 word) else None
+
+-- the pieces between dots
+abbrev pub dot_pieces : List ℕ → List (List ℕ)
+dot_pieces [] = [] ∷ []
+dot_pieces (b ∷ bs) = if b == 46 then [] ∷ dot_pieces bs else with_first_byte b (dot_pieces bs)
+
+abbrev pub numbers_of : List (List ℕ) → Option (List ℕ)
+numbers_of [] = Some []
+numbers_of (word ∷ others) = option_and_then (λ n. option_map (λ ns. n ∷ ns) (numbers_of others)) (number_of word)
+
+-- the path that is written so
+abbrev pub path_of : List ℕ → Option (List ℕ)
+path_of word = if bytes_eq word (codes ".") then Some [] else numbers_of (dot_pieces word)
+
+-- what is made of a first word that is a path, or a number, and of the words behind it
+abbrev pub on_path : {A : Type 0} → (List ℕ → List ℕ → Option A) → List ℕ → Option A
+on_path f bytes = option_and_then (λ cut. option_and_then (λ path. f path cut.1) (path_of cut.0)) (first_word bytes)
+
+abbrev pub on_number : {A : Type 0} → (ℕ → List ℕ → Option A) → List ℕ → Option A
+on_number f bytes = option_and_then (λ cut. option_and_then (λ n. f n cut.1) (number_of cut.0)) (first_word bytes)
+
+-- the edit of this word with these arguments
+abbrev pub wrap_of : List ℕ → Option Edit
+wrap_of bytes = on_path (λ path. on_number (λ from. on_number (λ to name. Some (Wrap path from to name)))) bytes
+
+abbrev pub insert_of : List ℕ → Option Edit
+insert_of bytes = on_path (λ path. on_number (λ at name. Some (Insert path at name))) bytes
+
+abbrev pub unwrap_of : List ℕ → Option Edit
+unwrap_of bytes = option_map Unwrap (path_of bytes)
+
+abbrev pub rename_of : List ℕ → Option Edit
+rename_of bytes = on_path (λ path name. Some (Rename path name)) bytes
+
+abbrev pub split_of : List ℕ → Option Edit
+split_of bytes = on_path (λ path rest. option_map (Split path) (number_of rest)) bytes
+
+abbrev pub join_of : List ℕ → Option Edit
+join_of bytes = option_map Join (path_of bytes)
+
+abbrev pub set_text_of : List ℕ → Option Edit
+set_text_of bytes = on_path (λ path text. Some (SetText path text)) bytes
+
+abbrev pub add_text_of : List ℕ → Option Edit
+add_text_of bytes = on_path (λ path. on_number (λ at text. Some (AddText path at text))) bytes
+
+abbrev pub del_text_of : List ℕ → Option Edit
+del_text_of bytes = option_map DelText (path_of bytes)
+
+abbrev pub edit_of : List ℕ → List ℕ → Option Edit
+edit_of word bytes =
+    if bytes_eq word (codes "wrap") then wrap_of bytes
+    else if bytes_eq word (codes "insert") then insert_of bytes
+    else if bytes_eq word (codes "unwrap") then unwrap_of bytes
+    else if bytes_eq word (codes "rename") then rename_of bytes
+    else if bytes_eq word (codes "split") then split_of bytes
+    else if bytes_eq word (codes "join") then join_of bytes
+    else if bytes_eq word (codes "text") then set_text_of bytes
+    else if bytes_eq word (codes "addtext") then add_text_of bytes
+    else if bytes_eq word (codes "deltext") then del_text_of bytes
+    else None
+
+-- the edit that a line spells
+abbrev pub edit_in : List ℕ → Option Edit
+edit_in line = option_and_then (λ cut. edit_of cut.0 cut.1) (first_word line)
+
+-- the command that a line spells
+abbrev pub command_of : List ℕ → Option Command
+command_of line =
+    if bytes_eq line (codes "undo") then Some command.Undo
+    else if bytes_eq line (codes "redo") then Some command.Redo
+    else if bytes_eq line (codes "history") then Some command.History
+    else if bytes_eq line (codes "show") then Some command.Show
+    else if bytes_eq line (codes "quit") then Some command.Quit
+    else option_map command.Edit (edit_in line)

@@ -1,0 +1,81 @@
+//! Numbers and paths as text.
+
+ghost use Rattle.std.specs.Prelude.{◌≡◌, ◌++◌, OnOk, decimal};
+ghost use Rattle.pv_script.specs.Commands.{Reads};
+ghost use Rattle.pv_script.specs.Paths.{path_text, places_text};
+ghost use Rattle.pv_script.specs.Reading.{number_of, path_of};
+
+use crate::commands::CommandError;
+use itoa::Buffer;
+use pv_chars::delimiters::up_to_byte;
+use pv_tree::Path;
+use std::alloc::{AllocError, Global};
+
+/// Appends a number in decimal digits.
+pub fn push_number(text: &mut Vec<u8>, number: u64) -> Result<(), AllocError>
+    ensures { OnOk result (text.new.items ≡ text.old.items ++ decimal number) }
+{
+    let mut buffer = Buffer::new();
+    text.extend_from_slice(buffer.format(number).as_bytes())?;
+    Ok(())
+}
+
+// Appends each place after a dot.
+fn push_places(text: &mut Vec<u8>, places: &[u32]) -> Result<(), AllocError>
+    ensures { OnOk result (text.new.items ≡ text.old.items ++ places_text places.now) }
+{
+    for place in places {
+        text.extend_from_slice(b".")?;
+        push_number(text, u64::from(*place))?;
+    }
+    Ok(())
+}
+
+/// Appends a path.
+pub fn push_path(text: &mut Vec<u8>, places: &[u32]) -> Result<(), AllocError>
+    ensures { OnOk result (text.new.items ≡ text.old.items ++ path_text places.now) }
+{
+    match places {
+        [] => {
+            text.extend_from_slice(b".")?;
+            Ok(())
+        }
+        [first, rest @ ..] => {
+            push_number(text, u64::from(*first))?;
+            push_places(text, rest)
+        }
+    }
+}
+
+/// The number that a word is.
+pub(crate) fn read_number(word: &[u8]) -> Result<u32, CommandError>
+    ensures { Reads (number_of word.now) result }
+{
+    let Ok(digits) = str::from_utf8(word) else {
+        return Err(CommandError::Unknown);
+    };
+    let Ok(number) = digits.parse::<u32>() else {
+        return Err(CommandError::Unknown);
+    };
+    if Buffer::new().format(number) != digits {
+        return Err(CommandError::Unknown);
+    }
+    Ok(number)
+}
+
+/// The path that a word is.
+pub(crate) fn read_path(alloc: Global, word: &[u8]) -> Result<Path, CommandError>
+    ensures { Reads (path_of word.now) result }
+{
+    if word == b".".as_slice() {
+        return Ok(Path::new(alloc, &[])?);
+    }
+    let mut places = Vec::new(alloc);
+    let mut rest = word;
+    'places: while let Some((number, after)) = up_to_byte(b'.', rest) {
+        places.push(read_number(number)?)?;
+        rest = after;
+    }
+    places.push(read_number(rest)?)?;
+    Ok(Path::new(alloc, &places)?)
+}
