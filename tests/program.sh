@@ -119,8 +119,15 @@ check "512 elements in one another" 0 valid a.dtd em
 check "the widest list" 0 valid one.dtd r
 { printf '<r>'; repeat 8387 '<a1/>'; printf '</r>'; } >one.xml
 check "a list too wide" 8 "limit width 0" one.dtd r
+{ printf '<!ELEMENT r (#PCDATA'; seq -f '|a%g' 4000 | tr -d '\n'; printf ')*>'; } >one.dtd
+{ printf '<r>'; repeat 8386 'x<!---->'; printf '</r>'; } >one.xml
+check "the widest list of texts" 0 valid one.dtd r
+{ printf '<r>'; repeat 8387 'x<!---->'; printf '</r>'; } >one.xml
+check "a list of texts too wide" 8 "limit width 0" one.dtd r
+{ repeat 513 '<em>'; repeat 513 '</em>'; } >one.xml
+check "513 elements in one another" 8 "limit depth 512" a.dtd em
 printf '<!ELEMENT a (b, c?)><!ELEMENT b (a?)><!ELEMENT c EMPTY>' >one.dtd
 { printf '<a>'; repeat 20000 '<c/>'; printf '</a>'; } >one.xml
-check "20,000 kids by left recursion" 0 "possible 1" one.dtd a
+expect "20,000 kids by left recursion, in 20 seconds" 0 "possible 1$lf" timeout 20 "$pvtag" check one.dtd a one.xml
 echo "program: $passed passed, $failed failed"
 [ "$failed" -eq 0 ]

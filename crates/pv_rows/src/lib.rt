@@ -8,8 +8,6 @@ mod documents;
 #[cfg(test)]
 mod dtds;
 #[cfg(test)]
-mod edits;
-#[cfg(test)]
 mod fixture;
 #[cfg(test)]
 mod listing;

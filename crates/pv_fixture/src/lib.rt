@@ -1,0 +1,4 @@
+//! What crates of rows share: DTDs and documents, read for a test.
+#![tactic(auto)]
+
+pub mod documents;

@@ -1,0 +1,9 @@
+//! Worked rows of edits: what they make of a document, that they are taken back, and the first reason where one can't be made.
+#![tactic(auto)]
+
+#[cfg(test)]
+mod edits;
+#[cfg(test)]
+mod lines;
+#[cfg(test)]
+mod reasons;
