@@ -25,3 +25,6 @@ pub use membership::member;
 pub use tables::{Entries, Entry, Table, Tables};
 pub use verdict::list_verdict;
 pub use weighing::{Spans, weights};
+
+#[cfg(test)]
+mod tests;
