@@ -80,3 +80,37 @@ fn one_pass_and_tree(rt: HostRuntime) -> Result<(), Fail> {
     }
     Ok(())
 }
+
+const SHORT_DTD: &str = "<!ELEMENT doc (p | e)*>
+<!ELEMENT p (#PCDATA | p)*>
+<!ELEMENT e EMPTY>";
+
+static PIECES: [&str; 9] = [
+    "<p>", "</p>", "<e>", "</e>", "<p/>", "x", " ", "<!--c-->", "&#32;",
+];
+
+// The document of five pieces, by its number.
+fn short_document(alloc: Global, number: u32) -> Result<String, AllocError> {
+    let mut text = String::from_str(alloc, "<doc>")?;
+    let mut left = number;
+    for _ in 0..5 {
+        text.push_str(PIECES[(left % 9) as usize])?;
+        left /= 9;
+    }
+    text.push_str("</doc>")?;
+    Ok(text)
+}
+
+// All sequences of five pieces: what is told of each in one pass is what is told by the tree.
+#[test]
+fn short_documents(rt: HostRuntime) -> Result<(), Fail> {
+    let alloc = rt.alloc();
+    let dtd = read_dtd(alloc, SHORT_DTD.as_bytes()).map_err(|_| "no DTD")?;
+    for number in 0..59_049 {
+        let doc = short_document(alloc, number)?;
+        let in_pass = told(alloc, first_invalid_in(alloc, &dtd, b"doc", doc.as_bytes()))?;
+        let tree = told(alloc, by_tree(alloc, &dtd, doc.as_bytes()))?;
+        assert_eq!(rt; in_pass.as_str(), tree.as_str(), "{doc}");
+    }
+    Ok(())
+}
