@@ -38,7 +38,7 @@ inside-made m path c root (Some (text_node units)) n h = let e = h.elem in absur
 inside-made m path c root (Some (cdata_node bytes)) n h = let e = h.elem in absurd cc
 inside-made m path c root (Some (misc_node bytes)) n h = let e = h.elem in absurd cc
 
-can-made : {M : Type 0} (m : M) (list : List ℕ) (c : Change M) (root : Tree M) → CanChange list c root → (is_top list ≡ true → c.shorten ≡ false) → (ts : List (Tree M)) × Made m list c root ts
+pub can-made : {M : Type 0} (m : M) (list : List ℕ) (c : Change M) (root : Tree M) → CanChange list c root → (is_top list ≡ true → c.shorten ≡ false) → (ts : List (Tree M)) × Made m list c root ts
 can-made m [] c root h u = (root ∷ [], record { owner = owner-of m top; order = h.suits.order; within = h.suits.within; fits = h.suits.fits; one = λ t. h.one; unshort = u })
 can-made m (zero ∷ path) c root h u = inside-made m path c root (node_below path root) refl h
 can-made m (suc i ∷ path) c root h u = absurd h

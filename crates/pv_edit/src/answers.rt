@@ -1,7 +1,11 @@
 //! What those who hold a document answer to an edit.
 
-use crate::reasons::Reason;
-use pv_chars::List;
+ghost use Rattle.std.specs.Prelude.{◌≡◌};
+ghost use Rattle.pv_edit.specs.Refusals.{refusal_of};
+ghost use Rattle.pv_edit.specs.declared.answers.EditAnswer.TheVariants.{NoMemory as no_memory};
+
+use crate::reasons::{EditError, Reason};
+use pv_chars::{List, NoMemory};
 use pv_tree::{Path, Verdict};
 
 /// What an accepted change cost, and what it left.
@@ -24,6 +28,25 @@ pub enum EditAnswer {
     Limit,
     /// There was too little memory.
     NoMemory,
+}
+
+impl From<NoMemory> for EditAnswer {
+    ghost from_gives = { λ _ e. e ≡ no_memory };
+
+    fn from(_: NoMemory) -> EditAnswer {
+        EditAnswer::NoMemory
+    }
+}
+
+impl From<EditError> for EditAnswer {
+    ghost from_gives = { λ error answer. answer ≡ refusal_of error };
+
+    fn from(error: EditError) -> EditAnswer {
+        match error {
+            EditError::Shape(reason) => EditAnswer::Shape(reason),
+            EditError::NoMemory => EditAnswer::NoMemory,
+        }
+    }
 }
 
 /// What is known of one list.

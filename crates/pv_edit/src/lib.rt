@@ -28,6 +28,6 @@ pub use descent::{Change, put_kids, take_kids};
 pub use edits::{Edit, Edits};
 pub use filling::Filling;
 pub use inverses::Inverse;
-pub use plans::{Plan, Task};
+pub use plans::{Plan, Task, kid_path};
 pub use reasons::{EditError, Reason};
 pub use shapes::shape;

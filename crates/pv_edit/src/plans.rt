@@ -108,7 +108,7 @@ pub(crate) fn last_place(path: &[u32]) -> u32
 }
 
 /// The path of a kid.
-pub(crate) fn kid_path(alloc: Global, path: &Path, place: u32) -> Result<Path, NoMemory>
+pub fn kid_path(alloc: Global, path: &Path, place: u32) -> Result<Path, NoMemory>
     ensures { IfOk result (λ p. p ≡ path.now ++ place ∷ []) }
 {
     let mut places = path.places().to_vec(alloc)?;

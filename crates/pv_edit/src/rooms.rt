@@ -50,7 +50,7 @@ fn total(left: usize, more: usize) -> Result<usize, NoMemory>
     left.checked_add(more).ok_or(NoMemory)
 }
 
-// For how many nodes the vector of these kids has room; the document node has none.
+// For how many nodes there surely is room already: as many as there are kids; the document node has no vector.
 fn had_room(list: &[u32], kids: &[Node]) -> usize
     ensures { result ≡ had_at list.now (plain_all kids.now) }
 {
@@ -60,7 +60,7 @@ fn had_room(list: &[u32], kids: &[Node]) -> usize
     }
 }
 
-// A vector for so many nodes, where there isn't room for them: for twice as many, so that a list that grows by and by is seldom moved.
+// A vector for so many nodes, where the list has fewer: for twice as many.
 fn room_beyond(alloc: Global, had: usize, count: usize) -> Result<Vec<Node>, NoMemory>
     ensures empty { IfOk result (λ nodes. nodes.items ≡ []) }
     ensures room { IfOk result (λ nodes. count ≤ max had (vec_capacity nodes)) }

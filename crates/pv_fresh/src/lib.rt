@@ -13,3 +13,4 @@ mod widths;
 
 pub use check::check_doc;
 pub use errors::FreshError;
+pub use owners::{element_owner, root_owner};

@@ -1,0 +1,9 @@
+pub mod Marking
+pub mod Around
+pub mod Telling
+pub mod Owning
+pub mod Docs
+pub mod Levels
+pub mod Unmarked
+pub mod Keeping
+pub mod Joining

@@ -1,0 +1,124 @@
+-- What the marks of a marked tree tell.
+use Rattle.std.proofs.Common.{◌≡◌, ◌∙◌, ap, refl, ℕ, suc, ◌+◌, ◌≤◌, List, [], ◌∷◌, ◌++◌, arith}
+use Rattle.std.specs.List.{AllByRecursion}
+use Rattle.std.proofs.Common.{cond}
+use Rattle.std.proofs.lemmas.List.Sums.{sum_by-cons}
+use Rattle.pv_dtd.specs.Plain.{PlainDtd}
+use Rattle.pv_missing.specs.Verdicts.{AreVerdicts, IsLive, is_possible, possible_in}
+use Rattle.pv_missing.specs.Widths.{IsListForVerdict}
+use Rattle.pv_missing.proofs.VerdictLists.{live_of}
+use Rattle.pv_tree.specs.Lists.{Listed, an_element, lists_at, lists_from, lists_of, the_document}
+use Rattle.pv_tree.specs.Plain.{Forest, PlainDoc, Tree, cdata_node, element, misc_node, no_trees, text_node, tree, nodes_in, nodes_in_all}
+use Rattle.pv_tree.proofs.Every.{all_joined}
+use Rattle.pv_tree.specs.declared.nodes.Mark.{Mark}
+use Rattle.pv_tree.specs.declared.nodes.Verdict.{Verdict}
+use Rattle.pv_tree.specs.declared.nodes.Verdict.TheVariants as verdict
+use Rattle.pv_cache.specs.WellMarked.{EachList, EachListIn, IsWellMarked, TellsList, own_left, told_left, told_left_in, told_nodes, told_nodes_in, told_verdicts, told_verdicts_in, verdicts_told}
+
+module _ (g : PlainDtd) (root : List ℕ) where
+  abbrev mutual
+    -- the nodes of a marked tree
+    pub nodes-told : (t : Tree Mark) → EachList (TellsList g root) t → told_nodes t ≡ nodes_in t
+    nodes-told (element x a e kids m) w = let h = w.0.nodes in let k = all-nodes-told kids w.1 in omega arith
+    nodes-told (text_node us) w = refl
+    nodes-told (cdata_node b) w = refl
+    nodes-told (misc_node b) w = refl
+
+    pub all-nodes-told : (kids : Forest Mark) → EachListIn (TellsList g root) kids → told_nodes_in kids ≡ nodes_in_all kids
+    all-nodes-told no_trees w = refl
+    all-nodes-told (tree t rest) w = let h = nodes-told t w.0 in let k = all-nodes-told rest w.1 in omega arith
+
+  pub own-small : (v : Verdict) → own_left v ≤ 1
+  own-small verdict.Valid = omega arith
+  own-small verdict.Possible = omega arith
+  own-small verdict.Impossible = omega arith
+
+  abbrev mutual
+    -- at most each node has a Possible list
+    pub left-within : (t : Tree Mark) → EachList (TellsList g root) t → told_left t ≤ told_nodes t
+    left-within (element x a e kids m) w = let l = w.0.left in let n = w.0.nodes in let o = own-small m.verdict in let k = all-left-within kids w.1 in omega arith
+    left-within (text_node us) w = omega arith
+    left-within (cdata_node b) w = omega arith
+    left-within (misc_node b) w = omega arith
+
+    pub all-left-within : (kids : Forest Mark) → EachListIn (TellsList g root) kids → told_left_in kids ≤ told_nodes_in kids
+    all-left-within no_trees w = omega arith
+    all-left-within (tree t rest) w = let h = left-within t w.0 in let k = all-left-within rest w.1 in omega arith
+
+  pub joined : (xs ys : List (Listed Mark)) (vs ws : List Verdict) → AreVerdicts g root xs vs → AreVerdicts g root ys ws → AreVerdicts g root (xs ++ ys) (vs ++ ws)
+  joined [] ys vs ws a b = rw a b
+  joined (x ∷ xs) ys vs ws a b = (a.0, a.1 ++ ws, ap (λ l. l ++ ws) a.2, a.3, joined xs ys a.1 ws a.4 b)
+
+  abbrev mutual
+    pub are-told : (path : List ℕ) (t : Tree Mark) → EachList (TellsList g root) t → AreVerdicts g root (lists_at path t) (told_verdicts t)
+    are-told path (element x a e kids m) w = (m.verdict, told_verdicts_in kids, refl, w.0.judged, all-are-told path 0 kids w.1)
+    are-told path (text_node us) w = refl
+    are-told path (cdata_node b) w = refl
+    are-told path (misc_node b) w = refl
+
+    pub all-are-told : (path : List ℕ) (i : ℕ) (kids : Forest Mark) → EachListIn (TellsList g root) kids → AreVerdicts g root (lists_from path i kids) (told_verdicts_in kids)
+    all-are-told path i no_trees w = refl
+    all-are-told path i (tree t rest) w = joined (lists_at (path ++ i ∷ []) t) (lists_from path (suc i) rest) (told_verdicts t) (told_verdicts_in rest) (are-told (path ++ i ∷ []) t w.0) (all-are-told path (suc i) rest w.1)
+
+  is-own : (v : Verdict) → cond (is_possible v) 1 0 ≡ own_left v
+  is-own verdict.Valid = refl
+  is-own verdict.Possible = refl
+  is-own verdict.Impossible = refl
+
+  pub possible-first : (v : Verdict) (vs : List Verdict) → possible_in (v ∷ vs) ≡ own_left v + possible_in vs
+  possible-first v vs = sum_by-cons (λ w. cond (is_possible w) 1 0) v vs ∙ ap (λ n. n + possible_in vs) (is-own v)
+
+  pub possible-joined : (vs ws : List Verdict) → possible_in (vs ++ ws) ≡ possible_in vs + possible_in ws
+  possible-joined [] ws = omega arith
+  possible-joined (v ∷ vs) ws = let a = possible-first v (vs ++ ws) in let b = possible-first v vs in let h = possible-joined vs ws in omega arith
+
+  abbrev mutual
+    pub left-told : (t : Tree Mark) → EachList (TellsList g root) t → told_left t ≡ possible_in (told_verdicts t)
+    left-told (element x a e kids m) w = let l = w.0.left in let p = possible-first m.verdict (told_verdicts_in kids) in let k = all-left-told kids w.1 in omega arith
+    left-told (text_node us) w = refl
+    left-told (cdata_node b) w = refl
+    left-told (misc_node b) w = refl
+
+    pub all-left-told : (kids : Forest Mark) → EachListIn (TellsList g root) kids → told_left_in kids ≡ possible_in (told_verdicts_in kids)
+    all-left-told no_trees w = refl
+    all-left-told (tree t rest) w = let h = left-told t w.0 in let k = all-left-told rest w.1 in let p = possible-joined (told_verdicts t) (told_verdicts_in rest) in omega arith
+
+  abbrev mutual
+    -- no list is impossible
+    pub lists-live : (path : List ℕ) (t : Tree Mark) → EachList (TellsList g root) t → AllByRecursion (IsLive g root) (lists_at path t)
+    lists-live path (element x a e kids m) w = (live_of g root (record { path = path; owner = an_element x; kids = kids }) m.verdict w.0.bearable w.0.judged, all-lists-live path 0 kids w.1)
+    lists-live path (text_node us) w = tt
+    lists-live path (cdata_node b) w = tt
+    lists-live path (misc_node b) w = tt
+
+    pub all-lists-live : (path : List ℕ) (i : ℕ) (kids : Forest Mark) → EachListIn (TellsList g root) kids → AllByRecursion (IsLive g root) (lists_from path i kids)
+    all-lists-live path i no_trees w = tt
+    all-lists-live path i (tree t rest) w = all_joined (IsLive g root) (lists_at (path ++ i ∷ []) t) (lists_from path (suc i) rest) (lists-live (path ++ i ∷ []) t w.0) (all-lists-live path (suc i) rest w.1)
+
+  abbrev mutual
+    -- none is too wide
+    pub lists-narrow : (path : List ℕ) (t : Tree Mark) → EachList (TellsList g root) t → AllByRecursion (IsListForVerdict g) (lists_at path t)
+    lists-narrow path (element x a e kids m) w = (w.0.narrow, all-lists-narrow path 0 kids w.1)
+    lists-narrow path (text_node us) w = tt
+    lists-narrow path (cdata_node b) w = tt
+    lists-narrow path (misc_node b) w = tt
+
+    pub all-lists-narrow : (path : List ℕ) (i : ℕ) (kids : Forest Mark) → EachListIn (TellsList g root) kids → AllByRecursion (IsListForVerdict g) (lists_from path i kids)
+    all-lists-narrow path i no_trees w = tt
+    all-lists-narrow path i (tree t rest) w = all_joined (IsListForVerdict g) (lists_at (path ++ i ∷ []) t) (lists_from path (suc i) rest) (lists-narrow (path ++ i ∷ []) t w.0) (all-lists-narrow path (suc i) rest w.1)
+
+  module _ (doc : PlainDoc Mark) (w : IsWellMarked g root doc) where
+    pub doc-told : AreVerdicts g root (lists_of doc) (verdicts_told doc)
+    doc-told = (doc.mark.verdict, told_verdicts doc.root, refl, w.document.judged, are-told (0 ∷ []) doc.root w.elements)
+
+    pub doc-left : doc.mark.left ≡ possible_in (verdicts_told doc)
+    doc-left = let l = w.document.left in let p = possible-first doc.mark.verdict (told_verdicts doc.root) in let k = left-told doc.root w.elements in omega arith
+
+    pub doc-nodes : doc.mark.nodes ≡ nodes_in doc.root
+    doc-nodes = let n = w.document.nodes in let k = nodes-told doc.root w.elements in omega arith
+
+    pub doc-live : AllByRecursion (IsLive g root) (lists_of doc)
+    doc-live = (live_of g root (record { path = []; owner = the_document; kids = tree doc.root no_trees }) doc.mark.verdict w.document.bearable w.document.judged, lists-live (0 ∷ []) doc.root w.elements)
+
+    pub doc-narrow : AllByRecursion (IsListForVerdict g) (lists_of doc)
+    doc-narrow = (w.document.narrow, lists-narrow (0 ∷ []) doc.root w.elements)

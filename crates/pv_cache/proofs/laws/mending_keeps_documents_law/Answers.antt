@@ -1,0 +1,5 @@
+use Rattle.pv_cache.proofs.Unmarked.{doc-as}
+use Rattle.pv_cache.proofs.laws.mending_keeps_documents_law.Goals as goal
+
+pub returns : goal.returns
+returns c = doc-as

@@ -1,0 +1,25 @@
+use Rattle.std.proofs.Common.{◌∙◌, ap}
+use Rattle.pv_tree.specs.Plain.{without_marks}
+use Rattle.pv_tree.specs.PlainForms.{plain}
+use Rattle.pv_edit.specs.Inverses.{IsKept}
+use Rattle.pv_cache.proofs.Keeping.{doc-kept}
+use Rattle.pv_cache.proofs.Unmarked.{root-as, still-kept}
+use Rattle.pv_cache.proofs.mending.mend_top.Goals as goal
+
+pub invariant_of-doc : goal.invariant_of-doc
+invariant_of-doc c =
+    let m = c.args.mend.now in
+    let doc = c.args.doc.now in
+    let k : IsKept (plain c.mend_root.new.root) = still-kept (plain doc.root) (plain c.mend_root.new.root) (ap without_marks c.mend_root.ensures ∙ root-as m.inner m.stamp (plain doc.root)) (doc-kept doc) in
+    record {
+      rooted = k.rooted;
+      formed = k.formed;
+      shallow = k.shallow;
+      small = k.small;
+      named = k.named;
+      units = k.units;
+      legal = k.legal;
+      no_close_mark = k.no_close_mark;
+      prolog = doc.prolog;
+      epilog = doc.epilog;
+    }

@@ -1,0 +1,125 @@
+-- The words of changed lists, beside the tree.
+use Rattle.std.specs.Prelude.{IfSome, List, MatchOption, None, Some, [], Option, false, length, map, true, ℕ, ◌++◌, ◌∷◌, ◌≡◌}
+use Rattle.std.specs.List.{AllByRecursion, between, list_any}
+use Rattle.pv_cache.specs.Changed.{brings_element}
+use Rattle.pv_cache.specs.declared.words.Came.{Came}
+use Rattle.pv_cache.specs.declared.words.Coming.{Coming}
+use Rattle.pv_cache.specs.declared.words.Coming.TheVariants.{Name, Nodes}
+use Rattle.pv_cache.specs.declared.words.InnerWord.{InnerWord}
+use Rattle.pv_cache.specs.declared.words.ListWord.{ListWord}
+use Rattle.pv_cache.specs.declared.words.Words.{Words}
+use Rattle.pv_missing.specs.Widths.{FitsVerdict}
+use Rattle.pv_dtd.specs.Plain.{PlainDtd}
+use Rattle.pv_edit.specs.Changes.{Change, Filling, around, in_place_of, inner as own_kids, list_after, named, others}
+use Rattle.pv_missing.specs.WordVerdicts.{IsVerdictByWord, has_no_trees}
+use Rattle.pv_model.specs.PlainForms.{plain_token}
+use Rattle.pv_tree.specs.Places.{kids_of}
+use Rattle.pv_tree.specs.Plain.{Ending, Forest, Tree, element, forest_of, is_element}
+use Rattle.pv_tree.specs.PlainForms.{forest, plain_all}
+use Rattle.pv_tree.specs.Words.{word_of}
+use Rattle.pv_tree.specs.declared.nodes.Mark.{Mark}
+use Rattle.pv_tree.specs.declared.nodes.Verdict.{Verdict}
+use Rattle.pv_tree.specs.declared.nodes.Verdict.TheVariants as verdict
+use Rattle.pv_tree.specs.Lists.{an_element}
+use Rattle.pv_rules.specs.Sites.{PlainSite}
+use Rattle.pv_missing.specs.Weighing.{site_of}
+use Rattle.pv_edit.specs.declared.answers.EditAnswer.{EditAnswer}
+use Rattle.pv_edit.specs.declared.answers.EditAnswer.TheVariants.{Impossible, Limit, NoMemory, Shape}
+use Rattle.pv_cache.specs.declared.mending.Inner.{Inner}
+use Rattle.pv_cache.specs.declared.mending.Mend.{Mend}
+
+-- new trees have no kids, and an element among them comes alone
+abbrev pub BringsBare : {M : Type 0} → Filling M → Type 0
+BringsBare (others trees) = AllByRecursion (λ t. kids_of t ≡ []) trees ×
+    (list_any is_element trees ≡ true → length trees ≡ 1)
+BringsBare (around name attrs ending mark) = Unit {0}
+BringsBare own_kids = Unit {0}
+BringsBare (named name) = Unit {0}
+
+-- the word of a list, and whether it has no kids of any kind
+pub record IsWordOf (g : PlainDtd) (kids : Forest Mark) (word : ListWord) : Type 0 where
+  pub tokens : map plain_token word.tokens.items ≡ word_of g kids
+  pub bare : word.is_bare ≡ has_no_trees kids
+
+-- these nodes come, or an element of this name
+abbrev pub IsComing : List (Tree Mark) → Coming → Type 0
+IsComing new (Nodes nodes) = new ≡ plain_all nodes.now
+IsComing new (Name name) = (attrs : List ℕ) × (ending : Ending) × (kids : Forest Mark) × (mark : Mark) ×
+    (new ≡ element name.now attrs ending kids mark ∷ [])
+
+-- the element that came alone, whose list is new or has a new owner's name
+pub record IsCame (filling : Filling Mark) (new : List (Tree Mark)) (came : Came) : Type 0 where
+  pub brought : brings_element filling ≡ true
+  pub attrs : List ℕ
+  pub ending : Ending
+  pub mark : Mark
+  pub is_one : new ≡ element came.name.now attrs ending (forest came.kids.now) mark ∷ []
+
+-- the word of the list of the element that came alone
+pub record IsInnerWord (g : PlainDtd) (filling : Filling Mark) (new : List (Tree Mark)) (inner : InnerWord) : Type 0 where
+  pub brought : brings_element filling ≡ true
+  pub attrs : List ℕ
+  pub ending : Ending
+  pub kids : Forest Mark
+  pub mark : Mark
+  pub is_one : new ≡ element inner.name.now attrs ending kids mark ∷ []
+  pub word : IsWordOf g kids inner.word
+
+-- The words of the lists that a change of these kids changes.
+pub record AreWords (g : PlainDtd) (c : Change Mark) (kids : List (Tree Mark)) (words : Words) : Type 0 where
+  pub outer : IsWordOf g (forest_of (list_after c kids)) words.outer
+  pub inner : MatchOption words.inner (brings_element c.filling ≡ false)
+      (IsInnerWord g c.filling (in_place_of c.filling (between c.from c.to kids)))
+
+-- none of them is too wide for a verdict
+pub record AreNarrow (g : PlainDtd) (words : Words) : Type 0 where
+  pub outer : FitsVerdict g (length words.outer.tokens.items)
+  pub inner : IfSome words.inner (λ inner. FitsVerdict g (length inner.word.tokens.items))
+
+-- a verdict found by a word
+abbrev pub IsFound : PlainDtd → Option PlainSite → ListWord → Verdict → Type 0
+IsFound g site word v = IsVerdictByWord g site (map plain_token word.tokens.items) word.is_bare v
+
+-- A list, of an owner with this site and of this word, is borne: its verdict isn't Impossible.
+pub record IsBorne (g : PlainDtd) (site : Option PlainSite) (word : ListWord) (v : Verdict) : Type 0 where
+  pub found : IsFound g site word v
+  pub bearable : v ≡ verdict.Impossible → ⊥
+
+-- the site of an element's list
+abbrev pub inner_site : PlainDtd → InnerWord → Option PlainSite
+inner_site g inner = site_of g [] (an_element inner.name.now)
+
+-- the verdict of the inner list, where there is one
+abbrev pub IsInnerBorne : PlainDtd → ℕ → Option InnerWord → Option Inner → Type 0
+IsInnerBorne g from None None = Unit {0}
+IsInnerBorne g from None (Some v) = ⊥
+IsInnerBorne g from (Some inner) None = ⊥
+IsInnerBorne g from (Some inner) (Some i) = (i.place ≡ from) × IsBorne g (inner_site g inner) inner.word i.verdict
+
+-- the verdicts of lists of these words
+pub record AreBorne (g : PlainDtd) (site : Option PlainSite) (from : ℕ) (words : Words) (mend : Mend) : Type 0 where
+  pub outer : IsBorne g site words.outer mend.verdict
+  pub inner : IsInnerBorne g from words.inner mend.inner
+
+-- the outer list is impossible
+abbrev pub IsUnborneOuter : PlainDtd → Option PlainSite → List ℕ → Words → EditAnswer → Type 0
+IsUnborneOuter g site list words (Shape reason) = ⊥
+IsUnborneOuter g site list words (Impossible path) =
+    IsFound g site words.outer verdict.Impossible × (path ≡ list)
+IsUnborneOuter g site list words Limit = ⊥
+IsUnborneOuter g site list words NoMemory = Unit {0}
+
+-- the inner list is impossible
+abbrev pub IsUnborneInner : PlainDtd → List ℕ → ℕ → Words → EditAnswer → Type 0
+IsUnborneInner g list from words (Shape reason) = ⊥
+IsUnborneInner g list from words (Impossible path) = (i : InnerWord) × (words.inner ≡ Some i) ×
+    IsFound g (inner_site g i) i.word verdict.Impossible × (path ≡ list ++ from ∷ [])
+IsUnborneInner g list from words Limit = ⊥
+IsUnborneInner g list from words NoMemory = Unit {0}
+
+-- Why a change isn't accepted: a list is too wide; or the outer list is impossible; or it isn't, and the inner one is.
+pub data IsRefusedBy (g : PlainDtd) (site : Option PlainSite) (list : List ℕ) (from : ℕ) (words : Words) (answer : EditAnswer) : Type 0 where
+  is_wide : (AreNarrow g words → ⊥) → answer ≡ Limit → IsRefusedBy g site list from words answer
+  outer_is : AreNarrow g words → IsUnborneOuter g site list words answer → IsRefusedBy g site list from words answer
+  inner_is : (v : Verdict) → AreNarrow g words → IsBorne g site words.outer v → IsUnborneInner g list from words answer →
+      IsRefusedBy g site list from words answer

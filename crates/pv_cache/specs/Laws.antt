@@ -1,0 +1,41 @@
+-- What holds of well marked documents.
+use Rattle.std.specs.Prelude.{List, Option, true, false, ℕ, ◌≡◌}
+use Rattle.std.specs.List.{AllByRecursion}
+use Rattle.pv_cache.specs.Changed.{AreJudged, owner_at}
+use Rattle.pv_cache.specs.Judging.{BringsBare}
+use Rattle.pv_cache.specs.Mending.{mended_doc}
+use Rattle.pv_cache.specs.WellMarked.{IsWellMarked, verdicts_told}
+use Rattle.pv_cache.specs.declared.mending.Inner.{Inner}
+use Rattle.pv_dtd.specs.Plain.{PlainDtd}
+use Rattle.pv_edit.specs.Changes.{Change, doc_after}
+use Rattle.pv_edit.specs.Fitting.{CanChange}
+use Rattle.pv_edit.specs.Reasons.{is_top, kids_at}
+use Rattle.pv_missing.specs.Verdicts.{AreVerdicts, IsLive, possible_in}
+use Rattle.pv_missing.specs.Widths.{IsListForVerdict}
+use Rattle.pv_tree.specs.Lists.{lists_of}
+use Rattle.pv_tree.specs.Marks.{unmarked_doc}
+use Rattle.pv_tree.specs.Plain.{PlainDoc, nodes_in}
+use Rattle.pv_tree.specs.declared.nodes.Mark.{Mark}
+use Rattle.pv_tree.specs.declared.nodes.Verdict.{Verdict}
+
+-- The marks of a well marked document tell the verdicts of its lists, in document order; its own mark tells how many of them are
+-- Possible, and how many nodes there are. No list is impossible, and none too wide.
+abbrev pub MarksTell : Type 0
+MarksTell = (g : PlainDtd) (root : List ℕ) (doc : PlainDoc Mark) → IsWellMarked g root doc →
+    AreVerdicts g root (lists_of doc) (verdicts_told doc) ×
+    (doc.mark.left ≡ possible_in (verdicts_told doc)) × (doc.mark.nodes ≡ nodes_in doc.root) ×
+    AllByRecursion (IsLive g root) (lists_of doc) × AllByRecursion (IsListForVerdict g) (lists_of doc)
+
+-- A well marked document, of which a list is changed so that the changed lists have these verdicts, is well marked once its marks are
+-- mended.
+abbrev pub MendedIsMarked : Type 0
+MendedIsMarked = (g : PlainDtd) (root : List ℕ) (doc : PlainDoc Mark) (c : Change Mark) (v : Verdict)
+    (i : Option Inner) (stamp : ℕ) → IsWellMarked g root doc → CanChange c.list c doc.root →
+    (is_top c.list ≡ true → c.shorten ≡ false) → BringsBare c.filling →
+    AreJudged g root (owner_at c.list doc.root) (kids_at c.list doc.root) c v i →
+    IsWellMarked g root (mended_doc c.list v i stamp (doc_after c doc))
+
+-- a mended document is the same document
+abbrev pub MendingKeepsDocuments : Type 0
+MendingKeepsDocuments = (path : List ℕ) (v : Verdict) (i : Option Inner) (stamp : ℕ) (doc : PlainDoc Mark) →
+    unmarked_doc (mended_doc path v i stamp doc) ≡ unmarked_doc doc

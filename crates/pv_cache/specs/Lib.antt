@@ -1,0 +1,5 @@
+pub mod WellMarked
+pub mod Mending
+pub mod Changed
+pub mod Judging
+pub mod Laws

@@ -1,0 +1,140 @@
+-- Marks mended where a list has changed, and above it.
+use Rattle.std.specs.Prelude.{IfSome, IsSomeAnd, IsTrue, List, [], Option, Some, None, slice_get, ℕ, ◌+◌, ◌-◌, ◌<◌, ◌≤◌, ◌^◌, ◌∷◌}
+use Rattle.pv_cache.specs.WellMarked.{own_left, own_node, told_left, told_left_in, told_nodes, told_nodes_in}
+use Rattle.pv_edit.specs.Changes.{change_kid}
+use Rattle.pv_tree.specs.Lists.{Owner, an_element, the_document}
+use Rattle.pv_tree.specs.Places.{kids_of}
+use Rattle.pv_tree.specs.Plain.{Forest, PlainDoc, Tree, cdata_node, element, is_element, misc_node, no_trees, text_node, tree, trees_of}
+use Rattle.pv_tree.specs.declared.nodes.Mark.{Mark}
+use Rattle.pv_tree.specs.declared.nodes.Verdict.{Verdict}
+use Rattle.pv_cache.specs.declared.mending.Inner.{Inner}
+use Rattle.pv_cache.specs.declared.told.Told.{Told}
+
+-- the mark of a list of this verdict that was changed by the move of this number
+abbrev pub fresh_mark : Owner → Forest Mark → Verdict → ℕ → Mark
+fresh_mark owner kids v stamp = record {
+  verdict = v;
+  stamp = stamp;
+  left = own_left v + told_left_in kids;
+  nodes = own_node owner + told_nodes_in kids;
+}
+
+-- an element whose own list has changed
+abbrev pub mended : Verdict → ℕ → Tree Mark → Tree Mark
+mended v stamp (element x attrs ending kids mark) =
+    element x attrs ending kids (fresh_mark (an_element x) kids v stamp)
+mended v stamp (text_node units) = text_node units
+mended v stamp (cdata_node bytes) = cdata_node bytes
+mended v stamp (misc_node bytes) = misc_node bytes
+
+-- the kids of a changed list, of which one may have a changed list too
+abbrev pub mended_kids : Option Inner → ℕ → Forest Mark → Forest Mark
+mended_kids None stamp kids = kids
+mended_kids (Some inner) stamp kids = change_kid (mended inner.verdict stamp) inner.place kids
+
+-- the owner of a changed list
+abbrev pub mended_owner : Verdict → Option Inner → ℕ → Tree Mark → Tree Mark
+mended_owner v inner stamp (element x attrs ending kids mark) =
+    mended v stamp (element x attrs ending (mended_kids inner stamp kids) mark)
+mended_owner v inner stamp (text_node units) = text_node units
+mended_owner v inner stamp (cdata_node bytes) = cdata_node bytes
+mended_owner v inner stamp (misc_node bytes) = misc_node bytes
+
+-- an element with a kid whose own list has changed
+abbrev pub with_mended_kid : Inner → ℕ → Tree Mark → Tree Mark
+with_mended_kid inner stamp (element x attrs ending kids mark) =
+    element x attrs ending (change_kid (mended inner.verdict stamp) inner.place kids) mark
+with_mended_kid inner stamp (text_node units) = text_node units
+with_mended_kid inner stamp (cdata_node bytes) = cdata_node bytes
+with_mended_kid inner stamp (misc_node bytes) = misc_node bytes
+
+-- the mark of a list whose kids tell other numbers than before
+abbrev pub retold : Forest Mark → Forest Mark → Mark → Mark
+retold before after mark = record mark {
+  left = mark.left + told_left_in after - told_left_in before;
+  nodes = mark.nodes + told_nodes_in after - told_nodes_in before;
+}
+
+-- an element, one of whose kids tells other numbers than before
+abbrev pub with_kid : (Tree Mark → Tree Mark) → ℕ → Tree Mark → Tree Mark
+with_kid f i (element x attrs ending kids mark) =
+    element x attrs ending (change_kid f i kids) (retold kids (change_kid f i kids) mark)
+with_kid f i (text_node units) = text_node units
+with_kid f i (cdata_node bytes) = cdata_node bytes
+with_kid f i (misc_node bytes) = misc_node bytes
+
+-- a tree, mended at a path and above
+abbrev pub mended_below : List ℕ → (Tree Mark → Tree Mark) → Tree Mark → Tree Mark
+mended_below [] f t = f t
+mended_below (i ∷ path) f t = with_kid (mended_below path f) i t
+
+-- the root, where its own list has changed
+abbrev pub mended_root : Option Inner → ℕ → Tree Mark → Tree Mark
+mended_root None stamp t = t
+mended_root (Some inner) stamp t = mended inner.verdict stamp t
+
+-- The document has this root, and its own mark tells of it.
+abbrev pub with_root : Tree Mark → Mark → PlainDoc Mark → PlainDoc Mark
+with_root t mark doc = record { before = doc.before; root = t; after = doc.after; mark = mark }
+
+-- a document, mended at the list at a path and above
+abbrev pub mended_doc : List ℕ → Verdict → Option Inner → ℕ → PlainDoc Mark → PlainDoc Mark
+mended_doc [] v inner stamp doc =
+    with_root (mended_root inner stamp doc.root)
+    (fresh_mark the_document (tree (mended_root inner stamp doc.root) no_trees) v stamp) doc
+mended_doc (i ∷ path) v inner stamp doc =
+    with_root (mended_below path (mended_owner v inner stamp) doc.root)
+    (retold (tree doc.root no_trees)
+    (tree (mended_below path (mended_owner v inner stamp) doc.root) no_trees) doc.mark) doc
+
+-- an element stands at this place of a list
+abbrev pub HasElement : List (Tree Mark) → ℕ → Type 0
+HasElement kids i = IsSomeAnd (slice_get kids i) (λ t. IsTrue (is_element t))
+
+-- The marks on the way to a list tell no less than those of their kids, so that they can be told again. An element stands where the
+-- list has an inner one.
+abbrev pub CanMend : Option Inner → List ℕ → Tree Mark → Type 0
+CanMend inner [] t = IsTrue (is_element t) × IfSome inner (λ i. HasElement (kids_of t) i.place)
+CanMend inner (i ∷ path) (element x attrs ending kids mark) =
+    (told_left_in kids ≤ mark.left) × (told_nodes_in kids ≤ mark.nodes) ×
+    IsSomeAnd (slice_get (trees_of kids) i) (CanMend inner path)
+CanMend inner (i ∷ path) (text_node units) = ⊥
+CanMend inner (i ∷ path) (cdata_node bytes) = ⊥
+CanMend inner (i ∷ path) (misc_node bytes) = ⊥
+
+-- an element, of which another number is told
+abbrev pub with_told : Told → Told → Tree Mark → Tree Mark
+with_told before after (element x attrs ending kids mark) =
+    element x attrs ending kids (record mark {
+      left = mark.left - before.left + after.left;
+      nodes = mark.nodes - before.nodes + after.nodes;
+    })
+with_told before after (text_node units) = text_node units
+with_told before after (cdata_node bytes) = cdata_node bytes
+with_told before after (misc_node bytes) = misc_node bytes
+
+-- of which at least so much is told
+abbrev pub TellsAtLeast : Told → Tree Mark → Type 0
+TellsAtLeast told t = (told.left ≤ told_left t) × (told.nodes ≤ told_nodes t)
+
+-- what is told of a tree can be counted
+pub record IsCounted (t : Tree Mark) : Type 0 where
+  pub left : told_left t < 2 ^ 64
+  pub nodes : told_nodes t < 2 ^ 64
+
+-- what is told of a kid, once it is mended, can be counted
+abbrev pub KidIsCounted : Inner → ℕ → Tree Mark → Type 0
+KidIsCounted inner stamp t =
+    IsSomeAnd (slice_get (kids_of t) inner.place) (λ k. IsCounted (mended inner.verdict stamp k))
+
+-- the same of a document
+abbrev pub CanMendDoc : Option Inner → List ℕ → PlainDoc Mark → Type 0
+CanMendDoc inner [] doc = Unit {0}
+CanMendDoc inner (i ∷ path) doc =
+    (told_left doc.root ≤ doc.mark.left) × (told_nodes doc.root ≤ doc.mark.nodes) ×
+    CanMend inner path doc.root
+
+-- what the mark of a document tells can be counted
+pub record IsDocCounted (doc : PlainDoc Mark) : Type 0 where
+  pub left : doc.mark.left < 2 ^ 64
+  pub nodes : doc.mark.nodes < 2 ^ 64

@@ -1,0 +1,19 @@
+//! Laws of well marked documents.
+
+ghost use Rattle.pv_cache.specs.Laws.{MarksTell, MendedIsMarked, MendingKeepsDocuments};
+
+/// The marks of a well marked document tell the verdicts of all its lists, how many are Possible, and how many nodes there are. No list is
+/// impossible or too wide.
+pub fn marks_tell_law()
+    ensures { MarksTell }
+{}
+
+/// A well marked document is well marked after a change too, once its marks are mended.
+pub fn mended_law()
+    ensures { MendedIsMarked }
+{}
+
+/// Mending changes marks alone.
+pub fn mending_keeps_documents_law()
+    ensures { MendingKeepsDocuments }
+{}

@@ -1,0 +1,157 @@
+//! Marks mended where a list has changed, and above it.
+
+ghost use Rattle.std.specs.Prelude.{◌≡◌, ◌∷◌, [], ◌<◌, ◌^◌, IfSome, IsTrue, length};
+ghost use Rattle.pv_tree.specs.Plain.{is_element};
+ghost use Rattle.pv_tree.specs.Places.{kids_of};
+ghost use Rattle.pv_tree.specs.PlainDocs.{plain_doc};
+ghost use Rattle.pv_tree.specs.PlainForms.{plain};
+ghost use Rattle.pv_cache.specs.Mending.{CanMend, CanMendDoc, HasElement, IsCounted, IsDocCounted, KidIsCounted, TellsAtLeast, mended, mended_below, mended_doc, mended_owner, mended_root, with_mended_kid, with_told};
+
+use crate::told::{Told, own_left, told_in, told_of};
+use pv_edit::{put_kids, take_kids};
+use pv_tree::{Doc, Mark, Node, Verdict};
+use std::alloc::Global;
+
+/// The verdict of an element's list, among the kids of a changed list.
+#[derive(Clone, Copy, Debug)]
+pub struct Inner {
+    pub place: usize,
+    pub verdict: Verdict,
+}
+
+/// The verdicts of the lists that a move changes, and its number.
+#[derive(Clone, Copy, Debug)]
+pub struct Mend {
+    pub verdict: Verdict,
+    pub inner: Option<Inner>,
+    pub stamp: u64,
+}
+
+/// Marks an element whose list has changed.
+pub(crate) fn mend_element(node: &mut Node, verdict: Verdict, stamp: u64)
+    requires elem { IsTrue (is_element (plain node.old)) }
+    requires counted { IsCounted (mended verdict stamp (plain node.old)) }
+    ensures { plain node.new ≡ mended verdict stamp (plain node.old) }
+{
+    let Node::Elem { kids, mark, .. } = node else {
+        unreachable!()
+    };
+    let told = told_in(kids);
+    *mark = Mark {
+        verdict,
+        stamp,
+        left: own_left(verdict) + told.left,
+        nodes: 1 + told.nodes,
+    };
+}
+
+/// Marks the owner of a changed list, wherever it stands, and tells the marks above it again.
+pub fn mend_doc(alloc: Global, doc: &mut Doc, list: &[u32], mend: &Mend)
+    requires can { CanMendDoc mend.now.inner list.now (plain_doc doc.old) }
+    requires counted { IsDocCounted (mended_doc list.now mend.now.verdict mend.now.inner mend.now.stamp (plain_doc doc.old)) }
+    ensures { plain_doc doc.new ≡ mended_doc list.now mend.now.verdict mend.now.inner mend.now.stamp (plain_doc doc.old) }
+{
+    match list {
+        [] => mend_top(doc, mend),
+        [_, below @ ..] => mend_inside(alloc, doc, below, mend),
+    }
+}
+
+// Marks the document node, whose list has changed, and the root, whose list may have changed too.
+fn mend_top(doc: &mut Doc, mend: &Mend)
+    requires { IsDocCounted (mended_doc [] mend.now.verdict mend.now.inner mend.now.stamp (plain_doc doc.old)) }
+    ensures { plain_doc doc.new ≡ mended_doc [] mend.now.verdict mend.now.inner mend.now.stamp (plain_doc doc.old) }
+{
+    mend_root(&mut doc.root, mend);
+    let told = told_of(&doc.root);
+    doc.mark = Mark {
+        verdict: mend.verdict,
+        stamp: mend.stamp,
+        left: own_left(mend.verdict) + told.left,
+        nodes: told.nodes,
+    };
+}
+
+// Marks the root, where its list has changed.
+fn mend_root(root: &mut Node, mend: &Mend)
+    requires elem { IsTrue (is_element (plain root.old)) }
+    requires counted { IsCounted (mended_root mend.now.inner mend.now.stamp (plain root.old)) }
+    ensures { plain root.new ≡ mended_root mend.now.inner mend.now.stamp (plain root.old) }
+{
+    if let Some(inner) = mend.inner {
+        mend_element(root, inner.verdict, mend.stamp)
+    }
+}
+
+// Marks the owner of a changed list below the root.
+fn mend_inside(alloc: Global, doc: &mut Doc, below: &[u32], mend: &Mend)
+    requires can { CanMendDoc mend.now.inner (0 ∷ below.now) (plain_doc doc.old) }
+    requires counted { IsDocCounted (mended_doc (0 ∷ below.now) mend.now.verdict mend.now.inner mend.now.stamp (plain_doc doc.old)) }
+    ensures { plain_doc doc.new ≡ mended_doc (0 ∷ below.now) mend.now.verdict mend.now.inner mend.now.stamp (plain_doc doc.old) }
+{
+    let before = told_of(&doc.root);
+    mend_below(alloc, &mut doc.root, below, mend);
+    let after = told_of(&doc.root);
+    doc.mark.left = doc.mark.left - before.left + after.left;
+    doc.mark.nodes = doc.mark.nodes - before.nodes + after.nodes;
+}
+
+/// Marks the owner of a changed list, and the element in it whose list has changed too.
+pub(crate) fn mend_owner(alloc: Global, node: &mut Node, mend: &Mend)
+    requires elem { IsTrue (is_element (plain node.old)) }
+    requires within { IfSome mend.now.inner (λ inner. HasElement (kids_of (plain node.old)) inner.place) }
+    requires counted { IsCounted (mended_owner mend.now.verdict mend.now.inner mend.now.stamp (plain node.old)) }
+    ensures { plain node.new ≡ mended_owner mend.now.verdict mend.now.inner mend.now.stamp (plain node.old) }
+{
+    match mend.inner {
+        None => mend_element(node, mend.verdict, mend.stamp),
+        Some(inner) => {
+            mend_kid(alloc, node, inner, mend.stamp);
+            mend_element(node, mend.verdict, mend.stamp)
+        }
+    }
+}
+
+// Marks an element's kid whose list has changed.
+fn mend_kid(alloc: Global, node: &mut Node, inner: Inner, stamp: u64)
+    requires elem { IsTrue (is_element (plain node.old)) }
+    requires within { HasElement (kids_of (plain node.old)) inner.place }
+    requires counted { KidIsCounted inner stamp (plain node.old) }
+    ensures { plain node.new ≡ with_mended_kid inner stamp (plain node.old) }
+{
+    let mut kids = take_kids(alloc, node);
+    mend_element(&mut kids[inner.place], inner.verdict, stamp);
+    put_kids(alloc, node, kids);
+}
+
+/// Marks the owner of a changed list below a node, and tells the marks above it again.
+pub(crate) fn mend_below(alloc: Global, node: &mut Node, path: &[u32], mend: &Mend)
+    requires can { CanMend mend.now.inner path.now (plain node.old) }
+    requires counted { IsCounted (mended_below path.now (mended_owner mend.now.verdict mend.now.inner mend.now.stamp) (plain node.old)) }
+    ensures { plain node.new ≡ mended_below path.now (mended_owner mend.now.verdict mend.now.inner mend.now.stamp) (plain node.old) }
+{
+    match path {
+        [] => mend_owner(alloc, node, mend),
+        [first, rest @ ..] => {
+            let mut kids = take_kids(alloc, node);
+            let kid = &mut kids[*first as usize];
+            let before = told_of(kid);
+            mend_below(alloc, kid, rest, mend);
+            let after = told_of(kid);
+            put_kids(alloc, node, kids);
+            tell_again(node, before, after);
+        }
+    }
+}
+
+// Tells the mark of an element again, a kid of which told `before` and tells `after`.
+fn tell_again(node: &mut Node, before: Told, after: Told)
+    requires at_least { TellsAtLeast before (plain node.old) }
+    requires counted { IsCounted (with_told before after (plain node.old)) }
+    ensures { plain node.new ≡ with_told before after (plain node.old) }
+{
+    if let Node::Elem { mark, .. } = node {
+        mark.left = mark.left - before.left + after.left;
+        mark.nodes = mark.nodes - before.nodes + after.nodes;
+    }
+}
