@@ -1,8 +1,8 @@
 #!/usr/bin/env bash
 # All tests: `rt ci` proves every crate, tries the must-fail edits and runs the crates' tests and programs; then the built program is
-# tried on the machine's files, edits are tried with each allocation failing in turn, where a C compiler is installed, and the program is
-# compared with a search that inserts elements and with xmllint, where Python and xmllint are installed. The last line tells how many
-# passed.
+# tried on the machine's files, edits and sessions are tried with each allocation failing in turn, where a C compiler is installed, and the
+# program is compared with a search that inserts elements, with a model of a session and with xmllint, where Python and xmllint are
+# installed. The last line tells how many passed.
 set -u
 cd "$(dirname "$0")/.." || exit 1
 log=$(mktemp)
@@ -69,6 +69,8 @@ count "$log"
 check 900 tests/program.sh
 skip "edits without memory" cc || check 300 tests/edits_without_memory.sh
 skip "the comparison with insertions" python3 || check 300 python3 tests/against_insertions.py crates/pvtag/out/pvtag 850 1
+skip "the comparison with a model" python3 || check 300 python3 tests/against_a_model.py crates/pvtag/out/pvtag 8000 1
+skip "the failing allocations" python3 cc || check 300 python3 tests/failing_allocations.py crates/pvtag/out/pvtag 5000
 skip "the comparison with xmllint" python3 xmllint || check 300 python3 tests/against_xmllint.py crates/pvtag/out/pvtag 200 1 120
 skip "the comparison of broken documents" python3 xmllint || check 300 python3 tests/broken_documents.py crates/pvtag/out/pvtag 2000 1
 finish

@@ -129,5 +129,64 @@ check "513 elements in one another" 8 "limit depth 512" a.dtd em
 printf '<!ELEMENT a (b, c?)><!ELEMENT b (a?)><!ELEMENT c EMPTY>' >one.dtd
 { printf '<a>'; repeat 20000 '<c/>'; printf '</a>'; } >one.xml
 expect "20,000 kids by left recursion, in 20 seconds" 0 "possible 1$lf" timeout 20 "$pvtag" check one.dtd a one.xml
+
+# Sessions. session NAME REPLIES DTD ROOT DOCUMENT LINE..: what is answered to these lines
+session() {
+    local name=$1 replies=$2 dtd=$3 root=$4
+    printf '%s' "$5" >one.xml
+    shift 5
+    printf '%s\n' "$@" >script.txt
+    expect "$name" 0 "$replies$lf" bash -c '"$0" session "$1" "$2" one.xml <script.txt' "$pvtag" "$dtd" "$root"
+}
+# lines LINE..: lines with an LF between
+lines() { local IFS=$lf; printf '%s' "$*"; }
+hello='<doc>Hello</doc>'
+"$pvtag" session "$top/examples/article.dtd" doc "$top/examples/draft.xml" <"$top/examples/markup.txt" | tail -n +7 | head -n 2 >marked.xml
+expect "a draft that was marked up" 0 "valid$lf" "$pvtag" valid a.dtd doc marked.xml
+printf '<doc><sec/><head/></doc>' >one.xml
+printf 'show\n' >script.txt
+expect "an impossible document" 1 "impossible 0$lf" bash -c '"$0" session a.dtd doc one.xml <script.txt' "$pvtag"
+expect "its input is left alone" 0 "impossible 0${lf}show$lf" bash -c '("$0" session a.dtd doc one.xml; cat) <script.txt' "$pvtag"
+session "a refused edit" "$(lines 'no impossible 0.0' 'show 16' "$hello" 'history 0')" a.dtd doc "$hello" 'wrap 0 0 1 br' show history
+session "undo and redo" "$(lines 'ok 2 1' 'ok 2 1' 'no history' 'ok 2 1' 'no history')" a.dtd doc '<doc><p>a</p></doc>' \
+    'rename 0.0 head' undo undo redo redo
+session "a head" "$(lines 'ok 1 1' 'ok 2 1' 'show 29' '<doc><head>He</head>llo</doc>' 'history 2' 'split 0.0 2' 'wrap 0 0 1 head')" \
+    a.dtd doc "$hello" 'split 0.0 2' 'wrap 0 0 1 head' show history
+session "not yet valid" "$(lines 'no shape range' 'ok 2 1' 'ok 2 1' 'show 30' '<doc><head/>Hello<p></p></doc>')" a.dtd doc "$hello" \
+    'wrap 0 2 5 p' 'wrap 0 1 1 p' 'insert 0 0 head' show
+session "shapes" "$(lines 'no shape close-mark' 'no shape not-element' 'no shape root-shape' 'no shape no-node' 'no shape root-shape' 'no shape bad-name')" \
+    a.dtd doc '<doc><head/><sec><p><em>]]</em>></p></sec></doc>' 'unwrap 0.1.0.0' 'unwrap .' 'unwrap 0' 'unwrap 9' 'insert . 0 doc' 'rename 0.1 1x'
+session "texts" "$(lines 'ok 1 1' 'ok 1 1' 'ok 1 1' 'no shape bad-text' 'ok 1 1' 'show 11' '<doc></doc>' 'ok 1 1' 'show 23' '<doc>Hi &amp; bye</doc>')" \
+    a.dtd doc "$hello" 'addtext 0 1 , you' 'join 0.0' 'text 0.0 Hi &amp; bye' 'text 0.0 a&nbsp;' 'deltext 0.0' show undo show
+session "the parent of a renamed element" "$(lines 'no impossible 0' 'show 24' '<doc><head/><sec/></doc>')" a.dtd doc '<doc><head/><sec/></doc>' \
+    'rename 0.1 head' show
+session "history" "$(lines 'ok 2 1' 'no impossible 0.0.0' 'no shape range' 'ok 2 1' 'history 2' 'wrap 0 0 1 p' 'wrap 0 0 1 sec' 'ok 1 1' 'history 1' \
+    'wrap 0 0 1 p' 'ok 2 1' 'history 2' 'wrap 0 0 1 p' 'wrap 0 0 1 sec')" a.dtd doc "$hello" \
+    'wrap 0 0 1 p' 'wrap 0.0 0 1 br' 'wrap 0 0 9 p' 'wrap 0 0 1 sec' history undo history redo history
+session "a new edit drops what was undone" "$(lines 'ok 2 1' 'ok 1 1' 'ok 2 1' 'no history' 'history 1' 'wrap 0 0 1 head')" a.dtd doc "$hello" \
+    'wrap 0 0 1 p' undo 'wrap 0 0 1 head' redo history
+session "a refused edit keeps what was undone" "$(lines 'ok 2 1' 'ok 1 1' 'no impossible 0.0' 'ok 2 1' 'history 1' 'wrap 0 0 1 p')" a.dtd doc "$hello" \
+    'wrap 0 0 1 p' undo 'wrap 0 0 1 br' redo history
+session "numbers and paths" "$(lines 'no shape range' 'no command' 'no command' 'no command' 'no shape no-node' 'no command' 'no command' 'no command' \
+    'no command' 'no command' 'no command' 'no shape no-node' 'no command')" a.dtd doc "$hello" \
+    'split 0.0 4294967295' 'split 0.0 4294967296' 'split 0.0 01' 'split 0.0 +1' 'split 0.4294967295 1' 'split 0.4294967296 1' 'split 00.0 1' \
+    'split 0..1 1' 'split .0 1' 'split 0. 1' 'split  1' 'insert 4294967295 0 p' 'insert 0 00 p'
+session "paths of the document node" "$(lines 'no shape not-text' 'no shape not-text' 'no shape not-element' 'no shape root-shape' 'no shape root-shape' 'no shape root-shape')" \
+    a.dtd doc "$hello" 'split . 1' 'deltext .' 'rename . doc' 'wrap . 0 0 doc' 'addtext . 0 x' 'insert . 1 doc'
+session "empty names and texts" "$(lines 'no shape bad-name' 'no shape bad-name' 'no shape bad-name' 'no shape bad-text' 'no shape bad-text' \
+    'no command' 'no command' 'no command' 'no command' 'no command')" a.dtd doc "$hello" \
+    'wrap 0 0 1 ' 'insert 0 0 ' 'rename 0 ' 'text 0.0 ' 'addtext 0 0 ' 'wrap 0 0 1' 'insert 0 0' 'rename 0' 'text 0.0' 'addtext 0 0'
+session "blanks in names and texts" "$(lines 'no shape bad-name' 'no shape bad-name' 'no shape bad-name' 'ok 1 1' 'show 14' '<doc> a </doc>')" a.dtd doc "$hello" \
+    'wrap 0 0 1  p' 'wrap 0 0 1 p ' 'insert 0 0 p p' 'text 0.0  a ' show
+forms=('wrap' 'wrap  0 0 1 p' 'wrap 0  0 1 p' 'wrap 0 0  1 p' ' wrap 0 0 1 p' 'wrap0 0 1 p' 'wrap 0 01 p' 'Wrap 0 0 1 p' 'insert' 'insert  0 0 p' 'insert 0  0 p'
+    'insert 00 p' 'unwrap' 'unwrap ' 'unwrap  0' 'unwrap 0 ' 'unwrap 0 0' 'unwrap0' 'rename' 'rename  0 p' 'rename0 p' 'split' 'split 0.0' 'split  0.0 2'
+    'split 0.0  2' 'split 0.0 2 ' 'split 0.0 2 2' 'join' 'join ' 'join  0.0' 'join 0.0 ' 'join0.0' 'text' 'text ' 'text  0.0 x' 'addtext' 'addtext  0 0 x'
+    'addtext 0  0 x' 'deltext' 'deltext ' 'deltext  0.0' 'deltext 0.0 ' 'undo ' ' undo' 'undo 1' 'redo ' 'redo 1' 'history ' 'history 1' 'show ' 'show 1'
+    'quit ' ' quit' 'quit 1' 'Quit' 'need' 'complete' 'verdicts' '')
+session "lines that are no commands" "$(printf 'no command\n%.0s' "${forms[@]}")" a.dtd doc "$hello" "${forms[@]}"
+session "1,055 sections" 'ok 2 0' a.dtd doc "<doc><head/>$(repeat 1055 '<sec/>')</doc>" 'insert 0 1 sec'
+session "512 elements in one another" 'no shape deep' a.dtd em "$(repeat 512 '<em>')$(repeat 512 '</em>')" 'wrap . 0 1 em'
+{ printf '<!ELEMENT r (#PCDATA'; seq -f '|a%g' 4000 | tr -d '\n'; printf ')*><!ELEMENT a1 EMPTY>'; } >wide.dtd
+session "an edit past the width" "$(lines 'no limit' 'history 0')" wide.dtd r "<r>$(repeat 8386 'x<!---->')</r>" 'addtext 0 0 y' history
 echo "program: $passed passed, $failed failed"
 [ "$failed" -eq 0 ]

@@ -4,15 +4,16 @@ use Rattle.pv_cli.specs.declared.status.Status.TheVariants.{Done}
 use Rattle.pv_cli.specs.declared.stop.Stop.{Stop}
 use Rattle.pv_cli.specs.declared.stop.Stop.TheVariants.{Refused, ShelfFault, InputFault, NoMemory}
 use Rattle.pv_cli.specs.Program.{CountsShelf, CountsInput, status_of, ending_of}
+use Rattle.pv_session.specs.Sessions.{PlainSession}
 use Rattle.pv_cli.specs.Response.{PlainResponse, plain_response}
-use Rattle.pv_cli.specs.Session.{State, EndsSession, too_long, failed, without_room}
+use Rattle.pv_cli.specs.Session.{EndsSession, too_long, failed, without_room}
 use Rattle.pv_cli.specs.Turns.{StopsScript, StopCountsInput}
 
-pub stop_answers : (doc : State) (script : List ℕ) (stop : Stop) → StopsScript script stop → EndsSession doc script [] (ending_of (Err stop))
-stop_answers doc script (Refused r) stops = too_long (plain_response r) stops refl
-stop_answers doc script ShelfFault stops = absurd stops
-stop_answers doc script InputFault stops = failed stops refl
-stop_answers doc script NoMemory stops = without_room refl
+pub stop_answers : (session : PlainSession) (script : List ℕ) (stop : Stop) → StopsScript script stop → EndsSession session script [] (ending_of (Err stop))
+stop_answers session script (Refused r) stops = too_long (plain_response r) stops refl
+stop_answers session script ShelfFault stops = absurd stops
+stop_answers session script InputFault stops = failed stops refl
+stop_answers session script NoMemory stops = without_room refl
 
 pub stop_leaves_shelf : (script : List ℕ) (count : ℕ) (stop : Stop) → StopsScript script stop → CountsShelf (ending_of (Err stop)) count count
 stop_leaves_shelf script count (Refused r) stops = refl

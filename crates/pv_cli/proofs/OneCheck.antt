@@ -92,3 +92,10 @@ one_possibility root g doc same a b e (is_impossible path all v f is) (is_too_wi
 one_possibility root g doc same a b e (is_impossible path all v f is) (is_possible m every w l are) = absurd (v (subst (IsPotentiallyValid g root) (sym (same_view doc same e)) w))
 one_possibility root g doc same a b e (is_impossible path all v f is) (is_impossible other every w h are) =
     is ∙ ap (λ p. with_line Negative (codes "impossible " ++ path_text p)) (one_path (IsLive g root) (IsLive g root) (live_to g root) (live_from g root) doc same path other e f h) ∙ sym are
+
+-- a document that can be made valid, and no list of which is too wide, isn't told to be another
+pub denied : (root : List ℕ) (g : PlainDtd) (doc same : PlainDoc Mark) (r : PlainResponse) → unmarked_doc doc ≡ unmarked_doc same → AllByRecursion (IsListForVerdict g) (lists_of doc) →
+    IsPotentiallyValid g root (view doc.root) → TellsPossibility root g same r → (r.status ≡ Done → ⊥) → ⊥
+denied root g doc same r e all v (is_too_wide path f is) not_done = not_wide g doc same path e all f
+denied root g doc same r e all v (is_possible n every w k is) not_done = not_done (ap (λ (p : PlainResponse). p.status) is)
+denied root g doc same r e all v (is_impossible path every w f is) not_done = w (subst (IsPotentiallyValid g root) (same_view doc same e) v)

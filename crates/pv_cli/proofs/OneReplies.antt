@@ -1,42 +1,75 @@
 -- Lines have the same replies where there was no memory for the same of them.
-use Rattle.std.proofs.Common.{◌≡◌, ℕ, suc, List, [], ◌∷◌, ◌++◌, Some, sym, ap, ◌∙◌}
-use Rattle.pv_script.specs.Commands.{SpellsCommand}
+use Rattle.std.proofs.Common.{◌≡◌, ℕ, suc, List, [], ◌∷◌, ◌++◌, sym, ap, ◌∙◌, subst}
+use Rattle.pv_script.specs.Commands.{IsNoCommand, SpellsCommand}
+use Rattle.pv_script.specs.Laws.{OneCommand}
 use Rattle.pv_script.specs.Replies.{reply_bytes}
-use Rattle.pv_script.specs.declared.commands.Command.TheVariants as command
+use Rattle.pv_script.specs.declared.commands.Command.{Command}
+use Rattle.pv_script.specs.declared.commands.Command.TheVariants.{Edit, Undo, Redo, History, Show, Quit}
 use Rattle.pv_script.specs.declared.replies.Reply.{Reply}
-use Rattle.pv_script.specs.declared.replies.Reply.TheVariants as reply
-use Rattle.pv_script.proofs.Spelling.{one-command}
-use Rattle.pv_write.specs.Text.{doc_text}
-use Rattle.pv_cli.specs.Session.{State, RepliesTo, unknown, shown, Place, Replies, no_lines, without_memory, answered, ended}
+use Rattle.pv_script.specs.declared.replies.Reply.TheVariants.{NoMemory}
+use Rattle.pv_session.specs.Laws.{StepsHaveOneAnswer}
+use Rattle.pv_session.specs.Sessions.{PlainSession}
+use Rattle.pv_session.specs.Steps.{PlainAnswer, IsEditStep, IsUndoStep, IsRedoStep}
+use Rattle.pv_cli.specs.Session.{RepliesBy, RepliesByStep, RepliesTo, unknown, known, reply_to, Place, Replies, no_lines, without_memory, answered, ended}
+use Rattle.pv_cli.specs.Laws.{HasOneReply, HasOneOutput}
 
--- what a line does to two states of the same text
-one_reply : (state other : State) (line : List ℕ) (answer also : Reply) (after later : State) → doc_text state ≡ doc_text other → RepliesTo state line answer after → RepliesTo other line also later →
-    (answer ≡ also) × (doc_text after ≡ doc_text later)
-one_reply state other line answer also after later same (unknown none stays_open is stays) (unknown never goes_on are keeps) =
-    (is ∙ sym are, ap doc_text stays ∙ same ∙ ap doc_text (sym keeps))
-one_reply state other line answer also after later same (unknown none stays_open is stays) (shown some are keeps) = absurd (none some)
-one_reply state other line answer also after later same (shown some is stays) (unknown none stays_open are keeps) = absurd (none some)
-one_reply state other line answer also after later same (shown some is stays) (shown more are keeps) =
-    (is ∙ ap reply.Show same ∙ sym are, ap doc_text stays ∙ same ∙ ap doc_text (sym keeps))
+-- a line spells one command, and each move of a session has one answer
+pub record AnswersOnce : Type 0 where
+  pub commands : OneCommand
+  pub steps : StepsHaveOneAnswer
 
-no_quit : (state : State) (line : List ℕ) (answer : Reply) (after : State) → RepliesTo state line answer after → SpellsCommand line command.Quit → ⊥
-no_quit state line answer after (unknown none stays_open is stays) ends = stays_open ends
-no_quit state line answer after (shown some is stays) ends = let same = one-command line command.Show command.Quit some ends in cc
+by_step : (IsStep : PlainAnswer → PlainSession → Type 0) → ((s t : PlainSession) (a b : PlainAnswer) → IsStep a s → IsStep b t → (a ≡ b) × (s ≡ t)) →
+    (told also : Reply) (after later : PlainSession) → RepliesByStep IsStep told after → RepliesByStep IsStep also later →
+    (told ≡ also) × (after ≡ later)
+by_step IsStep one told also after later here there =
+    let same = one after later here.0 there.0 here.1 there.1 in
+    (here.2 ∙ ap reply_to same.0 ∙ sym there.2, same.1)
 
-pub one_replies : (silent : List ℕ) (number : ℕ) (state other : State) (lines : List (List ℕ)) (out also : List ℕ) (place spot : Place) → doc_text state ≡ doc_text other →
-    Replies silent number state lines out place → Replies silent number other lines also spot → out ≡ also
-one_replies silent number state other [] out also place spot same (no_lines e at) (no_lines f on) = e ∙ sym f
-one_replies silent number state other (line ∷ lines) out also place spot same (without_memory is r e) (without_memory are s f) =
-    e ∙ ap (λ rest. reply_bytes reply.NoMemory ++ rest) (one_replies silent (suc number) state other lines _ _ place spot same r s) ∙ sym f
-one_replies silent number state other (line ∷ lines) out also place spot same (without_memory is r e) (answered p a s f) = cc
-one_replies silent number state other (line ∷ lines) out also place spot same (without_memory is r e) (ended p ends f at) = cc
-one_replies silent number state other (line ∷ lines) out also place spot same (answered p a r e) (without_memory is s f) = cc
-one_replies silent number state other (line ∷ lines) out also place spot same (answered p a r e) (answered q b s f) =
-    let here = one_reply state other line _ _ _ _ same a b in
-    let below = one_replies silent (suc number) _ _ lines _ _ place spot here.1 r s in
+one_by : AnswersOnce → (session : PlainSession) (command : Command) (told also : Reply) (after later : PlainSession) →
+    RepliesBy session command told after → RepliesBy session command also later → (told ≡ also) × (after ≡ later)
+one_by once session (Edit e) told also after later here there =
+    by_step (λ answer later. IsEditStep session e answer later) (once.steps.edit e session) told also after later here there
+one_by once session Undo told also after later here there =
+    by_step (λ answer later. IsUndoStep session answer later) (once.steps.undo session) told also after later here there
+one_by once session Redo told also after later here there =
+    by_step (λ answer later. IsRedoStep session answer later) (once.steps.redo session) told also after later here there
+one_by once session History told also after later here there = (here.0 ∙ sym there.0, here.1 ∙ sym there.1)
+one_by once session Show told also after later here there = (here.0 ∙ sym there.0, here.1 ∙ sym there.1)
+one_by once session Quit told also after later here there = absurd here
+
+pub one_reply : AnswersOnce → HasOneReply
+one_reply once session line told also after later (unknown none is stays) (unknown never are keeps) = (is ∙ sym are, stays ∙ sym keeps)
+one_reply once session line told also after later (unknown none is stays) (known command spells by) = absurd (none command spells)
+one_reply once session line told also after later (known command spells by) (unknown none are keeps) = absurd (none command spells)
+one_reply once session line told also after later (known command spells by) (known other reads of) =
+    let same = once.commands line command other spells reads in
+    one_by once session command told also after later by (subst (λ (c : Command). RepliesBy session c also later) (sym same) of)
+
+no_quit : AnswersOnce → (session : PlainSession) (line : List ℕ) (told : Reply) (after : PlainSession) → RepliesTo session line told after →
+    SpellsCommand line Quit → ⊥
+no_quit once session line told after (unknown none is stays) ends = none Quit ends
+no_quit once session line told after (known command spells by) ends =
+    subst (λ (c : Command). RepliesBy session c told after) (once.commands line command Quit spells ends) by
+
+pub one_replies : AnswersOnce → HasOneOutput
+one_replies once silent number session [] out also place spot (no_lines e at) (no_lines f on) = (e ∙ sym f, at ∙ sym on)
+one_replies once silent number session (line ∷ lines) out also place spot (without_memory is r e) (without_memory are s f) =
+    let below = one_replies once silent (suc number) session lines _ _ place spot r s in
+    (e ∙ ap (λ rest. reply_bytes NoMemory ++ rest) below.0 ∙ sym f, below.1)
+one_replies once silent number session (line ∷ lines) out also place spot (without_memory is r e) (answered p a s f) = cc
+one_replies once silent number session (line ∷ lines) out also place spot (without_memory is r e) (ended p ends f at) = cc
+one_replies once silent number session (line ∷ lines) out also place spot (answered p a r e) (without_memory is s f) = cc
+one_replies once silent number session (line ∷ lines) out also place spot (answered {after = after} {told = told} {rest = rest} p a r e)
+    (answered {after = later} {told = other} {rest = more} q b s f) =
+    let here = one_reply once session line told other after later a b in
+    let same = subst (λ (m : PlainSession). Replies silent (suc number) m lines more spot) (sym here.1) s in
+    let below = one_replies once silent (suc number) after lines rest more place spot r same in
     let first = here.0 in
-    cc
-one_replies silent number state other (line ∷ lines) out also place spot same (answered p a r e) (ended q ends f at) = absurd (no_quit state line _ _ a ends)
-one_replies silent number state other (line ∷ lines) out also place spot same (ended p ends e at) (without_memory is s f) = cc
-one_replies silent number state other (line ∷ lines) out also place spot same (ended p ends e at) (answered q b s f) = absurd (no_quit other line _ _ b ends)
-one_replies silent number state other (line ∷ lines) out also place spot same (ended p ends e at) (ended q also_ends f on) = e ∙ sym f
+    let behind = below.0 in
+    (cc, below.1)
+one_replies once silent number session (line ∷ lines) out also place spot (answered p a r e) (ended q ends f at) =
+    absurd (no_quit once session line _ _ a ends)
+one_replies once silent number session (line ∷ lines) out also place spot (ended p ends e at) (without_memory is s f) = cc
+one_replies once silent number session (line ∷ lines) out also place spot (ended p ends e at) (answered q b s f) =
+    absurd (no_quit once session line _ _ b ends)
+one_replies once silent number session (line ∷ lines) out also place spot (ended p ends e at) (ended q also_ends f on) = (e ∙ sym f, at ∙ sym on)

@@ -1,5 +1,5 @@
 -- What `check DTD ROOT DOC` responds.
-use Rattle.std.specs.Prelude.{◌≡◌, ℕ, zero, suc, List, ◌++◌, codes, decimal}
+use Rattle.std.specs.Prelude.{◌≡◌, ℕ, zero, suc, List, ◌++◌, codes, decimal, IsNone}
 use Rattle.std.specs.List.{AllByRecursion}
 use Rattle.pv_dtd.specs.Plain.{PlainDtd}
 use Rattle.pv_tree.specs.Lists.{lists_of}
@@ -7,7 +7,7 @@ use Rattle.pv_tree.specs.Plain.{PlainDoc}
 use Rattle.pv_tree.specs.View.{view}
 use Rattle.pv_tree.specs.declared.nodes.Mark.{Mark}
 use Rattle.pv_missing.specs.Completing.{IsPotentiallyValid}
-use Rattle.pv_missing.specs.Verdicts.{HavePossible, IsFirstImpossible}
+use Rattle.pv_missing.specs.Verdicts.{HavePossible, HaveVerdicts, IsFirstImpossible, PlainVerdicts}
 use Rattle.pv_missing.specs.Widths.{IsFirstTooWide, IsListForVerdict}
 use Rattle.pv_cli.specs.declared.status.Status.TheVariants.{Done, Limit, Negative}
 use Rattle.pv_cli.specs.Course.{Course}
@@ -33,6 +33,20 @@ pub data TellsPossibility (root : List ℕ) (g : PlainDtd) (doc : PlainDoc Mark)
   is_impossible : (path : List ℕ) → AllByRecursion (IsListForVerdict g) (lists_of doc) →
       (IsPotentiallyValid g root (view doc.root) → ⊥) → IsFirstImpossible g root (lists_of doc) path →
       r ≡ with_line Negative (codes "impossible " ++ path_text path) → TellsPossibility root g doc r
+
+-- what it responds where a list is too wide, or no insertions can make the document valid
+pub record DeniesPossibility (root : List ℕ) (g : PlainDtd) (doc : PlainDoc Mark) (r : PlainResponse)
+    : Type 0 where
+  pub tells : TellsPossibility root g doc r
+  pub not_done : r.status ≡ Done → ⊥
+
+-- Else these are the verdicts of its lists.
+pub record HasPossibility (root : List ℕ) (g : PlainDtd) (doc : PlainDoc Mark) (vs : PlainVerdicts)
+    : Type 0 where
+  pub narrow : AllByRecursion (IsListForVerdict g) (lists_of doc)
+  pub possible : IsPotentiallyValid g root (view doc.root)
+  pub verdicts : HaveVerdicts g root (lists_of doc) vs
+  pub none_impossible : IsNone vs.first
 
 abbrev pub IsCheckCourse : List ℕ → Files → Course → Type 0
 IsCheckCourse root files course = Behind (opening_stage root files)

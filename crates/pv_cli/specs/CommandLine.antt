@@ -41,7 +41,7 @@ checks_lists None = false
 checks_lists (Some (listing dtd)) = false
 checks_lists (Some (valid dtd root doc)) = false
 checks_lists (Some (check dtd root doc)) = true
-checks_lists (Some (session dtd root doc)) = false
+checks_lists (Some (session dtd root doc)) = true
 
 abbrev pub plain_command_line : CommandLine → PlainCommandLine
 plain_command_line (Listing name) = listing name.now

@@ -2,7 +2,8 @@
 use Rattle.std.specs.Prelude.{◌≡◌, ◌⊎◌, ℕ, List, ◌++◌, Option}
 use Rattle.std.specs.Io.KnownBytes.{Appends}
 use Rattle.pv_io.specs.Causes.{CountStays, Rose}
-use Rattle.pv_write.specs.Text.{doc_text}
+use Rattle.pv_script.specs.declared.replies.Reply.{Reply}
+use Rattle.pv_session.specs.Sessions.{PlainSession}
 use Rattle.pv_cli.specs.declared.status.Status.{Status}
 use Rattle.pv_cli.specs.declared.status.Status.TheVariants.{ReadFault, WriteFault, NoMemory}
 use Rattle.pv_cli.specs.CommandLine.{PlainCommandLine}
@@ -10,24 +11,29 @@ use Rattle.pv_cli.specs.Course.{Course, responds}
 use Rattle.pv_cli.specs.Opening.{Files}
 use Rattle.pv_cli.specs.Program.{IsDefined, Devices, Runs}
 use Rattle.pv_cli.specs.Response.{PlainResponse}
-use Rattle.pv_cli.specs.Session.{State, Place, at_line, at_quit, Replies}
+use Rattle.pv_cli.specs.Session.{Place, at_line, at_quit, Replies, RepliesTo}
 
 -- the replies to a piece of a script, and then those to the lines behind it, are the replies to both
 abbrev pub JoinsReplies : Type 0
-JoinsReplies = (silent : List ℕ) (number next : ℕ) (state middle : State) (lines more : List (List ℕ)) (out rest : List ℕ) (place : Place) →
-    Replies silent number state lines out (at_line next middle) → Replies silent next middle more rest place →
-    Replies silent number state (lines ++ more) (out ++ rest) place
+JoinsReplies = (silent : List ℕ) (number next : ℕ) (session middle : PlainSession) (lines more : List (List ℕ)) (out rest : List ℕ) (place : Place) →
+    Replies silent number session lines out (at_line next middle) → Replies silent next middle more rest place →
+    Replies silent number session (lines ++ more) (out ++ rest) place
 
 -- lines behind a `quit` have no reply
 abbrev pub EndsAtQuit : Type 0
-EndsAtQuit = (silent : List ℕ) (number : ℕ) (state : State) (lines more : List (List ℕ)) (out : List ℕ) →
-    Replies silent number state lines out at_quit → Replies silent number state (lines ++ more) out at_quit
+EndsAtQuit = (silent : List ℕ) (number : ℕ) (session : PlainSession) (lines more : List (List ℕ)) (out : List ℕ) →
+    Replies silent number session lines out at_quit → Replies silent number session (lines ++ more) out at_quit
 
--- Lines have one output, counted from any number and begun in any state, where there was no memory for the same of them. Two states of one
--- text, which differ in marks at most, give the same.
+-- a line has one reply in a session, and one session behind it
+abbrev pub HasOneReply : Type 0
+HasOneReply = (session : PlainSession) (line : List ℕ) (reply also : Reply) (after later : PlainSession) →
+    RepliesTo session line reply after → RepliesTo session line also later → (reply ≡ also) × (after ≡ later)
+
+-- lines have one output and lead to one place, counted from any number and begun in any session, where there was no memory for the same
+-- of them
 abbrev pub HasOneOutput : Type 0
-HasOneOutput = (silent : List ℕ) (number : ℕ) (state other : State) (lines : List (List ℕ)) (out also : List ℕ) (place spot : Place) →
-    doc_text state ≡ doc_text other → Replies silent number state lines out place → Replies silent number other lines also spot → out ≡ also
+HasOneOutput = (silent : List ℕ) (number : ℕ) (session : PlainSession) (lines : List (List ℕ)) (out also : List ℕ) (place spot : Place) →
+    Replies silent number session lines out place → Replies silent number session lines also spot → (out ≡ also) × (place ≡ spot)
 
 -- over given files, and where what was taken from the input and the lines that there was no memory for are given, a command has one
 -- response

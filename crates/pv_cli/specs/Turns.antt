@@ -5,29 +5,32 @@ use Rattle.std.specs.declared.alloc.Global.{Global}
 use Rattle.pv_io.specs.Causes.{CountStays, Rose}
 use Rattle.pv_script.specs.Commands.{SpellsCommand}
 use Rattle.pv_script.specs.Replies.{reply_bytes}
+use Rattle.pv_script.specs.declared.commands.Command.{Command}
 use Rattle.pv_script.specs.declared.commands.Command.TheVariants as command
 use Rattle.pv_script.specs.declared.replies.Reply.{Reply}
-use Rattle.pv_script.specs.declared.replies.Reply.TheVariants as reply
-use Rattle.pv_write.specs.Text.{doc_text}
+use Rattle.pv_session.specs.Sessions.{PlainSession}
 use Rattle.pv_cli.specs.declared.stop.Stop.{Stop}
 use Rattle.pv_cli.specs.declared.stop.Stop.TheVariants.{Refused, ShelfFault, InputFault, NoMemory}
-use Rattle.pv_cli.specs.Session.{State, RepliesTo, Place, Replies, MAX_SCRIPT_BYTES, IsScriptRefusal}
+use Rattle.pv_cli.specs.Session.{RepliesBy, RepliesTo, Place, Replies, MAX_SCRIPT_BYTES, IsScriptRefusal}
 use Rattle.pv_cli.specs.Response.{plain_response}
 
-abbrev pub IsShownAs : State → List ℕ → Type 0
-IsShownAs state text = text ≡ reply_bytes (reply.Show (doc_text state))
+-- the text of the reply to a line and the session behind it, or the end, which leaves the session
+abbrev pub IsTurn : PlainSession → List ℕ → PlainSession → Option (Vec ℕ Global) → Type 0
+IsTurn before line after None = SpellsCommand line command.Quit × (after ≡ before)
+IsTurn before line after (Some text) =
+    (told : Reply) × RepliesTo before line told after × (text.items ≡ reply_bytes told)
 
--- the text of a reply that leaves the state, or the end
-abbrev pub IsTurn : State → List ℕ → Option (Vec ℕ Global) → Type 0
-IsTurn state line None = SpellsCommand line command.Quit
-IsTurn state line (Some text) = (answer : Reply) × RepliesTo state line answer state × (text.items ≡ reply_bytes answer)
+-- the text of the reply to a command
+abbrev pub IsReplyBy : PlainSession → Command → PlainSession → List ℕ → Type 0
+IsReplyBy before command after text =
+    (told : Reply) × RepliesBy before command told after × (text ≡ reply_bytes told)
 
 -- there are replies to all of these lines, which were written like this
-pub record HasReplies (doc : State) (lines : List (List ℕ)) (AreWritten : List ℕ → Type 0) : Type 0 where
+pub record HasReplies (session : PlainSession) (lines : List (List ℕ)) (AreWritten : List ℕ → Type 0) : Type 0 where
   pub silent : List ℕ
   pub out : List ℕ
   pub place : Place
-  pub replies : Replies silent 1 doc lines out place
+  pub replies : Replies silent 1 session lines out place
   pub written : AreWritten out
 
 -- a script of at most so many bytes, to the end of the input

@@ -11,11 +11,11 @@ ghost use Rattle.pv_productive.specs.PlainForms.{dtd_of};
 ghost use Rattle.pv_tree.specs.PlainDocs.{plain_doc};
 
 use crate::command_line::Named;
-use crate::opening::{Opened, open, refuse_path};
+use crate::opening::{Opened, open};
+use crate::possibility::possible_verdicts;
 use crate::response::Response;
 use crate::status::Status;
 use crate::stop::Stop;
-use pv_fresh::{FreshError, check_doc};
 use pv_io::Shelf;
 use pv_productive::{Grammar, build};
 use pv_steps::Steps;
@@ -34,7 +34,7 @@ fn possible(alloc: Global, left: u64) -> Result<Response, AllocError>
     }
 }
 
-// Whether inserting elements can make the document valid.
+// The number of Possible lists, where inserting elements can make the document valid.
 fn tell<L: Ledger>(
     alloc: Global,
     grammar: &Grammar,
@@ -44,24 +44,8 @@ fn tell<L: Ledger>(
 ) -> Result<Response, Stop>
     ensures { TellsBy (TellsPossibility root.now (dtd_of grammar.now) (plain_doc doc.now)) result }
 {
-    match check_doc(alloc, grammar, root, doc, steps) {
-        Ok(verdicts) => match verdicts.first_impossible() {
-            None => Ok(possible(alloc, verdicts.left())?),
-            Some(path) => Ok(Response::with_path(
-                alloc,
-                Status::Negative,
-                b"impossible ",
-                path.places(),
-            )?),
-        },
-        Err(FreshError::TooWide(path)) => Err(refuse_path(
-            alloc,
-            Status::Limit,
-            b"limit width ",
-            path.places(),
-        )),
-        Err(FreshError::NoMemory) => Err(Stop::NoMemory),
-    }
+    let verdicts = possible_verdicts(alloc, grammar, doc, root, steps)?;
+    Ok(possible(alloc, verdicts.left())?)
 }
 
 /// Whether inserting elements can make a document valid for a DTD.

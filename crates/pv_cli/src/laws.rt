@@ -1,12 +1,13 @@
 //! Laws on what the program does. Their functions do nothing.
 
-ghost use Rattle.pv_cli.specs.Laws.{HasOneResponse, IsComplete, FaultsShow, HasOneOutput, JoinsReplies, EndsAtQuit};
+ghost use Rattle.pv_cli.specs.Laws.{HasOneResponse, IsComplete, FaultsShow, HasOneReply, HasOneOutput, JoinsReplies, EndsAtQuit};
 
 use pv_dtd::laws::one_meaning_law;
 use pv_io::Source;
 use pv_read::laws::{meant_law, one_document_law, one_meaning_law as one_document_meaning_law};
+use pv_script::laws::one_command_law;
+use pv_session::laws::one_answer_law;
 use pv_tree::laws::valid_lists_law;
-use pv_write::laws::spelled_is_written_law;
 
 /// Over given files a command has one response, and `session` one for each script and each set of lines that there was no memory for.
 pub fn one_response_law()
@@ -17,7 +18,8 @@ pub fn one_response_law()
     meant_law();
     one_document_law();
     valid_lists_law();
-    spelled_is_written_law();
+    one_command_law();
+    one_answer_law();
 }
 
 /// Where no device failed, the defined response was written, or there was no memory.
@@ -30,9 +32,13 @@ pub fn faults_law<S: Source>()
     ensures { FaultsShow S }
 {}
 
-/// The replies to a script are determined, and are those to its pieces.
+/// The replies to a script are determined, line by line, and are those to its pieces.
 pub fn replies_law()
+    ensures reply { HasOneReply }
     ensures one { HasOneOutput }
     ensures joined { JoinsReplies }
     ensures ended { EndsAtQuit }
-{}
+{
+    one_command_law();
+    one_answer_law();
+}

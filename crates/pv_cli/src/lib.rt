@@ -8,12 +8,14 @@ mod command_line;
 pub mod laws;
 mod listing;
 mod opening;
+mod possibility;
 mod program;
 mod respond;
 mod response;
 mod session;
 mod status;
 mod stop;
+mod turns;
 mod valid;
 
 pub use program::pvtag;

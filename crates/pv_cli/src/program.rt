@@ -31,7 +31,7 @@ fn usage(alloc: Global) -> Result<Response, Stop>
 
 /// All that the program does: the words are those after its name.
 ///
-/// The shelf's names are the words but number 0 and number 2, counted from 0. `steps` counts the verdicts that `check` finds; other commands leave it.
+/// The shelf's names are the words but number 0 and number 2, counted from 0. `steps` counts the verdicts that `check` and `session` find; other commands leave it.
 pub fn pvtag<H: Shelf, S: Source, K: Sink, L: Ledger>(
     _rt: &(impl Threads + Sync),
     alloc: Global,
@@ -59,7 +59,7 @@ pub fn pvtag<H: Shelf, S: Source, K: Sink, L: Ledger>(
     match command_line_of(words) {
         Some(CommandLine::Valid(named)) => respond(out, valid(alloc, shelf, &named)),
         Some(CommandLine::Check(named)) => respond(out, check(alloc, shelf, &named, steps)),
-        Some(CommandLine::Session(named)) => session(alloc, shelf, &named, input, out),
+        Some(CommandLine::Session(named)) => session(alloc, shelf, &named, input, out, steps),
         Some(CommandLine::Listing(name)) => respond(out, listing(alloc, shelf, name)),
         None => respond(out, usage(alloc)),
     }

@@ -1,29 +1,36 @@
 //! The command `session`.
 
-ghost use Rattle.std.specs.Prelude.{◌≡◌, List, ℕ, Option, Some, OnOk, OnErr, IfOk, IsSomeAnd, vec_len};
+ghost use Rattle.std.specs.Prelude.{◌≡◌, ◌≤◌, List, ℕ, Option, Some, OnOk, OnErr, IfOk, vec_len};
 ghost use Rattle.std.specs.Io.KnownBytes.{Appends};
 ghost use Rattle.pv_cli.specs.CommandLine.{AreNamed, session};
 ghost use Rattle.pv_cli.specs.Course.{Course};
+ghost use Rattle.pv_cli.specs.Opening.{Files, IsFile};
 ghost use Rattle.pv_cli.specs.Program.{devices, Runs, Shows};
-ghost use Rattle.pv_cli.specs.Session.{Converses};
-ghost use Rattle.pv_cli.specs.Turns.{HasReplies, IsTurn, IsShownAs, TakesScript, InputCounts};
+ghost use Rattle.pv_cli.specs.Session.{Converses, guarding_stage, session_stage};
+ghost use Rattle.pv_cli.specs.Stage.{Returns, ShelfCounts};
+ghost use Rattle.pv_cli.specs.Turns.{HasReplies, TakesScript, InputCounts};
+ghost use Rattle.pv_dtd.specs.PlainForms.{plain_dtd};
 ghost use Rattle.pv_io.specs.Causes.{CountsFault, AppendsFront};
 ghost use Rattle.pv_script.specs.Lines.{lines_of};
-ghost use Rattle.pv_script.specs.Replies.{reply_bytes};
-ghost use Rattle.pv_script.specs.declared.replies.Reply.TheVariants as reply;
+ghost use Rattle.pv_session.specs.Accepting.{MAX_EDITED_NODES};
+ghost use Rattle.pv_tree.specs.Plain.{nodes_in};
 ghost use Rattle.pv_tree.specs.PlainDocs.{plain_doc};
 
 use crate::command_line::Named;
-use crate::opening::{open, refuse};
+use crate::opening::{Opened, open, refuse};
+use crate::possibility::possible_verdicts;
 use crate::respond::respond;
 use crate::status::Status;
 use crate::stop::Stop;
-use pv_chars::{Bytes, NoMemory};
+use crate::turns::turn;
+use pv_chars::{NoMemory, bytes_of};
 use pv_io::{Failed, Shelf, Sink, Source, write_all};
-use pv_script::{Command, CommandError, Reply, next_line, read_command, reply_text};
-use pv_tree::Doc;
-use pv_write::doc_bytes;
+use pv_productive::build;
+use pv_script::next_line;
+use pv_session::Session;
+use pv_steps::Steps;
 use std::alloc::{AllocError, Global};
+use std::sync::ledger::Ledger;
 
 /// The most bytes of a script.
 const MAX_SCRIPT_BYTES: usize = 1_048_576;
@@ -59,48 +66,60 @@ fn read_script<S: Source>(alloc: Global, input: &mut S) -> Result<Vec<u8>, Stop>
     }
 }
 
-// The reply to `show`.
-fn show(alloc: Global, doc: &Doc) -> Result<Vec<u8>, NoMemory>
-    ensures { IfOk result (λ text. IsShownAs (plain_doc doc.now) text.items) }
+// Begins a session on these files, where inserting elements can make the document valid.
+fn begin<L: Ledger>(
+    alloc: Global,
+    opened: Opened,
+    root: &[u8],
+    steps: &mut Steps<L>,
+) -> Result<Session, Stop>
+    requires { nodes_in (plain_doc opened.doc).root ≤ MAX_EDITED_NODES }
+    ensures { Returns (λ s. s) (guarding_stage root.now (plain_dtd opened.dtd)
+        (plain_doc opened.doc)) result }
 {
-    let reply = Reply::Show(Bytes::of(doc_bytes(alloc, doc)?));
-    reply_text(alloc, &reply)
+    let Opened { dtd, doc } = opened;
+    let grammar = build(alloc, dtd)?;
+    let verdicts = possible_verdicts(alloc, &grammar, &doc, root, steps)?;
+    let root = bytes_of(alloc, root)?;
+    Ok(Session::begin(alloc, grammar, root, doc, verdicts)?)
 }
 
-// The reply to a line that asks for nothing that is answered.
-fn no_command(alloc: Global) -> Result<Option<Vec<u8>>, NoMemory>
-    ensures { IfOk result (λ turn. IsSomeAnd turn (λ text. text.items ≡ reply_bytes reply.NoCommand)) }
+// Opens the files, and begins a session on them.
+fn open_session<H: Shelf, L: Ledger>(
+    alloc: Global,
+    shelf: &mut H,
+    named: &Named<'_>,
+    steps: &mut Steps<L>,
+) -> Result<Session, Stop>
+    requires { AreNamed (H.names shelf.old) named.now }
+    ensures files_read { (files : Files) × IsFile (H.files shelf.old) named.now.dtd.now files.dtd
+        × IsFile (H.files shelf.old) named.now.doc.now files.doc
+        × Returns (λ s. s) (session_stage named.now.root.now files) result }
+    ensures counts { ShelfCounts (H.faults shelf.old) (H.faults shelf.new) result }
+    ensures names { H.names shelf.new ≡ H.names shelf.old }
+    ensures files { H.files shelf.new ≡ H.files shelf.old }
 {
-    Ok(Some(reply_text(alloc, &Reply::NoCommand)?))
-}
-
-// The reply to a line, or none where it ends the session.
-fn turn(alloc: Global, doc: &Doc, line: &[u8]) -> Result<Option<Vec<u8>>, NoMemory>
-    ensures { IfOk result (IsTurn (plain_doc doc.now) line.now) }
-{
-    match read_command(alloc, line) {
-        Ok(Command::Show) => Ok(Some(show(alloc, doc)?)),
-        Ok(Command::Quit) => Ok(None),
-        Ok(Command::Edit(_)) => no_command(alloc),
-        Ok(Command::Undo) => no_command(alloc),
-        Ok(Command::Redo) => no_command(alloc),
-        Ok(Command::History) => no_command(alloc),
-        Err(CommandError::Unknown) => no_command(alloc),
-        Err(CommandError::NoMemory) => Err(NoMemory),
-    }
+    let opened = open(alloc, shelf, named.dtd, named.root, named.doc)?;
+    begin(alloc, opened, named.root, steps)
 }
 
 // Answers the lines of a script in order, up to the first `quit`. A line that there is no memory for answers so, and changes nothing.
-fn answer_lines<K: Sink>(alloc: Global, doc: &Doc, script: &[u8], out: &mut K) -> Result<(), Failed>
-    ensures ok { OnOk result (HasReplies (plain_doc doc.now) (lines_of script.now)
+fn answer_lines<K: Sink, L: Ledger>(
+    alloc: Global,
+    session: &mut Session,
+    script: &[u8],
+    out: &mut K,
+    steps: &mut Steps<L>,
+) -> Result<(), Failed>
+    ensures ok { OnOk result (HasReplies session.old (lines_of script.now)
         (Appends (K.written out.old) (K.written out.new))) }
-    ensures err { OnErr result (HasReplies (plain_doc doc.now) (lines_of script.now)
+    ensures err { OnErr result (HasReplies session.old (lines_of script.now)
         (AppendsFront (K.written out.old) (K.written out.new))) }
     ensures cause { CountsFault (K.faults out.old) (K.faults out.new) result }
 {
     let mut rest = script;
     'lines: while let Some((line, after)) = next_line(rest) {
-        match turn(alloc, doc, line) {
+        match turn(alloc, session, line, steps) {
             Ok(Some(text)) => write_all(out, &text)?,
             Ok(None) => return Ok(()),
             Err(NoMemory) => write_all(out, b"no memory\n")?,
@@ -111,9 +130,15 @@ fn answer_lines<K: Sink>(alloc: Global, doc: &Doc, script: &[u8], out: &mut K) -
 }
 
 // Reads the script, and writes the replies to its lines.
-fn converse<S: Source, K: Sink>(alloc: Global, doc: &Doc, input: &mut S, out: &mut K) -> Status
+fn converse<S: Source, K: Sink, L: Ledger>(
+    alloc: Global,
+    session: &mut Session,
+    input: &mut S,
+    out: &mut K,
+    steps: &mut Steps<L>,
+) -> Status
     ensures { (files : Option (List (List ℕ × List ℕ))) → (shelf : ℕ) →
-        (course : Course) × Converses (plain_doc doc.now) course × Shows course
+        (course : Course) × Converses session.old course × Shows course
         (devices files shelf input.old (S.left input.old) (S.faults input.old)
         (K.written out.old) (K.faults out.old))
         (devices files shelf input.new (S.left input.new) (S.faults input.new)
@@ -123,19 +148,20 @@ fn converse<S: Source, K: Sink>(alloc: Global, doc: &Doc, input: &mut S, out: &m
         Ok(script) => script,
         Err(stop) => return respond(out, Err(stop)),
     };
-    match answer_lines(alloc, doc, &script, out) {
+    match answer_lines(alloc, session, &script, out, steps) {
         Ok(()) => Status::Done,
         Err(_) => Status::WriteFault,
     }
 }
 
-/// Opens the files, and answers the script.
-pub fn session<H: Shelf, S: Source, K: Sink>(
+/// Opens the files, begins a session, and answers the script.
+pub fn session<H: Shelf, S: Source, K: Sink, L: Ledger>(
     alloc: Global,
     shelf: &mut H,
     named: &Named<'_>,
     input: &mut S,
     out: &mut K,
+    steps: &mut Steps<L>,
 ) -> Status
     requires { AreNamed (H.names shelf.old) named.now }
     ensures runs { Runs (Some (session named.now.dtd.now named.now.root.now named.now.doc.now))
@@ -146,9 +172,9 @@ pub fn session<H: Shelf, S: Source, K: Sink>(
     ensures names { H.names shelf.new ≡ H.names shelf.old }
     ensures files { H.files shelf.new ≡ H.files shelf.old }
 {
-    let opened = match open(alloc, shelf, named.dtd, named.root, named.doc) {
-        Ok(opened) => opened,
+    let mut session = match open_session(alloc, shelf, named, steps) {
+        Ok(session) => session,
         Err(stop) => return respond(out, Err(stop)),
     };
-    converse(alloc, &opened.doc, input, out)
+    converse(alloc, &mut session, input, out, steps)
 }

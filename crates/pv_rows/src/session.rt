@@ -57,9 +57,34 @@ fn scripts(rt: HostRuntime) -> Result<(), Fail> {
         (HELLO, "\nshow", "no command\nshow 16\n<doc>Hello</doc>\n"),
         (HELLO, "quit\nshow\n\n", ""),
         (HELLO, "show\r\r\n", "show 16\n<doc>Hello</doc>\n"),
-        (HELLO, "show \nundo\n", "no command\nno command\n"),
+        (HELLO, "show \nundo\n", "no command\nno history\n"),
         (" <doc\n/> ", "show\nquit\nshow", "show 9\n <doc\n/> \n"),
         (REALISTIC, "show\n", REALISTIC_SHOWN),
+        (
+            HELLO,
+            "wrap 0 0 1 br\nshow\n",
+            "no impossible 0.0\nshow 16\n<doc>Hello</doc>\n",
+        ),
+        (
+            "<doc><p>a</p></doc>",
+            "rename 0.0 head\nundo\nundo\nredo\nredo\n",
+            "ok 2 1\nok 2 1\nno history\nok 2 1\nno history\n",
+        ),
+        (
+            HELLO,
+            "split 0.0 2\nwrap 0 0 1 head\nshow\nhistory\n",
+            "ok 1 1\nok 2 1\nshow 29\n<doc><head>He</head>llo</doc>\nhistory 2\nsplit 0.0 2\nwrap 0 0 1 head\n",
+        ),
+        (
+            HELLO,
+            "wrap 0 2 5 p\nwrap 0 1 1 p\ninsert 0 0 head\nshow\n",
+            "no shape range\nok 2 1\nok 2 1\nshow 30\n<doc><head/>Hello<p></p></doc>\n",
+        ),
+        (
+            HELLO,
+            "addtext 0 1 , you\njoin 0.0\ntext 0.0 Hi &amp; bye\ntext 0.0 a&nbsp;\ndeltext 0.0\nshow\nundo\n",
+            "ok 1 1\nok 1 1\nok 1 1\nno shape bad-text\nok 1 1\nshow 11\n<doc></doc>\nok 1 1\n",
+        ),
     ];
     check(&rt, &rows, 1)?;
     check(&rt, &rows, 65_536)
@@ -97,7 +122,7 @@ fn faults_and_limits(rt: HostRuntime) -> Result<(), Fail> {
     // A byte for each call, and the end: the call behind it would fail.
     let (status, output) = outcome(&rt, b"undo\n", 1, &[6], &[])?;
     assert_eq!(rt; status, Status::Done);
-    assert_eq!(rt; output.as_slice(), b"no command\n".as_slice());
+    assert_eq!(rt; output.as_slice(), b"no history\n".as_slice());
     let whole = vec![in rt.alloc(); b'x'; 1_048_576]?;
     let (status, output) = outcome(&rt, &whole, 65_536, &[], &[])?;
     assert_eq!(rt; status, Status::Done);

@@ -1,6 +1,8 @@
-use Rattle.pv_cli.proofs.OneReplies.{one_replies}
+use Rattle.pv_cli.proofs.OneReplies.{AnswersOnce, one_reply, one_replies}
 use Rattle.pv_cli.proofs.Replies.{joins_replies, ends_at_quit}
 use Rattle.pv_cli.proofs.laws.replies_law.Goals as goal
 
 pub returns : goal.returns
-returns c = record { one = one_replies; joined = joins_replies; ended = ends_at_quit }
+returns c =
+    let once : AnswersOnce = record { commands = c.one_command_law.ensures.one; steps = c.one_answer_law.ensures } in
+    record { reply = one_reply once; one = one_replies once; joined = joins_replies; ended = ends_at_quit }

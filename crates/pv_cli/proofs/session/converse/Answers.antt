@@ -1,5 +1,4 @@
 use Rattle.std.proofs.Common.{Some, [], Err, refl}
-use Rattle.pv_tree.specs.PlainDocs.{plain_doc}
 use Rattle.pv_cli.specs.Course.{responds}
 use Rattle.pv_cli.specs.Program.{wrote, cut_off, ending_of}
 use Rattle.pv_cli.specs.Response.{PlainResponse}
@@ -13,7 +12,7 @@ returns-in-Err g c = λ files shelf.
     let took = c.in-Err.ensures.script in
     let stop = c.in-Err.stop in (
       record { taken = Some took.script; silent = []; ending = ending_of (Err stop) },
-      record { script = took.script; is_taken = refl; answers = stop_answers (plain_doc c.args.doc.now) took.script stop took.gives },
+      record { script = took.script; is_taken = refl; answers = stop_answers c.args.session.now took.script stop took.gives },
       record {
         shelf = stop_leaves_shelf took.script shelf stop took.gives;
         input = stop_counts_input _ _ stop c.in-Err.ensures.counts;

@@ -1,0 +1,130 @@
+//! The reply to a line of a session's script.
+
+ghost use Rattle.std.specs.Prelude.{◌≡◌, ◌≤◌, IfOk, OnErr, Some, vec_len};
+ghost use Rattle.pv_cli.specs.Turns.{IsReplyBy, IsTurn};
+ghost use Rattle.pv_script.specs.Replies.{reply_bytes};
+
+use pv_chars::{Bytes, NoMemory};
+use pv_edit::{Done, Edit, EditAnswer, Edits};
+use pv_script::{Command, CommandError, Reply, okay_text, read_command, reply_text};
+use pv_session::{BackAnswer, Session};
+use pv_steps::Steps;
+use pv_write::doc_bytes;
+use std::alloc::{AllocError, Global};
+use std::sync::ledger::Ledger;
+
+/// The bytes that are taken for an `ok` reply.
+const ROOM: usize = 64;
+
+// Room for an `ok` reply.
+fn take_room(alloc: Global) -> Result<Vec<u8>, AllocError>
+    ensures { IfOk result (λ room. vec_len room ≡ 64) }
+{
+    vec![in alloc; 0u8; ROOM]
+}
+
+// The reply to a move that was made, in the room that was taken for it.
+fn okay(done: &Done, mut room: Vec<u8>) -> Vec<u8>
+    requires { 64 ≤ vec_len room }
+    ensures { result.items ≡ reply_bytes (Reply.Okay done.now) }
+{
+    let count = okay_text(done, &mut room);
+    room.truncate(count);
+    room
+}
+
+// The reply to an edit. Nothing behind the edit takes memory where it was made.
+fn edit<L: Ledger>(
+    alloc: Global,
+    session: &mut Session,
+    edit: &Edit,
+    steps: &mut Steps<L>,
+) -> Result<Vec<u8>, NoMemory>
+    ensures replied { IfOk result (λ text. IsReplyBy session.old (Command.Edit edit.now) session.new text.items) }
+    ensures stays { OnErr result (session.new ≡ session.old) }
+{
+    let room = take_room(alloc)?;
+    match session.edit(edit, steps) {
+        Ok(done) => Ok(okay(&done, room)),
+        Err(EditAnswer::Shape(reason)) => reply_text(alloc, &Reply::Shape(reason)),
+        Err(EditAnswer::Impossible(path)) => reply_text(alloc, &Reply::Impossible(path)),
+        Err(EditAnswer::Limit) => reply_text(alloc, &Reply::Limit),
+        Err(EditAnswer::NoMemory) => Err(NoMemory),
+    }
+}
+
+// The reply to an undo.
+fn undo<L: Ledger>(
+    alloc: Global,
+    session: &mut Session,
+    steps: &mut Steps<L>,
+) -> Result<Vec<u8>, NoMemory>
+    ensures replied { IfOk result (λ text. IsReplyBy session.old Command.Undo session.new text.items) }
+    ensures stays { OnErr result (session.new ≡ session.old) }
+{
+    let room = take_room(alloc)?;
+    match session.undo(steps) {
+        Ok(done) => Ok(okay(&done, room)),
+        Err(BackAnswer::NoHistory) => reply_text(alloc, &Reply::NoHistory),
+        Err(BackAnswer::NoMemory) => Err(NoMemory),
+    }
+}
+
+// The reply to a redo.
+fn redo<L: Ledger>(
+    alloc: Global,
+    session: &mut Session,
+    steps: &mut Steps<L>,
+) -> Result<Vec<u8>, NoMemory>
+    ensures replied { IfOk result (λ text. IsReplyBy session.old Command.Redo session.new text.items) }
+    ensures stays { OnErr result (session.new ≡ session.old) }
+{
+    let room = take_room(alloc)?;
+    match session.redo(steps) {
+        Ok(done) => Ok(okay(&done, room)),
+        Err(BackAnswer::NoHistory) => reply_text(alloc, &Reply::NoHistory),
+        Err(BackAnswer::NoMemory) => Err(NoMemory),
+    }
+}
+
+// The reply to `history`.
+fn history(alloc: Global, session: &Session) -> Result<Vec<u8>, NoMemory>
+    ensures { IfOk result (λ text. IsReplyBy session.now Command.History session.now text.items) }
+{
+    let past = session.history();
+    let mut edits = Vec::new(alloc);
+    for edit in past {
+        edits.push(edit.copy(alloc)?)?;
+    }
+    reply_text(alloc, &Reply::History(Edits::of(edits)))
+}
+
+// The reply to `show`.
+fn show(alloc: Global, session: &Session) -> Result<Vec<u8>, NoMemory>
+    ensures { IfOk result (λ text. IsReplyBy session.now Command.Show session.now text.items) }
+{
+    let bytes = doc_bytes(alloc, session.doc())?;
+    reply_text(alloc, &Reply::Show(Bytes::of(bytes)))
+}
+
+// The reply to a line, or none where it ends the session.
+pub fn turn<L: Ledger>(
+    alloc: Global,
+    session: &mut Session,
+    line: &[u8],
+    steps: &mut Steps<L>,
+) -> Result<Option<Vec<u8>>, NoMemory>
+    ensures turned { IfOk result (IsTurn session.old line.now session.new) }
+    ensures stays { OnErr result (session.new ≡ session.old) }
+{
+    match read_command(alloc, line) {
+        Ok(Command::Edit(change)) => Ok(Some(edit(alloc, session, &change, steps)?)),
+        Ok(Command::Undo) => Ok(Some(undo(alloc, session, steps)?)),
+        Ok(Command::Redo) => Ok(Some(redo(alloc, session, steps)?)),
+        Ok(Command::History) => Ok(Some(history(alloc, session)?)),
+        Ok(Command::Show) => Ok(Some(show(alloc, session)?)),
+        Ok(Command::Quit) => Ok(None),
+        Err(CommandError::Unknown) => Ok(Some(reply_text(alloc, &Reply::NoCommand)?)),
+        Err(CommandError::NoMemory) => Err(NoMemory),
+    }
+}

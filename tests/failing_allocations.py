@@ -1,0 +1,143 @@
+"""Lets each allocation of a session fail in turn.
+
+Words: PROGRAM MOST. A C compiler makes a library that is loaded before the C library and lets allocation number N give nothing; N goes up
+until a run asks for fewer, or up to MOST. Where a run ends with status 5, or with 10 for want of words, it must have written nothing. Else one line at most answers
+`no memory`, and the replies to the other lines must be those to the script without this line: each edit of the script stands between
+`show` and `history`, which tell whether anything changed. Prints each difference, and how many runs passed; ends with 1 where one failed.
+"""
+import os
+import subprocess
+import sys
+import tempfile
+
+LIBRARY = r"""
+#include <stdlib.h>
+#include <unistd.h>
+extern void *__libc_malloc(size_t), *__libc_calloc(size_t, size_t), *__libc_realloc(void *, size_t), *__libc_memalign(size_t, size_t);
+static long left = -1;
+static int failed;
+__attribute__((constructor)) static void begin(void) { left = atol(getenv("FAIL_AT")); }
+__attribute__((destructor)) static void end(void) { if (failed) write(2, "failed", 6); }
+static int fails(void) { return left > 0 && --left == 0 && (failed = 1); }
+void *malloc(size_t n) { return fails() ? 0 : __libc_malloc(n); }
+void *calloc(size_t n, size_t m) { return fails() ? 0 : __libc_calloc(n, m); }
+void *realloc(void *p, size_t n) { return fails() ? 0 : __libc_realloc(p, n); }
+void *memalign(size_t a, size_t n) { return fails() ? 0 : __libc_memalign(a, n); }
+void *aligned_alloc(size_t a, size_t n) { return fails() ? 0 : __libc_memalign(a, n); }
+int posix_memalign(void **p, size_t a, size_t n) { return fails() || !(*p = __libc_memalign(a, n)) ? 12 : 0; }
+"""
+
+DTD = """<!ELEMENT doc (head, sec+)>
+<!ELEMENT head (#PCDATA)>
+<!ELEMENT sec (title?, p*)>
+<!ELEMENT title (#PCDATA)>
+<!ELEMENT p (#PCDATA|em|br)*>
+<!ELEMENT em (#PCDATA)>
+<!ELEMENT br EMPTY>
+"""
+DOCUMENT = '<?xml version="1.0"?>\n<doc lang="en">Hello, you&amp;me<em/></doc>\n'
+
+MOVES = ["wrap 0 0 1 br", "split 0.0 5", "wrap 0 0 1 head", "undo", "redo", "undo", "wrap 0 0 1 head", "text 0.1 a&nbsp;", "text 0.1 you",
+         "addtext 0 2 !", "join 0.1", "deltext 0.0.0", "undo", "wrap 0 1 3 p", "wrap 0 1 2 sec", "rename 0.1 title", "rename 0.1 sec",
+         "unwrap 0.1.0.1", "undo", "insert 0.1.0 1 br", "unwrap 0.9", "nothing", "undo", "undo"]
+
+
+def script_of():
+    lines = ["show", "history"]
+    for move in MOVES:
+        lines += [move, "show", "history"]
+    return [*lines, "quit", "show"]
+
+
+def run(program, script, fail_at, library):
+    environment = {"LD_PRELOAD": library, "FAIL_AT": str(fail_at)}
+    text = "".join(f"{line}\n" for line in script).encode()
+    ran = subprocess.run([program, "session", "a.dtd", "doc", "d.xml"], input=text, capture_output=True, env=environment)
+    return ran.returncode, ran.stdout, ran.stderr == b"failed"
+
+
+def replies_of(output, script):
+    """The replies, one for each line that has one."""
+    replies, rest = [], output
+    for _ in script:
+        if not rest:
+            break
+        line, rest = rest.split(b"\n", 1)
+        words = line.split()
+        if words[0] == b"show":
+            size = int(words[1])
+            line, rest = line + b"\n" + rest[:size], rest[size + 1:]
+        if words[0] == b"history":
+            more = rest.split(b"\n", int(words[1]))
+            line, rest = b"\n".join([line, *more[:-1]]), more[-1]
+        replies.append(line)
+    return replies, rest
+
+
+class Trial:
+    def __init__(self, program, library):
+        self.program, self.library, self.script = program, library, script_of()
+        self.without = {}
+        self.passed = self.failed = self.silent = self.reached = 0
+
+    def output_without(self, number):
+        """The replies to the script without this line; all of it where there is none."""
+        if number not in self.without:
+            script = [line for at, line in enumerate(self.script) if at != number]
+            status, output, _ = run(self.program, script, 0, self.library)
+            assert status == 0, f"status {status} with ample memory"
+            self.without[number] = output
+        return self.without[number]
+
+    def fault(self, status, output):
+        """What is wrong with a run; nothing where it is right."""
+        if status in (5, 10):
+            return f"output with status {status}" if output else None
+        if status != 0:
+            return f"status {status}"
+        replies, rest = replies_of(output, self.script)
+        silent = [at for at, reply in enumerate(replies) if reply == b"no memory"]
+        if rest or len(silent) > 1:
+            return "more than one line without memory, or bytes behind the replies"
+        self.silent += len(silent)
+        kept = b"".join(reply + b"\n" for reply in replies if reply != b"no memory")
+        if kept != self.output_without(silent[0] if silent else None):
+            return f"the line {self.script[silent[0]]!r} changed something" if silent else "other replies, and no line without memory"
+        return None
+
+    def try_at(self, number):
+        """Whether the run got as far as this allocation."""
+        status, output, reached = run(self.program, self.script, number, self.library)
+        if reached:
+            self.reached += 1
+            fault = self.fault(status, output)
+            self.failed += fault is not None
+            self.passed += fault is None
+            if fault:
+                print(f"allocation {number}: {fault}, status {status}, output {output!r}")
+        return reached
+
+
+def main():
+    program, most = os.path.abspath(sys.argv[1]), int(sys.argv[2])
+    with tempfile.TemporaryDirectory() as folder:
+        os.chdir(folder)
+        for name, text in [("a.dtd", DTD), ("d.xml", DOCUMENT), ("failing.c", LIBRARY)]:
+            with open(name, "w", encoding="utf-8") as file:
+                file.write(text)
+        library = os.path.join(folder, "failing.so")
+        subprocess.run(["cc", "-shared", "-fPIC", "-w", "-o", library, "failing.c"], check=True)
+        trial = Trial(program, library)
+        number = 1
+        while number <= most and trial.failed < 20 and trial.try_at(number):
+            number += 1
+        os.chdir("/")
+    print(f"allocations {trial.reached}, lines without memory {trial.silent}")
+    if trial.silent == 0:
+        print("no line was without memory")
+        trial.failed += 1
+    print(f"failing allocations: {trial.passed} passed, {trial.failed} failed")
+    sys.exit(1 if trial.failed else 0)
+
+
+main()
