@@ -1,9 +1,10 @@
 """Lets each allocation of a session fail in turn.
 
 Words: PROGRAM MOST. A C compiler makes a library that is loaded before the C library and lets allocation number N give nothing; N goes up
-until a run asks for fewer, or up to MOST. Where a run ends with status 5, or with 10 for want of words, it must have written nothing. Else one line at most answers
-`no memory`, and the replies to the other lines must be those to the script without this line: each edit of the script stands between
-`show` and `history`, which tell whether anything changed. Prints each difference, and how many runs passed; ends with 1 where one failed.
+until a run asks for fewer, or up to MOST. Where a run ends with status 5, or with 10 for want of words, it must have written nothing. Else
+one line at most answers `no memory`, and the replies to the other lines must be those to the script without this line: each edit of the
+script stands between `show` and `history`, which tell whether anything changed. Prints each difference, and how many runs passed; ends with
+1 where one failed.
 """
 import os
 import subprocess
