@@ -14,6 +14,8 @@ import subprocess
 import sys
 import tempfile
 
+sys.dont_write_bytecode = True
+
 import against_insertions as insertions
 from against_insertions import NAMES, NONE, Search, behind, dotted, may_be_empty, write
 
