@@ -336,24 +336,28 @@ def judge(search, tree, root, got):
     return None if path == dead[0] else "undecided"
 
 
-# The nodes that the program reads, apart from elements.
-def leaves_read(program):
+# The nodes of documents, apart from elements: each alone is valid content of ANY.
+LEAVES = ["x", "xy", " ", "x ", " \n", "<!--c-->", "<?p i?>", "<![CDATA[]]>", "<![CDATA[x]]>", "&#32;", "&amp;"]
+
+
+# The leaves that the program refuses in an element that may hold anything.
+def leaves_refused(program):
     write("a.dtd", "<!ELEMENT a ANY>")
-    found = []
-    for leaf in ["x", "xy", " ", "x ", " \n", "<!--c-->", "<?p i?>", "<![CDATA[]]>", "<![CDATA[x]]>", "&#32;", "&amp;"]:
+    refused = []
+    for leaf in LEAVES:
         write("d.xml", f"<a>{leaf}</a>")
-        if answer(program, "a") == (0, "valid\n"):
-            found.append(leaf)
-    return found
+        if answer(program, "a") != (0, "valid\n"):
+            refused.append(leaf)
+    return refused
 
 
-def round_of(program, leaves, counts):
+def round_of(program, counts):
     declared = random.sample(NAMES, random.randint(2, 4))
     models = {x: model(declared * 6 + NAMES) for x in declared}
     write("a.dtd", "".join(declaration(x, models[x]) for x in declared))
     search = Search(models)
     for _ in range(12):
-        tree = document(models, declared, leaves)
+        tree = document(models, declared, LEAVES)
         write("d.xml", written(tree))
         root = random.choice([tree[0]] * 6 + declared * 2 + NAMES[:1])
         got = answer(program, root)
@@ -371,9 +375,11 @@ def main():
     counts = {"failed": 0, "undecided": 0}
     with tempfile.TemporaryDirectory() as folder:
         os.chdir(folder)
-        leaves = leaves_read(program)
+        for leaf in leaves_refused(program):
+            print(f"refused: {leaf!r}")
+            counts["failed"] += 1
         for _ in range(rounds):
-            round_of(program, leaves, counts)
+            round_of(program, counts)
         os.chdir("/")
     print(", ".join(f"{kind} {count}" for kind, count in sorted(counts.items())))
     failed, undecided = counts["failed"], counts["undecided"]

@@ -1,7 +1,6 @@
 //! Laws on lines and commands. Their functions do nothing.
 
 ghost use Rattle.pv_script.specs.Laws.{OneCommand, CommandOrNone, EditsAreReadAgain};
-ghost use Rattle.pv_tree.specs.declared.nodes.Mark.{Mark};
 
 /// A line spells exactly one command, or none.
 pub fn one_command_law()
@@ -9,7 +8,8 @@ pub fn one_command_law()
     ensures some { CommandOrNone }
 {}
 
-/// The line of an edit that applies to some document is read again as that edit, wherever it stands in a script.
-pub fn edit_line_law()
-    ensures { EditsAreReadAgain Mark }
+/// The line of an edit that applies to some document, and whose numbers are at most 4294967295, is cut out of a script as it is, where an
+/// LF ends it, and is read again as that edit. `M` is the type of marks.
+pub fn edit_line_law<M>()
+    ensures { EditsAreReadAgain M }
 {}
