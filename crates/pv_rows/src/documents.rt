@@ -1,17 +1,16 @@
 //! Rows of documents: what is read, and the first item in fault of what isn't.
 
-use crate::dtds::{ANY, ARTICLE, REALISTIC};
-use crate::fixture::{Given, answer};
-use crate::valid::{DONE, Row, check, nested};
 use pv_cli::Status;
-use pv_read::read_doc;
+use pv_fixture::documents::{document_of, nested};
+use pv_fixture::dtds::{ANY, ARTICLE, REALISTIC};
+use pv_runs::rows::{Row, check_rows, check_run};
+use pv_runs::runs::Given;
 use pv_write::doc_bytes;
 use std::alloc::{AllocError, Global};
-use std::marker::Brand;
-use std::process::Abort;
-use std::sync::ledger::Blank;
 use std::test::Fail;
 use std::thread::Threads;
+
+const DONE: Status = Status::Done;
 
 const BAD: Status = Status::BadDocument;
 
@@ -144,44 +143,34 @@ static TOLD: [(&str, &str); 14] = [
     ("<a>&x;</b>", "entity 1"),
 ];
 
-fn check_refused<R: AllocGlobal + Threads + Sync + Abort>(
+fn check_refused<R: AllocGlobal + Threads + Sync>(
     rt: &R,
     rows: &[(&str, &str)],
 ) -> Result<(), Fail> {
     for (doc, fault) in rows {
         let line = format!(in rt.alloc(); "document {fault}\n")?;
-        check(rt, &[(ANY, "a", *doc, BAD, line.as_str())])?;
+        check_rows(rt, "valid", &[(ANY, "a", *doc, BAD, line.as_str())])?;
     }
     Ok(())
 }
 
 // `show` gives the document as it was read.
-fn check_shown<R: AllocGlobal + Threads + Sync + Abort>(
-    rt: &R,
-    doc: &'static str,
-) -> Result<(), Fail> {
+fn check_shown<R: AllocGlobal + Threads + Sync>(rt: &R, doc: &'static str) -> Result<(), Fail> {
     let words: [&'static str; 4] = ["session", "a.dtd", "a", "d.xml"];
     let files: [(&'static str, &'static str); 2] = [("a.dtd", ANY), ("d.xml", doc)];
     let given = Given {
         input: b"show\n",
         ..Given::plain(&words, &files)
     };
-    let (status, output) = answer::<Brand, R>(rt, &given, Blank::new(1))?;
-    assert_eq!(rt; status, DONE, "the status on {doc}");
     let length = doc.len();
     let reply = format!(in rt.alloc(); "show {length}\n{doc}\n")?;
-    assert_eq!(rt;
-        output.as_slice(),
-        reply.as_bytes(),
-        "what is shown of {doc}"
-    );
-    Ok(())
+    check_run(rt, doc, &given, DONE, reply.as_bytes())
 }
 
 #[test]
 fn documents(rt: HostRuntime) -> Result<(), Fail> {
     for doc in READ {
-        check(&rt, &[(ANY, "a", doc, DONE, "valid\n")])?;
+        check_rows(&rt, "valid", &[(ANY, "a", doc, DONE, "valid\n")])?;
         check_shown(&rt, doc)?;
     }
     check_refused(&rt, &REFUSED)?;
@@ -229,10 +218,21 @@ static FAULTS: [Row<'static>; 6] = [
 
 #[test]
 fn faults(rt: HostRuntime) -> Result<(), Fail> {
-    check(&rt, &FAULTS)
+    check_rows(&rt, "valid", &FAULTS)
 }
 
-// A document in which 5,000 digits stand between `first` and `last`.
+// What stands before and behind 5,000 times a digit.
+static REFERENCES: [(&str, &str, &str, Status, &str); 8] = [
+    ("<a>&#", "0", "65;</a>", DONE, "valid\n"),
+    ("<a>&#x", "0", "10FFFF;</a>", DONE, "valid\n"),
+    ("<a b='&#", "0", "9;'/>", DONE, "valid\n"),
+    ("<a>&#", "0", ";</a>", BAD, "document syntax 1\n"),
+    ("<a>&#x", "0", "FFFF;</a>", BAD, "document syntax 1\n"),
+    ("<a b='&#x", "0", "110000;'/>", BAD, "document syntax 0\n"),
+    ("<a>&#", "9", ";</a>", BAD, "document syntax 1\n"),
+    ("<a>&#x", "1", ";</a>", BAD, "document syntax 1\n"),
+];
+
 fn with_digits(alloc: Global, first: &str, digit: &str, last: &str) -> Result<String, AllocError> {
     let mut text = String::from_str(alloc, first)?;
     text.push_str(&nested(alloc, 5_000, digit, last, "")?)?;
@@ -241,19 +241,9 @@ fn with_digits(alloc: Global, first: &str, digit: &str, last: &str) -> Result<St
 
 #[test]
 fn long_references(rt: HostRuntime) -> Result<(), Fail> {
-    let rows = [
-        ("<a>&#", "0", "65;</a>", DONE, "valid\n"),
-        ("<a>&#x", "0", "10FFFF;</a>", DONE, "valid\n"),
-        ("<a b='&#", "0", "9;'/>", DONE, "valid\n"),
-        ("<a>&#", "0", ";</a>", BAD, "document syntax 1\n"),
-        ("<a>&#x", "0", "FFFF;</a>", BAD, "document syntax 1\n"),
-        ("<a b='&#x", "0", "110000;'/>", BAD, "document syntax 0\n"),
-        ("<a>&#", "9", ";</a>", BAD, "document syntax 1\n"),
-        ("<a>&#x", "1", ";</a>", BAD, "document syntax 1\n"),
-    ];
-    for (first, digit, last, status, line) in rows {
+    for (first, digit, last, status, line) in &REFERENCES {
         let doc = with_digits(rt.alloc(), first, digit, last)?;
-        check(&rt, &[(ANY, "a", doc.as_str(), status, line)])?;
+        check_rows(&rt, "valid", &[(ANY, "a", doc.as_str(), *status, *line)])?;
     }
     Ok(())
 }
@@ -261,9 +251,8 @@ fn long_references(rt: HostRuntime) -> Result<(), Fail> {
 #[test]
 fn a_copy(rt: HostRuntime) -> Result<(), Fail> {
     let alloc = rt.alloc();
-    let doc = read_doc(alloc, REALISTIC.as_bytes(), b"doc").map_err(|_| "no document")?;
-    let copy = doc.copy(alloc).map_err(|_| "no memory")?;
-    let written = doc_bytes(alloc, &copy).map_err(|_| "no memory")?;
+    let doc = document_of(alloc, REALISTIC, "doc")?;
+    let written = doc_bytes(alloc, &doc.copy(alloc)?)?;
     assert_eq!(rt; written.as_slice(), REALISTIC.as_bytes());
     Ok(())
 }

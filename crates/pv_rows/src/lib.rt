@@ -1,22 +1,14 @@
-//! Worked rows, through the top call and other public calls, over objects in memory.
+//! Worked rows of DTDs, of documents and of `valid`, and of words and faults of the outside, through the top call.
 #![tactic(auto)]
 
 #[cfg(test)]
-mod check;
-#[cfg(test)]
 mod documents;
-#[cfg(test)]
-mod dtds;
-#[cfg(test)]
-mod fixture;
 #[cfg(test)]
 mod listing;
 #[cfg(test)]
 mod one_pass;
 #[cfg(test)]
 mod outside;
-#[cfg(test)]
-mod session;
 #[cfg(test)]
 mod valid;
 #[cfg(test)]

@@ -1,32 +1,21 @@
 //! Rows of `dtd`: what a DTD declares, and how a text that is no DTD is refused.
 
-use crate::dtds::{ARTICLE, DOUBLING};
-use crate::fixture::{Given, answer};
 use pv_cli::Status;
-use std::marker::Brand;
-use std::process::Abort;
-use std::sync::ledger::Blank;
+use pv_fixture::dtds::{ARTICLE, DOUBLING};
+use pv_runs::rows::check_run;
+use pv_runs::runs::Given;
 use std::test::Fail;
 use std::thread::Threads;
 
 // A text, and the status and the output that `dtd` gives.
-type Row<'a> = (&'a str, Status, &'a str);
+type Row = (&'static str, Status, &'static str);
 
-fn check<'a, R: AllocGlobal + Threads + Sync + Abort>(
-    rt: &R,
-    rows: &[Row<'a>],
-) -> Result<(), Fail> {
+fn check<R: AllocGlobal + Threads + Sync>(rt: &R, rows: &[Row]) -> Result<(), Fail> {
     for (dtd, status, output) in rows {
-        let words: [&'a str; 2] = ["dtd", "a.dtd"];
-        let files: [(&'a str, &'a str); 1] = [("a.dtd", *dtd)];
+        let words: [&'static str; 2] = ["dtd", "a.dtd"];
+        let files: [(&'static str, &'static str); 1] = [("a.dtd", *dtd)];
         let given = Given::plain(&words, &files);
-        let (answered, written) = answer::<Brand, R>(rt, &given, Blank::new(1))?;
-        assert_eq!(rt; answered, *status, "the status on {dtd}");
-        assert_eq!(rt;
-            written.as_slice(),
-            output.as_bytes(),
-            "the output on {dtd}"
-        );
+        check_run(rt, *dtd, &given, *status, output.as_bytes())?;
     }
     Ok(())
 }
@@ -35,7 +24,7 @@ const DONE: Status = Status::Done;
 
 const BAD_DTD: Status = Status::BadDtd;
 
-static LISTED: [Row<'static>; 12] = [
+static LISTED: [Row; 12] = [
     (
         ARTICLE,
         DONE,
@@ -94,7 +83,7 @@ static LISTED: [Row<'static>; 12] = [
     ),
 ];
 
-static REFUSED: [Row<'static>; 31] = [
+static REFUSED: [Row; 32] = [
     (
         "<!ELEMENT a EMPTY><!ELEMENT a ANY>",
         BAD_DTD,
@@ -107,6 +96,11 @@ static REFUSED: [Row<'static>; 31] = [
     ),
     ("<!ENTITY % x \"y\">", BAD_DTD, "dtd parameter 0\n"),
     ("<!ELEMENT a (b|c,d)>", BAD_DTD, "dtd syntax 0\n"),
+    (
+        "<!ELEMENT a (b|#PCDATA)><!ELEMENT b ANY>",
+        BAD_DTD,
+        "dtd syntax 0\n",
+    ),
     ("<!ELEMENT a ANY>%p;", BAD_DTD, "dtd parameter 1\n"),
     ("<![INCLUDE[]]>", BAD_DTD, "dtd parameter 0\n"),
     ("<!ATTLIST a b CDATA %>", BAD_DTD, "dtd parameter 0\n"),

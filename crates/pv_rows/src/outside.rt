@@ -1,31 +1,16 @@
 //! Rows on words, on faults of the outside, and on exit statuses.
 
-use crate::dtds::TEXT;
-use crate::fixture::{Given, answer};
 use pv_cli::Status;
-use std::marker::Brand;
-use std::process::Abort;
-use std::sync::ledger::Blank;
+use pv_fixture::dtds::TEXT;
+use pv_runs::rows::check_run;
+use pv_runs::runs::Given;
 use std::test::Fail;
 use std::thread::Threads;
 
 const HELLO: &str = "<doc>Hello</doc>";
 
-// What a run is given, and its status and output.
-fn check<R: AllocGlobal + Threads + Sync + Abort>(
-    rt: &R,
-    given: &Given<'_, '_>,
-    status: Status,
-    output: &str,
-) -> Result<(), Fail> {
-    let (answered, written) = answer::<Brand, R>(rt, given, Blank::new(1))?;
-    assert_eq!(rt; answered, status);
-    assert_eq!(rt; written.as_slice(), output.as_bytes());
-    Ok(())
-}
-
 // The words are no command, whatever the files are.
-fn check_usage<'a, R: AllocGlobal + Threads + Sync + Abort>(
+fn check_usage<'a, R: AllocGlobal + Threads + Sync>(
     rt: &R,
     words: &[&'a str],
     files: &[(&'a str, &'a str)],
@@ -35,7 +20,7 @@ fn check_usage<'a, R: AllocGlobal + Threads + Sync + Abort>(
         failing_fetches,
         ..Given::plain(words, files)
     };
-    check(rt, &given, Status::Usage, "usage\n")
+    check_run(rt, "the words", &given, Status::Usage, b"usage\n")
 }
 
 #[test]
@@ -160,7 +145,7 @@ static FAULTS: [Row; 12] = [
     },
 ];
 
-fn check_row<R: AllocGlobal + Threads + Sync + Abort>(rt: &R, row: &Row) -> Result<(), Fail> {
+fn check_row<R: AllocGlobal + Threads + Sync>(rt: &R, row: &Row) -> Result<(), Fail> {
     let files: [(&'static str, &'static str); 2] = [("a.dtd", row.dtd), row.doc];
     let given = Given {
         failing_fetches: row.failing.0,
@@ -168,7 +153,7 @@ fn check_row<R: AllocGlobal + Threads + Sync + Abort>(rt: &R, row: &Row) -> Resu
         failing_puts: row.failing.2,
         ..Given::plain(row.words, &files)
     };
-    check(rt, &given, row.ends.0, row.ends.1)
+    check_run(rt, row.dtd, &given, row.ends.0, row.ends.1.as_bytes())
 }
 
 #[test]
@@ -179,21 +164,21 @@ fn faults(rt: HostRuntime) -> Result<(), Fail> {
     Ok(())
 }
 
+static STATUSES: [(Status, u8); 9] = [
+    (Status::Done, 0),
+    (Status::Negative, 1),
+    (Status::Usage, 2),
+    (Status::ReadFault, 3),
+    (Status::WriteFault, 4),
+    (Status::NoMemory, 5),
+    (Status::BadDtd, 6),
+    (Status::BadDocument, 7),
+    (Status::Limit, 8),
+];
+
 #[test]
-fn exit_statuses(rt: HostRuntime) -> Result<(), Fail> {
-    let statuses = [
-        (Status::Done, 0),
-        (Status::Negative, 1),
-        (Status::Usage, 2),
-        (Status::ReadFault, 3),
-        (Status::WriteFault, 4),
-        (Status::NoMemory, 5),
-        (Status::BadDtd, 6),
-        (Status::BadDocument, 7),
-        (Status::Limit, 8),
-    ];
-    for (status, code) in statuses {
-        assert_eq!(rt; status.code(), code);
+fn exit_statuses(rt: HostRuntime) {
+    for (status, code) in &STATUSES {
+        assert_eq!(rt; status.code(), *code);
     }
-    Ok(())
 }

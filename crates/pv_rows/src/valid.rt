@@ -1,46 +1,24 @@
 //! Rows of `valid`.
 
-use crate::dtds::{
+use pv_cli::Status;
+use pv_fixture::documents::nested;
+use pv_fixture::dtds::{
     ANY, ANY_OR_EMPTY, ANY_OR_ENDLESS, ANY_OR_OPTIONAL, ARTICLE, EMPTY, ENDLESS, GREEK, MIXED,
     MIXED_UNDECLARED, REALISTIC, TEXT, UNDECLARED,
 };
-use crate::fixture::{Given, answer};
-use pv_cli::Status;
+use pv_runs::rows::{Row, check_rows};
 use std::alloc::{AllocError, Global};
-use std::marker::Brand;
-use std::process::Abort;
-use std::sync::ledger::Blank;
 use std::test::Fail;
-use std::thread::Threads;
 
-/// A DTD, a root and a document, and the status and the line that `valid` gives.
-pub type Row<'a> = (&'a str, &'a str, &'a str, Status, &'a str);
-
-/// Runs `valid` on each row.
-pub fn check<'a, R: AllocGlobal + Threads + Sync + Abort>(
-    rt: &R,
-    rows: &[Row<'a>],
-) -> Result<(), Fail> {
-    for (dtd, root, doc, status, line) in rows {
-        let words: [&'a str; 4] = ["valid", "a.dtd", *root, "d.xml"];
-        let files: [(&'a str, &'a str); 2] = [("a.dtd", *dtd), ("d.xml", *doc)];
-        let given = Given::plain(&words, &files);
-        let (answered, output) = answer::<Brand, R>(rt, &given, Blank::new(1))?;
-        assert_eq!(rt; answered, *status, "the status on {doc} by {dtd}");
-        assert_eq!(rt;
-            output.as_slice(),
-            line.as_bytes(),
-            "the output on {doc} by {dtd}"
-        );
-    }
-    Ok(())
-}
-
-pub const DONE: Status = Status::Done;
+const DONE: Status = Status::Done;
 
 const NEGATIVE: Status = Status::Negative;
 
 const BAD_DTD: Status = Status::BadDtd;
+
+const BAD_DOCUMENT: Status = Status::BadDocument;
+
+const LIMIT: Status = Status::Limit;
 
 static JUDGED: [Row<'static>; 31] = [
     (TEXT, "doc", "<doc>Hello</doc>", DONE, "valid\n"),
@@ -219,39 +197,33 @@ static MODELS: [(&str, &[&str], &[&str]); 7] = [
 
 #[test]
 fn rows(rt: HostRuntime) -> Result<(), Fail> {
-    check(&rt, &JUDGED)?;
-    check(&rt, &REFUSED)?;
+    check_rows(&rt, "valid", &JUDGED)?;
+    check_rows(&rt, "valid", &REFUSED)?;
     for (dtd, allowed, refused) in &MODELS {
         for doc in *allowed {
-            check(&rt, &[(*dtd, "a", *doc, DONE, "valid\n")])?;
+            check_rows(&rt, "valid", &[(*dtd, "a", *doc, DONE, "valid\n")])?;
         }
         for doc in *refused {
-            check(&rt, &[(*dtd, "a", *doc, NEGATIVE, "invalid 0\n")])?;
+            check_rows(&rt, "valid", &[(*dtd, "a", *doc, NEGATIVE, "invalid 0\n")])?;
         }
     }
     Ok(())
 }
 
-/// So many times `open`, then `inner`, and as many times `close`.
-pub fn nested(
-    alloc: Global,
-    count: usize,
-    open: &str,
-    inner: &str,
-    close: &str,
-) -> Result<String, AllocError> {
-    let mut text = String::new(alloc);
-    for _ in 0..count {
-        text.push_str(open)?;
-    }
-    text.push_str(inner)?;
-    for _ in 0..count {
-        text.push_str(close)?;
-    }
-    Ok(text)
-}
+// What stands before and behind groups, one inside another, in a declaration of `a`, and how many there are.
+static GROUPS: [(&str, usize, &str, Status, &str); 8] = [
+    ("<!ELEMENT b EMPTY>", 64, ">", DONE, "valid\n"),
+    ("<!ELEMENT b EMPTY>", 65, ">", LIMIT, "limit dtd 1\n"),
+    ("", 64, ">", NEGATIVE, "invalid 0.0\n"),
+    ("", 65, ">", LIMIT, "limit dtd 0\n"),
+    // The item has one more fault, or the next item has: nesting, then syntax.
+    ("", 65, "", LIMIT, "limit dtd 0\n"),
+    ("", 65, ">%p;", LIMIT, "limit dtd 0\n"),
+    // A parameter comes before nesting.
+    ("", 65, "%p;>", BAD_DTD, "dtd parameter 0\n"),
+    ("", 65, "%p;", BAD_DTD, "dtd parameter 0\n"),
+];
 
-// Groups, one inside another, in a declaration of `a` behind `first` and before `last`.
 fn grouped(alloc: Global, first: &str, count: usize, last: &str) -> Result<String, AllocError> {
     let mut text = String::from_str(alloc, first)?;
     text.push_str("<!ELEMENT a ")?;
@@ -262,47 +234,60 @@ fn grouped(alloc: Global, first: &str, count: usize, last: &str) -> Result<Strin
 
 #[test]
 fn groups(rt: HostRuntime) -> Result<(), Fail> {
-    let limit = Status::Limit;
-    let rows = [
-        ("<!ELEMENT b EMPTY>", 64, ">", DONE, "valid\n"),
-        ("<!ELEMENT b EMPTY>", 65, ">", limit, "limit dtd 1\n"),
-        ("", 64, ">", NEGATIVE, "invalid 0.0\n"),
-        ("", 65, ">", limit, "limit dtd 0\n"),
-        // The item has one more fault, or the next item has: nesting, then syntax.
-        ("", 65, "", limit, "limit dtd 0\n"),
-        ("", 65, ">%p;", limit, "limit dtd 0\n"),
-        // A parameter comes before nesting.
-        ("", 65, "%p;>", BAD_DTD, "dtd parameter 0\n"),
-        ("", 65, "%p;", BAD_DTD, "dtd parameter 0\n"),
-    ];
-    for (first, count, last, status, line) in rows {
-        let dtd = grouped(rt.alloc(), first, count, last)?;
-        check(&rt, &[(dtd.as_str(), "a", "<a><b/></a>", status, line)])?;
+    for (first, count, last, status, line) in &GROUPS {
+        let dtd = grouped(rt.alloc(), first, *count, last)?;
+        check_rows(
+            &rt,
+            "valid",
+            &[(dtd.as_str(), "a", "<a><b/></a>", *status, *line)],
+        )?;
     }
     Ok(())
 }
 
+// How often a tag stands inside itself, what stands innermost, and how the run ends.
+static DEPTHS: [(usize, &str, &str, Status, &str); 10] = [
+    (511, "<em>", "<em/>", DONE, "valid\n"),
+    (512, "<em>", "", DONE, "valid\n"),
+    (512, "<em>", "<em/>", LIMIT, "limit depth 512\n"),
+    (513, "<em>", "", LIMIT, "limit depth 512\n"),
+    (10_000, "<em>", "", LIMIT, "limit depth 512\n"),
+    // Texts before the tag that is too deep are items too.
+    (512, "<em>", "x<em/>", LIMIT, "limit depth 513\n"),
+    (513, "<em>x", "", LIMIT, "limit depth 1024\n"),
+    // The tag has one more fault.
+    (
+        512,
+        "<em>",
+        "<em a='&b;'/>",
+        BAD_DOCUMENT,
+        "document entity 512\n",
+    ),
+    (
+        512,
+        "<em>x",
+        "<em a='&b;'>",
+        BAD_DOCUMENT,
+        "document entity 1024\n",
+    ),
+    (
+        512,
+        "<em>",
+        "<em a='&;'/>",
+        BAD_DOCUMENT,
+        "document syntax 512\n",
+    ),
+];
+
 #[test]
 fn depths(rt: HostRuntime) -> Result<(), Fail> {
-    let limit = Status::Limit;
-    let bad = Status::BadDocument;
-    let rows = [
-        (511, "<em>", "<em/>", DONE, "valid\n"),
-        (512, "<em>", "", DONE, "valid\n"),
-        (512, "<em>", "<em/>", limit, "limit depth 512\n"),
-        (513, "<em>", "", limit, "limit depth 512\n"),
-        (10_000, "<em>", "", limit, "limit depth 512\n"),
-        // Texts before the tag that is too deep are items too.
-        (512, "<em>", "x<em/>", limit, "limit depth 513\n"),
-        (513, "<em>x", "", limit, "limit depth 1024\n"),
-        // The tag has one more fault.
-        (512, "<em>", "<em a='&b;'/>", bad, "document entity 512\n"),
-        (512, "<em>x", "<em a='&b;'>", bad, "document entity 1024\n"),
-        (512, "<em>", "<em a='&;'/>", bad, "document syntax 512\n"),
-    ];
-    for (count, open, inner, status, line) in rows {
-        let doc = nested(rt.alloc(), count, open, inner, "</em>")?;
-        check(&rt, &[(ARTICLE, "em", doc.as_str(), status, line)])?;
+    for (count, open, inner, status, line) in &DEPTHS {
+        let doc = nested(rt.alloc(), *count, open, inner, "</em>")?;
+        check_rows(
+            &rt,
+            "valid",
+            &[(ARTICLE, "em", doc.as_str(), *status, *line)],
+        )?;
     }
     Ok(())
 }

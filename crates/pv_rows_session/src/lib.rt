@@ -1,0 +1,5 @@
+//! Worked rows of `session`, through the top call.
+#![tactic(auto)]
+
+#[cfg(test)]
+mod scripts;

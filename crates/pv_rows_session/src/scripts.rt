@@ -1,0 +1,122 @@
+//! Rows of `session`: scripts and the replies to them, faults and limits.
+
+ghost use Rattle.std.specs.Prelude.{◌<◌};
+
+use pv_cli::Status;
+use pv_fixture::dtds::{ARTICLE, REALISTIC, REALISTIC_SHOWN};
+use pv_runs::rows::check_run;
+use pv_runs::runs::{Given, Piece};
+use std::test::Fail;
+use std::thread::Threads;
+
+const WORDS: &[&str] = &["session", "a.dtd", "doc", "d.xml"];
+
+const HELLO: &str = "<doc>Hello</doc>";
+
+const VALID: &str = "<doc><head>a</head><sec></sec></doc>";
+
+// A document and a script, and the output of a session on them.
+type Row = (&'static str, &'static str, &'static str);
+
+static SCRIPTS: [Row; 13] = [
+    (
+        VALID,
+        "show\n",
+        "show 36\n<doc><head>a</head><sec></sec></doc>\n",
+    ),
+    (HELLO, "", ""),
+    (HELLO, "\nshow", "no command\nshow 16\n<doc>Hello</doc>\n"),
+    (HELLO, "quit\nshow\n\n", ""),
+    (HELLO, "show\r\r\n", "show 16\n<doc>Hello</doc>\n"),
+    (HELLO, "show \nundo\n", "no command\nno history\n"),
+    (" <doc\n/> ", "show\nquit\nshow", "show 9\n <doc\n/> \n"),
+    (REALISTIC, "show\n", REALISTIC_SHOWN),
+    (
+        HELLO,
+        "wrap 0 0 1 br\nshow\n",
+        "no impossible 0.0\nshow 16\n<doc>Hello</doc>\n",
+    ),
+    (
+        "<doc><p>a</p></doc>",
+        "rename 0.0 head\nundo\nundo\nredo\nredo\n",
+        "ok 2 1\nok 2 1\nno history\nok 2 1\nno history\n",
+    ),
+    (
+        HELLO,
+        "split 0.0 2\nwrap 0 0 1 head\nshow\nhistory\n",
+        "ok 1 1\nok 2 1\nshow 29\n<doc><head>He</head>llo</doc>\nhistory 2\nsplit 0.0 2\nwrap 0 0 1 head\n",
+    ),
+    (
+        HELLO,
+        "wrap 0 2 5 p\nwrap 0 1 1 p\ninsert 0 0 head\nshow\n",
+        "no shape range\nok 2 1\nok 2 1\nshow 30\n<doc><head/>Hello<p></p></doc>\n",
+    ),
+    (
+        HELLO,
+        "addtext 0 1 , you\njoin 0.0\ntext 0.0 Hi &amp; bye\ntext 0.0 a&nbsp;\ndeltext 0.0\nshow\nundo\n",
+        "ok 1 1\nok 1 1\nok 1 1\nno shape bad-text\nok 1 1\nshow 11\n<doc></doc>\nok 1 1\n",
+    ),
+];
+
+fn check<R: AllocGlobal + Threads + Sync>(rt: &R, rows: &[Row], piece: usize) -> Result<(), Fail>
+    requires { 0 < piece }
+{
+    for (doc, script, replies) in rows {
+        let files: [(&'static str, &'static str); 2] = [("a.dtd", ARTICLE), ("d.xml", *doc)];
+        let given = Given {
+            input: script.as_bytes(),
+            piece: Piece { size: piece },
+            ..Given::plain(WORDS, &files)
+        };
+        check_run(rt, *script, &given, Status::Done, replies.as_bytes())?;
+    }
+    Ok(())
+}
+
+#[test]
+fn scripts(rt: HostRuntime) -> Result<(), Fail> {
+    check(&rt, &SCRIPTS, 1)?;
+    check(&rt, &SCRIPTS, 65_536)
+}
+
+const FILES: &[(&str, &str)] = &[("a.dtd", ARTICLE), ("d.xml", HELLO)];
+
+// Runs a session whose calls of these numbers fail, of the input and of the output.
+fn check_outcome<R: AllocGlobal + Threads + Sync>(
+    rt: &R,
+    script: &[u8],
+    piece: usize,
+    failing: (&[u64], &[u64]),
+    ends: (Status, &str),
+) -> Result<(), Fail>
+    requires { 0 < piece }
+{
+    let given = Given {
+        input: script,
+        piece: Piece { size: piece },
+        failing_fills: failing.0,
+        failing_puts: failing.1,
+        ..Given::plain(WORDS, FILES)
+    };
+    check_run(rt, "a session", &given, ends.0, ends.1.as_bytes())
+}
+
+#[test]
+fn faults(rt: HostRuntime) -> Result<(), Fail> {
+    check_outcome(&rt, b"show\n", 1, (&[0], &[]), (Status::ReadFault, ""))?;
+    let cut_off = (Status::WriteFault, "no command\n");
+    check_outcome(&rt, b"\nshow\n", 65_536, (&[], &[1]), cut_off)?;
+    // A byte for each call, and the end: the call behind it would fail.
+    let done = (Status::Done, "no history\n");
+    check_outcome(&rt, b"undo\n", 1, (&[6], &[]), done)
+}
+
+#[test]
+fn the_longest_script(rt: HostRuntime) -> Result<(), Fail> {
+    let longest = vec![in rt.alloc(); b'x'; 1_048_576]?;
+    let done = (Status::Done, "no command\n");
+    check_outcome(&rt, &longest, 65_536, (&[], &[]), done)?;
+    let longer = vec![in rt.alloc(); b'x'; 1_048_577]?;
+    let limit = (Status::Limit, "limit script\n");
+    check_outcome(&rt, &longer, 65_536, (&[], &[]), limit)
+}
