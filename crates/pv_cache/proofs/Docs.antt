@@ -35,10 +35,10 @@ in-root (down first n) = n
 pub root-name : {M : Type 0} (path : List ℕ) (root : Tree M) (x attrs : List ℕ) (e : Ending) (kids : Forest M) (m : M) → NodeAt path root (element x attrs e kids m) → owner_at (zero ∷ path) root ≡ an_element x
 root-name path root x attrs e kids m n = ap (λ o. an_element (name_on (option_map at_spot o))) (at_node n)
 
-owner-shows : (c : Change Mark) (x attrs : List ℕ) (e : Ending) (kids : Forest Mark) (m : Mark) → ShowsSame (owner_after c (element x attrs e kids m)) (element x attrs e kids m)
+pub owner-shows : (c : Change Mark) (x attrs : List ℕ) (e : Ending) (kids : Forest Mark) (m : Mark) → ShowsSame (owner_after c (element x attrs e kids m)) (element x attrs e kids m)
 owner-shows c x attrs e kids m = record { head = refl; left = refl; nodes = refl }
 
-only : {M : Type 0} (root : Tree M) (ts : List (Tree M)) → length ts ≡ 1 → ts ≡ first_tree root ts ∷ []
+pub only : {M : Type 0} (root : Tree M) (ts : List (Tree M)) → length ts ≡ 1 → ts ≡ first_tree root ts ∷ []
 only root [] n = absurd (omega arith)
 only root (t ∷ []) n = refl
 only root (t ∷ u ∷ ts) n = absurd (omega arith)

@@ -7,3 +7,6 @@ pub mod Levels
 pub mod Unmarked
 pub mod Keeping
 pub mod Joining
+pub mod Impossible
+pub mod FirstAfter
+pub mod Borne

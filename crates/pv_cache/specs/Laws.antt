@@ -1,20 +1,20 @@
 -- What holds of well marked documents.
-use Rattle.std.specs.Prelude.{List, Option, true, false, ℕ, ◌≡◌}
-use Rattle.std.specs.List.{AllByRecursion}
+use Rattle.std.specs.Prelude.{List, [], Option, true, false, ℕ, ◌++◌, ◌∷◌, ◌≡◌}
+use Rattle.std.specs.List.{AllByRecursion, between}
 use Rattle.pv_cache.specs.Changed.{AreJudged, owner_at}
 use Rattle.pv_cache.specs.Judging.{BringsBare}
 use Rattle.pv_cache.specs.Mending.{mended_doc}
 use Rattle.pv_cache.specs.WellMarked.{IsWellMarked, verdicts_told}
 use Rattle.pv_cache.specs.declared.mending.Inner.{Inner}
 use Rattle.pv_dtd.specs.Plain.{PlainDtd}
-use Rattle.pv_edit.specs.Changes.{Change, doc_after}
+use Rattle.pv_edit.specs.Changes.{Change, doc_after, in_place_of, list_after}
 use Rattle.pv_edit.specs.Fitting.{CanChange}
 use Rattle.pv_edit.specs.Reasons.{is_top, kids_at}
-use Rattle.pv_missing.specs.Verdicts.{AreVerdicts, IsLive, possible_in}
+use Rattle.pv_missing.specs.Verdicts.{AreVerdicts, IsFirstImpossible, IsLive, IsLiveBy, possible_in}
 use Rattle.pv_missing.specs.Widths.{IsListForVerdict}
-use Rattle.pv_tree.specs.Lists.{lists_of}
+use Rattle.pv_tree.specs.Lists.{an_element, lists_of}
 use Rattle.pv_tree.specs.Marks.{unmarked_doc}
-use Rattle.pv_tree.specs.Plain.{PlainDoc, nodes_in}
+use Rattle.pv_tree.specs.Plain.{Ending, Forest, PlainDoc, element, forest_of, nodes_in}
 use Rattle.pv_tree.specs.declared.nodes.Mark.{Mark}
 use Rattle.pv_tree.specs.declared.nodes.Verdict.{Verdict}
 
@@ -39,3 +39,20 @@ MendedIsMarked = (g : PlainDtd) (root : List ℕ) (doc : PlainDoc Mark) (c : Cha
 abbrev pub MendingKeepsDocuments : Type 0
 MendingKeepsDocuments = (path : List ℕ) (v : Verdict) (i : Option Inner) (stamp : ℕ) (doc : PlainDoc Mark) →
     unmarked_doc (mended_doc path v i stamp doc) ≡ unmarked_doc doc
+
+-- A well marked document, of which a list is changed so that it can't stand in its owner, has that list as its first impossible one.
+abbrev pub OuterIsFirst : Type 0
+OuterIsFirst = (g : PlainDtd) (root : List ℕ) (doc : PlainDoc Mark) (c : Change Mark) → IsWellMarked g root doc →
+    CanChange c.list c doc.root → (is_top c.list ≡ true → c.shorten ≡ false) →
+    (IsLiveBy g root (owner_at c.list doc.root) (forest_of (list_after c (kids_at c.list doc.root))) → ⊥) →
+    IsFirstImpossible g root (lists_of (doc_after c doc)) c.list
+
+-- Where the changed list can stand in its owner, and an element came whose list can't stand in it, that is the first impossible one.
+abbrev pub InnerIsFirst : Type 0
+InnerIsFirst = (g : PlainDtd) (root : List ℕ) (doc : PlainDoc Mark) (c : Change Mark) → IsWellMarked g root doc →
+    CanChange c.list c doc.root → (is_top c.list ≡ true → c.shorten ≡ false) →
+    (name attrs : List ℕ) (ending : Ending) (kids : Forest Mark) (mark : Mark) →
+    in_place_of c.filling (between c.from c.to (kids_at c.list doc.root)) ≡ element name attrs ending kids mark ∷ [] →
+    IsLiveBy g root (owner_at c.list doc.root) (forest_of (list_after c (kids_at c.list doc.root))) →
+    (IsLiveBy g root (an_element name) kids → ⊥) →
+    IsFirstImpossible g root (lists_of (doc_after c doc)) (c.list ++ c.from ∷ [])

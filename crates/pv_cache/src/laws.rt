@@ -1,6 +1,6 @@
 //! Laws of well marked documents.
 
-ghost use Rattle.pv_cache.specs.Laws.{MarksTell, MendedIsMarked, MendingKeepsDocuments};
+ghost use Rattle.pv_cache.specs.Laws.{InnerIsFirst, MarksTell, MendedIsMarked, MendingKeepsDocuments, OuterIsFirst};
 
 /// The marks of a well marked document tell the verdicts of all its lists, how many are Possible, and how many nodes there are. No list is
 /// impossible or too wide.
@@ -16,4 +16,11 @@ pub fn mended_law()
 /// Mending changes marks alone.
 pub fn mending_keeps_documents_law()
     ensures { MendingKeepsDocuments }
+{}
+
+/// Which list of a changed document is the first impossible one: the changed list, where it is impossible, and else that of the element
+/// which came into it.
+pub fn first_impossible_law()
+    ensures outer { OuterIsFirst }
+    ensures inner { InnerIsFirst }
 {}
