@@ -40,7 +40,8 @@ DOCUMENT = '<?xml version="1.0"?>\n<doc lang="en">Hello, you&amp;me<em/></doc>\n
 
 MOVES = ["wrap 0 0 1 br", "split 0.0 5", "wrap 0 0 1 head", "undo", "redo", "undo", "wrap 0 0 1 head", "text 0.1 a&nbsp;", "text 0.1 you",
          "addtext 0 2 !", "join 0.1", "deltext 0.0.0", "undo", "wrap 0 1 3 p", "wrap 0 1 2 sec", "rename 0.1 title", "rename 0.1 sec",
-         "unwrap 0.1.0.1", "undo", "insert 0.1.0 1 br", "unwrap 0.9", "nothing", "undo", "undo"]
+         "unwrap 0.1.0.1", "undo", "insert 0.1.0 1 br", "unwrap 0.9", "nothing", "undo", "undo",
+         "wrap 0 0 1 br", "redo", "undo", "addtext 0 9 x", "redo"]
 
 
 def script_of():
@@ -134,6 +135,9 @@ def main():
             number += 1
         os.chdir("/")
     print(f"allocations {trial.reached}, lines without memory {trial.silent}")
+    if number > most:
+        print(f"more than {most} allocations: the rest is untried")
+        trial.failed += 1
     if trial.silent == 0:
         print("no line was without memory")
         trial.failed += 1

@@ -124,6 +124,8 @@ check "a list too wide" 8 "limit width 0" one.dtd r
 check "the widest list of texts" 0 valid one.dtd r
 { printf '<r>'; repeat 8387 'x<!---->'; printf '</r>'; } >one.xml
 check "a list of texts too wide" 8 "limit width 0" one.dtd r
+expect "a session on it, whose input is left alone" 8 "limit width 0${lf}show$lf" \
+    bash -c '("$0" session one.dtd r one.xml; status=$?; cat; exit $status) <show.txt' "$pvtag"
 { repeat 513 '<em>'; repeat 513 '</em>'; } >one.xml
 check "513 elements in one another" 8 "limit depth 512" a.dtd em
 printf '<!ELEMENT a (b, c?)><!ELEMENT b (a?)><!ELEMENT c EMPTY>' >one.dtd
@@ -141,6 +143,9 @@ session() {
 # lines LINE..: lines with an LF between
 lines() { local IFS=$lf; printf '%s' "$*"; }
 hello='<doc>Hello</doc>'
+expect "the session in README" 0 "$(lines 'ok 1 1' 'ok 2 1' 'no impossible 0' 'ok 2 1' 'ok 2 0' 'show 92' '<doc><head>Opening hours</head><sec><p>' \
+    'Cafes opened early. Tea came later.</p></sec></doc>')$lf$lf" \
+    bash -c '"$0" session "$1/article.dtd" doc "$1/draft.xml" <"$1/markup.txt"' "$pvtag" "$top/examples"
 "$pvtag" session "$top/examples/article.dtd" doc "$top/examples/draft.xml" <"$top/examples/markup.txt" | tail -n +7 | head -n 2 >marked.xml
 expect "a draft that was marked up" 0 "valid$lf" "$pvtag" valid a.dtd doc marked.xml
 printf '<doc><sec/><head/></doc>' >one.xml
