@@ -79,7 +79,7 @@ module _ (g : PlainDtd) (root : List ℕ) where
     right-here : {t : Tree Mark} → Around [] t t
     further : {i : ℕ} {path x attrs : List ℕ} {e : Ending} {kids : Forest Mark} {m : Mark} {k u : Tree Mark} → TellsList g root (an_element x) kids m → Beside i kids k → Around path k u → Around (i ∷ path) (element x attrs e kids m) u
 
-  beside-kid : {i : ℕ} {kids : Forest Mark} {k : Tree Mark} → Beside i kids k → KidAt i kids k
+  pub beside-kid : {i : ℕ} {kids : Forest Mark} {k : Tree Mark} → Beside i kids k → KidAt i kids k
   beside-kid (at-first w) = first
   beside-kid (behind h b) = later (beside-kid b)
 

@@ -10,3 +10,5 @@ pub mod Joining
 pub mod Impossible
 pub mod FirstAfter
 pub mod Borne
+pub mod Tasks
+pub mod Ready

@@ -3,3 +3,4 @@ pub mod Mending
 pub mod Changed
 pub mod Judging
 pub mod Laws
+pub mod Changing

@@ -60,7 +60,7 @@ fn verdict_of<L: Ledger>(
 
 /// The verdicts of the lists that a change changes, or why it isn't accepted: limits before verdicts, and the outer list before the inner
 /// one. `list` is the path of the outer list, and `from` the place of the inner one's owner in it.
-pub fn judge_words<L: Ledger>(
+pub(crate) fn judge_words<L: Ledger>(
     judge: &Judge<'_>,
     owner: Option<Of>,
     words: &Words<'_>,

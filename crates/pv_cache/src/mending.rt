@@ -14,14 +14,14 @@ use std::alloc::Global;
 
 /// The verdict of an element's list, among the kids of a changed list.
 #[derive(Clone, Copy, Debug)]
-pub struct Inner {
+pub(crate) struct Inner {
     pub place: usize,
     pub verdict: Verdict,
 }
 
 /// The verdicts of the lists that a move changes, and its number.
 #[derive(Clone, Copy, Debug)]
-pub struct Mend {
+pub(crate) struct Mend {
     pub verdict: Verdict,
     pub inner: Option<Inner>,
     pub stamp: u64,
@@ -46,7 +46,7 @@ pub(crate) fn mend_element(node: &mut Node, verdict: Verdict, stamp: u64)
 }
 
 /// Marks the owner of a changed list, wherever it stands, and tells the marks above it again.
-pub fn mend_doc(alloc: Global, doc: &mut Doc, list: &[u32], mend: &Mend)
+pub(crate) fn mend_doc(alloc: Global, doc: &mut Doc, list: &[u32], mend: &Mend)
     requires can { CanMendDoc mend.now.inner list.now (plain_doc doc.old) }
     requires counted { IsDocCounted (mended_doc list.now mend.now.verdict mend.now.inner mend.now.stamp (plain_doc doc.old)) }
     ensures { plain_doc doc.new ≡ mended_doc list.now mend.now.verdict mend.now.inner mend.now.stamp (plain_doc doc.old) }

@@ -27,7 +27,7 @@ use std::alloc::Global;
 
 /// The word of a list, and whether it has no kids of any kind.
 #[derive(Drop)]
-pub struct ListWord {
+pub(crate) struct ListWord {
     pub tokens: Vec<Token>,
     pub is_bare: bool,
 }
@@ -196,14 +196,14 @@ fn only_element(nodes: &[Node]) -> Option<Came<'_>>
 
 /// The word of the list of an element that comes.
 #[derive(Drop)]
-pub struct InnerWord<'a> {
+pub(crate) struct InnerWord<'a> {
     pub name: &'a [u8],
     pub word: ListWord,
 }
 
 /// The words of the lists that a change changes.
 #[derive(Drop)]
-pub struct Words<'a> {
+pub(crate) struct Words<'a> {
     pub outer: ListWord,
     pub inner: Option<InnerWord<'a>>,
 }
@@ -233,7 +233,7 @@ fn inner_word<'a>(
 }
 
 /// The words of the lists that a change of these kids changes.
-pub fn words_after<'a>(
+pub(crate) fn words_after<'a>(
     alloc: Global,
     dtd: &Dtd,
     kids: &'a [Node],
