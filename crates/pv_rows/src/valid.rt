@@ -7,7 +7,6 @@ use pv_fixture::dtds::{
     MIXED_UNDECLARED, REALISTIC, TEXT, UNDECLARED,
 };
 use pv_runs::rows::{Row, check_rows};
-use std::alloc::{AllocError, Global};
 use std::test::Fail;
 
 const DONE: Status = Status::Done;
@@ -210,39 +209,71 @@ fn rows(rt: HostRuntime) -> Result<(), Fail> {
     Ok(())
 }
 
-// What stands before and behind groups, one inside another, in a declaration of `a`, and how many there are.
-static GROUPS: [(&str, usize, &str, Status, &str); 8] = [
-    ("<!ELEMENT b EMPTY>", 64, ">", DONE, "valid\n"),
-    ("<!ELEMENT b EMPTY>", 65, ">", LIMIT, "limit dtd 1\n"),
-    ("", 64, ">", NEGATIVE, "invalid 0.0\n"),
-    ("", 65, ">", LIMIT, "limit dtd 0\n"),
+// 64 groups, one inside another, in a declaration of `a`, and 65.
+static GROUPS: [Row<'static>; 8] = [
+    (
+        "<!ELEMENT b EMPTY><!ELEMENT a ((((((((((((((((((((((((((((((((((((((((((((((((((((((((((((((((b))))))))))))))))))))))))))))))))))))))))))))))))))))))))))))))))>",
+        "a",
+        "<a><b/></a>",
+        DONE,
+        "valid\n",
+    ),
+    (
+        "<!ELEMENT b EMPTY><!ELEMENT a (((((((((((((((((((((((((((((((((((((((((((((((((((((((((((((((((b)))))))))))))))))))))))))))))))))))))))))))))))))))))))))))))))))>",
+        "a",
+        "<a><b/></a>",
+        LIMIT,
+        "limit dtd 1\n",
+    ),
+    (
+        "<!ELEMENT a ((((((((((((((((((((((((((((((((((((((((((((((((((((((((((((((((b))))))))))))))))))))))))))))))))))))))))))))))))))))))))))))))))>",
+        "a",
+        "<a><b/></a>",
+        NEGATIVE,
+        "invalid 0.0\n",
+    ),
+    (
+        "<!ELEMENT a (((((((((((((((((((((((((((((((((((((((((((((((((((((((((((((((((b)))))))))))))))))))))))))))))))))))))))))))))))))))))))))))))))))>",
+        "a",
+        "<a><b/></a>",
+        LIMIT,
+        "limit dtd 0\n",
+    ),
     // The item has one more fault, or the next item has: nesting, then syntax.
-    ("", 65, "", LIMIT, "limit dtd 0\n"),
-    ("", 65, ">%p;", LIMIT, "limit dtd 0\n"),
+    (
+        "<!ELEMENT a (((((((((((((((((((((((((((((((((((((((((((((((((((((((((((((((((b)))))))))))))))))))))))))))))))))))))))))))))))))))))))))))))))))",
+        "a",
+        "<a><b/></a>",
+        LIMIT,
+        "limit dtd 0\n",
+    ),
+    (
+        "<!ELEMENT a (((((((((((((((((((((((((((((((((((((((((((((((((((((((((((((((((b)))))))))))))))))))))))))))))))))))))))))))))))))))))))))))))))))>%p;",
+        "a",
+        "<a><b/></a>",
+        LIMIT,
+        "limit dtd 0\n",
+    ),
     // A parameter comes before nesting.
-    ("", 65, "%p;>", BAD_DTD, "dtd parameter 0\n"),
-    ("", 65, "%p;", BAD_DTD, "dtd parameter 0\n"),
+    (
+        "<!ELEMENT a (((((((((((((((((((((((((((((((((((((((((((((((((((((((((((((((((b)))))))))))))))))))))))))))))))))))))))))))))))))))))))))))))))))%p;>",
+        "a",
+        "<a><b/></a>",
+        BAD_DTD,
+        "dtd parameter 0\n",
+    ),
+    (
+        "<!ELEMENT a (((((((((((((((((((((((((((((((((((((((((((((((((((((((((((((((((b)))))))))))))))))))))))))))))))))))))))))))))))))))))))))))))))))%p;",
+        "a",
+        "<a><b/></a>",
+        BAD_DTD,
+        "dtd parameter 0\n",
+    ),
 ];
-
-fn grouped(alloc: Global, first: &str, count: usize, last: &str) -> Result<String, AllocError> {
-    let mut text = String::from_str(alloc, first)?;
-    text.push_str("<!ELEMENT a ")?;
-    text.push_str(&nested(alloc, count, "(", "b", ")")?)?;
-    text.push_str(last)?;
-    Ok(text)
-}
 
 #[test]
 fn groups(rt: HostRuntime) -> Result<(), Fail> {
-    for (first, count, last, status, line) in &GROUPS {
-        let dtd = grouped(rt.alloc(), first, *count, last)?;
-        check_rows(
-            &rt,
-            "valid",
-            &[(dtd.as_str(), "a", "<a><b/></a>", *status, *line)],
-        )?;
-    }
-    Ok(())
+    check_rows(&rt, "valid", &GROUPS)
 }
 
 // How often a tag stands inside itself, what stands innermost, and how the run ends.
