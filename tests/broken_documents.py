@@ -10,6 +10,7 @@ import re
 import subprocess
 import sys
 import tempfile
+from xml.parsers import expat
 
 WHOLE = """\ufeff<?xml version="1.0" encoding='utf-8' standalone = "yes" ?>
 <!-- draft - of spring -->
@@ -63,6 +64,29 @@ def is_known(data, said, told):
     return any(word in told for word in (b"redefined", b"amespace", b"olons are forbidden", b"nsupported version", b"xml:", b"reserved for XML"))
 
 
+def names_of(data):
+    """The names of the document's elements; none where the parser of Python's library refuses it."""
+    names = []
+    parser = expat.ParserCreate()
+    parser.StartElementHandler = lambda name, attributes: names.append(name)
+    try:
+        parser.Parse(data, True)
+    except expat.ExpatError:
+        return None
+    return names
+
+
+def is_shown(program, folder, root, doc, data):
+    """Whether `show` gives the document back, by a DTD that allows its names everywhere."""
+    names = names_of(data)
+    if names is None:
+        return True
+    dtd = os.path.join(folder, "any.dtd")
+    with open(dtd, "w", encoding="utf-8") as file:
+        file.write("".join(f"<!ELEMENT {name} ANY>" for name in dict.fromkeys([root, *names])))
+    return run([program, "session", dtd, root, doc], b"show\n")[:2] == (0, b"show %d\n%s\n" % (len(data), data))
+
+
 def run(words, script=b""):
     done = subprocess.run(words, input=script, capture_output=True, timeout=20)
     return done.returncode, done.stdout, done.stderr
@@ -97,12 +121,10 @@ def main():
                 failed += 1
                 print("case", number, "status", status, said, "xmllint", peer, told[:300], data, flush=True)
                 continue
-            if status in (0, 1):
-                shown = run([program, "session", dtd, root, doc], b"show\n")
-                if shown[:2] != (0, b"show %d\n%s\n" % (len(data), data)):
-                    failed += 1
-                    print("case", number, "shown", shown[:2], data, flush=True)
-                    continue
+            if status in (0, 1) and not is_shown(program, folder, root, doc, data):
+                failed += 1
+                print("case", number, "isn't given back", data, flush=True)
+                continue
             passed += 1
     print(known, "known differences")
     print(f"{passed} passed, {failed} failed")
