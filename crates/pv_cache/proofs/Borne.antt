@@ -4,6 +4,7 @@ use Rattle.std.specs.Prelude.{IfSome, MatchOption, false}
 use Rattle.std.proofs.lemmas.List.{length-map}
 use Rattle.std.specs.List.{between}
 use Rattle.pv_dtd.specs.Plain.{PlainDtd}
+use Rattle.pv_edit.specs.Brought.{brings_element}
 use Rattle.pv_edit.specs.Changes.{Change, in_place_of, list_after}
 use Rattle.pv_missing.specs.Verdicts.{IsVerdict}
 use Rattle.pv_missing.specs.Weighing.{site_of}
@@ -17,7 +18,7 @@ use Rattle.pv_tree.specs.Plain.{Forest, Tree, forest_of}
 use Rattle.pv_tree.specs.Words.{word_of}
 use Rattle.pv_tree.specs.declared.nodes.Mark.{Mark}
 use Rattle.pv_tree.specs.declared.nodes.Verdict.{Verdict}
-use Rattle.pv_cache.specs.Changed.{AreJudged, IsBearable, IsInnerJudged, brings_element}
+use Rattle.pv_cache.specs.Changed.{AreJudged, IsBearable, IsInnerJudged}
 use Rattle.pv_cache.specs.Judging.{AreBorne, AreNarrow, AreWords, IsBorne, IsFound, IsInnerBorne, IsInnerWord, IsWordOf}
 use Rattle.pv_cache.specs.declared.mending.Inner.{Inner}
 use Rattle.pv_cache.specs.declared.mending.Mend.{Mend}

@@ -4,6 +4,7 @@ use Rattle.std.specs.List.{between}
 use Rattle.std.specs.Option.{option_map}
 use Rattle.std.proofs.lemmas.List.{length-append}
 use Rattle.pv_dtd.specs.Plain.{PlainDtd}
+use Rattle.pv_edit.specs.Brought.{BringsBare}
 use Rattle.pv_edit.specs.Changes.{Change, Filling, around, named, others, inner as own_kids, change_below, first_tree, in_place_of, list_after, owner_after, root_after}
 use Rattle.pv_edit.specs.Inverses.{name_on}
 use Rattle.pv_edit.proofs.Cutting.{front-length}
@@ -19,7 +20,6 @@ use Rattle.pv_tree.specs.Plain.{Ending, Forest, PlainDoc, Tree, element, forest_
 use Rattle.pv_tree.specs.declared.nodes.Mark.{Mark}
 use Rattle.pv_tree.specs.declared.nodes.Verdict.{Verdict}
 use Rattle.pv_cache.specs.Changed.{AreJudged, IsInnerJudged, owner_at}
-use Rattle.pv_cache.specs.Judging.{BringsBare}
 use Rattle.pv_cache.specs.Laws.{MarksTell, MendedIsMarked}
 use Rattle.pv_cache.specs.Mending.{mended_below, mended_doc, mended_kids, mended_owner, mended_root}
 use Rattle.pv_cache.specs.declared.mending.Inner.{Inner}

@@ -2,6 +2,7 @@
 use Rattle.std.proofs.Common.{◌≡◌, ◌∙◌, ap, sym, refl, ℕ, zero, suc, ◌≤◌, Bool, true, false, ◌||◌, List, [], ◌∷◌, ◌++◌, length, take, drop, Option, Some, None, subst}
 use Rattle.std.specs.List.{AllByRecursion, between, list_any}
 use Rattle.pv_dtd.specs.Plain.{PlainDtd}
+use Rattle.pv_edit.specs.Brought.{brings_element}
 use Rattle.pv_edit.specs.Changes.{Change, Filling, all_kids, around, change_kid, in_place_of, inner, list_after, named, others, owner_after, with_name}
 use Rattle.pv_edit.proofs.Cutting.{front-length}
 use Rattle.pv_edit.proofs.Levels.{forest-trees}
@@ -13,7 +14,7 @@ use Rattle.pv_tree.specs.Places.{kids_of}
 use Rattle.pv_tree.specs.Plain.{Ending, Forest, Tree, cdata_node, element, forest_of, is_element, misc_node, no_trees, text_node, tree, trees_of}
 use Rattle.pv_tree.specs.declared.nodes.Mark.{Mark}
 use Rattle.pv_tree.specs.declared.nodes.Verdict.{Verdict}
-use Rattle.pv_cache.specs.Changed.{AreJudged, IsBearable, IsInnerJudged, IsOneBearable, brings_element}
+use Rattle.pv_cache.specs.Changed.{AreJudged, IsBearable, IsInnerJudged, IsOneBearable}
 use Rattle.pv_cache.specs.Mending.{fresh_mark, mended, mended_kids, mended_owner}
 use Rattle.pv_cache.specs.declared.mending.Inner.{Inner}
 use Rattle.pv_cache.specs.WellMarked.{EachList, EachListIn, TellsList}

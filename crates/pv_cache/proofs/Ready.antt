@@ -7,6 +7,7 @@ use Rattle.std.proofs.Math.Bool.{Bool-set}
 use Rattle.std.proofs.Math.Bridge.{le_prop}
 use Rattle.std.proofs.Math.Logic.{∥∥₁_elim, ∥∥₁_map}
 use Rattle.pv_dtd.specs.Plain.{PlainDtd}
+use Rattle.pv_edit.specs.Brought.{BringsBare}
 use Rattle.pv_edit.specs.Changes.{Change, doc_after, in_place_of, list_after, owner_after, root_after}
 use Rattle.pv_edit.specs.Fitting.{CanChange}
 use Rattle.pv_edit.specs.Inverses.{IsKept}
@@ -22,7 +23,6 @@ use Rattle.pv_tree.proofs.Levels.{trees-forest}
 use Rattle.pv_tree.specs.declared.nodes.Mark.{Mark}
 use Rattle.pv_tree.specs.declared.nodes.Verdict.{Verdict}
 use Rattle.pv_cache.specs.Changed.{AreJudged, IsInnerJudged, owner_at}
-use Rattle.pv_cache.specs.Judging.{BringsBare}
 use Rattle.pv_cache.specs.Mending.{CanMend, CanMendDoc, HasElement, IsDocCounted, mended_doc}
 use Rattle.pv_cache.specs.WellMarked.{IsWellMarked, told_left, told_left_in, told_nodes, told_nodes_in}
 use Rattle.pv_cache.specs.declared.mending.Inner.{Inner}

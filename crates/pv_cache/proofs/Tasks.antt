@@ -4,6 +4,7 @@ use Rattle.std.specs.Prelude.{Err, IfErr, IfOk, IfSome, MatchOption, Ok, Result}
 use Rattle.std.specs.List.{between}
 use Rattle.std.proofs.lemmas.List.{length-map}
 use Rattle.pv_dtd.specs.Plain.{PlainDtd}
+use Rattle.pv_edit.specs.Brought.{brings_element}
 use Rattle.pv_edit.specs.Changes.{Change, in_place_of, list_after}
 use Rattle.pv_edit.specs.Fitting.{CanChange, Suits}
 use Rattle.pv_edit.specs.Reasons.{is_given, is_top, kids_at, lacks_list}
@@ -28,7 +29,7 @@ use Rattle.pv_tree.specs.Words.{word_of}
 use Rattle.pv_tree.specs.declared.nodes.Mark.{Mark}
 use Rattle.pv_tree.specs.declared.nodes.Verdict.{Verdict}
 use Rattle.pv_tree.specs.declared.nodes.Verdict.TheVariants as verdict
-use Rattle.pv_cache.specs.Changed.{AreJudged, brings_element, owner_at}
+use Rattle.pv_cache.specs.Changed.{AreJudged, owner_at}
 use Rattle.pv_cache.specs.Changing.{AreNarrowAfter, IsUnaccepted}
 use Rattle.pv_cache.specs.Judging.{AreBorne, AreNarrow, AreWords, IsBorne, IsInnerWord, IsRefusedBy, IsUnborneInner, IsUnborneOuter, IsWordOf, inner_is, is_wide, outer_is}
 use Rattle.pv_cache.specs.declared.mending.Mend.{Mend}

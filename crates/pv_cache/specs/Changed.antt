@@ -1,33 +1,19 @@
 -- The lists that a change of one list changes, and their verdicts.
-use Rattle.std.specs.Prelude.{Bool, List, [], None, Option, Some, false, length, true, ℕ, ◌++◌, ◌∷◌, ◌≡◌}
-use Rattle.std.specs.List.{between, list_any}
+use Rattle.std.specs.Prelude.{List, [], None, Option, Some, false, length, true, ℕ, ◌∷◌, ◌≡◌}
+use Rattle.std.specs.List.{between}
 use Rattle.pv_cache.specs.declared.mending.Inner.{Inner}
 use Rattle.pv_dtd.specs.Plain.{PlainDtd}
-use Rattle.pv_edit.specs.Changes.{Change, Filling, around, in_place_of, inner, list_after, named, others}
+use Rattle.pv_edit.specs.Brought.{brings_element}
+use Rattle.pv_edit.specs.Changes.{Change, in_place_of, list_after}
 use Rattle.pv_edit.specs.Inverses.{name_on}
 use Rattle.pv_missing.specs.Verdicts.{IsVerdict}
 use Rattle.pv_missing.specs.Widths.{FitsVerdict}
 use Rattle.pv_tree.specs.Lists.{Owner, an_element, the_document}
 use Rattle.pv_tree.specs.Places.{spot_at}
-use Rattle.pv_tree.specs.Plain.{Ending, Forest, Tree, element, forest_of, is_element}
+use Rattle.pv_tree.specs.Plain.{Ending, Forest, Tree, element, forest_of}
 use Rattle.pv_tree.specs.Words.{word_of}
 use Rattle.pv_tree.specs.declared.nodes.Verdict.{Verdict}
 use Rattle.pv_tree.specs.declared.nodes.Verdict.TheVariants as verdict
-
--- the filling has an element of its own, whose list is new or has a new owner's name
-abbrev pub brings_element : {M : Type 0} → Filling M → Bool
-brings_element (others trees) = list_any is_element trees
-brings_element (around name attrs ending mark) = true
-brings_element inner = false
-brings_element (named name) = true
-
--- the lists that a change changes, by their paths after it
-abbrev pub lists_changed : {M : Type 0} → Change M → List (List ℕ)
-lists_changed c = c.list ∷ below (brings_element c.filling)
-  where
-    below : Bool → List (List ℕ)
-    below true = (c.list ++ c.from ∷ []) ∷ []
-    below false = []
 
 -- the owner of the list at a path
 abbrev pub owner_at : {M : Type 0} → List ℕ → Tree M → Owner

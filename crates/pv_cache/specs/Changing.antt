@@ -1,9 +1,9 @@
 -- Why a change of a well marked document isn't accepted.
 use Rattle.std.specs.Prelude.{List, [], length, true, ℕ, ◌∷◌, ◌≡◌}
 use Rattle.std.specs.List.{between}
-use Rattle.pv_cache.specs.Changed.{brings_element}
 use Rattle.pv_cache.specs.WellMarked.{IsWellMarked}
 use Rattle.pv_dtd.specs.Plain.{PlainDtd}
+use Rattle.pv_edit.specs.Brought.{brings_element}
 use Rattle.pv_edit.specs.Changes.{Change, doc_after, in_place_of, list_after}
 use Rattle.pv_edit.specs.Reasons.{kids_at}
 use Rattle.pv_edit.specs.declared.answers.EditAnswer.{EditAnswer}

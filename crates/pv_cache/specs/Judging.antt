@@ -1,7 +1,6 @@
 -- The words of changed lists, beside the tree.
 use Rattle.std.specs.Prelude.{IfSome, List, MatchOption, None, Some, [], Option, false, length, map, true, ℕ, ◌++◌, ◌∷◌, ◌≡◌}
-use Rattle.std.specs.List.{AllByRecursion, between, list_any}
-use Rattle.pv_cache.specs.Changed.{brings_element}
+use Rattle.std.specs.List.{between}
 use Rattle.pv_cache.specs.declared.words.Came.{Came}
 use Rattle.pv_cache.specs.declared.words.Coming.{Coming}
 use Rattle.pv_cache.specs.declared.words.Coming.TheVariants.{Name, Nodes}
@@ -10,11 +9,11 @@ use Rattle.pv_cache.specs.declared.words.ListWord.{ListWord}
 use Rattle.pv_cache.specs.declared.words.Words.{Words}
 use Rattle.pv_missing.specs.Widths.{FitsVerdict}
 use Rattle.pv_dtd.specs.Plain.{PlainDtd}
-use Rattle.pv_edit.specs.Changes.{Change, Filling, around, in_place_of, inner as own_kids, list_after, named, others}
+use Rattle.pv_edit.specs.Brought.{brings_element}
+use Rattle.pv_edit.specs.Changes.{Change, Filling, in_place_of, list_after}
 use Rattle.pv_missing.specs.WordVerdicts.{IsVerdictByWord, has_no_trees}
 use Rattle.pv_model.specs.PlainForms.{plain_token}
-use Rattle.pv_tree.specs.Places.{kids_of}
-use Rattle.pv_tree.specs.Plain.{Ending, Forest, Tree, element, forest_of, is_element}
+use Rattle.pv_tree.specs.Plain.{Ending, Forest, Tree, element, forest_of}
 use Rattle.pv_tree.specs.PlainForms.{forest, plain_all}
 use Rattle.pv_tree.specs.Words.{word_of}
 use Rattle.pv_tree.specs.declared.nodes.Mark.{Mark}
@@ -27,14 +26,6 @@ use Rattle.pv_edit.specs.declared.answers.EditAnswer.{EditAnswer}
 use Rattle.pv_edit.specs.declared.answers.EditAnswer.TheVariants.{Impossible, Limit, NoMemory, Shape}
 use Rattle.pv_cache.specs.declared.mending.Inner.{Inner}
 use Rattle.pv_cache.specs.declared.mending.Mend.{Mend}
-
--- new trees have no kids, and an element among them comes alone
-abbrev pub BringsBare : {M : Type 0} → Filling M → Type 0
-BringsBare (others trees) = AllByRecursion (λ t. kids_of t ≡ []) trees ×
-    (list_any is_element trees ≡ true → length trees ≡ 1)
-BringsBare (around name attrs ending mark) = Unit {0}
-BringsBare own_kids = Unit {0}
-BringsBare (named name) = Unit {0}
 
 -- the word of a list, and whether it has no kids of any kind
 pub record IsWordOf (g : PlainDtd) (kids : Forest Mark) (word : ListWord) : Type 0 where

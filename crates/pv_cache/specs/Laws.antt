@@ -2,11 +2,11 @@
 use Rattle.std.specs.Prelude.{List, [], Option, true, false, ℕ, ◌++◌, ◌∷◌, ◌≡◌}
 use Rattle.std.specs.List.{AllByRecursion, between}
 use Rattle.pv_cache.specs.Changed.{AreJudged, owner_at}
-use Rattle.pv_cache.specs.Judging.{BringsBare}
 use Rattle.pv_cache.specs.Mending.{mended_doc}
 use Rattle.pv_cache.specs.WellMarked.{IsWellMarked, verdicts_told}
 use Rattle.pv_cache.specs.declared.mending.Inner.{Inner}
 use Rattle.pv_dtd.specs.Plain.{PlainDtd}
+use Rattle.pv_edit.specs.Brought.{BringsBare}
 use Rattle.pv_edit.specs.Changes.{Change, doc_after, in_place_of, list_after}
 use Rattle.pv_edit.specs.Fitting.{CanChange}
 use Rattle.pv_edit.specs.Reasons.{is_top, kids_at}

@@ -4,9 +4,9 @@ ghost use Rattle.std.specs.Prelude.{◌≡◌, ◌≤◌, ◌+◌, true, false, 
 ghost use Rattle.std.specs.Option.{option_map};
 ghost use Rattle.pv_cache.specs.Changed.{AreJudged, owner_at};
 ghost use Rattle.pv_cache.specs.Changing.{IsUnaccepted};
-ghost use Rattle.pv_cache.specs.Judging.{BringsBare};
 ghost use Rattle.pv_cache.specs.WellMarked.{IsWellMarked};
 ghost use Rattle.pv_dtd.specs.PlainForms.{plain_dtd};
+ghost use Rattle.pv_edit.specs.Brought.{BringsBare};
 ghost use Rattle.pv_edit.specs.Changes.{doc_after, root_after};
 ghost use Rattle.pv_edit.specs.Inverses.{IsKept};
 ghost use Rattle.pv_tree.specs.Marks.{unmarked_doc};

@@ -2,11 +2,11 @@
 
 ghost use Rattle.std.specs.Prelude.{◌≡◌, ◌↔◌, ◌&&◌, ◌∷◌, ◌++◌, [], false, true, ℕ, List, IfOk, IsTrue, MatchOption, OnOk, map};
 ghost use Rattle.std.specs.List.{between, list_any};
-ghost use Rattle.pv_cache.specs.Changed.{brings_element};
-ghost use Rattle.pv_cache.specs.Judging.{AreNarrow, AreWords, BringsBare, IsCame, IsComing, IsInnerWord, IsWordOf};
+ghost use Rattle.pv_cache.specs.Judging.{AreNarrow, AreWords, IsCame, IsComing, IsInnerWord, IsWordOf};
 ghost use Rattle.pv_dtd.specs.Hedge.{token};
 ghost use Rattle.pv_dtd.specs.Plain.{number_of};
 ghost use Rattle.pv_dtd.specs.PlainForms.{plain_dtd};
+ghost use Rattle.pv_edit.specs.Brought.{BringsBare, brings_element};
 ghost use Rattle.pv_edit.specs.Changes.{in_place_of, list_after, others};
 ghost use Rattle.pv_edit.specs.Fitting.{Fits, Suits, plain_change, plain_filling};
 ghost use Rattle.pv_edit.specs.Reasons.{is_one_element};

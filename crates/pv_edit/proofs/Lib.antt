@@ -34,3 +34,4 @@ pub mod Unchanged
 pub mod KeptLists
 pub mod KeptBack
 pub mod RunSearches
+pub mod Planned

@@ -1,6 +1,7 @@
 pub mod Edits
 pub mod Given
 pub mod Changes
+pub mod Brought
 pub mod Effects
 pub mod Reasons
 pub mod Inverses

@@ -1,14 +1,15 @@
 //! Documents changed: edits made and taken back.
 
-ghost use Rattle.std.specs.Prelude.{◌≡◌, ◌<◌, IfOk, IfErr, OnOk, OnErr};
+ghost use Rattle.std.specs.Prelude.{◌≡◌, ◌<◌, true, false, IfOk, IfErr, OnOk, OnErr};
 ghost use Rattle.pv_tree.specs.Plain.{PlainDoc, nodes_in};
 ghost use Rattle.pv_tree.specs.Legal.{MAX_NODES};
 ghost use Rattle.pv_tree.specs.PlainDocs.{plain_doc};
 ghost use Rattle.pv_tree.specs.Marks.{blank_mark, unmarked_doc};
+ghost use Rattle.pv_edit.specs.Brought.{BringsBare};
 ghost use Rattle.pv_edit.specs.Changes.{doc_after, root_after};
-ghost use Rattle.pv_edit.specs.Fitting.{CanChange, plain_change};
+ghost use Rattle.pv_edit.specs.Fitting.{CanChange, plain_change, plain_filling};
 ghost use Rattle.pv_edit.specs.Inverses.{IsKept, LeadsBack, inverse_of, reverted};
-ghost use Rattle.pv_edit.specs.Reasons.{applied, gives, reason_of};
+ghost use Rattle.pv_edit.specs.Reasons.{applied, gives, is_top, reason_of};
 ghost use Rattle.pv_edit.specs.Plans.{IsPlan, IsTask};
 ghost use Rattle.pv_edit.specs.Refusals.{IsRefused};
 
@@ -28,6 +29,11 @@ use std::alloc::Global;
 pub fn plan(alloc: Global, doc: &Doc, edit: &Edit) -> Result<Plan, EditError>
     ensures plan { IfOk result (IsPlan (plain_doc doc.now).root edit.now) }
     ensures given { IfOk result (λ _. reason_of blank_mark (plain_doc doc.now).root edit.now ≡ None) }
+    ensures can { IfOk result (λ plan. CanChange plan.task.list (plain_change plan.task.list plan.task.change) (plain_doc doc.now).root) }
+    ensures kept { nodes_in (plain_doc doc.now).root < MAX_NODES →
+        IfOk result (λ plan. IsKept (root_after plan.task.list (plain_change plan.task.list plan.task.change) (plain_doc doc.now).root)) }
+    ensures unshort { IfOk result (λ plan. is_top plan.task.list ≡ true → plan.task.change.shorten ≡ false) }
+    ensures bare { IfOk result (λ plan. BringsBare (plain_filling plan.task.change.filling)) }
     ensures refused { IfErr result (IsRefused (applied blank_mark (plain_doc doc.now) edit.now)) }
 {
     first_reason(alloc, doc, edit)?;
@@ -37,7 +43,11 @@ pub fn plan(alloc: Global, doc: &Doc, edit: &Edit) -> Result<Plan, EditError>
 /// What an inverse is going to do.
 pub fn plan_back(alloc: Global, doc: &Doc, inverse: &Inverse) -> Result<Task, NoMemory>
     requires { (before : PlainDoc Unit) × LeadsBack inverse.now (plain_doc doc.now) before }
-    ensures { IfOk result (IsTask (plain_doc doc.now).root inverse.now) }
+    ensures task { IfOk result (IsTask (plain_doc doc.now).root inverse.now) }
+    ensures can { IfOk result (λ task. CanChange task.list (plain_change task.list task.change) (plain_doc doc.now).root) }
+    ensures kept { IfOk result (λ task. IsKept (root_after task.list (plain_change task.list task.change) (plain_doc doc.now).root)) }
+    ensures unshort { IfOk result (λ task. is_top task.list ≡ true → task.change.shorten ≡ false) }
+    ensures bare { IfOk result (λ task. BringsBare (plain_filling task.change.filling)) }
 {
     task_back(alloc, doc, inverse)
 }

@@ -1,0 +1,97 @@
+-- What is promised of a change that has been made ready, of an edit and of an inverse.
+use Rattle.std.proofs.Common.{◌≡◌, ◌<◌, ℕ, refl, sym, true, false, List, [], None, arith, subst}
+use Rattle.pv_tree.specs.Legal.{MAX_NODES}
+use Rattle.pv_tree.specs.Marks.{blank_mark}
+use Rattle.pv_tree.specs.Plain.{Tree, PlainDoc, is_element, nodes_in}
+use Rattle.pv_tree.specs.PlainForms.{plain}
+use Rattle.pv_tree.specs.declared.document.Doc.{Doc}
+use Rattle.pv_tree.specs.declared.nodes.Mark.{Mark}
+use Rattle.pv_edit.specs.Brought.{BringsBare}
+use Rattle.pv_edit.specs.Changes.{Change, root_after}
+use Rattle.pv_edit.specs.Effects.{change_of}
+use Rattle.pv_edit.specs.Fitting.{CanChange, plain_change, plain_filling}
+use Rattle.pv_edit.specs.Inverses.{IsKept, LeadsBack, change_back}
+use Rattle.pv_edit.specs.Plans.{IsPlan, IsTask}
+use Rattle.pv_edit.specs.Reasons.{is_top, reason_of}
+use Rattle.pv_edit.specs.declared.edits.Edit.{Edit}
+use Rattle.pv_edit.specs.declared.edits.Edit.TheVariants.{Wrap, Insert, Unwrap, Rename, Split, Join, SetText, AddText, DelText}
+use Rattle.pv_edit.specs.declared.inverses.Inverse.{Inverse}
+use Rattle.pv_edit.specs.declared.inverses.Inverse.TheVariants.{TakeOut, PutBack, Name, Merge, Divide, Text, Discard, Restore}
+use Rattle.pv_edit.specs.declared.plans.Plan.{Plan}
+use Rattle.pv_edit.specs.declared.plans.Task.{Task}
+use Rattle.pv_edit.proofs.Keeping.{edit-can, edit-kept}
+use Rattle.pv_edit.proofs.Reverting.{backs, back-kept}
+
+-- what a document keeps
+pub doc-kept : (doc : Doc) → IsKept (plain doc.root)
+doc-kept doc = record {
+  rooted = doc.rooted;
+  formed = doc.formed;
+  shallow = doc.shallow;
+  small = doc.small;
+  named = doc.named;
+  units = doc.units;
+  legal = doc.legal;
+  no_close_mark = doc.no_close_mark;
+}
+
+-- what an edit brings
+pub edit-bare : {M : Type 0} (blank : M) (root : Tree M) (edit : Edit) → BringsBare (change_of blank root edit).filling
+edit-bare blank root (Wrap path from to name) = tt
+edit-bare blank root (Insert path at name) = ((refl, tt), λ h. refl)
+edit-bare blank root (Unwrap path) = tt
+edit-bare blank root (Rename path name) = tt
+edit-bare blank root (Split path at) = ((refl, (refl, tt)), λ h. absurd cc)
+edit-bare blank root (Join path) = ((refl, tt), λ h. refl)
+edit-bare blank root (SetText path text) = ((refl, tt), λ h. refl)
+edit-bare blank root (AddText path at text) = ((refl, tt), λ h. refl)
+edit-bare blank root (DelText path) = (tt, λ h. absurd cc)
+
+edit-unshort : {M : Type 0} (blank : M) (root : Tree M) (edit : Edit) → (change_of blank root edit).shorten ≡ false
+edit-unshort blank root (Wrap path from to name) = refl
+edit-unshort blank root (Insert path at name) = refl
+edit-unshort blank root (Unwrap path) = refl
+edit-unshort blank root (Rename path name) = refl
+edit-unshort blank root (Split path at) = refl
+edit-unshort blank root (Join path) = refl
+edit-unshort blank root (SetText path text) = refl
+edit-unshort blank root (AddText path at text) = refl
+edit-unshort blank root (DelText path) = refl
+
+-- what an inverse brings
+pub back-bare : {M : Type 0} (blank : M) (root : Tree M) (inverse : Inverse) → BringsBare (change_back blank root inverse).filling
+back-bare blank root (TakeOut path shorten) = tt
+back-bare blank root (PutBack path from to name attrs e) = tt
+back-bare blank root (Name path name) = tt
+back-bare blank root (Merge path) = ((refl, tt), λ h. refl)
+back-bare blank root (Divide path at) = ((refl, (refl, tt)), λ h. absurd cc)
+back-bare blank root (Text path units) = ((refl, tt), λ h. refl)
+back-bare blank root (Discard path shorten) = (tt, λ h. absurd cc)
+back-bare blank root (Restore path units) = ((refl, tt), λ h. refl)
+
+module _ (root : Tree Mark) (edit : Edit) (plan : Plan) (p : IsPlan root edit plan) where
+  pub plan-can : is_element root ≡ true → reason_of blank_mark root edit ≡ None → CanChange plan.task.list (plain_change plan.task.list plan.task.change) root
+  plan-can r given = subst (λ (d : Change Mark). CanChange d.list d root) (sym p.change) (edit-can blank_mark blank_mark root edit r given)
+
+  pub plan-kept : IsKept root → nodes_in root < MAX_NODES → reason_of blank_mark root edit ≡ None → IsKept (root_after plan.task.list (plain_change plan.task.list plan.task.change) root)
+  plan-kept k n given = subst (λ (d : Change Mark). IsKept (root_after d.list d root)) (sym p.change) (edit-kept blank_mark blank_mark root edit k (omega arith) given)
+
+  pub plan-unshort : is_top plan.task.list ≡ true → plan.task.change.shorten ≡ false
+  plan-unshort h = subst (λ (d : Change Mark). d.shorten ≡ false) (sym p.change) (edit-unshort blank_mark root edit)
+
+  pub plan-bare : BringsBare (plain_filling plan.task.change.filling)
+  plan-bare = subst (λ (d : Change Mark). BringsBare d.filling) (sym p.change) (edit-bare blank_mark root edit)
+
+module _ (doc : PlainDoc Mark) (inverse : Inverse) (task : Task) (t : IsTask doc.root inverse task) where
+  pub task-bare : BringsBare (plain_filling task.change.filling)
+  task-bare = subst (λ (d : Change Mark). BringsBare d.filling) (sym t) (back-bare blank_mark doc.root inverse)
+
+  module _ (before : PlainDoc Unit) (l : LeadsBack inverse doc before) where
+    pub task-can : CanChange task.list (plain_change task.list task.change) doc.root
+    task-can = subst (λ (d : Change Mark). CanChange d.list d doc.root) (sym t) (backs blank_mark inverse doc before l).can
+
+    pub task-kept : IsKept (root_after task.list (plain_change task.list task.change) doc.root)
+    task-kept = subst (λ (d : Change Mark). IsKept (root_after d.list d doc.root)) (sym t) (back-kept blank_mark inverse doc before l)
+
+    pub task-unshort : is_top task.list ≡ true → task.change.shorten ≡ false
+    task-unshort = subst (λ (d : Change Mark). is_top d.list ≡ true → d.shorten ≡ false) (sym t) (backs blank_mark inverse doc before l).unshort

@@ -1,0 +1,15 @@
+use Rattle.pv_tree.specs.PlainForms.{plain}
+use Rattle.pv_edit.proofs.Planned.{doc-kept, plan-bare, plan-can, plan-kept, plan-unshort}
+use Rattle.pv_edit.proofs.changes.plan.Goals as goal
+
+pub returns-clause-can : goal.returns-clause-can
+returns-clause-can c = plan-can (plain c.args.doc.now.root) c.args.edit.now c.in_ok-plan_of.field-0 c.in_ok-plan_of.ensures c.args.doc.now.rooted c.in_ok-first_reason.ensures
+
+pub returns-clause-kept : goal.returns-clause-kept
+returns-clause-kept c n = plan-kept (plain c.args.doc.now.root) c.args.edit.now c.in_ok-plan_of.field-0 c.in_ok-plan_of.ensures (doc-kept c.args.doc.now) n c.in_ok-first_reason.ensures
+
+pub returns-clause-unshort : goal.returns-clause-unshort
+returns-clause-unshort c = plan-unshort (plain c.args.doc.now.root) c.args.edit.now c.in_ok-plan_of.field-0 c.in_ok-plan_of.ensures
+
+pub returns-clause-bare : goal.returns-clause-bare
+returns-clause-bare c = plan-bare (plain c.args.doc.now.root) c.args.edit.now c.in_ok-plan_of.field-0 c.in_ok-plan_of.ensures
