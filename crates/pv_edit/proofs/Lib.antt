@@ -35,3 +35,5 @@ pub mod KeptLists
 pub mod KeptBack
 pub mod RunSearches
 pub mod Planned
+pub mod Counted
+pub mod ListsChanged

@@ -1,10 +1,12 @@
 -- What holds of edits and their inverses.
-use Rattle.std.specs.Prelude.{◌≡◌, ◌<◌, ◌↔◌, ℕ, List, Some, false, IsTrue, Ok}
+use Rattle.std.specs.Prelude.{◌≡◌, ◌<◌, ◌+◌, ◌↔◌, ℕ, List, Some, false, IsTrue, Ok}
 use Rattle.std.specs.List.{list_any}
 use Rattle.pv_chars.specs.Units.{TextMeans}
 use Rattle.pv_tree.specs.Plain.{Tree, PlainDoc, is_element, nodes_in}
 use Rattle.pv_tree.specs.Places.{list_at}
+use Rattle.pv_edit.specs.Brought.{lists_changed}
 use Rattle.pv_edit.specs.ChangedLists.{changed_lists, makes, undoes}
+use Rattle.pv_edit.specs.Counts.{nodes_made, nodes_taken}
 use Rattle.pv_edit.specs.Effects.{change_of}
 use Rattle.pv_edit.specs.Origins.{IsKeptList, IsNone}
 use Rattle.pv_tree.specs.Legal.{MAX_NODES}
@@ -45,6 +47,18 @@ OtherListsStay M = (blank : M) (doc made : PlainDoc M) (edit : Edit) → IsTrue 
 abbrev pub OtherListsStayUndone : Type 0 → Type 0
 OtherListsStayUndone M = (blank : M) (inverse : Inverse) (doc : PlainDoc M) (before : PlainDoc Unit) (l : LeadsBack inverse doc before) →
     (path : List ℕ) (kids : List (Tree M)) → list_at path (reverted blank doc inverse).root ≡ Some kids → IsNone path (changed_lists (undoes l.edit)) → IsKeptList (change_back blank doc.root inverse) doc (reverted blank doc inverse) path
+
+-- The lists that an edit changes are those that its change changes.
+abbrev pub EditsChangeLists : Type 0 → Type 0
+EditsChangeLists M = (blank : M) (doc made : PlainDoc M) (edit : Edit) → applied blank doc edit ≡ gives made → lists_changed (change_of blank doc.root edit) ≡ changed_lists (makes edit)
+
+-- The same of its inverse, whatever the root is on which that is made.
+abbrev pub InversesChangeLists : Type 0 → Type 0
+InversesChangeLists M = (blank : M) (root : Tree M) (before edited : PlainDoc Unit) (edit : Edit) → applied tt before edit ≡ gives edited → lists_changed (change_back blank root (inverse_of before.root edit)) ≡ changed_lists (undoes edit)
+
+-- A document has so many nodes more after an edit as the edit makes, and so many fewer as it takes away.
+abbrev pub NodesAreCounted : Type 0 → Type 0
+NodesAreCounted M = (blank : M) (doc made : PlainDoc M) (edit : Edit) → IsTrue (is_element doc.root) → applied blank doc edit ≡ gives made → nodes_in made.root + nodes_taken edit ≡ nodes_in doc.root + nodes_made edit
 
 -- the outcome without the marks of its document
 abbrev pub unmarked_outcome : {M : Type 0} → Outcome M → Outcome Unit

@@ -6,6 +6,7 @@ pub mod Effects
 pub mod Reasons
 pub mod Inverses
 pub mod ChangedLists
+pub mod Counts
 pub mod Places
 pub mod CloseMarks
 pub mod Refusals

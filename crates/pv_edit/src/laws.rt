@@ -1,7 +1,8 @@
 //! Laws on edits and their inverses.
 
 ghost use Rattle.pv_tree.specs.declared.nodes.Mark.{Mark};
-ghost use Rattle.pv_edit.specs.Laws.{EditsKeep, InversesLeadBack, LeadsToOne, MarksDontCount, NewTextsMeanUnits, OtherListsStay, OtherListsStayUndone, TagsKeepLeaves};
+ghost use Rattle.pv_edit.specs.Laws.{EditsChangeLists, EditsKeep, InversesChangeLists, InversesLeadBack, LeadsToOne};
+ghost use Rattle.pv_edit.specs.Laws.{MarksDontCount, NewTextsMeanUnits, NodesAreCounted, OtherListsStay, OtherListsStayUndone, TagsKeepLeaves};
 
 /// The document that an inverse makes of an edited one is the one that it leads back to.
 pub fn leads_back_law()
@@ -41,4 +42,15 @@ pub fn other_lists_undone_law()
 /// An edit does the same whatever the marks of the document are.
 pub fn marks_law()
     ensures { MarksDontCount Mark }
+{}
+
+/// The lists that an edit and its inverse change are those that their changes change.
+pub fn changed_lists_law()
+    ensures made { EditsChangeLists Mark }
+    ensures undone { InversesChangeLists Mark }
+{}
+
+/// How many nodes a document has after an edit.
+pub fn nodes_law()
+    ensures { NodesAreCounted Mark }
 {}

@@ -7,6 +7,7 @@
 mod answers;
 mod changes;
 mod close_marks;
+mod counts;
 mod descent;
 mod edits;
 mod filling;
