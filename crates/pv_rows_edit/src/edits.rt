@@ -8,10 +8,11 @@ use pv_write::doc_bytes;
 use std::alloc::Global;
 use std::test::Fail;
 
-const MAX_NODES: u64 = 33_554_432;
+/// The greatest number of nodes of a document that may still grow.
+pub const MAX_NODES: u64 = 33_554_432;
 
-// The document is this text.
-fn expect(alloc: Global, doc: &Doc, text: &str) -> Result<(), Fail> {
+/// The document is this text.
+pub fn expect(alloc: Global, doc: &Doc, text: &str) -> Result<(), Fail> {
     let written = doc_bytes(alloc, doc)?;
     if written.as_slice() != text.as_bytes() {
         return Err(Fail::new(format_args!("the document isn't {text}")));
@@ -57,12 +58,13 @@ pub fn make(alloc: Global, doc: &mut Doc, edit: &Edit) -> Result<(), Fail> {
     }
 }
 
-const HELLO: &str = "<doc>Hello</doc>";
+/// A document with one text.
+pub const HELLO: &str = "<doc>Hello</doc>";
 
 const MIXED: &str = "<doc ><x/><y >a</y >b</doc>";
 
 // A document, an edit on it, and the text that it makes.
-static EDITS: [(&str, &str, &str); 18] = [
+static EDITS: [(&str, &str, &str); 19] = [
     (HELLO, "wrap 0 0 1 p", "<doc><p>Hello</p></doc>"),
     (HELLO, "wrap 0 1 1 p", "<doc>Hello<p></p></doc>"),
     (HELLO, "wrap 0 0 0 p", "<doc><p></p>Hello</doc>"),
@@ -77,6 +79,11 @@ static EDITS: [(&str, &str, &str); 18] = [
     ),
     (MIXED, "unwrap 0.0", "<doc ><y >a</y >b</doc>"),
     (MIXED, "unwrap 0.1", "<doc ><x/>ab</doc>"),
+    (
+        "<doc><p>a<x/><y>b</y>c</p>d</doc>",
+        "unwrap 0.0",
+        "<doc>a<x/><y>b</y>cd</doc>",
+    ),
     (MIXED, "rename 0.1 z", "<doc ><x/><z >a</z >b</doc>"),
     (MIXED, "rename 0 root", "<root ><x/><y >a</y >b</root>"),
     ("<doc><x>a</x></doc>", "unwrap 0", "<x>a</x>"),
@@ -102,8 +109,8 @@ fn edits_alone(rt: HostRuntime) -> Result<(), Fail> {
     Ok(())
 }
 
-// Edits one after the other, on a document of a text, and what each makes.
-static IN_ORDER: [(&str, &str); 10] = [
+/// Edits one after the other, on a document of a text, and what each makes.
+pub static IN_ORDER: [(&str, &str); 10] = [
     ("addtext 0 1 , you", "<doc>Hello, you</doc>"),
     ("join 0.0", "<doc>Hello, you</doc>"),
     ("text 0.0 Hi &amp; bye", "<doc>Hi &amp; bye</doc>"),

@@ -2,6 +2,10 @@
 #![tactic(auto)]
 
 #[cfg(test)]
+mod chains;
+#[cfg(test)]
+mod depths;
+#[cfg(test)]
 mod edits;
 #[cfg(test)]
 mod lines;

@@ -3,7 +3,7 @@
 use crate::edits::make;
 use crate::lines::edit_of;
 use pv_edit::{EditError, Reason, shape};
-use pv_fixture::documents::{document_of, nested};
+use pv_fixture::documents::document_of;
 use pv_tree::Doc;
 use std::alloc::Global;
 use std::test::Fail;
@@ -11,8 +11,8 @@ use std::test::Fail;
 // An edit as a line, and the first reason to refuse it.
 type Row = (&'static str, Option<Reason>);
 
-// The first reason to refuse the edit.
-fn refusal(alloc: Global, doc: &Doc, line: &str) -> Result<Option<Reason>, Fail> {
+/// The first reason to refuse the edit.
+pub fn refusal(alloc: Global, doc: &Doc, line: &str) -> Result<Option<Reason>, Fail> {
     let edit = edit_of(alloc, line)?.copy(alloc)?;
     match shape(alloc, doc, &edit) {
         Ok(()) => Ok(None),
@@ -30,7 +30,7 @@ fn check(alloc: Global, doc: &Doc, rows: &[Row]) -> Result<(), Fail> {
     Ok(())
 }
 
-static ELEMENTS: [Row; 29] = [
+static ELEMENTS: [Row; 31] = [
     ("wrap 0 1 2 p", None),
     ("wrap 0 2 2 p", None),
     ("wrap 0.9 2 1 ", Some(Reason::NoNode)),
@@ -48,11 +48,13 @@ static ELEMENTS: [Row; 29] = [
     ("unwrap 0.1.0", None),
     ("unwrap 9", Some(Reason::NoNode)),
     ("unwrap .", Some(Reason::NotElement)),
+    ("unwrap 0.1.0.0.0", Some(Reason::NotElement)),
     ("unwrap 0", Some(Reason::RootShape)),
     ("unwrap 0.1.0.0", Some(Reason::CloseMark)),
     ("rename 0.1 λόγος", None),
     ("rename 1 ", Some(Reason::NoNode)),
     ("rename . ", Some(Reason::NotElement)),
+    ("rename 0.1.0.0.0 ", Some(Reason::NotElement)),
     ("rename 0.1 1x", Some(Reason::BadName)),
     ("split 0.1.0.0.0 1", None),
     ("split 0.2 0", Some(Reason::NoNode)),
@@ -69,7 +71,7 @@ fn reasons_at_elements(rt: HostRuntime) -> Result<(), Fail> {
     check(alloc, &document_of(alloc, text, "doc")?, &ELEMENTS)
 }
 
-static TEXTS: [Row; 27] = [
+static TEXTS: [Row; 29] = [
     ("join 0.0", None),
     ("join 0.4", Some(Reason::NoNode)),
     ("join 0.3", Some(Reason::NotText)),
@@ -85,12 +87,14 @@ static TEXTS: [Row; 27] = [
     ("text 0.1 a&nbsp;", Some(Reason::BadText)),
     ("text 0.1 a<b", Some(Reason::BadText)),
     ("text 0.1 ]]>", Some(Reason::BadText)),
+    ("text 0.1 >\n", Some(Reason::BadText)),
     ("text 0.1 ]", Some(Reason::CloseMark)),
     ("addtext 0 4 é", None),
     ("addtext 1 9 ", Some(Reason::NoNode)),
     ("addtext 0.0 9 ", Some(Reason::NotElement)),
     ("addtext 0 5 ", Some(Reason::Range)),
     ("addtext . 0 ", Some(Reason::BadText)),
+    ("addtext 0 1 >\n", Some(Reason::BadText)),
     ("addtext . 0 a", Some(Reason::RootShape)),
     ("addtext 0 1 >", Some(Reason::CloseMark)),
     ("deltext 0.0", None),
@@ -108,25 +112,25 @@ fn reasons_at_texts(rt: HostRuntime) -> Result<(), Fail> {
     check(alloc, &doc, &TEXTS)
 }
 
-// How many elements stand one inside another, what stands before and behind the innermost one's path in the line of an edit, and the
-// first reason to refuse it.
-static DEEP: [(usize, &str, &str, Option<Reason>); 3] = [
-    (511, "insert ", " 0 em", None),
-    (512, "insert ", " 0 em", Some(Reason::Deep)),
-    (512, "wrap ", " 0 0 em", Some(Reason::Deep)),
+// A CDATA section, a comment and a processing instruction are no elements and no texts.
+static OTHERS: [Row; 12] = [
+    ("wrap 0.0 0 0 p", Some(Reason::NotElement)),
+    ("insert 0.1 0 p", Some(Reason::NotElement)),
+    ("unwrap 0.0", Some(Reason::NotElement)),
+    ("unwrap 0.1", Some(Reason::NotElement)),
+    ("rename 0.2 p", Some(Reason::NotElement)),
+    ("split 0.0 1", Some(Reason::NotText)),
+    ("join 0.0", Some(Reason::NotText)),
+    ("join 0.3", Some(Reason::NotText)),
+    ("text 0.1 a", Some(Reason::NotText)),
+    ("addtext 0.2 0 a", Some(Reason::NotElement)),
+    ("deltext 0.0", Some(Reason::NotText)),
+    ("deltext 0.2", Some(Reason::NotText)),
 ];
 
 #[test]
-fn the_greatest_depth(rt: HostRuntime) -> Result<(), Fail> {
+fn reasons_at_other_nodes(rt: HostRuntime) -> Result<(), Fail> {
     let alloc = rt.alloc();
-    for (depth, before, behind, reason) in &DEEP {
-        let text = nested(alloc, *depth, "<doc>", "", "</doc>")?;
-        let doc = document_of(alloc, &text, "doc")?;
-        let mut line = String::from_str(alloc, before)?;
-        line.push_str(&nested(alloc, depth.saturating_sub(1), "0.", "0", "")?)?;
-        line.push_str(behind)?;
-        assert_eq!(rt; refusal(alloc, &doc, &line)?, *reason);
-        assert_eq!(rt; refusal(alloc, &doc, "wrap . 0 1 doc")?, *reason);
-    }
-    Ok(())
+    let text = "<doc><![CDATA[ab]]><!--c--><?d?>e<!--f--></doc>";
+    check(alloc, &document_of(alloc, text, "doc")?, &OTHERS)
 }
