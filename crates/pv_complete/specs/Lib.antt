@@ -1,0 +1,3 @@
+pub mod Needing
+pub mod Loads
+pub mod PlainForms
