@@ -42,7 +42,8 @@ search_trees b (t ∷ ts) = option_and_then (λ c. search_trees c ts) (search_tr
 
 -- three parts of a list, one behind the other
 abbrev pub search_parts : {M : Type 0} → List (Tree M) → List (Tree M) → List (Tree M) → Option Brackets
-search_parts front middle back = option_and_then (λ b. option_and_then (λ c. search_trees c back) (search_trees b middle)) (search_trees Zero front)
+search_parts front middle back =
+    option_and_then (λ b. option_and_then (λ c. search_trees c back) (search_trees b middle)) (search_trees Zero front)
 
 -- the same up to the first node that is no text
 abbrev pub search_run : {M : Type 0} → Brackets → List (Tree M) → Option Brackets
@@ -60,7 +61,8 @@ pub record EndsBy {M : Type 0} (ts run : List (Tree M)) : Type 0 where
 
 -- a run, what stands behind it, and the run at the front of what stands behind that
 abbrev pub search_near : {M : Type 0} → List (Tree M) → List (Tree M) → List (Tree M) → Option Brackets
-search_near run middle back = option_and_then (λ b. option_and_then (λ c. search_run c back) (search_trees b middle)) (search_trees Zero run)
+search_near run middle back =
+    option_and_then (λ b. option_and_then (λ c. search_run c back) (search_trees b middle)) (search_trees Zero run)
 
 -- the search of three parts needs no more than the last run of the first
 pub record IsNear {M : Type 0} (front middle back : List (Tree M)) (result : Option Brackets) : Type 0 where

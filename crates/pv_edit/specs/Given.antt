@@ -32,7 +32,8 @@ are_char_digits base digits = is_some_bytes digits && list_all (λ d. is_digit d
 
 -- a reference by digits in this base behind this front
 abbrev pub is_char_ref_in : ℕ → List ℕ → List ℕ → Bool
-is_char_ref_in base front bytes = are_char_digits base (inner_part front bytes) && bytes_eq bytes (front ++ (inner_part front bytes ++ codes ";"))
+is_char_ref_in base front bytes =
+    are_char_digits base (inner_part front bytes) && bytes_eq bytes (front ++ (inner_part front bytes ++ codes ";"))
 
 -- a unit, as a test: one literal character, a reference by decimal or hexadecimal digits, or one to a name that needs no declaration
 abbrev pub is_unit : List ℕ → Bool
@@ -42,7 +43,8 @@ is_unit bytes =
 
 -- the bytes are units, at least one, and no `]]>` stands among them
 abbrev pub is_character_data : List ℕ → Bool
-is_character_data bytes = is_some_bytes bytes && list_all is_unit (units_in bytes) && bytes_eq (joined (units_in bytes)) bytes && not (holds_close_mark (units_in bytes))
+is_character_data bytes =
+    is_some_bytes bytes && list_all is_unit (units_in bytes) && bytes_eq (joined (units_in bytes)) bytes && not (holds_close_mark (units_in bytes))
 
 -- a literal CR or LF
 abbrev pub is_line_end : ℕ → Bool

@@ -20,45 +20,55 @@ use Rattle.pv_edit.specs.declared.inverses.Inverse.{Inverse}
 
 -- The document that an inverse makes of an edited one is the one that it leads back to, so it leads to no other.
 abbrev pub LeadsToOne : Type 0 → Type 0
-LeadsToOne M = (inverse : Inverse) (edited : PlainDoc M) (before : PlainDoc Unit) → LeadsBack inverse edited before → reverted tt (unmarked_doc edited) inverse ≡ before
+LeadsToOne M = (inverse : Inverse) (edited : PlainDoc M) (before : PlainDoc Unit) → LeadsBack inverse edited before →
+    reverted tt (unmarked_doc edited) inverse ≡ before
 
 -- A text may be put into a document exactly where it means units, which are then its units, and holds no literal CR or LF.
 abbrev pub NewTextsMeanUnits : Type 0
-NewTextsMeanUnits = (bytes : List ℕ) → IsTrue (is_new_text bytes) ↔ (TextMeans bytes (Ok (new_units bytes)) × (list_any is_line_end bytes ≡ false))
+NewTextsMeanUnits = (bytes : List ℕ) →
+    IsTrue (is_new_text bytes) ↔ (TextMeans bytes (Ok (new_units bytes)) × (list_any is_line_end bytes ≡ false))
 
 -- The inverse of an edit leads from the edited document back to the one before it.
 abbrev pub InversesLeadBack : Type 0 → Type 0
-InversesLeadBack M = (blank : M) (doc made : PlainDoc M) (edit : Edit) → IsKept doc.root → applied blank doc edit ≡ gives made → LeadsBack (inverse_of doc.root edit) made (unmarked_doc doc)
+InversesLeadBack M = (blank : M) (doc made : PlainDoc M) (edit : Edit) → IsKept doc.root → applied blank doc edit ≡ gives made →
+    LeadsBack (inverse_of doc.root edit) made (unmarked_doc doc)
 
 -- What a document keeps of its tree holds after an edit.
 abbrev pub EditsKeep : Type 0 → Type 0
-EditsKeep M = (blank : M) (doc made : PlainDoc M) (edit : Edit) → IsKept doc.root → nodes_in doc.root < MAX_NODES → applied blank doc edit ≡ gives made → IsKept made.root
+EditsKeep M = (blank : M) (doc made : PlainDoc M) (edit : Edit) → IsKept doc.root → nodes_in doc.root < MAX_NODES →
+    applied blank doc edit ≡ gives made → IsKept made.root
 
 -- An edit of tags keeps every leaf of the document in its order.
 abbrev pub TagsKeepLeaves : Type 0 → Type 0
-TagsKeepLeaves M = (blank : M) (doc made : PlainDoc M) (edit : Edit) → IsOfTags edit → applied blank doc edit ≡ gives made → leaves_in made.root ≡ leaves_in doc.root
+TagsKeepLeaves M = (blank : M) (doc made : PlainDoc M) (edit : Edit) → IsOfTags edit → applied blank doc edit ≡ gives made →
+    leaves_in made.root ≡ leaves_in doc.root
 
 -- A list of the edited document that the edit doesn't change stood in the document before, with the same owner and the same heads of kids.
 abbrev pub OtherListsStay : Type 0 → Type 0
 OtherListsStay M = (blank : M) (doc made : PlainDoc M) (edit : Edit) → IsTrue (is_element doc.root) → applied blank doc edit ≡ gives made →
-    (path : List ℕ) (kids : List (Tree M)) → list_at path made.root ≡ Some kids → IsNone path (changed_lists (makes edit)) → IsKeptList (change_of blank doc.root edit) doc made path
+    (path : List ℕ) (kids : List (Tree M)) → list_at path made.root ≡ Some kids → IsNone path (changed_lists (makes edit)) →
+    IsKeptList (change_of blank doc.root edit) doc made path
 
 -- The same where an edit is taken back.
 abbrev pub OtherListsStayUndone : Type 0 → Type 0
 OtherListsStayUndone M = (blank : M) (inverse : Inverse) (doc : PlainDoc M) (before : PlainDoc Unit) (l : LeadsBack inverse doc before) →
-    (path : List ℕ) (kids : List (Tree M)) → list_at path (reverted blank doc inverse).root ≡ Some kids → IsNone path (changed_lists (undoes l.edit)) → IsKeptList (change_back blank doc.root inverse) doc (reverted blank doc inverse) path
+    (path : List ℕ) (kids : List (Tree M)) → list_at path (reverted blank doc inverse).root ≡ Some kids →
+    IsNone path (changed_lists (undoes l.edit)) → IsKeptList (change_back blank doc.root inverse) doc (reverted blank doc inverse) path
 
 -- The lists that an edit changes are those that its change changes.
 abbrev pub EditsChangeLists : Type 0 → Type 0
-EditsChangeLists M = (blank : M) (doc made : PlainDoc M) (edit : Edit) → applied blank doc edit ≡ gives made → lists_changed (change_of blank doc.root edit) ≡ changed_lists (makes edit)
+EditsChangeLists M = (blank : M) (doc made : PlainDoc M) (edit : Edit) → applied blank doc edit ≡ gives made →
+    lists_changed (change_of blank doc.root edit) ≡ changed_lists (makes edit)
 
 -- The same of its inverse, whatever the root is on which that is made.
 abbrev pub InversesChangeLists : Type 0 → Type 0
-InversesChangeLists M = (blank : M) (root : Tree M) (before edited : PlainDoc Unit) (edit : Edit) → applied tt before edit ≡ gives edited → lists_changed (change_back blank root (inverse_of before.root edit)) ≡ changed_lists (undoes edit)
+InversesChangeLists M = (blank : M) (root : Tree M) (before edited : PlainDoc Unit) (edit : Edit) → applied tt before edit ≡ gives edited →
+    lists_changed (change_back blank root (inverse_of before.root edit)) ≡ changed_lists (undoes edit)
 
 -- A document has so many nodes more after an edit as the edit makes, and so many fewer as it takes away.
 abbrev pub NodesAreCounted : Type 0 → Type 0
-NodesAreCounted M = (blank : M) (doc made : PlainDoc M) (edit : Edit) → IsTrue (is_element doc.root) → applied blank doc edit ≡ gives made → nodes_in made.root + nodes_taken edit ≡ nodes_in doc.root + nodes_made edit
+NodesAreCounted M = (blank : M) (doc made : PlainDoc M) (edit : Edit) → IsTrue (is_element doc.root) → applied blank doc edit ≡ gives made →
+    nodes_in made.root + nodes_taken edit ≡ nodes_in doc.root + nodes_made edit
 
 -- the outcome without the marks of its document
 abbrev pub unmarked_outcome : {M : Type 0} → Outcome M → Outcome Unit
@@ -68,4 +78,5 @@ unmarked_outcome (refuses reason) = refuses reason
 -- An edit does the same whatever the marks of the document are, and has the same inverse.
 abbrev pub MarksDontCount : Type 0 → Type 0
 MarksDontCount M = (blank : M) (doc : PlainDoc M) (edit : Edit) →
-    (applied tt (unmarked_doc doc) edit ≡ unmarked_outcome (applied blank doc edit)) × (inverse_of (unmarked_doc doc).root edit ≡ inverse_of doc.root edit)
+    (applied tt (unmarked_doc doc) edit ≡ unmarked_outcome (applied blank doc edit)) ×
+    (inverse_of (unmarked_doc doc).root edit ≡ inverse_of doc.root edit)

@@ -20,7 +20,9 @@ origin_inside (named name) from k path = Some ((from + k) ∷ path)
 abbrev pub origin_below : {M : Type 0} → Change M → ℕ → List ℕ → Option (List ℕ)
 origin_below c count [] = Some []
 origin_below c count (i ∷ path) =
-    if nat_lt i c.from then Some (i ∷ path) else (if nat_lt i (c.from + count) then origin_inside c.filling c.from (i - c.from) path else Some ((c.to + (i - (c.from + count))) ∷ path))
+    if nat_lt i c.from then Some (i ∷ path)
+    else (if nat_lt i (c.from + count) then origin_inside c.filling c.from (i - c.from) path
+    else Some ((c.to + (i - (c.from + count))) ∷ path))
 
 -- at any path, by the path of the changed list
 abbrev pub origin_at : List ℕ → (List ℕ → Option (List ℕ)) → List ℕ → Option (List ℕ)

@@ -74,7 +74,8 @@ pub fn apply(alloc: Global, doc: &mut Doc, edit: &Edit) -> Result<Inverse, EditE
 pub fn revert(alloc: Global, doc: &mut Doc, inverse: &Inverse) -> Result<(), NoMemory>
     requires { (before : PlainDoc Unit) × LeadsBack inverse.now (plain_doc doc.old) before }
     ensures made { OnOk result (plain_doc doc.new ≡ reverted blank_mark (plain_doc doc.old) inverse.now) }
-    ensures led { (before : PlainDoc Unit) → LeadsBack inverse.now (plain_doc doc.old) before → OnOk result (unmarked_doc (plain_doc doc.new) ≡ before) }
+    ensures led { (before : PlainDoc Unit) → LeadsBack inverse.now (plain_doc doc.old) before →
+        OnOk result (unmarked_doc (plain_doc doc.new) ≡ before) }
     ensures unchanged { OnErr result (plain_doc doc.new ≡ plain_doc doc.old) }
 {
     let task = plan_back(alloc, doc, inverse)?;

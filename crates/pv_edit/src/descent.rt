@@ -46,6 +46,7 @@ fn change_top(alloc: Global, root: &mut Node, change: Change, room: Room)
     let Room {
         list: mut kids,
         taken,
+        ..
     } = room;
     kids.push_reserved(mem::replace(root, placeholder(alloc)));
     fill(&mut kids, change.from, change.to, change.filling, taken);
@@ -81,7 +82,7 @@ fn change_owner(alloc: Global, node: &mut Node, change: Change, room: Room)
         filling,
         shorten,
     } = change;
-    let mut kids = in_wider(take_kids(alloc, node), room.list);
+    let mut kids = in_wider(take_kids(alloc, node), room.count, room.list);
     fill(&mut kids, from, to, filling, room.taken);
     put_list(alloc, node, kids, shorten);
 }

@@ -62,7 +62,9 @@ fn take_range(kids: &mut Vec<Node>, from: usize, to: usize, mut taken: Vec<Node>
 // Moves the last so many kids before those from a place on.
 fn move_last(kids: &mut Vec<Node>, from: usize, count: usize)
     requires { from + count ≤ vec_len kids.old }
-    ensures { kids.new.items ≡ take from kids.old.items ++ (drop (vec_len kids.old - from - count) (drop from kids.old.items) ++ take (vec_len kids.old - from - count) (drop from kids.old.items)) }
+    ensures { kids.new.items ≡ take from kids.old.items ++
+        (drop (vec_len kids.old - from - count) (drop from kids.old.items) ++
+        take (vec_len kids.old - from - count) (drop from kids.old.items)) }
 {
     kids[from..].rotate_right(count);
 }

@@ -89,7 +89,8 @@ pub(crate) fn around<'a>(
 ) -> (&'a [Node], &'a Node, &'a [Node])
     requires parent { parent.now ≡ parent_of path.now }
     requires there { IsInner path.now (plain_doc doc.now).root }
-    ensures { IsParted (kids_at (parent_of path.now) (plain_doc doc.now).root) (place_of path.now) (plain_all result.0.now) (plain result.1.now) (plain_all result.2.now) }
+    ensures { IsParted (kids_at (parent_of path.now) (plain_doc doc.now).root) (place_of path.now)
+        (plain_all result.0.now) (plain result.1.now) (plain_all result.2.now) }
 {
     let (front, rest) = kids_at(doc, parent).split_at(parts_of(path.places()).1);
     match rest {

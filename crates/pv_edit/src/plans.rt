@@ -82,7 +82,8 @@ pub(crate) fn node_task(
     filling: Filling,
 ) -> Result<Task, NoMemory>
     requires { count ≤ 2 }
-    ensures { IfOk result (λ task. plain_change task.list task.change ≡ fill (parent_of path.now) (place_of path.now) (place_of path.now + count) (plain_filling filling)) }
+    ensures { IfOk result (λ task. plain_change task.list task.change ≡
+        fill (parent_of path.now) (place_of path.now) (place_of path.now + count) (plain_filling filling)) }
 {
     let from = last_place(path.places()) as usize;
     let change = Change {

@@ -16,7 +16,9 @@ use std::alloc::Global;
 /// Empty vectors for a change of one list.
 #[derive(Debug, Drop)]
 pub(crate) struct Room {
-    /// For the list, where it grows.
+    /// For how many nodes the list needs room.
+    pub count: usize,
+    /// For the list, where its own vector is too small.
     pub list: Vec<Node>,
     /// For the kids that give way.
     pub taken: Vec<Node>,
@@ -38,6 +40,7 @@ pub(crate) fn room_for(
     let count = total(kids.len() - gone, more)?;
     let had = had_room(list.places(), kids);
     Ok(Room {
+        count,
         list: room_beyond(alloc, had, count)?,
         taken: Vec::with_capacity(alloc, gone)?,
     })
@@ -71,13 +74,14 @@ fn room_beyond(alloc: Global, had: usize, count: usize) -> Result<Vec<Node>, NoM
     Ok(Vec::with_capacity(alloc, count.saturating_mul(2))?)
 }
 
-/// The nodes, in the wider of two vectors, the second of which is empty.
-pub(crate) fn in_wider(mut nodes: Vec<Node>, room: Vec<Node>) -> Vec<Node>
-    requires { room.items ≡ [] }
+/// The nodes, in a vector with room for so many: their own where it has that, and else an empty one.
+pub(crate) fn in_wider(mut nodes: Vec<Node>, count: usize, room: Vec<Node>) -> Vec<Node>
+    requires empty { room.items ≡ [] }
+    requires enough { count ≤ max (vec_len nodes) (vec_capacity room) }
     ensures items { result.items ≡ nodes.items }
-    ensures room { max (vec_len nodes) (vec_capacity room) ≤ vec_capacity result }
+    ensures room { count ≤ vec_capacity result }
 {
-    if room.capacity() <= nodes.capacity() {
+    if count <= nodes.capacity() {
         return nodes;
     }
     let mut wider = room;

@@ -33,7 +33,8 @@ pub(crate) fn set_text_makes_close_mark(
 ) -> bool
     requires parent { parent.now ≡ parent_of path.now }
     requires there { IsInner path.now (plain_doc doc.now).root }
-    ensures { (text : List ℕ) → units.now ≡ new_units text → result ≡ makes_close_mark (change_of blank_mark (plain_doc doc.now).root (edit.SetText path.now text)) (plain_doc doc.now).root }
+    ensures { (text : List ℕ) → units.now ≡ new_units text →
+        result ≡ makes_close_mark (change_of blank_mark (plain_doc doc.now).root (edit.SetText path.now text)) (plain_doc doc.now).root }
 {
     let (front, _, back) = around(doc, parent, path);
     spell_close_mark_with(front, units, back)
@@ -42,7 +43,8 @@ pub(crate) fn set_text_makes_close_mark(
 /// Whether a new text would.
 pub(crate) fn add_text_makes_close_mark(doc: &Doc, path: &Path, at: u32, units: &Units) -> bool
     requires { at ≤ length (kids_at path.now (plain_doc doc.now).root) }
-    ensures { (text : List ℕ) → units.now ≡ new_units text → result ≡ makes_close_mark (change_of blank_mark (plain_doc doc.now).root (edit.AddText path.now at text)) (plain_doc doc.now).root }
+    ensures { (text : List ℕ) → units.now ≡ new_units text →
+        result ≡ makes_close_mark (change_of blank_mark (plain_doc doc.now).root (edit.AddText path.now at text)) (plain_doc doc.now).root }
 {
     let (front, back) = kids_at(doc, path).split_at(at as usize);
     spell_close_mark_with(front, units, back)

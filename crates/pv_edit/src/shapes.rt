@@ -27,14 +27,16 @@ use std::alloc::Global;
 
 /// Whether an edit can be made on a document: `Ok` exactly where it gives one, and else its first reason.
 pub fn shape(alloc: Global, doc: &Doc, edit: &Edit) -> Result<(), EditError>
-    ensures { MatchResult result (λ _. IsGiven (applied blank_mark (plain_doc doc.now) edit.now)) (IsRefused (applied blank_mark (plain_doc doc.now) edit.now)) }
+    ensures { MatchResult result (λ _. IsGiven (applied blank_mark (plain_doc doc.now) edit.now))
+        (IsRefused (applied blank_mark (plain_doc doc.now) edit.now)) }
 {
     first_reason(alloc, doc, edit)
 }
 
 /// The first reason to refuse an edit.
 pub(crate) fn first_reason(alloc: Global, doc: &Doc, edit: &Edit) -> Result<(), EditError>
-    ensures { let reason = reason_of blank_mark (plain_doc doc.now).root edit.now in MatchResult result (λ _. reason ≡ None) (IsRefusal reason) }
+    ensures { let reason = reason_of blank_mark (plain_doc doc.now).root edit.now in
+        MatchResult result (λ _. reason ≡ None) (IsRefusal reason) }
 {
     match edit {
         Edit::Wrap {
@@ -74,7 +76,8 @@ pub(crate) fn wrap_shape(
     to: u32,
     name: &[u8],
 ) -> Result<(), EditError>
-    ensures { let reason = reason_of blank_mark (plain_doc doc.now).root (edit.Wrap path.now from to name.now) in MatchResult result (λ _. reason ≡ None) (IsRefusal reason) }
+    ensures { let reason = reason_of blank_mark (plain_doc doc.now).root (edit.Wrap path.now from to name.now) in
+        MatchResult result (λ _. reason ≡ None) (IsRefusal reason) }
 {
     unless(lacks_node(doc, path), Reason::NoNode)?;
     unless(lacks_list(doc, path), Reason::NotElement)?;
@@ -92,7 +95,8 @@ pub(crate) fn wrap_shape(
 
 /// Whether a new element can be put into a list.
 pub(crate) fn insert_shape(doc: &Doc, path: &Path, at: u32, name: &[u8]) -> Result<(), EditError>
-    ensures { let reason = reason_of blank_mark (plain_doc doc.now).root (edit.Insert path.now at name.now) in MatchResult result (λ _. reason ≡ None) (IsRefusal reason) }
+    ensures { let reason = reason_of blank_mark (plain_doc doc.now).root (edit.Insert path.now at name.now) in
+        MatchResult result (λ _. reason ≡ None) (IsRefusal reason) }
 {
     unless(lacks_node(doc, path), Reason::NoNode)?;
     unless(lacks_list(doc, path), Reason::NotElement)?;
@@ -104,7 +108,8 @@ pub(crate) fn insert_shape(doc: &Doc, path: &Path, at: u32, name: &[u8]) -> Resu
 
 /// Whether an element can have another name.
 pub(crate) fn rename_shape(doc: &Doc, path: &Path, name: &[u8]) -> Result<(), EditError>
-    ensures { let reason = reason_of blank_mark (plain_doc doc.now).root (edit.Rename path.now name.now) in MatchResult result (λ _. reason ≡ None) (IsRefusal reason) }
+    ensures { let reason = reason_of blank_mark (plain_doc doc.now).root (edit.Rename path.now name.now) in
+        MatchResult result (λ _. reason ≡ None) (IsRefusal reason) }
 {
     unless(lacks_node(doc, path), Reason::NoNode)?;
     unless(lacks_element(doc, path), Reason::NotElement)?;
@@ -132,13 +137,14 @@ fn is_one_element(nodes: &[Node]) -> bool
     matches!(nodes, [Node::Elem { .. }])
 }
 
-// Whether a new element around kids would stand too deep, or they in it.
+// Whether a new element around kids would stand too deep, or they in it. Only a look at all that they hold tells how deep they are.
 fn wraps_too_deep(doc: &Doc, path: &Path, from: u32, to: u32, name: &[u8]) -> bool
     requires list { lacks_list path.now (plain_doc doc.now).root ≡ false }
     requires order { from ≤ to }
     requires within { to ≤ length (kids_at path.now (plain_doc doc.now).root) }
     requires top { (is_top path.now && not ((from == 0) && (to == 1))) ≡ false }
-    ensures { result ≡ goes_too_deep (change_of blank_mark (plain_doc doc.now).root (edit.Wrap path.now from to name.now)) (plain_doc doc.now).root }
+    ensures { result ≡
+        goes_too_deep (change_of blank_mark (plain_doc doc.now).root (edit.Wrap path.now from to name.now)) (plain_doc doc.now).root }
 {
     let inside = depth_of_all(&kids_at(doc, path)[from as usize..to as usize]);
     path.places().len() + 1 + inside as usize > 512
@@ -149,7 +155,8 @@ fn inserts_too_deep(doc: &Doc, path: &Path, at: u32, name: &[u8]) -> bool
     requires list { lacks_list path.now (plain_doc doc.now).root ≡ false }
     requires within { at ≤ length (kids_at path.now (plain_doc doc.now).root) }
     requires top { is_top path.now ≡ false }
-    ensures { result ≡ goes_too_deep (change_of blank_mark (plain_doc doc.now).root (edit.Insert path.now at name.now)) (plain_doc doc.now).root }
+    ensures { result ≡
+        goes_too_deep (change_of blank_mark (plain_doc doc.now).root (edit.Insert path.now at name.now)) (plain_doc doc.now).root }
 {
     path.places().len() + 1 > 512
 }
@@ -182,7 +189,8 @@ fn depth_of(node: &Node) -> u32
 
 /// Whether an element can give way to its kids.
 pub(crate) fn unwrap_shape(alloc: Global, doc: &Doc, path: &Path) -> Result<(), EditError>
-    ensures { let reason = reason_of blank_mark (plain_doc doc.now).root (edit.Unwrap path.now) in MatchResult result (λ _. reason ≡ None) (IsRefusal reason) }
+    ensures { let reason = reason_of blank_mark (plain_doc doc.now).root (edit.Unwrap path.now) in
+        MatchResult result (λ _. reason ≡ None) (IsRefusal reason) }
 {
     unless(lacks_node(doc, path), Reason::NoNode)?;
     unless(lacks_element(doc, path), Reason::NotElement)?;
@@ -199,7 +207,8 @@ pub(crate) fn unwrap_shape(alloc: Global, doc: &Doc, path: &Path) -> Result<(), 
 
 /// Whether a text can be cut.
 pub(crate) fn split_shape(doc: &Doc, path: &Path, at: u32) -> Result<(), EditError>
-    ensures { let reason = reason_of blank_mark (plain_doc doc.now).root (edit.Split path.now at) in MatchResult result (λ _. reason ≡ None) (IsRefusal reason) }
+    ensures { let reason = reason_of blank_mark (plain_doc doc.now).root (edit.Split path.now at) in
+        MatchResult result (λ _. reason ≡ None) (IsRefusal reason) }
 {
     unless(lacks_node(doc, path), Reason::NoNode)?;
     let Some(units) = text_at(doc, path) else {
@@ -210,7 +219,8 @@ pub(crate) fn split_shape(doc: &Doc, path: &Path, at: u32) -> Result<(), EditErr
 
 /// Whether a text can be joined with what stands behind it.
 pub(crate) fn join_shape(alloc: Global, doc: &Doc, path: &Path) -> Result<(), EditError>
-    ensures { let reason = reason_of blank_mark (plain_doc doc.now).root (edit.Join path.now) in MatchResult result (λ _. reason ≡ None) (IsRefusal reason) }
+    ensures { let reason = reason_of blank_mark (plain_doc doc.now).root (edit.Join path.now) in
+        MatchResult result (λ _. reason ≡ None) (IsRefusal reason) }
 {
     unless(lacks_node(doc, path), Reason::NoNode)?;
     unless(text_at(doc, path).is_none(), Reason::NotText)?;
@@ -225,7 +235,8 @@ pub(crate) fn set_text_shape(
     path: &Path,
     text: &[u8],
 ) -> Result<(), EditError>
-    ensures { let reason = reason_of blank_mark (plain_doc doc.now).root (edit.SetText path.now text.now) in MatchResult result (λ _. reason ≡ None) (IsRefusal reason) }
+    ensures { let reason = reason_of blank_mark (plain_doc doc.now).root (edit.SetText path.now text.now) in
+        MatchResult result (λ _. reason ≡ None) (IsRefusal reason) }
 {
     unless(lacks_node(doc, path), Reason::NoNode)?;
     unless(text_at(doc, path).is_none(), Reason::NotText)?;
@@ -247,7 +258,8 @@ pub(crate) fn add_text_shape(
     at: u32,
     text: &[u8],
 ) -> Result<(), EditError>
-    ensures { let reason = reason_of blank_mark (plain_doc doc.now).root (edit.AddText path.now at text.now) in MatchResult result (λ _. reason ≡ None) (IsRefusal reason) }
+    ensures { let reason = reason_of blank_mark (plain_doc doc.now).root (edit.AddText path.now at text.now) in
+        MatchResult result (λ _. reason ≡ None) (IsRefusal reason) }
 {
     unless(lacks_node(doc, path), Reason::NoNode)?;
     unless(lacks_list(doc, path), Reason::NotElement)?;
@@ -264,7 +276,8 @@ pub(crate) fn add_text_shape(
 
 /// Whether a text can be taken away.
 pub(crate) fn del_text_shape(alloc: Global, doc: &Doc, path: &Path) -> Result<(), EditError>
-    ensures { let reason = reason_of blank_mark (plain_doc doc.now).root (edit.DelText path.now) in MatchResult result (λ _. reason ≡ None) (IsRefusal reason) }
+    ensures { let reason = reason_of blank_mark (plain_doc doc.now).root (edit.DelText path.now) in
+        MatchResult result (λ _. reason ≡ None) (IsRefusal reason) }
 {
     unless(lacks_node(doc, path), Reason::NoNode)?;
     unless(text_at(doc, path).is_none(), Reason::NotText)?;

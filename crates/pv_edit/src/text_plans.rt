@@ -82,7 +82,8 @@ pub(crate) fn join_plan(alloc: Global, doc: &Doc, path: &Path) -> Result<Plan, N
 pub(crate) fn join_task(alloc: Global, doc: &Doc, path: &Path) -> Result<Task, NoMemory>
     requires text { lacks_text path.now (plain_doc doc.now).root ≡ false }
     requires next { lacks_text (next_of path.now) (plain_doc doc.now).root ≡ false }
-    ensures { IfOk result (λ task. plain_change task.list task.change ≡ fill_two path.now (others (one_text (units_at path.now (plain_doc doc.now).root ++ units_at (next_of path.now) (plain_doc doc.now).root)))) }
+    ensures { IfOk result (λ task. plain_change task.list task.change ≡
+        fill_two path.now (others (one_text (units_at path.now (plain_doc doc.now).root ++ units_at (next_of path.now) (plain_doc doc.now).root)))) }
 {
     let parent = parent_of(alloc, path)?;
     let Some(units) = text_at(doc, path) else {

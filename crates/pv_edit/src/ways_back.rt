@@ -54,7 +54,8 @@ pub(crate) fn task_back(alloc: Global, doc: &Doc, inverse: &Inverse) -> Result<T
 
 // Something in place of a node, whose parent may end by `/>` again.
 fn removal_task(alloc: Global, path: &Path, filling: Filling, short: bool) -> Result<Task, NoMemory>
-    ensures { IfOk result (λ task. plain_change task.list task.change ≡ record (fill_node path.now (plain_filling filling)) { shorten = short }) }
+    ensures { IfOk result (λ task. plain_change task.list task.change ≡
+        record (fill_node path.now (plain_filling filling)) { shorten = short }) }
 {
     let Task { list, change } = node_task(alloc, path, 1, filling)?;
     let change = Change {
@@ -84,7 +85,8 @@ fn text_again(alloc: Global, text: &Units) -> Result<Filling, NoMemory>
 
 // A text that comes back before the kid at its place.
 fn restore_task(alloc: Global, path: &Path, text: &Units) -> Result<Task, NoMemory>
-    ensures { IfOk result (λ task. plain_change task.list task.change ≡ fill (parent_of path.now) (place_of path.now) (place_of path.now) (others (one_text text.now))) }
+    ensures { IfOk result (λ task. plain_change task.list task.change ≡
+        fill (parent_of path.now) (place_of path.now) (place_of path.now) (others (one_text text.now))) }
 {
     let place = last_place(path.places());
     let filling = text_again(alloc, text)?;
