@@ -1,26 +1,29 @@
 -- What is promised of a change that has been made ready, of an edit and of an inverse.
-use Rattle.std.proofs.Common.{◌≡◌, ◌<◌, ℕ, refl, sym, true, false, List, [], None, arith, subst}
+use Rattle.std.proofs.Common.{◌≡◌, ◌<◌, ◌∙◌, ap, ℕ, refl, sym, true, false, List, [], None, Option, arith, subst}
 use Rattle.pv_tree.specs.Legal.{MAX_NODES}
-use Rattle.pv_tree.specs.Marks.{blank_mark}
+use Rattle.pv_tree.specs.Marks.{blank_mark, unmarked_doc}
 use Rattle.pv_tree.specs.Plain.{Tree, PlainDoc, is_element, nodes_in}
+use Rattle.pv_tree.specs.PlainDocs.{plain_doc}
 use Rattle.pv_tree.specs.PlainForms.{plain}
 use Rattle.pv_tree.specs.declared.document.Doc.{Doc}
 use Rattle.pv_tree.specs.declared.nodes.Mark.{Mark}
 use Rattle.pv_edit.specs.Brought.{BringsBare}
-use Rattle.pv_edit.specs.Changes.{Change, root_after}
+use Rattle.pv_edit.specs.Changes.{Change, doc_after, root_after}
 use Rattle.pv_edit.specs.Effects.{change_of}
 use Rattle.pv_edit.specs.Fitting.{CanChange, plain_change, plain_filling}
-use Rattle.pv_edit.specs.Inverses.{IsKept, LeadsBack, change_back}
+use Rattle.pv_edit.specs.Inverses.{IsKept, LeadsBack, change_back, inverse_of}
 use Rattle.pv_edit.specs.Plans.{IsPlan, IsTask}
-use Rattle.pv_edit.specs.Reasons.{is_top, reason_of}
+use Rattle.pv_edit.specs.Reasons.{applied, gives, is_top, outcome, reason_of}
 use Rattle.pv_edit.specs.declared.edits.Edit.{Edit}
 use Rattle.pv_edit.specs.declared.edits.Edit.TheVariants.{Wrap, Insert, Unwrap, Rename, Split, Join, SetText, AddText, DelText}
 use Rattle.pv_edit.specs.declared.inverses.Inverse.{Inverse}
 use Rattle.pv_edit.specs.declared.inverses.Inverse.TheVariants.{TakeOut, PutBack, Name, Merge, Divide, Text, Discard, Restore}
 use Rattle.pv_edit.specs.declared.plans.Plan.{Plan}
 use Rattle.pv_edit.specs.declared.plans.Task.{Task}
+use Rattle.pv_edit.specs.declared.reasons.Reason.{Reason}
 use Rattle.pv_edit.proofs.Keeping.{edit-can, edit-kept}
-use Rattle.pv_edit.proofs.Reverting.{backs, back-kept}
+use Rattle.pv_edit.proofs.RemarkedReasons.{made-leads}
+use Rattle.pv_edit.proofs.Reverting.{backs, back-doc, back-kept}
 
 -- what a document keeps
 pub doc-kept : (doc : Doc) → IsKept (plain doc.root)
@@ -82,6 +85,21 @@ module _ (root : Tree Mark) (edit : Edit) (plan : Plan) (p : IsPlan root edit pl
   pub plan-bare : BringsBare (plain_filling plan.task.change.filling)
   plan-bare = subst (λ (d : Change Mark). BringsBare d.filling) (sym p.change) (edit-bare blank_mark root edit)
 
+-- from each document that differs in marks alone
+pub leads-on : (inverse : Inverse) (made now : PlainDoc Mark) (before : PlainDoc Unit) → unmarked_doc now ≡ unmarked_doc made → LeadsBack inverse made before → LeadsBack inverse now before
+leads-on inverse made now before h l = record { edit = l.edit; kept = l.kept; is_edited = l.is_edited ∙ ap gives (sym h); is_inverse = l.is_inverse }
+
+-- the inverse of a planned edit leads back from the document of its change
+pub plan-leads : (doc : Doc) (edit : Edit) (plan : Plan) → IsPlan (plain doc.root) edit plan → reason_of blank_mark (plain doc.root) edit ≡ None → (made : PlainDoc Mark)
+    → unmarked_doc made ≡ unmarked_doc (doc_after (plain_change plan.task.list plan.task.change) (plain_doc doc)) → LeadsBack plan.inverse made (unmarked_doc (plain_doc doc))
+plan-leads doc edit plan p reason made h =
+    let old = plain_doc doc in
+    let c = change_of blank_mark (plain doc.root) edit in
+    let given : applied blank_mark old edit ≡ gives (doc_after c old) = ap (λ (r : Option Reason). outcome r (doc_after c old)) reason in
+    let same : unmarked_doc made ≡ unmarked_doc (doc_after c old) = h ∙ ap (λ (d : Change Mark). unmarked_doc (doc_after d old)) p.change in
+    subst (λ (i : Inverse). LeadsBack i made (unmarked_doc old)) (sym p.inverse)
+    (leads-on (inverse_of (plain doc.root) edit) (doc_after c old) made (unmarked_doc old) same (made-leads blank_mark old (doc_after c old) edit (doc-kept doc) given))
+
 module _ (doc : PlainDoc Mark) (inverse : Inverse) (task : Task) (t : IsTask doc.root inverse task) where
   pub task-bare : BringsBare (plain_filling task.change.filling)
   task-bare = subst (λ (d : Change Mark). BringsBare d.filling) (sym t) (back-bare blank_mark doc.root inverse)
@@ -95,3 +113,6 @@ module _ (doc : PlainDoc Mark) (inverse : Inverse) (task : Task) (t : IsTask doc
 
     pub task-unshort : is_top task.list ≡ true → task.change.shorten ≡ false
     task-unshort = subst (λ (d : Change Mark). is_top d.list ≡ true → d.shorten ≡ false) (sym t) (backs blank_mark inverse doc before l).unshort
+
+    pub task-led : (made : PlainDoc Mark) → unmarked_doc made ≡ unmarked_doc (doc_after (plain_change task.list task.change) doc) → unmarked_doc made ≡ before
+    task-led made h = h ∙ ap (λ (d : Change Mark). unmarked_doc (doc_after d doc)) t ∙ back-doc blank_mark inverse doc before l

@@ -8,10 +8,10 @@ use Rattle.pv_edit.specs.declared.rooms.Room.{Room}
 
 -- empty vectors, for a list whose vector has room for so many before the change
 pub record HasRoom {M : Type 0} (room : Room) (had : ℕ) (c : Change M) (ts : List (Tree M)) : Type 0 where
-  pub no_list : room.list.items ≡ []
+  pub none_there : room.kids.items ≡ []
   pub none_taken : room.taken.items ≡ []
   pub list : length (list_after c ts) ≤ room.count
-  pub enough : room.count ≤ max had (vec_capacity room.list)
+  pub enough : room.count ≤ max had (vec_capacity room.kids)
   pub taken : c.to - c.from ≤ vec_capacity room.taken
 
 -- an element whose list can be changed in this room

@@ -5,6 +5,7 @@ ghost use Rattle.pv_tree.specs.Plain.{PlainDoc, nodes_in};
 ghost use Rattle.pv_tree.specs.Legal.{MAX_NODES};
 ghost use Rattle.pv_tree.specs.PlainDocs.{plain_doc};
 ghost use Rattle.pv_tree.specs.Marks.{blank_mark, unmarked_doc};
+ghost use Rattle.pv_tree.specs.declared.nodes.Mark.{Mark};
 ghost use Rattle.pv_edit.specs.Brought.{BringsBare};
 ghost use Rattle.pv_edit.specs.Changes.{doc_after, root_after};
 ghost use Rattle.pv_edit.specs.Fitting.{CanChange, plain_change, plain_filling};
@@ -26,6 +27,8 @@ use pv_tree::Doc;
 use std::alloc::Global;
 
 /// What an edit is going to do, and what undoes it: all that can be made ready before the document is touched.
+///
+/// The inverse leads back from each document that the change makes, whatever its marks are.
 pub fn plan(alloc: Global, doc: &Doc, edit: &Edit) -> Result<Plan, EditError>
     ensures plan { IfOk result (IsPlan (plain_doc doc.now).root edit.now) }
     ensures given { IfOk result (λ _. reason_of blank_mark (plain_doc doc.now).root edit.now ≡ None) }
@@ -34,13 +37,16 @@ pub fn plan(alloc: Global, doc: &Doc, edit: &Edit) -> Result<Plan, EditError>
         IfOk result (λ plan. IsKept (root_after plan.task.list (plain_change plan.task.list plan.task.change) (plain_doc doc.now).root)) }
     ensures unshort { IfOk result (λ plan. is_top plan.task.list ≡ true → plan.task.change.shorten ≡ false) }
     ensures bare { IfOk result (λ plan. BringsBare (plain_filling plan.task.change.filling)) }
+    ensures leads_back { IfOk result (λ plan. (made : PlainDoc Mark) →
+        unmarked_doc made ≡ unmarked_doc (doc_after (plain_change plan.task.list plan.task.change) (plain_doc doc.now)) →
+        LeadsBack plan.inverse made (unmarked_doc (plain_doc doc.now))) }
     ensures refused { IfErr result (IsRefused (applied blank_mark (plain_doc doc.now) edit.now)) }
 {
     first_reason(alloc, doc, edit)?;
     Ok(plan_of(alloc, doc, edit)?)
 }
 
-/// What an inverse is going to do.
+/// What an inverse is going to do: it makes the document that the inverse leads to, whatever the marks are.
 pub fn plan_back(alloc: Global, doc: &Doc, inverse: &Inverse) -> Result<Task, NoMemory>
     requires { (before : PlainDoc Unit) × LeadsBack inverse.now (plain_doc doc.now) before }
     ensures task { IfOk result (IsTask (plain_doc doc.now).root inverse.now) }
@@ -48,6 +54,10 @@ pub fn plan_back(alloc: Global, doc: &Doc, inverse: &Inverse) -> Result<Task, No
     ensures kept { IfOk result (λ task. IsKept (root_after task.list (plain_change task.list task.change) (plain_doc doc.now).root)) }
     ensures unshort { IfOk result (λ task. is_top task.list ≡ true → task.change.shorten ≡ false) }
     ensures bare { IfOk result (λ task. BringsBare (plain_filling task.change.filling)) }
+    ensures led { IfOk result (λ task. (before : PlainDoc Unit) (made : PlainDoc Mark) →
+        LeadsBack inverse.now (plain_doc doc.now) before →
+        unmarked_doc made ≡ unmarked_doc (doc_after (plain_change task.list task.change) (plain_doc doc.now)) →
+        unmarked_doc made ≡ before) }
 {
     task_back(alloc, doc, inverse)
 }

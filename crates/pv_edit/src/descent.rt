@@ -44,7 +44,7 @@ fn change_top(alloc: Global, root: &mut Node, change: Change, room: Room)
     ensures { plain root.new ≡ root_after [] (plain_change [] change) (plain root.old) }
 {
     let Room {
-        list: mut kids,
+        mut kids,
         taken,
         ..
     } = room;
@@ -82,7 +82,7 @@ fn change_owner(alloc: Global, node: &mut Node, change: Change, room: Room)
         filling,
         shorten,
     } = change;
-    let mut kids = in_wider(take_kids(alloc, node), room.count, room.list);
+    let mut kids = in_wider(take_kids(alloc, node), room.count, room.kids);
     fill(&mut kids, from, to, filling, room.taken);
     put_list(alloc, node, kids, shorten);
 }

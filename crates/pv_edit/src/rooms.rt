@@ -19,7 +19,7 @@ pub(crate) struct Room {
     /// For how many nodes the list needs room.
     pub count: usize,
     /// For the list, where its own vector is too small.
-    pub list: Vec<Node>,
+    pub kids: Vec<Node>,
     /// For the kids that give way.
     pub taken: Vec<Node>,
 }
@@ -41,7 +41,7 @@ pub(crate) fn room_for(
     let had = had_room(list.places(), kids);
     Ok(Room {
         count,
-        list: room_beyond(alloc, had, count)?,
+        kids: room_beyond(alloc, had, count)?,
         taken: Vec::with_capacity(alloc, gone)?,
     })
 }

@@ -1,5 +1,5 @@
 use Rattle.pv_tree.specs.PlainForms.{plain}
-use Rattle.pv_edit.proofs.Planned.{doc-kept, plan-bare, plan-can, plan-kept, plan-unshort}
+use Rattle.pv_edit.proofs.Planned.{doc-kept, plan-bare, plan-can, plan-kept, plan-leads, plan-unshort}
 use Rattle.pv_edit.proofs.changes.plan.Goals as goal
 
 pub returns-clause-can : goal.returns-clause-can
@@ -13,3 +13,6 @@ returns-clause-unshort c = plan-unshort (plain c.args.doc.now.root) c.args.edit.
 
 pub returns-clause-bare : goal.returns-clause-bare
 returns-clause-bare c = plan-bare (plain c.args.doc.now.root) c.args.edit.now c.in_ok-plan_of.field-0 c.in_ok-plan_of.ensures
+
+pub returns-clause-leads_back : goal.returns-clause-leads_back
+returns-clause-leads_back c = plan-leads c.args.doc.now c.args.edit.now c.in_ok-plan_of.field-0 c.in_ok-plan_of.ensures c.in_ok-first_reason.ensures

@@ -1,7 +1,7 @@
 use Rattle.std.proofs.lemmas.Result.{IfOk-weaker}
 use Rattle.pv_tree.specs.PlainDocs.{plain_doc}
 use Rattle.pv_tree.specs.Marks.{blank_mark}
-use Rattle.pv_edit.proofs.Planned.{task-bare, task-can, task-kept, task-unshort}
+use Rattle.pv_edit.proofs.Planned.{task-bare, task-can, task-kept, task-led, task-unshort}
 use Rattle.pv_edit.proofs.Reverting.{backs}
 use Rattle.pv_edit.proofs.changes.plan_back.Goals as goal
 
@@ -19,3 +19,6 @@ returns-clause-unshort c = IfOk-weaker c.task_back.result _ _ (λ task t. task-u
 
 pub returns-clause-bare : goal.returns-clause-bare
 returns-clause-bare c = IfOk-weaker c.task_back.result _ _ (λ task t. task-bare (plain_doc c.args.doc.now) c.args.inverse.now task t) c.task_back.ensures
+
+pub returns-clause-led : goal.returns-clause-led
+returns-clause-led c = IfOk-weaker c.task_back.result _ _ (λ task t before made l h. task-led (plain_doc c.args.doc.now) c.args.inverse.now task t before l made h) c.task_back.ensures

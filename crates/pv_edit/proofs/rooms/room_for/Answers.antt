@@ -31,8 +31,8 @@ returns c =
     let had : c.had_room-had.result ≡ had_at path ks = c.had_room-had.ensures ∙ rw (c.places.ensures, c.kids_at-kids.ensures) refl in
     let count : length c.kids_at-kids.result.now ≡ length ks = sym (length-map c.kids_at-kids.result.now plain) ∙ ap length c.kids_at-kids.ensures in
     let r = ap (λ (k : ℕ). max k (vec_capacity c.in_ok-room_beyond.field-0)) had in
-    room-at record { count = c.in_ok-count.count; list = c.in_ok-room_beyond.field-0; taken = c.in_ok-with_capacity.field-0 } path (plain_change path a) root c.requires (record {
-      no_list = c.in_ok-room_beyond.ensures.empty;
+    room-at record { count = c.in_ok-count.count; kids = c.in_ok-room_beyond.field-0; taken = c.in_ok-with_capacity.field-0 } path (plain_change path a) root c.requires (record {
+      none_there = c.in_ok-room_beyond.ensures.empty;
       none_taken = c.in_ok-with_capacity.ensures.items;
       list = omega (arith, n, m, count, s.order, s.within, c.count_in_place-more.ensures, c.in_ok-count.ensures);
       enough = omega (arith, r, c.in_ok-room_beyond.ensures.room);
