@@ -1,3 +1,9 @@
 pub mod Needing
 pub mod Loads
 pub mod PlainForms
+pub mod Pieces
+pub mod PieceForms
+pub mod Spelling
+pub mod Moves
+pub mod Works
+pub mod Laws

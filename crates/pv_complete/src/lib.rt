@@ -2,14 +2,26 @@
 //!
 //! `need` tells the least number of elements whose insertion makes a document valid (`IsLeast` of pv_missing). The weights of the Possible
 //! lists add up to it (`possible_weights_law` of pv_span); a Valid list weighs nothing, and takes no table. `specs/Needing.antt` says what is
-//! answered, and when each refusal comes.
+//! answered, and when each refusal comes. `pieces_of` puts a least completion of one list together, piece by piece (`specs/Pieces.antt`), by
+//! the weights of all sites over its word.
 #![tactic(auto)]
 
+mod contents;
+mod cuts;
 mod errors;
+mod items;
+pub mod laws;
 mod lists;
 mod load;
+mod members;
+mod moves;
 mod needing;
+mod particles;
+mod pieces;
+mod spelling;
 mod weighing;
 
 pub use errors::NeedError;
 pub use needing::need;
+pub use pieces::Piece;
+pub use spelling::pieces_of;

@@ -1,0 +1,35 @@
+use Rattle.std.proofs.Common.{arith, map}
+use Rattle.std.proofs.lemmas.List.{length-map}
+use Rattle.std.proofs.lemmas.Result.{IfOk-weaker}
+use Rattle.pv_model.specs.PlainForms.{plain_token}
+use Rattle.pv_productive.specs.PlainForms.{dtd_of}
+use Rattle.pv_span.specs.Weights.{weight_of}
+use Rattle.pv_complete.specs.PieceForms.{plain_pieces}
+use Rattle.pv_complete.specs.declared.pieces.Piece.TheVariants as piece
+use Rattle.pv_complete.proofs.Powers.{nearer_end}
+use Rattle.pv_complete.proofs.Stacks.{goes_end, pushed}
+use Rattle.pv_complete.proofs.spelling.take.Goals as goal
+
+pub returns-in_ok-push-in-End-clause-goes : goal.returns-in_ok-push-in-End-clause-goes
+returns-in_ok-push-in-End-clause-goes c = rw c.in-End.is
+    (goes_end (dtd_of c.args.grammar.now) (map plain_token c.args.word.now) (weight_of c.args.spans.now) c.args.stack.now.items c.in-End.id (plain_pieces c.args.pieces.now.items) (plain_pieces c.push.new.self.items)
+    (pushed c.args.pieces.now.items c.push.new.self.items (piece.End c.in-End.id) c.in_ok-push-in-End.ensures.items))
+
+pub returns-in_ok-push-in-End-clause-nearer : goal.returns-in_ok-push-in-End-clause-nearer
+returns-in_ok-push-in-End-clause-nearer c = nearer_end (dtd_of c.args.grammar.now) (map plain_token c.args.word.now) (weight_of c.args.spans.now) c.args.stack.now.items c.args.work
+
+pub move_of-step-requires : goal.move_of-step-requires
+move_of-step-requires c =
+    let r = rw c.in-Goal.is at c.requires.ready in
+    record { weights = c.requires.weights; site = r.0; span = (let q = r.1 in (q.0, let l = q.1 in let m = simp length-map at l in m)); few = r.2 }
+
+pub go-requires : goal.go-requires
+go-requires c = let r = rw c.in-Goal.is at c.requires.ready in let q = r.1 in let l = q.1 in let k = q.0 in let m = simp length-map at l in let s = c.requires.short in omega arith
+
+pub returns-in-Goal-clause-goes : goal.returns-in-Goal-clause-goes
+returns-in-Goal-clause-goes c = rw c.in-Goal.is
+    (IfOk-weaker c.go.result _ _ (λ _ f. f (dtd_of c.args.grammar.now) (map plain_token c.args.word.now) (weight_of c.args.spans.now) c.move_of-step.ensures) c.go.ensures.goes)
+
+pub returns-in-Goal-clause-nearer : goal.returns-in-Goal-clause-nearer
+returns-in-Goal-clause-nearer c = rw c.in-Goal.is
+    (IfOk-weaker c.go.result _ _ (λ _ f. f (dtd_of c.args.grammar.now) (map plain_token c.args.word.now) (weight_of c.args.spans.now) c.move_of-step.ensures) c.go.ensures.nearer)
