@@ -115,7 +115,7 @@ fn put_in_place(kids: &mut Vec<Node>, mut middle: Vec<Node>, filling: Filling)
             mark: Mark::BLANK,
         }),
         Filling::Inner => {
-            let mut parts = parts_of(middle);
+            let mut parts = element_parts(middle);
             move_behind(kids, &mut parts.kids);
         }
         Filling::Named(name) => {
@@ -125,7 +125,7 @@ fn put_in_place(kids: &mut Vec<Node>, mut middle: Vec<Node>, filling: Filling)
                 kids: inner,
                 mark,
                 ..
-            } = parts_of(middle);
+            } = element_parts(middle);
             kids.push_reserved(Node::Elem {
                 name,
                 attrs,
@@ -148,7 +148,7 @@ struct Parts {
 }
 
 // The parts of the only node, an element.
-fn parts_of(mut nodes: Vec<Node>) -> Parts
+fn element_parts(mut nodes: Vec<Node>) -> Parts
     requires { IsTrue (is_one_element (plain_all nodes.items)) }
     ensures { plain_all nodes.items ≡ element result.name result.attrs (plain_end result.end) (forest result.kids.items) result.mark ∷ [] }
 {

@@ -1,6 +1,7 @@
 //! Edits of a document. `shape` tells whether an edit can be made, and else its first reason (`reason_of`); `apply` makes it
 //! (`applied`), by one change of one list (`change_of`, `doc_after`), and gives its inverse (`inverse_of`); `revert` makes the change
 //! of an inverse (`reverted`), which leads back to the document before the edit (`LeadsBack`). An error leaves the document as it was.
+//! `plan` and `plan_back` make ready what each is going to do, and `make` does it, for a caller that looks at the change before.
 //! The laws tell what edits keep, and which lists they leave as they are (`changed_lists`, `origin_of`).
 #![tactic(auto)]
 

@@ -52,7 +52,7 @@ pub(crate) fn text_at<'a>(doc: &'a Doc, path: &Path) -> Option<&'a Units>
 }
 
 /// The path of the node whose kid stands at a path, and which of its kids that is.
-pub(crate) fn parts_of(path: &[u32]) -> (&[u32], usize)
+pub(crate) fn path_parts(path: &[u32]) -> (&[u32], usize)
     ensures parent { result.0.now ≡ parent_of path.now }
     ensures place { result.1 ≡ place_of path.now }
 {
@@ -66,7 +66,7 @@ pub(crate) fn parts_of(path: &[u32]) -> (&[u32], usize)
 pub(crate) fn parent_of(alloc: Global, path: &Path) -> Result<Path, NoMemory>
     ensures { IfOk result (λ p. p ≡ parent_of path.now) }
 {
-    Path::new(alloc, parts_of(path.places()).0)
+    Path::new(alloc, path_parts(path.places()).0)
 }
 
 /// The kids of an element, and none of any other node.
@@ -82,7 +82,7 @@ pub(crate) fn kids_of(node: &Node) -> &[Node]
 }
 
 /// The kids before the node at a path, that node, and the kids behind it.
-pub(crate) fn around<'a>(
+pub(crate) fn part_at<'a>(
     doc: &'a Doc,
     parent: &Path,
     path: &Path,
@@ -92,7 +92,7 @@ pub(crate) fn around<'a>(
     ensures { IsParted (kids_at (parent_of path.now) (plain_doc doc.now).root) (place_of path.now)
         (plain_all result.0.now) (plain result.1.now) (plain_all result.2.now) }
 {
-    let (front, rest) = kids_at(doc, parent).split_at(parts_of(path.places()).1);
+    let (front, rest) = kids_at(doc, parent).split_at(path_parts(path.places()).1);
     match rest {
         [node, back @ ..] => (front, node, back),
         [] => unreachable!(),
@@ -106,7 +106,7 @@ pub(crate) fn next_text<'a>(doc: &'a Doc, parent: &Path, path: &Path) -> Option<
     ensures lacks { is_none result ≡ lacks_text (next_of path.now) (plain_doc doc.now).root }
     ensures units { IfSome result (λ units. units.now ≡ units_at (next_of path.now) (plain_doc doc.now).root) }
 {
-    first_text(around(doc, parent, path).2)
+    first_text(part_at(doc, parent, path).2)
 }
 
 fn first_text(nodes: &[Node]) -> Option<&Units>

@@ -10,7 +10,7 @@ ghost use Rattle.pv_edit.specs.Places.{IsInner};
 ghost use Rattle.pv_edit.specs.declared.edits.Edit.TheVariants as edit;
 
 use crate::close_marks::{spell_close_mark, spell_close_mark_with};
-use crate::places::{around, kids_at, kids_of};
+use crate::places::{kids_at, kids_of, part_at};
 use pv_chars::Units;
 use pv_tree::{Doc, Path};
 
@@ -20,7 +20,7 @@ pub(crate) fn unwrap_makes_close_mark(doc: &Doc, parent: &Path, path: &Path) -> 
     requires there { IsInner path.now (plain_doc doc.now).root }
     ensures { result ≡ makes_close_mark (change_of blank_mark (plain_doc doc.now).root (edit.Unwrap path.now)) (plain_doc doc.now).root }
 {
-    let (front, node, back) = around(doc, parent, path);
+    let (front, node, back) = part_at(doc, parent, path);
     spell_close_mark(front, kids_of(node), back)
 }
 
@@ -36,7 +36,7 @@ pub(crate) fn set_text_makes_close_mark(
     ensures { (text : List ℕ) → units.now ≡ new_units text →
         result ≡ makes_close_mark (change_of blank_mark (plain_doc doc.now).root (edit.SetText path.now text)) (plain_doc doc.now).root }
 {
-    let (front, _, back) = around(doc, parent, path);
+    let (front, _, back) = part_at(doc, parent, path);
     spell_close_mark_with(front, units, back)
 }
 
@@ -56,6 +56,6 @@ pub(crate) fn del_text_makes_close_mark(doc: &Doc, parent: &Path, path: &Path) -
     requires there { IsInner path.now (plain_doc doc.now).root }
     ensures { result ≡ makes_close_mark (change_of blank_mark (plain_doc doc.now).root (edit.DelText path.now)) (plain_doc doc.now).root }
 {
-    let (front, _, back) = around(doc, parent, path);
+    let (front, _, back) = part_at(doc, parent, path);
     spell_close_mark(front, &[], back)
 }

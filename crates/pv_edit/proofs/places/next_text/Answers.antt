@@ -4,4 +4,4 @@ use Rattle.pv_edit.proofs.places.next_text.Goals as goal
 
 pub returns : goal.returns
 returns c =
-    rw (next_is c.args.path.now (plain c.args.doc.now.root) (plain_all c.around.result.0.now) (plain c.around.result.1.now) (plain_all c.around.result.2.now) c.around.ensures) c.first_text.ensures
+    rw (next_is c.args.path.now (plain c.args.doc.now.root) (plain_all c.part_at.result.0.now) (plain c.part_at.result.1.now) (plain_all c.part_at.result.2.now) c.part_at.ensures) c.first_text.ensures

@@ -9,10 +9,10 @@ use Rattle.pv_edit.proofs.RunSearches.{kids-unbroken, parted-front, parted-back}
 use Rattle.pv_edit.proofs.runs.del_text_makes_close_mark.Goals as goal
 
 pub returns : goal.returns
-returns c = c.spell_close_mark.ensures ∙ ap (λ (l : List (Tree Mark)). spells_close_mark (forest_of l)) (sym (parted-splice c.around.ensures []))
+returns c = c.spell_close_mark.ensures ∙ ap (λ (l : List (Tree Mark)). spells_close_mark (forest_of l)) (sym (parted-splice c.part_at.ensures []))
 
 pub spell_close_mark-requires-clause-front : goal.spell_close_mark-requires-clause-front
-spell_close_mark-requires-clause-front c = parted-front c.around.ensures (kids-unbroken (parent_of c.args.path.now) (plain c.args.doc.now.root) c.args.doc.now.rooted c.args.doc.now.no_close_mark)
+spell_close_mark-requires-clause-front c = parted-front c.part_at.ensures (kids-unbroken (parent_of c.args.path.now) (plain c.args.doc.now.root) c.args.doc.now.rooted c.args.doc.now.no_close_mark)
 
 pub spell_close_mark-requires-clause-back : goal.spell_close_mark-requires-clause-back
-spell_close_mark-requires-clause-back c = parted-back c.around.ensures (kids-unbroken (parent_of c.args.path.now) (plain c.args.doc.now.root) c.args.doc.now.rooted c.args.doc.now.no_close_mark)
+spell_close_mark-requires-clause-back c = parted-back c.part_at.ensures (kids-unbroken (parent_of c.args.path.now) (plain c.args.doc.now.root) c.args.doc.now.rooted c.args.doc.now.no_close_mark)

@@ -12,11 +12,11 @@ use Rattle.pv_edit.proofs.runs.set_text_makes_close_mark.Goals as goal
 
 pub returns : goal.returns
 returns c text e =
-    c.spell_close_mark_with.ensures ∙ ap (λ (l : List (Tree Mark)). spells_close_mark (forest_of l)) (sym (parted-splice c.around.ensures (one_text c.args.units.now)))
+    c.spell_close_mark_with.ensures ∙ ap (λ (l : List (Tree Mark)). spells_close_mark (forest_of l)) (sym (parted-splice c.part_at.ensures (one_text c.args.units.now)))
     ∙ ap (λ (u : List (List ℕ)). makes_close_mark (fill_node c.args.path.now (others (one_text u))) (plain c.args.doc.now.root)) e
 
 pub spell_close_mark_with-requires-clause-front : goal.spell_close_mark_with-requires-clause-front
-spell_close_mark_with-requires-clause-front c = parted-front c.around.ensures (kids-unbroken (parent_of c.args.path.now) (plain c.args.doc.now.root) c.args.doc.now.rooted c.args.doc.now.no_close_mark)
+spell_close_mark_with-requires-clause-front c = parted-front c.part_at.ensures (kids-unbroken (parent_of c.args.path.now) (plain c.args.doc.now.root) c.args.doc.now.rooted c.args.doc.now.no_close_mark)
 
 pub spell_close_mark_with-requires-clause-back : goal.spell_close_mark_with-requires-clause-back
-spell_close_mark_with-requires-clause-back c = parted-back c.around.ensures (kids-unbroken (parent_of c.args.path.now) (plain c.args.doc.now.root) c.args.doc.now.rooted c.args.doc.now.no_close_mark)
+spell_close_mark_with-requires-clause-back c = parted-back c.part_at.ensures (kids-unbroken (parent_of c.args.path.now) (plain c.args.doc.now.root) c.args.doc.now.rooted c.args.doc.now.no_close_mark)

@@ -12,11 +12,11 @@ use Rattle.pv_edit.proofs.runs.unwrap_makes_close_mark.Goals as goal
 pub returns : goal.returns
 returns c =
     c.spell_close_mark.ensures
-    ∙ ap (λ (l : List (Tree Mark)). spells_close_mark (forest_of (plain_all c.around.result.0.now ++ (l ++ plain_all c.around.result.2.now)))) c.kids_of.ensures
-    ∙ ap (λ (l : List (Tree Mark)). spells_close_mark (forest_of l)) (sym (unwrapped-list c.around.ensures))
+    ∙ ap (λ (l : List (Tree Mark)). spells_close_mark (forest_of (plain_all c.part_at.result.0.now ++ (l ++ plain_all c.part_at.result.2.now)))) c.kids_of.ensures
+    ∙ ap (λ (l : List (Tree Mark)). spells_close_mark (forest_of l)) (sym (unwrapped-list c.part_at.ensures))
 
 pub spell_close_mark-requires-clause-front : goal.spell_close_mark-requires-clause-front
-spell_close_mark-requires-clause-front c = parted-front c.around.ensures (kids-unbroken (parent_of c.args.path.now) (plain c.args.doc.now.root) c.args.doc.now.rooted c.args.doc.now.no_close_mark)
+spell_close_mark-requires-clause-front c = parted-front c.part_at.ensures (kids-unbroken (parent_of c.args.path.now) (plain c.args.doc.now.root) c.args.doc.now.rooted c.args.doc.now.no_close_mark)
 
 pub spell_close_mark-requires-clause-back : goal.spell_close_mark-requires-clause-back
-spell_close_mark-requires-clause-back c = parted-back c.around.ensures (kids-unbroken (parent_of c.args.path.now) (plain c.args.doc.now.root) c.args.doc.now.rooted c.args.doc.now.no_close_mark)
+spell_close_mark-requires-clause-back c = parted-back c.part_at.ensures (kids-unbroken (parent_of c.args.path.now) (plain c.args.doc.now.root) c.args.doc.now.rooted c.args.doc.now.no_close_mark)

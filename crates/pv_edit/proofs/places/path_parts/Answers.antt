@@ -1,5 +1,5 @@
 use Rattle.pv_edit.proofs.Paths.{parent-is, place-is}
-use Rattle.pv_edit.proofs.places.parts_of.Goals as goal
+use Rattle.pv_edit.proofs.places.path_parts.Goals as goal
 
 pub returns-in-len1-up-clause-parent : goal.returns-in-len1-up-clause-parent
 returns-in-len1-up-clause-parent c = parent-is c.args.path.now c.in-len1-up.len_at_least
