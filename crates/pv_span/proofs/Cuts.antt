@@ -14,14 +14,14 @@ less_or : (h k s : ℕ) → h ≡ min k s → (h ≡ k) ⊎ (h ≡ s)
 less_or h k s e = elim (cases_lt k s) [ inl lt ↦ inl (omega arith) | inr le ↦ inr (omega arith) ]
 
 module _ (t : Goal → ℕ) (one two : PlainSite) (i j low p k s h : ℕ) (l : IsLeastCut t one two i j low p k) (le : low ≤ p)
-    (v : s ≡ t (over one i p) + t (over two p j)) (e : h ≡ min k s) where
+    (v : s ≤ t (over one i p) + t (over two p j)) (u : s < no_size → s ≡ t (over one i p) + t (over two p j)) (e : h ≡ min k s) where
   cut_below : (m : ℕ) → low ≤ m → (m < p) ⊎ (m ≡ p) → h ≤ t (over one i m) + t (over two m j)
   cut_below m a (inl lt) = let z = l.below m a lt in omega arith
   cut_below m a (inr f) = rw f (omega arith)
 
   cut_attained : h < no_size → (h ≡ k) ⊎ (h ≡ s) → (m : ℕ) × (low ≤ m) × (m < suc p) × (h ≡ t (over one i m) + t (over two m j))
   cut_attained few (inl f) = let a = l.attained (omega arith) in (a.0, a.1, let z = a.2 in omega arith, let z = a.3 in omega arith)
-  cut_attained few (inr f) = (p, le, omega arith, omega arith)
+  cut_attained few (inr f) = (p, le, omega arith, let z = u (omega arith) in omega arith)
 
   pub cut_more : (q : ℕ) → q ≡ suc p → IsLeastCut t one two i j low q h
   cut_more q f = rw f (record { below = λ m a b. cut_below m a (last_or m p b); attained = λ few. cut_attained few (less_or h k s e) })

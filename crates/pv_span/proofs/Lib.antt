@@ -11,3 +11,5 @@ pub mod Known
 pub mod Answering
 pub mod Judging
 pub mod Summing
+pub mod Lining
+pub mod Lined

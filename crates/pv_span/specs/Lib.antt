@@ -4,3 +4,5 @@ pub mod Least
 pub mod PlainForms
 pub mod Weights
 pub mod Laws
+pub mod RowForms
+pub mod Lines

@@ -1,61 +1,64 @@
 //! Charts: values of the sites of a DTD over the spans of a word.
 
-ghost use Rattle.std.specs.Prelude.{◌≡◌, ◌≤◌, ◌<◌, ◌^◌};
-ghost use Rattle.pv_span.specs.Charts.{span_number, spans_before};
+ghost use Rattle.std.specs.Prelude.{◌≡◌, ◌<◌, ◌≤◌, ◌^◌, IsTrue, map};
+ghost use Rattle.pv_span.specs.Lines.{AreLines};
+ghost use Rattle.pv_span.specs.RowForms.{plain_row};
 
+use crate::lines::{Line, extend_lines, forget_lines};
+use crate::pairs::line_number;
 use crate::rows::Row;
+use crate::spans::span_number;
 use pv_model::NoMemory;
 use pv_rules::Site;
 use std::alloc::Global;
 use std::mem;
 
-/// The rows of the spans that are done, in their order, and the row of the span at hand.
+/// The rows of the spans that are done, in their order, and the row of the span at hand, which goes from `from` up to `to`. The lines, where
+/// there are any, have the cuts of the spans from there.
 #[derive(Debug, Drop)]
 pub struct Chart {
     tokens: u32,
     rows: Vec<Row>,
     pub row: Row,
+    from: u32,
+    to: u32,
+    lines: Vec<Line>,
     pub ghost short: { tokens < 2 ^ 13 },
+    pub ghost place: { (from ≤ to) × (to ≤ tokens) },
+    pub ghost lined: { ∥ AreLines tokens (map plain_row rows.items) from to lines.items ∥₁ },
 }
 
-/// How many spans there are from the last places.
-fn spans_before(places: u32) -> usize
-    requires { places < 2 ^ 13 }
-    ensures number { result ≡ spans_before places }
-    ensures small { result < 2 ^ 26 }
+fn are_same(one: Site, other: Site) -> bool
+    ensures { IsTrue result → one ≡ other }
 {
-    let places = places as usize;
-    places * (places + 1) / 2
-}
-
-/// The number of a span.
-fn span_number(tokens: u32, from: u32, to: u32) -> usize
-    requires short { tokens < 2 ^ 13 }
-    requires span { (from ≤ to) × (to ≤ tokens) }
-    ensures { result ≡ span_number tokens from to }
-{
-    spans_before(tokens - from) + (to - from) as usize
+    one == other
 }
 
 impl Chart {
-    ghost use Rattle.std.specs.Prelude.{◌≡◌, ◌≤◌, ◌<◌, ◌^◌, ◌++◌, ◌∷◌, [], IfOk, OnOk};
+    ghost use Rattle.std.specs.Prelude.{◌≡◌, ◌++◌, ◌∷◌, [], IfOk, IfSome, OnOk, suc};
     ghost use Rattle.pv_rules.specs.PlainForms.{plain_site};
     ghost use Rattle.pv_rules.specs.Rules.{over};
     ghost use Rattle.pv_rules.specs.Sites.{PlainSite};
     ghost use Rattle.pv_productive.specs.Tables.{no_size};
     ghost use Rattle.pv_span.specs.Charts.{value_of};
-    ghost use Rattle.pv_span.specs.PlainForms.{plain_chart, plain_row};
+    ghost use Rattle.pv_span.specs.Least.{IsLeastCut};
+    ghost use Rattle.pv_span.specs.PlainForms.{plain_chart};
     ghost use Rattle.pv_span.specs.Rows.{IsRow, value_in};
 
     /// The chart of a word of so many tokens in which no span is done.
-    pub fn new(alloc: Global, tokens: u32, row: Row) -> Chart
+    pub fn new(alloc: Global, tokens: u32, row: Row, lines: Vec<Line>) -> Chart
         requires { tokens < 2 ^ 13 }
         ensures { plain_chart result ≡ record { tokens = tokens; rows = []; row = plain_row row } }
     {
+        let mut lines = lines;
+        forget_lines(&mut lines);
         Chart {
             tokens,
             rows: Vec::new(alloc),
             row,
+            from: tokens,
+            to: tokens,
+            lines,
         }
     }
 
@@ -70,6 +73,28 @@ impl Chart {
         }
     }
 
+    /// The least sum of the cuts strictly within a span, where a line tells it.
+    pub fn least_inside(&self, one: Site, two: Site, from: u32, to: u32) -> Option<u32>
+        requires { (from ≤ to) × (to ≤ self.now.tokens) }
+        ensures { IfSome result (λ k. IsLeastCut (value_of (plain_chart self.now)) (plain_site one) (plain_site two)
+            from to (suc from) to k) }
+    {
+        if self.from != from || self.to != to {
+            return None;
+        }
+        if span_number(self.tokens, from, to) != self.rows.len() {
+            return None;
+        }
+        let line = self.lines.get(line_number(one, two))?;
+        if !are_same(line.one, one) || !are_same(line.two, two) {
+            return None;
+        }
+        if to as usize >= line.least.len() {
+            return None;
+        }
+        Some(line.least[to as usize])
+    }
+
     /// Puts the row at hand with those that are done, and begins with another.
     pub fn next(&mut self, row: Row) -> Result<(), NoMemory>
         ensures { OnOk result (plain_chart self.new ≡ record {
@@ -79,7 +104,21 @@ impl Chart {
         }) }
     {
         let done = mem::replace(&mut self.row, row);
-        self.rows.push(done)?;
+        let is_next = span_number(self.tokens, self.from, self.to) == self.rows.len();
+        let Ok(()) = self.rows.push(done) else {
+            self.lines.truncate(0);
+            return Err(NoMemory);
+        };
+        if is_next && self.to < self.tokens {
+            extend_lines(&self.rows, self.tokens, &mut self.lines, self.from, self.to);
+            self.to += 1;
+        } else if is_next && self.from > 0 {
+            forget_lines(&mut self.lines);
+            self.from -= 1;
+            self.to = self.from;
+        } else {
+            self.lines.truncate(0);
+        }
         Ok(())
     }
 }

@@ -12,6 +12,7 @@ ghost use Rattle.pv_span.specs.PlainForms.{plain_chart, plain_row};
 ghost use Rattle.pv_span.specs.Rows.{IsRow, value_in};
 
 use crate::charts::Chart;
+use crate::pairs::lines_of;
 use crate::raise::settle;
 use crate::rows::Row;
 use pv_model::{NoMemory, Token};
@@ -73,10 +74,11 @@ pub fn fill(alloc: Global, grammar: &Grammar, word: &[Token]) -> Result<Chart, N
 {
     let row = blank_row(alloc, grammar)?;
     if word.len() >= 8192 {
-        return Ok(Chart::new(alloc, 0, row));
+        return Ok(Chart::new(alloc, 0, row, Vec::new(alloc)));
     }
     let tokens = word.len() as u32;
-    let mut chart = Chart::new(alloc, tokens, row);
+    let lines = lines_of(alloc, grammar, tokens)?;
+    let mut chart = Chart::new(alloc, tokens, row, lines);
     for from in (0..tokens + 1).rev() {
         do_spans_from(alloc, grammar, word, from, &mut chart)?;
     }

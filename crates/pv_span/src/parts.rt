@@ -8,7 +8,7 @@ ghost use Rattle.pv_rules.specs.PlainForms.{plain_site};
 ghost use Rattle.pv_rules.specs.Rules.{over};
 ghost use Rattle.pv_rules.specs.Sites.{part_site, rest_site};
 ghost use Rattle.pv_productive.specs.PlainForms.{dtd_of};
-ghost use Rattle.pv_productive.specs.Tables.{IsChoiceAt};
+ghost use Rattle.pv_productive.specs.Tables.{IsChoiceAt, no_size};
 ghost use Rattle.pv_span.specs.Charts.{value_of};
 ghost use Rattle.pv_span.specs.Least.{IsLeastAt, IsLeastCut, IsLeastMember, IsLeastPlus};
 ghost use Rattle.pv_span.specs.PlainForms.{plain_chart};
@@ -25,8 +25,58 @@ fn part_of(grammar: &Grammar, number: u32) -> Option<FlatPart>
     grammar.flat().parts().get(number as usize).copied()
 }
 
-/// The least sum where the span is cut at a place from `low` up to `high`, which is left out: `one` before the place, `two` behind it.
-pub fn least_of_cuts(
+/// The sum where the span is cut at a place: `one` before it, `two` behind it. What has no value before the place isn't looked for behind it.
+fn sum_at(chart: &Chart, one: Site, two: Site, from: u32, to: u32, place: u32) -> u64
+    requires span { (from ≤ place) × (place ≤ to) × (to ≤ chart.now.tokens) }
+    ensures below { result ≤ value_of (plain_chart chart.now) (over (plain_site one) from place)
+        + value_of (plain_chart chart.now) (over (plain_site two) place to) }
+    ensures attained { result < no_size → result ≡ value_of (plain_chart chart.now) (over (plain_site one) from place)
+        + value_of (plain_chart chart.now) (over (plain_site two) place to) }
+{
+    let before = chart.at(one, from, place);
+    if before >= NONE {
+        return u64::from(NONE);
+    }
+    u64::from(before) + u64::from(chart.at(two, place, to))
+}
+
+/// The least sum of the cuts strictly within a span, and of that at its first place where `low` is there.
+fn with_first(chart: &Chart, one: Site, two: Site, from: u32, to: u32, low: u32, inside: u64) -> u64
+    requires span { (from < to) × (to ≤ chart.now.tokens) }
+    requires low { (from ≤ low) × (low ≤ suc from) }
+    requires inside { IsLeastCut (value_of (plain_chart chart.now)) (plain_site one) (plain_site two) from to (suc from) to inside }
+    ensures { IsLeastCut (value_of (plain_chart chart.now)) (plain_site one) (plain_site two) from to low to result }
+{
+    if low > from {
+        return inside;
+    }
+    inside.min(sum_at(chart, one, two, from, to, from))
+}
+
+/// The least sum of the cuts from `low` on, and of that at the last place where `high` is behind it.
+fn with_last(
+    chart: &Chart,
+    one: Site,
+    two: Site,
+    from: u32,
+    to: u32,
+    low: u32,
+    high: u32,
+    least: u64,
+) -> u64
+    requires span { (from ≤ low) × (low ≤ to) × (to ≤ chart.now.tokens) }
+    requires high { (to ≤ high) × (high ≤ suc to) }
+    requires least { IsLeastCut (value_of (plain_chart chart.now)) (plain_site one) (plain_site two) from to low to least }
+    ensures { IsLeastCut (value_of (plain_chart chart.now)) (plain_site one) (plain_site two) from to low high result }
+{
+    if high == to {
+        return least;
+    }
+    least.min(sum_at(chart, one, two, from, to, to))
+}
+
+/// The same, where each place is looked at.
+fn least_of_places(
     chart: &Chart,
     one: Site,
     two: Site,
@@ -40,10 +90,32 @@ pub fn least_of_cuts(
 {
     let mut least = u64::from(NONE);
     for place in low..high {
-        let sum = u64::from(chart.at(one, from, place)) + u64::from(chart.at(two, place, to));
-        least = least.min(sum);
+        least = least.min(sum_at(chart, one, two, from, to, place));
     }
     least
+}
+
+/// The least sum where the span is cut at a place from `low` up to `high`, which is left out: `one` before the place, `two` behind it.
+pub fn least_of_cuts(
+    chart: &Chart,
+    one: Site,
+    two: Site,
+    from: u32,
+    to: u32,
+    low: u32,
+    high: u32,
+) -> u64
+    requires span { (from ≤ low) × (low ≤ high) × (high ≤ suc to) × (to ≤ chart.now.tokens) }
+    ensures { IsLeastCut (value_of (plain_chart chart.now)) (plain_site one) (plain_site two) from to low high result }
+{
+    if from >= to || low > from + 1 || high < to {
+        return least_of_places(chart, one, two, from, to, low, high);
+    }
+    let Some(inside) = chart.least_inside(one, two, from, to) else {
+        return least_of_places(chart, one, two, from, to, low, high);
+    };
+    let least = with_first(chart, one, two, from, to, low, u64::from(inside));
+    with_last(chart, one, two, from, to, low, high, least)
 }
 
 /// The least of the members of a choice, which end before `end`.
@@ -100,18 +172,18 @@ fn least_of_star(chart: &Chart, inner: u32, number: u32, from: u32, to: u32) -> 
     ensures some { from < to → IsLeastCut (value_of (plain_chart chart.now)) (part_site inner) (part_site number) from to (suc from) (suc to) result }
 {
     if from == to {
-        0
-    } else {
-        least_of_cuts(
-            chart,
-            Site::Part(inner),
-            Site::Part(number),
-            from,
-            to,
-            from + 1,
-            to + 1,
-        )
+        return 0;
     }
+    let first_end = from + 1;
+    least_of_cuts(
+        chart,
+        Site::Part(inner),
+        Site::Part(number),
+        from,
+        to,
+        first_end,
+        to + 1,
+    )
 }
 
 /// One of a part or none: over no tokens none.

@@ -101,6 +101,24 @@ fn weight(alloc: Global, grammar: &Grammar, of: Of, kids: &[Node]) -> Result<u32
     Ok(spans.at(site_of(of), 0, tokens.len() as u32))
 }
 
+/// The weight of a site over the live word of kids, from token number `from` up to number `to`.
+fn weight_over(
+    alloc: Global,
+    grammar: &Grammar,
+    kids: &[Node],
+    site: Site,
+    from: u32,
+    to: u32,
+) -> Result<u32, SpanError> {
+    let live = live_word(alloc, grammar, kids)?;
+    let tokens = live.as_slice();
+    if grammar.dtd().names() == 0 || from > to || to as usize > tokens.len() {
+        return Ok(0);
+    }
+    let spans = weights(alloc, grammar, tokens)?;
+    Ok(spans.at(site, from, to))
+}
+
 /// The verdict of a list, where the DTD has the owner's name.
 fn verdict<L: Ledger>(
     alloc: Global,
@@ -193,6 +211,64 @@ fn heavy_words(rt: HostRuntime) -> Result<(), Fail> {
             (Of::Root(NameId(2)), &["e3"], true, 262_144),
         ],
     )
+}
+
+const DOC_NAME: NameId = NameId(0);
+
+const SEC_NAME: NameId = NameId(2);
+
+const P_NAME: NameId = NameId(4);
+
+/// Weights of sites over a paragraph and a title. The parts of the article's model are its sequence, the head, the sections, and a section.
+static SITES: [(Site, u32, u32, u32); 11] = [
+    (Site::Content(DOC_NAME), 0, 2, 3),
+    (Site::Content(DOC_NAME), 0, 1, 2),
+    (Site::Content(DOC_NAME), 1, 1, 2),
+    (Site::Name(P_NAME), 0, 1, 0),
+    (Site::Name(P_NAME), 1, 1, 1),
+    (Site::Name(P_NAME), 1, 2, 1_000_001),
+    (Site::Name(SEC_NAME), 0, 1, 1),
+    (Site::Name(SEC_NAME), 0, 2, 1_000_001),
+    (Site::Part(2), 0, 2, 2),
+    (Site::Rest(1), 0, 2, 3),
+    (Site::Rest(0), 0, 2, 1_000_001),
+];
+
+#[test]
+fn sites_over_spans(rt: HostRuntime) -> Result<(), Fail> {
+    let alloc = rt.alloc();
+    let grammar = build(alloc, read_dtd(alloc, ARTICLE.as_bytes())?)?;
+    let kids = nodes(alloc, &["p", "title"])?;
+    for (site, from, to, wanted) in &SITES {
+        let found = weight_over(alloc, &grammar, &kids, *site, *from, *to)?;
+        assert_eq!(rt; found, *wanted, "{site:?} from {from} up to {to}");
+    }
+    Ok(())
+}
+
+/// The article's DTD has 30 parts and names: 1,058 * 1,059 / 2 spans of it are too many.
+#[test]
+fn wide_lists(rt: HostRuntime) -> Result<(), Fail> {
+    let alloc = rt.alloc();
+    let grammar = build(alloc, read_dtd(alloc, ARTICLE.as_bytes())?)?;
+    let mut kids = Vec::new(alloc);
+    for _ in 0..1_057 {
+        kids.push(node(alloc, "sec")?)?;
+    }
+    assert!(rt; matches!(weight(alloc, &grammar, DOC, &kids), Err(SpanError::TooWide)));
+    assert!(rt;
+        matches!(
+            is_member::<Brand>(alloc, &grammar, DOC, &kids, Blank::new(1)),
+            Err(SpanError::TooWide)
+        )
+    );
+    assert!(rt;
+        matches!(
+            verdict::<Brand>(alloc, &grammar, 0, &kids, Blank::new(1)),
+            Err(SpanError::TooWide)
+        )
+    );
+    Ok(())
 }
 
 fn check_list(
