@@ -7,3 +7,6 @@ pub mod Spelling
 pub mod Moves
 pub mod Works
 pub mod Laws
+pub mod Events
+pub mod Merging
+pub mod MergingLaws

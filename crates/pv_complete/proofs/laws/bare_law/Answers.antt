@@ -1,0 +1,5 @@
+use Rattle.pv_complete.proofs.Merging.{bare_completed}
+use Rattle.pv_complete.proofs.laws.bare_law.Goals as goal
+
+pub returns : goal.returns
+returns g c = bare_completed _

@@ -1,0 +1,5 @@
+use Rattle.pv_complete.proofs.Merging.{element_completed}
+use Rattle.pv_complete.proofs.laws.element_law.Goals as goal
+
+pub returns : goal.returns
+returns g c = element_completed _
