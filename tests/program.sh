@@ -72,6 +72,25 @@ expect "a closed pipe" 0 "4$lf" bash -c 'yes show | head -n 100000 >many.txt
     ("$0" session a.dtd doc hello.xml <many.txt; echo "$?" >&3) 3>status.txt | head -c 1 >/dev/null
     cat status.txt' "$pvtag"
 
+# A script piece by piece: each line is answered before the next is written, a hundred times.
+expect "a hundred lines, each behind its reply" 0 "100$lf" bash -c 'coproc session { "$0" session a.dtd doc hello.xml; }
+    answered=0
+    for _ in $(seq 100); do
+        echo undo >&"${session[1]}"
+        read -r -t 10 reply <&"${session[0]}" && [ "$reply" = "no history" ] && answered=$((answered + 1))
+    done
+    echo $answered' "$pvtag"
+expect "a line in two pieces" 0 "show 16$lf<doc>Hello</doc>$lf" bash -c '{ printf sh; sleep 0.2; printf "ow\r\nquit\n"; } | "$0" session a.dtd doc hello.xml' "$pvtag"
+expect "an unfinished line of CR alone" 0 "no history${lf}no command$lf" bash -c 'printf "undo\r\n\r" | "$0" session a.dtd doc hello.xml' "$pvtag"
+expect "the longest line" 0 "no command${lf}no history$lf" bash -c '{ head -c 1048576 /dev/zero | tr "\0" x; printf "\nundo\n"; } | "$0" session a.dtd doc hello.xml' "$pvtag"
+expect "a longer line" 8 "no history${lf}limit line 2$lf" bash -c '{ printf "undo\n"; head -c 1048577 /dev/zero | tr "\0" x; } | "$0" session a.dtd doc hello.xml' "$pvtag"
+# script SIZE: so many bytes, each line of which has 65,536 with its LF
+script() { yes "$(head -c 65535 /dev/zero | tr '\0' x)" | head -c "$1"; }
+export -f script
+expect "the longest script" 0 "4096 no command$lf" bash -c 'script 268435456 | timeout 60 "$0" session a.dtd doc hello.xml | uniq -c | sed "s/^ *//"' "$pvtag"
+expect "a longer script" 0 "4096 no command${lf}1 limit script$lf" bash -c 'script 268435457 | timeout 60 "$0" session a.dtd doc hello.xml | uniq -c | sed "s/^ *//"' "$pvtag"
+expect "its status" 8 "" bash -c 'script 268435457 | timeout 60 "$0" session a.dtd doc hello.xml >/dev/null' "$pvtag"
+
 # DTDs at their limits and one past them, and bytes that are no characters. Each is read by `valid`, on a document that it declares.
 printf '<a/>' >a.xml
 types() { echo '<!ELEMENT a EMPTY>'; seq -f '<!ELEMENT e%g EMPTY>' "$1"; }

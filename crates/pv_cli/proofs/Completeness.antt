@@ -5,7 +5,7 @@ use Rattle.pv_io.specs.Causes.{CountStays, Rose}
 use Rattle.pv_cli.specs.declared.status.Status.{Status}
 use Rattle.pv_cli.specs.declared.status.Status.TheVariants.{ReadFault, WriteFault, NoMemory}
 use Rattle.pv_cli.specs.CommandLine.{PlainCommandLine}
-use Rattle.pv_cli.specs.Course.{RunEnding, responds, shelf_fault, input_fault, no_memory}
+use Rattle.pv_cli.specs.Course.{RunEnding, responds, shelf_fault, input_fault, output_fault, no_memory}
 use Rattle.pv_cli.specs.Laws.{IsComplete, Answered, FaultsShow}
 use Rattle.pv_cli.specs.Program.{Devices, CountsShelf, CountsInput, Writes, wrote, cut_off, Runs}
 use Rattle.pv_cli.specs.Response.{PlainResponse}
@@ -17,11 +17,12 @@ EndsWell ending old new status = (r : PlainResponse) × (ending ≡ responds r) 
 ends_well : (ending : RunEnding) (shelf_old shelf_new input_old input_new old_count new_count : ℕ) (old new : Option (List ℕ)) (status : Status) →
     CountsShelf ending shelf_old shelf_new → CountsInput ending input_old input_new → Writes ending old new old_count new_count status →
     (Rose shelf_old shelf_new → ⊥) → (Rose input_old input_new → ⊥) → (Rose old_count new_count → ⊥) → (status ≡ NoMemory) ⊎ EndsWell ending old new status
-ends_well ending so sn io in_ oc nc old new status shelf input (cut_off r is fault front rose) no_shelf no_input no_output = absurd (no_output rose)
-ends_well (responds r) so sn io in_ oc nc old new status shelf input (wrote is written stays) no_shelf no_input no_output = inr (r, refl, is, written)
-ends_well shelf_fault so sn io in_ oc nc old new status shelf input (wrote is written stays) no_shelf no_input no_output = absurd (no_shelf shelf)
-ends_well input_fault so sn io in_ oc nc old new status shelf input (wrote is written stays) no_shelf no_input no_output = absurd (no_input input)
-ends_well no_memory so sn io in_ oc nc old new status shelf input (wrote is written stays) no_shelf no_input no_output = inl is
+ends_well ending so sn io in_ oc nc old new status shelf input (cut_off out cuts fault front rose) no_shelf no_input no_output = absurd (no_output rose)
+ends_well (responds r) so sn io in_ oc nc old new status shelf input (wrote whole is written stays) no_shelf no_input no_output = inr (r, refl, is, written)
+ends_well shelf_fault so sn io in_ oc nc old new status shelf input (wrote whole is written stays) no_shelf no_input no_output = absurd (no_shelf shelf)
+ends_well (input_fault out) so sn io in_ oc nc old new status shelf input (wrote whole is written stays) no_shelf no_input no_output = absurd (no_input input)
+ends_well (output_fault out) so sn io in_ oc nc old new status shelf input (wrote whole is written stays) no_shelf no_input no_output = cc
+ends_well no_memory so sn io in_ oc nc old new status shelf input (wrote whole is written stays) no_shelf no_input no_output = inl is
 
 answered : {S : Type 0} (line : Option PlainCommandLine) (before after : Devices S) (status : Status) (run : Runs line before after status) →
     (status ≡ NoMemory) ⊎ EndsWell run.course.ending before.written after.written status → (status ≡ NoMemory) ⊎ Answered run
@@ -36,23 +37,25 @@ complete S line before after status run no_shelf no_input no_output =
 -- a count that rose shows in the status
 output_stays : (ending : RunEnding) (old new : Option (List ℕ)) (before after : ℕ) (status : Status) → Writes ending old new before after status →
     (status ≡ WriteFault → ⊥) → CountStays before after
-output_stays ending old new before after status (wrote is written stays) not = stays
-output_stays ending old new before after status (cut_off r is fault front rose) not = absurd (not fault)
+output_stays ending old new before after status (wrote whole is written stays) not = stays
+output_stays ending old new before after status (cut_off out cuts fault front rose) not = absurd (not fault)
 
 shelf_stays : (ending : RunEnding) (old new : Option (List ℕ)) (first last before after : ℕ) (status : Status) → Writes ending old new first last status →
     CountsShelf ending before after → (status ≡ ReadFault → ⊥) → CountStays before after
 shelf_stays (responds r) old new first last before after status writes counts not = counts
-shelf_stays shelf_fault old new first last before after status (wrote is written stays) counts not = absurd (not is)
-shelf_stays shelf_fault old new first last before after status (cut_off r is fault front rose) counts not = cc
-shelf_stays input_fault old new first last before after status writes counts not = counts
+shelf_stays shelf_fault old new first last before after status (wrote whole is written stays) counts not = absurd (not is)
+shelf_stays shelf_fault old new first last before after status (cut_off out cuts fault front rose) counts not = absurd cuts
+shelf_stays (input_fault out) old new first last before after status writes counts not = counts
+shelf_stays (output_fault out) old new first last before after status writes counts not = counts
 shelf_stays no_memory old new first last before after status writes counts not = counts
 
 input_stays : (ending : RunEnding) (old new : Option (List ℕ)) (first last before after : ℕ) (status : Status) → Writes ending old new first last status →
     CountsInput ending before after → (status ≡ ReadFault → ⊥) → CountStays before after
 input_stays (responds r) old new first last before after status writes counts not = counts
 input_stays shelf_fault old new first last before after status writes counts not = counts
-input_stays input_fault old new first last before after status (wrote is written stays) counts not = absurd (not is)
-input_stays input_fault old new first last before after status (cut_off r is fault front rose) counts not = cc
+input_stays (input_fault out) old new first last before after status (wrote whole is written stays) counts not = absurd (not is)
+input_stays (input_fault out) old new first last before after status (cut_off all cuts fault front rose) counts not = absurd cuts
+input_stays (output_fault out) old new first last before after status writes counts not = counts
 input_stays no_memory old new first last before after status writes counts not = counts
 
 pub faults_show : (S : Type 0) → FaultsShow S

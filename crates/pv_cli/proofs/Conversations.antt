@@ -1,35 +1,51 @@
--- How a session ends over its script.
-use Rattle.std.proofs.Common.{◌≡◌, ℕ, List, [], Err, refl, ap}
-use Rattle.pv_cli.specs.declared.status.Status.TheVariants.{Done}
-use Rattle.pv_cli.specs.declared.stop.Stop.{Stop}
-use Rattle.pv_cli.specs.declared.stop.Stop.TheVariants.{Refused, ShelfFault, InputFault, NoMemory}
-use Rattle.pv_cli.specs.Program.{CountsShelf, CountsInput, status_of, ending_of}
+-- How a session that ended over its script shows in its devices.
+use Rattle.std.proofs.Common.{◌≡◌, ℕ, Bool, true, false, List, Option, Some, refl, subst}
+use Rattle.std.specs.Io.KnownBytes.{Consumes, IsAtEnd}
+use Rattle.pv_io.specs.Causes.{CountStays}
 use Rattle.pv_session.specs.Sessions.{PlainSession}
-use Rattle.pv_cli.specs.Response.{PlainResponse, plain_response}
-use Rattle.pv_cli.specs.Session.{EndsSession, too_long, failed, without_room}
-use Rattle.pv_cli.specs.Turns.{StopsScript, StopCountsInput}
+use Rattle.pv_cli.specs.declared.status.Status.{Status}
+use Rattle.pv_cli.specs.declared.status.Status.TheVariants.{NoMemory}
+use Rattle.pv_cli.specs.Course.{Course, RunEnding, no_memory, without_input}
+use Rattle.pv_cli.specs.Program.{CountsInput, CountsShelf, Shows, Writes, devices, wrote}
+use Rattle.pv_cli.specs.Session.{Converses, EndsSession, ended_over, without_room}
+use Rattle.pv_cli.proofs.Replies.{appends_none}
 
-pub stop_answers : (session : PlainSession) (script : List ℕ) (stop : Stop) → StopsScript script stop → EndsSession session script [] (ending_of (Err stop))
-stop_answers session script (Refused r) stops = too_long (plain_response r) stops refl
-stop_answers session script ShelfFault stops = absurd stops
-stop_answers session script InputFault stops = failed stops refl
-stop_answers session script NoMemory stops = without_room refl
+-- what a session did, and what its devices show of it, whatever the shelf holds
+abbrev pub HasCourse : {S : Type 0} → PlainSession → S → Option (List ℕ) → ℕ → Option (List ℕ) → ℕ → S → Option (List ℕ) → ℕ → Option (List ℕ) → ℕ → Status → Type 0
+HasCourse session input left faults written output_faults input_now left_now faults_now written_now output_faults_now status =
+    (files : Option (List (List ℕ × List ℕ))) → (shelf : ℕ) → (course : Course) × Converses session course × Shows course
+    (devices files shelf input left faults written output_faults) (devices files shelf input_now left_now faults_now written_now output_faults_now) status
 
-pub stop_leaves_shelf : (script : List ℕ) (count : ℕ) (stop : Stop) → StopsScript script stop → CountsShelf (ending_of (Err stop)) count count
-stop_leaves_shelf script count (Refused r) stops = refl
-stop_leaves_shelf script count ShelfFault stops = absurd stops
-stop_leaves_shelf script count InputFault stops = refl
-stop_leaves_shelf script count NoMemory stops = refl
+pub no_room : {S : Type 0} (session : PlainSession) (input : S) (left : Option (List ℕ)) (faults : ℕ) (written : Option (List ℕ)) (output_faults : ℕ) →
+    HasCourse session input left faults written output_faults input left faults written output_faults NoMemory
+no_room session input left faults written output_faults = λ files shelf. (
+  without_input no_memory,
+  without_room refl,
+  record { shelf = refl; input = refl; taken = refl; output = wrote refl refl (appends_none written) refl; at_end = λ is. tt },
+)
 
-pub stop_counts_input : (before after : ℕ) (stop : Stop) → StopCountsInput before after stop → CountsInput (ending_of (Err stop)) before after
-stop_counts_input before after (Refused r) counts = counts
-stop_counts_input before after ShelfFault counts = counts
-stop_counts_input before after InputFault counts = counts
-stop_counts_input before after NoMemory counts = counts
+-- a session ended over the bytes that were taken
+pub has_course : {S : Type 0} (session : PlainSession) (script silent : List ℕ) (at_end : Bool) (ending : RunEnding)
+    (input : S) (left : Option (List ℕ)) (faults : ℕ) (written : Option (List ℕ)) (output_faults : ℕ)
+    (input_now : S) (left_now : Option (List ℕ)) (faults_now : ℕ) (written_now : Option (List ℕ)) (output_faults_now : ℕ) (status : Status) →
+    EndsSession session script silent at_end ending → Consumes left left_now script → (at_end ≡ true → IsAtEnd left_now) → ((n : ℕ) → CountsShelf ending n n) →
+    CountsInput ending faults faults_now → Writes ending written written_now output_faults output_faults_now status →
+    HasCourse session input left faults written output_faults input_now left_now faults_now written_now output_faults_now status
+has_course session script silent at_end ending input left faults written output_faults input_now left_now faults_now written_now output_faults_now status ends taken whole shelf_stays counts writes =
+    λ files shelf. (
+      record { taken = Some script; at_end = at_end; silent = silent; ending = ending },
+      ended_over script refl ends,
+      record { shelf = shelf_stays shelf; input = counts; taken = taken; output = writes; at_end = whole },
+    )
 
--- what stopped wasn't done
-pub stop_not_done : (script : List ℕ) (stop : Stop) → StopsScript script stop → status_of (ending_of (Err stop)) ≡ Done → ⊥
-stop_not_done script (Refused r) stops is = let limit = ap (λ (p : PlainResponse). p.status) stops.is_response in cc
-stop_not_done script ShelfFault stops is = absurd stops
-stop_not_done script InputFault stops is = cc
-stop_not_done script NoMemory stops is = cc
+false_is_no_true : false ≡ true → ⊥
+false_is_no_true is = cc
+
+-- where the end of the script wasn't reached
+pub not_at_end : (left : Option (List ℕ)) → false ≡ true → IsAtEnd left
+not_at_end left is = absurd (false_is_no_true is)
+
+-- writing over a count that stayed
+pub writes_from : (ending : RunEnding) (old new : Option (List ℕ)) (first before after : ℕ) (status : Status) → CountStays first before → Writes ending old new before after status →
+    Writes ending old new first after status
+writes_from ending old new first before after status stays writes = subst (λ (n : ℕ). Writes ending old new n after status) stays writes

@@ -9,7 +9,7 @@ use Rattle.pv_cli.specs.Opening.{IsFile, IsGiven, IsTooLong}
 use Rattle.pv_cli.specs.Response.{PlainResponse, with_line, plain_response}
 use Rattle.pv_cli.specs.Stage.{StopsBy}
 use Rattle.pv_cli.specs.declared.stop.Stop.{Stop}
-use Rattle.pv_cli.specs.declared.stop.Stop.TheVariants.{Refused, ShelfFault, InputFault, NoMemory as OutOfMemory}
+use Rattle.pv_cli.specs.declared.stop.Stop.TheVariants.{Refused, ShelfFault, NoMemory as OutOfMemory}
 
 pub fetch_file : (told : Option (List (List ℕ × List ℕ))) (name : List ℕ) (most : ℕ) (result : Result (Vec ℕ Global) FetchError) → IfOk result (λ v. vec_len v ≤ most) → FetchTells told name most result → (file : Option (List ℕ)) × IsFile told name file × FetchGives file most result
 fetch_file None name most (Ok v) bound tells = (Some v.items, tt, (refl, omega (arith, v.ok.0, bound)))
@@ -30,7 +30,6 @@ pub stops_beyond : (file : Option (List ℕ)) (most : ℕ) (passed : List ℕ) (
     StopsBy (λ r. r ≡ with_line Limit passed) ⊥ stop → StopsBy (IsTooLong file most passed) (HoldsMore file most → ⊥) stop
 stops_beyond file most passed (Refused r) gives stops = file_beyond file most passed (plain_response r) gives stops
 stops_beyond file most passed ShelfFault gives stops = absurd stops
-stops_beyond file most passed InputFault gives stops = stops
 stops_beyond file most passed OutOfMemory gives stops = tt
 
 pub not_beyond : (file : Option (List ℕ)) (most : ℕ) → FetchGives file most (Err Failed) → HoldsMore file most → ⊥

@@ -1,7 +1,10 @@
 pub mod CommandLines
 pub mod Completeness
 pub mod Conversations
+pub mod Conversing
 pub mod Fetching
+pub mod GoingOn
+pub mod Limits
 pub mod Listings
 pub mod Marks
 pub mod OneCheck

@@ -1,6 +1,6 @@
 -- The lines of a listing, one more.
 use Rattle.std.specs.Prelude.{OnOk}
-use Rattle.std.proofs.Common.{◌≤◌, length, append-nil, ◌≡◌, ℕ, List, Result, Ok, Err, Some, [], ◌∷◌, ◌++◌, ◌+◌, ◌∙◌, ap, append_assoc, arith, drop, refl, slice_get, subst, suc, sym, zero}
+use Rattle.std.proofs.Common.{◌≤◌, length, append-nil, ◌≡◌, ℕ, List, Result, Ok, Err, Some, [], ◌∷◌, ◌++◌, ◌+◌, append_assoc, arith, drop, refl, slice_get, subst, suc, zero}
 use Rattle.pv_model.specs.Plain.{PlainModel}
 use Rattle.pv_dtd.specs.Plain.{PlainDtd}
 use Rattle.pv_cli.specs.Listing.{AreNameLines, IsNameLine, IsTreeText}

@@ -1,5 +1,5 @@
 -- A document has one answer to `check`, whatever its marks are.
-use Rattle.std.proofs.Common.{◌≡◌, ℕ, suc, ◌*◌, ◌≤◌, List, [], ◌∷◌, ◌++◌, codes, length, map, refl, sym, ap, ◌∙◌, subst}
+use Rattle.std.proofs.Common.{◌≡◌, ℕ, List, [], ◌∷◌, ◌++◌, codes, length, map, refl, sym, ap, ◌∙◌, subst}
 use Rattle.std.specs.List.{AllByRecursion}
 use Rattle.pv_dtd.specs.Plain.{PlainDtd}
 use Rattle.pv_tree.specs.Heads.{heads_of}
@@ -8,7 +8,6 @@ use Rattle.pv_tree.specs.Marks.{unmarked_doc}
 use Rattle.pv_tree.specs.Plain.{Forest, no_trees, tree, Tree, element, text_node, cdata_node, misc_node, PlainDoc, without_marks}
 use Rattle.pv_tree.specs.Heads.{head_of}
 use Rattle.pv_tree.specs.View.{view}
-use Rattle.pv_tree.specs.Words.{word_of}
 use Rattle.pv_tree.specs.declared.nodes.Mark.{Mark}
 use Rattle.pv_tree.specs.declared.nodes.Verdict.{Verdict}
 use Rattle.pv_tree.proofs.Every.{all_right}
@@ -16,7 +15,7 @@ use Rattle.pv_tree.proofs.Firsts.{one_first}
 use Rattle.pv_missing.proofs.VerdictHeads.{live_alike, verdict_by_heads}
 use Rattle.pv_missing.proofs.VerdictLists.{one_list_of_verdicts}
 use Rattle.pv_missing.specs.Completing.{IsPotentiallyValid}
-use Rattle.pv_missing.specs.Verdicts.{AreVerdicts, HavePossible, IsFirstImpossible, IsLive, possible_in}
+use Rattle.pv_missing.specs.Verdicts.{AreVerdicts, HavePossible, IsLive, possible_in}
 use Rattle.pv_missing.specs.Widths.{FitsVerdict, IsFirstTooWide, IsListForVerdict}
 use Rattle.pv_cli.specs.Check.{TellsPossibility, is_impossible, is_possible, is_too_wide, possible_text}
 use Rattle.pv_script.specs.Paths.{path_text}

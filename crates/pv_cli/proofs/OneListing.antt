@@ -3,9 +3,8 @@ use Rattle.std.proofs.Common.{◌≡◌, ◌<◌, ◌∙◌, ℕ, suc, List, [],
 use Rattle.std.proofs.lemmas.Bool.{cases_lt}
 use Rattle.pv_model.specs.Plain.{PlainModel}
 use Rattle.pv_dtd.specs.Plain.{PlainDtd, spelling_of}
-use Rattle.pv_dtd.specs.Productive.{IsProductive}
 use Rattle.pv_productive.specs.Sizes.{IsCutSize}
-use Rattle.pv_cli.specs.Listing.{AreNameLines, IsNameLine, IsTreeText, ListsDtd, counted, model_text, over, totals, unproductive}
+use Rattle.pv_cli.specs.Listing.{AreNameLines, IsNameLine, IsTreeText, ListsDtd, counted, model_text, over, unproductive}
 use Rattle.pv_cli.specs.Response.{PlainResponse}
 
 no_more : (g : PlainDtd) (y m n : ℕ) → IsCutSize g y m → IsCutSize g y n → n < 1000001 → m ≡ n

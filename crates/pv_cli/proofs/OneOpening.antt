@@ -9,8 +9,7 @@ use Rattle.pv_tree.specs.Plain.{PlainDoc}
 use Rattle.pv_tree.specs.Units.{HasUnits}
 use Rattle.pv_tree.specs.declared.nodes.Mark.{Mark}
 use Rattle.pv_read.specs.Grammar.{IsDocumentText}
-use Rattle.pv_read.specs.Kinds.{Kind}
-use Rattle.pv_read.specs.Meaning.{MAX_DOC_BYTES, Outcome as DocumentOutcome, is_document, faulty as faulty_document, too_long as too_long_document, DocumentMeans}
+use Rattle.pv_read.specs.Meaning.{MAX_DOC_BYTES, is_document, faulty as faulty_document, too_long as too_long_document}
 use Rattle.pv_read.specs.DocumentLaws.{DocumentsMeanOne, MeansWhatItSpells, SpellsOneDocument, with_marks}
 use Rattle.pv_read.proofs.DocumentFacts.{keeps}
 use Rattle.pv_cli.specs.Documents.{document_refusal, RefusesDocument, no_document, too_many_bytes, document_stage}

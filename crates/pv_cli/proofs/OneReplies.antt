@@ -1,6 +1,6 @@
 -- Lines have the same replies where there was no memory for the same of them.
 use Rattle.std.proofs.Common.{◌≡◌, ℕ, suc, List, [], ◌∷◌, ◌++◌, sym, ap, ◌∙◌, subst}
-use Rattle.pv_script.specs.Commands.{IsNoCommand, SpellsCommand}
+use Rattle.pv_script.specs.Commands.{SpellsCommand}
 use Rattle.pv_script.specs.Laws.{OneCommand}
 use Rattle.pv_script.specs.Replies.{reply_bytes}
 use Rattle.pv_script.specs.declared.commands.Command.{Command}
@@ -10,7 +10,7 @@ use Rattle.pv_script.specs.declared.replies.Reply.TheVariants.{NoMemory}
 use Rattle.pv_session.specs.Laws.{StepsHaveOneAnswer}
 use Rattle.pv_session.specs.Sessions.{PlainSession}
 use Rattle.pv_session.specs.Steps.{PlainAnswer, IsEditStep, IsUndoStep, IsRedoStep}
-use Rattle.pv_cli.specs.Session.{RepliesBy, RepliesByStep, RepliesTo, unknown, known, reply_to, Place, Replies, no_lines, without_memory, answered, ended}
+use Rattle.pv_cli.specs.Session.{RepliesBy, RepliesByStep, RepliesTo, unknown, known, reply_to, Replies, no_lines, without_memory, answered, ended}
 use Rattle.pv_cli.specs.Laws.{HasOneReply, HasOneOutput}
 
 -- a line spells one command, and each move of a session has one answer

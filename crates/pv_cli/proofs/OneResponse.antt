@@ -1,5 +1,5 @@
 -- Over given files, script and silent lines there is one response.
-use Rattle.std.proofs.Common.{◌≡◌, ℕ, List, codes, Option, Some, None, sym, ◌∙◌, subst}
+use Rattle.std.proofs.Common.{◌≡◌, ℕ, List, codes, Some, None, sym, ◌∙◌, subst}
 use Rattle.pv_dtd.specs.Plain.{PlainDtd}
 use Rattle.pv_dtd.specs.Facts.{MAX_DTD_BYTES}
 use Rattle.pv_dtd.specs.Laws.{OneMeaning}

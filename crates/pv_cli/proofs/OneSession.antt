@@ -1,5 +1,5 @@
 -- Over given files a session begins in one state, and over a given script and silent lines it has one response.
-use Rattle.std.proofs.Common.{◌≡◌, ◌⊎◌, inl, inr, ℕ, List, sym, ap, ◌∙◌, subst, arith}
+use Rattle.std.proofs.Common.{◌≡◌, inl, inr, ℕ, ◌<◌, Bool, List, length, sym, ap, ◌∙◌, subst, arith}
 use Rattle.pv_dtd.specs.Laws.{OneMeaning}
 use Rattle.pv_dtd.specs.Plain.{PlainDtd}
 use Rattle.pv_tree.specs.Marks.{unmarked_doc}
@@ -8,15 +8,19 @@ use Rattle.pv_tree.specs.declared.nodes.Mark.{Mark}
 use Rattle.pv_read.specs.DocumentLaws.{SpellsOneDocument}
 use Rattle.pv_script.specs.Lines.{lines_of}
 use Rattle.pv_session.specs.Sessions.{PlainSession, begun}
-use Rattle.pv_cli.specs.Check.{DeniesPossibility, TellsPossibility}
+use Rattle.pv_cli.specs.Check.{TellsPossibility}
 use Rattle.pv_cli.specs.Course.{Course, RunEnding, responds}
 use Rattle.pv_cli.specs.Opening.{Files, opening_stage}
 use Rattle.pv_cli.specs.Response.{PlainResponse}
-use Rattle.pv_cli.specs.Session.{EndsSession, BeginsSession, Converses, IsAnswered, IsScriptRefusal, answered_all, failed, guarding_stage, session_stage, too_long, without_room}
+use Rattle.pv_cli.specs.Script.{MAX_SCRIPT_BYTES, IsWithin, lines_within}
+use Rattle.pv_cli.specs.Session.{Converses, EndsSession, Place, Replies, at_line, at_quit, ended_over, finished, guarding_stage, input_failed, output_failed, past_line, past_script, quitted, session_stage, without_room}
 use Rattle.pv_cli.specs.Stage.{Stage, followed_by}
+use Rattle.pv_script.proofs.Pieces.{cut_of}
+use Rattle.pv_cli.proofs.GoingOn.{lines_and_last}
 use Rattle.pv_cli.proofs.OneCheck.{denied, one_possibility}
 use Rattle.pv_cli.proofs.OneOpening.{IsEqual, IsSamePair, IsSameText, IsSure, ReadsOne, opening_sure, unmarked_same}
 use Rattle.pv_cli.proofs.OneReplies.{AnswersOnce, one_replies}
+use Rattle.pv_cli.proofs.Replies.{ends_at_quit}
 
 -- two stages behind the same: they don't both open and refuse, they refuse with one response, and they open the same
 record AreSure {Y : Type 0} (here there : Stage Y) : Type 0 where
@@ -63,32 +67,69 @@ session_sure one documents root files =
     behind_sure (opening_stage root files) (IsSamePair IsSameText) (λ opened. guarding_stage root opened.0 opened.1)
     (opening_sure one documents root files) (guarding_sure documents.spells_one root)
 
--- what a session responds: that the script is too long, or the replies
-abbrev pub SessionResponds : PlainSession → List ℕ → List ℕ → PlainResponse → Type 0
-SessionResponds session script silent r = IsScriptRefusal script r ⊎ IsAnswered session script silent (responds r)
+-- the replies up to a `quit` are those to all lines
+quit_on : (session : PlainSession) (script silent out : List ℕ) → IsWithin script → Replies silent 1 session (lines_within script) out at_quit →
+    Replies silent 1 session (lines_of script) out at_quit
+quit_on session script silent out within replies =
+    let rest = lines_of (cut_of script).part in
+    rw (lines_and_last script within) (ends_at_quit silent 1 session (lines_within script) rest out replies)
 
-session_responds : (session : PlainSession) (script silent : List ℕ) (ending : RunEnding) (r : PlainResponse) → EndsSession session script silent ending → ending ≡ responds r →
-    SessionResponds session script silent r
-session_responds session script silent ending r (too_long s refuses is) at = let same : s ≡ r = cc in inl (subst (IsScriptRefusal script) same refuses)
-session_responds session script silent ending r (answered_all is) at = inr (subst (IsAnswered session script silent) at is)
-session_responds session script silent ending r (failed within is) at = cc
-session_responds session script silent ending r (without_room is) at = cc
+-- a `quit` and the next line of a limit aren't reached both
+quit_or_line : AnswersOnce → (session : PlainSession) (script silent out also : List ℕ) (number : ℕ) (after : PlainSession) →
+    Replies silent 1 session (lines_within script) out at_quit → Replies silent 1 session (lines_within script) also (at_line number after) → ⊥
+quit_or_line once session script silent out also number after quits goes =
+    let same = (one_replies once silent 1 session (lines_within script) out also at_quit (at_line number after) quits goes).1 in cc
 
-one_session : AnswersOnce → (session : PlainSession) (script silent : List ℕ) (r also : PlainResponse) → SessionResponds session script silent r → SessionResponds session script silent also → r ≡ also
-one_session once session script silent r also (inl is) (inl are) = is.is_response ∙ sym are.is_response
-one_session once session script silent r also (inl is) (inr are) = let beyond = is.beyond in let within = are.within in absurd (omega arith)
-one_session once session script silent r also (inr is) (inl are) = let beyond = are.beyond in let within = is.within in absurd (omega arith)
-one_session once session script silent r also (inr is) (inr are) =
-    let out = (one_replies once silent 1 session (lines_of script) is.out are.out is.place are.place is.replies are.replies).0 in
-    let here = is.is_ending in
-    let there = are.is_ending in cc
+within_or_past : (script : List ℕ) → IsWithin script → MAX_SCRIPT_BYTES < length script → ⊥
+within_or_past script within beyond = omega (arith, within.whole, beyond)
+
+one_output : AnswersOnce → (session : PlainSession) (lines : List (List ℕ)) (silent out also : List ℕ) (place spot : Place) →
+    Replies silent 1 session lines out place → Replies silent 1 session lines also spot → (out ≡ also) × (place ≡ spot)
+one_output once session lines silent out also place spot here there = one_replies once silent 1 session lines out also place spot here there
+
+line_number : (number other : ℕ) (after later : PlainSession) → at_line number after ≡ at_line other later → number ≡ other
+line_number number other after later is = cc
+
+one_session : AnswersOnce → (session : PlainSession) (script silent : List ℕ) (a b : Bool) (ending other : RunEnding) (r also : PlainResponse) → ending ≡ responds r → other ≡ responds also →
+    EndsSession session script silent a ending → EndsSession session script silent b other → r ≡ also
+one_session once session script silent a b ending other r also at on (input_failed o n s w p is) there = cc
+one_session once session script silent a b ending other r also at on (output_failed l m o pl e p is) there = cc
+one_session once session script silent a b ending other r also at on here (input_failed o n s w p is) = cc
+one_session once session script silent a b ending other r also at on here (output_failed l m o pl e p is) = cc
+one_session once session script silent a b ending other r also at on (finished o p e w replies is) (finished q s f v others are) =
+    let same = (one_output once session (lines_of script) silent o q p s replies others).0 in cc
+one_session once session script silent a b ending other r also at on (finished o p e w replies is) (quitted q others are) =
+    let same = (one_output once session (lines_of script) silent o q p at_quit replies (quit_on session script silent q w others)).0 in cc
+one_session once session script silent a b ending other r also at on (finished o p e w replies is) (past_line q n s long others are) = let none = w.lines in cc
+one_session once session script silent a b ending other r also at on (finished o p e w replies is) (past_script q n s none beyond others are) = absurd (within_or_past script w beyond)
+one_session once session script silent a b ending other r also at on (quitted o replies is) (finished q s f v others are) =
+    let same = (one_output once session (lines_of script) silent o q at_quit s (quit_on session script silent o v replies) others).0 in cc
+one_session once session script silent a b ending other r also at on (quitted o replies is) (quitted q others are) =
+    let same = (one_output once session (lines_within script) silent o q at_quit at_quit replies others).0 in cc
+one_session once session script silent a b ending other r also at on (quitted o replies is) (past_line q n s long others are) = absurd (quit_or_line once session script silent o q n s replies others)
+one_session once session script silent a b ending other r also at on (quitted o replies is) (past_script q n s none beyond others are) = absurd (quit_or_line once session script silent o q n s replies others)
+one_session once session script silent a b ending other r also at on (past_line o n s long replies is) (finished q p f v others are) = let none = v.lines in cc
+one_session once session script silent a b ending other r also at on (past_line o n s long replies is) (quitted q others are) = absurd (quit_or_line once session script silent q o n s others replies)
+one_session once session script silent a b ending other r also at on (past_line o n s long replies is) (past_line q m t still others are) =
+    let both = one_output once session (lines_within script) silent o q (at_line n s) (at_line m t) replies others in
+    let same = both.0 in
+    let number = line_number n m s t both.1 in cc
+one_session once session script silent a b ending other r also at on (past_line o n s long replies is) (past_script q m t none beyond others are) = cc
+one_session once session script silent a b ending other r also at on (past_script o n s none beyond replies is) (finished q p f v others are) = absurd (within_or_past script v beyond)
+one_session once session script silent a b ending other r also at on (past_script o n s none beyond replies is) (quitted q others are) = absurd (quit_or_line once session script silent q o n s others replies)
+one_session once session script silent a b ending other r also at on (past_script o n s none beyond replies is) (past_line q m t long others are) = cc
+one_session once session script silent a b ending other r also at on (past_script o n s none beyond replies is) (past_script q m t never more others are) =
+    let same = (one_output once session (lines_within script) silent o q (at_line n s) (at_line m t) replies others).0 in cc
 
 pub one_conversation : AnswersOnce → (session same : PlainSession) (course other : Course) (r also : PlainResponse) → session ≡ same → course.taken ≡ other.taken → course.silent ≡ other.silent →
     course.ending ≡ responds r → other.ending ≡ responds also → Converses session course → Converses same other → r ≡ also
-one_conversation once session same course other r also alike taken silent at on talks others =
-    let script : talks.script ≡ others.script = let t = talks.is_taken in let s = others.is_taken in cc in
-    let here = session_responds session talks.script course.silent course.ending r talks.answers at in
-    let there = session_responds same others.script other.silent other.ending also others.answers on in
-    let of_script = subst (λ (s : List ℕ). SessionResponds same s course.silent also) (sym script) (subst (λ (m : List ℕ). SessionResponds same others.script m also) (sym silent) there) in
-    let moved = subst (λ (s : PlainSession). SessionResponds s talks.script course.silent also) (sym alike) of_script in
-    one_session once session talks.script course.silent r also here moved
+one_conversation once session same course other r also alike taken silent at on (without_room is) there =
+    let none = ap (λ (c : Course). c.ending) is in cc
+one_conversation once session same course other r also alike taken silent at on here (without_room is) =
+    let none = ap (λ (c : Course). c.ending) is in cc
+one_conversation once session same course other r also alike taken silent at on (ended_over script is ends) (ended_over also_script are others) =
+    let script_same : script ≡ also_script = cc in
+    let of_script = subst (λ (s : List ℕ). EndsSession same s other.silent other.at_end other.ending) (sym script_same) others in
+    let of_silent = subst (λ (m : List ℕ). EndsSession same script m other.at_end other.ending) (sym silent) of_script in
+    let moved = subst (λ (s : PlainSession). EndsSession s script course.silent other.at_end other.ending) (sym alike) of_silent in
+    one_session once session script course.silent course.at_end other.at_end course.ending other.ending r also at on ends moved

@@ -1,15 +1,15 @@
--- The text of a reply.
-use Rattle.std.proofs.Common.{◌≡◌, List, ℕ, Result, Ok, Err, Vec, Global, IfOk}
-use Rattle.pv_script.specs.Replies.{reply_bytes}
+-- The replies to commands.
+use Rattle.std.proofs.Common.{Result, Ok, Err, IfOk}
 use Rattle.pv_script.specs.declared.commands.Command.{Command}
 use Rattle.pv_script.specs.declared.replies.Reply.{Reply}
 use Rattle.pv_session.specs.Sessions.{PlainSession}
+use Rattle.pv_cli.specs.declared.turns.Answer.{Answer}
 use Rattle.pv_cli.specs.Session.{RepliesBy}
-use Rattle.pv_cli.specs.Turns.{IsReplyBy}
+use Rattle.pv_cli.specs.Turns.{IsAnswer, IsReplyBy}
 
--- where a text is that of the reply to a command
-pub replies_by : {E : Type 0} (before after : PlainSession) (command : Command) (told : Reply) (result : Result (Vec ℕ Global) E) →
-    RepliesBy before command told after → IfOk result (λ text. text.items ≡ reply_bytes told) →
-    IfOk result (λ text. IsReplyBy before command after text.items)
-replies_by before after command told (Ok text) by is = (told, by, is)
+-- where an answer is the reply to a command
+pub replies_by : {E : Type 0} (before after : PlainSession) (command : Command) (told : Reply) (result : Result Answer E) →
+    RepliesBy before command told after → IfOk result (λ answer. IsAnswer told answer) →
+    IfOk result (λ answer. IsReplyBy before command after answer)
+replies_by before after command told (Ok answer) by is = (told, by, is)
 replies_by before after command told (Err e) by is = tt

@@ -1,16 +1,9 @@
 -- A script that is read piece by piece.
-use Rattle.std.proofs.Common.{◌≡◌, ℕ, ◌<◌, ◌≤◌, List, [], ◌++◌, length, take, drop, Option, Some, None, refl, sym, ap, ◌∙◌, append_assoc, codes, arith}
+use Rattle.std.proofs.Common.{◌≡◌, ℕ, ◌≤◌, List, [], ◌++◌, length, take, drop, Option, Some, None, refl, sym, ap, ◌∙◌, append_assoc, arith}
 use Rattle.std.proofs.Math.Seq.{take-append_seam}
 use Rattle.std.proofs.lemmas.Grind.{common_steps}
 use Rattle.std.proofs.lemmas.List.{length-take}
 use Rattle.std.specs.Io.KnownBytes.{Consumes, Keeps}
-use Rattle.pv_cli.specs.declared.stop.Stop.{Stop}
-use Rattle.pv_cli.specs.declared.stop.Stop.TheVariants.{Refused, ShelfFault, InputFault, NoMemory}
-use Rattle.pv_cli.specs.declared.status.Status.TheVariants.{Limit}
-use Rattle.pv_cli.specs.Response.{with_line}
-use Rattle.pv_cli.specs.Session.{MAX_SCRIPT_BYTES}
-use Rattle.pv_cli.specs.Stage.{StopsBy}
-use Rattle.pv_cli.specs.Turns.{StopsScript}
 
 pub consumes_more : (old mid new : Option (List ℕ)) (before piece : List ℕ) → Consumes old mid before → Consumes mid new piece → Consumes old new (before ++ piece)
 consumes_more None mid new before piece p q = tt
@@ -28,12 +21,6 @@ consumes_kept None mid new before p q = tt
 consumes_kept (Some o) None new before p q = absurd p
 consumes_kept (Some o) (Some m) None before p q = absurd q
 consumes_kept (Some o) (Some m) (Some n) before p q = p ∙ ap (λ h. before ++ h) (sym q)
-
-pub stops_script : (script : List ℕ) (stop : Stop) → MAX_SCRIPT_BYTES < length script → StopsBy (λ r. r ≡ with_line Limit (codes "limit script")) ⊥ stop → StopsScript script stop
-stops_script script (Refused r) beyond stops = record { beyond = beyond; is_response = stops }
-stops_script script ShelfFault beyond stops = stops
-stops_script script InputFault beyond stops = absurd stops
-stops_script script NoMemory beyond stops = tt
 
 -- what a buffer holds after its front was written, where all of it was
 pub piece_kept : (buf items : List ℕ) (n : ℕ) → length buf ≡ n → take n (buf ++ drop (length buf) items) ≡ buf

@@ -1,11 +1,11 @@
 -- Stages, one behind another, up to where a run stops.
-use Rattle.std.proofs.Common.{◌≡◌, inl, inr, ℕ, List, Option, Some, None, Result, Ok, Err, refl}
+use Rattle.std.proofs.Common.{inl, inr, ℕ, List, Option, Some, None, Result, Ok, Err, refl}
 use Rattle.pv_io.specs.Files.{file_named}
 use Rattle.pv_cli.specs.declared.response.Response.{Response}
 use Rattle.pv_cli.specs.declared.status.Status.{Status}
 use Rattle.pv_cli.specs.declared.stop.Stop.{Stop}
-use Rattle.pv_cli.specs.declared.stop.Stop.TheVariants.{Refused, ShelfFault, InputFault, NoMemory}
-use Rattle.pv_cli.specs.Course.{RunEnding, responds, shelf_fault, input_fault, no_memory, Course, without_input}
+use Rattle.pv_cli.specs.declared.stop.Stop.TheVariants.{Refused, ShelfFault, NoMemory}
+use Rattle.pv_cli.specs.Course.{Course, without_input}
 use Rattle.pv_cli.specs.Opening.{IsFile}
 use Rattle.pv_cli.specs.CommandLine.{PlainCommandLine}
 use Rattle.pv_cli.specs.Program.{CountsShelf, CountsInput, Writes, Runs, FindsResponse, devices, ending_of}
@@ -21,7 +21,6 @@ some_file (Some files) name = (file_named name files, refl)
 pub stops_as : (P Q : PlainResponse → Type 0) (stop : Stop) → ((r : PlainResponse) → P r → Q r) → StopsBy P ⊥ stop → StopsBy Q ⊥ stop
 stops_as P Q (Refused r) f s = f _ s
 stops_as P Q ShelfFault f s = s
-stops_as P Q InputFault f s = s
 stops_as P Q NoMemory f s = s
 
 -- where the first of two stages stops, both do
@@ -29,7 +28,6 @@ pub stopped_first : {X Y : Type 0} (first : Stage X) (second : X → Stage Y) (s
     StopsBy (followed_by first second).Refuses (followed_by first second).AsksShelf stop
 stopped_first first second (Refused r) stops = inl stops
 stopped_first first second ShelfFault stops = inl stops
-stopped_first first second InputFault stops = stops
 stopped_first first second NoMemory stops = tt
 
 -- and so they do where the second stops
@@ -37,7 +35,6 @@ pub stopped_second : {X Y : Type 0} (first : Stage X) (second : X → Stage Y) (
     StopsBy (second x).Refuses (second x).AsksShelf stop → StopsBy (followed_by first second).Refuses (followed_by first second).AsksShelf stop
 stopped_second first second x (Refused r) opens stops = inr (x, opens, stops)
 stopped_second first second x ShelfFault opens stops = inr (x, opens, stops)
-stopped_second first second x InputFault opens stops = stops
 stopped_second first second x NoMemory opens stops = tt
 
 -- and what the second returns is what both do
@@ -50,7 +47,6 @@ pub stop_ends : {X : Type 0} (stage : Stage X) (Goes : X → Course → Type 0) 
     Behind stage Goes (without_input (ending_of (Err stop)))
 stop_ends stage Goes (Refused r) stops = refused _ stops refl
 stop_ends stage Goes ShelfFault stops = stopped stops refl
-stop_ends stage Goes InputFault stops = absurd stops
 stop_ends stage Goes NoMemory stops = short_of_memory refl
 
 -- and where the order of work ends
@@ -58,13 +54,11 @@ pub tells_ends : (P : PlainResponse → Type 0) (result : Result Response Stop) 
 tells_ends P (Ok r) tells = responded _ tells refl
 tells_ends P (Err (Refused r)) tells = responded _ tells refl
 tells_ends P (Err ShelfFault) tells = absurd tells
-tells_ends P (Err InputFault) tells = absurd tells
 tells_ends P (Err NoMemory) tells = without_memory refl
 
 pub stop_counts : (before after : ℕ) (stop : Stop) → StopCounts before after stop → CountsShelf (ending_of (Err stop)) before after
 stop_counts before after (Refused r) counts = counts
 stop_counts before after ShelfFault counts = counts
-stop_counts before after InputFault counts = counts
 stop_counts before after NoMemory counts = counts
 
 -- what didn't ask the shelf left its count
@@ -72,24 +66,14 @@ pub tells_counts : (P : PlainResponse → Type 0) (before : ℕ) (result : Resul
 tells_counts P before (Ok r) tells = refl
 tells_counts P before (Err (Refused r)) tells = refl
 tells_counts P before (Err ShelfFault) tells = absurd tells
-tells_counts P before (Err InputFault) tells = absurd tells
 tells_counts P before (Err NoMemory) tells = refl
 
-pub stop_leaves_input : (Refuses : PlainResponse → Type 0) (Asks : Type 0) (stop : Stop) → StopsBy Refuses Asks stop → ending_of (Err stop) ≡ input_fault → ⊥
-stop_leaves_input Refuses Asks (Refused r) stops is = cc
-stop_leaves_input Refuses Asks ShelfFault stops is = cc
-stop_leaves_input Refuses Asks InputFault stops is = stops
-stop_leaves_input Refuses Asks NoMemory stops is = cc
-
-pub tells_leaves_input : (P : PlainResponse → Type 0) (result : Result Response Stop) → TellsBy P result → ending_of result ≡ input_fault → ⊥
-tells_leaves_input P (Ok r) tells is = cc
-tells_leaves_input P (Err stop) tells is = stop_leaves_input P ⊥ stop tells is
-
-input_stays : (ending : RunEnding) (count : ℕ) → (ending ≡ input_fault → ⊥) → CountsInput ending count count
-input_stays (responds r) count not = refl
-input_stays shelf_fault count not = refl
-input_stays input_fault count not = absurd (not refl)
-input_stays no_memory count not = refl
+-- and what didn't ask the input left its count
+input_stays : (result : Result Response Stop) (count : ℕ) → CountsInput (ending_of result) count count
+input_stays (Ok r) count = refl
+input_stays (Err (Refused r)) count = refl
+input_stays (Err ShelfFault) count = refl
+input_stays (Err NoMemory) count = refl
 
 -- what a command found that leaves the input alone, once it is written
 pub found_runs : {S : Type 0} (line : Option PlainCommandLine) (told now : Option (List (List ℕ × List ℕ))) (before after : ℕ) (result : Result Response Stop)
@@ -103,9 +87,9 @@ found_runs line told now before after result input left input_faults old new fir
   is_defined = finds.is_defined;
   shows = record {
     shelf = finds.shelf;
-    input = input_stays (ending_of result) input_faults finds.no_input_fault;
+    input = input_stays result input_faults;
     taken = refl;
     output = writes;
-    finished = λ done. tt;
+    at_end = λ is. tt;
   };
 }

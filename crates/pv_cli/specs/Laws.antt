@@ -1,5 +1,5 @@
 -- Laws on what the program does.
-use Rattle.std.specs.Prelude.{◌≡◌, ◌⊎◌, ℕ, List, ◌++◌, Option}
+use Rattle.std.specs.Prelude.{◌≡◌, ◌⊎◌, ℕ, false, List, ◌++◌, Option}
 use Rattle.std.specs.Io.KnownBytes.{Appends}
 use Rattle.pv_io.specs.Causes.{CountStays, Rose}
 use Rattle.pv_script.specs.declared.replies.Reply.{Reply}
@@ -7,11 +7,11 @@ use Rattle.pv_session.specs.Sessions.{PlainSession}
 use Rattle.pv_cli.specs.declared.status.Status.{Status}
 use Rattle.pv_cli.specs.declared.status.Status.TheVariants.{ReadFault, WriteFault, NoMemory}
 use Rattle.pv_cli.specs.CommandLine.{PlainCommandLine}
-use Rattle.pv_cli.specs.Course.{Course, responds}
+use Rattle.pv_cli.specs.Course.{Course, RunEnding, responds, input_fault}
 use Rattle.pv_cli.specs.Opening.{Files}
 use Rattle.pv_cli.specs.Program.{IsDefined, Devices, Runs}
 use Rattle.pv_cli.specs.Response.{PlainResponse}
-use Rattle.pv_cli.specs.Session.{Place, at_line, at_quit, Replies, RepliesTo}
+use Rattle.pv_cli.specs.Session.{EndsSession, Place, at_line, at_quit, Replies, RepliesTo}
 
 -- the replies to a piece of a script, and then those to the lines behind it, are the replies to both
 abbrev pub JoinsReplies : Type 0
@@ -64,3 +64,10 @@ pub record CountsStay {S : Type 0} (before after : Devices S) (status : Status) 
 abbrev pub FaultsShow : Type 0 → Type 0
 FaultsShow S = (line : Option PlainCommandLine) (before after : Devices S) (status : Status) →
     Runs line before after status → CountsStay before after status
+
+-- Where a session ends before the end of its script was reached, and its input didn't fail, bytes that come behind change nothing: so it
+-- ends in one way in whatever pieces the script comes.
+abbrev pub MoreChangesNothing : Type 0
+MoreChangesNothing = (session : PlainSession) (script more silent : List ℕ) (ending : RunEnding) →
+    ((out : List ℕ) → ending ≡ input_fault out → ⊥) → EndsSession session script silent false ending →
+    EndsSession session (script ++ more) silent false ending

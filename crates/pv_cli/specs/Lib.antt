@@ -1,5 +1,6 @@
 pub mod Check
 pub mod CommandLine
+pub mod Conversation
 pub mod Course
 pub mod Laws
 pub mod Listing
@@ -7,6 +8,7 @@ pub mod Documents
 pub mod Opening
 pub mod Program
 pub mod Response
+pub mod Script
 pub mod Session
 pub mod Stage
 pub mod Status

@@ -1,18 +1,18 @@
 -- What a run of the program does.
-use Rattle.std.specs.Prelude.{◌≡◌, ◌⊎◌, ℕ, List, [], codes, Option, Some, None, Result, Ok, Err}
+use Rattle.std.specs.Prelude.{◌≡◌, ◌⊎◌, ℕ, Bool, true, false, List, [], codes, Option, Some, None, Result, Ok, Err}
 use Rattle.std.specs.Io.KnownBytes.{Appends, Consumes, IsAtEnd}
 use Rattle.pv_io.specs.Causes.{AppendsFront, CountStays, Rose}
 use Rattle.pv_cli.specs.declared.status.Status.{Status}
-use Rattle.pv_cli.specs.declared.status.Status.TheVariants.{Done, Usage, ReadFault, WriteFault, NoMemory as OutOfMemory}
+use Rattle.pv_cli.specs.declared.status.Status.TheVariants.{Usage, ReadFault, WriteFault, NoMemory as OutOfMemory}
 use Rattle.pv_cli.specs.declared.response.Response.{Response}
 use Rattle.pv_cli.specs.declared.stop.Stop.{Stop}
-use Rattle.pv_cli.specs.declared.stop.Stop.TheVariants.{Refused, ShelfFault, InputFault, NoMemory}
+use Rattle.pv_cli.specs.declared.stop.Stop.TheVariants.{Refused, ShelfFault, NoMemory}
 use Rattle.pv_cli.specs.Check.{IsCheckCourse}
 use Rattle.pv_cli.specs.CommandLine.{PlainCommandLine, listing, valid, check, session}
-use Rattle.pv_cli.specs.Course.{RunEnding, responds, shelf_fault, input_fault, no_memory, Course, without_input}
+use Rattle.pv_cli.specs.Course.{RunEnding, responds, shelf_fault, input_fault, output_fault, no_memory, Course, without_input}
 use Rattle.pv_cli.specs.Listing.{IsListingCourse}
 use Rattle.pv_cli.specs.Opening.{Files, IsFile}
-use Rattle.pv_cli.specs.Response.{PlainResponse, with_line, plain_response}
+use Rattle.pv_cli.specs.Response.{with_line, plain_response}
 use Rattle.pv_cli.specs.Session.{IsSessionCourse}
 use Rattle.pv_cli.specs.Stage.{Responds}
 use Rattle.pv_cli.specs.Valid.{IsValidCourse}
@@ -58,13 +58,15 @@ devices files shelf_faults input left input_faults written output_faults = recor
 abbrev pub CountsShelf : RunEnding → ℕ → ℕ → Type 0
 CountsShelf (responds r) before after = CountStays before after
 CountsShelf shelf_fault before after = Rose before after
-CountsShelf input_fault before after = CountStays before after
+CountsShelf (input_fault out) before after = CountStays before after
+CountsShelf (output_fault out) before after = CountStays before after
 CountsShelf no_memory before after = CountStays before after
 
 abbrev pub CountsInput : RunEnding → ℕ → ℕ → Type 0
 CountsInput (responds r) before after = CountStays before after
 CountsInput shelf_fault before after = CountStays before after
-CountsInput input_fault before after = Rose before after
+CountsInput (input_fault out) before after = Rose before after
+CountsInput (output_fault out) before after = CountStays before after
 CountsInput no_memory before after = CountStays before after
 
 -- these bytes were taken from the input, or it stayed as it was
@@ -80,35 +82,53 @@ ReadsAll (Some bytes) left = IsAtEnd left
 abbrev pub status_of : RunEnding → Status
 status_of (responds r) = r.status
 status_of shelf_fault = ReadFault
-status_of input_fault = ReadFault
+status_of (input_fault out) = ReadFault
+status_of (output_fault out) = WriteFault
 status_of no_memory = OutOfMemory
 
 abbrev pub output_of : RunEnding → List ℕ
 output_of (responds r) = r.output
 output_of shelf_fault = []
-output_of input_fault = []
+output_of (input_fault out) = out
+output_of (output_fault out) = out
 output_of no_memory = []
 
--- The status of an ending, and what is written then. Where writing a response fails, a front of it is written.
+-- what is cut off where writing fails
+abbrev pub IsCutOff : RunEnding → List ℕ → Type 0
+IsCutOff (responds r) out = out ≡ r.output
+IsCutOff shelf_fault out = ⊥
+IsCutOff (input_fault written) out = ⊥
+IsCutOff (output_fault all) out = out ≡ all
+IsCutOff no_memory out = ⊥
+
+abbrev pub is_output_fault : RunEnding → Bool
+is_output_fault (responds r) = false
+is_output_fault shelf_fault = false
+is_output_fault (input_fault out) = false
+is_output_fault (output_fault out) = true
+is_output_fault no_memory = false
+
+-- The status of an ending, and what is written then. Where writing fails, a front of it is written.
 pub data Writes (ending : RunEnding) (old new : Option (List ℕ)) (before after : ℕ) (status : Status) : Type 0 where
-  wrote : status ≡ status_of ending → Appends old new (output_of ending) → CountStays before after → Writes ending old new before after status
-  cut_off : (r : PlainResponse) → ending ≡ responds r → status ≡ WriteFault → AppendsFront old new r.output → Rose before after →
+  wrote : is_output_fault ending ≡ false → status ≡ status_of ending → Appends old new (output_of ending) → CountStays before after →
+      Writes ending old new before after status
+  cut_off : (out : List ℕ) → IsCutOff ending out → status ≡ WriteFault → AppendsFront old new out → Rose before after →
       Writes ending old new before after status
 
--- The devices and the status show this course. Where all was done but for the writing, the input was read to its end.
+-- The devices and the status show this course. Nothing is left of an input whose end was reached.
 pub record Shows {S : Type 0} (course : Course) (before after : Devices S) (status : Status) : Type 0 where
   pub shelf : CountsShelf course.ending before.shelf_faults after.shelf_faults
   pub input : CountsInput course.ending before.input_faults after.input_faults
   pub taken : TakesInput course.taken before after
   pub output : Writes course.ending before.written after.written before.output_faults after.output_faults status
-  pub finished : status_of course.ending ≡ Done → ReadsAll course.taken after.left
+  pub at_end : course.at_end ≡ true → ReadsAll course.taken after.left
 
 -- how such a run may end, whatever the files are: as a course that is defined for the command line, or at a fault of its output
 pub record EndsLike (line : Option PlainCommandLine) (status : Status) : Type 0 where
   pub files : Files
   pub course : Course
   pub is_defined : IsDefined line files course
-  pub is_status : (status ≡ status_of course.ending) ⊎ ((r : PlainResponse) × (course.ending ≡ responds r) × (status ≡ WriteFault))
+  pub is_status : (status ≡ status_of course.ending) ⊎ ((out : List ℕ) × IsCutOff course.ending out × (status ≡ WriteFault))
 
 -- What a run does: there are files, those that the shelf tells where it tells them, and a course that is defined for the command line
 -- over these files, which the devices and the status show.
@@ -124,7 +144,6 @@ abbrev pub ending_of : Result Response Stop → RunEnding
 ending_of (Ok response) = responds (plain_response response)
 ending_of (Err (Refused response)) = responds (plain_response response)
 ending_of (Err ShelfFault) = shelf_fault
-ending_of (Err InputFault) = input_fault
 ending_of (Err NoMemory) = no_memory
 
 -- what such a command does, up to the writing of its response
@@ -133,4 +152,3 @@ pub record FindsResponse (line : Option PlainCommandLine) (told : Option (List (
   pub are_files : AreFiles told line files
   pub is_defined : IsDefined line files (without_input (ending_of result))
   pub shelf : CountsShelf (ending_of result) before after
-  pub no_input_fault : ending_of result ≡ input_fault → ⊥

@@ -1,5 +1,5 @@
 -- What `session DTD ROOT DOC` responds: one reply for each line of its script.
-use Rattle.std.specs.Prelude.{◌≡◌, ◌≤◌, ◌<◌, ℕ, suc, Bool, true, false, nat_eq, List, [], ◌∷◌, ◌++◌, length, codes, Some}
+use Rattle.std.specs.Prelude.{◌≡◌, ◌<◌, ℕ, suc, Bool, true, false, nat_eq, List, [], ◌∷◌, ◌++◌, length, codes, decimal, Option, Some, None}
 use Rattle.std.specs.List.{AllByRecursion, list_any}
 use Rattle.pv_dtd.specs.Plain.{PlainDtd}
 use Rattle.pv_tree.specs.Lists.{lists_of}
@@ -10,9 +10,11 @@ use Rattle.pv_tree.specs.declared.nodes.Mark.{Mark}
 use Rattle.pv_missing.specs.Completing.{IsPotentiallyValid}
 use Rattle.pv_missing.specs.Widths.{IsListForVerdict}
 use Rattle.pv_write.specs.Text.{doc_text}
+use Rattle.pv_edit.specs.declared.answers.Done.{Done as WhatWasDone}
 use Rattle.pv_script.specs.Commands.{IsNoCommand, SpellsCommand}
 use Rattle.pv_script.specs.Lines.{lines_of}
 use Rattle.pv_script.specs.Replies.{reply_bytes}
+use Rattle.pv_script.specs.Words.{with_feed}
 use Rattle.pv_script.specs.declared.commands.Command.{Command}
 use Rattle.pv_script.specs.declared.commands.Command.TheVariants as command
 use Rattle.pv_script.specs.declared.replies.Reply.{Reply}
@@ -21,9 +23,9 @@ use Rattle.pv_session.specs.Sessions.{PlainSession, begun}
 use Rattle.pv_session.specs.Steps.{PlainAnswer, is_done, lacks_shape, is_past_limit, is_impossible, lacks_history, IsEditStep, IsUndoStep, IsRedoStep}
 use Rattle.pv_cli.specs.declared.status.Status.TheVariants.{Done, Limit}
 use Rattle.pv_cli.specs.Check.{DeniesPossibility}
-use Rattle.pv_cli.specs.Course.{Course, RunEnding, responds, input_fault, no_memory as short_of_memory}
+use Rattle.pv_cli.specs.Course.{Course, RunEnding, responds, input_fault, output_fault, no_memory as short_of_memory, without_input}
 use Rattle.pv_cli.specs.Opening.{Files, opening_stage}
-use Rattle.pv_cli.specs.Response.{PlainResponse, with_line}
+use Rattle.pv_cli.specs.Script.{MAX_SCRIPT_BYTES, IsWithin, has_long_line, lines_within}
 use Rattle.pv_cli.specs.Stage.{Stage, followed_by, Behind}
 
 -- This is the session that such a document begins: none of its lists is too wide, and inserting elements can make it valid.
@@ -52,6 +54,11 @@ reply_to (lacks_shape reason) = reply.Shape reason
 reply_to is_past_limit = reply.Limit
 reply_to (is_impossible path) = reply.Impossible path
 reply_to lacks_history = reply.NoHistory
+
+-- what was done where this is the reply
+abbrev pub done_of : Reply → Option WhatWasDone
+done_of (reply.Okay done) = Some done
+done_of other = None
 
 -- the reply is that to the answer of such a step
 abbrev pub RepliesByStep : (PlainAnswer → PlainSession → Type 0) → Reply → PlainSession → Type 0
@@ -96,33 +103,43 @@ pub data Replies (silent : List ℕ) : ℕ → PlainSession → List (List ℕ) 
       is_among number silent ≡ false → SpellsCommand line command.Quit → out ≡ [] → place ≡ at_quit →
       Replies silent number session (line ∷ lines) out place
 
-abbrev pub MAX_SCRIPT_BYTES : ℕ
-MAX_SCRIPT_BYTES = 1048576
+-- all was done, and these are the replies
+abbrev pub all_told : List ℕ → RunEnding
+all_told out = responds (record { status = Done; output = out })
 
--- the replies to the lines of a script, counted from 1
-pub record IsAnswered (session : PlainSession) (script silent : List ℕ) (ending : RunEnding) : Type 0 where
-  pub within : length script ≤ MAX_SCRIPT_BYTES
-  pub out : List ℕ
-  pub place : Place
-  pub replies : Replies silent 1 session (lines_of script) out place
-  pub is_ending : ending ≡ responds (record { status = Done; output = out })
+-- the replies, and behind them the line of a limit
+abbrev pub limited : List ℕ → List ℕ → RunEnding
+limited out text = responds (record { status = Limit; output = out ++ with_feed text })
 
--- the response where a script has more
-pub record IsScriptRefusal (script : List ℕ) (r : PlainResponse) : Type 0 where
-  pub beyond : MAX_SCRIPT_BYTES < length script
-  pub is_response : r ≡ with_line Limit (codes "limit script")
+-- How a session that was begun ends over the bytes that were taken from its input, which are its script or a front of it.
+pub data EndsSession (session : PlainSession) (script silent : List ℕ) (at_end : Bool) (ending : RunEnding) : Type 0 where
+  -- the script's end was reached: all lines have their replies, a last one without LF too
+  finished : (out : List ℕ) (place : Place) → at_end ≡ true → IsWithin script → Replies silent 1 session (lines_of script) out place →
+      ending ≡ all_told out → EndsSession session script silent at_end ending
+  -- a `quit` was reached
+  quitted : (out : List ℕ) → Replies silent 1 session (lines_within script) out at_quit →
+      ending ≡ all_told out → EndsSession session script silent at_end ending
+  -- the next line is too long
+  past_line : (out : List ℕ) (number : ℕ) (after : PlainSession) → has_long_line script ≡ true →
+      Replies silent 1 session (lines_within script) out (at_line number after) →
+      ending ≡ limited out (codes "limit line " ++ decimal number) → EndsSession session script silent at_end ending
+  -- the script is too long
+  past_script : (out : List ℕ) (number : ℕ) (after : PlainSession) → has_long_line script ≡ false → MAX_SCRIPT_BYTES < length script →
+      Replies silent 1 session (lines_within script) out (at_line number after) →
+      ending ≡ limited out (codes "limit script") → EndsSession session script silent at_end ending
+  -- the input failed, behind the replies to all lines that an LF ends
+  input_failed : (out : List ℕ) (number : ℕ) (after : PlainSession) → IsWithin script →
+      Replies silent 1 session (lines_within script) out (at_line number after) → ending ≡ input_fault out →
+      EndsSession session script silent at_end ending
+  -- the output failed, at the reply to the last of these lines
+  output_failed : (lines more : List (List ℕ)) (out : List ℕ) (place : Place) → lines_within script ≡ lines ++ more →
+      Replies silent 1 session lines out place → ending ≡ output_fault out → EndsSession session script silent at_end ending
 
--- How a session that was begun ends over the script that was taken from its input. A script past its limit is no fault of the input.
-pub data EndsSession (session : PlainSession) (script silent : List ℕ) (ending : RunEnding) : Type 0 where
-  too_long : (r : PlainResponse) → IsScriptRefusal script r → ending ≡ responds r → EndsSession session script silent ending
-  answered_all : IsAnswered session script silent ending → EndsSession session script silent ending
-  failed : length script ≤ MAX_SCRIPT_BYTES → ending ≡ input_fault → EndsSession session script silent ending
-  without_room : ending ≡ short_of_memory → EndsSession session script silent ending
-
-pub record Converses (session : PlainSession) (course : Course) : Type 0 where
-  pub script : List ℕ
-  pub is_taken : course.taken ≡ Some script
-  pub answers : EndsSession session script course.silent course.ending
+-- what a session does that was begun: it ends over what was taken from its input, or there was no memory to take any
+pub data Converses (session : PlainSession) (course : Course) : Type 0 where
+  ended_over : (script : List ℕ) → course.taken ≡ Some script →
+      EndsSession session script course.silent course.at_end course.ending → Converses session course
+  without_room : course ≡ without_input short_of_memory → Converses session course
 
 abbrev pub IsSessionCourse : List ℕ → Files → Course → Type 0
 IsSessionCourse root files course = Behind (session_stage root files) Converses course

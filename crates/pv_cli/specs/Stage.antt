@@ -5,7 +5,7 @@ use Rattle.pv_cli.specs.Course.{Course, without_input, responds, shelf_fault, no
 use Rattle.pv_cli.specs.Response.{PlainResponse, plain_response}
 use Rattle.pv_cli.specs.declared.response.Response.{Response}
 use Rattle.pv_cli.specs.declared.stop.Stop.{Stop}
-use Rattle.pv_cli.specs.declared.stop.Stop.TheVariants.{Refused, ShelfFault, InputFault, NoMemory}
+use Rattle.pv_cli.specs.declared.stop.Stop.TheVariants.{Refused, ShelfFault, NoMemory}
 
 -- what a stage may open, the responses with which it may refuse, and where it asks the shelf
 pub record Stage (X : Type 0) : Type 1 where
@@ -46,7 +46,6 @@ pub data Responds (IsResponse : PlainResponse → Type 0) (course : Course) : Ty
 abbrev pub StopsBy : (PlainResponse → Type 0) → Type 0 → Stop → Type 0
 StopsBy Refuses AsksShelf (Refused response) = Refuses (plain_response response)
 StopsBy Refuses AsksShelf ShelfFault = AsksShelf
-StopsBy Refuses AsksShelf InputFault = ⊥
 StopsBy Refuses AsksShelf NoMemory = Unit {0}
 
 -- what a stage returned, seen as plain data
@@ -57,7 +56,6 @@ Returns plain stage (Err stop) = StopsBy stage.Refuses stage.AsksShelf stop
 abbrev pub StopCounts : ℕ → ℕ → Stop → Type 0
 StopCounts before after (Refused response) = CountStays before after
 StopCounts before after ShelfFault = Rose before after
-StopCounts before after InputFault = CountStays before after
 StopCounts before after NoMemory = CountStays before after
 
 -- the shelf's count of faults rose where it failed, and else it stayed

@@ -1,6 +1,6 @@
 //! Laws on what the program does. Their functions do nothing.
 
-ghost use Rattle.pv_cli.specs.Laws.{HasOneResponse, IsComplete, FaultsShow, HasOneReply, HasOneOutput, JoinsReplies, EndsAtQuit};
+ghost use Rattle.pv_cli.specs.Laws.{HasOneResponse, IsComplete, FaultsShow, HasOneReply, HasOneOutput, JoinsReplies, EndsAtQuit, MoreChangesNothing};
 
 use pv_dtd::laws::one_meaning_law;
 use pv_io::Source;
@@ -42,3 +42,8 @@ pub fn replies_law()
     one_command_law();
     one_answer_law();
 }
+
+/// A session that a `quit` or a limit ended ends so whatever else its script has.
+pub fn whatever_follows_law()
+    ensures { MoreChangesNothing }
+{}

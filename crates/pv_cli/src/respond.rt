@@ -27,7 +27,7 @@ pub fn respond<K: Sink>(out: &mut K, answer: Result<Response, Stop>) -> Status
     match answer {
         Ok(response) => write(out, &response),
         Err(Stop::Refused(response)) => write(out, &response),
-        Err(Stop::ShelfFault | Stop::InputFault) => Status::ReadFault,
+        Err(Stop::ShelfFault) => Status::ReadFault,
         Err(Stop::NoMemory) => Status::NoMemory,
     }
 }

@@ -13,8 +13,6 @@ pub enum Stop {
     Refused(Response),
     /// A file couldn't be read.
     ShelfFault,
-    /// The input couldn't be read.
-    InputFault,
     /// There was no memory.
     NoMemory,
 }

@@ -1,8 +1,8 @@
 //! The reply to a line of a session's script.
 
-ghost use Rattle.std.specs.Prelude.{◌≡◌, ◌≤◌, IfOk, OnErr, Some, vec_len};
-ghost use Rattle.pv_cli.specs.Turns.{IsReplyBy, IsTurn};
-ghost use Rattle.pv_script.specs.Replies.{reply_bytes};
+ghost use Rattle.std.specs.Prelude.{◌≡◌, ◌≤◌, IfOk, OnErr, None, vec_len};
+ghost use Rattle.pv_cli.specs.Turns.{IsAnswer, IsReplyBy, IsTurn};
+ghost use Rattle.pv_cli.specs.Session.{done_of};
 
 use pv_chars::{Bytes, NoMemory};
 use pv_edit::{Done, Edit, EditAnswer, Edits};
@@ -12,6 +12,13 @@ use pv_steps::Steps;
 use pv_write::doc_bytes;
 use std::alloc::{AllocError, Global};
 use std::sync::ledger::Ledger;
+
+/// A reply: its text, and what was done where it is `ok`.
+#[derive(Drop)]
+pub struct Answer {
+    pub text: Vec<u8>,
+    pub done: Option<Done>,
+}
 
 /// The bytes that are taken for an `ok` reply.
 const ROOM: usize = 64;
@@ -24,13 +31,27 @@ fn take_room(alloc: Global) -> Result<Vec<u8>, AllocError>
 }
 
 // The reply to a move that was made, in the room that was taken for it.
-fn okay(done: &Done, mut room: Vec<u8>) -> Vec<u8>
+fn okay(done: Done, mut room: Vec<u8>) -> Answer
     requires { 64 ≤ vec_len room }
-    ensures { result.items ≡ reply_bytes (Reply.Okay done.now) }
+    ensures { IsAnswer (Reply.Okay done) result }
 {
-    let count = okay_text(done, &mut room);
+    let count = okay_text(&done, &mut room);
     room.truncate(count);
-    room
+    Answer {
+        text: room,
+        done: Some(done),
+    }
+}
+
+// Any other reply.
+fn other(alloc: Global, reply: &Reply) -> Result<Answer, NoMemory>
+    requires { done_of reply.now ≡ None }
+    ensures { IfOk result (IsAnswer reply.now) }
+{
+    Ok(Answer {
+        text: reply_text(alloc, reply)?,
+        done: None,
+    })
 }
 
 // The reply to an edit. Nothing behind the edit takes memory where it was made.
@@ -39,16 +60,16 @@ fn edit<L: Ledger>(
     session: &mut Session,
     edit: &Edit,
     steps: &mut Steps<L>,
-) -> Result<Vec<u8>, NoMemory>
-    ensures replied { IfOk result (λ text. IsReplyBy session.old (Command.Edit edit.now) session.new text.items) }
+) -> Result<Answer, NoMemory>
+    ensures replied { IfOk result (IsReplyBy session.old (Command.Edit edit.now) session.new) }
     ensures stays { OnErr result (session.new ≡ session.old) }
 {
     let room = take_room(alloc)?;
     match session.edit(edit, steps) {
-        Ok(done) => Ok(okay(&done, room)),
-        Err(EditAnswer::Shape(reason)) => reply_text(alloc, &Reply::Shape(reason)),
-        Err(EditAnswer::Impossible(path)) => reply_text(alloc, &Reply::Impossible(path)),
-        Err(EditAnswer::Limit) => reply_text(alloc, &Reply::Limit),
+        Ok(done) => Ok(okay(done, room)),
+        Err(EditAnswer::Shape(reason)) => other(alloc, &Reply::Shape(reason)),
+        Err(EditAnswer::Impossible(path)) => other(alloc, &Reply::Impossible(path)),
+        Err(EditAnswer::Limit) => other(alloc, &Reply::Limit),
         Err(EditAnswer::NoMemory) => Err(NoMemory),
     }
 }
@@ -58,14 +79,14 @@ fn undo<L: Ledger>(
     alloc: Global,
     session: &mut Session,
     steps: &mut Steps<L>,
-) -> Result<Vec<u8>, NoMemory>
-    ensures replied { IfOk result (λ text. IsReplyBy session.old Command.Undo session.new text.items) }
+) -> Result<Answer, NoMemory>
+    ensures replied { IfOk result (IsReplyBy session.old Command.Undo session.new) }
     ensures stays { OnErr result (session.new ≡ session.old) }
 {
     let room = take_room(alloc)?;
     match session.undo(steps) {
-        Ok(done) => Ok(okay(&done, room)),
-        Err(BackAnswer::NoHistory) => reply_text(alloc, &Reply::NoHistory),
+        Ok(done) => Ok(okay(done, room)),
+        Err(BackAnswer::NoHistory) => other(alloc, &Reply::NoHistory),
         Err(BackAnswer::NoMemory) => Err(NoMemory),
     }
 }
@@ -75,36 +96,36 @@ fn redo<L: Ledger>(
     alloc: Global,
     session: &mut Session,
     steps: &mut Steps<L>,
-) -> Result<Vec<u8>, NoMemory>
-    ensures replied { IfOk result (λ text. IsReplyBy session.old Command.Redo session.new text.items) }
+) -> Result<Answer, NoMemory>
+    ensures replied { IfOk result (IsReplyBy session.old Command.Redo session.new) }
     ensures stays { OnErr result (session.new ≡ session.old) }
 {
     let room = take_room(alloc)?;
     match session.redo(steps) {
-        Ok(done) => Ok(okay(&done, room)),
-        Err(BackAnswer::NoHistory) => reply_text(alloc, &Reply::NoHistory),
+        Ok(done) => Ok(okay(done, room)),
+        Err(BackAnswer::NoHistory) => other(alloc, &Reply::NoHistory),
         Err(BackAnswer::NoMemory) => Err(NoMemory),
     }
 }
 
 // The reply to `history`.
-fn history(alloc: Global, session: &Session) -> Result<Vec<u8>, NoMemory>
-    ensures { IfOk result (λ text. IsReplyBy session.now Command.History session.now text.items) }
+fn history(alloc: Global, session: &Session) -> Result<Answer, NoMemory>
+    ensures { IfOk result (IsReplyBy session.now Command.History session.now) }
 {
     let past = session.history();
     let mut edits = Vec::new(alloc);
     for edit in past {
         edits.push(edit.copy(alloc)?)?;
     }
-    reply_text(alloc, &Reply::History(Edits::of(edits)))
+    other(alloc, &Reply::History(Edits::of(edits)))
 }
 
 // The reply to `show`.
-fn show(alloc: Global, session: &Session) -> Result<Vec<u8>, NoMemory>
-    ensures { IfOk result (λ text. IsReplyBy session.now Command.Show session.now text.items) }
+fn show(alloc: Global, session: &Session) -> Result<Answer, NoMemory>
+    ensures { IfOk result (IsReplyBy session.now Command.Show session.now) }
 {
     let bytes = doc_bytes(alloc, session.doc())?;
-    reply_text(alloc, &Reply::Show(Bytes::of(bytes)))
+    other(alloc, &Reply::Show(Bytes::of(bytes)))
 }
 
 // The reply to a line, or none where it ends the session.
@@ -113,7 +134,7 @@ pub fn turn<L: Ledger>(
     session: &mut Session,
     line: &[u8],
     steps: &mut Steps<L>,
-) -> Result<Option<Vec<u8>>, NoMemory>
+) -> Result<Option<Answer>, NoMemory>
     ensures turned { IfOk result (IsTurn session.old line.now session.new) }
     ensures stays { OnErr result (session.new ≡ session.old) }
 {
@@ -124,7 +145,7 @@ pub fn turn<L: Ledger>(
         Ok(Command::History) => Ok(Some(history(alloc, session)?)),
         Ok(Command::Show) => Ok(Some(show(alloc, session)?)),
         Ok(Command::Quit) => Ok(None),
-        Err(CommandError::Unknown) => Ok(Some(reply_text(alloc, &Reply::NoCommand)?)),
+        Err(CommandError::Unknown) => Ok(Some(other(alloc, &Reply::NoCommand)?)),
         Err(CommandError::NoMemory) => Err(NoMemory),
     }
 }

@@ -18,7 +18,7 @@ const VALID: &str = "<doc><head>a</head><sec></sec></doc>";
 // A document and a script, and the output of a session on them.
 type Row = (&'static str, &'static str, &'static str);
 
-static SCRIPTS: [Row; 13] = [
+static SCRIPTS: [Row; 14] = [
     (
         VALID,
         "show\n",
@@ -27,6 +27,7 @@ static SCRIPTS: [Row; 13] = [
     (HELLO, "", ""),
     (HELLO, "\nshow", "no command\nshow 16\n<doc>Hello</doc>\n"),
     (HELLO, "quit\nshow\n\n", ""),
+    (HELLO, "undo\n\r", "no history\nno command\n"),
     (HELLO, "show\r\r\n", "show 16\n<doc>Hello</doc>\n"),
     (HELLO, "show \nundo\n", "no command\nno history\n"),
     (" <doc\n/> ", "show\nquit\nshow", "show 9\n <doc\n/> \n"),
@@ -103,20 +104,27 @@ fn check_outcome<R: AllocGlobal + Threads + Sync>(
 
 #[test]
 fn faults(rt: HostRuntime) -> Result<(), Fail> {
-    check_outcome(&rt, b"show\n", 1, (&[0], &[]), (Status::ReadFault, ""))?;
+    let nothing = (Status::ReadFault, "");
+    check_outcome(&rt, b"show\n", 1, (&[0], &[]), nothing)?;
+    let whole_lines = (Status::ReadFault, "show 16\n<doc>Hello</doc>\n");
+    check_outcome(&rt, b"show\nsh", 65_536, (&[1], &[]), whole_lines)?;
     let cut_off = (Status::WriteFault, "no command\n");
     check_outcome(&rt, b"\nshow\n", 65_536, (&[], &[1]), cut_off)?;
     // A byte for each call, and the end: the call behind it would fail.
     let done = (Status::Done, "no history\n");
-    check_outcome(&rt, b"undo\n", 1, (&[6], &[]), done)
+    check_outcome(&rt, b"undo\n", 1, (&[6], &[]), done)?;
+    // A `quit` ends the session before the rest is asked for.
+    let quit = (Status::Done, "no history\n");
+    check_outcome(&rt, b"undo\nquit\nshow\n", 5, (&[2], &[]), quit)
 }
 
 #[test]
-fn the_longest_script(rt: HostRuntime) -> Result<(), Fail> {
+fn the_longest_line(rt: HostRuntime) -> Result<(), Fail> {
     let longest = vec![in rt.alloc(); b'x'; 1_048_576]?;
     let done = (Status::Done, "no command\n");
     check_outcome(&rt, &longest, 65_536, (&[], &[]), done)?;
-    let longer = vec![in rt.alloc(); b'x'; 1_048_577]?;
-    let limit = (Status::Limit, "limit script\n");
+    let mut longer = vec![in rt.alloc(); b'x'; 1_048_582]?;
+    longer[..5].copy_from_slice(b"show\n");
+    let limit = (Status::Limit, "show 16\n<doc>Hello</doc>\nlimit line 2\n");
     check_outcome(&rt, &longer, 65_536, (&[], &[]), limit)
 }

@@ -1,5 +1,5 @@
 -- The line of an edit that applies to some document is read again.
-use Rattle.std.proofs.Common.{◌≡◌, ℕ, ◌+◌, ◌/◌, ◌<◌, ◌≤◌, ◌⊎◌, inl, inr, List, [], ◌∷◌, ◌++◌, map, length, ◌||◌, Option, None, Bool, true, false, not, nat_eq, nat_lt, refl, sym, ap, subst, ◌∙◌, append_assoc, arith, codes, decimal}
+use Rattle.std.proofs.Common.{◌≡◌, ℕ, ◌+◌, ◌/◌, ◌<◌, ◌≤◌, ◌⊎◌, inl, inr, List, [], ◌∷◌, ◌++◌, map, length, ◌||◌, Option, None, Bool, true, false, not, nat_lt, refl, ap, subst, ◌∙◌, append_assoc, arith, codes, decimal}
 use Rattle.std.proofs.lemmas.Bool.{and_parts, cases_lt, not-false}
 use Rattle.std.proofs.lemmas.Bool.Decides.{nat_tests}
 use Rattle.std.specs.List.{list_all, list_any}
@@ -9,7 +9,7 @@ use Rattle.pv_chars.proofs.Utf8Lemmas.{one_byte, two_bytes, three_bytes, four_by
 use Rattle.pv_chars.specs.Characters.{is_name_char}
 use Rattle.pv_edit.proofs.Leading.{given-reason}
 use Rattle.pv_edit.specs.Given.{is_line_end, is_new_name, is_new_text, is_character_data}
-use Rattle.pv_edit.specs.Reasons.{applied, gives, kids_at, lacks_element, lacks_list, lacks_node, lacks_text, reason_of, unless}
+use Rattle.pv_edit.specs.Reasons.{kids_at, lacks_element, lacks_list, lacks_node, lacks_text, reason_of, unless}
 use Rattle.pv_edit.specs.declared.edits.Edit.{Edit}
 use Rattle.pv_edit.specs.declared.edits.Edit.TheVariants.{Wrap, Insert, Unwrap, Rename, Split, Join, SetText, AddText, DelText}
 use Rattle.pv_edit.specs.declared.reasons.Reason.{Reason}
@@ -17,11 +17,12 @@ use Rattle.pv_edit.specs.declared.reasons.Reason.TheVariants.{NoNode, NotElement
 use Rattle.pv_tree.specs.Plain.{Tree}
 use Rattle.pv_script.specs.Edits.{AreNumbers, edit_text, numbers_in}
 use Rattle.pv_script.specs.Laws.{EditsAreReadAgain}
-use Rattle.pv_script.specs.Lines.{pieces_of, without_returns, with_first_byte, with_byte_before, lines_of}
+use Rattle.pv_script.specs.Lines.{without_returns, with_byte_before, lines_of}
 use Rattle.pv_script.specs.Paths.{path_text}
 use Rattle.pv_script.specs.Words.{words}
 use Rattle.pv_script.proofs.Numbers.{decimal-free}
 use Rattle.pv_script.proofs.PathWords.{path-free}
+use Rattle.pv_script.proofs.Pieces.{pieces_of-line}
 use Rattle.pv_script.proofs.Words.{Free, Free-append, not-eq}
 
 -- a byte of ASCII stands in the bytes of its own code point alone
@@ -162,11 +163,6 @@ edit-free d (AddText path at text) low all last =
     (spaced-free d (decimal at) text low (decimal-free d at (omega arith) all.0) last))
 edit-free d (DelText path) low all last =
     spaced-free d (codes "deltext") (path_text path) low (high-free d (codes "deltext") low refl) (path-free d path (omega arith) all)
-
--- a line with no line end in it is cut out as it is
-pieces_of-line : (line more : List ℕ) → Free 10 line → pieces_of (line ++ (10 ∷ more)) ≡ line ∷ pieces_of more
-pieces_of-line [] more free = refl
-pieces_of-line (b ∷ bs) more free = rw (not-eq b 10 free.0) (ap (with_first_byte b) (pieces_of-line bs more free.1))
 
 without_returns-none : (line : List ℕ) → Free 13 line → without_returns line ≡ line
 without_returns-none [] free = refl

@@ -1,11 +1,9 @@
 -- The arguments of edits are read as they are written.
-use Rattle.std.proofs.Common.{◌≡◌, ℕ, ◌≤◌, List, [], ◌∷◌, ◌++◌, Option, Some, None, refl, sym, ap, ◌∙◌, arith, codes, decimal}
-use Rattle.std.specs.Option.{option_map, option_and_then}
-use Rattle.pv_edit.specs.declared.edits.Edit.{Edit}
-use Rattle.pv_edit.specs.declared.edits.Edit.TheVariants.{Wrap, Insert, Unwrap, Rename, Split, Join, SetText, AddText, DelText}
-use Rattle.pv_script.specs.Edits.{MAX_NUMBER, AreNumbers, edit_text, numbers_in}
+use Rattle.std.proofs.Common.{◌≡◌, ℕ, ◌≤◌, List, ◌∷◌, ◌++◌, Option, Some, None, refl, ap, ◌∙◌, arith, decimal}
+use Rattle.std.specs.Option.{option_and_then}
+use Rattle.pv_script.specs.Edits.{MAX_NUMBER, AreNumbers}
 use Rattle.pv_script.specs.Paths.{path_text}
-use Rattle.pv_script.specs.Reading.{first_word, number_of, path_of, on_path, on_number, wrap_of, insert_of, unwrap_of, rename_of, split_of, join_of, set_text_of, add_text_of, del_text_of}
+use Rattle.pv_script.specs.Reading.{first_word, number_of, path_of, on_path, on_number}
 use Rattle.pv_script.proofs.Numbers.{decimal-free, number_of-decimal, number-word}
 use Rattle.pv_script.proofs.PathWords.{path-free, path_of-path_text, path-word}
 use Rattle.pv_script.proofs.Words.{first_word-free, first_word-whole}

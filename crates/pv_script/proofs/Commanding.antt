@@ -1,5 +1,5 @@
 -- What a reader of commands answers.
-use Rattle.std.proofs.Common.{◌≡◌, List, ℕ, Option, Some, Result, Ok, Err}
+use Rattle.std.proofs.Common.{◌≡◌, List, ℕ, Result, Ok, Err}
 use Rattle.std.specs.Result.{IfOk}
 use Rattle.pv_script.specs.Commands.{Reads, SpellsCommand, IsNoCommand}
 use Rattle.pv_script.specs.Reading.{command_of}

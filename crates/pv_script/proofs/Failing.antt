@@ -1,5 +1,5 @@
 -- What a reader answers by what another answered.
-use Rattle.std.proofs.Common.{◌≡◌, Option, Some, None, Result, Ok, Err}
+use Rattle.std.proofs.Common.{◌≡◌, Option, None, Err}
 use Rattle.pv_script.specs.Commands.{Reads}
 use Rattle.pv_script.specs.declared.commands.CommandError.{CommandError}
 use Rattle.pv_script.specs.declared.commands.CommandError.TheVariants.{Unknown, NoMemory}

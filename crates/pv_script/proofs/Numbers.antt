@@ -1,18 +1,15 @@
 -- Numbers and paths are read as they are written.
-use Rattle.std.proofs.Common.{◌≡◌, ℕ, ◌<◌, ◌≤◌, ◌^◌, List, [], ◌∷◌, ◌++◌, length, map, Option, Some, None, Bool, true, false, ◌&&◌, nat_eq, refl, sym, ap, subst, ◌∙◌, arith, codes, decimal}
+use Rattle.std.proofs.Common.{◌≡◌, ℕ, ◌<◌, ◌≤◌, List, [], ◌∷◌, length, Some, None, Bool, true, false, refl, sym, ap, ◌∙◌, arith, decimal}
 use Rattle.std.proofs.lemmas.Bool.Decides.{nat_tests}
 use Rattle.std.proofs.lemmas.Fmt.{decimal_is_IsNumeral}
 use Rattle.std.proofs.lemmas.Slice.Eq.{bytes_eq-Decides}
 use Rattle.std.proofs.lemmas.Str.Parse.{digit_from_value}
-use Rattle.std.specs.List.{AllByRecursion}
-use Rattle.std.specs.Option.{option_map, option_and_then}
 use Rattle.std.specs.Prelude.{nat_le}
 use Rattle.std.specs.Str.{bytes_eq}
 use Rattle.std.specs.Str.Parse.{AllDigits, digits_value}
-use Rattle.pv_script.specs.Edits.{MAX_NUMBER, AreNumbers}
-use Rattle.pv_script.specs.Paths.{path_text, places_text}
-use Rattle.pv_script.specs.Reading.{number_of, numbers_of, dot_pieces, path_of}
-use Rattle.pv_script.proofs.Words.{Free, Free-append, dot_pieces-dot, dot_pieces-free, behind_dots, in-pieces}
+use Rattle.pv_script.specs.Edits.{MAX_NUMBER}
+use Rattle.pv_script.specs.Reading.{number_of}
+use Rattle.pv_script.proofs.Words.{Free}
 
 digits-free : (d : ℕ) (ds : List ℕ) → d < 48 → AllDigits 10 ds → Free d ds
 digits-free d [] low all = tt

@@ -1,12 +1,12 @@
 -- Paths are read as they are written.
-use Rattle.std.proofs.Common.{◌≡◌, ℕ, ◌<◌, ◌≤◌, List, [], ◌∷◌, ◌++◌, map, Option, Some, None, Bool, true, false, refl, sym, ap, ◌∙◌, append_assoc, arith, codes, decimal}
+use Rattle.std.proofs.Common.{◌≡◌, ℕ, ◌<◌, List, [], ◌∷◌, ◌++◌, map, Option, Some, None, Bool, true, false, refl, sym, ap, ◌∙◌, append_assoc, arith, codes, decimal}
 use Rattle.std.proofs.lemmas.Slice.Eq.{bytes_eq-Decides}
-use Rattle.std.specs.Option.{option_map, option_and_then}
+use Rattle.std.specs.Option.{option_map}
 use Rattle.std.specs.Str.{bytes_eq}
 use Rattle.pv_script.specs.Edits.{AreNumbers}
 use Rattle.pv_script.specs.Paths.{path_text, places_text}
 use Rattle.pv_script.specs.Reading.{number_of, numbers_of, dot_pieces, path_of}
-use Rattle.pv_script.proofs.Numbers.{decimal-free, decimal-some, number_of-decimal, IsNumberWord, number-word}
+use Rattle.pv_script.proofs.Numbers.{decimal-free, decimal-some, number_of-decimal, number-word}
 use Rattle.pv_chars.specs.Fronts.{Holds, EndsAt}
 use Rattle.pv_script.proofs.Words.{Free, Free-append, ends-free, none-free, dot_pieces-dot, dot_pieces-free, behind_dots, IsInPieces, in-pieces}
 

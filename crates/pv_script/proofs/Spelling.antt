@@ -1,5 +1,5 @@
 -- A line spells a command exactly where it is read as that command.
-use Rattle.std.proofs.Common.{◌≡◌, ℕ, ◌≤◌, List, [], ◌∷◌, ◌++◌, Option, Some, None, Bool, true, false, inl, inr, ◌⊎◌, refl, sym, ap, ◌∙◌, arith, codes, decimal}
+use Rattle.std.proofs.Common.{◌≡◌, ℕ, List, ◌∷◌, ◌++◌, Option, Some, None, Bool, true, false, inl, inr, ◌⊎◌, refl, sym, ap, ◌∙◌, codes, decimal}
 use Rattle.std.specs.Prelude.{if◌then◌else◌}
 use Rattle.std.proofs.lemmas.Slice.Eq.{bytes_eq-Decides}
 use Rattle.std.specs.Option.{option_map}
@@ -7,10 +7,10 @@ use Rattle.std.specs.Str.{bytes_eq}
 use Rattle.pv_edit.specs.declared.edits.Edit.{Edit}
 use Rattle.pv_edit.specs.declared.edits.Edit.TheVariants.{Wrap, Insert, Unwrap, Rename, Split, Join, SetText, AddText, DelText}
 use Rattle.pv_script.specs.Commands.{command_text, command_numbers, SpellsCommand, IsNoCommand}
-use Rattle.pv_script.specs.Edits.{MAX_NUMBER, AreNumbers, edit_text, numbers_in}
+use Rattle.pv_script.specs.Edits.{AreNumbers, edit_text, numbers_in}
 use Rattle.pv_script.specs.Laws.{OneCommand, CommandOrNone}
 use Rattle.pv_script.specs.Paths.{path_text}
-use Rattle.pv_script.specs.Reading.{first_word, number_of, path_of, on_path, on_number, wrap_of, insert_of, unwrap_of, rename_of, split_of, join_of, set_text_of, add_text_of, del_text_of, edit_of, edit_in, command_of}
+use Rattle.pv_script.specs.Reading.{first_word, number_of, path_of, on_number, wrap_of, insert_of, rename_of, split_of, set_text_of, add_text_of, edit_of, edit_in, command_of}
 use Rattle.pv_script.specs.declared.commands.Command.{Command}
 use Rattle.pv_script.specs.declared.commands.Command.TheVariants as commands
 use Rattle.pv_script.proofs.ArgumentWords.{on_path-written, on_number-written, on-path, on-number}

@@ -5,7 +5,7 @@ use Rattle.pv_edit.specs.Reasons.{applied, gives}
 use Rattle.pv_edit.specs.declared.edits.Edit.{Edit}
 use Rattle.pv_script.specs.Commands.{SpellsCommand, IsNoCommand}
 use Rattle.pv_script.specs.Edits.{edit_text, numbers_in, AreNumbers}
-use Rattle.pv_script.specs.Lines.{lines_of}
+use Rattle.pv_script.specs.Lines.{FEED, ended_lines, ended_pieces, lines_of, without_returns, HasNoFeed, with_feeds}
 use Rattle.pv_script.specs.Words.{with_feed}
 use Rattle.pv_script.specs.declared.commands.Command.{Command}
 use Rattle.pv_script.specs.declared.commands.Command.TheVariants as command
@@ -24,3 +24,19 @@ EditsAreReadAgain M = (blank : M) (doc made : PlainDoc M) (edit : Edit) → appl
     AreNumbers (numbers_in edit) → (more : List ℕ) →
     (lines_of (with_feed (edit_text edit) ++ more) ≡ edit_text edit ∷ lines_of more)
     × SpellsCommand (edit_text edit) (command.Edit edit)
+
+-- Bytes are their lines that an LF ends, and part of a line. With what comes behind them, their lines are those, and then the lines of that
+-- part and what comes.
+pub record JoinsLines (first more : List ℕ) : Type 0 where
+  pub part : List ℕ
+  pub is_cut : first ≡ with_feeds (ended_pieces first) ++ part
+  pub no_feed : HasNoFeed part
+  pub lines : lines_of (first ++ more) ≡ ended_lines first ++ lines_of (part ++ more)
+  pub ended : ended_lines (first ++ more) ≡ ended_lines first ++ ended_lines (part ++ more)
+
+abbrev pub JoinLines : Type 0
+JoinLines = (first more : List ℕ) → JoinsLines first more
+
+-- bytes up to an LF are a line, and what is behind it is cut on
+abbrev pub LinesEndAtFeeds : Type 0
+LinesEndAtFeeds = (line more : List ℕ) → HasNoFeed line → lines_of (line ++ FEED ∷ more) ≡ without_returns line ∷ lines_of more

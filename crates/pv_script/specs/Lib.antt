@@ -1,6 +1,7 @@
 pub mod Paths
 pub mod Words
 pub mod Lines
+pub mod Taking
 pub mod Edits
 pub mod Commands
 pub mod Reading

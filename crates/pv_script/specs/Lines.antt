@@ -1,5 +1,7 @@
 -- The lines of a script.
-use Rattle.std.specs.Prelude.{ℕ, List, [], ◌∷◌, map, ◌==◌, if◌then◌else◌}
+use Rattle.std.specs.Prelude.{◌≢◌, ℕ, List, [], ◌∷◌, ◌++◌, map, ◌==◌, if◌then◌else◌}
+use Rattle.std.specs.List.{AllByRecursion}
+use Rattle.pv_script.specs.Words.{with_feed}
 
 -- the lines of a script whose first byte is put in front of those that follow it
 abbrev pub with_first_byte : ℕ → List (List ℕ) → List (List ℕ)
@@ -31,3 +33,26 @@ without_returns (b ∷ bs) = with_byte_before b (without_returns bs)
 -- the lines of a script
 abbrev pub lines_of : List ℕ → List (List ℕ)
 lines_of script = map without_returns (pieces_of script)
+
+-- the first of some pieces with a byte in front, if there is one
+abbrev pub with_byte_in_first : ℕ → List (List ℕ) → List (List ℕ)
+with_byte_in_first b [] = []
+with_byte_in_first b (piece ∷ pieces) = (b ∷ piece) ∷ pieces
+
+-- the pieces that LF bytes end
+abbrev pub ended_pieces : List ℕ → List (List ℕ)
+ended_pieces [] = []
+ended_pieces (b ∷ bs) = if b == FEED then [] ∷ ended_pieces bs else with_byte_in_first b (ended_pieces bs)
+
+-- the lines that LF bytes end
+abbrev pub ended_lines : List ℕ → List (List ℕ)
+ended_lines bytes = map without_returns (ended_pieces bytes)
+
+-- no LF stands in these bytes
+abbrev pub HasNoFeed : List ℕ → Type 0
+HasNoFeed bytes = AllByRecursion (λ b. b ≢ FEED) bytes
+
+-- lines, each with its LF
+abbrev pub with_feeds : List (List ℕ) → List ℕ
+with_feeds [] = []
+with_feeds (line ∷ lines) = with_feed line ++ with_feeds lines

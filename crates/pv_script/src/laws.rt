@@ -1,6 +1,6 @@
 //! Laws on lines and commands. Their functions do nothing.
 
-ghost use Rattle.pv_script.specs.Laws.{OneCommand, CommandOrNone, EditsAreReadAgain};
+ghost use Rattle.pv_script.specs.Laws.{OneCommand, CommandOrNone, EditsAreReadAgain, JoinLines, LinesEndAtFeeds};
 
 /// A line spells exactly one command, or none.
 pub fn one_command_law()
@@ -12,4 +12,10 @@ pub fn one_command_law()
 /// LF ends it, and is read again as that edit. `M` is the type of marks.
 pub fn edit_line_law<M>()
     ensures { EditsAreReadAgain M }
+{}
+
+/// The lines of a script, in whatever pieces it comes.
+pub fn lines_law()
+    ensures joined { JoinLines }
+    ensures end { LinesEndAtFeeds }
 {}

@@ -1,7 +1,8 @@
-//! The reply to a change that was made, written with no memory.
+//! The reply to a change that was made, and the line of a limit, written with no memory.
 
-ghost use Rattle.std.specs.Prelude.{◌≡◌, ◌+◌, ◌≤◌, ◌++◌, length, take, drop};
+ghost use Rattle.std.specs.Prelude.{◌≡◌, ◌+◌, ◌≤◌, ◌++◌, length, take, drop, codes, decimal};
 ghost use Rattle.pv_script.specs.Replies.{reply_bytes};
+ghost use Rattle.pv_script.specs.Words.{with_feed};
 ghost use Rattle.pv_script.specs.declared.replies.Reply.TheVariants as reply;
 
 use itoa::Buffer;
@@ -31,5 +32,17 @@ pub fn okay_text(done: &Done, room: &mut [u8]) -> usize
     let end = put(room, end, buffer.format(done.checked).as_bytes());
     let end = put(room, end, b" ");
     let end = put(room, end, buffer.format(done.left).as_bytes());
+    put(room, end, b"\n")
+}
+
+/// Writes a line that says that line number so many is too long at the front of the room, and tells the number of its bytes.
+pub fn limit_line_text(number: u64, room: &mut [u8]) -> usize
+    requires { 64 ≤ length room.old }
+    ensures within { result ≤ 64 }
+    ensures front { take result room.new ≡ with_feed (codes "limit line " ++ decimal number) }
+{
+    let mut buffer = Buffer::new();
+    let end = put(room, 0, b"limit line ");
+    let end = put(room, end, buffer.format(number).as_bytes());
     put(room, end, b"\n")
 }

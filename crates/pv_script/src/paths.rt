@@ -47,20 +47,30 @@ pub fn push_path(text: &mut Vec<u8>, places: &[u32]) -> Result<(), AllocError>
     }
 }
 
-/// The number that a word is.
+/// The number that a word is: its decimal digits, at most 4294967295.
+pub fn written_number(word: &[u8]) -> Option<u32>
+    ensures { number_of word.now ≡ result }
+{
+    let Ok(digits) = str::from_utf8(word) else {
+        return None;
+    };
+    let Ok(number) = digits.parse::<u32>() else {
+        return None;
+    };
+    if Buffer::new().format(number) != digits {
+        return None;
+    }
+    Some(number)
+}
+
+/// The number that a word of a line is.
 pub(crate) fn read_number(word: &[u8]) -> Result<u32, CommandError>
     ensures { Reads (number_of word.now) result }
 {
-    let Ok(digits) = str::from_utf8(word) else {
-        return Err(CommandError::Unknown);
-    };
-    let Ok(number) = digits.parse::<u32>() else {
-        return Err(CommandError::Unknown);
-    };
-    if Buffer::new().format(number) != digits {
-        return Err(CommandError::Unknown);
+    match written_number(word) {
+        Some(number) => Ok(number),
+        None => Err(CommandError::Unknown),
     }
-    Ok(number)
 }
 
 /// The path that a word is.

@@ -1,5 +1,5 @@
 use crate::{
-    Command, CommandError, Reply, edit_line, next_line, okay_text, read_command, reply_text,
+    Command, CommandError, Lines, Reply, Took, edit_line, okay_text, read_command, reply_text,
 };
 use pv_chars::{List, bytes_of};
 use pv_edit::{Done, Edit, Reason, VerdictRow};
@@ -10,15 +10,17 @@ use std::test::Fail;
 
 #[test]
 fn lines(rt: HostRuntime) -> Result<(), Fail> {
-    let script = b"\nshow\r\r\nsh\row\nquit";
-    let mut rest = script.as_slice();
-    for line in ["", "show", "sh\row", "quit"] {
-        let (found, after) = next_line(rest).ok_or("no line")?;
-        assert_eq!(rt; found, line.as_bytes());
-        rest = after;
-    }
-    assert_eq!(rt; next_line(rest), None);
-    assert_eq!(rt; next_line(b"\r"), Some((b"".as_slice(), b"".as_slice())));
+    let mut lines = Lines::new(rt.alloc())?;
+    assert_eq!(rt; lines.take(b"sh"), Took::More);
+    assert_eq!(rt; lines.take(b"ow\r\nundo\n"), Took::Line(4));
+    assert_eq!(rt; lines.line(), b"show");
+    assert_eq!(rt; lines.take(b"undo\n"), Took::Line(5));
+    assert_eq!(rt; lines.line(), b"undo");
+    assert_eq!(rt; lines.take(b"\r\r"), Took::More);
+    assert_eq!(rt; lines.held(), 2);
+    assert_eq!(rt; lines.line(), b"");
+    lines.clear();
+    assert_eq!(rt; lines.held(), 0);
     Ok(())
 }
 

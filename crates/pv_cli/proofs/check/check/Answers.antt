@@ -9,7 +9,7 @@ use Rattle.pv_cli.specs.Check.{TellsPossibility}
 use Rattle.pv_cli.specs.Opening.{opening_stage, plain_opened}
 use Rattle.pv_cli.specs.Stage.{Responds, TellsBy, opened, short_of_memory}
 use Rattle.pv_cli.specs.declared.stop.Stop.TheVariants.{NoMemory}
-use Rattle.pv_cli.proofs.Stages.{stop_ends, stop_counts, stop_leaves_input, tells_ends, tells_counts, tells_leaves_input}
+use Rattle.pv_cli.proofs.Stages.{stop_ends, stop_counts, tells_ends, tells_counts}
 use Rattle.pv_cli.proofs.check.check.Goals as goal
 
 pub returns-in_err-dtd-clause-finds : goal.returns-in_err-dtd-clause-finds
@@ -24,7 +24,6 @@ returns-in_err-dtd-clause-finds g c =
       are_files = (read.1, read.2);
       is_defined = stop_ends stage (λ both. Responds (TellsPossibility root both.0 both.1)) stop read.3;
       shelf = stop_counts _ _ stop c.in_err-dtd.ensures.counts;
-      no_input_fault = stop_leaves_input stage.Refuses stage.AsksShelf stop read.3;
     })
 
 pub returns-in_err-grammar-clause-finds : goal.returns-in_err-grammar-clause-finds
@@ -37,7 +36,6 @@ returns-in_err-grammar-clause-finds g c =
       are_files = (read.1, read.2);
       is_defined = short_of_memory refl;
       shelf = c.in_ok-dtd.ensures.counts;
-      no_input_fault = tells_leaves_input tells (Err NoMemory) tt;
     })
 
 pub returns-clause-finds : goal.returns-clause-finds
@@ -53,7 +51,6 @@ returns-clause-finds g c =
       are_files = (read.1, read.2);
       is_defined = opened both read.3 (tells_ends tells c.tell.result told);
       shelf = rw c.in_ok-dtd.ensures.counts (tells_counts tells _ c.tell.result told);
-      no_input_fault = tells_leaves_input tells c.tell.result told;
     }
 
 pub invariant_of-doc-2 : goal.invariant_of-doc-2

@@ -7,7 +7,7 @@ use Rattle.pv_cli.specs.Listing.{ListsDtd}
 use Rattle.pv_cli.specs.Opening.{dtd_file_stage}
 use Rattle.pv_cli.specs.Stage.{Responds, TellsBy, opened, short_of_memory}
 use Rattle.pv_dtd.specs.PlainForms.{plain_dtd}
-use Rattle.pv_cli.proofs.Stages.{stop_ends, stop_counts, stop_leaves_input, tells_ends, tells_counts, tells_leaves_input}
+use Rattle.pv_cli.proofs.Stages.{stop_ends, stop_counts, tells_ends, tells_counts}
 use Rattle.pv_cli.proofs.listing.listing.Goals as goal
 
 pub returns-in_err-dtd-clause-finds : goal.returns-in_err-dtd-clause-finds
@@ -21,7 +21,6 @@ returns-in_err-dtd-clause-finds g c =
       are_files = read.1;
       is_defined = stop_ends stage (λ d. Responds (ListsDtd d)) stop read.2;
       shelf = stop_counts _ _ stop c.in_err-dtd.ensures.counts;
-      no_input_fault = stop_leaves_input stage.Refuses stage.AsksShelf stop read.2;
     })
 
 pub returns-in_err-grammar-clause-finds : goal.returns-in_err-grammar-clause-finds
@@ -34,7 +33,6 @@ returns-in_err-grammar-clause-finds g c =
       are_files = read.1;
       is_defined = short_of_memory refl;
       shelf = c.in_ok-dtd.ensures.counts;
-      no_input_fault = tells_leaves_input tells (Err NoMemory) tt;
     })
 
 pub returns-clause-finds : goal.returns-clause-finds
@@ -48,5 +46,4 @@ returns-clause-finds g c =
       are_files = read.1;
       is_defined = opened d read.2 (tells_ends tells c.tell.result told);
       shelf = rw c.in_ok-dtd.ensures.counts (tells_counts tells _ c.tell.result told);
-      no_input_fault = tells_leaves_input tells c.tell.result told;
     }

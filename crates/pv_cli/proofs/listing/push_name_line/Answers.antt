@@ -1,11 +1,11 @@
-use Rattle.std.proofs.Common.{◌≡◌, ◌++◌, ◌∙◌, ℕ, List, Some, ap, codes, refl, slice_get, slice_index_or, sym, [], suc, zero, ◌∷◌}
+use Rattle.std.proofs.Common.{◌≡◌, ◌++◌, ℕ, List, Some, codes, refl, slice_get, slice_index_or, sym, [], suc, zero, ◌∷◌}
 use Rattle.std.proofs.lemmas.Grind.{common_steps}
 use Rattle.std.proofs.Common.{arith}
 use Rattle.pv_dtd.specs.Plain.{model_of, spelling_of}
 use Rattle.pv_model.specs.PlainForms.{plain_model}
 use Rattle.pv_cli.specs.Listing.{model_text}
 use Rattle.pv_productive.specs.PlainForms.{dtd_of}
-use Rattle.pv_cli.proofs.Listings.{appended, regroup}
+use Rattle.pv_cli.proofs.Listings.{appended}
 use Rattle.pv_cli.proofs.listing.push_name_line.Goals as goal
 
 spelled : (ns : List (List ℕ)) (y : ℕ) (n : List ℕ) → slice_get ns y ≡ Some n → slice_index_or ns y [] ≡ n

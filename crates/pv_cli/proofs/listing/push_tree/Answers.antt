@@ -1,7 +1,5 @@
-use Rattle.std.proofs.Common.{◌≡◌, ◌++◌, ℕ, List, Result, Ok, Err, decimal, refl}
-use Rattle.std.specs.Result.{OnOk}
-use Rattle.std.specs.declared.alloc.AllocError.{AllocError}
-use Rattle.pv_cli.specs.Listing.{IsTreeText, counted}
+use Rattle.std.proofs.Common.{decimal, refl}
+use Rattle.pv_cli.specs.Listing.{counted}
 use Rattle.pv_productive.specs.PlainForms.{dtd_of}
 use Rattle.pv_cli.proofs.Listings.{tree_put}
 use Rattle.pv_cli.proofs.listing.push_tree.Goals as goal

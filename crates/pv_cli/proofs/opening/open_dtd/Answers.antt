@@ -1,8 +1,7 @@
-use Rattle.std.proofs.Common.{codes, subst, List, ℕ}
+use Rattle.std.proofs.Common.{codes}
 use Rattle.pv_dtd.specs.Facts.{MAX_DTD_BYTES}
 use Rattle.pv_dtd.specs.PlainForms.{plain_dtd}
 use Rattle.pv_cli.specs.Opening.{fetch_stage, dtd_stage}
-use Rattle.pv_cli.specs.Stage.{Returns}
 use Rattle.pv_cli.proofs.Stages.{returned_second}
 use Rattle.pv_cli.proofs.opening.open_dtd.Goals as goal
 

@@ -1,4 +1,4 @@
-use Rattle.std.proofs.Common.{None, Some, codes, ap, ◌++◌, ◌∙◌, ◌≡◌, refl, sym}
+use Rattle.std.proofs.Common.{Some, codes, ap, ◌++◌, ◌≡◌, sym}
 use Rattle.pv_missing.specs.Widths.{IsFirstTooWide}
 use Rattle.pv_productive.specs.PlainForms.{dtd_of}
 use Rattle.pv_tree.specs.Lists.{lists_of}
@@ -7,7 +7,7 @@ use Rattle.pv_cli.specs.Check.{DeniesPossibility, is_impossible, is_too_wide}
 use Rattle.pv_script.specs.Paths.{path_text}
 use Rattle.pv_cli.specs.Response.{PlainResponse, with_line}
 use Rattle.pv_cli.specs.Stage.{StopsBy}
-use Rattle.pv_cli.specs.declared.status.Status.TheVariants.{Done, Limit, Negative}
+use Rattle.pv_cli.specs.declared.status.Status.TheVariants.{Limit, Negative}
 use Rattle.pv_cli.proofs.Stages.{stops_as}
 use Rattle.pv_cli.proofs.possibility.possible_verdicts.Goals as goal
 

@@ -3,7 +3,7 @@ use Rattle.pv_io.specs.Files.{byte_lists}
 use Rattle.pv_cli.specs.CommandLine.{command_line_of, listing, valid, check, session}
 use Rattle.pv_cli.specs.Response.{PlainResponse, with_line}
 use Rattle.pv_cli.specs.declared.status.Status.TheVariants.{Usage}
-use Rattle.pv_cli.proofs.Stages.{found_runs, tells_ends, tells_counts, tells_leaves_input}
+use Rattle.pv_cli.proofs.Stages.{found_runs, tells_ends, tells_counts}
 use Rattle.pv_cli.proofs.program.pvtag.Goals as goal
 
 pub returns-in-Some-Valid-clause-runs : goal.returns-in-Some-Valid-clause-runs
@@ -39,5 +39,4 @@ returns-in-None-clause-runs g c =
       are_files = tt;
       is_defined = tells_ends tells c.usage.result c.usage.ensures;
       shelf = tells_counts tells _ c.usage.result c.usage.ensures;
-      no_input_fault = tells_leaves_input tells c.usage.result c.usage.ensures;
     }) c.respond-in-None.ensures)

@@ -5,4 +5,4 @@ use Rattle.pv_cli.proofs.respond.write.Goals as goal
 
 pub returns-in-Err : goal.returns-in-Err
 returns-in-Err g c =
-    cut_off (plain_response c.args.response.now) refl refl (rw c.deref.ensures.value at c.in-Err.ensures.err) c.in-Err.ensures.cause
+    cut_off (plain_response c.args.response.now).output refl refl (rw c.deref.ensures.value at c.in-Err.ensures.err) c.in-Err.ensures.cause

@@ -1,7 +1,7 @@
 use Rattle.std.proofs.Common.{Err}
 use Rattle.pv_cli.specs.Session.{Converses, session_stage}
 use Rattle.pv_cli.specs.Stage.{opened}
-use Rattle.pv_cli.proofs.Stages.{found_runs, stop_ends, stop_counts, stop_leaves_input}
+use Rattle.pv_cli.proofs.Stages.{found_runs, stop_ends, stop_counts}
 use Rattle.pv_cli.proofs.session.session.Goals as goal
 
 pub returns-in-Err-clause-runs : goal.returns-in-Err-clause-runs
@@ -14,7 +14,6 @@ returns-in-Err-clause-runs g c =
       are_files = (read.1, read.2);
       is_defined = stop_ends stage Converses stop read.3;
       shelf = stop_counts _ _ stop c.in-Err.ensures.counts;
-      no_input_fault = stop_leaves_input stage.Refuses stage.AsksShelf stop read.3;
     }) c.respond.ensures
 
 pub returns-clause-runs : goal.returns-clause-runs

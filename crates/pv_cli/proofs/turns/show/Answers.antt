@@ -12,4 +12,4 @@ returns c =
     let now = c.args.session.now in
     let same : c.of.result ≡ doc_text now.doc =
     c.of.ensures ∙ c.in_ok-bytes.ensures.text ∙ sym (doc_text-without_marks (plain_doc c.doc.result.now)) ∙ ap doc_text c.doc.ensures in
-    replies_by now now shows (Show c.of.result) c.reply_text.result (ap Show same, refl) c.reply_text.ensures
+    replies_by now now shows (Show c.of.result) c.other.result (ap Show same, refl) c.other.ensures

@@ -8,4 +8,4 @@ use Rattle.pv_cli.proofs.turns.undo.Goals as goal
 pub returns-in-Err-NoHistory-clause-replied : goal.returns-in-Err-NoHistory-clause-replied
 returns-in-Err-NoHistory-clause-replied g c =
     let step = rw c.in-Err-NoHistory.field-0-is at c.in-Err-NoHistory.ensures.stepped in
-    replies_by _ _ Undo NoHistory c.reply_text.result (lacks_history, step, refl) c.reply_text.ensures
+    replies_by _ _ Undo NoHistory c.other.result (lacks_history, step, refl) c.other.ensures

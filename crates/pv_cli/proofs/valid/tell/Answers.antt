@@ -1,4 +1,4 @@
-use Rattle.std.proofs.Common.{◌≡◌, ◌++◌, codes, refl, ap, ◌∙◌}
+use Rattle.std.proofs.Common.{◌++◌, codes, refl, ap, ◌∙◌}
 use Rattle.pv_tree.specs.Marks.{blank_mark}
 use Rattle.pv_read.proofs.Agreement.{spelled_where_meant}
 use Rattle.pv_cli.specs.Response.{with_line}

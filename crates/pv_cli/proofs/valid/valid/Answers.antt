@@ -6,8 +6,8 @@ use Rattle.pv_cli.specs.Documents.{document_stage}
 use Rattle.pv_cli.specs.Opening.{Files, dtd_file_stage, document_file_stage, fetch_stage, opening_stage}
 use Rattle.pv_cli.specs.Stage.{Responds, beside}
 use Rattle.pv_cli.specs.Valid.{TellsValidity}
-use Rattle.pv_cli.proofs.Stages.{some_file, stop_ends, stop_counts, stop_leaves_input, stopped_first, stopped_second}
-use Rattle.pv_cli.proofs.Validities.{told_ends, told_counts, told_leaves_input}
+use Rattle.pv_cli.proofs.Stages.{some_file, stop_ends, stop_counts, stopped_first, stopped_second}
+use Rattle.pv_cli.proofs.Validities.{told_ends, told_counts}
 use Rattle.pv_cli.proofs.valid.valid.Goals as goal
 
 pub returns-in_err-dtd-clause-finds : goal.returns-in_err-dtd-clause-finds
@@ -25,7 +25,6 @@ returns-in_err-dtd-clause-finds g c =
       are_files = (dtd.1, doc.1);
       is_defined = stop_ends stage (λ both. Responds (TellsValidity root both.0 both.1)) stop stops;
       shelf = stop_counts _ _ stop c.in_err-dtd.ensures.counts;
-      no_input_fault = stop_leaves_input stage.Refuses stage.AsksShelf stop stops;
     })
 
 pub returns-in_err-bytes-clause-finds : goal.returns-in_err-bytes-clause-finds
@@ -44,7 +43,6 @@ returns-in_err-bytes-clause-finds g c =
       are_files = (dtd.1, rw (← c.open_dtd.ensures.files) doc.1);
       is_defined = stop_ends stage (λ both. Responds (TellsValidity root both.0 both.1)) stop stops;
       shelf = stop_counts _ _ stop (rw c.in_ok-dtd.ensures.counts at c.in_err-bytes.ensures.counts);
-      no_input_fault = stop_leaves_input stage.Refuses stage.AsksShelf stop stops;
     })
 
 pub returns-clause-finds : goal.returns-clause-finds
@@ -59,5 +57,4 @@ returns-clause-finds g c =
       are_files = (dtd.1, rw (← c.open_dtd.ensures.files) doc.1);
       is_defined = told_ends root d _ files c.tell.result dtd.2 doc.2 (rw c.deref.ensures.value at c.tell.ensures);
       shelf = rw (c.in_ok-bytes.ensures.counts, c.in_ok-dtd.ensures.counts) (told_counts root d _ _ c.tell.result c.tell.ensures);
-      no_input_fault = told_leaves_input root d _ c.tell.result c.tell.ensures;
     }

@@ -1,0 +1,93 @@
+-- What the parts of a conversation return.
+use Rattle.std.specs.Prelude.{◌≡◌, ◌≢◌, ◌⊎◌, ◌≤◌, ◌<◌, ℕ, suc, Bool, true, false, List, [], ◌++◌, length, map, codes, decimal, Option, Result, Ok, Err}
+use Rattle.std.specs.List.{AllByRecursion}
+use Rattle.std.specs.Io.KnownBytes.{Appends}
+use Rattle.pv_io.specs.Causes.{AppendsFront}
+use Rattle.pv_io.specs.declared.source.Failed.{Failed}
+use Rattle.pv_script.specs.Commands.{SpellsCommand}
+use Rattle.pv_script.specs.Lines.{FEED, without_returns, HasNoFeed, with_feeds}
+use Rattle.pv_script.specs.Replies.{reply_bytes}
+use Rattle.pv_script.specs.Taking.{HeldLine, MAX_LINE_BYTES}
+use Rattle.pv_script.specs.declared.commands.Command.TheVariants.{Quit}
+use Rattle.pv_script.specs.declared.replies.Reply.{Reply}
+use Rattle.pv_script.specs.declared.replies.Reply.TheVariants.{NoMemory}
+use Rattle.pv_session.specs.Sessions.{PlainSession}
+use Rattle.pv_cli.specs.declared.conversation.Next.{Next}
+use Rattle.pv_cli.specs.declared.conversation.Next.TheVariants as next
+use Rattle.pv_cli.specs.declared.conversation.Reading.{Reading}
+use Rattle.pv_cli.specs.Course.{RunEnding, output_fault}
+use Rattle.pv_cli.specs.Session.{RepliesTo, EndsSession, Replies, at_line, all_told, limited}
+
+-- the text of the reply to a line, or that there was no memory for it, which changes nothing
+pub data IsReplyText (before : PlainSession) (line : List ℕ) (after : PlainSession) (text : List ℕ) : Type 0 where
+  replied : (told : Reply) → RepliesTo before line told after → text ≡ reply_bytes told → IsReplyText before line after text
+  without_memory : after ≡ before → text ≡ reply_bytes NoMemory → IsReplyText before line after text
+
+-- the reply to a line was written so
+abbrev pub RepliesWith : PlainSession → List ℕ → PlainSession → (List ℕ → Type 0) → Type 0
+RepliesWith before line after AreWritten = (text : List ℕ) × IsReplyText before line after text × AreWritten text
+
+-- a line was answered, and the session goes on, or the line ends it
+abbrev pub AnswersLine : PlainSession → List ℕ → PlainSession → (List ℕ → Type 0) → Bool → Type 0
+AnswersLine before line after AreWritten true = RepliesWith before line after AreWritten
+AnswersLine before line after AreWritten false = SpellsCommand line Quit × AreWritten []
+
+-- a line without an LF in it, and not too long
+abbrev pub IsLine : List ℕ → Type 0
+IsLine line = HasNoFeed line × (length line ≤ MAX_LINE_BYTES)
+
+-- all of these numbers are below this one
+abbrev pub AllBelow : ℕ → List ℕ → Type 0
+AllBelow number silent = AllByRecursion (λ n. n < number) silent
+
+-- The bytes so far are lines that were answered, each with its LF, and what is held of the next.
+pub record Conversed (old : Option (List ℕ)) (first : PlainSession) (script : List ℕ) (now : Option (List ℕ)) (current : PlainSession) (held : HeldLine) (number : ℕ) : Type 0 where
+  pub lines : List (List ℕ)
+  pub is_cut : script ≡ with_feeds lines ++ held.bytes
+  pub are_lines : AllByRecursion IsLine lines
+  pub is_begun : IsLine held.bytes
+  pub goes_on : held.whole ≡ false
+  pub counted : number ≤ suc (length script)
+  pub silent : List ℕ
+  pub below : AllBelow number silent
+  pub out : List ℕ
+  pub replies : Replies silent 1 first (map without_returns lines) out (at_line number current)
+  pub written : Appends old now out
+
+-- the session ended so over these bytes, and its replies were written so
+pub record EndedWith (first : PlainSession) (script : List ℕ) (at_end : Bool) (ending : List ℕ → RunEnding) (AreWritten : List ℕ → Type 0) : Type 0 where
+  pub silent : List ℕ
+  pub out : List ℕ
+  pub ends : EndsSession first script silent at_end (ending out)
+  pub written : AreWritten out
+
+-- the limit that a byte passes behind the longest script: that on the line, if it is no LF and the line has no room
+abbrev pub IsNext : HeldLine → ℕ → Next → Type 0
+IsNext held b next.LineLimit = (b ≢ FEED) × (length held.bytes ≡ MAX_LINE_BYTES)
+IsNext held b next.ScriptLimit = (b ≡ FEED) ⊎ (length held.bytes ≢ MAX_LINE_BYTES)
+IsNext held b other = ⊥
+
+-- what comes where this byte stands behind the longest script
+abbrev pub IsBeyond : HeldLine → ℕ → Next → Next → Type 0
+IsBeyond held b next.More after = IsNext held b after
+IsBeyond held b other after = after ≡ other
+
+-- a piece behind which more is asked for passes no limit on the script
+abbrev pub Fits : ℕ → ℕ → Next → Type 0
+Fits size left next.More = size ≤ left
+Fits size left other = Unit {0}
+
+-- how a session ends behind a piece, but for the line of a limit
+abbrev pub GoesOn : Option (List ℕ) → PlainSession → List ℕ → Option (List ℕ) → PlainSession → Reading → Result Next Failed → Type 0
+GoesOn old first script now current reading (Ok next.More) = Conversed old first script now current reading.lines reading.number
+GoesOn old first script now current reading (Ok next.Quit) = EndedWith first script false all_told (Appends old now)
+GoesOn old first script now current reading (Ok next.LineLimit) =
+    EndedWith first script false (λ out. limited out (codes "limit line " ++ decimal reading.number)) (Appends old now)
+GoesOn old first script now current reading (Ok next.ScriptLimit) =
+    EndedWith first script false (λ out. limited out (codes "limit script")) (Appends old now)
+GoesOn old first script now current reading (Err failed) = EndedWith first script false output_fault (AppendsFront old now)
+
+-- all lines were answered, at the end of the script
+abbrev pub Finishes : Option (List ℕ) → PlainSession → List ℕ → Option (List ℕ) → Result (Unit {0}) Failed → Type 0
+Finishes old first script now (Ok done) = EndedWith first script true all_told (Appends old now)
+Finishes old first script now (Err failed) = EndedWith first script true all_told (AppendsFront old now)

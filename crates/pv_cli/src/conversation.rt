@@ -1,0 +1,251 @@
+//! The conversation of a session: each line is answered before more of the script is asked for.
+
+ghost use Rattle.std.specs.Prelude.{◌≡◌, ◌≤◌, ◌<◌, ◌+◌, ◌^◌, ◌++◌, List, ℕ, Option, Bool, IfOk, OnOk, OnErr, length, vec_len, codes, decimal};
+ghost use Rattle.std.specs.Io.KnownBytes.{Appends};
+ghost use Rattle.pv_cli.specs.Conversation.{AnswersLine, RepliesWith, Conversed, GoesOn, Finishes, Fits, IsBeyond, IsNext};
+ghost use Rattle.pv_cli.specs.Course.{Course, responds};
+ghost use Rattle.pv_cli.specs.Program.{devices, Shows, Writes};
+ghost use Rattle.pv_cli.specs.Script.{MAX_SCRIPT_BYTES as MOST_BYTES};
+ghost use Rattle.pv_cli.specs.Session.{Converses, limited};
+ghost use Rattle.pv_io.specs.Causes.{CountsFault, AppendsFront};
+ghost use Rattle.pv_session.specs.Sessions.{PlainSession};
+
+use crate::status::Status;
+use crate::turns::turn;
+use pv_chars::NoMemory;
+use pv_io::{Failed, Sink, Source, write_all};
+use pv_script::{Lines, MAX_LINE_BYTES, Took, limit_line_text};
+use pv_session::Session;
+use pv_steps::Steps;
+use std::alloc::{AllocError, Global};
+use std::sync::ledger::Ledger;
+
+/// The most bytes of a script.
+const MAX_SCRIPT_BYTES: usize = 268_435_456;
+
+/// The bytes that one `fill` is asked for.
+const PIECE: usize = 65_536;
+
+/// How far a script was read: the line that is being taken, and its number, counted from 1.
+#[derive(Drop)]
+pub struct Reading {
+    pub lines: Lines,
+    pub number: u64,
+}
+
+/// What comes behind a piece of a script.
+#[derive(Clone, Copy)]
+pub enum Next {
+    /// More of the script is asked for.
+    More,
+    /// A line ended the session.
+    Quit,
+    /// A line is too long.
+    LineLimit,
+    /// The script is too long.
+    ScriptLimit,
+}
+
+// Answers a line, and tells whether the session goes on. A line that there is no memory for answers so, and changes nothing.
+fn answer_line<K: Sink, L: Ledger>(
+    alloc: Global,
+    session: &mut Session,
+    line: &[u8],
+    out: &mut K,
+    steps: &mut Steps<L>,
+) -> Result<bool, Failed>
+    ensures ok { IfOk result (AnswersLine session.old line.now session.new
+        (Appends (K.written out.old) (K.written out.new))) }
+    ensures err { OnErr result (RepliesWith session.old line.now session.new
+        (AppendsFront (K.written out.old) (K.written out.new))) }
+    ensures cause { CountsFault (K.faults out.old) (K.faults out.new) result }
+{
+    match turn(alloc, session, line, steps) {
+        Ok(Some(answer)) => write_all(out, &answer.text)?,
+        Ok(None) => return Ok(false),
+        Err(NoMemory) => write_all(out, b"no memory\n")?,
+    }
+    Ok(true)
+}
+
+// Answers the lines that the piece ends.
+fn answer_lines<K: Sink, L: Ledger>(
+    alloc: Global,
+    session: &mut Session,
+    reading: &mut Reading,
+    piece: &[u8],
+    out: &mut K,
+    steps: &mut Steps<L>,
+) -> Result<Next, Failed>
+    requires { reading.old.number + length piece.now < 2 ^ 64 }
+    ensures next { (old : Option (List ℕ)) → (script : List ℕ) → (first : PlainSession) →
+        length script + length piece.now ≤ MOST_BYTES →
+        Conversed old first script (K.written out.old) session.old reading.old.lines reading.old.number →
+        GoesOn old first (script ++ piece.now) (K.written out.new) session.new reading.new result }
+    ensures cause { CountsFault (K.faults out.old) (K.faults out.new) result }
+{
+    let mut rest = piece;
+    'lines: loop {
+        match reading.lines.take(rest) {
+            Took::More => return Ok(Next::More),
+            Took::TooLong => return Ok(Next::LineLimit),
+            Took::Line(eaten) => {
+                if !answer_line(alloc, session, reading.lines.line(), out, steps)? {
+                    return Ok(Next::Quit);
+                }
+                reading.lines.clear();
+                reading.number += 1;
+                rest = &rest[eaten..];
+            }
+        }
+    }
+}
+
+// The limit that a byte passes behind the longest script.
+fn limit_at(lines: &Lines, byte: u8) -> Next
+    ensures { IsNext lines.now byte result }
+{
+    if byte != b'\n' && lines.held() == MAX_LINE_BYTES {
+        Next::LineLimit
+    } else {
+        Next::ScriptLimit
+    }
+}
+
+// What comes where a byte stands behind the longest script, which this came behind.
+fn beyond(next: Next, lines: &Lines, byte: u8) -> Next
+    ensures { IsBeyond lines.now byte next result }
+{
+    match next {
+        Next::More => limit_at(lines, byte),
+        Next::Quit => Next::Quit,
+        Next::LineLimit => Next::LineLimit,
+        Next::ScriptLimit => Next::ScriptLimit,
+    }
+}
+
+// Answers the lines that the piece ends, up to the limit on the script, which so many bytes pass.
+fn answer_piece<K: Sink, L: Ledger>(
+    alloc: Global,
+    session: &mut Session,
+    reading: &mut Reading,
+    piece: &[u8],
+    left: usize,
+    out: &mut K,
+    steps: &mut Steps<L>,
+) -> Result<Next, Failed>
+    requires { reading.old.number + length piece.now < 2 ^ 64 }
+    ensures next { (old : Option (List ℕ)) → (script : List ℕ) → (first : PlainSession) →
+        length script + left ≡ MOST_BYTES →
+        Conversed old first script (K.written out.old) session.old reading.old.lines reading.old.number →
+        GoesOn old first (script ++ piece.now) (K.written out.new) session.new reading.new result }
+    ensures fits { IfOk result (Fits (length piece.now) left) }
+    ensures cause { CountsFault (K.faults out.old) (K.faults out.new) result }
+{
+    if piece.len() <= left {
+        return answer_lines(alloc, session, reading, piece, out, steps);
+    }
+    let next = answer_lines(alloc, session, reading, &piece[..left], out, steps)?;
+    Ok(beyond(next, &reading.lines, piece[left]))
+}
+
+// Answers a last line, which no LF ends.
+fn finish<K: Sink, L: Ledger>(
+    alloc: Global,
+    session: &mut Session,
+    reading: &Reading,
+    out: &mut K,
+    steps: &mut Steps<L>,
+) -> Result<(), Failed>
+    ensures finished { (old : Option (List ℕ)) → (script : List ℕ) → (first : PlainSession) →
+        length script ≤ MOST_BYTES →
+        Conversed old first script (K.written out.old) session.old reading.now.lines reading.now.number →
+        Finishes old first script (K.written out.new) result }
+    ensures cause { CountsFault (K.faults out.old) (K.faults out.new) result }
+{
+    if reading.lines.held() > 0 {
+        answer_line(alloc, session, reading.lines.line(), out, steps)?;
+    }
+    Ok(())
+}
+
+// Writes the line of a limit behind the replies; the status.
+fn announce<K: Sink>(text: &[u8], out: &mut K) -> Status
+    ensures { (old : Option (List ℕ)) → (replies : List ℕ) → Appends old (K.written out.old) replies →
+        Writes (responds (record { status = Status.Limit; output = replies ++ text.now }))
+        old (K.written out.new) (K.faults out.old) (K.faults out.new) result }
+{
+    match write_all(out, text) {
+        Ok(()) => Status::Limit,
+        Err(_) => Status::WriteFault,
+    }
+}
+
+// Writes, behind the replies, that the line of this number is too long; the status.
+fn announce_line<K: Sink>(number: u64, out: &mut K) -> Status
+    ensures { (old : Option (List ℕ)) → (replies : List ℕ) → Appends old (K.written out.old) replies →
+        Writes (limited replies (codes "limit line " ++ decimal number))
+        old (K.written out.new) (K.faults out.old) (K.faults out.new) result }
+{
+    let mut room = [0u8; 64];
+    let end = limit_line_text(number, &mut room);
+    announce(&room[..end], out)
+}
+
+// So many zeros.
+fn zeros(alloc: Global, count: usize) -> Result<Vec<u8>, AllocError>
+    ensures { IfOk result (λ v. vec_len v ≡ count) }
+{
+    vec![in alloc; 0u8; count]
+}
+
+/// Answers the lines of the input, each before more of it is asked for.
+pub fn converse<S: Source, K: Sink, L: Ledger>(
+    alloc: Global,
+    session: &mut Session,
+    input: &mut S,
+    out: &mut K,
+    steps: &mut Steps<L>,
+) -> Status
+    ensures { (files : Option (List (List ℕ × List ℕ))) → (shelf : ℕ) →
+        (course : Course) × Converses session.old course × Shows course
+        (devices files shelf input.old (S.left input.old) (S.faults input.old)
+        (K.written out.old) (K.faults out.old))
+        (devices files shelf input.new (S.left input.new) (S.faults input.new)
+        (K.written out.new) (K.faults out.new)) result }
+{
+    let Ok(lines) = Lines::new(alloc) else {
+        return Status::NoMemory;
+    };
+    let Ok(mut piece) = zeros(alloc, PIECE) else {
+        return Status::NoMemory;
+    };
+    let mut reading = Reading { lines, number: 1 };
+    let mut left = MAX_SCRIPT_BYTES;
+    'pieces: loop {
+        let Ok(count) = input.fill(&mut piece) else {
+            return Status::ReadFault;
+        };
+        if count == 0 {
+            return match finish(alloc, session, &reading, out, steps) {
+                Ok(()) => Status::Done,
+                Err(_) => Status::WriteFault,
+            };
+        }
+        match answer_piece(
+            alloc,
+            session,
+            &mut reading,
+            &piece[..count],
+            left,
+            out,
+            steps,
+        ) {
+            Ok(Next::More) => left -= count,
+            Ok(Next::Quit) => return Status::Done,
+            Ok(Next::LineLimit) => return announce_line(reading.number, out),
+            Ok(Next::ScriptLimit) => return announce(b"limit script\n", out),
+            Err(_) => return Status::WriteFault,
+        }
+    }
+}

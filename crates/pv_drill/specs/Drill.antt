@@ -1,0 +1,36 @@
+-- The drill: a document of so many sections, and a script that edits each.
+use Rattle.std.specs.Prelude.{ℕ, zero, suc, ◌%◌, List, [], ◌∷◌, ◌++◌, codes, decimal, ◌==◌, if◌then◌else◌}
+
+-- the DTD
+abbrev pub DRILL_DTD : List ℕ
+DRILL_DTD =
+    codes "<!ELEMENT doc (head, sec+)>\n<!ELEMENT head (#PCDATA)>\n<!ELEMENT sec (title?, (p|list)*)>\n<!ELEMENT title (#PCDATA)>\n<!ELEMENT p (#PCDATA|em|br)*>\n<!ELEMENT em (#PCDATA|em)*>\n<!ELEMENT br EMPTY>\n<!ELEMENT list (item, item+)>\n<!ELEMENT item (p+)>\n"
+
+-- a section with its number as text
+abbrev pub section_text : ℕ → List ℕ
+section_text k = codes "<sec>t" ++ (decimal k ++ codes "</sec>")
+
+-- the sections from number 1 on
+abbrev pub sections : ℕ → List ℕ
+sections zero = []
+sections (suc k) = sections k ++ section_text (suc k)
+
+-- the document of so many sections
+abbrev pub drill_text : ℕ → List ℕ
+drill_text n = codes "<doc><head>drill</head>" ++ (sections n ++ codes "</doc>")
+
+-- the lines for a section: an element that can't stand there, one that can, and the undo of that
+abbrev pub line_text : ℕ → ℕ → List ℕ
+line_text k zero = codes "wrap 0." ++ (decimal k ++ codes " 0 1 br")
+line_text k (suc zero) = codes "wrap 0." ++ (decimal k ++ codes " 0 1 p")
+line_text k (suc (suc which)) = codes "undo"
+
+-- the lines for a section; each third is undone
+abbrev pub section_lines : ℕ → List (List ℕ)
+section_lines k =
+    if k % 3 == 0 then line_text k 0 ∷ line_text k 1 ∷ line_text k 2 ∷ [] else line_text k 0 ∷ line_text k 1 ∷ []
+
+-- the lines of the script, for all sections
+abbrev pub drill_lines : ℕ → List (List ℕ)
+drill_lines zero = []
+drill_lines (suc k) = drill_lines k ++ section_lines (suc k)
