@@ -13,7 +13,10 @@ use Rattle.pv_rules.proofs.Facts.{parts_by_number}
 use Rattle.pv_missing.proofs.Derived.{map_join}
 use Rattle.pv_missing.proofs.Standing.{Stands, cut_at, front_text, nothing, one_token}
 use Rattle.pv_complete.specs.Laws.{SpelledWrites}
-use Rattle.pv_complete.specs.Pieces.{PlainPiece, Writes, WritesContent, finish, kept, start, write_kept, write_new, write_none, write_text}
+use Rattle.pv_missing.specs.PlainForms.{plain_of}
+use Rattle.pv_missing.specs.declared.owners.Of.{Of}
+use Rattle.pv_missing.specs.declared.owners.Of.TheVariants as of
+use Rattle.pv_complete.specs.Pieces.{PlainPiece, Writes, WritesAt, WritesContent, finish, kept, start, write_kept, write_new, write_none, write_text}
 use Rattle.pv_complete.specs.Spelling.{HoldsData, MayBeNothing, MayBeOne, MayBeTwo, Spells, any_two, children_one, choice_one, data_nothing, empty_nothing, last_one, mixed_two, name_one, opt_nothing, opt_one, plus_one, plus_two, rest_two, seq_one, spell_kept, spell_new, spell_none, spell_one, spell_text, spell_two, star_nothing, star_two}
 
 module _ (g : PlainDtd) where
@@ -165,3 +168,8 @@ spelled_writes g x n w ps = (
   (λ d. spelled g w n (content_site x) 0 (length w) ps w (all_stands w) d),
   (λ d. spelled g w n (name_site x) 0 (length w) ps w (all_stands w) d),
 )
+
+-- what stands at the site of an owner
+pub writes_at : (g : PlainDtd) (owner : Of) (n : ℕ) (w : List PlainToken) (ps : List PlainPiece) → Spells g w n (over (plain_of owner) 0 (length w)) ps → WritesAt g (plain_of owner) n w ps
+writes_at g (of.Root id) n w ps d = (spelled_writes g id.0 n w ps).1 d
+writes_at g (of.Elem id) n w ps d = (spelled_writes g id.0 n w ps).0 d

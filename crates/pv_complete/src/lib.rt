@@ -2,10 +2,11 @@
 //!
 //! `need` tells the least number of elements whose insertion makes a document valid (`IsLeast` of pv_missing). The weights of the Possible
 //! lists add up to it (`possible_weights_law` of pv_span); a Valid list weighs nothing, and takes no table. `specs/Needing.antt` says what is
-//! answered, and when each refusal comes. `pieces_of` puts a least completion of one list together, piece by piece (`specs/Pieces.antt`), by
+//! answered, and when each refusal comes. `list_pieces` puts a least completion of one list together, piece by piece (`specs/Pieces.antt`), by
 //! the weights of all sites over its word.
 #![tactic(auto)]
 
+mod completing;
 mod contents;
 mod cuts;
 mod errors;
@@ -21,7 +22,7 @@ mod pieces;
 mod spelling;
 mod weighing;
 
+pub use completing::list_pieces;
 pub use errors::NeedError;
 pub use needing::need;
 pub use pieces::Piece;
-pub use spelling::pieces_of;

@@ -25,7 +25,7 @@ use pv_tree::Node;
 use std::alloc::Global;
 
 /// The site of the owner of a list.
-fn site_of(of: Of) -> Site
+pub fn site_of(of: Of) -> Site
     ensures { plain_site result ≡ plain_of of }
 {
     match of {
