@@ -6,6 +6,7 @@ use pv_cli::Status;
 use pv_fixture::dtds::{ARTICLE, REALISTIC, REALISTIC_SHOWN};
 use pv_runs::rows::check_run;
 use pv_runs::runs::{Given, Piece};
+use std::alloc::{AllocError, Global};
 use std::test::Fail;
 use std::thread::Threads;
 
@@ -118,13 +119,20 @@ fn faults(rt: HostRuntime) -> Result<(), Fail> {
     check_outcome(&rt, b"undo\nquit\nshow\n", 5, (&[2], &[]), quit)
 }
 
+// These bytes, and behind them so many of a line.
+fn with_line(alloc: Global, bytes: &[u8], count: usize) -> Result<Vec<u8>, AllocError> {
+    let line = vec![in alloc; b'x'; count]?;
+    let mut script = Vec::from_slice(alloc, bytes)?;
+    script.extend_from_slice(&line)?;
+    Ok(script)
+}
+
 #[test]
 fn the_longest_line(rt: HostRuntime) -> Result<(), Fail> {
-    let longest = vec![in rt.alloc(); b'x'; 1_048_576]?;
+    let longest = with_line(rt.alloc(), b"", 1_048_576)?;
     let done = (Status::Done, "no command\n");
     check_outcome(&rt, &longest, 65_536, (&[], &[]), done)?;
-    let mut longer = vec![in rt.alloc(); b'x'; 1_048_582]?;
-    longer[..5].copy_from_slice(b"show\n");
+    let longer = with_line(rt.alloc(), b"show\n", 1_048_577)?;
     let limit = (Status::Limit, "show 16\n<doc>Hello</doc>\nlimit line 2\n");
     check_outcome(&rt, &longer, 65_536, (&[], &[]), limit)
 }
