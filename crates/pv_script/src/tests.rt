@@ -13,12 +13,12 @@ fn lines(rt: HostRuntime) -> Result<(), Fail> {
     let mut lines = Lines::new(rt.alloc())?;
     assert_eq!(rt; lines.take(b"sh"), Took::More);
     assert_eq!(rt; lines.take(b"ow\r\nundo\n"), Took::Line(4));
-    assert_eq!(rt; lines.line(), b"show");
+    assert_eq!(rt; lines.line(), b"show".as_slice());
     assert_eq!(rt; lines.take(b"undo\n"), Took::Line(5));
-    assert_eq!(rt; lines.line(), b"undo");
+    assert_eq!(rt; lines.line(), b"undo".as_slice());
     assert_eq!(rt; lines.take(b"\r\r"), Took::More);
     assert_eq!(rt; lines.held(), 2);
-    assert_eq!(rt; lines.line(), b"");
+    assert_eq!(rt; lines.line(), b"".as_slice());
     lines.clear();
     assert_eq!(rt; lines.held(), 0);
     Ok(())
