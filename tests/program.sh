@@ -91,6 +91,11 @@ expect "the longest script" 0 "4096 no command$lf" bash -c 'script 268435456 | t
 expect "a longer script" 0 "4096 no command${lf}1 limit script$lf" bash -c 'script 268435457 | timeout 60 "$0" session a.dtd doc hello.xml | uniq -c | sed "s/^ *//"' "$pvtag"
 expect "its status" 8 "" bash -c 'script 268435457 | timeout 60 "$0" session a.dtd doc hello.xml >/dev/null' "$pvtag"
 
+# Drills.
+expect "a drill" 0 "drill 3 lines 7 ok 4 refused 3 open 1 checked 7$lf" "$pvtag" drill 3
+expect "a larger drill" 0 "drill 100 lines 233 ok 133 refused 100 open 33 checked 233$lf" "$pvtag" drill 100
+for size in 0 20001 007 +3 x; do expect "a drill of $size" 2 "usage$lf" "$pvtag" drill "$size"; done
+
 # DTDs at their limits and one past them, and bytes that are no characters. Each is read by `valid`, on a document that it declares.
 printf '<a/>' >a.xml
 types() { echo '<!ELEMENT a EMPTY>'; seq -f '<!ELEMENT e%g EMPTY>' "$1"; }

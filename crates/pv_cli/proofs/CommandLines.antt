@@ -1,9 +1,9 @@
 -- Command lines of two words and of four.
-use Rattle.std.proofs.Common.{◌≡◌, ℕ, ◌<◌, ◌≤◌, List, [], ◌∷◌, length, get_or, String, Global, Some, None, true, false, codes, refl, arith}
+use Rattle.std.proofs.Common.{◌≡◌, ℕ, ◌<◌, ◌≤◌, List, [], ◌∷◌, length, get_or, String, Global, Some, None, option_map, true, false, codes, refl, arith}
 use Rattle.std.specs.Str.{bytes_eq}
 use Rattle.pv_io.specs.Files.{byte_lists}
 use Rattle.pv_chars.specs.Names.{is_name}
-use Rattle.pv_cli.specs.CommandLine.{command_line_of, listing, valid, check, session}
+use Rattle.pv_cli.specs.CommandLine.{command_line_of, drill_size, listing, valid, check, session, drill}
 
 pub four : {A : Type 0} (xs : List A) (a b c d : A) → 4 ≤ length xs → length xs < 5 → a ≡ get_or xs 0 a → b ≡ get_or xs 1 b → c ≡ get_or xs 2 c → d ≡ get_or xs 3 d → xs ≡ a ∷ b ∷ c ∷ d ∷ []
 four [] a b c d more less p q r s = absurd (omega arith)
@@ -32,9 +32,13 @@ pub listing_words : (command dtd : List ℕ) → bytes_eq command (codes "dtd") 
 unfolding command_line_of
 listing_words command dtd is = rw is refl
 
-pub other_two : (command dtd : List ℕ) → bytes_eq command (codes "dtd") ≡ false → command_line_of (command ∷ dtd ∷ []) ≡ None
+pub drill_words : (command word : List ℕ) → bytes_eq command (codes "dtd") ≡ false → bytes_eq command (codes "drill") ≡ true → command_line_of (command ∷ word ∷ []) ≡ option_map drill (drill_size word)
 unfolding command_line_of
-other_two command dtd is = rw is refl
+drill_words command word other is = rw (other, is) refl
+
+pub other_two : (command word : List ℕ) → bytes_eq command (codes "dtd") ≡ false → bytes_eq command (codes "drill") ≡ false → command_line_of (command ∷ word ∷ []) ≡ None
+unfolding command_line_of
+other_two command word other another = rw (other, another) refl
 
 pub valid_words : (command dtd root doc : List ℕ) → is_name root ≡ true → bytes_eq command (codes "valid") ≡ true → command_line_of (command ∷ dtd ∷ root ∷ doc ∷ []) ≡ Some (valid dtd root doc)
 unfolding command_line_of

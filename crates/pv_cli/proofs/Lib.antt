@@ -2,12 +2,15 @@ pub mod CommandLines
 pub mod Completeness
 pub mod Conversations
 pub mod Conversing
+pub mod DrillStages
+pub mod Drilling
 pub mod Fetching
 pub mod GoingOn
 pub mod Limits
 pub mod Listings
 pub mod Marks
 pub mod OneCheck
+pub mod OneDrill
 pub mod OneListing
 pub mod OneOpening
 pub mod OneReplies

@@ -59,7 +59,7 @@ followed_sure first second Same sure behind = record {
 abbrev pub IsSamePair : {X Y : Type 0} → (Y → Y → Type 0) → X × Y → X × Y → Type 0
 IsSamePair Same a b = (a.0 ≡ b.0) × Same a.1 b.1
 
-beside_sure : {X Y : Type 0} (x : X) (stage : Stage Y) (Same : Y → Y → Type 0) → IsSure stage Same → IsSure (beside x stage) (IsSamePair Same)
+pub beside_sure : {X Y : Type 0} (x : X) (stage : Stage Y) (Same : Y → Y → Type 0) → IsSure stage Same → IsSure (beside x stage) (IsSamePair Same)
 beside_sure x stage Same sure = record {
   not_both = λ both r opens refuses. sure.not_both both.1 r opens.1 refuses;
   one_refusal = sure.one_refusal;
@@ -134,7 +134,7 @@ document_one_refusal one root bytes r also (too_many_bytes beyond line) (no_docu
     let same = one.means_one root bytes too_long_document (faulty_document kind k) beyond means in cc
 document_one_refusal one root bytes r also (too_many_bytes beyond line) (too_many_bytes again next) = line ∙ sym next
 
-document_sure : ReadsOne → (root bytes : List ℕ) → IsSure (document_stage root bytes) IsSameText
+pub document_sure : ReadsOne → (root bytes : List ℕ) → IsSure (document_stage root bytes) IsSameText
 document_sure one root bytes = record {
   not_both = document_not_both one root bytes;
   one_refusal = document_one_refusal one root bytes;

@@ -7,7 +7,8 @@ use Rattle.pv_tree.specs.Laws.{IsValidByLists}
 use Rattle.pv_tree.specs.Plain.{PlainDoc}
 use Rattle.pv_tree.specs.declared.nodes.Mark.{Mark}
 use Rattle.pv_read.specs.DocumentLaws.{SpellsOneDocument}
-use Rattle.pv_cli.specs.CommandLine.{listing, valid, check, session}
+use Rattle.pv_cli.specs.CommandLine.{listing, valid, check, session, drill}
+use Rattle.pv_cli.specs.Drill.{TellsCounts, drill_stage}
 use Rattle.pv_cli.specs.Laws.{HasOneResponse}
 use Rattle.pv_cli.specs.Listing.{ListsDtd}
 use Rattle.pv_cli.specs.Opening.{fetch_stage, dtd_stage, dtd_file_stage, opening_stage}
@@ -17,6 +18,7 @@ use Rattle.pv_cli.specs.Stage.{Responds}
 use Rattle.pv_cli.specs.Valid.{TellsValidity}
 use Rattle.pv_cli.specs.Check.{TellsPossibility}
 use Rattle.pv_cli.proofs.OneCheck.{one_possibility}
+use Rattle.pv_cli.proofs.OneDrill.{drill_sure, one_drill}
 use Rattle.pv_cli.proofs.OneListing.{one_listing}
 use Rattle.pv_cli.proofs.OneOpening.{IsEqual, IsSamePair, IsSameText, ReadsOne, dtd_sure, fetch_sure, followed_sure, has_units, one_of, opening_sure, told, unmarked_same, went_on}
 use Rattle.pv_cli.proofs.OneReplies.{AnswersOnce}
@@ -58,3 +60,8 @@ one_response dtds documents by_lists once (Some (session dtd root doc)) files co
     (λ x y same goes others. one_conversation once x y course other r also same taken silent at on goes others)
     (went_on (session_stage root files) Converses course r is at)
     (went_on (session_stage root files) Converses other also are on)
+one_response dtds documents by_lists once (Some (drill n)) files course other r also is are taken silent at on =
+    one_of (drill_stage n) IsEqual (λ session. Responds (TellsCounts n session)) course other r also (drill_sure dtds documents n)
+    (λ x y same goes others. one_drill once n x y r also same (told (TellsCounts n x) course r goes at) (told (TellsCounts n y) other also others on))
+    (went_on (drill_stage n) (λ session. Responds (TellsCounts n session)) course r is at)
+    (went_on (drill_stage n) (λ session. Responds (TellsCounts n session)) other also are on)

@@ -23,10 +23,10 @@ use Rattle.pv_cli.proofs.OneReplies.{AnswersOnce, one_replies}
 use Rattle.pv_cli.proofs.Replies.{ends_at_quit}
 
 -- two stages behind the same: they don't both open and refuse, they refuse with one response, and they open the same
-record AreSure {Y : Type 0} (here there : Stage Y) : Type 0 where
-  not_both : (y : Y) (r : PlainResponse) → here.Opens y → there.Refuses r → ⊥
-  one_refusal : (r also : PlainResponse) → here.Refuses r → there.Refuses also → r ≡ also
-  same : (y z : Y) → here.Opens y → there.Opens z → y ≡ z
+pub record AreSure {Y : Type 0} (here there : Stage Y) : Type 0 where
+  pub not_both : (y : Y) (r : PlainResponse) → here.Opens y → there.Refuses r → ⊥
+  pub one_refusal : (r also : PlainResponse) → here.Refuses r → there.Refuses also → r ≡ also
+  pub same : (y z : Y) → here.Opens y → there.Opens z → y ≡ z
 
 behind_not_both : {X Y : Type 0} (first : Stage X) (Same : X → X → Type 0) (second : X → Stage Y) → IsSure first Same → ((x z : X) → Same x z → AreSure (second x) (second z)) →
     (y : Y) (r : PlainResponse) → (followed_by first second).Opens y → (followed_by first second).Refuses r → ⊥
@@ -42,7 +42,7 @@ behind_one_refusal first Same second sure behind r also (inr refuses) (inl other
 behind_one_refusal first Same second sure behind r also (inr refuses) (inr others) =
     (behind refuses.0 others.0 (sure.same refuses.0 others.0 refuses.1 others.1)).one_refusal r also refuses.2 others.2
 
-behind_sure : {X Y : Type 0} (first : Stage X) (Same : X → X → Type 0) (second : X → Stage Y) → IsSure first Same → ((x z : X) → Same x z → AreSure (second x) (second z)) →
+pub behind_sure : {X Y : Type 0} (first : Stage X) (Same : X → X → Type 0) (second : X → Stage Y) → IsSure first Same → ((x z : X) → Same x z → AreSure (second x) (second z)) →
     IsSure (followed_by first second) IsEqual
 behind_sure first Same second sure behind = record {
   not_both = behind_not_both first Same second sure behind;
@@ -54,7 +54,7 @@ behind_sure first Same second sure behind = record {
 tells_for : (root : List ℕ) (g h : PlainDtd) (doc : PlainDoc Mark) (r : PlainResponse) → g ≡ h → TellsPossibility root h doc r → TellsPossibility root g doc r
 tells_for root g h doc r is = subst (λ (d : PlainDtd). TellsPossibility root d doc r) (sym is)
 
-guarding_sure : SpellsOneDocument → (root : List ℕ) (x z : PlainDtd × PlainDoc Mark) → IsSamePair IsSameText x z → AreSure (guarding_stage root x.0 x.1) (guarding_stage root z.0 z.1)
+pub guarding_sure : SpellsOneDocument → (root : List ℕ) (x z : PlainDtd × PlainDoc Mark) → IsSamePair IsSameText x z → AreSure (guarding_stage root x.0 x.1) (guarding_stage root z.0 z.1)
 guarding_sure one root x z same = let alike = unmarked_same one x.1 z.1 same.1 in record {
   not_both = λ s r begins denies. denied root x.0 x.1 z.1 r alike begins.narrow begins.possible (tells_for root x.0 z.0 z.1 r same.0 denies.tells) denies.not_done;
   one_refusal = λ r also denies others. one_possibility root x.0 x.1 z.1 r also alike denies.tells (tells_for root x.0 z.0 z.1 also same.0 others.tells);

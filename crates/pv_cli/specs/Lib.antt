@@ -3,6 +3,7 @@ pub mod CommandLine
 pub mod Conversation
 pub mod Course
 pub mod Laws
+pub mod Drill
 pub mod Listing
 pub mod Documents
 pub mod Opening

@@ -8,8 +8,9 @@ use Rattle.pv_cli.specs.declared.response.Response.{Response}
 use Rattle.pv_cli.specs.declared.stop.Stop.{Stop}
 use Rattle.pv_cli.specs.declared.stop.Stop.TheVariants.{Refused, ShelfFault, NoMemory}
 use Rattle.pv_cli.specs.Check.{IsCheckCourse}
-use Rattle.pv_cli.specs.CommandLine.{PlainCommandLine, listing, valid, check, session}
+use Rattle.pv_cli.specs.CommandLine.{PlainCommandLine, listing, valid, check, session, drill}
 use Rattle.pv_cli.specs.Course.{RunEnding, responds, shelf_fault, input_fault, output_fault, no_memory, Course, without_input}
+use Rattle.pv_cli.specs.Drill.{IsDrillCourse}
 use Rattle.pv_cli.specs.Listing.{IsListingCourse}
 use Rattle.pv_cli.specs.Opening.{Files, IsFile}
 use Rattle.pv_cli.specs.Response.{with_line, plain_response}
@@ -24,6 +25,7 @@ AreFiles told (Some (listing dtd)) files = IsFile told dtd files.dtd
 AreFiles told (Some (valid dtd root doc)) files = IsFile told dtd files.dtd × IsFile told doc files.doc
 AreFiles told (Some (check dtd root doc)) files = IsFile told dtd files.dtd × IsFile told doc files.doc
 AreFiles told (Some (session dtd root doc)) files = IsFile told dtd files.dtd × IsFile told doc files.doc
+AreFiles told (Some (drill n)) files = Unit {0}
 
 -- the courses that a command line may take over its files
 abbrev pub IsDefined : Option PlainCommandLine → Files → Course → Type 0
@@ -32,6 +34,7 @@ IsDefined (Some (listing dtd)) files course = IsListingCourse files course
 IsDefined (Some (valid dtd root doc)) files course = IsValidCourse root files course
 IsDefined (Some (check dtd root doc)) files course = IsCheckCourse root files course
 IsDefined (Some (session dtd root doc)) files course = IsSessionCourse root files course
+IsDefined (Some (drill n)) files course = IsDrillCourse n course
 
 -- the devices at one moment: the input, what the shelf and the input and the output tell of their bytes, and their counts of faults
 pub record Devices (S : Type 0) : Type 0 where

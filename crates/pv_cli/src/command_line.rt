@@ -3,9 +3,10 @@
 ghost use Rattle.std.specs.Prelude.{◌≡◌, IfSome, length};
 ghost use Rattle.std.specs.Option.{option_map};
 ghost use Rattle.pv_io.specs.Files.{byte_lists, fetch_names};
-ghost use Rattle.pv_cli.specs.CommandLine.{command_line_of, plain_command_line, HasNamedFiles};
+ghost use Rattle.pv_cli.specs.CommandLine.{command_line_of, plain_command_line, HasNamedFiles, IsDrillSize, IsSized, drill_size};
 
 use pv_chars::is_name;
+use pv_script::written_number;
 
 /// A root name, and the names of a DTD and a document.
 #[derive(Clone, Copy)]
@@ -26,6 +27,24 @@ pub enum CommandLine<'a> {
     Check(Named<'a>),
     /// `session DTD ROOT DOC`.
     Session(Named<'a>),
+    /// `drill N`.
+    Drill(u32),
+}
+
+// The size of a drill that a word is.
+fn drill_size(word: &[u8]) -> Option<u32>
+    ensures size { result ≡ drill_size word.now }
+    ensures sized { IfSome result IsDrillSize }
+{
+    let size = match written_number(word) {
+        Some(size) => size,
+        None => return None,
+    };
+    if 1 <= size && size <= 20_000 {
+        Some(size)
+    } else {
+        None
+    }
 }
 
 // The command line that two words are.
@@ -33,21 +52,28 @@ fn line_of_two(words: &[String]) -> Option<CommandLine<'_>>
     requires { length words.now ≡ 2 }
     ensures line { option_map plain_command_line result ≡ command_line_of (byte_lists words.now) }
     ensures named { IfSome result (HasNamedFiles (fetch_names words.now)) }
+    ensures sized { IfSome result IsSized }
 {
-    let [command, dtd] = words else {
+    let [command, word] = words else {
         unreachable!()
     };
     if command.as_str() == "dtd" {
-        Some(CommandLine::Listing(dtd.as_str()))
-    } else {
-        None
+        return Some(CommandLine::Listing(word.as_str()));
     }
+    if command.as_str() == "drill" {
+        return match drill_size(word.as_bytes()) {
+            Some(size) => Some(CommandLine::Drill(size)),
+            None => None,
+        };
+    }
+    None
 }
 
 /// The command line that the words are; none where they are none.
 pub fn command_line_of(words: &[String]) -> Option<CommandLine<'_>>
     ensures line { option_map plain_command_line result ≡ command_line_of (byte_lists words.now) }
     ensures named { IfSome result (HasNamedFiles (fetch_names words.now)) }
+    ensures sized { IfSome result IsSized }
 {
     if words.len() == 2 {
         return line_of_two(words);

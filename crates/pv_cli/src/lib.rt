@@ -1,11 +1,12 @@
 //! The program, whatever its files, its input and its output are. Each command goes through the order of work, stage by stage
-//! (`specs/Stage.antt`): it opens its files (`opening`), and then responds (`valid`, `check`, `listing` for `dtd`) or answers a script, piece by piece (`session`, `conversation`). `pvtag` promises the
+//! (`specs/Stage.antt`): it opens its files (`opening`), and then responds (`valid`, `check`, `listing` for `dtd`) or answers a script, piece by piece (`session`, `conversation`); `drill` answers a script of its own. `pvtag` promises the
 //! status and the bytes that are defined for its words and files, and each fault with its cause (`specs/Program.antt`).
 #![tactic(auto)]
 
 mod check;
 mod command_line;
 mod conversation;
+mod drill;
 pub mod laws;
 mod listing;
 mod opening;

@@ -85,8 +85,8 @@ fn fetch<H: Shelf>(
     }
 }
 
-// The DTD that the bytes are.
-fn dtd_of(alloc: Global, bytes: &[u8]) -> Result<Dtd, Stop>
+/// The DTD that the bytes are.
+pub fn dtd_of(alloc: Global, bytes: &[u8]) -> Result<Dtd, Stop>
     ensures { Returns plain_dtd (dtd_stage bytes.now) result }
 {
     match read_dtd(alloc, bytes) {
@@ -139,8 +139,8 @@ pub fn refuse_document(alloc: Global, error: DocError) -> Stop
     }
 }
 
-// The document that the bytes are.
-fn document_of(alloc: Global, bytes: &[u8], root: &[u8]) -> Result<Doc, Stop>
+/// The document that the bytes are.
+pub fn document_of(alloc: Global, bytes: &[u8], root: &[u8]) -> Result<Doc, Stop>
     ensures { Returns plain_doc (document_stage root.now bytes.now) result }
 {
     match read_doc(alloc, bytes, root) {

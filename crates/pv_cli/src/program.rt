@@ -10,6 +10,7 @@ ghost use Rattle.pv_io.specs.Files.{byte_lists, fetch_names};
 
 use crate::check::check;
 use crate::command_line::{CommandLine, command_line_of};
+use crate::drill::drill;
 use crate::listing::listing;
 use crate::respond::respond;
 use crate::response::Response;
@@ -31,7 +32,7 @@ fn usage(alloc: Global) -> Result<Response, Stop>
 
 /// All that the program does: the words are those after its name.
 ///
-/// The shelf's names are the words but number 0 and number 2, counted from 0. `steps` counts the verdicts that `check` and `session` find; other commands leave it.
+/// The shelf's names are the words but number 0 and number 2, counted from 0. `steps` counts the verdicts that `check`, `session` and `drill` find; other commands leave it.
 pub fn pvtag<H: Shelf, S: Source, K: Sink, L: Ledger>(
     _rt: &(impl Threads + Sync),
     alloc: Global,
@@ -60,6 +61,7 @@ pub fn pvtag<H: Shelf, S: Source, K: Sink, L: Ledger>(
         Some(CommandLine::Valid(named)) => respond(out, valid(alloc, shelf, &named)),
         Some(CommandLine::Check(named)) => respond(out, check(alloc, shelf, &named, steps)),
         Some(CommandLine::Session(named)) => session(alloc, shelf, &named, input, out, steps),
+        Some(CommandLine::Drill(n)) => respond(out, drill(alloc, n, steps)),
         Some(CommandLine::Listing(name)) => respond(out, listing(alloc, shelf, name)),
         None => respond(out, usage(alloc)),
     }

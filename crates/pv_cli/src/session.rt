@@ -26,8 +26,8 @@ use pv_steps::Steps;
 use std::alloc::Global;
 use std::sync::ledger::Ledger;
 
-// Begins a session on these files, where inserting elements can make the document valid.
-fn begin<L: Ledger>(
+/// Begins a session on these files, where inserting elements can make the document valid.
+pub fn begin<L: Ledger>(
     alloc: Global,
     opened: Opened,
     root: &[u8],

@@ -136,3 +136,16 @@ fn the_longest_line(rt: HostRuntime) -> Result<(), Fail> {
     let limit = (Status::Limit, "show 16\n<doc>Hello</doc>\nlimit line 2\n");
     check_outcome(&rt, &longer, 65_536, (&[], &[]), limit)
 }
+
+#[test]
+fn a_drill(rt: HostRuntime) -> Result<(), Fail> {
+    let drill = Given::plain(&["drill", "3"], &[]);
+    let counts = b"drill 3 lines 7 ok 4 refused 3 open 1 checked 7\n";
+    check_run(&rt, "drill 3", &drill, Status::Done, counts)?;
+    for size in ["0", "20001", "007", "+3", "3 ", ""] {
+        let words = ["drill", size];
+        let given = Given::plain(&words, &[]);
+        check_run(&rt, size, &given, Status::Usage, b"usage\n")?;
+    }
+    Ok(())
+}

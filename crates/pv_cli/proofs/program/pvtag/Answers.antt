@@ -1,6 +1,6 @@
 use Rattle.std.proofs.Common.{◌≡◌, sym, Some, None, codes}
 use Rattle.pv_io.specs.Files.{byte_lists}
-use Rattle.pv_cli.specs.CommandLine.{command_line_of, listing, valid, check, session}
+use Rattle.pv_cli.specs.CommandLine.{command_line_of, listing, valid, check, session, drill}
 use Rattle.pv_cli.specs.Response.{PlainResponse, with_line}
 use Rattle.pv_cli.specs.declared.status.Status.TheVariants.{Usage}
 use Rattle.pv_cli.proofs.Stages.{found_runs, tells_ends, tells_counts}
@@ -40,3 +40,10 @@ returns-in-None-clause-runs g c =
       is_defined = tells_ends tells c.usage.result c.usage.ensures;
       shelf = tells_counts tells _ c.usage.result c.usage.ensures;
     }) c.respond-in-None.ensures)
+
+pub returns-in-Some-Drill-clause-runs : goal.returns-in-Some-Drill-clause-runs
+returns-in-Some-Drill-clause-runs g c =
+    let n = c.in-Some-Drill.n in
+    let line : command_line_of (byte_lists c.args.words.now) ≡ Some (drill n) = sym (rw c.in-Some-Drill.field-0-is at c.in-Some-Drill.ensures.line) in
+    let finds = c.drill.ensures (g.H.Shelf.files c.args.shelf.now) (g.H.Shelf.faults c.args.shelf.now) in
+    rw line (found_runs _ _ _ _ _ c.drill.result _ _ _ _ _ _ _ _ finds c.respond-in-Some-Drill.ensures)
