@@ -7,6 +7,7 @@ list by list, over all spans of a list. Both are tied together: where some inser
 difference, and how many lines passed; ends with 1 where one failed.
 """
 import copy
+import itertools
 import os
 import random
 import re
@@ -54,10 +55,13 @@ def units_of(text):
     return units
 
 
-# Nodes: an Element; a list of units, which is a text; or the bytes of another node.
+# Nodes: an Element; a list of units, which is a text; or the bytes of another node. A copy of an element has its number.
 class Element:
+    numbers = itertools.count(1)
+
     def __init__(self, name, attrs="", short=False, gap="", kids=()):
         self.name, self.attrs, self.short, self.gap, self.kids = name, attrs, short, gap, list(kids)
+        self.number = next(Element.numbers)
 
     def written(self):
         tag = self.name + self.attrs
@@ -199,6 +203,8 @@ class Refused(Exception):
 
 
 class Document:
+    number = 0
+
     def __init__(self, before, root, after):
         self.before, self.root, self.after = before, root, after
 
@@ -331,18 +337,28 @@ def del_text(doc, path):
     need(not has_close_mark(kids), "close-mark")
 
 
-# The words of an edit's line: "p" a path, "n" a number, "t" the rest of the line. Then the lists that it changes, and that its undo changes.
+# The words of an edit's line: "p" a path, "n" a number, "t" the rest of the line.
 EDITS = {
-    "wrap": (wrap, "pnnt", 2, 1),
-    "insert": (insert, "pnt", 2, 1),
-    "unwrap": (unwrap, "p", 1, 2),
-    "rename": (rename, "pt", 2, 2),
-    "split": (split, "pn", 1, 1),
-    "join": (join, "p", 1, 1),
-    "text": (set_text, "pt", 1, 1),
-    "addtext": (add_text, "pnt", 1, 1),
-    "deltext": (del_text, "p", 1, 1),
+    "wrap": (wrap, "pnnt"),
+    "insert": (insert, "pnt"),
+    "unwrap": (unwrap, "p"),
+    "rename": (rename, "pt"),
+    "split": (split, "pn"),
+    "join": (join, "p"),
+    "text": (set_text, "pt"),
+    "addtext": (add_text, "pnt"),
+    "deltext": (del_text, "p"),
 }
+
+
+def changed_lists(edit, undone):
+    """The paths of the lists that an edit, or its undo, changes."""
+    name, (path, *others), _ = edit
+    if name in ("wrap", "insert"):
+        return [path] if undone else [path, path + (others[0],)]
+    if name == "rename" or name == "unwrap" and undone:
+        return [path[:-1], path]
+    return [path] if name == "addtext" else [path[:-1]]
 
 
 def number_of(word):
@@ -375,6 +391,8 @@ class Session:
         self.search, self.root = search, root
         self.opened, self.document = document, copy.deepcopy(document)
         self.past, self.undone = [], []
+        # How many moves there were, and by the numbers of elements which of them changed their lists last.
+        self.moves, self.stamps = 0, {}
 
     def first_impossible(self, doc):
         found = self.search.least((*items_of(doc.root),), ("children", ("name", self.root)), MOST) <= MOST
@@ -390,11 +408,20 @@ class Session:
         EDITS[edit[0]][0](after, *edit[1])
         return after
 
-    def replayed(self, edits):
+    def replayed(self):
         doc = self.opened
-        for edit in edits:
+        for edit, _ in self.past:
             doc = self.edited(doc, edit)
-        return doc
+        return doc.written()
+
+    def moved(self, edit, undone=False):
+        """The reply to a move that was made: the lists that it changed get its number."""
+        assert self.document.written() == self.replayed()
+        changed = changed_lists(edit, undone)
+        self.moves += 1
+        for path in changed:
+            self.stamps[self.document.node_at(path).number] = self.moves
+        return f"ok {len(changed)} {self.left()}"
 
     def edit(self, edit):
         try:
@@ -404,24 +431,32 @@ class Session:
         path = self.first_impossible(after)
         if path is not None:
             return f"no impossible {dotted(path)}"
-        self.document, self.past, self.undone = after, [*self.past, edit], []
-        return f"ok {EDITS[edit[0]][2]} {self.left()}"
+        self.past, self.undone = [*self.past, (edit, self.document)], []
+        self.document = after
+        return self.moved(edit)
 
     def undo(self):
         if not self.past:
             return "no history"
-        edit = self.past.pop()
-        self.undone.append(edit)
-        self.document = self.replayed(self.past)
-        return f"ok {EDITS[edit[0]][3]} {self.left()}"
+        edit, before = self.past.pop()
+        self.undone.append((edit, self.document))
+        self.document = before
+        return self.moved(edit, undone=True)
 
     def redo(self):
         if not self.undone:
             return "no history"
-        edit = self.undone.pop()
-        self.past.append(edit)
-        self.document = self.replayed(self.past)
-        return f"ok {EDITS[edit[0]][2]} {self.left()}"
+        edit, after = self.undone.pop()
+        self.past.append((edit, self.document))
+        self.document = after
+        return self.moved(edit)
+
+    def verdicts(self):
+        rows = []
+        for path, owner, kids in self.document.lists():
+            verdict = "valid" if is_valid_list(self.search, owner, kids, self.root) else "possible"
+            rows.append(f"{dotted(path)} {verdict} {self.stamps.get(self.document.node_at(path).number, 0)}")
+        return [f"verdicts {len(rows)}", *rows]
 
     def reply(self, line):
         """The reply, with its LF; none for quit."""
@@ -432,7 +467,9 @@ class Session:
             text = self.document.written()
             return f"show {len(text.encode())}\n{text}\n"
         if line == "history":
-            return "".join(f"{each}\n" for each in [f"history {len(self.past)}", *(edit[2] for edit in self.past)])
+            return "".join(f"{each}\n" for each in [f"history {len(self.past)}", *(edit[2] for edit, _ in self.past)])
+        if line == "verdicts":
+            return "".join(f"{each}\n" for each in self.verdicts())
         if line in ("undo", "redo"):
             return (self.undo() if line == "undo" else self.redo()) + "\n"
         edit = edit_of(line)
@@ -540,7 +577,9 @@ def script_line(doc):
         return "history"
     if chance < 0.25:
         return "show"
-    if chance < 0.26:
+    if chance < 0.33:
+        return "verdicts"
+    if chance < 0.34:
         return random.choice(["", "verdict", "need 1", "Show", "show\r\r", "history ", "undo 1", "wrap", "nothing", "quit "])
     line = edit_line(doc)
     return broken(line) if random.random() < 0.08 else line

@@ -181,6 +181,9 @@ session "undo and redo" "$(lines 'ok 2 1' 'ok 2 1' 'no history' 'ok 2 1' 'no his
     'rename 0.0 head' undo undo redo redo
 session "a head" "$(lines 'ok 1 1' 'ok 2 1' 'show 29' '<doc><head>He</head>llo</doc>' 'history 2' 'split 0.0 2' 'wrap 0 0 1 head')" \
     a.dtd doc "$hello" 'split 0.0 2' 'wrap 0 0 1 head' show history
+session "verdicts" "$(lines 'verdicts 2' '. valid 0' '0 possible 0' 'ok 1 1' 'ok 2 1' 'verdicts 3' '. valid 0' '0 possible 2' '0.0 valid 2' 'no impossible 0' \
+    'verdicts 3' '. valid 0' '0 possible 2' '0.0 valid 2' 'ok 1 1' 'ok 2 1' 'verdicts 3' '. valid 0' '0 possible 4' '0.0 valid 4')" \
+    a.dtd doc "$hello" verdicts 'split 0.0 2' 'wrap 0 0 1 head' verdicts 'wrap 0 1 2 head' verdicts undo redo verdicts
 session "not yet valid" "$(lines 'no shape range' 'ok 2 1' 'ok 2 1' 'show 30' '<doc><head/>Hello<p></p></doc>')" a.dtd doc "$hello" \
     'wrap 0 2 5 p' 'wrap 0 1 1 p' 'insert 0 0 head' show
 session "shapes" "$(lines 'no shape close-mark' 'no shape not-element' 'no shape root-shape' 'no shape no-node' 'no shape root-shape' 'no shape bad-name')" \

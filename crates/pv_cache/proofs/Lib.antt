@@ -12,3 +12,16 @@ pub mod FirstAfter
 pub mod Borne
 pub mod Tasks
 pub mod Ready
+pub mod OtherMarks
+pub mod ListMarks
+pub mod ListPlaces
+pub mod Widths
+pub mod Alike
+pub mod Stamping
+pub mod Limits
+pub mod Grounds
+pub mod Laid
+pub mod Moved
+pub mod LaidLevels
+pub mod ToldRows
+pub mod OneRows

@@ -60,7 +60,7 @@ doc-prop : (inner : Option Inner) (path : List ℕ) (doc : PlainDoc Mark) → Is
 doc-prop inner [] doc = Unit-prop
 doc-prop inner (i ∷ path) doc = flat-prop (le_prop {n = told_left doc.root} {m = doc.mark.left}) (le_prop {n = told_nodes doc.root} {m = doc.mark.nodes}) (can-prop inner path doc.root)
 
-get-middle : {X : Type 0} (xs ys : List X) (n : X) → slice_get (xs ++ (n ∷ ys)) (length xs) ≡ Some n
+pub get-middle : {X : Type 0} (xs ys : List X) (n : X) → slice_get (xs ++ (n ∷ ys)) (length xs) ≡ Some n
 get-middle [] ys n = refl
 get-middle (x ∷ xs) ys n = get-middle xs ys n
 

@@ -3,12 +3,15 @@ use Rattle.std.specs.Prelude.{List, [], Option, true, false, ℕ, ◌++◌, ◌�
 use Rattle.std.specs.List.{AllByRecursion, between}
 use Rattle.pv_cache.specs.Changed.{AreJudged, owner_at}
 use Rattle.pv_cache.specs.Mending.{mended_doc}
+use Rattle.pv_cache.specs.Rows.{AreRows}
+use Rattle.pv_cache.specs.Stamps.{StampedDoc}
 use Rattle.pv_cache.specs.WellMarked.{IsWellMarked, verdicts_told}
 use Rattle.pv_cache.specs.declared.mending.Inner.{Inner}
 use Rattle.pv_dtd.specs.Plain.{PlainDtd}
 use Rattle.pv_edit.specs.Brought.{BringsBare}
 use Rattle.pv_edit.specs.Changes.{Change, doc_after, in_place_of, list_after}
 use Rattle.pv_edit.specs.Fitting.{CanChange}
+use Rattle.pv_edit.specs.declared.answers.VerdictRow.{VerdictRow}
 use Rattle.pv_edit.specs.Reasons.{is_top, kids_at}
 use Rattle.pv_missing.specs.Verdicts.{AreVerdicts, IsFirstImpossible, IsLive, IsLiveBy, possible_in}
 use Rattle.pv_missing.specs.Widths.{IsListForVerdict}
@@ -56,3 +59,7 @@ InnerIsFirst = (g : PlainDtd) (root : List ℕ) (doc : PlainDoc Mark) (c : Chang
     IsLiveBy g root (owner_at c.list doc.root) (forest_of (list_after c (kids_at c.list doc.root))) →
     (IsLiveBy g root (an_element name) kids → ⊥) →
     IsFirstImpossible g root (lists_of (doc_after c doc)) (c.list ++ c.from ∷ [])
+
+-- The rows of a document with stamps are one list.
+abbrev pub HasOneRows : Type 0
+HasOneRows = (s : StampedDoc) (rows other : List VerdictRow) → AreRows s rows → AreRows s other → rows ≡ other

@@ -4,3 +4,10 @@ pub mod Changed
 pub mod Judging
 pub mod Laws
 pub mod Changing
+pub mod Accepting
+pub mod Stamps
+pub mod Moves
+pub mod Codes
+pub mod Laying
+pub mod Rows
+pub mod PlainForms

@@ -1,5 +1,5 @@
 -- What the marks of a document tell.
-use Rattle.std.specs.Prelude.{List, [], length, ℕ, ◌+◌, ◌++◌, ◌∷◌, ◌≡◌}
+use Rattle.std.specs.Prelude.{List, None, Option, Some, [], length, ℕ, ◌+◌, ◌++◌, ◌∷◌, ◌≡◌}
 use Rattle.pv_dtd.specs.Plain.{PlainDtd}
 use Rattle.pv_missing.specs.Verdicts.{IsVerdict}
 use Rattle.pv_missing.specs.Widths.{FitsVerdict}
@@ -68,6 +68,13 @@ abbrev mutual
 pub record IsWellMarked (g : PlainDtd) (root : List ℕ) (doc : PlainDoc Mark) : Type 0 where
   pub document : TellsList g root the_document (tree doc.root no_trees) doc.mark
   pub elements : EachList (TellsList g root) doc.root
+
+-- the verdict of an element's list, as its mark tells it
+abbrev pub told_verdict : Tree Mark → Option Verdict
+told_verdict (element x attrs ending kids mark) = Some mark.verdict
+told_verdict (text_node units) = None
+told_verdict (cdata_node bytes) = None
+told_verdict (misc_node bytes) = None
 
 -- the verdicts that the marks of a tree tell, in document order
 abbrev mutual

@@ -1,12 +1,13 @@
 //! A change of one list of a well marked document.
 
-ghost use Rattle.std.specs.Prelude.{◌≡◌, ◌≤◌, ◌+◌, true, false, IfErr, IfOk, IfSome, OnErr, OnOk, length};
+ghost use Rattle.std.specs.Prelude.{◌≡◌, ◌≤◌, ◌+◌, [], true, false, IfErr, IfOk, IfSome, OnErr, OnOk, length};
 ghost use Rattle.std.specs.Option.{option_map};
 ghost use Rattle.pv_cache.specs.Changed.{AreJudged, owner_at};
 ghost use Rattle.pv_cache.specs.Changing.{IsUnaccepted};
+ghost use Rattle.pv_cache.specs.Stamps.{changed_by, stamped, stamps_of};
 ghost use Rattle.pv_cache.specs.WellMarked.{IsWellMarked};
 ghost use Rattle.pv_dtd.specs.PlainForms.{plain_dtd};
-ghost use Rattle.pv_edit.specs.Brought.{BringsBare};
+ghost use Rattle.pv_edit.specs.Brought.{BringsBare, lists_changed};
 ghost use Rattle.pv_edit.specs.Changes.{doc_after, root_after};
 ghost use Rattle.pv_edit.specs.Inverses.{IsKept};
 ghost use Rattle.pv_tree.specs.Marks.{unmarked_doc};
@@ -75,17 +76,27 @@ fn judge_task<L: Ledger>(
     judge_words(judge, owner, &words, &task.list, from, stamp, steps)
 }
 
+// How many lists have a new verdict.
+fn number_of(mend: &Mend) -> u32
+    ensures { result ≡ length (changed_by [] mend.now.inner) }
+{
+    match mend.inner {
+        None => 1,
+        Some(_) => 2,
+    }
+}
+
 /// Changes a list of a well marked document, and mends its marks; or tells why the change isn't accepted, and leaves the document.
 ///
-/// The changed lists get the stamp.
-pub fn change<L: Ledger>(
+/// The changed lists get the stamp; their number is given.
+pub(crate) fn change<L: Ledger>(
     judge: &Judge<'_>,
     root: &[u8],
     doc: &mut Doc,
     task: Task,
     stamp: u64,
     steps: &mut Steps<L>,
-) -> Result<(), EditAnswer>
+) -> Result<u32, EditAnswer>
     requires plan { IsPlan (dtd_of judge.now.grammar.now) judge.now.plan.now }
     requires can { CanChange task.list (plain_change task.list task.change) (plain_doc doc.old).root }
     requires unshort { is_top task.list ≡ true → task.change.shorten ≡ false }
@@ -95,6 +106,9 @@ pub fn change<L: Ledger>(
     ensures marked { OnOk result (∥ IsWellMarked (dtd_of judge.now.grammar.now) root.now (plain_doc doc.new) ∥₁) }
     ensures made { OnOk result (unmarked_doc (plain_doc doc.new)
         ≡ unmarked_doc (doc_after (plain_change task.list task.change) (plain_doc doc.old))) }
+    ensures stamps { OnOk result (stamps_of (plain_doc doc.new) ≡ stamped stamp (lists_changed (plain_change task.list task.change))
+        (stamps_of (doc_after (plain_change task.list task.change) (plain_doc doc.old)))) }
+    ensures number { IfOk result (λ number. number ≡ length (lists_changed (plain_change task.list task.change))) }
     ensures refused { IfErr result (IsUnaccepted (dtd_of judge.now.grammar.now) root.now (plain_doc doc.old)
         (plain_change task.list task.change)) }
     ensures unchanged { OnErr result (plain_doc doc.new ≡ plain_doc doc.old) }
@@ -104,5 +118,5 @@ pub fn change<L: Ledger>(
     let list = Path::new(judge.alloc, task.list.places())?;
     make(judge.alloc, doc, task)?;
     mend_doc(judge.alloc, doc, list.places(), &mend);
-    Ok(())
+    Ok(number_of(&mend))
 }

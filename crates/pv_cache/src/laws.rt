@@ -1,6 +1,6 @@
 //! Laws of well marked documents.
 
-ghost use Rattle.pv_cache.specs.Laws.{InnerIsFirst, MarksTell, MendedIsMarked, MendingKeepsDocuments, OuterIsFirst};
+ghost use Rattle.pv_cache.specs.Laws.{HasOneRows, InnerIsFirst, MarksTell, MendedIsMarked, MendingKeepsDocuments, OuterIsFirst};
 
 /// The marks of a well marked document tell the verdicts of all its lists, how many are Possible, and how many nodes there are. No list is
 /// impossible or too wide.
@@ -16,6 +16,11 @@ pub fn mended_law()
 /// Mending changes marks alone.
 pub fn mending_keeps_documents_law()
     ensures { MendingKeepsDocuments }
+{}
+
+/// The rows of a document are one list.
+pub fn one_rows_law()
+    ensures { HasOneRows }
 {}
 
 /// Which list of a changed document is the first impossible one: the changed list, where it is impossible, and else that of the element

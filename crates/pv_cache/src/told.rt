@@ -2,7 +2,7 @@
 
 ghost use Rattle.std.specs.Prelude.{◌≡◌, ◌<◌, ◌^◌};
 ghost use Rattle.pv_tree.specs.PlainForms.{forest, plain};
-ghost use Rattle.pv_cache.specs.WellMarked.{own_left, told_left, told_left_in, told_nodes, told_nodes_in};
+ghost use Rattle.pv_cache.specs.WellMarked.{own_left, told_left, told_left_in, told_nodes, told_nodes_in, told_verdict};
 
 use pv_tree::{Node, Verdict};
 
@@ -54,5 +54,17 @@ pub(crate) fn own_left(verdict: Verdict) -> u64
         Verdict::Valid => 0,
         Verdict::Possible => 1,
         Verdict::Impossible => 0,
+    }
+}
+
+/// The verdict of an element's list, as its mark tells it.
+pub(crate) fn told_verdict(node: &Node) -> Option<Verdict>
+    ensures { result ≡ told_verdict (plain node.now) }
+{
+    match node {
+        Node::Elem { mark, .. } => Some(mark.verdict),
+        Node::Text(_) => None,
+        Node::Cdata(_) => None,
+        Node::Misc(_) => None,
     }
 }

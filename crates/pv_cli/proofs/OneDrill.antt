@@ -23,9 +23,9 @@ use Rattle.pv_cli.proofs.OneOpening.{IsEqual, IsSamePair, IsSameText, IsSure, Re
 use Rattle.pv_cli.proofs.OneReplies.{AnswersOnce, one_reply}
 use Rattle.pv_cli.proofs.OneSession.{behind_sure, guarding_sure}
 
-one_number : (g : PlainDtd) (root : List ℕ) (lists : List (Listed Unit)) (m n : ℕ) → HavePossible g root lists m → HavePossible g root lists n → m ≡ n
+one_number : (g : PlainDtd) (root : List ℕ) (lists : List (Listed ℕ)) (m n : ℕ) → HavePossible g root lists m → HavePossible g root lists n → m ≡ n
 one_number g root lists m n a b =
-    let e = ap possible_in (one_list_of_verdicts Unit g root lists a.verdicts b.verdicts a.are_verdicts b.are_verdicts) in
+    let e = ap possible_in (one_list_of_verdicts ℕ g root lists a.verdicts b.verdicts a.are_verdicts b.are_verdicts) in
     a.count ∙ e ∙ sym b.count
 
 one_left : (s t : PlainSession) (m n : ℕ) → s ≡ t → HasLeft s m → HasLeft t n → m ≡ n

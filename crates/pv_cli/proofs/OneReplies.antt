@@ -4,11 +4,13 @@ use Rattle.pv_script.specs.Commands.{SpellsCommand}
 use Rattle.pv_script.specs.Laws.{OneCommand}
 use Rattle.pv_script.specs.Replies.{reply_bytes}
 use Rattle.pv_script.specs.declared.commands.Command.{Command}
-use Rattle.pv_script.specs.declared.commands.Command.TheVariants.{Edit, Undo, Redo, History, Show, Quit}
+use Rattle.pv_script.specs.declared.commands.Command.TheVariants.{Edit, Undo, Redo, History, Show, Verdicts, Quit}
 use Rattle.pv_script.specs.declared.replies.Reply.{Reply}
 use Rattle.pv_script.specs.declared.replies.Reply.TheVariants.{NoMemory}
+use Rattle.pv_script.specs.declared.replies.Reply.TheVariants.{Verdicts as tells}
+use Rattle.pv_cache.proofs.OneRows.{one_rows}
 use Rattle.pv_session.specs.Laws.{StepsHaveOneAnswer}
-use Rattle.pv_session.specs.Sessions.{PlainSession}
+use Rattle.pv_session.specs.Sessions.{PlainSession, stamped_document}
 use Rattle.pv_session.specs.Steps.{PlainAnswer, IsEditStep, IsUndoStep, IsRedoStep}
 use Rattle.pv_cli.specs.Session.{RepliesBy, RepliesByStep, RepliesTo, unknown, known, reply_to, Replies, no_lines, without_memory, answered, ended}
 use Rattle.pv_cli.specs.Laws.{HasOneReply, HasOneOutput}
@@ -35,6 +37,8 @@ one_by once session Redo told also after later here there =
     by_step (λ answer later. IsRedoStep session answer later) (once.steps.redo session) told also after later here there
 one_by once session History told also after later here there = (here.0 ∙ sym there.0, here.1 ∙ sym there.1)
 one_by once session Show told also after later here there = (here.0 ∙ sym there.0, here.1 ∙ sym there.1)
+one_by once session Verdicts told also after later here there =
+    (here.1 ∙ ap tells (one_rows (stamped_document session) here.0 there.0 here.2 there.2) ∙ sym there.1, here.3 ∙ sym there.3)
 one_by once session Quit told also after later here there = absurd here
 
 pub one_reply : AnswersOnce → HasOneReply

@@ -19,7 +19,9 @@ use Rattle.pv_script.specs.declared.commands.Command.{Command}
 use Rattle.pv_script.specs.declared.commands.Command.TheVariants as command
 use Rattle.pv_script.specs.declared.replies.Reply.{Reply}
 use Rattle.pv_script.specs.declared.replies.Reply.TheVariants as reply
-use Rattle.pv_session.specs.Sessions.{PlainSession, begun}
+use Rattle.pv_cache.specs.Rows.{AreRows}
+use Rattle.pv_edit.specs.declared.answers.VerdictRow.{VerdictRow}
+use Rattle.pv_session.specs.Sessions.{PlainSession, begun, stamped_document}
 use Rattle.pv_session.specs.Steps.{PlainAnswer, is_done, lacks_shape, is_past_limit, is_impossible, lacks_history, IsEditStep, IsUndoStep, IsRedoStep}
 use Rattle.pv_cli.specs.declared.status.Status.TheVariants.{Done, Limit}
 use Rattle.pv_cli.specs.Check.{DeniesPossibility}
@@ -72,6 +74,8 @@ RepliesBy before command.Undo told after = RepliesByStep (λ answer later. IsUnd
 RepliesBy before command.Redo told after = RepliesByStep (λ answer later. IsRedoStep before answer later) told after
 RepliesBy before command.History told after = (told ≡ reply.History before.past) × (after ≡ before)
 RepliesBy before command.Show told after = (told ≡ reply.Show (doc_text before.doc)) × (after ≡ before)
+RepliesBy before command.Verdicts told after =
+    (rows : List VerdictRow) × (told ≡ reply.Verdicts rows) × AreRows (stamped_document before) rows × (after ≡ before)
 RepliesBy before command.Quit told after = ⊥
 
 -- what a line that doesn't end the session does: the reply to it, and the session behind it

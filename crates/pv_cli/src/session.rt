@@ -7,7 +7,7 @@ ghost use Rattle.pv_cli.specs.Program.{devices, Runs};
 ghost use Rattle.pv_cli.specs.Session.{guarding_stage, session_stage};
 ghost use Rattle.pv_cli.specs.Stage.{Returns, ShelfCounts};
 ghost use Rattle.pv_dtd.specs.PlainForms.{plain_dtd};
-ghost use Rattle.pv_session.specs.Accepting.{MAX_EDITED_NODES};
+ghost use Rattle.pv_cache.specs.Accepting.{MAX_EDITED_NODES};
 ghost use Rattle.pv_tree.specs.Plain.{nodes_in};
 ghost use Rattle.pv_tree.specs.PlainDocs.{plain_doc};
 

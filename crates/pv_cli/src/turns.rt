@@ -128,6 +128,14 @@ fn show(alloc: Global, session: &Session) -> Result<Answer, NoMemory>
     other(alloc, &Reply::Show(Bytes::of(bytes)))
 }
 
+// The reply to `verdicts`.
+fn verdicts(alloc: Global, session: &Session) -> Result<Answer, NoMemory>
+    ensures { IfOk result (IsReplyBy session.now Command.Verdicts session.now) }
+{
+    let rows = session.verdict_rows()?;
+    other(alloc, &Reply::Verdicts(rows))
+}
+
 // The reply to a line, or none where it ends the session.
 pub fn turn<L: Ledger>(
     alloc: Global,
@@ -144,6 +152,7 @@ pub fn turn<L: Ledger>(
         Ok(Command::Redo) => Ok(Some(redo(alloc, session, steps)?)),
         Ok(Command::History) => Ok(Some(history(alloc, session)?)),
         Ok(Command::Show) => Ok(Some(show(alloc, session)?)),
+        Ok(Command::Verdicts) => Ok(Some(verdicts(alloc, session)?)),
         Ok(Command::Quit) => Ok(None),
         Err(CommandError::Unknown) => Ok(Some(other(alloc, &Reply::NoCommand)?)),
         Err(CommandError::NoMemory) => Err(NoMemory),

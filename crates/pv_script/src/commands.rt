@@ -24,6 +24,8 @@ pub enum Command {
     History,
     /// `show`: tell the document.
     Show,
+    /// `verdicts`: tell of each list its verdict, and the number of the move that changed it last.
+    Verdicts,
     /// `quit`: end the session.
     Quit,
 }
@@ -75,6 +77,8 @@ fn command_of(alloc: Global, line: &[u8]) -> Result<Command, CommandError>
         Ok(Command::History)
     } else if is_word(line, b"show") {
         Ok(Command::Show)
+    } else if is_word(line, b"verdicts") {
+        Ok(Command::Verdicts)
     } else if is_word(line, b"quit") {
         Ok(Command::Quit)
     } else {

@@ -31,6 +31,7 @@ fn commands(rt: HostRuntime) -> Result<(), Fail> {
     assert!(rt; matches!(read_command(alloc, b"redo"), Ok(Command::Redo)));
     assert!(rt; matches!(read_command(alloc, b"history"), Ok(Command::History)));
     assert!(rt; matches!(read_command(alloc, b"show"), Ok(Command::Show)));
+    assert!(rt; matches!(read_command(alloc, b"verdicts"), Ok(Command::Verdicts)));
     assert!(rt; matches!(read_command(alloc, b"quit"), Ok(Command::Quit)));
     Ok(())
 }

@@ -1,9 +1,7 @@
-pub mod ListPlaces
-pub mod OtherMarks
-pub mod ListMarks
-pub mod Widths
-pub mod Ways
-pub mod Judged
+pub mod Stamped
 pub mod LastItems
-pub mod Moves
 pub mod Steps
+pub mod Ways
+pub mod Opened
+pub mod Moves
+pub mod Refused

@@ -1,151 +1,245 @@
 -- What a session keeps behind each move, and that the move is a step.
-use Rattle.std.proofs.Common.{List, None, Option, Some, [], ap, length, refl, subst, sym, ◌++◌, ◌∙◌, ◌∷◌, ◌≡◌, ℕ}
-use Rattle.std.proofs.Math.Logic.{∥∥₁_elim}
-use Rattle.std.specs.Prelude.{Err, Ok}
+use Rattle.std.proofs.Common.{List, [], ap, length, refl, subst, sym, ◌++◌, ◌∙◌, ◌∷◌, ◌≡◌, ℕ}
+use Rattle.std.specs.Prelude.{Err}
 use Rattle.std.specs.Option.{MatchOption}
+use Rattle.pv_cache.specs.Accepting.{IsGuarded}
+use Rattle.pv_cache.specs.Moves.{HasGround, IsEdited, IsReverted}
+use Rattle.pv_cache.specs.Stamps.{StampedDoc, doc_as, stamped}
+use Rattle.pv_cache.proofs.Alike.{gives_as, guarded_to, reverted_as}
+use Rattle.pv_edit.specs.Brought.{lists_changed}
 use Rattle.pv_edit.specs.ChangedLists.{changed_lists, makes, undoes}
-use Rattle.pv_edit.specs.Reasons.{Outcome, applied, gives, refuses}
+use Rattle.pv_edit.specs.Inverses.{IsKept, LeadsBack, change_back, inverse_of, reverted}
+use Rattle.pv_edit.specs.Reasons.{applied, gives}
+use Rattle.pv_edit.specs.declared.answers.Done.{Done}
 use Rattle.pv_edit.specs.declared.answers.EditAnswer.{EditAnswer}
 use Rattle.pv_edit.specs.declared.answers.EditAnswer.TheVariants as answer
 use Rattle.pv_edit.specs.declared.edits.Edit.{Edit}
 use Rattle.pv_edit.specs.declared.inverses.Inverse.{Inverse}
-use Rattle.pv_missing.specs.Verdicts.{HaveVerdicts, PlainVerdicts, possible_in}
+use Rattle.pv_edit.proofs.Leading.{leads}
+use Rattle.pv_edit.proofs.ListsChanged.{inverse-lists}
+use Rattle.pv_edit.proofs.RemarkedFacts.{kept-to}
+use Rattle.pv_edit.proofs.RemarkedReasons.{inverse-as}
 use Rattle.pv_session.specs.Answers.{edit_answer}
-use Rattle.pv_session.specs.Keeping.{IsGuarded, IsMade, IsSession, KeepsWays, LeadsOn, LeadsTo}
-use Rattle.pv_session.specs.Reaching.{HasGround, IsReached}
-use Rattle.pv_session.specs.Sessions.{PlainSession, Replays}
-use Rattle.pv_session.specs.Steps.{HasLeft, IsEditStep, IsRedoStep, IsUndoStep, accepted, impossible, is_done, lacks_history, no_past, none_undone, not_applied, past_limit, redone, undone}
+use Rattle.pv_session.specs.Keeping.{IsMade, IsSession, KeepsWays, LeadsOn, LeadsTo, led_back}
+use Rattle.pv_session.specs.Sessions.{PlainSession, begun, next_move}
+use Rattle.pv_session.specs.Steps.{HasLeft, IsEditStep, IsRedoStep, IsUndoStep, accepted, behind_move, impossible, is_done, lacks_history, no_past, not_applied, past_limit, redone, undone}
 use Rattle.pv_session.proofs.LastItems.{HasLast, has_some}
+use Rattle.pv_session.proofs.Opened.{led_opened}
+use Rattle.pv_session.proofs.Stamped.{begun_doc, begun_unmarked, stamped_same}
 use Rattle.pv_session.proofs.Steps.{not_empty}
-use Rattle.pv_session.proofs.Ways.{IsLast, IsNext, both_empty, empty_both, last_edit, leads_more, leads_on_more, next_undone, replays}
-use Rattle.pv_session.proofs.Widths.{within}
-use Rattle.pv_tree.specs.Lists.{lists_of}
+use Rattle.pv_session.proofs.Ways.{IsLast, IsNext, both_empty, empty_both, goes_back, last_edit, leads_more, leads_on_more, next_undone, replays}
+use Rattle.pv_tree.specs.Marks.{unmarked_doc}
+use Rattle.pv_dtd.specs.Plain.{PlainDtd}
 use Rattle.pv_tree.specs.Plain.{PlainDoc}
+use Rattle.pv_tree.specs.declared.nodes.Mark.{Mark}
 
-module _ (s : PlainSession) (ways : List Inverse) (m : ℕ) (k : KeepsWays s ways m) where
+-- a session of these parts
+abbrev pub session_of : StampedDoc → List Edit → List Inverse → List Edit → ℕ → PlainSession
+session_of m edits ways gone moves =
+    record { dtd = m.dtd; root = m.root; opened = led_back ways (unmarked_doc m.doc); past = edits; undone = gone; moves = moves; doc = m.doc }
+
+module _ (m : StampedDoc) (edits : List Edit) (ways : List Inverse) (gone : List Edit) (moves : ℕ) (k : KeepsWays (session_of m edits ways gone moves) ways) where
+  abbrev s : PlainSession
+  s = session_of m edits ways gone moves
+
+  abbrev now : PlainDoc Unit
+  now = unmarked_doc m.doc
+
   pub is_session : IsSession s
-  is_session = record { replays = replays s.dtd s.root s.opened s.doc s.past ways k.past; guarded = k.guarded }
+  is_session = record { replays = replays s.dtd s.root s.opened now edits ways k.past; guarded = k.guarded }
+
+  guarded_now : IsGuarded s.dtd s.root now
+  guarded_now = guarded_to (λ _. tt) m.doc s.dtd s.root k.guarded
+
+  kept_now : IsKept now.root
+  kept_now = kept-to (λ _. tt) m.doc.root k.kept
 
   -- ---- an edit
-  module _ (edit : Edit) (way : Inverse) (doc : PlainDoc Unit) (left : ℕ) (made : IsMade s.doc edit way doc) (r : IsReached s.dtd s.root doc left) where
-    longer : LeadsTo s.dtd s.root s.opened (s.past ++ edit ∷ []) (ways ++ way ∷ []) doc
-    longer = leads_more s.dtd s.root s.opened s.doc doc s.past ways edit way k.past k.guarded made
+  module _ (edit : Edit) (n : ℕ) (is_next : n ≡ next_move moves) (done : Done) (way : Inverse) (after : StampedDoc) (e : IsEdited m edit n done way after) (guarded : IsGuarded after.dtd after.root after.doc) (kept : IsKept after.doc.root) where
+    same_dtd : after.dtd ≡ m.dtd
+    same_dtd = ap (λ (a : StampedDoc). a.dtd) e.is_after
 
-    pub keeps_edit : KeepsWays (record s { past = s.past ++ edit ∷ []; undone = []; doc = doc }) (ways ++ way ∷ []) left
-    keeps_edit = record { guarded = r.guarded; past = longer; last = doc; undone = refl; is_left = r.is_left }
+    same_root : after.root ≡ m.root
+    same_root = ap (λ (a : StampedDoc). a.root) e.is_after
 
-    pub edit_step : IsEditStep s edit (is_done (length (changed_lists (makes edit))) left) (record s { past = s.past ++ edit ∷ []; undone = []; doc = doc })
-    edit_step =
-        accepted doc left
-        (record { is_edited = made.is_edited; within = within s.dtd s.root doc (changed_lists (makes edit)) r.guarded; possible = r.guarded.possible }) refl r.is_left refl
+    is_doc : after.doc ≡ stamped n (changed_lists (makes edit)) e.edited
+    is_doc = ap (λ (a : StampedDoc). a.doc) e.is_after
 
-    -- the same over the fields of the session behind it
-    module _ (n : ℕ) (past undone : List Edit) (more : List Inverse) (z : n ≡ length (changed_lists (makes edit))) (p : past ≡ s.past ++ edit ∷ []) (w : more ≡ ways ++ way ∷ []) where
-      pub edit_kept : undone ≡ [] → KeepsWays (record s { past = past; undone = undone; doc = doc }) more left
-      edit_kept u = rw (p, u, w) keeps_edit
+    abbrev later : PlainDoc Unit
+    later = unmarked_doc after.doc
 
-      pub edit_done : undone ≡ [] → IsEditStep s edit (is_done n left) (record s { past = past; undone = undone; doc = doc })
-      edit_done u = rw (p, u, z) edit_step
+    is_later : later ≡ unmarked_doc e.edited
+    is_later = ap unmarked_doc is_doc ∙ stamped_same n (changed_lists (makes edit)) e.edited
 
-    -- ---- a redo
-    module _ (rest : List Edit) (e : s.undone ≡ rest ++ edit ∷ []) where
-      next : IsNext s.dtd s.root s.doc rest edit k.last
-      next = next_undone s.dtd s.root s.doc k.last rest edit (subst (λ (es : List Edit). LeadsOn s.dtd s.root s.doc es k.last) e k.undone)
+    made : IsMade now edit way later
+    made = record {
+      kept = kept_now;
+      is_edited = gives_as (λ _. tt) 0 m.doc e.edited edit e.accepted.is_edited ∙ ap gives (sym is_later);
+      is_inverse = inverse-as (λ _. tt) m.doc.root edit ∙ sym e.is_inverse;
+    }
 
-      same_next : next.next ≡ doc
-      same_next = let n : gives next.next ≡ gives doc = sym next.is_edited ∙ made.is_edited in cc
+    longer : LeadsTo s.dtd s.root s.opened (edits ++ edit ∷ []) (ways ++ way ∷ []) later
+    longer = leads_more s.dtd s.root s.opened now later edits ways edit way k.past guarded_now made
 
-      pub keeps_redo : KeepsWays (record s { past = s.past ++ edit ∷ []; undone = rest; doc = doc }) (ways ++ way ∷ []) left
-      keeps_redo = record {
-        guarded = r.guarded;
-        past = longer;
-        last = k.last;
-        undone = subst (λ (d : PlainDoc Unit). LeadsOn s.dtd s.root d rest k.last) same_next next.leads;
-        is_left = r.is_left;
-      }
+    still_opened : led_back (ways ++ way ∷ []) later ≡ s.opened
+    still_opened = led_opened s.dtd s.root s.opened later (edits ++ edit ∷ []) (ways ++ way ∷ []) longer
 
-      pub redo_step : IsRedoStep s (is_done (length (changed_lists (makes edit))) left) (record s { past = s.past ++ edit ∷ []; undone = rest; doc = doc })
-      redo_step = redone edit rest doc left e (replays s.dtd s.root s.opened doc (s.past ++ edit ∷ []) (ways ++ way ∷ []) longer) refl r.is_left refl
+    -- the session behind it
+    module _ (past' undone' : List Edit) (ways' : List Inverse) (p : past' ≡ edits ++ edit ∷ []) (w : ways' ≡ ways ++ way ∷ []) where
+      abbrev t : PlainSession
+      t = session_of after past' ways' undone' n
 
-      module _ (n : ℕ) (past undone : List Edit) (more : List Inverse) (z : n ≡ length (changed_lists (makes edit))) (p : past ≡ s.past ++ edit ∷ []) (u : undone ≡ rest) (w : more ≡ ways ++ way ∷ []) where
-        pub redo_kept : KeepsWays (record s { past = past; undone = undone; doc = doc }) more left
-        redo_kept = rw (p, u, w) keeps_redo
+      same_opened : t.opened ≡ s.opened
+      same_opened = ap (λ (ws : List Inverse). led_back ws later) w ∙ still_opened
 
-        pub redo_done : IsRedoStep s (is_done n left) (record s { past = past; undone = undone; doc = doc })
-        redo_done = rw (p, u, z) redo_step
+      leads_past : LeadsTo t.dtd t.root t.opened t.past ways' (unmarked_doc t.doc)
+      leads_past = rw (same_opened, p, w, same_dtd, same_root) longer
+
+      is_left : HasLeft t done.left
+      is_left = e.is_left
+
+      keeps_with : (last : PlainDoc Unit) → LeadsOn t.dtd t.root (unmarked_doc t.doc) undone' last → KeepsWays t ways'
+      keeps_with last on = record { guarded = guarded; kept = kept; past = leads_past; last = last; undone = on }
+
+      -- whose parts are those of the session before it
+      same_parts : (u : List Edit) → undone' ≡ u → t ≡ record s { past = edits ++ edit ∷ []; undone = u; moves = next_move moves; doc = behind_move s (changed_lists (makes edit)) e.edited }
+      same_parts u is =
+          let d : after.doc ≡ behind_move s (changed_lists (makes edit)) e.edited = is_doc ∙ ap (λ (i : ℕ). stamped i (changed_lists (makes edit)) e.edited) is_next in
+          let a = same_dtd in
+          let b = same_root in
+          let c = same_opened in
+          cc
+
+      module _ (u : undone' ≡ []) where
+        pub edit_keeps : KeepsWays t ways'
+        edit_keeps = keeps_with later (subst (λ (es : List Edit). LeadsOn t.dtd t.root later es later) (sym u) refl)
+
+        pub edit_is_step : IsEditStep s edit (is_done done.checked done.left) t
+        edit_is_step = accepted e.edited done.left e.accepted (same_parts [] u) is_left (ap (λ (i : ℕ). is_done i done.left) e.is_checked)
+
+      -- ---- made again
+      module _ (rest : List Edit) (o : gone ≡ rest ++ edit ∷ []) (u : undone' ≡ rest) where
+        next : IsNext s.dtd s.root now rest edit k.last
+        next = next_undone s.dtd s.root now k.last rest edit (subst (λ (es : List Edit). LeadsOn s.dtd s.root now es k.last) o k.undone)
+
+        same_next : next.next ≡ later
+        same_next = let n : gives next.next ≡ gives later = sym next.is_edited ∙ made.is_edited in cc
+
+        pub redo_keeps : KeepsWays t ways'
+        redo_keeps =
+            let on : LeadsOn s.dtd s.root later rest k.last = subst (λ (d : PlainDoc Unit). LeadsOn s.dtd s.root d rest k.last) same_next next.leads in
+            keeps_with k.last (rw (same_dtd, same_root, u) on)
+
+        pub redo_is_step : IsRedoStep s (is_done done.checked done.left) t
+        redo_is_step =
+            redone edit rest e.edited done.left o e.accepted.is_edited (replays s.dtd s.root s.opened later (edits ++ edit ∷ []) (ways ++ way ∷ []) longer) (same_parts rest u) is_left
+            (ap (λ (i : ℕ). is_done i done.left) e.is_checked)
 
   -- ---- an undo
-  module _ (past : List Edit) (before : List Inverse) (edit : Edit) (way : Inverse) (e : s.past ≡ past ++ edit ∷ []) (f : ways ≡ before ++ way ∷ []) where
-    pub last_made : IsLast s.dtd s.root s.opened past before edit way s.doc
+  module _ (before : List Edit) (fewer : List Inverse) (edit : Edit) (way : Inverse) (e : edits ≡ before ++ edit ∷ []) (f : ways ≡ fewer ++ way ∷ []) where
+    pub last_made : IsLast s.dtd s.root s.opened before fewer edit way now
     last_made =
-        last_edit s.dtd s.root s.opened s.doc past before edit way
-        (subst (λ (ws : List Inverse). LeadsTo s.dtd s.root s.opened (past ++ edit ∷ []) ws s.doc) f (subst (λ (es : List Edit). LeadsTo s.dtd s.root s.opened es ways s.doc) e k.past))
+        last_edit s.dtd s.root s.opened now before fewer edit way
+        (subst (λ (ws : List Inverse). LeadsTo s.dtd s.root s.opened (before ++ edit ∷ []) ws now) f (subst (λ (es : List Edit). LeadsTo s.dtd s.root s.opened es ways now) e k.past))
 
-    module _ (doc : PlainDoc Unit) (left : ℕ) (d : doc ≡ last_made.before) (r : IsReached s.dtd s.root doc left) where
-      shorter : LeadsTo s.dtd s.root s.opened past before doc
-      shorter = subst (LeadsTo s.dtd s.root s.opened past before) (sym d) last_made.led
+    -- the way back leads back
+    pub leads_back : LeadsBack way m.doc last_made.before
+    leads_back = goes_back s.dtd s.root last_made.before edit way m.doc last_made.made
 
-      made_again : IsMade doc edit way s.doc
-      made_again = subst (λ (x : PlainDoc Unit). IsMade x edit way s.doc) (sym d) last_made.made
+    pub guarded_before : IsGuarded s.dtd s.root last_made.before
+    guarded_before = last_made.guarded
 
-      pub keeps_undo : KeepsWays (record s { past = past; undone = s.undone ++ edit ∷ []; doc = doc }) before left
-      keeps_undo = record {
-        guarded = r.guarded;
-        past = shorter;
-        last = k.last;
-        undone = leads_on_more s.dtd s.root doc s.doc k.last s.undone edit k.undone made_again.is_edited k.guarded;
-        is_left = r.is_left;
-      }
+    module _ (n : ℕ) (is_next : n ≡ next_move moves) (done : Done) (after : StampedDoc) (r : IsReverted m way n done after) (guarded : IsGuarded after.dtd after.root after.doc) (kept : IsKept after.doc.root) where
+      back_dtd : after.dtd ≡ m.dtd
+      back_dtd = ap (λ (a : StampedDoc). a.dtd) r.is_after
 
-      pub undo_step : IsUndoStep s (is_done (length (changed_lists (undoes edit))) left) (record s { past = past; undone = s.undone ++ edit ∷ []; doc = doc })
-      undo_step = undone edit past doc left e (replays s.dtd s.root s.opened doc past before shorter) refl r.is_left refl
+      back_root : after.root ≡ m.root
+      back_root = ap (λ (a : StampedDoc). a.root) r.is_after
 
-      module _ (n : ℕ) (undone : List Edit) (fewer : List Inverse) (z : n ≡ length (changed_lists (undoes edit))) (u : undone ≡ s.undone ++ edit ∷ []) (w : fewer ≡ before) where
-        pub undo_kept : KeepsWays (record s { past = past; undone = undone; doc = doc }) fewer left
-        undo_kept = rw (u, w) keeps_undo
+      same_lists : lists_changed (change_back 0 m.doc.root way) ≡ changed_lists (undoes edit)
+      same_lists =
+          ap (λ (w : Inverse). lists_changed (change_back 0 m.doc.root w)) (sym last_made.made.is_inverse)
+          ∙ inverse-lists 0 m.doc.root tt last_made.before now edit last_made.made.is_edited
 
-        pub undo_done : IsUndoStep s (is_done n left) (record s { past = past; undone = undone; doc = doc })
-        undo_done = rw (u, z) undo_step
+      back_doc : after.doc ≡ stamped n (changed_lists (undoes edit)) (reverted 0 m.doc way)
+      back_doc = ap (λ (a : StampedDoc). a.doc) r.is_after ∙ ap (λ (ls : List (List ℕ)). stamped n ls (reverted 0 m.doc way)) same_lists
+
+      is_before : unmarked_doc after.doc ≡ last_made.before
+      is_before =
+          ap unmarked_doc back_doc ∙ stamped_same n (changed_lists (undoes edit)) (reverted 0 m.doc way) ∙ sym (reverted_as (λ _. tt) 0 m.doc way) ∙ leads way m.doc last_made.before leads_back
+
+      shorter : LeadsTo s.dtd s.root s.opened before fewer (unmarked_doc after.doc)
+      shorter = subst (LeadsTo s.dtd s.root s.opened before fewer) (sym is_before) last_made.led
+
+      module _ (past' undone' : List Edit) (ways' : List Inverse) (p : past' ≡ before) (u : undone' ≡ gone ++ edit ∷ []) (w : ways' ≡ fewer) where
+        abbrev b : PlainSession
+        b = session_of after past' ways' undone' n
+
+        back_opened : b.opened ≡ s.opened
+        back_opened = ap (λ (ws : List Inverse). led_back ws (unmarked_doc after.doc)) w ∙ led_opened s.dtd s.root s.opened (unmarked_doc after.doc) before fewer shorter
+
+        pub undo_keeps : KeepsWays b ways'
+        undo_keeps =
+            let given : applied tt (unmarked_doc after.doc) edit ≡ gives now = subst (λ (d : PlainDoc Unit). applied tt d edit ≡ gives now) (sym is_before) last_made.made.is_edited in
+            let on = leads_on_more s.dtd s.root (unmarked_doc after.doc) now k.last gone edit k.undone given guarded_now in
+            record { guarded = guarded; kept = kept; past = rw (back_opened, p, w, back_dtd, back_root) shorter; last = k.last; undone = rw (back_dtd, back_root, u) on }
+
+        pub undo_is_step : IsUndoStep s (is_done done.checked done.left) b
+        undo_is_step =
+            let d : after.doc ≡ behind_move s (changed_lists (undoes edit)) (reverted 0 m.doc (inverse_of last_made.before.root edit)) =
+            back_doc ∙ ap (λ (i : ℕ). stamped i (changed_lists (undoes edit)) (reverted 0 m.doc way)) is_next
+            ∙ ap (λ (w : Inverse). behind_move s (changed_lists (undoes edit)) (reverted 0 m.doc w)) (sym last_made.made.is_inverse) in
+            let parts : b ≡ record s { past = before; undone = gone ++ edit ∷ []; moves = next_move moves; doc = behind_move s (changed_lists (undoes edit)) (reverted 0 m.doc (inverse_of last_made.before.root edit)) } =
+            (let x = back_dtd in let y = back_root in let z = back_opened in cc) in
+            undone edit before last_made.before done.left e (replays s.dtd s.root s.opened last_made.before before fewer last_made.led) is_before parts r.is_left
+            (ap (λ (i : ℕ). is_done i done.left) (r.is_checked ∙ ap length same_lists))
 
   -- the last edit can be undone by the last way back
   pub record CanUndo (way : Inverse) : Type 0 where
     pub edit : Edit
-    pub past : HasLast s.past edit
+    pub made : HasLast s.past edit
     pub last : HasLast ways way
 
   pub can_undo : (way : Inverse) → HasLast ways way → CanUndo way
   can_undo way l =
-      let n : s.past ≡ [] → ⊥ = λ e. not_empty l.front ways way l.whole (empty_both s.dtd s.root s.opened s.doc s.past ways k.past e) in
+      let n : s.past ≡ [] → ⊥ = λ e. not_empty l.front ways way l.whole (empty_both s.dtd s.root s.opened now edits ways k.past e) in
       let h = has_some s.past n in
-      record { edit = h.item; past = h.last; last = l }
-
-  module _ (way : Inverse) (u : CanUndo way) where
-    pub way_made : IsLast s.dtd s.root s.opened u.past.front u.last.front u.edit way s.doc
-    way_made = last_made u.past.front u.last.front u.edit way u.past.whole u.last.whole
+      record { edit = h.item; made = h.last; last = l }
 
   pub nothing_to_undo : ways ≡ [] → IsUndoStep s lacks_history s
-  nothing_to_undo e = no_past (both_empty s.dtd s.root s.opened s.doc s.past ways k.past e) refl refl
+  nothing_to_undo e = no_past (both_empty s.dtd s.root s.opened now edits ways k.past e) refl refl
 
   -- the last undone edit can be made again
-  pub can_redo : (edit : Edit) (l : HasLast s.undone edit) → IsNext s.dtd s.root s.doc l.front edit k.last
-  can_redo edit l = next_undone s.dtd s.root s.doc k.last l.front edit (subst (λ (es : List Edit). LeadsOn s.dtd s.root s.doc es k.last) l.whole k.undone)
+  pub can_redo : (edit : Edit) (l : HasLast gone edit) → IsNext s.dtd s.root now l.front edit k.last
+  can_redo edit l = next_undone s.dtd s.root now k.last l.front edit (subst (λ (es : List Edit). LeadsOn s.dtd s.root now es k.last) l.whole k.undone)
 
 -- a refused edit
-pub refuse_step : (s : PlainSession) (edit : Edit) (a : EditAnswer) → HasGround s.dtd s.root s.doc edit a → MatchOption (edit_answer (Err a)) (s ≡ s) (λ a. IsEditStep s edit a s)
+pub refuse_step : (s : PlainSession) (edit : Edit) (a : EditAnswer) → HasGround 0 s.dtd s.root s.doc edit a → MatchOption (edit_answer (Err a)) (s ≡ s) (λ a. IsEditStep s edit a s)
 refuse_step s edit (answer.Shape reason) h = not_applied reason h refl refl
 refuse_step s edit (answer.Impossible path) (doc, a, w, n, f) = impossible doc path a w n f refl refl
 refuse_step s edit answer.Limit (doc, a, n) = past_limit doc a n refl refl
 refuse_step s edit answer.NoMemory h = refl
 
 -- a session that begins
-pub begun_keeps : (s : PlainSession) (ways : List Inverse) (left : ℕ) (vs : PlainVerdicts) → IsGuarded s.dtd s.root s.doc → s.doc ≡ s.opened → s.past ≡ [] → ways ≡ [] → s.undone ≡ [] →
-    HaveVerdicts s.dtd s.root (lists_of s.doc) vs → left ≡ possible_in vs.verdicts → KeepsWays s ways left
-begun_keeps s ways left vs guarded d p w u have e = record {
+pub begun_keeps : (m : StampedDoc) (edits gone : List Edit) (ways : List Inverse) → edits ≡ [] → ways ≡ [] → gone ≡ [] → IsGuarded m.dtd m.root m.doc → IsKept m.doc.root → KeepsWays (session_of m edits ways gone 0) ways
+begun_keeps m edits gone ways p w u guarded kept = record {
   guarded = guarded;
-  past =
-      subst (λ (ws : List Inverse). LeadsTo s.dtd s.root s.opened s.past ws s.doc) (sym w)
-      (subst (λ (es : List Edit). LeadsTo s.dtd s.root s.opened es [] s.doc) (sym p) d);
-  last = s.doc;
-  undone = subst (λ (es : List Edit). LeadsOn s.dtd s.root s.doc es s.doc) (sym u) refl;
-  is_left = ∣ record { verdicts = vs.verdicts; are_verdicts = have.are_verdicts; count = e } ∣₁;
+  kept = kept;
+  past = rw (p, w) refl;
+  last = unmarked_doc m.doc;
+  undone = rw u refl;
 }
+
+pub begun_is : (g : PlainDtd) (root : List ℕ) (doc : PlainDoc Mark) (m : StampedDoc) → m ≡ record { dtd = g; root = root; doc = doc_as (λ _. 0) doc } → (edits gone : List Edit) (ways : List Inverse) → edits ≡ [] → ways ≡ [] → gone ≡ [] →
+    session_of m edits ways gone 0 ≡ begun g root (unmarked_doc doc)
+begun_is g root doc m e edits gone ways p w u =
+    rw (e, p, w, u)
+    (ap (λ (d : PlainDoc Unit). record { dtd = g; root = root; opened = d; past = []; undone = []; moves = 0; doc = doc_as {M = Mark} {N = ℕ} (λ _. 0) doc }) (begun_unmarked doc)
+    ∙ ap (λ (d : PlainDoc ℕ). record { dtd = g; root = root; opened = unmarked_doc doc; past = []; undone = []; moves = 0; doc = d }) (sym (begun_doc doc)))
+
+-- a refused edit, with room for one more
+pub refused_step : (now : PlainSession) (m : StampedDoc) (edits : List Edit) (ways : List Inverse) (gone : List Edit) (moves : ℕ) → session_of m edits ways gone moves ≡ now → (edit : Edit) (a : EditAnswer) → HasGround 0 m.dtd m.root m.doc edit a →
+    (after : StampedDoc) → after ≡ m → (edits' : List Edit) (ways' : List Inverse) → edits' ≡ edits → ways' ≡ ways →
+    MatchOption (edit_answer (Err a)) (session_of after edits' ways' gone moves ≡ now) (λ answer. IsEditStep now edit answer (session_of after edits' ways' gone moves))
+refused_step now m edits ways gone moves v edit a h after e edits' ways' p w =
+    rw (e, p, w) (subst (λ (s : PlainSession). MatchOption (edit_answer (Err a)) (session_of m edits ways gone moves ≡ s) (λ answer. IsEditStep s edit answer (session_of m edits ways gone moves))) v (refuse_step (session_of m edits ways gone moves) edit a h))

@@ -1,11 +1,12 @@
 -- Edits one after the other, and the ways back.
-use Rattle.std.proofs.Common.{List, [], ap, refl, subst, sym, ◌++◌, ◌∙◌, ◌∷◌, ◌≡◌, ℕ}
+use Rattle.std.proofs.Common.{List, [], refl, subst, sym, ◌++◌, ◌∙◌, ◌∷◌, ◌≡◌, ℕ}
 use Rattle.pv_dtd.specs.Plain.{PlainDtd}
 use Rattle.pv_edit.specs.Inverses.{LeadsBack}
-use Rattle.pv_edit.specs.Reasons.{Outcome, applied, gives}
+use Rattle.pv_edit.specs.Reasons.{applied, gives}
 use Rattle.pv_edit.specs.declared.edits.Edit.{Edit}
 use Rattle.pv_edit.specs.declared.inverses.Inverse.{Inverse}
-use Rattle.pv_session.specs.Keeping.{IsGuarded, IsMade, LeadsOn, LeadsTo}
+use Rattle.pv_cache.specs.Accepting.{IsGuarded}
+use Rattle.pv_session.specs.Keeping.{IsMade, LeadsOn, LeadsTo}
 use Rattle.pv_session.specs.Sessions.{Replays}
 use Rattle.pv_tree.specs.Marks.{unmarked_doc}
 use Rattle.pv_tree.specs.Plain.{PlainDoc}

@@ -1,127 +1,18 @@
 -- How the values that contracts see of a session are told apart: each plain type is coded one to one. Nothing else is meant by a code.
-use Rattle.std.specs.Prelude.{List, ℕ, ◌≡◌, refl}
-use Rattle.std.proofs.Common.{ap}
+use Rattle.std.specs.Prelude.{List, ℕ, refl}
 use Rattle.std.specs.Coded.{Coded, code_by, coded_list, coded_ℕ, coded×}
-use base.Stored.{Gv, gcons, gnil, gnum, coded_unit}
-use Rattle.pv_model.specs.Plain.{PlainModel, PlainPart, PlainParts, any, children, choice, empty, mixed, name, no_parts, opt, part, plus, seq, star}
+use base.Stored.{coded_unit}
+use Rattle.pv_cache.specs.Codes.{bytes_code, doc_code, dtd_code}
 use Rattle.pv_dtd.specs.Plain.{PlainDtd}
 use Rattle.pv_edit.specs.contracts.edits.Edit as edit
 use Rattle.pv_edit.specs.declared.edits.Edit.{Edit}
 use Rattle.pv_session.specs.Sessions.{PlainSession}
-use Rattle.pv_tree.specs.Plain.{Ending, Forest, PlainDoc, Tree, cdata_node, element, misc_node, no_trees, short, tagged, text_node, tree}
+use Rattle.pv_tree.specs.Plain.{PlainDoc}
 
-abbrev bytes_code : Coded (List ℕ)
-bytes_code = coded_list coded_ℕ
-
-abbrev lists_code : Coded (List (List ℕ))
-lists_code = coded_list bytes_code
-
--- ---- documents
-abbrev ending_code : Ending → Gv
-ending_code short = gnil
-ending_code (tagged gap) = gcons gnil (bytes_code.code gap)
-
-pub same_ending : (e f : Ending) → ending_code e ≡ ending_code f → e ≡ f
-same_ending short short p = refl
-same_ending (tagged a) (tagged b) p = ap tagged (bytes_code.inj a b cc)
-same_ending e f p = absurd cc
-
-abbrev mutual
-  tree_code : Tree Unit → Gv
-  tree_code (element x attrs ending kids mark) = gcons (gnum 0) (gcons (bytes_code.code x) (gcons (bytes_code.code attrs) (gcons (ending_code ending) (forest_code kids))))
-  tree_code (text_node units) = gcons (gnum 1) (lists_code.code units)
-  tree_code (cdata_node bytes) = gcons (gnum 2) (bytes_code.code bytes)
-  tree_code (misc_node bytes) = gcons (gnum 3) (bytes_code.code bytes)
-
-  forest_code : Forest Unit → Gv
-  forest_code no_trees = gnil
-  forest_code (tree t rest) = gcons (tree_code t) (forest_code rest)
-
-mutual
-  pub same_tree : (t u : Tree Unit) → tree_code t ≡ tree_code u → t ≡ u
-  same_tree (element x a e k m) (element y b f l n) p =
-      let ex : x ≡ y = bytes_code.inj x y cc in
-      let ea : a ≡ b = bytes_code.inj a b cc in
-      let ee : e ≡ f = same_ending e f cc in
-      let ek : k ≡ l = same_forest k l cc in
-      let em : m ≡ n = refl in
-      cc
-  same_tree (text_node a) (text_node b) p = ap text_node (lists_code.inj a b cc)
-  same_tree (cdata_node a) (cdata_node b) p = ap cdata_node (bytes_code.inj a b cc)
-  same_tree (misc_node a) (misc_node b) p = ap misc_node (bytes_code.inj a b cc)
-  same_tree t u p = absurd cc
-
-  pub same_forest : (k l : Forest Unit) → forest_code k ≡ forest_code l → k ≡ l
-  same_forest no_trees no_trees p = refl
-  same_forest (tree t k) (tree u l) p =
-      let et : t ≡ u = same_tree t u cc in
-      let ek : k ≡ l = same_forest k l cc in
-      cc
-  same_forest k l p = absurd cc
-
-abbrev one_tree_code : Coded (Tree Unit)
-one_tree_code = record { code = tree_code; inj = same_tree }
-
-abbrev doc_code : Coded (PlainDoc Unit)
-doc_code =
-    code_by (List ℕ × (Tree Unit × List ℕ)) (coded× bytes_code (coded× one_tree_code bytes_code))
-    (λ d. (d.before, (d.root, d.after))) (λ p. record { before = p.0; root = p.1.0; after = p.1.1; mark = tt }) (λ _. refl)
-
--- ---- DTDs
-abbrev mutual
-  part_code : PlainPart → Gv
-  part_code (name n) = gcons (gnum 0) (gnum n)
-  part_code (seq ps) = gcons (gnum 1) (parts_code ps)
-  part_code (choice ps) = gcons (gnum 2) (parts_code ps)
-  part_code (opt p) = gcons (gnum 3) (part_code p)
-  part_code (star p) = gcons (gnum 4) (part_code p)
-  part_code (plus p) = gcons (gnum 5) (part_code p)
-
-  parts_code : PlainParts → Gv
-  parts_code no_parts = gnil
-  parts_code (part p rest) = gcons (part_code p) (parts_code rest)
-
-mutual
-  pub same_part : (p q : PlainPart) → part_code p ≡ part_code q → p ≡ q
-  same_part (name n) (name m) e = cc
-  same_part (seq a) (seq b) e = ap seq (same_parts a b cc)
-  same_part (choice a) (choice b) e = ap choice (same_parts a b cc)
-  same_part (opt a) (opt b) e = ap opt (same_part a b cc)
-  same_part (star a) (star b) e = ap star (same_part a b cc)
-  same_part (plus a) (plus b) e = ap plus (same_part a b cc)
-  same_part p q e = absurd cc
-
-  pub same_parts : (a b : PlainParts) → parts_code a ≡ parts_code b → a ≡ b
-  same_parts no_parts no_parts e = refl
-  same_parts (part p a) (part q b) e =
-      let ep : p ≡ q = same_part p q cc in
-      let ea : a ≡ b = same_parts a b cc in
-      cc
-  same_parts a b e = absurd cc
-
-abbrev model_code : PlainModel → Gv
-model_code empty = gnil
-model_code any = gnum 0
-model_code (mixed names) = gcons gnil (bytes_code.code names)
-model_code (children p) = gcons (gnum 0) (part_code p)
-
-pub same_model : (m n : PlainModel) → model_code m ≡ model_code n → m ≡ n
-same_model empty empty e = refl
-same_model any any e = refl
-same_model (mixed a) (mixed b) e = ap mixed (bytes_code.inj a b cc)
-same_model (children p) (children q) e = ap children (same_part p q cc)
-same_model m n e = absurd cc
-
-abbrev dtd_code : Coded PlainDtd
-dtd_code =
-    code_by (List (List ℕ) × List PlainModel) (coded× lists_code (coded_list (record { code = model_code; inj = same_model })))
-    (λ g. (g.names, g.models)) (λ p. record { names = p.0; models = p.1 }) (λ _. refl)
-
--- ---- sessions
 abbrev pub session_code : Coded PlainSession
 session_code =
-    code_by (PlainDtd × (List ℕ × (PlainDoc Unit × (List Edit × (List Edit × PlainDoc Unit)))))
-    (coded× dtd_code (coded× bytes_code (coded× doc_code (coded× (coded_list edit.the_row.coded) (coded× (coded_list edit.the_row.coded) doc_code)))))
-    (λ s. (s.dtd, (s.root, (s.opened, (s.past, (s.undone, s.doc))))))
-    (λ p. record { dtd = p.0; root = p.1.0; opened = p.1.1.0; past = p.1.1.1.0; undone = p.1.1.1.1.0; doc = p.1.1.1.1.1 })
+    code_by (PlainDtd × (List ℕ × (PlainDoc Unit × (List Edit × (List Edit × (ℕ × PlainDoc ℕ))))))
+    (coded× dtd_code (coded× bytes_code (coded× (doc_code coded_unit) (coded× (coded_list edit.the_row.coded) (coded× (coded_list edit.the_row.coded) (coded× coded_ℕ (doc_code coded_ℕ)))))))
+    (λ s. (s.dtd, (s.root, (s.opened, (s.past, (s.undone, (s.moves, s.doc)))))))
+    (λ p. record { dtd = p.0; root = p.1.0; opened = p.1.1.0; past = p.1.1.1.0; undone = p.1.1.1.1.0; moves = p.1.1.1.1.1.0; doc = p.1.1.1.1.1.1 })
     (λ _. refl)

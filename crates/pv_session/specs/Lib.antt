@@ -1,9 +1,7 @@
 pub mod Sessions
-pub mod Accepting
 pub mod Steps
 pub mod Answers
 pub mod Keeping
 pub mod Codes
 pub mod PlainForms
-pub mod Reaching
 pub mod Laws

@@ -1,20 +1,19 @@
--- The plain session that a session of the program is.
-use Rattle.pv_productive.specs.PlainForms.{dtd_of}
-use Rattle.pv_session.specs.Keeping.{KeepsWays}
+-- The plain session that a session of the program is. The document that was opened is the one to which its ways back lead.
+use Rattle.pv_session.specs.Keeping.{KeepsWays, led_back}
 use Rattle.pv_session.specs.Sessions.{PlainSession}
 use Rattle.pv_session.specs.declared.session.Session.TheInside.{Inside}
 use Rattle.pv_tree.specs.Marks.{unmarked_doc}
-use Rattle.pv_tree.specs.PlainDocs.{plain_doc}
 
 abbrev pub plain_session : Inside → PlainSession
 plain_session s = record {
-  dtd = dtd_of s.grammar;
-  root = s.root;
-  opened = unmarked_doc (plain_doc s.opened);
+  dtd = s.marked.dtd;
+  root = s.marked.root;
+  opened = led_back s.ways_back.items (unmarked_doc s.marked.doc);
   past = s.past.items;
   undone = s.undone.items;
-  doc = unmarked_doc (plain_doc s.doc);
+  moves = s.moves;
+  doc = s.marked.doc;
 }
 
 abbrev pub Keeps : Inside → Type 0
-Keeps s = KeepsWays (plain_session s) s.ways_back.items s.left
+Keeps s = KeepsWays (plain_session s) s.ways_back.items

@@ -1,33 +1,32 @@
 //! A session on a document.
 
-ghost use Rattle.std.specs.Prelude.{◌≡◌, ◌≤◌, ◌<◌, IfOk, IsNone, MatchOption, OnOk, vec_capacity, vec_len};
+ghost use Rattle.std.specs.Prelude.{◌≡◌, ◌≤◌, ◌<◌, ◌+◌, None, IfOk, IsNone, MatchOption, OnOk, vec_capacity, vec_len};
 ghost use Rattle.std.specs.List.{AllByRecursion};
+ghost use Rattle.pv_cache.specs.Accepting.{MAX_EDITED_NODES};
+ghost use Rattle.pv_cache.specs.Rows.{AreRows, IsVerdictAt};
+ghost use Rattle.pv_cache.specs.Stamps.{stamps_of};
+ghost use Rattle.pv_cache.specs.WellMarked.{IsWellMarked};
 ghost use Rattle.pv_missing.specs.Verdicts.{HaveVerdicts};
 ghost use Rattle.pv_missing.specs.Widths.{IsListForVerdict};
 ghost use Rattle.pv_productive.specs.PlainForms.{dtd_of};
-ghost use Rattle.pv_session.specs.Accepting.{MAX_EDITED_NODES};
 ghost use Rattle.pv_session.specs.Answers.{back_answer, edit_answer};
 ghost use Rattle.pv_session.specs.Keeping.{IsSession};
-ghost use Rattle.pv_session.specs.Sessions.{begun};
+ghost use Rattle.pv_session.specs.Sessions.{begun, next_move, stamped_document};
 ghost use Rattle.pv_session.specs.Steps.{HasLeft, IsEditStep, IsRedoStep, IsUndoStep};
 ghost use Rattle.pv_tree.specs.Lists.{lists_of};
 ghost use Rattle.pv_tree.specs.Marks.{unmarked_doc};
+ghost use Rattle.pv_tree.specs.Places.{list_at};
 ghost use Rattle.pv_tree.specs.Plain.{nodes_in};
 ghost use Rattle.pv_tree.specs.PlainDocs.{plain_doc};
 
 use crate::answers::BackAnswer;
-use crate::counts::{lists_made, lists_unmade};
-use crate::making::{Edited, make_again, make_edit};
-use crate::moving_back::{Restored, take_back};
+use pv_cache::Marked;
 use pv_chars::{Bytes, NoMemory};
-use pv_dtd::laws::proper_dtd_law;
-use pv_edit::{Done, Edit, EditAnswer, Inverse};
+use pv_edit::{Done, Edit, EditAnswer, Inverse, VerdictRows};
 use pv_missing::Verdicts;
-use pv_missing::laws::documents::live_lists_law;
-use pv_missing::laws::proper::proper_doc_law;
 use pv_productive::Grammar;
 use pv_steps::Steps;
-use pv_tree::{Doc, Mark};
+use pv_tree::{Doc, Path, Verdict};
 use std::alloc::Global;
 use std::marker::Model;
 use std::sync::ledger::Ledger;
@@ -36,13 +35,9 @@ use std::sync::ledger::Ledger;
 #[derive(Drop)]
 pub struct Session {
     alloc: Global,
-    grammar: Grammar,
-    root: Bytes,
-    // The document as it was opened.
-    opened: Doc,
-    doc: Doc,
-    // How many lists of the document are Possible.
-    left: u64,
+    marked: Marked,
+    // The edits, undos and redos so far.
+    moves: u64,
     past: Vec<Edit>,
     // What undoes each edit of the past.
     ways_back: Vec<Inverse>,
@@ -65,7 +60,7 @@ impl Model for Session {
 }
 
 impl Session {
-    /// The session on a document as it was opened. The verdicts are those of its lists.
+    /// The session on a document as it was opened. The verdicts are those of its lists; the document isn't copied.
     pub fn begin(
         alloc: Global,
         grammar: Grammar,
@@ -79,18 +74,12 @@ impl Session {
         requires few { nodes_in (plain_doc doc).root ≤ MAX_EDITED_NODES }
         ensures { IfOk result (λ session. session ≡ begun (dtd_of grammar) root (unmarked_doc (plain_doc doc))) }
     {
-        live_lists_law::<Mark>();
-        proper_dtd_law(grammar.dtd());
-        proper_doc_law(&doc);
-        let opened = doc.copy(alloc)?;
-        let left = verdicts.left();
+        let marked = Marked::build(alloc, grammar, root, doc, verdicts)?;
+        marked.guarded_law();
         Ok(Session {
             alloc,
-            grammar,
-            root,
-            opened,
-            doc,
-            left,
+            marked,
+            moves: 0,
             past: Vec::new(alloc),
             ways_back: Vec::new(alloc),
             undone: Vec::new(alloc),
@@ -98,108 +87,86 @@ impl Session {
     }
 
     /// Makes an edit, where it is accepted. After a refusal the session is as it was.
+    ///
+    /// All memory is taken before the document is touched, and at most two lists are checked.
     pub fn edit<L: Ledger>(&mut self, edit: &Edit, steps: &mut Steps<L>) -> Result<Done, EditAnswer>
         ensures stepped { MatchOption (edit_answer result) (self.new ≡ self.old)
             (λ answer. IsEditStep self.old edit.now answer self.new) }
+        ensures steps { steps.new ≤ steps.old + 2 }
     {
-        let Edited {
-            doc,
-            way_back,
-            left,
-        } = make_edit(
-            self.alloc,
-            &self.grammar,
-            self.root.as_slice(),
-            &self.doc,
-            edit,
-            steps,
-        )?;
         let Ok(made) = edit.copy(self.alloc) else {
             return Err(EditAnswer::NoMemory);
         };
         if make_room(&mut self.past, &mut self.ways_back).is_err() {
             return Err(EditAnswer::NoMemory);
         }
+        let moves = next_move(self.moves);
+        let (done, way_back) = self.marked.edit(edit, moves, steps)?;
+        self.marked.guarded_law();
+        self.moves = moves;
         self.past.push_reserved(made);
         self.ways_back.push_reserved(way_back);
         self.undone.clear();
-        self.doc = doc;
-        self.left = left;
-        Ok(Done {
-            checked: lists_made(edit),
-            left,
-        })
+        Ok(done)
     }
 
-    /// Takes the last edit of the past back, and keeps it for `redo`.
+    /// Takes the last edit of the past back, and keeps it for `redo`. At most two lists are checked.
     pub fn undo<L: Ledger>(&mut self, steps: &mut Steps<L>) -> Result<Done, BackAnswer>
         ensures stepped { MatchOption (back_answer result) (self.new ≡ self.old)
             (λ answer. IsUndoStep self.old answer self.new) }
+        ensures steps { steps.new ≤ steps.old + 2 }
     {
         let Some(way_back) = self.ways_back.last() else {
             return Err(BackAnswer::NoHistory);
         };
-        let Ok(Restored { doc, left }) = take_back(
-            self.alloc,
-            &self.grammar,
-            self.root.as_slice(),
-            &self.doc,
-            way_back,
-            steps,
-        ) else {
-            return Err(BackAnswer::NoMemory);
-        };
         if self.undone.reserve(1).is_err() {
             return Err(BackAnswer::NoMemory);
         }
+        let moves = next_move(self.moves);
+        let Ok(done) = self.marked.revert(way_back, moves, steps) else {
+            return Err(BackAnswer::NoMemory);
+        };
+        self.marked.guarded_law();
         let Some(edit) = self.past.pop() else {
             unreachable!()
         };
         self.ways_back.pop();
-        let checked = lists_unmade(&edit);
+        self.moves = moves;
         self.undone.push_reserved(edit);
-        self.doc = doc;
-        self.left = left;
-        Ok(Done { checked, left })
+        Ok(done)
     }
 
-    /// Makes the last undone edit again.
+    /// Makes the last undone edit again. At most two lists are checked.
     pub fn redo<L: Ledger>(&mut self, steps: &mut Steps<L>) -> Result<Done, BackAnswer>
         ensures stepped { MatchOption (back_answer result) (self.new ≡ self.old)
             (λ answer. IsRedoStep self.old answer self.new) }
+        ensures steps { steps.new ≤ steps.old + 2 }
     {
-        let Some(edit) = self.undone.last() else {
+        if self.undone.is_empty() {
             return Err(BackAnswer::NoHistory);
-        };
-        let Ok(
-            Edited {
-                doc,
-                way_back,
-                left,
-            },
-        ) = make_again(
-            self.alloc,
-            &self.grammar,
-            self.root.as_slice(),
-            &self.doc,
-            edit,
-            steps,
-        )
-        else {
-            return Err(BackAnswer::NoMemory);
-        };
+        }
         if make_room(&mut self.past, &mut self.ways_back).is_err() {
             return Err(BackAnswer::NoMemory);
         }
+        let Some(edit) = self.undone.last() else {
+            unreachable!()
+        };
+        let moves = next_move(self.moves);
+        let (done, way_back) = match self.marked.edit(edit, moves, steps) {
+            Ok(made) => made,
+            Err(EditAnswer::NoMemory) => return Err(BackAnswer::NoMemory),
+            Err(EditAnswer::Shape(_)) => unreachable!(),
+            Err(EditAnswer::Limit) => unreachable!(),
+            Err(EditAnswer::Impossible(_)) => unreachable!(),
+        };
+        self.marked.guarded_law();
         let Some(edit) = self.undone.pop() else {
             unreachable!()
         };
-        let checked = lists_made(&edit);
+        self.moves = moves;
         self.past.push_reserved(edit);
         self.ways_back.push_reserved(way_back);
-        self.doc = doc;
-        self.left = left;
-        Ok(Done { checked, left })
+        Ok(done)
     }
 
     /// The edits since the document was opened, but for those that are undone, the oldest first.
@@ -209,33 +176,56 @@ impl Session {
         self.past.as_slice()
     }
 
-    /// The document as it is now.
+    /// The document as it is now; its marks tell the verdicts of its lists.
     pub fn doc(&self) -> &Doc
-        ensures { unmarked_doc (plain_doc result.now) ≡ self.now.doc }
+        ensures doc { stamps_of (plain_doc result.now) ≡ self.now.doc }
+        ensures marked { ∥ IsWellMarked self.now.dtd self.now.root (plain_doc result.now) ∥₁ }
     {
-        &self.doc
+        self.marked.doc()
     }
 
     /// The grammar that edits are judged by.
     pub fn grammar(&self) -> &Grammar
         ensures { dtd_of result.now ≡ self.now.dtd }
     {
-        &self.grammar
+        self.marked.grammar()
     }
 
     /// How many lists of the document are Possible.
     pub fn open_count(&self) -> u64
         ensures { HasLeft self.now result }
     {
-        self.left
+        self.marked.open_count()
+    }
+
+    /// The verdict of the list at a path; none where no list stands there.
+    pub fn verdict_at(&self, path: &Path) -> Option<Verdict>
+        ensures { MatchOption result (list_at path.now self.now.doc.root ≡ None)
+            (IsVerdictAt self.now.dtd self.now.root self.now.doc path.now) }
+    {
+        self.marked.verdict_at(path)
+    }
+
+    /// The path, the verdict and the stamp of each list, in document order.
+    pub fn verdict_rows(&self) -> Result<VerdictRows, NoMemory>
+        ensures { IfOk result (AreRows (stamped_document self.now)) }
+    {
+        self.marked.verdict_rows()
     }
 
     // What it keeps.
     pub(crate) fn kept(&self)
         ensures { IsSession self.now }
     {
-        let _doc = &self.doc;
+        let _marked = &self.marked;
     }
+}
+
+// The number of the next move.
+fn next_move(moves: u64) -> u64
+    ensures { result ≡ next_move moves }
+{
+    moves.saturating_add(1)
 }
 
 // Room for one more edit in the past.

@@ -30,26 +30,10 @@ returns g c = λ told faults.
       shelf = tells_counts tells faults c.answer_drill.result c.answer_drill.ensures;
     }
 
--- each document of the session keeps what it kept
+-- the document of the session keeps what it kept
 pub invariant_of-session-inside : goal.invariant_of-session-inside
 invariant_of-session-inside g c =
-    let doc = c.session.inside.opened in
-    record {
-      rooted = doc.rooted;
-      formed = doc.formed;
-      shallow = doc.shallow;
-      small = doc.small;
-      named = doc.named;
-      units = doc.units;
-      legal = doc.legal;
-      no_close_mark = doc.no_close_mark;
-      prolog = doc.prolog;
-      epilog = doc.epilog;
-    }
-
-pub invariant_of-session-inside-2 : goal.invariant_of-session-inside-2
-invariant_of-session-inside-2 g c =
-    let doc = c.session.inside.doc in
+    let doc = c.drop.inside.doc in
     record {
       rooted = doc.rooted;
       formed = doc.formed;

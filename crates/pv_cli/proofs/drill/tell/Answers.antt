@@ -6,7 +6,9 @@ use Rattle.pv_cli.proofs.drill.tell.Goals as goal
 pub returns : goal.returns
 returns c =
     let text : c.deref.result.now ≡ counts_text c.args.n c.args.counts c.args.left =
-    grind (arith, common_steps,
+    grind (
+      arith,
+      common_steps,
       c.deref.ensures.value,
       c.in_ok-push_count-6.ensures,
       c.in_ok-push_count-5.ensures,

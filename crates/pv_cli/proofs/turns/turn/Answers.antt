@@ -1,5 +1,5 @@
 use Rattle.std.proofs.Common.{refl}
-use Rattle.pv_script.specs.declared.commands.Command.TheVariants.{Edit, Undo, Redo, History, Show}
+use Rattle.pv_script.specs.declared.commands.Command.TheVariants.{Edit, Undo, Redo, History, Show, Verdicts}
 use Rattle.pv_script.specs.declared.replies.Reply.TheVariants.{NoCommand}
 use Rattle.pv_cli.specs.Session.{unknown, known}
 use Rattle.pv_cli.proofs.turns.turn.Goals as goal
@@ -38,3 +38,9 @@ pub returns-in_ok-other-in-Err-Unknown-clause-turned : goal.returns-in_ok-other-
 returns-in_ok-other-in-Err-Unknown-clause-turned g c =
     let none = (rw c.in-Err-Unknown.field-0-is at c.in-Err-Unknown.ensures.unknown) refl in
     (NoCommand, unknown none refl refl, c.in_ok-other-in-Err-Unknown.ensures)
+
+pub returns-in_ok-verdicts-in-Ok-Verdicts-clause-turned : goal.returns-in_ok-verdicts-in-Ok-Verdicts-clause-turned
+returns-in_ok-verdicts-in-Ok-Verdicts-clause-turned g c =
+    let by = c.in_ok-verdicts-in-Ok-Verdicts.ensures in
+    let spells = rw c.in-Ok-Verdicts.field-0-is at c.in-Ok-Verdicts.ensures.read in
+    (by.0, known Verdicts spells by.1, by.2)

@@ -1,0 +1,37 @@
+-- The rows of a document are one list.
+use Rattle.std.proofs.Common.{List, [], ap, map, refl, sym, ℕ, ◌∙◌, ◌∷◌, ◌≡◌}
+use Rattle.std.proofs.Math.Logic.{∥∥₁_elim}
+use Rattle.std.specs.Coded.{Coded-set, coded_list}
+use Rattle.pv_edit.specs.declared.answers.VerdictRow.{VerdictRow}
+use Rattle.pv_missing.specs.Verdicts.{AreVerdicts}
+use Rattle.pv_missing.proofs.VerdictLists.{one_list_of_verdicts}
+use Rattle.pv_tree.specs.Lists.{lists_of}
+use Rattle.pv_tree.specs.contracts.nodes.Verdict as verdict
+use Rattle.pv_tree.specs.declared.nodes.Verdict.{Verdict}
+use Rattle.pv_cache.specs.Rows.{AreRows, row_path, row_stamp, row_verdict}
+use Rattle.pv_cache.specs.Stamps.{StampedDoc}
+
+-- rows that tell the same, part by part
+same_rows : (rows other : List VerdictRow) → map row_path rows ≡ map row_path other → map row_verdict rows ≡ map row_verdict other → map row_stamp rows ≡ map row_stamp other → rows ≡ other
+same_rows [] [] p v s = refl
+same_rows [] (row ∷ other) p v s = absurd cc
+same_rows (row ∷ rows) [] p v s = absurd cc
+same_rows (row ∷ rows) (first ∷ other) p v s =
+    let a : row.path ≡ first.path = cc in
+    let b : row.verdict ≡ first.verdict = cc in
+    let c : row.stamp ≡ first.stamp = cc in
+    let q : map row_path rows ≡ map row_path other = cc in
+    let w : map row_verdict rows ≡ map row_verdict other = cc in
+    let t : map row_stamp rows ≡ map row_stamp other = cc in
+    let r : row ≡ first =
+    ap (λ x. record { path = x; verdict = row.verdict; stamp = row.stamp }) a
+    ∙ ap (λ x. record { path = first.path; verdict = x; stamp = row.stamp }) b
+    ∙ ap (λ x. record { path = first.path; verdict = first.verdict; stamp = x }) c in
+    ap (λ (x : VerdictRow). x ∷ rows) r ∙ ap (λ (l : List VerdictRow). first ∷ l) (same_rows rows other q w t)
+
+pub one_rows : (s : StampedDoc) (rows other : List VerdictRow) → AreRows s rows → AreRows s other → rows ≡ other
+one_rows s rows other a b =
+    let set = Coded-set (coded_list verdict.the_row.coded) (map row_verdict rows) (map row_verdict other) in
+    let same : map row_verdict rows ≡ map row_verdict other =
+    ∥∥₁_elim a.verdicts set (λ x. ∥∥₁_elim b.verdicts set (λ y. one_list_of_verdicts ℕ s.dtd s.root (lists_of s.doc) (map row_verdict rows) (map row_verdict other) x y)) in
+    same_rows rows other (a.paths ∙ sym b.paths) same (a.stamps ∙ sym b.stamps)

@@ -1,0 +1,32 @@
+use Rattle.std.proofs.Common.{◌∙◌, ap}
+use Rattle.pv_tree.specs.Plain.{without_marks}
+use Rattle.pv_tree.specs.PlainForms.{plain}
+use Rattle.pv_tree.specs.PlainDocs.{plain_doc}
+use Rattle.pv_edit.specs.Inverses.{IsKept}
+use Rattle.pv_cache.proofs.Keeping.{doc-kept}
+use Rattle.pv_cache.proofs.Laid.{laid_root}
+use Rattle.pv_cache.proofs.LaidLevels.{root_counted}
+use Rattle.pv_cache.proofs.Unmarked.{still-kept}
+use Rattle.pv_cache.proofs.laying.lay_doc.Goals as goal
+
+pub invariant_of-doc : goal.invariant_of-doc
+invariant_of-doc c =
+    let doc = c.args.doc.now in
+    let k : IsKept (plain c.lay_node.new.node) = still-kept (plain doc.root) (plain c.lay_node.new.node) (ap without_marks c.lay_node.ensures.laid ∙ laid_root c.args.verdicts.now.verdicts (plain_doc doc)) (doc-kept doc) in
+    record {
+      rooted = k.rooted;
+      formed = k.formed;
+      shallow = k.shallow;
+      small = k.small;
+      named = k.named;
+      units = k.units;
+      legal = k.legal;
+      no_close_mark = k.no_close_mark;
+      prolog = doc.prolog;
+      epilog = doc.epilog;
+    }
+
+pub mend_doc-requires-clause-counted : goal.mend_doc-requires-clause-counted
+mend_doc-requires-clause-counted c =
+    let doc = plain_doc c.args.doc.now in
+    root_counted c.args.verdicts.now.verdicts doc.root c.numbered.result (record doc { root = plain c.lay_node.new.node }) c.args.doc.now.small c.lay_node.ensures.laid

@@ -1,0 +1,41 @@
+-- Which edits are accepted.
+use Rattle.std.specs.Prelude.{◌≡◌, ◌≤◌, List, Some, length, ℕ}
+use Rattle.std.specs.List.{AllByRecursion}
+use Rattle.pv_dtd.specs.Plain.{PlainDtd}
+use Rattle.pv_edit.specs.ChangedLists.{changed_lists, makes}
+use Rattle.pv_edit.specs.Reasons.{applied, gives}
+use Rattle.pv_edit.specs.declared.edits.Edit.{Edit}
+use Rattle.pv_missing.specs.Completing.{IsPotentiallyValid}
+use Rattle.pv_missing.specs.Widths.{FitsVerdict, IsListForVerdict}
+use Rattle.pv_tree.specs.Lists.{lists_of}
+use Rattle.pv_tree.specs.Places.{list_at}
+use Rattle.pv_tree.specs.Plain.{PlainDoc, Tree, forest_of, nodes_in}
+use Rattle.pv_tree.specs.View.{view}
+use Rattle.pv_tree.specs.Words.{word_of}
+
+-- the nodes that an edited document may have below its document node
+abbrev pub MAX_EDITED_NODES : ℕ
+MAX_EDITED_NODES = 33554432
+
+-- the list at this path isn't too wide for a verdict
+abbrev pub IsNarrowAt : {M : Type 0} → PlainDtd → PlainDoc M → List ℕ → Type 0
+IsNarrowAt {M} g doc path = (kids : List (Tree M)) → list_at path doc.root ≡ Some kids →
+    FitsVerdict g (length (word_of g (forest_of kids)))
+
+-- An edited document is within the limits: it hasn't too many nodes, and none of the changed lists is too wide.
+pub record IsWithinLimits {M : Type 0} (g : PlainDtd) (doc : PlainDoc M) (changed : List (List ℕ)) : Type 0 where
+  pub few : nodes_in doc.root ≤ MAX_EDITED_NODES
+  pub narrow : AllByRecursion (IsNarrowAt g doc) changed
+
+-- An edit is accepted: it can be made, the edited document is within the limits, and inserting elements can make it valid, in whichever
+-- way (`∥ ∥₁` says that there is one, and not which). New elements are marked with `blank`.
+pub record IsAccepted {M : Type 0} (blank : M) (g : PlainDtd) (root : List ℕ) (doc : PlainDoc M) (edit : Edit) (edited : PlainDoc M) : Type 0 where
+  pub is_edited : applied blank doc edit ≡ gives edited
+  pub within : IsWithinLimits g edited (changed_lists (makes edit))
+  pub possible : ∥ IsPotentiallyValid g root (view edited.root) ∥₁
+
+-- inserting elements can make a document valid, no list of it is too wide for a verdict, and it hasn't too many nodes
+pub record IsGuarded {M : Type 0} (g : PlainDtd) (root : List ℕ) (doc : PlainDoc M) : Type 0 where
+  pub possible : ∥ IsPotentiallyValid g root (view doc.root) ∥₁
+  pub narrow : AllByRecursion (IsListForVerdict g) (lists_of doc)
+  pub few : nodes_in doc.root ≤ MAX_EDITED_NODES
