@@ -94,6 +94,11 @@ expect "its status" 8 "" bash -c 'script 268435457 | timeout 60 "$0" session a.d
 # Drills.
 expect "a drill" 0 "drill 3 lines 7 ok 4 refused 3 open 1 checked 7$lf" "$pvtag" drill 3
 expect "a larger drill" 0 "drill 100 lines 233 ok 133 refused 100 open 33 checked 233$lf" "$pvtag" drill 100
+expect "the largest drill" 0 "drill 20000 lines 46666 ok 26666 refused 20000 open 6666 checked 46666$lf" timeout 60 "$pvtag" drill 20000
+seq 20000 | awk 'BEGIN { printf "<doc><head>drill</head>" } { printf "<sec>t%d</sec>", $1 } END { printf "</doc>" }' >large.xml
+seq 20000 | awk '{ printf "wrap 0.%d 0 1 br\nwrap 0.%d 0 1 p\n", $1, $1; if ($1 % 3 == 0) print "undo" }' >large.txt
+expect "its lines in a session" 0 "46666 no impossible 0.1.0 ok 2 19999 ok 2 6666$lf" timeout 60 bash -c '"$0" session a.dtd doc large.xml <large.txt |
+    awk "NR == 1 || NR == 2 { first = first \" \" \$0 } { last = \$0 } END { print NR first, last }"' "$pvtag"
 for size in 0 20001 007 +3 x; do expect "a drill of $size" 2 "usage$lf" "$pvtag" drill "$size"; done
 
 # DTDs at their limits and one past them, and bytes that are no characters. Each is read by `valid`, on a document that it declares.
@@ -214,7 +219,7 @@ forms=('wrap' 'wrap  0 0 1 p' 'wrap 0  0 1 p' 'wrap 0 0  1 p' ' wrap 0 0 1 p' 'w
     'insert 00 p' 'unwrap' 'unwrap ' 'unwrap  0' 'unwrap 0 ' 'unwrap 0 0' 'unwrap0' 'rename' 'rename  0 p' 'rename0 p' 'split' 'split 0.0' 'split  0.0 2'
     'split 0.0  2' 'split 0.0 2 ' 'split 0.0 2 2' 'join' 'join ' 'join  0.0' 'join 0.0 ' 'join0.0' 'text' 'text ' 'text  0.0 x' 'addtext' 'addtext  0 0 x'
     'addtext 0  0 x' 'deltext' 'deltext ' 'deltext  0.0' 'deltext 0.0 ' 'undo ' ' undo' 'undo 1' 'redo ' 'redo 1' 'history ' 'history 1' 'show ' 'show 1'
-    'quit ' ' quit' 'quit 1' 'Quit' 'need' 'complete' 'verdicts' '')
+    'quit ' ' quit' 'quit 1' 'Quit' 'need' 'complete' 'verdicts ' '')
 session "lines that are no commands" "$(printf 'no command\n%.0s' "${forms[@]}")" a.dtd doc "$hello" "${forms[@]}"
 session "1,055 sections" 'ok 2 0' a.dtd doc "<doc><head/>$(repeat 1055 '<sec/>')</doc>" 'insert 0 1 sec'
 session "512 elements in one another" 'no shape deep' a.dtd em "$(repeat 512 '<em>')$(repeat 512 '</em>')" 'wrap . 0 1 em'

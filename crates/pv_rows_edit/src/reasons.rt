@@ -30,9 +30,10 @@ fn check(alloc: Global, doc: &Doc, rows: &[Row]) -> Result<(), Fail> {
     Ok(())
 }
 
-static ELEMENTS: [Row; 31] = [
+static ELEMENTS: [Row; 34] = [
     ("wrap 0 1 2 p", None),
     ("wrap 0 2 2 p", None),
+    ("wrap 0.9 0 0 p", Some(Reason::NoNode)),
     ("wrap 0.9 2 1 ", Some(Reason::NoNode)),
     ("wrap 0.1.0.1 2 1 ", Some(Reason::NotElement)),
     ("wrap 0 2 5 ", Some(Reason::Range)),
@@ -42,6 +43,7 @@ static ELEMENTS: [Row; 31] = [
     ("insert 0 0 名", None),
     ("insert 9 3 ", Some(Reason::NoNode)),
     ("insert 0.1.0.1 3 ", Some(Reason::NotElement)),
+    ("insert 0 3 p", Some(Reason::Range)),
     ("insert . 2 ", Some(Reason::Range)),
     ("insert . 0 ", Some(Reason::BadName)),
     ("insert . 0 doc", Some(Reason::RootShape)),
@@ -52,6 +54,7 @@ static ELEMENTS: [Row; 31] = [
     ("unwrap 0", Some(Reason::RootShape)),
     ("unwrap 0.1.0.0", Some(Reason::CloseMark)),
     ("rename 0.1 λόγος", None),
+    ("rename 1 p", Some(Reason::NoNode)),
     ("rename 1 ", Some(Reason::NoNode)),
     ("rename . ", Some(Reason::NotElement)),
     ("rename 0.1.0.0.0 ", Some(Reason::NotElement)),
@@ -71,7 +74,7 @@ fn reasons_at_elements(rt: HostRuntime) -> Result<(), Fail> {
     check(alloc, &document_of(alloc, text, "doc")?, &ELEMENTS)
 }
 
-static TEXTS: [Row; 29] = [
+static TEXTS: [Row; 35] = [
     ("join 0.0", None),
     ("join 0.4", Some(Reason::NoNode)),
     ("join 0.3", Some(Reason::NotText)),
@@ -79,7 +82,9 @@ static TEXTS: [Row; 29] = [
     ("join .", Some(Reason::NotText)),
     ("text 0.1 &#10;", None),
     ("text 0.1 &gt;", None),
+    ("text 0.4 a", Some(Reason::NoNode)),
     ("text 0.4 ", Some(Reason::NoNode)),
+    ("text . a", Some(Reason::NotText)),
     ("text 0.3 ", Some(Reason::NotText)),
     ("text 0.1 ", Some(Reason::BadText)),
     ("text 0.1 a\nb", Some(Reason::BadText)),
@@ -90,9 +95,12 @@ static TEXTS: [Row; 29] = [
     ("text 0.1 >\n", Some(Reason::BadText)),
     ("text 0.1 ]", Some(Reason::CloseMark)),
     ("addtext 0 4 é", None),
+    ("addtext 1 0 a", Some(Reason::NoNode)),
     ("addtext 1 9 ", Some(Reason::NoNode)),
     ("addtext 0.0 9 ", Some(Reason::NotElement)),
+    ("addtext 0 5 a", Some(Reason::Range)),
     ("addtext 0 5 ", Some(Reason::Range)),
+    ("addtext . 2 a", Some(Reason::Range)),
     ("addtext . 0 ", Some(Reason::BadText)),
     ("addtext 0 1 >\n", Some(Reason::BadText)),
     ("addtext . 0 a", Some(Reason::RootShape)),
@@ -100,6 +108,7 @@ static TEXTS: [Row; 29] = [
     ("deltext 0.0", None),
     ("deltext 0.4", Some(Reason::NoNode)),
     ("deltext 0.3", Some(Reason::NotText)),
+    ("deltext .", Some(Reason::NotText)),
     ("deltext 0.1", Some(Reason::CloseMark)),
 ];
 
