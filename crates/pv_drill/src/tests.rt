@@ -11,8 +11,17 @@ fn two_sections(rt: HostRuntime) -> Result<(), Fail> {
 
 #[test]
 fn lines(rt: HostRuntime) -> Result<(), Fail> {
-    assert_eq!(rt; drill_line(rt.alloc(), 12, 0)?.as_slice(), b"wrap 0.12 0 1 br".as_slice());
-    assert_eq!(rt; drill_line(rt.alloc(), 12, 1)?.as_slice(), b"wrap 0.12 0 1 p".as_slice());
-    assert_eq!(rt; drill_line(rt.alloc(), 12, 2)?.as_slice(), b"undo".as_slice());
+    assert_eq!(rt;
+        drill_line(rt.alloc(), 12, 0)?.as_slice(),
+        b"wrap 0.12 0 1 br".as_slice()
+    );
+    assert_eq!(rt;
+        drill_line(rt.alloc(), 12, 1)?.as_slice(),
+        b"wrap 0.12 0 1 p".as_slice()
+    );
+    assert_eq!(rt;
+        drill_line(rt.alloc(), 12, 2)?.as_slice(),
+        b"undo".as_slice()
+    );
     Ok(())
 }

@@ -9,9 +9,10 @@ pub loop-k-preserved : goal.loop-k-preserved
 loop-k-preserved c =
     let k = c.loop-k.k in
     let next : k + 1 ≡ suc k = omega arith in
-    let next_back : suc k ≡ k + 1 = omega arith in
-    (omega (arith, c.loop-k-test.true),
+    let next_back : suc k ≡ k + 1 = omega arith in (
+      omega (arith, c.loop-k-test.true),
       c.in_ok-push_section.ensures ∙ ap (λ h. h ++ section_text (k + 1)) c.loop-k.invariant.1
-      ∙ append_assoc (codes "<doc><head>drill</head>") (sections k) (section_text (k + 1))
-      ∙ ap (λ n. codes "<doc><head>drill</head>" ++ (sections k ++ section_text n)) next
-      ∙ ap (λ n. codes "<doc><head>drill</head>" ++ sections n) next_back)
+          ∙ append_assoc (codes "<doc><head>drill</head>") (sections k) (section_text (k + 1))
+          ∙ ap (λ n. codes "<doc><head>drill</head>" ++ (sections k ++ section_text n)) next
+          ∙ ap (λ n. codes "<doc><head>drill</head>" ++ sections n) next_back,
+    )
