@@ -22,7 +22,7 @@ use Rattle.pv_tree.specs.declared.nodes.Verdict.{Verdict}
 use Rattle.pv_cache.specs.Changed.{AreJudged, IsInnerJudged, owner_at}
 use Rattle.pv_cache.specs.Laws.{MarksTell, MendedIsMarked}
 use Rattle.pv_cache.specs.Mending.{mended_below, mended_doc, mended_kids, mended_owner, mended_root}
-use Rattle.pv_cache.specs.declared.mending.Inner.{Inner}
+use Rattle.pv_cache.specs.declared.mending.InnerVerdict.{InnerVerdict}
 use Rattle.pv_cache.specs.WellMarked.{EachListIn, IsWellMarked, TellsList}
 use Rattle.pv_cache.proofs.Around.{ShowsSame, ShowSame, below-shows, changed-around, around-node, below-head, mended-around, tells-again, tells-same}
 use Rattle.pv_cache.proofs.Marking.{node-has}
@@ -43,7 +43,7 @@ only root [] n = absurd (omega arith)
 only root (t ∷ []) n = refl
 only root (t ∷ u ∷ ts) n = absurd (omega arith)
 
-module _ (g : PlainDtd) (root : List ℕ) (doc : PlainDoc Mark) (w : IsWellMarked g root doc) (c : Change Mark) (z : HaveNoKids c.filling) (v : Verdict) (inner : Option Inner) (stamp : ℕ) where
+module _ (g : PlainDtd) (root : List ℕ) (doc : PlainDoc Mark) (w : IsWellMarked g root doc) (c : Change Mark) (z : HaveNoKids c.filling) (v : Verdict) (inner : Option InnerVerdict) (stamp : ℕ) where
   below-marked : (path : List ℕ) (ts : List (Tree Mark)) → Made doc.mark (zero ∷ path) c doc.root ts → AreJudged g root (owner_at (zero ∷ path) doc.root) ts c v inner
       → IsWellMarked g root (mended_doc (zero ∷ path) v inner stamp (record doc { root = root_after (zero ∷ path) c doc.root }))
   below-marked path ts d j =
@@ -66,11 +66,11 @@ module _ (g : PlainDtd) (root : List ℕ) (doc : PlainDoc Mark) (w : IsWellMarke
         elements = mended-around g root (mended_owner v inner stamp) a refl m;
       }
 
-  top-list : (t : Tree Mark) (list : List (Tree Mark)) → list ≡ t ∷ [] → (i : Option Inner) → ((k : Inner) → i ≡ Some k → k.place ≡ 0) → mended_kids i stamp (forest_of list) ≡ tree (mended_root i stamp t) no_trees
+  top-list : (t : Tree Mark) (list : List (Tree Mark)) → list ≡ t ∷ [] → (i : Option InnerVerdict) → ((k : InnerVerdict) → i ≡ Some k → k.place ≡ 0) → mended_kids i stamp (forest_of list) ≡ tree (mended_root i stamp t) no_trees
   top-list t list e None p = ap forest_of e
   top-list t list e (Some k) p = ap (λ l. mended_kids (Some k) stamp (forest_of l)) e ∙ ap (λ n. mended_kids (Some (record k { place = n })) stamp (tree t no_trees)) (p k refl)
 
-  top-place : (ts : List (Tree Mark)) → c.from ≤ c.to → c.to ≤ length ts → length (list_after c ts) ≡ 1 → (i : Option Inner) → IsInnerJudged g root c (in_place_of c.filling (between c.from c.to ts)) i → (k : Inner) → i ≡ Some k → k.place ≡ 0
+  top-place : (ts : List (Tree Mark)) → c.from ≤ c.to → c.to ≤ length ts → length (list_after c ts) ≡ 1 → (i : Option InnerVerdict) → IsInnerJudged g root c (in_place_of c.filling (between c.from c.to ts)) i → (k : InnerVerdict) → i ≡ Some k → k.place ≡ 0
   top-place ts h l n None j k e = absurd cc
   top-place ts h l n (Some i) j k e =
       let b = j.2 in
@@ -81,7 +81,7 @@ module _ (g : PlainDtd) (root : List ℕ) (doc : PlainDoc Mark) (w : IsWellMarke
       let p : i.place ≡ c.from = j.1 in
       let s : i ≡ k = cc in
       let q : i.place ≡ 0 = omega arith in
-      ap (λ (m : Inner). m.place) (sym s) ∙ q
+      ap (λ (m : InnerVerdict). m.place) (sym s) ∙ q
 
   top-marked : (ts : List (Tree Mark)) → Made doc.mark [] c doc.root ts → AreJudged g root the_document ts c v inner → IsWellMarked g root (mended_doc [] v inner stamp (record doc { root = root_after [] c doc.root }))
   top-marked ts d j =
@@ -108,7 +108,7 @@ bare-kids (named name) b = tt
 owner-list : {M : Type 0} {m : M} {list : List ℕ} {root : Tree M} {ts : List (Tree M)} {c : Change M} → Made m list c root ts → kids_at list root ≡ ts
 owner-list d = owner-kids d.owner
 
-after-marked : (g : PlainDtd) (root : List ℕ) (doc : PlainDoc Mark) (c : Change Mark) (v : Verdict) (i : Option Inner) (stamp : ℕ) → IsWellMarked g root doc → BringsBare c.filling → (list : List ℕ) (ts : List (Tree Mark)) → Made doc.mark list c doc.root ts →
+after-marked : (g : PlainDtd) (root : List ℕ) (doc : PlainDoc Mark) (c : Change Mark) (v : Verdict) (i : Option InnerVerdict) (stamp : ℕ) → IsWellMarked g root doc → BringsBare c.filling → (list : List ℕ) (ts : List (Tree Mark)) → Made doc.mark list c doc.root ts →
     AreJudged g root (owner_at list doc.root) (kids_at list doc.root) c v i → IsWellMarked g root (mended_doc list v i stamp (record doc { root = root_after list c doc.root }))
 after-marked g root doc c v i stamp w b [] ts d j = top-marked g root doc w c (bare-kids c.filling b) v i stamp ts d (rw (owner-list d) at j)
 after-marked g root doc c v i stamp w b (zero ∷ path) ts d j = below-marked g root doc w c (bare-kids c.filling b) v i stamp path ts d (rw (owner-list d) at j)

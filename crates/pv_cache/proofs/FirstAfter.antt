@@ -65,7 +65,7 @@ module _ (g : PlainDtd) (root : List ℕ) (doc : PlainDoc Mark) (w : IsWellMarke
         let told = tells-same g root the_document (tree doc.root no_trees) (tree old no_trees) doc.mark same w.document in
         let top : Listed Mark = record { path = []; owner = the_document; kids = tree old no_trees } in
         let p = subst (λ (u : Tree Mark). Parted g root (lists_at (zero ∷ []) old) (lists_at (zero ∷ path) u)) is-now (around-parted g root (zero ∷ []) a) in
-        more-before g root (top ∷ []) (lists_at (zero ∷ []) old) (lists_at (zero ∷ path) owner-now) (live_of g root top doc.mark.verdict told.bearable told.judged, tt) p
+        more-before g root (top ∷ []) (lists_at (zero ∷ []) old) (lists_at (zero ∷ path) owner-now) (live_of g root top doc.mark.verdict told.live told.judged, tt) p
 
     own-kids : EachListIn (TellsList g root) (forest_of ts)
     own-kids =

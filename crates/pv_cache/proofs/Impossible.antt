@@ -51,7 +51,7 @@ module _ (g : PlainDtd) (root : List ℕ) where
   pub around-parted : (pre : List ℕ) {path : List ℕ} {t u : Tree Mark} → Around g root path t u → Parted g root (lists_at pre t) (lists_at (pre ++ path) u)
   around-parted pre (right-here {t = t}) = subst (λ p. Parted g root (lists_at pre t) (lists_at p t)) (sym (append-nil pre)) (nothing-before (lists_at pre t))
   around-parted pre (further {i = i} {path = path} {x = x} {kids = kids} {m = m} {k = k} {u = u} h b a) =
-      let l = live_of g root (record { path = pre; owner = an_element x; kids = kids }) m.verdict h.bearable h.judged in
+      let l = live_of g root (record { path = pre; owner = an_element x; kids = kids }) m.verdict h.live h.judged in
       let z : 0 + i ≡ i = omega arith in
       let p = around-parted (pre ++ i ∷ []) a in
       let q = subst (λ p. Parted g root (lists_at (pre ++ i ∷ []) k) (lists_at p u)) (append_assoc pre (i ∷ []) path) p in

@@ -11,7 +11,7 @@ use Rattle.pv_tree.specs.Plain.{Forest, PlainDoc, Tree, cdata_node, element, map
 use Rattle.pv_tree.proofs.Every.{all_left, all_right}
 use Rattle.pv_tree.specs.declared.nodes.Mark.{Mark}
 use Rattle.pv_tree.specs.declared.nodes.Verdict.{Verdict}
-use Rattle.pv_cache.specs.Changed.{IsBearable}
+use Rattle.pv_cache.specs.Changed.{IsAcceptable}
 use Rattle.pv_cache.specs.Laying.{laid, laid_all, laid_doc, lists_in, lists_in_all, numbered}
 use Rattle.pv_cache.specs.Stamps.{doc_as, stamps_of}
 use Rattle.pv_cache.specs.WellMarked.{EachList, EachListIn, IsWellMarked, TellsList}
@@ -38,9 +38,9 @@ first_from (w ∷ vs) rest zero v e = (cc, cc)
 first_from (w ∷ vs) rest (suc at) v e = first_from vs rest at v e
 
 module _ (g : PlainDtd) (root : List ℕ) (vs : List Verdict) where
-  bearable : (owner : Owner) (kids : Forest Mark) (v : Verdict) → IsVerdict g root (record { path = []; owner = owner; kids = kids }) v → IsLive g root (record { path = []; owner = owner; kids = kids }) →
-      IsListForVerdict g (record { path = []; owner = owner; kids = kids }) → IsBearable g root owner kids v
-  bearable owner kids v j l n = record { judged = j; bearable = λ e. (subst (IsVerdict g root (record { path = []; owner = owner; kids = kids })) e j) l; narrow = n }
+  live : (owner : Owner) (kids : Forest Mark) (v : Verdict) → IsVerdict g root (record { path = []; owner = owner; kids = kids }) v → IsLive g root (record { path = []; owner = owner; kids = kids }) →
+      IsListForVerdict g (record { path = []; owner = owner; kids = kids }) → IsAcceptable g root owner kids v
+  live owner kids v j l n = record { judged = j; live = λ e. (subst (IsVerdict g root (record { path = []; owner = owner; kids = kids })) e j) l; narrow = n }
 
   -- what is left of the verdicts behind a tree
   abbrev Behind : List (Listed Mark) → ℕ → Type 0
@@ -52,7 +52,7 @@ module _ (g : PlainDtd) (root : List ℕ) (vs : List Verdict) where
     laid_marked path (element x a e ks m) more at (v, rest, is, j, others) l n =
         let f = first_from vs rest at v is in
         let k = all_laid_marked path 0 ks more (suc at) (subst (AreVerdicts g root (lists_from path 0 ks ++ more)) (sym f.1) others) l.1 n.1 in
-        let b : IsBearable g root (an_element x) ks (numbered vs at) = bearable (an_element x) ks (numbered vs at) (subst (IsVerdict g root (record { path = []; owner = an_element x; kids = ks })) (sym f.0) j) l.0 n.0 in
+        let b : IsAcceptable g root (an_element x) ks (numbered vs at) = live (an_element x) ks (numbered vs at) (subst (IsVerdict g root (record { path = []; owner = an_element x; kids = ks })) (sym f.0) j) l.0 n.0 in
         let number : suc at + lists_in_all ks ≡ at + lists_in (element x a e ks m) = omega arith in
         ((fresh-tells g root (an_element x) ks (laid_all vs (suc at) ks) (numbered vs at) 0 (laid_heads vs (suc at) ks) b, k.0), subst (Behind more) number k.1)
     laid_marked path (text_node us) more at h l n = (tt, let number : at ≡ at + 0 = omega arith in subst (Behind more) number h)
@@ -78,7 +78,7 @@ module _ (g : PlainDtd) (root : List ℕ) (vs : List Verdict) where
       let h : Behind (at_root ++ []) 1 = subst (AreVerdicts g root (at_root ++ [])) (sym f.1) (subst (λ ls. AreVerdicts g root ls rest) (sym (append-nil at_root)) others) in
       let k = laid_marked (0 ∷ []) doc.root [] 1 h l.1 n.1 in
       let kids = tree doc.root no_trees in
-      let b : IsBearable g root the_document kids (numbered vs 0) = bearable the_document kids (numbered vs 0) (subst (IsVerdict g root (record { path = []; owner = the_document; kids = kids })) (sym f.0) j) l.0 n.0 in
+      let b : IsAcceptable g root the_document kids (numbered vs 0) = live the_document kids (numbered vs 0) (subst (IsVerdict g root (record { path = []; owner = the_document; kids = kids })) (sym f.0) j) l.0 n.0 in
       record { document = fresh-tells g root the_document kids (tree (laid vs 1 doc.root) no_trees) (numbered vs 0) 0 (ap (λ h. h ∷ []) (laid_head vs 1 doc.root)) b; elements = k.0 }
 
 -- ---- it is the same document, with stamps of 0

@@ -5,11 +5,10 @@ pub mod Owning
 pub mod Docs
 pub mod Levels
 pub mod Unmarked
-pub mod Keeping
 pub mod Joining
 pub mod Impossible
 pub mod FirstAfter
-pub mod Borne
+pub mod FoundLive
 pub mod Tasks
 pub mod Ready
 pub mod OtherMarks

@@ -14,9 +14,9 @@ use Rattle.pv_tree.specs.Places.{kids_of}
 use Rattle.pv_tree.specs.Plain.{Ending, Forest, Tree, cdata_node, element, forest_of, is_element, misc_node, no_trees, text_node, tree, trees_of}
 use Rattle.pv_tree.specs.declared.nodes.Mark.{Mark}
 use Rattle.pv_tree.specs.declared.nodes.Verdict.{Verdict}
-use Rattle.pv_cache.specs.Changed.{AreJudged, IsBearable, IsInnerJudged, IsOneBearable}
+use Rattle.pv_cache.specs.Changed.{AreJudged, IsAcceptable, IsInnerJudged, IsOneAcceptable}
 use Rattle.pv_cache.specs.Mending.{fresh_mark, mended, mended_kids, mended_owner}
-use Rattle.pv_cache.specs.declared.mending.Inner.{Inner}
+use Rattle.pv_cache.specs.declared.mending.InnerVerdict.{InnerVerdict}
 use Rattle.pv_cache.specs.WellMarked.{EachList, EachListIn, TellsList}
 use Rattle.pv_cache.proofs.Marking.{all-joined, all-spliced, all-front, all-between, all-back}
 
@@ -31,7 +31,7 @@ mended-heads v stamp i no_trees = refl
 mended-heads v stamp zero (tree t rest) = ap (λ h. h ∷ heads_of rest) (mended-head v stamp t)
 mended-heads v stamp (suc i) (tree t rest) = ap (λ l. head_of t ∷ l) (mended-heads v stamp i rest)
 
-pub kids-heads : (inner : Option Inner) (stamp : ℕ) (kids : Forest Mark) → heads_of (mended_kids inner stamp kids) ≡ heads_of kids
+pub kids-heads : (inner : Option InnerVerdict) (stamp : ℕ) (kids : Forest Mark) → heads_of (mended_kids inner stamp kids) ≡ heads_of kids
 kids-heads None stamp kids = refl
 kids-heads (Some i) stamp kids = mended-heads i.verdict stamp i.place kids
 
@@ -42,10 +42,10 @@ among f (x ∷ xs) ys n = ap (tree x) (among f xs ys n)
 
 module _ (g : PlainDtd) (root : List ℕ) where
   -- the mark of a list that was judged
-  pub fresh-tells : (owner : Owner) (kids kids' : Forest Mark) (v : Verdict) (stamp : ℕ) → heads_of kids' ≡ heads_of kids → IsBearable g root owner kids v → TellsList g root owner kids' (fresh_mark owner kids' v stamp)
+  pub fresh-tells : (owner : Owner) (kids kids' : Forest Mark) (v : Verdict) (stamp : ℕ) → heads_of kids' ≡ heads_of kids → IsAcceptable g root owner kids v → TellsList g root owner kids' (fresh_mark owner kids' v stamp)
   fresh-tells owner kids kids' v stamp e b = record {
     judged = (verdict_by_heads Mark Mark g root (record { path = []; owner = owner; kids = kids }) (record { path = []; owner = owner; kids = kids' }) v refl (sym e)).0 b.judged;
-    bearable = b.bearable;
+    live = b.live;
     narrow = rw (same_word g kids' kids e) b.narrow;
     left = refl;
     nodes = refl;
@@ -97,13 +97,13 @@ module _ (g : PlainDtd) (root : List ℕ) where
   came-kids (named name) [] n h z e w = absurd cc
   came-kids (named name) (t ∷ old) n h z e w = let s : with_name name t ≡ n = cc in renamed-kids name t n s w.0
 
-  came-marked : (f : Filling Mark) (old : List (Tree Mark)) (stamp : ℕ) (v : Verdict) → brings_element f ≡ true → HaveNoKids f → (b : IsOneBearable g root (in_place_of f old) v) → EachListIn (TellsList g root) (forest_of old) →
+  came-marked : (f : Filling Mark) (old : List (Tree Mark)) (stamp : ℕ) (v : Verdict) → brings_element f ≡ true → HaveNoKids f → (b : IsOneAcceptable g root (in_place_of f old) v) → EachListIn (TellsList g root) (forest_of old) →
       EachList (TellsList g root) (mended v stamp (element b.name b.attrs b.ending b.kids b.mark))
   came-marked f old stamp v h z b w =
       (fresh-tells (an_element b.name) b.kids b.kids v stamp refl b.list, rw (← forest-trees b.kids) (came-kids f old (element b.name b.attrs b.ending b.kids b.mark) h z b.is_one w))
 
   -- the list after the change, mended
-  pub list-marked : (c : Change Mark) (ts : List (Tree Mark)) (inner2 : Option Inner) (stamp : ℕ) → c.from ≤ c.to → c.to ≤ length ts → HaveNoKids c.filling → IsInnerJudged g root c (in_place_of c.filling (between c.from c.to ts)) inner2 →
+  pub list-marked : (c : Change Mark) (ts : List (Tree Mark)) (inner2 : Option InnerVerdict) (stamp : ℕ) → c.from ≤ c.to → c.to ≤ length ts → HaveNoKids c.filling → IsInnerJudged g root c (in_place_of c.filling (between c.from c.to ts)) inner2 →
       EachListIn (TellsList g root) (forest_of ts) → EachListIn (TellsList g root) (mended_kids inner2 stamp (forest_of (list_after c ts)))
   list-marked c ts None stamp h l z j w = all-spliced (TellsList g root) ts (in_place_of c.filling (between c.from c.to ts)) c.from c.to h w (none-came c.filling (between c.from c.to ts) j (all-between (TellsList g root) ts c.from c.to h w))
   list-marked c ts (Some i) stamp h l z j w =
@@ -119,7 +119,7 @@ module _ (g : PlainDtd) (root : List ℕ) where
       subst (EachListIn (TellsList g root)) (sym is) (all-joined (TellsList g root) (take c.from ts) (mended i.verdict stamp n ∷ drop c.to ts) (all-front (TellsList g root) ts c.from c.to h w) (m, all-back (TellsList g root) ts c.from c.to h w))
 
   -- an element whose list is changed, mended
-  pub owner-marked : (c : Change Mark) (x attrs : List ℕ) (e : Ending) (kids : Forest Mark) (m : Mark) (v : Verdict) (i : Option Inner) (stamp : ℕ) → c.from ≤ c.to → c.to ≤ length (trees_of kids) → HaveNoKids c.filling →
+  pub owner-marked : (c : Change Mark) (x attrs : List ℕ) (e : Ending) (kids : Forest Mark) (m : Mark) (v : Verdict) (i : Option InnerVerdict) (stamp : ℕ) → c.from ≤ c.to → c.to ≤ length (trees_of kids) → HaveNoKids c.filling →
       AreJudged g root (an_element x) (trees_of kids) c v i → EachListIn (TellsList g root) kids → EachList (TellsList g root) (mended_owner v i stamp (owner_after c (element x attrs e kids m)))
   owner-marked c x attrs e kids m v i stamp h l z j w = (
     fresh-tells (an_element x) (forest_of (list_after c (trees_of kids))) (mended_kids i stamp (forest_of (list_after c (trees_of kids)))) v stamp (kids-heads i stamp (forest_of (list_after c (trees_of kids)))) j.outer,

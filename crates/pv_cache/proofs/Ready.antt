@@ -25,7 +25,7 @@ use Rattle.pv_tree.specs.declared.nodes.Verdict.{Verdict}
 use Rattle.pv_cache.specs.Changed.{AreJudged, IsInnerJudged, owner_at}
 use Rattle.pv_cache.specs.Mending.{CanMend, CanMendDoc, HasElement, IsDocCounted, mended_doc}
 use Rattle.pv_cache.specs.WellMarked.{IsWellMarked, told_left, told_left_in, told_nodes, told_nodes_in}
-use Rattle.pv_cache.specs.declared.mending.Inner.{Inner}
+use Rattle.pv_cache.specs.declared.mending.InnerVerdict.{InnerVerdict}
 use Rattle.pv_cache.proofs.Around.{Around, below-shows, beside-kid, changed-around, further, right-here}
 use Rattle.pv_cache.proofs.Docs.{in-root, mended-marked, owner-shows}
 use Rattle.pv_cache.proofs.Telling.{doc-nodes, left-within, nodes-told, own-small}
@@ -42,21 +42,21 @@ some-prop P p (Some x) = p x
 element-prop : (t : Tree Mark) → IsProp (IsTrue (is_element t))
 element-prop t = Bool-set (is_element t) true
 
-inner-prop : (inner : Option Inner) (t : Tree Mark) → IsProp (IfSome inner (λ i. HasElement (kids_of t) i.place))
+inner-prop : (inner : Option InnerVerdict) (t : Tree Mark) → IsProp (IfSome inner (λ i. HasElement (kids_of t) i.place))
 inner-prop None t = Unit-prop
 inner-prop (Some i) t = some-prop (λ k. IsTrue (is_element k)) element-prop (slice_get (kids_of t) i.place)
 
 flat-prop : {A B C : Type 0} → IsProp A → IsProp B → IsProp C → IsProp (A × B × C)
 flat-prop {A} {B} {C} p q r = λ x y. ap (λ (z : A). (z, x.1, x.2)) (p x.0 y.0) ∙ ap (λ (z : B). (y.0, z, x.2)) (q x.1 y.1) ∙ ap (λ (z : C). (y.0, y.1, z)) (r x.2 y.2)
 
-can-prop : (inner : Option Inner) (path : List ℕ) (t : Tree Mark) → IsProp (CanMend inner path t)
+can-prop : (inner : Option InnerVerdict) (path : List ℕ) (t : Tree Mark) → IsProp (CanMend inner path t)
 can-prop inner [] t = ×_prop (element-prop t) (inner-prop inner t)
 can-prop inner (i ∷ path) (element x a e kids m) = flat-prop (le_prop {n = told_left_in kids} {m = m.left}) (le_prop {n = told_nodes_in kids} {m = m.nodes}) (some-prop (CanMend inner path) (can-prop inner path) (slice_get (trees_of kids) i))
 can-prop inner (i ∷ path) (text_node us) = no-prop
 can-prop inner (i ∷ path) (cdata_node b) = no-prop
 can-prop inner (i ∷ path) (misc_node b) = no-prop
 
-doc-prop : (inner : Option Inner) (path : List ℕ) (doc : PlainDoc Mark) → IsProp (CanMendDoc inner path doc)
+doc-prop : (inner : Option InnerVerdict) (path : List ℕ) (doc : PlainDoc Mark) → IsProp (CanMendDoc inner path doc)
 doc-prop inner [] doc = Unit-prop
 doc-prop inner (i ∷ path) doc = flat-prop (le_prop {n = told_left doc.root} {m = doc.mark.left}) (le_prop {n = told_nodes doc.root} {m = doc.mark.nodes}) (can-prop inner path doc.root)
 
@@ -65,14 +65,14 @@ get-middle [] ys n = refl
 get-middle (x ∷ xs) ys n = get-middle xs ys n
 
 module _ (g : PlainDtd) (root : List ℕ) where
-  around-can : (inner : Option Inner) {path : List ℕ} {t u : Tree Mark} → Around g root path t u → CanMend inner [] u → CanMend inner path t
+  around-can : (inner : Option InnerVerdict) {path : List ℕ} {t u : Tree Mark} → Around g root path t u → CanMend inner [] u → CanMend inner path t
   around-can inner right-here c = c
   around-can inner (further {i = i} {path = path} {kids = kids} {m = m} h b a) c =
       let l = h.left in
       let n = h.nodes in
       (omega arith, omega arith, subst (λ (o : Option (Tree Mark)). IsSomeAnd o (CanMend inner path)) (sym (at_kid (beside-kid g root b))) (around-can inner a c))
 
-  inner-stands : (c : Change Mark) (ts : List (Tree Mark)) (inner : Option Inner) → c.from ≤ c.to → c.to ≤ length ts → IsInnerJudged g root c (in_place_of c.filling (between c.from c.to ts)) inner → IfSome inner (λ i. HasElement (list_after c ts) i.place)
+  inner-stands : (c : Change Mark) (ts : List (Tree Mark)) (inner : Option InnerVerdict) → c.from ≤ c.to → c.to ≤ length ts → IsInnerJudged g root c (in_place_of c.filling (between c.from c.to ts)) inner → IfSome inner (λ i. HasElement (list_after c ts) i.place)
   inner-stands c ts None h w j = tt
   inner-stands c ts (Some i) h w j =
       let b = j.2 in
@@ -82,7 +82,7 @@ module _ (g : PlainDtd) (root : List ℕ) where
       let get : slice_get (list_after c ts) i.place ≡ Some n = ap (λ (l : List (Tree Mark)). slice_get l i.place) is ∙ ap (slice_get (take c.from ts ++ (n ∷ drop c.to ts))) place ∙ get-middle (take c.from ts) (drop c.to ts) n in
       subst (λ (o : Option (Tree Mark)). IsSomeAnd o (λ t. IsTrue (is_element t))) (sym get) refl
 
-  module _ (doc : PlainDoc Mark) (c : Change Mark) (v : Verdict) (inner : Option Inner) (stamp : ℕ) where
+  module _ (doc : PlainDoc Mark) (c : Change Mark) (v : Verdict) (inner : Option InnerVerdict) (stamp : ℕ) where
     can-inside : IsWellMarked g root doc → (path : List ℕ) (ts : List (Tree Mark)) → Made doc.mark (zero ∷ path) c doc.root ts → IsInnerJudged g root c (in_place_of c.filling (between c.from c.to ts)) inner →
         CanMendDoc inner (zero ∷ path) (record doc { root = root_after (zero ∷ path) c doc.root })
     can-inside w path ts d j =

@@ -9,7 +9,7 @@ use Rattle.pv_tree.specs.declared.nodes.Mark.{Mark}
 use Rattle.pv_tree.specs.declared.nodes.Verdict.{Verdict}
 use Rattle.pv_cache.specs.Mending.{mended, mended_below, mended_doc, mended_owner}
 use Rattle.pv_cache.specs.Stamps.{changed_by, stamp_of, stamped, stamps_of, with_mark}
-use Rattle.pv_cache.specs.declared.mending.Inner.{Inner}
+use Rattle.pv_cache.specs.declared.mending.InnerVerdict.{InnerVerdict}
 
 -- of the stamps of a tree the one function makes what the other makes of the tree
 abbrev Stamps : (Tree Mark → Tree Mark) → (Tree ℕ → Tree ℕ) → Type 0
@@ -64,7 +64,7 @@ module _ {M : Type 0} where
   below_further f (i ∷ path) j (misc_node b) = refl
 
 -- the owner of a changed list, of which one kid may have a changed list too
-abbrev both_marked : ℕ → Inner → Tree ℕ → Tree ℕ
+abbrev both_marked : ℕ → InnerVerdict → Tree ℕ → Tree ℕ
 both_marked n i t = change_below (i.place ∷ []) (with_mark n) (with_mark n t)
 
 owner_stamps : (v : Verdict) (n : ℕ) → Stamps (mended_owner v None n) (with_mark n)
@@ -73,7 +73,7 @@ owner_stamps v n (text_node us) = refl
 owner_stamps v n (cdata_node b) = refl
 owner_stamps v n (misc_node b) = refl
 
-inner_stamps : (v : Verdict) (n : ℕ) (i : Inner) → Stamps (mended_owner v (Some i) n) (both_marked n i)
+inner_stamps : (v : Verdict) (n : ℕ) (i : InnerVerdict) → Stamps (mended_owner v (Some i) n) (both_marked n i)
 inner_stamps v n i (element x a e kids m) =
     ap (λ k. element x a e k n)
     (kid_stamps (mended i.verdict n) (with_mark n) (mended_stamps i.verdict n) i.place kids
@@ -82,7 +82,7 @@ inner_stamps v n i (text_node us) = refl
 inner_stamps v n i (cdata_node b) = refl
 inner_stamps v n i (misc_node b) = refl
 
-pub stamps_mended : (list : List ℕ) (v : Verdict) (inner : Option Inner) (n : ℕ) (doc : PlainDoc Mark) → stamps_of (mended_doc list v inner n doc) ≡ stamped n (changed_by list inner) (stamps_of doc)
+pub stamps_mended : (list : List ℕ) (v : Verdict) (inner : Option InnerVerdict) (n : ℕ) (doc : PlainDoc Mark) → stamps_of (mended_doc list v inner n doc) ≡ stamped n (changed_by list inner) (stamps_of doc)
 stamps_mended [] v None n doc = refl
 stamps_mended [] v (Some i) n doc = ap (λ (t : Tree ℕ). record { before = doc.before; root = t; after = doc.after; mark = n }) (mended_stamps i.verdict n doc.root)
 stamps_mended (k ∷ path) v None n doc =
@@ -96,10 +96,10 @@ stamps_mended (k ∷ path) v (Some i) n doc =
     ap (λ (t : Tree ℕ). record { before = doc.before; root = t; after = doc.after; mark = stamp_of doc.mark }) same
 
 -- they are the lists that the change changes
-pub changed_are : (g : PlainDtd) (root : List ℕ) (c : Change Mark) (new : List (Tree Mark)) (inner : Option Inner) → IsInnerJudged g root c new inner → changed_by c.list inner ≡ lists_changed c
+pub changed_are : (g : PlainDtd) (root : List ℕ) (c : Change Mark) (new : List (Tree Mark)) (inner : Option InnerVerdict) → IsInnerJudged g root c new inner → changed_by c.list inner ≡ lists_changed c
 changed_are g root c new None j = rw j refl
 changed_are g root c new (Some i) j = rw (j.0, j.1) refl
 
-pub same_number : (list : List ℕ) (inner : Option Inner) → length (changed_by list inner) ≡ length (changed_by [] inner)
+pub same_number : (list : List ℕ) (inner : Option InnerVerdict) → length (changed_by list inner) ≡ length (changed_by [] inner)
 same_number list None = refl
 same_number list (Some i) = refl

@@ -31,12 +31,12 @@ use Rattle.pv_tree.specs.declared.nodes.Verdict.{Verdict}
 use Rattle.pv_tree.specs.declared.nodes.Verdict.TheVariants as verdict
 use Rattle.pv_cache.specs.Changed.{AreJudged, owner_at}
 use Rattle.pv_cache.specs.Changing.{AreNarrowAfter, IsUnaccepted}
-use Rattle.pv_cache.specs.Judging.{AreBorne, AreNarrow, AreWords, IsBorne, IsInnerWord, IsRefusedBy, IsUnborneInner, IsUnborneOuter, IsWordOf, inner_is, is_wide, outer_is}
+use Rattle.pv_cache.specs.Judging.{AreFoundLive, AreNarrow, AreWords, IsFoundLive, IsInnerWord, IsRefusedBy, IsInnerRefused, IsOuterRefused, IsWordOf, inner_is, is_wide, outer_is}
 use Rattle.pv_cache.specs.declared.mending.Mend.{Mend}
 use Rattle.pv_cache.specs.declared.words.InnerWord.{InnerWord}
 use Rattle.pv_cache.specs.declared.words.ListWord.{ListWord}
 use Rattle.pv_cache.specs.declared.words.Words.{Words}
-use Rattle.pv_cache.proofs.Borne.{borne-judged, found-verdict, narrow-word}
+use Rattle.pv_cache.proofs.FoundLive.{live-judged, found-verdict, narrow-word}
 use Rattle.pv_cache.proofs.FirstAfter.{inner-is-first, outer-is-first}
 
 one-tree : {M : Type 0} (ts : List (Tree M)) → length ts ≡ 1 → (t : Tree M) × (forest_of ts ≡ tree t no_trees)
@@ -118,8 +118,8 @@ module _ (g : PlainDtd) (root : List ℕ) where
         inside None v n b name attrs e ks m is = absurd cc
         inside (Some i) v n b name attrs e ks m is = let same : ks ≡ v.kids = (let p = v.is_one in cc) in subst (λ (k : Forest Mark). FitsVerdict g (length (word_of g k))) (sym same) (narrow-word g root v.kids i.word v.word n)
 
-    outer-live : (v : Verdict) → IsBorne g (site_of g root (owner_at c.list doc.root)) words.outer v → IsLiveBy g root (owner_at c.list doc.root) (forest_of (list_after c (kids_at c.list doc.root)))
-    outer-live v b = live_of g root (record { path = []; owner = owner_at c.list doc.root; kids = forest_of (list_after c (kids_at c.list doc.root)) }) v b.bearable (found-verdict g root (owner_at c.list doc.root) (forest_of (list_after c (kids_at c.list doc.root))) words.outer v one w.outer b.found)
+    outer-live : (v : Verdict) → IsFoundLive g (site_of g root (owner_at c.list doc.root)) words.outer v → IsLiveBy g root (owner_at c.list doc.root) (forest_of (list_after c (kids_at c.list doc.root)))
+    outer-live v b = live_of g root (record { path = []; owner = owner_at c.list doc.root; kids = forest_of (list_after c (kids_at c.list doc.root)) }) v b.live (found-verdict g root (owner_at c.list doc.root) (forest_of (list_after c (kids_at c.list doc.root))) words.outer v one w.outer b.found)
 
     inner-named : (i : InnerWord) (inner : Option InnerWord) → inner ≡ Some i → MatchOption inner (brings_element c.filling ≡ false) (IsInnerWord g c.filling (in_place_of c.filling (between c.from c.to (kids_at c.list doc.root)))) → IsInnerWord g c.filling (in_place_of c.filling (between c.from c.to (kids_at c.list doc.root))) i
     inner-named i inner e m = rw e at m
@@ -127,7 +127,7 @@ module _ (g : PlainDtd) (root : List ℕ) where
     wide-refused : (answer : EditAnswer) → (AreNarrow g words → ⊥) → answer ≡ Limit → IsUnaccepted g root doc c answer
     wide-refused answer n e = rw e (λ a. n (narrow-words c (kids_at c.list doc.root) words w a))
 
-    outer-refused : (answer : EditAnswer) → AreNarrow g words → IsUnborneOuter g (site_of g root (owner_at c.list doc.root)) c.list words answer → IsUnaccepted g root doc c answer
+    outer-refused : (answer : EditAnswer) → AreNarrow g words → IsOuterRefused g (site_of g root (owner_at c.list doc.root)) c.list words answer → IsUnaccepted g root doc c answer
     outer-refused (Shape r) n u = u
     outer-refused (Impossible path) n u =
         let v = found-verdict g root (owner_at c.list doc.root) (forest_of (list_after c (kids_at c.list doc.root))) words.outer verdict.Impossible one w.outer u.0 in
@@ -135,7 +135,7 @@ module _ (g : PlainDtd) (root : List ℕ) where
     outer-refused Limit n u = absurd u
     outer-refused NoMemory n u = tt
 
-    inner-refused : (answer : EditAnswer) (v : Verdict) → AreNarrow g words → IsBorne g (site_of g root (owner_at c.list doc.root)) words.outer v → IsUnborneInner g c.list c.from words answer → IsUnaccepted g root doc c answer
+    inner-refused : (answer : EditAnswer) (v : Verdict) → AreNarrow g words → IsFoundLive g (site_of g root (owner_at c.list doc.root)) words.outer v → IsInnerRefused g c.list c.from words answer → IsUnaccepted g root doc c answer
     inner-refused (Shape r) v n b u = u
     inner-refused (Impossible path) v n b u =
         let i = inner-named u.0 words.inner u.1 w.inner in
@@ -155,11 +155,11 @@ module _ (g : PlainDtd) (root : List ℕ) where
     one : HoldsOne (owner_at c.list doc.root) (forest_of (list_after c (kids_at c.list doc.root)))
     one = task-one doc.root c can unshort doc.mark
 
-    pub answer-judged : IfOk r (AreBorne g site c.from words) → IfOk r (λ _. AreNarrow g words) → IfOk r (λ mend. AreJudged g root (owner_at c.list doc.root) (kids_at c.list doc.root) c mend.verdict mend.inner)
+    pub answer-judged : IfOk r (AreFoundLive g site c.from words) → IfOk r (λ _. AreNarrow g words) → IfOk r (λ mend. AreJudged g root (owner_at c.list doc.root) (kids_at c.list doc.root) c mend.verdict mend.inner)
     answer-judged b n = by r b n
       where
-        by : (r : Result Mend EditAnswer) → IfOk r (AreBorne g site c.from words) → IfOk r (λ _. AreNarrow g words) → IfOk r (λ mend. AreJudged g root (owner_at c.list doc.root) (kids_at c.list doc.root) c mend.verdict mend.inner)
-        by (Ok mend) b n = borne-judged g root (owner_at c.list doc.root) (kids_at c.list doc.root) c words mend one w n (subst (λ (s : Option PlainSite). AreBorne g s c.from words mend) (sym is_site) b)
+        by : (r : Result Mend EditAnswer) → IfOk r (AreFoundLive g site c.from words) → IfOk r (λ _. AreNarrow g words) → IfOk r (λ mend. AreJudged g root (owner_at c.list doc.root) (kids_at c.list doc.root) c mend.verdict mend.inner)
+        by (Ok mend) b n = live-judged g root (owner_at c.list doc.root) (kids_at c.list doc.root) c words mend one w n (subst (λ (s : Option PlainSite). AreFoundLive g s c.from words mend) (sym is_site) b)
         by (Err e) b n = tt
 
     pub answer-refused : IfErr r (IsRefusedBy g site c.list c.from words) → IfErr r (IsUnaccepted g root doc c)

@@ -86,7 +86,7 @@ module _ (g : PlainDtd) (root : List ℕ) where
   abbrev mutual
     -- no list is impossible
     pub lists-live : (path : List ℕ) (t : Tree Mark) → EachList (TellsList g root) t → AllByRecursion (IsLive g root) (lists_at path t)
-    lists-live path (element x a e kids m) w = (live_of g root (record { path = path; owner = an_element x; kids = kids }) m.verdict w.0.bearable w.0.judged, all-lists-live path 0 kids w.1)
+    lists-live path (element x a e kids m) w = (live_of g root (record { path = path; owner = an_element x; kids = kids }) m.verdict w.0.live w.0.judged, all-lists-live path 0 kids w.1)
     lists-live path (text_node us) w = tt
     lists-live path (cdata_node b) w = tt
     lists-live path (misc_node b) w = tt
@@ -118,7 +118,7 @@ module _ (g : PlainDtd) (root : List ℕ) where
     doc-nodes = let n = w.document.nodes in let k = nodes-told doc.root w.elements in omega arith
 
     pub doc-live : AllByRecursion (IsLive g root) (lists_of doc)
-    doc-live = (live_of g root (record { path = []; owner = the_document; kids = tree doc.root no_trees }) doc.mark.verdict w.document.bearable w.document.judged, lists-live (0 ∷ []) doc.root w.elements)
+    doc-live = (live_of g root (record { path = []; owner = the_document; kids = tree doc.root no_trees }) doc.mark.verdict w.document.live w.document.judged, lists-live (0 ∷ []) doc.root w.elements)
 
     pub doc-narrow : AllByRecursion (IsListForVerdict g) (lists_of doc)
     doc-narrow = (w.document.narrow, lists-narrow (0 ∷ []) doc.root w.elements)

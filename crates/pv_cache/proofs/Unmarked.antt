@@ -8,7 +8,7 @@ use Rattle.pv_tree.specs.Plain.{Forest, PlainDoc, Tree, cdata_node, element, mis
 use Rattle.pv_tree.specs.declared.nodes.Mark.{Mark}
 use Rattle.pv_tree.specs.declared.nodes.Verdict.{Verdict}
 use Rattle.pv_cache.specs.Mending.{mended, mended_below, mended_doc, mended_kids, mended_owner, mended_root}
-use Rattle.pv_cache.specs.declared.mending.Inner.{Inner}
+use Rattle.pv_cache.specs.declared.mending.InnerVerdict.{InnerVerdict}
 
 -- the function changes marks alone
 abbrev pub KeepsTrees : (Tree Mark → Tree Mark) → Type 0
@@ -28,11 +28,11 @@ mended-as v stamp (text_node us) = refl
 mended-as v stamp (cdata_node b) = refl
 mended-as v stamp (misc_node b) = refl
 
-kids-as : (inner : Option Inner) (stamp : ℕ) (kids : Forest Mark) → all_without_marks (mended_kids inner stamp kids) ≡ all_without_marks kids
+kids-as : (inner : Option InnerVerdict) (stamp : ℕ) (kids : Forest Mark) → all_without_marks (mended_kids inner stamp kids) ≡ all_without_marks kids
 kids-as None stamp kids = refl
 kids-as (Some i) stamp kids = kid-as (mended i.verdict stamp) (mended-as i.verdict stamp) i.place kids
 
-pub owner-as : (v : Verdict) (inner : Option Inner) (stamp : ℕ) → KeepsTrees (mended_owner v inner stamp)
+pub owner-as : (v : Verdict) (inner : Option InnerVerdict) (stamp : ℕ) → KeepsTrees (mended_owner v inner stamp)
 owner-as v inner stamp (element x a e kids m) = ap (λ k. element x a e k tt) (kids-as inner stamp kids)
 owner-as v inner stamp (text_node us) = refl
 owner-as v inner stamp (cdata_node b) = refl
@@ -45,12 +45,12 @@ below-as (i ∷ path) f k (text_node us) = refl
 below-as (i ∷ path) f k (cdata_node b) = refl
 below-as (i ∷ path) f k (misc_node b) = refl
 
-pub root-as : (inner : Option Inner) (stamp : ℕ) → KeepsTrees (mended_root inner stamp)
+pub root-as : (inner : Option InnerVerdict) (stamp : ℕ) → KeepsTrees (mended_root inner stamp)
 root-as None stamp t = refl
 root-as (Some i) stamp t = mended-as i.verdict stamp t
 
 -- a mended document is the same document
-pub doc-as : (path : List ℕ) (v : Verdict) (inner : Option Inner) (stamp : ℕ) (doc : PlainDoc Mark) → unmarked_doc (mended_doc path v inner stamp doc) ≡ unmarked_doc doc
+pub doc-as : (path : List ℕ) (v : Verdict) (inner : Option InnerVerdict) (stamp : ℕ) (doc : PlainDoc Mark) → unmarked_doc (mended_doc path v inner stamp doc) ≡ unmarked_doc doc
 doc-as [] v inner stamp doc = ap (λ t. record { before = doc.before; root = t; after = doc.after; mark = tt }) (root-as inner stamp doc.root)
 doc-as (i ∷ path) v inner stamp doc = ap (λ t. record { before = doc.before; root = t; after = doc.after; mark = tt }) (below-as path (mended_owner v inner stamp) (owner-as v inner stamp) doc.root)
 

@@ -24,7 +24,7 @@ use Rattle.pv_rules.specs.Sites.{PlainSite}
 use Rattle.pv_missing.specs.Weighing.{site_of}
 use Rattle.pv_edit.specs.declared.answers.EditAnswer.{EditAnswer}
 use Rattle.pv_edit.specs.declared.answers.EditAnswer.TheVariants.{Impossible, Limit, NoMemory, Shape}
-use Rattle.pv_cache.specs.declared.mending.Inner.{Inner}
+use Rattle.pv_cache.specs.declared.mending.InnerVerdict.{InnerVerdict}
 use Rattle.pv_cache.specs.declared.mending.Mend.{Mend}
 
 -- the word of a list, and whether it has no kids of any kind
@@ -71,46 +71,46 @@ pub record AreNarrow (g : PlainDtd) (words : Words) : Type 0 where
 abbrev pub IsFound : PlainDtd → Option PlainSite → ListWord → Verdict → Type 0
 IsFound g site word v = IsVerdictByWord g site (map plain_token word.tokens.items) word.is_bare v
 
--- A list, of an owner with this site and of this word, is borne: its verdict isn't Impossible.
-pub record IsBorne (g : PlainDtd) (site : Option PlainSite) (word : ListWord) (v : Verdict) : Type 0 where
+-- A list, of an owner with this site and of this word, is found live: its verdict isn't Impossible.
+pub record IsFoundLive (g : PlainDtd) (site : Option PlainSite) (word : ListWord) (v : Verdict) : Type 0 where
   pub found : IsFound g site word v
-  pub bearable : v ≡ verdict.Impossible → ⊥
+  pub live : v ≡ verdict.Impossible → ⊥
 
 -- the site of an element's list
 abbrev pub inner_site : PlainDtd → InnerWord → Option PlainSite
 inner_site g inner = site_of g [] (an_element inner.name.now)
 
 -- the verdict of the inner list, where there is one
-abbrev pub IsInnerBorne : PlainDtd → ℕ → Option InnerWord → Option Inner → Type 0
-IsInnerBorne g from None None = Unit {0}
-IsInnerBorne g from None (Some v) = ⊥
-IsInnerBorne g from (Some inner) None = ⊥
-IsInnerBorne g from (Some inner) (Some i) = (i.place ≡ from) × IsBorne g (inner_site g inner) inner.word i.verdict
+abbrev pub IsInnerFoundLive : PlainDtd → ℕ → Option InnerWord → Option InnerVerdict → Type 0
+IsInnerFoundLive g from None None = Unit {0}
+IsInnerFoundLive g from None (Some v) = ⊥
+IsInnerFoundLive g from (Some inner) None = ⊥
+IsInnerFoundLive g from (Some inner) (Some i) = (i.place ≡ from) × IsFoundLive g (inner_site g inner) inner.word i.verdict
 
 -- the verdicts of lists of these words
-pub record AreBorne (g : PlainDtd) (site : Option PlainSite) (from : ℕ) (words : Words) (mend : Mend) : Type 0 where
-  pub outer : IsBorne g site words.outer mend.verdict
-  pub inner : IsInnerBorne g from words.inner mend.inner
+pub record AreFoundLive (g : PlainDtd) (site : Option PlainSite) (from : ℕ) (words : Words) (mend : Mend) : Type 0 where
+  pub outer : IsFoundLive g site words.outer mend.verdict
+  pub inner : IsInnerFoundLive g from words.inner mend.inner
 
 -- the outer list is impossible
-abbrev pub IsUnborneOuter : PlainDtd → Option PlainSite → List ℕ → Words → EditAnswer → Type 0
-IsUnborneOuter g site list words (Shape reason) = ⊥
-IsUnborneOuter g site list words (Impossible path) =
+abbrev pub IsOuterRefused : PlainDtd → Option PlainSite → List ℕ → Words → EditAnswer → Type 0
+IsOuterRefused g site list words (Shape reason) = ⊥
+IsOuterRefused g site list words (Impossible path) =
     IsFound g site words.outer verdict.Impossible × (path ≡ list)
-IsUnborneOuter g site list words Limit = ⊥
-IsUnborneOuter g site list words NoMemory = Unit {0}
+IsOuterRefused g site list words Limit = ⊥
+IsOuterRefused g site list words NoMemory = Unit {0}
 
 -- the inner list is impossible
-abbrev pub IsUnborneInner : PlainDtd → List ℕ → ℕ → Words → EditAnswer → Type 0
-IsUnborneInner g list from words (Shape reason) = ⊥
-IsUnborneInner g list from words (Impossible path) = (i : InnerWord) × (words.inner ≡ Some i) ×
+abbrev pub IsInnerRefused : PlainDtd → List ℕ → ℕ → Words → EditAnswer → Type 0
+IsInnerRefused g list from words (Shape reason) = ⊥
+IsInnerRefused g list from words (Impossible path) = (i : InnerWord) × (words.inner ≡ Some i) ×
     IsFound g (inner_site g i) i.word verdict.Impossible × (path ≡ list ++ from ∷ [])
-IsUnborneInner g list from words Limit = ⊥
-IsUnborneInner g list from words NoMemory = Unit {0}
+IsInnerRefused g list from words Limit = ⊥
+IsInnerRefused g list from words NoMemory = Unit {0}
 
 -- Why a change isn't accepted: a list is too wide; or the outer list is impossible; or it isn't, and the inner one is.
 pub data IsRefusedBy (g : PlainDtd) (site : Option PlainSite) (list : List ℕ) (from : ℕ) (words : Words) (answer : EditAnswer) : Type 0 where
   is_wide : (AreNarrow g words → ⊥) → answer ≡ Limit → IsRefusedBy g site list from words answer
-  outer_is : AreNarrow g words → IsUnborneOuter g site list words answer → IsRefusedBy g site list from words answer
-  inner_is : (v : Verdict) → AreNarrow g words → IsBorne g site words.outer v → IsUnborneInner g list from words answer →
+  outer_is : AreNarrow g words → IsOuterRefused g site list words answer → IsRefusedBy g site list from words answer
+  inner_is : (v : Verdict) → AreNarrow g words → IsFoundLive g site words.outer v → IsInnerRefused g list from words answer →
       IsRefusedBy g site list from words answer

@@ -6,7 +6,7 @@ use Rattle.pv_cache.specs.Mending.{mended_doc}
 use Rattle.pv_cache.specs.Rows.{AreRows}
 use Rattle.pv_cache.specs.Stamps.{StampedDoc}
 use Rattle.pv_cache.specs.WellMarked.{IsWellMarked, verdicts_told}
-use Rattle.pv_cache.specs.declared.mending.Inner.{Inner}
+use Rattle.pv_cache.specs.declared.mending.InnerVerdict.{InnerVerdict}
 use Rattle.pv_dtd.specs.Plain.{PlainDtd}
 use Rattle.pv_edit.specs.Brought.{BringsBare}
 use Rattle.pv_edit.specs.Changes.{Change, doc_after, in_place_of, list_after}
@@ -33,14 +33,14 @@ MarksTell = (g : PlainDtd) (root : List ℕ) (doc : PlainDoc Mark) → IsWellMar
 -- mended.
 abbrev pub MendedIsMarked : Type 0
 MendedIsMarked = (g : PlainDtd) (root : List ℕ) (doc : PlainDoc Mark) (c : Change Mark) (v : Verdict)
-    (i : Option Inner) (stamp : ℕ) → IsWellMarked g root doc → CanChange c.list c doc.root →
+    (i : Option InnerVerdict) (stamp : ℕ) → IsWellMarked g root doc → CanChange c.list c doc.root →
     (is_top c.list ≡ true → c.shorten ≡ false) → BringsBare c.filling →
     AreJudged g root (owner_at c.list doc.root) (kids_at c.list doc.root) c v i →
     IsWellMarked g root (mended_doc c.list v i stamp (doc_after c doc))
 
 -- a mended document is the same document
 abbrev pub MendingKeepsDocuments : Type 0
-MendingKeepsDocuments = (path : List ℕ) (v : Verdict) (i : Option Inner) (stamp : ℕ) (doc : PlainDoc Mark) →
+MendingKeepsDocuments = (path : List ℕ) (v : Verdict) (i : Option InnerVerdict) (stamp : ℕ) (doc : PlainDoc Mark) →
     unmarked_doc (mended_doc path v i stamp doc) ≡ unmarked_doc doc
 
 -- A well marked document, of which a list is changed so that it can't stand in its owner, has that list as its first impossible one.

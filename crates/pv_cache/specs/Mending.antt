@@ -7,7 +7,7 @@ use Rattle.pv_tree.specs.Places.{kids_of}
 use Rattle.pv_tree.specs.Plain.{Forest, PlainDoc, Tree, cdata_node, element, is_element, misc_node, no_trees, text_node, tree, trees_of}
 use Rattle.pv_tree.specs.declared.nodes.Mark.{Mark}
 use Rattle.pv_tree.specs.declared.nodes.Verdict.{Verdict}
-use Rattle.pv_cache.specs.declared.mending.Inner.{Inner}
+use Rattle.pv_cache.specs.declared.mending.InnerVerdict.{InnerVerdict}
 use Rattle.pv_cache.specs.declared.told.Told.{Told}
 
 -- the mark of a list of this verdict that was changed by the move of this number
@@ -28,12 +28,12 @@ mended v stamp (cdata_node bytes) = cdata_node bytes
 mended v stamp (misc_node bytes) = misc_node bytes
 
 -- the kids of a changed list, of which one may have a changed list too
-abbrev pub mended_kids : Option Inner → ℕ → Forest Mark → Forest Mark
+abbrev pub mended_kids : Option InnerVerdict → ℕ → Forest Mark → Forest Mark
 mended_kids None stamp kids = kids
 mended_kids (Some inner) stamp kids = change_kid (mended inner.verdict stamp) inner.place kids
 
 -- the owner of a changed list
-abbrev pub mended_owner : Verdict → Option Inner → ℕ → Tree Mark → Tree Mark
+abbrev pub mended_owner : Verdict → Option InnerVerdict → ℕ → Tree Mark → Tree Mark
 mended_owner v inner stamp (element x attrs ending kids mark) =
     mended v stamp (element x attrs ending (mended_kids inner stamp kids) mark)
 mended_owner v inner stamp (text_node units) = text_node units
@@ -41,7 +41,7 @@ mended_owner v inner stamp (cdata_node bytes) = cdata_node bytes
 mended_owner v inner stamp (misc_node bytes) = misc_node bytes
 
 -- an element with a kid whose own list has changed
-abbrev pub with_mended_kid : Inner → ℕ → Tree Mark → Tree Mark
+abbrev pub with_mended_kid : InnerVerdict → ℕ → Tree Mark → Tree Mark
 with_mended_kid inner stamp (element x attrs ending kids mark) =
     element x attrs ending (change_kid (mended inner.verdict stamp) inner.place kids) mark
 with_mended_kid inner stamp (text_node units) = text_node units
@@ -69,7 +69,7 @@ mended_below [] f t = f t
 mended_below (i ∷ path) f t = with_kid (mended_below path f) i t
 
 -- the root, where its own list has changed
-abbrev pub mended_root : Option Inner → ℕ → Tree Mark → Tree Mark
+abbrev pub mended_root : Option InnerVerdict → ℕ → Tree Mark → Tree Mark
 mended_root None stamp t = t
 mended_root (Some inner) stamp t = mended inner.verdict stamp t
 
@@ -78,7 +78,7 @@ abbrev pub with_root : Tree Mark → Mark → PlainDoc Mark → PlainDoc Mark
 with_root t mark doc = record { before = doc.before; root = t; after = doc.after; mark = mark }
 
 -- a document, mended at the list at a path and above
-abbrev pub mended_doc : List ℕ → Verdict → Option Inner → ℕ → PlainDoc Mark → PlainDoc Mark
+abbrev pub mended_doc : List ℕ → Verdict → Option InnerVerdict → ℕ → PlainDoc Mark → PlainDoc Mark
 mended_doc [] v inner stamp doc =
     with_root (mended_root inner stamp doc.root)
     (fresh_mark the_document (tree (mended_root inner stamp doc.root) no_trees) v stamp) doc
@@ -93,7 +93,7 @@ HasElement kids i = IsSomeAnd (slice_get kids i) (λ t. IsTrue (is_element t))
 
 -- The marks on the way to a list tell no less than those of their kids, so that they can be told again. An element stands where the
 -- list has an inner one.
-abbrev pub CanMend : Option Inner → List ℕ → Tree Mark → Type 0
+abbrev pub CanMend : Option InnerVerdict → List ℕ → Tree Mark → Type 0
 CanMend inner [] t = IsTrue (is_element t) × IfSome inner (λ i. HasElement (kids_of t) i.place)
 CanMend inner (i ∷ path) (element x attrs ending kids mark) =
     (told_left_in kids ≤ mark.left) × (told_nodes_in kids ≤ mark.nodes) ×
@@ -123,12 +123,12 @@ pub record IsCounted (t : Tree Mark) : Type 0 where
   pub nodes : told_nodes t < 2 ^ 64
 
 -- what is told of a kid, once it is mended, can be counted
-abbrev pub KidIsCounted : Inner → ℕ → Tree Mark → Type 0
+abbrev pub KidIsCounted : InnerVerdict → ℕ → Tree Mark → Type 0
 KidIsCounted inner stamp t =
     IsSomeAnd (slice_get (kids_of t) inner.place) (λ k. IsCounted (mended inner.verdict stamp k))
 
 -- the same of a document
-abbrev pub CanMendDoc : Option Inner → List ℕ → PlainDoc Mark → Type 0
+abbrev pub CanMendDoc : Option InnerVerdict → List ℕ → PlainDoc Mark → Type 0
 CanMendDoc inner [] doc = Unit {0}
 CanMendDoc inner (i ∷ path) doc =
     (told_left doc.root ≤ doc.mark.left) × (told_nodes doc.root ≤ doc.mark.nodes) ×

@@ -1,6 +1,6 @@
 -- Documents with a stamp beside each list: the number of the move that changed the list last, or made its element.
 use Rattle.std.specs.Prelude.{List, None, Option, Some, [], ℕ, ◌++◌, ◌∷◌}
-use Rattle.pv_cache.specs.declared.mending.Inner.{Inner}
+use Rattle.pv_cache.specs.declared.mending.InnerVerdict.{InnerVerdict}
 use Rattle.pv_dtd.specs.Plain.{PlainDtd}
 use Rattle.pv_edit.specs.Changes.{change_below}
 use Rattle.pv_tree.specs.Plain.{PlainDoc, Tree, cdata_node, element, map_marks, misc_node, text_node}
@@ -45,6 +45,6 @@ abbrev pub stamped_by : PlainDtd → List ℕ → PlainDoc Mark → StampedDoc
 stamped_by g root doc = record { dtd = g; root = root; doc = stamps_of doc }
 
 -- the list at a path, and that of one of its kids, where it has a new verdict too
-abbrev pub changed_by : List ℕ → Option Inner → List (List ℕ)
+abbrev pub changed_by : List ℕ → Option InnerVerdict → List (List ℕ)
 changed_by list None = list ∷ []
 changed_by list (Some i) = list ∷ (list ++ i.place ∷ []) ∷ []

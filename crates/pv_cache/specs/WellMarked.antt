@@ -47,7 +47,7 @@ own_node (an_element x) = 1
 -- isn't impossible, and not too wide for a verdict.
 pub record TellsList (g : PlainDtd) (root : List ℕ) (owner : Owner) (kids : Forest Mark) (mark : Mark) : Type 0 where
   pub judged : IsVerdict g root (record { path = []; owner = owner; kids = kids }) mark.verdict
-  pub bearable : mark.verdict ≡ verdict.Impossible → ⊥
+  pub live : mark.verdict ≡ verdict.Impossible → ⊥
   pub narrow : FitsVerdict g (length (word_of g kids))
   pub left : mark.left ≡ own_left mark.verdict + told_left_in kids
   pub nodes : mark.nodes ≡ own_node owner + told_nodes_in kids

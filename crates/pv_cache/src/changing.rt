@@ -34,7 +34,8 @@ use std::sync::ledger::Ledger;
 // The owner of the list at a path; none where the DTD doesn't have its name.
 fn owner_of(dtd: &Dtd, root: &[u8], doc: &Doc, list: &Path) -> Option<Of>
     requires { lacks_list list.now (plain_doc doc.now).root ≡ false }
-    ensures owner { site_of (plain_dtd dtd.now) root.now (owner_at list.now (plain_doc doc.now).root)
+    ensures owner { site_of (plain_dtd dtd.now) root.now
+        (owner_at list.now (plain_doc doc.now).root)
         ≡ option_map plain_of result }
     ensures known { IfSome result (λ of. HasSite (plain_dtd dtd.now) (plain_of of)) }
 {
@@ -55,14 +56,17 @@ fn judge_task<L: Ledger>(
     steps: &mut Steps<L>,
 ) -> Result<Mend, EditAnswer>
     requires plan { IsPlan (dtd_of judge.now.grammar.now) judge.now.plan.now }
-    requires can { CanChange task.now.list (plain_change task.now.list task.now.change) (plain_doc doc.now).root }
+    requires can { CanChange task.now.list (plain_change task.now.list task.now.change)
+        (plain_doc doc.now).root }
     requires unshort { is_top task.now.list ≡ true → task.now.change.shorten ≡ false }
     requires bare { BringsBare (plain_filling task.now.change.filling) }
     ensures judged { IfOk result (λ mend. AreJudged (dtd_of judge.now.grammar.now) root.now
-        (owner_at task.now.list (plain_doc doc.now).root) (kids_at task.now.list (plain_doc doc.now).root)
+        (owner_at task.now.list (plain_doc doc.now).root)
+        (kids_at task.now.list (plain_doc doc.now).root)
         (plain_change task.now.list task.now.change) mend.verdict mend.inner) }
     ensures stamp { IfOk result (λ mend. mend.stamp ≡ stamp) }
-    ensures refused { IfErr result (IsUnaccepted (dtd_of judge.now.grammar.now) root.now (plain_doc doc.now)
+    ensures refused { IfErr result (IsUnaccepted (dtd_of judge.now.grammar.now) root.now
+        (plain_doc doc.now)
         (plain_change task.now.list task.now.change)) }
     ensures steps { steps.new ≤ steps.old + 2 }
 {
@@ -98,18 +102,25 @@ pub(crate) fn change<L: Ledger>(
     steps: &mut Steps<L>,
 ) -> Result<u32, EditAnswer>
     requires plan { IsPlan (dtd_of judge.now.grammar.now) judge.now.plan.now }
-    requires can { CanChange task.list (plain_change task.list task.change) (plain_doc doc.old).root }
+    requires can { CanChange task.list (plain_change task.list task.change)
+        (plain_doc doc.old).root }
     requires unshort { is_top task.list ≡ true → task.change.shorten ≡ false }
     requires bare { BringsBare (plain_filling task.change.filling) }
-    requires kept { IsKept (root_after task.list (plain_change task.list task.change) (plain_doc doc.old).root) }
-    requires marked { ∥ IsWellMarked (dtd_of judge.now.grammar.now) root.now (plain_doc doc.old) ∥₁ }
-    ensures marked { OnOk result (∥ IsWellMarked (dtd_of judge.now.grammar.now) root.now (plain_doc doc.new) ∥₁) }
+    requires kept { IsKept (root_after task.list (plain_change task.list task.change)
+        (plain_doc doc.old).root) }
+    requires marked { ∥ IsWellMarked (dtd_of judge.now.grammar.now) root.now
+        (plain_doc doc.old) ∥₁ }
+    ensures marked { OnOk result (∥ IsWellMarked (dtd_of judge.now.grammar.now) root.now
+        (plain_doc doc.new) ∥₁) }
     ensures made { OnOk result (unmarked_doc (plain_doc doc.new)
         ≡ unmarked_doc (doc_after (plain_change task.list task.change) (plain_doc doc.old))) }
-    ensures stamps { OnOk result (stamps_of (plain_doc doc.new) ≡ stamped stamp (lists_changed (plain_change task.list task.change))
+    ensures stamps { OnOk result (stamps_of (plain_doc doc.new)
+        ≡ stamped stamp (lists_changed (plain_change task.list task.change))
         (stamps_of (doc_after (plain_change task.list task.change) (plain_doc doc.old)))) }
-    ensures number { IfOk result (λ number. number ≡ length (lists_changed (plain_change task.list task.change))) }
-    ensures refused { IfErr result (IsUnaccepted (dtd_of judge.now.grammar.now) root.now (plain_doc doc.old)
+    ensures number { IfOk result (λ number. number
+        ≡ length (lists_changed (plain_change task.list task.change))) }
+    ensures refused { IfErr result (IsUnaccepted (dtd_of judge.now.grammar.now) root.now
+        (plain_doc doc.old)
         (plain_change task.list task.change)) }
     ensures unchanged { OnErr result (plain_doc doc.new ≡ plain_doc doc.old) }
     ensures steps { steps.new ≤ steps.old + 2 }

@@ -2,14 +2,14 @@
 
 ghost use Rattle.std.specs.Prelude.{◌≡◌, ◌≤◌, ◌+◌, ◌++◌, ◌∷◌, [], IfErr, IfOk, IfSome, OnOk, length, map};
 ghost use Rattle.std.specs.Option.{option_map};
-ghost use Rattle.pv_cache.specs.Judging.{AreBorne, AreNarrow, IsBorne, IsFound, IsInnerBorne, IsUnborneInner, IsUnborneOuter, IsRefusedBy};
+ghost use Rattle.pv_cache.specs.Judging.{AreFoundLive, AreNarrow, IsFoundLive, IsFound, IsInnerFoundLive, IsInnerRefused, IsOuterRefused, IsRefusedBy};
 ghost use Rattle.pv_missing.specs.PlainForms.{plain_of};
 ghost use Rattle.pv_missing.specs.Widths.{FitsVerdict};
 ghost use Rattle.pv_productive.specs.PlainForms.{dtd_of};
 ghost use Rattle.pv_reach.specs.Plans.{IsPlan};
 ghost use Rattle.pv_rules.specs.Sites.{HasSite};
 
-use crate::mending::{Inner, Mend};
+use crate::mending::{InnerVerdict, Mend};
 use crate::words::{InnerWord, ListWord, Words, are_narrow};
 use pv_chars::NoMemory;
 use pv_edit::{EditAnswer, kid_path};
@@ -40,7 +40,8 @@ fn verdict_of<L: Ledger>(
     requires plan { IsPlan (dtd_of judge.now.grammar.now) judge.now.plan.now }
     requires known { IfSome owner (λ of. HasSite (dtd_of judge.now.grammar.now) (plain_of of)) }
     requires fits { FitsVerdict (dtd_of judge.now.grammar.now) (length word.now.tokens.items) }
-    ensures verdict { IfOk result (IsFound (dtd_of judge.now.grammar.now) (option_map plain_of owner) word.now) }
+    ensures verdict { IfOk result (IsFound (dtd_of judge.now.grammar.now)
+        (option_map plain_of owner) word.now) }
     ensures steps { steps.new ≡ steps.old + 1 }
 {
     match word_verdict(
@@ -71,17 +72,19 @@ pub(crate) fn judge_words<L: Ledger>(
 ) -> Result<Mend, EditAnswer>
     requires plan { IsPlan (dtd_of judge.now.grammar.now) judge.now.plan.now }
     requires known { IfSome owner (λ of. HasSite (dtd_of judge.now.grammar.now) (plain_of of)) }
-    ensures borne { IfOk result (AreBorne (dtd_of judge.now.grammar.now) (option_map plain_of owner) from words.now) }
+    ensures live { IfOk result (AreFoundLive (dtd_of judge.now.grammar.now)
+        (option_map plain_of owner) from words.now) }
     ensures narrow { IfOk result (λ _. AreNarrow (dtd_of judge.now.grammar.now) words.now) }
     ensures stamp { IfOk result (λ mend. mend.stamp ≡ stamp) }
-    ensures refused { IfErr result (IsRefusedBy (dtd_of judge.now.grammar.now) (option_map plain_of owner) list.now from words.now) }
+    ensures refused { IfErr result (IsRefusedBy (dtd_of judge.now.grammar.now)
+        (option_map plain_of owner) list.now from words.now) }
     ensures steps { steps.new ≤ steps.old + 2 }
 {
     if !are_narrow(judge.grammar.dtd(), words) {
         return Err(EditAnswer::Limit);
     }
-    let verdict = bear_outer(judge, owner, words, list, steps)?;
-    match bear_inner(judge, words, list, from, steps) {
+    let verdict = judge_outer(judge, owner, words, list, steps)?;
+    match judge_inner(judge, words, list, from, steps) {
         Ok(inner) => Ok(Mend {
             verdict,
             inner,
@@ -92,7 +95,7 @@ pub(crate) fn judge_words<L: Ledger>(
 }
 
 // The verdict of the outer list, unless it is Impossible.
-fn bear_outer<L: Ledger>(
+fn judge_outer<L: Ledger>(
     judge: &Judge<'_>,
     owner: Option<Of>,
     words: &Words<'_>,
@@ -102,8 +105,10 @@ fn bear_outer<L: Ledger>(
     requires plan { IsPlan (dtd_of judge.now.grammar.now) judge.now.plan.now }
     requires known { IfSome owner (λ of. HasSite (dtd_of judge.now.grammar.now) (plain_of of)) }
     requires narrow { AreNarrow (dtd_of judge.now.grammar.now) words.now }
-    ensures borne { IfOk result (IsBorne (dtd_of judge.now.grammar.now) (option_map plain_of owner) words.now.outer) }
-    ensures refused { IfErr result (IsUnborneOuter (dtd_of judge.now.grammar.now) (option_map plain_of owner) list.now words.now) }
+    ensures live { IfOk result (IsFoundLive (dtd_of judge.now.grammar.now)
+        (option_map plain_of owner) words.now.outer) }
+    ensures refused { IfErr result (IsOuterRefused (dtd_of judge.now.grammar.now)
+        (option_map plain_of owner) list.now words.now) }
     ensures steps { steps.new ≡ steps.old + 1 }
 {
     let verdict = verdict_of(judge, owner, &words.outer, steps)?;
@@ -114,17 +119,19 @@ fn bear_outer<L: Ledger>(
 }
 
 // The verdict of the inner list, if there is one, unless it is Impossible.
-fn bear_inner<L: Ledger>(
+fn judge_inner<L: Ledger>(
     judge: &Judge<'_>,
     words: &Words<'_>,
     list: &Path,
     from: u32,
     steps: &mut Steps<L>,
-) -> Result<Option<Inner>, EditAnswer>
+) -> Result<Option<InnerVerdict>, EditAnswer>
     requires plan { IsPlan (dtd_of judge.now.grammar.now) judge.now.plan.now }
     requires narrow { AreNarrow (dtd_of judge.now.grammar.now) words.now }
-    ensures borne { IfOk result (IsInnerBorne (dtd_of judge.now.grammar.now) from words.now.inner) }
-    ensures refused { IfErr result (IsUnborneInner (dtd_of judge.now.grammar.now) list.now from words.now) }
+    ensures live { IfOk result (IsInnerFoundLive
+        (dtd_of judge.now.grammar.now) from words.now.inner) }
+    ensures refused { IfErr result (IsInnerRefused
+        (dtd_of judge.now.grammar.now) list.now from words.now) }
     ensures steps { steps.new ≤ steps.old + 1 }
 {
     let Some(inner) = &words.inner else {
@@ -135,7 +142,7 @@ fn bear_inner<L: Ledger>(
     if verdict == Verdict::Impossible {
         return Err(EditAnswer::Impossible(kid_path(judge.alloc, list, from)?));
     }
-    Ok(Some(Inner {
+    Ok(Some(InnerVerdict {
         place: from as usize,
         verdict,
     }))

@@ -44,7 +44,8 @@ fn lay_node(alloc: Global, node: &mut Node, verdicts: &Verdicts, number: u64) ->
 #[cycle(lay)]
 fn lay_kids(alloc: Global, kids: &mut Vec<Node>, verdicts: &Verdicts, number: u64) -> u64
     requires small { number + nodes_in_all (forest kids.old.items) ≤ 2 * MAX_NODES }
-    ensures laid { forest kids.new.items ≡ laid_all verdicts.now.verdicts number (forest kids.old.items) }
+    ensures laid { forest kids.new.items
+        ≡ laid_all verdicts.now.verdicts number (forest kids.old.items) }
     ensures next { result ≡ number + lists_in_all (forest kids.old.items) }
 {
     let mut next = number;

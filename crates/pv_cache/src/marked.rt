@@ -73,9 +73,11 @@ impl Marked {
     ) -> Result<Marked, NoMemory>
         requires verdicts { HaveVerdicts (dtd_of grammar) root (lists_of (plain_doc doc)) verdicts }
         requires possible { IsNone verdicts.first }
-        requires narrow { AllByRecursion (IsListForVerdict (dtd_of grammar)) (lists_of (plain_doc doc)) }
+        requires narrow { AllByRecursion (IsListForVerdict (dtd_of grammar))
+            (lists_of (plain_doc doc)) }
         requires few { nodes_in (plain_doc doc).root ≤ MAX_EDITED_NODES }
-        ensures { IfOk result (λ marked. marked ≡ record { dtd = dtd_of grammar; root = root; doc = doc_as (λ _. 0) (plain_doc doc) }) }
+        ensures { IfOk result (λ marked. marked
+            ≡ record { dtd = dtd_of grammar; root = root; doc = doc_as (λ _. 0) (plain_doc doc) }) }
     {
         let plan = Plan::of(alloc, &grammar)?;
         let mut doc = doc;
@@ -99,8 +101,10 @@ impl Marked {
         stamp: u64,
         steps: &mut Steps<L>,
     ) -> Result<(Done, Inverse), EditAnswer>
-        ensures edited { IfOk result (λ made. IsEdited self.old edit.now stamp made.0 made.1 self.new) }
-        ensures refused { IfErr result (HasGround 0 self.old.dtd self.old.root self.old.doc edit.now) }
+        ensures edited { IfOk result (λ made. IsEdited self.old edit.now stamp made.0 made.1
+            self.new) }
+        ensures refused { IfErr result (HasGround 0 self.old.dtd self.old.root self.old.doc
+            edit.now) }
         ensures unchanged { OnErr result (self.new ≡ self.old) }
         ensures steps { steps.new ≤ steps.old + 2 }
     {
@@ -130,7 +134,8 @@ impl Marked {
     ) -> Result<Done, NoMemory>
         requires { (before : PlainDoc Unit) × LeadsBack inverse.now self.old.doc before ×
             IsGuarded self.old.dtd self.old.root before }
-        ensures reverted { IfOk result (λ done. IsReverted self.old inverse.now stamp done self.new) }
+        ensures reverted { IfOk result (λ done. IsReverted self.old inverse.now stamp done
+            self.new) }
         ensures unchanged { OnErr result (self.new ≡ self.old) }
         ensures steps { steps.new ≤ steps.old + 2 }
     {

@@ -14,7 +14,7 @@ use std::alloc::Global;
 
 /// The verdict of an element's list, among the kids of a changed list.
 #[derive(Clone, Copy, Debug)]
-pub(crate) struct Inner {
+pub(crate) struct InnerVerdict {
     pub place: usize,
     pub verdict: Verdict,
 }
@@ -23,7 +23,7 @@ pub(crate) struct Inner {
 #[derive(Clone, Copy, Debug)]
 pub(crate) struct Mend {
     pub verdict: Verdict,
-    pub inner: Option<Inner>,
+    pub inner: Option<InnerVerdict>,
     pub stamp: u64,
 }
 
@@ -48,8 +48,10 @@ pub(crate) fn mend_element(node: &mut Node, verdict: Verdict, stamp: u64)
 /// Marks the owner of a changed list, wherever it stands, and tells the marks above it again.
 pub(crate) fn mend_doc(alloc: Global, doc: &mut Doc, list: &[u32], mend: &Mend)
     requires can { CanMendDoc mend.now.inner list.now (plain_doc doc.old) }
-    requires counted { IsDocCounted (mended_doc list.now mend.now.verdict mend.now.inner mend.now.stamp (plain_doc doc.old)) }
-    ensures { plain_doc doc.new ≡ mended_doc list.now mend.now.verdict mend.now.inner mend.now.stamp (plain_doc doc.old) }
+    requires counted { IsDocCounted (mended_doc list.now mend.now.verdict mend.now.inner
+        mend.now.stamp (plain_doc doc.old)) }
+    ensures { plain_doc doc.new
+        ≡ mended_doc list.now mend.now.verdict mend.now.inner mend.now.stamp (plain_doc doc.old) }
 {
     match list {
         [] => mend_top(doc, mend),
@@ -59,8 +61,10 @@ pub(crate) fn mend_doc(alloc: Global, doc: &mut Doc, list: &[u32], mend: &Mend)
 
 // Marks the document node, whose list has changed, and the root, whose list may have changed too.
 fn mend_top(doc: &mut Doc, mend: &Mend)
-    requires { IsDocCounted (mended_doc [] mend.now.verdict mend.now.inner mend.now.stamp (plain_doc doc.old)) }
-    ensures { plain_doc doc.new ≡ mended_doc [] mend.now.verdict mend.now.inner mend.now.stamp (plain_doc doc.old) }
+    requires { IsDocCounted (mended_doc [] mend.now.verdict mend.now.inner mend.now.stamp
+        (plain_doc doc.old)) }
+    ensures { plain_doc doc.new ≡ mended_doc [] mend.now.verdict mend.now.inner mend.now.stamp
+        (plain_doc doc.old) }
 {
     mend_root(&mut doc.root, mend);
     let told = told_of(&doc.root);
@@ -86,8 +90,10 @@ fn mend_root(root: &mut Node, mend: &Mend)
 // Marks the owner of a changed list below the root.
 fn mend_inside(alloc: Global, doc: &mut Doc, below: &[u32], mend: &Mend)
     requires can { CanMendDoc mend.now.inner (0 ∷ below.now) (plain_doc doc.old) }
-    requires counted { IsDocCounted (mended_doc (0 ∷ below.now) mend.now.verdict mend.now.inner mend.now.stamp (plain_doc doc.old)) }
-    ensures { plain_doc doc.new ≡ mended_doc (0 ∷ below.now) mend.now.verdict mend.now.inner mend.now.stamp (plain_doc doc.old) }
+    requires counted { IsDocCounted (mended_doc (0 ∷ below.now) mend.now.verdict mend.now.inner
+        mend.now.stamp (plain_doc doc.old)) }
+    ensures { plain_doc doc.new ≡ mended_doc (0 ∷ below.now) mend.now.verdict mend.now.inner
+        mend.now.stamp (plain_doc doc.old) }
 {
     let before = told_of(&doc.root);
     mend_below(alloc, &mut doc.root, below, mend);
@@ -99,9 +105,12 @@ fn mend_inside(alloc: Global, doc: &mut Doc, below: &[u32], mend: &Mend)
 /// Marks the owner of a changed list, and the element in it whose list has changed too.
 pub(crate) fn mend_owner(alloc: Global, node: &mut Node, mend: &Mend)
     requires elem { IsTrue (is_element (plain node.old)) }
-    requires within { IfSome mend.now.inner (λ inner. HasElement (kids_of (plain node.old)) inner.place) }
-    requires counted { IsCounted (mended_owner mend.now.verdict mend.now.inner mend.now.stamp (plain node.old)) }
-    ensures { plain node.new ≡ mended_owner mend.now.verdict mend.now.inner mend.now.stamp (plain node.old) }
+    requires within { IfSome mend.now.inner (λ inner.
+        HasElement (kids_of (plain node.old)) inner.place) }
+    requires counted { IsCounted (mended_owner mend.now.verdict mend.now.inner mend.now.stamp
+        (plain node.old)) }
+    ensures { plain node.new
+        ≡ mended_owner mend.now.verdict mend.now.inner mend.now.stamp (plain node.old) }
 {
     match mend.inner {
         None => mend_element(node, mend.verdict, mend.stamp),
@@ -113,7 +122,7 @@ pub(crate) fn mend_owner(alloc: Global, node: &mut Node, mend: &Mend)
 }
 
 // Marks an element's kid whose list has changed.
-fn mend_kid(alloc: Global, node: &mut Node, inner: Inner, stamp: u64)
+fn mend_kid(alloc: Global, node: &mut Node, inner: InnerVerdict, stamp: u64)
     requires elem { IsTrue (is_element (plain node.old)) }
     requires within { HasElement (kids_of (plain node.old)) inner.place }
     requires counted { KidIsCounted inner stamp (plain node.old) }
@@ -127,8 +136,10 @@ fn mend_kid(alloc: Global, node: &mut Node, inner: Inner, stamp: u64)
 /// Marks the owner of a changed list below a node, and tells the marks above it again.
 pub(crate) fn mend_below(alloc: Global, node: &mut Node, path: &[u32], mend: &Mend)
     requires can { CanMend mend.now.inner path.now (plain node.old) }
-    requires counted { IsCounted (mended_below path.now (mended_owner mend.now.verdict mend.now.inner mend.now.stamp) (plain node.old)) }
-    ensures { plain node.new ≡ mended_below path.now (mended_owner mend.now.verdict mend.now.inner mend.now.stamp) (plain node.old) }
+    requires counted { IsCounted (mended_below path.now
+        (mended_owner mend.now.verdict mend.now.inner mend.now.stamp) (plain node.old)) }
+    ensures { plain node.new ≡ mended_below path.now
+        (mended_owner mend.now.verdict mend.now.inner mend.now.stamp) (plain node.old) }
 {
     match path {
         [] => mend_owner(alloc, node, mend),

@@ -17,7 +17,7 @@ use crate::judging::Judge;
 use pv_chars::NoMemory;
 use pv_dtd::laws::proper_dtd_law;
 use pv_edit::laws::{changed_lists_law, leads_back_law, nodes_law};
-use pv_edit::{Done, Edit, EditAnswer, Inverse, Plan, plan, plan_back};
+use pv_edit::{Done, Edit, EditAnswer, Inverse, Preparation, prepare, prepare_back};
 use pv_missing::laws::documents::live_lists_law;
 use pv_steps::Steps;
 use pv_tree::{Doc, Mark};
@@ -29,7 +29,8 @@ const NODE_LIMIT: u64 = 33_554_432;
 // Whether an edit would give a document of so many nodes too many.
 fn gives_too_many(edit: &Edit, nodes: u64) -> bool
     requires { nodes ≤ MAX_EDITED_NODES }
-    ensures { result ≡ nat_lt (MAX_EDITED_NODES + nodes_taken edit.now) (nodes + nodes_made edit.now) }
+    ensures { result ≡ nat_lt (MAX_EDITED_NODES + nodes_taken edit.now)
+        (nodes + nodes_made edit.now) }
 {
     NODE_LIMIT + edit.nodes_taken() < nodes + edit.nodes_made()
 }
@@ -44,13 +45,17 @@ pub(crate) fn make_edit<L: Ledger>(
     steps: &mut Steps<L>,
 ) -> Result<(Done, Inverse), EditAnswer>
     requires plan { IsPlan (dtd_of judge.now.grammar.now) judge.now.plan.now }
-    requires marked { ∥ IsWellMarked (dtd_of judge.now.grammar.now) root.now (plain_doc doc.old) ∥₁ }
+    requires marked { ∥ IsWellMarked (dtd_of judge.now.grammar.now) root.now
+        (plain_doc doc.old) ∥₁ }
     requires few { nodes_in (plain_doc doc.old).root ≤ MAX_EDITED_NODES }
-    ensures marked { OnOk result (∥ IsWellMarked (dtd_of judge.now.grammar.now) root.now (plain_doc doc.new) ∥₁) }
+    ensures marked { OnOk result (∥ IsWellMarked (dtd_of judge.now.grammar.now) root.now
+        (plain_doc doc.new) ∥₁) }
     ensures few { OnOk result (nodes_in (plain_doc doc.new).root ≤ MAX_EDITED_NODES) }
-    ensures edited { IfOk result (λ made. IsEdited (stamped_by (dtd_of judge.now.grammar.now) root.now (plain_doc doc.old)) edit.now stamp
+    ensures edited { IfOk result (λ made. IsEdited
+        (stamped_by (dtd_of judge.now.grammar.now) root.now (plain_doc doc.old)) edit.now stamp
         made.0 made.1 (stamped_by (dtd_of judge.now.grammar.now) root.now (plain_doc doc.new))) }
-    ensures refused { IfErr result (HasGround 0 (dtd_of judge.now.grammar.now) root.now (stamps_of (plain_doc doc.old)) edit.now) }
+    ensures refused { IfErr result (HasGround 0 (dtd_of judge.now.grammar.now) root.now
+        (stamps_of (plain_doc doc.old)) edit.now) }
     ensures unchanged { OnErr result (plain_doc doc.new ≡ plain_doc doc.old) }
     ensures steps { steps.new ≤ steps.old + 2 }
 {
@@ -58,11 +63,11 @@ pub(crate) fn make_edit<L: Ledger>(
     changed_lists_law();
     nodes_law();
     proper_dtd_law(judge.grammar.dtd());
-    let ready = plan(judge.alloc, doc, edit)?;
+    let ready = prepare(judge.alloc, doc, edit)?;
     if gives_too_many(edit, doc.mark.nodes) {
         return Err(EditAnswer::Limit);
     }
-    let Plan { task, inverse } = ready;
+    let Preparation { task, inverse } = ready;
     let checked = change(judge, root, doc, task, stamp, steps)?;
     let left = doc.mark.left;
     Ok((Done { checked, left }, inverse))
@@ -78,12 +83,15 @@ pub(crate) fn take_back<L: Ledger>(
     steps: &mut Steps<L>,
 ) -> Result<Done, NoMemory>
     requires plan { IsPlan (dtd_of judge.now.grammar.now) judge.now.plan.now }
-    requires marked { ∥ IsWellMarked (dtd_of judge.now.grammar.now) root.now (plain_doc doc.old) ∥₁ }
+    requires marked { ∥ IsWellMarked (dtd_of judge.now.grammar.now) root.now
+        (plain_doc doc.old) ∥₁ }
     requires leads { (before : PlainDoc Unit) × LeadsBack inverse.now (plain_doc doc.old) before ×
         IsGuarded (dtd_of judge.now.grammar.now) root.now before }
-    ensures marked { OnOk result (∥ IsWellMarked (dtd_of judge.now.grammar.now) root.now (plain_doc doc.new) ∥₁) }
+    ensures marked { OnOk result (∥ IsWellMarked (dtd_of judge.now.grammar.now) root.now
+        (plain_doc doc.new) ∥₁) }
     ensures few { OnOk result (nodes_in (plain_doc doc.new).root ≤ MAX_EDITED_NODES) }
-    ensures reverted { IfOk result (λ done. IsReverted (stamped_by (dtd_of judge.now.grammar.now) root.now (plain_doc doc.old)) inverse.now stamp
+    ensures reverted { IfOk result (λ done. IsReverted
+        (stamped_by (dtd_of judge.now.grammar.now) root.now (plain_doc doc.old)) inverse.now stamp
         done (stamped_by (dtd_of judge.now.grammar.now) root.now (plain_doc doc.new))) }
     ensures unchanged { OnErr result (plain_doc doc.new ≡ plain_doc doc.old) }
     ensures steps { steps.new ≤ steps.old + 2 }
@@ -91,7 +99,7 @@ pub(crate) fn take_back<L: Ledger>(
     live_lists_law::<Mark>();
     leads_back_law();
     proper_dtd_law(judge.grammar.dtd());
-    let task = plan_back(judge.alloc, doc, inverse)?;
+    let task = prepare_back(judge.alloc, doc, inverse)?;
     let checked = match change(judge, root, doc, task, stamp, steps) {
         Ok(checked) => checked,
         Err(EditAnswer::NoMemory) => return Err(NoMemory),

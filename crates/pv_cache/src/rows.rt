@@ -22,7 +22,8 @@ struct Telling {
 
 // Tells of the list at the places.
 fn tell(alloc: Global, mark: &Mark, telling: &mut Telling) -> Result<(), NoMemory>
-    ensures rows { OnOk result (telling.new.rows.items ≡ telling.old.rows.items ++ row_at telling.old.places.items mark.now ∷ []) }
+    ensures rows { OnOk result (telling.new.rows.items ≡ telling.old.rows.items
+        ++ row_at telling.old.places.items mark.now ∷ []) }
     ensures places { telling.new.places ≡ telling.old.places }
 {
     let path = Path::new(alloc, &telling.places)?;
@@ -38,7 +39,8 @@ fn tell(alloc: Global, mark: &Mark, telling: &mut Telling) -> Result<(), NoMemor
 #[cycle(tell)]
 fn tell_node(alloc: Global, node: &Node, telling: &mut Telling) -> Result<(), NoMemory>
     requires small { nodes_in (plain node.now) ≤ MAX_NODES }
-    ensures rows { OnOk result (telling.new.rows.items ≡ telling.old.rows.items ++ rows_at telling.old.places.items (plain node.now)) }
+    ensures rows { OnOk result (telling.new.rows.items ≡ telling.old.rows.items
+        ++ rows_at telling.old.places.items (plain node.now)) }
     ensures places { OnOk result (telling.new.places.items ≡ telling.old.places.items) }
 {
     let Node::Elem { kids, mark, .. } = node else {
@@ -52,7 +54,8 @@ fn tell_node(alloc: Global, node: &Node, telling: &mut Telling) -> Result<(), No
 #[cycle(tell)]
 fn tell_kids(alloc: Global, kids: &[Node], telling: &mut Telling) -> Result<(), NoMemory>
     requires small { nodes_in_all (forest kids.now) ≤ MAX_NODES }
-    ensures rows { OnOk result (telling.new.rows.items ≡ telling.old.rows.items ++ rows_from telling.old.places.items 0 (forest kids.now)) }
+    ensures rows { OnOk result (telling.new.rows.items ≡ telling.old.rows.items
+        ++ rows_from telling.old.places.items 0 (forest kids.now)) }
     ensures places { OnOk result (telling.new.places.items ≡ telling.old.places.items) }
 {
     for (i, kid) in kids.iter().enumerate() {

@@ -58,7 +58,8 @@ fn name_token(dtd: &Dtd, name: &[u8]) -> Token
 
 // Appends the word of some nodes.
 fn append(alloc: Global, dtd: &Dtd, nodes: &[Node], tokens: &mut Vec<Token>) -> Result<(), NoMemory>
-    ensures { OnOk result (map plain_token tokens.new.items ≡ map plain_token tokens.old.items ++ word_of (plain_dtd dtd.now) (forest nodes.now)) }
+    ensures { OnOk result (map plain_token tokens.new.items ≡ map plain_token tokens.old.items
+        ++ word_of (plain_dtd dtd.now) (forest nodes.now)) }
 {
     let more = word(alloc, dtd, nodes)?;
     tokens.extend_from_slice(more.as_slice())?;
@@ -124,7 +125,8 @@ pub(crate) fn word_after(
     change: &Change,
 ) -> Result<ListWord, NoMemory>
     requires { Suits (plain_change [] change.now) (plain_all kids.now) }
-    ensures { IfOk result (IsWordOf (plain_dtd dtd.now) (forest_of (list_after (plain_change [] change.now) (plain_all kids.now)))) }
+    ensures { IfOk result (IsWordOf (plain_dtd dtd.now)
+        (forest_of (list_after (plain_change [] change.now) (plain_all kids.now)))) }
 {
     let front = &kids[..change.from];
     let old = &kids[change.from..change.to];
@@ -142,7 +144,8 @@ pub(crate) fn word_after(
 
 // The word of what comes.
 fn middle_word(alloc: Global, dtd: &Dtd, coming: Coming<'_>) -> Result<ListWord, NoMemory>
-    ensures { IfOk result (λ word. (new : List (Tree Mark)) → IsComing new coming.entry → IsWordOf (plain_dtd dtd.now) (forest_of new) word) }
+    ensures { IfOk result (λ word. (new : List (Tree Mark)) → IsComing new coming.entry →
+        IsWordOf (plain_dtd dtd.now) (forest_of new) word) }
 {
     match coming {
         Coming::Nodes(nodes) => word_of(alloc, dtd, nodes),
@@ -162,7 +165,8 @@ pub(crate) fn who_came<'a>(filling: &'a Filling, old: &'a [Node]) -> Option<Came
     requires fits { Fits (plain_filling filling.now) (plain_all old.now) }
     requires bare { BringsBare (plain_filling filling.now) }
     ensures { MatchOption result (brings_element (plain_filling filling.now) ≡ false)
-        (IsCame (plain_filling filling.now) (in_place_of (plain_filling filling.now) (plain_all old.now))) }
+        (IsCame (plain_filling filling.now) (in_place_of (plain_filling filling.now)
+        (plain_all old.now))) }
 {
     match filling {
         Filling::Others(nodes) => only_element(nodes.as_slice()),
@@ -182,7 +186,8 @@ pub(crate) fn who_came<'a>(filling: &'a Filling, old: &'a [Node]) -> Option<Came
 fn only_element(nodes: &[Node]) -> Option<Came<'_>>
     requires { BringsBare (others (plain_all nodes.now)) }
     ensures { MatchOption result (list_any is_element (plain_all nodes.now) ≡ false)
-        (λ came. (list_any is_element (plain_all nodes.now) ≡ true) × (attrs : List ℕ) × (ending : Ending) × (mark : Mark) ×
+        (λ came. (list_any is_element (plain_all nodes.now) ≡ true) ×
+        (attrs : List ℕ) × (ending : Ending) × (mark : Mark) ×
         (plain_all nodes.now ≡ element came.name.now attrs ending (forest came.kids.now) mark ∷ [])) }
 {
     match nodes {
@@ -217,8 +222,10 @@ fn inner_word<'a>(
 ) -> Result<Option<InnerWord<'a>>, NoMemory>
     requires fits { Fits (plain_filling filling.now) (plain_all old.now) }
     requires bare { BringsBare (plain_filling filling.now) }
-    ensures { IfOk result (λ inner. MatchOption inner (brings_element (plain_filling filling.now) ≡ false)
-        (IsInnerWord (plain_dtd dtd.now) (plain_filling filling.now) (in_place_of (plain_filling filling.now) (plain_all old.now)))) }
+    ensures { IfOk result (λ inner. MatchOption inner
+        (brings_element (plain_filling filling.now) ≡ false)
+        (IsInnerWord (plain_dtd dtd.now) (plain_filling filling.now)
+        (in_place_of (plain_filling filling.now) (plain_all old.now)))) }
 {
     match who_came(filling, old) {
         None => Ok(None),
@@ -241,7 +248,8 @@ pub(crate) fn words_after<'a>(
 ) -> Result<Words<'a>, NoMemory>
     requires suits { Suits (plain_change [] change.now) (plain_all kids.now) }
     requires bare { BringsBare (plain_filling change.now.filling) }
-    ensures { IfOk result (AreWords (plain_dtd dtd.now) (plain_change [] change.now) (plain_all kids.now)) }
+    ensures { IfOk result (AreWords (plain_dtd dtd.now) (plain_change [] change.now)
+        (plain_all kids.now)) }
 {
     let outer = word_after(alloc, dtd, kids, change)?;
     let inner = inner_word(alloc, dtd, &change.filling, &kids[change.from..change.to])?;

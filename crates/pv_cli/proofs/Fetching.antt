@@ -5,7 +5,7 @@ use Rattle.pv_io.specs.declared.shelf.FetchError.{FetchError}
 use Rattle.pv_io.specs.declared.shelf.FetchError.TheVariants.{Failed, TooLong, NoMemory}
 use Rattle.pv_io.specs.Files.{FetchTells, FetchGives, HoldsMore, file_named}
 use Rattle.pv_cli.specs.declared.status.Status.TheVariants.{Limit}
-use Rattle.pv_cli.specs.Opening.{IsFile, IsGiven, IsTooLong}
+use Rattle.pv_cli.specs.Opening.{IsFile, IsGiven, IsFileTooLong}
 use Rattle.pv_cli.specs.Response.{PlainResponse, with_line, plain_response}
 use Rattle.pv_cli.specs.Stage.{StopsBy}
 use Rattle.pv_cli.specs.declared.stop.Stop.{Stop}
@@ -22,12 +22,12 @@ pub file_given : (file : Option (List ℕ)) (most : ℕ) (v : Vec ℕ Global) �
 file_given None most v gives = absurd gives
 file_given (Some bytes) most v gives = record { is_file = ap Some (sym gives.0); within = omega (arith, ap length gives.0, gives.1) }
 
-pub file_beyond : (file : Option (List ℕ)) (most : ℕ) (passed : List ℕ) (r : PlainResponse) → FetchGives file most (Err TooLong) → r ≡ with_line Limit passed → IsTooLong file most passed r
+pub file_beyond : (file : Option (List ℕ)) (most : ℕ) (passed : List ℕ) (r : PlainResponse) → FetchGives file most (Err TooLong) → r ≡ with_line Limit passed → IsFileTooLong file most passed r
 file_beyond None most passed r gives is = absurd gives
 file_beyond (Some bytes) most passed r gives is = record { bytes = bytes; is_file = refl; beyond = gives; is_response = is }
 
 pub stops_beyond : (file : Option (List ℕ)) (most : ℕ) (passed : List ℕ) (stop : Stop) → FetchGives file most (Err TooLong) →
-    StopsBy (λ r. r ≡ with_line Limit passed) ⊥ stop → StopsBy (IsTooLong file most passed) (HoldsMore file most → ⊥) stop
+    StopsBy (λ r. r ≡ with_line Limit passed) ⊥ stop → StopsBy (IsFileTooLong file most passed) (HoldsMore file most → ⊥) stop
 stops_beyond file most passed (Refused r) gives stops = file_beyond file most passed (plain_response r) gives stops
 stops_beyond file most passed ShelfFault gives stops = absurd stops
 stops_beyond file most passed OutOfMemory gives stops = tt

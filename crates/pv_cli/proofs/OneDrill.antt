@@ -1,16 +1,10 @@
 -- A drill has one response.
 use Rattle.std.proofs.Common.{◌≡◌, ℕ, List, [], ◌∷◌, ap, ◌∙◌, sym, subst}
-use Rattle.std.proofs.Math.Logic.{∥∥₁_elim}
-use Rattle.std.specs.Coded.{Coded-set, coded_ℕ}
-use Rattle.pv_missing.specs.Verdicts.{HavePossible, possible_in}
-use Rattle.pv_missing.proofs.VerdictLists.{one_list_of_verdicts}
-use Rattle.pv_dtd.specs.Plain.{PlainDtd}
+use Rattle.pv_cache.proofs.OneRows.{one_open}
 use Rattle.pv_dtd.specs.Laws.{OneMeaning}
-use Rattle.pv_tree.specs.Lists.{Listed}
 use Rattle.pv_drill.specs.Drill.{DRILL_DTD, drill_lines, drill_text}
 use Rattle.pv_script.specs.declared.replies.Reply.{Reply}
-use Rattle.pv_session.specs.Sessions.{PlainSession}
-use Rattle.pv_session.specs.Steps.{HasLeft}
+use Rattle.pv_session.specs.Sessions.{PlainSession, stamped_document}
 use Rattle.pv_cli.specs.declared.drill.Counts.{Counts}
 use Rattle.pv_cli.specs.declared.status.Status.TheVariants.{Done}
 use Rattle.pv_cli.specs.Documents.{document_stage}
@@ -22,16 +16,6 @@ use Rattle.pv_cli.specs.Stage.{beside}
 use Rattle.pv_cli.proofs.OneOpening.{IsEqual, IsSamePair, IsSameText, IsSure, ReadsOne, beside_sure, document_sure, dtd_sure, followed_sure}
 use Rattle.pv_cli.proofs.OneReplies.{AnswersOnce, one_reply}
 use Rattle.pv_cli.proofs.OneSession.{behind_sure, guarding_sure}
-
-one_number : (g : PlainDtd) (root : List ℕ) (lists : List (Listed ℕ)) (m n : ℕ) → HavePossible g root lists m → HavePossible g root lists n → m ≡ n
-one_number g root lists m n a b =
-    let e = ap possible_in (one_list_of_verdicts ℕ g root lists a.verdicts b.verdicts a.are_verdicts b.are_verdicts) in
-    a.count ∙ e ∙ sym b.count
-
-one_left : (s t : PlainSession) (m n : ℕ) → s ≡ t → HasLeft s m → HasLeft t n → m ≡ n
-one_left s t m n e a b =
-    let c : HasLeft t m = subst (λ (u : PlainSession). HasLeft u m) e a in
-    ∥∥₁_elim c (Coded-set coded_ℕ m n) (λ x. ∥∥₁_elim b (Coded-set coded_ℕ m n) (λ y. one_number t.dtd t.root _ m n x y))
 
 one_counting : AnswersOnce → (session : PlainSession) (before : Counts) (lines : List (List ℕ)) (after later : PlainSession) (counts also : Counts) →
     CountsReplies session before lines after counts → CountsReplies session before lines later also → (after ≡ later) × (counts ≡ also)
@@ -46,7 +30,7 @@ pub one_drill : AnswersOnce → (n : ℕ) (session same : PlainSession) (r also 
 one_drill once n session same r also is tells others =
     let moved = subst (λ (s : PlainSession). CountsReplies s no_counts (drill_lines n) others.after others.counts) (sym is) others.answers in
     let both = one_counting once session no_counts (drill_lines n) tells.after others.after tells.counts others.counts tells.answers moved in
-    let left = one_left tells.after others.after tells.open_lists others.open_lists both.0 tells.left others.left in
+    let left = one_open (stamped_document tells.after) (stamped_document others.after) tells.open_lists others.open_lists (ap stamped_document both.0) tells.left others.left in
     tells.is_response ∙ ap (λ (c : Counts). with_line Done (counts_text n c tells.open_lists)) both.1 ∙ ap (λ k. with_line Done (counts_text n others.counts k)) left ∙ sym others.is_response
 
 pub drill_sure : OneMeaning → ReadsOne → (n : ℕ) → IsSure (drill_stage n) IsEqual

@@ -6,8 +6,8 @@ use Rattle.pv_tree.specs.declared.nodes.Mark.{Mark}
 use Rattle.pv_edit.specs.declared.answers.Done.{Done as WhatWasDone}
 use Rattle.pv_script.specs.declared.replies.Reply.{Reply}
 use Rattle.pv_drill.specs.Drill.{DRILL_DTD, drill_lines, drill_text}
-use Rattle.pv_session.specs.Sessions.{PlainSession}
-use Rattle.pv_session.specs.Steps.{HasLeft}
+use Rattle.pv_cache.specs.Moves.{HasOpen}
+use Rattle.pv_session.specs.Sessions.{PlainSession, stamped_document}
 use Rattle.pv_cli.specs.declared.drill.Counts.{Counts}
 use Rattle.pv_cli.specs.declared.status.Status.TheVariants.{Done}
 use Rattle.pv_cli.specs.Course.{Course}
@@ -48,7 +48,7 @@ pub record TellsCounts (n : ℕ) (session : PlainSession) (r : PlainResponse) : 
   pub counts : Counts
   pub answers : CountsReplies session no_counts (drill_lines n) after counts
   pub open_lists : ℕ
-  pub left : HasLeft after open_lists
+  pub left : HasOpen (stamped_document after) open_lists
   pub is_response : r ≡ with_line Done (counts_text n counts open_lists)
 
 -- the root of the drill's document

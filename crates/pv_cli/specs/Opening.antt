@@ -32,7 +32,7 @@ pub record IsGiven (file : Option (List ℕ)) (most : ℕ) (bytes : List ℕ) : 
   pub within : length bytes ≤ most
 
 -- the response where the file holds more
-pub record IsTooLong (file : Option (List ℕ)) (most : ℕ) (passed : List ℕ) (r : PlainResponse) : Type 0 where
+pub record IsFileTooLong (file : Option (List ℕ)) (most : ℕ) (passed : List ℕ) (r : PlainResponse) : Type 0 where
   pub bytes : List ℕ
   pub is_file : file ≡ Some bytes
   pub beyond : most < length bytes
@@ -42,7 +42,7 @@ pub record IsTooLong (file : Option (List ℕ)) (most : ℕ) (passed : List ℕ)
 abbrev pub fetch_stage : Option (List ℕ) → ℕ → List ℕ → Stage (List ℕ)
 fetch_stage file most passed = record {
   Opens = IsGiven file most;
-  Refuses = IsTooLong file most passed;
+  Refuses = IsFileTooLong file most passed;
   AsksShelf = HoldsMore file most → ⊥;
 }
 

@@ -34,6 +34,6 @@ pub mod Unchanged
 pub mod KeptLists
 pub mod KeptBack
 pub mod RunSearches
-pub mod Planned
+pub mod Prepared
 pub mod Counted
 pub mod ListsChanged

@@ -6,7 +6,7 @@ use Rattle.pv_edit.specs.Changes.{Change, doc_after, root_after}
 use Rattle.pv_edit.specs.Effects.{change_of, next_of}
 use Rattle.pv_edit.specs.Fitting.{CanChange}
 use Rattle.pv_edit.specs.Inverses.{IsKept, LeadsBack, change_back, reverted}
-use Rattle.pv_edit.specs.Plans.{IsReady}
+use Rattle.pv_edit.specs.Preparations.{IsReady}
 use Rattle.pv_edit.specs.Reasons.{is_top, reason_of}
 use Rattle.pv_edit.specs.declared.inverses.Inverse.{Inverse}
 use Rattle.pv_edit.specs.declared.inverses.Inverse.TheVariants.{TakeOut, PutBack, Name, Merge, Divide, Text, Discard, Restore}

@@ -10,7 +10,7 @@ use Rattle.pv_tree.specs.Places.{Spot, spot_at}
 use Rattle.pv_tree.specs.Places.{at_node as at_spot}
 use Rattle.pv_tree.specs.Legal.{is_formed}
 use Rattle.pv_tree.specs.Units.{HasUnits}
-use Rattle.pv_edit.specs.Plans.{IsReady}
+use Rattle.pv_edit.specs.Preparations.{IsReady}
 use Rattle.pv_edit.proofs.EachNode.{EachNodes, each-old, each-of-list}
 use Rattle.pv_edit.proofs.Kept.{United, units-each}
 use Rattle.pv_tree.specs.PlainForms.{plain_end}

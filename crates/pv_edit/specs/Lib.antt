@@ -13,6 +13,6 @@ pub mod Refusals
 pub mod Fitting
 pub mod Rooms
 pub mod Laws
-pub mod Plans
+pub mod Preparations
 pub mod Leaves
 pub mod Origins

@@ -11,13 +11,13 @@ ghost use Rattle.pv_edit.specs.Changes.{doc_after, root_after};
 ghost use Rattle.pv_edit.specs.Fitting.{CanChange, plain_change, plain_filling};
 ghost use Rattle.pv_edit.specs.Inverses.{IsKept, LeadsBack, inverse_of, reverted};
 ghost use Rattle.pv_edit.specs.Reasons.{applied, gives, is_top, reason_of};
-ghost use Rattle.pv_edit.specs.Plans.{IsPlan, IsTask};
+ghost use Rattle.pv_edit.specs.Preparations.{IsPreparation, IsTask};
 ghost use Rattle.pv_edit.specs.Refusals.{IsRefused};
 
 use crate::descent::change_root;
 use crate::edits::Edit;
 use crate::inverses::Inverse;
-use crate::plans::{Plan, Task, plan_of};
+use crate::preparations::{Preparation, Task, preparation_of};
 use crate::reasons::EditError;
 use crate::rooms::room_for;
 use crate::shapes::first_reason;
@@ -29,34 +29,42 @@ use std::alloc::Global;
 /// What an edit is going to do, and what undoes it: all that can be made ready before the document is touched.
 ///
 /// The inverse leads back from each document that the change makes, whatever its marks are.
-pub fn plan(alloc: Global, doc: &Doc, edit: &Edit) -> Result<Plan, EditError>
-    ensures plan { IfOk result (IsPlan (plain_doc doc.now).root edit.now) }
-    ensures given { IfOk result (λ _. reason_of blank_mark (plain_doc doc.now).root edit.now ≡ None) }
-    ensures can { IfOk result (λ plan. CanChange plan.task.list (plain_change plan.task.list plan.task.change) (plain_doc doc.now).root) }
+pub fn prepare(alloc: Global, doc: &Doc, edit: &Edit) -> Result<Preparation, EditError>
+    ensures prepared { IfOk result (IsPreparation (plain_doc doc.now).root edit.now) }
+    ensures given { IfOk result (λ _. reason_of blank_mark (plain_doc doc.now).root edit.now
+        ≡ None) }
+    ensures can { IfOk result (λ ready. CanChange ready.task.list
+        (plain_change ready.task.list ready.task.change) (plain_doc doc.now).root) }
     ensures kept { nodes_in (plain_doc doc.now).root < MAX_NODES →
-        IfOk result (λ plan. IsKept (root_after plan.task.list (plain_change plan.task.list plan.task.change) (plain_doc doc.now).root)) }
-    ensures unshort { IfOk result (λ plan. is_top plan.task.list ≡ true → plan.task.change.shorten ≡ false) }
-    ensures bare { IfOk result (λ plan. BringsBare (plain_filling plan.task.change.filling)) }
-    ensures leads_back { IfOk result (λ plan. (made : PlainDoc Mark) →
-        unmarked_doc made ≡ unmarked_doc (doc_after (plain_change plan.task.list plan.task.change) (plain_doc doc.now)) →
-        LeadsBack plan.inverse made (unmarked_doc (plain_doc doc.now))) }
+        IfOk result (λ ready. IsKept (root_after ready.task.list
+        (plain_change ready.task.list ready.task.change) (plain_doc doc.now).root)) }
+    ensures unshort { IfOk result (λ ready. is_top ready.task.list ≡ true →
+        ready.task.change.shorten ≡ false) }
+    ensures bare { IfOk result (λ ready. BringsBare (plain_filling ready.task.change.filling)) }
+    ensures leads_back { IfOk result (λ ready. (made : PlainDoc Mark) →
+        unmarked_doc made
+        ≡ unmarked_doc (doc_after (plain_change ready.task.list ready.task.change) (plain_doc doc.now)) →
+        LeadsBack ready.inverse made (unmarked_doc (plain_doc doc.now))) }
     ensures refused { IfErr result (IsRefused (applied blank_mark (plain_doc doc.now) edit.now)) }
 {
     first_reason(alloc, doc, edit)?;
-    Ok(plan_of(alloc, doc, edit)?)
+    Ok(preparation_of(alloc, doc, edit)?)
 }
 
 /// What an inverse is going to do: it makes the document that the inverse leads to, whatever the marks are.
-pub fn plan_back(alloc: Global, doc: &Doc, inverse: &Inverse) -> Result<Task, NoMemory>
+pub fn prepare_back(alloc: Global, doc: &Doc, inverse: &Inverse) -> Result<Task, NoMemory>
     requires { (before : PlainDoc Unit) × LeadsBack inverse.now (plain_doc doc.now) before }
     ensures task { IfOk result (IsTask (plain_doc doc.now).root inverse.now) }
-    ensures can { IfOk result (λ task. CanChange task.list (plain_change task.list task.change) (plain_doc doc.now).root) }
-    ensures kept { IfOk result (λ task. IsKept (root_after task.list (plain_change task.list task.change) (plain_doc doc.now).root)) }
+    ensures can { IfOk result (λ task. CanChange task.list (plain_change task.list task.change)
+        (plain_doc doc.now).root) }
+    ensures kept { IfOk result (λ task. IsKept
+        (root_after task.list (plain_change task.list task.change) (plain_doc doc.now).root)) }
     ensures unshort { IfOk result (λ task. is_top task.list ≡ true → task.change.shorten ≡ false) }
     ensures bare { IfOk result (λ task. BringsBare (plain_filling task.change.filling)) }
     ensures led { IfOk result (λ task. (before : PlainDoc Unit) (made : PlainDoc Mark) →
         LeadsBack inverse.now (plain_doc doc.now) before →
-        unmarked_doc made ≡ unmarked_doc (doc_after (plain_change task.list task.change) (plain_doc doc.now)) →
+        unmarked_doc made
+        ≡ unmarked_doc (doc_after (plain_change task.list task.change) (plain_doc doc.now)) →
         unmarked_doc made ≡ before) }
 {
     task_back(alloc, doc, inverse)
@@ -67,13 +75,16 @@ pub fn plan_back(alloc: Global, doc: &Doc, inverse: &Inverse) -> Result<Task, No
 /// New elements have blank marks, and all other marks stay.
 pub fn apply(alloc: Global, doc: &mut Doc, edit: &Edit) -> Result<Inverse, EditError>
     requires { nodes_in (plain_doc doc.old).root < MAX_NODES }
-    ensures made { OnOk result (applied blank_mark (plain_doc doc.old) edit.now ≡ gives (plain_doc doc.new)) }
-    ensures inverse { IfOk result (λ inverse. inverse ≡ inverse_of (plain_doc doc.old).root edit.now) }
-    ensures leads_back { IfOk result (λ inverse. LeadsBack inverse (plain_doc doc.new) (unmarked_doc (plain_doc doc.old))) }
+    ensures made { OnOk result (applied blank_mark (plain_doc doc.old) edit.now
+        ≡ gives (plain_doc doc.new)) }
+    ensures inverse { IfOk result (λ inverse. inverse
+        ≡ inverse_of (plain_doc doc.old).root edit.now) }
+    ensures leads_back { IfOk result (λ inverse. LeadsBack inverse (plain_doc doc.new)
+        (unmarked_doc (plain_doc doc.old))) }
     ensures refused { IfErr result (IsRefused (applied blank_mark (plain_doc doc.old) edit.now)) }
     ensures unchanged { OnErr result (plain_doc doc.new ≡ plain_doc doc.old) }
 {
-    let Plan { task, inverse } = plan(alloc, doc, edit)?;
+    let Preparation { task, inverse } = prepare(alloc, doc, edit)?;
     make(alloc, doc, task)?;
     Ok(inverse)
 }
@@ -83,20 +94,24 @@ pub fn apply(alloc: Global, doc: &mut Doc, edit: &Edit) -> Result<Inverse, EditE
 /// A restored element has a blank mark, and all other marks stay.
 pub fn revert(alloc: Global, doc: &mut Doc, inverse: &Inverse) -> Result<(), NoMemory>
     requires { (before : PlainDoc Unit) × LeadsBack inverse.now (plain_doc doc.old) before }
-    ensures made { OnOk result (plain_doc doc.new ≡ reverted blank_mark (plain_doc doc.old) inverse.now) }
+    ensures made { OnOk result (plain_doc doc.new
+        ≡ reverted blank_mark (plain_doc doc.old) inverse.now) }
     ensures led { (before : PlainDoc Unit) → LeadsBack inverse.now (plain_doc doc.old) before →
         OnOk result (unmarked_doc (plain_doc doc.new) ≡ before) }
     ensures unchanged { OnErr result (plain_doc doc.new ≡ plain_doc doc.old) }
 {
-    let task = plan_back(alloc, doc, inverse)?;
+    let task = prepare_back(alloc, doc, inverse)?;
     make(alloc, doc, task)
 }
 
 /// Makes a change that has been made ready, or leaves the document as it is.
 pub fn make(alloc: Global, doc: &mut Doc, task: Task) -> Result<(), NoMemory>
-    requires can { CanChange task.list (plain_change task.list task.change) (plain_doc doc.old).root }
-    requires kept { IsKept (root_after task.list (plain_change task.list task.change) (plain_doc doc.old).root) }
-    ensures ok { OnOk result (plain_doc doc.new ≡ doc_after (plain_change task.list task.change) (plain_doc doc.old)) }
+    requires can { CanChange task.list (plain_change task.list task.change)
+        (plain_doc doc.old).root }
+    requires kept { IsKept (root_after task.list (plain_change task.list task.change)
+        (plain_doc doc.old).root) }
+    ensures ok { OnOk result (plain_doc doc.new ≡ doc_after (plain_change task.list task.change)
+        (plain_doc doc.old)) }
     ensures err { OnErr result (plain_doc doc.new ≡ plain_doc doc.old) }
 {
     let Task { list, change } = task;

@@ -111,7 +111,8 @@ fn last_run(nodes: &[Node]) -> &[Node]
 pub(crate) fn spell_close_mark(front: &[Node], middle: &[Node], back: &[Node]) -> bool
     requires front { spells_close_mark (forest_of (plain_all front.now)) ≡ false }
     requires back { spells_close_mark (forest_of (plain_all back.now)) ≡ false }
-    ensures { result ≡ spells_close_mark (forest_of (plain_all front.now ++ (plain_all middle.now ++ plain_all back.now))) }
+    ensures { result ≡ spells_close_mark (forest_of
+        (plain_all front.now ++ (plain_all middle.now ++ plain_all back.now))) }
 {
     search_near(front, middle, back).is_none()
 }
@@ -128,7 +129,8 @@ fn search_near(front: &[Node], middle: &[Node], back: &[Node]) -> Option<Bracket
 pub(crate) fn spell_close_mark_with(front: &[Node], text: &Units, back: &[Node]) -> bool
     requires front { spells_close_mark (forest_of (plain_all front.now)) ≡ false }
     requires back { spells_close_mark (forest_of (plain_all back.now)) ≡ false }
-    ensures { result ≡ spells_close_mark (forest_of (plain_all front.now ++ (one_text text.now ++ plain_all back.now))) }
+    ensures { result ≡ spells_close_mark (forest_of
+        (plain_all front.now ++ (one_text text.now ++ plain_all back.now))) }
 {
     search_with(front, text, back).is_none()
 }

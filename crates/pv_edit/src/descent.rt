@@ -58,8 +58,10 @@ fn change_top(alloc: Global, root: &mut Node, change: Change, room: Room)
 
 // Changes the list of the element at a path below a node.
 fn change_below(alloc: Global, node: &mut Node, path: &[u32], change: Change, room: Room)
-    requires { IsSomeAnd (node_below path.now (plain node.old)) (TakesIn room (plain_change [] change)) }
-    ensures { plain node.new ≡ change_below path.now (owner_after (plain_change [] change)) (plain node.old) }
+    requires { IsSomeAnd (node_below path.now (plain node.old))
+        (TakesIn room (plain_change [] change)) }
+    ensures { plain node.new ≡ change_below path.now (owner_after (plain_change [] change))
+        (plain node.old) }
 {
     match path {
         [] => change_owner(alloc, node, change, room),

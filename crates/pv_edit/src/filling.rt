@@ -31,10 +31,12 @@ pub(crate) fn fill(kids: &mut Vec<Node>, from: usize, to: usize, filling: Fillin
     requires order { from ≤ to }
     requires within { to ≤ vec_len kids.old }
     requires fits { Fits (plain_filling filling) (between from to (plain_all kids.old.items)) }
-    requires room { length (with_filling from to (plain_filling filling) (plain_all kids.old.items)) ≤ vec_capacity kids.old }
+    requires room { length (with_filling from to (plain_filling filling) (plain_all kids.old.items))
+        ≤ vec_capacity kids.old }
     requires empty { taken.items ≡ [] }
     requires taken { to - from ≤ vec_capacity taken }
-    ensures { plain_all kids.new.items ≡ with_filling from to (plain_filling filling) (plain_all kids.old.items) }
+    ensures { plain_all kids.new.items ≡ with_filling from to (plain_filling filling)
+        (plain_all kids.old.items) }
 {
     let middle = take_range(kids, from, to, taken);
     let left = kids.len();
@@ -100,9 +102,12 @@ pub(crate) fn kid_count(node: &Node) -> usize
 // Puts behind some kids, which have room for it, what comes in place of these.
 fn put_in_place(kids: &mut Vec<Node>, mut middle: Vec<Node>, filling: Filling)
     requires fits { Fits (plain_filling filling) (plain_all middle.items) }
-    requires room { vec_len kids.old + length (in_place_of (plain_filling filling) (plain_all middle.items)) ≤ vec_capacity kids.old }
-    ensures items { plain_all kids.new.items ≡ plain_all kids.old.items ++ in_place_of (plain_filling filling) (plain_all middle.items) }
-    ensures len { vec_len kids.new ≡ vec_len kids.old + length (in_place_of (plain_filling filling) (plain_all middle.items)) }
+    requires room { vec_len kids.old + length
+        (in_place_of (plain_filling filling) (plain_all middle.items)) ≤ vec_capacity kids.old }
+    ensures items { plain_all kids.new.items ≡ plain_all kids.old.items
+        ++ in_place_of (plain_filling filling) (plain_all middle.items) }
+    ensures len { vec_len kids.new ≡ vec_len kids.old
+        + length (in_place_of (plain_filling filling) (plain_all middle.items)) }
     ensures capacity { vec_capacity kids.old ≤ vec_capacity kids.new }
 {
     match filling {
@@ -150,7 +155,8 @@ struct Parts {
 // The parts of the only node, an element.
 fn element_parts(mut nodes: Vec<Node>) -> Parts
     requires { IsTrue (is_one_element (plain_all nodes.items)) }
-    ensures { plain_all nodes.items ≡ element result.name result.attrs (plain_end result.end) (forest result.kids.items) result.mark ∷ [] }
+    ensures { plain_all nodes.items ≡ element result.name result.attrs (plain_end result.end)
+        (forest result.kids.items) result.mark ∷ [] }
 {
     let Some(
         Node::Elem {

@@ -1,7 +1,7 @@
 //! Edits of a document. `shape` tells whether an edit can be made, and else its first reason (`reason_of`); `apply` makes it
 //! (`applied`), by one change of one list (`change_of`, `doc_after`), and gives its inverse (`inverse_of`); `revert` makes the change
 //! of an inverse (`reverted`), which leads back to the document before the edit (`LeadsBack`). An error leaves the document as it was.
-//! `plan` and `plan_back` make ready what each is going to do, and `make` does it, for a caller that looks at the change before.
+//! `prepare` and `prepare_back` make ready what each is going to do, and `make` does it, for a caller that looks at the change before.
 //! The laws tell what edits keep, and which lists they leave as they are (`changed_lists`, `origin_of`).
 #![tactic(auto)]
 
@@ -16,20 +16,20 @@ mod given;
 mod inverses;
 pub mod laws;
 mod places;
-mod plans;
+mod preparations;
 mod reasons;
 mod rooms;
 mod runs;
 mod shapes;
-mod text_plans;
+mod text_preparations;
 mod ways_back;
 
 pub use answers::{Done, EditAnswer, VerdictRow, VerdictRows};
-pub use changes::{apply, make, plan, plan_back, revert};
+pub use changes::{apply, make, prepare, prepare_back, revert};
 pub use descent::{Change, put_kids, take_kids};
 pub use edits::{Edit, Edits};
 pub use filling::Filling;
 pub use inverses::Inverse;
-pub use plans::{Plan, Task, kid_path};
+pub use preparations::{Preparation, Task, kid_path};
 pub use reasons::{EditError, Reason};
 pub use shapes::shape;

@@ -43,7 +43,8 @@ pub(crate) fn lacks_element(doc: &Doc, path: &Path) -> bool
 /// The text there.
 pub(crate) fn text_at<'a>(doc: &'a Doc, path: &Path) -> Option<&'a Units>
     ensures lacks { is_none result ≡ lacks_text path.now (plain_doc doc.now).root }
-    ensures units { IfSome result (λ units. units.now ≡ units_at path.now (plain_doc doc.now).root) }
+    ensures units { IfSome result (λ units. units.now
+        ≡ units_at path.now (plain_doc doc.now).root) }
 {
     match doc.node_at(path) {
         Some(Found::Inner(Node::Text(units))) => Some(units),
@@ -104,14 +105,16 @@ pub(crate) fn next_text<'a>(doc: &'a Doc, parent: &Path, path: &Path) -> Option<
     requires parent { parent.now ≡ parent_of path.now }
     requires there { IsInner path.now (plain_doc doc.now).root }
     ensures lacks { is_none result ≡ lacks_text (next_of path.now) (plain_doc doc.now).root }
-    ensures units { IfSome result (λ units. units.now ≡ units_at (next_of path.now) (plain_doc doc.now).root) }
+    ensures units { IfSome result (λ units. units.now ≡ units_at (next_of path.now)
+        (plain_doc doc.now).root) }
 {
     first_text(part_at(doc, parent, path).2)
 }
 
 fn first_text(nodes: &[Node]) -> Option<&Units>
     ensures lacks { is_none result ≡ not (is_spot is_text (first_spot (plain_all nodes.now))) }
-    ensures units { IfSome result (λ units. units.now ≡ units_on (first_spot (plain_all nodes.now))) }
+    ensures units { IfSome result (λ units. units.now
+        ≡ units_on (first_spot (plain_all nodes.now))) }
 {
     match nodes {
         [Node::Text(units), ..] => Some(units),

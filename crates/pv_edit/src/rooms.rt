@@ -32,7 +32,8 @@ pub(crate) fn room_for(
     change: &Change,
 ) -> Result<Room, NoMemory>
     requires { CanChange list.now (plain_change list.now change.now) (plain_doc doc.now).root }
-    ensures { IfOk result (λ room. HasRoomAt room list.now (plain_change list.now change.now) (plain_doc doc.now).root) }
+    ensures { IfOk result (λ room. HasRoomAt room list.now (plain_change list.now change.now)
+        (plain_doc doc.now).root) }
 {
     let kids = kids_at(doc, list);
     let gone = change.to - change.from;

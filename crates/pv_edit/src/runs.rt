@@ -18,7 +18,8 @@ use pv_tree::{Doc, Path};
 pub(crate) fn unwrap_makes_close_mark(doc: &Doc, parent: &Path, path: &Path) -> bool
     requires parent { parent.now ≡ parent_of path.now }
     requires there { IsInner path.now (plain_doc doc.now).root }
-    ensures { result ≡ makes_close_mark (change_of blank_mark (plain_doc doc.now).root (edit.Unwrap path.now)) (plain_doc doc.now).root }
+    ensures { result ≡ makes_close_mark (change_of blank_mark (plain_doc doc.now).root
+        (edit.Unwrap path.now)) (plain_doc doc.now).root }
 {
     let (front, node, back) = part_at(doc, parent, path);
     spell_close_mark(front, kids_of(node), back)
@@ -34,7 +35,8 @@ pub(crate) fn set_text_makes_close_mark(
     requires parent { parent.now ≡ parent_of path.now }
     requires there { IsInner path.now (plain_doc doc.now).root }
     ensures { (text : List ℕ) → units.now ≡ new_units text →
-        result ≡ makes_close_mark (change_of blank_mark (plain_doc doc.now).root (edit.SetText path.now text)) (plain_doc doc.now).root }
+        result ≡ makes_close_mark (change_of blank_mark (plain_doc doc.now).root
+        (edit.SetText path.now text)) (plain_doc doc.now).root }
 {
     let (front, _, back) = part_at(doc, parent, path);
     spell_close_mark_with(front, units, back)
@@ -44,7 +46,8 @@ pub(crate) fn set_text_makes_close_mark(
 pub(crate) fn add_text_makes_close_mark(doc: &Doc, path: &Path, at: u32, units: &Units) -> bool
     requires { at ≤ length (kids_at path.now (plain_doc doc.now).root) }
     ensures { (text : List ℕ) → units.now ≡ new_units text →
-        result ≡ makes_close_mark (change_of blank_mark (plain_doc doc.now).root (edit.AddText path.now at text)) (plain_doc doc.now).root }
+        result ≡ makes_close_mark (change_of blank_mark (plain_doc doc.now).root
+        (edit.AddText path.now at text)) (plain_doc doc.now).root }
 {
     let (front, back) = kids_at(doc, path).split_at(at as usize);
     spell_close_mark_with(front, units, back)
@@ -54,7 +57,8 @@ pub(crate) fn add_text_makes_close_mark(doc: &Doc, path: &Path, at: u32, units: 
 pub(crate) fn del_text_makes_close_mark(doc: &Doc, parent: &Path, path: &Path) -> bool
     requires parent { parent.now ≡ parent_of path.now }
     requires there { IsInner path.now (plain_doc doc.now).root }
-    ensures { result ≡ makes_close_mark (change_of blank_mark (plain_doc doc.now).root (edit.DelText path.now)) (plain_doc doc.now).root }
+    ensures { result ≡ makes_close_mark (change_of blank_mark (plain_doc doc.now).root
+        (edit.DelText path.now)) (plain_doc doc.now).root }
 {
     let (front, _, back) = part_at(doc, parent, path);
     spell_close_mark(front, &[], back)

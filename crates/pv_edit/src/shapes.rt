@@ -76,7 +76,8 @@ pub(crate) fn wrap_shape(
     to: u32,
     name: &[u8],
 ) -> Result<(), EditError>
-    ensures { let reason = reason_of blank_mark (plain_doc doc.now).root (edit.Wrap path.now from to name.now) in
+    ensures { let reason = reason_of blank_mark (plain_doc doc.now).root
+        (edit.Wrap path.now from to name.now) in
         MatchResult result (λ _. reason ≡ None) (IsRefusal reason) }
 {
     unless(lacks_node(doc, path), Reason::NoNode)?;
@@ -95,7 +96,8 @@ pub(crate) fn wrap_shape(
 
 /// Whether a new element can be put into a list.
 pub(crate) fn insert_shape(doc: &Doc, path: &Path, at: u32, name: &[u8]) -> Result<(), EditError>
-    ensures { let reason = reason_of blank_mark (plain_doc doc.now).root (edit.Insert path.now at name.now) in
+    ensures { let reason = reason_of blank_mark (plain_doc doc.now).root
+        (edit.Insert path.now at name.now) in
         MatchResult result (λ _. reason ≡ None) (IsRefusal reason) }
 {
     unless(lacks_node(doc, path), Reason::NoNode)?;
@@ -108,7 +110,8 @@ pub(crate) fn insert_shape(doc: &Doc, path: &Path, at: u32, name: &[u8]) -> Resu
 
 /// Whether an element can have another name.
 pub(crate) fn rename_shape(doc: &Doc, path: &Path, name: &[u8]) -> Result<(), EditError>
-    ensures { let reason = reason_of blank_mark (plain_doc doc.now).root (edit.Rename path.now name.now) in
+    ensures { let reason = reason_of blank_mark (plain_doc doc.now).root
+        (edit.Rename path.now name.now) in
         MatchResult result (λ _. reason ≡ None) (IsRefusal reason) }
 {
     unless(lacks_node(doc, path), Reason::NoNode)?;
@@ -144,7 +147,8 @@ fn wraps_too_deep(doc: &Doc, path: &Path, from: u32, to: u32, name: &[u8]) -> bo
     requires within { to ≤ length (kids_at path.now (plain_doc doc.now).root) }
     requires top { (is_top path.now && not ((from == 0) && (to == 1))) ≡ false }
     ensures { result ≡
-        goes_too_deep (change_of blank_mark (plain_doc doc.now).root (edit.Wrap path.now from to name.now)) (plain_doc doc.now).root }
+        goes_too_deep (change_of blank_mark (plain_doc doc.now).root
+        (edit.Wrap path.now from to name.now)) (plain_doc doc.now).root }
 {
     let inside = depth_of_all(&kids_at(doc, path)[from as usize..to as usize]);
     path.places().len() + 1 + inside as usize > 512
@@ -156,7 +160,8 @@ fn inserts_too_deep(doc: &Doc, path: &Path, at: u32, name: &[u8]) -> bool
     requires within { at ≤ length (kids_at path.now (plain_doc doc.now).root) }
     requires top { is_top path.now ≡ false }
     ensures { result ≡
-        goes_too_deep (change_of blank_mark (plain_doc doc.now).root (edit.Insert path.now at name.now)) (plain_doc doc.now).root }
+        goes_too_deep (change_of blank_mark (plain_doc doc.now).root
+        (edit.Insert path.now at name.now)) (plain_doc doc.now).root }
 {
     path.places().len() + 1 > 512
 }
@@ -235,7 +240,8 @@ pub(crate) fn set_text_shape(
     path: &Path,
     text: &[u8],
 ) -> Result<(), EditError>
-    ensures { let reason = reason_of blank_mark (plain_doc doc.now).root (edit.SetText path.now text.now) in
+    ensures { let reason = reason_of blank_mark (plain_doc doc.now).root
+        (edit.SetText path.now text.now) in
         MatchResult result (λ _. reason ≡ None) (IsRefusal reason) }
 {
     unless(lacks_node(doc, path), Reason::NoNode)?;
@@ -258,7 +264,8 @@ pub(crate) fn add_text_shape(
     at: u32,
     text: &[u8],
 ) -> Result<(), EditError>
-    ensures { let reason = reason_of blank_mark (plain_doc doc.now).root (edit.AddText path.now at text.now) in
+    ensures { let reason = reason_of blank_mark (plain_doc doc.now).root
+        (edit.AddText path.now at text.now) in
         MatchResult result (λ _. reason ≡ None) (IsRefusal reason) }
 {
     unless(lacks_node(doc, path), Reason::NoNode)?;

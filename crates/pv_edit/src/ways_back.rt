@@ -7,15 +7,15 @@ ghost use Rattle.pv_tree.specs.Marks.{blank_mark};
 ghost use Rattle.pv_edit.specs.Changes.{around, others};
 ghost use Rattle.pv_edit.specs.Effects.{fill, fill_node, one_text, parent_of, place_of};
 ghost use Rattle.pv_edit.specs.Fitting.{plain_change, plain_filling};
-ghost use Rattle.pv_edit.specs.Plans.{IsReady, IsTask};
+ghost use Rattle.pv_edit.specs.Preparations.{IsReady, IsTask};
 
 use crate::descent::Change;
 use crate::edits::path_of;
 use crate::filling::Filling;
 use crate::inverses::Inverse;
 use crate::places::parent_of;
-use crate::plans::{Task, equal_end, last_place, list_task, node_task, one_node};
-use crate::text_plans::{cut_task, join_task};
+use crate::preparations::{Task, equal_end, last_place, list_task, node_task, one_node};
+use crate::text_preparations::{cut_task, join_task};
 use pv_chars::{Bytes, NoMemory, Units, bytes_of};
 use pv_tree::{Doc, End, Node, Path};
 use std::alloc::Global;
@@ -67,7 +67,8 @@ fn removal_task(alloc: Global, path: &Path, filling: Filling, short: bool) -> Re
 
 // An element that comes back around kids.
 fn element(alloc: Global, name: &Bytes, attrs: &Bytes, end: &End) -> Result<Filling, NoMemory>
-    ensures { IfOk result (λ filling. plain_filling filling ≡ around name.now attrs.now (plain_end end.now) blank_mark) }
+    ensures { IfOk result (λ filling. plain_filling filling
+        ≡ around name.now attrs.now (plain_end end.now) blank_mark) }
 {
     Ok(Filling::Around {
         name: bytes_of(alloc, name.as_slice())?,
@@ -86,7 +87,8 @@ fn text_again(alloc: Global, text: &Units) -> Result<Filling, NoMemory>
 // A text that comes back before the kid at its place.
 fn restore_task(alloc: Global, path: &Path, text: &Units) -> Result<Task, NoMemory>
     ensures { IfOk result (λ task. plain_change task.list task.change ≡
-        fill (parent_of path.now) (place_of path.now) (place_of path.now) (others (one_text text.now))) }
+        fill (parent_of path.now) (place_of path.now) (place_of path.now)
+        (others (one_text text.now))) }
 {
     let place = last_place(path.places());
     let filling = text_again(alloc, text)?;

@@ -6,7 +6,7 @@ ghost use Rattle.pv_tree.specs.PlainDocs.{plain_doc};
 
 use crate::edits::{HELLO, IN_ORDER, MAX_NODES, expect};
 use crate::lines::edit_of;
-use pv_edit::{Edit, Plan, apply, make, plan, plan_back, revert};
+use pv_edit::{Edit, Preparation, apply, make, prepare, prepare_back, revert};
 use pv_fixture::documents::document_of;
 use pv_tree::Doc;
 use std::alloc::Global;
@@ -46,17 +46,17 @@ fn back_to_the_first_document(rt: HostRuntime) -> Result<(), Fail> {
     expect(alloc, &doc, HELLO)
 }
 
-// Plans an edit and makes its change; then the same of what undoes it.
+// Prepares an edit and makes its change; then the same of what undoes it.
 fn step_by_step(alloc: Global, doc: &mut Doc, edit: &Edit, after: &str) -> Result<(), Fail> {
     if doc.nodes() > MAX_NODES {
         return Err(Fail::new("too many nodes"));
     }
-    let Ok(Plan { task, inverse }) = plan(alloc, doc, edit) else {
-        return Err(Fail::new("no plan"));
+    let Ok(Preparation { task, inverse }) = prepare(alloc, doc, edit) else {
+        return Err(Fail::new("not prepared"));
     };
     make(alloc, doc, task)?;
     expect(alloc, doc, after)?;
-    let back = plan_back(alloc, doc, &inverse)?;
+    let back = prepare_back(alloc, doc, &inverse)?;
     make(alloc, doc, back)?;
     Ok(())
 }

@@ -3,7 +3,7 @@ use Rattle.std.proofs.Common.{List, [], ap, length, refl, subst, sym, ◌++◌, 
 use Rattle.std.specs.Prelude.{Err}
 use Rattle.std.specs.Option.{MatchOption}
 use Rattle.pv_cache.specs.Accepting.{IsGuarded}
-use Rattle.pv_cache.specs.Moves.{HasGround, IsEdited, IsReverted}
+use Rattle.pv_cache.specs.Moves.{HasGround, HasOpen, IsEdited, IsReverted}
 use Rattle.pv_cache.specs.Stamps.{StampedDoc, doc_as, stamped}
 use Rattle.pv_cache.proofs.Alike.{gives_as, guarded_to, reverted_as}
 use Rattle.pv_edit.specs.Brought.{lists_changed}
@@ -21,8 +21,8 @@ use Rattle.pv_edit.proofs.RemarkedFacts.{kept-to}
 use Rattle.pv_edit.proofs.RemarkedReasons.{inverse-as}
 use Rattle.pv_session.specs.Answers.{edit_answer}
 use Rattle.pv_session.specs.Keeping.{IsMade, IsSession, KeepsWays, LeadsOn, LeadsTo, led_back}
-use Rattle.pv_session.specs.Sessions.{PlainSession, begun, next_move}
-use Rattle.pv_session.specs.Steps.{HasLeft, IsEditStep, IsRedoStep, IsUndoStep, accepted, behind_move, impossible, is_done, lacks_history, no_past, not_applied, past_limit, redone, undone}
+use Rattle.pv_session.specs.Sessions.{PlainSession, begun, next_move, stamped_document}
+use Rattle.pv_session.specs.Steps.{IsEditStep, IsRedoStep, IsUndoStep, accepted, behind_move, impossible, is_done, lacks_history, no_past, not_applied, past_limit, redone, undone}
 use Rattle.pv_session.proofs.LastItems.{HasLast, has_some}
 use Rattle.pv_session.proofs.Opened.{led_opened}
 use Rattle.pv_session.proofs.Stamped.{begun_doc, begun_unmarked, stamped_same}
@@ -95,7 +95,7 @@ module _ (m : StampedDoc) (edits : List Edit) (ways : List Inverse) (gone : List
       leads_past : LeadsTo t.dtd t.root t.opened t.past ways' (unmarked_doc t.doc)
       leads_past = rw (same_opened, p, w, same_dtd, same_root) longer
 
-      is_left : HasLeft t done.left
+      is_left : HasOpen (stamped_document t) done.left
       is_left = e.is_left
 
       keeps_with : (last : PlainDoc Unit) → LeadsOn t.dtd t.root (unmarked_doc t.doc) undone' last → KeepsWays t ways'

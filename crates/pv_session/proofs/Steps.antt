@@ -3,38 +3,28 @@ use Rattle.std.proofs.Common.{List, [], ap, length, refl, subst, sym, ◌++◌, 
 use Rattle.std.proofs.lemmas.List.{same_from_push}
 use Rattle.std.proofs.Math.Logic.{∥∥₁_elim}
 use Rattle.std.specs.Coded.{Coded-set, coded_list, coded_ℕ}
-use Rattle.pv_dtd.specs.Plain.{PlainDtd}
 use Rattle.pv_edit.specs.ChangedLists.{changed_lists, makes, undoes}
 use Rattle.pv_edit.specs.Inverses.{inverse_of, reverted}
 use Rattle.pv_edit.specs.Reasons.{Outcome, applied, gives, refuses}
 use Rattle.pv_edit.specs.declared.reasons.Reason.{Reason}
 use Rattle.pv_edit.specs.declared.edits.Edit.{Edit}
-use Rattle.pv_missing.specs.Verdicts.{HavePossible, IsFirstImpossible, IsLive, possible_in}
+use Rattle.pv_missing.specs.Verdicts.{IsFirstImpossible, IsLive}
 use Rattle.pv_missing.specs.Completing.{IsPotentiallyValid}
-use Rattle.pv_missing.proofs.VerdictLists.{one_list_of_verdicts}
+use Rattle.pv_cache.proofs.OneRows.{one_open}
 use Rattle.pv_cache.specs.Accepting.{IsWithinLimits}
+use Rattle.pv_cache.specs.Moves.{HasOpen}
 use Rattle.pv_session.specs.Laws.{HasOneAnswer, StepsHaveOneAnswer}
-use Rattle.pv_session.specs.Sessions.{PlainSession, Replays, next_move}
-use Rattle.pv_session.specs.Steps.{HasLeft, behind_move, IsEditStep, IsRedoStep, IsUndoStep, PlainAnswer, accepted, impossible, is_done, is_impossible, is_past_limit, lacks_history, lacks_shape, no_past, none_undone, not_applied, past_limit, redone, undone}
+use Rattle.pv_session.specs.Sessions.{PlainSession, Replays, next_move, stamped_document}
+use Rattle.pv_session.specs.Steps.{behind_move, IsEditStep, IsRedoStep, IsUndoStep, PlainAnswer, accepted, impossible, is_done, is_impossible, is_past_limit, lacks_history, lacks_shape, no_past, none_undone, not_applied, past_limit, redone, undone}
 use Rattle.pv_session.proofs.Ways.{one_replay}
 use Rattle.pv_tree.specs.Lists.{IsFirstNot, Listed, lists_of}
 use Rattle.pv_tree.specs.Plain.{PlainDoc}
 use Rattle.pv_tree.specs.View.{view}
 use Rattle.pv_tree.proofs.Firsts.{one_first}
 
-one_number : (g : PlainDtd) (root : List ℕ) (lists : List (Listed ℕ)) (m n : ℕ) → HavePossible g root lists m → HavePossible g root lists n → m ≡ n
-one_number g root lists m n a b =
-    let e = ap possible_in (one_list_of_verdicts ℕ g root lists a.verdicts b.verdicts a.are_verdicts b.are_verdicts) in
-    a.count ∙ e ∙ sym b.count
-
-one_left : (s t : PlainSession) (m n : ℕ) → HasLeft s m → HasLeft t n → s ≡ t → m ≡ n
-one_left s t m n a b e =
-    let c : HasLeft t m = subst (λ (u : PlainSession). HasLeft u m) e a in
-    ∥∥₁_elim c (Coded-set coded_ℕ m n) (λ x. ∥∥₁_elim b (Coded-set coded_ℕ m n) (λ y. one_number t.dtd t.root _ m n x y))
-
 -- two moves that end alike and changed as many lists
-same_done : (s t : PlainSession) (a b : PlainAnswer) (i j m n : ℕ) → HasLeft s m → HasLeft t n → s ≡ t → i ≡ j → a ≡ is_done i m → b ≡ is_done j n → (a ≡ b) × (s ≡ t)
-same_done s t a b i j m n p q e c x y = let l = one_left s t m n p q e in (cc, e)
+same_done : (s t : PlainSession) (a b : PlainAnswer) (i j m n : ℕ) → HasOpen (stamped_document s) m → HasOpen (stamped_document t) n → s ≡ t → i ≡ j → a ≡ is_done i m → b ≡ is_done j n → (a ≡ b) × (s ≡ t)
+same_done s t a b i j m n p q e c x y = let l = one_open (stamped_document s) (stamped_document t) m n (ap stamped_document e) p q in (cc, e)
 
 same_given : (o : Outcome ℕ) (x y : PlainDoc ℕ) → o ≡ gives x → o ≡ gives y → x ≡ y
 same_given o x y a b = cc

@@ -1,6 +1,7 @@
 -- The steps of a session: what an edit, an undo or a redo is answered, and what the session is at behind it.
 use Rattle.std.specs.Prelude.{◌≡◌, ◌++◌, List, [], length, ℕ, ◌∷◌}
 use Rattle.pv_cache.specs.Accepting.{IsAccepted, IsWithinLimits}
+use Rattle.pv_cache.specs.Moves.{HasOpen}
 use Rattle.pv_cache.specs.Stamps.{stamped}
 use Rattle.pv_edit.specs.ChangedLists.{changed_lists, makes, undoes}
 use Rattle.pv_edit.specs.Inverses.{inverse_of, reverted}
@@ -8,8 +9,8 @@ use Rattle.pv_edit.specs.Reasons.{applied, gives, refuses}
 use Rattle.pv_edit.specs.declared.edits.Edit.{Edit}
 use Rattle.pv_edit.specs.declared.reasons.Reason.{Reason}
 use Rattle.pv_missing.specs.Completing.{IsPotentiallyValid}
-use Rattle.pv_missing.specs.Verdicts.{HavePossible, IsFirstImpossible}
-use Rattle.pv_session.specs.Sessions.{PlainSession, Replays, next_move}
+use Rattle.pv_missing.specs.Verdicts.{IsFirstImpossible}
+use Rattle.pv_session.specs.Sessions.{PlainSession, Replays, next_move, stamped_document}
 use Rattle.pv_tree.specs.Lists.{lists_of}
 use Rattle.pv_tree.specs.Marks.{unmarked_doc}
 use Rattle.pv_tree.specs.Plain.{PlainDoc}
@@ -22,10 +23,6 @@ pub data PlainAnswer : Type 0 where
   is_past_limit : PlainAnswer
   is_impossible : (path : List ℕ) → PlainAnswer
   lacks_history : PlainAnswer
-
--- how many lists of a session's document are Possible
-abbrev pub HasLeft : PlainSession → ℕ → Type 0
-HasLeft s left = ∥ HavePossible s.dtd s.root (lists_of s.doc) left ∥₁
 
 -- the document behind a move that changed these lists: they have the move's number for a stamp, and each other list keeps its own
 abbrev pub behind_move : PlainSession → List (List ℕ) → PlainDoc ℕ → PlainDoc ℕ
@@ -42,7 +39,7 @@ pub data IsEditStep (before : PlainSession) (edit : Edit) (answer : PlainAnswer)
         moves = next_move before.moves;
         doc = behind_move before (changed_lists (makes edit)) edited;
       } →
-      HasLeft after left → answer ≡ is_done (length (changed_lists (makes edit))) left →
+      HasOpen (stamped_document after) left → answer ≡ is_done (length (changed_lists (makes edit))) left →
       IsEditStep before edit answer after
   not_applied : (reason : Reason) → applied 0 before.doc edit ≡ refuses reason →
       answer ≡ lacks_shape reason → after ≡ before → IsEditStep before edit answer after
@@ -65,7 +62,7 @@ pub data IsUndoStep (before : PlainSession) (answer : PlainAnswer) (after : Plai
         moves = next_move before.moves;
         doc = behind_move before (changed_lists (undoes edit)) (reverted 0 before.doc (inverse_of doc.root edit));
       } →
-      HasLeft after left → answer ≡ is_done (length (changed_lists (undoes edit))) left →
+      HasOpen (stamped_document after) left → answer ≡ is_done (length (changed_lists (undoes edit))) left →
       IsUndoStep before answer after
   no_past : before.past ≡ [] → answer ≡ lacks_history → after ≡ before → IsUndoStep before answer after
 
@@ -80,7 +77,7 @@ pub data IsRedoStep (before : PlainSession) (answer : PlainAnswer) (after : Plai
         moves = next_move before.moves;
         doc = behind_move before (changed_lists (makes edit)) edited;
       } →
-      HasLeft after left → answer ≡ is_done (length (changed_lists (makes edit))) left →
+      HasOpen (stamped_document after) left → answer ≡ is_done (length (changed_lists (makes edit))) left →
       IsRedoStep before answer after
   none_undone : before.undone ≡ [] → answer ≡ lacks_history → after ≡ before →
       IsRedoStep before answer after

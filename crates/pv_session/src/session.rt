@@ -3,6 +3,7 @@
 ghost use Rattle.std.specs.Prelude.{◌≡◌, ◌≤◌, ◌<◌, ◌+◌, None, IfOk, IsNone, MatchOption, OnOk, vec_capacity, vec_len};
 ghost use Rattle.std.specs.List.{AllByRecursion};
 ghost use Rattle.pv_cache.specs.Accepting.{MAX_EDITED_NODES};
+ghost use Rattle.pv_cache.specs.Moves.{HasOpen};
 ghost use Rattle.pv_cache.specs.Rows.{AreRows, IsVerdictAt};
 ghost use Rattle.pv_cache.specs.Stamps.{stamps_of};
 ghost use Rattle.pv_cache.specs.WellMarked.{IsWellMarked};
@@ -12,7 +13,7 @@ ghost use Rattle.pv_productive.specs.PlainForms.{dtd_of};
 ghost use Rattle.pv_session.specs.Answers.{back_answer, edit_answer};
 ghost use Rattle.pv_session.specs.Keeping.{IsSession};
 ghost use Rattle.pv_session.specs.Sessions.{begun, next_move, stamped_document};
-ghost use Rattle.pv_session.specs.Steps.{HasLeft, IsEditStep, IsRedoStep, IsUndoStep};
+ghost use Rattle.pv_session.specs.Steps.{IsEditStep, IsRedoStep, IsUndoStep};
 ghost use Rattle.pv_tree.specs.Lists.{lists_of};
 ghost use Rattle.pv_tree.specs.Marks.{unmarked_doc};
 ghost use Rattle.pv_tree.specs.Places.{list_at};
@@ -193,7 +194,7 @@ impl Session {
 
     /// How many lists of the document are Possible.
     pub fn open_count(&self) -> u64
-        ensures { HasLeft self.now result }
+        ensures { HasOpen (stamped_document self.now) result }
     {
         self.marked.open_count()
     }
@@ -232,7 +233,8 @@ fn next_move(moves: u64) -> u64
 fn make_room(past: &mut Vec<Edit>, ways_back: &mut Vec<Inverse>) -> Result<(), NoMemory>
     ensures past { past.new.items ≡ past.old.items }
     ensures ways_back { ways_back.new.items ≡ ways_back.old.items }
-    ensures room { OnOk result ((vec_len past.new < vec_capacity past.new) × (vec_len ways_back.new < vec_capacity ways_back.new)) }
+    ensures room { OnOk result ((vec_len past.new < vec_capacity past.new)
+        × (vec_len ways_back.new < vec_capacity ways_back.new)) }
 {
     past.reserve(1)?;
     ways_back.reserve(1)?;

@@ -32,7 +32,7 @@ returns-clause-judged g c =
     let first : AreWords (plain_dtd c.dtd-dtd.result.now) ch (plain_all c.in-Some.kids.now) c.in_ok-words.words = record { outer = c.in_ok-words.ensures.outer; inner = c.in_ok-words.ensures.inner } in
     let words = subst (λ (e : PlainDtd). AreWords e ch (kids_at t.list doc.root) c.in_ok-words.words) c.dtd-dtd.ensures (subst (λ (ks : List (Tree Mark)). AreWords (plain_dtd c.dtd-dtd.result.now) ch ks c.in_ok-words.words) kids first) in
     let site = ap (λ (e : PlainDtd). site_of e c.args.root.now (owner_at t.list doc.root)) (sym c.dtd-dtd.ensures) ∙ c.owner_of-owner.ensures.owner in
-    answer-judged d c.args.root.now doc ch c.requires.can c.requires.unshort c.in_ok-words.words words (option_map plain_of c.owner_of-owner.result) site c.judge_words.result c.judge_words.ensures.borne c.judge_words.ensures.narrow
+    answer-judged d c.args.root.now doc ch c.requires.can c.requires.unshort c.in_ok-words.words words (option_map plain_of c.owner_of-owner.result) site c.judge_words.result c.judge_words.ensures.live c.judge_words.ensures.narrow
 
 pub returns-clause-refused : goal.returns-clause-refused
 returns-clause-refused g c =

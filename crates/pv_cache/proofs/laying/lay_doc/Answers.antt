@@ -3,7 +3,7 @@ use Rattle.pv_tree.specs.Plain.{without_marks}
 use Rattle.pv_tree.specs.PlainForms.{plain}
 use Rattle.pv_tree.specs.PlainDocs.{plain_doc}
 use Rattle.pv_edit.specs.Inverses.{IsKept}
-use Rattle.pv_cache.proofs.Keeping.{doc-kept}
+use Rattle.pv_edit.proofs.Prepared.{doc-kept}
 use Rattle.pv_cache.proofs.Laid.{laid_root}
 use Rattle.pv_cache.proofs.LaidLevels.{root_counted}
 use Rattle.pv_cache.proofs.Unmarked.{still-kept}

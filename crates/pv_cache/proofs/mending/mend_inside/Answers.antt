@@ -3,7 +3,7 @@ use Rattle.pv_tree.specs.Plain.{without_marks}
 use Rattle.pv_tree.specs.PlainForms.{plain}
 use Rattle.pv_edit.specs.Inverses.{IsKept}
 use Rattle.pv_cache.specs.Mending.{mended_owner}
-use Rattle.pv_cache.proofs.Keeping.{doc-kept}
+use Rattle.pv_edit.proofs.Prepared.{doc-kept}
 use Rattle.pv_cache.proofs.Unmarked.{below-as, owner-as, still-kept}
 use Rattle.pv_cache.proofs.mending.mend_inside.Goals as goal
 

@@ -2,7 +2,7 @@ use Rattle.std.proofs.Common.{◌∙◌, ap}
 use Rattle.pv_tree.specs.Plain.{without_marks}
 use Rattle.pv_tree.specs.PlainForms.{plain}
 use Rattle.pv_edit.specs.Inverses.{IsKept}
-use Rattle.pv_cache.proofs.Keeping.{doc-kept}
+use Rattle.pv_edit.proofs.Prepared.{doc-kept}
 use Rattle.pv_cache.proofs.Unmarked.{root-as, still-kept}
 use Rattle.pv_cache.proofs.mending.mend_top.Goals as goal
 

@@ -1,6 +1,6 @@
 use Rattle.pv_tree.specs.Marks.{unmarked_doc}
 use Rattle.pv_tree.specs.PlainDocs.{plain_doc}
-use Rattle.pv_edit.proofs.Planned.{leads-on}
+use Rattle.pv_edit.proofs.Prepared.{leads-on}
 use Rattle.pv_rows_edit.proofs.chains.+there_and_all_back.Goals as goal
 
 pub revert-requires : goal.revert-requires

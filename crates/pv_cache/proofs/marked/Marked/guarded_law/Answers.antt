@@ -7,7 +7,7 @@ use Rattle.pv_tree.specs.PlainDocs.{plain_doc}
 use Rattle.pv_cache.specs.Accepting.{IsGuarded}
 use Rattle.pv_cache.specs.Stamps.{StampedDoc, stamp_of}
 use Rattle.pv_cache.proofs.Alike.{guarded_to}
-use Rattle.pv_cache.proofs.Keeping.{doc-kept}
+use Rattle.pv_edit.proofs.Prepared.{doc-kept}
 use Rattle.pv_cache.proofs.Moved.{guarded_of}
 use Rattle.pv_cache.proofs.marked.Marked.guarded_law.Goals as goal
 

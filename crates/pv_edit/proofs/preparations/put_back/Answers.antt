@@ -7,7 +7,7 @@ use Rattle.pv_tree.specs.PlainDocs.{plain_found}
 use Rattle.pv_tree.specs.declared.places.Found.{Found}
 use Rattle.pv_tree.specs.Marks.{blank_mark}
 use Rattle.pv_edit.proofs.Sizes.{places-fit}
-use Rattle.pv_edit.proofs.plans.put_back.Goals as goal
+use Rattle.pv_edit.proofs.preparations.put_back.Goals as goal
 
 pub put_into-requires-clause-fits : goal.put_into-requires-clause-fits
 put_into-requires-clause-fits c =

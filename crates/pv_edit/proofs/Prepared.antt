@@ -12,14 +12,14 @@ use Rattle.pv_edit.specs.Changes.{Change, doc_after, root_after}
 use Rattle.pv_edit.specs.Effects.{change_of}
 use Rattle.pv_edit.specs.Fitting.{CanChange, plain_change, plain_filling}
 use Rattle.pv_edit.specs.Inverses.{IsKept, LeadsBack, change_back, inverse_of}
-use Rattle.pv_edit.specs.Plans.{IsPlan, IsTask}
+use Rattle.pv_edit.specs.Preparations.{IsPreparation, IsTask}
 use Rattle.pv_edit.specs.Reasons.{applied, gives, is_top, outcome, reason_of}
 use Rattle.pv_edit.specs.declared.edits.Edit.{Edit}
 use Rattle.pv_edit.specs.declared.edits.Edit.TheVariants.{Wrap, Insert, Unwrap, Rename, Split, Join, SetText, AddText, DelText}
 use Rattle.pv_edit.specs.declared.inverses.Inverse.{Inverse}
 use Rattle.pv_edit.specs.declared.inverses.Inverse.TheVariants.{TakeOut, PutBack, Name, Merge, Divide, Text, Discard, Restore}
-use Rattle.pv_edit.specs.declared.plans.Plan.{Plan}
-use Rattle.pv_edit.specs.declared.plans.Task.{Task}
+use Rattle.pv_edit.specs.declared.preparations.Preparation.{Preparation}
+use Rattle.pv_edit.specs.declared.preparations.Task.{Task}
 use Rattle.pv_edit.specs.declared.reasons.Reason.{Reason}
 use Rattle.pv_edit.proofs.Keeping.{edit-can, edit-kept}
 use Rattle.pv_edit.proofs.RemarkedReasons.{made-leads}
@@ -72,27 +72,27 @@ back-bare blank root (Text path units) = ((refl, tt), λ h. refl)
 back-bare blank root (Discard path shorten) = (tt, λ h. absurd cc)
 back-bare blank root (Restore path units) = ((refl, tt), λ h. refl)
 
-module _ (root : Tree Mark) (edit : Edit) (plan : Plan) (p : IsPlan root edit plan) where
-  pub plan-can : is_element root ≡ true → reason_of blank_mark root edit ≡ None → CanChange plan.task.list (plain_change plan.task.list plan.task.change) root
-  plan-can r given = subst (λ (d : Change Mark). CanChange d.list d root) (sym p.change) (edit-can blank_mark blank_mark root edit r given)
+module _ (root : Tree Mark) (edit : Edit) (ready : Preparation) (p : IsPreparation root edit ready) where
+  pub prepared-can : is_element root ≡ true → reason_of blank_mark root edit ≡ None → CanChange ready.task.list (plain_change ready.task.list ready.task.change) root
+  prepared-can r given = subst (λ (d : Change Mark). CanChange d.list d root) (sym p.change) (edit-can blank_mark blank_mark root edit r given)
 
-  pub plan-kept : IsKept root → nodes_in root < MAX_NODES → reason_of blank_mark root edit ≡ None → IsKept (root_after plan.task.list (plain_change plan.task.list plan.task.change) root)
-  plan-kept k n given = subst (λ (d : Change Mark). IsKept (root_after d.list d root)) (sym p.change) (edit-kept blank_mark blank_mark root edit k (omega arith) given)
+  pub prepared-kept : IsKept root → nodes_in root < MAX_NODES → reason_of blank_mark root edit ≡ None → IsKept (root_after ready.task.list (plain_change ready.task.list ready.task.change) root)
+  prepared-kept k n given = subst (λ (d : Change Mark). IsKept (root_after d.list d root)) (sym p.change) (edit-kept blank_mark blank_mark root edit k (omega arith) given)
 
-  pub plan-unshort : is_top plan.task.list ≡ true → plan.task.change.shorten ≡ false
-  plan-unshort h = subst (λ (d : Change Mark). d.shorten ≡ false) (sym p.change) (edit-unshort blank_mark root edit)
+  pub prepared-unshort : is_top ready.task.list ≡ true → ready.task.change.shorten ≡ false
+  prepared-unshort h = subst (λ (d : Change Mark). d.shorten ≡ false) (sym p.change) (edit-unshort blank_mark root edit)
 
-  pub plan-bare : BringsBare (plain_filling plan.task.change.filling)
-  plan-bare = subst (λ (d : Change Mark). BringsBare d.filling) (sym p.change) (edit-bare blank_mark root edit)
+  pub prepared-bare : BringsBare (plain_filling ready.task.change.filling)
+  prepared-bare = subst (λ (d : Change Mark). BringsBare d.filling) (sym p.change) (edit-bare blank_mark root edit)
 
 -- from each document that differs in marks alone
 pub leads-on : (inverse : Inverse) (made now : PlainDoc Mark) (before : PlainDoc Unit) → unmarked_doc now ≡ unmarked_doc made → LeadsBack inverse made before → LeadsBack inverse now before
 leads-on inverse made now before h l = record { edit = l.edit; kept = l.kept; is_edited = l.is_edited ∙ ap gives (sym h); is_inverse = l.is_inverse }
 
--- the inverse of a planned edit leads back from the document of its change
-pub plan-leads : (doc : Doc) (edit : Edit) (plan : Plan) → IsPlan (plain doc.root) edit plan → reason_of blank_mark (plain doc.root) edit ≡ None → (made : PlainDoc Mark)
-    → unmarked_doc made ≡ unmarked_doc (doc_after (plain_change plan.task.list plan.task.change) (plain_doc doc)) → LeadsBack plan.inverse made (unmarked_doc (plain_doc doc))
-plan-leads doc edit plan p reason made h =
+-- the inverse of a prepared edit leads back from the document of its change
+pub prepared-leads : (doc : Doc) (edit : Edit) (ready : Preparation) → IsPreparation (plain doc.root) edit ready → reason_of blank_mark (plain doc.root) edit ≡ None → (made : PlainDoc Mark)
+    → unmarked_doc made ≡ unmarked_doc (doc_after (plain_change ready.task.list ready.task.change) (plain_doc doc)) → LeadsBack ready.inverse made (unmarked_doc (plain_doc doc))
+prepared-leads doc edit ready p reason made h =
     let old = plain_doc doc in
     let c = change_of blank_mark (plain doc.root) edit in
     let given : applied blank_mark old edit ≡ gives (doc_after c old) = ap (λ (r : Option Reason). outcome r (doc_after c old)) reason in

@@ -5,7 +5,7 @@ use Rattle.pv_rules.specs.Sites.{PlainSite}
 use Rattle.pv_tree.specs.declared.nodes.Verdict.{Verdict}
 use Rattle.pv_tree.specs.declared.nodes.Verdict.TheVariants as verdict
 use Rattle.pv_cache.specs.Judging.{IsFound, inner_site}
-use Rattle.pv_cache.proofs.judging.bear_inner.Goals as goal
+use Rattle.pv_cache.proofs.judging.judge_inner.Goals as goal
 
 pub returns-then-eq-clause-refused : goal.returns-then-eq-clause-refused
 returns-then-eq-clause-refused g c =

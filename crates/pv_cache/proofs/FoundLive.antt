@@ -18,9 +18,9 @@ use Rattle.pv_tree.specs.Plain.{Forest, Tree, forest_of}
 use Rattle.pv_tree.specs.Words.{word_of}
 use Rattle.pv_tree.specs.declared.nodes.Mark.{Mark}
 use Rattle.pv_tree.specs.declared.nodes.Verdict.{Verdict}
-use Rattle.pv_cache.specs.Changed.{AreJudged, IsBearable, IsInnerJudged}
-use Rattle.pv_cache.specs.Judging.{AreBorne, AreNarrow, AreWords, IsBorne, IsFound, IsInnerBorne, IsInnerWord, IsWordOf}
-use Rattle.pv_cache.specs.declared.mending.Inner.{Inner}
+use Rattle.pv_cache.specs.Changed.{AreJudged, IsAcceptable, IsInnerJudged}
+use Rattle.pv_cache.specs.Judging.{AreFoundLive, AreNarrow, AreWords, IsFoundLive, IsFound, IsInnerFoundLive, IsInnerWord, IsWordOf}
+use Rattle.pv_cache.specs.declared.mending.InnerVerdict.{InnerVerdict}
 use Rattle.pv_cache.specs.declared.mending.Mend.{Mend}
 use Rattle.pv_cache.specs.declared.words.InnerWord.{InnerWord}
 use Rattle.pv_cache.specs.declared.words.ListWord.{ListWord}
@@ -37,11 +37,11 @@ module _ (g : PlainDtd) (root : List ℕ) where
   pub narrow-word : (kids : Forest Mark) (word : ListWord) → IsWordOf g kids word → FitsVerdict g (length word.tokens.items) → FitsVerdict g (length (word_of g kids))
   narrow-word kids word w f = subst (FitsVerdict g) (sym (length-map word.tokens.items plain_token) ∙ ap length w.tokens) f
 
-  pub borne-list : (owner : Owner) (kids : Forest Mark) (word : ListWord) (v : Verdict) → HoldsOne owner kids → IsWordOf g kids word → FitsVerdict g (length word.tokens.items) → IsBorne g (site_of g root owner) word v → IsBearable g root owner kids v
-  borne-list owner kids word v h w f b = record { judged = found-verdict owner kids word v h w b.found; bearable = b.bearable; narrow = narrow-word kids word w f }
+  pub live-list : (owner : Owner) (kids : Forest Mark) (word : ListWord) (v : Verdict) → HoldsOne owner kids → IsWordOf g kids word → FitsVerdict g (length word.tokens.items) → IsFoundLive g (site_of g root owner) word v → IsAcceptable g root owner kids v
+  live-list owner kids word v h w f b = record { judged = found-verdict owner kids word v h w b.found; live = b.live; narrow = narrow-word kids word w f }
 
-  inner-judged : (c : Change Mark) (new : List (Tree Mark)) (inner : Option InnerWord) (i : Option Inner) → MatchOption inner (brings_element c.filling ≡ false) (IsInnerWord g c.filling new) → IfSome inner (λ inner. FitsVerdict g (length inner.word.tokens.items)) →
-      IsInnerBorne g c.from inner i → IsInnerJudged g root c new i
+  inner-judged : (c : Change Mark) (new : List (Tree Mark)) (inner : Option InnerWord) (i : Option InnerVerdict) → MatchOption inner (brings_element c.filling ≡ false) (IsInnerWord g c.filling new) → IfSome inner (λ inner. FitsVerdict g (length inner.word.tokens.items)) →
+      IsInnerFoundLive g c.from inner i → IsInnerJudged g root c new i
   inner-judged c new None None w n b = w
   inner-judged c new None (Some i) w n b = absurd b
   inner-judged c new (Some inner) None w n b = absurd b
@@ -55,14 +55,14 @@ module _ (g : PlainDtd) (root : List ℕ) where
       kids = w.kids;
       mark = w.mark;
       is_one = w.is_one;
-      list = borne-list (an_element inner.name.now) w.kids inner.word i.verdict tt w.word n b.1;
+      list = live-list (an_element inner.name.now) w.kids inner.word i.verdict tt w.word n b.1;
     },
   )
 
   -- the verdicts that were found are those of the changed lists
-  pub borne-judged : (owner : Owner) (kids : List (Tree Mark)) (c : Change Mark) (words : Words) (mend : Mend) → HoldsOne owner (forest_of (list_after c kids)) → AreWords g c kids words → AreNarrow g words → AreBorne g (site_of g root owner) c.from words mend →
+  pub live-judged : (owner : Owner) (kids : List (Tree Mark)) (c : Change Mark) (words : Words) (mend : Mend) → HoldsOne owner (forest_of (list_after c kids)) → AreWords g c kids words → AreNarrow g words → AreFoundLive g (site_of g root owner) c.from words mend →
       AreJudged g root owner kids c mend.verdict mend.inner
-  borne-judged owner kids c words mend h w n b = record {
-    outer = borne-list owner (forest_of (list_after c kids)) words.outer mend.verdict h w.outer n.outer b.outer;
+  live-judged owner kids c words mend h w n b = record {
+    outer = live-list owner (forest_of (list_after c kids)) words.outer mend.verdict h w.outer n.outer b.outer;
     within = inner-judged c (in_place_of c.filling (between c.from c.to kids)) words.inner mend.inner w.inner n.inner b.inner;
   }

@@ -11,7 +11,7 @@ ghost use Rattle.pv_edit.specs.Effects.{fill, parent_of, place_of};
 ghost use Rattle.pv_edit.specs.Fitting.{plain_change, plain_filling};
 ghost use Rattle.pv_edit.specs.Inverses.{ends_short, is_short, put_back};
 ghost use Rattle.pv_edit.specs.Reasons.{lacks_element, reason_of};
-ghost use Rattle.pv_edit.specs.Plans.{IsPlan};
+ghost use Rattle.pv_edit.specs.Preparations.{IsPreparation};
 ghost use Rattle.pv_edit.specs.declared.edits.Edit.TheVariants as edit;
 
 use crate::descent::Change;
@@ -19,7 +19,9 @@ use crate::edits::{Edit, path_of};
 use crate::filling::{Filling, kid_count};
 use crate::inverses::Inverse;
 use crate::places::parent_of;
-use crate::text_plans::{add_text_plan, del_text_plan, join_plan, set_text_plan, split_plan};
+use crate::text_preparations::{
+    prepare_add_text, prepare_del_text, prepare_join, prepare_set_text, prepare_split,
+};
 use pv_chars::{List, NoMemory, bytes_of};
 use pv_tree::{Doc, End, Found, Mark, Node, Path};
 use std::alloc::Global;
@@ -33,15 +35,15 @@ pub struct Task {
 
 /// What an edit does, and what undoes it.
 #[derive(Debug, Drop)]
-pub struct Plan {
+pub struct Preparation {
     pub task: Task,
     pub inverse: Inverse,
 }
 
-/// The plan of an edit that can be made.
-pub(crate) fn plan_of(alloc: Global, doc: &Doc, edit: &Edit) -> Result<Plan, NoMemory>
+/// The preparation of an edit that can be made.
+pub(crate) fn preparation_of(alloc: Global, doc: &Doc, edit: &Edit) -> Result<Preparation, NoMemory>
     requires { reason_of blank_mark (plain_doc doc.now).root edit.now ≡ None }
-    ensures { IfOk result (IsPlan (plain_doc doc.now).root edit.now) }
+    ensures { IfOk result (IsPreparation (plain_doc doc.now).root edit.now) }
 {
     match edit {
         Edit::Wrap {
@@ -49,15 +51,21 @@ pub(crate) fn plan_of(alloc: Global, doc: &Doc, edit: &Edit) -> Result<Plan, NoM
             from,
             to,
             name,
-        } => wrap_plan(alloc, doc, path, *from, *to, name.as_slice()),
-        Edit::Insert { path, at, name } => insert_plan(alloc, doc, path, *at, name.as_slice()),
-        Edit::Unwrap { path } => unwrap_plan(alloc, doc, path),
-        Edit::Rename { path, name } => rename_plan(alloc, doc, path, name.as_slice()),
-        Edit::Split { path, at } => split_plan(alloc, doc, path, *at),
-        Edit::Join { path } => join_plan(alloc, doc, path),
-        Edit::SetText { path, text } => set_text_plan(alloc, doc, path, text.as_slice()),
-        Edit::AddText { path, at, text } => add_text_plan(alloc, doc, path, *at, text.as_slice()),
-        Edit::DelText { path } => del_text_plan(alloc, doc, path),
+        } => prepare_wrap(alloc, doc, path, *from, *to, name.as_slice()),
+        Edit::Insert { path, at, name } => prepare_insert(alloc, doc, path, *at, name.as_slice()),
+        Edit::Unwrap { path } => prepare_unwrap(alloc, doc, path),
+        Edit::Rename { path, name } => prepare_rename(alloc, doc, path, name.as_slice()),
+        Edit::Split { path, at } => prepare_split(alloc, doc, path, *at),
+        Edit::Join { path } => prepare_join(alloc, doc, path),
+        Edit::SetText { path, text } => prepare_set_text(alloc, doc, path, text.as_slice()),
+        Edit::AddText { path, at, text } => prepare_add_text(
+            alloc,
+            doc,
+            path,
+            *at,
+            text.as_slice(),
+        ),
+        Edit::DelText { path } => prepare_del_text(alloc, doc, path),
     }
 }
 
@@ -83,7 +91,8 @@ pub(crate) fn node_task(
 ) -> Result<Task, NoMemory>
     requires { count ≤ 2 }
     ensures { IfOk result (λ task. plain_change task.list task.change ≡
-        fill (parent_of path.now) (place_of path.now) (place_of path.now + count) (plain_filling filling)) }
+        fill (parent_of path.now) (place_of path.now) (place_of path.now + count)
+        (plain_filling filling)) }
 {
     let from = last_place(path.places()) as usize;
     let change = Change {
@@ -142,15 +151,16 @@ pub(crate) fn one_node(alloc: Global, node: Node) -> Result<Filling, NoMemory>
     Ok(Filling::Others(nodes))
 }
 
-fn wrap_plan(
+fn prepare_wrap(
     alloc: Global,
     doc: &Doc,
     path: &Path,
     from: u32,
     to: u32,
     name: &[u8],
-) -> Result<Plan, NoMemory>
-    ensures { IfOk result (IsPlan (plain_doc doc.now).root (edit.Wrap path.now from to name.now)) }
+) -> Result<Preparation, NoMemory>
+    ensures { IfOk result (IsPreparation (plain_doc doc.now).root
+        (edit.Wrap path.now from to name.now)) }
 {
     let filling = Filling::Around {
         name: bytes_of(alloc, name)?,
@@ -162,17 +172,18 @@ fn wrap_plan(
         short: ends_short(doc, path),
     };
     let task = list_task(path_of(alloc, path)?, from, to, filling);
-    Ok(Plan { task, inverse })
+    Ok(Preparation { task, inverse })
 }
 
-fn insert_plan(
+fn prepare_insert(
     alloc: Global,
     doc: &Doc,
     path: &Path,
     at: u32,
     name: &[u8],
-) -> Result<Plan, NoMemory>
-    ensures { IfOk result (IsPlan (plain_doc doc.now).root (edit.Insert path.now at name.now)) }
+) -> Result<Preparation, NoMemory>
+    ensures { IfOk result (IsPreparation (plain_doc doc.now).root
+        (edit.Insert path.now at name.now)) }
 {
     let filling = one_node(alloc, new_element(alloc, name)?)?;
     let inverse = Inverse::TakeOut {
@@ -180,7 +191,7 @@ fn insert_plan(
         short: ends_short(doc, path),
     };
     let task = list_task(path_of(alloc, path)?, at, at, filling);
-    Ok(Plan { task, inverse })
+    Ok(Preparation { task, inverse })
 }
 
 // An element without attributes and kids.
@@ -196,19 +207,20 @@ fn new_element(alloc: Global, name: &[u8]) -> Result<Node, NoMemory>
     })
 }
 
-fn unwrap_plan(alloc: Global, doc: &Doc, path: &Path) -> Result<Plan, NoMemory>
+fn prepare_unwrap(alloc: Global, doc: &Doc, path: &Path) -> Result<Preparation, NoMemory>
     requires { lacks_element path.now (plain_doc doc.now).root ≡ false }
-    ensures { IfOk result (IsPlan (plain_doc doc.now).root (edit.Unwrap path.now)) }
+    ensures { IfOk result (IsPreparation (plain_doc doc.now).root (edit.Unwrap path.now)) }
 {
     let task = node_task(alloc, path, 1, Filling::Inner)?;
     let inverse = put_back(alloc, doc, path)?;
-    Ok(Plan { task, inverse })
+    Ok(Preparation { task, inverse })
 }
 
 // What puts the kids of the element at a path back into it.
 fn put_back(alloc: Global, doc: &Doc, path: &Path) -> Result<Inverse, NoMemory>
     requires { lacks_element path.now (plain_doc doc.now).root ≡ false }
-    ensures { IfOk result (λ i. i ≡ put_back (parent_of path.now) (place_of path.now) (spot_at path.now (plain_doc doc.now).root)) }
+    ensures { IfOk result (λ i. i ≡ put_back (parent_of path.now) (place_of path.now)
+        (spot_at path.now (plain_doc doc.now).root)) }
 {
     match doc.node_at(path) {
         Some(Found::Inner(node)) => put_into(alloc, path, node),
@@ -220,7 +232,8 @@ fn put_back(alloc: Global, doc: &Doc, path: &Path) -> Result<Inverse, NoMemory>
 fn put_into(alloc: Global, path: &Path, node: &Node) -> Result<Inverse, NoMemory>
     requires elem { IsTrue (is_element (plain node.now)) }
     requires fits { place_of path.now + length (kids_of (plain node.now)) < 4294967296 }
-    ensures { IfOk result (λ i. i ≡ put_back (parent_of path.now) (place_of path.now) (Some (at_node (plain node.now)))) }
+    ensures { IfOk result (λ i. i ≡ put_back (parent_of path.now) (place_of path.now)
+        (Some (at_node (plain node.now)))) }
 {
     let from = last_place(path.places());
     let to = from + kid_count(node) as u32;
@@ -252,9 +265,14 @@ pub(crate) fn equal_end(alloc: Global, end: &End) -> Result<End, NoMemory>
     }
 }
 
-fn rename_plan(alloc: Global, doc: &Doc, path: &Path, name: &[u8]) -> Result<Plan, NoMemory>
+fn prepare_rename(
+    alloc: Global,
+    doc: &Doc,
+    path: &Path,
+    name: &[u8],
+) -> Result<Preparation, NoMemory>
     requires { lacks_element path.now (plain_doc doc.now).root ≡ false }
-    ensures { IfOk result (IsPlan (plain_doc doc.now).root (edit.Rename path.now name.now)) }
+    ensures { IfOk result (IsPreparation (plain_doc doc.now).root (edit.Rename path.now name.now)) }
 {
     let Some(Found::Inner(Node::Elem { name: old, .. })) = doc.node_at(path) else {
         unreachable!()
@@ -265,5 +283,5 @@ fn rename_plan(alloc: Global, doc: &Doc, path: &Path, name: &[u8]) -> Result<Pla
     };
     let filling = Filling::Named(bytes_of(alloc, name)?);
     let task = node_task(alloc, path, 1, filling)?;
-    Ok(Plan { task, inverse })
+    Ok(Preparation { task, inverse })
 }

@@ -8,7 +8,7 @@ ghost use Rattle.pv_edit.specs.Effects.{fill_node, fill_two, next_of, one_text, 
 ghost use Rattle.pv_edit.specs.Fitting.{plain_change, plain_filling};
 ghost use Rattle.pv_edit.specs.Given.{is_new_text, new_units};
 ghost use Rattle.pv_edit.specs.Reasons.{lacks_text};
-ghost use Rattle.pv_edit.specs.Plans.{IsPlan};
+ghost use Rattle.pv_edit.specs.Preparations.{IsPreparation};
 ghost use Rattle.pv_edit.specs.declared.edits.Edit.TheVariants as edit;
 
 use crate::edits::path_of;
@@ -16,23 +16,30 @@ use crate::filling::Filling;
 use crate::given::new_units;
 use crate::inverses::Inverse;
 use crate::places::{next_text, parent_of, text_at};
-use crate::plans::{Plan, Task, ends_short, kid_path, list_task, node_task, one_node};
+use crate::preparations::{
+    Preparation, Task, ends_short, kid_path, list_task, node_task, one_node,
+};
 use pv_chars::{NoMemory, Units};
 use pv_tree::{Doc, Node, Path};
 use std::alloc::Global;
 
-/// The plan of a cut.
-pub(crate) fn split_plan(alloc: Global, doc: &Doc, path: &Path, at: u32) -> Result<Plan, NoMemory>
+/// The preparation of a cut.
+pub(crate) fn prepare_split(
+    alloc: Global,
+    doc: &Doc,
+    path: &Path,
+    at: u32,
+) -> Result<Preparation, NoMemory>
     requires text { lacks_text path.now (plain_doc doc.now).root ≡ false }
     requires some { 0 < at }
     requires within { at < length (units_at path.now (plain_doc doc.now).root) }
-    ensures { IfOk result (IsPlan (plain_doc doc.now).root (edit.Split path.now at)) }
+    ensures { IfOk result (IsPreparation (plain_doc doc.now).root (edit.Split path.now at)) }
 {
     let task = cut_task(alloc, doc, path, at as usize)?;
     let inverse = Inverse::Merge {
         path: path_of(alloc, path)?,
     };
-    Ok(Plan { task, inverse })
+    Ok(Preparation { task, inverse })
 }
 
 /// A text cut before one of its units.
@@ -40,7 +47,8 @@ pub(crate) fn cut_task(alloc: Global, doc: &Doc, path: &Path, at: usize) -> Resu
     requires text { lacks_text path.now (plain_doc doc.now).root ≡ false }
     requires some { 0 < at }
     requires within { at < length (units_at path.now (plain_doc doc.now).root) }
-    ensures { IfOk result (λ task. plain_change task.list task.change ≡ fill_node path.now (others (two_texts at (units_at path.now (plain_doc doc.now).root)))) }
+    ensures { IfOk result (λ task. plain_change task.list task.change
+        ≡ fill_node path.now (others (two_texts at (units_at path.now (plain_doc doc.now).root)))) }
 {
     let Some(units) = text_at(doc, path) else {
         unreachable!()
@@ -53,7 +61,8 @@ pub(crate) fn cut_task(alloc: Global, doc: &Doc, path: &Path, at: usize) -> Resu
 
 // Two nodes, to come in place of others.
 fn two_nodes(alloc: Global, first: Node, second: Node) -> Result<Filling, NoMemory>
-    ensures { IfOk result (λ filling. plain_filling filling ≡ others (plain first ∷ plain second ∷ [])) }
+    ensures { IfOk result (λ filling. plain_filling filling
+        ≡ others (plain first ∷ plain second ∷ [])) }
 {
     let mut nodes = Vec::with_capacity(alloc, 2)?;
     nodes.push_reserved(first);
@@ -61,11 +70,11 @@ fn two_nodes(alloc: Global, first: Node, second: Node) -> Result<Filling, NoMemo
     Ok(Filling::Others(nodes))
 }
 
-/// The plan of a join.
-pub(crate) fn join_plan(alloc: Global, doc: &Doc, path: &Path) -> Result<Plan, NoMemory>
+/// The preparation of a join.
+pub(crate) fn prepare_join(alloc: Global, doc: &Doc, path: &Path) -> Result<Preparation, NoMemory>
     requires text { lacks_text path.now (plain_doc doc.now).root ≡ false }
     requires next { lacks_text (next_of path.now) (plain_doc doc.now).root ≡ false }
-    ensures { IfOk result (IsPlan (plain_doc doc.now).root (edit.Join path.now)) }
+    ensures { IfOk result (IsPreparation (plain_doc doc.now).root (edit.Join path.now)) }
 {
     let Some(units) = text_at(doc, path) else {
         unreachable!()
@@ -75,7 +84,7 @@ pub(crate) fn join_plan(alloc: Global, doc: &Doc, path: &Path) -> Result<Plan, N
         at: units.len() as u64,
     };
     let task = join_task(alloc, doc, path)?;
-    Ok(Plan { task, inverse })
+    Ok(Preparation { task, inverse })
 }
 
 /// A text joined with the text behind it.
@@ -83,7 +92,8 @@ pub(crate) fn join_task(alloc: Global, doc: &Doc, path: &Path) -> Result<Task, N
     requires text { lacks_text path.now (plain_doc doc.now).root ≡ false }
     requires next { lacks_text (next_of path.now) (plain_doc doc.now).root ≡ false }
     ensures { IfOk result (λ task. plain_change task.list task.change ≡
-        fill_two path.now (others (one_text (units_at path.now (plain_doc doc.now).root ++ units_at (next_of path.now) (plain_doc doc.now).root)))) }
+        fill_two path.now (others (one_text (units_at path.now (plain_doc doc.now).root
+        ++ units_at (next_of path.now) (plain_doc doc.now).root)))) }
 {
     let parent = parent_of(alloc, path)?;
     let Some(units) = text_at(doc, path) else {
@@ -96,16 +106,17 @@ pub(crate) fn join_task(alloc: Global, doc: &Doc, path: &Path) -> Result<Task, N
     node_task(alloc, path, 2, filling)
 }
 
-/// The plan of other bytes for a text.
-pub(crate) fn set_text_plan(
+/// The preparation of other bytes for a text.
+pub(crate) fn prepare_set_text(
     alloc: Global,
     doc: &Doc,
     path: &Path,
     text: &[u8],
-) -> Result<Plan, NoMemory>
+) -> Result<Preparation, NoMemory>
     requires text { lacks_text path.now (plain_doc doc.now).root ≡ false }
     requires given { is_new_text text.now ≡ true }
-    ensures { IfOk result (IsPlan (plain_doc doc.now).root (edit.SetText path.now text.now)) }
+    ensures { IfOk result (IsPreparation (plain_doc doc.now).root
+        (edit.SetText path.now text.now)) }
 {
     let filling = new_text(alloc, text)?;
     let task = node_task(alloc, path, 1, filling)?;
@@ -113,7 +124,7 @@ pub(crate) fn set_text_plan(
         path: path_of(alloc, path)?,
         text: old_text(alloc, doc, path)?,
     };
-    Ok(Plan { task, inverse })
+    Ok(Preparation { task, inverse })
 }
 
 // The text at a path.
@@ -130,7 +141,8 @@ fn old_text(alloc: Global, doc: &Doc, path: &Path) -> Result<Units, NoMemory>
 // A new text, to come in place of others.
 fn new_text(alloc: Global, text: &[u8]) -> Result<Filling, NoMemory>
     requires { is_new_text text.now ≡ true }
-    ensures { IfOk result (λ filling. plain_filling filling ≡ others (one_text (new_units text.now))) }
+    ensures { IfOk result (λ filling. plain_filling filling
+        ≡ others (one_text (new_units text.now))) }
 {
     let Some(units) = new_units(alloc, text)? else {
         unreachable!()
@@ -138,16 +150,17 @@ fn new_text(alloc: Global, text: &[u8]) -> Result<Filling, NoMemory>
     one_node(alloc, Node::Text(units))
 }
 
-/// The plan of a new text.
-pub(crate) fn add_text_plan(
+/// The preparation of a new text.
+pub(crate) fn prepare_add_text(
     alloc: Global,
     doc: &Doc,
     path: &Path,
     at: u32,
     text: &[u8],
-) -> Result<Plan, NoMemory>
+) -> Result<Preparation, NoMemory>
     requires { is_new_text text.now ≡ true }
-    ensures { IfOk result (IsPlan (plain_doc doc.now).root (edit.AddText path.now at text.now)) }
+    ensures { IfOk result (IsPreparation (plain_doc doc.now).root
+        (edit.AddText path.now at text.now)) }
 {
     let filling = new_text(alloc, text)?;
     let task = list_task(path_of(alloc, path)?, at, at, filling);
@@ -155,13 +168,17 @@ pub(crate) fn add_text_plan(
         path: kid_path(alloc, path, at)?,
         short: ends_short(doc, path),
     };
-    Ok(Plan { task, inverse })
+    Ok(Preparation { task, inverse })
 }
 
-/// The plan of a text taken away.
-pub(crate) fn del_text_plan(alloc: Global, doc: &Doc, path: &Path) -> Result<Plan, NoMemory>
+/// The preparation of a text taken away.
+pub(crate) fn prepare_del_text(
+    alloc: Global,
+    doc: &Doc,
+    path: &Path,
+) -> Result<Preparation, NoMemory>
     requires { lacks_text path.now (plain_doc doc.now).root ≡ false }
-    ensures { IfOk result (IsPlan (plain_doc doc.now).root (edit.DelText path.now)) }
+    ensures { IfOk result (IsPreparation (plain_doc doc.now).root (edit.DelText path.now)) }
 {
     let filling = Filling::Others(Vec::new(alloc));
     let task = node_task(alloc, path, 1, filling)?;
@@ -169,5 +186,5 @@ pub(crate) fn del_text_plan(alloc: Global, doc: &Doc, path: &Path) -> Result<Pla
         path: path_of(alloc, path)?,
         text: old_text(alloc, doc, path)?,
     };
-    Ok(Plan { task, inverse })
+    Ok(Preparation { task, inverse })
 }

@@ -10,13 +10,13 @@ use Rattle.pv_edit.specs.Fitting.{plain_change}
 use Rattle.pv_edit.specs.declared.edits.Edit.{Edit}
 use Rattle.pv_edit.specs.declared.inverses.Inverse.{Inverse}
 use Rattle.pv_edit.specs.declared.inverses.Inverse.TheVariants.{TakeOut, PutBack, Name, Merge, Divide, Text, Discard, Restore}
-use Rattle.pv_edit.specs.declared.plans.Plan.{Plan}
-use Rattle.pv_edit.specs.declared.plans.Task.{Task}
+use Rattle.pv_edit.specs.declared.preparations.Preparation.{Preparation}
+use Rattle.pv_edit.specs.declared.preparations.Task.{Task}
 
 -- the change of an edit, and its inverse
-pub record IsPlan (root : Tree Mark) (edit : Edit) (plan : Plan) : Type 0 where
-  pub change : plain_change plan.task.list plan.task.change ≡ change_of blank_mark root edit
-  pub inverse : plan.inverse ≡ inverse_of root edit
+pub record IsPreparation (root : Tree Mark) (edit : Edit) (ready : Preparation) : Type 0 where
+  pub change : plain_change ready.task.list ready.task.change ≡ change_of blank_mark root edit
+  pub inverse : ready.inverse ≡ inverse_of root edit
 
 -- the change that an inverse makes
 abbrev pub IsTask : Tree Mark → Inverse → Task → Type 0
