@@ -31,13 +31,15 @@ finish() {
     exit
 }
 
-# check SECONDS COMMAND..: runs it, at most so long, and counts what it tells; a failure that it doesn't count is one
+# check SECONDS COMMAND..: runs it, at most so long, and counts what it tells, also that it skipped something; a failure that it doesn't
+# count is one
 check() {
     local seconds=$1 before=$failed status
     shift
     timeout "$seconds" "$@" 2>&1 | tee "$log"
     status=${PIPESTATUS[0]}
     count "$log"
+    ! grep -q '^skipped: ' "$log" || skipped=$((skipped + 1))
     [ "$status" -eq 0 ] || [ "$failed" -gt "$before" ] || {
         echo "$1: status $status"
         failed=$((failed + 1))
@@ -70,6 +72,7 @@ check 900 tests/program.sh
 skip "edits without memory" cc || check 300 tests/edits_without_memory.sh
 skip "the comparison with insertions" python3 || check 300 python3 tests/against_insertions.py crates/pvtag/out/pvtag 850 1
 skip "the comparison of least numbers" python3 || check 300 python3 tests/least_numbers.py crates/pv_need_trial/out/pv_need_trial 850 1
+skip "the comparison of completions" python3 || check 300 python3 tests/completions.py crates/pvtag/out/pvtag 400 1 60
 skip "the comparison with a model" python3 || check 300 python3 tests/against_a_model.py crates/pvtag/out/pvtag 20000 3
 skip "the failing allocations" python3 cc || check 300 python3 tests/failing_allocations.py crates/pvtag/out/pvtag 12000
 skip "the comparison with xmllint" python3 xmllint || check 300 python3 tests/against_xmllint.py crates/pvtag/out/pvtag 200 1 120

@@ -97,8 +97,10 @@ expect "a larger drill" 0 "drill 100 lines 233 ok 133 refused 100 open 33 checke
 expect "the largest drill" 0 "drill 20000 lines 46666 ok 26666 refused 20000 open 6666 checked 46666$lf" timeout 60 "$pvtag" drill 20000
 seq 20000 | awk 'BEGIN { printf "<doc><head>drill</head>" } { printf "<sec>t%d</sec>", $1 } END { printf "</doc>" }' >large.xml
 seq 20000 | awk '{ printf "wrap 0.%d 0 1 br\nwrap 0.%d 0 1 p\n", $1, $1; if ($1 % 3 == 0) print "undo" }' >large.txt
+seq 20000 | awk 'BEGIN { open = 20000 } { printf "no impossible 0.%d.0\nok 2 %d\n", $1, --open; if ($1 % 3 == 0) print "ok 1", ++open }' >replies.txt
 expect "its lines in a session" 0 "46666 no impossible 0.1.0 ok 2 19999 ok 2 6666$lf" timeout 60 bash -c '"$0" session a.dtd doc large.xml <large.txt |
-    awk "NR == 1 || NR == 2 { first = first \" \" \$0 } { last = \$0 } END { print NR first, last }"' "$pvtag"
+    tee got.txt | awk "NR == 1 || NR == 2 { first = first \" \" \$0 } { last = \$0 } END { print NR first, last }"' "$pvtag"
+expect "each of its replies" 0 "" cmp got.txt replies.txt
 for size in 0 20001 007 +3 x; do expect "a drill of $size" 2 "usage$lf" "$pvtag" drill "$size"; done
 
 # DTDs at their limits and one past them, and bytes that are no characters. Each is read by `valid`, on a document that it declares.
@@ -224,6 +226,7 @@ session "lines that are no commands" "$(printf 'no command\n%.0s' "${forms[@]}")
 session "1,055 sections" 'ok 2 0' a.dtd doc "<doc><head/>$(repeat 1055 '<sec/>')</doc>" 'insert 0 1 sec'
 session "512 elements in one another" 'no shape deep' a.dtd em "$(repeat 512 '<em>')$(repeat 512 '</em>')" 'wrap . 0 1 em'
 { printf '<!ELEMENT r (#PCDATA'; seq -f '|a%g' 4000 | tr -d '\n'; printf ')*><!ELEMENT a1 EMPTY>'; } >wide.dtd
-session "an edit past the width" "$(lines 'no limit' 'history 0')" wide.dtd r "<r>$(repeat 8386 'x<!---->')</r>" 'addtext 0 0 y' history
+session "an edit past the width" "$(lines 'no limit' 'history 0' 'verdicts 2' '. valid 0' '0 valid 0')" wide.dtd r "<r>$(repeat 8386 'x<!---->')</r>" \
+    'addtext 0 0 y' history verdicts
 echo "program: $passed passed, $failed failed"
 [ "$failed" -eq 0 ]

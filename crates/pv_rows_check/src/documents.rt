@@ -208,3 +208,14 @@ fn a_failing_output(rt: HostRuntime) -> Result<(), Fail> {
     };
     check_run(&rt, "the third put", &given, Status::WriteFault, b"po")
 }
+
+// No command, whatever the files are.
+#[test]
+fn words(rt: HostRuntime) -> Result<(), Fail> {
+    let lines: [&[&str]; 2] = [&["check", "A"], &["check", "a.dtd", "1x", "d.xml"]];
+    for words in lines {
+        let given = Given::plain(words, FILES);
+        check_run(&rt, "the words", &given, Status::Usage, b"usage\n")?;
+    }
+    Ok(())
+}

@@ -12,14 +12,61 @@ use std::thread::Threads;
 
 const WORDS: &[&str] = &["session", "a.dtd", "doc", "d.xml"];
 
-const HELLO: &str = "<doc>Hello</doc>";
+/// A document with one text.
+pub const HELLO: &str = "<doc>Hello</doc>";
 
 const VALID: &str = "<doc><head>a</head><sec></sec></doc>";
 
-// A document and a script, and the output of a session on them.
-type Row = (&'static str, &'static str, &'static str);
+// Edits of the realistic document.
+const MARKUP: &str = "wrap 0.3 0 3 p
+wrap 0.3 1 4 p
+insert 0.3 0 title
+addtext 0.3.0 0 Opening
+rename 0.3.2 list
+undo
+wrap 0.3 1 2 head
+unwrap 0.3.1.1
+verdicts
+show
+";
 
-static SCRIPTS: [Row; 14] = [
+const MARKED: &str = "ok 2 1
+ok 2 0
+ok 2 0
+ok 1 0
+ok 2 1
+ok 2 0
+no impossible 0.3
+no shape not-element
+verdicts 9
+. valid 0
+0 valid 0
+0.1 valid 0
+0.3 valid 6
+0.3.0 valid 4
+0.3.1 valid 1
+0.3.2 valid 6
+0.3.2.0 valid 0
+0.3.2.2 valid 0
+show 288
+<?xml version=\"1.0\" encoding=\"UTF-8\"?>
+<!DOCTYPE doc SYSTEM \"a.dtd\">
+<!-- draft -->
+<doc id=\"d1\">
+<head>On caf&#233;s</head>
+<sec class='intro'><title>Opening</title><p>
+Cafés opened early. See <![CDATA[<menu>]]> below.
+</p><p><em>Tea</em> came later.<br /></p>
+</sec>
+<?page 2?>
+</doc>
+
+";
+
+/// A document and a script, and the output of a session on them.
+pub type Row = (&'static str, &'static str, &'static str);
+
+static SCRIPTS: [Row; 15] = [
     (
         VALID,
         "show\n",
@@ -45,8 +92,10 @@ static SCRIPTS: [Row; 14] = [
     ),
     (
         HELLO,
-        "split 0.0 2\nwrap 0 0 1 head\nshow\nhistory\n",
-        "ok 1 1\nok 2 1\nshow 29\n<doc><head>He</head>llo</doc>\nhistory 2\nsplit 0.0 2\nwrap 0 0 1 head\n",
+        "split 0.0 2\nwrap 0 0 1 head\nshow\nhistory\nverdicts\n",
+        "ok 1 1\nok 2 1\nshow 29\n<doc><head>He</head>llo</doc>\n\
+         history 2\nsplit 0.0 2\nwrap 0 0 1 head\n\
+         verdicts 3\n. valid 0\n0 possible 2\n0.0 valid 2\n",
     ),
     (
         HELLO,
@@ -55,12 +104,19 @@ static SCRIPTS: [Row; 14] = [
     ),
     (
         HELLO,
-        "addtext 0 1 , you\njoin 0.0\ntext 0.0 Hi &amp; bye\ntext 0.0 a&nbsp;\ndeltext 0.0\nshow\nundo\n",
-        "ok 1 1\nok 1 1\nok 1 1\nno shape bad-text\nok 1 1\nshow 11\n<doc></doc>\nok 1 1\n",
+        "addtext 0 1 , you\njoin 0.0\ntext 0.0 Hi &amp; bye\ntext 0.0 a&nbsp;\ndeltext 0.0\nshow\nundo\nshow\n",
+        "ok 1 1\nok 1 1\nok 1 1\nno shape bad-text\nok 1 1\nshow 11\n<doc></doc>\n\
+         ok 1 1\nshow 23\n<doc>Hi &amp; bye</doc>\n",
     ),
+    (REALISTIC, MARKUP, MARKED),
 ];
 
-fn check<R: AllocGlobal + Threads + Sync>(rt: &R, rows: &[Row], piece: usize) -> Result<(), Fail>
+/// A session on each row's document gives its replies, where so many bytes come and go at once.
+pub fn check<R: AllocGlobal + Threads + Sync>(
+    rt: &R,
+    rows: &[Row],
+    piece: usize,
+) -> Result<(), Fail>
     requires { 0 < piece }
 {
     for (doc, script, replies) in rows {
