@@ -1,12 +1,12 @@
 -- A conversation, line by line.
-use Rattle.std.proofs.Common.{◌≡◌, ◌≢◌, ◌⊎◌, inl, inr, ℕ, zero, suc, ◌+◌, ◌-◌, ◌<◌, ◌≤◌, Bool, true, false, List, [], ◌∷◌, ◌++◌, map, length, get_or, take, drop, codes, decimal, Option, Ok, refl, sym, ap, ◌∙◌, subst, append_assoc, arith}
+use Rattle.std.proofs.Common.{◌≡◌, ◌≢◌, ◌⊎◌, inl, inr, ℕ, zero, suc, ◌+◌, ◌*◌, ◌-◌, ◌<◌, ◌≤◌, Bool, true, false, List, [], ◌∷◌, ◌++◌, map, length, get_or, take, drop, codes, decimal, Option, Ok, refl, sym, ap, ◌∙◌, subst, append_assoc, arith}
 use Rattle.std.proofs.lemmas.List.{append-nil, length-append, length-take, map-append, take-append-drop, take_all}
 use Rattle.std.specs.Io.KnownBytes.{Appends, Consumes}
 use Rattle.pv_io.specs.Causes.{AppendsFront, CountStays}
 use Rattle.pv_script.proofs.Pieces.{pieces_of-part}
 use Rattle.pv_script.proofs.Words.{Free-append}
 use Rattle.pv_script.specs.Commands.{SpellsCommand}
-use Rattle.pv_script.specs.Lines.{FEED, HasNoFeed, lines_of, pieces_of, with_feeds, without_returns}
+use Rattle.pv_script.specs.Lines.{FEED, HasNoFeed, ended_lines, lines_of, pieces_of, with_feeds, without_returns}
 use Rattle.pv_script.specs.Taking.{HeldLine, MAX_LINE_BYTES, nothing_held, begun_line, TakesAll, TakesLine, IsTooLong}
 use Rattle.pv_script.specs.declared.commands.Command.TheVariants.{Quit}
 use Rattle.pv_session.specs.Sessions.{PlainSession}
@@ -25,7 +25,7 @@ begun_is : (held : HeldLine) → held.whole ≡ false → begun_line held ≡ he
 begun_is held is = rw is refl
 
 -- the bytes so far are read as their lines and what is held
-read_of : (old : Option (List ℕ)) (first : PlainSession) (script : List ℕ) (now : Option (List ℕ)) (current : PlainSession) (held : HeldLine) (number : ℕ) →
+pub read_of : (old : Option (List ℕ)) (first : PlainSession) (script : List ℕ) (now : Option (List ℕ)) (current : PlainSession) (held : HeldLine) (number : ℕ) →
     (so_far : Conversed old first script now current held number) → IsReadAs script so_far.lines held.bytes
 read_of old first script now current held number so_far =
     record { is_cut = so_far.is_cut; are_lines = so_far.are_lines; is_part = so_far.is_begun.0 }
@@ -491,12 +491,13 @@ last_failed old mid now first current after script line held number is replies s
     ends_with_last old mid (AppendsFront old now) first current after script held number replies.0 so_far within some (subst (λ (l : List ℕ). IsReplyText current l after replies.0) is replies.1)
     (front_behind old mid now so_far.out replies.0 so_far.written replies.2)
 
--- a conversation up to a piece: what it took, and what its devices counted
-pub record Talks (old now : Option (List ℕ)) (first current : PlainSession) (held : HeldLine) (number : ℕ) (input_old input_now : Option (List ℕ)) (input_faults input_faults_now faults faults_now left room : ℕ) : Type 0 where
+-- a conversation up to a piece: what it took, and what its devices and the counter of lists counted
+pub record Talks (old now : Option (List ℕ)) (first current : PlainSession) (held : HeldLine) (number : ℕ) (input_old input_now : Option (List ℕ)) (input_faults input_faults_now faults faults_now checked checked_now left room : ℕ) : Type 0 where
   pub script : List ℕ
   pub so_far : Conversed old first script now current held number
   pub taken : Consumes input_old input_now script
   pub within : length script + left ≡ MAX_SCRIPT_BYTES
   pub input_stays : CountStays input_faults input_faults_now
   pub stays : CountStays faults faults_now
+  pub few : checked_now ≤ checked + 2 * length (ended_lines script)
   pub roomy : room ≡ 65536

@@ -2,6 +2,7 @@ pub mod CommandLines
 pub mod Completeness
 pub mod Conversations
 pub mod Conversing
+pub mod Counting
 pub mod DrillStages
 pub mod Drilling
 pub mod Fetching

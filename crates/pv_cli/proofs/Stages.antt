@@ -77,10 +77,10 @@ input_stays (Err NoMemory) count = refl
 
 -- what a command found that leaves the input alone, once it is written
 pub found_runs : {S : Type 0} (line : Option PlainCommandLine) (told now : Option (List (List ℕ × List ℕ))) (before after : ℕ) (result : Result Response Stop)
-    (input : S) (left : Option (List ℕ)) (input_faults : ℕ) (old new : Option (List ℕ)) (first last : ℕ) (status : Status) →
-    FindsResponse line told before after result → Writes (ending_of result) old new first last status →
-    Runs line (devices told before input left input_faults old first) (devices now after input left input_faults new last) status
-found_runs line told now before after result input left input_faults old new first last status finds writes = record {
+    (input : S) (left : Option (List ℕ)) (input_faults : ℕ) (old new : Option (List ℕ)) (first last : ℕ) (status : Status) (checked checked_now : ℕ) →
+    FindsResponse line told before after checked checked_now result → Writes (ending_of result) old new first last status →
+    Runs line (devices told before input left input_faults old first checked) (devices now after input left input_faults new last checked_now) status
+found_runs line told now before after result input left input_faults old new first last status checked checked_now finds writes = record {
   files = finds.files;
   are_files = finds.are_files;
   course = without_input (ending_of result);
@@ -92,4 +92,5 @@ found_runs line told now before after result input left input_faults old new fir
     output = writes;
     at_end = λ is. tt;
   };
+  checked = finds.checked_lists;
 }

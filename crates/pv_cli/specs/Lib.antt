@@ -1,4 +1,5 @@
 pub mod Check
+pub mod Checking
 pub mod CommandLine
 pub mod Conversation
 pub mod Course

@@ -1,6 +1,7 @@
 -- What a run of the program does.
-use Rattle.std.specs.Prelude.{◌≡◌, ◌⊎◌, ℕ, Bool, true, false, List, [], codes, Option, Some, None, Result, Ok, Err}
+use Rattle.std.specs.Prelude.{◌≡◌, ◌⊎◌, ℕ, Bool, true, false, List, [], length, codes, Option, Some, None, Result, Ok, Err}
 use Rattle.std.specs.Io.KnownBytes.{Appends, Consumes, IsAtEnd}
+use Rattle.pv_drill.specs.Drill.{drill_lines, drill_text}
 use Rattle.pv_io.specs.Causes.{AppendsFront, CountStays, Rose}
 use Rattle.pv_cli.specs.declared.status.Status.{Status}
 use Rattle.pv_cli.specs.declared.status.Status.TheVariants.{Usage, ReadFault, WriteFault, NoMemory as OutOfMemory}
@@ -8,9 +9,10 @@ use Rattle.pv_cli.specs.declared.response.Response.{Response}
 use Rattle.pv_cli.specs.declared.stop.Stop.{Stop}
 use Rattle.pv_cli.specs.declared.stop.Stop.TheVariants.{Refused, ShelfFault, NoMemory}
 use Rattle.pv_cli.specs.Check.{IsCheckCourse}
+use Rattle.pv_cli.specs.Checking.{CountsLists, lines_taken}
 use Rattle.pv_cli.specs.CommandLine.{PlainCommandLine, listing, valid, check, session, drill}
 use Rattle.pv_cli.specs.Course.{RunEnding, responds, shelf_fault, input_fault, output_fault, no_memory, Course, without_input}
-use Rattle.pv_cli.specs.Drill.{IsDrillCourse}
+use Rattle.pv_cli.specs.Drill.{DRILL_ROOT, IsDrillCourse}
 use Rattle.pv_cli.specs.Listing.{IsListingCourse}
 use Rattle.pv_cli.specs.Opening.{Files, IsFile}
 use Rattle.pv_cli.specs.Response.{with_line, plain_response}
@@ -36,7 +38,18 @@ IsDefined (Some (check dtd root doc)) files course = IsCheckCourse root files co
 IsDefined (Some (session dtd root doc)) files course = IsSessionCourse root files course
 IsDefined (Some (drill n)) files course = IsDrillCourse n course
 
--- the devices at one moment: the input, what the shelf and the input and the output tell of their bytes, and their counts of faults
+-- How many lists a command line checks over its files and what was taken from the input: `check` those of its document, once at most, and
+-- a session two more for each line at most; a drill does so with a document and lines of its own.
+abbrev pub ChecksLists : Option PlainCommandLine → Files → Option (List ℕ) → ℕ → ℕ → Type 0
+ChecksLists None files taken before after = after ≡ before
+ChecksLists (Some (listing dtd)) files taken before after = after ≡ before
+ChecksLists (Some (valid dtd root doc)) files taken before after = after ≡ before
+ChecksLists (Some (check dtd root doc)) files taken before after = CountsLists root files.doc 0 before after
+ChecksLists (Some (session dtd root doc)) files taken before after = CountsLists root files.doc (lines_taken taken) before after
+ChecksLists (Some (drill n)) files taken before after = CountsLists DRILL_ROOT (Some (drill_text n)) (length (drill_lines n)) before after
+
+-- the devices at one moment: the input, what the shelf and the input and the output tell of their bytes, and their counts of faults; and
+-- how many lists were checked by then
 pub record Devices (S : Type 0) : Type 0 where
   pub files : Option (List (List ℕ × List ℕ))
   pub shelf_faults : ℕ
@@ -45,9 +58,10 @@ pub record Devices (S : Type 0) : Type 0 where
   pub input_faults : ℕ
   pub written : Option (List ℕ)
   pub output_faults : ℕ
+  pub checked : ℕ
 
-abbrev pub devices : {S : Type 0} → Option (List (List ℕ × List ℕ)) → ℕ → S → Option (List ℕ) → ℕ → Option (List ℕ) → ℕ → Devices S
-devices files shelf_faults input left input_faults written output_faults = record {
+abbrev pub devices : {S : Type 0} → Option (List (List ℕ × List ℕ)) → ℕ → S → Option (List ℕ) → ℕ → Option (List ℕ) → ℕ → ℕ → Devices S
+devices files shelf_faults input left input_faults written output_faults checked = record {
   files = files;
   shelf_faults = shelf_faults;
   input = input;
@@ -55,6 +69,7 @@ devices files shelf_faults input left input_faults written output_faults = recor
   input_faults = input_faults;
   written = written;
   output_faults = output_faults;
+  checked = checked;
 }
 
 -- the count of a device rose where the run ended at a fault of it, and else it stayed
@@ -134,13 +149,14 @@ pub record EndsLike (line : Option PlainCommandLine) (status : Status) : Type 0 
   pub is_status : (status ≡ status_of course.ending) ⊎ ((out : List ℕ) × IsCutOff course.ending out × (status ≡ WriteFault))
 
 -- What a run does: there are files, those that the shelf tells where it tells them, and a course that is defined for the command line
--- over these files, which the devices and the status show.
+-- over these files, which the devices and the status show; and no more lists are checked than the command line may check.
 pub record Runs {S : Type 0} (line : Option PlainCommandLine) (before after : Devices S) (status : Status) : Type 0 where
   pub files : Files
   pub are_files : AreFiles before.files line files
   pub course : Course
   pub is_defined : IsDefined line files course
   pub shows : Shows course before after status
+  pub checked : ChecksLists line files course.taken before.checked after.checked
 
 -- how a command that leaves the input alone ended
 abbrev pub ending_of : Result Response Stop → RunEnding
@@ -149,9 +165,10 @@ ending_of (Err (Refused response)) = responds (plain_response response)
 ending_of (Err ShelfFault) = shelf_fault
 ending_of (Err NoMemory) = no_memory
 
--- what such a command does, up to the writing of its response
-pub record FindsResponse (line : Option PlainCommandLine) (told : Option (List (List ℕ × List ℕ))) (before after : ℕ) (result : Result Response Stop) : Type 0 where
+-- what such a command does, up to the writing of its response: the shelf's count of faults, and that of the lists checked, before and then
+pub record FindsResponse (line : Option PlainCommandLine) (told : Option (List (List ℕ × List ℕ))) (faults faults_now checked checked_now : ℕ) (result : Result Response Stop) : Type 0 where
   pub files : Files
   pub are_files : AreFiles told line files
   pub is_defined : IsDefined line files (without_input (ending_of result))
-  pub shelf : CountsShelf (ending_of result) before after
+  pub shelf : CountsShelf (ending_of result) faults faults_now
+  pub checked_lists : ChecksLists line files None checked checked_now

@@ -1,6 +1,6 @@
 //! The command `check`.
 
-ghost use Rattle.std.specs.Prelude.{◌≡◌, ◌≤◌, IfOk, Some};
+ghost use Rattle.std.specs.Prelude.{◌≡◌, ◌≤◌, ◌+◌, IfOk, Some, length};
 ghost use Rattle.pv_cli.specs.Check.{TellsPossibility, possible_text};
 ghost use Rattle.pv_cli.specs.CommandLine.{AreNamed, check};
 ghost use Rattle.pv_cli.specs.Program.{FindsResponse};
@@ -8,6 +8,7 @@ ghost use Rattle.pv_cli.specs.Response.{plain_response, with_line};
 ghost use Rattle.pv_cli.specs.Stage.{TellsBy};
 ghost use Rattle.pv_cli.specs.declared.status.Status.TheVariants.{Done};
 ghost use Rattle.pv_productive.specs.PlainForms.{dtd_of};
+ghost use Rattle.pv_tree.specs.Lists.{lists_of};
 ghost use Rattle.pv_tree.specs.PlainDocs.{plain_doc};
 
 use crate::command_line::Named;
@@ -42,7 +43,8 @@ fn tell<L: Ledger>(
     root: &[u8],
     steps: &mut Steps<L>,
 ) -> Result<Response, Stop>
-    ensures { TellsBy (TellsPossibility root.now (dtd_of grammar.now) (plain_doc doc.now)) result }
+    ensures tells { TellsBy (TellsPossibility root.now (dtd_of grammar.now) (plain_doc doc.now)) result }
+    ensures steps { steps.new ≤ steps.old + length (lists_of (plain_doc doc.now)) }
 {
     let verdicts = possible_verdicts(alloc, grammar, doc, root, steps)?;
     Ok(possible(alloc, verdicts.left())?)
@@ -57,7 +59,7 @@ pub fn check<H: Shelf, L: Ledger>(
 ) -> Result<Response, Stop>
     requires { AreNamed (H.names shelf.old) named.now }
     ensures finds { FindsResponse (Some (check named.now.dtd.now named.now.root.now named.now.doc.now))
-        (H.files shelf.old) (H.faults shelf.old) (H.faults shelf.new) result }
+        (H.files shelf.old) (H.faults shelf.old) (H.faults shelf.new) steps.old steps.new result }
     ensures names { H.names shelf.new ≡ H.names shelf.old }
     ensures files { H.files shelf.new ≡ H.files shelf.old }
 {

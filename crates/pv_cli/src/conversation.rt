@@ -1,13 +1,15 @@
 //! The conversation of a session: each line is answered before more of the script is asked for.
 
-ghost use Rattle.std.specs.Prelude.{◌≡◌, ◌≤◌, ◌<◌, ◌+◌, ◌^◌, ◌++◌, List, ℕ, Option, Bool, IfOk, OnOk, OnErr, length, vec_len, codes, decimal};
+ghost use Rattle.std.specs.Prelude.{◌≡◌, ◌≤◌, ◌<◌, ◌+◌, ◌*◌, ◌^◌, ◌++◌, List, ℕ, Option, Bool, IfOk, OnOk, OnErr, length, vec_len, codes, decimal};
 ghost use Rattle.std.specs.Io.KnownBytes.{Appends};
+ghost use Rattle.pv_cli.specs.Checking.{lines_taken};
 ghost use Rattle.pv_cli.specs.Conversation.{AnswersLine, RepliesWith, Conversed, GoesOn, Finishes, Fits, IsBeyond, IsNext};
 ghost use Rattle.pv_cli.specs.Course.{Course, responds};
 ghost use Rattle.pv_cli.specs.Program.{devices, Shows, Writes};
 ghost use Rattle.pv_cli.specs.Script.{MAX_SCRIPT_BYTES as MOST_BYTES};
 ghost use Rattle.pv_cli.specs.Session.{Converses, limited};
 ghost use Rattle.pv_io.specs.Causes.{CountsFault, AppendsFront};
+ghost use Rattle.pv_script.specs.Lines.{ended_lines, lines_of};
 ghost use Rattle.pv_session.specs.Sessions.{PlainSession};
 
 use crate::status::Status;
@@ -59,6 +61,7 @@ fn answer_line<K: Sink, L: Ledger>(
     ensures err { OnErr result (RepliesWith session.old line.now session.new
         (AppendsFront (K.written out.old) (K.written out.new))) }
     ensures cause { CountsFault (K.faults out.old) (K.faults out.new) result }
+    ensures steps { steps.new ≤ steps.old + 2 }
 {
     match turn(alloc, session, line, steps) {
         Ok(Some(answer)) => write_all(out, &answer.text)?,
@@ -83,6 +86,7 @@ fn answer_lines<K: Sink, L: Ledger>(
         Conversed old first script (K.written out.old) session.old reading.old.lines reading.old.number →
         GoesOn old first (script ++ piece.now) (K.written out.new) session.new reading.new result }
     ensures cause { CountsFault (K.faults out.old) (K.faults out.new) result }
+    ensures steps { steps.new ≤ steps.old + 2 * length (ended_lines piece.now) }
 {
     let mut rest = piece;
     'lines: loop {
@@ -141,6 +145,7 @@ fn answer_piece<K: Sink, L: Ledger>(
         GoesOn old first (script ++ piece.now) (K.written out.new) session.new reading.new result }
     ensures fits { IfOk result (Fits (length piece.now) left) }
     ensures cause { CountsFault (K.faults out.old) (K.faults out.new) result }
+    ensures steps { steps.new ≤ steps.old + 2 * length (ended_lines piece.now) }
 {
     if piece.len() <= left {
         return answer_lines(alloc, session, reading, piece, out, steps);
@@ -162,6 +167,7 @@ fn finish<K: Sink, L: Ledger>(
         Conversed old first script (K.written out.old) session.old reading.now.lines reading.now.number →
         Finishes old first script (K.written out.new) result }
     ensures cause { CountsFault (K.faults out.old) (K.faults out.new) result }
+    ensures steps { steps.new ≤ steps.old + 2 * length (lines_of reading.now.lines.bytes) }
 {
     if reading.lines.held() > 0 {
         answer_line(alloc, session, reading.lines.line(), out, steps)?;
@@ -207,12 +213,13 @@ pub fn converse<S: Source, K: Sink, L: Ledger>(
     out: &mut K,
     steps: &mut Steps<L>,
 ) -> Status
-    ensures { (files : Option (List (List ℕ × List ℕ))) → (shelf : ℕ) →
+    ensures { (files : Option (List (List ℕ × List ℕ))) → (shelf checked : ℕ) →
         (course : Course) × Converses session.old course × Shows course
         (devices files shelf input.old (S.left input.old) (S.faults input.old)
-        (K.written out.old) (K.faults out.old))
+        (K.written out.old) (K.faults out.old) checked)
         (devices files shelf input.new (S.left input.new) (S.faults input.new)
-        (K.written out.new) (K.faults out.new)) result }
+        (K.written out.new) (K.faults out.new) steps.new) result
+        × (steps.new ≤ steps.old + 2 * lines_taken course.taken) }
 {
     let Ok(lines) = Lines::new(alloc) else {
         return Status::NoMemory;

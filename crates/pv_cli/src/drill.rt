@@ -1,13 +1,14 @@
 //! The command `drill`.
 
-ghost use Rattle.std.specs.Prelude.{◌≡◌, ◌≤◌, ◌<◌, ◌+◌, ◌++◌, ◌%◌, ℕ, List, Option, IfOk, OnOk, Some, decimal};
+ghost use Rattle.std.specs.Prelude.{◌≡◌, ◌≤◌, ◌<◌, ◌+◌, ◌*◌, ◌++◌, ◌%◌, ℕ, List, Option, IfOk, OnOk, Some, decimal, length};
+ghost use Rattle.pv_cli.specs.Checking.{CountsLists};
 ghost use Rattle.pv_cli.specs.CommandLine.{IsDrillSize, drill};
-ghost use Rattle.pv_cli.specs.Drill.{CountsLine, CountsReplies, IsCountOf, TellsCounts, counts_text, counts_with, drill_stage, no_counts};
+ghost use Rattle.pv_cli.specs.Drill.{CountsLine, CountsReplies, DRILL_ROOT, IsCountOf, TellsCounts, counts_text, counts_with, drill_stage, no_counts};
 ghost use Rattle.pv_cli.specs.Program.{FindsResponse};
 ghost use Rattle.pv_cli.specs.Response.{plain_response, with_line};
 ghost use Rattle.pv_cli.specs.Stage.{Returns, TellsBy};
 ghost use Rattle.pv_cli.specs.declared.status.Status.TheVariants.{Done as AllDone};
-ghost use Rattle.pv_drill.specs.Drill.{drill_lines, line_text, section_lines};
+ghost use Rattle.pv_drill.specs.Drill.{drill_lines, drill_text, line_text, section_lines};
 ghost use Rattle.pv_script.specs.Commands.{SpellsCommand};
 ghost use Rattle.pv_script.specs.declared.commands.Command.TheVariants.{Quit};
 
@@ -75,6 +76,7 @@ fn count_line<L: Ledger>(
     requires bounded { IsCountOf counts.lines counts }
     ensures counted { IfOk result (CountsLine session.old counts line.now session.new) }
     ensures bounded { IfOk result (IsCountOf (counts.lines + 1)) }
+    ensures steps { steps.new ≤ steps.old + 2 }
 {
     let Some(answer) = turn(alloc, session, line, steps)? else {
         unreachable!();
@@ -99,6 +101,7 @@ fn count_drill_line<L: Ledger>(
     requires bounded { IsCountOf counts.lines counts }
     ensures counted { IfOk result (CountsLine session.old counts (line_text k which) session.new) }
     ensures bounded { IfOk result (IsCountOf (counts.lines + 1)) }
+    ensures steps { steps.new ≤ steps.old + 2 }
 {
     let line = drill_line(alloc, k, which)?;
     count_line(alloc, session, &line, counts, steps)
@@ -118,6 +121,7 @@ fn count_section<L: Ledger>(
     requires bounded { IsCountOf counts.lines counts }
     ensures counted { IfOk result (CountsReplies session.old counts (section_lines k) session.new) }
     ensures bounded { IfOk result (IsCountOf (counts.lines + 3)) }
+    ensures steps { steps.new ≤ steps.old + 2 * length (section_lines k) }
 {
     let first = count_drill_line(alloc, session, k, 0, counts, steps)?;
     let second = count_drill_line(alloc, session, k, 1, first, steps)?;
@@ -136,7 +140,8 @@ fn count_drill<L: Ledger>(
     steps: &mut Steps<L>,
 ) -> Result<Counts, NoMemory>
     requires { n ≤ 20000 }
-    ensures { IfOk result (CountsReplies session.old no_counts (drill_lines n) session.new) }
+    ensures counted { IfOk result (CountsReplies session.old no_counts (drill_lines n) session.new) }
+    ensures steps { steps.new ≤ steps.old + 2 * length (drill_lines n) }
 {
     let mut counts = Counts {
         lines: 0,
@@ -177,7 +182,8 @@ fn tell(alloc: Global, n: u32, counts: Counts, left: u64) -> Result<Response, Al
 // The session on the document of the drill.
 fn begin_drill<L: Ledger>(alloc: Global, n: u32, steps: &mut Steps<L>) -> Result<Session, Stop>
     requires { IsDrillSize n }
-    ensures { Returns (λ s. s) (drill_stage n) result }
+    ensures returns { Returns (λ s. s) (drill_stage n) result }
+    ensures steps { CountsLists DRILL_ROOT (Some (drill_text n)) 0 steps.old steps.new }
 {
     let dtd = dtd_of(alloc, drill_dtd())?;
     let text = drill_doc(alloc, n)?;
@@ -193,7 +199,8 @@ fn answer_drill<L: Ledger>(
     steps: &mut Steps<L>,
 ) -> Result<Response, Stop>
     requires { n ≤ 20000 }
-    ensures { TellsBy (TellsCounts n session.old) result }
+    ensures tells { TellsBy (TellsCounts n session.old) result }
+    ensures steps { steps.new ≤ steps.old + 2 * length (drill_lines n) }
 {
     let counts = count_drill(alloc, session, n, steps)?;
     Ok(tell(alloc, n, counts, session.open_count())?)
@@ -203,7 +210,7 @@ fn answer_drill<L: Ledger>(
 pub fn drill<L: Ledger>(alloc: Global, n: u32, steps: &mut Steps<L>) -> Result<Response, Stop>
     requires { IsDrillSize n }
     ensures { (told : Option (List (List ℕ × List ℕ))) → (faults : ℕ) →
-        FindsResponse (Some (drill n)) told faults faults result }
+        FindsResponse (Some (drill n)) told faults faults steps.old steps.new result }
 {
     let mut session = begin_drill(alloc, n, steps)?;
     answer_drill(alloc, &mut session, n, steps)

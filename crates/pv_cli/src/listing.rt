@@ -111,7 +111,8 @@ fn tell(alloc: Global, grammar: &Grammar) -> Result<Response, Stop>
 /// The names that a DTD declares, each with its least tree, and the numbers of its types and parts.
 pub fn listing<H: Shelf>(alloc: Global, shelf: &mut H, name: &str) -> Result<Response, Stop>
     requires { Contains (H.names shelf.old) name.now }
-    ensures finds { FindsResponse (Some (listing name.now)) (H.files shelf.old) (H.faults shelf.old) (H.faults shelf.new) result }
+    ensures finds { (checked : ℕ) → FindsResponse (Some (listing name.now)) (H.files shelf.old)
+        (H.faults shelf.old) (H.faults shelf.new) checked checked result }
     ensures names { H.names shelf.new ≡ H.names shelf.old }
     ensures files { H.files shelf.new ≡ H.files shelf.old }
 {

@@ -1,9 +1,10 @@
 //! Whether inserting elements can make a document valid, as `check` and the opening of a session ask.
 
-ghost use Rattle.std.specs.Prelude.{IfErr, IfOk};
+ghost use Rattle.std.specs.Prelude.{◌≤◌, ◌+◌, IfErr, IfOk, length};
 ghost use Rattle.pv_cli.specs.Check.{DeniesPossibility, HasPossibility};
 ghost use Rattle.pv_cli.specs.Stage.{StopsBy};
 ghost use Rattle.pv_productive.specs.PlainForms.{dtd_of};
+ghost use Rattle.pv_tree.specs.Lists.{lists_of};
 ghost use Rattle.pv_tree.specs.PlainDocs.{plain_doc};
 
 use crate::opening::refuse_path;
@@ -28,6 +29,7 @@ pub fn possible_verdicts<L: Ledger>(
     ensures possible { IfOk result (HasPossibility root.now (dtd_of grammar.now) (plain_doc doc.now)) }
     ensures denied { IfErr result (StopsBy (DeniesPossibility root.now (dtd_of grammar.now)
         (plain_doc doc.now)) ⊥) }
+    ensures steps { steps.new ≤ steps.old + length (lists_of (plain_doc doc.now)) }
 {
     let verdicts = match check_doc(alloc, grammar, root, doc, steps) {
         Ok(verdicts) => verdicts,

@@ -47,9 +47,9 @@ pub fn pvtag<H: Shelf, S: Source, K: Sink, L: Ledger>(
     // The status, the output and the causes of faults.
     ensures runs { Runs (command_line_of (byte_lists words.now))
         (devices (H.files shelf.old) (H.faults shelf.old) input.old (S.left input.old)
-        (S.faults input.old) (K.written out.old) (K.faults out.old))
+        (S.faults input.old) (K.written out.old) (K.faults out.old) steps.old)
         (devices (H.files shelf.new) (H.faults shelf.new) input.new (S.left input.new)
-        (S.faults input.new) (K.written out.new) (K.faults out.new)) result }
+        (S.faults input.new) (K.written out.new) (K.faults out.new) steps.new) result }
 
     // What stays.
     ensures unasked { asks_shelf (command_line_of (byte_lists words.now)) ≡ false → shelf.new ≡ shelf.old }

@@ -1,6 +1,7 @@
 //! The command `session`.
 
-ghost use Rattle.std.specs.Prelude.{◌≡◌, ◌≤◌, Some};
+ghost use Rattle.std.specs.Prelude.{◌≡◌, ◌≤◌, ◌+◌, Some, length};
+ghost use Rattle.pv_cli.specs.Checking.{CountsLists};
 ghost use Rattle.pv_cli.specs.CommandLine.{AreNamed, session};
 ghost use Rattle.pv_cli.specs.Opening.{Files, IsFile};
 ghost use Rattle.pv_cli.specs.Program.{devices, Runs};
@@ -8,6 +9,7 @@ ghost use Rattle.pv_cli.specs.Session.{guarding_stage, session_stage};
 ghost use Rattle.pv_cli.specs.Stage.{Returns, ShelfCounts};
 ghost use Rattle.pv_dtd.specs.PlainForms.{plain_dtd};
 ghost use Rattle.pv_cache.specs.Accepting.{MAX_EDITED_NODES};
+ghost use Rattle.pv_tree.specs.Lists.{lists_of};
 ghost use Rattle.pv_tree.specs.Plain.{nodes_in};
 ghost use Rattle.pv_tree.specs.PlainDocs.{plain_doc};
 
@@ -34,8 +36,9 @@ pub fn begin<L: Ledger>(
     steps: &mut Steps<L>,
 ) -> Result<Session, Stop>
     requires { nodes_in (plain_doc opened.doc).root ≤ MAX_EDITED_NODES }
-    ensures { Returns (λ s. s) (guarding_stage root.now (plain_dtd opened.dtd)
+    ensures returns { Returns (λ s. s) (guarding_stage root.now (plain_dtd opened.dtd)
         (plain_doc opened.doc)) result }
+    ensures steps { steps.new ≤ steps.old + length (lists_of (plain_doc opened.doc)) }
 {
     let Opened { dtd, doc } = opened;
     let grammar = build(alloc, dtd)?;
@@ -54,7 +57,8 @@ fn open_session<H: Shelf, L: Ledger>(
     requires { AreNamed (H.names shelf.old) named.now }
     ensures files_read { (files : Files) × IsFile (H.files shelf.old) named.now.dtd.now files.dtd
         × IsFile (H.files shelf.old) named.now.doc.now files.doc
-        × Returns (λ s. s) (session_stage named.now.root.now files) result }
+        × Returns (λ s. s) (session_stage named.now.root.now files) result
+        × CountsLists named.now.root.now files.doc 0 steps.old steps.new }
     ensures counts { ShelfCounts (H.faults shelf.old) (H.faults shelf.new) result }
     ensures names { H.names shelf.new ≡ H.names shelf.old }
     ensures files { H.files shelf.new ≡ H.files shelf.old }
@@ -75,9 +79,9 @@ pub fn session<H: Shelf, S: Source, K: Sink, L: Ledger>(
     requires { AreNamed (H.names shelf.old) named.now }
     ensures runs { Runs (Some (session named.now.dtd.now named.now.root.now named.now.doc.now))
         (devices (H.files shelf.old) (H.faults shelf.old) input.old (S.left input.old)
-        (S.faults input.old) (K.written out.old) (K.faults out.old))
+        (S.faults input.old) (K.written out.old) (K.faults out.old) steps.old)
         (devices (H.files shelf.new) (H.faults shelf.new) input.new (S.left input.new)
-        (S.faults input.new) (K.written out.new) (K.faults out.new)) result }
+        (S.faults input.new) (K.written out.new) (K.faults out.new) steps.new) result }
     ensures names { H.names shelf.new ≡ H.names shelf.old }
     ensures files { H.files shelf.new ≡ H.files shelf.old }
 {

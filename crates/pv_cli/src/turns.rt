@@ -1,6 +1,6 @@
 //! The reply to a line of a session's script.
 
-ghost use Rattle.std.specs.Prelude.{◌≡◌, ◌≤◌, IfOk, OnErr, None, vec_len};
+ghost use Rattle.std.specs.Prelude.{◌≡◌, ◌≤◌, ◌+◌, IfOk, OnErr, None, vec_len};
 ghost use Rattle.pv_cli.specs.Turns.{IsAnswer, IsReplyBy, IsTurn};
 ghost use Rattle.pv_cli.specs.Session.{done_of};
 
@@ -63,6 +63,7 @@ fn edit<L: Ledger>(
 ) -> Result<Answer, NoMemory>
     ensures replied { IfOk result (IsReplyBy session.old (Command.Edit edit.now) session.new) }
     ensures stays { OnErr result (session.new ≡ session.old) }
+    ensures steps { steps.new ≤ steps.old + 2 }
 {
     let room = take_room(alloc)?;
     match session.edit(edit, steps) {
@@ -82,6 +83,7 @@ fn undo<L: Ledger>(
 ) -> Result<Answer, NoMemory>
     ensures replied { IfOk result (IsReplyBy session.old Command.Undo session.new) }
     ensures stays { OnErr result (session.new ≡ session.old) }
+    ensures steps { steps.new ≤ steps.old + 2 }
 {
     let room = take_room(alloc)?;
     match session.undo(steps) {
@@ -99,6 +101,7 @@ fn redo<L: Ledger>(
 ) -> Result<Answer, NoMemory>
     ensures replied { IfOk result (IsReplyBy session.old Command.Redo session.new) }
     ensures stays { OnErr result (session.new ≡ session.old) }
+    ensures steps { steps.new ≤ steps.old + 2 }
 {
     let room = take_room(alloc)?;
     match session.redo(steps) {
@@ -145,6 +148,7 @@ pub fn turn<L: Ledger>(
 ) -> Result<Option<Answer>, NoMemory>
     ensures turned { IfOk result (IsTurn session.old line.now session.new) }
     ensures stays { OnErr result (session.new ≡ session.old) }
+    ensures steps { steps.new ≤ steps.old + 2 }
 {
     match read_command(alloc, line) {
         Ok(Command::Edit(change)) => Ok(Some(edit(alloc, session, &change, steps)?)),

@@ -1,6 +1,6 @@
 //! The command `valid`.
 
-ghost use Rattle.std.specs.Prelude.{◌≡◌, Some};
+ghost use Rattle.std.specs.Prelude.{◌≡◌, ℕ, Some};
 ghost use Rattle.pv_cli.specs.CommandLine.{AreNamed, valid};
 ghost use Rattle.pv_cli.specs.Program.{FindsResponse};
 ghost use Rattle.pv_cli.specs.Response.{plain_response};
@@ -35,8 +35,9 @@ fn tell(alloc: Global, dtd: &Dtd, root: &[u8], bytes: &[u8]) -> Result<Response,
 /// Whether a document is valid for a DTD.
 pub fn valid<H: Shelf>(alloc: Global, shelf: &mut H, named: &Named<'_>) -> Result<Response, Stop>
     requires { AreNamed (H.names shelf.old) named.now }
-    ensures finds { FindsResponse (Some (valid named.now.dtd.now named.now.root.now named.now.doc.now))
-        (H.files shelf.old) (H.faults shelf.old) (H.faults shelf.new) result }
+    ensures finds { (checked : ℕ) →
+        FindsResponse (Some (valid named.now.dtd.now named.now.root.now named.now.doc.now))
+        (H.files shelf.old) (H.faults shelf.old) (H.faults shelf.new) checked checked result }
     ensures names { H.names shelf.new ≡ H.names shelf.old }
     ensures files { H.files shelf.new ≡ H.files shelf.old }
 {

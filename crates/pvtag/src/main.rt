@@ -43,9 +43,9 @@ fn run<H: Shelf, S: Source, K: Sink, L: Ledger>(
     requires { H.names shelf.old ≡ fetch_names words.now }
     ensures { (status : Status) × (exit_status result ≡ code_of status) × Runs (command_line_of (byte_lists words.now))
         (devices (H.files shelf.old) (H.faults shelf.old) input.old (S.left input.old)
-        (S.faults input.old) (K.written out.old) (K.faults out.old))
+        (S.faults input.old) (K.written out.old) (K.faults out.old) steps.old)
         (devices (H.files shelf.new) (H.faults shelf.new) input.new (S.left input.new)
-        (S.faults input.new) (K.written out.new) (K.faults out.new)) status }
+        (S.faults input.new) (K.written out.new) (K.faults out.new) steps.new) status }
 {
     let status = pvtag(rt, alloc, words, shelf, input, out, steps);
     ExitCode::from(status.code())

@@ -5,6 +5,7 @@ use Rattle.pv_dtd.specs.Plain.{PlainDtd}
 use Rattle.pv_dtd.specs.PlainForms.{plain_dtd}
 use Rattle.pv_productive.specs.PlainForms.{dtd_of}
 use Rattle.pv_tree.specs.PlainDocs.{plain_doc}
+use Rattle.pv_cli.specs.Checking.{none_checked, some_checked}
 use Rattle.pv_cli.specs.Check.{TellsPossibility}
 use Rattle.pv_cli.specs.Opening.{opening_stage, plain_opened}
 use Rattle.pv_cli.specs.Stage.{Responds, TellsBy, opened, short_of_memory}
@@ -24,6 +25,7 @@ returns-in_err-dtd-clause-finds g c =
       are_files = (read.1, read.2);
       is_defined = stop_ends stage (λ both. Responds (TellsPossibility root both.0 both.1)) stop read.3;
       shelf = stop_counts _ _ stop c.in_err-dtd.ensures.counts;
+      checked_lists = none_checked refl;
     })
 
 pub returns-in_err-grammar-clause-finds : goal.returns-in_err-grammar-clause-finds
@@ -36,6 +38,7 @@ returns-in_err-grammar-clause-finds g c =
       are_files = (read.1, read.2);
       is_defined = short_of_memory refl;
       shelf = c.in_ok-dtd.ensures.counts;
+      checked_lists = none_checked refl;
     })
 
 pub returns-clause-finds : goal.returns-clause-finds
@@ -43,14 +46,16 @@ returns-clause-finds g c =
     let read = c.in_ok-dtd.ensures.files_read in
     let root = c.args.named.now.root.now in
     let both = plain_opened c.in_ok-dtd.field-0 in
+    let document = read.3.2.1 in
     let tells = TellsPossibility root both.0 both.1 in
     let same : dtd_of c.in_ok-grammar.grammar ≡ both.0 = c.in_ok-grammar.ensures in
-    let told : TellsBy tells c.tell.result = subst (λ (d : PlainDtd). TellsBy (TellsPossibility root d both.1) c.tell.result) same c.tell.ensures in
+    let told : TellsBy tells c.tell.result = subst (λ (d : PlainDtd). TellsBy (TellsPossibility root d both.1) c.tell.result) same c.tell.ensures.tells in
     record {
       files = read.0;
       are_files = (read.1, read.2);
       is_defined = opened both read.3 (tells_ends tells c.tell.result told);
       shelf = rw c.in_ok-dtd.ensures.counts (tells_counts tells _ c.tell.result told);
+      checked_lists = some_checked document.0 _ document.1.is_file document.2 (omega (arith, c.tell.ensures.steps));
     }
 
 pub invariant_of-doc-2 : goal.invariant_of-doc-2

@@ -1,6 +1,7 @@
-use Rattle.std.proofs.Common.{◌≡◌, ◌∙◌, ap, length, false, arith}
+use Rattle.std.proofs.Common.{◌≡◌, ◌∙◌, ap, length, false, refl, arith}
 use Rattle.std.proofs.lemmas.Result.{err_from_is_err_and}
-use Rattle.pv_cli.proofs.Conversing.{behind_line, goes_failed, goes_line, goes_long, goes_quit, line_size}
+use Rattle.pv_cli.proofs.Conversing.{behind_line, goes_failed, goes_first, goes_line, goes_long, goes_quit, line_size}
+use Rattle.pv_cli.proofs.Counting.{ended_line, few_left}
 use Rattle.pv_cli.proofs.conversation.answer_lines.Goals as goal
 
 pub returns-in-TooLong-clause-next : goal.returns-in-TooLong-clause-next
@@ -29,5 +30,23 @@ lines-preserved g c =
     record {
       stays = c.in_ok-answer_line-in-Line.ensures.cause ∙ c.lines.invariant.stays;
       goes = rw c.clear.ensures (goes_line _ _ _ _ _ _ _ _ _ _ _ _ _ _ _ told.0 c.lines.invariant.goes takes behind told.1 told.2);
+      few = few_left _ _ _ _ takes _ _ _ _ c.lines.invariant.few c.in_ok-answer_line-in-Line.ensures.steps behind;
       number = omega (arith, c.lines.invariant.number, takes.is_eaten, size, ap length behind);
     }
+
+pub lines-init : goal.lines-init
+lines-init g c = record {
+  stays = refl;
+  goes = goes_first _ _ _ _ _;
+  few = omega arith;
+  number = omega arith;
+}
+
+pub returns-in_err-answer_line-in-Line-clause-steps :
+    goal.returns-in_err-answer_line-in-Line-clause-steps
+returns-in_err-answer_line-in-Line-clause-steps g c =
+    omega (arith, c.lines.invariant.few, c.in_err-answer_line-in-Line.ensures.steps, ended_line _ _ _ _ c.in-Line.ensures)
+
+pub returns-then-not-branch-clause-steps : goal.returns-then-not-branch-clause-steps
+returns-then-not-branch-clause-steps g c =
+    omega (arith, c.lines.invariant.few, c.in_ok-answer_line-in-Line.ensures.steps, ended_line _ _ _ _ c.in-Line.ensures)

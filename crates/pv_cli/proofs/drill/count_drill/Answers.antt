@@ -1,4 +1,5 @@
 use Rattle.std.proofs.Common.{arith}
+use Rattle.pv_cli.proofs.Counting.{section_cut, section_few}
 use Rattle.pv_cli.proofs.Drilling.{counts_section}
 use Rattle.pv_cli.proofs.drill.count_drill.Goals as goal
 
@@ -15,4 +16,8 @@ loop-k-preserved g c =
         refused = more.bounded.refused;
         checked = more.bounded.checked;
       };
+      few = section_few _ _ _ _ kept.few more.steps;
     }
+
+pub returns-in_err-counts-clause-steps : goal.returns-in_err-counts-clause-steps
+returns-in_err-counts-clause-steps g c = section_cut _ _ _ _ _ c.loop-k-test.true c.loop-k.invariant.few c.in_err-counts.ensures.steps

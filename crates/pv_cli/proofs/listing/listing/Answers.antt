@@ -11,7 +11,7 @@ use Rattle.pv_cli.proofs.Stages.{stop_ends, stop_counts, tells_ends, tells_count
 use Rattle.pv_cli.proofs.listing.listing.Goals as goal
 
 pub returns-in_err-dtd-clause-finds : goal.returns-in_err-dtd-clause-finds
-returns-in_err-dtd-clause-finds g c =
+returns-in_err-dtd-clause-finds g c = λ checked.
     let read = c.in_err-dtd.ensures.file in
     let stage = dtd_file_stage read.0 in
     let stop = c.in_err-dtd.field-0.0 in
@@ -21,10 +21,11 @@ returns-in_err-dtd-clause-finds g c =
       are_files = read.1;
       is_defined = stop_ends stage (λ d. Responds (ListsDtd d)) stop read.2;
       shelf = stop_counts _ _ stop c.in_err-dtd.ensures.counts;
+      checked_lists = refl;
     })
 
 pub returns-in_err-grammar-clause-finds : goal.returns-in_err-grammar-clause-finds
-returns-in_err-grammar-clause-finds g c =
+returns-in_err-grammar-clause-finds g c = λ checked.
     let read = c.in_ok-dtd.ensures.file in
     let out : c.from_residual-in_err-grammar.result ≡ Err NoMemory = grind (arith, common_steps) in
     let tells = ListsDtd (plain_dtd c.in_ok-dtd.dtd) in
@@ -33,10 +34,11 @@ returns-in_err-grammar-clause-finds g c =
       are_files = read.1;
       is_defined = short_of_memory refl;
       shelf = c.in_ok-dtd.ensures.counts;
+      checked_lists = refl;
     })
 
 pub returns-clause-finds : goal.returns-clause-finds
-returns-clause-finds g c =
+returns-clause-finds g c = λ checked.
     let read = c.in_ok-dtd.ensures.file in
     let d = plain_dtd c.in_ok-dtd.dtd in
     let tells = ListsDtd d in
@@ -46,4 +48,5 @@ returns-clause-finds g c =
       are_files = read.1;
       is_defined = opened d read.2 (tells_ends tells c.tell.result told);
       shelf = rw c.in_ok-dtd.ensures.counts (tells_counts tells _ c.tell.result told);
+      checked_lists = refl;
     }

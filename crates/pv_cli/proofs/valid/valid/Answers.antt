@@ -1,4 +1,4 @@
-use Rattle.std.proofs.Common.{codes}
+use Rattle.std.proofs.Common.{codes, refl}
 use Rattle.std.proofs.lemmas.Result.{err_from_is_err_and}
 use Rattle.pv_dtd.specs.PlainForms.{plain_dtd}
 use Rattle.pv_read.specs.Meaning.{MAX_DOC_BYTES}
@@ -11,7 +11,7 @@ use Rattle.pv_cli.proofs.Validities.{told_ends, told_counts}
 use Rattle.pv_cli.proofs.valid.valid.Goals as goal
 
 pub returns-in_err-dtd-clause-finds : goal.returns-in_err-dtd-clause-finds
-returns-in_err-dtd-clause-finds g c =
+returns-in_err-dtd-clause-finds g c = λ checked.
     let dtd = c.in_err-dtd.ensures.file in
     let doc = some_file _ c.args.named.now.doc.now in
     let root = c.args.named.now.root.now in
@@ -25,10 +25,11 @@ returns-in_err-dtd-clause-finds g c =
       are_files = (dtd.1, doc.1);
       is_defined = stop_ends stage (λ both. Responds (TellsValidity root both.0 both.1)) stop stops;
       shelf = stop_counts _ _ stop c.in_err-dtd.ensures.counts;
+      checked_lists = refl;
     })
 
 pub returns-in_err-bytes-clause-finds : goal.returns-in_err-bytes-clause-finds
-returns-in_err-bytes-clause-finds g c =
+returns-in_err-bytes-clause-finds g c = λ checked.
     let dtd = c.in_ok-dtd.ensures.file in
     let doc = c.in_err-bytes.ensures.file in
     let root = c.args.named.now.root.now in
@@ -43,10 +44,11 @@ returns-in_err-bytes-clause-finds g c =
       are_files = (dtd.1, rw (← c.open_dtd.ensures.files) doc.1);
       is_defined = stop_ends stage (λ both. Responds (TellsValidity root both.0 both.1)) stop stops;
       shelf = stop_counts _ _ stop (rw c.in_ok-dtd.ensures.counts at c.in_err-bytes.ensures.counts);
+      checked_lists = refl;
     })
 
 pub returns-clause-finds : goal.returns-clause-finds
-returns-clause-finds g c =
+returns-clause-finds g c = λ checked.
     let dtd = c.in_ok-dtd.ensures.file in
     let doc = c.in_ok-bytes.ensures.file in
     let root = c.args.named.now.root.now in
@@ -57,4 +59,5 @@ returns-clause-finds g c =
       are_files = (dtd.1, rw (← c.open_dtd.ensures.files) doc.1);
       is_defined = told_ends root d _ files c.tell.result dtd.2 doc.2 (rw c.deref.ensures.value at c.tell.ensures);
       shelf = rw (c.in_ok-bytes.ensures.counts, c.in_ok-dtd.ensures.counts) (told_counts root d _ _ c.tell.result c.tell.ensures);
+      checked_lists = refl;
     }

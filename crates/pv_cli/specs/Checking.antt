@@ -1,0 +1,19 @@
+-- How many lists a run checks.
+use Rattle.std.specs.Prelude.{◌≡◌, ◌≤◌, ◌+◌, ◌*◌, ℕ, List, length, Option, Some, None}
+use Rattle.pv_tree.specs.Lists.{lists_of}
+use Rattle.pv_tree.specs.Plain.{PlainDoc}
+use Rattle.pv_tree.specs.declared.nodes.Mark.{Mark}
+use Rattle.pv_read.specs.Grammar.{IsDocumentText}
+use Rattle.pv_script.specs.Lines.{lines_of}
+
+-- how many lines the bytes have that were taken from an input, none where it wasn't asked
+abbrev pub lines_taken : Option (List ℕ) → ℕ
+lines_taken None = 0
+lines_taken (Some script) = length (lines_of script)
+
+-- The counter before and behind a run: no list was checked, or the file holds this document, and no more lists were checked than those of
+-- the document, and two for each of so many lines.
+pub data CountsLists (root : List ℕ) (file : Option (List ℕ)) (lines before after : ℕ) : Type 0 where
+  none_checked : after ≡ before → CountsLists root file lines before after
+  some_checked : (bytes : List ℕ) (doc : PlainDoc Mark) → file ≡ Some bytes → IsDocumentText root bytes doc →
+      after ≤ before + length (lists_of doc) + 2 * lines → CountsLists root file lines before after
