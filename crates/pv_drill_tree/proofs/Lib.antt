@@ -1,0 +1,5 @@
+pub mod Sections
+pub mod Verdicts
+pub mod Wrapping
+pub mod DtdText
+pub mod DocumentText
