@@ -1,0 +1,75 @@
+-- The session that the document of a drill begins.
+use Rattle.std.specs.Prelude.{codes}
+use Rattle.std.proofs.Common.{List, [], ap, arith, refl, subst, ℕ, ◌∙◌, ◌≡◌}
+use Rattle.std.proofs.lemmas.List.{length-map}
+use Rattle.pv_cache.proofs.Alike.{twice}
+use Rattle.pv_cache.proofs.ListMarks.{all_narrow_to}
+use Rattle.pv_cache.proofs.OtherMarks.{view_as}
+use Rattle.pv_cli.proofs.OneDrill.{drill_sure}
+use Rattle.pv_cli.proofs.OneOpening.{ReadsOne}
+use Rattle.pv_cli.specs.CommandLine.{IsDrillSize}
+use Rattle.pv_cli.specs.Drill.{drill_stage}
+use Rattle.pv_cli.specs.Response.{PlainResponse}
+use Rattle.pv_cli.specs.Session.{BeginsSession}
+use Rattle.pv_dtd.specs.Laws.{OneMeaning}
+use Rattle.pv_missing_rows.specs.Dtds.{sections_dtd}
+use Rattle.pv_session.proofs.Stamped.{begun_unmarked, unmarked_bare}
+use Rattle.pv_session.specs.Sessions.{PlainSession, begun}
+use Rattle.pv_tree.specs.Marks.{blank_mark, unmarked_doc}
+use Rattle.pv_tree.specs.Plain.{Tree}
+use Rattle.pv_tree.specs.declared.nodes.Mark.{Mark}
+use Rattle.pv_drill_tree.proofs.Verdicts.{doc_possible}
+use Rattle.pv_drill_tree.specs.Laws.{MeansDrillDtd, SpellsDrillDocument}
+use Rattle.pv_drill_tree.specs.Sections.{ahead, drill_doc, marked_doc, root_tree, section_tree, trees}
+use Rattle.pv_drill_counts.proofs.Answered.{length_ahead, state}
+use Rattle.pv_drill_counts.proofs.Limits.{narrow_doc}
+use Rattle.pv_drill_counts.proofs.Steps.{At}
+use Rattle.pv_drill_counts.specs.Counts.{DrillsBegin}
+
+-- what is known of texts
+pub record Reading : Type 0 where
+  pub one : OneMeaning
+  pub documents : ReadsOne
+  pub drill_dtd : MeansDrillDtd
+  pub drill_document : SpellsDrillDocument
+
+bare_marks : (ts : List (Tree Unit)) → unmarked_doc (marked_doc ts) ≡ drill_doc ts
+bare_marks ts =
+    ap (λ (t : Tree Unit). record { before = []; root = t; after = []; mark = tt }) (twice {M = Unit} {N = Mark} (λ _. blank_mark) (root_tree ts))
+    ∙ unmarked_bare (drill_doc ts)
+
+-- the session on the document with all sections as they were
+abbrev drill_session : ℕ → PlainSession
+drill_session n = begun sections_dtd (codes "doc") (unmarked_doc (marked_doc (trees (ahead 0 n))))
+
+begun_at : (n : ℕ) → At (state 0 n) (drill_session n)
+begun_at n =
+    let doc = marked_doc (trees (ahead 0 n)) in
+    let stamps = begun_unmarked {M = Unit} (unmarked_doc doc) ∙ unmarked_bare (unmarked_doc doc) in
+    record { is_dtd = refl; is_root = refl; is_doc = stamps ∙ bare_marks (trees (ahead 0 n)); replays = stamps }
+
+begins : (n : ℕ) → IsDrillSize n → BeginsSession (codes "doc") sections_dtd (marked_doc (trees (ahead 0 n))) (drill_session n)
+begins n size =
+    let few = length_ahead 0 n in
+    let sections = length-map (ahead 0 n) section_tree in
+    record {
+      narrow = all_narrow_to {M = Unit} {N = Mark} (λ _. blank_mark) (drill_doc (trees (ahead 0 n))) sections_dtd (narrow_doc (ahead 0 n) (omega (arith, sections, few, size.1)));
+      possible = rw (view_as {M = Unit} {N = Mark} (λ _. blank_mark) (root_tree (trees (ahead 0 n)))) (doc_possible (ahead 0 n) (omega (arith, few, size.0)));
+      is_begun = refl;
+    }
+
+opens : Reading → (n : ℕ) → IsDrillSize n → (drill_stage n).Opens (drill_session n)
+opens known n size = ((sections_dtd, marked_doc (trees (ahead 0 n))), (sections_dtd, known.drill_dtd, (refl, known.drill_document n size.1)), begins n size)
+
+pub drills_begin : Reading → DrillsBegin
+drills_begin known n size = (drill_session n, opens known n size)
+
+-- so each session that it begins is that one
+pub opened_at : Reading → (n : ℕ) → IsDrillSize n → (session : PlainSession) → (drill_stage n).Opens session → At (state 0 n) session
+opened_at known n size session there =
+    let same = (drill_sure known.one known.documents n).same (drill_session n) session (opens known n size) there in
+    subst (λ (s : PlainSession). At (state 0 n) s) same (begun_at n)
+
+-- and nothing of it is refused
+pub never_refused : Reading → (n : ℕ) → IsDrillSize n → (r : PlainResponse) → (drill_stage n).Refuses r → ⊥
+never_refused known n size r refuses = (drill_sure known.one known.documents n).not_both (drill_session n) r (opens known n size) refuses

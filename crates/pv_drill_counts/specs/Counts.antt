@@ -1,0 +1,32 @@
+-- The numbers that a drill tells, by a formula in the number of its sections.
+use Rattle.std.specs.Prelude.{◌≡◌, ℕ, ◌+◌, ◌*◌, ◌/◌}
+use Rattle.pv_session.specs.Sessions.{PlainSession, stamped_document}
+use Rattle.pv_cache.specs.Moves.{HasOpen}
+use Rattle.pv_drill.specs.Drill.{drill_lines}
+use Rattle.pv_cli.specs.CommandLine.{IsDrillSize}
+use Rattle.pv_cli.specs.Course.{Course, responds}
+use Rattle.pv_cli.specs.Drill.{CountsReplies, IsDrillCourse, counts_text, drill_stage, no_counts}
+use Rattle.pv_cli.specs.Response.{PlainResponse, with_line}
+use Rattle.pv_cli.specs.declared.drill.Counts.{Counts}
+use Rattle.pv_cli.specs.declared.status.Status.TheVariants.{Done}
+
+-- Each section has two lines, of which the second is `ok`; each third section has one more, which is `ok` too. A wrapped text changes two
+-- lists, and taking that back changes one.
+abbrev pub drill_counts : ℕ → Counts
+drill_counts n = record { lines = 2 * n + n / 3; accepted = n + n / 3; refused = n; checked = 2 * n + n / 3 }
+
+-- the document of a drill begins a session
+abbrev pub DrillsBegin : Type 0
+DrillsBegin = (n : ℕ) → IsDrillSize n → (session : PlainSession) × (drill_stage n).Opens session
+
+-- Whoever answers the lines of a drill, in the session that its document begins, gets these counts, and each third section is open behind
+-- them.
+abbrev pub CountsByFormula : Type 0
+CountsByFormula = (n : ℕ) (session after : PlainSession) (counts : Counts) (open_lists : ℕ) → IsDrillSize n →
+    (drill_stage n).Opens session → CountsReplies session no_counts (drill_lines n) after counts → HasOpen (stamped_document after) open_lists →
+    (counts ≡ drill_counts n) × (open_lists ≡ n / 3)
+
+-- the response to a drill is the line of these numbers
+abbrev pub RespondsByFormula : Type 0
+RespondsByFormula = (n : ℕ) (course : Course) (r : PlainResponse) → IsDrillSize n → IsDrillCourse n course →
+    course.ending ≡ responds r → r ≡ with_line Done (counts_text n (drill_counts n) (n / 3))

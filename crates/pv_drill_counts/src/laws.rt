@@ -1,0 +1,23 @@
+//! Laws on what a drill counts. Their functions do nothing.
+
+ghost use Rattle.pv_drill_counts.specs.Counts.{CountsByFormula, DrillsBegin, RespondsByFormula};
+
+use pv_drill_tree::laws::{document_law, dtd_law};
+use pv_dtd::laws::one_meaning_law;
+use pv_read::laws::{meant_law, one_document_law, one_meaning_law as one_document_meaning_law};
+use pv_script::laws::one_command_law;
+
+/// A drill begins a session, whoever answers its lines there gets the counts of the formula, and `drill` responds with their line.
+pub fn drill_counts_law()
+    ensures begins { DrillsBegin }
+    ensures counts { CountsByFormula }
+    ensures response { RespondsByFormula }
+{
+    one_meaning_law();
+    one_document_meaning_law();
+    meant_law();
+    one_document_law();
+    one_command_law();
+    dtd_law();
+    document_law();
+}
