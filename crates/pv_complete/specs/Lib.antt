@@ -1,4 +1,5 @@
 pub mod Needing
+pub mod Completing
 pub mod Loads
 pub mod PlainForms
 pub mod Pieces

@@ -7,6 +7,7 @@
 #![tactic(auto)]
 
 mod completing;
+mod completion;
 mod contents;
 mod cuts;
 mod errors;
@@ -23,6 +24,7 @@ mod spelling;
 mod weighing;
 
 pub use completing::list_pieces;
+pub use completion::Completion;
 pub use errors::NeedError;
 pub use needing::need;
 pub use pieces::Piece;
