@@ -1,9 +1,10 @@
 -- The pieces of a list's completion, and its nodes completed, make a completed list.
-use Rattle.std.proofs.Common.{Bool, List, Some, [], ap, append-nil, append_assoc, arith, codes, false, if◌then◌else◌, refl, suc, sym, true, ℕ, ◌++◌, ◌+◌, ◌∙◌, ◌∷◌, ◌≡◌, ◌≢◌}
-use Rattle.pv_chars.specs.Texts.{has_data, joined}
-use Rattle.pv_model.specs.Plain.{PlainModel, PlainToken, empty, named, text}
+use Rattle.std.proofs.Common.{Bool, IsTrue, List, Some, [], ap, append-nil, append_assoc, arith, codes, false, if◌then◌else◌, refl, suc, sym, true, ℕ, ◌++◌, ◌+◌, ◌∙◌, ◌∷◌, ◌≡◌, ◌≢◌}
+use Rattle.pv_chars.specs.Names.{is_name}
+use Rattle.pv_chars.specs.Texts.{has_data}
+use Rattle.pv_model.specs.Plain.{PlainModel, PlainToken, named, text}
 use Rattle.pv_model.specs.Models.{Allows}
-use Rattle.pv_dtd.specs.Hedge.{Hedge, cdata, done, leaf, misc}
+use Rattle.pv_dtd.specs.Hedge.{Hedge, done, leaf}
 use Rattle.pv_dtd.specs.Plain.{PlainDtd, declared, model_of, number_of, spelling_of}
 use Rattle.pv_dtd.specs.Proper.{IsProperDtd}
 use Rattle.pv_dtd.proofs.Proper.{spelled}
@@ -12,36 +13,37 @@ use Rattle.pv_tree.specs.Lists.{IsOwnValid}
 use Rattle.pv_tree.specs.View.{spread, unit_leaf, view_all, view_before}
 use Rattle.pv_tree.specs.Words.{node_before, word_of}
 use Rattle.pv_write.specs.Text.{forest_text, tree_text}
-use Rattle.pv_missing.specs.Completing.{LeavesOut, out_done, out_kept, out_leaf, out_new}
+use Rattle.pv_missing.specs.Completing.{LeavesOut, out_done, out_new}
 use Rattle.pv_missing.specs.Extending.{join}
 use Rattle.pv_missing.proofs.Growing.{allows-empty, empty_join}
 use Rattle.pv_complete.specs.Events.{Event, events_text, marks_from, new_end, new_start, news, old_bytes, old_start, opens}
 use Rattle.pv_complete.specs.Merging.{AreValidTrees, IsCompletedList, IsCompletedTree, Merges, beside, merge_along, merge_end, merge_finish, merge_kept, merge_left, merge_start, view_beside}
-use Rattle.pv_complete.specs.MergingLaws.{BareIsCompleted, ElementIsCompleted, LeafIsCompleted, MergedIsCompleted}
-use Rattle.pv_complete.specs.Pieces.{PlainPiece, Writes, WritesContent, finish, kept, start, write_kept, write_new, write_none, write_text}
+use Rattle.pv_complete.specs.Pieces.{PlainPiece, Writes, finish, kept, start, write_kept, write_new, write_none, write_text}
+use Rattle.pv_complete.specs.Writable.{HasNames, Keeps}
+use Rattle.pv_complete.proofs.Keeping.{keeps_new, keeps_none, name_of_number, no-attributes}
 
-events-join : (a b : List Event) → events_text (a ++ b) ≡ events_text a ++ events_text b
+pub events-join : (a b : List Event) → events_text (a ++ b) ≡ events_text a ++ events_text b
 events-join [] b = refl
 events-join (new_start x ∷ a) b = ap (λ s. codes "<" ++ x ++ codes ">" ++ s) (events-join a b) ∙ sym (append_assoc (codes "<" ++ x ++ codes ">") (events_text a) (events_text b))
 events-join (new_end x ∷ a) b = ap (λ s. codes "</" ++ x ++ codes ">" ++ s) (events-join a b) ∙ sym (append_assoc (codes "</" ++ x ++ codes ">") (events_text a) (events_text b))
 events-join (old_start x ∷ a) b = ap (λ s. x ++ s) (events-join a b) ∙ sym (append_assoc x (events_text a) (events_text b))
 events-join (old_bytes x ∷ a) b = ap (λ s. x ++ s) (events-join a b) ∙ sym (append_assoc x (events_text a) (events_text b))
 
-opens-join : (a b : List Event) → opens (a ++ b) ≡ opens a + opens b
+pub opens-join : (a b : List Event) → opens (a ++ b) ≡ opens a + opens b
 opens-join [] b = omega arith
 opens-join (new_start x ∷ a) b = omega (arith, opens-join a b)
 opens-join (new_end x ∷ a) b = opens-join a b
 opens-join (old_start x ∷ a) b = omega (arith, opens-join a b)
 opens-join (old_bytes x ∷ a) b = opens-join a b
 
-news-join : (a b : List Event) → news (a ++ b) ≡ news a + news b
+pub news-join : (a b : List Event) → news (a ++ b) ≡ news a + news b
 news-join [] b = omega arith
 news-join (new_start x ∷ a) b = omega (arith, news-join a b)
 news-join (new_end x ∷ a) b = news-join a b
 news-join (old_start x ∷ a) b = news-join a b
 news-join (old_bytes x ∷ a) b = news-join a b
 
-marks-join : (m : ℕ) (a b : List Event) → marks_from m (a ++ b) ≡ marks_from m a ++ marks_from (m + opens a) b
+pub marks-join : (m : ℕ) (a b : List Event) → marks_from m (a ++ b) ≡ marks_from m a ++ marks_from (m + opens a) b
 marks-join m [] b = let e : m + 0 ≡ m = omega arith in rw e refl
 marks-join m (new_start x ∷ a) b = let e : suc m + opens a ≡ m + suc (opens a) = omega arith in let r = marks-join (suc m) a b in ap (λ s. m ∷ s) (rw e at r)
 marks-join m (new_end x ∷ a) b = marks-join m a b
@@ -51,10 +53,6 @@ marks-join m (old_bytes x ∷ a) b = marks-join m a b
 spread-join : (us : List (List ℕ)) (h b : Hedge) → spread us (join h b) ≡ join (spread us h) b
 spread-join [] h b = refl
 spread-join (u ∷ us) h b = ap (leaf (unit_leaf u)) (spread-join us h b)
-
--- the text of an element, cut at its content
-tag_text : (lt x attrs gt k lt2 gap : List ℕ) → lt ++ x ++ attrs ++ gt ++ k ++ lt2 ++ x ++ gap ++ gt ≡ (lt ++ x ++ attrs ++ gt) ++ (k ++ ((lt2 ++ x ++ gap ++ gt) ++ []))
-tag_text lt x attrs gt k lt2 gap = simp (append_assoc, append-nil)
 
 new_text : (lt x gt k lt2 : List ℕ) → (lt ++ x ++ [] ++ gt ++ k ++ lt2 ++ x ++ [] ++ gt) ++ [] ≡ (lt ++ x ++ gt) ++ (k ++ ((lt2 ++ x ++ gt) ++ []))
 new_text lt x gt k lt2 = simp (append_assoc, append-nil)
@@ -90,6 +88,10 @@ module _ {M : Type 0} where
   beside-join no_trees h = refl
   beside-join (tree t a) h = ap (λ x. view_before t x) (beside-join a h) ∙ before-join t (view_all a) h
 
+  pub beside-none : (a : Forest M) → beside a no_trees ≡ a
+  beside-none no_trees = refl
+  beside-none (tree t a) = ap (tree t) (beside-none a)
+
   pub beside-done : (a : Forest M) → view_beside a done ≡ view_all a
   beside-done no_trees = refl
   beside-done (tree t a) = ap (λ x. view_before t x) (beside-done a)
@@ -109,7 +111,7 @@ module _ {M : Type 0} (g : PlainDtd) where
   word-beside no_trees b = refl
   word-beside (tree t a) b = ap (λ x. node_before g t x) (word-beside a b) ∙ word-before t (word_of g a) (word_of g b)
 
-module _ {M : Type 0} (blank : M) (g : PlainDtd) (proper : IsProperDtd g) where
+module _ {M : Type 0} (blank : M) (g : PlainDtd) (proper : IsProperDtd g) (names : HasNames g) where
   -- some kids completed, so that their word is u
   record Part (kids : Forest M) (u : List PlainToken) (es : List Event) (n k : ℕ) : Type 0 where
     pub new : Forest M
@@ -119,6 +121,7 @@ module _ {M : Type 0} (blank : M) (g : PlainDtd) (proper : IsProperDtd g) where
     pub word : word_of g new ≡ u
     pub count : news es ≡ n + k
     pub none : u ≡ [] → new ≡ no_trees
+    pub keeps : (f f' : Forest M) → Keeps f f' → Keeps (beside kids f) (beside new f')
 
   part_none : (n k : ℕ) → n ≡ 0 → k ≡ 0 → Part no_trees [] [] n k
   part_none n k e f = record {
@@ -129,6 +132,7 @@ module _ {M : Type 0} (blank : M) (g : PlainDtd) (proper : IsProperDtd g) where
     word = refl;
     count = omega arith;
     none = λ _. refl;
+    keeps = λ f f' k. k;
   }
 
   part_tree : (t new : Tree M) (es : List Event) (token : PlainToken) → IsCompletedTree g t new es → ((u : List PlainToken) → node_before g t u ≡ token ∷ u) → Part (tree t no_trees) (token ∷ []) es 0 (news es)
@@ -140,6 +144,7 @@ module _ {M : Type 0} (blank : M) (g : PlainDtd) (proper : IsProperDtd g) where
     word = c.head [] ∙ is [];
     count = omega arith;
     none = λ e. absurd cc;
+    keeps = c.keeps;
   }
 
   part_along : (t new : Tree M) (kids : Forest M) (u : List PlainToken) (one two : List Event) (n k : ℕ) → IsCompletedTree g t new one → ((v : List PlainToken) → node_before g t v ≡ v) → u ≢ [] → Part kids u two n k →
@@ -155,6 +160,7 @@ module _ {M : Type 0} (blank : M) (g : PlainDtd) (proper : IsProperDtd g) where
     word = c.head (word_of g p.new) ∙ is (word_of g p.new) ∙ p.word;
     count = let q = p.count in omega (arith, news-join one two);
     none = λ e. absurd (some e);
+    keeps = λ f f' h. c.keeps (beside kids f) (beside p.new f') (p.keeps f f' h);
   }
 
   part_join : (a b : Forest M) (u v : List PlainToken) (one two : List Event) (n1 n2 k1 k2 : ℕ) → Part a u one n1 k1 → Part b v two n2 k2 → Part (beside a b) (u ++ v) (one ++ two) (n1 + n2) (k1 + k2)
@@ -169,6 +175,7 @@ module _ {M : Type 0} (blank : M) (g : PlainDtd) (proper : IsProperDtd g) where
     word = word-beside g p.new q.new ∙ (let c = p.word in let d = q.word in rw (c, d) refl);
     count = let c = p.count in let d = q.count in omega (arith, news-join one two);
     none = λ e. let s = empty_join u v (sym e) in let c = p.none s.0 in let d = q.none s.1 in rw (c, d) refl;
+    keeps = λ f f' h. rw (← beside-assoc a b f, ← beside-assoc p.new q.new f') (p.keeps (beside b f) (beside q.new f') (q.keeps f f' h));
   }
 
   part_new : (kids : Forest M) (y n a k : ℕ) (m : PlainModel) (v : List PlainToken) (es : List Event) → n ≡ suc a → model_of g y ≡ Some m → Allows (declared g) m v → Part kids v es a k →
@@ -184,10 +191,14 @@ module _ {M : Type 0} (blank : M) (g : PlainDtd) (proper : IsProperDtd g) where
     word = let s = spelled g proper y m is in rw s refl;
     count = let c = p.count in omega (arith, news-join es (new_end x ∷ []));
     none = λ e. absurd cc;
+    keeps = λ f f' h. keeps_new x kids p.new f f' blank named no-attributes (rw (beside-none kids, beside-none p.new) at (p.keeps no_trees no_trees keeps_none)) h;
   }
     where
       x : List ℕ
       x = spelling_of g y
+
+      named : IsTrue (is_name x)
+      named = name_of_number g proper names y m is
 
       inner : (i : ℕ) → LeavesOut (suc i) (suc i + opens es) (marks_from (suc i) es) (view_all kids) (view_all p.new)
       inner i = rw (append-nil, beside-done kids, beside-done p.new) at (p.tags (suc i) (suc i + opens es) [] done done (out_done (suc i + opens es) (suc i + opens es) refl))
@@ -331,6 +342,7 @@ module _ {M : Type 0} (blank : M) (g : PlainDtd) (proper : IsProperDtd g) where
     pub word : word_of g new ≡ word_of g kids
     pub count : news es ≡ k
     pub none : no_trees ≡ kids → new ≡ no_trees
+    pub keeps : (f f' : Forest M) → Keeps f f' → Keeps (beside kids f) (beside new f')
 
   left_over : (ps : List PlainPiece) (kids : Forest M) (es : List Event) (k : ℕ) → ps ≡ [] → Merges g ps kids es k → Left kids es k
   left_over ps kids es k e (merge_end _ z) = record {
@@ -341,6 +353,7 @@ module _ {M : Type 0} (blank : M) (g : PlainDtd) (proper : IsProperDtd g) where
     word = refl;
     count = omega arith;
     none = λ _. refl;
+    keeps = λ f f' h. h;
   }
   left_over ps kids es k e (merge_left t new rest one two _ _ a i j c d) =
       let o = left_over [] rest two a refl d in rw i (record {
@@ -354,6 +367,7 @@ module _ {M : Type 0} (blank : M) (g : PlainDtd) (proper : IsProperDtd g) where
         word = c.head (word_of g o.new) ∙ (let q = o.word in ap (λ x. node_before g t x) q);
         count = let q = o.count in omega (arith, news-join one two);
         none = λ f. absurd cc;
+        keeps = λ f f' h. c.keeps (beside rest f) (beside o.new f') (o.keeps f f' h);
       })
   left_over ps kids es k e (merge_along t new rest qs one two _ _ a i j c is d) = absurd cc
   left_over ps kids es k e (merge_kept t new rest qs one two _ token2 _ a i j c is d) = absurd cc
@@ -374,6 +388,7 @@ module _ {M : Type 0} (blank : M) (g : PlainDtd) (proper : IsProperDtd g) where
       word = word-beside g p.new o.new ∙ (let a = p.word in let b = o.word in rw (a, b, r) (append-nil u));
       count = let a = p.count in let b = o.count in rw q (omega (arith, news-join one two));
       none = λ e z. let a = p.none z in let b = o.none (beside_none front back (sym e ∙ f)) in rw (a, b) refl;
+      keeps = λ s s' h. rw (f, ← beside-assoc front back s, ← beside-assoc p.new o.new s') (p.keeps (beside back s) (beside o.new s') (o.keeps s s' h));
     },
   )
 
@@ -381,84 +396,3 @@ module _ {M : Type 0} (blank : M) (g : PlainDtd) (proper : IsProperDtd g) where
   merged n k u ps kids es c d =
       let i = into n u (word_of g kids) ps c [] kids es k [] (sym (append-nil (word_of g kids))) (rw append-nil d) in
       both_parts kids i.front i.back es i.one i.two n k i.k1 i.k2 u i.is_forest i.is_events i.is_count i.part (left_over [] i.back i.two i.k2 refl i.rest) i.rest_word
-
-spread_out : (us : List (List ℕ)) (m e : ℕ) (more : List ℕ) (h h' : Hedge) → LeavesOut m e more h h' → LeavesOut m e more (spread us h) (spread us h')
-spread_out [] m e more h h' l = l
-spread_out (u ∷ us) m e more h h' l = out_leaf m e more (unit_leaf u) (spread us h) (spread us h') (spread_out us m e more h h' l)
-
-pub leaf_completed : (M : Type 0) → LeafIsCompleted M
-leaf_completed M g (element x attrs e kids mark) f = absurd cc
-leaf_completed M g (text_node us) f = record {
-  text = sym (append-nil (joined us));
-  tags = λ m e more h h' l. let z : m + 0 ≡ m = omega arith in spread_out us m e more h h' (rw z at l);
-  valid = tt;
-  head = λ u. refl;
-}
-leaf_completed M g (cdata_node b) f = record {
-  text = sym (append-nil b);
-  tags = λ m e more h h' l. let z : m + 0 ≡ m = omega arith in out_leaf m e more (cdata b) h h' (rw z at l);
-  valid = tt;
-  head = λ u. refl;
-}
-leaf_completed M g (misc_node b) f = record {
-  text = sym (append-nil b);
-  tags = λ m e more h h' l. let z : m + 0 ≡ m = omega arith in out_leaf m e more (misc b) h h' (rw z at l);
-  valid = tt;
-  head = λ u. refl;
-}
-
-pub merged_completed : (M : Type 0) → MergedIsCompleted M
-merged_completed M blank g n k u ps kids es proper c d = merged blank g proper n k u ps kids es c d
-
-own_valid : {M : Type 0} (g : PlainDtd) (x : List ℕ) (y n k : ℕ) (kids new : Forest M) (ps : List PlainPiece) (es : List Event) → number_of g x ≡ Some y → (model_of g y ≡ Some empty → kids ≡ no_trees) →
-    (c : WritesContent g y n (word_of g kids) ps) → IsCompletedList g kids new c.whole es n k → IsOwnValid g (number_of g x) new
-own_valid g x y n k kids new ps es is none c l = record {
-  number = y;
-  is_owner = is;
-  model = c.model;
-  is_model = c.is_model;
-  no_kids = λ z. let i = c.is_model in l.none (none (rw z at i)) (allows-empty g c.model c.whole z c.allowed);
-  allowed = let w = l.word in rw w c.allowed;
-}
-
-pub element_completed : (M : Type 0) → ElementIsCompleted M
-element_completed M blank g x attrs gap y n k ending kids mark ps es proper is none c d =
-    let r = merged blank g proper n k c.whole ps kids es c.writes d in
-    let l = r.1 in (
-      r.0,
-      record {
-        text = rw (events-join es (old_bytes (codes "</" ++ x ++ gap ++ codes ">") ∷ [])) (let t = l.text in rw (← t) (tag_text (codes "<") x attrs (codes ">") (forest_text r.0) (codes "</") gap));
-        tags = λ m e more h h' o.
-            let z : m + suc (opens (es ++ old_bytes (codes "</" ++ x ++ gap ++ codes ">") ∷ [])) ≡ suc m + opens es = omega (arith, opens-join es (old_bytes (codes "</" ++ x ++ gap ++ codes ">") ∷ [])) in
-            out_kept m (suc m + opens es) e (marks_from (suc m) (es ++ old_bytes (codes "</" ++ x ++ gap ++ codes ">") ∷ []) ++ more) (marks_from (suc m) es) more x attrs (view_all kids) (view_all r.0) h h'
-            (rw (marks-join (suc m) es (old_bytes (codes "</" ++ x ++ gap ++ codes ">") ∷ []), append-nil) refl)
-            (rw (append-nil, beside-done kids, beside-done r.0) at (l.tags (suc m) (suc m + opens es) [] done done (out_done (suc m + opens es) (suc m + opens es) refl)))
-            (rw z at o);
-        valid = (own_valid g x y n k kids r.0 ps es is none c l, l.valid);
-        head = λ u. refl;
-      },
-    )
-
-nothing_written : (g : PlainDtd) (n : ℕ) (u w : List PlainToken) (ps : List PlainPiece) → ps ≡ [] → Writes g n u w ps → u ≡ []
-nothing_written g n u w ps e (write_none _ z) = refl
-nothing_written g n u w ps e (write_text _ u2 w2 os c) = absurd cc
-nothing_written g n u w ps e (write_kept _ y u2 w2 os c) = absurd cc
-nothing_written g n u w ps e (write_new _ a b y m z u2 w1 w2 _ one two _ f j h is ok c1 c2) = absurd (let i = sym h ∙ e in cc)
-
-pub bare_completed : (M : Type 0) → BareIsCompleted M
-bare_completed M g x attrs y n mark is c = record {
-  text = sym (append-nil (codes "<" ++ x ++ attrs ++ codes "/>"));
-  tags = λ m e more h h' l. let z : m + 1 ≡ suc m = omega arith in out_kept m (suc m) e more [] more x attrs done done h h' refl (out_done (suc m) (suc m) refl) (rw z at l);
-  valid = (
-    record {
-      number = y;
-      is_owner = is;
-      model = c.model;
-      is_model = c.is_model;
-      no_kids = λ z. refl;
-      allowed = let e = nothing_written g n c.whole [] [] refl c.writes in rw e at c.allowed;
-    },
-    tt,
-  );
-  head = λ u. refl;
-}

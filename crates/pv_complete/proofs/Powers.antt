@@ -34,20 +34,20 @@ two_powers a b zero l m = absurd (omega arith)
 two_powers a b (suc n) l m = let p = more_power a n (omega arith) in let q = more_power b n (omega arith) in let s = some_power n in omega arith
 
 -- what counts first, counts
-first_less : (D a b x y : ℕ) → a < b → x < D → D * a + x < D * b + y
-first_less D a b x y lt le = let m = mul-le-mul_left D lt in omega arith
+first_less : (step a b x y : ℕ) → a < b → x < step → step * a + x < step * b + y
+first_less step a b x y lt le = let m = mul-le-mul_left step lt in omega arith
 
-near_case : (D L W1 W s1 s r1 r : ℕ) → L * W1 ≤ L * W → s1 ≤ s → r1 < D → (s1 < s) ⊎ (r1 < r) → D * (L * W1 + s1) + r1 < D * (L * W + s) + r
-near_case D L W1 W s1 s r1 r le l d (inl lt) = first_less D (L * W1 + s1) (L * W + s) r1 r (omega arith) d
-near_case D L W1 W s1 s r1 r le l d (inr lt) = let b : L * W1 + s1 ≤ L * W + s = omega arith in let m = mul-le-mul_left D b in omega arith
+near_case : (step long low high s1 s r1 r : ℕ) → long * low ≤ long * high → s1 ≤ s → r1 < step → (s1 < s) ⊎ (r1 < r) → step * (long * low + s1) + r1 < step * (long * high + s) + r
+near_case step long low high s1 s r1 r le l d (inl lt) = first_less step (long * low + s1) (long * high + s) r1 r (omega arith) d
+near_case step long low high s1 s r1 r le l d (inr lt) = let b : long * low + s1 ≤ long * high + s = omega arith in let m = mul-le-mul_left step b in omega arith
 
 -- no more weight, no longer, and shorter or of a lower rank
-near : (D L W1 W s1 s r1 r : ℕ) → W1 ≤ W → s1 ≤ s → r1 < D → (s1 < s) ⊎ (r1 < r) → D * (L * W1 + s1) + r1 < D * (L * W + s) + r
-near D L W1 W s1 s r1 r le l d o = near_case D L W1 W s1 s r1 r (mul-le-mul_left L le) l d o
+near : (step long low high s1 s r1 r : ℕ) → low ≤ high → s1 ≤ s → r1 < step → (s1 < s) ⊎ (r1 < r) → step * (long * low + s1) + r1 < step * (long * high + s) + r
+near step long low high s1 s r1 r le l d o = near_case step long low high s1 s r1 r (mul-le-mul_left long le) l d o
 
 -- less weight
-lighter : (D L W1 W s1 s r1 r : ℕ) → W1 < W → s1 < L → r1 < D → D * (L * W1 + s1) + r1 < D * (L * W + s) + r
-lighter D L W1 W s1 s r1 r lt l d = first_less D (L * W1 + s1) (L * W + s) r1 r (let m = mul-le-mul_left L lt in omega arith) d
+lighter : (step long low high s1 s r1 r : ℕ) → low < high → s1 < long → r1 < step → step * (long * low + s1) + r1 < step * (long * high + s) + r
+lighter step long low high s1 s r1 r lt l d = first_less step (long * low + s1) (long * high + s) r1 r (let m = mul-le-mul_left long lt in omega arith) d
 
 module _ (g : PlainDtd) (w : List PlainToken) (t : Goal → ℕ) where
   left_join : (xs : List Work) (x : Work) → moves_left g w t (xs ++ x ∷ []) ≡ moves_left g w t xs + power (distance g w t x)

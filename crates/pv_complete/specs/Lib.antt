@@ -9,5 +9,8 @@ pub mod Moves
 pub mod Works
 pub mod Laws
 pub mod Events
+pub mod Writable
 pub mod Merging
 pub mod MergingLaws
+pub mod Written
+pub mod WritingForms

@@ -11,6 +11,7 @@ use Rattle.pv_write.specs.Text.{forest_text, tree_text}
 use Rattle.pv_missing.specs.Completing.{LeavesOut}
 use Rattle.pv_complete.specs.Events.{Event, events_text, marks_from, new_end, new_start, news, opens}
 use Rattle.pv_complete.specs.Pieces.{PlainPiece, finish, kept, start}
+use Rattle.pv_complete.specs.Writable.{Keeps}
 
 -- the trees of one forest and then those of another
 abbrev pub beside : {M : Type 0} → Forest M → Forest M → Forest M
@@ -40,6 +41,7 @@ pub record IsCompletedTree {M : Type 0} (g : PlainDtd) (t new : Tree M) (es : Li
   pub tags : (m e : ℕ) (more : List ℕ) (h h' : Hedge) → LeavesOut (m + opens es) e more h h' → LeavesOut m e (marks_from m es ++ more) (view_before t h) (view_before new h')
   pub valid : IsValidTree g new
   pub head : (u : List PlainToken) → node_before g new u ≡ node_before g t u
+  pub keeps : (f f' : Forest M) → Keeps f f' → Keeps (tree t f) (tree new f')
 
 -- The events of a list, by its pieces and by those of its nodes, of which k elements are new within the nodes. Nodes that are no token
 -- go before the next token, or stay at the end.
@@ -62,3 +64,4 @@ pub record IsCompletedList {M : Type 0} (g : PlainDtd) (kids new : Forest M) (u 
   pub word : word_of g new ≡ u
   pub count : news es ≡ n + k
   pub none : kids ≡ no_trees → u ≡ [] → new ≡ no_trees
+  pub keeps : (f f' : Forest M) → Keeps f f' → Keeps (beside kids f) (beside new f')

@@ -1,6 +1,26 @@
 //! A least completion of a document.
 
+ghost use Rattle.std.specs.Prelude.{IfErr, IfOk};
+ghost use Rattle.pv_productive.specs.PlainForms.{dtd_of};
+ghost use Rattle.pv_tree.specs.PlainDocs.{plain_doc};
+ghost use Rattle.pv_tree.specs.Prolog.{IsProlog};
+ghost use Rattle.pv_complete.specs.Completing.{IsLeastCompletion};
+ghost use Rattle.pv_complete.specs.Needing.{HasCause};
+
+use crate::errors::NeedError;
+use crate::needing::{least_number, possible_verdicts};
+use crate::walk::write_doc;
 use pv_chars::{Bytes, Numbers};
+use pv_dtd::laws::proper_dtd_law;
+use pv_missing::laws::documents::{locality_law, tags_extend_law};
+use pv_missing::laws::proper::proper_doc_law;
+use pv_productive::Grammar;
+use pv_span::laws::possible_weights_law;
+use pv_tree::{Doc, Mark};
+use pv_write::laws::every_view_is_written_law;
+use std::alloc::Global;
+use std::marker::Brand;
+use std::sync::ledger::Blank;
 
 /// A least completion of a document.
 #[derive(Debug, Drop)]
@@ -11,4 +31,35 @@ pub struct Completion {
     pub marks: Numbers,
     /// The text of the completed document.
     pub body: Bytes,
+}
+
+/// A least completion of a document: the text of a valid document that is this one with as few elements as can be inserted. The document
+/// stays as it is.
+///
+/// New elements are written as `<NAME>` and `</NAME>`, and all else as it is, but that an empty-element tag that gets content becomes a
+/// pair of tags. The refusals are those of `need`.
+pub fn complete(
+    alloc: Global,
+    grammar: &Grammar,
+    root: &[u8],
+    doc: &Doc,
+) -> Result<Completion, NeedError>
+    requires names { IsProlog root.now (plain_doc doc.now).before }
+    ensures completed { IfOk result (λ c. IsLeastCompletion (dtd_of grammar.now) root.now (plain_doc doc.now) c.count c.marks c.body) }
+    ensures refused { IfErr result (HasCause (dtd_of grammar.now) root.now (plain_doc doc.now)) }
+{
+    every_view_is_written_law();
+    tags_extend_law();
+    possible_weights_law::<Mark>();
+    locality_law::<Mark>();
+    proper_dtd_law(grammar.dtd());
+    proper_doc_law(doc);
+    let verdicts = possible_verdicts::<Brand>(alloc, grammar, root, doc, Blank::new(1))?;
+    let count = least_number(alloc, grammar, root, doc, &verdicts)?;
+    let text = write_doc(alloc, grammar, root, doc, &verdicts)?;
+    Ok(Completion {
+        count,
+        marks: Numbers::of(text.marks),
+        body: Bytes::of(text.body),
+    })
 }

@@ -6,6 +6,7 @@
 //! the weights of all sites over its word.
 #![tactic(auto)]
 
+mod by_verdict;
 mod completing;
 mod completion;
 mod contents;
@@ -21,10 +22,13 @@ mod needing;
 mod particles;
 mod pieces;
 mod spelling;
+mod tags;
+mod text;
+mod walk;
 mod weighing;
 
 pub use completing::list_pieces;
-pub use completion::Completion;
+pub use completion::{Completion, complete};
 pub use errors::NeedError;
 pub use needing::need;
 pub use pieces::Piece;

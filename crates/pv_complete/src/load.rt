@@ -2,6 +2,7 @@
 
 ghost use Rattle.std.specs.Prelude.{◌≡◌, ◌≤◌};
 ghost use Rattle.pv_missing.specs.Verdicts.{is_possible};
+ghost use Rattle.pv_complete.specs.Loads.{Takes};
 
 use pv_chars::NoMemory;
 use pv_missing::Verdicts;
@@ -20,6 +21,20 @@ fn is_possible(verdict: Verdict) -> bool
     }
 }
 
+/// Uses the verdict that is next, if there is one, and tells whether it is Possible.
+pub fn next_is_possible(verdicts: &Verdicts, used: &mut u64) -> bool
+    ensures { Takes verdicts.now.verdicts used.old used.new result }
+{
+    if *used >= verdicts.len() {
+        return false;
+    }
+    let Some(verdict) = verdicts.at(*used) else {
+        return false;
+    };
+    *used += 1;
+    is_possible(verdict)
+}
+
 /// The number of verdicts that are used, the sum of the weights so far, cut, and the places of the node that is next.
 #[derive(Drop)]
 pub struct Load {
@@ -32,7 +47,6 @@ pub struct Load {
 impl Load {
     ghost use Rattle.std.specs.Prelude.{◌≡◌, ◌+◌, ◌++◌, ◌∷◌, [], OnOk, min};
     ghost use Rattle.pv_rules.specs.Derivations.{heaviest};
-    ghost use Rattle.pv_complete.specs.Loads.{Takes};
 
     /// No list so far, and the next is that of the document node.
     pub fn new(alloc: Global) -> Load
@@ -53,14 +67,7 @@ impl Load {
         ensures total { self.new.total ≡ self.old.total }
         ensures places { self.new.places ≡ self.old.places }
     {
-        if self.used >= verdicts.len() {
-            return false;
-        }
-        let Some(verdict) = verdicts.at(self.used) else {
-            return false;
-        };
-        self.used += 1;
-        is_possible(verdict)
+        next_is_possible(verdicts, &mut self.used)
     }
 
     /// Goes down to the node at a place of the list at hand.

@@ -27,7 +27,7 @@ use std::marker::Brand;
 use std::sync::ledger::{Blank, Ledger};
 
 /// The verdicts of the lists of a document that isn't impossible.
-fn possible_verdicts<L: Ledger>(
+pub(crate) fn possible_verdicts<L: Ledger>(
     alloc: Global,
     grammar: &Grammar,
     root: &[u8],
@@ -82,6 +82,29 @@ fn total_weight(
     }
 }
 
+/// The least number of missing elements of a document whose lists have these verdicts, none of them Impossible.
+pub(crate) fn least_number(
+    alloc: Global,
+    grammar: &Grammar,
+    root: &[u8],
+    doc: &Doc,
+    verdicts: &Verdicts,
+) -> Result<u64, NeedError>
+    requires verdicts { AreVerdicts (dtd_of grammar.now) root.now
+        (lists_of (plain_doc doc.now)) verdicts.now.verdicts }
+    requires possible { IsPotentiallyValid (dtd_of grammar.now) root.now (view (plain_doc doc.now).root) }
+    requires narrow { AreListsForVerdicts (dtd_of grammar.now) (plain_doc doc.now) }
+    ensures needs { IfOk result (Needs (dtd_of grammar.now) root.now (plain_doc doc.now)) }
+    ensures refused { IfErr result (HasCause (dtd_of grammar.now) root.now (plain_doc doc.now)) }
+{
+    let total = total_weight(alloc, grammar, root, doc, verdicts)?;
+    if total < HEAVIEST {
+        Ok(u64::from(total))
+    } else {
+        Err(NeedError::TooHeavy)
+    }
+}
+
 /// The least number of elements whose insertion makes a document valid. The document stays as it is.
 ///
 /// A list that is valid takes no table of weights. Tables are made one at a time, and let go.
@@ -90,10 +113,5 @@ pub fn need(alloc: Global, grammar: &Grammar, root: &[u8], doc: &Doc) -> Result<
     ensures refused { IfErr result (HasCause (dtd_of grammar.now) root.now (plain_doc doc.now)) }
 {
     let verdicts = possible_verdicts::<Brand>(alloc, grammar, root, doc, Blank::new(1))?;
-    let total = total_weight(alloc, grammar, root, doc, &verdicts)?;
-    if total < HEAVIEST {
-        Ok(u64::from(total))
-    } else {
-        Err(NeedError::TooHeavy)
-    }
+    least_number(alloc, grammar, root, doc, &verdicts)
 }
