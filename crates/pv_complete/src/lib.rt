@@ -1,9 +1,12 @@
-//! How many elements are missing in a document.
+//! How many elements are missing in a document, and a least completion of it.
 //!
 //! `need` tells the least number of elements whose insertion makes a document valid (`IsLeast` of pv_missing). The weights of the Possible
 //! lists add up to it (`possible_weights_law` of pv_span); a Valid list weighs nothing, and takes no table. `specs/Needing.antt` says what is
 //! answered, and when each refusal comes. `list_pieces` puts a least completion of one list together, piece by piece (`specs/Pieces.antt`), by
 //! the weights of all sites over its word.
+//!
+//! `complete` writes the document with the pieces of each list (`src/walk.rt`). `specs/Completing.antt` says what it gives, and
+//! `specs/Written.antt` how the walk carries the proof.
 #![tactic(auto)]
 
 mod by_verdict;
