@@ -107,7 +107,7 @@ module _ (g : PlainDtd) (root : List ℕ) (vs : List Verdict) where
   pub adds_past : (list : Listed Mark) (old new : PlainLoad) → drop old.used vs ≡ [] → AddsUp g root (list ∷ []) vs old new
   adds_past list old new none more (u, rest, e, is, others) = absurd cc
 
-  live_site : (list : Listed Mark) → IsLiveBy g root list.owner list.kids → site_of g root list.owner ≡ None → ⊥
+  pub live_site : (list : Listed Mark) → IsLiveBy g root list.owner list.kids → site_of g root list.owner ≡ None → ⊥
   live_site list live none = no_site list.owner live none
     where
       no_site : (o : _) → IsLiveBy g root o list.kids → site_of g root o ≡ None → ⊥

@@ -14,3 +14,8 @@ pub mod Merging
 pub mod MergingLaws
 pub mod Written
 pub mod WritingForms
+pub mod Tables
+pub mod Listings
+pub mod Kinds
+pub mod Tabling
+pub mod TableLaws

@@ -1,6 +1,7 @@
-//! The laws of completions of lists, each the contract of a function that does nothing.
+//! The laws of completions of lists and of tables, each the contract of a function that does nothing.
 
 ghost use Rattle.pv_complete.specs.Laws.{SpelledWrites};
+ghost use Rattle.pv_complete.specs.TableLaws.{OneTables};
 ghost use Rattle.pv_complete.specs.MergingLaws.{BareIsCompleted, ElementIsCompleted, LeafIsCompleted, MergedIsCompleted};
 
 /// Pieces that are put together by the rules of the missing grammar, over a whole word, are a completion of it.
@@ -26,4 +27,9 @@ pub fn element_law<M>()
 /// An element without content, of which nothing is missing, is completed.
 pub fn bare_law<M>()
     ensures { BareIsCompleted M }
+{}
+
+/// The lists of a document have one list of tables.
+pub fn one_tables_law<M>()
+    ensures { OneTables M }
 {}

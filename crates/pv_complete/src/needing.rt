@@ -105,6 +105,26 @@ pub(crate) fn least_number(
     }
 }
 
+/// The verdicts of the lists of a document that misses at most 1,000,000 elements.
+pub fn light_verdicts(
+    alloc: Global,
+    grammar: &Grammar,
+    root: &[u8],
+    doc: &Doc,
+) -> Result<Verdicts, NeedError>
+    ensures verdicts { IfOk result (λ verdicts. AreVerdicts (dtd_of grammar.now) root.now
+        (lists_of (plain_doc doc.now)) verdicts.verdicts) }
+    ensures light { OnOk result ((n : ℕ) × Needs (dtd_of grammar.now) root.now (plain_doc doc.now) n) }
+    ensures refused { IfErr result (HasCause (dtd_of grammar.now) root.now (plain_doc doc.now)) }
+{
+    let verdicts = possible_verdicts::<Brand>(alloc, grammar, root, doc, Blank::new(1))?;
+    let total = total_weight(alloc, grammar, root, doc, &verdicts)?;
+    if total >= HEAVIEST {
+        return Err(NeedError::TooHeavy);
+    }
+    Ok(verdicts)
+}
+
 /// The least number of elements whose insertion makes a document valid. The document stays as it is.
 ///
 /// A list that is valid takes no table of weights. Tables are made one at a time, and let go.

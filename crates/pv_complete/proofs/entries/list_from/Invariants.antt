@@ -1,0 +1,13 @@
+use Rattle.std.proofs.Common.{length, ◌≤◌}
+use Rattle.pv_productive.specs.PlainForms.{dtd_of}
+use Rattle.pv_rules.specs.PlainForms.{plain_site}
+use Rattle.pv_span.specs.Weights.{tokens_of, weight_of}
+use Rattle.pv_complete.specs.Listings.{IsListedTo, key}
+use Rattle.pv_complete.specs.Tables.{kind_rank, site_number}
+use Rattle.pv_complete.proofs.entries.list_from.Given as goal
+
+abbrev pub invariant-loop-to : goal.invariant-loop-to
+invariant-loop-to l = record {
+  few : length l.entries.items ≤ l.room;
+  listed : IsListedTo (dtd_of l.grammar) (tokens_of l.spans) (weight_of l.spans) (key (kind_rank (plain_site l.site)) (site_number (plain_site l.site)) l.from l.to) l.entries.items;
+}
