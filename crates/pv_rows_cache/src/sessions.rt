@@ -1,13 +1,25 @@
 //! Sessions and their moves.
 
+ghost use Rattle.std.specs.Prelude.{◌≤◌, IfOk, IsNone};
+ghost use Rattle.std.specs.List.{AllByRecursion};
+ghost use Rattle.pv_cache.specs.Accepting.{MAX_EDITED_NODES};
+ghost use Rattle.pv_missing.specs.Verdicts.{HaveVerdicts};
+ghost use Rattle.pv_missing.specs.Widths.{IsListForVerdict};
+ghost use Rattle.pv_productive.specs.PlainForms.{dtd_of};
+ghost use Rattle.pv_tree.specs.Lists.{lists_of};
+ghost use Rattle.pv_tree.specs.Plain.{nodes_in};
+ghost use Rattle.pv_tree.specs.PlainDocs.{plain_doc};
+
 use pv_chars::bytes_of;
 use pv_edit::{Done, EditAnswer};
 use pv_fixture::documents::{document_of, dtd_of};
 use pv_fresh::check_doc;
-use pv_productive::build;
+use pv_missing::Verdicts;
+use pv_productive::{Grammar, build};
 use pv_script::Command;
 use pv_session::{BackAnswer, Session};
 use pv_steps::Steps;
+use pv_tree::Doc;
 use std::alloc::Global;
 use std::sync::ledger::Ledger;
 use std::test::Fail;
@@ -17,6 +29,25 @@ const MAX_NODES: u64 = 33_554_432;
 
 /// A DTD, a root and a document.
 pub type Texts = (&'static str, &'static str, &'static str);
+
+// The verdicts of a document's lists, none of which is Impossible.
+fn possible_verdicts<L: Ledger>(
+    alloc: Global,
+    grammar: &Grammar,
+    root: &[u8],
+    doc: &Doc,
+    steps: &mut Steps<L>,
+) -> Result<Verdicts, Fail>
+    ensures verdicts { IfOk result (HaveVerdicts (dtd_of grammar.now) root.now (lists_of (plain_doc doc.now))) }
+    ensures possible { IfOk result (λ verdicts. IsNone verdicts.first) }
+    ensures narrow { IfOk result (λ _. AllByRecursion (IsListForVerdict (dtd_of grammar.now)) (lists_of (plain_doc doc.now))) }
+{
+    let verdicts = check_doc(alloc, grammar, root, doc, steps)?;
+    if let Some(_path) = verdicts.first_impossible() {
+        return Err(Fail::new("an impossible document"));
+    }
+    Ok(verdicts)
+}
 
 /// A session on the document.
 pub fn begin<L: Ledger>(
@@ -30,11 +61,21 @@ pub fn begin<L: Ledger>(
     if doc.nodes() > MAX_NODES {
         return Err(Fail::new("too many nodes"));
     }
-    let verdicts = check_doc(alloc, &grammar, root.as_bytes(), &doc, steps)?;
-    if verdicts.first_impossible().is_some() {
-        return Err(Fail::new("an impossible document"));
-    }
-    let root = bytes_of(alloc, root.as_bytes())?;
+    begin_on(alloc, grammar, root.as_bytes(), doc, steps)
+}
+
+// A session on a document.
+fn begin_on<L: Ledger>(
+    alloc: Global,
+    grammar: Grammar,
+    root: &[u8],
+    doc: Doc,
+    steps: &mut Steps<L>,
+) -> Result<Session, Fail>
+    requires { nodes_in (plain_doc doc).root ≤ MAX_EDITED_NODES }
+{
+    let verdicts = possible_verdicts(alloc, &grammar, root, &doc, steps)?;
+    let root = bytes_of(alloc, root)?;
     Ok(Session::begin(alloc, grammar, root, doc, verdicts)?)
 }
 
