@@ -1,13 +1,12 @@
 -- Spans that are done, one after another, and the chart of all spans.
-use Rattle.std.specs.Prelude.{OnOk, min}
+use Rattle.std.specs.Prelude.{min}
 use Rattle.std.specs.List.{AllByRecursion}
-use Rattle.std.proofs.Common.{Bool, List, None, Option, Result, Some, [], arith, inl, inr, length, length-append, refl, suc, ℕ, ◌++◌, ◌+◌, ◌<◌, ◌-◌, ◌||◌, ◌∙◌, ◌∷◌, ◌≡◌, ◌≤◌, ◌↔◌}
+use Rattle.std.proofs.Common.{Bool, List, None, Option, Some, [], arith, inl, inr, length, length-append, refl, suc, ℕ, ◌++◌, ◌+◌, ◌<◌, ◌-◌, ◌||◌, ◌∙◌, ◌∷◌, ◌≡◌, ◌≤◌, ◌↔◌}
 use Rattle.std.proofs.Math.ListN.{get_or-append, get_or-eq_default}
 use Rattle.std.proofs.Math.Seq.{get_or-append_seam}
 use Rattle.std.proofs.lemmas.Bool.{cases_lt}
 use Rattle.std.proofs.lemmas.List.{get_or_default}
 use Rattle.std.proofs.lemmas.Option.{slice_get_past}
-use Rattle.std.proofs.lemmas.Result.{on_ok_weaker}
 use Rattle.pv_model.specs.Plain.{PlainPart, PlainParts, PlainToken, no_parts, part}
 use Rattle.pv_dtd.specs.Plain.{PlainDtd, declared, model_of, parts_in_models}
 use Rattle.pv_rules.specs.Derivations.{Derives, IsClosed, IsClosedSet, IsWeight, heaviest, sum_of}
@@ -216,14 +215,26 @@ all_filled g w t r = record {
       let n = next_number (length w) 0 (length w) (omega arith) in rw l (omega arith);
 }
 
--- the row at hand is put with the others, where there is memory
-pub put_next : {E : Type 0} (g : PlainDtd) (w : List PlainToken) (i j n : ℕ) (t new : PlainChart) (row : PlainRow) (r : Result Unit E) → length w ≡ n → IsAttained g w i j t → AllSettled g w i j t →
+-- there is room for the row at hand
+pub room_left : (g : PlainDtd) (w : List PlainToken) (i j : ℕ) (t : PlainChart) → IsAttained g w i j t → length t.rows < spans_before (suc t.tokens)
+room_left g w i j t a =
+    let e = a.next in let l = a.sound.long in let p = a.span.1 in
+    let z : t.tokens - 0 ≡ t.tokens = omega arith in
+    let h = within t.tokens 0 t.tokens i j (omega arith) (a.span.0) (omega arith) (omega arith) in let k = rw z at h in omega arith
+
+-- the row at hand is put with the others
+pub put_next : (g : PlainDtd) (w : List PlainToken) (i j n : ℕ) (t new : PlainChart) (row : PlainRow) → length w ≡ n → IsAttained g w i j t → AllSettled g w i j t →
     IsRow (length g.names) (parts_in_models g.models) row → ((s : PlainSite) → value_in row s ≡ no_size) →
-    OnOk r (new ≡ record { tokens = t.tokens; rows = t.rows ++ (t.row ∷ []); row = row }) → OnOk r (IsReady g w (span_number n i (suc j)) new)
-put_next g w i j n t new row r e a settled sized blank =
+    new ≡ record { tokens = t.tokens; rows = t.rows ++ (t.row ∷ []); row = row } → IsReady g w (span_number n i (suc j)) new
+put_next g w i j n t new row e a settled sized blank h =
     let l = a.sound.long in
     let f : t.tokens ≡ n = l ∙ e in
-    on_ok_weaker r (λ (h : new ≡ record { tokens = t.tokens; rows = t.rows ++ (t.row ∷ []); row = row }). rw h (rw (← f) (next_ready g w i j t row a settled sized blank)))
+    rw h (rw (← f) (next_ready g w i j t row a settled sized blank))
+
+-- before the first span
+pub none_ready : (g : PlainDtd) (w : List PlainToken) (n : ℕ) (t : PlainChart) (row : PlainRow) → length w ≡ n → t ≡ record { tokens = n; rows = []; row = row } →
+    IsRow (length g.names) (parts_in_models g.models) row → ((s : PlainSite) → value_in row s ≡ no_size) → IsReady g w 0 t
+none_ready g w n t row e f sized blank = rw (f, ← e) (record { sound = none_done g w row; count = refl; is_row = sized; blank = blank })
 
 -- all spans from a place are done: the first one from the place before is next
 pub from_before : (g : PlainDtd) (w : List PlainToken) (n i k : ℕ) (t : PlainChart) → suc k ≡ i → i ≤ n + 1 → IsReady g w (span_number n k (suc n)) t → IsReady g w (spans_before (suc n - k)) t

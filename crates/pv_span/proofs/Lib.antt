@@ -13,3 +13,4 @@ pub mod Judging
 pub mod Summing
 pub mod Lining
 pub mod Lined
+pub mod Across

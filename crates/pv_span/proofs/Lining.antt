@@ -75,6 +75,10 @@ module _ (n : ℕ) (rows : List PlainRow) (i j : ℕ) where
   abbrev t : Goal → ℕ
   t = done_value n rows
 
+  -- what a line tells is no more than that of no cut
+  pub few_told : (l : Line) → IsLine n rows i j l → (p : ℕ) → j ≤ p → p ≤ n → p < length l.least.items → size_at l.least.items p ≤ no_size
+  few_told l h p a b c = let e = h p a b c in let f = few_cuts t (plain_site l.one) (plain_site l.two) i p (j - suc i) in omega arith
+
   -- the cut before which nothing stands adds nothing
   pub no_more : (l : Line) → IsLine n rows i j l → (j ≤ i) ⊎ ((i < j) × (no_size ≤ done_value n rows (over (plain_site l.one) i j))) → IsLine n rows i (suc j) l
   no_more l h (inl le) p a b c =

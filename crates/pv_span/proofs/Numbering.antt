@@ -32,6 +32,10 @@ strictly_within n i j a b p q r s (inr lt) = elim (cases_lt i a) [
   | inr le ↦ (let z : a ≡ i = omega arith in rw z (omega arith))
 ]
 
+-- all spans from a later place come before a span
+pub later_before : (n i j k : ℕ) → i < j → j ≤ n → span_number n i j < k → span_number n j n < k
+later_before n i j k p q l = let h = later_spans (n - j) (n - i) (omega arith) in omega arith
+
 -- the span behind one from the same place, and the first one from the place before
 pub next_number : (n i j : ℕ) → i ≤ j → span_number n i (suc j) ≡ suc (span_number n i j)
 next_number n i j l = omega arith
@@ -45,3 +49,10 @@ few_case (suc k) l = let h = few_case k (omega arith) in omega arith
 
 pub few_spans : (k : ℕ) → k < 8192 → spans_before k < 67108864
 few_spans k l = let h = few_case k (omega arith) in omega arith
+
+-- how many spans there are in all
+pub few_in_all : (n k : ℕ) → n < 8192 → k ≡ span_number n 0 n → (k + 1 < 134217728) × (k + 1 ≡ spans_before n + suc n)
+few_in_all n k l e =
+    let z : n - 0 ≡ n = omega arith in
+    let f = rw z at e in
+    let h = few_spans n l in (omega arith, omega arith)

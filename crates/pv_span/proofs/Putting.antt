@@ -13,7 +13,7 @@ pub same_or_not : (k i : ℕ) → (k ≡ i) ⊎ (k ≢ i)
 same_or_not k i = elim (cases_lt k i) [ inl lt ↦ inr (omega arith) | inr le ↦ elim (cases_lt i k) [ inl lt ↦ inr (omega arith) | inr ge ↦ inl (omega arith) ] ]
 
 -- what holds of each value, and of the new one at its number
-each_cell : (P : ℕ → ℕ → Type 0) (cells : List ℕ) (n k : ℕ) → n < length cells → P n k → ((m : ℕ) → P m (size_at cells m)) → (m : ℕ) → P m (size_at (set cells n k) m)
+pub each_cell : (P : ℕ → ℕ → Type 0) (cells : List ℕ) (n k : ℕ) → n < length cells → P n k → ((m : ℕ) → P m (size_at cells m)) → (m : ℕ) → P m (size_at (set cells n k) m)
 each_cell P cells n k lt p all m = elim (same_or_not m n) [
   | inl e ↦ (let q : size_at (set cells n k) m ≡ k = rw e (get_or-set_same cells n k no_size lt) in rw q (rw e p))
   | inr ne ↦ (let q : size_at (set cells n k) m ≡ size_at cells m = rw get_or-set_other in rw q (all m))

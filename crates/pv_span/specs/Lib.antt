@@ -5,4 +5,6 @@ pub mod PlainForms
 pub mod Weights
 pub mod Laws
 pub mod RowForms
+pub mod Columns
+pub mod Done
 pub mod Lines

@@ -1,13 +1,17 @@
 -- The values of all sites over one span. A value is no_size where no derivation is known, and else the weight of one, cut.
 use Rattle.std.specs.Prelude.{List, length, slice_set, sum, Bool, false, true, ℕ, ◌+◌, ◌<◌, ◌≡◌, ◌≤◌}
 use Rattle.pv_rules.specs.Sites.{PlainSite, content_site, name_site, part_site, rest_site}
-use Rattle.pv_productive.specs.Tables.{size_at}
+use Rattle.pv_productive.specs.Tables.{no_size, size_at}
 
 pub record PlainRow : Type 0 where
   pub names : List ℕ
   pub contents : List ℕ
   pub parts : List ℕ
   pub rests : List ℕ
+
+-- no value is more than that of no derivation
+abbrev pub AreFew : List ℕ → Type 0
+AreFew values = (k : ℕ) → size_at values k ≤ no_size
 
 abbrev pub value_in : PlainRow → PlainSite → ℕ
 value_in r (name_site x) = size_at r.names x

@@ -8,7 +8,9 @@
 #![tactic(auto)]
 
 mod charts;
+mod columns;
 mod contents;
+mod done;
 mod errors;
 mod fill;
 pub mod laws;

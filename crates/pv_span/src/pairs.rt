@@ -9,6 +9,7 @@ use pv_rules::{ContentKind, FlatContent, FlatPart, Kind, Membership, Site};
 use std::alloc::Global;
 
 /// The number of the line of two sites, where they have one.
+#[inline(always)]
 pub fn line_number(one: Site, two: Site) -> usize {
     match (one, two) {
         (_, Site::Part(number)) => number as usize * 3,

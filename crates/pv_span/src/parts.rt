@@ -26,6 +26,7 @@ fn part_of(grammar: &Grammar, number: u32) -> Option<FlatPart>
 }
 
 /// The sum where the span is cut at a place: `one` before it, `two` behind it. What has no value before the place isn't looked for behind it.
+#[inline(always)]
 fn sum_at(chart: &Chart, one: Site, two: Site, from: u32, to: u32, place: u32) -> u64
     requires span { (from ≤ place) × (place ≤ to) × (to ≤ chart.now.tokens) }
     ensures below { result ≤ value_of (plain_chart chart.now) (over (plain_site one) from place)
@@ -96,6 +97,7 @@ fn least_of_places(
 }
 
 /// The least sum where the span is cut at a place from `low` up to `high`, which is left out: `one` before the place, `two` behind it.
+#[inline(always)]
 pub fn least_of_cuts(
     chart: &Chart,
     one: Site,

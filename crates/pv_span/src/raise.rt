@@ -38,6 +38,7 @@ fn cut(sum: u64) -> u32
 }
 
 /// The least value that the rules give a site over a span.
+#[inline(always)]
 fn least_of_site(
     grammar: &Grammar,
     word: &[Token],
@@ -61,6 +62,7 @@ fn least_of_site(
 }
 
 /// Lowers the value of a site over the span at hand where the rules give less, and tells whether they do.
+#[inline(always)]
 fn raise(
     grammar: &Grammar,
     word: &[Token],

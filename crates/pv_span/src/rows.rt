@@ -1,6 +1,6 @@
 //! The values of all sites over one span.
 
-ghost use Rattle.std.specs.Prelude.{◌≡◌, ◌<◌, length};
+ghost use Rattle.std.specs.Prelude.{◌≡◌, ◌<◌, ℕ, length};
 ghost use Rattle.pv_productive.specs.Tables.{size_at};
 
 use pv_model::NoMemory;
@@ -20,10 +20,12 @@ pub struct Row {
     pub rests: Vec<u32>,
 }
 
-fn value_at(values: &[u32], number: u32) -> u32
+/// The value at a number, or that of no derivation where there is none.
+#[inline(always)]
+pub fn value_at(values: &[u32], number: usize) -> u32
     ensures { result ≡ size_at values.now number }
 {
-    match values.get(number as usize) {
+    match values.get(number) {
         Some(value) => *value,
         None => NONE,
     }
@@ -50,22 +52,36 @@ impl Row {
         })
     }
 
+    /// Forgets all values.
+    pub fn forget(&mut self)
+        ensures sized { (names parts : ℕ) → IsRow names parts (plain_row self.old) → IsRow names parts (plain_row self.new) }
+        ensures blank { (s : PlainSite) → value_in (plain_row self.new) s ≡ no_size }
+    {
+        self.names.fill(NONE);
+        self.contents.fill(NONE);
+        self.parts.fill(NONE);
+        self.rests.fill(NONE);
+    }
+
     /// The value of a site.
+    #[inline(always)]
     pub fn at(&self, site: Site) -> u32
         ensures { result ≡ value_in (plain_row self.now) (plain_site site) }
     {
         match site {
-            Site::Name(id) => value_at(self.names.as_slice(), id.0),
-            Site::Content(id) => value_at(self.contents.as_slice(), id.0),
-            Site::Part(number) => value_at(self.parts.as_slice(), number),
-            Site::Rest(number) => value_at(self.rests.as_slice(), number),
+            Site::Name(id) => value_at(&self.names, id.0 as usize),
+            Site::Content(id) => value_at(&self.contents, id.0 as usize),
+            Site::Part(number) => value_at(&self.parts, number as usize),
+            Site::Rest(number) => value_at(&self.rests, number as usize),
         }
     }
 
     /// Puts in the value of a site where it is less than what stands there, and tells whether it was.
+    #[inline(always)]
     pub fn lower(&mut self, site: Site, value: u32) -> bool
         requires { HasCell (plain_row self.old) (plain_site site) }
-        ensures { IsLowered (plain_row self.old) (plain_row self.new) (plain_site site) value result }
+        ensures lowered { IsLowered (plain_row self.old) (plain_row self.new) (plain_site site) value result }
+        ensures sized { (names parts : ℕ) → IsRow names parts (plain_row self.old) → IsRow names parts (plain_row self.new) }
     {
         let is_less = value < self.at(site);
         if is_less {

@@ -9,7 +9,7 @@ use Rattle.pv_span.proofs.fill.fill.Goals as goal
 pub loop-from-preserved : goal.loop-from-preserved
 loop-from-preserved c =
     from_before (dtd_of c.args.grammar.now) (map plain_token c.args.word.now) (length c.args.word.now) c.loop-from.from (c.loop-from.from - 1)
-    (plain_chart c.do_spans_from.new.chart) (omega arith) c.loop-from.auto.from c.in_ok-do_spans_from.ensures
+    (plain_chart c.do_spans_from.new.chart) (omega arith) c.loop-from.auto.from c.do_spans_from.ensures
 
 pub returns : goal.returns
 returns c = λ some.

@@ -13,7 +13,7 @@ returns c =
     let e : c.cut-least.result ≡ cut c.least_of_site.result = c.cut-least.ensures in
     raised (dtd_of c.args.grammar.now) (map plain_token c.args.word.now) c.args.from c.args.to (plain_chart c.args.chart.now) (plain_row c.lower.new.self)
     (plain_site c.args.site) c.least_of_site.result c.lower.result c.requires.attained c.requires.cell c.least_of_site.ensures
-    (subst (λ x. IsLowered (plain_row c.args.chart.now.row) (plain_row c.lower.new.self) (plain_site c.args.site) x c.lower.result) e c.lower.ensures)
+    (subst (λ x. IsLowered (plain_row c.args.chart.now.row) (plain_row c.lower.new.self) (plain_site c.args.site) x c.lower.result) e c.lower.ensures.lowered)
 
 pub least_of_site-requires-clause-few : goal.least_of_site-requires-clause-few
 least_of_site-requires-clause-few c =

@@ -11,3 +11,10 @@ at-requires c =
     let h : 0 < length (dtd_of c.in_ok-grammar.grammar).names = let l = c.if-names-eq0.false in omega arith in
     let l = c.in_ok-spans.ensures.weights.long (name_site 0) h in
     let m = simp length-map at l in (omega arith, omega arith)
+
+pub overflow_cast-tokens : goal.overflow_cast-tokens
+overflow_cast-tokens c =
+    let e = c.names.ensures ∙ ap (λ (d : PlainDtd). length d.names) c.dtd.ensures in
+    let h : 0 < length (dtd_of c.in_ok-grammar.grammar).names = let l = c.if-names-eq0.false in omega arith in
+    let l = c.in_ok-spans.ensures.weights.long (name_site 0) h in
+    let m = simp length-map at l in let f = c.in_ok-spans.spans.chart.short in omega arith
