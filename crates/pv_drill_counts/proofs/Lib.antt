@@ -4,4 +4,5 @@ pub mod Formula
 pub mod Limits
 pub mod Lines
 pub mod Opening
+pub mod Printing
 pub mod Steps

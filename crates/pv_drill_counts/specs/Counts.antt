@@ -1,14 +1,18 @@
 -- The numbers that a drill tells, by a formula in the number of its sections.
-use Rattle.std.specs.Prelude.{◌≡◌, ℕ, ◌+◌, ◌*◌, ◌/◌}
+use Rattle.std.specs.Prelude.{◌≡◌, ◌⊎◌, ℕ, ◌+◌, ◌*◌, ◌/◌, Some}
+use Rattle.std.specs.Io.KnownBytes.{Appends}
+use Rattle.pv_io.specs.Causes.{Rose}
 use Rattle.pv_session.specs.Sessions.{PlainSession, stamped_document}
 use Rattle.pv_cache.specs.Moves.{HasOpen}
 use Rattle.pv_drill.specs.Drill.{drill_lines}
-use Rattle.pv_cli.specs.CommandLine.{IsDrillSize}
+use Rattle.pv_cli.specs.CommandLine.{IsDrillSize, drill}
 use Rattle.pv_cli.specs.Course.{Course, responds}
 use Rattle.pv_cli.specs.Drill.{CountsReplies, IsDrillCourse, counts_text, drill_stage, no_counts}
+use Rattle.pv_cli.specs.Program.{Devices, Runs}
 use Rattle.pv_cli.specs.Response.{PlainResponse, with_line}
 use Rattle.pv_cli.specs.declared.drill.Counts.{Counts}
-use Rattle.pv_cli.specs.declared.status.Status.TheVariants.{Done}
+use Rattle.pv_cli.specs.declared.status.Status.{Status}
+use Rattle.pv_cli.specs.declared.status.Status.TheVariants.{Done, NoMemory}
 
 -- Each section has two lines, of which the second is `ok`; each third section has one more, which is `ok` too. A wrapped text changes two
 -- lists, and taking that back changes one.
@@ -30,3 +34,10 @@ CountsByFormula = (n : ℕ) (session after : PlainSession) (counts : Counts) (op
 abbrev pub RespondsByFormula : Type 0
 RespondsByFormula = (n : ℕ) (course : Course) (r : PlainResponse) → IsDrillSize n → IsDrillCourse n course →
     course.ending ≡ responds r → r ≡ with_line Done (counts_text n (drill_counts n) (n / 3))
+
+-- where no device failed, a run of a drill wrote that line and ended with status 0, or there was no memory
+abbrev pub PrintsFormula : Type 0 → Type 0
+PrintsFormula S = (n : ℕ) (before after : Devices S) (status : Status) → IsDrillSize n → Runs (Some (drill n)) before after status →
+    (Rose before.shelf_faults after.shelf_faults → ⊥) → (Rose before.input_faults after.input_faults → ⊥) →
+    (Rose before.output_faults after.output_faults → ⊥) →
+    (status ≡ NoMemory) ⊎ ((status ≡ Done) × Appends before.written after.written (with_line Done (counts_text n (drill_counts n) (n / 3))).output)

@@ -1,9 +1,11 @@
 //! Laws on what a drill counts. Their functions do nothing.
 
-ghost use Rattle.pv_drill_counts.specs.Counts.{CountsByFormula, DrillsBegin, RespondsByFormula};
+ghost use Rattle.pv_drill_counts.specs.Counts.{CountsByFormula, DrillsBegin, PrintsFormula, RespondsByFormula};
 
+use pv_cli::laws::complete_law;
 use pv_drill_tree::laws::{document_law, dtd_law};
 use pv_dtd::laws::one_meaning_law;
+use pv_io::Source;
 use pv_read::laws::{meant_law, one_document_law, one_meaning_law as one_document_meaning_law};
 use pv_script::laws::one_command_law;
 
@@ -20,4 +22,12 @@ pub fn drill_counts_law()
     one_command_law();
     dtd_law();
     document_law();
+}
+
+/// Where no device failed, a run of a drill wrote the line of the formula, or there was no memory.
+pub fn drill_prints_law<S: Source>()
+    ensures { PrintsFormula S }
+{
+    drill_counts_law();
+    complete_law::<S>();
 }
