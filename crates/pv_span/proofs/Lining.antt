@@ -1,6 +1,6 @@
 -- Lines: what a cut more adds, and what they tell of a span.
 use Rattle.std.specs.Prelude.{min}
-use Rattle.std.proofs.Common.{List, Some, [], ap, arith, inl, inr, length, refl, set, slice_get, subst, suc, sym, zero, ℕ, ◌++◌, ◌+◌, ◌-◌, ◌<◌, ◌∙◌, ◌∷◌, ◌≡◌, ◌≤◌, ◌⊎◌}
+use Rattle.std.proofs.Common.{List, Some, [], ap, arith, inl, inr, length, refl, set, slice_get, suc, sym, zero, ℕ, ◌++◌, ◌+◌, ◌-◌, ◌<◌, ◌∙◌, ◌∷◌, ◌≡◌, ◌≤◌, ◌⊎◌}
 use Rattle.std.proofs.lemmas.Bool.{cases_lt}
 use Rattle.std.proofs.lemmas.List.{get_or_default}
 use Rattle.std.proofs.Math.ListN.{get_or-append}
@@ -10,7 +10,7 @@ use Rattle.pv_rules.specs.Sites.{PlainSite}
 use Rattle.pv_productive.specs.Tables.{no_size, size_at}
 use Rattle.pv_span.specs.Charts.{PlainChart, span_number, value_of}
 use Rattle.pv_span.specs.Least.{IsLeastCut}
-use Rattle.pv_span.specs.Lines.{AreBlank, AreLines, IsBlank, IsLine, done_value, least_cut, no_row}
+use Rattle.pv_span.specs.Lines.{IsBlank, IsLine, done_value, least_cut, no_row}
 use Rattle.pv_span.specs.Rows.{PlainRow, value_in}
 use Rattle.pv_span.specs.declared.lines.Line.{Line}
 use Rattle.pv_span.proofs.Cuts.{cut_more}

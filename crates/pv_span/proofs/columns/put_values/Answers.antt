@@ -1,4 +1,4 @@
-use Rattle.std.proofs.Common.{get_or-set_other, slice_index_or, sym, ◌*◌, ◌+◌, ◌∙◌, ◌≡◌}
+use Rattle.std.proofs.Common.{get_or-set_other, slice_index_or, ◌*◌, ◌+◌, ◌∙◌, ◌≡◌}
 use Rattle.std.proofs.lemmas.List.{get_or_default}
 use Rattle.pv_productive.specs.Tables.{no_size, size_at}
 use Rattle.pv_span.proofs.Across.{few_more, put_more}

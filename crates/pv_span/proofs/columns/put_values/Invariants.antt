@@ -1,4 +1,4 @@
-use Rattle.std.proofs.Common.{length, ℕ, ◌*◌, ◌+◌, ◌<◌, ◌≡◌, ◌≢◌}
+use Rattle.std.proofs.Common.{ℕ, ◌*◌, ◌+◌, ◌<◌, ◌≡◌, ◌≢◌}
 use Rattle.pv_productive.specs.Tables.{size_at}
 use Rattle.pv_span.specs.Rows.{AreFew}
 use Rattle.pv_span.proofs.columns.put_values.Given as goal

@@ -1,5 +1,5 @@
 use Rattle.std.specs.Vec.{with_items}
-use Rattle.std.proofs.Common.{ap, arith, length, ◌+◌, ◌∙◌, ◌≡◌}
+use Rattle.std.proofs.Common.{ap, arith, ◌+◌, ◌∙◌, ◌≡◌}
 use Rattle.std.proofs.lemmas.List.{with_items_is}
 use Rattle.pv_rules.specs.PlainForms.{plain_site}
 use Rattle.pv_span.specs.Done.{row_of}
