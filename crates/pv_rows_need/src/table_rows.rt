@@ -57,7 +57,7 @@ fn pairs(rt: HostRuntime) -> Result<(), Fail> {
     let made = tables(alloc, &grammar, b"a", &doc)?;
     assert_eq!(rt; made.as_slice().len(), 1);
     let table = made.as_slice().first().ok_or("a table")?;
-    assert_eq!(rt; table.path.places(), &[0]);
+    assert_eq!(rt; table.path.places(), [0].as_slice());
     assert_eq!(rt; lines_of(alloc, table)?.as_str(), PAIR_ROWS);
     Ok(())
 }
@@ -79,6 +79,6 @@ fn refused_documents(rt: HostRuntime) -> Result<(), Fail> {
     let Err(NeedError::Impossible(path)) = tables(alloc, &grammar, b"a", &doc) else {
         return Err(Fail::new("no refusal"));
     };
-    assert_eq!(rt; path.places(), &[0]);
+    assert_eq!(rt; path.places(), [0].as_slice());
     Ok(())
 }
