@@ -1,10 +1,10 @@
 -- Completed trees.
-use Rattle.std.proofs.Common.{List, Some, [], append-nil, arith, append_assoc, codes, refl, suc, sym, ℕ, ◌++◌, ◌+◌, ◌∙◌, ◌∷◌, ◌≡◌}
+use Rattle.std.proofs.Common.{List, Some, [], append-nil, arith, append_assoc, codes, refl, suc, sym, ℕ, ◌++◌, ◌+◌, ◌∙◌, ◌∷◌, ◌≡◌, inl, inr, ap, ◌≢◌}
 use Rattle.pv_chars.specs.Texts.{joined}
 use Rattle.pv_model.specs.Plain.{PlainToken, empty}
 use Rattle.pv_dtd.specs.Hedge.{Hedge, cdata, done, misc}
 use Rattle.pv_dtd.specs.Plain.{PlainDtd, model_of, number_of}
-use Rattle.pv_tree.specs.Plain.{Forest, cdata_node, element, misc_node, no_trees, short, text_node}
+use Rattle.pv_tree.specs.Plain.{Ending, Forest, cdata_node, element, misc_node, no_trees, short, tagged, text_node}
 use Rattle.pv_tree.specs.Lists.{IsOwnValid}
 use Rattle.pv_tree.specs.View.{spread, unit_leaf, view_all}
 use Rattle.pv_tree.specs.Words.{word_of}
@@ -15,7 +15,11 @@ use Rattle.pv_complete.specs.Events.{Event, marks_from, old_bytes, opens}
 use Rattle.pv_complete.specs.Merging.{IsCompletedList}
 use Rattle.pv_complete.specs.MergingLaws.{BareIsCompleted, ElementIsCompleted, LeafIsCompleted, MergedIsCompleted}
 use Rattle.pv_complete.specs.Pieces.{PlainPiece, Writes, WritesContent, write_kept, write_new, write_none, write_text}
-use Rattle.pv_complete.proofs.Keeping.{keeps_element, keeps_none, keeps_tree}
+use Rattle.pv_complete.specs.Growing.{KeepsEnding, gap_of}
+use Rattle.pv_complete.specs.Writable.{Keeps}
+use Rattle.pv_chars.specs.Spaces.{IsOptionalSpace}
+use Rattle.pv_tree.specs.Legal.{IsLegalEnding}
+use Rattle.pv_complete.proofs.Keeping.{keeps_element, keeps_none, keeps_tree, none_grown}
 use Rattle.pv_complete.proofs.Merging.{beside-done, beside-none, events-join, marks-join, merged, opens-join}
 
 -- the text of an element, cut at its content
@@ -64,8 +68,22 @@ own_valid g x y n k kids new ps es is none c l = record {
   allowed = let w = l.word in rw w c.allowed;
 }
 
+gap_legal : (e : Ending) → IsLegalEnding e → IsOptionalSpace (gap_of e)
+gap_legal short l = refl
+gap_legal (tagged gap) l = l
+
+ending_kept : {M : Type 0} (e : Ending) (gap : List ℕ) (new : Forest M) → gap ≡ gap_of e → (e ≡ short → new ≢ no_trees) → KeepsEnding e new (tagged gap)
+ending_kept short gap new is some = inr (refl, some refl, rw is refl)
+ending_kept (tagged gap) other new is some = inl (rw is refl)
+
+no_pieces_for : (g : PlainDtd) (n : ℕ) (u w : List PlainToken) (ps : List PlainPiece) → Writes g n u w ps → u ≡ [] → ps ≡ []
+no_pieces_for g n u w ps (write_none _ z) e = refl
+no_pieces_for g n u w ps (write_text _ u2 w2 os c) e = absurd cc
+no_pieces_for g n u w ps (write_kept _ y u2 w2 os c) e = absurd cc
+no_pieces_for g n u w ps (write_new _ a b y m z u2 w1 w2 _ one two _ f j h is ok c1 c2) e = absurd cc
+
 pub element_completed : (M : Type 0) → ElementIsCompleted M
-element_completed M blank g x attrs gap y n k ending kids mark ps es proper names end is none c d =
+element_completed M blank g x attrs gap y n k ending kids mark ps es proper names end bare is none c d =
     let r = merged blank g proper names n k c.whole ps kids es c.writes d in
     let l = r.1 in (
       r.0,
@@ -79,9 +97,18 @@ element_completed M blank g x attrs gap y n k ending kids mark ps es proper name
             (rw z at o);
         valid = (own_valid g x y n k kids r.0 ps es is none c l, l.valid);
         head = λ u. refl;
-        keeps = λ f f' h. keeps_element x attrs gap ending kids r.0 f f' mark mark end (rw (beside-none kids, beside-none r.0) at (l.keeps no_trees no_trees keeps_none)) h;
+        keeps = λ f f' h. keeps_element x attrs gap ending kids r.0 f f' mark mark (rw end (gap_legal ending)) (ending_kept ending gap r.0 end (λ s e. bare s (kids_none r.0 l e) (no_pieces_for g n c.whole (word_of g kids) ps c.writes (whole_none r.0 l e)))) (inner r.0 l) h;
       },
     )
+  where
+    inner : (new : Forest M) → IsCompletedList g kids new c.whole es n k → Keeps kids new
+    inner new l = rw (beside-none kids, beside-none new) at (l.keeps no_trees no_trees keeps_none)
+
+    kids_none : (new : Forest M) → IsCompletedList g kids new c.whole es n k → new ≡ no_trees → kids ≡ no_trees
+    kids_none new l e = let i = inner new l in none_grown kids new i.grows e
+
+    whole_none : (new : Forest M) → IsCompletedList g kids new c.whole es n k → new ≡ no_trees → c.whole ≡ []
+    whole_none new l e = let w = l.word in sym w ∙ ap (word_of g) e
 
 nothing_written : (g : PlainDtd) (n : ℕ) (u w : List PlainToken) (ps : List PlainPiece) → ps ≡ [] → Writes g n u w ps → u ≡ []
 nothing_written g n u w ps e (write_none _ z) = refl

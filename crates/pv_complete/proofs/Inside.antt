@@ -1,5 +1,6 @@
 -- What every DTD and document of the program has for being written.
-use Rattle.std.proofs.Common.{Bool, IsTrue, List, [], false, refl, rules, true, ℕ, ◌&&◌, ◌∷◌, ◌≡◌}
+use Rattle.std.proofs.Common.{Bool, IsTrue, List, [], false, length, refl, rules, true, ℕ, ◌&&◌, ◌∷◌, ◌≡◌}
+use Rattle.std.specs.Prelude.{◌==◌}
 use Rattle.std.proofs.Math.Logic.{∥∥₁_elim}
 use Rattle.std.proofs.lemmas.Bool.{and_from}
 use Rattle.std.specs.List.{list_all}
@@ -10,13 +11,15 @@ use Rattle.pv_dtd.specs.PlainForms.{plain_dtd}
 use Rattle.pv_dtd.specs.declared.dtd.Dtd.{Dtd}
 use Rattle.pv_tree.specs.Legal.{has_names, has_no_close_mark, is_formed, starts_no_close_mark}
 use Rattle.pv_tree.specs.Plain.{Tree, cdata_node, element, is_element, misc_node, no_trees, text_node, tree}
-use Rattle.pv_tree.specs.PlainForms.{plain}
+use Rattle.pv_tree.specs.PlainForms.{forest, plain}
 use Rattle.pv_tree.specs.Prolog.{IsEpilog}
 use Rattle.pv_tree.specs.declared.document.Doc.{Doc}
 use Rattle.pv_tree.specs.declared.nodes.Mark.{Mark}
-use Rattle.pv_tree.specs.declared.nodes.Node.{Cdata, Misc, Text, the_lemmas}
+use Rattle.pv_tree.specs.declared.nodes.Node.{Cdata, Misc, Node, Text, the_lemmas}
 use Rattle.pv_tree.proofs.Decidable.{had}
 use Rattle.pv_tree.proofs.DecidedForms.{epilog, legal}
+use Rattle.pv_complete.specs.PieceForms.{plain_pieces}
+use Rattle.pv_complete.specs.declared.pieces.Piece.{Piece}
 use Rattle.pv_complete.specs.Writable.{AreWritable, HasNames}
 
 all_names : (xs : List (List ℕ)) → AreLegal xs → list_all is_name xs ≡ true
@@ -58,3 +61,15 @@ plain-Cdata b = search (rules, the_lemmas)
 
 pub plain-Misc : (b : List ℕ) → plain (Misc b) ≡ misc_node b
 plain-Misc b = search (rules, the_lemmas)
+
+pub no_nodes : (ns : List Node) → forest ns ≡ no_trees → ns ≡ []
+no_nodes [] e = refl
+no_nodes (n ∷ ns) e = absurd cc
+
+pub no_plain_pieces : (ps : List Piece) → plain_pieces ps ≡ [] → ps ≡ []
+no_plain_pieces [] e = refl
+no_plain_pieces (p ∷ ps) e = absurd cc
+
+pub some_length : {A : Type 0} (xs : List A) → false ≡ (length xs == 0) → xs ≡ [] → ⊥
+some_length [] h e = cc
+some_length (x ∷ xs) h e = cc

@@ -1,5 +1,5 @@
 -- Completing trees keeps that they can be written.
-use Rattle.std.proofs.Common.{IsTrue, List, Some, [], ap, append_assoc, arith, length, not, refl, subst, suc, sym, true, zero, ℕ, ◌&&◌, ◌++◌, ◌<◌, ◌∙◌, ◌∷◌, ◌≡◌}
+use Rattle.std.proofs.Common.{IsTrue, List, Some, [], ap, append_assoc, arith, length, not, refl, subst, suc, sym, true, zero, ℕ, ◌&&◌, ◌++◌, ◌<◌, ◌∙◌, ◌∷◌, ◌≡◌, inl}
 use Rattle.std.proofs.lemmas.Bool.{and_from, and_parts}
 use Rattle.std.proofs.lemmas.Option.{slice_get_within}
 use Rattle.std.specs.List.{list_all}
@@ -14,7 +14,7 @@ use Rattle.pv_tree.specs.Attributes.{IsAttributes, IsKnownReference}
 use Rattle.pv_tree.specs.Legal.{IsLegal, IsLegalEnding, are_formed, fits_kids, front_units, has_names, has_no_close_mark, have_names, have_no_close_mark, is_formed, is_open, starts_no_close_mark}
 use Rattle.pv_tree.specs.Plain.{Ending, Forest, Tree, cdata_node, element, misc_node, no_trees, tagged, text_node, tree}
 use Rattle.pv_tree.specs.Units.{HasUnits}
-use Rattle.pv_complete.specs.Merging.{beside}
+use Rattle.pv_complete.specs.Growing.{Grows, KeepsEnding, beside, grows_kept, grows_leaf, grows_new, grows_none}
 use Rattle.pv_complete.specs.Writable.{AreElements, AreInFront, AreWritable, HasNames, Keeps}
 
 -- what doesn't begin `]]>` with more units behind, doesn't without them
@@ -84,7 +84,24 @@ module _ {M : Type 0} where
   front_alike (misc_node b) f f' i = ([], refl)
 
   pub keeps_none : Keeps {M = M} no_trees no_trees
-  keeps_none = record { writable = λ w. w; front = ([], refl); elements = λ e. e }
+  keeps_none = record { writable = λ w. w; front = ([], refl); elements = λ e. e; grows = grows_none }
+
+  mutual
+    grows_tree : (t : Tree M) (a b : Forest M) → Grows a b → Grows (tree t a) (tree t b)
+    grows_tree (element x attrs e k m) a b h = grows_kept x attrs e e k k a b m m (inl refl) (grows_same k) h
+    grows_tree (text_node us) a b h = grows_leaf (text_node us) a b refl h
+    grows_tree (cdata_node c) a b h = grows_leaf (cdata_node c) a b refl h
+    grows_tree (misc_node c) a b h = grows_leaf (misc_node c) a b refl h
+
+    grows_same : (f : Forest M) → Grows f f
+    grows_same no_trees = grows_none
+    grows_same (tree t f) = grows_tree t f f (grows_same f)
+
+  pub none_grown : (a b : Forest M) → Grows a b → b ≡ no_trees → a ≡ no_trees
+  none_grown a b grows_none e = refl
+  none_grown a b (grows_leaf t c d i h) e = absurd cc
+  none_grown a b (grows_kept x attrs y f k l c d m n i h j) e = absurd cc
+  none_grown a b (grows_new x all k l c d m i h j) e = absurd cc
 
   -- a tree as it is
   pub keeps_tree : (t : Tree M) (f f' : Forest M) → Keeps f f' → Keeps (tree t f) (tree t f')
@@ -92,6 +109,7 @@ module _ {M : Type 0} where
     writable = λ w. let c = cut t f w in uncut t f' c.first (starts_less t f f' k.front c.starts) (k.writable c.rest);
     front = front_alike t f f' k.front;
     elements = λ e. (e.0, k.elements e.1);
+    grows = grows_tree t f f' k.grows;
   }
 
   -- an element in place of one
@@ -112,13 +130,14 @@ module _ {M : Type 0} where
         no_close_mark = r.no_close_mark;
       }
 
-  pub keeps_element : (x attrs gap : List ℕ) (e : Ending) (kids new f f' : Forest M) (m n : M) → (IsLegalEnding e → IsOptionalSpace gap) → Keeps kids new → Keeps f f' →
+  pub keeps_element : (x attrs gap : List ℕ) (e : Ending) (kids new f f' : Forest M) (m n : M) → (IsLegalEnding e → IsOptionalSpace gap) → KeepsEnding e new (tagged gap) → Keeps kids new → Keeps f f' →
       Keeps (tree (element x attrs e kids m) f) (tree (element x attrs (tagged gap) new n) f')
-  keeps_element x attrs gap e kids new f f' m n end k h = record {
+  keeps_element x attrs gap e kids new f f' m n end same k h = record {
     writable = λ w. let c = cut (element x attrs e kids m) f w in
         uncut (element x attrs (tagged gap) new n) f' (element_kept x attrs gap e kids new m n end k.writable c.first) refl (h.writable c.rest);
     front = ([], refl);
     elements = λ i. (refl, h.elements i.1);
+    grows = grows_kept x attrs e (tagged gap) kids new f f' m n same k.grows h.grows;
   }
 
   front_beside : (a b : Forest M) → AreInFront (front_units a) (front_units (beside a b))
@@ -152,6 +171,7 @@ module _ {M : Type 0} where
         }) refl (h.writable p.1);
     front = (front_units (beside kids f), refl);
     elements = λ i. (refl, h.elements (element_parts kids f i).1);
+    grows = grows_new x (beside kids f) kids new f f' m refl k.grows h.grows;
   }
 
 pub no-attributes : IsAttributes IsKnownReference []

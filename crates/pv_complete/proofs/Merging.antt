@@ -17,7 +17,8 @@ use Rattle.pv_missing.specs.Completing.{LeavesOut, out_done, out_new}
 use Rattle.pv_missing.specs.Extending.{join}
 use Rattle.pv_missing.proofs.Growing.{allows-empty, empty_join}
 use Rattle.pv_complete.specs.Events.{Event, events_text, marks_from, new_end, new_start, news, old_bytes, old_start, opens}
-use Rattle.pv_complete.specs.Merging.{AreValidTrees, IsCompletedList, IsCompletedTree, Merges, beside, merge_along, merge_end, merge_finish, merge_kept, merge_left, merge_start, view_beside}
+use Rattle.pv_complete.specs.Growing.{beside}
+use Rattle.pv_complete.specs.Merging.{AreValidTrees, IsCompletedList, IsCompletedTree, Merges, merge_along, merge_end, merge_finish, merge_kept, merge_left, merge_start, view_beside}
 use Rattle.pv_complete.specs.Pieces.{PlainPiece, Writes, finish, kept, start, write_kept, write_new, write_none, write_text}
 use Rattle.pv_complete.specs.Writable.{HasNames, Keeps}
 use Rattle.pv_complete.proofs.Keeping.{keeps_new, keeps_none, name_of_number, no-attributes}

@@ -6,8 +6,6 @@ use Rattle.pv_dtd.specs.Proper.{IsProperDtd}
 use Rattle.pv_rules.specs.Sites.{content_site}
 use Rattle.pv_tree.specs.Lists.{Listed, an_element, lists_at, lists_from}
 use Rattle.pv_tree.specs.Plain.{Ending, Forest, Tree, cdata_node, element, is_element, misc_node, no_trees, short, tagged, text_node}
-use Rattle.pv_chars.specs.Spaces.{IsOptionalSpace}
-use Rattle.pv_tree.specs.Legal.{IsLegalEnding}
 use Rattle.pv_tree.specs.Words.{word_of}
 use Rattle.pv_tree.specs.declared.nodes.Mark.{Mark}
 use Rattle.pv_tree.specs.declared.nodes.Verdict.{Verdict}
@@ -16,7 +14,8 @@ use Rattle.pv_missing.specs.Verdicts.{AreVerdicts, IsLiveContent}
 use Rattle.pv_complete.specs.Events.{Event, events_text, marks_from, news, old_bytes, old_start}
 use Rattle.pv_complete.specs.Pieces.{PlainPiece, Writes, WritesAt, WritesContent, write_kept, write_new, write_none, write_text}
 use Rattle.pv_complete.specs.Writable.{HasNames}
-use Rattle.pv_complete.specs.Written.{Appends, AreListPieces, Passes, PlainWriting, WritesList, WritesTree, gap_of}
+use Rattle.pv_complete.specs.Growing.{gap_of}
+use Rattle.pv_complete.specs.Written.{Appends, AreListPieces, Passes, PlainWriting, WritesList, WritesTree}
 use Rattle.pv_complete.proofs.Completed.{bare_completed, element_completed, leaf_completed, merged_completed}
 use Rattle.pv_complete.proofs.Merging.{events-join, marks-join, news-join, opens-join}
 
@@ -94,10 +93,6 @@ module _ (g : PlainDtd) (proper : IsProperDtd g) (names : HasNames g) (root path
   abbrev here : Listed Mark
   here = record { path = path; owner = an_element x; kids = kids }
 
-  gap_legal : (e : Ending) → IsLegalEnding e → IsOptionalSpace (gap_of e)
-  gap_legal short l = refl
-  gap_legal (tagged gap) l = l
-
   -- the pieces of its list, by the element's number
   content_writes : (old new : ℕ) (ps : List PlainPiece) (p : AreListPieces g root (record { path = path; owner = an_element x; kids = kids }) (lists_from path 0 kids ++ more) vs old new ps)
       (l : IsLiveContent g x kids) → WritesContent g l.number p.count (word_of g kids) ps
@@ -108,12 +103,12 @@ module _ (g : PlainDtd) (proper : IsProperDtd g) (names : HasNames g) (root path
   pub element_written : (old middle a b new : PlainWriting) (ps : List PlainPiece) →
       AreListPieces g root (record { path = path; owner = an_element x; kids = kids }) (lists_from path 0 kids ++ more) vs old.used middle.used ps →
       middle.body ≡ old.body → middle.marks ≡ old.marks → middle.begun ≡ old.begun → Appends middle a (old_start (codes "<" ++ x ++ attrs ++ codes ">") ∷ []) → a.used ≡ middle.used →
-      WritesList g root path ps kids more vs a b → Appends b new (old_bytes (codes "</" ++ x ++ gap_of ending ++ codes ">") ∷ []) → new.used ≡ b.used →
+      WritesList g root path ps kids more vs a b → (ending ≡ short → kids ≡ no_trees → ps ≡ [] → ⊥) → Appends b new (old_bytes (codes "</" ++ x ++ gap_of ending ++ codes ">") ∷ []) → new.used ≡ b.used →
       WritesTree g root path (element x attrs ending kids mark) more vs old new
-  element_written old middle a b new ps p same_body same_marks same_begun first used_first l last used_last =
+  element_written old middle a b new ps p same_body same_marks same_begun first used_first l bare last used_last =
       let live = p.live in
       let c = content_writes old.used middle.used ps p live in
-      let r = element_completed Mark mark g x attrs (gap_of ending) live.number p.count l.within ending kids mark ps l.events proper names (gap_legal ending) live.is_owner live.no_kids c l.merges in
+      let r = element_completed Mark mark g x attrs (gap_of ending) live.number p.count l.within ending kids mark ps l.events proper names refl bare live.is_owner live.no_kids c l.merges in
       let m = merged_completed Mark mark g p.count l.within c.whole ps kids l.events proper names c.writes l.merges in
       let start = old_start (codes "<" ++ x ++ attrs ++ codes ">") in
       let end = old_bytes (codes "</" ++ x ++ gap_of ending ++ codes ">") in

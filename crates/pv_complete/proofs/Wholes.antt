@@ -29,6 +29,7 @@ use Rattle.pv_missing.specs.Verdicts.{AreVerdicts, IsLiveRoot}
 use Rattle.pv_missing.specs.Weighing.{SumIsLeast}
 use Rattle.pv_span.specs.Laws.{PossibleWeigh, PossibleWeightsAddUp}
 use Rattle.pv_complete.specs.Completing.{IsLeastCompletion}
+use Rattle.pv_complete.specs.Growing.{Grows, IsGrownText}
 use Rattle.pv_complete.specs.Events.{Event, events_text, marks_from, new_end, new_start, news, old_bytes, old_start, opens}
 use Rattle.pv_complete.specs.Merging.{AreValidTrees, IsCompletedList, IsValidTree}
 use Rattle.pv_complete.specs.Needing.{Needs}
@@ -107,6 +108,7 @@ record IsCompletedRoot (g : PlainDtd) (root : List ℕ) (old : Tree Mark) (es : 
   pub writable : AreWritable (tree new no_trees)
   pub tags : LeavesOut 0 (opens es) (marks_from 0 es) (view old) (view new)
   pub count : news es ≡ s
+  pub grows : Grows (tree old no_trees) (tree new no_trees)
 
 -- a completed list of one element is that element
 root_of_list : (g : PlainDtd) (root : List ℕ) (y : ℕ) (old : Tree Mark) (before after : List ℕ) (mark : Mark) (new : Forest Mark) (es : List Event) (n k : ℕ) → number_of g root ≡ Some y → IsTrue (is_element old) →
@@ -119,6 +121,7 @@ root_of_list g root y old before after mark new es n k is rooted writable c = re
   writable = kept;
   tags = rw (append-nil, one) at (c.tags 0 (opens es) [] done done (out_done (0 + opens es) (opens es) (omega arith)));
   count = c.count;
+  grows = let q = keeps.grows in rw one at q;
 }
   where
     keeps : Keeps (tree old no_trees) new
@@ -200,6 +203,28 @@ whole_lists doc =
     let top : Listed Mark = record { path = []; owner = the_document; kids = tree doc.root no_trees } in
     ap (λ x. top ∷ x) (sym (append-nil (lists_at (0 ∷ []) doc.root)) ∙ sym (append-nil (lists_at (0 ∷ []) doc.root ++ [])))
 
+-- the root that a walk over a whole document has written
+walked_root : (g : PlainDtd) (root : List ℕ) (doc : PlainDoc Mark) (vs : List Verdict) (marks body : List ℕ) → IsProperDtd g → HasNames g → IsTrue (is_element doc.root) → AreWritable (tree doc.root no_trees) →
+    (w : WritesDoc g root doc vs marks body) → (n : ℕ) × (n ≡ w.list_pieces.count) × IsCompletedRoot g root doc.root w.events (n + w.within)
+walked_root g root doc vs marks body proper names rooted writable w = (p.count, refl, completed)
+  where
+    p : AreListPieces g root (record { path = []; owner = the_document; kids = tree doc.root no_trees }) (lists_from [] 0 (tree doc.root no_trees) ++ []) vs 0 w.used w.pieces
+    p = w.list_pieces
+
+    live : IsLiveRoot g root (tree doc.root no_trees)
+    live = p.live
+
+    at_root : p.site ≡ name_site live.number
+    at_root = let i = live.is_owner in let j = p.is_site in let k = rw i at j in cc
+
+    writes : Writes g p.count (named live.number ∷ []) (word_of g (tree doc.root no_trees)) w.pieces
+    writes = let c = p.writes in subst (λ t. WritesAt g t p.count (word_of g (tree doc.root no_trees)) w.pieces) at_root c
+
+    completed : IsCompletedRoot g root doc.root w.events (p.count + w.within)
+    completed =
+        let r = merged_completed Mark doc.mark g p.count w.within (named live.number ∷ []) w.pieces (tree doc.root no_trees) w.events proper names writes w.merges in
+        root_of_list g root live.number doc.root doc.before doc.after doc.mark r.0 w.events p.count w.within live.is_owner rooted writable r.1
+
 -- what a walk over a whole document has written
 pub least_completion : (g : PlainDtd) (root : List ℕ) (doc : PlainDoc Mark) (vs : List Verdict) (count : ℕ) (marks body : List ℕ) → IsProperDtd g → HasNames g → WritesEveryView → TagsExtend →
     PossibleWeightsAddUp Mark → IsProperDoc doc → AreWritable (tree doc.root no_trees) → IsProlog root doc.before → IsEpilog doc.after → Needs g root doc count → AreVerdicts g root (lists_of doc) vs →
@@ -226,16 +251,13 @@ least_completion g root doc vs count marks body proper names written tags_extend
         let K : ℕ → Type 0 = λ k. PossibleWeigh g root lists vs k in
         subst L (sym (whole_lists doc)) (subst K e all)
 
-    live : IsLiveRoot g root (tree doc.root no_trees)
-    live = p.live
-
-    at_root : p.site ≡ name_site live.number
-    at_root = let i = live.is_owner in let j = p.is_site in let k = rw i at j in cc
-
-    writes : Writes g p.count (named live.number ∷ []) (word_of g (tree doc.root no_trees)) w.pieces
-    writes = let c = p.writes in subst (λ t. WritesAt g t p.count (word_of g (tree doc.root no_trees)) w.pieces) at_root c
-
     completed : IsCompletedRoot g root doc.root w.events sum
-    completed =
-        let r = merged_completed Mark doc.mark g p.count w.within (named live.number ∷ []) w.pieces (tree doc.root no_trees) w.events proper names writes w.merges in
-        root_of_list g root live.number doc.root doc.before doc.after doc.mark r.0 w.events p.count w.within live.is_owner proper_doc.rooted writable r.1
+    completed = let r = walked_root g root doc vs marks body proper names proper_doc.rooted writable w in let e = r.1 in rw e at r.2
+
+-- its text is that of the document with new elements
+pub grown_text : (g : PlainDtd) (root : List ℕ) (doc : PlainDoc Mark) (vs : List Verdict) (marks body : List ℕ) → IsProperDtd g → HasNames g → IsProperDoc doc → AreWritable (tree doc.root no_trees) →
+    WritesDoc g root doc vs marks body → IsGrownText doc body
+grown_text g root doc vs marks body proper names proper_doc writable w =
+    let r = walked_root g root doc vs marks body proper names proper_doc.rooted writable w in
+    let c = r.2 in
+    record { root = c.new; grows = c.grows; text = let t = c.text in let b = w.is_body in b ∙ ap (λ x. doc.before ++ x ++ doc.after) (sym t) }

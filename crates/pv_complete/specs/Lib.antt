@@ -9,6 +9,7 @@ pub mod Moves
 pub mod Works
 pub mod Laws
 pub mod Events
+pub mod Growing
 pub mod Writable
 pub mod Merging
 pub mod MergingLaws

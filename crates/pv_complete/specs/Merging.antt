@@ -10,13 +10,9 @@ use Rattle.pv_tree.specs.Words.{node_before, word_of}
 use Rattle.pv_write.specs.Text.{forest_text, tree_text}
 use Rattle.pv_missing.specs.Completing.{LeavesOut}
 use Rattle.pv_complete.specs.Events.{Event, events_text, marks_from, new_end, new_start, news, opens}
+use Rattle.pv_complete.specs.Growing.{beside}
 use Rattle.pv_complete.specs.Pieces.{PlainPiece, finish, kept, start}
 use Rattle.pv_complete.specs.Writable.{Keeps}
-
--- the trees of one forest and then those of another
-abbrev pub beside : {M : Type 0} → Forest M → Forest M → Forest M
-beside no_trees b = b
-beside (tree t a) b = tree t (beside a b)
 
 -- the hedge that a forest shows, before another
 abbrev pub view_beside : {M : Type 0} → Forest M → Hedge → Hedge

@@ -6,6 +6,7 @@ use Rattle.pv_dtd.specs.Plain.{PlainDtd}
 use Rattle.pv_tree.specs.Legal.{AreLegal, are_formed, front_units, have_names, have_no_close_mark}
 use Rattle.pv_tree.specs.Plain.{Forest, is_element, no_trees, tree}
 use Rattle.pv_tree.specs.Units.{HaveUnits}
+use Rattle.pv_complete.specs.Growing.{Grows}
 
 -- Each element's name is a Name, an empty-element tag stands only where there are no kids, each text has a unit, all other bytes are legal,
 -- and no run of texts spells `]]>`.
@@ -25,11 +26,13 @@ abbrev pub AreElements : {M : Type 0} → Forest M → Type 0
 AreElements no_trees = Unit {0}
 AreElements (tree t rest) = IsTrue (is_element t) × AreElements rest
 
--- The second forest can be written where the first can, no more units stand at its front, and it is of elements where the first is.
+-- The second forest can be written where the first can, no more units stand at its front, it is of elements where the first is, and it is
+-- the first with new elements.
 pub record Keeps {M : Type 0} (kids new : Forest M) : Type 0 where
   pub writable : AreWritable kids → AreWritable new
   pub front : AreInFront (front_units new) (front_units kids)
   pub elements : AreElements kids → AreElements new
+  pub grows : Grows kids new
 
 -- each name of the DTD is a Name
 abbrev pub HasNames : PlainDtd → Type 0

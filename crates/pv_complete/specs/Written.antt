@@ -7,7 +7,7 @@ use Rattle.pv_model.specs.Plain.{PlainToken}
 use Rattle.pv_dtd.specs.Plain.{PlainDtd}
 use Rattle.pv_rules.specs.Sites.{PlainSite}
 use Rattle.pv_tree.specs.Lists.{Listed, lists_at, lists_from, the_document}
-use Rattle.pv_tree.specs.Plain.{Ending, Forest, PlainDoc, Tree, cdata_node, element, misc_node, no_trees, short, tagged, text_node, tree}
+use Rattle.pv_tree.specs.Plain.{Forest, PlainDoc, Tree, cdata_node, element, misc_node, no_trees, text_node, tree}
 use Rattle.pv_tree.specs.Words.{node_before, word_of}
 use Rattle.pv_tree.specs.declared.nodes.Mark.{Mark}
 use Rattle.pv_tree.specs.declared.nodes.Verdict.{Verdict}
@@ -76,11 +76,6 @@ is_token (misc_node bytes) = false
 abbrev pub HasToken : Bool → Tree Mark → Type 0
 HasToken true t = (g : PlainDtd) → (token : PlainToken) × ((u : List PlainToken) → node_before g t u ≡ token ∷ u)
 HasToken false t = (g : PlainDtd) (u : List PlainToken) → node_before g t u ≡ u
-
--- the bytes between the name of an end tag and its `>`; a new one has none
-abbrev pub gap_of : Ending → List ℕ
-gap_of short = []
-gap_of (tagged gap) = gap
 
 -- The pieces make the word of a list's nodes into one that its owner allows, by as many new elements as the list weighs where it is
 -- Possible, and none where it is Valid.

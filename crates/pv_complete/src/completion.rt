@@ -5,6 +5,7 @@ ghost use Rattle.pv_productive.specs.PlainForms.{dtd_of};
 ghost use Rattle.pv_tree.specs.PlainDocs.{plain_doc};
 ghost use Rattle.pv_tree.specs.Prolog.{IsProlog};
 ghost use Rattle.pv_complete.specs.Completing.{IsLeastCompletion};
+ghost use Rattle.pv_complete.specs.Growing.{IsGrownText};
 ghost use Rattle.pv_complete.specs.Needing.{HasCause};
 
 use crate::errors::NeedError;
@@ -46,6 +47,7 @@ pub fn complete(
 ) -> Result<Completion, NeedError>
     requires names { IsProlog root.now (plain_doc doc.now).before }
     ensures completed { IfOk result (λ c. IsLeastCompletion (dtd_of grammar.now) root.now (plain_doc doc.now) c.count c.marks c.body) }
+    ensures written { IfOk result (λ c. IsGrownText (plain_doc doc.now) c.body) }
     ensures refused { IfErr result (HasCause (dtd_of grammar.now) root.now (plain_doc doc.now)) }
 {
     every_view_is_written_law();

@@ -5,8 +5,8 @@
 //! answered, and when each refusal comes. `tables` gives all light weights of each Possible list (`specs/Tables.antt`). `list_pieces` puts a
 //! least completion of one list together, piece by piece (`specs/Pieces.antt`), by the weights of all sites over its word.
 //!
-//! `complete` writes the document with the pieces of each list (`src/walk.rt`). `specs/Completing.antt` says what it gives, and
-//! `specs/Written.antt` how the walk carries the proof.
+//! `complete` writes the document with the pieces of each list (`src/walk.rt`). `specs/Completing.antt` and
+//! `specs/Growing.antt` say what it gives, and `specs/Written.antt` how the walk carries the proof.
 #![tactic(auto)]
 
 mod by_verdict;

@@ -1,12 +1,13 @@
 //! The tags of new elements.
 
-ghost use Rattle.std.specs.Prelude.{◌≡◌, ◌≤◌, [], IfOk, IsTrue, List, drop, length};
+ghost use Rattle.std.specs.Prelude.{◌≡◌, ◌≤◌, ◌↔◌, [], IfOk, IsTrue, List, drop, length};
 ghost use Rattle.pv_model.specs.Plain.{PlainToken};
 ghost use Rattle.pv_productive.specs.PlainForms.{dtd_of};
 ghost use Rattle.pv_tree.specs.Plain.{no_trees, short};
 ghost use Rattle.pv_tree.specs.PlainForms.{forest, plain, plain_end};
+ghost use Rattle.pv_complete.specs.Growing.{gap_of};
 ghost use Rattle.pv_complete.specs.PieceForms.{plain_pieces};
-ghost use Rattle.pv_complete.specs.Written.{Suits, WritesTags, gap_of, is_token};
+ghost use Rattle.pv_complete.specs.Written.{Suits, WritesTags, is_token};
 ghost use Rattle.pv_complete.specs.WritingForms.{writing_of};
 
 use crate::pieces::Piece;
@@ -62,9 +63,12 @@ pub fn gap_of(end: &End) -> &[u8]
 
 /// Whether an element stays an empty-element tag: it is one, and there is nothing to stand in it.
 pub fn is_bare(end: &End, kids: &[Node], pieces: &[Piece]) -> bool
-    ensures { IsTrue result → ((plain_end end.now ≡ short) × (forest kids.now ≡ no_trees) × (plain_pieces pieces.now ≡ [])) }
+    ensures { IsTrue result ↔ ((plain_end end.now ≡ short) × (forest kids.now ≡ no_trees) × (plain_pieces pieces.now ≡ [])) }
 {
-    if !kids.is_empty() || !pieces.is_empty() {
+    if !kids.is_empty() {
+        return false;
+    }
+    if !pieces.is_empty() {
         return false;
     }
     match end {

@@ -43,8 +43,9 @@ fn completion_of(
     root: &str,
     text: &str,
 ) -> Result<Completion, Fail> {
-    let doc = read_doc(alloc, text.as_bytes(), root.as_bytes())?;
-    Ok(complete(alloc, grammar, root.as_bytes(), &doc)?)
+    let root = root.as_bytes();
+    let doc = read_doc(alloc, text.as_bytes(), root)?;
+    Ok(complete(alloc, grammar, root, &doc)?)
 }
 
 // The completion has this body and these marks.

@@ -111,7 +111,7 @@ write_node-returns-then-is_bare t c =
     let whole = element x c.in-Elem.attrs (plain_end c.in-Elem.end) kids c.in-Elem.mark in
     let is : plain c.args.node.now ≡ whole = ap plain c.in-Elem.is ∙ plain-Elem x c.in-Elem.attrs c.in-Elem.end c.in-Elem.kids c.in-Elem.mark in
     let owner : site_of d [] (an_element x) ≡ option_map plain_of c.element_owner-owner.result = element_site _ d [] _ x _ c.dtd.ensures c.as_slice.ensures c.element_owner-owner.ensures.owner in
-    let bare = c.if-is_bare.ensures refl in
+    let bare = c.if-is_bare.ensures.0 refl in
     let no_kids : kids ≡ no_trees = rw c.deref-in-Elem.ensures.value at bare.1 in
     let no_pieces : plain_pieces c.in_ok-pieces-in-Elem.pieces.items ≡ [] = rw c.as_slice-in-Elem.ensures.value at bare.2 in
     IfOk-weaker c.start_old.result _ _
@@ -147,5 +147,6 @@ write_node-returns-in_ok-write_list-in-Elem t c =
     (writing_of c.args.out.now) (writing_of c.take_pieces.new.out) (writing_of c.start_old-in-Elem.new.self) (writing_of c.write_list.new.out) (writing_of c.end_old.new.self) (plain_pieces c.in_ok-pieces-in-Elem.pieces.items) p
     (rw c.take_pieces.ensures.body refl) (rw c.take_pieces.ensures.marks refl) c.take_pieces.ensures.begun
     first c.start_old-in-Elem.ensures.used (all root path more (rw c.start_old-in-Elem.ensures.used p.passes.left))
+    (λ s k q. absurd (let r = c.if-is_bare.ensures.1 (s, rw c.deref-in-Elem.ensures.value k, rw c.as_slice-in-Elem.ensures.value q) in cc))
     (rw (c.as_slice-in-Elem-5.ensures, c.gap_of.ensures) at f) c.end_old.ensures.used))
     c.end_old.ensures.written
