@@ -41,7 +41,7 @@ fn kept_pieces(alloc: Global, count: usize) -> Result<Vec<Piece>, NoMemory>
     Ok(pieces)
 }
 
-// The pieces of a least completion of a word that can be weighed and isn't too heavy.
+// The pieces of a least completion of a word. Nothing is told of one that is too wide or too heavy: `complete` has refused it before.
 fn least_pieces(
     alloc: Global,
     grammar: &Grammar,
@@ -83,6 +83,7 @@ pub fn take_pieces(
     ensures begun { out.new.begun ≡ out.old.begun }
 {
     let possible = out.takes_possible(verdicts);
+    // A list without an owner in the DTD is Impossible, and has been refused before.
     let Some(of) = owner else {
         return Err(NoMemory);
     };

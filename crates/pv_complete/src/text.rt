@@ -106,7 +106,7 @@ impl Writing {
         Ok(())
     }
 
-    // One more element begins.
+    // One more element begins. A document and its least completion have far fewer elements than the number can count.
     fn begin(&mut self) -> Result<(), NoMemory>
         ensures begun { OnOk result (self.new.begun ≡ self.old.begun + 1) }
         ensures body { self.new.body ≡ self.old.body }
