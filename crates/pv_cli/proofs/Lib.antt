@@ -7,6 +7,7 @@ pub mod DrillStages
 pub mod Drilling
 pub mod Fetching
 pub mod GoingOn
+pub mod Holding
 pub mod Limits
 pub mod Listings
 pub mod Marks
@@ -18,6 +19,7 @@ pub mod OneReplies
 pub mod OneResponse
 pub mod OneSession
 pub mod OneVerdict
+pub mod Piecewise
 pub mod Replies
 pub mod ReplyTexts
 pub mod Scripts

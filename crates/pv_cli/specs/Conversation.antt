@@ -40,8 +40,8 @@ IsLine line = HasNoFeed line × (length line ≤ MAX_LINE_BYTES)
 abbrev pub AllBelow : ℕ → List ℕ → Type 0
 AllBelow number silent = AllByRecursion (λ n. n < number) silent
 
--- The bytes so far are lines that were answered, each with its LF, and what is held of the next.
-pub record Conversed (old : Option (List ℕ)) (first : PlainSession) (script : List ℕ) (now : Option (List ℕ)) (current : PlainSession) (held : HeldLine) (number : ℕ) : Type 0 where
+-- The bytes so far are lines that were answered, each with its LF, and what is held of the next; the replies were written so.
+pub record Conversed (AreWritten : List ℕ → Type 0) (first : PlainSession) (script : List ℕ) (current : PlainSession) (held : HeldLine) (number : ℕ) : Type 0 where
   pub lines : List (List ℕ)
   pub is_cut : script ≡ with_feeds lines ++ held.bytes
   pub are_lines : AllByRecursion IsLine lines
@@ -52,13 +52,15 @@ pub record Conversed (old : Option (List ℕ)) (first : PlainSession) (script : 
   pub below : AllBelow number silent
   pub out : List ℕ
   pub replies : Replies silent 1 first (map without_returns lines) out (at_line number current)
-  pub written : Appends old now out
+  pub written : AreWritten out
 
--- the session ended so over these bytes, and its replies were written so
+-- The session ended so over these bytes, and its replies were written so. Before the end of the script it may end so at a fault of the
+-- output, too.
 pub record EndedWith (first : PlainSession) (script : List ℕ) (at_end : Bool) (ending : List ℕ → RunEnding) (AreWritten : List ℕ → Type 0) : Type 0 where
   pub silent : List ℕ
   pub out : List ℕ
   pub ends : EndsSession first script silent at_end (ending out)
+  pub fails : at_end ≡ false → EndsSession first script silent at_end (output_fault out)
   pub written : AreWritten out
 
 -- the limit that a byte passes behind the longest script: that on the line, if it is no LF and the line has no room
@@ -77,15 +79,19 @@ abbrev pub Fits : ℕ → ℕ → Next → Type 0
 Fits size left next.More = size ≤ left
 Fits size left other = Unit {0}
 
--- how a session ends behind a piece, but for the line of a limit
-abbrev pub GoesOn : Option (List ℕ) → PlainSession → List ℕ → Option (List ℕ) → PlainSession → Reading → Result Next Failed → Type 0
-GoesOn old first script now current reading (Ok next.More) = Conversed old first script now current reading.lines reading.number
-GoesOn old first script now current reading (Ok next.Quit) = EndedWith first script false all_told (Appends old now)
-GoesOn old first script now current reading (Ok next.LineLimit) =
-    EndedWith first script false (λ out. limited out (codes "limit line " ++ decimal reading.number)) (Appends old now)
-GoesOn old first script now current reading (Ok next.ScriptLimit) =
-    EndedWith first script false (λ out. limited out (codes "limit script")) (Appends old now)
-GoesOn old first script now current reading (Err failed) = EndedWith first script false output_fault (AppendsFront old now)
+-- how a session goes on behind a piece, or ends, but for the line of a limit; its replies were written so
+abbrev pub ComesNext : (List ℕ → Type 0) → PlainSession → List ℕ → PlainSession → Reading → Next → Type 0
+ComesNext AreWritten first script current reading next.More = Conversed AreWritten first script current reading.lines reading.number
+ComesNext AreWritten first script current reading next.Quit = EndedWith first script false all_told AreWritten
+ComesNext AreWritten first script current reading next.LineLimit =
+    EndedWith first script false (λ out. limited out (codes "limit line " ++ decimal reading.number)) AreWritten
+ComesNext AreWritten first script current reading next.ScriptLimit =
+    EndedWith first script false (λ out. limited out (codes "limit script")) AreWritten
+
+-- the same, or the output failed, and the replies were written otherwise
+abbrev pub GoesOn : (List ℕ → Type 0) → (List ℕ → Type 0) → PlainSession → List ℕ → PlainSession → Reading → Result Next Failed → Type 0
+GoesOn AreWritten AreCutOff first script current reading (Ok after) = ComesNext AreWritten first script current reading after
+GoesOn AreWritten AreCutOff first script current reading (Err failed) = EndedWith first script false output_fault AreCutOff
 
 -- all lines were answered, at the end of the script
 abbrev pub Finishes : Option (List ℕ) → PlainSession → List ℕ → Option (List ℕ) → Result (Unit {0}) Failed → Type 0

@@ -9,6 +9,7 @@ pub mod Listing
 pub mod Documents
 pub mod Opening
 pub mod Program
+pub mod ReplyBuffer
 pub mod Response
 pub mod Script
 pub mod Session

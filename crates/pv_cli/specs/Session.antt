@@ -135,7 +135,7 @@ pub data EndsSession (session : PlainSession) (script silent : List ℕ) (at_end
   input_failed : (out : List ℕ) (number : ℕ) (after : PlainSession) → IsWithin script →
       Replies silent 1 session (lines_within script) out (at_line number after) → ending ≡ input_fault out →
       EndsSession session script silent at_end ending
-  -- the output failed, at the reply to the last of these lines
+  -- the output failed, behind the replies to these lines or at one of them
   output_failed : (lines more : List (List ℕ)) (out : List ℕ) (place : Place) → lines_within script ≡ lines ++ more →
       Replies silent 1 session lines out place → ending ≡ output_fault out → EndsSession session script silent at_end ending
 

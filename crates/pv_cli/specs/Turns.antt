@@ -7,10 +7,16 @@ use Rattle.pv_script.specs.declared.commands.Command.TheVariants as command
 use Rattle.pv_script.specs.declared.replies.Reply.{Reply}
 use Rattle.pv_session.specs.Sessions.{PlainSession}
 use Rattle.pv_cli.specs.declared.turns.Answer.{Answer}
+use Rattle.pv_cli.specs.declared.turns.ReplyText.{ReplyText}
+use Rattle.pv_cli.specs.declared.turns.ReplyText.TheVariants.{Made, Fixed}
 use Rattle.pv_cli.specs.Session.{RepliesBy, RepliesTo, done_of}
 
+abbrev pub text_of : ReplyText → List ℕ
+text_of (Made text) = text.items
+text_of (Fixed text) = text.now
+
 abbrev pub IsAnswer : Reply → Answer → Type 0
-IsAnswer told answer = (answer.text.items ≡ reply_bytes told) × (answer.done ≡ done_of told)
+IsAnswer told answer = (text_of answer.text ≡ reply_bytes told) × (answer.done ≡ done_of told)
 
 -- the reply to a line and the session behind it, or the end, which leaves the session
 abbrev pub IsTurn : PlainSession → List ℕ → PlainSession → Option Answer → Type 0

@@ -1,17 +1,19 @@
 //! The conversation of a session: each line is answered before more of the script is asked for.
 
-ghost use Rattle.std.specs.Prelude.{◌≡◌, ◌≤◌, ◌<◌, ◌+◌, ◌*◌, ◌^◌, ◌++◌, List, ℕ, Option, Bool, IfOk, OnOk, OnErr, length, vec_len, codes, decimal};
+ghost use Rattle.std.specs.Prelude.{◌≡◌, ◌≤◌, ◌<◌, ◌+◌, ◌*◌, ◌^◌, ◌++◌, List, [], ℕ, Option, Bool, IfOk, OnOk, OnErr, length, vec_len, codes, decimal};
 ghost use Rattle.std.specs.Io.KnownBytes.{Appends};
 ghost use Rattle.pv_cli.specs.Checking.{lines_taken};
 ghost use Rattle.pv_cli.specs.Conversation.{AnswersLine, RepliesWith, Conversed, GoesOn, Finishes, Fits, IsBeyond, IsNext};
 ghost use Rattle.pv_cli.specs.Course.{Course, responds};
 ghost use Rattle.pv_cli.specs.Program.{devices, Shows, Writes};
+ghost use Rattle.pv_cli.specs.ReplyBuffer.{Holds};
 ghost use Rattle.pv_cli.specs.Script.{MAX_SCRIPT_BYTES as MOST_BYTES};
 ghost use Rattle.pv_cli.specs.Session.{Converses, limited};
 ghost use Rattle.pv_io.specs.Causes.{CountsFault, AppendsFront};
 ghost use Rattle.pv_script.specs.Lines.{ended_lines, lines_of};
 ghost use Rattle.pv_session.specs.Sessions.{PlainSession};
 
+use crate::reply_buffer::ReplyBuffer;
 use crate::status::Status;
 use crate::turns::turn;
 use pv_chars::NoMemory;
@@ -48,25 +50,26 @@ pub enum Next {
     ScriptLimit,
 }
 
-// Answers a line, and tells whether the session goes on. A line that there is no memory for answers so, and changes nothing.
+// Answers a line, its reply held or written, and tells whether the session goes on. A line that there is no memory for answers so, and changes nothing.
 fn answer_line<K: Sink, L: Ledger>(
     alloc: Global,
     session: &mut Session,
     line: &[u8],
+    buffer: &mut ReplyBuffer,
     out: &mut K,
     steps: &mut Steps<L>,
 ) -> Result<bool, Failed>
     ensures ok { IfOk result (AnswersLine session.old line.now session.new
-        (Appends (K.written out.old) (K.written out.new))) }
+        (λ text. Holds (K.written out.old) (K.written out.new) buffer.new (buffer.old ++ text))) }
     ensures err { OnErr result (RepliesWith session.old line.now session.new
-        (AppendsFront (K.written out.old) (K.written out.new))) }
+        (λ text. AppendsFront (K.written out.old) (K.written out.new) (buffer.old ++ text))) }
     ensures cause { CountsFault (K.faults out.old) (K.faults out.new) result }
     ensures steps { steps.new ≤ steps.old + 2 }
 {
     match turn(alloc, session, line, steps) {
-        Ok(Some(answer)) => write_all(out, &answer.text)?,
+        Ok(Some(answer)) => buffer.push(out, answer.text.bytes())?,
         Ok(None) => return Ok(false),
-        Err(NoMemory) => write_all(out, b"no memory\n")?,
+        Err(NoMemory) => buffer.push(out, b"no memory\n")?,
     }
     Ok(true)
 }
@@ -77,14 +80,18 @@ fn answer_lines<K: Sink, L: Ledger>(
     session: &mut Session,
     reading: &mut Reading,
     piece: &[u8],
+    buffer: &mut ReplyBuffer,
     out: &mut K,
     steps: &mut Steps<L>,
 ) -> Result<Next, Failed>
-    requires { reading.old.number + length piece.now < 2 ^ 64 }
+    requires few { reading.old.number + length piece.now < 2 ^ 64 }
+    requires none { buffer.old ≡ [] }
     ensures next { (old : Option (List ℕ)) → (script : List ℕ) → (first : PlainSession) →
         length script + length piece.now ≤ MOST_BYTES →
-        Conversed old first script (K.written out.old) session.old reading.old.lines reading.old.number →
-        GoesOn old first (script ++ piece.now) (K.written out.new) session.new reading.new result }
+        Conversed (Appends old (K.written out.old)) first script
+        session.old reading.old.lines reading.old.number →
+        GoesOn (Holds old (K.written out.new) buffer.new) (AppendsFront old (K.written out.new))
+        first (script ++ piece.now) session.new reading.new result }
     ensures cause { CountsFault (K.faults out.old) (K.faults out.new) result }
     ensures steps { steps.new ≤ steps.old + 2 * length (ended_lines piece.now) }
 {
@@ -94,7 +101,7 @@ fn answer_lines<K: Sink, L: Ledger>(
             Took::More => return Ok(Next::More),
             Took::TooLong => return Ok(Next::LineLimit),
             Took::Line(eaten) => {
-                if !answer_line(alloc, session, reading.lines.line(), out, steps)? {
+                if !answer_line(alloc, session, reading.lines.line(), buffer, out, steps)? {
                     return Ok(Next::Quit);
                 }
                 reading.lines.clear();
@@ -129,29 +136,62 @@ fn beyond(next: Next, lines: &Lines, byte: u8) -> Next
 }
 
 // Answers the lines that the piece ends, up to the limit on the script, which so many bytes pass.
+fn answer_within<K: Sink, L: Ledger>(
+    alloc: Global,
+    session: &mut Session,
+    reading: &mut Reading,
+    piece: &[u8],
+    left: usize,
+    buffer: &mut ReplyBuffer,
+    out: &mut K,
+    steps: &mut Steps<L>,
+) -> Result<Next, Failed>
+    requires few { reading.old.number + length piece.now < 2 ^ 64 }
+    requires none { buffer.old ≡ [] }
+    ensures next { (old : Option (List ℕ)) → (script : List ℕ) → (first : PlainSession) →
+        length script + left ≡ MOST_BYTES →
+        Conversed (Appends old (K.written out.old)) first script
+        session.old reading.old.lines reading.old.number →
+        GoesOn (Holds old (K.written out.new) buffer.new) (AppendsFront old (K.written out.new))
+        first (script ++ piece.now) session.new reading.new result }
+    ensures fits { IfOk result (Fits (length piece.now) left) }
+    ensures cause { CountsFault (K.faults out.old) (K.faults out.new) result }
+    ensures steps { steps.new ≤ steps.old + 2 * length (ended_lines piece.now) }
+{
+    if piece.len() <= left {
+        return answer_lines(alloc, session, reading, piece, buffer, out, steps);
+    }
+    let next = answer_lines(alloc, session, reading, &piece[..left], buffer, out, steps)?;
+    Ok(beyond(next, &reading.lines, piece[left]))
+}
+
+// The same, and writes what is held.
 fn answer_piece<K: Sink, L: Ledger>(
     alloc: Global,
     session: &mut Session,
     reading: &mut Reading,
     piece: &[u8],
     left: usize,
+    buffer: &mut ReplyBuffer,
     out: &mut K,
     steps: &mut Steps<L>,
 ) -> Result<Next, Failed>
-    requires { reading.old.number + length piece.now < 2 ^ 64 }
+    requires few { reading.old.number + length piece.now < 2 ^ 64 }
+    requires none { buffer.old ≡ [] }
     ensures next { (old : Option (List ℕ)) → (script : List ℕ) → (first : PlainSession) →
         length script + left ≡ MOST_BYTES →
-        Conversed old first script (K.written out.old) session.old reading.old.lines reading.old.number →
-        GoesOn old first (script ++ piece.now) (K.written out.new) session.new reading.new result }
+        Conversed (Appends old (K.written out.old)) first script
+        session.old reading.old.lines reading.old.number →
+        GoesOn (Appends old (K.written out.new)) (AppendsFront old (K.written out.new))
+        first (script ++ piece.now) session.new reading.new result }
     ensures fits { IfOk result (Fits (length piece.now) left) }
+    ensures none { IfOk result (λ _. buffer.new ≡ []) }
     ensures cause { CountsFault (K.faults out.old) (K.faults out.new) result }
     ensures steps { steps.new ≤ steps.old + 2 * length (ended_lines piece.now) }
 {
-    if piece.len() <= left {
-        return answer_lines(alloc, session, reading, piece, out, steps);
-    }
-    let next = answer_lines(alloc, session, reading, &piece[..left], out, steps)?;
-    Ok(beyond(next, &reading.lines, piece[left]))
+    let next = answer_within(alloc, session, reading, piece, left, buffer, out, steps)?;
+    buffer.flush(out)?;
+    Ok(next)
 }
 
 // Answers a last line, which no LF ends.
@@ -159,18 +199,22 @@ fn finish<K: Sink, L: Ledger>(
     alloc: Global,
     session: &mut Session,
     reading: &Reading,
+    buffer: &mut ReplyBuffer,
     out: &mut K,
     steps: &mut Steps<L>,
 ) -> Result<(), Failed>
+    requires { buffer.old ≡ [] }
     ensures finished { (old : Option (List ℕ)) → (script : List ℕ) → (first : PlainSession) →
         length script ≤ MOST_BYTES →
-        Conversed old first script (K.written out.old) session.old reading.now.lines reading.now.number →
+        Conversed (Appends old (K.written out.old)) first script
+        session.old reading.now.lines reading.now.number →
         Finishes old first script (K.written out.new) result }
     ensures cause { CountsFault (K.faults out.old) (K.faults out.new) result }
     ensures steps { steps.new ≤ steps.old + 2 * length (lines_of reading.now.lines.bytes) }
 {
     if reading.lines.held() > 0 {
-        answer_line(alloc, session, reading.lines.line(), out, steps)?;
+        answer_line(alloc, session, reading.lines.line(), buffer, out, steps)?;
+        buffer.flush(out)?;
     }
     Ok(())
 }
@@ -227,6 +271,9 @@ pub fn converse<S: Source, K: Sink, L: Ledger>(
     let Ok(mut piece) = zeros(alloc, PIECE) else {
         return Status::NoMemory;
     };
+    let Ok(mut buffer) = ReplyBuffer::new(alloc) else {
+        return Status::NoMemory;
+    };
     let mut reading = Reading { lines, number: 1 };
     let mut left = MAX_SCRIPT_BYTES;
     'pieces: loop {
@@ -234,7 +281,7 @@ pub fn converse<S: Source, K: Sink, L: Ledger>(
             return Status::ReadFault;
         };
         if count == 0 {
-            return match finish(alloc, session, &reading, out, steps) {
+            return match finish(alloc, session, &reading, &mut buffer, out, steps) {
                 Ok(()) => Status::Done,
                 Err(_) => Status::WriteFault,
             };
@@ -245,6 +292,7 @@ pub fn converse<S: Source, K: Sink, L: Ledger>(
             &mut reading,
             &piece[..count],
             left,
+            &mut buffer,
             out,
             steps,
         ) {

@@ -1,7 +1,7 @@
 //! The reply to a line of a session's script.
 
 ghost use Rattle.std.specs.Prelude.{◌≡◌, ◌≤◌, ◌+◌, IfOk, OnErr, None, vec_len};
-ghost use Rattle.pv_cli.specs.Turns.{IsAnswer, IsReplyBy, IsTurn};
+ghost use Rattle.pv_cli.specs.Turns.{IsAnswer, IsReplyBy, IsTurn, text_of};
 ghost use Rattle.pv_cli.specs.Session.{done_of};
 
 use pv_chars::{Bytes, NoMemory};
@@ -13,10 +13,31 @@ use pv_write::doc_bytes;
 use std::alloc::{AllocError, Global};
 use std::sync::ledger::Ledger;
 
+/// The text of a reply.
+#[derive(Drop)]
+pub enum ReplyText {
+    /// Text that was made.
+    Made(Vec<u8>),
+    /// Text that is always the same.
+    Fixed(&'static [u8]),
+}
+
+impl ReplyText {
+    /// Its bytes.
+    pub fn bytes(&self) -> &[u8]
+        ensures { result.now ≡ text_of self.now }
+    {
+        match self {
+            ReplyText::Made(text) => text,
+            ReplyText::Fixed(text) => text,
+        }
+    }
+}
+
 /// A reply: its text, and what was done where it is `ok`.
 #[derive(Drop)]
 pub struct Answer {
-    pub text: Vec<u8>,
+    pub text: ReplyText,
     pub done: Option<Done>,
 }
 
@@ -38,7 +59,7 @@ fn okay(done: Done, mut room: Vec<u8>) -> Answer
     let count = okay_text(&done, &mut room);
     room.truncate(count);
     Answer {
-        text: room,
+        text: ReplyText::Made(room),
         done: Some(done),
     }
 }
@@ -49,9 +70,19 @@ fn other(alloc: Global, reply: &Reply) -> Result<Answer, NoMemory>
     ensures { IfOk result (IsAnswer reply.now) }
 {
     Ok(Answer {
-        text: reply_text(alloc, reply)?,
+        text: ReplyText::Made(reply_text(alloc, reply)?),
         done: None,
     })
+}
+
+// The reply to a line that is no command, which takes no memory.
+fn no_command() -> Answer
+    ensures { IsAnswer Reply.NoCommand result }
+{
+    Answer {
+        text: ReplyText::Fixed(b"no command\n"),
+        done: None,
+    }
 }
 
 // The reply to an edit. Nothing behind the edit takes memory where it was made.
@@ -158,7 +189,7 @@ pub fn turn<L: Ledger>(
         Ok(Command::Show) => Ok(Some(show(alloc, session)?)),
         Ok(Command::Verdicts) => Ok(Some(verdicts(alloc, session)?)),
         Ok(Command::Quit) => Ok(None),
-        Err(CommandError::Unknown) => Ok(Some(other(alloc, &Reply::NoCommand)?)),
+        Err(CommandError::Unknown) => Ok(Some(no_command())),
         Err(CommandError::NoMemory) => Err(NoMemory),
     }
 }

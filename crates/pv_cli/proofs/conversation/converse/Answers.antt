@@ -18,6 +18,9 @@ returns-in_default g c = no_room _ _ _ _ _ _ _
 pub returns-in_default-zeros : goal.returns-in_default-zeros
 returns-in_default-zeros g c = no_room _ _ _ _ _ _ _
 
+pub returns-in_default-new : goal.returns-in_default-new
+returns-in_default-new g c = no_room _ _ _ _ _ _ _
+
 pub pieces-init : goal.pieces-init
 pieces-init g c = record {
   script = [];
@@ -28,12 +31,13 @@ pieces-init g c = record {
   stays = refl;
   few = omega arith;
   roomy = c.in-Ok-zeros.ensures;
+  none = c.in-Ok-new.ensures;
 }
 
 pub returns-in_default-fill : goal.returns-in_default-fill
 returns-in_default-fill g c =
     let talk = c.pieces.invariant in
-    let so = fails _ _ _ _ _ _ _ talk.so_far (omega (arith, talk.within)) in
+    let so = fails _ _ _ _ _ _ talk.so_far (omega (arith, talk.within)) in
     has_course _ talk.script so.silent false (input_fault so.out) _ _ _ _ _ _ _ _ _ _ _ _ _ so.ends
     (consumes_kept _ _ _ _ talk.taken c.in_default-fill.ensures.bytes) (not_at_end _) (λ n. refl)
     (rw talk.input_stays at c.in_default-fill.ensures.cause) (wrote refl refl so.written talk.stays)
@@ -47,7 +51,7 @@ returns-then-count-eq0 g c =
     let room : 0 < length c.fill.new.buf = omega (arith, talk.roomy, c.deref_mut.ensures.len, c.fill.auto.buf) in
     let taken = rw (append_none _ _ none) at (consumes_more _ _ _ _ _ talk.taken bytes.0) in
     let within : length talk.script ≤ MAX_SCRIPT_BYTES = omega (arith, talk.within) in
-    let few = few_behind talk.script _ _ _ _ _ (read_of _ _ _ _ _ _ _ talk.so_far) talk.few c.finish.ensures.steps in
+    let few = few_behind talk.script _ _ _ _ _ (read_of _ _ _ _ _ _ talk.so_far) talk.few c.finish.ensures.steps in
     let counts = c.in-Ok-fill.ensures.cause ∙ talk.input_stays in
     elim c.match-finish.branch [
       | in-Ok-finish w ↦
@@ -83,6 +87,7 @@ pieces-preserved g c =
       stays = c.in-Ok-More.ensures.cause ∙ talk.stays;
       few = checked_piece talk.script _ _ _ _ talk.few (rw (c.deref.ensures.value, kept) at c.answer_piece.ensures.steps);
       roomy = talk.roomy;
+      none = c.in-Ok-More.ensures.none;
     }
 
 pub returns-in-Ok-Quit : goal.returns-in-Ok-Quit

@@ -34,10 +34,10 @@ returns-in_ok-show-in-Ok-Show-clause-turned g c =
     let spells = rw c.in-Ok-Show.field-0-is at c.in-Ok-Show.ensures.read in
     (by.0, known Show spells by.1, by.2)
 
-pub returns-in_ok-other-in-Err-Unknown-clause-turned : goal.returns-in_ok-other-in-Err-Unknown-clause-turned
-returns-in_ok-other-in-Err-Unknown-clause-turned g c =
+pub returns-in-Err-Unknown-clause-turned : goal.returns-in-Err-Unknown-clause-turned
+returns-in-Err-Unknown-clause-turned g c =
     let none = (rw c.in-Err-Unknown.field-0-is at c.in-Err-Unknown.ensures.unknown) refl in
-    (NoCommand, unknown none refl refl, c.in_ok-other-in-Err-Unknown.ensures)
+    (NoCommand, unknown none refl refl, c.no_command.ensures)
 
 pub returns-in_ok-verdicts-in-Ok-Verdicts-clause-turned : goal.returns-in_ok-verdicts-in-Ok-Verdicts-clause-turned
 returns-in_ok-verdicts-in-Ok-Verdicts-clause-turned g c =
