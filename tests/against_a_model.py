@@ -3,8 +3,9 @@
 Words: PROGRAM LINES SEED. Scripts are played until so many lines have been answered. The model keeps a tree, makes each edit on a copy of
 it, and undoes by making the edits before again on the document that was opened. It accepts an edit where elements can be inserted so that
 the document becomes valid: it tries all insertions of at most `MOST` elements (against_insertions.py), and where that finds none, it decides
-list by list, over all spans of a list. Both are tied together: where some insertions are found, no list may be impossible. Prints each
-difference, and how many lines passed; ends with 1 where one failed.
+list by list, over all spans of a list. Both are tied together: where some insertions are found, no list may be impossible. The least number
+of insertions is the reply to `need`, which isn't asked where they are more than `MOST`. Prints each difference, and how many lines passed;
+ends with 1 where one failed.
 """
 import copy
 import itertools
@@ -400,6 +401,10 @@ class Session:
         assert not (found and dead), f"insertions were found for {doc.written()}, but {dead} are impossible"
         return dead[0] if dead else None
 
+    def least(self):
+        """The least number of missing elements; more than `MOST` where the search finds none."""
+        return self.search.least((*items_of(self.document.root),), ("children", ("name", self.root)), MOST)
+
     def left(self):
         return sum(not is_valid_list(self.search, owner, kids, self.root) for _, owner, kids in self.document.lists())
 
@@ -470,6 +475,8 @@ class Session:
             return "".join(f"{each}\n" for each in [f"history {len(self.past)}", *(edit[2] for edit, _ in self.past)])
         if line == "verdicts":
             return "".join(f"{each}\n" for each in self.verdicts())
+        if line == "need":
+            return f"need {self.least()}\n"
         if line in ("undo", "redo"):
             return (self.undo() if line == "undo" else self.redo()) + "\n"
         edit = edit_of(line)
@@ -579,7 +586,9 @@ def script_line(doc):
         return "show"
     if chance < 0.33:
         return "verdicts"
-    if chance < 0.34:
+    if chance < 0.39:
+        return "need"
+    if chance < 0.40:
         return random.choice(["", "verdict", "need 1", "Show", "show\r\r", "history ", "undo 1", "wrap", "nothing", "quit "])
     line = edit_line(doc)
     return broken(line) if random.random() < 0.08 else line
@@ -590,6 +599,8 @@ def play(session, length):
     script, replies = [], []
     for _ in range(length):
         line = script_line(session.document)
+        if line == "need" and session.least() > MOST:
+            line = "show"
         script.append(line)
         reply = session.reply(line)
         if reply is None:

@@ -152,7 +152,7 @@ def judge(program, dtd, root, text):
     if status == 1:
         need(re.fullmatch(rb"impossible [0-9.]+\n", out), f"the output is {out!r}")
         return None
-    if out.startswith(b"no command\n"):
+    if re.match(rb"(need [0-9]+\n)?no command\n", out):
         raise Fault(UNKNOWN)
     told = re.match(rb"need ([0-9]+)\ncompleted ([0-9]+) ([0-9]+)\n", out)
     need(status == 0 and told, f"status {status}, the output is {out!r}")

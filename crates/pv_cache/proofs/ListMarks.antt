@@ -32,7 +32,7 @@ module _ {M N : Type 0} (f : M → N) where
         ∙ ap (λ ls. map (list_as f) (lists_at (path ++ i ∷ []) t) ++ ls) (from_as path (suc i) rest)
         ∙ sym (map-append (list_as f) (lists_at (path ++ i ∷ []) t) (lists_from path (suc i) rest))
 
-  all_as : (P : Listed M → Type 0) (Q : Listed N → Type 0) → ((list : Listed M) → P list → Q (list_as f list)) → (lists : List (Listed M)) →
+  pub all_as : (P : Listed M → Type 0) (Q : Listed N → Type 0) → ((list : Listed M) → P list → Q (list_as f list)) → (lists : List (Listed M)) →
       AllByRecursion P lists → AllByRecursion Q (map (list_as f) lists)
   all_as P Q to [] h = tt
   all_as P Q to (list ∷ lists) h = (to list h.0, all_as P Q to lists h.1)
@@ -42,7 +42,7 @@ module _ {M N : Type 0} (f : M → N) where
   all_back P Q from [] h = tt
   all_back P Q from (list ∷ lists) h = (from list h.0, all_back P Q from lists h.1)
 
-  first_as : (P : Listed M → Type 0) (Q : Listed N → Type 0) → ((list : Listed M) → P list → Q (list_as f list)) → ((list : Listed M) → Q (list_as f list) → P list) →
+  pub first_as : (P : Listed M → Type 0) (Q : Listed N → Type 0) → ((list : Listed M) → P list → Q (list_as f list)) → ((list : Listed M) → Q (list_as f list) → P list) →
       (lists : List (Listed M)) (path : List ℕ) → IsFirstNot P lists path → IsFirstNot Q (map (list_as f) lists) path
   first_as P Q to back lists path h = record {
     before = map (list_as f) h.before;

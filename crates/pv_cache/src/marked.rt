@@ -188,6 +188,13 @@ impl Marked {
         &self.doc
     }
 
+    /// The root's name.
+    pub fn root(&self) -> &[u8]
+        ensures { result.now ≡ self.now.root }
+    {
+        self.root.as_slice()
+    }
+
     /// The grammar that edits are judged by.
     pub fn grammar(&self) -> &Grammar
         ensures { dtd_of result.now ≡ self.now.dtd }

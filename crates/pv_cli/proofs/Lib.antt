@@ -11,9 +11,11 @@ pub mod Holding
 pub mod Limits
 pub mod Listings
 pub mod Marks
+pub mod MissingElements
 pub mod OneCheck
 pub mod OneDrill
 pub mod OneListing
+pub mod OneNeed
 pub mod OneOpening
 pub mod OneReplies
 pub mod OneResponse

@@ -68,7 +68,7 @@ one_path P Q to from doc same path other e f h =
     one_first Q (lists_of (unmarked_doc same)) path other first (first-without_marks P Q to from other same h)
 
 -- not all lists are so where there is a first that isn't
-none_first : {M : Type 0} (P : Listed M → Type 0) (lists : List (Listed M)) (path : List ℕ) → AllByRecursion P lists → IsFirstNot P lists path → ⊥
+pub none_first : {M : Type 0} (P : Listed M → Type 0) (lists : List (Listed M)) (path : List ℕ) → AllByRecursion P lists → IsFirstNot P lists path → ⊥
 none_first P lists path all f = f.is_not (all_right P f.before (f.list ∷ f.after) (subst (AllByRecursion P) f.is_split all)).0
 
 not_wide : {M : Type 0} (g : PlainDtd) (doc same : PlainDoc M) (path : List ℕ) → unmarked_doc doc ≡ unmarked_doc same → AllByRecursion (IsListForVerdict g) (lists_of doc) → IsFirstTooWide g (lists_of same) path → ⊥

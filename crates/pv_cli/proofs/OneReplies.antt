@@ -4,7 +4,7 @@ use Rattle.pv_script.specs.Commands.{SpellsCommand}
 use Rattle.pv_script.specs.Laws.{OneCommand}
 use Rattle.pv_script.specs.Replies.{reply_bytes}
 use Rattle.pv_script.specs.declared.commands.Command.{Command}
-use Rattle.pv_script.specs.declared.commands.Command.TheVariants.{Edit, Undo, Redo, History, Show, Verdicts, Quit}
+use Rattle.pv_script.specs.declared.commands.Command.TheVariants.{Edit, Undo, Redo, History, Show, Verdicts, Need, Quit}
 use Rattle.pv_script.specs.declared.replies.Reply.{Reply}
 use Rattle.pv_script.specs.declared.replies.Reply.TheVariants.{NoMemory}
 use Rattle.pv_script.specs.declared.replies.Reply.TheVariants.{Verdicts as tells}
@@ -14,6 +14,7 @@ use Rattle.pv_session.specs.Sessions.{PlainSession, stamped_document}
 use Rattle.pv_session.specs.Steps.{PlainAnswer, IsEditStep, IsUndoStep, IsRedoStep}
 use Rattle.pv_cli.specs.Session.{RepliesBy, RepliesByStep, RepliesTo, unknown, known, reply_to, Replies, no_lines, without_memory, answered, ended}
 use Rattle.pv_cli.specs.Laws.{HasOneReply, HasOneOutput}
+use Rattle.pv_cli.proofs.OneNeed.{one_told}
 
 -- a line spells one command, and each move of a session has one answer
 pub record AnswersOnce : Type 0 where
@@ -39,6 +40,7 @@ one_by once session History told also after later here there = (here.0 ∙ sym t
 one_by once session Show told also after later here there = (here.0 ∙ sym there.0, here.1 ∙ sym there.1)
 one_by once session Verdicts told also after later here there =
     (here.1 ∙ ap tells (one_rows (stamped_document session) here.0 there.0 here.2 there.2) ∙ sym there.1, here.3 ∙ sym there.3)
+one_by once session Need told also after later here there = (one_told session told also here.0 there.0, here.1 ∙ sym there.1)
 one_by once session Quit told also after later here there = absurd here
 
 pub one_reply : AnswersOnce → HasOneReply

@@ -6,6 +6,7 @@ pub mod Course
 pub mod Laws
 pub mod Drill
 pub mod Listing
+pub mod Missing
 pub mod Documents
 pub mod Opening
 pub mod Program

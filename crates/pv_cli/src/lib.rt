@@ -11,6 +11,7 @@ mod conversation;
 mod drill;
 pub mod laws;
 mod listing;
+mod missing;
 mod opening;
 mod possibility;
 mod program;

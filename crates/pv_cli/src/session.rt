@@ -12,6 +12,7 @@ ghost use Rattle.pv_cache.specs.Accepting.{MAX_EDITED_NODES};
 ghost use Rattle.pv_tree.specs.Lists.{lists_of};
 ghost use Rattle.pv_tree.specs.Plain.{nodes_in};
 ghost use Rattle.pv_tree.specs.PlainDocs.{plain_doc};
+ghost use Rattle.pv_tree.specs.Prolog.{IsProlog};
 
 use crate::command_line::Named;
 use crate::conversation::converse;
@@ -35,7 +36,8 @@ pub fn begin<L: Ledger>(
     root: &[u8],
     steps: &mut Steps<L>,
 ) -> Result<Session, Stop>
-    requires { nodes_in (plain_doc opened.doc).root ≤ MAX_EDITED_NODES }
+    requires few { nodes_in (plain_doc opened.doc).root ≤ MAX_EDITED_NODES }
+    requires prolog { IsProlog root.now (plain_doc opened.doc).before }
     ensures returns { Returns (λ s. s) (guarding_stage root.now (plain_dtd opened.dtd)
         (plain_doc opened.doc)) result }
     ensures steps { steps.new ≤ steps.old + length (lists_of (plain_doc opened.doc)) }

@@ -9,13 +9,15 @@ ghost use Rattle.pv_productive.specs.PlainForms.{dtd_of};
 ghost use Rattle.pv_tree.specs.Lists.{lists_of};
 ghost use Rattle.pv_tree.specs.Plain.{nodes_in};
 ghost use Rattle.pv_tree.specs.PlainDocs.{plain_doc};
+ghost use Rattle.pv_tree.specs.Prolog.{IsProlog};
 
 use pv_chars::bytes_of;
 use pv_edit::{Done, EditAnswer};
-use pv_fixture::documents::{document_of, dtd_of};
+use pv_fixture::documents::dtd_of;
 use pv_fresh::check_doc;
 use pv_missing::Verdicts;
 use pv_productive::{Grammar, build};
+use pv_read::read_doc;
 use pv_script::Command;
 use pv_session::{BackAnswer, Session};
 use pv_steps::Steps;
@@ -57,7 +59,7 @@ pub fn begin<L: Ledger>(
 ) -> Result<Session, Fail> {
     let (dtd, root, text) = texts;
     let grammar = build(alloc, dtd_of(alloc, dtd)?)?;
-    let doc = document_of(alloc, text, root)?;
+    let doc = read_doc(alloc, text.as_bytes(), root.as_bytes())?;
     if doc.nodes() > MAX_NODES {
         return Err(Fail::new("too many nodes"));
     }
@@ -72,7 +74,8 @@ fn begin_on<L: Ledger>(
     doc: Doc,
     steps: &mut Steps<L>,
 ) -> Result<Session, Fail>
-    requires { nodes_in (plain_doc doc).root ≤ MAX_EDITED_NODES }
+    requires few { nodes_in (plain_doc doc).root ≤ MAX_EDITED_NODES }
+    requires prolog { IsProlog root.now (plain_doc doc).before }
 {
     let verdicts = possible_verdicts(alloc, &grammar, root, &doc, steps)?;
     let root = bytes_of(alloc, root)?;

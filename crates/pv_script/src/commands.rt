@@ -26,6 +26,8 @@ pub enum Command {
     Show,
     /// `verdicts`: tell of each list its verdict, and the number of the move that changed it last.
     Verdicts,
+    /// `need`: tell how many elements are missing.
+    Need,
     /// `quit`: end the session.
     Quit,
 }
@@ -79,6 +81,8 @@ fn command_of(alloc: Global, line: &[u8]) -> Result<Command, CommandError>
         Ok(Command::Show)
     } else if is_word(line, b"verdicts") {
         Ok(Command::Verdicts)
+    } else if is_word(line, b"need") {
+        Ok(Command::Need)
     } else if is_word(line, b"quit") {
         Ok(Command::Quit)
     } else {

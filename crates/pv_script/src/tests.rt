@@ -32,6 +32,7 @@ fn commands(rt: HostRuntime) -> Result<(), Fail> {
     assert!(rt; matches!(read_command(alloc, b"history"), Ok(Command::History)));
     assert!(rt; matches!(read_command(alloc, b"show"), Ok(Command::Show)));
     assert!(rt; matches!(read_command(alloc, b"verdicts"), Ok(Command::Verdicts)));
+    assert!(rt; matches!(read_command(alloc, b"need"), Ok(Command::Need)));
     assert!(rt; matches!(read_command(alloc, b"quit"), Ok(Command::Quit)));
     Ok(())
 }
@@ -75,7 +76,9 @@ fn no_commands(rt: HostRuntime) -> Result<(), Fail> {
         "show ",
         " show",
         "Show",
-        "need",
+        "need ",
+        "need 1",
+        "needs",
         "undo 1",
         "wrap",
         "wrap ",

@@ -27,10 +27,11 @@ use Rattle.pv_session.proofs.LastItems.{HasLast, has_some}
 use Rattle.pv_session.proofs.Opened.{led_opened}
 use Rattle.pv_session.proofs.Stamped.{begun_doc, begun_unmarked, stamped_same}
 use Rattle.pv_session.proofs.Steps.{not_empty}
-use Rattle.pv_session.proofs.Ways.{IsLast, IsNext, both_empty, empty_both, goes_back, last_edit, leads_more, leads_on_more, next_undone, replays}
+use Rattle.pv_session.proofs.Ways.{IsLast, IsNext, both_empty, empty_both, goes_back, last_edit, leads_more, leads_on_more, next_undone, replays, same_before}
 use Rattle.pv_tree.specs.Marks.{unmarked_doc}
 use Rattle.pv_dtd.specs.Plain.{PlainDtd}
 use Rattle.pv_tree.specs.Plain.{PlainDoc}
+use Rattle.pv_tree.specs.Prolog.{IsProlog}
 use Rattle.pv_tree.specs.declared.nodes.Mark.{Mark}
 
 -- a session of these parts
@@ -46,7 +47,9 @@ module _ (m : StampedDoc) (edits : List Edit) (ways : List Inverse) (gone : List
   now = unmarked_doc m.doc
 
   pub is_session : IsSession s
-  is_session = record { replays = replays s.dtd s.root s.opened now edits ways k.past; guarded = k.guarded }
+  is_session =
+      let steps = replays s.dtd s.root s.opened now edits ways k.past in
+      record { replays = steps; guarded = k.guarded; kept = k.kept; prolog = subst (IsProlog s.root) (same_before s.opened now edits steps) k.prolog }
 
   guarded_now : IsGuarded s.dtd s.root now
   guarded_now = guarded_to (λ _. tt) m.doc s.dtd s.root k.guarded
@@ -99,7 +102,8 @@ module _ (m : StampedDoc) (edits : List Edit) (ways : List Inverse) (gone : List
       is_left = e.is_left
 
       keeps_with : (last : PlainDoc Unit) → LeadsOn t.dtd t.root (unmarked_doc t.doc) undone' last → KeepsWays t ways'
-      keeps_with last on = record { guarded = guarded; kept = kept; past = leads_past; last = last; undone = on }
+      keeps_with last on =
+          record { guarded = guarded; kept = kept; prolog = rw (same_opened, same_root) k.prolog; past = leads_past; last = last; undone = on }
 
       -- whose parts are those of the session before it
       same_parts : (u : List Edit) → undone' ≡ u → t ≡ record s { past = edits ++ edit ∷ []; undone = u; moves = next_move moves; doc = behind_move s (changed_lists (makes edit)) e.edited }
@@ -182,7 +186,14 @@ module _ (m : StampedDoc) (edits : List Edit) (ways : List Inverse) (gone : List
         undo_keeps =
             let given : applied tt (unmarked_doc after.doc) edit ≡ gives now = subst (λ (d : PlainDoc Unit). applied tt d edit ≡ gives now) (sym is_before) last_made.made.is_edited in
             let on = leads_on_more s.dtd s.root (unmarked_doc after.doc) now k.last gone edit k.undone given guarded_now in
-            record { guarded = guarded; kept = kept; past = rw (back_opened, p, w, back_dtd, back_root) shorter; last = k.last; undone = rw (back_dtd, back_root, u) on }
+            record {
+              guarded = guarded;
+              kept = kept;
+              prolog = rw (back_opened, back_root) k.prolog;
+              past = rw (back_opened, p, w, back_dtd, back_root) shorter;
+              last = k.last;
+              undone = rw (back_dtd, back_root, u) on;
+            }
 
         pub undo_is_step : IsUndoStep s (is_done done.checked done.left) b
         undo_is_step =
@@ -221,10 +232,12 @@ refuse_step s edit answer.Limit (doc, a, n) = past_limit doc a n refl refl
 refuse_step s edit answer.NoMemory h = refl
 
 -- a session that begins
-pub begun_keeps : (m : StampedDoc) (edits gone : List Edit) (ways : List Inverse) → edits ≡ [] → ways ≡ [] → gone ≡ [] → IsGuarded m.dtd m.root m.doc → IsKept m.doc.root → KeepsWays (session_of m edits ways gone 0) ways
-begun_keeps m edits gone ways p w u guarded kept = record {
+pub begun_keeps : (m : StampedDoc) (edits gone : List Edit) (ways : List Inverse) → edits ≡ [] → ways ≡ [] → gone ≡ [] → IsGuarded m.dtd m.root m.doc → IsKept m.doc.root → IsProlog m.root m.doc.before →
+    KeepsWays (session_of m edits ways gone 0) ways
+begun_keeps m edits gone ways p w u guarded kept prolog = record {
   guarded = guarded;
   kept = kept;
+  prolog = rw w prolog;
   past = rw (p, w) refl;
   last = unmarked_doc m.doc;
   undone = rw u refl;

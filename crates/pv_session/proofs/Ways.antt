@@ -1,10 +1,13 @@
 -- Edits one after the other, and the ways back.
-use Rattle.std.proofs.Common.{List, [], refl, subst, sym, ◌++◌, ◌∙◌, ◌∷◌, ◌≡◌, ℕ}
+use Rattle.std.proofs.Common.{List, None, Option, Some, [], ap, refl, subst, sym, ◌++◌, ◌∙◌, ◌∷◌, ◌≡◌, ℕ}
 use Rattle.pv_dtd.specs.Plain.{PlainDtd}
 use Rattle.pv_edit.specs.Inverses.{LeadsBack}
-use Rattle.pv_edit.specs.Reasons.{applied, gives}
+use Rattle.pv_edit.specs.Changes.{doc_after}
+use Rattle.pv_edit.specs.Effects.{change_of}
+use Rattle.pv_edit.specs.Reasons.{applied, gives, outcome, reason_of}
 use Rattle.pv_edit.specs.declared.edits.Edit.{Edit}
 use Rattle.pv_edit.specs.declared.inverses.Inverse.{Inverse}
+use Rattle.pv_edit.specs.declared.reasons.Reason.{Reason}
 use Rattle.pv_cache.specs.Accepting.{IsGuarded}
 use Rattle.pv_session.specs.Keeping.{IsMade, LeadsOn, LeadsTo}
 use Rattle.pv_session.specs.Sessions.{Replays}
@@ -22,6 +25,16 @@ one_replay doc after other (edit ∷ edits) (next, e, a) (last, f, b) =
 pub replays_more : (doc last after : PlainDoc Unit) (edits : List Edit) (edit : Edit) → Replays doc edits last → applied tt last edit ≡ gives after → Replays doc (edits ++ edit ∷ []) after
 replays_more doc last after [] edit r a = (after, subst (λ (d : PlainDoc Unit). applied tt d edit ≡ gives after) r a, refl)
 replays_more doc last after (e ∷ edits) edit (next, f, r) a = (next, f, replays_more next last after edits edit r a)
+
+-- edits leave what stands before the root
+given_before : (o : Option Reason) (doc next : PlainDoc Unit) → outcome o doc ≡ gives next → doc.before ≡ next.before
+given_before None doc next e = let same : doc ≡ next = cc in ap (λ (d : PlainDoc Unit). d.before) same
+given_before (Some reason) doc next e = cc
+
+pub same_before : (doc after : PlainDoc Unit) (edits : List Edit) → Replays doc edits after → doc.before ≡ after.before
+same_before doc after [] r = ap (λ (d : PlainDoc Unit). d.before) (sym r)
+same_before doc after (edit ∷ edits) (next, e, r) =
+    given_before (reason_of tt doc.root edit) (doc_after (change_of tt doc.root edit) doc) next e ∙ same_before next after edits r
 
 module _ (g : PlainDtd) (root : List ℕ) where
   pub replays : (doc after : PlainDoc Unit) (edits : List Edit) (ways : List Inverse) → LeadsTo g root doc edits ways after → Replays doc edits after

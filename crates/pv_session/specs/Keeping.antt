@@ -9,11 +9,15 @@ use Rattle.pv_edit.specs.declared.inverses.Inverse.{Inverse}
 use Rattle.pv_session.specs.Sessions.{PlainSession, Replays}
 use Rattle.pv_tree.specs.Marks.{unmarked_doc}
 use Rattle.pv_tree.specs.Plain.{PlainDoc}
+use Rattle.pv_tree.specs.Prolog.{IsProlog}
 
--- The past edits lead from the opened document to the present one, and this is a document that a session can be on.
+-- The past edits lead from the opened document to the present one, and this is a document that a session can be on. A DOCTYPE before its
+-- root names the session's root.
 pub record IsSession (s : PlainSession) : Type 0 where
   pub replays : Replays s.opened s.past (unmarked_doc s.doc)
   pub guarded : IsGuarded s.dtd s.root s.doc
+  pub kept : IsKept s.doc.root
+  pub prolog : IsProlog s.root s.doc.before
 
 -- an edit makes one document of another, and this is its inverse
 pub record IsMade (before : PlainDoc Unit) (edit : Edit) (way_back : Inverse) (after : PlainDoc Unit) : Type 0 where
@@ -44,6 +48,7 @@ led_back (way_back ∷ ways_back) doc = reverted tt (led_back ways_back doc) way
 pub record KeepsWays (s : PlainSession) (ways_back : List Inverse) : Type 0 where
   pub guarded : IsGuarded s.dtd s.root s.doc
   pub kept : IsKept s.doc.root
+  pub prolog : IsProlog s.root s.opened.before
   pub past : LeadsTo s.dtd s.root s.opened s.past ways_back (unmarked_doc s.doc)
   pub last : PlainDoc Unit
   pub undone : LeadsOn s.dtd s.root (unmarked_doc s.doc) s.undone last

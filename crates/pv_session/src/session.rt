@@ -19,6 +19,7 @@ ghost use Rattle.pv_tree.specs.Marks.{unmarked_doc};
 ghost use Rattle.pv_tree.specs.Places.{list_at};
 ghost use Rattle.pv_tree.specs.Plain.{nodes_in};
 ghost use Rattle.pv_tree.specs.PlainDocs.{plain_doc};
+ghost use Rattle.pv_tree.specs.Prolog.{IsProlog};
 
 use crate::answers::BackAnswer;
 use pv_cache::Marked;
@@ -61,7 +62,8 @@ impl Model for Session {
 }
 
 impl Session {
-    /// The session on a document as it was opened. The verdicts are those of its lists; the document isn't copied.
+    /// The session on a document as it was opened, whose DOCTYPE, where it has one, names the root. The verdicts are those of its lists; the
+    /// document isn't copied.
     pub fn begin(
         alloc: Global,
         grammar: Grammar,
@@ -73,6 +75,7 @@ impl Session {
         requires possible { IsNone verdicts.first }
         requires narrow { AllByRecursion (IsListForVerdict (dtd_of grammar)) (lists_of (plain_doc doc)) }
         requires few { nodes_in (plain_doc doc).root ≤ MAX_EDITED_NODES }
+        requires prolog { IsProlog root (plain_doc doc).before }
         ensures { IfOk result (λ session. session ≡ begun (dtd_of grammar) root (unmarked_doc (plain_doc doc))) }
     {
         let marked = Marked::build(alloc, grammar, root, doc, verdicts)?;
@@ -183,6 +186,13 @@ impl Session {
         ensures marked { ∥ IsWellMarked self.now.dtd self.now.root (plain_doc result.now) ∥₁ }
     {
         self.marked.doc()
+    }
+
+    /// The root's name.
+    pub fn root(&self) -> &[u8]
+        ensures { result.now ≡ self.now.root }
+    {
+        self.marked.root()
     }
 
     /// The grammar that edits are judged by.

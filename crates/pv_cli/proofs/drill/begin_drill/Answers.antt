@@ -32,8 +32,11 @@ returns-in_err-doc-clause-returns g c =
     rw (p.1, p.2) (stopped_first (reading_stage n) (λ both. guarding_stage DRILL_ROOT both.0 both.1) stop
     (stopped_second (dtd_stage DRILL_DTD) (λ d. beside d (document_stage DRILL_ROOT (drill_text n))) (plain_dtd c.in_ok-dtd.dtd) stop read stops))
 
-pub begin-requires : goal.begin-requires
-begin-requires g c = omega (arith, few_nodes DRILL_ROOT _ _ c.in_ok-doc.ensures)
+pub begin-requires-clause-few : goal.begin-requires-clause-few
+begin-requires-clause-few g c = omega (arith, few_nodes DRILL_ROOT _ _ c.in_ok-doc.ensures)
+
+pub begin-requires-clause-prolog : goal.begin-requires-clause-prolog
+begin-requires-clause-prolog g c = c.in_ok-doc.ensures.spelled.is_prolog
 
 pub returns-clause-returns : goal.returns-clause-returns
 returns-clause-returns g c =

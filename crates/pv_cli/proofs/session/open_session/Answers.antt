@@ -7,10 +7,15 @@ use Rattle.pv_cli.specs.Session.{guarding_stage}
 use Rattle.pv_cli.proofs.Stages.{returned_second, stopped_first}
 use Rattle.pv_cli.proofs.session.open_session.Goals as goal
 
-pub begin-requires : goal.begin-requires
-begin-requires g c =
+pub begin-requires-clause-few : goal.begin-requires-clause-few
+begin-requires-clause-few g c =
     let document = c.in_ok-opened.ensures.files_read.3.2.1 in
     omega (arith, few_nodes c.args.named.now.root.now document.0 _ document.2)
+
+pub begin-requires-clause-prolog : goal.begin-requires-clause-prolog
+begin-requires-clause-prolog g c =
+    let document = c.in_ok-opened.ensures.files_read.3.2.1 in
+    document.2.spelled.is_prolog
 
 pub returns-in_err-opened-clause-files_read : goal.returns-in_err-opened-clause-files_read
 returns-in_err-opened-clause-files_read g c =

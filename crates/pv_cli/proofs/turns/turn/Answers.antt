@@ -1,5 +1,5 @@
 use Rattle.std.proofs.Common.{refl}
-use Rattle.pv_script.specs.declared.commands.Command.TheVariants.{Edit, Undo, Redo, History, Show, Verdicts}
+use Rattle.pv_script.specs.declared.commands.Command.TheVariants.{Edit, Undo, Redo, History, Show, Verdicts, Need}
 use Rattle.pv_script.specs.declared.replies.Reply.TheVariants.{NoCommand}
 use Rattle.pv_cli.specs.Session.{unknown, known}
 use Rattle.pv_cli.proofs.turns.turn.Goals as goal
@@ -44,3 +44,9 @@ returns-in_ok-verdicts-in-Ok-Verdicts-clause-turned g c =
     let by = c.in_ok-verdicts-in-Ok-Verdicts.ensures in
     let spells = rw c.in-Ok-Verdicts.field-0-is at c.in-Ok-Verdicts.ensures.read in
     (by.0, known Verdicts spells by.1, by.2)
+
+pub returns-in_ok-need-in-Ok-Need-clause-turned : goal.returns-in_ok-need-in-Ok-Need-clause-turned
+returns-in_ok-need-in-Ok-Need-clause-turned g c =
+    let by = c.in_ok-need-in-Ok-Need.ensures in
+    let spells = rw c.in-Ok-Need.field-0-is at c.in-Ok-Need.ensures.read in
+    (by.0, known Need spells by.1, by.2)

@@ -1,0 +1,82 @@
+-- What is missing in a document, whatever its marks are, and what a session can't be told of it.
+use Rattle.std.proofs.Common.{◌⊎◌, inl, inr, List, refl, subst, sym, ℕ}
+use Rattle.std.proofs.Math.Logic.{∥∥₁_elim}
+use Rattle.std.specs.List.{AllByRecursion}
+use Rattle.pv_cache.specs.Stamps.{doc_as}
+use Rattle.pv_cache.proofs.ListMarks.{all_as, all_narrow_to, first_as, first_to, list_as, lists_as}
+use Rattle.pv_cache.proofs.OtherMarks.{heads_as, view_as, word_as}
+use Rattle.pv_complete.specs.Needing.{CanNeed, CanWeigh, HasCause, Needs, StopsAtImpossible, StopsAtWide}
+use Rattle.pv_complete.specs.declared.errors.NeedError.{NeedError}
+use Rattle.pv_complete.specs.declared.errors.NeedError.TheVariants.{Impossible, NoMemory, TooHeavy, TooMany, TooWide}
+use Rattle.pv_dtd.specs.Plain.{PlainDtd}
+use Rattle.pv_dtd.specs.Proper.{IsProperDtd}
+use Rattle.pv_missing.proofs.DocLists.{live_locality}
+use Rattle.pv_missing.proofs.VerdictHeads.{verdict_by_heads}
+use Rattle.pv_missing.specs.Widths.{IsFirstTooWide, IsListForVerdict, IsListForWeights}
+use Rattle.pv_missing.specs.Verdicts.{IsLive}
+use Rattle.pv_session.specs.Keeping.{IsSession}
+use Rattle.pv_session.specs.Sessions.{PlainSession}
+use Rattle.pv_tree.specs.Lists.{Listed, lists_of}
+use Rattle.pv_tree.specs.Plain.{PlainDoc}
+use Rattle.pv_tree.specs.declared.nodes.Verdict.TheVariants as verdict
+use Rattle.pv_cli.proofs.OneCheck.{none_first}
+
+module _ {M N : Type 0} (f : M → N) (g : PlainDtd) (root : List ℕ) where
+  weigh_to : (list : Listed M) → CanWeigh g root list → CanWeigh g root (list_as f list)
+  weigh_to list can judged =
+      let fits : IsListForWeights g list = can ((verdict_by_heads N M g root (list_as f list) list verdict.Possible refl (heads_as f list.kids)).0 judged) in
+      rw (word_as f g list.kids) fits
+
+  weigh_from : (list : Listed M) → CanWeigh g root (list_as f list) → CanWeigh g root list
+  weigh_from list can judged =
+      let fits : IsListForWeights g (list_as f list) = can ((verdict_by_heads M N g root list (list_as f list) verdict.Possible refl (sym (heads_as f list.kids))).0 judged) in
+      rw (word_as f g list.kids) at fits
+
+  narrow_to : (list : Listed M) → IsListForVerdict g list → IsListForVerdict g (list_as f list)
+  narrow_to list fits = rw (word_as f g list.kids) fits
+
+  narrow_from : (list : Listed M) → IsListForVerdict g (list_as f list) → IsListForVerdict g list
+  narrow_from list fits = rw (word_as f g list.kids) at fits
+
+  module _ (doc : PlainDoc M) where
+    can_need_as : CanNeed g root doc → CanNeed g root (doc_as f doc)
+    can_need_as can = record {
+      narrow = all_narrow_to f doc g can.narrow;
+      possible = rw (view_as f doc.root) can.possible;
+      weighed = subst (AllByRecursion (CanWeigh g root)) (sym (lists_as f doc)) (all_as f (CanWeigh g root) (CanWeigh g root) weigh_to (lists_of doc) can.weighed);
+    }
+
+    pub needs_as : (n : ℕ) → Needs g root doc n → Needs g root (doc_as f doc) n
+    needs_as n needs = record { can = can_need_as needs.can; least = rw (view_as f doc.root) needs.least; light = needs.light }
+
+    impossible_as : (path : List ℕ) → StopsAtImpossible g root doc path → StopsAtImpossible g root (doc_as f doc) path
+    impossible_as path stops = record { narrow = all_narrow_to f doc g stops.narrow; first = first_to f doc g root path stops.first }
+
+    wide_as : (path : List ℕ) → StopsAtWide g root doc path → StopsAtWide g root (doc_as f doc) path
+    wide_as path stops = record {
+      narrow = all_narrow_to f doc g stops.narrow;
+      possible = rw (view_as f doc.root) stops.possible;
+      first = rw (lists_as f doc) (first_as f (CanWeigh g root) (CanWeigh g root) weigh_to weigh_from (lists_of doc) path stops.first);
+    }
+
+    too_wide_as : (path : List ℕ) → IsFirstTooWide g (lists_of doc) path → IsFirstTooWide g (lists_of (doc_as f doc)) path
+    too_wide_as path first = rw (lists_as f doc) (first_as f (IsListForVerdict g) (IsListForVerdict g) narrow_to narrow_from (lists_of doc) path first)
+
+    pub cause_as : (e : NeedError) → HasCause g root doc e → HasCause g root (doc_as f doc) e
+    cause_as (Impossible path) stops = impossible_as path stops
+    cause_as (TooWide path) (inl first) = inl (too_wide_as path first)
+    cause_as (TooWide path) (inr stops) = inr (wide_as path stops)
+    cause_as TooHeavy heavy = record { can = can_need_as heavy.can; heavy = rw (view_as f doc.root) heavy.heavy }
+    cause_as TooMany none = absurd none
+    cause_as NoMemory none = tt
+
+-- no list of a session is Impossible
+pub none_impossible : (s : PlainSession) (path : List ℕ) → IsProperDtd s.dtd → IsSession s → StopsAtImpossible s.dtd s.root s.doc path → ⊥
+none_impossible s path proper is stops =
+    let by_lists = live_locality ℕ s.dtd s.root s.doc proper (record { rooted = is.kept.rooted; units = is.kept.units }) in
+    ∥∥₁_elim is.guarded.possible (λ x. absurd x) (λ possible. none_first (IsLive s.dtd s.root) (lists_of s.doc) path (by_lists.0 possible) stops.first)
+
+-- nor is one too wide for a verdict
+pub wide_for_weights : (s : PlainSession) (path : List ℕ) → IsSession s → IsFirstTooWide s.dtd (lists_of s.doc) path ⊎ StopsAtWide s.dtd s.root s.doc path → StopsAtWide s.dtd s.root s.doc path
+wide_for_weights s path is (inl first) = absurd (none_first (IsListForVerdict s.dtd) (lists_of s.doc) path is.guarded.narrow first)
+wide_for_weights s path is (inr stops) = stops

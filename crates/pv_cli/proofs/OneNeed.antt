@@ -1,0 +1,42 @@
+-- A session has one reply to `need`.
+use Rattle.std.proofs.Common.{◌≡◌, ◌≤◌, List, ap, arith, sym, ℕ, ◌∙◌}
+use Rattle.pv_complete.specs.Needing.{CanNeed, CanWeigh, IsHeavy, Needs, StopsAtWide}
+use Rattle.pv_script.specs.declared.replies.Reply.{Reply}
+use Rattle.pv_script.specs.declared.replies.Reply.TheVariants as reply
+use Rattle.pv_session.specs.Sessions.{PlainSession}
+use Rattle.pv_tree.specs.Lists.{lists_of}
+use Rattle.pv_tree.proofs.Firsts.{one_first}
+use Rattle.pv_cli.specs.Missing.{TellsNeed, Withholds, is_heavy, is_needed, is_wide, is_withheld}
+use Rattle.pv_cli.proofs.OneCheck.{none_first}
+
+module _ (s : PlainSession) where
+  -- all lists can be weighed, or one is too wide
+  not_wide : (path : List ℕ) → CanNeed s.dtd s.root s.doc → StopsAtWide s.dtd s.root s.doc path → ⊥
+  not_wide path can stops = none_first (CanWeigh s.dtd s.root) (lists_of s.doc) path can.weighed stops.first
+
+  not_heavy : (k : ℕ) → Needs s.dtd s.root s.doc k → IsHeavy s.dtd s.root s.doc → ⊥
+  not_heavy k needs heavy = let many = heavy.heavy k needs.least.completes in let few = needs.light in omega arith
+
+  pub one_need : (k n : ℕ) → Needs s.dtd s.root s.doc k → Needs s.dtd s.root s.doc n → k ≡ n
+  one_need k n here there =
+      let low : k ≤ n = here.least.least n there.least.completes in
+      let high : n ≤ k = there.least.least k here.least.completes in
+      omega arith
+
+  pub one_withheld : (told also : Reply) → Withholds s told → Withholds s also → told ≡ also
+  one_withheld told also (is_wide path f is) (is_wide other h are) =
+      is ∙ ap reply.Wide (one_first (CanWeigh s.dtd s.root) (lists_of s.doc) path other f.first h.first) ∙ sym are
+  one_withheld told also (is_wide path f is) (is_heavy h are) = absurd (not_wide path h.can f)
+  one_withheld told also (is_heavy h is) (is_wide path f are) = absurd (not_wide path h.can f)
+  one_withheld told also (is_heavy h is) (is_heavy m are) = is ∙ sym are
+
+  -- the number isn't both told and not told
+  pub told_or_withheld : (k : ℕ) (also : Reply) → Needs s.dtd s.root s.doc k → Withholds s also → ⊥
+  told_or_withheld k also needs (is_wide path f are) = not_wide path needs.can f
+  told_or_withheld k also needs (is_heavy h are) = not_heavy k needs h
+
+  pub one_told : (told also : Reply) → TellsNeed s told → TellsNeed s also → told ≡ also
+  one_told told also (is_needed k needs is) (is_needed n others are) = is ∙ ap reply.Need (one_need k n needs others) ∙ sym are
+  one_told told also (is_needed k needs is) (is_withheld w) = absurd (told_or_withheld k also needs w)
+  one_told told also (is_withheld w) (is_needed k needs is) = absurd (told_or_withheld k told needs w)
+  one_told told also (is_withheld w) (is_withheld v) = one_withheld told also w v

@@ -1,0 +1,17 @@
+-- What `need` replies in a session.
+use Rattle.std.specs.Prelude.{◌≡◌, ℕ, List}
+use Rattle.pv_script.specs.declared.replies.Reply.{Reply}
+use Rattle.pv_script.specs.declared.replies.Reply.TheVariants as reply
+use Rattle.pv_session.specs.Sessions.{PlainSession}
+use Rattle.pv_complete.specs.Needing.{IsHeavy, Needs, StopsAtWide}
+
+-- How many elements are missing isn't told: the list at a path is the first Possible one that is too wide for weights; or there is none,
+-- and more than 1,000,000 elements are missing.
+pub data Withholds (s : PlainSession) (told : Reply) : Type 0 where
+  is_wide : (path : List ℕ) → StopsAtWide s.dtd s.root s.doc path → told ≡ reply.Wide path → Withholds s told
+  is_heavy : IsHeavy s.dtd s.root s.doc → told ≡ reply.Heavy → Withholds s told
+
+-- the least number of elements whose insertion makes the document valid, or why it isn't told
+pub data TellsNeed (s : PlainSession) (told : Reply) : Type 0 where
+  is_needed : (k : ℕ) → Needs s.dtd s.root s.doc k → told ≡ reply.Need k → TellsNeed s told
+  is_withheld : Withholds s told → TellsNeed s told
