@@ -38,8 +38,9 @@ IsDefined (Some (check dtd root doc)) files course = IsCheckCourse root files co
 IsDefined (Some (session dtd root doc)) files course = IsSessionCourse root files course
 IsDefined (Some (drill n)) files course = IsDrillCourse n course
 
--- How many lists a command line checks over its files and what was taken from the input: `check` those of its document, once at most, and
--- a session two more for each line at most; a drill does so with a document and lines of its own.
+-- How many lists a command line checks over its files and what was taken from the input, as the counter counts them: `check` those of its
+-- document, once at most, and a session two more for each line at most; a drill does so with a document and lines of its own. What only
+-- tells how many elements are missing counts nothing.
 abbrev pub ChecksLists : Option PlainCommandLine → Files → Option (List ℕ) → ℕ → ℕ → Type 0
 ChecksLists None files taken before after = after ≡ before
 ChecksLists (Some (listing dtd)) files taken before after = after ≡ before
