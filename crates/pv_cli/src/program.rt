@@ -32,7 +32,8 @@ fn usage(alloc: Global) -> Result<Response, Stop>
 
 /// All that the program does: the words are those after its name.
 ///
-/// The shelf's names are the words but number 0 and number 2, counted from 0. `steps` counts the verdicts that `check`, `session` and `drill` find; other commands leave it.
+/// The shelf's names are the words but number 0 and number 2, counted from 0. `steps` counts the verdicts that `check`, the opening of a
+/// session or a drill, and its edits, undos and redos find; what asks for missing elements counts nothing, and other commands leave it.
 pub fn pvtag<H: Shelf, S: Source, K: Sink, L: Ledger>(
     _rt: &(impl Threads + Sync),
     alloc: Global,
