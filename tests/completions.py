@@ -4,7 +4,7 @@ Words: PROGRAM ROUNDS SEED, and the most seconds, where not all rounds are wante
 `against_a_model.py`. `need` must tell the least number that the search of `against_insertions.py` finds with at most `MOST` insertions, or
 a larger one. What `complete` shows must be `valid`, also by xmllint where it is installed and the DTD is deterministic; it must keep all
 texts and tags in their order, and have as many elements more as `need` tells; and it must leave the document as it was. Prints each
-difference, and how many cases passed; ends with 1 where one failed. Where the program has no such commands it says `skipped`.
+difference, and how many cases passed; ends with 1 where one failed.
 """
 import glob
 import os
@@ -23,7 +23,6 @@ from against_insertions import MOST, NAMES, Search, declaration, model, write
 
 TAG = r"""<(?:[^<>"']|"[^"]*"|'[^']*')*>"""
 TOKEN = re.compile(rf"<!--.*?-->|<\?.*?\?>|<!\[CDATA\[.*?\]\]>|{TAG}|&[^;]*;|[^<&]", re.S)
-UNKNOWN = "the program doesn't know these commands"
 
 
 class Fault(Exception):
@@ -152,8 +151,6 @@ def judge(program, dtd, root, text):
     if status == 1:
         need(re.fullmatch(rb"impossible [0-9.]+\n", out), f"the output is {out!r}")
         return None
-    if re.match(rb"(need [0-9]+\n)?no command\n", out):
-        raise Fault(UNKNOWN)
     told = re.match(rb"need ([0-9]+)\ncompleted ([0-9]+) ([0-9]+)\n", out)
     need(status == 0 and told, f"status {status}, the output is {out!r}")
     count, inserted, length = map(int, told.groups())
@@ -180,9 +177,6 @@ def count_case(counts, told, case):
     try:
         kind = case()
     except Fault as fault:
-        if str(fault) == UNKNOWN:
-            print(f"skipped: completions ({fault})\ncompletions: 0 passed, 0 failed")
-            sys.exit(0)
         kind = "failed"
         print(f"{fault}\n{told}")
     counts[kind] = counts.get(kind, 0) + 1

@@ -3,7 +3,7 @@
 Words: PROGRAM MOST. A C compiler makes a library that is loaded before the C library and lets allocation number N give nothing; N goes up
 until a run asks for fewer, or up to MOST. Where a run ends with status 5, or with 10 for want of words, it must have written nothing. Else
 one line at most answers `no memory`, and the replies to the other lines must be those to the script without this line: each edit of the
-script, and `need`, stands between `show` and `history`, which tell whether anything changed. Prints each difference, and how many runs
+script, `need` and `complete` stand between `show` and `history`, which tell whether anything changed. Prints each difference, and how many runs
 passed; ends with 1 where one failed.
 """
 import os
@@ -38,7 +38,7 @@ DTD = """<!ELEMENT doc (head, sec+)>
 """
 DOCUMENT = '<?xml version="1.0"?>\n<doc lang="en">Hello, you&amp;me<em/></doc>\n'
 
-MOVES = ["wrap 0 0 1 br", "need", "split 0.0 5", "wrap 0 0 1 head", "undo", "redo", "undo", "wrap 0 0 1 head", "text 0.1 a&nbsp;", "text 0.1 you",
+MOVES = ["wrap 0 0 1 br", "need", "complete", "split 0.0 5", "wrap 0 0 1 head", "undo", "redo", "undo", "wrap 0 0 1 head", "text 0.1 a&nbsp;", "text 0.1 you",
          "addtext 0 2 !", "join 0.1", "deltext 0.0.0", "undo", "wrap 0 1 3 p", "wrap 0 1 2 sec", "rename 0.1 title", "rename 0.1 sec",
          "unwrap 0.1.0.1", "undo", "insert 0.1.0 1 br", "unwrap 0.9", "nothing", "undo", "undo",
          "wrap 0 0 1 br", "redo", "undo", "addtext 0 9 x", "redo"]
@@ -66,8 +66,8 @@ def replies_of(output, script):
             break
         line, rest = rest.split(b"\n", 1)
         words = line.split()
-        if words[0] == b"show":
-            size = int(words[1])
+        if words[0] in (b"show", b"completed"):
+            size = int(words[-1])
             line, rest = line + b"\n" + rest[:size], rest[size + 1:]
         if words[0] == b"history":
             more = rest.split(b"\n", int(words[1]))

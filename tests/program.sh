@@ -194,9 +194,19 @@ session "verdicts" "$(lines 'verdicts 2' '. valid 0' '0 possible 0' 'ok 1 1' 'ok
 session "need" "$(lines 'need 2' 'ok 2 1' 'need 1' 'ok 1 1' 'need 2' 'show 16' "$hello" 'history 0')" a.dtd doc "$hello" \
     need 'wrap 0 0 1 head' need undo need show history
 session "need on a list too wide for weights" "$(lines 'no wide 0' 'ok 2 0' 'need 0')" a.dtd doc "<doc>$(repeat 1057 '<sec/>')</doc>" need 'insert 0 0 head' need
+session "complete" "$(lines 'completed 2 40' '<doc><head>Hello</head><sec></sec></doc>' 'show 16' "$hello" 'history 0')" a.dtd doc "$hello" complete show history
+# completes DTD ROOT DOCUMENT: what `complete` shows of an example is valid
+completes() {
+    printf 'complete\n' | "$pvtag" session "$top/examples/$1" "$2" "$top/examples/$3" >completed.txt
+    read -r _ _ size <completed.txt
+    tail -n +2 completed.txt | head -c "$size" >completed.xml
+    expect "$3, completed" 0 "valid$lf" "$pvtag" valid "$top/examples/$1" "$2" completed.xml
+}
+for document in article draft outline report; do completes article.dtd doc "$document.xml"; done
+for document in letter letter-draft; do completes letter.dtd letter "$document.xml"; done
 for k in $(seq 0 19); do echo "<!ELEMENT t$k (t$((k + 1)),t$((k + 1)))>"; done >doubling.dtd
 echo '<!ELEMENT t20 EMPTY>' >>doubling.dtd
-session "need past a million" 'no heavy' doubling.dtd t0 '<t0/>' need
+session "need past a million" "$(lines 'no heavy' 'no heavy')" doubling.dtd t0 '<t0/>' need complete
 session "need below a million" 'need 524286' doubling.dtd t2 '<t2/>' need
 session "not yet valid" "$(lines 'no shape range' 'ok 2 1' 'ok 2 1' 'show 30' '<doc><head/>Hello<p></p></doc>')" a.dtd doc "$hello" \
     'wrap 0 2 5 p' 'wrap 0 1 1 p' 'insert 0 0 head' show
@@ -228,7 +238,7 @@ forms=('wrap' 'wrap  0 0 1 p' 'wrap 0  0 1 p' 'wrap 0 0  1 p' ' wrap 0 0 1 p' 'w
     'insert 00 p' 'unwrap' 'unwrap ' 'unwrap  0' 'unwrap 0 ' 'unwrap 0 0' 'unwrap0' 'rename' 'rename  0 p' 'rename0 p' 'split' 'split 0.0' 'split  0.0 2'
     'split 0.0  2' 'split 0.0 2 ' 'split 0.0 2 2' 'join' 'join ' 'join  0.0' 'join 0.0 ' 'join0.0' 'text' 'text ' 'text  0.0 x' 'addtext' 'addtext  0 0 x'
     'addtext 0  0 x' 'deltext' 'deltext ' 'deltext  0.0' 'deltext 0.0 ' 'undo ' ' undo' 'undo 1' 'redo ' 'redo 1' 'history ' 'history 1' 'show ' 'show 1'
-    'quit ' ' quit' 'quit 1' 'Quit' 'need ' ' need' 'need 1' 'complete' 'verdicts ' '')
+    'quit ' ' quit' 'quit 1' 'Quit' 'need ' ' need' 'need 1' 'complete ' 'complete 1' 'completed' 'verdicts ' '')
 session "lines that are no commands" "$(printf 'no command\n%.0s' "${forms[@]}")" a.dtd doc "$hello" "${forms[@]}"
 session "1,055 sections" 'ok 2 0' a.dtd doc "<doc><head/>$(repeat 1055 '<sec/>')</doc>" 'insert 0 1 sec'
 session "512 elements in one another" 'no shape deep' a.dtd em "$(repeat 512 '<em>')$(repeat 512 '</em>')" 'wrap . 0 1 em'

@@ -1,5 +1,6 @@
 pub mod CommandLines
 pub mod Completeness
+pub mod Completions
 pub mod Conversations
 pub mod Conversing
 pub mod Counting
@@ -8,6 +9,7 @@ pub mod Drilling
 pub mod Fetching
 pub mod GoingOn
 pub mod Holding
+pub mod Likeness
 pub mod Limits
 pub mod Listings
 pub mod Marks

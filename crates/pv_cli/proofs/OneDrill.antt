@@ -1,18 +1,19 @@
 -- A drill has one response.
-use Rattle.std.proofs.Common.{◌≡◌, ℕ, List, [], ◌∷◌, ap, ◌∙◌, sym, subst}
+use Rattle.std.proofs.Common.{◌≡◌, ℕ, List, Option, [], ◌∷◌, ap, ◌∙◌, sym, subst}
 use Rattle.pv_cache.proofs.OneRows.{one_open}
 use Rattle.pv_dtd.specs.Laws.{OneMeaning}
 use Rattle.pv_drill.specs.Drill.{DRILL_DTD, drill_lines, drill_text}
-use Rattle.pv_script.specs.declared.replies.Reply.{Reply}
+use Rattle.pv_edit.specs.declared.answers.Done.{Done}
 use Rattle.pv_session.specs.Sessions.{PlainSession, stamped_document}
 use Rattle.pv_cli.specs.declared.drill.Counts.{Counts}
-use Rattle.pv_cli.specs.declared.status.Status.TheVariants.{Done}
+use Rattle.pv_cli.specs.declared.status.Status.TheVariants.{Done as AllDone}
 use Rattle.pv_cli.specs.Documents.{document_stage}
 use Rattle.pv_cli.specs.Drill.{CountsReplies, DRILL_ROOT, TellsCounts, counts_text, counts_with, drill_stage, no_counts, reading_stage}
 use Rattle.pv_cli.specs.Opening.{dtd_stage}
 use Rattle.pv_cli.specs.Response.{PlainResponse, with_line}
 use Rattle.pv_cli.specs.Session.{done_of, guarding_stage}
 use Rattle.pv_cli.specs.Stage.{beside}
+use Rattle.pv_cli.proofs.Likeness.{done_alike}
 use Rattle.pv_cli.proofs.OneOpening.{IsEqual, IsSamePair, IsSameText, IsSure, ReadsOne, beside_sure, document_sure, dtd_sure, followed_sure}
 use Rattle.pv_cli.proofs.OneReplies.{AnswersOnce, one_reply}
 use Rattle.pv_cli.proofs.OneSession.{behind_sure, guarding_sure}
@@ -23,7 +24,7 @@ one_counting once session before [] after later counts also here there = (here.0
 one_counting once session before (line ∷ lines) after later counts also here there =
     let same = one_reply once session line here.0 there.0 here.1 there.1 here.2 there.2 in
     let moved = subst (λ (s : PlainSession). CountsReplies s (counts_with before (done_of there.0)) lines later also) (sym same.1) there.3 in
-    let counted = subst (λ (t : Reply). CountsReplies here.1 (counts_with before (done_of t)) lines later also) (sym same.0) moved in
+    let counted = subst (λ (d : Option Done). CountsReplies here.1 (counts_with before d) lines later also) (sym (done_alike here.0 there.0 same.0)) moved in
     one_counting once here.1 (counts_with before (done_of here.0)) lines after later counts also here.3 counted
 
 pub one_drill : AnswersOnce → (n : ℕ) (session same : PlainSession) (r also : PlainResponse) → session ≡ same → TellsCounts n session r → TellsCounts n same also → r ≡ also
@@ -31,7 +32,7 @@ one_drill once n session same r also is tells others =
     let moved = subst (λ (s : PlainSession). CountsReplies s no_counts (drill_lines n) others.after others.counts) (sym is) others.answers in
     let both = one_counting once session no_counts (drill_lines n) tells.after others.after tells.counts others.counts tells.answers moved in
     let left = one_open (stamped_document tells.after) (stamped_document others.after) tells.open_lists others.open_lists (ap stamped_document both.0) tells.left others.left in
-    tells.is_response ∙ ap (λ (c : Counts). with_line Done (counts_text n c tells.open_lists)) both.1 ∙ ap (λ k. with_line Done (counts_text n others.counts k)) left ∙ sym others.is_response
+    tells.is_response ∙ ap (λ (c : Counts). with_line AllDone (counts_text n c tells.open_lists)) both.1 ∙ ap (λ k. with_line AllDone (counts_text n others.counts k)) left ∙ sym others.is_response
 
 pub drill_sure : OneMeaning → ReadsOne → (n : ℕ) → IsSure (drill_stage n) IsEqual
 drill_sure one documents n =

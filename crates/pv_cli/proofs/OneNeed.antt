@@ -1,4 +1,4 @@
--- A session has one reply to `need`.
+-- A session has one reply to `need`, and one to `complete` but for the document.
 use Rattle.std.proofs.Common.{◌≡◌, ◌≤◌, List, ap, arith, sym, ℕ, ◌∙◌}
 use Rattle.pv_complete.specs.Needing.{CanNeed, CanWeigh, IsHeavy, Needs, StopsAtWide}
 use Rattle.pv_script.specs.declared.replies.Reply.{Reply}
@@ -6,7 +6,8 @@ use Rattle.pv_script.specs.declared.replies.Reply.TheVariants as reply
 use Rattle.pv_session.specs.Sessions.{PlainSession}
 use Rattle.pv_tree.specs.Lists.{lists_of}
 use Rattle.pv_tree.proofs.Firsts.{one_first}
-use Rattle.pv_cli.specs.Missing.{TellsNeed, Withholds, is_heavy, is_needed, is_wide, is_withheld}
+use Rattle.pv_cli.specs.Alike.{AreAlike, are_completions, are_one}
+use Rattle.pv_cli.specs.Missing.{TellsCompletion, TellsNeed, Withholds, is_completed, is_heavy, is_needed, is_not_completed, is_wide, is_withheld}
 use Rattle.pv_cli.proofs.OneCheck.{none_first}
 
 module _ (s : PlainSession) where
@@ -40,3 +41,10 @@ module _ (s : PlainSession) where
   one_told told also (is_needed k needs is) (is_withheld w) = absurd (told_or_withheld k also needs w)
   one_told told also (is_withheld w) (is_needed k needs is) = absurd (told_or_withheld k told needs w)
   one_told told also (is_withheld w) (is_withheld v) = one_withheld told also w v
+
+  pub one_completion : (told also : Reply) → TellsCompletion s told → TellsCompletion s also → AreAlike told also
+  one_completion told also (is_completed k marks body c is) (is_completed n others text d are) =
+      are_completions k body text is (are ∙ ap (λ (i : ℕ). reply.Completed i text) (sym (one_need k n c.needs d.needs)))
+  one_completion told also (is_completed k marks body c is) (is_not_completed w) = absurd (told_or_withheld k also c.needs w)
+  one_completion told also (is_not_completed w) (is_completed k marks body c is) = absurd (told_or_withheld k told c.needs w)
+  one_completion told also (is_not_completed w) (is_not_completed v) = are_one (one_withheld told also w v)

@@ -158,13 +158,19 @@ went_on stage Goes course r (refused s refuses is) ends =
 went_on stage Goes course r (stopped asks is) ends = let here = ap (λ (c : Course). c.ending) is in cc
 went_on stage Goes course r (short_of_memory is) ends = let here = ap (λ (c : Course). c.ending) is in cc
 
+-- responses of runs over a stage that is sure are in a relation, where those of the runs behind it are
+pub one_like : {X : Type 0} (stage : Stage X) (Same : X → X → Type 0) (Goes : X → Course → Type 0) (course other : Course) (r also : PlainResponse) (Like : Type 0) → (r ≡ also → Like) → IsSure stage Same →
+    ((x y : X) → Same x y → Goes x course → Goes y other → Like) →
+    ((x : X) × stage.Opens x × Goes x course) ⊎ stage.Refuses r → ((x : X) × stage.Opens x × Goes x other) ⊎ stage.Refuses also → Like
+one_like stage Same Goes course other r also Like one_is sure one (inl here) (inl there) = one here.0 there.0 (sure.same here.0 there.0 here.1 there.1) here.2 there.2
+one_like stage Same Goes course other r also Like one_is sure one (inl here) (inr refuses) = absurd (sure.not_both here.0 also here.1 refuses)
+one_like stage Same Goes course other r also Like one_is sure one (inr refuses) (inl there) = absurd (sure.not_both there.0 r there.1 refuses)
+one_like stage Same Goes course other r also Like one_is sure one (inr refuses) (inr others) = one_is (sure.one_refusal r also refuses others)
+
 pub one_of : {X : Type 0} (stage : Stage X) (Same : X → X → Type 0) (Goes : X → Course → Type 0) (course other : Course) (r also : PlainResponse) → IsSure stage Same →
     ((x y : X) → Same x y → Goes x course → Goes y other → r ≡ also) →
     ((x : X) × stage.Opens x × Goes x course) ⊎ stage.Refuses r → ((x : X) × stage.Opens x × Goes x other) ⊎ stage.Refuses also → r ≡ also
-one_of stage Same Goes course other r also sure one (inl here) (inl there) = one here.0 there.0 (sure.same here.0 there.0 here.1 there.1) here.2 there.2
-one_of stage Same Goes course other r also sure one (inl here) (inr refuses) = absurd (sure.not_both here.0 also here.1 refuses)
-one_of stage Same Goes course other r also sure one (inr refuses) (inl there) = absurd (sure.not_both there.0 r there.1 refuses)
-one_of stage Same Goes course other r also sure one (inr refuses) (inr others) = sure.one_refusal r also refuses others
+one_of stage Same Goes course other r also sure one here there = one_like stage Same Goes course other r also (r ≡ also) (λ e. e) sure one here there
 
 pub told : (P : PlainResponse → Type 0) (course : Course) (r : PlainResponse) → Responds P course → course.ending ≡ responds r → P r
 told P course r (responded s is ends) at =

@@ -1,4 +1,4 @@
--- Over given files, script and silent lines there is one response.
+-- Over given files, script and silent lines there is one response, but for the documents of completions.
 use Rattle.std.proofs.Common.{◌≡◌, ℕ, List, codes, Some, None, sym, ◌∙◌, subst}
 use Rattle.pv_dtd.specs.Plain.{PlainDtd}
 use Rattle.pv_dtd.specs.Facts.{MAX_DTD_BYTES}
@@ -7,6 +7,7 @@ use Rattle.pv_tree.specs.Laws.{IsValidByLists}
 use Rattle.pv_tree.specs.Plain.{PlainDoc}
 use Rattle.pv_tree.specs.declared.nodes.Mark.{Mark}
 use Rattle.pv_read.specs.DocumentLaws.{SpellsOneDocument}
+use Rattle.pv_cli.specs.Alike.{ResponsesAlike}
 use Rattle.pv_cli.specs.CommandLine.{listing, valid, check, session, drill}
 use Rattle.pv_cli.specs.Drill.{TellsCounts, drill_stage}
 use Rattle.pv_cli.specs.Laws.{HasOneResponse}
@@ -17,10 +18,11 @@ use Rattle.pv_cli.specs.Session.{Converses, session_stage}
 use Rattle.pv_cli.specs.Stage.{Responds}
 use Rattle.pv_cli.specs.Valid.{TellsValidity}
 use Rattle.pv_cli.specs.Check.{TellsPossibility}
+use Rattle.pv_cli.proofs.Likeness.{one_response_alike}
 use Rattle.pv_cli.proofs.OneCheck.{one_possibility}
 use Rattle.pv_cli.proofs.OneDrill.{drill_sure, one_drill}
 use Rattle.pv_cli.proofs.OneListing.{one_listing}
-use Rattle.pv_cli.proofs.OneOpening.{IsEqual, IsSamePair, IsSameText, ReadsOne, dtd_sure, fetch_sure, followed_sure, has_units, one_of, opening_sure, told, unmarked_same, went_on}
+use Rattle.pv_cli.proofs.OneOpening.{IsEqual, IsSamePair, IsSameText, ReadsOne, dtd_sure, fetch_sure, followed_sure, has_units, one_like, one_of, opening_sure, told, unmarked_same, went_on}
 use Rattle.pv_cli.proofs.OneReplies.{AnswersOnce}
 use Rattle.pv_cli.proofs.OneSession.{one_conversation, session_sure}
 use Rattle.pv_cli.proofs.OneVerdict.{one_verdict}
@@ -56,7 +58,7 @@ one_response dtds documents by_lists once (Some (check dtd root doc)) files cour
     (went_on (opening_stage root files) (λ both. Responds (TellsPossibility root both.0 both.1)) course r is at)
     (went_on (opening_stage root files) (λ both. Responds (TellsPossibility root both.0 both.1)) other also are on)
 one_response dtds documents by_lists once (Some (session dtd root doc)) files course other r also is are taken silent at on =
-    one_of (session_stage root files) IsEqual Converses course other r also (session_sure dtds documents root files)
+    one_like (session_stage root files) IsEqual Converses course other r also (ResponsesAlike r also) (one_response_alike r also) (session_sure dtds documents root files)
     (λ x y same goes others. one_conversation once x y course other r also same taken silent at on goes others)
     (went_on (session_stage root files) Converses course r is at)
     (went_on (session_stage root files) Converses other also are on)

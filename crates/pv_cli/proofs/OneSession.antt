@@ -1,5 +1,5 @@
--- Over given files a session begins in one state, and over a given script and silent lines it has one response.
-use Rattle.std.proofs.Common.{◌≡◌, inl, inr, ℕ, ◌<◌, Bool, List, length, sym, ap, ◌∙◌, subst, arith}
+-- Over given files a session begins in one state, and over a given script and silent lines it has one response, but for the documents of completions.
+use Rattle.std.proofs.Common.{◌≡◌, inl, inr, ℕ, ◌<◌, ◌++◌, Bool, List, codes, decimal, length, sym, ap, ◌∙◌, subst, arith}
 use Rattle.pv_dtd.specs.Laws.{OneMeaning}
 use Rattle.pv_dtd.specs.Plain.{PlainDtd}
 use Rattle.pv_tree.specs.Marks.{unmarked_doc}
@@ -7,16 +7,20 @@ use Rattle.pv_tree.specs.Plain.{PlainDoc}
 use Rattle.pv_tree.specs.declared.nodes.Mark.{Mark}
 use Rattle.pv_read.specs.DocumentLaws.{SpellsOneDocument}
 use Rattle.pv_script.specs.Lines.{lines_of}
+use Rattle.pv_script.specs.Words.{with_feed}
 use Rattle.pv_session.specs.Sessions.{PlainSession, begun}
+use Rattle.pv_cli.specs.declared.status.Status.TheVariants.{Done, Limit}
+use Rattle.pv_cli.specs.Alike.{OutputsAlike, ResponsesAlike}
 use Rattle.pv_cli.specs.Check.{TellsPossibility}
 use Rattle.pv_cli.specs.Course.{Course, RunEnding, responds}
 use Rattle.pv_cli.specs.Opening.{Files, opening_stage}
 use Rattle.pv_cli.specs.Response.{PlainResponse}
 use Rattle.pv_cli.specs.Script.{MAX_SCRIPT_BYTES, IsWithin, lines_within}
-use Rattle.pv_cli.specs.Session.{Converses, EndsSession, Place, Replies, at_line, at_quit, ended_over, finished, guarding_stage, input_failed, output_failed, past_line, past_script, quitted, session_stage, without_room}
+use Rattle.pv_cli.specs.Session.{Converses, EndsSession, Place, Replies, at_line, at_quit, ended_over, finished, guarding_stage, input_failed, limited, output_failed, past_line, past_script, quitted, session_stage, without_room}
 use Rattle.pv_cli.specs.Stage.{Stage, followed_by}
 use Rattle.pv_script.proofs.Pieces.{cut_of}
 use Rattle.pv_cli.proofs.GoingOn.{lines_and_last}
+use Rattle.pv_cli.proofs.Likeness.{alike_behind, endings_alike}
 use Rattle.pv_cli.proofs.OneCheck.{denied, one_possibility}
 use Rattle.pv_cli.proofs.OneOpening.{IsEqual, IsSamePair, IsSameText, IsSure, ReadsOne, opening_sure, unmarked_same}
 use Rattle.pv_cli.proofs.OneReplies.{AnswersOnce, one_replies}
@@ -84,45 +88,48 @@ within_or_past : (script : List ℕ) → IsWithin script → MAX_SCRIPT_BYTES < 
 within_or_past script within beyond = omega (arith, within.whole, beyond)
 
 one_output : AnswersOnce → (session : PlainSession) (lines : List (List ℕ)) (silent out also : List ℕ) (place spot : Place) →
-    Replies silent 1 session lines out place → Replies silent 1 session lines also spot → (out ≡ also) × (place ≡ spot)
+    Replies silent 1 session lines out place → Replies silent 1 session lines also spot → OutputsAlike out also × (place ≡ spot)
 one_output once session lines silent out also place spot here there = one_replies once silent 1 session lines out also place spot here there
 
 line_number : (number other : ℕ) (after later : PlainSession) → at_line number after ≡ at_line other later → number ≡ other
 line_number number other after later is = cc
 
 one_session : AnswersOnce → (session : PlainSession) (script silent : List ℕ) (a b : Bool) (ending other : RunEnding) (r also : PlainResponse) → ending ≡ responds r → other ≡ responds also →
-    EndsSession session script silent a ending → EndsSession session script silent b other → r ≡ also
+    EndsSession session script silent a ending → EndsSession session script silent b other → ResponsesAlike r also
 one_session once session script silent a b ending other r also at on (input_failed o n s w p is) there = cc
 one_session once session script silent a b ending other r also at on (output_failed l m o pl e p is) there = cc
 one_session once session script silent a b ending other r also at on here (input_failed o n s w p is) = cc
 one_session once session script silent a b ending other r also at on here (output_failed l m o pl e p is) = cc
 one_session once session script silent a b ending other r also at on (finished o p e w replies is) (finished q s f v others are) =
-    let same = (one_output once session (lines_of script) silent o q p s replies others).0 in cc
+    endings_alike Done o q ending other r also at on is are (one_output once session (lines_of script) silent o q p s replies others).0
 one_session once session script silent a b ending other r also at on (finished o p e w replies is) (quitted q others are) =
-    let same = (one_output once session (lines_of script) silent o q p at_quit replies (quit_on session script silent q w others)).0 in cc
+    endings_alike Done o q ending other r also at on is are (one_output once session (lines_of script) silent o q p at_quit replies (quit_on session script silent q w others)).0
 one_session once session script silent a b ending other r also at on (finished o p e w replies is) (past_line q n s long others are) = let none = w.lines in cc
 one_session once session script silent a b ending other r also at on (finished o p e w replies is) (past_script q n s none beyond others are) = absurd (within_or_past script w beyond)
 one_session once session script silent a b ending other r also at on (quitted o replies is) (finished q s f v others are) =
-    let same = (one_output once session (lines_of script) silent o q at_quit s (quit_on session script silent o v replies) others).0 in cc
+    endings_alike Done o q ending other r also at on is are (one_output once session (lines_of script) silent o q at_quit s (quit_on session script silent o v replies) others).0
 one_session once session script silent a b ending other r also at on (quitted o replies is) (quitted q others are) =
-    let same = (one_output once session (lines_within script) silent o q at_quit at_quit replies others).0 in cc
+    endings_alike Done o q ending other r also at on is are (one_output once session (lines_within script) silent o q at_quit at_quit replies others).0
 one_session once session script silent a b ending other r also at on (quitted o replies is) (past_line q n s long others are) = absurd (quit_or_line once session script silent o q n s replies others)
 one_session once session script silent a b ending other r also at on (quitted o replies is) (past_script q n s none beyond others are) = absurd (quit_or_line once session script silent o q n s replies others)
 one_session once session script silent a b ending other r also at on (past_line o n s long replies is) (finished q p f v others are) = let none = v.lines in cc
 one_session once session script silent a b ending other r also at on (past_line o n s long replies is) (quitted q others are) = absurd (quit_or_line once session script silent q o n s others replies)
 one_session once session script silent a b ending other r also at on (past_line o n s long replies is) (past_line q m t still others are) =
     let both = one_output once session (lines_within script) silent o q (at_line n s) (at_line m t) replies others in
-    let same = both.0 in
-    let number = line_number n m s t both.1 in cc
+    let number = line_number n m s t both.1 in
+    let line = with_feed (codes "limit line " ++ decimal n) in
+    endings_alike Limit (o ++ line) (q ++ line) ending other r also at on is (are ∙ ap (λ (i : ℕ). limited q (codes "limit line " ++ decimal i)) (sym number)) (alike_behind o q line both.0)
 one_session once session script silent a b ending other r also at on (past_line o n s long replies is) (past_script q m t none beyond others are) = cc
 one_session once session script silent a b ending other r also at on (past_script o n s none beyond replies is) (finished q p f v others are) = absurd (within_or_past script v beyond)
 one_session once session script silent a b ending other r also at on (past_script o n s none beyond replies is) (quitted q others are) = absurd (quit_or_line once session script silent q o n s others replies)
 one_session once session script silent a b ending other r also at on (past_script o n s none beyond replies is) (past_line q m t long others are) = cc
 one_session once session script silent a b ending other r also at on (past_script o n s none beyond replies is) (past_script q m t never more others are) =
-    let same = (one_output once session (lines_within script) silent o q (at_line n s) (at_line m t) replies others).0 in cc
+    let both = one_output once session (lines_within script) silent o q (at_line n s) (at_line m t) replies others in
+    let line = with_feed (codes "limit script") in
+    endings_alike Limit (o ++ line) (q ++ line) ending other r also at on is are (alike_behind o q line both.0)
 
 pub one_conversation : AnswersOnce → (session same : PlainSession) (course other : Course) (r also : PlainResponse) → session ≡ same → course.taken ≡ other.taken → course.silent ≡ other.silent →
-    course.ending ≡ responds r → other.ending ≡ responds also → Converses session course → Converses same other → r ≡ also
+    course.ending ≡ responds r → other.ending ≡ responds also → Converses session course → Converses same other → ResponsesAlike r also
 one_conversation once session same course other r also alike taken silent at on (without_room is) there =
     let none = ap (λ (c : Course). c.ending) is in cc
 one_conversation once session same course other r also alike taken silent at on here (without_room is) =

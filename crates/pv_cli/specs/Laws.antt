@@ -6,6 +6,7 @@ use Rattle.pv_script.specs.declared.replies.Reply.{Reply}
 use Rattle.pv_session.specs.Sessions.{PlainSession}
 use Rattle.pv_cli.specs.declared.status.Status.{Status}
 use Rattle.pv_cli.specs.declared.status.Status.TheVariants.{ReadFault, WriteFault, NoMemory}
+use Rattle.pv_cli.specs.Alike.{AreAlike, OutputsAlike, RespondsAlike}
 use Rattle.pv_cli.specs.CommandLine.{PlainCommandLine}
 use Rattle.pv_cli.specs.Course.{Course, RunEnding, responds, input_fault}
 use Rattle.pv_cli.specs.Opening.{Files}
@@ -24,23 +25,23 @@ abbrev pub EndsAtQuit : Type 0
 EndsAtQuit = (silent : List ℕ) (number : ℕ) (session : PlainSession) (lines more : List (List ℕ)) (out : List ℕ) →
     Replies silent number session lines out at_quit → Replies silent number session (lines ++ more) out at_quit
 
--- a line has one reply in a session, and one session behind it
+-- a line has one reply in a session, but for the document of a completion, and one session behind it
 abbrev pub HasOneReply : Type 0
 HasOneReply = (session : PlainSession) (line : List ℕ) (reply also : Reply) (after later : PlainSession) →
-    RepliesTo session line reply after → RepliesTo session line also later → (reply ≡ also) × (after ≡ later)
+    RepliesTo session line reply after → RepliesTo session line also later → AreAlike reply also × (after ≡ later)
 
--- lines have one output and lead to one place, counted from any number and begun in any session, where there was no memory for the same
--- of them
+-- lines have one output, but for the documents of completions, and lead to one place, counted from any number and begun in any session,
+-- where there was no memory for the same of them
 abbrev pub HasOneOutput : Type 0
 HasOneOutput = (silent : List ℕ) (number : ℕ) (session : PlainSession) (lines : List (List ℕ)) (out also : List ℕ) (place spot : Place) →
-    Replies silent number session lines out place → Replies silent number session lines also spot → (out ≡ also) × (place ≡ spot)
+    Replies silent number session lines out place → Replies silent number session lines also spot → OutputsAlike out also × (place ≡ spot)
 
 -- over given files, and where what was taken from the input and the lines that there was no memory for are given, a command has one
--- response
+-- response, but for the documents of completions in a session
 abbrev pub HasOneResponse : Type 0
 HasOneResponse = (line : Option PlainCommandLine) (files : Files) (course other : Course) (r also : PlainResponse) →
     IsDefined line files course → IsDefined line files other → course.taken ≡ other.taken → course.silent ≡ other.silent →
-    course.ending ≡ responds r → other.ending ≡ responds also → r ≡ also
+    course.ending ≡ responds r → other.ending ≡ responds also → RespondsAlike line r also
 
 -- a defined response was written
 pub record Answered {S : Type 0} {line : Option PlainCommandLine} {before after : Devices S} {status : Status} (run : Runs line before after status) : Type 0 where

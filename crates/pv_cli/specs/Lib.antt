@@ -1,3 +1,4 @@
+pub mod Alike
 pub mod Check
 pub mod Checking
 pub mod CommandLine

@@ -26,7 +26,7 @@ use Rattle.pv_session.specs.Steps.{PlainAnswer, is_done, lacks_shape, is_past_li
 use Rattle.pv_cli.specs.declared.status.Status.TheVariants.{Done, Limit}
 use Rattle.pv_cli.specs.Check.{DeniesPossibility}
 use Rattle.pv_cli.specs.Course.{Course, RunEnding, responds, input_fault, output_fault, no_memory as short_of_memory, without_input}
-use Rattle.pv_cli.specs.Missing.{TellsNeed}
+use Rattle.pv_cli.specs.Missing.{TellsCompletion, TellsNeed}
 use Rattle.pv_cli.specs.Opening.{Files, opening_stage}
 use Rattle.pv_cli.specs.Script.{MAX_SCRIPT_BYTES, IsWithin, has_long_line, lines_within}
 use Rattle.pv_cli.specs.Stage.{Stage, followed_by, Behind}
@@ -78,6 +78,7 @@ RepliesBy before command.Show told after = (told ≡ reply.Show (doc_text before
 RepliesBy before command.Verdicts told after =
     (rows : List VerdictRow) × (told ≡ reply.Verdicts rows) × AreRows (stamped_document before) rows × (after ≡ before)
 RepliesBy before command.Need told after = TellsNeed before told × (after ≡ before)
+RepliesBy before command.Complete told after = TellsCompletion before told × (after ≡ before)
 RepliesBy before command.Quit told after = ⊥
 
 -- what a line that doesn't end the session does: the reply to it, and the session behind it

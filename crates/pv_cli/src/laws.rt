@@ -9,7 +9,8 @@ use pv_script::laws::one_command_law;
 use pv_session::laws::one_answer_law;
 use pv_tree::laws::valid_lists_law;
 
-/// Over given files a command has one response, and `session` one for each script and each set of lines that there was no memory for.
+/// Over given files a command has one response, and `session` one for each script and each set of lines that there was no memory for, but for
+/// the documents of completions.
 pub fn one_response_law()
     ensures { HasOneResponse }
 {
@@ -32,7 +33,7 @@ pub fn faults_law<S: Source>()
     ensures { FaultsShow S }
 {}
 
-/// The replies to a script are determined, line by line, and are those to its pieces.
+/// The replies to a script are determined, line by line, but for the documents of completions, and are those to its pieces.
 pub fn replies_law()
     ensures reply { HasOneReply }
     ensures one { HasOneOutput }

@@ -4,7 +4,7 @@ ghost use Rattle.std.specs.Prelude.{◌≡◌, ◌≤◌, ◌+◌, IfOk, OnErr, 
 ghost use Rattle.pv_cli.specs.Turns.{IsAnswer, IsReplyBy, IsTurn, text_of};
 ghost use Rattle.pv_cli.specs.Session.{done_of};
 
-use crate::missing::need;
+use crate::missing::{complete, need};
 use pv_chars::{Bytes, NoMemory};
 use pv_edit::{Done, Edit, EditAnswer, Edits};
 use pv_script::{Command, CommandError, Reply, okay_text, read_command, reply_text};
@@ -190,6 +190,7 @@ pub fn turn<L: Ledger>(
         Ok(Command::Show) => Ok(Some(show(alloc, session)?)),
         Ok(Command::Verdicts) => Ok(Some(verdicts(alloc, session)?)),
         Ok(Command::Need) => Ok(Some(need(alloc, session)?)),
+        Ok(Command::Complete) => Ok(Some(complete(alloc, session)?)),
         Ok(Command::Quit) => Ok(None),
         Err(CommandError::Unknown) => Ok(Some(no_command())),
         Err(CommandError::NoMemory) => Err(NoMemory),

@@ -1,4 +1,4 @@
-//! Rows of `need` in a session: how many elements are missing, and why it isn't told.
+//! Rows of `need` and `complete` in a session: how many elements are missing, or why it isn't told, and documents with them.
 
 use pv_cli::Status;
 use pv_fixture::documents::nested;
@@ -74,6 +74,40 @@ static NEEDS: [Row<'static>; 12] = [
     ),
 ];
 
+const PAIR: &str = "<!ELEMENT a (b)> <!ELEMENT b EMPTY>";
+
+static COMPLETIONS: [Row<'static>; 5] = [
+    (
+        PAIR,
+        "a",
+        "<a/>",
+        "complete\nshow\n",
+        "completed 1 14\n<a><b></b></a>\nshow 4\n<a/>\n",
+    ),
+    (
+        PAIR,
+        "a",
+        "<a><b/></a>",
+        "complete\r\ncomplete 0",
+        "completed 0 11\n<a><b/></a>\nno command\n",
+    ),
+    (
+        PAIR,
+        "a",
+        "<!DOCTYPE a>\n<b/>\n",
+        "need\ncomplete\n",
+        "need 1\ncompleted 1 26\n<!DOCTYPE a>\n<a><b/></a>\n\n",
+    ),
+    (
+        ARTICLE,
+        "doc",
+        "<doc>Hello</doc>",
+        "complete\nwrap 0 0 1 head\nneed\nundo\nhistory\nverdicts\n",
+        "completed 2 40\n<doc><head>Hello</head><sec></sec></doc>\nok 2 1\nneed 1\nok 1 1\nhistory 0\nverdicts 2\n. valid 0\n0 possible 2\n",
+    ),
+    (DOUBLING, "t0", "<t0/>", "complete\n", "no heavy\n"),
+];
+
 const MARKING_UP: &str =
     "need\nwrap 0.3 0 3 p\nwrap 0.3 1 4 p\ninsert 0.3 0 title\naddtext 0.3.0 0 Opening\nrename 0.3.2 list\nundo\nwrap 0.3 1 2 head\nunwrap 0.3.1.1\nneed\nshow\n";
 
@@ -116,6 +150,14 @@ fn needs(rt: HostRuntime) -> Result<(), Fail> {
     check(&rt, &(ARTICLE, "doc", REALISTIC, MARKING_UP, MARKED_UP))
 }
 
+#[test]
+fn completions(rt: HostRuntime) -> Result<(), Fail> {
+    for row in &COMPLETIONS {
+        check(&rt, row)?;
+    }
+    Ok(())
+}
+
 // The first list that is too wide for weights is told where it isn't valid, and before that too many elements are missing.
 #[test]
 fn wide_lists(rt: HostRuntime) -> Result<(), Fail> {
@@ -128,7 +170,7 @@ fn wide_lists(rt: HostRuntime) -> Result<(), Fail> {
             ARTICLE,
             "doc",
             wide.as_str(),
-            "need\nneed\n",
+            "need\ncomplete\n",
             "no wide 0\nno wide 0\n",
         ),
     )?;

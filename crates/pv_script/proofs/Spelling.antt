@@ -72,6 +72,7 @@ command-read commands.History all = refl
 command-read commands.Show all = refl
 command-read commands.Verdicts all = refl
 command-read commands.Need all = refl
+command-read commands.Complete all = refl
 command-read commands.Quit all = refl
 
 -- a word, a blank and these arguments spell the edit
@@ -209,8 +210,9 @@ command-spelled line command =
     (on-line line (codes "show") command commands.Show _ (bytes_eq line (codes "show")) refl refl tt
     (on-line line (codes "verdicts") command commands.Verdicts _ (bytes_eq line (codes "verdicts")) refl refl tt
     (on-line line (codes "need") command commands.Need _ (bytes_eq line (codes "need")) refl refl tt
+    (on-line line (codes "complete") command commands.Complete _ (bytes_eq line (codes "complete")) refl refl tt
     (on-line line (codes "quit") command commands.Quit _ (bytes_eq line (codes "quit")) refl refl tt
-    (edit-in-line line command (edit_in line) refl)))))))
+    (edit-in-line line command (edit_in line) refl))))))))
 
 pub spelled-read : (line : List ℕ) (command : Command) → SpellsCommand line command → command_of line ≡ Some command
 spelled-read line command spelled = ap command_of spelled.text ∙ command-read command spelled.numbers

@@ -15,6 +15,7 @@ command_text command.History = codes "history"
 command_text command.Show = codes "show"
 command_text command.Verdicts = codes "verdicts"
 command_text command.Need = codes "need"
+command_text command.Complete = codes "complete"
 command_text command.Quit = codes "quit"
 
 -- the numbers in it
@@ -26,6 +27,7 @@ command_numbers command.History = []
 command_numbers command.Show = []
 command_numbers command.Verdicts = []
 command_numbers command.Need = []
+command_numbers command.Complete = []
 command_numbers command.Quit = []
 
 -- The line spells the command. No number in it is past the largest.

@@ -97,5 +97,6 @@ command_of line =
     else if bytes_eq line (codes "show") then Some command.Show
     else if bytes_eq line (codes "verdicts") then Some command.Verdicts
     else if bytes_eq line (codes "need") then Some command.Need
+    else if bytes_eq line (codes "complete") then Some command.Complete
     else if bytes_eq line (codes "quit") then Some command.Quit
     else option_map command.Edit (edit_in line)

@@ -28,6 +28,8 @@ pub enum Command {
     Verdicts,
     /// `need`: tell how many elements are missing.
     Need,
+    /// `complete`: tell the document with the elements that are missing.
+    Complete,
     /// `quit`: end the session.
     Quit,
 }
@@ -83,6 +85,8 @@ fn command_of(alloc: Global, line: &[u8]) -> Result<Command, CommandError>
         Ok(Command::Verdicts)
     } else if is_word(line, b"need") {
         Ok(Command::Need)
+    } else if is_word(line, b"complete") {
+        Ok(Command::Complete)
     } else if is_word(line, b"quit") {
         Ok(Command::Quit)
     } else {

@@ -33,6 +33,7 @@ fn commands(rt: HostRuntime) -> Result<(), Fail> {
     assert!(rt; matches!(read_command(alloc, b"show"), Ok(Command::Show)));
     assert!(rt; matches!(read_command(alloc, b"verdicts"), Ok(Command::Verdicts)));
     assert!(rt; matches!(read_command(alloc, b"need"), Ok(Command::Need)));
+    assert!(rt; matches!(read_command(alloc, b"complete"), Ok(Command::Complete)));
     assert!(rt; matches!(read_command(alloc, b"quit"), Ok(Command::Quit)));
     Ok(())
 }
@@ -79,6 +80,9 @@ fn no_commands(rt: HostRuntime) -> Result<(), Fail> {
         "need ",
         "need 1",
         "needs",
+        "complete ",
+        "complete 1",
+        "completed",
         "undo 1",
         "wrap",
         "wrap ",
