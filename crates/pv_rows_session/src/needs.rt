@@ -127,14 +127,17 @@ Cafés opened early. See <![CDATA[<menu>]]> below.
 
 ";
 
-// The script has these replies, in whatever pieces it comes.
+// The script has these replies, in whatever pieces it comes. The input is asked no more than once for each byte and once more: the call
+// behind would fail.
 fn check<R: AllocGlobal + Threads + Sync>(rt: &R, row: &Row<'_>) -> Result<(), Fail> {
     let words = ["session", "a.dtd", row.1, "d.xml"];
     let files = [("a.dtd", row.0), ("d.xml", row.2)];
+    let behind = [(row.3.len() as u64).saturating_add(1)];
     for size in [1usize, 65_536] {
         let given = Given {
             input: row.3.as_bytes(),
             piece: Piece { size },
+            failing_fills: &behind,
             ..Given::plain(&words, &files)
         };
         check_run(rt, row.2, &given, Status::Done, row.4.as_bytes())?;
