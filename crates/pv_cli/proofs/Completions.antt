@@ -1,16 +1,20 @@
 -- A completion of a document is one whatever its marks are; a session's, where it isn't told.
-use Rattle.std.proofs.Common.{◌≡◌, Bool, Err, IfOk, IsTrue, List, Ok, Result, ap, not, refl, sym, subst, ℕ}
+use Rattle.std.proofs.Common.{◌≡◌, ◌∙◌, Bool, Err, IfOk, IsTrue, List, Ok, Result, Unit, ap, false, inl, inr, not, refl, sym, subst, ℕ}
 use Rattle.pv_cache.specs.Stamps.{doc_as}
+use Rattle.pv_cache.proofs.Alike.{unmarked_as}
 use Rattle.pv_cache.proofs.OtherMarks.{view_as}
 use Rattle.pv_complete.specs.Completing.{IsLeastCompletion}
+use Rattle.pv_complete.specs.Growing.{Grows, IsGrownText, KeepsEnding, beside, grows_kept, grows_leaf, grows_new, grows_none}
 use Rattle.pv_dtd.specs.Plain.{PlainDtd}
 use Rattle.pv_missing.specs.Completing.{Completes}
 use Rattle.pv_read.specs.Grammar.{IsElement, IsWholeRun, SpellsContent, SpellsDocument, SpellsNode, begins_with_text}
-use Rattle.pv_tree.specs.Plain.{Forest, PlainDoc, Tree, cdata_node, element, map_marks, map_marks_all, misc_node, no_trees, short, tagged, text_node, tree}
+use Rattle.pv_tree.specs.Plain.{Ending, Forest, PlainDoc, Tree, cdata_node, element, is_element, map_marks, map_marks_all, misc_node, no_trees, short, tagged, text_node, tree}
 use Rattle.pv_script.specs.declared.replies.Reply.{Reply}
 use Rattle.pv_session.specs.Sessions.{PlainSession}
+use Rattle.pv_write.specs.Text.{doc_text}
 use Rattle.pv_cli.specs.Missing.{TellsCompletion, Withholds, is_not_completed}
 use Rattle.pv_cli.proofs.MissingElements.{needs_as}
+use Rattle.pv_cli.proofs.Texts.{doc_text-without_marks}
 
 module _ {M N : Type 0} (f : M → N) where
   begins_as : (kids : Forest M) → begins_with_text (map_marks_all f kids) ≡ begins_with_text kids
@@ -75,6 +79,43 @@ module _ {M N : Type 0} (f : M → N) where
     tree = map_marks f c.tree;
     spelled = spelled_as root body (record doc { root = c.tree }) c.spelled;
     completes = completes_as g root doc (record doc { root = c.tree }) marks count c.completes;
+  }
+
+  beside_as : (a b : Forest M) → map_marks_all f (beside a b) ≡ beside (map_marks_all f a) (map_marks_all f b)
+  beside_as no_trees b = refl
+  beside_as (tree t a) b = ap (λ rest. tree (map_marks f t) rest) (beside_as a b)
+
+  none_as : (kids : Forest M) → map_marks_all f kids ≡ no_trees → kids ≡ no_trees
+  none_as no_trees e = refl
+  none_as (tree t rest) e = absurd cc
+
+  ending_as : (e : Ending) (kids : Forest M) (h : Ending) → KeepsEnding e kids h → KeepsEnding e (map_marks_all f kids) h
+  ending_as e kids h (inl same) = inl same
+  ending_as e kids h (inr (is, some, gap)) = inr (is, (λ none. some (none_as kids none)), gap)
+
+  leaf_as : (t : Tree M) → is_element t ≡ false → is_element (map_marks f t) ≡ false
+  leaf_as (element x attrs ending kids mark) is = is
+  leaf_as (text_node units) is = is
+  leaf_as (cdata_node bytes) is = is
+  leaf_as (misc_node bytes) is = is
+
+  grows_as : (a b : Forest M) → Grows a b → Grows (map_marks_all f a) (map_marks_all f b)
+  grows_as a b grows_none = grows_none
+  grows_as a b (grows_leaf t c d is h) = grows_leaf (map_marks f t) (map_marks_all f c) (map_marks_all f d) (leaf_as t is) (grows_as c d h)
+  grows_as a b (grows_kept x attrs e w k l c d m n kept h j) =
+      grows_kept x attrs e w (map_marks_all f k) (map_marks_all f l) (map_marks_all f c) (map_marks_all f d) (f m) (f n) (ending_as e l w kept) (grows_as k l h) (grows_as c d j)
+  grows_as a b (grows_new x all k l c d m cut h j) =
+      grows_new x (map_marks_all f all) (map_marks_all f k) (map_marks_all f l) (map_marks_all f c) (map_marks_all f d) (f m)
+      (ap (map_marks_all f) cut ∙ beside_as k c) (grows_as k l h) (grows_as c d j)
+
+  text_as : (doc : PlainDoc M) → doc_text doc ≡ doc_text (doc_as f doc)
+  text_as doc = sym (doc_text-without_marks doc) ∙ ap (doc_text {M = Unit}) (sym (unmarked_as f doc)) ∙ doc_text-without_marks (doc_as f doc)
+
+  pub grown_as : (doc : PlainDoc M) (body : List ℕ) → IsGrownText doc body → IsGrownText (doc_as f doc) body
+  grown_as doc body g = record {
+    root = map_marks f g.root;
+    grows = grows_as (tree doc.root no_trees) (tree g.root no_trees) g.grows;
+    text = g.text ∙ text_as (record doc { root = g.root });
   }
 
 -- no completion is told where the number isn't

@@ -43,8 +43,8 @@ module _ (s : PlainSession) where
   one_told told also (is_withheld w) (is_withheld v) = one_withheld told also w v
 
   pub one_completion : (told also : Reply) → TellsCompletion s told → TellsCompletion s also → AreAlike told also
-  one_completion told also (is_completed k marks body c is) (is_completed n others text d are) =
+  one_completion told also (is_completed k marks body c here is) (is_completed n others text d there are) =
       are_completions k body text is (are ∙ ap (λ (i : ℕ). reply.Completed i text) (sym (one_need k n c.needs d.needs)))
-  one_completion told also (is_completed k marks body c is) (is_not_completed w) = absurd (told_or_withheld k also c.needs w)
-  one_completion told also (is_not_completed w) (is_completed k marks body c is) = absurd (told_or_withheld k told c.needs w)
+  one_completion told also (is_completed k marks body c here is) (is_not_completed w) = absurd (told_or_withheld k also c.needs w)
+  one_completion told also (is_not_completed w) (is_completed k marks body c here is) = absurd (told_or_withheld k told c.needs w)
   one_completion told also (is_not_completed w) (is_not_completed v) = are_one (one_withheld told also w v)
