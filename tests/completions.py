@@ -108,7 +108,8 @@ class Keeping:
         if isinstance(node, str) or node[1] is None:
             return set()
         start, kids, end = node
-        return self.behind_all(kids, {place}) if end == "</" + start[1:] else set()
+        is_plain = re.fullmatch("<[^ \t\r\n/>]+>", start) and end == "</" + start[1:]
+        return self.behind_all(kids, {place}) if is_plain else set()
 
 
 def names_in(dtd):
