@@ -1,5 +1,5 @@
 -- A completion of a document is one whatever its marks are; a session's, where it isn't told.
-use Rattle.std.proofs.Common.{◌≡◌, ◌∙◌, Bool, Err, IfOk, IsTrue, List, Ok, Result, Unit, ap, false, inl, inr, not, refl, sym, subst, ℕ}
+use Rattle.std.proofs.Common.{◌≡◌, ◌∙◌, Bool, Err, IfOk, IsTrue, List, Ok, Result, ap, false, inl, inr, not, refl, sym, subst, ℕ}
 use Rattle.pv_cache.specs.Stamps.{doc_as}
 use Rattle.pv_cache.proofs.Alike.{unmarked_as}
 use Rattle.pv_cache.proofs.OtherMarks.{view_as}
