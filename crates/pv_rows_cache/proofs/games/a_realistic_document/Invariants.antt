@@ -1,4 +1,4 @@
 use Rattle.pv_rows_cache.proofs.games.a_realistic_document.Given as goal
 
 abbrev pub ghosts-play_lines : goal.ghosts-play_lines
-ghosts-play_lines g a = record { name = a.blank.name; parts = a.blank.parts }
+ghosts-play_lines a = record { name = a.blank.name; parts = a.blank.parts }
