@@ -73,7 +73,7 @@ skip "edits without memory" cc || check 300 tests/edits_without_memory.sh
 skip "the comparison with insertions" python3 || check 300 python3 tests/against_insertions.py crates/pvtag/out/pvtag 850 1
 skip "the comparison of least numbers" python3 || check 300 python3 tests/least_numbers.py crates/pv_need_trial/out/pv_need_trial 850 1
 skip "the comparison of completions" python3 || check 300 python3 tests/completions.py crates/pvtag/out/pvtag 400 1 60
-skip "the comparison with a model" python3 || check 300 python3 tests/against_a_model.py crates/pvtag/out/pvtag 20000 3
+skip "the comparison with a model" python3 || check 300 python3 tests/against_a_model.py crates/pvtag/out/pvtag 20000 7
 skip "the failing allocations" python3 cc || check 300 python3 tests/failing_allocations.py crates/pvtag/out/pvtag 12000
 skip "the comparison with xmllint" python3 xmllint || check 300 python3 tests/against_xmllint.py crates/pvtag/out/pvtag 200 1 120
 skip "the comparison of broken documents" python3 xmllint || check 300 python3 tests/broken_documents.py crates/pvtag/out/pvtag 2000 1
