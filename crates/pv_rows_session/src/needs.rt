@@ -96,7 +96,7 @@ static COMPLETIONS: [Row<'static>; 5] = [
         "a",
         "<!DOCTYPE a>\n<b/>\n",
         "need\ncomplete\n",
-        "need 1\ncompleted 1 26\n<!DOCTYPE a>\n<a><b/></a>\n\n",
+        "need 1\ncompleted 1 25\n<!DOCTYPE a>\n<a><b/></a>\n\n",
     ),
     (
         ARTICLE,

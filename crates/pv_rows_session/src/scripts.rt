@@ -165,8 +165,11 @@ fn faults(rt: HostRuntime) -> Result<(), Fail> {
     check_outcome(&rt, b"show\n", 1, (&[0], &[]), nothing)?;
     let whole_lines = (Status::ReadFault, "show 16\n<doc>Hello</doc>\n");
     check_outcome(&rt, b"show\nsh", 65_536, (&[1], &[]), whole_lines)?;
+    // The replies to the lines of a piece are written together, and those before the next piece is asked for.
+    let unwritten = (Status::WriteFault, "");
+    check_outcome(&rt, b"\nshow\n", 65_536, (&[], &[0]), unwritten)?;
     let cut_off = (Status::WriteFault, "no command\n");
-    check_outcome(&rt, b"\nshow\n", 65_536, (&[], &[1]), cut_off)?;
+    check_outcome(&rt, b"\nshow\n", 1, (&[], &[11]), cut_off)?;
     // A byte for each call, and the end: the call behind it would fail.
     let done = (Status::Done, "no history\n");
     check_outcome(&rt, b"undo\n", 1, (&[6], &[]), done)?;
