@@ -1,4 +1,5 @@
-"""The time of an edit, an undo and a refused edit in documents of 10,000 and of 1,000,000 nodes, and of a drill of 2,000 and of 20,000.
+"""The time of an edit, an undo and a refused edit in documents of 10,000 and of 1,000,000 nodes, of opening the larger beside `check`, and of a
+drill of 2,000 and of 20,000.
 
 Words: PROGRAM RUNS. Each time is the best of the runs, which take turns; opening the document is taken off.
 """
@@ -45,6 +46,7 @@ def main():
             for name, sections in sizes.items():
                 words = (program, "session", "r.dtd", "r", f"{sections}.xml")
                 note((name, "opening"), seconds(*words))
+                note((name, "check"), seconds(program, "check", *words[2:]))
                 for move, pair in MOVES.items():
                     note((name, move), seconds(*words, text="\n".join(pair * (LINES // 2)) + "\n"))
             for n in ("2000", "20000"):
@@ -53,6 +55,8 @@ def main():
         for move in MOVES:
             one, other = (1e6 * (best[name, move] - best[name, "opening"]) / LINES for name in sizes)
             print(f"{move}: {one:.1f} us a line at {small}, {other:.1f} at {large}: {other / one:.2f} times")
+        one, other = best[large, "opening"], best[large, "check"]
+        print(f"opening a document of {large}: {1000 * one:.0f} ms, check {1000 * other:.0f} ms: {one / other:.2f} times")
         one, other = best["drill", "2000"], best["drill", "20000"]
         print(f"drill 2000: {1000 * one:.0f} ms, drill 20000: {1000 * other:.0f} ms: {other / one:.1f} times")
         os.chdir("/")
