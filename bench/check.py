@@ -93,4 +93,5 @@ def main():
                 print(f"  {name:8} {1000 * seconds:8.0f} ms  {memory:9,} kB  status {status}")
 
 
-main()
+if __name__ == "__main__":
+    main()

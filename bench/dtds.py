@@ -38,6 +38,31 @@ def doubling():
     return "".join(f"<!ELEMENT e{number} (e{number + 1},e{number + 1})>\n" for number in range(TYPES - 1)) + f"<!ELEMENT e{TYPES - 1} EMPTY>\n"
 
 
+# 60,000 references in a file of 4 MB, each in a declaration of its own; and what they stand for, without a reference.
+def references(default="%default;"):
+    declared = '<!ENTITY % default "#IMPLIED">\n' if "%" in default else ""
+    return declared + "".join(f"<!ATTLIST element.{number % 4_000:04} attribute.of.it.{number:05} CDATA  {default}>\n" for number in range(60_000))
+
+
+def plain():
+    return references(" #IMPLIED ")
+
+
+# 60,000 entities, each of which refers to the one before, and a reference to the last: that many texts are read one within another.
+def nested():
+    return '<!ENTITY % e0 "">\n' + "".join(f'<!ENTITY % e{number + 1} "&#37;e{number};">\n' for number in range(60_000)) + "%e60000;\n"
+
+
+# Each of 16 entities refers twice to the one before: the limit of references stops it.
+def twice():
+    return '<!ENTITY % e0 "">' + "".join(f'<!ENTITY % e{number + 1} "&#37;e{number};&#37;e{number};">' for number in range(16)) + "%e16;"
+
+
+# A long text that is put in place up to the limit of bytes.
+def placed():
+    return f'<!ENTITY % long "{" " * 1_000_000}">' + "%long;" * 17
+
+
 def run(words):
     child = subprocess.Popen(words, stdout=subprocess.PIPE)
     output = child.stdout.read()
@@ -51,7 +76,7 @@ def main():
     program, rounds = f"{sys.argv[1]}/crates/pvtag/out/pvtag", int(sys.argv[2])
     with tempfile.TemporaryDirectory() as folder:
         best = {}
-        for made in (wide, chain, backwards, mixed, doubling):
+        for made in (wide, chain, backwards, mixed, doubling, references, plain, nested, twice, placed):
             with open(f"{folder}/{made.__name__}.dtd", "w") as file:
                 file.write(made())
         for _ in range(rounds):

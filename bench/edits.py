@@ -26,7 +26,7 @@ def seconds(words):
 
 def main():
     top, runs = sys.argv[1], int(sys.argv[2])
-    program = f"{top}/crates/pv_edit_trial/out/pv_edit_trial"
+    program = f"{top}/crates/bench_edit/out/bench_edit"
     with_edits = {name: float("inf") for name in SIZES}
     without = dict(with_edits)
     for _ in range(runs):

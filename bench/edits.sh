@@ -6,5 +6,5 @@ command -v python3 >/dev/null || {
     echo "skipped: no python3"
     exit 0
 }
-(cd "$top/crates/pv_edit_trial" && rt run -- trial) >/dev/null 2>&1 </dev/null
+(cd "$top/crates/bench_edit" && rt run -- trial) >/dev/null 2>&1 </dev/null
 exec python3 "$top/bench/edits.py" "$top" "${1:-5}"

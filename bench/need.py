@@ -1,4 +1,4 @@
-"""Times `need`. Words: the repository's folder, and how many runs of each.
+"""Times a session that tells `need` once. Words: the repository's folder, and how many runs of each.
 
 On one list of 250, 500 and 1,000 tokens that misses an element, and on 20,000 short lists, of which each does, beside `check`. The best of
 each is told, in milliseconds of processor time and in kilobytes of memory at the peak, with what was printed.
@@ -10,7 +10,9 @@ import tempfile
 
 
 def run(words):
-    ran = subprocess.Popen(words, stdout=subprocess.PIPE, text=True)
+    ran = subprocess.Popen(words, stdin=subprocess.PIPE, stdout=subprocess.PIPE, text=True)
+    ran.stdin.write("need\n")
+    ran.stdin.close()
     printed = ran.stdout.read().strip()
     _, _, usage = os.wait4(ran.pid, 0)
     return 1000 * (usage.ru_utime + usage.ru_stime), usage.ru_maxrss, printed
@@ -31,7 +33,7 @@ def main():
             with open(doc, "w") as file:
                 file.write(text)
             programs = {
-                "need": [f"{top}/crates/pv_need_trial/out/pv_need_trial", dtd, "doc", doc],
+                "need": [f"{top}/pvtag", "session", dtd, "doc", doc],
                 "check": [f"{top}/pvtag", "check", dtd, "doc", doc],
             }
             best = {}

@@ -1,11 +1,10 @@
 #!/usr/bin/env bash
-# Times `need`, beside `check`. Words: how many runs of each, 5 where none are given.
+# Times a session that tells `need` once, beside `check`. Words: how many runs of each, 5 where none are given.
 set -eu
 top=$(cd "$(dirname "$0")/.." && pwd)
 command -v python3 >/dev/null || {
     echo "skipped: no python3"
     exit 0
 }
-(cd "$top/crates/pv_need_trial" && rt run) >/dev/null 2>&1
 "$top/pvtag" check "$top/examples/article.dtd" doc "$top/examples/article.xml" >/dev/null
 exec python3 "$top/bench/need.py" "$top" "${1:-5}"

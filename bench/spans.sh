@@ -6,5 +6,5 @@ command -v python3 >/dev/null || {
     echo "skipped: no python3"
     exit 0
 }
-(cd "$top/crates/pv_span_trial" && rt run -- paragraphs 20) >/dev/null 2>&1 </dev/null
+(cd "$top/crates/bench_span" && rt run -- paragraphs 20) >/dev/null 2>&1 </dev/null
 exec python3 "$top/bench/spans.py" "$top" "${1:-3}"

@@ -3,7 +3,8 @@
 Words: PROGRAM ROUNDS SEED, and the most seconds, where not all rounds are wanted. A round is one DTD, a dozen documents, each of which
 `show` must give back, and a dozen texts of each kind that were changed in one place or two. A DTD has names in several scripts, comments,
 processing instructions, and declarations of attributes, entities and notations; the documents are ASCII. What is changed of a DTD are
-element declarations and comments. xmllint doesn't judge models that aren't deterministic, nor paths, which the matcher of its own does.
+element declarations and comments. Half of the DTDs have parts of their declarations, or all of them, in parameter entities, and `dtd` has to
+say of them what it says of the plain declarations. xmllint doesn't judge models that aren't deterministic, nor paths, which the matcher of its own does.
 Prints each difference, and how many cases passed; ends with 1 where one failed.
 """
 import os
@@ -229,15 +230,58 @@ def skipped(number):
     return f"<!NOTATION{gap()}имя{number}{gap()}SYSTEM{gap()}{quote}a%{quote}{space()}>"
 
 
-# The declarations with other items around them, and with comments alone that hold no '%'.
-def dtd_texts(declarations):
+# A parameter entity's declaration. Some characters of its value are written by their numbers.
+def entity(name, value):
+    quote = random.choice("'\"")
+    letters = [f"&#{ord(letter)};" if random.random() < 0.05 and letter not in "%&;" else letter for letter in value]
+    if "%" in value or "&" in value:
+        letters = list(value)
+    return f"<!ENTITY{gap()}%{gap()}{name}{gap()}{quote}{''.join(letters)}{quote}{space()}>"
+
+
+# A reference as it stands in the value of another entity, where it is read when the value is declared, or when its text is.
+def inner(name):
+    return random.choice(["%", "&#37;"]) + name + ";"
+
+
+# An element's declaration, with parts of it, or all of it, in parameter entities: nested, declared twice, unused, with comments and
+# processing instructions in their texts. No group begins in one text and ends in another, which XML forbids.
+def with_entities(number, name, content):
+    before = []
+    if random.random() < 0.3:
+        before.append(entity(f"unused.{number}", random.choice(["", "(x|", "<!ELEMENT", "&#38;", "]]>"])))
+    group = re.fullmatch(r"\((.*)\)([?*+]*)", content, re.DOTALL)
+    is_value = random.random() < 0.5
+    if group and random.random() < 0.5:
+        before.append(entity(f"group.{number}", group[1]))
+        content = "(" + (inner(f"group.{number}") if is_value else f"%group.{number};") + ")" + group[2]
+    else:
+        is_value = False
+    if is_value or random.random() < 0.5:
+        before.append(entity(f"content.{number}", content))
+        if random.random() < 0.3:
+            before.append(entity(f"content.{number}", "ANY"))
+        content = f"%content.{number};"
+    if random.random() < 0.3:
+        before.append(entity(f"имя.{number}", name))
+        name = f"%имя.{number};"
+    declaration = f"<!ELEMENT{gap()}{name}{gap()}{content}{space()}>"
+    if random.random() < 0.3:
+        more = random.choice(["", "<!--x-->", "<?x y?>", f"<!ENTITY &#37; within.{number} &#39;x&#39;>"])
+        before.append(entity(f"whole.{number}", more + space() + declaration.replace("%", random.choice(["%", "&#37;"]))))
+        declaration = f"%whole.{number};"
+    return "".join(item + space() for item in before) + declaration
+
+
+# The declarations, as they are written, with other items around them, and as they are plainly, with comments alone that hold no '%'.
+def dtd_texts(written, declarations):
     whole = random.choice(["", "", "<?xml encoding='UTF-8'?>", '<?xml version="1.0" encoding="utf-8" ?>'])
     plain = ""
-    for number, declaration in enumerate(declarations):
+    for number, (item, declaration) in enumerate(zip(written, declarations)):
         remark = random.choice([comment, str])()
         more = [random.choice([instruction, lambda: skipped(2 * number + at)])() for at in range(random.randint(0, 2))]
         between = [remark] + more if random.random() < 0.5 else more + [remark]
-        whole += "".join(space() + item for item in between) + space() + declaration
+        whole += "".join(space() + more for more in between) + space() + item
         plain += space() + remark.replace("%", "x") + space() + declaration
     return whole + space(), plain + space()
 
@@ -245,6 +289,12 @@ def dtd_texts(declarations):
 # The exit status of `valid`, and its output.
 def answer(program, root):
     ran = subprocess.run([program, "valid", "a.dtd", root, "d.xml"], capture_output=True, encoding="utf-8", errors="replace")
+    return (ran.returncode, ran.stdout)
+
+
+# The exit status of `dtd`, and its output.
+def listing(program, path):
+    ran = subprocess.run([program, "dtd", path], capture_output=True, encoding="utf-8", errors="replace")
     return (ran.returncode, ran.stdout)
 
 
@@ -334,9 +384,20 @@ def xmllint(path):
 def round_of(program, counts):
     declared = random.sample(NAMES, random.randint(1, len(NAMES)))
     models = {name: model() for name in declared + random.sample(OTHER_NAMES, random.choice([0, 0, 1, 2]))}
-    whole, plain = dtd_texts([f"<!ELEMENT{gap()}{name}{gap()}{specification(content)}{space()}>" for name, content in models.items()])
+    spelled_models = [(name, specification(content)) for name, content in models.items()]
+    declarations = [f"<!ELEMENT{gap()}{name}{gap()}{content}{space()}>" for name, content in spelled_models]
+    written = declarations
+    if random.random() < 0.5:
+        written = [with_entities(number, name, content) for number, (name, content) in enumerate(spelled_models)]
+    whole, plain = dtd_texts(written, declarations)
     write("a.dtd", whole)
+    write("plain.dtd", plain)
     differences = 0
+    counts["listed"] += 1
+    if listing(program, "a.dtd") != listing(program, "plain.dtd"):
+        differences += 1
+        print("other types or models than those that are declared plainly")
+        print(whole, plain, sep="\n")
     for _ in range(12):
         tree = element(models, random.choice(declared), random.randint(1, 4))
         for _ in range(random.choice([0, 0, 0, 1, 1, 2])):
@@ -363,7 +424,7 @@ def main():
     program, rounds, seed = os.path.abspath(sys.argv[1]), int(sys.argv[2]), int(sys.argv[3])
     until = time.monotonic() + float(sys.argv[4]) if len(sys.argv) > 4 else float("inf")
     random.seed(seed)
-    counts = {"valid": 0, "invalid": 0, "xmllint": 0, "read": 0, "refused": 0}
+    counts = {"listed": 0, "valid": 0, "invalid": 0, "xmllint": 0, "read": 0, "refused": 0}
     differences = 0
     with tempfile.TemporaryDirectory() as folder:
         os.chdir(folder)
@@ -373,7 +434,7 @@ def main():
             differences += round_of(program, counts)
         os.chdir("/")
     cases = sum(counts.values()) - counts["xmllint"]
-    print(f"{counts['valid']} valid and {counts['invalid']} invalid documents, {counts['xmllint']} of them judged by xmllint;",
+    print(f"{counts['listed']} DTDs;", f"{counts['valid']} valid and {counts['invalid']} invalid documents, {counts['xmllint']} of them judged by xmllint;",
           f"changed texts: {counts['read']} read, {counts['refused']} refused")
     print(f"against xmllint: {cases - differences} passed, {differences} failed")
     sys.exit(1 if differences else 0)

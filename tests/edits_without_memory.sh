@@ -3,12 +3,23 @@
 # how many of these runs passed.
 set -u
 top=$(cd "$(dirname "$0")/.." && pwd)
-program=$top/crates/pv_edit_trial/out/pv_edit_trial
+program=$top/crates/bench_edit/out/bench_edit
 work=$(mktemp -d)
 trap 'rm -rf "$work"' EXIT
 most=5000
-(cd "$top/crates/pv_edit_trial" && rt run -- trial) >"$work/log" 2>&1 </dev/null && [ -x "$program" ] || {
+# Whether the program stands, and nothing that it is made from is newer.
+is_current() {
+    [ -x "$program" ] && [ -e "$program.built" ] || return 1
+    [ -z "$(find "$top/crates.txt" "$top"/crates/*/{src,specs,proofs} -newer "$program.built" -print -quit 2>/dev/null)" ]
+}
+
+build() {
+    (cd "$top/crates/bench_edit" && rt run -- trial) >"$work/log" 2>&1 </dev/null && [ -x "$program" ] && touch "$program.built"
+}
+
+is_current || build || {
     tail -n 20 "$work/log"
+    echo "the program couldn't be built"
     exit 1
 }
 cc -shared -fPIC -O1 -o "$work/fail.so" "$top/tests/fail_allocation.c" -ldl || exit 1

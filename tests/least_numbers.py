@@ -1,8 +1,8 @@
 """Compares the least number of missing elements with a search that inserts elements, on random small DTDs and documents.
 
-Words: PROGRAM ROUNDS SEED; the program is `pv_need_trial`. A round is one DTD and a dozen documents, made as in `against_insertions.py`,
-whose search tries all insertions of at most `MOST` elements. Where it finds some, the program must tell the least number of them. Where it
-finds none, the program must tell a larger number, or that the document is impossible. Prints each difference, and how many cases passed;
+Words: PROGRAM ROUNDS SEED; `need` is a line of the program's session. A round is one DTD and a dozen documents, made as in
+`against_insertions.py`, whose search tries all insertions of at most `MOST` elements. Where it finds some, the program must tell the least
+number of them. Where it finds none, the program must tell a larger number, or that the document is impossible. Prints each difference, and how many cases passed;
 ends with 1 where one failed.
 """
 import os
@@ -15,7 +15,8 @@ from against_insertions import LEAVES, MOST, NAMES, Search, declaration, documen
 
 
 def answer(program, root):
-    return subprocess.run([program, "a.dtd", root, "d.xml"], capture_output=True, text=True).stdout.strip()
+    words = [program, "session", "a.dtd", root, "d.xml"]
+    return subprocess.run(words, input="need\n", capture_output=True, text=True).stdout.strip()
 
 
 def kind_of(least, got):

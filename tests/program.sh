@@ -133,6 +133,38 @@ for bytes in '\xff' '\xed\xa0\x80' '\xc0\xaf' '\xe0\x80\xaf' '\xf4\x90\x80\x80' 
     dtd "$bytes in a literal" 6 "dtd syntax 1"
 done
 
+# Parameter entities: sixteen, each of which refers twice to the one before; the limits and one past them; a text declaration behind them.
+doubled() {
+    printf '<!ENTITY %% e0 "">'
+    for k in $(seq 16); do printf '<!ENTITY %% e%d "&#37;e%d;&#37;e%d;">' "$k" $((k - 1)) $((k - 1)); done
+    printf '%%e%d;' "$1"
+}
+# listed NAME STATUS LINES: what `dtd` says of one.dtd
+listed() { expect "$1" "$2" "$3$lf" "$pvtag" dtd one.dtd; }
+doubled 15 >one.dtd
+listed "65,535 references by doubling" 0 "types 0 parts 0 undeclared 0"
+doubled 16 >one.dtd
+listed "131,071 references by doubling" 8 "limit params"
+{ printf "<!ENTITY %% e ''>"; yes '%e;' | head -n 65536 | tr -d '\n'; } >one.dtd
+listed "65,536 references" 0 "types 0 parts 0 undeclared 0"
+{ printf "<!ENTITY %% e ''>"; yes '%e;' | head -n 65537 | tr -d '\n'; } >one.dtd
+listed "65,537 references" 8 "limit params"
+# placed N: N references to a text of 1,048,576 bytes
+placed() {
+    printf "<!ENTITY %% e '<!--"
+    head -c 1048569 /dev/zero | tr '\0' x
+    printf -- "-->'>"
+    yes '%e;' | head -n "$1" | tr -d '\n'
+}
+placed 3 >one.dtd
+listed "3,145,728 bytes put in place" 0 "types 0 parts 0 undeclared 0"
+placed 16 >one.dtd
+listed "16,777,216 bytes put in place, a DTD of too many bytes" 8 "limit dtd 0"
+placed 17 >one.dtd
+listed "17,825,792 bytes put in place" 8 "limit params"
+printf "<!ENTITY %% a ''><?xml version='1.0'?>" >one.dtd
+listed "a text declaration behind a parameter declaration" 6 "dtd syntax 0"
+
 # Documents for `check`: many lists, long lists, and lists at the widest and one past it.
 repeat() { yes "$2" | head -n "$1" | tr -d '\n'; }
 # check NAME STATUS LINE: what `check` says of one.xml by the DTD in one.dtd and its root
@@ -174,9 +206,6 @@ session() {
 # lines LINE..: lines with an LF between
 lines() { local IFS=$lf; printf '%s' "$*"; }
 hello='<doc>Hello</doc>'
-expect "the session in README" 0 "$(lines 'ok 1 1' 'ok 2 1' 'no impossible 0' 'ok 2 1' 'ok 2 0' 'show 92' '<doc><head>Opening hours</head><sec><p>' \
-    'Cafes opened early. Tea came later.</p></sec></doc>')$lf$lf" \
-    bash -c '"$0" session "$1/article.dtd" doc "$1/draft.xml" <"$1/markup.txt"' "$pvtag" "$top/examples"
 "$pvtag" session "$top/examples/article.dtd" doc "$top/examples/draft.xml" <"$top/examples/markup.txt" | tail -n +7 | head -n 2 >marked.xml
 expect "a draft that was marked up" 0 "valid$lf" "$pvtag" valid a.dtd doc marked.xml
 printf '<doc><sec/><head/></doc>' >one.xml
@@ -245,5 +274,46 @@ session "512 elements in one another" 'no shape deep' a.dtd em "$(repeat 512 '<e
 { printf '<!ELEMENT r (#PCDATA'; seq -f '|a%g' 4000 | tr -d '\n'; printf ')*><!ELEMENT a1 EMPTY>'; } >wide.dtd
 session "an edit past the width" "$(lines 'no limit' 'history 0' 'verdicts 2' '. valid 0' '0 valid 0')" wide.dtd r "<r>$(repeat 8386 'x<!---->')</r>" \
     'addtext 0 0 y' history verdicts
+
+# The pages. shows COMMAND OUTPUT: it prints this, in which a line of three dots is any lines
+mkdir page && ln -s "$pvtag" "$top/examples" page/ || exit 1
+shows() {
+    local got
+    case $1 in
+    python3*) command -v python3 >/dev/null || { echo "skipped: $1 (no python3)"; return; } ;;
+    esac
+    got=$(cd page && bash -c "$1" </dev/null 2>&1; echo .)
+    got=${got%.}
+    if [ "$got" = "$2" ] || [[ $2 == *"$lf...$lf"* && $got == "${2%%"$lf...$lf"*}$lf"*"${2#*"$lf...$lf"}" ]]; then
+        passed=$((passed + 1))
+    else
+        failed=$((failed + 1))
+        echo "$1: output '$got' for '$2'"
+    fi
+}
+# page FILE: what each command in it shows, a line that begins with `$ ` between two lines of ```, with the lines below it up to the next
+page() {
+    local command='' output='' inside='' line
+    while IFS= read -r line; do
+        case $inside$line in
+        '```'* | 'yes```'* | 'yes$ '*)
+            [ -z "$command" ] || shows "$command" "$output"
+            command='' output=''
+            case $line in
+            '$ '*) command=${line#'$ '} ;;
+            *) [ "$inside" ] && inside='' || inside=yes ;;
+            esac
+            ;;
+        *) [ -z "$command" ] || output+=$line$lf ;;
+        esac
+    done <"$top/$1"
+}
+page README.md
+page docs/COMMANDS.md
+if command -v groff >/dev/null; then
+    expect "the manual page" 0 "" groff -ww -mdoc -Tutf8 -z "$top/docs/pvtag.1"
+else
+    echo "skipped: the manual page (no groff)"
+fi
 echo "program: $passed passed, $failed failed"
 [ "$failed" -eq 0 ]

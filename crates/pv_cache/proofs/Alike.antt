@@ -7,7 +7,7 @@ use Rattle.pv_dtd.specs.Plain.{PlainDtd}
 use Rattle.pv_edit.specs.ChangedLists.{changed_lists, makes}
 use Rattle.pv_edit.specs.Changes.{Change, doc_after}
 use Rattle.pv_edit.specs.Effects.{change_of, next_of}
-use Rattle.pv_edit.specs.Inverses.{change_back, reverted}
+use Rattle.pv_edit.specs.Inverses.{change_back, doc_back}
 use Rattle.pv_edit.specs.Reasons.{Outcome, applied, gives, outcome, reason_of, refuses}
 use Rattle.pv_edit.specs.declared.answers.EditAnswer.{EditAnswer}
 use Rattle.pv_edit.specs.declared.answers.EditAnswer.TheVariants.{Impossible, Limit, NoMemory, Shape}
@@ -80,7 +80,7 @@ module _ {M N : Type 0} (f : M → N) where
   gives_as blank doc edited edit e = applied_as blank doc edit ∙ ap (outcome_as f) e
 
   -- and so does an inverse
-  pub reverted_as : (blank : M) (doc : PlainDoc M) (inverse : Inverse) → reverted (f blank) (doc_as f doc) inverse ≡ doc_as f (reverted blank doc inverse)
+  pub reverted_as : (blank : M) (doc : PlainDoc M) (inverse : Inverse) → doc_back (f blank) (doc_as f doc) inverse ≡ doc_as f (doc_back blank doc inverse)
   reverted_as blank doc inverse =
       ap (λ (c : Change N). doc_after c (doc_as f doc)) (sym (back-as f blank doc.root inverse)) ∙ after_as (change_back blank doc.root inverse) doc
 
@@ -92,15 +92,13 @@ module _ {M N : Type 0} (f : M → N) where
       pub guarded_to : IsGuarded g root doc → IsGuarded g root (doc_as f doc)
       guarded_to h = record {
         possible = rw (view_as f doc.root) h.possible;
-        narrow = all_narrow_to f doc g h.narrow;
-        few = rw (nodes_as f doc.root) h.few;
+        holdable = record { narrow = all_narrow_to f doc g h.holdable.narrow; few = rw (nodes_as f doc.root) h.holdable.few };
       }
 
       pub guarded_from : IsGuarded g root (doc_as f doc) → IsGuarded g root doc
       guarded_from h = record {
         possible = rw (view_as f doc.root) at h.possible;
-        narrow = all_narrow_from f doc g h.narrow;
-        few = rw (nodes_as f doc.root) at h.few;
+        holdable = record { narrow = all_narrow_from f doc g h.holdable.narrow; few = rw (nodes_as f doc.root) at h.holdable.few };
       }
 
       pub open_to : (n : ℕ) → HavePossible g root (lists_of doc) n → HavePossible g root (lists_of (doc_as f doc)) n

@@ -9,7 +9,7 @@ use Rattle.pv_tree.specs.Lists.{Owner, an_element}
 use Rattle.pv_tree.specs.Plain.{Ending, Forest, Tree, element, tree}
 use Rattle.pv_tree.specs.declared.nodes.Mark.{Mark}
 use Rattle.pv_cache.specs.WellMarked.{EachList, EachListIn, TellsList, told_left, told_left_in, told_nodes, told_nodes_in}
-use Rattle.pv_cache.specs.Mending.{retold, mended_below}
+use Rattle.pv_cache.specs.Mending.{count_again, mend_below}
 use Rattle.pv_cache.proofs.Marking.{kid-has}
 
 -- two trees that look alike in a list, and tell the same numbers
@@ -44,7 +44,7 @@ pub below-shows : {path : List ℕ} {t u : Tree Mark} (h : Tree Mark → Tree Ma
 below-shows h here s = s
 below-shows h (down q n) s = record { head = refl; left = refl; nodes = refl }
 
-pub below-head : {path : List ℕ} {t u : Tree Mark} (f : Tree Mark → Tree Mark) → NodeAt path t u → head_of (f u) ≡ head_of u → head_of (mended_below path f t) ≡ head_of t
+pub below-head : {path : List ℕ} {t u : Tree Mark} (f : Tree Mark → Tree Mark) → NodeAt path t u → head_of (f u) ≡ head_of u → head_of (mend_below path f t) ≡ head_of t
 below-head f here e = e
 below-head f (down q n) e = refl
 
@@ -60,7 +60,7 @@ module _ (g : PlainDtd) (root : List ℕ) where
   }
 
   -- and of kids that have the same heads, where its numbers are told again
-  pub tells-again : (owner : Owner) (kids kids' : Forest Mark) (m : Mark) → heads_of kids' ≡ heads_of kids → TellsList g root owner kids m → TellsList g root owner kids' (retold kids kids' m)
+  pub tells-again : (owner : Owner) (kids kids' : Forest Mark) (m : Mark) → heads_of kids' ≡ heads_of kids → TellsList g root owner kids m → TellsList g root owner kids' (count_again kids kids' m)
   tells-again owner kids kids' m e t = record {
     judged = (verdict_by_heads Mark Mark g root (record { path = []; owner = owner; kids = kids }) (record { path = []; owner = owner; kids = kids' }) m.verdict refl (sym e)).0 t.judged;
     live = t.live;
@@ -103,9 +103,9 @@ module _ (g : PlainDtd) (root : List ℕ) where
   beside-changed f (behind t b) h = (t, beside-changed f b h)
 
   -- Mended there and above it, it is marked.
-  pub mended-around : {path : List ℕ} {t u : Tree Mark} (f : Tree Mark → Tree Mark) → Around path t u → head_of (f u) ≡ head_of u → EachList (TellsList g root) (f u) → EachList (TellsList g root) (mended_below path f t)
+  pub mended-around : {path : List ℕ} {t u : Tree Mark} (f : Tree Mark → Tree Mark) → Around path t u → head_of (f u) ≡ head_of u → EachList (TellsList g root) (f u) → EachList (TellsList g root) (mend_below path f t)
   mended-around f right-here e m = m
   mended-around f (further {path = path} {x = x} {kids = kids} {m = mark} h b a) e m = (
-    tells-again (an_element x) kids (change_kid (mended_below path f) _ kids) mark (kid-heads (mended_below path f) (beside-kid b) (below-head f (around-node a) e)) h,
-    beside-changed (mended_below path f) b (mended-around f a e m),
+    tells-again (an_element x) kids (change_kid (mend_below path f) _ kids) mark (kid-heads (mend_below path f) (beside-kid b) (below-head f (around-node a) e)) h,
+    beside-changed (mend_below path f) b (mended-around f a e m),
   )

@@ -19,9 +19,10 @@ use Rattle.pv_tree.specs.Places.{at_node as at_spot}
 use Rattle.pv_tree.specs.Plain.{Ending, Forest, PlainDoc, Tree, element, forest_of, no_trees, tree, trees_of}
 use Rattle.pv_tree.specs.declared.nodes.Mark.{Mark}
 use Rattle.pv_tree.specs.declared.nodes.Verdict.{Verdict}
-use Rattle.pv_cache.specs.Changed.{AreJudged, IsInnerJudged, owner_at}
+use Rattle.pv_cache.specs.Changed.{owner_at}
+use Rattle.pv_cache.proofs.Acceptable.{AreAcceptable, IsInnerAcceptable, acceptable}
 use Rattle.pv_cache.specs.Laws.{MarksTell, MendedIsMarked}
-use Rattle.pv_cache.specs.Mending.{mended_below, mended_doc, mended_kids, mended_owner, mended_root}
+use Rattle.pv_cache.specs.Mending.{mend_below, mend_doc, mend_kids, mend_owner, mend_root}
 use Rattle.pv_cache.specs.declared.mending.InnerVerdict.{InnerVerdict}
 use Rattle.pv_cache.specs.WellMarked.{EachListIn, IsWellMarked, TellsList}
 use Rattle.pv_cache.proofs.Around.{ShowsSame, ShowSame, below-shows, changed-around, around-node, below-head, mended-around, tells-again, tells-same}
@@ -44,33 +45,33 @@ only root (t ∷ []) n = refl
 only root (t ∷ u ∷ ts) n = absurd (omega arith)
 
 module _ (g : PlainDtd) (root : List ℕ) (doc : PlainDoc Mark) (w : IsWellMarked g root doc) (c : Change Mark) (z : HaveNoKids c.filling) (v : Verdict) (inner : Option InnerVerdict) (stamp : ℕ) where
-  below-marked : (path : List ℕ) (ts : List (Tree Mark)) → Made doc.mark (zero ∷ path) c doc.root ts → AreJudged g root (owner_at (zero ∷ path) doc.root) ts c v inner
-      → IsWellMarked g root (mended_doc (zero ∷ path) v inner stamp (record doc { root = root_after (zero ∷ path) c doc.root }))
+  below-marked : (path : List ℕ) (ts : List (Tree Mark)) → Made doc.mark (zero ∷ path) c doc.root ts → AreAcceptable g root (owner_at (zero ∷ path) doc.root) ts c v inner
+      → IsWellMarked g root (mend_doc (zero ∷ path) v inner stamp (record doc { root = root_after (zero ∷ path) c doc.root }))
   below-marked path ts d j =
       let o = d.owner in
       let n = in-root o.node in
       let name = root-name path doc.root o.name o.attrs o.ending o.kids o.mark n in
       let within : c.to ≤ length (trees_of o.kids) = subst (λ k. c.to ≤ length k) (sym o.are) d.within in
-      let judged : AreJudged g root (an_element o.name) (trees_of o.kids) c v inner = rw (← name, o.are) j in
+      let judged : AreAcceptable g root (an_element o.name) (trees_of o.kids) c v inner = rw (← name, o.are) j in
       let u = element o.name o.attrs o.ending o.kids o.mark in
       let a = changed-around g root (owner_after c) n (owner-shows c o.name o.attrs o.ending o.kids o.mark) w.elements in
       let has = node-has (TellsList g root) n w.elements in
       let m = owner-marked g root c o.name o.attrs o.ending o.kids o.mark v inner stamp d.order within z judged has.1 in
       let shows = below-shows (owner_after c) n (owner-shows c o.name o.attrs o.ending o.kids o.mark) in
       let old : Tree Mark = change_below path (owner_after c) doc.root in
-      let new : Tree Mark = mended_below path (mended_owner v inner stamp) old in
+      let new : Tree Mark = mend_below path (mend_owner v inner stamp) old in
       let same : ShowSame (tree old no_trees) (tree doc.root no_trees) = record { heads = ap (λ h. h ∷ []) shows.head; left = ap (λ k. k + 0) shows.left; nodes = ap (λ k. k + 0) shows.nodes } in
       let told = tells-same g root the_document (tree doc.root no_trees) (tree old no_trees) doc.mark same w.document in
       record {
-        document = tells-again g root the_document (tree old no_trees) (tree new no_trees) doc.mark (ap (λ h. h ∷ []) (below-head (mended_owner v inner stamp) (around-node g root a) refl)) told;
-        elements = mended-around g root (mended_owner v inner stamp) a refl m;
+        document = tells-again g root the_document (tree old no_trees) (tree new no_trees) doc.mark (ap (λ h. h ∷ []) (below-head (mend_owner v inner stamp) (around-node g root a) refl)) told;
+        elements = mended-around g root (mend_owner v inner stamp) a refl m;
       }
 
-  top-list : (t : Tree Mark) (list : List (Tree Mark)) → list ≡ t ∷ [] → (i : Option InnerVerdict) → ((k : InnerVerdict) → i ≡ Some k → k.place ≡ 0) → mended_kids i stamp (forest_of list) ≡ tree (mended_root i stamp t) no_trees
+  top-list : (t : Tree Mark) (list : List (Tree Mark)) → list ≡ t ∷ [] → (i : Option InnerVerdict) → ((k : InnerVerdict) → i ≡ Some k → k.place ≡ 0) → mend_kids i stamp (forest_of list) ≡ tree (mend_root i stamp t) no_trees
   top-list t list e None p = ap forest_of e
-  top-list t list e (Some k) p = ap (λ l. mended_kids (Some k) stamp (forest_of l)) e ∙ ap (λ n. mended_kids (Some (record k { place = n })) stamp (tree t no_trees)) (p k refl)
+  top-list t list e (Some k) p = ap (λ l. mend_kids (Some k) stamp (forest_of l)) e ∙ ap (λ n. mend_kids (Some (record k { place = n })) stamp (tree t no_trees)) (p k refl)
 
-  top-place : (ts : List (Tree Mark)) → c.from ≤ c.to → c.to ≤ length ts → length (list_after c ts) ≡ 1 → (i : Option InnerVerdict) → IsInnerJudged g root c (in_place_of c.filling (between c.from c.to ts)) i → (k : InnerVerdict) → i ≡ Some k → k.place ≡ 0
+  top-place : (ts : List (Tree Mark)) → c.from ≤ c.to → c.to ≤ length ts → length (list_after c ts) ≡ 1 → (i : Option InnerVerdict) → IsInnerAcceptable g root c (in_place_of c.filling (between c.from c.to ts)) i → (k : InnerVerdict) → i ≡ Some k → k.place ≡ 0
   top-place ts h l n None j k e = absurd cc
   top-place ts h l n (Some i) j k e =
       let b = j.2 in
@@ -83,19 +84,19 @@ module _ (g : PlainDtd) (root : List ℕ) (doc : PlainDoc Mark) (w : IsWellMarke
       let q : i.place ≡ 0 = omega arith in
       ap (λ (m : InnerVerdict). m.place) (sym s) ∙ q
 
-  top-marked : (ts : List (Tree Mark)) → Made doc.mark [] c doc.root ts → AreJudged g root the_document ts c v inner → IsWellMarked g root (mended_doc [] v inner stamp (record doc { root = root_after [] c doc.root }))
+  top-marked : (ts : List (Tree Mark)) → Made doc.mark [] c doc.root ts → AreAcceptable g root the_document ts c v inner → IsWellMarked g root (mend_doc [] v inner stamp (record doc { root = root_after [] c doc.root }))
   top-marked ts d j =
       let k = top-kids d.owner in
-      let judged : AreJudged g root the_document (doc.root ∷ []) c v inner = rw (← k) j in
+      let judged : AreAcceptable g root the_document (doc.root ∷ []) c v inner = rw (← k) j in
       let one : length (list_after c (doc.root ∷ [])) ≡ 1 = rw (← k) (d.one refl) in
       let within : c.to ≤ length (doc.root ∷ []) = subst (λ l. c.to ≤ length l) k d.within in
       let t = first_tree doc.root (list_after c (doc.root ∷ [])) in
       let is = only doc.root (list_after c (doc.root ∷ [])) one in
       let e = top-list t (list_after c (doc.root ∷ [])) is inner (top-place (doc.root ∷ []) d.order within one inner judged.within) in
       let m = list-marked g root c (doc.root ∷ []) inner stamp d.order within z judged.within (w.elements, tt) in
-      let marked : EachListIn (TellsList g root) (tree (mended_root inner stamp t) no_trees) = subst (EachListIn (TellsList g root)) e m in
+      let marked : EachListIn (TellsList g root) (tree (mend_root inner stamp t) no_trees) = subst (EachListIn (TellsList g root)) e m in
       record {
-        document = fresh-tells g root the_document (forest_of (list_after c (doc.root ∷ []))) (tree (mended_root inner stamp t) no_trees) v stamp (ap heads_of (sym e) ∙ kids-heads inner stamp (forest_of (list_after c (doc.root ∷ [])))) judged.outer;
+        document = fresh-tells g root the_document (forest_of (list_after c (doc.root ∷ []))) (tree (mend_root inner stamp t) no_trees) v stamp (ap heads_of (sym e) ∙ kids-heads inner stamp (forest_of (list_after c (doc.root ∷ [])))) judged.outer;
         elements = marked.0;
       }
 
@@ -109,15 +110,15 @@ owner-list : {M : Type 0} {m : M} {list : List ℕ} {root : Tree M} {ts : List (
 owner-list d = owner-kids d.owner
 
 after-marked : (g : PlainDtd) (root : List ℕ) (doc : PlainDoc Mark) (c : Change Mark) (v : Verdict) (i : Option InnerVerdict) (stamp : ℕ) → IsWellMarked g root doc → BringsBare c.filling → (list : List ℕ) (ts : List (Tree Mark)) → Made doc.mark list c doc.root ts →
-    AreJudged g root (owner_at list doc.root) (kids_at list doc.root) c v i → IsWellMarked g root (mended_doc list v i stamp (record doc { root = root_after list c doc.root }))
+    AreAcceptable g root (owner_at list doc.root) (kids_at list doc.root) c v i → IsWellMarked g root (mend_doc list v i stamp (record doc { root = root_after list c doc.root }))
 after-marked g root doc c v i stamp w b [] ts d j = top-marked g root doc w c (bare-kids c.filling b) v i stamp ts d (rw (owner-list d) at j)
 after-marked g root doc c v i stamp w b (zero ∷ path) ts d j = below-marked g root doc w c (bare-kids c.filling b) v i stamp path ts d (rw (owner-list d) at j)
 after-marked g root doc c v i stamp w b (suc k ∷ path) ts d j = let h = at_node d.owner.node in absurd cc
 
 pub mended-marked : MendedIsMarked
-mended-marked g root doc c v i stamp w can unshort b j =
+mended-marked g root doc c v i stamp w can unshort b j l =
     let d = can-made doc.mark c.list c doc.root can unshort in
-    after-marked g root doc c v i stamp w b c.list d.0 d.1 j
+    after-marked g root doc c v i stamp w b c.list d.0 d.1 (acceptable g root (owner_at c.list doc.root) (kids_at c.list doc.root) c v i j l)
 
 pub marks-tell : MarksTell
 marks-tell g root doc w = (doc-told g root doc w, doc-left g root doc w, doc-nodes g root doc w, doc-live g root doc w, doc-narrow g root doc w)

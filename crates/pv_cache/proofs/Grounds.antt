@@ -42,7 +42,7 @@ kept_proper doc k = record { rooted = k.rooted; units = k.units }
 module _ (g : PlainDtd) (root : List ℕ) where
   -- ---- a well marked document
   pub marked_guarded : (doc : PlainDoc Mark) → IsPotentiallyValidByLists Mark → IsProperDtd g → IsProperDoc doc → nodes_in doc.root ≤ MAX_EDITED_NODES → ∥ IsWellMarked g root doc ∥₁ → ∥ IsGuarded g root doc ∥₁
-  marked_guarded doc by p q few w = ∥∥₁_map w (λ w. record { possible = ∣ (by g root doc p q).1 (doc-live g root doc w) ∣₁; narrow = doc-narrow g root doc w; few = few })
+  marked_guarded doc by p q few w = ∥∥₁_map w (λ w. record { possible = ∣ (by g root doc p q).1 (doc-live g root doc w) ∣₁; holdable = record { narrow = doc-narrow g root doc w; few = few } })
 
   pub marked_open : (doc : PlainDoc Mark) → ∥ IsWellMarked g root doc ∥₁ → ∥ HavePossible g root (lists_of doc) doc.mark.left ∥₁
   marked_open doc w = ∥∥₁_map w (λ w. record { verdicts = verdicts_told doc; are_verdicts = doc-told g root doc w; count = doc-left g root doc w })
@@ -83,4 +83,4 @@ module _ (g : PlainDtd) (root : List ℕ) where
 
         -- it is accepted where the document is guarded afterwards
         pub is_accepted : IsGuarded g root (doc_after c doc) → IsAccepted blank_mark g root doc edit (doc_after c doc)
-        is_accepted h = record { is_edited = is_given; within = record { few = few; narrow = narrow_at_all g (doc_after c doc) h.narrow (changed_lists (makes edit)) }; possible = h.possible }
+        is_accepted h = record { is_edited = is_given; within = record { few = few; narrow = narrow_at_all g (doc_after c doc) h.holdable.narrow (changed_lists (makes edit)) }; possible = h.possible }

@@ -12,11 +12,11 @@ use Rattle.pv_tree.specs.declared.nodes.Mark.{Mark}
 use Rattle.pv_tree.specs.declared.nodes.Node.{Node}
 use Rattle.pv_tree.specs.declared.nodes.Verdict.{Verdict}
 use Rattle.pv_tree.specs.declared.nodes.Verdict.TheVariants as verdict
-use Rattle.pv_cache.specs.Laying.{laid, laid_all, lists_in, lists_in_all, numbered}
-use Rattle.pv_cache.specs.Mending.{IsCounted, IsDocCounted, mended, mended_doc}
+use Rattle.pv_cache.specs.Laying.{lay_node, lay_kids, lists_in, lists_in_all, nth_verdict}
+use Rattle.pv_cache.specs.Mending.{IsCounted, IsDocCounted, mend_element, mend_doc}
 use Rattle.pv_cache.specs.WellMarked.{own_left, told_left, told_left_in, told_nodes, told_nodes_in}
 
-pub none_numbered : (vs : List Verdict) (n : ℕ) → slice_get vs n ≡ None → verdict.Valid ≡ numbered vs n
+pub none_numbered : (vs : List Verdict) (n : ℕ) → slice_get vs n ≡ None → verdict.Valid ≡ nth_verdict vs n
 none_numbered [] n e = refl
 none_numbered (v ∷ vs) zero e = absurd cc
 none_numbered (v ∷ vs) (suc n) e = none_numbered vs n e
@@ -39,24 +39,24 @@ own_one verdict.Impossible = omega arith
 
 -- ---- what laid marks tell
 mutual
-  laid_nodes : (vs : List Verdict) (at : ℕ) (t : Tree Mark) → told_nodes (laid vs at t) ≡ nodes_in t
+  laid_nodes : (vs : List Verdict) (at : ℕ) (t : Tree Mark) → told_nodes (lay_node vs at t) ≡ nodes_in t
   laid_nodes vs at (element x a e ks m) = let h = all_laid_nodes vs (suc at) ks in omega arith
   laid_nodes vs at (text_node us) = refl
   laid_nodes vs at (cdata_node b) = refl
   laid_nodes vs at (misc_node b) = refl
 
-  all_laid_nodes : (vs : List Verdict) (at : ℕ) (ks : Forest Mark) → told_nodes_in (laid_all vs at ks) ≡ nodes_in_all ks
+  all_laid_nodes : (vs : List Verdict) (at : ℕ) (ks : Forest Mark) → told_nodes_in (lay_kids vs at ks) ≡ nodes_in_all ks
   all_laid_nodes vs at no_trees = refl
   all_laid_nodes vs at (tree t rest) = let h = laid_nodes vs at t in let k = all_laid_nodes vs (at + lists_in t) rest in omega arith
 
 mutual
-  laid_left : (vs : List Verdict) (at : ℕ) (t : Tree Mark) → told_left (laid vs at t) ≤ nodes_in t
-  laid_left vs at (element x a e ks m) = let h = all_laid_left vs (suc at) ks in let o = own_one (numbered vs at) in omega arith
+  laid_left : (vs : List Verdict) (at : ℕ) (t : Tree Mark) → told_left (lay_node vs at t) ≤ nodes_in t
+  laid_left vs at (element x a e ks m) = let h = all_laid_left vs (suc at) ks in let o = own_one (nth_verdict vs at) in omega arith
   laid_left vs at (text_node us) = omega arith
   laid_left vs at (cdata_node b) = omega arith
   laid_left vs at (misc_node b) = omega arith
 
-  all_laid_left : (vs : List Verdict) (at : ℕ) (ks : Forest Mark) → told_left_in (laid_all vs at ks) ≤ nodes_in_all ks
+  all_laid_left : (vs : List Verdict) (at : ℕ) (ks : Forest Mark) → told_left_in (lay_kids vs at ks) ≤ nodes_in_all ks
   all_laid_left vs at no_trees = omega arith
   all_laid_left vs at (tree t rest) = let h = laid_left vs at t in let k = all_laid_left vs (at + lists_in t) rest in omega arith
 
@@ -80,22 +80,22 @@ still_element (cdata_node b) xs ys h = absurd cc
 still_element (misc_node b) xs ys h = absurd cc
 
 module _ (vs : List Verdict) (at : ℕ) where
-  pub laid_element : (t : Tree Mark) (ts : List (Tree Mark)) → IsTrue (is_element t) → forest_of ts ≡ laid_all vs (at + 1) (forest_of (kids_of t)) → mended (numbered vs at) 0 (with_kids ts (with_kids [] t)) ≡ laid vs at t
+  pub laid_element : (t : Tree Mark) (ts : List (Tree Mark)) → IsTrue (is_element t) → forest_of ts ≡ lay_kids vs (at + 1) (forest_of (kids_of t)) → mend_element (nth_verdict vs at) 0 (with_kids ts (with_kids [] t)) ≡ lay_node vs at t
   laid_element (element x a e ks m) ts h f =
       let n : at + 1 ≡ suc at = omega arith in
-      ap (λ k. mended (numbered vs at) 0 (element x a e k m)) (f ∙ ap (λ i. laid_all vs i (forest_of (kids_of (element x a e ks m)))) n ∙ ap (laid_all vs (suc at)) (forest-trees ks))
+      ap (λ k. mend_element (nth_verdict vs at) 0 (element x a e k m)) (f ∙ ap (λ i. lay_kids vs i (forest_of (kids_of (element x a e ks m)))) n ∙ ap (lay_kids vs (suc at)) (forest-trees ks))
   laid_element (text_node us) ts h f = absurd cc
   laid_element (cdata_node b) ts h f = absurd cc
   laid_element (misc_node b) ts h f = absurd cc
 
-  pub laid_other : (t : Tree Mark) → is_element t ≡ false → t ≡ laid vs at t
+  pub laid_other : (t : Tree Mark) → is_element t ≡ false → t ≡ lay_node vs at t
   laid_other (element x a e ks m) h = absurd cc
   laid_other (text_node us) h = refl
   laid_other (cdata_node b) h = refl
   laid_other (misc_node b) h = refl
 
   -- the numbers can be counted
-  pub laid_counted : (t : Tree Mark) (ts : List (Tree Mark)) → IsTrue (is_element t) → forest_of ts ≡ laid_all vs (at + 1) (forest_of (kids_of t)) → nodes_in t ≤ 2 * MAX_NODES → IsCounted (mended (numbered vs at) 0 (with_kids ts (with_kids [] t)))
+  pub laid_counted : (t : Tree Mark) (ts : List (Tree Mark)) → IsTrue (is_element t) → forest_of ts ≡ lay_kids vs (at + 1) (forest_of (kids_of t)) → nodes_in t ≤ 2 * MAX_NODES → IsCounted (mend_element (nth_verdict vs at) 0 (with_kids ts (with_kids [] t)))
   laid_counted t ts h f small =
       let l = laid_left vs at t in
       let n = laid_nodes vs at t in
@@ -120,7 +120,7 @@ module _ (vs : List Verdict) where
     pub rest : drop i now ≡ drop i before
     pub few : next + nodes_in_all (forest (drop i before)) ≤ number + nodes_in_all (forest before)
     pub count : next + lists_in_all (forest (drop i before)) ≡ number + lists_in_all (forest before)
-    pub laid : (ys : List Node) → forest ys ≡ laid_all vs next (forest (drop i before)) → forest (take i now ++ ys) ≡ laid_all vs number (forest before)
+    pub laid : (ys : List Node) → forest ys ≡ lay_kids vs next (forest (drop i before)) → forest (take i now ++ ys) ≡ lay_kids vs number (forest before)
 
   pub none_laid : (number : ℕ) (before : List Node) → AreLaid number before before 0 number
   none_laid number before = record { size = refl; rest = refl; few = omega arith; count = refl; laid = λ ys e. e }
@@ -141,7 +141,7 @@ module _ (vs : List Verdict) where
     pub kid_smaller : nodes_in (plain kid) ≤ nodes_in_all (forest before)
     kid_smaller = let s = ap nodes_in_all step in let d = fewer i before in omega arith
 
-    module _ (x : Node) (e : plain x ≡ laid vs next (plain kid)) where
+    module _ (x : Node) (e : plain x ≡ lay_node vs next (plain kid)) where
       pub more_laid : AreLaid number before (slice_set now i x) (i + 1) (next + lists_in (plain kid))
       more_laid = record {
         size = length-set now i x ∙ a.size;
@@ -149,22 +149,22 @@ module _ (vs : List Verdict) where
         few = let f = a.few in let s = ap nodes_in_all step in let l = few_lists (plain kid) in omega arith;
         count = let f = a.count in let s = ap lists_in_all step in omega arith;
         laid = λ ys f.
-            let y : forest (x ∷ ys) ≡ laid_all vs next (forest (drop i before)) = ap (λ t. tree t (forest ys)) e ∙ ap (tree (laid vs next (plain kid))) f ∙ ap (laid_all vs next) (sym step) in
+            let y : forest (x ∷ ys) ≡ lay_kids vs next (forest (drop i before)) = ap (λ t. tree t (forest ys)) e ∙ ap (tree (lay_node vs next (plain kid))) f ∙ ap (lay_kids vs next) (sym step) in
             ap forest (ap (λ l. l ++ ys) (take_more_set now i x h) ∙ append_assoc (take i now) (x ∷ []) ys) ∙ a.laid (x ∷ ys) y;
       }
 
-  pub all_laid : (number : ℕ) (before now : List Node) (i next : ℕ) → AreLaid number before now i next → length now ≤ i → (forest now ≡ laid_all vs number (forest before)) × (next ≡ number + lists_in_all (forest before))
+  pub all_laid : (number : ℕ) (before now : List Node) (i next : ℕ) → AreLaid number before now i next → length now ≤ i → (forest now ≡ lay_kids vs number (forest before)) × (next ≡ number + lists_in_all (forest before))
   all_laid number before now i next a h =
       let size = a.size in
       let none : forest (drop i before) ≡ no_trees = ap forest (drop_all i before (omega arith)) in
-      let l : forest (take i now ++ []) ≡ laid_all vs number (forest before) = a.laid [] (sym (ap (laid_all vs next) none)) in
+      let l : forest (take i now ++ []) ≡ lay_kids vs number (forest before) = a.laid [] (sym (ap (lay_kids vs next) none)) in
       let w : take i now ++ [] ≡ now = append-nil (take i now) ∙ take_all i now h in
       let c = a.count in
       let n = ap lists_in_all none in
       (ap forest (sym w) ∙ l, omega arith)
 
 -- the numbers of the document's own mark
-pub root_counted : (vs : List Verdict) (t : Tree Mark) (v : Verdict) (doc : PlainDoc Mark) → nodes_in t ≤ MAX_NODES → doc.root ≡ laid vs 1 t → IsDocCounted (mended_doc [] v None 0 doc)
+pub root_counted : (vs : List Verdict) (t : Tree Mark) (v : Verdict) (doc : PlainDoc Mark) → nodes_in t ≤ MAX_NODES → doc.root ≡ lay_node vs 1 t → IsDocCounted (mend_doc [] v None 0 doc)
 root_counted vs t v doc small e =
     let l = laid_left vs 1 t in
     let n = laid_nodes vs 1 t in

@@ -13,7 +13,7 @@ use Rattle.pv_tree.specs.PlainForms.{plain, plain_all}
 use Rattle.pv_tree.specs.declared.nodes.Mark.{Mark}
 use Rattle.pv_tree.specs.declared.nodes.Node.{Node}
 use Rattle.pv_tree.specs.declared.nodes.Verdict.{Verdict}
-use Rattle.pv_cache.specs.Mending.{CanMend, HasElement, IsCounted, KidIsCounted, TellsAtLeast, mended, mended_below, mended_owner, with_mended_kid, with_told}
+use Rattle.pv_cache.specs.Mending.{CanMend, HasElement, IsCounted, KidIsCounted, TellsAtLeast, mend_element, mend_below, mend_owner, mend_kid, with_told}
 use Rattle.pv_cache.specs.WellMarked.{told_left, told_left_in, told_nodes, told_nodes_in}
 use Rattle.pv_cache.specs.declared.mending.InnerVerdict.{InnerVerdict}
 use Rattle.pv_cache.specs.declared.told.Told.{Told}
@@ -53,15 +53,15 @@ told-same m a b c d p q = ap (λ n. record m { left = n; nodes = b }) p ∙ ap (
 -- what a mend below needs at a kid, and what it finds there
 pub record Below (inner : Option InnerVerdict) (path : List ℕ) (f : Tree Mark → Tree Mark) (t : Tree Mark) (i : ℕ) (k : Tree Mark) : Type 0 where
   pub can : CanMend inner path k
-  pub counted : IsCounted (mended_below path f k)
+  pub counted : IsCounted (mend_below path f k)
   pub at_least : (told_left k ≤ told_left t) × (told_nodes k ≤ told_nodes t)
-  pub told_again : (before after : Told) → before.left ≡ told_left k → before.nodes ≡ told_nodes k → after.left ≡ told_left (mended_below path f k) → after.nodes ≡ told_nodes (mended_below path f k) →
-      with_told before after (change_below (i ∷ []) (mended_below path f) t) ≡ mended_below (i ∷ path) f t
+  pub told_again : (before after : Told) → before.left ≡ told_left k → before.nodes ≡ told_nodes k → after.left ≡ told_left (mend_below path f k) → after.nodes ≡ told_nodes (mend_below path f k) →
+      with_told before after (change_below (i ∷ []) (mend_below path f) t) ≡ mend_below (i ∷ path) f t
 
 below-kid : (inner : Option InnerVerdict) (path : List ℕ) (f : Tree Mark → Tree Mark) (x attrs : List ℕ) (kids : Forest Mark) (m : Mark) (i : ℕ) (k : Tree Mark) → KidAt i kids k → CanMend inner path k → told_left_in kids ≤ m.left → told_nodes_in kids ≤ m.nodes →
-    (e : _) → IsCounted (mended_below (i ∷ path) f (element x attrs e kids m)) → Below inner path f (element x attrs e kids m) i k
+    (e : _) → IsCounted (mend_below (i ∷ path) f (element x attrs e kids m)) → Below inner path f (element x attrs e kids m) i k
 below-kid inner path f x attrs kids m i k q can l n e c =
-    let h = mended_below path f in
+    let h = mend_below path f in
     let sl = sum-left h q in
     let sn = sum-nodes h q in
     let pl = part-left q in
@@ -82,7 +82,7 @@ found : (P : Tree Mark → Type 0) (i : ℕ) (kids : Forest Mark) (o : Option (T
 found P i kids None e h = h
 found P i kids (Some k) e h = (kid_at i kids k e, h)
 
-place-below : (inner : Option InnerVerdict) (path : List ℕ) (f : Tree Mark → Tree Mark) (t : Tree Mark) (i : ℕ) (ks : List Node) (d : Node) → plain_all ks ≡ kids_of t → CanMend inner (i ∷ path) t → IsCounted (mended_below (i ∷ path) f t) →
+place-below : (inner : Option InnerVerdict) (path : List ℕ) (f : Tree Mark → Tree Mark) (t : Tree Mark) (i : ℕ) (ks : List Node) (d : Node) → plain_all ks ≡ kids_of t → CanMend inner (i ∷ path) t → IsCounted (mend_below (i ∷ path) f t) →
     (i < length ks) × Below inner path f t i (plain (get_or ks i d))
 place-below inner path f (element x attrs e kids m) i ks d s can c =
     let p = at-place (λ k. KidAt i kids k × CanMend inner path k) i (trees_of kids) ks d s (found (CanMend inner path) i kids (slice_get (trees_of kids) i) refl can.2) in
@@ -91,12 +91,12 @@ place-below inner path f (text_node us) i ks d s can c = absurd can
 place-below inner path f (cdata_node b) i ks d s can c = absurd can
 place-below inner path f (misc_node b) i ks d s can c = absurd can
 
-pub first-below : (inner : Option InnerVerdict) (path : List ℕ) (f : Tree Mark → Tree Mark) (t : Tree Mark) (ks : List Node) (d : Node) → 1 ≤ length path → plain_all ks ≡ kids_of t → CanMend inner path t → IsCounted (mended_below path f t) →
+pub first-below : (inner : Option InnerVerdict) (path : List ℕ) (f : Tree Mark → Tree Mark) (t : Tree Mark) (ks : List Node) (d : Node) → 1 ≤ length path → plain_all ks ≡ kids_of t → CanMend inner path t → IsCounted (mend_below path f t) →
     (get_or path 0 0 < length ks) × Below inner (take (length path - 1) (drop 1 path)) f t (get_or path 0 0) (plain (get_or ks (get_or path 0 0) d))
 first-below inner path f t ks d n s can c =
-    place-below inner (take (length path - 1) (drop 1 path)) f t (get_or path 0 0) ks d s (subst (λ (q : List ℕ). CanMend inner q t) (path-split path n) can) (subst (λ (q : List ℕ). IsCounted (mended_below q f t)) (path-split path n) c)
+    place-below inner (take (length path - 1) (drop 1 path)) f t (get_or path 0 0) ks d s (subst (λ (q : List ℕ). CanMend inner q t) (path-split path n) can) (subst (λ (q : List ℕ). IsCounted (mend_below q f t)) (path-split path n) c)
 
-pub kid-mended : (inner : InnerVerdict) (stamp : ℕ) (t : Tree Mark) → IsTrue (is_element t) → change_below (inner.place ∷ []) (mended inner.verdict stamp) t ≡ with_mended_kid inner stamp t
+pub kid-mended : (inner : InnerVerdict) (stamp : ℕ) (t : Tree Mark) → IsTrue (is_element t) → change_below (inner.place ∷ []) (mend_element inner.verdict stamp) t ≡ mend_kid inner stamp t
 kid-mended inner stamp (element x attrs e kids m) h = refl
 kid-mended inner stamp (text_node us) h = absurd cc
 kid-mended inner stamp (cdata_node b) h = absurd cc
@@ -105,12 +105,12 @@ kid-mended inner stamp (misc_node b) h = absurd cc
 kid-counted : (h : Tree Mark → Tree Mark) {i : ℕ} {kids : Forest Mark} {k : Tree Mark} → KidAt i kids k → (told_left (h k) ≤ told_left_in (change_kid h i kids)) × (told_nodes (h k) ≤ told_nodes_in (change_kid h i kids))
 kid-counted h q = let sl = sum-left h q in let sn = sum-nodes h q in let pl = part-left q in let pn = part-nodes q in (omega arith, omega arith)
 
-one-counted : (inner : InnerVerdict) (stamp : ℕ) (kids : Forest Mark) (o : Option (Tree Mark)) → slice_get (trees_of kids) inner.place ≡ o → IsSomeAnd o (λ t. IsTrue (is_element t)) → told_left_in (change_kid (mended inner.verdict stamp) inner.place kids) < 2 ^ 64 → told_nodes_in (change_kid (mended inner.verdict stamp) inner.place kids) < 2 ^ 64 →
-    IsSomeAnd o (λ k. IsCounted (mended inner.verdict stamp k))
+one-counted : (inner : InnerVerdict) (stamp : ℕ) (kids : Forest Mark) (o : Option (Tree Mark)) → slice_get (trees_of kids) inner.place ≡ o → IsSomeAnd o (λ t. IsTrue (is_element t)) → told_left_in (change_kid (mend_element inner.verdict stamp) inner.place kids) < 2 ^ 64 → told_nodes_in (change_kid (mend_element inner.verdict stamp) inner.place kids) < 2 ^ 64 →
+    IsSomeAnd o (λ k. IsCounted (mend_element inner.verdict stamp k))
 one-counted inner stamp kids None e h l n = absurd h
-one-counted inner stamp kids (Some k) e h l n = let b = kid-counted (mended inner.verdict stamp) (kid_at inner.place kids k e) in let p = b.0 in let q = b.1 in record { left = omega arith; nodes = omega arith }
+one-counted inner stamp kids (Some k) e h l n = let b = kid-counted (mend_element inner.verdict stamp) (kid_at inner.place kids k e) in let p = b.0 in let q = b.1 in record { left = omega arith; nodes = omega arith }
 
-pub inner-counted : (v : Verdict) (inner : InnerVerdict) (stamp : ℕ) (t : Tree Mark) → HasElement (kids_of t) inner.place → IsCounted (mended_owner v (Some inner) stamp t) → KidIsCounted inner stamp t
+pub inner-counted : (v : Verdict) (inner : InnerVerdict) (stamp : ℕ) (t : Tree Mark) → HasElement (kids_of t) inner.place → IsCounted (mend_owner v (Some inner) stamp t) → KidIsCounted inner stamp t
 inner-counted v inner stamp (element x attrs e kids m) h c = let l = c.left in let n = c.nodes in one-counted inner stamp kids (slice_get (trees_of kids) inner.place) refl h (omega arith) (omega arith)
 inner-counted v inner stamp (text_node us) h c = absurd h
 inner-counted v inner stamp (cdata_node b) h c = absurd h
@@ -125,18 +125,18 @@ same-told i h (misc_node b) = (refl, refl)
 -- one level of the mending of a tree: its kids taken out, one of them mended, put back, and its mark told again
 module _ (inner : Option InnerVerdict) (path : List ℕ) (f : Tree Mark → Tree Mark) (old bare put : Tree Mark) (ks : List Node) (kid new : Node) (before after : Told)
     (n : 1 ≤ length path) (taken : plain_all ks ≡ kids_of old) (rest : bare ≡ with_kids [] old) (is_put : put ≡ with_kids (plain_all (slice_set ks (get_or path 0 0) new)) bare)
-    (is_kid : kid ≡ get_or ks (get_or path 0 0) kid) (made : plain new ≡ mended_below (take (length path - 1) (drop 1 path)) f (plain kid))
+    (is_kid : kid ≡ get_or ks (get_or path 0 0) kid) (made : plain new ≡ mend_below (take (length path - 1) (drop 1 path)) f (plain kid))
     (bl : before.left ≡ told_left (plain kid)) (bn : before.nodes ≡ told_nodes (plain kid)) (al : after.left ≡ told_left (plain new)) (an : after.nodes ≡ told_nodes (plain new))
-    (can : CanMend inner path old) (counted : IsCounted (mended_below path f old)) where
+    (can : CanMend inner path old) (counted : IsCounted (mend_below path f old)) where
   below-it : (get_or path 0 0 < length ks) × Below inner (take (length path - 1) (drop 1 path)) f old (get_or path 0 0) (plain kid)
   below-it = rw is_kid (first-below inner path f old ks kid n taken can counted)
 
-  is-changed : put ≡ change_below (get_or path 0 0 ∷ []) (mended_below (take (length path - 1) (drop 1 path)) f) old
-  is-changed = put_back old bare put (plain_all (slice_set ks (get_or path 0 0) new)) rest is_put ∙ kid-put (mended_below (take (length path - 1) (drop 1 path)) f) (get_or path 0 0) old ks kid new taken below-it.0 is_kid made
+  is-changed : put ≡ change_below (get_or path 0 0 ∷ []) (mend_below (take (length path - 1) (drop 1 path)) f) old
+  is-changed = put_back old bare put (plain_all (slice_set ks (get_or path 0 0) new)) rest is_put ∙ kid-put (mend_below (take (length path - 1) (drop 1 path)) f) (get_or path 0 0) old ks kid new taken below-it.0 is_kid made
 
   pub level-at-least : TellsAtLeast before put
   level-at-least =
-      let same = same-told (get_or path 0 0) (mended_below (take (length path - 1) (drop 1 path)) f) old in
+      let same = same-told (get_or path 0 0) (mend_below (take (length path - 1) (drop 1 path)) f) old in
       let l = below-it.1.at_least.0 in
       let m = below-it.1.at_least.1 in
       let p = ap told_left is-changed in
@@ -145,11 +145,11 @@ module _ (inner : Option InnerVerdict) (path : List ℕ) (f : Tree Mark → Tree
       let y = same.1 in
       (omega arith, omega arith)
 
-  pub level-again : with_told before after put ≡ mended_below path f old
+  pub level-again : with_told before after put ≡ mend_below path f old
   level-again =
       ap (with_told before after) is-changed
       ∙ below-it.1.told_again before after bl bn (al ∙ ap told_left made) (an ∙ ap told_nodes made)
-      ∙ ap (λ (q : List ℕ). mended_below q f old) (sym (path-split path n))
+      ∙ ap (λ (q : List ℕ). mend_below q f old) (sym (path-split path n))
 
   pub level-counted : IsCounted (with_told before after put)
   level-counted = subst IsCounted (sym level-again) counted

@@ -1,3 +1,11 @@
+-- for other crates:
+pub mod OtherMarks
+pub mod ListMarks
+pub mod Widths
+pub mod Alike
+pub mod OneRows
+-- of this crate:
+pub mod Acceptable
 pub mod Marking
 pub mod Around
 pub mod Telling
@@ -8,19 +16,15 @@ pub mod Unmarked
 pub mod Joining
 pub mod Impossible
 pub mod FirstAfter
-pub mod FoundLive
+pub mod Found
 pub mod Tasks
 pub mod Ready
-pub mod OtherMarks
-pub mod ListMarks
 pub mod ListPlaces
-pub mod Widths
-pub mod Alike
 pub mod Stamping
 pub mod Limits
 pub mod Grounds
+pub mod OneGround
 pub mod Laid
 pub mod Moved
 pub mod LaidLevels
 pub mod ToldRows
-pub mod OneRows

@@ -4,7 +4,7 @@ use Rattle.std.specs.List.{AllByRecursion, between, list_any}
 use Rattle.std.specs.Option.{option_and_then, option_map}
 use Rattle.pv_dtd.specs.Plain.{PlainDtd}
 use Rattle.pv_edit.specs.Changes.{Change, Filling, around, change_below, change_kid, doc_after, in_place_of, inner, list_after, named, others, owner_after, root_after, with_name}
-use Rattle.pv_edit.specs.Fitting.{Fits}
+use Rattle.pv_edit.specs.Fitting.{CanFill}
 use Rattle.pv_edit.specs.Reasons.{is_one_element, items_of, kids_at}
 use Rattle.pv_edit.proofs.Cutting.{front-length}
 use Rattle.pv_edit.proofs.Listing.{spot-kid}
@@ -101,7 +101,7 @@ module _ {M : Type 0} where
   named_one x (misc_node b ∷ []) h = absurd cc
   named_one x (t ∷ u ∷ ts) h = absurd cc
 
-  pub brought : (filling : Filling M) (old : List (Tree M)) → BringsBare filling → Fits filling old → brings_element filling ≡ true → IsOne (in_place_of filling old)
+  pub brought : (filling : Filling M) (old : List (Tree M)) → BringsBare filling → CanFill filling old → brings_element filling ≡ true → IsOne (in_place_of filling old)
   brought (others trees) old b f e = one_of trees e (b.1 e)
   brought (around name attrs ending mark) old b f e = record { name = name; attrs = attrs; ending = ending; kids = forest_of old; mark = mark; is_one = refl }
   brought inner old b f e = absurd cc

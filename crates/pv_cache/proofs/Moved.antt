@@ -1,53 +1,60 @@
 -- A change that an edit or an inverse makes, as a move of a document with stamps.
-use Rattle.std.proofs.Common.{◌||◌, List, None, Option, Some, [], ap, arith, length, map, nat_lt, refl, subst, sym, ℕ, ◌+◌, ◌<◌, ◌≤◌, ◌∙◌, ◌∷◌, ◌≡◌, true, false}
+use Rattle.std.proofs.Common.{List, None, Option, Some, [], ap, arith, length, nat_lt, refl, subst, sym, ℕ, ◌+◌, ◌<◌, ◌≤◌, ◌∙◌, ◌∷◌, ◌≡◌, true, false}
 use Rattle.std.proofs.Math.Bridge.{le_prop}
 use Rattle.std.proofs.Math.Logic.{∥∥₁_elim, ∥∥₁_map, ∥∥₁_prop}
 use Rattle.std.proofs.lemmas.Bool.{ltb-false, ltb-true}
 use Rattle.std.proofs.lemmas.Result.{err_from_is_err_and}
 use Rattle.std.specs.Option.{MatchOption}
-use Rattle.std.specs.Prelude.{Err, IfErr, IsNone, Result}
+use Rattle.std.specs.Prelude.{Err, IfErr, IfSome, IsNone, Result}
 use Rattle.std.specs.Result.{IsErr, IsErrAnd}
 use Rattle.std.specs.Coded.{Coded-set, Unit-prop, coded_ℕ, ×_prop}
-use Rattle.std.specs.List.{AllByRecursion, list_any}
+use Rattle.std.specs.List.{AllByRecursion}
 use Rattle.pv_dtd.specs.Plain.{PlainDtd}
 use Rattle.pv_dtd.specs.Proper.{IsProperDtd}
-use Rattle.pv_edit.specs.Brought.{BringsBare, brings_element, lists_changed}
-use Rattle.pv_edit.specs.ChangedLists.{changed_lists, makes}
-use Rattle.pv_edit.specs.Changes.{Change, Filling, around, doc_after, inner, named, others, root_after}
+use Rattle.pv_edit.specs.Brought.{BringsBare, lists_changed}
+use Rattle.pv_edit.specs.ChangedLists.{changed_lists, makes, undoes}
+use Rattle.pv_edit.specs.Changes.{Change, doc_after, root_after}
 use Rattle.pv_edit.specs.Counts.{nodes_made, nodes_taken}
 use Rattle.pv_edit.specs.Effects.{change_of}
 use Rattle.pv_edit.specs.Fitting.{CanChange}
-use Rattle.pv_edit.specs.Inverses.{IsKept, LeadsBack, change_back, inverse_of}
-use Rattle.pv_edit.specs.Laws.{EditsChangeLists, LeadsToOne, NodesAreCounted}
-use Rattle.pv_edit.specs.Reasons.{applied, gives, is_top, reason_of}
+use Rattle.pv_edit.specs.Inverses.{IsKept, LeadsBack, change_back, doc_back, inverse_of}
+use Rattle.pv_edit.specs.Laws.{EditsChangeLists, InversesChangeLists, LeadsToOne, NodesAreCounted}
+use Rattle.pv_edit.specs.Reasons.{applied, gives, is_top, kids_at, reason_of}
 use Rattle.pv_edit.specs.Refusals.{IsRefused, refusal_of}
 use Rattle.pv_edit.specs.declared.answers.EditAnswer.{EditAnswer}
-use Rattle.pv_edit.specs.declared.answers.EditAnswer.TheVariants.{Impossible, Limit, Shape}
+use Rattle.pv_edit.specs.declared.answers.EditAnswer.TheVariants.{Limit, Shape}
 use Rattle.pv_edit.specs.declared.edits.Edit.{Edit}
 use Rattle.pv_edit.specs.declared.reasons.EditError.{EditError}
 use Rattle.pv_edit.specs.declared.reasons.EditError.TheVariants as error
 use Rattle.pv_edit.specs.declared.inverses.Inverse.{Inverse}
 use Rattle.pv_edit.proofs.KeptBack.{can-made}
-use Rattle.pv_edit.proofs.Remarked.{back-as, change_as, element-as, filling_as}
 use Rattle.pv_edit.proofs.RemarkedReasons.{inverse-as}
 use Rattle.pv_missing.specs.DocumentLaws.{IsPotentiallyValidByLists}
 use Rattle.pv_missing.specs.Verdicts.{HaveVerdicts, IsFirstImpossible, IsLive, PlainVerdicts}
 use Rattle.pv_missing.specs.Widths.{IsListForVerdict}
 use Rattle.pv_tree.specs.Lists.{lists_of}
 use Rattle.pv_tree.specs.Marks.{blank_mark, unmarked_doc}
-use Rattle.pv_tree.specs.Plain.{PlainDoc, Tree, is_element, map_marks, nodes_in}
+use Rattle.pv_tree.specs.Plain.{PlainDoc, nodes_in}
 use Rattle.pv_tree.specs.declared.nodes.Mark.{Mark}
-use Rattle.pv_cache.specs.Accepting.{IsGuarded, MAX_EDITED_NODES}
-use Rattle.pv_cache.specs.Changing.{IsUnaccepted}
+use Rattle.pv_tree.specs.declared.nodes.Verdict.{Verdict}
+use Rattle.pv_tree.specs.declared.nodes.Verdict.TheVariants as verdict
+use Rattle.pv_cache.specs.Accepting.{IsAccepted, IsGuarded, IsHoldable, MAX_EDITED_NODES}
+use Rattle.pv_cache.specs.Changed.{AreJudged, AreLive, owner_at}
+use Rattle.pv_cache.specs.Changing.{AreNarrowAfter, IsUnaccepted}
+use Rattle.pv_cache.specs.Mending.{mend_doc}
+use Rattle.pv_cache.specs.declared.mending.InnerVerdict.{InnerVerdict}
+use Rattle.pv_cache.specs.declared.moving.JudgedEdit.{JudgedEdit}
+use Rattle.pv_cache.proofs.Ready.{ready-marked}
+use Rattle.pv_cache.proofs.Tasks.{judged-live}
 use Rattle.pv_cache.specs.Moves.{HasGround, HasOpen, IsEdited, IsReverted}
-use Rattle.pv_cache.specs.Stamps.{doc_as, stamp_of, stamped, stamped_by, stamps_of}
+use Rattle.pv_cache.specs.Stamps.{doc_as, stamp_of, stamp_lists, stamped_doc_of, stamps_of}
 use Rattle.pv_cache.specs.WellMarked.{IsWellMarked}
 use Rattle.pv_cache.proofs.Alike.{accepted_as, ground_as, guarded_alike, open_to, reverted_as, unmarked_as}
-use Rattle.pv_cache.proofs.Grounds.{is_accepted, is_given, kept_proper, many_ground, marked_guarded, marked_open, none_first, refused_ground}
+use Rattle.pv_cache.proofs.Grounds.{is_accepted, is_given, kept_proper, many_ground, marked_guarded, marked_open, refused_ground}
 use Rattle.pv_cache.proofs.Limits.{paths_narrow}
 use Rattle.pv_cache.proofs.OtherMarks.{nodes_unmarked}
 use Rattle.pv_cache.proofs.Telling.{doc-nodes}
-use Rattle.pv_cache.proofs.Unmarked.{still-kept}
+use Rattle.pv_cache.proofs.Unmarked.{doc-as, still-kept}
 use Rattle.pv_cache.proofs.Widths.{narrow_at_all}
 use Rattle.pv_edit.specs.declared.answers.Done.{Done}
 
@@ -56,29 +63,17 @@ all_prop : {A : Type 0} (P : A → Type 0) → ((x : A) → IsProp (P x)) → (x
 all_prop P p [] = Unit-prop
 all_prop P p (x ∷ xs) = ×_prop (p x) (all_prop P p xs)
 
+holdable_prop : {M : Type 0} (g : PlainDtd) (doc : PlainDoc M) → IsProp (IsHoldable g doc)
+holdable_prop g doc = λ x y.
+    let n = all_prop (IsListForVerdict g) (λ list. le_prop) (lists_of doc) x.narrow y.narrow in
+    let f = le_prop x.few y.few in
+    ap (λ q. record { narrow = q; few = x.few }) n ∙ ap (λ q. record { narrow = y.narrow; few = q }) f
+
 pub guarded_prop : {M : Type 0} (g : PlainDtd) (root : List ℕ) (doc : PlainDoc M) → IsProp (IsGuarded g root doc)
 guarded_prop g root doc = λ x y.
     let p = ∥∥₁_prop x.possible y.possible in
-    let n = all_prop (IsListForVerdict g) (λ list. le_prop) (lists_of doc) x.narrow y.narrow in
-    let f = le_prop x.few y.few in
-    ap (λ q. record { possible = q; narrow = x.narrow; few = x.few }) p
-    ∙ ap (λ q. record { possible = y.possible; narrow = q; few = x.few }) n
-    ∙ ap (λ q. record { possible = y.possible; narrow = y.narrow; few = q }) f
-
--- ---- the lists of a change, whatever the marks are
-module _ {M N : Type 0} (f : M → N) where
-  any_as : (ts : List (Tree M)) → list_any is_element (map (map_marks f) ts) ≡ list_any is_element ts
-  any_as [] = refl
-  any_as (t ∷ ts) = ap (λ b. b || list_any is_element (map (map_marks f) ts)) (element-as f t) ∙ ap (λ b. is_element t || b) (any_as ts)
-
-  brings_as : (x : Filling M) → brings_element (filling_as f x) ≡ brings_element x
-  brings_as (others trees) = any_as trees
-  brings_as (around name attrs ending mark) = refl
-  brings_as inner = refl
-  brings_as (named name) = refl
-
-  pub lists_changed_as : (c : Change M) → lists_changed (change_as f c) ≡ lists_changed c
-  lists_changed_as c = rw (brings_as c.filling) refl
+    let h = holdable_prop g doc x.holdable y.holdable in
+    ap (λ q. record { possible = q; holdable = x.holdable }) p ∙ ap (λ q. record { possible = y.possible; holdable = q }) h
 
 module _ (g : PlainDtd) (root : List ℕ) where
   -- ---- a well marked document
@@ -96,7 +91,7 @@ module _ (g : PlainDtd) (root : List ℕ) where
       by None h n = h
       by (Some path) h n = absurd cc
 
-  pub open_stamps : (doc : PlainDoc Mark) → ∥ IsWellMarked g root doc ∥₁ → HasOpen (stamped_by g root doc) doc.mark.left
+  pub open_stamps : (doc : PlainDoc Mark) → ∥ IsWellMarked g root doc ∥₁ → HasOpen (stamped_doc_of g root doc) doc.mark.left
   open_stamps doc w = ∥∥₁_map (marked_open g root doc w) (open_to stamp_of doc g root doc.mark.left)
 
   -- ---- an edit
@@ -124,9 +119,23 @@ module _ (g : PlainDtd) (root : List ℕ) where
 
     -- an edit that is made
     abbrev Makes : Change Mark → Type 0
-    Makes ch = (new : PlainDoc Mark) → ∥ IsWellMarked g root new ∥₁ → unmarked_doc new ≡ unmarked_doc (doc_after ch old) → (stamp : ℕ) → stamps_of new ≡ stamped stamp (lists_changed ch) (stamps_of (doc_after ch old)) →
+    Makes ch = (new : PlainDoc Mark) → ∥ IsWellMarked g root new ∥₁ → (stamp : ℕ) → stamps_of new ≡ stamp_lists stamp (lists_changed ch) (stamps_of (doc_after ch old)) →
         (done : Done) → done.checked ≡ length (lists_changed ch) → done.left ≡ new.mark.left → (inverse : Inverse) → inverse ≡ inverse_of old.root edit →
-        IsEdited (stamped_by g root old) edit stamp done inverse (stamped_by g root new)
+        IsEdited (stamped_doc_of g root old) edit stamp done inverse (stamped_doc_of g root new)
+
+    module _ (accepted : IsAccepted 0 g root (stamps_of old) edit (stamps_of (doc_after c old))) where
+      made_here : Makes c
+      made_here new w stamp stamps done checked left inverse is = record {
+        edited = stamps_of (doc_after c old);
+        accepted = accepted;
+        is_after = ap (λ (d : PlainDoc ℕ). record { dtd = g; root = root; doc = d }) (stamps ∙ ap (λ ls. stamp_lists stamp ls (stamps_of (doc_after c old))) same_lists);
+        is_checked = checked ∙ ap length same_lists;
+        is_left = subst (HasOpen (stamped_doc_of g root new)) (sym left) (open_stamps new w);
+        is_inverse = is ∙ sym (inverse-as stamp_of old.root edit);
+      }
+
+      pub edit_made : (ch : Change Mark) → ch ≡ c → Makes ch
+      edit_made ch e = subst Makes (sym e) made_here
 
     -- or refused
     abbrev Refuses : Change Mark → Type 0
@@ -141,109 +150,102 @@ module _ (g : PlainDtd) (root : List ℕ) where
           let b = nodes_unmarked (doc_after c old).root in
           omega arith
 
-      made_here : Ready c → Makes c
-      made_here (can, unshort, bare, kept) new w same stamp stamps done checked left inverse is =
+      -- it is accepted where none of the changed lists is Impossible
+      abbrev Accepts : Change Mark → Type 0
+      Accepts ch = (v : Verdict) (within : Option InnerVerdict) → AreJudged g root (owner_at ch.list old.root) (kids_at ch.list old.root) ch v within → AreLive v within → IsAccepted 0 g root (stamps_of old) edit (stamps_of (doc_after c old))
+
+      accepted_here : ∥ IsWellMarked g root old ∥₁ → Ready c → Accepts c
+      accepted_here w (can, unshort, bare, kept) v i j l =
+          let new = mend_doc c.list v i 0 (doc_after c old) in
+          let marked = ready-marked g root old c v i 0 can unshort bare j l w in
+          let same : unmarked_doc new ≡ unmarked_doc (doc_after c old) = doc-as c.list v i 0 (doc_after c old) in
           let still = still-kept (doc_after c old).root new.root (ap (λ (d : PlainDoc Unit). d.root) same) kept in
-          let guarded = guarded_of new by p still (few_new c refl new same) w in
-          record {
-            edited = stamps_of (doc_after c old);
-            accepted =
-                accepted_as stamp_of blank_mark g root old edit (doc_after c old)
-                (is_accepted g root old edit given same_lists can unshort bare few (guarded_alike g root new (doc_after c old) same guarded));
-            is_after = ap (λ (d : PlainDoc ℕ). record { dtd = g; root = root; doc = d }) (stamps ∙ ap (λ ls. stamped stamp ls (stamps_of (doc_after c old))) same_lists);
-            is_checked = checked ∙ ap length same_lists;
-            is_left = subst (HasOpen (stamped_by g root new)) (sym left) (open_stamps new w);
-            is_inverse = is ∙ sym (inverse-as stamp_of old.root edit);
-          }
+          let guarded = guarded_of new by p still (few_new c refl new same) marked in
+          accepted_as stamp_of blank_mark g root old edit (doc_after c old)
+          (is_accepted g root old edit given same_lists can unshort bare few (guarded_alike g root new (doc_after c old) same guarded))
+
+      pub edit_accepted : ∥ IsWellMarked g root old ∥₁ → (ch : Change Mark) → ch ≡ c → Ready ch → Accepts ch
+      edit_accepted w ch e r = subst Accepts (sym e) (accepted_here w (subst Ready e r))
 
       refused_here : ∥ IsWellMarked g root old ∥₁ → Ready c → Refuses c
       refused_here w (can, unshort, bare, kept) a u = ground_as stamp_of blank_mark g root old edit a (refused_ground g root old edit given same_lists can unshort bare few by p kept w a u)
-
-      pub edit_made : (ch : Change Mark) → ch ≡ c → Ready ch → Makes ch
-      edit_made ch e r = subst Makes (sym e) (made_here (subst Ready e r))
 
       pub edit_refused : ∥ IsWellMarked g root old ∥₁ → (ch : Change Mark) → ch ≡ c → Ready ch → Refuses ch
       edit_refused w ch e r = subst Refuses (sym e) (refused_here w (subst Ready e r))
 
   -- ---- an inverse
-  module _ (old : PlainDoc Mark) (inverse : Inverse) (stamp : ℕ) (before : PlainDoc Unit) (l : LeadsBack inverse old before) (one : LeadsToOne Mark) (guarded : IsGuarded g root before) where
-    abbrev back : Change Mark
-    back = change_back blank_mark old.root inverse
+  module _ (old : PlainDoc Mark) (inverse : Inverse) (before : PlainDoc Unit) (l : LeadsBack inverse old before) (one : LeadsToOne Mark) (ch : Change Mark) (e : ch ≡ change_back blank_mark old.root inverse) where
+    is_before : unmarked_doc (doc_after ch old) ≡ before
+    is_before = ap (λ (d : Change Mark). unmarked_doc (doc_after d old)) e ∙ sym (reverted_as (λ _. tt) blank_mark old inverse) ∙ one inverse old before l
 
-    pub is_before : unmarked_doc (doc_after back old) ≡ before
-    is_before = sym (reverted_as (λ _. tt) blank_mark old inverse) ∙ one inverse old before l
+    -- where that document can be held, and inserting elements can make it valid
+    module _ (guarded : IsGuarded g root before) where
+      guarded_back : IsGuarded g root (doc_after ch old)
+      guarded_back = guarded_alike g root before (doc_after ch old) (ap unmarked_doc (sym is_before) ∙ unmarked_as (λ _. tt) (doc_after ch old)) guarded
 
-    pub guarded_back : IsGuarded g root (doc_after back old)
-    guarded_back = guarded_alike g root before (doc_after back old) (ap unmarked_doc (sym is_before) ∙ unmarked_as (λ _. tt) (doc_after back old)) guarded
+      pub back_few : nodes_in (doc_after ch old).root ≤ MAX_EDITED_NODES
+      back_few = guarded_back.holdable.few
 
-    pub few_back : nodes_in (doc_after back old).root ≤ MAX_EDITED_NODES
-    few_back = guarded_back.few
+      module _ (can : CanChange ch.list ch old.root) (unshort : is_top ch.list ≡ true → ch.shorten ≡ false) where
+        pub back_narrow : BringsBare ch.filling → AreNarrowAfter g ch (kids_at ch.list old.root)
+        back_narrow bare =
+            let d = can-made old.mark ch.list ch old.root can unshort in
+            paths_narrow g old ch bare d.0 d.1 (narrow_at_all g (doc_after ch old) guarded_back.holdable.narrow (lists_changed ch))
 
-    module _ (by : IsPotentiallyValidByLists Mark) (p : IsProperDtd g) (k : IsKept (doc_after back old).root) (w : ∥ IsWellMarked g root old ∥₁) where
-      pub not_impossible : (path : List ℕ) → IsUnaccepted g root old back (Impossible path) → ⊥
-      not_impossible path u =
-          ∥∥₁_elim w (λ x. absurd x)
-          (λ m. ∥∥₁_elim guarded_back.possible (λ x. absurd x) (λ v. none_first (IsLive g root) (lists_of (doc_after back old)) path ((by g root (doc_after back old) p (kept_proper (doc_after back old) k)).0 v) (u.1 m)))
+        module _ (by : IsPotentiallyValidByLists Mark) (p : IsProperDtd g) (k : IsKept (root_after ch.list ch old.root)) (w : ∥ IsWellMarked g root old ∥₁) (v : Verdict) (within : Option InnerVerdict)
+            (j : AreJudged g root (owner_at ch.list old.root) (kids_at ch.list old.root) ch v within) where
+          surely_live : (AreLive v within → ⊥) → ⊥
+          surely_live n =
+              ∥∥₁_elim w (λ x. absurd x)
+              (λ m. ∥∥₁_elim guarded_back.possible (λ x. absurd x) (λ valid. n (judged-live g root old ch can unshort v within j m ((by g root (doc_after ch old) p (kept_proper (doc_after ch old) k)).0 valid))))
 
-    pub not_wide : CanChange back.list back old.root → (is_top back.list ≡ true → back.shorten ≡ false) → BringsBare back.filling → IsUnaccepted g root old back Limit → ⊥
-    not_wide can unshort bare u =
-        let d = can-made old.mark back.list back old.root can unshort in
-        u (paths_narrow g old back bare d.0 d.1 (narrow_at_all g (doc_after back old) guarded_back.narrow (lists_changed back)))
+          -- none of the changed lists is Impossible
+          pub back_live : AreLive v within
+          back_live = record { outer = λ e. surely_live (λ live. live.outer e); inner = inside within (λ n. surely_live (λ live. n live.inner)) }
+            where
+              inside : (o : Option InnerVerdict) → ((IfSome o (λ i. i.verdict ≡ verdict.Impossible → ⊥) → ⊥) → ⊥) → IfSome o (λ i. i.verdict ≡ verdict.Impossible → ⊥)
+              inside None h = tt
+              inside (Some i) h = λ e. h (λ live. live e)
 
-    pub back_made : (new : PlainDoc Mark) → ∥ IsWellMarked g root new ∥₁ → stamps_of new ≡ stamped stamp (lists_changed back) (stamps_of (doc_after back old)) →
-        (done : Done) → done.checked ≡ length (lists_changed back) → done.left ≡ new.mark.left → IsReverted (stamped_by g root old) inverse stamp done (stamped_by g root new)
-    back_made new w stamps done checked left =
-        let change : change_as stamp_of back ≡ change_back 0 (map_marks stamp_of old.root) inverse = back-as stamp_of blank_mark old.root inverse in
-        let lists : lists_changed back ≡ lists_changed (change_back 0 (map_marks stamp_of old.root) inverse) = sym (lists_changed_as stamp_of back) ∙ ap lists_changed change in
-        record {
-          is_after =
-              ap (λ (d : PlainDoc ℕ). record { dtd = g; root = root; doc = d })
-              (stamps ∙ ap (λ ls. stamped stamp ls (stamps_of (doc_after back old))) lists
-              ∙ ap (stamped stamp (lists_changed (change_back 0 (map_marks stamp_of old.root) inverse))) (sym (reverted_as stamp_of blank_mark old inverse)));
-          is_checked = checked ∙ ap length lists;
-          is_left = subst (HasOpen (stamped_by g root new)) (sym left) (open_stamps new w);
-        }
+    -- the change that is made
+    module _ (undone : InversesChangeLists Mark) (stamp : ℕ) where
+      same_undone : lists_changed ch ≡ changed_lists (undoes l.edit)
+      same_undone =
+          ap lists_changed e ∙ ap (λ (i : Inverse). lists_changed (change_back blank_mark old.root i)) (sym l.is_inverse)
+          ∙ undone blank_mark old.root before (unmarked_doc old) l.edit l.is_edited
 
-    -- the same of a change that is that of the inverse
-    module _ (ch : Change Mark) (e : ch ≡ back) where
-      same_after : unmarked_doc (doc_after ch old) ≡ before
-      same_after = ap (λ (d : Change Mark). unmarked_doc (doc_after d old)) e ∙ is_before
+      same_stamps : stamps_of (doc_after ch old) ≡ doc_back 0 (stamps_of old) inverse
+      same_stamps = ap (λ (d : Change Mark). stamps_of (doc_after d old)) e ∙ sym (reverted_as stamp_of blank_mark old inverse)
 
-      pub back_few : (new : PlainDoc Mark) → unmarked_doc new ≡ unmarked_doc (doc_after ch old) → nodes_in new.root ≤ MAX_EDITED_NODES
-      back_few new same =
-          let n = ap (λ (d : PlainDoc Unit). nodes_in d.root) (same ∙ same_after) in
-          let a = nodes_unmarked new.root in
-          let f = guarded.few in
-          omega arith
-
-      pub back_possible : IsPotentiallyValidByLists Mark → IsProperDtd g → IsKept (root_after ch.list ch old.root) → ∥ IsWellMarked g root old ∥₁ → (path : List ℕ) → IsUnaccepted g root old ch (Impossible path) → ⊥
-      back_possible by p k w path u =
-          not_impossible by p (subst (λ (d : Change Mark). IsKept (root_after d.list d old.root)) e k) w path (subst (λ (d : Change Mark). IsUnaccepted g root old d (Impossible path)) e u)
-
-      abbrev Fits_ : Change Mark → Type 0
-      Fits_ d = CanChange d.list d old.root × (is_top d.list ≡ true → d.shorten ≡ false) × BringsBare d.filling
-
-      pub back_narrow : CanChange ch.list ch old.root → (is_top ch.list ≡ true → ch.shorten ≡ false) → BringsBare ch.filling → IsUnaccepted g root old ch Limit → ⊥
-      back_narrow can unshort bare u =
-          let f = subst Fits_ e (can, unshort, bare) in
-          not_wide f.0 f.1 f.2 (subst (λ (d : Change Mark). IsUnaccepted g root old d Limit) e u)
-
-      pub back_reverted : (new : PlainDoc Mark) → ∥ IsWellMarked g root new ∥₁ → stamps_of new ≡ stamped stamp (lists_changed ch) (stamps_of (doc_after ch old)) →
-          (done : Done) → done.checked ≡ length (lists_changed ch) → done.left ≡ new.mark.left → IsReverted (stamped_by g root old) inverse stamp done (stamped_by g root new)
-      back_reverted new w stamps done checked left =
-          back_made new w (stamps ∙ ap (λ (d : Change Mark). stamped stamp (lists_changed d) (stamps_of (doc_after d old))) e) done (checked ∙ ap (λ (d : Change Mark). length (lists_changed d)) e) left
+      pub back_made : (new : PlainDoc Mark) → ∥ IsWellMarked g root new ∥₁ → unmarked_doc new ≡ unmarked_doc (doc_after ch old) → stamps_of new ≡ stamp_lists stamp (lists_changed ch) (stamps_of (doc_after ch old)) →
+          (done : Done) → done.checked ≡ length (lists_changed ch) → done.left ≡ new.mark.left → IsReverted (stamped_doc_of g root old) inverse l.edit before stamp done (stamped_doc_of g root new)
+      back_made new w made stamps done checked left = record {
+        led = unmarked_as stamp_of new ∙ made ∙ is_before;
+        is_after =
+            ap (λ (d : PlainDoc ℕ). record { dtd = g; root = root; doc = d })
+            (stamps ∙ ap (λ ls. stamp_lists stamp ls (stamps_of (doc_after ch old))) same_undone ∙ ap (stamp_lists stamp (changed_lists (undoes l.edit))) same_stamps);
+        is_checked = checked ∙ ap length same_undone;
+        is_left = subst (HasOpen (stamped_doc_of g root new)) (sym left) (open_stamps new w);
+      }
 
   -- ---- an edit that can't be made
-  pub not_shaped : (old : PlainDoc Mark) (edit : Edit) (e : EditError) → IsRefused (applied blank_mark old edit) e → (r : Result (Done × Inverse) EditAnswer) → IsErr r × IsErrAnd r (λ a. a ≡ refusal_of e) → IfErr r (HasGround 0 g root (stamps_of old) edit)
+  pub not_shaped : (old : PlainDoc Mark) (edit : Edit) (e : EditError) → IsRefused (applied blank_mark old edit) e → (r : Result JudgedEdit EditAnswer) → IsErr r × IsErrAnd r (λ a. a ≡ refusal_of e) → IfErr r (HasGround 0 g root (stamps_of old) edit)
   not_shaped old edit e h r s = by e h r (err_from_is_err_and r s.1)
     where
       ground : (e : EditError) → IsRefused (applied blank_mark old edit) e → HasGround 0 g root (stamps_of old) edit (refusal_of e)
       ground (error.Shape reason) h = ground_as stamp_of blank_mark g root old edit (Shape reason) h
       ground error.NoMemory h = tt
 
-      by : (e : EditError) → IsRefused (applied blank_mark old edit) e → (r : Result (Done × Inverse) EditAnswer) → (a : EditAnswer) × (r ≡ Err a) × (a ≡ refusal_of e) → IfErr r (HasGround 0 g root (stamps_of old) edit)
+      by : (e : EditError) → IsRefused (applied blank_mark old edit) e → (r : Result JudgedEdit EditAnswer) → (a : EditAnswer) × (r ≡ Err a) × (a ≡ refusal_of e) → IfErr r (HasGround 0 g root (stamps_of old) edit)
       by e h r (a, is, same) = rw (is, same) (ground e h)
 
 -- an inverse leads back from a document whatever its marks are
 pub leads_from : {M N : Type 0} (f : M → N) (doc : PlainDoc M) (inverse : Inverse) (before : PlainDoc Unit) → LeadsBack inverse (doc_as f doc) before → LeadsBack inverse doc before
 leads_from f doc inverse before l = record { edit = l.edit; kept = l.kept; is_edited = l.is_edited ∙ ap gives (unmarked_as f doc); is_inverse = l.is_inverse }
+
+-- the same document for the same DTD and root's name
+pub same_ground : (g h : PlainDtd) (root name : List ℕ) (doc : PlainDoc Mark) → g ≡ h → root ≡ name → ∥ IsWellMarked g root doc ∥₁ → ∥ IsWellMarked h name doc ∥₁
+same_ground g h root name doc p q w = subst (λ (x : List ℕ). ∥ IsWellMarked h x doc ∥₁) q (subst (λ (d : PlainDtd). ∥ IsWellMarked d root doc ∥₁) p w)
+
+pub stamped_ground : {g h : PlainDtd} {root name : List ℕ} (doc : PlainDoc Mark) → g ≡ h → root ≡ name → stamped_doc_of g root doc ≡ stamped_doc_of h name doc
+stamped_ground doc p q = cc

@@ -3,11 +3,10 @@ use Rattle.std.proofs.Common.{List, [], ap, map, refl, subst, sym, ℕ, ◌∙�
 use Rattle.std.proofs.Math.Logic.{∥∥₁_elim}
 use Rattle.std.specs.Coded.{Coded-set, coded_list, coded_ℕ}
 use Rattle.pv_edit.specs.declared.answers.VerdictRow.{VerdictRow}
-use Rattle.pv_missing.specs.Verdicts.{AreVerdicts, HavePossible, possible_in}
+use Rattle.pv_missing.specs.Verdicts.{HavePossible, possible_in}
 use Rattle.pv_missing.proofs.VerdictLists.{one_list_of_verdicts}
 use Rattle.pv_tree.specs.Lists.{Listed, lists_of}
 use Rattle.pv_tree.specs.contracts.nodes.Verdict as verdict
-use Rattle.pv_tree.specs.declared.nodes.Verdict.{Verdict}
 use Rattle.pv_dtd.specs.Plain.{PlainDtd}
 use Rattle.pv_cache.specs.Moves.{HasOpen}
 use Rattle.pv_cache.specs.Rows.{AreRows, row_path, row_stamp, row_verdict}

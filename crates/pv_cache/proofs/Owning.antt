@@ -14,24 +14,24 @@ use Rattle.pv_tree.specs.Places.{kids_of}
 use Rattle.pv_tree.specs.Plain.{Ending, Forest, Tree, cdata_node, element, forest_of, is_element, misc_node, no_trees, text_node, tree, trees_of}
 use Rattle.pv_tree.specs.declared.nodes.Mark.{Mark}
 use Rattle.pv_tree.specs.declared.nodes.Verdict.{Verdict}
-use Rattle.pv_cache.specs.Changed.{AreJudged, IsAcceptable, IsInnerJudged, IsOneAcceptable}
-use Rattle.pv_cache.specs.Mending.{fresh_mark, mended, mended_kids, mended_owner}
+use Rattle.pv_cache.proofs.Acceptable.{AreAcceptable, IsAcceptable, IsInnerAcceptable, IsOneAcceptable}
+use Rattle.pv_cache.specs.Mending.{fresh_mark, mend_element, mend_kids, mend_owner}
 use Rattle.pv_cache.specs.declared.mending.InnerVerdict.{InnerVerdict}
 use Rattle.pv_cache.specs.WellMarked.{EachList, EachListIn, TellsList}
 use Rattle.pv_cache.proofs.Marking.{all-joined, all-spliced, all-front, all-between, all-back}
 
-mended-head : (v : Verdict) (stamp : ℕ) (t : Tree Mark) → head_of (mended v stamp t) ≡ head_of t
+mended-head : (v : Verdict) (stamp : ℕ) (t : Tree Mark) → head_of (mend_element v stamp t) ≡ head_of t
 mended-head v stamp (element x a e k m) = refl
 mended-head v stamp (text_node us) = refl
 mended-head v stamp (cdata_node b) = refl
 mended-head v stamp (misc_node b) = refl
 
-mended-heads : (v : Verdict) (stamp i : ℕ) (kids : Forest Mark) → heads_of (change_kid (mended v stamp) i kids) ≡ heads_of kids
+mended-heads : (v : Verdict) (stamp i : ℕ) (kids : Forest Mark) → heads_of (change_kid (mend_element v stamp) i kids) ≡ heads_of kids
 mended-heads v stamp i no_trees = refl
 mended-heads v stamp zero (tree t rest) = ap (λ h. h ∷ heads_of rest) (mended-head v stamp t)
 mended-heads v stamp (suc i) (tree t rest) = ap (λ l. head_of t ∷ l) (mended-heads v stamp i rest)
 
-pub kids-heads : (inner : Option InnerVerdict) (stamp : ℕ) (kids : Forest Mark) → heads_of (mended_kids inner stamp kids) ≡ heads_of kids
+pub kids-heads : (inner : Option InnerVerdict) (stamp : ℕ) (kids : Forest Mark) → heads_of (mend_kids inner stamp kids) ≡ heads_of kids
 kids-heads None stamp kids = refl
 kids-heads (Some i) stamp kids = mended-heads i.verdict stamp i.place kids
 
@@ -98,30 +98,30 @@ module _ (g : PlainDtd) (root : List ℕ) where
   came-kids (named name) (t ∷ old) n h z e w = let s : with_name name t ≡ n = cc in renamed-kids name t n s w.0
 
   came-marked : (f : Filling Mark) (old : List (Tree Mark)) (stamp : ℕ) (v : Verdict) → brings_element f ≡ true → HaveNoKids f → (b : IsOneAcceptable g root (in_place_of f old) v) → EachListIn (TellsList g root) (forest_of old) →
-      EachList (TellsList g root) (mended v stamp (element b.name b.attrs b.ending b.kids b.mark))
+      EachList (TellsList g root) (mend_element v stamp (element b.name b.attrs b.ending b.kids b.mark))
   came-marked f old stamp v h z b w =
       (fresh-tells (an_element b.name) b.kids b.kids v stamp refl b.list, rw (← forest-trees b.kids) (came-kids f old (element b.name b.attrs b.ending b.kids b.mark) h z b.is_one w))
 
   -- the list after the change, mended
-  pub list-marked : (c : Change Mark) (ts : List (Tree Mark)) (inner2 : Option InnerVerdict) (stamp : ℕ) → c.from ≤ c.to → c.to ≤ length ts → HaveNoKids c.filling → IsInnerJudged g root c (in_place_of c.filling (between c.from c.to ts)) inner2 →
-      EachListIn (TellsList g root) (forest_of ts) → EachListIn (TellsList g root) (mended_kids inner2 stamp (forest_of (list_after c ts)))
+  pub list-marked : (c : Change Mark) (ts : List (Tree Mark)) (inner2 : Option InnerVerdict) (stamp : ℕ) → c.from ≤ c.to → c.to ≤ length ts → HaveNoKids c.filling → IsInnerAcceptable g root c (in_place_of c.filling (between c.from c.to ts)) inner2 →
+      EachListIn (TellsList g root) (forest_of ts) → EachListIn (TellsList g root) (mend_kids inner2 stamp (forest_of (list_after c ts)))
   list-marked c ts None stamp h l z j w = all-spliced (TellsList g root) ts (in_place_of c.filling (between c.from c.to ts)) c.from c.to h w (none-came c.filling (between c.from c.to ts) j (all-between (TellsList g root) ts c.from c.to h w))
   list-marked c ts (Some i) stamp h l z j w =
       let b = j.2 in
       let n = element b.name b.attrs b.ending b.kids b.mark in
       let front = front-length ts c.from c.to h l in
       let place : i.place ≡ length (take c.from ts) = j.1 ∙ sym front in
-      let is : mended_kids (Some i) stamp (forest_of (list_after c ts)) ≡ forest_of (take c.from ts ++ (mended i.verdict stamp n ∷ drop c.to ts)) =
-      ap (λ (l : List (Tree Mark)). change_kid (mended i.verdict stamp) i.place (forest_of (take c.from ts ++ (l ++ drop c.to ts)))) b.is_one
-      ∙ ap (λ (k : ℕ). change_kid (mended i.verdict stamp) k (forest_of (take c.from ts ++ (n ∷ drop c.to ts)))) place
-      ∙ among (mended i.verdict stamp) (take c.from ts) (drop c.to ts) n in
+      let is : mend_kids (Some i) stamp (forest_of (list_after c ts)) ≡ forest_of (take c.from ts ++ (mend_element i.verdict stamp n ∷ drop c.to ts)) =
+      ap (λ (l : List (Tree Mark)). change_kid (mend_element i.verdict stamp) i.place (forest_of (take c.from ts ++ (l ++ drop c.to ts)))) b.is_one
+      ∙ ap (λ (k : ℕ). change_kid (mend_element i.verdict stamp) k (forest_of (take c.from ts ++ (n ∷ drop c.to ts)))) place
+      ∙ among (mend_element i.verdict stamp) (take c.from ts) (drop c.to ts) n in
       let m = came-marked c.filling (between c.from c.to ts) stamp i.verdict j.0 z b (all-between (TellsList g root) ts c.from c.to h w) in
-      subst (EachListIn (TellsList g root)) (sym is) (all-joined (TellsList g root) (take c.from ts) (mended i.verdict stamp n ∷ drop c.to ts) (all-front (TellsList g root) ts c.from c.to h w) (m, all-back (TellsList g root) ts c.from c.to h w))
+      subst (EachListIn (TellsList g root)) (sym is) (all-joined (TellsList g root) (take c.from ts) (mend_element i.verdict stamp n ∷ drop c.to ts) (all-front (TellsList g root) ts c.from c.to h w) (m, all-back (TellsList g root) ts c.from c.to h w))
 
   -- an element whose list is changed, mended
   pub owner-marked : (c : Change Mark) (x attrs : List ℕ) (e : Ending) (kids : Forest Mark) (m : Mark) (v : Verdict) (i : Option InnerVerdict) (stamp : ℕ) → c.from ≤ c.to → c.to ≤ length (trees_of kids) → HaveNoKids c.filling →
-      AreJudged g root (an_element x) (trees_of kids) c v i → EachListIn (TellsList g root) kids → EachList (TellsList g root) (mended_owner v i stamp (owner_after c (element x attrs e kids m)))
+      AreAcceptable g root (an_element x) (trees_of kids) c v i → EachListIn (TellsList g root) kids → EachList (TellsList g root) (mend_owner v i stamp (owner_after c (element x attrs e kids m)))
   owner-marked c x attrs e kids m v i stamp h l z j w = (
-    fresh-tells (an_element x) (forest_of (list_after c (trees_of kids))) (mended_kids i stamp (forest_of (list_after c (trees_of kids)))) v stamp (kids-heads i stamp (forest_of (list_after c (trees_of kids)))) j.outer,
+    fresh-tells (an_element x) (forest_of (list_after c (trees_of kids))) (mend_kids i stamp (forest_of (list_after c (trees_of kids)))) v stamp (kids-heads i stamp (forest_of (list_after c (trees_of kids)))) j.outer,
     list-marked c (trees_of kids) i stamp h l z j.within (rw (forest-trees kids) w),
   )

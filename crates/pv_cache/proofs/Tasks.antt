@@ -1,26 +1,25 @@
 -- What holds of a task that can be done, and of its verdicts.
-use Rattle.std.proofs.Common.{◌≡◌, ◌∙◌, ap, sym, refl, ℕ, ◌<◌, ◌≤◌, ◌^◌, true, false, List, [], ◌∷◌, length, not, Option, Some, None, arith, subst}
+use Rattle.std.proofs.Common.{◌≡◌, ◌∙◌, ap, sym, refl, ℕ, ◌<◌, ◌≤◌, ◌^◌, true, false, List, [], ◌∷◌, ◌++◌, length, not, Option, Some, None, arith, subst}
 use Rattle.std.specs.Prelude.{Err, IfErr, IfOk, IfSome, MatchOption, Ok, Result}
-use Rattle.std.specs.List.{between}
+use Rattle.std.specs.List.{AllByRecursion, between}
 use Rattle.std.proofs.lemmas.List.{length-map}
 use Rattle.pv_dtd.specs.Plain.{PlainDtd}
 use Rattle.pv_edit.specs.Brought.{brings_element}
-use Rattle.pv_edit.specs.Changes.{Change, in_place_of, list_after}
+use Rattle.pv_edit.specs.Changes.{Change, doc_after, in_place_of, list_after}
 use Rattle.pv_edit.specs.Fitting.{CanChange, Suits}
 use Rattle.pv_edit.specs.Reasons.{is_given, is_top, kids_at, lacks_list}
 use Rattle.pv_edit.proofs.KeptBack.{can-made}
 use Rattle.pv_edit.proofs.Standing.{KidAt, NodeAt, at_node, down, first, here, later}
 use Rattle.pv_edit.proofs.Whole.{Made, list-whole, owner-kids}
-use Rattle.pv_edit.specs.declared.answers.EditAnswer.{EditAnswer}
-use Rattle.pv_edit.specs.declared.answers.EditAnswer.TheVariants.{Impossible, Limit, NoMemory, Shape}
-use Rattle.pv_missing.specs.Verdicts.{IsLiveBy}
+use Rattle.pv_edit.specs.declared.answers.EditAnswer.TheVariants.{Impossible}
+use Rattle.pv_missing.specs.Verdicts.{IsFirstImpossible, IsLive, IsLiveBy}
 use Rattle.pv_missing.specs.Weighing.{site_of}
 use Rattle.pv_missing.specs.Widths.{FitsVerdict}
 use Rattle.pv_missing.specs.WordVerdicts.{HoldsOne}
 use Rattle.pv_missing.proofs.VerdictLists.{live_of}
 use Rattle.pv_model.specs.PlainForms.{plain_token}
 use Rattle.pv_rules.specs.Sites.{PlainSite}
-use Rattle.pv_tree.specs.Lists.{an_element}
+use Rattle.pv_tree.specs.Lists.{an_element, lists_of}
 use Rattle.pv_tree.specs.Legal.{MAX_NODES}
 use Rattle.std.specs.Option.{option_and_then}
 use Rattle.pv_tree.specs.Places.{list_of}
@@ -29,14 +28,19 @@ use Rattle.pv_tree.specs.Words.{word_of}
 use Rattle.pv_tree.specs.declared.nodes.Mark.{Mark}
 use Rattle.pv_tree.specs.declared.nodes.Verdict.{Verdict}
 use Rattle.pv_tree.specs.declared.nodes.Verdict.TheVariants as verdict
-use Rattle.pv_cache.specs.Changed.{AreJudged, owner_at}
+use Rattle.pv_cache.specs.Changed.{AreJudged, AreLive, IsFirstAmong, IsInnerJudged, inner_first, outer_first, owner_at}
 use Rattle.pv_cache.specs.Changing.{AreNarrowAfter, IsUnaccepted}
-use Rattle.pv_cache.specs.Judging.{AreFoundLive, AreNarrow, AreWords, IsFoundLive, IsInnerWord, IsRefusedBy, IsInnerRefused, IsOuterRefused, IsWordOf, inner_is, is_wide, outer_is}
-use Rattle.pv_cache.specs.declared.mending.Mend.{Mend}
+use Rattle.pv_cache.specs.Judging.{AreFound, AreNarrow, AreWords, IsInnerWord, IsWordOf}
+use Rattle.pv_cache.specs.WellMarked.{IsWellMarked}
+use Rattle.pv_cache.specs.declared.mending.ChangedVerdicts.{ChangedVerdicts}
+use Rattle.pv_cache.specs.declared.mending.InnerVerdict.{InnerVerdict}
 use Rattle.pv_cache.specs.declared.words.InnerWord.{InnerWord}
 use Rattle.pv_cache.specs.declared.words.ListWord.{ListWord}
 use Rattle.pv_cache.specs.declared.words.Words.{Words}
-use Rattle.pv_cache.proofs.FoundLive.{live-judged, found-verdict, narrow-word}
+use Rattle.pv_cache.proofs.Found.{found-judged}
+use Rattle.pv_cache.proofs.Grounds.{none_first}
+use Rattle.pv_reach.specs.declared.errors.ReachError.{ReachError}
+use Rattle.pv_reach.specs.declared.errors.ReachError.TheVariants as reach
 use Rattle.pv_cache.proofs.FirstAfter.{inner-is-first, outer-is-first}
 
 one-tree : {M : Type 0} (ts : List (Tree M)) → length ts ≡ 1 → (t : Tree M) × (forest_of ts ≡ tree t no_trees)
@@ -104,67 +108,77 @@ module _ (g : PlainDtd) (root : List ℕ) where
   narrow-words : (c : Change Mark) (kids : List (Tree Mark)) (words : Words) → AreWords g c kids words → AreNarrowAfter g c kids → AreNarrow g words
   narrow-words c kids words w n = record { outer = narrow-back (forest_of (list_after c kids)) words.outer w.outer n.outer; inner = narrow-inner c kids words.inner w.inner n }
 
-  -- the refusals of words are those of the change
-  module _ (doc : PlainDoc Mark) (c : Change Mark) (can : CanChange c.list c doc.root) (unshort : is_top c.list ≡ true → c.shorten ≡ false) (words : Words) (w : AreWords g c (kids_at c.list doc.root) words)
-      (one : HoldsOne (owner_at c.list doc.root) (forest_of (list_after c (kids_at c.list doc.root)))) where
-    narrow-after : AreNarrow g words → AreNarrowAfter g c (kids_at c.list doc.root)
-    narrow-after n = record {
-      outer = narrow-word g root (forest_of (list_after c (kids_at c.list doc.root))) words.outer w.outer n.outer;
-      inner = inside words.inner w.inner n.inner;
-    }
+  -- ---- verdicts of changed lists
+  judged-inside : (c : Change Mark) (new : List (Tree Mark)) (inner : Option InnerVerdict) → IsInnerJudged g root c new inner → brings_element c.filling ≡ true → (name attrs : List ℕ) (ending : Ending) (below : Forest Mark) (mark : Mark) →
+      new ≡ element name attrs ending below mark ∷ [] → FitsVerdict g (length (word_of g below))
+  judged-inside c new None j b name attrs e ks m is = absurd (let z : false ≡ true = sym j ∙ b in cc)
+  judged-inside c new (Some i) (b', p, o) b name attrs e ks m is =
+      let same : ks ≡ o.kids = (let p = o.is_one in cc) in
+      subst (λ (k : Forest Mark). FitsVerdict g (length (word_of g k))) (sym same) o.list.narrow
+
+  module _ (doc : PlainDoc Mark) (c : Change Mark) (can : CanChange c.list c doc.root) (unshort : is_top c.list ≡ true → c.shorten ≡ false) (v : Verdict) (inner : Option InnerVerdict)
+      (j : AreJudged g root (owner_at c.list doc.root) (kids_at c.list doc.root) c v inner) where
+    abbrev new : List (Tree Mark)
+    new = in_place_of c.filling (between c.from c.to (kids_at c.list doc.root))
+
+    abbrev IsOuterLive : Type 0
+    IsOuterLive = IsLiveBy g root (owner_at c.list doc.root) (forest_of (list_after c (kids_at c.list doc.root)))
+
+    -- none of the lists is too wide
+    pub judged-narrow : AreNarrowAfter g c (kids_at c.list doc.root)
+    judged-narrow = record { outer = j.outer.narrow; inner = judged-inside c new inner j.within }
+
+    outer-live : (v ≡ verdict.Impossible → ⊥) → IsOuterLive
+    outer-live n = live_of g root (record { path = []; owner = owner_at c.list doc.root; kids = forest_of (list_after c (kids_at c.list doc.root)) }) v n j.outer.judged
+
+    outer-not : v ≡ verdict.Impossible → IsOuterLive → ⊥
+    outer-not e = rw e at j.outer.judged
+
+    outer-path : IsWellMarked g root doc → v ≡ verdict.Impossible → IsFirstImpossible g root (lists_of (doc_after c doc)) c.list
+    outer-path m e = outer-is-first g root doc c m can unshort (outer-not e)
+
+    inner-path : IsWellMarked g root doc → (v ≡ verdict.Impossible → ⊥) → (i : InnerVerdict) → IsInnerJudged g root c new (Some i) → i.verdict ≡ verdict.Impossible → IsFirstImpossible g root (lists_of (doc_after c doc)) (c.list ++ c.from ∷ [])
+    inner-path m n i (b, p, o) e =
+        let not : IsLiveBy g root (an_element o.name) o.kids → ⊥ = rw e at o.list.judged in
+        inner-is-first g root doc c m can unshort o.name o.attrs o.ending o.kids o.mark o.is_one (outer-live n) not
+
+    named-inner : (i : InnerVerdict) → inner ≡ Some i → IsInnerJudged g root c new (Some i)
+    named-inner i e = subst (IsInnerJudged g root c new) e j.within
+
+    -- the first of them that is Impossible is the ground
+    pub first-unaccepted : (path : List ℕ) → IsFirstAmong c.list v inner path → IsUnaccepted g root doc c (Impossible path)
+    first-unaccepted path (outer_first e p) = (judged-narrow, λ m. rw p (outer-path m e))
+    first-unaccepted path (inner_first i n e f p) =
+        let k = named-inner i e in
+        (judged-narrow, λ m. rw (p, k.1) (inner-path m n i k f))
+
+    -- where all lists of the changed document are live, none of them is Impossible
+    pub judged-live : IsWellMarked g root doc → AllByRecursion (IsLive g root) (lists_of (doc_after c doc)) → AreLive v inner
+    judged-live m all = record { outer = not-outer; inner = inside inner (λ i e. named-inner i e) }
       where
-        inside : (inner : Option InnerWord) → MatchOption inner (brings_element c.filling ≡ false) (IsInnerWord g c.filling (in_place_of c.filling (between c.from c.to (kids_at c.list doc.root)))) → IfSome inner (λ i. FitsVerdict g (length i.word.tokens.items)) →
-            brings_element c.filling ≡ true → (name attrs : List ℕ) (ending : Ending) (below : Forest Mark) (mark : Mark) → in_place_of c.filling (between c.from c.to (kids_at c.list doc.root)) ≡ element name attrs ending below mark ∷ [] → FitsVerdict g (length (word_of g below))
-        inside None v n b name attrs e ks m is = absurd cc
-        inside (Some i) v n b name attrs e ks m is = let same : ks ≡ v.kids = (let p = v.is_one in cc) in subst (λ (k : Forest Mark). FitsVerdict g (length (word_of g k))) (sym same) (narrow-word g root v.kids i.word v.word n)
+        not-outer : v ≡ verdict.Impossible → ⊥
+        not-outer e = none_first (IsLive g root) (lists_of (doc_after c doc)) c.list all (outer-path m e)
 
-    outer-live : (v : Verdict) → IsFoundLive g (site_of g root (owner_at c.list doc.root)) words.outer v → IsLiveBy g root (owner_at c.list doc.root) (forest_of (list_after c (kids_at c.list doc.root)))
-    outer-live v b = live_of g root (record { path = []; owner = owner_at c.list doc.root; kids = forest_of (list_after c (kids_at c.list doc.root)) }) v b.live (found-verdict g root (owner_at c.list doc.root) (forest_of (list_after c (kids_at c.list doc.root))) words.outer v one w.outer b.found)
-
-    inner-named : (i : InnerWord) (inner : Option InnerWord) → inner ≡ Some i → MatchOption inner (brings_element c.filling ≡ false) (IsInnerWord g c.filling (in_place_of c.filling (between c.from c.to (kids_at c.list doc.root)))) → IsInnerWord g c.filling (in_place_of c.filling (between c.from c.to (kids_at c.list doc.root))) i
-    inner-named i inner e m = rw e at m
-
-    wide-refused : (answer : EditAnswer) → (AreNarrow g words → ⊥) → answer ≡ Limit → IsUnaccepted g root doc c answer
-    wide-refused answer n e = rw e (λ a. n (narrow-words c (kids_at c.list doc.root) words w a))
-
-    outer-refused : (answer : EditAnswer) → AreNarrow g words → IsOuterRefused g (site_of g root (owner_at c.list doc.root)) c.list words answer → IsUnaccepted g root doc c answer
-    outer-refused (Shape r) n u = u
-    outer-refused (Impossible path) n u =
-        let v = found-verdict g root (owner_at c.list doc.root) (forest_of (list_after c (kids_at c.list doc.root))) words.outer verdict.Impossible one w.outer u.0 in
-        (narrow-after n, λ m. rw u.1 (outer-is-first g root doc c m can unshort v))
-    outer-refused Limit n u = absurd u
-    outer-refused NoMemory n u = tt
-
-    inner-refused : (answer : EditAnswer) (v : Verdict) → AreNarrow g words → IsFoundLive g (site_of g root (owner_at c.list doc.root)) words.outer v → IsInnerRefused g c.list c.from words answer → IsUnaccepted g root doc c answer
-    inner-refused (Shape r) v n b u = u
-    inner-refused (Impossible path) v n b u =
-        let i = inner-named u.0 words.inner u.1 w.inner in
-        let f = found-verdict g root (an_element u.0.name.now) i.kids u.0.word verdict.Impossible tt i.word u.2 in
-        (narrow-after n, λ m. rw u.3 (inner-is-first g root doc c m can unshort u.0.name.now i.attrs i.ending i.kids i.mark i.is_one (outer-live v b) f))
-    inner-refused Limit v n b u = absurd u
-    inner-refused NoMemory v n b u = tt
-
-    pub words-refused : (answer : EditAnswer) → IsRefusedBy g (site_of g root (owner_at c.list doc.root)) c.list c.from words answer → IsUnaccepted g root doc c answer
-    words-refused answer (is_wide n e) = wide-refused answer n e
-    words-refused answer (outer_is n u) = outer-refused answer n u
-    words-refused answer (inner_is v n b u) = inner-refused answer v n b u
+        inside : (o : Option InnerVerdict) → ((i : InnerVerdict) → o ≡ Some i → IsInnerJudged g root c new (Some i)) → IfSome o (λ i. i.verdict ≡ verdict.Impossible → ⊥)
+        inside None h = tt
+        inside (Some i) h = λ e. none_first (IsLive g root) (lists_of (doc_after c doc)) (c.list ++ c.from ∷ []) all (inner-path m not-outer i (h i refl) e)
 
   -- what is answered of the words of a task is answered of the task
   module _ (doc : PlainDoc Mark) (c : Change Mark) (can : CanChange c.list c doc.root) (unshort : is_top c.list ≡ true → c.shorten ≡ false) (words : Words) (w : AreWords g c (kids_at c.list doc.root) words)
-      (site : Option PlainSite) (is_site : site_of g root (owner_at c.list doc.root) ≡ site) (r : Result Mend EditAnswer) where
+      (site : Option PlainSite) (is_site : site_of g root (owner_at c.list doc.root) ≡ site) (r : Result ChangedVerdicts ReachError) where
     one : HoldsOne (owner_at c.list doc.root) (forest_of (list_after c (kids_at c.list doc.root)))
     one = task-one doc.root c can unshort doc.mark
 
-    pub answer-judged : IfOk r (AreFoundLive g site c.from words) → IfOk r (λ _. AreNarrow g words) → IfOk r (λ mend. AreJudged g root (owner_at c.list doc.root) (kids_at c.list doc.root) c mend.verdict mend.inner)
-    answer-judged b n = by r b n
+    pub answer-judged : IfOk r (AreFound g site c.from words) → IfOk r (λ vs. AreJudged g root (owner_at c.list doc.root) (kids_at c.list doc.root) c vs.outer vs.inner)
+    answer-judged f = by r f
       where
-        by : (r : Result Mend EditAnswer) → IfOk r (AreFoundLive g site c.from words) → IfOk r (λ _. AreNarrow g words) → IfOk r (λ mend. AreJudged g root (owner_at c.list doc.root) (kids_at c.list doc.root) c mend.verdict mend.inner)
-        by (Ok mend) b n = live-judged g root (owner_at c.list doc.root) (kids_at c.list doc.root) c words mend one w n (subst (λ (s : Option PlainSite). AreFoundLive g s c.from words mend) (sym is_site) b)
-        by (Err e) b n = tt
+        by : (r : Result ChangedVerdicts ReachError) → IfOk r (AreFound g site c.from words) → IfOk r (λ vs. AreJudged g root (owner_at c.list doc.root) (kids_at c.list doc.root) c vs.outer vs.inner)
+        by (Ok vs) f = found-judged g root (owner_at c.list doc.root) (kids_at c.list doc.root) c words vs one w (subst (λ (s : Option PlainSite). AreFound g s c.from words vs) (sym is_site) f)
+        by (Err e) f = tt
 
-    pub answer-refused : IfErr r (IsRefusedBy g site c.list c.from words) → IfErr r (IsUnaccepted g root doc c)
-    answer-refused f = by r f
+    pub answer-wide : IfErr r (λ e. e ≡ reach.TooWide → ¬ AreNarrow g words) → IfErr r (λ e. e ≡ reach.TooWide → ¬ AreNarrowAfter g c (kids_at c.list doc.root))
+    answer-wide f = by r f
       where
-        by : (r : Result Mend EditAnswer) → IfErr r (IsRefusedBy g site c.list c.from words) → IfErr r (IsUnaccepted g root doc c)
-        by (Ok mend) f = tt
-        by (Err e) f = words-refused doc c can unshort words w one e (subst (λ (s : Option PlainSite). IsRefusedBy g s c.list c.from words e) (sym is_site) f)
+        by : (r : Result ChangedVerdicts ReachError) → IfErr r (λ e. e ≡ reach.TooWide → ¬ AreNarrow g words) → IfErr r (λ e. e ≡ reach.TooWide → ¬ AreNarrowAfter g c (kids_at c.list doc.root))
+        by (Ok vs) f = tt
+        by (Err e) f = λ is n. f is (narrow-words c (kids_at c.list doc.root) words w n)

@@ -19,7 +19,7 @@ use Rattle.pv_tree.specs.declared.nodes.Mark.{Mark}
 use Rattle.pv_tree.specs.declared.nodes.Verdict.{Verdict}
 use Rattle.pv_cache.specs.Changed.{owner_at}
 use Rattle.pv_cache.specs.Rows.{AreRows, IsVerdictAt, marks_in, marks_in_all, path_of, row_path, row_stamp, row_verdict, rows_at, rows_from, rows_of}
-use Rattle.pv_cache.specs.Stamps.{stamp_of, stamped_by, stamps_of}
+use Rattle.pv_cache.specs.Stamps.{stamp_of, stamped_doc_of, stamps_of}
 use Rattle.pv_cache.specs.WellMarked.{IsWellMarked, TellsList, told_verdict, told_verdicts, told_verdicts_in, verdicts_told}
 use Rattle.pv_cache.proofs.Alike.{list_at_as}
 use Rattle.pv_cache.proofs.Limits.{spot_list}
@@ -145,7 +145,7 @@ module _ (g : PlainDtd) (root : List ℕ) (doc : PlainDoc Mark) (w : ∥ IsWellM
         ∙ ap (λ ns. ns ++ map row_stamp (rows_from path (suc i) rest)) (stamps_at (path ++ i ∷ []) t)
         ∙ ap (λ ns. marks_in (map_marks stamp_of t) ++ ns) (stamps_from path (suc i) rest)
 
-  pub told_rows : (rows : List VerdictRow) → rows ≡ rows_of doc → AreRows (stamped_by g root doc) rows
+  pub told_rows : (rows : List VerdictRow) → rows ≡ rows_of doc → AreRows (stamped_doc_of g root doc) rows
   told_rows rows e = rw e (record {
     paths = ap (λ ps. [] ∷ ps) (paths_at (0 ∷ []) doc.root);
     verdicts = ∥∥₁_map w (λ w.

@@ -31,7 +31,7 @@ module _ {M : Type 0} (g : PlainDtd) where
   narrow_at_all doc h (path ∷ paths) = (narrow_at doc h path, narrow_at_all doc h paths)
 
   pub within : (root : List ℕ) (doc : PlainDoc M) (changed : List (List ℕ)) → IsGuarded g root doc → IsWithinLimits g doc changed
-  within root doc changed h = record { few = h.few; narrow = narrow_at_all doc h.narrow changed }
+  within root doc changed h = record { few = h.holdable.few; narrow = narrow_at_all doc h.holdable.narrow changed }
 
   either_path : (doc : PlainDoc M) (path : List ℕ) (paths : List (List ℕ)) → AllByRecursion (IsNarrowAt g doc) paths → IsNone path paths ⊎ IsNarrowAt g doc path
   either_path doc path [] h = inl tt
@@ -67,4 +67,4 @@ module _ {M : Type 0} (g : PlainDtd) where
       f.is_not
       (narrow_list edited f.list s
       (elim (either_path edited f.list.path (changed_lists (makes edit)) w.narrow) as (λ _. IsNarrowAt g edited f.list.path)
-      [ inl none ↦ kept_narrow blank before edited edit k a guarded.narrow f.list.path none | inr narrow ↦ narrow ]))
+      [ inl none ↦ kept_narrow blank before edited edit k a guarded.holdable.narrow f.list.path none | inr narrow ↦ narrow ]))

@@ -22,20 +22,28 @@ abbrev pub IsNarrowAt : {M : Type 0} → PlainDtd → PlainDoc M → List ℕ �
 IsNarrowAt {M} g doc path = (kids : List (Tree M)) → list_at path doc.root ≡ Some kids →
     FitsVerdict g (length (word_of g (forest_of kids)))
 
--- An edited document is within the limits: it hasn't too many nodes, and none of the changed lists is too wide.
-pub record IsWithinLimits {M : Type 0} (g : PlainDtd) (doc : PlainDoc M) (changed : List (List ℕ)) : Type 0 where
+-- An edited document is within the limits: it hasn't too many nodes, and none of the changed lists
+-- is too wide.
+pub record IsWithinLimits {M : Type 0} (g : PlainDtd) (doc : PlainDoc M) (changed : List (List ℕ)) :
+    Type 0 where
   pub few : nodes_in doc.root ≤ MAX_EDITED_NODES
   pub narrow : AllByRecursion (IsNarrowAt g doc) changed
 
--- An edit is accepted: it can be made, the edited document is within the limits, and inserting elements can make it valid, in whichever
--- way (`∥ ∥₁` says that there is one, and not which). New elements are marked with `blank`.
-pub record IsAccepted {M : Type 0} (blank : M) (g : PlainDtd) (root : List ℕ) (doc : PlainDoc M) (edit : Edit) (edited : PlainDoc M) : Type 0 where
+-- An edit is accepted: it can be made, the edited document is within the limits, and inserting
+-- elements can make it valid, in whichever way (`∥ ∥₁` says that there is one, and not which). New
+-- elements are marked with `blank`.
+pub record IsAccepted {M : Type 0} (blank : M) (g : PlainDtd) (root : List ℕ) (doc : PlainDoc M)
+    (edit : Edit) (edited : PlainDoc M) : Type 0 where
   pub is_edited : applied blank doc edit ≡ gives edited
   pub within : IsWithinLimits g edited (changed_lists (makes edit))
   pub possible : ∥ IsPotentiallyValid g root (view edited.root) ∥₁
 
--- inserting elements can make a document valid, no list of it is too wide for a verdict, and it hasn't too many nodes
-pub record IsGuarded {M : Type 0} (g : PlainDtd) (root : List ℕ) (doc : PlainDoc M) : Type 0 where
-  pub possible : ∥ IsPotentiallyValid g root (view doc.root) ∥₁
+-- A document can be held: no list of it is too wide for a verdict, and it hasn't too many nodes.
+pub record IsHoldable {M : Type 0} (g : PlainDtd) (doc : PlainDoc M) : Type 0 where
   pub narrow : AllByRecursion (IsListForVerdict g) (lists_of doc)
   pub few : nodes_in doc.root ≤ MAX_EDITED_NODES
+
+-- It can be held, and inserting elements can make it valid.
+pub record IsGuarded {M : Type 0} (g : PlainDtd) (root : List ℕ) (doc : PlainDoc M) : Type 0 where
+  pub possible : ∥ IsPotentiallyValid g root (view doc.root) ∥₁
+  pub holdable : IsHoldable g doc

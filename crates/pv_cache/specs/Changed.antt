@@ -1,5 +1,6 @@
 -- The lists that a change of one list changes, and their verdicts.
-use Rattle.std.specs.Prelude.{List, [], None, Option, Some, false, length, true, ℕ, ◌∷◌, ◌≡◌}
+use Rattle.std.specs.Prelude.{IfSome, List, [], None, Option, Some, false, length, true, ℕ, ◌++◌}
+use Rattle.std.specs.Prelude.{◌∷◌, ◌≡◌}
 use Rattle.std.specs.List.{between}
 use Rattle.pv_cache.specs.declared.mending.InnerVerdict.{InnerVerdict}
 use Rattle.pv_dtd.specs.Plain.{PlainDtd}
@@ -20,28 +21,46 @@ abbrev pub owner_at : {M : Type 0} → List ℕ → Tree M → Owner
 owner_at [] root = the_document
 owner_at (i ∷ path) root = an_element (name_on (spot_at (i ∷ path) root))
 
--- The list has this verdict, which isn't Impossible, and isn't too wide for a verdict.
-pub record IsAcceptable {M : Type 0} (g : PlainDtd) (root : List ℕ) (owner : Owner) (kids : Forest M) (v : Verdict) : Type 0 where
+-- The list has this verdict, and isn't too wide for one.
+pub record IsJudged {M : Type 0} (g : PlainDtd) (root : List ℕ) (owner : Owner) (kids : Forest M)
+    (v : Verdict) : Type 0 where
   pub judged : IsVerdict g root (record { path = []; owner = owner; kids = kids }) v
-  pub live : v ≡ verdict.Impossible → ⊥
   pub narrow : FitsVerdict g (length (word_of g kids))
 
 -- what came is one element, whose list has this verdict
-pub record IsOneAcceptable {M : Type 0} (g : PlainDtd) (root : List ℕ) (new : List (Tree M)) (v : Verdict) : Type 0 where
+pub record IsOneJudged {M : Type 0} (g : PlainDtd) (root : List ℕ) (new : List (Tree M))
+    (v : Verdict) : Type 0 where
   pub name : List ℕ
   pub attrs : List ℕ
   pub ending : Ending
   pub kids : Forest M
   pub mark : M
   pub is_one : new ≡ element name attrs ending kids mark ∷ []
-  pub list : IsAcceptable g root (an_element name) kids v
+  pub list : IsJudged g root (an_element name) kids v
 
-abbrev pub IsInnerJudged : {M : Type 0} → PlainDtd → List ℕ → Change M → List (Tree M) → Option InnerVerdict → Type 0
+abbrev pub IsInnerJudged : {M : Type 0} → PlainDtd → List ℕ → Change M → List (Tree M) →
+    Option InnerVerdict → Type 0
 IsInnerJudged g root c new None = brings_element c.filling ≡ false
 IsInnerJudged g root c new (Some i) =
-    (brings_element c.filling ≡ true) × (i.place ≡ c.from) × IsOneAcceptable g root new i.verdict
+    (brings_element c.filling ≡ true) × (i.place ≡ c.from) × IsOneJudged g root new i.verdict
 
--- These are the verdicts of the lists that a change of these kids changes. None of them is Impossible.
-pub record AreJudged {M : Type 0} (g : PlainDtd) (root : List ℕ) (owner : Owner) (kids : List (Tree M)) (c : Change M) (v : Verdict) (inner : Option InnerVerdict) : Type 0 where
-  pub outer : IsAcceptable g root owner (forest_of (list_after c kids)) v
+-- These are the verdicts of the lists that a change of these kids changes, none of which is too
+-- wide.
+pub record AreJudged {M : Type 0} (g : PlainDtd) (root : List ℕ) (owner : Owner)
+    (kids : List (Tree M)) (c : Change M) (v : Verdict) (inner : Option InnerVerdict) : Type 0 where
+  pub outer : IsJudged g root owner (forest_of (list_after c kids)) v
   pub within : IsInnerJudged g root c (in_place_of c.filling (between c.from c.to kids)) inner
+
+-- none of these verdicts of changed lists is Impossible
+pub record AreLive (v : Verdict) (within : Option InnerVerdict) : Type 0 where
+  pub outer : v ≡ verdict.Impossible → ⊥
+  pub inner : IfSome within (λ i. i.verdict ≡ verdict.Impossible → ⊥)
+
+-- The path of the first of the changed lists whose verdict is Impossible: the one at this path, or
+-- that of the element which came into it.
+pub data IsFirstAmong (list : List ℕ) (v : Verdict) (inner : Option InnerVerdict)
+    (path : List ℕ) : Type 0 where
+  outer_first : v ≡ verdict.Impossible → path ≡ list → IsFirstAmong list v inner path
+  inner_first : (i : InnerVerdict) → (v ≡ verdict.Impossible → ⊥) → inner ≡ Some i →
+      i.verdict ≡ verdict.Impossible → path ≡ list ++ i.place ∷ [] →
+      IsFirstAmong list v inner path

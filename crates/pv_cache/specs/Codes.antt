@@ -1,12 +1,15 @@
--- How the values that contracts see of a document with stamps are told apart: each plain type is coded one to one. Nothing else is meant by a code.
+-- How the values that contracts see of a document with stamps are told apart: each plain type is
+-- coded one to one. Nothing else is meant by a code.
 use Rattle.std.specs.Prelude.{List, ℕ, ◌≡◌, refl}
 use Rattle.std.proofs.Common.{ap}
 use Rattle.std.specs.Coded.{Coded, code_by, coded_list, coded_ℕ, coded×}
 use base.Stored.{Gv, gcons, gnil, gnum}
-use Rattle.pv_model.specs.Plain.{PlainModel, PlainPart, PlainParts, any, children, choice, empty, mixed, name, no_parts, opt, part, plus, seq, star}
+use Rattle.pv_model.specs.Plain.{PlainModel, PlainPart, PlainParts, any, children, choice, empty}
+use Rattle.pv_model.specs.Plain.{mixed, name, no_parts, opt, part, plus, seq, star}
 use Rattle.pv_dtd.specs.Plain.{PlainDtd}
 use Rattle.pv_cache.specs.Stamps.{StampedDoc}
-use Rattle.pv_tree.specs.Plain.{Ending, Forest, PlainDoc, Tree, cdata_node, element, misc_node, no_trees, short, tagged, text_node, tree}
+use Rattle.pv_tree.specs.Plain.{Ending, Forest, PlainDoc, Tree, cdata_node, element, misc_node}
+use Rattle.pv_tree.specs.Plain.{no_trees, short, tagged, text_node, tree}
 
 abbrev pub bytes_code : Coded (List ℕ)
 bytes_code = coded_list coded_ℕ
@@ -27,7 +30,9 @@ same_ending e f p = absurd cc
 abbrev mutual
   tree_code : {M : Type 0} → Coded M → Tree M → Gv
   tree_code c (element x attrs ending kids mark) =
-      gcons (gnum 0) (gcons (bytes_code.code x) (gcons (bytes_code.code attrs) (gcons (ending_code ending) (gcons (c.code mark) (forest_code c kids)))))
+      gcons (gnum 0) (gcons (bytes_code.code x)
+      (gcons (bytes_code.code attrs) (gcons (ending_code ending)
+      (gcons (c.code mark) (forest_code c kids)))))
   tree_code c (text_node units) = gcons (gnum 1) (lists_code.code units)
   tree_code c (cdata_node bytes) = gcons (gnum 2) (bytes_code.code bytes)
   tree_code c (misc_node bytes) = gcons (gnum 3) (bytes_code.code bytes)
@@ -50,7 +55,8 @@ mutual
   same_tree c (misc_node a) (misc_node b) p = ap misc_node (bytes_code.inj a b cc)
   same_tree c t u p = absurd cc
 
-  pub same_forest : {M : Type 0} (c : Coded M) (k l : Forest M) → forest_code c k ≡ forest_code c l → k ≡ l
+  pub same_forest : {M : Type 0} (c : Coded M) (k l : Forest M) → forest_code c k
+      ≡ forest_code c l → k ≡ l
   same_forest c no_trees no_trees p = refl
   same_forest c (tree t k) (tree u l) p =
       let et : t ≡ u = same_tree c t u cc in
@@ -63,8 +69,10 @@ one_tree_code c = record { code = tree_code c; inj = same_tree c }
 
 abbrev pub doc_code : {M : Type 0} → Coded M → Coded (PlainDoc M)
 doc_code {M} c =
-    code_by (List ℕ × (Tree M × (List ℕ × M))) (coded× bytes_code (coded× (one_tree_code c) (coded× bytes_code c)))
-    (λ d. (d.before, (d.root, (d.after, d.mark)))) (λ p. record { before = p.0; root = p.1.0; after = p.1.1.0; mark = p.1.1.1 }) (λ _. refl)
+    code_by (List ℕ × (Tree M × (List ℕ × M)))
+    (coded× bytes_code (coded× (one_tree_code c) (coded× bytes_code c)))
+    (λ d. (d.before, (d.root, (d.after, d.mark))))
+    (λ p. record { before = p.0; root = p.1.0; after = p.1.1.0; mark = p.1.1.1 }) (λ _. refl)
 
 -- ---- DTDs
 abbrev mutual
@@ -113,11 +121,14 @@ same_model m n e = absurd cc
 
 abbrev pub dtd_code : Coded PlainDtd
 dtd_code =
-    code_by (List (List ℕ) × List PlainModel) (coded× lists_code (coded_list (record { code = model_code; inj = same_model })))
+    code_by (List (List ℕ) × List PlainModel)
+    (coded× lists_code (coded_list (record { code = model_code; inj = same_model })))
     (λ g. (g.names, g.models)) (λ p. record { names = p.0; models = p.1 }) (λ _. refl)
 
 -- ---- documents with stamps
 abbrev pub stamped_code : Coded StampedDoc
 stamped_code =
-    code_by (PlainDtd × (List ℕ × PlainDoc ℕ)) (coded× dtd_code (coded× bytes_code (doc_code coded_ℕ)))
-    (λ s. (s.dtd, (s.root, s.doc))) (λ p. record { dtd = p.0; root = p.1.0; doc = p.1.1 }) (λ _. refl)
+    code_by (PlainDtd × (List ℕ × PlainDoc ℕ))
+    (coded× dtd_code (coded× bytes_code (doc_code coded_ℕ)))
+    (λ s. (s.dtd, (s.root, s.doc))) (λ p. record { dtd = p.0; root = p.1.0; doc = p.1.1 })
+    (λ _. refl)

@@ -1,5 +1,6 @@
 -- The words of changed lists, beside the tree.
-use Rattle.std.specs.Prelude.{IfSome, List, MatchOption, None, Some, [], Option, false, length, map, true, ℕ, ◌++◌, ◌∷◌, ◌≡◌}
+use Rattle.std.specs.Prelude.{IfSome, List, MatchOption, None, Some, [], Option, false, length, map}
+use Rattle.std.specs.Prelude.{true, ℕ, ◌∷◌, ◌≡◌}
 use Rattle.std.specs.List.{between}
 use Rattle.pv_cache.specs.declared.words.Came.{Came}
 use Rattle.pv_cache.specs.declared.words.Coming.{Coming}
@@ -18,14 +19,11 @@ use Rattle.pv_tree.specs.PlainForms.{forest, plain_all}
 use Rattle.pv_tree.specs.Words.{word_of}
 use Rattle.pv_tree.specs.declared.nodes.Mark.{Mark}
 use Rattle.pv_tree.specs.declared.nodes.Verdict.{Verdict}
-use Rattle.pv_tree.specs.declared.nodes.Verdict.TheVariants as verdict
 use Rattle.pv_tree.specs.Lists.{an_element}
 use Rattle.pv_rules.specs.Sites.{PlainSite}
 use Rattle.pv_missing.specs.Weighing.{site_of}
-use Rattle.pv_edit.specs.declared.answers.EditAnswer.{EditAnswer}
-use Rattle.pv_edit.specs.declared.answers.EditAnswer.TheVariants.{Impossible, Limit, NoMemory, Shape}
 use Rattle.pv_cache.specs.declared.mending.InnerVerdict.{InnerVerdict}
-use Rattle.pv_cache.specs.declared.mending.Mend.{Mend}
+use Rattle.pv_cache.specs.declared.mending.ChangedVerdicts.{ChangedVerdicts}
 
 -- the word of a list, and whether it has no kids of any kind
 pub record IsWordOf (g : PlainDtd) (kids : Forest Mark) (word : ListWord) : Type 0 where
@@ -35,7 +33,8 @@ pub record IsWordOf (g : PlainDtd) (kids : Forest Mark) (word : ListWord) : Type
 -- these nodes come, or an element of this name
 abbrev pub IsComing : List (Tree Mark) → Coming → Type 0
 IsComing new (Nodes nodes) = new ≡ plain_all nodes.now
-IsComing new (Name name) = (attrs : List ℕ) × (ending : Ending) × (kids : Forest Mark) × (mark : Mark) ×
+IsComing new (Name name) =
+    (attrs : List ℕ) × (ending : Ending) × (kids : Forest Mark) × (mark : Mark) ×
     (new ≡ element name.now attrs ending kids mark ∷ [])
 
 -- the element that came alone, whose list is new or has a new owner's name
@@ -47,7 +46,8 @@ pub record IsCame (filling : Filling Mark) (new : List (Tree Mark)) (came : Came
   pub is_one : new ≡ element came.name.now attrs ending (forest came.kids.now) mark ∷ []
 
 -- the word of the list of the element that came alone
-pub record IsInnerWord (g : PlainDtd) (filling : Filling Mark) (new : List (Tree Mark)) (inner : InnerWord) : Type 0 where
+pub record IsInnerWord (g : PlainDtd) (filling : Filling Mark) (new : List (Tree Mark))
+    (inner : InnerWord) : Type 0 where
   pub brought : brings_element filling ≡ true
   pub attrs : List ℕ
   pub ending : Ending
@@ -57,7 +57,8 @@ pub record IsInnerWord (g : PlainDtd) (filling : Filling Mark) (new : List (Tree
   pub word : IsWordOf g kids inner.word
 
 -- The words of the lists that a change of these kids changes.
-pub record AreWords (g : PlainDtd) (c : Change Mark) (kids : List (Tree Mark)) (words : Words) : Type 0 where
+pub record AreWords (g : PlainDtd) (c : Change Mark) (kids : List (Tree Mark)) (words : Words) :
+    Type 0 where
   pub outer : IsWordOf g (forest_of (list_after c kids)) words.outer
   pub inner : MatchOption words.inner (brings_element c.filling ≡ false)
       (IsInnerWord g c.filling (in_place_of c.filling (between c.from c.to kids)))
@@ -71,46 +72,27 @@ pub record AreNarrow (g : PlainDtd) (words : Words) : Type 0 where
 abbrev pub IsFound : PlainDtd → Option PlainSite → ListWord → Verdict → Type 0
 IsFound g site word v = IsVerdictByWord g site (map plain_token word.tokens.items) word.is_bare v
 
--- A list, of an owner with this site and of this word, is found live: its verdict isn't Impossible.
-pub record IsFoundLive (g : PlainDtd) (site : Option PlainSite) (word : ListWord) (v : Verdict) : Type 0 where
+-- A list, of an owner with this site and of this word, is found to have this verdict, and isn't too
+-- wide for one.
+pub record IsFoundList (g : PlainDtd) (site : Option PlainSite) (word : ListWord) (v : Verdict) :
+    Type 0 where
   pub found : IsFound g site word v
-  pub live : v ≡ verdict.Impossible → ⊥
+  pub narrow : FitsVerdict g (length word.tokens.items)
 
 -- the site of an element's list
 abbrev pub inner_site : PlainDtd → InnerWord → Option PlainSite
 inner_site g inner = site_of g [] (an_element inner.name.now)
 
 -- the verdict of the inner list, where there is one
-abbrev pub IsInnerFoundLive : PlainDtd → ℕ → Option InnerWord → Option InnerVerdict → Type 0
-IsInnerFoundLive g from None None = Unit {0}
-IsInnerFoundLive g from None (Some v) = ⊥
-IsInnerFoundLive g from (Some inner) None = ⊥
-IsInnerFoundLive g from (Some inner) (Some i) = (i.place ≡ from) × IsFoundLive g (inner_site g inner) inner.word i.verdict
+abbrev pub IsInnerFound : PlainDtd → ℕ → Option InnerWord → Option InnerVerdict → Type 0
+IsInnerFound g from None None = Unit {0}
+IsInnerFound g from None (Some v) = ⊥
+IsInnerFound g from (Some inner) None = ⊥
+IsInnerFound g from (Some inner) (Some i) =
+    (i.place ≡ from) × IsFoundList g (inner_site g inner) inner.word i.verdict
 
 -- the verdicts of lists of these words
-pub record AreFoundLive (g : PlainDtd) (site : Option PlainSite) (from : ℕ) (words : Words) (mend : Mend) : Type 0 where
-  pub outer : IsFoundLive g site words.outer mend.verdict
-  pub inner : IsInnerFoundLive g from words.inner mend.inner
-
--- the outer list is impossible
-abbrev pub IsOuterRefused : PlainDtd → Option PlainSite → List ℕ → Words → EditAnswer → Type 0
-IsOuterRefused g site list words (Shape reason) = ⊥
-IsOuterRefused g site list words (Impossible path) =
-    IsFound g site words.outer verdict.Impossible × (path ≡ list)
-IsOuterRefused g site list words Limit = ⊥
-IsOuterRefused g site list words NoMemory = Unit {0}
-
--- the inner list is impossible
-abbrev pub IsInnerRefused : PlainDtd → List ℕ → ℕ → Words → EditAnswer → Type 0
-IsInnerRefused g list from words (Shape reason) = ⊥
-IsInnerRefused g list from words (Impossible path) = (i : InnerWord) × (words.inner ≡ Some i) ×
-    IsFound g (inner_site g i) i.word verdict.Impossible × (path ≡ list ++ from ∷ [])
-IsInnerRefused g list from words Limit = ⊥
-IsInnerRefused g list from words NoMemory = Unit {0}
-
--- Why a change isn't accepted: a list is too wide; or the outer list is impossible; or it isn't, and the inner one is.
-pub data IsRefusedBy (g : PlainDtd) (site : Option PlainSite) (list : List ℕ) (from : ℕ) (words : Words) (answer : EditAnswer) : Type 0 where
-  is_wide : (AreNarrow g words → ⊥) → answer ≡ Limit → IsRefusedBy g site list from words answer
-  outer_is : AreNarrow g words → IsOuterRefused g site list words answer → IsRefusedBy g site list from words answer
-  inner_is : (v : Verdict) → AreNarrow g words → IsFoundLive g site words.outer v → IsInnerRefused g list from words answer →
-      IsRefusedBy g site list from words answer
+pub record AreFound (g : PlainDtd) (site : Option PlainSite) (from : ℕ) (words : Words)
+    (verdicts : ChangedVerdicts) : Type 0 where
+  pub outer : IsFoundList g site words.outer verdicts.outer
+  pub inner : IsInnerFound g from words.inner verdicts.inner

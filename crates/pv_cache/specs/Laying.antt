@@ -1,7 +1,8 @@
 -- A document whose marks tell verdicts given in document order.
 use Rattle.std.specs.Prelude.{List, [], None, get_or, suc, ℕ, ◌+◌}
-use Rattle.pv_cache.specs.Mending.{mended, mended_doc}
-use Rattle.pv_tree.specs.Plain.{Forest, PlainDoc, Tree, cdata_node, element, misc_node, no_trees, text_node, tree}
+use Rattle.pv_cache.specs.Mending.{mend_element, mend_doc}
+use Rattle.pv_tree.specs.Plain.{Forest, PlainDoc, Tree, cdata_node, element, misc_node, no_trees}
+use Rattle.pv_tree.specs.Plain.{text_node, tree}
 use Rattle.pv_tree.specs.declared.nodes.Mark.{Mark}
 use Rattle.pv_tree.specs.declared.nodes.Verdict.{Verdict}
 use Rattle.pv_tree.specs.declared.nodes.Verdict.TheVariants as verdict
@@ -19,21 +20,23 @@ abbrev mutual
   lists_in_all (tree t rest) = lists_in t + lists_in_all rest
 
 -- the verdict of this number
-abbrev pub numbered : List Verdict → ℕ → Verdict
-numbered vs at = get_or vs at verdict.Valid
+abbrev pub nth_verdict : List Verdict → ℕ → Verdict
+nth_verdict vs at = get_or vs at verdict.Valid
 
 -- a tree whose marks tell the verdicts from this number on
 abbrev mutual
-  pub laid : List Verdict → ℕ → Tree Mark → Tree Mark
-  laid vs at (element x attrs ending kids mark) = mended (numbered vs at) 0 (element x attrs ending (laid_all vs (suc at) kids) mark)
-  laid vs at (text_node units) = text_node units
-  laid vs at (cdata_node bytes) = cdata_node bytes
-  laid vs at (misc_node bytes) = misc_node bytes
+  pub lay_node : List Verdict → ℕ → Tree Mark → Tree Mark
+  lay_node vs at (element x attrs ending kids mark) =
+      mend_element (nth_verdict vs at) 0 (element x attrs ending (lay_kids vs (suc at) kids) mark)
+  lay_node vs at (text_node units) = text_node units
+  lay_node vs at (cdata_node bytes) = cdata_node bytes
+  lay_node vs at (misc_node bytes) = misc_node bytes
 
-  pub laid_all : List Verdict → ℕ → Forest Mark → Forest Mark
-  laid_all vs at no_trees = no_trees
-  laid_all vs at (tree t rest) = tree (laid vs at t) (laid_all vs (at + lists_in t) rest)
+  pub lay_kids : List Verdict → ℕ → Forest Mark → Forest Mark
+  lay_kids vs at no_trees = no_trees
+  lay_kids vs at (tree t rest) = tree (lay_node vs at t) (lay_kids vs (at + lists_in t) rest)
 
 -- a document whose marks tell these verdicts
-abbrev pub laid_doc : List Verdict → PlainDoc Mark → PlainDoc Mark
-laid_doc vs doc = mended_doc [] (numbered vs 0) None 0 (record doc { root = laid vs 1 doc.root })
+abbrev pub lay_doc : List Verdict → PlainDoc Mark → PlainDoc Mark
+lay_doc vs doc = mend_doc [] (nth_verdict vs 0) None 0
+    (record doc { root = lay_node vs 1 doc.root })

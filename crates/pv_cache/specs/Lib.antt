@@ -10,4 +10,7 @@ pub mod Moves
 pub mod Codes
 pub mod Laying
 pub mod Rows
+pub mod Planned
+pub mod PlainMarked
 pub mod PlainForms
+pub mod GroundLaws

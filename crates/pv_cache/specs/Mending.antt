@@ -1,10 +1,13 @@
 -- Marks mended where a list has changed, and above it.
-use Rattle.std.specs.Prelude.{IfSome, IsSomeAnd, IsTrue, List, [], Option, Some, None, slice_get, ℕ, ◌+◌, ◌-◌, ◌<◌, ◌≤◌, ◌^◌, ◌∷◌}
-use Rattle.pv_cache.specs.WellMarked.{own_left, own_node, told_left, told_left_in, told_nodes, told_nodes_in}
+use Rattle.std.specs.Prelude.{IfSome, IsSomeAnd, IsTrue, List, [], Option, Some, None, slice_get, ℕ}
+use Rattle.std.specs.Prelude.{◌+◌, ◌-◌, ◌<◌, ◌≤◌, ◌^◌, ◌∷◌}
+use Rattle.pv_cache.specs.WellMarked.{own_left, own_node, told_left, told_left_in, told_nodes}
+use Rattle.pv_cache.specs.WellMarked.{told_nodes_in}
 use Rattle.pv_edit.specs.Changes.{change_kid}
 use Rattle.pv_tree.specs.Lists.{Owner, an_element, the_document}
 use Rattle.pv_tree.specs.Places.{kids_of}
-use Rattle.pv_tree.specs.Plain.{Forest, PlainDoc, Tree, cdata_node, element, is_element, misc_node, no_trees, text_node, tree, trees_of}
+use Rattle.pv_tree.specs.Plain.{Forest, PlainDoc, Tree, cdata_node, element, is_element, misc_node}
+use Rattle.pv_tree.specs.Plain.{no_trees, text_node, tree, trees_of}
 use Rattle.pv_tree.specs.declared.nodes.Mark.{Mark}
 use Rattle.pv_tree.specs.declared.nodes.Verdict.{Verdict}
 use Rattle.pv_cache.specs.declared.mending.InnerVerdict.{InnerVerdict}
@@ -20,37 +23,37 @@ fresh_mark owner kids v stamp = record {
 }
 
 -- an element whose own list has changed
-abbrev pub mended : Verdict → ℕ → Tree Mark → Tree Mark
-mended v stamp (element x attrs ending kids mark) =
+abbrev pub mend_element : Verdict → ℕ → Tree Mark → Tree Mark
+mend_element v stamp (element x attrs ending kids mark) =
     element x attrs ending kids (fresh_mark (an_element x) kids v stamp)
-mended v stamp (text_node units) = text_node units
-mended v stamp (cdata_node bytes) = cdata_node bytes
-mended v stamp (misc_node bytes) = misc_node bytes
+mend_element v stamp (text_node units) = text_node units
+mend_element v stamp (cdata_node bytes) = cdata_node bytes
+mend_element v stamp (misc_node bytes) = misc_node bytes
 
 -- the kids of a changed list, of which one may have a changed list too
-abbrev pub mended_kids : Option InnerVerdict → ℕ → Forest Mark → Forest Mark
-mended_kids None stamp kids = kids
-mended_kids (Some inner) stamp kids = change_kid (mended inner.verdict stamp) inner.place kids
+abbrev pub mend_kids : Option InnerVerdict → ℕ → Forest Mark → Forest Mark
+mend_kids None stamp kids = kids
+mend_kids (Some inner) stamp kids = change_kid (mend_element inner.verdict stamp) inner.place kids
 
 -- the owner of a changed list
-abbrev pub mended_owner : Verdict → Option InnerVerdict → ℕ → Tree Mark → Tree Mark
-mended_owner v inner stamp (element x attrs ending kids mark) =
-    mended v stamp (element x attrs ending (mended_kids inner stamp kids) mark)
-mended_owner v inner stamp (text_node units) = text_node units
-mended_owner v inner stamp (cdata_node bytes) = cdata_node bytes
-mended_owner v inner stamp (misc_node bytes) = misc_node bytes
+abbrev pub mend_owner : Verdict → Option InnerVerdict → ℕ → Tree Mark → Tree Mark
+mend_owner v inner stamp (element x attrs ending kids mark) =
+    mend_element v stamp (element x attrs ending (mend_kids inner stamp kids) mark)
+mend_owner v inner stamp (text_node units) = text_node units
+mend_owner v inner stamp (cdata_node bytes) = cdata_node bytes
+mend_owner v inner stamp (misc_node bytes) = misc_node bytes
 
 -- an element with a kid whose own list has changed
-abbrev pub with_mended_kid : InnerVerdict → ℕ → Tree Mark → Tree Mark
-with_mended_kid inner stamp (element x attrs ending kids mark) =
-    element x attrs ending (change_kid (mended inner.verdict stamp) inner.place kids) mark
-with_mended_kid inner stamp (text_node units) = text_node units
-with_mended_kid inner stamp (cdata_node bytes) = cdata_node bytes
-with_mended_kid inner stamp (misc_node bytes) = misc_node bytes
+abbrev pub mend_kid : InnerVerdict → ℕ → Tree Mark → Tree Mark
+mend_kid inner stamp (element x attrs ending kids mark) =
+    element x attrs ending (change_kid (mend_element inner.verdict stamp) inner.place kids) mark
+mend_kid inner stamp (text_node units) = text_node units
+mend_kid inner stamp (cdata_node bytes) = cdata_node bytes
+mend_kid inner stamp (misc_node bytes) = misc_node bytes
 
 -- the mark of a list whose kids tell other numbers than before
-abbrev pub retold : Forest Mark → Forest Mark → Mark → Mark
-retold before after mark = record mark {
+abbrev pub count_again : Forest Mark → Forest Mark → Mark → Mark
+count_again before after mark = record mark {
   left = mark.left + told_left_in after - told_left_in before;
   nodes = mark.nodes + told_nodes_in after - told_nodes_in before;
 }
@@ -58,41 +61,41 @@ retold before after mark = record mark {
 -- an element, one of whose kids tells other numbers than before
 abbrev pub with_kid : (Tree Mark → Tree Mark) → ℕ → Tree Mark → Tree Mark
 with_kid f i (element x attrs ending kids mark) =
-    element x attrs ending (change_kid f i kids) (retold kids (change_kid f i kids) mark)
+    element x attrs ending (change_kid f i kids) (count_again kids (change_kid f i kids) mark)
 with_kid f i (text_node units) = text_node units
 with_kid f i (cdata_node bytes) = cdata_node bytes
 with_kid f i (misc_node bytes) = misc_node bytes
 
 -- a tree, mended at a path and above
-abbrev pub mended_below : List ℕ → (Tree Mark → Tree Mark) → Tree Mark → Tree Mark
-mended_below [] f t = f t
-mended_below (i ∷ path) f t = with_kid (mended_below path f) i t
+abbrev pub mend_below : List ℕ → (Tree Mark → Tree Mark) → Tree Mark → Tree Mark
+mend_below [] f t = f t
+mend_below (i ∷ path) f t = with_kid (mend_below path f) i t
 
 -- the root, where its own list has changed
-abbrev pub mended_root : Option InnerVerdict → ℕ → Tree Mark → Tree Mark
-mended_root None stamp t = t
-mended_root (Some inner) stamp t = mended inner.verdict stamp t
+abbrev pub mend_root : Option InnerVerdict → ℕ → Tree Mark → Tree Mark
+mend_root None stamp t = t
+mend_root (Some inner) stamp t = mend_element inner.verdict stamp t
 
 -- The document has this root, and its own mark tells of it.
 abbrev pub with_root : Tree Mark → Mark → PlainDoc Mark → PlainDoc Mark
 with_root t mark doc = record { before = doc.before; root = t; after = doc.after; mark = mark }
 
 -- a document, mended at the list at a path and above
-abbrev pub mended_doc : List ℕ → Verdict → Option InnerVerdict → ℕ → PlainDoc Mark → PlainDoc Mark
-mended_doc [] v inner stamp doc =
-    with_root (mended_root inner stamp doc.root)
-    (fresh_mark the_document (tree (mended_root inner stamp doc.root) no_trees) v stamp) doc
-mended_doc (i ∷ path) v inner stamp doc =
-    with_root (mended_below path (mended_owner v inner stamp) doc.root)
-    (retold (tree doc.root no_trees)
-    (tree (mended_below path (mended_owner v inner stamp) doc.root) no_trees) doc.mark) doc
+abbrev pub mend_doc : List ℕ → Verdict → Option InnerVerdict → ℕ → PlainDoc Mark → PlainDoc Mark
+mend_doc [] v inner stamp doc =
+    with_root (mend_root inner stamp doc.root)
+    (fresh_mark the_document (tree (mend_root inner stamp doc.root) no_trees) v stamp) doc
+mend_doc (i ∷ path) v inner stamp doc =
+    with_root (mend_below path (mend_owner v inner stamp) doc.root)
+    (count_again (tree doc.root no_trees)
+    (tree (mend_below path (mend_owner v inner stamp) doc.root) no_trees) doc.mark) doc
 
 -- an element stands at this place of a list
 abbrev pub HasElement : List (Tree Mark) → ℕ → Type 0
 HasElement kids i = IsSomeAnd (slice_get kids i) (λ t. IsTrue (is_element t))
 
--- The marks on the way to a list tell no less than those of their kids, so that they can be told again. An element stands where the
--- list has an inner one.
+-- The marks on the way to a list tell no less than those of their kids, so that they can be told
+-- again. An element stands where the list has an inner one.
 abbrev pub CanMend : Option InnerVerdict → List ℕ → Tree Mark → Type 0
 CanMend inner [] t = IsTrue (is_element t) × IfSome inner (λ i. HasElement (kids_of t) i.place)
 CanMend inner (i ∷ path) (element x attrs ending kids mark) =
@@ -125,7 +128,8 @@ pub record IsCounted (t : Tree Mark) : Type 0 where
 -- what is told of a kid, once it is mended, can be counted
 abbrev pub KidIsCounted : InnerVerdict → ℕ → Tree Mark → Type 0
 KidIsCounted inner stamp t =
-    IsSomeAnd (slice_get (kids_of t) inner.place) (λ k. IsCounted (mended inner.verdict stamp k))
+    IsSomeAnd (slice_get (kids_of t) inner.place)
+    (λ k. IsCounted (mend_element inner.verdict stamp k))
 
 -- the same of a document
 abbrev pub CanMendDoc : Option InnerVerdict → List ℕ → PlainDoc Mark → Type 0

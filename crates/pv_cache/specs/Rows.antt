@@ -7,7 +7,8 @@ use Rattle.pv_edit.specs.declared.answers.VerdictRow.{VerdictRow}
 use Rattle.pv_missing.specs.Verdicts.{AreVerdicts, IsVerdict}
 use Rattle.pv_tree.specs.Lists.{Listed, lists_of}
 use Rattle.pv_tree.specs.Places.{list_at}
-use Rattle.pv_tree.specs.Plain.{Forest, PlainDoc, Tree, cdata_node, element, forest_of, misc_node, no_trees, text_node, tree}
+use Rattle.pv_tree.specs.Plain.{Forest, PlainDoc, Tree, cdata_node, element, forest_of, misc_node}
+use Rattle.pv_tree.specs.Plain.{no_trees, text_node, tree}
 use Rattle.pv_tree.specs.declared.nodes.Mark.{Mark}
 use Rattle.pv_tree.specs.declared.nodes.Verdict.{Verdict}
 
@@ -28,10 +29,12 @@ abbrev pub marks_of : {M : Type 0} → PlainDoc M → List M
 marks_of doc = doc.mark ∷ marks_in doc.root
 
 -- a list stands at this path, and this is its verdict
-pub record IsVerdictAt {M : Type 0} (g : PlainDtd) (root : List ℕ) (doc : PlainDoc M) (path : List ℕ) (v : Verdict) : Type 0 where
+pub record IsVerdictAt {M : Type 0} (g : PlainDtd) (root : List ℕ) (doc : PlainDoc M)
+    (path : List ℕ) (v : Verdict) : Type 0 where
   pub kids : List (Tree M)
   pub stands : list_at path doc.root ≡ Some kids
-  pub judged : ∥ IsVerdict g root (record { path = path; owner = owner_at path doc.root; kids = forest_of kids }) v ∥₁
+  pub judged : ∥ IsVerdict g root (record
+      { path = path; owner = owner_at path doc.root; kids = forest_of kids }) v ∥₁
 
 abbrev pub path_of : {M : Type 0} → Listed M → List ℕ
 path_of list = list.path

@@ -1,9 +1,11 @@
--- Documents with a stamp beside each list: the number of the move that changed the list last, or made its element.
+-- Documents with a stamp beside each list: the number of the move that changed the list last, or
+-- made its element.
 use Rattle.std.specs.Prelude.{List, None, Option, Some, [], ℕ, ◌++◌, ◌∷◌}
 use Rattle.pv_cache.specs.declared.mending.InnerVerdict.{InnerVerdict}
 use Rattle.pv_dtd.specs.Plain.{PlainDtd}
 use Rattle.pv_edit.specs.Changes.{change_below}
-use Rattle.pv_tree.specs.Plain.{PlainDoc, Tree, cdata_node, element, map_marks, misc_node, text_node}
+use Rattle.pv_tree.specs.Plain.{PlainDoc, Tree, cdata_node, element, map_marks, misc_node}
+use Rattle.pv_tree.specs.Plain.{text_node}
 use Rattle.pv_tree.specs.declared.nodes.Mark.{Mark}
 
 -- A document for a DTD and a root's name. The mark of each list is its stamp.
@@ -14,7 +16,12 @@ pub record StampedDoc : Type 0 where
 
 -- the document with other marks
 abbrev pub doc_as : {M N : Type 0} → (M → N) → PlainDoc M → PlainDoc N
-doc_as f doc = record { before = doc.before; root = map_marks f doc.root; after = doc.after; mark = f doc.mark }
+doc_as f doc = record {
+  before = doc.before;
+  root = map_marks f doc.root;
+  after = doc.after;
+  mark = f doc.mark;
+}
 
 abbrev pub stamp_of : Mark → ℕ
 stamp_of mark = mark.stamp
@@ -31,18 +38,18 @@ with_mark m (cdata_node bytes) = cdata_node bytes
 with_mark m (misc_node bytes) = misc_node bytes
 
 -- a document in which the list at a path has another mark
-abbrev pub marked_at : {M : Type 0} → M → List ℕ → PlainDoc M → PlainDoc M
-marked_at m [] doc = record doc { mark = m }
-marked_at m (i ∷ path) doc = record doc { root = change_below path (with_mark m) doc.root }
+abbrev pub with_mark_at : {M : Type 0} → M → List ℕ → PlainDoc M → PlainDoc M
+with_mark_at m [] doc = record doc { mark = m }
+with_mark_at m (i ∷ path) doc = record doc { root = change_below path (with_mark m) doc.root }
 
 -- the same of the lists at these paths
-abbrev pub stamped : {M : Type 0} → M → List (List ℕ) → PlainDoc M → PlainDoc M
-stamped m [] doc = doc
-stamped m (path ∷ paths) doc = stamped m paths (marked_at m path doc)
+abbrev pub stamp_lists : {M : Type 0} → M → List (List ℕ) → PlainDoc M → PlainDoc M
+stamp_lists m [] doc = doc
+stamp_lists m (path ∷ paths) doc = stamp_lists m paths (with_mark_at m path doc)
 
 -- a document with the stamps of its marks
-abbrev pub stamped_by : PlainDtd → List ℕ → PlainDoc Mark → StampedDoc
-stamped_by g root doc = record { dtd = g; root = root; doc = stamps_of doc }
+abbrev pub stamped_doc_of : PlainDtd → List ℕ → PlainDoc Mark → StampedDoc
+stamped_doc_of g root doc = record { dtd = g; root = root; doc = stamps_of doc }
 
 -- the list at a path, and that of one of its kids, where it has a new verdict too
 abbrev pub changed_by : List ℕ → Option InnerVerdict → List (List ℕ)

@@ -4,7 +4,8 @@ use Rattle.pv_dtd.specs.Plain.{PlainDtd}
 use Rattle.pv_missing.specs.Verdicts.{IsVerdict}
 use Rattle.pv_missing.specs.Widths.{FitsVerdict}
 use Rattle.pv_tree.specs.Lists.{Owner, an_element, the_document}
-use Rattle.pv_tree.specs.Plain.{Forest, PlainDoc, Tree, cdata_node, element, misc_node, no_trees, text_node, tree}
+use Rattle.pv_tree.specs.Plain.{Forest, PlainDoc, Tree, cdata_node, element, misc_node, no_trees}
+use Rattle.pv_tree.specs.Plain.{text_node, tree}
 use Rattle.pv_tree.specs.Words.{word_of}
 use Rattle.pv_tree.specs.declared.nodes.Mark.{Mark}
 use Rattle.pv_tree.specs.declared.nodes.Verdict.{Verdict}
@@ -43,9 +44,10 @@ abbrev pub own_node : Owner → ℕ
 own_node the_document = 0
 own_node (an_element x) = 1
 
--- The mark tells of a list its verdict, and of its owner's subtree how many lists are Possible and how many nodes there are. The list
--- isn't impossible, and not too wide for a verdict.
-pub record TellsList (g : PlainDtd) (root : List ℕ) (owner : Owner) (kids : Forest Mark) (mark : Mark) : Type 0 where
+-- The mark tells of a list its verdict, and of its owner's subtree how many lists are Possible and
+-- how many nodes there are. The list isn't impossible, and not too wide for a verdict.
+pub record TellsList (g : PlainDtd) (root : List ℕ) (owner : Owner) (kids : Forest Mark)
+    (mark : Mark) : Type 0 where
   pub judged : IsVerdict g root (record { path = []; owner = owner; kids = kids }) mark.verdict
   pub live : mark.verdict ≡ verdict.Impossible → ⊥
   pub narrow : FitsVerdict g (length (word_of g kids))

@@ -1,84 +1,31 @@
 //! A change of one list of a well marked document.
 
-ghost use Rattle.std.specs.Prelude.{◌≡◌, ◌≤◌, ◌+◌, [], true, false, IfErr, IfOk, IfSome, OnErr, OnOk, length};
+ghost use Rattle.std.specs.Prelude.{◌≡◌, ◌≤◌, ◌+◌, [], false, IfErr, IfOk, IfSome, OnErr};
+ghost use Rattle.std.specs.Prelude.{length};
 ghost use Rattle.std.specs.Option.{option_map};
-ghost use Rattle.pv_cache.specs.Changed.{AreJudged, owner_at};
-ghost use Rattle.pv_cache.specs.Changing.{IsUnaccepted};
-ghost use Rattle.pv_cache.specs.Stamps.{changed_by, stamped, stamps_of};
-ghost use Rattle.pv_cache.specs.WellMarked.{IsWellMarked};
-ghost use Rattle.pv_dtd.specs.PlainForms.{plain_dtd};
-ghost use Rattle.pv_edit.specs.Brought.{BringsBare, lists_changed};
-ghost use Rattle.pv_edit.specs.Changes.{doc_after, root_after};
-ghost use Rattle.pv_edit.specs.Inverses.{IsKept};
-ghost use Rattle.pv_tree.specs.Marks.{unmarked_doc};
-ghost use Rattle.pv_edit.specs.Fitting.{CanChange, plain_change, plain_filling};
-ghost use Rattle.pv_edit.specs.Reasons.{is_top, kids_at, lacks_list};
+ghost use Rattle.pv_cache.specs.Changed.{AreJudged, AreLive, owner_at};
+ghost use Rattle.pv_cache.specs.Changing.{AreNarrowAfter, IsChanged, IsTaskFor};
+ghost use Rattle.pv_cache.specs.PlainMarked.{plain_marked};
+ghost use Rattle.pv_cache.specs.Stamps.{changed_by};
+ghost use Rattle.pv_edit.specs.Fitting.{plain_task};
+ghost use Rattle.pv_edit.specs.Reasons.{kids_at, lacks_list};
 ghost use Rattle.pv_missing.specs.PlainForms.{plain_of};
 ghost use Rattle.pv_missing.specs.Weighing.{site_of};
-ghost use Rattle.pv_productive.specs.PlainForms.{dtd_of};
-ghost use Rattle.pv_reach.specs.Plans.{IsPlan};
+ghost use Rattle.pv_reach.specs.declared.errors.ReachError.TheVariants.{TooWide as too_wide};
 ghost use Rattle.pv_rules.specs.Sites.{HasSite};
 ghost use Rattle.pv_tree.specs.PlainDocs.{plain_doc};
 
-use crate::judging::{Judge, judge_words};
-use crate::mending::{Mend, mend_doc};
+use crate::judging::judge_words;
+use crate::mending::{ChangedVerdicts, Mend, mend_doc};
+use crate::well_marked::WellMarked;
 use crate::words::words_after;
-use pv_dtd::Dtd;
-use pv_edit::{EditAnswer, Task, make};
-use pv_fresh::{element_owner, root_owner};
-use pv_missing::Of;
+use pv_chars::NoMemory;
+use pv_edit::{Task, make};
+use pv_missing::{Of, element_owner, root_owner};
+use pv_reach::ReachError;
 use pv_steps::Steps;
-use pv_tree::{Doc, Found, Node, Path};
+use pv_tree::{Found, Node, Path};
 use std::sync::ledger::Ledger;
-
-// The owner of the list at a path; none where the DTD doesn't have its name.
-fn owner_of(dtd: &Dtd, root: &[u8], doc: &Doc, list: &Path) -> Option<Of>
-    requires { lacks_list list.now (plain_doc doc.now).root ≡ false }
-    ensures owner { site_of (plain_dtd dtd.now) root.now
-        (owner_at list.now (plain_doc doc.now).root)
-        ≡ option_map plain_of result }
-    ensures known { IfSome result (λ of. HasSite (plain_dtd dtd.now) (plain_of of)) }
-{
-    match doc.node_at(list) {
-        Some(Found::Document) => root_owner(dtd, root),
-        Some(Found::Inner(Node::Elem { name, .. })) => element_owner(dtd, name.as_slice()),
-        _ => unreachable!(),
-    }
-}
-
-// The verdicts of the lists that a task changes, found before the document is touched.
-fn judge_task<L: Ledger>(
-    judge: &Judge<'_>,
-    root: &[u8],
-    doc: &Doc,
-    task: &Task,
-    stamp: u64,
-    steps: &mut Steps<L>,
-) -> Result<Mend, EditAnswer>
-    requires plan { IsPlan (dtd_of judge.now.grammar.now) judge.now.plan.now }
-    requires can { CanChange task.now.list (plain_change task.now.list task.now.change)
-        (plain_doc doc.now).root }
-    requires unshort { is_top task.now.list ≡ true → task.now.change.shorten ≡ false }
-    requires bare { BringsBare (plain_filling task.now.change.filling) }
-    ensures judged { IfOk result (λ mend. AreJudged (dtd_of judge.now.grammar.now) root.now
-        (owner_at task.now.list (plain_doc doc.now).root)
-        (kids_at task.now.list (plain_doc doc.now).root)
-        (plain_change task.now.list task.now.change) mend.verdict mend.inner) }
-    ensures stamp { IfOk result (λ mend. mend.stamp ≡ stamp) }
-    ensures refused { IfErr result (IsUnaccepted (dtd_of judge.now.grammar.now) root.now
-        (plain_doc doc.now)
-        (plain_change task.now.list task.now.change)) }
-    ensures steps { steps.new ≤ steps.old + 2 }
-{
-    let Some(kids) = doc.kids_at(&task.list) else {
-        unreachable!()
-    };
-    let dtd = judge.grammar.dtd();
-    let words = words_after(judge.alloc, dtd, kids, &task.change)?;
-    let owner = owner_of(dtd, root, doc, &task.list);
-    let from = task.change.from as u32;
-    judge_words(judge, owner, &words, &task.list, from, stamp, steps)
-}
 
 // How many lists have a new verdict.
 fn number_of(mend: &Mend) -> u32
@@ -90,44 +37,83 @@ fn number_of(mend: &Mend) -> u32
     }
 }
 
-/// Changes a list of a well marked document, and mends its marks; or tells why the change isn't accepted, and leaves the document.
-///
-/// The changed lists get the stamp; their number is given.
-pub(crate) fn change<L: Ledger>(
-    judge: &Judge<'_>,
-    root: &[u8],
-    doc: &mut Doc,
-    task: Task,
-    stamp: u64,
-    steps: &mut Steps<L>,
-) -> Result<u32, EditAnswer>
-    requires plan { IsPlan (dtd_of judge.now.grammar.now) judge.now.plan.now }
-    requires can { CanChange task.list (plain_change task.list task.change)
-        (plain_doc doc.old).root }
-    requires unshort { is_top task.list ≡ true → task.change.shorten ≡ false }
-    requires bare { BringsBare (plain_filling task.change.filling) }
-    requires kept { IsKept (root_after task.list (plain_change task.list task.change)
-        (plain_doc doc.old).root) }
-    requires marked { ∥ IsWellMarked (dtd_of judge.now.grammar.now) root.now
-        (plain_doc doc.old) ∥₁ }
-    ensures marked { OnOk result (∥ IsWellMarked (dtd_of judge.now.grammar.now) root.now
-        (plain_doc doc.new) ∥₁) }
-    ensures made { OnOk result (unmarked_doc (plain_doc doc.new)
-        ≡ unmarked_doc (doc_after (plain_change task.list task.change) (plain_doc doc.old))) }
-    ensures stamps { OnOk result (stamps_of (plain_doc doc.new)
-        ≡ stamped stamp (lists_changed (plain_change task.list task.change))
-        (stamps_of (doc_after (plain_change task.list task.change) (plain_doc doc.old)))) }
-    ensures number { IfOk result (λ number. number
-        ≡ length (lists_changed (plain_change task.list task.change))) }
-    ensures refused { IfErr result (IsUnaccepted (dtd_of judge.now.grammar.now) root.now
-        (plain_doc doc.old)
-        (plain_change task.list task.change)) }
-    ensures unchanged { OnErr result (plain_doc doc.new ≡ plain_doc doc.old) }
-    ensures steps { steps.new ≤ steps.old + 2 }
-{
-    let mend = judge_task(judge, root, doc, &task, stamp, steps)?;
-    let list = Path::new(judge.alloc, task.list.places())?;
-    make(judge.alloc, doc, task)?;
-    mend_doc(judge.alloc, doc, list.places(), &mend);
-    Ok(number_of(&mend))
+impl WellMarked {
+    // The owner of the list at a path; none where the DTD doesn't have its name.
+    fn owner_of(&self, list: &Path) -> Option<Of>
+        requires { lacks_list list.now (plain_doc self.now.doc).root ≡ false }
+        ensures owner { site_of self.now.grammar self.now.root
+            (owner_at list.now (plain_doc self.now.doc).root)
+            ≡ option_map plain_of result }
+        ensures known { IfSome result (λ of. HasSite self.now.grammar (plain_of of)) }
+    {
+        match self.doc.node_at(list) {
+            Some(Found::Document) => root_owner(self.grammar.dtd(), self.root.as_slice()),
+            Some(Found::Inner(Node::Elem { name, .. })) => {
+                element_owner(self.grammar.dtd(), name.as_slice())
+            }
+            _ => unreachable!(),
+        }
+    }
+
+    /// The verdicts of the lists that a task changes, found before the document is touched.
+    pub(crate) fn judge_task<L: Ledger>(
+        &self,
+        task: &Task,
+        steps: &mut Steps<L>,
+    ) -> Result<ChangedVerdicts, ReachError>
+        requires { IsTaskFor (plain_doc self.now.doc) task.now }
+        ensures judged { IfOk result (λ verdicts. AreJudged self.now.grammar self.now.root
+            (owner_at task.now.list (plain_doc self.now.doc).root)
+            (kids_at task.now.list (plain_doc self.now.doc).root)
+            (plain_task task.now) verdicts.outer verdicts.inner) }
+        ensures wide { IfErr result (λ e. e ≡ too_wide →
+            ¬ AreNarrowAfter self.now.grammar (plain_task task.now)
+            (kids_at task.now.list (plain_doc self.now.doc).root)) }
+        ensures steps { steps.new ≤ steps.old + 2 }
+    {
+        let Some(kids) = self.doc.kids_at(&task.list) else {
+            unreachable!()
+        };
+        let words = words_after(self.alloc, self.grammar.dtd(), kids, &task.change)?;
+        let owner = self.owner_of(&task.list);
+        judge_words(
+            self.alloc,
+            &self.grammar,
+            owner,
+            &words,
+            task.change.from,
+            steps,
+        )
+    }
+
+    /// Makes a change whose lists have these verdicts, none of them Impossible, and mends the
+    /// marks. Without memory the document is left.
+    ///
+    /// The changed lists get the stamp; their number is given.
+    pub(crate) fn make_judged(
+        &mut self,
+        task: Task,
+        verdicts: ChangedVerdicts,
+        stamp: u64,
+    ) -> Result<u32, NoMemory>
+        requires task { IsTaskFor (plain_doc self.old.doc) task }
+        requires judged { AreJudged self.old.grammar self.old.root
+            (owner_at task.list (plain_doc self.old.doc).root)
+            (kids_at task.list (plain_doc self.old.doc).root)
+            (plain_task task) verdicts.outer verdicts.inner }
+        requires live { AreLive verdicts.outer verdicts.inner }
+        ensures changed { IfOk result (λ lists.
+            IsChanged (plain_marked self.old) task stamp lists (plain_marked self.new)) }
+        ensures unchanged { OnErr result (plain_marked self.new ≡ plain_marked self.old) }
+    {
+        let mend = Mend {
+            verdict: verdicts.outer,
+            inner: verdicts.inner,
+            stamp,
+        };
+        let list = Path::new(self.alloc, task.list.places())?;
+        make(self.alloc, &mut self.doc, task)?;
+        mend_doc(self.alloc, &mut self.doc, list.places(), &mend);
+        Ok(number_of(&mend))
+    }
 }

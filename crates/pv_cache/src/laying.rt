@@ -1,7 +1,8 @@
 //! The marks of a document laid out by verdicts that are known.
 
 ghost use Rattle.std.specs.Prelude.{◌≡◌, ◌≤◌, ◌+◌, ◌*◌};
-ghost use Rattle.pv_cache.specs.Laying.{laid, laid_all, laid_doc, lists_in, lists_in_all, numbered};
+ghost use Rattle.pv_cache.specs.Laying.{lay_node, lay_kids, lay_doc, lists_in, lists_in_all};
+ghost use Rattle.pv_cache.specs.Laying.{nth_verdict};
 ghost use Rattle.pv_tree.specs.Legal.{MAX_NODES};
 ghost use Rattle.pv_tree.specs.Plain.{nodes_in, nodes_in_all};
 ghost use Rattle.pv_tree.specs.PlainDocs.{plain_doc};
@@ -14,8 +15,8 @@ use pv_tree::{Doc, Node, Verdict};
 use std::alloc::Global;
 
 // The verdict of this number; there is one for each list.
-fn numbered(verdicts: &Verdicts, number: u64) -> Verdict
-    ensures { result ≡ numbered verdicts.now.verdicts number }
+fn nth_verdict(verdicts: &Verdicts, number: u64) -> Verdict
+    ensures { result ≡ nth_verdict verdicts.now.verdicts number }
 {
     match verdicts.at(number) {
         Some(verdict) => verdict,
@@ -23,11 +24,12 @@ fn numbered(verdicts: &Verdicts, number: u64) -> Verdict
     }
 }
 
-// Marks the lists of a subtree by the verdicts from this number on, and gives the number behind them.
+// Marks the lists of a subtree by the verdicts from this number on, and gives the number behind
+// them.
 #[cycle(lay)]
 fn lay_node(alloc: Global, node: &mut Node, verdicts: &Verdicts, number: u64) -> u64
     requires small { number + nodes_in (plain node.old) ≤ 2 * MAX_NODES }
-    ensures laid { plain node.new ≡ laid verdicts.now.verdicts number (plain node.old) }
+    ensures laid { plain node.new ≡ lay_node verdicts.now.verdicts number (plain node.old) }
     ensures next { result ≡ number + lists_in (plain node.old) }
 {
     let Node::Elem { .. } = node else {
@@ -36,7 +38,7 @@ fn lay_node(alloc: Global, node: &mut Node, verdicts: &Verdicts, number: u64) ->
     let mut kids = take_kids(alloc, node);
     let next = lay_kids(alloc, &mut kids, verdicts, number + 1);
     put_kids(alloc, node, kids);
-    mend_element(node, numbered(verdicts, number), 0);
+    mend_element(node, nth_verdict(verdicts, number), 0);
     next
 }
 
@@ -45,7 +47,7 @@ fn lay_node(alloc: Global, node: &mut Node, verdicts: &Verdicts, number: u64) ->
 fn lay_kids(alloc: Global, kids: &mut Vec<Node>, verdicts: &Verdicts, number: u64) -> u64
     requires small { number + nodes_in_all (forest kids.old.items) ≤ 2 * MAX_NODES }
     ensures laid { forest kids.new.items
-        ≡ laid_all verdicts.now.verdicts number (forest kids.old.items) }
+        ≡ lay_kids verdicts.now.verdicts number (forest kids.old.items) }
     ensures next { result ≡ number + lists_in_all (forest kids.old.items) }
 {
     let mut next = number;
@@ -59,11 +61,11 @@ fn lay_kids(alloc: Global, kids: &mut Vec<Node>, verdicts: &Verdicts, number: u6
 
 /// Marks all lists of a document by their verdicts in document order, with stamps of 0.
 pub(crate) fn lay_doc(alloc: Global, doc: &mut Doc, verdicts: &Verdicts)
-    ensures { plain_doc doc.new ≡ laid_doc verdicts.now.verdicts (plain_doc doc.old) }
+    ensures { plain_doc doc.new ≡ lay_doc verdicts.now.verdicts (plain_doc doc.old) }
 {
     lay_node(alloc, &mut doc.root, verdicts, 1);
     let mend = Mend {
-        verdict: numbered(verdicts, 0),
+        verdict: nth_verdict(verdicts, 0),
         inner: None,
         stamp: 0,
     };

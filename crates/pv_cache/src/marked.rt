@@ -1,8 +1,9 @@
 //! A document whose marks tell the verdict of each list, whatever edits came before.
 
-ghost use Rattle.std.specs.Prelude.{◌≡◌, ◌≤◌, ◌+◌, None, IfErr, IfOk, IsNone, MatchOption, OnErr};
+ghost use Rattle.std.specs.Prelude.{◌≡◌, ◌≤◌, ◌+◌, ℕ, None, IfErr, IfOk, IsNone, MatchOption};
+ghost use Rattle.std.specs.Prelude.{OnErr, OnOk};
 ghost use Rattle.std.specs.List.{AllByRecursion};
-ghost use Rattle.pv_cache.specs.Accepting.{IsGuarded, MAX_EDITED_NODES};
+ghost use Rattle.pv_cache.specs.Accepting.{IsAccepted, IsGuarded, MAX_EDITED_NODES};
 ghost use Rattle.pv_cache.specs.Moves.{HasGround, HasOpen, IsEdited, IsReverted};
 ghost use Rattle.pv_cache.specs.Rows.{AreRows, IsVerdictAt};
 ghost use Rattle.pv_cache.specs.Stamps.{doc_as, stamps_of};
@@ -16,11 +17,11 @@ ghost use Rattle.pv_tree.specs.Places.{list_at};
 ghost use Rattle.pv_tree.specs.Plain.{PlainDoc, nodes_in};
 ghost use Rattle.pv_tree.specs.PlainDocs.{plain_doc};
 
-use crate::judging::Judge;
 use crate::laying::lay_doc;
-use crate::moving::{make_edit, take_back};
+use crate::planned::PlannedGrammar;
 use crate::rows::rows_of;
 use crate::told::told_verdict;
+use crate::well_marked::WellMarked;
 use pv_chars::{Bytes, List, NoMemory};
 use pv_dtd::laws::proper_dtd_law;
 use pv_edit::{Done, Edit, EditAnswer, Inverse, VerdictRows};
@@ -28,7 +29,6 @@ use pv_missing::Verdicts;
 use pv_missing::laws::documents::live_lists_law;
 use pv_missing::laws::proper::proper_doc_law;
 use pv_productive::Grammar;
-use pv_reach::Plan;
 use pv_steps::Steps;
 use pv_tree::{Doc, Found, Mark, Path, Verdict};
 use std::alloc::Global;
@@ -37,14 +37,11 @@ use std::sync::ledger::Ledger;
 
 /// A document for a DTD and a root's name, whose marks tell the verdict of each list.
 ///
-/// No list of it is Impossible or too wide for a verdict, and it has at most 33,554,432 nodes below its document node.
+/// No list of it is Impossible or too wide for a verdict, and it has at most 33,554,432 nodes below
+/// its document node.
 #[derive(Drop)]
 pub struct Marked {
-    alloc: Global,
-    grammar: Grammar,
-    plan: Plan,
-    root: Bytes,
-    doc: Doc,
+    document: WellMarked,
 }
 
 impl Model for Marked {
@@ -55,11 +52,9 @@ impl Model for Marked {
 
     ghost coded = { stamped_code };
 
-    ghost use Rattle.pv_cache.specs.PlainForms.{KeepsMarks, stamped_doc};
+    ghost use Rattle.pv_cache.specs.PlainForms.{stamped_inside};
 
-    ghost view = { stamped_doc };
-
-    ghost invariant = { KeepsMarks };
+    ghost view = { stamped_inside };
 }
 
 impl Marked {
@@ -79,20 +74,34 @@ impl Marked {
         ensures { IfOk result (λ marked. marked
             ≡ record { dtd = dtd_of grammar; root = root; doc = doc_as (λ _. 0) (plain_doc doc) }) }
     {
-        let plan = Plan::of(alloc, &grammar)?;
+        let grammar = PlannedGrammar::of(alloc, grammar)?;
         let mut doc = doc;
         lay_doc(alloc, &mut doc, &verdicts);
-        Ok(Marked {
+        let document = WellMarked {
             alloc,
             grammar,
-            plan,
             root,
             doc,
-        })
+        };
+        Ok(Marked { document })
     }
 
-    /// Makes an edit, where it is accepted, and gives what undoes it. The lists that it changes get the stamp. After a refusal the
-    /// document is as it was.
+    /// Judges an edit: Ok where it is accepted, else the ground on which it is refused.
+    ///
+    /// At most two lists are checked, beside the tree.
+    pub fn judge<L: Ledger>(&self, edit: &Edit, steps: &mut Steps<L>) -> Result<(), EditAnswer>
+        ensures accepted { OnOk result ((edited : PlainDoc ℕ) ×
+            IsAccepted 0 self.now.dtd self.now.root self.now.doc edit.now edited) }
+        ensures refused { IfErr result (HasGround 0 self.now.dtd self.now.root self.now.doc
+            edit.now) }
+        ensures steps { steps.new ≤ steps.old + 2 }
+    {
+        let _judged = self.document.judge(edit, steps)?;
+        Ok(())
+    }
+
+    /// Makes an edit, where it is accepted, and gives what undoes it. The lists that it changes get
+    /// the stamp. After a refusal the document is as it was.
     ///
     /// At most two lists are checked, beside the tree.
     pub fn edit<L: Ledger>(
@@ -108,22 +117,12 @@ impl Marked {
         ensures unchanged { OnErr result (self.new ≡ self.old) }
         ensures steps { steps.new ≤ steps.old + 2 }
     {
-        let judge = Judge {
-            alloc: self.alloc,
-            grammar: &self.grammar,
-            plan: &self.plan,
-        };
-        make_edit(
-            &judge,
-            self.root.as_slice(),
-            &mut self.doc,
-            edit,
-            stamp,
-            steps,
-        )
+        self.document.edit(edit, stamp, steps)
     }
 
-    /// Takes an edit back. The lists that this changes get the stamp. After an error the document is as it was.
+    /// Takes an edit back: makes the document that an inverse leads to, which can be held, and
+    /// which inserting elements can make valid. The lists that this changes get the stamp. After an
+    /// error the document is as it was.
     ///
     /// At most two lists are checked, beside the tree.
     pub fn revert<L: Ledger>(
@@ -134,31 +133,21 @@ impl Marked {
     ) -> Result<Done, NoMemory>
         requires { (before : PlainDoc Unit) × LeadsBack inverse.now self.old.doc before ×
             IsGuarded self.old.dtd self.old.root before }
-        ensures reverted { IfOk result (λ done. IsReverted self.old inverse.now stamp done
+        ensures reverted { (before : PlainDoc Unit)
+            (back : LeadsBack inverse.now self.old.doc before) →
+            IfOk result (λ done. IsReverted self.old inverse.now back.edit before stamp done
             self.new) }
         ensures unchanged { OnErr result (self.new ≡ self.old) }
         ensures steps { steps.new ≤ steps.old + 2 }
     {
-        let judge = Judge {
-            alloc: self.alloc,
-            grammar: &self.grammar,
-            plan: &self.plan,
-        };
-        take_back(
-            &judge,
-            self.root.as_slice(),
-            &mut self.doc,
-            inverse,
-            stamp,
-            steps,
-        )
+        self.document.revert(inverse, stamp, steps)
     }
 
     /// How many lists of the document are Possible.
     pub fn open_count(&self) -> u64
         ensures { HasOpen self.now result }
     {
-        self.doc.mark.left
+        self.document.doc.mark.left
     }
 
     /// The verdict of the list at a path; none where no list stands there.
@@ -166,9 +155,9 @@ impl Marked {
         ensures { MatchOption result (list_at path.now self.now.doc.root ≡ None)
             (IsVerdictAt self.now.dtd self.now.root self.now.doc path.now) }
     {
-        match self.doc.node_at(path) {
+        match self.document.doc.node_at(path) {
             None => None,
-            Some(Found::Document) => Some(self.doc.mark.verdict),
+            Some(Found::Document) => Some(self.document.doc.mark.verdict),
             Some(Found::Inner(node)) => told_verdict(node),
         }
     }
@@ -177,7 +166,7 @@ impl Marked {
     pub fn verdict_rows(&self) -> Result<VerdictRows, NoMemory>
         ensures { IfOk result (AreRows self.now) }
     {
-        Ok(List::of(rows_of(self.alloc, &self.doc)?))
+        Ok(List::of(rows_of(self.document.alloc, &self.document.doc)?))
     }
 
     /// The document; its marks are those of a well marked one.
@@ -185,30 +174,31 @@ impl Marked {
         ensures doc { stamps_of (plain_doc result.now) ≡ self.now.doc }
         ensures marked { ∥ IsWellMarked self.now.dtd self.now.root (plain_doc result.now) ∥₁ }
     {
-        &self.doc
+        &self.document.doc
     }
 
     /// The root's name.
     pub fn root(&self) -> &[u8]
         ensures { result.now ≡ self.now.root }
     {
-        self.root.as_slice()
+        self.document.root.as_slice()
     }
 
     /// The grammar that edits are judged by.
     pub fn grammar(&self) -> &Grammar
         ensures { dtd_of result.now ≡ self.now.dtd }
     {
-        &self.grammar
+        self.document.grammar.grammar()
     }
 
-    /// Inserting elements can make the document valid, it is within the limits, and it has what each document has.
+    /// Inserting elements can make the document valid, it is within the limits, and it has what
+    /// each document has.
     pub fn guarded_law(&self)
         ensures guarded { IsGuarded self.now.dtd self.now.root self.now.doc }
         ensures kept { IsKept self.now.doc.root }
     {
         live_lists_law::<Mark>();
-        proper_dtd_law(self.grammar.dtd());
-        proper_doc_law(&self.doc);
+        proper_dtd_law(self.document.grammar.dtd());
+        proper_doc_law(&self.document.doc);
     }
 }

@@ -5,7 +5,9 @@ ghost use Rattle.pv_tree.specs.Plain.{is_element};
 ghost use Rattle.pv_tree.specs.Places.{kids_of};
 ghost use Rattle.pv_tree.specs.PlainDocs.{plain_doc};
 ghost use Rattle.pv_tree.specs.PlainForms.{plain};
-ghost use Rattle.pv_cache.specs.Mending.{CanMend, CanMendDoc, HasElement, IsCounted, IsDocCounted, KidIsCounted, TellsAtLeast, mended, mended_below, mended_doc, mended_owner, mended_root, with_mended_kid, with_told};
+ghost use Rattle.pv_cache.specs.Mending.{CanMend, CanMendDoc, HasElement, IsCounted, IsDocCounted};
+ghost use Rattle.pv_cache.specs.Mending.{KidIsCounted, TellsAtLeast, mend_element, mend_below};
+ghost use Rattle.pv_cache.specs.Mending.{mend_doc, mend_owner, mend_root, mend_kid, with_told};
 
 use crate::told::{Told, own_left, told_in, told_of};
 use pv_edit::{put_kids, take_kids};
@@ -19,6 +21,13 @@ pub(crate) struct InnerVerdict {
     pub verdict: Verdict,
 }
 
+/// The verdicts of the lists that a change changes.
+#[derive(Clone, Copy, Debug)]
+pub(crate) struct ChangedVerdicts {
+    pub outer: Verdict,
+    pub inner: Option<InnerVerdict>,
+}
+
 /// The verdicts of the lists that a move changes, and its number.
 #[derive(Clone, Copy, Debug)]
 pub(crate) struct Mend {
@@ -30,8 +39,8 @@ pub(crate) struct Mend {
 /// Marks an element whose list has changed.
 pub(crate) fn mend_element(node: &mut Node, verdict: Verdict, stamp: u64)
     requires elem { IsTrue (is_element (plain node.old)) }
-    requires counted { IsCounted (mended verdict stamp (plain node.old)) }
-    ensures { plain node.new ≡ mended verdict stamp (plain node.old) }
+    requires counted { IsCounted (mend_element verdict stamp (plain node.old)) }
+    ensures { plain node.new ≡ mend_element verdict stamp (plain node.old) }
 {
     let Node::Elem { kids, mark, .. } = node else {
         unreachable!()
@@ -48,10 +57,10 @@ pub(crate) fn mend_element(node: &mut Node, verdict: Verdict, stamp: u64)
 /// Marks the owner of a changed list, wherever it stands, and tells the marks above it again.
 pub(crate) fn mend_doc(alloc: Global, doc: &mut Doc, list: &[u32], mend: &Mend)
     requires can { CanMendDoc mend.now.inner list.now (plain_doc doc.old) }
-    requires counted { IsDocCounted (mended_doc list.now mend.now.verdict mend.now.inner
+    requires counted { IsDocCounted (mend_doc list.now mend.now.verdict mend.now.inner
         mend.now.stamp (plain_doc doc.old)) }
     ensures { plain_doc doc.new
-        ≡ mended_doc list.now mend.now.verdict mend.now.inner mend.now.stamp (plain_doc doc.old) }
+        ≡ mend_doc list.now mend.now.verdict mend.now.inner mend.now.stamp (plain_doc doc.old) }
 {
     match list {
         [] => mend_top(doc, mend),
@@ -61,9 +70,9 @@ pub(crate) fn mend_doc(alloc: Global, doc: &mut Doc, list: &[u32], mend: &Mend)
 
 // Marks the document node, whose list has changed, and the root, whose list may have changed too.
 fn mend_top(doc: &mut Doc, mend: &Mend)
-    requires { IsDocCounted (mended_doc [] mend.now.verdict mend.now.inner mend.now.stamp
+    requires { IsDocCounted (mend_doc [] mend.now.verdict mend.now.inner mend.now.stamp
         (plain_doc doc.old)) }
-    ensures { plain_doc doc.new ≡ mended_doc [] mend.now.verdict mend.now.inner mend.now.stamp
+    ensures { plain_doc doc.new ≡ mend_doc [] mend.now.verdict mend.now.inner mend.now.stamp
         (plain_doc doc.old) }
 {
     mend_root(&mut doc.root, mend);
@@ -79,8 +88,8 @@ fn mend_top(doc: &mut Doc, mend: &Mend)
 // Marks the root, where its list has changed.
 fn mend_root(root: &mut Node, mend: &Mend)
     requires elem { IsTrue (is_element (plain root.old)) }
-    requires counted { IsCounted (mended_root mend.now.inner mend.now.stamp (plain root.old)) }
-    ensures { plain root.new ≡ mended_root mend.now.inner mend.now.stamp (plain root.old) }
+    requires counted { IsCounted (mend_root mend.now.inner mend.now.stamp (plain root.old)) }
+    ensures { plain root.new ≡ mend_root mend.now.inner mend.now.stamp (plain root.old) }
 {
     if let Some(inner) = mend.inner {
         mend_element(root, inner.verdict, mend.stamp)
@@ -90,9 +99,9 @@ fn mend_root(root: &mut Node, mend: &Mend)
 // Marks the owner of a changed list below the root.
 fn mend_inside(alloc: Global, doc: &mut Doc, below: &[u32], mend: &Mend)
     requires can { CanMendDoc mend.now.inner (0 ∷ below.now) (plain_doc doc.old) }
-    requires counted { IsDocCounted (mended_doc (0 ∷ below.now) mend.now.verdict mend.now.inner
+    requires counted { IsDocCounted (mend_doc (0 ∷ below.now) mend.now.verdict mend.now.inner
         mend.now.stamp (plain_doc doc.old)) }
-    ensures { plain_doc doc.new ≡ mended_doc (0 ∷ below.now) mend.now.verdict mend.now.inner
+    ensures { plain_doc doc.new ≡ mend_doc (0 ∷ below.now) mend.now.verdict mend.now.inner
         mend.now.stamp (plain_doc doc.old) }
 {
     let before = told_of(&doc.root);
@@ -107,10 +116,10 @@ pub(crate) fn mend_owner(alloc: Global, node: &mut Node, mend: &Mend)
     requires elem { IsTrue (is_element (plain node.old)) }
     requires within { IfSome mend.now.inner (λ inner.
         HasElement (kids_of (plain node.old)) inner.place) }
-    requires counted { IsCounted (mended_owner mend.now.verdict mend.now.inner mend.now.stamp
+    requires counted { IsCounted (mend_owner mend.now.verdict mend.now.inner mend.now.stamp
         (plain node.old)) }
     ensures { plain node.new
-        ≡ mended_owner mend.now.verdict mend.now.inner mend.now.stamp (plain node.old) }
+        ≡ mend_owner mend.now.verdict mend.now.inner mend.now.stamp (plain node.old) }
 {
     match mend.inner {
         None => mend_element(node, mend.verdict, mend.stamp),
@@ -126,7 +135,7 @@ fn mend_kid(alloc: Global, node: &mut Node, inner: InnerVerdict, stamp: u64)
     requires elem { IsTrue (is_element (plain node.old)) }
     requires within { HasElement (kids_of (plain node.old)) inner.place }
     requires counted { KidIsCounted inner stamp (plain node.old) }
-    ensures { plain node.new ≡ with_mended_kid inner stamp (plain node.old) }
+    ensures { plain node.new ≡ mend_kid inner stamp (plain node.old) }
 {
     let mut kids = take_kids(alloc, node);
     mend_element(&mut kids[inner.place], inner.verdict, stamp);
@@ -136,10 +145,10 @@ fn mend_kid(alloc: Global, node: &mut Node, inner: InnerVerdict, stamp: u64)
 /// Marks the owner of a changed list below a node, and tells the marks above it again.
 pub(crate) fn mend_below(alloc: Global, node: &mut Node, path: &[u32], mend: &Mend)
     requires can { CanMend mend.now.inner path.now (plain node.old) }
-    requires counted { IsCounted (mended_below path.now
-        (mended_owner mend.now.verdict mend.now.inner mend.now.stamp) (plain node.old)) }
-    ensures { plain node.new ≡ mended_below path.now
-        (mended_owner mend.now.verdict mend.now.inner mend.now.stamp) (plain node.old) }
+    requires counted { IsCounted (mend_below path.now
+        (mend_owner mend.now.verdict mend.now.inner mend.now.stamp) (plain node.old)) }
+    ensures { plain node.new ≡ mend_below path.now
+        (mend_owner mend.now.verdict mend.now.inner mend.now.stamp) (plain node.old) }
 {
     match path {
         [] => mend_owner(alloc, node, mend),

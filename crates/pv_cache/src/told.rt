@@ -2,7 +2,8 @@
 
 ghost use Rattle.std.specs.Prelude.{◌≡◌, ◌<◌, ◌^◌};
 ghost use Rattle.pv_tree.specs.PlainForms.{forest, plain};
-ghost use Rattle.pv_cache.specs.WellMarked.{own_left, told_left, told_left_in, told_nodes, told_nodes_in, told_verdict};
+ghost use Rattle.pv_cache.specs.WellMarked.{own_left, told_left, told_left_in, told_nodes};
+ghost use Rattle.pv_cache.specs.WellMarked.{told_nodes_in, told_verdict};
 
 use pv_tree::{Node, Verdict};
 

@@ -1,14 +1,14 @@
 //! The words of the lists that a change changes, beside the tree.
 
-ghost use Rattle.std.specs.Prelude.{◌≡◌, ◌↔◌, ◌&&◌, ◌∷◌, ◌++◌, [], false, true, ℕ, List, IfOk, IsTrue, MatchOption, OnOk, map};
+ghost use Rattle.std.specs.Prelude.{◌≡◌, ◌&&◌, ◌∷◌, ◌++◌, [], false, true, ℕ, List, IfOk};
+ghost use Rattle.std.specs.Prelude.{IsTrue, MatchOption, OnOk, map};
 ghost use Rattle.std.specs.List.{between, list_any};
-ghost use Rattle.pv_cache.specs.Judging.{AreNarrow, AreWords, IsCame, IsComing, IsInnerWord, IsWordOf};
-ghost use Rattle.pv_dtd.specs.Hedge.{token};
-ghost use Rattle.pv_dtd.specs.Plain.{number_of};
+ghost use Rattle.pv_cache.specs.Judging.{AreWords, IsCame, IsComing, IsInnerWord};
+ghost use Rattle.pv_cache.specs.Judging.{IsWordOf};
 ghost use Rattle.pv_dtd.specs.PlainForms.{plain_dtd};
 ghost use Rattle.pv_edit.specs.Brought.{BringsBare, brings_element};
 ghost use Rattle.pv_edit.specs.Changes.{in_place_of, list_after, others};
-ghost use Rattle.pv_edit.specs.Fitting.{Fits, Suits, plain_change, plain_filling};
+ghost use Rattle.pv_edit.specs.Fitting.{CanFill, Suits, plain_change, plain_filling};
 ghost use Rattle.pv_edit.specs.Reasons.{is_one_element};
 ghost use Rattle.pv_missing.specs.WordVerdicts.{has_no_trees};
 ghost use Rattle.pv_model.specs.PlainForms.{plain_token};
@@ -20,9 +20,8 @@ ghost use Rattle.pv_tree.specs.declared.nodes.Mark.{Mark};
 use pv_chars::NoMemory;
 use pv_dtd::Dtd;
 use pv_edit::{Change, Filling};
-use pv_missing::is_narrow;
 use pv_model::Token;
-use pv_tree::{Node, word};
+use pv_tree::{Node, name_token, word};
 use std::alloc::Global;
 
 /// The word of a list, and whether it has no kids of any kind.
@@ -44,16 +43,6 @@ pub(crate) struct Came<'a> {
 pub(crate) enum Coming<'a> {
     Nodes(&'a [Node]),
     Name(&'a [u8]),
-}
-
-// The token of an element of this name.
-fn name_token(dtd: &Dtd, name: &[u8]) -> Token
-    ensures { plain_token result ≡ token (number_of (plain_dtd dtd.now) name.now) }
-{
-    match dtd.name_id(name) {
-        Some(id) => Token::Name(id),
-        None => Token::Other,
-    }
 }
 
 // Appends the word of some nodes.
@@ -106,7 +95,7 @@ fn kids_of_only(nodes: &[Node]) -> &[Node]
 
 // What comes in place of the nodes that give way.
 fn what_comes<'a>(filling: &'a Filling, old: &'a [Node]) -> Coming<'a>
-    requires { Fits (plain_filling filling.now) (plain_all old.now) }
+    requires { CanFill (plain_filling filling.now) (plain_all old.now) }
     ensures { IsComing (in_place_of (plain_filling filling.now) (plain_all old.now)) result }
 {
     match filling {
@@ -162,7 +151,7 @@ fn middle_word(alloc: Global, dtd: &Dtd, coming: Coming<'_>) -> Result<ListWord,
 
 /// The element that comes in place of the nodes that give way, if any.
 pub(crate) fn who_came<'a>(filling: &'a Filling, old: &'a [Node]) -> Option<Came<'a>>
-    requires fits { Fits (plain_filling filling.now) (plain_all old.now) }
+    requires fits { CanFill (plain_filling filling.now) (plain_all old.now) }
     requires bare { BringsBare (plain_filling filling.now) }
     ensures { MatchOption result (brings_element (plain_filling filling.now) ≡ false)
         (IsCame (plain_filling filling.now) (in_place_of (plain_filling filling.now)
@@ -188,7 +177,8 @@ fn only_element(nodes: &[Node]) -> Option<Came<'_>>
     ensures { MatchOption result (list_any is_element (plain_all nodes.now) ≡ false)
         (λ came. (list_any is_element (plain_all nodes.now) ≡ true) ×
         (attrs : List ℕ) × (ending : Ending) × (mark : Mark) ×
-        (plain_all nodes.now ≡ element came.name.now attrs ending (forest came.kids.now) mark ∷ [])) }
+        (plain_all nodes.now
+        ≡ element came.name.now attrs ending (forest came.kids.now) mark ∷ [])) }
 {
     match nodes {
         [Node::Elem { name, kids, .. }] => Some(Came {
@@ -220,7 +210,7 @@ fn inner_word<'a>(
     filling: &'a Filling,
     old: &'a [Node],
 ) -> Result<Option<InnerWord<'a>>, NoMemory>
-    requires fits { Fits (plain_filling filling.now) (plain_all old.now) }
+    requires fits { CanFill (plain_filling filling.now) (plain_all old.now) }
     requires bare { BringsBare (plain_filling filling.now) }
     ensures { IfOk result (λ inner. MatchOption inner
         (brings_element (plain_filling filling.now) ≡ false)
@@ -254,15 +244,4 @@ pub(crate) fn words_after<'a>(
     let outer = word_after(alloc, dtd, kids, change)?;
     let inner = inner_word(alloc, dtd, &change.filling, &kids[change.from..change.to])?;
     Ok(Words { outer, inner })
-}
-
-/// Whether none of the lists is too wide for a verdict.
-pub(crate) fn are_narrow(dtd: &Dtd, words: &Words<'_>) -> bool
-    ensures { IsTrue result ↔ AreNarrow (plain_dtd dtd.now) words.now }
-{
-    let inner = match &words.inner {
-        None => true,
-        Some(inner) => is_narrow(dtd, inner.word.tokens.len() as u64),
-    };
-    inner && is_narrow(dtd, words.outer.tokens.len() as u64)
 }

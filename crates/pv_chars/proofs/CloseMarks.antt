@@ -8,7 +8,7 @@ use Rattle.std.specs.Str.{bytes_eq}
 use Rattle.std.proofs.lemmas.Slice.Eq.{bytes_eq-Decides}
 use Rattle.std.proofs.Math.Bool.{or-true}
 use lib.Utf8.{encode, next}
-use Rattle.pv_chars.specs.Fronts.{Holds}
+use Rattle.pv_chars.specs.Fronts.{ContainsBytes}
 use Rattle.pv_chars.specs.Texts.{joined, begins_close_mark, holds_close_mark}
 use Rattle.pv_chars.specs.References.{IsPredefined}
 use Rattle.pv_chars.specs.Units.{IsUnit, AllUnits}
@@ -142,7 +142,7 @@ units_hold (u ∷ us) (b ∷ before) after all e =
     let left = behind own.others (joined us) before (codes "]>" ++ after) own.no_bracket tails in
     ap (λ h. begins_close_mark (u ∷ us) || h) (units_hold us left.0 after all.1 left.1) ∙ or-true (begins_close_mark (u ∷ us))
 
-pub held_by_units : (units : List (List ℕ)) → AllUnits units → Holds (joined units) (codes "]]>") → holds_close_mark units ≡ true
+pub held_by_units : (units : List (List ℕ)) → AllUnits units → ContainsBytes (joined units) (codes "]]>") → holds_close_mark units ≡ true
 held_by_units units all h = units_hold units h.before h.after all h.whole
 
 pub begins_bytes : (units : List (List ℕ)) → begins_close_mark units ≡ true → (after : List ℕ) × (joined units ≡ codes "]]>" ++ after)
@@ -155,13 +155,13 @@ begins_bytes (a ∷ b ∷ c ∷ units) e =
     (joined units, rw ((bytes_eq-Decides a (codes "]")).0 inner.0, (bytes_eq-Decides b (codes "]")).0 inner.1, (bytes_eq-Decides c (codes ">")).0 outer.1) refl)
 
 -- units that hold it do so at the front, or behind the first
-held_from : (u : List ℕ) (us : List (List ℕ)) (begins : Bool) → begins_close_mark (u ∷ us) ≡ begins → (begins || holds_close_mark us) ≡ true → (holds_close_mark us ≡ true → Holds (joined us) (codes "]]>")) → Holds (u ++ joined us) (codes "]]>")
+held_from : (u : List ℕ) (us : List (List ℕ)) (begins : Bool) → begins_close_mark (u ∷ us) ≡ begins → (begins || holds_close_mark us) ≡ true → (holds_close_mark us ≡ true → ContainsBytes (joined us) (codes "]]>")) → ContainsBytes (u ++ joined us) (codes "]]>")
 held_from u us true is e below = let found = begins_bytes (u ∷ us) is in record { before = []; after = found.0; whole = found.1 }
 held_from u us false is e below =
     let h = below e in
     record { before = u ++ h.before; after = h.after; whole = ap (λ l. u ++ l) h.whole ∙ sym (append_assoc u h.before (codes "]]>" ++ h.after)) }
 
 -- where three units are its characters, `]]>` stands in the bytes
-pub held_by_bytes : (units : List (List ℕ)) → holds_close_mark units ≡ true → Holds (joined units) (codes "]]>")
+pub held_by_bytes : (units : List (List ℕ)) → holds_close_mark units ≡ true → ContainsBytes (joined units) (codes "]]>")
 held_by_bytes [] e = absurd cc
 held_by_bytes (u ∷ us) e = held_from u us (begins_close_mark (u ∷ us)) refl e (λ h. held_by_bytes us h)

@@ -8,7 +8,7 @@ use Rattle.std.proofs.lemmas.List.{get_or_at}
 use Rattle.std.proofs.lemmas.Bool.{eq-eqb, eqb-true}
 use Rattle.memchr.specs.Find.{is_byte, Passes, OccursAt, Nowhere, NoneBefore}
 use Rattle.memchr.proofs.lemmas.MatchLemmas.{OccursAt-split}
-use Rattle.pv_chars.specs.Fronts.{Holds, EndsAt}
+use Rattle.pv_chars.specs.Fronts.{ContainsBytes, EndsAt}
 
 pub occurs_behind : (bytes part before after : List ℕ) → bytes ≡ before ++ (part ++ after) → OccursAt bytes part (length before)
 occurs_behind bytes part before after whole = record {
@@ -19,7 +19,7 @@ occurs_behind bytes part before after whole = record {
 pub split_where : (bytes part : List ℕ) (k : ℕ) → OccursAt bytes part k → bytes ≡ take k bytes ++ (part ++ drop (k + length part) bytes)
 split_where bytes part k occurs = sym (take-append-drop k bytes) ∙ ap (λ l. take k bytes ++ l) (OccursAt-split bytes part k occurs)
 
-pub holds_none : (bytes part : List ℕ) → Nowhere (OccursAt bytes part) 0 (length bytes + 1) → Holds bytes part → ⊥
+pub holds_none : (bytes part : List ℕ) → Nowhere (OccursAt bytes part) 0 (length bytes + 1) → ContainsBytes bytes part → ⊥
 holds_none bytes part none holds = none (length holds.before) (omega arith) (omega (arith, ap length holds.whole, length-append holds.before (part ++ holds.after))) (occurs_behind bytes part holds.before holds.after holds.whole)
 
 pub not_less : (k n : ℕ) → (n < k → ⊥) → k ≤ n
@@ -52,7 +52,7 @@ ends_cut delimiter bytes before found after k occurs none front back behind = rw
 byte_behind : (byte : ℕ) (bytes before after : List ℕ) → bytes ≡ before ++ (byte ∷ after) → Passes (is_byte byte) bytes (length before)
 byte_behind byte bytes before after whole = eq-eqb _ _ (ap (λ l. get_or l (length before) 0) whole ∙ get_or_at before byte after 0 (length before) refl)
 
-pub byte_nowhere : (byte : ℕ) (bytes : List ℕ) → Nowhere (Passes (is_byte byte) bytes) 0 (length bytes) → Holds bytes (byte ∷ []) → ⊥
+pub byte_nowhere : (byte : ℕ) (bytes : List ℕ) → Nowhere (Passes (is_byte byte) bytes) 0 (length bytes) → ContainsBytes bytes (byte ∷ []) → ⊥
 byte_nowhere byte bytes none holds = none (length holds.before) (omega arith) (omega (arith, ap length holds.whole, length-append holds.before (byte ∷ holds.after))) (byte_behind byte bytes holds.before holds.after holds.whole)
 
 pub byte_ends : (byte : ℕ) (bytes before found after : List ℕ) (k : ℕ) → Passes (is_byte byte) bytes k → NoneBefore (Passes (is_byte byte) bytes) 0 (length bytes) k → before ≡ take k bytes → found ≡ drop k bytes → after ≡ drop 1 found → EndsAt (byte ∷ []) bytes before after

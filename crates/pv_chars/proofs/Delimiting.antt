@@ -1,7 +1,7 @@
 -- A delimiter behind a text that doesn't hold it stands there for the first time, if it can't begin inside the text and end behind it.
 use Rattle.std.proofs.Common.{◌≡◌, ℕ, ◌+◌, ◌<◌, ◌≤◌, ⊎_elim, List, [], ◌∷◌, ◌++◌, length, refl, sym, ap, ◌∙◌, arith, length-append}
 use Rattle.std.proofs.lemmas.Bool.{cases_lt}
-use Rattle.pv_chars.specs.Fronts.{Holds, EndsAt}
+use Rattle.pv_chars.specs.Fronts.{ContainsBytes, EndsAt}
 use Rattle.pv_chars.proofs.Delimited.{not_less}
 
 -- What two ways to cut a list in two have to do with one another.
@@ -36,7 +36,7 @@ pub record Straddles (part text : List ℕ) : Type 0 where
   pub some_outside : 0 < length outside
 
 -- it stands earlier only inside the text, or so
-earlier : (part text rest other more : List ℕ) → (Holds text part → ⊥) → (Straddles part text → ⊥) → text ++ (part ++ rest) ≡ other ++ (part ++ more) → length other < length text → ⊥
+earlier : (part text rest other more : List ℕ) → (ContainsBytes text part → ⊥) → (Straddles part text → ⊥) → text ++ (part ++ rest) ≡ other ++ (part ++ more) → length other < length text → ⊥
 earlier part text rest other more none apart whole less =
     let o = overlap text (part ++ rest) other (part ++ more) whole (omega arith) in
     let long : length text ≡ length other + length o.between = ap length o.front ∙ length-append other o.between in
@@ -60,7 +60,7 @@ earlier part text rest other more none apart whole less =
     none record { before = other; after = p.between; whole = o.front ∙ ap (λ l. other ++ l) p.front })
     (cases_lt (length o.between) (length part))
 
-pub ends_behind : (part text rest : List ℕ) → (Holds text part → ⊥) → (Straddles part text → ⊥) → EndsAt part (text ++ (part ++ rest)) text rest
+pub ends_behind : (part text rest : List ℕ) → (ContainsBytes text part → ⊥) → (Straddles part text → ⊥) → EndsAt part (text ++ (part ++ rest)) text rest
 ends_behind part text rest none apart = record { whole = refl; first = λ other more whole. not_less (length text) (length other) (earlier part text rest other more none apart whole) }
 
 pub by_no_border : (part text : List ℕ) → HasNoBorder part → Straddles part text → ⊥

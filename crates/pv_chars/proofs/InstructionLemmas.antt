@@ -7,7 +7,7 @@ use Rattle.std.specs.Char.{to_ascii_lowercase}
 use Rattle.pv_chars.specs.Spaces.{is_space, IsSpace}
 use Rattle.pv_chars.specs.Characters.{is_char, is_name_char, IsChars, BeginsNo}
 use Rattle.pv_chars.specs.Names.{TakesName, BeginsNoName}
-use Rattle.pv_chars.specs.Fronts.{Begins, BeginsNone, Holds, EndsAt}
+use Rattle.pv_chars.specs.Fronts.{Begins, BeginsNone, ContainsBytes, EndsAt}
 use Rattle.pv_chars.specs.Markup.{IsSpacedChars, IsBehindTarget, IsInstruction}
 use Rattle.pv_chars.proofs.CharacterLemmas.{AreAll-append}
 use Rattle.pv_chars.proofs.NameLemmas.{same_name}
@@ -79,7 +79,7 @@ no_instruction_target bytes start target after e named xml rest b =
     let same = same_name start target after _ _ named i.named in
     i.not_xml (ap (map to_ascii_lowercase) (sym same.0) ∙ xml)
 
-pub no_instruction_end : (bytes start target after : List ℕ) → bytes ≡ codes "<?" ++ start → TakesName start target after → (Holds after (codes "?>") → ⊥) → BeginsNone IsInstruction bytes
+pub no_instruction_end : (bytes start target after : List ℕ) → bytes ≡ codes "<?" ++ start → TakesName start target after → (ContainsBytes after (codes "?>") → ⊥) → BeginsNone IsInstruction bytes
 no_instruction_end bytes start target after e named none rest b =
     let i = instruction_ends bytes start rest e b in
     let same = same_name start target after _ _ named i.named in

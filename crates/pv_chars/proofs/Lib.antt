@@ -1,7 +1,8 @@
+-- for other crates:
 pub mod Scanning
 pub mod Beginnings
 pub mod Options
-pub mod Arms
+pub mod ByteOrderMarkLemmas
 pub mod Utf8Lemmas
 pub mod Ranges
 pub mod CharacterLemmas
@@ -19,3 +20,10 @@ pub mod UnitReading
 pub mod CutLemmas
 pub mod MeansLemmas
 pub mod CloseMarks
+pub mod Binding
+pub mod OneFront
+pub mod NameBytes
+pub mod CharFacts
+pub mod TextDeclarations
+-- of this crate:
+pub mod Arms

@@ -3,7 +3,7 @@ use Rattle.std.proofs.Common.{◌≡◌, ◌≢◌, ℕ, ◌<◌, List, [], ◌�
 use Rattle.std.proofs.lemmas.List.{drop_at}
 use Rattle.std.specs.Prelude.{codes}
 use Rattle.pv_chars.specs.Characters.{IsChars}
-use Rattle.pv_chars.specs.Fronts.{Begins, BeginsNone, Holds, EndsAt}
+use Rattle.pv_chars.specs.Fronts.{Begins, BeginsNone, ContainsBytes, EndsAt}
 use Rattle.pv_chars.specs.Markup.{IsComment, IsCdata}
 use Rattle.pv_chars.proofs.Delimited.{same_end}
 use Rattle.pv_chars.proofs.Delimiting.{Straddles, ends_behind, by_no_border, three_have_no_border}
@@ -13,7 +13,7 @@ pub behind : (front a b : List ℕ) → front ++ a ≡ front ++ b → a ≡ b
 behind front a b e = sym (drop_at front a (length front) refl) ∙ ap (drop (length front)) e ∙ drop_at front b (length front) refl
 
 -- a text before the first place of a delimiter doesn't hold it
-pub none_before_end : (delimiter bytes text after : List ℕ) → 0 < length delimiter → EndsAt delimiter bytes text after → Holds text delimiter → ⊥
+pub none_before_end : (delimiter bytes text after : List ℕ) → 0 < length delimiter → EndsAt delimiter bytes text after → ContainsBytes text delimiter → ⊥
 none_before_end delimiter bytes text after some ends holds =
     let whole : bytes ≡ holds.before ++ (delimiter ++ (holds.after ++ (delimiter ++ after))) =
     ends.whole ∙ ap (λ l. l ++ (delimiter ++ after)) holds.whole ∙ append_assoc holds.before (delimiter ++ holds.after) (delimiter ++ after) ∙ ap (λ l. holds.before ++ l) (append_assoc delimiter holds.after (delimiter ++ after)) in
@@ -60,7 +60,7 @@ comment_by bytes inside text end rest e ends chars closes = record {
 pub no_comment_start : (bytes : List ℕ) → ((rest : List ℕ) → bytes ≢ codes "<!--" ++ rest) → BeginsNone IsComment bytes
 no_comment_start bytes none rest c = none (c.is_item.text ++ codes "-->" ++ rest) (c.whole ∙ ap (λ l. l ++ rest) c.is_item.whole ∙ append_assoc (codes "<!--") (c.is_item.text ++ codes "-->") rest)
 
-pub no_comment_end : (bytes inside : List ℕ) → bytes ≡ codes "<!--" ++ inside → (Holds inside (codes "--") → ⊥) → BeginsNone IsComment bytes
+pub no_comment_end : (bytes inside : List ℕ) → bytes ≡ codes "<!--" ++ inside → (ContainsBytes inside (codes "--") → ⊥) → BeginsNone IsComment bytes
 no_comment_end bytes inside e none rest c = let found = comment_ends bytes inside rest e c in none record { before = found.0; after = codes ">" ++ rest; whole = found.1.ends.whole }
 
 pub no_comment_text : (bytes inside text end : List ℕ) → bytes ≡ codes "<!--" ++ inside → EndsAt (codes "--") inside text end → (IsChars text → ⊥) → BeginsNone IsComment bytes
@@ -105,7 +105,7 @@ cdata_by bytes inside text rest e ends chars = record {
 pub no_cdata_start : (bytes : List ℕ) → ((rest : List ℕ) → bytes ≢ codes "<![CDATA[" ++ rest) → BeginsNone IsCdata bytes
 no_cdata_start bytes none rest c = none (c.is_item.text ++ codes "]]>" ++ rest) (c.whole ∙ ap (λ l. l ++ rest) c.is_item.whole ∙ append_assoc (codes "<![CDATA[") (c.is_item.text ++ codes "]]>") rest)
 
-pub no_cdata_end : (bytes inside : List ℕ) → bytes ≡ codes "<![CDATA[" ++ inside → (Holds inside (codes "]]>") → ⊥) → BeginsNone IsCdata bytes
+pub no_cdata_end : (bytes inside : List ℕ) → bytes ≡ codes "<![CDATA[" ++ inside → (ContainsBytes inside (codes "]]>") → ⊥) → BeginsNone IsCdata bytes
 no_cdata_end bytes inside e none rest c = let found = cdata_ends bytes inside rest e c in none record { before = found.0; after = rest; whole = found.1.ends.whole }
 
 pub no_cdata_text : (bytes inside text end : List ℕ) → bytes ≡ codes "<![CDATA[" ++ inside → EndsAt (codes "]]>") inside text end → (IsChars text → ⊥) → BeginsNone IsCdata bytes

@@ -17,7 +17,7 @@ use Rattle.pv_chars.specs.Texts.{is_data, has_data}
 use Rattle.pv_chars.specs.References.{IsPredefined}
 use Rattle.pv_chars.proofs.Utf8Lemmas.{one_byte, two_bytes, three_bytes, four_bytes}
 use Rattle.pv_chars.specs.Texts.{joined}
-use Rattle.pv_chars.specs.Units.{is_literal, is_simple, is_lone, IsUnit, AllUnits, BeginsCloseMark, BeginsUnit, HasTextFault, Means, ends, unit, fault, TextMeans, MeansUnits, IsCut, AreUnits, units_in, HasUnitFault, BeginsAnyUnit, BeginsSomeUnit}
+use Rattle.pv_chars.specs.Units.{is_literal, is_simple, is_lone, IsUnit, AllUnits, BeginsCloseMark, BeginsUnit, HasTextFault, TextRestMeans, ends, unit, fault, TextMeans, MeansUnits, IsCut, AreUnits, units_in, HasUnitFault, BeginsAnyUnit, BeginsSomeUnit}
 use Rattle.pv_chars.specs.declared.errors.TextError.{TextError}
 use Rattle.pv_chars.specs.declared.errors.TextError.TheVariants.{Empty, BadChar, BadReference, Entity, CloseMark, NoMemory}
 use Rattle.pv_chars.proofs.CharacterLemmas.{cut_at}
@@ -32,14 +32,14 @@ pub joined_push : (us : List (List ℕ)) (u : List ℕ) → joined (us ++ u ∷ 
 joined_push us u = joined-append us (u ∷ []) ∙ ap (λ l. joined us ++ l) (append-nil u)
 
 -- ---- one meaning
-pub means_only : {before : List (List ℕ)} {rest : List ℕ} {o p : Result (List (List ℕ)) TextError} → Means before rest o → Means before rest p → o ≡ p
+pub means_only : {before : List (List ℕ)} {rest : List ℕ} {o p : Result (List (List ℕ)) TextError} → TextRestMeans before rest o → TextRestMeans before rest p → o ≡ p
 means_only (ends e) (ends f) = refl
 means_only (ends e) (unit v n b r) = absurd (nothing_is_no_unit _ v n e b)
 means_only (ends e) (fault k f) = absurd (nothing_is_no_fault _ k _ e f)
 means_only (unit u m a q) (ends f) = absurd (nothing_is_no_unit _ u m f a)
 means_only {before} {rest} {o} {p} (unit u m a q) (unit v n b r) =
     let same = same_unit rest u v m n a b in
-    let P : List ℕ → List ℕ → Type 0 = λ x y. Means (before ++ x ∷ []) y p in
+    let P : List ℕ → List ℕ → Type 0 = λ x y. TextRestMeans (before ++ x ∷ []) y p in
     means_only q (subst (λ (y : List ℕ). P u y) (sym same.1) (subst (λ (x : List ℕ). P x n) (sym same.0) r))
 means_only (unit u m a q) (fault k f) = absurd (unit_or_fault _ u m _ k a f)
 means_only (fault k e) (ends f) = absurd (nothing_is_no_fault _ k _ f e)
@@ -63,7 +63,7 @@ pub record HasUnits (bytes rest : List ℕ) (count : ℕ) : Type 0 where
   pub whole : bytes ≡ joined units ++ rest
   pub count_is : count ≡ length units
   pub short : count + length rest ≤ length bytes
-  pub leads : (o : Result (List (List ℕ)) TextError) → Means units rest o → Means [] bytes o
+  pub leads : (o : Result (List (List ℕ)) TextError) → TextRestMeans units rest o → TextRestMeans [] bytes o
 
 pub no_units : (bytes : List ℕ) → HasUnits bytes bytes 0
 no_units bytes = record { units = []; are_units = tt; whole = refl; count_is = refl; short = omega arith; leads = λ o m. m }
@@ -95,7 +95,7 @@ units_end bytes rest count h e = record {
   means = h.leads (Ok h.units) (ends e);
 }
 
-pub units_fault : (bytes rest : List ℕ) (count at : ℕ) (e : TextError) → HasUnits bytes rest count → at + length rest ≡ length bytes → HasTextFault e at rest → Means [] bytes (Err e)
+pub units_fault : (bytes rest : List ℕ) (count at : ℕ) (e : TextError) → HasUnits bytes rest count → at + length rest ≡ length bytes → HasTextFault e at rest → TextRestMeans [] bytes (Err e)
 units_fault bytes rest count at e h place f =
     let here : at ≡ length (joined h.units) = omega (arith, place, ap length h.whole, length-append (joined h.units) rest) in
     h.leads (Err e) (fault e (subst (λ (k : ℕ). HasTextFault e k rest) here f))
@@ -135,14 +135,14 @@ simple_no_mark bytes e mark =
     let whole = subst P mark.1 e in
     let third = (and_parts (is_simple 62) (list_all is_simple mark.0) (and_parts (is_simple 93) (is_simple 62 && list_all is_simple mark.0) (and_parts (is_simple 93) (is_simple 93 && (is_simple 62 && list_all is_simple mark.0)) whole).1).1).0 in cc
 
-simple_means : (before : List (List ℕ)) (bytes : List ℕ) → list_all is_simple bytes ≡ true → Means before bytes (Ok (before ++ singles bytes))
+simple_means : (before : List (List ℕ)) (bytes : List ℕ) → list_all is_simple bytes ≡ true → TextRestMeans before bytes (Ok (before ++ singles bytes))
 unfolding singles
-simple_means before [] e = let P : List (List ℕ) → Type 0 = λ l. Means before [] (Ok l) in subst P (sym (append-nil before)) (ends refl)
+simple_means before [] e = let P : List (List ℕ) → Type 0 = λ l. TextRestMeans before [] (Ok l) in subst P (sym (append-nil before)) (ends refl)
 simple_means before (b ∷ bs) e =
     let parts = and_parts (is_simple b) (list_all is_simple bs) e in
     let begins : BeginsUnit (b ∷ bs) (b ∷ []) bs = record { is_unit = simple_unit b parts.0; whole = refl; no_close_mark = simple_no_mark (b ∷ bs) e } in
     let below = simple_means (before ++ (b ∷ []) ∷ []) bs parts.1 in
-    let P : List (List ℕ) → Type 0 = λ l. Means (before ++ (b ∷ []) ∷ []) bs (Ok l) in
+    let P : List (List ℕ) → Type 0 = λ l. TextRestMeans (before ++ (b ∷ []) ∷ []) bs (Ok l) in
     unit (b ∷ []) bs begins (subst P (append_assoc before ((b ∷ []) ∷ []) (singles bs)) below)
 
 pub simple_units : (bytes : List ℕ) → list_all is_simple bytes ≡ true → MeansUnits bytes (length bytes)
@@ -158,7 +158,7 @@ cut_of bytes items count m some e = record { units = m.units; are_units = m.are_
 pub means_cut : (bytes items : List ℕ) (count : ℕ) → MeansUnits bytes count → bytes ≢ [] → items ≡ bytes → TextMeans bytes (Ok (units_in items))
 means_cut bytes items count m some e =
     let same : units_in items ≡ m.units = ap units_in (e ∙ m.whole) ∙ units_in-joined m.units m.are_units in
-    let P : List (List ℕ) → Type 0 = λ l. Means [] bytes (Ok l) in
+    let P : List (List ℕ) → Type 0 = λ l. TextRestMeans [] bytes (Ok l) in
     inr (some, subst P (sym same) m.means)
 
 pub unit_fault_is : (bytes : List ℕ) (at : ℕ) (e : TextError) → HasUnitFault e at bytes → HasTextFault e at bytes

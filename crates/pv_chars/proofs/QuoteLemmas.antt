@@ -1,6 +1,6 @@
 -- Values in quotes, read from the front.
 use Rattle.std.proofs.Common.{◌≡◌, ℕ, List, [], ◌∷◌, ◌++◌, true, false, length, refl, sym, ap, ◌∙◌, arith, append_assoc, length-append}
-use Rattle.pv_chars.specs.Fronts.{Begins, Holds, EndsAt}
+use Rattle.pv_chars.specs.Fronts.{Begins, ContainsBytes, EndsAt}
 use Rattle.pv_chars.specs.Declarations.{is_quote, IsQuoted, BeginsNoQuoted}
 use Rattle.pv_chars.proofs.Delimited.{same_end}
 use Rattle.pv_chars.proofs.Delimiting.{HasNoBorder, ends_behind, by_no_border}
@@ -34,7 +34,7 @@ no_quoted_in_nothing bytes e value rest b = let i = b.is_item in let some : [] �
 pub no_quoted_by_other : (bytes inside : List ℕ) (quote : ℕ) → bytes ≡ quote ∷ inside → is_quote quote ≡ false → BeginsNoQuoted bytes
 no_quoted_by_other bytes inside quote e other value rest b = let is = (quoted_ends bytes inside value rest quote e b).0 in cc
 
-pub no_quoted_by_end : (bytes inside : List ℕ) (quote : ℕ) → bytes ≡ quote ∷ inside → (Holds inside (quote ∷ []) → ⊥) → BeginsNoQuoted bytes
+pub no_quoted_by_end : (bytes inside : List ℕ) (quote : ℕ) → bytes ≡ quote ∷ inside → (ContainsBytes inside (quote ∷ []) → ⊥) → BeginsNoQuoted bytes
 no_quoted_by_end bytes inside quote e none value rest b = let ends = (quoted_ends bytes inside value rest quote e b).1 in none record { before = value; after = rest; whole = ends.whole }
 
 -- value and rest are determined

@@ -1,19 +1,24 @@
 -- The XML declaration and the text declaration (XML 1.0, sections 2.8, 2.9, 4.3.1 and 4.3.3).
-use Rattle.std.specs.Prelude.{◌≡◌, ◌≢◌, ◌⊎◌, ℕ, Bool, ◌||◌, ◌==◌, List, [], ◌∷◌, ◌++◌, codes, map, IsTrue}
-use Rattle.std.specs.List.{list_all}
+use Rattle.std.specs.Prelude.{◌≡◌, ◌≢◌, ◌⊎◌, ℕ, Bool, ◌||◌, ◌==◌, List, [], ◌∷◌, ◌++◌, codes, map}
+use Rattle.std.specs.Prelude.{nat_eq, IsTrue}
+use Rattle.std.specs.List.{list_all, list_any}
 use Rattle.std.specs.Char.{to_ascii_lowercase, is_ascii_digit}
 use Rattle.pv_chars.specs.Spaces.{IsSpace, IsOptionalSpace}
-use Rattle.pv_chars.specs.Fronts.{BeginsNone, Holds}
+use Rattle.pv_chars.specs.Fronts.{BeginsNone, ContainsBytes}
 
 -- a double or a single quote
 abbrev pub is_quote : ℕ → Bool
 is_quote b = (b == 34) || (b == 39)
 
+-- one of these bytes
+abbrev pub is_one_of : List ℕ → ℕ → Bool
+is_one_of bytes b = list_any (nat_eq b) bytes
+
 -- A value in a pair of quotes, which it doesn't hold.
 pub record IsQuoted (value bytes : List ℕ) : Type 0 where
   pub quote : ℕ
   pub is_quote : IsTrue (is_quote quote)
-  pub not_inside : Holds value (quote ∷ []) → ⊥
+  pub not_inside : ContainsBytes value (quote ∷ []) → ⊥
   pub whole : bytes ≡ quote ∷ (value ++ quote ∷ [])
 
 -- Eq: S? '=' S?
@@ -43,7 +48,8 @@ pub record IsVersionNum (value : List ℕ) : Type 0 where
 
 -- EncName: here UTF-8 or US-ASCII, in any case
 abbrev pub IsEncName : List ℕ → Type 0
-IsEncName value = (map to_ascii_lowercase value ≡ codes "utf-8") ⊎ (map to_ascii_lowercase value ≡ codes "us-ascii")
+IsEncName value = (map to_ascii_lowercase value ≡ codes "utf-8") ⊎
+    (map to_ascii_lowercase value ≡ codes "us-ascii")
 
 -- yes or no
 abbrev pub IsYesOrNo : List ℕ → Type 0
@@ -67,7 +73,8 @@ IsStandaloneDecl = IsPartOf (codes "standalone") IsYesOrNo
 abbrev pub IsOptional : (List ℕ → Type 0) → List ℕ → Type 0
 IsOptional IsItem bytes = (bytes ≡ []) ⊎ IsItem bytes
 
--- TextDecl, in this project's profile: `<?xml`, then VersionInfo, EncodingDecl and SDDecl, each of which may be left out, but not all, S? and `?>`
+-- TextDecl, in this project's profile: `<?xml`, then VersionInfo, EncodingDecl and SDDecl, each of
+-- which may be left out, but not all, S? and `?>`
 pub record IsTextDecl (bytes : List ℕ) : Type 0 where
   pub version : List ℕ
   pub encoding : List ℕ
@@ -78,9 +85,11 @@ pub record IsTextDecl (bytes : List ℕ) : Type 0 where
   pub is_standalone : IsOptional IsStandaloneDecl standalone
   pub some : version ++ (encoding ++ standalone) ≢ []
   pub is_space : IsOptionalSpace space
-  pub whole : bytes ≡ codes "<?xml" ++ (version ++ (encoding ++ (standalone ++ (space ++ codes "?>"))))
+  pub whole : bytes ≡ codes "<?xml" ++
+      (version ++ (encoding ++ (standalone ++ (space ++ codes "?>"))))
 
--- XMLDecl: `<?xml`, VersionInfo, EncodingDecl and SDDecl, each of which may be left out, S? and `?>`
+-- XMLDecl: `<?xml`, VersionInfo, EncodingDecl and SDDecl, each of which may be left out, S? and
+-- `?>`
 pub record IsXmlDecl (bytes : List ℕ) : Type 0 where
   pub version : List ℕ
   pub encoding : List ℕ
@@ -90,7 +99,8 @@ pub record IsXmlDecl (bytes : List ℕ) : Type 0 where
   pub is_encoding : IsOptional IsEncodingDecl encoding
   pub is_standalone : IsOptional IsStandaloneDecl standalone
   pub is_space : IsOptionalSpace space
-  pub whole : bytes ≡ codes "<?xml" ++ (version ++ (encoding ++ (standalone ++ (space ++ codes "?>"))))
+  pub whole : bytes ≡ codes "<?xml" ++
+      (version ++ (encoding ++ (standalone ++ (space ++ codes "?>"))))
 
 -- no value in quotes stands at the front
 abbrev pub BeginsNoQuoted : List ℕ → Type 0

@@ -12,7 +12,7 @@ abbrev pub BeginsNone : (List ℕ → Type 0) → List ℕ → Type 0
 BeginsNone IsItem bytes = (rest : List ℕ) → Begins IsItem bytes rest → ⊥
 
 -- These bytes stand somewhere in others.
-pub record Holds (bytes part : List ℕ) : Type 0 where
+pub record ContainsBytes (bytes part : List ℕ) : Type 0 where
   pub before : List ℕ
   pub after : List ℕ
   pub whole : bytes ≡ before ++ (part ++ after)
@@ -20,4 +20,5 @@ pub record Holds (bytes part : List ℕ) : Type 0 where
 -- A delimiter stands in the bytes, for the first time behind these, and this stands after it.
 pub record EndsAt (delimiter bytes before after : List ℕ) : Type 0 where
   pub whole : bytes ≡ before ++ (delimiter ++ after)
-  pub first : (other more : List ℕ) → bytes ≡ other ++ (delimiter ++ more) → length before ≤ length other
+  pub first : (other more : List ℕ) → bytes ≡ other ++ (delimiter ++ more) →
+      length before ≤ length other

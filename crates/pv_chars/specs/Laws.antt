@@ -1,8 +1,8 @@
 -- Statements of laws.
-use Rattle.std.specs.Prelude.{◌≡◌, ◌≢◌, ℕ, false, List, [], Result}
+use Rattle.std.specs.Prelude.{◌≡◌, ◌≢◌, ◌↔◌, ℕ, false, List, [], Result, IsTrue}
 use Rattle.pv_chars.specs.Spaces.{is_space, begins}
 use Rattle.pv_chars.specs.Characters.{BeginsWith}
-use Rattle.pv_chars.specs.Names.{TakesName}
+use Rattle.pv_chars.specs.Names.{IsName, TakesName, is_name}
 use Rattle.pv_chars.specs.Fronts.{Begins, EndsAt}
 use Rattle.pv_chars.specs.Declarations.{IsQuoted, IsPart}
 use Rattle.pv_chars.specs.References.{IsEntityRef}
@@ -22,6 +22,10 @@ CodesAreDetermined = (bytes : List ℕ) (c d : ℕ) (rest more : List ℕ) → B
 abbrev pub NamesAreDetermined : Type 0
 NamesAreDetermined = (bytes name rest other more : List ℕ) → TakesName bytes name rest →
     TakesName bytes other more → (name ≡ other) × (rest ≡ more)
+
+-- the test holds exactly of a Name
+abbrev pub NamesAreTested : Type 0
+NamesAreTested = (bytes : List ℕ) → IsTrue (is_name bytes) ↔ IsName bytes
 
 abbrev pub EndsAreDetermined : Type 0
 EndsAreDetermined = (delimiter bytes before after other more : List ℕ) →

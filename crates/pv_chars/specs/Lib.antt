@@ -8,5 +8,7 @@ pub mod References
 pub mod Texts
 pub mod Units
 pub mod Scan
+pub mod ByteOrderMark
 pub mod Utf8
+pub mod CharReading
 pub mod Laws

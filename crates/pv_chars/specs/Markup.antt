@@ -4,13 +4,13 @@ use Rattle.std.specs.Char.{to_ascii_lowercase}
 use Rattle.pv_chars.specs.Spaces.{IsSpace}
 use Rattle.pv_chars.specs.Characters.{IsChars}
 use Rattle.pv_chars.specs.Names.{IsName}
-use Rattle.pv_chars.specs.Fronts.{Holds}
+use Rattle.pv_chars.specs.Fronts.{ContainsBytes}
 
 -- Comment: `<!--`, Chars that hold no `--` and don't end in `-`, `-->`
 pub record IsComment (bytes : List ℕ) : Type 0 where
   pub text : List ℕ
   pub are_chars : IsChars text
-  pub no_dashes : Holds text (codes "--") → ⊥
+  pub no_dashes : ContainsBytes text (codes "--") → ⊥
   pub no_dash_at_end : (front : List ℕ) → text ≡ front ++ codes "-" → ⊥
   pub whole : bytes ≡ codes "<!--" ++ (text ++ codes "-->")
 
@@ -37,12 +37,12 @@ pub record IsInstruction (bytes : List ℕ) : Type 0 where
   pub behind : List ℕ
   pub is_target : IsTarget target
   pub is_behind : IsBehindTarget behind
-  pub no_end : Holds behind (codes "?>") → ⊥
+  pub no_end : ContainsBytes behind (codes "?>") → ⊥
   pub whole : bytes ≡ codes "<?" ++ (target ++ (behind ++ codes "?>"))
 
 -- CDSect: `<![CDATA[`, Chars that hold no `]]>`, `]]>`
 pub record IsCdata (bytes : List ℕ) : Type 0 where
   pub text : List ℕ
   pub are_chars : IsChars text
-  pub no_end : Holds text (codes "]]>") → ⊥
+  pub no_end : ContainsBytes text (codes "]]>") → ⊥
   pub whole : bytes ≡ codes "<![CDATA[" ++ (text ++ codes "]]>")

@@ -15,7 +15,8 @@ number_behind base n (d ∷ ds) = number_behind base (n * base + digit_value d) 
 abbrev pub number : ℕ → List ℕ → ℕ
 number base digits = number_behind base 0 digits
 
--- A reference by digits in this base behind this front: one or more, with any number of leading zeros, that write the code point of a Char.
+-- A reference by digits in this base behind this front: one or more, with any number of leading
+-- zeros, that write the code point of a Char.
 pub record IsCharRefIn (base : ℕ) (front bytes : List ℕ) : Type 0 where
   pub digits : List ℕ
   pub some : digits ≢ []
@@ -34,7 +35,9 @@ pub record IsEntityRef (name bytes : List ℕ) : Type 0 where
 
 -- one of the five names that need no declaration (section 4.6)
 abbrev pub IsPredefined : List ℕ → Type 0
-IsPredefined name = (name ≡ codes "lt") ⊎ ((name ≡ codes "gt") ⊎ ((name ≡ codes "amp") ⊎ ((name ≡ codes "apos") ⊎ (name ≡ codes "quot"))))
+IsPredefined name = (name ≡ codes "lt") ⊎
+    ((name ≡ codes "gt") ⊎
+    ((name ≡ codes "amp") ⊎ ((name ≡ codes "apos") ⊎ (name ≡ codes "quot"))))
 
 -- Reference: a CharRef or an EntityRef of any name
 abbrev pub IsReference : List ℕ → Type 0
@@ -48,7 +51,8 @@ BeginsNoEntityRef bytes = (name : List ℕ) → BeginsNone (IsEntityRef name) by
 abbrev pub PAST_CHARS : ℕ
 PAST_CHARS = 0x110000
 
--- As many digits in this base as stand at the front, which this follows; the number that they write is this, or past all characters where it is.
+-- As many digits in this base as stand at the front, which this follows; the number that they
+-- write is this, or past all characters where it is.
 pub record TakesDigits (base : ℕ) (bytes rest : List ℕ) (value : ℕ) : Type 0 where
   pub digits : List ℕ
   pub are_digits : IsTrue (list_all (λ d. is_digit d base) digits)

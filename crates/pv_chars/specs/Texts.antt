@@ -20,7 +20,8 @@ has_data units = list_any is_data units
 
 -- the three literal characters `]]>` stand at the front
 abbrev pub begins_close_mark : List (List ℕ) → Bool
-begins_close_mark (a ∷ b ∷ c ∷ units) = bytes_eq a (codes "]") && bytes_eq b (codes "]") && bytes_eq c (codes ">")
+begins_close_mark (a ∷ b ∷ c ∷ units) =
+    bytes_eq a (codes "]") && bytes_eq b (codes "]") && bytes_eq c (codes ">")
 begins_close_mark units = false
 
 -- they stand somewhere

@@ -1,12 +1,15 @@
 -- Texts as lists of units (XML 1.0, sections 2.2, 2.4 and 4.1).
-use Rattle.std.specs.Prelude.{◌≡◌, ◌≢◌, ◌⊎◌, ℕ, Bool, false, true, not, ◌&&◌, ◌==◌, nat_lt, if◌then◌else◌, List, [], ◌∷◌, ◌++◌, length, codes, IsTrue, encode_utf8, Result, Ok, Err}
+use Rattle.std.specs.Prelude.{◌≡◌, ◌≢◌, ◌⊎◌, ℕ, Bool, false, true, not, ◌&&◌, ◌==◌, nat_lt}
+use Rattle.std.specs.Prelude.{if◌then◌else◌, List, [], ◌∷◌, ◌++◌, length, codes, IsTrue}
+use Rattle.std.specs.Prelude.{encode_utf8, Result, Ok, Err}
 use Rattle.pv_chars.specs.Characters.{is_char, BeginsNo}
 use Rattle.pv_chars.specs.Fronts.{Begins, BeginsNone}
 use Rattle.pv_chars.specs.References.{IsCharRef, IsEntityRef, IsPredefined, IsReference}
 use Rattle.pv_chars.specs.Utf8.{continues}
 use Rattle.pv_chars.specs.Texts.{joined}
 use Rattle.pv_chars.specs.declared.errors.TextError.{TextError}
-use Rattle.pv_chars.specs.declared.errors.TextError.TheVariants.{Empty, BadChar, BadReference, Entity, CloseMark, NoMemory}
+use Rattle.pv_chars.specs.declared.errors.TextError.TheVariants.{Empty, BadChar, BadReference}
+use Rattle.pv_chars.specs.declared.errors.TextError.TheVariants.{Entity, CloseMark, NoMemory}
 
 -- a character that stands for itself in a text: a Char other than `<` and `&`
 abbrev pub is_literal : ℕ → Bool
@@ -47,7 +50,8 @@ pub record BeginsBadReference (bytes : List ℕ) : Type 0 where
 
 -- `<` stands at the front, or something, but no Char
 abbrev pub BeginsBadChar : List ℕ → Type 0
-BeginsBadChar bytes = ((more : List ℕ) × (bytes ≡ codes "<" ++ more)) ⊎ ((bytes ≢ []) × BeginsNo is_char bytes)
+BeginsBadChar bytes =
+    ((more : List ℕ) × (bytes ≡ codes "<" ++ more)) ⊎ ((bytes ≢ []) × BeginsNo is_char bytes)
 
 -- what keeps a unit from standing at a place, so many bytes from the start
 abbrev pub HasTextFault : TextError → ℕ → List ℕ → Type 0
@@ -84,15 +88,18 @@ abbrev pub BeginsAmpersand : List ℕ → Type 0
 BeginsAmpersand bytes = (more : List ℕ) × (bytes ≡ codes "&" ++ more)
 
 -- Behind these units, the rest means this: it ends with them, goes on with a unit, or has a fault.
-pub data Means : List (List ℕ) → List ℕ → Result (List (List ℕ)) TextError → Type 0 where
-  ends : {before : List (List ℕ)} {rest : List ℕ} → rest ≡ [] → Means before rest (Ok before)
-  unit : {before : List (List ℕ)} {rest : List ℕ} {o : Result (List (List ℕ)) TextError} (u more : List ℕ) → BeginsUnit rest u more → Means (before ++ u ∷ []) more o → Means before rest o
+pub data TextRestMeans : List (List ℕ) → List ℕ → Result (List (List ℕ)) TextError → Type 0 where
+  ends : {before : List (List ℕ)} {rest : List ℕ} → rest ≡ [] →
+      TextRestMeans before rest (Ok before)
+  unit : {before : List (List ℕ)} {rest : List ℕ} {o : Result (List (List ℕ)) TextError}
+      (u more : List ℕ) → BeginsUnit rest u more → TextRestMeans (before ++ u ∷ []) more o →
+      TextRestMeans before rest o
   fault : {before : List (List ℕ)} {rest : List ℕ} (e : TextError) →
-      HasTextFault e (length (joined before)) rest → Means before rest (Err e)
+      HasTextFault e (length (joined before)) rest → TextRestMeans before rest (Err e)
 
 -- what a text means: its units, or the first fault from the left
 abbrev pub TextMeans : List ℕ → Result (List (List ℕ)) TextError → Type 0
-TextMeans bytes o = ((bytes ≡ []) × (o ≡ Err Empty)) ⊎ ((bytes ≢ []) × Means [] bytes o)
+TextMeans bytes o = ((bytes ≡ []) × (o ≡ Err Empty)) ⊎ ((bytes ≢ []) × TextRestMeans [] bytes o)
 
 -- each of these is a unit
 abbrev pub AllUnits : List (List ℕ) → Type 0
@@ -106,8 +113,8 @@ goes_on b r = (b ∷ r.0, r.1)
 abbrev pub opens : ℕ → List ℕ × List (List ℕ) → List ℕ × List (List ℕ)
 opens b r = ([], (b ∷ r.0) ∷ r.1)
 
--- What the bytes of a text add to the unit before them, which may be an open reference, and the units behind it: a reference goes on to its `;`,
--- and a character as long as bytes continue it.
+-- What the bytes of a text add to the unit before them, which may be an open reference, and the
+-- units behind it: a reference goes on to its `;`, and a character as long as bytes continue it.
 abbrev pub cut : Bool → List ℕ → List ℕ × List (List ℕ)
 cut in_reference [] = ([], [])
 cut true (b ∷ bs) = goes_on b (cut (not (b == 59)) bs)
@@ -136,9 +143,10 @@ pub record MeansUnits (bytes : List ℕ) (count : ℕ) : Type 0 where
   pub are_units : AllUnits units
   pub whole : bytes ≡ joined units
   pub count_is : count ≡ length units
-  pub means : Means [] bytes (Ok units)
+  pub means : TextRestMeans [] bytes (Ok units)
 
--- a character of ASCII that stands for itself and isn't `>`: a run of them is a text of as many units
+-- a character of ASCII that stands for itself and isn't `>`: a run of them is a text of as many
+-- units
 abbrev pub is_simple : ℕ → Bool
 is_simple b = is_literal b && nat_lt b 128 && not (b == 62)
 

@@ -2,7 +2,8 @@
 
 ghost use Rattle.std.specs.Prelude.{◌≡◌, ◌↔◌, IsTrue};
 ghost use Rattle.std.specs.List.{list_all};
-ghost use Rattle.pv_chars.specs.Characters.{is_char, is_ascii_char, is_name_start, is_name_char, IsChars, TakesAll};
+ghost use Rattle.pv_chars.specs.Characters.{is_char, is_ascii_char, is_name_start, is_name_char};
+ghost use Rattle.pv_chars.specs.Characters.{IsChars, TakesAll};
 
 use crate::utf8::char_at;
 

@@ -2,7 +2,10 @@
 
 ghost use Rattle.std.specs.Prelude.{◌≡◌, ◌≢◌, ◌↔◌, false, [], IsTrue, MatchOption};
 ghost use Rattle.pv_chars.specs.Fronts.{Begins, BeginsNone};
-ghost use Rattle.pv_chars.specs.Declarations.{is_quote, IsQuoted, BeginsNoQuoted, IsPart, BeginsNoPart, IsVersionNum, IsEncName, IsYesOrNo, IsVersionInfo, IsEncodingDecl, IsStandaloneDecl, IsTextDecl, IsXmlDecl};
+ghost use Rattle.pv_chars.specs.Declarations.{is_quote, IsQuoted, BeginsNoQuoted, IsPart};
+ghost use Rattle.pv_chars.specs.Declarations.{BeginsNoPart, IsVersionNum, IsEncName, IsYesOrNo};
+ghost use Rattle.pv_chars.specs.Declarations.{IsVersionInfo, IsEncodingDecl, IsStandaloneDecl};
+ghost use Rattle.pv_chars.specs.Declarations.{IsTextDecl, IsXmlDecl};
 ghost use Rattle.std.specs.List.{list_all};
 ghost use Rattle.std.specs.Char.{is_ascii_digit};
 ghost use Rattle.pv_chars.specs.Spaces.{is_space, begins};
@@ -105,7 +108,8 @@ pub fn after_standalone(bytes: &[u8]) -> Option<&[u8]>
     Some(rest)
 }
 
-/// What stands after the text declaration at the front (XML 1.0, section 4.3.1, in this project's profile).
+/// What stands after the text declaration at the front (XML 1.0, section 4.3.1, in this project's
+/// profile).
 pub fn after_text_decl(bytes: &[u8]) -> Option<&[u8]>
     ensures { MatchOption result (BeginsNone IsTextDecl bytes.now)
         (λ r. Begins IsTextDecl bytes.now r.now) }
@@ -122,7 +126,8 @@ pub fn after_text_decl(bytes: &[u8]) -> Option<&[u8]>
 
 /// What stands after the XML declaration at the front (XML 1.0, section 2.8).
 pub fn after_xml_decl(bytes: &[u8]) -> Option<&[u8]>
-    ensures { MatchOption result (BeginsNone IsXmlDecl bytes.now) (λ r. Begins IsXmlDecl bytes.now r.now) }
+    ensures { MatchOption result (BeginsNone IsXmlDecl bytes.now)
+        (λ r. Begins IsXmlDecl bytes.now r.now) }
 {
     let start = after_bytes(b"<?xml", bytes)?;
     let version = after_version(start)?;

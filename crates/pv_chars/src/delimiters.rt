@@ -1,13 +1,13 @@
 //! What stands before a delimiter.
 
 ghost use Rattle.std.specs.Prelude.{[], ◌∷◌, MatchOption};
-ghost use Rattle.pv_chars.specs.Fronts.{Holds, EndsAt};
+ghost use Rattle.pv_chars.specs.Fronts.{ContainsBytes, EndsAt};
 
 use memchr::{memchr, memmem};
 
 /// What stands before the first place of the delimiter, and what stands after it.
 pub fn up_to<'a>(delimiter: &[u8], bytes: &'a [u8]) -> Option<(&'a [u8], &'a [u8])>
-    ensures { MatchOption result (Holds bytes.now delimiter.now → ⊥)
+    ensures { MatchOption result (ContainsBytes bytes.now delimiter.now → ⊥)
         (λ r. EndsAt delimiter.now bytes.now r.0.now r.1.now) }
 {
     let at = memmem::find(bytes, delimiter)?;
@@ -17,7 +17,7 @@ pub fn up_to<'a>(delimiter: &[u8], bytes: &'a [u8]) -> Option<(&'a [u8], &'a [u8
 
 /// What stands before the first place of the byte, and what stands after it.
 pub fn up_to_byte(byte: u8, bytes: &[u8]) -> Option<(&[u8], &[u8])>
-    ensures { MatchOption result (Holds bytes.now (byte ∷ []) → ⊥)
+    ensures { MatchOption result (ContainsBytes bytes.now (byte ∷ []) → ⊥)
         (λ r. EndsAt (byte ∷ []) bytes.now r.0.now r.1.now) }
 {
     let at = memchr(byte, bytes)?;

@@ -1,6 +1,7 @@
 //! Why bytes are no text.
 
-/// Why bytes are no text: nothing at all, or the first thing from the left that is no unit, by its place in bytes.
+/// Why bytes are no text: nothing at all, or the first thing from the left that is no unit, by its
+/// place in bytes.
 #[derive(Clone, Copy, Debug, PartialEq, Eq)]
 pub enum TextError {
     /// There are no bytes.

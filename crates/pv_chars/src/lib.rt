@@ -1,12 +1,15 @@
-//! Characters, names, texts and markup that DTDs and documents share, read from the front of some bytes.
+//! Characters, names, texts and markup that DTDs and documents share, read from the front of some
+//! bytes.
 //!
-//! Characters are code points in UTF-8's shortest form (`specs/Characters.antt`). A reader says what it read and what stands
-//! after it, or that nothing of the kind begins the bytes, by the productions of XML 1.0: Name, Comment, PI, CDSect, the XML
-//! declaration and its parts, Reference (`specs/Names.antt`, `Markup.antt`, `Declarations.antt`, `References.antt`). `text_units`
-//! cuts a text into units, or tells its first fault (`specs/Units.antt`). `laws` has what follows: each reading is one only.
-//! `List` is what other crates keep their lists in.
+//! Characters are code points in UTF-8's shortest form (`specs/Characters.antt`). A reader says
+//! what it read and what stands after it, or that nothing of the kind begins the bytes, by the
+//! productions of XML 1.0: Name, Comment, PI, CDSect, the XML declaration and its parts, Reference
+//! (`specs/Names.antt`, `Markup.antt`, `Declarations.antt`, `References.antt`). `text_units` cuts
+//! a text into units, or tells its first fault (`specs/Units.antt`). `laws` has what follows: each
+//! reading is one only. `List` is what other crates keep their lists in.
 #![tactic(auto)]
 
+pub mod char_reading;
 mod characters;
 pub mod declarations;
 pub mod delimiters;
@@ -27,6 +30,3 @@ pub use lists::{Bytes, List, Numbers, bytes_of};
 pub use memory::NoMemory;
 pub use names::{is_name, name_at};
 pub use unit_text::{Units, are_simple, is_predefined, text_units};
-
-#[cfg(test)]
-mod tests;

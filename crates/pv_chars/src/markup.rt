@@ -11,7 +11,8 @@ use crate::scan::{after_bytes, is_space};
 
 /// What stands after the comment at the front (XML 1.0, section 2.5).
 pub fn after_comment(bytes: &[u8]) -> Option<&[u8]>
-    ensures { MatchOption result (BeginsNone IsComment bytes.now) (λ r. Begins IsComment bytes.now r.now) }
+    ensures { MatchOption result (BeginsNone IsComment bytes.now)
+        (λ r. Begins IsComment bytes.now r.now) }
 {
     let inside = after_bytes(b"<!--", bytes)?;
     let (text, end) = up_to(b"--", inside)?;
@@ -50,7 +51,8 @@ pub fn after_instruction(bytes: &[u8]) -> Option<&[u8]>
 
 /// What stands after the CDATA section at the front (XML 1.0, section 2.7).
 pub fn after_cdata(bytes: &[u8]) -> Option<&[u8]>
-    ensures { MatchOption result (BeginsNone IsCdata bytes.now) (λ r. Begins IsCdata bytes.now r.now) }
+    ensures { MatchOption result (BeginsNone IsCdata bytes.now)
+        (λ r. Begins IsCdata bytes.now r.now) }
 {
     let inside = after_bytes(b"<![CDATA[", bytes)?;
     let (text, rest) = up_to(b"]]>", inside)?;

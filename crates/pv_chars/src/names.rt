@@ -24,7 +24,8 @@ fn after_name_chars(bytes: &[u8]) -> &[u8]
 
 /// The longest Name at the front (XML 1.0, section 2.3), and what stands after it.
 pub fn name_at(bytes: &[u8]) -> Option<(&[u8], &[u8])>
-    ensures found { MatchOption result (BeginsNoName bytes.now) (λ r. TakesName bytes.now r.0.now r.1.now) }
+    ensures found { MatchOption result (BeginsNoName bytes.now)
+        (λ r. TakesName bytes.now r.0.now r.1.now) }
     ensures shorter { IfSome result (λ r. length r.1.now < length bytes.now) }
 {
     let (c, others) = char_at(bytes)?;

@@ -2,7 +2,8 @@
 
 ghost use Rattle.std.specs.Prelude.{◌≡◌, ◌≤◌, MatchOption};
 ghost use Rattle.pv_chars.specs.Fronts.{Begins, BeginsNone};
-ghost use Rattle.pv_chars.specs.References.{IsCharRefIn, IsCharRef, IsEntityRef, BeginsNoEntityRef, TakesDigits};
+ghost use Rattle.pv_chars.specs.References.{IsCharRefIn, IsCharRef, IsEntityRef};
+ghost use Rattle.pv_chars.specs.References.{BeginsNoEntityRef, TakesDigits};
 
 use crate::characters::is_char;
 use crate::names::name_at;
@@ -11,8 +12,9 @@ use crate::scan::after_bytes;
 /// More than the code point of any character.
 const PAST_CHARS: u32 = 0x110000;
 
-// The number that the digits at the front write, or more than any code point where it is more, and what stands after them.
-fn digits_at(base: u32, bytes: &[u8]) -> (u32, &[u8])
+/// The number that the digits at the front write, or more than any code point where it is more,
+/// and what stands after them.
+pub fn digits_at(base: u32, bytes: &[u8]) -> (u32, &[u8])
     requires some { 2 ≤ base }
     requires known { base ≤ 36 }
     ensures { TakesDigits base bytes.now result.1.now result.0 }
@@ -46,10 +48,11 @@ fn after_ref_in<'a>(base: u32, front: &[u8], bytes: &'a [u8]) -> Option<&'a [u8]
     after_bytes(b";", end)
 }
 
-/// What stands after the character reference at the front (XML 1.0, section 4.1, CharRef), which may have any number of
-/// leading zeros.
+/// What stands after the character reference at the front (XML 1.0, section 4.1, CharRef), which
+/// may have any number of leading zeros.
 pub fn after_char_ref(bytes: &[u8]) -> Option<&[u8]>
-    ensures { MatchOption result (BeginsNone IsCharRef bytes.now) (λ r. Begins IsCharRef bytes.now r.now) }
+    ensures { MatchOption result (BeginsNone IsCharRef bytes.now)
+        (λ r. Begins IsCharRef bytes.now r.now) }
 {
     match after_ref_in(16, b"&#x", bytes) {
         Some(rest) => Some(rest),
@@ -57,7 +60,8 @@ pub fn after_char_ref(bytes: &[u8]) -> Option<&[u8]>
     }
 }
 
-/// The name in the entity reference at the front (XML 1.0, section 4.1, EntityRef), and what stands after it.
+/// The name in the entity reference at the front (XML 1.0, section 4.1, EntityRef), and what
+/// stands after it.
 pub fn entity_ref_at(bytes: &[u8]) -> Option<(&[u8], &[u8])>
     ensures { MatchOption result (BeginsNoEntityRef bytes.now)
         (λ r. Begins (IsEntityRef r.0.now) bytes.now r.1.now) }

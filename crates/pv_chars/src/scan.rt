@@ -1,7 +1,9 @@
-//! Parts of a text, read from the left: white space and fixed bytes.
+//! Parts of a text, read from the left: white space, fixed bytes and the byte order mark.
 
-ghost use Rattle.std.specs.Prelude.{◌≡◌, ◌≢◌, ◌≤◌, ◌<◌, ◌+◌, ℕ, false, List, ◌++◌, length, take, drop, IfSome, MatchOption};
+ghost use Rattle.std.specs.Prelude.{◌≡◌, ◌≢◌, ◌≤◌, ◌<◌, ◌+◌, ℕ, false, List, ◌++◌, length, take};
+ghost use Rattle.std.specs.Prelude.{drop, IfSome, MatchOption};
 ghost use Rattle.std.specs.Option.{option_map};
+ghost use Rattle.pv_chars.specs.ByteOrderMark.{IsBehindByteOrderMark};
 ghost use Rattle.pv_chars.specs.Spaces.{is_space, begins, IsOptionalSpace, TakesSpace, TakesBlank};
 ghost use Rattle.pv_chars.specs.Scan.{space_length, after_space, after_blank, after_bytes};
 
@@ -43,7 +45,8 @@ pub fn after_space(bytes: &[u8]) -> &[u8]
 /// What stands after the white space at the front, where there is some.
 #[tactic(auto, unfolding(crate::specs::Scan::after_blank))]
 pub fn after_blank(bytes: &[u8]) -> Option<&[u8]>
-    ensures found { MatchOption result (begins is_space bytes.now ≡ false) (λ r. TakesBlank bytes.now r.now) }
+    ensures found { MatchOption result (begins is_space bytes.now ≡ false)
+        (λ r. TakesBlank bytes.now r.now) }
     ensures after { option_map (λ r. r.now) result ≡ after_blank bytes.now }
     ensures within { IfSome result (λ r. length r.now < length bytes.now) }
 {
@@ -61,4 +64,15 @@ pub fn after_bytes<'a>(front: &[u8], bytes: &'a [u8]) -> Option<&'a [u8]>
     ensures within { IfSome result (λ r. length front.now + length r.now ≡ length bytes.now) }
 {
     bytes.strip_prefix(front)
+}
+
+/// What stands behind the byte order mark, where there is one.
+pub fn after_byte_order_mark(bytes: &[u8]) -> &[u8]
+    ensures behind { IsBehindByteOrderMark bytes.now result.now }
+    ensures within { length result.now ≤ length bytes.now }
+{
+    match after_bytes(b"\xEF\xBB\xBF", bytes) {
+        Some(rest) => rest,
+        None => bytes,
+    }
 }

@@ -1,12 +1,15 @@
 //! Texts, cut into units.
 
-ghost use Rattle.std.specs.Prelude.{◌≡◌, ◌≢◌, ◌<◌, ◌≤◌, ◌-◌, ◌↔◌, ◌⊎◌, [], ◌++◌, length, take, drop, not, IsTrue, IfOk, MatchResult, Ok, Err};
+ghost use Rattle.std.specs.Prelude.{◌≡◌, ◌≢◌, ◌<◌, ◌≤◌, ◌-◌, ◌↔◌, ◌⊎◌, [], ◌++◌, length, take};
+ghost use Rattle.std.specs.Prelude.{drop, not, IsTrue, IfOk, MatchResult, Ok, Err};
 ghost use Rattle.std.specs.List.{list_all, list_any};
 ghost use Rattle.pv_chars.specs.Spaces.{is_space};
 ghost use Rattle.pv_chars.specs.Texts.{joined, has_data};
 ghost use Rattle.pv_chars.specs.declared.errors.TextError.{TextError};
 ghost use Rattle.pv_chars.specs.References.{IsPredefined};
-ghost use Rattle.pv_chars.specs.Units.{HasTextFault, HasUnitFault, BeginsAnyUnit, BeginsSomeUnit, BeginsAmpersand, Means, MeansUnits, TextMeans, is_simple, is_lone, units_in, AllUnits, AreUnits};
+ghost use Rattle.pv_chars.specs.Units.{HasTextFault, HasUnitFault, BeginsAnyUnit, BeginsSomeUnit};
+ghost use Rattle.pv_chars.specs.Units.{BeginsAmpersand, TextRestMeans, MeansUnits, TextMeans};
+ghost use Rattle.pv_chars.specs.Units.{is_simple, is_lone, units_in, AllUnits, AreUnits};
 
 use crate::characters::is_char;
 use crate::references::{after_char_ref, entity_ref_at};
@@ -33,7 +36,8 @@ pub fn is_predefined(name: &[u8]) -> bool
 
 fn after_reference(bytes: &[u8], at: usize) -> Result<&[u8], TextError>
     requires { BeginsAmpersand bytes.now }
-    ensures { MatchResult result (λ r. BeginsAnyUnit bytes.now r.now) (λ e. HasUnitFault e at bytes.now) }
+    ensures { MatchResult result (λ r. BeginsAnyUnit bytes.now r.now)
+        (λ e. HasUnitFault e at bytes.now) }
 {
     if let Some(rest) = after_char_ref(bytes) {
         return Ok(rest);
@@ -50,7 +54,8 @@ fn after_reference(bytes: &[u8], at: usize) -> Result<&[u8], TextError>
 // What stands after the unit at the front, which may begin `]]>`.
 fn after_any_unit(bytes: &[u8], at: usize) -> Result<&[u8], TextError>
     requires { bytes.now ≢ [] }
-    ensures { MatchResult result (λ r. BeginsAnyUnit bytes.now r.now) (λ e. HasUnitFault e at bytes.now) }
+    ensures { MatchResult result (λ r. BeginsAnyUnit bytes.now r.now)
+        (λ e. HasUnitFault e at bytes.now) }
 {
     let Some((c, rest)) = char_at(bytes) else {
         return Err(TextError::BadChar(at));
@@ -70,7 +75,8 @@ fn after_any_unit(bytes: &[u8], at: usize) -> Result<&[u8], TextError>
 // What stands after the unit at the front, by a look at all of it.
 fn after_other_unit(bytes: &[u8], at: usize) -> Result<&[u8], TextError>
     requires { bytes.now ≢ [] }
-    ensures { MatchResult result (λ r. BeginsSomeUnit bytes.now r.now) (λ e. HasTextFault e at bytes.now) }
+    ensures { MatchResult result (λ r. BeginsSomeUnit bytes.now r.now)
+        (λ e. HasTextFault e at bytes.now) }
 {
     if after_bytes(b"]]>", bytes).is_some() {
         return Err(TextError::CloseMark(at));
@@ -100,7 +106,7 @@ fn after_unit(bytes: &[u8], at: usize) -> Result<&[u8], TextError>
 
 // How many units the bytes are.
 fn count_units(bytes: &[u8]) -> Result<usize, TextError>
-    ensures { MatchResult result (MeansUnits bytes.now) (λ e. Means [] bytes.now (Err e)) }
+    ensures { MatchResult result (MeansUnits bytes.now) (λ e. TextRestMeans [] bytes.now (Err e)) }
 {
     let mut rest = bytes;
     let mut count = 0;
@@ -120,7 +126,8 @@ fn is_simple(b: u8) -> bool
         && b != b'>'
 }
 
-/// Whether each byte is a character that stands for itself and isn't `>`. All are looked at, so that many can be at a time.
+/// Whether each byte is a character that stands for itself and isn't `>`. All are looked at, so
+/// that many can be at a time.
 pub fn are_simple(bytes: &[u8]) -> bool
     ensures { result ≡ list_all is_simple bytes.now }
 {
@@ -133,8 +140,9 @@ pub fn are_simple(bytes: &[u8]) -> bool
 
 /// A text, seen as the list of its units. It has at least one.
 ///
-/// A unit is one literal character, or one whole reference: to a Char by its code point, or to one of the five predefined
-/// names. It is white where it is a literal space, tab, CR or LF, and else data.
+/// A unit is one literal character, or one whole reference: to a Char by its code point, or to one
+/// of the five predefined names. It is white where it is a literal space, tab, CR or LF, and else
+/// data.
 #[derive(Debug, Drop)]
 pub struct Units {
     bytes: Vec<u8>,
@@ -242,7 +250,7 @@ fn behind_units(bytes: &[u8], count: usize) -> &[u8]
 
 // How many units a text has, or its first fault.
 fn text_count(bytes: &[u8]) -> Result<usize, TextError>
-    ensures { MatchResult result (MeansUnits bytes.now) (λ e. Means [] bytes.now (Err e)) }
+    ensures { MatchResult result (MeansUnits bytes.now) (λ e. TextRestMeans [] bytes.now (Err e)) }
 {
     if are_simple(bytes) {
         return Ok(bytes.len());

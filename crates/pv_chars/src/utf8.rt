@@ -3,7 +3,8 @@
 ghost use Rattle.std.specs.Prelude.{◌≡◌, ◌<◌, ◌≤◌, length, IfSome, MatchOption};
 ghost use Rattle.std.specs.Option.{option_map};
 ghost use Rattle.pv_chars.specs.Characters.{BeginsWith, BeginsWithNone};
-ghost use Rattle.pv_chars.specs.Utf8.{char_at, continues, of_two, of_three, of_four, led_by, led_by_three, led_by_four};
+ghost use Rattle.pv_chars.specs.Utf8.{char_at, continues, of_two, of_three, of_four, led_by};
+ghost use Rattle.pv_chars.specs.Utf8.{led_by_three, led_by_four};
 
 /// The first byte of a code point of two bytes, three bytes or four bytes.
 const LEADS_TWO: u8 = 0xC0;
@@ -96,7 +97,8 @@ fn read_char(bytes: &[u8]) -> Option<(u32, &[u8])>
 
 /// The code point at the front, in UTF-8's shortest form, and what stands after it.
 pub fn char_at(bytes: &[u8]) -> Option<(u32, &[u8])>
-    ensures found { MatchOption result (BeginsWithNone bytes.now) (λ r. BeginsWith bytes.now r.0 r.1.now) }
+    ensures found { MatchOption result (BeginsWithNone bytes.now)
+        (λ r. BeginsWith bytes.now r.0 r.1.now) }
     ensures shorter { IfSome result (λ r. length r.1.now < length bytes.now) }
 {
     read_char(bytes)

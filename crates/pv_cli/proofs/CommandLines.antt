@@ -1,9 +1,10 @@
 -- Command lines of two words and of four.
-use Rattle.std.proofs.Common.{◌≡◌, ℕ, ◌<◌, ◌≤◌, List, [], ◌∷◌, length, get_or, String, Global, Some, None, option_map, true, false, codes, refl, arith}
+use Rattle.std.proofs.Common.{◌≡◌, ℕ, ◌<◌, ◌≤◌, List, [], ◌∷◌, length, get_or, String, Global, Option, Some, None, option_map, true, false, codes, refl, arith}
 use Rattle.std.specs.Str.{bytes_eq}
 use Rattle.pv_io.specs.Files.{byte_lists}
 use Rattle.pv_chars.specs.Names.{is_name}
-use Rattle.pv_cli.specs.CommandLine.{command_line_of, drill_size, listing, valid, check, session, drill}
+use Rattle.pv_cli.specs.CommandLine.{command_line_of, drill_size, on_document, on_dtd, drill, verb_of}
+use Rattle.pv_cli.specs.declared.verb.Verb.{Verb}
 
 pub four : {A : Type 0} (xs : List A) (a b c d : A) → 4 ≤ length xs → length xs < 5 → a ≡ get_or xs 0 a → b ≡ get_or xs 1 b → c ≡ get_or xs 2 c → d ≡ get_or xs 3 d → xs ≡ a ∷ b ∷ c ∷ d ∷ []
 four [] a b c d more less p q r s = absurd (omega arith)
@@ -28,9 +29,9 @@ not_four (x ∷ y ∷ z ∷ []) never other = refl
 not_four (x ∷ y ∷ z ∷ w ∷ []) never other = absurd (other refl)
 not_four (x ∷ y ∷ z ∷ w ∷ v ∷ vs) never other = refl
 
-pub listing_words : (command dtd : List ℕ) → bytes_eq command (codes "dtd") ≡ true → command_line_of (command ∷ dtd ∷ []) ≡ Some (listing dtd)
+pub dtd_words : (command dtd : List ℕ) → bytes_eq command (codes "dtd") ≡ true → command_line_of (command ∷ dtd ∷ []) ≡ Some (on_dtd dtd)
 unfolding command_line_of
-listing_words command dtd is = rw is refl
+dtd_words command dtd is = rw is refl
 
 pub drill_words : (command word : List ℕ) → bytes_eq command (codes "dtd") ≡ false → bytes_eq command (codes "drill") ≡ true → command_line_of (command ∷ word ∷ []) ≡ option_map drill (drill_size word)
 unfolding command_line_of
@@ -40,21 +41,10 @@ pub other_two : (command word : List ℕ) → bytes_eq command (codes "dtd") ≡
 unfolding command_line_of
 other_two command word other another = rw (other, another) refl
 
-pub valid_words : (command dtd root doc : List ℕ) → is_name root ≡ true → bytes_eq command (codes "valid") ≡ true → command_line_of (command ∷ dtd ∷ root ∷ doc ∷ []) ≡ Some (valid dtd root doc)
+pub verb_words : (command dtd root doc : List ℕ) (verb : Option Verb) → is_name root ≡ true → verb ≡ verb_of command →
+    command_line_of (command ∷ dtd ∷ root ∷ doc ∷ []) ≡ option_map (λ v. on_document v dtd root doc) verb
 unfolding command_line_of
-valid_words command dtd root doc named is = rw (named, is) refl
-
-pub check_words : (command dtd root doc : List ℕ) → is_name root ≡ true → bytes_eq command (codes "valid") ≡ false → bytes_eq command (codes "check") ≡ true → command_line_of (command ∷ dtd ∷ root ∷ doc ∷ []) ≡ Some (check dtd root doc)
-unfolding command_line_of
-check_words command dtd root doc named other is = rw (named, other, is) refl
-
-pub session_words : (command dtd root doc : List ℕ) → is_name root ≡ true → bytes_eq command (codes "valid") ≡ false → bytes_eq command (codes "check") ≡ false → bytes_eq command (codes "session") ≡ true → command_line_of (command ∷ dtd ∷ root ∷ doc ∷ []) ≡ Some (session dtd root doc)
-unfolding command_line_of
-session_words command dtd root doc named other another is = rw (named, other, another, is) refl
-
-pub other_command : (command dtd root doc : List ℕ) → is_name root ≡ true → bytes_eq command (codes "valid") ≡ false → bytes_eq command (codes "check") ≡ false → bytes_eq command (codes "session") ≡ false → command_line_of (command ∷ dtd ∷ root ∷ doc ∷ []) ≡ None
-unfolding command_line_of
-other_command command dtd root doc named is another also = rw (named, is, another, also) refl
+verb_words command dtd root doc verb named is = rw (named, is) refl
 
 pub other_root : (command dtd root doc : List ℕ) → is_name root ≡ false → command_line_of (command ∷ dtd ∷ root ∷ doc ∷ []) ≡ None
 unfolding command_line_of

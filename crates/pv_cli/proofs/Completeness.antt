@@ -1,14 +1,20 @@
 -- Where nothing failed, the defined response was written.
-use Rattle.std.proofs.Common.{◌≡◌, ◌⊎◌, inl, inr, ℕ, Option, List, refl}
+use Rattle.std.proofs.Common.{◌≡◌, ◌⊎◌, inl, inr, ℕ, Option, List, [], refl}
 use Rattle.std.specs.Io.KnownBytes.{Appends}
 use Rattle.pv_io.specs.Causes.{CountStays, Rose}
 use Rattle.pv_cli.specs.declared.status.Status.{Status}
 use Rattle.pv_cli.specs.declared.status.Status.TheVariants.{ReadFault, WriteFault, NoMemory}
 use Rattle.pv_cli.specs.CommandLine.{PlainCommandLine}
 use Rattle.pv_cli.specs.Course.{RunEnding, responds, shelf_fault, input_fault, output_fault, no_memory}
+use Rattle.pv_cli.specs.Headline.{HadNoMemory}
 use Rattle.pv_cli.specs.Laws.{IsComplete, Answered, FaultsShow}
-use Rattle.pv_cli.specs.Program.{Devices, CountsShelf, CountsInput, Writes, wrote, cut_off, Runs}
+use Rattle.pv_cli.specs.Devices.{Devices}
+use Rattle.pv_cli.specs.Program.{CountsShelf, CountsInput, Writes, wrote, cut_off, Runs}
 use Rattle.pv_cli.specs.Response.{PlainResponse}
+
+-- the parts of `HadNoMemory` that speak of the output alone
+abbrev pub EndsUnwritten : Option (List ℕ) → Option (List ℕ) → Status → Type 0
+EndsUnwritten old new status = (status ≡ NoMemory) × Appends old new []
 
 -- the parts of `Answered` that speak of the ending alone
 abbrev pub EndsWell : RunEnding → Option (List ℕ) → Option (List ℕ) → Status → Type 0
@@ -16,23 +22,23 @@ EndsWell ending old new status = (r : PlainResponse) × (ending ≡ responds r) 
 
 ends_well : (ending : RunEnding) (shelf_old shelf_new input_old input_new old_count new_count : ℕ) (old new : Option (List ℕ)) (status : Status) →
     CountsShelf ending shelf_old shelf_new → CountsInput ending input_old input_new → Writes ending old new old_count new_count status →
-    (Rose shelf_old shelf_new → ⊥) → (Rose input_old input_new → ⊥) → (Rose old_count new_count → ⊥) → (status ≡ NoMemory) ⊎ EndsWell ending old new status
+    (Rose shelf_old shelf_new → ⊥) → (Rose input_old input_new → ⊥) → (Rose old_count new_count → ⊥) → EndsUnwritten old new status ⊎ EndsWell ending old new status
 ends_well ending so sn io in_ oc nc old new status shelf input (cut_off out cuts fault front rose) no_shelf no_input no_output = absurd (no_output rose)
 ends_well (responds r) so sn io in_ oc nc old new status shelf input (wrote whole is written stays) no_shelf no_input no_output = inr (r, refl, is, written)
 ends_well shelf_fault so sn io in_ oc nc old new status shelf input (wrote whole is written stays) no_shelf no_input no_output = absurd (no_shelf shelf)
 ends_well (input_fault out) so sn io in_ oc nc old new status shelf input (wrote whole is written stays) no_shelf no_input no_output = absurd (no_input input)
 ends_well (output_fault out) so sn io in_ oc nc old new status shelf input (wrote whole is written stays) no_shelf no_input no_output = cc
-ends_well no_memory so sn io in_ oc nc old new status shelf input (wrote whole is written stays) no_shelf no_input no_output = inl is
+ends_well no_memory so sn io in_ oc nc old new status shelf input (wrote whole is written stays) no_shelf no_input no_output = inl (is, written)
 
 answered : {S : Type 0} (line : Option PlainCommandLine) (before after : Devices S) (status : Status) (run : Runs line before after status) →
-    (status ≡ NoMemory) ⊎ EndsWell run.course.ending before.written after.written status → (status ≡ NoMemory) ⊎ Answered run
-answered line before after status run (inl is) = inl is
+    EndsUnwritten before.output.written after.output.written status ⊎ EndsWell run.course.ending before.output.written after.output.written status → HadNoMemory before after status ⊎ Answered run
+answered line before after status run (inl none) = inl (record { is_status = none.0; unwritten = none.1 })
 answered line before after status run (inr ends) = inr (record { response = ends.0; is_response = ends.1; is_status = ends.2; written = ends.3 })
 
 pub complete : (S : Type 0) → IsComplete S
 complete S line before after status run no_shelf no_input no_output =
     answered line before after status run
-    (ends_well run.course.ending _ _ _ _ _ _ _ _ status run.shows.shelf run.shows.input run.shows.output no_shelf no_input no_output)
+    (ends_well run.course.ending _ _ _ _ _ _ _ _ status run.shelf.faults run.streams.input run.streams.output no_shelf no_input no_output)
 
 -- a count that rose shows in the status
 output_stays : (ending : RunEnding) (old new : Option (List ℕ)) (before after : ℕ) (status : Status) → Writes ending old new before after status →
@@ -60,7 +66,7 @@ input_stays no_memory old new first last before after status writes counts not =
 
 pub faults_show : (S : Type 0) → FaultsShow S
 faults_show S line before after status run = record {
-  output = output_stays run.course.ending _ _ _ _ status run.shows.output;
-  shelf = shelf_stays run.course.ending _ _ _ _ _ _ status run.shows.output run.shows.shelf;
-  input = input_stays run.course.ending _ _ _ _ _ _ status run.shows.output run.shows.input;
+  output = output_stays run.course.ending _ _ _ _ status run.streams.output;
+  shelf = shelf_stays run.course.ending _ _ _ _ _ _ status run.streams.output run.shelf.faults;
+  input = input_stays run.course.ending _ _ _ _ _ _ status run.streams.output run.streams.input;
 }

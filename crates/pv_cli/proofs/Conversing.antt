@@ -2,10 +2,10 @@
 use Rattle.std.proofs.Common.{◌≡◌, ◌≢◌, ◌⊎◌, ℕ, suc, ◌<◌, ◌≤◌, Bool, true, false, List, [], ◌∷◌, ◌++◌, map, length, codes, decimal, Option, refl, sym, ap, ◌∙◌, append_assoc, arith}
 use Rattle.std.proofs.lemmas.List.{append-nil, length-append, map-append}
 use Rattle.std.specs.Io.KnownBytes.{Appends}
-use Rattle.pv_script.proofs.Pieces.{pieces_of-part}
+use Rattle.pv_script.proofs.RawLines.{raw_lines_of-part}
 use Rattle.pv_script.proofs.Words.{Free-append}
 use Rattle.pv_script.specs.Commands.{SpellsCommand}
-use Rattle.pv_script.specs.Lines.{FEED, HasNoFeed, lines_of, pieces_of, with_feeds, without_returns}
+use Rattle.pv_script.specs.Lines.{FEED, HasNoFeed, lines_of, raw_lines_of, with_feeds, without_returns}
 use Rattle.pv_script.specs.Taking.{HeldLine, MAX_LINE_BYTES, nothing_held, begun_line, TakesAll, TakesLine, IsTooLong}
 use Rattle.pv_script.specs.declared.commands.Command.TheVariants.{Quit}
 use Rattle.pv_session.specs.Sessions.{PlainSession}
@@ -267,9 +267,9 @@ last_line W first script current held number so_far some =
     read_all script so_far.lines held.bytes (read_of W first script current held number so_far)
     ∙ ap (λ (ps : List (List ℕ)). map without_returns so_far.lines ++ map without_returns ps) (one held.bytes some so_far.is_begun.0)
   where
-    one : (bytes : List ℕ) → 0 < length bytes → HasNoFeed bytes → pieces_of bytes ≡ bytes ∷ []
+    one : (bytes : List ℕ) → 0 < length bytes → HasNoFeed bytes → raw_lines_of bytes ≡ bytes ∷ []
     one [] some free = absurd (omega arith)
-    one (b ∷ bs) some free = pieces_of-part b bs free
+    one (b ∷ bs) some free = raw_lines_of-part b bs free
 
 pub ends_with_all : (W : List ℕ → Type 0) (first current : PlainSession) (script : List ℕ) (held : HeldLine) (number : ℕ) →
     Conversed W first script current held number → length script ≤ MAX_SCRIPT_BYTES → held.bytes ≡ [] → EndedWith first script true all_told W

@@ -2,18 +2,18 @@
 use Rattle.std.proofs.Common.{◌≡◌, ◌⊎◌, inl, inr, ◌∙◌, ◌≤◌, ◌<◌, ◌+◌, ◌*◌, ◌%◌, ℕ, suc, zero, Bool, true, false, ◌==◌, if◌then◌else◌, List, [], ◌∷◌, ◌++◌, map, length, take, drop, Option, Some, refl, sym, ap, arith}
 use Rattle.std.proofs.lemmas.Bool.{cases_lt}
 use Rattle.std.proofs.lemmas.List.{length-append, length-map, take-append-drop}
+use Rattle.pv_dtd.specs.Plain.{PlainDtd}
 use Rattle.pv_drill.specs.Drill.{drill_lines, drill_text, line_text, section_lines}
 use Rattle.pv_read.specs.Grammar.{IsDocumentText}
-use Rattle.pv_script.proofs.Pieces.{ended_pieces-line}
-use Rattle.pv_script.specs.Lines.{FEED, ended_lines, ended_pieces, lines_of, pieces_of, with_byte_in_first, with_first_byte, without_returns}
+use Rattle.pv_script.proofs.RawLines.{ended_raw_lines-line}
+use Rattle.pv_script.specs.Lines.{FEED, ended_lines, ended_raw_lines, lines_of, raw_lines_of, with_byte_in_first, with_first_byte, without_returns}
 use Rattle.pv_script.specs.Taking.{HeldLine, TakesLine}
 use Rattle.pv_session.specs.Sessions.{PlainSession}
 use Rattle.pv_tree.specs.Plain.{PlainDoc}
 use Rattle.pv_tree.specs.declared.nodes.Mark.{Mark}
 use Rattle.pv_cli.specs.Checking.{CountsLists, none_checked, some_checked}
 use Rattle.pv_cli.specs.Drill.{DRILL_ROOT, drill_stage}
-use Rattle.pv_cli.specs.Opening.{Files}
-use Rattle.pv_cli.specs.Session.{session_stage}
+use Rattle.pv_cli.specs.Returns.{session_stage}
 use Rattle.pv_cli.proofs.Limits.{IsReadAs, read_all, read_ended}
 
 -- how many LF bytes there are, as many as lines that they end
@@ -25,16 +25,16 @@ in_first : (b : ℕ) (pieces : List (List ℕ)) → length (with_byte_in_first b
 in_first b [] = refl
 in_first b (p ∷ ps) = refl
 
-ended_feeds : (bytes : List ℕ) → length (ended_pieces bytes) ≡ feeds_in bytes
+ended_feeds : (bytes : List ℕ) → length (ended_raw_lines bytes) ≡ feeds_in bytes
 ended_feeds [] = refl
 ended_feeds (b ∷ bs) = by (b == FEED) (ended_feeds bs)
   where
-    by : (is : Bool) → length (ended_pieces bs) ≡ feeds_in bs → length (if is then [] ∷ ended_pieces bs else with_byte_in_first b (ended_pieces bs)) ≡ (if is then suc (feeds_in bs) else feeds_in bs)
+    by : (is : Bool) → length (ended_raw_lines bs) ≡ feeds_in bs → length (if is then [] ∷ ended_raw_lines bs else with_byte_in_first b (ended_raw_lines bs)) ≡ (if is then suc (feeds_in bs) else feeds_in bs)
     by true below = ap suc below
-    by false below = in_first b (ended_pieces bs) ∙ below
+    by false below = in_first b (ended_raw_lines bs) ∙ below
 
 ended_count : (bytes : List ℕ) → length (ended_lines bytes) ≡ feeds_in bytes
-ended_count bytes = length-map (ended_pieces bytes) without_returns ∙ ended_feeds bytes
+ended_count bytes = length-map (ended_raw_lines bytes) without_returns ∙ ended_feeds bytes
 
 feeds_both : (bytes more : List ℕ) → feeds_in (bytes ++ more) ≡ feeds_in bytes + feeds_in more
 feeds_both [] more = omega arith
@@ -58,7 +58,7 @@ ended_front n bytes =
 pub ended_line : (kept new : HeldLine) (rest : List ℕ) (eaten : ℕ) → (takes : TakesLine kept rest eaten new) →
     length (ended_lines rest) ≡ suc (length (ended_lines takes.rest))
 ended_line kept new rest eaten takes =
-    ap (λ (h : List ℕ). length (ended_lines h)) takes.is_cut ∙ ap (λ (ps : List (List ℕ)). length (map without_returns ps)) (ended_pieces-line takes.front takes.rest takes.no_feed)
+    ap (λ (h : List ℕ). length (ended_lines h)) takes.is_cut ∙ ap (λ (ps : List (List ℕ)). length (map without_returns ps)) (ended_raw_lines-line takes.front takes.rest takes.no_feed)
 
 pub few_left : (kept new : HeldLine) (rest : List ℕ) (eaten : ℕ) → (takes : TakesLine kept rest eaten new) → (behind : List ℕ) (middle last bound : ℕ) →
     middle + 2 * length (ended_lines rest) ≤ bound → last ≤ middle + 2 → behind ≡ takes.rest → last + 2 * length (ended_lines behind) ≤ bound
@@ -71,16 +71,16 @@ first_no_less : (b : ℕ) (pieces : List (List ℕ)) → length pieces ≤ lengt
 first_no_less b [] = omega arith
 first_no_less b (p ∷ ps) = omega arith
 
-feeds_within : (bytes : List ℕ) → feeds_in bytes ≤ length (pieces_of bytes)
+feeds_within : (bytes : List ℕ) → feeds_in bytes ≤ length (raw_lines_of bytes)
 feeds_within [] = omega arith
 feeds_within (b ∷ bs) = by (b == FEED) (feeds_within bs)
   where
-    by : (is : Bool) → feeds_in bs ≤ length (pieces_of bs) → (if is then suc (feeds_in bs) else feeds_in bs) ≤ length (if is then [] ∷ pieces_of bs else with_first_byte b (pieces_of bs))
+    by : (is : Bool) → feeds_in bs ≤ length (raw_lines_of bs) → (if is then suc (feeds_in bs) else feeds_in bs) ≤ length (if is then [] ∷ raw_lines_of bs else with_first_byte b (raw_lines_of bs))
     by true below = omega (arith, below)
-    by false below = omega (arith, below, first_no_less b (pieces_of bs))
+    by false below = omega (arith, below, first_no_less b (raw_lines_of bs))
 
 ended_within : (bytes : List ℕ) → length (ended_lines bytes) ≤ length (lines_of bytes)
-ended_within bytes = omega (arith, ended_count bytes, length-map (pieces_of bytes) without_returns, feeds_within bytes)
+ended_within bytes = omega (arith, ended_count bytes, length-map (raw_lines_of bytes) without_returns, feeds_within bytes)
 
 -- bytes have a line
 first_some : (b : ℕ) (pieces : List (List ℕ)) → 1 ≤ length (with_first_byte b pieces)
@@ -89,11 +89,11 @@ first_some b (p ∷ ps) = omega arith
 
 pub some_line : (bytes : List ℕ) → 0 < length bytes → 1 ≤ length (lines_of bytes)
 some_line [] some = omega (arith, some)
-some_line (b ∷ bs) some = let size = length-map (pieces_of (b ∷ bs)) without_returns in omega (arith, size, by (b == FEED))
+some_line (b ∷ bs) some = let size = length-map (raw_lines_of (b ∷ bs)) without_returns in omega (arith, size, by (b == FEED))
   where
-    by : (is : Bool) → 1 ≤ length (if is then [] ∷ pieces_of bs else with_first_byte b (pieces_of bs))
+    by : (is : Bool) → 1 ≤ length (if is then [] ∷ raw_lines_of bs else with_first_byte b (raw_lines_of bs))
     by true = omega arith
-    by false = first_some b (pieces_of bs)
+    by false = first_some b (raw_lines_of bs)
 
 -- the lines that LF bytes end, and the last
 pub ended_and_last : (script : List ℕ) (lines : List (List ℕ)) (part : List ℕ) → IsReadAs script lines part →
@@ -116,27 +116,31 @@ pub few_behind : (script : List ℕ) (lines : List (List ℕ)) (part : List ℕ)
     middle ≤ before + 2 * length (ended_lines script) → after ≤ middle + 2 * length (lines_of part) → after ≤ before + 2 * length (lines_of script)
 few_behind script lines part before middle after read few last = omega (arith, few, last, ended_and_last script lines part read)
 
+one_number : (n m : ℕ) → Some n ≡ Some m → n ≡ m
+one_number n m is = cc
+
 -- what was checked behind the opening of a document
-counts_on : (root : List ℕ) (file : Option (List ℕ)) (lines before middle after : ℕ) (bytes : List ℕ) (doc : PlainDoc Mark) → file ≡ Some bytes → IsDocumentText root bytes doc →
-    CountsLists root file 0 before middle → after ≤ middle + 2 * lines → CountsLists root file lines before after
-counts_on root file lines before middle after bytes doc is text (none_checked same) more = some_checked bytes doc is text (omega (arith, same, more))
-counts_on root file lines before middle after bytes doc is text (some_checked b d are means within) more = some_checked b d are means (omega (arith, within, more))
+pub counts_on : (root : List ℕ) (file : Option (List ℕ)) (lines before middle after : ℕ) (bytes : List ℕ) (doc : PlainDoc Mark) → file ≡ Some bytes → IsDocumentText root bytes doc →
+    CountsLists root file (Some 0) before middle → after ≤ middle + 2 * lines → CountsLists root file (Some lines) before after
+counts_on root file lines before middle after bytes doc is text (none_checked same) more = some_checked bytes doc lines is text refl (omega (arith, same, more))
+counts_on root file lines before middle after bytes doc is text (some_checked b d count are means none within) more =
+    let zero_lines : 0 ≡ count = one_number 0 count none in some_checked b d lines are means refl (omega (arith, within, more, zero_lines))
 
-pub session_counts : (root : List ℕ) (files : Files) (session : PlainSession) (lines before middle after : ℕ) → (session_stage root files).Opens session →
-    CountsLists root files.doc 0 before middle → after ≤ middle + 2 * lines → CountsLists root files.doc lines before after
-session_counts root files session lines before middle after opens counts more =
-    let document = opens.1.2.1 in
-    counts_on root files.doc lines before middle after document.0 opens.0.1 document.1.is_file document.2 counts more
+-- more lines allow more lists
+pub counts_more : (root : List ℕ) (file : Option (List ℕ)) (lines before after : ℕ) → CountsLists root file (Some 0) before after → CountsLists root file (Some lines) before after
+counts_more root file lines before after (none_checked same) = none_checked same
+counts_more root file lines before after (some_checked bytes doc count is text none within) =
+    let zero_lines : 0 ≡ count = one_number 0 count none in some_checked bytes doc lines is text refl (omega (arith, within, zero_lines))
 
-pub drill_counts : (n : ℕ) (session : PlainSession) (lines before middle after : ℕ) → (drill_stage n).Opens session →
-    CountsLists DRILL_ROOT (Some (drill_text n)) 0 before middle → after ≤ middle + 2 * lines → CountsLists DRILL_ROOT (Some (drill_text n)) lines before after
+pub session_counts : (root : List ℕ) (fetched : PlainDtd × List ℕ) (session : PlainSession) (lines before middle after : ℕ) → (session_stage root fetched).Opens session 0 →
+    CountsLists root (Some fetched.1) (Some 0) before middle → after ≤ middle + 2 * lines → CountsLists root (Some fetched.1) (Some lines) before after
+session_counts root fetched session lines before middle after opens counts more =
+    counts_on root (Some fetched.1) lines before middle after fetched.1 opens.0.doc refl opens.3.0.is_text counts more
+
+pub drill_counts : (n : ℕ) (session : PlainSession) (lines before middle after : ℕ) → (drill_stage n).Opens session 0 →
+    CountsLists DRILL_ROOT (Some (drill_text n)) (Some 0) before middle → after ≤ middle + 2 * lines → CountsLists DRILL_ROOT (Some (drill_text n)) (Some lines) before after
 drill_counts n session lines before middle after opens counts more =
-    counts_on DRILL_ROOT (Some (drill_text n)) lines before middle after (drill_text n) opens.0.1 refl opens.1.2.1 counts more
-
-pub drill_stopped : (n before after : ℕ) → CountsLists DRILL_ROOT (Some (drill_text n)) 0 before after →
-    CountsLists DRILL_ROOT (Some (drill_text n)) (length (drill_lines n)) before after
-drill_stopped n before after (none_checked same) = none_checked same
-drill_stopped n before after (some_checked bytes doc is text within) = some_checked bytes doc is text (omega (arith, within))
+    counts_on DRILL_ROOT (Some (drill_text n)) lines before middle after (drill_text n) opens.0.doc refl opens.3.4.0.is_text counts more
 
 -- the lines of a drill up to a section
 pub sections_within : (k n : ℕ) → k ≤ n → length (drill_lines k) ≤ length (drill_lines n)

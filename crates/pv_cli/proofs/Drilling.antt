@@ -4,7 +4,7 @@ use Rattle.pv_script.specs.Commands.{SpellsCommand}
 use Rattle.pv_script.specs.declared.commands.Command.TheVariants.{Quit}
 use Rattle.pv_drill.specs.Drill.{drill_lines, line_text, section_lines}
 use Rattle.pv_session.specs.Sessions.{PlainSession}
-use Rattle.pv_cli.specs.declared.drill.Counts.{Counts}
+use Rattle.pv_cli.specs.declared.commands.drill.Counts.{Counts}
 use Rattle.pv_cli.specs.Drill.{CountsLine, CountsReplies, counts_with, no_counts}
 use Rattle.pv_cli.specs.Session.{done_of}
 

@@ -5,8 +5,8 @@ use Rattle.std.proofs.lemmas.Bool.{cases_lt}
 use Rattle.std.proofs.lemmas.List.{append-nil, length-append, map-append, take-append-le, take_all}
 use Rattle.std.proofs.lemmas.List.Folds.{list_any-append}
 use Rattle.std.specs.List.{list_any}
-use Rattle.pv_script.proofs.Pieces.{BeginsPieces, cut_of, ended_pieces-front, ended_pieces-lines, pieces_of-front, pieces_of-lines, pieces_of-part}
-use Rattle.pv_script.specs.Lines.{ended_pieces, lines_of, pieces_of, without_returns, HasNoFeed, with_feeds}
+use Rattle.pv_script.proofs.RawLines.{BeginsRawLines, cut_of, ended_raw_lines-front, ended_raw_lines-lines, raw_lines_of-front, raw_lines_of-lines, raw_lines_of-part}
+use Rattle.pv_script.specs.Lines.{ended_raw_lines, lines_of, raw_lines_of, without_returns, HasNoFeed, with_feeds}
 use Rattle.pv_cli.specs.Laws.{MoreChangesNothing}
 use Rattle.pv_cli.specs.Script.{MAX_SCRIPT_BYTES, IsWithin, before_too_long, has_long_line, is_too_long, lines_within}
 use Rattle.pv_cli.specs.Session.{finished, quitted, past_line, past_script, input_failed, output_failed}
@@ -14,15 +14,15 @@ use Rattle.pv_cli.proofs.Limits.{cut_stays, goes_on, goes_on_long}
 use Rattle.pv_cli.proofs.Replies.{ends_at_quit}
 
 -- the pieces of bytes that go on
-ended_on : (bytes more : List ℕ) → ended_pieces (bytes ++ more) ≡ ended_pieces bytes ++ ended_pieces ((cut_of bytes).part ++ more)
+ended_on : (bytes more : List ℕ) → ended_raw_lines (bytes ++ more) ≡ ended_raw_lines bytes ++ ended_raw_lines ((cut_of bytes).part ++ more)
 ended_on bytes more = let cut = cut_of bytes in
-    ap (λ (h : List ℕ). ended_pieces (h ++ more)) cut.is_cut ∙ ap ended_pieces (append_assoc (with_feeds (ended_pieces bytes)) cut.part more)
-    ∙ ended_pieces-lines (ended_pieces bytes) (cut.part ++ more) cut.lines_free
+    ap (λ (h : List ℕ). ended_raw_lines (h ++ more)) cut.is_cut ∙ ap ended_raw_lines (append_assoc (with_feeds (ended_raw_lines bytes)) cut.part more)
+    ∙ ended_raw_lines-lines (ended_raw_lines bytes) (cut.part ++ more) cut.lines_free
 
-pieces_on : (bytes more : List ℕ) → pieces_of (bytes ++ more) ≡ ended_pieces bytes ++ pieces_of ((cut_of bytes).part ++ more)
+pieces_on : (bytes more : List ℕ) → raw_lines_of (bytes ++ more) ≡ ended_raw_lines bytes ++ raw_lines_of ((cut_of bytes).part ++ more)
 pieces_on bytes more = let cut = cut_of bytes in
-    ap (λ (h : List ℕ). pieces_of (h ++ more)) cut.is_cut ∙ ap pieces_of (append_assoc (with_feeds (ended_pieces bytes)) cut.part more)
-    ∙ pieces_of-lines (ended_pieces bytes) (cut.part ++ more) cut.lines_free
+    ap (λ (h : List ℕ). raw_lines_of (h ++ more)) cut.is_cut ∙ ap raw_lines_of (append_assoc (with_feeds (ended_raw_lines bytes)) cut.part more)
+    ∙ raw_lines_of-lines (ended_raw_lines bytes) (cut.part ++ more) cut.lines_free
 
 -- what is answered of bytes is answered first of bytes that go on
 before_on : (ps qs : List (List ℕ)) → (more : List (List ℕ)) × (before_too_long (ps ++ qs) ≡ before_too_long ps ++ more)
@@ -36,8 +36,8 @@ before_on ps qs = by (list_any is_too_long ps) refl
 
 -- Where a piece is too long, nothing more is answered.
 record StaysLong (bytes : List ℕ) : Type 0 where
-  pub same : (more : List ℕ) → before_too_long (ended_pieces (bytes ++ more)) ≡ before_too_long (ended_pieces bytes)
-  pub long : (more : List ℕ) → list_any is_too_long (pieces_of (bytes ++ more)) ≡ true
+  pub same : (more : List ℕ) → before_too_long (ended_raw_lines (bytes ++ more)) ≡ before_too_long (ended_raw_lines bytes)
+  pub long : (more : List ℕ) → list_any is_too_long (raw_lines_of (bytes ++ more)) ≡ true
 
 or_true : (b : Bool) → (b || true) ≡ true
 or_true true = refl
@@ -51,50 +51,50 @@ or_none false = refl
 cut_at_first : (p : List ℕ) (ps : List (List ℕ)) → is_too_long p ≡ true → before_too_long (p ∷ ps) ≡ []
 cut_at_first p ps is = rw is refl
 
-ended_long : (part more : List ℕ) → is_too_long part ≡ true → (ended_pieces (part ++ more) ≡ []) ⊎ BeginsPieces part (ended_pieces (part ++ more)) → before_too_long (ended_pieces (part ++ more)) ≡ []
+ended_long : (part more : List ℕ) → is_too_long part ≡ true → (ended_raw_lines (part ++ more) ≡ []) ⊎ BeginsRawLines part (ended_raw_lines (part ++ more)) → before_too_long (ended_raw_lines (part ++ more)) ≡ []
 ended_long part more is (inl none) = ap before_too_long none
 ended_long part more is (inr begins) = ap before_too_long begins.are ∙ cut_at_first (part ++ begins.behind) begins.others (goes_on_long part begins.behind is)
 
-pieces_long : (part more : List ℕ) → is_too_long part ≡ true → BeginsPieces part (pieces_of (part ++ more)) → list_any is_too_long (pieces_of (part ++ more)) ≡ true
+pieces_long : (part more : List ℕ) → is_too_long part ≡ true → BeginsRawLines part (raw_lines_of (part ++ more)) → list_any is_too_long (raw_lines_of (part ++ more)) ≡ true
 pieces_long part more is begins =
     ap (list_any is_too_long) begins.are ∙ ap (λ c. c || list_any is_too_long begins.others) (goes_on_long part begins.behind is)
 
-long_part : (part : List ℕ) → HasNoFeed part → list_any is_too_long (pieces_of part) ≡ true → (more : List ℕ) →
-    (before_too_long (ended_pieces (part ++ more)) ≡ []) × (list_any is_too_long (pieces_of (part ++ more)) ≡ true)
+long_part : (part : List ℕ) → HasNoFeed part → list_any is_too_long (raw_lines_of part) ≡ true → (more : List ℕ) →
+    (before_too_long (ended_raw_lines (part ++ more)) ≡ []) × (list_any is_too_long (raw_lines_of (part ++ more)) ≡ true)
 long_part [] free any more = cc
 long_part (b ∷ bs) free any more =
-    let is : is_too_long (b ∷ bs) ≡ true = sym (or_none (is_too_long (b ∷ bs))) ∙ ap (list_any is_too_long) (sym (pieces_of-part b bs free)) ∙ any in
-    (ended_long (b ∷ bs) more is (ended_pieces-front (b ∷ bs) more free), pieces_long (b ∷ bs) more is (pieces_of-front b bs more free))
+    let is : is_too_long (b ∷ bs) ≡ true = sym (or_none (is_too_long (b ∷ bs))) ∙ ap (list_any is_too_long) (sym (raw_lines_of-part b bs free)) ∙ any in
+    (ended_long (b ∷ bs) more is (ended_raw_lines-front (b ∷ bs) more free), pieces_long (b ∷ bs) more is (raw_lines_of-front b bs more free))
 
-any_in_parts : (bytes : List ℕ) → (list_any is_too_long (ended_pieces bytes) || list_any is_too_long (pieces_of (cut_of bytes).part)) ≡ list_any is_too_long (pieces_of bytes)
+any_in_parts : (bytes : List ℕ) → (list_any is_too_long (ended_raw_lines bytes) || list_any is_too_long (raw_lines_of (cut_of bytes).part)) ≡ list_any is_too_long (raw_lines_of bytes)
 any_in_parts bytes =
-    sym (list_any-append is_too_long (ended_pieces bytes) (pieces_of (cut_of bytes).part))
-    ∙ ap (list_any is_too_long) (ap (λ (h : List ℕ). ended_pieces bytes ++ pieces_of h) (sym (append-nil (cut_of bytes).part)) ∙ sym (pieces_on bytes []) ∙ ap pieces_of (append-nil bytes))
+    sym (list_any-append is_too_long (ended_raw_lines bytes) (raw_lines_of (cut_of bytes).part))
+    ∙ ap (list_any is_too_long) (ap (λ (h : List ℕ). ended_raw_lines bytes ++ raw_lines_of h) (sym (append-nil (cut_of bytes).part)) ∙ sym (pieces_on bytes []) ∙ ap raw_lines_of (append-nil bytes))
 
 none_cut : (ps : List (List ℕ)) → list_any is_too_long ps ≡ false → before_too_long ps ≡ ps
 none_cut ps none = ap before_too_long (sym (append-nil ps)) ∙ goes_on ps [] none ∙ append-nil ps
 
-stays_by : (bytes : List ℕ) (b : Bool) → list_any is_too_long (ended_pieces bytes) ≡ b → list_any is_too_long (pieces_of bytes) ≡ true → StaysLong bytes
+stays_by : (bytes : List ℕ) (b : Bool) → list_any is_too_long (ended_raw_lines bytes) ≡ b → list_any is_too_long (raw_lines_of bytes) ≡ true → StaysLong bytes
 stays_by bytes true is any =
     let part = (cut_of bytes).part in
     record {
-      same = λ more. ap before_too_long (ended_on bytes more) ∙ cut_stays (ended_pieces bytes) (ended_pieces (part ++ more)) is;
-      long = λ more. ap (list_any is_too_long) (pieces_on bytes more) ∙ list_any-append is_too_long (ended_pieces bytes) (pieces_of (part ++ more))
-          ∙ ap (λ c. c || list_any is_too_long (pieces_of (part ++ more))) is;
+      same = λ more. ap before_too_long (ended_on bytes more) ∙ cut_stays (ended_raw_lines bytes) (ended_raw_lines (part ++ more)) is;
+      long = λ more. ap (list_any is_too_long) (pieces_on bytes more) ∙ list_any-append is_too_long (ended_raw_lines bytes) (raw_lines_of (part ++ more))
+          ∙ ap (λ c. c || list_any is_too_long (raw_lines_of (part ++ more))) is;
     }
 stays_by bytes false is any =
     let cut = cut_of bytes in
-    let in_part : list_any is_too_long (pieces_of cut.part) ≡ true = sym (ap (λ c. c || list_any is_too_long (pieces_of cut.part)) is) ∙ any_in_parts bytes ∙ any in
+    let in_part : list_any is_too_long (raw_lines_of cut.part) ≡ true = sym (ap (λ c. c || list_any is_too_long (raw_lines_of cut.part)) is) ∙ any_in_parts bytes ∙ any in
     let part = long_part cut.part cut.part_free in_part in
     record {
-      same = λ more. ap before_too_long (ended_on bytes more) ∙ goes_on (ended_pieces bytes) (ended_pieces (cut.part ++ more)) is
-          ∙ ap (λ (l : List (List ℕ)). ended_pieces bytes ++ l) (part more).0 ∙ append-nil (ended_pieces bytes) ∙ sym (none_cut (ended_pieces bytes) is);
-      long = λ more. ap (list_any is_too_long) (pieces_on bytes more) ∙ list_any-append is_too_long (ended_pieces bytes) (pieces_of (cut.part ++ more))
-          ∙ ap (λ c. list_any is_too_long (ended_pieces bytes) || c) (part more).1 ∙ or_true (list_any is_too_long (ended_pieces bytes));
+      same = λ more. ap before_too_long (ended_on bytes more) ∙ goes_on (ended_raw_lines bytes) (ended_raw_lines (cut.part ++ more)) is
+          ∙ ap (λ (l : List (List ℕ)). ended_raw_lines bytes ++ l) (part more).0 ∙ append-nil (ended_raw_lines bytes) ∙ sym (none_cut (ended_raw_lines bytes) is);
+      long = λ more. ap (list_any is_too_long) (pieces_on bytes more) ∙ list_any-append is_too_long (ended_raw_lines bytes) (raw_lines_of (cut.part ++ more))
+          ∙ ap (λ c. list_any is_too_long (ended_raw_lines bytes) || c) (part more).1 ∙ or_true (list_any is_too_long (ended_raw_lines bytes));
     }
 
-stays_long : (bytes : List ℕ) → list_any is_too_long (pieces_of bytes) ≡ true → StaysLong bytes
-stays_long bytes any = stays_by bytes (list_any is_too_long (ended_pieces bytes)) refl any
+stays_long : (bytes : List ℕ) → list_any is_too_long (raw_lines_of bytes) ≡ true → StaysLong bytes
+stays_long bytes any = stays_by bytes (list_any is_too_long (ended_raw_lines bytes)) refl any
 
 -- a front of bytes that go on
 take_on : (n : ℕ) (bytes more : List ℕ) → length bytes ≤ n → take n (bytes ++ more) ≡ bytes ++ take (n - length bytes) more
@@ -108,15 +108,15 @@ lines_on script more = by (cases_lt (length script) MAX_SCRIPT_BYTES)
   where
     by : (length script < MAX_SCRIPT_BYTES) ⊎ (MAX_SCRIPT_BYTES ≤ length script) → (behind : List (List ℕ)) × (lines_within (script ++ more) ≡ lines_within script ++ behind)
     by (inr full) =
-        ([], ap (λ (h : List ℕ). map without_returns (before_too_long (ended_pieces h))) (take-append-le MAX_SCRIPT_BYTES script more full) ∙ sym (append-nil (lines_within script)))
+        ([], ap (λ (h : List ℕ). map without_returns (before_too_long (ended_raw_lines h))) (take-append-le MAX_SCRIPT_BYTES script more full) ∙ sym (append-nil (lines_within script)))
     by (inl less) =
         let rest = take (MAX_SCRIPT_BYTES - length script) more in
-        let on = before_on (ended_pieces script) (ended_pieces ((cut_of script).part ++ rest)) in (
+        let on = before_on (ended_raw_lines script) (ended_raw_lines ((cut_of script).part ++ rest)) in (
           map without_returns on.0,
-          ap (λ (h : List ℕ). map without_returns (before_too_long (ended_pieces h))) (take_on MAX_SCRIPT_BYTES script more (omega (arith, less)))
+          ap (λ (h : List ℕ). map without_returns (before_too_long (ended_raw_lines h))) (take_on MAX_SCRIPT_BYTES script more (omega (arith, less)))
               ∙ ap (λ (ps : List (List ℕ)). map without_returns (before_too_long ps)) (ended_on script rest)
-              ∙ ap (map without_returns) on.1 ∙ map-append without_returns (before_too_long (ended_pieces script)) on.0
-              ∙ ap (λ (h : List ℕ). map without_returns (before_too_long (ended_pieces h)) ++ map without_returns on.0) (sym (take_all MAX_SCRIPT_BYTES script (omega (arith, less)))),
+              ∙ ap (map without_returns) on.1 ∙ map-append without_returns (before_too_long (ended_raw_lines script)) on.0
+              ∙ ap (λ (h : List ℕ). map without_returns (before_too_long (ended_raw_lines h)) ++ map without_returns on.0) (sym (take_all MAX_SCRIPT_BYTES script (omega (arith, less)))),
         )
 
 pub record KeepsLimit (script more : List ℕ) : Type 0 where
@@ -126,8 +126,8 @@ pub record KeepsLimit (script more : List ℕ) : Type 0 where
 -- the first byte past the limit on the script tells all
 pub past_on : (script more : List ℕ) → MAX_SCRIPT_BYTES < length script → KeepsLimit script more
 past_on script more beyond = record {
-  lines = ap (λ (h : List ℕ). map without_returns (before_too_long (ended_pieces h))) (take-append-le MAX_SCRIPT_BYTES script more (omega (arith, beyond)));
-  long = ap (λ (h : List ℕ). list_any is_too_long (pieces_of h)) (take-append-le (suc MAX_SCRIPT_BYTES) script more (omega (arith, beyond)));
+  lines = ap (λ (h : List ℕ). map without_returns (before_too_long (ended_raw_lines h))) (take-append-le MAX_SCRIPT_BYTES script more (omega (arith, beyond)));
+  long = ap (λ (h : List ℕ). list_any is_too_long (raw_lines_of h)) (take-append-le (suc MAX_SCRIPT_BYTES) script more (omega (arith, beyond)));
 }
 
 -- and so does the first byte of a line that is too long
@@ -137,14 +137,14 @@ long_on script more is = by (cases_lt (length script) (suc MAX_SCRIPT_BYTES))
     by : (length script < suc MAX_SCRIPT_BYTES) ⊎ (suc MAX_SCRIPT_BYTES ≤ length script) → KeepsLimit script more
     by (inr beyond) = past_on script more (omega (arith, beyond))
     by (inl less) =
-        let any : list_any is_too_long (pieces_of script) ≡ true =
-        ap (λ (h : List ℕ). list_any is_too_long (pieces_of h)) (sym (take_all (suc MAX_SCRIPT_BYTES) script (omega (arith, less)))) ∙ is in
+        let any : list_any is_too_long (raw_lines_of script) ≡ true =
+        ap (λ (h : List ℕ). list_any is_too_long (raw_lines_of h)) (sym (take_all (suc MAX_SCRIPT_BYTES) script (omega (arith, less)))) ∙ is in
         let stays = stays_long script any in
         record {
-          lines = ap (λ (h : List ℕ). map without_returns (before_too_long (ended_pieces h))) (take_on MAX_SCRIPT_BYTES script more (omega (arith, less)))
+          lines = ap (λ (h : List ℕ). map without_returns (before_too_long (ended_raw_lines h))) (take_on MAX_SCRIPT_BYTES script more (omega (arith, less)))
               ∙ ap (map without_returns) (stays.same (take (MAX_SCRIPT_BYTES - length script) more))
-              ∙ ap (λ (h : List ℕ). map without_returns (before_too_long (ended_pieces h))) (sym (take_all MAX_SCRIPT_BYTES script (omega (arith, less))));
-          long = ap (λ (h : List ℕ). list_any is_too_long (pieces_of h)) (take_on (suc MAX_SCRIPT_BYTES) script more (omega (arith, less)))
+              ∙ ap (λ (h : List ℕ). map without_returns (before_too_long (ended_raw_lines h))) (sym (take_all MAX_SCRIPT_BYTES script (omega (arith, less))));
+          long = ap (λ (h : List ℕ). list_any is_too_long (raw_lines_of h)) (take_on (suc MAX_SCRIPT_BYTES) script more (omega (arith, less)))
               ∙ stays.long (take (suc MAX_SCRIPT_BYTES - length script) more) ∙ sym is;
         }
 
@@ -156,14 +156,14 @@ first_false false c is = refl
 pub lines_and_last : (script : List ℕ) → IsWithin script → lines_of script ≡ lines_within script ++ lines_of (cut_of script).part
 lines_and_last script within =
     let part = (cut_of script).part in
-    let none : (list_any is_too_long (ended_pieces script) || list_any is_too_long (pieces_of part)) ≡ false =
+    let none : (list_any is_too_long (ended_raw_lines script) || list_any is_too_long (raw_lines_of part)) ≡ false =
     any_in_parts script
-    ∙ ap (λ (h : List ℕ). list_any is_too_long (pieces_of h)) (sym (take_all (suc MAX_SCRIPT_BYTES) script (omega (arith, within.whole)))) ∙ within.lines in
-    let here : lines_within script ≡ map without_returns (ended_pieces script) =
-    ap (λ (h : List ℕ). map without_returns (before_too_long (ended_pieces h))) (take_all MAX_SCRIPT_BYTES script within.whole)
-    ∙ ap (map without_returns) (none_cut (ended_pieces script) (first_false _ _ none)) in
+    ∙ ap (λ (h : List ℕ). list_any is_too_long (raw_lines_of h)) (sym (take_all (suc MAX_SCRIPT_BYTES) script (omega (arith, within.whole)))) ∙ within.lines in
+    let here : lines_within script ≡ map without_returns (ended_raw_lines script) =
+    ap (λ (h : List ℕ). map without_returns (before_too_long (ended_raw_lines h))) (take_all MAX_SCRIPT_BYTES script within.whole)
+    ∙ ap (map without_returns) (none_cut (ended_raw_lines script) (first_false _ _ none)) in
     ap lines_of (sym (append-nil script)) ∙ ap (map without_returns) (pieces_on script [])
-    ∙ map-append without_returns (ended_pieces script) (pieces_of (part ++ []))
+    ∙ map-append without_returns (ended_raw_lines script) (raw_lines_of (part ++ []))
     ∙ ap (λ (l : List (List ℕ)). l ++ lines_of (part ++ [])) (sym here)
     ∙ ap (λ (h : List ℕ). lines_within script ++ lines_of h) (append-nil part)
 

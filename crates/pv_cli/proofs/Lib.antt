@@ -1,24 +1,27 @@
+-- for other crates:
+pub mod OneDrill
+pub mod OneOpening
+-- of this crate:
+pub mod Beginning
+pub mod Causes
 pub mod CommandLines
 pub mod Completeness
 pub mod Completions
 pub mod Conversations
 pub mod Conversing
 pub mod Counting
-pub mod DrillStages
 pub mod Drilling
 pub mod Fetching
 pub mod GoingOn
+pub mod Headline
 pub mod Holding
 pub mod Likeness
 pub mod Limits
-pub mod Listings
-pub mod Marks
+pub mod DtdLines
 pub mod MissingElements
 pub mod OneCheck
-pub mod OneDrill
-pub mod OneListing
+pub mod OneDtd
 pub mod OneNeed
-pub mod OneOpening
 pub mod OneReplies
 pub mod OneResponse
 pub mod OneSession
@@ -26,6 +29,7 @@ pub mod OneVerdict
 pub mod Piecewise
 pub mod Replies
 pub mod ReplyTexts
+pub mod Runs
 pub mod Scripts
 pub mod Stages
 pub mod Texts

@@ -4,9 +4,9 @@ use Rattle.std.proofs.lemmas.Bool.{cases_eq}
 use Rattle.std.proofs.lemmas.List.{append-nil, length-append, map-append, take-append-le, take_all}
 use Rattle.std.proofs.lemmas.List.Folds.{list_any-append}
 use Rattle.std.specs.List.{AllByRecursion, list_any}
-use Rattle.pv_script.proofs.Pieces.{ended_pieces-lines, ended_pieces-part, pieces_of-lines, pieces_of-part}
+use Rattle.pv_script.proofs.RawLines.{ended_raw_lines-lines, ended_raw_lines-part, raw_lines_of-lines, raw_lines_of-part}
 use Rattle.pv_script.proofs.Words.{Free-append}
-use Rattle.pv_script.specs.Lines.{FEED, ended_pieces, lines_of, pieces_of, without_returns, HasNoFeed, with_feeds}
+use Rattle.pv_script.specs.Lines.{FEED, ended_raw_lines, lines_of, raw_lines_of, without_returns, HasNoFeed, with_feeds}
 use Rattle.pv_script.specs.Words.{with_feed}
 use Rattle.pv_script.specs.Taking.{MAX_LINE_BYTES}
 use Rattle.pv_cli.specs.Conversation.{IsLine}
@@ -62,9 +62,9 @@ all_within lines are =
     ap before_too_long (sym (append-nil lines)) ∙ goes_on lines [] (none_long lines are) ∙ append-nil lines
 
 -- the pieces of a part of a line
-part_any : (part : List ℕ) → HasNoFeed part → list_any is_too_long (pieces_of part) ≡ is_too_long part
+part_any : (part : List ℕ) → HasNoFeed part → list_any is_too_long (raw_lines_of part) ≡ is_too_long part
 part_any [] free = refl
-part_any (b ∷ bs) free = ap (list_any is_too_long) (pieces_of-part b bs free) ∙ or_none (is_too_long (b ∷ bs))
+part_any (b ∷ bs) free = ap (list_any is_too_long) (raw_lines_of-part b bs free) ∙ or_none (is_too_long (b ∷ bs))
   where
     or_none : (c : Bool) → (c || false) ≡ c
     or_none true = refl
@@ -76,31 +76,31 @@ pub record IsReadAs (script : List ℕ) (lines : List (List ℕ)) (part : List �
   pub are_lines : AllByRecursion IsLine lines
   pub is_part : HasNoFeed part
 
-pub read_ended : (script : List ℕ) (lines : List (List ℕ)) (part : List ℕ) → IsReadAs script lines part → ended_pieces script ≡ lines
+pub read_ended : (script : List ℕ) (lines : List (List ℕ)) (part : List ℕ) → IsReadAs script lines part → ended_raw_lines script ≡ lines
 read_ended script lines part read =
-    ap ended_pieces read.is_cut ∙ ended_pieces-lines lines part (lines_free lines read.are_lines)
-    ∙ ap (λ (ps : List (List ℕ)). lines ++ ps) (ended_pieces-part part read.is_part) ∙ append-nil lines
+    ap ended_raw_lines read.is_cut ∙ ended_raw_lines-lines lines part (lines_free lines read.are_lines)
+    ∙ ap (λ (ps : List (List ℕ)). lines ++ ps) (ended_raw_lines-part part read.is_part) ∙ append-nil lines
 
-read_any : (script : List ℕ) (lines : List (List ℕ)) (part : List ℕ) → IsReadAs script lines part → list_any is_too_long (pieces_of script) ≡ is_too_long part
+read_any : (script : List ℕ) (lines : List (List ℕ)) (part : List ℕ) → IsReadAs script lines part → list_any is_too_long (raw_lines_of script) ≡ is_too_long part
 read_any script lines part read =
-    ap (λ (h : List ℕ). list_any is_too_long (pieces_of h)) read.is_cut
-    ∙ ap (list_any is_too_long) (pieces_of-lines lines part (lines_free lines read.are_lines))
-    ∙ list_any-append is_too_long lines (pieces_of part)
-    ∙ ap (λ b. b || list_any is_too_long (pieces_of part)) (none_long lines read.are_lines)
+    ap (λ (h : List ℕ). list_any is_too_long (raw_lines_of h)) read.is_cut
+    ∙ ap (list_any is_too_long) (raw_lines_of-lines lines part (lines_free lines read.are_lines))
+    ∙ list_any-append is_too_long lines (raw_lines_of part)
+    ∙ ap (λ b. b || list_any is_too_long (raw_lines_of part)) (none_long lines read.are_lines)
     ∙ part_any part read.is_part
 
 -- within the limit on the script, those lines are answered, and only the part can be too long
 pub read_lines : (script : List ℕ) (lines : List (List ℕ)) (part : List ℕ) → IsReadAs script lines part → length script ≤ MAX_SCRIPT_BYTES →
     lines_within script ≡ map without_returns lines
 read_lines script lines part read within =
-    ap (λ (h : List ℕ). map without_returns (before_too_long (ended_pieces h))) (take_all MAX_SCRIPT_BYTES script within)
+    ap (λ (h : List ℕ). map without_returns (before_too_long (ended_raw_lines h))) (take_all MAX_SCRIPT_BYTES script within)
     ∙ ap (λ (ps : List (List ℕ)). map without_returns (before_too_long ps)) (read_ended script lines part read)
     ∙ ap (map without_returns) (all_within lines read.are_lines)
 
 pub read_long : (script : List ℕ) (lines : List (List ℕ)) (part : List ℕ) → IsReadAs script lines part → length script ≤ suc MAX_SCRIPT_BYTES →
     has_long_line script ≡ is_too_long part
 read_long script lines part read within =
-    ap (λ (h : List ℕ). list_any is_too_long (pieces_of h)) (take_all (suc MAX_SCRIPT_BYTES) script within) ∙ read_any script lines part read
+    ap (λ (h : List ℕ). list_any is_too_long (raw_lines_of h)) (take_all (suc MAX_SCRIPT_BYTES) script within) ∙ read_any script lines part read
 
 pub read_within : (script : List ℕ) (lines : List (List ℕ)) (part : List ℕ) → IsReadAs script lines part → length part ≤ MAX_LINE_BYTES → length script ≤ MAX_SCRIPT_BYTES →
     IsWithin script
@@ -110,8 +110,8 @@ read_within script lines part read fits within =
 pub read_all : (script : List ℕ) (lines : List (List ℕ)) (part : List ℕ) → IsReadAs script lines part →
     lines_of script ≡ map without_returns lines ++ lines_of part
 read_all script lines part read =
-    ap lines_of read.is_cut ∙ ap (map without_returns) (pieces_of-lines lines part (lines_free lines read.are_lines))
-    ∙ map-append without_returns lines (pieces_of part)
+    ap lines_of read.is_cut ∙ ap (map without_returns) (raw_lines_of-lines lines part (lines_free lines read.are_lines))
+    ∙ map-append without_returns lines (raw_lines_of part)
 
 -- one more line, or one more byte of the part
 pub feeds_more : (lines : List (List ℕ)) (line : List ℕ) → with_feeds lines ++ (line ++ FEED ∷ []) ≡ with_feeds (lines ++ line ∷ [])
@@ -138,7 +138,7 @@ read_long_line script lines part read beyond within = read_long script lines par
 pub past_lines : (before : List ℕ) (b : ℕ) (lines : List (List ℕ)) (part : List ℕ) → IsReadAs before lines part → length before ≡ MAX_SCRIPT_BYTES →
     lines_within (before ++ b ∷ []) ≡ map without_returns lines
 past_lines before b lines part read full =
-    ap (λ (h : List ℕ). map without_returns (before_too_long (ended_pieces h)))
+    ap (λ (h : List ℕ). map without_returns (before_too_long (ended_raw_lines h)))
     (take-append-le MAX_SCRIPT_BYTES before (b ∷ []) (omega (arith, full)))
     ∙ read_lines before lines part read (omega (arith, full))
 

@@ -78,5 +78,5 @@ none_impossible s path proper is stops =
 
 -- nor is one too wide for a verdict
 pub wide_for_weights : (s : PlainSession) (path : List ℕ) → IsSession s → IsFirstTooWide s.dtd (lists_of s.doc) path ⊎ StopsAtWide s.dtd s.root s.doc path → StopsAtWide s.dtd s.root s.doc path
-wide_for_weights s path is (inl first) = absurd (none_first (IsListForVerdict s.dtd) (lists_of s.doc) path is.guarded.narrow first)
+wide_for_weights s path is (inl first) = absurd (none_first (IsListForVerdict s.dtd) (lists_of s.doc) path is.guarded.holdable.narrow first)
 wide_for_weights s path is (inr stops) = stops

@@ -12,27 +12,23 @@ use Rattle.pv_tree.specs.declared.nodes.Mark.{Mark}
 use Rattle.pv_tree.specs.declared.nodes.Verdict.{Verdict}
 use Rattle.pv_tree.proofs.Every.{all_right}
 use Rattle.pv_tree.proofs.Firsts.{one_first}
-use Rattle.pv_missing.proofs.VerdictHeads.{live_alike, verdict_by_heads}
-use Rattle.pv_missing.proofs.VerdictLists.{one_list_of_verdicts}
+use Rattle.pv_missing.proofs.VerdictHeads.{live_alike}
+use Rattle.pv_missing.proofs.Counts.{one_count_of_lists, same_counts}
 use Rattle.pv_missing.specs.Completing.{IsPotentiallyValid}
-use Rattle.pv_missing.specs.Verdicts.{AreVerdicts, HavePossible, IsLive, possible_in}
+use Rattle.pv_missing.specs.Verdicts.{HavePossible, IsLive, is_possible as is_possible_verdict}
 use Rattle.pv_missing.specs.Widths.{FitsVerdict, IsFirstTooWide, IsListForVerdict}
-use Rattle.pv_cli.specs.Check.{TellsPossibility, is_impossible, is_possible, is_too_wide, possible_text}
+use Rattle.pv_read.specs.DocumentLaws.{SpellsOneDocument}
+use Rattle.pv_cli.specs.Check.{IsCheckCourse, TellsPossibility, is_no_more, is_possible, possible_text}
+use Rattle.pv_cli.specs.Course.{Course}
+use Rattle.pv_cli.specs.Documents.{PlainOpened}
+use Rattle.pv_cli.specs.Possibility.{AreNarrow, RefusesImpossible, RefusesWidth, is_impossible, is_too_wide, possibility_stage, verdict_stage, width_stage}
+use Rattle.pv_cli.specs.Stage.{Behind, Responds}
 use Rattle.pv_script.specs.Paths.{path_text}
 use Rattle.pv_cli.specs.Response.{PlainResponse, with_line}
 use Rattle.pv_cli.specs.declared.status.Status.TheVariants.{Done, Limit, Negative}
-use Rattle.pv_cli.proofs.Marks.{all_without_marks, all-without_marks, first-without_marks, lists_of-without_marks, unmarked_list, word_of-without_marks}
+use Rattle.pv_tree.proofs.Marks.{all_without_marks, all-without_marks, first-without_marks, heads-without_marks, unmarked_list, word_of-without_marks}
+use Rattle.pv_cli.proofs.OneOpening.{AreSameOpened, AreSure, IsEqual, RunsAs, followed_sure, one_like, reading_sure, told, unmarked_same}
 use Rattle.pv_cli.proofs.OneVerdict.{same_view}
-
-head-without_marks : {M : Type 0} (t : Tree M) → head_of (without_marks t) ≡ head_of t
-head-without_marks (element x a e k m) = refl
-head-without_marks (text_node us) = refl
-head-without_marks (cdata_node b) = refl
-head-without_marks (misc_node b) = refl
-
-heads-without_marks : {M : Type 0} (kids : Forest M) → heads_of (all_without_marks kids) ≡ heads_of kids
-heads-without_marks no_trees = refl
-heads-without_marks (tree t rest) = let h = head-without_marks t in let r = heads-without_marks rest in cc
 
 fits_to : {M : Type 0} (g : PlainDtd) (list : Listed M) → IsListForVerdict g list → IsListForVerdict g (unmarked_list list)
 fits_to g list fits = subst (λ w. FitsVerdict g (length w)) (sym (word_of-without_marks g list.kids)) fits
@@ -46,20 +42,9 @@ live_to g root list l = live_alike g root list.owner list.kids (all_without_mark
 live_from : {M : Type 0} (g : PlainDtd) (root : List ℕ) (list : Listed M) → IsLive g root (unmarked_list list) → IsLive g root list
 live_from g root list l = live_alike g root list.owner (all_without_marks list.kids) list.kids (heads-without_marks list.kids) l
 
-verdicts_to : {M : Type 0} (g : PlainDtd) (root : List ℕ) (lists : List (Listed M)) (vs : List Verdict) → AreVerdicts g root lists vs → AreVerdicts g root (map unmarked_list lists) vs
-verdicts_to g root [] vs a = a
-verdicts_to {M} g root (list ∷ lists) vs a =
-    (a.0, a.1, a.2, (verdict_by_heads M Unit g root list (unmarked_list list) a.0 refl (sym (heads-without_marks list.kids))).0 a.3, verdicts_to g root lists a.1 a.4)
-
-verdicts-without_marks : {M : Type 0} (g : PlainDtd) (root : List ℕ) (doc : PlainDoc M) (vs : List Verdict) → AreVerdicts g root (lists_of doc) vs → AreVerdicts g root (lists_of (unmarked_doc doc)) vs
-verdicts-without_marks g root doc vs a = subst (λ lists. AreVerdicts g root lists vs) (sym (lists_of-without_marks doc)) (verdicts_to g root (lists_of doc) vs a)
-
 -- one of two documents without marks is the other
 one_count : {M : Type 0} (g : PlainDtd) (root : List ℕ) (doc same : PlainDoc M) (n m : ℕ) → unmarked_doc doc ≡ unmarked_doc same → HavePossible g root (lists_of doc) n → HavePossible g root (lists_of same) m → n ≡ m
-one_count g root doc same n m e h k =
-    let first = subst (λ (d : PlainDoc Unit). AreVerdicts g root (lists_of d) h.verdicts) e (verdicts-without_marks g root doc h.verdicts h.are_verdicts) in
-    let second = verdicts-without_marks g root same k.verdicts k.are_verdicts in
-    h.count ∙ ap possible_in (one_list_of_verdicts Unit g root (lists_of (unmarked_doc same)) h.verdicts k.verdicts first second) ∙ sym k.count
+one_count {M = M} g root doc same n m e h k = one_count_of_lists M is_possible_verdict g root (lists_of same) n m (same_counts M M is_possible_verdict g root doc same n e h) k
 
 one_path : {M : Type 0} (P : Listed M → Type 0) (Q : Listed Unit → Type 0) → ((list : Listed M) → P list → Q (unmarked_list list)) → ((list : Listed M) → Q (unmarked_list list) → P list) →
     (doc same : PlainDoc M) (path other : List ℕ) → unmarked_doc doc ≡ unmarked_doc same → IsFirstNot P (lists_of doc) path → IsFirstNot P (lists_of same) other → path ≡ other
@@ -77,24 +62,53 @@ not_wide g doc same path e all f =
     (subst (λ (d : PlainDoc Unit). AllByRecursion (IsListForVerdict g) (lists_of d)) e (all-without_marks (IsListForVerdict g) (IsListForVerdict g) (fits_to g) doc all))
     (first-without_marks (IsListForVerdict g) (IsListForVerdict g) (fits_to g) (fits_from g) path same f)
 
-pub one_possibility : (root : List ℕ) (g : PlainDtd) (doc same : PlainDoc Mark) (a b : PlainResponse) → unmarked_doc doc ≡ unmarked_doc same →
-    TellsPossibility root g doc a → TellsPossibility root g same b → a ≡ b
-one_possibility root g doc same a b e (is_too_wide path f is) (is_too_wide other h are) =
-    is ∙ ap (λ p. with_line Limit (codes "limit width " ++ path_text p)) (one_path (IsListForVerdict g) (IsListForVerdict g) (fits_to g) (fits_from g) doc same path other e f h) ∙ sym are
-one_possibility root g doc same a b e (is_too_wide path f is) (is_possible n all v k are) = absurd (not_wide g same doc path (sym e) all f)
-one_possibility root g doc same a b e (is_too_wide path f is) (is_impossible other all v h are) = absurd (not_wide g same doc path (sym e) all f)
-one_possibility root g doc same a b e (is_possible n all v k is) (is_too_wide other h are) = absurd (not_wide g doc same other e all h)
-one_possibility root g doc same a b e (is_possible n all v k is) (is_possible m every w l are) =
-    is ∙ ap (λ i. with_line Done (possible_text i)) (one_count g root doc same n m e k l) ∙ sym are
-one_possibility root g doc same a b e (is_possible n all v k is) (is_impossible other every w h are) = absurd (w (subst (IsPotentiallyValid g root) (same_view doc same e) v))
-one_possibility root g doc same a b e (is_impossible path all v f is) (is_too_wide other h are) = absurd (not_wide g doc same other e all h)
-one_possibility root g doc same a b e (is_impossible path all v f is) (is_possible m every w l are) = absurd (v (subst (IsPotentiallyValid g root) (sym (same_view doc same e)) w))
-one_possibility root g doc same a b e (is_impossible path all v f is) (is_impossible other every w h are) =
+-- one test of width, whatever the marks are
+pub width_sure : (g : PlainDtd) (doc same : PlainDoc Mark) → unmarked_doc doc ≡ unmarked_doc same → AreSure (width_stage g doc) (width_stage g same) IsEqual
+width_sure g doc same e =
+    reading_sure (λ _. AreNarrow g doc) (λ _. AreNarrow g same) (RefusesWidth g doc) (RefusesWidth g same) IsEqual
+    (λ x r narrow wide. wide_or doc same r e narrow wide) (λ x r wide narrow. wide_or same doc r (sym e) narrow wide) one_width (λ x y narrow too. refl)
+  where
+    wide_or : (d s : PlainDoc Mark) (r : PlainResponse) → unmarked_doc d ≡ unmarked_doc s → AreNarrow g d → RefusesWidth g s r → ⊥
+    wide_or d s r f narrow (is_too_wide path first is) = not_wide g d s path f narrow first
+
+    one_width : (r also : PlainResponse) → RefusesWidth g doc r → RefusesWidth g same also → r ≡ also
+    one_width r also (is_too_wide path first is) (is_too_wide other next are) =
+        is ∙ ap (λ p. with_line Limit (codes "limit width " ++ path_text p)) (one_path (IsListForVerdict g) (IsListForVerdict g) (fits_to g) (fits_from g) doc same path other e first next) ∙ sym are
+
+-- one refusal of what can't be made valid
+pub one_impossible : (root : List ℕ) (g : PlainDtd) (doc same : PlainDoc Mark) (a b : PlainResponse) → unmarked_doc doc ≡ unmarked_doc same → RefusesImpossible root g doc a → RefusesImpossible root g same b → a ≡ b
+one_impossible root g doc same a b e (is_impossible path v f is) (is_impossible other w h are) =
     is ∙ ap (λ p. with_line Negative (codes "impossible " ++ path_text p)) (one_path (IsLive g root) (IsLive g root) (live_to g root) (live_from g root) doc same path other e f h) ∙ sym are
 
--- a document that can be made valid, and no list of which is too wide, isn't told to be another
-pub denied : (root : List ℕ) (g : PlainDtd) (doc same : PlainDoc Mark) (r : PlainResponse) → unmarked_doc doc ≡ unmarked_doc same → AllByRecursion (IsListForVerdict g) (lists_of doc) →
-    IsPotentiallyValid g root (view doc.root) → TellsPossibility root g same r → (r.status ≡ Done → ⊥) → ⊥
-denied root g doc same r e all v (is_too_wide path f is) not_done = not_wide g doc same path e all f
-denied root g doc same r e all v (is_possible n every w k is) not_done = not_done (ap (λ (p : PlainResponse). p.status) is)
-denied root g doc same r e all v (is_impossible path every w f is) not_done = w (subst (IsPotentiallyValid g root) (same_view doc same e) v)
+pub possible_or : (root : List ℕ) (g : PlainDtd) (doc same : PlainDoc Mark) (r : PlainResponse) → unmarked_doc doc ≡ unmarked_doc same → IsPotentiallyValid g root (view doc.root) → RefusesImpossible root g same r → ⊥
+possible_or root g doc same r e v (is_impossible path w f is) = w (subst (IsPotentiallyValid g root) (same_view doc same e) v)
+
+pub verdict_sure : (root : List ℕ) (g : PlainDtd) (doc same : PlainDoc Mark) → unmarked_doc doc ≡ unmarked_doc same → AreSure (verdict_stage root g doc) (verdict_stage root g same) IsEqual
+verdict_sure root g doc same e =
+    reading_sure (λ _. IsPotentiallyValid g root (view doc.root)) (λ _. IsPotentiallyValid g root (view same.root)) (RefusesImpossible root g doc) (RefusesImpossible root g same) IsEqual
+    (λ x r can denies. possible_or root g doc same r e can denies) (λ x r denies can. possible_or root g same doc r (sym e) can denies)
+    (λ r also. one_impossible root g doc same r also e) (λ x y can too. refl)
+
+pub possibility_sure : (root : List ℕ) (g : PlainDtd) (doc same : PlainDoc Mark) → unmarked_doc doc ≡ unmarked_doc same → AreSure (possibility_stage root g doc) (possibility_stage root g same) IsEqual
+possibility_sure root g doc same e =
+    followed_sure (width_stage g doc) (width_stage g same) IsEqual (λ _. verdict_stage root g doc) (λ _. verdict_stage root g same) IsEqual (width_sure g doc same e)
+    (λ x z is. verdict_sure root g doc same e)
+
+pub one_possibility : (root : List ℕ) (g : PlainDtd) (doc same : PlainDoc Mark) (a b : PlainResponse) → unmarked_doc doc ≡ unmarked_doc same →
+    TellsPossibility root g doc a → TellsPossibility root g same b → a ≡ b
+one_possibility root g doc same a b e (is_possible n v k is) (is_possible m w l are) =
+    is ∙ ap (λ i. with_line Done (possible_text i)) (one_count g root doc same n m e k l) ∙ sym are
+one_possibility root g doc same a b e (is_possible n v k is) (is_no_more denies) = absurd (possible_or root g doc same b e v denies)
+one_possibility root g doc same a b e (is_no_more denies) (is_possible m w l are) = absurd (possible_or root g same doc a (sym e) w denies)
+one_possibility root g doc same a b e (is_no_more denies) (is_no_more others) = one_impossible root g doc same a b e denies others
+
+-- documents with one text and the same DTD have one response to `check`
+pub check_once : SpellsOneDocument → (root : List ℕ) (x y : PlainOpened) (course other : Course) (r also : PlainResponse) → AreSameOpened x y → RunsAs course other r also →
+    IsCheckCourse root x course → IsCheckCourse root y other → r ≡ also
+check_once one root x y course other r also same so is are =
+    let alike = unmarked_same one x.doc y.doc same.docs in
+    let moved : Behind (width_stage x.dtd y.doc) (λ _. Responds (TellsPossibility root x.dtd y.doc)) other =
+    subst (λ (g : PlainDtd). Behind (width_stage g y.doc) (λ _. Responds (TellsPossibility root g y.doc)) other) (sym same.dtds) are in
+    one_like (width_stage x.dtd x.doc) (width_stage x.dtd y.doc) IsEqual (λ _. Responds (TellsPossibility root x.dtd x.doc)) (λ _. Responds (TellsPossibility root x.dtd y.doc)) r also (r ≡ also) (λ e. e)
+    (width_sure x.dtd x.doc y.doc alike)
+    (λ u v rest more e both here there. one_possibility root x.dtd x.doc y.doc r also alike (told _ rest r here both.ends) (told _ more also there both.ends_too)) course other so is moved

@@ -1,22 +1,23 @@
 -- A drill has one response.
-use Rattle.std.proofs.Common.{◌≡◌, ℕ, List, Option, [], ◌∷◌, ap, ◌∙◌, sym, subst}
+use Rattle.std.proofs.Common.{◌≡◌, inl, inr, ℕ, List, Option, [], ◌∷◌, ap, ◌∙◌, sym, subst, arith}
 use Rattle.pv_cache.proofs.OneRows.{one_open}
 use Rattle.pv_dtd.specs.Laws.{OneMeaning}
+use Rattle.pv_dtd.specs.Plain.{PlainDtd}
 use Rattle.pv_drill.specs.Drill.{DRILL_DTD, drill_lines, drill_text}
 use Rattle.pv_edit.specs.declared.answers.Done.{Done}
 use Rattle.pv_session.specs.Sessions.{PlainSession, stamped_document}
-use Rattle.pv_cli.specs.declared.drill.Counts.{Counts}
+use Rattle.pv_cli.specs.declared.commands.drill.Counts.{Counts}
 use Rattle.pv_cli.specs.declared.status.Status.TheVariants.{Done as AllDone}
-use Rattle.pv_cli.specs.Documents.{document_stage}
+use Rattle.pv_cli.specs.Documents.{PlainOpened, document_stage}
 use Rattle.pv_cli.specs.Drill.{CountsReplies, DRILL_ROOT, TellsCounts, counts_text, counts_with, drill_stage, no_counts, reading_stage}
 use Rattle.pv_cli.specs.Opening.{dtd_stage}
 use Rattle.pv_cli.specs.Response.{PlainResponse, with_line}
 use Rattle.pv_cli.specs.Session.{done_of, guarding_stage}
-use Rattle.pv_cli.specs.Stage.{beside}
+use Rattle.pv_cli.specs.Stage.{Stage}
 use Rattle.pv_cli.proofs.Likeness.{done_alike}
-use Rattle.pv_cli.proofs.OneOpening.{IsEqual, IsSamePair, IsSameText, IsSure, ReadsOne, beside_sure, document_sure, dtd_sure, followed_sure}
+use Rattle.pv_cli.proofs.OneOpening.{AreSameOpened, IsEqual, IsSure, ReadsOne, document_sure, dtd_sure, followed_sure, sure_at}
 use Rattle.pv_cli.proofs.OneReplies.{AnswersOnce, one_reply}
-use Rattle.pv_cli.proofs.OneSession.{behind_sure, guarding_sure}
+use Rattle.pv_cli.proofs.OneSession.{guarding_sure}
 
 one_counting : AnswersOnce → (session : PlainSession) (before : Counts) (lines : List (List ℕ)) (after later : PlainSession) (counts also : Counts) →
     CountsReplies session before lines after counts → CountsReplies session before lines later also → (after ≡ later) × (counts ≡ also)
@@ -34,9 +35,26 @@ one_drill once n session same r also is tells others =
     let left = one_open (stamped_document tells.after) (stamped_document others.after) tells.open_lists others.open_lists (ap stamped_document both.0) tells.left others.left in
     tells.is_response ∙ ap (λ (c : Counts). with_line AllDone (counts_text n c tells.open_lists)) both.1 ∙ ap (λ k. with_line AllDone (counts_text n others.counts k)) left ∙ sym others.is_response
 
+reading_stage_sure : OneMeaning → ReadsOne → (n : ℕ) → IsSure (reading_stage n) AreSameOpened
+reading_stage_sure one documents n =
+    let read : PlainDtd → Stage PlainOpened = λ g. document_stage DRILL_ROOT g (drill_text n) in
+    followed_sure (dtd_stage DRILL_DTD) (dtd_stage DRILL_DTD) IsEqual read read AreSameOpened (dtd_sure one DRILL_DTD)
+    (sure_at read AreSameOpened (λ g. document_sure documents DRILL_ROOT g (drill_text n)))
+
 pub drill_sure : OneMeaning → ReadsOne → (n : ℕ) → IsSure (drill_stage n) IsEqual
 drill_sure one documents n =
-    behind_sure (reading_stage n) (IsSamePair IsSameText) (λ opened. guarding_stage DRILL_ROOT opened.0 opened.1)
-    (followed_sure (dtd_stage DRILL_DTD) (λ g. beside g (document_stage DRILL_ROOT (drill_text n))) (IsSamePair IsSameText) (dtd_sure one DRILL_DTD)
-    (λ g. beside_sure g (document_stage DRILL_ROOT (drill_text n)) IsSameText (document_sure documents DRILL_ROOT (drill_text n))))
-    (guarding_sure documents.spells_one DRILL_ROOT)
+    let begin : PlainOpened → Stage PlainSession = λ opened. guarding_stage DRILL_ROOT opened.dtd opened.doc in
+    followed_sure (reading_stage n) (reading_stage n) AreSameOpened begin begin IsEqual (reading_stage_sure one documents n) (guarding_sure documents.spells_one DRILL_ROOT)
+
+-- the stages of a drill ask no shelf
+pub asks_none : (n k : ℕ) → (drill_stage n).Faults k → ⊥
+asks_none n k (inl (inl never)) = never
+asks_none n k (inl (inr (g, i, j, opens, never, e))) = never
+asks_none n k (inr (o, i, j, opens, inl (inl never), e)) = never
+asks_none n k (inr (o, i, j, opens, inl (inr (u, v, w, narrow, never, f)), e)) = never
+asks_none n k (inr (o, i, j, opens, inr (u, v, w, possible, never, f), e)) = never
+
+-- and fetch nothing where they open
+pub fetches_none : (n k : ℕ) (session : PlainSession) → (drill_stage n).Opens session k → k ≡ 0
+fetches_none n k session (o, i, j, (g, a, b, dtd, doc, e), (u, c, d, (v, p, q, narrow, possible, f), begins, h), l) =
+    omega (arith, e, dtd.1, doc.1, narrow.1, possible.1, f, begins.1, h, l)

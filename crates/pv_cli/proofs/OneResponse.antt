@@ -1,69 +1,72 @@
 -- Over given files, script and silent lines there is one response, but for the documents of completions.
-use Rattle.std.proofs.Common.{◌≡◌, ℕ, List, codes, Some, None, sym, ◌∙◌, subst}
+use Rattle.std.proofs.Common.{◌≡◌, ℕ, List, Some, None, sym, ◌∙◌, subst}
 use Rattle.pv_dtd.specs.Plain.{PlainDtd}
-use Rattle.pv_dtd.specs.Facts.{MAX_DTD_BYTES}
-use Rattle.pv_dtd.specs.Laws.{OneMeaning}
 use Rattle.pv_tree.specs.Laws.{IsValidByLists}
-use Rattle.pv_tree.specs.Plain.{PlainDoc}
 use Rattle.pv_tree.specs.declared.nodes.Mark.{Mark}
 use Rattle.pv_read.specs.DocumentLaws.{SpellsOneDocument}
-use Rattle.pv_cli.specs.Alike.{ResponsesAlike}
-use Rattle.pv_cli.specs.CommandLine.{listing, valid, check, session, drill}
+use Rattle.pv_cli.specs.Alike.{VerbRespondsAlike}
+use Rattle.pv_cli.specs.CommandLine.{on_dtd, on_document, drill}
+use Rattle.pv_cli.specs.Commands.{Tells}
+use Rattle.pv_cli.specs.Course.{Course}
+use Rattle.pv_cli.specs.Documents.{PlainOpened}
 use Rattle.pv_cli.specs.Drill.{TellsCounts, drill_stage}
+use Rattle.pv_cli.specs.Dtd.{TellsDtd}
 use Rattle.pv_cli.specs.Laws.{HasOneResponse}
-use Rattle.pv_cli.specs.Listing.{ListsDtd}
-use Rattle.pv_cli.specs.Opening.{fetch_stage, dtd_stage, dtd_file_stage, opening_stage}
+use Rattle.pv_cli.specs.Opening.{dtd_file_stage, file_at, opening_stage}
 use Rattle.pv_cli.specs.Response.{PlainResponse}
-use Rattle.pv_cli.specs.Session.{Converses, session_stage}
 use Rattle.pv_cli.specs.Stage.{Responds}
-use Rattle.pv_cli.specs.Valid.{TellsValidity}
-use Rattle.pv_cli.specs.Check.{TellsPossibility}
+use Rattle.pv_cli.specs.Valid.{IsValidCourse, TellsValidity}
+use Rattle.pv_cli.specs.declared.verb.Verb.{Verb}
+use Rattle.pv_cli.specs.declared.verb.Verb.TheVariants.{Valid, Check, Session}
 use Rattle.pv_cli.proofs.Likeness.{one_response_alike}
-use Rattle.pv_cli.proofs.OneCheck.{one_possibility}
+use Rattle.pv_cli.proofs.OneCheck.{check_once}
 use Rattle.pv_cli.proofs.OneDrill.{drill_sure, one_drill}
-use Rattle.pv_cli.proofs.OneListing.{one_listing}
-use Rattle.pv_cli.proofs.OneOpening.{IsEqual, IsSamePair, IsSameText, ReadsOne, dtd_sure, fetch_sure, followed_sure, has_units, one_like, one_of, opening_sure, told, unmarked_same, went_on}
+use Rattle.pv_cli.proofs.OneDtd.{one_dtd}
+use Rattle.pv_cli.proofs.OneOpening.{AreSameOpened, IsEqual, ReadsOne, ReadsOneDtd, RunsAs, dtd_file_sure, has_units, one_like, opening_sure, told, unmarked_same}
 use Rattle.pv_cli.proofs.OneReplies.{AnswersOnce}
-use Rattle.pv_cli.proofs.OneSession.{one_conversation, session_sure}
+use Rattle.pv_cli.proofs.OneSession.{session_once}
 use Rattle.pv_cli.proofs.OneVerdict.{one_verdict}
 
-verdict_on_text : SpellsOneDocument → IsValidByLists Mark → (root : List ℕ) (g h : PlainDtd) (doc same : PlainDoc Mark) (r also : PlainResponse) → g ≡ h → IsSameText doc same →
-    TellsValidity root g doc r → TellsValidity root h same also → r ≡ also
-verdict_on_text one by_lists root g h doc same r also is text tells others =
-    one_verdict by_lists root g doc same r also (has_units doc text.root text.bytes text.is_text) (has_units same text.root text.bytes text.is_same)
-    (unmarked_same one doc same text) tells (subst (λ (d : PlainDtd). TellsValidity root d same also) (sym is) others)
+valid_once : SpellsOneDocument → IsValidByLists Mark → (root : List ℕ) (x y : PlainOpened) (course other : Course) (r also : PlainResponse) → AreSameOpened x y → RunsAs course other r also →
+    IsValidCourse root x course → IsValidCourse root y other → r ≡ also
+valid_once one by_lists root x y course other r also same so is are =
+    let text = same.docs in
+    one_verdict by_lists root x.dtd x.doc y.doc r also (has_units x.doc text.root text.bytes text.is_text) (has_units y.doc text.root text.bytes text.is_same)
+    (unmarked_same one x.doc y.doc text) (told (TellsValidity root x.dtd x.doc) course r is so.ends)
+    (subst (λ (d : PlainDtd). TellsValidity root d y.doc also) (sym same.dtds) (told (TellsValidity root y.dtd y.doc) other also are so.ends_too))
 
-possibility_on_text : SpellsOneDocument → (root : List ℕ) (g h : PlainDtd) (doc same : PlainDoc Mark) (r also : PlainResponse) → g ≡ h → IsSameText doc same →
-    TellsPossibility root g doc r → TellsPossibility root h same also → r ≡ also
-possibility_on_text one root g h doc same r also is text tells others =
-    one_possibility root g doc same r also (unmarked_same one doc same text) tells (subst (λ (d : PlainDtd). TellsPossibility root d same also) (sym is) others)
+-- what the laws that this stands on say
+record KnowsOne : Type 0 where
+  documents : ReadsOne
+  by_lists : IsValidByLists Mark
+  once : AnswersOnce
 
-pub one_response : OneMeaning → ReadsOne → IsValidByLists Mark → AnswersOnce → HasOneResponse
+-- a line for each verb
+verb_once : KnowsOne → (verb : Verb) (root : List ℕ) (x y : PlainOpened) (course other : Course) (r also : PlainResponse) → AreSameOpened x y → RunsAs course other r also →
+    Tells verb root x course → Tells verb root y other → VerbRespondsAlike verb r also
+verb_once known Valid = valid_once known.documents.spells_one known.by_lists
+verb_once known Check = check_once known.documents.spells_one
+verb_once known Session = session_once known.once known.documents.spells_one
+
+equal_alike : (verb : Verb) (r also : PlainResponse) → r ≡ also → VerbRespondsAlike verb r also
+equal_alike Valid r also is = is
+equal_alike Check r also is = is
+equal_alike Session r also is = one_response_alike r also is
+
+pub one_response : ReadsOneDtd → ReadsOne → IsValidByLists Mark → AnswersOnce → HasOneResponse
 one_response dtds documents by_lists once None files course other r also is are taken silent at on = told _ course r is at ∙ sym (told _ other also are on)
-one_response dtds documents by_lists once (Some (listing dtd)) files course other r also is are taken silent at on =
-    one_of (dtd_file_stage files.dtd) IsEqual (λ g. Responds (ListsDtd g)) course other r also
-    (followed_sure (fetch_stage files.dtd MAX_DTD_BYTES (codes "limit dtd-file")) dtd_stage IsEqual (fetch_sure files.dtd MAX_DTD_BYTES (codes "limit dtd-file")) (dtd_sure dtds))
-    (λ g h same goes others. one_listing g r also (told (ListsDtd g) course r goes at)
-    (subst (λ (d : PlainDtd). ListsDtd d also) (sym same) (told (ListsDtd h) other also others on)))
-    (went_on (dtd_file_stage files.dtd) (λ g. Responds (ListsDtd g)) course r is at)
-    (went_on (dtd_file_stage files.dtd) (λ g. Responds (ListsDtd g)) other also are on)
-one_response dtds documents by_lists once (Some (valid dtd root doc)) files course other r also is are taken silent at on =
-    one_of (opening_stage root files) (IsSamePair IsSameText) (λ both. Responds (TellsValidity root both.0 both.1)) course other r also (opening_sure dtds documents root files)
-    (λ x y same goes others. verdict_on_text documents.spells_one by_lists root x.0 y.0 x.1 y.1 r also same.0 same.1 (told (TellsValidity root x.0 x.1) course r goes at) (told (TellsValidity root y.0 y.1) other also others on))
-    (went_on (opening_stage root files) (λ both. Responds (TellsValidity root both.0 both.1)) course r is at)
-    (went_on (opening_stage root files) (λ both. Responds (TellsValidity root both.0 both.1)) other also are on)
-one_response dtds documents by_lists once (Some (check dtd root doc)) files course other r also is are taken silent at on =
-    one_of (opening_stage root files) (IsSamePair IsSameText) (λ both. Responds (TellsPossibility root both.0 both.1)) course other r also (opening_sure dtds documents root files)
-    (λ x y same goes others. possibility_on_text documents.spells_one root x.0 y.0 x.1 y.1 r also same.0 same.1 (told (TellsPossibility root x.0 x.1) course r goes at) (told (TellsPossibility root y.0 y.1) other also others on))
-    (went_on (opening_stage root files) (λ both. Responds (TellsPossibility root both.0 both.1)) course r is at)
-    (went_on (opening_stage root files) (λ both. Responds (TellsPossibility root both.0 both.1)) other also are on)
-one_response dtds documents by_lists once (Some (session dtd root doc)) files course other r also is are taken silent at on =
-    one_like (session_stage root files) IsEqual Converses course other r also (ResponsesAlike r also) (one_response_alike r also) (session_sure dtds documents root files)
-    (λ x y same goes others. one_conversation once x y course other r also same taken silent at on goes others)
-    (went_on (session_stage root files) Converses course r is at)
-    (went_on (session_stage root files) Converses other also are on)
+one_response dtds documents by_lists once (Some (on_dtd dtd)) files course other r also is are taken silent at on =
+    let stage = dtd_file_stage (file_at 0 files) in
+    one_like stage stage IsEqual (λ g. Responds (TellsDtd g)) (λ g. Responds (TellsDtd g)) r also (r ≡ also) (λ e. e) (dtd_file_sure dtds (file_at 0 files))
+    (λ g h rest more same both goes others. one_dtd g r also (told (TellsDtd g) rest r goes both.ends)
+    (subst (λ (d : PlainDtd). TellsDtd d also) (sym same) (told (TellsDtd h) more also others both.ends_too)))
+    course other (record { taken = taken; silent = silent; ends = at; ends_too = on }) is are
+one_response dtds documents by_lists once (Some (on_document verb dtd root doc)) files course other r also is are taken silent at on =
+    let stage = opening_stage root files in
+    one_like stage stage AreSameOpened (Tells verb root) (Tells verb root) r also (VerbRespondsAlike verb r also) (equal_alike verb r also) (opening_sure dtds documents root files)
+    (λ x y rest more same both goes others. verb_once (record { documents = documents; by_lists = by_lists; once = once }) verb root x y rest more r also same both goes others)
+    course other (record { taken = taken; silent = silent; ends = at; ends_too = on }) is are
 one_response dtds documents by_lists once (Some (drill n)) files course other r also is are taken silent at on =
-    one_of (drill_stage n) IsEqual (λ session. Responds (TellsCounts n session)) course other r also (drill_sure dtds documents n)
-    (λ x y same goes others. one_drill once n x y r also same (told (TellsCounts n x) course r goes at) (told (TellsCounts n y) other also others on))
-    (went_on (drill_stage n) (λ session. Responds (TellsCounts n session)) course r is at)
-    (went_on (drill_stage n) (λ session. Responds (TellsCounts n session)) other also are on)
+    one_like (drill_stage n) (drill_stage n) IsEqual (λ s. Responds (TellsCounts n s)) (λ s. Responds (TellsCounts n s)) r also (r ≡ also) (λ e. e) (drill_sure dtds.means_one documents n)
+    (λ x y rest more same both here there. one_drill once n x y r also same (told (TellsCounts n x) rest r here both.ends) (told (TellsCounts n y) more also there both.ends_too))
+    course other (record { taken = taken; silent = silent; ends = at; ends_too = on }) is are

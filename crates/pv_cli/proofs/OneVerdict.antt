@@ -16,7 +16,7 @@ use Rattle.pv_cli.specs.Response.{PlainResponse, with_line}
 use Rattle.pv_script.specs.Paths.{path_text}
 use Rattle.pv_cli.specs.Valid.{TellsValidity, is_valid, is_invalid}
 use Rattle.pv_cli.specs.declared.status.Status.TheVariants.{Negative}
-use Rattle.pv_cli.proofs.Marks.{view-without_marks, first_invalid-without_marks}
+use Rattle.pv_tree.proofs.Marks.{view-without_marks, first_invalid-without_marks}
 
 -- one of two documents without marks is the other
 pub one_invalid_path : {M : Type 0} (g : PlainDtd) (root : List ℕ) (doc same : PlainDoc M) (path other : List ℕ) → unmarked_doc doc ≡ unmarked_doc same →

@@ -8,12 +8,13 @@ use Rattle.pv_script.specs.Lines.{FEED, ended_lines, without_returns}
 use Rattle.pv_script.specs.Taking.{HeldLine, MAX_LINE_BYTES, nothing_held, TakesAll, TakesLine, IsTooLong}
 use Rattle.pv_script.specs.declared.commands.Command.TheVariants.{Quit}
 use Rattle.pv_session.specs.Sessions.{PlainSession}
-use Rattle.pv_cli.specs.declared.conversation.Next.{Next}
-use Rattle.pv_cli.specs.declared.conversation.Next.TheVariants.{More as more_asked, Quit as quit, LineLimit as line_limit, ScriptLimit as script_limit}
-use Rattle.pv_cli.specs.declared.conversation.Reading.{Reading}
-use Rattle.pv_cli.specs.Conversation.{AnswersLine, ComesNext, Conversed, EndedWith, Fits, IsBeyond, IsNext, IsReplyText, RepliesWith}
+use Rattle.pv_cli.specs.declared.conversation.talk.Next.{Next}
+use Rattle.pv_cli.specs.declared.conversation.talk.Next.TheVariants.{More as more_asked, Quit as quit, LineLimit as line_limit, ScriptLimit as script_limit}
+use Rattle.pv_cli.specs.declared.conversation.talk.Reading.{Reading}
+use Rattle.pv_cli.specs.Conversation.{AnswersLine, ComesNext, Conversed, EndedWith, IsWithinScript, IsBeyond, IsNext, IsReplyText, RepliesWith}
 use Rattle.pv_cli.specs.Course.{RunEnding, output_fault}
-use Rattle.pv_cli.specs.ReplyBuffer.{Holds}
+use Rattle.pv_cli.specs.Program.{MadeAtMost}
+use Rattle.pv_cli.specs.ReplyBuffer.{HoldsReplies}
 use Rattle.pv_cli.specs.Script.{MAX_SCRIPT_BYTES}
 use Rattle.pv_cli.specs.Session.{all_told, limited}
 use Rattle.pv_cli.proofs.Conversing.{cut_off, ended_as, ended_on, ends_with_last, ends_with_quit, limit_is_no_fault, output_is_no_input, takes_all, takes_failed, takes_line, takes_long, takes_past_line, takes_past_script, takes_quit, told_is_no_fault, written_as}
@@ -25,7 +26,7 @@ pub record GoesTo (before now : Option (List ℕ)) (replies : List ℕ) (session
   pub eaten : List ℕ
   pub is_cut : piece ≡ eaten ++ rest
   pub goes : (old : Option (List ℕ)) (script : List ℕ) (first : PlainSession) → Conversed (Appends old before) first script session held number →
-      Conversed (Holds old now replies) first (script ++ eaten) current new next
+      Conversed (HoldsReplies old now replies) first (script ++ eaten) current new next
 
 pub goes_first : (before : Option (List ℕ)) (replies : List ℕ) (session : PlainSession) (held : HeldLine) (number : ℕ) (piece : List ℕ) → replies ≡ [] →
     GoesTo before before replies session session held held number number piece piece
@@ -33,7 +34,7 @@ goes_first before replies session held number piece none = record {
   eaten = [];
   is_cut = refl;
   goes = λ old script first so_far. rw (none, append-nil script)
-      (written_as (Appends old before) (Holds old before []) first script session held number (λ out w. holds_none old before out w) so_far);
+      (written_as (Appends old before) (HoldsReplies old before []) first script session held number (λ out w. holds_none old before out w) so_far);
 }
 
 -- where a limit on the script isn't passed
@@ -49,10 +50,10 @@ all_bytes script piece eaten rest is = ap (λ (h : List ℕ). script ++ h) is �
 pub goes_all : (before now : Option (List ℕ)) (replies : List ℕ) (session current : PlainSession) (held kept new : HeldLine) (number next : ℕ) (piece rest : List ℕ) →
     GoesTo before now replies session current held kept number next piece rest → TakesAll kept rest new →
     (old : Option (List ℕ)) (script : List ℕ) (first : PlainSession) → Conversed (Appends old before) first script session held number →
-    Conversed (Holds old now replies) first (script ++ piece) current new next
+    Conversed (HoldsReplies old now replies) first (script ++ piece) current new next
 goes_all before now replies session current held kept new number next piece rest so takes old script first so_far =
     rw (all_bytes script piece so.eaten rest so.is_cut)
-    (takes_all (Holds old now replies) first (script ++ so.eaten) current kept new next rest (so.goes old script first so_far) takes)
+    (takes_all (HoldsReplies old now replies) first (script ++ so.eaten) current kept new next rest (so.goes old script first so_far) takes)
 
 rest_of_line : (rest front behind : List ℕ) → rest ≡ front ++ FEED ∷ behind → rest ≡ (front ++ FEED ∷ []) ++ behind
 rest_of_line rest front behind is = is ∙ sym (append_assoc front (FEED ∷ []) behind)
@@ -60,7 +61,7 @@ rest_of_line rest front behind is = is ∙ sym (append_assoc front (FEED ∷ [])
 -- a line of what is left was answered
 pub goes_line : (before mid now : Option (List ℕ)) (replies still : List ℕ) (session current after : PlainSession) (held kept new : HeldLine) (number next eaten : ℕ) (piece rest behind text : List ℕ) →
     GoesTo before mid replies session current held kept number next piece rest → (takes : TakesLine kept rest eaten new) → behind ≡ takes.rest → IsReplyText current (without_returns new.bytes) after text →
-    Holds mid now still (replies ++ text) → GoesTo before now still session after held nothing_held number (next + 1) piece behind
+    HoldsReplies mid now still (replies ++ text) → GoesTo before now still session after held nothing_held number (next + 1) piece behind
 goes_line before mid now replies still session current after held kept new number next eaten piece rest behind text so takes is by more =
     let one : next + 1 ≡ suc next = omega arith in
     let line = takes.front ++ FEED ∷ [] in
@@ -69,7 +70,7 @@ goes_line before mid now replies still session current after held kept new numbe
       eaten = so.eaten ++ line;
       is_cut = so.is_cut ∙ ap (λ (h : List ℕ). so.eaten ++ h) cut ∙ sym (append_assoc so.eaten line behind);
       goes = λ old script first so_far. rw (one, sym (append_assoc script so.eaten line))
-          (takes_line (Holds old mid replies) (Holds old now still) first current after (script ++ so.eaten) kept new next rest text eaten
+          (takes_line (HoldsReplies old mid replies) (HoldsReplies old now still) first current after (script ++ so.eaten) kept new next rest text eaten
           (so.goes old script first so_far) takes by (λ out w. holds_more old mid now replies still text out w more));
     }
 
@@ -86,16 +87,16 @@ fits_front script piece eaten rest front behind is cut within =
 
 -- a line of what is left ended the session
 pub goes_quit : (before mid now : Option (List ℕ)) (replies still : List ℕ) (session current : PlainSession) (held kept new : HeldLine) (number next eaten : ℕ) (piece rest : List ℕ) →
-    GoesTo before mid replies session current held kept number next piece rest → TakesLine kept rest eaten new → SpellsCommand (without_returns new.bytes) Quit → Holds mid now still (replies ++ []) →
+    GoesTo before mid replies session current held kept number next piece rest → TakesLine kept rest eaten new → SpellsCommand (without_returns new.bytes) Quit → HoldsReplies mid now still (replies ++ []) →
     (old : Option (List ℕ)) (script : List ℕ) (first : PlainSession) → length script + length piece ≤ MAX_SCRIPT_BYTES → Conversed (Appends old before) first script session held number →
-    EndedWith first (script ++ piece) false all_told (Holds old now still)
+    EndedWith first (script ++ piece) false all_told (HoldsReplies old now still)
 goes_quit before mid now replies still session current held kept new number next eaten piece rest so takes quits more old script first within so_far =
     let line = takes.front ++ FEED ∷ [] in
     let cut = rest_of_line rest takes.front takes.rest takes.is_cut in
     rw (up_to script piece so.eaten rest line takes.rest so.is_cut cut)
-    (ended_on first ((script ++ so.eaten) ++ line) takes.rest all_told (Holds old now still) told_is_no_fault
-    (takes_quit (Holds old mid replies) (Holds old now still) first current (script ++ so.eaten) kept new next rest eaten (so.goes old script first so_far) takes quits
-    (λ out w. subst (λ (h : List ℕ). Holds old now still h) (append-nil out) (holds_more old mid now replies still [] out w more))
+    (ended_on first ((script ++ so.eaten) ++ line) takes.rest all_told (HoldsReplies old now still) told_is_no_fault
+    (takes_quit (HoldsReplies old mid replies) (HoldsReplies old now still) first current (script ++ so.eaten) kept new next rest eaten (so.goes old script first so_far) takes quits
+    (λ out w. subst (λ (h : List ℕ). HoldsReplies old now still h) (append-nil out) (holds_more old mid now replies still [] out w more))
     (fits_front script piece so.eaten rest line takes.rest so.is_cut cut within)))
 
 -- the output failed at a line of what is left
@@ -108,19 +109,19 @@ goes_failed before mid now replies session current after held kept new number ne
     let cut = rest_of_line rest takes.front takes.rest takes.is_cut in
     rw (up_to script piece so.eaten rest line takes.rest so.is_cut cut)
     (ended_on first ((script ++ so.eaten) ++ line) takes.rest output_fault (AppendsFront old now) output_is_no_input
-    (takes_failed (Holds old mid replies) (AppendsFront old now) first current after (script ++ so.eaten) kept new next rest text eaten (so.goes old script first so_far) takes by
+    (takes_failed (HoldsReplies old mid replies) (AppendsFront old now) first current after (script ++ so.eaten) kept new next rest text eaten (so.goes old script first so_far) takes by
     (λ out w. holds_failed old mid now replies text out w front) (fits_front script piece so.eaten rest line takes.rest so.is_cut cut within)))
 
 -- what is left makes the line too long
 pub goes_long : (before now : Option (List ℕ)) (replies : List ℕ) (session current : PlainSession) (held kept new : HeldLine) (number next : ℕ) (piece rest : List ℕ) →
     GoesTo before now replies session current held kept number next piece rest → IsTooLong kept rest new →
     (old : Option (List ℕ)) (script : List ℕ) (first : PlainSession) → length script + length piece ≤ MAX_SCRIPT_BYTES → Conversed (Appends old before) first script session held number →
-    EndedWith first (script ++ piece) false (λ out. limited out (codes "limit line " ++ decimal next)) (Holds old now replies)
+    EndedWith first (script ++ piece) false (λ out. limited out (codes "limit line " ++ decimal next)) (HoldsReplies old now replies)
 goes_long before now replies session current held kept new number next piece rest so long old script first within so_far =
     rw (up_to script piece so.eaten rest long.front long.rest so.is_cut long.is_cut)
-    (ended_on first ((script ++ so.eaten) ++ long.front) long.rest (λ out. limited out (codes "limit line " ++ decimal next)) (Holds old now replies)
+    (ended_on first ((script ++ so.eaten) ++ long.front) long.rest (λ out. limited out (codes "limit line " ++ decimal next)) (HoldsReplies old now replies)
     (limit_is_no_fault (codes "limit line " ++ decimal next))
-    (takes_long (Holds old now replies) first current (script ++ so.eaten) kept new next rest (so.goes old script first so_far) long
+    (takes_long (HoldsReplies old now replies) first current (script ++ so.eaten) kept new next rest (so.goes old script first so_far) long
     (fits_front script piece so.eaten rest long.front long.rest so.is_cut long.is_cut within)))
 
 -- what stands behind a line, as the code says it
@@ -204,7 +205,7 @@ goes_beyond W first script current reading b more quit after is full so = rw is 
 goes_beyond W first script current reading b more line_limit after is full so = rw is (goes_on_whatever W first script (b ∷ more) current reading line_limit (λ e. cc) so)
 goes_beyond W first script current reading b more script_limit after is full so = rw is (goes_on_whatever W first script (b ∷ more) current reading script_limit (λ e. cc) so)
 
-pub beyond_fits : (held : HeldLine) (b size left : ℕ) (next after : Next) → IsBeyond held b next after → Fits size left after
+pub beyond_fits : (held : HeldLine) (b size left : ℕ) (next after : Next) → IsBeyond held b next after → IsWithinScript size left after
 beyond_fits held b size left more_asked more_asked is = absurd is
 beyond_fits held b size left quit more_asked is = cc
 beyond_fits held b size left line_limit more_asked is = cc
@@ -242,7 +243,7 @@ piece_failed W first script piece left so =
     (ended_on first (script ++ take left piece) (drop left piece) output_fault W output_is_no_input so)
 
 -- a piece behind which more is asked for lies within the limit on the script
-pub fits_within : (script piece : List ℕ) (left : ℕ) (next : Next) → Fits (length piece) left next → length script + left ≡ MAX_SCRIPT_BYTES → next ≡ more_asked →
+pub fits_within : (script piece : List ℕ) (left : ℕ) (next : Next) → IsWithinScript (length piece) left next → length script + left ≡ MAX_SCRIPT_BYTES → next ≡ more_asked →
     length (script ++ piece) ≤ MAX_SCRIPT_BYTES
 fits_within script piece left more_asked fit full is = omega (arith, fit, full, length-append script piece)
 fits_within script piece left quit fit full is = cc
@@ -251,15 +252,15 @@ fits_within script piece left script_limit fit full is = cc
 
 -- the reply to the last line
 pub last_answered : (old mid now : Option (List ℕ)) (still : List ℕ) (first current after : PlainSession) (script line : List ℕ) (held : HeldLine) (number : ℕ) (goes : Bool) →
-    line ≡ without_returns held.bytes → AnswersLine current line after (λ text. Holds mid now still text) goes → 0 < length held.bytes → length script ≤ MAX_SCRIPT_BYTES →
-    Conversed (Appends old mid) first script current held number → EndedWith first script true all_told (Holds old now still)
+    line ≡ without_returns held.bytes → AnswersLine current line after (λ text. HoldsReplies mid now still text) goes → 0 < length held.bytes → length script ≤ MAX_SCRIPT_BYTES →
+    Conversed (Appends old mid) first script current held number → EndedWith first script true all_told (HoldsReplies old now still)
 last_answered old mid now still first current after script line held number true is answers some within so_far =
-    ends_with_last (Appends old mid) (Holds old now still) first current after script held number answers.0 so_far within some
+    ends_with_last (Appends old mid) (HoldsReplies old now still) first current after script held number answers.0 so_far within some
     (subst (λ (l : List ℕ). IsReplyText current l after answers.0) is answers.1)
     (λ out w. holds_more old mid now [] still answers.0 out (holds_none old mid out w) answers.2)
 last_answered old mid now still first current after script line held number false is answers some within so_far =
-    ends_with_quit (Appends old mid) (Holds old now still) first current script held number so_far within some (subst (λ (l : List ℕ). SpellsCommand l Quit) is answers.0)
-    (λ out w. subst (λ (h : List ℕ). Holds old now still h) (append-nil out) (holds_more old mid now [] still [] out (holds_none old mid out w) answers.1))
+    ends_with_quit (Appends old mid) (HoldsReplies old now still) first current script held number so_far within some (subst (λ (l : List ℕ). SpellsCommand l Quit) is answers.0)
+    (λ out w. subst (λ (h : List ℕ). HoldsReplies old now still h) (append-nil out) (holds_more old mid now [] still [] out (holds_none old mid out w) answers.1))
 
 pub last_failed : (old mid now : Option (List ℕ)) (first current after : PlainSession) (script line : List ℕ) (held : HeldLine) (number : ℕ) →
     line ≡ without_returns held.bytes → RepliesWith current line after (AppendsFront mid now) → 0 < length held.bytes → length script ≤ MAX_SCRIPT_BYTES →
@@ -270,10 +271,11 @@ last_failed old mid now first current after script line held number is replies s
     (λ out w. front_behind old mid now out replies.0 w replies.2)
 
 -- a conversation up to a piece: what it took, and what its devices and the counter of lists counted; no reply is held
-pub record Talks (old now : Option (List ℕ)) (first current : PlainSession) (held : HeldLine) (number : ℕ) (input_old input_now : Option (List ℕ)) (input_faults input_faults_now faults faults_now checked checked_now left room : ℕ) (replies : List ℕ) : Type 0 where
+pub record Talks (old now : Option (List ℕ)) (first current : PlainSession) (held : HeldLine) (number : ℕ) (input_old input_now : Option (List ℕ)) (calls calls_now input_faults input_faults_now faults faults_now checked checked_now left room : ℕ) (replies : List ℕ) : Type 0 where
   pub script : List ℕ
   pub so_far : Conversed (Appends old now) first script current held number
   pub taken : Consumes input_old input_now script
+  pub asked : MadeAtMost (length script) calls calls_now
   pub within : length script + left ≡ MAX_SCRIPT_BYTES
   pub input_stays : CountStays input_faults input_faults_now
   pub stays : CountStays faults faults_now

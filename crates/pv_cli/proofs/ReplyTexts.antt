@@ -3,7 +3,7 @@ use Rattle.std.proofs.Common.{Result, Ok, Err, IfOk}
 use Rattle.pv_script.specs.declared.commands.Command.{Command}
 use Rattle.pv_script.specs.declared.replies.Reply.{Reply}
 use Rattle.pv_session.specs.Sessions.{PlainSession}
-use Rattle.pv_cli.specs.declared.turns.Answer.{Answer}
+use Rattle.pv_cli.specs.declared.conversation.answers.Answer.{Answer}
 use Rattle.pv_cli.specs.Session.{RepliesBy}
 use Rattle.pv_cli.specs.Turns.{IsAnswer, IsReplyBy}
 

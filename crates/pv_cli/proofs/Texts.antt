@@ -3,7 +3,7 @@ use Rattle.std.proofs.Common.{◌≡◌, ◌++◌, ◌∙◌, codes, ap, refl}
 use Rattle.pv_tree.specs.Marks.{unmarked_doc}
 use Rattle.pv_tree.specs.Plain.{short, tagged, Tree, element, text_node, cdata_node, misc_node, Forest, no_trees, tree, PlainDoc, without_marks}
 use Rattle.pv_write.specs.Text.{doc_text, forest_text, tree_text}
-use Rattle.pv_cli.proofs.Marks.{all_without_marks}
+use Rattle.pv_tree.proofs.Marks.{all_without_marks}
 
 mutual
   tree_text-without_marks : {M : Type 0} (t : Tree M) → tree_text (without_marks t) ≡ tree_text t

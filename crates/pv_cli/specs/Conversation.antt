@@ -1,5 +1,6 @@
 -- What the parts of a conversation return.
-use Rattle.std.specs.Prelude.{◌≡◌, ◌≢◌, ◌⊎◌, ◌≤◌, ◌<◌, ℕ, suc, Bool, true, false, List, [], ◌++◌, length, map, codes, decimal, Option, Result, Ok, Err}
+use Rattle.std.specs.Prelude.{◌≡◌, ◌≢◌, ◌⊎◌, ◌≤◌, ◌<◌, ◌+◌, ◌*◌, ℕ, suc, Bool, true, false, List, [], ◌++◌}
+use Rattle.std.specs.Prelude.{length, map, codes, decimal, Option, Result, Ok, Err}
 use Rattle.std.specs.List.{AllByRecursion}
 use Rattle.std.specs.Io.KnownBytes.{Appends}
 use Rattle.pv_io.specs.Causes.{AppendsFront}
@@ -12,20 +13,27 @@ use Rattle.pv_script.specs.declared.commands.Command.TheVariants.{Quit}
 use Rattle.pv_script.specs.declared.replies.Reply.{Reply}
 use Rattle.pv_script.specs.declared.replies.Reply.TheVariants.{NoMemory}
 use Rattle.pv_session.specs.Sessions.{PlainSession}
-use Rattle.pv_cli.specs.declared.conversation.Next.{Next}
-use Rattle.pv_cli.specs.declared.conversation.Next.TheVariants as next
-use Rattle.pv_cli.specs.declared.conversation.Reading.{Reading}
+use Rattle.pv_cli.specs.declared.conversation.talk.Next.{Next}
+use Rattle.pv_cli.specs.declared.conversation.talk.Next.TheVariants as next
+use Rattle.pv_cli.specs.declared.conversation.talk.Reading.{Reading}
+use Rattle.pv_cli.specs.declared.status.Status.{Status}
+use Rattle.pv_cli.specs.Checking.{lines_taken}
 use Rattle.pv_cli.specs.Course.{RunEnding, output_fault}
-use Rattle.pv_cli.specs.Session.{RepliesTo, EndsSession, Replies, at_line, all_told, limited}
+use Rattle.pv_cli.specs.Devices.{InputNow, OutputNow}
+use Rattle.pv_cli.specs.Returns.{GoesThrough}
+use Rattle.pv_cli.specs.Session.{Converses, RepliesTo, EndsSession, Replies, at_line, all_told, limited}
 
 -- the text of the reply to a line, or that there was no memory for it, which changes nothing
-pub data IsReplyText (before : PlainSession) (line : List ℕ) (after : PlainSession) (text : List ℕ) : Type 0 where
-  replied : (told : Reply) → RepliesTo before line told after → text ≡ reply_bytes told → IsReplyText before line after text
+pub data IsReplyText (before : PlainSession) (line : List ℕ) (after : PlainSession)
+    (text : List ℕ) : Type 0 where
+  replied : (told : Reply) → RepliesTo before line told after → text ≡ reply_bytes told →
+      IsReplyText before line after text
   without_memory : after ≡ before → text ≡ reply_bytes NoMemory → IsReplyText before line after text
 
 -- the reply to a line was written so
 abbrev pub RepliesWith : PlainSession → List ℕ → PlainSession → (List ℕ → Type 0) → Type 0
-RepliesWith before line after AreWritten = (text : List ℕ) × IsReplyText before line after text × AreWritten text
+RepliesWith before line after AreWritten =
+    (text : List ℕ) × IsReplyText before line after text × AreWritten text
 
 -- a line was answered, and the session goes on, or the line ends it
 abbrev pub AnswersLine : PlainSession → List ℕ → PlainSession → (List ℕ → Type 0) → Bool → Type 0
@@ -40,8 +48,10 @@ IsLine line = HasNoFeed line × (length line ≤ MAX_LINE_BYTES)
 abbrev pub AllBelow : ℕ → List ℕ → Type 0
 AllBelow number silent = AllByRecursion (λ n. n < number) silent
 
--- The bytes so far are lines that were answered, each with its LF, and what is held of the next; the replies were written so.
-pub record Conversed (AreWritten : List ℕ → Type 0) (first : PlainSession) (script : List ℕ) (current : PlainSession) (held : HeldLine) (number : ℕ) : Type 0 where
+-- The bytes so far are lines that were answered, each with its LF, and what is held of the next;
+-- the replies were written so.
+pub record Conversed (AreWritten : List ℕ → Type 0) (first : PlainSession) (script : List ℕ)
+    (current : PlainSession) (held : HeldLine) (number : ℕ) : Type 0 where
   pub lines : List (List ℕ)
   pub is_cut : script ≡ with_feeds lines ++ held.bytes
   pub are_lines : AllByRecursion IsLine lines
@@ -54,16 +64,18 @@ pub record Conversed (AreWritten : List ℕ → Type 0) (first : PlainSession) (
   pub replies : Replies silent 1 first (map without_returns lines) out (at_line number current)
   pub written : AreWritten out
 
--- The session ended so over these bytes, and its replies were written so. Before the end of the script it may end so at a fault of the
--- output, too.
-pub record EndedWith (first : PlainSession) (script : List ℕ) (at_end : Bool) (ending : List ℕ → RunEnding) (AreWritten : List ℕ → Type 0) : Type 0 where
+-- The session ended so over these bytes, and its replies were written so. Before the end of the
+-- script it may end so at a fault of the output, too.
+pub record EndedWith (first : PlainSession) (script : List ℕ) (at_end : Bool)
+    (ending : List ℕ → RunEnding) (AreWritten : List ℕ → Type 0) : Type 0 where
   pub silent : List ℕ
   pub out : List ℕ
   pub ends : EndsSession first script silent at_end (ending out)
   pub fails : at_end ≡ false → EndsSession first script silent at_end (output_fault out)
   pub written : AreWritten out
 
--- the limit that a byte passes behind the longest script: that on the line, if it is no LF and the line has no room
+-- the limit that a byte passes behind the longest script: that on the line, if it is no LF and the
+-- line has no room
 abbrev pub IsNext : HeldLine → ℕ → Next → Type 0
 IsNext held b next.LineLimit = (b ≢ FEED) × (length held.bytes ≡ MAX_LINE_BYTES)
 IsNext held b next.ScriptLimit = (b ≡ FEED) ⊎ (length held.bytes ≢ MAX_LINE_BYTES)
@@ -75,25 +87,42 @@ IsBeyond held b next.More after = IsNext held b after
 IsBeyond held b other after = after ≡ other
 
 -- a piece behind which more is asked for passes no limit on the script
-abbrev pub Fits : ℕ → ℕ → Next → Type 0
-Fits size left next.More = size ≤ left
-Fits size left other = Unit {0}
+abbrev pub IsWithinScript : ℕ → ℕ → Next → Type 0
+IsWithinScript size left next.More = size ≤ left
+IsWithinScript size left other = Unit {0}
 
--- how a session goes on behind a piece, or ends, but for the line of a limit; its replies were written so
-abbrev pub ComesNext : (List ℕ → Type 0) → PlainSession → List ℕ → PlainSession → Reading → Next → Type 0
-ComesNext AreWritten first script current reading next.More = Conversed AreWritten first script current reading.lines reading.number
-ComesNext AreWritten first script current reading next.Quit = EndedWith first script false all_told AreWritten
+-- how a session goes on behind a piece, or ends, but for the line of a limit; its replies were
+-- written so
+abbrev pub ComesNext : (List ℕ → Type 0) → PlainSession → List ℕ → PlainSession → Reading → Next →
+    Type 0
+ComesNext AreWritten first script current reading next.More =
+    Conversed AreWritten first script current reading.lines reading.number
+ComesNext AreWritten first script current reading next.Quit =
+    EndedWith first script false all_told AreWritten
 ComesNext AreWritten first script current reading next.LineLimit =
-    EndedWith first script false (λ out. limited out (codes "limit line " ++ decimal reading.number)) AreWritten
+    EndedWith first script false (λ out. limited out
+    (codes "limit line " ++ decimal reading.number)) AreWritten
 ComesNext AreWritten first script current reading next.ScriptLimit =
     EndedWith first script false (λ out. limited out (codes "limit script")) AreWritten
 
 -- the same, or the output failed, and the replies were written otherwise
-abbrev pub GoesOn : (List ℕ → Type 0) → (List ℕ → Type 0) → PlainSession → List ℕ → PlainSession → Reading → Result Next Failed → Type 0
-GoesOn AreWritten AreCutOff first script current reading (Ok after) = ComesNext AreWritten first script current reading after
-GoesOn AreWritten AreCutOff first script current reading (Err failed) = EndedWith first script false output_fault AreCutOff
+abbrev pub ComesOrFails : (List ℕ → Type 0) → (List ℕ → Type 0) → PlainSession → List ℕ →
+    PlainSession → Reading → Result Next Failed → Type 0
+ComesOrFails AreWritten AreCutOff first script current reading (Ok after) =
+    ComesNext AreWritten first script current reading after
+ComesOrFails AreWritten AreCutOff first script current reading (Err failed) =
+    EndedWith first script false output_fault AreCutOff
 
 -- all lines were answered, at the end of the script
-abbrev pub Finishes : Option (List ℕ) → PlainSession → List ℕ → Option (List ℕ) → Result (Unit {0}) Failed → Type 0
+abbrev pub Finishes : Option (List ℕ) → PlainSession → List ℕ → Option (List ℕ) →
+    Result (Unit {0}) Failed → Type 0
 Finishes old first script now (Ok done) = EndedWith first script true all_told (Appends old now)
-Finishes old first script now (Err failed) = EndedWith first script true all_told (AppendsFront old now)
+Finishes old first script now (Err failed) =
+    EndedWith first script true all_told (AppendsFront old now)
+
+-- what a conversation did: a course, which the input and the output show, and how many lists it
+-- checked
+pub record Talked {S : Type 0} (session : PlainSession) (input input_now : InputNow S)
+    (output output_now : OutputNow) (checked checked_now : ℕ) (status : Status) : Type 0 where
+  pub talk : GoesThrough (Converses session) input input_now output output_now status
+  pub few : checked_now ≤ checked + 2 * lines_taken talk.course.taken

@@ -5,70 +5,108 @@ use Rattle.pv_io.specs.Causes.{CountStays, Rose}
 use Rattle.pv_script.specs.declared.replies.Reply.{Reply}
 use Rattle.pv_session.specs.Sessions.{PlainSession}
 use Rattle.pv_cli.specs.declared.status.Status.{Status}
-use Rattle.pv_cli.specs.declared.status.Status.TheVariants.{ReadFault, WriteFault, NoMemory}
+use Rattle.pv_cli.specs.declared.status.Status.TheVariants.{ReadFault, WriteFault}
 use Rattle.pv_cli.specs.Alike.{AreAlike, OutputsAlike, RespondsAlike}
+use Rattle.pv_cli.specs.Causes.{HasCause, OneRoseAtMost}
 use Rattle.pv_cli.specs.CommandLine.{PlainCommandLine}
 use Rattle.pv_cli.specs.Course.{Course, RunEnding, responds, input_fault}
+use Rattle.pv_cli.specs.Headline.{GuardsSession, HadNoMemory}
 use Rattle.pv_cli.specs.Opening.{Files}
-use Rattle.pv_cli.specs.Program.{IsDefined, Devices, Runs}
+use Rattle.pv_cli.specs.Devices.{Devices}
+use Rattle.pv_cli.specs.Program.{IsDefined, Runs}
 use Rattle.pv_cli.specs.Response.{PlainResponse}
 use Rattle.pv_cli.specs.Session.{EndsSession, Place, at_line, at_quit, Replies, RepliesTo}
 
--- the replies to a piece of a script, and then those to the lines behind it, are the replies to both
+-- the replies to a piece of a script, and then those to the lines behind it, are the replies to
+-- both
 abbrev pub JoinsReplies : Type 0
-JoinsReplies = (silent : List ℕ) (number next : ℕ) (session middle : PlainSession) (lines more : List (List ℕ)) (out rest : List ℕ) (place : Place) →
-    Replies silent number session lines out (at_line next middle) → Replies silent next middle more rest place →
+JoinsReplies = (silent : List ℕ) (number next : ℕ) (session middle : PlainSession)
+    (lines more : List (List ℕ)) (out rest : List ℕ) (place : Place) →
+    Replies silent number session lines out (at_line next middle) →
+    Replies silent next middle more rest place →
     Replies silent number session (lines ++ more) (out ++ rest) place
 
 -- lines behind a `quit` have no reply
 abbrev pub EndsAtQuit : Type 0
-EndsAtQuit = (silent : List ℕ) (number : ℕ) (session : PlainSession) (lines more : List (List ℕ)) (out : List ℕ) →
-    Replies silent number session lines out at_quit → Replies silent number session (lines ++ more) out at_quit
+EndsAtQuit = (silent : List ℕ) (number : ℕ) (session : PlainSession) (lines more : List (List ℕ))
+    (out : List ℕ) →
+    Replies silent number session lines out at_quit →
+    Replies silent number session (lines ++ more) out at_quit
 
--- a line has one reply in a session, but for the document of a completion, and one session behind it
+-- a line has one reply in a session, but for the document of a completion, and one session behind
+-- it
 abbrev pub HasOneReply : Type 0
-HasOneReply = (session : PlainSession) (line : List ℕ) (reply also : Reply) (after later : PlainSession) →
-    RepliesTo session line reply after → RepliesTo session line also later → AreAlike reply also × (after ≡ later)
+HasOneReply = (session : PlainSession) (line : List ℕ) (reply also : Reply)
+    (after later : PlainSession) →
+    RepliesTo session line reply after → RepliesTo session line also later → AreAlike reply also ×
+    (after ≡ later)
 
--- lines have one output, but for the documents of completions, and lead to one place, counted from any number and begun in any session,
--- where there was no memory for the same of them
+-- lines have one output, but for the documents of completions, and lead to one place, counted from
+-- any number and begun in any session, where there was no memory for the same of them
 abbrev pub HasOneOutput : Type 0
-HasOneOutput = (silent : List ℕ) (number : ℕ) (session : PlainSession) (lines : List (List ℕ)) (out also : List ℕ) (place spot : Place) →
-    Replies silent number session lines out place → Replies silent number session lines also spot → OutputsAlike out also × (place ≡ spot)
+HasOneOutput = (silent : List ℕ) (number : ℕ) (session : PlainSession) (lines : List (List ℕ))
+    (out also : List ℕ) (place spot : Place) →
+    Replies silent number session lines out place → Replies silent number session lines also spot →
+    OutputsAlike out also × (place ≡ spot)
 
--- over given files, and where what was taken from the input and the lines that there was no memory for are given, a command has one
--- response, but for the documents of completions in a session
+-- over given files, and where what was taken from the input and the lines that there was no memory
+-- for are given, a command has one response, but for the documents of completions in a session
 abbrev pub HasOneResponse : Type 0
-HasOneResponse = (line : Option PlainCommandLine) (files : Files) (course other : Course) (r also : PlainResponse) →
-    IsDefined line files course → IsDefined line files other → course.taken ≡ other.taken → course.silent ≡ other.silent →
+HasOneResponse = (line : Option PlainCommandLine) (files : Files) (course other : Course)
+    (r also : PlainResponse) →
+    IsDefined line files course → IsDefined line files other → course.taken ≡ other.taken →
+    course.silent ≡ other.silent →
     course.ending ≡ responds r → other.ending ≡ responds also → RespondsAlike line r also
 
 -- a defined response was written
-pub record Answered {S : Type 0} {line : Option PlainCommandLine} {before after : Devices S} {status : Status} (run : Runs line before after status) : Type 0 where
+pub record Answered {S : Type 0} {line : Option PlainCommandLine} {before after : Devices S}
+    {status : Status} (run : Runs line before after status) : Type 0 where
   pub response : PlainResponse
   pub is_response : run.course.ending ≡ responds response
   pub is_status : status ≡ response.status
-  pub written : Appends before.written after.written response.output
+  pub written : Appends before.output.written after.output.written response.output
 
--- where no count of faults rose, a defined response was written, or there was no memory
+-- where no count of faults rose, a defined response was written, or there was no memory and nothing
+-- was written
 abbrev pub IsComplete : Type 0 → Type 0
-IsComplete S = (line : Option PlainCommandLine) (before after : Devices S) (status : Status) (run : Runs line before after status) →
-    (Rose before.shelf_faults after.shelf_faults → ⊥) → (Rose before.input_faults after.input_faults → ⊥) →
-    (Rose before.output_faults after.output_faults → ⊥) → (status ≡ NoMemory) ⊎ Answered run
+IsComplete S = (line : Option PlainCommandLine) (before after : Devices S) (status : Status)
+    (run : Runs line before after status) →
+    (Rose before.shelf.faults after.shelf.faults → ⊥) →
+    (Rose before.input.faults after.input.faults → ⊥) →
+    (Rose before.output.faults after.output.faults → ⊥) →
+    HadNoMemory before after status ⊎ Answered run
 
--- the count of the output rises with status 4 alone, and those of the shelf and the input with status 3 alone
+-- the count of the output rises with status 4 alone, and those of the shelf and the input with
+-- status 3 alone
 pub record CountsStay {S : Type 0} (before after : Devices S) (status : Status) : Type 0 where
-  pub output : (status ≡ WriteFault → ⊥) → CountStays before.output_faults after.output_faults
-  pub shelf : (status ≡ ReadFault → ⊥) → CountStays before.shelf_faults after.shelf_faults
-  pub input : (status ≡ ReadFault → ⊥) → CountStays before.input_faults after.input_faults
+  pub output : (status ≡ WriteFault → ⊥) → CountStays before.output.faults after.output.faults
+  pub shelf : (status ≡ ReadFault → ⊥) → CountStays before.shelf.faults after.shelf.faults
+  pub input : (status ≡ ReadFault → ⊥) → CountStays before.input.faults after.input.faults
 
 abbrev pub FaultsShow : Type 0 → Type 0
 FaultsShow S = (line : Option PlainCommandLine) (before after : Devices S) (status : Status) →
     Runs line before after status → CountsStay before after status
 
--- Where a session ends before the end of its script was reached, and its input didn't fail, bytes that come behind change nothing: so it
--- ends in one way in whatever pieces the script comes.
+-- each status comes only by its cause
+abbrev pub ComesByCause : Type 0 → Type 0
+ComesByCause S = (line : Option PlainCommandLine) (before after : Devices S) (status : Status)
+    (run : Runs line before after status) →
+    HasCause line run.files run.course.taken before after status
+
+-- at most one count of faults rises
+abbrev pub RaisesOneAtMost : Type 0 → Type 0
+RaisesOneAtMost S = (line : Option PlainCommandLine) (before after : Devices S) (status : Status) →
+    Runs line before after status → OneRoseAtMost before after
+
+-- a session answers its whole script, where nothing stands against it
+abbrev pub SessionsAreGuarded : Type 0 → Type 0
+SessionsAreGuarded S = (line : Option PlainCommandLine) (before after : Devices S) (status : Status)
+    → Runs line before after status → GuardsSession line before after status
+
+-- Where a session ends before the end of its script was reached, and its input didn't fail, bytes
+-- that come behind change nothing: so it ends in one way in whatever pieces the script comes.
 abbrev pub MoreChangesNothing : Type 0
 MoreChangesNothing = (session : PlainSession) (script more silent : List ℕ) (ending : RunEnding) →
-    ((out : List ℕ) → ending ≡ input_fault out → ⊥) → EndsSession session script silent false ending →
+    ((out : List ℕ) → ending ≡ input_fault out → ⊥) →
+    EndsSession session script silent false ending →
     EndsSession session (script ++ more) silent false ending

@@ -1,7 +1,8 @@
 -- The lines of a script up to its limits.
-use Rattle.std.specs.Prelude.{◌≡◌, ◌≤◌, ℕ, suc, Bool, false, nat_lt, List, [], ◌∷◌, length, map, take, if◌then◌else◌}
+use Rattle.std.specs.Prelude.{◌≡◌, ◌≤◌, ℕ, suc, Bool, false, nat_lt, List, [], ◌∷◌, length, map}
+use Rattle.std.specs.Prelude.{take, if◌then◌else◌}
 use Rattle.std.specs.List.{list_any}
-use Rattle.pv_script.specs.Lines.{ended_pieces, pieces_of, without_returns}
+use Rattle.pv_script.specs.Lines.{ended_raw_lines, raw_lines_of, without_returns}
 use Rattle.pv_script.specs.Taking.{MAX_LINE_BYTES}
 
 abbrev pub MAX_SCRIPT_BYTES : ℕ
@@ -17,11 +18,12 @@ before_too_long (piece ∷ pieces) = if is_too_long piece then [] else piece ∷
 
 -- the lines that an LF ends before a limit is passed
 abbrev pub lines_within : List ℕ → List (List ℕ)
-lines_within script = map without_returns (before_too_long (ended_pieces (take MAX_SCRIPT_BYTES script)))
+lines_within script = map without_returns
+    (before_too_long (ended_raw_lines (take MAX_SCRIPT_BYTES script)))
 
 -- a line is too long, at the first byte past the limit on the script at the latest
 abbrev pub has_long_line : List ℕ → Bool
-has_long_line script = list_any is_too_long (pieces_of (take (suc MAX_SCRIPT_BYTES) script))
+has_long_line script = list_any is_too_long (raw_lines_of (take (suc MAX_SCRIPT_BYTES) script))
 
 -- no limit is passed
 pub record IsWithin (script : List ℕ) : Type 0 where

@@ -1,7 +1,9 @@
 -- The statuses of the program: their numbers, and those that need a cause.
 use Rattle.std.specs.Prelude.{ℕ, Bool, true, false}
 use Rattle.pv_cli.specs.declared.status.Status.{Status}
-use Rattle.pv_cli.specs.declared.status.Status.TheVariants.{Done, Negative, Usage, ReadFault, WriteFault, NoMemory, BadDtd, BadDocument, Limit}
+use Rattle.pv_cli.specs.declared.status.Status.TheVariants.{Done, Negative, Usage, ReadFault}
+use Rattle.pv_cli.specs.declared.status.Status.TheVariants.{WriteFault, NoMemory, BadDtd}
+use Rattle.pv_cli.specs.declared.status.Status.TheVariants.{BadDocument, Limit}
 
 -- the exit status of the process
 abbrev pub code_of : Status → ℕ

@@ -6,9 +6,9 @@ use Rattle.pv_script.specs.declared.commands.Command.{Command}
 use Rattle.pv_script.specs.declared.commands.Command.TheVariants as command
 use Rattle.pv_script.specs.declared.replies.Reply.{Reply}
 use Rattle.pv_session.specs.Sessions.{PlainSession}
-use Rattle.pv_cli.specs.declared.turns.Answer.{Answer}
-use Rattle.pv_cli.specs.declared.turns.ReplyText.{ReplyText}
-use Rattle.pv_cli.specs.declared.turns.ReplyText.TheVariants.{Made, Fixed}
+use Rattle.pv_cli.specs.declared.conversation.answers.Answer.{Answer}
+use Rattle.pv_cli.specs.declared.conversation.answers.ReplyText.{ReplyText}
+use Rattle.pv_cli.specs.declared.conversation.answers.ReplyText.TheVariants.{Made, Fixed}
 use Rattle.pv_cli.specs.Session.{RepliesBy, RepliesTo, done_of}
 
 abbrev pub text_of : ReplyText → List ℕ

@@ -1,10 +1,13 @@
 //! Command lines.
 
-ghost use Rattle.std.specs.Prelude.{◌≡◌, IfSome, length};
+ghost use Rattle.std.specs.Prelude.{◌≡◌, Contains, IfSome, length};
+ghost use Rattle.std.specs.List.{AllByRecursion};
 ghost use Rattle.std.specs.Option.{option_map};
 ghost use Rattle.pv_io.specs.Files.{byte_lists, fetch_names};
-ghost use Rattle.pv_cli.specs.CommandLine.{command_line_of, plain_command_line, HasNamedFiles, IsDrillSize, IsSized, drill_size};
+ghost use Rattle.pv_cli.specs.CommandLine.{command_line_of, plain_command_line, files_named};
+ghost use Rattle.pv_cli.specs.CommandLine.{IsDrillSize, IsSized, drill_size};
 
+use crate::verb::{Verb, verb_of};
 use pv_chars::is_name;
 use pv_script::written_number;
 
@@ -16,17 +19,13 @@ pub struct Named<'a> {
     pub doc: &'a str,
 }
 
-/// A well-formed command line.
+/// A well-formed command line, by its form.
 #[derive(Clone, Copy)]
 pub enum CommandLine<'a> {
     /// `dtd DTD`.
-    Listing(&'a str),
-    /// `valid DTD ROOT DOC`.
-    Valid(Named<'a>),
-    /// `check DTD ROOT DOC`.
-    Check(Named<'a>),
-    /// `session DTD ROOT DOC`.
-    Session(Named<'a>),
+    OnDtd(&'a str),
+    /// A verb with DTD ROOT DOC.
+    OnDocument(Verb, Named<'a>),
     /// `drill N`.
     Drill(u32),
 }
@@ -51,14 +50,15 @@ fn drill_size(word: &[u8]) -> Option<u32>
 fn line_of_two(words: &[String]) -> Option<CommandLine<'_>>
     requires { length words.now ≡ 2 }
     ensures line { option_map plain_command_line result ≡ command_line_of (byte_lists words.now) }
-    ensures named { IfSome result (HasNamedFiles (fetch_names words.now)) }
+    ensures named { AllByRecursion (Contains (fetch_names words.now))
+        (files_named (option_map plain_command_line result)) }
     ensures sized { IfSome result IsSized }
 {
     let [command, word] = words else {
         unreachable!()
     };
     if command.as_str() == "dtd" {
-        return Some(CommandLine::Listing(word.as_str()));
+        return Some(CommandLine::OnDtd(word.as_str()));
     }
     if command.as_str() == "drill" {
         return match drill_size(word.as_bytes()) {
@@ -72,7 +72,8 @@ fn line_of_two(words: &[String]) -> Option<CommandLine<'_>>
 /// The command line that the words are; none where they are none.
 pub fn command_line_of(words: &[String]) -> Option<CommandLine<'_>>
     ensures line { option_map plain_command_line result ≡ command_line_of (byte_lists words.now) }
-    ensures named { IfSome result (HasNamedFiles (fetch_names words.now)) }
+    ensures named { AllByRecursion (Contains (fetch_names words.now))
+        (files_named (option_map plain_command_line result)) }
     ensures sized { IfSome result IsSized }
 {
     if words.len() == 2 {
@@ -87,19 +88,13 @@ pub fn command_line_of(words: &[String]) -> Option<CommandLine<'_>>
     if !is_name(root.as_bytes()) {
         return None;
     }
+    let Some(verb) = verb_of(command.as_str()) else {
+        return None;
+    };
     let named = Named {
         dtd: dtd.as_str(),
         root: root.as_bytes(),
         doc: doc.as_str(),
     };
-    if command.as_str() == "valid" {
-        return Some(CommandLine::Valid(named));
-    }
-    if command.as_str() == "check" {
-        return Some(CommandLine::Check(named));
-    }
-    if command.as_str() == "session" {
-        return Some(CommandLine::Session(named));
-    }
-    None
+    Some(CommandLine::OnDocument(verb, named))
 }

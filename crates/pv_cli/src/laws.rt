@@ -1,19 +1,23 @@
 //! Laws on what the program does. Their functions do nothing.
 
-ghost use Rattle.pv_cli.specs.Laws.{HasOneResponse, IsComplete, FaultsShow, HasOneReply, HasOneOutput, JoinsReplies, EndsAtQuit, MoreChangesNothing};
+ghost use Rattle.pv_cli.specs.Laws.{HasOneResponse, IsComplete, FaultsShow, HasOneReply};
+ghost use Rattle.pv_cli.specs.Laws.{HasOneOutput, JoinsReplies, EndsAtQuit, MoreChangesNothing};
+ghost use Rattle.pv_cli.specs.Laws.{ComesByCause, RaisesOneAtMost, SessionsAreGuarded};
 
-use pv_dtd::laws::one_meaning_law;
+use pv_dtd::laws::{dtd_text_law, one_meaning_law};
 use pv_io::Source;
+use pv_params::laws::one_expansion_law;
 use pv_read::laws::{meant_law, one_document_law, one_meaning_law as one_document_meaning_law};
 use pv_script::laws::one_command_law;
 use pv_session::laws::one_answer_law;
 use pv_tree::laws::valid_lists_law;
 
-/// Over given files a command has one response, and `session` one for each script and each set of lines that there was no memory for, but for
-/// the documents of completions.
+/// Over given files a command has one response, and `session` one for each script and each set of
+/// lines that there was no memory for, but for the documents of completions.
 pub fn one_response_law()
     ensures { HasOneResponse }
 {
+    one_expansion_law();
     one_meaning_law();
     one_document_meaning_law();
     meant_law();
@@ -23,7 +27,8 @@ pub fn one_response_law()
     one_answer_law();
 }
 
-/// Where no device failed, the defined response was written, or there was no memory.
+/// Where no device failed, the defined response was written, or there was no memory and nothing was
+/// written.
 pub fn complete_law<S: Source>()
     ensures { IsComplete S }
 {}
@@ -33,7 +38,28 @@ pub fn faults_law<S: Source>()
     ensures { FaultsShow S }
 {}
 
-/// The replies to a script are determined, line by line, but for the documents of completions, and are those to its pieces.
+/// Each status comes only by its cause, and at most one count of faults rises.
+pub fn causes_law<S: Source>()
+    ensures causes { ComesByCause S }
+    ensures one { RaisesOneAtMost S }
+{}
+
+/// Over files that hold a DTD and a document that can be made valid, and devices that don't fail, a
+/// session answers its whole script, or there was no memory and it wrote nothing.
+pub fn guarded_session_law<S: Source>()
+    ensures { SessionsAreGuarded S }
+{
+    one_expansion_law();
+    one_meaning_law();
+    dtd_text_law();
+    one_document_meaning_law();
+    meant_law();
+    one_document_law();
+    complete_law::<S>();
+}
+
+/// The replies to a script are determined, line by line, but for the documents of completions, and
+/// are those to its pieces.
 pub fn replies_law()
     ensures reply { HasOneReply }
     ensures one { HasOneOutput }

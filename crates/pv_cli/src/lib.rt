@@ -1,28 +1,25 @@
-//! The program, whatever its files, its input and its output are. Each command goes through the order of work, stage by stage
-//! (`specs/Stage.antt`): it opens its files (`opening`), and then responds (`valid`, `check`, `listing` for `dtd`) or answers a script,
-//! piece by piece (`session`, `conversation`), its replies held before they are written (`reply_buffer`); `drill` answers a script of its
-//! own. `pvtag` promises the status and the bytes that are defined for its words and files, and each fault with its cause
+//! The program, whatever its files, its input and its output are. Each command goes through the
+//! order of work, stage by stage (`specs/Stage.antt`): by its form it opens its files (`forms`,
+//! `opening`), and then it does what its verb does (`commands`): it responds, or answers a script,
+//! piece by piece, its replies held before they are written (`conversation`); `drill` answers a
+//! script of its own. `pvtag` promises the status and the bytes that are defined for its words and
+//! files, each fault with its cause, and how often its shelf and its input are asked
 //! (`specs/Program.antt`).
 #![tactic(auto)]
 
-mod check;
 mod command_line;
+mod commands;
 mod conversation;
-mod drill;
+mod forms;
 pub mod laws;
-mod listing;
-mod missing;
 mod opening;
 mod possibility;
 mod program;
-mod reply_buffer;
 mod respond;
 mod response;
-mod session;
 mod status;
 mod stop;
-mod turns;
-mod valid;
+mod verb;
 
 pub use program::pvtag;
 pub use status::Status;

@@ -1,38 +1,54 @@
 //! Opens the files of a command: fetches their bytes and reads them.
 
-ghost use Rattle.std.specs.Prelude.{◌≡◌, ◌++◌, List, ℕ, Option, codes, decimal, Contains, false};
-ghost use Rattle.pv_cli.specs.Opening.{Files, IsFile, fetch_stage, dtd_stage, dtd_file_stage, document_file_stage, opening_stage, plain_opened};
+ghost use Rattle.std.specs.Prelude.{◌≡◌, ◌++◌, List, [], ◌∷◌, ℕ, decimal, Contains, false};
+ghost use Rattle.pv_cli.specs.Devices.{shelf_at};
+ghost use Rattle.pv_cli.specs.Opening.{AreFiles, IsFile, fetch_stage, dtd_stage, dtd_file_stage};
+ghost use Rattle.pv_cli.specs.Opening.{expanded_dtd_stage};
+ghost use Rattle.pv_cli.specs.Parameters.{RefusesParameters};
+ghost use Rattle.pv_params.specs.Answers.{Tells};
+ghost use Rattle.pv_params.specs.Meaning.{Expands, faulty};
+ghost use Rattle.pv_cli.specs.Opening.{document_fetch_stage, fetching_stage};
 ghost use Rattle.pv_cli.specs.Documents.{document_stage, RefusesDocument};
 ghost use Rattle.pv_script.specs.Paths.{path_text};
 ghost use Rattle.pv_cli.specs.Response.{with_line};
-ghost use Rattle.pv_cli.specs.Stage.{StopsBy, Returns, ShelfCounts};
+ghost use Rattle.pv_cli.specs.Returns.{RefusesWith, Returns, ReturnsOver, plain_fetched};
+ghost use Rattle.pv_cli.specs.Returns.{plain_opened};
 ghost use Rattle.pv_cli.specs.Status.{needs_cause};
 ghost use Rattle.pv_dtd.specs.PlainForms.{plain_dtd};
 ghost use Rattle.pv_read.specs.Errors.{Refuses};
-ghost use Rattle.pv_read.specs.Meaning.{DocumentMeans, MAX_DOC_BYTES as MOST_BYTES};
+ghost use Rattle.pv_read.specs.Meaning.{DocumentMeans};
 ghost use Rattle.pv_tree.specs.Marks.{blank_mark};
-ghost use Rattle.pv_tree.specs.PlainDocs.{plain_doc};
 
+use crate::command_line::Named;
 use crate::response::Response;
 use crate::status::Status;
 use crate::stop::Stop;
 use pv_dtd::{Dtd, DtdError, MAX_DTD_BYTES, read_dtd};
 use pv_io::{FetchError, Shelf};
+use pv_params::{ParamError, expand};
 use pv_read::{DocError, MAX_DOC_BYTES, read_doc};
 use pv_tree::Doc;
 use std::alloc::Global;
 
-/// A DTD and a document.
+/// A DTD, and the bytes of a document.
+#[derive(Drop)]
+pub struct Fetched {
+    pub dtd: Dtd,
+    pub bytes: Vec<u8>,
+}
+
+/// A DTD, and a document with its bytes.
 #[derive(Drop)]
 pub struct Opened {
     pub dtd: Dtd,
+    pub bytes: Vec<u8>,
     pub doc: Doc,
 }
 
 // Refuses with this line.
 fn refuse(alloc: Global, status: Status, text: &[u8]) -> Stop
     requires { needs_cause status ≡ false }
-    ensures { StopsBy (λ r. r ≡ with_line status text.now) ⊥ result }
+    ensures { RefusesWith (λ r. r ≡ with_line status text.now) result }
 {
     match Response::with_line(alloc, status, text) {
         Ok(response) => Stop::Refused(response),
@@ -43,7 +59,7 @@ fn refuse(alloc: Global, status: Status, text: &[u8]) -> Stop
 // Refuses with a line of this text and the number of an item.
 fn refuse_item(alloc: Global, status: Status, text: &[u8], item: u64) -> Stop
     requires { needs_cause status ≡ false }
-    ensures { StopsBy (λ r. r ≡ with_line status (text.now ++ decimal item)) ⊥ result }
+    ensures { RefusesWith (λ r. r ≡ with_line status (text.now ++ decimal item)) result }
 {
     match Response::with_number(alloc, status, text, item) {
         Ok(response) => Stop::Refused(response),
@@ -54,7 +70,7 @@ fn refuse_item(alloc: Global, status: Status, text: &[u8], item: u64) -> Stop
 /// Refuses with a line of this text and a path.
 pub fn refuse_path(alloc: Global, status: Status, text: &[u8], places: &[u32]) -> Stop
     requires { needs_cause status ≡ false }
-    ensures { StopsBy (λ r. r ≡ with_line status (text.now ++ path_text places.now)) ⊥ result }
+    ensures { RefusesWith (λ r. r ≡ with_line status (text.now ++ path_text places.now)) result }
 {
     match Response::with_path(alloc, status, text, places) {
         Ok(response) => Stop::Refused(response),
@@ -62,8 +78,8 @@ pub fn refuse_path(alloc: Global, status: Status, text: &[u8], places: &[u32]) -
     }
 }
 
-// The bytes of a file of at most so many. The line says `passed` where it has more.
-fn fetch<H: Shelf>(
+/// The bytes of a file of at most so many. The line says `passed` where it has more.
+pub fn fetch<H: Shelf>(
     alloc: Global,
     shelf: &mut H,
     name: &str,
@@ -71,11 +87,11 @@ fn fetch<H: Shelf>(
     passed: &[u8],
 ) -> Result<Vec<u8>, Stop>
     requires { Contains (H.names shelf.old) name.now }
-    ensures file { (file : Option (List ℕ)) × IsFile (H.files shelf.old) name.now file
-        × Returns (λ v. v.items) (fetch_stage file most passed.now) result }
-    ensures counts { ShelfCounts (H.faults shelf.old) (H.faults shelf.new) result }
+    ensures over { ReturnsOver (IsFile (H.files shelf.old) name.now) (λ v. v.items)
+        (λ file. fetch_stage file most passed.now)
+        (shelf_at (H.files shelf.old) (H.calls shelf.old) (H.faults shelf.old))
+        (shelf_at (H.files shelf.new) (H.calls shelf.new) (H.faults shelf.new)) result }
     ensures names { H.names shelf.new ≡ H.names shelf.old }
-    ensures files { H.files shelf.new ≡ H.files shelf.old }
 {
     match shelf.fetch(alloc, name, most) {
         Ok(bytes) => Ok(bytes),
@@ -85,9 +101,9 @@ fn fetch<H: Shelf>(
     }
 }
 
-/// The DTD that the bytes are.
+/// The DTD that the text is.
 pub fn dtd_of(alloc: Global, bytes: &[u8]) -> Result<Dtd, Stop>
-    ensures { Returns plain_dtd (dtd_stage bytes.now) result }
+    ensures { Returns plain_dtd (dtd_stage bytes.now) 0 result }
 {
     match read_dtd(alloc, bytes) {
         Ok(dtd) => Ok(dtd),
@@ -116,10 +132,36 @@ pub fn dtd_of(alloc: Global, bytes: &[u8]) -> Result<Dtd, Stop>
     }
 }
 
+// Refuses bytes whose parameter entities can't be put in place, for this reason.
+fn refuse_parameters(alloc: Global, error: ParamError) -> Stop
+    ensures { (bytes : List ℕ) → Tells (λ fault. Expands bytes (faulty fault)) error
+        → RefusesWith (RefusesParameters bytes) result }
+{
+    match error {
+        ParamError::Conditional => refuse(alloc, Status::BadDtd, b"dtd param conditional"),
+        ParamError::External => refuse(alloc, Status::BadDtd, b"dtd param external"),
+        ParamError::Undeclared => refuse(alloc, Status::BadDtd, b"dtd param undeclared"),
+        ParamError::Recursive => refuse(alloc, Status::BadDtd, b"dtd param recursive"),
+        ParamError::Syntax => refuse(alloc, Status::BadDtd, b"dtd param syntax"),
+        ParamError::Limit => refuse(alloc, Status::Limit, b"limit params"),
+        ParamError::NoMemory => Stop::NoMemory,
+    }
+}
+
+// The DTD of these bytes, once their parameter entities are put in place.
+fn expanded_dtd(alloc: Global, bytes: &[u8]) -> Result<Dtd, Stop>
+    ensures { Returns plain_dtd (expanded_dtd_stage bytes.now) 0 result }
+{
+    match expand(alloc, bytes) {
+        Ok(text) => dtd_of(alloc, &text),
+        Err(error) => Err(refuse_parameters(alloc, error)),
+    }
+}
+
 /// Refuses bytes that are no document, for this reason.
 pub fn refuse_document(alloc: Global, error: DocError) -> Stop
     ensures { (root bytes : List ℕ) → Refuses (DocumentMeans blank_mark root bytes) error
-        → StopsBy (RefusesDocument root bytes) ⊥ result }
+        → RefusesWith (RefusesDocument root bytes) result }
 {
     match error {
         DocError::Syntax(item) => {
@@ -139,12 +181,14 @@ pub fn refuse_document(alloc: Global, error: DocError) -> Stop
     }
 }
 
-/// The document that the bytes are.
-pub fn document_of(alloc: Global, bytes: &[u8], root: &[u8]) -> Result<Doc, Stop>
-    ensures { Returns plain_doc (document_stage root.now bytes.now) result }
+/// The document that the bytes are, beside the DTD and them.
+pub fn open_document(alloc: Global, fetched: Fetched, root: &[u8]) -> Result<Opened, Stop>
+    ensures { Returns plain_opened (document_stage root.now (plain_fetched fetched).0
+        (plain_fetched fetched).1) 0 result }
 {
-    match read_doc(alloc, bytes, root) {
-        Ok(doc) => Ok(doc),
+    let Fetched { dtd, bytes } = fetched;
+    match read_doc(alloc, &bytes, root) {
+        Ok(doc) => Ok(Opened { dtd, bytes, doc }),
         Err(error) => Err(refuse_document(alloc, error)),
     }
 }
@@ -152,64 +196,42 @@ pub fn document_of(alloc: Global, bytes: &[u8], root: &[u8]) -> Result<Doc, Stop
 /// The DTD in the file of this name.
 pub fn open_dtd<H: Shelf>(alloc: Global, shelf: &mut H, name: &str) -> Result<Dtd, Stop>
     requires { Contains (H.names shelf.old) name.now }
-    ensures file { (file : Option (List ℕ)) × IsFile (H.files shelf.old) name.now file
-        × Returns plain_dtd (dtd_file_stage file) result }
-    ensures counts { ShelfCounts (H.faults shelf.old) (H.faults shelf.new) result }
+    ensures over { ReturnsOver (IsFile (H.files shelf.old) name.now) plain_dtd dtd_file_stage
+        (shelf_at (H.files shelf.old) (H.calls shelf.old) (H.faults shelf.old))
+        (shelf_at (H.files shelf.new) (H.calls shelf.new) (H.faults shelf.new)) result }
     ensures names { H.names shelf.new ≡ H.names shelf.old }
-    ensures files { H.files shelf.new ≡ H.files shelf.old }
 {
     let bytes = fetch(alloc, shelf, name, MAX_DTD_BYTES, b"limit dtd-file")?;
-    dtd_of(alloc, &bytes)
+    expanded_dtd(alloc, &bytes)
 }
 
-/// The bytes of the document in the file of this name.
-pub fn fetch_document<H: Shelf>(alloc: Global, shelf: &mut H, name: &str) -> Result<Vec<u8>, Stop>
+// The bytes of the document in the file of this name.
+fn fetch_document<H: Shelf>(alloc: Global, shelf: &mut H, name: &str) -> Result<Vec<u8>, Stop>
     requires { Contains (H.names shelf.old) name.now }
-    ensures file { (file : Option (List ℕ)) × IsFile (H.files shelf.old) name.now file
-        × Returns (λ v. v.items) (fetch_stage file MOST_BYTES (codes "limit document-file")) result }
-    ensures counts { ShelfCounts (H.faults shelf.old) (H.faults shelf.new) result }
+    ensures over { ReturnsOver (IsFile (H.files shelf.old) name.now) (λ v. v.items)
+        document_fetch_stage
+        (shelf_at (H.files shelf.old) (H.calls shelf.old) (H.faults shelf.old))
+        (shelf_at (H.files shelf.new) (H.calls shelf.new) (H.faults shelf.new)) result }
     ensures names { H.names shelf.new ≡ H.names shelf.old }
-    ensures files { H.files shelf.new ≡ H.files shelf.old }
 {
     fetch(alloc, shelf, name, MAX_DOC_BYTES, b"limit document-file")
 }
 
-// The document in the file of this name.
-fn open_document<H: Shelf>(
+/// The DTD and the bytes of the document in the files of these names.
+pub fn fetch_files<H: Shelf>(
     alloc: Global,
     shelf: &mut H,
-    name: &str,
-    root: &[u8],
-) -> Result<Doc, Stop>
-    requires { Contains (H.names shelf.old) name.now }
-    ensures file { (file : Option (List ℕ)) × IsFile (H.files shelf.old) name.now file
-        × Returns plain_doc (document_file_stage root.now file) result }
-    ensures counts { ShelfCounts (H.faults shelf.old) (H.faults shelf.new) result }
+    named: &Named<'_>,
+) -> Result<Fetched, Stop>
+    requires dtd_named { Contains (H.names shelf.old) named.now.dtd.now }
+    requires doc_named { Contains (H.names shelf.old) named.now.doc.now }
+    ensures over { ReturnsOver (AreFiles (H.files shelf.old)
+        (named.now.dtd.now ∷ named.now.doc.now ∷ [])) plain_fetched fetching_stage
+        (shelf_at (H.files shelf.old) (H.calls shelf.old) (H.faults shelf.old))
+        (shelf_at (H.files shelf.new) (H.calls shelf.new) (H.faults shelf.new)) result }
     ensures names { H.names shelf.new ≡ H.names shelf.old }
-    ensures files { H.files shelf.new ≡ H.files shelf.old }
 {
-    let bytes = fetch_document(alloc, shelf, name)?;
-    document_of(alloc, &bytes, root)
-}
-
-/// The DTD and the document in the files of these names.
-pub fn open<H: Shelf>(
-    alloc: Global,
-    shelf: &mut H,
-    dtd: &str,
-    root: &[u8],
-    doc: &str,
-) -> Result<Opened, Stop>
-    requires dtd_named { Contains (H.names shelf.old) dtd.now }
-    requires doc_named { Contains (H.names shelf.old) doc.now }
-    ensures files_read { (files : Files) × IsFile (H.files shelf.old) dtd.now files.dtd
-        × IsFile (H.files shelf.old) doc.now files.doc
-        × Returns plain_opened (opening_stage root.now files) result }
-    ensures counts { ShelfCounts (H.faults shelf.old) (H.faults shelf.new) result }
-    ensures names { H.names shelf.new ≡ H.names shelf.old }
-    ensures files { H.files shelf.new ≡ H.files shelf.old }
-{
-    let dtd = open_dtd(alloc, shelf, dtd)?;
-    let doc = open_document(alloc, shelf, doc, root)?;
-    Ok(Opened { dtd, doc })
+    let dtd = open_dtd(alloc, shelf, named.dtd)?;
+    let bytes = fetch_document(alloc, shelf, named.doc)?;
+    Ok(Fetched { dtd, bytes })
 }

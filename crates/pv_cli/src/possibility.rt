@@ -1,8 +1,10 @@
-//! Whether inserting elements can make a document valid, as `check` and the opening of a session ask.
+//! Whether inserting elements can make a document valid, as `check` and the opening of a session
+//! ask.
 
 ghost use Rattle.std.specs.Prelude.{◌≤◌, ◌+◌, IfErr, IfOk, length};
-ghost use Rattle.pv_cli.specs.Check.{DeniesPossibility, HasPossibility};
-ghost use Rattle.pv_cli.specs.Stage.{StopsBy};
+ghost use Rattle.pv_cli.specs.Possibility.{possibility_stage};
+ghost use Rattle.pv_cli.specs.Returns.{StopsBy};
+ghost use Rattle.pv_fresh.specs.Answers.{HasPossibility};
 ghost use Rattle.pv_productive.specs.PlainForms.{dtd_of};
 ghost use Rattle.pv_tree.specs.Lists.{lists_of};
 ghost use Rattle.pv_tree.specs.PlainDocs.{plain_doc};
@@ -10,7 +12,7 @@ ghost use Rattle.pv_tree.specs.PlainDocs.{plain_doc};
 use crate::opening::refuse_path;
 use crate::status::Status;
 use crate::stop::Stop;
-use pv_fresh::{FreshError, check_doc};
+use pv_fresh::PossibleError;
 use pv_missing::Verdicts;
 use pv_productive::Grammar;
 use pv_steps::Steps;
@@ -18,28 +20,29 @@ use pv_tree::Doc;
 use std::alloc::Global;
 use std::sync::ledger::Ledger;
 
-/// The verdicts of a document's lists. It refuses where a list is too wide, or no insertions can make the document valid.
-pub fn possible_verdicts<L: Ledger>(
+/// The verdicts of a document's lists. It refuses where a list is too wide, or no insertions can
+/// make the document valid.
+pub fn verdicts_or_stop<L: Ledger>(
     alloc: Global,
     grammar: &Grammar,
     doc: &Doc,
     root: &[u8],
     steps: &mut Steps<L>,
 ) -> Result<Verdicts, Stop>
-    ensures possible { IfOk result (HasPossibility root.now (dtd_of grammar.now) (plain_doc doc.now)) }
-    ensures denied { IfErr result (StopsBy (DeniesPossibility root.now (dtd_of grammar.now)
-        (plain_doc doc.now)) ⊥) }
+    ensures possible { IfOk result (HasPossibility root.now (dtd_of grammar.now)
+        (plain_doc doc.now)) }
+    ensures denied { IfErr result (StopsBy (possibility_stage root.now (dtd_of grammar.now)
+        (plain_doc doc.now)) 0) }
     ensures steps { steps.new ≤ steps.old + length (lists_of (plain_doc doc.now)) }
 {
-    let verdicts = match check_doc(alloc, grammar, root, doc, steps) {
-        Ok(verdicts) => verdicts,
-        Err(FreshError::TooWide(path)) => {
-            return Err(refuse_path(alloc, Status::Limit, b"limit width ", path.places()));
+    match pv_fresh::possible_verdicts(alloc, grammar, root, doc, steps) {
+        Ok(verdicts) => Ok(verdicts),
+        Err(PossibleError::TooWide(path)) => {
+            Err(refuse_path(alloc, Status::Limit, b"limit width ", path.places()))
         }
-        Err(FreshError::NoMemory) => return Err(Stop::NoMemory),
-    };
-    if let Some(path) = verdicts.first_impossible() {
-        return Err(refuse_path(alloc, Status::Negative, b"impossible ", path.places()));
+        Err(PossibleError::Impossible(path)) => {
+            Err(refuse_path(alloc, Status::Negative, b"impossible ", path.places()))
+        }
+        Err(PossibleError::NoMemory) => Err(Stop::NoMemory),
     }
-    Ok(verdicts)
 }

@@ -1,8 +1,9 @@
 //! Writes a response.
 
 ghost use Rattle.pv_cli.specs.Course.{responds};
-ghost use Rattle.pv_cli.specs.Program.{Writes, ending_of};
+ghost use Rattle.pv_cli.specs.Program.{Writes};
 ghost use Rattle.pv_cli.specs.Response.{plain_response};
+ghost use Rattle.pv_cli.specs.Returns.{ending_of};
 
 use crate::response::Response;
 use crate::status::Status;
@@ -10,7 +11,8 @@ use crate::stop::Stop;
 use pv_io::{Sink, write_all};
 
 fn write<K: Sink>(out: &mut K, response: &Response) -> Status
-    ensures { Writes (responds (plain_response response.now)) (K.written out.old) (K.written out.new)
+    ensures { Writes (responds (plain_response response.now)) (K.written out.old)
+        (K.written out.new)
         (K.faults out.old) (K.faults out.new) result }
 {
     match write_all(out, &response.output) {

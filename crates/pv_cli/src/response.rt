@@ -47,7 +47,8 @@ impl Response {
         number: u64,
     ) -> Result<Response, AllocError>
         requires { needs_cause status ≡ false }
-        ensures { IfOk result (λ r. plain_response r ≡ with_line status (text.now ++ decimal number)) }
+        ensures { IfOk result (λ r. plain_response r
+            ≡ with_line status (text.now ++ decimal number)) }
     {
         let mut line = Vec::from_slice(alloc, text)?;
         push_number(&mut line, number)?;
@@ -62,7 +63,8 @@ impl Response {
         places: &[u32],
     ) -> Result<Response, AllocError>
         requires { needs_cause status ≡ false }
-        ensures { IfOk result (λ r. plain_response r ≡ with_line status (text.now ++ path_text places.now)) }
+        ensures { IfOk result (λ r. plain_response r
+            ≡ with_line status (text.now ++ path_text places.now)) }
     {
         let mut line = Vec::from_slice(alloc, text)?;
         push_path(&mut line, places)?;

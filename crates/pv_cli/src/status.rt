@@ -27,7 +27,8 @@ pub enum Status {
 }
 
 impl Status {
-    /// The exit status of the process. It is never 10, which says that the words couldn't be fetched.
+    /// The exit status of the process. It is never 10, which says that the words couldn't be
+    /// fetched.
     pub fn code(self) -> u8
         ensures { result ≡ code_of self }
     {

@@ -25,14 +25,6 @@ impl From<pv_chars::NoMemory> for Stop {
     }
 }
 
-impl From<pv_model::NoMemory> for Stop {
-    ghost from_gives = { λ _ e. e ≡ NoMemory };
-
-    fn from(_: pv_model::NoMemory) -> Stop {
-        Stop::NoMemory
-    }
-}
-
 impl From<AllocError> for Stop {
     ghost from_gives = { λ _ e. e ≡ NoMemory };
 

@@ -25,8 +25,8 @@ use Rattle.pv_missing.specs.Verdicts.{AreVerdicts, IsLiveBy, IsVerdict, is_possi
 use Rattle.pv_missing.specs.Weighing.{site_of, whole}
 use Rattle.pv_missing.specs.Widths.{IsListForWeights}
 use Rattle.pv_missing.proofs.Verdict.{one_verdict}
-use Rattle.pv_span.specs.Laws.{LiveWeighs, PossibleWeigh, PossibleWeightsAddUp}
-use Rattle.pv_complete.specs.Loads.{Adds, AddsUp, PlainLoad, StopsAt, Takes}
+use Rattle.pv_tables.specs.WeightLaws.{LiveWeighs, PossibleWeigh, PossibleWeightsAddUp}
+use Rattle.pv_complete.specs.Loads.{Adds, AddsUp, PlainLoad, StopsAt, UsesVerdict}
 use Rattle.pv_complete.specs.Needing.{AreListsForVerdicts, CanWeigh, IsHeavy, Needs, WeighsIn}
 
 -- the verdict that is next, and those behind it
@@ -191,7 +191,7 @@ weighs_by g root list kids s k e f (live, is, w) = (s, live, f, rw e is, w)
 
 module _ (g : PlainDtd) (root : List ℕ) (vs : List Verdict) (list : Listed Mark) (old new : PlainLoad) where
   -- a list whose verdict isn't Possible, or hasn't come
-  pub adds_other : Takes vs old.used new.used false → new.total ≡ old.total → old.total ≤ heaviest → AddsUp g root (list ∷ []) vs old new
+  pub adds_other : UsesVerdict vs old.used new.used false → new.total ≡ old.total → old.total ≤ heaviest → AddsUp g root (list ∷ []) vs old new
   adds_other (inl none) same few = adds_past g root vs list old new none
   adds_other (inr (v, next, not)) same few = adds_none g root vs list v old new next not same few
 
@@ -205,6 +205,6 @@ only_possible verdict.Valid e = absurd cc
 only_possible verdict.Possible e = refl
 only_possible verdict.Impossible e = absurd cc
 
-pub takes_next : (vs : List Verdict) (k n : ℕ) (v : Verdict) (b : Bool) → slice_get vs k ≡ Some v → n ≡ k + 1 → b ≡ is_possible v → Takes vs k n b
+pub takes_next : (vs : List Verdict) (k n : ℕ) (v : Verdict) (b : Bool) → slice_get vs k ≡ Some v → n ≡ k + 1 → b ≡ is_possible v → UsesVerdict vs k n b
 takes_next vs k n v true e f h = let p = only_possible v (sym h) in drop_next vs k n v e f ∙ ap (λ x. x ∷ drop n vs) p
 takes_next vs k n v false e f h = inr (v, drop_next vs k n v e f, not_possible v (sym h))

@@ -19,7 +19,7 @@ use Rattle.pv_tree.specs.declared.nodes.Node.{Cdata, Misc, Node, Text, the_lemma
 use Rattle.pv_tree.proofs.Decidable.{had}
 use Rattle.pv_tree.proofs.DecidedForms.{epilog, legal}
 use Rattle.pv_complete.specs.PieceForms.{plain_pieces}
-use Rattle.pv_complete.specs.declared.pieces.Piece.{Piece}
+use Rattle.pv_complete.specs.declared.words.pieces.Piece.{Piece}
 use Rattle.pv_complete.specs.Writable.{AreWritable, HasNames}
 
 all_names : (xs : List (List ℕ)) → AreLegal xs → list_all is_name xs ≡ true

@@ -5,9 +5,9 @@ use Rattle.pv_model.specs.declared.models.NameId.{NameId}
 use Rattle.pv_rules.specs.PlainForms.{plain_site}
 use Rattle.pv_rules.specs.declared.sites.Site.{Site}
 use Rattle.pv_rules.specs.declared.sites.Site.TheVariants as site
-use Rattle.pv_span.specs.declared.tables.Entry.{Entry}
+use Rattle.pv_tables.specs.declared.tables.Entry.{Entry}
 use Rattle.pv_complete.specs.Listings.{key}
-use Rattle.pv_complete.specs.Tables.{IsBefore, kind_rank, site_number}
+use Rattle.pv_tables.specs.Tables.{IsBefore, kind_rank, site_number}
 
 abbrev content_of : ℕ → Site
 content_of y = site.Content (record { 0 = y })

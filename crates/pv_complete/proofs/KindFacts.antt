@@ -9,9 +9,9 @@ use Rattle.pv_rules.specs.Sites.{HasSite, PlainSite, content_site, name_site, pa
 use Rattle.pv_rules.proofs.Facts.{parts_by_number}
 use Rattle.pv_rules.proofs.FlatKinds.{IsNoRest}
 use Rattle.pv_complete.specs.Kinds.{count_of, rank_of}
-use Rattle.pv_complete.specs.Tables.{kind_rank, site_number}
-use Rattle.pv_complete.specs.declared.kinds.SiteKind.{SiteKind}
-use Rattle.pv_complete.specs.declared.kinds.SiteKind.TheVariants as kind
+use Rattle.pv_tables.specs.Tables.{kind_rank, site_number}
+use Rattle.pv_complete.specs.declared.listings.kinds.SiteKind.{SiteKind}
+use Rattle.pv_complete.specs.declared.listings.kinds.SiteKind.TheVariants as kind
 use Rattle.pv_complete.proofs.Ranks.{small}
 
 -- where there are members of a sequence from one on, that one is there

@@ -9,9 +9,9 @@ use Rattle.pv_rules.specs.PlainForms.{plain_site}
 use Rattle.pv_rules.specs.Rules.{Goal, over}
 use Rattle.pv_rules.specs.Sites.{HasSite, PlainSite}
 use Rattle.pv_rules.specs.declared.sites.Site.{Site}
-use Rattle.pv_span.specs.declared.tables.Entry.{Entry}
+use Rattle.pv_tables.specs.declared.tables.Entry.{Entry}
 use Rattle.pv_complete.specs.Listings.{IsLight, IsListedTo, key}
-use Rattle.pv_complete.specs.Tables.{IsBefore, Precedes, key_of, kind_rank, site_number}
+use Rattle.pv_tables.specs.Tables.{IsBefore, Precedes, key_of, kind_rank, site_number}
 use Rattle.pv_complete.proofs.Keys.{before_cases, before_here, before_next, before_none, entry, entry_is, kind_back, kind_done, number_back, place_back, place_done, site_back, site_done, site_is}
 
 module _ (g : PlainDtd) (n : ℕ) (t : Goal → ℕ) where

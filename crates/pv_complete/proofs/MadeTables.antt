@@ -16,11 +16,12 @@ use Rattle.pv_missing.specs.Weighing.{site_of}
 use Rattle.pv_missing.specs.Widths.{FitsWeights, IsListForWeights}
 use Rattle.pv_missing.proofs.Verdict.{one_verdict}
 use Rattle.std.specs.Prelude.{None}
-use Rattle.pv_span.specs.declared.tables.Entry.{Entry}
-use Rattle.pv_span.specs.declared.tables.Table.{Table}
-use Rattle.pv_complete.specs.Loads.{Takes}
+use Rattle.pv_tables.specs.declared.tables.Entry.{Entry}
+use Rattle.pv_tables.specs.declared.tables.Table.{Table}
+use Rattle.pv_complete.specs.Loads.{UsesVerdict}
 use Rattle.pv_complete.specs.Needing.{CanWeigh, HasCause, Needs, StopsAtWide}
-use Rattle.pv_complete.specs.Tables.{AreAllEntries, AreTables, HasMore, HasTables, HasTablesCause, IsTableOf, entries_in, most_entries, no_list, other_list, possible_list}
+use Rattle.pv_tables.specs.Tables.{AreAllEntries, AreTables, IsTableOf, entries_in, no_list, other_list, possible_list}
+use Rattle.pv_complete.specs.Tables.{HasMore, HasTables, HasTablesCause, most_entries}
 use Rattle.pv_complete.specs.Tabling.{AreListEntries, HasMoreEntries, Makes, MakesTables, PlainMade, StopsKids, StopsLists, StopsTables, StopsWord}
 use Rattle.pv_complete.specs.declared.errors.NeedError.{NeedError}
 use Rattle.pv_complete.specs.declared.errors.NeedError.TheVariants.{Impossible, NoMemory, TooHeavy, TooMany, TooWide}
@@ -148,7 +149,7 @@ module _ (g : PlainDtd) (root : List ℕ) where
           not_possible p = not (one_verdict Mark g root list v verdict.Possible (rw head at is) p)
 
       -- nor one whose verdict hasn't come, since each has one
-      pub makes_other : Takes vs old.used new.used false → new.tables ≡ old.tables → new.room ≡ old.room → MakesTables g root (list ∷ []) vs old new
+      pub makes_other : UsesVerdict vs old.used new.used false → new.tables ≡ old.tables → new.room ≡ old.room → MakesTables g root (list ∷ []) vs old new
       makes_other (inl none) same_tables same_room more (u, rest, e, is, others) = absurd cc
       makes_other (inr (v, next, not)) same_tables same_room more are = makes_none v next not same_tables same_room more are
 

@@ -18,7 +18,7 @@ use Rattle.pv_complete.specs.Merging.{IsCompletedTree, Merges, merge_along, merg
 use Rattle.pv_complete.specs.PieceForms.{plain_piece, plain_pieces}
 use Rattle.pv_complete.specs.Pieces.{PlainPiece, finish, kept, start}
 use Rattle.pv_complete.specs.Written.{Appends, AwaitsNode, HasToken, Passes, PlainWriting, Suits, WritesFront, WritesList, WritesSome, WritesTags, WritesTree, is_token}
-use Rattle.pv_complete.specs.declared.pieces.Piece.{Piece}
+use Rattle.pv_complete.specs.declared.words.pieces.Piece.{Piece}
 use Rattle.pv_complete.proofs.Walks.{appends_join, appends_none, passes_join, passes_none, passes_used}
 
 -- the pieces that are next behind a node

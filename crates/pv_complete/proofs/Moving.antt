@@ -1,6 +1,6 @@
 -- Moves, by what stands at a site.
 use Rattle.std.specs.Prelude.{IsTrue}
-use Rattle.std.proofs.Common.{List, Some, arith, get_or, inl, inr, length, refl, slice_get, suc, ℕ, ◌+◌, ◌-◌, ◌<◌, ◌≡◌, ◌≢◌, ◌≤◌}
+use Rattle.std.proofs.Common.{List, Some, arith, get_or, inl, inr, length, refl, slice_get, suc, ℕ, ◌+◌, ◌-◌, ◌<◌, ◌∙◌, ◌≡◌, ◌≢◌, ◌≤◌}
 use Rattle.std.proofs.lemmas.Option.{slice_get-get_or}
 use Rattle.pv_model.specs.Plain.{PlainPart, PlainParts, PlainToken, any, children, choice, empty, mixed, name, named, no_parts, opt, part, plus, seq, star, text}
 use Rattle.pv_model.specs.declared.models.NameId.{NameId}
@@ -16,12 +16,12 @@ use Rattle.pv_rules.proofs.Members.{member_within}
 use Rattle.pv_rules.proofs.SitesKept.{name_below}
 use Rattle.pv_complete.specs.Moves.{AreWeightsBy, IsItem, IsMove}
 use Rattle.pv_complete.specs.Spelling.{HoldsData, any_two, children_one, choice_one, data_nothing, empty_nothing, last_one, mixed_two, name_one, opt_nothing, opt_one, plus_one, plus_two, rest_two, seq_one, star_nothing, star_two}
-use Rattle.pv_complete.specs.declared.pieces.Move.{Move}
-use Rattle.pv_complete.specs.declared.pieces.Move.TheVariants as move
-use Rattle.pv_complete.proofs.Optimal.{content_children, content_empty, content_nothing, name_kept, name_new, part_choice_weight, part_name_weight, part_opt_nothing, part_opt_weight, part_seq_weight, part_star_nothing, rest_last_weight}
+use Rattle.pv_complete.specs.declared.words.pieces.Move.{Move}
+use Rattle.pv_complete.specs.declared.words.pieces.Move.TheVariants as move
+use Rattle.pv_complete.proofs.OptimalWeights.{content_children, content_empty, content_nothing, name_kept, name_new, part_choice_none, part_name_weight, part_opt_nothing, part_opt_weight, part_seq_weight, part_star_nothing, rest_last_weight}
 use Rattle.pv_complete.proofs.Ranks.{member_lower, name_below_content, name_below_part, next_lower, part_below_content, part_lower, part_site_of, rest_lower, rest_site_of}
 
-module _ (g : PlainDtd) (w : List PlainToken) (t : Goal → ℕ) (are : AreWeightsBy g w t) (known : IsTrue (are_known g)) (some_names : declared g ≤ length g.names) (i j : ℕ) (span : IsSpan w i j) where
+module _ (g : PlainDtd) (w : List PlainToken) (t : Goal → ℕ) (are : ∥ AreWeightsBy g w t ∥₁) (known : IsTrue (are_known g)) (some_names : declared g ≤ length g.names) (i j : ℕ) (span : IsSpan w i j) where
   pub moves_kept : (x : ℕ) → HasSite g (name_site x) → slice_get w i ≡ Some (named x) → j ≡ suc i → IsMove g w t (name_site x) i j move.Kept
   moves_kept x has f e = (x, refl, e, f, name_kept g w t are known some_names i j span x has f e)
 
@@ -110,7 +110,7 @@ module _ (g : PlainDtd) (w : List PlainToken) (t : Goal → ℕ) (are : AreWeigh
 
     -- some member of a choice weighs as much
     pub moves_no_member : (ps : PlainParts) (n : ℕ) → part_at g q ≡ Some (choice ps) → n ≡ t (over (part_site q) i j) → ((p : PlainPart) (r : ℕ) → IsMemberAt p r (suc q) ps → n ≢ t (over (part_site r) i j)) → ⊥
-    moves_no_member ps n e f none = let c = part_choice_weight g w t are known some_names i j span q has few ps e in none c.0 c.1 c.2 (let z = c.3 in omega arith)
+    moves_no_member ps n e f none = part_choice_none g w t are known some_names i j span q has few ps e (λ p r m z. none p r m (f ∙ z))
 
     pub moves_opt_none : (p : PlainPart) → part_at g q ≡ Some (opt p) → i ≡ j → IsMove g w t (part_site q) i j move.Nothing
     moves_opt_none p e s = (s, opt_nothing q p e, part_opt_nothing g w t are known some_names i j span q has few p e s)

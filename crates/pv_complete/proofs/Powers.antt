@@ -10,10 +10,10 @@ use Rattle.pv_rules.specs.Sites.{PlainSite, content_site, name_site, part_site, 
 use Rattle.pv_rules.specs.declared.sites.Site.{Site}
 use Rattle.pv_rules.specs.declared.sites.Site.TheVariants as site
 use Rattle.pv_complete.specs.Moves.{IsMove, rank}
-use Rattle.pv_complete.specs.Works.{AreReady, IsNearer, IsReady, distance, goal_work, moves_left, power}
-use Rattle.pv_complete.specs.declared.pieces.Move.TheVariants as move
-use Rattle.pv_complete.specs.declared.pieces.Work.{Work}
-use Rattle.pv_complete.specs.declared.pieces.Work.TheVariants as work
+use Rattle.pv_complete.specs.Works.{CanSpellAll, IsNearer, CanSpell, distance, goal_work, moves_left, power}
+use Rattle.pv_complete.specs.declared.words.pieces.Move.TheVariants as move
+use Rattle.pv_complete.specs.declared.words.pieces.Work.{Work}
+use Rattle.pv_complete.specs.declared.words.pieces.Work.TheVariants as work
 
 some_power : (n : ℕ) → 1 ≤ power n
 some_power zero = omega arith
@@ -54,11 +54,11 @@ module _ (g : PlainDtd) (w : List PlainToken) (t : Goal → ℕ) where
   left_join [] x = omega arith
   left_join (y ∷ xs) x = let e = left_join xs x in omega arith
 
-  ready_left : (xs : List Work) (x : Work) → AreReady g w t (xs ++ x ∷ []) → AreReady g w t xs × IsReady g w t x
+  ready_left : (xs : List Work) (x : Work) → CanSpellAll g w t (xs ++ x ∷ []) → CanSpellAll g w t xs × CanSpell g w t x
   ready_left [] x a = (tt, a.0)
   ready_left (y ∷ xs) x a = let q = ready_left xs x a.1 in ((a.0, q.0), q.1)
 
-  ready_join : (xs : List Work) (x : Work) → AreReady g w t xs → IsReady g w t x → AreReady g w t (xs ++ x ∷ [])
+  ready_join : (xs : List Work) (x : Work) → CanSpellAll g w t xs → CanSpell g w t x → CanSpellAll g w t (xs ++ x ∷ [])
   ready_join [] x a b = (b, tt)
   ready_join (y ∷ xs) x a b = (a.0, ready_join xs x a.1 b)
 
@@ -69,7 +69,7 @@ module _ (g : PlainDtd) (w : List PlainToken) (t : Goal → ℕ) where
   low_rank (content_site x) = omega arith
 
   -- the top of a stack
-  pub top_ready : (works : List Work) (x : Work) → AreReady g w t (works ++ x ∷ []) → IsReady g w t x
+  pub top_ready : (works : List Work) (x : Work) → CanSpellAll g w t (works ++ x ∷ []) → CanSpell g w t x
   top_ready works x a = (ready_left works x a).1
 
   pub nearer_end : (works : List Work) (x : Work) → IsNearer g w t (works ++ x ∷ []) works
@@ -79,14 +79,14 @@ module _ (g : PlainDtd) (w : List PlainToken) (t : Goal → ℕ) where
   }
 
   module _ (works : List Work) (s : Site) (i j : ℕ) where
-    one_nearer : (x : Work) → (IsReady g w t (goal_work s i j) → IsReady g w t x × (distance g w t x < distance g w t (goal_work s i j))) → IsNearer g w t (works ++ goal_work s i j ∷ []) (works ++ x ∷ [])
+    one_nearer : (x : Work) → (CanSpell g w t (goal_work s i j) → CanSpell g w t x × (distance g w t x < distance g w t (goal_work s i j))) → IsNearer g w t (works ++ goal_work s i j ∷ []) (works ++ x ∷ [])
     one_nearer x f = record {
       ready = λ a. let q = ready_left works (goal_work s i j) a in ready_join works x q.0 (f q.1).0;
       less = λ a. let q = ready_left works (goal_work s i j) a in let p = one_power (distance g w t x) (distance g w t (goal_work s i j)) (f q.1).1 in
           let e = left_join works x in let h = left_join works (goal_work s i j) in omega arith;
     }
 
-    two_nearer : (x y : Work) → (IsReady g w t (goal_work s i j) → IsReady g w t x × IsReady g w t y × (distance g w t x < distance g w t (goal_work s i j)) × (distance g w t y < distance g w t (goal_work s i j))) →
+    two_nearer : (x y : Work) → (CanSpell g w t (goal_work s i j) → CanSpell g w t x × CanSpell g w t y × (distance g w t x < distance g w t (goal_work s i j)) × (distance g w t y < distance g w t (goal_work s i j))) →
         IsNearer g w t (works ++ goal_work s i j ∷ []) ((works ++ x ∷ []) ++ y ∷ [])
     two_nearer x y f = record {
       ready = λ a. let q = ready_left works (goal_work s i j) a in let k = f q.1 in ready_join (works ++ x ∷ []) y (ready_join works x q.0 k.0) k.1;

@@ -9,10 +9,10 @@ use Rattle.pv_rules.specs.Rules.{Goal, Rule, over}
 use Rattle.pv_rules.specs.Sites.{PlainSite, content_site, name_site, part_site, rest_site}
 use Rattle.pv_rules.proofs.Derived.{one_weight}
 use Rattle.pv_span.specs.Weights.{AreWeights, tokens_of, weight_of}
-use Rattle.pv_span.specs.declared.tables.Entry.{Entry}
+use Rattle.pv_tables.specs.declared.tables.Entry.{Entry}
 use Rattle.pv_span.specs.declared.weighing.Spans.{Spans}
 use Rattle.pv_complete.specs.Listings.{HasMoreLight, IsLight, IsListedTo, StopsListing, key}
-use Rattle.pv_complete.specs.Tables.{AreAllEntries, AreEntries, IsEntry, Precedes, kind_rank, key_of, site_number}
+use Rattle.pv_tables.specs.Tables.{AreAllEntries, AreEntries, IsEntry, Precedes, kind_rank, key_of, site_number}
 use Rattle.pv_complete.specs.Tabling.{HasMoreEntries, StopsWord}
 use Rattle.pv_complete.specs.declared.errors.NeedError.{NeedError}
 use Rattle.pv_complete.specs.declared.errors.NeedError.TheVariants.{Impossible, NoMemory, TooHeavy, TooMany, TooWide}

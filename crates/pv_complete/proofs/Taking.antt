@@ -20,12 +20,13 @@ use Rattle.pv_missing.specs.Verdicts.{AreVerdicts, IsLiveBy, IsVerdict}
 use Rattle.pv_missing.specs.Weighing.{site_of, whole}
 use Rattle.pv_missing.proofs.LiveFacts.{live_follows}
 use Rattle.pv_missing.proofs.LiveOnce.{one_live_word}
-use Rattle.pv_complete.specs.Loads.{Takes}
+use Rattle.pv_tables.proofs.Summing.{same_word}
+use Rattle.pv_complete.specs.Loads.{UsesVerdict}
 use Rattle.pv_complete.specs.Pieces.{PlainPiece, Writes, WritesAt, WritesContent, finish, kept, start, write_kept, write_new, write_none, write_text}
 use Rattle.pv_complete.specs.PieceForms.{plain_piece, plain_pieces}
 use Rattle.pv_complete.specs.Written.{AreListPieces, AreNotImpossible, Suits, kept_for, kept_times}
-use Rattle.pv_complete.specs.declared.pieces.Piece.{Piece}
-use Rattle.pv_complete.specs.declared.pieces.Piece.TheVariants as piece
+use Rattle.pv_complete.specs.declared.words.pieces.Piece.{Piece}
+use Rattle.pv_complete.specs.declared.words.pieces.Piece.TheVariants as piece
 
 -- ---- pieces suit a word
 pub suits_length : (g : PlainDtd) (ps : List PlainPiece) (w v : List PlainToken) → length v ≡ length w → Suits g ps w → Suits g ps v
@@ -136,17 +137,16 @@ module _ (g : PlainDtd) where
 
   -- the live word of a live list is its word
   pub live_is_word : (root : List ℕ) (o : Owner) (kids : Forest Mark) (live : List PlainToken) → IsLiveBy g root o kids → IsLiveWord g (word_of g kids) live → live ≡ word_of g kids
-  live_is_word root the_document kids live l is = one_live_word g (word_of g kids) live l.live is l.is_live ∙ (live_follows g (word_of g kids) l.live l.is_live).itself_at_root l.number l.possible
-  live_is_word root (an_element x) kids live l is = one_live_word g (word_of g kids) live l.live is l.is_live ∙ (live_follows g (word_of g kids) l.live l.is_live).itself l.number l.possible
+  live_is_word root o kids live l is = same_word live_follows one_live_word Mark g root o kids live l is
 
-not_at : (vs : List Verdict) (k : ℕ) (v : Verdict) (rest : List Verdict) → AreNotImpossible vs → drop k vs ≡ v ∷ rest → v ≢ verdict.Impossible
+pub not_at : (vs : List Verdict) (k : ℕ) (v : Verdict) (rest : List Verdict) → AreNotImpossible vs → drop k vs ≡ v ∷ rest → v ≢ verdict.Impossible
 not_at vs zero v rest a e = let P : List Verdict → Type 0 = AreNotImpossible in let b = subst P e a in b.0
 not_at [] (suc k) v rest a e = absurd cc
 not_at (u ∷ vs) (suc k) v rest a e = not_at vs k v rest a.1 e
 
 module _ (g : PlainDtd) (root : List ℕ) (list : Listed Mark) (more : List (Listed Mark)) (vs : List Verdict) (old new : ℕ) where
   -- a Possible list
-  pub possible_pieces : (s : PlainSite) (n : ℕ) (live : List PlainToken) (ps : List PlainPiece) → Takes vs old new true → site_of g root list.owner ≡ Some s → IsLiveWord g (word_of g list.kids) live →
+  pub possible_pieces : (s : PlainSite) (n : ℕ) (live : List PlainToken) (ps : List PlainPiece) → UsesVerdict vs old new true → site_of g root list.owner ≡ Some s → IsLiveWord g (word_of g list.kids) live →
       IsWeight (Rule g live) (whole s live) n → WritesAt g s n live ps → AreVerdicts g root (list ∷ more) (drop old vs) → AreListPieces g root list more vs old new ps
   possible_pieces s n live ps next site is weighs writes (u, rest, e, j, others) =
       let head : u ≡ verdict.Possible = cc (e, next) in
@@ -165,7 +165,7 @@ module _ (g : PlainDtd) (root : List ℕ) (list : Listed Mark) (more : List (Lis
       }
 
   -- a Valid one
-  pub kept_pieces : (s : PlainSite) (live : List PlainToken) (ps : List PlainPiece) → Takes vs old new false → AreNotImpossible vs → site_of g root list.owner ≡ Some s → IsLiveWord g (word_of g list.kids) live →
+  pub kept_pieces : (s : PlainSite) (live : List PlainToken) (ps : List PlainPiece) → UsesVerdict vs old new false → AreNotImpossible vs → site_of g root list.owner ≡ Some s → IsLiveWord g (word_of g list.kids) live →
       ps ≡ kept_for live → AreVerdicts g root (list ∷ more) (drop old vs) → AreListPieces g root list more vs old new ps
   kept_pieces s live ps (inl none) all site is same (u, rest, e, j, others) = absurd cc
   kept_pieces s live ps (inr (v, next, not)) all site is same (u, rest, e, j, others) =

@@ -27,7 +27,7 @@ use Rattle.pv_missing.specs.Extending.{Extends}
 use Rattle.pv_missing.specs.Proper.{IsProperDoc}
 use Rattle.pv_missing.specs.Verdicts.{AreVerdicts, IsLiveRoot}
 use Rattle.pv_missing.specs.Weighing.{SumIsLeast}
-use Rattle.pv_span.specs.Laws.{PossibleWeigh, PossibleWeightsAddUp}
+use Rattle.pv_tables.specs.WeightLaws.{PossibleWeigh, PossibleWeightsAddUp}
 use Rattle.pv_complete.specs.Completing.{IsLeastCompletion}
 use Rattle.pv_complete.specs.Growing.{Grows, IsGrownText}
 use Rattle.pv_complete.specs.Events.{Event, events_text, marks_from, new_end, new_start, news, old_bytes, old_start, opens}

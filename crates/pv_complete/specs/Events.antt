@@ -1,8 +1,8 @@
 -- What a completed document is written as, event by event.
 use Rattle.std.specs.Prelude.{List, [], codes, suc, ℕ, ◌++◌, ◌∷◌}
 
--- The start tag and the end tag of a new element of a name; of an element that was there, what is written up to its content; and other
--- bytes.
+-- The start tag and the end tag of a new element of a name; of an element that was there, what is
+-- written up to its content; and other bytes.
 pub data Event : Type 0 where
   new_start : List ℕ → Event
   new_end : List ℕ → Event

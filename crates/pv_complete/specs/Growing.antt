@@ -1,6 +1,7 @@
 -- Trees with new elements put in, as they are written.
 use Rattle.std.specs.Prelude.{List, [], false, ℕ, ◌≡◌, ◌≢◌, ◌⊎◌}
-use Rattle.pv_tree.specs.Plain.{Ending, Forest, PlainDoc, Tree, element, is_element, no_trees, short, tagged, tree}
+use Rattle.pv_tree.specs.Plain.{Ending, Forest, PlainDoc, Tree, element, is_element, no_trees}
+use Rattle.pv_tree.specs.Plain.{short, tagged, tree}
 use Rattle.pv_write.specs.Text.{doc_text}
 
 -- the trees of one forest and then those of another
@@ -17,13 +18,17 @@ gap_of (tagged gap) = gap
 abbrev pub KeepsEnding : {M : Type 0} → Ending → Forest M → Ending → Type 0
 KeepsEnding e kids f = (f ≡ e) ⊎ ((e ≡ short) × (kids ≢ no_trees) × (f ≡ tagged []))
 
--- New elements stand round trees of the first forest, with the tags `<NAME>` and `</NAME>`; all else is as it was, marks aside.
+-- New elements stand round trees of the first forest, with the tags `<NAME>` and `</NAME>`; all
+-- else is as it was, marks aside.
 pub data Grows {M : Type 0} : Forest M → Forest M → Type 0 where
   grows_none : Grows no_trees no_trees
-  grows_leaf : (t : Tree M) (a b : Forest M) → is_element t ≡ false → Grows a b → Grows (tree t a) (tree t b)
-  grows_kept : (x attrs : List ℕ) (e f : Ending) (k l a b : Forest M) (m n : M) → KeepsEnding e l f → Grows k l → Grows a b →
+  grows_leaf : (t : Tree M) (a b : Forest M) → is_element t ≡ false → Grows a b →
+      Grows (tree t a) (tree t b)
+  grows_kept : (x attrs : List ℕ) (e f : Ending) (k l a b : Forest M) (m n : M) →
+      KeepsEnding e l f → Grows k l → Grows a b →
       Grows (tree (element x attrs e k m) a) (tree (element x attrs f l n) b)
-  grows_new : (x : List ℕ) (all k l a b : Forest M) (m : M) → all ≡ beside k a → Grows k l → Grows a b → Grows all (tree (element x [] (tagged []) l m) b)
+  grows_new : (x : List ℕ) (all k l a b : Forest M) (m : M) → all ≡ beside k a → Grows k l →
+      Grows a b → Grows all (tree (element x [] (tagged []) l m) b)
 
 -- The body is what the document is written as with new elements in it.
 pub record IsGrownText {M : Type 0} (doc : PlainDoc M) (body : List ℕ) : Type 0 where

@@ -1,8 +1,8 @@
 -- The kinds of sites in the order of entries.
 use Rattle.std.specs.Prelude.{length, ℕ}
 use Rattle.pv_dtd.specs.Plain.{PlainDtd, parts_in_models}
-use Rattle.pv_complete.specs.declared.kinds.SiteKind.{SiteKind}
-use Rattle.pv_complete.specs.declared.kinds.SiteKind.TheVariants as kind
+use Rattle.pv_complete.specs.declared.listings.kinds.SiteKind.{SiteKind}
+use Rattle.pv_complete.specs.declared.listings.kinds.SiteKind.TheVariants as kind
 
 abbrev pub rank_of : SiteKind → ℕ
 rank_of kind.Content = 0

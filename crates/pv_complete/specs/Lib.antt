@@ -1,4 +1,5 @@
 pub mod Needing
+pub mod NeedLaws
 pub mod Completing
 pub mod Loads
 pub mod PlainForms
@@ -19,4 +20,3 @@ pub mod Tables
 pub mod Listings
 pub mod Kinds
 pub mod Tabling
-pub mod TableLaws

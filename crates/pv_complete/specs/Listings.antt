@@ -7,10 +7,11 @@ use Rattle.pv_rules.specs.Derivations.{heaviest}
 use Rattle.pv_rules.specs.PlainForms.{plain_site}
 use Rattle.pv_rules.specs.Rules.{Goal, over}
 use Rattle.pv_rules.specs.Sites.{HasSite}
-use Rattle.pv_span.specs.declared.tables.Entry.{Entry}
-use Rattle.pv_complete.specs.Tables.{AreEntries, IsBefore, Precedes, key_of}
+use Rattle.pv_tables.specs.declared.tables.Entry.{Entry}
+use Rattle.pv_tables.specs.Tables.{AreEntries, IsBefore, Precedes, key_of}
 use Rattle.pv_complete.specs.declared.errors.NeedError.{NeedError}
-use Rattle.pv_complete.specs.declared.errors.NeedError.TheVariants.{Impossible, NoMemory, TooHeavy, TooMany, TooWide}
+use Rattle.pv_complete.specs.declared.errors.NeedError.TheVariants.{Impossible, NoMemory, TooHeavy}
+use Rattle.pv_complete.specs.declared.errors.NeedError.TheVariants.{TooMany, TooWide}
 
 -- the value is what t tells of a site over a span of a word of n tokens, and isn't past the cut
 pub record IsLight (g : PlainDtd) (n : ℕ) (t : Goal → ℕ) (e : Entry) : Type 0 where
@@ -25,7 +26,8 @@ abbrev pub key : ℕ → ℕ → ℕ → ℕ → List ℕ
 key k q i j = k ∷ q ∷ i ∷ j ∷ []
 
 -- These are the light entries before this key, in strict order.
-pub record IsListedTo (g : PlainDtd) (n : ℕ) (t : Goal → ℕ) (ks : List ℕ) (es : List Entry) : Type 0 where
+pub record IsListedTo (g : PlainDtd) (n : ℕ) (t : Goal → ℕ) (ks : List ℕ) (es : List Entry) :
+    Type 0 where
   pub each : All (IsLight g n t) es
   pub before : All (λ e. IsBefore (key_of e) ks) es
   pub ascend : AllPairs Precedes es

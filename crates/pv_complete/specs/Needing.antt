@@ -11,8 +11,10 @@ use Rattle.pv_missing.specs.Completing.{HasCompletion, IsLeast, IsPotentiallyVal
 use Rattle.pv_missing.specs.Verdicts.{IsFirstImpossible, IsVerdict}
 use Rattle.pv_missing.specs.Weighing.{SumIsLeast}
 use Rattle.pv_missing.specs.Widths.{IsFirstTooWide, IsListForVerdict, IsListForWeights}
+use Rattle.pv_tables.specs.WeightLaws.{LiveWeighs}
 use Rattle.pv_complete.specs.declared.errors.NeedError.{NeedError}
-use Rattle.pv_complete.specs.declared.errors.NeedError.TheVariants.{Impossible, NoMemory, TooHeavy, TooMany, TooWide}
+use Rattle.pv_complete.specs.declared.errors.NeedError.TheVariants.{Impossible, NoMemory, TooHeavy}
+use Rattle.pv_complete.specs.declared.errors.NeedError.TheVariants.{TooMany, TooWide}
 
 -- no list is too wide for a verdict
 abbrev pub AreListsForVerdicts : {M : Type 0} → PlainDtd → PlainDoc M → Type 0
@@ -22,25 +24,38 @@ AreListsForVerdicts g doc = AllByRecursion (IsListForVerdict g) (lists_of doc)
 abbrev pub CanWeigh : {M : Type 0} → PlainDtd → List ℕ → Listed M → Type 0
 CanWeigh g root list = IsVerdict g root list verdict.Possible → IsListForWeights g list
 
+-- where the list is Possible, it isn't too wide for weights, and weighs at most 1,000,000
+abbrev pub IsLightList : {M : Type 0} → PlainDtd → List ℕ → Listed M → Type 0
+IsLightList g root list = IsVerdict g root list verdict.Possible → IsListForWeights g list ×
+    ((k : ℕ) → LiveWeighs g root list k → k < heaviest)
+
+abbrev pub AreLightLists : {M : Type 0} → PlainDtd → List ℕ → List (Listed M) → Type 0
+AreLightLists g root lists = AllByRecursion (IsLightList g root) lists
+
 -- Verdicts can be found, none is Impossible, and each Possible list can be weighed.
 pub record CanNeed {M : Type 0} (g : PlainDtd) (root : List ℕ) (doc : PlainDoc M) : Type 0 where
   pub narrow : AreListsForVerdicts g doc
   pub possible : IsPotentiallyValid g root (view doc.root)
   pub weighed : AllByRecursion (CanWeigh g root) (lists_of doc)
 
--- n is the least number of elements whose insertion makes the document valid, and it isn't past the cut
-pub record Needs {M : Type 0} (g : PlainDtd) (root : List ℕ) (doc : PlainDoc M) (n : ℕ) : Type 0 where
+-- n is the least number of elements whose insertion makes the document valid, and it isn't past the
+-- cut
+pub record Needs {M : Type 0} (g : PlainDtd) (root : List ℕ) (doc : PlainDoc M) (n : ℕ) :
+    Type 0 where
   pub can : CanNeed g root doc
   pub least : IsLeast g root n (view doc.root)
   pub light : n < heaviest
 
 -- Verdicts can be found, and the list at this path is the first that is Impossible.
-pub record StopsAtImpossible {M : Type 0} (g : PlainDtd) (root : List ℕ) (doc : PlainDoc M) (path : List ℕ) : Type 0 where
+pub record StopsAtImpossible {M : Type 0} (g : PlainDtd) (root : List ℕ) (doc : PlainDoc M)
+    (path : List ℕ) : Type 0 where
   pub narrow : AreListsForVerdicts g doc
   pub first : IsFirstImpossible g root (lists_of doc) path
 
--- Verdicts can be found, none is Impossible, and the list at this path is the first Possible one that is too wide for weights.
-pub record StopsAtWide {M : Type 0} (g : PlainDtd) (root : List ℕ) (doc : PlainDoc M) (path : List ℕ) : Type 0 where
+-- Verdicts can be found, none is Impossible, and the list at this path is the first Possible one
+-- that is too wide for weights.
+pub record StopsAtWide {M : Type 0} (g : PlainDtd) (root : List ℕ) (doc : PlainDoc M)
+    (path : List ℕ) : Type 0 where
   pub narrow : AreListsForVerdicts g doc
   pub possible : IsPotentiallyValid g root (view doc.root)
   pub first : IsFirstNot (CanWeigh g root) (lists_of doc) path
@@ -50,16 +65,19 @@ pub record IsHeavy {M : Type 0} (g : PlainDtd) (root : List ℕ) (doc : PlainDoc
   pub can : CanNeed g root doc
   pub heavy : (n : ℕ) → HasCompletion g root n (view doc.root) → heaviest ≤ n
 
--- why nothing is told; want of memory has no cause, and too many entries are no cause where no tables are made
+-- why nothing is told; want of memory has no cause, and too many entries are no cause where no
+-- tables are made
 abbrev pub HasCause : {M : Type 0} → PlainDtd → List ℕ → PlainDoc M → NeedError → Type 0
 HasCause g root doc (Impossible path) = StopsAtImpossible g root doc path
-HasCause g root doc (TooWide path) = IsFirstTooWide g (lists_of doc) path ⊎ StopsAtWide g root doc path
+HasCause g root doc (TooWide path) = IsFirstTooWide g (lists_of doc) path ⊎
+    StopsAtWide g root doc path
 HasCause g root doc TooHeavy = IsHeavy g root doc
 HasCause g root doc TooMany = ⊥
 HasCause g root doc NoMemory = Unit {0}
 
 -- All lists can be weighed, and k is the sum of the weights of the Possible ones, cut.
-pub record WeighsIn {M : Type 0} (g : PlainDtd) (root : List ℕ) (doc : PlainDoc M) (k : ℕ) : Type 0 where
+pub record WeighsIn {M : Type 0} (g : PlainDtd) (root : List ℕ) (doc : PlainDoc M) (k : ℕ) :
+    Type 0 where
   pub can : CanNeed g root doc
   pub sum : ℕ
   pub is_cut : k ≡ min heaviest sum

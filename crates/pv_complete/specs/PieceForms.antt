@@ -1,8 +1,8 @@
 -- The plain forms of pieces.
 use Rattle.std.specs.Prelude.{List, map}
 use Rattle.pv_complete.specs.Pieces.{PlainPiece, finish, kept, start}
-use Rattle.pv_complete.specs.declared.pieces.Piece.{Piece}
-use Rattle.pv_complete.specs.declared.pieces.Piece.TheVariants as piece
+use Rattle.pv_complete.specs.declared.words.pieces.Piece.{Piece}
+use Rattle.pv_complete.specs.declared.words.pieces.Piece.TheVariants as piece
 
 abbrev pub plain_piece : Piece → PlainPiece
 plain_piece piece.Kept = kept

@@ -5,24 +5,30 @@ use Rattle.pv_model.specs.Models.{Allows}
 use Rattle.pv_dtd.specs.Plain.{PlainDtd, declared, model_of}
 use Rattle.pv_rules.specs.Sites.{PlainSite, content_site, name_site, part_site, rest_site}
 
--- the node of the next token, which stays as it is; the start tag, and the end tag, of a new element of a name
+-- the node of the next token, which stays as it is; the start tag, and the end tag, of a new
+-- element of a name
 pub data PlainPiece : Type 0 where
   kept : PlainPiece
   start : ℕ → PlainPiece
   finish : ℕ → PlainPiece
 
--- The pieces make the word w, of which each token is kept, into the word u, by n new elements, of which each has content that its
--- model allows.
-pub data Writes (g : PlainDtd) : ℕ → List PlainToken → List PlainToken → List PlainPiece → Type 0 where
+-- The pieces make the word w, of which each token is kept, into the word u, by n new elements, of
+-- which each has content that its model allows.
+pub data Writes (g : PlainDtd) : ℕ → List PlainToken → List PlainToken → List PlainPiece →
+    Type 0 where
   write_none : (n : ℕ) → n ≡ 0 → Writes g n [] [] []
-  write_text : (n : ℕ) (u w : List PlainToken) (ps : List PlainPiece) → Writes g n u w ps → Writes g n (text ∷ u) (text ∷ w) (kept ∷ ps)
-  write_kept : (n y : ℕ) (u w : List PlainToken) (ps : List PlainPiece) → Writes g n u w ps → Writes g n (named y ∷ u) (named y ∷ w) (kept ∷ ps)
-  write_new : (n a b y : ℕ) (m : PlainModel) (v u w1 w2 w : List PlainToken) (one two ps : List PlainPiece) → n ≡ suc (a + b) → w ≡ w1 ++ w2 →
+  write_text : (n : ℕ) (u w : List PlainToken) (ps : List PlainPiece) → Writes g n u w ps →
+      Writes g n (text ∷ u) (text ∷ w) (kept ∷ ps)
+  write_kept : (n y : ℕ) (u w : List PlainToken) (ps : List PlainPiece) → Writes g n u w ps →
+      Writes g n (named y ∷ u) (named y ∷ w) (kept ∷ ps)
+  write_new : (n a b y : ℕ) (m : PlainModel) (v u w1 w2 w : List PlainToken)
+      (one two ps : List PlainPiece) → n ≡ suc (a + b) → w ≡ w1 ++ w2 →
       ps ≡ start y ∷ (one ++ finish y ∷ two) → model_of g y ≡ Some m → Allows (declared g) m v →
       Writes g a v w1 one → Writes g b u w2 two → Writes g n (named y ∷ u) w ps
 
 -- they make w into a word that the model of element number x allows
-pub record WritesContent (g : PlainDtd) (x n : ℕ) (w : List PlainToken) (ps : List PlainPiece) : Type 0 where
+pub record WritesContent (g : PlainDtd) (x n : ℕ) (w : List PlainToken) (ps : List PlainPiece) :
+    Type 0 where
   pub model : PlainModel
   pub is_model : model_of g x ≡ Some model
   pub whole : List PlainToken

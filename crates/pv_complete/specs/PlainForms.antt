@@ -1,8 +1,8 @@
 -- The plain forms of what walks over lists have added up and made.
 use Rattle.pv_complete.specs.Loads.{PlainLoad}
 use Rattle.pv_complete.specs.Tabling.{PlainMade}
-use Rattle.pv_complete.specs.declared.load.Load.{Load}
-use Rattle.pv_complete.specs.declared.made.Made.{Made}
+use Rattle.pv_complete.specs.declared.missing.load.Load.{Load}
+use Rattle.pv_complete.specs.declared.listings.made.Made.{Made}
 
 abbrev pub load_of : Load → PlainLoad
 load_of l = record { used = l.used; total = l.total }

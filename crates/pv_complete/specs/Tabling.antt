@@ -11,16 +11,19 @@ use Rattle.pv_tree.specs.declared.nodes.Verdict.{Verdict}
 use Rattle.pv_missing.specs.LiveWords.{IsLiveWord}
 use Rattle.pv_missing.specs.Verdicts.{AreVerdicts}
 use Rattle.pv_missing.specs.Widths.{FitsWeights}
-use Rattle.pv_span.specs.declared.tables.Entry.{Entry}
-use Rattle.pv_span.specs.declared.tables.Table.{Table}
+use Rattle.pv_tables.specs.declared.tables.Entry.{Entry}
+use Rattle.pv_tables.specs.declared.tables.Table.{Table}
 use Rattle.pv_complete.specs.Needing.{CanWeigh}
-use Rattle.pv_complete.specs.Tables.{AreAllEntries, AreEntries, AreTables, HasMore, entries_in}
+use Rattle.pv_tables.specs.Tables.{AreAllEntries, AreEntries, AreTables, entries_in}
+use Rattle.pv_complete.specs.Tables.{HasMore}
 use Rattle.pv_complete.specs.declared.errors.NeedError.{NeedError}
-use Rattle.pv_complete.specs.declared.errors.NeedError.TheVariants.{Impossible, NoMemory, TooHeavy, TooMany, TooWide}
+use Rattle.pv_complete.specs.declared.errors.NeedError.TheVariants.{Impossible, NoMemory, TooHeavy}
+use Rattle.pv_complete.specs.declared.errors.NeedError.TheVariants.{TooMany, TooWide}
 
 -- these are all entries of the live word of the kids
 abbrev pub AreListEntries : {M : Type 0} → PlainDtd → Forest M → List Entry → Type 0
-AreListEntries g kids es = (live : List PlainToken) × IsLiveWord g (word_of g kids) live × AreAllEntries g live es
+AreListEntries g kids es = (live : List PlainToken) × IsLiveWord g (word_of g kids) live ×
+    AreAllEntries g live es
 
 -- the word has more entries
 pub record HasMoreEntries (g : PlainDtd) (w : List PlainToken) (room : ℕ) : Type 0 where
@@ -39,9 +42,11 @@ StopsWord g w places room NoMemory = Unit {0}
 -- why those of the live word of the kids aren't
 abbrev pub StopsKids : {M : Type 0} → PlainDtd → Forest M → List ℕ → ℕ → NeedError → Type 0
 StopsKids g kids places room (Impossible path) = ⊥
-StopsKids g kids places room (TooWide path) = (path ≡ places) × (FitsWeights g (length (word_of g kids)) → ⊥)
+StopsKids g kids places room (TooWide path) = (path ≡ places) ×
+    (FitsWeights g (length (word_of g kids)) → ⊥)
 StopsKids g kids places room TooHeavy = ⊥
-StopsKids g kids places room TooMany = (live : List PlainToken) × IsLiveWord g (word_of g kids) live × HasMoreEntries g live room
+StopsKids g kids places room TooMany = (live : List PlainToken) ×
+    IsLiveWord g (word_of g kids) live × HasMoreEntries g live room
 StopsKids g kids places room NoMemory = Unit {0}
 
 -- how many verdicts are used, the tables so far, and how many entries more there may be
@@ -50,8 +55,10 @@ pub record PlainMade : Type 0 where
   pub tables : List Table
   pub room : ℕ
 
--- The lists come first among those whose verdicts aren't used yet. Their tables are added, and there is room for these.
-pub record Makes (g : PlainDtd) (root : List ℕ) (lists more : List (Listed Mark)) (vs : List Verdict) (old new : PlainMade) : Type 0 where
+-- The lists come first among those whose verdicts aren't used yet. Their tables are added, and
+-- there is room for these.
+pub record Makes (g : PlainDtd) (root : List ℕ) (lists more : List (Listed Mark))
+    (vs : List Verdict) (old new : PlainMade) : Type 0 where
   pub left : AreVerdicts g root more (drop new.used vs)
   pub tables : List Table
   pub are_tables : AreTables g root lists tables
@@ -60,9 +67,11 @@ pub record Makes (g : PlainDtd) (root : List ℕ) (lists more : List (Listed Mar
   pub weighed : AllByRecursion (CanWeigh g root) lists
 
 -- where the verdicts that aren't used are those of these lists and more, their tables are made
-abbrev pub MakesTables : PlainDtd → List ℕ → List (Listed Mark) → List Verdict → PlainMade → PlainMade → Type 0
+abbrev pub MakesTables : PlainDtd → List ℕ → List (Listed Mark) → List Verdict → PlainMade →
+    PlainMade → Type 0
 MakesTables g root lists vs old new =
-    (more : List (Listed Mark)) → AreVerdicts g root (lists ++ more) (drop old.used vs) → Makes g root lists more vs old new
+    (more : List (Listed Mark)) → AreVerdicts g root (lists ++ more) (drop old.used vs) →
+    Makes g root lists more vs old new
 
 -- why the tables of these lists aren't made
 abbrev pub StopsLists : PlainDtd → List ℕ → List (Listed Mark) → ℕ → NeedError → Type 0
@@ -72,6 +81,8 @@ StopsLists g root lists room TooHeavy = ⊥
 StopsLists g root lists room TooMany = HasMore g root lists room
 StopsLists g root lists room NoMemory = Unit {0}
 
-abbrev pub StopsTables : PlainDtd → List ℕ → List (Listed Mark) → List Verdict → PlainMade → NeedError → Type 0
+abbrev pub StopsTables : PlainDtd → List ℕ → List (Listed Mark) → List Verdict → PlainMade →
+    NeedError → Type 0
 StopsTables g root lists vs old e =
-    (more : List (Listed Mark)) → AreVerdicts g root (lists ++ more) (drop old.used vs) → StopsLists g root lists old.room e
+    (more : List (Listed Mark)) → AreVerdicts g root (lists ++ more) (drop old.used vs) →
+    StopsLists g root lists old.room e

@@ -11,37 +11,47 @@ use Rattle.pv_rules.specs.declared.sites.Site.{Site}
 use Rattle.pv_complete.specs.Moves.{rank}
 use Rattle.pv_complete.specs.Pieces.{PlainPiece, finish}
 use Rattle.pv_complete.specs.Spelling.{Spells}
-use Rattle.pv_complete.specs.declared.pieces.Work.{Work}
-use Rattle.pv_complete.specs.declared.pieces.Work.TheVariants as work
+use Rattle.pv_complete.specs.declared.words.pieces.Work.{Work}
+use Rattle.pv_complete.specs.declared.words.pieces.Work.TheVariants as work
 
 abbrev pub goal_work : Site → ℕ → ℕ → Work
 goal_work s i j = work.Goal s i j
 
--- the pieces of one work: those of the site over the span, with as many new elements as it weighs, or the end tag
+-- the pieces of one work: those of the site over the span, with as many new elements as it weighs,
+-- or the end tag
 abbrev pub Wants : PlainDtd → List PlainToken → (Goal → ℕ) → Work → List PlainPiece → Type 0
-Wants g w t (work.Goal s i j) ps = Spells g w (t (over (plain_site s) i j)) (over (plain_site s) i j) ps
+Wants g w t (work.Goal s i j) ps = Spells g w (t (over (plain_site s) i j))
+    (over (plain_site s) i j) ps
 Wants g w t (work.End id) ps = ps ≡ finish id.0 ∷ []
 
 -- the pieces of all works of a stack
-pub data WantsAll (g : PlainDtd) (w : List PlainToken) (t : Goal → ℕ) : List Work → List PlainPiece → Type 0 where
+pub data WantsAll (g : PlainDtd) (w : List PlainToken) (t : Goal → ℕ) : List Work →
+    List PlainPiece → Type 0 where
   wants_none : WantsAll g w t [] []
-  wants_top : (works all : List Work) (top : Work) (ps qs rs : List PlainPiece) → all ≡ works ++ top ∷ [] → rs ≡ ps ++ qs → Wants g w t top ps →
+  wants_top : (works all : List Work) (top : Work) (ps qs rs : List PlainPiece) →
+      all ≡ works ++ top ∷ [] → rs ≡ ps ++ qs → Wants g w t top ps →
       WantsAll g w t works qs → WantsAll g w t all rs
 
--- Pieces that complete the new pieces, by the new stack, are such by which the old stack completes the old ones.
-abbrev pub Goes : PlainDtd → List PlainToken → (Goal → ℕ) → List Work → List PlainPiece → List Work → List PlainPiece → Type 0
+-- Pieces that complete the new pieces, by the new stack, are such by which the old stack completes
+-- the old ones.
+abbrev pub Goes : PlainDtd → List PlainToken → (Goal → ℕ) → List Work → List PlainPiece →
+    List Work → List PlainPiece → Type 0
 Goes g w t old before new after =
-    (ps : List PlainPiece) → WantsAll g w t new ps → (qs : List PlainPiece) × (after ++ ps ≡ before ++ qs) × WantsAll g w t old qs
+    (ps : List PlainPiece) → WantsAll g w t new ps →
+    (qs : List PlainPiece) × (after ++ ps ≡ before ++ qs) × WantsAll g w t old qs
 
 -- a work whose pieces can be found
-abbrev pub IsReady : PlainDtd → List PlainToken → (Goal → ℕ) → Work → Type 0
-IsReady g w t (work.Goal s i j) = HasSite g (plain_site s) × IsSpan w i j × (t (over (plain_site s) i j) < heaviest)
-IsReady g w t (work.End id) = Unit {0}
+abbrev pub CanSpell : PlainDtd → List PlainToken → (Goal → ℕ) → Work → Type 0
+CanSpell g w t (work.Goal s i j) = HasSite g (plain_site s) × IsSpan w i j ×
+    (t (over (plain_site s) i j) < heaviest)
+CanSpell g w t (work.End id) = Unit {0}
 
--- how far a goal is from its pieces: by its weight, then by the length of its span, then by its rank
+-- how far a goal is from its pieces: by its weight, then by the length of its span, then by its
+-- rank
 abbrev pub distance : PlainDtd → List PlainToken → (Goal → ℕ) → Work → ℕ
 distance g w t (work.Goal s i j) =
-    suc ((4 + 2 * parts_in_models g.models) * (suc (length w) * t (over (plain_site s) i j) + (j - i)) + rank g (plain_site s))
+    suc ((4 + 2 * parts_in_models g.models) *
+    (suc (length w) * t (over (plain_site s) i j) + (j - i)) + rank g (plain_site s))
 distance g w t (work.End id) = 0
 
 -- a power of 3
@@ -54,10 +64,11 @@ abbrev pub moves_left : PlainDtd → List PlainToken → (Goal → ℕ) → List
 moves_left g w t [] = 0
 moves_left g w t (x ∷ xs) = power (distance g w t x) + moves_left g w t xs
 
-abbrev pub AreReady : PlainDtd → List PlainToken → (Goal → ℕ) → List Work → Type 0
-AreReady g w t works = AllByRecursion (IsReady g w t) works
+abbrev pub CanSpellAll : PlainDtd → List PlainToken → (Goal → ℕ) → List Work → Type 0
+CanSpellAll g w t works = AllByRecursion (CanSpell g w t) works
 
 -- A move of a goal on top of a stack leaves works that are ready, and fewer moves.
-pub record IsNearer (g : PlainDtd) (w : List PlainToken) (t : Goal → ℕ) (old new : List Work) : Type 0 where
-  pub ready : AreReady g w t old → AreReady g w t new
-  pub less : AreReady g w t old → moves_left g w t new < moves_left g w t old
+pub record IsNearer (g : PlainDtd) (w : List PlainToken) (t : Goal → ℕ) (old new : List Work) :
+    Type 0 where
+  pub ready : CanSpellAll g w t old → CanSpellAll g w t new
+  pub less : CanSpellAll g w t old → moves_left g w t new < moves_left g w t old

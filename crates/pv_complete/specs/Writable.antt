@@ -8,8 +8,8 @@ use Rattle.pv_tree.specs.Plain.{Forest, is_element, no_trees, tree}
 use Rattle.pv_tree.specs.Units.{HaveUnits}
 use Rattle.pv_complete.specs.Growing.{Grows}
 
--- Each element's name is a Name, an empty-element tag stands only where there are no kids, each text has a unit, all other bytes are legal,
--- and no run of texts spells `]]>`.
+-- Each element's name is a Name, an empty-element tag stands only where there are no kids, each
+-- text has a unit, all other bytes are legal, and no run of texts spells `]]>`.
 pub record AreWritable {M : Type 0} (kids : Forest M) : Type 0 where
   pub named : IsTrue (have_names kids)
   pub formed : IsTrue (are_formed kids)
@@ -26,8 +26,8 @@ abbrev pub AreElements : {M : Type 0} → Forest M → Type 0
 AreElements no_trees = Unit {0}
 AreElements (tree t rest) = IsTrue (is_element t) × AreElements rest
 
--- The second forest can be written where the first can, no more units stand at its front, it is of elements where the first is, and it is
--- the first with new elements.
+-- The second forest can be written where the first can, no more units stand at its front, it is of
+-- elements where the first is, and it is the first with new elements.
 pub record Keeps {M : Type 0} (kids new : Forest M) : Type 0 where
   pub writable : AreWritable kids → AreWritable new
   pub front : AreInFront (front_units new) (front_units kids)

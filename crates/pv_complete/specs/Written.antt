@@ -1,5 +1,6 @@
 -- A walk that writes a completed document, as it carries the proof.
-use Rattle.std.specs.Prelude.{Bool, List, Some, [], false, length, suc, true, zero, ℕ, ◌+◌, ◌++◌, ◌<◌, ◌∷◌, ◌≡◌, ◌≢◌}
+use Rattle.std.specs.Prelude.{Bool, List, Option, Some, [], false, length, suc, true, zero, ℕ, ◌+◌}
+use Rattle.std.specs.Prelude.{◌++◌, ◌<◌, ◌∷◌, ◌≡◌, ◌≢◌}
 use Rattle.std.specs.List.{AllByRecursion}
 use Rattle.std.specs.Prelude.{drop}
 use Rattle.pv_chars.specs.Texts.{has_data}
@@ -7,19 +8,24 @@ use Rattle.pv_model.specs.Plain.{PlainToken}
 use Rattle.pv_dtd.specs.Plain.{PlainDtd}
 use Rattle.pv_rules.specs.Sites.{PlainSite}
 use Rattle.pv_tree.specs.Lists.{Listed, lists_at, lists_from, the_document}
-use Rattle.pv_tree.specs.Plain.{Forest, PlainDoc, Tree, cdata_node, element, misc_node, no_trees, text_node, tree}
+use Rattle.pv_tree.specs.Plain.{Forest, PlainDoc, Tree, cdata_node, element, misc_node, no_trees}
+use Rattle.pv_tree.specs.Plain.{text_node, tree}
 use Rattle.pv_tree.specs.Words.{node_before, word_of}
 use Rattle.pv_tree.specs.declared.nodes.Mark.{Mark}
 use Rattle.pv_tree.specs.declared.nodes.Verdict.{Verdict}
 use Rattle.pv_tree.specs.declared.nodes.Verdict.TheVariants as verdict
+use Rattle.pv_missing.specs.Owners.{IsOwner}
 use Rattle.pv_missing.specs.Verdicts.{AreVerdicts, IsLive}
 use Rattle.pv_missing.specs.Weighing.{site_of}
-use Rattle.pv_span.specs.Laws.{PossibleWeigh}
+use Rattle.pv_missing.specs.declared.owners.Of.{Of}
+use Rattle.pv_tables.specs.WeightLaws.{PossibleWeigh}
 use Rattle.pv_complete.specs.Events.{Event, events_text, marks_from, news, opens}
 use Rattle.pv_complete.specs.Merging.{IsCompletedTree, Merges}
+use Rattle.pv_complete.specs.Needing.{AreLightLists, IsLightList}
 use Rattle.pv_complete.specs.Pieces.{PlainPiece, WritesAt, finish, kept, start}
 
--- the text so far, the numbers of the new elements, how many elements have begun, and how many verdicts are used
+-- the text so far, the numbers of the new elements, how many elements have begun, and how many
+-- verdicts are used
 pub record PlainWriting : Type 0 where
   pub body : List ℕ
   pub marks : List ℕ
@@ -36,10 +42,13 @@ pub record Appends (old new : PlainWriting) (es : List Event) : Type 0 where
 abbrev pub AreNotImpossible : List Verdict → Type 0
 AreNotImpossible vs = AllByRecursion (λ v. v ≢ verdict.Impossible) vs
 
--- The lists come first among those whose verdicts aren't used yet, and their Possible ones weigh k in all.
-pub record Passes (g : PlainDtd) (root : List ℕ) (lists more : List (Listed Mark)) (vs : List Verdict) (old new k : ℕ) : Type 0 where
+-- The lists come first among those whose verdicts aren't used yet, and their Possible ones weigh k
+-- in all.
+pub record Passes (g : PlainDtd) (root : List ℕ) (lists more : List (Listed Mark))
+    (vs : List Verdict) (old new k : ℕ) : Type 0 where
   pub left : AreVerdicts g root more (drop new vs)
-  pub weigh : (b : ℕ) → PossibleWeigh g root more (drop new vs) b → PossibleWeigh g root (lists ++ more) (drop old vs) (k + b)
+  pub weigh : (b : ℕ) → PossibleWeigh g root more (drop new vs) b →
+      PossibleWeigh g root (lists ++ more) (drop old vs) (k + b)
 
 -- so many pieces that are kept
 abbrev pub kept_times : ℕ → List PlainPiece
@@ -54,7 +63,8 @@ kept_for (token ∷ w) = kept ∷ kept_for w
 -- each token of the word is kept by a piece, and new elements have names of the DTD
 abbrev pub Suits : PlainDtd → List PlainPiece → List PlainToken → Type 0
 Suits g [] w = w ≡ []
-Suits g (kept ∷ ps) w = (token : PlainToken) × (rest : List PlainToken) × (w ≡ token ∷ rest) × Suits g ps rest
+Suits g (kept ∷ ps) w = (token : PlainToken) × (rest : List PlainToken) × (w ≡ token ∷ rest) ×
+    Suits g ps rest
 Suits g (start y ∷ ps) w = (y < length g.names) × Suits g ps w
 Suits g (finish y ∷ ps) w = (y < length g.names) × Suits g ps w
 
@@ -74,12 +84,15 @@ is_token (misc_node bytes) = false
 
 -- the node is a token, or nothing in a word
 abbrev pub HasToken : Bool → Tree Mark → Type 0
-HasToken true t = (g : PlainDtd) → (token : PlainToken) × ((u : List PlainToken) → node_before g t u ≡ token ∷ u)
+HasToken true t = (g : PlainDtd) → (token : PlainToken) ×
+    ((u : List PlainToken) → node_before g t u ≡ token ∷ u)
 HasToken false t = (g : PlainDtd) (u : List PlainToken) → node_before g t u ≡ u
 
--- The pieces make the word of a list's nodes into one that its owner allows, by as many new elements as the list weighs where it is
--- Possible, and none where it is Valid.
-pub record AreListPieces (g : PlainDtd) (root : List ℕ) (list : Listed Mark) (more : List (Listed Mark)) (vs : List Verdict) (old new : ℕ) (ps : List PlainPiece) : Type 0 where
+-- The pieces make the word of a list's nodes into one that its owner allows, by as many new
+-- elements as the list weighs where it is Possible, and none where it is Valid.
+pub record AreListPieces (g : PlainDtd) (root : List ℕ) (list : Listed Mark)
+    (more : List (Listed Mark)) (vs : List Verdict) (old new : ℕ) (ps : List PlainPiece) :
+    Type 0 where
   pub count : ℕ
   pub site : PlainSite
   pub is_site : site_of g root list.owner ≡ Some site
@@ -87,8 +100,37 @@ pub record AreListPieces (g : PlainDtd) (root : List ℕ) (list : Listed Mark) (
   pub writes : WritesAt g site count (word_of g list.kids) ps
   pub passes : Passes g root (list ∷ []) more vs old new count
 
+-- The list of these kids is next among those whose verdicts aren't used yet, and is light.
+pub record HasNextList (g : PlainDtd) (owner : Option Of) (kids : Forest Mark) (vs : List Verdict)
+    (used : ℕ) : Type 0 where
+  pub root : List ℕ
+  pub list : Listed Mark
+  pub more : List (Listed Mark)
+  pub is_kids : list.kids ≡ kids
+  pub is_owner : IsOwner g root list owner
+  pub verdicts : AreVerdicts g root (list ∷ more) (drop used vs)
+  pub light : IsLightList g root list
+
+-- the lists of this tree are next
+pub record HasNextTree (g : PlainDtd) (t : Tree Mark) (vs : List Verdict) (used : ℕ) : Type 0 where
+  pub root : List ℕ
+  pub path : List ℕ
+  pub more : List (Listed Mark)
+  pub verdicts : AreVerdicts g root (lists_at path t ++ more) (drop used vs)
+  pub light : AreLightLists g root (lists_at path t)
+
+-- the lists of these kids are
+pub record HasNextKids (g : PlainDtd) (kids : Forest Mark) (vs : List Verdict) (used : ℕ) :
+    Type 0 where
+  pub root : List ℕ
+  pub path : List ℕ
+  pub more : List (Listed Mark)
+  pub verdicts : AreVerdicts g root (lists_from path 0 kids ++ more) (drop used vs)
+  pub light : AreLightLists g root (lists_from path 0 kids)
+
 -- a tree completed is written next
-pub record WritesTree (g : PlainDtd) (root path : List ℕ) (t : Tree Mark) (more : List (Listed Mark)) (vs : List Verdict) (old new : PlainWriting) : Type 0 where
+pub record WritesTree (g : PlainDtd) (root path : List ℕ) (t : Tree Mark)
+    (more : List (Listed Mark)) (vs : List Verdict) (old new : PlainWriting) : Type 0 where
   pub completed : Tree Mark
   pub events : List Event
   pub is_completed : IsCompletedTree g t completed events
@@ -96,7 +138,9 @@ pub record WritesTree (g : PlainDtd) (root path : List ℕ) (t : Tree Mark) (mor
   pub passes : Passes g root (lists_at path t) more vs old.used new.used (news events)
 
 -- nodes side by side, merged with pieces, are written next
-pub record WritesList (g : PlainDtd) (root path : List ℕ) (ps : List PlainPiece) (kids : Forest Mark) (more : List (Listed Mark)) (vs : List Verdict) (old new : PlainWriting) : Type 0 where
+pub record WritesList (g : PlainDtd) (root path : List ℕ) (ps : List PlainPiece)
+    (kids : Forest Mark) (more : List (Listed Mark)) (vs : List Verdict) (old new : PlainWriting) :
+    Type 0 where
   pub events : List Event
   pub within : ℕ
   pub merges : Merges g ps kids events within
@@ -104,34 +148,43 @@ pub record WritesList (g : PlainDtd) (root path : List ℕ) (ps : List PlainPiec
   pub passes : Passes g root (lists_from path 0 kids) more vs old.used new.used within
 
 -- the tags that stand in front of pieces are written next, up to other pieces
-pub record WritesFront (g : PlainDtd) (ps qs : List PlainPiece) (old new : PlainWriting) : Type 0 where
+pub record WritesFront (g : PlainDtd) (ps qs : List PlainPiece) (old new : PlainWriting) :
+    Type 0 where
   pub events : List Event
-  pub merges : (kids : Forest Mark) (es : List Event) (k : ℕ) → Merges g qs kids es k → Merges g ps kids (events ++ es) k
+  pub merges : (kids : Forest Mark) (es : List Event) (k : ℕ) → Merges g qs kids es k →
+      Merges g ps kids (events ++ es) k
   pub appends : Appends old new events
   pub used : new.used ≡ old.used
   pub suits : (w : List PlainToken) → Suits g ps w → Suits g qs w
 
 -- all of them are
-pub record WritesTags (g : PlainDtd) (ps qs : List PlainPiece) (old new : PlainWriting) : Type 0 where
+pub record WritesTags (g : PlainDtd) (ps qs : List PlainPiece) (old new : PlainWriting) :
+    Type 0 where
   pub front : WritesFront g ps qs old new
   pub awaits : AwaitsNode qs
 
 -- so far some of the nodes have been written, the last of which stands before this place
-pub record WritesSome (g : PlainDtd) (root path : List ℕ) (place : ℕ) (ps qs : List PlainPiece) (kids rest : Forest Mark) (more : List (Listed Mark)) (vs : List Verdict) (old new : PlainWriting) : Type 0 where
+pub record WritesSome (g : PlainDtd) (root path : List ℕ) (place : ℕ) (ps qs : List PlainPiece)
+    (kids rest : Forest Mark) (more : List (Listed Mark)) (vs : List Verdict)
+    (old new : PlainWriting) : Type 0 where
   pub events : List Event
   pub within : ℕ
   pub lists : List (Listed Mark)
   pub are_lists : lists_from path 0 kids ≡ lists ++ lists_from path place rest
-  pub merges : (es : List Event) (k : ℕ) → Merges g qs rest es k → Merges g ps kids (events ++ es) (within + k)
+  pub merges : (es : List Event) (k : ℕ) → Merges g qs rest es k →
+      Merges g ps kids (events ++ es) (within + k)
   pub appends : Appends old new events
   pub passes : Passes g root lists (lists_from path place rest ++ more) vs old.used new.used within
 
 -- The text and the marks are those of a document whose list is merged with pieces.
-pub record WritesDoc (g : PlainDtd) (root : List ℕ) (doc : PlainDoc Mark) (vs : List Verdict) (marks body : List ℕ) : Type 0 where
+pub record WritesDoc (g : PlainDtd) (root : List ℕ) (doc : PlainDoc Mark) (vs : List Verdict)
+    (marks body : List ℕ) : Type 0 where
   pub pieces : List PlainPiece
   pub used : ℕ
   pub last : ℕ
-  pub list_pieces : AreListPieces g root (record { path = []; owner = the_document; kids = tree doc.root no_trees }) (lists_from [] 0 (tree doc.root no_trees) ++ []) vs 0 used pieces
+  pub list_pieces : AreListPieces g root (record
+      { path = []; owner = the_document; kids = tree doc.root no_trees })
+      (lists_from [] 0 (tree doc.root no_trees) ++ []) vs 0 used pieces
   pub events : List Event
   pub within : ℕ
   pub merges : Merges g pieces (tree doc.root no_trees) events within

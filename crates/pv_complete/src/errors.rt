@@ -7,14 +7,16 @@ use pv_tree::Path;
 use std::alloc::{AllocError, AllocFailed};
 use thiserror::Error;
 
-/// Why nothing is told of a document's missing elements. Of several causes the first one in this order is told, a list that is too wide for
-/// a verdict before all others.
+/// Why nothing is told of a document's missing elements. Of several causes the first one in this
+/// order is told, a list that is too wide for a verdict before all others.
 #[derive(Debug, Drop, Error)]
 pub enum NeedError {
-    /// No insertion of elements makes the document valid; the list at this path is the first Impossible one.
+    /// No insertion of elements makes the document valid; the list at this path is the first
+    /// Impossible one.
     #[error("the document can't be made valid")]
     Impossible(Path),
-    /// The list at this path is the first that is too wide for a verdict, or else the first Possible one that is too wide for weights.
+    /// The list at this path is the first that is too wide for a verdict, or else the first
+    /// Possible one that is too wide for weights.
     #[error("a list is too wide")]
     TooWide(Path),
     /// More than 1,000,000 elements are missing.

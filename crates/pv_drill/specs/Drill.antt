@@ -1,5 +1,6 @@
 -- The drill: a document of so many sections, and a script that edits each.
-use Rattle.std.specs.Prelude.{ℕ, zero, suc, ◌%◌, List, [], ◌∷◌, ◌++◌, codes, decimal, ◌==◌, if◌then◌else◌}
+use Rattle.std.specs.Prelude.{ℕ, zero, suc, ◌%◌, List, [], ◌∷◌, ◌++◌, codes, decimal, ◌==◌}
+use Rattle.std.specs.Prelude.{if◌then◌else◌}
 
 -- the DTD
 abbrev pub DRILL_DTD : List ℕ
@@ -28,7 +29,8 @@ line_text k (suc (suc which)) = codes "undo"
 -- the lines for a section; each third is undone
 abbrev pub section_lines : ℕ → List (List ℕ)
 section_lines k =
-    if k % 3 == 0 then line_text k 0 ∷ line_text k 1 ∷ line_text k 2 ∷ [] else line_text k 0 ∷ line_text k 1 ∷ []
+    if k % 3 == 0 then line_text k 0 ∷ line_text k 1 ∷ line_text k 2 ∷ []
+    else line_text k 0 ∷ line_text k 1 ∷ []
 
 -- the lines of the script, for all sections
 abbrev pub drill_lines : ℕ → List (List ℕ)

@@ -43,7 +43,8 @@ pub fn drill_doc(alloc: Global, n: u32) -> Result<Vec<u8>, NoMemory>
 
 // `wrap` of the text of a section into an element.
 fn wrap_line(alloc: Global, k: u32, name: &[u8]) -> Result<Vec<u8>, AllocError>
-    ensures { IfOk result (λ line. line.items ≡ codes "wrap 0." ++ (decimal k ++ (codes " 0 1 " ++ name.now))) }
+    ensures { IfOk result
+        (λ line. line.items ≡ codes "wrap 0." ++ (decimal k ++ (codes " 0 1 " ++ name.now))) }
 {
     let mut buffer = Buffer::new();
     let mut line = Vec::from_slice(alloc, b"wrap 0.")?;
@@ -53,7 +54,8 @@ fn wrap_line(alloc: Global, k: u32, name: &[u8]) -> Result<Vec<u8>, AllocError>
     Ok(line)
 }
 
-/// A line of the drill's script for section number `k`: 0 wraps its text into an element that can't stand there, 1 into one that can, and 2 undoes that.
+/// A line of the drill's script for section number `k`: 0 wraps its text into an element that
+/// can't stand there, 1 into one that can, and 2 undoes that.
 pub fn drill_line(alloc: Global, k: u32, which: u32) -> Result<Vec<u8>, NoMemory>
     requires some { 1 ≤ k }
     requires most { k ≤ 20000 }

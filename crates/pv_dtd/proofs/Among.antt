@@ -11,7 +11,7 @@ use Rattle.std.specs.Str.{bytes_eq}
 use Rattle.pv_dtd.specs.Plain.{place_of}
 use Rattle.pv_dtd.specs.Facts.{are_distinct, are_distinct_numbers}
 use Rattle.pv_dtd.specs.Numbering.{number_among, each_once}
-use Rattle.pv_dtd.proofs.Binding.{same_some}
+use Rattle.pv_chars.proofs.Binding.{same_some}
 use Rattle.pv_dtd.proofs.Places.{is_some-place}
 use Rattle.pv_dtd.proofs.Naming.{get-place}
 

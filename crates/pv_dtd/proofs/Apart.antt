@@ -7,7 +7,7 @@ use Rattle.std.specs.Str.{bytes_eq}
 use Rattle.std.proofs.lemmas.Bool.{and_parts, or_right}
 use Rattle.pv_dtd.specs.Plain.{place_of}
 use Rattle.pv_dtd.specs.Facts.{are_distinct}
-use Rattle.pv_dtd.proofs.Binding.{same_some}
+use Rattle.pv_chars.proofs.Binding.{same_some}
 
 -- each name has its first place for its number
 abbrev pub AreApart : List (List ℕ) → Type 0

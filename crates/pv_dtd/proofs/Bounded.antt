@@ -8,10 +8,11 @@ use Rattle.pv_chars.specs.Scan.{after_bytes}
 use Rattle.pv_chars.proofs.Scanning.{after_bytes-append}
 use Rattle.pv_dtd.specs.Facts.{MAX_NESTING}
 use Rattle.pv_dtd.specs.Items.{NamedPart, name, seq, choice, opt, star, plus, NamedParts, no_parts, part, NamedModel, empty, any, mixed, children, Item, text_declaration, element, skipped, comment, instruction}
-use Rattle.pv_dtd.specs.Spelling.{StandsAt, SpellsPart, SpellsGroup, SpellsOthers, SpellsMixed, SpellsModel, SpellsElement, IsSkippedWord, nesting_of, nesting_of_all, is_one_of}
+use Rattle.pv_dtd.specs.Spelling.{StandsAt, SpellsPart, SpellsGroup, SpellsOthers, SpellsMixed, SpellsModel, SpellsElement, IsSkippedWord, nesting_of, nesting_of_all}
+use Rattle.pv_chars.specs.Declarations.{is_one_of}
 use Rattle.pv_dtd.specs.Kinds.{IsTooDeep, how_many}
 use Rattle.pv_dtd.specs.SoFar.{IsShallow, IsShallowItem}
-use Rattle.pv_dtd.proofs.CharFacts.{comment_opens, instruction_opens}
+use Rattle.pv_chars.proofs.CharFacts.{comment_opens, instruction_opens}
 use Rattle.pv_dtd.proofs.AllBytes.{PassWords, all_in_mixed, mixed_regrouped, inside_element, element_whole}
 use Rattle.pv_dtd.proofs.Shallow.{IsLevel, is_mark, how_many-append, level-append, plain_level, plain_space, plain_name, space_level, opened_level, part_level, others_level, group_regrouped, others_regrouped}
 

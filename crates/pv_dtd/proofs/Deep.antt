@@ -6,7 +6,7 @@ use Rattle.std.proofs.lemmas.Bool.Decides.{Decides-eqb}
 use Rattle.pv_chars.specs.Scan.{after_bytes}
 use Rattle.pv_chars.proofs.Scanning.{after_bytes_takes}
 use Rattle.pv_dtd.specs.Facts.{MAX_NESTING}
-use Rattle.pv_dtd.specs.Spelling.{is_one_of}
+use Rattle.pv_chars.specs.Declarations.{is_one_of}
 use Rattle.pv_dtd.specs.Kinds.{IsTooDeep, how_many}
 use Rattle.pv_dtd.specs.ItemReading.{opens_too_many, too_many_by, is_too_deep}
 

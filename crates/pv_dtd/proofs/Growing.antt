@@ -6,11 +6,11 @@ use Rattle.pv_model.specs.Plain.{PlainPart, PlainParts, PlainModel, parts_of}
 use Rattle.pv_model.specs.Plain as plain
 use Rattle.pv_dtd.specs.Items.{NamedPart, named_parts_of, NamedModel, spelled_in, spelled_in_all, spelled_in_model, mentioned_in}
 use Rattle.pv_dtd.specs.Numbering.{number_among, with_numbers, all_with_numbers, model_with_numbers}
-use Rattle.pv_dtd.specs.Naming.{with_name, number_in, GoesOn, with_names, NumbersNames, NumbersPart, NumbersParts, NumbersModel, NumbersModels}
+use Rattle.pv_dtd.specs.Naming.{with_name, number_in, AreFirstIn, with_names, NumbersNames, NumbersPart, NumbersParts, NumbersModel, NumbersModels}
 use Rattle.pv_dtd.proofs.Naming.{goes_on_then, with_name_goes_on, grown_goes_on, with_names-append, place_goes_on, place-with_name}
 
 -- a name's number, however the names go on
-pub number_stays : (names : List (List ℕ)) (x : List ℕ) (more : List (List ℕ)) → GoesOn (with_name names x) more → number_among more x ≡ number_in names x
+pub number_stays : (names : List (List ℕ)) (x : List ℕ) (more : List (List ℕ)) → AreFirstIn (with_name names x) more → number_among more x ≡ number_in names x
 number_stays names x more g = ap (λ o. unwrap_or o 0) (place_goes_on (with_name names x) more g x (number_in names x) (place-with_name names x))
 
 pub numbers_step : {X : Type 0} (f : X → List ℕ) (first names after : List (List ℕ)) (xs more : List X) (x : X) (ys all : List ℕ) (y : ℕ) →
@@ -21,7 +21,7 @@ numbers_step f first names after xs more x ys all y is_more is_after is_y is_all
     let grows : with_names first (map f xs ++ f x ∷ []) ≡ with_name names (f x) = with_names-append first (map f xs) (f x ∷ []) ∙ ap (λ ns. with_name ns (f x)) (sym grew) in (
       is_after ∙ sym grows ∙ ap (with_names first) (sym mapped),
       λ final g.
-          let on : GoesOn (with_name names (f x)) final = subst (λ ns. GoesOn ns final) is_after g in
+          let on : AreFirstIn (with_name names (f x)) final = subst (λ ns. AreFirstIn ns final) is_after g in
           let front = placed final (goes_on_then names (with_name names (f x)) final (with_name_goes_on names (f x)) on) in
           ap (map (number_among final)) mapped ∙ map-append (number_among final) (map f xs) (f x ∷ []) ∙ ap (λ l. l ++ number_among final (f x) ∷ []) front ∙ ap (λ n. ys ++ n ∷ []) (number_stays names (f x) final on ∙ sym is_y) ∙ sym is_all,
     )
@@ -54,7 +54,7 @@ parts_step f h first names after xs more x ys all y is_more is_after is_y is_all
     let grows : with_names first (spelled_in_all (named_parts_of (map f xs)) ++ spelled_in (f x)) ≡ with_names names (spelled_in (f x)) = with_names-append first (spelled_in_all (named_parts_of (map f xs))) (spelled_in (f x)) ∙ ap (λ ns. with_names ns (spelled_in (f x))) (sym grew) in (
       is_after ∙ sym grows ∙ ap (with_names first) (sym spelled),
       λ final g.
-          let on : GoesOn (with_names names (spelled_in (f x))) final = subst (λ ns. GoesOn ns final) is_after g in
+          let on : AreFirstIn (with_names names (spelled_in (f x))) final = subst (λ ns. AreFirstIn ns final) is_after g in
           let before = placed final (goes_on_then names (with_names names (spelled_in (f x))) final (grown_goes_on names (spelled_in (f x))) on) in
           let front : map (with_numbers (number_among final)) (map f xs) ≡ map h ys = parts_apart _ _ (sym (named-all (map f xs) (number_among final)) ∙ before) in
           ap (λ ps. all_with_numbers (number_among final) (named_parts_of ps)) mapped ∙ named-push (map f xs) (f x) (number_among final) ∙ ap (λ l. parts_of (l ++ with_numbers (number_among final) (f x) ∷ [])) front ∙ ap (λ q. parts_of (map h ys ++ q ∷ [])) (is_y final g) ∙ ap parts_of (sym mapped_all),
@@ -70,7 +70,7 @@ models_step f h first names after xs more x ys all y is_more is_after is_y is_al
     let grows : with_names first (mentioned_in (map f xs) ++ spelled_in_model (f x)) ≡ with_names names (spelled_in_model (f x)) = with_names-append first (mentioned_in (map f xs)) (spelled_in_model (f x)) ∙ ap (λ ns. with_names ns (spelled_in_model (f x))) (sym grew) in (
       is_after ∙ sym grows ∙ ap (with_names first) (sym spelled),
       λ final g.
-          let on : GoesOn (with_names names (spelled_in_model (f x))) final = subst (λ ns. GoesOn ns final) is_after g in
+          let on : AreFirstIn (with_names names (spelled_in_model (f x))) final = subst (λ ns. AreFirstIn ns final) is_after g in
           let front = placed final (goes_on_then names (with_names names (spelled_in_model (f x))) final (grown_goes_on names (spelled_in_model (f x))) on) in
           ap (map (model_with_numbers (number_among final))) mapped ∙ map-append (model_with_numbers (number_among final)) (map f xs) (f x ∷ []) ∙ ap (λ l. l ++ model_with_numbers (number_among final) (f x) ∷ []) front ∙ ap (λ q. map h ys ++ q ∷ []) (is_y final g) ∙ sym mapped_all,
     )

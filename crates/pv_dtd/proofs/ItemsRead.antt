@@ -8,16 +8,17 @@ use Rattle.pv_chars.specs.Spaces.{is_space, IsSpace, IsOptionalSpace}
 use Rattle.pv_chars.specs.Scan.{after_space, after_blank, after_bytes}
 use Rattle.pv_chars.proofs.Scanning.{after_space_takes, after_space-append, after_blank_takes, after_blank-append, after_bytes_takes, after_bytes-append, chosen}
 use Rattle.pv_chars.proofs.Beginnings.{begins_in_space, begins_behind}
-use Rattle.pv_dtd.specs.CharReading.{name_at, is_chars, comment_at, instruction_at, text_declaration_at}
+use Rattle.pv_chars.specs.CharReading.{name_at, is_chars, comment_at, instruction_at, text_declaration_at}
 use Rattle.pv_dtd.specs.Items.{NamedModel, Item, text_declaration, element, skipped, comment, instruction}
 use Rattle.pv_chars.specs.Declarations.{is_quote}
-use Rattle.pv_dtd.specs.Spelling.{StandsAt, Spells, SpellsElement, SpellsSkipped, MayStand, IsSkippedWord, is_one_of, may_not_be_skipped}
+use Rattle.pv_dtd.specs.Spelling.{StandsAt, Spells, SpellsElement, SpellsSkipped, MayStand, IsSkippedWord, may_not_be_skipped}
+use Rattle.pv_chars.specs.Declarations.{is_one_of}
 use Rattle.pv_dtd.specs.ItemReading.{or_else, model_at, element_at, skipped_word, after_white, stop_at, where_it_is, after_stop, behind_chars, skipped_at, read_as, front_at, item_at}
 use Rattle.pv_dtd.specs.SoFar.{IsShallow, IsShallowItem}
-use Rattle.pv_dtd.proofs.Binding.{bound, same_some}
-use Rattle.pv_dtd.proofs.NameBytes.{is_name_byte, names_have_no_space, name_at_takes, name_at-append, name_begins, space_passes}
-use Rattle.pv_dtd.proofs.CharFacts.{chars_are, are_chars, chars_behind_space, comment_takes, comment_at-append, comment_opens, instruction_takes, instruction_at-append, instruction_opens}
-use Rattle.pv_dtd.proofs.TextDeclarations.{no_declaration, declaration_takes, text_declaration_at-append, declaration_opens}
+use Rattle.pv_chars.proofs.Binding.{bound, same_some}
+use Rattle.pv_chars.proofs.NameBytes.{is_name_byte, names_have_no_space, name_at_takes, name_at-append, name_begins, space_passes}
+use Rattle.pv_chars.proofs.CharFacts.{chars_are, are_chars, chars_behind_space, comment_takes, comment_at-append, comment_opens, instruction_takes, instruction_at-append, instruction_opens}
+use Rattle.pv_chars.proofs.TextDeclarations.{no_declaration, declaration_takes, text_declaration_at-append, declaration_opens}
 use Rattle.pv_dtd.proofs.PartsSpelled.{goes_on, particles_have_no_space}
 use Rattle.pv_dtd.proofs.ModelsRead.{model_reads}
 use Rattle.pv_dtd.proofs.ModelsSpelled.{model_is_read, model_begins}

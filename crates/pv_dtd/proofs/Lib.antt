@@ -1,19 +1,17 @@
+-- for other crates:
+pub mod Naming
+pub mod Proper
+-- of this crate:
 pub mod Places
 pub mod Members
 pub mod Distinct
-pub mod Naming
-pub mod Binding
 pub mod Once
 pub mod Apart
-pub mod NameBytes
 pub mod PartsRead
 pub mod PartsSpelled
 pub mod ModelsRead
 pub mod ModelsSpelled
 pub mod Quoted
-pub mod OneFront
-pub mod CharFacts
-pub mod TextDeclarations
 pub mod ItemsRead
 pub mod Deep
 pub mod Shallow
@@ -36,5 +34,4 @@ pub mod NamesKept
 pub mod Kept
 pub mod TextLimits
 pub mod DtdTextLaw
-pub mod Proper
 pub mod ProductiveNames

@@ -1,7 +1,7 @@
 -- The listed names that were read, and those that are still to come.
 use Rattle.std.proofs.Common.{◌≡◌, ◌<◌, ℕ, zero, suc, List, [], ◌∷◌, ◌++◌, length, codes, Option, Some, None, refl, sym, ap, ◌∙◌, append_assoc, append-nil, arith}
 use Rattle.pv_chars.specs.Scan.{◌>>=◌, after_space, after_bytes}
-use Rattle.pv_dtd.specs.CharReading.{name_at}
+use Rattle.pv_chars.specs.CharReading.{name_at}
 use Rattle.pv_dtd.specs.ItemReading.{listed_at}
 
 -- these, and then the others

@@ -6,15 +6,15 @@ use Rattle.pv_chars.specs.Spaces.{IsOptionalSpace}
 use Rattle.pv_chars.specs.Scan.{after_space, after_bytes}
 use Rattle.pv_chars.proofs.Scanning.{after_space_takes, after_bytes_takes}
 use Rattle.pv_chars.specs.Names.{IsName}
-use Rattle.pv_dtd.specs.CharReading.{name_at}
+use Rattle.pv_chars.specs.CharReading.{name_at}
 use Rattle.pv_dtd.specs.Facts.{MAX_NESTING}
 use Rattle.pv_dtd.specs.Items.{NamedPart, name, seq, choice, opt, star, plus, NamedModel, mixed}
 use Rattle.pv_dtd.specs.Spelling.{SpellsPart, SpellsListed, SpellsMixed, SpellsModel, IsGroup}
 use Rattle.pv_dtd.specs.PartReading.{Reader, particle_at}
 use Rattle.pv_dtd.specs.ItemReading.{names_after_bar, listed_at, after_end, mixed_at, children_at, group_by, group_model_at, model_by, model_at}
 use Rattle.pv_dtd.specs.SoFar.{IsShallow}
-use Rattle.pv_dtd.proofs.Binding.{bound, same_some}
-use Rattle.pv_dtd.proofs.NameBytes.{is_name_byte, name_at_takes, name_bytes, name_some}
+use Rattle.pv_chars.proofs.Binding.{bound, same_some}
+use Rattle.pv_chars.proofs.NameBytes.{is_name_byte, name_at_takes, name_bytes, name_some}
 use Rattle.pv_dtd.proofs.PartsRead.{Reads, particle_reads}
 
 -- listed names, and space behind them

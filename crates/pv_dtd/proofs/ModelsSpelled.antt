@@ -10,7 +10,7 @@ use Rattle.pv_dtd.specs.Items.{NamedPart, name, seq, choice, opt, star, plus, Na
 use Rattle.pv_dtd.specs.Spelling.{SpellsPart, SpellsGroup, SpellsListed, SpellsMixed, SpellsModel, IsGroup, nesting_of}
 use Rattle.pv_dtd.specs.PartReading.{particle_at}
 use Rattle.pv_dtd.specs.ItemReading.{listed_at, after_end, mixed_at, children_at, group_model_at, model_at}
-use Rattle.pv_dtd.proofs.NameBytes.{is_name_byte, names_have_no_space, name_begins, name_not_after, name_at-append}
+use Rattle.pv_chars.proofs.NameBytes.{is_name_byte, names_have_no_space, name_begins, name_not_after, name_at-append}
 use Rattle.pv_dtd.specs.SoFar.{IsShallow}
 use Rattle.pv_dtd.proofs.PartsSpelled.{goes_on, part_begins, part_is_read, regrouped}
 

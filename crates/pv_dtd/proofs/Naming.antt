@@ -6,22 +6,22 @@ use Rattle.std.specs.List.{slice_get}
 use Rattle.std.specs.Option.{option_map}
 use Rattle.std.specs.Str.{bytes_eq}
 use Rattle.pv_dtd.specs.Plain.{place_of}
-use Rattle.pv_dtd.specs.Naming.{with_name, number_in, GoesOn, with_names}
+use Rattle.pv_dtd.specs.Naming.{with_name, number_in, AreFirstIn, with_names}
 
-pub goes_on_self : (names : List (List ℕ)) → GoesOn names names
+pub goes_on_self : (names : List (List ℕ)) → AreFirstIn names names
 goes_on_self names = record { added = []; whole = sym (append-nil names) }
 
-pub goes_on_then : (a b c : List (List ℕ)) → GoesOn a b → GoesOn b c → GoesOn a c
+pub goes_on_then : (a b c : List (List ℕ)) → AreFirstIn a b → AreFirstIn b c → AreFirstIn a c
 goes_on_then a b c p q = record { added = p.added ++ q.added; whole = q.whole ∙ ap (λ x. x ++ q.added) p.whole ∙ append_assoc a p.added q.added }
 
-with_name_goes_on_by : (names : List (List ℕ)) (x : List ℕ) (there : Bool) → GoesOn names (cond there names (names ++ x ∷ []))
+with_name_goes_on_by : (names : List (List ℕ)) (x : List ℕ) (there : Bool) → AreFirstIn names (cond there names (names ++ x ∷ []))
 with_name_goes_on_by names x true = goes_on_self names
 with_name_goes_on_by names x false = record { added = x ∷ []; whole = refl }
 
-pub with_name_goes_on : (names : List (List ℕ)) (x : List ℕ) → GoesOn names (with_name names x)
+pub with_name_goes_on : (names : List (List ℕ)) (x : List ℕ) → AreFirstIn names (with_name names x)
 with_name_goes_on names x = with_name_goes_on_by names x (is_some (place_of names x))
 
-pub grown_goes_on : (names xs : List (List ℕ)) → GoesOn names (with_names names xs)
+pub grown_goes_on : (names xs : List (List ℕ)) → AreFirstIn names (with_names names xs)
 grown_goes_on names [] = goes_on_self names
 grown_goes_on names (x ∷ xs) = goes_on_then names (with_name names x) _ (with_name_goes_on names x) (grown_goes_on (with_name names x) xs)
 
@@ -34,14 +34,14 @@ get_front [] added y x e = cc
 get_front (n ∷ ns) added zero x e = e
 get_front (n ∷ ns) added (suc y) x e = get_front ns added y x e
 
-pub get_goes_on : (names more : List (List ℕ)) → GoesOn names more → (y : ℕ) (x : List ℕ) → slice_get names y ≡ Some x → slice_get more y ≡ Some x
+pub get_goes_on : (names more : List (List ℕ)) → AreFirstIn names more → (y : ℕ) (x : List ℕ) → slice_get names y ≡ Some x → slice_get more y ≡ Some x
 get_goes_on names more g y x e = rw g.whole (get_front names g.added y x e)
 
 -- these numbers have these names
 abbrev pub AreNamed : List (List ℕ) → List ℕ → List (List ℕ) → Type 0
 AreNamed names ys xs = map (slice_get names) ys ≡ map Some xs
 
-pub named_goes_on : (names more : List (List ℕ)) → GoesOn names more → (ys : List ℕ) (xs : List (List ℕ)) → AreNamed names ys xs → AreNamed more ys xs
+pub named_goes_on : (names more : List (List ℕ)) → AreFirstIn names more → (ys : List ℕ) (xs : List (List ℕ)) → AreNamed names ys xs → AreNamed more ys xs
 named_goes_on names more g [] [] e = refl
 named_goes_on names more g [] (x ∷ xs) e = cc
 named_goes_on names more g (y ∷ ys) [] e = cc
@@ -75,7 +75,7 @@ place-front : (names added : List (List ℕ)) (x : List ℕ) (y : ℕ) → place
 place-front [] added x y e = cc
 place-front (n ∷ ns) added x y e = place_front n ns added x y (bytes_eq x n) (place-front ns added x) (place_of ns x) refl e
 
-pub place_goes_on : (names more : List (List ℕ)) → GoesOn names more → (x : List ℕ) (y : ℕ) → place_of names x ≡ Some y → place_of more x ≡ Some y
+pub place_goes_on : (names more : List (List ℕ)) → AreFirstIn names more → (x : List ℕ) (y : ℕ) → place_of names x ≡ Some y → place_of more x ≡ Some y
 place_goes_on names more g x y e = rw g.whole (place-front names g.added x y e)
 
 -- a name that is new has the next place

@@ -11,8 +11,8 @@ use Rattle.pv_dtd.specs.Spelling.{StandsAt, SpellsElement, SpellsSkipped, IsSkip
 use Rattle.pv_dtd.specs.Kinds.{HasParameter}
 use Rattle.pv_dtd.specs.ItemReading.{or_else, skipped_word, where_it_is, declaration_word, inner_parameter_at, parameter_at}
 use Rattle.pv_dtd.proofs.AllBytes.{PassMarks, all_inside, inside_element, element_whole}
-use Rattle.pv_dtd.proofs.CharFacts.{comment_opens, instruction_opens}
-use Rattle.pv_dtd.proofs.NameBytes.{is_name_byte, space_passes, name_passes}
+use Rattle.pv_chars.proofs.CharFacts.{comment_opens, instruction_opens}
+use Rattle.pv_chars.proofs.NameBytes.{is_name_byte, space_passes, name_passes}
 use Rattle.pv_dtd.proofs.Parameters.{parameter_is_read, declaration_is_taken, begins_otherwise}
 use Rattle.pv_dtd.proofs.Quoted.{stop_at-append, plain_before, fewer_stop}
 

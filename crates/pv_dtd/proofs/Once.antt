@@ -9,7 +9,7 @@ use Rattle.std.specs.Str.{bytes_eq}
 use Rattle.pv_dtd.specs.Facts.{are_distinct}
 use Rattle.pv_dtd.specs.Numbering.{each_once}
 use Rattle.pv_dtd.specs.Naming.{with_name, with_names}
-use Rattle.pv_dtd.proofs.Binding.{same_some}
+use Rattle.pv_chars.proofs.Binding.{same_some}
 use Rattle.pv_dtd.proofs.Places.{is_some-place}
 use Rattle.pv_dtd.proofs.Distinct.{are_new, new-distinct}
 use Rattle.pv_dtd.proofs.Naming.{with_names-append}

@@ -7,14 +7,14 @@ use Rattle.pv_chars.proofs.Scanning.{begins, after_space_takes, after_space-appe
 use Rattle.pv_dtd.specs.Items.{Item, text_declaration, element, skipped, comment, instruction, declared_in, models_in, parts_of_models}
 use Rattle.pv_dtd.specs.Spelling.{StandsAt, Spells, IsSkippedWord}
 use Rattle.pv_dtd.specs.Kinds.{Kind, parameter, nesting, syntax, twice, mixed_twice, limit, HasParameter, IsTooDeep, HasFault, IsFirstFault, Breaks, rank, declares_again, lists_twice, passes_limit}
-use Rattle.pv_dtd.specs.Meaning.{is_place, HasPlace, is_front, Outcome, is_dtd, faulty, Means, ends, item, fault}
+use Rattle.pv_dtd.specs.Meaning.{is_place, HasPlace, is_front, Outcome, is_dtd, faulty, DtdRestMeans, ends, item, fault}
 use Rattle.pv_dtd.specs.ItemReading.{item_at, parameter_at, is_too_deep, early_kind, broken_rule}
-use Rattle.pv_dtd.proofs.Binding.{same_some}
+use Rattle.pv_chars.proofs.Binding.{same_some}
 use Rattle.pv_dtd.proofs.Parameters.{parameter_read, parameter_is_read}
 use Rattle.pv_dtd.proofs.Deep.{too_deep_read, too_deep_is_read}
 use Rattle.pv_dtd.proofs.Shallow.{begins_shallow}
 use Rattle.pv_dtd.proofs.ItemsRead.{item_read, item_is_read}
-use Rattle.pv_dtd.proofs.CharFacts.{comment_opens, instruction_opens}
+use Rattle.pv_chars.proofs.CharFacts.{comment_opens, instruction_opens}
 
 -- The place behind white space.
 place_begins : (place : List ℕ) → IsTrue (is_place place) → begins is_space place ≡ false
@@ -208,7 +208,7 @@ same_kind {before} {front} {place} {k} {j} a b =
     ]
 
 -- behind these items, the rest has one meaning
-pub same_meaning : {before : List Item} {rest : List ℕ} {o p : Outcome} → Means before rest o → Means before rest p → o ≡ p
+pub same_meaning : {before : List Item} {rest : List ℕ} {o p : Outcome} → DtdRestMeans before rest o → DtdRestMeans before rest p → o ≡ p
 same_meaning (ends a) (ends b) = refl
 same_meaning (ends a) (item g i n m) = no_place a g
 same_meaning (ends a) (fault g f) = no_place a g
@@ -225,7 +225,7 @@ same_meaning {before} {rest} (fault {kind} g f) (fault h e) = let kind_is = same
 -- And it has some meaning.
 pub record Meant (before : List Item) (rest : List ℕ) : Type 0 where
   pub outcome : Outcome
-  pub means : Means before rest outcome
+  pub means : DtdRestMeans before rest outcome
 
 text_some : (i : Item) (text : List ℕ) → Spells i text → text ≢ []
 text_some text_declaration text s e = let is = s.whole in cc

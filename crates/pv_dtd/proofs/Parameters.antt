@@ -5,7 +5,7 @@ use Rattle.pv_chars.proofs.Scanning.{after_bytes_takes}
 use Rattle.pv_dtd.specs.Spelling.{IsSkippedWord, ends_or_refers}
 use Rattle.pv_dtd.specs.Kinds.{HasParameter, reference, section, inside}
 use Rattle.pv_dtd.specs.ItemReading.{or_else, skipped_word, where_it_is, declaration_word, inner_parameter_at, parameter_at}
-use Rattle.pv_dtd.proofs.Binding.{bound}
+use Rattle.pv_chars.proofs.Binding.{bound}
 use Rattle.pv_dtd.proofs.Quoted.{stop_at-append}
 use Rattle.pv_dtd.proofs.ItemsRead.{either_read, word_takes, after_stop_takes}
 

@@ -4,12 +4,12 @@ use Rattle.std.proofs.lemmas.Bool.Decides.{Decides-eqb}
 use Rattle.pv_chars.specs.Spaces.{IsOptionalSpace}
 use Rattle.pv_chars.specs.Scan.{after_space, after_bytes}
 use Rattle.pv_chars.proofs.Scanning.{after_space_takes, after_space-append, after_bytes_takes}
-use Rattle.pv_dtd.specs.CharReading.{name_at}
+use Rattle.pv_chars.specs.CharReading.{name_at}
 use Rattle.pv_dtd.specs.Items.{NamedPart, name, seq, choice, opt, star, plus, NamedParts, no_parts, part}
 use Rattle.pv_dtd.specs.Spelling.{SpellsPart, SpellsGroup, SpellsOthers, IsBare, member_count, nesting_of, nesting_of_all}
 use Rattle.pv_dtd.specs.PartReading.{Reader, word_at, with_operator, more_at, others_by, others_at, separator_at, group_of, group_at, bare_by, too_deep, particle_from, bare_at, particle_at}
-use Rattle.pv_dtd.proofs.Binding.{bound, same_some}
-use Rattle.pv_dtd.proofs.NameBytes.{name_at_takes}
+use Rattle.pv_chars.proofs.Binding.{bound, same_some}
+use Rattle.pv_chars.proofs.NameBytes.{name_at_takes}
 
 -- What was read from the front of a text: the bytes that spell it.
 pub record Reads {X : Type 0} (Spells : X → List ℕ → Type 0) (bytes : List ℕ) (f : X × List ℕ) : Type 0 where

@@ -9,7 +9,7 @@ use Rattle.pv_chars.specs.Names.{IsName}
 use Rattle.pv_dtd.specs.Items.{NamedPart, name, seq, choice, opt, star, plus, NamedParts, no_parts, part}
 use Rattle.pv_dtd.specs.Spelling.{SpellsPart, SpellsGroup, SpellsOthers, IsBare, member_count, nesting_of, nesting_of_all}
 use Rattle.pv_dtd.specs.PartReading.{Reader, word_at, with_operator, more_at, others_at, separator_at, group_of, group_at, bare_from, too_deep, particle_from, bare_at, particle_at}
-use Rattle.pv_dtd.proofs.NameBytes.{is_name_byte, name_at-append, name_begins, name_not_after}
+use Rattle.pv_chars.proofs.NameBytes.{is_name_byte, name_at-append, name_begins, name_not_after}
 
 -- what may go on with a particle: a name's byte or an operator
 abbrev pub goes_on : ℕ → Bool

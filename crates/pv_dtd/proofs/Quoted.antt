@@ -6,7 +6,7 @@ use Rattle.std.specs.List.{list_all}
 use Rattle.pv_chars.specs.Declarations.{is_quote}
 use Rattle.pv_dtd.specs.Spelling.{IsQuotedText, nothing, byte, literal}
 use Rattle.pv_dtd.specs.ItemReading.{stop_at}
-use Rattle.pv_dtd.proofs.Binding.{same_some}
+use Rattle.pv_chars.proofs.Binding.{same_some}
 
 abbrev is_other : ℕ → ℕ → Bool
 is_other quote b = not (b == quote)

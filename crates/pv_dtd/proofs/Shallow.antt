@@ -9,9 +9,10 @@ use Rattle.pv_chars.specs.Spaces.{IsOptionalSpace}
 use Rattle.pv_chars.specs.Names.{IsName}
 use Rattle.pv_dtd.specs.Facts.{MAX_NESTING}
 use Rattle.pv_dtd.specs.Items.{NamedPart, name, seq, choice, opt, star, plus, NamedParts, no_parts, part, NamedModel, empty, any, mixed, children, Item, text_declaration, element, skipped, comment, instruction}
-use Rattle.pv_dtd.specs.Spelling.{StandsAt, SpellsPart, SpellsGroup, SpellsOthers, SpellsElement, nesting_of, nesting_of_all, is_one_of}
+use Rattle.pv_dtd.specs.Spelling.{StandsAt, SpellsPart, SpellsGroup, SpellsOthers, SpellsElement, nesting_of, nesting_of_all}
+use Rattle.pv_chars.specs.Declarations.{is_one_of}
 use Rattle.pv_dtd.specs.Kinds.{IsTooDeep, how_many}
-use Rattle.pv_dtd.proofs.NameBytes.{is_name_byte, space_passes, name_passes}
+use Rattle.pv_chars.proofs.NameBytes.{is_name_byte, space_passes, name_passes}
 use Rattle.pv_dtd.specs.SoFar.{IsShallow, IsShallowItem}
 
 -- a parenthesis or '>'

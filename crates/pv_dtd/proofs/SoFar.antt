@@ -12,7 +12,7 @@ use Rattle.pv_chars.specs.Scan.{after_space}
 use Rattle.pv_dtd.specs.Facts.{are_distinct, MAX_TYPES, MAX_PARTS}
 use Rattle.pv_dtd.specs.Items.{NamedModel, Item, text_declaration, element, skipped, comment, instruction, declared_by, declared_in, model_in, models_in, mentioned_by, parts_by, parts_of_models}
 use Rattle.pv_dtd.specs.Kinds.{Kind, parameter, nesting, syntax, declares_again, is_too_long}
-use Rattle.pv_dtd.specs.Meaning.{is_place, is_front, Outcome, is_dtd, faulty, Means, ends, item, fault}
+use Rattle.pv_dtd.specs.Meaning.{is_place, is_front, Outcome, is_dtd, faulty, DtdRestMeans, ends, item, fault}
 use Rattle.pv_dtd.specs.Spelling.{StandsAt}
 use Rattle.pv_dtd.specs.Numbering.{dtd_of_items}
 use Rattle.pv_dtd.specs.Naming.{with_names}
@@ -31,7 +31,7 @@ pub record AreSoFar (bytes : List ℕ) (count : ℕ) (names : List (List ℕ)) (
   pub counted : count ≡ length before
   pub declares : Declares names models parts before
   pub within : count + length rest ≤ length bytes
-  pub behind : (o : Outcome) → Means before rest o → Means [] bytes o
+  pub behind : (o : Outcome) → DtdRestMeans before rest o → DtdRestMeans [] bytes o
 
 pub so_far_none : (bytes : List ℕ) → AreSoFar bytes 0 [] [] 0 bytes
 so_far_none bytes = record {
@@ -106,7 +106,7 @@ ruled_more before i r b shallow k =
     }
 
 module _ (bytes : List ℕ) (count : ℕ) (names : List (List ℕ)) (models : List NamedModel) (parts : ℕ) (rest : List ℕ) (s : AreSoFar bytes count names models parts rest) (place : List ℕ) (at : place ≡ after_space rest) where
-  pub all_read : place ≡ [] → (items : List Item) × Means [] bytes (is_dtd (dtd_of_items items)) × Declares names models parts items
+  pub all_read : place ≡ [] → (items : List Item) × DtdRestMeans [] bytes (is_dtd (dtd_of_items items)) × Declares names models parts items
   all_read none = (s.before, s.behind (is_dtd (dtd_of_items s.before)) (ends (all_space rest (sym at ∙ none))), s.declares)
 
   few_names : length names ≤ MAX_TYPES
@@ -116,17 +116,17 @@ module _ (bytes : List ℕ) (count : ℕ) (names : List (List ℕ)) (models : Li
     abbrev front : Bool
     front = is_front s.before rest
 
-    faulty_is : (kind : Kind) → Means s.before rest (faulty kind (length s.before)) → Means [] bytes (faulty kind count)
-    faulty_is kind m = subst (λ n. Means [] bytes (faulty kind n)) (sym s.counted) (s.behind _ m)
+    faulty_is : (kind : Kind) → DtdRestMeans s.before rest (faulty kind (length s.before)) → DtdRestMeans [] bytes (faulty kind count)
+    faulty_is kind m = subst (λ n. DtdRestMeans [] bytes (faulty kind n)) (sym s.counted) (s.behind _ m)
 
-    early : (kind : Kind) → early_kind place ≡ Some kind → Means [] bytes (faulty kind count)
+    early : (kind : Kind) → early_kind place ≡ Some kind → DtdRestMeans [] bytes (faulty kind count)
     early kind e = faulty_is kind (fault (goes_to rest place at some) (early_fault s.before front place kind e))
 
-    pub refers : is_some (parameter_at place) ≡ true → Means [] bytes (faulty parameter count)
+    pub refers : is_some (parameter_at place) ≡ true → DtdRestMeans [] bytes (faulty parameter count)
     unfolding early_kind
     refers e = early parameter (rw e refl)
 
-    pub too_deep : is_some (parameter_at place) ≡ false → is_too_deep place ≡ true → Means [] bytes (faulty nesting count)
+    pub too_deep : is_some (parameter_at place) ≡ false → is_too_deep place ≡ true → DtdRestMeans [] bytes (faulty nesting count)
     unfolding early_kind
     too_deep e d = early nesting (rw (e, d) refl)
 
@@ -135,7 +135,7 @@ module _ (bytes : List ℕ) (count : ℕ) (names : List (List ℕ)) (models : Li
       unfolding early_kind
       neither = rw (no_reference, not_deep) refl
 
-      pub no_item_stands : None ≡ item_at (nat_eq count 0 && is_place rest) place → Means [] bytes (faulty syntax count)
+      pub no_item_stands : None ≡ item_at (nat_eq count 0 && is_place rest) place → DtdRestMeans [] bytes (faulty syntax count)
       no_item_stands none = faulty_is syntax (fault (goes_to rest place at some) (no_item s.before front place neither (ap (λ f. item_at f place) (sym (front_is s.before rest count s.counted)) ∙ sym none)))
 
       module _ (i : Item) (more : List ℕ) (read : Some (i, more) ≡ item_at (nat_eq count 0 && is_place rest) place) where
@@ -145,7 +145,7 @@ module _ (bytes : List ℕ) (count : ℕ) (names : List (List ℕ)) (models : Li
         rules_are : broken_rule (declared_in s.before) (parts_of_models (models_in s.before)) i ≡ broken_rule names parts i
         rules_are = ap (λ ns. broken_rule ns (parts_of_models (models_in s.before)) i) (sym s.declares.names_are) ∙ ap (λ n. broken_rule names n i) (sym s.declares.parts_are)
 
-        pub item_breaks : (kind : Kind) → Some kind ≡ broken_rule names parts i → Means [] bytes (faulty kind count)
+        pub item_breaks : (kind : Kind) → Some kind ≡ broken_rule names parts i → DtdRestMeans [] bytes (faulty kind count)
         item_breaks kind broken = faulty_is kind (fault (goes_to rest place at some) (rule_broken s.before front place neither i more is_read kind (rules_are ∙ sym broken)))
 
         pub few_more : None ≡ broken_rule names parts i → parts + parts_by i ≤ MAX_PARTS

@@ -8,10 +8,10 @@ use Rattle.pv_dtd.specs.Items.{Item, text_declaration, element, skipped, comment
 use Rattle.pv_dtd.specs.Spelling.{StandsAt, Spells, MayStand, IsSkippedWord}
 use Rattle.pv_dtd.specs.Kinds.{nesting}
 use Rattle.pv_dtd.specs.Numbering.{dtd_of_items}
-use Rattle.pv_dtd.specs.Meaning.{is_place, HasPlace, is_front, Outcome, is_dtd, Means, ends, item, fault}
+use Rattle.pv_dtd.specs.Meaning.{is_place, HasPlace, is_front, Outcome, is_dtd, DtdRestMeans, ends, item, fault}
 use Rattle.pv_dtd.specs.DtdTexts.{SpellsDeclarations, SpellsSubset, plain, behind_declaration}
 use Rattle.pv_dtd.specs.SoFar.{AreRuled}
-use Rattle.pv_dtd.proofs.CharFacts.{comment_opens, instruction_opens}
+use Rattle.pv_chars.proofs.CharFacts.{comment_opens, instruction_opens}
 use Rattle.pv_dtd.proofs.Shallow.{begins_shallow}
 use Rattle.pv_dtd.proofs.SoFar.{ruled_more}
 use Rattle.pv_dtd.proofs.Unbroken.{keeps, ruled-left, no_fault}
@@ -46,7 +46,7 @@ pub record Read (before : List Item) (rest : List ℕ) (g : PlainDtd) : Type 0 w
 dtd_is : (a b : PlainDtd) → (is_dtd a) ≡ (is_dtd b) → b ≡ a
 dtd_is a b e = cc
 
-pub read : {before : List Item} {rest : List ℕ} {o : Outcome} → Means before rest o → (g : PlainDtd) → o ≡ is_dtd g → AreRuled before → Read before rest g
+pub read : {before : List Item} {rest : List ℕ} {o : Outcome} → DtdRestMeans before rest o → (g : PlainDtd) → o ≡ is_dtd g → AreRuled before → Read before rest g
 read {before} (ends s) g e r = record {
   items = [];
   spelled = s;
@@ -77,8 +77,8 @@ item_is_place skipped text rest s = by s.word s.is_word s.whole
 item_is_place comment text rest s = rw (comment_opens text s).1 refl
 item_is_place instruction text rest s = rw (instruction_opens text s).1 refl
 
-pub means : (items before : List Item) (rest : List ℕ) → SpellsRest (is_front before rest) items rest → AreRuled (before ++ items) → Means before rest (is_dtd (dtd_of_items (before ++ items)))
-means [] before rest s r = subst (λ is. Means before rest (is_dtd (dtd_of_items is))) (sym (append-nil before)) (ends s)
+pub means : (items before : List Item) (rest : List ℕ) → SpellsRest (is_front before rest) items rest → AreRuled (before ++ items) → DtdRestMeans before rest (is_dtd (dtd_of_items (before ++ items)))
+means [] before rest s r = subst (λ is. DtdRestMeans before rest (is_dtd (dtd_of_items is))) (sym (append-nil before)) (ends s)
 means (i ∷ items) before rest s r =
     let place = s.1 ++ s.2 in
     let grouped = append_assoc before (i ∷ []) items in
@@ -87,7 +87,7 @@ means (i ∷ items) before rest s r =
     let begins : StandsAt (is_front before rest) place i s.2 = record { text = s.1; spelled = s.5; may_stand = s.4; whole = refl } in
     let none = no_fault before i (ruled-left (before ++ i ∷ []) items all) (is_front before rest) place s.2 begins in
     let behind = means items (before ++ i ∷ []) s.2 (from_declarations _ items s.2 (not_front before i s.2) s.6) all in
-    subst (λ is. Means before rest (is_dtd (dtd_of_items is))) grouped (item at begins none behind)
+    subst (λ is. DtdRestMeans before rest (is_dtd (dtd_of_items is))) grouped (item at begins none behind)
 
 -- at the front of a text
 no_space_before : (space others : List ℕ) → IsOptionalSpace space → is_place (space ++ others) ≡ true → space ≡ []

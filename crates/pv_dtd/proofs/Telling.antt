@@ -1,11 +1,12 @@
 -- What the readers' answers tell of a text.
 use Rattle.std.proofs.Common.{◌≡◌, ◌≤◌, ℕ, List, [], length, map, Result, Ok, Err, inl, inr, refl, sym, ap, ◌∙◌, subst}
 use Rattle.std.specs.Result.{IfOk, IfErr}
+use Rattle.pv_chars.specs.ByteOrderMark.{IsBehindByteOrderMark}
 use Rattle.pv_model.specs.Plain.{PlainModel}
 use Rattle.pv_dtd.specs.Plain.{PlainDtd}
 use Rattle.pv_dtd.specs.Facts.{MAX_DTD_BYTES}
 use Rattle.pv_dtd.specs.Items.{NamedModel, Item, declared_in, models_in, mentioned_in}
-use Rattle.pv_dtd.specs.Meaning.{Outcome, is_dtd, faulty, Means, IsBehindMark, DtdTextMeans, items}
+use Rattle.pv_dtd.specs.Meaning.{Outcome, is_dtd, faulty, DtdRestMeans, DtdTextMeans, items}
 use Rattle.pv_dtd.specs.Numbering.{dtd_of_items, names_of, number_among, model_with_numbers}
 use Rattle.pv_dtd.specs.Naming.{with_names, NumbersModels}
 use Rattle.pv_dtd.specs.PlainForms.{plain_dtd, refusal, Refuses, Answers}
@@ -20,7 +21,7 @@ use Rattle.pv_dtd.proofs.Naming.{goes_on_self}
 use Rattle.pv_dtd.proofs.Once.{once-distinct}
 use Rattle.pv_dtd.proofs.TextMeaning.{same_text_meaning}
 
-pub tells_rule : (rest : List ℕ) (rule : Rule) (k : ℕ) (e : DtdError) → e ≡ refusal (kind_of rule) k → Means [] rest (faulty (kind_of rule) k) → TellsFault rest e
+pub tells_rule : (rest : List ℕ) (rule : Rule) (k : ℕ) (e : DtdError) → e ≡ refusal (kind_of rule) k → DtdRestMeans [] rest (faulty (kind_of rule) k) → TellsFault rest e
 tells_rule rest TwiceRule k e is m = rw is m
 tells_rule rest MixedTwiceRule k e is m = rw is m
 tells_rule rest LimitRule k e is m = rw is (inr m)
@@ -39,9 +40,9 @@ numbered_are read names models parts d all numbers is_all placed =
 abbrev pub HoldsItems : Dtd → List Item → Type 0
 HoldsItems d read = plain_dtd d ≡ dtd_of_items read
 
-module _ (bytes rest : List ℕ) (short : length bytes ≤ MAX_DTD_BYTES) (mark : IsBehindMark bytes rest) where
+module _ (bytes rest : List ℕ) (short : length bytes ≤ MAX_DTD_BYTES) (mark : IsBehindByteOrderMark bytes rest) where
   pub read_by : (r : Result Dtd DtdError) → Tells HoldsItems rest r → IfOk r (λ d. DtdTextMeans bytes (is_dtd (plain_dtd d)))
-  read_by (Ok d) t = items short mark (subst (λ g. Means [] rest (is_dtd g)) (sym t.2) t.1)
+  read_by (Ok d) t = items short mark (subst (λ g. DtdRestMeans [] rest (is_dtd g)) (sym t.2) t.1)
   read_by (Err e) t = tt
 
   error_by : (e : DtdError) → TellsFault rest e → Refuses bytes e

@@ -1,18 +1,20 @@
--- What a DTD text is, limits aside (XML 1.0, section 2.8, productions extSubset and extSubsetDecl; 3.2 and 3.2.2), and the limits.
+-- What a DTD text is, limits aside (XML 1.0, section 2.8, productions extSubset and extSubsetDecl;
+-- 3.2 and 3.2.2), and the limits.
 use Rattle.std.specs.Prelude.{◌≡◌, ◌≤◌, ℕ, List, [], ◌∷◌, ◌++◌, IsTrue, false, length}
 use Rattle.std.specs.List.{AllByRecursion, list_all}
 use Rattle.pv_chars.specs.Spaces.{IsOptionalSpace}
 use Rattle.pv_chars.specs.Declarations.{IsTextDecl}
+use Rattle.pv_chars.specs.ByteOrderMark.{IsBehindByteOrderMark}
 use Rattle.pv_model.specs.Plain.{PlainModel, empty, any, mixed, children}
 use Rattle.pv_dtd.specs.Plain.{PlainDtd, declared, parts_in_models}
-use Rattle.pv_dtd.specs.Facts.{are_distinct, is_short, nesting, MAX_DTD_BYTES, MAX_TYPES, MAX_PARTS, MAX_NESTING}
+use Rattle.pv_dtd.specs.Facts.{are_distinct, is_short, nesting, MAX_DTD_BYTES, MAX_TYPES}
+use Rattle.pv_dtd.specs.Facts.{MAX_PARTS, MAX_NESTING}
 use Rattle.pv_dtd.specs.Items.{Item, text_declaration, declared_in, listed_by}
 use Rattle.pv_dtd.specs.Spelling.{Spells, MayStand}
 use Rattle.pv_dtd.specs.Numbering.{dtd_of_items}
-use Rattle.pv_dtd.specs.Meaning.{IsBehindMark}
 
--- (markupdecl | S)*: items other than a text declaration, with S? before each and behind the last; no conditional section and no
--- reference of a parameter entity is part of a DTD here
+-- (markupdecl | S)*: items other than a text declaration, with S? before each and behind the last;
+-- no conditional section and no reference of a parameter entity is part of a DTD here
 abbrev pub SpellsDeclarations : List Item → List ℕ → Type 0
 SpellsDeclarations [] text = IsOptionalSpace text
 SpellsDeclarations (i ∷ items) text =
@@ -31,11 +33,12 @@ pub data SpellsSubset (items : List Item) (text : List ℕ) : Type 0 where
 abbrev pub ListNoneTwice : List Item → Type 0
 ListNoneTwice items = AllByRecursion (λ i. IsTrue (are_distinct (listed_by i))) items
 
--- A text is this DTD: a byte order mark or none, and then items, of which no two declare the same name and none lists a name twice.
+-- A text is this DTD: a byte order mark or none, and then items, of which no two declare the same
+-- name and none lists a name twice.
 pub record IsDtdText (bytes : List ℕ) (g : PlainDtd) : Type 0 where
   pub items : List Item
   pub rest : List ℕ
-  pub behind_mark : IsBehindMark bytes rest
+  pub behind_mark : IsBehindByteOrderMark bytes rest
   pub spelled : SpellsSubset items rest
   pub declared_once : IsTrue (are_distinct (declared_in items))
   pub listed_once : ListNoneTwice items

@@ -1,10 +1,12 @@
 -- What every DTD keeps, as tests.
-use Rattle.std.specs.Prelude.{ℕ, suc, ◌-◌, max, Bool, true, false, not, ◌&&◌, nat_le, nat_lt, nat_eq, List, [], ◌∷◌, length, map, Vec}
+use Rattle.std.specs.Prelude.{ℕ, suc, ◌-◌, max, Bool, true, false, not, ◌&&◌, nat_le, nat_lt}
+use Rattle.std.specs.Prelude.{nat_eq, List, [], ◌∷◌, length, map, Vec}
 use Rattle.std.specs.List.{list_all, list_any, range_with_len}
 use Rattle.std.specs.Str.{bytes_eq}
 use Rattle.std.specs.declared.alloc.Global.{Global}
 use Rattle.pv_chars.specs.Names.{IsName}
-use Rattle.pv_model.specs.Plain.{PlainPart, name, seq, choice, opt, star, plus, PlainParts, no_parts, part, PlainModel, empty, any, mixed, children}
+use Rattle.pv_model.specs.Plain.{PlainPart, name, seq, choice, opt, star, plus, PlainParts}
+use Rattle.pv_model.specs.Plain.{no_parts, part, PlainModel, empty, any, mixed, children}
 use Rattle.pv_model.specs.declared.models.ContentModel.{ContentModel}
 use Rattle.pv_model.specs.PlainForms.{plain_model}
 use Rattle.pv_dtd.specs.Plain.{PlainDtd, mentions}
@@ -45,7 +47,8 @@ are_known g = list_all (λ y. nat_lt y (length g.names)) (mentions g.models)
 
 -- a name that isn't declared stands in some model
 abbrev pub are_mentioned : PlainDtd → Bool
-are_mentioned g = list_all (λ y. list_any (nat_eq y) (mentions g.models)) (range_with_len (length g.models) (length g.names - length g.models))
+are_mentioned g = list_all (λ y. list_any (nat_eq y) (mentions g.models))
+    (range_with_len (length g.models) (length g.names - length g.models))
 
 abbrev pub has_operator : PlainPart → Bool
 has_operator (name y) = false

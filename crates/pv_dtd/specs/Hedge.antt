@@ -4,14 +4,16 @@ use Rattle.pv_model.specs.Plain.{PlainModel, empty, PlainToken, named, text, oth
 use Rattle.pv_model.specs.Models.{Allows}
 use Rattle.pv_dtd.specs.Plain.{PlainDtd, number_of, model_of, declared}
 
--- a unit of white space or of data, a CDATA section, and a comment or processing instruction, by their bytes
+-- a unit of white space or of data, a CDATA section, and a comment or processing instruction, by
+-- their bytes
 pub data Leaf : Type 0 where
   white : List ℕ → Leaf
   data_unit : List ℕ → Leaf
   cdata : List ℕ → Leaf
   misc : List ℕ → Leaf
 
--- nothing; a leaf before the rest; an element with its name, attribute bytes and kids before the rest
+-- nothing; a leaf before the rest; an element with its name, attribute bytes and kids before the
+-- rest
 pub data Hedge : Type 0 where
   done : Hedge
   leaf : Leaf → Hedge → Hedge
@@ -40,8 +42,8 @@ word g done = []
 word g (leaf l h) = leaf_word l (word g h)
 word g (elem x t k h) = token (number_of g x) ∷ word g h
 
--- The content k fits an element of number y: its model allows the word of k, and an EMPTY element has no content at all, not even
--- white space.
+-- The content k fits an element of number y: its model allows the word of k, and an EMPTY element
+-- has no content at all, not even white space.
 pub record Fits (g : PlainDtd) (y : ℕ) (k : Hedge) : Type 0 where
   pub model : PlainModel
   pub is_model : model_of g y ≡ Some model
@@ -52,7 +54,8 @@ pub record Fits (g : PlainDtd) (y : ℕ) (k : Hedge) : Type 0 where
 abbrev pub AreGood : PlainDtd → Hedge → Type 0
 AreGood g done = Unit {0}
 AreGood g (leaf l h) = AreGood g h
-AreGood g (elem x t k h) = (y : ℕ) × (number_of g x ≡ Some y) × Fits g y k × AreGood g k × AreGood g h
+AreGood g (elem x t k h) =
+    (y : ℕ) × (number_of g x ≡ Some y) × Fits g y k × AreGood g k × AreGood g h
 
 -- one good element, of the root's name
 pub record IsValid (g : PlainDtd) (root : List ℕ) (h : Hedge) : Type 0 where

@@ -1,10 +1,13 @@
 -- The kinds of faults, in the order in which they are tested.
-use Rattle.std.specs.Prelude.{◌≡◌, ◌<◌, ◌+◌, ℕ, ◌⊎◌, ◌||◌, not, nat_le, Bool, List, [], ◌∷◌, ◌++◌, length, codes, suc, ◌==◌, if◌then◌else◌, IsTrue}
+use Rattle.std.specs.Prelude.{◌≡◌, ◌<◌, ◌+◌, ℕ, ◌⊎◌, ◌||◌, not, nat_le, Bool, List, [], ◌∷◌, ◌++◌}
+use Rattle.std.specs.Prelude.{length, codes, suc, ◌==◌, if◌then◌else◌, IsTrue}
 use Rattle.std.specs.List.{list_any}
 use Rattle.std.specs.Str.{bytes_eq}
 use Rattle.pv_dtd.specs.Facts.{are_distinct, MAX_TYPES, MAX_PARTS, MAX_NESTING, is_short}
-use Rattle.pv_dtd.specs.Items.{Item, declared_by, declared_in, models_in, listed_by, mentioned_by, parts_by, parts_of_models}
-use Rattle.pv_dtd.specs.Spelling.{StandsAt, IsQuotedText, IsSkippedWord, ends_or_refers, is_one_of}
+use Rattle.pv_dtd.specs.Items.{Item, declared_by, declared_in, models_in, listed_by, mentioned_by}
+use Rattle.pv_dtd.specs.Items.{parts_by, parts_of_models}
+use Rattle.pv_dtd.specs.Spelling.{StandsAt, IsQuotedText, IsSkippedWord, ends_or_refers}
+use Rattle.pv_chars.specs.Declarations.{is_one_of}
 
 pub data Kind : Type 0 where
   parameter : Kind
@@ -14,7 +17,8 @@ pub data Kind : Type 0 where
   mixed_twice : Kind
   limit : Kind
 
--- A reference of a parameter entity, a conditional section, or a declaration's word and a '%' outside quotes before its first '>' outside quotes.
+-- A reference of a parameter entity, a conditional section, or a declaration's word and a '%'
+-- outside quotes before its first '>' outside quotes.
 pub data HasParameter : List ℕ → Type 0 where
   reference : {place : List ℕ} (rest : List ℕ) → place ≡ codes "%" ++ rest → HasParameter place
   section : {place : List ℕ} (rest : List ℕ) → place ≡ codes "<![" ++ rest → HasParameter place
@@ -37,7 +41,8 @@ pub record IsTooDeep (place : List ℕ) : Type 0 where
 
 -- the item that stands at the place breaks this rule
 abbrev pub Breaks : Bool → List ℕ → (Item → Bool) → Type 0
-Breaks front place rule = (i : Item) × (rest : List ℕ) × StandsAt front place i rest × IsTrue (rule i)
+Breaks front place rule =
+    (i : Item) × (rest : List ℕ) × StandsAt front place i rest × IsTrue (rule i)
 
 -- the item declares one of the names that were declared
 abbrev pub declares_again : List (List ℕ) → Item → Bool
@@ -49,10 +54,12 @@ lists_twice i = not (are_distinct (listed_by i))
 abbrev pub is_too_long : List ℕ → Bool
 is_too_long name = not (is_short name)
 
--- One of the item's names is too long, or with it there are too many declared names or too many parts; so many were there before.
+-- One of the item's names is too long, or with it there are too many declared names or too many
+-- parts; so many were there before.
 abbrev pub passes_limit : List (List ℕ) → ℕ → Item → Bool
 passes_limit declared parts i =
-    list_any is_too_long (declared_by i ++ mentioned_by i) || not (nat_le (length (declared ++ declared_by i)) MAX_TYPES)
+    list_any is_too_long (declared_by i ++ mentioned_by i) ||
+    not (nat_le (length (declared ++ declared_by i)) MAX_TYPES)
     || not (nat_le (parts + parts_by i) MAX_PARTS)
 
 -- a fault of this kind stands at the place, behind these items
@@ -62,7 +69,8 @@ HasFault before front place nesting = IsTooDeep place
 HasFault before front place syntax = (i : Item) (rest : List ℕ) → StandsAt front place i rest → ⊥
 HasFault before front place twice = Breaks front place (declares_again (declared_in before))
 HasFault before front place mixed_twice = Breaks front place lists_twice
-HasFault before front place limit = Breaks front place (passes_limit (declared_in before) (parts_of_models (models_in before)))
+HasFault before front place limit =
+    Breaks front place (passes_limit (declared_in before) (parts_of_models (models_in before)))
 
 -- the order of the kinds
 abbrev pub rank : Kind → ℕ
@@ -74,6 +82,7 @@ rank mixed_twice = 4
 rank limit = 5
 
 -- the first kind of fault that stands at the place
-pub record IsFirstFault (before : List Item) (front : Bool) (place : List ℕ) (kind : Kind) : Type 0 where
+pub record IsFirstFault (before : List Item) (front : Bool) (place : List ℕ)
+    (kind : Kind) : Type 0 where
   pub holds : HasFault before front place kind
   pub first : (earlier : Kind) → rank earlier < rank kind → HasFault before front place earlier → ⊥

@@ -3,7 +3,6 @@ pub mod Facts
 pub mod Proper
 pub mod Hedge
 pub mod Productive
-pub mod CharReading
 pub mod Items
 pub mod NamedForms
 pub mod Numbering

@@ -1,6 +1,8 @@
 -- What a text means: a DTD, or its first item in fault.
-use Rattle.std.specs.Prelude.{◌≡◌, ◌≤◌, ◌<◌, ◌⊎◌, ℕ, not, Bool, false, List, [], ◌∷◌, ◌++◌, length, IsTrue}
+use Rattle.std.specs.Prelude.{◌≡◌, ◌≤◌, ◌<◌, ℕ, not, Bool, false, List, [], ◌∷◌, ◌++◌, length}
+use Rattle.std.specs.Prelude.{IsTrue}
 use Rattle.pv_chars.specs.Spaces.{is_space, IsOptionalSpace}
+use Rattle.pv_chars.specs.ByteOrderMark.{IsBehindByteOrderMark}
 use Rattle.pv_dtd.specs.Plain.{PlainDtd}
 use Rattle.pv_dtd.specs.Facts.{MAX_DTD_BYTES}
 use Rattle.pv_dtd.specs.Items.{Item}
@@ -31,25 +33,20 @@ pub data Outcome : Type 0 where
   faulty : Kind → ℕ → Outcome
 
 -- behind these items, the rest means this
-pub data Means : List Item → List ℕ → Outcome → Type 0 where
+pub data DtdRestMeans : List Item → List ℕ → Outcome → Type 0 where
   ends : {before : List Item} {rest : List ℕ} → IsOptionalSpace rest →
-      Means before rest (is_dtd (dtd_of_items before))
+      DtdRestMeans before rest (is_dtd (dtd_of_items before))
   item : {before : List Item} {rest place more : List ℕ} {i : Item} {o : Outcome} →
-      HasPlace rest place → StandsAt (is_front before rest) place i more → ((kind : Kind) → HasFault before (is_front before rest) place kind → ⊥) →
-      Means (before ++ i ∷ []) more o → Means before rest o
+      HasPlace rest place → StandsAt (is_front before rest) place i more →
+      ((kind : Kind) → HasFault before (is_front before rest) place kind → ⊥) →
+      DtdRestMeans (before ++ i ∷ []) more o → DtdRestMeans before rest o
   fault : {before : List Item} {rest place : List ℕ} {kind : Kind} →
-      HasPlace rest place → IsFirstFault before (is_front before rest) place kind → Means before rest (faulty kind (length before))
-
--- the byte order mark
-abbrev pub BYTE_ORDER_MARK : List ℕ
-BYTE_ORDER_MARK = 239 ∷ 187 ∷ 191 ∷ []
-
--- what stands behind the byte order mark of a text, where it has one
-abbrev pub IsBehindMark : List ℕ → List ℕ → Type 0
-IsBehindMark bytes rest = (bytes ≡ BYTE_ORDER_MARK ++ rest) ⊎ (((other : List ℕ) → bytes ≡ BYTE_ORDER_MARK ++ other → ⊥) × (bytes ≡ rest))
+      HasPlace rest place → IsFirstFault before (is_front before rest) place kind →
+      DtdRestMeans before rest (faulty kind (length before))
 
 -- A text means this. One that is too long passes a limit, whatever it holds.
 pub data DtdTextMeans (bytes : List ℕ) : Outcome → Type 0 where
   too_long : MAX_DTD_BYTES < length bytes → DtdTextMeans bytes (faulty limit 0)
-  items : {rest : List ℕ} {o : Outcome} → length bytes ≤ MAX_DTD_BYTES → IsBehindMark bytes rest →
-      Means [] rest o → DtdTextMeans bytes o
+  items : {rest : List ℕ} {o : Outcome} → length bytes ≤ MAX_DTD_BYTES →
+      IsBehindByteOrderMark bytes rest →
+      DtdRestMeans [] rest o → DtdTextMeans bytes o

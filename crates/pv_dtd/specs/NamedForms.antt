@@ -1,6 +1,8 @@
 -- What the items that are read are seen as.
 use Rattle.std.specs.Prelude.{List, map}
-use Rattle.pv_dtd.specs.Items.{NamedPart, name, seq, choice, opt, star, plus, NamedParts, named_parts_of, NamedModel, empty, any, mixed, children, Item, text_declaration, element, skipped, comment, instruction}
+use Rattle.pv_dtd.specs.Items.{NamedPart, name, seq, choice, opt, star, plus, NamedParts}
+use Rattle.pv_dtd.specs.Items.{named_parts_of, NamedModel, empty, any, mixed, children, Item}
+use Rattle.pv_dtd.specs.Items.{text_declaration, element, skipped, comment, instruction}
 use Rattle.pv_dtd.specs.declared.items.SpelledPart.{SpelledPart, fold-SpelledPart}
 use Rattle.pv_dtd.specs.declared.items.SpelledPart.TheOpen.{SpelledPart-F}
 use Rattle.pv_dtd.specs.declared.items.SpelledModel.{SpelledModel}

@@ -5,7 +5,9 @@ use Rattle.std.specs.Str.{bytes_eq}
 use Rattle.pv_model.specs.Plain as plain
 use Rattle.pv_model.specs.Plain.{PlainPart, PlainParts, PlainModel}
 use Rattle.pv_dtd.specs.Plain.{PlainDtd, place_of}
-use Rattle.pv_dtd.specs.Items.{NamedPart, name, seq, choice, opt, star, plus, NamedParts, no_parts, part, NamedModel, empty, any, mixed, children, Item, declared_in, models_in, mentioned_in}
+use Rattle.pv_dtd.specs.Items.{NamedPart, name, seq, choice, opt, star, plus, NamedParts, no_parts}
+use Rattle.pv_dtd.specs.Items.{part, NamedModel, empty, any, mixed, children, Item, declared_in}
+use Rattle.pv_dtd.specs.Items.{models_in, mentioned_in}
 
 -- a content particle with numbers for names
 abbrev mutual
@@ -34,12 +36,17 @@ number_among names x = unwrap_or (place_of names x) 0
 -- each name at its first place alone
 abbrev pub each_once : List (List ℕ) → List (List ℕ) → List (List ℕ)
 each_once seen [] = []
-each_once seen (n ∷ ns) = if list_any (bytes_eq n) seen then each_once seen ns else n ∷ each_once (n ∷ seen) ns
+each_once seen (n ∷ ns) =
+    if list_any (bytes_eq n) seen then each_once seen ns else n ∷ each_once (n ∷ seen) ns
 
--- the names that items declare, in order of declaration, and then those that they only mention, in order of first mention
+-- the names that items declare, in order of declaration, and then those that they only mention, in
+-- order of first mention
 abbrev pub names_of : List Item → List (List ℕ)
 names_of items = each_once [] (declared_in items ++ mentioned_in (models_in items))
 
 -- the DTD that items are
 abbrev pub dtd_of_items : List Item → PlainDtd
-dtd_of_items items = record { names = names_of items; models = map (model_with_numbers (number_among (names_of items))) (models_in items) }
+dtd_of_items items = record {
+  names = names_of items;
+  models = map (model_with_numbers (number_among (names_of items))) (models_in items);
+}

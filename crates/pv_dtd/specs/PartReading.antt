@@ -1,8 +1,10 @@
 -- Content particles, read from the left.
-use Rattle.std.specs.Prelude.{ℕ, zero, suc, List, [], ◌∷◌, length, codes, ◌==◌, if◌then◌else◌, Option, Some, None}
+use Rattle.std.specs.Prelude.{ℕ, zero, suc, List, [], ◌∷◌, length, codes, ◌==◌, if◌then◌else◌}
+use Rattle.std.specs.Prelude.{Option, Some, None}
 use Rattle.pv_chars.specs.Scan.{◌>>=◌, after_space, after_bytes}
-use Rattle.pv_dtd.specs.CharReading.{name_at}
-use Rattle.pv_dtd.specs.Items.{NamedPart, name, seq, choice, opt, star, plus, NamedParts, no_parts, part}
+use Rattle.pv_chars.specs.CharReading.{name_at}
+use Rattle.pv_dtd.specs.Items.{NamedPart, name, seq, choice, opt, star, plus, NamedParts, no_parts}
+use Rattle.pv_dtd.specs.Items.{part}
 
 -- a value from the front of a text, and what stands behind it
 abbrev pub Reader : Type 0 → Type 0
@@ -17,7 +19,11 @@ word_at bytes = do
 -- a particle, and the operator that may stand behind it
 unfoldable pub with_operator : NamedPart → List ℕ → NamedPart × List ℕ
 with_operator p [] = (p, [])
-with_operator p (b ∷ bs) = if b == 63 then (opt p, bs) else if b == 42 then (star p, bs) else if b == 43 then (plus p, bs) else (p, b ∷ bs)
+with_operator p (b ∷ bs) =
+    if b == 63 then (opt p, bs)
+    else if b == 42 then (star p, bs)
+    else if b == 43 then (plus p, bs)
+    else (p, b ∷ bs)
 
 -- a separator, a particle and the others
 unfoldable pub more_at : Reader NamedPart → ℕ → Reader NamedParts → Reader NamedParts
@@ -36,7 +42,8 @@ others_by more bytes None = more bytes
 unfoldable pub others_at : Reader NamedPart → ℕ → ℕ → Reader NamedParts
 others_at particle separator zero bytes = None
 others_at particle separator (suc steps) bytes =
-    others_by (more_at particle separator (others_at particle separator steps)) (after_space bytes) (after_bytes (codes ")") (after_space bytes))
+    others_by (more_at particle separator (others_at particle separator steps)) (after_space bytes)
+    (after_bytes (codes ")") (after_space bytes))
 
 -- '|' where it stands in front, and else ','
 unfoldable pub separator_at : List ℕ → ℕ
@@ -49,13 +56,16 @@ group_of separator ps = if separator == 124 then choice ps else seq ps
 
 -- the group of this first member and the others
 abbrev pub group_from : ℕ → NamedPart → Option (NamedParts × List ℕ) → Option (NamedPart × List ℕ)
-group_from separator first others = others >>= λ more. Some (group_of separator (part first more.0), more.1)
+group_from separator first others =
+    others >>= λ more. Some (group_of separator (part first more.0), more.1)
 
--- a choice or a sequence behind its '('; each of the others takes a byte, so there are steps enough
+-- a choice or a sequence behind its '('; each of the others takes a byte, so there are steps
+-- enough
 unfoldable pub group_at : Reader NamedPart → Reader NamedPart
 group_at particle bytes = do
   first ← particle (after_space bytes)
-  group_from (separator_at (after_space first.1)) first.0 (others_at particle (separator_at (after_space first.1)) (suc (length first.1)) first.1)
+  group_from (separator_at (after_space first.1)) first.0
+      (others_at particle (separator_at (after_space first.1)) (suc (length first.1)) first.1)
 
 -- no group
 abbrev pub too_deep : Reader NamedPart

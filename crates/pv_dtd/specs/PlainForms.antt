@@ -6,7 +6,8 @@ use Rattle.pv_dtd.specs.Kinds.{Kind, parameter, nesting, syntax, twice, mixed_tw
 use Rattle.pv_dtd.specs.Meaning.{Outcome, is_dtd, faulty, DtdTextMeans}
 use Rattle.pv_dtd.specs.declared.dtd.Dtd.{Dtd}
 use Rattle.pv_dtd.specs.declared.errors.DtdError.{DtdError}
-use Rattle.pv_dtd.specs.declared.errors.DtdError.TheVariants.{Syntax, Twice, MixedTwice, Parameter, Limit, NoMemory}
+use Rattle.pv_dtd.specs.declared.errors.DtdError.TheVariants.{Syntax, Twice, MixedTwice, Parameter}
+use Rattle.pv_dtd.specs.declared.errors.DtdError.TheVariants.{Limit, NoMemory}
 
 abbrev pub plain_dtd : Dtd → PlainDtd
 plain_dtd d = dtd_of d.names.keys d.models.items
@@ -26,7 +27,8 @@ Refuses bytes (Syntax k) = DtdTextMeans bytes (faulty syntax k)
 Refuses bytes (Twice k) = DtdTextMeans bytes (faulty twice k)
 Refuses bytes (MixedTwice k) = DtdTextMeans bytes (faulty mixed_twice k)
 Refuses bytes (Parameter k) = DtdTextMeans bytes (faulty parameter k)
-Refuses bytes (Limit k) = DtdTextMeans bytes (faulty nesting k) ⊎ DtdTextMeans bytes (faulty limit k)
+Refuses bytes (Limit k) =
+    DtdTextMeans bytes (faulty nesting k) ⊎ DtdTextMeans bytes (faulty limit k)
 Refuses bytes NoMemory = Unit {0}
 
 -- the answer to a text that means this, unless memory ran out

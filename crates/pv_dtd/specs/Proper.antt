@@ -1,7 +1,8 @@
 -- What the laws ask of a DTD; every DTD of the program has it.
 use Rattle.std.specs.Prelude.{IsTrue, length, ◌≢◌, ◌≤◌}
 use Rattle.std.specs.List.{AllByRecursion}
-use Rattle.pv_model.specs.Plain.{PlainModel, PlainPart, PlainParts, any, children, choice, empty, mixed, name, no_parts, opt, part, plus, seq, star}
+use Rattle.pv_model.specs.Plain.{PlainModel, PlainPart, PlainParts, any, children, choice, empty}
+use Rattle.pv_model.specs.Plain.{mixed, name, no_parts, opt, part, plus, seq, star}
 use Rattle.pv_dtd.specs.Facts.{are_distinct}
 use Rattle.pv_dtd.specs.Plain.{PlainDtd, declared}
 
@@ -25,7 +26,8 @@ IsFullModel any = Unit {0}
 IsFullModel (mixed ys) = Unit {0}
 IsFullModel (children p) = IsFull p
 
--- the names differ, the declared ones come first, and each sequence of a content model has a member
+-- the names differ, the declared ones come first, and each sequence of a content model has a
+-- member
 pub record IsProperDtd (g : PlainDtd) : Type 0 where
   pub distinct : IsTrue (are_distinct g.names)
   pub named : declared g ≤ length g.names

@@ -1,15 +1,19 @@
 -- What the items of a text leave, and what the reader of items answers.
-use Rattle.std.specs.Prelude.{◌≡◌, ◌⊎◌, ◌≤◌, ℕ, true, false, List, [], ◌∷◌, length, Result, Ok, Err}
+use Rattle.std.specs.Prelude.{◌≡◌, ◌⊎◌, ◌≤◌, ℕ, true, false, List, [], ◌∷◌, length, Result, Ok}
+use Rattle.std.specs.Prelude.{Err}
 use Rattle.std.specs.List.{list_any}
 use Rattle.pv_dtd.specs.Plain.{PlainDtd}
 use Rattle.pv_dtd.specs.Facts.{are_distinct, MAX_TYPES, MAX_PARTS, MAX_NESTING}
-use Rattle.pv_dtd.specs.Items.{NamedModel, empty, any, mixed, children, Item, text_declaration, element, skipped, comment, instruction, declared_by, declared_in, models_in, mentioned_by, listed_by, parts_of_models}
+use Rattle.pv_dtd.specs.Items.{NamedModel, empty, any, mixed, children, Item, text_declaration}
+use Rattle.pv_dtd.specs.Items.{element, skipped, comment, instruction, declared_by, declared_in}
+use Rattle.pv_dtd.specs.Items.{models_in, mentioned_by, listed_by, parts_of_models}
 use Rattle.pv_dtd.specs.Spelling.{Spells, nesting_of}
 use Rattle.pv_dtd.specs.Numbering.{dtd_of_items}
 use Rattle.pv_dtd.specs.Kinds.{parameter, nesting, syntax, twice, mixed_twice, limit, is_too_long}
-use Rattle.pv_dtd.specs.Meaning.{is_dtd, faulty, Means}
+use Rattle.pv_dtd.specs.Meaning.{is_dtd, faulty, DtdRestMeans}
 use Rattle.pv_dtd.specs.declared.errors.DtdError.{DtdError}
-use Rattle.pv_dtd.specs.declared.errors.DtdError.TheVariants.{Syntax, Twice, MixedTwice, Parameter, Limit, NoMemory}
+use Rattle.pv_dtd.specs.declared.errors.DtdError.TheVariants.{Syntax, Twice, MixedTwice, Parameter}
+use Rattle.pv_dtd.specs.declared.errors.DtdError.TheVariants.{Limit, NoMemory}
 
 -- no group in the model stands too deep
 abbrev pub IsShallow : NamedModel → Type 0
@@ -46,7 +50,8 @@ pub record AreRuled (items : List Item) : Type 0 where
   pub few_parts : parts_of_models (models_in items) ≤ MAX_PARTS
 
 -- These are the names, the models and the number of parts that items declare.
-pub record Declares (names : List (List ℕ)) (models : List NamedModel) (parts : ℕ) (items : List Item) : Type 0 where
+pub record Declares (names : List (List ℕ)) (models : List NamedModel) (parts : ℕ)
+    (items : List Item) : Type 0 where
   pub ruled : AreRuled items
   pub names_are : names ≡ declared_in items
   pub models_are : models ≡ models_in items
@@ -58,14 +63,17 @@ IsOfItems g = (items : List Item) × AreRuled items × (g ≡ dtd_of_items items
 
 -- what a refusal other than want of memory says of the rest
 abbrev pub TellsFault : List ℕ → DtdError → Type 0
-TellsFault rest (Syntax k) = Means [] rest (faulty syntax k)
-TellsFault rest (Twice k) = Means [] rest (faulty twice k)
-TellsFault rest (MixedTwice k) = Means [] rest (faulty mixed_twice k)
-TellsFault rest (Parameter k) = Means [] rest (faulty parameter k)
-TellsFault rest (Limit k) = Means [] rest (faulty nesting k) ⊎ Means [] rest (faulty limit k)
+TellsFault rest (Syntax k) = DtdRestMeans [] rest (faulty syntax k)
+TellsFault rest (Twice k) = DtdRestMeans [] rest (faulty twice k)
+TellsFault rest (MixedTwice k) = DtdRestMeans [] rest (faulty mixed_twice k)
+TellsFault rest (Parameter k) = DtdRestMeans [] rest (faulty parameter k)
+TellsFault rest (Limit k) =
+    DtdRestMeans [] rest (faulty nesting k) ⊎ DtdRestMeans [] rest (faulty limit k)
 TellsFault rest NoMemory = Unit {0}
 
--- What a reader answers is what the rest means, unless memory ran out: where it is a DTD, what was read holds its items.
+-- What a reader answers is what the rest means, unless memory ran out: where it is a DTD, what was
+-- read holds its items.
 abbrev pub Tells : {X : Type 0} → (X → List Item → Type 0) → List ℕ → Result X DtdError → Type 0
-Tells Holds rest (Ok x) = (items : List Item) × Means [] rest (is_dtd (dtd_of_items items)) × Holds x items
+Tells Holds rest (Ok x) =
+    (items : List Item) × DtdRestMeans [] rest (is_dtd (dtd_of_items items)) × Holds x items
 Tells Holds rest (Err e) = TellsFault rest e

@@ -1,12 +1,16 @@
--- How the items of a DTD text are spelled (XML 1.0, sections 2.5, 2.6, 3.2, 3.3, 4.2, 4.3.1 and 4.7).
-use Rattle.std.specs.Prelude.{◌≡◌, ◌≤◌, ℕ, suc, max, ◌⊎◌, ◌==◌, not, nat_eq, Bool, true, false, List, [], ◌∷◌, ◌++◌, codes, IsTrue}
-use Rattle.std.specs.List.{list_all, list_any}
+-- How the items of a DTD text are spelled (XML 1.0, sections 2.5, 2.6, 3.2, 3.3, 4.2, 4.3.1 and
+-- 4.7).
+use Rattle.std.specs.Prelude.{◌≡◌, ◌≤◌, ℕ, suc, max, ◌⊎◌, ◌==◌, not, Bool, true, false}
+use Rattle.std.specs.Prelude.{List, [], ◌∷◌, ◌++◌, codes, IsTrue}
+use Rattle.std.specs.List.{list_all}
 use Rattle.pv_chars.specs.Spaces.{IsSpace, IsOptionalSpace}
 use Rattle.pv_chars.specs.Characters.{IsChars}
 use Rattle.pv_chars.specs.Names.{IsName}
 use Rattle.pv_chars.specs.Markup.{IsComment, IsInstruction}
-use Rattle.pv_chars.specs.Declarations.{is_quote, IsTextDecl}
-use Rattle.pv_dtd.specs.Items.{NamedPart, name, seq, choice, opt, star, plus, NamedParts, no_parts, part, NamedModel, empty, any, mixed, children, Item, text_declaration, element, skipped, comment, instruction}
+use Rattle.pv_chars.specs.Declarations.{is_quote, is_one_of, IsTextDecl}
+use Rattle.pv_dtd.specs.Items.{NamedPart, name, seq, choice, opt, star, plus, NamedParts, no_parts}
+use Rattle.pv_dtd.specs.Items.{part, NamedModel, empty, any, mixed, children, Item}
+use Rattle.pv_dtd.specs.Items.{text_declaration, element, skipped, comment, instruction}
 
 -- a particle that may carry `?`, `*` or `+`: a name, a choice or a sequence
 abbrev pub IsBare : NamedPart → Type 0
@@ -41,16 +45,20 @@ abbrev mutual
   SpellsPart (name n) text = IsName n × (text ≡ n)
   SpellsPart (seq ps) text = SpellsGroup (codes ",") ps text
   SpellsPart (choice ps) text = (2 ≤ member_count ps) × SpellsGroup (codes "|") ps text
-  SpellsPart (opt p) text = (inner : List ℕ) × IsBare p × SpellsPart p inner × (text ≡ inner ++ codes "?")
-  SpellsPart (star p) text = (inner : List ℕ) × IsBare p × SpellsPart p inner × (text ≡ inner ++ codes "*")
-  SpellsPart (plus p) text = (inner : List ℕ) × IsBare p × SpellsPart p inner × (text ≡ inner ++ codes "+")
+  SpellsPart (opt p) text =
+      (inner : List ℕ) × IsBare p × SpellsPart p inner × (text ≡ inner ++ codes "?")
+  SpellsPart (star p) text =
+      (inner : List ℕ) × IsBare p × SpellsPart p inner × (text ≡ inner ++ codes "*")
+  SpellsPart (plus p) text =
+      (inner : List ℕ) × IsBare p × SpellsPart p inner × (text ≡ inner ++ codes "+")
 
   -- '(' S? cp (S? separator S? cp)* S? ')'
   pub SpellsGroup : List ℕ → NamedParts → List ℕ → Type 0
   SpellsGroup separator no_parts text = ⊥
   SpellsGroup separator (part p ps) text =
       (before : List ℕ) × (first : List ℕ) × (others : List ℕ) × (after : List ℕ) ×
-      IsOptionalSpace before × SpellsPart p first × SpellsOthers separator ps others × IsOptionalSpace after ×
+      IsOptionalSpace before × SpellsPart p first × SpellsOthers separator ps others ×
+      IsOptionalSpace after ×
       (text ≡ codes "(" ++ before ++ first ++ others ++ after ++ codes ")")
 
   -- (S? separator S? cp)*
@@ -58,7 +66,8 @@ abbrev mutual
   SpellsOthers separator no_parts text = text ≡ []
   SpellsOthers separator (part p ps) text =
       (before : List ℕ) × (after : List ℕ) × (next : List ℕ) × (others : List ℕ) ×
-      IsOptionalSpace before × IsOptionalSpace after × SpellsPart p next × SpellsOthers separator ps others ×
+      IsOptionalSpace before × IsOptionalSpace after × SpellsPart p next ×
+      SpellsOthers separator ps others ×
       (text ≡ before ++ separator ++ after ++ next ++ others)
 
 -- a choice or a sequence, with or without an operator
@@ -92,7 +101,8 @@ pub record SpellsMixed (names : List (List ℕ)) (end text : List ℕ) : Type 0 
 abbrev pub SpellsModel : NamedModel → List ℕ → Type 0
 SpellsModel empty text = text ≡ codes "EMPTY"
 SpellsModel any text = text ≡ codes "ANY"
-SpellsModel (mixed names) text = SpellsMixed names (codes ")*") text ⊎ ((names ≡ []) × SpellsMixed names (codes ")") text)
+SpellsModel (mixed names) text =
+    SpellsMixed names (codes ")*") text ⊎ ((names ≡ []) × SpellsMixed names (codes ")") text)
 SpellsModel (children p) text = IsGroup p × SpellsPart p text
 
 -- elementdecl: '<!ELEMENT' S Name S contentspec S? '>'
@@ -106,9 +116,11 @@ pub record SpellsElement (name : List ℕ) (model : NamedModel) (text : List ℕ
   pub space_before_spec : IsSpace before_spec
   pub is_spec : SpellsModel model spec
   pub space_after : IsOptionalSpace after
-  pub whole : text ≡ codes "<!ELEMENT" ++ before_name ++ name ++ before_spec ++ spec ++ after ++ codes ">"
+  pub whole : text ≡ codes "<!ELEMENT" ++ before_name ++ name ++ before_spec ++ spec ++ after ++
+      codes ">"
 
--- Bytes other than quotes and the ones that stop, and literals in quotes, which hold any bytes but their quote.
+-- Bytes other than quotes and the ones that stop, and literals in quotes, which hold any bytes but
+-- their quote.
 pub data IsQuotedText (stops : ℕ → Bool) : List ℕ → Type 0 where
   nothing : {text : List ℕ} → text ≡ [] → IsQuotedText stops text
   byte : {text : List ℕ} (b : ℕ) (more : List ℕ) → is_quote b ≡ false → stops b ≡ false →
@@ -116,9 +128,6 @@ pub data IsQuotedText (stops : ℕ → Bool) : List ℕ → Type 0 where
   literal : {text : List ℕ} (quote : ℕ) (inner more : List ℕ) → is_quote quote ≡ true →
       IsTrue (list_all (λ b. not (b == quote)) inner) → IsQuotedText stops more →
       text ≡ quote ∷ (inner ++ quote ∷ more) → IsQuotedText stops text
-
-abbrev pub is_one_of : List ℕ → ℕ → Bool
-is_one_of bytes b = list_any (nat_eq b) bytes
 
 -- what ends a declaration or refers to a parameter entity
 abbrev pub ends_or_refers : ℕ → Bool
@@ -130,7 +139,8 @@ may_not_be_skipped = is_one_of (codes ">%<")
 
 -- the words of the declarations that are skipped
 abbrev pub IsSkippedWord : List ℕ → Type 0
-IsSkippedWord word = (word ≡ codes "<!ATTLIST") ⊎ (word ≡ codes "<!ENTITY") ⊎ (word ≡ codes "<!NOTATION")
+IsSkippedWord word =
+    (word ≡ codes "<!ATTLIST") ⊎ (word ≡ codes "<!ENTITY") ⊎ (word ≡ codes "<!NOTATION")
 
 -- A skipped declaration: one of the words, S, Chars and literals in quotes, '>'.
 pub record SpellsSkipped (text : List ℕ) : Type 0 where

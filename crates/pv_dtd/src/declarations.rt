@@ -1,53 +1,27 @@
-//! Reads items: element declarations, skipped declarations, comments, processing instructions and the text declaration.
+//! Reads items: element declarations, skipped declarations, comments, processing instructions and
+//! the text declaration.
 
 ghost use Rattle.std.specs.Prelude.{◌≡◌, ◌≤◌, ◌<◌, length, IfOk, IfSome};
 ghost use Rattle.std.specs.Option.{option_map};
-ghost use Rattle.pv_dtd.specs.CharReading.{comment_at, instruction_at, text_declaration_at, is_chars};
-ghost use Rattle.pv_dtd.specs.ItemReading.{element_at, skipped_word, behind_chars, skipped_at, front_at, item_at};
+ghost use Rattle.pv_dtd.specs.ItemReading.{element_at, skipped_word, behind_chars, skipped_at};
+ghost use Rattle.pv_dtd.specs.ItemReading.{front_at, item_at};
 ghost use Rattle.pv_dtd.specs.NamedForms.{named_item};
 
-use crate::fronts::{after_stop, after_white, name_at};
+use crate::fronts::{after_stop, after_white};
 use crate::items::SpelledItem;
 use crate::models::model_at;
-use pv_chars::declarations::after_text_decl;
-use pv_chars::markup::{after_comment, after_instruction};
+use pv_chars::NoMemory;
+use pv_chars::char_reading::{comment_at, instruction_at, is_chars, name_at, text_declaration_at};
 use pv_chars::scan::{after_blank, after_bytes, after_space};
-use pv_chars::{NoMemory, are_chars};
 use std::alloc::Global;
-
-fn comment_at(bytes: &[u8]) -> Option<&[u8]>
-    ensures read { option_map (λ r. r.now) result ≡ comment_at bytes.now }
-    ensures within { IfSome result (λ r. length r.now < length bytes.now) }
-{
-    after_comment(bytes)
-}
-
-fn instruction_at(bytes: &[u8]) -> Option<&[u8]>
-    ensures read { option_map (λ r. r.now) result ≡ instruction_at bytes.now }
-    ensures within { IfSome result (λ r. length r.now < length bytes.now) }
-{
-    after_instruction(bytes)
-}
-
-fn text_declaration_at(bytes: &[u8]) -> Option<&[u8]>
-    ensures read { option_map (λ r. r.now) result ≡ text_declaration_at bytes.now }
-    ensures within { IfSome result (λ r. length r.now < length bytes.now) }
-{
-    after_text_decl(bytes)
-}
-
-fn is_chars(bytes: &[u8]) -> bool
-    ensures { result ≡ is_chars bytes.now }
-{
-    are_chars(bytes)
-}
 
 #[tactic(auto, unfolding(crate::specs::ItemReading::element_at))]
 fn element_at<'a>(
     alloc: Global,
     bytes: &'a [u8],
 ) -> Result<Option<(SpelledItem<'a>, &'a [u8])>, NoMemory>
-    ensures read { IfOk result (λ o. option_map (λ r. (named_item r.0, r.1.now)) o ≡ element_at bytes.now) }
+    ensures read { IfOk result
+        (λ o. option_map (λ r. (named_item r.0, r.1.now)) o ≡ element_at bytes.now) }
     ensures within { IfOk result (λ o. IfSome o (λ r. length r.1.now < length bytes.now)) }
 {
     let Some(blank) = after_bytes(b"<!ELEMENT", bytes) else {
@@ -116,14 +90,16 @@ fn front_at(front: bool, bytes: &[u8]) -> Option<&[u8]>
     }
 }
 
-/// The item in front, and what stands behind it. A text declaration is one where this is the front of the text.
+/// The item in front, and what stands behind it. A text declaration is one where this is the front
+/// of the text.
 #[tactic(auto, unfolding(crate::specs::ItemReading::item_at, crate::specs::ItemReading::read_as, crate::specs::ItemReading::or_else))]
 pub fn item_at<'a>(
     alloc: Global,
     front: bool,
     bytes: &'a [u8],
 ) -> Result<Option<(SpelledItem<'a>, &'a [u8])>, NoMemory>
-    ensures read { IfOk result (λ o. option_map (λ r. (named_item r.0, r.1.now)) o ≡ item_at front bytes.now) }
+    ensures read { IfOk result
+        (λ o. option_map (λ r. (named_item r.0, r.1.now)) o ≡ item_at front bytes.now) }
     ensures within { IfOk result (λ o. IfSome o (λ r. length r.1.now < length bytes.now)) }
 {
     if let Some(rest) = front_at(front, bytes) {

@@ -3,13 +3,15 @@
 ghost use Rattle.std.specs.Prelude.{◌≡◌, ◌≤◌, ◌+◌, IsTrue, length};
 ghost use Rattle.std.specs.List.{list_all};
 ghost use Rattle.pv_dtd.specs.Plain.{parts_in_models};
-ghost use Rattle.pv_dtd.specs.Facts.{dtd_of, are_names, AreLegal, are_known, are_mentioned, is_formed_model, MAX_TYPES, MAX_PARTS};
+ghost use Rattle.pv_dtd.specs.Facts.{dtd_of, are_names, AreLegal, are_known, are_mentioned};
+ghost use Rattle.pv_dtd.specs.Facts.{is_formed_model, MAX_TYPES, MAX_PARTS};
 
 use crate::names::NameTable;
 use indexmap::IndexSet;
 use pv_model::{ContentModel, NameId};
 
-/// Names and content models. The declared names come first, in order of declaration, and then those that are only mentioned.
+/// Names and content models. The declared names come first, in order of declaration, and then
+/// those that are only mentioned.
 #[derive(Debug, Drop)]
 pub struct Dtd {
     names: IndexSet<Vec<u8>>,
@@ -37,9 +39,13 @@ impl Dtd {
 
     // The DTD of these names and models, with so many parts.
     pub(crate) fn of(names: NameTable, models: Vec<ContentModel>, parts: u32) -> Dtd
-        requires items { IsOfItems (record { names = names; models = map plain_model models.items }) }
+        requires items { IsOfItems (record {
+          names = names;
+          models = map plain_model models.items;
+        }) }
         requires counted { parts ≡ parts_in_models (map plain_model models.items) }
-        ensures { plain_dtd result ≡ record { names = names; models = map plain_model models.items } }
+        ensures { plain_dtd result ≡
+            record { names = names; models = map plain_model models.items } }
     {
         Dtd {
             names: names.into_set(),
@@ -62,7 +68,8 @@ impl Dtd {
         self.names.len() as u32
     }
 
-    /// The number of parts of all content models: nodes of content particles, and names listed in mixed models.
+    /// The number of parts of all content models: nodes of content particles, and names listed in
+    /// mixed models.
     pub fn parts(&self) -> u32
         ensures { result ≡ parts_in_models (plain_dtd self.now).models }
     {
@@ -71,14 +78,16 @@ impl Dtd {
 
     /// The number of parts and names.
     pub fn columns(&self) -> u32
-        ensures { result ≡ parts_in_models (plain_dtd self.now).models + length (plain_dtd self.now).names }
+        ensures { result ≡
+            parts_in_models (plain_dtd self.now).models + length (plain_dtd self.now).names }
     {
         self.parts + self.names.len() as u32
     }
 
     /// The number of a name.
     pub fn name_id(&self, name: &[u8]) -> Option<NameId>
-        ensures { option_map (λ (id : NameId). id.0) result ≡ number_of (plain_dtd self.now) name.now }
+        ensures { option_map (λ (id : NameId). id.0) result ≡
+            number_of (plain_dtd self.now) name.now }
     {
         match self.names.get_index_of(name) {
             Some(place) => Some(NameId(place as u32)),
@@ -100,7 +109,8 @@ impl Dtd {
     /// The content model of a name, where it is declared.
     pub fn model_of(&self, id: NameId) -> Option<&ContentModel>
         requires { id.0 < length (plain_dtd self.now).names }
-        ensures { option_map plain_model (option_copied result) ≡ model_of (plain_dtd self.now) id.0 }
+        ensures { option_map plain_model (option_copied result) ≡
+            model_of (plain_dtd self.now) id.0 }
     {
         self.models.get(id.0 as usize)
     }

@@ -7,7 +7,8 @@ use pv_chars::NoMemory;
 use std::alloc::{AllocError, AllocFailed};
 use thiserror::Error;
 
-/// Why there is no DTD: the first item in fault, by its kind and the number of whole items before it, or want of memory.
+/// Why there is no DTD: the first item in fault, by its kind and the number of whole items before
+/// it, or want of memory.
 #[derive(Debug, Drop, Error)]
 pub enum DtdError {
     /// No item stands there.
@@ -19,11 +20,13 @@ pub enum DtdError {
     /// The item lists a name twice in a mixed model.
     #[error("item {0} lists a name twice")]
     MixedTwice(u64),
-    /// A reference of a parameter entity or a conditional section stands there, or a declaration with a `%` outside quotes.
+    /// A reference of a parameter entity or a conditional section stands there, or a declaration
+    /// with a `%` outside quotes.
     #[error("item {0} refers to a parameter entity")]
     Parameter(u64),
-    /// More than 64 parentheses are open, a name is longer than 256 bytes, or there are more than 4,096 declared names or 65,536
-    /// parts; of a text of more than 4,194,304 bytes the number is 0.
+    /// More than 64 parentheses are open, a name is longer than 256 bytes, or there are more than
+    /// 4,096 declared names or 65,536 parts; of a text of more than 4,194,304 bytes the number is
+    /// 0.
     #[error("item {0} passes a limit")]
     Limit(u64),
     /// There was too little memory to go on, and nothing is known of the bytes.

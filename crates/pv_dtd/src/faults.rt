@@ -1,15 +1,15 @@
-//! Faults that are found before an item is read: references of parameter entities, and parentheses that are open too deep.
+//! Faults that are found before an item is read: references of parameter entities, and too many
+//! open parentheses.
 
 ghost use Rattle.std.specs.Prelude.{◌≡◌, is_some};
 ghost use Rattle.std.specs.Option.{option_map};
-ghost use Rattle.pv_dtd.specs.ItemReading.{declaration_word, inner_parameter_at, parameter_at, opens_too_many, is_too_deep};
+ghost use Rattle.pv_dtd.specs.ItemReading.{declaration_word, inner_parameter_at, parameter_at};
+ghost use Rattle.pv_dtd.specs.ItemReading.{opens_too_many, is_too_deep};
 
 use crate::declarations::skipped_word;
 use crate::fronts::after_stop;
+use crate::models::MAX_NESTING;
 use pv_chars::scan::after_bytes;
-
-/// How many parentheses may be open in an element declaration, and so how many groups may stand one inside another.
-pub const MAX_NESTING: usize = 64;
 
 // What stands behind the word of a declaration.
 #[tactic(auto, unfolding(crate::specs::ItemReading::declaration_word, crate::specs::ItemReading::or_else))]
@@ -27,7 +27,8 @@ fn inner_parameter_at(bytes: &[u8]) -> Option<&[u8]>
     after_stop(b'%', b">%", inside)
 }
 
-/// Whether a reference of a parameter entity or a conditional section stands in front, or a `%` outside quotes in a declaration.
+/// Whether a reference of a parameter entity or a conditional section stands in front, or a `%`
+/// outside quotes in a declaration.
 #[tactic(auto, unfolding(crate::specs::ItemReading::parameter_at, crate::specs::ItemReading::or_else))]
 pub fn has_parameter(place: &[u8]) -> bool
     ensures { result ≡ is_some (parameter_at place.now) }
@@ -58,7 +59,8 @@ fn opens_too_many(bytes: &[u8]) -> bool
     opened > closed + MAX_NESTING
 }
 
-/// Whether an element declaration's word stands in front, and more than 64 parentheses are open somewhere before its first `>`.
+/// Whether an element declaration's word stands in front, and more than 64 parentheses are open
+/// somewhere before its first `>`.
 #[tactic(auto, unfolding(crate::specs::ItemReading::is_too_deep))]
 pub fn is_too_deep(place: &[u8]) -> bool
     ensures { result ≡ is_too_deep place.now }

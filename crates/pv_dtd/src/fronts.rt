@@ -1,21 +1,12 @@
-//! What stands at the front of a text: names, and what stands outside quotes.
+//! What stands at the front of a text outside quotes.
 
 ghost use Rattle.std.specs.Prelude.{◌≡◌, ◌≤◌, ◌<◌, None, length, IfSome};
 ghost use Rattle.std.specs.Option.{option_map};
-ghost use Rattle.pv_chars.specs.Declarations.{is_quote};
-ghost use Rattle.pv_dtd.specs.Spelling.{is_one_of};
-ghost use Rattle.pv_dtd.specs.CharReading.{name_at};
+ghost use Rattle.pv_chars.specs.Declarations.{is_quote, is_one_of};
 ghost use Rattle.pv_dtd.specs.ItemReading.{stop_at, after_stop, after_white};
 
+use pv_chars::char_reading::is_one_of;
 use pv_chars::scan::is_space;
-
-/// The longest name at the front, and what stands after it.
-pub fn name_at(bytes: &[u8]) -> Option<(&[u8], &[u8])>
-    ensures name { option_map (λ r. (r.0.now, r.1.now)) result ≡ name_at bytes.now }
-    ensures within { IfSome result (λ r. length r.1.now < length bytes.now) }
-{
-    pv_chars::name_at(bytes)
-}
 
 fn is_quote(b: u8) -> bool
     ensures { result ≡ is_quote b }
@@ -23,20 +14,10 @@ fn is_quote(b: u8) -> bool
     b == b'"' || b == b'\''
 }
 
-fn is_one_of(bytes: &[u8], b: u8) -> bool
-    ensures { result ≡ is_one_of bytes.now b }
-{
-    for other in bytes {
-        if b == *other {
-            return true;
-        }
-    }
-    false
-}
-
 // The first byte outside quotes that is one of these, and what stands after it.
 fn stop_at<'a>(stops: &[u8], bytes: &'a [u8]) -> Option<(u8, &'a [u8])>
-    ensures stop { option_map (λ r. (r.0, r.1.now)) result ≡ stop_at (is_one_of stops.now) None bytes.now }
+    ensures stop { option_map (λ r. (r.0, r.1.now)) result ≡
+        stop_at (is_one_of stops.now) None bytes.now }
     ensures within { IfSome result (λ r. length r.1.now < length bytes.now) }
 {
     let mut quote = None;

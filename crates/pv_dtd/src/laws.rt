@@ -11,7 +11,8 @@ pub fn one_meaning_law()
     ensures { OneMeaning }
 {}
 
-/// A text means a DTD exactly where, by XML's productions and limits aside, it is a text of this DTD, and the limits hold.
+/// A text means a DTD exactly where, by XML's productions and limits aside, it is a text of this
+/// DTD, and the limits hold.
 pub fn dtd_text_law()
     ensures { MeansDtd }
 {}

@@ -3,23 +3,29 @@
 ghost use Rattle.std.specs.Prelude.{◌≡◌, ◌≤◌, suc, codes, length, map, IfOk, IfSome};
 ghost use Rattle.std.specs.Option.{option_map};
 ghost use Rattle.pv_chars.specs.Scan.{after_bytes};
-ghost use Rattle.pv_dtd.specs.ItemReading.{listed_at, after_end, mixed_at, children_at, group_model_at, model_at};
+ghost use Rattle.pv_dtd.specs.ItemReading.{listed_at, after_end, mixed_at, children_at};
+ghost use Rattle.pv_dtd.specs.ItemReading.{group_model_at, model_at};
 ghost use Rattle.pv_dtd.specs.NamedForms.{named_model};
 
-use crate::faults::MAX_NESTING;
-use crate::fronts::name_at;
 use crate::items::SpelledModel;
 use crate::particles::particle_at;
 use pv_chars::NoMemory;
+use pv_chars::char_reading::name_at;
 use pv_chars::scan::{after_bytes, after_space};
 use std::alloc::Global;
+
+/// How many parentheses may be open in an element declaration, and so how many groups may stand
+/// one inside another.
+pub const MAX_NESTING: usize = 64;
 
 // The names that are listed behind `#PCDATA`, and what stands behind them and space.
 fn listed_at<'a>(
     alloc: Global,
     bytes: &'a [u8],
 ) -> Result<Option<(Vec<&'a [u8]>, &'a [u8])>, NoMemory>
-    ensures read { IfOk result (λ o. option_map (λ r. (map (λ n. n.now) r.0.items, r.1.now)) o ≡ listed_at (suc (length bytes.now)) bytes.now) }
+    ensures read { IfOk result
+        (λ o. option_map (λ r. (map (λ n. n.now) r.0.items, r.1.now)) o ≡
+        listed_at (suc (length bytes.now)) bytes.now) }
     ensures within { IfOk result (λ o. IfSome o (λ r. length r.1.now ≤ length bytes.now)) }
 {
     let mut names: Vec<&'a [u8]> = Vec::new(alloc);
@@ -39,7 +45,8 @@ fn listed_at<'a>(
 
 // What stands behind the `)` or `)*` of a model that lists these names.
 fn after_end<'a>(names: &[&[u8]], close: &'a [u8]) -> Option<&'a [u8]>
-    ensures end { option_map (λ r. r.now) result ≡ after_end (map (λ n. n.now) names.now) close.now (after_bytes (codes "*") close.now) }
+    ensures end { option_map (λ r. r.now) result ≡
+        after_end (map (λ n. n.now) names.now) close.now (after_bytes (codes "*") close.now) }
     ensures within { IfSome result (λ r. length r.now ≤ length close.now) }
 {
     match after_bytes(b"*", close) {
@@ -55,7 +62,8 @@ fn mixed_at<'a>(
     alloc: Global,
     bytes: &'a [u8],
 ) -> Result<Option<(SpelledModel<'a>, &'a [u8])>, NoMemory>
-    ensures read { IfOk result (λ o. option_map (λ r. (named_model r.0, r.1.now)) o ≡ mixed_at bytes.now) }
+    ensures read { IfOk result
+        (λ o. option_map (λ r. (named_model r.0, r.1.now)) o ≡ mixed_at bytes.now) }
     ensures within { IfOk result (λ o. IfSome o (λ r. length r.1.now ≤ length bytes.now)) }
 {
     let Some((names, place)) = listed_at(alloc, bytes)? else {
@@ -75,7 +83,8 @@ fn children_at<'a>(
     alloc: Global,
     bytes: &'a [u8],
 ) -> Result<Option<(SpelledModel<'a>, &'a [u8])>, NoMemory>
-    ensures read { IfOk result (λ o. option_map (λ r. (named_model r.0, r.1.now)) o ≡ children_at bytes.now) }
+    ensures read { IfOk result
+        (λ o. option_map (λ r. (named_model r.0, r.1.now)) o ≡ children_at bytes.now) }
     ensures within { IfOk result (λ o. IfSome o (λ r. length r.1.now ≤ length bytes.now)) }
 {
     let Some((part, rest)) = particle_at(alloc, bytes, MAX_NESTING)? else {
@@ -90,7 +99,8 @@ fn group_model_at<'a>(
     alloc: Global,
     bytes: &'a [u8],
 ) -> Result<Option<(SpelledModel<'a>, &'a [u8])>, NoMemory>
-    ensures read { IfOk result (λ o. option_map (λ r. (named_model r.0, r.1.now)) o ≡ group_model_at bytes.now) }
+    ensures read { IfOk result
+        (λ o. option_map (λ r. (named_model r.0, r.1.now)) o ≡ group_model_at bytes.now) }
     ensures within { IfOk result (λ o. IfSome o (λ r. length r.1.now ≤ length bytes.now)) }
 {
     let Some(inside) = after_bytes(b"(", bytes) else {
@@ -108,7 +118,8 @@ pub fn model_at<'a>(
     alloc: Global,
     bytes: &'a [u8],
 ) -> Result<Option<(SpelledModel<'a>, &'a [u8])>, NoMemory>
-    ensures read { IfOk result (λ o. option_map (λ r. (named_model r.0, r.1.now)) o ≡ model_at bytes.now) }
+    ensures read { IfOk result
+        (λ o. option_map (λ r. (named_model r.0, r.1.now)) o ≡ model_at bytes.now) }
     ensures within { IfOk result (λ o. IfSome o (λ r. length r.1.now ≤ length bytes.now)) }
 {
     if let Some(rest) = after_bytes(b"EMPTY", bytes) {

@@ -56,7 +56,8 @@ impl NameTable {
         self.set.contains(name)
     }
 
-    /// The number of a name, which is added where it is new. `NoMemory` also where there are more names than numbers.
+    /// The number of a name, which is added where it is new. `NoMemory` also where there are more
+    /// names than numbers.
     pub fn number(&mut self, alloc: Global, name: &[u8]) -> Result<NameId, NoMemory>
         ensures number { IfOk result (λ id. id.0 ≡ number_in self.old name.now) }
         ensures names { OnOk result (self.new ≡ with_name self.old name.now) }

@@ -4,7 +4,8 @@ ghost use Rattle.std.specs.Prelude.{◌≡◌, map, IfOk, OnOk};
 ghost use Rattle.pv_model.specs.PlainForms.{numbers_of, plain_part, plain_parts, plain_model};
 ghost use Rattle.pv_dtd.specs.Items.{spelled_in, spelled_in_all, spelled_in_model, mentioned_in};
 ghost use Rattle.pv_dtd.specs.NamedForms.{named_part, named_parts, named_model};
-ghost use Rattle.pv_dtd.specs.Naming.{with_names, NumbersNames, NumbersPart, NumbersParts, NumbersModel, NumbersModels};
+ghost use Rattle.pv_dtd.specs.Naming.{with_names, NumbersNames, NumbersPart, NumbersParts};
+ghost use Rattle.pv_dtd.specs.Naming.{NumbersModel, NumbersModels};
 
 use crate::items::{SpelledModel, SpelledPart};
 use crate::names::NameTable;
@@ -19,7 +20,8 @@ fn numbers_of(
     listed: &[&[u8]],
 ) -> Result<Vec<NameId>, NoMemory>
     ensures names { OnOk result (names.new ≡ with_names names.old (map (λ n. n.now) listed.now)) }
-    ensures numbers { IfOk result (λ v. NumbersNames names.new (map (λ n. n.now) listed.now) (numbers_of v.items)) }
+    ensures numbers { IfOk result
+        (λ v. NumbersNames names.new (map (λ n. n.now) listed.now) (numbers_of v.items)) }
 {
     let mut numbers: Vec<NameId> = Vec::new(alloc);
     for name in listed {
@@ -31,8 +33,10 @@ fn numbers_of(
 // A particle with numbers for names.
 #[cycle(numbering)]
 fn part_of(alloc: Global, names: &mut NameTable, part: &SpelledPart) -> Result<Part, NoMemory>
-    ensures names { OnOk result (names.new ≡ with_names names.old (spelled_in (named_part part.now))) }
-    ensures numbers { IfOk result (λ q. NumbersPart names.new (named_part part.now) (plain_part q)) }
+    ensures names { OnOk result (names.new
+        ≡ with_names names.old (spelled_in (named_part part.now))) }
+    ensures numbers { IfOk result
+        (λ q. NumbersPart names.new (named_part part.now) (plain_part q)) }
 {
     match part {
         SpelledPart::Name(name) => Ok(Part::Name(names.number(alloc, name)?)),
@@ -52,8 +56,10 @@ fn parts_of(
     names: &mut NameTable,
     members: &[SpelledPart],
 ) -> Result<Parts, NoMemory>
-    ensures names { OnOk result (names.new ≡ with_names names.old (spelled_in_all (named_parts members.now))) }
-    ensures numbers { IfOk result (λ qs. NumbersParts names.new (named_parts members.now) (plain_parts qs.items)) }
+    ensures names { OnOk result (names.new
+        ≡ with_names names.old (spelled_in_all (named_parts members.now))) }
+    ensures numbers { IfOk result
+        (λ qs. NumbersParts names.new (named_parts members.now) (plain_parts qs.items)) }
 {
     let mut parts: Parts = Vec::new(alloc);
     for member in members {
@@ -67,8 +73,10 @@ fn model_of(
     names: &mut NameTable,
     model: &SpelledModel,
 ) -> Result<ContentModel, NoMemory>
-    ensures names { OnOk result (names.new ≡ with_names names.old (spelled_in_model (named_model model.now))) }
-    ensures numbers { IfOk result (λ m. NumbersModel names.new (named_model model.now) (plain_model m)) }
+    ensures names { OnOk result (names.new
+        ≡ with_names names.old (spelled_in_model (named_model model.now))) }
+    ensures numbers { IfOk result
+        (λ m. NumbersModel names.new (named_model model.now) (plain_model m)) }
 {
     match model {
         SpelledModel::Empty => Ok(ContentModel::Empty),
@@ -84,14 +92,17 @@ fn model_of(
     }
 }
 
-/// The models with numbers for names. Names that are new are added in the order in which the models mention them.
+/// The models with numbers for names. Names that are new are added in the order in which the
+/// models mention them.
 pub fn models_of(
     alloc: Global,
     names: &mut NameTable,
     spelled: &[SpelledModel],
 ) -> Result<Vec<ContentModel>, NoMemory>
-    ensures names { OnOk result (names.new ≡ with_names names.old (mentioned_in (map named_model spelled.now))) }
-    ensures numbers { IfOk result (λ v. NumbersModels names.new (map named_model spelled.now) (map plain_model v.items)) }
+    ensures names { OnOk result
+        (names.new ≡ with_names names.old (mentioned_in (map named_model spelled.now))) }
+    ensures numbers { IfOk result
+        (λ v. NumbersModels names.new (map named_model spelled.now) (map plain_model v.items)) }
 {
     let mut models: Vec<ContentModel> = Vec::new(alloc);
     for model in spelled {

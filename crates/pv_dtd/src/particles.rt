@@ -2,12 +2,13 @@
 
 ghost use Rattle.std.specs.Prelude.{◌≡◌, ◌≤◌, ◌<◌, ◌^◌, suc, length, map, IfOk, IfSome};
 ghost use Rattle.std.specs.Option.{option_map};
-ghost use Rattle.pv_dtd.specs.PartReading.{word_at, with_operator, separator_at, group_of, group_from, others_at, group_at, bare_at, particle_at};
+ghost use Rattle.pv_dtd.specs.PartReading.{word_at, with_operator, separator_at, group_of};
+ghost use Rattle.pv_dtd.specs.PartReading.{group_from, others_at, group_at, bare_at, particle_at};
 ghost use Rattle.pv_dtd.specs.NamedForms.{named_part, named_parts};
 
-use crate::fronts::name_at;
 use crate::items::SpelledPart;
 use pv_chars::NoMemory;
+use pv_chars::char_reading::name_at;
 use pv_chars::scan::{after_bytes, after_space};
 use std::alloc::Global;
 
@@ -26,7 +27,8 @@ fn with_operator<'a>(
     part: SpelledPart<'a>,
     rest: &'a [u8],
 ) -> Result<(SpelledPart<'a>, &'a [u8]), NoMemory>
-    ensures read { IfOk result (λ r. (named_part r.0, r.1.now) ≡ with_operator (named_part part.entry) rest.now) }
+    ensures read { IfOk result
+        (λ r. (named_part r.0, r.1.now) ≡ with_operator (named_part part.entry) rest.now) }
     ensures within { IfOk result (λ r. length r.1.now ≤ length rest.now) }
 {
     match rest {
@@ -57,7 +59,8 @@ fn group_of<'a>(separator: u8, members: Vec<SpelledPart<'a>>) -> SpelledPart<'a>
     }
 }
 
-/// A name, a choice or a sequence, with its operator. Groups stand one inside another at most `depth` deep.
+/// A name, a choice or a sequence, with its operator. Groups stand one inside another at most
+/// `depth` deep.
 #[cycle(particles)]
 #[tactic(auto, unfolding(crate::specs::PartReading::particle_from))]
 pub fn particle_at<'a>(
@@ -65,7 +68,8 @@ pub fn particle_at<'a>(
     bytes: &'a [u8],
     depth: usize,
 ) -> Result<Option<(SpelledPart<'a>, &'a [u8])>, NoMemory>
-    ensures read { IfOk result (λ o. option_map (λ r. (named_part r.0, r.1.now)) o ≡ particle_at depth bytes.now) }
+    ensures read { IfOk result
+        (λ o. option_map (λ r. (named_part r.0, r.1.now)) o ≡ particle_at depth bytes.now) }
     ensures within { IfOk result (λ o. IfSome o (λ r. length r.1.now ≤ length bytes.now)) }
 {
     let Some((part, rest)) = bare_at(alloc, bytes, depth)? else {
@@ -81,7 +85,8 @@ fn bare_at<'a>(
     bytes: &'a [u8],
     depth: usize,
 ) -> Result<Option<(SpelledPart<'a>, &'a [u8])>, NoMemory>
-    ensures read { IfOk result (λ o. option_map (λ r. (named_part r.0, r.1.now)) o ≡ bare_at depth bytes.now) }
+    ensures read { IfOk result
+        (λ o. option_map (λ r. (named_part r.0, r.1.now)) o ≡ bare_at depth bytes.now) }
     ensures within { IfOk result (λ o. IfSome o (λ r. length r.1.now ≤ length bytes.now)) }
 {
     match after_bytes(b"(", bytes) {
@@ -98,7 +103,9 @@ fn group_at<'a>(
     bytes: &'a [u8],
     depth: usize,
 ) -> Result<Option<(SpelledPart<'a>, &'a [u8])>, NoMemory>
-    ensures read { IfOk result (λ o. option_map (λ r. (named_part r.0, r.1.now)) o ≡ group_at (particle_at depth) bytes.now) }
+    ensures read { IfOk result
+        (λ o. option_map (λ r. (named_part r.0, r.1.now)) o ≡
+        group_at (particle_at depth) bytes.now) }
     ensures within { IfOk result (λ o. IfSome o (λ r. length r.1.now ≤ length bytes.now)) }
 {
     let Some((first, rest)) = particle_at(alloc, after_space(bytes), depth)? else {
@@ -118,7 +125,8 @@ fn others_at<'a>(
     depth: usize,
 ) -> Result<Option<(SpelledPart<'a>, &'a [u8])>, NoMemory>
     ensures read { IfOk result (λ o. option_map (λ r. (named_part r.0, r.1.now)) o
-        ≡ group_from separator (named_part first.entry) (others_at (particle_at depth) separator (suc (length behind.now)) behind.now)) }
+        ≡ group_from separator (named_part first.entry)
+        (others_at (particle_at depth) separator (suc (length behind.now)) behind.now)) }
     ensures within { IfOk result (λ o. IfSome o (λ r. length r.1.now ≤ length behind.now)) }
 {
     let mut members = vec![in alloc; first]?;

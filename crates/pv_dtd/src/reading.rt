@@ -1,9 +1,10 @@
 //! Reads a DTD, in one pass from left to right.
 
-ghost use Rattle.std.specs.Prelude.{◌≡◌, ◌≤◌, ◌+◌, ◌++◌, ◌&&◌, ◌^◌, [], map, length, nat_eq, OnOk, IfOk, IfErr};
+ghost use Rattle.std.specs.Prelude.{◌≡◌, ◌≤◌, ◌+◌, ◌++◌, ◌&&◌, ◌^◌, [], map, length, nat_eq, OnOk};
+ghost use Rattle.std.specs.Prelude.{IfOk, IfErr};
 ghost use Rattle.pv_dtd.specs.Facts.{MAX_DTD_BYTES, MAX_PARTS};
 ghost use Rattle.pv_dtd.specs.Items.{declared_by, model_in, parts_by};
-ghost use Rattle.pv_dtd.specs.Meaning.{Outcome, is_dtd, DtdTextMeans, IsBehindMark, is_place};
+ghost use Rattle.pv_dtd.specs.Meaning.{Outcome, is_dtd, DtdTextMeans, is_place};
 ghost use Rattle.pv_dtd.specs.NamedForms.{named_model, named_item};
 ghost use Rattle.pv_dtd.specs.Naming.{with_names};
 ghost use Rattle.pv_dtd.specs.PlainForms.{plain_dtd, Refuses, Answers, refusal};
@@ -21,7 +22,7 @@ use crate::numbering::models_of;
 use crate::parts::parts_of;
 use crate::rules::{Rule, broken_rule};
 use pv_chars::NoMemory;
-use pv_chars::scan::{after_bytes, after_space, is_space};
+use pv_chars::scan::{after_byte_order_mark, after_space, is_space};
 use std::alloc::Global;
 
 /// The most bytes of a DTD.
@@ -63,9 +64,12 @@ fn add<'a>(
     item: SpelledItem<'a>,
 ) -> Result<(), NoMemory>
     requires { declared.old.parts + parts_by (named_item item) ≤ MAX_PARTS }
-    ensures names { OnOk result (names.new ≡ with_names names.old (declared_by (named_item item.entry))) }
-    ensures models { OnOk result (map named_model declared.new.models.items ≡ map named_model declared.old.models.items ++ model_in (named_item item.entry)) }
-    ensures parts { OnOk result (declared.new.parts ≡ declared.old.parts + parts_by (named_item item.entry)) }
+    ensures names { OnOk result (names.new
+        ≡ with_names names.old (declared_by (named_item item.entry))) }
+    ensures models { OnOk result (map named_model declared.new.models.items ≡
+        map named_model declared.old.models.items ++ model_in (named_item item.entry)) }
+    ensures parts { OnOk result (declared.new.parts ≡ declared.old.parts +
+        parts_by (named_item item.entry)) }
 {
     match item {
         SpelledItem::Element(name, model) => {
@@ -89,7 +93,8 @@ fn declarations<'a>(
 ) -> Result<Declared<'a>, DtdError>
     requires empty { names.old ≡ [] }
     requires short { length bytes.now ≤ MAX_DTD_BYTES }
-    ensures { Tells (λ d items. Declares names.new (map named_model d.models.items) d.parts items) bytes.now result }
+    ensures { Tells (λ d items. Declares names.new (map named_model d.models.items) d.parts items)
+        bytes.now result }
 {
     let mut declared = Declared {
         models: Vec::new(alloc),
@@ -131,18 +136,8 @@ fn dtd_of(alloc: Global, bytes: &[u8]) -> Result<Dtd, DtdError>
     Ok(Dtd::of(names, models, declared.parts as u32))
 }
 
-// What stands behind the byte order mark, where there is one.
-fn after_mark(bytes: &[u8]) -> &[u8]
-    ensures behind { IsBehindMark bytes.now result.now }
-    ensures within { length result.now ≤ length bytes.now }
-{
-    match after_bytes(b"\xEF\xBB\xBF", bytes) {
-        Some(rest) => rest,
-        None => bytes,
-    }
-}
-
-/// The DTD that the bytes are, or their first item in fault, by its kind and the number of whole items before it.
+/// The DTD that the bytes are, or their first item in fault, by its kind and the number of whole
+/// items before it.
 pub fn read_dtd(alloc: Global, bytes: &[u8]) -> Result<Dtd, DtdError>
     ensures read { IfOk result (λ dtd. DtdTextMeans bytes.now (is_dtd (plain_dtd dtd))) }
     ensures refused { IfErr result (λ error. Refuses bytes.now error) }
@@ -151,5 +146,5 @@ pub fn read_dtd(alloc: Global, bytes: &[u8]) -> Result<Dtd, DtdError>
     if bytes.len() > MAX_DTD_BYTES {
         return Err(DtdError::Limit(0));
     }
-    dtd_of(alloc, after_mark(bytes))
+    dtd_of(alloc, after_byte_order_mark(bytes))
 }

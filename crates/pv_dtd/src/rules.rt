@@ -4,7 +4,8 @@ ghost use Rattle.std.specs.Prelude.{◌≡◌, ◌≤◌, length, map, IfOk};
 ghost use Rattle.std.specs.List.{list_any};
 ghost use Rattle.pv_dtd.specs.Facts.{are_distinct, MAX_TYPES, MAX_PARTS};
 ghost use Rattle.std.specs.Option.{option_map};
-ghost use Rattle.pv_dtd.specs.Items.{element, listed_in_model, spelled_in, spelled_in_all, spelled_in_model};
+ghost use Rattle.pv_dtd.specs.Items.{element, listed_in_model, spelled_in, spelled_in_all};
+ghost use Rattle.pv_dtd.specs.Items.{spelled_in_model};
 ghost use Rattle.pv_dtd.specs.Kinds.{is_too_long, passes_limit};
 ghost use Rattle.pv_dtd.specs.ItemReading.{broken_rule};
 ghost use Rattle.pv_dtd.specs.RuleKinds.{kind_of};
@@ -135,7 +136,9 @@ fn broken_by_element(
 ) -> Result<Option<Rule>, NoMemory>
     requires types { length declared.now ≤ MAX_TYPES }
     requires parts { parts ≤ MAX_PARTS }
-    ensures { IfOk result (λ rule. option_map kind_of rule ≡ broken_rule declared.now parts (element name.now (named_model model.now))) }
+    ensures { IfOk result
+        (λ rule. option_map kind_of rule ≡
+        broken_rule declared.now parts (element name.now (named_model model.now))) }
 {
     if declared.contains(name) {
         return Ok(Some(Rule::Twice));
@@ -158,7 +161,8 @@ pub fn broken_rule(
 ) -> Result<Option<Rule>, NoMemory>
     requires types { length declared.now ≤ MAX_TYPES }
     requires parts { parts ≤ MAX_PARTS }
-    ensures { IfOk result (λ rule. option_map kind_of rule ≡ broken_rule declared.now parts (named_item item.now)) }
+    ensures { IfOk result
+        (λ rule. option_map kind_of rule ≡ broken_rule declared.now parts (named_item item.now)) }
 {
     match item {
         SpelledItem::Element(name, model) => broken_by_element(alloc, declared, parts, name, model),

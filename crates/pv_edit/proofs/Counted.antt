@@ -1,8 +1,8 @@
 -- How many nodes a document has after an edit.
-use Rattle.std.proofs.Common.{◌≡◌, ◌∙◌, ap, sym, ℕ, ◌+◌, true, List, [], ◌∷◌, ◌++◌, map, None, arith, subst}
+use Rattle.std.proofs.Common.{◌≡◌, ◌∙◌, ap, ℕ, ◌+◌, true, List, [], ◌∷◌, ◌++◌, map, None, arith, subst}
 use Rattle.std.specs.List.{between}
 use Rattle.std.proofs.lemmas.List.{append-nil}
-use Rattle.pv_tree.specs.Plain.{Ending, Tree, element, text_node, Forest, forest_of, trees_of, is_element, nodes_in, nodes_in_all, PlainDoc}
+use Rattle.pv_tree.specs.Plain.{Ending, Tree, element, Forest, forest_of, trees_of, is_element, nodes_in, nodes_in_all, PlainDoc}
 use Rattle.pv_edit.specs.Changes.{all_kids, with_name, root_after}
 use Rattle.pv_edit.specs.Counts.{nodes_made, nodes_taken}
 use Rattle.pv_edit.specs.Effects.{change_of, parent_of, place_of, next_of}

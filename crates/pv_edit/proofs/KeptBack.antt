@@ -11,7 +11,7 @@ use Rattle.pv_edit.specs.ChangedLists.{changed_lists, undoes}
 use Rattle.pv_edit.specs.Changes.{Change, with_name, in_place_of}
 use Rattle.pv_edit.specs.Effects.{parent_of, place_of, next_of, units_at}
 use Rattle.pv_edit.specs.Fitting.{CanChange, Takes}
-use Rattle.pv_edit.specs.Inverses.{LeadsBack, change_back, inverse_of, put_back, end_of, reverted}
+use Rattle.pv_edit.specs.Inverses.{LeadsBack, change_back, inverse_of, put_back, end_of, doc_back}
 use Rattle.pv_edit.specs.Origins.{IsKeptList, IsNone}
 use Rattle.pv_edit.specs.Reasons.{is_top, reason_of}
 use Rattle.pv_edit.specs.declared.edits.Edit.{Edit}
@@ -59,17 +59,17 @@ one-named name ts i k v w s =
     omega (arith, n, length-map (between i (i + 1) ts) (with_name name), length-between ts i (i + 1) w)
 
 back-keeps : {M : Type 0} (blank : M) (doc : PlainDoc M) (inverse : Inverse) → CanChange (change_back blank doc.root inverse).list (change_back blank doc.root inverse) doc.root → (is_top (change_back blank doc.root inverse).list ≡ true → (change_back blank doc.root inverse).shorten ≡ false)
-    → (path : List ℕ) (kids : List (Tree M)) → list_at path (reverted blank doc inverse).root ≡ Some kids → (path ≡ (change_back blank doc.root inverse).list → ⊥)
+    → (path : List ℕ) (kids : List (Tree M)) → list_at path (doc_back blank doc inverse).root ≡ Some kids → (path ≡ (change_back blank doc.root inverse).list → ⊥)
     → ((ts : List (Tree M)) → Made doc.mark (change_back blank doc.root inverse).list (change_back blank doc.root inverse) doc.root ts → (k : ℕ) (v : Tree M) → Brings (change_back blank doc.root inverse).filling
     → path ≡ (change_back blank doc.root inverse).list ++ ((change_back blank doc.root inverse).from + k) ∷ []
     → slice_get (in_place_of (change_back blank doc.root inverse).filling (between (change_back blank doc.root inverse).from (change_back blank doc.root inverse).to ts)) k ≡ Some v → is_element v ≡ true → ⊥)
-    → IsKeptList (change_back blank doc.root inverse) doc (reverted blank doc inverse) path
+    → IsKeptList (change_back blank doc.root inverse) doc (doc_back blank doc inverse) path
 back-keeps blank doc inverse can unshort path kids l other none =
     let d = can-made doc.mark (change_back blank doc.root inverse).list (change_back blank doc.root inverse) doc.root can unshort in
     change-keeps (change_back blank doc.root inverse) doc d.0 d.1 (back-new blank doc.root inverse) path kids l other (none d.0 d.1)
 
 undo-keeps : {M : Type 0} (blank : M) (doc : PlainDoc M) (before : Tree Unit) (edit : Edit) → reason_of tt before edit ≡ None → (b : Backs blank doc.root (inverse_of before edit) before) → (path : List ℕ) (kids : List (Tree M))
-    → list_at path (reverted blank doc (inverse_of before edit)).root ≡ Some kids → IsNone path (changed_lists (undoes edit)) → IsKeptList (change_back blank doc.root (inverse_of before edit)) doc (reverted blank doc (inverse_of before edit)) path
+    → list_at path (doc_back blank doc (inverse_of before edit)).root ≡ Some kids → IsNone path (changed_lists (undoes edit)) → IsKeptList (change_back blank doc.root (inverse_of before edit)) doc (doc_back blank doc (inverse_of before edit)) path
 undo-keeps blank doc before (Wrap list from to name) h b path kids l none = back-keeps blank doc (inverse_of before (Wrap list from to name)) b.can b.unshort path kids l (λ p. none.0 (p ∙ parent-kid list from)) (λ ts d k v br p s e. br)
 undo-keeps blank doc before (Insert list at name) h b path kids l none = back-keeps blank doc (inverse_of before (Insert list at name)) b.can b.unshort path kids l (λ p. none.0 (p ∙ parent-kid list at)) (λ ts d k v br p s e. br)
 undo-keeps {M = M} blank doc before (Unwrap node) h b path kids l none =
@@ -78,8 +78,8 @@ undo-keeps {M = M} blank doc before (Unwrap node) h b path kids l none =
     let i = PutBack (parent_of node) (place_of node) (place_of node + length (trees_of e.kids)) e.name e.attrs (end_of e.ending) in
     let same : inverse_of before (Unwrap node) ≡ i = ap (put_back (parent_of node) (place_of node)) e.there in
     let c : Backs blank doc.root i before = subst (λ (j : Inverse). Backs blank doc.root j before) same b in
-    subst (λ (j : Inverse). IsKeptList (change_back blank doc.root j) doc (reverted blank doc j) path) (sym same)
-    (back-keeps blank doc i c.can c.unshort path kids (subst (λ (j : Inverse). list_at path (reverted blank doc j).root ≡ Some kids) same l) none.0
+    subst (λ (j : Inverse). IsKeptList (change_back blank doc.root j) doc (doc_back blank doc j) path) (sym same)
+    (back-keeps blank doc i c.can c.unshort path kids (subst (λ (j : Inverse). list_at path (doc_back blank doc j).root ≡ Some kids) same l) none.0
     (λ ts d k v br p s t. none.1.0 (first-path path (parent_of node) (place_of node) k p (get-one _ v k s).0 ∙ sym (path-parts node (not-top node before q)))))
 undo-keeps blank doc before (Rename node name) h b path kids l none =
     back-keeps blank doc (inverse_of before (Rename node name)) b.can b.unshort path kids l none.0
@@ -96,10 +96,10 @@ undo-keeps blank doc before (AddText list at text) h b path kids l none =
 undo-keeps blank doc before (DelText node) h b path kids l none =
     back-keeps blank doc (inverse_of before (DelText node)) b.can b.unshort path kids l none.0 (λ ts d k v br p s t. text-alone (units_at node before) k v s t)
 
-pub undone-lists : {M : Type 0} (blank : M) (inverse : Inverse) (doc : PlainDoc M) (before : PlainDoc Unit) (l : LeadsBack inverse doc before) → (path : List ℕ) (kids : List (Tree M)) → list_at path (reverted blank doc inverse).root ≡ Some kids
-    → IsNone path (changed_lists (undoes l.edit)) → IsKeptList (change_back blank doc.root inverse) doc (reverted blank doc inverse) path
+pub undone-lists : {M : Type 0} (blank : M) (inverse : Inverse) (doc : PlainDoc M) (before : PlainDoc Unit) (l : LeadsBack inverse doc before) → (path : List ℕ) (kids : List (Tree M)) → list_at path (doc_back blank doc inverse).root ≡ Some kids
+    → IsNone path (changed_lists (undoes l.edit)) → IsKeptList (change_back blank doc.root inverse) doc (doc_back blank doc inverse) path
 undone-lists blank inverse doc before l path kids at none =
     let reason = given-reason (reason_of tt before.root l.edit) _ _ l.is_edited in
     let b = subst (λ (i : Inverse). Backs blank doc.root i before.root) (sym l.is_inverse) (backs blank inverse doc before l) in
-    subst (λ (i : Inverse). IsKeptList (change_back blank doc.root i) doc (reverted blank doc i) path) l.is_inverse
-    (undo-keeps blank doc before.root l.edit reason b path kids (subst (λ (i : Inverse). list_at path (reverted blank doc i).root ≡ Some kids) (sym l.is_inverse) at) none)
+    subst (λ (i : Inverse). IsKeptList (change_back blank doc.root i) doc (doc_back blank doc i) path) l.is_inverse
+    (undo-keeps blank doc before.root l.edit reason b path kids (subst (λ (i : Inverse). list_at path (doc_back blank doc i).root ≡ Some kids) (sym l.is_inverse) at) none)

@@ -1,5 +1,5 @@
 -- What is promised of a change that has been made ready, of an edit and of an inverse.
-use Rattle.std.proofs.Common.{◌≡◌, ◌<◌, ◌∙◌, ap, ℕ, refl, sym, true, false, List, [], None, Option, arith, subst}
+use Rattle.std.proofs.Common.{◌≡◌, ◌<◌, ◌∙◌, ap, refl, sym, true, false, None, Option, arith, subst}
 use Rattle.pv_tree.specs.Legal.{MAX_NODES}
 use Rattle.pv_tree.specs.Marks.{blank_mark, unmarked_doc}
 use Rattle.pv_tree.specs.Plain.{Tree, PlainDoc, is_element, nodes_in}
@@ -18,8 +18,8 @@ use Rattle.pv_edit.specs.declared.edits.Edit.{Edit}
 use Rattle.pv_edit.specs.declared.edits.Edit.TheVariants.{Wrap, Insert, Unwrap, Rename, Split, Join, SetText, AddText, DelText}
 use Rattle.pv_edit.specs.declared.inverses.Inverse.{Inverse}
 use Rattle.pv_edit.specs.declared.inverses.Inverse.TheVariants.{TakeOut, PutBack, Name, Merge, Divide, Text, Discard, Restore}
-use Rattle.pv_edit.specs.declared.preparations.Preparation.{Preparation}
-use Rattle.pv_edit.specs.declared.preparations.Task.{Task}
+use Rattle.pv_edit.specs.declared.tasks.Preparation.{Preparation}
+use Rattle.pv_edit.specs.declared.tasks.Task.{Task}
 use Rattle.pv_edit.specs.declared.reasons.Reason.{Reason}
 use Rattle.pv_edit.proofs.Keeping.{edit-can, edit-kept}
 use Rattle.pv_edit.proofs.RemarkedReasons.{made-leads}

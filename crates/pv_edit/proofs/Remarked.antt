@@ -10,7 +10,7 @@ use Rattle.pv_tree.specs.Places.{Spot, at_document, kids_of, node_below, spot_at
 use Rattle.pv_tree.specs.Places.{at_node as at_spot}
 use Rattle.pv_edit.specs.Changes.{Change, Filling, others, around, inner, named, with_name, all_kids, in_place_of, list_after, ending_after, with_list, owner_after, change_kid, change_below, first_tree, root_after}
 use Rattle.pv_edit.specs.Effects.{next_of, units_on, units_at}
-use Rattle.pv_edit.specs.Fitting.{Fits, Suits, Takes, CanChange}
+use Rattle.pv_edit.specs.Fitting.{CanFill, Suits, Takes, CanChange}
 use Rattle.pv_edit.specs.Inverses.{change_back}
 use Rattle.pv_edit.specs.Reasons.{is_one_element, is_spot, is_text, lacks_text}
 use Rattle.pv_edit.specs.declared.inverses.Inverse.{Inverse}
@@ -162,14 +162,14 @@ root-as f [] c root = ap (first_tree (map_marks f root)) (list-as f c (root ∷ 
 root-as f (i ∷ path) c root = below-as f path (owner_after c) (owner_after (change_as f c)) root (owner-as f c)
 
 -- ---- where a change can be made
-fits-as : {M N : Type 0} (f : M → N) (g : Filling M) (ts : List (Tree M)) → Fits (filling_as f g) (map (map_marks f) ts) → Fits g ts
+fits-as : {M N : Type 0} (f : M → N) (g : Filling M) (ts : List (Tree M)) → CanFill (filling_as f g) (map (map_marks f) ts) → CanFill g ts
 fits-as f (others trees) ts h = tt
 fits-as f (around name attrs ending mark) ts h = tt
 fits-as f inner ts h = sym (one-as f ts) ∙ h
 fits-as f (named name) ts h = sym (one-as f ts) ∙ h
 
 suits-as : {M N : Type 0} (f : M → N) (c : Change M) (ts : List (Tree M)) → Suits (change_as f c) (map (map_marks f) ts) → Suits c ts
-suits-as f c ts s = record { order = s.order; within = subst (λ n. c.to ≤ n) (length-map ts (map_marks f)) s.within; fits = fits-as f c.filling (between c.from c.to ts) (subst (λ l. Fits (filling_as f c.filling) l) (between-as f c.from c.to ts) s.fits) }
+suits-as f c ts s = record { order = s.order; within = subst (λ n. c.to ≤ n) (length-map ts (map_marks f)) s.within; fits = fits-as f c.filling (between c.from c.to ts) (subst (λ l. CanFill (filling_as f c.filling) l) (between-as f c.from c.to ts) s.fits) }
 
 takes-as : {M N : Type 0} (f : M → N) (c : Change M) (o : Option (Tree M)) → IsSomeAnd (option_map (map_marks f) o) (Takes (change_as f c)) → IsSomeAnd o (Takes c)
 takes-as f c None h = h

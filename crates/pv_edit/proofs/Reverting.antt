@@ -5,8 +5,8 @@ use Rattle.pv_tree.specs.Marks.{unmarked_doc}
 use Rattle.pv_edit.specs.Changes.{Change, doc_after, root_after}
 use Rattle.pv_edit.specs.Effects.{change_of, next_of}
 use Rattle.pv_edit.specs.Fitting.{CanChange}
-use Rattle.pv_edit.specs.Inverses.{IsKept, LeadsBack, change_back, reverted}
-use Rattle.pv_edit.specs.Preparations.{IsReady}
+use Rattle.pv_edit.specs.Inverses.{IsKept, LeadsBack, change_back, doc_back}
+use Rattle.pv_edit.specs.Preparations.{HasTexts}
 use Rattle.pv_edit.specs.Reasons.{is_top, reason_of}
 use Rattle.pv_edit.specs.declared.inverses.Inverse.{Inverse}
 use Rattle.pv_edit.specs.declared.inverses.Inverse.TheVariants.{TakeOut, PutBack, Name, Merge, Divide, Text, Discard, Restore}
@@ -20,10 +20,10 @@ use Rattle.pv_edit.proofs.Whole.{can-change}
 pub record Backs {M : Type 0} (blank : M) (root : Tree M) (inverse : Inverse) (before : Tree Unit) : Type 0 where
   pub can : CanChange (change_back blank root inverse).list (change_back blank root inverse) root
   pub same : map_marks (λ _. tt) (root_after (change_back blank root inverse).list (change_back blank root inverse) root) ≡ before
-  pub ready : IsReady root inverse
+  pub ready : HasTexts root inverse
   pub unshort : is_top (change_back blank root inverse).list ≡ true → (change_back blank root inverse).shorten ≡ false
 
-ready-as : {M N : Type 0} (f : M → N) (root : Tree M) (inverse : Inverse) → IsReady (map_marks f root) inverse → IsReady root inverse
+ready-as : {M N : Type 0} (f : M → N) (root : Tree M) (inverse : Inverse) → HasTexts (map_marks f root) inverse → HasTexts root inverse
 ready-as f root (TakeOut path shorten) h = tt
 ready-as f root (PutBack path from to name attrs e) h = tt
 ready-as f root (Name path name) h = tt
@@ -36,7 +36,7 @@ ready-as f root (Restore path units) h = tt
 -- whatever the marks are
 marked-backs : {M : Type 0} (blank : M) (root : Tree M) (inverse : Inverse) (before : Tree Unit)
     → CanChange (change_back tt (without_marks root) inverse).list (change_back tt (without_marks root) inverse) (without_marks root)
-    → root_after (change_back tt (without_marks root) inverse).list (change_back tt (without_marks root) inverse) (without_marks root) ≡ before → IsReady (without_marks root) inverse
+    → root_after (change_back tt (without_marks root) inverse).list (change_back tt (without_marks root) inverse) (without_marks root) ≡ before → HasTexts (without_marks root) inverse
     → (is_top (change_back tt (without_marks root) inverse).list ≡ true → (change_back tt (without_marks root) inverse).shorten ≡ false) → Backs blank root inverse before
 marked-backs {M = M} blank root inverse before can back ready unshort =
     let f : M → Unit = λ _. tt in
@@ -65,12 +65,12 @@ backs blank inverse doc before l =
     marked-backs blank doc.root inverse before.root
     (subst (λ (t : Tree Unit). CanChange (change_back tt t inverse).list (change_back tt t inverse) t) e (subst (λ (p : List ℕ). CanChange p d (edited before.root l.edit)) (sym r.same) (can-change r.path d (edited before.root l.edit) r.ts r.made)))
     (subst (λ (t : Tree Unit). root_after (change_back tt t inverse).list (change_back tt t inverse) t ≡ before.root) e (ap (λ (p : List ℕ). root_after p d (edited before.root l.edit)) r.same ∙ r.back))
-    (subst (λ (t : Tree Unit). IsReady t inverse) e r.ready)
+    (subst (λ (t : Tree Unit). HasTexts t inverse) e r.ready)
     (subst (λ (t : Tree Unit). is_top (change_back tt t inverse).list ≡ true → (change_back tt t inverse).shorten ≡ false) e (λ t. r.made.unshort (ap is_top (sym r.same) ∙ t)))
 
 pub back-kept : {M : Type 0} (blank : M) (inverse : Inverse) (doc : PlainDoc M) (before : PlainDoc Unit) → LeadsBack inverse doc before → IsKept (root_after (change_back blank doc.root inverse).list (change_back blank doc.root inverse) doc.root)
 back-kept blank inverse doc before l = kept-from (λ _. tt) _ (subst (λ (t : Tree Unit). IsKept t) (sym (backs blank inverse doc before l).same) l.kept)
 
-pub back-doc : {M : Type 0} (blank : M) (inverse : Inverse) (doc : PlainDoc M) (before : PlainDoc Unit) → LeadsBack inverse doc before → unmarked_doc (reverted blank doc inverse) ≡ before
+pub back-doc : {M : Type 0} (blank : M) (inverse : Inverse) (doc : PlainDoc M) (before : PlainDoc Unit) → LeadsBack inverse doc before → unmarked_doc (doc_back blank doc inverse) ≡ before
 back-doc blank inverse doc before l =
     ap (λ (t : Tree Unit). record (unmarked_doc doc) { root = t }) (backs blank inverse doc before l).same ∙ sym (ap (λ (d : PlainDoc Unit). record d { root = before.root }) (doc-edited inverse doc before l))

@@ -11,7 +11,7 @@ use Rattle.pv_tree.specs.Places.{kids_of}
 use Rattle.pv_tree.specs.Heads.{head_of, heads_of}
 use Rattle.pv_tree.proofs.Levels.{trees-forest}
 use Rattle.pv_edit.specs.Changes.{Change, Filling, others, around, inner, named, with_name, all_kids, in_place_of, list_after, owner_after, change_kid, change_below}
-use Rattle.pv_edit.specs.Fitting.{Fits}
+use Rattle.pv_edit.specs.Fitting.{CanFill}
 use Rattle.pv_edit.specs.Origins.{origin_inside, origin_below, origin_at}
 use Rattle.pv_edit.specs.Reasons.{is_one_element, is_top}
 use Rattle.pv_edit.proofs.Cutting.{front-length}
@@ -177,7 +177,7 @@ one-element (cdata_node bytes ∷ []) h = absurd cc
 one-element (misc_node bytes ∷ []) h = absurd cc
 one-element (t ∷ u ∷ ts) h = absurd cc
 
-new-case : {M : Type 0} (from to : ℕ) (g : Filling M) (x attrs : List ℕ) (e : Ending) (kids : Forest M) (m : M) → from ≤ to → to ≤ length (trees_of kids) → Fits g (between from to (trees_of kids)) → HaveNoKids g
+new-case : {M : Type 0} (from to : ℕ) (g : Filling M) (x attrs : List ℕ) (e : Ending) (kids : Forest M) (m : M) → from ≤ to → to ≤ length (trees_of kids) → CanFill g (between from to (trees_of kids)) → HaveNoKids g
     → (j : ℕ) (path : List ℕ) (k v : Tree M) → slice_get (in_place_of g (between from to (trees_of kids))) j ≡ Some k → NodeAt path k v → NewCase g from j path (element x attrs e kids m) k v
 new-case from to (others trees) x attrs e kids m h w f z j [] k v q n = is-new tt refl (here-same n)
 new-case from to (others trees) x attrs e kids m h w f z j (i ∷ path) k v q n = absurd (no-kid-below k v i path (no-kids trees j k z q) n)
@@ -206,7 +206,7 @@ new-case from to (named name) x attrs e kids m h w f z j (i ∷ path) k v q n =
     was-old ((from + j) ∷ i ∷ path) refl refl (down (kid_at (from + j) kids (element o.0 o.1 o.2 o.3 o.4) (ap (slice_get (trees_of kids)) same ∙ g)) (down (kid_at i o.3 d.0 d.1) d.2))
 
 -- below the owner of the changed list
-owner-came : {M : Type 0} (c : Change M) (x attrs : List ℕ) (e : Ending) (kids : Forest M) (m : M) → c.from ≤ c.to → c.to ≤ length (trees_of kids) → Fits c.filling (between c.from c.to (trees_of kids)) → HaveNoKids c.filling
+owner-came : {M : Type 0} (c : Change M) (x attrs : List ℕ) (e : Ending) (kids : Forest M) (m : M) → c.from ≤ c.to → c.to ≤ length (trees_of kids) → CanFill c.filling (between c.from c.to (trees_of kids)) → HaveNoKids c.filling
     → (i : ℕ) (path : List ℕ) (v : Tree M) → NodeAt (i ∷ path) (owner_after c (element x attrs e kids m)) v → is_element v ≡ true → Came c [] (in_place_of c.filling (between c.from c.to (trees_of kids))) (element x attrs e kids m) (i ∷ path) v
 owner-came {M = M} c x attrs e kids m h w f z i path v n hv =
     let d = kid-node n in
@@ -248,7 +248,7 @@ kid-came c new f i j list path x attrs e kids m kid y v k (that a t q s) at hv r
     subst (λ r. Came c (j ∷ list) new (element x attrs e kids m) (r ∷ path) v) (sym a) (deeper-came j x attrs e kids m k (rec a (subst (λ r. NodeAt path r v) (s ∙ ap f same) at)))
 kid-came c new f i j list path x attrs e kids m kid y v k (other2 a q) at hv rec = let t = ne_eqb i j a in stood (i ∷ path) v (rw t refl) refl (down q at) (same-element v hv)
 
-pub all-came : {M : Type 0} (c : Change M) {list : List ℕ} {t : Tree M} {x attrs : List ℕ} {e : Ending} {kids : Forest M} {m : M} → NodeAt list t (element x attrs e kids m) → c.from ≤ c.to → c.to ≤ length (trees_of kids) → Fits c.filling (between c.from c.to (trees_of kids)) → HaveNoKids c.filling
+pub all-came : {M : Type 0} (c : Change M) {list : List ℕ} {t : Tree M} {x attrs : List ℕ} {e : Ending} {kids : Forest M} {m : M} → NodeAt list t (element x attrs e kids m) → c.from ≤ c.to → c.to ≤ length (trees_of kids) → CanFill c.filling (between c.from c.to (trees_of kids)) → HaveNoKids c.filling
     → (path : List ℕ) (v : Tree M) → (path ≡ list → ⊥) → NodeAt path (change_below list (owner_after c) t) v → is_element v ≡ true → Came c list (in_place_of c.filling (between c.from c.to (trees_of kids))) t path v
 all-came c here h w f z [] v other n hv = absurd (other refl)
 all-came c (here {t = element x attrs e kids m}) h w f z (i ∷ path) v other n hv = owner-came c x attrs e kids m h w f z i path v n hv

@@ -14,7 +14,7 @@ use Rattle.pv_chars.specs.Characters.{is_char}
 use Rattle.pv_chars.specs.References.{IsCharRefIn, IsEntityRef, IsPredefined, number}
 use Rattle.pv_chars.specs.Names.{IsName}
 use Rattle.pv_chars.specs.Texts.{joined, begins_close_mark, holds_close_mark}
-use Rattle.pv_chars.specs.Units.{IsLiteral, IsUnit, BeginsCloseMark, Means, ends, unit, fault, TextMeans, AllUnits, units_in}
+use Rattle.pv_chars.specs.Units.{IsLiteral, IsUnit, BeginsCloseMark, TextRestMeans, ends, unit, fault, TextMeans, AllUnits, units_in}
 use Rattle.pv_chars.specs.declared.errors.TextError.{TextError}
 use Rattle.pv_chars.specs.declared.errors.TextError.TheVariants.{NoMemory}
 use Rattle.pv_chars.proofs.MeansLemmas.{text_means_only}
@@ -163,12 +163,12 @@ begins-mark (a ∷ b ∷ c ∷ us) h =
     (joined us, rw (ea, eb, ec) refl)
 
 -- ---- what a text means
-means-units : (before us : List (List ℕ)) → AllUnits us → holds_close_mark us ≡ false → Means before (joined us) (Ok (before ++ us))
-means-units before [] all h = subst (λ (l : List (List ℕ)). Means before [] (Ok l)) (sym (append-nil before)) (ends refl)
+means-units : (before us : List (List ℕ)) → AllUnits us → holds_close_mark us ≡ false → TextRestMeans before (joined us) (Ok (before ++ us))
+means-units before [] all h = subst (λ (l : List (List ℕ)). TextRestMeans before [] (Ok l)) (sym (append-nil before)) (ends refl)
 means-units before (u ∷ us) all h =
     let p = or_parts (begins_close_mark (u ∷ us)) (holds_close_mark us) h in
     unit u (joined us) (record { is_unit = all.0; whole = refl; no_close_mark = λ m. let t = mark-begins (u ∷ us) all m in let f = p.0 in cc })
-    (subst (λ (l : List (List ℕ)). Means (before ++ u ∷ []) (joined us) (Ok l)) (append_assoc before (u ∷ []) us) (means-units (before ++ u ∷ []) us all.1 p.1))
+    (subst (λ (l : List (List ℕ)). TextRestMeans (before ++ u ∷ []) (joined us) (Ok l)) (append_assoc before (u ∷ []) us) (means-units (before ++ u ∷ []) us all.1 p.1))
 
 -- units behind some, without a `]]>`
 pub record AreText (before : List (List ℕ)) (rest : List ℕ) (out : List (List ℕ)) : Type 0 where
@@ -178,7 +178,7 @@ pub record AreText (before : List (List ℕ)) (rest : List ℕ) (out : List (Lis
   pub bytes : rest ≡ joined us
   pub no_mark : holds_close_mark us ≡ false
 
-units-meant : {before : List (List ℕ)} {rest : List ℕ} {o : Result (List (List ℕ)) TextError} → Means before rest o → (out : List (List ℕ)) → o ≡ Ok out → AreText before rest out
+units-meant : {before : List (List ℕ)} {rest : List ℕ} {o : Result (List (List ℕ)) TextError} → TextRestMeans before rest o → (out : List (List ℕ)) → o ≡ Ok out → AreText before rest out
 units-meant {before} {rest} (ends e) out s = let k : out ≡ before = cc in record { us = []; whole = k ∙ sym (append-nil before); all = tt; bytes = e; no_mark = refl }
 units-meant {before} {rest} (unit u more b r) out s =
     let t = units-meant r out s in
@@ -208,7 +208,7 @@ meant-text bytes out (inr m) =
     (record { some = m.0; all = subst (λ (l : List (List ℕ)). AllUnits l) (sym k) t.all; whole = t.bytes ∙ ap joined (sym k); no_mark = ap holds_close_mark k ∙ t.no_mark }, t.whole ∙ sym k)
 
 pub text-means : (bytes : List ℕ) → IsText bytes → TextMeans bytes (Ok (units_in bytes))
-text-means bytes t = inr (t.some, subst (λ (l : List ℕ). Means [] l (Ok (units_in bytes))) (sym t.whole) (means-units [] (units_in bytes) t.all t.no_mark))
+text-means bytes t = inr (t.some, subst (λ (l : List ℕ). TextRestMeans [] l (Ok (units_in bytes))) (sym t.whole) (means-units [] (units_in bytes) t.all t.no_mark))
 
 pub tested-text : (bytes : List ℕ) → is_character_data bytes ≡ true → IsText bytes
 tested-text bytes h =

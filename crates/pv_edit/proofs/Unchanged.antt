@@ -7,7 +7,7 @@ use Rattle.pv_tree.specs.Places.{node_below, list_of, list_at, spot_at}
 use Rattle.pv_tree.specs.Places.{at_node as at_spot}
 use Rattle.pv_tree.specs.Heads.{heads_of}
 use Rattle.pv_edit.specs.Changes.{Change, in_place_of, root_after, doc_after}
-use Rattle.pv_edit.specs.Fitting.{Fits}
+use Rattle.pv_edit.specs.Fitting.{CanFill}
 use Rattle.pv_edit.specs.Inverses.{name_on}
 use Rattle.pv_edit.specs.Origins.{origin_at, origin_below, number_of_new, mark_on, IsSameList, IsKeptList}
 use Rattle.pv_edit.specs.Reasons.{is_top}
@@ -83,7 +83,7 @@ change-keeps {M = M} c doc ts d z path kids l other none =
     let v = list-owner path (whole doc.mark (root_after c.list c doc.root)) (node_below path (whole doc.mark (root_after c.list c doc.root))) kids refl (sym (list-whole doc.mark path (root_after c.list c doc.root)) ∙ l) in
     let n = subst (λ t. NodeAt path t v.0) (after-whole c.list c doc.root ts d) v.1 in
     let within = subst (λ k. c.to ≤ length k) (sym o.are) d.within in
-    let fits = subst (λ k. Fits c.filling (between c.from c.to k)) (sym o.are) d.fits in
+    let fits = subst (λ k. CanFill c.filling (between c.from c.to k)) (sym o.are) d.fits in
     kept-list c doc path v.0 (in_place_of c.filling (between c.from c.to (trees_of o.kids)))
     (ap (λ k. length (in_place_of c.filling (between c.from c.to k))) (o.are ∙ sym (owner-kids o))) v.1
     (λ k b p s. none k v.0 b p (ap (λ ts. slice_get (in_place_of c.filling (between c.from c.to ts)) k) (sym o.are) ∙ s) v.2)

@@ -9,7 +9,7 @@ use Rattle.pv_tree.specs.Places.{at_node as at_spot}
 use Rattle.pv_tree.specs.Legal.{is_formed, are_formed, fits_kids}
 use Rattle.pv_tree.proofs.Levels.{trees-forest}
 use Rattle.pv_edit.specs.Changes.{Change, in_place_of, list_after, ending_after, owner_after, change_kid, change_below, root_after}
-use Rattle.pv_edit.specs.Fitting.{Fits}
+use Rattle.pv_edit.specs.Fitting.{CanFill}
 use Rattle.pv_edit.specs.Inverses.{is_short, ends_short}
 use Rattle.pv_edit.specs.Reasons.{is_top}
 use Rattle.pv_edit.proofs.Levels.{forest-trees}
@@ -22,7 +22,7 @@ pub record Undoes {M : Type 0} (c d : Change M) (path : List ℕ) (ts : List (Tr
   pub same : d.list ≡ path
   pub from : d.from ≡ c.from
   pub to : d.to ≡ c.from + length (in_place_of c.filling (between c.from c.to ts))
-  pub fits : Fits d.filling (in_place_of c.filling (between c.from c.to ts))
+  pub fits : CanFill d.filling (in_place_of c.filling (between c.from c.to ts))
   pub back : in_place_of d.filling (in_place_of c.filling (between c.from c.to ts)) ≡ between c.from c.to ts
   pub ends : ending_after d.shorten (ending_after c.shorten ending (list_after c ts)) ts ≡ ending
   pub unshort : is_top path ≡ true → d.shorten ≡ false

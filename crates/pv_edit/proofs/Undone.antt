@@ -10,7 +10,7 @@ use Rattle.pv_tree.specs.Places.{Spot, spot_at}
 use Rattle.pv_tree.specs.Places.{at_node as at_spot}
 use Rattle.pv_tree.specs.Legal.{is_formed}
 use Rattle.pv_tree.specs.Units.{HasUnits}
-use Rattle.pv_edit.specs.Preparations.{IsReady}
+use Rattle.pv_edit.specs.Preparations.{HasTexts}
 use Rattle.pv_edit.proofs.EachNode.{EachNodes, each-old, each-of-list}
 use Rattle.pv_edit.proofs.Kept.{United, units-each}
 use Rattle.pv_tree.specs.PlainForms.{plain_end}
@@ -40,14 +40,14 @@ pub record Returns (root : Tree Unit) (edit : Edit) (inverse : Inverse) : Type 0
   pub same : (change_back tt (root_after (change_of tt root edit).list (change_of tt root edit) root) inverse).list ≡ path
   pub made : Made tt path (change_back tt (root_after (change_of tt root edit).list (change_of tt root edit) root) inverse) (root_after (change_of tt root edit).list (change_of tt root edit) root) ts
   pub back : root_after path (change_back tt (root_after (change_of tt root edit).list (change_of tt root edit) root) inverse) (root_after (change_of tt root edit).list (change_of tt root edit) root) ≡ root
-  pub ready : IsReady (root_after (change_of tt root edit).list (change_of tt root edit) root) inverse
+  pub ready : HasTexts (root_after (change_of tt root edit).list (change_of tt root edit) root) inverse
 
 -- the root after the edit
 abbrev pub edited : Tree Unit → Edit → Tree Unit
 edited root edit = root_after (change_of tt root edit).list (change_of tt root edit) root
 
 returns : (root : Tree Unit) (edit : Edit) (inverse : Inverse) (ts : List (Tree Unit)) (made : Made tt (change_of tt root edit).list (change_of tt root edit) root ts)
-    → Undoes (change_of tt root edit) (change_back tt (edited root edit) inverse) (change_of tt root edit).list ts made.owner.ending → IsReady (edited root edit) inverse → Returns root edit inverse
+    → Undoes (change_of tt root edit) (change_back tt (edited root edit) inverse) (change_of tt root edit).list ts made.owner.ending → HasTexts (edited root edit) inverse → Returns root edit inverse
 returns root edit inverse ts made u ready =
     let c = change_of tt root edit in
     let d = change_back tt (edited root edit) inverse in

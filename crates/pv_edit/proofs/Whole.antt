@@ -6,7 +6,7 @@ use Rattle.pv_tree.specs.Plain.{Ending, tagged, Tree, element, Forest, no_trees,
 use Rattle.pv_tree.specs.Places.{node_below, list_of, list_at, spot_at}
 use Rattle.pv_tree.specs.Places.{at_node as at_spot}
 use Rattle.pv_edit.specs.Changes.{Change, list_after, ending_after, owner_after, change_below, first_tree, root_after}
-use Rattle.pv_edit.specs.Fitting.{Fits, Suits, CanChange}
+use Rattle.pv_edit.specs.Fitting.{CanFill, Suits, CanChange}
 use Rattle.pv_edit.specs.Reasons.{is_top, items_of, kids_at}
 use Rattle.pv_edit.proofs.Standing.{NodeAt, here, down, at_node, first}
 use Rattle.pv_edit.proofs.Listing.{ListAt, top, inside}
@@ -43,7 +43,7 @@ pub record Made {M : Type 0} (m : M) (list : List ℕ) (c : Change M) (root : Tr
   pub owner : Owner m list root ts
   pub order : c.from ≤ c.to
   pub within : c.to ≤ length ts
-  pub fits : Fits c.filling (between c.from c.to ts)
+  pub fits : CanFill c.filling (between c.from c.to ts)
   pub one : is_top list ≡ true → length (list_after c ts) ≡ 1
   pub unshort : is_top list ≡ true → c.shorten ≡ false
 

@@ -14,7 +14,8 @@ brings_element (named name) = true
 
 -- new trees have no kids, and an element among them comes alone
 abbrev pub BringsBare : {M : Type 0} → Filling M → Type 0
-BringsBare (others trees) = AllByRecursion (λ t. kids_of t ≡ []) trees × (list_any is_element trees ≡ true → length trees ≡ 1)
+BringsBare (others trees) = AllByRecursion (λ t. kids_of t ≡ []) trees ×
+    (list_any is_element trees ≡ true → length trees ≡ 1)
 BringsBare (around name attrs ending mark) = Unit {0}
 BringsBare inner = Unit {0}
 BringsBare (named name) = Unit {0}

@@ -1,8 +1,10 @@
--- Which lists an edit changes, when it is made or made again and when it is undone: the paths of the new document, in document order.
+-- Which lists an edit changes, when it is made or made again and when it is undone: the paths of
+-- the new document, in document order.
 use Rattle.std.specs.Prelude.{ℕ, List, [], ◌∷◌, ◌++◌}
 use Rattle.pv_edit.specs.Effects.{parent_of}
 use Rattle.pv_edit.specs.declared.edits.Edit.{Edit}
-use Rattle.pv_edit.specs.declared.edits.Edit.TheVariants.{Wrap, Insert, Unwrap, Rename, Split, Join, SetText, AddText, DelText}
+use Rattle.pv_edit.specs.declared.edits.Edit.TheVariants.{Wrap, Insert, Unwrap, Rename, Split, Join}
+use Rattle.pv_edit.specs.declared.edits.Edit.TheVariants.{SetText, AddText, DelText}
 
 pub data Move : Type 0 where
   makes : (edit : Edit) → Move

@@ -1,17 +1,20 @@
 -- A change of one list of a document: some kids that stand side by side give way to other trees.
 use Rattle.std.specs.Prelude.{ℕ, zero, suc, Bool, true, false, List, [], ◌∷◌, ◌++◌, map}
 use Rattle.std.specs.List.{between, splice}
-use Rattle.pv_tree.specs.Plain.{Ending, short, tagged, Tree, element, text_node, cdata_node, misc_node, Forest, no_trees, tree, forest_of, PlainDoc}
+use Rattle.pv_tree.specs.Plain.{Ending, short, tagged, Tree, element, text_node, cdata_node}
+use Rattle.pv_tree.specs.Plain.{misc_node, Forest, no_trees, tree, forest_of, PlainDoc}
 use Rattle.pv_tree.specs.Places.{kids_of}
 
--- what comes in place of some trees: other trees, an element around them, their own kids, or the same under another name
+-- what comes in place of some trees: other trees, an element around them, their own kids, or the
+-- same under another name
 pub data Filling (M : Type 0) : Type 0 where
   others : (trees : List (Tree M)) → Filling M
   around : (name attrs : List ℕ) → (ending : Ending) → (mark : M) → Filling M
   inner : Filling M
   named : (name : List ℕ) → Filling M
 
--- In the list at a path, the kids from one place up to but not including another give way. The owner of the list may get `/>` back.
+-- In the list at a path, the kids from one place up to but not including another give way. The
+-- owner of the list may get `/>` back.
 pub record Change (M : Type 0) : Type 0 where
   pub list : List ℕ
   pub from : ℕ
@@ -40,7 +43,8 @@ in_place_of (named name) ts = map (with_name name) ts
 abbrev pub list_after : {M : Type 0} → Change M → List (Tree M) → List (Tree M)
 list_after c ts = splice ts c.from c.to (in_place_of c.filling (between c.from c.to ts))
 
--- how the owner of a list ends: one that gets a kid has an end tag from then on, and one that loses its last kid keeps its end
+-- how the owner of a list ends: one that gets a kid has an end tag from then on, and one that loses
+-- its last kid keeps its end
 abbrev pub ending_after : {M : Type 0} → Bool → Ending → List (Tree M) → Ending
 ending_after true ending ts = short
 ending_after false short [] = short
@@ -48,7 +52,8 @@ ending_after false short (t ∷ ts) = tagged []
 ending_after false (tagged gap) ts = tagged gap
 
 abbrev pub with_list : {M : Type 0} → Bool → List (Tree M) → Tree M → Tree M
-with_list shorten ts (element x attrs ending kids mark) = element x attrs (ending_after shorten ending ts) (forest_of ts) mark
+with_list shorten ts (element x attrs ending kids mark) =
+    element x attrs (ending_after shorten ending ts) (forest_of ts) mark
 with_list shorten ts (text_node units) = text_node units
 with_list shorten ts (cdata_node bytes) = cdata_node bytes
 with_list shorten ts (misc_node bytes) = misc_node bytes
@@ -66,7 +71,8 @@ change_kid f (suc i) (tree t rest) = tree t (change_kid f i rest)
 -- the tree with the node at a path below it changed
 abbrev pub change_below : {M : Type 0} → List ℕ → (Tree M → Tree M) → Tree M → Tree M
 change_below [] f t = f t
-change_below (i ∷ path) f (element x attrs ending kids mark) = element x attrs ending (change_kid (change_below path f) i kids) mark
+change_below (i ∷ path) f (element x attrs ending kids mark) =
+    element x attrs ending (change_kid (change_below path f) i kids) mark
 change_below (i ∷ path) f (text_node units) = text_node units
 change_below (i ∷ path) f (cdata_node bytes) = cdata_node bytes
 change_below (i ∷ path) f (misc_node bytes) = misc_node bytes

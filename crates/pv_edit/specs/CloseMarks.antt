@@ -1,5 +1,6 @@
 -- Texts that stand side by side, searched from the left for `]]>`.
-use Rattle.std.specs.Prelude.{◌≡◌, ◌++◌, ℕ, Bool, true, false, ◌&&◌, ◌==◌, List, [], ◌∷◌, codes, Option, Some, None, option_and_then, if◌then◌else◌}
+use Rattle.std.specs.Prelude.{◌≡◌, ◌++◌, ℕ, Bool, true, false, ◌&&◌, ◌==◌, List, [], ◌∷◌, codes}
+use Rattle.std.specs.Prelude.{Option, Some, None, option_and_then, if◌then◌else◌}
 use Rattle.std.specs.Str.{bytes_eq}
 use Rattle.pv_tree.specs.Plain.{Tree, element, text_node, cdata_node, misc_node}
 use Rattle.pv_edit.specs.declared.close_marks.Brackets.{Brackets}
@@ -16,9 +17,11 @@ are_two Zero = false
 are_two One = false
 are_two Two = true
 
--- what stands at the end behind one more unit, where that is a `]`, and where it is a `>`; none where that ends a `]]>`
+-- what stands at the end behind one more unit, where that is a `]`, and where it is a `>`; none
+-- where that ends a `]]>`
 abbrev pub behind : Brackets → Bool → Bool → Option Brackets
-behind b is_bracket is_angle = if is_bracket then Some (one_more b) else (if is_angle && are_two b then None else Some Zero)
+behind b is_bracket is_angle =
+    if is_bracket then Some (one_more b) else (if is_angle && are_two b then None else Some Zero)
 
 abbrev pub after_unit : Brackets → List ℕ → Option Brackets
 after_unit b unit = behind b (bytes_eq unit (codes "]")) (bytes_eq unit (codes ">"))
@@ -41,9 +44,11 @@ search_trees b [] = Some b
 search_trees b (t ∷ ts) = option_and_then (λ c. search_trees c ts) (search_tree b t)
 
 -- three parts of a list, one behind the other
-abbrev pub search_parts : {M : Type 0} → List (Tree M) → List (Tree M) → List (Tree M) → Option Brackets
+abbrev pub search_parts : {M : Type 0} → List (Tree M) → List (Tree M) → List (Tree M) →
+    Option Brackets
 search_parts front middle back =
-    option_and_then (λ b. option_and_then (λ c. search_trees c back) (search_trees b middle)) (search_trees Zero front)
+    option_and_then (λ b. option_and_then (λ c. search_trees c back) (search_trees b middle))
+    (search_trees Zero front)
 
 -- the same up to the first node that is no text
 abbrev pub search_run : {M : Type 0} → Brackets → List (Tree M) → Option Brackets
@@ -60,12 +65,15 @@ pub record EndsBy {M : Type 0} (ts run : List (Tree M)) : Type 0 where
   pub stops : (b : Brackets) → search_trees Zero front ≡ Some b → b ≡ Zero
 
 -- a run, what stands behind it, and the run at the front of what stands behind that
-abbrev pub search_near : {M : Type 0} → List (Tree M) → List (Tree M) → List (Tree M) → Option Brackets
+abbrev pub search_near : {M : Type 0} → List (Tree M) → List (Tree M) → List (Tree M) →
+    Option Brackets
 search_near run middle back =
-    option_and_then (λ b. option_and_then (λ c. search_run c back) (search_trees b middle)) (search_trees Zero run)
+    option_and_then (λ b. option_and_then (λ c. search_run c back) (search_trees b middle))
+    (search_trees Zero run)
 
 -- the search of three parts needs no more than the last run of the first
-pub record IsNear {M : Type 0} (front middle back : List (Tree M)) (result : Option Brackets) : Type 0 where
+pub record IsNear {M : Type 0} (front middle back : List (Tree M)) (result : Option Brackets) :
+    Type 0 where
   pub run : List (Tree M)
   pub ends : EndsBy front run
   pub is : result ≡ search_near run middle back

@@ -1,7 +1,8 @@
 -- How many nodes an edit makes, and how many it takes away.
 use Rattle.std.specs.Prelude.{ℕ}
 use Rattle.pv_edit.specs.declared.edits.Edit.{Edit}
-use Rattle.pv_edit.specs.declared.edits.Edit.TheVariants.{Wrap, Insert, Unwrap, Rename, Split, Join, SetText, AddText, DelText}
+use Rattle.pv_edit.specs.declared.edits.Edit.TheVariants.{Wrap, Insert, Unwrap, Rename, Split, Join}
+use Rattle.pv_edit.specs.declared.edits.Edit.TheVariants.{SetText, AddText, DelText}
 
 abbrev pub nodes_made : Edit → ℕ
 nodes_made (Wrap path from to name) = 1

@@ -1,7 +1,8 @@
 -- What an edit names.
 use Rattle.std.specs.Prelude.{ℕ, List}
 use Rattle.pv_edit.specs.declared.edits.Edit.{Edit}
-use Rattle.pv_edit.specs.declared.edits.Edit.TheVariants.{Wrap, Insert, Unwrap, Rename, Split, Join, SetText, AddText, DelText}
+use Rattle.pv_edit.specs.declared.edits.Edit.TheVariants.{Wrap, Insert, Unwrap, Rename, Split, Join}
+use Rattle.pv_edit.specs.declared.edits.Edit.TheVariants.{SetText, AddText, DelText}
 
 -- the path that an edit names: that of a list for Wrap, Insert and AddText, and else that of a node
 abbrev pub path_named : Edit → List ℕ

@@ -1,11 +1,13 @@
 -- What an edit does: the change that it makes.
 use Rattle.std.specs.Prelude.{ℕ, ◌+◌, false, List, [], ◌∷◌, ◌++◌, take, drop, Option, Some, None}
-use Rattle.pv_tree.specs.Plain.{Tree, element, text_node, cdata_node, misc_node, no_trees, short, tagged}
+use Rattle.pv_tree.specs.Plain.{Tree, element, text_node, cdata_node, misc_node, no_trees, short}
+use Rattle.pv_tree.specs.Plain.{tagged}
 use Rattle.pv_tree.specs.Places.{Spot, at_document, at_node, spot_at}
 use Rattle.pv_edit.specs.Given.{new_units}
 use Rattle.pv_edit.specs.Changes.{Change, Filling, others, around, inner, named}
 use Rattle.pv_edit.specs.declared.edits.Edit.{Edit}
-use Rattle.pv_edit.specs.declared.edits.Edit.TheVariants.{Wrap, Insert, Unwrap, Rename, Split, Join, SetText, AddText, DelText}
+use Rattle.pv_edit.specs.declared.edits.Edit.TheVariants.{Wrap, Insert, Unwrap, Rename, Split, Join}
+use Rattle.pv_edit.specs.declared.edits.Edit.TheVariants.{SetText, AddText, DelText}
 
 -- the path of the node whose kid stands at a path
 abbrev pub parent_of : List ℕ → List ℕ
@@ -48,7 +50,8 @@ one_text units = text_node units ∷ []
 
 -- something comes in place of the kids from one place up to another, in the list at a path
 abbrev pub fill : {M : Type 0} → List ℕ → ℕ → ℕ → Filling M → Change M
-fill list from to filling = record { list = list; from = from; to = to; filling = filling; shorten = false }
+fill list from to filling =
+    record { list = list; from = from; to = to; filling = filling; shorten = false }
 
 -- in place of the node at a path
 abbrev pub fill_node : {M : Type 0} → List ℕ → Filling M → Change M
@@ -61,11 +64,13 @@ fill_two path filling = fill (parent_of path) (place_of path) (place_of path + 2
 -- The change that an edit makes. New elements have a blank mark.
 abbrev pub change_of : {M : Type 0} → M → Tree M → Edit → Change M
 change_of blank root (Wrap path from to name) = fill path from to (around name [] (tagged []) blank)
-change_of blank root (Insert path at name) = fill path at at (others (element name [] short no_trees blank ∷ []))
+change_of blank root (Insert path at name) =
+    fill path at at (others (element name [] short no_trees blank ∷ []))
 change_of blank root (Unwrap path) = fill_node path inner
 change_of blank root (Rename path name) = fill_node path (named name)
 change_of blank root (Split path at) = fill_node path (others (two_texts at (units_at path root)))
-change_of blank root (Join path) = fill_two path (others (one_text (units_at path root ++ units_at (next_of path) root)))
+change_of blank root (Join path) =
+    fill_two path (others (one_text (units_at path root ++ units_at (next_of path) root)))
 change_of blank root (SetText path text) = fill_node path (others (one_text (new_units text)))
 change_of blank root (AddText path at text) = fill path at at (others (one_text (new_units text)))
 change_of blank root (DelText path) = fill_node path (others [])

@@ -1,7 +1,8 @@
 -- The changes of the program as plain changes, and which of them can be made.
 use Rattle.std.specs.Prelude.{◌≡◌, ◌≤◌, ℕ, zero, suc, List, [], ◌∷◌, length, IsTrue, IsSomeAnd}
 use Rattle.std.specs.List.{between, splice}
-use Rattle.pv_tree.specs.Plain.{Tree, element, text_node, cdata_node, misc_node, forest_of, is_element}
+use Rattle.pv_tree.specs.Plain.{Tree, element, text_node, cdata_node, misc_node, forest_of}
+use Rattle.pv_tree.specs.Plain.{is_element}
 use Rattle.pv_tree.specs.Places.{kids_of, node_below}
 use Rattle.pv_tree.specs.PlainForms.{plain_all, plain_end}
 use Rattle.pv_tree.specs.declared.nodes.Mark.{Mark}
@@ -9,7 +10,8 @@ use Rattle.pv_tree.specs.Marks.{blank_mark}
 use Rattle.pv_edit.specs.Changes as plain_changes
 use Rattle.pv_edit.specs.Changes.{in_place_of, list_after}
 use Rattle.pv_edit.specs.Reasons.{is_one_element}
-use Rattle.pv_edit.specs.declared.descent.Change.{Change}
+use Rattle.pv_edit.specs.declared.tasks.Change.{Change}
+use Rattle.pv_edit.specs.declared.tasks.Task.{Task}
 use Rattle.pv_edit.specs.declared.filling.Filling.{Filling}
 use Rattle.pv_edit.specs.declared.filling.Filling.TheVariants.{Others, Around, Inner, Named}
 
@@ -19,20 +21,30 @@ plain_filling (Around name attrs e) = plain_changes.around name attrs (plain_end
 plain_filling Inner = plain_changes.inner
 plain_filling (Named name) = plain_changes.named name
 
--- an element gives way to its kids, and an element is renamed
-abbrev pub Fits : {M : Type 0} → plain_changes.Filling M → List (Tree M) → Type 0
-Fits (plain_changes.others trees) ts = Unit {0}
-Fits (plain_changes.around name attrs ending mark) ts = Unit {0}
-Fits plain_changes.inner ts = IsTrue (is_one_element ts)
-Fits (plain_changes.named name) ts = IsTrue (is_one_element ts)
+-- a filling can come in place of trees: an element gives way to its kids, and an element is renamed
+abbrev pub CanFill : {M : Type 0} → plain_changes.Filling M → List (Tree M) → Type 0
+CanFill (plain_changes.others trees) ts = Unit {0}
+CanFill (plain_changes.around name attrs ending mark) ts = Unit {0}
+CanFill plain_changes.inner ts = IsTrue (is_one_element ts)
+CanFill (plain_changes.named name) ts = IsTrue (is_one_element ts)
 
 -- the trees with a filling in place of some
-abbrev pub with_filling : {M : Type 0} → ℕ → ℕ → plain_changes.Filling M → List (Tree M) → List (Tree M)
+abbrev pub with_filling : {M : Type 0} → ℕ → ℕ → plain_changes.Filling M → List (Tree M) →
+    List (Tree M)
 with_filling from to filling ts = splice ts from to (in_place_of filling (between from to ts))
 
 -- the change of the list at a path
 abbrev pub plain_change : List ℕ → Change → plain_changes.Change Mark
-plain_change list c = record { list = list; from = c.from; to = c.to; filling = plain_filling c.filling; shorten = c.shorten }
+plain_change list c = record {
+  list = list;
+  from = c.from;
+  to = c.to;
+  filling = plain_filling c.filling;
+  shorten = c.shorten;
+}
+
+abbrev pub plain_task : Task → plain_changes.Change Mark
+plain_task task = plain_change task.list task.change
 
 -- the element with other kids
 abbrev pub with_kids : {M : Type 0} → List (Tree M) → Tree M → Tree M
@@ -45,7 +57,7 @@ with_kids ts (misc_node bytes) = misc_node bytes
 pub record Suits {M : Type 0} (c : plain_changes.Change M) (ts : List (Tree M)) : Type 0 where
   pub order : c.from ≤ c.to
   pub within : c.to ≤ length ts
-  pub fits : Fits c.filling (between c.from c.to ts)
+  pub fits : CanFill c.filling (between c.from c.to ts)
 
 -- an element whose list can be changed
 pub record Takes {M : Type 0} (c : plain_changes.Change M) (t : Tree M) : Type 0 where

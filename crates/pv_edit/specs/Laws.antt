@@ -12,62 +12,80 @@ use Rattle.pv_edit.specs.Origins.{IsKeptList, IsNone}
 use Rattle.pv_tree.specs.Legal.{MAX_NODES}
 use Rattle.pv_tree.specs.Marks.{unmarked_doc}
 use Rattle.pv_edit.specs.Given.{is_line_end, is_new_text, new_units}
-use Rattle.pv_edit.specs.Inverses.{IsKept, LeadsBack, change_back, inverse_of, reverted}
+use Rattle.pv_edit.specs.Inverses.{IsKept, LeadsBack, change_back, inverse_of, doc_back}
 use Rattle.pv_edit.specs.Leaves.{IsOfTags, leaves_in}
 use Rattle.pv_edit.specs.Reasons.{Outcome, applied, gives, refuses}
 use Rattle.pv_edit.specs.declared.edits.Edit.{Edit}
 use Rattle.pv_edit.specs.declared.inverses.Inverse.{Inverse}
 
--- The document that an inverse makes of an edited one is the one that it leads back to, so it leads to no other.
+-- The document that an inverse makes of an edited one is the one that it leads back to, so it leads
+-- to no other.
 abbrev pub LeadsToOne : Type 0 → Type 0
-LeadsToOne M = (inverse : Inverse) (edited : PlainDoc M) (before : PlainDoc Unit) → LeadsBack inverse edited before →
-    reverted tt (unmarked_doc edited) inverse ≡ before
+LeadsToOne M = (inverse : Inverse) (edited : PlainDoc M) (before : PlainDoc Unit) →
+    LeadsBack inverse edited before →
+    doc_back tt (unmarked_doc edited) inverse ≡ before
 
--- A text may be put into a document exactly where it means units, which are then its units, and holds no literal CR or LF.
+-- A text may be put into a document exactly where it means units, which are then its units, and
+-- holds no literal CR or LF.
 abbrev pub NewTextsMeanUnits : Type 0
 NewTextsMeanUnits = (bytes : List ℕ) →
-    IsTrue (is_new_text bytes) ↔ (TextMeans bytes (Ok (new_units bytes)) × (list_any is_line_end bytes ≡ false))
+    IsTrue (is_new_text bytes) ↔ (TextMeans bytes (Ok (new_units bytes)) ×
+    (list_any is_line_end bytes ≡ false))
 
 -- The inverse of an edit leads from the edited document back to the one before it.
 abbrev pub InversesLeadBack : Type 0 → Type 0
-InversesLeadBack M = (blank : M) (doc made : PlainDoc M) (edit : Edit) → IsKept doc.root → applied blank doc edit ≡ gives made →
+InversesLeadBack M = (blank : M) (doc made : PlainDoc M) (edit : Edit) → IsKept doc.root →
+    applied blank doc edit ≡ gives made →
     LeadsBack (inverse_of doc.root edit) made (unmarked_doc doc)
 
 -- What a document keeps of its tree holds after an edit.
 abbrev pub EditsKeep : Type 0 → Type 0
-EditsKeep M = (blank : M) (doc made : PlainDoc M) (edit : Edit) → IsKept doc.root → nodes_in doc.root < MAX_NODES →
+EditsKeep M = (blank : M) (doc made : PlainDoc M) (edit : Edit) → IsKept doc.root →
+    nodes_in doc.root < MAX_NODES →
     applied blank doc edit ≡ gives made → IsKept made.root
 
 -- An edit of tags keeps every leaf of the document in its order.
 abbrev pub TagsKeepLeaves : Type 0 → Type 0
-TagsKeepLeaves M = (blank : M) (doc made : PlainDoc M) (edit : Edit) → IsOfTags edit → applied blank doc edit ≡ gives made →
+TagsKeepLeaves M = (blank : M) (doc made : PlainDoc M) (edit : Edit) → IsOfTags edit →
+    applied blank doc edit ≡ gives made →
     leaves_in made.root ≡ leaves_in doc.root
 
--- A list of the edited document that the edit doesn't change stood in the document before, with the same owner and the same heads of kids.
+-- A list of the edited document that the edit doesn't change stood in the document before, with the
+-- same owner and the same heads of kids.
 abbrev pub OtherListsStay : Type 0 → Type 0
-OtherListsStay M = (blank : M) (doc made : PlainDoc M) (edit : Edit) → IsTrue (is_element doc.root) → applied blank doc edit ≡ gives made →
-    (path : List ℕ) (kids : List (Tree M)) → list_at path made.root ≡ Some kids → IsNone path (changed_lists (makes edit)) →
+OtherListsStay M = (blank : M) (doc made : PlainDoc M) (edit : Edit) →
+    IsTrue (is_element doc.root) → applied blank doc edit ≡ gives made →
+    (path : List ℕ) (kids : List (Tree M)) → list_at path made.root ≡ Some kids →
+    IsNone path (changed_lists (makes edit)) →
     IsKeptList (change_of blank doc.root edit) doc made path
 
 -- The same where an edit is taken back.
 abbrev pub OtherListsStayUndone : Type 0 → Type 0
-OtherListsStayUndone M = (blank : M) (inverse : Inverse) (doc : PlainDoc M) (before : PlainDoc Unit) (l : LeadsBack inverse doc before) →
-    (path : List ℕ) (kids : List (Tree M)) → list_at path (reverted blank doc inverse).root ≡ Some kids →
-    IsNone path (changed_lists (undoes l.edit)) → IsKeptList (change_back blank doc.root inverse) doc (reverted blank doc inverse) path
+OtherListsStayUndone M = (blank : M) (inverse : Inverse) (doc : PlainDoc M) (before : PlainDoc Unit)
+    (l : LeadsBack inverse doc before) →
+    (path : List ℕ) (kids : List (Tree M)) → list_at path (doc_back blank doc inverse).root
+    ≡ Some kids →
+    IsNone path (changed_lists (undoes l.edit)) →
+    IsKeptList (change_back blank doc.root inverse) doc (doc_back blank doc inverse) path
 
 -- The lists that an edit changes are those that its change changes.
 abbrev pub EditsChangeLists : Type 0 → Type 0
-EditsChangeLists M = (blank : M) (doc made : PlainDoc M) (edit : Edit) → applied blank doc edit ≡ gives made →
+EditsChangeLists M = (blank : M) (doc made : PlainDoc M) (edit : Edit) → applied blank doc edit
+    ≡ gives made →
     lists_changed (change_of blank doc.root edit) ≡ changed_lists (makes edit)
 
 -- The same of its inverse, whatever the root is on which that is made.
 abbrev pub InversesChangeLists : Type 0 → Type 0
-InversesChangeLists M = (blank : M) (root : Tree M) (before edited : PlainDoc Unit) (edit : Edit) → applied tt before edit ≡ gives edited →
-    lists_changed (change_back blank root (inverse_of before.root edit)) ≡ changed_lists (undoes edit)
+InversesChangeLists M = (blank : M) (root : Tree M) (before edited : PlainDoc Unit) (edit : Edit) →
+    applied tt before edit ≡ gives edited →
+    lists_changed (change_back blank root (inverse_of before.root edit))
+    ≡ changed_lists (undoes edit)
 
--- A document has so many nodes more after an edit as the edit makes, and so many fewer as it takes away.
+-- A document has so many nodes more after an edit as the edit makes, and so many fewer as it takes
+-- away.
 abbrev pub NodesAreCounted : Type 0 → Type 0
-NodesAreCounted M = (blank : M) (doc made : PlainDoc M) (edit : Edit) → IsTrue (is_element doc.root) → applied blank doc edit ≡ gives made →
+NodesAreCounted M = (blank : M) (doc made : PlainDoc M) (edit : Edit) →
+    IsTrue (is_element doc.root) → applied blank doc edit ≡ gives made →
     nodes_in made.root + nodes_taken edit ≡ nodes_in doc.root + nodes_made edit
 
 -- the outcome without the marks of its document

@@ -1,8 +1,11 @@
--- The leaves of a document: texts, CDATA sections, comments and processing instructions, in document order.
+-- The leaves of a document: texts, CDATA sections, comments and processing instructions, in
+-- document order.
 use Rattle.std.specs.Prelude.{List, [], ◌∷◌, ◌++◌}
-use Rattle.pv_tree.specs.Plain.{Tree, element, text_node, cdata_node, misc_node, Forest, no_trees, tree}
+use Rattle.pv_tree.specs.Plain.{Tree, element, text_node, cdata_node, misc_node, Forest, no_trees}
+use Rattle.pv_tree.specs.Plain.{tree}
 use Rattle.pv_edit.specs.declared.edits.Edit.{Edit}
-use Rattle.pv_edit.specs.declared.edits.Edit.TheVariants.{Wrap, Insert, Unwrap, Rename, Split, Join, SetText, AddText, DelText}
+use Rattle.pv_edit.specs.declared.edits.Edit.TheVariants.{Wrap, Insert, Unwrap, Rename, Split, Join}
+use Rattle.pv_edit.specs.declared.edits.Edit.TheVariants.{SetText, AddText, DelText}
 
 abbrev mutual
   pub leaves_in : {M : Type 0} → Tree M → List (Tree Unit)

@@ -1,16 +1,21 @@
 -- Why an edit is refused, and what it gives where it isn't.
-use Rattle.std.specs.Prelude.{ℕ, Bool, true, false, not, ◌&&◌, ◌||◌, ◌==◌, nat_le, nat_lt, List, [], ◌∷◌, length, Option, Some, None}
+use Rattle.std.specs.Prelude.{ℕ, Bool, true, false, not, ◌&&◌, ◌||◌, ◌==◌, nat_le, nat_lt, List, []}
+use Rattle.std.specs.Prelude.{◌∷◌, length, Option, Some, None}
 use Rattle.pv_chars.specs.Texts.{holds_close_mark}
-use Rattle.pv_tree.specs.Plain.{Tree, element, text_node, cdata_node, misc_node, Forest, no_trees, tree, forest_of, depth_of, is_element, PlainDoc}
+use Rattle.pv_tree.specs.Plain.{Tree, element, text_node, cdata_node, misc_node, Forest, no_trees}
+use Rattle.pv_tree.specs.Plain.{tree, forest_of, depth_of, is_element, PlainDoc}
 use Rattle.pv_tree.specs.Places.{Spot, at_document, at_node, spot_at, list_at}
 use Rattle.pv_tree.specs.Legal.{front_units, MAX_DEPTH}
 use Rattle.pv_edit.specs.Given.{is_new_name, is_new_text}
 use Rattle.pv_edit.specs.Changes.{Change, list_after, root_after, doc_after}
 use Rattle.pv_edit.specs.Effects.{change_of, next_of, units_at}
 use Rattle.pv_edit.specs.declared.edits.Edit.{Edit}
-use Rattle.pv_edit.specs.declared.edits.Edit.TheVariants.{Wrap, Insert, Unwrap, Rename, Split, Join, SetText, AddText, DelText}
+use Rattle.pv_edit.specs.declared.edits.Edit.TheVariants.{Wrap, Insert, Unwrap, Rename, Split, Join}
+use Rattle.pv_edit.specs.declared.edits.Edit.TheVariants.{SetText, AddText, DelText}
 use Rattle.pv_edit.specs.declared.reasons.Reason.{Reason}
-use Rattle.pv_edit.specs.declared.reasons.Reason.TheVariants.{NoNode, NotElement, NotText, Range, BadName, BadText, RootShape, Deep, CloseMark}
+use Rattle.pv_edit.specs.declared.reasons.Reason.TheVariants.{NoNode, NotElement, NotText, Range}
+use Rattle.pv_edit.specs.declared.reasons.Reason.TheVariants.{BadName, BadText, RootShape, Deep}
+use Rattle.pv_edit.specs.declared.reasons.Reason.TheVariants.{CloseMark}
 
 abbrev pub is_text : {M : Type 0} → Tree M → Bool
 is_text (element x attrs ending kids mark) = false
@@ -54,7 +59,8 @@ is_root (i ∷ j ∷ path) = false
 -- the units of some run of texts side by side, joined, hold `]]>`
 abbrev pub spells_close_mark : {M : Type 0} → Forest M → Bool
 spells_close_mark no_trees = false
-spells_close_mark (tree t rest) = holds_close_mark (front_units (tree t rest)) || spells_close_mark rest
+spells_close_mark (tree t rest) =
+    holds_close_mark (front_units (tree t rest)) || spells_close_mark rest
 
 -- the result would be too deep
 abbrev pub goes_too_deep : {M : Type 0} → Change M → Tree M → Bool
@@ -125,7 +131,8 @@ reason_of blank root (AddText path at text) =
     (unless (nat_lt (length (kids_at path root)) at) Range
     (unless (not (is_new_text text)) BadText
     (unless (is_top path) RootShape
-    (unless (makes_close_mark (change_of blank root (AddText path at text)) root) CloseMark None)))))
+    (unless (makes_close_mark (change_of blank root (AddText path at text)) root) CloseMark
+    None)))))
 reason_of blank root (DelText path) =
     unless (lacks_node path root) NoNode
     (unless (lacks_text path root) NotText
@@ -142,4 +149,5 @@ outcome None doc = gives doc
 
 -- the document after an edit, or the first reason to refuse it
 abbrev pub applied : {M : Type 0} → M → PlainDoc M → Edit → Outcome M
-applied blank doc edit = outcome (reason_of blank doc.root edit) (doc_after (change_of blank doc.root edit) doc)
+applied blank doc edit = outcome (reason_of blank doc.root edit)
+    (doc_after (change_of blank doc.root edit) doc)

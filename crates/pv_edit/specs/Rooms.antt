@@ -7,7 +7,8 @@ use Rattle.pv_edit.specs.Fitting.{Takes}
 use Rattle.pv_edit.specs.declared.rooms.Room.{Room}
 
 -- empty vectors, for a list whose vector has room for so many before the change
-pub record HasRoom {M : Type 0} (room : Room) (had : ℕ) (c : Change M) (ts : List (Tree M)) : Type 0 where
+pub record HasRoom {M : Type 0} (room : Room) (had : ℕ) (c : Change M) (ts : List (Tree M)) :
+    Type 0 where
   pub none_there : room.kids.items ≡ []
   pub none_taken : room.taken.items ≡ []
   pub list : length (list_after c ts) ≤ room.count

@@ -22,7 +22,8 @@ pub struct Done {
 pub enum EditAnswer {
     /// It can't be made; this is the first reason.
     Shape(Reason),
-    /// Inserting elements could no longer make the document valid; this is the path of the first impossible list.
+    /// Inserting elements could no longer make the document valid; this is the path of the first
+    /// impossible list.
     Impossible(Path),
     /// The document would be past a limit.
     Limit,

@@ -8,8 +8,8 @@ ghost use Rattle.pv_tree.specs.Marks.{blank_mark, unmarked_doc};
 ghost use Rattle.pv_tree.specs.declared.nodes.Mark.{Mark};
 ghost use Rattle.pv_edit.specs.Brought.{BringsBare};
 ghost use Rattle.pv_edit.specs.Changes.{doc_after, root_after};
-ghost use Rattle.pv_edit.specs.Fitting.{CanChange, plain_change, plain_filling};
-ghost use Rattle.pv_edit.specs.Inverses.{IsKept, LeadsBack, inverse_of, reverted};
+ghost use Rattle.pv_edit.specs.Fitting.{CanChange, plain_task, plain_filling};
+ghost use Rattle.pv_edit.specs.Inverses.{IsKept, LeadsBack, inverse_of, doc_back};
 ghost use Rattle.pv_edit.specs.Reasons.{applied, gives, is_top, reason_of};
 ghost use Rattle.pv_edit.specs.Preparations.{IsPreparation, IsTask};
 ghost use Rattle.pv_edit.specs.Refusals.{IsRefused};
@@ -17,33 +17,33 @@ ghost use Rattle.pv_edit.specs.Refusals.{IsRefused};
 use crate::descent::change_root;
 use crate::edits::Edit;
 use crate::inverses::Inverse;
-use crate::preparations::{Preparation, Task, preparation_of};
+use crate::preparations::preparation_of;
 use crate::reasons::EditError;
 use crate::rooms::room_for;
 use crate::shapes::first_reason;
+use crate::tasks::{Preparation, Task};
 use crate::ways_back::task_back;
 use pv_chars::NoMemory;
 use pv_tree::Doc;
 use std::alloc::Global;
 
-/// What an edit is going to do, and what undoes it: all that can be made ready before the document is touched.
+/// What an edit is going to do, and what undoes it: all that can be made ready before the document
+/// is touched.
 ///
 /// The inverse leads back from each document that the change makes, whatever its marks are.
 pub fn prepare(alloc: Global, doc: &Doc, edit: &Edit) -> Result<Preparation, EditError>
     ensures prepared { IfOk result (IsPreparation (plain_doc doc.now).root edit.now) }
     ensures given { IfOk result (λ _. reason_of blank_mark (plain_doc doc.now).root edit.now
         ≡ None) }
-    ensures can { IfOk result (λ ready. CanChange ready.task.list
-        (plain_change ready.task.list ready.task.change) (plain_doc doc.now).root) }
-    ensures kept { nodes_in (plain_doc doc.now).root < MAX_NODES →
-        IfOk result (λ ready. IsKept (root_after ready.task.list
-        (plain_change ready.task.list ready.task.change) (plain_doc doc.now).root)) }
+    ensures can { IfOk result (λ ready. CanChange ready.task.list (plain_task ready.task)
+        (plain_doc doc.now).root) }
+    ensures kept { nodes_in (plain_doc doc.now).root < MAX_NODES → IfOk result (λ ready.
+        IsKept (root_after ready.task.list (plain_task ready.task) (plain_doc doc.now).root)) }
     ensures unshort { IfOk result (λ ready. is_top ready.task.list ≡ true →
         ready.task.change.shorten ≡ false) }
     ensures bare { IfOk result (λ ready. BringsBare (plain_filling ready.task.change.filling)) }
     ensures leads_back { IfOk result (λ ready. (made : PlainDoc Mark) →
-        unmarked_doc made
-        ≡ unmarked_doc (doc_after (plain_change ready.task.list ready.task.change) (plain_doc doc.now)) →
+        unmarked_doc made ≡ unmarked_doc (doc_after (plain_task ready.task) (plain_doc doc.now)) →
         LeadsBack ready.inverse made (unmarked_doc (plain_doc doc.now))) }
     ensures refused { IfErr result (IsRefused (applied blank_mark (plain_doc doc.now) edit.now)) }
 {
@@ -51,20 +51,21 @@ pub fn prepare(alloc: Global, doc: &Doc, edit: &Edit) -> Result<Preparation, Edi
     Ok(preparation_of(alloc, doc, edit)?)
 }
 
-/// What an inverse is going to do: it makes the document that the inverse leads to, whatever the marks are.
+/// What an inverse is going to do: it makes the document that the inverse leads to, whatever the
+/// marks are.
 pub fn prepare_back(alloc: Global, doc: &Doc, inverse: &Inverse) -> Result<Task, NoMemory>
     requires { (before : PlainDoc Unit) × LeadsBack inverse.now (plain_doc doc.now) before }
     ensures task { IfOk result (IsTask (plain_doc doc.now).root inverse.now) }
-    ensures can { IfOk result (λ task. CanChange task.list (plain_change task.list task.change)
+    ensures can { IfOk result (λ task. CanChange task.list (plain_task task)
         (plain_doc doc.now).root) }
     ensures kept { IfOk result (λ task. IsKept
-        (root_after task.list (plain_change task.list task.change) (plain_doc doc.now).root)) }
-    ensures unshort { IfOk result (λ task. is_top task.list ≡ true → task.change.shorten ≡ false) }
+        (root_after task.list (plain_task task) (plain_doc doc.now).root)) }
+    ensures unshort { IfOk result (λ task. is_top task.list ≡ true →
+        task.change.shorten ≡ false) }
     ensures bare { IfOk result (λ task. BringsBare (plain_filling task.change.filling)) }
     ensures led { IfOk result (λ task. (before : PlainDoc Unit) (made : PlainDoc Mark) →
         LeadsBack inverse.now (plain_doc doc.now) before →
-        unmarked_doc made
-        ≡ unmarked_doc (doc_after (plain_change task.list task.change) (plain_doc doc.now)) →
+        unmarked_doc made ≡ unmarked_doc (doc_after (plain_task task) (plain_doc doc.now)) →
         unmarked_doc made ≡ before) }
 {
     task_back(alloc, doc, inverse)
@@ -89,13 +90,14 @@ pub fn apply(alloc: Global, doc: &mut Doc, edit: &Edit) -> Result<Inverse, EditE
     Ok(inverse)
 }
 
-/// Takes an edit back: makes the document that an inverse leads to. After an error the document is as it was.
+/// Takes an edit back: makes the document that an inverse leads to. After an error the document is
+/// as it was.
 ///
 /// A restored element has a blank mark, and all other marks stay.
 pub fn revert(alloc: Global, doc: &mut Doc, inverse: &Inverse) -> Result<(), NoMemory>
     requires { (before : PlainDoc Unit) × LeadsBack inverse.now (plain_doc doc.old) before }
     ensures made { OnOk result (plain_doc doc.new
-        ≡ reverted blank_mark (plain_doc doc.old) inverse.now) }
+        ≡ doc_back blank_mark (plain_doc doc.old) inverse.now) }
     ensures led { (before : PlainDoc Unit) → LeadsBack inverse.now (plain_doc doc.old) before →
         OnOk result (unmarked_doc (plain_doc doc.new) ≡ before) }
     ensures unchanged { OnErr result (plain_doc doc.new ≡ plain_doc doc.old) }
@@ -106,12 +108,9 @@ pub fn revert(alloc: Global, doc: &mut Doc, inverse: &Inverse) -> Result<(), NoM
 
 /// Makes a change that has been made ready, or leaves the document as it is.
 pub fn make(alloc: Global, doc: &mut Doc, task: Task) -> Result<(), NoMemory>
-    requires can { CanChange task.list (plain_change task.list task.change)
-        (plain_doc doc.old).root }
-    requires kept { IsKept (root_after task.list (plain_change task.list task.change)
-        (plain_doc doc.old).root) }
-    ensures ok { OnOk result (plain_doc doc.new ≡ doc_after (plain_change task.list task.change)
-        (plain_doc doc.old)) }
+    requires can { CanChange task.list (plain_task task) (plain_doc doc.old).root }
+    requires kept { IsKept (root_after task.list (plain_task task) (plain_doc doc.old).root) }
+    ensures ok { OnOk result (plain_doc doc.new ≡ doc_after (plain_task task) (plain_doc doc.old)) }
     ensures err { OnErr result (plain_doc doc.new ≡ plain_doc doc.old) }
 {
     let Task { list, change } = task;

@@ -5,7 +5,8 @@ ghost use Rattle.pv_tree.specs.Plain.{forest_of};
 ghost use Rattle.pv_tree.specs.PlainForms.{plain, plain_all};
 ghost use Rattle.pv_edit.specs.Effects.{one_text};
 ghost use Rattle.pv_edit.specs.Reasons.{is_text, spells_close_mark};
-ghost use Rattle.pv_edit.specs.CloseMarks.{EndsBy, IsNear, after_byte, search_bytes, search_run, search_tree, search_trees, search_units};
+ghost use Rattle.pv_edit.specs.CloseMarks.{EndsBy, IsNear, after_byte, search_bytes, search_run};
+ghost use Rattle.pv_edit.specs.CloseMarks.{search_tree, search_trees, search_units};
 
 use pv_chars::Units;
 use pv_tree::Node;
@@ -53,7 +54,8 @@ pub(crate) fn search_text(before: Brackets, text: &Units) -> Option<Brackets>
     search_bytes(before, text.bytes())
 }
 
-/// What stands at the end behind some nodes; none where `]]>` was found. All nodes but texts end the run.
+/// What stands at the end behind some nodes; none where `]]>` was found. All nodes but texts end
+/// the run.
 pub(crate) fn search_nodes(before: Brackets, nodes: &[Node]) -> Option<Brackets>
     ensures { result ≡ search_trees before (plain_all nodes.now) }
 {
@@ -107,7 +109,8 @@ fn last_run(nodes: &[Node]) -> &[Node]
     nodes
 }
 
-/// Whether texts that stand side by side among these nodes, in this order, spell `]]>`; those in front and behind don't by themselves.
+/// Whether texts that stand side by side among these nodes, in this order, spell `]]>`; those in
+/// front and behind don't by themselves.
 pub(crate) fn spell_close_mark(front: &[Node], middle: &[Node], back: &[Node]) -> bool
     requires front { spells_close_mark (forest_of (plain_all front.now)) ≡ false }
     requires back { spells_close_mark (forest_of (plain_all back.now)) ≡ false }

@@ -4,26 +4,18 @@ ghost use Rattle.std.specs.Prelude.{◌≡◌, [], ◌∷◌, IsSomeAnd, IsTrue}
 ghost use Rattle.pv_tree.specs.Plain.{is_element};
 ghost use Rattle.pv_tree.specs.Places.{kids_of, node_below};
 ghost use Rattle.pv_tree.specs.PlainForms.{plain, plain_all, plain_end};
-ghost use Rattle.pv_edit.specs.Changes.{change_below, ending_after, owner_after, root_after, with_list};
+ghost use Rattle.pv_edit.specs.Changes.{change_below, ending_after, owner_after, root_after};
+ghost use Rattle.pv_edit.specs.Changes.{with_list};
 ghost use Rattle.pv_edit.specs.Fitting.{CanChange, TakesTop, plain_change, with_kids};
 ghost use Rattle.pv_edit.specs.Rooms.{HasRoom, HasRoomAt, TakesIn};
 
-use crate::filling::{Filling, fill};
+use crate::filling::fill;
 use crate::rooms::{Room, in_wider};
+use crate::tasks::Change;
 use pv_chars::List;
 use pv_tree::{End, Node};
 use std::alloc::Global;
 use std::mem;
-
-/// A change of one list: others come in place of the kids from one place up to another.
-#[derive(Debug, Drop)]
-pub struct Change {
-    pub from: usize,
-    pub to: usize,
-    pub filling: Filling,
-    /// Whether the owner of the list ends by `/>` afterwards.
-    pub shorten: bool,
-}
 
 /// Changes the list at a path, in memory that was taken before.
 pub(crate) fn change_root(alloc: Global, root: &mut Node, list: &[u32], change: Change, room: Room)

@@ -1,13 +1,14 @@
 //! Kids that give way to others, in one list.
 
-ghost use Rattle.std.specs.Prelude.{◌≡◌, ◌+◌, ◌-◌, ◌++◌, ◌≤◌, [], ◌∷◌, IsTrue, drop, length, take, vec_len, vec_capacity};
+ghost use Rattle.std.specs.Prelude.{◌≡◌, ◌+◌, ◌-◌, ◌++◌, ◌≤◌, [], ◌∷◌, IsTrue, drop, length, take};
+ghost use Rattle.std.specs.Prelude.{vec_len, vec_capacity};
 ghost use Rattle.std.specs.List.{between};
 ghost use Rattle.pv_tree.specs.Plain.{element};
 ghost use Rattle.pv_tree.specs.Places.{kids_of};
 ghost use Rattle.pv_tree.specs.PlainForms.{forest, plain, plain_all, plain_end};
 ghost use Rattle.pv_edit.specs.Changes.{in_place_of};
 ghost use Rattle.pv_edit.specs.Reasons.{is_one_element};
-ghost use Rattle.pv_edit.specs.Fitting.{Fits, plain_filling, with_filling};
+ghost use Rattle.pv_edit.specs.Fitting.{CanFill, plain_filling, with_filling};
 
 use pv_chars::Bytes;
 use pv_tree::{End, Mark, Node};
@@ -25,12 +26,12 @@ pub enum Filling {
     Named(Bytes),
 }
 
-/// Puts others in place of the kids from one place up to another, in a list that has room for them. Those that give way go through the
-/// vector `taken`.
+/// Puts others in place of the kids from one place up to another, in a list that has room for them.
+/// Those that give way go through the vector `taken`.
 pub(crate) fn fill(kids: &mut Vec<Node>, from: usize, to: usize, filling: Filling, taken: Vec<Node>)
     requires order { from ≤ to }
     requires within { to ≤ vec_len kids.old }
-    requires fits { Fits (plain_filling filling) (between from to (plain_all kids.old.items)) }
+    requires fits { CanFill (plain_filling filling) (between from to (plain_all kids.old.items)) }
     requires room { length (with_filling from to (plain_filling filling) (plain_all kids.old.items))
         ≤ vec_capacity kids.old }
     requires empty { taken.items ≡ [] }
@@ -73,7 +74,7 @@ fn move_last(kids: &mut Vec<Node>, from: usize, count: usize)
 
 /// How many nodes come in place of these.
 pub(crate) fn count_in_place(filling: &Filling, middle: &[Node]) -> usize
-    requires { Fits (plain_filling filling.now) (plain_all middle.now) }
+    requires { CanFill (plain_filling filling.now) (plain_all middle.now) }
     ensures { result ≡ length (in_place_of (plain_filling filling.now) (plain_all middle.now)) }
 {
     match filling {
@@ -101,7 +102,7 @@ pub(crate) fn kid_count(node: &Node) -> usize
 
 // Puts behind some kids, which have room for it, what comes in place of these.
 fn put_in_place(kids: &mut Vec<Node>, mut middle: Vec<Node>, filling: Filling)
-    requires fits { Fits (plain_filling filling) (plain_all middle.items) }
+    requires fits { CanFill (plain_filling filling) (plain_all middle.items) }
     requires room { vec_len kids.old + length
         (in_place_of (plain_filling filling) (plain_all middle.items)) ≤ vec_capacity kids.old }
     ensures items { plain_all kids.new.items ≡ plain_all kids.old.items

@@ -3,8 +3,8 @@
 use pv_chars::{Bytes, Units};
 use pv_tree::{End, Path};
 
-/// What undoes an edit. Paths are those of the edited document. `short` tells that the element whose list was changed ended by `/>`
-/// before.
+/// What undoes an edit. Paths are those of the edited document. `short` tells that the element
+/// whose list was changed ended by `/>` before.
 #[derive(Debug, Drop)]
 pub enum Inverse {
     /// Puts an element's kids in its place.

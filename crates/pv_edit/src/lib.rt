@@ -1,8 +1,10 @@
-//! Edits of a document. `shape` tells whether an edit can be made, and else its first reason (`reason_of`); `apply` makes it
-//! (`applied`), by one change of one list (`change_of`, `doc_after`), and gives its inverse (`inverse_of`); `revert` makes the change
-//! of an inverse (`reverted`), which leads back to the document before the edit (`LeadsBack`). An error leaves the document as it was.
-//! `prepare` and `prepare_back` make ready what each is going to do, and `make` does it, for a caller that looks at the change before.
-//! The laws tell what edits keep, and which lists they leave as they are (`changed_lists`, `origin_of`).
+//! Edits of a document. `shape` tells whether an edit can be made, and else its first reason
+//! (`reason_of`); `apply` makes it (`applied`), by one change of one list (`change_of`,
+//! `doc_after`), and gives its inverse (`inverse_of`); `revert` makes the change of an inverse
+//! (`change_back`, `doc_back`), which leads back to the document before the edit (`LeadsBack`). An
+//! error leaves the document as it was. `prepare` and `prepare_back` make ready what each is going
+//! to do, and `make` does it, for a caller that looks at the change before. The laws tell what
+//! edits keep, and which lists they leave as they are (`changed_lists`, `origin_of`).
 #![tactic(auto)]
 
 mod answers;
@@ -21,15 +23,16 @@ mod reasons;
 mod rooms;
 mod runs;
 mod shapes;
+mod tasks;
 mod text_preparations;
 mod ways_back;
 
 pub use answers::{Done, EditAnswer, VerdictRow, VerdictRows};
 pub use changes::{apply, make, prepare, prepare_back, revert};
-pub use descent::{Change, put_kids, take_kids};
+pub use descent::{put_kids, take_kids};
 pub use edits::{Edit, Edits};
 pub use filling::Filling;
 pub use inverses::Inverse;
-pub use preparations::{Preparation, Task, kid_path};
 pub use reasons::{EditError, Reason};
 pub use shapes::shape;
+pub use tasks::{Change, Preparation, Task, kid_path};

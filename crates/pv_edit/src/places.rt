@@ -5,7 +5,8 @@ ghost use Rattle.pv_tree.specs.PlainDocs.{plain_doc};
 ghost use Rattle.pv_tree.specs.Places.{kids_of};
 ghost use Rattle.pv_tree.specs.PlainForms.{plain, plain_all};
 ghost use Rattle.pv_edit.specs.Effects.{next_of, parent_of, place_of, units_at, units_on};
-ghost use Rattle.pv_edit.specs.Reasons.{is_spot, is_text, kids_at, lacks_element, lacks_list, lacks_node, lacks_text};
+ghost use Rattle.pv_edit.specs.Reasons.{is_spot, is_text, kids_at, lacks_element, lacks_list};
+ghost use Rattle.pv_edit.specs.Reasons.{lacks_node, lacks_text};
 ghost use Rattle.pv_edit.specs.Places.{IsInner, IsParted, first_spot};
 
 use pv_chars::{NoMemory, Units};

@@ -1,44 +1,30 @@
 //! What an edit is going to do: its change and its inverse, made before the tree is touched.
 
-ghost use Rattle.std.specs.Prelude.{◌≡◌, ◌<◌, ◌≤◌, ◌+◌, ◌∷◌, ◌++◌, [], false, IfOk, IsTrue, length};
+ghost use Rattle.std.specs.Prelude.{◌≡◌, ◌<◌, ◌+◌, [], false, IfOk, IsTrue, length};
 ghost use Rattle.pv_tree.specs.Plain.{element, is_element, no_trees, short};
 ghost use Rattle.pv_tree.specs.Places.{at_node, kids_of, spot_at};
 ghost use Rattle.pv_tree.specs.PlainDocs.{plain_doc};
-ghost use Rattle.pv_tree.specs.PlainForms.{plain, plain_end};
+ghost use Rattle.pv_tree.specs.PlainForms.{plain};
 ghost use Rattle.pv_tree.specs.Marks.{blank_mark};
-ghost use Rattle.pv_edit.specs.Changes.{others};
-ghost use Rattle.pv_edit.specs.Effects.{fill, parent_of, place_of};
-ghost use Rattle.pv_edit.specs.Fitting.{plain_change, plain_filling};
-ghost use Rattle.pv_edit.specs.Inverses.{ends_short, is_short, put_back};
+ghost use Rattle.pv_edit.specs.Effects.{parent_of, place_of};
+ghost use Rattle.pv_edit.specs.Inverses.{put_back};
 ghost use Rattle.pv_edit.specs.Reasons.{lacks_element, reason_of};
 ghost use Rattle.pv_edit.specs.Preparations.{IsPreparation};
 ghost use Rattle.pv_edit.specs.declared.edits.Edit.TheVariants as edit;
 
-use crate::descent::Change;
 use crate::edits::{Edit, path_of};
 use crate::filling::{Filling, kid_count};
 use crate::inverses::Inverse;
 use crate::places::parent_of;
+use crate::tasks::{
+    Preparation, ends_short, equal_end, kid_path, last_place, list_task, node_task, one_node,
+};
 use crate::text_preparations::{
     prepare_add_text, prepare_del_text, prepare_join, prepare_set_text, prepare_split,
 };
 use pv_chars::{List, NoMemory, bytes_of};
 use pv_tree::{Doc, End, Found, Mark, Node, Path};
 use std::alloc::Global;
-
-/// A change of the list at a path.
-#[derive(Debug, Drop)]
-pub struct Task {
-    pub list: Path,
-    pub change: Change,
-}
-
-/// What an edit does, and what undoes it.
-#[derive(Debug, Drop)]
-pub struct Preparation {
-    pub task: Task,
-    pub inverse: Inverse,
-}
 
 /// The preparation of an edit that can be made.
 pub(crate) fn preparation_of(alloc: Global, doc: &Doc, edit: &Edit) -> Result<Preparation, NoMemory>
@@ -67,88 +53,6 @@ pub(crate) fn preparation_of(alloc: Global, doc: &Doc, edit: &Edit) -> Result<Pr
         ),
         Edit::DelText { path } => prepare_del_text(alloc, doc, path),
     }
-}
-
-/// The change of the kids from one place up to another in the list at a path.
-pub(crate) fn list_task(list: Path, from: u32, to: u32, filling: Filling) -> Task
-    ensures { plain_change result.list result.change ≡ fill list from to (plain_filling filling) }
-{
-    let change = Change {
-        from: from as usize,
-        to: to as usize,
-        filling,
-        shorten: false,
-    };
-    Task { list, change }
-}
-
-/// The change of so many kids from the node at a path on.
-pub(crate) fn node_task(
-    alloc: Global,
-    path: &Path,
-    count: usize,
-    filling: Filling,
-) -> Result<Task, NoMemory>
-    requires { count ≤ 2 }
-    ensures { IfOk result (λ task. plain_change task.list task.change ≡
-        fill (parent_of path.now) (place_of path.now) (place_of path.now + count)
-        (plain_filling filling)) }
-{
-    let from = last_place(path.places()) as usize;
-    let change = Change {
-        from,
-        to: from + count,
-        filling,
-        shorten: false,
-    };
-    Ok(Task {
-        list: parent_of(alloc, path)?,
-        change,
-    })
-}
-
-/// Which of its parent's kids the node at a path is.
-pub(crate) fn last_place(path: &[u32]) -> u32
-    ensures { result ≡ place_of path.now }
-{
-    match path {
-        [.., place] => *place,
-        [] => 0,
-    }
-}
-
-/// The path of a kid.
-pub fn kid_path(alloc: Global, path: &Path, place: u32) -> Result<Path, NoMemory>
-    ensures { IfOk result (λ p. p ≡ path.now ++ place ∷ []) }
-{
-    let mut places = path.places().to_vec(alloc)?;
-    places.push(place)?;
-    Path::new(alloc, &places)
-}
-
-/// Whether an element that ends by `/>` stands at a path.
-pub(crate) fn ends_short(doc: &Doc, path: &Path) -> bool
-    ensures { result ≡ ends_short (spot_at path.now (plain_doc doc.now).root) }
-{
-    match doc.node_at(path) {
-        Some(Found::Inner(Node::Elem { end, .. })) => is_short(end),
-        _ => false,
-    }
-}
-
-fn is_short(end: &End) -> bool
-    ensures { result ≡ is_short (plain_end end.now) }
-{
-    matches!(end, End::Short)
-}
-
-/// One node, to come in place of others.
-pub(crate) fn one_node(alloc: Global, node: Node) -> Result<Filling, NoMemory>
-    ensures { IfOk result (λ filling. plain_filling filling ≡ others (plain node ∷ [])) }
-{
-    let mut nodes = Vec::with_capacity(alloc, 1)?;
-    nodes.push_reserved(node);
-    Ok(Filling::Others(nodes))
 }
 
 fn prepare_wrap(
@@ -252,16 +156,6 @@ fn put_into(alloc: Global, path: &Path, node: &Node) -> Result<Inverse, NoMemory
             end: equal_end(alloc, end)?,
         }),
         _ => unreachable!(),
-    }
-}
-
-/// An equal end.
-pub(crate) fn equal_end(alloc: Global, end: &End) -> Result<End, NoMemory>
-    ensures { IfOk result (λ e. e ≡ end.now) }
-{
-    match end {
-        End::Short => Ok(End::Short),
-        End::Tagged(gap) => Ok(End::Tagged(bytes_of(alloc, gap.as_slice())?)),
     }
 }
 

@@ -6,9 +6,9 @@ ghost use Rattle.pv_tree.specs.PlainForms.{plain_all};
 ghost use Rattle.pv_edit.specs.Fitting.{CanChange, plain_change};
 ghost use Rattle.pv_edit.specs.Rooms.{HasRoomAt, had_at};
 
-use crate::descent::Change;
 use crate::filling::{count_in_place, move_behind};
 use crate::places::kids_at;
+use crate::tasks::Change;
 use pv_chars::NoMemory;
 use pv_tree::{Doc, Node, Path};
 use std::alloc::Global;
@@ -54,7 +54,8 @@ fn total(left: usize, more: usize) -> Result<usize, NoMemory>
     left.checked_add(more).ok_or(NoMemory)
 }
 
-// For how many nodes there surely is room already: as many as there are kids; the document node has no vector.
+// For how many nodes there surely is room already: as many as there are kids; the document node has
+// no vector.
 fn had_room(list: &[u32], kids: &[Node]) -> usize
     ensures { result ≡ had_at list.now (plain_all kids.now) }
 {
@@ -75,7 +76,8 @@ fn room_beyond(alloc: Global, had: usize, count: usize) -> Result<Vec<Node>, NoM
     Ok(Vec::with_capacity(alloc, count.saturating_mul(2))?)
 }
 
-/// The nodes, in a vector with room for so many: their own where it has that, and else an empty one.
+/// The nodes, in a vector with room for so many: their own where it has that, and else an empty
+/// one.
 pub(crate) fn in_wider(mut nodes: Vec<Node>, count: usize, room: Vec<Node>) -> Vec<Node>
     requires empty { room.items ≡ [] }
     requires enough { count ≤ max (vec_len nodes) (vec_capacity room) }

@@ -7,7 +7,8 @@ ghost use Rattle.pv_tree.specs.PlainDocs.{plain_doc};
 ghost use Rattle.pv_tree.specs.PlainForms.{plain, plain_all, forest};
 ghost use Rattle.pv_tree.specs.Marks.{blank_mark};
 ghost use Rattle.pv_edit.specs.Effects.{change_of};
-ghost use Rattle.pv_edit.specs.Reasons.{applied, goes_too_deep, is_one_element, is_root, is_top, kids_at, lacks_list, reason_of};
+ghost use Rattle.pv_edit.specs.Reasons.{applied, goes_too_deep, is_one_element, is_root, is_top};
+ghost use Rattle.pv_edit.specs.Reasons.{kids_at, lacks_list, reason_of};
 ghost use Rattle.pv_edit.specs.Refusals.{IsGiven, IsRefusal, IsRefused};
 ghost use Rattle.pv_edit.specs.declared.edits.Edit.TheVariants as edit;
 ghost use Rattle.pv_edit.specs.declared.reasons.EditError.TheVariants.{Shape};
@@ -25,7 +26,8 @@ use crate::runs::{
 use pv_tree::{Doc, Node, Path};
 use std::alloc::Global;
 
-/// Whether an edit can be made on a document: `Ok` exactly where it gives one, and else its first reason.
+/// Whether an edit can be made on a document: `Ok` exactly where it gives one, and else its first
+/// reason.
 pub fn shape(alloc: Global, doc: &Doc, edit: &Edit) -> Result<(), EditError>
     ensures { MatchResult result (λ _. IsGiven (applied blank_mark (plain_doc doc.now) edit.now))
         (IsRefused (applied blank_mark (plain_doc doc.now) edit.now)) }
@@ -140,7 +142,8 @@ fn is_one_element(nodes: &[Node]) -> bool
     matches!(nodes, [Node::Elem { .. }])
 }
 
-// Whether a new element around kids would stand too deep, or they in it. Only a look at all that they hold tells how deep they are.
+// Whether a new element around kids would stand too deep, or they in it. Only a look at all that
+// they hold tells how deep they are.
 fn wraps_too_deep(doc: &Doc, path: &Path, from: u32, to: u32, name: &[u8]) -> bool
     requires list { lacks_list path.now (plain_doc doc.now).root ≡ false }
     requires order { from ≤ to }

@@ -4,8 +4,9 @@ ghost use Rattle.std.specs.Prelude.{◌≡◌, ◌∷◌, ◌++◌, ◌<◌, [],
 ghost use Rattle.pv_tree.specs.PlainDocs.{plain_doc};
 ghost use Rattle.pv_tree.specs.PlainForms.{plain};
 ghost use Rattle.pv_edit.specs.Changes.{others};
-ghost use Rattle.pv_edit.specs.Effects.{fill_node, fill_two, next_of, one_text, two_texts, units_at};
-ghost use Rattle.pv_edit.specs.Fitting.{plain_change, plain_filling};
+ghost use Rattle.pv_edit.specs.Effects.{fill_node, fill_two, next_of, one_text, two_texts};
+ghost use Rattle.pv_edit.specs.Effects.{units_at};
+ghost use Rattle.pv_edit.specs.Fitting.{plain_task, plain_filling};
 ghost use Rattle.pv_edit.specs.Given.{is_new_text, new_units};
 ghost use Rattle.pv_edit.specs.Reasons.{lacks_text};
 ghost use Rattle.pv_edit.specs.Preparations.{IsPreparation};
@@ -16,9 +17,7 @@ use crate::filling::Filling;
 use crate::given::new_units;
 use crate::inverses::Inverse;
 use crate::places::{next_text, parent_of, text_at};
-use crate::preparations::{
-    Preparation, Task, ends_short, kid_path, list_task, node_task, one_node,
-};
+use crate::tasks::{Preparation, Task, ends_short, kid_path, list_task, node_task, one_node};
 use pv_chars::{NoMemory, Units};
 use pv_tree::{Doc, Node, Path};
 use std::alloc::Global;
@@ -47,7 +46,7 @@ pub(crate) fn cut_task(alloc: Global, doc: &Doc, path: &Path, at: usize) -> Resu
     requires text { lacks_text path.now (plain_doc doc.now).root ≡ false }
     requires some { 0 < at }
     requires within { at < length (units_at path.now (plain_doc doc.now).root) }
-    ensures { IfOk result (λ task. plain_change task.list task.change
+    ensures { IfOk result (λ task. plain_task task
         ≡ fill_node path.now (others (two_texts at (units_at path.now (plain_doc doc.now).root)))) }
 {
     let Some(units) = text_at(doc, path) else {
@@ -91,7 +90,7 @@ pub(crate) fn prepare_join(alloc: Global, doc: &Doc, path: &Path) -> Result<Prep
 pub(crate) fn join_task(alloc: Global, doc: &Doc, path: &Path) -> Result<Task, NoMemory>
     requires text { lacks_text path.now (plain_doc doc.now).root ≡ false }
     requires next { lacks_text (next_of path.now) (plain_doc doc.now).root ≡ false }
-    ensures { IfOk result (λ task. plain_change task.list task.change ≡
+    ensures { IfOk result (λ task. plain_task task ≡
         fill_two path.now (others (one_text (units_at path.now (plain_doc doc.now).root
         ++ units_at (next_of path.now) (plain_doc doc.now).root)))) }
 {

@@ -6,15 +6,14 @@ ghost use Rattle.pv_tree.specs.PlainForms.{plain_end};
 ghost use Rattle.pv_tree.specs.Marks.{blank_mark};
 ghost use Rattle.pv_edit.specs.Changes.{around, others};
 ghost use Rattle.pv_edit.specs.Effects.{fill, fill_node, one_text, parent_of, place_of};
-ghost use Rattle.pv_edit.specs.Fitting.{plain_change, plain_filling};
-ghost use Rattle.pv_edit.specs.Preparations.{IsReady, IsTask};
+ghost use Rattle.pv_edit.specs.Fitting.{plain_task, plain_filling};
+ghost use Rattle.pv_edit.specs.Preparations.{HasTexts, IsTask};
 
-use crate::descent::Change;
 use crate::edits::path_of;
 use crate::filling::Filling;
 use crate::inverses::Inverse;
 use crate::places::parent_of;
-use crate::preparations::{Task, equal_end, last_place, list_task, node_task, one_node};
+use crate::tasks::{Change, Task, equal_end, last_place, list_task, node_task, one_node};
 use crate::text_preparations::{cut_task, join_task};
 use pv_chars::{Bytes, NoMemory, Units, bytes_of};
 use pv_tree::{Doc, End, Node, Path};
@@ -22,7 +21,7 @@ use std::alloc::Global;
 
 /// The change of an inverse.
 pub(crate) fn task_back(alloc: Global, doc: &Doc, inverse: &Inverse) -> Result<Task, NoMemory>
-    requires { IsReady (plain_doc doc.now).root inverse.now }
+    requires { HasTexts (plain_doc doc.now).root inverse.now }
     ensures { IfOk result (IsTask (plain_doc doc.now).root inverse.now) }
 {
     match inverse {
@@ -54,7 +53,7 @@ pub(crate) fn task_back(alloc: Global, doc: &Doc, inverse: &Inverse) -> Result<T
 
 // Something in place of a node, whose parent may end by `/>` again.
 fn removal_task(alloc: Global, path: &Path, filling: Filling, short: bool) -> Result<Task, NoMemory>
-    ensures { IfOk result (λ task. plain_change task.list task.change ≡
+    ensures { IfOk result (λ task. plain_task task ≡
         record (fill_node path.now (plain_filling filling)) { shorten = short }) }
 {
     let Task { list, change } = node_task(alloc, path, 1, filling)?;
@@ -86,7 +85,7 @@ fn text_again(alloc: Global, text: &Units) -> Result<Filling, NoMemory>
 
 // A text that comes back before the kid at its place.
 fn restore_task(alloc: Global, path: &Path, text: &Units) -> Result<Task, NoMemory>
-    ensures { IfOk result (λ task. plain_change task.list task.change ≡
+    ensures { IfOk result (λ task. plain_task task ≡
         fill (parent_of path.now) (place_of path.now) (place_of path.now)
         (others (one_text text.now))) }
 {

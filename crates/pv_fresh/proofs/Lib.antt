@@ -1,1 +1,2 @@
+-- of this crate:
 pub mod Walking

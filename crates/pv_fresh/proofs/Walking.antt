@@ -12,8 +12,6 @@ use Rattle.pv_missing.specs.Completing.{IsPotentiallyValid}
 use Rattle.pv_missing.specs.DocumentLaws.{IsPotentiallyValidByLists}
 use Rattle.pv_dtd.specs.Proper.{IsProperDtd}
 use Rattle.pv_missing.specs.Proper.{IsProperDoc}
-use Rattle.pv_rules.specs.Sites.{PlainSite}
-use Rattle.pv_missing.specs.Weighing.{site_of}
 use Rattle.pv_missing.specs.Verdicts.{AreVerdicts, HaveVerdicts, IsFirstImpossible, IsLive, IsVerdict, PlainVerdicts}
 use Rattle.pv_tree.specs.declared.nodes.Mark.{Mark}
 use Rattle.pv_tree.specs.declared.nodes.Verdict.{Verdict}
@@ -76,10 +74,6 @@ pub goes_match : {E : Type 0} (g : PlainDtd) (r : Result (Unit {0}) E) (lists mo
 goes_match g (Ok u) lists more first middle last from at to a b = λ root. goes_on g root lists more first middle last from at to (a root) (b root)
 goes_match g (Err e) lists more first middle last from at to a b = breaks_off lists more from at to (a []).counts b
 
--- the lists of the first of some trees, and then those of the others
-pub from_first : {M : Type 0} (path : List ℕ) (i : ℕ) (kids : Forest M) (t : Tree M) (rest : Forest M) → kids ≡ tree t rest → lists_from path i kids ≡ lists_at (path ++ i ∷ []) t ++ lists_from path (i + 1) rest
-from_first path i kids t rest e = rw (e, add-one) refl
-
 pub on_ok_both : {E A B C : Type 0} (r : Result (Unit {0}) E) → (A → B → C) → OnOk r A → OnOk r B → OnOk r C
 on_ok_both (Ok u) f a b = f a b
 on_ok_both (Err e) f a b = tt
@@ -108,14 +102,3 @@ none_is_possible by_lists g root doc (Some path) p q f = (
   λ e. absurd cc,
   λ v. absurd (let all = subst (AllByRecursion (IsLive g root)) f.is_split ((by_lists g root doc p q).0 v) in f.is_not (all_right (IsLive g root) f.before (f.list ∷ f.after) all).0),
 )
-
--- the places of the root
-pub places_of_root : (old pushed : List ℕ) → old ≡ [] → pushed ≡ old ++ 0 ∷ [] → pushed ≡ 0 ∷ []
-places_of_root old pushed e f = rw e at f
-
--- the owner of an element's list, and of the document node's, whatever the DTD is told by
-pub element_site : (g d : PlainDtd) (root x y : List ℕ) (o : Option PlainSite) → g ≡ d → x ≡ y → site_of g x (an_element x) ≡ o → site_of d root (an_element y) ≡ o
-element_site g d root x y o e f h = subst (λ (z : List ℕ). site_of d root (an_element z) ≡ o) f (subst (λ (z : PlainDtd). site_of z root (an_element x) ≡ o) e h)
-
-pub root_site : (g d : PlainDtd) (root : List ℕ) (o : Option PlainSite) → g ≡ d → site_of g root the_document ≡ o → site_of d root the_document ≡ o
-root_site g d root o e h = subst (λ (z : PlainDtd). site_of z root the_document ≡ o) e h

@@ -18,8 +18,8 @@ first_after None verdict.Impossible path = Some path
 abbrev pub verdicts_of : Walk → PlainVerdicts
 verdicts_of w = record { verdicts = w.verdicts.items; first = w.first }
 
--- The walk goes over these lists of a document with this root's name: what was found before them becomes what is found with them, in one
--- step for each.
+-- The walk goes over these lists of a document with this root's name: what was found before them
+-- becomes what is found with them, in one step for each.
 pub record GoesOver (g : PlainDtd) (root : List ℕ) (lists : List (Listed Mark))
     (before after : PlainVerdicts) (from to : ℕ) : Type 0 where
   pub finds : (past : List (Listed Mark)) → HaveVerdicts g root past before →

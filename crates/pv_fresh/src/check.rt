@@ -1,6 +1,7 @@
 //! The check of a whole document.
 
-ghost use Rattle.std.specs.Prelude.{◌≡◌, ◌≤◌, ◌+◌, ◌↔◌, IfErr, IfOk, IsNone, MatchResult, OnOk, length};
+ghost use Rattle.std.specs.Prelude.{◌≡◌, ◌≤◌, ◌+◌, ◌↔◌, IfErr, IfOk, IsNone, MatchResult, OnOk};
+ghost use Rattle.std.specs.Prelude.{length};
 ghost use Rattle.std.specs.List.{AllByRecursion};
 ghost use Rattle.pv_productive.specs.PlainForms.{dtd_of};
 ghost use Rattle.pv_tree.specs.Lists.{lists_of};
@@ -9,31 +10,30 @@ ghost use Rattle.pv_tree.specs.View.{view};
 ghost use Rattle.pv_missing.specs.Completing.{IsPotentiallyValid};
 ghost use Rattle.pv_missing.specs.Verdicts.{HaveVerdicts};
 ghost use Rattle.pv_missing.specs.Widths.{IsListForVerdict};
-ghost use Rattle.pv_reach.specs.Plans.{IsPlan};
 ghost use Rattle.pv_fresh.specs.Answers.{HasCause};
 ghost use Rattle.pv_fresh.specs.Walks.{verdicts_of};
 
 use crate::errors::FreshError;
 use crate::judging::{judge_list, judge_node};
-use crate::owners::root_owner;
 use crate::walk::Walk;
 use crate::widths::first_too_wide;
 use pv_chars::NoMemory;
 use pv_dtd::laws::proper_dtd_law;
-use pv_missing::Verdicts;
 use pv_missing::laws::documents::live_lists_law;
 use pv_missing::laws::proper::proper_doc_law;
+use pv_missing::{Verdicts, root_owner};
 use pv_productive::Grammar;
-use pv_reach::Plan;
+use pv_reach::{Judge, Plan};
 use pv_steps::Steps;
 use pv_tree::{Doc, Mark};
 use std::alloc::Global;
 use std::sync::ledger::Ledger;
 
-/// The verdicts of all lists of a document, in document order, and the path of the first Impossible one. There is none exactly where the
-/// document is potentially valid.
+/// The verdicts of all lists of a document, in document order, and the path of the first Impossible
+/// one. There is none exactly where the document is potentially valid.
 ///
-/// The widths of all lists come first, and take no memory but for a path. Then the rules of the grammar are laid out, once for all lists.
+/// The widths of all lists come first, and take no memory but for a path. Then the rules of the
+/// grammar are laid out, once for all lists.
 pub fn check_doc<L: Ledger>(
     alloc: Global,
     grammar: &Grammar,
@@ -58,39 +58,35 @@ pub fn check_doc<L: Ledger>(
         return Err(FreshError::TooWide(path));
     }
     let plan = Plan::of(alloc, grammar)?;
-    let walk = judge_doc(alloc, grammar, &plan, root, doc, steps)?;
+    let judge = Judge::new(alloc, grammar, &plan);
+    let walk = judge_doc(&judge, root, doc, steps)?;
     Ok(Verdicts::of(walk.verdicts, walk.first))
 }
 
 // The walk over all lists, of which none is too wide.
 fn judge_doc<L: Ledger>(
-    alloc: Global,
-    grammar: &Grammar,
-    plan: &Plan,
+    judge: &Judge<'_>,
     root: &[u8],
     doc: &Doc,
     steps: &mut Steps<L>,
 ) -> Result<Walk, NoMemory>
-    requires plan { IsPlan (dtd_of grammar.now) plan.now }
-    requires fits { AllByRecursion (IsListForVerdict (dtd_of grammar.now))
+    requires fits { AllByRecursion (IsListForVerdict (dtd_of judge.now))
         (lists_of (plain_doc doc.now)) }
-    ensures verdicts { IfOk result (λ walk. HaveVerdicts (dtd_of grammar.now) root.now
+    ensures verdicts { IfOk result (λ walk. HaveVerdicts (dtd_of judge.now) root.now
         (lists_of (plain_doc doc.now)) (verdicts_of walk)) }
     ensures steps { OnOk result (steps.new ≡ steps.old + length (lists_of (plain_doc doc.now))) }
     ensures few_steps { steps.new ≤ steps.old + length (lists_of (plain_doc doc.now)) }
 {
-    let mut walk = Walk::new(alloc);
-    let owner = root_owner(grammar.dtd(), root);
+    let mut walk = Walk::new(judge.alloc());
+    let owner = root_owner(judge.grammar().dtd(), root);
     judge_list(
-        alloc,
-        grammar,
-        plan,
+        judge,
         owner,
         std::slice::from_ref(&doc.root),
         &mut walk,
         steps,
     )?;
     walk.places.push(0)?;
-    judge_node(alloc, grammar, plan, &doc.root, &mut walk, steps)?;
+    judge_node(judge, &doc.root, &mut walk, steps)?;
     Ok(walk)
 }

@@ -1,7 +1,8 @@
-//! Why a document has no verdicts.
+//! Why a document has no verdicts, or one of them is Impossible.
 
 ghost use Rattle.std.specs.Prelude.{◌≡◌};
 ghost use Rattle.pv_fresh.specs.declared.errors.FreshError.TheVariants.{NoMemory as no_memory};
+ghost use Rattle.pv_fresh.specs.declared.errors.PossibleError.TheVariants as refused;
 
 use pv_tree::Path;
 use std::alloc::{AllocError, AllocFailed};
@@ -10,8 +11,8 @@ use thiserror::Error;
 /// Why a document has no verdicts.
 #[derive(Debug, Drop, Error)]
 pub enum FreshError {
-    /// The list at this path is the first that is too wide: one more than its tokens, times the parts and names of the DTD, is more than
-    /// 67,108,864.
+    /// The list at this path is the first that is too wide: one more than its tokens, times the
+    /// parts and names of the DTD, is more than 67,108,864.
     #[error("a list is too wide")]
     TooWide(Path),
     /// There was too little memory to go on.
@@ -40,5 +41,28 @@ impl<T: Drop> From<AllocFailed<T>> for FreshError {
 
     fn from(_: AllocFailed<T>) -> FreshError {
         FreshError::NoMemory
+    }
+}
+
+/// Why a document has no verdicts of which none is Impossible.
+#[derive(Debug, Drop, Error)]
+pub enum PossibleError {
+    /// The list at this path is the first that is too wide.
+    #[error("a list is too wide")]
+    TooWide(Path),
+    /// No insertions can make the document valid; the list at this path is the first Impossible
+    /// one.
+    #[error("an impossible list")]
+    Impossible(Path),
+    /// There was too little memory to go on.
+    #[error("out of memory")]
+    NoMemory,
+}
+
+impl From<pv_chars::NoMemory> for PossibleError {
+    ghost from_gives = { λ _ e. e ≡ refused.NoMemory };
+
+    fn from(_: pv_chars::NoMemory) -> PossibleError {
+        PossibleError::NoMemory
     }
 }

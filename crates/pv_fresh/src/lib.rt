@@ -1,16 +1,19 @@
 //! The verdicts of all lists of a document, each found afresh.
 //!
-//! `check_doc` looks at the widths of all lists, and then finds each list's verdict, in document order (`HaveVerdicts` of pv_missing). A
-//! document is potentially valid exactly where none of them is Impossible.
+//! `check_doc` looks at the widths of all lists, and then finds each list's verdict, in document
+//! order (`HaveVerdicts` of pv_missing). A document is potentially valid exactly where none of them
+//! is Impossible; `possible_verdicts` gives its verdicts then. `first_too_wide` looks at the widths
+//! alone.
 #![tactic(auto)]
 
 mod check;
 mod errors;
 mod judging;
-mod owners;
+mod possible;
 mod walk;
 mod widths;
 
 pub use check::check_doc;
-pub use errors::FreshError;
-pub use owners::{element_owner, root_owner};
+pub use errors::{FreshError, PossibleError};
+pub use possible::possible_verdicts;
+pub use widths::first_too_wide;

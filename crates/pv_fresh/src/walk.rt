@@ -7,7 +7,8 @@ use pv_chars::NoMemory;
 use pv_tree::{Path, Verdict};
 use std::alloc::Global;
 
-/// The verdicts of the lists so far, the path of the first Impossible one, and the places of the node that is next.
+/// The verdicts of the lists so far, the path of the first Impossible one, and the places of the
+/// node that is next.
 #[derive(Drop)]
 pub struct Walk {
     pub verdicts: Vec<Verdict>,

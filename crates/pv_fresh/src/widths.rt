@@ -1,6 +1,7 @@
 //! The first list that is too wide for a verdict.
 
-ghost use Rattle.std.specs.Prelude.{◌≡◌, ◌≤◌, ◌<◌, ◌^◌, ◌↔◌, List, ℕ, IfOk, IsTrue, MatchOption, length, suc, if◌then◌else◌};
+ghost use Rattle.std.specs.Prelude.{◌≡◌, ◌≤◌, ◌<◌, ◌^◌, ◌↔◌, List, ℕ, IfOk, IsTrue, MatchOption};
+ghost use Rattle.std.specs.Prelude.{length, suc, if◌then◌else◌};
 ghost use Rattle.std.specs.List.{AllByRecursion};
 ghost use Rattle.pv_model.specs.Plain.{PlainToken};
 ghost use Rattle.pv_dtd.specs.Plain.{PlainDtd};
@@ -38,7 +39,8 @@ pub fn first_too_wide(alloc: Global, dtd: &Dtd, doc: &Doc) -> Result<Option<Path
     }
 }
 
-// Whether a list of this subtree is too wide. The places of the node become those of the first such list.
+// Whether a list of this subtree is too wide. The places of the node become those of the first such
+// list.
 #[cycle(widths)]
 fn has_too_wide(dtd: &Dtd, node: &Node, places: &mut Vec<u32>) -> Result<bool, NoMemory>
     requires { nodes_in (plain node.now) ≤ MAX_NODES }

@@ -1,5 +1,6 @@
 -- Faults of the outside, and what a call that answers one owes.
-use Rattle.std.specs.Prelude.{◌≡◌, ℕ, ◌+◌, ◌-◌, ◌^◌, ◌≤◌, ◌<◌, min, List, length, take, Result, MatchResult, Option}
+use Rattle.std.specs.Prelude.{◌≡◌, ℕ, ◌+◌, ◌-◌, ◌^◌, ◌≤◌, ◌<◌, min, List, length, take, Result}
+use Rattle.std.specs.Prelude.{MatchResult, Option}
 use Rattle.std.specs.Io.KnownBytes.{Appends}
 
 -- a count after one more, which stops at its last value
@@ -14,9 +15,15 @@ CountStays before now = now ≡ before
 abbrev pub Rose : ℕ → ℕ → Type 0
 Rose before now = (before ≤ now) × (one_more before ≤ now)
 
+-- So many calls were made, by two counts of calls that are compared up to the last value that a
+-- count can have.
+abbrev pub MadeCalls : ℕ → ℕ → ℕ → Type 0
+MadeCalls n before now = min now (2 ^ 64 - 1) ≡ min (before + n) (2 ^ 64 - 1)
+
 -- a call that answers an error counted a fault, and every other call counted none
 abbrev pub CountsFault : {T E : Type 0} → ℕ → ℕ → Result T E → Type 0
-CountsFault before now result = MatchResult result (λ _. CountStays before now) (λ _. Rose before now)
+CountsFault before now result =
+    MatchResult result (λ _. CountStays before now) (λ _. Rose before now)
 
 -- at most the piece was taken, and some of it unless it is empty
 pub record TakesSome (count : ℕ) (piece : List ℕ) : Type 0 where

@@ -1,5 +1,7 @@
 -- The files of a shelf, by their names.
-use Rattle.std.specs.Prelude.{◌≡◌, ℕ, ◌<◌, ◌≤◌, List, [], ◌∷◌, length, if◌then◌else◌, Bool, true, false, Result, Ok, Err, Option, Some, None, Vec, String, string_bytes, map, take, drop, ◌++◌}
+use Rattle.std.specs.Prelude.{◌≡◌, ℕ, ◌<◌, ◌≤◌, List, [], ◌∷◌, length, if◌then◌else◌, Bool, true}
+use Rattle.std.specs.Prelude.{false, Result, Ok, Err, Option, Some, None, Vec, String}
+use Rattle.std.specs.Prelude.{string_bytes, map, take, drop, ◌++◌}
 use Rattle.std.specs.Str.{bytes_eq}
 use Rattle.std.specs.declared.alloc.Global.{Global}
 use Rattle.pv_io.specs.Causes.{CountStays, Rose}
@@ -9,7 +11,8 @@ use Rattle.pv_io.specs.declared.shelf.FetchError.TheVariants.{Failed, TooLong, N
 -- the file of the first pair with this name
 abbrev pub file_named : List ℕ → List (List ℕ × List ℕ) → Option (List ℕ)
 file_named name [] = None
-file_named name (file ∷ files) = if bytes_eq name file.0 then Some file.1 else file_named name files
+file_named name (file ∷ files) =
+    if bytes_eq name file.0 then Some file.1 else file_named name files
 
 -- there is a file, and it has more than so many bytes
 abbrev pub HoldsMore : Option (List ℕ) → ℕ → Type 0
@@ -28,7 +31,8 @@ FetchGives (Some bytes) most (Err TooLong) = most < length bytes
 FetchGives (Some bytes) most (Err NoMemory) = Unit {0}
 
 -- the same, where the shelf tells its files
-abbrev pub FetchTells : Option (List (List ℕ × List ℕ)) → List ℕ → ℕ → Result (Vec ℕ Global) FetchError → Type 0
+abbrev pub FetchTells : Option (List (List ℕ × List ℕ)) → List ℕ → ℕ →
+    Result (Vec ℕ Global) FetchError → Type 0
 FetchTells None name most result = Unit {0}
 FetchTells (Some files) name most result = FetchGives (file_named name files) most result
 

@@ -1,8 +1,10 @@
 -- Devices in memory, as their callers see them.
-use Rattle.std.specs.Prelude.{ℕ, ◌≤◌, List, length, Contains, Bool, if◌then◌else◌, Option, Some, None}
+use Rattle.std.specs.Prelude.{ℕ, ◌≤◌, List, length, Contains, Bool, if◌then◌else◌, Option, Some}
+use Rattle.std.specs.Prelude.{None}
 use Rattle.pv_io.specs.Causes.{one_more}
 
--- the numbers, from 0, of the calls that fail, how many calls were made, and how many faults were counted
+-- the numbers, from 0, of the calls that fail, how many calls were made, and how many faults were
+-- counted
 pub record CallCount : Type 0 where
   pub failing : List ℕ
   pub made : ℕ
@@ -14,19 +16,24 @@ no_calls failing = record { failing = failing; made = 0; faults = 0 }
 
 -- after a call, which was a fault or wasn't
 abbrev pub after_call : Bool → CallCount → CallCount
-after_call failed calls = record { failing = calls.failing; made = one_more calls.made; faults = if failed then one_more calls.faults else calls.faults }
+after_call failed calls = record {
+  failing = calls.failing;
+  made = one_more calls.made;
+  faults = if failed then one_more calls.faults else calls.faults;
+}
 
 -- a source in memory: the bytes that are left, and the most bytes of a call
 pub record HeldInput : Type 0 where
   pub left : List ℕ
-  pub piece : ℕ
+  pub most : ℕ
   pub calls : CallCount
 
--- a sink in memory: the bytes that it holds, the most bytes that it can hold, and the most bytes of a call
+-- a sink in memory: the bytes that it holds, the most bytes that it can hold, and the most bytes
+-- of a call
 pub record HeldOutput : Type 0 where
   pub bytes : List ℕ
   pub room : ℕ
-  pub piece : ℕ
+  pub most : ℕ
   pub calls : CallCount
 
 -- a shelf in memory: the names that may be fetched, and its files with their names
@@ -39,7 +46,8 @@ pub record HeldFiles : Type 0 where
 abbrev pub FailsNow : CallCount → Type 0
 FailsNow calls = Contains calls.failing calls.made
 
--- a fetch of at most so many bytes fails: there is no file, or there is one of so few bytes and the call is to fail
+-- a fetch of at most so many bytes fails: there is no file, or there is one of so few bytes and
+-- the call is to fail
 abbrev pub FetchFaults : Option (List ℕ) → ℕ → CallCount → Type 0
 FetchFaults None most calls = Unit {0}
 FetchFaults (Some bytes) most calls = (length bytes ≤ most) × FailsNow calls

@@ -3,7 +3,7 @@
 ghost use Rattle.std.specs.Prelude.{◌≡◌, ◌≤◌, if◌then◌else◌, is_err, vec_len, IfOk};
 ghost use Rattle.std.specs.Io.{ReadsAtMost};
 ghost use Rattle.std.specs.Io.KnownBytes.{ReadConsumes, WriteAppends};
-ghost use Rattle.pv_io.specs.Causes.{CountsFault, TakesSome, one_more};
+ghost use Rattle.pv_io.specs.Causes.{CountsFault, MadeCalls, TakesSome, one_more};
 ghost use Rattle.pv_io.specs.Files.{fetch_names, FetchCountsFault, is_fault};
 
 use crate::shelf::{FetchError, Shelf};
@@ -20,6 +20,7 @@ use std::{fs, io};
 #[derive(Drop)]
 pub struct ReadSource<R: Read> {
     reader: R,
+    calls: u64,
     faults: u64,
 }
 
@@ -28,8 +29,13 @@ impl<R: Read> ReadSource<R> {
     pub fn new(reader: R) -> ReadSource<R>
         ensures left { ⟦<ReadSource<R> as Source>⟧.left result ≡ R.remaining reader }
         ensures faults { ⟦<ReadSource<R> as Source>⟧.faults result ≡ 0 }
+        ensures calls { ⟦<ReadSource<R> as Source>⟧.calls result ≡ 0 }
     {
-        ReadSource { reader, faults: 0 }
+        ReadSource {
+            reader,
+            calls: 0,
+            faults: 0,
+        }
     }
 }
 
@@ -38,13 +44,19 @@ impl<R: Read> Source for ReadSource<R> {
 
     ghost faults = { λ s. s.faults };
 
+    ghost calls = { λ s. s.calls };
+
     fn fill(&mut self, buf: &mut [u8]) -> Result<usize, Failed>
         ensures bound { ReadsAtMost result buf.new }
-        ensures bytes { ReadConsumes (R.remaining self.old.reader) (R.remaining self.new.reader) result buf.new }
+        ensures bytes { ReadConsumes (R.remaining self.old.reader) (R.remaining self.new.reader)
+            result buf.new }
         ensures cause { CountsFault self.old.faults self.new.faults result }
+        ensures calls { MadeCalls 1 self.old.calls self.new.calls }
 
-        ensures counted { self.new.faults ≡ (if is_err result then one_more self.old.faults else self.old.faults) }
+        ensures counted { self.new.faults ≡ (if is_err result then one_more self.old.faults
+            else self.old.faults) }
     {
+        self.calls = self.calls.saturating_add(1);
         match self.reader.read(buf) {
             Ok(count) => Ok(count),
             Err(_) => {
@@ -79,10 +91,12 @@ impl<W: Write> Sink for WriteSink<W> {
 
     fn put(&mut self, piece: &[u8]) -> Result<usize, Failed>
         ensures bound { IfOk result (λ n. TakesSome n piece.now) }
-        ensures bytes { WriteAppends (W.contents self.old.writer) (W.contents self.new.writer) result piece.now }
+        ensures bytes { WriteAppends (W.contents self.old.writer) (W.contents self.new.writer)
+            result piece.now }
         ensures cause { CountsFault self.old.faults self.new.faults result }
 
-        ensures counted { self.new.faults ≡ (if is_err result then one_more self.old.faults else self.old.faults) }
+        ensures counted { self.new.faults ≡ (if is_err result then one_more self.old.faults
+            else self.old.faults) }
     {
         match self.writer.write(piece) {
             Ok(count) if count > 0 || piece.is_empty() => Ok(count),
@@ -99,6 +113,7 @@ impl<W: Write> Sink for WriteSink<W> {
 pub struct FolderShelf<'a, R: Files> {
     files: &'a R,
     words: &'a [String],
+    calls: u64,
     faults: u64,
 }
 
@@ -109,7 +124,11 @@ impl<'a, R: Files> Model for FolderShelf<'a, R> {
 
     ghost Value = { Folder };
 
-    ghost view = { λ s. record { names = fetch_names s.words.now; faults = s.faults } };
+    ghost view = { λ s. record {
+      names = fetch_names s.words.now;
+      calls = s.calls;
+      faults = s.faults;
+    } };
 }
 
 /// A whole file of at most so many bytes, or its first byte too many.
@@ -128,11 +147,12 @@ fn bytes_up_to(files: &impl Files, alloc: Global, name: &str, most: usize) -> io
 impl<'a, R: Files> FolderShelf<'a, R> {
     /// The words of the command line name the files.
     pub fn new(files: &'a R, words: &'a [String]) -> FolderShelf<'a, R>
-        ensures { result ≡ record { names = fetch_names words.now; faults = 0 } }
+        ensures { result ≡ record { names = fetch_names words.now; calls = 0; faults = 0 } }
     {
         FolderShelf {
             files,
             words,
+            calls: 0,
             faults: 0,
         }
     }
@@ -147,13 +167,18 @@ impl<'a, R: Files> Shelf for FolderShelf<'a, R> {
 
     ghost faults = { λ s. s.faults };
 
+    ghost calls = { λ s. s.calls };
+
     fn fetch(&mut self, alloc: Global, name: &str, most: usize) -> Result<Vec<u8>, FetchError>
         ensures bound { IfOk result (λ v. vec_len v ≤ most) }
         ensures cause { FetchCountsFault self.old.faults self.new.faults result }
+        ensures calls { MadeCalls 1 self.old.calls self.new.calls }
         ensures names { self.new.names ≡ self.old.names }
 
-        ensures counted { self.new.faults ≡ (if is_fault result then one_more self.old.faults else self.old.faults) }
+        ensures counted { self.new.faults ≡ (if is_fault result then one_more self.old.faults
+            else self.old.faults) }
     {
+        self.calls = self.calls.saturating_add(1);
         match bytes_up_to(self.files, alloc, name, most) {
             Ok(bytes) if bytes.len() <= most => Ok(bytes),
             Ok(_) => Err(FetchError::TooLong),

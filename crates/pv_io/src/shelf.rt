@@ -1,6 +1,7 @@
 //! Files by their names.
 
 ghost use Rattle.std.specs.Prelude.{◌≡◌, ◌≤◌, List, ℕ, Option, IfOk, Contains, vec_len};
+ghost use Rattle.pv_io.specs.Causes.{MadeCalls};
 ghost use Rattle.pv_io.specs.Files.{FetchTells, FetchCountsFault};
 
 use std::alloc::Global;
@@ -31,12 +32,16 @@ pub trait Shelf {
     /// How often the shelf has failed.
     ghost faults: { Self → ℕ };
 
+    /// How often the shelf was asked, whatever it answered.
+    ghost calls: { Self → ℕ };
+
     /// The bytes of a file of at most so many.
     fn fetch(&mut self, alloc: Global, name: &str, most: usize) -> Result<Vec<u8>, FetchError>
         requires { Contains (names self.old) name.now }
         ensures bound { IfOk result (λ v. vec_len v ≤ most) }
         ensures bytes { FetchTells (files self.old) name.now most result }
         ensures cause { FetchCountsFault (faults self.old) (faults self.new) result }
+        ensures calls { MadeCalls 1 (calls self.old) (calls self.new) }
         ensures names { names self.new ≡ names self.old }
         ensures files { files self.new ≡ files self.old };
 }

@@ -1,6 +1,7 @@
 //! Where output goes.
 
-ghost use Rattle.std.specs.Prelude.{◌≡◌, ◌≤◌, ◌<◌, List, ℕ, length, Option, IfOk, OnOk, OnErr, Some};
+ghost use Rattle.std.specs.Prelude.{◌≡◌, ◌≤◌, ◌<◌, List, ℕ, length, Option, IfOk, OnOk, OnErr};
+ghost use Rattle.std.specs.Prelude.{Some};
 ghost use Rattle.std.specs.Io.KnownBytes.{WriteAppends, Appends};
 ghost use Rattle.pv_io.specs.Causes.{CountsFault, TakesSome, AppendsFront};
 

@@ -3,7 +3,7 @@
 ghost use Rattle.std.specs.Prelude.{List, ℕ, Option};
 ghost use Rattle.std.specs.Io.{ReadsAtMost};
 ghost use Rattle.std.specs.Io.KnownBytes.{ReadConsumes};
-ghost use Rattle.pv_io.specs.Causes.{CountsFault};
+ghost use Rattle.pv_io.specs.Causes.{CountsFault, MadeCalls};
 
 use thiserror::Error;
 
@@ -20,10 +20,14 @@ pub trait Source {
     /// How often the source has failed.
     ghost faults: { Self → ℕ };
 
+    /// How often the source was asked, whatever it answered.
+    ghost calls: { Self → ℕ };
+
     /// Reads the next bytes into the front of the buffer, and answers how many. None are the end,
     /// unless the buffer is empty.
     fn fill(&mut self, buf: &mut [u8]) -> Result<usize, Failed>
         ensures bound { ReadsAtMost result buf.new }
         ensures bytes { ReadConsumes (left self.old) (left self.new) result buf.new }
-        ensures cause { CountsFault (faults self.old) (faults self.new) result };
+        ensures cause { CountsFault (faults self.old) (faults self.new) result }
+        ensures calls { MadeCalls 1 (calls self.old) (calls self.new) };
 }

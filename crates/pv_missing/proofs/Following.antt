@@ -1,20 +1,26 @@
 -- A live word, token by token.
-use Rattle.std.proofs.Common.{List, [], append-nil, append_assoc, ap, drop, get_or, length, map, ◌+◌, ◌++◌, ◌<◌, ◌≤◌, ◌∙◌, ◌∷◌, ◌≡◌, ℕ}
+use Rattle.std.proofs.Common.{List, Some, [], append-nil, append_assoc, ap, arith, drop, get_or, length, map, suc, zero, ◌+◌, ◌++◌, ◌<◌, ◌≤◌, ◌∙◌, ◌∷◌, ◌≡◌, ℕ}
 use Rattle.std.proofs.lemmas.List.{drop_all, drop_more, map-append}
-use Rattle.std.specs.List.{AllByRecursion}
-use Rattle.pv_model.specs.Plain.{PlainToken}
+use Rattle.pv_model.specs.Plain.{PlainToken, named}
 use Rattle.pv_model.specs.PlainForms.{plain_token}
 use Rattle.pv_dtd.specs.Plain.{PlainDtd}
-use Rattle.pv_missing.specs.LiveWords.{IsKnownToken, IsLiveWord, live_none}
+use Rattle.pv_rules.specs.Rules.{IsKnownWord}
+use Rattle.pv_missing.specs.LiveWords.{IsLiveWord, live_none}
 use Rattle.pv_model.specs.declared.models.Token.{Token}
 
 token_first : (tokens : List Token) (i : ℕ) (d : Token) → i < length tokens →
     map plain_token (drop i tokens) ≡ plain_token (get_or tokens i d) ∷ map plain_token (drop (i + 1) tokens)
 token_first tokens i d h = ap (map plain_token) (drop_more tokens i d h)
 
-pub known_first : (g : PlainDtd) (tokens : List Token) (i : ℕ) (d : Token) → i < length tokens → AllByRecursion (IsKnownToken g) (map plain_token (drop i tokens)) →
-    IsKnownToken g (plain_token (get_or tokens i d)) × AllByRecursion (IsKnownToken g) (map plain_token (drop (i + 1) tokens))
-known_first g tokens i d h a = rw (token_first tokens i d h) at a
+one_known : (g : PlainDtd) (t : PlainToken) → ((y : ℕ) → t ≡ named y → y < length g.names) → IsKnownWord g (t ∷ [])
+one_known g t h zero y e = h y (cc)
+one_known g t h (suc k) y e = absurd cc
+
+-- each token of a known word is known
+pub known_at : (g : PlainDtd) (tokens : List Token) (i : ℕ) (d : Token) → i < length tokens → IsKnownWord g (map plain_token tokens) → IsKnownWord g (plain_token (get_or tokens i d) ∷ [])
+known_at g [] i d h k = absurd (omega arith)
+known_at g (t ∷ ts) zero d h k = one_known g (plain_token t) (λ y e. k 0 y (ap (λ v. Some v) e))
+known_at g (t ∷ ts) (suc i) d h k = known_at g ts i d (omega arith) (λ j y e. k (suc j) y e)
 
 -- the live word of all, where that of the tokens behind one follows its own
 pub follows_more : (g : PlainDtd) (tokens live : List Token) (i : ℕ) (d t : Token) (now : List Token) (rest : List PlainToken) → i < length tokens → now ≡ live ++ t ∷ [] →

@@ -16,11 +16,11 @@ pub record CoveredBy (g : PlainDtd) (L : List ℕ → Type 0) (n : ℕ) (w : Lis
   pub is_word : L names
   pub covers : Covers g n (map named names) w
 
-abbrev pub Means : PlainDtd → ℕ → Symbol → List PlainToken → Type 0
-Means g n (of_name x) w = Covers g n (named x ∷ []) w
-Means g n (of_content x) w = IsPossibleWith g x n w
-Means g n (of_part p) w = CoveredBy g (Matches p) n w
-Means g n (of_rest ps) w = CoveredBy g (MatchesAll ps) n w
+abbrev pub SymbolCovers : PlainDtd → ℕ → Symbol → List PlainToken → Type 0
+SymbolCovers g n (of_name x) w = Covers g n (named x ∷ []) w
+SymbolCovers g n (of_content x) w = IsPossibleWith g x n w
+SymbolCovers g n (of_part p) w = CoveredBy g (Matches p) n w
+SymbolCovers g n (of_rest ps) w = CoveredBy g (MatchesAll ps) n w
 
 split : (P : PlainToken → Type 0) (a b : List PlainToken) → AllByRecursion P (a ++ b) → AllByRecursion P a × AllByRecursion P b
 split P [] b p = (tt, p)
@@ -84,7 +84,7 @@ module _ (g : PlainDtd) where
   from_children : (n x : ℕ) (c : PlainPart) (w : List PlainToken) → model_of g x ≡ Some (children c) → CoveredBy g (Matches c) n w → IsPossibleWith g x n w
   from_children n x c w m r = record { model = children c; is_model = m; whole = map named r.names; allowed = (r.names, refl, r.is_word); covers = r.covers }
 
-  pub sound : (n : ℕ) (s : Symbol) (w : List PlainToken) → DerivesWord g n s w → AreProductiveTokens g w → Means g n s w
+  pub sound : (n : ℕ) (s : Symbol) (w : List PlainToken) → DerivesWord g n s w → AreProductiveTokens g w → SymbolCovers g n s w
   sound n s w (word_kept _ x _ z e) p = let q : AreProductiveTokens g (named x ∷ []) = rw e at p in rw e (cover_kept n x [] [] q.0 (cover_none n z))
   sound n s w (word_missing _ a x _ e d) p = new_name n a x w e (sound a (of_content x) w d p)
   sound n s w (word_empty_none _ x _ m z e) p = record { model = empty; is_model = m; whole = []; allowed = refl; covers = rw e (cover_none n z) }

@@ -24,10 +24,10 @@ live_of g root list verdict.Valid n j = j.0
 live_of g root list verdict.Possible n j = j.0
 live_of g root list verdict.Impossible n j = absurd (n refl)
 
-first_own : {M : Type 0} (g : PlainDtd) (root : List ℕ) (list : Listed M) (lists : List (Listed M)) → IsVerdict g root list verdict.Impossible → IsFirstImpossible g root (list ∷ lists) list.path
+pub first_own : {M : Type 0} (g : PlainDtd) (root : List ℕ) (list : Listed M) (lists : List (Listed M)) → IsVerdict g root list verdict.Impossible → IsFirstImpossible g root (list ∷ lists) list.path
 first_own g root list lists j = record { before = []; list = list; after = lists; is_split = refl; all_before = tt; is_not = j; is_path = refl }
 
-first_from : {M : Type 0} (g : PlainDtd) (root : List ℕ) (list : Listed M) (lists : List (Listed M)) (path : List ℕ) → IsLive g root list → IsFirstImpossible g root lists path → IsFirstImpossible g root (list ∷ lists) path
+pub first_from : {M : Type 0} (g : PlainDtd) (root : List ℕ) (list : Listed M) (lists : List (Listed M)) (path : List ℕ) → IsLive g root list → IsFirstImpossible g root lists path → IsFirstImpossible g root (list ∷ lists) path
 first_from g root list lists path l f = first_behind (IsLive g root) (list ∷ []) lists path (l, tt) f
 
 contains_behind : (v : Verdict) (vs : List Verdict) (w : Verdict) → v ≢ w → (k : ℕ) → k < length (v ∷ vs) → slice_index_or (v ∷ vs) k w ≡ w → Contains vs w
@@ -58,7 +58,7 @@ first_of_some g root [] vs a c = absurd (contains_none vs verdict.Impossible a c
 first_of_some g root (list ∷ lists) vs a c = first_among g root list lists a.0 a.1 a.3 (first_of_some g root lists a.1 a.4) (rw a.2 at c)
 
 -- a list that isn't live has the verdict Impossible
-not_live : {M : Type 0} (g : PlainDtd) (root : List ℕ) (list : Listed M) (v : Verdict) → (IsLive g root list → ⊥) → IsVerdict g root list v → v ≡ verdict.Impossible
+pub not_live : {M : Type 0} (g : PlainDtd) (root : List ℕ) (list : Listed M) (v : Verdict) → (IsLive g root list → ⊥) → IsVerdict g root list v → v ≡ verdict.Impossible
 not_live g root list verdict.Valid n j = absurd (n j.0)
 not_live g root list verdict.Possible n j = absurd (n j.0)
 not_live g root list verdict.Impossible n j = refl

@@ -15,7 +15,8 @@ use Rattle.pv_missing.specs.Levels.{Inserts, IsCompleted, IsGoodExtension}
 use Rattle.pv_missing.specs.Missing.{MissInAll}
 use Rattle.pv_missing.specs.SameMissing.{SameMissing, bare, uncut}
 use Rattle.pv_missing.specs.Verdicts.{AreVerdicts, IsLive}
-use Rattle.pv_missing.specs.Weighing.{BoundInAll, SumIsLeast, WeighInAll}
+use Rattle.pv_missing.specs.Weighing.{AscendBounds, BoundAt, BoundInAll, IsBoundAt, SumIsLeast}
+use Rattle.pv_missing.specs.Weighing.{WeighInAll, sum_of_bounds}
 use Rattle.pv_tree.specs.declared.nodes.Verdict.{Verdict}
 use Rattle.pv_tree.specs.declared.nodes.Verdict.TheVariants as verdict
 
@@ -49,6 +50,13 @@ BoundsAddUp M = (g : PlainDtd) (root : List ℕ) (doc : PlainDoc M) (s : ℕ) �
     IsProperDtd g → IsProperDoc doc → BoundInAll g root (lists_of doc) s →
     (n : ℕ) → HasCompletion g root n (view doc.root) → s ≤ n
 
+-- So is a sum of bounds at ascending paths of some of the lists.
+abbrev pub SomeBounds : (M : Type 0) → Type 0
+SomeBounds M = (g : PlainDtd) (root : List ℕ) (doc : PlainDoc M) (bs : List BoundAt) →
+    IsProperDtd g → IsProperDoc doc → AscendBounds bs →
+    AllByRecursion (IsBoundAt g root (lists_of doc)) bs →
+    (n : ℕ) → HasCompletion g root n (view doc.root) → sum_of_bounds bs ≤ n
+
 -- potentially valid means that some number of elements can be inserted
 abbrev pub SomeNumber : Type 0
 SomeNumber = (g : PlainDtd) (root : List ℕ) (h : Hedge) →
@@ -64,7 +72,8 @@ abbrev pub BlanksChangeNothing : Type 0
 BlanksChangeNothing = (g : PlainDtd) (root x t : List ℕ) (k : Hedge) → IsProperDtd g →
     SameMissing g root (elem x t k done) (bare g false (elem x t k done))
 
--- elements whose tags can be left out make an extension by as many, and each extension can be shown so
+-- elements whose tags can be left out make an extension by as many, and each extension can be shown
+-- so
 abbrev pub TagsExtend : Type 0
 TagsExtend = (m e : ℕ) (added : List ℕ) (h h' : Hedge) → LeavesOut m e added h h' →
     Extends h h' × (elements h' ≡ length added + elements h) × (e ≡ m + elements h')

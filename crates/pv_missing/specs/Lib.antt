@@ -8,6 +8,7 @@ pub mod Verdicts
 pub mod WordVerdicts
 pub mod Widths
 pub mod Missing
+pub mod Owners
 pub mod Levels
 pub mod Weighing
 pub mod SameMissing

@@ -4,17 +4,19 @@ use Rattle.pv_model.specs.Plain.{PlainModel, PlainToken, empty}
 use Rattle.pv_dtd.specs.Plain.{PlainDtd, model_of}
 use Rattle.pv_dtd.specs.Hedge.{Hedge, done, elements, word}
 use Rattle.pv_tree.specs.Lists.{IsValidList, Listed}
+use Rattle.pv_tree.specs.Plain.{Forest}
 use Rattle.pv_missing.specs.Covering.{IsPossibleRootWith, IsPossibleWith}
 use Rattle.pv_dtd.specs.Proper.{IsProperDtd}
 use Rattle.pv_missing.specs.Extending.{Extends}
 use Rattle.pv_missing.specs.LiveWords.{IsLiveWord}
 use Rattle.pv_missing.specs.Levels.{CanFit, CanFitRoot, InsertsHere}
 use Rattle.pv_dtd.specs.Productive.{AreProductive}
-use Rattle.pv_missing.specs.Verdicts.{AreProductiveKids, IsFirstImpossible, IsLive, IsProductiveOwner, IsVerdict}
+use Rattle.pv_missing.specs.Verdicts.{AreProductiveKids, IsFirstImpossible, IsLive}
+use Rattle.pv_missing.specs.Verdicts.{IsProductiveOwner, IsVerdict}
 use Rattle.pv_missing.specs.Missing.{Misses}
 use Rattle.pv_missing.specs.Weighing.{IsBound, Weighs, site_of, whole}
 use Rattle.pv_rules.specs.Derivations.{Derives, IsClosed, heaviest}
-use Rattle.pv_rules.specs.Rules.{Goal, Rule}
+use Rattle.pv_rules.specs.Rules.{Goal, IsKnownWord, Rule}
 use Rattle.pv_rules.specs.Sites.{PlainSite}
 use Rattle.pv_tree.specs.Words.{word_of}
 use Rattle.pv_tree.specs.declared.nodes.Verdict.{Verdict}
@@ -57,12 +59,13 @@ ValidMissesNone M = (g : PlainDtd) (root : List ℕ) (list : Listed M) →
     IsProperDtd g → IsVerdict g root list verdict.Valid →
     Misses g root list 0 × Weighs g root list 0
 
--- The whole word of a live list has a derivation of a weight only where so many elements are missing in
--- the list; where n are missing, it has one that weighs no more.
+-- The whole word of a live list has a derivation of a weight only where so many elements are
+-- missing in the list; where n are missing, it has one that weighs no more.
 abbrev pub DerivationsMiss : (M : Type 0) → Type 0
 DerivationsMiss M = (g : PlainDtd) (root : List ℕ) (list : Listed M) (s : PlainSite) (n : ℕ) →
     IsProperDtd g → IsLive g root list → site_of g root list.owner ≡ Some s →
-    (Derives (Rule g (word_of g list.kids)) n (whole s (word_of g list.kids)) → Misses g root list n) ×
+    (Derives (Rule g (word_of g list.kids)) n (whole s (word_of g list.kids)) →
+    Misses g root list n) ×
     (Misses g root list n →
     (m : ℕ) × (m ≤ n) × Derives (Rule g (word_of g list.kids)) m (whole s (word_of g list.kids)))
 
@@ -88,3 +91,7 @@ OneVerdict M = (g : PlainDtd) (root : List ℕ) (list : Listed M) (v v' : Verdic
 abbrev pub OneFirst : (M : Type 0) → Type 0
 OneFirst M = (g : PlainDtd) (root : List ℕ) (lists : List (Listed M)) (p q : List ℕ) →
     IsFirstImpossible g root lists p → IsFirstImpossible g root lists q → p ≡ q
+
+-- the DTD has each name in the word of a list
+abbrev pub KnownWord : (M : Type 0) → Type 0
+KnownWord M = (g : PlainDtd) (kids : Forest M) → IsKnownWord g (word_of g kids)

@@ -1,5 +1,5 @@
 -- Live words.
-use Rattle.std.specs.Prelude.{List, [], length, ℕ, ◌<◌, ◌∷◌, ◌≡◌}
+use Rattle.std.specs.Prelude.{List, [], length, ℕ, ◌∷◌, ◌≡◌}
 use Rattle.std.specs.List.{AllByRecursion}
 use Rattle.pv_model.specs.Plain.{PlainToken, named, other, text}
 use Rattle.pv_dtd.specs.Plain.{PlainDtd}
@@ -16,12 +16,6 @@ pub data IsLiveWord (g : PlainDtd) : List PlainToken → List PlainToken → Typ
   live_text : (w w' : List PlainToken) → IsLiveWord g w w' → IsLiveWord g (text ∷ w) (text ∷ w')
   live_other : (w w' : List PlainToken) → IsLiveWord g w w' → IsLiveWord g (other ∷ w) (other ∷ w')
 
--- the DTD has the name
-abbrev pub IsKnownToken : PlainDtd → PlainToken → Type 0
-IsKnownToken g (named y) = y < length g.names
-IsKnownToken g text = Unit {0}
-IsKnownToken g other = Unit {0}
-
 -- each name in the word is productive
 abbrev pub IsProductiveToken : PlainDtd → PlainToken → Type 0
 IsProductiveToken g (named y) = IsProductive g y
@@ -31,8 +25,8 @@ IsProductiveToken g other = Unit {0}
 abbrev pub AreProductiveTokens : PlainDtd → List PlainToken → Type 0
 AreProductiveTokens g w = AllByRecursion (IsProductiveToken g) w
 
--- the second word has productive names only, has as many tokens as the first, and is the first where
--- it is possible
+-- the second word has productive names only, has as many tokens as the first, and is the first
+-- where it is possible
 pub record FollowsWord (g : PlainDtd) (w live : List PlainToken) : Type 0 where
   pub names : AreProductiveTokens g live
   pub same_length : length live ≡ length w

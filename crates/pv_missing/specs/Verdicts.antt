@@ -1,10 +1,12 @@
 -- The verdict of a list.
-use Rattle.std.specs.Prelude.{Bool, List, MatchOption, Option, Some, [], count_by, false, true, ℕ, ◌∷◌, ◌≡◌}
+use Rattle.std.specs.Prelude.{Bool, List, MatchOption, Option, Some, [], count_by, false, length}
+use Rattle.std.specs.Prelude.{slice_get, true, ℕ, ◌<◌, ◌∷◌, ◌≡◌, ◌≢◌}
 use Rattle.std.specs.List.{AllByRecursion}
 use Rattle.pv_model.specs.Plain.{PlainToken, empty}
 use Rattle.pv_dtd.specs.Plain.{PlainDtd, model_of, number_of}
 use Rattle.pv_tree.specs.Lists.{IsFirstNot, IsValidList, Listed, Owner, an_element, the_document}
-use Rattle.pv_tree.specs.Plain.{Forest, Tree, cdata_node, element, misc_node, no_trees, text_node, tree}
+use Rattle.pv_tree.specs.Plain.{Forest, Tree, cdata_node, element, misc_node, no_trees, text_node}
+use Rattle.pv_tree.specs.Plain.{tree}
 use Rattle.pv_tree.specs.Words.{word_of}
 use Rattle.pv_missing.specs.Filling.{IsPossible, IsPossibleRoot}
 use Rattle.pv_missing.specs.LiveWords.{IsLiveWord}
@@ -56,6 +58,18 @@ AreVerdicts g root [] vs = vs ≡ []
 AreVerdicts g root (list ∷ lists) vs = (v : Verdict) × (rest : List Verdict) × (vs ≡ v ∷ rest) ×
     IsVerdict g root list v × AreVerdicts g root lists rest
 
+-- there are as many verdicts as lists, and each is that of the list of its number
+pub record AreVerdictsByNumber {M : Type 0} (g : PlainDtd) (root : List ℕ) (lists : List (Listed M))
+    (vs : List Verdict) : Type 0 where
+  pub as_many : length vs ≡ length lists
+  pub each : (k : ℕ) (list : Listed M) (v : Verdict) → slice_get lists k ≡ Some list →
+      slice_get vs k ≡ Some v → IsVerdict g root list v
+
+-- this is the number of the first of the verdicts that is v
+pub record IsFirstVerdict (v : Verdict) (vs : List Verdict) (k : ℕ) : Type 0 where
+  pub is_there : slice_get vs k ≡ Some v
+  pub none_before : (i : ℕ) → i < k → slice_get vs i ≢ Some v
+
 -- the path of the first impossible list
 abbrev pub IsFirstImpossible : {M : Type 0} → PlainDtd → List ℕ → List (Listed M) → List ℕ → Type 0
 IsFirstImpossible g root lists path = IsFirstNot (IsLive g root) lists path
@@ -78,12 +92,20 @@ is_impossible verdict.Impossible = true
 abbrev pub impossible_in : List Verdict → ℕ
 impossible_in vs = count_by is_impossible vs
 
--- the lists have verdicts, and so many of these are Possible
-pub record HavePossible {M : Type 0} (g : PlainDtd) (root : List ℕ) (lists : List (Listed M)) (n : ℕ)
-    : Type 0 where
+-- the lists have verdicts, and so many of these pass the test
+pub record HaveCount {M : Type 0} (test : Verdict → Bool) (g : PlainDtd) (root : List ℕ)
+    (lists : List (Listed M)) (n : ℕ) : Type 0 where
   pub verdicts : List Verdict
   pub are_verdicts : AreVerdicts g root lists verdicts
-  pub count : n ≡ possible_in verdicts
+  pub count : n ≡ count_by test verdicts
+
+-- so many of the lists are Possible
+abbrev pub HavePossible : {M : Type 0} → PlainDtd → List ℕ → List (Listed M) → ℕ → Type 0
+HavePossible g root lists n = HaveCount is_possible g root lists n
+
+-- so many of them are Impossible
+abbrev pub HaveImpossible : {M : Type 0} → PlainDtd → List ℕ → List (Listed M) → ℕ → Type 0
+HaveImpossible g root lists n = HaveCount is_impossible g root lists n
 
 -- verdicts of lists, and the path of the first impossible list, where there is one
 pub record PlainVerdicts : Type 0 where

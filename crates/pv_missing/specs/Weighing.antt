@@ -1,9 +1,12 @@
 -- The weights of the lists of a document, bounds of what is missing in them, and the sums of these.
-use Rattle.std.specs.Prelude.{List, Option, Some, [], length, min, option_map, ℕ, ◌+◌, ◌<◌, ◌∷◌, ◌≡◌, ◌≤◌}
+use Rattle.std.specs.Prelude.{List, Option, Some, [], length, min, option_map, ℕ}
+use Rattle.std.specs.Prelude.{◌+◌, ◌<◌, ◌∷◌, ◌≡◌, ◌≤◌}
+use Rattle.std.specs.List.{AllPairs, Contains}
 use Rattle.pv_model.specs.Plain.{PlainToken}
 use Rattle.pv_dtd.specs.Plain.{PlainDtd, number_of}
 use Rattle.pv_dtd.specs.Hedge.{Hedge}
 use Rattle.pv_tree.specs.Lists.{Listed, Owner, an_element, the_document}
+use Rattle.pv_tree.specs.PathOrder.{IsPathBefore}
 use Rattle.pv_tree.specs.Words.{word_of}
 use Rattle.pv_rules.specs.Derivations.{IsWeight, heaviest}
 use Rattle.pv_rules.specs.Rules.{Goal, Rule, over}
@@ -11,8 +14,8 @@ use Rattle.pv_rules.specs.Sites.{PlainSite, content_site, name_site}
 use Rattle.pv_missing.specs.Completing.{HasCompletion, IsLeast}
 use Rattle.pv_missing.specs.Missing.{Misses}
 
--- the site of what an owner's kids are to be: the content of an element, or for the document node an
--- element of the root's name
+-- the site of what an owner's kids are to be: the content of an element, or for the document node
+-- an element of the root's name
 abbrev pub site_of : PlainDtd → List ℕ → Owner → Option PlainSite
 site_of g root the_document = option_map name_site (number_of g root)
 site_of g root (an_element x) = option_map content_site (number_of g x)
@@ -48,3 +51,26 @@ abbrev pub BoundInAll : {M : Type 0} → PlainDtd → List ℕ → List (Listed 
 BoundInAll g root [] s = s ≡ 0
 BoundInAll g root (list ∷ lists) s = (a : ℕ) × (b : ℕ) × (s ≡ a + b) × IsBound g root list a ×
     BoundInAll g root lists b
+
+-- a bound of the list at this path
+pub record BoundAt : Type 0 where
+  pub path : List ℕ
+  pub bound : ℕ
+
+-- one of the lists stands at the path, and no fewer elements are missing in it
+pub record IsBoundAt {M : Type 0} (g : PlainDtd) (root : List ℕ) (lists : List (Listed M))
+    (b : BoundAt)
+    : Type 0 where
+  pub list : Listed M
+  pub is_listed : Contains lists list
+  pub is_path : list.path ≡ b.path
+  pub is_bound : IsBound g root list b.bound
+
+-- each bound is at a path before those of the bounds that follow it
+abbrev pub AscendBounds : List BoundAt → Type 0
+AscendBounds bs = AllPairs (λ b c. IsPathBefore b.path c.path) bs
+
+-- their sum
+abbrev pub sum_of_bounds : List BoundAt → ℕ
+sum_of_bounds [] = 0
+sum_of_bounds (b ∷ bs) = b.bound + sum_of_bounds bs

@@ -8,7 +8,8 @@ use Rattle.pv_tree.specs.Words.{word_of}
 abbrev pub columns_of : PlainDtd → ℕ
 columns_of g = parts_in_models g.models + length g.names
 
--- a word of n tokens isn't too wide for a verdict: a number for each column and each place of the word
+-- a word of n tokens isn't too wide for a verdict: a number for each column and each place of the
+-- word
 abbrev pub FitsVerdict : PlainDtd → ℕ → Type 0
 FitsVerdict g n = suc n * columns_of g ≤ 67108864
 

@@ -3,6 +3,7 @@ use Rattle.std.specs.Prelude.{List, length, suc, ℕ, ◌++◌, ◌↔◌, ◌�
 use Rattle.pv_model.specs.Plain.{PlainToken, text}
 use Rattle.pv_dtd.specs.Plain.{PlainDtd}
 use Rattle.pv_rules.specs.Derivations.{Derives}
+use Rattle.pv_rules.specs.Deriving.{DerivesAt}
 use Rattle.pv_rules.specs.Rules.{Rule, over}
 use Rattle.pv_rules.specs.Sites.{content_site, name_site}
 use Rattle.pv_missing.specs.Covering.{IsLeastInNothing, IsPossibleRootWith, IsPossibleWith}
@@ -10,6 +11,9 @@ use Rattle.pv_dtd.specs.Proper.{IsProperDtd}
 use Rattle.pv_missing.specs.Filling.{IsPossible, IsPossibleRoot}
 use Rattle.pv_missing.specs.LiveWords.{AreProductiveTokens, FollowsWord, IsLiveWord}
 use Rattle.pv_dtd.specs.Productive.{IsLeastSize, IsProductive}
+use Rattle.pv_missing.specs.PlainForms.{plain_of}
+use Rattle.pv_missing.specs.WordVerdicts.{IsPossibleAt}
+use Rattle.pv_missing.specs.declared.owners.Of.{Of}
 
 -- depths, and finite derivations with their numbers of missing elements, say the same
 abbrev pub DepthsAgree : Type 0
@@ -70,3 +74,9 @@ RootDerives = (g : PlainDtd) (x n : ℕ) (w : List PlainToken) → IsProperDtd g
     (Derives (Rule g w) n (over (name_site x) 0 (length w)) → IsPossibleRootWith g x n w) ×
     (IsPossibleRootWith g x n w → (m : ℕ) × (m ≤ n) ×
     Derives (Rule g w) m (over (name_site x) 0 (length w)))
+
+-- So such a word is possible for an owner exactly where its site derives all of it.
+abbrev pub PossibleDerives : Type 0
+PossibleDerives = (g : PlainDtd) (owner : Of) (w : List PlainToken) → IsProperDtd g →
+    AreProductiveTokens g w →
+    DerivesAt g w (plain_of owner) 0 (length w) ↔ IsPossibleAt g (plain_of owner) w

@@ -1,4 +1,5 @@
--- The verdict of a list by what it looks at alone: the site of its owner, its word, and whether it has no kids of any kind.
+-- The verdict of a list by what it looks at alone: the site of its owner, its word, and whether it
+-- has no kids of any kind.
 use Rattle.std.specs.Prelude.{Bool, IsTrue, List, None, Option, Some, [], false, true, ◌∷◌, ◌≡◌}
 use Rattle.pv_model.specs.Models.{Allows}
 use Rattle.pv_model.specs.Plain.{PlainModel, PlainToken, empty, named}
@@ -61,8 +62,8 @@ abbrev pub IsValidByWord : PlainDtd → Option PlainSite → List PlainToken →
 IsValidByWord g None w none = ⊥
 IsValidByWord g (Some s) w none = IsValidAt g s w none
 
--- the verdict of a list whose owner has this site and whose word is this one; `none` says whether it
--- has no kids of any kind
+-- the verdict of a list whose owner has this site and whose word is this one; `none` says whether
+-- it has no kids of any kind
 abbrev pub IsVerdictByWord : PlainDtd → Option PlainSite → List PlainToken → Bool → Verdict → Type 0
 IsVerdictByWord g owner w none v =
     Judges v (IsLiveByWord g owner w none) (IsValidByWord g owner w none)

@@ -5,7 +5,8 @@ ghost use Rattle.std.specs.Prelude.{◌≡◌};
 use pv_tree::{Path, Verdict};
 use std::marker::Model;
 
-/// The verdicts of a document's lists, in document order, and the path of the first Impossible list, if any.
+/// The verdicts of a document's lists, in document order, and the path of the first Impossible
+/// list, if any.
 #[derive(Debug, Drop)]
 pub struct Verdicts {
     verdicts: Vec<Verdict>,

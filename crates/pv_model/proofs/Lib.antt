@@ -1,3 +1,4 @@
+-- of this crate:
 pub mod After
 pub mod Answer
 pub mod Ends

@@ -1,15 +1,19 @@
 -- Content particles laid out in pairs, their words, and how far a word has come in one.
--- Each name and each repetition has a place, from left to right; that of a repetition stands behind its member's.
-use Rattle.std.specs.Prelude.{◌≡◌, ℕ, ◌+◌, ◌≤◌, ◌<◌, Bool, true, false, ◌&&◌, ◌||◌, ◌==◌, ◌⊎◌, List, [], ◌∷◌, ◌++◌, if◌then◌else◌}
+-- Each name and each repetition has a place, from left to right; that of a repetition stands
+-- behind its member's.
+use Rattle.std.specs.Prelude.{◌≡◌, ℕ, ◌+◌, ◌≤◌, ◌<◌, Bool, true, false, ◌&&◌, ◌||◌, ◌==◌, ◌⊎◌}
+use Rattle.std.specs.Prelude.{List, [], ◌∷◌, ◌++◌, if◌then◌else◌}
 use Rattle.pv_model.specs.Models.{Rounds}
 
--- no word; the empty word alone; a name y at a place; a pair in order, and whether the empty word is one of its members';
--- a pair to choose from; an optional particle; one repeated at least once, at a place. The places of a second member begin at the middle.
+-- no word; the empty word alone; a name y at a place; a pair in order, and whether the empty word
+-- is one of its members'; a pair to choose from; an optional particle; one repeated at least once,
+-- at a place. The places of a second member begin at the middle.
 pub data PlainLayout : Type 0 where
   nothing : PlainLayout
   blank : PlainLayout
   one : (place y : ℕ) → PlainLayout
-  in_order : (middle : ℕ) (first_may_be_empty second_may_be_empty : Bool) (first second : PlainLayout) → PlainLayout
+  in_order : (middle : ℕ) (first_may_be_empty second_may_be_empty : Bool)
+      (first second : PlainLayout) → PlainLayout
   either : (middle : ℕ) (first second : PlainLayout) → PlainLayout
   optional : PlainLayout → PlainLayout
   repeated : (place : ℕ) → PlainLayout → PlainLayout
@@ -18,10 +22,12 @@ abbrev pub HasWord : PlainLayout → List ℕ → Type 0
 HasWord nothing w = ⊥
 HasWord blank w = w ≡ []
 HasWord (one place y) w = w ≡ y ∷ []
-HasWord (in_order middle f s g h) w = (u : List ℕ) × (v : List ℕ) × (w ≡ u ++ v) × HasWord g u × HasWord h v
+HasWord (in_order middle f s g h) w =
+    (u : List ℕ) × (v : List ℕ) × (w ≡ u ++ v) × HasWord g u × HasWord h v
 HasWord (either middle g h) w = HasWord g w ⊎ HasWord h w
 HasWord (optional g) w = (w ≡ []) ⊎ HasWord g w
-HasWord (repeated place g) w = (u : List ℕ) × (v : List ℕ) × (w ≡ u ++ v) × HasWord g u × Rounds (HasWord g) v
+HasWord (repeated place g) w =
+    (u : List ℕ) × (v : List ℕ) × (w ≡ u ++ v) × HasWord g u × Rounds (HasWord g) v
 
 -- the empty word is a word of the particle
 abbrev pub has_empty_word : PlainLayout → Bool
@@ -38,7 +44,8 @@ abbrev pub IsNumbered : PlainLayout → ℕ → ℕ → Type 0
 IsNumbered nothing a b = b ≡ a
 IsNumbered blank a b = b ≡ a
 IsNumbered (one place y) a b = (place ≡ a) × (b ≡ a + 1)
-IsNumbered (in_order middle f s g h) a b = (f ≡ has_empty_word g) × (s ≡ has_empty_word h) × IsNumbered g a middle × IsNumbered h middle b
+IsNumbered (in_order middle f s g h) a b =
+    (f ≡ has_empty_word g) × (s ≡ has_empty_word h) × IsNumbered g a middle × IsNumbered h middle b
 IsNumbered (either middle g h) a b = IsNumbered g a middle × IsNumbered h middle b
 IsNumbered (optional g) a b = IsNumbered g a b
 IsNumbered (repeated place g) a b = IsNumbered g a place × (b ≡ place + 1)
@@ -78,12 +85,14 @@ abbrev pub after : (g : PlainLayout) → Bool → ℕ → Reach g → Reach g
 after nothing entered y m = m
 after blank entered y m = m
 after (one place x) entered y m = entered && x == y
-after (in_order middle f s g h) entered y m = (after g entered y m.0, after h (ends g m.0 || entered && f) y m.1)
+after (in_order middle f s g h) entered y m =
+    (after g entered y m.0, after h (ends g m.0 || entered && f) y m.1)
 after (either middle g h) entered y m = (after g entered y m.0, after h entered y m.1)
 after (optional g) entered y m = after g entered y m
 after (repeated place g) entered y m = after g (entered || ends g m) y m
 
--- the places of names with which the word so far can end, and of repetitions of which it can end a round
+-- the places of names with which the word so far can end, and of repetitions of which it can end a
+-- round
 abbrev pub reached : (g : PlainLayout) → Reach g → List ℕ
 reached nothing m = []
 reached blank m = []
@@ -94,13 +103,15 @@ reached (optional g) m = reached g m
 reached (repeated place g) m = reached g m ++ (if ends g m then place ∷ [] else [])
 
 -- from m on, y leads to these places behind those before
-pub record Advances (g : PlainLayout) (entered : Bool) (y : ℕ) (m : Reach g) (old new : List ℕ) (was_end is_end : Bool) : Type 0 where
+pub record Advances (g : PlainLayout) (entered : Bool) (y : ℕ) (m : Reach g) (old new : List ℕ)
+    (was_end is_end : Bool) : Type 0 where
   pub before : was_end ≡ ends g m
   pub now : is_end ≡ ends g (after g entered y m)
   pub next : new ≡ old ++ reached g (after g entered y m)
 
 -- the same, by the places that are reached and those that have the name
-pub record AdvancesFrom (g : PlainLayout) (entered : Bool) (y : ℕ) (places called old new : List ℕ) (was_end is_end : Bool) : Type 0 where
+pub record AdvancesFrom (g : PlainLayout) (entered : Bool) (y : ℕ) (places called old new : List ℕ)
+    (was_end is_end : Bool) : Type 0 where
   pub from : (a b : ℕ) (m : Reach g) → IsNumbered g a b → places ≡ reached g m →
       called ≡ places_of g y → Advances g entered y m old new was_end is_end
 

@@ -1,8 +1,11 @@
--- How far a word has come in a content particle: for each position whether it is reached, in the order of the declaration.
--- Each name has a position, and each repetition has one before its member's. The first is reached if the names read so far
--- can end with it, and the second if they can end a round.
-use Rattle.std.specs.Prelude.{ℕ, suc, ◌+◌, Bool, true, false, ◌&&◌, ◌||◌, ◌==◌, List, [], ◌∷◌, ◌++◌, length, get_or, take, drop, if◌then◌else◌}
-use Rattle.pv_model.specs.Plain.{PlainPart, name, seq, choice, opt, star, plus, PlainParts, no_parts, part, PlainToken, named, text, other}
+-- How far a word has come in a content particle: for each position whether it is reached, in the
+-- order of the declaration. Each name has a position, and each repetition has one before its
+-- member's. The first is reached if the names read so far can end with it, and the second if they
+-- can end a round.
+use Rattle.std.specs.Prelude.{ℕ, suc, ◌+◌, Bool, true, false, ◌&&◌, ◌||◌, ◌==◌, List, [], ◌∷◌}
+use Rattle.std.specs.Prelude.{◌++◌, length, get_or, take, drop, if◌then◌else◌}
+use Rattle.pv_model.specs.Plain.{PlainPart, name, seq, choice, opt, star, plus, PlainParts}
+use Rattle.pv_model.specs.Plain.{no_parts, part, PlainToken, named, text, other}
 
 abbrev mutual
   pub position_count : PlainPart → ℕ
@@ -68,7 +71,8 @@ abbrev mutual
 
   pub is_end_of_some : Bool → PlainParts → List Bool → Bool
   is_end_of_some before no_parts ms = before
-  is_end_of_some before (part p ps) ms = is_end_of_some (before || is_end p ms) ps (drop (position_count p) ms)
+  is_end_of_some before (part p ps) ms =
+      is_end_of_some (before || is_end p ms) ps (drop (position_count p) ms)
 
 -- with one more name y they are a word of the particle, which may begin with y if it is entered
 abbrev mutual
@@ -89,7 +93,8 @@ abbrev mutual
   pub is_end_after_of_some : Bool → PlainParts → Bool → ℕ → List Bool → Bool
   is_end_after_of_some before no_parts entered y ms = before
   is_end_after_of_some before (part p ps) entered y ms =
-      is_end_after_of_some (before || is_end_after p entered y ms) ps entered y (drop (position_count p) ms)
+      is_end_after_of_some (before || is_end_after p entered y ms) ps entered y
+      (drop (position_count p) ms)
 
 -- the positions after one more name y
 abbrev mutual
@@ -99,19 +104,24 @@ abbrev mutual
   positions_after (choice ps) entered y ms = positions_after_in_each ps entered y ms
   positions_after (opt p) entered y ms = positions_after p entered y ms
   positions_after (star p) entered y ms =
-      is_end_after p (entered || get_or ms 0 false) y (drop 1 ms) ∷ positions_after p (entered || get_or ms 0 false) y (drop 1 ms)
+      is_end_after p (entered || get_or ms 0 false) y (drop 1 ms) ∷
+      positions_after p (entered || get_or ms 0 false) y (drop 1 ms)
   positions_after (plus p) entered y ms =
-      is_end_after p (entered || get_or ms 0 false) y (drop 1 ms) ∷ positions_after p (entered || get_or ms 0 false) y (drop 1 ms)
+      is_end_after p (entered || get_or ms 0 false) y (drop 1 ms) ∷
+      positions_after p (entered || get_or ms 0 false) y (drop 1 ms)
 
   pub positions_after_in_order : PlainParts → Bool → ℕ → List Bool → List Bool
   positions_after_in_order no_parts entered y ms = []
   positions_after_in_order (part p ps) entered y ms =
-      positions_after p entered y ms ++ positions_after_in_order ps (is_end p ms || entered && may_be_empty p) y (drop (position_count p) ms)
+      positions_after p entered y ms ++
+      positions_after_in_order ps (is_end p ms || entered && may_be_empty p) y
+      (drop (position_count p) ms)
 
   pub positions_after_in_each : PlainParts → Bool → ℕ → List Bool → List Bool
   positions_after_in_each no_parts entered y ms = []
   positions_after_in_each (part p ps) entered y ms =
-      positions_after p entered y ms ++ positions_after_in_each ps entered y (drop (position_count p) ms)
+      positions_after p entered y ms ++
+      positions_after_in_each ps entered y (drop (position_count p) ms)
 
 -- some position is reached
 abbrev pub any_reached : List Bool → Bool
@@ -122,11 +132,13 @@ any_reached (b ∷ ms) = any_reached ms || b
 abbrev pub overwrite : ℕ → List Bool → List Bool → List Bool
 overwrite at new old = take at old ++ new ++ drop (at + length new) old
 
--- the particle has a word that begins with the names read so far, which gave these positions and are a word themselves or not,
--- and goes on with these tokens; it is entered before the first name
+-- the particle has a word that begins with the names read so far, which gave these positions and
+-- are a word themselves or not, and goes on with these tokens; it is entered before the first name
 abbrev pub reads : PlainPart → Bool → Bool → List Bool → List PlainToken → Bool
 reads p entered ended ms [] = ended
 reads p entered ended ms (named y ∷ u) =
-    if any_reached (positions_after p entered y ms) then reads p false (is_end_after p entered y ms) (positions_after p entered y ms) u else false
+    if any_reached (positions_after p entered y ms)
+    then reads p false (is_end_after p entered y ms) (positions_after p entered y ms) u
+    else false
 reads p entered ended ms (text ∷ u) = false
 reads p entered ended ms (other ∷ u) = false

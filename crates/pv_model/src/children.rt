@@ -13,7 +13,8 @@ use std::alloc::Global;
 /// Room for the positions of most particles, taken at once.
 const POSITIONS_AT_ONCE: usize = 64;
 
-/// For words of at least so many tokens a large particle is laid out. Laying it out takes as long as some forty walks.
+/// For words of at least so many tokens a large particle is laid out. Laying it out takes as long
+/// as some forty walks.
 const LONG_WORD: usize = 64;
 
 /// A large particle has at least so many positions.
@@ -21,7 +22,8 @@ const LARGE_PART: usize = 64;
 
 /// Whether each token is an element, and their names are a word of the part.
 pub fn has_children(alloc: Global, part: &Part, word: &[Token]) -> Result<bool, NoMemory>
-    ensures { IfOk result (λ b. IsTrue b ↔ IsOfChildren (plain_part part.now) (map plain_token word.now)) }
+    ensures { IfOk result
+        (λ b. IsTrue b ↔ IsOfChildren (plain_part part.now) (map plain_token word.now)) }
 {
     if word.is_empty() {
         return Ok(may_be_empty(part));

@@ -1,5 +1,5 @@
-//! A content particle laid out for long words: its members stand in pairs, so that few steps lead to a name, and its
-//! names and repetitions have places in order.
+//! A content particle laid out for long words: its members stand in pairs, so that few steps lead
+//! to a name, and its names and repetitions have places in order.
 
 ghost use Rattle.std.specs.Prelude.{◌≡◌, IfOk, OnOk};
 ghost use Rattle.pv_model.specs.PlainForms.{plain_layout, plain_part, plain_parts};
@@ -11,8 +11,9 @@ use crate::models::{NoMemory, Part};
 use crate::places::Places;
 use std::alloc::Global;
 
-/// A content particle in pairs: no word, the empty word alone, a name at a place, a pair in order, a pair to choose from,
-/// an optional particle, or one repeated at least once, with a place behind those of its member.
+/// A content particle in pairs: no word, the empty word alone, a name at a place, a pair in order,
+/// a pair to choose from, an optional particle, or one repeated at least once, with a place behind
+/// those of its member.
 ///
 /// The places of a pair's second member begin at its middle.
 #[derive(Debug, Drop)]
@@ -68,7 +69,8 @@ impl Layout {
 /// Lays the part out, and adds its places.
 #[cycle(lay_out)]
 pub fn lay_out(alloc: Global, part: &Part, places: &mut Places) -> Result<Layout, NoMemory>
-    ensures { IfOk result (λ l. IsLaidOut (plain_part part.now) (plain_layout l) places.old places.new) }
+    ensures { IfOk result
+        (λ l. IsLaidOut (plain_part part.now) (plain_layout l) places.old places.new) }
 {
     match part {
         Part::Name(name) => Ok(Layout::Name {

@@ -1,11 +1,12 @@
 //! Content models, and the words that they allow (XML 1.0, section 3.2).
 //!
-//! A model is EMPTY, ANY, mixed content or a content particle over names by their numbers (`ContentModel`), and a word is the
-//! list of an element's child elements and data (`Token`). `matches` says whether a model allows a word, by `Allows` of
-//! specs/Models.antt, for every model, deterministic or not. specs/Plain.antt has models and words as plain data, and
-//! specs/PlainForms.antt reads them off the program's values. A short word is walked through the particle by its positions
-//! (specs/Positions.antt); for a long one a large particle is laid out in pairs (specs/Layouts.antt), so that a name costs the
-//! steps to its places alone.
+//! A model is EMPTY, ANY, mixed content or a content particle over names by their numbers
+//! (`ContentModel`), and a word is the list of an element's child elements and data (`Token`).
+//! `matches` says whether a model allows a word, by `Allows` of specs/Models.antt, for every
+//! model, deterministic or not. specs/Plain.antt has models and words as plain data, and
+//! specs/PlainForms.antt reads them off the program's values. A short word is walked through the
+//! particle by its positions (specs/Positions.antt); for a long one a large particle is laid out
+//! in pairs (specs/Layouts.antt), so that a name costs the steps to its places alone.
 #![tactic(auto)]
 
 mod children;
@@ -20,6 +21,3 @@ mod reach;
 
 pub use matching::matches;
 pub use models::{ContentModel, NameId, Names, NoMemory, Part, Parts, Token};
-
-#[cfg(test)]
-mod tests;

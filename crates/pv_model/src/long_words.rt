@@ -14,7 +14,8 @@ use std::mem;
 
 /// Whether the part has the word.
 pub fn has_long_word(alloc: Global, part: &Part, word: &[Token]) -> Result<bool, NoMemory>
-    ensures { IfOk result (λ b. IsTrue b ↔ IsOfChildren (plain_part part.now) (map plain_token word.now)) }
+    ensures { IfOk result
+        (λ b. IsTrue b ↔ IsOfChildren (plain_part part.now) (map plain_token word.now)) }
 {
     let mut places = Places::new(alloc);
     let layout = lay_out(alloc, part, &mut places)?;
@@ -29,7 +30,8 @@ fn has_tokens(
     word: &[Token],
 ) -> Result<bool, NoMemory>
     requires { HasPlaces (plain_layout layout.now) places.now }
-    ensures { IfOk result (λ b. IsTrue b ↔ HasTokens (plain_layout layout.now) (map plain_token word.now)) }
+    ensures { IfOk result
+        (λ b. IsTrue b ↔ HasTokens (plain_layout layout.now) (map plain_token word.now)) }
 {
     let mut reached = Vec::new(alloc);
     let mut next = Vec::new(alloc);

@@ -10,19 +10,22 @@ use crate::mixed::has_mixed;
 use crate::models::{ContentModel, NoMemory, Token};
 use std::alloc::Global;
 
-/// Whether the word is one that the model allows (XML 1.0, section 3.2), where the names below `declared` are declared.
-/// A content particle need not be deterministic.
+/// Whether the word is one that the model allows (XML 1.0, section 3.2), where the names below
+/// `declared` are declared. A content particle need not be deterministic.
 ///
-/// `NoMemory` says that there was no memory for the match. An empty word takes none, and EMPTY and ANY take none. In mixed
-/// content only a word of 1,024 tokens or more takes memory, for a set of the listed names, where these are 256 or more. In
-/// a content particle any other word takes a byte for each name and each repetition, and a word of 64 tokens or more, in a
-/// particle with 64 of these or more, takes memory for the particle laid out in pairs and for the places of its names.
+/// `NoMemory` says that there was no memory for the match. An empty word takes none, and EMPTY and
+/// ANY take none. In mixed content only a word of 1,024 tokens or more takes memory, for a set of
+/// the listed names, where these are 256 or more. In a content particle any other word takes a
+/// byte for each name and each repetition, and a word of 64 tokens or more, in a particle with 64
+/// of these or more, takes memory for the particle laid out in pairs and for the places of its
+/// names.
 ///
-/// In a deterministic particle the time grows with the word and the model together, and not with their product. A word of a
-/// particle that is laid out takes, for each token, the steps from the top of the pairs to the places that the names so far
-/// can end with and to those where the token's name may follow: in a deterministic particle one place, and as many levels as
-/// the logarithm of its size and its depth ask; in another perhaps all places. Matching ends at the first token that no
-/// allowed word has there.
+/// In a deterministic particle the time grows with the word and the model together, and not with
+/// their product. A word of a particle that is laid out takes, for each token, the steps from the
+/// top of the pairs to the places that the names so far can end with and to those where the
+/// token's name may follow: in a deterministic particle one place, and as many levels as the
+/// logarithm of its size and its depth ask; in another perhaps all places. Matching ends at the
+/// first token that no allowed word has there.
 pub fn matches(
     alloc: Global,
     model: &ContentModel,

@@ -11,7 +11,8 @@ use crate::models::{NameId, NoMemory, Token};
 use std::alloc::Global;
 use std::collections::HashSet;
 
-/// For words of at least so many tokens a long list of names is made a set. That takes as long as some 600 searches of it.
+/// For words of at least so many tokens a long list of names is made a set. That takes as long as
+/// some 600 searches of it.
 const LONG_WORD: usize = 1024;
 
 /// A long list has at least so many names.

@@ -1,7 +1,7 @@
 //! How far a word has come in a content particle: for each position whether it is reached.
 //!
-//! Each name has a position, and each repetition has one before its member's. The first is reached if the names read so far
-//! can end with it, and the second if they can end a round.
+//! Each name has a position, and each repetition has one before its member's. The first is reached
+//! if the names read so far can end with it, and the second if they can end a round.
 
 ghost use Rattle.std.specs.Prelude.{◌≡◌, ◌+◌, ◌≤◌, ◌++◌, ◌&&◌, ◌||◌, length, OnOk};
 ghost use Rattle.pv_model.specs.Plain.{name as one_name, seq, choice, plus};
@@ -96,7 +96,8 @@ pub struct Moved {
     /// Whether they are one with it.
     pub is_end: bool,
 
-    /// Whether a position of the part is reached. Without one, no names behind this one make a word of it.
+    /// Whether a position of the part is reached. Without one, no names behind this one make a
+    /// word of it.
     pub is_reached: bool,
 
     /// Whether the empty word is a word of the part.
@@ -161,7 +162,8 @@ impl Moved {
     }
 }
 
-/// Moves the part's positions, which begin at a place, over one more name. The part may begin with it if it is entered.
+/// Moves the part's positions, which begin at a place, over one more name. The part may begin with
+/// it if it is entered.
 #[cycle(advance)]
 #[inline(always)]
 pub fn advance(part: &Part, entered: bool, name: NameId, positions: &mut [bool], at: usize) -> Moved
@@ -240,7 +242,8 @@ fn advance_rounds(
     at: usize,
 ) -> Moved
     requires { at + position_count (plus (plain_part inner.now)) ≤ length positions.old }
-    ensures { Moves (plus (plain_part inner.now)) entered name.0 at positions.old positions.new result }
+    ensures { Moves (plus (plain_part inner.now)) entered name.0 at positions.old positions.new
+        result }
 {
     let was_end = positions[at];
     let entering = entered || was_end;
@@ -258,7 +261,8 @@ fn advance_in_order(
     at: usize,
 ) -> Moved
     requires { at + position_count (seq (plain_parts parts.now)) ≤ length positions.old }
-    ensures { Moves (seq (plain_parts parts.now)) entered name.0 at positions.old positions.new result }
+    ensures { Moves (seq (plain_parts parts.now)) entered name.0 at positions.old positions.new
+        result }
 {
     let mut all = Moved {
         next: at,
@@ -285,7 +289,8 @@ fn advance_each(
     at: usize,
 ) -> Moved
     requires { at + position_count (choice (plain_parts parts.now)) ≤ length positions.old }
-    ensures { Moves (choice (plain_parts parts.now)) entered name.0 at positions.old positions.new result }
+    ensures { Moves (choice (plain_parts parts.now)) entered name.0 at positions.old positions.new
+        result }
 {
     let mut some = Moved {
         next: at,

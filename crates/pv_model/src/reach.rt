@@ -1,13 +1,15 @@
 //! How far a long word has come in a content particle that is laid out.
 
-ghost use Rattle.std.specs.Prelude.{◌≡◌, ◌&&◌, ◌||◌, [], ◌∷◌, ◌++◌, OnOk, IfOk, if◌then◌else◌, false};
+ghost use Rattle.std.specs.Prelude.{◌≡◌, ◌&&◌, ◌||◌, [], ◌∷◌, ◌++◌, OnOk, IfOk, if◌then◌else◌};
+ghost use Rattle.std.specs.Prelude.{false};
 ghost use Rattle.pv_model.specs.PlainForms.{plain_layout};
 ghost use Rattle.pv_model.specs.Layouts.{AdvancesFrom, IsSplit, repeated};
 
 use crate::layout::Layout;
 use crate::models::NoMemory;
 
-/// Whether the names before one more name were a word of a particle, and whether they are one with it.
+/// Whether the names before one more name were a word of a particle, and whether they are one with
+/// it.
 #[derive(Clone, Copy)]
 pub struct Ends {
     pub was_end: bool,
@@ -35,7 +37,8 @@ impl Ends {
 
     /// The same of the particle and one behind it.
     fn followed_by(self, second: Ends, second_may_be_empty: bool) -> Ends
-        ensures was_end { result.was_end ≡ (second.was_end || self.was_end && second_may_be_empty) }
+        ensures was_end { result.was_end ≡
+            (second.was_end || self.was_end && second_may_be_empty) }
         ensures is_end { result.is_end ≡ (second.is_end || self.is_end && second_may_be_empty) }
     {
         Ends {
@@ -56,11 +59,11 @@ impl Ends {
     }
 }
 
-/// Appends to `next` the places that one more name reaches, from those reached before it and the places that have the name.
-/// The particle may begin with the name if it is entered.
+/// Appends to `next` the places that one more name reaches, from those reached before it and the
+/// places that have the name. The particle may begin with the name if it is entered.
 ///
-/// A member is passed over where nothing in it is reached, and it isn't entered or doesn't have the name. So the steps are
-/// those from the top to the places that are given.
+/// A member is passed over where nothing in it is reached, and it isn't entered or doesn't have
+/// the name. So the steps are those from the top to the places that are given.
 #[cycle(advance)]
 pub fn advance(
     layout: &Layout,
@@ -70,7 +73,8 @@ pub fn advance(
     called: &[usize],
     next: &mut Vec<usize>,
 ) -> Result<Ends, NoMemory>
-    ensures { IfOk result (λ e. AdvancesFrom (plain_layout layout.now) entered name reached.now called.now
+    ensures { IfOk result
+        (λ e. AdvancesFrom (plain_layout layout.now) entered name reached.now called.now
         next.old.items next.new.items e.was_end e.is_end) }
 {
     if reached.is_empty() && (!entered || called.is_empty()) {

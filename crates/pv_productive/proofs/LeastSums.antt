@@ -1,23 +1,19 @@
 -- The least sum that the rules give a site over no tokens, by what stands there.
-use Rattle.std.proofs.Common.{List, None, Option, Some, [], ap, arith, length, refl, slice_get, subst, suc, sym, true, ℕ, ◌+◌, ◌<◌, ◌∙◌, ◌∷◌, ◌≡◌, ◌≤◌}
+use Rattle.std.proofs.Common.{List, None, Option, Some, [], ap, arith, refl, slice_get, subst, suc, sym, true, ℕ, ◌+◌, ◌∙◌, ◌∷◌, ◌≡◌, ◌≤◌}
 use Rattle.pv_model.specs.Plain.{PlainModel, PlainPart, PlainParts, any, children, choice, empty, mixed, name, no_parts, opt, part, plus, seq, star}
 use Rattle.pv_dtd.specs.Facts.{is_formed}
-use Rattle.pv_dtd.specs.Plain.{PlainDtd, model_of, parts_in, parts_in_models}
-use Rattle.pv_rules.specs.Flat.{content_kind_of, one_content}
+use Rattle.pv_dtd.specs.Plain.{PlainDtd, parts_in}
+use Rattle.pv_rules.specs.Flat.{content_kind_of, flat_contents}
 use Rattle.pv_rules.specs.Kinds.{OfPart}
 use Rattle.pv_rules.specs.Numbering.{first_part, part_at, rest_at}
-use Rattle.pv_rules.specs.PlainForms.{IsFlat}
 use Rattle.pv_rules.specs.Rules.{Goal, Rule, missing, opt_none, over, part_choice, part_name, part_seq, plus_one, rest_last, rest_then, star_none}
 use Rattle.pv_rules.specs.Sites.{PlainSite, content_site, name_site, part_site, rest_site}
 use Rattle.pv_rules.specs.declared.flat.ContentKind.{ContentKind}
 use Rattle.pv_rules.specs.declared.flat.ContentKind.TheVariants as content
 use Rattle.pv_rules.specs.declared.flat.FlatContent.{FlatContent}
-use Rattle.pv_rules.specs.declared.flat.FlatDtd.{FlatDtd}
 use Rattle.pv_rules.proofs.ByKind.{by_kind}
-use Rattle.std.proofs.lemmas.Option.{slice_get_within}
-use Rattle.pv_rules.proofs.Facts.{parts_by_number}
+use Rattle.pv_rules.proofs.FlatContents.{content_at}
 use Rattle.pv_rules.proofs.FlatKinds.{IsNoRest}
-use Rattle.pv_rules.proofs.FlatNumbers.{flat_by_number}
 use Rattle.pv_productive.specs.Tables.{IsLeastMember, IsLeastSum, Table, no_size, size_at, size_in, size_of, total}
 use Rattle.pv_productive.proofs.Paid.{none_span}
 use Rattle.pv_productive.proofs.Weighing.{name_rules, part_rules, plus_rules, rest_rules, then_rules}
@@ -107,50 +103,35 @@ module _ (g : PlainDtd) (t : Table) where
       both k (rest_site q) (part_site q) (rest_site (q + parts_in p)) (rest_then q 0 0 0 p r ps (omega arith) (omega arith) (omega arith) e)
       (λ j xs h. then_rules g q j xs p r ps (rest_rules g q (Some (part p (part r ps))) e j xs h)) z
 
-module _ (g : PlainDtd) (flat : FlatDtd) (are : IsFlat g flat) where
-  -- the content model that a flat one was made of
-  pub content_case : (x : ℕ) (f : FlatContent) (o : Option PlainModel) → model_of g x ≡ o → slice_get flat.contents.items x ≡ Some f →
-      (m : PlainModel) × (model_of g x ≡ Some m) × (f ≡ one_content (first_part g x) m)
-  content_case x f None e h = absurd (let n = (flat_by_number g).no_content x e in let z = are.contents in cc)
-  content_case x f (Some m) e h = (m, e, let n = (flat_by_number g).contents x m e in let z = are.contents in cc)
+module _ (g : PlainDtd) (t : Table) where
+  free_case : (q : ℕ) (m : PlainModel) → IsFree (content_kind_of m) → size_in t q (Some m) ≡ 0
+  free_case q empty n = refl
+  free_case q any n = refl
+  free_case q (mixed ys) n = refl
+  free_case q (children p) n = absurd n
 
-  pub no_content : (x : ℕ) → slice_get flat.contents.items x ≡ None → model_of g x ≡ None
-  no_content x h = go (model_of g x) refl
-    where
-      go : (o : Option PlainModel) → model_of g x ≡ o → model_of g x ≡ None
-      go None e = e
-      go (Some m) e = absurd (let n = (flat_by_number g).contents x m e in let z = are.contents in cc)
+  children_case : (q : ℕ) (m : PlainModel) → content_kind_of m ≡ content.Children →
+      size_in t q (Some m) ≡ size_at t.parts q
+  children_case q empty e = absurd cc
+  children_case q any e = absurd cc
+  children_case q (mixed ys) e = absurd cc
+  children_case q (children p) e = refl
 
-  free_case : (t : Table) (q : ℕ) (m : PlainModel) → IsFree (content_kind_of m) → size_in t q (Some m) ≡ 0
-  free_case t q empty n = refl
-  free_case t q any n = refl
-  free_case t q (mixed ys) n = refl
-  free_case t q (children p) n = absurd n
+  module _ (x : ℕ) (f : FlatContent) (found : slice_get (flat_contents 0 g.models) x ≡ Some f) where
+    pub free_content : IsFree f.kind → size_of g t (content_site x) ≡ 0
+    free_content n =
+        let c = content_at g x f found in
+        let i = ap (λ (y : FlatContent). y.kind) c.2 in
+        let a : size_of g t (content_site x) ≡ size_in t (first_part g x) (Some c.0) =
+        ap (λ o. size_in t (first_part g x) o) c.1 in
+        a ∙ free_case (first_part g x) c.0 (subst IsFree i n)
 
-  children_case : (t : Table) (q : ℕ) (m : PlainModel) → content_kind_of m ≡ content.Children → size_in t q (Some m) ≡ size_at t.parts q
-  children_case t q empty e = absurd cc
-  children_case t q any e = absurd cc
-  children_case t q (mixed ys) e = absurd cc
-  children_case t q (children p) e = refl
-
-  pub free_content : (t : Table) (x : ℕ) (f : FlatContent) → slice_get flat.contents.items x ≡ Some f → IsFree f.kind → size_of g t (content_site x) ≡ 0
-  free_content t x f h n =
-      let c = content_case x f (model_of g x) refl h in
-      let i = ap (λ (y : FlatContent). y.kind) c.2 in
-      let a : size_of g t (content_site x) ≡ size_in t (first_part g x) (Some c.0) = ap (λ o. size_in t (first_part g x) o) c.1 in
-      a ∙ free_case t (first_part g x) c.0 (subst IsFree i n)
-
-  pub children_content : (t : Table) (x : ℕ) (f : FlatContent) → slice_get flat.contents.items x ≡ Some f → f.kind ≡ content.Children →
-      size_of g t (content_site x) ≡ size_at t.parts f.first
-  children_content t x f h k =
-      let c = content_case x f (model_of g x) refl h in
-      let i = ap (λ (y : FlatContent). y.kind) c.2 in
-      let j = ap (λ (y : FlatContent). size_at t.parts y.first) c.2 in
-      let a : size_of g t (content_site x) ≡ size_in t (first_part g x) (Some c.0) = ap (λ o. size_in t (first_part g x) o) c.1 in
-      a ∙ children_case t (first_part g x) c.0 (sym i ∙ k) ∙ sym j
-
-  pub content_within : (x : ℕ) (f : FlatContent) → slice_get flat.contents.items x ≡ Some f → (x < length g.models) × (f.end ≤ parts_in_models g.models)
-  content_within x f h =
-      let c = content_case x f (model_of g x) refl h in
-      let i = ap (λ (y : FlatContent). y.end) c.2 in
-      let w = (parts_by_number g).content_within x c.0 c.1 in (slice_get_within g.models x c.0 c.1, omega arith)
+    pub children_content : f.kind ≡ content.Children →
+        size_of g t (content_site x) ≡ size_at t.parts f.first
+    children_content k =
+        let c = content_at g x f found in
+        let i = ap (λ (y : FlatContent). y.kind) c.2 in
+        let j = ap (λ (y : FlatContent). size_at t.parts y.first) c.2 in
+        let a : size_of g t (content_site x) ≡ size_in t (first_part g x) (Some c.0) =
+        ap (λ o. size_in t (first_part g x) o) c.1 in
+        a ∙ children_case (first_part g x) c.0 (sym i ∙ k) ∙ sym j

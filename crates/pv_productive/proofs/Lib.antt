@@ -1,11 +1,12 @@
-pub mod Grown
-pub mod Paid
-pub mod SizeLaws
-pub mod Weighing
-pub mod LeastSums
-pub mod Passing
-pub mod Flattened
+-- for other crates:
 pub mod Cutting
-pub mod Raising
+pub mod SizeLaws
+-- of this crate:
+pub mod Elements
+pub mod Grown
+pub mod LeastSums
+pub mod Lowered
+pub mod Paid
 pub mod Settled
 pub mod Sized
+pub mod Weighing

@@ -1,5 +1,5 @@
 -- What a good hedge holds has derivations over no tokens, which weigh no more than its elements.
-use Rattle.std.proofs.Common.{List, None, Option, Some, [], arith, inl, inr, map, refl, subst, suc, true, ℕ, ◌++◌, ◌+◌, ◌∷◌, ◌≡◌, ◌≤◌}
+use Rattle.std.proofs.Common.{List, None, Option, Some, [], arith, inl, inr, map, refl, subst, suc, ℕ, ◌++◌, ◌+◌, ◌∷◌, ◌≡◌, ◌≤◌}
 use Rattle.pv_model.specs.Plain.{PlainModel, PlainPart, PlainParts, PlainToken, any, children, choice, empty, mixed, name, named, no_parts, opt, part, plus, seq, star}
 use Rattle.pv_model.specs.Models.{Allows, Matches, MatchesAll, MatchesSome}
 use Rattle.pv_dtd.specs.Plain.{PlainDtd, declared, model_of, number_of, parts_in}

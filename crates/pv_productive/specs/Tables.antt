@@ -1,6 +1,9 @@
 -- Tables of sizes that are raised until nothing changes, over no tokens.
-use Rattle.std.specs.Prelude.{Bool, List, Option, Some, None, [], false, length, min, nat_le, slice_index_or, slice_set, suc, sum, true, ℕ, if◌then◌else◌, ◌+◌, ◌<◌, ◌≡◌, ◌≤◌}
-use Rattle.pv_model.specs.Plain.{PlainModel, PlainPart, PlainParts, any, children, choice, empty, mixed}
+use Rattle.std.specs.Prelude.{Bool, List, Option, Some, None, [], false, length, min, nat_le}
+use Rattle.std.specs.Prelude.{slice_index_or, slice_set, suc, sum, true, ℕ, if◌then◌else◌, ◌+◌}
+use Rattle.std.specs.Prelude.{◌<◌, ◌≡◌, ◌≤◌}
+use Rattle.pv_model.specs.Plain.{PlainModel, PlainPart, PlainParts, any, children, choice, empty}
+use Rattle.pv_model.specs.Plain.{mixed}
 use Rattle.pv_dtd.specs.Plain.{PlainDtd, model_of, parts_in_all, parts_in_models}
 use Rattle.pv_dtd.specs.Productive.{IsProductive}
 use Rattle.pv_productive.specs.Sizes.{IsCutSize}
@@ -16,7 +19,8 @@ no_size = 4000000
 abbrev pub cut : ℕ → ℕ
 cut n = if nat_le no_size n then no_size else min heaviest n
 
--- the sizes found so far of elements of each name, of each part, and of the members of a sequence from each on
+-- the sizes found so far of elements of each name, of each part, and of the members of a sequence
+-- from each on
 pub record Table : Type 0 where
   pub names : List ℕ
   pub parts : List ℕ
@@ -45,21 +49,25 @@ total g t xs = sum_of (λ (x : Goal). size_of g t x.site) xs
 -- k is the least sum of cost and right sides, over the rules of a site
 pub record IsLeastSum (g : PlainDtd) (t : Table) (s : PlainSite) (k : ℕ) : Type 0 where
   pub below : (c : ℕ) (xs : List Goal) → Rule g [] (over s 0 0) c xs → k ≤ c + total g t xs
-  pub attained : k < no_size → (c : ℕ) × (xs : List Goal) × Rule g [] (over s 0 0) c xs × (k ≡ c + total g t xs)
+  pub attained : k < no_size →
+      (c : ℕ) × (xs : List Goal) × Rule g [] (over s 0 0) c xs × (k ≡ c + total g t xs)
 
 -- k is the least size of the members of choice number q
 pub record IsLeastMember (g : PlainDtd) (t : Table) (q : ℕ) (ps : PlainParts) (k : ℕ) : Type 0 where
   pub bounded : k ≤ no_size
   pub below : (p : PlainPart) (r : ℕ) → IsMemberAt p r (suc q) ps → k ≤ size_at t.parts r
-  pub attained : k < no_size → (p : PlainPart) × (r : ℕ) × IsMemberAt p r (suc q) ps × (k ≡ size_at t.parts r)
+  pub attained : k < no_size →
+      (p : PlainPart) × (r : ℕ) × IsMemberAt p r (suc q) ps × (k ≡ size_at t.parts r)
 
 -- a choice stands at q, and its members end before number end
 abbrev pub IsChoiceAt : PlainDtd → ℕ → ℕ → Type 0
-IsChoiceAt g q end = (ps : PlainParts) × (part_at g q ≡ Some (choice ps)) × (end ≡ suc q + parts_in_all ps)
+IsChoiceAt g q end =
+    (ps : PlainParts) × (part_at g q ≡ Some (choice ps)) × (end ≡ suc q + parts_in_all ps)
 
 -- k is the size of no derivation, or that of one, cut
 abbrev pub HasSize : PlainDtd → PlainSite → ℕ → Type 0
-HasSize g s k = (k ≤ no_size) × (k < no_size → (n : ℕ) × Derives (Rule g []) n (over s 0 0) × (k ≡ min heaviest n))
+HasSize g s k = (k ≤ no_size) ×
+    (k < no_size → (n : ℕ) × Derives (Rule g []) n (over s 0 0) × (k ≡ min heaviest n))
 
 -- the table has a size for each name and each part, and each is that of no derivation, or of one
 pub record IsAttained (g : PlainDtd) (t : Table) : Type 0 where
@@ -72,13 +80,15 @@ pub record IsAttained (g : PlainDtd) (t : Table) : Type 0 where
 
 -- the rules of this site lower nothing in the table
 abbrev pub IsSettledAt : PlainDtd → Table → PlainSite → Type 0
-IsSettledAt g t s = (c : ℕ) (xs : List Goal) → Rule g [] (over s 0 0) c xs → size_of g t s ≤ cut (c + total g t xs)
+IsSettledAt g t s = (c : ℕ) (xs : List Goal) → Rule g [] (over s 0 0) c xs →
+    size_of g t s ≤ cut (c + total g t xs)
 
 abbrev pub IsSettled : PlainDtd → Table → Type 0
 IsSettled g t = (s : PlainSite) → IsSettledAt g t s
 
 abbrev pub ArePartsSettled : PlainDtd → ℕ → ℕ → Table → Type 0
-ArePartsSettled g first end t = (q : ℕ) → first ≤ q → q < end → IsSettledAt g t (part_site q) × IsSettledAt g t (rest_site q)
+ArePartsSettled g first end t = (q : ℕ) → first ≤ q → q < end →
+    IsSettledAt g t (part_site q) × IsSettledAt g t (rest_site q)
 
 abbrev pub AreNamesSettled : PlainDtd → ℕ → ℕ → Table → Type 0
 AreNamesSettled g first end t = (x : ℕ) → first ≤ x → x < end → IsSettledAt g t (name_site x)
@@ -86,8 +96,10 @@ AreNamesSettled g first end t = (x : ℕ) → first ≤ x → x < end → IsSett
 abbrev pub sum_in : Table → ℕ
 sum_in t = sum t.names + (sum t.parts + sum t.rests)
 
--- The new table is attained. Where nothing changed it is the old one, of which P holds, and else its sizes are less in all.
-pub record IsRaised (g : PlainDtd) (P : Table → Type 0) (old new : Table) (changed : Bool) : Type 0 where
+-- The new table is attained. Where nothing changed it is the old one, of which P holds, and else
+-- its sizes are less in all.
+pub record IsLowering (g : PlainDtd) (P : Table → Type 0) (old new : Table) (changed : Bool) :
+    Type 0 where
   pub attained : IsAttained g new
   pub same : changed ≡ false → new ≡ old
   pub settled : changed ≡ false → P old

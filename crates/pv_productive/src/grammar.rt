@@ -7,9 +7,10 @@ use crate::layout::Layout;
 use crate::sizes::{NO_SIZE, size_at};
 use pv_dtd::Dtd;
 use pv_model::NameId;
-use pv_rules::FlatDtd;
+use pv_rules::{FlatContent, FlatDtd, FlatPart, Site, has_site};
 
-/// A DTD, its parts by number, and which of its names are productive: of which some element is valid, with all that it holds.
+/// A DTD, its parts by number, and which of its names are productive: of which some element is
+/// valid, with all that it holds.
 #[derive(Debug, Drop)]
 pub struct Grammar {
     layout: Layout,
@@ -18,10 +19,12 @@ pub struct Grammar {
 }
 
 impl Grammar {
-    ghost use Rattle.std.specs.Prelude.{◌≡◌, ◌<◌, ◌↔◌, IfOk, IsTrue, MatchOption, length};
+    ghost use Rattle.std.specs.Prelude.{◌≡◌, ◌<◌, ◌↔◌, IsTrue, MatchOption, length, slice_get};
     ghost use Rattle.pv_dtd.specs.Productive.{IsProductive};
     ghost use Rattle.pv_dtd.specs.PlainForms.{plain_dtd};
-    ghost use Rattle.pv_rules.specs.PlainForms.{IsFlat};
+    ghost use Rattle.pv_rules.specs.Flat.{flat_contents, flat_parts};
+    ghost use Rattle.pv_rules.specs.PlainForms.{IsFlat, plain_site};
+    ghost use Rattle.pv_rules.specs.Sites.{HasSite};
     ghost use Rattle.pv_productive.specs.PlainForms.{dtd_of};
     ghost use Rattle.pv_productive.specs.Sizes.{IsCutSize};
 
@@ -47,8 +50,30 @@ impl Grammar {
         self.layout.flat()
     }
 
-    /// Whether some element of this name is good: its name is declared, and so it is for all elements within it, and the content of each
-    /// is one that its model allows (section 3, the constraint Element Valid).
+    /// The part of a number, where there is one.
+    pub fn part_of(&self, number: u32) -> Option<FlatPart>
+        ensures { result ≡ slice_get (flat_parts (dtd_of self.now)) number }
+    {
+        self.layout.part(number)
+    }
+
+    /// The content model of a name, where it is declared.
+    pub fn content_of(&self, id: NameId) -> Option<FlatContent>
+        ensures { result ≡ slice_get (flat_contents 0 (dtd_of self.now).models) id.0 }
+    {
+        self.layout.content(id.0)
+    }
+
+    /// Whether the DTD has a site.
+    pub fn has_site(&self, site: Site) -> bool
+        ensures { IsTrue result ↔ HasSite (dtd_of self.now) (plain_site site) }
+    {
+        has_site(self.layout.dtd(), self.layout.flat(), site)
+    }
+
+    /// Whether some element of this name is good: its name is declared, and so it is for all
+    /// elements within it, and the content of each is one that its model allows (section 3, the
+    /// constraint Element Valid).
     pub fn is_productive(&self, id: NameId) -> bool
         requires { id.0 < length (dtd_of self.now).names }
         ensures { IsTrue result ↔ IsProductive (dtd_of self.now) id.0 }
@@ -56,11 +81,12 @@ impl Grammar {
         size_at(self.sizes.as_slice(), id.0) < NO_SIZE
     }
 
-    /// The least number of elements of a good element of this name, itself included, or 1,000,001 where that is more than 1,000,000;
-    /// `None` where the name isn't productive.
+    /// The least number of elements of a good element of this name, itself included, or 1,000,001
+    /// where that is more than 1,000,000; `None` where the name isn't productive.
     pub fn least_tree(&self, id: NameId) -> Option<u64>
         requires { id.0 < length (dtd_of self.now).names }
-        ensures { MatchOption result (¬ IsProductive (dtd_of self.now) id.0) (λ size. IsCutSize (dtd_of self.now) id.0 size) }
+        ensures { MatchOption result (¬ IsProductive (dtd_of self.now) id.0)
+            (λ size. IsCutSize (dtd_of self.now) id.0 size) }
     {
         let size = size_at(self.sizes.as_slice(), id.0);
         if size < NO_SIZE {

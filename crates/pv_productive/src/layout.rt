@@ -4,8 +4,8 @@ ghost use Rattle.std.specs.Prelude.{◌≡◌};
 ghost use Rattle.pv_dtd.specs.PlainForms.{plain_dtd};
 ghost use Rattle.pv_rules.specs.Flat.{flat_contents, flat_parts};
 
+use pv_chars::NoMemory;
 use pv_dtd::Dtd;
-use pv_model::NoMemory;
 use pv_rules::{FlatContent, FlatDtd, FlatPart};
 use std::alloc::Global;
 
@@ -21,7 +21,7 @@ pub struct Layout {
 impl Layout {
     ghost use Rattle.std.specs.Prelude.{◌≡◌, IfOk, slice_get};
     ghost use Rattle.pv_dtd.specs.PlainForms.{plain_dtd};
-    ghost use Rattle.pv_rules.specs.PlainForms.{IsFlat};
+    ghost use Rattle.pv_rules.specs.Flat.{flat_contents, flat_parts};
 
     /// Lays out the parts of a DTD.
     pub fn of(alloc: Global, dtd: Dtd) -> Result<Layout, NoMemory>
@@ -47,15 +47,15 @@ impl Layout {
 
     /// The part of a number.
     pub fn part(&self, number: u32) -> Option<FlatPart>
-        ensures { result ≡ slice_get self.now.flat.parts.items number }
+        ensures { result ≡ slice_get (flat_parts (plain_dtd self.now.dtd)) number }
     {
-        self.flat.parts().get(number as usize).copied()
+        self.flat.part(number)
     }
 
     /// The content model of a declared name.
     pub fn content(&self, name: u32) -> Option<FlatContent>
-        ensures { result ≡ slice_get self.now.flat.contents.items name }
+        ensures { result ≡ slice_get (flat_contents 0 (plain_dtd self.now.dtd).models) name }
     {
-        self.flat.contents().get(name as usize).copied()
+        self.flat.content(name)
     }
 }

@@ -6,24 +6,25 @@ ghost use Rattle.pv_productive.specs.PlainForms.{dtd_of};
 
 use crate::grammar::Grammar;
 use crate::layout::Layout;
-use crate::raise::raise_all;
+use crate::lowering::lower_all;
 use crate::sizes::Sizes;
 use crate::spread::spread;
+use pv_chars::NoMemory;
 use pv_dtd::Dtd;
-use pv_model::NoMemory;
 use std::alloc::Global;
 
 /// Finds the productive names of a DTD, and their least sizes.
 ///
-/// It takes memory for the parts of the DTD, for the sizes of parts and names, and for the names that content models mention; `NoMemory`
-/// says that there was no memory for them. The DTD is dropped then.
+/// It takes memory for the parts of the DTD, for the sizes of parts and names, and for the names
+/// that content models mention; `NoMemory` says that there was no memory for them. The DTD is
+/// dropped then.
 pub fn build(alloc: Global, dtd: Dtd) -> Result<Grammar, NoMemory>
     ensures { IfOk result (λ grammar. dtd_of grammar ≡ plain_dtd dtd) }
 {
     let layout = Layout::of(alloc, dtd)?;
     let mut sizes = Sizes::new(alloc, &layout)?;
     spread(alloc, &layout, &mut sizes)?;
-    while raise_all(&layout, &mut sizes) {}
+    while lower_all(&layout, &mut sizes) {}
     let Sizes {
         names,
         parts: _,

@@ -4,17 +4,16 @@ ghost use Rattle.std.specs.Prelude.{◌≡◌, ◌<◌, length};
 ghost use Rattle.pv_productive.specs.Tables.{IsLowered, cut, size_at};
 
 use crate::layout::Layout;
-use pv_model::NoMemory;
+use pv_chars::NoMemory;
+use pv_rules::HEAVIEST;
 use std::alloc::Global;
 
-/// The size of what has more than 1,000,000 elements.
-pub const OVER: u32 = 1_000_001;
-
-/// The size of what has no good element, as far as is known; more than a rule adds up from sizes that are cut.
+/// The size of what has no good element, as far as is known; more than a rule adds up from sizes
+/// that are cut.
 pub const NO_SIZE: u32 = 4_000_000;
 
-/// The least numbers of elements found so far: in an element of each name, itself included, in each part, and in the members of a
-/// sequence from each part on.
+/// The least numbers of elements found so far: in an element of each name, itself included, in each
+/// part, and in the members of a sequence from each part on.
 #[derive(Debug, Drop)]
 pub struct Sizes {
     pub names: Vec<u32>,
@@ -28,10 +27,10 @@ pub fn cut(sum: u64) -> u32
 {
     if sum >= u64::from(NO_SIZE) {
         NO_SIZE
-    } else if sum < u64::from(OVER) {
+    } else if sum < u64::from(HEAVIEST) {
         sum as u32
     } else {
-        OVER
+        HEAVIEST
     }
 }
 

@@ -1,4 +1,5 @@
-//! Lowering sizes where they may be lowered: a content model is looked at again when a name that it mentions has a smaller size.
+//! Lowering sizes where they may be lowered: a content model is looked at again when a name that it
+//! mentions has a smaller size.
 
 ghost use Rattle.std.specs.Prelude.{OnOk};
 ghost use Rattle.pv_dtd.specs.PlainForms.{plain_dtd};
@@ -6,9 +7,9 @@ ghost use Rattle.pv_productive.specs.PlainForms.{table_of};
 ghost use Rattle.pv_productive.specs.Tables.{IsAttained};
 
 use crate::layout::Layout;
-use crate::raise::raise_content;
+use crate::lowering::lower_content;
 use crate::sizes::Sizes;
-use pv_model::NoMemory;
+use pv_chars::NoMemory;
 use pv_rules::Kind;
 use std::alloc::Global;
 use std::collections::VecDeque;
@@ -57,7 +58,8 @@ struct Waiting {
 }
 
 impl Waiting {
-    /// All names below `count`, the last one first: types are mostly declared before those that they mention.
+    /// All names below `count`, the last one first: types are mostly declared before those that
+    /// they mention.
     fn all(alloc: Global, count: u32) -> Result<Waiting, NoMemory> {
         let mut waiting = Waiting {
             names: VecDeque::new(alloc),
@@ -113,7 +115,7 @@ pub fn spread(alloc: Global, layout: &Layout, sizes: &mut Sizes) -> Result<(), N
         let Some(name) = waiting.pop() else {
             break;
         };
-        if raise_content(layout, name, sizes) {
+        if lower_content(layout, name, sizes) {
             push_owners(mentions.as_slice(), name, &mut waiting)?;
         }
     }

@@ -1,4 +1,5 @@
-//! The least number of elements that the rules of the missing grammar give a site over no tokens, by the sizes found so far.
+//! The least number of elements that the rules of the missing grammar give a site over no tokens,
+//! by the sizes found so far.
 
 ghost use Rattle.std.specs.Prelude.{◌≡◌, ◌+◌, ◌<◌, ◌^◌};
 ghost use Rattle.pv_dtd.specs.PlainForms.{plain_dtd};
@@ -37,7 +38,8 @@ pub fn sum_of_name(layout: &Layout, sizes: &Sizes, name: u32) -> u64
 /// The least of the members of a choice, which end before `end`.
 fn least_member(layout: &Layout, sizes: &Sizes, number: u32, end: u32) -> u32
     requires { IsChoiceAt (plain_dtd layout.now.dtd) number end }
-    ensures { (ps : PlainParts) → part_at (plain_dtd layout.now.dtd) number ≡ Some (choice ps) → IsLeastMember (plain_dtd layout.now.dtd) (table_of sizes.now) number ps result }
+    ensures { (ps : PlainParts) → part_at (plain_dtd layout.now.dtd) number ≡ Some (choice ps) →
+        IsLeastMember (plain_dtd layout.now.dtd) (table_of sizes.now) number ps result }
 {
     let mut least = NO_SIZE;
     let mut member = number + 1;

@@ -2,10 +2,10 @@
 use Rattle.std.proofs.Common.{◌≡◌, ◌≤◌, ◌<◌, ◌⊎◌, ℕ, zero, suc, ◌+◌, ◌*◌, max, List, [], ◌∷◌, Option, Some, None, Contains, All, length, refl, subst, arith, inl, inr}
 use Rattle.std.proofs.lemmas.Bool.{cases_lt}
 use Rattle.pv_model.specs.declared.models.Token.{Token}
-use Rattle.pv_reach.specs.declared.rules.ColumnRule.{ColumnRule}
-use Rattle.pv_reach.specs.ColumnRules.{Reads, Reaches, done, by_rule, TokensMayBeMissing, InRange}
+use Rattle.pv_columns.specs.declared.rules.ColumnRule.{ColumnRule}
+use Rattle.pv_columns.specs.ColumnRules.{Reads, ReadThrough, done, by_rule, TokensMayBeMissing, InRange}
 use Rattle.pv_reach.specs.Tables.{cell, past, onward, IsTable, IsAttained, IsClosedAt, IsComplete}
-use Rattle.pv_reach.proofs.Spans.{join, within, reads_within, reaches_on, reaches_within}
+use Rattle.pv_columns.proofs.Spans.{join, within, reads_within, reaches_on, reaches_within}
 
 -- a rule's columns are in range
 pub columns_in_range : (width : ℕ) (rules : List ColumnRule) (r : ColumnRule) → InRange width rules → Contains rules r → (r.left < width) × All (λ c. c < width) r.columns.items
@@ -36,14 +36,14 @@ alone width c lt (suc k) d h = absurd (omega arith)
 module _ (rules : List ColumnRule) (word : List Token) (width : ℕ) (table : List ℕ) (is : IsTable word width table) where
   -- one column, and then what is derived from where it leads
   reaches_step : (c : ℕ) (cs : List ℕ) (i j v : ℕ) → cell width table c i ≡ v → onward v (past width table cs) ≡ suc j →
-      ((k : ℕ) → cell width table c i ≡ suc k → Reaches rules word (c ∷ []) i k) → ((k : ℕ) → k ≤ length word → past width table cs k ≡ suc j → Reaches rules word cs k j) →
-      Reaches rules word (c ∷ cs) i j
+      ((k : ℕ) → cell width table c i ≡ suc k → ReadThrough rules word (c ∷ []) i k) → ((k : ℕ) → k ≤ length word → past width table cs k ≡ suc j → ReadThrough rules word cs k j) →
+      ReadThrough rules word (c ∷ cs) i j
   reaches_step c cs i j zero q e one rest = absurd (omega arith)
   reaches_step c cs i j (suc k) q e one rest =
       join rules word c cs i k j (one k q) (rest k (let b = is.bounded (i * width + c) in omega arith) e)
 
   -- what the columns lead to is derived
-  pub past_reaches : IsAttained rules word width table → (cs : List ℕ) → All (λ x. x < width) cs → (i j : ℕ) → i ≤ length word → past width table cs i ≡ suc j → Reaches rules word cs i j
+  pub past_reaches : IsAttained rules word width table → (cs : List ℕ) → All (λ x. x < width) cs → (i j : ℕ) → i ≤ length word → past width table cs i ≡ suc j → ReadThrough rules word cs i j
   past_reaches att [] range i j le e = done i j (omega arith)
   past_reaches att (c ∷ cs) range i j le e =
       reaches_step c cs i j (cell width table c i) refl e (λ k q. att.reaches c i k (all_first width c cs range) le q)
@@ -51,8 +51,8 @@ module _ (rules : List ColumnRule) (word : List Token) (width : ℕ) (table : Li
 
   module _ (missing : TokensMayBeMissing rules word) where
     -- a column that reaches k or beyond, and then what is derived from k
-    beyond_step : (c : ℕ) (cs : List ℕ) (i k j : ℕ) → Reaches rules word cs k j → Above (cell width table c i) k → j < past width table cs k →
-        ((p l : ℕ) → k < p → p ≤ length word → Reaches rules word cs p l → l < past width table cs p) → j < past width table (c ∷ cs) i
+    beyond_step : (c : ℕ) (cs : List ℕ) (i k j : ℕ) → ReadThrough rules word cs k j → Above (cell width table c i) k → j < past width table cs k →
+        ((p l : ℕ) → k < p → p ≤ length word → ReadThrough rules word cs p l → l < past width table cs p) → j < past width table (c ∷ cs) i
     beyond_step c cs i k j f a here later = rw a.is (from_last (cases_lt k a.last))
       where
         from_last : (k < a.last) ⊎ (a.last ≤ k) → j < past width table cs a.last
@@ -66,10 +66,10 @@ module _ (rules : List ColumnRule) (word : List Token) (width : ℕ) (table : Li
 
     -- where the cells are complete no columns go beyond where they lead
     pub past_beyond : (from : ℕ) → IsComplete rules word width table from → (cs : List ℕ) → All (λ x. x < width) cs →
-        (i j : ℕ) → from ≤ i → i ≤ length word → Reaches rules word cs i j → j < past width table cs i
+        (i j : ℕ) → from ≤ i → i ≤ length word → ReadThrough rules word cs i j → j < past width table cs i
     past_beyond from full [] range i j le lt (done _ _ e) = omega arith
     past_beyond from full (c ∷ cs) range i j le lt (by_rule _ _ r _ m k _ con e reads d f) =
-        let one : Reaches rules word (c ∷ []) i k = by_rule c [] r i m k k con e reads d (done k k refl) in
+        let one : ReadThrough rules word (c ∷ []) i k = by_rule c [] r i m k k con e reads d (done k k refl) in
         let on : i ≤ k = reaches_on rules word (c ∷ []) i k one in
         beyond_step c cs i k j f
         (above (cell width table c i) k (full.beyond c i k (all_first width c cs range) le lt one))
@@ -80,7 +80,7 @@ module _ (rules : List ColumnRule) (word : List Token) (width : ℕ) (table : Li
     module _ (place : ℕ) (range : InRange width rules) (closed : IsClosedAt rules word width table place) (full : IsComplete rules word width table (suc place)) (short : place ≤ length word) where
       -- what a rule reaches is no further than its cell
       offer : (r : ColumnRule) (o : Option Token) (m k : ℕ) → Contains rules r → r.token ≡ o → Reads word o place m →
-          Reaches rules word r.columns.items m k → (m ≡ place → k < past width table r.columns.items m) → k < cell width table r.left place
+          ReadThrough rules word r.columns.items m k → (m ≡ place → k < past width table r.columns.items m) → k < cell width table r.left place
       offer r None m k con e reads d here =
           let h = closed.holds r con m (rw e reads) in
           let q = here reads in omega arith
@@ -89,13 +89,13 @@ module _ (rules : List ColumnRule) (word : List Token) (width : ℕ) (table : Li
           let q = past_beyond (suc place) full r.columns.items (columns_in_range width rules r range con).1 m k (let s = reads.1 in omega arith) (reads_within word (Some t) place m reads short) d in omega arith
 
       -- also from this place, if it is so there
-      from_here : (cs : List ℕ) → All (λ x. x < width) cs → (i j : ℕ) → place ≤ i → i ≤ length word → Reaches rules word cs i j → (i ≡ place → j < past width table cs i) → j < past width table cs i
+      from_here : (cs : List ℕ) → All (λ x. x < width) cs → (i j : ℕ) → place ≤ i → i ≤ length word → ReadThrough rules word cs i j → (i ≡ place → j < past width table cs i) → j < past width table cs i
       from_here cs cols i j le lt d here = elim (cases_lt place i) [ inl behind ↦ past_beyond (suc place) full cs cols i j behind lt d | inr same ↦ here (omega arith) ]
 
-      pub reached : (cs : List ℕ) → All (λ x. x < width) cs → (i j : ℕ) → i ≡ place → Reaches rules word cs i j → j < past width table cs i
+      pub reached : (cs : List ℕ) → All (λ x. x < width) cs → (i j : ℕ) → i ≡ place → ReadThrough rules word cs i j → j < past width table cs i
       reached [] cols i j e (done _ _ q) = omega arith
       reached (c ∷ cs) cols i j e (by_rule _ _ r _ m k _ con q reads d f) =
-          let one : Reaches rules word (c ∷ []) i k = by_rule c [] r i m k k con q reads d (done k k refl) in
+          let one : ReadThrough rules word (c ∷ []) i k = by_rule c [] r i m k k con q reads d (done k k refl) in
           let on : i ≤ k = reaches_on rules word (c ∷ []) i k one in
           let less : k < cell width table r.left place =
           offer r r.token m k con refl (let R : ℕ → Type 0 = λ x. Reads word r.token x m in subst R e reads) d
@@ -113,7 +113,7 @@ pub closed_complete : (rules : List ColumnRule) (word : List Token) (width : ℕ
     IsClosedAt rules word width table place → IsComplete rules word width table (suc place) → place ≤ length word → IsComplete rules word width table place
 closed_complete rules word width table place is missing range closed full short = record { beyond = beyond }
   where
-    beyond : (c i j : ℕ) → c < width → place ≤ i → i ≤ length word → Reaches rules word (c ∷ []) i j → j < cell width table c i
+    beyond : (c i j : ℕ) → c < width → place ≤ i → i ≤ length word → ReadThrough rules word (c ∷ []) i j → j < cell width table c i
     beyond c i j lt le within d = elim (cases_lt place i) [
       | inl behind ↦ full.beyond c i j lt behind within d
       | inr here ↦ one_cell width table j (cell width table c i) (reached rules word width table is missing place range closed full short (c ∷ []) (alone width c lt) i j (omega arith) d)

@@ -1,6 +1,5 @@
 -- What a column reaches, its site derives.
 use Rattle.std.proofs.Common.{List, None, Option, Some, [], arith, get_or, inl, inr, length, map, refl, slice_get, subst, suc, sym, zero, ℕ, ◌+◌, ◌<◌, ◌∙◌, ◌∷◌, ◌≡◌, ◌≤◌}
-use Rattle.std.proofs.lemmas.Bool.{cases_lt}
 use Rattle.std.proofs.lemmas.List.{length-map}
 use Rattle.std.proofs.lemmas.Option.{slice_get-get_or, slice_get_within}
 use Rattle.pv_model.specs.Plain.{PlainModel, PlainPart, PlainParts, PlainToken, any, children, choice, empty, mixed, name, no_parts, opt, part, plus, seq, star}
@@ -8,97 +7,40 @@ use Rattle.pv_model.specs.PlainForms.{plain_token}
 use Rattle.pv_model.specs.declared.models.Token.{Token}
 use Rattle.pv_model.specs.declared.models.Token.TheVariants.{Text}
 use Rattle.pv_dtd.specs.Plain.{IsDeclared, PlainDtd, declared, model_of, parts_in, parts_in_models}
-use Rattle.pv_rules.specs.Derivations.{by_rule, none_left, one_more}
+use Rattle.pv_rules.specs.Derivations.{by_rule, none_left}
 use Rattle.pv_rules.specs.Numbering.{first_part, part_at, rest_at}
-use Rattle.pv_rules.specs.Rules.{IsSpan, Rule, any_name, any_none, any_text, children_part, empty_none, kept, missing, mixed_name, mixed_none, mixed_text, opt_none, opt_one, over, part_choice, part_name, part_seq, plus_more, plus_one, rest_last, rest_then, star_more, star_none}
+use Rattle.pv_rules.specs.Rules.{any_none, any_text, children_part, empty_none, kept, missing, mixed_none, mixed_text, opt_none, opt_one, over, part_choice, part_name, part_seq, plus_one, rest_last, rest_then, star_none}
 use Rattle.pv_rules.specs.Sites.{PlainSite, content_site, name_site, part_site, rest_site}
 use Rattle.pv_rules.proofs.Facts.{parts_by_number}
 use Rattle.pv_rules.proofs.Formed.{parts_formed}
 use Rattle.pv_rules.proofs.Members.{some_part}
-use Rattle.pv_rules.proofs.Spans.{over_spans}
+use Rattle.pv_rules.proofs.Deriving.{any_more, mixed_more, plus_again, spanned, star_again, to_none, to_one, to_two}
 use Rattle.pv_reach.proofs.FormedDtds.{IsFormedDtd}
-use Rattle.pv_reach.specs.declared.rules.ColumnRule.{ColumnRule}
-use Rattle.pv_reach.specs.ColumnRules.{Reaches, Reads}
-use Rattle.pv_reach.specs.Deriving.{DerivesAt}
-use Rattle.pv_reach.specs.ColumnRules as Columns
+use Rattle.pv_columns.specs.declared.rules.ColumnRule.{ColumnRule}
+use Rattle.pv_columns.specs.ColumnRules.{ReadThrough, Reads}
+use Rattle.pv_rules.specs.Deriving.{DerivesAt}
+use Rattle.pv_columns.specs.ColumnRules as Columns
 use Rattle.pv_reach.specs.Columns.{AreRules, IsAnyRule, IsContentRule, IsPartRule, IsRule, any_column, member_columns, of_any, of_content, of_part, part_column, token_of}
-use Rattle.pv_reach.proofs.Spans.{reads_within, reaches_within}
+use Rattle.pv_columns.proofs.Spans.{reads_within, reaches_within}
 
 pub get_plain : (word : List Token) (i : ℕ) (t : Token) → slice_get word i ≡ Some t → slice_get (map plain_token word) i ≡ Some (plain_token t)
 get_plain [] i t e = absurd cc
 get_plain (u ∷ us) zero t e = let i : u ≡ t = cc in rw i refl
 get_plain (u ∷ us) (suc i) t e = get_plain us i t e
 
-module _ (g : PlainDtd) (w : List PlainToken) where
-  pub to_none : (s : PlainSite) (i : ℕ) → Rule g w (over s i i) 0 [] → DerivesAt g w s i i
-  to_none s i r = (0, by_rule 0 0 0 (over s i i) [] refl r (none_left 0 refl))
-
-  pub to_one : (c : ℕ) (s r : PlainSite) (i j k l : ℕ) → Rule g w (over s i j) c (over r k l ∷ []) → DerivesAt g w r k l → DerivesAt g w s i j
-  to_one c s r i j k l rule (n, d) =
-      (c + n, by_rule (c + n) c n (over s i j) (over r k l ∷ []) refl rule (one_more n n 0 (over r k l) [] (omega arith) d (none_left 0 refl)))
-
-  pub to_two : (s r o : PlainSite) (i k j : ℕ) → Rule g w (over s i j) 0 (over r i k ∷ over o k j ∷ []) → DerivesAt g w r i k → DerivesAt g w o k j → DerivesAt g w s i j
-  to_two s r o i k j rule (a, d) (b, f) = (
-    a + b,
-    by_rule (a + b) 0 (a + b) (over s i j) (over r i k ∷ over o k j ∷ []) (omega arith) rule
-        (one_more (a + b) a b (over r i k) (over o k j ∷ []) refl d (one_more b b 0 (over o k j) [] (omega arith) f (none_left 0 refl))),
-  )
-
-  pub spanned : (s : PlainSite) (i j : ℕ) → DerivesAt g w s i j → IsSpan w i j
-  spanned s i j (n, by_rule _ c m _ xs e r d) = (over_spans g w s i j c xs r).0
-
-  -- the rules of two sides, also where the first of them is over nothing
-  pub mixed_more : (x e i k j : ℕ) (ys : List ℕ) → model_of g x ≡ Some (mixed ys) → e < length ys → DerivesAt g w (part_site (first_part g x + e)) i k → DerivesAt g w (content_site x) k j →
-      DerivesAt g w (content_site x) i j
-  mixed_more x e i k j ys m l d f =
-      let a = spanned (part_site (first_part g x + e)) i k d in let b = spanned (content_site x) k j f in
-      elim (cases_lt i k) [
-        | inl lt ↦ to_two (content_site x) (part_site (first_part g x + e)) (content_site x) i k j (mixed_name x e i k j ys lt (omega arith) (omega arith) m l) d f
-        | inr le ↦ let z : k ≡ i = omega arith in let P : ℕ → Type 0 = λ v. DerivesAt g w (content_site x) v j in subst P z f
-      ]
-
-  pub any_more : (x y i k j : ℕ) → model_of g x ≡ Some any → IsDeclared g y → DerivesAt g w (name_site y) i k → DerivesAt g w (content_site x) k j → DerivesAt g w (content_site x) i j
-  any_more x y i k j m l d f =
-      let a = spanned (name_site y) i k d in let b = spanned (content_site x) k j f in
-      elim (cases_lt i k) [
-        | inl lt ↦ to_two (content_site x) (name_site y) (content_site x) i k j (any_name x y i k j lt (omega arith) (omega arith) m l) d f
-        | inr le ↦ let z : k ≡ i = omega arith in let P : ℕ → Type 0 = λ v. DerivesAt g w (content_site x) v j in subst P z f
-      ]
-
-  pub star_again : (q i k j : ℕ) (p : PlainPart) → part_at g q ≡ Some (star p) → DerivesAt g w (part_site (suc q)) i k → DerivesAt g w (part_site q) k j → DerivesAt g w (part_site q) i j
-  star_again q i k j p e d f =
-      let a = spanned (part_site (suc q)) i k d in let b = spanned (part_site q) k j f in
-      elim (cases_lt i k) [
-        | inl lt ↦ to_two (part_site q) (part_site (suc q)) (part_site q) i k j (star_more q i k j p lt (omega arith) (omega arith) e) d f
-        | inr le ↦ let z : k ≡ i = omega arith in let P : ℕ → Type 0 = λ v. DerivesAt g w (part_site q) v j in subst P z f
-      ]
-
-  pub plus_again : (q i k j : ℕ) (p : PlainPart) → part_at g q ≡ Some (plus p) → DerivesAt g w (part_site (suc q)) i k → DerivesAt g w (part_site q) k j → DerivesAt g w (part_site q) i j
-  plus_again q i k j p e d f =
-      let a = spanned (part_site (suc q)) i k d in let b = spanned (part_site q) k j f in
-      elim (cases_lt i k) [
-        | inl lt ↦ elim (cases_lt k j) [
-          | inl kj ↦ to_two (part_site q) (part_site (suc q)) (part_site q) i k j (plus_more q i k j p lt kj (omega arith) e) d f
-          | inr jk ↦
-              let z : k ≡ j = omega arith in let P : ℕ → Type 0 = λ v. DerivesAt g w (part_site (suc q)) i v in
-              to_one 0 (part_site q) (part_site (suc q)) i j i j (plus_one q i j p (omega arith, omega arith) e) (subst P z d)
-        ]
-        | inr le ↦ let z : k ≡ i = omega arith in let P : ℕ → Type 0 = λ v. DerivesAt g w (part_site q) v j in subst P z f
-      ]
-
 module _ (g : PlainDtd) (rules : List ColumnRule) (word : List Token) (are : AreRules g rules) (formed : IsFormedDtd g) where
   abbrev w : List PlainToken
   w = map plain_token word
 
   -- whatever has this column derives the span
-  record Means (c i j : ℕ) : Type 0 where
+  record ColumnDerives (c i j : ℕ) : Type 0 where
     pub content : (x : ℕ) → IsDeclared g x → c ≡ x → DerivesAt g w (content_site x) i j
     pub part : (q : ℕ) (p : PlainPart) → part_at g q ≡ Some p → c ≡ part_column g q → DerivesAt g w (part_site q) i j
     pub any : (x : ℕ) → model_of g x ≡ Some any → c ≡ any_column g → DerivesAt g w (content_site x) i j
 
-  abbrev AllMean : List ℕ → ℕ → ℕ → Type 0
-  AllMean [] i j = i ≡ j
-  AllMean (c ∷ cs) i j = (k : ℕ) × Means c i k × AllMean cs k j
+  abbrev AllDerive : List ℕ → ℕ → ℕ → Type 0
+  AllDerive [] i j = i ≡ j
+  AllDerive (c ∷ cs) i j = (k : ℕ) × ColumnDerives c i k × AllDerive cs k j
 
   many : declared g ≤ length g.names
   many = formed.is_proper.named
@@ -109,14 +51,14 @@ module _ (g : PlainDtd) (rules : List ColumnRule) (word : List Token) (are : Are
   part_number : (q : ℕ) (p : PlainPart) → part_at g q ≡ Some p → q < parts_in_models g.models
   part_number q p e = let a = (parts_by_number g).within q p e in let b = some_part p in omega arith
 
-  means_content : (x c i j : ℕ) → IsDeclared g x → c ≡ x → DerivesAt g w (content_site x) i j → Means c i j
+  means_content : (x c i j : ℕ) → IsDeclared g x → c ≡ x → DerivesAt g w (content_site x) i j → ColumnDerives c i j
   means_content x c i j l e d = record {
     content = λ y k f. let z : x ≡ y = omega arith in let P : ℕ → Type 0 = λ v. DerivesAt g w (content_site v) i j in subst P z d;
     part = λ q p h f. absurd (let r = many in omega arith);
     any = λ y m f. absurd (let r = many in omega arith);
   }
 
-  means_part : (q c i j : ℕ) (p : PlainPart) → part_at g q ≡ Some p → c ≡ part_column g q → DerivesAt g w (part_site q) i j → Means c i j
+  means_part : (q c i j : ℕ) (p : PlainPart) → part_at g q ≡ Some p → c ≡ part_column g q → DerivesAt g w (part_site q) i j → ColumnDerives c i j
   means_part q c i j p h e d =
       let l = part_number q p h in record {
         content = λ y k f. absurd (let r = many in omega arith);
@@ -124,7 +66,7 @@ module _ (g : PlainDtd) (rules : List ColumnRule) (word : List Token) (are : Are
         any = λ y m f. absurd (let r = many in omega arith);
       }
 
-  means_any : (c i j : ℕ) → c ≡ any_column g → ((x : ℕ) → model_of g x ≡ Some any → DerivesAt g w (content_site x) i j) → Means c i j
+  means_any : (c i j : ℕ) → c ≡ any_column g → ((x : ℕ) → model_of g x ≡ Some any → DerivesAt g w (content_site x) i j) → ColumnDerives c i j
   means_any c i j e d = record {
     content = λ y k f. absurd (let r = many in omega arith);
     part = λ r o k f. absurd (let l = part_number r o k in let z = many in omega arith);
@@ -132,16 +74,16 @@ module _ (g : PlainDtd) (rules : List ColumnRule) (word : List Token) (are : Are
   }
 
   -- the only column of a list
-  only_part : (q i j : ℕ) (p : PlainPart) → part_at g q ≡ Some p → AllMean (part_column g q ∷ []) i j → DerivesAt g w (part_site q) i j
+  only_part : (q i j : ℕ) (p : PlainPart) → part_at g q ≡ Some p → AllDerive (part_column g q ∷ []) i j → DerivesAt g w (part_site q) i j
   only_part q i j p h (k, m, e) = let P : ℕ → Type 0 = λ v. DerivesAt g w (part_site q) i v in subst P e (m.part q p h refl)
 
-  only_content : (x i j : ℕ) → IsDeclared g x → AllMean (x ∷ []) i j → DerivesAt g w (content_site x) i j
+  only_content : (x i j : ℕ) → IsDeclared g x → AllDerive (x ∷ []) i j → DerivesAt g w (content_site x) i j
   only_content x i j l (k, m, e) = let P : ℕ → Type 0 = λ v. DerivesAt g w (content_site x) i v in subst P e (m.content x l refl)
 
-  only_any : (x i j : ℕ) → model_of g x ≡ Some any → AllMean (any_column g ∷ []) i j → DerivesAt g w (content_site x) i j
+  only_any : (x i j : ℕ) → model_of g x ≡ Some any → AllDerive (any_column g ∷ []) i j → DerivesAt g w (content_site x) i j
   only_any x i j h (k, m, e) = let P : ℕ → Type 0 = λ v. DerivesAt g w (content_site x) i v in subst P e (m.any x h refl)
 
-  members_derive : (q i j : ℕ) (p : PlainPart) (ps : PlainParts) → rest_at g q ≡ Some (part p ps) → AllMean (member_columns g q (part p ps)) i j → DerivesAt g w (rest_site q) i j
+  members_derive : (q i j : ℕ) (p : PlainPart) (ps : PlainParts) → rest_at g q ≡ Some (part p ps) → AllDerive (member_columns g q (part p ps)) i j → DerivesAt g w (rest_site q) i j
   members_derive q i j p no_parts e a =
       let d = only_part q i j p ((parts_by_number g).member q p no_parts e) a in
       to_one g w 0 (rest_site q) (part_site q) i j i j (rest_last q i j p (spanned g w (part_site q) i j d) e) d
@@ -151,19 +93,19 @@ module _ (g : PlainDtd) (rules : List ColumnRule) (word : List Token) (are : Are
       let u = spanned g w (part_site q) i k d in let v = spanned g w (rest_site (q + parts_in p)) k j f in
       to_two g w (rest_site q) (part_site q) (rest_site (q + parts_in p)) i k j (rest_then q i k j p r rs (omega arith) (omega arith) (omega arith) e) d f
 
-  as_read : (o u : Option Token) (cs ds : List ℕ) (i m j : ℕ) → o ≡ u → cs ≡ ds → Reads word o i m → AllMean cs m j → Reads word u i m × AllMean ds m j
+  as_read : (o u : Option Token) (cs ds : List ℕ) (i m j : ℕ) → o ≡ u → cs ≡ ds → Reads word o i m → AllDerive cs m j → Reads word u i m × AllDerive ds m j
   as_read o u cs ds i m j e f r a =
-      let P : Option Token → Type 0 = λ v. Reads word v i m in let Q : List ℕ → Type 0 = λ v. AllMean v m j in (subst P e r, subst Q f a)
+      let P : Option Token → Type 0 = λ v. Reads word v i m in let Q : List ℕ → Type 0 = λ v. AllDerive v m j in (subst P e r, subst Q f a)
 
   -- nothing is read
-  unread : (o : Option Token) (cs ds : List ℕ) (i m j : ℕ) → o ≡ None → cs ≡ ds → Reads word o i m → AllMean cs m j → AllMean ds i j
+  unread : (o : Option Token) (cs ds : List ℕ) (i m j : ℕ) → o ≡ None → cs ≡ ds → Reads word o i m → AllDerive cs m j → AllDerive ds i j
   unread o cs ds i m j e f r a =
-      let b = as_read o None cs ds i m j e f r a in let Q : ℕ → Type 0 = λ v. AllMean ds v j in subst Q b.0 b.1
+      let b = as_read o None cs ds i m j e f r a in let Q : ℕ → Type 0 = λ v. AllDerive ds v j in subst Q b.0 b.1
 
   same : (s : PlainSite) (i j : ℕ) → DerivesAt g w s i i → i ≡ j → DerivesAt g w s i j
   same s i j d e = let P : ℕ → Type 0 = λ v. DerivesAt g w s i v in subst P e d
 
-  content_means : (x i m j : ℕ) (n : PlainModel) (o : Option Token) (cs : List ℕ) → model_of g x ≡ Some n → i ≤ length w → IsContentRule g x n o cs → Reads word o i m → AllMean cs m j →
+  content_means : (x i m j : ℕ) (n : PlainModel) (o : Option Token) (cs : List ℕ) → model_of g x ≡ Some n → i ≤ length w → IsContentRule g x n o cs → Reads word o i m → AllDerive cs m j →
       DerivesAt g w (content_site x) i j
   content_means x i m j empty o cs h l (e, f) r a = same (content_site x) i j (to_none g w (content_site x) i (empty_none x i l h)) (unread o cs [] i m j e f r a)
   content_means x i m j any o cs h l (e, f) r a = only_any x i j h (unread o cs (any_column g ∷ []) i m j e f r a)
@@ -175,7 +117,7 @@ module _ (g : PlainDtd) (rules : List ColumnRule) (word : List Token) (are : Are
       to_one g w 0 (content_site x) (content_site x) i j (suc i) j (mixed_text x i j ys (omega arith) (omega arith) h (get_plain word i Text b.0.0)) d
   content_means x i m j (mixed ys) o cs h l (inr (inr (e, lt, f, z))) r a = go (unread o cs (part_column g (first_part g x + e) ∷ x ∷ []) i m j f z r a)
     where
-      go : AllMean (part_column g (first_part g x + e) ∷ x ∷ []) i j → DerivesAt g w (content_site x) i j
+      go : AllDerive (part_column g (first_part g x + e) ∷ x ∷ []) i j → DerivesAt g w (content_site x) i j
       go (k, u, v) =
           let y = get_or ys e 0 in let z = (parts_by_number g).listed x e y ys h (slice_get-get_or ys e 0 lt) in
           mixed_more g w x e i k j ys h lt (u.part (first_part g x + e) (name y) z refl) (only_content x k j (declared_model x (mixed ys) h) v)
@@ -183,7 +125,7 @@ module _ (g : PlainDtd) (rules : List ColumnRule) (word : List Token) (are : Are
       let d = only_part (first_part g x) i j p ((parts_by_number g).outermost x p h) (unread o cs (part_column g (first_part g x) ∷ []) i m j e f r a) in
       to_one g w 0 (content_site x) (part_site (first_part g x)) i j i j (children_part x i j p (spanned g w (part_site (first_part g x)) i j d) h) d
 
-  part_means : (q i m j : ℕ) (p : PlainPart) (o : Option Token) (cs : List ℕ) → part_at g q ≡ Some p → i ≤ length w → IsPartRule g q p o cs → Reads word o i m → AllMean cs m j →
+  part_means : (q i m j : ℕ) (p : PlainPart) (o : Option Token) (cs : List ℕ) → part_at g q ≡ Some p → i ≤ length w → IsPartRule g q p o cs → Reads word o i m → AllDerive cs m j →
       DerivesAt g w (part_site q) i j
   part_means q i m j (name y) o cs h l (inl (e, f)) r a =
       let b = as_read o (Some (token_of y)) cs [] i m j e f r a in let z : suc i ≡ j = sym b.0.1 ∙ b.1 in
@@ -208,17 +150,17 @@ module _ (g : PlainDtd) (rules : List ColumnRule) (word : List Token) (are : Are
   part_means q i m j (star p) o cs h l (e, inl f) r a = same (part_site q) i j (to_none g w (part_site q) i (star_none q i p l h)) (unread o cs [] i m j e f r a)
   part_means q i m j (star p) o cs h l (e, inr f) r a = go (unread o cs (part_column g (suc q) ∷ part_column g q ∷ []) i m j e f r a)
     where
-      go : AllMean (part_column g (suc q) ∷ part_column g q ∷ []) i j → DerivesAt g w (part_site q) i j
+      go : AllDerive (part_column g (suc q) ∷ part_column g q ∷ []) i j → DerivesAt g w (part_site q) i j
       go (k, u, v) = star_again g w q i k j p h (u.part (suc q) p ((parts_by_number g).in_star q p h) refl) (only_part q k j (star p) h v)
   part_means q i m j (plus p) o cs h l (e, inl f) r a =
       let d = only_part (suc q) i j p ((parts_by_number g).in_plus q p h) (unread o cs (part_column g (suc q) ∷ []) i m j e f r a) in
       to_one g w 0 (part_site q) (part_site (suc q)) i j i j (plus_one q i j p (spanned g w (part_site (suc q)) i j d) h) d
   part_means q i m j (plus p) o cs h l (e, inr f) r a = go (unread o cs (part_column g (suc q) ∷ part_column g q ∷ []) i m j e f r a)
     where
-      go : AllMean (part_column g (suc q) ∷ part_column g q ∷ []) i j → DerivesAt g w (part_site q) i j
+      go : AllDerive (part_column g (suc q) ∷ part_column g q ∷ []) i j → DerivesAt g w (part_site q) i j
       go (k, u, v) = plus_again g w q i k j p h (u.part (suc q) p ((parts_by_number g).in_plus q p h) refl) (only_part q k j (plus p) h v)
 
-  any_means : (x i m j : ℕ) (o : Option Token) (cs : List ℕ) → model_of g x ≡ Some any → i ≤ length w → IsAnyRule g o cs → Reads word o i m → AllMean cs m j → DerivesAt g w (content_site x) i j
+  any_means : (x i m j : ℕ) (o : Option Token) (cs : List ℕ) → model_of g x ≡ Some any → i ≤ length w → IsAnyRule g o cs → Reads word o i m → AllDerive cs m j → DerivesAt g w (content_site x) i j
   any_means x i m j o cs h l (inl (e, f)) r a = same (content_site x) i j (to_none g w (content_site x) i (any_none x i l h)) (unread o cs [] i m j e f r a)
   any_means x i m j o cs h l (inr (inl (e, f))) r a =
       let b = as_read o (Some Text) cs (any_column g ∷ []) i m j e f r a in
@@ -233,23 +175,23 @@ module _ (g : PlainDtd) (rules : List ColumnRule) (word : List Token) (are : Are
       any_more g w x y i (suc i) j h c d (subst P b.0.1 (only_any x m j h b.1))
   any_means x i m j o cs h l (inr (inr (y, c, inr (e, f)))) r a = go (unread o cs (y ∷ any_column g ∷ []) i m j e f r a)
     where
-      go : AllMean (y ∷ any_column g ∷ []) i j → DerivesAt g w (content_site x) i j
+      go : AllDerive (y ∷ any_column g ∷ []) i j → DerivesAt g w (content_site x) i j
       go (k, u, v) =
           let d = u.content y c refl in
           any_more g w x y i k j h c (to_one g w 1 (name_site y) (content_site y) i k i k (missing y i k (spanned g w (content_site y) i k d)) d) (only_any x k j h v)
 
-  rule_means : (l : ℕ) (o : Option Token) (cs : List ℕ) (i m j : ℕ) → IsRule g l o cs → i ≤ length w → Reads word o i m → AllMean cs m j → Means l i j
+  rule_means : (l : ℕ) (o : Option Token) (cs : List ℕ) (i m j : ℕ) → IsRule g l o cs → i ≤ length w → Reads word o i m → AllDerive cs m j → ColumnDerives l i j
   rule_means l o cs i m j (of_content x n h e rule) le r a = means_content x l i j (declared_model x n h) e (content_means x i m j n o cs h le rule r a)
   rule_means l o cs i m j (of_part q p h e rule) le r a = means_part q l i j p h e (part_means q i m j p o cs h le rule r a)
   rule_means l o cs i m j (of_any _ _ e rule) le r a = means_any l i j e (λ x h. any_means x i m j o cs h le rule r a)
 
-  all_mean : (cs : List ℕ) (i j : ℕ) → Reaches rules word cs i j → i ≤ length word → AllMean cs i j
+  all_mean : (cs : List ℕ) (i j : ℕ) → ReadThrough rules word cs i j → i ≤ length word → AllDerive cs i j
   all_mean [] i j (Columns.done _ _ e) le = e
   all_mean (c ∷ cs) i j (Columns.by_rule _ _ r _ m k _ con e reads d f) le =
       let inner = all_mean r.columns.items m k d (reads_within word r.token i m reads le) in
       let one = rule_means r.left r.token r.columns.items i m k (are.sound r con) (rw length-map le) reads inner in
       let on = reaches_within rules word r.columns.items m k d (reads_within word r.token i m reads le) in
-      (k, (let P : ℕ → Type 0 = λ v. Means v i k in subst P (sym e) one), all_mean cs k j f on)
+      (k, (let P : ℕ → Type 0 = λ v. ColumnDerives v i k in subst P (sym e) one), all_mean cs k j f on)
 
-  pub content_derives : (x i j : ℕ) → IsDeclared g x → i ≤ length word → Reaches rules word (x ∷ []) i j → DerivesAt g (map plain_token word) (content_site x) i j
+  pub content_derives : (x i j : ℕ) → IsDeclared g x → i ≤ length word → ReadThrough rules word (x ∷ []) i j → DerivesAt g (map plain_token word) (content_site x) i j
   content_derives x i j l le d = only_content x i j l (all_mean (x ∷ []) i j d le)

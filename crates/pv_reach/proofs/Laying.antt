@@ -8,7 +8,7 @@ use Rattle.pv_rules.specs.Numbering.{IsMemberAt, part_at}
 use Rattle.pv_rules.proofs.Members.{first_at, member_within, members_apart, next_at, some_part}
 use Rattle.pv_reach.specs.Adding.{Adds, AreSound, Grow, IsRuleOfPart, LaysOut}
 use Rattle.pv_reach.specs.Columns.{Has, IsPartRule, RightSide, member_columns, of_part, part_column, token_of}
-use Rattle.pv_reach.specs.declared.rules.ColumnRule.{ColumnRule}
+use Rattle.pv_columns.specs.declared.rules.ColumnRule.{ColumnRule}
 use Rattle.pv_reach.proofs.Pushing.{adds_as, grow_none, grow_twice, has_as, sound_more}
 
 -- a column without rules

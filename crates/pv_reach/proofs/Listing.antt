@@ -1,19 +1,18 @@
 -- The rules of a name's content are laid out.
-use Rattle.std.proofs.Common.{Err, IfOk, List, None, Ok, Option, Result, Some, [], ap, arith, inl, inr, length, refl, subst, suc, sym, ℕ, ◌+◌, ◌-◌, ◌<◌, ◌∙◌, ◌∷◌, ◌≡◌, ◌≤◌, ◌⊎◌}
+use Rattle.std.proofs.Common.{Err, IfOk, List, None, Ok, Option, Result, Some, [], ap, arith, inl, inr, length, refl, slice_get, subst, suc, sym, ℕ, ◌+◌, ◌-◌, ◌<◌, ◌∙◌, ◌∷◌, ◌≡◌, ◌≤◌, ◌⊎◌}
 use Rattle.std.proofs.lemmas.Bool.{cases_lt}
-use Rattle.pv_model.specs.Plain.{PlainModel, PlainPart, any, children, empty, mixed}
+use Rattle.pv_model.specs.Plain.{PlainModel, any, children, empty, mixed}
 use Rattle.pv_model.specs.declared.models.Token.{Token}
 use Rattle.pv_model.specs.declared.models.Token.TheVariants.{Text}
 use Rattle.pv_dtd.specs.Plain.{PlainDtd, model_of, parts_in_model}
-use Rattle.pv_rules.specs.Flat.{content_kind_of}
+use Rattle.pv_rules.specs.Flat.{content_kind_of, flat_contents}
 use Rattle.pv_rules.specs.Numbering.{first_part}
 use Rattle.pv_rules.specs.declared.flat.ContentKind.TheVariants as content
 use Rattle.pv_rules.specs.declared.flat.FlatContent.{FlatContent}
-use Rattle.pv_productive.proofs.LeastSums.{content_case, no_content}
-use Rattle.pv_reach.specs.Parts.{IsFlatContent}
+use Rattle.pv_rules.proofs.FlatContents.{any_kind, children_kind, content_at, empty_kind, mixed_kind, no_content}
 use Rattle.pv_reach.specs.Adding.{Adds, AddsListed, AreSound, IsListedRule, IsRuleOfContent, LaysOut}
 use Rattle.pv_reach.specs.Columns.{Has, IsContentRule, IsRule, any_column, of_content, part_column}
-use Rattle.pv_reach.specs.declared.rules.ColumnRule.{ColumnRule}
+use Rattle.pv_columns.specs.declared.rules.ColumnRule.{ColumnRule}
 use Rattle.pv_reach.proofs.Pushing.{adds_as, grow_none, grow_twice, has_as, sound_more}
 
 pub listed_none : (g : PlainDtd) (old : List ColumnRule) (x first : ℕ) → AddsListed g old old x first first
@@ -40,30 +39,6 @@ module _ (g : PlainDtd) (old now new : List ColumnRule) (x first n c : ℕ) (is 
         ];
         listed = λ q u v. listed_case q u v adds (cases_lt q n);
       }
-
-empty_kind : (m : PlainModel) → content_kind_of m ≡ content.Empty → m ≡ empty
-empty_kind empty e = refl
-empty_kind any e = absurd cc
-empty_kind (mixed ys) e = absurd cc
-empty_kind (children p) e = absurd cc
-
-any_kind : (m : PlainModel) → content_kind_of m ≡ content.Any → m ≡ any
-any_kind empty e = absurd cc
-any_kind any e = refl
-any_kind (mixed ys) e = absurd cc
-any_kind (children p) e = absurd cc
-
-mixed_kind : (m : PlainModel) → content_kind_of m ≡ content.Mixed → (ys : List ℕ) × (m ≡ mixed ys)
-mixed_kind empty e = absurd cc
-mixed_kind any e = absurd cc
-mixed_kind (mixed ys) e = (ys, refl)
-mixed_kind (children p) e = absurd cc
-
-children_kind : (m : PlainModel) → content_kind_of m ≡ content.Children → (p : PlainPart) × (m ≡ children p)
-children_kind empty e = absurd cc
-children_kind any e = absurd cc
-children_kind (mixed ys) e = absurd cc
-children_kind (children p) e = (p, refl)
 
 module _ (g : PlainDtd) (x : ℕ) (m : PlainModel) (at : model_of g x ≡ Some m) where
   -- the content model of this name is the one that is known
@@ -134,19 +109,23 @@ pub record Made (g : PlainDtd) (x : ℕ) (f : FlatContent) : Type 0 where
   pub is_first : f.first ≡ first_part g x
   pub is_end : f.end ≡ f.first + parts_in_model model
 
-pub made : (g : PlainDtd) (x : ℕ) (f : FlatContent) → IsFlatContent g x (Some f) → Made g x f
-made g x f (flat, are, e) =
-    let c = content_case g flat are x f (model_of g x) refl (sym e) in
+pub made : (g : PlainDtd) (x : ℕ) (f : FlatContent) →
+    slice_get (flat_contents 0 g.models) x ≡ Some f → Made g x f
+made g x f e =
+    let c = content_at g x f e in
     record {
       model = c.0;
       is_at = c.1;
       is_kind = sym (ap (λ (y : FlatContent). y.kind) c.2);
       is_first = ap (λ (y : FlatContent). y.first) c.2;
-      is_end = let a = ap (λ (y : FlatContent). y.end) c.2 in let b = ap (λ (y : FlatContent). y.first) c.2 in omega arith;
+      is_end =
+          let a = ap (λ (y : FlatContent). y.end) c.2 in
+          let b = ap (λ (y : FlatContent). y.first) c.2 in omega arith;
     }
 
-pub unmade : (g : PlainDtd) (x : ℕ) → IsFlatContent g x None → model_of g x ≡ None
-unmade g x (flat, are, e) = no_content g flat are x (sym e)
+pub unmade : (g : PlainDtd) (x : ℕ) → slice_get (flat_contents 0 g.models) x ≡ None →
+    model_of g x ≡ None
+unmade g x e = no_content g x e
 
 -- a name without a model has no rules
 pub undeclared_laid : (g : PlainDtd) (x : ℕ) (old : List ColumnRule) → model_of g x ≡ None → LaysOut g old old x (IsRuleOfContent g x)

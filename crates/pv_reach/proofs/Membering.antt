@@ -2,10 +2,9 @@
 use Rattle.std.proofs.Common.{List, None, Option, Some, [], ap, append_assoc, arith, refl, slice_get, subst, suc, sym, ℕ, ◌++◌, ◌+◌, ◌-◌, ◌<◌, ◌∷◌, ◌≡◌}
 use Rattle.pv_model.specs.Plain.{PlainPart, PlainParts, no_parts, part, seq}
 use Rattle.pv_dtd.specs.Plain.{PlainDtd, parts_in, parts_in_models}
+use Rattle.pv_rules.specs.Flat.{flat_parts}
 use Rattle.pv_rules.specs.Numbering.{part_at, rest_at}
 use Rattle.pv_rules.proofs.Facts.{parts_by_number}
-use Rattle.pv_rules.specs.PlainForms.{IsFlat}
-use Rattle.pv_rules.specs.declared.flat.FlatDtd.{FlatDtd}
 use Rattle.pv_rules.specs.declared.flat.FlatPart.{FlatPart}
 use Rattle.pv_rules.specs.declared.flat.Membership.TheVariants as membership
 use Rattle.pv_rules.proofs.FlatKinds.{IsNoRest, followed_at, last_at, no_rest, outside_at}
@@ -65,20 +64,20 @@ none_behind q None n = refl
 none_behind q (Some no_parts) n = refl
 none_behind q (Some (part p ps)) n = absurd n
 
-module _ (g : PlainDtd) (flat : FlatDtd) (are : IsFlat g flat) (q : ℕ) where
-  pub next_of_none : slice_get flat.parts.items q ≡ None → None ≡ next_number q (rest_at g q)
-  next_of_none h = sym (none_behind q (rest_at g q) (no_rest g flat are q h))
+module _ (g : PlainDtd) (q : ℕ) where
+  pub next_of_none : slice_get (flat_parts g) q ≡ None → None ≡ next_number q (rest_at g q)
+  next_of_none h = sym (none_behind q (rest_at g q) (no_rest g q h))
 
-  module _ (f : FlatPart) (h : slice_get flat.parts.items q ≡ Some f) where
+  module _ (f : FlatPart) (h : slice_get (flat_parts g) q ≡ Some f) where
     pub next_of_outside : f.membership ≡ membership.Outside → None ≡ next_number q (rest_at g q)
-    next_of_outside m = sym (none_behind q (rest_at g q) (outside_at g flat are q f h m))
+    next_of_outside m = sym (none_behind q (rest_at g q) (outside_at g q f h m))
 
     pub next_of_last : f.membership ≡ membership.Last → None ≡ next_number q (rest_at g q)
-    next_of_last m = let a = last_at g flat are q f h m in let P : Option PlainParts → Type 0 = λ v. None ≡ next_number q v in subst P (sym a.1) refl
+    next_of_last m = let a = last_at g q f h m in let P : Option PlainParts → Type 0 = λ v. None ≡ next_number q v in subst P (sym a.1) refl
 
     pub next_of_followed : f.membership ≡ membership.Followed → Some f.end ≡ next_number q (rest_at g q)
     next_of_followed m =
-        let a = followed_at g flat are q f h m in
+        let a = followed_at g q f h m in
         let P : Option PlainParts → Type 0 = λ v. Some f.end ≡ next_number q v in subst P (sym a.3) (ap (λ v. Some v) a.4)
 
 pub full_seq : (g : PlainDtd) (q : ℕ) (ps : PlainParts) → IsFormedDtd g → part_at g q ≡ Some (seq ps) → ps ≡ no_parts → ⊥

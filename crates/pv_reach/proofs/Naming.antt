@@ -10,9 +10,9 @@ use Rattle.pv_model.specs.declared.models.Token.TheVariants.{Text}
 use Rattle.pv_dtd.specs.Plain.{IsDeclared, PlainDtd, declared, model_of, parts_in_model, parts_in_models}
 use Rattle.pv_rules.specs.Numbering.{first_part, parts_before}
 use Rattle.pv_reach.proofs.FormedDtds.{IsFormedDtd}
-use Rattle.pv_reach.specs.Adding.{Adds, AddsDeclared, AreSound, IsDeclaredRule, IsRuleOfAny, IsRuleOfContent, IsRuleOfPart, IsWithin, LaysOut, LaysOutNames, LaysOutParts}
+use Rattle.pv_reach.specs.Adding.{Adds, AddsDeclared, AreSound, IsDeclaredRule, IsRuleOfAny, IsRuleOfContent, IsRuleOfPart, IsWithinWidth, LaysOut, LaysOutNames, LaysOutParts}
 use Rattle.pv_reach.specs.Columns.{AreRules, Has, IsAnyRule, IsRule, any_column, of_any, of_content, of_part, part_column, token_of}
-use Rattle.pv_reach.specs.declared.rules.ColumnRule.{ColumnRule}
+use Rattle.pv_columns.specs.declared.rules.ColumnRule.{ColumnRule}
 use Rattle.pv_reach.proofs.Pushing.{adds_as, grow_none, grow_twice, has_as, sound_more}
 use Rattle.pv_reach.proofs.Ranging.{part_number}
 
@@ -45,10 +45,10 @@ name_laid g old mid new name first end m at e f p l = record {
   sound = λ s. l.sound (p.sound s);
   grow = grow_twice old mid new p.grow l.grow;
   contents = λ x i o cs r. let P : ℕ → Type 0 = λ v. IsRuleOfContent g v o cs → Has new v o cs in subst P (sym i) (l.complete o cs) r;
-  parts = λ x q i w o cs r. l.grow.keeps (part_column g q) o cs (let P : ℕ → Type 0 = λ v. IsWithin g v q in here q (subst P i w) o cs r);
+  parts = λ x q i w o cs r. l.grow.keeps (part_column g q) o cs (let P : ℕ → Type 0 = λ v. IsWithinWidth g v q in here q (subst P i w) o cs r);
 }
   where
-    here : (q : ℕ) → IsWithin g name q → (o : Option Token) (cs : List ℕ) → IsRuleOfPart g q o cs → Has mid (part_column g q) o cs
+    here : (q : ℕ) → IsWithinWidth g name q → (o : Option Token) (cs : List ℕ) → IsRuleOfPart g q o cs → Has mid (part_column g q) o cs
     here q (n, h, a, b) o cs r =
         let z : n ≡ m = cc in let y = ap parts_in_model z in
         p.parts q (omega arith) (omega arith) o cs r
@@ -134,7 +134,7 @@ in_models (m ∷ ms) q lt = elim (cases_lt q (parts_in_model m)) [
 
 -- all declared names, and any content where some name has it
 pub all_laid : (g : PlainDtd) (rules : List ColumnRule) → IsFormedDtd g → AreSound g rules → ((x : ℕ) → IsDeclared g x → (o : Option Token) (cs : List ℕ) → IsRuleOfContent g x o cs → Has rules x o cs) →
-    ((x q : ℕ) → IsDeclared g x → IsWithin g x q → (o : Option Token) (cs : List ℕ) → IsRuleOfPart g q o cs → Has rules (part_column g q) o cs) →
+    ((x q : ℕ) → IsDeclared g x → IsWithinWidth g x q → (o : Option Token) (cs : List ℕ) → IsRuleOfPart g q o cs → Has rules (part_column g q) o cs) →
     ((o : Option Token) (cs : List ℕ) → IsRuleOfAny g o cs → Has rules (any_column g) o cs) → AreRules g rules
 all_laid g rules formed sound contents parts anys = record {
   sound = λ r con. sound.holds r.left r.token r.columns.items record { rule = r; is_in = con; is_left = refl; is_token = refl; are_columns = refl };

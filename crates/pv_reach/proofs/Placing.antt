@@ -3,22 +3,22 @@ use Rattle.std.proofs.Common.{Bool, Contains, List, [], ap, arith, false, get_or
 use Rattle.std.proofs.lemmas.List.Elements.{Contains-append_left, Contains-append_right}
 use Rattle.pv_reach.proofs.Naming.{either_name}
 
--- what is marked is placed, and so is what the loop has passed
-pub record ArePlaced (names once : List ℕ) (marks : List Bool) (i : ℕ) : Type 0 where
-  pub marked : (x : ℕ) → get_or marks x false ≡ true → Contains once x
+-- what is set is placed, and so is what the loop has passed
+pub record ArePlaced (names once : List ℕ) (flags : List Bool) (i : ℕ) : Type 0 where
+  pub set : (x : ℕ) → get_or flags x false ≡ true → Contains once x
   pub passed : (x : ℕ) → Contains (take i names) x → Contains once x
 
-module _ (names once : List ℕ) (marks : List Bool) (i : ℕ) (before : ArePlaced names once marks i) (lt : i < length names) where
-  pub placed_before : get_or marks (get_or names i 0) false ≡ true → ArePlaced names once marks (i + 1)
+module _ (names once : List ℕ) (flags : List Bool) (i : ℕ) (before : ArePlaced names once flags i) (lt : i < length names) where
+  pub placed_before : get_or flags (get_or names i 0) false ≡ true → ArePlaced names once flags (i + 1)
   placed_before e = record {
-    marked = before.marked;
-    passed = λ x con. elim (either_name names i lt x con) [ inl c ↦ before.passed x c | inr z ↦ rw z (before.marked (get_or names i 0) e) ];
+    set = before.set;
+    passed = λ x con. elim (either_name names i lt x con) [ inl c ↦ before.passed x c | inr z ↦ rw z (before.set (get_or names i 0) e) ];
   }
 
-  pub placed_now : (new : List ℕ) (after : List Bool) → new ≡ once ++ (get_or names i 0 ∷ []) → ((x : ℕ) → get_or after x false ≡ true → (x ≡ get_or names i 0) ⊎ (get_or marks x false ≡ true)) →
+  pub placed_now : (new : List ℕ) (after : List Bool) → new ≡ once ++ (get_or names i 0 ∷ []) → ((x : ℕ) → get_or after x false ≡ true → (x ≡ get_or names i 0) ⊎ (get_or flags x false ≡ true)) →
       ArePlaced names new after (i + 1)
-  placed_now new after e marks_of = record {
-    marked = λ x m. elim (marks_of x m) [ inl z ↦ rw z here | inr k ↦ kept x (before.marked x k) ];
+  placed_now new after e flags_of = record {
+    set = λ x m. elim (flags_of x m) [ inl z ↦ rw z here | inr k ↦ kept x (before.set x k) ];
     passed = λ x con. elim (either_name names i lt x con) [ inl c ↦ kept x (before.passed x c) | inr z ↦ rw z here ];
   }
     where
@@ -28,13 +28,13 @@ module _ (names once : List ℕ) (marks : List Bool) (i : ℕ) (before : ArePlac
       here : Contains new (get_or names i 0)
       here = rw e (Contains-append_right once (get_or names i 0 ∷ []) (get_or names i 0) (0, omega arith, refl))
 
-pub unmarked : (n x : ℕ) → get_or (replicate n false) x false ≡ false
-unmarked zero x = refl
-unmarked (suc n) zero = refl
-unmarked (suc n) (suc x) = unmarked n x
+pub unset : (n x : ℕ) → get_or (replicate n false) x false ≡ false
+unset zero x = refl
+unset (suc n) zero = refl
+unset (suc n) (suc x) = unset n x
 
-pub placed_none : (names once : List ℕ) (marks : List Bool) (n : ℕ) → marks ≡ replicate n false → ArePlaced names once marks 0
-placed_none names once marks n e = record {
-  marked = λ x m. absurd (let z = unmarked n x in let y = ap (λ v. get_or v x false) e in cc);
+pub placed_none : (names once : List ℕ) (flags : List Bool) (n : ℕ) → flags ≡ replicate n false → ArePlaced names once flags 0
+placed_none names once flags n e = record {
+  set = λ x m. absurd (let z = unset n x in let y = ap (λ v. get_or v x false) e in cc);
   passed = λ x t. absurd (let l = t.1 in omega arith);
 }

@@ -2,7 +2,7 @@
 use Rattle.std.proofs.Common.{◌≡◌, ◌<◌, ◌⊎◌, ℕ, zero, suc, List, [], ◌∷◌, ◌++◌, Option, Contains, get_or, refl, sym, subst, ◌∙◌, arith, inl, inr}
 use Rattle.std.proofs.lemmas.List.Elements.{Contains-append_left, Contains-append_right, Contains-append_cases}
 use Rattle.pv_model.specs.declared.models.Token.{Token}
-use Rattle.pv_reach.specs.declared.rules.ColumnRule.{ColumnRule}
+use Rattle.pv_columns.specs.declared.rules.ColumnRule.{ColumnRule}
 use Rattle.pv_dtd.specs.Plain.{PlainDtd}
 use Rattle.pv_reach.specs.Columns.{IsRule, Has}
 use Rattle.pv_reach.specs.Adding.{AreSound, Grow, Adds}

@@ -6,10 +6,10 @@ use Rattle.std.proofs.lemmas.List.{get_or_default}
 use Rattle.std.proofs.lemmas.List.Sums.{sum_by-set}
 use Rattle.std.proofs.lemmas.Bool.{cases_lt}
 use Rattle.pv_model.specs.declared.models.Token.{Token}
-use Rattle.pv_reach.specs.declared.rules.ColumnRule.{ColumnRule}
-use Rattle.pv_reach.specs.ColumnRules.{Reads, Reaches, done, by_rule, InRange}
-use Rattle.pv_reach.specs.Tables.{past, IsTable, IsAttained, IsClosedAt, Holds, IsComplete, room}
-use Rattle.pv_reach.proofs.Spans.{reads_within, reaches_within}
+use Rattle.pv_columns.specs.declared.rules.ColumnRule.{ColumnRule}
+use Rattle.pv_columns.specs.ColumnRules.{Reads, ReadThrough, done, by_rule, InRange}
+use Rattle.pv_reach.specs.Tables.{past, IsTable, IsAttained, IsClosedAt, RaisesNothing, IsComplete, room}
+use Rattle.pv_columns.proofs.Spans.{reads_within, reaches_within}
 use Rattle.pv_reach.proofs.Cells.{cell_within}
 use Rattle.pv_reach.proofs.Closing.{columns_in_range, past_reaches}
 
@@ -46,7 +46,7 @@ set_table word width table i v is lt le = record {
 
 -- what a rule offers is derived
 offer_reaches : (rules : List ColumnRule) (word : List Token) (width : ℕ) (table : List ℕ) (place : ℕ) (r : ColumnRule) (v : ℕ) → IsTable word width table → IsAttained rules word width table → InRange width rules →
-    place ≤ length word → Contains rules r → (m : ℕ) × Reads word r.token place m × (v ≡ past width table r.columns.items m) → (j : ℕ) → v ≡ suc j → Reaches rules word (r.left ∷ []) place j
+    place ≤ length word → Contains rules r → (m : ℕ) × Reads word r.token place m × (v ≡ past width table r.columns.items m) → (j : ℕ) → v ≡ suc j → ReadThrough rules word (r.left ∷ []) place j
 offer_reaches rules word width table place r v is att range short con (m, reads, e) j q =
     by_rule r.left [] r place m j j con refl reads
     (past_reaches rules word width table is att r.columns.items (columns_in_range width rules r range con).1 m j (reads_within word r.token place m reads short) (sym e ∙ q))
@@ -57,8 +57,8 @@ set_attained : (rules : List ColumnRule) (word : List Token) (width : ℕ) (tabl
     IsAttained rules word width (set table (place * width + r.left) v)
 set_attained rules word width table place r v is att range short con at offer = record { reaches = reaches }
   where
-    reaches : (c i j : ℕ) → c < width → i ≤ length word → get_or (set table (place * width + r.left) v) (i * width + c) 0 ≡ suc j → Reaches rules word (c ∷ []) i j
-    reaches c i j lt le = set_at (λ x _. x ≡ suc j → Reaches rules word (c ∷ []) i j) table (place * width + r.left) v (i * width + c) at
+    reaches : (c i j : ℕ) → c < width → i ≤ length word → get_or (set table (place * width + r.left) v) (i * width + c) 0 ≡ suc j → ReadThrough rules word (c ∷ []) i j
+    reaches c i j lt le = set_at (λ x _. x ≡ suc j → ReadThrough rules word (c ∷ []) i j) table (place * width + r.left) v (i * width + c) at
         (λ e q.
         let s = same_cell width i c place r.left lt (columns_in_range width rules r range con).0 e in
         rw (s.0, s.1) (offer_reaches rules word width table place r v is att range short con offer j q))
@@ -99,8 +99,8 @@ holds_more H xs i d0 lt here below k d less = elim (same_or_not k i) [
   | inr ne ↦ below k d (omega arith)
 ]
 
-pub all_hold : (rules : List ColumnRule) (word : List Token) (width : ℕ) (table : List ℕ) (place : ℕ) → ((k : ℕ) (d : ColumnRule) → k < length rules → Holds word width table place (get_or rules k d)) → IsClosedAt rules word width table place
-all_hold rules word width table place h = record { holds = λ r con. let P : ColumnRule → Type 0 = Holds word width table place in subst P con.2 (h con.0 r con.1) }
+pub all_hold : (rules : List ColumnRule) (word : List Token) (width : ℕ) (table : List ℕ) (place : ℕ) → ((k : ℕ) (d : ColumnRule) → k < length rules → RaisesNothing word width table place (get_or rules k d)) → IsClosedAt rules word width table place
+all_hold rules word width table place h = record { holds = λ r con. let P : ColumnRule → Type 0 = RaisesNothing word width table place in subst P con.2 (h con.0 r con.1) }
 
 -- what is complete stays so while cells rise
 pub rise_complete : (rules : List ColumnRule) (word : List Token) (width : ℕ) (old new : List ℕ) (from : ℕ) → ((k : ℕ) → get_or old k 0 ≤ get_or new k 0) → IsComplete rules word width old from → IsComplete rules word width new from

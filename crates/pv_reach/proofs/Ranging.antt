@@ -10,8 +10,8 @@ use Rattle.pv_rules.proofs.Facts.{parts_by_number}
 use Rattle.pv_rules.proofs.Formed.{parts_formed}
 use Rattle.pv_rules.proofs.Members.{some_part}
 use Rattle.pv_reach.proofs.FormedDtds.{IsFormedDtd}
-use Rattle.pv_reach.specs.declared.rules.ColumnRule.{ColumnRule}
-use Rattle.pv_reach.specs.ColumnRules.{InRange}
+use Rattle.pv_columns.specs.declared.rules.ColumnRule.{ColumnRule}
+use Rattle.pv_columns.specs.ColumnRules.{InRange}
 use Rattle.pv_reach.specs.Columns.{AreRules, IsAnyRule, IsContentRule, IsPartRule, IsRule, any_column, member_columns, of_any, of_content, of_part, part_column, width_of}
 
 module _ (g : PlainDtd) (formed : IsFormedDtd g) where

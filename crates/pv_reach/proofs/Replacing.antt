@@ -5,22 +5,23 @@ use Rattle.std.specs.Prelude.{IfOk, OnOk}
 use Rattle.std.proofs.lemmas.List.{get_or_default}
 use Rattle.pv_model.specs.declared.models.Token.{Token}
 use Rattle.pv_reach.specs.Adding.{Adds, Grow}
-use Rattle.pv_reach.specs.ColumnRules.{InRange, Reaches, Reads, TokensMayBeMissing, by_rule, done}
+use Rattle.pv_columns.specs.ColumnRules.{InRange, ReadThrough, Reads, TokensMayBeMissing, by_rule, done}
 use Rattle.pv_reach.specs.Columns.{Has}
-use Rattle.pv_reach.specs.Leading.{AreAlike, AreBare, MayFollow, ReachesAll}
+use Rattle.pv_columns.specs.Marks.{AreBare}
+use Rattle.pv_reach.specs.Leading.{AreAlike, MayFollow, ReadsWhatever}
 use Rattle.pv_reach.specs.Merging.{AddsMerged, AreMerged, HasMerged, IsFurtherRule, IsMergedRule, IsMerging, MayStandBehind, Replaces, behind, head_of, heads_of, none, one}
 use Rattle.pv_reach.specs.declared.merging.Merging.{Merging}
-use Rattle.pv_reach.specs.declared.rules.ColumnRule.{ColumnRule}
+use Rattle.pv_columns.specs.declared.rules.ColumnRule.{ColumnRule}
 use Rattle.pv_reach.proofs.Closing.{columns_in_range}
 use Rattle.pv_reach.proofs.Leading.{all_bare, follows}
 use Rattle.pv_reach.proofs.Naming.{either_name}
 use Rattle.pv_reach.proofs.Pushing.{grow_none, grow_twice, has_as}
-use Rattle.pv_reach.proofs.Spans.{join}
+use Rattle.pv_columns.proofs.Spans.{join}
 
 -- a rule that is told by its parts
-by_has : (rules : List ColumnRule) (word : List Token) (l : ℕ) (o : Option Token) (cs : List ℕ) (i m j : ℕ) → Has rules l o cs → Reads word o i m → Reaches rules word cs m j → Reaches rules word (l ∷ []) i j
+by_has : (rules : List ColumnRule) (word : List Token) (l : ℕ) (o : Option Token) (cs : List ℕ) (i m j : ℕ) → Has rules l o cs → Reads word o i m → ReadThrough rules word cs m j → ReadThrough rules word (l ∷ []) i j
 by_has rules word l o cs i m j h reads d =
-    by_rule l [] h.rule i m j j h.is_in (sym h.is_left) (rw h.is_token reads) (let P : List ℕ → Type 0 = λ x. Reaches rules word x m j in subst P (sym h.are_columns) d) (done j j refl)
+    by_rule l [] h.rule i m j j h.is_in (sym h.is_left) (rw h.is_token reads) (let P : List ℕ → Type 0 = λ x. ReadThrough rules word x m j in subst P (sym h.are_columns) d) (done j j refl)
 
 pub its_own : (rules : List ColumnRule) (r : ColumnRule) → Contains rules r → Has rules r.left r.token r.columns.items
 its_own rules r con = record { rule = r; is_in = con; is_left = refl; is_token = refl; are_columns = refl }
@@ -53,103 +54,103 @@ module _ (rules new : List ColumnRule) (m : Merging) (is : IsMerging rules m) (m
   module _ (word : List Token) where
     -- what stands from i up to j may follow the k-th column that has a further one
     abbrev Follows : ℕ → ℕ → ℕ → Type 0
-    Follows k i j = (h : ℕ) → Reaches rules word (get_or led k 0 ∷ []) h i → Reaches rules word (get_or led k 0 ∷ []) h j
+    Follows k i j = (h : ℕ) → ReadThrough rules word (get_or led k 0 ∷ []) h i → ReadThrough rules word (get_or led k 0 ∷ []) h j
 
-    abbrev Means : ℕ → ℕ → ℕ → Type 0
-    Means c i j = ((k : ℕ) × (k < length led) × (c ≡ width + k) × Follows k i j) ⊎ ((c < width) × Reaches rules word (c ∷ []) i j)
+    abbrev IsAsOld : ℕ → ℕ → ℕ → Type 0
+    IsAsOld c i j = ((k : ℕ) × (k < length led) × (c ≡ width + k) × Follows k i j) ⊎ ((c < width) × ReadThrough rules word (c ∷ []) i j)
 
-    abbrev AllMean : List ℕ → ℕ → ℕ → Type 0
-    AllMean [] i j = i ≡ j
-    AllMean (c ∷ cs) i j = (k : ℕ) × Means c i k × AllMean cs k j
+    abbrev AreAsOld : List ℕ → ℕ → ℕ → Type 0
+    AreAsOld [] i j = i ≡ j
+    AreAsOld (c ∷ cs) i j = (k : ℕ) × IsAsOld c i k × AreAsOld cs k j
 
-    as_old : (c i j : ℕ) → c < width → Means c i j → Reaches rules word (c ∷ []) i j
+    as_old : (c i j : ℕ) → c < width → IsAsOld c i j → ReadThrough rules word (c ∷ []) i j
     as_old c i j lt (inl (k, less, e, f)) = absurd (omega arith)
     as_old c i j lt (inr x) = x.1
 
-    follower : (k i j : ℕ) → Means (width + k) i j → Follows k i j
+    follower : (k i j : ℕ) → IsAsOld (width + k) i j → Follows k i j
     follower k i j (inl (n, less, e, f)) = let z : n ≡ k = omega arith in let P : ℕ → Type 0 = λ v. Follows v i j in subst P z f
     follower k i j (inr x) = absurd (let e = x.0 in omega arith)
 
-    all_old : (cs : List ℕ) (i j : ℕ) → All (λ c. c < width) cs → AllMean cs i j → Reaches rules word cs i j
+    all_old : (cs : List ℕ) (i j : ℕ) → All (λ c. c < width) cs → AreAsOld cs i j → ReadThrough rules word cs i j
     all_old [] i j all e = done i j e
     all_old (c ∷ cs) i j all x =
         join rules word c cs i x.0 j (as_old c i x.0 (all 0 0 (omega arith)) x.1) (all_old cs x.0 j (λ k d lt. all (suc k) d (omega arith)) x.2)
 
     -- what the columns that stand for others reach, those reach
-    from_heads : (cs : List ℕ) (i j : ℕ) → All (λ c. c < width) cs → Reaches rules word (heads cs) i j → Reaches rules word cs i j
+    from_heads : (cs : List ℕ) (i j : ℕ) → All (λ c. c < width) cs → ReadThrough rules word (heads cs) i j → ReadThrough rules word cs i j
     from_heads [] i j all d = d
     from_heads (c ∷ cs) i j all (by_rule _ _ r _ n k _ con e reads d f) =
-        let first : Reaches rules word (head c ∷ []) i k = by_rule (head c) [] r i n k k con e reads d (done k k refl) in
+        let first : ReadThrough rules word (head c ∷ []) i k = by_rule (head c) [] r i n k k con e reads d (done k k refl) in
         join rules word c cs i k j ((is.alike.alike c (all 0 0 (omega arith))).1 word i k first) (from_heads cs k j (λ x y lt. all (suc x) y (omega arith)) f)
 
-    as_list : (o : Option Token) (cs ds : List ℕ) (i n j : ℕ) → o ≡ None → cs ≡ ds → Reads word o i n → AllMean cs n j → AllMean ds i j
+    as_list : (o : Option Token) (cs ds : List ℕ) (i n j : ℕ) → o ≡ None → cs ≡ ds → Reads word o i n → AreAsOld cs n j → AreAsOld ds i j
     as_list o cs ds i n j e f r all =
         let R : Option Token → Type 0 = λ v. Reads word v i n in let s : n ≡ i = subst R e r in
-        let P : List ℕ → Type 0 = λ v. AllMean v n j in let Q : ℕ → Type 0 = λ v. AllMean ds v j in subst Q s (subst P f all)
+        let P : List ℕ → Type 0 = λ v. AreAsOld v n j in let Q : ℕ → Type 0 = λ v. AreAsOld ds v j in subst Q s (subst P f all)
 
-    ends : (a h i j : ℕ) → i ≡ j → Reaches rules word (a ∷ []) h i → Reaches rules word (a ∷ []) h j
-    ends a h i j e d = let P : ℕ → Type 0 = λ v. Reaches rules word (a ∷ []) h v in subst P e d
+    ends : (a h i j : ℕ) → i ≡ j → ReadThrough rules word (a ∷ []) h i → ReadThrough rules word (a ∷ []) h j
+    ends a h i j e d = let P : ℕ → Type 0 = λ v. ReadThrough rules word (a ∷ []) h v in subst P e d
 
-    further_means : (l : ℕ) (o : Option Token) (cs : List ℕ) (i n j : ℕ) → IsFurtherRule rules width led l o cs → Reads word o i n → AllMean cs n j → Means l i j
+    further_means : (l : ℕ) (o : Option Token) (cs : List ℕ) (i n j : ℕ) → IsFurtherRule rules width led l o cs → Reads word o i n → AreAsOld cs n j → IsAsOld l i j
     further_means l o cs i n j (none k lt e t u) reads all = inl (k, lt, e, (λ h d. ends (get_or led k 0) h i j (as_list o cs [] i n j t u reads all) d))
     further_means l o cs i n j (one k q lt less may e t u) reads all = go (as_list o cs (q ∷ (width + k) ∷ []) i n j t u reads all)
       where
-        go : AllMean (q ∷ (width + k) ∷ []) i j → Means l i j
+        go : AreAsOld (q ∷ (width + k) ∷ []) i j → IsAsOld l i j
         go (x, v, (y, w, s)) = inl (k, lt, e, (λ h d. ends (get_or led k 0) h y j s (follower k x y w h (may word h i x d (as_old q i x less v)))))
     further_means l o cs i n j (behind k lt e t u) reads all = go (as_list o cs (get_or led k 0 ∷ (width + k) ∷ []) i n j t u reads all)
       where
-        go : AllMean (get_or led k 0 ∷ (width + k) ∷ []) i j → Means l i j
+        go : AreAsOld (get_or led k 0 ∷ (width + k) ∷ []) i j → IsAsOld l i j
         go (x, v, (y, w, s)) =
             let less : get_or led k 0 < width = is.led k 0 lt in
-            let d : Reaches rules word (get_or led k 0 ∷ []) i j = ends (get_or led k 0) i y j s (follower k x y w i (as_old (get_or led k 0) i x less v)) in
-            let P : ℕ → Type 0 = λ c. (c < width) × Reaches rules word (c ∷ []) i j in
+            let d : ReadThrough rules word (get_or led k 0 ∷ []) i j = ends (get_or led k 0) i y j s (follower k x y w i (as_old (get_or led k 0) i x less v)) in
+            let P : ℕ → Type 0 = λ c. (c < width) × ReadThrough rules word (c ∷ []) i j in
             inr (subst P (sym e) (less, d))
 
-    rule_means : (l : ℕ) (o : Option Token) (cs : List ℕ) (i n j : ℕ) → IsMergedRule rules m.heads.items l o cs ⊎ IsFurtherRule rules width led l o cs → Reads word o i n → AllMean cs n j → Means l i j
+    rule_means : (l : ℕ) (o : Option Token) (cs : List ℕ) (i n j : ℕ) → IsMergedRule rules m.heads.items l o cs ⊎ IsFurtherRule rules width led l o cs → Reads word o i n → AreAsOld cs n j → IsAsOld l i j
     rule_means l o cs i n j (inl h) reads all =
         let in_range = has_in_range width rules h.left o h.columns is.range h.has in
-        let P : List ℕ → Type 0 = λ v. AllMean v n j in
+        let P : List ℕ → Type 0 = λ v. AreAsOld v n j in
         let d = from_heads h.columns n j in_range.1 (all_old (heads h.columns) n j (heads_range h.columns in_range.1) (subst P h.are_columns all)) in
         let alike = is.alike.alike h.left in_range.0 in
-        let Q : ℕ → Type 0 = λ c. (c < width) × Reaches rules word (c ∷ []) i j in
+        let Q : ℕ → Type 0 = λ c. (c < width) × ReadThrough rules word (c ∷ []) i j in
         inr (subst Q (sym h.is_left) (alike.0, alike.2 word i j (by_has rules word h.left o h.columns i n j h.has reads d)))
     rule_means l o cs i n j (inr h) reads all = further_means l o cs i n j h reads all
 
-    all_mean : (cs : List ℕ) (i j : ℕ) → Reaches new word cs i j → AllMean cs i j
+    all_mean : (cs : List ℕ) (i j : ℕ) → ReadThrough new word cs i j → AreAsOld cs i j
     all_mean [] i j (done _ _ e) = e
     all_mean (c ∷ cs) i j (by_rule _ _ r _ n k _ con e reads d g) =
         let here = rule_means r.left r.token r.columns.items i n k (merged.only r.left r.token r.columns.items (its_own new r con)) reads (all_mean r.columns.items n k d) in
-        (k, (let P : ℕ → Type 0 = λ v. Means v i k in subst P (sym e) here), all_mean cs k j g)
+        (k, (let P : ℕ → Type 0 = λ v. IsAsOld v i k in subst P (sym e) here), all_mean cs k j g)
 
-    nothing_new : (c i j : ℕ) → c < width → Reaches new word (head c ∷ []) i j → Reaches rules word (c ∷ []) i j
+    nothing_new : (c i j : ℕ) → c < width → ReadThrough new word (head c ∷ []) i j → ReadThrough rules word (c ∷ []) i j
     nothing_new c i j lt d = go (all_mean (head c ∷ []) i j d)
       where
-        go : AllMean (head c ∷ []) i j → Reaches rules word (c ∷ []) i j
+        go : AreAsOld (head c ∷ []) i j → ReadThrough rules word (c ∷ []) i j
         go (k, x, e) =
             let alike = is.alike.alike c lt in
-            let P : ℕ → Type 0 = λ v. Reaches rules word (c ∷ []) i v in subst P e (alike.1 word i k (as_old (head c) i k alike.0 x))
+            let P : ℕ → Type 0 = λ v. ReadThrough rules word (c ∷ []) i v in subst P e (alike.1 word i k (as_old (head c) i k alike.0 x))
 
-    keep : (cs : List ℕ) (i j : ℕ) → Reaches rules word cs i j → Reaches new word (heads cs) i j
+    keep : (cs : List ℕ) (i j : ℕ) → ReadThrough rules word cs i j → ReadThrough new word (heads cs) i j
     keep [] i j (done _ _ e) = done i j e
     keep (c ∷ cs) i j (by_rule _ _ r _ n k _ con e reads d g) =
         let here = by_has new word (head r.left) r.token (heads r.columns.items) i n k (has r con) reads (keep r.columns.items n k d) in
-        join new word (head c) (heads cs) i k j (let P : ℕ → Type 0 = λ v. Reaches new word (head v ∷ []) i k in subst P (sym e) here) (keep cs k j g)
+        join new word (head c) (heads cs) i k j (let P : ℕ → Type 0 = λ v. ReadThrough new word (head v ∷ []) i k in subst P (sym e) here) (keep cs k j g)
 
     further_unread : (l : ℕ) (o : Option Token) (cs : List ℕ) (t : Token) → o ≡ Some t → IsFurtherRule rules width led l o cs → ⊥
     further_unread l o cs t e (none k lt x u y) = cc
     further_unread l o cs t e (one k q lt less may x u y) = cc
     further_unread l o cs t e (behind k lt x u y) = cc
 
-    missing_case : (l : ℕ) (o : Option Token) (cs : List ℕ) (t : Token) (p i j : ℕ) → TokensMayBeMissing rules word → o ≡ Some t → slice_get word p ≡ Some t → Reaches new word cs i j →
-        IsMergedRule rules m.heads.items l o cs ⊎ IsFurtherRule rules width led l o cs → Reaches new word (l ∷ []) i j
+    missing_case : (l : ℕ) (o : Option Token) (cs : List ℕ) (t : Token) (p i j : ℕ) → TokensMayBeMissing rules word → o ≡ Some t → slice_get word p ≡ Some t → ReadThrough new word cs i j →
+        IsMergedRule rules m.heads.items l o cs ⊎ IsFurtherRule rules width led l o cs → ReadThrough new word (l ∷ []) i j
     missing_case l o cs t p i j missing e w d (inr h) = absurd (further_unread l o cs t e h)
     missing_case l o cs t p i j missing e w d (inl h) =
         let in_range = has_in_range width rules h.left o h.columns is.range h.has in
-        let A : List ℕ → Type 0 = λ v. AllMean v i j in
+        let A : List ℕ → Type 0 = λ v. AreAsOld v i j in
         let c = from_heads h.columns i j in_range.1 (all_old (heads h.columns) i j (heads_range h.columns in_range.1) (subst A h.are_columns (all_mean cs i j d))) in
-        let P : List ℕ → Type 0 = λ v. Reaches rules word v i j in let Q : ℕ → Type 0 = λ v. Reaches rules word (v ∷ []) i j in
+        let P : List ℕ → Type 0 = λ v. ReadThrough rules word v i j in let Q : ℕ → Type 0 = λ v. ReadThrough rules word (v ∷ []) i j in
         let left = missing h.has.rule t p i j h.has.is_in (rw h.has.is_token e) w (subst P (sym h.has.are_columns) c) in
-        let R : ℕ → Type 0 = λ v. Reaches new word (v ∷ []) i j in
+        let R : ℕ → Type 0 = λ v. ReadThrough new word (v ∷ []) i j in
         subst R (sym h.is_left) (keep (h.left ∷ []) i j (subst Q h.has.is_left left))
 
   abbrev wider : ℕ
@@ -236,7 +237,7 @@ module _ (rules : List ColumnRule) (m : Merging) (i : ℕ) (lt : i < length rule
           let left = is.alike.alike r.left range.0 in
           let mine = is.alike.alike (get_or r.columns.items place 0) (range.1 place 0 within) in
           let other = is.alike.alike (get_or r.columns.items k 0) (range.1 k 0 short) in
-          let A : ℕ → Type 0 = λ v. ReachesAll rules (get_or r.columns.items place 0) v in
+          let A : ℕ → Type 0 = λ v. ReadsWhatever rules (get_or r.columns.items place 0) v in
           let may = follows rules r is_in unread (all_bare rules m.bare.items r.columns.items is.bare bare) (head_of heads r.left) place k left.2 (subst A own mine.1) (omega arith) short in
           let M : ℕ → Type 0 = λ v. MayFollow rules v (head_of heads (get_or r.columns.items k 0)) in
           let C : ℕ → Type 0 = λ v. head_of heads (get_or r.columns.items k 0) ∷ further ∷ [] ≡ head_of heads (get_or r.columns.items k 0) ∷ v ∷ [] in

@@ -13,10 +13,10 @@ use Rattle.pv_rules.specs.Sites.{PlainSite, content_site, name_site, part_site, 
 use Rattle.pv_rules.proofs.Derived.{held}
 use Rattle.pv_rules.proofs.Facts.{parts_by_number}
 use Rattle.std.proofs.lemmas.Option.{slice_get_within}
-use Rattle.pv_reach.specs.declared.rules.ColumnRule.{ColumnRule}
-use Rattle.pv_reach.specs.ColumnRules.{Reaches, Reads, by_rule, done}
+use Rattle.pv_columns.specs.declared.rules.ColumnRule.{ColumnRule}
+use Rattle.pv_columns.specs.ColumnRules.{ReadThrough, Reads, by_rule, done}
 use Rattle.pv_reach.specs.Columns.{AreRules, Has, IsRule, any_column, member_columns, of_any, of_content, of_part, part_column, token_of}
-use Rattle.pv_reach.proofs.Spans.{join}
+use Rattle.pv_columns.proofs.Spans.{join}
 
 -- a token of a word by its plain form
 named_case : (t : Token) (x : ℕ) → plain_token t ≡ named x → t ≡ token_of x
@@ -41,29 +41,29 @@ pub text_get : (word : List Token) (i : ℕ) → slice_get (map plain_token word
 text_get word i e = let t = plain_get word i text e in let z = text_case t.0 t.2 in rw (← z) t.1
 
 module _ (g : PlainDtd) (rules : List ColumnRule) (word : List Token) (are : AreRules g rules) where
-  pub by : (l : ℕ) (o : Option Token) (cs : List ℕ) (i m j : ℕ) → IsRule g l o cs → Reads word o i m → Reaches rules word cs m j → Reaches rules word (l ∷ []) i j
+  pub by : (l : ℕ) (o : Option Token) (cs : List ℕ) (i m j : ℕ) → IsRule g l o cs → Reads word o i m → ReadThrough rules word cs m j → ReadThrough rules word (l ∷ []) i j
   by l o cs i m j rule reads d = go (are.complete l o cs rule)
     where
-      go : Has rules l o cs → Reaches rules word (l ∷ []) i j
+      go : Has rules l o cs → ReadThrough rules word (l ∷ []) i j
       go h = by_rule l [] h.rule i m j j h.is_in (sym h.is_left) (rw h.is_token reads)
-          (let P : List ℕ → Type 0 = λ x. Reaches rules word x m j in subst P (sym h.are_columns) d) (done j j refl)
+          (let P : List ℕ → Type 0 = λ x. ReadThrough rules word x m j in subst P (sym h.are_columns) d) (done j j refl)
 
   -- what a site derives, said by columns
   abbrev pub ByColumns : PlainSite → ℕ → ℕ → Type 0
-  ByColumns (name_site x) i j = ((slice_get word i ≡ Some (token_of x)) × (j ≡ suc i)) ⊎ (IsDeclared g x × Reaches rules word (x ∷ []) i j)
+  ByColumns (name_site x) i j = ((slice_get word i ≡ Some (token_of x)) × (j ≡ suc i)) ⊎ (IsDeclared g x × ReadThrough rules word (x ∷ []) i j)
   ByColumns (content_site x) i j =
-      IsDeclared g x × Reaches rules word (x ∷ []) i j × (model_of g x ≡ Some any → Reaches rules word (any_column g ∷ []) i j)
-  ByColumns (part_site q) i j = Reaches rules word (part_column g q ∷ []) i j
-  ByColumns (rest_site q) i j = (ps : PlainParts) × (rest_at g q ≡ Some ps) × Reaches rules word (member_columns g q ps) i j
+      IsDeclared g x × ReadThrough rules word (x ∷ []) i j × (model_of g x ≡ Some any → ReadThrough rules word (any_column g ∷ []) i j)
+  ByColumns (part_site q) i j = ReadThrough rules word (part_column g q ∷ []) i j
+  ByColumns (rest_site q) i j = (ps : PlainParts) × (rest_at g q ≡ Some ps) × ReadThrough rules word (member_columns g q ps) i j
 
   declared_model : (x : ℕ) (m : PlainModel) → model_of g x ≡ Some m → IsDeclared g x
   declared_model x m e = slice_get_within g.models x m e
 
-  content : (x i m j : ℕ) (n : PlainModel) (o : Option Token) (cs : List ℕ) → model_of g x ≡ Some n → (n ≡ any → ⊥) → IsRule g x o cs → Reads word o i m → Reaches rules word cs m j →
+  content : (x i m j : ℕ) (n : PlainModel) (o : Option Token) (cs : List ℕ) → model_of g x ≡ Some n → (n ≡ any → ⊥) → IsRule g x o cs → Reads word o i m → ReadThrough rules word cs m j →
       ByColumns (content_site x) i j
   content x i m j n o cs e not rule reads d = (declared_model x n e, by x o cs i m j rule reads d, (λ f. absurd (not cc)))
 
-  any_content : (x i m j : ℕ) (o : Option Token) (cs : List ℕ) → model_of g x ≡ Some any → IsRule g (any_column g) o cs → Reads word o i m → Reaches rules word cs m j →
+  any_content : (x i m j : ℕ) (o : Option Token) (cs : List ℕ) → model_of g x ≡ Some any → IsRule g (any_column g) o cs → Reads word o i m → ReadThrough rules word cs m j →
       ByColumns (content_site x) i j
   any_content x i m j o cs e rule reads d =
       let here = by (any_column g) o cs i m j rule reads d in
@@ -119,7 +119,7 @@ module _ (g : PlainDtd) (rules : List ColumnRule) (word : List Token) (are : Are
         part p (part r ps),
         e,
         join rules word (part_column g q) (member_columns g (q + parts_in p) (part r ps)) i k j a.0
-            (let P : PlainParts → Type 0 = λ v. Reaches rules word (member_columns g (q + parts_in p) v) k j in subst P z b.2),
+            (let P : PlainParts → Type 0 = λ v. ReadThrough rules word (member_columns g (q + parts_in p) v) k j in subst P z b.2),
       )
 
   pub sites_reach : (n : ℕ) (s : PlainSite) (i j : ℕ) → Derives (Rule g (map plain_token word)) n (over s i j) → ByColumns s i j

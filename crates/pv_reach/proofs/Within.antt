@@ -20,9 +20,9 @@ use Rattle.pv_missing.proofs.Sizes.{fits_possible}
 use Rattle.pv_missing.proofs.Spanned.{all_at}
 use Rattle.pv_missing.proofs.Standing.{Stands}
 use Rattle.pv_missing.proofs.WordDerivations.{of_content}
-use Rattle.pv_reach.specs.Deriving.{DerivesAt}
+use Rattle.pv_rules.specs.Deriving.{DerivesAt}
 use Rattle.pv_reach.specs.Laws.{SpansWithin}
-use Rattle.pv_reach.proofs.ColumnsDerive.{any_more, mixed_more, plus_again, star_again, to_none, to_one, to_two}
+use Rattle.pv_rules.proofs.Deriving.{any_more, mixed_more, plus_again, star_again, to_none, to_one, to_two}
 
 module _ (g : PlainDtd) (w : List PlainToken) (proper : IsProperDtd g) (productive : AreProductiveTokens g w) where
   -- within i and j, or empty

@@ -4,8 +4,9 @@ use Rattle.pv_model.specs.Plain.{PlainModel, PlainPart, any}
 use Rattle.pv_model.specs.declared.models.Token.{Token}
 use Rattle.pv_dtd.specs.Plain.{PlainDtd, model_of, parts_in_model}
 use Rattle.pv_rules.specs.Numbering.{first_part, part_at}
-use Rattle.pv_reach.specs.Columns.{Has, IsAnyRule, IsContentRule, IsPartRule, IsRule, RightSide, any_column, part_column, token_of}
-use Rattle.pv_reach.specs.declared.rules.ColumnRule.{ColumnRule}
+use Rattle.pv_reach.specs.Columns.{Has, IsAnyRule, IsContentRule, IsPartRule, IsRule, RightSide}
+use Rattle.pv_reach.specs.Columns.{any_column, part_column, token_of}
+use Rattle.pv_columns.specs.declared.rules.ColumnRule.{ColumnRule}
 
 -- the right sides of the rules of a part, and of a name's content
 abbrev pub IsRuleOfPart : PlainDtd → ℕ → RightSide
@@ -51,8 +52,8 @@ pub record AddsListed (g : PlainDtd) (old new : List ColumnRule) (name first end
   pub listed : (q : ℕ) → first ≤ q → q < end → Has new name None (part_column g q ∷ name ∷ [])
 
 -- where a name's content has a model, the numbers of the parts of that model
-abbrev pub IsWithin : PlainDtd → ℕ → ℕ → Type 0
-IsWithin g x q = (m : PlainModel) × (model_of g x ≡ Some m) × (first_part g x ≤ q) ×
+abbrev pub IsWithinWidth : PlainDtd → ℕ → ℕ → Type 0
+IsWithinWidth g x q = (m : PlainModel) × (model_of g x ≡ Some m) × (first_part g x ≤ q) ×
     (q < first_part g x + parts_in_model m)
 
 -- the list has all rules of the parts from one number up to another now, and no rule is new that
@@ -71,7 +72,7 @@ pub record LaysOutNames (g : PlainDtd) (old new : List ColumnRule) (These : ℕ 
   pub grow : Grow old new
   pub contents : (x : ℕ) → These x → (o : Option Token) (cs : List ℕ) → IsRuleOfContent g x o cs →
       Has new x o cs
-  pub parts : (x q : ℕ) → These x → IsWithin g x q → (o : Option Token) (cs : List ℕ) →
+  pub parts : (x q : ℕ) → These x → IsWithinWidth g x q → (o : Option Token) (cs : List ℕ) →
       IsRuleOfPart g q o cs → Has new (part_column g q) o cs
 
 abbrev pub IsDeclaredRule : PlainDtd → ℕ → ℕ → Option Token → List ℕ → Type 0

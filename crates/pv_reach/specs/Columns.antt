@@ -1,12 +1,14 @@
 -- The columns of a DTD, first the contents of its names, then its parts, and at last any content;
 -- and the rules of each.
-use Rattle.std.specs.Prelude.{Contains, List, None, Option, Some, [], length, suc, ℕ, ◌+◌, ◌<◌, ◌∷◌, ◌≡◌, ◌⊎◌}
-use Rattle.pv_model.specs.Plain.{PlainModel, PlainPart, PlainParts, any, children, choice, empty, mixed, name, no_parts, opt, part, plus, seq, star}
+use Rattle.std.specs.Prelude.{Contains, List, None, Option, Some, [], length, suc, ℕ, ◌+◌, ◌<◌, ◌∷◌}
+use Rattle.std.specs.Prelude.{◌≡◌, ◌⊎◌}
+use Rattle.pv_model.specs.Plain.{PlainModel, PlainPart, PlainParts, any, children, choice, empty}
+use Rattle.pv_model.specs.Plain.{mixed, name, no_parts, opt, part, plus, seq, star}
 use Rattle.pv_model.specs.declared.models.Token.{Token}
 use Rattle.pv_model.specs.declared.models.Token.TheVariants.{Name, Text}
 use Rattle.pv_dtd.specs.Plain.{IsDeclared, PlainDtd, model_of, parts_in, parts_in_models}
 use Rattle.pv_rules.specs.Numbering.{IsMemberAt, first_part, part_at}
-use Rattle.pv_reach.specs.declared.rules.ColumnRule.{ColumnRule}
+use Rattle.pv_columns.specs.declared.rules.ColumnRule.{ColumnRule}
 
 -- the content of a name has the name's number for its column
 abbrev pub part_column : PlainDtd → ℕ → ℕ

@@ -5,7 +5,7 @@ use Rattle.pv_dtd.specs.Plain.{PlainDtd}
 use Rattle.pv_dtd.specs.Proper.{IsProperDtd}
 use Rattle.pv_rules.specs.Sites.{PlainSite}
 use Rattle.pv_missing.specs.LiveWords.{AreProductiveTokens}
-use Rattle.pv_reach.specs.Deriving.{DerivesAt}
+use Rattle.pv_rules.specs.Deriving.{DerivesAt}
 
 -- What derives a span of a word of productive names derives each span within it, and each empty
 -- span. So the ends that a site reaches

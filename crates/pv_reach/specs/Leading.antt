@@ -1,24 +1,20 @@
 -- Columns that lead to others at one place: they reach whatever those reach.
-use Rattle.std.specs.Prelude.{Bool, Contains, List, [], false, get_or, length, true, ℕ, ◌<◌, ◌∷◌, ◌≡◌, ◌⊎◌}
+use Rattle.std.specs.Prelude.{Contains, List, [], get_or, length, ℕ, ◌<◌, ◌∷◌}
+use Rattle.std.specs.Prelude.{◌≡◌, ◌⊎◌}
 use Rattle.pv_model.specs.declared.models.Token.{Token}
-use Rattle.pv_reach.specs.ColumnRules.{Reaches}
+use Rattle.pv_columns.specs.ColumnRules.{ReadThrough}
 use Rattle.pv_reach.specs.declared.edges.Edge.{Edge}
-use Rattle.pv_reach.specs.declared.rules.ColumnRule.{ColumnRule}
+use Rattle.pv_columns.specs.declared.rules.ColumnRule.{ColumnRule}
 
 -- column c reaches whatever column d reaches
-abbrev pub ReachesAll : List ColumnRule → ℕ → ℕ → Type 0
-ReachesAll rules c d = (word : List Token) (i j : ℕ) → Reaches rules word (d ∷ []) i j →
-    Reaches rules word (c ∷ []) i j
+abbrev pub ReadsWhatever : List ColumnRule → ℕ → ℕ → Type 0
+ReadsWhatever rules c d = (word : List Token) (i j : ℕ) → ReadThrough rules word (d ∷ []) i j →
+    ReadThrough rules word (c ∷ []) i j
 
 -- what column a reaches, it reaches with what q reaches behind it
 abbrev pub MayFollow : List ColumnRule → ℕ → ℕ → Type 0
-MayFollow rules a q = (word : List Token) (h i j : ℕ) → Reaches rules word (a ∷ []) h i →
-    Reaches rules word (q ∷ []) i j → Reaches rules word (a ∷ []) h j
-
--- a marked column reaches over no tokens, at every place
-pub record AreBare (rules : List ColumnRule) (marks : List Bool) : Type 0 where
-  pub bare : (c : ℕ) → get_or marks c false ≡ true → (word : List Token) (p : ℕ) →
-      Reaches rules word (c ∷ []) p p
+MayFollow rules a q = (word : List Token) (h i j : ℕ) → ReadThrough rules word (a ∷ []) h i →
+    ReadThrough rules word (q ∷ []) i j → ReadThrough rules word (a ∷ []) h j
 
 -- the edge leads from the rule's column to one on its right
 abbrev pub IsEdgeOf : ColumnRule → Edge → Type 0
@@ -26,7 +22,7 @@ IsEdgeOf r e = (k : ℕ) × (k < length r.columns.items) × (e.from ≡ r.left) 
     (e.to ≡ get_or r.columns.items k 0)
 
 pub record AreEdges (rules : List ColumnRule) (edges : List Edge) : Type 0 where
-  pub leads : (e : Edge) → Contains edges e → ReachesAll rules e.from e.to
+  pub leads : (e : Edge) → Contains edges e → ReadsWhatever rules e.from e.to
 
 -- each of the second edges is one of the first the other way
 pub record Turned (edges turned : List Edge) : Type 0 where
@@ -52,5 +48,5 @@ IsHead above below c v = (v ≡ c) ⊎ ((c < length above) × (c < length below)
 -- each column reaches the same as the one that stands for it
 pub record AreAlike (rules : List ColumnRule) (heads : List ℕ) : Type 0 where
   pub alike : (c : ℕ) → c < length heads →
-      (get_or heads c 0 < length heads) × ReachesAll rules c (get_or heads c 0) ×
-      ReachesAll rules (get_or heads c 0) c
+      (get_or heads c 0 < length heads) × ReadsWhatever rules c (get_or heads c 0) ×
+      ReadsWhatever rules (get_or heads c 0) c

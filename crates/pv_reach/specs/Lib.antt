@@ -1,10 +1,7 @@
-pub mod ColumnRules
 pub mod Laws
 pub mod Tables
 pub mod Columns
 pub mod Adding
-pub mod Deriving
-pub mod Owners
 pub mod Parts
 pub mod Leading
 pub mod Merging

@@ -1,13 +1,15 @@
 -- Rules over the columns that stand for others, and over further columns for what may stand behind
 -- those.
-use Rattle.std.specs.Prelude.{All, List, None, Option, [], get_or, length, map, ℕ, ◌+◌, ◌<◌, ◌^◌, ◌∷◌, ◌≡◌, ◌≤◌, ◌⊎◌, ◌↔◌}
+use Rattle.std.specs.Prelude.{All, Bool, List, None, Option, [], get_or, length, map, ℕ, ◌+◌}
+use Rattle.std.specs.Prelude.{◌<◌, ◌^◌, ◌∷◌, ◌≡◌, ◌≤◌, ◌⊎◌, ◌↔◌}
 use Rattle.pv_model.specs.declared.models.Token.{Token}
 use Rattle.pv_reach.specs.Adding.{Grow}
-use Rattle.pv_reach.specs.ColumnRules.{InRange, Reaches, TokensMayBeMissing}
+use Rattle.pv_columns.specs.ColumnRules.{InRange, ReadThrough, TokensMayBeMissing}
 use Rattle.pv_reach.specs.Columns.{Has}
-use Rattle.pv_reach.specs.Leading.{AreAlike, AreBare, MayFollow}
+use Rattle.pv_columns.specs.Marks.{AreBare, IsMarked}
+use Rattle.pv_reach.specs.Leading.{AreAlike, MayFollow}
 use Rattle.pv_reach.specs.declared.merging.Merging.{Merging}
-use Rattle.pv_reach.specs.declared.rules.ColumnRule.{ColumnRule}
+use Rattle.pv_columns.specs.declared.rules.ColumnRule.{ColumnRule}
 
 -- the column that stands for another
 abbrev pub head_of : List ℕ → ℕ → ℕ
@@ -70,7 +72,7 @@ pub record Replaces (old new : List ColumnRule) (width wider : ℕ) (heads : Lis
   pub in_range : InRange wider new
   pub columns : (c : ℕ) → c < width → head_of heads c < wider
   pub same : (word : List Token) (c i j : ℕ) → c < width →
-      Reaches new word (head_of heads c ∷ []) i j ↔ Reaches old word (c ∷ []) i j
+      ReadThrough new word (head_of heads c ∷ []) i j ↔ ReadThrough old word (c ∷ []) i j
   pub missing : (word : List Token) → TokensMayBeMissing old word → TokensMayBeMissing new word
 
 -- what stands from this place of the rule on may follow the column that has this further one
@@ -79,3 +81,8 @@ MayStandBehind rules m number first further = (r : ColumnRule) → r ≡ get_or 
     (i : ℕ) → first ≤ i →
     i < length r.columns.items → IsFurtherRule rules (length m.heads.items) m.led.items further None
     (head_of m.heads.items (get_or r.columns.items i 0) ∷ further ∷ [])
+
+-- the columns that stand for columns that are marked reach over no tokens
+abbrev pub AreHeadsBare : List ColumnRule → List Bool → List ℕ → Type 0
+AreHeadsBare new bare heads = (c : ℕ) → IsMarked bare c → c < length heads → (word : List Token)
+    (p : ℕ) → ReadThrough new word (head_of heads c ∷ []) p p

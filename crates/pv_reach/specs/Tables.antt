@@ -1,9 +1,10 @@
 -- Tables of furthest places: a row of columns for each place. A cell is one past the furthest place
 -- that its column reaches from its row's place, and 0 where it reaches none.
-use Rattle.std.specs.Prelude.{◌≡◌, ◌≤◌, ◌<◌, ℕ, zero, suc, ◌+◌, ◌*◌, ◌-◌, List, [], ◌∷◌, Contains, slice_index, length, sum_by}
+use Rattle.std.specs.Prelude.{◌≡◌, ◌≤◌, ◌<◌, ℕ, zero, suc, ◌+◌, ◌*◌, ◌-◌, List, [], ◌∷◌, Contains}
+use Rattle.std.specs.Prelude.{slice_index, length, sum_by}
 use Rattle.pv_model.specs.declared.models.Token.{Token}
-use Rattle.pv_reach.specs.declared.rules.ColumnRule.{ColumnRule}
-use Rattle.pv_reach.specs.ColumnRules.{Reads, Reaches}
+use Rattle.pv_columns.specs.declared.rules.ColumnRule.{ColumnRule}
+use Rattle.pv_columns.specs.ColumnRules.{Reads, ReadThrough}
 
 abbrev pub cell : ℕ → List ℕ → ℕ → ℕ → ℕ
 cell width table c i = slice_index table (i * width + c)
@@ -25,22 +26,22 @@ pub record IsTable (word : List Token) (width : ℕ) (table : List ℕ) : Type 0
 pub record IsAttained (rules : List ColumnRule) (word : List Token) (width : ℕ) (table : List ℕ)
     : Type 0 where
   pub reaches : (c i j : ℕ) → c < width → i ≤ length word → cell width table c i ≡ suc j →
-      Reaches rules word (c ∷ []) i j
+      ReadThrough rules word (c ∷ []) i j
 
 -- from this place the rule offers no more than its cell has
-abbrev pub Holds : List Token → ℕ → List ℕ → ℕ → ColumnRule → Type 0
-Holds word width table i r = (m : ℕ) → Reads word r.token i m →
+abbrev pub RaisesNothing : List Token → ℕ → List ℕ → ℕ → ColumnRule → Type 0
+RaisesNothing word width table i r = (m : ℕ) → Reads word r.token i m →
     past width table r.columns.items m ≤ cell width table r.left i
 
 pub record IsClosedAt (rules : List ColumnRule) (word : List Token) (width : ℕ) (table : List ℕ)
     (i : ℕ) : Type 0 where
-  pub holds : (r : ColumnRule) → Contains rules r → Holds word width table i r
+  pub holds : (r : ColumnRule) → Contains rules r → RaisesNothing word width table i r
 
 -- from this place on, no derivation goes beyond its cell
 pub record IsComplete (rules : List ColumnRule) (word : List Token) (width : ℕ) (table : List ℕ)
     (from : ℕ) : Type 0 where
   pub beyond : (c i j : ℕ) → c < width → from ≤ i → i ≤ length word →
-      Reaches rules word (c ∷ []) i j → j < cell width table c i
+      ReadThrough rules word (c ∷ []) i j → j < cell width table c i
 
 -- each cell holds the furthest place: it is attained, and nothing goes beyond it
 pub record IsFurthest (rules : List ColumnRule) (word : List Token) (width : ℕ) (table : List ℕ)

@@ -5,7 +5,7 @@ ghost use Rattle.pv_productive.specs.PlainForms.{dtd_of};
 ghost use Rattle.pv_reach.specs.Adding.{Adds};
 ghost use Rattle.pv_reach.specs.Columns.{any_column, part_column};
 
-use crate::rules::ColumnRule;
+use pv_columns::ColumnRule;
 use pv_model::Token;
 use pv_productive::Grammar;
 use std::alloc::{AllocError, Global};

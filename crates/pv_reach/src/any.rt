@@ -8,8 +8,7 @@ ghost use Rattle.pv_reach.specs.Adding.{AddsDeclared, IsRuleOfAny, LaysOut};
 ghost use Rattle.pv_reach.specs.Columns.{any_column};
 
 use crate::adding::{add, any_column};
-use crate::contents::content_of;
-use crate::rules::ColumnRule;
+use pv_columns::ColumnRule;
 use pv_model::{NameId, Token};
 use pv_productive::Grammar;
 use pv_rules::ContentKind;
@@ -32,7 +31,7 @@ fn is_any(grammar: &Grammar, name: u32) -> bool
     ensures some { result ≡ true → model_of (dtd_of grammar.now) name ≡ Some any }
     ensures none { result ≡ false → model_of (dtd_of grammar.now) name ≡ Some any → ⊥ }
 {
-    let Some(content) = content_of(grammar, name) else {
+    let Some(content) = grammar.content_of(NameId(name)) else {
         return false;
     };
     match content.kind {

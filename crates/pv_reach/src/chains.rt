@@ -2,7 +2,8 @@
 
 use std::alloc::{AllocError, Global};
 
-/// The numbers of a list of keys, chained by key: the first of each key, and the next one behind each number.
+/// The numbers of a list of keys, chained by key: the first of each key, and the next one behind
+/// each number.
 #[derive(Debug, Drop)]
 pub struct Chains {
     first: Vec<Option<usize>>,

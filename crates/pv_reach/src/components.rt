@@ -1,13 +1,14 @@
 //! Columns that lead to one another at one place: they reach the same.
 
 ghost use Rattle.std.specs.Prelude.{◌≡◌, ◌<◌, ℕ, IfOk, get_or, length};
-ghost use Rattle.pv_reach.specs.Leading.{AreAlike, AreBare, IsHead};
+ghost use Rattle.pv_columns.specs.Marks.{AreBare};
+ghost use Rattle.pv_reach.specs.Leading.{AreAlike, IsHead};
 
 use crate::chains::Chains;
 use crate::edges::{Edge, edges_of, turned_edges};
 use crate::leaving::leaving_order;
-use crate::rules::ColumnRule;
 use crate::sweep::sweep_from;
+use pv_columns::ColumnRule;
 use std::alloc::{AllocError, Global};
 
 /// The columns of a grammar in components: those that lead to one another at one place.
@@ -39,7 +40,8 @@ fn common_end(above: &[usize], below: &[usize], column: usize) -> usize
 
 fn common_ends(alloc: Global, above: &[usize], below: &[usize]) -> Result<Vec<usize>, AllocError>
     ensures { IfOk result (λ heads. (length heads.items ≡ length above.now)
-        × ((c : ℕ) → c < length above.now → IsHead above.now below.now c (get_or heads.items c 0))) }
+        × ((c : ℕ) → c < length above.now →
+        IsHead above.now below.now c (get_or heads.items c 0))) }
 {
     let mut heads = Vec::new(alloc);
     for column in 0..above.len() {
@@ -48,7 +50,8 @@ fn common_ends(alloc: Global, above: &[usize], below: &[usize]) -> Result<Vec<us
     Ok(heads)
 }
 
-/// The components of the columns below `width`, where these reach over no tokens. It takes a time about linear in the rules.
+/// The components of the columns below `width`, where these reach over no tokens. It takes a time
+/// about linear in the rules.
 pub fn components_of(
     alloc: Global,
     rules: &[ColumnRule],

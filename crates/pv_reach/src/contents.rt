@@ -4,32 +4,20 @@ ghost use Rattle.std.specs.Prelude.{◌≡◌, ◌<◌, ◌≤◌, ℕ, false, t
 ghost use Rattle.pv_model.specs.Plain.{any};
 ghost use Rattle.pv_model.specs.Plain as plain;
 ghost use Rattle.pv_dtd.specs.Plain.{declared, model_of};
+ghost use Rattle.pv_rules.specs.Flat.{flat_contents};
 ghost use Rattle.pv_rules.specs.declared.flat.ContentKind.TheVariants.{Mixed as mixed_kind};
 ghost use Rattle.pv_productive.specs.PlainForms.{dtd_of};
-ghost use Rattle.pv_reach.specs.Adding.{AddsListed, IsRuleOfContent, LaysOut, LaysOutNames, LaysOutParts};
+ghost use Rattle.pv_reach.specs.Adding.{AddsListed, IsRuleOfContent, LaysOut, LaysOutNames};
+ghost use Rattle.pv_reach.specs.Adding.{LaysOutParts};
 ghost use Rattle.pv_reach.specs.Columns.{IsAnyRule, any_column};
-ghost use Rattle.pv_reach.specs.Parts.{IsFlatContent};
 
 use crate::adding::{add, any_column, part_column};
 use crate::parts::add_part;
-use crate::rules::ColumnRule;
+use pv_columns::ColumnRule;
 use pv_model::{NameId, Token};
 use pv_productive::Grammar;
 use pv_rules::{ContentKind, FlatContent};
 use std::alloc::{AllocError, Global};
-
-fn content_in(contents: &[FlatContent], name: u32) -> Option<FlatContent>
-    ensures { result ≡ slice_get contents.now name }
-{
-    contents.get(name as usize).copied()
-}
-
-/// The content of a name, where it is declared.
-pub fn content_of(grammar: &Grammar, name: u32) -> Option<FlatContent>
-    ensures { IsFlatContent (dtd_of grammar.now) name result }
-{
-    content_in(grammar.flat().contents(), name)
-}
 
 /// A rule of mixed content for each listed name, by the numbers of their parts.
 fn add_listed(
@@ -58,7 +46,7 @@ fn add_mixed(
     content: FlatContent,
     rules: &mut Vec<ColumnRule>,
 ) -> Result<(), AllocError>
-    requires content { IsFlatContent (dtd_of grammar.now) name (Some content) }
+    requires content { slice_get (flat_contents 0 (dtd_of grammar.now).models) name ≡ Some content }
     requires mixed { content.kind ≡ mixed_kind }
     ensures { IfOk result (λ _. LaysOut (dtd_of grammar.now) rules.old.items rules.new.items
         name (IsRuleOfContent (dtd_of grammar.now) name)) }
@@ -80,7 +68,7 @@ fn add_content(
     ensures { IfOk result (λ _. LaysOut (dtd_of grammar.now) rules.old.items rules.new.items
         name (IsRuleOfContent (dtd_of grammar.now) name)) }
 {
-    let Some(content) = content_of(grammar, name) else {
+    let Some(content) = grammar.content_of(NameId(name)) else {
         return Ok(());
     };
     let column = name as usize;
@@ -95,8 +83,8 @@ fn add_content(
     }
 }
 
-/// The rules of the parts from `first` up to `end`, which is left out. What is within a part has higher numbers, so that the last part
-/// comes first.
+/// The rules of the parts from `first` up to `end`, which is left out. What is within a part has
+/// higher numbers, so that the last part comes first.
 fn add_parts(
     alloc: Global,
     grammar: &Grammar,
@@ -124,7 +112,7 @@ pub fn add_name(
     ensures { IfOk result (λ _. LaysOutNames (dtd_of grammar.now) rules.old.items rules.new.items
         (λ x. x ≡ name)) }
 {
-    let Some(content) = content_of(grammar, name) else {
+    let Some(content) = grammar.content_of(NameId(name)) else {
         return Ok(());
     };
     add_parts(alloc, grammar, content.first, content.end, rules)?;

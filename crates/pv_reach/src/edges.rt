@@ -1,13 +1,13 @@
 //! Columns that lead to others at one place.
 //!
-//! A column leads to each column on the right of its rules without a token, where all of these reach over no tokens: it reaches whatever
-//! they reach.
+//! A column leads to each column on the right of its rules without a token, where all of these
+//! reach over no tokens: it reaches whatever they reach.
 
 ghost use Rattle.std.specs.Prelude.{◌≡◌, ◌⊎◌, ℕ, Contains, IfOk};
-ghost use Rattle.pv_reach.specs.Leading.{AreBare, AreEdges, IsEdgeOf, Turned};
+ghost use Rattle.pv_columns.specs.Marks.{AreBare};
+ghost use Rattle.pv_reach.specs.Leading.{AreEdges, IsEdgeOf, Turned};
 
-use crate::bare::is_open;
-use crate::rules::ColumnRule;
+use pv_columns::{ColumnRule, is_open};
 use std::alloc::{AllocError, Global};
 
 /// A column, and one that it leads to.

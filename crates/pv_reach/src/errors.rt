@@ -17,14 +17,6 @@ pub enum ReachError {
     NoMemory,
 }
 
-impl From<pv_model::NoMemory> for ReachError {
-    ghost from_gives = { λ _ e. e ≡ no_memory };
-
-    fn from(_: pv_model::NoMemory) -> ReachError {
-        ReachError::NoMemory
-    }
-}
-
 impl From<pv_chars::NoMemory> for ReachError {
     ghost from_gives = { λ _ e. e ≡ no_memory };
 

@@ -8,7 +8,7 @@ ghost use Rattle.pv_reach.specs.Columns.{AreRules};
 
 use crate::any::add_any;
 use crate::contents::add_name;
-use crate::rules::ColumnRule;
+use pv_columns::ColumnRule;
 use pv_productive::Grammar;
 use std::alloc::{AllocError, Global};
 
@@ -27,7 +27,8 @@ fn add_names(
     Ok(())
 }
 
-/// All rules of a DTD. Those of a name's parts come before those of its content, and inner parts first.
+/// All rules of a DTD. Those of a name's parts come before those of its content, and inner parts
+/// first.
 pub fn rules_of(alloc: Global, grammar: &Grammar) -> Result<Vec<ColumnRule>, AllocError>
     ensures { IfOk result (λ rules. AreRules (dtd_of grammar.now) rules.items) }
 {

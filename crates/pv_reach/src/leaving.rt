@@ -2,7 +2,8 @@
 
 use crate::chains::Chains;
 use crate::edges::Edge;
-use crate::marks::{is_marked, mark};
+use crate::flags::set_flag;
+use pv_columns::is_marked;
 use std::alloc::{AllocError, Global};
 
 /// A column whose edges are gone through, and the number of the next one.
@@ -12,7 +13,8 @@ struct Visit {
     next: Option<usize>,
 }
 
-/// The columns whose edges are gone through, one led to by another; which columns were among them; and those that were left, in order.
+/// The columns whose edges are gone through, one led to by another; which columns were among them;
+/// and those that were left, in order.
 #[derive(Debug, Drop)]
 struct Visits {
     open: Vec<Visit>,
@@ -26,7 +28,7 @@ impl Visits {
         if is_marked(&self.entered, column) {
             return Ok(());
         }
-        mark(&mut self.entered, column);
+        set_flag(&mut self.entered, column);
         self.open.push(Visit {
             column,
             next: chains.first(column),
@@ -34,7 +36,8 @@ impl Visits {
         Ok(())
     }
 
-    /// Goes on behind the next edge of a column, and enters the column that it leads to; or leaves the column.
+    /// Goes on behind the next edge of a column, and enters the column that it leads to; or leaves
+    /// the column.
     fn go_on(&mut self, edges: &[Edge], chains: &Chains, visit: Visit) -> Result<(), AllocError> {
         let Some(number) = visit.next else {
             self.left.push(visit.column)?;

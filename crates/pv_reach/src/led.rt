@@ -2,29 +2,29 @@
 
 ghost use Rattle.std.specs.Prelude.{◌≡◌, ◌<◌, ◌≤◌, All, IfOk, length};
 
-use crate::bare::is_open;
-use crate::marks::{is_marked, mark};
+use crate::flags::set_flag;
 use crate::merging::{Merging, head_of, own_place};
-use crate::rules::ColumnRule;
+use pv_columns::{ColumnRule, is_marked, is_open};
 use std::alloc::{AllocError, Global};
 
-/// For what stands behind its own place in a rule, marks the rule's column among those that stand behind themselves, or among the others.
-fn mark_behind(heads: &[usize], rule: &ColumnRule, own: &mut Vec<bool>, others: &mut Vec<bool>) {
+/// For what stands behind its own place in a rule, flags the rule's column among those that stand
+/// behind themselves, or among the others.
+fn set_behind(heads: &[usize], rule: &ColumnRule, own: &mut Vec<bool>, others: &mut Vec<bool>) {
     let head = head_of(heads, rule.left);
     let Some(place) = own_place(heads, rule) else {
         return;
     };
     for (i, column) in rule.columns.iter().enumerate() {
         if i > place && head_of(heads, *column) == head {
-            mark(own, head);
+            set_flag(own, head);
         } else if i > place {
-            mark(others, head);
+            set_flag(others, head);
         }
     }
 }
 
-/// The numbers that are marked in the second list alone.
-fn marked_alone(
+/// The numbers whose flags are set in the second list alone.
+fn set_alone(
     alloc: Global,
     own: &[bool],
     others: &[bool],
@@ -42,8 +42,8 @@ fn marked_alone(
     Ok(led)
 }
 
-/// The columns that others may stand behind, each standing for its component. Where it may stand behind itself it has no use for a further
-/// column: it goes as far by itself.
+/// The columns that others may stand behind, each standing for its component. Where it may stand
+/// behind itself it has no use for a further column: it goes as far by itself.
 fn led_columns(
     alloc: Global,
     rules: &[ColumnRule],
@@ -57,10 +57,10 @@ fn led_columns(
     let mut others = vec![in alloc; false; heads.len()]?;
     for rule in rules {
         if is_open(rule, bare) {
-            mark_behind(heads, rule, &mut own, &mut others);
+            set_behind(heads, rule, &mut own, &mut others);
         }
     }
-    marked_alone(alloc, &own, &others, heads.len())
+    set_alone(alloc, &own, &others, heads.len())
 }
 
 /// For each number of the list its place there.

@@ -1,11 +1,16 @@
 //! Possible words, and the verdicts of lists, by furthest reach.
 //!
-//! `possible` tells whether a word may stand for the content of an element, or in the document node (`IsPossible` and `IsPossibleRoot` of
-//! pv_missing). It fills a table (`specs/Tables.antt`): for each place of the word and each column, the furthest place that the column
-//! reaches from there. A column is the content of a name or a part of a content model, and has the rules of the missing grammar, which
-//! reach from one place to another by a token and by columns (`specs/Columns.antt`, `ColumnRules.antt`). Since the ends that are reached
-//! from a place are all places up to the furthest one, a number for each is enough. The rules are laid out once for a grammar, in a plan
-//! (`specs/Plans.antt`), over one column for all that lead to one another (`specs/Leading.antt`, `Merging.antt`).
+//! `possible` tells whether a word may stand for the content of an element, or in the document node
+//! (`IsPossible` and `IsPossibleRoot` of pv_missing). It fills a table (`specs/Tables.antt`): for
+//! each place of the word and each column, the furthest place that the column reaches from there. A
+//! column is the content of a name or a part of a content model, and has the rules of the missing
+//! grammar, which lead from one place to another by a token and by columns (`specs/Columns.antt`,
+//! and `ColumnRules.antt` of pv_columns). Since the ends that are reached from a place are all
+//! places up to the furthest one, a number for each is enough. The rules are laid out once for a
+//! grammar, in a plan (`specs/Plans.antt`), over one column for all that lead to one another
+//! (`specs/Leading.antt`, `Merging.antt`). Most contents are free: they derive each word of tokens
+//! that they take, so a plan has the sets of these, and a word is tried against one set in place of
+//! a table. A grammar with its plan is a `Judge`, by which many verdicts are found.
 #![tactic(auto)]
 
 mod adding;
@@ -16,26 +21,24 @@ mod components;
 mod contents;
 mod edges;
 mod errors;
+mod flags;
+mod free;
+mod judge;
 pub mod laws;
 mod layout;
 mod leaving;
 mod led;
-mod marks;
 mod merging;
 mod order;
 mod parts;
 mod plan;
-mod productive;
-mod rules;
 mod sweep;
 mod table;
 mod verdict;
 mod words;
 
 pub use errors::ReachError;
+pub use judge::Judge;
 pub use plan::Plan;
 pub use verdict::{list_verdict, list_verdict_by, word_verdict};
 pub use words::possible;
-
-#[cfg(test)]
-mod tests;

@@ -1,17 +1,20 @@
 //! The rules of a grammar over its components.
 //!
-//! Columns that lead to one another reach the same, so one of them stands for all: its rules are theirs, over the columns that stand for
-//! others. With `a` declared as `(b, c?)` and `b` as `(a?)`, the content of `a` derives itself, inside a missing `b` and a missing `a`,
-//! with a `c` behind it. Each place that it reaches gives the next one, so over n times `c` each place would take n rounds. A further column
-//! for any number of such followers gives the furthest place in a few rounds, and reaches nothing new.
+//! Columns that lead to one another reach the same, so one of them stands for all: its rules are
+//! theirs, over the columns that stand for others. With `a` declared as `(b, c?)` and `b` as
+//! `(a?)`, the content of `a` derives itself, inside a missing `b` and a missing `a`, with a `c`
+//! behind it. Each place that it reaches gives the next one, so over n times `c` each place would
+//! take n rounds. A further column for any number of such followers gives the furthest place in a
+//! few rounds, and reaches nothing new.
 
-ghost use Rattle.std.specs.Prelude.{◌≡◌, ◌+◌, ◌<◌, ◌^◌, ℕ, Contains, IfOk, IfSome, OnOk, get_or, length, map, slice_get};
+ghost use Rattle.std.specs.Prelude.{◌≡◌, ◌+◌, ◌<◌, ◌^◌, ℕ, Contains, IfOk, IfSome, OnOk, get_or};
+ghost use Rattle.std.specs.Prelude.{length, map, slice_get};
 ghost use Rattle.pv_reach.specs.Adding.{Adds};
-ghost use Rattle.pv_reach.specs.Merging.{AddsMerged, AreMerged, HasMerged, IsMerging, MayStandBehind, head_of, heads_of};
+ghost use Rattle.pv_reach.specs.Merging.{AddsMerged, AreMerged, HasMerged, IsMerging};
+ghost use Rattle.pv_reach.specs.Merging.{MayStandBehind, head_of, heads_of};
 
 use crate::adding::add;
-use crate::bare::is_open;
-use crate::rules::ColumnRule;
+use pv_columns::{ColumnRule, is_open};
 use std::alloc::{AllocError, Global};
 
 /// What the rules of a grammar are merged by.
@@ -58,10 +61,12 @@ fn further_of(merging: &Merging, head: usize) -> Option<usize>
     }
 }
 
-/// The first place on the right of a rule where its own column stands, or one that leads to it and is led to by it.
+/// The first place on the right of a rule where its own column stands, or one that leads to it and
+/// is led to by it.
 pub fn own_place(heads: &[usize], rule: &ColumnRule) -> Option<usize>
     ensures { IfSome result (λ k. (k < length rule.now.columns.items)
-        × (head_of heads.now (get_or rule.now.columns.items k 0) ≡ head_of heads.now rule.now.left)) }
+        × (head_of heads.now (get_or rule.now.columns.items k 0)
+        ≡ head_of heads.now rule.now.left)) }
 {
     let head = head_of(heads, rule.left);
     for (place, column) in rule.columns.iter().enumerate() {
@@ -142,7 +147,8 @@ fn add_followers(
     Ok(())
 }
 
-/// Adds the rule by which the further column of a column stands behind it, and the one by which it reaches nothing more.
+/// Adds the rule by which the further column of a column stands behind it, and the one by which it
+/// reaches nothing more.
 fn add_further(
     alloc: Global,
     rules: &[ColumnRule],
@@ -171,7 +177,8 @@ fn is_last(rules: &[ColumnRule], heads: &[usize], order: &[usize], place: usize)
     head_at(place) != head_at(place.saturating_add(1))
 }
 
-/// Adds what stands for a rule, and behind the last one of a component what stands for its further column.
+/// Adds what stands for a rule, and behind the last one of a component what stands for its further
+/// column.
 fn add_rule(
     alloc: Global,
     rules: &[ColumnRule],

@@ -3,8 +3,8 @@
 ghost use Rattle.std.specs.Prelude.{◌≡◌, ◌<◌, ℕ, Contains, IfOk, length};
 
 use crate::chains::Chains;
-use crate::marks::{is_marked, mark};
-use crate::rules::ColumnRule;
+use crate::flags::set_flag;
+use pv_columns::{ColumnRule, is_marked};
 use std::alloc::{AllocError, Global};
 
 /// The numbers in their order, each where it stands first.
@@ -12,10 +12,10 @@ fn each_once(alloc: Global, numbers: &[usize], count: usize) -> Result<Vec<usize
     ensures { IfOk result (λ once. (x : ℕ) → Contains numbers.now x → Contains once.items x) }
 {
     let mut once = Vec::new(alloc);
-    let mut marks = vec![in alloc; false; count]?;
+    let mut flags = vec![in alloc; false; count]?;
     for number in numbers {
-        if !is_marked(&marks, *number) {
-            mark(&mut marks, *number);
+        if !is_marked(&flags, *number) {
+            set_flag(&mut flags, *number);
             once.push(*number)?;
         }
     }
@@ -58,8 +58,8 @@ fn by_column(
     Ok(numbers)
 }
 
-/// The numbers of all rules, each once, those of these columns from the last column on: so what a column leads to comes before it, and a
-/// table is filled in few rounds.
+/// The numbers of all rules, each once, those of these columns from the last column on: so what a
+/// column leads to comes before it, and a table is filled in few rounds.
 pub fn rule_order(
     alloc: Global,
     rules: &[ColumnRule],

@@ -1,6 +1,6 @@
 //! The rules of the columns of parts.
 
-ghost use Rattle.std.specs.Prelude.{◌≡◌, ◌+◌, ◌<◌, ◌^◌, IfOk, Some, slice_get, suc};
+ghost use Rattle.std.specs.Prelude.{◌≡◌, ◌+◌, ◌<◌, ◌^◌, IfOk, Some, suc};
 ghost use Rattle.pv_model.specs.Plain.{PlainPart, PlainParts, choice, opt, plus, seq, star};
 ghost use Rattle.pv_model.specs.Plain as plain;
 ghost use Rattle.pv_rules.specs.Numbering.{part_at, rest_at};
@@ -8,26 +8,14 @@ ghost use Rattle.pv_productive.specs.PlainForms.{dtd_of};
 ghost use Rattle.pv_reach.specs.Adding.{IsRuleOfPart, LaysOut};
 ghost use Rattle.pv_reach.specs.Columns.{member_columns, part_column};
 ghost use Rattle.pv_productive.specs.Tables.{IsChoiceAt};
-ghost use Rattle.pv_reach.specs.Parts.{IsFlatPart, next_number};
+ghost use Rattle.pv_reach.specs.Parts.{next_number};
 
 use crate::adding::{add, part_column};
-use crate::rules::ColumnRule;
+use pv_columns::ColumnRule;
 use pv_model::{NameId, Token};
 use pv_productive::Grammar;
-use pv_rules::{FlatPart, Kind, Membership};
+use pv_rules::{Kind, Membership};
 use std::alloc::{AllocError, Global};
-
-fn part_in(parts: &[FlatPart], number: u32) -> Option<FlatPart>
-    ensures { result ≡ slice_get parts.now number }
-{
-    parts.get(number as usize).copied()
-}
-
-pub fn part_of(grammar: &Grammar, number: u32) -> Option<FlatPart>
-    ensures { IsFlatPart (dtd_of grammar.now) number result }
-{
-    part_in(grammar.flat().parts(), number)
-}
 
 /// An element of a name: it is there, or it is missing round its content.
 fn add_name(
@@ -53,7 +41,7 @@ fn add_name(
 fn next_member(grammar: &Grammar, number: u32) -> Option<u32>
     ensures { result ≡ next_number number (rest_at (dtd_of grammar.now) number) }
 {
-    let Some(part) = part_of(grammar, number) else {
+    let Some(part) = grammar.part_of(number) else {
         return None;
     };
     match part.membership {
@@ -112,7 +100,7 @@ fn add_choice(
     let mut member = number + 1;
     while member < end {
         add(alloc, rules, column, None, &[part_column(grammar, member)])?;
-        let Some(part) = part_of(grammar, member) else {
+        let Some(part) = grammar.part_of(member) else {
             unreachable!();
         };
         member = part.end;
@@ -179,7 +167,7 @@ pub fn add_part(
     ensures { IfOk result (λ _. LaysOut (dtd_of grammar.now) rules.old.items rules.new.items
         (part_column (dtd_of grammar.now) number) (IsRuleOfPart (dtd_of grammar.now) number)) }
 {
-    let Some(part) = part_of(grammar, number) else {
+    let Some(part) = grammar.part_of(number) else {
         return Ok(());
     };
     match part.kind {

@@ -8,22 +8,26 @@ ghost use Rattle.pv_reach.specs.Plans.{IsPlan};
 use crate::adding::any_column;
 use crate::bare::bare_columns;
 use crate::components::components_of;
+use crate::free::free_names;
 use crate::layout::rules_of;
 use crate::led::merging_of;
 use crate::merging::merge;
 use crate::order::rule_order;
-use crate::rules::ColumnRule;
 use pv_chars::NoMemory;
+use pv_columns::{ColumnRule, FreeSets};
 use pv_productive::Grammar;
 use std::alloc::{AllocError, Global};
 
-/// The rules by which the columns of a grammar reach over words: whoever finds many verdicts lays them out once.
+/// The rules by which the columns of a grammar reach over words: whoever finds many verdicts lays
+/// them out once.
 #[derive(Debug, Drop)]
 pub struct Plan {
     pub(crate) rules: Vec<ColumnRule>,
     /// For each column of the DTD the one that stands for it.
     pub(crate) heads: Vec<usize>,
     pub(crate) width: usize,
+    /// The sets of the names whose content is free.
+    pub(crate) free: FreeSets,
 }
 
 impl Plan {
@@ -57,9 +61,12 @@ fn plan_over(alloc: Global, grammar: &Grammar, rules: &[ColumnRule]) -> Result<P
     let merging = merging_of(alloc, rules, bare, components.heads)?;
     let merged = merge(alloc, rules, &merging, &order)?;
     let wider = width + merging.led.len();
+    let names = grammar.dtd().count() as usize;
+    let free = free_names(alloc, &merged, &merging, names, wider)?;
     Ok(Plan {
         rules: merged,
         heads: merging.heads,
         width: wider,
+        free,
     })
 }

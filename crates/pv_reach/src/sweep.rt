@@ -6,10 +6,12 @@ ghost use Rattle.pv_reach.specs.declared.edges.Edge.{Edge as PlainEdge};
 
 use crate::chains::Chains;
 use crate::edges::Edge;
-use crate::marks::{is_marked, mark};
+use crate::flags::set_flag;
+use pv_columns::is_marked;
 use std::alloc::{AllocError, Global};
 
-/// What a sweep has come to: for each column one that it leads to, at first itself; which columns it came to; and these in order.
+/// What a sweep has come to: for each column one that it leads to, at first itself; which columns
+/// it came to; and these in order.
 #[derive(Debug, Drop)]
 pub struct Sweep {
     pub table: Vec<usize>,
@@ -34,7 +36,7 @@ fn come_to(column: usize, sweep: &mut Sweep) -> Result<(), AllocError>
     ensures { sweep.new.table.items ≡ sweep.old.table.items }
 {
     if !is_marked(&sweep.seen, column) {
-        mark(&mut sweep.seen, column);
+        set_flag(&mut sweep.seen, column);
         sweep.columns.push(column)?;
     }
     Ok(())
@@ -53,7 +55,8 @@ fn lead(edges: &[Edge], number: usize, table: &mut Vec<usize>)
     }
 }
 
-/// Whether the sweep has not come to the column of the edge, and it is in the group of the one that it leads to.
+/// Whether the sweep has not come to the column of the edge, and it is in the group of the one that
+/// it leads to.
 fn is_fresh(edge: Edge, groups: &[usize], seen: &[bool]) -> bool {
     !is_marked(seen, edge.from) && groups.get(edge.from) == groups.get(edge.to)
 }
@@ -127,7 +130,8 @@ fn go_on(
     Ok(at)
 }
 
-/// Sweeps from these columns, each where no earlier one was led to it, against the edges; but only where both ends are in one group.
+/// Sweeps from these columns, each where no earlier one was led to it, against the edges; but only
+/// where both ends are in one group.
 pub fn sweep_from(
     alloc: Global,
     edges: &[Edge],
@@ -136,7 +140,8 @@ pub fn sweep_from(
     columns: &[usize],
     width: usize,
 ) -> Result<Sweep, AllocError>
-    ensures { IfOk result (λ sweep. (length sweep.table.items ≡ width) × AreLed edges.now sweep.table.items) }
+    ensures { IfOk result (λ sweep. (length sweep.table.items ≡ width) ×
+        AreLed edges.now sweep.table.items) }
 {
     let mut sweep = Sweep {
         table: numbers_below(alloc, width)?,

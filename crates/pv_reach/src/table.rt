@@ -3,13 +3,17 @@
 //! The table has a row of columns for each place. A cell is one past the furthest place that its
 //! column reaches from there, and 0 where it reaches none, so raising a cell is the only change.
 //! Rows are filled from the last place to the first. At a place the rules are gone over until none
-//! raises a cell: a right side reads its token first, and then goes from each column to the next one
-//! by the furthest places, which is enough since the ends from a place are an interval.
-ghost use Rattle.std.specs.Prelude.{◌↔◌, IsTrue, [], ◌∷◌, ◌≡◌, ◌≤◌, ◌<◌, ℕ, suc, ◌+◌, ◌*◌, ◌^◌, IfOk, IfSome, IsNone, All, Contains, slice_index, length, false, true};
-ghost use Rattle.pv_reach.specs.ColumnRules.{Reads, Reaches, TokensMayBeMissing, EndsAreIntervals, InRange};
-ghost use Rattle.pv_reach.specs.Tables.{cell, past, IsTable, IsAttained, IsClosedAt, IsComplete, IsFurthest, room};
+//! raises a cell: a right side reads its token first, and then goes from each column to the next
+//! one by the furthest places, which is enough since the ends from a place are an interval.
+ghost use Rattle.std.specs.Prelude.{◌↔◌, IsTrue, [], ◌∷◌, ◌≡◌, ◌≤◌, ◌<◌, ℕ, suc, ◌+◌, ◌*◌, ◌^◌};
+ghost use Rattle.std.specs.Prelude.{IfOk, IfSome, IsNone, All, Contains, slice_index, length};
+ghost use Rattle.std.specs.Prelude.{false, true};
+ghost use Rattle.pv_columns.specs.ColumnRules.{Reads, ReadThrough, TokensMayBeMissing};
+ghost use Rattle.pv_columns.specs.ColumnRules.{EndsAreIntervals, InRange};
+ghost use Rattle.pv_reach.specs.Tables.{cell, past, IsTable, IsAttained, IsClosedAt, IsComplete};
+ghost use Rattle.pv_reach.specs.Tables.{IsFurthest, room};
 
-use crate::rules::ColumnRule;
+use pv_columns::ColumnRule;
 use pv_model::Token;
 use std::alloc::{AllocError, Global};
 
@@ -38,8 +42,10 @@ fn past_rule(rule: &ColumnRule, start: usize, word: &[Token], width: usize, tabl
     requires short { length word.now < 2 ^ 26 }
     requires in_range { All (λ c. c < width) rule.now.columns.items }
     requires table { IsTable word.now width table.now }
-    ensures offered { 0 < result → (m : ℕ) × Reads word.now rule.now.token start m × (result ≡ past width table.now rule.now.columns.items m) }
-    ensures most { (m : ℕ) → Reads word.now rule.now.token start m → past width table.now rule.now.columns.items m ≤ result }
+    ensures offered { 0 < result → (m : ℕ) × Reads word.now rule.now.token start m ×
+        (result ≡ past width table.now rule.now.columns.items m) }
+    ensures most { (m : ℕ) → Reads word.now rule.now.token start m →
+        past width table.now rule.now.columns.items m ≤ result }
 {
     match rule.token {
         None => past_columns(&rule.columns, start, word, width, table),
@@ -70,7 +76,8 @@ fn raise(
     ensures attained { IsAttained rules.now word.now width table.new }
     ensures rises { (k : ℕ) → slice_index table.old k ≤ slice_index table.new k }
     ensures closed { result ≡ false → IsClosedAt rules.now word.now width table.new place }
-    ensures less { result ≡ true → room (suc (length word.now)) table.new < room (suc (length word.now)) table.old }
+    ensures less { result ≡ true → room (suc (length word.now)) table.new
+        < room (suc (length word.now)) table.old }
 {
     let mut changed = false;
     for rule in rules {
@@ -118,9 +125,10 @@ pub fn furthest_place(
     requires in_range { All (λ c. c < width) columns.now }
     requires missing { TokensMayBeMissing rules.now word.now }
     requires table { IsFurthest rules.now word.now width table.now }
-    ensures none { IsNone result → (j : ℕ) → ¬ Reaches rules.now word.now columns.now start j }
-    ensures some { IfSome result (λ j. Reaches rules.now word.now columns.now start j) }
-    ensures most { IfSome result (λ j. (k : ℕ) → Reaches rules.now word.now columns.now start k → k ≤ j) }
+    ensures none { IsNone result → (j : ℕ) → ¬ ReadThrough rules.now word.now columns.now start j }
+    ensures some { IfSome result (λ j. ReadThrough rules.now word.now columns.now start j) }
+    ensures most { IfSome result (λ j. (k : ℕ) →
+        ReadThrough rules.now word.now columns.now start k → k ≤ j) }
 {
     match past_columns(columns, start, word, width, table) {
         0 => None,
@@ -142,7 +150,7 @@ pub fn reaches_end(
     requires in_range { InRange width rules.now }
     requires missing { TokensMayBeMissing rules.now word.now }
     ensures { IfOk result (λ b. IsTrue b ↔
-        Reaches rules.now word.now (column ∷ []) 0 (length word.now)) }
+        ReadThrough rules.now word.now (column ∷ []) 0 (length word.now)) }
 {
     let table = fill(alloc, rules, word, width)?;
     Ok(furthest_place(rules, &[column], 0, word, width, &table) == Some(word.len()))

@@ -1,9 +1,12 @@
 //! The verdict of a list.
 
-ghost use Rattle.std.specs.Prelude.{◌≡◌, ◌↔◌, ◌+◌, ◌<◌, ◌^◌, ℕ, Bool, IsTrue, List, IfErr, IfOk, IfSome, Some, length, map};
+ghost use Rattle.std.specs.Prelude.{◌≡◌, ◌↔◌, ◌+◌, ◌<◌, ◌^◌, ℕ, Bool, IsTrue, List, IfErr, IfOk};
+ghost use Rattle.std.specs.Prelude.{IfSome, Some, length, map};
 ghost use Rattle.std.specs.Option.{option_map};
+ghost use Rattle.pv_model.specs.Models.{Allows};
 ghost use Rattle.pv_model.specs.Plain.{empty};
 ghost use Rattle.pv_model.specs.PlainForms.{plain_model, plain_token};
+ghost use Rattle.pv_dtd.specs.Plain.{declared};
 ghost use Rattle.pv_rules.specs.Sites.{HasSite, content_site, name_site};
 ghost use Rattle.pv_productive.specs.PlainForms.{dtd_of};
 ghost use Rattle.pv_tree.specs.Lists.{Listed};
@@ -15,16 +18,16 @@ ghost use Rattle.pv_missing.specs.PlainForms.{plain_of};
 ghost use Rattle.pv_missing.specs.Verdicts.{IsVerdict};
 ghost use Rattle.pv_missing.specs.WordVerdicts.{HoldsOne, IsVerdictByWord};
 ghost use Rattle.pv_missing.specs.Widths.{FitsVerdict};
-ghost use Rattle.pv_reach.specs.Owners.{IsOwner};
-ghost use Rattle.pv_reach.specs.Plans.{IsPlan};
+ghost use Rattle.pv_missing.specs.Owners.{IsOwner};
 ghost use Rattle.pv_reach.specs.declared.errors.ReachError.TheVariants.{TooWide as too_wide};
 
 use crate::errors::ReachError;
+use crate::judge::Judge;
 use crate::plan::Plan;
-use crate::productive::are_productive;
 use crate::words::{content_derives, is_element};
-use pv_missing::{Of, is_narrow};
-use pv_model::{ContentModel, NameId, NoMemory, Token, matches};
+use pv_chars::NoMemory;
+use pv_missing::{Of, are_productive, is_narrow};
+use pv_model::{ContentModel, NameId, Token, matches};
 use pv_productive::Grammar;
 use pv_steps::Steps;
 use pv_tree::{Node, Verdict, word};
@@ -32,45 +35,38 @@ use std::alloc::Global;
 use std::sync::ledger::Ledger;
 
 /// The verdict of the document node's list by its word.
-fn judge_root(
-    alloc: Global,
-    grammar: &Grammar,
-    plan: &Plan,
-    id: NameId,
-    word: &[Token],
-) -> Result<Verdict, NoMemory>
-    requires plan { IsPlan (dtd_of grammar.now) plan.now }
-    requires fits { FitsVerdict (dtd_of grammar.now) (length word.now) }
-    requires productive { AreProductiveTokens (dtd_of grammar.now) (map plain_token word.now) }
-    ensures { IfOk result (λ verdict. (none : Bool) → IsVerdictByWord (dtd_of grammar.now) (Some (name_site id.0))
+fn judge_root(judge: &Judge<'_>, id: NameId, word: &[Token]) -> Result<Verdict, NoMemory>
+    requires fits { FitsVerdict (dtd_of judge.now) (length word.now) }
+    requires productive { AreProductiveTokens (dtd_of judge.now) (map plain_token word.now) }
+    ensures { IfOk result (λ verdict. (none : Bool) →
+        IsVerdictByWord (dtd_of judge.now) (Some (name_site id.0))
         (map plain_token word.now) none verdict) }
 {
     if is_element(id, word) {
         return Ok(Verdict::Valid);
     }
-    if content_derives(alloc, grammar, plan, id, word)? {
+    if content_derives(judge, id, word)? {
         Ok(Verdict::Possible)
     } else {
         Ok(Verdict::Impossible)
     }
 }
 
-/// The verdict of an element's list by its word; a word that the content model allows needs no table.
+/// The verdict of an element's list by its word; a word that the content model allows needs no
+/// table.
 fn judge_content(
-    alloc: Global,
-    grammar: &Grammar,
-    plan: &Plan,
+    judge: &Judge<'_>,
     id: NameId,
     word: &[Token],
     is_bare: bool,
 ) -> Result<Verdict, NoMemory>
-    requires plan { IsPlan (dtd_of grammar.now) plan.now }
-    requires known { HasSite (dtd_of grammar.now) (content_site id.0) }
-    requires fits { FitsVerdict (dtd_of grammar.now) (length word.now) }
-    requires productive { AreProductiveTokens (dtd_of grammar.now) (map plain_token word.now) }
-    ensures { IfOk result (λ verdict. IsVerdictByWord (dtd_of grammar.now) (Some (content_site id.0))
+    requires known { HasSite (dtd_of judge.now) (content_site id.0) }
+    requires fits { FitsVerdict (dtd_of judge.now) (length word.now) }
+    requires productive { AreProductiveTokens (dtd_of judge.now) (map plain_token word.now) }
+    ensures { IfOk result (λ verdict. IsVerdictByWord (dtd_of judge.now) (Some (content_site id.0))
         (map plain_token word.now) is_bare verdict) }
 {
+    let grammar = judge.grammar();
     let has_elements = grammar.is_productive(id);
     if !has_elements {
         return Ok(Verdict::Impossible);
@@ -81,14 +77,22 @@ fn judge_content(
     if !may_have_kids(model, is_bare) {
         return Ok(Verdict::Impossible);
     }
-    if matches(alloc, model, grammar.dtd().count(), word)? {
+    if is_allowed(judge, model, word)? {
         return Ok(Verdict::Valid);
     }
-    if content_derives(alloc, grammar, plan, id, word)? {
+    if content_derives(judge, id, word)? {
         Ok(Verdict::Possible)
     } else {
         Ok(Verdict::Impossible)
     }
+}
+
+/// Whether a content model allows a word.
+fn is_allowed(judge: &Judge<'_>, model: &ContentModel, word: &[Token]) -> Result<bool, NoMemory>
+    ensures { IfOk result (λ is. IsTrue is ↔ Allows (declared (dtd_of judge.now))
+        (plain_model model.now) (map plain_token word.now)) }
+{
+    matches(judge.alloc(), model, judge.grammar().dtd().count(), word).map_err(|_| NoMemory)
 }
 
 /// Whether an element of this model may have kids, or has none of any kind.
@@ -104,140 +108,115 @@ fn may_have_kids(model: &ContentModel, is_bare: bool) -> bool
 }
 
 /// The verdict of a list by its owner, its word, and whether it has no kids of any kind.
-fn judge(
-    alloc: Global,
-    grammar: &Grammar,
-    plan: &Plan,
+fn judge_owned(
+    judge: &Judge<'_>,
     of: Of,
     word: &[Token],
     is_bare: bool,
 ) -> Result<Verdict, NoMemory>
-    requires plan { IsPlan (dtd_of grammar.now) plan.now }
-    requires known { HasSite (dtd_of grammar.now) (plain_of of) }
-    requires fits { FitsVerdict (dtd_of grammar.now) (length word.now) }
-    ensures { IfOk result (λ verdict. IsVerdictByWord (dtd_of grammar.now) (Some (plain_of of))
+    requires known { HasSite (dtd_of judge.now) (plain_of of) }
+    requires fits { FitsVerdict (dtd_of judge.now) (length word.now) }
+    ensures { IfOk result (λ verdict. IsVerdictByWord (dtd_of judge.now) (Some (plain_of of))
         (map plain_token word.now) is_bare verdict) }
 {
-    if !are_productive(grammar, word) {
+    if !are_productive(judge.grammar(), word) {
         return Ok(Verdict::Impossible);
     }
     match of {
-        Of::Root(id) => judge_root(alloc, grammar, plan, id, word),
-        Of::Elem(id) => judge_content(alloc, grammar, plan, id, word, is_bare),
+        Of::Root(id) => judge_root(judge, id, word),
+        Of::Elem(id) => judge_content(judge, id, word, is_bare),
     }
 }
 
 /// The verdict of a list whose owner may have no site, where the list isn't too wide.
 fn judge_word(
-    alloc: Global,
-    grammar: &Grammar,
-    plan: &Plan,
+    judge: &Judge<'_>,
     owner: Option<Of>,
     word: &[Token],
     is_bare: bool,
 ) -> Result<Verdict, ReachError>
-    requires plan { IsPlan (dtd_of grammar.now) plan.now }
-    requires known { IfSome owner (λ of. HasSite (dtd_of grammar.now) (plain_of of)) }
-    ensures verdict { IfOk result (λ verdict. IsVerdictByWord (dtd_of grammar.now)
+    requires known { IfSome owner (λ of. HasSite (dtd_of judge.now) (plain_of of)) }
+    ensures verdict { IfOk result (λ verdict. IsVerdictByWord (dtd_of judge.now)
         (option_map plain_of owner) (map plain_token word.now) is_bare verdict) }
-    ensures fits { IfOk result (λ _. FitsVerdict (dtd_of grammar.now) (length word.now)) }
+    ensures fits { IfOk result (λ _. FitsVerdict (dtd_of judge.now) (length word.now)) }
     ensures wide { IfErr result (λ e. e ≡ too_wide →
-        ¬ FitsVerdict (dtd_of grammar.now) (length word.now)) }
+        ¬ FitsVerdict (dtd_of judge.now) (length word.now)) }
 {
-    if !is_narrow(grammar.dtd(), word.len() as u64) {
+    if !is_narrow(judge.grammar().dtd(), word.len() as u64) {
         return Err(ReachError::TooWide);
     }
     let Some(of) = owner else {
         return Ok(Verdict::Impossible);
     };
-    let verdict = judge(alloc, grammar, plan, of, word, is_bare)?;
+    let verdict = judge_owned(judge, of, word, is_bare)?;
     Ok(verdict)
 }
 
 /// The verdict of the list of these kids, where it isn't too wide.
-fn judge_kids(
-    alloc: Global,
-    grammar: &Grammar,
-    plan: &Plan,
-    owner: Option<Of>,
-    kids: &[Node],
-) -> Result<Verdict, ReachError>
-    requires plan { IsPlan (dtd_of grammar.now) plan.now }
-    requires known { IfSome owner (λ of. HasSite (dtd_of grammar.now) (plain_of of)) }
+fn judge_kids(judge: &Judge<'_>, owner: Option<Of>, kids: &[Node]) -> Result<Verdict, ReachError>
+    requires known { IfSome owner (λ of. HasSite (dtd_of judge.now) (plain_of of)) }
     ensures verdict { IfOk result (λ verdict. (root : List ℕ) (list : Listed Mark) →
-        list.kids ≡ forest kids.now → IsOwner (dtd_of grammar.now) root list owner →
-        HoldsOne list.owner list.kids → IsVerdict (dtd_of grammar.now) root list verdict) }
-    ensures fits { IfOk result (λ _. FitsVerdict (dtd_of grammar.now)
-        (length (word_of (dtd_of grammar.now) (forest kids.now)))) }
-    ensures wide { IfErr result (λ e. e ≡ too_wide → ¬ FitsVerdict (dtd_of grammar.now)
-        (length (word_of (dtd_of grammar.now) (forest kids.now)))) }
+        list.kids ≡ forest kids.now → IsOwner (dtd_of judge.now) root list owner →
+        HoldsOne list.owner list.kids → IsVerdict (dtd_of judge.now) root list verdict) }
+    ensures fits { IfOk result (λ _. FitsVerdict (dtd_of judge.now)
+        (length (word_of (dtd_of judge.now) (forest kids.now)))) }
+    ensures wide { IfErr result (λ e. e ≡ too_wide → ¬ FitsVerdict (dtd_of judge.now)
+        (length (word_of (dtd_of judge.now) (forest kids.now)))) }
 {
-    let tokens = word(alloc, grammar.dtd(), kids)?;
-    let verdict = judge_word(
-        alloc,
-        grammar,
-        plan,
-        owner,
-        tokens.as_slice(),
-        kids.is_empty(),
-    )?;
+    let tokens = word(judge.alloc(), judge.grammar().dtd(), kids)?;
+    let verdict = judge_word(judge, owner, tokens.as_slice(), kids.is_empty())?;
     Ok(verdict)
 }
 
-/// The verdict of a list by a plan of the grammar, its owner, its word, and whether it has no kids of any kind: as that of `list_verdict`,
-/// without a tree.
+/// The verdict of a list by its owner, its word, and whether it has no kids of any kind: as that of
+/// `list_verdict`, without a tree.
 pub fn word_verdict<L: Ledger>(
-    alloc: Global,
-    grammar: &Grammar,
-    plan: &Plan,
+    judge: &Judge<'_>,
     owner: Option<Of>,
     word: &[Token],
     is_bare: bool,
     steps: &mut Steps<L>,
 ) -> Result<Verdict, ReachError>
-    requires plan { IsPlan (dtd_of grammar.now) plan.now }
-    requires known { IfSome owner (λ of. HasSite (dtd_of grammar.now) (plain_of of)) }
-    ensures verdict { IfOk result (λ verdict. IsVerdictByWord (dtd_of grammar.now)
+    requires known { IfSome owner (λ of. HasSite (dtd_of judge.now) (plain_of of)) }
+    ensures verdict { IfOk result (λ verdict. IsVerdictByWord (dtd_of judge.now)
         (option_map plain_of owner) (map plain_token word.now) is_bare verdict) }
-    ensures fits { IfOk result (λ _. FitsVerdict (dtd_of grammar.now) (length word.now)) }
+    ensures fits { IfOk result (λ _. FitsVerdict (dtd_of judge.now) (length word.now)) }
     ensures wide { IfErr result (λ e. e ≡ too_wide →
-        ¬ FitsVerdict (dtd_of grammar.now) (length word.now)) }
+        ¬ FitsVerdict (dtd_of judge.now) (length word.now)) }
     ensures steps { steps.new ≡ steps.old + 1 }
 {
     steps.tick();
-    judge_word(alloc, grammar, plan, owner, word, is_bare)
+    judge_word(judge, owner, word, is_bare)
 }
 
-/// The verdict of a list by a plan of the grammar, as `list_verdict` finds it.
+/// The verdict of a list, as `list_verdict` finds it.
 pub fn list_verdict_by<L: Ledger>(
-    alloc: Global,
-    grammar: &Grammar,
-    plan: &Plan,
+    judge: &Judge<'_>,
     owner: Option<Of>,
     kids: &[Node],
     steps: &mut Steps<L>,
 ) -> Result<Verdict, ReachError>
-    requires plan { IsPlan (dtd_of grammar.now) plan.now }
-    requires known { IfSome owner (λ of. HasSite (dtd_of grammar.now) (plain_of of)) }
+    requires known { IfSome owner (λ of. HasSite (dtd_of judge.now) (plain_of of)) }
     ensures verdict { IfOk result (λ verdict. (root : List ℕ) (list : Listed Mark) →
-        list.kids ≡ forest kids.now → IsOwner (dtd_of grammar.now) root list owner →
-        HoldsOne list.owner list.kids → IsVerdict (dtd_of grammar.now) root list verdict) }
-    ensures fits { IfOk result (λ _. FitsVerdict (dtd_of grammar.now)
-        (length (word_of (dtd_of grammar.now) (forest kids.now)))) }
-    ensures wide { IfErr result (λ e. e ≡ too_wide → ¬ FitsVerdict (dtd_of grammar.now)
-        (length (word_of (dtd_of grammar.now) (forest kids.now)))) }
+        list.kids ≡ forest kids.now → IsOwner (dtd_of judge.now) root list owner →
+        HoldsOne list.owner list.kids → IsVerdict (dtd_of judge.now) root list verdict) }
+    ensures fits { IfOk result (λ _. FitsVerdict (dtd_of judge.now)
+        (length (word_of (dtd_of judge.now) (forest kids.now)))) }
+    ensures wide { IfErr result (λ e. e ≡ too_wide → ¬ FitsVerdict (dtd_of judge.now)
+        (length (word_of (dtd_of judge.now) (forest kids.now)))) }
     ensures steps { steps.new ≡ steps.old + 1 }
 {
     steps.tick();
-    judge_kids(alloc, grammar, plan, owner, kids)
+    judge_kids(judge, owner, kids)
 }
 
-/// The verdict of a list: `owner` is `None` where the DTD doesn't have the name of the element that owns it, or, for the document node,
-/// the root's name.
+/// The verdict of a list: `owner` is `None` where the DTD doesn't have the name of the element that
+/// owns it, or, for the document node, the root's name.
 ///
-/// `TooWide` is asked before the verdict. A list that is valid by itself, whose owner and names are productive, takes no table. The call makes
-/// a plan of the grammar; who asks for many verdicts makes it once, for `list_verdict_by`.
-/// The document node's list is its root alone; of other kids with this owner nothing is said.
+/// `TooWide` is asked before the verdict. A list that is valid by itself, whose owner and names are
+/// productive, takes no table. The call lays out a plan of the grammar; who asks for many verdicts
+/// lays it out once, and asks `list_verdict_by`. The document node's list is its root alone; of
+/// other kids with this owner nothing is said.
 pub fn list_verdict<L: Ledger>(
     alloc: Global,
     grammar: &Grammar,
@@ -257,5 +236,6 @@ pub fn list_verdict<L: Ledger>(
 {
     steps.tick();
     let plan = Plan::of(alloc, grammar)?;
-    judge_kids(alloc, grammar, &plan, owner, kids)
+    let judge = Judge::new(alloc, grammar, &plan);
+    judge_kids(&judge, owner, kids)
 }

@@ -9,11 +9,11 @@ ghost use Rattle.pv_missing.specs.LiveWords.{AreProductiveTokens};
 ghost use Rattle.pv_missing.specs.PlainForms.{plain_of};
 ghost use Rattle.pv_missing.specs.Widths.{FitsVerdict};
 ghost use Rattle.pv_missing.specs.WordVerdicts.{IsPossibleAt};
-ghost use Rattle.pv_reach.specs.Deriving.{DerivesAt};
-ghost use Rattle.pv_reach.specs.Plans.{IsPlan};
+ghost use Rattle.pv_rules.specs.Deriving.{DerivesAt};
 ghost use Rattle.pv_reach.specs.declared.errors.ReachError.TheVariants.{TooWide as too_wide};
 
 use crate::errors::ReachError;
+use crate::judge::Judge;
 use crate::merging::head_of;
 use crate::plan::Plan;
 use crate::table::reaches_end;
@@ -24,25 +24,28 @@ use pv_steps::Steps;
 use std::alloc::{AllocError, Global};
 use std::sync::ledger::Ledger;
 
-/// Whether the content of a name derives the whole word.
+/// Whether the content of a name derives the whole word. Free content derives each word of tokens
+/// that it takes, so that no table is needed.
 pub(crate) fn content_derives(
-    alloc: Global,
-    grammar: &Grammar,
-    plan: &Plan,
+    judge: &Judge<'_>,
     id: NameId,
     word: &[Token],
 ) -> Result<bool, AllocError>
-    requires plan { IsPlan (dtd_of grammar.now) plan.now }
-    requires fits { FitsVerdict (dtd_of grammar.now) (length word.now) }
-    requires productive { AreProductiveTokens (dtd_of grammar.now) (map plain_token word.now) }
-    ensures { IfOk result (λ b. IsTrue b ↔ DerivesAt (dtd_of grammar.now)
+    requires fits { FitsVerdict (dtd_of judge.now) (length word.now) }
+    requires productive { AreProductiveTokens (dtd_of judge.now) (map plain_token word.now) }
+    ensures { IfOk result (λ b. IsTrue b ↔ DerivesAt (dtd_of judge.now)
         (map plain_token word.now) (content_site id.0) 0 (length word.now)) }
 {
+    let grammar = judge.grammar();
     if id.0 >= grammar.dtd().count() {
         return Ok(false);
     }
+    let plan = judge.plan();
+    if let Some(covers) = plan.free.covers(id.0 as usize, word) {
+        return Ok(covers);
+    }
     let column = head_of(&plan.heads, id.0 as usize);
-    reaches_end(alloc, &plan.rules, word, plan.width, column)
+    reaches_end(judge.alloc(), &plan.rules, word, plan.width, column)
 }
 
 /// Whether the word is one element of this name.
@@ -53,29 +56,24 @@ pub(crate) fn is_element(id: NameId, word: &[Token]) -> bool
 }
 
 /// Whether a word that isn't too wide is possible, by a plan of the grammar.
-fn is_possible(
-    alloc: Global,
-    grammar: &Grammar,
-    plan: &Plan,
-    of: Of,
-    word: &[Token],
-) -> Result<bool, AllocError>
-    requires plan { IsPlan (dtd_of grammar.now) plan.now }
-    requires fits { FitsVerdict (dtd_of grammar.now) (length word.now) }
-    requires productive { AreProductiveTokens (dtd_of grammar.now) (map plain_token word.now) }
+fn is_possible(judge: &Judge<'_>, of: Of, word: &[Token]) -> Result<bool, AllocError>
+    requires fits { FitsVerdict (dtd_of judge.now) (length word.now) }
+    requires productive { AreProductiveTokens (dtd_of judge.now) (map plain_token word.now) }
     ensures { IfOk result (λ b. IsTrue b ↔
-        IsPossibleAt (dtd_of grammar.now) (plain_of of) (map plain_token word.now)) }
+        IsPossibleAt (dtd_of judge.now) (plain_of of) (map plain_token word.now)) }
 {
     let derives = match of {
-        Of::Root(id) => is_element(id, word) || content_derives(alloc, grammar, plan, id, word)?,
-        Of::Elem(id) => content_derives(alloc, grammar, plan, id, word)?,
+        Of::Root(id) => is_element(id, word) || content_derives(judge, id, word)?,
+        Of::Elem(id) => content_derives(judge, id, word)?,
     };
     Ok(derives)
 }
 
-/// Whether a word of productive names is possible for the document node or for the content of an element.
+/// Whether a word of productive names is possible for the document node or for the content of an
+/// element.
 ///
-/// `TooWide` is asked first, and takes no memory. The table takes four bytes for each column and each place of the word.
+/// `TooWide` is asked first, and takes no memory. Where the content isn't free there is a table,
+/// which takes four bytes for each column and each place of the word.
 pub fn possible<L: Ledger>(
     alloc: Global,
     grammar: &Grammar,
@@ -97,6 +95,7 @@ pub fn possible<L: Ledger>(
         return Err(ReachError::TooWide);
     }
     let plan = Plan::of(alloc, grammar)?;
-    let derives = is_possible(alloc, grammar, &plan, of, word)?;
+    let judge = Judge::new(alloc, grammar, &plan);
+    let derives = is_possible(&judge, of, word)?;
     Ok(derives)
 }

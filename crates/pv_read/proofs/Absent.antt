@@ -8,7 +8,7 @@ use Rattle.std.specs.Char.{is_digit}
 use lib.Utf8.{encode, encodes, next}
 use Rattle.pv_chars.specs.Characters.{is_name_char, AreAll}
 use Rattle.pv_chars.specs.Names.{IsName}
-use Rattle.pv_chars.specs.Fronts.{Holds}
+use Rattle.pv_chars.specs.Fronts.{ContainsBytes}
 use Rattle.pv_chars.specs.References.{IsReference}
 use Rattle.pv_chars.proofs.NameLemmas.{name_is_run}
 use Rattle.pv_chars.proofs.Utf8Lemmas.{one_byte, two_bytes, three_bytes, four_bytes}
@@ -20,7 +20,7 @@ has_no b bytes = list_all (λ x. not (x == b)) bytes
 apart : (x b : ℕ) → (x ≡ b → ⊥) → not (x == b) ≡ true
 apart x b other = rw (ne_eqb x b other) refl
 
-pub by_holds : (b : ℕ) (bytes : List ℕ) → (Holds bytes (b ∷ []) → ⊥) → has_no b bytes ≡ true
+pub by_holds : (b : ℕ) (bytes : List ℕ) → (ContainsBytes bytes (b ∷ []) → ⊥) → has_no b bytes ≡ true
 by_holds b [] none = refl
 by_holds b (x ∷ xs) none = and_from (not (x == b)) (has_no b xs)
     (apart x b (λ e. none record { before = []; after = xs; whole = ap (λ y. y ∷ xs) e }))
@@ -32,7 +32,7 @@ not_behind b [] after e =
     let other : (b == b) ≡ false = not-true (b == b) (and_parts (not (b == b)) (has_no b after) e).0 in cc
 not_behind b (x ∷ xs) after e = not_behind b xs after (and_parts (not (x == b)) (has_no b (xs ++ (b ∷ after))) e).1
 
-pub holds_not : (b : ℕ) (bytes : List ℕ) → has_no b bytes ≡ true → Holds bytes (b ∷ []) → ⊥
+pub holds_not : (b : ℕ) (bytes : List ℕ) → has_no b bytes ≡ true → ContainsBytes bytes (b ∷ []) → ⊥
 holds_not b bytes e h = not_behind b h.before h.after (let P : List ℕ → Type 0 = λ l. has_no b l ≡ true in subst P h.whole e)
 
 -- in both of two parts

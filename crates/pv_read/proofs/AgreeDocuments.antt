@@ -6,17 +6,18 @@ use Rattle.pv_chars.specs.Spaces.{is_space}
 use Rattle.pv_chars.proofs.SpaceLemmas.{space_is_ascii}
 use Rattle.pv_chars.specs.Texts.{joined}
 use Rattle.pv_chars.specs.Declarations.{IsOptional, IsXmlDecl}
-use Rattle.pv_dtd.specs.Meaning.{BYTE_ORDER_MARK}
+use Rattle.pv_chars.specs.ByteOrderMark.{BYTE_ORDER_MARK}
 use Rattle.pv_tree.specs.Plain.{short, tagged, Tree, element, text_node, cdata_node, misc_node, PlainDoc, depth_of, depth_of_all, map_marks, map_marks_all}
 use Rattle.pv_tree.specs.Attributes.{AreMadeOf}
 use Rattle.pv_tree.specs.Prolog.{IsMisc, IsDoctype}
-use Rattle.pv_tree.specs.Legal.{MAX_DEPTH}
+use Rattle.pv_read.specs.Limits.{TextLimits}
 use Rattle.pv_read.specs.DocumentLaws.{with_marks}
-use Rattle.pv_read.specs.Grammar.{SpellsDocument, SpellsNode, IsElement, IsDocumentText}
+use Rattle.pv_read.specs.Grammar.{SpellsDocument, SpellsNode, IsElement, IsDocumentTextWithin}
 use Rattle.pv_read.specs.Items.{end_tag, bytes_of, IsRunEnd}
 use Rattle.pv_read.proofs.AgreeForms.{node_ends_run}
 use Rattle.pv_read.specs.Left.{Left, at_front, PlainStage, in_prolog, in_epilog, just_opened, empty_element}
-use Rattle.pv_read.specs.Meaning.{is_document, ends, StartsWith, marked, unmarked, DocumentMeans, items}
+use Rattle.pv_read.specs.Meaning.{is_document, ends, DocumentMeansWithin, items}
+use Rattle.pv_chars.specs.ByteOrderMark.{TakesByteOrderMark, marked, unmarked}
 use Rattle.pv_read.proofs.AgreeNodes.{HoldsBefore, within_of, empty_means, tagged_means, content_means}
 use Rattle.pv_read.proofs.AgreeMeans.{ItemsAreOne, MeansAt, means_before}
 use Rattle.pv_read.proofs.AgreeProlog.{prolog_means, epilog_means}
@@ -89,17 +90,17 @@ element_ends_run (text_node units) bytes rest is spells = absurd is
 element_ends_run (cdata_node section) bytes rest is spells = absurd is
 element_ends_run (misc_node misc) bytes rest is spells = absurd is
 
-starts_with : (bytes mark rest : List ℕ) → IsOptional (λ b. b ≡ BYTE_ORDER_MARK) mark → StartsLow rest → bytes ≡ mark ++ rest → StartsWith bytes mark rest
+starts_with : (bytes mark rest : List ℕ) → IsOptional (λ b. b ≡ BYTE_ORDER_MARK) mark → StartsLow rest → bytes ≡ mark ++ rest → TakesByteOrderMark bytes mark rest
 starts_with bytes mark rest (inl none) low e =
     let same : bytes ≡ rest = e ∙ ap (λ m. m ++ rest) none in
-    subst (λ r. StartsWith bytes mark r) same (subst (λ k. StartsWith bytes k bytes) (sym none) (unmarked (λ more is. no_mark rest more low (sym same ∙ is))))
-starts_with bytes mark rest (inr is) low e = subst (λ k. StartsWith bytes k rest) (sym is) (marked (e ∙ ap (λ m. m ++ rest) is))
+    subst (λ r. TakesByteOrderMark bytes mark r) same (subst (λ k. TakesByteOrderMark bytes k bytes) (sym none) (unmarked (λ more is. no_mark rest more low (sym same ∙ is))))
+starts_with bytes mark rest (inr is) low e = subst (λ k. TakesByteOrderMark bytes k rest) (sym is) (marked (e ∙ ap (λ m. m ++ rest) is))
 
 -- What holds behind all items of a document holds before them.
 pub record HoldsAtStart {M : Type 0} (bytes : List ℕ) (P : Left M → List ℕ → Type 0) (end : Left M) : Type 0 where
   pub mark : List ℕ
   pub rest : List ℕ
-  pub starts : StartsWith bytes mark rest
+  pub starts : TakesByteOrderMark bytes mark rest
   pub back : P end [] → P (in_prolog at_front mark) rest
 
 pub holds_at_start : {M : Type 0} (m : M) (root bytes : List ℕ) (doc : PlainDoc M) (limit : ℕ) (P : Left M → List ℕ → Type 0) → HoldsBefore m root limit P → SpellsDocument root bytes doc → depth_of doc.root ≤ limit
@@ -124,8 +125,8 @@ holds_at_start m root bytes doc limit P steps s within =
           (epilog_means m root limit P steps doc.before doc.after t s.is_epilog end));
     }
 
-pub document_means : {M : Type 0} (m : M) (root bytes : List ℕ) (doc : PlainDoc M) → ItemsAreOne → IsDocumentText root bytes doc → DocumentMeans m root bytes (is_document (with_marks m doc))
-document_means m root bytes doc only text =
+pub document_means : {M : Type 0} (limits : TextLimits) (m : M) (root bytes : List ℕ) (doc : PlainDoc M) → ItemsAreOne → IsDocumentTextWithin limits root bytes doc → DocumentMeansWithin limits m root bytes (is_document (with_marks m doc))
+document_means limits m root bytes doc only text =
     let o = is_document (with_marks m doc) in
-    let start = holds_at_start m root bytes doc MAX_DEPTH (λ left rest. MeansAt m root left rest o) (means_before m root o only) text.spelled text.shallow in
+    let start = holds_at_start m root bytes doc (depth_of doc.root) (λ left rest. MeansAt limits.depth m root left rest o) (means_before limits.depth m root o only (depth_of doc.root) text.shallow) text.spelled (omega arith) in
     items text.few_bytes start.starts (start.back (λ k. ends refl) 0)

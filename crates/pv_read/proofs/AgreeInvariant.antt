@@ -1,15 +1,16 @@
 -- What the bytes of the items so far say of what these items leave.
-use Rattle.std.proofs.Common.{◌≡◌, ◌≤◌, ◌+◌, ℕ, suc, List, [], ◌∷◌, ◌++◌, Bool, true, false, not, inl, inr, IsTrue, length, append-nil, append_assoc, refl, sym, ap, ◌∙◌, arith}
+use Rattle.std.proofs.Common.{◌≡◌, ◌≤◌, ◌+◌, ℕ, suc, List, [], ◌∷◌, ◌++◌, Bool, true, false, not, inl, inr, IsTrue, max, Option, Some, None, length, append-nil, append_assoc, refl, sym, ap, ◌∙◌, arith}
 use Rattle.std.specs.List.{AllByRecursion}
 use Rattle.pv_chars.specs.Names.{IsName}
 use Rattle.pv_chars.specs.Declarations.{IsOptional, IsXmlDecl}
 use Rattle.pv_chars.specs.Texts.{joined}
 use Rattle.pv_chars.proofs.MeansLemmas.{joined-append}
-use Rattle.pv_dtd.specs.Meaning.{BYTE_ORDER_MARK}
+use Rattle.pv_chars.specs.ByteOrderMark.{BYTE_ORDER_MARK}
 use Rattle.pv_tree.specs.Plain.{tagged, Tree, element, text_node, cdata_node, misc_node, Forest, no_trees, tree, forest_of, depth_of, depth_of_all, map_marks, map_marks_all}
 use Rattle.pv_tree.specs.Attributes.{AreMadeOf, IsAttributes, IsKnownReference}
 use Rattle.pv_tree.specs.Prolog.{IsMisc, IsDoctype, IsProlog, IsEpilog}
-use Rattle.pv_tree.specs.Legal.{MAX_DEPTH}
+use Rattle.pv_read.specs.Limits.{IsWithinDepth}
+use Rattle.pv_tree.proofs.Every.{all_joined}
 use Rattle.pv_read.proofs.Pieces.{nothing}
 use Rattle.pv_read.specs.Grammar.{SpellsNode, SpellsContent, IsElement, IsWholeRun, begins_with_text}
 use Rattle.pv_read.specs.Items.{start_tag, bytes_of, IsRunEnd}
@@ -31,15 +32,10 @@ IsPrologAt root at_front bytes = IsOptional (λ b. b ≡ BYTE_ORDER_MARK) bytes
 IsPrologAt root before_doctype bytes = IsBeforeDoctype bytes
 IsPrologAt root behind_doctype bytes = IsProlog root bytes
 
--- what all of two lists are, all of both are
-pub all_join : {A : Type 0} (P : A → Type 0) (xs ys : List A) → AllByRecursion P xs → AllByRecursion P ys → AllByRecursion P (xs ++ ys)
-all_join P [] ys all others = others
-all_join P (x ∷ xs) ys all others = (all.0, all_join P xs ys all.1 others)
-
 pub made_of_both : (P : List ℕ → Type 0) (bytes more : List ℕ) → AreMadeOf P bytes → AreMadeOf P more → AreMadeOf P (bytes ++ more)
 made_of_both P bytes more made others = record {
   pieces = made.pieces ++ others.pieces;
-  are_pieces = all_join P made.pieces others.pieces made.are_pieces others.are_pieces;
+  are_pieces = all_joined P made.pieces others.pieces made.are_pieces others.are_pieces;
   whole = ap (λ front. front ++ more) made.whole ∙ ap (λ rest. joined made.pieces ++ rest) others.whole ∙ sym (joined-append made.pieces others.pieces);
 }
 
@@ -141,14 +137,14 @@ ends_in_text (t ∷ []) = is_text t
 ends_in_text (t ∷ u ∷ ts) = ends_in_text (u ∷ ts)
 
 -- The element is not deeper than may be where so many are open, and has the mark throughout.
-pub record IsProperKid {M : Type 0} (m : M) (level : ℕ) (t : Tree M) : Type 0 where
-  pub shallow : level + depth_of t ≤ MAX_DEPTH
+pub record IsProperKid {M : Type 0} (most : Option ℕ) (m : M) (level : ℕ) (t : Tree M) : Type 0 where
+  pub shallow : IsWithinDepth most (level + depth_of t)
   pub marks : map_marks (λ _. m) t ≡ t
 
 -- The bytes spell these kids, which are proper ones.
-pub record SpellsKids {M : Type 0} (m : M) (level : ℕ) (kids : List (Tree M)) (bytes : List ℕ) : Type 0 where
+pub record SpellsKids {M : Type 0} (most : Option ℕ) (m : M) (level : ℕ) (kids : List (Tree M)) (bytes : List ℕ) : Type 0 where
   pub spells : SpellsContent (forest_of kids) bytes
-  pub proper : AllByRecursion (IsProperKid m level) kids
+  pub proper : AllByRecursion (IsProperKid most m level) kids
 
 -- a text follows no text
 whole_before : {M : Type 0} (k t : Tree M) → (is_text t ≡ true → is_text k ≡ false) → IsWholeRun k (tree t no_trees)
@@ -184,65 +180,71 @@ spells_put (k ∷ []) t bytes first (front, others, spells, whole_run, below, wh
 spells_put (k ∷ l ∷ kids) t bytes first (front, others, spells, whole_run, below, whole) node follows =
     (front, others ++ first, spells, same_run k l (forest_of kids) (forest_of (kids ++ t ∷ [])) whole_run, spells_put (l ∷ kids) t others first below node follows, ap (λ b. b ++ first) whole ∙ append_assoc front others first)
 
-pub no_kids : {M : Type 0} (m : M) (level : ℕ) → SpellsKids {M = M} m level [] []
-no_kids m level = record { spells = refl; proper = tt }
+pub no_kids : {M : Type 0} (most : Option ℕ) (m : M) (level : ℕ) → SpellsKids {M = M} most m level [] []
+no_kids most m level = record { spells = refl; proper = tt }
 
 -- one more kid
-pub kid_put : {M : Type 0} {m : M} {level : ℕ} {kids : List (Tree M)} {bytes : List ℕ} (t : Tree M) (first : List ℕ) → SpellsKids m level kids bytes → SpellsNode t first → IsProperKid m level t
-    → (is_text t ≡ true → ends_in_text kids ≡ false) → SpellsKids m level (kids ++ t ∷ []) (bytes ++ first)
-kid_put {m = m} {level = level} {kids = kids} {bytes = bytes} t first s node proper follows =
-    record { spells = spells_put kids t bytes first s.spells node follows; proper = all_join (IsProperKid m level) kids (t ∷ []) s.proper (proper, tt) }
+pub kid_put : {M : Type 0} {most : Option ℕ} {m : M} {level : ℕ} {kids : List (Tree M)} {bytes : List ℕ} (t : Tree M) (first : List ℕ) → SpellsKids most m level kids bytes → SpellsNode t first → IsProperKid most m level t
+    → (is_text t ≡ true → ends_in_text kids ≡ false) → SpellsKids most m level (kids ++ t ∷ []) (bytes ++ first)
+kid_put {most = most} {m = m} {level = level} {kids = kids} {bytes = bytes} t first s node proper follows =
+    record { spells = spells_put kids t bytes first s.spells node follows; proper = all_joined (IsProperKid most m level) kids (t ∷ []) s.proper (proper, tt) }
 
 pub ends_in-put : {M : Type 0} (kids : List (Tree M)) (t : Tree M) → ends_in_text (kids ++ t ∷ []) ≡ is_text t
 ends_in-put [] t = refl
 ends_in-put (k ∷ []) t = refl
 ends_in-put (k ∷ l ∷ kids) t = ends_in-put (l ∷ kids) t
 
+-- fewer elements may stand one inside another where more may
+pub within_less : (most : Option ℕ) (a b : ℕ) → a ≤ b → IsWithinDepth most b → IsWithinDepth most a
+within_less None a b less within = tt
+within_less (Some n) a b less within = omega arith
+
+within_both : (most : Option ℕ) (level a b : ℕ) → IsWithinDepth most (level + a) → IsWithinDepth most (level + b) → IsWithinDepth most (level + max a b)
+within_both None level a b first second = tt
+within_both (Some n) level a b first second = omega arith
+
 -- what the kids of an element keep, the element keeps
-kids_shallow : {M : Type 0} (m : M) (level : ℕ) (kids : List (Tree M)) → level ≤ MAX_DEPTH → AllByRecursion (IsProperKid m level) kids → level + depth_of_all (forest_of kids) ≤ MAX_DEPTH
-kids_shallow m level [] within all = omega arith
-kids_shallow m level (k ∷ kids) within all =
-    let here = all.0.shallow in
-    let below = kids_shallow m level kids within all.1 in
-    omega arith
+kids_shallow : {M : Type 0} (most : Option ℕ) (m : M) (level : ℕ) (kids : List (Tree M)) → IsWithinDepth most level → AllByRecursion (IsProperKid most m level) kids → IsWithinDepth most (level + depth_of_all (forest_of kids))
+kids_shallow most m level [] within all = within_less most (level + 0) level (omega arith) within
+kids_shallow most m level (k ∷ kids) within all = within_both most level (depth_of k) (depth_of_all (forest_of kids)) all.0.shallow (kids_shallow most m level kids within all.1)
 
-kids_marked : {M : Type 0} (m : M) (level : ℕ) (kids : List (Tree M)) → AllByRecursion (IsProperKid m level) kids → map_marks_all (λ _. m) (forest_of kids) ≡ forest_of kids
-kids_marked m level [] all = refl
-kids_marked m level (k ∷ kids) all = let here = all.0.marks in let below = kids_marked m level kids all.1 in cc
+kids_marked : {M : Type 0} (most : Option ℕ) (m : M) (level : ℕ) (kids : List (Tree M)) → AllByRecursion (IsProperKid most m level) kids → map_marks_all (λ _. m) (forest_of kids) ≡ forest_of kids
+kids_marked most m level [] all = refl
+kids_marked most m level (k ∷ kids) all = let here = all.0.marks in let below = kids_marked most m level kids all.1 in cc
 
-pub closed_proper : {M : Type 0} (m : M) (level : ℕ) (kids : List (Tree M)) (name attrs gap : List ℕ) → suc level ≤ MAX_DEPTH → AllByRecursion (IsProperKid m (suc level)) kids
-    → IsProperKid m level (element name attrs (tagged gap) (forest_of kids) m)
-closed_proper m level kids name attrs gap within all =
-    let deep = kids_shallow m (suc level) kids within all in
-    record { shallow = omega arith; marks = ap (λ k. element name attrs (tagged gap) k m) (kids_marked m (suc level) kids all) }
+pub closed_proper : {M : Type 0} (most : Option ℕ) (m : M) (level : ℕ) (kids : List (Tree M)) (name attrs gap : List ℕ) → IsWithinDepth most (suc level) → AllByRecursion (IsProperKid most m (suc level)) kids
+    → IsProperKid most m level (element name attrs (tagged gap) (forest_of kids) m)
+closed_proper most m level kids name attrs gap within all =
+    let deep = kids_shallow most m (suc level) kids within all in
+    record { shallow = within_less most (level + suc (depth_of_all (forest_of kids))) (suc level + depth_of_all (forest_of kids)) (omega arith) deep; marks = ap (λ k. element name attrs (tagged gap) k m) (kids_marked most m (suc level) kids all) }
 
 -- ---- the open elements, innermost first
-abbrev pub SpellsOpen : {M : Type 0} → M → List (Open M) → List ℕ → Type 0
-SpellsOpen m [] bytes = bytes ≡ []
-SpellsOpen m (o ∷ outer) bytes =
-    (around : List ℕ) × (content : List ℕ) × SpellsOpen m outer around × IsName o.name × IsAttributes IsKnownReference o.attrs ×
-    (suc (length outer) ≤ MAX_DEPTH) × SpellsKids m (suc (length outer)) o.kids content ×
+abbrev pub SpellsOpen : {M : Type 0} → Option ℕ → M → List (Open M) → List ℕ → Type 0
+SpellsOpen most m [] bytes = bytes ≡ []
+SpellsOpen most m (o ∷ outer) bytes =
+    (around : List ℕ) × (content : List ℕ) × SpellsOpen most m outer around × IsName o.name × IsAttributes IsKnownReference o.attrs ×
+    IsWithinDepth most (suc (length outer)) × SpellsKids most m (suc (length outer)) o.kids content ×
     (bytes ≡ around ++ (bytes_of (start_tag o.name o.attrs) ++ content))
 
 -- ---- all that is left
-pub record InContent {M : Type 0} (m : M) (root done before : List ℕ) (inner : Open M) (outer : List (Open M)) (rest : List ℕ) : Type 0 where
+pub record InContent {M : Type 0} (most : Option ℕ) (m : M) (root done before : List ℕ) (inner : Open M) (outer : List (Open M)) (rest : List ℕ) : Type 0 where
   pub opens : List ℕ
   pub is_prolog : IsProlog root before
-  pub spells : SpellsOpen m (inner ∷ outer) opens
+  pub spells : SpellsOpen most m (inner ∷ outer) opens
   pub whole : done ≡ before ++ opens
   pub run : ends_in_text inner.kids ≡ true → IsRunEnd rest
 
-pub record InEpilog {M : Type 0} (m : M) (root done before : List ℕ) (t : Tree M) (after : List ℕ) : Type 0 where
+pub record InEpilog {M : Type 0} (most : Option ℕ) (m : M) (root done before : List ℕ) (t : Tree M) (after : List ℕ) : Type 0 where
   pub element : List ℕ
   pub is_prolog : IsProlog root before
   pub is_element : IsElement t
   pub is_root : SpellsNode t element
-  pub proper : IsProperKid m 0 t
+  pub proper : IsProperKid most m 0 t
   pub is_epilog : IsEpilog after
   pub whole : done ≡ before ++ (element ++ after)
 
 -- these bytes say this of what is left, before the rest
-abbrev pub Says : {M : Type 0} → M → (root done : List ℕ) → Left M → (rest : List ℕ) → Type 0
-Says m root done (in_prolog stage before) rest = IsPrologAt root stage before × (done ≡ before)
-Says m root done (in_content before inner outer) rest = InContent m root done before inner outer rest
-Says m root done (in_epilog before t after) rest = InEpilog m root done before t after
+abbrev pub Says : {M : Type 0} → Option ℕ → M → (root done : List ℕ) → Left M → (rest : List ℕ) → Type 0
+Says most m root done (in_prolog stage before) rest = IsPrologAt root stage before × (done ≡ before)
+Says most m root done (in_content before inner outer) rest = InContent most m root done before inner outer rest
+Says most m root done (in_epilog before t after) rest = InEpilog most m root done before t after

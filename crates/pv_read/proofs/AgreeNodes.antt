@@ -4,12 +4,14 @@ use Rattle.std.proofs.lemmas.Bool.{not-true}
 use Rattle.pv_chars.specs.Spaces.{IsOptionalSpace}
 use Rattle.pv_chars.specs.Names.{IsName}
 use Rattle.pv_chars.specs.Units.{units_in}
-use Rattle.pv_tree.specs.Plain.{short, tagged, Tree, element, text_node, cdata_node, misc_node, Forest, no_trees, tree, forest_of, trees_of, depth_of, depth_of_all, map_marks, map_marks_all}
+use Rattle.pv_tree.specs.Plain.{short, tagged, Tree, element, text_node, cdata_node, misc_node, Forest, no_trees, tree, trees_of, depth_of, depth_of_all, map_marks, map_marks_all}
 use Rattle.pv_tree.specs.Attributes.{IsAttributes, IsKnownReference, IsCharacterData}
 use Rattle.pv_read.specs.Grammar.{SpellsNode, SpellsContent, IsWholeRun, begins_with_text}
 use Rattle.pv_read.specs.Items.{Item, comment_or_instruction, cdata_section, start_tag, empty_tag, end_tag, text_run, bytes_of, HasForm, HasKnownReferences, EndsWell, IsRunEnd}
 use Rattle.pv_read.specs.Left.{Open, Left, in_content, left_by, just_opened, closed_element, with_kid, joined_to, empty_element, open_elements}
 use Rattle.pv_read.specs.Kinds.{IsMismatch, IsOtherDoctype, opens_element}
+use Rattle.pv_read.proofs.DocumentFacts.{units_are_cut}
+use Rattle.pv_tree.proofs.Levels.{forest-trees}
 use Rattle.pv_read.proofs.AgreeInvariant.{is_text}
 use Rattle.pv_read.proofs.AgreeForms.{attributes_form, data_form, content_ends_run}
 
@@ -34,10 +36,6 @@ within_of limit depth level within = omega arith
 
 deeper : (limit depth level : ℕ) → level + suc depth ≤ limit → suc level + depth ≤ limit
 deeper limit depth level within = omega arith
-
-forest_again : {M : Type 0} (kids : Forest M) → forest_of (trees_of kids) ≡ kids
-forest_again no_trees = refl
-forest_again (tree t kids) = ap (tree t) (forest_again kids)
 
 pub text_means : {M : Type 0} (m : M) (root before : List ℕ) (inner : Open M) (outer : List (Open M)) (bytes rest : List ℕ) (limit : ℕ) (P : Left M → List ℕ → Type 0) → HoldsBefore m root limit P → IsCharacterData IsKnownReference bytes → IsRunEnd rest
     → P (in_content before (with_kid inner (text_node (units_in bytes))) outer) rest → P (in_content before inner outer) (bytes ++ rest)
@@ -71,7 +69,7 @@ pub tagged_means : {M : Type 0} (m : M) (root : List ℕ) (left : Left M) (befor
     → P left (codes "<" ++ name ++ attrs ++ codes ">" ++ content ++ codes "</" ++ name ++ gap ++ codes ">" ++ rest)
 tagged_means m root left before name attrs gap content rest kids outer limit P steps is_name are white stands within inside behind =
     let whole : bytes_of (start_tag name attrs) ++ (content ++ (bytes_of (end_tag name gap) ++ rest)) ≡ codes "<" ++ name ++ attrs ++ codes ">" ++ content ++ codes "</" ++ name ++ gap ++ codes ">" ++ rest = simp append_assoc refl in
-    let closes = subst (λ k. P (joined_to before outer (element name attrs (tagged gap) k m)) rest) (sym (forest_again kids)) behind in
+    let closes = subst (λ k. P (joined_to before outer (element name attrs (tagged gap) k m)) rest) (sym (forest-trees kids)) behind in
     subst (λ b. P left b) whole
     (start_means m root left (in_content before (just_opened name attrs) outer) name attrs (content ++ (bytes_of (end_tag name gap) ++ rest)) limit P steps is_name are stands within
     (inside (end_means m root before (more_kids (just_opened name attrs) (trees_of kids)) outer gap rest limit P steps is_name white closes)))
@@ -96,8 +94,9 @@ mutual
       subst (λ b. P (in_content before inner outer) (b ++ rest)) (sym whole)
       (tagged_means m root (in_content before inner outer) before x attrs gap content rest (map_marks_all (λ _. m) kids) (inner ∷ outer) limit P steps name are white refl (within_of limit (depth_of_all kids) (suc (length outer)) within)
       (content_means m root before limit P steps kids (just_opened x attrs) (inner ∷ outer) content (bytes_of (end_tag x gap) ++ rest) spells (inr (_, refl)) (deeper limit (depth_of_all kids) (suc (length outer)) within)) behind)
-  node_means m root before limit P steps (text_node units) inner outer bytes rest (chars, is_units) run within behind =
-      text_means m root before inner outer bytes rest limit P steps chars (run refl) (subst (λ u. P (in_content before (with_kid inner (text_node u)) outer) rest) is_units behind)
+  node_means m root before limit P steps (text_node units) inner outer bytes rest (chars, all, whole) run within behind =
+      text_means m root before inner outer bytes rest limit P steps chars (run refl)
+      (subst (λ u. P (in_content before (with_kid inner (text_node u)) outer) rest) (units_are_cut units bytes all whole) behind)
   node_means m root before limit P steps (cdata_node section) inner outer bytes rest (is, same) run within behind =
       subst (λ b. P (in_content before inner outer) (b ++ rest)) (sym same)
       (steps.step (cdata_section section) (in_content before inner outer) (in_content before (with_kid inner (cdata_node section)) outer) rest is tt refl

@@ -1,12 +1,12 @@
 -- What the place tells of the items so far.
-use Rattle.std.proofs.Common.{◌≡◌, ◌≤◌, ℕ, List, Bool, true, false, IsTrue, Some, None, cond, refl, sym, ap, ◌∙◌, subst}
+use Rattle.std.proofs.Common.{◌≡◌, ℕ, List, Bool, true, false, IsTrue, Option, Some, None, cond, refl, sym, ap, ◌∙◌, subst}
 use Rattle.std.specs.List.{list_all}
 use Rattle.pv_chars.specs.Spaces.{is_space}
-use Rattle.pv_tree.specs.Legal.{MAX_DEPTH}
+use Rattle.pv_read.specs.Limits.{IsDeepest}
 use Rattle.pv_read.specs.Items.{Item, xml_declaration, doctype, comment_or_instruction, cdata_section, start_tag, empty_tag, end_tag, text_run}
-use Rattle.pv_read.specs.Left.{Left, in_prolog, in_content, in_epilog, left_by, takes_doctype, is_at_front, open_elements}
+use Rattle.pv_read.specs.Left.{Left, in_prolog, in_content, in_epilog, left_by, takes_doctype, is_at_front, open_elements, IsWholeAt}
 use Rattle.pv_read.specs.Kinds.{may_stand_doctype, BeginsSubset, IsMismatch, opens_element, IsTooDeep, HasFault, subset}
-use Rattle.pv_read.specs.Places.{PlainPlace, place_of, takes_doctype_at, open_at, may_stand, IsMismatchAt}
+use Rattle.pv_read.specs.Places.{PlainPlace, place_of, takes_doctype_at, open_at, may_stand, IsMismatchAt, AsksForItem}
 
 doctype_there : {M : Type 0} (left : Left M) → may_stand_doctype left ≡ takes_doctype_at (place_of left)
 doctype_there (in_prolog stage before) = refl
@@ -107,14 +107,23 @@ same_mismatch (in_epilog before root after) (empty_tag name attrs) = refl
 same_mismatch (in_epilog before root after) (end_tag name gap) = refl
 same_mismatch (in_epilog before root after) (text_run bytes) = refl
 
-module _ {M : Type 0} (m : M) (root rest : List ℕ) (left : Left M) (place : PlainPlace) (at : place_of left ≡ place) where
+-- where an item is to stand the document isn't whole
+pub not_whole_at : {M : Type 0} (left : Left M) (place : PlainPlace) (rest : List ℕ) → place_of left ≡ place → AsksForItem place rest → IsWholeAt left rest → ⊥
+not_whole_at left place rest at asks whole = by left (subst (λ p. AsksForItem p rest) (sym at) asks) whole
+  where
+    by : {M : Type 0} (left : Left M) → AsksForItem (place_of left) rest → IsWholeAt left rest → ⊥
+    by (in_prolog stage before) asks whole = whole
+    by (in_content before inner outer) asks whole = whole
+    by (in_epilog before root after) asks whole = asks whole
+
+module _ {M : Type 0} (most : Option ℕ) (m : M) (root rest : List ℕ) (left : Left M) (place : PlainPlace) (at : place_of left ≡ place) where
   takes_is : may_stand_doctype left ≡ takes_doctype_at place
   takes_is = doctype_there left ∙ ap takes_doctype_at at
 
-  pub subset_at : IsTrue (takes_doctype_at place) × BeginsSubset rest → HasFault m root left rest subset
+  pub subset_at : IsTrue (takes_doctype_at place) × BeginsSubset rest → HasFault most m root left rest subset
   subset_at h = (takes_is ∙ h.0, h.1)
 
-  pub subset_of : HasFault m root left rest subset → IsTrue (takes_doctype_at place) × BeginsSubset rest
+  pub subset_of : HasFault most m root left rest subset → IsTrue (takes_doctype_at place) × BeginsSubset rest
   subset_of h = (sym takes_is ∙ h.0, h.1)
 
   module _ (i : Item) where
@@ -133,8 +142,8 @@ module _ {M : Type 0} (m : M) (root rest : List ℕ) (left : Left M) (place : Pl
     pub mismatch_of : IsMismatch left i → IsMismatchAt place i
     mismatch_of h = subst (λ (A : Type 0). A) (sym mismatch_is) h
 
-    pub deep_at : IsTrue (opens_element i) × (MAX_DEPTH ≤ open_at place) → IsTooDeep left i
+    pub deep_at : IsTrue (opens_element i) × IsDeepest most (open_at place) → IsTooDeep most left i
     deep_at h = let same = open_there left ∙ ap open_at at in (h.0, rw same h.1)
 
-    pub deep_of : IsTooDeep left i → IsTrue (opens_element i) × (MAX_DEPTH ≤ open_at place)
+    pub deep_of : IsTooDeep most left i → IsTrue (opens_element i) × IsDeepest most (open_at place)
     deep_of h = let same = open_there left ∙ ap open_at at in (h.0, rw (← same) h.1)

@@ -9,7 +9,7 @@ use Rattle.std.specs.List.{list_all}
 use lib.Utf8.{encode, encodes}
 use Rattle.memchr.specs.Find.{is_byte, Passes, Nowhere, NoneBefore}
 use Rattle.pv_chars.specs.Characters.{is_char, AreAll, IsChars}
-use Rattle.pv_chars.specs.Fronts.{Holds}
+use Rattle.pv_chars.specs.Fronts.{ContainsBytes}
 use Rattle.pv_chars.specs.Units.{is_literal, is_simple}
 use Rattle.pv_chars.proofs.CharacterLemmas.{AreAll-ascii}
 use Rattle.pv_chars.proofs.MarkupLemmas.{behind, none_before_end}
@@ -28,7 +28,7 @@ cut_nowhere byte bytes before rest none front back =
     let all : before ≡ bytes = front ∙ take_all (length bytes) bytes (omega arith) in
     let whole : bytes ≡ before ++ rest = sym (take-append-drop (length bytes) bytes) ∙ ap (λ l. l ++ drop (length bytes) bytes) (sym front) ∙ ap (λ l. before ++ l) (sym back) in
     let nothing : rest ≡ [] = behind before rest [] (sym whole ∙ sym all ∙ sym (append-nil before)) in
-    record { whole = whole; free = λ h. byte_nowhere byte bytes none (let Q : List ℕ → Type 0 = λ l. Holds l (byte ∷ []) in subst Q all h); ends = inl nothing }
+    record { whole = whole; free = λ h. byte_nowhere byte bytes none (let Q : List ℕ → Type 0 = λ l. ContainsBytes l (byte ∷ []) in subst Q all h); ends = inl nothing }
 
 -- ---- Chars other than `<` and `&`
 literals_of : (cs : List ℕ) → list_all is_char cs ≡ true → has_no 60 (encodes cs) ≡ true → has_no 38 (encodes cs) ≡ true → list_all is_literal cs ≡ true
@@ -54,7 +54,7 @@ pub literals_are_chars : (bytes : List ℕ) → AreAll is_literal bytes → IsCh
 literals_are_chars bytes all = record { codes = all.codes; pass = chars_of all.codes all.pass; spelled = all.spelled }
 
 -- where neither `<` nor `&` is among them
-pub literals_where : (bytes : List ℕ) (chars : Bool) → (Holds bytes (60 ∷ []) → ⊥) → (Holds bytes (38 ∷ []) → ⊥) → (IsTrue chars → IsChars bytes) × (IsChars bytes → IsTrue chars) → (IsTrue chars → AreAll is_literal bytes) × (AreAll is_literal bytes → IsTrue chars)
+pub literals_where : (bytes : List ℕ) (chars : Bool) → (ContainsBytes bytes (60 ∷ []) → ⊥) → (ContainsBytes bytes (38 ∷ []) → ⊥) → (IsTrue chars → IsChars bytes) × (IsChars bytes → IsTrue chars) → (IsTrue chars → AreAll is_literal bytes) × (AreAll is_literal bytes → IsTrue chars)
 literals_where bytes chars less ampersand tells = (
   (λ t. let all = tells.0 t in
       let spelled = all.spelled in
@@ -64,10 +64,10 @@ literals_where bytes chars less ampersand tells = (
 )
 
 -- where `<` is
-pub not_literals : (bytes : List ℕ) → Holds bytes (60 ∷ []) → (IsTrue false → AreAll is_literal bytes) × (AreAll is_literal bytes → IsTrue false)
+pub not_literals : (bytes : List ℕ) → ContainsBytes bytes (60 ∷ []) → (IsTrue false → AreAll is_literal bytes) × (AreAll is_literal bytes → IsTrue false)
 not_literals bytes holds = ((λ t. let no : false ≡ true = t in cc), (λ all. absurd (holds_not 60 bytes (all_have_no is_literal 60 bytes (omega arith) refl all) holds)))
 
-pub holds_found : (byte : ℕ) (bytes : List ℕ) (k : ℕ) → Passes (is_byte byte) bytes k → NoneBefore (Passes (is_byte byte) bytes) 0 (length bytes) k → Holds bytes (byte ∷ [])
+pub holds_found : (byte : ℕ) (bytes : List ℕ) (k : ℕ) → Passes (is_byte byte) bytes k → NoneBefore (Passes (is_byte byte) bytes) 0 (length bytes) k → ContainsBytes bytes (byte ∷ [])
 holds_found byte bytes k passes none =
     let ends = byte_ends byte bytes (take k bytes) (drop k bytes) (drop 1 (drop k bytes)) k passes none refl refl refl in
     record { before = take k bytes; after = drop 1 (drop k bytes); whole = ends.whole }

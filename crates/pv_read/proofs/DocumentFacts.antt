@@ -62,14 +62,15 @@ data_are_units bytes d = rw (units_are_pieces bytes d) (pieces_are_units d.are_p
 pub data_joined : (bytes : List ℕ) → IsCharacterData IsKnownReference bytes → joined (units_in bytes) ≡ bytes
 data_joined bytes d = ap joined (units_are_pieces bytes d) ∙ sym d.are_pieces.whole
 
-data_has_units : (bytes : List ℕ) → IsCharacterData IsKnownReference bytes → units_in bytes ≢ []
-data_has_units bytes d none = d.some (sym (data_joined bytes d) ∙ ap joined none)
+-- the units of a text are those that it is cut into
+pub units_are_cut : (units : List (List ℕ)) (bytes : List ℕ) → AllUnits units → bytes ≡ joined units → units ≡ units_in bytes
+units_are_cut units bytes all whole = sym (ap units_in whole ∙ units_in-joined units all)
 
 mutual
   pub has_units : {M : Type 0} (t : Tree M) (bytes : List ℕ) → SpellsNode t bytes → HasUnits t
   has_units (element x attrs short kids mark) bytes (name, are, none, whole) = rw none tt
   has_units (element x attrs (tagged gap) kids mark) bytes (content, name, are, white, spells, whole) = have_units kids content spells
-  has_units (text_node units) bytes (chars, is_units) = λ none. data_has_units bytes chars (sym is_units ∙ none)
+  has_units (text_node units) bytes (chars, all, whole) = λ none. chars.some (whole ∙ ap joined none)
   has_units (cdata_node section) bytes spells = tt
   has_units (misc_node misc) bytes spells = tt
 
@@ -81,7 +82,7 @@ mutual
   pub legal : {M : Type 0} (t : Tree M) (bytes : List ℕ) → SpellsNode t bytes → IsLegal t
   legal (element x attrs short kids mark) bytes (name, are, none, whole) = (are, tt, rw none tt)
   legal (element x attrs (tagged gap) kids mark) bytes (content, name, are, white, spells, whole) = (are, white, all_legal kids content spells)
-  legal (text_node units) bytes (chars, is_units) = rw is_units (data_are_units bytes chars)
+  legal (text_node units) bytes (chars, all, whole) = all
   legal (cdata_node section) bytes spells = spells.0
   legal (misc_node misc) bytes spells = spells.0
 
@@ -114,7 +115,8 @@ data_open bytes d = by (holds_close_mark (units_in bytes)) refl
 
 text_starts_no_close_mark : {M : Type 0} (t : Tree M) (kids : Forest M) (bytes : List ℕ) → SpellsNode t bytes → IsWholeRun t kids → IsTrue (starts_no_close_mark t kids)
 text_starts_no_close_mark (element x attrs ending nodes mark) kids bytes spells whole_run = refl
-text_starts_no_close_mark (text_node units) kids bytes (chars, is_units) whole_run = rw (no_front kids whole_run, is_units) (open_units (units_in bytes) (data_open bytes chars))
+text_starts_no_close_mark (text_node units) kids bytes (chars, all, whole) whole_run =
+    rw (no_front kids whole_run, units_are_cut units bytes all whole) (open_units (units_in bytes) (data_open bytes chars))
 text_starts_no_close_mark (cdata_node section) kids bytes spells whole_run = refl
 text_starts_no_close_mark (misc_node misc) kids bytes spells whole_run = refl
 
@@ -202,7 +204,7 @@ mutual
       let most = slack_most (begins_with_text kids) in
       let below = few_in_all kids content spells in
       rw (whole, tagged_length x attrs content gap) (omega arith)
-  few_in (text_node units) bytes (chars, is_units) = let some = text_some bytes chars.some in omega arith
+  few_in (text_node units) bytes (chars, all, whole) = let some = text_some bytes chars.some in omega arith
   few_in (cdata_node section) bytes (is, same) = let long = cdata_length section is in rw same (omega arith)
   few_in (misc_node misc) bytes (is, same) = let long = misc_length misc is in rw same (omega arith)
 

@@ -1,5 +1,5 @@
 -- The item that stands at the front, and the first kind of fault there.
-use Rattle.std.proofs.Common.{◌≡◌, ◌<◌, inl, inr, ℕ, List, [], ◌∷◌, ◌++◌, Some, None, refl, sym, ap, ◌∙◌, subst, arith}
+use Rattle.std.proofs.Common.{◌≡◌, ◌<◌, inl, inr, ℕ, List, [], ◌∷◌, ◌++◌, Option, Some, None, refl, sym, ap, ◌∙◌, subst, arith}
 use Rattle.pv_tree.specs.Plain.{Tree}
 use Rattle.pv_read.specs.Items.{Item, xml_declaration, doctype, comment_or_instruction, cdata_section, start_tag, empty_tag, end_tag, text_run, bytes_of, HasForm, HasKnownReferences, BeginsItem}
 use Rattle.pv_read.specs.Left.{Left, in_prolog, in_content, in_epilog, left_by, IsWholeAt}
@@ -33,20 +33,20 @@ whole_has_nothing (in_content before inner outer) rest whole = absurd whole
 whole_has_nothing (in_epilog before root after) rest whole = whole
 
 -- where the document is whole there is no fault
-pub whole_has_no_fault : {M : Type 0} (m : M) (root before after rest : List ℕ) (t : Tree M) (kind : Kind) → rest ≡ [] → HasFault m root (in_epilog before t after) rest kind → ⊥
-whole_has_no_fault m root before after rest t subset none h = cc (h.0)
-whole_has_no_fault m root before after rest t syntax none h = h.0 none
-whole_has_no_fault m root before after rest t entity none h = no_item_in_nothing none h.begins
-whole_has_no_fault m root before after rest t mismatch none h = no_item_in_nothing none h.begins
-whole_has_no_fault m root before after rest t doctype_name none h = no_item_in_nothing none h.begins
-whole_has_no_fault m root before after rest t deep none h = no_item_in_nothing none h.begins
+pub whole_has_no_fault : {M : Type 0} (most : Option ℕ) (m : M) (root before after rest : List ℕ) (t : Tree M) (kind : Kind) → rest ≡ [] → HasFault most m root (in_epilog before t after) rest kind → ⊥
+whole_has_no_fault most m root before after rest t subset none h = cc (h.0)
+whole_has_no_fault most m root before after rest t syntax none h = h.0 none
+whole_has_no_fault most m root before after rest t entity none h = no_item_in_nothing none h.begins
+whole_has_no_fault most m root before after rest t mismatch none h = no_item_in_nothing none h.begins
+whole_has_no_fault most m root before after rest t doctype_name none h = no_item_in_nothing none h.begins
+whole_has_no_fault most m root before after rest t deep none h = no_item_in_nothing none h.begins
 
-module _ {M : Type 0} (one_item : ItemsAreDetermined) (m : M) (root : List ℕ) (left : Left M) (rest : List ℕ) where
-  pub subset_is_first : HasFault m root left rest subset → IsFirstFault m root left rest subset
+module _ {M : Type 0} (one_item : ItemsAreDetermined) (most : Option ℕ) (m : M) (root : List ℕ) (left : Left M) (rest : List ℕ) where
+  pub subset_is_first : HasFault most m root left rest subset → IsFirstFault most m root left rest subset
   subset_is_first h = record { holds = h; first = λ earlier less h. absurd (omega arith) }
 
-  module _ (no_subset : HasFault m root left rest subset → ⊥) where
-    syntax_first : (earlier : Kind) → rank earlier < 1 → HasFault m root left rest earlier → ⊥
+  module _ (no_subset : HasFault most m root left rest subset → ⊥) where
+    syntax_first : (earlier : Kind) → rank earlier < 1 → HasFault most m root left rest earlier → ⊥
     syntax_first subset less h = no_subset h
     syntax_first syntax less h = absurd (omega arith)
     syntax_first entity less h = absurd (omega arith)
@@ -54,11 +54,11 @@ module _ {M : Type 0} (one_item : ItemsAreDetermined) (m : M) (root : List ℕ) 
     syntax_first doctype_name less h = absurd (omega arith)
     syntax_first deep less h = absurd (omega arith)
 
-    pub nothing_begins : (IsWholeAt left rest → ⊥) → BeginsNoItem rest → IsFirstFault m root left rest syntax
+    pub nothing_begins : (IsWholeAt left rest → ⊥) → BeginsNoItem rest → IsFirstFault most m root left rest syntax
     nothing_begins not_whole none = record { holds = (not_whole, λ i more begins. absurd (none i more begins)); first = syntax_first }
 
     module _ (i : Item) (more : List ℕ) (begins : BeginsItem i rest more) where
-      pub may_not_stand : left_by m left i ≡ None → IsFirstFault m root left rest syntax
+      pub may_not_stand : left_by m left i ≡ None → IsFirstFault most m root left rest syntax
       may_not_stand none =
           record {
             holds = (
@@ -69,7 +69,7 @@ module _ {M : Type 0} (one_item : ItemsAreDetermined) (m : M) (root : List ℕ) 
           }
 
       module _ (next : Left M) (stands : left_by m left i ≡ Some next) where
-        no_syntax : HasFault m root left rest syntax → ⊥
+        no_syntax : HasFault most m root left rest syntax → ⊥
         no_syntax h = let none = h.1 i more begins in cc
 
         is_so : (P : Item → Type 0) → Stands m left rest P → P i
@@ -78,7 +78,7 @@ module _ {M : Type 0} (one_item : ItemsAreDetermined) (m : M) (root : List ℕ) 
         stands_so : (P : Item → Type 0) → P i → Stands m left rest P
         stands_so P is = record { item = i; more = more; next = next; begins = begins; may_stand = stands; has_property = is }
 
-        entity_first : (earlier : Kind) → rank earlier < 2 → HasFault m root left rest earlier → ⊥
+        entity_first : (earlier : Kind) → rank earlier < 2 → HasFault most m root left rest earlier → ⊥
         entity_first subset less h = no_subset h
         entity_first syntax less h = no_syntax h
         entity_first entity less h = absurd (omega arith)
@@ -86,14 +86,14 @@ module _ {M : Type 0} (one_item : ItemsAreDetermined) (m : M) (root : List ℕ) 
         entity_first doctype_name less h = absurd (omega arith)
         entity_first deep less h = absurd (omega arith)
 
-        pub other_reference : (HasKnownReferences i → ⊥) → IsFirstFault m root left rest entity
+        pub other_reference : (HasKnownReferences i → ⊥) → IsFirstFault most m root left rest entity
         other_reference is = record { holds = stands_so (λ j. HasKnownReferences j → ⊥) is; first = entity_first }
 
         module _ (known : HasKnownReferences i) where
-          no_entity : HasFault m root left rest entity → ⊥
+          no_entity : HasFault most m root left rest entity → ⊥
           no_entity h = is_so (λ j. HasKnownReferences j → ⊥) h known
 
-          mismatch_first : (earlier : Kind) → rank earlier < 3 → HasFault m root left rest earlier → ⊥
+          mismatch_first : (earlier : Kind) → rank earlier < 3 → HasFault most m root left rest earlier → ⊥
           mismatch_first subset less h = no_subset h
           mismatch_first syntax less h = no_syntax h
           mismatch_first entity less h = no_entity h
@@ -101,11 +101,11 @@ module _ {M : Type 0} (one_item : ItemsAreDetermined) (m : M) (root : List ℕ) 
           mismatch_first doctype_name less h = absurd (omega arith)
           mismatch_first deep less h = absurd (omega arith)
 
-          pub other_name : IsMismatch left i → IsFirstFault m root left rest mismatch
+          pub other_name : IsMismatch left i → IsFirstFault most m root left rest mismatch
           other_name is = record { holds = stands_so (IsMismatch left) is; first = mismatch_first }
 
           module _ (same_name : IsMismatch left i → ⊥) where
-            doctype_first : (earlier : Kind) → rank earlier < 4 → HasFault m root left rest earlier → ⊥
+            doctype_first : (earlier : Kind) → rank earlier < 4 → HasFault most m root left rest earlier → ⊥
             doctype_first subset less h = no_subset h
             doctype_first syntax less h = no_syntax h
             doctype_first entity less h = no_entity h
@@ -113,11 +113,11 @@ module _ {M : Type 0} (one_item : ItemsAreDetermined) (m : M) (root : List ℕ) 
             doctype_first doctype_name less h = absurd (omega arith)
             doctype_first deep less h = absurd (omega arith)
 
-            pub other_doctype : IsOtherDoctype root i → IsFirstFault m root left rest doctype_name
+            pub other_doctype : IsOtherDoctype root i → IsFirstFault most m root left rest doctype_name
             other_doctype is = record { holds = stands_so (IsOtherDoctype root) is; first = doctype_first }
 
             module _ (same_doctype : IsOtherDoctype root i → ⊥) where
-              deep_first : (earlier : Kind) → rank earlier < 5 → HasFault m root left rest earlier → ⊥
+              deep_first : (earlier : Kind) → rank earlier < 5 → HasFault most m root left rest earlier → ⊥
               deep_first subset less h = no_subset h
               deep_first syntax less h = no_syntax h
               deep_first entity less h = no_entity h
@@ -125,17 +125,17 @@ module _ {M : Type 0} (one_item : ItemsAreDetermined) (m : M) (root : List ℕ) 
               deep_first doctype_name less h = same_doctype (is_so (IsOtherDoctype root) h)
               deep_first deep less h = absurd (omega arith)
 
-              pub too_deep : IsTooDeep left i → IsFirstFault m root left rest deep
-              too_deep is = record { holds = stands_so (IsTooDeep left) is; first = deep_first }
+              pub too_deep : IsTooDeep most left i → IsFirstFault most m root left rest deep
+              too_deep is = record { holds = stands_so (IsTooDeep most left) is; first = deep_first }
 
-              module _ (shallow : IsTooDeep left i → ⊥) where
-                no_fault : (kind : Kind) → HasFault m root left rest kind → ⊥
+              module _ (shallow : IsTooDeep most left i → ⊥) where
+                no_fault : (kind : Kind) → HasFault most m root left rest kind → ⊥
                 no_fault subset h = no_subset h
                 no_fault syntax h = no_syntax h
                 no_fault entity h = no_entity h
                 no_fault mismatch h = same_name (is_so (IsMismatch left) h)
                 no_fault doctype_name h = same_doctype (is_so (IsOtherDoctype root) h)
-                no_fault deep h = shallow (is_so (IsTooDeep left) h)
+                no_fault deep h = shallow (is_so (IsTooDeep most left) h)
 
-                pub takes : TakesItem m root left rest i more
+                pub takes : TakesItem most m root left rest i more
                 takes = record { next = next; begins = begins; stands = stands; no_fault = no_fault }

@@ -1,15 +1,11 @@
 -- Some bytes spell at most one document, marks aside.
 use Rattle.std.proofs.Common.{◌≡◌, ℕ, max, List, [], Some, refl, sym, ap, subst, ◌∙◌, arith}
-use Rattle.pv_chars.specs.Scan.{after_bytes}
-use Rattle.pv_chars.proofs.Scanning.{after_bytes-append}
-use Rattle.pv_dtd.specs.Meaning.{BYTE_ORDER_MARK}
+use Rattle.pv_chars.proofs.ByteOrderMarkLemmas.{same_byte_order_mark}
 use Rattle.pv_tree.specs.Plain.{Tree, element, text_node, cdata_node, misc_node, Forest, no_trees, tree, PlainDoc, depth_of, map_marks, map_marks_all, without_marks}
 use Rattle.pv_tree.specs.Marks.{unmarked_doc}
 use Rattle.pv_read.specs.Grammar.{SpellsDocument}
 use Rattle.pv_read.specs.Items.{Item, BeginsItem}
 use Rattle.pv_read.specs.Left.{Left, at_front, in_prolog, in_epilog, left_by}
-use Rattle.pv_read.specs.Meaning.{StartsWith, marked}
-use Rattle.pv_read.specs.Meaning.StartsWith.{unmarked as bare}
 use Rattle.pv_read.proofs.NextItems.{no_item_in_nothing}
 use Rattle.pv_read.proofs.OneItem.{one_item}
 use Rattle.pv_read.proofs.AgreeNodes.{HoldsBefore}
@@ -39,18 +35,6 @@ module _ {M : Type 0} (m : M) where
   one_end {left = left} {end = end} (one_more {next = next} {rest = rest} {more = more} i begins stands below) (one_more {next = other_next} {more = others} j at there others_below) =
       one_end (same_next left next other_next end rest more others i j begins at stands there below) others_below
 
-  -- the byte order mark, or nothing, is one
-  same_start : (bytes mark rest other more : List ℕ) → StartsWith bytes mark rest → StartsWith bytes other more → (mark ≡ other) × (rest ≡ more)
-  same_start bytes mark rest other more (marked e) (marked f) =
-      let found : Some rest ≡ Some more = sym (after_bytes-append BYTE_ORDER_MARK rest) ∙ ap (after_bytes BYTE_ORDER_MARK) (sym e ∙ f) ∙ after_bytes-append BYTE_ORDER_MARK more in
-      (refl, same_some rest more found)
-    where
-      same_some : (x y : List ℕ) → Some x ≡ Some y → x ≡ y
-      same_some x y e = cc
-  same_start bytes mark rest other more (marked e) (bare none) = absurd (none rest e)
-  same_start bytes mark rest other more (bare none) (marked f) = absurd (none more f)
-  same_start bytes mark rest other more (bare none) (bare others) = (refl, refl)
-
   -- two documents that are spelled leave one thing
   same_documents : (root bytes : List ℕ) (doc other : PlainDoc M) → SpellsDocument root bytes doc → SpellsDocument root bytes other
       → in_epilog doc.before (map_marks (λ _. m) doc.root) doc.after ≡ in_epilog other.before (map_marks (λ _. m) other.root) other.after
@@ -60,7 +44,7 @@ module _ {M : Type 0} (m : M) where
       let other_end = in_epilog other.before (map_marks (λ _. m) other.root) other.after in
       let own_start = holds_at_start m root bytes doc limit (λ left rest. EndsIn m left rest end) (items_hold_before m root limit end) spells (omega arith) in
       let other_start = holds_at_start m root bytes other limit (λ left rest. EndsIn m left rest other_end) (items_hold_before m root limit other_end) spells_other (omega arith) in
-      let start = same_start bytes own_start.mark own_start.rest other_start.mark other_start.rest own_start.starts other_start.starts in
+      let start = same_byte_order_mark bytes own_start.mark own_start.rest other_start.mark other_start.rest own_start.starts other_start.starts in
       let ends_in = own_start.back (none_left refl) in
       let moved = subst (λ r. EndsIn m (in_prolog at_front other_start.mark) r end) start.1 (subst (λ b. EndsIn m (in_prolog at_front b) own_start.rest end) start.0 ends_in) in
       one_end moved (other_start.back (none_left refl))

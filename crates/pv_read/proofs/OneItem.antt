@@ -11,7 +11,7 @@ use Rattle.pv_chars.proofs.MarkupLemmas.{behind, one_comment, one_cdata}
 use Rattle.pv_chars.proofs.InstructionLemmas.{one_instruction, no_instruction_target}
 use Rattle.pv_chars.proofs.DeclarationLemmas.{one_xml_decl}
 use Rattle.pv_chars.proofs.UnitReading.{before}
-use Rattle.pv_dtd.proofs.TextDeclarations.{xml_is_name, part_ends}
+use Rattle.pv_chars.proofs.TextDeclarations.{xml_is_name, part_ends}
 use Rattle.pv_tree.specs.Prolog.{IsCommentOrInstruction}
 use Rattle.pv_read.specs.Items.{Item, xml_declaration, doctype, comment_or_instruction, cdata_section, start_tag, empty_tag, end_tag, text_run, BeginsItem}
 use Rattle.pv_read.specs.ItemLaws.{ItemsAreDetermined}

@@ -1,15 +1,15 @@
 -- A text has one meaning.
-use Rattle.std.proofs.Common.{◌≡◌, inl, inr, ℕ, zero, suc, List, Some, refl, sym, ap, ◌∙◌, subst, arith}
+use Rattle.std.proofs.Common.{◌≡◌, inl, inr, ℕ, zero, suc, List, Option, Some, refl, sym, ap, ◌∙◌, subst, arith}
 use Rattle.std.proofs.lemmas.Bool.{cases_order}
-use Rattle.pv_chars.specs.Scan.{after_bytes}
-use Rattle.pv_chars.proofs.Scanning.{after_bytes-append}
-use Rattle.pv_dtd.specs.Meaning.{BYTE_ORDER_MARK}
+use Rattle.pv_chars.proofs.ByteOrderMarkLemmas.{same_byte_order_mark}
+use Rattle.pv_read.specs.Limits.{TextLimits}
 use Rattle.pv_read.specs.Items.{Item, BeginsItem}
 use Rattle.pv_read.specs.Left.{Left, at_front, in_prolog, left_by}
 use Rattle.pv_read.specs.Kinds.{Kind, subset, syntax, entity, mismatch, doctype_name, deep, rank, IsFirstFault}
-use Rattle.pv_read.specs.Meaning.{Outcome, faulty, Means, ends, item, fault, StartsWith, marked, unmarked, DocumentMeans, long, items}
+use Rattle.pv_read.specs.Meaning.{Outcome, faulty, DocumentRestMeans, ends, item, fault, DocumentMeansWithin, long, items}
 use Rattle.pv_read.specs.ItemLaws.{ItemsAreDetermined}
 use Rattle.pv_read.proofs.NextItems.{no_item_in_nothing, whole_has_no_fault}
+use Rattle.pv_read.proofs.Prologs.{same_some}
 
 kind_of : ℕ → Kind
 kind_of zero = subset
@@ -28,7 +28,7 @@ kind_of_rank mismatch = refl
 kind_of_rank doctype_name = refl
 kind_of_rank deep = refl
 
-same_kind : {M : Type 0} {m : M} {root rest : List ℕ} {left : Left M} {k j : Kind} → IsFirstFault m root left rest k → IsFirstFault m root left rest j → k ≡ j
+same_kind : {M : Type 0} {most : Option ℕ} {m : M} {root rest : List ℕ} {left : Left M} {k j : Kind} → IsFirstFault most m root left rest k → IsFirstFault most m root left rest j → k ≡ j
 same_kind {k = k} {j = j} a b =
     elim (cases_order (rank k) (rank j)) [
       | inl same ↦ sym (kind_of_rank k) ∙ ap kind_of same ∙ kind_of_rank j
@@ -36,42 +36,32 @@ same_kind {k = k} {j = j} a b =
       | inr (inr less) ↦ absurd (a.first j less b.holds)
     ]
 
-same_some : {A : Type 0} (x y : A) → Some x ≡ Some y → x ≡ y
-same_some x y e = cc
-
-module _ {M : Type 0} (one_item : ItemsAreDetermined) (m : M) (root : List ℕ) where
+module _ {M : Type 0} (one_item : ItemsAreDetermined) (most : Option ℕ) (m : M) (root : List ℕ) where
   same_step : {k : ℕ} (left : Left M) {next other : Left M} {rest more others : List ℕ} {o : Outcome M} (i j : Item) → BeginsItem i rest more → BeginsItem j rest others
-      → left_by m left i ≡ Some next → left_by m left j ≡ Some other → Means m root (suc k) next more o → Means m root (suc k) other others o
+      → left_by m left i ≡ Some next → left_by m left j ≡ Some other → DocumentRestMeans most m root (suc k) next more o → DocumentRestMeans most m root (suc k) other others o
   same_step {k} left {next} {other} {rest} {more} {others} {o} i j begins at stands there means =
       let same = one_item i j rest more others begins at in
-      let left_is : next ≡ other = same_some next other (sym stands ∙ ap (left_by m left) same.0 ∙ there) in
-      subst (λ r. Means m root (suc k) other r o) same.1 (subst (λ l. Means m root (suc k) l more o) left_is means)
+      let left_is : next ≡ other = same_some (sym stands ∙ ap (left_by m left) same.0 ∙ there) in
+      subst (λ r. DocumentRestMeans most m root (suc k) other r o) same.1 (subst (λ l. DocumentRestMeans most m root (suc k) l more o) left_is means)
 
   -- behind these items, the rest has one meaning
-  pub same_meaning : {k : ℕ} {left : Left M} {rest : List ℕ} {o p : Outcome M} → Means m root k left rest o → Means m root k left rest p → o ≡ p
+  pub same_meaning : {k : ℕ} {left : Left M} {rest : List ℕ} {o p : Outcome M} → DocumentRestMeans most m root k left rest o → DocumentRestMeans most m root k left rest p → o ≡ p
   same_meaning (ends a) (ends b) = refl
   same_meaning (ends a) (item i begins stands none means) = absurd (no_item_in_nothing a begins)
-  same_meaning (ends a) (fault kind f) = absurd (whole_has_no_fault m root _ _ _ _ kind a f.holds)
+  same_meaning (ends a) (fault kind f) = absurd (whole_has_no_fault most m root _ _ _ _ kind a f.holds)
   same_meaning (item i begins stands none means) (ends a) = absurd (no_item_in_nothing a begins)
   same_meaning {left = left} (item i begins stands none means) (item j at there free others) = same_meaning (same_step left i j begins at stands there means) others
   same_meaning (item i begins stands none means) (fault kind f) = absurd (none kind f.holds)
-  same_meaning (fault kind f) (ends a) = absurd (whole_has_no_fault m root _ _ _ _ kind a f.holds)
+  same_meaning (fault kind f) (ends a) = absurd (whole_has_no_fault most m root _ _ _ _ kind a f.holds)
   same_meaning (fault kind f) (item i begins stands none means) = absurd (none kind f.holds)
   same_meaning {k} (fault kind f) (fault other g) = ap (λ x. faulty x k) (same_kind f g)
 
-  pub same_document_meaning : {bytes : List ℕ} {o p : Outcome M} → DocumentMeans m root bytes o → DocumentMeans m root bytes p → o ≡ p
+module _ {M : Type 0} (one_item : ItemsAreDetermined) (limits : TextLimits) (m : M) (root : List ℕ) where
+  pub same_document_meaning : {bytes : List ℕ} {o p : Outcome M} → DocumentMeansWithin limits m root bytes o → DocumentMeansWithin limits m root bytes p → o ≡ p
   same_document_meaning (long a) (long b) = refl
   same_document_meaning (long a) (items few mark n) = absurd (omega arith)
   same_document_meaning (items few mark n) (long b) = absurd (omega arith)
-  same_document_meaning {bytes} (items few mark n) (items less other l) = by mark other n l
-    where
-      by : {mark rest more_mark more : List ℕ} {o p : Outcome M} → StartsWith bytes mark rest → StartsWith bytes more_mark more
-          → Means m root 0 (in_prolog at_front mark) rest o → Means m root 0 (in_prolog at_front more_mark) more p → o ≡ p
-      by {o = o} (marked {rest} a) (marked {rest = more} b) n l =
-          let first = after_bytes-append BYTE_ORDER_MARK rest in
-          let second = after_bytes-append BYTE_ORDER_MARK more in
-          let same : rest ≡ more = same_some rest more (sym first ∙ ap (after_bytes BYTE_ORDER_MARK) (sym a ∙ b) ∙ second) in
-          same_meaning (subst (λ r. Means m root 0 (in_prolog at_front BYTE_ORDER_MARK) r o) same n) l
-      by (marked {rest} a) (unmarked b) n l = absurd (b rest a)
-      by (unmarked a) (marked {rest} b) n l = absurd (a rest b)
-      by (unmarked a) (unmarked b) n l = same_meaning n l
+  same_document_meaning {bytes} {o} (items {mark = mark} {rest = rest} few a n) (items {mark = other} {rest = more} less b l) =
+      let same = same_byte_order_mark bytes mark rest other more a b in
+      let meant = subst (λ k. DocumentRestMeans limits.depth m root 0 (in_prolog at_front k) rest o) same.0 n in
+      same_meaning one_item limits.depth m root (subst (λ r. DocumentRestMeans limits.depth m root 0 (in_prolog at_front other) r o) same.1 meant) l

@@ -3,7 +3,7 @@ use Rattle.std.proofs.Common.{◌≡◌, ℕ, inl, inr, List, [], ◌∷◌, ◌
 use Rattle.std.specs.Prelude.{codes, IsTrue}
 use Rattle.std.proofs.lemmas.Bool.{and_parts}
 use Rattle.std.specs.Option.{MatchOption, is_some}
-use Rattle.pv_chars.specs.Fronts.{Holds}
+use Rattle.pv_chars.specs.Fronts.{ContainsBytes}
 use Rattle.pv_chars.specs.References.{IsReference}
 use Rattle.pv_tree.specs.Attributes.{IsCharacterData}
 use Rattle.pv_read.specs.Items.{text_run, IsRunEnd, BeginsItem}
@@ -43,7 +43,7 @@ pub same_run : (run rest other more bytes : List ℕ) → BeginsItem (text_run r
 same_run run rest other more bytes b c = same_cut run other rest more (run_has_no_less run b.has_form) (run_has_no_less other c.has_form) b.ends_well c.ends_well (sym b.whole ∙ c.whole)
 
 -- where the bytes before the first `<` are no character data, no text run stands there
-pub no_run : (bytes run rest : List ℕ) → bytes ≡ run ++ rest → (Holds run (codes "<") → ⊥) → IsRunEnd rest → (IsCharacterData IsReference run → ⊥) → BeginsNoneOf sort.Text bytes
+pub no_run : (bytes run rest : List ℕ) → bytes ≡ run ++ rest → (ContainsBytes run (codes "<") → ⊥) → IsRunEnd rest → (IsCharacterData IsReference run → ⊥) → BeginsNoneOf sort.Text bytes
 no_run bytes run rest e free ends none (text_run other) more is b =
     let same = (same_cut other run more rest (run_has_no_less other b.has_form) (by_holds 60 run free) b.ends_well ends (sym b.whole ∙ e)).0 in
     none (subst (λ (l : List ℕ). IsCharacterData IsReference l) same b.has_form)

@@ -1,9 +1,13 @@
 -- The kinds of faults of a document text, in the order in which they are tested.
-use Rattle.std.specs.Prelude.{◌≡◌, ◌≤◌, ◌<◌, ℕ, Bool, true, false, List, ◌++◌, codes, Some, None, IsTrue}
-use Rattle.pv_tree.specs.Legal.{MAX_DEPTH}
+use Rattle.std.specs.Prelude.{◌≡◌, ◌<◌, ℕ, Bool, true, false, List, ◌++◌, codes, Option, Some}
+use Rattle.std.specs.Prelude.{None, IsTrue}
 use Rattle.pv_tree.specs.Prolog.{IsDoctypeFront}
-use Rattle.pv_read.specs.Items.{Item, xml_declaration, doctype, comment_or_instruction, cdata_section, start_tag, empty_tag, end_tag, text_run, HasKnownReferences, BeginsItem}
-use Rattle.pv_read.specs.Left.{Left, in_prolog, in_content, in_epilog, takes_doctype, left_by, open_elements, IsWholeAt}
+use Rattle.pv_read.specs.Items.{Item, xml_declaration, doctype, comment_or_instruction}
+use Rattle.pv_read.specs.Items.{cdata_section, start_tag, empty_tag, end_tag, text_run}
+use Rattle.pv_read.specs.Items.{HasKnownReferences, BeginsItem}
+use Rattle.pv_read.specs.Limits.{IsDeepest}
+use Rattle.pv_read.specs.Left.{Left, in_prolog, in_content, in_epilog, takes_doctype, left_by}
+use Rattle.pv_read.specs.Left.{open_elements, IsWholeAt}
 
 pub data Kind : Type 0 where
   subset : Kind
@@ -28,7 +32,8 @@ may_stand_doctype (in_content before inner outer) = false
 may_stand_doctype (in_epilog before root after) = false
 
 -- An item of this property stands at the front, and it may stand here.
-pub record Stands {M : Type 0} (m : M) (left : Left M) (rest : List ℕ) (P : Item → Type 0) : Type 0 where
+pub record Stands {M : Type 0} (m : M) (left : Left M) (rest : List ℕ) (P : Item → Type 0)
+    : Type 0 where
   pub item : Item
   pub more : List ℕ
   pub next : Left M
@@ -75,19 +80,21 @@ opens_element (empty_tag name attrs) = true
 opens_element (end_tag name gap) = false
 opens_element (text_run bytes) = false
 
--- it opens an element, and as many are open as may be
-abbrev pub IsTooDeep : {M : Type 0} → Left M → Item → Type 0
-IsTooDeep left i = IsTrue (opens_element i) × (MAX_DEPTH ≤ open_elements left)
+-- It opens an element, and as many are open as may be. The most depth, where there is one, is
+-- given.
+abbrev pub IsTooDeep : {M : Type 0} → Option ℕ → Left M → Item → Type 0
+IsTooDeep most left i = IsTrue (opens_element i) × IsDeepest most (open_elements left)
 
--- a fault of this kind stands at the front of the rest
-abbrev pub HasFault : {M : Type 0} → M → List ℕ → Left M → List ℕ → Kind → Type 0
-HasFault m root left rest subset = IsTrue (may_stand_doctype left) × BeginsSubset rest
-HasFault m root left rest syntax =
-    (IsWholeAt left rest → ⊥) × ((i : Item) (more : List ℕ) → BeginsItem i rest more → left_by m left i ≡ None)
-HasFault m root left rest entity = Stands m left rest (λ i. HasKnownReferences i → ⊥)
-HasFault m root left rest mismatch = Stands m left rest (IsMismatch left)
-HasFault m root left rest doctype_name = Stands m left rest (IsOtherDoctype root)
-HasFault m root left rest deep = Stands m left rest (IsTooDeep left)
+-- A fault of this kind stands at the front of the rest.
+abbrev pub HasFault : {M : Type 0} → Option ℕ → M → List ℕ → Left M → List ℕ → Kind → Type 0
+HasFault most m root left rest subset = IsTrue (may_stand_doctype left) × BeginsSubset rest
+HasFault most m root left rest syntax =
+    (IsWholeAt left rest → ⊥) × ((i : Item) (more : List ℕ) → BeginsItem i rest more →
+    left_by m left i ≡ None)
+HasFault most m root left rest entity = Stands m left rest (λ i. HasKnownReferences i → ⊥)
+HasFault most m root left rest mismatch = Stands m left rest (IsMismatch left)
+HasFault most m root left rest doctype_name = Stands m left rest (IsOtherDoctype root)
+HasFault most m root left rest deep = Stands m left rest (IsTooDeep most left)
 
 -- the order of the kinds
 abbrev pub rank : Kind → ℕ
@@ -99,6 +106,8 @@ rank doctype_name = 4
 rank deep = 5
 
 -- the first kind of fault that stands at the front
-pub record IsFirstFault {M : Type 0} (m : M) (root : List ℕ) (left : Left M) (rest : List ℕ) (kind : Kind) : Type 0 where
-  pub holds : HasFault m root left rest kind
-  pub first : (earlier : Kind) → rank earlier < rank kind → HasFault m root left rest earlier → ⊥
+pub record IsFirstFault {M : Type 0} (most : Option ℕ) (m : M) (root : List ℕ) (left : Left M)
+    (rest : List ℕ) (kind : Kind) : Type 0 where
+  pub holds : HasFault most m root left rest kind
+  pub first : (earlier : Kind) → rank earlier < rank kind →
+      HasFault most m root left rest earlier → ⊥

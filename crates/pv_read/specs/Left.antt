@@ -1,10 +1,14 @@
--- What the items of a document so far leave: the place, and what of the tree was read. Mark m is given to each element.
-use Rattle.std.specs.Prelude.{◌≡◌, ℕ, suc, List, [], ◌∷◌, ◌++◌, length, Bool, true, false, Option, Some, None, if◌then◌else◌}
+-- What the items of a document so far leave: the place, and what of the tree was read. Mark m is
+-- given to each element.
+use Rattle.std.specs.Prelude.{◌≡◌, ℕ, suc, List, [], ◌∷◌, ◌++◌, length, Bool, true, false, Option}
+use Rattle.std.specs.Prelude.{Some, None, if◌then◌else◌}
 use Rattle.std.specs.List.{list_all}
 use Rattle.pv_chars.specs.Spaces.{is_space}
 use Rattle.pv_chars.specs.Units.{units_in}
-use Rattle.pv_tree.specs.Plain.{short, tagged, Tree, element, text_node, cdata_node, misc_node, forest_of, no_trees}
-use Rattle.pv_read.specs.Items.{Item, xml_declaration, doctype, comment_or_instruction, cdata_section, start_tag, empty_tag, end_tag, text_run}
+use Rattle.pv_tree.specs.Plain.{short, tagged, Tree, element, text_node, cdata_node, misc_node}
+use Rattle.pv_tree.specs.Plain.{forest_of, no_trees}
+use Rattle.pv_read.specs.Items.{Item, xml_declaration, doctype, comment_or_instruction}
+use Rattle.pv_read.specs.Items.{cdata_section, start_tag, empty_tag, end_tag, text_run}
 
 -- An open element: its name, the bytes behind it in its tag, and its kids so far.
 pub record Open (M : Type 0) : Type 0 where
@@ -12,14 +16,15 @@ pub record Open (M : Type 0) : Type 0 where
   pub attrs : List ℕ
   pub kids : List (Tree M)
 
--- where in the prolog: at its front, with no item yet; before a document type declaration; behind one
+-- where in the prolog: at its front, with no item yet; before a document type declaration; behind
+-- one
 pub data PlainStage : Type 0 where
   at_front : PlainStage
   before_doctype : PlainStage
   behind_doctype : PlainStage
 
--- in the prolog, with its bytes so far; in the root, with the innermost open element and those around it, innermost first;
--- behind the root, with the bytes since
+-- in the prolog, with its bytes so far; in the root, with the innermost open element and those
+-- around it, innermost first; behind the root, with the bytes since
 pub data Left (M : Type 0) : Type 0 where
   in_prolog : (stage : PlainStage) → (before : List ℕ) → Left M
   in_content : (before : List ℕ) → (inner : Open M) → (outer : List (Open M)) → Left M
@@ -65,36 +70,53 @@ joined_to before (inner ∷ outer) t = in_content before (with_kid inner t) oute
 
 -- What an item in the prolog leaves; none where it may not stand there.
 abbrev pub left_in_prolog : {M : Type 0} → M → PlainStage → List ℕ → Item → Option (Left M)
-left_in_prolog m stage before (xml_declaration bytes) = if is_at_front stage then Some (in_prolog before_doctype (before ++ bytes)) else None
-left_in_prolog m stage before (doctype name bytes) = if takes_doctype stage then Some (in_prolog behind_doctype (before ++ bytes)) else None
-left_in_prolog m stage before (comment_or_instruction bytes) = Some (in_prolog (behind_misc stage) (before ++ bytes))
+left_in_prolog m stage before (xml_declaration bytes) =
+    if is_at_front stage then Some (in_prolog before_doctype (before ++ bytes)) else None
+left_in_prolog m stage before (doctype name bytes) =
+    if takes_doctype stage then Some (in_prolog behind_doctype (before ++ bytes)) else None
+left_in_prolog m stage before (comment_or_instruction bytes) =
+    Some (in_prolog (behind_misc stage) (before ++ bytes))
 left_in_prolog m stage before (cdata_section bytes) = None
-left_in_prolog m stage before (start_tag name attrs) = Some (in_content before (just_opened name attrs) [])
-left_in_prolog m stage before (empty_tag name attrs) = Some (in_epilog before (empty_element m name attrs) [])
+left_in_prolog m stage before (start_tag name attrs) =
+    Some (in_content before (just_opened name attrs) [])
+left_in_prolog m stage before (empty_tag name attrs) =
+    Some (in_epilog before (empty_element m name attrs) [])
 left_in_prolog m stage before (end_tag name gap) = None
-left_in_prolog m stage before (text_run bytes) = if list_all is_space bytes then Some (in_prolog (behind_misc stage) (before ++ bytes)) else None
+left_in_prolog m stage before (text_run bytes) =
+    if list_all is_space bytes then Some (in_prolog (behind_misc stage) (before ++ bytes))
+    else None
 
--- What an item in the root leaves; none where it may not stand there. Whether an end tag has the right name is asked elsewhere.
-abbrev pub left_in_content : {M : Type 0} → M → List ℕ → Open M → List (Open M) → Item → Option (Left M)
+-- What an item in the root leaves; none where it may not stand there. Whether an end tag has the
+-- right name is asked elsewhere.
+abbrev pub left_in_content : {M : Type 0} → M → List ℕ → Open M → List (Open M) → Item →
+    Option (Left M)
 left_in_content m before inner outer (xml_declaration bytes) = None
 left_in_content m before inner outer (doctype name bytes) = None
-left_in_content m before inner outer (comment_or_instruction bytes) = Some (in_content before (with_kid inner (misc_node bytes)) outer)
-left_in_content m before inner outer (cdata_section bytes) = Some (in_content before (with_kid inner (cdata_node bytes)) outer)
-left_in_content m before inner outer (start_tag name attrs) = Some (in_content before (just_opened name attrs) (inner ∷ outer))
-left_in_content m before inner outer (empty_tag name attrs) = Some (in_content before (with_kid inner (empty_element m name attrs)) outer)
-left_in_content m before inner outer (end_tag name gap) = Some (joined_to before outer (closed_element m inner gap))
-left_in_content m before inner outer (text_run bytes) = Some (in_content before (with_kid inner (text_node (units_in bytes))) outer)
+left_in_content m before inner outer (comment_or_instruction bytes) =
+    Some (in_content before (with_kid inner (misc_node bytes)) outer)
+left_in_content m before inner outer (cdata_section bytes) =
+    Some (in_content before (with_kid inner (cdata_node bytes)) outer)
+left_in_content m before inner outer (start_tag name attrs) =
+    Some (in_content before (just_opened name attrs) (inner ∷ outer))
+left_in_content m before inner outer (empty_tag name attrs) =
+    Some (in_content before (with_kid inner (empty_element m name attrs)) outer)
+left_in_content m before inner outer (end_tag name gap) =
+    Some (joined_to before outer (closed_element m inner gap))
+left_in_content m before inner outer (text_run bytes) =
+    Some (in_content before (with_kid inner (text_node (units_in bytes))) outer)
 
 -- What an item behind the root leaves; none where it may not stand there.
 abbrev pub left_in_epilog : {M : Type 0} → List ℕ → Tree M → List ℕ → Item → Option (Left M)
 left_in_epilog before root after (xml_declaration bytes) = None
 left_in_epilog before root after (doctype name bytes) = None
-left_in_epilog before root after (comment_or_instruction bytes) = Some (in_epilog before root (after ++ bytes))
+left_in_epilog before root after (comment_or_instruction bytes) =
+    Some (in_epilog before root (after ++ bytes))
 left_in_epilog before root after (cdata_section bytes) = None
 left_in_epilog before root after (start_tag name attrs) = None
 left_in_epilog before root after (empty_tag name attrs) = None
 left_in_epilog before root after (end_tag name gap) = None
-left_in_epilog before root after (text_run bytes) = if list_all is_space bytes then Some (in_epilog before root (after ++ bytes)) else None
+left_in_epilog before root after (text_run bytes) =
+    if list_all is_space bytes then Some (in_epilog before root (after ++ bytes)) else None
 
 -- what the items so far and this one leave; none where this one may not stand here
 abbrev pub left_by : {M : Type 0} → M → Left M → Item → Option (Left M)

@@ -3,7 +3,8 @@ use Rattle.std.specs.Prelude.{ℕ, Bool, true, false, List, [], map, reverse, Op
 use Rattle.pv_tree.specs.PlainForms.{plain, plain_all}
 use Rattle.pv_tree.specs.declared.nodes.Mark.{Mark}
 use Rattle.pv_tree.specs.declared.nodes.Node.{Node}
-use Rattle.pv_read.specs.Items.{Item, xml_declaration, doctype, comment_or_instruction, cdata_section, start_tag, empty_tag, end_tag, text_run}
+use Rattle.pv_read.specs.Items.{Item, xml_declaration, doctype, comment_or_instruction}
+use Rattle.pv_read.specs.Items.{cdata_section, start_tag, empty_tag, end_tag, text_run}
 use Rattle.pv_read.specs.Left.{Left, Open, in_content, in_epilog}
 use Rattle.pv_read.specs.declared.open.OpenElement.{OpenElement}
 use Rattle.pv_read.specs.declared.open.OpenElements.{OpenElements}

@@ -1,9 +1,11 @@
 -- What of the items so far decides which item may stand next.
-use Rattle.std.specs.Prelude.{◌≡◌, ℕ, suc, Bool, true, false, List, length}
+use Rattle.std.specs.Prelude.{◌≡◌, ◌≢◌, ◌<◌, ℕ, suc, Bool, true, false, List, [], length}
 use Rattle.std.specs.List.{list_all}
 use Rattle.pv_chars.specs.Spaces.{is_space}
-use Rattle.pv_read.specs.Items.{Item, xml_declaration, doctype, comment_or_instruction, cdata_section, start_tag, empty_tag, end_tag, text_run}
-use Rattle.pv_read.specs.Left.{Left, PlainStage, before_doctype, behind_doctype, in_prolog, in_content, in_epilog, takes_doctype, is_at_front, behind_misc}
+use Rattle.pv_read.specs.Items.{Item, xml_declaration, doctype, comment_or_instruction}
+use Rattle.pv_read.specs.Items.{cdata_section, start_tag, empty_tag, end_tag, text_run}
+use Rattle.pv_read.specs.Left.{Left, PlainStage, before_doctype, behind_doctype, in_prolog}
+use Rattle.pv_read.specs.Left.{in_content, in_epilog, takes_doctype, is_at_front, behind_misc}
 
 -- in the prolog at this stage; in an element of this name, with so many open ones; behind the root
 pub data PlainPlace : Type 0 where
@@ -27,6 +29,12 @@ abbrev pub open_at : PlainPlace → ℕ
 open_at (prolog stage) = 0
 open_at (content name open_elements) = open_elements
 open_at epilog = 0
+
+-- An item is to stand here: an element is open in content, and something is left behind the root.
+abbrev pub AsksForItem : PlainPlace → List ℕ → Type 0
+AsksForItem (prolog stage) rest = Unit {0}
+AsksForItem (content name open_elements) rest = 0 < open_elements
+AsksForItem epilog rest = rest ≢ []
 
 -- the item may stand in the prolog at this stage
 abbrev pub may_stand_in_prolog : PlainStage → Item → Bool

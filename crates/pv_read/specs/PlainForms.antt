@@ -6,7 +6,8 @@ use Rattle.pv_tree.specs.declared.document.Doc.{Doc}
 use Rattle.pv_read.specs.Kinds.{Kind, subset, syntax, entity, mismatch, doctype_name, deep}
 use Rattle.pv_read.specs.Meaning.{Outcome, is_document, faulty, too_long}
 use Rattle.pv_read.specs.declared.errors.DocError.{DocError}
-use Rattle.pv_read.specs.declared.errors.DocError.TheVariants.{Syntax, Mismatch, Entity, Subset, DoctypeName, Deep, Limit, NoMemory}
+use Rattle.pv_read.specs.declared.errors.DocError.TheVariants.{Syntax, Mismatch, Entity, Subset}
+use Rattle.pv_read.specs.declared.errors.DocError.TheVariants.{DoctypeName, Deep, Limit, NoMemory}
 
 -- the refusal of a text whose first fault is of this kind, behind so many items
 abbrev pub refusal : Kind → ℕ → DocError

@@ -1,6 +1,7 @@
 -- The items that are read as plain ones, and what begins no item.
 use Rattle.std.specs.Prelude.{◌≡◌, ℕ, List}
-use Rattle.pv_read.specs.Items.{Item, xml_declaration, doctype, comment_or_instruction, cdata_section, start_tag, empty_tag, end_tag, text_run, BeginsItem}
+use Rattle.pv_read.specs.Items.{Item, xml_declaration, doctype, comment_or_instruction}
+use Rattle.pv_read.specs.Items.{cdata_section, start_tag, empty_tag, end_tag, text_run, BeginsItem}
 use Rattle.pv_read.specs.Sorts.{sort}
 use Rattle.pv_read.specs.declared.forms.items.Item.{Item as SpannedItem}
 use Rattle.pv_read.specs.declared.forms.items.Item.TheVariants as item

@@ -1,8 +1,10 @@
 -- The sort of an item: what alone it may be, by its first bytes.
 use Rattle.std.specs.Prelude.{ℕ, List, [], ◌∷◌, ◌==◌, if◌then◌else◌}
-use Rattle.pv_read.specs.Items.{Item, xml_declaration, doctype, comment_or_instruction, cdata_section, start_tag, empty_tag, end_tag, text_run}
+use Rattle.pv_read.specs.Items.{Item, xml_declaration, doctype, comment_or_instruction}
+use Rattle.pv_read.specs.Items.{cdata_section, start_tag, empty_tag, end_tag, text_run}
 use Rattle.pv_read.specs.declared.forms.sorts.Sort.{Sort}
-use Rattle.pv_read.specs.declared.forms.sorts.Sort.TheVariants.{Text, Tag, EndTag, Misc, Section, Doctype}
+use Rattle.pv_read.specs.declared.forms.sorts.Sort.TheVariants.{Text, Tag, EndTag, Misc, Section}
+use Rattle.pv_read.specs.declared.forms.sorts.Sort.TheVariants.{Doctype}
 
 -- by what stands behind `<!`
 abbrev pub sort_behind_mark : List ℕ → Sort
@@ -12,7 +14,8 @@ sort_behind_mark (b ∷ bs) = if b == 45 then Misc else (if b == 91 then Section
 -- by what stands behind `<`
 abbrev pub sort_behind_less : List ℕ → Sort
 sort_behind_less [] = Tag
-sort_behind_less (b ∷ bs) = if b == 47 then EndTag else (if b == 33 then sort_behind_mark bs else (if b == 63 then Misc else Tag))
+sort_behind_less (b ∷ bs) = if b == 47 then EndTag
+    else (if b == 33 then sort_behind_mark bs else (if b == 63 then Misc else Tag))
 
 -- that of an item at the front of these bytes
 abbrev pub sort_of : List ℕ → Sort

@@ -1,14 +1,15 @@
--- What a reader of a form takes from the front of some bytes, and that nothing else can be taken there.
+-- What a reader of a form takes from the front of some bytes, and that nothing else can be taken
+-- there.
 use Rattle.std.specs.Prelude.{◌≡◌, ◌⊎◌, ℕ, Bool, true, false, ◌||◌, ◌==◌, List, [], ◌∷◌, ◌++◌}
 use Rattle.pv_chars.specs.Spaces.{is_space, IsSpace, begins}
-use Rattle.pv_chars.specs.Fronts.{BeginsNone, Holds}
+use Rattle.pv_chars.specs.Fronts.{BeginsNone, ContainsBytes}
 use Rattle.pv_tree.specs.Attributes.{AreMadeOf, IsAttributes}
 use Rattle.pv_tree.specs.Prolog.{IsDoctypeFront}
 
 -- The bytes are cut in two before the first of this byte, or else at their end.
 pub record IsCutBefore (byte : ℕ) (bytes before rest : List ℕ) : Type 0 where
   pub whole : bytes ≡ before ++ rest
-  pub free : Holds before (byte ∷ []) → ⊥
+  pub free : ContainsBytes before (byte ∷ []) → ⊥
   pub ends : (rest ≡ []) ⊎ ((more : List ℕ) × (rest ≡ byte ∷ more))
 
 -- As many such pieces as stand at the front, and this stands after them.
@@ -49,7 +50,8 @@ abbrev pub BeginsNoDoctypeFront : List ℕ → Type 0
 BeginsNoDoctypeFront bytes = (name front more : List ℕ) → IsDoctypeFront name front →
     bytes ≡ front ++ more → ends_front more ≡ true → ⊥
 
--- The front of a document type declaration of this name, and this after it. No other stands before an end or an internal subset.
+-- The front of a document type declaration of this name, and this after it. No other stands before
+-- an end or an internal subset.
 pub record TakesDoctypeFront (bytes name rest : List ℕ) : Type 0 where
   pub front : List ℕ
   pub is_front : IsDoctypeFront name front

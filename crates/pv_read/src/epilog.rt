@@ -1,11 +1,11 @@
 //! What stands after the root element (XML 1.0, section 2.8).
 
-ghost use Rattle.std.specs.Prelude.{◌≤◌, ◌+◌, [], ℕ, List, length, IfOk, IfErr};
+ghost use Rattle.std.specs.Prelude.{◌<◌, ◌+◌, ◌^◌, [], ℕ, List, length, IfOk, IfErr};
 ghost use Rattle.pv_tree.specs.Plain.{Tree};
 ghost use Rattle.pv_tree.specs.Marks.{blank_mark};
 ghost use Rattle.pv_tree.specs.declared.nodes.Mark.{Mark};
 ghost use Rattle.pv_read.specs.Left.{in_epilog};
-ghost use Rattle.pv_read.specs.Meaning.{MAX_DOC_BYTES, Means};
+ghost use Rattle.pv_read.specs.Meaning.{DocumentRestMeans};
 ghost use Rattle.pv_read.specs.Errors.{Refuses};
 ghost use Rattle.pv_read.specs.Epilogs.{EndsDocument};
 
@@ -13,17 +13,24 @@ use crate::errors::DocError;
 use crate::faults::next_item;
 use crate::places::Place;
 
-/// Whether what stands behind the root, which so many items end, may stand there.
-pub fn read_epilog(root: &[u8], end: &[u8], first: u64) -> Result<(), DocError>
-    requires { first + length end.now ≤ MAX_DOC_BYTES }
-    ensures ends { IfOk result (λ _. EndsDocument root.now first end.now) }
+/// Whether what stands behind the root, which so many items end, may stand there. Elements stand
+/// at most so deep, or at any depth.
+pub fn read_epilog(
+    most_depth: Option<usize>,
+    root: &[u8],
+    end: &[u8],
+    first: u64,
+) -> Result<(), DocError>
+    requires { first + length end.now < 2 ^ 64 }
+    ensures ends { IfOk result (λ _. EndsDocument most_depth root.now first end.now) }
     ensures refused { IfErr result (λ e. (before : List ℕ) (t : Tree Mark) →
-        Refuses (Means blank_mark root.now first (in_epilog before t []) end.now) e) }
+        Refuses (DocumentRestMeans most_depth blank_mark root.now first (in_epilog before t [])
+        end.now) e) }
 {
     let mut rest = end;
     let mut count = first;
     'items: while !rest.is_empty() {
-        let (_, more) = next_item(&Place::Epilog, root, rest, count)?;
+        let (_, more) = next_item(most_depth, &Place::Epilog, root, rest, count)?;
         count += 1;
         rest = more;
     }

@@ -7,9 +7,10 @@ use pv_chars::NoMemory;
 use std::alloc::{AllocError, AllocFailed};
 use thiserror::Error;
 
-/// Why there is no document. A number counts the whole items before the first one in fault; text runs are items, and a byte order
-/// mark is none. Where several kinds of fault stand at one item, the kind is `Subset`, or else the first of `Syntax`, `Entity`,
-/// `Mismatch`, `DoctypeName` and `Deep`.
+/// Why there is no document. A number counts the whole items before the first one in fault; text
+/// runs are items, and a byte order mark is none. Where several kinds of fault stand at one item,
+/// the kind is `Subset`, or else the first of `Syntax`, `Entity`, `Mismatch`, `DoctypeName` and
+/// `Deep`.
 #[derive(Debug, Drop, Error)]
 pub enum DocError {
     /// No item stands here, or one that may not stand here, or the text ends before its root does.
@@ -18,7 +19,8 @@ pub enum DocError {
     /// An end tag of another name than that of the innermost open element.
     #[error("item {0} ends an element of another name")]
     Mismatch(u64),
-    /// A reference to a name that would need a declaration: another than `lt`, `gt`, `amp`, `apos` and `quot`.
+    /// A reference to a name that would need a declaration: another than `lt`, `gt`, `amp`, `apos`
+    /// and `quot`.
     #[error("item {0} refers to a name that isn't declared")]
     Entity(u64),
     /// A document type declaration with an internal subset.
@@ -27,10 +29,10 @@ pub enum DocError {
     /// A document type declaration of another name than the root's.
     #[error("the document type declaration has another name than the root")]
     DoctypeName,
-    /// An element inside 512 others.
+    /// An element inside as many others as may be: inside 512, where a document is read.
     #[error("item {0} opens an element too deep")]
     Deep(u64),
-    /// More than 67,108,864 bytes.
+    /// More bytes than there may be: than 67,108,864, where a document is read.
     #[error("the document has too many bytes")]
     Limit,
     /// There was too little memory to go on, and nothing is known of the bytes.

@@ -18,6 +18,3 @@ pub use items::{Item, Tag};
 pub use known::has_known_references;
 pub use reading::item_at;
 pub use texts::run_at;
-
-#[cfg(test)]
-mod tests;

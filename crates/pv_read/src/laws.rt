@@ -2,11 +2,15 @@
 
 ghost use Rattle.std.specs.Prelude.{ℕ, List};
 ghost use Rattle.pv_tree.specs.Prolog.{IsProlog};
-ghost use Rattle.pv_read.specs.DocumentLaws.{GrammarsAgree, DocumentsMeanOne, HasOneMeaning, MeansWhatItSpells, SpellsOneDocument};
-ghost use Rattle.pv_read.specs.ItemLaws.{ItemsAreDetermined, TextsAreRuns, UnitsAreCharacterData, CharacterDataIsUnits};
+ghost use Rattle.pv_read.specs.DocumentLaws.{GrammarsAgree, DocumentsMeanOne, HasOneMeaning};
+ghost use Rattle.pv_read.specs.DocumentLaws.{MeansWhatItSpells, SpellsOneDocument};
+ghost use Rattle.pv_read.specs.DocumentLaws.{MeansSameWithinWider};
+ghost use Rattle.pv_read.specs.Limits.{TextLimits};
+ghost use Rattle.pv_read.specs.ItemLaws.{ItemsAreDetermined, TextsAreRuns, UnitsAreCharacterData};
+ghost use Rattle.pv_read.specs.ItemLaws.{CharacterDataIsUnits};
 
 use crate::forms::{begins_subset, item_at};
-use crate::reading::after_mark;
+use pv_chars::scan::after_byte_order_mark;
 use pv_tree::Doc;
 
 /// At most one item stands at the front.
@@ -14,31 +18,40 @@ pub fn one_item_law()
     ensures { ItemsAreDetermined }
 {}
 
-/// A text that `text_units` cuts into units is a text run in which each reference is known, and the other way round.
+/// A text that `text_units` cuts into units is a text run in which each reference is known, and
+/// the other way round.
 pub fn text_law()
     ensures run { TextsAreRuns }
     ensures units { UnitsAreCharacterData }
     ensures back { CharacterDataIsUnits }
 {}
 
-/// A text means at most one thing: a document, its first item in fault, or that it has too many bytes.
+/// A text means at most one thing: a document, its first item in fault, or that it has too many
+/// bytes.
 pub fn one_meaning_law()
     ensures { DocumentsMeanOne }
 {}
 
-/// A text means exactly one thing: a document, its first item in fault, or that it has too many bytes.
+/// A text means exactly one thing: a document, its first item in fault, or that it has too many
+/// bytes.
 ///
-/// This function goes over the items of the text, whether or not they may stand where they do, and takes no memory.
+/// This function goes over the items of the text, whether or not they may stand where they do, and
+/// takes no memory.
 pub fn has_meaning_law(bytes: &[u8], root: &[u8])
-    ensures { HasOneMeaning root.now bytes.now }
+    ensures { (limits : TextLimits) → HasOneMeaning limits root.now bytes.now }
 {
-    let mut rest = after_mark(bytes);
+    let mut rest = after_byte_order_mark(bytes);
     'items: while let Some((_, more)) = item_at(rest) {
         let _subset = begins_subset(rest);
         rest = more;
     }
     let _subset = begins_subset(rest);
 }
+
+/// Within wider limits a text means the same, unless a limit was passed.
+pub fn wider_limits_law()
+    ensures { MeansSameWithinWider }
+{}
 
 /// The grammar of a document by its items and the one by its tree give the same documents.
 pub fn agreement_law()

@@ -4,7 +4,8 @@ ghost use Rattle.std.specs.Prelude.{◌≡◌, ℕ, List, [], ◌∷◌, IsTrue,
 ghost use Rattle.pv_tree.specs.Plain.{tagged, element};
 ghost use Rattle.pv_tree.specs.PlainForms.{plain, forest};
 ghost use Rattle.pv_tree.specs.Marks.{blank_mark};
-ghost use Rattle.pv_read.specs.Left.{left_by, just_opened, with_kid, empty_element, closed_element, joined_to};
+ghost use Rattle.pv_read.specs.Left.{left_by, just_opened, with_kid, empty_element};
+ghost use Rattle.pv_read.specs.Left.{closed_element, joined_to};
 ghost use Rattle.pv_read.specs.PlainItems.{plain_item};
 ghost use Rattle.pv_read.specs.PlainPlaces.{plain_place};
 ghost use Rattle.pv_read.specs.Places.{place_of};
@@ -40,7 +41,8 @@ impl<'a> OpenElement<'a> {
 
 /// The element of an empty-element tag.
 pub fn empty_element(alloc: Global, tag: &Tag<'_>) -> Result<Node, NoMemory>
-    ensures { IfOk result (λ node. plain node ≡ empty_element blank_mark tag.now.name.now tag.now.attrs.now) }
+    ensures { IfOk result (λ node. plain node
+        ≡ empty_element blank_mark tag.now.name.now tag.now.attrs.now) }
 {
     Ok(Node::Elem {
         name: bytes_of(alloc, tag.name)?,
@@ -59,7 +61,8 @@ fn tagged_element(
     kids: Nodes,
     gap: &[u8],
 ) -> Result<Node, NoMemory>
-    ensures { IfOk result (λ node. plain node ≡ element name.now attrs.now (tagged gap.now) (forest kids.items) blank_mark) }
+    ensures { IfOk result (λ node. plain node
+        ≡ element name.now attrs.now (tagged gap.now) (forest kids.items) blank_mark) }
 {
     let mut kids = kids;
     kids.shrink_to_fit();
@@ -100,7 +103,8 @@ impl<'a> OpenElements<'a> {
 
     /// One more kid of the innermost open element.
     pub fn add_kid(&mut self, kid: Node) -> Result<(), NoMemory>
-        ensures inner { OnOk result (plain_open self.new.inner ≡ with_kid (plain_open self.old.inner) (plain kid)) }
+        ensures inner { OnOk result (plain_open self.new.inner
+            ≡ with_kid (plain_open self.old.inner) (plain kid)) }
         ensures outer { OnOk result (self.new.outer.items ≡ self.old.outer.items) }
     {
         self.inner.kids.push(kid)?;
@@ -109,8 +113,10 @@ impl<'a> OpenElements<'a> {
 
     // One more open element, the innermost.
     fn open(&mut self, alloc: Global, tag: &Tag<'a>) -> Result<(), NoMemory>
-        ensures inner { OnOk result (plain_open self.new.inner ≡ just_opened tag.now.name.now tag.now.attrs.now) }
-        ensures outer { OnOk result (opens_of self.new.outer.items ≡ plain_open self.old.inner ∷ opens_of self.old.outer.items) }
+        ensures inner { OnOk result (plain_open self.new.inner
+            ≡ just_opened tag.now.name.now tag.now.attrs.now) }
+        ensures outer { OnOk result (opens_of self.new.outer.items ≡ plain_open self.old.inner
+            ∷ opens_of self.old.outer.items) }
     {
         let inner = mem::replace(&mut self.inner, OpenElement::of(alloc, tag));
         self.outer.push(inner)?;
@@ -120,7 +126,8 @@ impl<'a> OpenElements<'a> {
     // The innermost open element ends: it is a kid of the one around it, or the root.
     fn close(&mut self, alloc: Global, gap: &[u8]) -> Result<Option<Node>, NoMemory>
         ensures { IfOk result (λ root. (before : List ℕ) → left_after before self.new root ≡
-            joined_to before (opens_of self.old.outer.items) (closed_element blank_mark (plain_open self.old.inner) gap.now)) }
+            joined_to before (opens_of self.old.outer.items)
+            (closed_element blank_mark (plain_open self.old.inner) gap.now)) }
     {
         let kids = mem::replace(&mut self.inner.kids, Vec::new(alloc));
         let element = tagged_element(alloc, self.inner.name, self.inner.attrs, kids, gap)?;
@@ -136,7 +143,8 @@ impl<'a> OpenElements<'a> {
     pub fn add(&mut self, alloc: Global, item: &Item<'a>) -> Result<Option<Node>, NoMemory>
         requires { IsTrue (is_markup (plain_item item.now)) }
         ensures { IfOk result (λ root. (before : List ℕ) →
-            left_by blank_mark (left_in before self.old) (plain_item item.now) ≡ Some (left_after before self.new root)) }
+            left_by blank_mark (left_in before self.old) (plain_item item.now)
+            ≡ Some (left_after before self.new root)) }
     {
         match item {
             Item::StartTag(tag) => self.open(alloc, tag)?,

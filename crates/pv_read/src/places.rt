@@ -7,12 +7,15 @@ ghost use Rattle.pv_read.specs.Left.{is_at_front, takes_doctype, behind_misc};
 ghost use Rattle.pv_read.specs.Kinds.{IsOtherDoctype, opens_element};
 ghost use Rattle.pv_read.specs.PlainItems.{plain_item};
 ghost use Rattle.pv_read.specs.PlainPlaces.{plain_stage, plain_place};
-ghost use Rattle.pv_read.specs.Places.{takes_doctype_at, open_at, may_stand_in_prolog, may_stand_in_content, may_stand_in_epilog, may_stand, IsMismatchIn, IsMismatchAt, stage_behind};
+ghost use Rattle.pv_read.specs.Places.{takes_doctype_at, open_at, may_stand_in_prolog};
+ghost use Rattle.pv_read.specs.Places.{may_stand_in_content, may_stand_in_epilog, may_stand};
+ghost use Rattle.pv_read.specs.Places.{IsMismatchIn, IsMismatchAt, stage_behind};
 
 use crate::forms::Item;
 use pv_chars::scan::is_space;
 
-/// Where in the prolog: at its front, with no item yet; before a document type declaration; behind one.
+/// Where in the prolog: at its front, with no item yet; before a document type declaration; behind
+/// one.
 #[derive(Clone, Copy)]
 pub enum PrologStage {
     AtFront,

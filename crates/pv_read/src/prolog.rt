@@ -1,9 +1,9 @@
 //! What stands before the root element (XML 1.0, section 2.8).
 
-ghost use Rattle.std.specs.Prelude.{◌≡◌, ◌≤◌, ℕ, List, length, IfOk, IfErr};
+ghost use Rattle.std.specs.Prelude.{◌<◌, ◌^◌, ℕ, List, length, IfOk, IfErr};
 ghost use Rattle.pv_tree.specs.Marks.{blank_mark};
 ghost use Rattle.pv_read.specs.Left.{in_prolog, at_front};
-ghost use Rattle.pv_read.specs.Meaning.{MAX_DOC_BYTES, Means};
+ghost use Rattle.pv_read.specs.Meaning.{DocumentRestMeans};
 ghost use Rattle.pv_read.specs.Errors.{Refuses};
 ghost use Rattle.pv_read.specs.Prologs.{OpensRoot};
 
@@ -16,7 +16,7 @@ use crate::places::{Place, PrologStage};
 #[derive(Clone, Copy)]
 pub struct RootTag<'a> {
     /// What stands from the tag on.
-    pub place: &'a [u8],
+    pub from_tag: &'a [u8],
     pub tag: Tag<'a>,
     /// Whether it is an empty-element tag.
     pub is_short: bool,
@@ -26,21 +26,28 @@ pub struct RootTag<'a> {
     pub count: u64,
 }
 
-/// The tag that opens the root of a text, which begins behind the byte order mark.
-pub fn root_tag<'a>(root: &[u8], text: &'a [u8]) -> Result<RootTag<'a>, DocError>
-    requires { length text.now ≤ MAX_DOC_BYTES }
-    ensures opens { IfOk result (λ r. OpensRoot root.now text.now r) }
-    ensures refused { IfErr result (λ e. (mark : List ℕ) → Refuses (Means blank_mark root.now 0 (in_prolog at_front mark) text.now) e) }
+/// The tag that opens the root of a text, which begins behind the byte order mark. Elements stand
+/// at most so deep, or at any depth.
+pub fn root_tag<'a>(
+    most_depth: Option<usize>,
+    root: &[u8],
+    text: &'a [u8],
+) -> Result<RootTag<'a>, DocError>
+    requires { length text.now < 2 ^ 64 }
+    ensures opens { IfOk result (λ r. OpensRoot most_depth root.now text.now r) }
+    ensures refused { IfErr result (λ e. (mark : List ℕ) →
+        Refuses (DocumentRestMeans most_depth blank_mark root.now 0 (in_prolog at_front mark)
+        text.now) e) }
 {
     let mut stage = PrologStage::AtFront;
     let mut rest = text;
     let mut count: u64 = 0;
     'items: loop {
-        let (item, more) = next_item(&Place::Prolog(stage), root, rest, count)?;
+        let (item, more) = next_item(most_depth, &Place::Prolog(stage), root, rest, count)?;
         match item {
             Item::StartTag(tag) => {
                 return Ok(RootTag {
-                    place: rest,
+                    from_tag: rest,
                     tag,
                     is_short: false,
                     rest: more,
@@ -49,7 +56,7 @@ pub fn root_tag<'a>(root: &[u8], text: &'a [u8]) -> Result<RootTag<'a>, DocError
             }
             Item::EmptyTag(tag) => {
                 return Ok(RootTag {
-                    place: rest,
+                    from_tag: rest,
                     tag,
                     is_short: true,
                     rest: more,

@@ -3,11 +3,9 @@ use Rattle.std.proofs.Common.{None, Option, Some, ap, arith, refl, slice_get, sy
 use Rattle.pv_model.specs.Plain.{PlainPart, PlainParts, choice, name, no_parts, opt, part, plus, seq, star}
 use Rattle.pv_model.specs.declared.models.NameId.{NameId}
 use Rattle.pv_dtd.specs.Plain.{PlainDtd, parts_in}
-use Rattle.pv_rules.specs.Flat.{kind_of, one_part}
+use Rattle.pv_rules.specs.Flat.{flat_parts, kind_of, one_part}
 use Rattle.pv_rules.specs.Numbering.{part_at, rest_at}
 use Rattle.pv_rules.specs.PartLaws.{membership_at}
-use Rattle.pv_rules.specs.PlainForms.{IsFlat}
-use Rattle.pv_rules.specs.declared.flat.FlatDtd.{FlatDtd}
 use Rattle.pv_rules.specs.declared.flat.FlatPart.{FlatPart}
 use Rattle.pv_rules.specs.declared.flat.Kind.TheVariants as kind
 use Rattle.pv_rules.specs.declared.flat.Membership.TheVariants as membership
@@ -24,31 +22,31 @@ IsNoRest None = Unit {0}
 IsNoRest (Some no_parts) = Unit {0}
 IsNoRest (Some (part p ps)) = ⊥
 
-module _ (g : PlainDtd) (flat : FlatDtd) (are : IsFlat g flat) where
+module _ (g : PlainDtd) where
   -- the part that a flat one was made of
   pub record Made (q : ℕ) (f : FlatPart) : Type 0 where
     pub part : PlainPart
     pub is_at : part_at g q ≡ Some part
     pub is_flat : f ≡ one_part q (membership_at (rest_at g q)) part
 
-  made_case : (q : ℕ) (f : FlatPart) (o : Option PlainPart) → part_at g q ≡ o → slice_get flat.parts.items q ≡ Some f → Made q f
-  made_case q f None e h = let n = (flat_by_number g).no_more q e in let z = are.parts in absurd cc
-  made_case q f (Some p) e h = record { part = p; is_at = e; is_flat = let n = (flat_by_number g).parts q p e in let z = are.parts in cc }
+  made_case : (q : ℕ) (f : FlatPart) (o : Option PlainPart) → part_at g q ≡ o → slice_get (flat_parts g) q ≡ Some f → Made q f
+  made_case q f None e h = let n = (flat_by_number g).no_more q e in absurd cc
+  made_case q f (Some p) e h = record { part = p; is_at = e; is_flat = let n = (flat_by_number g).parts q p e in cc }
 
-  pub made : (q : ℕ) (f : FlatPart) → slice_get flat.parts.items q ≡ Some f → Made q f
+  pub made : (q : ℕ) (f : FlatPart) → slice_get (flat_parts g) q ≡ Some f → Made q f
   made q f h = made_case q f (part_at g q) refl h
 
-  pub some_flat : (q : ℕ) (p : PlainPart) → part_at g q ≡ Some p → slice_get flat.parts.items q ≡ Some (one_part q (membership_at (rest_at g q)) p)
-  some_flat q p e = let n = (flat_by_number g).parts q p e in let z = are.parts in cc
+  pub some_flat : (q : ℕ) (p : PlainPart) → part_at g q ≡ Some p → slice_get (flat_parts g) q ≡ Some (one_part q (membership_at (rest_at g q)) p)
+  some_flat q p e = (flat_by_number g).parts q p e
 
-  pub end_of : (q : ℕ) (f : FlatPart) (p : PlainPart) → part_at g q ≡ Some p → slice_get flat.parts.items q ≡ Some f → f.end ≡ q + parts_in p
+  pub end_of : (q : ℕ) (f : FlatPart) (p : PlainPart) → part_at g q ≡ Some p → slice_get (flat_parts g) q ≡ Some f → f.end ≡ q + parts_in p
   end_of q f p e h = let n = some_flat q p e in let i : f ≡ one_part q (membership_at (rest_at g q)) p = cc in ap (λ (x : FlatPart). x.end) i
 
-  missing_case : (q : ℕ) (o : Option PlainPart) → part_at g q ≡ o → slice_get flat.parts.items q ≡ None → part_at g q ≡ None
+  missing_case : (q : ℕ) (o : Option PlainPart) → part_at g q ≡ o → slice_get (flat_parts g) q ≡ None → part_at g q ≡ None
   missing_case q None e h = e
   missing_case q (Some p) e h = let n = some_flat q p e in absurd cc
 
-  pub no_part : (q : ℕ) → slice_get flat.parts.items q ≡ None → part_at g q ≡ None
+  pub no_part : (q : ℕ) → slice_get (flat_parts g) q ≡ None → part_at g q ≡ None
   no_part q h = missing_case q (part_at g q) refl h
 
   name_case : (q y : ℕ) (p : PlainPart) → kind_of p ≡ kind.Name (record { 0 = y }) → part_at g q ≡ Some p → part_at g q ≡ Some (name y)
@@ -59,7 +57,7 @@ module _ (g : PlainDtd) (flat : FlatDtd) (are : IsFlat g flat) where
   name_case q y (star p) e h = absurd cc
   name_case q y (plus p) e h = absurd cc
 
-  pub name_at : (q y : ℕ) (f : FlatPart) → slice_get flat.parts.items q ≡ Some f → f.kind ≡ kind.Name (record { 0 = y }) → part_at g q ≡ Some (name y)
+  pub name_at : (q y : ℕ) (f : FlatPart) → slice_get (flat_parts g) q ≡ Some f → f.kind ≡ kind.Name (record { 0 = y }) → part_at g q ≡ Some (name y)
   name_at q y f h e = let m = made q f h in let i = m.is_flat in name_case q y m.part (cc) m.is_at
 
   seq_case : (q : ℕ) (o : PlainPart) → kind_of o ≡ kind.Seq → part_at g q ≡ Some o → (ps : PlainParts) × (o ≡ seq ps) × (part_at g q ≡ Some (seq ps))
@@ -70,7 +68,7 @@ module _ (g : PlainDtd) (flat : FlatDtd) (are : IsFlat g flat) where
   seq_case q (star p) e h = absurd cc
   seq_case q (plus p) e h = absurd cc
 
-  pub seq_at : (q : ℕ) (f : FlatPart) → slice_get flat.parts.items q ≡ Some f → f.kind ≡ kind.Seq → (ps : PlainParts) × (part_at g q ≡ Some (seq ps)) × (f.end ≡ q + parts_in (seq ps))
+  pub seq_at : (q : ℕ) (f : FlatPart) → slice_get (flat_parts g) q ≡ Some f → f.kind ≡ kind.Seq → (ps : PlainParts) × (part_at g q ≡ Some (seq ps)) × (f.end ≡ q + parts_in (seq ps))
   seq_at q f h e = let m = made q f h in let i = m.is_flat in let c = seq_case q m.part (cc) m.is_at in let a = c.1 in (c.0, c.2, cc)
 
   choice_case : (q : ℕ) (o : PlainPart) → kind_of o ≡ kind.Choice → part_at g q ≡ Some o → (ps : PlainParts) × (o ≡ choice ps) × (part_at g q ≡ Some (choice ps))
@@ -81,7 +79,7 @@ module _ (g : PlainDtd) (flat : FlatDtd) (are : IsFlat g flat) where
   choice_case q (star p) e h = absurd cc
   choice_case q (plus p) e h = absurd cc
 
-  pub choice_at : (q : ℕ) (f : FlatPart) → slice_get flat.parts.items q ≡ Some f → f.kind ≡ kind.Choice → (ps : PlainParts) × (part_at g q ≡ Some (choice ps)) × (f.end ≡ q + parts_in (choice ps))
+  pub choice_at : (q : ℕ) (f : FlatPart) → slice_get (flat_parts g) q ≡ Some f → f.kind ≡ kind.Choice → (ps : PlainParts) × (part_at g q ≡ Some (choice ps)) × (f.end ≡ q + parts_in (choice ps))
   choice_at q f h e = let m = made q f h in let i = m.is_flat in let c = choice_case q m.part (cc) m.is_at in let a = c.1 in (c.0, c.2, cc)
 
   opt_case : (q : ℕ) (o : PlainPart) → kind_of o ≡ kind.Opt → part_at g q ≡ Some o → (p : PlainPart) × (o ≡ opt p) × (part_at g q ≡ Some (opt p))
@@ -92,7 +90,7 @@ module _ (g : PlainDtd) (flat : FlatDtd) (are : IsFlat g flat) where
   opt_case q (star p) e h = absurd cc
   opt_case q (plus p) e h = absurd cc
 
-  pub opt_at : (q : ℕ) (f : FlatPart) → slice_get flat.parts.items q ≡ Some f → f.kind ≡ kind.Opt → (p : PlainPart) × (part_at g q ≡ Some (opt p)) × (f.end ≡ q + parts_in (opt p))
+  pub opt_at : (q : ℕ) (f : FlatPart) → slice_get (flat_parts g) q ≡ Some f → f.kind ≡ kind.Opt → (p : PlainPart) × (part_at g q ≡ Some (opt p)) × (f.end ≡ q + parts_in (opt p))
   opt_at q f h e = let m = made q f h in let i = m.is_flat in let c = opt_case q m.part (cc) m.is_at in let a = c.1 in (c.0, c.2, cc)
 
   star_case : (q : ℕ) (o : PlainPart) → kind_of o ≡ kind.Star → part_at g q ≡ Some o → (p : PlainPart) × (o ≡ star p) × (part_at g q ≡ Some (star p))
@@ -103,7 +101,7 @@ module _ (g : PlainDtd) (flat : FlatDtd) (are : IsFlat g flat) where
   star_case q (star p) e h = (p, refl, h)
   star_case q (plus p) e h = absurd cc
 
-  pub star_at : (q : ℕ) (f : FlatPart) → slice_get flat.parts.items q ≡ Some f → f.kind ≡ kind.Star → (p : PlainPart) × (part_at g q ≡ Some (star p)) × (f.end ≡ q + parts_in (star p))
+  pub star_at : (q : ℕ) (f : FlatPart) → slice_get (flat_parts g) q ≡ Some f → f.kind ≡ kind.Star → (p : PlainPart) × (part_at g q ≡ Some (star p)) × (f.end ≡ q + parts_in (star p))
   star_at q f h e = let m = made q f h in let i = m.is_flat in let c = star_case q m.part (cc) m.is_at in let a = c.1 in (c.0, c.2, cc)
 
   plus_case : (q : ℕ) (o : PlainPart) → kind_of o ≡ kind.Plus → part_at g q ≡ Some o → (p : PlainPart) × (o ≡ plus p) × (part_at g q ≡ Some (plus p))
@@ -114,7 +112,7 @@ module _ (g : PlainDtd) (flat : FlatDtd) (are : IsFlat g flat) where
   plus_case q (star p) e h = absurd cc
   plus_case q (plus p) e h = (p, refl, h)
 
-  pub plus_at : (q : ℕ) (f : FlatPart) → slice_get flat.parts.items q ≡ Some f → f.kind ≡ kind.Plus → (p : PlainPart) × (part_at g q ≡ Some (plus p)) × (f.end ≡ q + parts_in (plus p))
+  pub plus_at : (q : ℕ) (f : FlatPart) → slice_get (flat_parts g) q ≡ Some f → f.kind ≡ kind.Plus → (p : PlainPart) × (part_at g q ≡ Some (plus p)) × (f.end ≡ q + parts_in (plus p))
   plus_at q f h e = let m = made q f h in let i = m.is_flat in let c = plus_case q m.part (cc) m.is_at in let a = c.1 in (c.0, c.2, cc)
 
   outside_case : (r : Option PlainParts) → membership_at r ≡ membership.Outside → IsNoRest r
@@ -123,7 +121,7 @@ module _ (g : PlainDtd) (flat : FlatDtd) (are : IsFlat g flat) where
   outside_case (Some (part p no_parts)) e = absurd cc
   outside_case (Some (part p (part o ps))) e = absurd cc
 
-  pub outside_at : (q : ℕ) (f : FlatPart) → slice_get flat.parts.items q ≡ Some f → f.membership ≡ membership.Outside → IsNoRest (rest_at g q)
+  pub outside_at : (q : ℕ) (f : FlatPart) → slice_get (flat_parts g) q ≡ Some f → f.membership ≡ membership.Outside → IsNoRest (rest_at g q)
   outside_at q f h e = let m = made q f h in let i = ap (λ (x : FlatPart). x.membership) m.is_flat in outside_case (rest_at g q) (sym i ∙ e)
 
   last_case : (q : ℕ) (r : Option PlainParts) → membership_at r ≡ membership.Last → rest_at g q ≡ r → (p : PlainPart) × (rest_at g q ≡ Some (part p no_parts))
@@ -132,7 +130,7 @@ module _ (g : PlainDtd) (flat : FlatDtd) (are : IsFlat g flat) where
   last_case q (Some (part p no_parts)) e h = (p, h)
   last_case q (Some (part p (part o ps))) e h = absurd cc
 
-  pub last_at : (q : ℕ) (f : FlatPart) → slice_get flat.parts.items q ≡ Some f → f.membership ≡ membership.Last → (p : PlainPart) × (rest_at g q ≡ Some (part p no_parts))
+  pub last_at : (q : ℕ) (f : FlatPart) → slice_get (flat_parts g) q ≡ Some f → f.membership ≡ membership.Last → (p : PlainPart) × (rest_at g q ≡ Some (part p no_parts))
   last_at q f h e = let m = made q f h in let i = ap (λ (x : FlatPart). x.membership) m.is_flat in last_case q (rest_at g q) (sym i ∙ e) refl
 
   followed_case : (q : ℕ) (r : Option PlainParts) → membership_at r ≡ membership.Followed → rest_at g q ≡ r →
@@ -142,7 +140,7 @@ module _ (g : PlainDtd) (flat : FlatDtd) (are : IsFlat g flat) where
   followed_case q (Some (part p no_parts)) e h = absurd cc
   followed_case q (Some (part p (part o ps))) e h = (p, o, ps, h)
 
-  pub followed_at : (q : ℕ) (f : FlatPart) → slice_get flat.parts.items q ≡ Some f → f.membership ≡ membership.Followed →
+  pub followed_at : (q : ℕ) (f : FlatPart) → slice_get (flat_parts g) q ≡ Some f → f.membership ≡ membership.Followed →
       (p : PlainPart) × (o : PlainPart) × (ps : PlainParts) × (rest_at g q ≡ Some (part p (part o ps))) × (f.end ≡ q + parts_in p)
   followed_at q f h e =
       let m = made q f h in let i = ap (λ (x : FlatPart). x.membership) m.is_flat in let c = followed_case q (rest_at g q) (sym i ∙ e) refl in
@@ -153,9 +151,9 @@ module _ (g : PlainDtd) (flat : FlatDtd) (are : IsFlat g flat) where
   no_rest_case q (Some no_parts) e h = tt
   no_rest_case q (Some (part p ps)) e h = absurd (let z = (parts_by_number g).member q p ps h in cc)
 
-  pub no_rest : (q : ℕ) → slice_get flat.parts.items q ≡ None → IsNoRest (rest_at g q)
+  pub no_rest : (q : ℕ) → slice_get (flat_parts g) q ≡ None → IsNoRest (rest_at g q)
   no_rest q h = no_rest_case q (rest_at g q) (no_part q h) refl
 
   -- numbers within a part fit
-  pub ends_behind : (q : ℕ) (f : FlatPart) → slice_get flat.parts.items q ≡ Some f → q < f.end
+  pub ends_behind : (q : ℕ) (f : FlatPart) → slice_get (flat_parts g) q ≡ Some f → q < f.end
   ends_behind q f h = let m = made q f h in let l = some_part m.part in let e : f.end ≡ q + parts_in m.part = let i = m.is_flat in cc in omega arith

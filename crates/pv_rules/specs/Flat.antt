@@ -1,6 +1,7 @@
 -- The parts and content models of a DTD laid out flat, each by itself.
 use Rattle.std.specs.Prelude.{Bool, List, [], false, suc, true, ℕ, ◌++◌, ◌+◌, ◌∷◌}
-use Rattle.pv_model.specs.Plain.{PlainModel, PlainPart, PlainParts, any, children, choice, empty, mixed, name, no_parts, opt, part, plus, seq, star}
+use Rattle.pv_model.specs.Plain.{PlainModel, PlainPart, PlainParts, any, children, choice, empty}
+use Rattle.pv_model.specs.Plain.{mixed, name, no_parts, opt, part, plus, seq, star}
 use Rattle.pv_dtd.specs.Plain.{PlainDtd, parts_in, parts_in_model}
 use Rattle.pv_rules.specs.declared.flat.ContentKind.{ContentKind}
 use Rattle.pv_rules.specs.declared.flat.ContentKind.TheVariants as content
@@ -45,7 +46,9 @@ abbrev mutual
 
   pub flat_members : ℕ → Bool → PlainParts → List FlatPart
   flat_members q in_sequence no_parts = []
-  flat_members q in_sequence (part p ps) = flat_part q (membership_of in_sequence (are_some ps)) p ++ flat_members (q + parts_in p) in_sequence ps
+  flat_members q in_sequence (part p ps) =
+      flat_part q (membership_of in_sequence (are_some ps)) p ++
+      flat_members (q + parts_in p) in_sequence ps
 
 -- what is within a particle, from number q on
 abbrev pub flat_within : ℕ → PlainPart → List FlatPart

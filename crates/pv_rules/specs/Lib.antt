@@ -2,6 +2,9 @@ pub mod Numbering
 pub mod Sites
 pub mod Rules
 pub mod Derivations
+pub mod Deriving
+pub mod ClosedTables
+pub mod Barriers
 pub mod Kinds
 pub mod Laws
 pub mod Flat

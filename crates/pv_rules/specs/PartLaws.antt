@@ -1,10 +1,13 @@
 -- Laws of the numbers of parts: what stands within and behind a part, and what is laid out flat.
-use Rattle.std.specs.Prelude.{IsTrue, List, None, Option, Some, length, true, slice_get, suc, ℕ, ◌+◌, ◌≡◌, ◌≤◌}
-use Rattle.pv_model.specs.Plain.{PlainModel, PlainPart, PlainParts, children, choice, mixed, name, no_parts, opt, part, plus, seq, star}
+use Rattle.std.specs.Prelude.{IsTrue, List, None, Option, Some, length, true, slice_get, suc, ℕ}
+use Rattle.std.specs.Prelude.{◌+◌, ◌≡◌, ◌≤◌}
+use Rattle.pv_model.specs.Plain.{PlainModel, PlainPart, PlainParts, children, choice, mixed, name}
+use Rattle.pv_model.specs.Plain.{no_parts, opt, part, plus, seq, star}
 use Rattle.std.specs.List.{list_all}
 use Rattle.pv_dtd.specs.Facts.{is_formed, is_formed_model}
 use Rattle.pv_dtd.specs.Plain.{PlainDtd, model_of, parts_in, parts_in_model, parts_in_models}
-use Rattle.pv_rules.specs.Flat.{are_some, flat_contents, flat_parts, one_content, one_part, membership_of}
+use Rattle.pv_rules.specs.Flat.{are_some, flat_contents, flat_parts, one_content, one_part}
+use Rattle.pv_rules.specs.Flat.{membership_of}
 use Rattle.pv_rules.specs.declared.flat.Membership.{Membership}
 use Rattle.pv_rules.specs.declared.flat.Membership.TheVariants as membership
 use Rattle.pv_rules.specs.Numbering.{IsMemberAt, first_part, numbered_models, part_at, rest_at}
@@ -38,7 +41,8 @@ pub record PartsByNumber (g : PlainDtd) : Type 0 where
   pub next : (q : ℕ) (p r : PlainPart) (ps : PlainParts) → rest_at g q ≡ Some (part p (part r ps)) →
       rest_at g (q + parts_in p) ≡ Some (part r ps)
 
--- where the models are formed as every DTD's are, so is each part: a sequence has a member, and a choice two
+-- where the models are formed as every DTD's are, so is each part: a sequence has a member, and a
+-- choice two
 abbrev pub PartsAreFormed : PlainDtd → Type 0
 PartsAreFormed g = IsTrue (list_all is_formed_model g.models) → (q : ℕ) (p : PlainPart) →
     part_at g q ≡ Some p → IsTrue (is_formed p)

@@ -3,7 +3,7 @@ use Rattle.std.specs.Prelude.{◌≡◌}
 use Rattle.pv_dtd.specs.Plain.{PlainDtd}
 use Rattle.pv_rules.specs.Flat.{flat_contents, flat_parts}
 use Rattle.pv_rules.specs.Sites.{PlainSite, content_site, name_site, part_site, rest_site}
-use Rattle.pv_rules.specs.declared.flat.FlatDtd.{FlatDtd}
+use Rattle.pv_rules.specs.declared.flat_dtd.FlatDtd.{FlatDtd}
 use Rattle.pv_rules.specs.declared.sites.Site.{Site}
 use Rattle.pv_rules.specs.declared.sites.Site.TheVariants as site
 

@@ -10,8 +10,8 @@ pub data PlainSite : Type 0 where
   part_site : ℕ → PlainSite
   rest_site : ℕ → PlainSite
 
--- The DTD has the site. The content of a name that is only mentioned is one, to which no rule leads anything. Only a member of a
--- sequence has members from it on.
+-- The DTD has the site. The content of a name that is only mentioned is one, to which no rule leads
+-- anything. Only a member of a sequence has members from it on.
 abbrev pub HasSite : PlainDtd → PlainSite → Type 0
 HasSite g (name_site x) = x < length g.names
 HasSite g (content_site x) = x < length g.names

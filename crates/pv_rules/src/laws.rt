@@ -4,7 +4,10 @@ ghost use Rattle.std.specs.Prelude.{List};
 ghost use Rattle.pv_model.specs.Plain.{PlainToken};
 ghost use Rattle.pv_dtd.specs.Plain.{PlainDtd};
 ghost use Rattle.pv_rules.specs.Rules.{Goal, Rule};
-ghost use Rattle.pv_rules.specs.Laws.{AttainedAreWeights, ClosedIsBelow, ClosedSetHolds, OneWeight, RulesAreOfTheirKind, RulesAreOverSpans, RulesAreSmall, RulesKeepSites, WeightsAreClosed};
+ghost use Rattle.pv_rules.specs.Laws.{AttainedAreWeights, BarrierHolds, ClosedAtSitesIsClosed};
+ghost use Rattle.pv_rules.specs.Laws.{ClosedIsBelow, ClosedSetHolds, OneWeight, RowsMakeBarrier};
+ghost use Rattle.pv_rules.specs.Laws.{RulesAreOfTheirKind, RulesAreOverSpans, RulesAreSmall};
+ghost use Rattle.pv_rules.specs.Laws.{RulesKeepSites, WeightsAreClosed};
 ghost use Rattle.pv_rules.specs.PartLaws.{FlatByNumber, PartsAreFormed, PartsByNumber};
 
 /// No derivation weighs less than a closed table says.
@@ -42,7 +45,7 @@ pub fn small_law()
     ensures { (g : PlainDtd) (w : List PlainToken) → RulesAreSmall g w }
 {}
 
-/// The rules of a site by what stands there.
+/// The rules of a site are those of what stands there.
 pub fn kinds_law()
     ensures { (g : PlainDtd) (w : List PlainToken) → RulesAreOfTheirKind g w }
 {}
@@ -50,6 +53,21 @@ pub fn kinds_law()
 /// The right sides of a rule are sites of the DTD where the left side is one.
 pub fn sites_law()
     ensures { (g : PlainDtd) (w : List PlainToken) → RulesKeepSites g w }
+{}
+
+/// A table that is closed at the sites of a DTD, and heaviest elsewhere, is closed.
+pub fn closed_at_sites_law()
+    ensures { (g : PlainDtd) (w : List PlainToken) → ClosedAtSitesIsClosed g w }
+{}
+
+/// No derivation leads beyond a barrier.
+pub fn barrier_law()
+    ensures { (g : PlainDtd) (w : List PlainToken) → BarrierHolds g w }
+{}
+
+/// Rows that rise are a barrier exactly where the rules hold whose right sides end where they say.
+pub fn barrier_rows_law()
+    ensures { (g : PlainDtd) (w : List PlainToken) → RowsMakeBarrier g w }
 {}
 
 /// What stands at the numbers within and behind a part.

@@ -3,10 +3,12 @@
 ghost use Rattle.std.specs.Prelude.{◌≡◌, ◌+◌, ◌++◌, ◌<◌, ◌≤◌, ◌^◌, length, OnOk};
 ghost use Rattle.pv_model.specs.PlainForms.{numbers_of, plain_model, plain_part, plain_parts};
 ghost use Rattle.pv_dtd.specs.Plain.{parts_in, parts_in_all, parts_in_model};
-ghost use Rattle.pv_rules.specs.Flat.{content_kind_of, flat_members, flat_model, flat_names, flat_part, flat_within, kind_of, membership_of};
+ghost use Rattle.pv_rules.specs.Flat.{content_kind_of, flat_members, flat_model, flat_names};
+ghost use Rattle.pv_rules.specs.Flat.{flat_part, flat_within, kind_of, membership_of};
 
 use crate::flat::{ContentKind, FlatPart, Kind, Membership};
-use pv_model::{ContentModel, NameId, NoMemory, Part};
+use pv_chars::NoMemory;
+use pv_model::{ContentModel, NameId, Part};
 
 /// What a content model is, without its parts.
 pub fn content_kind_of(model: &ContentModel) -> ContentKind
@@ -23,7 +25,8 @@ pub fn content_kind_of(model: &ContentModel) -> ContentKind
 /// Appends the parts of a content model.
 pub fn push_model(model: &ContentModel, parts: &mut Vec<FlatPart>) -> Result<(), NoMemory>
     requires { length parts.old.items + parts_in_model (plain_model model.now) < 2 ^ 32 }
-    ensures { OnOk result (parts.new.items ≡ parts.old.items ++ flat_model (length parts.old.items) (plain_model model.now)) }
+    ensures { OnOk result (parts.new.items ≡ parts.old.items ++
+        flat_model (length parts.old.items) (plain_model model.now)) }
 {
     match model {
         ContentModel::Empty => Ok(()),
@@ -36,7 +39,8 @@ pub fn push_model(model: &ContentModel, parts: &mut Vec<FlatPart>) -> Result<(),
 /// Appends the names of a mixed model.
 fn push_names(names: &[NameId], parts: &mut Vec<FlatPart>) -> Result<(), NoMemory>
     requires { length parts.old.items + length names.now < 2 ^ 32 }
-    ensures { OnOk result (parts.new.items ≡ parts.old.items ++ flat_names (length parts.old.items) (numbers_of names.now)) }
+    ensures { OnOk result (parts.new.items ≡ parts.old.items ++
+        flat_names (length parts.old.items) (numbers_of names.now)) }
 {
     for name in names {
         let end = parts.len() as u32 + 1;
@@ -78,7 +82,8 @@ fn membership_of(in_sequence: bool, has_more: bool) -> Membership
 #[cycle(push_part)]
 fn push_part(part: &Part, membership: Membership, parts: &mut Vec<FlatPart>) -> Result<(), NoMemory>
     requires { length parts.old.items + parts_in (plain_part part.now) < 2 ^ 32 }
-    ensures { OnOk result (parts.new.items ≡ parts.old.items ++ flat_part (length parts.old.items) membership (plain_part part.now)) }
+    ensures { OnOk result (parts.new.items ≡ parts.old.items ++
+        flat_part (length parts.old.items) membership (plain_part part.now)) }
 {
     let number = parts.len();
     parts.push(FlatPart {
@@ -95,7 +100,8 @@ fn push_part(part: &Part, membership: Membership, parts: &mut Vec<FlatPart>) -> 
 #[cycle(push_part)]
 fn push_within(part: &Part, parts: &mut Vec<FlatPart>) -> Result<(), NoMemory>
     requires { length parts.old.items + parts_in (plain_part part.now) ≤ 2 ^ 32 }
-    ensures { OnOk result (parts.new.items ≡ parts.old.items ++ flat_within (length parts.old.items) (plain_part part.now)) }
+    ensures { OnOk result (parts.new.items ≡ parts.old.items ++
+        flat_within (length parts.old.items) (plain_part part.now)) }
 {
     match part {
         Part::Name(_) => Ok(()),
@@ -115,7 +121,8 @@ fn push_members(
     parts: &mut Vec<FlatPart>,
 ) -> Result<(), NoMemory>
     requires { length parts.old.items + parts_in_all (plain_parts members.now) < 2 ^ 32 }
-    ensures { OnOk result (parts.new.items ≡ parts.old.items ++ flat_members (length parts.old.items) in_sequence (plain_parts members.now)) }
+    ensures { OnOk result (parts.new.items ≡ parts.old.items ++
+        flat_members (length parts.old.items) in_sequence (plain_parts members.now)) }
 {
     for (i, member) in members.iter().enumerate() {
         push_part(

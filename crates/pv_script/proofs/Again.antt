@@ -22,7 +22,7 @@ use Rattle.pv_script.specs.Paths.{path_text}
 use Rattle.pv_script.specs.Words.{words}
 use Rattle.pv_script.proofs.Numbers.{decimal-free}
 use Rattle.pv_script.proofs.PathWords.{path-free}
-use Rattle.pv_script.proofs.Pieces.{pieces_of-line}
+use Rattle.pv_script.proofs.RawLines.{raw_lines_of-line}
 use Rattle.pv_script.proofs.Words.{Free, Free-append, not-eq}
 
 -- a byte of ASCII stands in the bytes of its own code point alone
@@ -171,7 +171,7 @@ without_returns-none (b ∷ c ∷ cs) free = ap (with_byte_before b) (without_re
 
 lines_of-line : (line more : List ℕ) → Free 10 line → Free 13 line → lines_of ((line ++ codes "\n") ++ more) ≡ line ∷ lines_of more
 lines_of-line line more feed return =
-    ap lines_of (append_assoc line (codes "\n") more) ∙ ap (map without_returns) (pieces_of-line line more feed)
+    ap lines_of (append_assoc line (codes "\n") more) ∙ ap (map without_returns) (raw_lines_of-line line more feed)
     ∙ ap (λ l. l ∷ lines_of more) (without_returns-none line return)
 
 pub again : {M : Type 0} → EditsAreReadAgain M

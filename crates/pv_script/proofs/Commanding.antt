@@ -4,8 +4,8 @@ use Rattle.std.specs.Result.{IfOk}
 use Rattle.pv_script.specs.Commands.{Reads, SpellsCommand, IsNoCommand}
 use Rattle.pv_script.specs.Reading.{command_of}
 use Rattle.pv_script.specs.declared.commands.Command.{Command}
-use Rattle.pv_script.specs.declared.commands.CommandError.{CommandError}
-use Rattle.pv_script.specs.declared.commands.CommandError.TheVariants.{Unknown, NoMemory}
+use Rattle.pv_script.specs.declared.errors.CommandError.{CommandError}
+use Rattle.pv_script.specs.declared.errors.CommandError.TheVariants.{Unknown, NoMemory}
 use Rattle.pv_script.proofs.Spelling.{command-spelled, no-command}
 
 pub reads-command : (line : List ℕ) (r : Result Command CommandError) → Reads (command_of line) r → IfOk r (SpellsCommand line)

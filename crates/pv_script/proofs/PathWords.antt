@@ -5,10 +5,10 @@ use Rattle.std.specs.Option.{option_map}
 use Rattle.std.specs.Str.{bytes_eq}
 use Rattle.pv_script.specs.Edits.{AreNumbers}
 use Rattle.pv_script.specs.Paths.{path_text, places_text}
-use Rattle.pv_script.specs.Reading.{number_of, numbers_of, dot_pieces, path_of}
+use Rattle.pv_script.specs.Reading.{number_of, numbers_of, between_dots, path_of}
 use Rattle.pv_script.proofs.Numbers.{decimal-free, decimal-some, number_of-decimal, number-word}
-use Rattle.pv_chars.specs.Fronts.{Holds, EndsAt}
-use Rattle.pv_script.proofs.Words.{Free, Free-append, ends-free, none-free, dot_pieces-dot, dot_pieces-free, behind_dots, IsInPieces, in-pieces}
+use Rattle.pv_chars.specs.Fronts.{ContainsBytes, EndsAt}
+use Rattle.pv_script.proofs.Words.{Free, Free-append, ends-free, none-free, between_dots-dot, between_dots-free, behind_dots, IsInPieces, in-pieces}
 
 pub numbers_of-decimals : (ns : List ℕ) → AreNumbers ns → numbers_of (map decimal ns) ≡ Some ns
 numbers_of-decimals [] all = refl
@@ -38,14 +38,14 @@ behind_dots-decimals : (ns : List ℕ) → behind_dots (map decimal ns) ≡ plac
 behind_dots-decimals [] = refl
 behind_dots-decimals (n ∷ ns) = ap (λ l. 46 ∷ (decimal n ++ l)) (behind_dots-decimals ns)
 
-dot_pieces-places : (word : List ℕ) (ns : List ℕ) → Free 46 word → AreNumbers ns → dot_pieces (word ++ places_text ns) ≡ word ∷ map decimal ns
-dot_pieces-places word [] free all = ap dot_pieces (whole word) ∙ dot_pieces-free word free
+between_dots-places : (word : List ℕ) (ns : List ℕ) → Free 46 word → AreNumbers ns → between_dots (word ++ places_text ns) ≡ word ∷ map decimal ns
+between_dots-places word [] free all = ap between_dots (whole word) ∙ between_dots-free word free
   where
     whole : (xs : List ℕ) → xs ++ [] ≡ xs
     whole [] = refl
     whole (x ∷ xs) = ap (λ l. x ∷ l) (whole xs)
-dot_pieces-places word (n ∷ ns) free all =
-    dot_pieces-dot word (decimal n ++ places_text ns) free ∙ ap (λ l. word ∷ l) (dot_pieces-places (decimal n) ns (decimal-free 46 n (omega arith) all.0) all.1)
+between_dots-places word (n ∷ ns) free all =
+    between_dots-dot word (decimal n ++ places_text ns) free ∙ ap (λ l. word ∷ l) (between_dots-places (decimal n) ns (decimal-free 46 n (omega arith) all.0) all.1)
 
 pub path-free : (d : ℕ) (path : List ℕ) → d < 46 → AreNumbers path → Free d (path_text path)
 path-free d [] low all = (λ e. absurd (omega arith), tt)
@@ -64,14 +64,14 @@ path_of-path_text [] all = refl
 path_of-path_text (n ∷ ns) all =
     let free = decimal-free 46 n (omega arith) all.0 in
     let other = starts-no-dot (decimal n) (places_text ns) free (decimal-some n all.0) in
-    rw (other, dot_pieces-places (decimal n) ns free all.1) (numbers_of-decimals (n ∷ ns) all)
+    rw (other, between_dots-places (decimal n) ns free all.1) (numbers_of-decimals (n ∷ ns) all)
 
 -- a word is a path
 pub record IsPathWord (word : List ℕ) (path : List ℕ) : Type 0 where
   pub text : word ≡ path_text path
   pub within : AreNumbers path
 
-path-in-pieces : (word : List ℕ) (path : List ℕ) → IsInPieces word → numbers_of (dot_pieces word) ≡ Some path → IsPathWord word path
+path-in-pieces : (word : List ℕ) (path : List ℕ) → IsInPieces word → numbers_of (between_dots word) ≡ Some path → IsPathWord word path
 path-in-pieces word [] p found =
     let numbers = number-words (p.first ∷ p.others) [] (rw p.pieces at found) in
     let never = numbers.digits in cc
@@ -95,14 +95,14 @@ path-by word path false is found = path-in-pieces word path (in-pieces word) (rw
 pub path-word : (word path : List ℕ) → path_of word ≡ Some path → IsPathWord word path
 path-word word path found = path-by word path (bytes_eq word (codes ".")) refl found
 
-pub path_of-pieces : (word : List ℕ) → bytes_eq word (codes ".") ≡ false → path_of word ≡ numbers_of (dot_pieces word)
+pub path_of-pieces : (word : List ℕ) → bytes_eq word (codes ".") ≡ false → path_of word ≡ numbers_of (between_dots word)
 path_of-pieces word other = rw other refl
 
-pub dot_pieces-front : (bytes word rest : List ℕ) → EndsAt (46 ∷ []) bytes word rest → dot_pieces bytes ≡ word ∷ dot_pieces rest
-dot_pieces-front bytes word rest at = ap dot_pieces at.whole ∙ dot_pieces-dot word rest (ends-free 46 word rest bytes at)
+pub between_dots-front : (bytes word rest : List ℕ) → EndsAt (46 ∷ []) bytes word rest → between_dots bytes ≡ word ∷ between_dots rest
+between_dots-front bytes word rest at = ap between_dots at.whole ∙ between_dots-dot word rest (ends-free 46 word rest bytes at)
 
-pub dot_pieces-last : (bytes : List ℕ) → (Holds bytes (46 ∷ []) → ⊥) → dot_pieces bytes ≡ bytes ∷ []
-dot_pieces-last bytes none = dot_pieces-free bytes (none-free 46 bytes none)
+pub between_dots-last : (bytes : List ℕ) → (ContainsBytes bytes (46 ∷ []) → ⊥) → between_dots bytes ≡ bytes ∷ []
+between_dots-last bytes none = between_dots-free bytes (none-free 46 bytes none)
 
 -- a number more was read
 pub more-places : (places : List ℕ) (n : ℕ) (all o : Option (List ℕ)) → all ≡ option_map (λ ns. places ++ ns) (option_map (λ ns. n ∷ ns) o) →
@@ -112,19 +112,19 @@ more-places places n all (Some ns) is = is ∙ ap Some (sym (append_assoc places
 
 -- the places read so far, and what the pieces of the rest give
 abbrev pub AreReadOn : List ℕ → List ℕ → List ℕ → Type 0
-AreReadOn word places rest = numbers_of (dot_pieces word) ≡ option_map (λ ns. places ++ ns) (numbers_of (dot_pieces rest))
+AreReadOn word places rest = numbers_of (between_dots word) ≡ option_map (λ ns. places ++ ns) (numbers_of (between_dots rest))
 
-pub place-read : (word places rest piece after : List ℕ) (n : ℕ) → AreReadOn word places rest → dot_pieces rest ≡ piece ∷ dot_pieces after → number_of piece ≡ Some n →
+pub place-read : (word places rest piece after : List ℕ) (n : ℕ) → AreReadOn word places rest → between_dots rest ≡ piece ∷ between_dots after → number_of piece ≡ Some n →
     AreReadOn word (places ++ n ∷ []) after
 place-read word places rest piece after n so at is =
-    more-places places n (numbers_of (dot_pieces word)) (numbers_of (dot_pieces after)) (so ∙ ap (λ ws. option_map (λ ns. places ++ ns) (numbers_of ws)) at ∙ rw is refl)
+    more-places places n (numbers_of (between_dots word)) (numbers_of (between_dots after)) (so ∙ ap (λ ws. option_map (λ ns. places ++ ns) (numbers_of ws)) at ∙ rw is refl)
 
-pub last-read : (word places rest : List ℕ) (n : ℕ) → bytes_eq word (codes ".") ≡ false → AreReadOn word places rest → dot_pieces rest ≡ rest ∷ [] → number_of rest ≡ Some n →
+pub last-read : (word places rest : List ℕ) (n : ℕ) → bytes_eq word (codes ".") ≡ false → AreReadOn word places rest → between_dots rest ≡ rest ∷ [] → number_of rest ≡ Some n →
     path_of word ≡ Some (places ++ n ∷ [])
 last-read word places rest n other so at is =
     path_of-pieces word other ∙ so ∙ ap (λ ws. option_map (λ ns. places ++ ns) (numbers_of ws)) at ∙ rw is refl
 
-pub none-read : (word places rest piece : List ℕ) (others : List (List ℕ)) → bytes_eq word (codes ".") ≡ false → AreReadOn word places rest → dot_pieces rest ≡ piece ∷ others → number_of piece ≡ None →
+pub none-read : (word places rest piece : List ℕ) (others : List (List ℕ)) → bytes_eq word (codes ".") ≡ false → AreReadOn word places rest → between_dots rest ≡ piece ∷ others → number_of piece ≡ None →
     path_of word ≡ None
 none-read word places rest piece others other so at is =
     path_of-pieces word other ∙ so ∙ ap (λ ws. option_map (λ ns. places ++ ns) (numbers_of ws)) at ∙ rw is refl

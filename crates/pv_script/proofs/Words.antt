@@ -3,10 +3,10 @@ use Rattle.std.proofs.Common.{◌≡◌, ℕ, List, [], ◌∷◌, ◌++◌, Opt
 use Rattle.std.specs.List.{AllByRecursion}
 use Rattle.std.specs.Option.{option_map, MatchOption, ok_or}
 use Rattle.std.specs.Result.{MatchResult}
-use Rattle.pv_chars.specs.Fronts.{Holds, EndsAt}
+use Rattle.pv_chars.specs.Fronts.{ContainsBytes, EndsAt}
 use Rattle.pv_script.specs.Lines.{with_first_byte}
-use Rattle.pv_script.specs.declared.commands.CommandError.TheVariants.{Unknown}
-use Rattle.pv_script.specs.Reading.{with_byte_in_front, first_word, dot_pieces}
+use Rattle.pv_script.specs.declared.errors.CommandError.TheVariants.{Unknown}
+use Rattle.pv_script.specs.Reading.{with_byte_in_front, first_word, between_dots}
 
 -- none of these bytes is this one
 abbrev pub Free : ℕ → List ℕ → Type 0
@@ -29,7 +29,7 @@ ends-free d (x ∷ xs) after bytes e = (
   },
 )
 
-pub none-free : (d : ℕ) (bytes : List ℕ) → (Holds bytes (d ∷ []) → ⊥) → Free d bytes
+pub none-free : (d : ℕ) (bytes : List ℕ) → (ContainsBytes bytes (d ∷ []) → ⊥) → Free d bytes
 none-free d [] none = tt
 none-free d (b ∷ bs) none = (
   λ same. none record { before = []; after = bs; whole = ap (λ y. y ∷ bs) same },
@@ -44,13 +44,13 @@ pub first_word-none : (bytes : List ℕ) → Free 32 bytes → first_word bytes 
 first_word-none [] free = refl
 first_word-none (b ∷ bs) free = rw (not-eq b 32 free.0) (ap (option_map (with_byte_in_front b)) (first_word-none bs free.1))
 
-pub dot_pieces-dot : (word rest : List ℕ) → Free 46 word → dot_pieces (word ++ (46 ∷ rest)) ≡ word ∷ dot_pieces rest
-dot_pieces-dot [] rest free = refl
-dot_pieces-dot (b ∷ bs) rest free = rw (not-eq b 46 free.0) (ap (with_first_byte b) (dot_pieces-dot bs rest free.1))
+pub between_dots-dot : (word rest : List ℕ) → Free 46 word → between_dots (word ++ (46 ∷ rest)) ≡ word ∷ between_dots rest
+between_dots-dot [] rest free = refl
+between_dots-dot (b ∷ bs) rest free = rw (not-eq b 46 free.0) (ap (with_first_byte b) (between_dots-dot bs rest free.1))
 
-pub dot_pieces-free : (word : List ℕ) → Free 46 word → dot_pieces word ≡ word ∷ []
-dot_pieces-free [] free = refl
-dot_pieces-free (b ∷ bs) free = rw (not-eq b 46 free.0) (ap (with_first_byte b) (dot_pieces-free bs free.1))
+pub between_dots-free : (word : List ℕ) → Free 46 word → between_dots word ≡ word ∷ []
+between_dots-free [] free = refl
+between_dots-free (b ∷ bs) free = rw (not-eq b 46 free.0) (ap (with_first_byte b) (between_dots-free bs free.1))
 
 -- the bytes are a word, a blank and what stands behind it
 pub record IsCut (bytes word rest : List ℕ) : Type 0 where
@@ -94,7 +94,7 @@ behind_dots (word ∷ words) = 46 ∷ (word ++ behind_dots words)
 pub record IsInPieces (bytes : List ℕ) : Type 0 where
   pub first : List ℕ
   pub others : List (List ℕ)
-  pub pieces : dot_pieces bytes ≡ first ∷ others
+  pub pieces : between_dots bytes ≡ first ∷ others
   pub whole : bytes ≡ first ++ behind_dots others
 
 pieces-by : (b : ℕ) (bs : List ℕ) (dot : Bool) → nat_eq b 46 ≡ dot → IsInPieces bs → IsInPieces (b ∷ bs)
@@ -110,7 +110,7 @@ in-pieces (b ∷ bs) = pieces-by b bs (nat_eq b 46) refl (in-pieces bs)
 
 -- what a search for the first blank gives, by what its answer points to
 pub first_word-found : {X : Type 0} (before after : X → List ℕ) (bytes : List ℕ) (r : Option X) →
-    MatchOption r (Holds bytes (32 ∷ []) → ⊥) (λ x. EndsAt (32 ∷ []) bytes (before x) (after x)) →
+    MatchOption r (ContainsBytes bytes (32 ∷ []) → ⊥) (λ x. EndsAt (32 ∷ []) bytes (before x) (after x)) →
     MatchResult (ok_or r Unknown) (λ x. first_word bytes ≡ Some (before x, after x)) (λ error. (error ≡ Unknown) × (first_word bytes ≡ None))
 first_word-found before after bytes None none = (refl, first_word-none bytes (none-free 32 bytes none))
 first_word-found before after bytes (Some x) at =

@@ -3,8 +3,8 @@ use Rattle.std.specs.Prelude.{◌≡◌, ℕ, List, [], codes, Option, Some, Non
 use Rattle.pv_script.specs.Edits.{edit_text, numbers_in, AreNumbers}
 use Rattle.pv_script.specs.declared.commands.Command.{Command}
 use Rattle.pv_script.specs.declared.commands.Command.TheVariants as command
-use Rattle.pv_script.specs.declared.commands.CommandError.{CommandError}
-use Rattle.pv_script.specs.declared.commands.CommandError.TheVariants.{Unknown, NoMemory}
+use Rattle.pv_script.specs.declared.errors.CommandError.{CommandError}
+use Rattle.pv_script.specs.declared.errors.CommandError.TheVariants.{Unknown, NoMemory}
 
 -- the line of a command
 abbrev pub command_text : Command → List ℕ
@@ -39,7 +39,8 @@ pub record SpellsCommand (line : List ℕ) (command : Command) : Type 0 where
 abbrev pub IsNoCommand : List ℕ → Type 0
 IsNoCommand line = (command : Command) → SpellsCommand line command → ⊥
 
--- What a reader made of what it was given: a value, that there is none, or no answer for want of memory.
+-- What a reader made of what it was given: a value, that there is none, or no answer for want of
+-- memory.
 abbrev pub Reads : {A : Type 0} → Option A → Result A CommandError → Type 0
 Reads o (Ok x) = o ≡ Some x
 Reads o (Err Unknown) = o ≡ None

@@ -5,31 +5,36 @@ use Rattle.pv_edit.specs.Reasons.{applied, gives}
 use Rattle.pv_edit.specs.declared.edits.Edit.{Edit}
 use Rattle.pv_script.specs.Commands.{SpellsCommand, IsNoCommand}
 use Rattle.pv_script.specs.Edits.{edit_text, numbers_in, AreNumbers}
-use Rattle.pv_script.specs.Lines.{FEED, ended_lines, ended_pieces, lines_of, without_returns, HasNoFeed, with_feeds}
+use Rattle.pv_script.specs.Lines.{FEED, ended_lines, ended_raw_lines, lines_of, without_returns}
+use Rattle.pv_script.specs.Lines.{HasNoFeed, with_feeds}
 use Rattle.pv_script.specs.Words.{with_feed}
 use Rattle.pv_script.specs.declared.commands.Command.{Command}
 use Rattle.pv_script.specs.declared.commands.Command.TheVariants as command
 
 -- A line spells at most one command.
 abbrev pub OneCommand : Type 0
-OneCommand = (line : List ℕ) (one other : Command) → SpellsCommand line one → SpellsCommand line other → one ≡ other
+OneCommand = (line : List ℕ) (one other : Command) → SpellsCommand line one →
+    SpellsCommand line other → one ≡ other
 
 -- A line spells a command, or none.
 abbrev pub CommandOrNone : Type 0
-CommandOrNone = (line : List ℕ) → ((command : Command) × SpellsCommand line command) ⊎ IsNoCommand line
+CommandOrNone =
+    (line : List ℕ) → ((command : Command) × SpellsCommand line command) ⊎ IsNoCommand line
 
--- The line of an edit that applies to some document is cut out of a script as it is, whatever follows it, and spells that edit.
+-- The line of an edit that applies to some document is cut out of a script as it is, whatever
+-- follows it, and spells that edit.
 abbrev pub EditsAreReadAgain : Type 0 → Type 0
-EditsAreReadAgain M = (blank : M) (doc made : PlainDoc M) (edit : Edit) → applied blank doc edit ≡ gives made →
+EditsAreReadAgain M =
+    (blank : M) (doc made : PlainDoc M) (edit : Edit) → applied blank doc edit ≡ gives made →
     AreNumbers (numbers_in edit) → (more : List ℕ) →
     (lines_of (with_feed (edit_text edit) ++ more) ≡ edit_text edit ∷ lines_of more)
     × SpellsCommand (edit_text edit) (command.Edit edit)
 
--- Bytes are their lines that an LF ends, and part of a line. With what comes behind them, their lines are those, and then the lines of that
--- part and what comes.
+-- Bytes are their lines that an LF ends, and part of a line. With what comes behind them, their
+-- lines are those, and then the lines of that part and what comes.
 pub record JoinsLines (first more : List ℕ) : Type 0 where
   pub part : List ℕ
-  pub is_cut : first ≡ with_feeds (ended_pieces first) ++ part
+  pub is_cut : first ≡ with_feeds (ended_raw_lines first) ++ part
   pub no_feed : HasNoFeed part
   pub lines : lines_of (first ++ more) ≡ ended_lines first ++ lines_of (part ++ more)
   pub ended : ended_lines (first ++ more) ≡ ended_lines first ++ ended_lines (part ++ more)
@@ -39,4 +44,5 @@ JoinLines = (first more : List ℕ) → JoinsLines first more
 
 -- bytes up to an LF are a line, and what is behind it is cut on
 abbrev pub LinesEndAtFeeds : Type 0
-LinesEndAtFeeds = (line more : List ℕ) → HasNoFeed line → lines_of (line ++ FEED ∷ more) ≡ without_returns line ∷ lines_of more
+LinesEndAtFeeds = (line more : List ℕ) → HasNoFeed line → lines_of (line ++ FEED ∷ more) ≡
+    without_returns line ∷ lines_of more

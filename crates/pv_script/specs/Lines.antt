@@ -15,10 +15,12 @@ FEED = 10
 abbrev pub RETURN : ℕ
 RETURN = 13
 
--- the pieces that LF bytes end, and the last piece unless it is empty
-abbrev pub pieces_of : List ℕ → List (List ℕ)
-pieces_of [] = []
-pieces_of (b ∷ bs) = if b == FEED then [] ∷ pieces_of bs else with_first_byte b (pieces_of bs)
+-- the lines of a script with the CR bytes at their ends: those that LF bytes end, and the last
+-- unless it is empty
+abbrev pub raw_lines_of : List ℕ → List (List ℕ)
+raw_lines_of [] = []
+raw_lines_of (b ∷ bs) =
+    if b == FEED then [] ∷ raw_lines_of bs else with_first_byte b (raw_lines_of bs)
 
 -- a byte in front of what is left of a line, which is nothing if the byte is the last and a CR
 abbrev pub with_byte_before : ℕ → List ℕ → List ℕ
@@ -32,21 +34,22 @@ without_returns (b ∷ bs) = with_byte_before b (without_returns bs)
 
 -- the lines of a script
 abbrev pub lines_of : List ℕ → List (List ℕ)
-lines_of script = map without_returns (pieces_of script)
+lines_of script = map without_returns (raw_lines_of script)
 
--- the first of some pieces with a byte in front, if there is one
+-- the first of some lines with a byte in front, if there is one
 abbrev pub with_byte_in_first : ℕ → List (List ℕ) → List (List ℕ)
 with_byte_in_first b [] = []
-with_byte_in_first b (piece ∷ pieces) = (b ∷ piece) ∷ pieces
+with_byte_in_first b (line ∷ lines) = (b ∷ line) ∷ lines
 
--- the pieces that LF bytes end
-abbrev pub ended_pieces : List ℕ → List (List ℕ)
-ended_pieces [] = []
-ended_pieces (b ∷ bs) = if b == FEED then [] ∷ ended_pieces bs else with_byte_in_first b (ended_pieces bs)
+-- the lines that LF bytes end, with the CR bytes at their ends
+abbrev pub ended_raw_lines : List ℕ → List (List ℕ)
+ended_raw_lines [] = []
+ended_raw_lines (b ∷ bs) =
+    if b == FEED then [] ∷ ended_raw_lines bs else with_byte_in_first b (ended_raw_lines bs)
 
 -- the lines that LF bytes end
 abbrev pub ended_lines : List ℕ → List (List ℕ)
-ended_lines bytes = map without_returns (ended_pieces bytes)
+ended_lines bytes = map without_returns (ended_raw_lines bytes)
 
 -- no LF stands in these bytes
 abbrev pub HasNoFeed : List ℕ → Type 0

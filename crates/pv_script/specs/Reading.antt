@@ -1,9 +1,12 @@
--- Lines read from the left, as functions on lists. Which command a line spells is said in Commands.antt.
-use Rattle.std.specs.Prelude.{ℕ, ◌&&◌, ◌==◌, nat_le, List, [], ◌∷◌, codes, decimal, Option, Some, None, option_and_then, option_map, if◌then◌else◌}
+-- Lines read from the left, as functions on lists. Which command a line spells is said in
+-- Commands.antt.
+use Rattle.std.specs.Prelude.{ℕ, ◌&&◌, ◌==◌, nat_le, List, [], ◌∷◌, codes, decimal, Option, Some}
+use Rattle.std.specs.Prelude.{None, option_and_then, option_map, if◌then◌else◌}
 use Rattle.std.specs.Str.{bytes_eq}
 use Rattle.std.specs.Str.Parse.{digits_value}
 use Rattle.pv_edit.specs.declared.edits.Edit.{Edit}
-use Rattle.pv_edit.specs.declared.edits.Edit.TheVariants.{Wrap, Insert, Unwrap, Rename, Split, Join, SetText, AddText, DelText}
+use Rattle.pv_edit.specs.declared.edits.Edit.TheVariants.{Wrap, Insert, Unwrap, Rename, Split}
+use Rattle.pv_edit.specs.declared.edits.Edit.TheVariants.{Join, SetText, AddText, DelText}
 use Rattle.pv_script.specs.Edits.{MAX_NUMBER}
 use Rattle.pv_script.specs.Lines.{with_first_byte}
 use Rattle.pv_script.specs.declared.commands.Command.{Command}
@@ -15,7 +18,8 @@ with_byte_in_front b cut = (b ∷ cut.0, cut.1)
 -- the word before the first blank, and what stands behind the blank
 abbrev pub first_word : List ℕ → Option (List ℕ × List ℕ)
 first_word [] = None
-first_word (b ∷ bs) = if b == 32 then Some ([], bs) else option_map (with_byte_in_front b) (first_word bs)
+first_word (b ∷ bs) =
+    if b == 32 then Some ([], bs) else option_map (with_byte_in_front b) (first_word bs)
 
 -- the number that is written so
 abbrev pub number_of : List ℕ → Option ℕ
@@ -23,29 +27,35 @@ number_of word =
     if bytes_eq (decimal (digits_value 10 word)) word && nat_le (digits_value 10 word) MAX_NUMBER
     then Some (digits_value 10 word) else None
 
--- the pieces between dots
-abbrev pub dot_pieces : List ℕ → List (List ℕ)
-dot_pieces [] = [] ∷ []
-dot_pieces (b ∷ bs) = if b == 46 then [] ∷ dot_pieces bs else with_first_byte b (dot_pieces bs)
+-- what stands between dots
+abbrev pub between_dots : List ℕ → List (List ℕ)
+between_dots [] = [] ∷ []
+between_dots (b ∷ bs) =
+    if b == 46 then [] ∷ between_dots bs else with_first_byte b (between_dots bs)
 
 abbrev pub numbers_of : List (List ℕ) → Option (List ℕ)
 numbers_of [] = Some []
-numbers_of (word ∷ others) = option_and_then (λ n. option_map (λ ns. n ∷ ns) (numbers_of others)) (number_of word)
+numbers_of (word ∷ others) =
+    option_and_then (λ n. option_map (λ ns. n ∷ ns) (numbers_of others)) (number_of word)
 
 -- the path that is written so
 abbrev pub path_of : List ℕ → Option (List ℕ)
-path_of word = if bytes_eq word (codes ".") then Some [] else numbers_of (dot_pieces word)
+path_of word = if bytes_eq word (codes ".") then Some [] else numbers_of (between_dots word)
 
 -- what is made of a first word that is a path, or a number, and of the words behind it
 abbrev pub on_path : {A : Type 0} → (List ℕ → List ℕ → Option A) → List ℕ → Option A
-on_path f bytes = option_and_then (λ cut. option_and_then (λ path. f path cut.1) (path_of cut.0)) (first_word bytes)
+on_path f bytes =
+    option_and_then (λ cut. option_and_then (λ path. f path cut.1) (path_of cut.0))
+    (first_word bytes)
 
 abbrev pub on_number : {A : Type 0} → (ℕ → List ℕ → Option A) → List ℕ → Option A
-on_number f bytes = option_and_then (λ cut. option_and_then (λ n. f n cut.1) (number_of cut.0)) (first_word bytes)
+on_number f bytes =
+    option_and_then (λ cut. option_and_then (λ n. f n cut.1) (number_of cut.0)) (first_word bytes)
 
 -- the edit of this word with these arguments
 abbrev pub wrap_of : List ℕ → Option Edit
-wrap_of bytes = on_path (λ path. on_number (λ from. on_number (λ to name. Some (Wrap path from to name)))) bytes
+wrap_of bytes =
+    on_path (λ path. on_number (λ from. on_number (λ to name. Some (Wrap path from to name)))) bytes
 
 abbrev pub insert_of : List ℕ → Option Edit
 insert_of bytes = on_path (λ path. on_number (λ at name. Some (Insert path at name))) bytes

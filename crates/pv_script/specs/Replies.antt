@@ -1,11 +1,14 @@
 -- The replies to a script's lines.
 use Rattle.std.specs.Prelude.{ℕ, List, [], ◌∷◌, ◌++◌, length, codes, decimal}
 use Rattle.pv_tree.specs.declared.nodes.Verdict.{Verdict}
-use Rattle.pv_tree.specs.declared.nodes.Verdict.TheVariants.{Valid, Possible, Impossible as impossible_list}
+use Rattle.pv_tree.specs.declared.nodes.Verdict.TheVariants.{Valid, Possible}
+use Rattle.pv_tree.specs.declared.nodes.Verdict.TheVariants.{Impossible as impossible_list}
 use Rattle.pv_edit.specs.declared.edits.Edit.{Edit}
 use Rattle.pv_edit.specs.declared.answers.VerdictRow.{VerdictRow}
 use Rattle.pv_edit.specs.declared.reasons.Reason.{Reason}
-use Rattle.pv_edit.specs.declared.reasons.Reason.TheVariants.{NoNode, NotElement, NotText, Range, BadName, BadText, RootShape, Deep, CloseMark}
+use Rattle.pv_edit.specs.declared.reasons.Reason.TheVariants.{NoNode, NotElement, NotText, Range}
+use Rattle.pv_edit.specs.declared.reasons.Reason.TheVariants.{BadName, BadText, RootShape, Deep}
+use Rattle.pv_edit.specs.declared.reasons.Reason.TheVariants.{CloseMark}
 use Rattle.pv_script.specs.Edits.{edit_text}
 use Rattle.pv_script.specs.Paths.{path_text}
 use Rattle.pv_script.specs.Words.{words, with_feed}
@@ -46,7 +49,8 @@ abbrev pub reply_bytes : Reply → List ℕ
 reply_bytes (reply.Okay done) =
     with_feed (words (codes "ok" ∷ decimal done.checked ∷ decimal done.left ∷ []))
 reply_bytes (reply.Shape reason) = with_feed (words (codes "no shape" ∷ reason_word reason ∷ []))
-reply_bytes (reply.Impossible path) = with_feed (words (codes "no impossible" ∷ path_text path ∷ []))
+reply_bytes (reply.Impossible path) =
+    with_feed (words (codes "no impossible" ∷ path_text path ∷ []))
 reply_bytes reply.NoHistory = with_feed (codes "no history")
 reply_bytes reply.Limit = with_feed (codes "no limit")
 reply_bytes reply.NoMemory = with_feed (codes "no memory")
@@ -57,7 +61,8 @@ reply_bytes reply.Heavy = with_feed (codes "no heavy")
 reply_bytes (reply.Show bytes) =
     with_feed (words (codes "show" ∷ decimal (length bytes) ∷ [])) ++ with_feed bytes
 reply_bytes (reply.Completed k bytes) =
-    with_feed (words (codes "completed" ∷ decimal k ∷ decimal (length bytes) ∷ [])) ++ with_feed bytes
+    with_feed (words (codes "completed" ∷ decimal k ∷ decimal (length bytes) ∷ [])) ++
+    with_feed bytes
 reply_bytes (reply.History edits) =
     with_feed (words (codes "history" ∷ decimal (length edits) ∷ [])) ++ edit_lines edits
 reply_bytes (reply.Verdicts rows) =

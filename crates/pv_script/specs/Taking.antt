@@ -1,5 +1,6 @@
 -- A line that is taken from the pieces of a script.
-use Rattle.std.specs.Prelude.{◌≡◌, ◌≤◌, ◌<◌, ℕ, suc, Bool, true, false, List, [], ◌∷◌, ◌++◌, length, if◌then◌else◌}
+use Rattle.std.specs.Prelude.{◌≡◌, ◌≤◌, ◌<◌, ℕ, suc, Bool, true, false, List, [], ◌∷◌, ◌++◌}
+use Rattle.std.specs.Prelude.{length, if◌then◌else◌}
 use Rattle.pv_script.specs.Lines.{FEED, HasNoFeed}
 use Rattle.pv_script.specs.declared.lines.Took.{Took}
 use Rattle.pv_script.specs.declared.lines.Took.TheVariants.{More, Line, TooLong}
@@ -46,7 +47,7 @@ pub record IsTooLong (old : HeldLine) (piece : List ℕ) (new : HeldLine) : Type
   pub held : new ≡ record { bytes = begun_line old; whole = false }
 
 -- what taking a piece gives
-abbrev pub Takes : HeldLine → List ℕ → HeldLine → Took → Type 0
-Takes old piece new More = TakesAll old piece new
-Takes old piece new (Line eaten) = TakesLine old piece eaten new
-Takes old piece new TooLong = IsTooLong old piece new
+abbrev pub TakesPiece : HeldLine → List ℕ → HeldLine → Took → Type 0
+TakesPiece old piece new More = TakesAll old piece new
+TakesPiece old piece new (Line eaten) = TakesLine old piece eaten new
+TakesPiece old piece new TooLong = IsTooLong old piece new

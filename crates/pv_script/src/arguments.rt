@@ -3,9 +3,11 @@
 ghost use Rattle.std.specs.Prelude.{◌≡◌, Some, None, MatchResult};
 ghost use Rattle.std.specs.Str.{bytes_eq};
 ghost use Rattle.pv_script.specs.Commands.{Reads};
-ghost use Rattle.pv_script.specs.Reading.{first_word, wrap_of, insert_of, unwrap_of, rename_of, split_of, join_of, set_text_of, add_text_of, del_text_of, edit_of, edit_in};
+ghost use Rattle.pv_script.specs.Reading.{first_word, wrap_of, insert_of, unwrap_of, rename_of};
+ghost use Rattle.pv_script.specs.Reading.{split_of, join_of, set_text_of, add_text_of};
+ghost use Rattle.pv_script.specs.Reading.{del_text_of, edit_of, edit_in};
 
-use crate::commands::CommandError;
+use crate::errors::CommandError;
 use crate::paths::{read_number, read_path};
 use pv_chars::bytes_of;
 use pv_chars::delimiters::up_to_byte;

@@ -3,18 +3,17 @@
 ghost use Rattle.std.specs.Prelude.{◌≡◌, Some, None, Err, IfOk};
 ghost use Rattle.pv_script.specs.Commands.{SpellsCommand, IsNoCommand, Reads};
 ghost use Rattle.pv_script.specs.Reading.{command_of};
-ghost use Rattle.pv_script.specs.declared.commands.CommandError.TheVariants.{NoMemory as no_memory};
 
 use crate::arguments::{is_word, read_edit};
-use pv_chars::NoMemory;
+use crate::errors::CommandError;
 use pv_edit::Edit;
-use std::alloc::{AllocError, AllocFailed, Global};
-use thiserror::Error;
+use std::alloc::Global;
 
 /// What a line asks for.
 #[derive(Debug, Drop)]
 pub enum Command {
-    /// `wrap`, `insert`, `unwrap`, `rename`, `split`, `join`, `text`, `addtext` or `deltext`: make this edit.
+    /// `wrap`, `insert`, `unwrap`, `rename`, `split`, `join`, `text`, `addtext` or `deltext`: make
+    /// this edit.
     Edit(Edit),
     /// `undo`: take the last edit back.
     Undo,
@@ -32,41 +31,6 @@ pub enum Command {
     Complete,
     /// `quit`: end the session.
     Quit,
-}
-
-/// Why no command was read.
-#[derive(Clone, Copy, Debug, PartialEq, Eq, Error)]
-pub enum CommandError {
-    /// The line is none of the commands.
-    #[error("the line is no command")]
-    Unknown,
-    /// There was too little memory; nothing is known of the line.
-    #[error("out of memory")]
-    NoMemory,
-}
-
-impl From<NoMemory> for CommandError {
-    ghost from_gives = { λ _ e. e ≡ no_memory };
-
-    fn from(_: NoMemory) -> CommandError {
-        CommandError::NoMemory
-    }
-}
-
-impl From<AllocError> for CommandError {
-    ghost from_gives = { λ _ e. e ≡ no_memory };
-
-    fn from(_: AllocError) -> CommandError {
-        CommandError::NoMemory
-    }
-}
-
-impl<T: Drop> From<AllocFailed<T>> for CommandError {
-    ghost from_gives = { λ _ e. e ≡ no_memory };
-
-    fn from(_: AllocFailed<T>) -> CommandError {
-        CommandError::NoMemory
-    }
 }
 
 // The command that a line is, read from the left.

@@ -2,7 +2,8 @@
 
 ghost use Rattle.std.specs.Prelude.{◌≡◌, ◌++◌, IfOk, length, nat_le, false, if◌then◌else◌};
 ghost use Rattle.pv_script.specs.Lines.{without_returns};
-ghost use Rattle.pv_script.specs.Taking.{Takes, MAX_LINE_BYTES as MOST_BYTES, nothing_held, begun_line};
+ghost use Rattle.pv_script.specs.Taking.{TakesPiece, MAX_LINE_BYTES as MOST_BYTES, nothing_held};
+ghost use Rattle.pv_script.specs.Taking.{begun_line};
 
 use memchr::memchr;
 use pv_chars::NoMemory;
@@ -66,7 +67,10 @@ impl Lines {
     // Adds bytes, and tells whether they fit.
     fn add(&mut self, bytes: &[u8]) -> bool
         ensures fits { result ≡ nat_le (length (self.old.bytes ++ bytes.now)) MOST_BYTES }
-        ensures added { self.new ≡ record { bytes = if result then self.old.bytes ++ bytes.now else self.old.bytes; whole = self.old.whole } }
+        ensures added { self.new ≡ record {
+          bytes = if result then self.old.bytes ++ bytes.now else self.old.bytes;
+          whole = self.old.whole;
+        } }
     {
         if bytes.len() > MAX_LINE_BYTES - self.bytes.len() {
             return false;
@@ -88,7 +92,7 @@ impl Lines {
 
     /// Drops a whole line that is held. Then takes the piece, up to its first LF.
     pub fn take(&mut self, piece: &[u8]) -> Took
-        ensures { Takes self.old piece.now self.new result }
+        ensures { TakesPiece self.old piece.now self.new result }
     {
         self.begin();
         match memchr(b'\n', piece) {

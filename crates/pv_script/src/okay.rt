@@ -20,7 +20,8 @@ fn put(room: &mut [u8], at: usize, bytes: &[u8]) -> usize
     end
 }
 
-/// Writes the bytes of the reply `ok` at the front of the room, and tells their number. The room behind them stays as it was.
+/// Writes the bytes of the reply `ok` at the front of the room, and tells their number. The room
+/// behind them stays as it was.
 pub fn okay_text(done: &Done, room: &mut [u8]) -> usize
     requires { 64 ≤ length room.old }
     ensures within { result ≤ 64 }
@@ -35,7 +36,8 @@ pub fn okay_text(done: &Done, room: &mut [u8]) -> usize
     put(room, end, b"\n")
 }
 
-/// Writes a line that says that line number so many is too long at the front of the room, and tells the number of its bytes.
+/// Writes a line that says that line number so many is too long at the front of the room, and
+/// tells the number of its bytes.
 pub fn limit_line_text(number: u64, room: &mut [u8]) -> usize
     requires { 64 ≤ length room.old }
     ensures within { result ≤ 64 }

@@ -1,12 +1,13 @@
 //! Numbers and paths as text.
 
-ghost use Rattle.std.specs.Prelude.{◌≡◌, ◌++◌, OnOk, decimal};
+ghost use Rattle.std.specs.Prelude.{◌≡◌, ◌++◌, IfOk, OnOk, decimal};
 ghost use Rattle.pv_script.specs.Commands.{Reads};
 ghost use Rattle.pv_script.specs.Paths.{path_text, places_text};
 ghost use Rattle.pv_script.specs.Reading.{number_of, path_of};
 
-use crate::commands::CommandError;
+use crate::errors::CommandError;
 use itoa::Buffer;
+use pv_chars::NoMemory;
 use pv_chars::delimiters::up_to_byte;
 use pv_tree::Path;
 use std::alloc::{AllocError, Global};
@@ -73,19 +74,35 @@ pub(crate) fn read_number(word: &[u8]) -> Result<u32, CommandError>
     }
 }
 
-/// The path that a word is.
-pub(crate) fn read_path(alloc: Global, word: &[u8]) -> Result<Path, CommandError>
-    ensures { Reads (path_of word.now) result }
+/// The path that a word is: `.`, or the numbers of its places with dots between.
+pub fn written_path(alloc: Global, word: &[u8]) -> Result<Option<Path>, NoMemory>
+    ensures { IfOk result (λ path. path_of word.now ≡ path) }
 {
     if word == b".".as_slice() {
-        return Ok(Path::new(alloc, &[])?);
+        return Ok(Some(Path::new(alloc, &[])?));
     }
     let mut places = Vec::new(alloc);
     let mut rest = word;
     'places: while let Some((number, after)) = up_to_byte(b'.', rest) {
-        places.push(read_number(number)?)?;
+        let Some(place) = written_number(number) else {
+            return Ok(None);
+        };
+        places.push(place)?;
         rest = after;
     }
-    places.push(read_number(rest)?)?;
-    Ok(Path::new(alloc, &places)?)
+    let Some(place) = written_number(rest) else {
+        return Ok(None);
+    };
+    places.push(place)?;
+    Ok(Some(Path::new(alloc, &places)?))
+}
+
+/// The path that a word of a line is.
+pub(crate) fn read_path(alloc: Global, word: &[u8]) -> Result<Path, CommandError>
+    ensures { Reads (path_of word.now) result }
+{
+    match written_path(alloc, word)? {
+        Some(path) => Ok(path),
+        None => Err(CommandError::Unknown),
+    }
 }

@@ -2,10 +2,12 @@
 
 ghost use Rattle.std.specs.Prelude.{◌≡◌, [], ◌∷◌, ◌++◌, codes, decimal, length, IfOk, OnOk};
 ghost use Rattle.pv_script.specs.Paths.{path_text};
-ghost use Rattle.pv_script.specs.Replies.{reply_bytes, reason_word, verdict_word, edit_lines, row_text, row_lines};
+ghost use Rattle.pv_script.specs.Replies.{reply_bytes, reason_word, verdict_word, edit_lines};
+ghost use Rattle.pv_script.specs.Replies.{row_text, row_lines};
 ghost use Rattle.pv_script.specs.Words.{words, with_feed};
 
 use crate::edits::{push_edit, push_next_number, push_next_word};
+use crate::okay::okay_text;
 use crate::paths::{push_number, push_path};
 use pv_chars::{Bytes, NoMemory};
 use pv_edit::{Done, Edit, Edits, Reason, VerdictRow, VerdictRows};
@@ -19,7 +21,8 @@ pub enum Reply {
     Okay(Done),
     /// The edit can't be made: its first reason.
     Shape(Reason),
-    /// Inserting elements could no longer make the document valid: the path of the first impossible list.
+    /// Inserting elements could no longer make the document valid: the path of the first
+    /// impossible list.
     Impossible(Path),
     /// There is nothing left to undo or redo.
     NoHistory,
@@ -210,18 +213,41 @@ fn push_verdicts(text: &mut Vec<u8>, rows: &[VerdictRow]) -> Result<(), AllocErr
     push_rows(text, rows)
 }
 
+// Appends the reply to a change that was made.
+fn push_okay(text: &mut Vec<u8>, done: &Done) -> Result<(), AllocError>
+    ensures { OnOk result (text.new.items ≡ text.old.items ++ reply_bytes (Reply.Okay done.now)) }
+{
+    let mut room = [0u8; 64];
+    let end = okay_text(done, &mut room);
+    text.extend_from_slice(&room[..end])
+}
+
+/// The reply to a line that there is no memory for, which takes none.
+pub fn no_memory_text() -> &'static [u8]
+    ensures { result.now ≡ reply_bytes Reply.NoMemory }
+{
+    b"no memory\n"
+}
+
+/// The reply to a line that is no command, which takes no memory.
+pub fn no_command_text() -> &'static [u8]
+    ensures { result.now ≡ reply_bytes Reply.NoCommand }
+{
+    b"no command\n"
+}
+
 // Appends a reply.
 fn push_reply(text: &mut Vec<u8>, reply: &Reply) -> Result<(), AllocError>
     ensures { OnOk result (text.new.items ≡ text.old.items ++ reply_bytes reply.now) }
 {
     match reply {
-        Reply::Okay(done) => { push_with_numbers(text, b"ok", u64::from(done.checked), done.left) }
+        Reply::Okay(done) => push_okay(text, done),
         Reply::Shape(reason) => push_words(text, b"no shape", reason_word(*reason)),
         Reply::Impossible(path) => push_with_path(text, b"no impossible", path),
         Reply::NoHistory => push_line(text, b"no history"),
         Reply::Limit => push_line(text, b"no limit"),
-        Reply::NoMemory => push_line(text, b"no memory"),
-        Reply::NoCommand => push_line(text, b"no command"),
+        Reply::NoMemory => text.extend_from_slice(no_memory_text()),
+        Reply::NoCommand => text.extend_from_slice(no_command_text()),
         Reply::Need(number) => push_with_number(text, b"need", *number),
         Reply::Wide(path) => push_with_path(text, b"no wide", path),
         Reply::Heavy => push_line(text, b"no heavy"),

@@ -1,7 +1,8 @@
+-- for other crates:
 pub mod Stamped
-pub mod LastItems
 pub mod Steps
 pub mod Ways
+-- of this crate:
+pub mod LastItems
 pub mod Opened
 pub mod Moves
-pub mod Refused

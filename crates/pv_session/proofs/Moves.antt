@@ -1,28 +1,25 @@
 -- What a session keeps behind each move, and that the move is a step.
-use Rattle.std.proofs.Common.{List, [], ap, length, refl, subst, sym, ◌++◌, ◌∙◌, ◌∷◌, ◌≡◌, ℕ}
-use Rattle.std.specs.Prelude.{Err}
+use Rattle.std.proofs.Common.{List, [], ap, refl, subst, sym, ◌++◌, ◌∙◌, ◌∷◌, ◌≡◌, ℕ}
+use Rattle.std.specs.Prelude.{Err, None, Option, Some}
 use Rattle.std.specs.Option.{MatchOption}
-use Rattle.pv_cache.specs.Accepting.{IsGuarded}
+use Rattle.pv_cache.specs.Accepting.{IsAccepted, IsGuarded}
 use Rattle.pv_cache.specs.Moves.{HasGround, HasOpen, IsEdited, IsReverted}
-use Rattle.pv_cache.specs.Stamps.{StampedDoc, doc_as, stamped}
-use Rattle.pv_cache.proofs.Alike.{gives_as, guarded_to, reverted_as}
-use Rattle.pv_edit.specs.Brought.{lists_changed}
+use Rattle.pv_cache.specs.Stamps.{StampedDoc, doc_as, stamp_lists}
+use Rattle.pv_cache.proofs.Alike.{accepted_as, guarded_to}
 use Rattle.pv_edit.specs.ChangedLists.{changed_lists, makes, undoes}
-use Rattle.pv_edit.specs.Inverses.{IsKept, LeadsBack, change_back, inverse_of, reverted}
-use Rattle.pv_edit.specs.Reasons.{applied, gives}
+use Rattle.pv_edit.specs.Inverses.{IsKept, LeadsBack, inverse_of, doc_back}
+use Rattle.pv_edit.specs.Laws.{LeadsToOne}
+use Rattle.pv_edit.specs.Reasons.{gives}
 use Rattle.pv_edit.specs.declared.answers.Done.{Done}
 use Rattle.pv_edit.specs.declared.answers.EditAnswer.{EditAnswer}
-use Rattle.pv_edit.specs.declared.answers.EditAnswer.TheVariants as answer
 use Rattle.pv_edit.specs.declared.edits.Edit.{Edit}
 use Rattle.pv_edit.specs.declared.inverses.Inverse.{Inverse}
-use Rattle.pv_edit.proofs.Leading.{leads}
-use Rattle.pv_edit.proofs.ListsChanged.{inverse-lists}
 use Rattle.pv_edit.proofs.RemarkedFacts.{kept-to}
 use Rattle.pv_edit.proofs.RemarkedReasons.{inverse-as}
 use Rattle.pv_session.specs.Answers.{edit_answer}
-use Rattle.pv_session.specs.Keeping.{IsMade, IsSession, KeepsWays, LeadsOn, LeadsTo, led_back}
-use Rattle.pv_session.specs.Sessions.{PlainSession, begun, next_move, stamped_document}
-use Rattle.pv_session.specs.Steps.{IsEditStep, IsRedoStep, IsUndoStep, accepted, behind_move, impossible, is_done, lacks_history, no_past, not_applied, past_limit, redone, undone}
+use Rattle.pv_session.specs.Keeping.{IsMade, IsSession, KeepsWays, LeadsOn, LeadsTo, opened_doc}
+use Rattle.pv_session.specs.Sessions.{PlainSession, session_on, next_move, stamped_document}
+use Rattle.pv_session.specs.Steps.{IsEditStep, IsRedoStep, IsUndoStep, PlainAnswer, accepted, behind_move, is_done, lacks_history, no_past, redone, refusal_of, refused, undone}
 use Rattle.pv_session.proofs.LastItems.{HasLast, has_some}
 use Rattle.pv_session.proofs.Opened.{led_opened}
 use Rattle.pv_session.proofs.Stamped.{begun_doc, begun_unmarked, stamped_same}
@@ -37,9 +34,9 @@ use Rattle.pv_tree.specs.declared.nodes.Mark.{Mark}
 -- a session of these parts
 abbrev pub session_of : StampedDoc → List Edit → List Inverse → List Edit → ℕ → PlainSession
 session_of m edits ways gone moves =
-    record { dtd = m.dtd; root = m.root; opened = led_back ways (unmarked_doc m.doc); past = edits; undone = gone; moves = moves; doc = m.doc }
+    record { dtd = m.dtd; root = m.root; opened = opened_doc ways (unmarked_doc m.doc); past = edits; undone = gone; moves = moves; doc = m.doc }
 
-module _ (m : StampedDoc) (edits : List Edit) (ways : List Inverse) (gone : List Edit) (moves : ℕ) (k : KeepsWays (session_of m edits ways gone moves) ways) where
+module _ (one : LeadsToOne Unit) (m : StampedDoc) (edits : List Edit) (ways : List Inverse) (gone : List Edit) (moves : ℕ) (k : KeepsWays (session_of m edits ways gone moves) ways) where
   abbrev s : PlainSession
   s = session_of m edits ways gone moves
 
@@ -65,7 +62,7 @@ module _ (m : StampedDoc) (edits : List Edit) (ways : List Inverse) (gone : List
     same_root : after.root ≡ m.root
     same_root = ap (λ (a : StampedDoc). a.root) e.is_after
 
-    is_doc : after.doc ≡ stamped n (changed_lists (makes edit)) e.edited
+    is_doc : after.doc ≡ stamp_lists n (changed_lists (makes edit)) e.edited
     is_doc = ap (λ (a : StampedDoc). a.doc) e.is_after
 
     abbrev later : PlainDoc Unit
@@ -74,18 +71,18 @@ module _ (m : StampedDoc) (edits : List Edit) (ways : List Inverse) (gone : List
     is_later : later ≡ unmarked_doc e.edited
     is_later = ap unmarked_doc is_doc ∙ stamped_same n (changed_lists (makes edit)) e.edited
 
-    made : IsMade now edit way later
+    made : IsMade s.dtd s.root now edit way later
     made = record {
       kept = kept_now;
-      is_edited = gives_as (λ _. tt) 0 m.doc e.edited edit e.accepted.is_edited ∙ ap gives (sym is_later);
+      accepted = subst (IsAccepted tt s.dtd s.root now edit) (sym is_later) (accepted_as (λ _. tt) 0 s.dtd s.root m.doc edit e.edited e.accepted);
       is_inverse = inverse-as (λ _. tt) m.doc.root edit ∙ sym e.is_inverse;
     }
 
     longer : LeadsTo s.dtd s.root s.opened (edits ++ edit ∷ []) (ways ++ way ∷ []) later
     longer = leads_more s.dtd s.root s.opened now later edits ways edit way k.past guarded_now made
 
-    still_opened : led_back (ways ++ way ∷ []) later ≡ s.opened
-    still_opened = led_opened s.dtd s.root s.opened later (edits ++ edit ∷ []) (ways ++ way ∷ []) longer
+    still_opened : opened_doc (ways ++ way ∷ []) later ≡ s.opened
+    still_opened = led_opened one s.dtd s.root s.opened later (edits ++ edit ∷ []) (ways ++ way ∷ []) longer
 
     -- the session behind it
     module _ (past' undone' : List Edit) (ways' : List Inverse) (p : past' ≡ edits ++ edit ∷ []) (w : ways' ≡ ways ++ way ∷ []) where
@@ -93,7 +90,7 @@ module _ (m : StampedDoc) (edits : List Edit) (ways : List Inverse) (gone : List
       t = session_of after past' ways' undone' n
 
       same_opened : t.opened ≡ s.opened
-      same_opened = ap (λ (ws : List Inverse). led_back ws later) w ∙ still_opened
+      same_opened = ap (λ (ws : List Inverse). opened_doc ws later) w ∙ still_opened
 
       leads_past : LeadsTo t.dtd t.root t.opened t.past ways' (unmarked_doc t.doc)
       leads_past = rw (same_opened, p, w, same_dtd, same_root) longer
@@ -108,7 +105,7 @@ module _ (m : StampedDoc) (edits : List Edit) (ways : List Inverse) (gone : List
       -- whose parts are those of the session before it
       same_parts : (u : List Edit) → undone' ≡ u → t ≡ record s { past = edits ++ edit ∷ []; undone = u; moves = next_move moves; doc = behind_move s (changed_lists (makes edit)) e.edited }
       same_parts u is =
-          let d : after.doc ≡ behind_move s (changed_lists (makes edit)) e.edited = is_doc ∙ ap (λ (i : ℕ). stamped i (changed_lists (makes edit)) e.edited) is_next in
+          let d : after.doc ≡ behind_move s (changed_lists (makes edit)) e.edited = is_doc ∙ ap (λ (i : ℕ). stamp_lists i (changed_lists (makes edit)) e.edited) is_next in
           let a = same_dtd in
           let b = same_root in
           let c = same_opened in
@@ -127,7 +124,7 @@ module _ (m : StampedDoc) (edits : List Edit) (ways : List Inverse) (gone : List
         next = next_undone s.dtd s.root now k.last rest edit (subst (λ (es : List Edit). LeadsOn s.dtd s.root now es k.last) o k.undone)
 
         same_next : next.next ≡ later
-        same_next = let n : gives next.next ≡ gives later = sym next.is_edited ∙ made.is_edited in cc
+        same_next = let n : gives next.next ≡ gives later = sym next.accepted.is_edited ∙ made.accepted.is_edited in cc
 
         pub redo_keeps : KeepsWays t ways'
         redo_keeps =
@@ -147,45 +144,36 @@ module _ (m : StampedDoc) (edits : List Edit) (ways : List Inverse) (gone : List
         (subst (λ (ws : List Inverse). LeadsTo s.dtd s.root s.opened (before ++ edit ∷ []) ws now) f (subst (λ (es : List Edit). LeadsTo s.dtd s.root s.opened es ways now) e k.past))
 
     -- the way back leads back
-    pub leads_back : LeadsBack way m.doc last_made.before
+    abbrev pub leads_back : LeadsBack way m.doc last_made.before
     leads_back = goes_back s.dtd s.root last_made.before edit way m.doc last_made.made
 
     pub guarded_before : IsGuarded s.dtd s.root last_made.before
     guarded_before = last_made.guarded
 
-    module _ (n : ℕ) (is_next : n ≡ next_move moves) (done : Done) (after : StampedDoc) (r : IsReverted m way n done after) (guarded : IsGuarded after.dtd after.root after.doc) (kept : IsKept after.doc.root) where
+    module _ (n : ℕ) (is_next : n ≡ next_move moves) (done : Done) (after : StampedDoc) (r : IsReverted m way edit last_made.before n done after) (guarded : IsGuarded after.dtd after.root after.doc) (kept : IsKept after.doc.root) where
       back_dtd : after.dtd ≡ m.dtd
       back_dtd = ap (λ (a : StampedDoc). a.dtd) r.is_after
 
       back_root : after.root ≡ m.root
       back_root = ap (λ (a : StampedDoc). a.root) r.is_after
 
-      same_lists : lists_changed (change_back 0 m.doc.root way) ≡ changed_lists (undoes edit)
-      same_lists =
-          ap (λ (w : Inverse). lists_changed (change_back 0 m.doc.root w)) (sym last_made.made.is_inverse)
-          ∙ inverse-lists 0 m.doc.root tt last_made.before now edit last_made.made.is_edited
-
-      back_doc : after.doc ≡ stamped n (changed_lists (undoes edit)) (reverted 0 m.doc way)
-      back_doc = ap (λ (a : StampedDoc). a.doc) r.is_after ∙ ap (λ (ls : List (List ℕ)). stamped n ls (reverted 0 m.doc way)) same_lists
-
-      is_before : unmarked_doc after.doc ≡ last_made.before
-      is_before =
-          ap unmarked_doc back_doc ∙ stamped_same n (changed_lists (undoes edit)) (reverted 0 m.doc way) ∙ sym (reverted_as (λ _. tt) 0 m.doc way) ∙ leads way m.doc last_made.before leads_back
+      back_doc : after.doc ≡ stamp_lists n (changed_lists (undoes edit)) (doc_back 0 m.doc way)
+      back_doc = ap (λ (a : StampedDoc). a.doc) r.is_after
 
       shorter : LeadsTo s.dtd s.root s.opened before fewer (unmarked_doc after.doc)
-      shorter = subst (LeadsTo s.dtd s.root s.opened before fewer) (sym is_before) last_made.led
+      shorter = subst (LeadsTo s.dtd s.root s.opened before fewer) (sym r.led) last_made.led
 
       module _ (past' undone' : List Edit) (ways' : List Inverse) (p : past' ≡ before) (u : undone' ≡ gone ++ edit ∷ []) (w : ways' ≡ fewer) where
         abbrev b : PlainSession
         b = session_of after past' ways' undone' n
 
         back_opened : b.opened ≡ s.opened
-        back_opened = ap (λ (ws : List Inverse). led_back ws (unmarked_doc after.doc)) w ∙ led_opened s.dtd s.root s.opened (unmarked_doc after.doc) before fewer shorter
+        back_opened = ap (λ (ws : List Inverse). opened_doc ws (unmarked_doc after.doc)) w ∙ led_opened one s.dtd s.root s.opened (unmarked_doc after.doc) before fewer shorter
 
         pub undo_keeps : KeepsWays b ways'
         undo_keeps =
-            let given : applied tt (unmarked_doc after.doc) edit ≡ gives now = subst (λ (d : PlainDoc Unit). applied tt d edit ≡ gives now) (sym is_before) last_made.made.is_edited in
-            let on = leads_on_more s.dtd s.root (unmarked_doc after.doc) now k.last gone edit k.undone given guarded_now in
+            let again : IsAccepted tt s.dtd s.root (unmarked_doc after.doc) edit now = subst (λ (d : PlainDoc Unit). IsAccepted tt s.dtd s.root d edit now) (sym r.led) last_made.made.accepted in
+            let on = leads_on_more s.dtd s.root (unmarked_doc after.doc) now k.last gone edit k.undone again in
             record {
               guarded = guarded;
               kept = kept;
@@ -197,13 +185,13 @@ module _ (m : StampedDoc) (edits : List Edit) (ways : List Inverse) (gone : List
 
         pub undo_is_step : IsUndoStep s (is_done done.checked done.left) b
         undo_is_step =
-            let d : after.doc ≡ behind_move s (changed_lists (undoes edit)) (reverted 0 m.doc (inverse_of last_made.before.root edit)) =
-            back_doc ∙ ap (λ (i : ℕ). stamped i (changed_lists (undoes edit)) (reverted 0 m.doc way)) is_next
-            ∙ ap (λ (w : Inverse). behind_move s (changed_lists (undoes edit)) (reverted 0 m.doc w)) (sym last_made.made.is_inverse) in
-            let parts : b ≡ record s { past = before; undone = gone ++ edit ∷ []; moves = next_move moves; doc = behind_move s (changed_lists (undoes edit)) (reverted 0 m.doc (inverse_of last_made.before.root edit)) } =
+            let d : after.doc ≡ behind_move s (changed_lists (undoes edit)) (doc_back 0 m.doc (inverse_of last_made.before.root edit)) =
+            back_doc ∙ ap (λ (i : ℕ). stamp_lists i (changed_lists (undoes edit)) (doc_back 0 m.doc way)) is_next
+            ∙ ap (λ (w : Inverse). behind_move s (changed_lists (undoes edit)) (doc_back 0 m.doc w)) (sym last_made.made.is_inverse) in
+            let parts : b ≡ record s { past = before; undone = gone ++ edit ∷ []; moves = next_move moves; doc = behind_move s (changed_lists (undoes edit)) (doc_back 0 m.doc (inverse_of last_made.before.root edit)) } =
             (let x = back_dtd in let y = back_root in let z = back_opened in cc) in
-            undone edit before last_made.before done.left e (replays s.dtd s.root s.opened last_made.before before fewer last_made.led) is_before parts r.is_left
-            (ap (λ (i : ℕ). is_done i done.left) (r.is_checked ∙ ap length same_lists))
+            undone edit before last_made.before done.left e (replays s.dtd s.root s.opened last_made.before before fewer last_made.led) r.led parts r.is_left
+            (ap (λ (i : ℕ). is_done i done.left) r.is_checked)
 
   -- the last edit can be undone by the last way back
   pub record CanUndo (way : Inverse) : Type 0 where
@@ -225,11 +213,12 @@ module _ (m : StampedDoc) (edits : List Edit) (ways : List Inverse) (gone : List
   can_redo edit l = next_undone s.dtd s.root now k.last l.front edit (subst (λ (es : List Edit). LeadsOn s.dtd s.root now es k.last) l.whole k.undone)
 
 -- a refused edit
+refused_by : (s : PlainSession) (edit : Edit) (a : EditAnswer) → HasGround 0 s.dtd s.root s.doc edit a → (told : Option PlainAnswer) → refusal_of a ≡ told → MatchOption told (s ≡ s) (λ answer. IsEditStep s edit answer s)
+refused_by s edit a h None e = refl
+refused_by s edit a h (Some answer) e = refused a h e refl
+
 pub refuse_step : (s : PlainSession) (edit : Edit) (a : EditAnswer) → HasGround 0 s.dtd s.root s.doc edit a → MatchOption (edit_answer (Err a)) (s ≡ s) (λ a. IsEditStep s edit a s)
-refuse_step s edit (answer.Shape reason) h = not_applied reason h refl refl
-refuse_step s edit (answer.Impossible path) (doc, a, w, n, f) = impossible doc path a w n f refl refl
-refuse_step s edit answer.Limit (doc, a, n) = past_limit doc a n refl refl
-refuse_step s edit answer.NoMemory h = refl
+refuse_step s edit a h = refused_by s edit a h (refusal_of a) refl
 
 -- a session that begins
 pub begun_keeps : (m : StampedDoc) (edits gone : List Edit) (ways : List Inverse) → edits ≡ [] → ways ≡ [] → gone ≡ [] → IsGuarded m.dtd m.root m.doc → IsKept m.doc.root → IsProlog m.root m.doc.before →
@@ -244,7 +233,7 @@ begun_keeps m edits gone ways p w u guarded kept prolog = record {
 }
 
 pub begun_is : (g : PlainDtd) (root : List ℕ) (doc : PlainDoc Mark) (m : StampedDoc) → m ≡ record { dtd = g; root = root; doc = doc_as (λ _. 0) doc } → (edits gone : List Edit) (ways : List Inverse) → edits ≡ [] → ways ≡ [] → gone ≡ [] →
-    session_of m edits ways gone 0 ≡ begun g root (unmarked_doc doc)
+    session_of m edits ways gone 0 ≡ session_on g root (unmarked_doc doc)
 begun_is g root doc m e edits gone ways p w u =
     rw (e, p, w, u)
     (ap (λ (d : PlainDoc Unit). record { dtd = g; root = root; opened = d; past = []; undone = []; moves = 0; doc = doc_as {M = Mark} {N = ℕ} (λ _. 0) doc }) (begun_unmarked doc)

@@ -3,7 +3,7 @@ use Rattle.std.proofs.Common.{List, [], ap, refl, suc, zero, ℕ, ◌∙◌, ◌
 use Rattle.pv_edit.specs.Changes.{change_below, change_kid}
 use Rattle.pv_tree.specs.Marks.{unmarked_doc}
 use Rattle.pv_tree.specs.Plain.{Forest, PlainDoc, Tree, cdata_node, element, map_marks, map_marks_all, misc_node, no_trees, text_node, tree, without_marks}
-use Rattle.pv_cache.specs.Stamps.{doc_as, marked_at, stamped, with_mark}
+use Rattle.pv_cache.specs.Stamps.{doc_as, with_mark_at, stamp_lists, with_mark}
 use Rattle.pv_cache.proofs.Alike.{twice}
 
 abbrev bare_all : {M : Type 0} → Forest M → Forest Unit
@@ -28,13 +28,13 @@ module _ {M : Type 0} (m : M) where
   below_same (i ∷ path) (cdata_node b) = refl
   below_same (i ∷ path) (misc_node b) = refl
 
-  marked_doc_same : (path : List ℕ) (doc : PlainDoc M) → unmarked_doc (marked_at m path doc) ≡ unmarked_doc doc
+  marked_doc_same : (path : List ℕ) (doc : PlainDoc M) → unmarked_doc (with_mark_at m path doc) ≡ unmarked_doc doc
   marked_doc_same [] doc = refl
   marked_doc_same (i ∷ path) doc = ap (λ (t : Tree Unit). record { before = doc.before; root = t; after = doc.after; mark = tt }) (below_same path doc.root)
 
-  pub stamped_same : (paths : List (List ℕ)) (doc : PlainDoc M) → unmarked_doc (stamped m paths doc) ≡ unmarked_doc doc
+  pub stamped_same : (paths : List (List ℕ)) (doc : PlainDoc M) → unmarked_doc (stamp_lists m paths doc) ≡ unmarked_doc doc
   stamped_same [] doc = refl
-  stamped_same (path ∷ paths) doc = stamped_same paths (marked_at m path doc) ∙ marked_doc_same path doc
+  stamped_same (path ∷ paths) doc = stamped_same paths (with_mark_at m path doc) ∙ marked_doc_same path doc
 
 -- a document without marks is without marks
 mutual

@@ -8,7 +8,7 @@ use Rattle.pv_edit.specs.Reasons.{applied, gives, outcome, reason_of}
 use Rattle.pv_edit.specs.declared.edits.Edit.{Edit}
 use Rattle.pv_edit.specs.declared.inverses.Inverse.{Inverse}
 use Rattle.pv_edit.specs.declared.reasons.Reason.{Reason}
-use Rattle.pv_cache.specs.Accepting.{IsGuarded}
+use Rattle.pv_cache.specs.Accepting.{IsAccepted, IsGuarded}
 use Rattle.pv_session.specs.Keeping.{IsMade, LeadsOn, LeadsTo}
 use Rattle.pv_session.specs.Sessions.{Replays}
 use Rattle.pv_tree.specs.Marks.{unmarked_doc}
@@ -41,14 +41,14 @@ module _ (g : PlainDtd) (root : List ℕ) where
   replays doc after [] [] l = l
   replays doc after [] (way ∷ ways) l = absurd l
   replays doc after (edit ∷ edits) [] l = absurd l
-  replays doc after (edit ∷ edits) (way ∷ ways) (next, guarded, made, l) = (next, made.is_edited, replays next after edits ways l)
+  replays doc after (edit ∷ edits) (way ∷ ways) (next, guarded, made, l) = (next, made.accepted.is_edited, replays next after edits ways l)
 
   -- ---- the past
   -- one more edit
-  pub leads_more : (doc last after : PlainDoc Unit) (edits : List Edit) (ways : List Inverse) (edit : Edit) (way : Inverse) → LeadsTo g root doc edits ways last → IsGuarded g root last → IsMade last edit way after →
+  pub leads_more : (doc last after : PlainDoc Unit) (edits : List Edit) (ways : List Inverse) (edit : Edit) (way : Inverse) → LeadsTo g root doc edits ways last → IsGuarded g root last → IsMade g root last edit way after →
       LeadsTo g root doc (edits ++ edit ∷ []) (ways ++ way ∷ []) after
   leads_more doc last after [] [] edit way l guarded made =
-      (after, subst (IsGuarded g root) l guarded, subst (λ (d : PlainDoc Unit). IsMade d edit way after) l made, refl)
+      (after, subst (IsGuarded g root) l guarded, subst (λ (d : PlainDoc Unit). IsMade g root d edit way after) l made, refl)
   leads_more doc last after [] (w ∷ ways) edit way l guarded made = absurd l
   leads_more doc last after (e ∷ edits) [] edit way l guarded made = absurd l
   leads_more doc last after (e ∷ edits) (w ∷ ways) edit way (next, g1, m, l) guarded made = (next, g1, m, leads_more next last after edits ways edit way l guarded made)
@@ -58,10 +58,10 @@ module _ (g : PlainDtd) (root : List ℕ) where
     pub before : PlainDoc Unit
     pub led : LeadsTo g root doc edits ways before
     pub guarded : IsGuarded g root before
-    pub made : IsMade before edit way after
+    pub made : IsMade g root before edit way after
 
   pub last_edit : (doc after : PlainDoc Unit) (edits : List Edit) (ways : List Inverse) (edit : Edit) (way : Inverse) → LeadsTo g root doc (edits ++ edit ∷ []) (ways ++ way ∷ []) after → IsLast doc edits ways edit way after
-  last_edit doc after [] [] edit way (next, guarded, made, l) = record { before = doc; led = refl; guarded = guarded; made = subst (IsMade doc edit way) (sym l) made }
+  last_edit doc after [] [] edit way (next, guarded, made, l) = record { before = doc; led = refl; guarded = guarded; made = subst (IsMade g root doc edit way) (sym l) made }
   last_edit doc after [] (w ∷ []) edit way (next, guarded, made, l) = absurd l
   last_edit doc after [] (w ∷ v ∷ ways) edit way (next, guarded, made, l) = absurd l
   last_edit doc after (e ∷ []) [] edit way (next, guarded, made, l) = absurd l
@@ -82,25 +82,21 @@ module _ (g : PlainDtd) (root : List ℕ) where
   empty_both doc after (edit ∷ edits) (way ∷ ways) l e = absurd cc
 
   -- the way back leads back from a document whatever its marks are
-  pub goes_back : {M : Type 0} (before : PlainDoc Unit) (edit : Edit) (way : Inverse) (edited : PlainDoc M) → IsMade before edit way (unmarked_doc edited) → LeadsBack way edited before
-  goes_back before edit way edited made = record { edit = edit; kept = made.kept; is_edited = made.is_edited; is_inverse = made.is_inverse }
+  abbrev pub goes_back : {M : Type 0} (before : PlainDoc Unit) (edit : Edit) (way : Inverse) (edited : PlainDoc M) → IsMade g root before edit way (unmarked_doc edited) → LeadsBack way edited before
+  goes_back before edit way edited made = record { edit = edit; kept = made.kept; is_edited = made.accepted.is_edited; is_inverse = made.is_inverse }
 
   -- ---- undone edits
-  pub leads_on_more : (doc next after : PlainDoc Unit) (edits : List Edit) (edit : Edit) → LeadsOn g root next edits after → applied tt doc edit ≡ gives next → IsGuarded g root next →
-      LeadsOn g root doc (edits ++ edit ∷ []) after
-  leads_on_more doc next after [] edit l a guarded =
-      (doc, refl, subst (λ (d : PlainDoc Unit). applied tt doc edit ≡ gives d) (sym l) a, subst (IsGuarded g root) (sym l) guarded)
-  leads_on_more doc next after (e ∷ edits) edit (last, l, b, h) a guarded = (last, leads_on_more doc next last edits edit l a guarded, b, h)
+  pub leads_on_more : (doc next after : PlainDoc Unit) (edits : List Edit) (edit : Edit) → LeadsOn g root next edits after → IsAccepted tt g root doc edit next → LeadsOn g root doc (edits ++ edit ∷ []) after
+  leads_on_more doc next after [] edit l a = (doc, refl, subst (IsAccepted tt g root doc edit) (sym l) a)
+  leads_on_more doc next after (e ∷ edits) edit (last, l, b) a = (last, leads_on_more doc next last edits edit l a, b)
 
   pub record IsNext (doc : PlainDoc Unit) (edits : List Edit) (edit : Edit) (after : PlainDoc Unit) : Type 0 where
     pub next : PlainDoc Unit
-    pub is_edited : applied tt doc edit ≡ gives next
-    pub guarded : IsGuarded g root next
+    pub accepted : IsAccepted tt g root doc edit next
     pub leads : LeadsOn g root next edits after
 
   pub next_undone : (doc after : PlainDoc Unit) (edits : List Edit) (edit : Edit) → LeadsOn g root doc (edits ++ edit ∷ []) after → IsNext doc edits edit after
-  next_undone doc after [] edit (last, l, a, guarded) =
-      record { next = after; is_edited = subst (λ (d : PlainDoc Unit). applied tt d edit ≡ gives after) l a; guarded = guarded; leads = refl }
-  next_undone doc after (e ∷ edits) edit (last, l, a, guarded) =
+  next_undone doc after [] edit (last, l, a) = record { next = after; accepted = subst (λ (d : PlainDoc Unit). IsAccepted tt g root d edit after) l a; leads = refl }
+  next_undone doc after (e ∷ edits) edit (last, l, a) =
       let rest = next_undone doc last edits edit l in
-      record { next = rest.next; is_edited = rest.is_edited; guarded = rest.guarded; leads = (last, rest.leads, a, guarded) }
+      record { next = rest.next; accepted = rest.accepted; leads = (last, rest.leads, a) }

@@ -2,17 +2,13 @@
 use Rattle.std.specs.Prelude.{Err, None, Ok, Option, Result, Some}
 use Rattle.pv_edit.specs.declared.answers.Done.{Done}
 use Rattle.pv_edit.specs.declared.answers.EditAnswer.{EditAnswer}
-use Rattle.pv_edit.specs.declared.answers.EditAnswer.TheVariants as edit
-use Rattle.pv_session.specs.Steps.{PlainAnswer, is_done, is_impossible, is_past_limit, lacks_history, lacks_shape}
+use Rattle.pv_session.specs.Steps.{PlainAnswer, is_done, lacks_history, refusal_of}
 use Rattle.pv_session.specs.declared.answers.BackAnswer.{BackAnswer}
 use Rattle.pv_session.specs.declared.answers.BackAnswer.TheVariants as back
 
 abbrev pub edit_answer : Result Done EditAnswer → Option PlainAnswer
 edit_answer (Ok done) = Some (is_done done.checked done.left)
-edit_answer (Err (edit.Shape reason)) = Some (lacks_shape reason)
-edit_answer (Err (edit.Impossible path)) = Some (is_impossible path)
-edit_answer (Err edit.Limit) = Some is_past_limit
-edit_answer (Err edit.NoMemory) = None
+edit_answer (Err refusal) = refusal_of refusal
 
 abbrev pub back_answer : Result Done BackAnswer → Option PlainAnswer
 back_answer (Ok done) = Some (is_done done.checked done.left)

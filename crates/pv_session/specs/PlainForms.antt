@@ -1,5 +1,6 @@
--- The plain session that a session of the program is. The document that was opened is the one to which its ways back lead.
-use Rattle.pv_session.specs.Keeping.{KeepsWays, led_back}
+-- The plain session that a session of the program is. The document that was opened is the one to
+-- which its ways back lead.
+use Rattle.pv_session.specs.Keeping.{KeepsWays, opened_doc}
 use Rattle.pv_session.specs.Sessions.{PlainSession}
 use Rattle.pv_session.specs.declared.session.Session.TheInside.{Inside}
 use Rattle.pv_tree.specs.Marks.{unmarked_doc}
@@ -8,7 +9,7 @@ abbrev pub plain_session : Inside → PlainSession
 plain_session s = record {
   dtd = s.marked.dtd;
   root = s.marked.root;
-  opened = led_back s.ways_back.items (unmarked_doc s.marked.doc);
+  opened = opened_doc s.ways_back.items (unmarked_doc s.marked.doc);
   past = s.past.items;
   undone = s.undone.items;
   moves = s.moves;

@@ -6,9 +6,11 @@ use Rattle.pv_edit.specs.Reasons.{applied, gives}
 use Rattle.pv_edit.specs.declared.edits.Edit.{Edit}
 use Rattle.pv_tree.specs.Plain.{PlainDoc}
 
--- A session on a document, for a DTD and a root's name: the document that was opened, the edits that were made on it, the edits that
--- were undone, the number of moves so far (edits, undos and redos that were made), and the document as it is now, each list marked with
--- its stamp: the number of the move that changed it last. Of both lists of edits the last is the one that was made, or undone, last.
+-- A session on a document, for a DTD and a root's name: the document that was opened, the edits
+-- that were made on it, the edits that were undone, the number of moves so far (edits, undos and
+-- redos that were made), and the document as it is now, each list marked with its stamp: the number
+-- of the move that changed it last. Of both lists of edits the last is the one that was made, or
+-- undone, last.
 pub record PlainSession : Type 0 where
   pub dtd : PlainDtd
   pub root : List ℕ
@@ -33,5 +35,13 @@ abbrev pub next_move : ℕ → ℕ
 next_move moves = min (suc moves) 18446744073709551615
 
 -- the session on a document as it was opened; no list has been changed
-abbrev pub begun : PlainDtd → List ℕ → PlainDoc Unit → PlainSession
-begun g root doc = record { dtd = g; root = root; opened = doc; past = []; undone = []; moves = 0; doc = doc_as (λ _. 0) doc }
+abbrev pub session_on : PlainDtd → List ℕ → PlainDoc Unit → PlainSession
+session_on g root doc = record {
+  dtd = g;
+  root = root;
+  opened = doc;
+  past = [];
+  undone = [];
+  moves = 0;
+  doc = doc_as (λ _. 0) doc;
+}

@@ -4,6 +4,7 @@ ghost use Rattle.pv_session.specs.Keeping.{IsSession};
 ghost use Rattle.pv_session.specs.Laws.{ReplaysToOne, StepsHaveOneAnswer};
 
 use crate::session::Session;
+use pv_cache::laws::{accepted_law, one_ground_law};
 
 /// Edits lead from a document to one other at most.
 pub fn replay_law()
@@ -13,7 +14,10 @@ pub fn replay_law()
 /// A move has one answer, and there is one session behind it.
 pub fn one_answer_law()
     ensures { StepsHaveOneAnswer }
-{}
+{
+    accepted_law::<u64, u64>();
+    one_ground_law::<u64>();
+}
 
 /// What each session keeps.
 pub fn session_law(_session: &Session)

@@ -1,10 +1,11 @@
-//! Guarded sessions: edits of a document, each refused exactly where it could not be made, would be past a limit, or would leave a
-//! document that inserting elements can't make valid.
+//! Guarded sessions: edits of a document, each refused exactly where it could not be made, would be
+//! past a limit, or would leave a document that inserting elements can't make valid.
 //!
-//! What a session is at is a `PlainSession` (specs/Sessions.antt): the document that was opened, the edits since, those that were undone,
-//! and the document now with a stamp beside each list. `IsAccepted` (of pv_cache) says which edits are accepted, and specs/Steps.antt what
-//! `edit`, `undo` and `redo` answer and leave behind. What each session keeps stands in specs/Keeping.antt: in place of the opened document
-//! the ways back to it.
+//! What a session is at is a `PlainSession` (specs/Sessions.antt): the document that was opened,
+//! the edits since, those that were undone, and the document now with a stamp beside each list.
+//! `IsAccepted` (of pv_cache) says which edits are accepted, and specs/Steps.antt what `edit`,
+//! `undo` and `redo` answer and leave behind. What each session keeps stands in specs/Keeping.antt:
+//! in place of the opened document the ways back to it.
 #![tactic(auto)]
 
 mod answers;

@@ -1,6 +1,7 @@
 //! A session on a document.
 
-ghost use Rattle.std.specs.Prelude.{◌≡◌, ◌≤◌, ◌<◌, ◌+◌, None, IfOk, IsNone, MatchOption, OnOk, vec_capacity, vec_len};
+ghost use Rattle.std.specs.Prelude.{◌≡◌, ◌≤◌, ◌<◌, ◌+◌, None, IfOk, IsNone, MatchOption, OnOk};
+ghost use Rattle.std.specs.Prelude.{vec_capacity, vec_len};
 ghost use Rattle.std.specs.List.{AllByRecursion};
 ghost use Rattle.pv_cache.specs.Accepting.{MAX_EDITED_NODES};
 ghost use Rattle.pv_cache.specs.Moves.{HasOpen};
@@ -12,7 +13,7 @@ ghost use Rattle.pv_missing.specs.Widths.{IsListForVerdict};
 ghost use Rattle.pv_productive.specs.PlainForms.{dtd_of};
 ghost use Rattle.pv_session.specs.Answers.{back_answer, edit_answer};
 ghost use Rattle.pv_session.specs.Keeping.{IsSession};
-ghost use Rattle.pv_session.specs.Sessions.{begun, next_move, stamped_document};
+ghost use Rattle.pv_session.specs.Sessions.{session_on, next_move, stamped_document};
 ghost use Rattle.pv_session.specs.Steps.{IsEditStep, IsRedoStep, IsUndoStep};
 ghost use Rattle.pv_tree.specs.Lists.{lists_of};
 ghost use Rattle.pv_tree.specs.Marks.{unmarked_doc};
@@ -23,7 +24,9 @@ ghost use Rattle.pv_tree.specs.Prolog.{IsProlog};
 
 use crate::answers::BackAnswer;
 use pv_cache::Marked;
+use pv_cache::laws::accepted_law;
 use pv_chars::{Bytes, NoMemory};
+use pv_edit::laws::leads_back_law;
 use pv_edit::{Done, Edit, EditAnswer, Inverse, VerdictRows};
 use pv_missing::Verdicts;
 use pv_productive::Grammar;
@@ -62,8 +65,8 @@ impl Model for Session {
 }
 
 impl Session {
-    /// The session on a document as it was opened, whose DOCTYPE, where it has one, names the root. The verdicts are those of its lists; the
-    /// document isn't copied.
+    /// The session on a document as it was opened, whose DOCTYPE, where it has one, names the root.
+    /// The verdicts are those of its lists; the document isn't copied.
     pub fn begin(
         alloc: Global,
         grammar: Grammar,
@@ -73,10 +76,12 @@ impl Session {
     ) -> Result<Session, NoMemory>
         requires verdicts { HaveVerdicts (dtd_of grammar) root (lists_of (plain_doc doc)) verdicts }
         requires possible { IsNone verdicts.first }
-        requires narrow { AllByRecursion (IsListForVerdict (dtd_of grammar)) (lists_of (plain_doc doc)) }
+        requires narrow { AllByRecursion (IsListForVerdict (dtd_of grammar))
+            (lists_of (plain_doc doc)) }
         requires few { nodes_in (plain_doc doc).root ≤ MAX_EDITED_NODES }
         requires prolog { IsProlog root (plain_doc doc).before }
-        ensures { IfOk result (λ session. session ≡ begun (dtd_of grammar) root (unmarked_doc (plain_doc doc))) }
+        ensures { IfOk result (λ session. session
+            ≡ session_on (dtd_of grammar) root (unmarked_doc (plain_doc doc))) }
     {
         let marked = Marked::build(alloc, grammar, root, doc, verdicts)?;
         marked.guarded_law();
@@ -98,6 +103,7 @@ impl Session {
             (λ answer. IsEditStep self.old edit.now answer self.new) }
         ensures steps { steps.new ≤ steps.old + 2 }
     {
+        leads_back_law::<()>();
         let Ok(made) = edit.copy(self.alloc) else {
             return Err(EditAnswer::NoMemory);
         };
@@ -114,12 +120,14 @@ impl Session {
         Ok(done)
     }
 
-    /// Takes the last edit of the past back, and keeps it for `redo`. At most two lists are checked.
+    /// Takes the last edit of the past back, and keeps it for `redo`. At most two lists are
+    /// checked.
     pub fn undo<L: Ledger>(&mut self, steps: &mut Steps<L>) -> Result<Done, BackAnswer>
         ensures stepped { MatchOption (back_answer result) (self.new ≡ self.old)
             (λ answer. IsUndoStep self.old answer self.new) }
         ensures steps { steps.new ≤ steps.old + 2 }
     {
+        leads_back_law::<()>();
         let Some(way_back) = self.ways_back.last() else {
             return Err(BackAnswer::NoHistory);
         };
@@ -146,6 +154,8 @@ impl Session {
             (λ answer. IsRedoStep self.old answer self.new) }
         ensures steps { steps.new ≤ steps.old + 2 }
     {
+        leads_back_law::<()>();
+        accepted_law::<(), u64>();
         if self.undone.is_empty() {
             return Err(BackAnswer::NoHistory);
         }
@@ -228,6 +238,7 @@ impl Session {
     pub(crate) fn kept(&self)
         ensures { IsSession self.now }
     {
+        leads_back_law::<()>();
         let _marked = &self.marked;
     }
 }

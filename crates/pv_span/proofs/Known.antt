@@ -1,24 +1,12 @@
--- What is known of a word of productive names, and of a DTD that has a site.
+-- A DTD that has a site has columns.
 use Rattle.std.specs.Prelude.{IsSome, option_and_then, option_map}
 use Rattle.std.proofs.Common.{List, None, Option, Some, arith, length, slice_get, ℕ, ◌<◌, ◌≡◌, ◌≤◌, refl}
 use Rattle.std.proofs.lemmas.Option.{slice_get_within}
-use Rattle.pv_model.specs.Plain.{PlainToken, named}
-use Rattle.pv_dtd.specs.Plain.{PlainDtd, declared}
-use Rattle.pv_dtd.specs.Productive.{IsProductive}
+use Rattle.pv_dtd.specs.Plain.{PlainDtd}
 use Rattle.pv_rules.specs.Numbering.{Numbered, numbered_models}
 use Rattle.pv_rules.specs.Sites.{HasSite, PlainSite, content_site, name_site, part_site, rest_site}
 use Rattle.pv_rules.proofs.Facts.{parts_by_number}
-use Rattle.pv_missing.specs.LiveWords.{AreProductiveTokens, IsProductiveToken}
 use Rattle.pv_missing.specs.Widths.{columns_of}
-use Rattle.pv_missing.proofs.Spanned.{all_at}
-use Rattle.pv_span.specs.Charts.{IsKnownWord}
-
--- a productive name is one of the DTD
-productive_known : (g : PlainDtd) (y : ℕ) → declared g ≤ length g.names → IsProductive g y → y < length g.names
-productive_known g y l p = let d = slice_get_within g.models y p.fits.model p.fits.is_model in omega arith
-
-pub known_word : (g : PlainDtd) (w : List PlainToken) → declared g ≤ length g.names → AreProductiveTokens g w → IsKnownWord g w
-known_word g w l p k y e = productive_known g y l (all_at (IsProductiveToken g) w k (named y) p e)
 
 module _ (g : PlainDtd) where
   numbered_some : (q : ℕ) (n : Numbered) → slice_get (numbered_models g.models) q ≡ Some n → 0 < columns_of g

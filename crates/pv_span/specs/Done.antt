@@ -1,13 +1,17 @@
--- The rows of the spans that are done.
-use Rattle.std.specs.Prelude.{List, map, ℕ}
+-- The rows of the spans that are done, read off columns.
+use Rattle.std.specs.Prelude.{List, map, ℕ, ◌*◌, ◌+◌}
 use Rattle.std.specs.List.{range_with_len}
-use Rattle.pv_span.specs.Columns.{across}
-use Rattle.pv_span.specs.Rows.{PlainRow}
+use Rattle.pv_productive.specs.Tables.{size_at}
 use Rattle.pv_span.specs.declared.done.Done.{Done}
 
--- the values over span number k
-abbrev pub row_of : Done → ℕ → PlainRow
-row_of d k = record { names = across d.names k; contents = across d.contents k; parts = across d.parts k; rests = across d.rests k }
+-- the values of so many columns over span number k, where each has so many cells side by side
+abbrev pub cells_across : List ℕ → ℕ → ℕ → ℕ → List ℕ
+cells_across cells columns spans k =
+    map (λ x. size_at cells (x * spans + k)) (range_with_len 0 columns)
 
-abbrev pub rows_of : Done → List PlainRow
+-- the values over span number k
+abbrev pub row_of : Done → ℕ → List ℕ
+row_of d k = cells_across d.cells.items d.columns d.spans k
+
+abbrev pub rows_of : Done → List (List ℕ)
 rows_of d = map (row_of d) (range_with_len 0 d.count)

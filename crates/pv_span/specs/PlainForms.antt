@@ -1,8 +1,14 @@
 -- The plain form of a chart.
-pub use Rattle.pv_span.specs.RowForms.{plain_row}
+use Rattle.std.specs.Prelude.{◌≡◌}
+pub use Rattle.pv_span.specs.SiteForms.{plain_sites}
 use Rattle.pv_span.specs.Charts.{PlainChart}
 use Rattle.pv_span.specs.Done.{rows_of}
 use Rattle.pv_span.specs.declared.charts.Chart.{Chart}
 
 abbrev pub plain_chart : Chart → PlainChart
-plain_chart t = record { tokens = t.tokens; rows = rows_of t.done; row = plain_row t.row }
+plain_chart t = record { tokens = t.tokens; rows = rows_of t.done; row = t.row.items }
+
+-- only the row at hand may differ
+abbrev pub DiffersInRow : Chart → Chart → Type 0
+DiffersInRow old new = (new.from ≡ old.from) × (new.to ≡ old.to) × (new.tokens ≡ old.tokens) ×
+    (new.done ≡ old.done)

@@ -1,95 +1,103 @@
-//! The values over the spans that are done.
+//! The values over the spans that are done: for each column those over all spans, side by side.
 
-ghost use Rattle.std.specs.Prelude.{◌≡◌, ◌≤◌, ◌<◌, ◌+◌, ◌^◌, ℕ, IfOk, [], ◌++◌, ◌∷◌, length};
-ghost use Rattle.pv_rules.specs.PlainForms.{plain_site};
-ghost use Rattle.pv_rules.specs.Sites.{PlainSite};
+ghost use Rattle.std.specs.Prelude.{◌≡◌, ◌≢◌, ◌≤◌, ◌<◌, ◌+◌, ◌*◌, ◌^◌, ℕ, length};
 ghost use Rattle.pv_productive.specs.Tables.{no_size, size_at};
-ghost use Rattle.pv_span.specs.RowForms.{plain_row};
-ghost use Rattle.pv_span.specs.Rows.{AreFew, IsRow, value_in};
+ghost use Rattle.pv_span.specs.Charts.{AreFew};
 
-use crate::columns::Columns;
-use crate::rows::Row;
-use pv_model::NoMemory;
-use pv_rules::Site;
+use crate::values::value_at;
+use pv_chars::NoMemory;
+use pv_productive::NO_SIZE;
 use std::alloc::Global;
 
-/// The values of all sites over the spans that are done, so many from the first one on.
+/// The values of so many columns over so many spans, of which so many are done from the first one
+/// on.
 #[derive(Debug, Drop)]
 pub struct Done {
-    names: Columns,
-    contents: Columns,
-    parts: Columns,
-    rests: Columns,
+    cells: Vec<u32>,
+    columns: u32,
+    pub spans: usize,
     pub count: usize,
-    pub ghost room: { count ≤ names.spans },
-    pub ghost spans: { (contents.spans ≡ names.spans) × (parts.spans ≡ names.spans) × (rests.spans ≡ names.spans) },
-    pub ghost sites: { (contents.sites ≡ names.sites) × (rests.sites ≡ parts.sites) },
+    pub ghost long: { length cells.items ≡ columns * spans },
+    pub ghost short: { spans < 2 ^ 27 },
+    pub ghost few: { AreFew cells.items },
+    pub ghost room: { count ≤ spans },
+    pub ghost narrow: { columns < 2 ^ 32 },
+}
+
+/// Puts in the values over a span, one for each column.
+fn put_values(cells: &mut [u32], spans: usize, number: usize, values: &[u32])
+    requires number { number < spans }
+    requires long { length cells.old ≡ length values.now * spans }
+    ensures put { (x : ℕ) → x < length values.now →
+        size_at cells.new (x * spans + number) ≡ size_at values.now x }
+    ensures kept { (k : ℕ) → ((x : ℕ) → k ≢ x * spans + number) →
+        size_at cells.new k ≡ size_at cells.old k }
+    ensures few { AreFew cells.old → AreFew values.now → AreFew cells.new }
+{
+    for column in 0..values.len() {
+        cells[column * spans + number] = values[column];
+    }
 }
 
 impl Done {
+    ghost use Rattle.std.specs.Prelude.{◌≡◌, ◌<◌, ◌≤◌, ◌+◌, ◌^◌, ℕ, IfOk, [], List, ◌++◌, ◌∷◌};
+    ghost use Rattle.std.specs.Prelude.{length};
+    ghost use Rattle.pv_productive.specs.Tables.{size_at};
+    ghost use Rattle.pv_span.specs.Charts.{AreFew};
     ghost use Rattle.pv_span.specs.Done.{row_of, rows_of};
 
     /// No span is done, of so many.
-    pub fn new(alloc: Global, names: u32, parts: u32, spans: usize) -> Result<Done, NoMemory>
+    pub fn new(alloc: Global, columns: u32, spans: usize) -> Result<Done, NoMemory>
         requires { spans < 2 ^ 27 }
         ensures count { IfOk result (λ done. done.count ≡ 0) }
-        ensures spans { IfOk result (λ done. done.names.spans ≡ spans) }
-        ensures names { IfOk result (λ done. done.names.sites ≡ names) }
-        ensures parts { IfOk result (λ done. done.parts.sites ≡ parts) }
+        ensures spans { IfOk result (λ done. done.spans ≡ spans) }
+        ensures columns { IfOk result (λ done. done.columns ≡ columns) }
     {
+        let cells = vec![in alloc; NO_SIZE; columns as usize * spans]?;
         Ok(Done {
-            names: Columns::new(alloc, names, spans)?,
-            contents: Columns::new(alloc, names, spans)?,
-            parts: Columns::new(alloc, parts, spans)?,
-            rests: Columns::new(alloc, parts, spans)?,
+            cells,
+            columns,
+            spans,
             count: 0,
         })
     }
 
-    /// The value of a site over a span.
+    /// The value of a column over a span.
     #[inline(always)]
-    pub fn at(&self, site: Site, span: usize) -> u32
-        requires { span < self.now.count }
-        ensures { result ≡ value_in (row_of self.now span) (plain_site site) }
+    pub fn at(&self, column: u32, number: usize) -> u32
+        requires { number < self.now.count }
+        ensures { result ≡ size_at (row_of self.now number) column }
     {
-        match site {
-            Site::Name(id) => self.names.at(id.0, span),
-            Site::Content(id) => self.contents.at(id.0, span),
-            Site::Part(number) => self.parts.at(number, span),
-            Site::Rest(number) => self.rests.at(number, span),
-        }
+        value_at(&self.cells, column as usize * self.spans + number)
     }
 
-    /// The values of a site over so many spans from one on, or none where there is no such site.
-    pub fn column(&self, site: Site, first: usize, count: usize) -> &[u32]
+    /// The values of a column over so many spans from one on, or none where there is no such
+    /// column.
+    pub fn column(&self, column: u32, first: usize, count: usize) -> &[u32]
         requires { first + count ≤ self.now.count }
         ensures long { length result.now ≤ count }
         ensures few { AreFew result.now }
-        ensures each { (k : ℕ) → k < count → size_at result.now k ≡ value_in (row_of self.now (first + k)) (plain_site site) }
+        ensures each { (k : ℕ) → k < count → size_at result.now k ≡
+            size_at (row_of self.now (first + k)) column }
     {
-        match site {
-            Site::Name(id) => self.names.column(id.0, first, count),
-            Site::Content(id) => self.contents.column(id.0, first, count),
-            Site::Part(number) => self.parts.column(number, first, count),
-            Site::Rest(number) => self.rests.column(number, first, count),
+        if column >= self.columns {
+            return &[];
         }
+        let start = column as usize * self.spans + first;
+        &self.cells[start..start + count]
     }
 
     /// Puts in the values over the next span.
-    pub fn put(&mut self, row: &Row)
-        requires room { self.old.count < self.old.names.spans }
-        requires sized { IsRow self.old.names.sites self.old.parts.sites (plain_row row.now) }
-        requires few { (s : PlainSite) → value_in (plain_row row.now) s ≤ no_size }
-        ensures rows { rows_of self.new ≡ rows_of self.old ++ (plain_row row.now ∷ []) }
+    pub fn put(&mut self, values: &[u32])
+        requires room { self.old.count < self.old.spans }
+        requires sized { length values.now ≡ self.old.columns }
+        requires few { AreFew values.now }
+        ensures rows { rows_of self.new ≡ rows_of self.old ++ (values.now ∷ []) }
         ensures count { self.new.count ≡ self.old.count + 1 }
-        ensures spans { self.new.names.spans ≡ self.old.names.spans }
-        ensures names { self.new.names.sites ≡ self.old.names.sites }
-        ensures parts { self.new.parts.sites ≡ self.old.parts.sites }
+        ensures spans { self.new.spans ≡ self.old.spans }
+        ensures columns { self.new.columns ≡ self.old.columns }
     {
-        self.names.put(self.count, &row.names);
-        self.contents.put(self.count, &row.contents);
-        self.parts.put(self.count, &row.parts);
-        self.rests.put(self.count, &row.rests);
+        put_values(&mut self.cells, self.spans, self.count, values);
         self.count += 1;
     }
 }

@@ -8,20 +8,13 @@ use thiserror::Error;
 /// Why nothing is said of a word or a list.
 #[derive(Debug, Drop, Error)]
 pub enum SpanError {
-    /// The number of its spans, empty ones at each place among them, times the parts and names of the DTD, is more than 16,777,216.
+    /// The number of its spans, empty ones at each place among them, times the parts and names of
+    /// the DTD, is more than 16,777,216.
     #[error("the list is too wide for weights")]
     TooWide,
     /// There was too little memory to go on.
     #[error("out of memory")]
     NoMemory,
-}
-
-impl From<pv_model::NoMemory> for SpanError {
-    ghost from_gives = { λ _ e. e ≡ no_memory };
-
-    fn from(_: pv_model::NoMemory) -> SpanError {
-        SpanError::NoMemory
-    }
 }
 
 impl From<pv_chars::NoMemory> for SpanError {

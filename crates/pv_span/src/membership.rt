@@ -12,12 +12,11 @@ ghost use Rattle.pv_missing.specs.WordVerdicts.{IsPossibleAt};
 ghost use Rattle.pv_span.specs.declared.errors.SpanError.TheVariants.{TooWide as too_wide};
 
 use crate::errors::SpanError;
-use crate::fill::fill;
-use crate::rows::NONE;
-use crate::weighing::is_narrow;
+use crate::weighing::{is_narrow, spans_of};
+use pv_chars::NoMemory;
 use pv_missing::Of;
-use pv_model::{NoMemory, Token};
-use pv_productive::Grammar;
+use pv_model::Token;
+use pv_productive::{Grammar, NO_SIZE};
 use pv_rules::Site;
 use pv_steps::Steps;
 use std::alloc::Global;
@@ -46,11 +45,12 @@ pub(crate) fn derives(
     ensures { IfOk result (λ b. IsTrue b ↔
         IsPossibleAt (dtd_of grammar.now) (plain_of of) (map plain_token word.now)) }
 {
-    let chart = fill(alloc, grammar, word)?;
-    Ok(chart.at(site_of(of), 0, word.len() as u32) < NONE)
+    let spans = spans_of(alloc, grammar, word)?;
+    Ok(spans.value(site_of(of), 0, word.len() as u32) < NO_SIZE)
 }
 
-/// Whether a word of productive names is possible for the document node or for the content of an element.
+/// Whether a word of productive names is possible for the document node or for the content of an
+/// element.
 ///
 /// `TooWide` is asked first, and takes no memory.
 pub fn member<L: Ledger>(

@@ -1,6 +1,7 @@
 //! The verdict of a list, by a chart of its live word.
 
-ghost use Rattle.std.specs.Prelude.{◌≡◌, ◌↔◌, ◌+◌, ◌<◌, ◌^◌, ℕ, IfErr, IfOk, IfSome, IsTrue, List, Some, length, map};
+ghost use Rattle.std.specs.Prelude.{◌≡◌, ◌↔◌, ◌+◌, ◌<◌, ◌^◌, ℕ, IfErr, IfOk, IfSome, IsTrue, List};
+ghost use Rattle.std.specs.Prelude.{Some, length, map};
 ghost use Rattle.pv_model.specs.Plain.{empty};
 ghost use Rattle.pv_model.specs.PlainForms.{plain_token};
 ghost use Rattle.pv_dtd.specs.Plain.{model_of};
@@ -15,14 +16,15 @@ ghost use Rattle.pv_missing.specs.PlainForms.{plain_of};
 ghost use Rattle.pv_missing.specs.Verdicts.{IsVerdict};
 ghost use Rattle.pv_missing.specs.Widths.{FitsWeights};
 ghost use Rattle.pv_missing.specs.WordVerdicts.{HoldsOne, IsValidAt, IsVerdictByWord, MayHaveKids};
-ghost use Rattle.pv_reach.specs.Owners.{IsOwner};
+ghost use Rattle.pv_missing.specs.Owners.{IsOwner};
 ghost use Rattle.pv_span.specs.declared.errors.SpanError.TheVariants.{TooWide as too_wide};
 
 use crate::errors::SpanError;
 use crate::membership::derives;
 use crate::weighing::is_narrow;
+use pv_chars::NoMemory;
 use pv_missing::{Of, live_word};
-use pv_model::{ContentModel, NameId, NoMemory, Token, matches};
+use pv_model::{ContentModel, NameId, Token, matches};
 use pv_productive::Grammar;
 use pv_steps::Steps;
 use pv_tree::{Node, Verdict, word};
@@ -59,7 +61,8 @@ fn may_have_kids(grammar: &Grammar, of: Of, is_bare: bool) -> bool
     }
 }
 
-/// Whether kids of this word are what an element of this name is to hold, EMPTY elements with kids of any kind aside.
+/// Whether kids of this word are what an element of this name is to hold, EMPTY elements with kids
+/// of any kind aside.
 fn fits_element(
     alloc: Global,
     grammar: &Grammar,
@@ -75,10 +78,11 @@ fn fits_element(
     let Some(model) = grammar.dtd().model_of(id) else {
         return Ok(false);
     };
-    matches(alloc, model, grammar.dtd().count(), word)
+    matches(alloc, model, grammar.dtd().count(), word).map_err(|_| NoMemory)
 }
 
-/// Whether a list of this owner and this word, which may have the kids that it has, is valid by itself.
+/// Whether a list of this owner and this word, which may have the kids that it has, is valid by
+/// itself.
 fn is_valid(
     alloc: Global,
     grammar: &Grammar,
@@ -97,7 +101,8 @@ fn is_valid(
     }
 }
 
-/// The verdict of a list by its owner, its word with its live word, and whether it has no kids of any kind.
+/// The verdict of a list by its owner, its word with its live word, and whether it has no kids of
+/// any kind.
 fn judge(
     alloc: Global,
     grammar: &Grammar,
@@ -107,7 +112,8 @@ fn judge(
     is_bare: bool,
 ) -> Result<Verdict, NoMemory>
     requires known { HasSite (dtd_of grammar.now) (plain_of of) }
-    requires live { IsLiveWord (dtd_of grammar.now) (map plain_token word.now) (map plain_token live.now) }
+    requires live { IsLiveWord (dtd_of grammar.now) (map plain_token word.now)
+        (map plain_token live.now) }
     requires fits { FitsWeights (dtd_of grammar.now) (length live.now) }
     ensures { IfOk result (λ verdict. IsVerdictByWord (dtd_of grammar.now) (Some (plain_of of))
         (map plain_token word.now) is_bare verdict) }
@@ -125,10 +131,11 @@ fn judge(
     }
 }
 
-/// The verdict of a list: `owner` is `None` where the DTD doesn't have the name of the element that owns it, or, for the document node,
-/// the root's name.
+/// The verdict of a list: `owner` is `None` where the DTD doesn't have the name of the element that
+/// owns it, or, for the document node, the root's name.
 ///
-/// `TooWide` is asked before the verdict. The document node's list is its root alone; of other kids with this owner nothing is said.
+/// `TooWide` is asked before the verdict. The document node's list is its root alone; of other kids
+/// with this owner nothing is said.
 pub fn list_verdict<L: Ledger>(
     alloc: Global,
     grammar: &Grammar,

@@ -7,32 +7,44 @@ ghost use Rattle.pv_rules.specs.Rules.{over};
 ghost use Rattle.pv_productive.specs.PlainForms.{dtd_of};
 ghost use Rattle.pv_missing.specs.LiveWords.{AreProductiveTokens};
 ghost use Rattle.pv_missing.specs.Widths.{FitsWeights};
-ghost use Rattle.pv_span.specs.Weights.{AreWeights, tokens_of, weight_of};
+ghost use Rattle.pv_span.specs.Weights.{AreValues, AreWeights, site_value, tokens_of, weight_of};
 ghost use Rattle.pv_span.specs.declared.errors.SpanError.TheVariants.{TooWide as too_wide};
 
 use crate::charts::Chart;
 use crate::errors::SpanError;
-use crate::fill::fill;
-use crate::raise::HEAVIEST;
+use crate::fill::chart_of;
+use crate::layout::lay_out;
+use crate::sites::Sites;
+use pv_chars::NoMemory;
+use pv_missing::is_narrow_for_weights;
 use pv_model::Token;
 use pv_productive::Grammar;
-use pv_rules::Site;
+use pv_rules::{HEAVIEST, Site};
 use std::alloc::Global;
 
 /// The weights of all sites over all spans of a word.
 #[derive(Debug, Drop)]
 pub struct Spans {
     chart: Chart,
+    sites: Sites,
 }
 
 impl Spans {
-    /// The weight of a site over a span: the least number of elements missing there, or 1,000,001 where that is more than 1,000,000 or the
-    /// site can't stand for the span.
+    /// The weight of a derivation, cut, or `NO_SIZE` where the site derives nothing over the span.
+    pub(crate) fn value(&self, site: Site, from: u32, to: u32) -> u32
+        requires { (from ≤ to) × (to ≤ tokens_of self.now) }
+        ensures { result ≡ site_value self.now (over (plain_site site) from to) }
+    {
+        self.chart.at(self.sites.column(site), from, to)
+    }
+
+    /// The weight of a site over a span: the least number of elements missing there, or 1,000,001
+    /// where that is more than 1,000,000 or the site can't stand for the span.
     pub fn at(&self, site: Site, from: u32, to: u32) -> u32
         requires { (from ≤ to) × (to ≤ tokens_of self.now) }
         ensures { result ≡ weight_of self.now (over (plain_site site) from to) }
     {
-        self.chart.at(site, from, to).min(HEAVIEST)
+        self.value(site, from, to).min(HEAVIEST)
     }
 }
 
@@ -40,30 +52,41 @@ impl Spans {
 pub(crate) fn is_narrow(grammar: &Grammar, tokens: usize) -> bool
     ensures { IsTrue result ↔ FitsWeights (dtd_of grammar.now) tokens }
 {
-    let columns = u64::from(grammar.dtd().columns());
-    if columns == 0 {
-        return true;
-    }
-    if tokens >= 8192 {
-        return false;
-    }
-    let places = tokens as u64 + 1;
-    places * (places + 1) / 2 * columns <= 16_777_216
+    is_narrow_for_weights(grammar.dtd(), tokens as u64)
+}
+
+/// The values of all sites over all spans of a word that isn't too wide. Only a DTD without names
+/// lets a word have 8,192 tokens.
+pub(crate) fn spans_of(alloc: Global, grammar: &Grammar, word: &[Token]) -> Result<Spans, NoMemory>
+    requires fits { FitsWeights (dtd_of grammar.now) (length word.now) }
+    ensures weights { IfOk result (λ spans. AreWeights (dtd_of grammar.now)
+        (map plain_token word.now) spans) }
+    ensures values { IfOk result (λ spans. AreValues (dtd_of grammar.now)
+        (map plain_token word.now) spans) }
+{
+    let layout = lay_out(alloc, grammar)?;
+    let chart = chart_of(alloc, &layout.forms, word)?;
+    Ok(Spans {
+        chart,
+        sites: layout.sites,
+    })
 }
 
 /// The weights of all sites over all spans of a word whose names are productive.
 ///
-/// `TooWide` is asked first, and takes no memory. The chart takes eight bytes for each column and each span of the word, and some bytes for
-/// each span.
+/// `TooWide` is asked first, and takes no memory. The chart takes four bytes for each column and
+/// each span of the word; sites that stand for the same words share a column.
 pub fn weights(alloc: Global, grammar: &Grammar, word: &[Token]) -> Result<Spans, SpanError>
     requires productive { AreProductiveTokens (dtd_of grammar.now) (map plain_token word.now) }
-    ensures weights { IfOk result (λ spans. AreWeights (dtd_of grammar.now) (map plain_token word.now) spans) }
+    ensures weights { IfOk result (λ spans. AreWeights (dtd_of grammar.now)
+        (map plain_token word.now) spans) }
     ensures fits { IfOk result (λ _. FitsWeights (dtd_of grammar.now) (length word.now)) }
-    ensures wide { IfErr result (λ e. e ≡ too_wide → ¬ FitsWeights (dtd_of grammar.now) (length word.now)) }
+    ensures wide { IfErr result (λ e. e ≡ too_wide →
+        ¬ FitsWeights (dtd_of grammar.now) (length word.now)) }
 {
     if !is_narrow(grammar, word.len()) {
         return Err(SpanError::TooWide);
     }
-    let chart = fill(alloc, grammar, word)?;
-    Ok(Spans { chart })
+    let spans = spans_of(alloc, grammar, word)?;
+    Ok(spans)
 }

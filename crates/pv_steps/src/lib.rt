@@ -1,8 +1,9 @@
 //! A counter of steps that takes no bytes and does nothing at run time.
 //!
-//! Its value is a ghost, seen by contracts alone: a counter begins at 0 (`start`), and each `tick` makes it one more. So
-//! nothing can read it while a program runs, and a test of it would only show that its calls return: what it counts is
-//! proved, at each call that takes one, and tested by none.
+//! Its value is a ghost, seen by contracts alone: a counter begins at 0 (`start`), and each `tick`
+//! makes it one more. So nothing can read it while a program runs, and a test of it would only
+//! show that its calls return: what it counts is proved, at each call that takes one, and tested
+//! by none.
 #![tactic(auto)]
 
 ghost use Rattle.std.specs.Prelude.{◌≡◌, ℕ, ◌+◌, ◌<◌};

@@ -4,7 +4,7 @@ use Rattle.std.proofs.Math.Logic.{∥∥₁_elim}
 use Rattle.std.proofs.lemmas.Slice.Eq.{bytes_eq-Decides}
 use Rattle.std.specs.List.{AllByRecursion}
 use Rattle.std.specs.Str.{bytes_eq}
-use Rattle.pv_chars.specs.Fronts.{Holds}
+use Rattle.pv_chars.specs.Fronts.{ContainsBytes}
 use Rattle.pv_chars.specs.Texts.{joined}
 use Rattle.pv_tree.specs.Attributes.{AreMadeOf}
 
@@ -88,13 +88,13 @@ Anything l = Unit {0}
 abbrev Begun : List ℕ → List ℕ → Type 0
 Begun part bytes = Parts (λ l. l ≡ part) Anything bytes
 
-to_held : (part bytes : List ℕ) → Parts Anything (Begun part) bytes → Holds bytes part
+to_held : (part bytes : List ℕ) → Parts Anything (Begun part) bytes → ContainsBytes bytes part
 to_held part bytes h = record { before = h.front; after = h.is_back.back; whole = h.whole ∙ ap (λ l. h.front ++ l) (h.is_back.whole ∙ ap (λ l. l ++ h.is_back.back) h.is_back.is_front) }
 
-from_held : (part bytes : List ℕ) → Holds bytes part → Parts Anything (Begun part) bytes
+from_held : (part bytes : List ℕ) → ContainsBytes bytes part → Parts Anything (Begun part) bytes
 from_held part bytes h = record { front = h.before; back = part ++ h.after; is_front = tt; is_back = record { front = part; back = h.after; is_front = refl; is_back = tt; whole = refl }; whole = h.whole }
 
-pub holds : (part bytes : List ℕ) → Dec (Holds bytes part)
+pub holds : (part bytes : List ℕ) → Dec (ContainsBytes bytes part)
 holds part bytes = decided_by (to_held part bytes) (from_held part bytes) (in_parts Anything (Begun part) (λ l. yes tt) (in_parts (λ l. l ≡ part) Anything (λ l. are_same l part) (λ l. yes tt)) bytes)
 
 -- ---- bytes that are made of pieces

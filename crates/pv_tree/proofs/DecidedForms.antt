@@ -11,7 +11,7 @@ use lib.Utf8.{encode, encodes, scalar, scalars}
 use Rattle.pv_chars.specs.Spaces.{is_space, IsSpace, IsOptionalSpace}
 use Rattle.pv_chars.specs.Characters.{is_char, IsChars}
 use Rattle.pv_chars.specs.Names.{IsName, is_name}
-use Rattle.pv_chars.specs.Fronts.{Holds}
+use Rattle.pv_chars.specs.Fronts.{ContainsBytes}
 use Rattle.pv_chars.specs.Markup.{IsBehindTarget, IsCdata, IsComment, IsInstruction, IsSpacedChars, IsTarget}
 use Rattle.pv_chars.specs.Declarations.{is_quote, IsEq}
 use Rattle.pv_chars.specs.References.{IsCharRefIn, IsPredefined, number}
@@ -211,7 +211,7 @@ attributes bytes =
 
 -- ---- sections, comments and instructions
 abbrev IsSection : List ℕ → Type 0
-IsSection l = IsChars l × (Holds l (codes "]]>") → ⊥)
+IsSection l = IsChars l × (ContainsBytes l (codes "]]>") → ⊥)
 
 cdata : (bytes : List ℕ) → Dec (IsCdata bytes)
 cdata bytes =
@@ -224,7 +224,7 @@ abbrev EndsInDash : List ℕ → Type 0
 EndsInDash = Trail (λ l. Unit {0}) (codes "-")
 
 abbrev IsRemark : List ℕ → Type 0
-IsRemark l = IsChars l × ((Holds l (codes "--") → ⊥) × (EndsInDash l → ⊥))
+IsRemark l = IsChars l × ((ContainsBytes l (codes "--") → ⊥) × (EndsInDash l → ⊥))
 
 comment : (bytes : List ℕ) → Dec (IsComment bytes)
 comment bytes =
@@ -243,7 +243,7 @@ spaced_chars bytes =
     (in_parts IsSpace IsChars space are_chars bytes)
 
 abbrev IsBehind : List ℕ → Type 0
-IsBehind l = IsBehindTarget l × (Holds l (codes "?>") → ⊥)
+IsBehind l = IsBehindTarget l × (ContainsBytes l (codes "?>") → ⊥)
 
 behind_target : (bytes : List ℕ) → Dec (IsBehind bytes)
 behind_target bytes = both (either (are_same bytes []) (spaced_chars bytes)) (never (holds (codes "?>") bytes))

@@ -2,7 +2,7 @@
 use Rattle.std.proofs.Common.{◌≡◌, ℕ, ◌+◌, ◌<◌, List, [], ◌∷◌, Vec, Global, length, drop, get_or, drop-cons, add-one, Option, Some, None, slice_get, refl, sym, ap, ◌∙◌, rules}
 use Rattle.std.proofs.lemmas.Option.{slice_get-map}
 use Rattle.std.specs.Option.{option_map, option_and_then}
-use Rattle.pv_tree.specs.Plain.{Tree, element, trees_of, forest_of}
+use Rattle.pv_tree.specs.Plain.{Tree, element, Forest, no_trees, tree, trees_of, forest_of}
 use Rattle.pv_tree.specs.Places.{kids_of, list_of, node_below}
 use Rattle.pv_tree.specs.PlainForms.{plain, plain_all, plain_end, forest}
 use Rattle.pv_tree.specs.declared.nodes.End.{End}
@@ -12,6 +12,10 @@ use Rattle.pv_tree.specs.declared.nodes.Node.{Node, Elem, the_lemmas}
 pub trees-forest : {M : Type 0} (ts : List (Tree M)) → trees_of (forest_of ts) ≡ ts
 trees-forest [] = refl
 trees-forest (t ∷ ts) = ap (λ rest. t ∷ rest) (trees-forest ts)
+
+pub forest-trees : {M : Type 0} (kids : Forest M) → forest_of (trees_of kids) ≡ kids
+forest-trees no_trees = refl
+forest-trees (tree t rest) = ap (λ others. tree t others) (forest-trees rest)
 
 pub plain-Elem : (name attrs : List ℕ) (e : End) (ks : Vec Node Global) (m : Mark) → plain (Elem name attrs e ks m) ≡ element name attrs (plain_end e) (forest ks.items) m
 plain-Elem name attrs e ks m = search (rules, the_lemmas)

@@ -1,9 +1,10 @@
--- References, attributes and character data (XML 1.0, sections 2.3, 2.4, 3.1 and 4.1). R says which references may stand in them.
+-- References, attributes and character data (XML 1.0, sections 2.3, 2.4, 3.1 and 4.1). R says
+-- which references may stand in them.
 use Rattle.std.specs.Prelude.{◌≡◌, ◌≢◌, ◌⊎◌, ℕ, List, [], ◌∷◌, ◌++◌, codes, IsTrue}
 use Rattle.std.specs.List.{AllByRecursion}
 use Rattle.pv_chars.specs.Spaces.{IsSpace, IsOptionalSpace}
 use Rattle.pv_chars.specs.Names.{IsName}
-use Rattle.pv_chars.specs.Fronts.{Holds}
+use Rattle.pv_chars.specs.Fronts.{ContainsBytes}
 use Rattle.pv_chars.specs.Declarations.{is_quote, IsEq}
 use Rattle.pv_chars.specs.References.{IsCharRef}
 use Rattle.pv_chars.specs.Texts.{joined}
@@ -43,7 +44,8 @@ pub record IsAttribute (R : List ℕ → Type 0) (bytes : List ℕ) : Type 0 whe
   pub is_value : IsAttValue R value
   pub whole : bytes ≡ space ++ (name ++ (equals ++ value))
 
--- What stands between the name of a tag and its end: any number of attributes, and S?. Attributes of one name may stand twice.
+-- What stands between the name of a tag and its end: any number of attributes, and S?. Attributes
+-- of one name may stand twice.
 pub record IsAttributes (R : List ℕ → Type 0) (bytes : List ℕ) : Type 0 where
   pub attributes : List ℕ
   pub space : List ℕ
@@ -59,4 +61,4 @@ IsTextPiece R piece = IsLiteral piece ⊎ R piece
 pub record IsCharacterData (R : List ℕ → Type 0) (bytes : List ℕ) : Type 0 where
   pub some : bytes ≢ []
   pub are_pieces : AreMadeOf (IsTextPiece R) bytes
-  pub no_close_mark : Holds bytes (codes "]]>") → ⊥
+  pub no_close_mark : ContainsBytes bytes (codes "]]>") → ⊥

@@ -1,9 +1,11 @@
 -- What a list shows of its kids, whatever stands below them and whatever their marks are.
 use Rattle.std.specs.Prelude.{Bool, List, [], ℕ, ◌∷◌}
 use Rattle.pv_chars.specs.Texts.{has_data}
-use Rattle.pv_tree.specs.Plain.{Forest, Tree, cdata_node, element, misc_node, no_trees, text_node, tree}
+use Rattle.pv_tree.specs.Plain.{Forest, Tree, cdata_node, element, misc_node, no_trees, text_node}
+use Rattle.pv_tree.specs.Plain.{tree}
 
--- an element by its name; a text by whether it has a data unit; a CDATA section; a comment or processing instruction
+-- an element by its name; a text by whether it has a data unit; a CDATA section; a comment or
+-- processing instruction
 pub data Head : Type 0 where
   element_head : (name : List ℕ) → Head
   text_head : (with_data : Bool) → Head

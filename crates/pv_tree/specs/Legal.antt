@@ -7,7 +7,8 @@ use Rattle.pv_chars.specs.Units.{AllUnits}
 use Rattle.pv_chars.specs.Markup.{IsCdata}
 use Rattle.pv_tree.specs.Attributes.{IsAttributes, IsKnownReference}
 use Rattle.pv_tree.specs.Prolog.{IsCommentOrInstruction}
-use Rattle.pv_tree.specs.Plain.{Ending, short, tagged, Tree, element, text_node, cdata_node, misc_node, Forest, no_trees, tree}
+use Rattle.pv_tree.specs.Plain.{Ending, short, tagged, Tree, element, text_node, cdata_node}
+use Rattle.pv_tree.specs.Plain.{misc_node, Forest, no_trees, tree}
 
 abbrev pub fits_kids : {M : Type 0} → Ending → Forest M → Bool
 fits_kids short no_trees = true
@@ -43,10 +44,12 @@ abbrev pub IsLegalEnding : Ending → Type 0
 IsLegalEnding short = Unit {0}
 IsLegalEnding (tagged gap) = IsOptionalSpace gap
 
--- The other bytes of each node are legal: attributes, units, a CDATA section, a comment or processing instruction.
+-- The other bytes of each node are legal: attributes, units, a CDATA section, a comment or
+-- processing instruction.
 abbrev mutual
   pub IsLegal : {M : Type 0} → Tree M → Type 0
-  IsLegal (element x attrs ending kids mark) = IsAttributes IsKnownReference attrs × IsLegalEnding ending × AreLegal kids
+  IsLegal (element x attrs ending kids mark) =
+      IsAttributes IsKnownReference attrs × IsLegalEnding ending × AreLegal kids
   IsLegal (text_node units) = AllUnits units
   IsLegal (cdata_node bytes) = IsCdata bytes
   IsLegal (misc_node bytes) = IsCommentOrInstruction bytes
@@ -66,7 +69,8 @@ front_units (tree (misc_node bytes) rest) = []
 -- `]]>` stands at the front of none of the ends of these units before the last so many
 abbrev pub is_open : List (List ℕ) → List (List ℕ) → Bool
 is_open [] after = true
-is_open (unit ∷ units) after = not (begins_close_mark (unit ∷ units ++ after)) && is_open units after
+is_open (unit ∷ units) after =
+    not (begins_close_mark (unit ∷ units ++ after)) && is_open units after
 
 -- no run of texts side by side spells `]]>`, at any depth
 abbrev mutual
@@ -78,7 +82,8 @@ abbrev mutual
 
   pub have_no_close_mark : {M : Type 0} → Forest M → Bool
   have_no_close_mark no_trees = true
-  have_no_close_mark (tree t rest) = has_no_close_mark t && starts_no_close_mark t rest && have_no_close_mark rest
+  have_no_close_mark (tree t rest) =
+      has_no_close_mark t && starts_no_close_mark t rest && have_no_close_mark rest
 
   pub starts_no_close_mark : {M : Type 0} → Tree M → Forest M → Bool
   starts_no_close_mark (element x attrs ending kids mark) rest = true

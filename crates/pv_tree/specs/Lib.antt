@@ -6,6 +6,7 @@ pub mod Tokens
 pub mod Lists
 pub mod Search
 pub mod Places
+pub mod PathOrder
 pub mod Attributes
 pub mod Prolog
 pub mod Legal

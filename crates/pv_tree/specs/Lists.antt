@@ -4,7 +4,8 @@ use Rattle.std.specs.List.{AllByRecursion}
 use Rattle.pv_model.specs.Plain.{PlainModel, empty}
 use Rattle.pv_model.specs.Models.{Allows}
 use Rattle.pv_dtd.specs.Plain.{PlainDtd, number_of, model_of, declared}
-use Rattle.pv_tree.specs.Plain.{Tree, element, text_node, cdata_node, misc_node, Forest, no_trees, tree, PlainDoc}
+use Rattle.pv_tree.specs.Plain.{Tree, element, text_node, cdata_node, misc_node, Forest, no_trees}
+use Rattle.pv_tree.specs.Plain.{tree, PlainDoc}
 use Rattle.pv_tree.specs.Words.{word_of}
 
 -- the document node, or an element of this name
@@ -21,7 +22,8 @@ pub record Listed (M : Type 0) : Type 0 where
 -- the lists below a path: each element's before those of its kids
 abbrev mutual
   pub lists_at : {M : Type 0} → List ℕ → Tree M → List (Listed M)
-  lists_at path (element x attrs ending kids mark) = record { path = path; owner = an_element x; kids = kids } ∷ lists_from path 0 kids
+  lists_at path (element x attrs ending kids mark) =
+      record { path = path; owner = an_element x; kids = kids } ∷ lists_from path 0 kids
   lists_at path (text_node units) = []
   lists_at path (cdata_node bytes) = []
   lists_at path (misc_node bytes) = []
@@ -32,10 +34,13 @@ abbrev mutual
 
 -- all lists of a document; the document node has the empty path, and its kids are the root alone
 abbrev pub lists_of : {M : Type 0} → PlainDoc M → List (Listed M)
-lists_of doc = record { path = []; owner = the_document; kids = tree doc.root no_trees } ∷ lists_at (0 ∷ []) doc.root
+lists_of doc =
+    record { path = []; owner = the_document; kids = tree doc.root no_trees }
+    ∷ lists_at (0 ∷ []) doc.root
 
 -- the kids fit an element of this number by themselves, whatever stands below them
-pub record IsOwnValid {M : Type 0} (g : PlainDtd) (owner : Option ℕ) (kids : Forest M) : Type 0 where
+pub record IsOwnValid {M : Type 0} (g : PlainDtd) (owner : Option ℕ) (kids : Forest M)
+    : Type 0 where
   pub number : ℕ
   pub is_owner : owner ≡ Some number
   pub model : PlainModel
@@ -63,7 +68,8 @@ abbrev pub IsValidList : {M : Type 0} → PlainDtd → List ℕ → Listed M →
 IsValidList g root list = IsValidBy g root list.owner list.kids
 
 -- the path of the first of some lists that isn't so
-pub record IsFirstNot {M : Type 0} (P : Listed M → Type 0) (lists : List (Listed M)) (path : List ℕ) : Type 0 where
+pub record IsFirstNot {M : Type 0} (P : Listed M → Type 0) (lists : List (Listed M))
+    (path : List ℕ) : Type 0 where
   pub before : List (Listed M)
   pub list : Listed M
   pub after : List (Listed M)

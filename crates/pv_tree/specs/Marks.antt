@@ -15,4 +15,5 @@ pub record HasMarks {M : Type 0} (mark : M) (doc : PlainDoc M) : Type 0 where
 
 -- the document without its marks
 abbrev pub unmarked_doc : {M : Type 0} → PlainDoc M → PlainDoc Unit
-unmarked_doc doc = record { before = doc.before; root = without_marks doc.root; after = doc.after; mark = tt }
+unmarked_doc doc =
+    record { before = doc.before; root = without_marks doc.root; after = doc.after; mark = tt }

@@ -1,6 +1,8 @@
 -- What stands at a path of a document. The empty path is the document node, and [0] is its root.
-use Rattle.std.specs.Prelude.{ℕ, zero, suc, List, [], ◌∷◌, Option, Some, None, option_map, option_and_then, slice_get}
+use Rattle.std.specs.Prelude.{◌≡◌, ℕ, zero, suc, List, [], ◌∷◌}
+use Rattle.std.specs.Prelude.{Option, Some, None, option_map, option_and_then, slice_get}
 use Rattle.pv_tree.specs.Plain.{Tree, element, text_node, cdata_node, misc_node, trees_of}
+use Rattle.pv_tree.specs.Lists.{Listed, Owner, the_document, an_element}
 
 -- the kids of an element, and none of any other node
 abbrev pub kids_of : {M : Type 0} → Tree M → List (Tree M)
@@ -34,3 +36,16 @@ abbrev pub list_at : {M : Type 0} → List ℕ → Tree M → Option (List (Tree
 list_at [] root = Some (root ∷ [])
 list_at (zero ∷ path) root = option_and_then list_of (node_below path root)
 list_at (suc i ∷ path) root = None
+
+-- who has a list: the document node, or an element
+abbrev pub owner_of : {M : Type 0} → Spot M → Option Owner
+owner_of at_document = Some the_document
+owner_of (at_node (element x attrs ending kids mark)) = Some (an_element x)
+owner_of (at_node (text_node units)) = None
+owner_of (at_node (cdata_node bytes)) = None
+owner_of (at_node (misc_node bytes)) = None
+
+-- What stands at the path of this list, below this root, has the owner and the kids of the list.
+pub record IsListAt {M : Type 0} (root : Tree M) (list : Listed M) : Type 0 where
+  pub has_owner : option_and_then owner_of (spot_at list.path root) ≡ Some list.owner
+  pub has_kids : list_at list.path root ≡ Some (trees_of list.kids)

@@ -1,13 +1,16 @@
--- Document trees as plain data. M is the type of the marks that elements carry; they are no part of a tree's meaning.
+-- Document trees as plain data. M is the type of the marks that elements carry; they are no part
+-- of a tree's meaning.
 use Rattle.std.specs.Prelude.{ℕ, suc, ◌+◌, max, Bool, true, false, List, [], ◌∷◌}
 
--- how an element ends: by the `/>` of an empty-element tag, or by an end tag with these bytes between its name and `>`
+-- how an element ends: by the `/>` of an empty-element tag, or by an end tag with these bytes
+-- between its name and `>`
 pub data Ending : Type 0 where
   short : Ending
   tagged : (gap : List ℕ) → Ending
 
 mutual
-  -- an element with the bytes between its name and `>` or `/>`; a text as its units; a CDATA section; a comment or processing instruction
+  -- an element with the bytes between its name and `>` or `/>`; a text as its units; a CDATA
+  -- section; a comment or processing instruction
   pub data Tree (M : Type 0) : Type 0 where
     element : (name attrs : List ℕ) → (ending : Ending) → (kids : Forest M) → (mark : M) → Tree M
     text_node : (units : List (List ℕ)) → Tree M
@@ -30,7 +33,8 @@ trees_of (tree t rest) = t ∷ trees_of rest
 -- the tree with other marks
 abbrev mutual
   pub map_marks : {M N : Type 0} → (M → N) → Tree M → Tree N
-  map_marks f (element x attrs ending kids mark) = element x attrs ending (map_marks_all f kids) (f mark)
+  map_marks f (element x attrs ending kids mark) =
+      element x attrs ending (map_marks_all f kids) (f mark)
   map_marks f (text_node units) = text_node units
   map_marks f (cdata_node bytes) = cdata_node bytes
   map_marks f (misc_node bytes) = misc_node bytes
@@ -73,7 +77,8 @@ is_element (text_node units) = false
 is_element (cdata_node bytes) = false
 is_element (misc_node bytes) = false
 
--- a document: the bytes before its root's tag, the root, and the bytes after the root's end; its own mark is that of the list of its root
+-- a document: the bytes before its root's tag, the root, and the bytes after the root's end; its
+-- own mark is that of the list of its root
 pub record PlainDoc (M : Type 0) : Type 0 where
   pub before : List ℕ
   pub root : Tree M

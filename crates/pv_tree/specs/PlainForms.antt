@@ -1,6 +1,7 @@
 -- The plain tree that a node of the program is.
 use Rattle.std.specs.Prelude.{List, map}
-use Rattle.pv_tree.specs.Plain.{Ending, short, tagged, Tree, element, text_node, cdata_node, misc_node, Forest, forest_of}
+use Rattle.pv_tree.specs.Plain.{Ending, short, tagged, Tree, element, text_node, cdata_node}
+use Rattle.pv_tree.specs.Plain.{misc_node, Forest, forest_of}
 use Rattle.pv_tree.specs.declared.nodes.End.{End}
 use Rattle.pv_tree.specs.declared.nodes.End.TheVariants as end
 use Rattle.pv_tree.specs.declared.nodes.Mark.{Mark}
@@ -13,7 +14,8 @@ plain_end (end.Tagged gap) = tagged gap
 
 -- one level, its kids already read
 abbrev pub plain_step : Node-F (Tree Mark) → Tree Mark
-plain_step (Node-F.Elem name attrs e kids mark) = element name attrs (plain_end e) (forest_of kids.items) mark
+plain_step (Node-F.Elem name attrs e kids mark) =
+    element name attrs (plain_end e) (forest_of kids.items) mark
 plain_step (Node-F.Text units) = text_node units
 plain_step (Node-F.Cdata bytes) = cdata_node bytes
 plain_step (Node-F.Misc bytes) = misc_node bytes

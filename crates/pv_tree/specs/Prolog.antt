@@ -7,12 +7,14 @@ use Rattle.pv_chars.specs.Characters.{IsChars}
 use Rattle.pv_chars.specs.Names.{IsName}
 use Rattle.pv_chars.specs.Markup.{IsComment, IsInstruction}
 use Rattle.pv_chars.specs.Declarations.{IsQuoted, IsOptional, IsXmlDecl}
-use Rattle.pv_dtd.specs.Meaning.{BYTE_ORDER_MARK}
+use Rattle.pv_chars.specs.ByteOrderMark.{BYTE_ORDER_MARK}
 use Rattle.pv_tree.specs.Attributes.{AreMadeOf}
 
 -- PubidChar: space, CR, LF, letters and digits of ASCII, and these marks
 abbrev pub is_pubid_char : ℕ → Bool
-is_pubid_char b = (b == 32) || (b == 13) || (b == 10) || is_ascii_alphanumeric b || list_any (λ c. b == c) (codes "-'()+,./:=?;!*#@$_%")
+is_pubid_char b =
+    (b == 32) || (b == 13) || (b == 10) || is_ascii_alphanumeric b ||
+    list_any (λ c. b == c) (codes "-'()+,./:=?;!*#@$_%")
 
 -- SystemLiteral: Chars in a pair of quotes, which they don't hold
 abbrev pub IsSystemLiteral : List ℕ → Type 0
@@ -20,7 +22,8 @@ IsSystemLiteral bytes = (value : List ℕ) × IsChars value × IsQuoted value by
 
 -- PubidLiteral: the same with PubidChars
 abbrev pub IsPubidLiteral : List ℕ → Type 0
-IsPubidLiteral bytes = (value : List ℕ) × IsTrue (list_all is_pubid_char value) × IsQuoted value bytes
+IsPubidLiteral bytes =
+    (value : List ℕ) × IsTrue (list_all is_pubid_char value) × IsQuoted value bytes
 
 -- S, `SYSTEM`, S, SystemLiteral
 pub record IsSystemId (bytes : List ℕ) : Type 0 where
@@ -50,7 +53,8 @@ pub record IsPublicId (bytes : List ℕ) : Type 0 where
 abbrev pub IsExternalId : List ℕ → Type 0
 IsExternalId bytes = IsSystemId bytes ⊎ IsPublicId bytes
 
--- The front of a document type declaration of this name: `<!DOCTYPE`, S, Name, then S and an ExternalID or nothing, S?.
+-- The front of a document type declaration of this name: `<!DOCTYPE`, S, Name, then S and an
+-- ExternalID or nothing, S?.
 pub record IsDoctypeFront (name bytes : List ℕ) : Type 0 where
   pub space : List ℕ
   pub external : List ℕ
@@ -75,7 +79,8 @@ IsCommentOrInstruction bytes = IsComment bytes ⊎ IsInstruction bytes
 abbrev pub IsMisc : List ℕ → Type 0
 IsMisc bytes = IsCommentOrInstruction bytes ⊎ IsSpace bytes
 
--- prolog: the byte order mark, XMLDecl, Misc*, and a doctypedecl with Misc*, each of which may be left out. A doctypedecl names this root.
+-- prolog: the byte order mark, XMLDecl, Misc*, and a doctypedecl with Misc*, each of which may be
+-- left out. A doctypedecl names this root.
 pub record IsProlog (root bytes : List ℕ) : Type 0 where
   pub mark : List ℕ
   pub declaration : List ℕ

@@ -1,7 +1,8 @@
 -- Trees in which each text has a unit.
 use Rattle.std.specs.Prelude.{[], ◌≢◌}
 use Rattle.std.specs.Coded.{×_prop, →_prop, Unit-prop}
-use Rattle.pv_tree.specs.Plain.{Forest, Tree, cdata_node, element, misc_node, no_trees, text_node, tree}
+use Rattle.pv_tree.specs.Plain.{Forest, Tree, cdata_node, element, misc_node, no_trees, text_node}
+use Rattle.pv_tree.specs.Plain.{tree}
 
 abbrev mutual
   -- each text has a unit, at all depths

@@ -1,7 +1,9 @@
--- The hedge that a tree shows: each text spread into its units; endings, marks and cuts between texts aren't seen.
+-- The hedge that a tree shows: each text spread into its units; endings, marks and cuts between
+-- texts aren't seen.
 use Rattle.std.specs.Prelude.{ℕ, List, [], ◌∷◌, if◌then◌else◌}
 use Rattle.pv_chars.specs.Texts.{is_data}
-use Rattle.pv_tree.specs.Plain.{Tree, element, text_node, cdata_node, misc_node, Forest, no_trees, tree}
+use Rattle.pv_tree.specs.Plain.{Tree, element, text_node, cdata_node, misc_node, Forest, no_trees}
+use Rattle.pv_tree.specs.Plain.{tree}
 use Rattle.pv_dtd.specs.Hedge.{Leaf, white, data_unit, cdata, misc, Hedge, done, leaf, elem}
 
 abbrev pub unit_leaf : List ℕ → Leaf
@@ -12,7 +14,8 @@ abbrev pub spread : List (List ℕ) → Hedge → Hedge
 spread [] h = h
 spread (unit ∷ units) h = leaf (unit_leaf unit) (spread units h)
 
--- The hedge that a tree shows, before another. What a text shows is told by a function, which puts its units before a hedge.
+-- The hedge that a tree shows, before another. What a text shows is told by a function, which puts
+-- its units before a hedge.
 abbrev mutual
   pub shown_before : {M : Type 0} → (List (List ℕ) → Hedge → Hedge) → Tree M → Hedge → Hedge
   shown_before text (element x attrs ending kids mark) h = elem x attrs (shown_all text kids) h

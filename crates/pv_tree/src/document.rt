@@ -2,7 +2,8 @@
 
 ghost use Rattle.std.specs.Prelude.{◌≡◌, ◌≤◌, ℕ, List, IsTrue, IfOk};
 ghost use Rattle.pv_tree.specs.Plain.{depth_of, nodes_in, is_element};
-ghost use Rattle.pv_tree.specs.Legal.{has_names, is_formed, IsLegal, has_no_close_mark, MAX_DEPTH, MAX_NODES};
+ghost use Rattle.pv_tree.specs.Legal.{has_names, is_formed, IsLegal, has_no_close_mark, MAX_DEPTH};
+ghost use Rattle.pv_tree.specs.Legal.{MAX_NODES};
 ghost use Rattle.pv_tree.specs.Units.{HasUnits, HasUnits-prop};
 ghost use Rattle.pv_tree.specs.Prolog.{IsEpilog, IsProlog};
 ghost use Rattle.pv_tree.specs.PlainForms.{plain, plain_all};
@@ -51,7 +52,8 @@ impl Doc {
 
     /// The list at a path: that of the document node, or of an element.
     pub fn kids_at(&self, path: &Path) -> Option<&[Node]>
-        ensures { option_map (λ kids. plain_all kids.now) result ≡ list_at path.now (plain_doc self.now).root }
+        ensures { option_map (λ kids. plain_all kids.now) result
+            ≡ list_at path.now (plain_doc self.now).root }
     {
         match path.places() {
             [] => Some(std::slice::from_ref(&self.root)),

@@ -9,7 +9,8 @@ ghost use Rattle.pv_tree.specs.Plain.{nodes_in, nodes_in_all};
 ghost use Rattle.pv_dtd.specs.Hedge.{IsValid};
 ghost use Rattle.pv_tree.specs.Legal.{MAX_NODES};
 ghost use Rattle.pv_tree.specs.View.{view};
-ghost use Rattle.pv_tree.specs.Lists.{IsFirstNot, IsOwnValid, IsRootElement, IsValidList, lists_at, lists_from, lists_of};
+ghost use Rattle.pv_tree.specs.Lists.{IsFirstNot, IsOwnValid, IsRootElement, IsValidList};
+ghost use Rattle.pv_tree.specs.Lists.{lists_at, lists_from, lists_of};
 ghost use Rattle.pv_tree.specs.Search.{Finds};
 ghost use Rattle.pv_tree.specs.PlainForms.{plain, forest};
 ghost use Rattle.pv_tree.specs.PlainDocs.{plain_doc};
@@ -23,15 +24,18 @@ use pv_dtd::Dtd;
 use pv_model::{ContentModel, Token, matches};
 use std::alloc::Global;
 
-/// The path of the first list, in document order, that isn't valid by itself; none where the document is valid.
+/// The path of the first list, in document order, that isn't valid by itself; none where the
+/// document is valid.
 pub fn first_invalid(
     alloc: Global,
     dtd: &Dtd,
     root: &[u8],
     doc: &Doc,
 ) -> Result<Option<Path>, NoMemory>
-    ensures valid { IfOk result (λ found. IsNone found ↔ IsValid (plain_dtd dtd.now) root.now (view (plain_doc doc.now).root)) }
-    ensures first { IfOk result (λ found. IfSome found (IsFirstNot (IsValidList (plain_dtd dtd.now) root.now) (lists_of (plain_doc doc.now)))) }
+    ensures valid { IfOk result (λ found. IsNone found
+        ↔ IsValid (plain_dtd dtd.now) root.now (view (plain_doc doc.now).root)) }
+    ensures first { IfOk result (λ found. IfSome found
+        (IsFirstNot (IsValidList (plain_dtd dtd.now) root.now) (lists_of (plain_doc doc.now)))) }
 {
     if !is_root(root, &doc.root) {
         return Ok(Some(Path::new(alloc, &[])?));
@@ -56,7 +60,8 @@ fn is_root(root: &[u8], node: &Node) -> bool
     }
 }
 
-// Whether a list of this subtree isn't valid by itself. The places of the node become those of the first such list.
+// Whether a list of this subtree isn't valid by itself. The places of the node become those of the
+// first such list.
 #[cycle(search)]
 fn has_invalid(
     alloc: Global,
@@ -66,7 +71,8 @@ fn has_invalid(
     tokens: &mut Vec<Token>,
 ) -> Result<bool, NoMemory>
     requires { nodes_in (plain node.now) ≤ MAX_NODES }
-    ensures { (root : List ℕ) → IfOk result (Finds (IsValidList (plain_dtd dtd.now) root) (lists_at places.old.items (plain node.now)) places.old.items places.new.items) }
+    ensures { (root : List ℕ) → IfOk result (Finds (IsValidList (plain_dtd dtd.now) root)
+        (lists_at places.old.items (plain node.now)) places.old.items places.new.items) }
 {
     let Node::Elem { name, kids, .. } = node else {
         return Ok(false);
@@ -87,7 +93,8 @@ fn has_invalid_kid(
     tokens: &mut Vec<Token>,
 ) -> Result<bool, NoMemory>
     requires { nodes_in_all (forest kids.now) ≤ MAX_NODES }
-    ensures { (root : List ℕ) → IfOk result (Finds (IsValidList (plain_dtd dtd.now) root) (lists_from places.old.items 0 (forest kids.now)) places.old.items places.new.items) }
+    ensures { (root : List ℕ) → IfOk result (Finds (IsValidList (plain_dtd dtd.now) root)
+        (lists_from places.old.items 0 (forest kids.now)) places.old.items places.new.items) }
 {
     for (i, kid) in kids.iter().enumerate() {
         places.push(i as u32)?;
@@ -99,7 +106,8 @@ fn has_invalid_kid(
     Ok(false)
 }
 
-// Whether these kids, by themselves, fit an element of this name. The tokens are those of any list before.
+// Whether these kids, by themselves, fit an element of this name. The tokens are those of any list
+// before.
 fn is_own_valid(
     alloc: Global,
     dtd: &Dtd,
@@ -107,7 +115,9 @@ fn is_own_valid(
     kids: &[Node],
     tokens: &mut Vec<Token>,
 ) -> Result<bool, NoMemory>
-    ensures { IfOk result (λ fits. IsTrue fits ↔ IsOwnValid (plain_dtd dtd.now) (number_of (plain_dtd dtd.now) name.now) (forest kids.now)) }
+    ensures { IfOk result (λ fits. IsTrue fits
+        ↔ IsOwnValid (plain_dtd dtd.now) (number_of (plain_dtd dtd.now) name.now)
+        (forest kids.now)) }
 {
     let Some(model) = model_named(dtd, name) else {
         return Ok(false);
@@ -122,7 +132,8 @@ fn is_own_valid(
 
 // The content model of a declared name.
 fn model_named<'a>(dtd: &'a Dtd, name: &[u8]) -> Option<&'a ContentModel>
-    ensures { option_map plain_model (option_copied result) ≡ option_and_then (model_of (plain_dtd dtd.now)) (number_of (plain_dtd dtd.now) name.now) }
+    ensures { option_map plain_model (option_copied result)
+        ≡ option_and_then (model_of (plain_dtd dtd.now)) (number_of (plain_dtd dtd.now) name.now) }
 {
     let id = dtd.name_id(name)?;
     dtd.model_of(id)

@@ -19,9 +19,11 @@ use std::alloc::Global;
 /// A list of tokens.
 pub type Tokens = List<Token>;
 
-/// The word of some nodes: an element by its name, data for a text with a data unit and for a CDATA section, and nothing for others.
+/// The word of some nodes: an element by its name, data for a text with a data unit and for a
+/// CDATA section, and nothing for others.
 pub fn word(alloc: Global, dtd: &Dtd, kids: &[Node]) -> Result<Tokens, NoMemory>
-    ensures { IfOk result (λ tokens. map plain_token tokens ≡ word_of (plain_dtd dtd.now) (forest kids.now)) }
+    ensures { IfOk result (λ tokens. map plain_token tokens
+        ≡ word_of (plain_dtd dtd.now) (forest kids.now)) }
 {
     let mut tokens = Vec::new(alloc);
     append_word(dtd, kids, &mut tokens)?;
@@ -30,7 +32,8 @@ pub fn word(alloc: Global, dtd: &Dtd, kids: &[Node]) -> Result<Tokens, NoMemory>
 
 /// Appends the word of some nodes.
 pub(crate) fn append_word(dtd: &Dtd, kids: &[Node], tokens: &mut Vec<Token>) -> Result<(), NoMemory>
-    ensures { OnOk result (map plain_token tokens.new.items ≡ map plain_token tokens.old.items ++ word_of (plain_dtd dtd.now) (forest kids.now)) }
+    ensures { OnOk result (map plain_token tokens.new.items
+        ≡ map plain_token tokens.old.items ++ word_of (plain_dtd dtd.now) (forest kids.now)) }
 {
     for kid in kids {
         if let Some(token) = token_of(dtd, kid) {
@@ -42,7 +45,8 @@ pub(crate) fn append_word(dtd: &Dtd, kids: &[Node], tokens: &mut Vec<Token>) -> 
 
 // The token of a node, where it has one.
 fn token_of(dtd: &Dtd, node: &Node) -> Option<Token>
-    ensures { (rest : List PlainToken) → node_before (plain_dtd dtd.now) (plain node.now) rest ≡ token_before result rest }
+    ensures { (rest : List PlainToken) →
+        node_before (plain_dtd dtd.now) (plain node.now) rest ≡ token_before result rest }
 {
     match node {
         Node::Elem { name, .. } => Some(name_token(dtd, name.as_slice())),
@@ -52,8 +56,8 @@ fn token_of(dtd: &Dtd, node: &Node) -> Option<Token>
     }
 }
 
-// The token of an element of this name.
-fn name_token(dtd: &Dtd, name: &[u8]) -> Token
+/// The token of an element of this name.
+pub fn name_token(dtd: &Dtd, name: &[u8]) -> Token
     ensures { plain_token result ≡ token (number_of (plain_dtd dtd.now) name.now) }
 {
     match dtd.name_id(name) {

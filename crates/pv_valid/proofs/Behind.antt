@@ -25,7 +25,7 @@ use Rattle.pv_read.specs.Steps.{TakesItem}
 use Rattle.pv_read.proofs.Decided.{known_is_decided}
 use Rattle.pv_read.proofs.DocumentFacts.{data_are_units, data_joined}
 use Rattle.pv_valid.specs.WholeLists.{kids_in}
-use Rattle.pv_valid.specs.OpenLists.{HasRead, HasEnded, ended}
+use Rattle.pv_valid.specs.OpenLists.{HasRead, HasEnded, ended_element}
 use Rattle.pv_valid.specs.Contents.{IsBehind}
 use Rattle.pv_valid.specs.declared.open.OpenLists.{OpenLists}
 use Rattle.pv_valid.proofs.Stack.{kid_added}
@@ -49,19 +49,19 @@ module _ (g : PlainDtd) (root : List ℕ) (inner : Open Mark) (outer : List (Ope
   kid_few o os t = omega (arith, length-append o.kids (t ∷ []))
 
   -- an element ends
-  pub behind_end : (new : OpenLists) (whole : Bool) (name gap : List ℕ) → HasEnded g root new whole outer (ended inner inner.attrs (tagged gap) blank_mark) → IsBehind g root new whole inner outer (end_tag name gap)
+  pub behind_end : (new : OpenLists) (whole : Bool) (name gap : List ℕ) → HasEnded g root new whole outer (ended_element inner inner.attrs (tagged gap) blank_mark) → IsBehind g root new whole inner outer (end_tag name gap)
   behind_end new whole name gap = by new whole outer
     where
-      by : (new : OpenLists) (whole : Bool) (outer : List (Open Mark)) → HasEnded g root new whole outer (ended inner inner.attrs (tagged gap) blank_mark) → IsBehind g root new whole inner outer (end_tag name gap)
-      by new true [] h = record { tree = ended inner inner.attrs (tagged gap) blank_mark; left_is = λ before. refl; has_root = h }
+      by : (new : OpenLists) (whole : Bool) (outer : List (Open Mark)) → HasEnded g root new whole outer (ended_element inner inner.attrs (tagged gap) blank_mark) → IsBehind g root new whole inner outer (end_tag name gap)
+      by new true [] h = record { tree = ended_element inner inner.attrs (tagged gap) blank_mark; left_is = λ before. refl; has_root = h }
       by new true (o ∷ os) h = absurd h
       by new false [] h = absurd h
       by new false (o ∷ os) h = record {
-        next = with_kid o (ended inner inner.attrs (tagged gap) blank_mark);
+        next = with_kid o (ended_element inner inner.attrs (tagged gap) blank_mark);
         around = os;
         left_is = λ before. refl;
         has_read = h;
-        few_kids = omega (arith, length-append o.kids (ended inner inner.attrs (tagged gap) blank_mark ∷ []));
+        few_kids = omega (arith, length-append o.kids (ended_element inner inner.attrs (tagged gap) blank_mark ∷ []));
       }
 
   kid_behind : (new : OpenLists) (i : Item) (t : Tree Mark) → ((before : List ℕ) → left_by blank_mark (in_content before inner outer) i ≡ Some (in_content before (with_kid inner t) outer))
@@ -69,9 +69,9 @@ module _ (g : PlainDtd) (root : List ℕ) (inner : Open Mark) (outer : List (Ope
   kid_behind new i t is r = record { next = with_kid inner t; around = outer; left_is = is; has_read = r; few_kids = kid_few inner outer t }
 
   -- an element begins and ends
-  pub behind_empty : (new : OpenLists) (whole : Bool) (name attrs : List ℕ) → HasEnded g root new whole (inner ∷ outer) (ended (just_opened name attrs) attrs short blank_mark) → IsBehind g root new whole inner outer (empty_tag name attrs)
+  pub behind_empty : (new : OpenLists) (whole : Bool) (name attrs : List ℕ) → HasEnded g root new whole (inner ∷ outer) (ended_element (just_opened name attrs) attrs short blank_mark) → IsBehind g root new whole inner outer (empty_tag name attrs)
   behind_empty new true name attrs h = absurd h
-  behind_empty new false name attrs h = kid_behind new (empty_tag name attrs) (ended (just_opened name attrs) attrs short blank_mark) (λ before. refl) h
+  behind_empty new false name attrs h = kid_behind new (empty_tag name attrs) (ended_element (just_opened name attrs) attrs short blank_mark) (λ before. refl) h
 
   -- ---- a kid without lists
   module _ (old new : OpenLists) (r : HasRead g root old inner outer) (inner_is : new.inner ≡ record old.inner { kids = old.inner.kids + 1 }) (outer_is : new.outer.items ≡ old.outer.items) (found_is : new.found ≡ old.found)
@@ -114,7 +114,7 @@ may_stand before inner outer (empty_tag name attrs) next e = refl
 may_stand before inner outer (end_tag name gap) next e = refl
 may_stand before inner outer (text_run bytes) next e = refl
 
-pub known_taken : {root rest more : List ℕ} {left : Left Mark} {i : Item} → TakesItem blank_mark root left rest i more → HasKnownReferences i
+pub known_taken : {most : Option ℕ} {root rest more : List ℕ} {left : Left Mark} {i : Item} → TakesItem most blank_mark root left rest i more → HasKnownReferences i
 known_taken {rest = rest} {more = more} {i = i} t = by (known_is_decided i t.begins.has_form)
   where
     by : HasKnownReferences i ⊎ (HasKnownReferences i → ⊥) → HasKnownReferences i

@@ -1,3 +1,4 @@
+-- of this crate:
 pub mod Growing
 pub mod Judged
 pub mod Stack

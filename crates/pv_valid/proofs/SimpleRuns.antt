@@ -1,5 +1,5 @@
 -- A run of simple characters is a text run in which each reference is known, and stands in an element without fault.
-use Rattle.std.proofs.Common.{◌≡◌, ◌≢◌, ℕ, List, [], ◌++◌, Ok, inr, true, false, refl, sym, subst}
+use Rattle.std.proofs.Common.{Option, ◌≡◌, ◌≢◌, ℕ, List, [], ◌++◌, Ok, inr, true, false, refl, sym, subst}
 use Rattle.std.specs.List.{list_all}
 use Rattle.pv_chars.specs.Units.{is_simple, units_in, TextMeans}
 use Rattle.pv_chars.proofs.MeansLemmas.{simple_units}
@@ -27,9 +27,9 @@ simple_begins bytes run rest whole end some simple =
 no_empty : false ≡ true → ⊥
 no_empty e = cc
 
-pub run_taken : (root rest run more name : List ℕ) (many : ℕ) (left : Left Mark) → place_of left ≡ content name many → BeginsKnownRun rest run more → TakesItem blank_mark root left rest (text_run run) more
-run_taken root rest run more name many (in_prolog stage before) at r = absurd cc
-run_taken root rest run more name many (in_content before inner outer) at r =
-    takes one_item blank_mark root (in_content before inner outer) rest (λ h. no_empty h.0) (text_run run) more r.begins
+pub run_taken : (most : Option ℕ) (root rest run more name : List ℕ) (many : ℕ) (left : Left Mark) → place_of left ≡ content name many → BeginsKnownRun rest run more → TakesItem most blank_mark root left rest (text_run run) more
+run_taken most root rest run more name many (in_prolog stage before) at r = absurd cc
+run_taken most root rest run more name many (in_content before inner outer) at r =
+    takes one_item most blank_mark root (in_content before inner outer) rest (λ h. no_empty h.0) (text_run run) more r.begins
     (in_content before (with_kid inner (text_node (units_in run))) outer) refl r.known (λ h. h) (λ h. h) (λ h. no_empty h.0)
-run_taken root rest run more name many (in_epilog before t after) at r = absurd cc
+run_taken most root rest run more name many (in_epilog before t after) at r = absurd cc

@@ -16,7 +16,7 @@ use Rattle.pv_tree.specs.Words.{node_before, word_of}
 use Rattle.pv_tree.specs.declared.nodes.Mark.{Mark}
 use Rattle.pv_read.specs.Left.{Open, just_opened, with_kid}
 use Rattle.pv_valid.specs.WholeLists.{next_path, whole_lists, kids_in, TellsFirst, TellsWhether}
-use Rattle.pv_valid.specs.OpenLists.{IsOpen, AreOpen, HasRead, HasEnded, HasRoom, MOST_KIDS, ended}
+use Rattle.pv_valid.specs.OpenLists.{IsOpen, AreOpen, HasRead, HasEnded, HasRoom, MOST_KIDS, ended_element}
 use Rattle.pv_valid.specs.declared.open.OpenList.{OpenList}
 use Rattle.pv_valid.specs.declared.open.OpenLists.{OpenLists}
 use Rattle.pv_valid.proofs.Growing.{whole_lists-with_kid, word_of-behind}
@@ -144,19 +144,19 @@ module _ (g : PlainDtd) (root : List ℕ) where
     inner_some b w = some_kids inner.kids lists.inner.kids b r.are_open.1.is_count w
 
     module _ (attrs : List ℕ) (ending : Ending) (mark : Mark) where
-      pub judged_behind : lists.inner.is_behind ≡ true → TellsFirst (IsValidList g root) (whole_lists outer ++ lists_at (next_path outer) (ended inner attrs ending mark)) lists.found
+      pub judged_behind : lists.inner.is_behind ≡ true → TellsFirst (IsValidList g root) (whole_lists outer ++ lists_at (next_path outer) (ended_element inner attrs ending mark)) lists.found
       judged_behind behind =
           let first = subst (TellsWhether (IsValidList g root) (whole_lists outer)) behind r.are_open.1.is_behind in
           put_behind (IsValidList g root) (whole_lists outer) (lists_from (next_path outer) 0 (forest_of inner.kids)) (record { path = next_path outer; owner = an_element inner.name; kids = forest_of inner.kids }) lists.found first.0 first.1 r.is_first
 
       pub judged_valid : lists.inner.is_behind ≡ false → IsOwnValid g (number_of g inner.name) (forest_of inner.kids)
-          → TellsFirst (IsValidList g root) (whole_lists outer ++ lists_at (next_path outer) (ended inner attrs ending mark)) lists.found
+          → TellsFirst (IsValidList g root) (whole_lists outer ++ lists_at (next_path outer) (ended_element inner attrs ending mark)) lists.found
       judged_valid behind valid =
           let all = subst (TellsWhether (IsValidList g root) (whole_lists outer)) behind r.are_open.1.is_behind in
           put_so (IsValidList g root) (whole_lists outer) (lists_from (next_path outer) 0 (forest_of inner.kids)) (record { path = next_path outer; owner = an_element inner.name; kids = forest_of inner.kids }) lists.found all valid r.is_first
 
       pub judged_invalid : (path : List ℕ) → lists.inner.is_behind ≡ false → (IsOwnValid g (number_of g inner.name) (forest_of inner.kids) → ⊥) → path ≡ next_path outer
-          → TellsFirst (IsValidList g root) (whole_lists outer ++ lists_at (next_path outer) (ended inner attrs ending mark)) (Some path)
+          → TellsFirst (IsValidList g root) (whole_lists outer ++ lists_at (next_path outer) (ended_element inner attrs ending mark)) (Some path)
       judged_invalid path behind bad is =
           let all = subst (TellsWhether (IsValidList g root) (whole_lists outer)) behind r.are_open.1.is_behind in
           rw is (put_not (IsValidList g root) (whole_lists outer) (lists_from (next_path outer) 0 (forest_of inner.kids)) (record { path = next_path outer; owner = an_element inner.name; kids = forest_of inner.kids }) all bad)
@@ -205,27 +205,27 @@ module _ (g : PlainDtd) (root : List ℕ) where
   some_outer ls l rest tokens e h = subst (λ (k : List OpenList). AreOpen g root k [] tokens) e h
 
   pub root_ended : (old new : OpenLists) (inner : Open Mark) (outer : List (Open Mark)) (attrs : List ℕ) (ending : Ending) (mark : Mark) → HasRead g root old inner outer
-      → old.outer.items ≡ [] → new.inner ≡ old.inner → TellsFirst (IsValidList g root) (whole_lists outer ++ lists_at (next_path outer) (ended inner attrs ending mark)) new.found
-      → HasEnded g root new true outer (ended inner attrs ending mark)
+      → old.outer.items ≡ [] → new.inner ≡ old.inner → TellsFirst (IsValidList g root) (whole_lists outer ++ lists_at (next_path outer) (ended_element inner attrs ending mark)) new.found
+      → HasEnded g root new true outer (ended_element inner attrs ending mark)
   root_ended old new inner [] attrs ending mark r none inner_is first = record { is_named = sym (ap (λ (l : OpenList). l.name.now) inner_is ∙ r.are_open.1.is_name); is_first = first }
   root_ended old new inner (o ∷ os) attrs ending mark r none inner_is first = absurd (no_outer (reverse old.outer.items) o os r.are_open.0 (ap reverse none) r.are_open.2)
 
   pub kid_ended : (old new : OpenLists) (around : OpenList) (rest : List OpenList) (inner : Open Mark) (outer : List (Open Mark)) (attrs : List ℕ) (ending : Ending) (mark : Mark) → HasRead g root old inner outer
       → old.outer.items ≡ rest ++ around ∷ [] → new.inner ≡ record around { kids = around.kids + 1 } → new.outer.items ≡ rest → new.tokens.items ≡ take old.inner.start old.tokens.items ++ old.inner.token ∷ []
-      → TellsFirst (IsValidList g root) (whole_lists outer ++ lists_at (next_path outer) (ended inner attrs ending mark)) new.found
-      → HasEnded g root new false outer (ended inner attrs ending mark)
+      → TellsFirst (IsValidList g root) (whole_lists outer ++ lists_at (next_path outer) (ended_element inner attrs ending mark)) new.found
+      → HasEnded g root new false outer (ended_element inner attrs ending mark)
   kid_ended old new around rest inner [] attrs ending mark r split inner_is outer_is tokens_are first =
       some_outer (reverse old.outer.items) around (reverse rest) r.are_open.0 (ap reverse split ∙ behind_one around rest) r.are_open.2
   kid_ended old new around rest inner (o ∷ os) attrs ending mark r split inner_is outer_is tokens_are first =
       let below = r.are_open.0 in
-      let t = ended inner attrs ending mark in
+      let t = ended_element inner attrs ending mark in
       let stack : reverse old.outer.items ≡ around ∷ reverse rest = ap reverse split ∙ behind_one around rest in
       let open_below = subst (λ (k : List OpenList). AreOpen g root k (o ∷ os) r.are_open.0) stack r.are_open.2 in
       let cut : map plain_token (take old.inner.start old.tokens.items) ≡ r.are_open.0 =
       sym (take-map plain_token old.inner.start old.tokens.items) ∙ ap (take old.inner.start) r.are_open.1.is_word ∙ take_at r.are_open.0 (word_of g (forest_of inner.kids)) old.inner.start (sym r.are_open.1.is_start) in
-      let word : map plain_token new.tokens.items ≡ r.are_open.0 ++ node_before g (ended inner attrs ending mark) [] =
+      let word : map plain_token new.tokens.items ≡ r.are_open.0 ++ node_before g (ended_element inner attrs ending mark) [] =
       ap (map plain_token) tokens_are ∙ map_push plain_token (take old.inner.start old.tokens.items) old.inner.token ∙ ap (λ u. u ++ plain_token old.inner.token ∷ []) cut ∙ ap (λ k. r.are_open.0 ++ k ∷ []) r.are_open.1.is_token in
       record {
-        are_open = rw (inner_is, outer_is) (open_below.0, grown around o os open_below.0 r.are_open.0 (map plain_token new.tokens.items) (ended inner attrs ending mark) open_below.1 word, open_below.2);
-        is_first = subst (λ l. TellsFirst (IsValidList g root) l new.found) (sym (whole_lists-with_kid o os (ended inner attrs ending mark))) first;
+        are_open = rw (inner_is, outer_is) (open_below.0, grown around o os open_below.0 r.are_open.0 (map plain_token new.tokens.items) (ended_element inner attrs ending mark) open_below.1 word, open_below.2);
+        is_first = subst (λ l. TellsFirst (IsValidList g root) l new.found) (sym (whole_lists-with_kid o os (ended_element inner attrs ending mark))) first;
       }

@@ -1,25 +1,22 @@
 -- The items of a root, one behind another, over the open elements.
-use Rattle.std.proofs.Common.{◌≡◌, ◌≤◌, ◌<◌, ◌+◌, ℕ, suc, List, [], length, true, false, Some, sym, ap, ◌∙◌, subst, arith}
+use Rattle.std.proofs.Common.{◌≡◌, ◌<◌, ◌+◌, ℕ, suc, List, [], length, true, false, sym, ap, ◌∙◌, subst, arith, Option}
 use Rattle.pv_dtd.specs.Plain.{PlainDtd}
 use Rattle.pv_tree.specs.Marks.{blank_mark}
 use Rattle.pv_tree.specs.declared.nodes.Mark.{Mark}
 use Rattle.pv_read.specs.Errors.{Refuses}
 use Rattle.pv_read.specs.Items.{Item}
-use Rattle.pv_read.specs.Left.{Left, Open, in_content, in_epilog, just_opened}
-use Rattle.pv_read.specs.Meaning.{MAX_DOC_BYTES, Means}
+use Rattle.pv_read.specs.Left.{Open, in_content, in_epilog, just_opened}
+use Rattle.pv_read.specs.Meaning.{DocumentRestMeans}
 use Rattle.pv_read.specs.Places.{content, place_of, may_stand_in_content}
 use Rattle.pv_read.specs.Steps.{TakesItem}
 use Rattle.pv_read.specs.declared.errors.DocError.{DocError}
-use Rattle.pv_read.proofs.Prologs.{takes_leads}
+use Rattle.pv_read.proofs.Prologs.{same_some, takes_leads}
 use Rattle.pv_read.proofs.Refusing.{Refuses-weaker}
-use Rattle.pv_valid.specs.OpenLists.{HasRead, HasRoom}
+use Rattle.pv_valid.specs.OpenLists.{HasRead, HasRoom, MOST_KIDS}
 use Rattle.pv_valid.specs.Contents.{TakesInto, ReadsContent, ReadsRoot}
 use Rattle.pv_valid.specs.declared.open.OpenLists.{OpenLists}
 use Rattle.pv_valid.proofs.Stack.{inner_name, outer_length, has_room}
 use Rattle.pv_valid.proofs.Behind.{may_stand}
-
-same_some : {x y : Left Mark} → Some x ≡ Some y → x ≡ y
-same_some e = cc
 
 -- where the next item stands
 pub place_is : (g : PlainDtd) (root : List ℕ) (lists : OpenLists) (inner : Open Mark) (outer : List (Open Mark)) → HasRead g root lists inner outer → (before : List ℕ) (many : ℕ) → many ≡ suc (length lists.outer.items)
@@ -29,19 +26,19 @@ place_is g root lists inner outer r before many is =
     let count : suc (length outer) ≡ many = sym (is ∙ ap suc (outer_length g root lists inner outer r)) in
     λ i. content (name i) (count i)
 
-pub item_stands : {root rest more before : List ℕ} {inner : Open Mark} {outer : List (Open Mark)} {i : Item} → TakesItem blank_mark root (in_content before inner outer) rest i more → may_stand_in_content i ≡ true
+pub item_stands : {most : Option ℕ} {root rest more before : List ℕ} {inner : Open Mark} {outer : List (Open Mark)} {i : Item} → TakesItem most blank_mark root (in_content before inner outer) rest i more → may_stand_in_content i ≡ true
 item_stands {before = before} {inner = inner} {outer = outer} {i = i} t = may_stand before inner outer i t.next t.stands
 
-module _ {g : PlainDtd} {root name attrs bytes : List ℕ} {first : ℕ} {lists : OpenLists} {rest : List ℕ} {count : ℕ} (r : ReadsContent g root name attrs bytes first lists rest count) where
-  pub room : first + length bytes ≤ MAX_DOC_BYTES → HasRoom lists
+module _ {most : Option ℕ} {g : PlainDtd} {root name attrs bytes : List ℕ} {first : ℕ} {lists : OpenLists} {rest : List ℕ} {count : ℕ} (r : ReadsContent most g root name attrs bytes first lists rest count) where
+  pub room : first + length bytes < MOST_KIDS → HasRoom lists
   room less = has_room g root lists r.inner r.outer r.has_read (omega (arith, r.few, r.few_kids))
 
-  pub refused_at : (e : DocError) → ((before : List ℕ) (inner : Open Mark) (outer : List (Open Mark)) → HasRead g root lists inner outer → Refuses (Means blank_mark root count (in_content before inner outer) rest) e)
-      → (before : List ℕ) → Refuses (Means blank_mark root first (in_content before (just_opened name attrs) []) bytes) e
+  pub refused_at : (e : DocError) → ((before : List ℕ) (inner : Open Mark) (outer : List (Open Mark)) → HasRead g root lists inner outer → Refuses (DocumentRestMeans most blank_mark root count (in_content before inner outer) rest) e)
+      → (before : List ℕ) → Refuses (DocumentRestMeans most blank_mark root first (in_content before (just_opened name attrs) []) bytes) e
   refused_at e refuses before = Refuses-weaker _ _ (r.leads before) e (refuses before r.inner r.outer r.has_read)
 
   module _ (new : OpenLists) (more : List ℕ) (less : length more < length rest) (next : ℕ) (next_is : next ≡ count + 1) where
-    pub one_more : TakesInto g root new false r.inner r.outer rest more → ReadsContent g root name attrs bytes first new more next
+    pub one_more : TakesInto most g root new false r.inner r.outer rest more → ReadsContent most g root name attrs bytes first new more next
     one_more t =
         let count_is : next ≡ suc count = omega arith in
         record {
@@ -53,10 +50,10 @@ module _ {g : PlainDtd} {root name attrs bytes : List ℕ} {first : ℕ} {lists 
           leads = λ before o means.
               let taken = t.taken before in
               let left_is = same_some (sym (t.is_behind.left_is before) ∙ taken.stands) in
-              r.leads before o (takes_leads count taken o (subst (λ l. Means blank_mark root (suc count) l more o) left_is (subst (λ k. Means blank_mark root k (in_content before t.is_behind.next t.is_behind.around) more o) count_is means)));
+              r.leads before o (takes_leads count taken o (subst (λ l. DocumentRestMeans most blank_mark root (suc count) l more o) left_is (subst (λ k. DocumentRestMeans most blank_mark root k (in_content before t.is_behind.next t.is_behind.around) more o) count_is means)));
         }
 
-    pub last_one : TakesInto g root new true r.inner r.outer rest more → ReadsRoot g root false name attrs bytes first new more next
+    pub last_one : TakesInto most g root new true r.inner r.outer rest more → ReadsRoot most g root false name attrs bytes first new more next
     last_one t =
         let count_is : next ≡ suc count = omega arith in
         record {
@@ -66,8 +63,8 @@ module _ {g : PlainDtd} {root name attrs bytes : List ℕ} {first : ℕ} {lists 
           leads = λ before o means.
               let taken = t.taken before in
               let left_is = same_some (sym (t.is_behind.left_is before) ∙ taken.stands) in
-              r.leads before o (takes_leads count taken o (subst (λ l. Means blank_mark root (suc count) l more o) left_is (subst (λ k. Means blank_mark root k (in_epilog before t.is_behind.tree []) more o) count_is means)));
+              r.leads before o (takes_leads count taken o (subst (λ l. DocumentRestMeans most blank_mark root (suc count) l more o) left_is (subst (λ k. DocumentRestMeans most blank_mark root k (in_epilog before t.is_behind.tree []) more o) count_is means)));
         }
 
-pub none_read : (g : PlainDtd) (root name attrs bytes : List ℕ) (first : ℕ) (lists : OpenLists) → HasRead g root lists (just_opened name attrs) [] → ReadsContent g root name attrs bytes first lists bytes first
-none_read g root name attrs bytes first lists r = record { inner = just_opened name attrs; outer = []; has_read = r; few_kids = omega arith; few = omega arith; leads = λ before o means. means }
+pub none_read : (most : Option ℕ) (g : PlainDtd) (root name attrs bytes : List ℕ) (first : ℕ) (lists : OpenLists) → HasRead g root lists (just_opened name attrs) [] → ReadsContent most g root name attrs bytes first lists bytes first
+none_read most g root name attrs bytes first lists r = record { inner = just_opened name attrs; outer = []; has_read = r; few_kids = omega arith; few = omega arith; leads = λ before o means. means }

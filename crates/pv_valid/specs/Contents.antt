@@ -1,10 +1,12 @@
 -- What was read of a root.
-use Rattle.std.specs.Prelude.{◌≡◌, ◌≤◌, ℕ, suc, ◌+◌, Bool, true, false, List, [], ◌∷◌, length, Some}
+use Rattle.std.specs.Prelude.{◌≡◌, ◌≤◌, ℕ, suc, ◌+◌, Bool, true, false, List, [], ◌∷◌, length}
+use Rattle.std.specs.Prelude.{Option, Some}
 use Rattle.pv_dtd.specs.Plain.{PlainDtd}
 use Rattle.pv_tree.specs.Plain.{Tree}
 use Rattle.pv_tree.specs.Marks.{blank_mark}
 use Rattle.pv_tree.specs.declared.nodes.Mark.{Mark}
 use Rattle.pv_read.specs.Items.{Item}
+use Rattle.pv_read.specs.Limits.{TextLimits}
 use Rattle.pv_read.specs.Left.{Open, in_content, in_epilog, just_opened, left_by}
 use Rattle.pv_read.specs.Prologs.{behind_tag}
 use Rattle.pv_read.specs.Steps.{Leads, TakesItem}
@@ -13,7 +15,7 @@ use Rattle.pv_valid.specs.OpenLists.{HasRead, HasRoot}
 use Rattle.pv_valid.specs.declared.open.OpenLists.{OpenLists}
 
 -- Behind an item in these open elements, these are open.
-pub record GoesOn (g : PlainDtd) (root : List ℕ) (lists : OpenLists)
+pub record LeavesRootOpen (g : PlainDtd) (root : List ℕ) (lists : OpenLists)
     (inner : Open Mark) (outer : List (Open Mark)) (i : Item) : Type 0 where
   pub next : Open Mark
   pub around : List (Open Mark)
@@ -31,33 +33,44 @@ pub record EndsRoot (g : PlainDtd) (root : List ℕ) (lists : OpenLists)
   pub has_root : HasRoot g root lists tree
 
 -- what is known behind an item, which makes the root whole or doesn't
-abbrev pub IsBehind : PlainDtd → List ℕ → OpenLists → Bool → Open Mark → List (Open Mark) → Item → Type 0
+abbrev pub IsBehind : PlainDtd → List ℕ → OpenLists → Bool → Open Mark → List (Open Mark) → Item →
+    Type 0
 IsBehind g root lists true inner outer i = EndsRoot g root lists inner outer i
-IsBehind g root lists false inner outer i = GoesOn g root lists inner outer i
+IsBehind g root lists false inner outer i = LeavesRootOpen g root lists inner outer i
 
 -- This item stands at the front in these open elements without fault, and this is known behind it.
-pub record TakesInto (g : PlainDtd) (root : List ℕ) (lists : OpenLists) (whole : Bool)
-    (inner : Open Mark) (outer : List (Open Mark)) (rest more : List ℕ) : Type 0 where
+pub record TakesInto (most : Option ℕ) (g : PlainDtd) (root : List ℕ) (lists : OpenLists)
+    (whole : Bool) (inner : Open Mark) (outer : List (Open Mark)) (rest more : List ℕ)
+    : Type 0 where
   pub item : Item
-  pub taken : (before : List ℕ) → TakesItem blank_mark root (in_content before inner outer) rest item more
+  pub taken : (before : List ℕ) → TakesItem most blank_mark root
+      (in_content before inner outer) rest item more
   pub is_behind : IsBehind g root lists whole inner outer item
 
 -- Items in the root, which this tag opens behind so many items, up to this rest.
-pub record ReadsContent (g : PlainDtd) (root name attrs bytes : List ℕ) (first : ℕ)
-    (lists : OpenLists) (rest : List ℕ) (count : ℕ) : Type 0 where
+pub record ReadsContent (most : Option ℕ) (g : PlainDtd) (root name attrs bytes : List ℕ)
+    (first : ℕ) (lists : OpenLists) (rest : List ℕ) (count : ℕ) : Type 0 where
   pub inner : Open Mark
   pub outer : List (Open Mark)
   pub has_read : HasRead g root lists inner outer
   pub few_kids : kids_in (inner ∷ outer) ≤ count
   pub few : count + length rest ≤ first + length bytes
   pub leads : (before : List ℕ) →
-      Leads blank_mark root first (in_content before (just_opened name attrs) []) bytes count (in_content before inner outer) rest
+      Leads most blank_mark root first
+      (in_content before (just_opened name attrs) []) bytes count
+      (in_content before inner outer) rest
 
 -- The root that this tag opens behind so many items, with what stands after it.
-pub record ReadsRoot (g : PlainDtd) (root : List ℕ) (short : Bool) (name attrs bytes : List ℕ) (first : ℕ)
-    (lists : OpenLists) (rest : List ℕ) (count : ℕ) : Type 0 where
+pub record ReadsRoot (most : Option ℕ) (g : PlainDtd) (root : List ℕ) (short : Bool)
+    (name attrs bytes : List ℕ) (first : ℕ) (lists : OpenLists) (rest : List ℕ) (count : ℕ)
+    : Type 0 where
   pub tree : Tree Mark
   pub has_root : HasRoot g root lists tree
   pub few : count + length rest ≤ first + length bytes
   pub leads : (before : List ℕ) →
-      Leads blank_mark root first (behind_tag before short name attrs) bytes count (in_epilog before tree []) rest
+      Leads most blank_mark root first (behind_tag before short name attrs) bytes
+      count (in_epilog before tree []) rest
+
+-- these limits of a text
+abbrev pub limits_of : Option ℕ → ℕ → TextLimits
+limits_of most_depth most_bytes = record { depth = most_depth; bytes = most_bytes }

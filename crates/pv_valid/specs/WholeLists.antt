@@ -1,12 +1,14 @@
 -- The lists that are whole where elements are open, in document order.
-use Rattle.std.specs.Prelude.{ℕ, ◌+◌, Bool, true, false, List, [], ◌∷◌, ◌++◌, length, Option, Some, None}
+use Rattle.std.specs.Prelude.{ℕ, ◌+◌, Bool, true, false, List, [], ◌∷◌, ◌++◌, length, Option, Some}
+use Rattle.std.specs.Prelude.{None}
 use Rattle.std.specs.List.{AllByRecursion}
 use Rattle.pv_tree.specs.Plain.{forest_of}
 use Rattle.pv_tree.specs.Lists.{Listed, IsFirstNot, lists_from}
 use Rattle.pv_tree.specs.declared.nodes.Mark.{Mark}
 use Rattle.pv_read.specs.Left.{Open}
 
--- where the next node stands in these open elements, innermost first: in the innermost of them, or as the root
+-- where the next node stands in these open elements, innermost first: in the innermost of them, or
+-- as the root
 abbrev pub next_path : List (Open Mark) → List ℕ
 next_path [] = 0 ∷ []
 next_path (o ∷ os) = next_path os ++ length o.kids ∷ []

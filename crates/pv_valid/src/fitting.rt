@@ -24,7 +24,8 @@ pub fn fits(
     word: &[Token],
 ) -> Result<bool, NoMemory>
     ensures { (owner : Option ℕ) (kids : Forest Mark)
-        → option_map plain_model (option_copied model.entry) ≡ option_and_then (model_of (plain_dtd dtd.now)) owner
+        → option_map plain_model (option_copied model.entry)
+        ≡ option_and_then (model_of (plain_dtd dtd.now)) owner
         → IsTrue has_kids ↔ (kids ≡ no_trees → ⊥)
         → map plain_token word.now ≡ word_of (plain_dtd dtd.now) kids
         → IfOk result (λ fits. IsTrue fits ↔ IsOwnValid (plain_dtd dtd.now) owner kids) }

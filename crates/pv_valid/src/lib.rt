@@ -1,8 +1,11 @@
-//! Whether a document is valid, in one pass over its bytes and without a tree (XML 1.0, section 3, Element Valid).
+//! Whether a document is valid, in one pass over its bytes and without a tree (XML 1.0, section 3,
+//! Element Valid).
 //!
-//! `first_invalid_in` answers as `first_invalid` of `pv_tree` does of the document that `read_doc` of `pv_read` reads from the bytes, and
-//! refuses what `read_doc` refuses, with its numbers. Of each open element it keeps the word of its list so far (`IsOpen`,
-//! specs/OpenLists.antt); an element's list is judged where the element ends.
+//! `first_invalid_in` answers as `first_invalid` of `pv_tree` does of the document that `read_doc`
+//! of `pv_read` reads from the bytes, and refuses what `read_doc` refuses, with its numbers;
+//! `first_invalid_within` does so within other limits. Of each open element the word of its list so
+//! far is kept (`IsOpen`, specs/OpenLists.antt); an element's list is judged where the element
+//! ends.
 #![tactic(auto)]
 
 mod content;
@@ -11,4 +14,4 @@ mod items;
 mod open;
 mod reading;
 
-pub use reading::first_invalid_in;
+pub use reading::{first_invalid_in, first_invalid_within};

@@ -1,6 +1,7 @@
 //! The lists of the open elements, as far as they were read.
 
-ghost use Rattle.std.specs.Prelude.{◌≡◌, ◌≤◌, ◌<◌, ◌+◌, ◌↔◌, ℕ, List, [], ◌∷◌, ◌++◌, length, map, true, not, IsTrue, OnOk, IfOk};
+ghost use Rattle.std.specs.Prelude.{◌≡◌, ◌≤◌, ◌<◌, ◌+◌, ◌↔◌, ℕ, List, [], ◌∷◌, ◌++◌, length, map};
+ghost use Rattle.std.specs.Prelude.{true, not, IsTrue, OnOk, IfOk};
 ghost use Rattle.std.specs.List.{list_any};
 ghost use Rattle.std.specs.Option.{option_copied, option_map, option_and_then, option_to_list};
 ghost use Rattle.pv_chars.specs.Spaces.{is_space};
@@ -16,7 +17,7 @@ ghost use Rattle.pv_read.specs.Left.{Open, just_opened};
 ghost use Rattle.pv_read.specs.PlainItems.{plain_item};
 ghost use Rattle.pv_read.specs.Places.{may_stand_in_content};
 ghost use Rattle.pv_valid.specs.Contents.{IsBehind};
-ghost use Rattle.pv_valid.specs.OpenLists.{HasRead, HasRoom, HasEnded, ended, MOST_KIDS};
+ghost use Rattle.pv_valid.specs.OpenLists.{HasRead, HasRoom, HasEnded, ended_element, MOST_KIDS};
 ghost use Rattle.pv_valid.specs.WholeLists.{next_path, whole_lists, TellsFirst};
 ghost use Rattle.pv_valid.specs.declared.open.OpenList.{OpenList};
 
@@ -48,7 +49,8 @@ impl<'a> OpenList<'a> {
     pub fn of(dtd: &'a Dtd, name: &'a [u8], start: usize, is_behind: bool) -> OpenList<'a>
         ensures name { result.name.now ≡ name.now }
         ensures model { option_map plain_model (option_copied result.model)
-            ≡ option_and_then (model_of (plain_dtd dtd.now)) (number_of (plain_dtd dtd.now) name.now) }
+            ≡ option_and_then (model_of (plain_dtd dtd.now))
+            (number_of (plain_dtd dtd.now) name.now) }
         ensures token { plain_token result.token ≡ token (number_of (plain_dtd dtd.now) name.now) }
         ensures kids { result.kids ≡ 0 }
         ensures start { result.start ≡ start }
@@ -75,9 +77,11 @@ impl<'a> OpenList<'a> {
     }
 }
 
-// The places of the kids that are open in the document node and in these elements, outermost first.
+// The places of the kids that are open in the document node and in these elements, outermost
+// first.
 fn places_in(alloc: Global, outer: &[OpenList<'_>]) -> Result<Vec<u32>, NoMemory>
-    ensures { IfOk result (λ places. places.items ≡ 0 ∷ map (λ (list : OpenList). list.kids) outer.now) }
+    ensures { IfOk result (λ places. places.items ≡ 0
+        ∷ map (λ (list : OpenList). list.kids) outer.now) }
 {
     let mut places = Vec::new(alloc);
     places.push(0)?;
@@ -87,8 +91,9 @@ fn places_in(alloc: Global, outer: &[OpenList<'_>]) -> Result<Vec<u32>, NoMemory
     Ok(places)
 }
 
-/// The list of the innermost open element, those around it, outermost first, the tokens of their words, one behind another, and the path
-/// of the first list that is whole and isn't valid by itself.
+/// The list of the innermost open element, those around it, outermost first, the tokens of their
+/// words, one behind another, and the path of the first list that is whole and isn't valid by
+/// itself.
 #[derive(Drop)]
 pub struct OpenLists<'a> {
     pub inner: OpenList<'a>,
@@ -100,7 +105,8 @@ pub struct OpenLists<'a> {
 impl<'a> OpenLists<'a> {
     /// Where the root begins.
     pub fn of(alloc: Global, dtd: &'a Dtd, name: &'a [u8]) -> OpenLists<'a>
-        ensures read { (root attrs : List ℕ) → HasRead (plain_dtd dtd.now) root result (just_opened name.now attrs) [] }
+        ensures read { (root attrs : List ℕ) →
+            HasRead (plain_dtd dtd.now) root result (just_opened name.now attrs) [] }
         ensures room { HasRoom result }
     {
         OpenLists {
@@ -115,7 +121,8 @@ impl<'a> OpenLists<'a> {
     fn open(&mut self, dtd: &'a Dtd, name: &'a [u8]) -> Result<(), NoMemory>
         ensures read { (root attrs : List ℕ) (inner : Open Mark) (outer : List (Open Mark)) →
             HasRead (plain_dtd dtd.now) root self.old inner outer →
-            OnOk result (HasRead (plain_dtd dtd.now) root self.new (just_opened name.now attrs) (inner ∷ outer)) }
+            OnOk result (HasRead (plain_dtd dtd.now) root self.new (just_opened name.now attrs)
+            (inner ∷ outer)) }
         ensures room { HasRoom self.old → OnOk result (HasRoom self.new) }
     {
         self.outer.push(self.inner)?;
@@ -126,9 +133,11 @@ impl<'a> OpenLists<'a> {
     // One more kid of the innermost open element, with the token that it has.
     fn add_kid(&mut self, token: Option<Token>) -> Result<(), NoMemory>
         requires { self.old.inner.kids < MOST_KIDS }
-        ensures inner { OnOk result (self.new.inner ≡ record self.old.inner { kids = self.old.inner.kids + 1 }) }
+        ensures inner { OnOk result (self.new.inner
+            ≡ record self.old.inner { kids = self.old.inner.kids + 1 }) }
         ensures outer { self.new.outer ≡ self.old.outer }
-        ensures tokens { OnOk result (self.new.tokens.items ≡ self.old.tokens.items ++ option_to_list token) }
+        ensures tokens { OnOk result (self.new.tokens.items ≡ self.old.tokens.items
+            ++ option_to_list token) }
         ensures found { self.new.found ≡ self.old.found }
     {
         self.inner.kids += 1;
@@ -143,7 +152,8 @@ impl<'a> OpenLists<'a> {
 
     // The path of the innermost open element.
     fn path(&self, alloc: Global) -> Result<Path, NoMemory>
-        ensures { IfOk result (λ path. path ≡ 0 ∷ map (λ (list : OpenList). list.kids) self.now.outer.items) }
+        ensures { IfOk result (λ path. path ≡ 0
+            ∷ map (λ (list : OpenList). list.kids) self.now.outer.items) }
     {
         let places = places_in(alloc, &self.outer)?;
         Path::new(alloc, &places)
@@ -155,19 +165,24 @@ impl<'a> OpenLists<'a> {
         ensures { (root : List ℕ) (inner : Open Mark) (outer : List (Open Mark)) →
             HasRead (plain_dtd dtd.now) root self.now inner outer →
             IfOk result (λ valid. IsTrue valid ↔
-            IsOwnValid (plain_dtd dtd.now) (number_of (plain_dtd dtd.now) inner.name) (forest_of inner.kids)) }
+            IsOwnValid (plain_dtd dtd.now) (number_of (plain_dtd dtd.now) inner.name)
+            (forest_of inner.kids)) }
     {
         let word = &self.tokens[self.inner.start..];
         fits(alloc, dtd, self.inner.model, self.inner.kids > 0, word)
     }
 
-    // Finds the list of the innermost open element, where it is the first that isn't valid by itself.
+    // Finds the list of the innermost open element, where it is the first that isn't valid by
+    // itself.
     fn judge(&mut self, alloc: Global, dtd: &Dtd) -> Result<(), NoMemory>
         requires { self.old.inner.start ≤ length self.old.tokens.items }
-        ensures found { (root attrs : List ℕ) (inner : Open Mark) (outer : List (Open Mark)) (ending : Ending) (mark : Mark) →
+        ensures found { (root attrs : List ℕ) (inner : Open Mark) (outer : List (Open Mark))
+            (ending : Ending) (mark : Mark) →
             HasRead (plain_dtd dtd.now) root self.old inner outer →
             OnOk result (TellsFirst (IsValidList (plain_dtd dtd.now) root)
-            (whole_lists outer ++ lists_at (next_path outer) (ended inner attrs ending mark)) self.new.found) }
+            (whole_lists outer
+            ++ lists_at (next_path outer) (ended_element inner attrs ending mark))
+            self.new.found) }
         ensures inner { self.new.inner ≡ self.old.inner }
         ensures outer { self.new.outer ≡ self.old.outer }
         ensures tokens { self.new.tokens ≡ self.old.tokens }
@@ -182,12 +197,15 @@ impl<'a> OpenLists<'a> {
         Ok(())
     }
 
-    /// The innermost open element ends: it is a kid of the one around it, or the root, and then this says true.
+    /// The innermost open element ends: it is a kid of the one around it, or the root, and then
+    /// this says true.
     pub fn close(&mut self, alloc: Global, dtd: &Dtd) -> Result<bool, NoMemory>
         requires { HasRoom self.old }
-        ensures { (root attrs : List ℕ) (inner : Open Mark) (outer : List (Open Mark)) (ending : Ending) (mark : Mark) →
+        ensures { (root attrs : List ℕ) (inner : Open Mark) (outer : List (Open Mark))
+            (ending : Ending) (mark : Mark) →
             HasRead (plain_dtd dtd.now) root self.old inner outer →
-            IfOk result (λ whole. HasEnded (plain_dtd dtd.now) root self.new whole outer (ended inner attrs ending mark)) }
+            IfOk result (λ whole. HasEnded (plain_dtd dtd.now) root self.new whole outer
+            (ended_element inner attrs ending mark)) }
     {
         self.judge(alloc, dtd)?;
         let token = self.inner.token;
@@ -207,7 +225,8 @@ impl<'a> OpenLists<'a> {
         requires known { HasKnownReferences (plain_item item.now) }
         ensures { (root : List ℕ) (inner : Open Mark) (outer : List (Open Mark)) →
             HasRead (plain_dtd dtd.now) root self.old inner outer →
-            IfOk result (λ whole. IsBehind (plain_dtd dtd.now) root self.new whole inner outer (plain_item item.now)) }
+            IfOk result (λ whole. IsBehind (plain_dtd dtd.now) root self.new whole inner outer
+            (plain_item item.now)) }
     {
         match item {
             Item::StartTag(tag) => {

@@ -1,3 +1,4 @@
+-- of this crate:
 pub mod Spelled
 pub mod Merged
 pub mod Runs

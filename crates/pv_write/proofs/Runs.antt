@@ -1,9 +1,8 @@
 -- Runs of units, as texts.
-use Rattle.std.proofs.Common.{◌≡◌, ◌≢◌, ℕ, List, [], ◌∷◌, ◌++◌, true, false, not, append-nil, refl, sym, subst}
+use Rattle.std.proofs.Common.{◌≡◌, ◌≢◌, ℕ, List, [], ◌∷◌, ◌++◌, true, false, not, append-nil, refl, subst}
 use Rattle.std.proofs.lemmas.Bool.{and_parts, not-true}
 use Rattle.pv_chars.specs.Texts.{joined, begins_close_mark, holds_close_mark}
-use Rattle.pv_chars.specs.Units.{AllUnits, units_in}
-use Rattle.pv_chars.proofs.CutLemmas.{units_in-joined}
+use Rattle.pv_chars.specs.Units.{AllUnits}
 use Rattle.pv_chars.proofs.MeansLemmas.{AllUnits-append, joined-append}
 use Rattle.pv_tree.specs.Attributes.{IsCharacterData, IsKnownReference}
 use Rattle.pv_tree.specs.Legal.{is_open}
@@ -21,10 +20,10 @@ some_append (unit ∷ units) after some = λ e. absurd cc
 
 -- The bytes are a text of these units.
 abbrev pub IsRun : List (List ℕ) → List ℕ → Type 0
-IsRun units bytes = IsCharacterData IsKnownReference bytes × (units ≡ units_in bytes)
+IsRun units bytes = IsCharacterData IsKnownReference bytes × AllUnits units × (bytes ≡ joined units)
 
 run : (units : List (List ℕ)) → AllUnits units → units ≢ [] → holds_close_mark units ≡ false → IsRun units (joined units)
-run units all some none = (units_are_data units all some none, sym (units_in-joined units all))
+run units all some none = (units_are_data units all some none, all, refl)
 
 -- these units alone
 pub run_alone : (units : List (List ℕ)) → AllUnits units → units ≢ [] → is_open units [] ≡ true → IsRun units (joined units)

@@ -2,7 +2,6 @@
 use Rattle.std.proofs.Common.{◌≡◌, ℕ, List, refl, sym}
 use Rattle.pv_tree.specs.Plain.{short, tagged, Tree, element, text_node, cdata_node, misc_node, Forest, no_trees, tree, PlainDoc}
 use Rattle.pv_read.specs.Grammar.{SpellsNode, SpellsContent, SpellsDocument}
-use Rattle.pv_read.proofs.DocumentFacts.{data_joined}
 use Rattle.pv_write.specs.Text.{tree_text, forest_text, doc_text}
 
 mutual
@@ -10,7 +9,7 @@ mutual
   tree_text-spelled (element x attrs short kids mark) bytes (name, are, none, whole) = sym whole
   tree_text-spelled (element x attrs (tagged gap) kids mark) bytes (content, name, are, white, spells, whole) =
       rw (whole, forest_text-spelled kids content spells) refl
-  tree_text-spelled (text_node units) bytes (chars, is_units) = rw is_units (data_joined bytes chars)
+  tree_text-spelled (text_node units) bytes (chars, all, whole) = sym whole
   tree_text-spelled (cdata_node section) bytes (is, same) = sym same
   tree_text-spelled (misc_node misc) bytes (is, same) = sym same
 

@@ -1,8 +1,8 @@
 -- Every document is written as a text with the same view.
-use Rattle.std.proofs.Common.{◌≡◌, ◌≢◌, ℕ, List, [], ◌++◌, ◌&&◌, true, IsTrue, refl, sym, ap, ◌∙◌, append_assoc, append-nil}
+use Rattle.std.proofs.Common.{◌≡◌, ◌≢◌, ℕ, List, [], ◌++◌, ◌&&◌, true, false, IsTrue, refl, sym, ap, ◌∙◌, append_assoc, append-nil}
 use Rattle.std.proofs.lemmas.Bool.{and_parts}
 use Rattle.pv_chars.specs.Names.{is_name}
-use Rattle.pv_chars.specs.Texts.{joined}
+use Rattle.pv_chars.specs.Texts.{joined, holds_close_mark}
 use Rattle.pv_chars.specs.Units.{AllUnits}
 use Rattle.pv_chars.proofs.NameLemmas.{IsName-is_name}
 use Rattle.pv_tree.specs.Plain.{short, tagged, Tree, element, text_node, cdata_node, misc_node, Forest, no_trees, tree, is_element, PlainDoc}
@@ -13,7 +13,7 @@ use Rattle.pv_tree.proofs.Decidable.{had}
 use Rattle.pv_tree.proofs.DecidedForms.{epilog, legal}
 use Rattle.pv_dtd.specs.Hedge.{done}
 use Rattle.pv_read.specs.Grammar.{SpellsNode, SpellsContent, IsElement}
-use Rattle.pv_read.proofs.DocumentFacts.{data_are_units, data_joined, data_open, no_front}
+use Rattle.pv_read.proofs.DocumentFacts.{data_open, no_front, units_are_cut}
 use Rattle.pv_write.specs.Text.{tree_text, forest_text, doc_text}
 use Rattle.pv_write.specs.Writes.{IsLegalDocument, SpellsView}
 use Rattle.pv_write.proofs.Merged.{put, merged, merged_all, view_before-merged, depth_of-merged, front_units-merged}
@@ -23,12 +23,11 @@ use Rattle.pv_write.proofs.Runs.{IsRun, run_alone, run_with}
 text_put : {M : Type 0} (units : List (List ℕ)) (kids : Forest M) (bytes : List ℕ) → SpellsContent kids bytes → AllUnits units → units ≢ [] → is_open units (front_units kids) ≡ true
     → SpellsContent (put (text_node units) kids) (joined units ++ bytes)
 text_put units no_trees bytes spells all some opens = (joined units, bytes, run_alone units all some opens, refl, spells, refl)
-text_put units (tree (text_node more) kids) bytes (first, others, (chars, is_more), whole_run, below, whole) all some opens =
+text_put units (tree (text_node more) kids) bytes (first, others, (chars, all_more, is_first), whole_run, below, whole) all some opens =
     let alone : more ++ front_units kids ≡ more = ap (λ rest. more ++ rest) (no_front kids whole_run) ∙ append-nil more in
     let opens_more : is_open units more ≡ true = rw alone at opens in
-    let all_more : AllUnits more = rw is_more (data_are_units first chars) in
-    let same : joined more ≡ first = rw is_more (data_joined first chars) in
-    let run : IsRun (units ++ more) (joined units ++ first) = rw same at (run_with units more all some all_more opens_more (rw is_more (data_open first chars))) in
+    let closed : holds_close_mark more ≡ false = rw (units_are_cut more first all_more is_first) (data_open first chars) in
+    let run : IsRun (units ++ more) (joined units ++ first) = rw (← is_first) at (run_with units more all some all_more opens_more closed) in
     (joined units ++ first, others, run, whole_run, below, ap (λ rest. joined units ++ rest) whole ∙ sym (append_assoc (joined units) first others))
 text_put units (tree (element x attrs ending nodes mark) kids) bytes spells all some opens = (joined units, bytes, run_alone units all some opens, refl, spells, refl)
 text_put units (tree (cdata_node section) kids) bytes spells all some opens = (joined units, bytes, run_alone units all some opens, refl, spells, refl)

@@ -1,12 +1,14 @@
 -- The text of a tree and of a document.
 use Rattle.std.specs.Prelude.{ℕ, List, [], ◌++◌, codes}
 use Rattle.pv_chars.specs.Texts.{joined}
-use Rattle.pv_tree.specs.Plain.{short, tagged, Tree, element, text_node, cdata_node, misc_node, Forest, no_trees, tree, PlainDoc}
+use Rattle.pv_tree.specs.Plain.{short, tagged, Tree, element, text_node, cdata_node, misc_node}
+use Rattle.pv_tree.specs.Plain.{Forest, no_trees, tree, PlainDoc}
 
 abbrev mutual
   pub tree_text : {M : Type 0} → Tree M → List ℕ
   tree_text (element x attrs short kids mark) = codes "<" ++ x ++ attrs ++ codes "/>"
-  tree_text (element x attrs (tagged gap) kids mark) = codes "<" ++ x ++ attrs ++ codes ">" ++ forest_text kids ++ codes "</" ++ x ++ gap ++ codes ">"
+  tree_text (element x attrs (tagged gap) kids mark) = codes "<" ++ x ++ attrs ++ codes ">"
+      ++ forest_text kids ++ codes "</" ++ x ++ gap ++ codes ">"
   tree_text (text_node units) = joined units
   tree_text (cdata_node bytes) = bytes
   tree_text (misc_node bytes) = bytes

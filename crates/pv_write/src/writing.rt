@@ -12,11 +12,14 @@ use pv_chars::{Bytes, NoMemory};
 use pv_tree::{Doc, End, Node};
 use std::alloc::Global;
 
-/// The bytes of a document. Texts side by side are written as one run. The one error is want of memory.
+/// The bytes of a document. Texts side by side are written as one run. The one error is want of
+/// memory.
 pub fn doc_bytes(alloc: Global, doc: &Doc) -> Result<Vec<u8>, NoMemory>
     ensures text { IfOk result (λ bytes. bytes.items ≡ doc_text (plain_doc doc.now)) }
-    ensures read { IfOk result (λ bytes. (root text : List ℕ) → SpellsDocument root text (plain_doc doc.now) → bytes.items ≡ text) }
-    ensures view { IfOk result (λ bytes. (root : List ℕ) → IsProlog root doc.now.before → SpellsView root bytes.items (plain_doc doc.now)) }
+    ensures read { IfOk result (λ bytes. (root text : List ℕ) →
+        SpellsDocument root text (plain_doc doc.now) → bytes.items ≡ text) }
+    ensures view { IfOk result (λ bytes. (root : List ℕ) → IsProlog root doc.now.before →
+        SpellsView root bytes.items (plain_doc doc.now)) }
 {
     let mut out = Vec::new(alloc);
     out.extend_from_slice(doc.before.as_slice())?;
@@ -81,7 +84,8 @@ fn write_start(name: &Bytes, attrs: &Bytes, out: &mut Vec<u8>) -> Result<(), NoM
 }
 
 fn write_end(name: &Bytes, gap: &Bytes, out: &mut Vec<u8>) -> Result<(), NoMemory>
-    ensures { OnOk result (out.new.items ≡ out.old.items ++ (codes "</" ++ name.now ++ gap.now ++ codes ">")) }
+    ensures { OnOk result (out.new.items ≡ out.old.items
+        ++ (codes "</" ++ name.now ++ gap.now ++ codes ">")) }
 {
     out.extend_from_slice(b"</")?;
     out.extend_from_slice(name.as_slice())?;

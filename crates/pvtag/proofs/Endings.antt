@@ -1,20 +1,28 @@
--- How a run may end, whatever its devices hold.
-use Rattle.std.proofs.Common.{◌≡◌, ◌⊎◌, inl, inr, ℕ, List, Option}
+-- A run, apart from what its input is.
+use Rattle.std.proofs.Common.{ℕ, List, Option, Some, None, refl}
 use Rattle.pv_cli.specs.CommandLine.{PlainCommandLine}
-use Rattle.pv_cli.specs.Course.{RunEnding}
-use Rattle.pv_cli.specs.Program.{Devices, EndsLike, IsCutOff, Runs, Writes, wrote, cut_off, status_of}
+use Rattle.pv_cli.specs.Devices.{Devices, InputNow}
+use Rattle.pv_cli.specs.Program.{Runs, TakesInput}
 use Rattle.pv_cli.specs.declared.status.Status.{Status}
-use Rattle.pv_cli.specs.declared.status.Status.TheVariants.{WriteFault}
+use Rattle.pvtag.specs.Here.{all_told_of, told_of}
 
-is_status : (ending : RunEnding) (old new : Option (List ℕ)) (before after : ℕ) (status : Status) → Writes ending old new before after status →
-    (status ≡ status_of ending) ⊎ ((out : List ℕ) × IsCutOff ending out × (status ≡ WriteFault))
-is_status ending old new before after status (wrote whole is written stays) = inl is
-is_status ending old new before after status (cut_off out cuts fault front rose) = inr (out, cuts, fault)
+taken_so : {S : Type 0} (taken : Option (List ℕ)) (before after : InputNow S) → TakesInput taken before after → TakesInput taken (told_of before) (told_of after)
+taken_so None before after takes = refl
+taken_so (Some bytes) before after takes = takes
 
-pub ends_like : {S : Type 0} (line : Option PlainCommandLine) (before after : Devices S) (status : Status) → Runs line before after status → EndsLike line status
-ends_like line before after status run = record {
+pub runs_so : {S : Type 0} (line : Option PlainCommandLine) (before after : Devices S) (status : Status) → Runs line before after status → Runs line (all_told_of before) (all_told_of after) status
+runs_so line before after status run = record {
   files = run.files;
+  are_files = run.are_files;
   course = run.course;
   is_defined = run.is_defined;
-  is_status = is_status run.course.ending _ _ _ _ status run.shows.output;
+  shelf = run.shelf;
+  streams = record {
+    input = run.streams.input;
+    taken = taken_so run.course.taken before.input after.input run.streams.taken;
+    asked = run.streams.asked;
+    at_end = run.streams.at_end;
+    output = run.streams.output;
+  };
+  checks = run.checks;
 }

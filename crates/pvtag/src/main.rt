@@ -1,12 +1,15 @@
-//! The program over the machine's files and streams: `run` ends with the exit status of what `pvtag` answers, whatever the devices are.
+//! The program over the machine's files and streams: `run` ends with the exit status of what
+//! `pvtag` answers, whatever the devices are.
 #![tactic(auto)]
 
 ghost use Rattle.std.specs.Prelude.{◌≡◌, ◌<◌};
 ghost use Rattle.std.specs.Process.{exit_status};
 ghost use Rattle.pv_cli.specs.CommandLine.{command_line_of};
-ghost use Rattle.pv_cli.specs.Program.{EndsLike, Runs, devices};
+ghost use Rattle.pv_cli.specs.Devices.{devices, input_at, output_at, shelf_at};
+ghost use Rattle.pv_cli.specs.Program.{Runs};
 ghost use Rattle.pv_cli.specs.Status.{code_of};
 ghost use Rattle.pv_io.specs.Files.{byte_lists, fetch_names};
+ghost use Rattle.pvtag.specs.Here.{RunsHere};
 
 use pv_cli::{Status, pvtag};
 use pv_io::{FolderShelf, ReadSource, Shelf, Sink, Source, WriteSink};
@@ -41,18 +44,21 @@ fn run<H: Shelf, S: Source, K: Sink, L: Ledger>(
     steps: &mut Steps<L>,
 ) -> ExitCode
     requires { H.names shelf.old ≡ fetch_names words.now }
-    ensures { (status : Status) × (exit_status result ≡ code_of status) × Runs (command_line_of (byte_lists words.now))
-        (devices (H.files shelf.old) (H.faults shelf.old) input.old (S.left input.old)
-        (S.faults input.old) (K.written out.old) (K.faults out.old) steps.old)
-        (devices (H.files shelf.new) (H.faults shelf.new) input.new (S.left input.new)
-        (S.faults input.new) (K.written out.new) (K.faults out.new) steps.new) status }
+    ensures { (status : Status) × (exit_status result ≡ code_of status) ×
+        Runs (command_line_of (byte_lists words.now))
+        (devices (shelf_at (H.files shelf.old) (H.calls shelf.old) (H.faults shelf.old))
+        (input_at input.old (S.left input.old) (S.calls input.old) (S.faults input.old))
+        (output_at (K.written out.old) (K.faults out.old)) steps.old)
+        (devices (shelf_at (H.files shelf.new) (H.calls shelf.new) (H.faults shelf.new))
+        (input_at input.new (S.left input.new) (S.calls input.new) (S.faults input.new))
+        (output_at (K.written out.new) (K.faults out.new)) steps.new) status }
 {
     let status = pvtag(rt, alloc, words, shelf, input, out, steps);
     ExitCode::from(status.code())
 }
 
-// The same over the machine's files, its input and its output: what these hold isn't known, but the exit status is one with which the
-// command line may end.
+// The same over the machine's files, its input and its output: what these hold isn't told, but what
+// their counts show is that of a run.
 fn run_here<L: Ledger, R: Files + AllocGlobal + Input + Print + Threads + Sync>(
     rt: &R,
     words: &[String],
@@ -62,7 +68,7 @@ fn run_here<L: Ledger, R: Files + AllocGlobal + Input + Print + Threads + Sync>(
     requires parts { blank.parts ≡ L.parts }
     requires some { 0 < L.parts }
     ensures { (status : Status) × (exit_status result ≡ code_of status)
-        × EndsLike (command_line_of (byte_lists words.now)) status }
+        × RunsHere (command_line_of (byte_lists words.now)) status }
 {
     let mut shelf = FolderShelf::new(rt, words);
     let mut input = ReadSource::new(rt.reader());

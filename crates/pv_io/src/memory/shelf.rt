@@ -1,8 +1,11 @@
 //! Files in memory.
 
-ghost use Rattle.std.specs.Prelude.{◌≡◌, ◌≤◌, ◌<◌, ◌↔◌, ◌⊎◌, [], map, length, Some, IfOk, IsNone, IsSome, IfSome, Contains, vec_len, string_bytes, Err};
+ghost use Rattle.std.specs.Prelude.{◌≡◌, ◌≤◌, ◌<◌, ◌↔◌, ◌⊎◌, [], map, length, Some, IfOk, IsNone};
+ghost use Rattle.std.specs.Prelude.{IsSome, IfSome, Contains, vec_len, string_bytes, Err};
 ghost use Rattle.std.specs.Option.{option_map};
-ghost use Rattle.pv_io.specs.Files.{FetchTells, FetchCountsFault, file_named, named_files, byte_lists, is_fault, HoldsMore};
+ghost use Rattle.pv_io.specs.Causes.{MadeCalls};
+ghost use Rattle.pv_io.specs.Files.{FetchTells, FetchCountsFault, file_named, named_files};
+ghost use Rattle.pv_io.specs.Files.{byte_lists, is_fault, HoldsMore};
 ghost use Rattle.pv_io.specs.Memory.{no_calls, after_call, FetchFaults};
 
 use super::calls::Calls;
@@ -25,10 +28,14 @@ impl Model for MemShelf {
 
     ghost Value = { HeldFiles };
 
-    ghost view = { λ s. record { names = byte_lists s.names.items; files = named_files s.files.items; calls = s.calls } };
+    ghost view = { λ s. record {
+      names = byte_lists s.names.items;
+      files = named_files s.files.items;
+      calls = s.calls;
+    } };
 }
 
-fn copied_names(alloc: Global, names: &[String]) -> Result<Vec<String>, AllocError>
+fn copy_names(alloc: Global, names: &[String]) -> Result<Vec<String>, AllocError>
     ensures { IfOk result (λ v. byte_lists v.items ≡ byte_lists names.now) }
 {
     let mut copies = Vec::new(alloc);
@@ -38,7 +45,7 @@ fn copied_names(alloc: Global, names: &[String]) -> Result<Vec<String>, AllocErr
     Ok(copies)
 }
 
-fn copied_files(
+fn copy_files(
     alloc: Global,
     files: &[(String, Vec<u8>)],
 ) -> Result<Vec<(String, Vec<u8>)>, AllocError>
@@ -71,11 +78,16 @@ impl MemShelf {
         files: &[(String, Vec<u8>)],
         failing: &[u64],
     ) -> Result<MemShelf, NoMemory>
-        ensures { IfOk result (λ s. s ≡ record { names = byte_lists names.now; files = named_files files.now; calls = no_calls failing.now }) }
+        ensures { IfOk result
+            (λ s. s ≡ record {
+              names = byte_lists names.now;
+              files = named_files files.now;
+              calls = no_calls failing.now;
+            }) }
     {
         Ok(MemShelf {
-            names: copied_names(alloc, names)?,
-            files: copied_files(alloc, files)?,
+            names: copy_names(alloc, names)?,
+            files: copy_files(alloc, files)?,
             calls: Calls::new(alloc, failing)?,
         })
     }
@@ -88,17 +100,23 @@ impl Shelf for MemShelf {
 
     ghost faults = { λ s. s.calls.faults };
 
+    ghost calls = { λ s. s.calls.made };
+
     fn fetch(&mut self, alloc: Global, name: &str, most: usize) -> Result<Vec<u8>, FetchError>
         ensures bound { IfOk result (λ v. vec_len v ≤ most) }
         ensures bytes { FetchTells (Some self.old.files) name.now most result }
         ensures cause { FetchCountsFault self.old.calls.faults self.new.calls.faults result }
+        ensures calls { MadeCalls 1 self.old.calls.made self.new.calls.made }
         ensures names { self.new.names ≡ self.old.names }
         ensures files { self.new.files ≡ self.old.files }
 
-        ensures too_long { (result ≡ Err FetchError.TooLong) ↔ HoldsMore (file_named name.now self.old.files) most }
-        ensures fails { (result ≡ Err FetchError.Failed) ↔ FetchFaults (file_named name.now self.old.files) most self.old.calls }
-        ensures calls { self.new.calls ≡ after_call (is_fault result) self.old.calls }
-        ensures quiet { self.old.calls.failing ≡ [] → IsSome (file_named name.now self.old.files) → self.new.calls.faults ≡ self.old.calls.faults }
+        ensures too_long { (result ≡ Err FetchError.TooLong) ↔
+            HoldsMore (file_named name.now self.old.files) most }
+        ensures fails { (result ≡ Err FetchError.Failed) ↔
+            FetchFaults (file_named name.now self.old.files) most self.old.calls }
+        ensures counted { self.new.calls ≡ after_call (is_fault result) self.old.calls }
+        ensures quiet { self.old.calls.failing ≡ [] → IsSome (file_named name.now self.old.files) →
+            self.new.calls.faults ≡ self.old.calls.faults }
     {
         let failing = self.calls.begin();
         let Some(bytes) = file_of(name, &self.files) else {

@@ -1,6 +1,7 @@
 //! A sink in memory.
 
-ghost use Rattle.std.specs.Prelude.{◌≡◌, ◌≤◌, ◌<◌, ◌-◌, ◌↔◌, ◌⊎◌, min, length, Some, IfOk, IsErr, is_err, []};
+ghost use Rattle.std.specs.Prelude.{◌≡◌, ◌≤◌, ◌<◌, ◌-◌, ◌↔◌, ◌⊎◌, min, length, Some, IfOk, IsErr};
+ghost use Rattle.std.specs.Prelude.{is_err, []};
 ghost use Rattle.std.specs.Io.KnownBytes.{WriteAppends};
 ghost use Rattle.pv_io.specs.Causes.{CountsFault, TakesSome};
 ghost use Rattle.pv_io.specs.Memory.{no_calls, after_call, FailsNow};
@@ -17,7 +18,7 @@ use std::marker::Model;
 pub struct MemSink {
     bytes: Vec<u8>,
     room: usize,
-    piece: usize,
+    most: usize,
     calls: Calls,
 }
 
@@ -27,27 +28,34 @@ impl Model for MemSink {
 
     ghost Value = { HeldOutput };
 
-    ghost view = { λ s. record { bytes = s.bytes.items; room = s.room; piece = s.piece; calls = s.calls } };
+    ghost view = { λ s. record {
+      bytes = s.bytes.items;
+      room = s.room;
+      most = s.most;
+      calls = s.calls;
+    } };
 
-    ghost invariant = { λ s. (vec_len s.bytes ≤ s.room) × (s.room ≤ vec_capacity s.bytes) × (0 < s.piece) };
+    ghost invariant = { λ s. (vec_len s.bytes ≤ s.room) × (s.room ≤ vec_capacity s.bytes) × (0 < s.most) };
 }
 
 impl MemSink {
-    /// `room` is the most bytes that the sink holds, all taken here. `piece` is the most bytes of a
-    /// call, and `failing` has the numbers, from 0, of the calls that fail.
+    /// `room` is the most bytes that the sink holds, all taken here. `most` is the most bytes of
+    /// a call, and `failing` has the numbers, from 0, of the calls that fail.
     pub fn new(
         alloc: Global,
         room: usize,
-        piece: usize,
+        most: usize,
         failing: &[u64],
     ) -> Result<MemSink, NoMemory>
-        requires { 0 < piece }
-        ensures { IfOk result (λ s. s ≡ record { bytes = []; room = room; piece = piece; calls = no_calls failing.now }) }
+        requires { 0 < most }
+        ensures { IfOk result
+            (λ s. s ≡
+            record { bytes = []; room = room; most = most; calls = no_calls failing.now }) }
     {
         Ok(MemSink {
             bytes: Vec::with_capacity(alloc, room)?,
             room,
-            piece,
+            most,
             calls: Calls::new(alloc, failing)?,
         })
     }
@@ -71,16 +79,21 @@ impl Sink for MemSink {
         ensures bytes { WriteAppends (Some self.old.bytes) (Some self.new.bytes) result piece.now }
         ensures cause { CountsFault self.old.calls.faults self.new.calls.faults result }
 
-        ensures fails { IsErr result ↔ (FailsNow self.old.calls ⊎ ((0 < length piece.now) × (self.old.room ≤ length self.old.bytes))) }
-        ensures size { IfOk result (λ n. n ≡ min (min (length piece.now) self.old.piece) (self.old.room - length self.old.bytes)) }
+        ensures fails { IsErr result ↔
+            (FailsNow self.old.calls ⊎
+            ((0 < length piece.now) × (self.old.room ≤ length self.old.bytes))) }
+        ensures size { IfOk result
+            (λ n. n ≡ min (min (length piece.now) self.old.most)
+            (self.old.room - length self.old.bytes)) }
         ensures room { self.new.room ≡ self.old.room }
-        ensures piece { self.new.piece ≡ self.old.piece }
-        ensures calls { self.new.calls ≡ after_call (is_err result) self.old.calls }
-        ensures quiet { self.old.calls.failing ≡ [] → length self.old.bytes < self.old.room → self.new.calls.faults ≡ self.old.calls.faults }
+        ensures most { self.new.most ≡ self.old.most }
+        ensures counted { self.new.calls ≡ after_call (is_err result) self.old.calls }
+        ensures quiet { self.old.calls.failing ≡ [] → length self.old.bytes < self.old.room →
+            self.new.calls.faults ≡ self.old.calls.faults }
     {
         let failing = self.calls.begin();
         let left = self.room - self.bytes.len();
-        let count = piece.len().min(self.piece).min(left);
+        let count = piece.len().min(self.most).min(left);
         if failing || (count == 0 && !piece.is_empty()) {
             self.calls.fail();
             return Err(Failed);

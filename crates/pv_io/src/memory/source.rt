@@ -1,9 +1,10 @@
 //! A source of bytes in memory.
 
-ghost use Rattle.std.specs.Prelude.{◌≡◌, ◌≤◌, ◌<◌, ◌↔◌, min, length, Some, IfOk, IsErr, is_err, OnErr, ◌++◌, take, drop, []};
+ghost use Rattle.std.specs.Prelude.{◌≡◌, ◌≤◌, ◌<◌, ◌↔◌, min, length, Some, IfOk, IsErr, is_err};
+ghost use Rattle.std.specs.Prelude.{OnErr, ◌++◌, take, drop, []};
 ghost use Rattle.std.specs.Io.{ReadsAtMost};
 ghost use Rattle.std.specs.Io.KnownBytes.{ReadConsumes};
-ghost use Rattle.pv_io.specs.Causes.{CountsFault};
+ghost use Rattle.pv_io.specs.Causes.{CountsFault, MadeCalls};
 ghost use Rattle.pv_io.specs.Memory.{no_calls, after_call, FailsNow};
 
 use super::calls::Calls;
@@ -17,7 +18,7 @@ use std::marker::Model;
 pub struct MemSource {
     bytes: Vec<u8>,
     at: usize,
-    piece: usize,
+    most: usize,
     calls: Calls,
 }
 
@@ -27,26 +28,28 @@ impl Model for MemSource {
 
     ghost Value = { HeldInput };
 
-    ghost view = { λ s. record { left = drop s.at s.bytes.items; piece = s.piece; calls = s.calls } };
+    ghost view = { λ s. record { left = drop s.at s.bytes.items; most = s.most; calls = s.calls } };
 
-    ghost invariant = { λ s. (s.at ≤ vec_len s.bytes) × (0 < s.piece) };
+    ghost invariant = { λ s. (s.at ≤ vec_len s.bytes) × (0 < s.most) };
 }
 
 impl MemSource {
-    /// `piece` is the most bytes of a call, and `failing` has the numbers, from 0, of the calls that fail.
+    /// `most` is the most bytes of a call, and `failing` has the numbers, from 0, of the calls
+    /// that fail.
     pub fn new(
         alloc: Global,
         bytes: &[u8],
-        piece: usize,
+        most: usize,
         failing: &[u64],
     ) -> Result<MemSource, NoMemory>
-        requires { 0 < piece }
-        ensures { IfOk result (λ s. s ≡ record { left = bytes.now; piece = piece; calls = no_calls failing.now }) }
+        requires { 0 < most }
+        ensures { IfOk result
+            (λ s. s ≡ record { left = bytes.now; most = most; calls = no_calls failing.now }) }
     {
         Ok(MemSource {
             bytes: bytes.to_vec(alloc)?,
             at: 0,
-            piece,
+            most,
             calls: Calls::new(alloc, failing)?,
         })
     }
@@ -57,25 +60,30 @@ impl Source for MemSource {
 
     ghost faults = { λ s. s.calls.faults };
 
+    ghost calls = { λ s. s.calls.made };
+
     fn fill(&mut self, buf: &mut [u8]) -> Result<usize, Failed>
         ensures bound { ReadsAtMost result buf.new }
         ensures bytes { ReadConsumes (Some self.old.left) (Some self.new.left) result buf.new }
         ensures cause { CountsFault self.old.calls.faults self.new.calls.faults result }
+        ensures calls { MadeCalls 1 self.old.calls.made self.new.calls.made }
 
         ensures fails { IsErr result ↔ FailsNow self.old.calls }
-        ensures size { IfOk result (λ n. n ≡ min (min (length self.old.left) (length buf.old)) self.old.piece) }
+        ensures size { IfOk result
+            (λ n. n ≡ min (min (length self.old.left) (length buf.old)) self.old.most) }
         ensures given { IfOk result (λ n. buf.new ≡ take n self.old.left ++ drop n buf.old) }
         ensures kept { OnErr result (buf.new ≡ buf.old) }
-        ensures piece { self.new.piece ≡ self.old.piece }
-        ensures calls { self.new.calls ≡ after_call (is_err result) self.old.calls }
-        ensures quiet { self.old.calls.failing ≡ [] → self.new.calls.faults ≡ self.old.calls.faults }
+        ensures most { self.new.most ≡ self.old.most }
+        ensures counted { self.new.calls ≡ after_call (is_err result) self.old.calls }
+        ensures quiet { self.old.calls.failing ≡ [] →
+            self.new.calls.faults ≡ self.old.calls.faults }
     {
         if self.calls.begin() {
             self.calls.fail();
             return Err(Failed);
         }
         let left = &self.bytes[self.at..];
-        let count = left.len().min(buf.len()).min(self.piece);
+        let count = left.len().min(buf.len()).min(self.most);
         buf[..count].copy_from_slice(&left[..count]);
         self.at += count;
         Ok(count)

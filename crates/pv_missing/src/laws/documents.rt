@@ -1,6 +1,11 @@
 //! Laws of whole documents. `M` is the type of marks, and `N` that of the marks of a completion.
 
-ghost use Rattle.pv_missing.specs.DocumentLaws.{BlanksChangeNothing, BoundsAddUp, CompletionsInsert, CutsChangeNothing, ExtensionsComplete, ExtensionsHaveTags, IsPotentiallyValidByLists, KeepsLeaves, LevelsAgree, Locality, TagsExtend, NumbersAddUp, SomeNumber, WeightsAddUp};
+ghost use Rattle.pv_missing.specs.DocumentLaws.{BlanksChangeNothing, BoundsAddUp};
+ghost use Rattle.pv_missing.specs.DocumentLaws.{CompletionsInsert};
+ghost use Rattle.pv_missing.specs.DocumentLaws.{CutsChangeNothing, ExtensionsComplete};
+ghost use Rattle.pv_missing.specs.DocumentLaws.{ExtensionsHaveTags, IsPotentiallyValidByLists};
+ghost use Rattle.pv_missing.specs.DocumentLaws.{KeepsLeaves, LevelsAgree, Locality, NumbersAddUp};
+ghost use Rattle.pv_missing.specs.DocumentLaws.{SomeBounds, SomeNumber, TagsExtend, WeightsAddUp};
 
 /// A document is potentially valid exactly where each of its lists is live.
 pub fn live_lists_law<M>()
@@ -27,7 +32,13 @@ pub fn bounds_add_up_law<M>()
     ensures { BoundsAddUp M }
 {}
 
-/// A hedge is potentially valid exactly where some number of elements can be inserted to make it valid.
+/// So is a sum of bounds at ascending paths of some of the lists.
+pub fn some_bounds_law<M>()
+    ensures { SomeBounds M }
+{}
+
+/// A hedge is potentially valid exactly where some number of elements can be inserted to make it
+/// valid.
 pub fn some_number_law()
     ensures { SomeNumber }
 {}
@@ -37,7 +48,8 @@ pub fn cuts_law<M>()
     ensures { CutsChangeNothing M }
 {}
 
-/// White units and misc outside EMPTY elements change neither potential validity nor the least number.
+/// White units and misc outside EMPTY elements change neither potential validity nor the least
+/// number.
 pub fn blanks_law()
     ensures { BlanksChangeNothing }
 {}
@@ -57,7 +69,8 @@ pub fn keeps_leaves_law()
     ensures { KeepsLeaves }
 {}
 
-/// What is made level by level, by so many elements, is an extension by as many whose elements are good, and each such extension is.
+/// What is made level by level, by so many elements, is an extension by as many whose elements are
+/// good, and each such extension is.
 pub fn levels_law()
     ensures { LevelsAgree }
 {}

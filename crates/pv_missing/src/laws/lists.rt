@@ -1,8 +1,12 @@
 //! Laws of one list. `M` is the type of marks.
 
-ghost use Rattle.pv_missing.specs.ListLaws.{ClosedIsBound, DerivationsMiss, HereExtends, LiveMisses, OneFirst, OneList, OneVerdict, OwnValidIsLive, RootList, ValidMissesNone, WeightIsLeast};
+ghost use Rattle.pv_missing.specs.ListLaws.{ClosedIsBound, DerivationsMiss, HereExtends, KnownWord};
+ghost use Rattle.pv_missing.specs.ListLaws.{LiveMisses, OneFirst, OneList, OneVerdict};
+ghost use Rattle.pv_missing.specs.ListLaws.{OwnValidIsLive, RootList, ValidMissesNone};
+ghost use Rattle.pv_missing.specs.ListLaws.{WeightIsLeast};
 
-/// The live word of an element is possible exactly where elements inserted at its own level make its content fit.
+/// The live word of an element is possible exactly where elements inserted at its own level make
+/// its content fit.
 pub fn one_list_law()
     ensures { OneList }
 {}
@@ -42,7 +46,8 @@ pub fn closed_is_bound_law<M>()
     ensures { ClosedIsBound M }
 {}
 
-/// The weight of a live list is at most each number missing in it, and is such a number where it isn't cut.
+/// The weight of a live list is at most each number missing in it, and is such a number where it
+/// isn't cut.
 pub fn weight_is_least_law<M>()
     ensures { WeightIsLeast M }
 {}
@@ -55,4 +60,9 @@ pub fn one_verdict_law<M>()
 /// At most one list is the first impossible one.
 pub fn one_first_law<M>()
     ensures { OneFirst M }
+{}
+
+/// The DTD has each name in the word of a list.
+pub fn known_word_law<M>()
+    ensures { KnownWord M }
 {}

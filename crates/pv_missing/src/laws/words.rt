@@ -1,6 +1,9 @@
 //! Laws of words.
 
-ghost use Rattle.pv_missing.specs.WordLaws.{ContentDerives, DepthsAgree, Doubled, LeftOut, LiveAgrees, LiveFollows, OneLiveWord, OwnerIsProductive, RootDerives, SizeIsMissing};
+ghost use Rattle.pv_missing.specs.WordLaws.{ContentDerives, DepthsAgree, Doubled, LeftOut};
+ghost use Rattle.pv_missing.specs.WordLaws.{LiveAgrees, LiveFollows, OneLiveWord};
+ghost use Rattle.pv_missing.specs.WordLaws.{OwnerIsProductive};
+ghost use Rattle.pv_missing.specs.WordLaws.{PossibleDerives, RootDerives, SizeIsMissing};
 
 /// A word is possible by depths exactly where it is possible with some number of missing elements.
 pub fn depths_law()
@@ -22,7 +25,8 @@ pub fn live_word_law()
     ensures { LiveAgrees }
 {}
 
-/// A live word has productive names only and the word's length, and is the word itself where it is possible.
+/// A live word has productive names only and the word's length, and is the word itself where it is
+/// possible.
 pub fn live_follows_law()
     ensures { LiveFollows }
 {}
@@ -42,7 +46,8 @@ pub fn one_live_word_law()
     ensures { OneLiveWord }
 {}
 
-/// A word of productive names is possible for the content of an element exactly where the content derives it.
+/// A word of productive names is possible for the content of an element exactly where the content
+/// derives it.
 pub fn content_derives_law()
     ensures { ContentDerives }
 {}
@@ -50,4 +55,9 @@ pub fn content_derives_law()
 /// The same of the document node and the root's name.
 pub fn root_derives_law()
     ensures { RootDerives }
+{}
+
+/// A word of productive names is possible for an owner exactly where its site derives it.
+pub fn possible_derives_law()
+    ensures { PossibleDerives }
 {}

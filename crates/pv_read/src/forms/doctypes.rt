@@ -25,7 +25,8 @@ fn doctype_front_at(bytes: &[u8]) -> Option<(&[u8], &[u8])>
     Some((name, after_space(end)))
 }
 
-/// The document type declaration without an internal subset at the front, and what stands after it.
+/// The document type declaration without an internal subset at the front, and what stands after
+/// it.
 pub fn doctype_at(bytes: &[u8]) -> Option<(Item<'_>, &[u8])>
     ensures { MatchOption result (BeginsNoneOf sort.Doctype bytes.now)
         (λ r. BeginsItem (plain_item r.0) bytes.now r.1.now) }

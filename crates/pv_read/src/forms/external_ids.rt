@@ -4,7 +4,8 @@ ghost use Rattle.std.specs.Prelude.{◌≡◌, ◌≢◌, ◌==◌, false, [], L
 ghost use Rattle.std.specs.List.{list_all, list_any};
 ghost use Rattle.pv_chars.specs.Spaces.{is_space, begins};
 ghost use Rattle.pv_chars.specs.Fronts.{Begins, BeginsNone};
-ghost use Rattle.pv_tree.specs.Prolog.{is_pubid_char, IsSystemLiteral, IsPubidLiteral, IsSystemId, IsPublicId, IsExternalId};
+ghost use Rattle.pv_tree.specs.Prolog.{is_pubid_char, IsSystemLiteral, IsPubidLiteral, IsSystemId};
+ghost use Rattle.pv_tree.specs.Prolog.{IsPublicId, IsExternalId};
 ghost use Rattle.pv_read.specs.Takes.{TakesWord};
 
 use pv_chars::are_chars;
@@ -66,17 +67,21 @@ fn after_word<'a>(word: &[u8], bytes: &'a [u8]) -> Option<&'a [u8]>
     after_blank(named)
 }
 
-// What stands after the external identifier of the kind SYSTEM at the front, which white space begins.
+// What stands after the external identifier of the kind SYSTEM at the front, which white space
+// begins.
 fn after_system_id(bytes: &[u8]) -> Option<&[u8]>
-    ensures { MatchOption result (BeginsNone IsSystemId bytes.now) (λ r. Begins IsSystemId bytes.now r.now) }
+    ensures { MatchOption result (BeginsNone IsSystemId bytes.now)
+        (λ r. Begins IsSystemId bytes.now r.now) }
 {
     let literal = after_word(b"SYSTEM", bytes)?;
     after_system_literal(literal)
 }
 
-// What stands after the external identifier of the kind PUBLIC at the front, which white space begins.
+// What stands after the external identifier of the kind PUBLIC at the front, which white space
+// begins.
 fn after_public_id(bytes: &[u8]) -> Option<&[u8]>
-    ensures { MatchOption result (BeginsNone IsPublicId bytes.now) (λ r. Begins IsPublicId bytes.now r.now) }
+    ensures { MatchOption result (BeginsNone IsPublicId bytes.now)
+        (λ r. Begins IsPublicId bytes.now r.now) }
 {
     let public = after_word(b"PUBLIC", bytes)?;
     let between = after_pubid_literal(public)?;

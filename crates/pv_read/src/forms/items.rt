@@ -13,7 +13,8 @@ pub struct Tag<'a> {
 pub enum Item<'a> {
     /// An XML declaration (section 2.8), at any place.
     XmlDeclaration(&'a [u8]),
-    /// A document type declaration without an internal subset (section 2.8), and the name that it gives to the root.
+    /// A document type declaration without an internal subset (section 2.8), and the name that it
+    /// gives to the root.
     Doctype { name: &'a [u8], bytes: &'a [u8] },
     /// A comment or a processing instruction (sections 2.5 and 2.6).
     CommentOrInstruction(&'a [u8]),

@@ -34,7 +34,8 @@ fn is_known_data(bytes: &[u8]) -> bool
     }
 }
 
-/// Whether each reference in the item is to a character, or to a name that needs no declaration (XML 1.0, section 4.6).
+/// Whether each reference in the item is to a character, or to a name that needs no declaration
+/// (XML 1.0, section 4.6).
 pub fn has_known_references(item: &Item<'_>) -> bool
     requires { HasForm (plain_item item.now) }
     ensures { IsTrue result ↔ HasKnownReferences (plain_item item.now) }

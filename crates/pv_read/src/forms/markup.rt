@@ -1,4 +1,5 @@
-//! XML declarations, processing instructions, comments and CDATA sections (XML 1.0, sections 2.5 to 2.8).
+//! XML declarations, processing instructions, comments and CDATA sections (XML 1.0, sections 2.5
+//! to 2.8).
 
 ghost use Rattle.std.specs.Prelude.{MatchOption};
 ghost use Rattle.pv_chars.specs.Fronts.{BeginsNone};

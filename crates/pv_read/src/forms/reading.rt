@@ -17,7 +17,8 @@ use crate::forms::texts::text_run_at;
 // The comment, processing instruction or XML declaration at the front, and what stands after it.
 fn misc_at(bytes: &[u8]) -> Option<(Item<'_>, &[u8])>
     ensures { MatchOption result
-        (BeginsNone IsComment bytes.now × BeginsNone IsInstruction bytes.now × BeginsNone IsXmlDecl bytes.now)
+        (BeginsNone IsComment bytes.now × BeginsNone IsInstruction bytes.now ×
+        BeginsNone IsXmlDecl bytes.now)
         (λ r. BeginsItem (plain_item r.0) bytes.now r.1.now) }
 {
     if let Some(found) = comment_at(bytes) {

@@ -1,7 +1,7 @@
 //! Text runs (XML 1.0, section 2.4).
 
 ghost use Rattle.std.specs.Prelude.{◌≡◌, ◌↔◌, ◌++◌, codes, IsTrue, MatchOption};
-ghost use Rattle.pv_chars.specs.Fronts.{Holds};
+ghost use Rattle.pv_chars.specs.Fronts.{ContainsBytes};
 ghost use Rattle.pv_tree.specs.Attributes.{IsCharacterData};
 ghost use Rattle.pv_read.specs.Items.{IsRunEnd, BeginsItem};
 ghost use Rattle.pv_read.specs.PlainItems.{plain_item, BeginsNoneOf};
@@ -16,7 +16,7 @@ use pv_chars::delimiters::up_to;
 /// The bytes before the first `<`, and what stands from there on.
 pub fn run_at(bytes: &[u8]) -> (&[u8], &[u8])
     ensures whole { bytes.now ≡ result.0.now ++ result.1.now }
-    ensures free { Holds result.0.now (codes "<") → ⊥ }
+    ensures free { ContainsBytes result.0.now (codes "<") → ⊥ }
     ensures ends { IsRunEnd result.1.now }
 {
     cut_before(b'<', bytes)
@@ -24,7 +24,7 @@ pub fn run_at(bytes: &[u8]) -> (&[u8], &[u8])
 
 // Whether `]]>` stands in the bytes.
 fn holds_close_mark(bytes: &[u8]) -> bool
-    ensures { IsTrue result ↔ Holds bytes.now (codes "]]>") }
+    ensures { IsTrue result ↔ ContainsBytes bytes.now (codes "]]>") }
 {
     up_to(b"]]>", bytes).is_some()
 }

@@ -1,8 +1,9 @@
-//! Runs of characters and references: the values of attributes, and character data (XML 1.0, sections 2.3 and 2.4).
+//! Runs of characters and references: the values of attributes, and character data (XML 1.0,
+//! sections 2.3 and 2.4).
 
 ghost use Rattle.std.specs.Prelude.{◌≡◌, ◌↔◌, ◌++◌, ◌⊎◌, [], ◌∷◌, List, ℕ, codes, IsTrue};
 ghost use Rattle.pv_chars.specs.Characters.{AreAll};
-ghost use Rattle.pv_chars.specs.Fronts.{Holds};
+ghost use Rattle.pv_chars.specs.Fronts.{ContainsBytes};
 ghost use Rattle.pv_chars.specs.Units.{is_literal};
 ghost use Rattle.pv_tree.specs.Attributes.{AreMadeOf, IsTextPiece};
 ghost use Rattle.pv_read.specs.PlainReferences.{IsReferenceOf};
@@ -24,7 +25,7 @@ pub fn cut_before(byte: u8, bytes: &[u8]) -> (&[u8], &[u8])
 
 // Whether each character stands for itself.
 fn are_literals(bytes: &[u8]) -> bool
-    requires { Holds bytes.now (codes "&") → ⊥ }
+    requires { ContainsBytes bytes.now (codes "&") → ⊥ }
     ensures { IsTrue result ↔ AreAll is_literal bytes.now }
 {
     if are_simple(bytes) {

@@ -2,8 +2,8 @@ use Rattle.std.proofs.Common.{IsTrue, ap, arith, refl, sym, ◌+◌, ◌∙◌}
 use Rattle.pv_tree.specs.Plain.{forest_of, is_element, nodes_in_all}
 use Rattle.pv_tree.specs.PlainForms.{plain, plain_all}
 use Rattle.pv_tree.proofs.Levels.{plain-Elem}
-use Rattle.pv_cache.specs.Laying.{laid_all, lists_in_all, numbered}
-use Rattle.pv_cache.specs.Mending.{mended}
+use Rattle.pv_cache.specs.Laying.{lay_kids, lists_in_all, nth_verdict}
+use Rattle.pv_cache.specs.Mending.{mend_element}
 use Rattle.pv_cache.proofs.LaidLevels.{elem_lists, elem_nodes, few_kid, kid_smaller, laid_counted, laid_element, more_laid}
 use Rattle.pv_edit.specs.Fitting.{with_kids}
 use Rattle.pv_cache.proofs.laying.+lay.Goals as goal
@@ -33,9 +33,9 @@ lay_node-mend_element-requires-clause-counted t c =
     let node = plain c.args.node.now in
     let h : IsTrue (is_element node) = rw (c.in-Elem.is, plain-Elem) refl in
     let ts = plain_all c.lay_kids-next.new.kids.items in
-    let l = c.lay_kids-next.ensures.laid ∙ ap (λ ks. laid_all vs (c.args.number + 1) (forest_of ks)) c.take_kids-kids.ensures.taken in
+    let l = c.lay_kids-next.ensures.laid ∙ ap (λ ks. lay_kids vs (c.args.number + 1) (forest_of ks)) c.take_kids-kids.ensures.taken in
     let k = laid_counted vs c.args.number node ts h l (omega (arith, c.requires.small)) in
-    rw (c.numbered.ensures, c.put_kids.ensures, c.take_kids-kids.ensures.rest) k
+    rw (c.nth_verdict.ensures, c.put_kids.ensures, c.take_kids-kids.ensures.rest) k
 
 pub lay_node-returns-clause-laid : goal.lay_node-returns-clause-laid
 lay_node-returns-clause-laid t c =
@@ -43,8 +43,8 @@ lay_node-returns-clause-laid t c =
     let node = plain c.args.node.now in
     let h : IsTrue (is_element node) = rw (c.in-Elem.is, plain-Elem) refl in
     let ts = plain_all c.lay_kids-next.new.kids.items in
-    let l = c.lay_kids-next.ensures.laid ∙ ap (λ ks. laid_all vs (c.args.number + 1) (forest_of ks)) c.take_kids-kids.ensures.taken in
-    c.mend_element.ensures ∙ ap (λ v. mended v 0 (plain c.put_kids.new.node)) c.numbered.ensures ∙ ap (mended (numbered vs c.args.number) 0) (c.put_kids.ensures ∙ ap (with_kids ts) c.take_kids-kids.ensures.rest)
+    let l = c.lay_kids-next.ensures.laid ∙ ap (λ ks. lay_kids vs (c.args.number + 1) (forest_of ks)) c.take_kids-kids.ensures.taken in
+    c.mend_element.ensures ∙ ap (λ v. mend_element v 0 (plain c.put_kids.new.node)) c.nth_verdict.ensures ∙ ap (mend_element (nth_verdict vs c.args.number) 0) (c.put_kids.ensures ∙ ap (with_kids ts) c.take_kids-kids.ensures.rest)
     ∙ laid_element vs c.args.number node ts h l
 
 pub lay_node-returns-clause-next : goal.lay_node-returns-clause-next

@@ -29,4 +29,4 @@ invariant_of-doc c =
 pub mend_doc-requires-clause-counted : goal.mend_doc-requires-clause-counted
 mend_doc-requires-clause-counted c =
     let doc = plain_doc c.args.doc.now in
-    root_counted c.args.verdicts.now.verdicts doc.root c.numbered.result (record doc { root = plain c.lay_node.new.node }) c.args.doc.now.small c.lay_node.ensures.laid
+    root_counted c.args.verdicts.now.verdicts doc.root c.nth_verdict.result (record doc { root = plain c.lay_node.new.node }) c.args.doc.now.small c.lay_node.ensures.laid

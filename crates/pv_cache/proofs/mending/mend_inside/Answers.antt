@@ -2,7 +2,7 @@ use Rattle.std.proofs.Common.{◌∙◌, ap}
 use Rattle.pv_tree.specs.Plain.{without_marks}
 use Rattle.pv_tree.specs.PlainForms.{plain}
 use Rattle.pv_edit.specs.Inverses.{IsKept}
-use Rattle.pv_cache.specs.Mending.{mended_owner}
+use Rattle.pv_cache.specs.Mending.{mend_owner}
 use Rattle.pv_edit.proofs.Prepared.{doc-kept}
 use Rattle.pv_cache.proofs.Unmarked.{below-as, owner-as, still-kept}
 use Rattle.pv_cache.proofs.mending.mend_inside.Goals as goal
@@ -12,7 +12,7 @@ invariant_of-doc c =
     let m = c.args.mend.now in
     let doc = c.args.doc.now in
     let k : IsKept (plain c.mend_below.new.node) = still-kept (plain doc.root) (plain c.mend_below.new.node)
-    (ap without_marks c.mend_below.ensures ∙ below-as c.args.below.now (mended_owner m.verdict m.inner m.stamp) (owner-as m.verdict m.inner m.stamp) (plain doc.root)) (doc-kept doc) in
+    (ap without_marks c.mend_below.ensures ∙ below-as c.args.below.now (mend_owner m.verdict m.inner m.stamp) (owner-as m.verdict m.inner m.stamp) (plain doc.root)) (doc-kept doc) in
     record {
       rooted = k.rooted;
       formed = k.formed;

@@ -1,4 +1,4 @@
-use Rattle.pv_chars.specs.Fronts.{Holds, EndsAt}
+use Rattle.pv_chars.specs.Fronts.{ContainsBytes, EndsAt}
 use Rattle.pv_chars.proofs.Options.{match_none}
 use Rattle.pv_chars.proofs.Delimited.{holds_none, ends_cut}
 use Rattle.pv_chars.proofs.delimiters.up_to.Goals as goal
@@ -7,7 +7,7 @@ pub returns-in_err-at : goal.returns-in_err-at
 returns-in_err-at c =
     let bytes = c.args.bytes.now in
     let delimiter = c.args.delimiter.now in
-    match_none _ (Holds bytes delimiter → ⊥) (λ r. EndsAt delimiter bytes r.0.now r.1.now) c.from_residual.ensures (holds_none bytes delimiter c.in_err-at.ensures)
+    match_none _ (ContainsBytes bytes delimiter → ⊥) (λ r. EndsAt delimiter bytes r.0.now r.1.now) c.from_residual.ensures (holds_none bytes delimiter c.in_err-at.ensures)
 
 pub returns : goal.returns
 returns c =

@@ -1,5 +1,5 @@
 use Rattle.std.proofs.Common.{[], ◌∷◌}
-use Rattle.pv_chars.specs.Fronts.{Holds, EndsAt}
+use Rattle.pv_chars.specs.Fronts.{ContainsBytes, EndsAt}
 use Rattle.pv_chars.proofs.Options.{match_none}
 use Rattle.pv_chars.proofs.Delimited.{byte_nowhere, byte_ends}
 use Rattle.pv_chars.proofs.delimiters.up_to_byte.Goals as goal
@@ -8,7 +8,7 @@ pub returns-in_err-at : goal.returns-in_err-at
 returns-in_err-at c =
     let bytes = c.args.bytes.now in
     let byte = c.args.byte in
-    match_none _ (Holds bytes (byte ∷ []) → ⊥) (λ r. EndsAt (byte ∷ []) bytes r.0.now r.1.now) c.from_residual.ensures (byte_nowhere byte bytes c.in_err-at.ensures)
+    match_none _ (ContainsBytes bytes (byte ∷ []) → ⊥) (λ r. EndsAt (byte ∷ []) bytes r.0.now r.1.now) c.from_residual.ensures (byte_nowhere byte bytes c.in_err-at.ensures)
 
 pub returns : goal.returns
 returns c =

@@ -3,14 +3,14 @@ use Rattle.std.proofs.lemmas.Grind.{common_steps}
 use Rattle.std.specs.Str.{bytes_eq}
 use Rattle.pv_io.specs.Files.{byte_lists}
 use Rattle.pv_cli.specs.CommandLine.{command_line_of, drill, drill_size}
-use Rattle.pv_cli.proofs.CommandLines.{drill_words, listing_words, other_two, two}
+use Rattle.pv_cli.proofs.CommandLines.{drill_words, dtd_words, other_two, two}
 use Rattle.pv_cli.proofs.command_line.line_of_two.Goals as goal
 
 pub returns-then-eq-clause-line : goal.returns-then-eq-clause-line
 returns-then-eq-clause-line c =
     let words = two c.args.words.now _ _ c.in-len2.len_at_least c.in-len2.len_below c.command-item.is c.word-item.is in
     let same : bytes_eq (string_bytes c.command-item.result) (codes "dtd") ≡ true = grind (arith, common_steps) in
-    let is = ap (λ (ws : List (String Global)). command_line_of (byte_lists ws)) words ∙ listing_words _ _ same in
+    let is = ap (λ (ws : List (String Global)). command_line_of (byte_lists ws)) words ∙ dtd_words _ _ same in
     cc
 
 pub returns-in-Some-clause-line : goal.returns-in-Some-clause-line

@@ -1,15 +1,17 @@
 use Rattle.std.proofs.Common.{⊎_elim, ◌≡◌, ℕ, List}
 use Rattle.pv_dtd.specs.Kinds.{Kind, parameter, syntax, twice, mixed_twice, nesting, limit}
 use Rattle.pv_dtd.specs.Meaning.{faulty, DtdTextMeans}
-use Rattle.pv_cli.specs.Opening.{RefusesDtd, no_dtd, dtd_refusal}
-use Rattle.pv_cli.specs.Stage.{StopsBy}
+use Rattle.pv_dtd.specs.Meaning.{is_dtd}
+use Rattle.pv_cli.specs.Opening.{RefusesDtd, no_dtd, dtd_refusal, dtd_stage}
+use Rattle.pv_cli.specs.Returns.{RefusesWith, StopsBy}
 use Rattle.pv_cli.specs.declared.stop.Stop.{Stop}
-use Rattle.pv_cli.proofs.Stages.{stops_as}
+use Rattle.pv_cli.proofs.Stages.{refusal_stops, stops_as}
 use Rattle.pv_cli.proofs.opening.dtd_of.Goals as goal
 
 -- a stop with the response to the text's first fault
-refused : (bytes : List ℕ) (kind : Kind) (k : ℕ) (stop : Stop) → DtdTextMeans bytes (faulty kind k) → StopsBy (λ r. r ≡ dtd_refusal kind k) ⊥ stop → StopsBy (RefusesDtd bytes) ⊥ stop
-refused bytes kind k stop means stops = stops_as (λ r. r ≡ dtd_refusal kind k) (RefusesDtd bytes) stop (λ r e. no_dtd kind k means e) stops
+refused : (bytes : List ℕ) (kind : Kind) (k : ℕ) (stop : Stop) → DtdTextMeans bytes (faulty kind k) → RefusesWith (λ r. r ≡ dtd_refusal kind k) stop → StopsBy (dtd_stage bytes) 0 stop
+refused bytes kind k stop means stops =
+    refusal_stops (λ g. DtdTextMeans bytes (is_dtd g)) (RefusesDtd bytes) stop (stops_as (λ r. r ≡ dtd_refusal kind k) (RefusesDtd bytes) stop (λ r e. no_dtd kind k means e) stops)
 
 pub returns-in-Err-Syntax : goal.returns-in-Err-Syntax
 returns-in-Err-Syntax c = refused c.args.bytes.now syntax c.in-Err-Syntax.item _ (rw c.in-Err-Syntax.field-0-is at c.in-Err-Syntax.ensures.refused) c.refuse_item.ensures

@@ -1,12 +1,17 @@
-use Rattle.std.proofs.Common.{codes}
-use Rattle.pv_tree.specs.PlainDocs.{plain_doc}
-use Rattle.pv_read.specs.Meaning.{MAX_DOC_BYTES}
-use Rattle.pv_cli.specs.Documents.{document_stage}
-use Rattle.pv_cli.specs.Opening.{fetch_stage}
-use Rattle.pv_cli.proofs.Stages.{returned_second}
+use Rattle.std.proofs.Common.{refl}
+use Rattle.pv_dtd.specs.PlainForms.{plain_dtd}
+use Rattle.pv_cli.specs.Documents.{OpensDocument, RefusesDocument}
+use Rattle.pv_cli.proofs.Stages.{refusal_stops}
 use Rattle.pv_cli.proofs.opening.open_document.Goals as goal
 
-pub returns-clause-file : goal.returns-clause-file
-returns-clause-file g c =
-    let file = c.in_ok-bytes.ensures.file in
-    (file.0, file.1, returned_second plain_doc (fetch_stage file.0 MAX_DOC_BYTES (codes "limit document-file")) (document_stage c.args.root.now) c.deref.result.now _ (rw c.deref.ensures.value file.2) c.document_of.ensures)
+pub returns-in-Ok : goal.returns-in-Ok
+returns-in-Ok c =
+    let text = rw c.deref.ensures.value at c.in-Ok.ensures.read in
+    (record { is_dtd = refl; are_bytes = refl; is_text = text }, refl)
+
+pub returns-in-Err : goal.returns-in-Err
+returns-in-Err c =
+    let root = c.args.root.now in
+    let bytes = c.args.fetched.bytes.items in
+    refusal_stops (OpensDocument root (plain_dtd c.args.fetched.dtd) bytes) (RefusesDocument root bytes) c.refuse_document.result
+    (c.refuse_document.ensures root bytes (rw c.deref.ensures.value at c.in-Err.ensures.refused))

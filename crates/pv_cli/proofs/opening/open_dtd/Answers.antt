@@ -1,11 +1,24 @@
-use Rattle.std.proofs.Common.{codes}
+use Rattle.std.proofs.Common.{ℕ, List, inl, inr, codes}
+use Rattle.std.proofs.lemmas.Result.{err_from_is_err_and}
 use Rattle.pv_dtd.specs.Facts.{MAX_DTD_BYTES}
 use Rattle.pv_dtd.specs.PlainForms.{plain_dtd}
-use Rattle.pv_cli.specs.Opening.{fetch_stage, dtd_stage}
-use Rattle.pv_cli.proofs.Stages.{returned_second}
+use Rattle.pv_cli.specs.Opening.{expanded_dtd_stage}
+use Rattle.pv_cli.proofs.Fetching.{read_behind, read_stopped, reading_counts}
 use Rattle.pv_cli.proofs.opening.open_dtd.Goals as goal
 
-pub returns-clause-file : goal.returns-clause-file
-returns-clause-file g c =
-    let file = c.in_ok-bytes.ensures.file in
-    (file.0, file.1, returned_second plain_dtd (fetch_stage file.0 MAX_DTD_BYTES (codes "limit dtd-file")) dtd_stage c.deref.result.now _ (rw c.deref.ensures.value file.2) c.dtd_of.ensures)
+-- neither stage asks the shelf
+no_fault : (bytes : List ℕ) → (expanded_dtd_stage bytes).Faults 0 → ⊥
+no_fault bytes (inl never) = never
+no_fault bytes (inr (text, k, m, opens, never, e)) = never
+
+pub returns-in_err-bytes-clause-over : goal.returns-in_err-bytes-clause-over
+returns-in_err-bytes-clause-over g c =
+    let p = err_from_is_err_and c.from_residual.result c.from_residual.ensures.1 in
+    rw (p.1, p.2) (read_stopped _ plain_dtd MAX_DTD_BYTES (codes "limit dtd-file") expanded_dtd_stage _ _ c.in_err-bytes.field-0.0 c.in_err-bytes.ensures.over)
+
+pub returns-clause-over : goal.returns-clause-over
+returns-clause-over g c =
+    let bytes = c.in_ok-bytes.bytes in
+    let read = rw c.deref.ensures.value at c.expanded_dtd.ensures in
+    read_behind _ plain_dtd MAX_DTD_BYTES (codes "limit dtd-file") expanded_dtd_stage _ _ bytes c.expanded_dtd.result c.in_ok-bytes.ensures.over read
+    (reading_counts plain_dtd (expanded_dtd_stage bytes.items) 0 _ c.expanded_dtd.result (no_fault bytes.items) read)

@@ -5,13 +5,13 @@ use Rattle.pv_read.specs.Meaning.{faulty, DocumentMeans}
 use Rattle.pv_cli.specs.Documents.{RefusesDocument, no_document, too_many_bytes, document_refusal}
 use Rattle.pv_cli.specs.declared.status.Status.TheVariants.{Limit}
 use Rattle.pv_cli.specs.Response.{with_line}
-use Rattle.pv_cli.specs.Stage.{StopsBy}
+use Rattle.pv_cli.specs.Returns.{RefusesWith}
 use Rattle.pv_cli.specs.declared.stop.Stop.{Stop}
 use Rattle.pv_cli.proofs.Stages.{stops_as}
 use Rattle.pv_cli.proofs.opening.refuse_document.Goals as goal
 
 -- a stop with the response to the text's first fault
-refused : (root bytes : List ℕ) (kind : Kind) (k : ℕ) (stop : Stop) → DocumentMeans blank_mark root bytes (faulty kind k) → StopsBy (λ r. r ≡ document_refusal kind k) ⊥ stop → StopsBy (RefusesDocument root bytes) ⊥ stop
+refused : (root bytes : List ℕ) (kind : Kind) (k : ℕ) (stop : Stop) → DocumentMeans blank_mark root bytes (faulty kind k) → RefusesWith (λ r. r ≡ document_refusal kind k) stop → RefusesWith (RefusesDocument root bytes) stop
 refused root bytes kind k stop means stops = stops_as (λ r. r ≡ document_refusal kind k) (RefusesDocument root bytes) stop (λ r e. no_document kind k means e) stops
 
 pub returns-in-Syntax : goal.returns-in-Syntax

@@ -1,5 +1,5 @@
 use Rattle.std.proofs.Common.{◌≡◌, ◌≤◌, length, None}
-use Rattle.pv_dtd.specs.Spelling.{is_one_of}
+use Rattle.pv_chars.specs.Declarations.{is_one_of}
 use Rattle.pv_dtd.specs.ItemReading.{stop_at}
 use Rattle.pv_dtd.proofs.fronts.stop_at.Given as goal
 

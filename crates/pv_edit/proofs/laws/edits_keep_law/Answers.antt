@@ -1,6 +1,4 @@
 use Rattle.std.proofs.Common.{subst, arith}
-use Rattle.pv_tree.specs.Plain.{PlainDoc}
-use Rattle.pv_tree.specs.declared.nodes.Mark.{Mark}
 use Rattle.pv_edit.specs.Inverses.{IsKept}
 use Rattle.pv_edit.specs.Reasons.{reason_of}
 use Rattle.pv_edit.proofs.Keeping.{edit-kept}
@@ -8,6 +6,6 @@ use Rattle.pv_edit.proofs.Leading.{given-reason, given-doc}
 use Rattle.pv_edit.proofs.laws.edits_keep_law.Goals as goal
 
 pub returns : goal.returns
-returns c blank doc made edit k n h =
-    subst (λ (d : PlainDoc Mark). IsKept d.root) (given-doc (reason_of blank doc.root edit) _ made h)
+returns g c blank doc made edit k n h =
+    subst (λ d. IsKept d.root) (given-doc (reason_of blank doc.root edit) _ made h)
     (edit-kept blank blank doc.root edit k (omega arith) (given-reason (reason_of blank doc.root edit) _ made h))

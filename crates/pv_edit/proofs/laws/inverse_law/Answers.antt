@@ -2,4 +2,4 @@ use Rattle.pv_edit.proofs.RemarkedReasons.{made-leads}
 use Rattle.pv_edit.proofs.laws.inverse_law.Goals as goal
 
 pub returns : goal.returns
-returns c = made-leads
+returns g c = made-leads

@@ -2,4 +2,4 @@ use Rattle.pv_edit.proofs.Leading.{leads}
 use Rattle.pv_edit.proofs.laws.leads_back_law.Goals as goal
 
 pub returns : goal.returns
-returns c = leads
+returns g c = leads

@@ -2,4 +2,4 @@ use Rattle.pv_edit.proofs.Leafing.{keeps-leaves}
 use Rattle.pv_edit.proofs.laws.leaves_law.Goals as goal
 
 pub returns : goal.returns
-returns c = keeps-leaves
+returns g c = keeps-leaves

@@ -2,4 +2,4 @@ use Rattle.pv_edit.proofs.Counted.{counted}
 use Rattle.pv_edit.proofs.laws.nodes_law.Goals as goal
 
 pub returns : goal.returns
-returns c = counted
+returns g c = counted

@@ -14,7 +14,8 @@ use Rattle.pv_missing.specs.Widths.{IsListForVerdict}
 use Rattle.pv_missing.specs.PlainForms.{plain_of}
 use Rattle.pv_missing.specs.Weighing.{site_of}
 use Rattle.pv_fresh.specs.Walks.{GoesOver, verdicts_of}
-use Rattle.pv_fresh.proofs.Walking.{breaks_early, breaks_off, element_site, from_first, goes_match, goes_nowhere, goes_on}
+use Rattle.pv_missing.proofs.Walking.{element_site, from_first}
+use Rattle.pv_fresh.proofs.Walking.{breaks_early, breaks_off, goes_match, goes_nowhere, goes_on}
 use Rattle.pv_fresh.proofs.judging.+judge.Goals as goal
 
 pub judge_kids-overflow_cast-i : goal.judge_kids-overflow_cast-i
@@ -26,17 +27,14 @@ judge_kids-judge_node-requires g t c κs within = (
   (
     within,
     (
-      c.requires.plan,
-      (
-        (let step = forest-drop c.args.kids.now c.loop-i.i c.index-kids-i.result (omega arith) c.index-kids-i.is in
-            omega (arith, ap nodes_in_all step, c.loop-i.invariant.few_nodes, c.requires.small)),
-        (let d = dtd_of c.args.grammar.now in
-            let kid = c.index-kids-i.result in
-            let rest = forest (drop (c.loop-i.i + 1) c.args.kids.now) in
-            let path = c.loop-i.walk.places.items in
-            let whole = from_first path c.loop-i.i (forest (drop c.loop-i.i c.args.kids.now)) (plain kid) rest (forest-drop c.args.kids.now c.loop-i.i kid (omega arith) c.index-kids-i.is) in
-            rw c.in_ok-push.ensures.items (all_left (IsListForVerdict d) (lists_at (path ++ c.loop-i.i ∷ []) (plain kid)) (lists_from path (c.loop-i.i + 1) rest) (rw whole at c.loop-i.invariant.fits))),
-      ),
+      (let step = forest-drop c.args.kids.now c.loop-i.i c.index-kids-i.result (omega arith) c.index-kids-i.is in
+          omega (arith, ap nodes_in_all step, c.loop-i.invariant.few_nodes, c.requires.small)),
+      (let d = dtd_of c.args.judge.now in
+          let kid = c.index-kids-i.result in
+          let rest = forest (drop (c.loop-i.i + 1) c.args.kids.now) in
+          let path = c.loop-i.walk.places.items in
+          let whole = from_first path c.loop-i.i (forest (drop c.loop-i.i c.args.kids.now)) (plain kid) rest (forest-drop c.args.kids.now c.loop-i.i kid (omega arith) c.index-kids-i.is) in
+          rw c.in_ok-push.ensures.items (all_left (IsListForVerdict d) (lists_at (path ++ c.loop-i.i ∷ []) (plain kid)) (lists_from path (c.loop-i.i + 1) rest) (rw whole at c.loop-i.invariant.fits))),
     ),
   ),
 )
@@ -55,7 +53,7 @@ judge_kids-returns-in_err-judge_node-clause-judged g t c =
 
 pub judge_kids-loop-i-preserved : goal.judge_kids-loop-i-preserved
 judge_kids-loop-i-preserved g t c =
-    let d = dtd_of c.args.grammar.now in
+    let d = dtd_of c.args.judge.now in
     let kid = c.index-kids-i.result in
     let rest = forest (drop (c.loop-i.i + 1) c.args.kids.now) in
     let step = forest-drop c.args.kids.now c.loop-i.i kid (omega arith) c.index-kids-i.is in
@@ -75,7 +73,7 @@ judge_kids-loop-i-preserved g t c =
 
 pub judge_kids-returns-clause-judged : goal.judge_kids-returns-clause-judged
 judge_kids-returns-clause-judged g t c =
-    let d = dtd_of c.args.grammar.now in
+    let d = dtd_of c.args.judge.now in
     let none : forest (drop c.loop-i.i c.args.kids.now) ≡ no_trees = forest-end c.args.kids.now c.loop-i.i (omega arith) in
     λ root.
     let rest : GoesOver d root (lists_from c.loop-i.walk.places.items c.loop-i.i (forest (drop c.loop-i.i c.args.kids.now))) (verdicts_of c.loop-i.walk) (verdicts_of c.loop-i.walk) c.loop-i.steps c.loop-i.steps =
@@ -84,11 +82,11 @@ judge_kids-returns-clause-judged g t c =
 
 pub judge_node-returns-clause-judged : goal.judge_node-returns-clause-judged
 judge_node-returns-clause-judged g t c =
-    let d = dtd_of c.args.grammar.now in
+    let d = dtd_of c.args.judge.now in
     let path = c.args.walk.now.places.items in
     let kids = forest c.in-Elem.kids.items in
     let list : Listed Mark = record { path = path; owner = an_element c.in-Elem.name; kids = kids } in
-    let owner : site_of d [] (an_element c.in-Elem.name) ≡ option_map plain_of c.element_owner-owner.result = element_site _ d [] _ c.in-Elem.name _ c.dtd.ensures c.as_slice.ensures c.element_owner-owner.ensures.owner in
+    let owner : site_of d [] (an_element c.in-Elem.name) ≡ option_map plain_of c.element_owner-owner.result = element_site _ d [] _ c.in-Elem.name _ (c.dtd.ensures ∙ ap dtd_of c.grammar.ensures) c.as_slice.ensures c.element_owner-owner.ensures.owner in
     let one : (root : List ℕ) → GoesOver d root (list ∷ []) (verdicts_of c.args.walk.now) (verdicts_of c.judge_list.new.walk) c.args.steps.now c.judge_list.new.steps =
     λ root. c.in_ok-judge_list.ensures.judged root list refl (rw c.deref.ensures.value refl) owner tt in
     rw (c.in-Elem.is, plain-Elem) (goes_match d c.judge_kids.result (list ∷ []) (lists_from path 0 kids) (verdicts_of c.args.walk.now) (verdicts_of c.judge_list.new.walk) (verdicts_of c.judge_kids.new.walk) c.args.steps.now c.judge_list.new.steps c.judge_kids.new.steps

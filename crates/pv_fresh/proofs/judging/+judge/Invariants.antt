@@ -14,9 +14,9 @@ abbrev pub invariant-judge_kids-loop-i : goal.invariant-judge_kids-loop-i
 invariant-judge_kids-loop-i g l = record {
   same_places : l.walk.places.items ≡ l.fn.walk.places.items;
   few_nodes : nodes_in_all (forest (drop l.i l.kids)) ≤ nodes_in_all (forest l.kids);
-  fits : AllByRecursion (IsListForVerdict (dtd_of l.grammar)) (lists_from l.walk.places.items l.i (forest (drop l.i l.kids)));
-  goes : (root : List ℕ) (last : PlainVerdicts) (to : ℕ) → GoesOver (dtd_of l.grammar) root (lists_from l.walk.places.items l.i (forest (drop l.i l.kids))) (verdicts_of l.walk) last l.steps to →
-      GoesOver (dtd_of l.grammar) root (lists_from l.walk.places.items 0 (forest l.kids)) (verdicts_of l.fn.walk) last l.fn.steps to;
+  fits : AllByRecursion (IsListForVerdict (dtd_of l.judge)) (lists_from l.walk.places.items l.i (forest (drop l.i l.kids)));
+  goes : (root : List ℕ) (last : PlainVerdicts) (to : ℕ) → GoesOver (dtd_of l.judge) root (lists_from l.walk.places.items l.i (forest (drop l.i l.kids))) (verdicts_of l.walk) last l.steps to →
+      GoesOver (dtd_of l.judge) root (lists_from l.walk.places.items 0 (forest l.kids)) (verdicts_of l.fn.walk) last l.fn.steps to;
   breaks : (to : ℕ) → to ≤ l.steps + length (lists_from l.walk.places.items l.i (forest (drop l.i l.kids))) →
       to ≤ l.fn.steps + length (lists_from l.walk.places.items 0 (forest l.kids));
 }

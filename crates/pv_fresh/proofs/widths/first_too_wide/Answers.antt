@@ -5,7 +5,8 @@ use Rattle.pv_tree.specs.Lists.{IsFirstNot, lists_at}
 use Rattle.pv_tree.specs.PlainDocs.{plain_doc}
 use Rattle.pv_tree.specs.PlainForms.{plain}
 use Rattle.pv_missing.specs.Widths.{IsListForVerdict}
-use Rattle.pv_fresh.proofs.Walking.{first_below, places_of_root, root_first}
+use Rattle.pv_missing.proofs.Walking.{places_of_root}
+use Rattle.pv_fresh.proofs.Walking.{first_below, root_first}
 use Rattle.pv_fresh.proofs.widths.first_too_wide.Goals as goal
 
 pub returns-then-not-is_list_narrow : goal.returns-then-not-is_list_narrow

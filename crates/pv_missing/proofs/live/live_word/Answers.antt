@@ -4,4 +4,4 @@ use Rattle.pv_missing.proofs.Known.{word_known}
 use Rattle.pv_missing.proofs.live.live_word.Goals as goal
 
 pub live_tokens-requires : goal.live_tokens-requires
-live_tokens-requires c = rw (c.as_slice.ensures, c.in_ok-tokens.ensures, c.dtd.ensures) (word_known (dtd_of c.args.grammar.now) (forest c.args.kids.now))
+live_tokens-requires c = rw (c.as_slice.ensures, c.in_ok-tokens.ensures, c.dtd.ensures) (word_known _ (dtd_of c.args.grammar.now) (forest c.args.kids.now))

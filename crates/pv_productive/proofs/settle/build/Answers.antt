@@ -8,6 +8,6 @@ use Rattle.pv_productive.proofs.settle.build.Goals as goal
 
 pub of-requires-2 : goal.of-requires-2
 of-requires-2 c =
-    let r = c.raise_all.ensures in
-    sizes (plain_dtd c.in_ok-layout.layout.dtd) (proper c.in_ok-layout.layout.dtd) (table_of c.raise_all.new.sizes) r.attained
+    let r = c.lower_all.ensures in
+    sizes (plain_dtd c.in_ok-layout.layout.dtd) (proper c.in_ok-layout.layout.dtd) (table_of c.lower_all.new.sizes) r.attained
     (subst (IsSettled (plain_dtd c.in_ok-layout.layout.dtd)) (sym (r.same c.loop-test.false)) (r.settled c.loop-test.false))

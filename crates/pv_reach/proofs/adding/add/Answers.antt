@@ -1,4 +1,4 @@
-use Rattle.pv_reach.specs.declared.rules.ColumnRule.{ColumnRule}
+use Rattle.pv_columns.specs.declared.rules.ColumnRule.{ColumnRule}
 use Rattle.pv_reach.proofs.Pushing.{added}
 use Rattle.pv_reach.proofs.adding.add.Goals as goal
 

@@ -1,5 +1,5 @@
-use Rattle.pv_reach.specs.Leading.{AreBare}
+use Rattle.pv_columns.specs.Marks.{AreBare}
 use Rattle.pv_reach.proofs.bare.bare_columns.Given as goal
 
 abbrev pub invariant-loop-rule : goal.invariant-loop-rule
-invariant-loop-rule l = AreBare l.rules l.marks.items
+invariant-loop-rule l = AreBare l.rules l.flags.items

@@ -16,17 +16,15 @@ pub unreachable-requires : goal.unreachable-requires
 unreachable-requires c =
     let ch = c.requires in let i = c.loop-member.invariant ch.0 ch.1 in let lt = c.loop-member-test.true in
     let n = i.next (let z = ch.2 in omega arith) in
-    let f = c.part_of.ensures in
-    let s = some_flat (dtd_of c.args.grammar.now) f.0 f.1 c.loop-member.member n.0
+    let s = some_flat (dtd_of c.args.grammar.now) c.loop-member.member n.0
     ((parts_by_number (dtd_of c.args.grammar.now)).in_choice c.args.number c.loop-member.member n.0 ch.0 ch.1 n.1) in
-    let h = sym f.2 ∙ c.in_default.is in absurd (cc)
+    let h = sym c.part_of.ensures ∙ c.in_default.is in absurd (cc)
 
 ends : (c : goal.In-Some) (ps : PlainParts) → part_at (dtd_of c.args.grammar.now) c.args.number ≡ Some (choice ps) → (p : PlainPart) →
     IsMemberAt p c.loop-member.member (suc c.args.number) ps → c.in-Some.part.end ≡ c.loop-member.member + parts_in p
 ends c ps e p m =
-    let f = c.part_of.ensures in
-    end_of (dtd_of c.args.grammar.now) f.0 f.1 c.loop-member.member c.in-Some.part p
-    ((parts_by_number (dtd_of c.args.grammar.now)).in_choice c.args.number c.loop-member.member p ps e m) (sym f.2 ∙ c.in-Some.is)
+    end_of (dtd_of c.args.grammar.now) c.loop-member.member c.in-Some.part p
+    ((parts_by_number (dtd_of c.args.grammar.now)).in_choice c.args.number c.loop-member.member p ps e m) (sym c.part_of.ensures ∙ c.in-Some.is)
 
 pub loop-member-smaller : goal.loop-member-smaller
 loop-member-smaller c =

@@ -8,27 +8,26 @@ use Rattle.pv_reach.proofs.parts.add_part.Goals as goal
 
 pub returns-in_default : goal.returns-in_default
 returns-in_default c =
-    let f = c.part_of.ensures in
     laid_none (dtd_of c.args.grammar.now) c.args.rules.now.items (part_column (dtd_of c.args.grammar.now) c.args.number) (IsRuleOfPart (dtd_of c.args.grammar.now) c.args.number)
-    (λ o cs s. let e = s.1 in let n = no_part (dtd_of c.args.grammar.now) f.0 f.1 c.args.number (sym f.2 ∙ c.in_default.is) in cc)
+    (λ o cs s. let e = s.1 in let n = no_part (dtd_of c.args.grammar.now) c.args.number (sym c.part_of.ensures ∙ c.in_default.is) in cc)
 
 pub add_name-requires : goal.add_name-requires
-add_name-requires c = let f = c.part_of.ensures in name_at (dtd_of c.args.grammar.now) f.0 f.1 c.args.number c.in-Name.id.0 c.in-Some.part (sym f.2 ∙ c.in-Some.is) c.in-Name.is
+add_name-requires c = name_at (dtd_of c.args.grammar.now) c.args.number c.in-Name.id.0 c.in-Some.part (sym c.part_of.ensures ∙ c.in-Some.is) c.in-Name.is
 
 pub add_seq-requires-clause-seq : goal.add_seq-requires-clause-seq
 add_seq-requires-clause-seq c =
-    let f = c.part_of.ensures in let a = seq_at (dtd_of c.args.grammar.now) f.0 f.1 c.args.number c.in-Some.part (sym f.2 ∙ c.in-Some.is) c.in-Seq.is in (a.0, a.1)
+    let a = seq_at (dtd_of c.args.grammar.now) c.args.number c.in-Some.part (sym c.part_of.ensures ∙ c.in-Some.is) c.in-Seq.is in (a.0, a.1)
 
 pub add_choice-requires : goal.add_choice-requires
 add_choice-requires c =
-    let f = c.part_of.ensures in let a = choice_at (dtd_of c.args.grammar.now) f.0 f.1 c.args.number c.in-Some.part (sym f.2 ∙ c.in-Some.is) c.in-Choice.is in
+    let a = choice_at (dtd_of c.args.grammar.now) c.args.number c.in-Some.part (sym c.part_of.ensures ∙ c.in-Some.is) c.in-Choice.is in
     (a.0, a.1, let z = a.2 in omega arith)
 
 pub add_opt-requires : goal.add_opt-requires
-add_opt-requires c = let f = c.part_of.ensures in let a = opt_at (dtd_of c.args.grammar.now) f.0 f.1 c.args.number c.in-Some.part (sym f.2 ∙ c.in-Some.is) c.in-Opt.is in (a.0, a.1)
+add_opt-requires c = let a = opt_at (dtd_of c.args.grammar.now) c.args.number c.in-Some.part (sym c.part_of.ensures ∙ c.in-Some.is) c.in-Opt.is in (a.0, a.1)
 
 pub add_star-requires : goal.add_star-requires
-add_star-requires c = let f = c.part_of.ensures in let a = star_at (dtd_of c.args.grammar.now) f.0 f.1 c.args.number c.in-Some.part (sym f.2 ∙ c.in-Some.is) c.in-Star.is in (a.0, a.1)
+add_star-requires c = let a = star_at (dtd_of c.args.grammar.now) c.args.number c.in-Some.part (sym c.part_of.ensures ∙ c.in-Some.is) c.in-Star.is in (a.0, a.1)
 
 pub add_plus-requires : goal.add_plus-requires
-add_plus-requires c = let f = c.part_of.ensures in let a = plus_at (dtd_of c.args.grammar.now) f.0 f.1 c.args.number c.in-Some.part (sym f.2 ∙ c.in-Some.is) c.in-Plus.is in (a.0, a.1)
+add_plus-requires c = let a = plus_at (dtd_of c.args.grammar.now) c.args.number c.in-Some.part (sym c.part_of.ensures ∙ c.in-Some.is) c.in-Plus.is in (a.0, a.1)

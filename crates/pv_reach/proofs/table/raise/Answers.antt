@@ -1,6 +1,6 @@
 use Rattle.std.proofs.Common.{ℕ, List, Contains, true≢false, sym, ◌∙◌, subst, arith}
-use Rattle.pv_reach.specs.declared.rules.ColumnRule.{ColumnRule}
-use Rattle.pv_reach.specs.Tables.{Holds}
+use Rattle.pv_columns.specs.declared.rules.ColumnRule.{ColumnRule}
+use Rattle.pv_reach.specs.Tables.{RaisesNothing}
 use Rattle.pv_reach.proofs.Raising.{raised, holds_more}
 use Rattle.pv_reach.proofs.table.raise.Goals as goal
 use Rattle.pv_reach.proofs.table.raise.Goals.{then-table-at, else-table-at}
@@ -29,7 +29,7 @@ loop-rule-preserved c =
         rises = rw w.table-is before.rises;
         same = λ e. w.table-is ∙ before.same (sym w.changed-is ∙ e);
         closed = λ e.
-            let H : List ℕ → ColumnRule → Type 0 = λ t. Holds c.args.word.now c.args.width t c.args.place in
+            let H : List ℕ → ColumnRule → Type 0 = λ t. RaisesNothing c.args.word.now c.args.width t c.args.place in
             let held : H c.loop-rule.table r = λ m reads. let a = c.past_rule-bound.ensures.most m reads in let b = w.if-table-at.false in omega arith in
             let P : List ℕ → Type 0 = λ t. H t r in
             let here : H c.args.table.now r = subst P (before.same (sym w.changed-is ∙ e)) held in

@@ -1,50 +1,47 @@
-use Rattle.std.proofs.Common.{Some, ap, map, refl, subst, sym, true≢false, ℕ, ◌∙◌, ◌≡◌}
-use Rattle.pv_model.specs.Models.{Allows}
+use Rattle.std.proofs.Common.{Some, ap, map, refl, subst, sym, true≢false, ◌∙◌, ◌≡◌}
 use Rattle.pv_model.specs.PlainForms.{plain_model, plain_token}
-use Rattle.pv_dtd.specs.Plain.{declared, model_of}
+use Rattle.pv_dtd.specs.Plain.{model_of}
 use Rattle.pv_dtd.proofs.Proper.{proper}
 use Rattle.pv_rules.specs.Sites.{content_site}
+use Rattle.pv_dtd.specs.Productive.{IsProductive}
 use Rattle.pv_productive.specs.PlainForms.{dtd_of}
+use Rattle.pv_productive.specs.declared.grammar.Grammar.{Grammar}
 use Rattle.pv_missing.specs.declared.owners.Of.TheVariants as of
-use Rattle.pv_reach.proofs.Judging.{content_possible_judged, content_valid_judged, judged_impossible, kids_judged}
-use Rattle.pv_reach.proofs.PossibleSites.{content_answer}
+use Rattle.pv_missing.proofs.Judging.{content_possible_judged, content_valid_judged, judged_impossible, kids_judged}
+use Rattle.pv_reach.proofs.ColumnAnswers.{content_answer}
 use Rattle.pv_reach.proofs.verdict.judge_content.Goals as goal
 
 pub returns-then-not-may_have_kids : goal.returns-then-not-may_have_kids
 returns-then-not-may_have_kids c =
-    let g = dtd_of c.args.grammar.now in
+    let g = dtd_of c.args.judge.now in
     let m = plain_model c.in-Some.model.now in
-    let at : model_of g c.args.id.0 ≡ Some m = ap (λ d. model_of d c.args.id.0) (sym c.dtd.ensures) ∙ sym c.in-Some.ensures in
+    let at : model_of g c.args.id.0 ≡ Some m = ap (λ d. model_of d c.args.id.0) (sym (c.dtd.ensures ∙ ap dtd_of c.grammar-grammar.ensures)) ∙ sym c.in-Some.ensures in
     kids_judged g (map plain_token c.args.word.now) c.args.id.0 m c.args.is_bare at (λ k. true≢false (sym (c.may_have_kids.ensures.1 k) ∙ c.if-not-may_have_kids.true))
 
 pub returns-then-branch : goal.returns-then-branch
 returns-then-branch c =
-    let g = dtd_of c.args.grammar.now in
+    let g = dtd_of c.args.judge.now in
     let m = plain_model c.in-Some.model.now in
-    let at : model_of g c.args.id.0 ≡ Some m = ap (λ d. model_of d c.args.id.0) (sym c.dtd.ensures) ∙ sym c.in-Some.ensures in
-    let owner = c.is_productive-has_elements.ensures.0 c.if-not-has_elements.false in
+    let at : model_of g c.args.id.0 ≡ Some m = ap (λ d. model_of d c.args.id.0) (sym (c.dtd.ensures ∙ ap dtd_of c.grammar-grammar.ensures)) ∙ sym c.in-Some.ensures in
+    let owner = subst (λ (v : Grammar). IsProductive (dtd_of v) c.args.id.0) c.grammar-grammar.ensures (c.is_productive-has_elements.ensures.0 c.if-not-has_elements.false) in
     let kids = c.may_have_kids.ensures.0 c.if-not-may_have_kids.false in
-    let n = c.count.ensures ∙ ap declared c.dtd-2.ensures in
-    let P : ℕ → Type 0 = λ v. Allows v m (map plain_token c.args.word.now) in
-    content_valid_judged g (map plain_token c.args.word.now) c.args.id.0 m c.args.is_bare at c.requires.productive owner kids (subst P n (c.in_ok-matches.ensures.0 c.if-branch.true))
+    content_valid_judged g (map plain_token c.args.word.now) c.args.id.0 m c.args.is_bare at c.requires.productive owner kids (c.in_ok-is_allowed.ensures.0 c.if-branch.true)
 
 pub returns-then-branch-2 : goal.returns-then-branch-2
 returns-then-branch-2 c =
-    let g = dtd_of c.args.grammar.now in
+    let g = dtd_of c.args.judge.now in
     let m = plain_model c.in-Some.model.now in
-    let at : model_of g c.args.id.0 ≡ Some m = ap (λ d. model_of d c.args.id.0) (sym c.dtd.ensures) ∙ sym c.in-Some.ensures in
-    let owner = c.is_productive-has_elements.ensures.0 c.if-not-has_elements.false in
+    let at : model_of g c.args.id.0 ≡ Some m = ap (λ d. model_of d c.args.id.0) (sym (c.dtd.ensures ∙ ap dtd_of c.grammar-grammar.ensures)) ∙ sym c.in-Some.ensures in
+    let owner = subst (λ (v : Grammar). IsProductive (dtd_of v) c.args.id.0) c.grammar-grammar.ensures (c.is_productive-has_elements.ensures.0 c.if-not-has_elements.false) in
     let kids = c.may_have_kids.ensures.0 c.if-not-may_have_kids.false in
-    let n = c.count.ensures ∙ ap declared c.dtd-2.ensures in
-    let P : ℕ → Type 0 = λ v. Allows v m (map plain_token c.args.word.now) in
-    let answer = content_answer g c.args.word.now c.args.id.0 c.in_ok-content_derives.field-0 (proper c.args.grammar.now.layout.dtd) c.requires.productive c.in_ok-content_derives.ensures
+    let answer = content_answer g c.args.word.now c.args.id.0 c.in_ok-content_derives.field-0 (proper c.args.judge.now.layout.dtd) c.requires.productive c.in_ok-content_derives.ensures
     (of.Elem c.args.id) refl in
     content_possible_judged g (map plain_token c.args.word.now) c.args.id.0 m c.args.is_bare at c.requires.productive owner kids
-    (λ a. true≢false (sym (c.in_ok-matches.ensures.1 (subst P (sym n) a)) ∙ c.if-branch.false)) (answer.0 c.if-branch-2.true)
+    (λ a. true≢false (sym (c.in_ok-is_allowed.ensures.1 a) ∙ c.if-branch.false)) (answer.0 c.if-branch-2.true)
 
 pub returns-else-branch-2 : goal.returns-else-branch-2
 returns-else-branch-2 c =
-    let g = dtd_of c.args.grammar.now in
-    let answer = content_answer g c.args.word.now c.args.id.0 c.in_ok-content_derives.field-0 (proper c.args.grammar.now.layout.dtd) c.requires.productive c.in_ok-content_derives.ensures
+    let g = dtd_of c.args.judge.now in
+    let answer = content_answer g c.args.word.now c.args.id.0 c.in_ok-content_derives.field-0 (proper c.args.judge.now.layout.dtd) c.requires.productive c.in_ok-content_derives.ensures
     (of.Elem c.args.id) refl in
     judged_impossible g (map plain_token c.args.word.now) (content_site c.args.id.0) c.args.is_bare c.requires.productive (λ p. true≢false (sym (answer.1 p) ∙ c.if-branch-2.false))

@@ -8,8 +8,10 @@ use Rattle.pv_read.proofs.epilog.read_epilog.Goals as goal
 pub returns-in_err-more-clause-refused : goal.returns-in_err-more-clause-refused
 returns-in_err-more-clause-refused c =
     let from = err_from_is_err_and c.from_residual.result c.from_residual.ensures.1 in
-    let some : c.items.rest.now ≡ [] → ⊥ = λ e. grind (arith, common_steps) in
-    rw (from.1, from.2) (refused_behind c.items.invariant some _ c.in_err-more.ensures.refused)
+    rw (from.1, from.2) (refused_behind c.items.invariant _ c.in_err-more.ensures.refused)
+
+pub next_item-requires : goal.next_item-requires
+next_item-requires c = λ e. grind (arith, common_steps)
 
 pub items-preserved : goal.items-preserved
 items-preserved c =

@@ -4,4 +4,4 @@ use Rattle.pv_read.proofs.OneMeaning.{same_document_meaning}
 use Rattle.pv_read.proofs.laws.one_meaning_law.Goals as goal
 
 pub returns : goal.returns
-returns c = λ root bytes o p. same_document_meaning one_item blank_mark root
+returns c = λ limits root bytes o p. same_document_meaning one_item limits blank_mark root

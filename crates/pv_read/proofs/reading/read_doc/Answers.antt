@@ -2,7 +2,7 @@ use Rattle.std.proofs.Common.{arith}
 use Rattle.std.proofs.lemmas.Result.{err_from_is_err_and}
 use Rattle.pv_tree.specs.PlainForms.{plain}
 use Rattle.pv_tree.specs.Marks.{blank_mark}
-use Rattle.pv_read.specs.Meaning.{long}
+use Rattle.pv_read.specs.Meaning.{document_limits, long}
 use Rattle.pv_read.specs.Epilogs.{document}
 use Rattle.pv_read.proofs.Agreement.{spelled_where_meant}
 use Rattle.pv_read.proofs.DocumentFacts.{few_nodes, keeps}
@@ -16,7 +16,7 @@ returns-then-bytes-gt-MAX_DOC_BYTES-clause-refused c = long (omega arith)
 pub returns-in_err-parts-clause-exactly : goal.returns-in_err-parts-clause-exactly
 returns-in_err-parts-clause-exactly c =
     let from = err_from_is_err_and c.from_residual.result c.from_residual.ensures.1 in
-    rw (from.1, from.2) (answers_error one_item c.args.root.now c.args.bytes.now _ c.in_err-parts.ensures.refused)
+    rw (from.1, from.2) (answers_error one_item document_limits c.args.root.now c.args.bytes.now _ c.in_err-parts.ensures.refused)
 
 pub invariant_of-result : goal.invariant_of-result
 invariant_of-result c =
@@ -57,4 +57,4 @@ returns-clause-marks c =
 pub returns-clause-exactly : goal.returns-clause-exactly
 returns-clause-exactly c =
     let means = same_parts _ _ c.in_ok-before.before c.in_ok-after.after c.in_ok-parts.ensures.read c.in_ok-before.ensures c.in_ok-after.ensures in
-    answers_document one_item c.args.root.now c.args.bytes.now _ means
+    answers_document one_item document_limits c.args.root.now c.args.bytes.now _ means

@@ -1,5 +1,5 @@
-use Rattle.pv_rules.proofs.ByKind.{by_kind}
+use Rattle.pv_rules.proofs.ByKind.{by_kind, from_kind}
 use Rattle.pv_rules.proofs.laws.kinds_law.Goals as goal
 
 pub returns : goal.returns
-returns c = by_kind
+returns c = λ g w s i j k xs. (by_kind g w s i j k xs, from_kind g w s i j k xs)

@@ -1,4 +1,4 @@
-use Rattle.pv_script.proofs.Pieces.{joins_lines, ends_line}
+use Rattle.pv_script.proofs.RawLines.{joins_lines, ends_line}
 use Rattle.pv_script.proofs.laws.lines_law.Goals as goal
 
 pub returns-clause-joined : goal.returns-clause-joined

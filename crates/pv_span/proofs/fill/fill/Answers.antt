@@ -1,16 +1,54 @@
-use Rattle.std.proofs.Common.{arith, length, map, ◌-◌}
+use Rattle.std.proofs.Common.{ap, arith, inl, inr, length, length-append, map, refl, subst, suc, sym, ◌+◌, ◌<◌, ◌≡◌}
 use Rattle.std.proofs.lemmas.List.{length-map}
+use Rattle.std.proofs.lemmas.Bool.{cases_lt}
 use Rattle.pv_model.specs.PlainForms.{plain_token}
-use Rattle.pv_productive.specs.PlainForms.{dtd_of}
+use Rattle.pv_span.specs.Charts.{AreSettled, spans_before}
+use Rattle.pv_span.specs.Done.{rows_of}
+use Rattle.pv_span.specs.FormForms.{plain_all}
 use Rattle.pv_span.specs.PlainForms.{plain_chart}
-use Rattle.pv_span.proofs.Finishing.{filled, from_before}
+use Rattle.pv_span.proofs.Across.{rows_count}
+use Rattle.pv_span.proofs.Finishing.{filled, put_next, ready_begun, room_left}
 use Rattle.pv_span.proofs.fill.fill.Goals as goal
 
-pub loop-from-preserved : goal.loop-from-preserved
-loop-from-preserved c =
-    from_before (dtd_of c.args.grammar.now) (map plain_token c.args.word.now) (length c.args.word.now) c.loop-from.from (c.loop-from.from - 1)
-    (plain_chart c.do_spans_from.new.chart) (omega arith) c.loop-from.auto.from c.do_spans_from.ensures
+pub settle-requires : goal.settle-requires
+settle-requires c =
+    let t = c.loop-chart.chart in
+    let n = rows_count t.done in let e = t.spans in
+    let room : t.done.count < t.done.spans = elim (cases_lt t.done.count t.done.spans) [
+      | inl lt ↦ lt
+      | inr ge ↦ absurd (let k = c.is_full.ensures.1 (omega arith) in let q = c.loop-chart-test.true in cc)
+    ] in
+    ready_begun (plain_all c.args.forms.now) (map plain_token c.args.word.now) t.from t.to (length (rows_of t.done)) (plain_chart t) c.loop-chart.invariant
+    (let q = t.next room in omega arith) t.place.0 t.place.1
+
+pub next-requires-clause-room : goal.next-requires-clause-room
+next-requires-clause-room c =
+    let t = c.settle.new.chart in
+    room_left (plain_all c.args.forms.now) (map plain_token c.args.word.now) t.from t.to (plain_chart t) c.settle.ensures.attained
+
+pub next-requires-clause-few : goal.next-requires-clause-few
+next-requires-clause-few c = λ s. (c.settle.ensures.attained.attained s).0
+
+pub loop-chart-smaller : goal.loop-chart-smaller
+loop-chart-smaller c =
+    let t = c.settle.new.chart in
+    let same = c.settle.ensures.same in
+    let room = room_left (plain_all c.args.forms.now) (map plain_token c.args.word.now) t.from t.to (plain_chart t) c.settle.ensures.attained in
+    let rows = ap (λ x. length x.rows) c.next.ensures.next in
+    let more = simp length-append at rows in
+    let tokens = ap (λ x. x.tokens) c.next.ensures.next in
+    rw (← same.2, ← same.3, tokens) (omega arith)
+
+pub loop-chart-preserved : goal.loop-chart-preserved
+loop-chart-preserved c =
+    let t = c.settle.new.chart in
+    let n : length (plain_all c.args.forms.now) ≡ length c.args.forms.now = simp length-map in
+    put_next (plain_all c.args.forms.now) (map plain_token c.args.word.now) t.from t.to (length (rows_of c.next.new.self.done)) (plain_chart t) (plain_chart c.next.new.self)
+    c.next.new.self.row.items c.settle.ensures.attained
+    (subst (λ z. AreSettled (plain_all c.args.forms.now) (map plain_token c.args.word.now) t.from t.to z (plain_chart t)) (sym n) c.settle.ensures.settled) c.next.ensures.sized c.next.ensures.blank c.next.ensures.next refl
 
 pub returns : goal.returns
-returns c = λ some.
-    filled (dtd_of c.args.grammar.now) (map plain_token c.args.word.now) (length c.args.word.now) c.loop-from.from (plain_chart c.loop-from.chart) (simp length-map) c.loop-from-test.false c.loop-from.invariant
+returns c =
+    let t = c.loop-chart.chart in
+    filled (plain_all c.args.forms.now) (map plain_token c.args.word.now) (length (rows_of t.done)) (plain_chart t) c.loop-chart.invariant
+    (let q = c.loop-chart-test.false in c.is_full.ensures.0 cc)

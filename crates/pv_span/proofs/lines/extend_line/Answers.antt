@@ -1,22 +1,20 @@
 use Rattle.std.proofs.Common.{arith, inr}
 use Rattle.pv_span.specs.Done.{rows_of}
 use Rattle.pv_span.proofs.Lining.{few_told, no_more, one_more}
-use Rattle.pv_span.proofs.Numbering.{later_before}
 use Rattle.pv_span.proofs.lines.extend_line.Goals as goal
 
-pub add_cut-requires-clause-done : goal.add_cut-requires-clause-done
-add_cut-requires-clause-done c = later_before c.args.tokens c.args.from c.args.to c.args.done.now.count c.if-from-to.false c.requires.span.1 c.requires.done
-
 pub add_cut-requires-clause-few : goal.add_cut-requires-clause-few
-add_cut-requires-clause-few c = few_told c.args.tokens (rows_of c.args.done.now) c.args.from c.args.to c.args.line.now c.requires.line
+add_cut-requires-clause-few c = let s = c.args.last.now in few_told s.tokens (rows_of s.done.now) s.from s.to c.args.line.now c.requires
 
-pub returns-then-before-lt-NONE : goal.returns-then-before-lt-NONE
-returns-then-before-lt-NONE c =
-    one_more c.args.tokens (rows_of c.args.done.now) c.args.from c.args.to c.args.line.now c.add_cut.new.line c.value_over-before.result
-    c.if-from-to.false c.add_cut.ensures.one c.add_cut.ensures.two c.add_cut.ensures.long c.value_over-before.ensures
-    c.add_cut.ensures.each c.requires.line
+pub returns-then-before-lt-NO_SIZE : goal.returns-then-before-lt-NO_SIZE
+returns-then-before-lt-NO_SIZE c =
+    let s = c.args.last.now in
+    one_more s.tokens (rows_of s.done.now) s.from s.to c.args.line.now c.add_cut.new.line c.value-before.result
+    c.if-last.false c.add_cut.ensures.one c.add_cut.ensures.two c.add_cut.ensures.long c.value-before.ensures
+    c.add_cut.ensures.each c.requires
 
-pub returns-else-before-lt-NONE : goal.returns-else-before-lt-NONE
-returns-else-before-lt-NONE c =
-    no_more c.args.tokens (rows_of c.args.done.now) c.args.from c.args.to c.args.line.now c.requires.line
-    (inr (c.if-from-to.false, let e = c.value_over-before.ensures in let f = c.if-before-lt-NONE.false in omega arith))
+pub returns-else-before-lt-NO_SIZE : goal.returns-else-before-lt-NO_SIZE
+returns-else-before-lt-NO_SIZE c =
+    let s = c.args.last.now in
+    no_more s.tokens (rows_of s.done.now) s.from s.to c.args.line.now c.requires
+    (inr (c.if-last.false, let e = c.value-before.ensures in let f = c.if-before-lt-NO_SIZE.false in omega arith))

@@ -6,5 +6,5 @@ use Rattle.pv_span.proofs.lines.extend_lines.Given as goal
 
 abbrev pub invariant-loop-number : goal.invariant-loop-number
 invariant-loop-number l =
-    ((k : ℕ) (x : Line) → slice_get l.lines k ≡ Some x → k < l.number → IsLine l.tokens (rows_of l.done) l.from (suc l.to) x) ×
-    ((k : ℕ) (x : Line) → slice_get l.lines k ≡ Some x → l.number ≤ k → IsLine l.tokens (rows_of l.done) l.from l.to x)
+    ((k : ℕ) (x : Line) → slice_get l.lines k ≡ Some x → k < l.number → IsLine l.last.tokens (rows_of l.last.done.now) l.last.from (suc l.last.to) x) ×
+    ((k : ℕ) (x : Line) → slice_get l.lines k ≡ Some x → l.number ≤ k → IsLine l.last.tokens (rows_of l.last.done.now) l.last.from l.last.to x)

@@ -5,7 +5,7 @@ use Rattle.pv_valid.proofs.Taken.{none_read, room, refused_at, one_more, last_on
 use Rattle.pv_valid.proofs.content.read_content.Goals as goal
 
 pub items-init : goal.items-init
-items-init c = none_read (plain_dtd c.args.dtd.now) c.args.root.now c.args.tag.now.name.now c.args.tag.now.attrs.now c.args.bytes.now c.args.first c.of-lists.result (c.of-lists.ensures.read c.args.root.now c.args.tag.now.attrs.now)
+items-init c = none_read c.args.most_depth (plain_dtd c.args.dtd.now) c.args.root.now c.args.tag.now.name.now c.args.tag.now.attrs.now c.args.bytes.now c.args.first c.of-lists.result (c.of-lists.ensures.read c.args.root.now c.args.tag.now.attrs.now)
 
 pub read_item-requires-clause-room : goal.read_item-requires-clause-room
 read_item-requires-clause-room c = room c.items.invariant c.requires

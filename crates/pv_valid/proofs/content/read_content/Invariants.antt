@@ -4,7 +4,7 @@ use Rattle.pv_valid.specs.Contents.{ReadsContent}
 use Rattle.pv_valid.proofs.content.read_content.Given as goal
 
 abbrev pub invariant-items : goal.invariant-items
-invariant-items l = ReadsContent (plain_dtd l.dtd) l.root l.tag.name.now l.tag.attrs.now l.bytes l.first l.lists l.rest l.count
+invariant-items l = ReadsContent l.most_depth (plain_dtd l.dtd) l.root l.tag.name.now l.tag.attrs.now l.bytes l.first l.lists l.rest l.count
 
 abbrev pub decreases-items : goal.decreases-items
 decreases-items l = length l.rest

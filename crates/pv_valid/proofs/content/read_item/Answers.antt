@@ -12,7 +12,7 @@ returns-in_err-item-clause-refused c =
     let from = err_from_is_err_and c.from_residual.result c.from_residual.ensures.1 in
     let many : c.len-open_elements.result + 1 ≡ suc (length c.args.lists.now.outer.items) = omega arith in
     rw (from.1, from.2) (λ before inner outer r.
-    c.in_err-item.ensures.refused (in_content before inner outer) (place_is (plain_dtd c.args.dtd.now) c.args.root.now c.args.lists.now inner outer r before (c.len-open_elements.result + 1) many) (λ whole. whole))
+    c.in_err-item.ensures.refused (in_content before inner outer) (place_is (plain_dtd c.args.dtd.now) c.args.root.now c.args.lists.now inner outer r before (c.len-open_elements.result + 1) many))
 
 pub add-requires-clause-stands : goal.add-requires-clause-stands
 add-requires-clause-stands c =

@@ -1,5 +1,4 @@
 use Rattle.std.proofs.Common.{subst, ◌∙◌}
-use Rattle.pv_productive.specs.PlainForms.{dtd_of}
 use Rattle.pv_tree.specs.PlainDocs.{plain_doc}
 use Rattle.pv_cache.specs.Rows.{AreRows}
 use Rattle.pv_cache.specs.Stamps.{StampedDoc}
@@ -9,4 +8,4 @@ use Rattle.pv_cache.proofs.marked.Marked.verdict_rows.Goals as goal
 pub returns : goal.returns
 returns c =
     let m = c.self.inside in
-    subst (λ (s : StampedDoc). AreRows s c.of.result) c.self.view_is (told_rows (dtd_of m.grammar) m.root (plain_doc m.doc) c.self.invariant.marked c.of.result (c.of.ensures ∙ c.in_ok-rows_of.ensures))
+    subst (λ (s : StampedDoc). AreRows s c.of.result) c.self.view_is (told_rows m.document.grammar m.document.root (plain_doc m.document.doc) c.self.inside.document.marked c.of.result (c.of.ensures ∙ c.in_ok-rows_of.ensures))

@@ -1,5 +1,5 @@
 use Rattle.std.specs.Vec.{with_items}
-use Rattle.std.proofs.Common.{arith, ◌≡◌}
+use Rattle.std.proofs.Common.{arith, ◌-◌, ◌≡◌}
 use Rattle.std.proofs.lemmas.List.{with_items_is}
 use Rattle.pv_span.specs.Done.{rows_of}
 use Rattle.pv_span.proofs.Lined.{forgotten}
@@ -14,13 +14,13 @@ new-requires c = (few_in_all c.args.tokens c.span_number-spans.result c.requires
 
 pub invariant_of-result-clause-spans : goal.invariant_of-result-clause-spans
 invariant_of-result-clause-spans c =
-    let e = c.in_ok-new.ensures.spans in let h = few_in_all c.args.tokens c.span_number-spans.result c.requires c.span_number-spans.ensures in omega arith
+    let e = c.in_ok-done.ensures.spans in let h = few_in_all c.args.tokens c.span_number-spans.result c.requires c.span_number-spans.ensures in omega arith
 
-pub invariant_of-result-clause-sized : goal.invariant_of-result-clause-sized
-invariant_of-result-clause-sized c = rw (c.in_ok-new.ensures.names, c.in_ok-new.ensures.parts) c.in_ok-new-2.ensures.sized
+pub invariant_of-result-clause-next : goal.invariant_of-result-clause-next
+invariant_of-result-clause-next c = λ l. let e = c.in_ok-done.ensures.count in let z : c.args.tokens - c.args.tokens ≡ 0 = omega arith in rw z (omega arith)
 
 pub invariant_of-result-clause-lined : goal.invariant_of-result-clause-lined
 invariant_of-result-clause-lined c =
     let e : (with_items c.args.lines c.forget_lines.new.lines).items ≡ c.forget_lines.new.lines =
     with_items_is c.args.lines _ (let l = c.forget_lines.auto.lines in let m = c.deref_mut.ensures.len in omega arith) in
-    ∣ rw e (forgotten c.args.tokens c.args.tokens (rows_of c.in_ok-new.field-0) c.forget_lines.new.lines c.forget_lines.ensures) ∣₁
+    ∣ rw e (forgotten c.args.tokens c.args.tokens (rows_of c.in_ok-done.done) c.forget_lines.new.lines c.forget_lines.ensures) ∣₁

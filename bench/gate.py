@@ -1,0 +1,142 @@
+"""Measures the gate, crate by crate. Words: the repository's folder, then words for `rt ci`; without these it proves all from nothing.
+
+It runs `rt ci`, with `--anew` where the kit keeps what passed, looks at its processes four times a second, and tells how many minutes of
+processor time each crate took: its proof, its tests' proofs, and its must-fail edits; then what tests and programs took to be built and
+run, the whole, the time on the clock, and the longest chain of crates that stand on one another. What a process does between the last look
+at it and its end isn't counted.
+"""
+import os
+import subprocess
+import sys
+import time
+
+PHASES = ("proof", "tests", "edits", "run")
+TICKS = os.sysconf("SC_CLK_TCK")
+
+
+def crates_of(top):
+    """The crates of the repository, each with those of it that it stands on."""
+    lines = [line.split("#")[0].strip() for line in open(f"{top}/crates.txt")]
+    named = dict(line.split(":") for line in lines if line)
+    needs = {name.split()[0]: needs.split() for name, needs in named.items()}
+    return {name: [it for it in below if it in needs] for name, below in needs.items()}
+
+
+def longest_chain(needs):
+    """The longest chain of crates, lowest first."""
+    chains = {}
+
+    def chain_to(name):
+        if name not in chains:
+            chains[name] = max((chain_to(it) for it in needs[name]), key=len, default=[]) + [name]
+        return chains[name]
+
+    return max((chain_to(name) for name in needs), key=len)
+
+
+def read(path):
+    try:
+        with open(path, "rb") as file:
+            return file.read()
+    except OSError:
+        return b""
+
+
+class Process:
+    """A process as one look shows it: its parent, its start, its words, and in seconds its processor time and that of its ended children."""
+
+    def __init__(self, pid):
+        fields = read(f"/proc/{pid}/stat").rpartition(b")")[2].split()
+        self.is_there = bool(fields)
+        self.pid = pid
+        if self.is_there:
+            self.parent, self.start = int(fields[1]), int(fields[19])
+            self.own, self.ended = sum(map(int, fields[11:13])) / TICKS, sum(map(int, fields[13:15])) / TICKS
+            self.words = read(f"/proc/{pid}/cmdline").decode(errors="replace").split("\0")
+
+    def is_prover(self):
+        """It proves or builds one crate, with helpers of its own."""
+        return os.path.basename(self.words[0]) == "rattle" and "--crate-name" in self.words
+
+    def place(self, needs):
+        """The crate and the phase that its time belongs to."""
+        name = self.words[self.words.index("--crate-name") + 1]
+        try:
+            folder = os.readlink(f"/proc/{self.pid}/cwd")
+        except OSError:
+            folder = ""
+        is_edit = any(part.startswith("rt-edit") for part in folder.split("/"))
+        phase = "edits" if is_edit else "tests" if "--test" in self.words else "proof"
+        return (name if name in needs else ""), phase
+
+
+class Watch:
+    """The processor time of all processes below one, by crate and phase."""
+
+    def __init__(self, needs):
+        self.needs, self.places, self.seconds = needs, {}, {}
+
+    def look(self, tops):
+        """Notes what the processes below these have taken so far. A prover's time is that of its helpers too."""
+        found = {int(it): Process(int(it)) for it in os.listdir("/proc") if it.isdigit()}
+        found = {pid: it for pid, it in found.items() if it.is_there}
+        taken = {}
+        for pid in found:
+            above, prover, own = pid, None, found[pid]
+            while above in found and above not in tops:
+                if found[above].is_prover():
+                    prover = found[above]
+                above = found[above].parent
+            if above in tops and above != pid:
+                of = prover or own
+                key = of.pid, of.start
+                if prover:
+                    # It may have been seen before it was one.
+                    self.places[key] = of.place(self.needs)
+                self.places.setdefault(key, ("", "run"))
+                taken[key] = taken.get(key, 0) + own.own + (own.ended if prover else 0)
+        for key, seconds in taken.items():
+            self.seconds[key] = max(self.seconds.get(key, 0), seconds)
+
+    def minutes(self):
+        """Minutes by crate and phase."""
+        told = {}
+        for key, seconds in self.seconds.items():
+            told[self.places[key]] = told.get(self.places[key], 0) + seconds / 60
+        return told
+
+
+def tell(watch, needs):
+    told = watch.minutes()
+    rows = {name: [told.get((name, phase), 0) for phase in PHASES[:3]] for name in needs}
+    print(f"{'crate':20}{'proof':>8}{'tests':>8}{'edits':>8}{'all':>8}")
+    for name, row in sorted(rows.items(), key=lambda it: -sum(it[1])):
+        print(f"{name:20}" + "".join(f"{minutes:8.1f}" for minutes in [*row, sum(row)]))
+    sums = [sum(row[at] for row in rows.values()) for at in range(3)]
+    print(f"{'together':20}" + "".join(f"{minutes:8.1f}" for minutes in [*sums, sum(sums)]))
+    rest = sum(minutes for (name, phase), minutes in told.items() if not name or phase == "run")
+    print(f"tests and programs, built and run, and all else: {rest:.1f}")
+    print(f"the longest chain, of {len(longest_chain(needs))}: {' '.join(longest_chain(needs))}")
+
+
+def from_nothing():
+    """The words by which `rt ci` proves all from nothing: a kit that keeps nothing has none."""
+    told = subprocess.run(["rt", "help"], capture_output=True, text=True, errors="replace")
+    return ["--anew"] if "--anew" in told.stdout + told.stderr else []
+
+
+def main():
+    top, words = sys.argv[1], sys.argv[2:]
+    needs = crates_of(top)
+    watch, began = Watch(needs), time.time()
+    gate = subprocess.Popen(["rt", "ci", *(words or from_nothing())], cwd=top)
+    while gate.poll() is None:
+        watch.look({gate.pid})
+        time.sleep(0.25)
+    tell(watch, needs)
+    print(f"on the clock: {(time.time() - began) / 60:.1f}")
+    sys.exit(gate.returncode)
+
+
+if __name__ == "__main__":
+    main()

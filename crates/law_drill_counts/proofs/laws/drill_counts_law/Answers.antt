@@ -1,0 +1,13 @@
+use Rattle.law_drill_counts.proofs.Formula.{counts_by_formula, responds_by_formula}
+use Rattle.law_drill_counts.proofs.Opening.{Reading, drills_begin}
+use Rattle.law_drill_counts.proofs.laws.drill_counts_law.Goals as goal
+
+pub returns : goal.returns
+returns c =
+    let known : Reading = record {
+      one = c.one_meaning_law.ensures;
+      documents = record { means_one = c.one_meaning_law-2.ensures; means = c.meant_law.ensures; spells_one = c.one_document_law.ensures };
+      drill_dtd = c.dtd_law.ensures;
+      drill_document = c.document_law.ensures;
+    } in
+    record { begins = drills_begin known; counts = counts_by_formula known c.one_command_law.ensures.one; response = responds_by_formula known c.one_command_law.ensures.one }

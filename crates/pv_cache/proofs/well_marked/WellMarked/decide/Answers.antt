@@ -1,0 +1,19 @@
+use Rattle.std.proofs.Common.{arith}
+use Rattle.pv_cache.specs.Changed.{IsFirstAmong}
+use Rattle.pv_edit.specs.Fitting.{plain_task}
+use Rattle.pv_tree.specs.PlainDocs.{plain_doc}
+use Rattle.pv_tree.specs.PlainForms.{plain}
+use Rattle.pv_cache.proofs.Tasks.{first-unaccepted, task-place}
+use Rattle.pv_cache.proofs.well_marked.WellMarked.decide.Goals as goal
+
+pub overflow_cast-from : goal.overflow_cast-from
+overflow_cast-from g c =
+    let t = c.args.task.now in
+    let p = task-place (plain c.args.self.now.doc.root) (plain_task t) c.requires.can c.requires.unshort c.args.self.now.doc.mark c.args.self.now.doc.small in
+    omega arith
+
+pub returns-in-Some-clause-refused : goal.returns-in-Some-clause-refused
+returns-in-Some-clause-refused g c =
+    let vs = c.in-Ok.verdicts in
+    let first : IsFirstAmong c.args.task.now.list vs.outer vs.inner c.in-Some.path = rw c.in-Some.is at c.in_ok-first_impossible.ensures in
+    first-unaccepted c.args.self.now.grammar c.args.self.now.root (plain_doc c.args.self.now.doc) (plain_task c.args.task.now) c.requires.can c.requires.unshort vs.outer vs.inner c.in-Ok.ensures.judged c.in-Some.path first

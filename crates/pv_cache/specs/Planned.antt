@@ -1,0 +1,12 @@
+-- The DTD of a grammar whose rules are laid out.
+use Rattle.pv_cache.specs.declared.planned.PlannedGrammar.TheInside.{Inside}
+use Rattle.pv_dtd.specs.Plain.{PlainDtd}
+use Rattle.pv_productive.specs.PlainForms.{dtd_of}
+use Rattle.pv_reach.specs.Plans.{IsPlan}
+
+abbrev pub planned_dtd : Inside → PlainDtd
+planned_dtd p = dtd_of p.grammar
+
+-- its plan is one of the grammar
+pub record HasPlan (p : Inside) : Type 0 where
+  pub plan : IsPlan (dtd_of p.grammar) p.plan

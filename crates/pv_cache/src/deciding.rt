@@ -1,0 +1,86 @@
+//! The decision on a change of one list, by the verdicts of the lists that it changes.
+
+ghost use Rattle.std.specs.Prelude.{◌≡◌, ◌≤◌, ◌+◌, true, IfErr, IfOk, IfSome, MatchOption, Some};
+ghost use Rattle.std.specs.Prelude.{false};
+ghost use Rattle.pv_cache.specs.Changed.{AreJudged, AreLive, IsFirstAmong, owner_at};
+ghost use Rattle.pv_cache.specs.Changing.{IsTaskFor, IsUnaccepted};
+ghost use Rattle.pv_cache.specs.declared.mending.InnerVerdict.{InnerVerdict};
+ghost use Rattle.pv_edit.specs.Fitting.{plain_task};
+ghost use Rattle.pv_edit.specs.Reasons.{kids_at};
+ghost use Rattle.pv_tree.specs.PlainDocs.{plain_doc};
+ghost use Rattle.pv_tree.specs.declared.nodes.Verdict.TheVariants as verdict;
+
+use crate::mending::{ChangedVerdicts, InnerVerdict};
+use crate::well_marked::WellMarked;
+use pv_chars::NoMemory;
+use pv_edit::{EditAnswer, Task, kid_path};
+use pv_reach::ReachError;
+use pv_steps::Steps;
+use pv_tree::{Path, Verdict};
+use std::alloc::Global;
+use std::sync::ledger::Ledger;
+
+// Whether the inner list, if there is one, is Impossible.
+fn is_inner_impossible(inner: Option<InnerVerdict>) -> bool
+    ensures is { result ≡ true → (i : InnerVerdict) × (inner ≡ Some i) ×
+        (i.verdict ≡ verdict.Impossible) }
+    ensures isnt { result ≡ false → IfSome inner (λ i. i.verdict ≡ verdict.Impossible → ⊥) }
+{
+    match inner {
+        None => false,
+        Some(inner) => inner.verdict == Verdict::Impossible,
+    }
+}
+
+/// The path of the first of the changed lists whose verdict is Impossible. `list` is the path of
+/// the outer list, and `from` the place of the inner one's owner in it.
+fn first_impossible(
+    alloc: Global,
+    list: &Path,
+    from: u32,
+    verdicts: &ChangedVerdicts,
+) -> Result<Option<Path>, NoMemory>
+    requires { IfSome verdicts.now.inner (λ i. i.place ≡ from) }
+    ensures { IfOk result (λ first. MatchOption first
+        (AreLive verdicts.now.outer verdicts.now.inner)
+        (IsFirstAmong list.now verdicts.now.outer verdicts.now.inner)) }
+{
+    if verdicts.outer == Verdict::Impossible {
+        return Ok(Some(Path::new(alloc, list.places())?));
+    }
+    if is_inner_impossible(verdicts.inner) {
+        return Ok(Some(kid_path(alloc, list, from)?));
+    }
+    Ok(None)
+}
+
+impl WellMarked {
+    /// Decides on a change: the verdicts of the lists that it changes, or why it isn't accepted.
+    /// Limits come before verdicts, and the outer list before the inner one.
+    pub(crate) fn decide<L: Ledger>(
+        &self,
+        task: &Task,
+        steps: &mut Steps<L>,
+    ) -> Result<ChangedVerdicts, EditAnswer>
+        requires { IsTaskFor (plain_doc self.now.doc) task.now }
+        ensures judged { IfOk result (λ verdicts. AreJudged self.now.grammar self.now.root
+            (owner_at task.now.list (plain_doc self.now.doc).root)
+            (kids_at task.now.list (plain_doc self.now.doc).root)
+            (plain_task task.now) verdicts.outer verdicts.inner) }
+        ensures live { IfOk result (λ verdicts. AreLive verdicts.outer verdicts.inner) }
+        ensures refused { IfErr result (IsUnaccepted self.now.grammar self.now.root
+            (plain_doc self.now.doc) (plain_task task.now)) }
+        ensures steps { steps.new ≤ steps.old + 2 }
+    {
+        let verdicts = match self.judge_task(task, steps) {
+            Ok(verdicts) => verdicts,
+            Err(ReachError::TooWide) => return Err(EditAnswer::Limit),
+            Err(ReachError::NoMemory) => return Err(EditAnswer::NoMemory),
+        };
+        let from = task.change.from as u32;
+        match first_impossible(self.alloc, &task.list, from, &verdicts)? {
+            None => Ok(verdicts),
+            Some(path) => Err(EditAnswer::Impossible(path)),
+        }
+    }
+}

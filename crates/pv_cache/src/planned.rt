@@ -1,0 +1,85 @@
+//! A grammar with its plan, by which lists are judged.
+
+ghost use Rattle.std.specs.Prelude.{◌≡◌, ◌+◌, IfErr, IfOk, IfSome, length};
+ghost use Rattle.std.specs.Option.{option_map};
+ghost use Rattle.pv_cache.specs.Judging.{IsFoundList};
+ghost use Rattle.pv_dtd.specs.PlainForms.{plain_dtd};
+ghost use Rattle.pv_missing.specs.PlainForms.{plain_of};
+ghost use Rattle.pv_missing.specs.Widths.{FitsVerdict};
+ghost use Rattle.pv_productive.specs.PlainForms.{dtd_of};
+ghost use Rattle.pv_reach.specs.declared.errors.ReachError.TheVariants.{TooWide as too_wide};
+ghost use Rattle.pv_rules.specs.Sites.{HasSite};
+
+use crate::words::ListWord;
+use pv_chars::NoMemory;
+use pv_dtd::Dtd;
+use pv_missing::Of;
+use pv_productive::Grammar;
+use pv_reach::{Judge, Plan, ReachError, word_verdict};
+use pv_steps::Steps;
+use pv_tree::Verdict;
+use std::alloc::Global;
+use std::marker::Model;
+use std::sync::ledger::Ledger;
+
+/// A grammar, and its rules laid out for all words.
+#[derive(Drop)]
+pub struct PlannedGrammar {
+    grammar: Grammar,
+    plan: Plan,
+}
+
+impl Model for PlannedGrammar {
+    ghost use Rattle.pv_dtd.specs.Plain.{PlainDtd};
+    ghost use Rattle.pv_cache.specs.Codes.{dtd_code};
+
+    ghost Value = { PlainDtd };
+
+    ghost coded = { dtd_code };
+
+    ghost use Rattle.pv_cache.specs.Planned.{HasPlan, planned_dtd};
+
+    ghost view = { planned_dtd };
+
+    ghost invariant = { HasPlan };
+}
+
+impl PlannedGrammar {
+    /// Lays out the rules of a grammar.
+    pub(crate) fn of(alloc: Global, grammar: Grammar) -> Result<PlannedGrammar, NoMemory>
+        ensures { IfOk result (λ planned. planned ≡ dtd_of grammar) }
+    {
+        let plan = Plan::of(alloc, &grammar)?;
+        Ok(PlannedGrammar { grammar, plan })
+    }
+
+    pub(crate) fn grammar(&self) -> &Grammar
+        ensures { dtd_of result.now ≡ self.now }
+    {
+        &self.grammar
+    }
+
+    pub(crate) fn dtd(&self) -> &Dtd
+        ensures { plain_dtd result.now ≡ self.now }
+    {
+        self.grammar.dtd()
+    }
+
+    /// The verdict of a list by its owner and its word.
+    pub(crate) fn verdict_of<L: Ledger>(
+        &self,
+        alloc: Global,
+        owner: Option<Of>,
+        word: &ListWord,
+        steps: &mut Steps<L>,
+    ) -> Result<Verdict, ReachError>
+        requires known { IfSome owner (λ of. HasSite self.now (plain_of of)) }
+        ensures found { IfOk result (IsFoundList self.now (option_map plain_of owner) word.now) }
+        ensures wide { IfErr result (λ e. e ≡ too_wide →
+            ¬ FitsVerdict self.now (length word.now.tokens.items)) }
+        ensures steps { steps.new ≡ steps.old + 1 }
+    {
+        let judge = Judge::new(alloc, &self.grammar, &self.plan);
+        word_verdict(&judge, owner, &word.tokens, word.is_bare, steps)
+    }
+}

@@ -1,0 +1,22 @@
+//! Packs as text: a least completion, with the tables that show it to be least.
+//!
+//! A pack text is lines, each of which may stand behind the one before it (`specs/Lines.antt`,
+//! `specs/Packs.antt`). `write_pack` writes the text of a pack. `read_pack` gives the pack that
+//! bytes are the text of, or the first line at fault, or tells that a limit is passed: what bytes
+//! mean (`PackMeans`, `specs/Meaning.antt`), which is one thing only, as `laws` says.
+#![tactic(auto)]
+
+mod entries;
+mod errors;
+pub mod laws;
+mod lines;
+mod order;
+mod packs;
+mod reading;
+mod tables;
+mod writing;
+
+pub use errors::PackError;
+pub use packs::{MAX_ENTRIES, MAX_PACK_BYTES, Pack};
+pub use reading::read_pack;
+pub use writing::write_pack;

@@ -1,0 +1,103 @@
+//! Reads packs.
+
+ghost use Rattle.std.specs.Prelude.{◌≡◌, ◌≤◌, ◌+◌, ℕ, List, [], ◌∷◌, length, IfOk, IfErr, None};
+ghost use Rattle.pv_cert.specs.Lines.{version_line, total_line};
+ghost use Rattle.pv_cert.specs.Meaning.{Answers, MAX_PACK_BYTES as MOST_BYTES, Outcome, PackMeans};
+ghost use Rattle.pv_cert.specs.Meaning.{Refuses, Stand, is_pack};
+ghost use Rattle.pv_cert.specs.Steps.{RefusesHead, TakesMarks, head_lines};
+
+use crate::errors::PackError;
+use crate::lines::{body_at, mark_at, total_at, version_at};
+use crate::packs::{MAX_PACK_BYTES, Pack};
+use crate::tables::read_tables;
+use pv_chars::{List, NoMemory, bytes_of};
+use std::alloc::Global;
+
+// The marks at the front, and what stands behind them.
+fn read_marks(alloc: Global, bytes: &[u8]) -> Result<(Vec<u32>, &[u8]), NoMemory>
+    ensures read { IfOk result (λ r. TakesMarks bytes.now r.0.items r.1.now) }
+    ensures within { IfOk result (λ r. length r.1.now + length r.0.items ≤ length bytes.now) }
+{
+    let mut marks = Vec::new(alloc);
+    let mut rest = bytes;
+    'marks: while let Some((mark, after)) = mark_at(rest) {
+        marks.push(mark)?;
+        rest = after;
+    }
+    Ok((marks, rest))
+}
+
+// The total behind the version, and what stands behind it.
+fn read_total(bytes: &[u8]) -> Result<(u32, &[u8]), PackError>
+    ensures read { IfOk result (λ r.
+        Stand None bytes.now (version_line ∷ total_line r.0 ∷ []) r.1.now) }
+    ensures refused { IfErr result (λ error. RefusesHead bytes.now error) }
+    ensures within { IfOk result (λ r. length r.1.now ≤ length bytes.now) }
+{
+    let Some(behind_version) = version_at(bytes) else {
+        return Err(PackError::Syntax(0));
+    };
+    let Some((total, rest)) = total_at(behind_version) else {
+        return Err(PackError::Syntax(1));
+    };
+    Ok((total, rest))
+}
+
+// A pack up to its body, and what stands behind that.
+#[derive(Drop)]
+struct Head<'a> {
+    total: u32,
+    marks: Vec<u32>,
+    body: &'a [u8],
+    rest: &'a [u8],
+}
+
+// The lines of a pack up to its body.
+fn read_head(alloc: Global, bytes: &[u8]) -> Result<Head<'_>, PackError>
+    requires { length bytes.now ≤ MOST_BYTES }
+    ensures read { IfOk result (λ head. Stand None bytes.now
+        (head_lines head.total head.marks.items head.body.now) head.rest.now) }
+    ensures refused { IfErr result (λ error. RefusesHead bytes.now error) }
+    ensures within { IfOk result (λ head.
+        length head.rest.now + length head.marks.items ≤ length bytes.now) }
+{
+    let (total, behind_total) = read_total(bytes)?;
+    let (marks, behind_marks) = read_marks(alloc, behind_total)?;
+    let Some((body, rest)) = body_at(behind_marks) else {
+        return Err(PackError::Syntax(2 + marks.len() as u64));
+    };
+    Ok(Head {
+        total,
+        marks,
+        body,
+        rest,
+    })
+}
+
+// The pack that bytes within the limit are the text of.
+fn read_within(alloc: Global, bytes: &[u8]) -> Result<Pack, PackError>
+    requires { length bytes.now ≤ MOST_BYTES }
+    ensures read { IfOk result (λ pack. PackMeans bytes.now (is_pack pack)) }
+    ensures refused { IfErr result (λ error. Refuses bytes.now error) }
+{
+    let head = read_head(alloc, bytes)?;
+    let tables = read_tables(alloc, head.rest, 3 + head.marks.len() as u64)?;
+    Ok(Pack {
+        total: u64::from(head.total),
+        marks: List::of(head.marks),
+        body: bytes_of(alloc, head.body)?,
+        tables: List::of(tables),
+    })
+}
+
+/// The pack that the bytes are the text of.
+pub fn read_pack(alloc: Global, bytes: &[u8]) -> Result<Pack, PackError>
+    ensures read { IfOk result (λ pack. PackMeans bytes.now (is_pack pack)) }
+    ensures refused { IfErr result (λ error. Refuses bytes.now error) }
+    ensures exactly { (o : Outcome) → PackMeans bytes.now o → Answers o result }
+{
+    if MAX_PACK_BYTES < bytes.len() {
+        return Err(PackError::Limit);
+    }
+    read_within(alloc, bytes)
+}

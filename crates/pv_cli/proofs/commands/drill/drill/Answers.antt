@@ -1,0 +1,43 @@
+use Rattle.std.proofs.lemmas.Result.{err_from_is_err_and}
+use Rattle.pv_cli.specs.Drill.{TellsCounts, drill_stage}
+use Rattle.pv_cli.specs.Stage.{Responds}
+use Rattle.pv_cli.proofs.Counting.{counts_more, drill_counts}
+use Rattle.pv_cli.proofs.OneDrill.{asks_none}
+use Rattle.pv_cli.proofs.Stages.{found_behind, stop_found, tells_found}
+use Rattle.pv_cli.proofs.commands.drill.drill.Goals as goal
+
+pub returns-in_err-session-clause-finds : goal.returns-in_err-session-clause-finds
+returns-in_err-session-clause-finds g c =
+    let n = c.args.n in
+    let p = err_from_is_err_and c.from_residual.result c.from_residual.ensures.1 in
+    rw (p.1, p.2) (stop_found (drill_stage n) (λ session. Responds (TellsCounts n session)) c.in_err-session.field-0.0 (asks_none n 0) c.in_err-session.ensures.returns)
+
+pub returns-clause-finds : goal.returns-clause-finds
+returns-clause-finds g c =
+    let n = c.args.n in
+    let session = c.in_ok-session.session in
+    found_behind (drill_stage n) (λ s. Responds (TellsCounts n s)) session c.answer_drill.result c.in_ok-session.ensures.returns
+    (tells_found (TellsCounts n session) c.answer_drill.result c.answer_drill.ensures.tells)
+
+pub returns-in_err-session-clause-checks : goal.returns-in_err-session-clause-checks
+returns-in_err-session-clause-checks g c = counts_more _ _ _ _ _ c.in_err-session.ensures.checks
+
+pub returns-clause-checks : goal.returns-clause-checks
+returns-clause-checks g c = drill_counts c.args.n c.in_ok-session.session _ _ _ _ c.in_ok-session.ensures.returns c.in_ok-session.ensures.checks c.answer_drill.ensures.steps
+
+-- the document of the session keeps what it kept
+pub invariant_of-session-inside : goal.invariant_of-session-inside
+invariant_of-session-inside g c =
+    let doc = c.drop.inside.document.doc in
+    record {
+      rooted = doc.rooted;
+      formed = doc.formed;
+      shallow = doc.shallow;
+      small = doc.small;
+      named = doc.named;
+      units = doc.units;
+      legal = doc.legal;
+      no_close_mark = doc.no_close_mark;
+      prolog = doc.prolog;
+      epilog = doc.epilog;
+    }

@@ -1,0 +1,37 @@
+use Rattle.std.proofs.Common.{arith, refl}
+use Rattle.std.proofs.lemmas.Result.{err_from_is_err_and}
+use Rattle.pv_dtd.specs.PlainForms.{plain_dtd}
+use Rattle.pv_read.proofs.DocumentFacts.{few_nodes}
+use Rattle.pv_cli.specs.Checking.{none_checked, some_checked}
+use Rattle.pv_cli.specs.Documents.{document_stage}
+use Rattle.pv_cli.specs.Returns.{plain_opened}
+use Rattle.pv_cli.specs.Session.{guarding_stage}
+use Rattle.pv_cli.proofs.Stages.{returned_second, stopped_first}
+use Rattle.pv_cli.proofs.commands.session.open_session.Goals as goal
+
+pub begin-requires-clause-few : goal.begin-requires-clause-few
+begin-requires-clause-few g c = omega (arith, few_nodes c.args.root.now _ _ c.in_ok-opened.ensures.0.is_text)
+
+pub begin-requires-clause-prolog : goal.begin-requires-clause-prolog
+begin-requires-clause-prolog g c = c.in_ok-opened.ensures.0.is_text.spelled.is_prolog
+
+pub returns-in_err-opened-clause-returns : goal.returns-in_err-opened-clause-returns
+returns-in_err-opened-clause-returns g c =
+    let root = c.args.root.now in
+    let stage = document_stage root (plain_dtd c.args.fetched.dtd) c.args.fetched.bytes.items in
+    let p = err_from_is_err_and c.from_residual.result c.from_residual.ensures.1 in
+    rw (p.1, p.2) (stopped_first stage (λ opened. guarding_stage root opened.dtd opened.doc) 0 c.in_err-opened.field-0.0 c.in_err-opened.ensures)
+
+pub returns-clause-returns : goal.returns-clause-returns
+returns-clause-returns g c =
+    let root = c.args.root.now in
+    let opened = plain_opened c.in_ok-opened.opened in
+    let stage = document_stage root (plain_dtd c.args.fetched.dtd) c.args.fetched.bytes.items in
+    let read = c.in_ok-opened.ensures in
+    returned_second (λ s. s) stage (λ o. guarding_stage root o.dtd o.doc) opened 0 0 c.begin.result read c.begin.ensures.returns
+
+pub returns-in_err-opened-clause-checks : goal.returns-in_err-opened-clause-checks
+returns-in_err-opened-clause-checks g c = none_checked refl
+
+pub returns-clause-checks : goal.returns-clause-checks
+returns-clause-checks g c = some_checked c.args.fetched.bytes.items _ 0 refl c.in_ok-opened.ensures.0.is_text refl (omega (arith, c.begin.ensures.steps))

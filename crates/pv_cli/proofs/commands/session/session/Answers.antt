@@ -1,0 +1,37 @@
+use Rattle.std.proofs.Common.{Err, None}
+use Rattle.pv_cli.specs.Checking.{lines_taken}
+use Rattle.pv_cli.specs.Returns.{plain_fetched}
+use Rattle.pv_cli.specs.declared.verb.Verb.TheVariants.{Session}
+use Rattle.pv_cli.proofs.Counting.{counts_more}
+use Rattle.pv_cli.proofs.Runs.{found_rest, session_stopped, talked_rest}
+use Rattle.pv_cli.proofs.commands.session.session.Goals as goal
+
+pub returns-in-Err : goal.returns-in-Err
+returns-in-Err g c =
+    let root = c.args.root.now in
+    let fetched = plain_fetched c.args.fetched in
+    let stop = c.in-Err.stop in
+    found_rest Session root fetched _ _ _ _ _ (Err stop) _ (session_stopped root fetched stop c.in-Err.ensures.returns) (counts_more root _ (lines_taken None) _ _ c.in-Err.ensures.checks) c.respond.ensures
+
+pub returns : goal.returns
+returns g c =
+    let root = c.args.root.now in
+    let fetched = plain_fetched c.args.fetched in
+    talked_rest root fetched c.in-Ok.session _ _ _ _ _ _ _ _ c.in-Ok.ensures.returns c.in-Ok.ensures.checks c.converse.ensures
+
+-- the document of the session keeps what it kept
+pub invariant_of-session-inside : goal.invariant_of-session-inside
+invariant_of-session-inside g c =
+    let doc = c.drop.inside.document.doc in
+    record {
+      rooted = doc.rooted;
+      formed = doc.formed;
+      shallow = doc.shallow;
+      small = doc.small;
+      named = doc.named;
+      units = doc.units;
+      legal = doc.legal;
+      no_close_mark = doc.no_close_mark;
+      prolog = doc.prolog;
+      epilog = doc.epilog;
+    }

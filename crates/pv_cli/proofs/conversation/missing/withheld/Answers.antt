@@ -1,0 +1,14 @@
+use Rattle.std.proofs.Common.{refl}
+use Rattle.pv_cli.specs.Missing.{is_wide}
+use Rattle.pv_cli.proofs.MissingElements.{none_impossible, wide_for_weights}
+use Rattle.pv_cli.proofs.conversation.missing.withheld.Goals as goal
+
+pub unreachable-requires : goal.unreachable-requires
+unreachable-requires c =
+    let session = c.args.session.now in
+    none_impossible session _ (rw (c.dtd.ensures, c.grammar.ensures) at c.proper_dtd_law.ensures) c.session_law.ensures (rw c.in-Impossible.is at c.requires)
+
+pub returns-in-TooWide-clause-withholds : goal.returns-in-TooWide-clause-withholds
+returns-in-TooWide-clause-withholds c =
+    let session = c.args.session.now in
+    is_wide c.in-TooWide.path (wide_for_weights session _ c.session_law.ensures (rw c.in-TooWide.is at c.requires)) refl

@@ -1,0 +1,63 @@
+use Rattle.std.proofs.Common.{◌≡◌, ℕ, List, [], ◌∷◌, refl, sym, Some, None, codes}
+use Rattle.pv_io.specs.Files.{byte_lists}
+use Rattle.pv_cli.specs.CommandLine.{command_line_of, on_document, on_dtd, drill}
+use Rattle.pv_cli.specs.Response.{PlainResponse, with_line}
+use Rattle.pv_cli.specs.declared.status.Status.TheVariants.{Usage}
+use Rattle.pv_cli.proofs.Runs.{found_alone, found_runs}
+use Rattle.pv_cli.proofs.Stages.{tells_found}
+use Rattle.pv_cli.proofs.program.run_words.Goals as goal
+
+pub returns-in-Some-OnDocument-clause-runs : goal.returns-in-Some-OnDocument-clause-runs
+returns-in-Some-OnDocument-clause-runs g c =
+    let named = c.in-Some-OnDocument.named in
+    let line : command_line_of (byte_lists c.args.words.now) ≡ Some (on_document c.in-Some-OnDocument.verb named.dtd.now named.root.now named.doc.now) =
+    sym (rw c.in-Some-OnDocument.field-0-is at c.in-Some-OnDocument.ensures.line) in
+    rw line c.run_on_document.ensures.runs
+
+pub returns-in-Some-OnDtd-clause-runs : goal.returns-in-Some-OnDtd-clause-runs
+returns-in-Some-OnDtd-clause-runs g c =
+    let name = c.in-Some-OnDtd.name in
+    let line : command_line_of (byte_lists c.args.words.now) ≡ Some (on_dtd name.now) = sym (rw c.in-Some-OnDtd.field-0-is at c.in-Some-OnDtd.ensures.line) in
+    rw line (found_runs _ _ _ _ _ _ _ _ c.run_on_dtd.result _ (c.run_on_dtd.ensures.finds _) c.respond.ensures)
+
+pub returns-in-None-clause-runs : goal.returns-in-None-clause-runs
+returns-in-None-clause-runs g c =
+    let line : command_line_of (byte_lists c.args.words.now) ≡ None = sym c.in-None.ensures.line in
+    let tells = λ (r : PlainResponse). r ≡ with_line Usage (codes "usage") in
+    rw line (found_runs _ _ _ _ _ _ _ _ c.usage.result _ (found_alone None _ _ _ c.usage.result tt (tells_found tells c.usage.result c.usage.ensures) refl) c.respond-in-None.ensures)
+
+pub returns-in-Some-Drill-clause-runs : goal.returns-in-Some-Drill-clause-runs
+returns-in-Some-Drill-clause-runs g c =
+    let n = c.in-Some-Drill.n in
+    let line : command_line_of (byte_lists c.args.words.now) ≡ Some (drill n) = sym (rw c.in-Some-Drill.field-0-is at c.in-Some-Drill.ensures.line) in
+    rw line (found_runs _ _ _ _ _ _ _ _ c.drill.result _ (found_alone (Some (drill n)) _ _ _ c.drill.result tt c.drill.ensures.finds c.drill.ensures.checks) c.respond-in-Some-Drill.ensures)
+
+pub run_on_document-requires-clause-dtd_named : goal.run_on_document-requires-clause-dtd_named
+run_on_document-requires-clause-dtd_named g c =
+    let named = rw c.in-Some-OnDocument.field-0-is at c.in-Some-OnDocument.ensures.named in
+    rw c.requires named.0
+
+pub run_on_document-requires-clause-doc_named : goal.run_on_document-requires-clause-doc_named
+run_on_document-requires-clause-doc_named g c =
+    let named = rw c.in-Some-OnDocument.field-0-is at c.in-Some-OnDocument.ensures.named in
+    rw c.requires named.1.0
+
+pub run_on_dtd-requires : goal.run_on_dtd-requires
+run_on_dtd-requires g c =
+    let named = rw c.in-Some-OnDtd.field-0-is at c.in-Some-OnDtd.ensures.named in
+    rw c.requires named.0
+
+no_files : (name : List ℕ) (names : List (List ℕ)) → name ∷ names ≡ [] → ⊥
+no_files name names none = cc
+
+pub returns-in-Some-OnDocument-clause-unasked : goal.returns-in-Some-OnDocument-clause-unasked
+returns-in-Some-OnDocument-clause-unasked g c =
+    let named = c.in-Some-OnDocument.named in
+    let line : command_line_of (byte_lists c.args.words.now) ≡ Some (on_document c.in-Some-OnDocument.verb named.dtd.now named.root.now named.doc.now) =
+    sym (rw c.in-Some-OnDocument.field-0-is at c.in-Some-OnDocument.ensures.line) in
+    rw line (λ none. absurd (no_files _ _ none))
+
+pub returns-in-Some-OnDtd-clause-unasked : goal.returns-in-Some-OnDtd-clause-unasked
+returns-in-Some-OnDtd-clause-unasked g c =
+    let line : command_line_of (byte_lists c.args.words.now) ≡ Some (on_dtd c.in-Some-OnDtd.name.now) = sym (rw c.in-Some-OnDtd.field-0-is at c.in-Some-OnDtd.ensures.line) in
+    rw line (λ none. absurd (no_files _ _ none))

@@ -1,0 +1,50 @@
+-- The commands on a DTD and a document, a line for each verb in each table.
+use Rattle.std.specs.Prelude.{ℕ, Bool, true, false, List, Option, Some, None}
+use Rattle.pv_dtd.specs.Plain.{PlainDtd}
+use Rattle.pv_cli.specs.Check.{IsCheckCourse}
+use Rattle.pv_cli.specs.Checking.{lines_taken}
+use Rattle.pv_cli.specs.Course.{Course}
+use Rattle.pv_cli.specs.Documents.{PlainOpened, document_stage}
+use Rattle.pv_cli.specs.Opening.{Files, opening_stage}
+use Rattle.pv_cli.specs.Session.{IsSessionCourse}
+use Rattle.pv_cli.specs.Stage.{Behind}
+use Rattle.pv_cli.specs.Valid.{IsValidCourse}
+use Rattle.pv_cli.specs.declared.verb.Verb.{Verb}
+use Rattle.pv_cli.specs.declared.verb.Verb.TheVariants.{Valid, Check, Session}
+
+-- what each verb does behind the opened files
+abbrev pub Tells : Verb → List ℕ → PlainOpened → Course → Type 0
+Tells Valid root opened = IsValidCourse root opened
+Tells Check root opened = IsCheckCourse root opened
+Tells Session root opened = IsSessionCourse root opened
+
+-- what a verb tests of its document: that it is valid; or, in lists that aren't too wide, that
+-- inserting elements can make it valid
+pub data Test : Type 0 where
+  validity : Test
+  possibility : Test
+
+abbrev pub test_of : Verb → Test
+test_of Valid = validity
+test_of Check = possibility
+test_of Session = possibility
+
+-- whether a verb reads a script, and so asks its input
+abbrev pub reads_script : Verb → Bool
+reads_script Session = true
+reads_script other = false
+
+-- Where a verb checks lists: besides those of the document, two for each of so many lines of what
+-- was taken from the input. Any other verb checks none.
+abbrev pub lines_checked : Verb → Option (List ℕ) → Option ℕ
+lines_checked Check taken = Some 0
+lines_checked Session taken = Some (lines_taken taken)
+lines_checked other taken = None
+
+-- a command on a document: its files are opened, and then it does what its verb does
+abbrev pub IsDocumentCourse : Verb → List ℕ → Files → Course → Type 0
+IsDocumentCourse verb root files = Behind (opening_stage root files) (Tells verb root)
+
+-- the same, once the DTD is opened and the document's bytes are fetched
+abbrev pub GoesOn : Verb → List ℕ → PlainDtd × List ℕ → Course → Type 0
+GoesOn verb root fetched = Behind (document_stage root fetched.0 fetched.1) (Tells verb root)

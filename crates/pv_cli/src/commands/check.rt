@@ -1,0 +1,68 @@
+//! The command `check`.
+
+ghost use Rattle.std.specs.Prelude.{◌≡◌, ◌≤◌, ◌+◌, IfOk, Some, None, length};
+ghost use Rattle.pv_cli.specs.Check.{IsCheckCourse, possible_text};
+ghost use Rattle.pv_cli.specs.Checking.{CountsLists};
+ghost use Rattle.pv_cli.specs.Commands.{GoesOn, lines_checked};
+ghost use Rattle.pv_cli.specs.Documents.{PlainOpened};
+ghost use Rattle.pv_cli.specs.Response.{plain_response, with_line};
+ghost use Rattle.pv_cli.specs.Returns.{Finds, plain_fetched};
+ghost use Rattle.pv_cli.specs.declared.status.Status.TheVariants.{Done};
+ghost use Rattle.pv_cli.specs.declared.verb.Verb.TheVariants.{Check};
+ghost use Rattle.pv_productive.specs.PlainForms.{dtd_of};
+ghost use Rattle.pv_tree.specs.Lists.{lists_of};
+ghost use Rattle.pv_tree.specs.PlainDocs.{plain_doc};
+
+use crate::opening::{Fetched, Opened, open_document};
+use crate::possibility::verdicts_or_stop;
+use crate::response::Response;
+use crate::status::Status;
+use crate::stop::Stop;
+use pv_productive::{Grammar, build};
+use pv_steps::Steps;
+use pv_tree::Doc;
+use std::alloc::{AllocError, Global};
+use std::sync::ledger::Ledger;
+
+// So many lists are Possible, and none is Impossible.
+fn possible(alloc: Global, left: u64) -> Result<Response, AllocError>
+    ensures { IfOk result (λ r. plain_response r ≡ with_line Done (possible_text left)) }
+{
+    if left == 0 {
+        Response::with_line(alloc, Status::Done, b"valid")
+    } else {
+        Response::with_number(alloc, Status::Done, b"possible ", left)
+    }
+}
+
+// The number of Possible lists, where inserting elements can make the document valid.
+fn tell<L: Ledger>(
+    alloc: Global,
+    grammar: &Grammar,
+    doc: &Doc,
+    root: &[u8],
+    steps: &mut Steps<L>,
+) -> Result<Response, Stop>
+    ensures tells { (opened : PlainOpened) → opened.dtd ≡ dtd_of grammar.now →
+        opened.doc ≡ plain_doc doc.now → Finds (IsCheckCourse root.now opened) result }
+    ensures steps { steps.new ≤ steps.old + length (lists_of (plain_doc doc.now)) }
+{
+    let verdicts = verdicts_or_stop(alloc, grammar, doc, root, steps)?;
+    Ok(possible(alloc, verdicts.left())?)
+}
+
+/// Whether inserting elements can make a document valid for a DTD.
+pub fn check<L: Ledger>(
+    alloc: Global,
+    fetched: Fetched,
+    root: &[u8],
+    steps: &mut Steps<L>,
+) -> Result<Response, Stop>
+    ensures finds { Finds (GoesOn Check root.now (plain_fetched fetched)) result }
+    ensures checks { CountsLists root.now (Some fetched.bytes.items) (lines_checked Check None)
+        steps.old steps.new }
+{
+    let Opened { dtd, doc, .. } = open_document(alloc, fetched, root)?;
+    let grammar = build(alloc, dtd)?;
+    tell(alloc, &grammar, &doc, root, steps)
+}

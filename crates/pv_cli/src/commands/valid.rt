@@ -1,0 +1,38 @@
+//! The command `valid`.
+
+ghost use Rattle.pv_cli.specs.Commands.{GoesOn};
+ghost use Rattle.pv_cli.specs.Response.{plain_response};
+ghost use Rattle.pv_cli.specs.Returns.{Finds, Returns, plain_fetched};
+ghost use Rattle.pv_cli.specs.Validity.{validity_stage};
+ghost use Rattle.pv_cli.specs.declared.verb.Verb.TheVariants.{Valid};
+ghost use Rattle.pv_dtd.specs.PlainForms.{plain_dtd};
+
+use crate::opening::{Fetched, refuse_document};
+use crate::response::Response;
+use crate::status::Status;
+use crate::stop::Stop;
+use pv_dtd::Dtd;
+use pv_valid::first_invalid_in;
+use std::alloc::Global;
+
+// Whether the document that the bytes are is valid, or else the path of its first list that isn't.
+fn tell(alloc: Global, dtd: &Dtd, root: &[u8], bytes: &[u8]) -> Result<Response, Stop>
+    ensures { Returns plain_response (validity_stage root.now (plain_dtd dtd.now) bytes.now) 0
+        result }
+{
+    let found = match first_invalid_in(alloc, dtd, root, bytes) {
+        Ok(found) => found,
+        Err(error) => return Err(refuse_document(alloc, error)),
+    };
+    match found {
+        None => Ok(Response::with_line(alloc, Status::Done, b"valid")?),
+        Some(path) => Ok(Response::with_path(alloc, Status::Negative, b"invalid ", path.places())?),
+    }
+}
+
+/// Whether a document is valid for a DTD.
+pub fn valid(alloc: Global, fetched: &Fetched, root: &[u8]) -> Result<Response, Stop>
+    ensures { Finds (GoesOn Valid root.now (plain_fetched fetched.now)) result }
+{
+    tell(alloc, &fetched.dtd, root, &fetched.bytes)
+}

@@ -1,0 +1,68 @@
+//! The replies to `need` and `complete`: how many elements are missing in a session's document, and
+//! the document with them.
+
+ghost use Rattle.std.specs.Prelude.{◌≡◌, IfOk, None};
+ghost use Rattle.pv_cli.specs.Missing.{TellsCompletion, Withholds};
+ghost use Rattle.pv_cli.specs.Session.{done_of};
+ghost use Rattle.pv_cli.specs.Turns.{IsReplyBy};
+ghost use Rattle.pv_complete.specs.Needing.{HasCause};
+
+use super::answers::{Answer, other};
+use pv_chars::NoMemory;
+use pv_complete::{Completion, NeedError};
+use pv_dtd::laws::proper_dtd_law;
+use pv_script::{Command, Reply};
+use pv_session::Session;
+use pv_session::laws::session_law;
+use std::alloc::Global;
+
+// The reply where the number isn't told. In a session no list is Impossible, or too wide for a
+// verdict.
+fn withheld(session: &Session, error: NeedError) -> Result<Reply, NoMemory>
+    requires { HasCause session.now.dtd session.now.root session.now.doc error }
+    ensures withholds { IfOk result (Withholds session.now) }
+    ensures not_done { IfOk result (λ told. done_of told ≡ None) }
+{
+    session_law(session);
+    proper_dtd_law(session.grammar().dtd());
+    match error {
+        NeedError::TooWide(path) => Ok(Reply::Wide(path)),
+        NeedError::TooHeavy => Ok(Reply::Heavy),
+        NeedError::NoMemory => Err(NoMemory),
+        NeedError::Impossible(_) => unreachable!(),
+        NeedError::TooMany => unreachable!(),
+    }
+}
+
+/// The reply to `need`.
+pub fn need(alloc: Global, session: &Session) -> Result<Answer, NoMemory>
+    ensures { IfOk result (IsReplyBy session.now Command.Need session.now) }
+{
+    match pv_complete::need(alloc, session.grammar(), session.root(), session.doc()) {
+        Ok(number) => other(alloc, &Reply::Need(number)),
+        Err(error) => {
+            let reply = withheld(session, error)?;
+            other(alloc, &reply)
+        }
+    }
+}
+
+// The document with the missing elements, or why it isn't told.
+fn completed(alloc: Global, session: &Session) -> Result<Reply, NoMemory>
+    ensures tells { IfOk result (TellsCompletion session.now) }
+    ensures not_done { IfOk result (λ told. done_of told ≡ None) }
+{
+    session_law(session);
+    match pv_complete::complete(alloc, session.grammar(), session.root(), session.doc()) {
+        Ok(Completion { count, body, .. }) => Ok(Reply::Completed(count, body)),
+        Err(error) => withheld(session, error),
+    }
+}
+
+/// The reply to `complete`. The session's document stays as it is.
+pub fn complete(alloc: Global, session: &Session) -> Result<Answer, NoMemory>
+    ensures { IfOk result (IsReplyBy session.now Command.Complete session.now) }
+{
+    let reply = completed(alloc, session)?;
+    other(alloc, &reply)
+}

@@ -1,0 +1,89 @@
+//! Command lines by form: what each opens, and the command behind it.
+
+ghost use Rattle.std.specs.Prelude.{◌≡◌, ℕ, List, Some, Contains};
+ghost use Rattle.pv_cli.specs.CommandLine.{on_document, on_dtd};
+ghost use Rattle.pv_cli.specs.Devices.{devices, input_at, output_at, shelf_at};
+ghost use Rattle.pv_cli.specs.Program.{Runs};
+ghost use Rattle.pv_cli.specs.Returns.{DoesRest, FindsResponse, plain_fetched};
+
+use crate::command_line::Named;
+use crate::commands::check::check;
+use crate::commands::dtd::dtd;
+use crate::commands::session::session;
+use crate::commands::valid::valid;
+use crate::opening::{Fetched, fetch_files, open_dtd};
+use crate::respond::respond;
+use crate::response::Response;
+use crate::status::Status;
+use crate::stop::Stop;
+use crate::verb::Verb;
+use pv_io::{Shelf, Sink, Source};
+use pv_steps::Steps;
+use std::alloc::Global;
+use std::sync::ledger::Ledger;
+
+/// A command on a DTD: `dtd`.
+pub fn run_on_dtd<H: Shelf>(alloc: Global, shelf: &mut H, name: &str) -> Result<Response, Stop>
+    requires { Contains (H.names shelf.old) name.now }
+    ensures finds { (checked : ℕ) → FindsResponse (Some (on_dtd name.now))
+        (shelf_at (H.files shelf.old) (H.calls shelf.old) (H.faults shelf.old))
+        (shelf_at (H.files shelf.new) (H.calls shelf.new) (H.faults shelf.new))
+        checked checked result }
+    ensures names { H.names shelf.new ≡ H.names shelf.old }
+    ensures files { H.files shelf.new ≡ H.files shelf.old }
+{
+    let opened = open_dtd(alloc, shelf, name)?;
+    dtd(alloc, opened)
+}
+
+// What a verb does once the DTD is opened and the document's bytes are fetched.
+fn do_rest<S: Source, K: Sink, L: Ledger>(
+    alloc: Global,
+    verb: Verb,
+    fetched: Fetched,
+    root: &[u8],
+    input: &mut S,
+    out: &mut K,
+    steps: &mut Steps<L>,
+) -> Status
+    ensures { DoesRest verb root.now (plain_fetched fetched)
+        (input_at input.old (S.left input.old) (S.calls input.old) (S.faults input.old))
+        (input_at input.new (S.left input.new) (S.calls input.new) (S.faults input.new))
+        (output_at (K.written out.old) (K.faults out.old))
+        (output_at (K.written out.new) (K.faults out.new)) steps.old steps.new result }
+{
+    match verb {
+        Verb::Valid => respond(out, valid(alloc, &fetched, root)),
+        Verb::Check => respond(out, check(alloc, fetched, root, steps)),
+        Verb::Session => session(alloc, fetched, root, input, out, steps),
+    }
+}
+
+/// A verb on a DTD and a document: opens the files, and does what the verb does.
+pub fn run_on_document<H: Shelf, S: Source, K: Sink, L: Ledger>(
+    alloc: Global,
+    verb: Verb,
+    shelf: &mut H,
+    named: &Named<'_>,
+    input: &mut S,
+    out: &mut K,
+    steps: &mut Steps<L>,
+) -> Status
+    requires dtd_named { Contains (H.names shelf.old) named.now.dtd.now }
+    requires doc_named { Contains (H.names shelf.old) named.now.doc.now }
+    ensures runs { Runs (Some (on_document verb named.now.dtd.now named.now.root.now
+        named.now.doc.now))
+        (devices (shelf_at (H.files shelf.old) (H.calls shelf.old) (H.faults shelf.old))
+        (input_at input.old (S.left input.old) (S.calls input.old) (S.faults input.old))
+        (output_at (K.written out.old) (K.faults out.old)) steps.old)
+        (devices (shelf_at (H.files shelf.new) (H.calls shelf.new) (H.faults shelf.new))
+        (input_at input.new (S.left input.new) (S.calls input.new) (S.faults input.new))
+        (output_at (K.written out.new) (K.faults out.new)) steps.new) result }
+    ensures names { H.names shelf.new ≡ H.names shelf.old }
+    ensures files { H.files shelf.new ≡ H.files shelf.old }
+{
+    match fetch_files(alloc, shelf, named) {
+        Ok(fetched) => do_rest(alloc, verb, fetched, named.root, input, out, steps),
+        Err(stop) => respond(out, Err(stop)),
+    }
+}

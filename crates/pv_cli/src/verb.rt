@@ -1,0 +1,30 @@
+//! Commands on a DTD and a document, by their words.
+
+ghost use Rattle.std.specs.Prelude.{◌≡◌};
+ghost use Rattle.pv_cli.specs.CommandLine.{verb_of};
+
+/// A command on a DTD and a document.
+#[derive(Clone, Copy, Debug, PartialEq, Eq)]
+pub enum Verb {
+    /// Tells whether the document is valid.
+    Valid,
+    /// Tells whether inserting elements can make the document valid.
+    Check,
+    /// Answers a script of edits.
+    Session,
+}
+
+/// The verb that a word is.
+pub fn verb_of(word: &str) -> Option<Verb>
+    ensures { result ≡ verb_of word.now }
+{
+    if word == "valid" {
+        Some(Verb::Valid)
+    } else if word == "check" {
+        Some(Verb::Check)
+    } else if word == "session" {
+        Some(Verb::Session)
+    } else {
+        None
+    }
+}

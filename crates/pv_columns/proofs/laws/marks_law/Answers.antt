@@ -1,0 +1,5 @@
+use Rattle.pv_columns.proofs.Marking.{closed_marks_are_live}
+use Rattle.pv_columns.proofs.laws.marks_law.Goals as goal
+
+pub returns : goal.returns
+returns c = closed_marks_are_live

@@ -1,0 +1,5 @@
+use Rattle.pv_columns.proofs.Taking.{takes_reaches_one}
+use Rattle.pv_columns.proofs.laws.takes_law.Goals as goal
+
+pub returns : goal.returns
+returns c = takes_reaches_one

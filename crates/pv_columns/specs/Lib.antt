@@ -1,0 +1,11 @@
+pub mod ColumnRules
+pub mod Marks
+pub mod Takes
+pub mod Laws
+pub mod Bits
+pub mod Flowing
+pub mod Tokens
+pub mod Rows
+pub mod Frees
+pub mod Sets
+pub mod FreeSets

@@ -1,0 +1,117 @@
+-- The Possible lists of a document that misses at most 1,000,000 elements are light, and which list comes next in a walk.
+use Rattle.std.specs.Option.{option_map}
+use Rattle.std.proofs.Common.{List, None, Option, Some, [], append_assoc, arith, drop, inl, inr, refl, subst, suc, sym, true, length, ℕ, ◌++◌, ◌+◌, ◌<◌, ◌∙◌, ◌∷◌, ◌≡◌, ◌≢◌}
+use Rattle.std.specs.List.{AllByRecursion}
+use Rattle.pv_dtd.specs.Plain.{PlainDtd}
+use Rattle.pv_dtd.specs.Proper.{IsProperDtd}
+use Rattle.pv_tree.specs.Lists.{Listed, an_element, lists_at, lists_from, lists_of}
+use Rattle.pv_tree.specs.Words.{word_of}
+use Rattle.pv_tree.specs.Plain.{Ending, Forest, PlainDoc, Tree, element, tree}
+use Rattle.pv_tree.specs.declared.nodes.Mark.{Mark}
+use Rattle.pv_tree.specs.declared.nodes.Verdict.{Verdict}
+use Rattle.pv_tree.specs.declared.nodes.Verdict.TheVariants as verdict
+use Rattle.pv_tree.proofs.Every.{all_left, all_right}
+use Rattle.pv_model.specs.Plain.{PlainToken}
+use Rattle.pv_rules.specs.Derivations.{IsWeight, heaviest}
+use Rattle.pv_rules.specs.Rules.{Rule}
+use Rattle.pv_rules.specs.Sites.{PlainSite}
+use Rattle.pv_missing.specs.DocumentLaws.{BoundsAddUp}
+use Rattle.pv_missing.specs.ListLaws.{WeightIsLeast}
+use Rattle.pv_missing.specs.LiveWords.{IsLiveWord}
+use Rattle.pv_missing.specs.PlainForms.{plain_of}
+use Rattle.pv_missing.specs.Proper.{IsProperDoc}
+use Rattle.pv_missing.specs.Verdicts.{AreVerdicts, IsLive, IsVerdict}
+use Rattle.pv_missing.specs.Weighing.{BoundInAll, IsBound, site_of, whole}
+use Rattle.pv_missing.specs.Widths.{FitsWeights, IsListForWeights}
+use Rattle.pv_missing.specs.declared.owners.Of.{Of}
+use Rattle.pv_tables.specs.WeightLaws.{LiveWeighs, LiveWeight}
+use Rattle.pv_complete.specs.Loads.{UsesVerdict}
+use Rattle.pv_complete.specs.Needing.{AreLightLists, CanWeigh, IsLightList, Needs}
+use Rattle.pv_complete.specs.Pieces.{PlainPiece}
+use Rattle.pv_complete.specs.Written.{AreListPieces, AreNotImpossible, HasNextKids, HasNextList, HasNextTree, PlainWriting, WritesSome}
+use Rattle.pv_complete.proofs.Adding.{live_site}
+use Rattle.pv_complete.proofs.Taking.{not_at}
+
+module _ (M : Type 0) (g : PlainDtd) (root : List ℕ) where
+  no_bounds : (lists : List (Listed M)) → BoundInAll g root lists 0
+  no_bounds [] = refl
+  no_bounds (list ∷ lists) = (0, 0, refl, (λ n m. omega arith), no_bounds lists)
+
+  all_light : ((list : Listed M) (k : ℕ) → IsVerdict g root list verdict.Possible → LiveWeighs g root list k → IsBound g root list k) →
+      (lists : List (Listed M)) → ((s : ℕ) → BoundInAll g root lists s → s < heaviest) → AllByRecursion (CanWeigh g root) lists → AreLightLists g root lists
+  all_light bound [] few can = tt
+  all_light bound (list ∷ lists) few can = (
+    (λ p. (can.0 p, λ k w. few k (k, 0, omega arith, bound list k p w, no_bounds lists))),
+    all_light bound lists (λ s b. few s (0, s, omega arith, (λ n m. omega arith), b)) can.1,
+  )
+
+pub light_lists : (M : Type 0) (g : PlainDtd) (root : List ℕ) (doc : PlainDoc M) (n : ℕ) → IsProperDtd g → IsProperDoc doc → LiveWeight M → WeightIsLeast M → BoundsAddUp M → Needs g root doc n →
+    AreLightLists g root (lists_of doc)
+light_lists M g root doc n proper proper_doc live_weight weight_is_least add_up needs =
+    all_light M g root (λ list k p w i m. (weight_is_least g root list i k proper m ((live_weight g root list k p.0).0 w)).0) (lists_of doc)
+    (λ s b. let le = let l = needs.least in add_up g root doc s proper proper_doc b n l.completes in let f = needs.light in omega arith) (let c = needs.can in c.weighed)
+
+module _ (g : PlainDtd) (vs : List Verdict) where
+  -- the list of an element
+  pub next_list : (t : Tree Mark) (x attrs : List ℕ) (e : Ending) (kids : Forest Mark) (m : Mark) (owner : Option Of) (used : ℕ) → t ≡ element x attrs e kids m →
+      site_of g [] (an_element x) ≡ option_map plain_of owner → HasNextTree g t vs used → HasNextList g owner kids vs used
+  next_list t x attrs e kids m owner used is site h = record {
+    root = h.root;
+    list = record { path = h.path; owner = an_element x; kids = kids };
+    more = lists_from h.path 0 kids ++ h.more;
+    is_kids = refl;
+    is_owner = site;
+    verdicts = subst (λ k. AreVerdicts g h.root (lists_at h.path k ++ h.more) (drop used vs)) is h.verdicts;
+    light = let l = subst (λ k. AreLightLists g h.root (lists_at h.path k)) is h.light in l.0;
+  }
+
+  -- and then those of its kids
+  pub next_kids : (t : Tree Mark) (x attrs : List ℕ) (e : Ending) (kids : Forest Mark) (m : Mark) (used new : ℕ) (ps : List PlainPiece) → t ≡ element x attrs e kids m → (h : HasNextTree g t vs used) →
+      ((root path : List ℕ) (more : List (Listed Mark)) → AreVerdicts g root (record { path = path; owner = an_element x; kids = kids } ∷ (lists_from path 0 kids ++ more)) (drop used vs) →
+      AreListPieces g root (record { path = path; owner = an_element x; kids = kids }) (lists_from path 0 kids ++ more) vs used new ps) → HasNextKids g kids vs new
+  next_kids t x attrs e kids m used new ps is h f = record {
+    root = h.root;
+    path = h.path;
+    more = h.more;
+    verdicts = let p = f h.root h.path h.more (subst (λ k. AreVerdicts g h.root (lists_at h.path k ++ h.more) (drop used vs)) is h.verdicts) in let q = p.passes in q.left;
+    light = let l = subst (λ k. AreLightLists g h.root (lists_at h.path k)) is h.light in l.1;
+  }
+
+  -- the lists of the kid that is next
+  pub next_kid : (kids rest others : Forest Mark) (kid : Tree Mark) (i used : ℕ) (ps qs : List PlainPiece) (old new : PlainWriting) (h : HasNextKids g kids vs old.used) → rest ≡ tree kid others → used ≡ new.used →
+      WritesSome g h.root h.path i ps qs kids rest h.more vs old new → HasNextTree g kid vs used
+  next_kid kids rest others kid i used ps qs old new h is same s = record {
+    root = h.root;
+    path = h.path ++ i ∷ [];
+    more = lists_from h.path (suc i) others ++ h.more;
+    verdicts = subst (λ xs. AreVerdicts g h.root xs (drop used vs)) (append_assoc (lists_at (h.path ++ i ∷ []) kid) (lists_from h.path (suc i) others) h.more)
+        (subst (λ k. AreVerdicts g h.root (lists_from h.path i k ++ h.more) (drop used vs)) is (subst (λ k. AreVerdicts g h.root (lists_from h.path i rest ++ h.more) (drop k vs)) (sym same) (let p = s.passes in p.left)));
+    light = all_left (IsLightList g h.root) (lists_at (h.path ++ i ∷ []) kid) (lists_from h.path (suc i) others) (subst (λ k. AreLightLists g h.root (lists_from h.path i k)) is
+        (all_right (IsLightList g h.root) s.lists (lists_from h.path i rest) (let e = s.are_lists in subst (AreLightLists g h.root) e h.light)));
+  }
+
+module _ (g : PlainDtd) (vs : List Verdict) (kids : Forest Mark) (used : ℕ) where
+  -- a list that isn't Impossible has an owner in the DTD
+  pub has_owner : HasNextList g None kids vs used → AreNotImpossible vs → ⊥
+  has_owner h all = by_verdict h.verdicts
+    where
+      live_of : (v : Verdict) → v ≢ verdict.Impossible → IsVerdict g h.root h.list v → IsLive g h.root h.list
+      live_of verdict.Valid n is = is.0
+      live_of verdict.Possible n is = is.0
+      live_of verdict.Impossible n is = absurd (n refl)
+
+      by_verdict : AreVerdicts g h.root (h.list ∷ h.more) (drop used vs) → ⊥
+      by_verdict (v, rest, e, is, more) = live_site g h.root vs h.list (live_of v (not_at vs used v rest all e) is) h.is_owner
+
+  -- a Possible list can be weighed, and is light
+  pub next_light : (owner : Option Of) (new : ℕ) (s : PlainSite) (live : List PlainToken) → HasNextList g owner kids vs used → UsesVerdict vs used new true → option_map plain_of owner ≡ Some s →
+      IsLiveWord g (word_of g kids) live → FitsWeights g (length (word_of g kids)) × ((k : ℕ) → IsWeight (Rule g live) (whole s live) k → k < heaviest)
+  next_light owner new s live h next is_site is_live = by_verdict h.verdicts
+    where
+      by_verdict : AreVerdicts g h.root (h.list ∷ h.more) (drop used vs) → FitsWeights g (length (word_of g kids)) × ((k : ℕ) → IsWeight (Rule g live) (whole s live) k → k < heaviest)
+      by_verdict (v, rest, e, is, more) =
+          let head : v ≡ verdict.Possible = cc (e, next) in
+          let judged : IsVerdict g h.root h.list verdict.Possible = rw head at is in
+          let l = h.light judged in
+          let own : IsLiveWord g (word_of g h.list.kids) live = subst (λ f. IsLiveWord g (word_of g f) live) (sym h.is_kids) is_live in
+          (subst (λ f. FitsWeights g (length (word_of g f))) h.is_kids l.0, λ k w. l.1 k (s, live, h.is_owner ∙ is_site, own, w))

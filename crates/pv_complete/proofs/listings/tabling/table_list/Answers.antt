@@ -1,0 +1,36 @@
+use Rattle.std.proofs.Common.{ap, refl, subst, sym, ◌∙◌, ◌≡◌}
+use Rattle.std.proofs.lemmas.Result.{err_from_is_err_and}
+use Rattle.pv_productive.specs.PlainForms.{dtd_of}
+use Rattle.pv_tree.specs.PlainForms.{forest}
+use Rattle.pv_complete.specs.PlainForms.{made_of}
+use Rattle.pv_complete.specs.Tabling.{StopsKids}
+use Rattle.pv_complete.specs.declared.errors.NeedError.{NeedError}
+use Rattle.pv_complete.proofs.MadeTables.{makes_no_owner, makes_other, makes_table, tables_stop}
+use Rattle.pv_complete.proofs.listings.tabling.table_list.Goals as goal
+
+pub returns-then-not-takes_possible-clause-tabled : goal.returns-then-not-takes_possible-clause-tabled
+returns-then-not-takes_possible-clause-tabled c = λ root list kids path owner.
+    makes_other (dtd_of c.args.grammar.now) root c.args.verdicts.now.verdicts list (made_of c.args.made.now) _ c.if-not-takes_possible.ensures.taken refl refl
+
+pub returns-in_default-clause-tabled : goal.returns-in_default-clause-tabled
+returns-in_default-clause-tabled c = λ root list kids path owner.
+    makes_no_owner (dtd_of c.args.grammar.now) root c.args.verdicts.now.verdicts list (made_of c.args.made.now) _ c.if-not-takes_possible.ensures.taken (rw c.in_default.is at owner)
+
+pub returns-in_err-entries-clause-refused : goal.returns-in_err-entries-clause-refused
+returns-in_err-entries-clause-refused c =
+    let d = dtd_of c.args.grammar.now in
+    let p = err_from_is_err_and c.from_residual.result c.from_residual.ensures.1 in
+    rw p.1 (λ root list kids path owner.
+    let q = p.2 in
+    let same : c.in_err-entries.field-0.0 ≡ p.0 = cc in
+    let at : c.deref.result.now ≡ c.args.made.now.load.places.items = c.deref.ensures.value ∙ ap (λ v. v.items) c.if-not-takes_possible.ensures.places in
+    let s : StopsKids d (forest c.args.kids.now) c.args.made.now.load.places.items c.args.made.now.room c.in_err-entries.field-0.0 = rw at at c.in_err-entries.ensures.refused in
+    tables_stop d root c.args.verdicts.now.verdicts list (forest c.args.kids.now) c.args.made.now.load.places.items _ (made_of c.args.made.now) p.0 kids path
+    c.if-not-takes_possible.ensures.taken (subst (λ (e : NeedError). StopsKids d (forest c.args.kids.now) c.args.made.now.load.places.items c.args.made.now.room e) same s))
+
+pub returns-clause-tabled : goal.returns-clause-tabled
+returns-clause-tabled c = λ root list kids path owner.
+    let at = ap (λ v. v.items) c.if-not-takes_possible.ensures.places in
+    makes_table (dtd_of c.args.grammar.now) root c.args.verdicts.now.verdicts list (made_of c.args.made.now) (made_of c.add.new.self) (forest c.args.kids.now) c.in_ok-entries.entries.items kids
+    (rw c.add.ensures.load c.if-not-takes_possible.ensures.taken) c.in_ok-entries.ensures.entries c.in_ok-entries.ensures.fits
+    (rw path (rw at at c.in_ok-add.ensures.tables)) c.in_ok-add.ensures.room

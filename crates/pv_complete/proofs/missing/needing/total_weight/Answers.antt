@@ -1,0 +1,22 @@
+use Rattle.std.proofs.Common.{inr}
+use Rattle.pv_productive.specs.PlainForms.{dtd_of}
+use Rattle.pv_tree.specs.Lists.{lists_of}
+use Rattle.pv_tree.specs.PlainDocs.{plain_doc}
+use Rattle.pv_complete.specs.PlainForms.{load_of}
+use Rattle.pv_complete.proofs.Adding.{stops_in, weighs_in}
+use Rattle.pv_complete.proofs.missing.needing.total_weight.Goals as goal
+
+pub returns-in-Ok-clause-total : goal.returns-in-Ok-clause-total
+returns-in-Ok-clause-total c =
+    weighs_in (dtd_of c.args.grammar.now) c.args.root.now c.possible_weights_law.ensures (plain_doc c.args.doc.now) c.args.verdicts.now.verdicts (load_of c.new-load.result) (load_of c.weigh_doc.new.load)
+    (rw c.dtd.ensures at c.proper_dtd_law.ensures) c.proper_doc_law.ensures c.requires.verdicts c.requires.possible c.requires.narrow c.new-load.ensures.used c.new-load.ensures.total c.in-Ok.ensures.weighed
+
+pub returns-in-Err-TooWide-clause-refused : goal.returns-in-Err-TooWide-clause-refused
+returns-in-Err-TooWide-clause-refused c =
+    let d = dtd_of c.args.grammar.now in
+    inr (record {
+      narrow = c.requires.narrow;
+      possible = c.requires.possible;
+      first = rw (c.in_ok-new-in-Err-TooWide.ensures, c.deref.ensures.value) (stops_in d c.args.root.now (lists_of (plain_doc c.args.doc.now)) c.args.verdicts.now.verdicts (load_of c.new-load.result) c.weigh_doc.new.load.places.items
+          c.new-load.ensures.used c.requires.verdicts (c.in-Err-TooWide.ensures.wide c.in-Err-TooWide.field-0-is));
+    })

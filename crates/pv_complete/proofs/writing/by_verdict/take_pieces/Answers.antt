@@ -1,0 +1,94 @@
+use Rattle.std.proofs.Common.{None, Option, ap, length, refl, map, subst, sym, ◌∙◌, ◌≡◌}
+use Rattle.std.proofs.lemmas.List.{length-map}
+use Rattle.std.proofs.lemmas.Result.{IfOk-weaker}
+use Rattle.pv_model.specs.PlainForms.{plain_token}
+use Rattle.pv_dtd.proofs.Proper.{proper}
+use Rattle.pv_productive.specs.PlainForms.{dtd_of}
+use Rattle.pv_tree.specs.PlainForms.{forest}
+use Rattle.pv_tree.specs.Words.{word_of}
+use Rattle.pv_missing.specs.LiveWords.{AreProductiveTokens, IsLiveWord}
+use Rattle.pv_missing.specs.PlainForms.{plain_of}
+use Rattle.pv_missing.proofs.LiveFacts.{live_follows}
+use Rattle.pv_complete.specs.PieceForms.{plain_pieces}
+use Rattle.pv_missing.specs.Widths.{FitsWeights}
+use Rattle.pv_missing.specs.declared.owners.Of.{Of}
+use Rattle.pv_complete.specs.Written.{HasNextList, Suits, kept_for, kept_times}
+use Rattle.pv_complete.proofs.Taking.{kept_by_length, kept_pieces, possible_pieces, suits_at, suits_kept, suits_length}
+use Rattle.pv_complete.proofs.LightLists.{has_owner, next_light}
+use Rattle.pv_complete.proofs.writing.by_verdict.take_pieces.Goals as goal
+
+pub unreachable-requires : goal.unreachable-requires
+unreachable-requires c =
+    let d = dtd_of c.args.grammar.now in
+    has_owner d c.args.verdicts.now.verdicts (forest c.args.kids.now) c.args.out.now.used
+    (let none : c.args.owner ≡ None = cc in subst (λ (o : Option Of). HasNextList d o (forest c.args.kids.now) c.args.verdicts.now.verdicts c.args.out.now.used) none c.requires.next) c.requires.possible
+
+pub least_pieces-requires-clause-fits : goal.least_pieces-requires-clause-fits
+least_pieces-requires-clause-fits c =
+    let d = dtd_of c.args.grammar.now in
+    let w = word_of d (forest c.args.kids.now) in
+    let live = map plain_token c.in_ok-live.live in
+    let n : length c.as_slice.result.now ≡ length live = rw c.as_slice.ensures (simp length-map) in
+    let same = n ∙ (live_follows d w live c.in_ok-live.ensures).same_length in
+    subst (FitsWeights d) (sym same)
+    (next_light d c.args.verdicts.now.verdicts (forest c.args.kids.now) c.args.out.now.used c.args.owner c.takes_possible-possible.new.self.used (plain_of c.in-Some.of) live c.requires.next
+    c.if-possible.ensures.taken (rw c.in-Some.is refl) c.in_ok-live.ensures).0
+
+pub least_pieces-requires-clause-light : goal.least_pieces-requires-clause-light
+least_pieces-requires-clause-light c =
+    let d = dtd_of c.args.grammar.now in
+    let live = map plain_token c.in_ok-live.live in
+    rw c.as_slice.ensures
+    (next_light d c.args.verdicts.now.verdicts (forest c.args.kids.now) c.args.out.now.used c.args.owner c.takes_possible-possible.new.self.used (plain_of c.in-Some.of) live c.requires.next
+    c.if-possible.ensures.taken (rw c.in-Some.is refl) c.in_ok-live.ensures).1
+
+pub least_pieces-requires-clause-productive : goal.least_pieces-requires-clause-productive
+least_pieces-requires-clause-productive c =
+    let d = dtd_of c.args.grammar.now in
+    subst (λ v. AreProductiveTokens d (map plain_token v)) (sym c.as_slice.ensures)
+    (live_follows d (word_of d (forest c.args.kids.now)) (map plain_token c.in_ok-live.live) c.in_ok-live.ensures).names
+
+pub returns-then-possible-clause-pieces : goal.returns-then-possible-clause-pieces
+returns-then-possible-clause-pieces c =
+    let d = dtd_of c.args.grammar.now in
+    let live = map plain_token c.as_slice.result.now in
+    let is : IsLiveWord d (word_of d (forest c.args.kids.now)) live = rw c.as_slice.ensures c.in_ok-live.ensures in
+    IfOk-weaker c.least_pieces.result _ _
+    (λ pieces f root list more kids owner are.
+    possible_pieces d root list more c.args.verdicts.now.verdicts c.args.out.now.used c.takes_possible-possible.new.self.used (plain_of c.in-Some.of) f.0 live (plain_pieces pieces.items)
+    c.if-possible.ensures.taken (rw c.in-Some.is at owner) (rw kids is) f.1 f.2 are)
+    c.least_pieces.ensures
+
+pub returns-then-possible-clause-suits : goal.returns-then-possible-clause-suits
+returns-then-possible-clause-suits c =
+    let d = dtd_of c.args.grammar.now in
+    let w = word_of d (forest c.args.kids.now) in
+    let live = map plain_token c.as_slice.result.now in
+    let is : IsLiveWord d w live = rw c.as_slice.ensures c.in_ok-live.ensures in
+    IfOk-weaker c.least_pieces.result _ _
+    (λ pieces f. suits_length d (plain_pieces pieces.items) live w (sym (live_follows d w live is).same_length)
+    (suits_at d (proper c.args.grammar.now.layout.dtd) (plain_of c.in-Some.of) f.0 live (plain_pieces pieces.items) f.2))
+    c.least_pieces.ensures
+
+pub returns-clause-pieces : goal.returns-clause-pieces
+returns-clause-pieces c =
+    let d = dtd_of c.args.grammar.now in
+    let live = map plain_token c.as_slice-else-possible.result.now in
+    let is : IsLiveWord d (word_of d (forest c.args.kids.now)) live = rw c.as_slice-else-possible.ensures c.in_ok-live.ensures in
+    let n : length c.as_slice-else-possible.result.now ≡ length live = simp length-map in
+    IfOk-weaker c.kept_pieces.result _ _
+    (λ pieces f root list more kids owner are.
+    kept_pieces d root list more c.args.verdicts.now.verdicts c.args.out.now.used c.takes_possible-possible.new.self.used (plain_of c.in-Some.of) live (plain_pieces pieces.items)
+    c.if-possible.ensures.taken c.requires.possible (rw c.in-Some.is at owner) (rw kids is) (f ∙ ap kept_times n ∙ kept_by_length live) are)
+    c.kept_pieces.ensures
+
+pub returns-clause-suits : goal.returns-clause-suits
+returns-clause-suits c =
+    let d = dtd_of c.args.grammar.now in
+    let w = word_of d (forest c.args.kids.now) in
+    let live = map plain_token c.as_slice-else-possible.result.now in
+    let is : IsLiveWord d w live = rw c.as_slice-else-possible.ensures c.in_ok-live.ensures in
+    let n : length c.as_slice-else-possible.result.now ≡ length live = simp length-map in
+    IfOk-weaker c.kept_pieces.result _ _
+    (λ pieces f. subst (λ x. Suits d x w) (sym (f ∙ ap kept_times n ∙ kept_by_length live)) (suits_length d (kept_for live) live w (sym (live_follows d w live is).same_length) (suits_kept d live)))
+    c.kept_pieces.ensures

@@ -1,0 +1,194 @@
+//! The tables of all Possible lists, in document order.
+
+ghost use Rattle.std.specs.Prelude.{◌≡◌, ◌≤◌, ◌<◌, ◌∷◌, [], List, ℕ, IfErr, IfOk, IfSome, OnOk};
+ghost use Rattle.std.specs.Prelude.{length, map};
+ghost use Rattle.pv_model.specs.PlainForms.{plain_token};
+ghost use Rattle.pv_productive.specs.PlainForms.{dtd_of};
+ghost use Rattle.pv_rules.specs.Sites.{HasSite};
+ghost use Rattle.pv_tree.specs.Legal.{MAX_NODES};
+ghost use Rattle.pv_tree.specs.Lists.{Listed, lists_at, lists_from, lists_of};
+ghost use Rattle.pv_tree.specs.Plain.{nodes_in, nodes_in_all};
+ghost use Rattle.pv_tree.specs.PlainDocs.{plain_doc};
+ghost use Rattle.pv_tree.specs.PlainForms.{plain, forest};
+ghost use Rattle.pv_tree.specs.Words.{word_of};
+ghost use Rattle.pv_tree.specs.declared.nodes.Mark.{Mark};
+ghost use Rattle.pv_missing.specs.LiveWords.{AreProductiveTokens};
+ghost use Rattle.pv_missing.specs.PlainForms.{plain_of};
+ghost use Rattle.pv_missing.specs.Widths.{FitsWeights};
+ghost use Rattle.pv_missing.specs.Owners.{IsOwner};
+ghost use Rattle.pv_complete.specs.PlainForms.{made_of};
+ghost use Rattle.pv_tables.specs.Tables.{AreAllEntries};
+ghost use Rattle.pv_complete.specs.Tabling.{AreListEntries, MakesTables, StopsKids, StopsTables};
+ghost use Rattle.pv_complete.specs.Tabling.{StopsWord};
+
+use crate::errors::NeedError;
+use crate::listings::entries::entries_of;
+use crate::listings::made::Made;
+use pv_missing::{Of, Verdicts, element_owner, live_word, root_owner};
+use pv_model::Token;
+use pv_productive::Grammar;
+use pv_span::{Entry, SpanError, weights};
+use pv_tree::{Doc, Node, Path};
+use std::alloc::Global;
+
+/// All entries of a word of productive names, by its owner and the places of its list, if there are
+/// no more than there is room for.
+fn word_entries(
+    alloc: Global,
+    grammar: &Grammar,
+    of: Of,
+    word: &[Token],
+    places: &[u32],
+    room: u32,
+) -> Result<Vec<Entry>, NeedError>
+    requires site { HasSite (dtd_of grammar.now) (plain_of of) }
+    requires productive { AreProductiveTokens (dtd_of grammar.now) (map plain_token word.now) }
+    ensures entries { IfOk result (λ entries. AreAllEntries (dtd_of grammar.now)
+        (map plain_token word.now) entries.items) }
+    ensures few { IfOk result (λ entries. length entries.items ≤ room) }
+    ensures fits { OnOk result (FitsWeights (dtd_of grammar.now) (length word.now)) }
+    ensures refused { IfErr result (StopsWord (dtd_of grammar.now) (map plain_token word.now)
+        places.now room) }
+{
+    match weights(alloc, grammar, word) {
+        Ok(spans) => entries_of(alloc, grammar, &spans, word.len() as u32, room),
+        Err(SpanError::TooWide) => Err(NeedError::TooWide(Path::new(alloc, places)?)),
+        Err(SpanError::NoMemory) => Err(NeedError::NoMemory),
+    }
+}
+
+/// The same of the live word of these kids.
+fn kids_entries(
+    alloc: Global,
+    grammar: &Grammar,
+    of: Of,
+    kids: &[Node],
+    places: &[u32],
+    room: u32,
+) -> Result<Vec<Entry>, NeedError>
+    requires { HasSite (dtd_of grammar.now) (plain_of of) }
+    ensures entries { IfOk result (λ entries. AreListEntries (dtd_of grammar.now) (forest kids.now)
+        entries.items) }
+    ensures few { IfOk result (λ entries. length entries.items ≤ room) }
+    ensures fits { OnOk result (FitsWeights (dtd_of grammar.now)
+        (length (word_of (dtd_of grammar.now) (forest kids.now)))) }
+    ensures refused { IfErr result (StopsKids (dtd_of grammar.now) (forest kids.now)
+        places.now room) }
+{
+    let live = live_word(alloc, grammar, kids)?;
+    word_entries(alloc, grammar, of, live.as_slice(), places, room)
+}
+
+/// Adds the table of the list of these kids where it is Possible.
+fn table_list(
+    alloc: Global,
+    grammar: &Grammar,
+    owner: Option<Of>,
+    kids: &[Node],
+    verdicts: &Verdicts,
+    made: &mut Made,
+) -> Result<(), NeedError>
+    requires { IfSome owner (λ of. HasSite (dtd_of grammar.now) (plain_of of)) }
+    ensures tabled { OnOk result ((root : List ℕ) (list : Listed Mark) →
+        list.kids ≡ forest kids.now →
+        list.path ≡ made.old.load.places.items → IsOwner (dtd_of grammar.now) root list owner →
+        MakesTables (dtd_of grammar.now) root (list ∷ []) verdicts.now.verdicts (made_of made.old)
+        (made_of made.new)) }
+    ensures refused { IfErr result (λ e. (root : List ℕ) (list : Listed Mark) →
+        list.kids ≡ forest kids.now →
+        list.path ≡ made.old.load.places.items → IsOwner (dtd_of grammar.now) root list owner →
+        StopsTables (dtd_of grammar.now) root (list ∷ [])
+        verdicts.now.verdicts (made_of made.old) e) }
+    ensures places { made.new.load.places ≡ made.old.load.places }
+{
+    if !made.load.takes_possible(verdicts) {
+        return Ok(());
+    }
+    let Some(of) = owner else {
+        return Ok(());
+    };
+    let entries = kids_entries(alloc, grammar, of, kids, &made.load.places, made.room)?;
+    made.add(alloc, entries)?;
+    Ok(())
+}
+
+/// Adds the tables of the Possible lists of this subtree. The places are those of its node.
+#[cycle(table)]
+fn table_node(
+    alloc: Global,
+    grammar: &Grammar,
+    node: &Node,
+    verdicts: &Verdicts,
+    made: &mut Made,
+) -> Result<(), NeedError>
+    requires { nodes_in (plain node.now) ≤ MAX_NODES }
+    ensures tabled { OnOk result ((root : List ℕ) → MakesTables (dtd_of grammar.now) root
+        (lists_at made.old.load.places.items (plain node.now))
+        verdicts.now.verdicts
+        (made_of made.old) (made_of made.new)) }
+    ensures refused { IfErr result (λ e. (root : List ℕ) → StopsTables (dtd_of grammar.now) root
+        (lists_at made.old.load.places.items (plain node.now))
+        verdicts.now.verdicts (made_of made.old) e) }
+    ensures places { OnOk result (made.new.load.places.items ≡ made.old.load.places.items) }
+{
+    match node {
+        Node::Elem { name, kids, .. } => {
+            let owner = element_owner(grammar.dtd(), name.as_slice());
+            table_list(alloc, grammar, owner, kids, verdicts, made)?;
+            table_kids(alloc, grammar, kids, verdicts, made)
+        }
+        Node::Text(_) => Ok(()),
+        Node::Cdata(_) => Ok(()),
+        Node::Misc(_) => Ok(()),
+    }
+}
+
+/// The same of nodes side by side, at the places of their list.
+#[cycle(table)]
+fn table_kids(
+    alloc: Global,
+    grammar: &Grammar,
+    kids: &[Node],
+    verdicts: &Verdicts,
+    made: &mut Made,
+) -> Result<(), NeedError>
+    requires { nodes_in_all (forest kids.now) ≤ MAX_NODES }
+    ensures tabled { OnOk result ((root : List ℕ) → MakesTables (dtd_of grammar.now) root
+        (lists_from made.old.load.places.items 0 (forest kids.now))
+        verdicts.now.verdicts
+        (made_of made.old) (made_of made.new)) }
+    ensures refused { IfErr result (λ e. (root : List ℕ) → StopsTables (dtd_of grammar.now) root
+        (lists_from made.old.load.places.items 0 (forest kids.now))
+        verdicts.now.verdicts (made_of made.old) e) }
+    ensures places { OnOk result (made.new.load.places.items ≡ made.old.load.places.items) }
+{
+    for (i, kid) in kids.iter().enumerate() {
+        made.load.enter(i as u32)?;
+        table_node(alloc, grammar, kid, verdicts, made)?;
+        made.load.places.pop();
+    }
+    Ok(())
+}
+
+/// Adds the tables of the Possible lists of a document to nothing.
+pub fn table_doc(
+    alloc: Global,
+    grammar: &Grammar,
+    root: &[u8],
+    doc: &Doc,
+    verdicts: &Verdicts,
+    made: &mut Made,
+) -> Result<(), NeedError>
+    requires { made.old.load.places.items ≡ [] }
+    ensures tabled { OnOk result (MakesTables (dtd_of grammar.now) root.now
+        (lists_of (plain_doc doc.now)) verdicts.now.verdicts
+        (made_of made.old) (made_of made.new)) }
+    ensures refused { IfErr result (StopsTables (dtd_of grammar.now) root.now
+        (lists_of (plain_doc doc.now)) verdicts.now.verdicts (made_of made.old)) }
+{
+    let owner = root_owner(grammar.dtd(), root);
+    let kids = std::slice::from_ref(&doc.root);
+    table_list(alloc, grammar, owner, kids, verdicts, made)?;
+    made.load.enter(0)?;
+    table_node(alloc, grammar, &doc.root, verdicts, made)
+}

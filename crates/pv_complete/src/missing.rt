@@ -1,0 +1,6 @@
+//! How many elements are missing in a document, by the weights of its lists.
+
+pub mod lists;
+pub mod load;
+pub mod needing;
+pub mod weighing;

@@ -1,0 +1,111 @@
+//! The pieces of each list, in document order.
+
+ghost use Rattle.std.specs.Prelude.{◌≡◌, ◌<◌, ◌∷◌, List, IfOk, IfSome, OnOk, ℕ, drop, length, map};
+ghost use Rattle.pv_model.specs.Plain.{PlainToken};
+ghost use Rattle.pv_model.specs.PlainForms.{plain_token};
+ghost use Rattle.pv_productive.specs.PlainForms.{dtd_of};
+ghost use Rattle.pv_rules.specs.Derivations.{IsWeight, heaviest};
+ghost use Rattle.pv_rules.specs.Rules.{Rule};
+ghost use Rattle.pv_rules.specs.Sites.{HasSite};
+ghost use Rattle.pv_tree.specs.Lists.{Listed};
+ghost use Rattle.pv_tree.specs.PlainForms.{forest};
+ghost use Rattle.pv_tree.specs.Words.{word_of};
+ghost use Rattle.pv_tree.specs.declared.nodes.Mark.{Mark};
+ghost use Rattle.pv_missing.specs.LiveWords.{AreProductiveTokens, IsLiveWord};
+ghost use Rattle.pv_missing.specs.PlainForms.{plain_of};
+ghost use Rattle.pv_missing.specs.Verdicts.{AreVerdicts};
+ghost use Rattle.pv_missing.specs.Weighing.{whole};
+ghost use Rattle.pv_missing.specs.Widths.{FitsWeights};
+ghost use Rattle.pv_missing.specs.Owners.{IsOwner};
+ghost use Rattle.pv_complete.specs.PieceForms.{plain_pieces};
+ghost use Rattle.pv_complete.specs.Pieces.{WritesAt};
+ghost use Rattle.pv_complete.specs.Written.{AreListPieces, AreNotImpossible, HasNextList};
+ghost use Rattle.pv_complete.specs.Written.{Suits, kept_times};
+
+use crate::words::completing::list_pieces;
+use crate::words::pieces::Piece;
+use crate::writing::text::Writing;
+use pv_chars::NoMemory;
+use pv_missing::{Of, Verdicts, live_word};
+use pv_model::Token;
+use pv_productive::Grammar;
+use pv_span::SpanError;
+use pv_tree::Node;
+use std::alloc::Global;
+
+// So many kept pieces.
+fn kept_pieces(alloc: Global, count: usize) -> Result<Vec<Piece>, NoMemory>
+    ensures { IfOk result (λ pieces. plain_pieces pieces.items ≡ kept_times count) }
+{
+    let mut pieces = Vec::with_capacity(alloc, count)?;
+    for _i in 0..count {
+        pieces.push(Piece::Kept)?;
+    }
+    Ok(pieces)
+}
+
+// The pieces of a least completion of a word.
+fn least_pieces(
+    alloc: Global,
+    grammar: &Grammar,
+    of: Of,
+    word: &[Token],
+) -> Result<Vec<Piece>, NoMemory>
+    requires site { HasSite (dtd_of grammar.now) (plain_of of) }
+    requires productive { AreProductiveTokens (dtd_of grammar.now) (map plain_token word.now) }
+    requires fits { FitsWeights (dtd_of grammar.now) (length word.now) }
+    requires light { (k : ℕ) →
+        IsWeight (Rule (dtd_of grammar.now) (map plain_token word.now))
+        (whole (plain_of of) (map plain_token word.now)) k → k < heaviest }
+    ensures { IfOk result (λ pieces. (n : ℕ) ×
+        IsWeight (Rule (dtd_of grammar.now) (map plain_token word.now))
+        (whole (plain_of of) (map plain_token word.now)) n ×
+        WritesAt (dtd_of grammar.now) (plain_of of) n (map plain_token word.now)
+        (plain_pieces pieces.items)) }
+{
+    match list_pieces(alloc, grammar, of, word) {
+        Ok(Some(pieces)) => Ok(pieces),
+        Ok(None) => unreachable!(),
+        Err(SpanError::TooWide) => unreachable!(),
+        Err(SpanError::NoMemory) => Err(NoMemory),
+    }
+}
+
+/// The pieces of a list, and its verdict is used: those of a least completion where it is Possible,
+/// and a kept one for each token where it is Valid.
+pub fn take_pieces(
+    alloc: Global,
+    grammar: &Grammar,
+    owner: Option<Of>,
+    kids: &[Node],
+    verdicts: &Verdicts,
+    out: &mut Writing,
+) -> Result<Vec<Piece>, NoMemory>
+    requires site { IfSome owner (λ of. HasSite (dtd_of grammar.now) (plain_of of)) }
+    requires possible { AreNotImpossible verdicts.now.verdicts }
+    requires next { HasNextList (dtd_of grammar.now) owner (forest kids.now)
+        verdicts.now.verdicts out.old.used }
+    ensures pieces { IfOk result (λ pieces. (root : List ℕ) (list : Listed Mark)
+        (more : List (Listed Mark)) →
+        list.kids ≡ forest kids.now → IsOwner (dtd_of grammar.now) root list owner →
+        AreVerdicts (dtd_of grammar.now) root (list ∷ more)
+        (drop out.old.used verdicts.now.verdicts) →
+        AreListPieces (dtd_of grammar.now) root list more verdicts.now.verdicts out.old.used
+        out.new.used (plain_pieces pieces.items)) }
+    ensures suits { IfOk result (λ pieces. Suits (dtd_of grammar.now) (plain_pieces pieces.items)
+        (word_of (dtd_of grammar.now) (forest kids.now))) }
+    ensures body { out.new.body ≡ out.old.body }
+    ensures marks { out.new.marks ≡ out.old.marks }
+    ensures begun { out.new.begun ≡ out.old.begun }
+{
+    let possible = out.takes_possible(verdicts);
+    let Some(of) = owner else {
+        unreachable!();
+    };
+    let live = live_word(alloc, grammar, kids)?;
+    if possible {
+        least_pieces(alloc, grammar, of, live.as_slice())
+    } else {
+        kept_pieces(alloc, live.as_slice().len())
+    }
+}

@@ -1,0 +1,97 @@
+//! A least completion of a document.
+
+ghost use Rattle.std.specs.Prelude.{◌≡◌, ℕ, IfErr, IfOk};
+ghost use Rattle.pv_productive.specs.PlainForms.{dtd_of};
+ghost use Rattle.pv_tree.specs.PlainDocs.{plain_doc};
+ghost use Rattle.pv_tree.specs.Prolog.{IsProlog};
+ghost use Rattle.pv_complete.specs.Completing.{IsLeastCompletion};
+ghost use Rattle.pv_complete.specs.Growing.{IsGrownText};
+ghost use Rattle.pv_complete.specs.Needing.{HasCause, Needs};
+ghost use Rattle.pv_complete.specs.declared.errors.NeedError.TheVariants.{NoMemory as no_memory};
+
+use crate::errors::NeedError;
+use crate::missing::needing::{least_number, uncounted_verdicts};
+use crate::writing::text::numbers_of;
+use crate::writing::walk::write_doc;
+use pv_chars::{Bytes, Numbers};
+use pv_dtd::laws::proper_dtd_law;
+use pv_missing::laws::documents::{
+    bounds_add_up_law, live_lists_law, locality_law, tags_extend_law,
+};
+use pv_missing::laws::lists::weight_is_least_law;
+use pv_missing::laws::proper::proper_doc_law;
+use pv_productive::Grammar;
+use pv_tables::laws::{live_weight_law, possible_weights_law};
+use pv_tree::{Doc, Mark};
+use pv_write::laws::every_view_is_written_law;
+use std::alloc::Global;
+use std::marker::Brand;
+use std::sync::ledger::Blank;
+
+/// A least completion of a document.
+#[derive(Debug, Drop)]
+pub struct Completion {
+    /// How many elements are new.
+    pub count: u64,
+    /// Their numbers in the body, in document order, the root having the number 0.
+    pub marks: Numbers,
+    /// The text of the completed document.
+    pub body: Bytes,
+}
+
+/// A least completion of a document: the text of a valid document that is this one with as few
+/// elements as can be inserted. The document stays as it is.
+///
+/// New elements are written as `<NAME>` and `</NAME>`, and all else as it is, but that an
+/// empty-element tag that gets content becomes a pair of tags. The refusals are those of `need`.
+pub fn complete(
+    alloc: Global,
+    grammar: &Grammar,
+    root: &[u8],
+    doc: &Doc,
+) -> Result<Completion, NeedError>
+    requires names { IsProlog root.now (plain_doc doc.now).before }
+    ensures completed { IfOk result (λ c. IsLeastCompletion (dtd_of grammar.now)
+        root.now (plain_doc doc.now) c.count c.marks c.body) }
+    ensures written { IfOk result (λ c. IsGrownText (plain_doc doc.now) c.body) }
+    ensures refused { IfErr result (HasCause (dtd_of grammar.now) root.now (plain_doc doc.now)) }
+    ensures succeeds { (n : ℕ) → Needs (dtd_of grammar.now) root.now (plain_doc doc.now) n →
+        IfErr result (λ e. e ≡ no_memory) }
+{
+    live_lists_law::<Mark>();
+    proper_doc_law(doc);
+    least_completion(alloc, grammar, root, doc)
+}
+
+// The same, by two walks: one that weighs the lists, and one that writes them.
+fn least_completion(
+    alloc: Global,
+    grammar: &Grammar,
+    root: &[u8],
+    doc: &Doc,
+) -> Result<Completion, NeedError>
+    requires names { IsProlog root.now (plain_doc doc.now).before }
+    ensures completed { IfOk result (λ c. IsLeastCompletion (dtd_of grammar.now)
+        root.now (plain_doc doc.now) c.count c.marks c.body) }
+    ensures written { IfOk result (λ c. IsGrownText (plain_doc doc.now) c.body) }
+    ensures refused { IfErr result (HasCause (dtd_of grammar.now) root.now (plain_doc doc.now)) }
+{
+    every_view_is_written_law();
+    tags_extend_law();
+    possible_weights_law::<Mark>();
+    live_weight_law::<Mark>();
+    weight_is_least_law::<Mark>();
+    bounds_add_up_law::<Mark>();
+    locality_law::<Mark>();
+    proper_dtd_law(grammar.dtd());
+    proper_doc_law(doc);
+    let verdicts = uncounted_verdicts::<Brand>(alloc, grammar, root, doc, Blank::new(1))?;
+    let count = least_number(alloc, grammar, root, doc, &verdicts)?;
+    let text = write_doc(alloc, grammar, root, doc, &verdicts)?;
+    let marks = numbers_of(alloc, text.marks.as_slice())?;
+    Ok(Completion {
+        count,
+        marks: Numbers::of(marks),
+        body: Bytes::of(text.body),
+    })
+}

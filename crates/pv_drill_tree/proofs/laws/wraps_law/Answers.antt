@@ -1,6 +1,0 @@
-use Rattle.std.proofs.Common.{length, refl}
-use Rattle.pv_drill_tree.proofs.Wrapping.{wrap_made}
-use Rattle.pv_drill_tree.proofs.laws.wraps_law.Goals as goal
-
-pub returns : goal.returns
-returns c name front back k named = wrap_made name front back k (length front) refl named

@@ -1,0 +1,133 @@
+//! What is going to be done to a document: a change of the list at a path, and what undoes it.
+
+ghost use Rattle.std.specs.Prelude.{◌≡◌, ◌≤◌, ◌+◌, ◌∷◌, ◌++◌, [], IfOk};
+ghost use Rattle.pv_tree.specs.Places.{spot_at};
+ghost use Rattle.pv_tree.specs.PlainDocs.{plain_doc};
+ghost use Rattle.pv_tree.specs.PlainForms.{plain, plain_end};
+ghost use Rattle.pv_edit.specs.Changes.{others};
+ghost use Rattle.pv_edit.specs.Effects.{fill, parent_of, place_of};
+ghost use Rattle.pv_edit.specs.Fitting.{plain_task, plain_filling};
+ghost use Rattle.pv_edit.specs.Inverses.{ends_short, is_short};
+
+use crate::filling::Filling;
+use crate::inverses::Inverse;
+use crate::places::parent_of;
+use pv_chars::{NoMemory, bytes_of};
+use pv_tree::{Doc, End, Found, Node, Path};
+use std::alloc::Global;
+
+/// A change of one list: others come in place of the kids from one place up to another.
+#[derive(Debug, Drop)]
+pub struct Change {
+    pub from: usize,
+    pub to: usize,
+    pub filling: Filling,
+    /// Whether the owner of the list ends by `/>` afterwards.
+    pub shorten: bool,
+}
+
+/// A change of the list at a path.
+#[derive(Debug, Drop)]
+pub struct Task {
+    pub list: Path,
+    pub change: Change,
+}
+
+/// What an edit does, and what undoes it.
+#[derive(Debug, Drop)]
+pub struct Preparation {
+    pub task: Task,
+    pub inverse: Inverse,
+}
+
+/// The change of the kids from one place up to another in the list at a path.
+pub(crate) fn list_task(list: Path, from: u32, to: u32, filling: Filling) -> Task
+    ensures { plain_task result ≡ fill list from to (plain_filling filling) }
+{
+    let change = Change {
+        from: from as usize,
+        to: to as usize,
+        filling,
+        shorten: false,
+    };
+    Task { list, change }
+}
+
+/// The change of so many kids from the node at a path on.
+pub(crate) fn node_task(
+    alloc: Global,
+    path: &Path,
+    count: usize,
+    filling: Filling,
+) -> Result<Task, NoMemory>
+    requires { count ≤ 2 }
+    ensures { IfOk result (λ task. plain_task task ≡
+        fill (parent_of path.now) (place_of path.now) (place_of path.now + count)
+        (plain_filling filling)) }
+{
+    let from = last_place(path.places()) as usize;
+    let change = Change {
+        from,
+        to: from + count,
+        filling,
+        shorten: false,
+    };
+    Ok(Task {
+        list: parent_of(alloc, path)?,
+        change,
+    })
+}
+
+/// Which of its parent's kids the node at a path is.
+pub(crate) fn last_place(path: &[u32]) -> u32
+    ensures { result ≡ place_of path.now }
+{
+    match path {
+        [.., place] => *place,
+        [] => 0,
+    }
+}
+
+/// The path of a kid.
+pub fn kid_path(alloc: Global, path: &Path, place: u32) -> Result<Path, NoMemory>
+    ensures { IfOk result (λ p. p ≡ path.now ++ place ∷ []) }
+{
+    let mut places = path.places().to_vec(alloc)?;
+    places.push(place)?;
+    Path::new(alloc, &places)
+}
+
+/// Whether an element that ends by `/>` stands at a path.
+pub(crate) fn ends_short(doc: &Doc, path: &Path) -> bool
+    ensures { result ≡ ends_short (spot_at path.now (plain_doc doc.now).root) }
+{
+    match doc.node_at(path) {
+        Some(Found::Inner(Node::Elem { end, .. })) => is_short(end),
+        _ => false,
+    }
+}
+
+fn is_short(end: &End) -> bool
+    ensures { result ≡ is_short (plain_end end.now) }
+{
+    matches!(end, End::Short)
+}
+
+/// One node, to come in place of others.
+pub(crate) fn one_node(alloc: Global, node: Node) -> Result<Filling, NoMemory>
+    ensures { IfOk result (λ filling. plain_filling filling ≡ others (plain node ∷ [])) }
+{
+    let mut nodes = Vec::with_capacity(alloc, 1)?;
+    nodes.push_reserved(node);
+    Ok(Filling::Others(nodes))
+}
+
+/// An equal end.
+pub(crate) fn equal_end(alloc: Global, end: &End) -> Result<End, NoMemory>
+    ensures { IfOk result (λ e. e ≡ end.now) }
+{
+    match end {
+        End::Short => Ok(End::Short),
+        End::Tagged(gap) => Ok(End::Tagged(bytes_of(alloc, gap.as_slice())?)),
+    }
+}

@@ -1,0 +1,22 @@
+use Rattle.std.proofs.Common.{◌∙◌, ◌∷◌, [], ap, sym, subst}
+use Rattle.pv_flat.specs.Coming.{Comes}
+use Rattle.pv_flat.specs.Plain.{begin_element}
+use Rattle.pv_flat.proofs.Entered.{entered, entered-short}
+use Rattle.pv_flat.proofs.States.{pushed-names, same-names}
+use Rattle.pv_flat.proofs.state.Events.enter.Goals as goal
+
+pub returns-then-opening-clause-leads : goal.returns-then-opening-clause-leads
+returns-then-opening-clause-leads c = λ es end comes.
+    let p = c.pass_tag.ensures in
+    let tag = c.args.opening.now in
+    subst (λ l. Comes c.args.self.now (begin_element tag.tag.name.now tag.tag.attrs.now ∷ l) end) (sym comes.1)
+    (entered-short c.args.self.now c.pass_tag.new.self tag c.requires.opens c.requires.fresh p.root p.before p.rest p.count comes.0 end comes.2 c.if-opening.true
+    (same-names [] c.pass_tag.new.self.elements.items (p.open_elements ∙ c.clear.ensures.items)))
+
+pub returns-clause-leads : goal.returns-clause-leads
+returns-clause-leads c = λ es end comes.
+    let p = c.pass_tag-2.ensures in
+    let tag = c.args.opening.now in
+    entered c.args.self.now c.pass_tag-2.new.self tag c.requires.opens c.requires.fresh p.root p.before p.rest p.count es end comes c.if-opening.false
+    (pushed-names c.clear.new.self.items c.push.new.self.items c.pass_tag-2.new.self.elements.items tag.tag.name c.in_ok-push.ensures.items p.open_elements
+    ∙ ap (λ l. tag.tag.name.now ∷ l) (same-names [] c.clear.new.self.items c.clear.ensures.items))

@@ -1,0 +1,5 @@
+pub mod Live
+pub mod Takes
+pub mod Free
+pub mod Runs
+pub mod Laws

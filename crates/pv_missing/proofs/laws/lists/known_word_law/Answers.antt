@@ -1,0 +1,5 @@
+use Rattle.pv_missing.proofs.Known.{word_known}
+use Rattle.pv_missing.proofs.laws.lists.known_word_law.Goals as goal
+
+pub returns : goal.returns
+returns g c = word_known _

@@ -1,0 +1,2 @@
+mod JobLists
+mod ListNumbers

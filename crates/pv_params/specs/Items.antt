@@ -1,0 +1,19 @@
+-- The items of texts that are expanded, and the modes in which texts are read.
+use Rattle.std.specs.Prelude.{ℕ, Bool, List}
+
+-- How a text is read. The file is read in mode Between; a parameter declaration stands in it before
+-- the rest, or none.
+pub data Mode : Type 0 where
+  file : (after_parameter : Bool) → Mode
+  between : Mode
+  inside : Mode
+  value : Mode
+
+-- What an item asks for: these bytes are put into the result; the text of the entity of this name
+-- is read; an entity of this name is declared, with this value in its quotes;
+-- a declaration with this word is copied, what it holds behind the word is read.
+pub data Item : Type 0 where
+  puts : (bytes : List ℕ) → Item
+  reference : (name : List ℕ) → Item
+  parameter : (name : List ℕ) → (given : List ℕ) → Item
+  declaration : (word : List ℕ) → (held : List ℕ) → Item

@@ -1,0 +1,10 @@
+pub mod Items
+pub mod Spelling
+pub mod Meaning
+pub mod Laws
+pub mod ItemReading
+pub mod Entries
+pub mod PlainBytes
+pub mod PlainForms
+pub mod Answers
+pub mod OpenTexts

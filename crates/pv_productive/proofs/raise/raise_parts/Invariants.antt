@@ -1,8 +1,0 @@
-use Rattle.pv_dtd.specs.PlainForms.{plain_dtd}
-use Rattle.pv_productive.specs.PlainForms.{table_of}
-use Rattle.pv_productive.specs.Tables.{ArePartsSettled, IsRaised}
-use Rattle.pv_productive.proofs.raise.raise_parts.Given as goal
-
-abbrev pub invariant-loop-number : goal.invariant-loop-number
-invariant-loop-number l =
-    IsRaised (plain_dtd l.layout.dtd) (ArePartsSettled (plain_dtd l.layout.dtd) l.number l.end) (table_of l.fn.sizes) (table_of l.sizes) l.changed

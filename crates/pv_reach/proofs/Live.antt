@@ -1,0 +1,70 @@
+-- Columns that reach over no tokens, by those that stand for them.
+use Rattle.std.proofs.Common.{Bool, List, [], ap, arith, false, get_or, inl, inr, length, replicate, subst, sym, take, true, ℕ, ◌+◌, ◌<◌, ◌^◌, ◌∙◌, ◌∷◌, ◌↔◌, ◌≡◌, ◌≤◌, ◌⊎◌, All, Contains, IsTrue}
+use Rattle.std.proofs.lemmas.List.{get_or-take}
+use Rattle.pv_model.specs.declared.models.Token.{Token}
+use Rattle.pv_columns.specs.ColumnRules.{InRange, ReadThrough}
+use Rattle.pv_columns.specs.Marks.{AreBare}
+use Rattle.pv_columns.specs.declared.rules.ColumnRule.{ColumnRule}
+use Rattle.pv_dtd.specs.Plain.{PlainDtd, declared}
+use Rattle.pv_reach.specs.Columns.{AreRules, width_of}
+use Rattle.pv_reach.specs.Leading.{AreAlike}
+use Rattle.pv_reach.specs.Merging.{AreHeadsBare, AreMerged, HasMerged, IsMerging, Replaces, head_of}
+use Rattle.pv_reach.specs.declared.merging.Merging.{Merging}
+use Rattle.pv_reach.proofs.FormedDtds.{IsFormedDtd}
+use Rattle.pv_reach.proofs.Placing.{unset}
+use Rattle.pv_reach.proofs.Ranging.{rules_in_range}
+use Rattle.pv_reach.proofs.Replacing.{has_all, is_merging, replaces}
+
+pub none_bare : (rules : List ColumnRule) (flags : List Bool) (n : ℕ) → flags ≡ replicate n false → AreBare rules flags
+none_bare rules flags n e = record { bare = λ c m word p. absurd (let z = unset n c in let y = ap (λ v. get_or v c false) e in cc) }
+
+-- one more that stands for a column that reaches over none
+pub head_more : (rules : List ColumnRule) (old new : List Bool) (number head : ℕ) → number ≡ head → ((word : List Token) (p : ℕ) → ReadThrough rules word (head ∷ []) p p) → AreBare rules old →
+    ((x : ℕ) → get_or new x false ≡ true → (x ≡ number) ⊎ (get_or old x false ≡ true)) → AreBare rules new
+head_more rules old new number head e reached are flags = record {
+  bare = λ x m word p. elim (flags x m) [
+    | inr k ↦ are.bare x k word p
+    | inl z ↦ (let P : ℕ → Type 0 = λ v. ReadThrough rules word (v ∷ []) p p in subst P (sym (z ∙ e)) (reached word p))
+  ];
+}
+
+-- rules that are merged, and what they reach
+pub record IsPlanned (g : PlainDtd) (rules : List ColumnRule) (m : Merging) (merged : List ColumnRule) (wider : ℕ) : Type 0 where
+  pub merging : IsMerging rules m
+  pub long : length m.heads.items ≡ width_of g
+  pub replaces : Replaces rules merged (width_of g) wider m.heads.items
+  pub narrow : wider < 2 ^ 26
+  pub heads : AreHeadsBare merged m.bare.items m.heads.items
+  pub names : declared g ≤ length m.heads.items
+
+module _ (g : PlainDtd) (formed : IsFormedDtd g) (rules : List ColumnRule) (m : Merging) (bare : List Bool) (heads order : List ℕ) (merged : List ColumnRule) (n led : ℕ) (are : AreRules g rules)
+    (same : (m.bare.items ≡ bare) × (m.heads.items ≡ heads)) (are_bare : AreBare rules bare) (alike : (length heads ≡ n) × AreAlike rules heads) (width : n ≡ width_of g) (narrow : n < 2 ^ 25)
+    (below : All (λ a. a < length heads) m.led.items) (few : length m.led.items ≤ length heads) where
+  pub merging_is : IsMerging rules m
+  merging_is = let R : ℕ → Type 0 = λ v. InRange v rules in is_merging rules m bare heads n same alike.0 narrow few below are_bare alike.1 (subst R (sym width) (rules_in_range g formed rules are))
+
+  pub planned : AreMerged rules m merged → ((i : ℕ) → i < length rules → Contains order i) → ((i : ℕ) → Contains order i → i < length rules → HasMerged rules m merged i) → led ≡ length m.led.items →
+      IsPlanned g rules m merged (n + led)
+  planned only all has count =
+      let long : length m.heads.items ≡ width_of g = ap length same.1 ∙ alike.0 ∙ width in
+      let P : ℕ → Type 0 = λ v. Replaces rules merged v (v + length m.led.items) m.heads.items in
+      let Q : ℕ → Type 0 = λ v. Replaces rules merged (width_of g) v m.heads.items in
+      let wide : width_of g + length m.led.items ≡ n + led = omega arith in
+      let is = merging_is in
+      let r : Replaces rules merged (width_of g) (n + led) m.heads.items = subst Q wide (subst P long (replaces rules merged m is only (has_all rules m order merged all has))) in
+      record {
+        merging = is;
+        long = long;
+        replaces = r;
+        narrow = (let z = is.narrow in omega arith);
+        heads = λ c mark lt word p. (r.same word c p p (let z = long in omega arith)).1 (is.bare.bare c mark word p);
+        names = (let z = formed.is_proper.named in omega arith);
+      }
+
+-- the set of a declared name's content
+pub free_reaches : (rules : List ColumnRule) (heads : List ℕ) (n x : ℕ) (word : List Token) (b : Bool) → x < n →
+    IsTrue b ↔ ReadThrough rules word (get_or (take n heads) x 0 ∷ []) 0 (length word) → IsTrue b ↔ ReadThrough rules word (head_of heads x ∷ []) 0 (length word)
+free_reaches rules heads n x word b lt iff =
+    let e = get_or-take n heads x 0 lt in
+    let P : ℕ → Type 0 = λ v. IsTrue b ↔ ReadThrough rules word (v ∷ []) 0 (length word) in
+    subst P e iff

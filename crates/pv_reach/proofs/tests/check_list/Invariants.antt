@@ -1,4 +1,0 @@
-use Rattle.pv_reach.proofs.tests.check_list.Given as goal
-
-abbrev pub ghosts-verdict : goal.ghosts-verdict
-ghosts-verdict g a = record { name = a.blank.name; parts = a.blank.parts }

@@ -1,7 +1,0 @@
-//! Worked rows of `check`, through the top call, and of the calls that find verdicts.
-#![tactic(auto)]
-
-#[cfg(test)]
-mod documents;
-#[cfg(test)]
-mod verdicts;

@@ -1,0 +1,11 @@
+-- The plain form of the columns of sites.
+use Rattle.pv_span.specs.Columns.{PlainSites}
+use Rattle.pv_span.specs.declared.sites.Sites.{Sites}
+
+abbrev pub plain_sites : Sites → PlainSites
+plain_sites s = record {
+  names = s.names.items;
+  contents = s.contents.items;
+  parts = s.parts.items;
+  rests = s.rests.items;
+}

@@ -1,0 +1,98 @@
+//! The columns of a grammar.
+
+ghost use Rattle.std.specs.Prelude.{◌≡◌, ◌≤◌, ◌++◌, IfOk, OnOk, length};
+ghost use Rattle.pv_dtd.specs.Plain.{parts_in_models};
+ghost use Rattle.pv_productive.specs.PlainForms.{dtd_of};
+ghost use Rattle.pv_span.specs.Columns.{AreFit, no_column};
+ghost use Rattle.pv_span.specs.FormForms.{plain_all};
+ghost use Rattle.pv_span.specs.Making.{AreLaid, elements};
+ghost use Rattle.pv_span.specs.SiteForms.{plain_sites};
+
+use crate::forms::Form;
+use crate::laying::{blank_sites, lay_content, lay_part};
+use crate::making::Making;
+use crate::sites::{Sites, column_at};
+use pv_chars::NoMemory;
+use pv_model::NameId;
+use pv_productive::Grammar;
+use std::alloc::Global;
+
+/// The columns of a grammar: which one each site has, and what stands in each.
+#[derive(Debug, Drop)]
+pub struct Layout {
+    pub sites: Sites,
+    pub forms: Vec<Form>,
+}
+
+/// Gives all parts their columns, the last part first: what is within a part has higher numbers,
+/// and so have the members behind it.
+fn lay_parts(
+    alloc: Global,
+    grammar: &Grammar,
+    sites: &mut Sites,
+    making: &mut Making,
+) -> Result<(), NoMemory>
+    requires { AreLaid (dtd_of grammar.now) (plain_sites sites.old) making.old.names
+        (plain_all making.old.forms.items) (parts_in_models (dtd_of grammar.now).models) 0 }
+    ensures { OnOk result (AreLaid (dtd_of grammar.now) (plain_sites sites.new)
+        making.new.names (plain_all making.new.forms.items) 0 0) }
+{
+    for number in (0..grammar.dtd().parts()).rev() {
+        lay_part(alloc, grammar, number, sites, making)?;
+    }
+    Ok(())
+}
+
+/// Gives the contents of all names that are declared their columns.
+fn lay_contents(
+    alloc: Global,
+    grammar: &Grammar,
+    sites: &mut Sites,
+    making: &mut Making,
+) -> Result<(), NoMemory>
+    requires { AreLaid (dtd_of grammar.now) (plain_sites sites.old) making.old.names
+        (plain_all making.old.forms.items) 0 0 }
+    ensures { OnOk result (AreLaid (dtd_of grammar.now) (plain_sites sites.new)
+        making.new.names (plain_all making.new.forms.items) 0
+        (length (dtd_of grammar.now).models)) }
+{
+    for id in 0..grammar.dtd().count() {
+        lay_content(alloc, grammar, NameId(id), sites, making)?;
+    }
+    Ok(())
+}
+
+/// What stands in all columns: in those of names, and in those that were made.
+fn all_forms(
+    alloc: Global,
+    names: u32,
+    contents: &[u32],
+    made: Vec<Form>,
+) -> Result<Vec<Form>, NoMemory>
+    ensures { IfOk result (λ forms. plain_all forms.items ≡
+        elements contents.now names ++ plain_all made.items) }
+{
+    let mut made = made;
+    let mut forms = Vec::new(alloc);
+    for name in 0..names {
+        let content = column_at(contents, name as usize);
+        forms.push(Form::Element(NameId(name), content))?;
+    }
+    forms.append(&mut made)?;
+    Ok(forms)
+}
+
+/// The columns of a grammar.
+pub fn lay_out(alloc: Global, grammar: &Grammar) -> Result<Layout, NoMemory>
+    ensures fit { IfOk result (λ layout. AreFit (dtd_of grammar.now) (plain_sites layout.sites)
+        (plain_all layout.forms.items)) }
+    ensures few { IfOk result (λ layout. length layout.forms.items ≤ no_column) }
+{
+    let (names, parts) = (grammar.dtd().names(), grammar.dtd().parts());
+    let mut making = Making::new(alloc, names)?;
+    let mut sites = blank_sites(alloc, names, parts)?;
+    lay_parts(alloc, grammar, &mut sites, &mut making)?;
+    lay_contents(alloc, grammar, &mut sites, &mut making)?;
+    let forms = all_forms(alloc, names, &sites.contents, making.forms)?;
+    Ok(Layout { sites, forms })
+}

@@ -1,0 +1,45 @@
+-- Laws of tables, each a statement. M is the type of a document's marks.
+use Rattle.std.specs.Prelude.{List, ℕ, ◌≡◌}
+use Rattle.pv_model.specs.Plain.{PlainToken}
+use Rattle.pv_dtd.specs.Plain.{PlainDtd}
+use Rattle.pv_dtd.specs.Proper.{IsProperDtd}
+use Rattle.pv_tree.specs.Lists.{Listed, lists_of}
+use Rattle.pv_tree.specs.Plain.{PlainDoc}
+use Rattle.pv_tree.specs.View.{view}
+use Rattle.pv_tree.specs.declared.nodes.Verdict.{Verdict}
+use Rattle.pv_rules.specs.Derivations.{IsClosed, IsWeight}
+use Rattle.pv_rules.specs.Rules.{IsKnownWord, IsSpan, Rule, over}
+use Rattle.pv_rules.specs.Sites.{HasSite, PlainSite}
+use Rattle.pv_missing.specs.Completing.{IsPotentiallyValid}
+use Rattle.pv_missing.specs.Proper.{IsProperDoc}
+use Rattle.pv_missing.specs.Verdicts.{AreVerdicts}
+use Rattle.pv_missing.specs.Weighing.{SumIsLeast}
+use Rattle.pv_tables.specs.Tables.{AreAllEntries, AreTables}
+use Rattle.pv_tables.specs.Values.{HaveTotal, listed_value}
+use Rattle.pv_tables.specs.declared.tables.Entry.{Entry}
+use Rattle.pv_tables.specs.declared.tables.Table.{Table}
+
+-- lists have one list of tables
+abbrev pub OneTables : (M : Type 0) → Type 0
+OneTables M = (g : PlainDtd) (root : List ℕ) (lists : List (Listed M)) (ts us : List Table) →
+    AreTables g root lists ts → AreTables g root lists us → ts ≡ us
+
+-- what all light entries of a word give a site of the DTD over a span is its weight, listed or not
+abbrev pub EntriesAreWeights : Type 0
+EntriesAreWeights = (g : PlainDtd) (w : List PlainToken) (es : List Entry) (s : PlainSite)
+    (i j : ℕ) → AreAllEntries g w es → HasSite g s → IsSpan w i j →
+    IsWeight (Rule g w) (over s i j) (listed_value es (over s i j))
+
+-- all light entries of a word whose names are those of the DTD are closed, read as a table
+abbrev pub EntriesAreClosed : Type 0
+EntriesAreClosed = (g : PlainDtd) (w : List PlainToken) (es : List Entry) → IsProperDtd g →
+    IsKnownWord g w → AreAllEntries g w es →
+    IsClosed (Rule g w) (listed_value es)
+
+-- the whole-list values of a document's tables add up to its least number
+abbrev pub TablesAddUp : (M : Type 0) → Type 0
+TablesAddUp M = (g : PlainDtd) (root : List ℕ) (doc : PlainDoc M) (vs : List Verdict)
+    (ts : List Table) (s : ℕ) → IsProperDtd g → IsProperDoc doc →
+    AreVerdicts g root (lists_of doc) vs → IsPotentiallyValid g root (view doc.root) →
+    AreTables g root (lists_of doc) ts → HaveTotal g root (lists_of doc) ts s →
+    SumIsLeast g root s (view doc.root)

@@ -1,0 +1,66 @@
+//! The laws of tables and of the weights of lists, each the contract of a function that does
+//! nothing. `M` is a type of marks.
+
+ghost use Rattle.pv_tables.specs.TableLaws.{EntriesAreClosed, EntriesAreWeights, OneTables};
+ghost use Rattle.pv_tables.specs.TableLaws.{TablesAddUp};
+ghost use Rattle.pv_tables.specs.WeightLaws.{LiveWeight, PossibleWeightsAddUp};
+
+use pv_missing::laws::documents::{live_lists_law, weights_add_up_law};
+use pv_missing::laws::lists::valid_misses_none_law;
+use pv_missing::laws::words::{live_follows_law, one_live_word_law};
+use pv_rules::laws::spans_law;
+use pv_tree::laws::lists_ascend_law;
+
+/// The live word of a live list may be weighed in place of its word.
+pub fn live_weight_law<M>()
+    ensures { LiveWeight M }
+{
+    live_follows_law();
+    one_live_word_law();
+}
+
+/// The weights of the Possible lists add up to the least number of elements whose insertion makes a
+/// document valid.
+pub fn possible_weights_law<M>()
+    ensures { PossibleWeightsAddUp M }
+{
+    live_follows_law();
+    one_live_word_law();
+    valid_misses_none_law::<M>();
+    live_lists_law::<M>();
+    weights_add_up_law::<M>();
+}
+
+/// The lists of a document have one list of tables.
+pub fn one_tables_law<M>()
+    ensures { OneTables M }
+{
+    one_live_word_law();
+}
+
+/// What all light entries of a word give a site over a span is its weight: an unlisted one is past
+/// the cut.
+pub fn entries_are_weights_law()
+    ensures { EntriesAreWeights }
+{}
+
+/// All light entries of a word, read as a table where an unlisted site and span has the value
+/// 1,000,001, are closed.
+pub fn entries_closed_law()
+    ensures { EntriesAreClosed }
+{
+    spans_law();
+}
+
+/// The whole-list values of the tables of a document add up to the least number of elements whose
+/// insertion makes it valid.
+pub fn tables_add_up_law<M>()
+    ensures { TablesAddUp M }
+{
+    live_follows_law();
+    one_live_word_law();
+    valid_misses_none_law::<M>();
+    lists_ascend_law::<M>();
+    live_lists_law::<M>();
+    weights_add_up_law::<M>();
+}

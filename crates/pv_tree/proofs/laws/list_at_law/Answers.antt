@@ -1,0 +1,5 @@
+use Rattle.pv_tree.proofs.AtPaths.{lists_stand}
+use Rattle.pv_tree.proofs.laws.list_at_law.Goals as goal
+
+pub returns : goal.returns
+returns g c = lists_stand

@@ -1,0 +1,51 @@
+//! The first reason to refuse an edit of a document of the greatest depth.
+
+use crate::reasons::refusal;
+use pv_edit::Reason;
+use std::test::Fail;
+use test_fixture::documents::{document_of, nested};
+
+// How many elements stand one inside another, what stands before and behind the innermost one's
+// path in the line of an edit, and the first reason to refuse it.
+static DEEP: [(usize, &str, &str, Option<Reason>); 7] = [
+    (511, "insert ", " 0 em", None),
+    (512, "insert ", " 0 em", Some(Reason::Deep)),
+    (512, "wrap ", " 0 0 em", Some(Reason::Deep)),
+    (512, "insert ", " 1 em", Some(Reason::Range)),
+    (512, "insert ", " 0 1x", Some(Reason::BadName)),
+    (512, "wrap ", " 0 1 em", Some(Reason::Range)),
+    (512, "wrap ", " 0 0 1x", Some(Reason::BadName)),
+];
+
+#[test]
+fn the_greatest_depth(rt: HostRuntime) -> Result<(), Fail> {
+    let alloc = rt.alloc();
+    for (depth, before, behind, reason) in &DEEP {
+        let text = nested(alloc, *depth, "<doc>", "", "</doc>")?;
+        let doc = document_of(alloc, &text, "doc")?;
+        let mut line = String::from_str(alloc, before)?;
+        line.push_str(&nested(alloc, depth.saturating_sub(1), "0.", "0", "")?)?;
+        line.push_str(behind)?;
+        assert_eq!(rt; refusal(alloc, &doc, &line)?, *reason);
+    }
+    Ok(())
+}
+
+// The same of a wrap of the root.
+static DEEP_ROOTS: [(usize, &str, Option<Reason>); 4] = [
+    (511, "wrap . 0 1 doc", None),
+    (512, "wrap . 0 1 doc", Some(Reason::Deep)),
+    (512, "wrap . 0 2 doc", Some(Reason::Range)),
+    (512, "wrap . 0 1 1x", Some(Reason::BadName)),
+];
+
+#[test]
+fn the_greatest_depth_around(rt: HostRuntime) -> Result<(), Fail> {
+    let alloc = rt.alloc();
+    for (depth, line, reason) in &DEEP_ROOTS {
+        let text = nested(alloc, *depth, "<doc>", "", "</doc>")?;
+        let doc = document_of(alloc, &text, "doc")?;
+        assert_eq!(rt; refusal(alloc, &doc, *line)?, *reason);
+    }
+    Ok(())
+}

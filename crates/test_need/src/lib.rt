@@ -1,0 +1,13 @@
+//! Worked rows of possible words, weights and verdicts of lists, through `member`, `weights` and
+//! `list_verdict`, and of the least number of missing elements, of completions and of the tables of
+//! weights, through `need`, `complete` and `tables`.
+#![tactic(auto)]
+
+#[cfg(test)]
+mod completions;
+#[cfg(test)]
+mod needs;
+#[cfg(test)]
+mod spans;
+#[cfg(test)]
+mod table_rows;

@@ -1,0 +1,115 @@
+//! The check of a document by several threads.
+
+ghost use Rattle.std.specs.Prelude.{◌≡◌, ◌<◌};
+
+use pv_drill::{drill_doc, drill_dtd};
+use pv_dtd::read_dtd;
+use pv_fresh::check_doc;
+use pv_missing::Verdicts;
+use pv_parallel::{Gate, NoGate, check_doc_par};
+use pv_productive::{Grammar, build};
+use pv_read::read_doc;
+use pv_steps::Steps;
+use pv_tree::Doc;
+use std::alloc::Global;
+use std::marker::Brand;
+use std::sync::atomic::{AtomicU64, Ordering};
+use std::sync::ledger::{Blank, Ledger};
+use std::test::Fail;
+use std::thread::Threads;
+
+// Waits in the first list until a second one is entered, which another thread has to do.
+#[derive(Drop)]
+struct Second {
+    entered: AtomicU64,
+    met: AtomicU64,
+}
+
+impl Gate for Second {
+    fn enter(&self, _number: u64) {
+        if self.entered.fetch_add(1, Ordering::SeqCst) > 0 {
+            return;
+        }
+        for _ in 0..1_000_000_000_u64 {
+            if self.entered.load(Ordering::SeqCst) > 1 {
+                self.met.store(1, Ordering::SeqCst);
+                return;
+            }
+        }
+    }
+}
+
+fn one_thread<L: Ledger>(
+    alloc: Global,
+    grammar: &Grammar,
+    doc: &Doc,
+    blank: Blank,
+) -> Result<Verdicts, Fail>
+    requires name { blank.name ≡ L.name }
+    requires parts { blank.parts ≡ L.parts }
+    requires some { 0 < L.parts }
+{
+    let mut steps = Steps::<L>::start(blank);
+    Ok(check_doc(alloc, grammar, b"doc", doc, &mut steps)?)
+}
+
+fn by_threads<G: Gate + Sync, L: Ledger>(
+    rt: &(impl Threads + Sync),
+    alloc: Global,
+    grammar: &Grammar,
+    doc: &Doc,
+    gate: &G,
+    blank: Blank,
+) -> Result<Verdicts, Fail>
+    requires name { blank.name ≡ L.name }
+    requires parts { blank.parts ≡ L.parts }
+    requires some { 0 < L.parts }
+{
+    let mut steps = Steps::<L>::start(blank);
+    Ok(check_doc_par(rt, alloc, grammar, b"doc", doc, gate, &mut steps)?)
+}
+
+// The first number of a list whose verdicts differ.
+fn first_difference(verdicts: &Verdicts, others: &Verdicts) -> Option<u64> {
+    (0..verdicts.len()).find(|k| verdicts.at(*k) != others.at(*k))
+}
+
+fn drill_grammar(alloc: Global) -> Result<Grammar, Fail> {
+    Ok(build(alloc, read_dtd(alloc, drill_dtd())?)?)
+}
+
+fn drill_document(alloc: Global) -> Result<Doc, Fail> {
+    let text = drill_doc(alloc, 20_000)?;
+    Ok(read_doc(alloc, &text, b"doc")?)
+}
+
+#[test]
+fn threads_give_the_answer_of_one(rt: HostRuntime) -> Result<(), Fail> {
+    let alloc = rt.alloc();
+    let grammar = drill_grammar(alloc)?;
+    let doc = drill_document(alloc)?;
+    let wanted = one_thread::<Brand>(alloc, &grammar, &doc, Blank::new(1))?;
+    let found = by_threads::<NoGate, Brand>(&rt, alloc, &grammar, &doc, &NoGate, Blank::new(1))?;
+    assert_eq!(rt; found.len(), 20_003);
+    assert_eq!(rt; found.left(), 20_000);
+    assert!(rt; found.first_impossible().is_none());
+    assert_eq!(rt; wanted.len(), 20_003);
+    assert_eq!(rt; first_difference(&found, &wanted), None);
+    Ok(())
+}
+
+#[test]
+fn a_second_thread_enters(rt: HostRuntime) -> Result<(), Fail> {
+    let alloc = rt.alloc();
+    let grammar = drill_grammar(alloc)?;
+    let doc = drill_document(alloc)?;
+    let gate = Second {
+        entered: AtomicU64::new(0),
+        met: AtomicU64::new(0),
+    };
+    let found = by_threads::<Second, Brand>(&rt, alloc, &grammar, &doc, &gate, Blank::new(1))?;
+    assert_eq!(rt; found.left(), 20_000);
+    assert_eq!(rt; gate.entered.load(Ordering::SeqCst), 20_003);
+    assert_eq!(rt; gate.met.load(Ordering::SeqCst), 1);
+    Ok(())
+}

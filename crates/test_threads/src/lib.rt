@@ -1,0 +1,5 @@
+//! The check of a document by several threads, against that by one.
+#![tactic(auto)]
+
+#[cfg(test)]
+mod documents;

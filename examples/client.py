@@ -1,0 +1,11 @@
+import subprocess, sys
+pvtag = subprocess.Popen(["./pvtag", "session"] + sys.argv[1:], stdin=subprocess.PIPE, stdout=subprocess.PIPE)
+def ask(line):
+    pvtag.stdin.write(line.encode() + b"\n")
+    pvtag.stdin.flush()
+    reply = pvtag.stdout.readline().decode()
+    if reply.startswith(("show ", "completed ")):
+        return pvtag.stdout.read(int(reply.split()[-1]) + 1).decode()
+    return reply
+for line in ("wrap 0.0 0 1 p", "wrap 0.0 0 1 salute", "show"):
+    print(line, "->", ask(line), end="")

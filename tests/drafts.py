@@ -1,0 +1,93 @@
+"""Takes pairs of tags away from documents that `xmllint` finds valid: what is left is always `valid` or `possible`.
+
+Words: PROGRAM ROUNDS SEED, and the most seconds, where less is wanted. Needs xmllint. A round is a DTD and five documents, each tried at
+three shares of pairs that are taken away. The DTDs are made at random, in the shape of large published ones: some hundred names, many with mixed or starred
+models of some dozen names that lead back to one another, and some with sequences. Where lxml and packages of DTDs are installed, the
+published ones are tried too. Prints each difference, and how many cases passed; ends with 1 where one failed.
+"""
+import os
+import random
+import re
+import sys
+import tempfile
+import time
+
+sys.path.insert(0, os.path.dirname(os.path.abspath(__file__)))
+import published as tests  # noqa: E402
+
+
+def members(names, most):
+    return random.sample(names, random.randint(1, min(most, len(names))))
+
+
+def content(names, at):
+    """A model of names that are mostly declared behind this one, so that most names have small trees."""
+    later = names[at + 1:] or names
+    near = later if random.random() < 0.7 else names
+    form = random.choice(["empty"] + ["text"] * 2 + ["mixed"] * 4 + ["star"] * 3 + ["plus", "sequence", "sequence"])
+    if form == "empty" or at == len(names) - 1:
+        return "EMPTY"
+    if form == "text":
+        return "(#PCDATA)"
+    if form == "mixed":
+        return f"(#PCDATA|{'|'.join(members(near, 40))})*"
+    if form in ("star", "plus"):
+        return f"({'|'.join(members(later, 30))}){'*' if form == 'star' else '+'}"
+    parts = []
+    for name in members(later, 6):
+        group = f"({'|'.join(members(later, 12))})" if random.random() < 0.4 else name
+        parts.append(group + random.choice(["", "?", "*", "+"]))
+    return f"({','.join(parts)})"
+
+
+def made_dtd():
+    names = [f"e{number}" for number in range(random.choice([5, 30, 150]))]
+    return "".join(f"<!ELEMENT {name} {content(names, at)}>\n" for at, name in enumerate(names))
+
+
+def try_documents(program, dtd, flat, text):
+    models = tests.models_of(text)
+    least = tests.least_of(models)
+    able = [name for name in models if least[name] < 1000]
+    for number in range(5):
+        tree = tests.element(models, least, random.choice(able[: max(1, len(able) // 3)]), [random.choice([10, 60, 300])])
+        tests.write("whole.xml", tests.document(tree))
+        if tests.xmllint(dtd, ["whole.xml"])["whole.xml"] is not True:
+            tests.tell("not valid for xmllint")
+            continue
+        for share in (0.05, 0.3, 0.8):
+            damaged, _ = tests.without_tags(tests.document(tree), share)
+            tests.write("draft.xml", damaged)
+            ran = tests.run(program, "check", flat, tree[0], "draft.xml")
+            if ran.returncode == 8:
+                tests.tell("too wide for check")
+                continue
+            tests.tell("drafts")
+            tests.case(ran.returncode == 0 and re.fullmatch(r"valid\n|possible \d+\n", ran.stdout), dtd, tree[0], ran, damaged[:2000])
+
+
+def main():
+    program = os.path.abspath(sys.argv[1])
+    rounds, seed = map(int, sys.argv[2:4])
+    end = time.monotonic() + int(sys.argv[4]) if len(sys.argv) > 4 else tests.NEVER
+    random.seed(seed)
+    python = tests.python_with_lxml()
+    with tempfile.TemporaryDirectory() as folder:
+        os.chdir(folder)
+        published = [path for path in tests.FIRST if python and os.path.exists(path)]
+        for at in range(rounds):
+            if time.monotonic() >= end:
+                break
+            if at < len(published):
+                tests.write("flat.dtd", tests.run(python, tests.TOOL, published[at]).stdout)
+            else:
+                tests.write("flat.dtd", made_dtd())
+            with open("flat.dtd", encoding="utf-8") as file:
+                try_documents(program, "flat.dtd", "flat.dtd", file.read())
+    print(", ".join(f"{count} {what}" for what, count in sorted(tests.told.items())))
+    print(f"{tests.counts['passed']} passed, {tests.counts['failed']} failed")
+    return tests.counts["failed"] > 0
+
+
+if __name__ == "__main__":
+    sys.exit(main())
