@@ -277,12 +277,13 @@ session "an edit past the width" "$(lines 'no limit' 'history 0' 'verdicts 2' '.
 
 # The pages. shows COMMAND OUTPUT: it prints this, in which a line of three dots is any lines
 mkdir page && ln -s "$pvtag" "$top/examples" page/ || exit 1
+where=page
 shows() {
     local got
     case $1 in
     python3*) command -v python3 >/dev/null || { echo "skipped: $1 (no python3)"; return; } ;;
     esac
-    got=$(cd page && bash -c "$1" </dev/null 2>&1; echo .)
+    got=$(cd "$where" && PATH=$top:$PATH bash -c "$1" </dev/null 2>&1; echo .)
     got=${got%.}
     if [ "$got" = "$2" ] || [[ $2 == *"$lf...$lf"* && $got == "${2%%"$lf...$lf"*}$lf"*"${2#*"$lf...$lf"}" ]]; then
         passed=$((passed + 1))
@@ -291,7 +292,7 @@ shows() {
         echo "$1: output '$got' for '$2'"
     fi
 }
-# page FILE: what each command in it shows, a line that begins with `$ ` between two lines of ```, with the lines below it up to the next
+# page: what each command in its input shows, a line that begins with `$ ` between two lines of ```, with the lines below it up to the next
 page() {
     local command='' output='' inside='' line
     while IFS= read -r line; do
@@ -306,10 +307,14 @@ page() {
             ;;
         *) [ -z "$command" ] || output+=$line$lf ;;
         esac
-    done <"$top/$1"
+    done
 }
-page README.md
-page docs/COMMANDS.md
+page <"$top/README.md"
+page <"$top/docs/COMMANDS.md"
+expect "the first of the two commands" 0 "valid$lf" bash -c "cd page && $(sed -n 's/^- `\(\.\/pvtag [^`]*\)`.*/\1/p' "$top/README.md")"
+# The manual shows commands among the examples, a long one over two lines.
+where=page/examples
+page < <(sed -n '/^\.Bd -literal/,/^\.Ed/ { s/^\.\(Bd\|Ed\).*/```/; s/\\e/\\/g; p }' "$top/docs/pvtag.1" | sed ':join; /|$/ { N; s/\n */ /; b join }')
 if command -v groff >/dev/null; then
     expect "the manual page" 0 "" groff -ww -mdoc -Tutf8 -z "$top/docs/pvtag.1"
 else
