@@ -1,6 +1,7 @@
 -- The Possible lists of a document that misses at most 1,000,000 elements are light, and which list comes next in a walk.
 use Rattle.std.specs.Option.{option_map}
 use Rattle.std.proofs.Common.{List, None, Option, Some, [], append_assoc, arith, drop, inl, inr, refl, subst, suc, sym, true, length, ℕ, ◌++◌, ◌+◌, ◌<◌, ◌∙◌, ◌∷◌, ◌≡◌, ◌≢◌}
+use Rattle.std.proofs.Math.Logic.{∥∥₁_elim, ∥∥₁_map}
 use Rattle.std.specs.List.{AllByRecursion}
 use Rattle.pv_dtd.specs.Plain.{PlainDtd}
 use Rattle.pv_dtd.specs.Proper.{IsProperDtd}
@@ -50,6 +51,11 @@ pub light_lists : (M : Type 0) (g : PlainDtd) (root : List ℕ) (doc : PlainDoc 
 light_lists M g root doc n proper proper_doc live_weight weight_is_least add_up needs =
     all_light M g root (λ list k p w i m. (weight_is_least g root list i k proper m ((live_weight g root list k p.0).0 w)).0) (lists_of doc)
     (λ s b. let le = let l = needs.least in add_up g root doc s proper proper_doc b n l.completes in let f = needs.light in omega arith) (let c = needs.can in c.weighed)
+
+-- that none is Impossible can be looked up
+pub live_verdicts : (vs : List Verdict) → ∥ AreNotImpossible vs ∥₁ → AreNotImpossible vs
+live_verdicts [] h = tt
+live_verdicts (v ∷ vs) h = (λ e. ∥∥₁_elim h (λ x. absurd x) (λ all. all.0 e), live_verdicts vs (∥∥₁_map h (λ all. all.1)))
 
 module _ (g : PlainDtd) (vs : List Verdict) where
   -- the list of an element

@@ -5,10 +5,11 @@ use Rattle.pv_dtd.specs.Plain.{PlainDtd}
 use Rattle.pv_tree.specs.Lists.{IsFirstNot, Listed, lists_of}
 use Rattle.pv_tree.specs.Plain.{PlainDoc}
 use Rattle.pv_tree.specs.View.{view}
+use Rattle.pv_tree.specs.declared.nodes.Verdict.{Verdict}
 use Rattle.pv_tree.specs.declared.nodes.Verdict.TheVariants as verdict
 use Rattle.pv_rules.specs.Derivations.{heaviest}
 use Rattle.pv_missing.specs.Completing.{HasCompletion, IsLeast, IsPotentiallyValid}
-use Rattle.pv_missing.specs.Verdicts.{IsFirstImpossible, IsVerdict}
+use Rattle.pv_missing.specs.Verdicts.{AreVerdicts, IsFirstImpossible, IsVerdict}
 use Rattle.pv_missing.specs.Weighing.{SumIsLeast}
 use Rattle.pv_missing.specs.Widths.{IsFirstTooWide, IsListForVerdict, IsListForWeights}
 use Rattle.pv_tables.specs.WeightLaws.{LiveWeighs}
@@ -19,6 +20,13 @@ use Rattle.pv_complete.specs.declared.errors.NeedError.TheVariants.{TooMany, Too
 -- no list is too wide for a verdict
 abbrev pub AreListsForVerdicts : {M : Type 0} → PlainDtd → PlainDoc M → Type 0
 AreListsForVerdicts g doc = AllByRecursion (IsListForVerdict g) (lists_of doc)
+
+-- These are the verdicts of the document's lists, of which none is Impossible, or too wide for one.
+pub record AreLiveVerdicts {M : Type 0} (g : PlainDtd) (root : List ℕ) (doc : PlainDoc M)
+    (vs : List Verdict) : Type 0 where
+  pub narrow : AreListsForVerdicts g doc
+  pub possible : IsPotentiallyValid g root (view doc.root)
+  pub verdicts : AreVerdicts g root (lists_of doc) vs
 
 -- where the list is Possible, it isn't too wide for weights
 abbrev pub CanWeigh : {M : Type 0} → PlainDtd → List ℕ → Listed M → Type 0

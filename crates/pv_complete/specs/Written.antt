@@ -7,7 +7,7 @@ use Rattle.pv_chars.specs.Texts.{has_data}
 use Rattle.pv_model.specs.Plain.{PlainToken}
 use Rattle.pv_dtd.specs.Plain.{PlainDtd}
 use Rattle.pv_rules.specs.Sites.{PlainSite}
-use Rattle.pv_tree.specs.Lists.{Listed, lists_at, lists_from, the_document}
+use Rattle.pv_tree.specs.Lists.{Listed, lists_at, lists_from, lists_of, the_document}
 use Rattle.pv_tree.specs.Plain.{Forest, PlainDoc, Tree, cdata_node, element, misc_node, no_trees}
 use Rattle.pv_tree.specs.Plain.{text_node, tree}
 use Rattle.pv_tree.specs.Words.{node_before, word_of}
@@ -127,6 +127,12 @@ pub record HasNextKids (g : PlainDtd) (kids : Forest Mark) (vs : List Verdict) (
   pub more : List (Listed Mark)
   pub verdicts : AreVerdicts g root (lists_from path 0 kids ++ more) (drop used vs)
   pub light : AreLightLists g root (lists_from path 0 kids)
+
+-- these are the verdicts of a document's lists, and the Possible ones are light
+pub record AreLightVerdicts (g : PlainDtd) (root : List ℕ) (doc : PlainDoc Mark)
+    (vs : List Verdict) : Type 0 where
+  pub verdicts : AreVerdicts g root (lists_of doc) vs
+  pub light : AreLightLists g root (lists_of doc)
 
 -- a tree completed is written next
 pub record WritesTree (g : PlainDtd) (root path : List ℕ) (t : Tree Mark)

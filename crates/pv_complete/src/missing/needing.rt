@@ -1,14 +1,11 @@
 //! The least number of missing elements of a document.
 
-ghost use Rattle.std.specs.Prelude.{◌≡◌, ◌≤◌, ◌<◌, ℕ, IfErr, IfOk, OnOk};
-ghost use Rattle.std.specs.List.{AllByRecursion};
+ghost use Rattle.std.specs.Prelude.{◌≡◌, ◌<◌, ℕ, IfErr, IfOk, OnOk};
 ghost use Rattle.pv_productive.specs.PlainForms.{dtd_of};
 ghost use Rattle.pv_tree.specs.Lists.{lists_of};
 ghost use Rattle.pv_tree.specs.PlainDocs.{plain_doc};
-ghost use Rattle.pv_tree.specs.View.{view};
-ghost use Rattle.pv_missing.specs.Completing.{IsPotentiallyValid};
 ghost use Rattle.pv_missing.specs.Verdicts.{AreVerdicts};
-ghost use Rattle.pv_complete.specs.Needing.{AreListsForVerdicts, HasCause, Needs, WeighsIn};
+ghost use Rattle.pv_complete.specs.Needing.{AreLiveVerdicts, HasCause, Needs, WeighsIn};
 
 use crate::errors::NeedError;
 use crate::missing::load::Load;
@@ -38,11 +35,8 @@ pub(crate) fn uncounted_verdicts<L: Ledger>(
     requires name { blank.name ≡ L.name }
     requires parts { blank.parts ≡ L.parts }
     requires some { 0 < L.parts }
-    ensures verdicts { IfOk result (λ verdicts. AreVerdicts (dtd_of grammar.now) root.now
-        (lists_of (plain_doc doc.now)) verdicts.verdicts) }
-    ensures possible { OnOk result (IsPotentiallyValid (dtd_of grammar.now) root.now
-        (view (plain_doc doc.now).root)) }
-    ensures narrow { OnOk result (AreListsForVerdicts (dtd_of grammar.now) (plain_doc doc.now)) }
+    ensures verdicts { IfOk result (λ verdicts. AreLiveVerdicts (dtd_of grammar.now) root.now
+        (plain_doc doc.now) verdicts.verdicts) }
     ensures refused { IfErr result (HasCause (dtd_of grammar.now) root.now (plain_doc doc.now)) }
 {
     let mut steps = Steps::<L>::start(blank);
@@ -54,7 +48,8 @@ pub(crate) fn uncounted_verdicts<L: Ledger>(
     }
 }
 
-/// The weights of the Possible lists of a document that isn't impossible, added up and cut.
+/// The weights of the Possible lists of a document whose lists have these verdicts, none of them
+/// Impossible, added up and cut.
 fn total_weight(
     alloc: Global,
     grammar: &Grammar,
@@ -62,13 +57,12 @@ fn total_weight(
     doc: &Doc,
     verdicts: &Verdicts,
 ) -> Result<u32, NeedError>
-    requires verdicts { AreVerdicts (dtd_of grammar.now) root.now
-        (lists_of (plain_doc doc.now)) verdicts.now.verdicts }
-    requires possible { IsPotentiallyValid (dtd_of grammar.now)
-        root.now (view (plain_doc doc.now).root) }
-    requires narrow { AreListsForVerdicts (dtd_of grammar.now) (plain_doc doc.now) }
-    ensures total { IfOk result (WeighsIn (dtd_of grammar.now) root.now (plain_doc doc.now)) }
-    ensures refused { IfErr result (HasCause (dtd_of grammar.now) root.now (plain_doc doc.now)) }
+    ensures total { IfOk result (λ total. AreLiveVerdicts (dtd_of grammar.now) root.now
+        (plain_doc doc.now) verdicts.now.verdicts →
+        WeighsIn (dtd_of grammar.now) root.now (plain_doc doc.now) total) }
+    ensures refused { IfErr result (λ error. AreLiveVerdicts (dtd_of grammar.now) root.now
+        (plain_doc doc.now) verdicts.now.verdicts →
+        HasCause (dtd_of grammar.now) root.now (plain_doc doc.now) error) }
 {
     possible_weights_law::<Mark>();
     proper_dtd_law(grammar.dtd());
@@ -81,22 +75,23 @@ fn total_weight(
     }
 }
 
-/// The least number of missing elements of a document whose lists have these verdicts, none of them
-/// Impossible.
-pub(crate) fn least_number(
+/// The least number of elements whose insertion makes a document valid, by the verdicts of its
+/// lists, none of which is Impossible or too wide for one. The document stays as it is.
+///
+/// A list that is Valid takes no table of weights. Tables are made one at a time, and let go.
+pub fn need_by(
     alloc: Global,
     grammar: &Grammar,
     root: &[u8],
     doc: &Doc,
     verdicts: &Verdicts,
 ) -> Result<u64, NeedError>
-    requires verdicts { AreVerdicts (dtd_of grammar.now) root.now
-        (lists_of (plain_doc doc.now)) verdicts.now.verdicts }
-    requires possible { IsPotentiallyValid (dtd_of grammar.now)
-        root.now (view (plain_doc doc.now).root) }
-    requires narrow { AreListsForVerdicts (dtd_of grammar.now) (plain_doc doc.now) }
-    ensures needs { IfOk result (Needs (dtd_of grammar.now) root.now (plain_doc doc.now)) }
-    ensures refused { IfErr result (HasCause (dtd_of grammar.now) root.now (plain_doc doc.now)) }
+    ensures needs { IfOk result (λ n. AreLiveVerdicts (dtd_of grammar.now) root.now
+        (plain_doc doc.now) verdicts.now.verdicts →
+        Needs (dtd_of grammar.now) root.now (plain_doc doc.now) n) }
+    ensures refused { IfErr result (λ error. AreLiveVerdicts (dtd_of grammar.now) root.now
+        (plain_doc doc.now) verdicts.now.verdicts →
+        HasCause (dtd_of grammar.now) root.now (plain_doc doc.now) error) }
 {
     let total = total_weight(alloc, grammar, root, doc, verdicts)?;
     if total < HEAVIEST {
@@ -120,21 +115,16 @@ pub fn light_verdicts(
     ensures refused { IfErr result (HasCause (dtd_of grammar.now) root.now (plain_doc doc.now)) }
 {
     let verdicts = uncounted_verdicts::<Brand>(alloc, grammar, root, doc, Blank::new(1))?;
-    let total = total_weight(alloc, grammar, root, doc, &verdicts)?;
-    if total >= HEAVIEST {
-        return Err(NeedError::TooHeavy);
-    }
+    need_by(alloc, grammar, root, doc, &verdicts)?;
     Ok(verdicts)
 }
 
-/// The least number of elements whose insertion makes a document valid. The document stays as it
-/// is.
-///
-/// A list that is valid takes no table of weights. Tables are made one at a time, and let go.
+/// The least number of elements whose insertion makes a document valid: finds the verdicts of its
+/// lists, and then does what `need_by` does.
 pub fn need(alloc: Global, grammar: &Grammar, root: &[u8], doc: &Doc) -> Result<u64, NeedError>
     ensures needs { IfOk result (Needs (dtd_of grammar.now) root.now (plain_doc doc.now)) }
     ensures refused { IfErr result (HasCause (dtd_of grammar.now) root.now (plain_doc doc.now)) }
 {
     let verdicts = uncounted_verdicts::<Brand>(alloc, grammar, root, doc, Blank::new(1))?;
-    least_number(alloc, grammar, root, doc, &verdicts)
+    need_by(alloc, grammar, root, doc, &verdicts)
 }

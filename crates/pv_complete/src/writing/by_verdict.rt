@@ -83,8 +83,8 @@ pub fn take_pieces(
 ) -> Result<Vec<Piece>, NoMemory>
     requires site { IfSome owner (λ of. HasSite (dtd_of grammar.now) (plain_of of)) }
     requires possible { AreNotImpossible verdicts.now.verdicts }
-    requires next { HasNextList (dtd_of grammar.now) owner (forest kids.now)
-        verdicts.now.verdicts out.old.used }
+    requires next { ∥ HasNextList (dtd_of grammar.now) owner (forest kids.now)
+        verdicts.now.verdicts out.old.used ∥₁ }
     ensures pieces { IfOk result (λ pieces. (root : List ℕ) (list : Listed Mark)
         (more : List (Listed Mark)) →
         list.kids ≡ forest kids.now → IsOwner (dtd_of grammar.now) root list owner →

@@ -6,15 +6,16 @@ ghost use Rattle.pv_tree.specs.PlainDocs.{plain_doc};
 ghost use Rattle.pv_tree.specs.Prolog.{IsProlog};
 ghost use Rattle.pv_complete.specs.Completing.{IsLeastCompletion};
 ghost use Rattle.pv_complete.specs.Growing.{IsGrownText};
-ghost use Rattle.pv_complete.specs.Needing.{HasCause, Needs};
+ghost use Rattle.pv_complete.specs.Needing.{AreLiveVerdicts, HasCause, Needs};
 ghost use Rattle.pv_complete.specs.declared.errors.NeedError.TheVariants.{NoMemory as no_memory};
 
 use crate::errors::NeedError;
-use crate::missing::needing::{least_number, uncounted_verdicts};
+use crate::missing::needing::{need_by, uncounted_verdicts};
 use crate::writing::text::numbers_of;
 use crate::writing::walk::write_doc;
 use pv_chars::{Bytes, Numbers};
 use pv_dtd::laws::proper_dtd_law;
+use pv_missing::Verdicts;
 use pv_missing::laws::documents::{
     bounds_add_up_law, live_lists_law, locality_law, tags_extend_law,
 };
@@ -39,11 +40,8 @@ pub struct Completion {
     pub body: Bytes,
 }
 
-/// A least completion of a document: the text of a valid document that is this one with as few
-/// elements as can be inserted. The document stays as it is.
-///
-/// New elements are written as `<NAME>` and `</NAME>`, and all else as it is, but that an
-/// empty-element tag that gets content becomes a pair of tags. The refusals are those of `need`.
+/// A least completion of a document: finds the verdicts of its lists, and then does what
+/// `complete_by` does. The refusals are those of `need`.
 pub fn complete(
     alloc: Global,
     grammar: &Grammar,
@@ -60,21 +58,36 @@ pub fn complete(
 {
     live_lists_law::<Mark>();
     proper_doc_law(doc);
-    least_completion(alloc, grammar, root, doc)
+    let verdicts = uncounted_verdicts::<Brand>(alloc, grammar, root, doc, Blank::new(1))?;
+    complete_by(alloc, grammar, root, doc, &verdicts)
 }
 
-// The same, by two walks: one that weighs the lists, and one that writes them.
-fn least_completion(
+/// A least completion of a document, by the verdicts of its lists, none of which is Impossible or
+/// too wide for one: the text of a valid document that is this one with as few elements as can be
+/// inserted. The document stays as it is.
+///
+/// New elements are written as `<NAME>` and `</NAME>`, and all else as it is, but that an
+/// empty-element tag that gets content becomes a pair of tags. The refusals are those of `need_by`.
+/// One walk weighs the lists, and one writes them.
+pub fn complete_by(
     alloc: Global,
     grammar: &Grammar,
     root: &[u8],
     doc: &Doc,
+    verdicts: &Verdicts,
 ) -> Result<Completion, NeedError>
     requires names { IsProlog root.now (plain_doc doc.now).before }
-    ensures completed { IfOk result (λ c. IsLeastCompletion (dtd_of grammar.now)
-        root.now (plain_doc doc.now) c.count c.marks c.body) }
-    ensures written { IfOk result (λ c. IsGrownText (plain_doc doc.now) c.body) }
-    ensures refused { IfErr result (HasCause (dtd_of grammar.now) root.now (plain_doc doc.now)) }
+    requires verdicts { ∥ AreLiveVerdicts (dtd_of grammar.now) root.now (plain_doc doc.now)
+        verdicts.now.verdicts ∥₁ }
+    ensures completed { IfOk result (λ c. AreLiveVerdicts (dtd_of grammar.now) root.now
+        (plain_doc doc.now) verdicts.now.verdicts →
+        IsLeastCompletion (dtd_of grammar.now) root.now (plain_doc doc.now) c.count c.marks
+        c.body) }
+    ensures written { IfOk result (λ c. AreLiveVerdicts (dtd_of grammar.now) root.now
+        (plain_doc doc.now) verdicts.now.verdicts → IsGrownText (plain_doc doc.now) c.body) }
+    ensures refused { IfErr result (λ error. AreLiveVerdicts (dtd_of grammar.now) root.now
+        (plain_doc doc.now) verdicts.now.verdicts →
+        HasCause (dtd_of grammar.now) root.now (plain_doc doc.now) error) }
 {
     every_view_is_written_law();
     tags_extend_law();
@@ -85,9 +98,8 @@ fn least_completion(
     locality_law::<Mark>();
     proper_dtd_law(grammar.dtd());
     proper_doc_law(doc);
-    let verdicts = uncounted_verdicts::<Brand>(alloc, grammar, root, doc, Blank::new(1))?;
-    let count = least_number(alloc, grammar, root, doc, &verdicts)?;
-    let text = write_doc(alloc, grammar, root, doc, &verdicts)?;
+    let count = need_by(alloc, grammar, root, doc, verdicts)?;
+    let text = write_doc(alloc, grammar, root, doc, verdicts)?;
     let marks = numbers_of(alloc, text.marks.as_slice())?;
     Ok(Completion {
         count,

@@ -9,8 +9,8 @@ ghost use Rattle.pv_tree.specs.Words.{word_of};
 ghost use Rattle.pv_tree.specs.declared.nodes.Mark.{Mark};
 ghost use Rattle.pv_missing.specs.Verdicts.{AreVerdicts};
 ghost use Rattle.pv_complete.specs.PieceForms.{plain_pieces};
-ghost use Rattle.pv_complete.specs.Needing.{AreLightLists};
-ghost use Rattle.pv_complete.specs.Written.{AreNotImpossible, HasNextKids, HasNextTree, Suits};
+ghost use Rattle.pv_complete.specs.Written.{AreLightVerdicts, AreNotImpossible, HasNextKids};
+ghost use Rattle.pv_complete.specs.Written.{HasNextTree, Suits};
 ghost use Rattle.pv_complete.specs.Written.{WritesDoc, WritesList, WritesTree};
 ghost use Rattle.pv_complete.specs.WritingForms.{writing_of};
 
@@ -34,8 +34,8 @@ fn write_node(
     out: &mut Writing,
 ) -> Result<(), NoMemory>
     requires possible { AreNotImpossible verdicts.now.verdicts }
-    requires next { HasNextTree (dtd_of grammar.now) (plain node.now) verdicts.now.verdicts
-        out.old.used }
+    requires next { ∥ HasNextTree (dtd_of grammar.now) (plain node.now) verdicts.now.verdicts
+        out.old.used ∥₁ }
     ensures { OnOk result ((root path : List ℕ) (more : List (Listed Mark)) →
         AreVerdicts (dtd_of grammar.now) root (lists_at path (plain node.now) ++ more)
         (drop out.old.used verdicts.now.verdicts) →
@@ -76,8 +76,8 @@ pub fn write_list(
     out: &mut Writing,
 ) -> Result<(), NoMemory>
     requires possible { AreNotImpossible verdicts.now.verdicts }
-    requires next { HasNextKids (dtd_of grammar.now) (forest kids.now) verdicts.now.verdicts
-        out.old.used }
+    requires next { ∥ HasNextKids (dtd_of grammar.now) (forest kids.now) verdicts.now.verdicts
+        out.old.used ∥₁ }
     requires suits { Suits (dtd_of grammar.now) (plain_pieces pieces.now)
         (word_of (dtd_of grammar.now) (forest kids.now)) }
     ensures { OnOk result ((root path : List ℕ) (more : List (Listed Mark)) →
@@ -108,10 +108,10 @@ pub fn write_doc(
     verdicts: &Verdicts,
 ) -> Result<Writing, NoMemory>
     requires possible { AreNotImpossible verdicts.now.verdicts }
-    requires verdicts { AreVerdicts (dtd_of grammar.now) root.now
-        (lists_of (plain_doc doc.now)) verdicts.now.verdicts }
-    requires light { AreLightLists (dtd_of grammar.now) root.now (lists_of (plain_doc doc.now)) }
-    ensures { IfOk result (λ out.
+    requires verdicts { ∥ AreLightVerdicts (dtd_of grammar.now) root.now (plain_doc doc.now)
+        verdicts.now.verdicts ∥₁ }
+    ensures { IfOk result (λ out. AreVerdicts (dtd_of grammar.now) root.now
+        (lists_of (plain_doc doc.now)) verdicts.now.verdicts →
         WritesDoc (dtd_of grammar.now) root.now (plain_doc doc.now) verdicts.now.verdicts
         out.marks.items out.body.items) }
 {

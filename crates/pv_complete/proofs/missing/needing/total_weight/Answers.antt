@@ -7,16 +7,16 @@ use Rattle.pv_complete.proofs.Adding.{stops_in, weighs_in}
 use Rattle.pv_complete.proofs.missing.needing.total_weight.Goals as goal
 
 pub returns-in-Ok-clause-total : goal.returns-in-Ok-clause-total
-returns-in-Ok-clause-total c =
+returns-in-Ok-clause-total c = λ live.
     weighs_in (dtd_of c.args.grammar.now) c.args.root.now c.possible_weights_law.ensures (plain_doc c.args.doc.now) c.args.verdicts.now.verdicts (load_of c.new-load.result) (load_of c.weigh_doc.new.load)
-    (rw c.dtd.ensures at c.proper_dtd_law.ensures) c.proper_doc_law.ensures c.requires.verdicts c.requires.possible c.requires.narrow c.new-load.ensures.used c.new-load.ensures.total c.in-Ok.ensures.weighed
+    (rw c.dtd.ensures at c.proper_dtd_law.ensures) c.proper_doc_law.ensures live.verdicts live.possible live.narrow c.new-load.ensures.used c.new-load.ensures.total c.in-Ok.ensures.weighed
 
 pub returns-in-Err-TooWide-clause-refused : goal.returns-in-Err-TooWide-clause-refused
-returns-in-Err-TooWide-clause-refused c =
+returns-in-Err-TooWide-clause-refused c = λ live.
     let d = dtd_of c.args.grammar.now in
     inr (record {
-      narrow = c.requires.narrow;
-      possible = c.requires.possible;
+      narrow = live.narrow;
+      possible = live.possible;
       first = rw (c.in_ok-new-in-Err-TooWide.ensures, c.deref.ensures.value) (stops_in d c.args.root.now (lists_of (plain_doc c.args.doc.now)) c.args.verdicts.now.verdicts (load_of c.new-load.result) c.weigh_doc.new.load.places.items
-          c.new-load.ensures.used c.requires.verdicts (c.in-Err-TooWide.ensures.wide c.in-Err-TooWide.field-0-is));
+          c.new-load.ensures.used live.verdicts (c.in-Err-TooWide.ensures.wide c.in-Err-TooWide.field-0-is));
     })

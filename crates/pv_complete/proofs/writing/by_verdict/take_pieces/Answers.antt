@@ -1,4 +1,6 @@
 use Rattle.std.proofs.Common.{None, Option, ap, length, refl, map, subst, sym, ◌∙◌, ◌≡◌}
+use Rattle.std.proofs.Math.Bridge.{le_prop}
+use Rattle.std.proofs.Math.Logic.{∥∥₁_elim}
 use Rattle.std.proofs.lemmas.List.{length-map}
 use Rattle.std.proofs.lemmas.Result.{IfOk-weaker}
 use Rattle.pv_model.specs.PlainForms.{plain_token}
@@ -20,8 +22,10 @@ use Rattle.pv_complete.proofs.writing.by_verdict.take_pieces.Goals as goal
 pub unreachable-requires : goal.unreachable-requires
 unreachable-requires c =
     let d = dtd_of c.args.grammar.now in
-    has_owner d c.args.verdicts.now.verdicts (forest c.args.kids.now) c.args.out.now.used
-    (let none : c.args.owner ≡ None = cc in subst (λ (o : Option Of). HasNextList d o (forest c.args.kids.now) c.args.verdicts.now.verdicts c.args.out.now.used) none c.requires.next) c.requires.possible
+    let none : c.args.owner ≡ None = cc in
+    ∥∥₁_elim c.requires.next (λ x. absurd x)
+    (λ next. has_owner d c.args.verdicts.now.verdicts (forest c.args.kids.now) c.args.out.now.used
+    (subst (λ (o : Option Of). HasNextList d o (forest c.args.kids.now) c.args.verdicts.now.verdicts c.args.out.now.used) none next) c.requires.possible)
 
 pub least_pieces-requires-clause-fits : goal.least_pieces-requires-clause-fits
 least_pieces-requires-clause-fits c =
@@ -31,16 +35,18 @@ least_pieces-requires-clause-fits c =
     let n : length c.as_slice.result.now ≡ length live = rw c.as_slice.ensures (simp length-map) in
     let same = n ∙ (live_follows d w live c.in_ok-live.ensures).same_length in
     subst (FitsWeights d) (sym same)
-    (next_light d c.args.verdicts.now.verdicts (forest c.args.kids.now) c.args.out.now.used c.args.owner c.takes_possible-possible.new.self.used (plain_of c.in-Some.of) live c.requires.next
-    c.if-possible.ensures.taken (rw c.in-Some.is refl) c.in_ok-live.ensures).0
+    (∥∥₁_elim c.requires.next le_prop
+    (λ next. (next_light d c.args.verdicts.now.verdicts (forest c.args.kids.now) c.args.out.now.used c.args.owner c.takes_possible-possible.new.self.used (plain_of c.in-Some.of) live next
+    c.if-possible.ensures.taken (rw c.in-Some.is refl) c.in_ok-live.ensures).0))
 
 pub least_pieces-requires-clause-light : goal.least_pieces-requires-clause-light
 least_pieces-requires-clause-light c =
     let d = dtd_of c.args.grammar.now in
     let live = map plain_token c.in_ok-live.live in
     rw c.as_slice.ensures
-    (next_light d c.args.verdicts.now.verdicts (forest c.args.kids.now) c.args.out.now.used c.args.owner c.takes_possible-possible.new.self.used (plain_of c.in-Some.of) live c.requires.next
-    c.if-possible.ensures.taken (rw c.in-Some.is refl) c.in_ok-live.ensures).1
+    (λ k w. ∥∥₁_elim c.requires.next le_prop
+    (λ next. (next_light d c.args.verdicts.now.verdicts (forest c.args.kids.now) c.args.out.now.used c.args.owner c.takes_possible-possible.new.self.used (plain_of c.in-Some.of) live next
+    c.if-possible.ensures.taken (rw c.in-Some.is refl) c.in_ok-live.ensures).1 k w))
 
 pub least_pieces-requires-clause-productive : goal.least_pieces-requires-clause-productive
 least_pieces-requires-clause-productive c =

@@ -1,4 +1,5 @@
 use Rattle.std.proofs.Common.{[], arith, ap, drop, refl, subst, sym, ◌+◌, ◌++◌, ◌∙◌, ◌∷◌, ◌≡◌}
+use Rattle.std.proofs.Math.Logic.{∥∥₁_map}
 use Rattle.std.proofs.lemmas.Result.{IfOk-weaker}
 use Rattle.pv_dtd.proofs.Proper.{proper}
 use Rattle.pv_productive.specs.PlainForms.{dtd_of}
@@ -32,7 +33,9 @@ write_node-take_pieces-requires-clause-next t c =
     let whole = element x c.in-Elem.attrs (plain_end c.in-Elem.end) kids c.in-Elem.mark in
     let is : plain c.args.node.now ≡ whole = ap plain c.in-Elem.is ∙ plain-Elem x c.in-Elem.attrs c.in-Elem.end c.in-Elem.kids c.in-Elem.mark in
     let owner : site_of d [] (an_element x) ≡ option_map plain_of c.element_owner-owner.result = element_site _ d [] _ x _ c.dtd.ensures c.as_slice.ensures c.element_owner-owner.ensures.owner in
-    rw c.deref.ensures.value (next_list d c.args.verdicts.now.verdicts (plain c.args.node.now) x c.in-Elem.attrs (plain_end c.in-Elem.end) kids c.in-Elem.mark c.element_owner-owner.result c.args.out.now.used is owner c.requires.next)
+    rw c.deref.ensures.value
+    (∥∥₁_map c.requires.next
+    (next_list d c.args.verdicts.now.verdicts (plain c.args.node.now) x c.in-Elem.attrs (plain_end c.in-Elem.end) kids c.in-Elem.mark c.element_owner-owner.result c.args.out.now.used is owner))
 
 pub write_node-write_list-requires : goal.write_node-write_list-requires
 write_node-write_list-requires t c =
@@ -42,8 +45,9 @@ write_node-write_list-requires t c =
     let whole = element x c.in-Elem.attrs (plain_end c.in-Elem.end) kids c.in-Elem.mark in
     let is : plain c.args.node.now ≡ whole = ap plain c.in-Elem.is ∙ plain-Elem x c.in-Elem.attrs c.in-Elem.end c.in-Elem.kids c.in-Elem.mark in
     let owner : site_of d [] (an_element x) ≡ option_map plain_of c.element_owner-owner.result = element_site _ d [] _ x _ c.dtd.ensures c.as_slice.ensures c.element_owner-owner.ensures.owner in
-    let next = next_kids d c.args.verdicts.now.verdicts (plain c.args.node.now) x c.in-Elem.attrs (plain_end c.in-Elem.end) kids c.in-Elem.mark c.args.out.now.used c.take_pieces.new.out.used (plain_pieces c.in_ok-pieces-in-Elem.pieces.items) is c.requires.next
-    (λ root path more are. c.in_ok-pieces-in-Elem.ensures.pieces root (record { path = path; owner = an_element x; kids = kids }) (lists_from path 0 kids ++ more) (rw c.deref.ensures.value refl) owner are) in
+    let next = ∥∥₁_map c.requires.next (λ h.
+    next_kids d c.args.verdicts.now.verdicts (plain c.args.node.now) x c.in-Elem.attrs (plain_end c.in-Elem.end) kids c.in-Elem.mark c.args.out.now.used c.take_pieces.new.out.used (plain_pieces c.in_ok-pieces-in-Elem.pieces.items) is h
+    (λ root path more are. c.in_ok-pieces-in-Elem.ensures.pieces root (record { path = path; owner = an_element x; kids = kids }) (lists_from path 0 kids ++ more) (rw c.deref.ensures.value refl) owner are)) in
     let suits = rw c.deref.ensures.value at c.in_ok-pieces-in-Elem.ensures.suits in (
       rw c.deref-in-Elem-2.ensures.value (omega (arith, ap nodes_in is, c.decreases)),
       (c.requires.possible, (rw (c.deref-in-Elem-2.ensures.value, c.start_old-in-Elem.ensures.used) next, rw (c.as_slice-in-Elem-4.ensures.value, c.deref-in-Elem-2.ensures.value) suits)),
@@ -56,10 +60,10 @@ write_list-write_node-requires t c =
     let i = c.loop-kid.kid-index in
     let rest = forest (drop (i + 1) c.args.kids.now) in
     let step : forest (drop i c.args.kids.now) ≡ tree (plain kid) rest = forest-drop c.args.kids.now i kid (omega arith) c.kid-item.is in
-    let h = c.requires.next in
-    let next = next_kid d c.args.verdicts.now.verdicts (forest c.args.kids.now) (forest (drop i c.args.kids.now)) rest (plain kid) i c.write_tags.new.out.used
+    let next = ∥∥₁_map c.requires.next (λ h.
+    next_kid d c.args.verdicts.now.verdicts (forest c.args.kids.now) (forest (drop i c.args.kids.now)) rest (plain kid) i c.write_tags.new.out.used
     (plain_pieces c.args.pieces.now) (plain_pieces (drop c.loop-kid.next c.args.pieces.now)) (writing_of c.args.out.now) (writing_of c.loop-kid.out) h step
-    (let tags = c.in_ok-next.ensures.written in let front = tags.front in front.used) (c.loop-kid.invariant.some h.root h.path h.more h.verdicts) in
+    (let tags = c.in_ok-next.ensures.written in let front = tags.front in front.used) (c.loop-kid.invariant.some h.root h.path h.more h.verdicts)) in
     (omega (arith, ap nodes_in_all step, c.loop-kid.invariant.few, c.decreases), (c.requires.possible, next))
 
 pub write_list-loop-kid-init : goal.write_list-loop-kid-init

@@ -1,4 +1,5 @@
 use Rattle.std.proofs.Common.{[], refl, subst, ◌++◌, ◌∷◌, ◌≡◌}
+use Rattle.std.proofs.Math.Logic.{∥∥₁_map}
 use Rattle.std.specs.Option.{option_map}
 use Rattle.pv_productive.specs.PlainForms.{dtd_of}
 use Rattle.pv_tree.specs.Lists.{Listed, lists_from, the_document}
@@ -24,16 +25,16 @@ take_pieces-requires-clause-next c =
     let d = dtd_of c.args.grammar.now in
     let root = c.args.root.now in
     let kids = tree (plain c.args.doc.now.root) no_trees in
-    let light = subst (AreLightLists d root) (whole_lists (plain_doc c.args.doc.now)) c.requires.light in
+    ∥∥₁_map c.requires.verdicts (λ h.
     record {
       root = root;
       list = record { path = []; owner = the_document; kids = kids };
       more = lists_from [] 0 kids ++ [];
       is_kids = rw c.from_ref-kids.ensures.value refl;
       is_owner = root_site _ d root _ c.dtd.ensures c.root_owner-owner.ensures.owner;
-      verdicts = rw c.new-out.ensures.used (subst (λ lists. AreVerdicts d root lists c.args.verdicts.now.verdicts) (whole_lists (plain_doc c.args.doc.now)) c.requires.verdicts);
-      light = light.0;
-    }
+      verdicts = rw c.new-out.ensures.used (subst (λ lists. AreVerdicts d root lists c.args.verdicts.now.verdicts) (whole_lists (plain_doc c.args.doc.now)) h.verdicts);
+      light = (subst (AreLightLists d root) (whole_lists (plain_doc c.args.doc.now)) h.light).0;
+    })
 
 pub write_list-requires-clause-next : goal.write_list-requires-clause-next
 write_list-requires-clause-next c =
@@ -42,9 +43,10 @@ write_list-requires-clause-next c =
     let vs = c.args.verdicts.now.verdicts in
     let kids = tree (plain c.args.doc.now.root) no_trees in
     let list : Listed Mark = record { path = []; owner = the_document; kids = kids } in
-    let light = subst (AreLightLists d root) (whole_lists (plain_doc c.args.doc.now)) c.requires.light in
     let owner : site_of d root the_document ≡ option_map plain_of c.root_owner-owner.result = root_site _ d root _ c.dtd.ensures c.root_owner-owner.ensures.owner in
-    let all : AreVerdicts d root (list ∷ (lists_from [] 0 kids ++ [])) vs = subst (λ lists. AreVerdicts d root lists vs) (whole_lists (plain_doc c.args.doc.now)) c.requires.verdicts in
+    ∥∥₁_map c.requires.verdicts (λ h.
+    let light = subst (AreLightLists d root) (whole_lists (plain_doc c.args.doc.now)) h.light in
+    let all : AreVerdicts d root (list ∷ (lists_from [] 0 kids ++ [])) vs = subst (λ lists. AreVerdicts d root lists vs) (whole_lists (plain_doc c.args.doc.now)) h.verdicts in
     let p = rw c.new-out.ensures.used at c.in_ok-pieces.ensures.pieces root list (lists_from [] 0 kids ++ []) (rw c.from_ref-kids.ensures.value refl) owner all in
     record {
       root = root;
@@ -52,17 +54,17 @@ write_list-requires-clause-next c =
       more = [];
       verdicts = rw (c.from_ref-kids.ensures.value, c.bytes.ensures.used) p.passes.left;
       light = rw c.from_ref-kids.ensures.value (all_left (IsLightList d root) (lists_from [] 0 kids) [] light.1);
-    }
+    })
 
 pub returns : goal.returns
-returns c =
+returns c = λ are.
     let d = dtd_of c.args.grammar.now in
     let root = c.args.root.now in
     let vs = c.args.verdicts.now.verdicts in
     let kids = tree (plain c.args.doc.now.root) no_trees in
     let list : Listed Mark = record { path = []; owner = the_document; kids = kids } in
     let owner : site_of d root the_document ≡ option_map plain_of c.root_owner-owner.result = root_site _ d root _ c.dtd.ensures c.root_owner-owner.ensures.owner in
-    let all : AreVerdicts d root (list ∷ (lists_from [] 0 kids ++ [])) vs = subst (λ lists. AreVerdicts d root lists vs) (whole_lists (plain_doc c.args.doc.now)) c.requires.verdicts in
+    let all : AreVerdicts d root (list ∷ (lists_from [] 0 kids ++ [])) vs = subst (λ lists. AreVerdicts d root lists vs) (whole_lists (plain_doc c.args.doc.now)) are in
     let p = rw c.new-out.ensures.used at c.in_ok-pieces.ensures.pieces root list (lists_from [] 0 kids ++ []) (rw c.from_ref-kids.ensures.value refl) owner all in
     let written = rw (c.as_slice-2.ensures.value, c.from_ref-kids.ensures.value) at c.in_ok-write_list.ensures in
     let l = written root [] [] (rw c.bytes.ensures.used p.passes.left) in
