@@ -55,7 +55,7 @@ owner_has_site g root (an_element x) s e = by_number (number_of g x) refl e
 
 module _ (M : Type 0) where
   -- lists of different places have different paths
-  same_place : (lists : List (Listed M)) → AllPairs IsListBefore lists → (a b : Listed M) → Contains lists a → Contains lists b → a.path ≡ b.path → a ≡ b
+  pub same_place : (lists : List (Listed M)) → AllPairs IsListBefore lists → (a b : Listed M) → Contains lists a → Contains lists b → a.path ≡ b.path → a ≡ b
   same_place lists ascend a b (i, l, h) (j, k, m) e = by_places (cases_lt i j) (cases_lt j i)
     where
       apart : (x y : Listed M) → IsPathBefore x.path y.path → x.path ≡ y.path → ⊥

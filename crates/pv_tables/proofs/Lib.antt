@@ -1,6 +1,6 @@
 -- for other crates:
-pub mod Summing
--- of this crate:
 pub mod AddingUp
-pub mod OneTables
+pub mod Summing
 pub mod Values
+-- of this crate:
+pub mod OneTables

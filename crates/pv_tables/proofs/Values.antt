@@ -44,7 +44,7 @@ both_true : (a b : Bool) → (a && b) ≡ true → (a ≡ true) × (b ≡ true)
 both_true true b e = (refl, e)
 both_true false b e = absurd cc
 
-same_goals : (a b : Goal) → are_same_goals a b ≡ true → a ≡ b
+pub same_goals : (a b : Goal) → are_same_goals a b ≡ true → a ≡ b
 same_goals a b e = goal_same a.site b.site a.from a.to b.from b.to
     (site_same a.site b.site (eqb-true (kind_rank a.site) (kind_rank b.site) sites.0) (eqb-true (site_number a.site) (site_number b.site) sites.1))
     (eqb-true a.from b.from spans.0) (eqb-true a.to b.to spans.1)
@@ -58,14 +58,14 @@ same_goals a b e = goal_same a.site b.site a.from a.to b.from b.to
     spans : (nat_eq a.from b.from ≡ true) × (nat_eq a.to b.to ≡ true)
     spans = both_true (nat_eq a.from b.from) (nat_eq a.to b.to) halves.1
 
-itself : (a : Goal) → are_same_goals a a ≡ true
+pub itself : (a : Goal) → are_same_goals a a ≡ true
 itself a = rw (eq-eqb (kind_rank a.site) (kind_rank a.site) refl, eq-eqb (site_number a.site) (site_number a.site) refl, eq-eqb a.from a.from refl, eq-eqb a.to a.to refl) refl
 
 -- the entry of a goal is listed, or none is
-abbrev IsListed : List Entry → Goal → Type 0
+abbrev pub IsListed : List Entry → Goal → Type 0
 IsListed es x = (e : Entry) × Contains es e × (goal_of e ≡ x) × (listed_value es x ≡ e.value)
 
-abbrev IsUnlisted : List Entry → Goal → Type 0
+abbrev pub IsUnlisted : List Entry → Goal → Type 0
 IsUnlisted es x = (listed_value es x ≡ heaviest) × ((e : Entry) → Contains es e → goal_of e ≡ x → ⊥)
 
 first_listed : (e : Entry) (es : List Entry) (x : Goal) (b : Bool) → are_same_goals (goal_of e) x ≡ b → IsListed es x ⊎ IsUnlisted es x → IsListed (e ∷ es) x ⊎ IsUnlisted (e ∷ es) x
@@ -77,7 +77,7 @@ first_listed e es x false same (inr (v, none)) = inr (rw same v, λ f m is. none
     none_here f (zero, lt, h) is = let i = itself (goal_of e) in let g : goal_of e ≡ x = ap goal_of h ∙ is in let s : are_same_goals (goal_of e) x ≡ true = subst (λ y. are_same_goals (goal_of e) y ≡ true) g i in cc
     none_here f (suc k, lt, h) is = none f (k, omega arith, h) is
 
-listed_cases : (es : List Entry) (x : Goal) → IsListed es x ⊎ IsUnlisted es x
+pub listed_cases : (es : List Entry) (x : Goal) → IsListed es x ⊎ IsUnlisted es x
 listed_cases [] x = inr (refl, λ e m is. let lt = m.1 in omega arith)
 listed_cases (e ∷ es) x = first_listed e es x (are_same_goals (goal_of e) x) refl (listed_cases es x)
 

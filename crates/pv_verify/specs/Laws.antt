@@ -1,0 +1,25 @@
+-- What the tests of a pack show, as a statement. M is the type of a document's marks.
+use Rattle.std.specs.Prelude.{List, ℕ}
+use Rattle.pv_dtd.specs.Plain.{PlainDtd}
+use Rattle.pv_dtd.specs.Proper.{IsProperDtd}
+use Rattle.pv_tree.specs.Plain.{PlainDoc}
+use Rattle.pv_tree.specs.View.{view}
+use Rattle.pv_tree.specs.declared.nodes.Mark.{Mark}
+use Rattle.pv_missing.specs.Completing.{Completes, IsLeast}
+use Rattle.pv_missing.specs.Proper.{IsProperDoc}
+use Rattle.pv_cert.specs.declared.packs.Pack.{Pack}
+use Rattle.pv_verify.specs.Tests.{IsAccepted, IsBodyText}
+
+-- The body is the text of a completion of the document, by as many elements as the total says, and
+-- that is the least number of elements whose insertion makes the document valid.
+pub record IsLeastPack {M : Type 0} (g : PlainDtd) (root : List ℕ) (doc : PlainDoc M) (pack : Pack)
+    : Type 0 where
+  pub body : PlainDoc Mark
+  pub is_body : IsBodyText root pack.body body
+  pub completes : Completes g root doc body pack.marks pack.total
+  pub least : IsLeast g root pack.total (view doc.root)
+
+-- what passes all tests is a least completion, whoever made it
+abbrev pub AcceptedIsLeast : (M : Type 0) → Type 0
+AcceptedIsLeast M = (g : PlainDtd) (root : List ℕ) (doc : PlainDoc M) (pack : Pack) →
+    IsProperDtd g → IsProperDoc doc → IsAccepted g root doc pack → IsLeastPack g root doc pack

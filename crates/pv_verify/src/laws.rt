@@ -1,0 +1,18 @@
+//! What the tests of a pack show, as the contract of a function that does nothing. `M` is the type
+//! of a document's marks.
+
+ghost use Rattle.pv_verify.specs.Laws.{AcceptedIsLeast};
+
+use pv_missing::laws::documents::{some_bounds_law, tags_extend_law};
+use pv_missing::laws::lists::closed_is_bound_law;
+use pv_tree::laws::lists_ascend_law;
+
+/// What passes all tests is a least completion.
+pub fn certified_law<M>()
+    ensures { AcceptedIsLeast M }
+{
+    some_bounds_law::<M>();
+    tags_extend_law();
+    closed_is_bound_law::<M>();
+    lists_ascend_law::<M>();
+}
