@@ -9,6 +9,7 @@ use Rattle.pv_read.specs.Steps.{TakesItem}
 use Rattle.pv_read.proofs.Prologs.{same_some, takes_leads}
 use Rattle.pv_flat.specs.Plain.{PlainEvent, events_so_far}
 use Rattle.pv_flat.specs.Coming.{Ending, IsIn, RestComes, ends_with, refused_as}
+use Rattle.pv_flat.specs.Steps.{names_behind}
 use Rattle.pv_flat.proofs.Given.{given_by, known-taken, one-more}
 
 -- an item more, and its events
@@ -22,18 +23,6 @@ rest-step root k left rest i more t given es (ends_with before after) is c = (
   c.4,
 )
 rest-step root k left rest i more t given es (refused_as o) is c = takes_leads k t o c
-
--- the names of the elements that are open behind an item
-abbrev pub names_behind : Item → List (List ℕ) → List (List ℕ)
-names_behind (xml_declaration bytes) names = names
-names_behind (doctype name bytes) names = names
-names_behind (comment_or_instruction bytes) names = names
-names_behind (cdata_section bytes) names = names
-names_behind (start_tag name attrs) names = name ∷ names
-names_behind (empty_tag name attrs) names = names
-names_behind (end_tag name gap) [] = []
-names_behind (end_tag name gap) (inner ∷ outer) = outer
-names_behind (text_run bytes) names = names
 
 is-in-behind : (before b : List ℕ) (inner : Open Mark) (outer : List (Open Mark)) (i : Item) (next : Left Mark) → b ≡ before → left_by blank_mark (in_content b inner outer) i ≡ Some next →
     IsIn before (names_behind i (inner.name ∷ map (λ (e : Open Mark). e.name) outer)) next

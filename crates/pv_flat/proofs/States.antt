@@ -21,7 +21,8 @@ use Rattle.pv_flat.specs.declared.state.Events.{Events}
 use Rattle.pv_flat.specs.declared.state.Stage.{Stage}
 use Rattle.pv_flat.specs.declared.state.Stage.TheVariants as stage
 use Rattle.pv_flat.proofs.Given.{given_by, names-push}
-use Rattle.pv_flat.proofs.Moving.{inside, names_behind}
+use Rattle.pv_flat.specs.Steps.{names_behind}
+use Rattle.pv_flat.proofs.Moving.{inside}
 use Rattle.pv_flat.proofs.Refused.{place-is, refused-inside}
 
 pub comes-by : (s : Events) (at : Stage) → s.stage ≡ at → (es : List PlainEvent) (end : Ending) → ComesAt at s es end → Comes s es end

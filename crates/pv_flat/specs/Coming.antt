@@ -115,7 +115,6 @@ AdvancesBy old (Ok (Some e)) new = LeadsBy (plain_event e ∷ []) old new
 AdvancesBy old (Err error) new = RefusesRest old error × SameState old new
 
 -- the error is kept, to be told again; for want of memory the state is as it was
-
 abbrev pub IsKept : DocError → Events → Events → Type 0
 IsKept NoMemory old new = SameState old new
 IsKept (Syntax k) old new = new.stage ≡ stage.Failed (fault.Syntax k)

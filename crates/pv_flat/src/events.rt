@@ -14,6 +14,7 @@ ghost use Rattle.pv_flat.specs.Coming.{IsOpening, LeadsBy, Passes, PassesTag};
 ghost use Rattle.pv_flat.specs.Coming.{SameState, TakesInside, error_of, flat_limits};
 ghost use Rattle.pv_flat.specs.Coming.{open_names};
 ghost use Rattle.pv_flat.specs.Plain.{plain_event};
+ghost use Rattle.pv_flat.specs.Steps.{EntersRoot, LeavesLess, MovesBy, PassesItem, StandsAs};
 ghost use Rattle.pv_flat.specs.declared.faults.Fault.{Fault};
 ghost use Rattle.pv_flat.specs.declared.state.Stage.TheVariants as stage;
 
@@ -95,28 +96,34 @@ impl<'a> Events<'a> {
         requires opens { IsOpening self.old.root self.old.bytes.now opening.now }
         requires fresh { self.old.stage ≡ stage.Fresh }
         ensures leads { IfOk result (λ e. LeadsBy (plain_event e ∷ []) self.old self.new) }
+        ensures enters { IfOk result (λ e.
+            EntersRoot self.old opening.now (plain_event e) self.new) }
         ensures same { IfErr result (λ _. SameState self.old self.new) }
+        ensures stands { IfErr result (λ _. StandsAs self.old self.new) }
+        ensures at_stage { IfErr result (λ _. self.new.stage ≡ self.old.stage) }
     {
-        self.elements.clear();
         let event = Event::Start {
             name: opening.tag.name,
             attrs: opening.tag.attrs,
         };
         if opening.is_short {
-            self.pass_tag(opening);
             self.stage = Stage::StopDue;
+            self.pass_tag(opening);
             return Ok(event);
         }
         self.elements.push(opening.tag.name)?;
-        self.pass_tag(opening);
         self.stage = Stage::Inside;
+        self.pass_tag(opening);
         Ok(event)
     }
 
     // The first event.
     fn begin(&mut self) -> Result<Option<Event<'a>>, DocError>
         requires { self.old.stage ≡ stage.Fresh }
-        ensures { AdvancesBy self.old result self.new }
+        ensures advances { AdvancesBy self.old result self.new }
+        ensures moves { MovesBy self.old result self.new }
+        ensures leaves_less { LeavesLess self.old result self.new }
+        ensures at_stage { IfErr result (λ _. self.new.stage ≡ self.old.stage) }
     {
         let opening = opening_of(self.root.as_slice(), self.bytes)?;
         let event = self.enter(&opening)?;
@@ -155,7 +162,11 @@ impl<'a> Events<'a> {
         requires taken { TakesInside self.old (plain_item item.now) more.now }
         requires within { length more.now < length self.old.rest.now }
         ensures leads { IfOk result (λ e. LeadsBy (plain_event e ∷ []) self.old self.new) }
+        ensures passes { IfOk result (λ e.
+            PassesItem self.old (plain_item item.now) more.now (plain_event e) self.new) }
         ensures same { IfErr result (λ _. SameState self.old self.new) }
+        ensures stands { IfErr result (λ _. StandsAs self.old self.new) }
+        ensures at_stage { IfErr result (λ _. self.new.stage ≡ self.old.stage) }
     {
         match item {
             Item::XmlDeclaration(_) | Item::Doctype { .. } => unreachable!(),
@@ -199,7 +210,10 @@ impl<'a> Events<'a> {
     fn go_on(&mut self, name: &'a [u8]) -> Result<Option<Event<'a>>, DocError>
         requires inside { self.old.stage ≡ stage.Inside }
         requires innermost { IsInnermost self.old name.now }
-        ensures { AdvancesBy self.old result self.new }
+        ensures advances { AdvancesBy self.old result self.new }
+        ensures moves { MovesBy self.old result self.new }
+        ensures leaves_less { LeavesLess self.old result self.new }
+        ensures at_stage { IfErr result (λ _. self.new.stage ≡ self.old.stage) }
     {
         let (item, more) = self.read_item(name)?;
         let event = self.take(&item, more)?;
@@ -210,7 +224,10 @@ impl<'a> Events<'a> {
     fn finish(&mut self) -> Result<Option<Event<'a>>, DocError>
         requires inside { self.old.stage ≡ stage.Inside }
         requires none { self.old.elements.items ≡ [] }
-        ensures { AdvancesBy self.old result self.new }
+        ensures advances { AdvancesBy self.old result self.new }
+        ensures moves { MovesBy self.old result self.new }
+        ensures leaves_less { LeavesLess self.old result self.new }
+        ensures at_stage { IfErr result (λ _. self.new.stage ≡ self.old.stage) }
     {
         read_epilog(None, self.root.as_slice(), self.rest, self.count)?;
         self.stage = Stage::Ended;
@@ -220,7 +237,10 @@ impl<'a> Events<'a> {
     // The next event in the root, or its end.
     fn go_inside(&mut self) -> Result<Option<Event<'a>>, DocError>
         requires { self.old.stage ≡ stage.Inside }
-        ensures { AdvancesBy self.old result self.new }
+        ensures advances { AdvancesBy self.old result self.new }
+        ensures moves { MovesBy self.old result self.new }
+        ensures leaves_less { LeavesLess self.old result self.new }
+        ensures at_stage { IfErr result (λ _. self.new.stage ≡ self.old.stage) }
     {
         match self.elements.last() {
             Some(name) => {
@@ -234,6 +254,9 @@ impl<'a> Events<'a> {
     // The next event, where an error isn't kept yet.
     fn advance(&mut self) -> Result<Option<Event<'a>>, DocError>
         ensures advances { AdvancesBy self.old result self.new }
+        ensures moves { MovesBy self.old result self.new }
+        ensures leaves_less { LeavesLess self.old result self.new }
+        ensures at_stage { IfErr result (λ _. self.new.stage ≡ self.old.stage) }
         ensures ended { self.old.stage ≡ stage.Ended → result ≡ Ok None }
         ensures again { (f : Fault) → self.old.stage ≡ stage.Failed f →
             result ≡ Err (error_of f) }
@@ -252,7 +275,9 @@ impl<'a> Events<'a> {
 
     // Keeps an error, to tell it again.
     fn keep(&mut self, error: &DocError)
-        ensures { IsKept error.now self.old self.new }
+        ensures kept { IsKept error.now self.old self.new }
+        ensures stands { StandsAs self.old self.new }
+        ensures at_stage { error.now ≡ DocError.NoMemory → self.new.stage ≡ self.old.stage }
     {
         match error {
             DocError::NoMemory => {}
@@ -260,9 +285,12 @@ impl<'a> Events<'a> {
         }
     }
 
-    /// The next event; none behind the end of the text.
+    /// The next event; none behind the end of the text. An error other than want of memory is told
+    /// again from then on; after want of memory, all is as it was.
     pub fn next(&mut self) -> Result<Option<Event<'a>>, DocError>
         ensures answers { AnswersNext self.old result self.new }
+        ensures moves { MovesBy self.old result self.new }
+        ensures leaves_less { LeavesLess self.old result self.new }
         ensures ended { self.old.stage ≡ stage.Ended → result ≡ Ok None }
         ensures again { (f : Fault) → self.old.stage ≡ stage.Failed f →
             result ≡ Err (error_of f) }

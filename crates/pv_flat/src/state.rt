@@ -1,6 +1,7 @@
 //! How far the events of a text were read.
 
-ghost use Rattle.std.specs.Prelude.{◌≤◌, ◌+◌, length};
+ghost use Rattle.std.specs.Prelude.{◌≡◌, ◌≤◌, ◌+◌, [], length};
+ghost use Rattle.pv_flat.specs.declared.state.Stage.TheVariants.{Fresh};
 
 use crate::faults::Fault;
 use pv_chars::Bytes;
@@ -27,4 +28,5 @@ pub struct Events<'a> {
     pub(crate) elements: Vec<&'a [u8]>,
     pub(crate) stage: Stage,
     ghost few: { count + length rest.now ≤ length bytes.now },
+    ghost none_open: { stage ≡ Fresh → elements.items ≡ [] },
 }

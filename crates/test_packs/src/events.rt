@@ -1,6 +1,7 @@
 //! Events of documents.
 
-use pv_flat::{Event, Events};
+use pv_dtd::read_dtd;
+use pv_flat::{Event, Events, valid_events};
 use pv_read::DocError;
 use std::alloc::Global;
 use std::test::Fail;
@@ -39,16 +40,62 @@ fn events_in_order(rt: HostRuntime) -> Result<(), Fail> {
     assert!(rt; events.before() == b"<!--c-->".as_slice());
     assert!(rt; events.rest() == b"\n".as_slice());
     assert!(rt; events.next()?.is_none());
+    assert!(rt; events.before() == b"<!--c-->".as_slice());
+    assert!(rt; events.rest() == b"\n".as_slice());
     Ok(())
 }
 
 #[test]
 fn errors_are_told_again(rt: HostRuntime) -> Result<(), Fail> {
     let alloc = rt.alloc();
-    let mut events = Events::new(alloc, b"<a><b></a>", b"a")?;
+    let mut events = Events::new(alloc, b"<?p?><a><b></a>", b"a")?;
+    assert!(rt; events.before().is_empty());
+    assert!(rt; events.rest() == b"<?p?><a><b></a>".as_slice());
     let _first = events.next()?;
     let _second = events.next()?;
-    assert!(rt; matches!(events.next(), Err(DocError::Mismatch(2))));
-    assert!(rt; matches!(events.next(), Err(DocError::Mismatch(2))));
+    for _ in 0..3 {
+        assert!(rt; matches!(events.next(), Err(DocError::Mismatch(3))));
+        assert!(rt; events.before() == b"<?p?>".as_slice());
+        assert!(rt; events.rest() == b"</a>".as_slice());
+    }
+    Ok(())
+}
+
+// So many elements, each in the one before it.
+fn nested(alloc: Global, depth: usize) -> Result<Vec<u8>, Fail> {
+    let mut text = Vec::new(alloc);
+    for _ in 0..depth {
+        text.extend_from_slice(b"<a>")?;
+    }
+    for _ in 0..depth {
+        text.extend_from_slice(b"</a>")?;
+    }
+    Ok(text)
+}
+
+#[test]
+fn deeper_than_a_tree(rt: HostRuntime) -> Result<(), Fail> {
+    let alloc = rt.alloc();
+    let text = nested(alloc, 600)?;
+    let mut events = Events::new(alloc, &text, b"a")?;
+    for _ in 0..600 {
+        assert!(rt; matches!(events.next()?, Some(Event::Start { .. })));
+    }
+    for _ in 0..600 {
+        assert!(rt; matches!(events.next()?, Some(Event::Stop)));
+    }
+    assert!(rt; events.next()?.is_none());
+    Ok(())
+}
+
+#[test]
+fn validity_at_any_depth(rt: HostRuntime) -> Result<(), Fail> {
+    let alloc = rt.alloc();
+    let dtd = read_dtd(alloc, b"<!ELEMENT a (a?)>")?;
+    let text = nested(alloc, 600)?;
+    assert!(rt; valid_events(alloc, &dtd, b"a", &text)?);
+    assert!(rt; !valid_events(alloc, &dtd, b"a", b"<a><a/><a/></a>")?);
+    let refused = valid_events(alloc, &dtd, b"a", b"<a></b>");
+    assert!(rt; matches!(refused, Err(DocError::Mismatch(1))));
     Ok(())
 }

@@ -6,8 +6,8 @@ use Rattle.pv_flat.proofs.Refused.{ends-behind, refused-behind}
 use Rattle.pv_flat.proofs.States.{comes-by, refused-advance, same-inside, same-names}
 use Rattle.pv_flat.proofs.state.Events.finish.Goals as goal
 
-pub returns-in_err-read_epilog : goal.returns-in_err-read_epilog
-returns-in_err-read_epilog c =
+pub returns-in_err-read_epilog-clause-advances : goal.returns-in_err-read_epilog-clause-advances
+returns-in_err-read_epilog-clause-advances c =
     let s = c.args.self.now in
     let none : open_names s ≡ [] = same-names [] s.elements.items c.requires.none in
     let from = err_from_is_err_and c.from_residual.result c.from_residual.ensures.1 in
@@ -15,8 +15,8 @@ returns-in_err-read_epilog c =
     (refused-advance s _ _ c.requires.inside (λ left h. refused-behind s.root s.before.now s.rest.now s.count _ (rw c.as_slice.ensures at c.in_err-read_epilog.ensures.refused) left (subst (λ ns. IsIn s.before.now ns left) none h))
     (same-inside s _ c.requires.inside c.requires.inside (λ es end. (λ x. x, λ x. x))))
 
-pub returns : goal.returns
-returns c =
+pub returns-clause-advances : goal.returns-clause-advances
+returns-clause-advances c =
     let s = c.args.self.now in
     let none : open_names s ≡ [] = same-names [] s.elements.items c.requires.none in (
       λ es end comes.
