@@ -9,7 +9,7 @@ use Rattle.pv_edit.specs.declared.answers.VerdictRow.{VerdictRow}
 use Rattle.pv_edit.proofs.Levels.{forest-trees}
 use Rattle.pv_edit.proofs.Remarked.{forest-as, node-as}
 use Rattle.pv_edit.proofs.Standing.{NodeAt, at_node, node_at}
-use Rattle.pv_missing.specs.Verdicts.{AreVerdicts, IsVerdict}
+use Rattle.pv_missing.specs.Verdicts.{AreVerdicts, IsVerdict, PlainVerdicts}
 use Rattle.pv_missing.proofs.VerdictHeads.{verdict_by_heads}
 use Rattle.pv_tree.specs.Lists.{Owner, an_element, lists_at, lists_from, lists_of, the_document}
 use Rattle.pv_tree.specs.Places.{list_at, list_of, node_below, spot_at}
@@ -18,7 +18,7 @@ use Rattle.pv_tree.specs.Plain.{Ending, Forest, PlainDoc, Tree, cdata_node, elem
 use Rattle.pv_tree.specs.declared.nodes.Mark.{Mark}
 use Rattle.pv_tree.specs.declared.nodes.Verdict.{Verdict}
 use Rattle.pv_cache.specs.Changed.{owner_at}
-use Rattle.pv_cache.specs.Rows.{AreRows, IsVerdictAt, marks_in, marks_in_all, path_of, row_path, row_stamp, row_verdict, rows_at, rows_from, rows_of}
+use Rattle.pv_cache.specs.Rows.{AreRows, IsVerdictAt, TellVerdicts, marks_in, marks_in_all, path_of, row_path, row_stamp, row_verdict, rows_at, rows_from, rows_of}
 use Rattle.pv_cache.specs.Stamps.{stamp_of, stamped_doc_of, stamps_of}
 use Rattle.pv_cache.specs.WellMarked.{IsWellMarked, TellsList, told_verdict, told_verdicts, told_verdicts_in, verdicts_told}
 use Rattle.pv_cache.proofs.Alike.{list_at_as}
@@ -153,6 +153,10 @@ module _ (g : PlainDtd) (root : List ℕ) (doc : PlainDoc Mark) (w : ∥ IsWellM
     stamps = ap (λ ns. stamp_of doc.mark ∷ ns) (stamps_at (0 ∷ []) doc.root);
   })
 
+  -- ---- verdicts
+  pub tell_verdicts : (vs : PlainVerdicts) → vs ≡ record { verdicts = verdicts_told doc; first = None } → TellVerdicts (stamped_doc_of g root doc) vs
+  tell_verdicts vs e = rw e (record { none = refl; verdicts = ∥∥₁_map w (λ w. verdicts_to stamp_of doc g root (verdicts_told doc) (doc-told g root doc w)) })
+
 -- ---- rows of nodes side by side, one after the other
 pub more_rows : (path : List ℕ) (i : ℕ) (ks rest : Forest Mark) (t : Tree Mark) (rows now : List VerdictRow) → ks ≡ tree t rest → now ≡ rows ++ rows_at (path ++ i ∷ []) t →
     now ++ rows_from path (suc i) rest ≡ rows ++ rows_from path i ks
@@ -161,3 +165,7 @@ more_rows path i ks rest t rows now e h = rw (e, h) (append_assoc rows (rows_at 
 pub one_more : (path : List ℕ) (i : ℕ) (ks rest : Forest Mark) (t : Tree Mark) (rows now : List VerdictRow) → ks ≡ tree t rest → now ≡ rows ++ rows_at (path ++ i ∷ []) t →
     now ++ rows_from path (i + 1) rest ≡ rows ++ rows_from path i ks
 one_more path i ks rest t rows now e h = let n : i + 1 ≡ suc i = omega arith in rw n (more_rows path i ks rest t rows now e h)
+
+-- ---- and verdicts
+pub more_verdicts : (ks rest : Forest Mark) (t : Tree Mark) (vs now : List Verdict) → ks ≡ tree t rest → now ≡ vs ++ told_verdicts t → now ++ told_verdicts_in rest ≡ vs ++ told_verdicts_in ks
+more_verdicts ks rest t vs now e h = rw (e, h) (append_assoc vs (told_verdicts t) (told_verdicts_in rest))

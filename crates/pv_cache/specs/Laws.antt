@@ -3,6 +3,7 @@ use Rattle.std.specs.Prelude.{List, [], Option, true, false, ℕ, ◌++◌, ◌�
 use Rattle.std.specs.List.{AllByRecursion, between}
 use Rattle.pv_cache.specs.Changed.{AreJudged, AreLive, owner_at}
 use Rattle.pv_cache.specs.Mending.{mend_doc}
+use Rattle.pv_cache.specs.Moves.{HasOpen}
 use Rattle.pv_cache.specs.Rows.{AreRows}
 use Rattle.pv_cache.specs.Stamps.{StampedDoc}
 use Rattle.pv_cache.specs.WellMarked.{IsWellMarked, verdicts_told}
@@ -75,3 +76,7 @@ InnerIsFirst = (g : PlainDtd) (root : List ℕ) (doc : PlainDoc Mark) (c : Chang
 abbrev pub HasOneRows : Type 0
 HasOneRows = (s : StampedDoc) (rows other : List VerdictRow) → AreRows s rows → AreRows s other →
     rows ≡ other
+
+-- The number of its Possible lists is one number.
+abbrev pub HasOneOpen : Type 0
+HasOneOpen = (s : StampedDoc) (m n : ℕ) → HasOpen s m → HasOpen s n → m ≡ n

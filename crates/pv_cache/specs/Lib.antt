@@ -14,3 +14,4 @@ pub mod Planned
 pub mod PlainMarked
 pub mod PlainForms
 pub mod GroundLaws
+pub mod MarkLaws

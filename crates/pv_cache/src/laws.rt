@@ -3,8 +3,9 @@
 
 ghost use Rattle.pv_cache.specs.GroundLaws.{AcceptedHasNoGround, HasOneGround};
 ghost use Rattle.pv_cache.specs.GroundLaws.{WithoutGroundIsAccepted};
-ghost use Rattle.pv_cache.specs.Laws.{HasOneRows, InnerIsFirst, MarksTell, MendedIsMarked};
-ghost use Rattle.pv_cache.specs.Laws.{MendingKeepsDocuments, OuterIsFirst};
+ghost use Rattle.pv_cache.specs.Laws.{HasOneOpen, HasOneRows, InnerIsFirst, MarksTell};
+ghost use Rattle.pv_cache.specs.Laws.{MendedIsMarked, MendingKeepsDocuments, OuterIsFirst};
+ghost use Rattle.pv_cache.specs.MarkLaws.{HoldsByOtherMarks};
 
 use pv_missing::laws::documents::live_lists_law;
 
@@ -27,6 +28,16 @@ pub fn mending_keeps_documents_law()
 /// The rows of a document are one list.
 pub fn one_rows_law()
     ensures { HasOneRows }
+{}
+
+/// The number of a document's Possible lists is one number.
+pub fn one_open_law()
+    ensures { HasOneOpen }
+{}
+
+/// What holds of a document holds of it with other marks.
+pub fn other_marks_law<M, N>()
+    ensures { HoldsByOtherMarks M N }
 {}
 
 /// Which list of a changed document is the first impossible one: the changed list, where it is

@@ -21,6 +21,7 @@ mod moving;
 mod planned;
 mod rows;
 mod told;
+mod verdicts;
 mod well_marked;
 mod words;
 

@@ -5,7 +5,7 @@ ghost use Rattle.std.specs.Prelude.{OnErr, OnOk};
 ghost use Rattle.std.specs.List.{AllByRecursion};
 ghost use Rattle.pv_cache.specs.Accepting.{IsAccepted, IsGuarded, MAX_EDITED_NODES};
 ghost use Rattle.pv_cache.specs.Moves.{HasGround, HasOpen, IsEdited, IsReverted};
-ghost use Rattle.pv_cache.specs.Rows.{AreRows, IsVerdictAt};
+ghost use Rattle.pv_cache.specs.Rows.{AreRows, IsVerdictAt, TellVerdicts};
 ghost use Rattle.pv_cache.specs.Stamps.{doc_as, stamps_of};
 ghost use Rattle.pv_cache.specs.WellMarked.{IsWellMarked};
 ghost use Rattle.pv_edit.specs.Inverses.{IsKept, LeadsBack};
@@ -21,6 +21,7 @@ use crate::laying::lay_doc;
 use crate::planned::PlannedGrammar;
 use crate::rows::rows_of;
 use crate::told::told_verdict;
+use crate::verdicts::verdicts_told;
 use crate::well_marked::WellMarked;
 use pv_chars::{Bytes, List, NoMemory};
 use pv_dtd::laws::proper_dtd_law;
@@ -167,6 +168,14 @@ impl Marked {
         ensures { IfOk result (AreRows self.now) }
     {
         Ok(List::of(rows_of(self.document.alloc, &self.document.doc)?))
+    }
+
+    /// The verdicts of all its lists, in document order; none is Impossible.
+    pub fn verdicts(&self) -> Result<Verdicts, NoMemory>
+        ensures { IfOk result (TellVerdicts self.now) }
+    {
+        let verdicts = verdicts_told(self.document.alloc, &self.document.doc)?;
+        Ok(Verdicts::of(verdicts, None))
     }
 
     /// The document; its marks are those of a well marked one.

@@ -1,0 +1,12 @@
+use Rattle.pv_edit.proofs.RemarkedFacts.{kept-to}
+use Rattle.pv_edit.proofs.RemarkedReasons.{inverse-as}
+use Rattle.pv_cache.proofs.Alike.{accepted_as, guarded_to}
+use Rattle.pv_cache.proofs.laws.other_marks_law.Goals as goal
+
+pub returns : goal.returns
+returns g c = record {
+  accepted = λ f blank dtd root doc edited edit. accepted_as f blank dtd root doc edit edited;
+  guarded = λ f dtd root doc. guarded_to f doc dtd root;
+  kept = λ f root. kept-to f root;
+  inverse = λ f root edit. inverse-as f root edit;
+}
