@@ -1,8 +1,8 @@
 #!/usr/bin/env bash
-# All tests: `rt ci` proves every crate, tries the must-fail edits and runs the crates' tests and programs; then the built program is
-# tried on the machine's files, edits and sessions are tried with each allocation failing in turn, where a C compiler is installed, and the
-# program is compared with a search that inserts elements, with a model of a session and with xmllint, also with published DTDs, where
-# Python and xmllint are installed. The last line tells how many passed.
+# All tests: `rt ci` proves every crate, tries the must-fail edits and runs the crates' tests and programs; then the built program is tried
+# on the machine's files, and on hostile ones, with little memory and outputs that fail; edits and sessions are tried with each allocation
+# failing in turn, where a C compiler is installed; and the program is compared with a search that inserts elements, with a model of a
+# session and with xmllint, also with published DTDs, where Python and xmllint are installed. The last line tells how many passed.
 set -u
 cd "$(dirname "$0")/.." || exit 1
 log=$(mktemp)
@@ -80,6 +80,7 @@ skip "the comparison with derivations by spans" python3 || check 300 python3 tes
 skip "the comparison of least numbers" python3 || check 300 python3 tests/least_numbers.py crates/pvtag/out/pvtag 850 1
 skip "the comparison of completions" python3 || check 300 python3 tests/completions.py crates/pvtag/out/pvtag 400 1 60
 skip "the comparison with a model" python3 || check 300 python3 tests/against_a_model.py crates/pvtag/out/pvtag 20000 7
+skip "the hostile files and failing machines" python3 || check 300 python3 tests/hostile.py crates/pvtag/out/pvtag
 skip "the failing allocations" python3 cc || check 300 python3 tests/failing_allocations.py crates/pvtag/out/pvtag 12000
 skip "the comparison with xmllint" python3 xmllint || check 300 python3 tests/against_xmllint.py crates/pvtag/out/pvtag 200 1 120
 skip "the comparison of expansions" python3 || check 300 python3 tests/expansions.py crates/pvtag/out/pvtag 3000 1
