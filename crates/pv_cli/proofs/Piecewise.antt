@@ -1,8 +1,8 @@
 -- A conversation, piece by piece.
-use Rattle.std.proofs.Common.{◌≡◌, ◌⊎◌, inl, inr, ℕ, zero, suc, ◌+◌, ◌*◌, ◌-◌, ◌<◌, ◌≤◌, Bool, true, false, List, [], ◌∷◌, ◌++◌, length, get_or, take, drop, codes, decimal, Option, refl, sym, ap, ◌∙◌, subst, append_assoc, arith}
+use Rattle.std.proofs.Common.{◌≡◌, inl, inr, ℕ, zero, suc, ◌+◌, ◌*◌, ◌-◌, ◌<◌, ◌≤◌, Bool, true, false, List, [], ◌∷◌, ◌++◌, length, get_or, take, drop, codes, decimal, Option, refl, sym, ap, ◌∙◌, subst, append_assoc, arith}
 use Rattle.std.proofs.lemmas.List.{append-nil, length-append, length-take, take-append-drop, take_all}
 use Rattle.std.specs.Io.KnownBytes.{Appends, Consumes}
-use Rattle.pv_io.specs.Causes.{AppendsFront, CountStays}
+use Rattle.pv_io.specs.Causes.{AppendsFront, Asked, CountStays}
 use Rattle.pv_script.specs.Commands.{SpellsCommand}
 use Rattle.pv_script.specs.Lines.{FEED, ended_lines, without_returns}
 use Rattle.pv_script.specs.Taking.{HeldLine, MAX_LINE_BYTES, nothing_held, TakesAll, TakesLine, IsTooLong}
@@ -13,7 +13,7 @@ use Rattle.pv_cli.specs.declared.conversation.talk.Next.TheVariants.{More as mor
 use Rattle.pv_cli.specs.declared.conversation.talk.Reading.{Reading}
 use Rattle.pv_cli.specs.Conversation.{AnswersLine, ComesNext, Conversed, EndedWith, IsWithinScript, IsBeyond, IsNext, IsReplyText, RepliesWith}
 use Rattle.pv_cli.specs.Course.{RunEnding, output_fault}
-use Rattle.pv_cli.specs.Program.{MadeAtMost}
+use Rattle.pv_cli.specs.Program.{AskedAtMost}
 use Rattle.pv_cli.specs.ReplyBuffer.{HoldsReplies}
 use Rattle.pv_cli.specs.Script.{MAX_SCRIPT_BYTES}
 use Rattle.pv_cli.specs.Session.{all_told, limited}
@@ -271,11 +271,11 @@ last_failed old mid now first current after script line held number is replies s
     (λ out w. front_behind old mid now out replies.0 w replies.2)
 
 -- a conversation up to a piece: what it took, and what its devices and the counter of lists counted; no reply is held
-pub record Talks (old now : Option (List ℕ)) (first current : PlainSession) (held : HeldLine) (number : ℕ) (input_old input_now : Option (List ℕ)) (calls calls_now input_faults input_faults_now faults faults_now checked checked_now left room : ℕ) (replies : List ℕ) : Type 0 where
+pub record Talks (old now : Option (List ℕ)) (first current : PlainSession) (held : HeldLine) (number : ℕ) (input_old input_now : Option (List ℕ)) (calls calls_now : Asked) (input_faults input_faults_now faults faults_now checked checked_now left room : ℕ) (replies : List ℕ) : Type 0 where
   pub script : List ℕ
   pub so_far : Conversed (Appends old now) first script current held number
   pub taken : Consumes input_old input_now script
-  pub asked : MadeAtMost (length script) calls calls_now
+  pub asked : AskedAtMost (length script) 0 calls calls_now
   pub within : length script + left ≡ MAX_SCRIPT_BYTES
   pub input_stays : CountStays input_faults input_faults_now
   pub stays : CountStays faults faults_now

@@ -1,5 +1,6 @@
 -- The devices of a run, each at one moment.
 use Rattle.std.specs.Prelude.{ℕ, List, Option}
+use Rattle.pv_io.specs.Causes.{Asked}
 
 -- what a shelf tells of its files, how often it was asked, and how often it failed
 pub record ShelfNow : Type 0 where
@@ -7,11 +8,12 @@ pub record ShelfNow : Type 0 where
   pub calls : ℕ
   pub faults : ℕ
 
--- an input: itself, what it tells to be left, how often it was asked, and how often it failed
+-- an input: itself, what it tells to be left, how often it was asked and gave no byte, and how
+-- often it failed
 pub record InputNow (S : Type 0) : Type 0 where
   pub source : S
   pub left : Option (List ℕ)
-  pub calls : ℕ
+  pub calls : Asked
   pub faults : ℕ
 
 -- what an output tells to be written, and how often it failed
@@ -29,7 +31,7 @@ pub record Devices (S : Type 0) : Type 0 where
 abbrev pub shelf_at : Option (List (List ℕ × List ℕ)) → ℕ → ℕ → ShelfNow
 shelf_at files calls faults = record { files = files; calls = calls; faults = faults }
 
-abbrev pub input_at : {S : Type 0} → S → Option (List ℕ) → ℕ → ℕ → InputNow S
+abbrev pub input_at : {S : Type 0} → S → Option (List ℕ) → Asked → ℕ → InputNow S
 input_at source left calls faults = record {
   source = source;
   left = left;

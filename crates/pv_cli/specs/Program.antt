@@ -3,7 +3,7 @@ use Rattle.std.specs.Prelude.{◌≡◌, ◌≤◌, ◌+◌, ℕ, Bool, true, fa
 use Rattle.std.specs.Prelude.{Option, Some, None}
 use Rattle.std.specs.Io.KnownBytes.{Appends, Consumes, IsAtEnd}
 use Rattle.pv_drill.specs.Drill.{drill_lines, drill_text}
-use Rattle.pv_io.specs.Causes.{AppendsFront, CountStays, MadeCalls, Rose}
+use Rattle.pv_io.specs.Causes.{AppendsFront, Asked, CountStays, MadeCalls, Rose}
 use Rattle.pv_cli.specs.declared.status.Status.{Status}
 use Rattle.pv_cli.specs.declared.status.Status.TheVariants.{Usage, ReadFault, WriteFault}
 use Rattle.pv_cli.specs.declared.status.Status.TheVariants.{NoMemory as OutOfMemory}
@@ -63,10 +63,16 @@ TakesInput (Some bytes) before after = Consumes before.left after.left bytes
 abbrev pub MadeAtMost : ℕ → ℕ → ℕ → Type 0
 MadeAtMost most before after = (count : ℕ) × (count ≤ most) × MadeCalls count before after
 
--- the input was asked at most once for each byte that came, and once more
-abbrev pub AsksInput : Option (List ℕ) → ℕ → ℕ → Type 0
+-- it was asked so often at most, and so often at most it gave no byte
+pub record AskedAtMost (calls empty : ℕ) (before after : Asked) : Type 0 where
+  pub all : MadeAtMost calls before.calls after.calls
+  pub none_given : MadeAtMost empty before.empty after.empty
+
+-- The input was asked at most once for each byte that came, and once more; and at most one call
+-- gave no byte, so that it isn't asked again behind its end, or behind a fault of it.
+abbrev pub AsksInput : Option (List ℕ) → Asked → Asked → Type 0
 AsksInput None before after = after ≡ before
-AsksInput (Some bytes) before after = MadeAtMost (length bytes + 1) before after
+AsksInput (Some bytes) before after = AskedAtMost (length bytes + 1) 1 before after
 
 -- where bytes were taken from the input, nothing is left of it
 abbrev pub ReadsAll : Option (List ℕ) → Option (List ℕ) → Type 0

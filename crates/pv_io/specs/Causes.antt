@@ -1,6 +1,6 @@
 -- Faults of the outside, and what a call that answers one owes.
-use Rattle.std.specs.Prelude.{◌≡◌, ℕ, ◌+◌, ◌-◌, ◌^◌, ◌≤◌, ◌<◌, min, List, length, take, Result}
-use Rattle.std.specs.Prelude.{MatchResult, Option}
+use Rattle.std.specs.Prelude.{◌≡◌, ℕ, zero, suc, ◌+◌, ◌-◌, ◌^◌, ◌≤◌, ◌<◌, min, List, length, take}
+use Rattle.std.specs.Prelude.{Result, Ok, Err, MatchResult, Option}
 use Rattle.std.specs.Io.KnownBytes.{Appends}
 
 -- a count after one more, which stops at its last value
@@ -19,6 +19,25 @@ Rose before now = (before ≤ now) × (one_more before ≤ now)
 -- count can have.
 abbrev pub MadeCalls : ℕ → ℕ → ℕ → Type 0
 MadeCalls n before now = min now (2 ^ 64 - 1) ≡ min (before + n) (2 ^ 64 - 1)
+
+-- how often a source was asked, and how often it gave no byte then: at its end, or at a fault
+pub record Asked : Type 0 where
+  pub calls : ℕ
+  pub empty : ℕ
+
+abbrev pub never_asked : Asked
+never_asked = record { calls = 0; empty = 0 }
+
+-- how many of one answer gave no byte
+abbrev pub empty_in : {E : Type 0} → Result ℕ E → ℕ
+empty_in (Ok zero) = 1
+empty_in (Ok (suc n)) = 0
+empty_in (Err error) = 1
+
+-- so many calls were made, so many of which gave no byte
+pub record WasAsked (calls empty : ℕ) (before now : Asked) : Type 0 where
+  pub all : MadeCalls calls before.calls now.calls
+  pub none_given : MadeCalls empty before.empty now.empty
 
 -- a call that answers an error counted a fault, and every other call counted none
 abbrev pub CountsFault : {T E : Type 0} → ℕ → ℕ → Result T E → Type 0

@@ -22,10 +22,12 @@ after_call failed calls = record {
   faults = if failed then one_more calls.faults else calls.faults;
 }
 
--- a source in memory: the bytes that are left, and the most bytes of a call
+-- a source in memory: the bytes that are left, the most bytes of a call, and how many calls gave no
+-- byte
 pub record HeldInput : Type 0 where
   pub left : List ℕ
   pub most : ℕ
+  pub empty : ℕ
   pub calls : CallCount
 
 -- a sink in memory: the bytes that it holds, the most bytes that it can hold, and the most bytes

@@ -3,7 +3,8 @@
 ghost use Rattle.std.specs.Prelude.{◌≡◌, ◌≤◌, if◌then◌else◌, is_err, vec_len, IfOk};
 ghost use Rattle.std.specs.Io.{ReadsAtMost};
 ghost use Rattle.std.specs.Io.KnownBytes.{ReadConsumes, WriteAppends};
-ghost use Rattle.pv_io.specs.Causes.{CountsFault, MadeCalls, TakesSome, one_more};
+ghost use Rattle.pv_io.specs.Causes.{CountsFault, MadeCalls, TakesSome, WasAsked, empty_in};
+ghost use Rattle.pv_io.specs.Causes.{never_asked, one_more};
 ghost use Rattle.pv_io.specs.Files.{fetch_names, FetchCountsFault, is_fault};
 
 use crate::shelf::{FetchError, Shelf};
@@ -21,6 +22,7 @@ use std::{fs, io};
 pub struct ReadSource<R: Read> {
     reader: R,
     calls: u64,
+    empty: u64,
     faults: u64,
 }
 
@@ -29,11 +31,12 @@ impl<R: Read> ReadSource<R> {
     pub fn new(reader: R) -> ReadSource<R>
         ensures left { ⟦<ReadSource<R> as Source>⟧.left result ≡ R.remaining reader }
         ensures faults { ⟦<ReadSource<R> as Source>⟧.faults result ≡ 0 }
-        ensures calls { ⟦<ReadSource<R> as Source>⟧.calls result ≡ 0 }
+        ensures calls { ⟦<ReadSource<R> as Source>⟧.calls result ≡ never_asked }
     {
         ReadSource {
             reader,
             calls: 0,
+            empty: 0,
             faults: 0,
         }
     }
@@ -44,22 +47,29 @@ impl<R: Read> Source for ReadSource<R> {
 
     ghost faults = { λ s. s.faults };
 
-    ghost calls = { λ s. s.calls };
+    ghost calls = { λ s. record { calls = s.calls; empty = s.empty } };
 
     fn fill(&mut self, buf: &mut [u8]) -> Result<usize, Failed>
         ensures bound { ReadsAtMost result buf.new }
         ensures bytes { ReadConsumes (R.remaining self.old.reader) (R.remaining self.new.reader)
             result buf.new }
         ensures cause { CountsFault self.old.faults self.new.faults result }
-        ensures calls { MadeCalls 1 self.old.calls self.new.calls }
+        ensures calls { WasAsked 1 (empty_in result)
+            (record { calls = self.old.calls; empty = self.old.empty })
+            (record { calls = self.new.calls; empty = self.new.empty }) }
 
         ensures counted { self.new.faults ≡ (if is_err result then one_more self.old.faults
             else self.old.faults) }
     {
         self.calls = self.calls.saturating_add(1);
         match self.reader.read(buf) {
+            Ok(0) => {
+                self.empty = self.empty.saturating_add(1);
+                Ok(0)
+            }
             Ok(count) => Ok(count),
             Err(_) => {
+                self.empty = self.empty.saturating_add(1);
                 self.faults = self.faults.saturating_add(1);
                 Err(Failed)
             }

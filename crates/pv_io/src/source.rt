@@ -3,7 +3,7 @@
 ghost use Rattle.std.specs.Prelude.{List, ℕ, Option};
 ghost use Rattle.std.specs.Io.{ReadsAtMost};
 ghost use Rattle.std.specs.Io.KnownBytes.{ReadConsumes};
-ghost use Rattle.pv_io.specs.Causes.{CountsFault, MadeCalls};
+ghost use Rattle.pv_io.specs.Causes.{Asked, CountsFault, WasAsked, empty_in};
 
 use thiserror::Error;
 
@@ -20,8 +20,8 @@ pub trait Source {
     /// How often the source has failed.
     ghost faults: { Self → ℕ };
 
-    /// How often the source was asked, whatever it answered.
-    ghost calls: { Self → ℕ };
+    /// How often the source was asked, and how often it gave no byte.
+    ghost calls: { Self → Asked };
 
     /// Reads the next bytes into the front of the buffer, and answers how many. None are the end,
     /// unless the buffer is empty.
@@ -29,5 +29,5 @@ pub trait Source {
         ensures bound { ReadsAtMost result buf.new }
         ensures bytes { ReadConsumes (left self.old) (left self.new) result buf.new }
         ensures cause { CountsFault (faults self.old) (faults self.new) result }
-        ensures calls { MadeCalls 1 (calls self.old) (calls self.new) };
+        ensures calls { WasAsked 1 (empty_in result) (calls self.old) (calls self.new) };
 }

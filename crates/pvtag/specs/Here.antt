@@ -1,5 +1,6 @@
 -- What the program does over the machine's files and streams, which tell nothing of their bytes.
 use Rattle.std.specs.Prelude.{◌≡◌, Option, None}
+use Rattle.pv_io.specs.Causes.{never_asked}
 use Rattle.pv_cli.specs.CommandLine.{PlainCommandLine}
 use Rattle.pv_cli.specs.Devices.{Devices, InputNow, devices, input_at, shelf_at}
 use Rattle.pv_cli.specs.Program.{Runs}
@@ -18,7 +19,7 @@ pub record RunsHere (line : Option PlainCommandLine) (status : Status) : Type 0 
   pub before : Devices (Unit {0})
   pub after : Devices (Unit {0})
   pub shelf : before.shelf ≡ shelf_at None 0 0
-  pub input_calls : before.input.calls ≡ 0
+  pub input_calls : before.input.calls ≡ never_asked
   pub input_faults : before.input.faults ≡ 0
   pub output_faults : before.output.faults ≡ 0
   pub runs : Runs line before after status

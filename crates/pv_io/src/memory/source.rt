@@ -4,7 +4,7 @@ ghost use Rattle.std.specs.Prelude.{◌≡◌, ◌≤◌, ◌<◌, ◌↔◌, mi
 ghost use Rattle.std.specs.Prelude.{OnErr, ◌++◌, take, drop, []};
 ghost use Rattle.std.specs.Io.{ReadsAtMost};
 ghost use Rattle.std.specs.Io.KnownBytes.{ReadConsumes};
-ghost use Rattle.pv_io.specs.Causes.{CountsFault, MadeCalls};
+ghost use Rattle.pv_io.specs.Causes.{CountsFault, WasAsked, empty_in};
 ghost use Rattle.pv_io.specs.Memory.{no_calls, after_call, FailsNow};
 
 use super::calls::Calls;
@@ -19,6 +19,7 @@ pub struct MemSource {
     bytes: Vec<u8>,
     at: usize,
     most: usize,
+    empty: u64,
     calls: Calls,
 }
 
@@ -28,7 +29,12 @@ impl Model for MemSource {
 
     ghost Value = { HeldInput };
 
-    ghost view = { λ s. record { left = drop s.at s.bytes.items; most = s.most; calls = s.calls } };
+    ghost view = { λ s. record {
+      left = drop s.at s.bytes.items;
+      most = s.most;
+      empty = s.empty;
+      calls = s.calls;
+    } };
 
     ghost invariant = { λ s. (s.at ≤ vec_len s.bytes) × (0 < s.most) };
 }
@@ -44,12 +50,18 @@ impl MemSource {
     ) -> Result<MemSource, NoMemory>
         requires { 0 < most }
         ensures { IfOk result
-            (λ s. s ≡ record { left = bytes.now; most = most; calls = no_calls failing.now }) }
+            (λ s. s ≡ record {
+              left = bytes.now;
+              most = most;
+              empty = 0;
+              calls = no_calls failing.now;
+            }) }
     {
         Ok(MemSource {
             bytes: bytes.to_vec(alloc)?,
             at: 0,
             most,
+            empty: 0,
             calls: Calls::new(alloc, failing)?,
         })
     }
@@ -60,13 +72,15 @@ impl Source for MemSource {
 
     ghost faults = { λ s. s.calls.faults };
 
-    ghost calls = { λ s. s.calls.made };
+    ghost calls = { λ s. record { calls = s.calls.made; empty = s.empty } };
 
     fn fill(&mut self, buf: &mut [u8]) -> Result<usize, Failed>
         ensures bound { ReadsAtMost result buf.new }
         ensures bytes { ReadConsumes (Some self.old.left) (Some self.new.left) result buf.new }
         ensures cause { CountsFault self.old.calls.faults self.new.calls.faults result }
-        ensures calls { MadeCalls 1 self.old.calls.made self.new.calls.made }
+        ensures calls { WasAsked 1 (empty_in result)
+            (record { calls = self.old.calls.made; empty = self.old.empty })
+            (record { calls = self.new.calls.made; empty = self.new.empty }) }
 
         ensures fails { IsErr result ↔ FailsNow self.old.calls }
         ensures size { IfOk result
@@ -80,10 +94,14 @@ impl Source for MemSource {
     {
         if self.calls.begin() {
             self.calls.fail();
+            self.empty = self.empty.saturating_add(1);
             return Err(Failed);
         }
         let left = &self.bytes[self.at..];
         let count = left.len().min(buf.len()).min(self.most);
+        if count == 0 {
+            self.empty = self.empty.saturating_add(1);
+        }
         buf[..count].copy_from_slice(&left[..count]);
         self.at += count;
         Ok(count)

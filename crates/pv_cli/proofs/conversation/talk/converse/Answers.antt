@@ -40,7 +40,7 @@ returns-in_default-fill g c =
     let talk = c.pieces.invariant in
     let so = fails _ _ _ _ _ _ talk.so_far (omega (arith, talk.within)) in
     has_course _ talk.script so.silent false (input_fault so.out) _ _ _ _ _ _ _ so.ends
-    (consumes_kept _ _ _ _ talk.taken c.in_default-fill.ensures.bytes) (asked_once _ _ _ _ talk.asked c.fill.ensures.calls) (not_at_end _) (λ n. refl)
+    (consumes_kept _ _ _ _ talk.taken c.in_default-fill.ensures.bytes) (asked_once _ _ _ _ _ talk.asked c.fill.ensures.calls) (not_at_end _) (λ n. refl)
     (rw talk.input_stays at c.in_default-fill.ensures.cause) (wrote refl refl so.written talk.stays)
     (few_lines talk.script _ _ talk.few)
 
@@ -57,11 +57,11 @@ returns-then-count-eq0 g c =
     elim c.match-finish.branch [
       | in-Ok-finish w ↦
           let so = w.in-Ok-finish.ensures.finished _ talk.script _ within talk.so_far in
-          rw w.result-is (has_course _ talk.script so.silent true (all_told so.out) _ _ _ _ _ _ _ so.ends taken (asked_once _ _ _ _ talk.asked c.fill.ensures.calls) (λ e. bytes.1 c.if-count-eq0.true room) (λ n. refl)
+          rw w.result-is (has_course _ talk.script so.silent true (all_told so.out) _ _ _ _ _ _ _ so.ends taken (asked_once _ _ _ _ _ talk.asked c.fill.ensures.calls) (λ e. bytes.1 c.if-count-eq0.true room) (λ n. refl)
           counts (wrote refl refl so.written (w.in-Ok-finish.ensures.cause ∙ talk.stays)) few)
       | in-Err w ↦
           let so = w.in-Err.ensures.finished _ talk.script _ within talk.so_far in
-          rw w.result-is (has_course _ talk.script so.silent true (all_told so.out) _ _ _ _ _ _ _ so.ends taken (asked_once _ _ _ _ talk.asked c.fill.ensures.calls) (λ e. bytes.1 c.if-count-eq0.true room) (λ n. refl)
+          rw w.result-is (has_course _ talk.script so.silent true (all_told so.out) _ _ _ _ _ _ _ so.ends taken (asked_once _ _ _ _ _ talk.asked c.fill.ensures.calls) (λ e. bytes.1 c.if-count-eq0.true room) (λ n. refl)
           counts (cut_off so.out refl refl so.written (rw talk.stays at w.in-Err.ensures.cause)) few)
     ]
 
@@ -77,7 +77,7 @@ pieces-preserved g c =
       script = talk.script ++ take c.in-Ok-fill.count c.fill.new.buf;
       so_far = rw (c.deref.ensures.value, kept) at next;
       taken = consumes_more _ _ _ _ _ talk.taken c.in-Ok-fill.ensures.bytes.0;
-      asked = asked_more talk.script _ _ _ _ talk.asked c.fill.ensures.calls some;
+      asked = asked_more talk.script _ _ _ _ _ talk.asked c.in-Ok-fill.ensures.calls c.if-count-eq0.false some;
       within = omega (
         arith,
         talk.within,
@@ -102,7 +102,7 @@ returns-in-Ok-Quit g c =
     let ended = rw c.in-Ok-Quit.field-0-is at (c.in-Ok-Quit.ensures.next _ talk.script _ talk.within talk.so_far) in
     let so = rw (c.deref.ensures.value, kept) at ended in
     has_course _ (talk.script ++ take c.in-Ok-fill.count c.fill.new.buf) so.silent false (all_told so.out) _ _ _ _ _ _ _ so.ends
-    (consumes_more _ _ _ _ _ talk.taken c.in-Ok-fill.ensures.bytes.0) (asked_within _ _ _ (asked_more talk.script _ _ _ _ talk.asked c.fill.ensures.calls some)) (not_at_end _) (λ n. refl) (c.in-Ok-fill.ensures.cause ∙ talk.input_stays)
+    (consumes_more _ _ _ _ _ talk.taken c.in-Ok-fill.ensures.bytes.0) (asked_within _ _ _ (asked_more talk.script _ _ _ _ _ talk.asked c.in-Ok-fill.ensures.calls c.if-count-eq0.false some)) (not_at_end _) (λ n. refl) (c.in-Ok-fill.ensures.cause ∙ talk.input_stays)
     (wrote refl refl so.written (c.in-Ok-Quit.ensures.cause ∙ talk.stays))
     (few_lines (talk.script ++ take c.in-Ok-fill.count c.fill.new.buf) _ _ (checked_piece talk.script _ _ _ _ talk.few (rw (c.deref.ensures.value, kept) at c.answer_piece.ensures.steps)))
 
@@ -115,7 +115,7 @@ returns-in-Ok-LineLimit g c =
     let ended = rw c.in-Ok-LineLimit.field-0-is at (c.in-Ok-LineLimit.ensures.next _ talk.script _ talk.within talk.so_far) in
     let so = rw (c.deref.ensures.value, kept) at ended in
     has_course _ (talk.script ++ take c.in-Ok-fill.count c.fill.new.buf) so.silent false (limited so.out (codes "limit line " ++ decimal c.answer_piece.new.reading.number))
-    _ _ _ _ _ _ _ so.ends (consumes_more _ _ _ _ _ talk.taken c.in-Ok-fill.ensures.bytes.0) (asked_within _ _ _ (asked_more talk.script _ _ _ _ talk.asked c.fill.ensures.calls some)) (not_at_end _) (λ n. refl) (c.in-Ok-fill.ensures.cause ∙ talk.input_stays)
+    _ _ _ _ _ _ _ so.ends (consumes_more _ _ _ _ _ talk.taken c.in-Ok-fill.ensures.bytes.0) (asked_within _ _ _ (asked_more talk.script _ _ _ _ _ talk.asked c.in-Ok-fill.ensures.calls c.if-count-eq0.false some)) (not_at_end _) (λ n. refl) (c.in-Ok-fill.ensures.cause ∙ talk.input_stays)
     (writes_from _ _ _ _ _ _ _ (c.in-Ok-LineLimit.ensures.cause ∙ talk.stays) (c.announce_line.ensures _ so.out so.written))
     (few_lines (talk.script ++ take c.in-Ok-fill.count c.fill.new.buf) _ _ (checked_piece talk.script _ _ _ _ talk.few (rw (c.deref.ensures.value, kept) at c.answer_piece.ensures.steps)))
 
@@ -128,7 +128,7 @@ returns-in-Ok-ScriptLimit g c =
     let ended = rw c.in-Ok-ScriptLimit.field-0-is at (c.in-Ok-ScriptLimit.ensures.next _ talk.script _ talk.within talk.so_far) in
     let so = rw (c.deref.ensures.value, kept) at ended in
     has_course _ (talk.script ++ take c.in-Ok-fill.count c.fill.new.buf) so.silent false (limited so.out (codes "limit script"))
-    _ _ _ _ _ _ _ so.ends (consumes_more _ _ _ _ _ talk.taken c.in-Ok-fill.ensures.bytes.0) (asked_within _ _ _ (asked_more talk.script _ _ _ _ talk.asked c.fill.ensures.calls some)) (not_at_end _) (λ n. refl) (c.in-Ok-fill.ensures.cause ∙ talk.input_stays)
+    _ _ _ _ _ _ _ so.ends (consumes_more _ _ _ _ _ talk.taken c.in-Ok-fill.ensures.bytes.0) (asked_within _ _ _ (asked_more talk.script _ _ _ _ _ talk.asked c.in-Ok-fill.ensures.calls c.if-count-eq0.false some)) (not_at_end _) (λ n. refl) (c.in-Ok-fill.ensures.cause ∙ talk.input_stays)
     (writes_from _ _ _ _ _ _ _ (c.in-Ok-ScriptLimit.ensures.cause ∙ talk.stays) (c.announce.ensures _ so.out so.written))
     (few_lines (talk.script ++ take c.in-Ok-fill.count c.fill.new.buf) _ _ (checked_piece talk.script _ _ _ _ talk.few (rw (c.deref.ensures.value, kept) at c.answer_piece.ensures.steps)))
 
@@ -140,6 +140,6 @@ returns-in-Err-answer_piece g c =
     let some : 0 < length (take c.in-Ok-fill.count c.fill.new.buf) = omega (arith, length-take c.in-Ok-fill.count c.fill.new.buf, c.in-Ok-fill.ensures.bound.1, c.if-count-eq0.false) in
     let so = rw (c.deref.ensures.value, kept) at (c.in-Err-answer_piece.ensures.next _ talk.script _ talk.within talk.so_far) in
     has_course _ (talk.script ++ take c.in-Ok-fill.count c.fill.new.buf) so.silent false (output_fault so.out) _ _ _ _ _ _ _ so.ends
-    (consumes_more _ _ _ _ _ talk.taken c.in-Ok-fill.ensures.bytes.0) (asked_within _ _ _ (asked_more talk.script _ _ _ _ talk.asked c.fill.ensures.calls some)) (not_at_end _) (λ n. refl) (c.in-Ok-fill.ensures.cause ∙ talk.input_stays)
+    (consumes_more _ _ _ _ _ talk.taken c.in-Ok-fill.ensures.bytes.0) (asked_within _ _ _ (asked_more talk.script _ _ _ _ _ talk.asked c.in-Ok-fill.ensures.calls c.if-count-eq0.false some)) (not_at_end _) (λ n. refl) (c.in-Ok-fill.ensures.cause ∙ talk.input_stays)
     (cut_off so.out refl refl so.written (rw talk.stays at c.in-Err-answer_piece.ensures.cause))
     (few_lines (talk.script ++ take c.in-Ok-fill.count c.fill.new.buf) _ _ (checked_piece talk.script _ _ _ _ talk.few (rw (c.deref.ensures.value, kept) at c.answer_piece.ensures.steps)))
