@@ -1,5 +1,5 @@
 -- What the tests of a pack show, as a statement. M is the type of a document's marks.
-use Rattle.std.specs.Prelude.{List, ℕ}
+use Rattle.std.specs.Prelude.{List, ℕ, ◌≡◌}
 use Rattle.pv_dtd.specs.Plain.{PlainDtd}
 use Rattle.pv_dtd.specs.Proper.{IsProperDtd}
 use Rattle.pv_tree.specs.Plain.{PlainDoc}
@@ -8,7 +8,8 @@ use Rattle.pv_tree.specs.declared.nodes.Mark.{Mark}
 use Rattle.pv_missing.specs.Completing.{Completes, IsLeast}
 use Rattle.pv_missing.specs.Proper.{IsProperDoc}
 use Rattle.pv_cert.specs.declared.packs.Pack.{Pack}
-use Rattle.pv_verify.specs.Tests.{IsAccepted, IsBodyText}
+use Rattle.pv_verify.specs.Tests.{IsAccepted, IsBodyText, IsRejected}
+use Rattle.pv_verify.specs.declared.answers.Why.{Why}
 
 -- The body is the text of a completion of the document, by as many elements as the total says, and
 -- that is the least number of elements whose insertion makes the document valid.
@@ -23,3 +24,14 @@ pub record IsLeastPack {M : Type 0} (g : PlainDtd) (root : List ℕ) (doc : Plai
 abbrev pub AcceptedIsLeast : (M : Type 0) → Type 0
 AcceptedIsLeast M = (g : PlainDtd) (root : List ℕ) (doc : PlainDoc M) (pack : Pack) →
     IsProperDtd g → IsProperDoc doc → IsAccepted g root doc pack → IsLeastPack g root doc pack
+
+-- a pack fails at most one test first, and is accepted only where it fails none
+pub record HasOneAnswer {M : Type 0} (g : PlainDtd) (root : List ℕ) (doc : PlainDoc M) (pack : Pack)
+    : Type 0 where
+  pub one_first : (test other : Why) → IsRejected g root doc pack test →
+      IsRejected g root doc pack other → test ≡ other
+  pub not_both : (test : Why) → IsRejected g root doc pack test → IsAccepted g root doc pack → ⊥
+
+abbrev pub OneAnswer : (M : Type 0) → Type 0
+OneAnswer M = (g : PlainDtd) (root : List ℕ) (doc : PlainDoc M) (pack : Pack) →
+    HasOneAnswer g root doc pack

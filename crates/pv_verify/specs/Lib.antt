@@ -1,2 +1,4 @@
 pub mod Tests
 pub mod Laws
+pub mod Lookup
+pub mod ClosedForms

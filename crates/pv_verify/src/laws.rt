@@ -1,10 +1,11 @@
-//! What the tests of a pack show, as the contract of a function that does nothing. `M` is the type
-//! of a document's marks.
+//! What the tests of a pack show, each the contract of a function that does nothing. `M` is the
+//! type of a document's marks.
 
-ghost use Rattle.pv_verify.specs.Laws.{AcceptedIsLeast};
+ghost use Rattle.pv_verify.specs.Laws.{AcceptedIsLeast, OneAnswer};
 
 use pv_missing::laws::documents::{some_bounds_law, tags_extend_law};
 use pv_missing::laws::lists::closed_is_bound_law;
+use pv_read::laws::one_meaning_law;
 use pv_tree::laws::lists_ascend_law;
 
 /// What passes all tests is a least completion.
@@ -15,4 +16,11 @@ pub fn certified_law<M>()
     tags_extend_law();
     closed_is_bound_law::<M>();
     lists_ascend_law::<M>();
+}
+
+/// A pack fails at most one test first, and is accepted only where it fails none.
+pub fn one_answer_law<M>()
+    ensures { OneAnswer M }
+{
+    one_meaning_law();
 }
