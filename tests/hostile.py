@@ -96,6 +96,11 @@ def write_small_files(trial):
     trial.listed = listing(names)
 
 
+# Edits of a text in 512 elements, and their replies where each of them has memory or not, with one text for `no memory` and `no history`.
+DEEP_EDITS = ["session", "any.dtd", "a", "deepest.xml"], b"deltext %s\nundo\nredo\n" % b".".join([b"0"] * 513)
+DEEP_REPLIES = [b"ok 1 0\n" * made + b"no history\n" * (3 - made) for made in range(4)]
+
+
 def allows(*answers):
     """A test for one of these answers, or status 5, or 10 where the words don't fit, and nothing written."""
     return lambda status, said: (status, said) in answers or status in (5, 10) and said == NONE
@@ -107,10 +112,14 @@ def runs_with_little_memory(trial):
     trial.write("long.xml", b"<doc>%s</doc>" % text)
     trial.write("deep.dtd", b"<!ELEMENT a (a?)>")
     trial.write("deep.xml", (b"<a>", 512), (b"</a>", 512))
+    trial.write("deepest.xml", (b"<a>", 512), b"x", (b"</a>", 512))
     for words, script, status, said in runs_of():
         yield words, script, allows((status, said))
     for command, said in ("valid", b"valid\n"), ("check", b"valid\n"), ("session", NONE):
         yield [command, "deep.dtd", "a", "deep.xml"], NONE, allows((0, said))
+    # An edit so deep takes 580 KB of stack. Where there is no room for it the system ends the process, as `docs/COMMANDS.md` says.
+    yield DEEP_EDITS[0], DEEP_EDITS[1], lambda status, said: allows()(status, said) or said == NONE and status == -signal.SIGSEGV or \
+        status == 0 and said.replace(b"no memory", b"no history") in DEEP_REPLIES
     yield ["drill", "20000"], NONE, allows((0, b"drill 20000 lines 46666 ok 26666 refused 20000 open 6666 checked 46666\n"))
     yield ["session", "guide.dtd", "doc", "long.xml"], b"\n".join(LINES), lambda status, said: follows(text, status, said)
 
@@ -130,7 +139,8 @@ def try_memory(trial):
                 silent += b"no memory\n" in said
     trial.tell("runs and lines without memory", None if ended > 0 and silent > 0 else f"{ended} runs and {silent} lines alone")
     few = [(resource.RLIMIT_NOFILE, 4), (resource.RLIMIT_NPROC, 0), (resource.RLIMIT_CORE, 0), (resource.RLIMIT_STACK, MB)]
-    runs = [*runs_of(), *(([command, "deep.dtd", "a", "deep.xml"], NONE, 0, b"valid\n") for command in ("valid", "check"))]
+    deep = [([command, "deep.dtd", "a", "deep.xml"], NONE, 0, b"valid\n") for command in ("valid", "check")]
+    runs = [*runs_of(), *deep, (*DEEP_EDITS, 0, DEEP_REPLIES[3])]
     for words, script, status, said in runs:
         trial.expect("few files, no threads and a small stack", words, (status, said), limits=few, script=[script])
 
