@@ -42,3 +42,19 @@ pub fn nested(
     }
     Ok(text)
 }
+
+/// `open`, so many times `piece`, and `close`.
+pub fn repeated(
+    alloc: Global,
+    count: usize,
+    open: &str,
+    piece: &str,
+    close: &str,
+) -> Result<String, AllocError> {
+    let mut text = String::from_str(alloc, open)?;
+    for _ in 0..count {
+        text.push_str(piece)?;
+    }
+    text.push_str(close)?;
+    Ok(text)
+}

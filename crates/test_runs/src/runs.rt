@@ -28,6 +28,8 @@ pub struct Given<'g, 'a> {
     /// The bytes of the input.
     pub input: &'g [u8],
     pub piece: Piece,
+    /// The most bytes that the output holds.
+    pub room: usize,
     /// The numbers of the calls that fail.
     pub failing_fetches: &'g [u64],
     pub failing_fills: &'g [u64],
@@ -35,13 +37,15 @@ pub struct Given<'g, 'a> {
 }
 
 impl<'g, 'a> Given<'g, 'a> {
-    /// These words and files: no input, one byte at once, and no call that fails.
+    /// These words and files: no input, one byte at once, an output of 4,096 bytes, and no call
+    /// that fails.
     pub fn plain(words: &'g [&'a str], files: &'g [(&'a str, &'a str)]) -> Given<'g, 'a> {
         Given {
             words,
             files,
             input: b"",
             piece: Piece { size: 1 },
+            room: 4096,
             failing_fetches: &[],
             failing_fills: &[],
             failing_puts: &[],
@@ -114,7 +118,7 @@ pub fn answer<L: Ledger, R: AllocGlobal + Threads + Sync>(
     let mut input = MemSource::new(alloc, given.input, given.piece.size, given.failing_fills)
         .ok()
         .ok_or("no memory")?;
-    let mut out = MemSink::new(alloc, 4096, given.piece.size, given.failing_puts)
+    let mut out = MemSink::new(alloc, given.room, given.piece.size, given.failing_puts)
         .ok()
         .ok_or("no memory")?;
     let mut steps = Steps::<L>::start(blank);
