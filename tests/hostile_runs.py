@@ -8,8 +8,9 @@ import time
 from hostile_files import KB, MB, NONE
 
 SECONDS = 60
-# The most memory of a run, in MB: what `docs/COMMANDS.md` tells under "Time and memory", and some 80 MB that this test takes itself.
-MEMORY = {"dtd": 100, "valid": 300, "check": 3300, "session": 3300, "drill": 100}
+# The most memory of a run, in MB: what `docs/COMMANDS.md` tells under "Time and memory", and some 80 MB that this test takes itself, with room for the
+# lists that `check` and `session` gather.
+MEMORY = {"dtd": 100, "valid": 300, "check": 5000, "session": 5000, "drill": 100}
 
 
 def feed(file, pieces):

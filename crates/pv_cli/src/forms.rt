@@ -21,6 +21,7 @@ use pv_io::{Shelf, Sink, Source};
 use pv_steps::Steps;
 use std::alloc::Global;
 use std::sync::ledger::Ledger;
+use std::thread::Threads;
 
 /// A command on a DTD: `dtd`.
 pub fn run_on_dtd<H: Shelf>(alloc: Global, shelf: &mut H, name: &str) -> Result<Response, Stop>
@@ -38,6 +39,7 @@ pub fn run_on_dtd<H: Shelf>(alloc: Global, shelf: &mut H, name: &str) -> Result<
 
 // What a verb does once the DTD is opened and the document's bytes are fetched.
 fn do_rest<S: Source, K: Sink, L: Ledger>(
+    rt: &(impl Threads + Sync),
     alloc: Global,
     verb: Verb,
     fetched: Fetched,
@@ -54,13 +56,14 @@ fn do_rest<S: Source, K: Sink, L: Ledger>(
 {
     match verb {
         Verb::Valid => respond(out, valid(alloc, &fetched, root)),
-        Verb::Check => respond(out, check(alloc, fetched, root, steps)),
-        Verb::Session => session(alloc, fetched, root, input, out, steps),
+        Verb::Check => respond(out, check(rt, alloc, fetched, root, steps)),
+        Verb::Session => session(rt, alloc, fetched, root, input, out, steps),
     }
 }
 
 /// A verb on a DTD and a document: opens the files, and does what the verb does.
 pub fn run_on_document<H: Shelf, S: Source, K: Sink, L: Ledger>(
+    rt: &(impl Threads + Sync),
     alloc: Global,
     verb: Verb,
     shelf: &mut H,
@@ -83,7 +86,7 @@ pub fn run_on_document<H: Shelf, S: Source, K: Sink, L: Ledger>(
     ensures files { H.files shelf.new ≡ H.files shelf.old }
 {
     match fetch_files(alloc, shelf, named) {
-        Ok(fetched) => do_rest(alloc, verb, fetched, named.root, input, out, steps),
+        Ok(fetched) => do_rest(rt, alloc, verb, fetched, named.root, input, out, steps),
         Err(stop) => respond(out, Err(stop)),
     }
 }

@@ -12,17 +12,20 @@ ghost use Rattle.pv_tree.specs.PlainDocs.{plain_doc};
 use crate::opening::refuse_path;
 use crate::status::Status;
 use crate::stop::Stop;
-use pv_fresh::PossibleError;
+use pv_fresh::FreshError;
 use pv_missing::Verdicts;
+use pv_parallel::{NoGate, check_doc_par};
 use pv_productive::Grammar;
 use pv_steps::Steps;
 use pv_tree::Doc;
 use std::alloc::Global;
 use std::sync::ledger::Ledger;
+use std::thread::Threads;
 
 /// The verdicts of a document's lists. It refuses where a list is too wide, or no insertions can
 /// make the document valid.
 pub fn verdicts_or_stop<L: Ledger>(
+    rt: &(impl Threads + Sync),
     alloc: Global,
     grammar: &Grammar,
     doc: &Doc,
@@ -35,14 +38,15 @@ pub fn verdicts_or_stop<L: Ledger>(
         (plain_doc doc.now)) 0) }
     ensures steps { steps.new ≤ steps.old + length (lists_of (plain_doc doc.now)) }
 {
-    match pv_fresh::possible_verdicts(alloc, grammar, root, doc, steps) {
-        Ok(verdicts) => Ok(verdicts),
-        Err(PossibleError::TooWide(path)) => {
-            Err(refuse_path(alloc, Status::Limit, b"limit width ", path.places()))
+    let verdicts = match check_doc_par(rt, alloc, grammar, root, doc, &NoGate, steps) {
+        Ok(verdicts) => verdicts,
+        Err(FreshError::TooWide(path)) => {
+            return Err(refuse_path(alloc, Status::Limit, b"limit width ", path.places()));
         }
-        Err(PossibleError::Impossible(path)) => {
-            Err(refuse_path(alloc, Status::Negative, b"impossible ", path.places()))
-        }
-        Err(PossibleError::NoMemory) => Err(Stop::NoMemory),
+        Err(FreshError::NoMemory) => return Err(Stop::NoMemory),
+    };
+    if let Some(path) = verdicts.first_impossible() {
+        return Err(refuse_path(alloc, Status::Negative, b"impossible ", path.places()));
     }
+    Ok(verdicts)
 }

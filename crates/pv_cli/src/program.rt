@@ -32,6 +32,7 @@ fn usage(alloc: Global) -> Result<Response, Stop>
 
 // Runs the command line that the words are.
 fn run_words<H: Shelf, S: Source, K: Sink, L: Ledger>(
+    rt: &(impl Threads + Sync),
     alloc: Global,
     words: &[String],
     shelf: &mut H,
@@ -55,10 +56,10 @@ fn run_words<H: Shelf, S: Source, K: Sink, L: Ledger>(
 {
     match command_line_of(words) {
         Some(CommandLine::OnDocument(verb, named)) => {
-            run_on_document(alloc, verb, shelf, &named, input, out, steps)
+            run_on_document(rt, alloc, verb, shelf, &named, input, out, steps)
         }
         Some(CommandLine::OnDtd(name)) => respond(out, run_on_dtd(alloc, shelf, name)),
-        Some(CommandLine::Drill(n)) => respond(out, drill(alloc, n, steps)),
+        Some(CommandLine::Drill(n)) => respond(out, drill(rt, alloc, n, steps)),
         None => respond(out, usage(alloc)),
     }
 }
@@ -69,7 +70,7 @@ fn run_words<H: Shelf, S: Source, K: Sink, L: Ledger>(
 /// verdicts that `check`, the opening of a session or a drill, and its edits, undos and redos find;
 /// what asks for missing elements counts nothing, and other commands leave it.
 pub fn pvtag<H: Shelf, S: Source, K: Sink, L: Ledger>(
-    _rt: &(impl Threads + Sync),
+    rt: &(impl Threads + Sync),
     alloc: Global,
     words: &[String],
     shelf: &mut H,
@@ -104,5 +105,5 @@ pub fn pvtag<H: Shelf, S: Source, K: Sink, L: Ledger>(
     ensures files { H.files shelf.new ≡ H.files shelf.old }
 {
     guarded_session_law::<S>();
-    run_words(alloc, words, shelf, input, out, steps)
+    run_words(rt, alloc, words, shelf, input, out, steps)
 }

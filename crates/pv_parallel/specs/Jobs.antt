@@ -1,5 +1,6 @@
 -- Lists as pieces of work.
-use Rattle.std.specs.Prelude.{IfErr, IfOk, List, Result, [], length, ◌++◌, ◌∷◌, ◌≡◌, ℕ}
+use Rattle.std.specs.Prelude.{IfErr, IfOk, List, Result, [], length, suc, ◌++◌, ◌∷◌, ◌≡◌, ℕ}
+use Rattle.std.specs.List.{AllByRecursion}
 use Rattle.pv_dtd.specs.Plain.{PlainDtd}
 use Rattle.pv_tree.specs.Lists.{Listed, Owner, an_element, the_document}
 use Rattle.pv_tree.specs.PlainForms.{forest}
@@ -25,16 +26,20 @@ pub record IsJobOf (list : Listed Mark) (job : Job) : Type 0 where
   pub kids : list.kids ≡ forest job.kids.now
   pub holds_one : HoldsOne list.owner list.kids
 
--- the jobs are to judge these lists, in their order
-abbrev pub AreJobs : List (Listed Mark) → List Job → Type 0
-AreJobs [] jobs = jobs ≡ []
-AreJobs (list ∷ lists) jobs = (job : Job) × (rest : List Job) × (jobs ≡ job ∷ rest) ×
-    IsJobOf list job × AreJobs lists rest
+-- the jobs are to judge these lists, in their order, and are numbered from k
+abbrev pub AreJobs : ℕ → List (Listed Mark) → List Job → Type 0
+AreJobs k [] jobs = jobs ≡ []
+AreJobs k (list ∷ lists) jobs = (job : Job) × (rest : List Job) × (jobs ≡ job ∷ rest) ×
+    (job.number ≡ k) × IsJobOf list job × AreJobs (suc k) lists rest
 
 -- those of these lists come behind the jobs before
 abbrev pub Adds : List (Listed Mark) → List Job → List Job → Type 0
 Adds lists before after = (past : List (Listed Mark)) →
-    AreJobs past before → AreJobs (past ++ lists) after
+    AreJobs 0 past before → AreJobs 0 (past ++ lists) after
+
+-- a gate was told the numbers of these jobs
+abbrev pub AreEntered : (ℕ → Type 0) → List Job → Type 0
+AreEntered entered jobs = AllByRecursion (λ job. entered job.number) jobs
 
 -- What came of a list: its verdict; or it is too wide; or want of memory.
 pub record JudgesJob (g : PlainDtd) (root : List ℕ) (job : Job)

@@ -1,6 +1,7 @@
 //! The check of a whole document by several threads.
 
-ghost use Rattle.std.specs.Prelude.{◌≡◌, ◌≤◌, ◌+◌, ◌↔◌, IfErr, IfOk, IsNone, OnOk, length};
+ghost use Rattle.std.specs.Prelude.{◌≡◌, ◌≤◌, ◌<◌, ◌+◌, ◌↔◌, ℕ, IfErr, IfOk, IsNone, OnOk};
+ghost use Rattle.std.specs.Prelude.{length};
 ghost use Rattle.std.specs.List.{AllByRecursion};
 ghost use Rattle.pv_productive.specs.PlainForms.{dtd_of};
 ghost use Rattle.pv_tree.specs.Lists.{lists_of};
@@ -31,7 +32,7 @@ use std::sync::ledger::Ledger;
 use std::thread::Threads;
 
 /// What `check_doc` answers, found by as many threads as there are processors. Of several wants of
-/// memory any may come.
+/// memory any may come. The gate is told the number of each list.
 pub fn check_doc_par<G: Gate + Sync, L: Ledger>(
     rt: &(impl Threads + Sync),
     alloc: Global,
@@ -50,6 +51,8 @@ pub fn check_doc_par<G: Gate + Sync, L: Ledger>(
     ensures refused { IfErr result (HasCause (dtd_of grammar.now) (plain_doc doc.now)) }
     ensures steps { OnOk result (steps.new ≡ steps.old + length (lists_of (plain_doc doc.now))) }
     ensures few_steps { steps.new ≤ steps.old + length (lists_of (plain_doc doc.now)) }
+    ensures entered { OnOk result ((k : ℕ) → k < length (lists_of (plain_doc doc.now)) →
+        G.entered gate.now k) }
 {
     live_lists_law::<Mark>();
     first_impossible_at_law::<Mark>();
@@ -81,6 +84,8 @@ fn judge_lists<G: Gate + Sync, L: Ledger>(
     ensures as_many { IfOk result (λ vs. length vs.items ≡ length (lists_of (plain_doc doc.now))) }
     ensures steps { OnOk result (steps.new ≡ steps.old + length (lists_of (plain_doc doc.now))) }
     ensures few_steps { steps.new ≤ steps.old + length (lists_of (plain_doc doc.now)) }
+    ensures entered { OnOk result ((k : ℕ) → k < length (lists_of (plain_doc doc.now)) →
+        G.entered gate.now k) }
 {
     let jobs = jobs_of(judge.alloc(), doc)?;
     let judged = judge_jobs(rt, judge, root, &jobs, gate)?;

@@ -30,7 +30,7 @@ pub struct Job<'a> {
 
 /// The lists of a document, in document order.
 pub fn jobs_of<'a>(alloc: Global, doc: &'a Doc) -> Result<Vec<Job<'a>>, NoMemory>
-    ensures { IfOk result (λ jobs. AreJobs (lists_of (plain_doc doc.now)) jobs.items) }
+    ensures { IfOk result (λ jobs. AreJobs 0 (lists_of (plain_doc doc.now)) jobs.items) }
 {
     let mut jobs = Vec::new(alloc);
     jobs.push(Job {

@@ -4,7 +4,7 @@ ghost use Rattle.std.specs.Prelude.{◌≡◌, ◌≢◌, ◌≤◌, ◌<◌, �
 ghost use Rattle.std.specs.List.{AllByRecursion, AllZip};
 ghost use Rattle.pv_productive.specs.PlainForms.{dtd_of};
 ghost use Rattle.pv_reach.specs.declared.errors.ReachError.TheVariants.{TooWide as too_wide};
-ghost use Rattle.pv_parallel.specs.Jobs.{JudgesJob};
+ghost use Rattle.pv_parallel.specs.Jobs.{AreEntered, JudgesJob};
 
 use crate::gate::Gate;
 use crate::jobs::{Job, ListOwner};
@@ -57,8 +57,8 @@ fn least_piece(jobs: &[Job<'_>]) -> usize {
     (PIECE / each.max(1)).max(1)
 }
 
-/// Judges lists by as many threads as there are processors; what came of them stands in their
-/// order.
+/// Judges lists by as many threads as there are processors, each behind the gate; what came of them
+/// stands in their order.
 pub fn judge_jobs<G: Gate + Sync>(
     rt: &(impl Threads + Sync),
     judge: &Judge<'_>,
@@ -66,14 +66,16 @@ pub fn judge_jobs<G: Gate + Sync>(
     jobs: &[Job<'_>],
     gate: &G,
 ) -> Result<Vec<Judged>, AllocError>
-    ensures { IfOk result (λ judged.
+    ensures judged { IfOk result (λ judged.
         AllZip (JudgesJob (dtd_of judge.now) root.now) jobs.now judged.items) }
+    ensures entered { OnOk result (AreEntered (G.entered gate.now) jobs.now) }
 {
     jobs.par_iter()
         .with_min_len(least_piece(jobs))
         .map(
             |job: &Job<'_>| -> Judged
-                ensures { JudgesJob (dtd_of judge.entry.now) root.entry.now job.now result }
+                ensures { JudgesJob (dtd_of judge.entry.now) root.entry.now job.now result
+                    × G.entered gate.entry.now job.now.number }
             {
                 gate.enter(job.number);
                 judge_job(judge, root, job)

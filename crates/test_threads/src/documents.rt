@@ -1,4 +1,4 @@
-//! The check of a document by several threads.
+//! The document of a drill, checked by several threads.
 
 ghost use Rattle.std.specs.Prelude.{◌≡◌, ◌<◌};
 
@@ -6,17 +6,35 @@ use pv_drill::{drill_doc, drill_dtd};
 use pv_dtd::read_dtd;
 use pv_fresh::check_doc;
 use pv_missing::Verdicts;
-use pv_parallel::{Gate, NoGate, check_doc_par};
+use pv_parallel::{Gate, check_doc_par};
 use pv_productive::{Grammar, build};
 use pv_read::read_doc;
 use pv_steps::Steps;
 use pv_tree::Doc;
-use std::alloc::Global;
+use std::alloc::{AllocError, Global};
 use std::marker::Brand;
 use std::sync::atomic::{AtomicU64, Ordering};
 use std::sync::ledger::{Blank, Ledger};
 use std::test::Fail;
 use std::thread::Threads;
+
+// Counts how often each number is told.
+#[derive(Drop)]
+struct Told {
+    counts: Vec<AtomicU64>,
+}
+
+impl Gate for Told {
+    ghost use Rattle.std.specs.Prelude.{⊤};
+
+    ghost entered = { λ _ _. ⊤ };
+
+    fn enter(&self, number: u64) {
+        if let Some(count) = self.counts.get(number as usize) {
+            count.fetch_add(1, Ordering::SeqCst);
+        }
+    }
+}
 
 // Waits in the first list until a second one is entered, which another thread has to do.
 #[derive(Drop)]
@@ -26,6 +44,10 @@ struct Second {
 }
 
 impl Gate for Second {
+    ghost use Rattle.std.specs.Prelude.{⊤};
+
+    ghost entered = { λ _ _. ⊤ };
+
     fn enter(&self, _number: u64) {
         if self.entered.fetch_add(1, Ordering::SeqCst) > 0 {
             return;
@@ -39,7 +61,8 @@ impl Gate for Second {
     }
 }
 
-fn one_thread<L: Ledger>(
+/// The verdicts that one thread finds.
+pub fn one_thread<L: Ledger>(
     alloc: Global,
     grammar: &Grammar,
     doc: &Doc,
@@ -53,7 +76,8 @@ fn one_thread<L: Ledger>(
     Ok(check_doc(alloc, grammar, b"doc", doc, &mut steps)?)
 }
 
-fn by_threads<G: Gate + Sync, L: Ledger>(
+/// The verdicts that several threads find, behind this gate.
+pub fn by_threads<G: Gate + Sync, L: Ledger>(
     rt: &(impl Threads + Sync),
     alloc: Global,
     grammar: &Grammar,
@@ -69,12 +93,13 @@ fn by_threads<G: Gate + Sync, L: Ledger>(
     Ok(check_doc_par(rt, alloc, grammar, b"doc", doc, gate, &mut steps)?)
 }
 
-// The first number of a list whose verdicts differ.
-fn first_difference(verdicts: &Verdicts, others: &Verdicts) -> Option<u64> {
+/// The first number of a list whose verdicts differ.
+pub fn first_difference(verdicts: &Verdicts, others: &Verdicts) -> Option<u64> {
     (0..verdicts.len()).find(|k| verdicts.at(*k) != others.at(*k))
 }
 
-fn drill_grammar(alloc: Global) -> Result<Grammar, Fail> {
+/// The grammar of a drill's DTD.
+pub fn drill_grammar(alloc: Global) -> Result<Grammar, Fail> {
     Ok(build(alloc, read_dtd(alloc, drill_dtd())?)?)
 }
 
@@ -83,13 +108,29 @@ fn drill_document(alloc: Global) -> Result<Doc, Fail> {
     Ok(read_doc(alloc, &text, b"doc")?)
 }
 
+fn counts_of(alloc: Global, count: u32) -> Result<Vec<AtomicU64>, AllocError> {
+    let mut counts = Vec::new(alloc);
+    for _ in 0..count {
+        counts.push(AtomicU64::new(0))?;
+    }
+    Ok(counts)
+}
+
 #[test]
 fn threads_give_the_answer_of_one(rt: HostRuntime) -> Result<(), Fail> {
     let alloc = rt.alloc();
     let grammar = drill_grammar(alloc)?;
     let doc = drill_document(alloc)?;
     let wanted = one_thread::<Brand>(alloc, &grammar, &doc, Blank::new(1))?;
-    let found = by_threads::<NoGate, Brand>(&rt, alloc, &grammar, &doc, &NoGate, Blank::new(1))?;
+    let gate = Told {
+        counts: counts_of(alloc, 20_003)?,
+    };
+    let found = by_threads::<Told, Brand>(&rt, alloc, &grammar, &doc, &gate, Blank::new(1))?;
+    assert!(rt;
+        gate.counts
+            .iter()
+            .all(|count| count.load(Ordering::SeqCst) == 1)
+    );
     assert_eq!(rt; found.len(), 20_003);
     assert_eq!(rt; found.left(), 20_000);
     assert!(rt; found.first_impossible().is_none());

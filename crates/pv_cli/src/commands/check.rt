@@ -23,6 +23,7 @@ use pv_steps::Steps;
 use pv_tree::Doc;
 use std::alloc::{AllocError, Global};
 use std::sync::ledger::Ledger;
+use std::thread::Threads;
 
 // So many lists are Possible, and none is Impossible.
 fn possible(alloc: Global, left: u64) -> Result<Response, AllocError>
@@ -37,6 +38,7 @@ fn possible(alloc: Global, left: u64) -> Result<Response, AllocError>
 
 // The number of Possible lists, where inserting elements can make the document valid.
 fn tell<L: Ledger>(
+    rt: &(impl Threads + Sync),
     alloc: Global,
     grammar: &Grammar,
     doc: &Doc,
@@ -47,12 +49,13 @@ fn tell<L: Ledger>(
         opened.doc ≡ plain_doc doc.now → Finds (IsCheckCourse root.now opened) result }
     ensures steps { steps.new ≤ steps.old + length (lists_of (plain_doc doc.now)) }
 {
-    let verdicts = verdicts_or_stop(alloc, grammar, doc, root, steps)?;
+    let verdicts = verdicts_or_stop(rt, alloc, grammar, doc, root, steps)?;
     Ok(possible(alloc, verdicts.left())?)
 }
 
 /// Whether inserting elements can make a document valid for a DTD.
 pub fn check<L: Ledger>(
+    rt: &(impl Threads + Sync),
     alloc: Global,
     fetched: Fetched,
     root: &[u8],
@@ -64,5 +67,5 @@ pub fn check<L: Ledger>(
 {
     let Opened { dtd, doc, .. } = open_document(alloc, fetched, root)?;
     let grammar = build(alloc, dtd)?;
-    tell(alloc, &grammar, &doc, root, steps)
+    tell(rt, alloc, &grammar, &doc, root, steps)
 }

@@ -28,6 +28,7 @@ use pv_session::Session;
 use pv_steps::Steps;
 use std::alloc::{AllocError, Global};
 use std::sync::ledger::Ledger;
+use std::thread::Threads;
 
 /// Counts of the replies to a script.
 #[derive(Clone, Copy)]
@@ -183,7 +184,12 @@ fn tell(alloc: Global, n: u32, counts: Counts, left: u64) -> Result<Response, Al
 }
 
 // The session on the document of the drill.
-fn begin_drill<L: Ledger>(alloc: Global, n: u32, steps: &mut Steps<L>) -> Result<Session, Stop>
+fn begin_drill<L: Ledger>(
+    rt: &(impl Threads + Sync),
+    alloc: Global,
+    n: u32,
+    steps: &mut Steps<L>,
+) -> Result<Session, Stop>
     requires { IsDrillSize n }
     ensures returns { Returns (λ s. s) (drill_stage n) 0 result }
     ensures checks { CountsLists DRILL_ROOT (Some (drill_text n)) (Some 0) steps.old steps.new }
@@ -191,7 +197,7 @@ fn begin_drill<L: Ledger>(alloc: Global, n: u32, steps: &mut Steps<L>) -> Result
     let dtd = dtd_of(alloc, drill_dtd())?;
     let bytes = drill_doc(alloc, n)?;
     let opened = open_document(alloc, Fetched { dtd, bytes }, b"doc")?;
-    begin(alloc, opened, b"doc", steps)
+    begin(rt, alloc, opened, b"doc", steps)
 }
 
 // Answers the script of the drill, and tells the counts of the replies.
@@ -210,12 +216,17 @@ fn answer_drill<L: Ledger>(
 }
 
 /// Answers the script of the drill in a session on its document, and counts the replies.
-pub fn drill<L: Ledger>(alloc: Global, n: u32, steps: &mut Steps<L>) -> Result<Response, Stop>
+pub fn drill<L: Ledger>(
+    rt: &(impl Threads + Sync),
+    alloc: Global,
+    n: u32,
+    steps: &mut Steps<L>,
+) -> Result<Response, Stop>
     requires { IsDrillSize n }
     ensures finds { Finds (IsDrillCourse n) result }
     ensures checks { CountsLists DRILL_ROOT (Some (drill_text n)) (Some (length (drill_lines n)))
         steps.old steps.new }
 {
-    let mut session = begin_drill(alloc, n, steps)?;
+    let mut session = begin_drill(rt, alloc, n, steps)?;
     answer_drill(alloc, &mut session, n, steps)
 }

@@ -26,9 +26,11 @@ use pv_session::Session;
 use pv_steps::Steps;
 use std::alloc::Global;
 use std::sync::ledger::Ledger;
+use std::thread::Threads;
 
 /// Begins a session on these files, where inserting elements can make the document valid.
 pub fn begin<L: Ledger>(
+    rt: &(impl Threads + Sync),
     alloc: Global,
     opened: Opened,
     root: &[u8],
@@ -42,13 +44,14 @@ pub fn begin<L: Ledger>(
 {
     let Opened { dtd, doc, .. } = opened;
     let grammar = build(alloc, dtd)?;
-    let verdicts = verdicts_or_stop(alloc, &grammar, &doc, root, steps)?;
+    let verdicts = verdicts_or_stop(rt, alloc, &grammar, &doc, root, steps)?;
     let root = bytes_of(alloc, root)?;
     Ok(Session::begin(alloc, grammar, root, doc, verdicts)?)
 }
 
 // Reads the document, and begins a session on it.
 fn open_session<L: Ledger>(
+    rt: &(impl Threads + Sync),
     alloc: Global,
     fetched: Fetched,
     root: &[u8],
@@ -58,11 +61,12 @@ fn open_session<L: Ledger>(
     ensures checks { CountsLists root.now (Some fetched.bytes.items) (Some 0) steps.old steps.new }
 {
     let opened = open_document(alloc, fetched, root)?;
-    begin(alloc, opened, root, steps)
+    begin(rt, alloc, opened, root, steps)
 }
 
 /// Reads the document, begins a session, and answers the script.
 pub fn session<S: Source, K: Sink, L: Ledger>(
+    rt: &(impl Threads + Sync),
     alloc: Global,
     fetched: Fetched,
     root: &[u8],
@@ -76,7 +80,7 @@ pub fn session<S: Source, K: Sink, L: Ledger>(
         (output_at (K.written out.old) (K.faults out.old))
         (output_at (K.written out.new) (K.faults out.new)) steps.old steps.new result }
 {
-    let mut session = match open_session(alloc, fetched, root, steps) {
+    let mut session = match open_session(rt, alloc, fetched, root, steps) {
         Ok(session) => session,
         Err(stop) => return respond(out, Err(stop)),
     };

@@ -35,12 +35,12 @@ returns-in-Some-Drill-clause-runs g c =
 pub run_on_document-requires-clause-dtd_named : goal.run_on_document-requires-clause-dtd_named
 run_on_document-requires-clause-dtd_named g c =
     let named = rw c.in-Some-OnDocument.field-0-is at c.in-Some-OnDocument.ensures.named in
-    rw c.requires named.0
+    rw c.requires (λ κs l. named.0)
 
 pub run_on_document-requires-clause-doc_named : goal.run_on_document-requires-clause-doc_named
 run_on_document-requires-clause-doc_named g c =
     let named = rw c.in-Some-OnDocument.field-0-is at c.in-Some-OnDocument.ensures.named in
-    rw c.requires named.1.0
+    rw c.requires (λ κs l. named.1.0)
 
 pub run_on_dtd-requires : goal.run_on_dtd-requires
 run_on_dtd-requires g c =

@@ -1,4 +1,4 @@
-use Rattle.std.proofs.Common.{List, [], ap, arith, drop, refl, sym, ℕ, ◌+◌, ◌++◌, ◌∷◌, ◌≡◌}
+use Rattle.std.proofs.Common.{List, [], ap, arith, drop, length, refl, sym, ℕ, ◌+◌, ◌++◌, ◌∷◌, ◌≡◌}
 use Rattle.std.proofs.lemmas.Result.{on_ok_weaker}
 use Rattle.pv_tree.specs.Lists.{Listed, an_element, lists_at, lists_from}
 use Rattle.pv_tree.specs.Plain.{no_trees}
@@ -30,7 +30,8 @@ pub add_node-returns : goal.add_node-returns
 add_node-returns t c =
     let kids = forest c.in-Elem.kids.items in
     let list : List ℕ → Listed Mark = λ path. record { path = path; owner = an_element c.in-Elem.name; kids = kids } in
-    let own = λ (path : List ℕ). adds_one (list path) c.args.jobs.now.items _ (record { owner = ap an_element (sym c.as_slice.ensures); kids = rw c.deref.ensures.value refl; holds_one = tt }) in
+    let number : c.len.result ≡ length c.args.jobs.now.items = let e = c.len.ensures in omega arith in
+    let own = λ (path : List ℕ). adds_one (list path) c.args.jobs.now.items _ number (record { owner = ap an_element (sym c.as_slice.ensures); kids = rw c.deref.ensures.value refl; holds_one = tt }) in
     rw (c.in-Elem.is, plain-Elem) (on_ok_weaker c.add_kids.result
     (λ more path. adds_both (list path ∷ []) (lists_from path 0 kids) c.args.jobs.now.items c.push.new.self.items c.add_kids.new.jobs.items
     (rw c.in_ok-push.ensures.items (own path)) (rw c.deref-2.ensures.value at (more path))) c.add_kids.ensures)

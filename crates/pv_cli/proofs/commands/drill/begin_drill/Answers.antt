@@ -35,7 +35,7 @@ pub begin-requires-clause-few : goal.begin-requires-clause-few
 begin-requires-clause-few g c = omega (arith, few_nodes DRILL_ROOT _ _ c.in_ok-opened.ensures.0.is_text)
 
 pub begin-requires-clause-prolog : goal.begin-requires-clause-prolog
-begin-requires-clause-prolog g c = c.in_ok-opened.ensures.0.is_text.spelled.is_prolog
+begin-requires-clause-prolog g c κs l = c.in_ok-opened.ensures.0.is_text.spelled.is_prolog
 
 pub returns-clause-returns : goal.returns-clause-returns
 returns-clause-returns g c =

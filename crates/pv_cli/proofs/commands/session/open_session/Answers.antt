@@ -13,7 +13,7 @@ pub begin-requires-clause-few : goal.begin-requires-clause-few
 begin-requires-clause-few g c = omega (arith, few_nodes c.args.root.now _ _ c.in_ok-opened.ensures.0.is_text)
 
 pub begin-requires-clause-prolog : goal.begin-requires-clause-prolog
-begin-requires-clause-prolog g c = c.in_ok-opened.ensures.0.is_text.spelled.is_prolog
+begin-requires-clause-prolog g c κs l = c.in_ok-opened.ensures.0.is_text.spelled.is_prolog
 
 pub returns-in_err-opened-clause-returns : goal.returns-in_err-opened-clause-returns
 returns-in_err-opened-clause-returns g c =
