@@ -3,9 +3,9 @@ use Rattle.std.proofs.Common.{List, [], ap, refl, subst, sym, ◌++◌, ◌∙�
 use Rattle.std.specs.Prelude.{Err, None, Option, Some}
 use Rattle.std.specs.Option.{MatchOption}
 use Rattle.pv_cache.specs.Accepting.{IsAccepted, IsGuarded}
+use Rattle.pv_cache.specs.MarkLaws.{HoldsByOtherMarks}
 use Rattle.pv_cache.specs.Moves.{HasGround, HasOpen, IsEdited, IsReverted}
 use Rattle.pv_cache.specs.Stamps.{StampedDoc, doc_as, stamp_lists}
-use Rattle.pv_cache.proofs.Alike.{accepted_as, guarded_to}
 use Rattle.pv_edit.specs.ChangedLists.{changed_lists, makes, undoes}
 use Rattle.pv_edit.specs.Inverses.{IsKept, LeadsBack, inverse_of, doc_back}
 use Rattle.pv_edit.specs.Laws.{LeadsToOne}
@@ -14,8 +14,6 @@ use Rattle.pv_edit.specs.declared.answers.Done.{Done}
 use Rattle.pv_edit.specs.declared.answers.EditAnswer.{EditAnswer}
 use Rattle.pv_edit.specs.declared.edits.Edit.{Edit}
 use Rattle.pv_edit.specs.declared.inverses.Inverse.{Inverse}
-use Rattle.pv_edit.proofs.RemarkedFacts.{kept-to}
-use Rattle.pv_edit.proofs.RemarkedReasons.{inverse-as}
 use Rattle.pv_session.specs.Answers.{edit_answer}
 use Rattle.pv_session.specs.Keeping.{IsMade, IsSession, KeepsWays, LeadsOn, LeadsTo, opened_doc}
 use Rattle.pv_session.specs.Sessions.{PlainSession, session_on, next_move, stamped_document}
@@ -36,7 +34,7 @@ abbrev pub session_of : StampedDoc → List Edit → List Inverse → List Edit 
 session_of m edits ways gone moves =
     record { dtd = m.dtd; root = m.root; opened = opened_doc ways (unmarked_doc m.doc); past = edits; undone = gone; moves = moves; doc = m.doc }
 
-module _ (one : LeadsToOne Unit) (m : StampedDoc) (edits : List Edit) (ways : List Inverse) (gone : List Edit) (moves : ℕ) (k : KeepsWays (session_of m edits ways gone moves) ways) where
+module _ (one : LeadsToOne Unit) (marks : HoldsByOtherMarks ℕ Unit) (m : StampedDoc) (edits : List Edit) (ways : List Inverse) (gone : List Edit) (moves : ℕ) (k : KeepsWays (session_of m edits ways gone moves) ways) where
   abbrev s : PlainSession
   s = session_of m edits ways gone moves
 
@@ -46,13 +44,13 @@ module _ (one : LeadsToOne Unit) (m : StampedDoc) (edits : List Edit) (ways : Li
   pub is_session : IsSession s
   is_session =
       let steps = replays s.dtd s.root s.opened now edits ways k.past in
-      record { replays = steps; guarded = k.guarded; kept = k.kept; prolog = subst (IsProlog s.root) (same_before s.opened now edits steps) k.prolog }
+      record { replays = steps; guarded = k.guarded; kept = k.kept; same_before = sym (same_before s.opened now edits steps); prolog = subst (IsProlog s.root) (same_before s.opened now edits steps) k.prolog }
 
   guarded_now : IsGuarded s.dtd s.root now
-  guarded_now = guarded_to (λ _. tt) m.doc s.dtd s.root k.guarded
+  guarded_now = marks.guarded (λ _. tt) s.dtd s.root m.doc k.guarded
 
   kept_now : IsKept now.root
-  kept_now = kept-to (λ _. tt) m.doc.root k.kept
+  kept_now = marks.kept (λ _. tt) m.doc.root k.kept
 
   -- ---- an edit
   module _ (edit : Edit) (n : ℕ) (is_next : n ≡ next_move moves) (done : Done) (way : Inverse) (after : StampedDoc) (e : IsEdited m edit n done way after) (guarded : IsGuarded after.dtd after.root after.doc) (kept : IsKept after.doc.root) where
@@ -74,8 +72,8 @@ module _ (one : LeadsToOne Unit) (m : StampedDoc) (edits : List Edit) (ways : Li
     made : IsMade s.dtd s.root now edit way later
     made = record {
       kept = kept_now;
-      accepted = subst (IsAccepted tt s.dtd s.root now edit) (sym is_later) (accepted_as (λ _. tt) 0 s.dtd s.root m.doc edit e.edited e.accepted);
-      is_inverse = inverse-as (λ _. tt) m.doc.root edit ∙ sym e.is_inverse;
+      accepted = subst (IsAccepted tt s.dtd s.root now edit) (sym is_later) (marks.accepted (λ _. tt) 0 s.dtd s.root m.doc e.edited edit e.accepted);
+      is_inverse = marks.inverse (λ _. tt) m.doc.root edit ∙ sym e.is_inverse;
     }
 
     longer : LeadsTo s.dtd s.root s.opened (edits ++ edit ∷ []) (ways ++ way ∷ []) later

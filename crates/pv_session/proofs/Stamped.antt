@@ -4,7 +4,6 @@ use Rattle.pv_edit.specs.Changes.{change_below, change_kid}
 use Rattle.pv_tree.specs.Marks.{unmarked_doc}
 use Rattle.pv_tree.specs.Plain.{Forest, PlainDoc, Tree, cdata_node, element, map_marks, map_marks_all, misc_node, no_trees, text_node, tree, without_marks}
 use Rattle.pv_cache.specs.Stamps.{doc_as, with_mark_at, stamp_lists, with_mark}
-use Rattle.pv_cache.proofs.Alike.{twice}
 
 abbrev bare_all : {M : Type 0} → Forest M → Forest Unit
 bare_all ks = map_marks_all (λ _. tt) ks
@@ -70,11 +69,20 @@ module _ {M : Type 0} where
     all_zero_same no_trees = refl
     all_zero_same (tree t rest) = ap (λ (u : Tree ℕ). tree u (all_zero (bare_all rest))) (zero_same t) ∙ ap (tree (zero_marks t)) (all_zero_same rest)
 
+  -- marked with 0 or not, it is the same without marks
+  mutual
+    bare_zero : (t : Tree M) → without_marks (zero_marks t) ≡ without_marks t
+    bare_zero (element x a e ks m) = ap (λ (k : Forest Unit). element x a e k tt) (all_bare_zero ks)
+    bare_zero (text_node us) = refl
+    bare_zero (cdata_node b) = refl
+    bare_zero (misc_node b) = refl
+
+    all_bare_zero : (ks : Forest M) → bare_all (all_zero ks) ≡ bare_all ks
+    all_bare_zero no_trees = refl
+    all_bare_zero (tree t rest) = ap (λ (u : Tree Unit). tree u (bare_all (all_zero rest))) (bare_zero t) ∙ ap (tree (without_marks t)) (all_bare_zero rest)
+
   pub begun_doc : (doc : PlainDoc M) → doc_as {M = Unit} {N = ℕ} (λ _. 0) (unmarked_doc doc) ≡ doc_as {M = M} {N = ℕ} (λ _. 0) doc
   begun_doc doc = ap (λ (t : Tree ℕ). record { before = doc.before; root = t; after = doc.after; mark = 0 }) (zero_same doc.root)
 
   pub begun_unmarked : (doc : PlainDoc M) → unmarked_doc {M = ℕ} (doc_as {M = M} {N = ℕ} (λ _. 0) doc) ≡ unmarked_doc doc
-  begun_unmarked doc = ap (λ (t : Tree Unit). record { before = doc.before; root = t; after = doc.after; mark = tt }) (again doc.root)
-    where
-      again : (t : Tree M) → without_marks (zero_marks t) ≡ without_marks t
-      again t = twice {M = M} {N = ℕ} (λ _. 0) t
+  begun_unmarked doc = ap (λ (t : Tree Unit). record { before = doc.before; root = t; after = doc.after; mark = tt }) (bare_zero doc.root)

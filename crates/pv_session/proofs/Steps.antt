@@ -7,8 +7,8 @@ use Rattle.pv_edit.specs.Reasons.{Outcome, applied, gives}
 use Rattle.pv_edit.specs.declared.answers.EditAnswer.{EditAnswer}
 use Rattle.pv_edit.specs.declared.answers.EditAnswer.TheVariants as refusal
 use Rattle.pv_edit.specs.declared.edits.Edit.{Edit}
-use Rattle.pv_cache.proofs.OneRows.{one_open}
 use Rattle.pv_cache.specs.GroundLaws.{AcceptedHasNoGround, HasOneGround}
+use Rattle.pv_cache.specs.Laws.{HasOneOpen}
 use Rattle.pv_cache.specs.Moves.{HasOpen}
 use Rattle.pv_session.specs.Laws.{HasOneAnswer, StepsHaveOneAnswer}
 use Rattle.pv_session.specs.Sessions.{PlainSession, Replays, next_move, stamped_document}
@@ -17,8 +17,8 @@ use Rattle.pv_session.proofs.Ways.{one_replay}
 use Rattle.pv_tree.specs.Plain.{PlainDoc}
 
 -- two moves that end alike and changed as many lists
-same_done : (s t : PlainSession) (a b : PlainAnswer) (i j m n : ℕ) → HasOpen (stamped_document s) m → HasOpen (stamped_document t) n → s ≡ t → i ≡ j → a ≡ is_done i m → b ≡ is_done j n → (a ≡ b) × (s ≡ t)
-same_done s t a b i j m n p q e c x y = let l = one_open (stamped_document s) (stamped_document t) m n (ap stamped_document e) p q in (cc, e)
+same_done : HasOneOpen → (s t : PlainSession) (a b : PlainAnswer) (i j m n : ℕ) → HasOpen (stamped_document s) m → HasOpen (stamped_document t) n → s ≡ t → i ≡ j → a ≡ is_done i m → b ≡ is_done j n → (a ≡ b) × (s ≡ t)
+same_done one s t a b i j m n p q e c x y = let l = one (stamped_document t) m n (subst (λ (u : PlainSession). HasOpen (stamped_document u) m) e p) q in (cc, e)
 
 same_given : (o : Outcome ℕ) (x y : PlainDoc ℕ) → o ≡ gives x → o ≡ gives y → x ≡ y
 same_given o x y a b = cc
@@ -37,12 +37,12 @@ module _ (before : PlainSession) (edit : Edit) where
   not_told : (a : PlainAnswer) (x : EditAnswer) → refusal_of x ≡ Some a → x ≡ refusal.NoMemory → ⊥
   not_told a x p e = let z : None ≡ Some a = ap refusal_of (sym e) ∙ p in absurd cc
 
-  module _ (no_ground : AcceptedHasNoGround ℕ ℕ) (one_ground : HasOneGround ℕ) where
+  module _ (one_open : HasOneOpen) (no_ground : AcceptedHasNoGround ℕ ℕ) (one_ground : HasOneGround ℕ) where
     edit_one : (s t : PlainSession) (a b : PlainAnswer) → Is a s → Is b t → (a ≡ b) × (s ≡ t)
     edit_one s t a b (accepted x m p e h q) (accepted y n r f k w) =
         let same = same_given _ x y p.is_edited r.is_edited in
         let z : s ≡ t = e ∙ ap (λ (d : PlainDoc ℕ). record before { past = before.past ++ edit ∷ []; undone = []; moves = next_move before.moves; doc = behind_move before (changed_lists (makes edit)) d }) same ∙ sym f in
-        same_done s t a b _ _ m n h k z refl q w
+        same_done one_open s t a b _ _ m n h k z refl q w
     edit_one s t a b (accepted x m p e h q) (refused y r f k) = absurd (not_told b y f (no_ground 0 0 before.dtd before.root before.doc before.doc edit x y refl p r))
     edit_one s t a b (refused y r f k) (accepted x m p e h q) = absurd (not_told a y f (no_ground 0 0 before.dtd before.root before.doc before.doc edit x y refl p r))
     edit_one s t a b (refused x p e f) (refused y r h k) =
@@ -74,8 +74,8 @@ again before rest edit edited = record before {
   doc = behind_move before (changed_lists (makes edit)) edited;
 }
 
-undo_one : HasOneAnswer IsUndoStep
-undo_one before s t a b (undone x past d m e r c f h w) (undone y past' d' n e' r' c' f' k w') =
+undo_one : HasOneOpen → HasOneAnswer IsUndoStep
+undo_one one_open before s t a b (undone x past d m e r c f h w) (undone y past' d' n e' r' c' f' k w') =
     let same = same_last past past' before.past x y e e' in
     let docs : d ≡ d' = one_replay before.opened d d' past' (subst (λ (p : List Edit). Replays before.opened p d) same.0 r) r' in
     let z : s ≡ t =
@@ -84,13 +84,13 @@ undo_one before s t a b (undone x past d m e r c f h w) (undone y past' d' n e' 
     ∙ ap (λ (u : Edit). behind before past' u d) same.1
     ∙ ap (behind before past' y) docs
     ∙ sym f' in
-    same_done s t a b _ _ m n h k z (ap (λ (u : Edit). length (changed_lists (undoes u))) same.1) w w'
-undo_one before s t a b (undone x past d m e r c f h w) (no_past e' w' f') = absurd (not_empty past before.past x e e')
-undo_one before s t a b (no_past e' w' f') (undone x past d m e r c f h w) = absurd (not_empty past before.past x e e')
-undo_one before s t a b (no_past e w f) (no_past e' w' f') = same_refused before s t a b lacks_history w w' f f'
+    same_done one_open s t a b _ _ m n h k z (ap (λ (u : Edit). length (changed_lists (undoes u))) same.1) w w'
+undo_one one_open before s t a b (undone x past d m e r c f h w) (no_past e' w' f') = absurd (not_empty past before.past x e e')
+undo_one one_open before s t a b (no_past e' w' f') (undone x past d m e r c f h w) = absurd (not_empty past before.past x e e')
+undo_one one_open before s t a b (no_past e w f) (no_past e' w' f') = same_refused before s t a b lacks_history w w' f f'
 
-redo_one : HasOneAnswer IsRedoStep
-redo_one before s t a b (redone x rest d m e r c f h w) (redone y rest' d' n e' r' c' f' k w') =
+redo_one : HasOneOpen → HasOneAnswer IsRedoStep
+redo_one one_open before s t a b (redone x rest d m e r c f h w) (redone y rest' d' n e' r' c' f' k w') =
     let same = same_last rest rest' before.undone x y e e' in
     let given : applied 0 before.doc y ≡ gives d = subst (λ (u : Edit). applied 0 before.doc u ≡ gives d) same.1 r in
     let docs : d ≡ d' = same_given _ d d' given r' in
@@ -100,10 +100,10 @@ redo_one before s t a b (redone x rest d m e r c f h w) (redone y rest' d' n e' 
     ∙ ap (λ (u : Edit). again before rest' u d) same.1
     ∙ ap (again before rest' y) docs
     ∙ sym f' in
-    same_done s t a b _ _ m n h k z (ap (λ (u : Edit). length (changed_lists (makes u))) same.1) w w'
-redo_one before s t a b (redone x rest d m e r c f h w) (none_undone e' w' f') = absurd (not_empty rest before.undone x e e')
-redo_one before s t a b (none_undone e' w' f') (redone x rest d m e r c f h w) = absurd (not_empty rest before.undone x e e')
-redo_one before s t a b (none_undone e w f) (none_undone e' w' f') = same_refused before s t a b lacks_history w w' f f'
+    same_done one_open s t a b _ _ m n h k z (ap (λ (u : Edit). length (changed_lists (makes u))) same.1) w w'
+redo_one one_open before s t a b (redone x rest d m e r c f h w) (none_undone e' w' f') = absurd (not_empty rest before.undone x e e')
+redo_one one_open before s t a b (none_undone e' w' f') (redone x rest d m e r c f h w) = absurd (not_empty rest before.undone x e e')
+redo_one one_open before s t a b (none_undone e w f) (none_undone e' w' f') = same_refused before s t a b lacks_history w w' f f'
 
-pub one_answer : AcceptedHasNoGround ℕ ℕ → HasOneGround ℕ → StepsHaveOneAnswer
-one_answer no_ground one_ground = record { edit = λ edit before s t a b p q. edit_one before edit no_ground one_ground s t a b p q; undo = undo_one; redo = redo_one }
+pub one_answer : HasOneOpen → AcceptedHasNoGround ℕ ℕ → HasOneGround ℕ → StepsHaveOneAnswer
+one_answer one_open no_ground one_ground = record { edit = λ edit before s t a b p q. edit_one before edit one_open no_ground one_ground s t a b p q; undo = undo_one one_open; redo = redo_one one_open }

@@ -10,12 +10,14 @@ use Rattle.pv_tree.specs.Marks.{unmarked_doc}
 use Rattle.pv_tree.specs.Plain.{PlainDoc}
 use Rattle.pv_tree.specs.Prolog.{IsProlog}
 
--- The past edits lead from the opened document to the present one, and this is a document that a
--- session can be on. A DOCTYPE before its root names the session's root.
+-- The past edits lead from the opened document to the present one, which has the same before its
+-- root, and is a document that a session can be on. A DOCTYPE before its root names the session's
+-- root.
 pub record IsSession (s : PlainSession) : Type 0 where
   pub replays : Replays s.opened s.past (unmarked_doc s.doc)
   pub guarded : IsGuarded s.dtd s.root s.doc
   pub kept : IsKept s.doc.root
+  pub same_before : s.doc.before ≡ s.opened.before
   pub prolog : IsProlog s.root s.doc.before
 
 -- an edit is accepted and makes one document of another, and this is its inverse

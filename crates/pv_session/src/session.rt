@@ -5,7 +5,7 @@ ghost use Rattle.std.specs.Prelude.{vec_capacity, vec_len};
 ghost use Rattle.std.specs.List.{AllByRecursion};
 ghost use Rattle.pv_cache.specs.Accepting.{MAX_EDITED_NODES};
 ghost use Rattle.pv_cache.specs.Moves.{HasOpen};
-ghost use Rattle.pv_cache.specs.Rows.{AreRows, IsVerdictAt};
+ghost use Rattle.pv_cache.specs.Rows.{AreRows, IsVerdictAt, TellVerdicts};
 ghost use Rattle.pv_cache.specs.Stamps.{stamps_of};
 ghost use Rattle.pv_cache.specs.WellMarked.{IsWellMarked};
 ghost use Rattle.pv_missing.specs.Verdicts.{HaveVerdicts};
@@ -24,7 +24,7 @@ ghost use Rattle.pv_tree.specs.Prolog.{IsProlog};
 
 use crate::answers::BackAnswer;
 use pv_cache::Marked;
-use pv_cache::laws::accepted_law;
+use pv_cache::laws::{accepted_law, other_marks_law};
 use pv_chars::{Bytes, NoMemory};
 use pv_edit::laws::leads_back_law;
 use pv_edit::{Done, Edit, EditAnswer, Inverse, VerdictRows};
@@ -104,6 +104,7 @@ impl Session {
         ensures steps { steps.new ≤ steps.old + 2 }
     {
         leads_back_law::<()>();
+        other_marks_law::<u64, ()>();
         let Ok(made) = edit.copy(self.alloc) else {
             return Err(EditAnswer::NoMemory);
         };
@@ -128,6 +129,7 @@ impl Session {
         ensures steps { steps.new ≤ steps.old + 2 }
     {
         leads_back_law::<()>();
+        other_marks_law::<u64, ()>();
         let Some(way_back) = self.ways_back.last() else {
             return Err(BackAnswer::NoHistory);
         };
@@ -155,6 +157,7 @@ impl Session {
         ensures steps { steps.new ≤ steps.old + 2 }
     {
         leads_back_law::<()>();
+        other_marks_law::<u64, ()>();
         accepted_law::<(), u64>();
         if self.undone.is_empty() {
             return Err(BackAnswer::NoHistory);
@@ -234,11 +237,19 @@ impl Session {
         self.marked.verdict_rows()
     }
 
+    /// The verdicts of all its lists, in document order; none is Impossible.
+    pub fn verdicts(&self) -> Result<Verdicts, NoMemory>
+        ensures { IfOk result (TellVerdicts (stamped_document self.now)) }
+    {
+        self.marked.verdicts()
+    }
+
     // What it keeps.
     pub(crate) fn kept(&self)
         ensures { IsSession self.now }
     {
         leads_back_law::<()>();
+        other_marks_law::<u64, ()>();
         let _marked = &self.marked;
     }
 }

@@ -6,4 +6,4 @@ use Rattle.pv_session.proofs.session.Session.kept.Goals as goal
 pub returns : goal.returns
 returns c =
     let i = c.self.inside in
-    subst IsSession c.self.view_is (is_session c.leads_back_law.ensures i.marked i.past.items i.ways_back.items i.undone.items i.moves c.self.invariant)
+    subst IsSession c.self.view_is (is_session c.leads_back_law.ensures c.other_marks_law.ensures i.marked i.past.items i.ways_back.items i.undone.items i.moves c.self.invariant)
