@@ -1,17 +1,18 @@
 -- The forms of rules, over the entries that a table lists.
-use Rattle.std.proofs.Common.{◌≡◌, ◌<◌, ◌≤◌, ◌+◌, ◌⊎◌, Bool, true, false, ℕ, List, refl, inl, inr, sym, ◌∙◌, ap, subst, min, length, get_or, arith}
+use Rattle.std.proofs.Common.{◌≡◌, ◌<◌, ◌≤◌, ◌+◌, ◌⊎◌, Bool, true, false, ℕ, List, Some, refl, inl, inr, suc, sym, ◌∙◌, ap, subst, min, length, slice_get, get_or, arith}
 use Rattle.std.specs.List.{Contains}
 use Rattle.std.proofs.lemmas.List.Elements.{All-contains}
 use Rattle.std.proofs.lemmas.List.{get_or_default}
 use Rattle.pv_rules.specs.Derivations.{heaviest}
 use Rattle.pv_rules.specs.PlainForms.{plain_site}
 use Rattle.pv_rules.specs.Rules.{Goal, over}
-use Rattle.pv_rules.specs.Sites.{PlainSite}
+use Rattle.pv_model.specs.Plain.{PlainToken, text}
+use Rattle.pv_rules.specs.Sites.{PlainSite, content_site}
 use Rattle.pv_rules.specs.declared.sites.Site.TheVariants as site
 use Rattle.pv_tables.specs.Values.{listed_value}
 use Rattle.pv_tables.specs.declared.tables.Entry.{Entry}
 use Rattle.pv_tables.proofs.Values.{IsListed, IsUnlisted, listed_cases}
-use Rattle.pv_verify.specs.ClosedForms.{WeighsAsOne, WeighsAsTwo, WeighsBehind}
+use Rattle.pv_verify.specs.ClosedForms.{WeighsAsBehindText, WeighsAsOne, WeighsAsTwo, WeighsBehind}
 use Rattle.pv_verify.specs.Lookup.{AreInOrder, AreLike, IsLike}
 use Rattle.pv_verify.proofs.EntryOrder.{own_value}
 
@@ -127,3 +128,26 @@ module _ (es : List Entry) (o : AreInOrder es) where
         let l = a.like e m in
         let v = like_value true probe e l.0 l.1 in
         subst (λ n. listed_value es (over left e.from j) ≤ min heaviest (n + listed_value es (over second e.to j))) v (h e.from e.to j more behind)
+
+  -- ---- content behind a text
+  module _ (w : List PlainToken) (x : ℕ) (probe : Entry) (site : plain_site probe.site ≡ content_site x) (found : List Entry) (a : AreLike es true probe found) where
+    abbrev pub IsWithinText : Entry → Type 0
+    IsWithinText e = (i : ℕ) → suc i ≡ e.from → slice_get w i ≡ Some text → listed_value es (over (content_site x) i e.to) ≤ e.value
+
+    pub all_text : ((k : ℕ) (d : Entry) → k < length found → IsWithinText (get_or found k d)) → WeighsAsBehindText es w x
+    all_text h i j at = by_case (subst (λ s. ((e : Entry) × Contains found e × (e.from ≡ suc i) × (e.to ≡ j) × (listed_value es (over s (suc i) j) ≡ e.value)) ⊎ (listed_value es (over s (suc i) j) ≡ heaviest)) site (site_cases probe found a (suc i) j))
+      where
+        by_case : ((e : Entry) × Contains found e × (e.from ≡ suc i) × (e.to ≡ j) × (listed_value es (over (content_site x) (suc i) j) ≡ e.value)) ⊎ (listed_value es (over (content_site x) (suc i) j) ≡ heaviest) →
+            listed_value es (over (content_site x) i j) ≤ min heaviest (listed_value es (over (content_site x) (suc i) j))
+        by_case (inl (e, m, f, t, v)) =
+            let b = by_items IsWithinText found h e m i (sym f) at in
+            let c : listed_value es (over (content_site x) i j) ≤ e.value = subst (λ k. listed_value es (over (content_site x) i k) ≤ e.value) t b in
+            let y = is_light (over (content_site x) i j) in omega arith
+        by_case (inr v) = let y = is_light (over (content_site x) i j) in omega arith
+
+    pub text_within : WeighsAsBehindText es w x → (e : Entry) → Contains found e → IsWithinText e
+    text_within h e m i f at =
+        let l = a.like e m in
+        let v = subst (λ s. listed_value es (over s e.from e.to) ≡ e.value) site (like_value true probe e l.0 l.1) in
+        let z : listed_value es (over (content_site x) (suc i) e.to) ≡ e.value = subst (λ k. listed_value es (over (content_site x) k e.to) ≡ e.value) (sym f) v in
+        let b = h i e.to at in omega arith

@@ -1,8 +1,9 @@
 -- The values of a table under the forms that rules have.
-use Rattle.std.specs.Prelude.{Bool, List, min, true, ℕ, ◌+◌, ◌<◌, ◌≡◌, ◌≤◌}
+use Rattle.std.specs.Prelude.{Bool, List, Some, min, slice_get, suc, true, ℕ, ◌+◌, ◌<◌, ◌≡◌, ◌≤◌}
+use Rattle.pv_model.specs.Plain.{PlainToken, named, text}
 use Rattle.pv_rules.specs.Derivations.{heaviest}
 use Rattle.pv_rules.specs.Rules.{over}
-use Rattle.pv_rules.specs.Sites.{PlainSite}
+use Rattle.pv_rules.specs.Sites.{PlainSite, content_site, name_site}
 use Rattle.pv_tables.specs.Values.{listed_value}
 use Rattle.pv_tables.specs.declared.tables.Entry.{Entry}
 
@@ -27,3 +28,14 @@ abbrev pub WeighsAsTwo : List Entry → PlainSite → PlainSite → PlainSite �
 WeighsAsTwo es left first second outer inner = (i k j : ℕ) → (outer ≡ true → i < k) →
     (inner ≡ true → k < j) → listed_value es (over left i j) ≤
     min heaviest (listed_value es (over first i k) + listed_value es (over second k j))
+
+-- content from a text on weighs no more than the content behind the text
+abbrev pub WeighsAsBehindText : List Entry → List PlainToken → ℕ → Type 0
+WeighsAsBehindText es w x = (i j : ℕ) → slice_get w i ≡ Some text →
+    listed_value es (over (content_site x) i j) ≤
+    min heaviest (listed_value es (over (content_site x) (suc i) j))
+
+-- a name that stands in the word weighs nothing there
+abbrev pub KeepsNames : List Entry → List PlainToken → Type 0
+KeepsNames es w = (x i : ℕ) → slice_get w i ≡ Some (named x) →
+    listed_value es (over (name_site x) i (suc i)) ≡ 0
