@@ -43,6 +43,7 @@ head_tree = tag (codes "head") (text_node (units_in (codes "drill")) ∷ [])
 abbrev pub root_tree : List (Tree Unit) → Tree Unit
 root_tree ts = tag (codes "doc") (head_tree ∷ ts)
 
+-- the document with these sections
 abbrev pub drill_doc : List (Tree Unit) → PlainDoc Unit
 drill_doc ts = doc_of (root_tree ts)
 
@@ -69,6 +70,7 @@ abbrev pub own_open : Section → ℕ
 own_open (bare k) = 1
 own_open (wrapped k) = 0
 
+-- how many lists of the sections are Possible
 abbrev pub open_in : List Section → ℕ
 open_in [] = 0
 open_in (s ∷ ss) = own_open s + open_in ss
@@ -83,5 +85,6 @@ verdicts_in [] = []
 verdicts_in (bare k ∷ ss) = verdict.Possible ∷ verdicts_in ss
 verdicts_in (wrapped k ∷ ss) = verdict.Valid ∷ verdict.Valid ∷ verdicts_in ss
 
+-- the verdicts of all lists of the document
 abbrev pub all_verdicts : List Section → List Verdict
 all_verdicts ss = verdict.Valid ∷ verdict.Valid ∷ verdict.Valid ∷ verdicts_in ss

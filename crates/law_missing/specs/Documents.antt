@@ -15,6 +15,7 @@ units_of (b ∷ bs) = (b ∷ []) ∷ units_of bs
 abbrev pub chars : List ℕ → Tree Unit
 chars bytes = text_node (units_of bytes)
 
+-- a document of this root alone
 abbrev pub doc_of : Tree Unit → PlainDoc Unit
 doc_of t = record { before = []; root = t; after = []; mark = tt }
 
@@ -75,6 +76,7 @@ abbrev pub nested_em : ℕ → Tree Unit
 nested_em zero = tag (codes "em") []
 nested_em (suc n) = tag (codes "em") (nested_em n ∷ [])
 
+-- a text of one line end
 abbrev pub newline : Tree Unit
 newline = text_node ((10 ∷ []) ∷ [])
 
@@ -97,6 +99,7 @@ abbrev pub letter_head : Tree Unit
 letter_head = tag (codes "head") (
     text_node (units_of (codes "On caf") ++ codes "&#233;" ∷ units_of (codes "s")) ∷ [])
 
+-- the sec of the letter
 abbrev pub letter_sec : Tree Unit
 letter_sec = element (codes "sec") (attribute 39 (codes "class") (codes "intro")) (tagged [])
     (forest_of (
@@ -109,6 +112,7 @@ letter_sec = element (codes "sec") (attribute 39 (codes "class") (codes "intro")
     element (codes "br") (32 ∷ []) short no_trees tt ∷
     newline ∷ [])) tt
 
+-- the letter
 abbrev pub letter : Tree Unit
 letter = element (codes "doc") (attribute 34 (codes "id") (codes "d1")) (tagged []) (forest_of (
     newline ∷ letter_head ∷ newline ∷ letter_sec ∷ newline ∷
@@ -127,17 +131,20 @@ first_p = tag (codes "p") (
     cdata_node (codes "<![CDATA[<menu>]]>") ∷
     text_node (units_of (codes " below.") ++ (10 ∷ []) ∷ []) ∷ [])
 
+-- and with this second p
 abbrev pub second_p : Tree Unit
 second_p = tag (codes "p") (
     tag (codes "em") (chars (codes "Tea") ∷ []) ∷
     chars (codes " came later.") ∷
     element (codes "br") (32 ∷ []) short no_trees tt ∷ [])
 
+-- the sec with both
 abbrev pub completed_sec : Tree Unit
 completed_sec = element (codes "sec") (attribute 39 (codes "class") (codes "intro")) (tagged [])
     (forest_of (
     tag (codes "title") (chars (codes "Opening") ∷ []) ∷ first_p ∷ second_p ∷ newline ∷ [])) tt
 
+-- and the letter with that sec
 abbrev pub completed_letter : Tree Unit
 completed_letter = element (codes "doc") (attribute 34 (codes "id") (codes "d1")) (tagged [])
     (forest_of (

@@ -10,16 +10,20 @@ use Rattle.pv_dtd.specs.Plain.{PlainDtd}
 abbrev pub doc_model : PlainModel
 doc_model = children (seq (part (name 1) (part (plus (name 2)) no_parts)))
 
+-- that of sec
 abbrev pub sec_model : PlainModel
 sec_model = children (seq (part (opt (name 3))
     (part (star (choice (part (name 4) (part (name 7) no_parts)))) no_parts)))
 
+-- that of list
 abbrev pub list_model : PlainModel
 list_model = children (seq (part (name 8) (part (plus (name 8)) no_parts)))
 
+-- that of item
 abbrev pub item_model : PlainModel
 item_model = children (seq (part (plus (name 4)) no_parts))
 
+-- the DTD of these
 abbrev pub sections_dtd : PlainDtd
 sections_dtd = record {
   names = codes "doc" ∷ codes "head" ∷ codes "sec" ∷ codes "title" ∷ codes "p" ∷ codes "em" ∷

@@ -30,6 +30,7 @@ value_over zero zero k = k
 value_over zero (suc j) k = heaviest
 value_over (suc i) j k = heaviest
 
+-- the table of values of all sites over all spans
 abbrev pub pair_table : ℕ → Goal → ℕ
 pair_table b goal = value_over goal.from goal.to (site_value b goal.site)
 

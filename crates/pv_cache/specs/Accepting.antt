@@ -43,7 +43,7 @@ pub record IsHoldable {M : Type 0} (g : PlainDtd) (doc : PlainDoc M) : Type 0 wh
   pub narrow : AllByRecursion (IsListForVerdict g) (lists_of doc)
   pub few : nodes_in doc.root ≤ MAX_EDITED_NODES
 
--- It can be held, and inserting elements can make it valid.
+-- the document can be held, and inserting elements can make it valid
 pub record IsGuarded {M : Type 0} (g : PlainDtd) (root : List ℕ) (doc : PlainDoc M) : Type 0 where
   pub possible : ∥ IsPotentiallyValid g root (view doc.root) ∥₁
   pub holdable : IsHoldable g doc

@@ -23,8 +23,8 @@ AcceptedHasNoGround M N = (blank : M) (other : N) (g : PlainDtd) (root : List �
     unmarked_doc doc ≡ unmarked_doc same → IsAccepted blank g root doc edit edited →
     HasGround other g root same edit answer → answer ≡ NoMemory
 
--- An edit that can be made, and has no ground to be refused on, is accepted. The lists of the edited
--- document have verdicts.
+-- An edit that can be made, and has no ground to be refused on, is accepted. The lists of the
+-- edited document have verdicts.
 abbrev pub WithoutGroundIsAccepted : Type 0 → Type 0
 WithoutGroundIsAccepted M = (blank : M) (g : PlainDtd) (root : List ℕ) (doc edited : PlainDoc M)
     (edit : Edit) (vs : List Verdict) → IsProperDtd g → IsProperDoc edited →

@@ -24,7 +24,7 @@ abbrev mutual
   marks_in_all no_trees = []
   marks_in_all (tree t rest) = marks_in t ++ marks_in_all rest
 
--- of a document
+-- the marks of a document, in document order
 abbrev pub marks_of : {M : Type 0} → PlainDoc M → List M
 marks_of doc = doc.mark ∷ marks_in doc.root
 

@@ -90,6 +90,6 @@ abbrev mutual
   told_verdicts_in no_trees = []
   told_verdicts_in (tree t rest) = told_verdicts t ++ told_verdicts_in rest
 
--- and those of a document
+-- the verdicts that the marks of a document tell, in document order
 abbrev pub verdicts_told : PlainDoc Mark → List Verdict
 verdicts_told doc = doc.mark.verdict ∷ told_verdicts doc.root

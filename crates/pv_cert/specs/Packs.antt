@@ -68,6 +68,7 @@ abbrev pub last_line : Option PackLine → List PackLine → Option PackLine
 last_line before [] = before
 last_line before (line ∷ lines) = last_line (Some line) lines
 
+-- the bytes of some lines
 abbrev pub lines_text : List PackLine → List ℕ
 lines_text [] = []
 lines_text (line ∷ lines) = line_text line ++ lines_text lines

@@ -1,7 +1,7 @@
 -- The byte order mark of a text in UTF-8 (XML 1.0, section 4.3.3).
 use Rattle.std.specs.Prelude.{◌≡◌, ℕ, List, [], ◌∷◌, ◌++◌}
 
--- U+FEFF in UTF-8
+-- U+FEFF in UTF-8 (XML 1.0, 4.3.3)
 abbrev pub BYTE_ORDER_MARK : List ℕ
 BYTE_ORDER_MARK = 239 ∷ 187 ∷ 191 ∷ []
 

@@ -24,6 +24,7 @@ abbrev pub is_nothing : List ℕ → Bool
 is_nothing [] = true
 is_nothing (b ∷ bs) = false
 
+-- the bytes are Chars
 unfoldable pub is_chars : List ℕ → Bool
 is_chars bytes = is_nothing (behind_all is_char (length bytes) bytes)
 
@@ -47,6 +48,7 @@ unfoldable pub up_to : List ℕ → List ℕ → Option (List ℕ × List ℕ)
 up_to delimiter [] = None
 up_to delimiter (b ∷ bs) = up_to_by b (up_to delimiter bs) (after_bytes delimiter (b ∷ bs))
 
+-- what stands behind the comment in front
 unfoldable pub comment_at : List ℕ → Option (List ℕ)
 comment_at bytes = do
   inside ← after_bytes (codes "<!--") bytes
@@ -61,6 +63,7 @@ may_follow_target (b ∷ bs) = is_space b && is_chars bs
 abbrev pub is_xml : List ℕ → Bool
 is_xml target = bytes_eq (map to_ascii_lowercase target) (codes "xml")
 
+-- what stands behind the processing instruction in front
 unfoldable pub instruction_at : List ℕ → Option (List ℕ)
 instruction_at bytes = do
   start ← after_bytes (codes "<?") bytes
@@ -109,6 +112,7 @@ abbrev pub ended_at : List ℕ → List ℕ → Option (List ℕ)
 ended_at start end =
     if nat_eq (length end) (length start) then None else after_bytes (codes "?>") (after_space end)
 
+-- what stands behind the text declaration in front
 unfoldable pub text_declaration_at : List ℕ → Option (List ℕ)
 text_declaration_at bytes = do
   start ← after_bytes (codes "<?xml") bytes

@@ -20,12 +20,13 @@ is_within c r = nat_le r.first c && nat_le c r.last
 abbrev pub is_in : List Range → ℕ → Bool
 is_in ranges c = list_any (is_within c) ranges
 
--- Char
+-- Char (XML 1.0, 2.2)
 abbrev pub char_ranges : List Range
 char_ranges = from_to 0x9 0x9 ∷ from_to 0xA 0xA ∷ from_to 0xD 0xD ∷ from_to 0x20 0xD7FF ∷
     from_to 0xE000 0xFFFD ∷ from_to 0x10000 0x10FFFF ∷ []
 
--- NameStartChar: `:`, `A` to `Z`, `_`, `a` to `z`, and what other scripts begin names with
+-- NameStartChar: `:`, `A` to `Z`, `_`, `a` to `z`, and what other scripts begin names with (XML
+-- 1.0, 2.3)
 abbrev pub name_start_ranges : List Range
 name_start_ranges =
     from_to 58 58 ∷ from_to 65 90 ∷ from_to 95 95 ∷ from_to 97 122
@@ -34,11 +35,12 @@ name_start_ranges =
     ∷ from_to 0x3001 0xD7FF ∷ from_to 0xF900 0xFDCF ∷ from_to 0xFDF0 0xFFFD ∷
     from_to 0x10000 0xEFFFF ∷ []
 
--- what a NameChar may be besides: `-`, `.`, `0` to `9`, and marks that combine
+-- what a NameChar may be besides: `-`, `.`, `0` to `9`, and marks that combine (XML 1.0, 2.3)
 abbrev pub other_name_ranges : List Range
 other_name_ranges = from_to 45 45 ∷ from_to 46 46 ∷ from_to 48 57 ∷ from_to 0xB7 0xB7 ∷
     from_to 0x300 0x36F ∷ from_to 0x203F 0x2040 ∷ []
 
+-- the code point is a Char (XML 1.0, 2.2)
 abbrev pub is_char : ℕ → Bool
 is_char c = is_in char_ranges c
 
@@ -46,9 +48,11 @@ is_char c = is_in char_ranges c
 abbrev pub is_ascii_char : ℕ → Bool
 is_ascii_char c = is_char c && nat_lt c 128
 
+-- the code point is a NameStartChar (XML 1.0, 2.3)
 abbrev pub is_name_start : ℕ → Bool
 is_name_start c = is_in name_start_ranges c
 
+-- the code point is a NameChar (XML 1.0, 2.3)
 abbrev pub is_name_char : ℕ → Bool
 is_name_char c = is_in (name_start_ranges ++ other_name_ranges) c
 
@@ -72,7 +76,7 @@ pub record AreAll (test : ℕ → Bool) (bytes : List ℕ) : Type 0 where
   pub pass : IsTrue (list_all test codes)
   pub spelled : bytes ≡ encode_utf8_all codes
 
--- Chars, one after the other
+-- Chars, one after the other (XML 1.0, 2.2)
 abbrev pub IsChars : List ℕ → Type 0
 IsChars bytes = AreAll is_char bytes
 

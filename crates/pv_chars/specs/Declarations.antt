@@ -21,7 +21,7 @@ pub record IsQuoted (value bytes : List ℕ) : Type 0 where
   pub not_inside : ContainsBytes value (quote ∷ []) → ⊥
   pub whole : bytes ≡ quote ∷ (value ++ quote ∷ [])
 
--- Eq: S? '=' S?
+-- Eq: S? '=' S? (XML 1.0, 2.8)
 pub record IsEq (bytes : List ℕ) : Type 0 where
   pub before : List ℕ
   pub after : List ℕ
@@ -39,14 +39,14 @@ pub record IsPart (word value bytes : List ℕ) : Type 0 where
   pub is_quoted : IsQuoted value quoted
   pub whole : bytes ≡ space ++ (word ++ (equals ++ quoted))
 
--- VersionNum: `1.` and one or more digits
+-- VersionNum: `1.` and one or more digits (XML 1.0, 2.8)
 pub record IsVersionNum (value : List ℕ) : Type 0 where
   pub digits : List ℕ
   pub some : digits ≢ []
   pub are_digits : IsTrue (list_all is_ascii_digit digits)
   pub whole : value ≡ codes "1." ++ digits
 
--- EncName: here UTF-8 or US-ASCII, in any case
+-- EncName: here UTF-8 or US-ASCII, in any case (XML 1.0, 4.3.3)
 abbrev pub IsEncName : List ℕ → Type 0
 IsEncName value = (map to_ascii_lowercase value ≡ codes "utf-8") ⊎
     (map to_ascii_lowercase value ≡ codes "us-ascii")
@@ -59,13 +59,15 @@ IsYesOrNo value = (value ≡ codes "yes") ⊎ (value ≡ codes "no")
 abbrev pub IsPartOf : List ℕ → (List ℕ → Type 0) → List ℕ → Type 0
 IsPartOf word IsValue bytes = (value : List ℕ) × IsValue value × IsPart word value bytes
 
--- VersionInfo, EncodingDecl and SDDecl
+-- VersionInfo (XML 1.0, 2.8)
 abbrev pub IsVersionInfo : List ℕ → Type 0
 IsVersionInfo = IsPartOf (codes "version") IsVersionNum
 
+-- EncodingDecl (XML 1.0, 4.3.3)
 abbrev pub IsEncodingDecl : List ℕ → Type 0
 IsEncodingDecl = IsPartOf (codes "encoding") IsEncName
 
+-- SDDecl (XML 1.0, 2.9)
 abbrev pub IsStandaloneDecl : List ℕ → Type 0
 IsStandaloneDecl = IsPartOf (codes "standalone") IsYesOrNo
 
@@ -74,7 +76,7 @@ abbrev pub IsOptional : (List ℕ → Type 0) → List ℕ → Type 0
 IsOptional IsItem bytes = (bytes ≡ []) ⊎ IsItem bytes
 
 -- TextDecl, in this project's profile: `<?xml`, then VersionInfo, EncodingDecl and SDDecl, each of
--- which may be left out, but not all, S? and `?>`
+-- which may be left out, but not all, S? and `?>` (XML 1.0, 4.3.1)
 pub record IsTextDecl (bytes : List ℕ) : Type 0 where
   pub version : List ℕ
   pub encoding : List ℕ
@@ -89,7 +91,7 @@ pub record IsTextDecl (bytes : List ℕ) : Type 0 where
       (version ++ (encoding ++ (standalone ++ (space ++ codes "?>"))))
 
 -- XMLDecl: `<?xml`, VersionInfo, EncodingDecl and SDDecl, each of which may be left out, S? and
--- `?>`
+-- `?>` (XML 1.0, 2.8)
 pub record IsXmlDecl (bytes : List ℕ) : Type 0 where
   pub version : List ℕ
   pub encoding : List ℕ

@@ -6,7 +6,7 @@ use Rattle.pv_chars.specs.Characters.{IsChars}
 use Rattle.pv_chars.specs.Names.{IsName}
 use Rattle.pv_chars.specs.Fronts.{ContainsBytes}
 
--- Comment: `<!--`, Chars that hold no `--` and don't end in `-`, `-->`
+-- Comment: `<!--`, Chars that hold no `--` and don't end in `-`, `-->` (XML 1.0, 2.5)
 pub record IsComment (bytes : List ℕ) : Type 0 where
   pub text : List ℕ
   pub are_chars : IsChars text
@@ -14,7 +14,7 @@ pub record IsComment (bytes : List ℕ) : Type 0 where
   pub no_dash_at_end : (front : List ℕ) → text ≡ front ++ codes "-" → ⊥
   pub whole : bytes ≡ codes "<!--" ++ (text ++ codes "-->")
 
--- PITarget: a Name other than `xml` in any case
+-- PITarget: a Name other than `xml` in any case (XML 1.0, 2.6)
 pub record IsTarget (bytes : List ℕ) : Type 0 where
   pub is_name : IsName bytes
   pub not_xml : map to_ascii_lowercase bytes ≡ codes "xml" → ⊥
@@ -31,7 +31,7 @@ pub record IsSpacedChars (bytes : List ℕ) : Type 0 where
 abbrev pub IsBehindTarget : List ℕ → Type 0
 IsBehindTarget bytes = (bytes ≡ []) ⊎ IsSpacedChars bytes
 
--- PI: `<?`, PITarget, then nothing or S and Chars that hold no `?>`, `?>`
+-- PI: `<?`, PITarget, then nothing or S and Chars that hold no `?>`, `?>` (XML 1.0, 2.6)
 pub record IsInstruction (bytes : List ℕ) : Type 0 where
   pub target : List ℕ
   pub behind : List ℕ
@@ -40,7 +40,7 @@ pub record IsInstruction (bytes : List ℕ) : Type 0 where
   pub no_end : ContainsBytes behind (codes "?>") → ⊥
   pub whole : bytes ≡ codes "<?" ++ (target ++ (behind ++ codes "?>"))
 
--- CDSect: `<![CDATA[`, Chars that hold no `]]>`, `]]>`
+-- CDSect: `<![CDATA[`, Chars that hold no `]]>`, `]]>` (XML 1.0, 2.7)
 pub record IsCdata (bytes : List ℕ) : Type 0 where
   pub text : List ℕ
   pub are_chars : IsChars text

@@ -4,7 +4,7 @@ use Rattle.std.specs.List.{list_all}
 use Rattle.std.specs.Str.{chars, is_utf8}
 use Rattle.pv_chars.specs.Characters.{is_name_start, is_name_char, AreAll, BeginsNo}
 
--- Name: one NameStartChar, and then any number of NameChars
+-- Name: one NameStartChar, and then any number of NameChars (XML 1.0, 2.3)
 pub record IsName (bytes : List ℕ) : Type 0 where
   pub first : ℕ
   pub others : List ℕ

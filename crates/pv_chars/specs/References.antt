@@ -24,22 +24,22 @@ pub record IsCharRefIn (base : ℕ) (front bytes : List ℕ) : Type 0 where
   pub is_char : IsTrue (is_char (number base digits))
   pub whole : bytes ≡ front ++ (digits ++ codes ";")
 
--- CharRef: `&#` and decimal digits, or `&#x` and hexadecimal ones, `;`
+-- CharRef: `&#` and decimal digits, or `&#x` and hexadecimal ones, `;` (XML 1.0, 4.1)
 abbrev pub IsCharRef : List ℕ → Type 0
 IsCharRef bytes = IsCharRefIn 10 (codes "&#") bytes ⊎ IsCharRefIn 16 (codes "&#x") bytes
 
--- EntityRef: `&`, this Name, `;`
+-- EntityRef: `&`, this Name, `;` (XML 1.0, 4.1)
 pub record IsEntityRef (name bytes : List ℕ) : Type 0 where
   pub is_name : IsName name
   pub whole : bytes ≡ codes "&" ++ (name ++ codes ";")
 
--- one of the five names that need no declaration (section 4.6)
+-- one of the five names that need no declaration (XML 1.0, 4.6)
 abbrev pub IsPredefined : List ℕ → Type 0
 IsPredefined name = (name ≡ codes "lt") ⊎
     ((name ≡ codes "gt") ⊎
     ((name ≡ codes "amp") ⊎ ((name ≡ codes "apos") ⊎ (name ≡ codes "quot"))))
 
--- Reference: a CharRef or an EntityRef of any name
+-- Reference: a CharRef or an EntityRef of any name (XML 1.0, 4.1)
 abbrev pub IsReference : List ℕ → Type 0
 IsReference bytes = IsCharRef bytes ⊎ ((name : List ℕ) × IsEntityRef name bytes)
 

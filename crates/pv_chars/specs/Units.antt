@@ -27,7 +27,7 @@ pub record IsPredefinedRef (bytes : List ℕ) : Type 0 where
   pub is_predefined : IsPredefined name
   pub is_reference : IsEntityRef name bytes
 
--- a unit: one literal character, or one whole reference
+-- a unit: one literal character, or one whole reference (XML 1.0, 2.4, 4.1)
 abbrev pub IsUnit : List ℕ → Type 0
 IsUnit bytes = IsLiteral bytes ⊎ (IsCharRef bytes ⊎ IsPredefinedRef bytes)
 

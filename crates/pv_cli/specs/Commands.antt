@@ -24,6 +24,7 @@ pub data Test : Type 0 where
   validity : Test
   possibility : Test
 
+-- what each verb tests of its document
 abbrev pub test_of : Verb → Test
 test_of Valid = validity
 test_of Check = possibility

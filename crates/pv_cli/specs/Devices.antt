@@ -28,9 +28,11 @@ pub record Devices (S : Type 0) : Type 0 where
   pub output : OutputNow
   pub checked : ℕ
 
+-- a shelf at one moment
 abbrev pub shelf_at : Option (List (List ℕ × List ℕ)) → ℕ → ℕ → ShelfNow
 shelf_at files calls faults = record { files = files; calls = calls; faults = faults }
 
+-- an input at one moment
 abbrev pub input_at : {S : Type 0} → S → Option (List ℕ) → Asked → ℕ → InputNow S
 input_at source left calls faults = record {
   source = source;
@@ -39,9 +41,11 @@ input_at source left calls faults = record {
   faults = faults;
 }
 
+-- an output at one moment
 abbrev pub output_at : Option (List ℕ) → ℕ → OutputNow
 output_at written faults = record { written = written; faults = faults }
 
+-- the devices at one moment, and how many lists were checked by then
 abbrev pub devices : {S : Type 0} → ShelfNow → InputNow S → OutputNow → ℕ → Devices S
 devices shelf input output checked = record {
   shelf = shelf;

@@ -77,6 +77,7 @@ abbrev pub drill_stage : ℕ → Stage PlainSession
 drill_stage n = followed_by (reading_stage n)
     (λ opened. guarding_stage DRILL_ROOT opened.dtd opened.doc)
 
+-- what `drill` does: the session on its document begins, and the lines are answered and counted
 abbrev pub IsDrillCourse : ℕ → Course → Type 0
 IsDrillCourse n = Behind (drill_stage n) (λ session. Responds (TellsCounts n session))
 

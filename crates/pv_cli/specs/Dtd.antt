@@ -37,15 +37,18 @@ AreNameLines g y (m ∷ ms) lines =
     (line : List ℕ) × (rest : List ℕ) × IsNameLine g y m line × AreNameLines g (suc y) ms rest ×
     (lines ≡ line ++ rest)
 
+-- the line of totals
 abbrev pub totals : PlainDtd → List ℕ
 totals g = codes "types " ++ decimal (declared g) ++ codes " parts " ++
     decimal (parts_in_models g.models) ++ codes " undeclared " ++
     decimal (length g.names - declared g) ++ codes "\n"
 
+-- the response of `dtd`: a line for each declared name, in order, and the line of totals
 pub record TellsDtd (g : PlainDtd) (r : PlainResponse) : Type 0 where
   pub lines : List ℕ
   pub are_lines : AreNameLines g 0 g.models lines
   pub is_response : r ≡ record { status = Done; output = lines ++ totals g }
 
+-- what `dtd` does: it opens the DTD, and responds
 abbrev pub IsDtdCourse : Files → Course → Type 0
 IsDtdCourse files = Behind (dtd_file_stage (file_at 0 files)) (λ g. Responds (TellsDtd g))

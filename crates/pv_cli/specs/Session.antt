@@ -163,6 +163,6 @@ pub data Converses (session : PlainSession) (course : Course) : Type 0 where
       Converses session course
   without_room : course ≡ without_input 0 short_of_memory → Converses session course
 
--- behind the opened files
+-- what `session` does behind the opened files
 abbrev pub IsSessionCourse : List ℕ → PlainOpened → Course → Type 0
 IsSessionCourse root opened = Behind (guarding_stage root opened.dtd opened.doc) Converses

@@ -6,7 +6,8 @@ use Rattle.pv_cli.specs.Course.{no_memory}
 use Rattle.pv_cli.specs.Response.{PlainResponse}
 
 -- What a stage may open and the responses with which it may refuse, where the last of its fetches
--- may fail, and where it may want memory: each with the number of files that it has fetched by then.
+-- may fail, and where it may want memory: each with the number of files that it has fetched by
+-- then.
 pub record Stage (X : Type 0) : Type 1 where
   pub Opens : X → ℕ → Type 0
   pub Refuses : PlainResponse → ℕ → Type 0

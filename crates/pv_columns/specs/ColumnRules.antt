@@ -30,5 +30,6 @@ EndsAreIntervals = (rules : List ColumnRule) (word : List Token) → TokensMayBe
     ReadThrough rules word cs i j → a ≤ b → (a ≡ b) ⊎ ((i ≤ a) × (b ≤ j)) →
     ReadThrough rules word cs a b
 
+-- the rules name no column but these
 abbrev pub InRange : ℕ → List ColumnRule → Type 0
 InRange width rules = All (λ r. (r.left < width) × All (λ c. c < width) r.columns.items) rules

@@ -9,6 +9,7 @@ use Rattle.pv_columns.specs.declared.rules.ColumnRule.{ColumnRule}
 abbrev pub IsMarked : List Bool → ℕ → Type 0
 IsMarked marks c = get_or marks c false ≡ true
 
+-- all of these columns have marks
 abbrev pub AreMarked : List Bool → List ℕ → Type 0
 AreMarked marks cs = AllByRecursion (IsMarked marks) cs
 
@@ -37,6 +38,7 @@ IsAmong d (c ∷ cs) = (d ≡ c) ⊎ IsAmong d cs
 abbrev pub HoldsMark : List Bool → ColumnRule → Type 0
 HoldsMark marks r = r.token ≡ None → AreMarked marks r.columns.items → IsMarked marks r.left
 
+-- no rule marks one column more
 abbrev pub AreClosedMarks : List ColumnRule → List Bool → Type 0
 AreClosedMarks rules marks = (r : ColumnRule) → Contains rules r → HoldsMark marks r
 

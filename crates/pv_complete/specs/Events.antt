@@ -9,12 +9,14 @@ pub data Event : Type 0 where
   old_start : List ℕ → Event
   old_bytes : List ℕ → Event
 
+-- how an event is written: a new element as a pair of tags
 abbrev pub event_text : Event → List ℕ
 event_text (new_start x) = codes "<" ++ x ++ codes ">"
 event_text (new_end x) = codes "</" ++ x ++ codes ">"
 event_text (old_start b) = b
 event_text (old_bytes b) = b
 
+-- what events are written as, one behind the other
 abbrev pub events_text : List Event → List ℕ
 events_text [] = []
 events_text (e ∷ es) = event_text e ++ events_text es
@@ -35,7 +37,8 @@ news (new_end x ∷ es) = news es
 news (old_start b ∷ es) = news es
 news (old_bytes b ∷ es) = news es
 
--- their numbers in document order, where the first element that begins has the number m
+-- the numbers of the new elements in document order, where the first element that begins has the
+-- number m
 abbrev pub marks_from : ℕ → List Event → List ℕ
 marks_from m [] = []
 marks_from m (new_start x ∷ es) = m ∷ marks_from (suc m) es

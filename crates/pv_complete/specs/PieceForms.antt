@@ -9,5 +9,6 @@ plain_piece piece.Kept = kept
 plain_piece (piece.Start id) = start id.0
 plain_piece (piece.End id) = finish id.0
 
+-- the plain forms of pieces
 abbrev pub plain_pieces : List Piece → List PlainPiece
 plain_pieces ps = map plain_piece ps

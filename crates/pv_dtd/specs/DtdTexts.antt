@@ -14,7 +14,8 @@ use Rattle.pv_dtd.specs.Spelling.{Spells, MayStand}
 use Rattle.pv_dtd.specs.Numbering.{dtd_of_items}
 
 -- (markupdecl | S)*: items other than a text declaration, with S? before each and behind the last;
--- no conditional section and no reference of a parameter entity is part of a DTD here
+-- no conditional section and no reference of a parameter entity is part of a DTD here (XML 1.0,
+-- 2.8, extSubsetDecl)
 abbrev pub SpellsDeclarations : List Item → List ℕ → Type 0
 SpellsDeclarations [] text = IsOptionalSpace text
 SpellsDeclarations (i ∷ items) text =
@@ -22,19 +23,19 @@ SpellsDeclarations (i ∷ items) text =
     IsOptionalSpace space × MayStand false i × Spells i first × SpellsDeclarations items others ×
     (text ≡ space ++ first ++ others)
 
--- extSubset: TextDecl? (markupdecl | S)*
+-- extSubset: TextDecl? (markupdecl | S)* (XML 1.0, 2.8, extSubset)
 pub data SpellsSubset (items : List Item) (text : List ℕ) : Type 0 where
   plain : SpellsDeclarations items text → SpellsSubset items text
   behind_declaration : (first others : List ℕ) (more : List Item) →
       items ≡ text_declaration ∷ more → IsTextDecl first → SpellsDeclarations more others →
       text ≡ first ++ others → SpellsSubset items text
 
--- no mixed model lists a name twice
+-- no mixed model lists a name twice (XML 1.0, 3.2.2, No Duplicate Types)
 abbrev pub ListNoneTwice : List Item → Type 0
 ListNoneTwice items = AllByRecursion (λ i. IsTrue (are_distinct (listed_by i))) items
 
 -- A text is this DTD: a byte order mark or none, and then items, of which no two declare the same
--- name and none lists a name twice.
+-- name and none lists a name twice (XML 1.0, 2.8).
 pub record IsDtdText (bytes : List ℕ) (g : PlainDtd) : Type 0 where
   pub items : List Item
   pub rest : List ℕ

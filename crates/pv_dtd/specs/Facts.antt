@@ -36,12 +36,12 @@ is_short n = nat_le (length n) MAX_NAME_BYTES
 abbrev pub are_names : List (List ℕ) → Bool
 are_names names = list_all is_short names && are_distinct names
 
--- each is a Name
+-- each name is a Name (XML 1.0, 2.3)
 abbrev pub AreLegal : List (List ℕ) → Type 0
 AreLegal [] = Unit {0}
 AreLegal (n ∷ ns) = IsName n × AreLegal ns
 
--- a name is one of the DTD
+-- each number that stands in a model is that of a name of the DTD
 abbrev pub are_known : PlainDtd → Bool
 are_known g = list_all (λ y. nat_lt y (length g.names)) (mentions g.models)
 
@@ -63,6 +63,7 @@ members no_parts = 0
 members (part p ps) = suc (members ps)
 
 -- each sequence has a member, each choice two, and no `?`, `*` or `+` stands directly in another
+-- (XML 1.0, 3.2.1)
 abbrev mutual
   pub is_formed : PlainPart → Bool
   is_formed (name y) = true
@@ -93,17 +94,22 @@ abbrev mutual
 abbrev pub MAX_NESTING : ℕ
 MAX_NESTING = 64
 
+-- the particle of a model is formed and within the limit of nesting, and no name is listed twice
+-- (XML 1.0, 3.2.1, 3.2.2)
 abbrev pub is_formed_model : PlainModel → Bool
 is_formed_model empty = true
 is_formed_model any = true
 is_formed_model (mixed ys) = are_distinct_numbers ys
 is_formed_model (children p) = is_formed p && nat_le (nesting p) MAX_NESTING
 
+-- the most declared types
 abbrev pub MAX_TYPES : ℕ
 MAX_TYPES = 4096
 
+-- the most parts of all models
 abbrev pub MAX_PARTS : ℕ
 MAX_PARTS = 65536
 
+-- the most bytes of a DTD
 abbrev pub MAX_DTD_BYTES : ℕ
 MAX_DTD_BYTES = 4194304

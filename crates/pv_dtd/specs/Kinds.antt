@@ -44,10 +44,12 @@ abbrev pub Breaks : Bool → List ℕ → (Item → Bool) → Type 0
 Breaks front place rule =
     (i : Item) × (rest : List ℕ) × StandsAt front place i rest × IsTrue (rule i)
 
--- the item declares one of the names that were declared
+-- the item declares one of the names that were declared (XML 1.0, 3.2, Unique Element Type
+-- Declaration)
 abbrev pub declares_again : List (List ℕ) → Item → Bool
 declares_again declared i = list_any (λ n. list_any (bytes_eq n) declared) (declared_by i)
 
+-- the item lists a name twice in a mixed model (XML 1.0, 3.2.2, No Duplicate Types)
 abbrev pub lists_twice : Item → Bool
 lists_twice i = not (are_distinct (listed_by i))
 

@@ -9,6 +9,7 @@ use Rattle.pv_dtd.specs.declared.errors.DtdError.{DtdError}
 use Rattle.pv_dtd.specs.declared.errors.DtdError.TheVariants.{Syntax, Twice, MixedTwice, Parameter}
 use Rattle.pv_dtd.specs.declared.errors.DtdError.TheVariants.{Limit, NoMemory}
 
+-- the plain form of a DTD
 abbrev pub plain_dtd : Dtd → PlainDtd
 plain_dtd d = dtd_of d.names.keys d.models.items
 

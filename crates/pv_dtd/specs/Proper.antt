@@ -27,7 +27,7 @@ IsFullModel (mixed ys) = Unit {0}
 IsFullModel (children p) = IsFull p
 
 -- the names differ, the declared ones come first, and each sequence of a content model has a
--- member
+-- member (XML 1.0, 3.2.1)
 pub record IsProperDtd (g : PlainDtd) : Type 0 where
   pub distinct : IsTrue (are_distinct g.names)
   pub named : declared g ≤ length g.names

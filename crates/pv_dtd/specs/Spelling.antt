@@ -40,7 +40,7 @@ abbrev mutual
   nesting_of_all (part p ps) = max (nesting_of p) (nesting_of_all ps)
 
 abbrev mutual
-  -- cp, choice and seq, with their operators
+  -- cp, choice and seq, with their operators (XML 1.0, 3.2.1)
   pub SpellsPart : NamedPart → List ℕ → Type 0
   SpellsPart (name n) text = IsName n × (text ≡ n)
   SpellsPart (seq ps) text = SpellsGroup (codes ",") ps text
@@ -52,7 +52,7 @@ abbrev mutual
   SpellsPart (plus p) text =
       (inner : List ℕ) × IsBare p × SpellsPart p inner × (text ≡ inner ++ codes "+")
 
-  -- '(' S? cp (S? separator S? cp)* S? ')'
+  -- '(' S? cp (S? separator S? cp)* S? ')' (XML 1.0, 3.2.1)
   pub SpellsGroup : List ℕ → NamedParts → List ℕ → Type 0
   SpellsGroup separator no_parts text = ⊥
   SpellsGroup separator (part p ps) text =
@@ -61,7 +61,7 @@ abbrev mutual
       IsOptionalSpace after ×
       (text ≡ codes "(" ++ before ++ first ++ others ++ after ++ codes ")")
 
-  -- (S? separator S? cp)*
+  -- (S? separator S? cp)* (XML 1.0, 3.2.1)
   pub SpellsOthers : List ℕ → NamedParts → List ℕ → Type 0
   SpellsOthers separator no_parts text = text ≡ []
   SpellsOthers separator (part p ps) text =
@@ -79,7 +79,7 @@ IsGroup (opt p) = IsGroup p
 IsGroup (star p) = IsGroup p
 IsGroup (plus p) = IsGroup p
 
--- (S? '|' S? Name)*
+-- (S? '|' S? Name)* (XML 1.0, 3.2.2)
 abbrev pub SpellsListed : List (List ℕ) → List ℕ → Type 0
 SpellsListed [] text = text ≡ []
 SpellsListed (n ∷ ns) text =
@@ -87,7 +87,7 @@ SpellsListed (n ∷ ns) text =
     IsOptionalSpace before × IsOptionalSpace after × IsName n × SpellsListed ns others ×
     (text ≡ before ++ codes "|" ++ after ++ n ++ others)
 
--- '(' S? '#PCDATA' (S? '|' S? Name)* S? end
+-- '(' S? '#PCDATA' (S? '|' S? Name)* S? end (XML 1.0, 3.2.2)
 pub record SpellsMixed (names : List (List ℕ)) (end text : List ℕ) : Type 0 where
   pub before : List ℕ
   pub listed : List ℕ
@@ -97,7 +97,7 @@ pub record SpellsMixed (names : List (List ℕ)) (end text : List ℕ) : Type 0 
   pub space_after : IsOptionalSpace after
   pub whole : text ≡ codes "(" ++ before ++ codes "#PCDATA" ++ listed ++ after ++ end
 
--- contentspec; a mixed model that lists no name may stand without its `*`
+-- contentspec; a mixed model that lists no name may stand without its `*` (XML 1.0, 3.2)
 abbrev pub SpellsModel : NamedModel → List ℕ → Type 0
 SpellsModel empty text = text ≡ codes "EMPTY"
 SpellsModel any text = text ≡ codes "ANY"
@@ -105,7 +105,7 @@ SpellsModel (mixed names) text =
     SpellsMixed names (codes ")*") text ⊎ ((names ≡ []) × SpellsMixed names (codes ")") text)
 SpellsModel (children p) text = IsGroup p × SpellsPart p text
 
--- elementdecl: '<!ELEMENT' S Name S contentspec S? '>'
+-- elementdecl: '<!ELEMENT' S Name S contentspec S? '>' (XML 1.0, 3.2)
 pub record SpellsElement (name : List ℕ) (model : NamedModel) (text : List ℕ) : Type 0 where
   pub before_name : List ℕ
   pub before_spec : List ℕ
@@ -142,7 +142,8 @@ abbrev pub IsSkippedWord : List ℕ → Type 0
 IsSkippedWord word =
     (word ≡ codes "<!ATTLIST") ⊎ (word ≡ codes "<!ENTITY") ⊎ (word ≡ codes "<!NOTATION")
 
--- A skipped declaration: one of the words, S, Chars and literals in quotes, '>'.
+-- A skipped declaration: one of the words, S, Chars and literals in quotes, '>' (XML 1.0, 3.3, 4.2,
+-- 4.7).
 pub record SpellsSkipped (text : List ℕ) : Type 0 where
   pub word : List ℕ
   pub before : List ℕ
@@ -153,6 +154,7 @@ pub record SpellsSkipped (text : List ℕ) : Type 0 where
   pub is_inside : IsQuotedText may_not_be_skipped inside
   pub whole : text ≡ word ++ before ++ inside ++ codes ">"
 
+-- how an item is written (XML 1.0, 2.5, 2.6, 3.2, 4.3.1)
 abbrev pub Spells : Item → List ℕ → Type 0
 Spells text_declaration text = IsTextDecl text
 Spells (element n model) text = SpellsElement n model text

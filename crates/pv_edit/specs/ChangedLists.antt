@@ -6,10 +6,12 @@ use Rattle.pv_edit.specs.declared.edits.Edit.{Edit}
 use Rattle.pv_edit.specs.declared.edits.Edit.TheVariants.{Wrap, Insert, Unwrap, Rename, Split, Join}
 use Rattle.pv_edit.specs.declared.edits.Edit.TheVariants.{SetText, AddText, DelText}
 
+-- an edit is made, or it is undone
 pub data Move : Type 0 where
   makes : (edit : Edit) → Move
   undoes : (edit : Edit) → Move
 
+-- the lists that a move changes, by their paths behind it
 abbrev pub changed_lists : Move → List (List ℕ)
 changed_lists (makes (Wrap path from to name)) = path ∷ (path ++ from ∷ []) ∷ []
 changed_lists (makes (Insert path at name)) = path ∷ (path ++ at ∷ []) ∷ []

@@ -86,5 +86,6 @@ abbrev pub root_after : {M : Type 0} → List ℕ → Change M → Tree M → Tr
 root_after [] c root = first_tree root (list_after c (root ∷ []))
 root_after (i ∷ path) c root = change_below path (owner_after c) root
 
+-- the document after a change
 abbrev pub doc_after : {M : Type 0} → Change M → PlainDoc M → PlainDoc M
 doc_after c doc = record doc { root = root_after c.list c doc.root }

@@ -4,6 +4,7 @@ use Rattle.pv_edit.specs.declared.edits.Edit.{Edit}
 use Rattle.pv_edit.specs.declared.edits.Edit.TheVariants.{Wrap, Insert, Unwrap, Rename, Split, Join}
 use Rattle.pv_edit.specs.declared.edits.Edit.TheVariants.{SetText, AddText, DelText}
 
+-- how many nodes an edit makes
 abbrev pub nodes_made : Edit → ℕ
 nodes_made (Wrap path from to name) = 1
 nodes_made (Insert path at name) = 1
@@ -15,6 +16,7 @@ nodes_made (SetText path text) = 0
 nodes_made (AddText path at text) = 1
 nodes_made (DelText path) = 0
 
+-- how many nodes an edit takes away
 abbrev pub nodes_taken : Edit → ℕ
 nodes_taken (Wrap path from to name) = 0
 nodes_taken (Insert path at name) = 0

@@ -15,6 +15,7 @@ use Rattle.pv_edit.specs.declared.tasks.Task.{Task}
 use Rattle.pv_edit.specs.declared.filling.Filling.{Filling}
 use Rattle.pv_edit.specs.declared.filling.Filling.TheVariants.{Others, Around, Inner, Named}
 
+-- the plain form of what comes in place of trees
 abbrev pub plain_filling : Filling → plain_changes.Filling Mark
 plain_filling (Others nodes) = plain_changes.others (plain_all nodes.items)
 plain_filling (Around name attrs e) = plain_changes.around name attrs (plain_end e) blank_mark
@@ -43,6 +44,7 @@ plain_change list c = record {
   shorten = c.shorten;
 }
 
+-- the plain form of a change of one list
 abbrev pub plain_task : Task → plain_changes.Change Mark
 plain_task task = plain_change task.list task.change
 

@@ -61,6 +61,6 @@ is_line_end b = (b == 13) || (b == 10)
 abbrev pub is_new_text : List ℕ → Bool
 is_new_text bytes = is_character_data bytes && not (list_any is_line_end bytes)
 
--- its units
+-- the units of a new text
 abbrev pub new_units : List ℕ → List (List ℕ)
 new_units bytes = units_in bytes

@@ -7,6 +7,7 @@ use Rattle.pv_edit.specs.declared.edits.Edit.{Edit}
 use Rattle.pv_edit.specs.declared.edits.Edit.TheVariants.{Wrap, Insert, Unwrap, Rename, Split, Join}
 use Rattle.pv_edit.specs.declared.edits.Edit.TheVariants.{SetText, AddText, DelText}
 
+-- the texts, CDATA sections, comments and processing instructions in a tree, in document order
 abbrev mutual
   pub leaves_in : {M : Type 0} → Tree M → List (Tree Unit)
   leaves_in (element x attrs ending kids mark) = leaves_in_all kids
@@ -14,6 +15,7 @@ abbrev mutual
   leaves_in (cdata_node bytes) = cdata_node bytes ∷ []
   leaves_in (misc_node bytes) = misc_node bytes ∷ []
 
+  -- and in trees side by side
   pub leaves_in_all : {M : Type 0} → Forest M → List (Tree Unit)
   leaves_in_all no_trees = []
   leaves_in_all (tree t rest) = leaves_in t ++ leaves_in_all rest

@@ -18,6 +18,7 @@ abbrev pub IsRefused : {M : Type 0} → Outcome M → EditError → Type 0
 IsRefused given (Shape r) = given ≡ refuses r
 IsRefused given NoMemory = Unit {0}
 
+-- the outcome is a document
 abbrev pub IsGiven : {M : Type 0} → Outcome M → Type 0
 IsGiven {M = M} given = (doc : PlainDoc M) × (given ≡ gives doc)
 

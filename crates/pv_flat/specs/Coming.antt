@@ -24,10 +24,11 @@ use Rattle.pv_flat.specs.declared.faults.Fault.TheVariants as fault
 use Rattle.pv_flat.specs.declared.state.Stage.{Stage}
 use Rattle.pv_flat.specs.declared.state.Stage.TheVariants as stage
 
--- the limits of a text that is read by events: none on depth, and a gibibyte
+-- the most bytes of a text that is read by events, a gibibyte
 abbrev pub MAX_FLAT_BYTES : ℕ
 MAX_FLAT_BYTES = 1073741824
 
+-- elements stand at any depth, and there is at most a gibibyte
 abbrev pub flat_limits : TextLimits
 flat_limits = record { depth = None; bytes = MAX_FLAT_BYTES }
 
@@ -125,7 +126,7 @@ IsKept DoctypeName old new = new.stage ≡ stage.Failed fault.DoctypeName
 IsKept (Deep k) old new = new.stage ≡ stage.Failed (fault.Deep k)
 IsKept Limit old new = new.stage ≡ stage.Failed fault.Limit
 
--- what an answer tells
+-- what an answer of a reader tells: an event, the end, or an error
 abbrev pub AnswersNext : Events → Result (Option Event) DocError → Events → Type 0
 AnswersNext old (Ok None) new = LeadsBy [] old new × (new.stage ≡ stage.Ended)
 AnswersNext old (Ok (Some e)) new = LeadsBy (plain_event e ∷ []) old new

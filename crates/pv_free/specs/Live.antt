@@ -39,5 +39,6 @@ IsLiveToken g (named y) = IsLive g (name_site y)
 IsLiveToken g text = Unit {0}
 IsLiveToken g other = Unit {0}
 
+-- each name in the word is live
 abbrev pub AreLive : PlainDtd → List PlainToken → Type 0
 AreLive g w = AllByRecursion (IsLiveToken g) w

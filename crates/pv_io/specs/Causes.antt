@@ -25,6 +25,7 @@ pub record Asked : Type 0 where
   pub calls : ℕ
   pub empty : ℕ
 
+-- an input that was never asked
 abbrev pub never_asked : Asked
 never_asked = record { calls = 0; empty = 0 }
 

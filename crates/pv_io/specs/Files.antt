@@ -58,6 +58,7 @@ byte_lists texts = map (λ w. string_bytes w) texts
 abbrev pub file_with_name : String Global × Vec ℕ Global → List ℕ × List ℕ
 file_with_name file = (string_bytes file.0, file.1.items)
 
+-- files with their names, as the bytes of both
 abbrev pub named_files : List (String Global × Vec ℕ Global) → List (List ℕ × List ℕ)
 named_files files = map file_with_name files
 

@@ -16,12 +16,13 @@ pub data IsLiveWord (g : PlainDtd) : List PlainToken → List PlainToken → Typ
   live_text : (w w' : List PlainToken) → IsLiveWord g w w' → IsLiveWord g (text ∷ w) (text ∷ w')
   live_other : (w w' : List PlainToken) → IsLiveWord g w w' → IsLiveWord g (other ∷ w) (other ∷ w')
 
--- each name in the word is productive
+-- the token stands for an element of a productive name, or for none of the DTD
 abbrev pub IsProductiveToken : PlainDtd → PlainToken → Type 0
 IsProductiveToken g (named y) = IsProductive g y
 IsProductiveToken g text = Unit {0}
 IsProductiveToken g other = Unit {0}
 
+-- each name in the word is productive
 abbrev pub AreProductiveTokens : PlainDtd → List PlainToken → Type 0
 AreProductiveTokens g w = AllByRecursion (IsProductiveToken g) w
 

@@ -22,6 +22,7 @@ uncut_before t h = shown_before put_whole t h
 abbrev pub uncut_all : {M : Type 0} → Forest M → Hedge
 uncut_all kids = shown_all put_whole kids
 
+-- the hedge of a tree, each text of which is one leaf, which no insertion cuts
 abbrev pub uncut : {M : Type 0} → Tree M → Hedge
 uncut t = uncut_before t done
 
@@ -44,7 +45,7 @@ keep_if keep (data_unit b) h = leaf (data_unit b) h
 keep_if keep (cdata b) h = leaf (cdata b) h
 
 -- the hedge without its white units and misc, but for those in elements that are to be empty;
--- `keep` says whether its owner is such a one
+-- `keep` says whether its owner is such a one (XML 1.0, 2.10; 3, Element Valid)
 abbrev pub bare : PlainDtd → Bool → Hedge → Hedge
 bare g keep done = done
 bare g keep (leaf l h) = keep_if keep l (bare g keep h)

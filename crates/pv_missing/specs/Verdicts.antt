@@ -112,7 +112,7 @@ pub record PlainVerdicts : Type 0 where
   pub verdicts : List Verdict
   pub first : Option (List ℕ)
 
--- these lists have them
+-- these lists have these verdicts
 pub record HaveVerdicts {M : Type 0} (g : PlainDtd) (root : List ℕ) (lists : List (Listed M))
     (vs : PlainVerdicts) : Type 0 where
   pub are_verdicts : AreVerdicts g root lists vs.verdicts

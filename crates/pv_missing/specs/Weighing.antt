@@ -70,7 +70,7 @@ pub record IsBoundAt {M : Type 0} (g : PlainDtd) (root : List ℕ) (lists : List
 abbrev pub AscendBounds : List BoundAt → Type 0
 AscendBounds bs = AllPairs (λ b c. IsPathBefore b.path c.path) bs
 
--- their sum
+-- the sum of some bounds
 abbrev pub sum_of_bounds : List BoundAt → ℕ
 sum_of_bounds [] = 0
 sum_of_bounds (b ∷ bs) = b.bound + sum_of_bounds bs

@@ -13,13 +13,15 @@ columns_of g = parts_in_models g.models + length g.names
 abbrev pub FitsVerdict : PlainDtd → ℕ → Type 0
 FitsVerdict g n = suc n * columns_of g ≤ 67108864
 
--- nor for weights: a number for each column and each span of the word
+-- a word of n tokens isn't too wide for weights: a number for each column and each span of the word
 abbrev pub FitsWeights : PlainDtd → ℕ → Type 0
 FitsWeights g n = suc n * suc (suc n) / 2 * columns_of g ≤ 16777216
 
+-- the list isn't too wide for a verdict
 abbrev pub IsListForVerdict : {M : Type 0} → PlainDtd → Listed M → Type 0
 IsListForVerdict g list = FitsVerdict g (length (word_of g list.kids))
 
+-- the list isn't too wide for weights
 abbrev pub IsListForWeights : {M : Type 0} → PlainDtd → Listed M → Type 0
 IsListForWeights g list = FitsWeights g (length (word_of g list.kids))
 

@@ -13,6 +13,7 @@ use Rattle.pv_missing.specs.LiveWords.{IsLiveWord}
 use Rattle.pv_missing.specs.Verdicts.{Judges}
 use Rattle.pv_tree.specs.declared.nodes.Verdict.{Verdict}
 
+-- there are no kids of any kind
 abbrev pub has_no_trees : {M : Type 0} → Forest M → Bool
 has_no_trees no_trees = true
 has_no_trees (tree t rest) = false

@@ -2,7 +2,7 @@
 use Rattle.std.specs.Prelude.{ℕ, Bool, List}
 
 -- How a text is read. The file is read in mode Between; a parameter declaration stands in it before
--- the rest, or none.
+-- the rest, or none (XML 1.0, 4.4).
 pub data Mode : Type 0 where
   file : (after_parameter : Bool) → Mode
   between : Mode
@@ -11,7 +11,7 @@ pub data Mode : Type 0 where
 
 -- What an item asks for: these bytes are put into the result; the text of the entity of this name
 -- is read; an entity of this name is declared, with this value in its quotes;
--- a declaration with this word is copied, what it holds behind the word is read.
+-- a declaration with this word is copied, what it holds behind the word is read (XML 1.0, 4.4).
 pub data Item : Type 0 where
   puts : (bytes : List ℕ) → Item
   reference : (name : List ℕ) → Item

@@ -16,6 +16,7 @@ pub data Fault : Type 0 where
   syntax : Fault
 
 -- ---- what was read so far
+-- an entity: its name, and its text (XML 1.0, 4.2)
 pub record Entity : Type 0 where
   pub name : List ℕ
   pub text : List ℕ
@@ -28,7 +29,7 @@ pub record SoFar : Type 0 where
   pub placed : ℕ
   pub result : List ℕ
 
--- the text of the first entity of this name
+-- the text of the first entity of this name (XML 1.0, 4.2)
 abbrev pub text_of : List ℕ → List Entity → Option (List ℕ)
 text_of name [] = None
 text_of name (e ∷ es) = if bytes_eq name e.name then Some e.text else text_of name es
@@ -64,7 +65,7 @@ put bytes before = record {
 }
 
 -- ---- a reference that is read
--- its first fault
+-- the first fault of a reference that is read (XML 1.0, 4.1, No Recursion, Entity Declared)
 pub data Refuses (mode : Mode) (reading : List (List ℕ)) (before : SoFar) (name : List ℕ) : Fault →
     Type 0 where
   no_entity : text_of name before.declared ≡ None → Refuses mode reading before name undeclared
@@ -77,7 +78,7 @@ pub data Refuses (mode : Mode) (reading : List (List ℕ)) (before : SoFar) (nam
       is_being_read name reading ≡ false → passes_limit before text ≡ false →
       mode ≡ inside → (IsInside text → ⊥) → Refuses mode reading before name syntax
 
--- it has none, and this is the text
+-- a reference that is read has no fault, and this is its text
 pub record Enters (mode : Mode) (reading : List (List ℕ)) (before : SoFar) (name text : List ℕ) :
     Type 0 where
   pub is_text : text_of name before.declared ≡ Some text
@@ -155,7 +156,7 @@ with_no_result before = record {
   result = [];
 }
 
--- the item at the front of the rest has this text read within
+-- the item at the front of the rest has this text read within (XML 1.0, 4.4.8, 4.5)
 pub data Opens (mode : Mode) (reading : List (List ℕ)) (before : SoFar) (rest : List ℕ) : Within →
     Type 0 where
   of_reference : {name text more : List ℕ} → StandsAt mode rest (reference name) more →

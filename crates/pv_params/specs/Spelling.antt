@@ -12,7 +12,7 @@ use Rattle.pv_chars.specs.References.{number, IsCharRefIn, IsEntityRef}
 use Rattle.pv_params.specs.Items.{Mode, file, between, inside, value, Item, puts, reference}
 use Rattle.pv_params.specs.Items.{parameter, declaration}
 
--- PEReference: `%`, this Name, `;`
+-- PEReference: `%`, this Name, `;` (XML 1.0, 4.1)
 pub record IsPEReference (name bytes : List ℕ) : Type 0 where
   pub is_name : IsName name
   pub whole : bytes ≡ codes "%" ++ (name ++ codes ";")
@@ -73,13 +73,14 @@ pub record IsInside (text : List ℕ) : Type 0 where
   pub are_chars : IsChars text
   pub are_items : AreItems SpellsInside text
 
--- EntityValue, without its quotes: Chars, in which each `%` and each `&` begins a reference
+-- EntityValue, without its quotes: Chars, in which each `%` and each `&` begins a reference (XML
+-- 1.0, 2.3)
 pub record IsEntityValue (text : List ℕ) : Type 0 where
   pub are_chars : IsChars text
   pub are_items : AreItems SpellsValue text
 
 -- ---- mode Between
--- PEDecl, with a value: '<!ENTITY' S '%' S Name S EntityValue S? '>'
+-- PEDecl, with a value: '<!ENTITY' S '%' S Name S EntityValue S? '>' (XML 1.0, 4.2)
 pub record IsPEDecl (name given bytes : List ℕ) : Type 0 where
   pub before : List ℕ
   pub after : List ℕ
@@ -102,6 +103,7 @@ IsWord word = (word ≡ codes "<!ELEMENT") ⊎ ((word ≡ codes "<!ATTLIST") ⊎
     ((word ≡ codes "<!ENTITY") ⊎ (word ≡ codes "<!NOTATION")))
 
 -- another declaration: one of the words, a text of the form of mode Inside that begins with S, '>'
+-- (XML 1.0, 2.8)
 pub record IsDeclaration (word held bytes : List ℕ) : Type 0 where
   pub is_word : IsWord word
   pub begins_white : begins is_space held ≡ true
@@ -129,10 +131,12 @@ pub record StandsAt (mode : Mode) (rest : List ℕ) (i : Item) (more : List ℕ)
   pub whole : rest ≡ text ++ more
 
 -- ---- what is refused by its front, in mode Between
+-- a conditional section begins here (XML 1.0, 3.4)
 abbrev pub IsConditional : List ℕ → Type 0
 IsConditional rest = (more : List ℕ) × (rest ≡ codes "<![" ++ more)
 
 -- PEDecl of an external entity, up to its word: '<!ENTITY' S '%' S Name S ('SYSTEM' | 'PUBLIC')
+-- (XML 1.0, 4.2.2)
 pub record IsExternal (rest : List ℕ) : Type 0 where
   pub before : List ℕ
   pub after : List ℕ
@@ -155,7 +159,7 @@ IsBehindTextDecl bytes rest = Begins IsTextDecl bytes rest ⊎ (BeginsNone IsTex
     (bytes ≡ rest))
 
 -- The file's head is its byte order mark and its text declaration, where they are there, and this
--- is the rest.
+-- is the rest (XML 1.0, 4.3.1, 4.3.3).
 pub record HasHead (bytes head rest : List ℕ) : Type 0 where
   pub unmarked : List ℕ
   pub mark : IsBehindByteOrderMark bytes unmarked

@@ -18,6 +18,7 @@ part_column g q = length g.names + q
 abbrev pub any_column : PlainDtd → ℕ
 any_column g = length g.names + parts_in_models g.models
 
+-- how many columns there are
 abbrev pub width_of : PlainDtd → ℕ
 width_of g = suc (any_column g)
 

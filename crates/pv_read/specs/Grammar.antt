@@ -29,7 +29,7 @@ IsWholeRun (misc_node bytes) rest = Unit {0}
 
 abbrev mutual
   -- element: EmptyElemTag, or STag content ETag of the same name; or character data with
-  -- references, CDSect, Comment or PI
+  -- references, CDSect, Comment or PI (XML 1.0, 3.1, 2.4 to 2.7)
   pub SpellsNode : {M : Type 0} → Tree M → List ℕ → Type 0
   SpellsNode (element x attrs short kids mark) bytes =
       IsName x × IsAttributes IsKnownReference attrs × (kids ≡ no_trees) ×
@@ -45,7 +45,7 @@ abbrev mutual
   SpellsNode (misc_node misc) bytes = IsCommentOrInstruction misc × (bytes ≡ misc)
 
   -- content: elements, character data with references, CDSects, Comments and PIs, one behind
-  -- another
+  -- another (XML 1.0, 3.1)
   pub SpellsContent : {M : Type 0} → Forest M → List ℕ → Type 0
   SpellsContent no_trees bytes = bytes ≡ []
   SpellsContent (tree t rest) bytes =
@@ -60,7 +60,7 @@ IsElement (cdata_node bytes) = ⊥
 IsElement (misc_node bytes) = ⊥
 
 -- document: the bytes spell a prolog, one element, and Misc*. A document type declaration, where
--- there is one, names this root.
+-- there is one, names this root (XML 1.0, 2.1, 2.8).
 pub record SpellsDocument {M : Type 0} (root bytes : List ℕ) (doc : PlainDoc M) : Type 0 where
   pub element : List ℕ
   pub is_prolog : IsProlog root doc.before

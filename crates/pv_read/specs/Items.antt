@@ -19,7 +19,7 @@ pub data Item : Type 0 where
   end_tag : (name gap : List ℕ) → Item
   text_run : (bytes : List ℕ) → Item
 
--- its bytes
+-- the bytes of an item
 abbrev pub bytes_of : Item → List ℕ
 bytes_of (xml_declaration bytes) = bytes
 bytes_of (doctype name bytes) = bytes
@@ -30,7 +30,8 @@ bytes_of (empty_tag name attrs) = codes "<" ++ (name ++ (attrs ++ codes "/>"))
 bytes_of (end_tag name gap) = codes "</" ++ (name ++ (gap ++ codes ">"))
 bytes_of (text_run bytes) = bytes
 
--- it has the form of its production; references may be to any name
+-- the item has the form of its production; references may be to any name (XML 1.0, 2.4 to 2.8, 3.1,
+-- 4.1)
 abbrev pub HasForm : Item → Type 0
 HasForm (xml_declaration bytes) = IsXmlDecl bytes
 HasForm (doctype name bytes) = IsDoctype name bytes
@@ -41,7 +42,8 @@ HasForm (empty_tag name attrs) = IsName name × IsAttributes IsReference attrs
 HasForm (end_tag name gap) = IsName name × IsOptionalSpace gap
 HasForm (text_run bytes) = IsCharacterData IsReference bytes
 
--- each of its references is to a character or to a name that needs no declaration
+-- each reference of the item is to a character or to a name that needs no declaration (XML 1.0,
+-- 4.1, 4.6)
 abbrev pub HasKnownReferences : Item → Type 0
 HasKnownReferences (xml_declaration bytes) = Unit {0}
 HasKnownReferences (doctype name bytes) = Unit {0}

@@ -69,7 +69,7 @@ IsOtherDoctype root (empty_tag name attrs) = ⊥
 IsOtherDoctype root (end_tag name gap) = ⊥
 IsOtherDoctype root (text_run bytes) = ⊥
 
--- it opens an element
+-- the item opens an element
 abbrev pub opens_element : Item → Bool
 opens_element (xml_declaration bytes) = false
 opens_element (doctype name bytes) = false
@@ -80,8 +80,8 @@ opens_element (empty_tag name attrs) = true
 opens_element (end_tag name gap) = false
 opens_element (text_run bytes) = false
 
--- It opens an element, and as many are open as may be. The most depth, where there is one, is
--- given.
+-- the item opens an element, and as many are open as may be; the most depth, where there is one, is
+-- given
 abbrev pub IsTooDeep : {M : Type 0} → Option ℕ → Left M → Item → Type 0
 IsTooDeep most left i = IsTrue (opens_element i) × IsDeepest most (open_elements left)
 

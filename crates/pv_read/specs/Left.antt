@@ -24,7 +24,7 @@ pub data PlainStage : Type 0 where
   behind_doctype : PlainStage
 
 -- in the prolog, with its bytes so far; in the root, with the innermost open element and those
--- around it, innermost first; behind the root, with the bytes since
+-- around it, innermost first; behind the root, with the bytes since (XML 1.0, 2.1, 2.8, 3.1)
 pub data Left (M : Type 0) : Type 0 where
   in_prolog : (stage : PlainStage) → (before : List ℕ) → Left M
   in_content : (before : List ℕ) → (inner : Open M) → (outer : List (Open M)) → Left M

@@ -13,6 +13,7 @@ pub data PlainPlace : Type 0 where
   content : (name : List ℕ) → (open_elements : ℕ) → PlainPlace
   epilog : PlainPlace
 
+-- the place that the items so far lead to
 abbrev pub place_of : {M : Type 0} → Left M → PlainPlace
 place_of (in_prolog stage before) = prolog stage
 place_of (in_content before inner outer) = content inner.name (suc (length outer))
@@ -69,6 +70,7 @@ may_stand_in_epilog (empty_tag name attrs) = false
 may_stand_in_epilog (end_tag name gap) = false
 may_stand_in_epilog (text_run bytes) = list_all is_space bytes
 
+-- the item may stand at the place
 abbrev pub may_stand : PlainPlace → Item → Bool
 may_stand (prolog stage) i = may_stand_in_prolog stage i
 may_stand (content name open_elements) i = may_stand_in_content i
@@ -85,6 +87,7 @@ IsMismatchIn open_name (empty_tag name attrs) = ⊥
 IsMismatchIn open_name (end_tag name gap) = name ≡ open_name → ⊥
 IsMismatchIn open_name (text_run bytes) = ⊥
 
+-- the item is an end tag of another name than that of the innermost open element
 abbrev pub IsMismatchAt : PlainPlace → Item → Type 0
 IsMismatchAt (prolog stage) i = ⊥
 IsMismatchAt (content name open_elements) i = IsMismatchIn name i

@@ -5,7 +5,7 @@ use Rattle.pv_tree.specs.Attributes.{IsKnownReference}
 use Rattle.pv_read.specs.declared.forms.references.References.{References}
 use Rattle.pv_read.specs.declared.forms.references.References.TheVariants as references
 
--- the references of this sort
+-- the references of this sort (XML 1.0, 4.1, 4.6)
 abbrev pub IsReferenceOf : References → List ℕ → Type 0
 IsReferenceOf references.Any bytes = IsReference bytes
 IsReferenceOf references.Known bytes = IsKnownReference bytes

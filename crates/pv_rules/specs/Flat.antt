@@ -73,6 +73,7 @@ abbrev pub flat_models : ℕ → List PlainModel → List FlatPart
 flat_models q [] = []
 flat_models q (m ∷ ms) = flat_model q m ++ flat_models (q + parts_in_model m) ms
 
+-- the parts of a DTD, each by itself, by number
 abbrev pub flat_parts : PlainDtd → List FlatPart
 flat_parts g = flat_models 0 g.models
 
@@ -86,6 +87,7 @@ content_kind_of (children p) = content.Children
 abbrev pub one_content : ℕ → PlainModel → FlatContent
 one_content q m = record { kind = content_kind_of m; first = q; end = q + parts_in_model m }
 
+-- content models, each by itself, the first part of the first having number q
 abbrev pub flat_contents : ℕ → List PlainModel → List FlatContent
 flat_contents q [] = []
 flat_contents q (m ∷ ms) = one_content q m ∷ flat_contents (q + parts_in_model m) ms

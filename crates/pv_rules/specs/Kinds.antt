@@ -66,6 +66,7 @@ module _ (g : PlainDtd) (w : List PlainToken) (i j c : ℕ) (xs : List Goal) whe
   OfRest q (Some (part p (part r ps))) =
       (k : ℕ) × (i ≤ k) × ToTwo (part_site q) (rest_site (q + parts_in p)) k
 
+  -- the rules of a site, by what stands there
   abbrev pub OfSite : PlainSite → Type 0
   OfSite (name_site x) = OfName x
   OfSite (content_site x) = OfContent x (model_of g x)

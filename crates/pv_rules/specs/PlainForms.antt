@@ -7,6 +7,7 @@ use Rattle.pv_rules.specs.declared.flat_dtd.FlatDtd.{FlatDtd}
 use Rattle.pv_rules.specs.declared.sites.Site.{Site}
 use Rattle.pv_rules.specs.declared.sites.Site.TheVariants as site
 
+-- the plain form of a site
 abbrev pub plain_site : Site → PlainSite
 plain_site (site.Name id) = name_site id.0
 plain_site (site.Content id) = content_site id.0

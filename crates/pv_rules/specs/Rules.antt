@@ -13,6 +13,7 @@ pub record Goal : Type 0 where
   pub from : ℕ
   pub to : ℕ
 
+-- a site over the tokens from one number up to another
 abbrev pub over : PlainSite → ℕ → ℕ → Goal
 over s i j = record { site = s; from = i; to = j }
 

@@ -38,5 +38,6 @@ numbers_in (DelText path) = path
 abbrev pub MAX_NUMBER : ℕ
 MAX_NUMBER = 4294967295
 
+-- each number is small enough for a line
 abbrev pub AreNumbers : List ℕ → Type 0
 AreNumbers numbers = AllByRecursion (λ n. n ≤ MAX_NUMBER) numbers

@@ -8,10 +8,11 @@ abbrev pub with_first_byte : ℕ → List (List ℕ) → List (List ℕ)
 with_first_byte b [] = (b ∷ []) ∷ []
 with_first_byte b (line ∷ lines) = (b ∷ line) ∷ lines
 
--- LF, and CR
+-- LF
 abbrev pub FEED : ℕ
 FEED = 10
 
+-- CR
 abbrev pub RETURN : ℕ
 RETURN = 13
 

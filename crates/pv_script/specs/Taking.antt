@@ -14,6 +14,7 @@ pub record HeldLine : Type 0 where
   pub bytes : List ℕ
   pub whole : Bool
 
+-- nothing is held of a line
 abbrev pub nothing_held : HeldLine
 nothing_held = record { bytes = []; whole = false }
 

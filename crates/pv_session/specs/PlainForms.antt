@@ -5,6 +5,7 @@ use Rattle.pv_session.specs.Sessions.{PlainSession}
 use Rattle.pv_session.specs.declared.session.Session.TheInside.{Inside}
 use Rattle.pv_tree.specs.Marks.{unmarked_doc}
 
+-- the plain form of a session
 abbrev pub plain_session : Inside → PlainSession
 plain_session s = record {
   dtd = s.marked.dtd;
@@ -16,5 +17,6 @@ plain_session s = record {
   doc = s.marked.doc;
 }
 
+-- what a session keeps of its ways back
 abbrev pub Keeps : Inside → Type 0
 Keeps s = KeepsWays (plain_session s) s.ways_back.items

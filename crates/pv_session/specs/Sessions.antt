@@ -20,7 +20,7 @@ pub record PlainSession : Type 0 where
   pub moves : ℕ
   pub doc : PlainDoc ℕ
 
--- its document with the stamps
+-- the document of a session, with the stamps
 abbrev pub stamped_document : PlainSession → StampedDoc
 stamped_document s = record { dtd = s.dtd; root = s.root; doc = s.doc }
 

@@ -36,8 +36,8 @@ refusal_of (refusal.Impossible path) = Some (is_impossible path)
 refusal_of refusal.Limit = Some is_past_limit
 refusal_of refusal.NoMemory = None
 
--- An edit that is accepted joins the past, and what was undone is dropped. Any other is refused on a
--- ground (`HasGround` of pv_cache), and leaves the session as it was.
+-- An edit that is accepted joins the past, and what was undone is dropped. Any other is refused on
+-- a ground (`HasGround` of pv_cache), and leaves the session as it was.
 pub data IsEditStep (before : PlainSession) (edit : Edit) (answer : PlainAnswer)
     (after : PlainSession)
     : Type 0 where

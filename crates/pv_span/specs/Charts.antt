@@ -1,7 +1,7 @@
--- A chart: the values of all columns over the spans of a word, a row for each span. The rows come in
--- the order in which spans are done: the spans from the last place first, and of those from one
--- place the shorter ones first. A value is no_size where no derivation is known, and else the weight
--- of one, cut.
+-- A chart: the values of all columns over the spans of a word, a row for each span. The rows come
+-- in the order in which spans are done: the spans from the last place first, and of those from one
+-- place the shorter ones first. A value is no_size where no derivation is known, and else the
+-- weight of one, cut.
 use Rattle.std.specs.Prelude.{Bool, List, false, length, min, slice_index_or, suc, sum, true, zero}
 use Rattle.std.specs.Prelude.{ℕ, ◌+◌, ◌-◌, ◌<◌, ◌≡◌, ◌≤◌}
 use Rattle.pv_model.specs.Plain.{PlainToken}
@@ -26,9 +26,11 @@ spans_before (suc k) = spans_before k + suc k
 abbrev pub span_number : ℕ → ℕ → ℕ → ℕ
 span_number n i j = spans_before (n - i) + (j - i)
 
+-- the row of span number k: one that is done, or the one at hand
 abbrev pub row_at : PlainChart → ℕ → List ℕ
 row_at t k = slice_index_or t.rows k t.row
 
+-- the value of a column over a span
 abbrev pub value_of : PlainChart → Cell → ℕ
 value_of t x = size_at (row_at t (span_number t.tokens x.from x.to)) x.column
 

@@ -12,6 +12,7 @@ pub record Cell : Type 0 where
   pub from : ℕ
   pub to : ℕ
 
+-- a column over the tokens from one number up to another
 abbrev pub cell : ℕ → ℕ → ℕ → Cell
 cell c i j = record { column = c; from = i; to = j }
 

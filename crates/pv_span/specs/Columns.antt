@@ -22,9 +22,11 @@ pub record PlainSites : Type 0 where
 abbrev pub no_column : ℕ
 no_column = 4294967295
 
+-- the column of this number in a row, or none
 abbrev pub column_at : List ℕ → ℕ → ℕ
 column_at numbers k = slice_index_or numbers k no_column
 
+-- the column of a site
 abbrev pub column_of : PlainSites → PlainSite → ℕ
 column_of m (name_site x) = column_at m.names x
 column_of m (content_site x) = column_at m.contents x

@@ -13,5 +13,6 @@ cells_across cells columns spans k =
 abbrev pub row_of : Done → ℕ → List ℕ
 row_of d k = cells_across d.cells.items d.columns d.spans k
 
+-- the rows of the spans that are done
 abbrev pub rows_of : Done → List (List ℕ)
 rows_of d = map (row_of d) (range_with_len 0 d.count)

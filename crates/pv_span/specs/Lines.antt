@@ -1,5 +1,5 @@
--- Lines: for two columns, one behind the other, the least sums over the spans from one place, of the
--- cuts before the span at hand.
+-- Lines: for two columns, one behind the other, the least sums over the spans from one place, of
+-- the cuts before the span at hand.
 use Rattle.std.specs.Prelude.{List, Some, [], length, min, slice_get, slice_index_or, suc, zero, ℕ}
 use Rattle.std.specs.Prelude.{◌+◌, ◌-◌, ◌<◌, ◌≡◌, ◌≤◌}
 use Rattle.pv_productive.specs.Tables.{no_size, size_at}

@@ -5,6 +5,7 @@ use Rattle.pv_span.specs.Charts.{PlainChart}
 use Rattle.pv_span.specs.Done.{rows_of}
 use Rattle.pv_span.specs.declared.charts.Chart.{Chart}
 
+-- the plain form of a chart
 abbrev pub plain_chart : Chart → PlainChart
 plain_chart t = record { tokens = t.tokens; rows = rows_of t.done; row = t.row.items }
 

@@ -2,6 +2,7 @@
 use Rattle.pv_span.specs.Columns.{PlainSites}
 use Rattle.pv_span.specs.declared.sites.Sites.{Sites}
 
+-- the plain form of the columns of all sites
 abbrev pub plain_sites : Sites → PlainSites
 plain_sites s = record {
   names = s.names.items;

@@ -40,6 +40,7 @@ IsBefore [] ks = ⊥
 IsBefore (h ∷ hs) [] = ⊥
 IsBefore (h ∷ hs) (k ∷ ks) = (h < k) ⊎ ((h ≡ k) × IsBefore hs ks)
 
+-- the first entry is before the second
 abbrev pub Precedes : Entry → Entry → Type 0
 Precedes e f = IsBefore (key_of e) (key_of f)
 
@@ -55,7 +56,7 @@ pub record AreEntries (g : PlainDtd) (w : List PlainToken) (es : List Entry) : T
   pub each : All (IsEntry g w) es
   pub ascend : AllPairs Precedes es
 
--- all there are
+-- all entries of the word, in strict order
 pub record AreAllEntries (g : PlainDtd) (w : List PlainToken) (es : List Entry) : Type 0 where
   pub are : AreEntries g w es
   pub all : (e : Entry) → IsEntry g w e → Contains es e
@@ -78,6 +79,7 @@ pub data AreTables {M : Type 0} (g : PlainDtd) (root : List ℕ) :
       (IsVerdict g root list verdict.Possible → ⊥) → AreTables g root lists ts →
       AreTables g root (list ∷ lists) ts
 
+-- how many entries the tables have
 abbrev pub entries_in : List Table → ℕ
 entries_in [] = 0
 entries_in (t ∷ ts) = length t.entries + entries_in ts

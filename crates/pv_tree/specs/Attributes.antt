@@ -10,7 +10,8 @@ use Rattle.pv_chars.specs.References.{IsCharRef}
 use Rattle.pv_chars.specs.Texts.{joined}
 use Rattle.pv_chars.specs.Units.{IsLiteral, IsPredefinedRef}
 
--- a reference to a character, or to one of the five names that need no declaration
+-- a reference to a character, or to one of the five names that need no declaration (XML 1.0, 4.1,
+-- 4.6)
 abbrev pub IsKnownReference : List ℕ → Type 0
 IsKnownReference bytes = IsCharRef bytes ⊎ IsPredefinedRef bytes
 
@@ -24,7 +25,7 @@ pub record AreMadeOf (IsPiece : List ℕ → Type 0) (bytes : List ℕ) : Type 0
 abbrev pub IsValuePiece : ℕ → (List ℕ → Type 0) → List ℕ → Type 0
 IsValuePiece quote R piece = (IsLiteral piece × (piece ≢ quote ∷ [])) ⊎ R piece
 
--- AttValue: pieces in a pair of double or single quotes
+-- AttValue: pieces in a pair of double or single quotes (XML 1.0, 2.3)
 pub record IsAttValue (R : List ℕ → Type 0) (bytes : List ℕ) : Type 0 where
   pub quote : ℕ
   pub value : List ℕ
@@ -32,7 +33,7 @@ pub record IsAttValue (R : List ℕ → Type 0) (bytes : List ℕ) : Type 0 wher
   pub is_value : AreMadeOf (IsValuePiece quote R) value
   pub whole : bytes ≡ quote ∷ (value ++ quote ∷ [])
 
--- S and an Attribute: Name, Eq, AttValue
+-- S and an Attribute: Name, Eq, AttValue (XML 1.0, 3.1)
 pub record IsAttribute (R : List ℕ → Type 0) (bytes : List ℕ) : Type 0 where
   pub space : List ℕ
   pub name : List ℕ
@@ -45,7 +46,7 @@ pub record IsAttribute (R : List ℕ → Type 0) (bytes : List ℕ) : Type 0 whe
   pub whole : bytes ≡ space ++ (name ++ (equals ++ value))
 
 -- What stands between the name of a tag and its end: any number of attributes, and S?. Attributes
--- of one name may stand twice.
+-- of one name may stand twice (XML 1.0, 3.1).
 pub record IsAttributes (R : List ℕ → Type 0) (bytes : List ℕ) : Type 0 where
   pub attributes : List ℕ
   pub space : List ℕ
@@ -57,7 +58,7 @@ pub record IsAttributes (R : List ℕ → Type 0) (bytes : List ℕ) : Type 0 wh
 abbrev pub IsTextPiece : (List ℕ → Type 0) → List ℕ → Type 0
 IsTextPiece R piece = IsLiteral piece ⊎ R piece
 
--- character data with references: at least one piece, and no `]]>`
+-- character data with references: at least one piece, and no `]]>` (XML 1.0, 2.4, 4.1)
 pub record IsCharacterData (R : List ℕ → Type 0) (bytes : List ℕ) : Type 0 where
   pub some : bytes ≢ []
   pub are_pieces : AreMadeOf (IsTextPiece R) bytes

@@ -12,12 +12,14 @@ pub data Head : Type 0 where
   cdata_head : Head
   misc_head : Head
 
+-- what a list shows of a kid, whatever stands below it
 abbrev pub head_of : {M : Type 0} → Tree M → Head
 head_of (element x attrs ending kids mark) = element_head x
 head_of (text_node units) = text_head (has_data units)
 head_of (cdata_node bytes) = cdata_head
 head_of (misc_node bytes) = misc_head
 
+-- what a list shows of its kids
 abbrev pub heads_of : {M : Type 0} → Forest M → List Head
 heads_of no_trees = []
 heads_of (tree t rest) = head_of t ∷ heads_of rest

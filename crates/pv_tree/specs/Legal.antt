@@ -15,7 +15,7 @@ fits_kids short no_trees = true
 fits_kids short (tree t rest) = false
 fits_kids (tagged gap) kids = true
 
--- an empty-element tag stands only where there are no kids, at all depths
+-- an empty-element tag stands only where there are no kids, at all depths (XML 1.0, 3.1)
 abbrev mutual
   pub is_formed : {M : Type 0} → Tree M → Bool
   is_formed (element x attrs ending kids mark) = fits_kids ending kids && are_formed kids
@@ -27,7 +27,7 @@ abbrev mutual
   are_formed no_trees = true
   are_formed (tree t rest) = is_formed t && are_formed rest
 
--- each element's name is a Name, at all depths
+-- each element's name is a Name, at all depths (XML 1.0, 2.3)
 abbrev mutual
   pub has_names : {M : Type 0} → Tree M → Bool
   has_names (element x attrs ending kids mark) = is_name x && have_names kids
@@ -45,7 +45,7 @@ IsLegalEnding short = Unit {0}
 IsLegalEnding (tagged gap) = IsOptionalSpace gap
 
 -- The other bytes of each node are legal: attributes, units, a CDATA section, a comment or
--- processing instruction.
+-- processing instruction (XML 1.0, 2.4 to 2.7, 3.1).
 abbrev mutual
   pub IsLegal : {M : Type 0} → Tree M → Type 0
   IsLegal (element x attrs ending kids mark) =
@@ -72,7 +72,7 @@ is_open [] after = true
 is_open (unit ∷ units) after =
     not (begins_close_mark (unit ∷ units ++ after)) && is_open units after
 
--- no run of texts side by side spells `]]>`, at any depth
+-- no run of texts side by side spells `]]>`, at any depth (XML 1.0, 2.4)
 abbrev mutual
   pub has_no_close_mark : {M : Type 0} → Tree M → Bool
   has_no_close_mark (element x attrs ending kids mark) = have_no_close_mark kids
@@ -91,8 +91,10 @@ abbrev mutual
   starts_no_close_mark (cdata_node bytes) rest = true
   starts_no_close_mark (misc_node bytes) rest = true
 
+-- the most elements one inside another
 abbrev pub MAX_DEPTH : ℕ
 MAX_DEPTH = 512
 
+-- the most nodes
 abbrev pub MAX_NODES : ℕ
 MAX_NODES = 33554433

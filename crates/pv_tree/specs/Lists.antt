@@ -38,7 +38,8 @@ lists_of doc =
     record { path = []; owner = the_document; kids = tree doc.root no_trees }
     ∷ lists_at (0 ∷ []) doc.root
 
--- the kids fit an element of this number by themselves, whatever stands below them
+-- the kids fit an element of this number by themselves, whatever stands below them (XML 1.0, 3,
+-- Element Valid)
 pub record IsOwnValid {M : Type 0} (g : PlainDtd) (owner : Option ℕ) (kids : Forest M)
     : Type 0 where
   pub number : ℕ
@@ -63,7 +64,7 @@ abbrev pub IsValidBy : {M : Type 0} → PlainDtd → List ℕ → Owner → Fore
 IsValidBy g root the_document kids = IsRootList root kids
 IsValidBy g root (an_element x) kids = IsOwnValid g (number_of g x) kids
 
--- the list is valid by itself
+-- the list is valid by itself (XML 1.0, 3, Element Valid)
 abbrev pub IsValidList : {M : Type 0} → PlainDtd → List ℕ → Listed M → Type 0
 IsValidList g root list = IsValidBy g root list.owner list.kids
 

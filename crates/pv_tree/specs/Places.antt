@@ -20,6 +20,7 @@ pub data Spot (M : Type 0) : Type 0 where
   at_document : Spot M
   at_node : (node : Tree M) → Spot M
 
+-- what stands at a path: the document node or a node
 abbrev pub spot_at : {M : Type 0} → List ℕ → Tree M → Option (Spot M)
 spot_at [] root = Some at_document
 spot_at (zero ∷ path) root = option_map at_node (node_below path root)
@@ -32,6 +33,7 @@ list_of (text_node units) = None
 list_of (cdata_node bytes) = None
 list_of (misc_node bytes) = None
 
+-- the list at a path
 abbrev pub list_at : {M : Type 0} → List ℕ → Tree M → Option (List (Tree M))
 list_at [] root = Some (root ∷ [])
 list_at (zero ∷ path) root = option_and_then list_of (node_below path root)

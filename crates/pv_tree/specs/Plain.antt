@@ -10,7 +10,7 @@ pub data Ending : Type 0 where
 
 mutual
   -- an element with the bytes between its name and `>` or `/>`; a text as its units; a CDATA
-  -- section; a comment or processing instruction
+  -- section; a comment or processing instruction (XML 1.0, 3.1)
   pub data Tree (M : Type 0) : Type 0 where
     element : (name attrs : List ℕ) → (ending : Ending) → (kids : Forest M) → (mark : M) → Tree M
     text_node : (units : List (List ℕ)) → Tree M
@@ -22,10 +22,12 @@ mutual
     no_trees : Forest M
     tree : (first : Tree M) → (rest : Forest M) → Forest M
 
+-- trees in a list, side by side
 abbrev pub forest_of : {M : Type 0} → List (Tree M) → Forest M
 forest_of [] = no_trees
 forest_of (t ∷ ts) = tree t (forest_of ts)
 
+-- trees side by side, in a list
 abbrev pub trees_of : {M : Type 0} → Forest M → List (Tree M)
 trees_of no_trees = []
 trees_of (tree t rest) = t ∷ trees_of rest
@@ -71,6 +73,7 @@ abbrev mutual
   depth_of_all no_trees = 0
   depth_of_all (tree t rest) = max (depth_of t) (depth_of_all rest)
 
+-- the tree is an element
 abbrev pub is_element : {M : Type 0} → Tree M → Bool
 is_element (element x attrs ending kids mark) = true
 is_element (text_node units) = false

@@ -20,9 +20,11 @@ plain_step (Node-F.Text units) = text_node units
 plain_step (Node-F.Cdata bytes) = cdata_node bytes
 plain_step (Node-F.Misc bytes) = misc_node bytes
 
+-- the plain form of a node
 abbrev pub plain : Node → Tree Mark
 plain = fold-Node (Tree Mark) plain_step
 
+-- and of nodes
 abbrev pub plain_all : List Node → List (Tree Mark)
 plain_all nodes = map plain nodes
 

@@ -10,22 +10,22 @@ use Rattle.pv_chars.specs.Declarations.{IsQuoted, IsOptional, IsXmlDecl}
 use Rattle.pv_chars.specs.ByteOrderMark.{BYTE_ORDER_MARK}
 use Rattle.pv_tree.specs.Attributes.{AreMadeOf}
 
--- PubidChar: space, CR, LF, letters and digits of ASCII, and these marks
+-- PubidChar: space, CR, LF, letters and digits of ASCII, and these marks (XML 1.0, 2.3)
 abbrev pub is_pubid_char : ℕ → Bool
 is_pubid_char b =
     (b == 32) || (b == 13) || (b == 10) || is_ascii_alphanumeric b ||
     list_any (λ c. b == c) (codes "-'()+,./:=?;!*#@$_%")
 
--- SystemLiteral: Chars in a pair of quotes, which they don't hold
+-- SystemLiteral: Chars in a pair of quotes, which they don't hold (XML 1.0, 2.3)
 abbrev pub IsSystemLiteral : List ℕ → Type 0
 IsSystemLiteral bytes = (value : List ℕ) × IsChars value × IsQuoted value bytes
 
--- PubidLiteral: the same with PubidChars
+-- PubidLiteral: the same with PubidChars (XML 1.0, 2.3)
 abbrev pub IsPubidLiteral : List ℕ → Type 0
 IsPubidLiteral bytes =
     (value : List ℕ) × IsTrue (list_all is_pubid_char value) × IsQuoted value bytes
 
--- S, `SYSTEM`, S, SystemLiteral
+-- S, `SYSTEM`, S, SystemLiteral (XML 1.0, 4.2.2)
 pub record IsSystemId (bytes : List ℕ) : Type 0 where
   pub space : List ℕ
   pub gap : List ℕ
@@ -35,7 +35,7 @@ pub record IsSystemId (bytes : List ℕ) : Type 0 where
   pub is_literal : IsSystemLiteral literal
   pub whole : bytes ≡ space ++ (codes "SYSTEM" ++ (gap ++ literal))
 
--- S, `PUBLIC`, S, PubidLiteral, S, SystemLiteral
+-- S, `PUBLIC`, S, PubidLiteral, S, SystemLiteral (XML 1.0, 4.2.2)
 pub record IsPublicId (bytes : List ℕ) : Type 0 where
   pub space : List ℕ
   pub gap : List ℕ
@@ -49,7 +49,7 @@ pub record IsPublicId (bytes : List ℕ) : Type 0 where
   pub is_system : IsSystemLiteral system
   pub whole : bytes ≡ space ++ (codes "PUBLIC" ++ (gap ++ (public ++ (between ++ system))))
 
--- S and an ExternalID
+-- S and an ExternalID (XML 1.0, 4.2.2)
 abbrev pub IsExternalId : List ℕ → Type 0
 IsExternalId bytes = IsSystemId bytes ⊎ IsPublicId bytes
 
@@ -65,22 +65,22 @@ pub record IsDoctypeFront (name bytes : List ℕ) : Type 0 where
   pub is_gap : IsOptionalSpace gap
   pub whole : bytes ≡ codes "<!DOCTYPE" ++ (space ++ (name ++ (external ++ gap)))
 
--- doctypedecl without an internal subset, of this name
+-- doctypedecl without an internal subset, of this name (XML 1.0, 2.8)
 pub record IsDoctype (name bytes : List ℕ) : Type 0 where
   pub front : List ℕ
   pub is_front : IsDoctypeFront name front
   pub whole : bytes ≡ front ++ codes ">"
 
--- Comment or PI
+-- Comment or PI (XML 1.0, 2.5, 2.6)
 abbrev pub IsCommentOrInstruction : List ℕ → Type 0
 IsCommentOrInstruction bytes = IsComment bytes ⊎ IsInstruction bytes
 
--- Misc: Comment, PI or S
+-- Misc: Comment, PI or S (XML 1.0, 2.8)
 abbrev pub IsMisc : List ℕ → Type 0
 IsMisc bytes = IsCommentOrInstruction bytes ⊎ IsSpace bytes
 
 -- prolog: the byte order mark, XMLDecl, Misc*, and a doctypedecl with Misc*, each of which may be
--- left out. A doctypedecl names this root.
+-- left out. A doctypedecl names this root (XML 1.0, 2.8).
 pub record IsProlog (root bytes : List ℕ) : Type 0 where
   pub mark : List ℕ
   pub declaration : List ℕ
@@ -94,6 +94,6 @@ pub record IsProlog (root bytes : List ℕ) : Type 0 where
   pub is_more_misc : AreMadeOf IsMisc more_misc
   pub whole : bytes ≡ mark ++ (declaration ++ (misc ++ (doctype ++ more_misc)))
 
--- Misc*: what stands after the root element
+-- Misc*: what stands after the root element (XML 1.0, 2.8)
 abbrev pub IsEpilog : List ℕ → Type 0
 IsEpilog bytes = AreMadeOf IsMisc bytes

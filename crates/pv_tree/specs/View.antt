@@ -34,5 +34,7 @@ view_before t h = shown_before spread t h
 abbrev pub view_all : {M : Type 0} → Forest M → Hedge
 view_all kids = shown_all spread kids
 
+-- the hedge that a tree shows: each text is spread into its units; endings, marks and cuts of texts
+-- aren't seen
 abbrev pub view : {M : Type 0} → Tree M → Hedge
 view t = view_before t done

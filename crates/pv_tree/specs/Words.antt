@@ -15,6 +15,8 @@ node_before g (text_node units) u = if has_data units then text ∷ u else u
 node_before g (cdata_node bytes) u = text ∷ u
 node_before g (misc_node bytes) u = u
 
+-- the word of a list: a name for each element, and data for each CDATA section and each text that
+-- has data
 abbrev pub word_of : {M : Type 0} → PlainDtd → Forest M → List PlainToken
 word_of g no_trees = []
 word_of g (tree t rest) = node_before g t (word_of g rest)

@@ -71,6 +71,6 @@ pub record ReadsRoot (most : Option ℕ) (g : PlainDtd) (root : List ℕ) (short
       Leads most blank_mark root first (behind_tag before short name attrs) bytes
       count (in_epilog before tree []) rest
 
--- these limits of a text
+-- a limit on depth, or none, and one on bytes, as the limits of a text
 abbrev pub limits_of : Option ℕ → ℕ → TextLimits
 limits_of most_depth most_bytes = record { depth = most_depth; bytes = most_bytes }

@@ -4,6 +4,7 @@ use Rattle.pv_chars.specs.Texts.{joined}
 use Rattle.pv_tree.specs.Plain.{short, tagged, Tree, element, text_node, cdata_node, misc_node}
 use Rattle.pv_tree.specs.Plain.{Forest, no_trees, tree, PlainDoc}
 
+-- the bytes of a tree (XML 1.0, 3.1)
 abbrev mutual
   pub tree_text : {M : Type 0} → Tree M → List ℕ
   tree_text (element x attrs short kids mark) = codes "<" ++ x ++ attrs ++ codes "/>"
@@ -17,5 +18,6 @@ abbrev mutual
   forest_text no_trees = []
   forest_text (tree t rest) = tree_text t ++ forest_text rest
 
+-- the bytes of a document (XML 1.0, 2.1)
 abbrev pub doc_text : {M : Type 0} → PlainDoc M → List ℕ
 doc_text doc = doc.before ++ tree_text doc.root ++ doc.after
