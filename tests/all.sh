@@ -1,5 +1,6 @@
 #!/usr/bin/env bash
-# All tests: `rt ci` proves every crate, tries the must-fail edits and runs the crates' tests and programs; then the built program is tried
+# All tests: `rt ci` proves every crate, tries the must-fail edits and runs the crates' tests and programs; then
+# docs/DEFINITIONS.md is compared with the comments that its tables are written from, where Python is installed; the built program is tried
 # on the machine's files, and on hostile ones, with little memory and outputs that fail; edits and sessions are tried with each allocation
 # failing in turn, where a C compiler is installed; and the program is compared with a search that inserts elements, with a model of a
 # session and with xmllint, also with published DTDs, where Python and xmllint are installed. The last line tells how many passed.
@@ -73,6 +74,7 @@ for program in crates/pvtag/out/pvtag crates/bench_edit/out/bench_edit; do
     [ ! -x "$program" ] || touch "$program.built"
 done
 
+skip "the page of definitions" python3 || check 60 python3 tests/definitions.py --check
 check 900 tests/program.sh
 skip "edits without memory" cc || check 300 tests/edits_without_memory.sh
 skip "the comparison with insertions" python3 || check 300 python3 tests/against_insertions.py crates/pvtag/out/pvtag 850 1
