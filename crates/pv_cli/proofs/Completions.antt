@@ -1,19 +1,25 @@
 -- A completion of a document is one whatever its marks are; a session's, where it isn't told.
 use Rattle.std.proofs.Common.{◌≡◌, ◌∙◌, Bool, Err, IfOk, IsTrue, List, Ok, Result, ap, false, inl, inr, not, refl, sym, subst, ℕ}
-use Rattle.pv_cache.specs.Stamps.{doc_as}
+use Rattle.std.proofs.Math.Logic.{∥∥₁_map}
+use Rattle.pv_cache.specs.Rows.{TellVerdicts}
+use Rattle.pv_cache.specs.Stamps.{doc_as, stamp_of, stamps_of}
 use Rattle.pv_cache.proofs.Alike.{unmarked_as}
 use Rattle.pv_cache.proofs.OtherMarks.{view_as}
 use Rattle.pv_complete.specs.Completing.{IsLeastCompletion}
+use Rattle.pv_complete.specs.Needing.{AreLiveVerdicts}
 use Rattle.pv_complete.specs.Growing.{Grows, IsGrownText, KeepsEnding, beside, grows_kept, grows_leaf, grows_new, grows_none}
 use Rattle.pv_dtd.specs.Plain.{PlainDtd}
 use Rattle.pv_missing.specs.Completing.{Completes}
 use Rattle.pv_read.specs.Grammar.{IsElement, IsWholeRun, SpellsContent, SpellsDocument, SpellsNode, begins_with_text}
 use Rattle.pv_tree.specs.Plain.{Ending, Forest, PlainDoc, Tree, cdata_node, element, is_element, map_marks, map_marks_all, misc_node, no_trees, short, tagged, text_node, tree}
 use Rattle.pv_script.specs.declared.replies.Reply.{Reply}
-use Rattle.pv_session.specs.Sessions.{PlainSession}
+use Rattle.pv_missing.specs.Verdicts.{PlainVerdicts}
+use Rattle.pv_session.specs.Keeping.{IsSession}
+use Rattle.pv_session.specs.Sessions.{PlainSession, stamped_document}
+use Rattle.pv_tree.specs.declared.nodes.Mark.{Mark}
 use Rattle.pv_write.specs.Text.{doc_text}
-use Rattle.pv_cli.specs.Missing.{TellsCompletion, Withholds, is_not_completed}
-use Rattle.pv_cli.proofs.MissingElements.{needs_as}
+use Rattle.pv_cli.specs.Missing.{TellsCompletion, TellsNeed, Withholds, is_not_completed, is_withheld}
+use Rattle.pv_cli.proofs.MissingElements.{live_verdicts, needs_as}
 use Rattle.pv_cli.proofs.Texts.{doc_text-without_marks}
 
 module _ {M N : Type 0} (f : M → N) where
@@ -118,7 +124,23 @@ module _ {M N : Type 0} (f : M → N) where
     text = g.text ∙ text_as (record doc { root = g.root });
   }
 
+-- what a completion by the verdicts that a session tells is of the session's document
+module _ (s : PlainSession) (g : PlainDtd) (root : List ℕ) (doc : PlainDoc Mark) (vs : PlainVerdicts) (same_dtd : g ≡ s.dtd) (same_root : root ≡ s.root) (same_doc : stamps_of doc ≡ s.doc) (is : IsSession s)
+    (tell : TellVerdicts (stamped_document s) vs) where
+  abbrev live : ∥ AreLiveVerdicts g root doc vs.verdicts ∥₁
+  live = live_verdicts s g root doc vs same_dtd same_root same_doc is tell
+
+  pub completion_told : (n : ℕ) (marks body : List ℕ) → (AreLiveVerdicts g root doc vs.verdicts → IsLeastCompletion g root doc n marks body) → ∥ IsLeastCompletion s.dtd s.root s.doc n marks body ∥₁
+  completion_told n marks body f = ∥∥₁_map live (λ live. rw (same_dtd, same_root, same_doc) at (completion_as stamp_of g root doc n marks body (f live)))
+
+  pub grown_told : (body : List ℕ) → (AreLiveVerdicts g root doc vs.verdicts → IsGrownText doc body) → ∥ IsGrownText s.doc body ∥₁
+  grown_told body f = ∥∥₁_map live (λ live. rw same_doc at (grown_as stamp_of doc body (f live)))
+
 -- no completion is told where the number isn't
 pub not_completed : {E : Type 0} (s : PlainSession) (result : Result Reply E) → IfOk result (Withholds s) → IfOk result (TellsCompletion s)
 not_completed s (Ok told) withheld = is_not_completed withheld
 not_completed s (Err e) withheld = tt
+
+pub not_needed : {E : Type 0} (s : PlainSession) (result : Result Reply E) → IfOk result (Withholds s) → IfOk result (TellsNeed s)
+not_needed s (Ok told) withheld = is_withheld withheld
+not_needed s (Err e) withheld = tt

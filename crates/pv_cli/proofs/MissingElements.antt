@@ -1,11 +1,12 @@
 -- What is missing in a document, whatever its marks are, and what a session can't be told of it.
-use Rattle.std.proofs.Common.{◌⊎◌, inl, inr, List, refl, subst, sym, ℕ}
-use Rattle.std.proofs.Math.Logic.{∥∥₁_elim}
+use Rattle.std.proofs.Common.{◌≡◌, ◌⊎◌, inl, inr, List, refl, subst, sym, ℕ}
+use Rattle.std.proofs.Math.Logic.{∥∥₁_elim, ∥∥₁_map, ∥∥₁_prop}
 use Rattle.std.specs.List.{AllByRecursion}
-use Rattle.pv_cache.specs.Stamps.{doc_as}
-use Rattle.pv_cache.proofs.ListMarks.{all_as, all_narrow_to, first_as, first_to, list_as, lists_as}
+use Rattle.pv_cache.specs.Rows.{TellVerdicts}
+use Rattle.pv_cache.specs.Stamps.{doc_as, stamp_of, stamps_of}
+use Rattle.pv_cache.proofs.ListMarks.{all_as, all_narrow_from, all_narrow_to, first_as, first_to, list_as, lists_as, verdicts_from}
 use Rattle.pv_cache.proofs.OtherMarks.{heads_as, view_as, word_as}
-use Rattle.pv_complete.specs.Needing.{CanNeed, CanWeigh, HasCause, Needs, StopsAtImpossible, StopsAtWide}
+use Rattle.pv_complete.specs.Needing.{AreLiveVerdicts, CanNeed, CanWeigh, HasCause, Needs, StopsAtImpossible, StopsAtWide}
 use Rattle.pv_complete.specs.declared.errors.NeedError.{NeedError}
 use Rattle.pv_complete.specs.declared.errors.NeedError.TheVariants.{Impossible, NoMemory, TooHeavy, TooMany, TooWide}
 use Rattle.pv_dtd.specs.Plain.{PlainDtd}
@@ -13,11 +14,14 @@ use Rattle.pv_dtd.specs.Proper.{IsProperDtd}
 use Rattle.pv_missing.proofs.DocLists.{live_locality}
 use Rattle.pv_missing.proofs.VerdictHeads.{verdict_by_heads}
 use Rattle.pv_missing.specs.Widths.{IsFirstTooWide, IsListForVerdict, IsListForWeights}
-use Rattle.pv_missing.specs.Verdicts.{IsLive}
+use Rattle.pv_missing.specs.Completing.{IsPotentiallyValid}
+use Rattle.pv_missing.specs.Verdicts.{AreVerdicts, IsLive, PlainVerdicts}
 use Rattle.pv_session.specs.Keeping.{IsSession}
-use Rattle.pv_session.specs.Sessions.{PlainSession}
+use Rattle.pv_session.specs.Sessions.{PlainSession, stamped_document}
 use Rattle.pv_tree.specs.Lists.{Listed, lists_of}
 use Rattle.pv_tree.specs.Plain.{PlainDoc}
+use Rattle.pv_tree.specs.View.{view}
+use Rattle.pv_tree.specs.declared.nodes.Mark.{Mark}
 use Rattle.pv_tree.specs.declared.nodes.Verdict.TheVariants as verdict
 use Rattle.pv_cli.proofs.OneCheck.{none_first}
 
@@ -70,13 +74,42 @@ module _ {M N : Type 0} (f : M → N) (g : PlainDtd) (root : List ℕ) where
     cause_as TooMany none = absurd none
     cause_as NoMemory none = tt
 
+-- What the verdicts that a session tells tell of its document: it is this one, whatever its marks are.
+module _ (s : PlainSession) (g : PlainDtd) (root : List ℕ) (doc : PlainDoc Mark) (vs : PlainVerdicts) (same_dtd : g ≡ s.dtd) (same_root : root ≡ s.root) (same_doc : stamps_of doc ≡ s.doc) (is : IsSession s)
+    (tell : TellVerdicts (stamped_document s) vs) where
+  narrow_lists : AllByRecursion (IsListForVerdict s.dtd) (lists_of doc)
+  narrow_lists = all_narrow_from stamp_of doc s.dtd (subst (λ (d : PlainDoc ℕ). AllByRecursion (IsListForVerdict s.dtd) (lists_of d)) (sym same_doc) is.guarded.holdable.narrow)
+
+  can_be_valid : IsPotentiallyValid s.dtd s.root (view s.doc.root) → IsPotentiallyValid s.dtd s.root (view doc.root)
+  can_be_valid possible =
+      let of_stamps : IsPotentiallyValid s.dtd s.root (view (stamps_of doc).root) = subst (λ (d : PlainDoc ℕ). IsPotentiallyValid s.dtd s.root (view d.root)) (sym same_doc) possible in
+      rw (view_as stamp_of doc.root) at of_stamps
+
+  are_verdicts : AreVerdicts s.dtd s.root (lists_of s.doc) vs.verdicts → AreVerdicts s.dtd s.root (lists_of doc) vs.verdicts
+  are_verdicts are = verdicts_from stamp_of doc s.dtd s.root vs.verdicts (subst (λ (d : PlainDoc ℕ). AreVerdicts s.dtd s.root (lists_of d) vs.verdicts) (sym same_doc) are)
+
+  pub live_verdicts : ∥ AreLiveVerdicts g root doc vs.verdicts ∥₁
+  live_verdicts =
+      rw (same_dtd, same_root)
+      (∥∥₁_elim tell.verdicts ∥∥₁_prop (λ are. ∥∥₁_map is.guarded.possible (λ possible. record { narrow = narrow_lists; possible = can_be_valid possible; verdicts = are_verdicts are })))
+
+  pub needs_told : (n : ℕ) → (AreLiveVerdicts g root doc vs.verdicts → Needs g root doc n) → ∥ Needs s.dtd s.root s.doc n ∥₁
+  needs_told n f = ∥∥₁_map live_verdicts (λ live. rw (same_dtd, same_root, same_doc) at (needs_as stamp_of g root doc n (f live)))
+
+  pub cause_told : (e : NeedError) → (AreLiveVerdicts g root doc vs.verdicts → HasCause g root doc e) → ∥ HasCause s.dtd s.root s.doc e ∥₁
+  cause_told e f = ∥∥₁_map live_verdicts (λ live. rw (same_dtd, same_root, same_doc) at (cause_as stamp_of g root doc e (f live)))
+
 -- no list of a session is Impossible
-pub none_impossible : (s : PlainSession) (path : List ℕ) → IsProperDtd s.dtd → IsSession s → StopsAtImpossible s.dtd s.root s.doc path → ⊥
+pub none_impossible : (s : PlainSession) (path : List ℕ) → IsProperDtd s.dtd → IsSession s → ∥ StopsAtImpossible s.dtd s.root s.doc path ∥₁ → ⊥
 none_impossible s path proper is stops =
     let by_lists = live_locality ℕ s.dtd s.root s.doc proper (record { rooted = is.kept.rooted; units = is.kept.units }) in
-    ∥∥₁_elim is.guarded.possible (λ x. absurd x) (λ possible. none_first (IsLive s.dtd s.root) (lists_of s.doc) path (by_lists.0 possible) stops.first)
+    ∥∥₁_elim stops (λ x. absurd x) (λ stops.
+    ∥∥₁_elim is.guarded.possible (λ x. absurd x) (λ possible. none_first (IsLive s.dtd s.root) (lists_of s.doc) path (by_lists.0 possible) stops.first))
 
 -- nor is one too wide for a verdict
-pub wide_for_weights : (s : PlainSession) (path : List ℕ) → IsSession s → IsFirstTooWide s.dtd (lists_of s.doc) path ⊎ StopsAtWide s.dtd s.root s.doc path → StopsAtWide s.dtd s.root s.doc path
-wide_for_weights s path is (inl first) = absurd (none_first (IsListForVerdict s.dtd) (lists_of s.doc) path is.guarded.holdable.narrow first)
-wide_for_weights s path is (inr stops) = stops
+not_too_wide : (s : PlainSession) (path : List ℕ) → IsSession s → IsFirstTooWide s.dtd (lists_of s.doc) path ⊎ StopsAtWide s.dtd s.root s.doc path → StopsAtWide s.dtd s.root s.doc path
+not_too_wide s path is (inl first) = absurd (none_first (IsListForVerdict s.dtd) (lists_of s.doc) path is.guarded.holdable.narrow first)
+not_too_wide s path is (inr stops) = stops
+
+pub wide_for_weights : (s : PlainSession) (path : List ℕ) → IsSession s → ∥ IsFirstTooWide s.dtd (lists_of s.doc) path ⊎ StopsAtWide s.dtd s.root s.doc path ∥₁ → ∥ StopsAtWide s.dtd s.root s.doc path ∥₁
+wide_for_weights s path is stops = ∥∥₁_map stops (not_too_wide s path is)

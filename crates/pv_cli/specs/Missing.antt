@@ -1,4 +1,5 @@
--- What `need` and `complete` reply in a session.
+-- What `need` and `complete` reply in a session. That a list is Possible, and that a document has a
+-- completion, is said in whichever way (`∥ ∥₁` says that there is one, and not which).
 use Rattle.std.specs.Prelude.{◌≡◌, ℕ, List}
 use Rattle.pv_script.specs.declared.replies.Reply.{Reply}
 use Rattle.pv_script.specs.declared.replies.Reply.TheVariants as reply
@@ -10,19 +11,19 @@ use Rattle.pv_complete.specs.Needing.{IsHeavy, Needs, StopsAtWide}
 -- How many elements are missing isn't told: the list at a path is the first Possible one that is
 -- too wide for weights; or there is none, and more than 1,000,000 elements are missing.
 pub data Withholds (s : PlainSession) (told : Reply) : Type 0 where
-  is_wide : (path : List ℕ) → StopsAtWide s.dtd s.root s.doc path → told ≡ reply.Wide path →
+  is_wide : (path : List ℕ) → ∥ StopsAtWide s.dtd s.root s.doc path ∥₁ → told ≡ reply.Wide path →
       Withholds s told
-  is_heavy : IsHeavy s.dtd s.root s.doc → told ≡ reply.Heavy → Withholds s told
+  is_heavy : ∥ IsHeavy s.dtd s.root s.doc ∥₁ → told ≡ reply.Heavy → Withholds s told
 
 -- the least number of elements whose insertion makes the document valid, or why it isn't told
 pub data TellsNeed (s : PlainSession) (told : Reply) : Type 0 where
-  is_needed : (k : ℕ) → Needs s.dtd s.root s.doc k → told ≡ reply.Need k → TellsNeed s told
+  is_needed : (k : ℕ) → ∥ Needs s.dtd s.root s.doc k ∥₁ → told ≡ reply.Need k → TellsNeed s told
   is_withheld : Withholds s told → TellsNeed s told
 
 -- a document that has so many elements more, and is valid, all else being written as it was; or why
 -- it isn't told; of several such documents any
 pub data TellsCompletion (s : PlainSession) (told : Reply) : Type 0 where
-  is_completed : (k : ℕ) (marks body : List ℕ) → IsLeastCompletion s.dtd s.root s.doc k marks body →
-      IsGrownText s.doc body →
+  is_completed : (k : ℕ) (marks body : List ℕ) →
+      ∥ IsLeastCompletion s.dtd s.root s.doc k marks body ∥₁ → ∥ IsGrownText s.doc body ∥₁ →
       told ≡ reply.Completed k body → TellsCompletion s told
   is_not_completed : Withholds s told → TellsCompletion s told

@@ -2,14 +2,14 @@
 //! the document with them.
 
 ghost use Rattle.std.specs.Prelude.{◌≡◌, IfOk, None};
-ghost use Rattle.pv_cli.specs.Missing.{TellsCompletion, Withholds};
+ghost use Rattle.pv_cli.specs.Missing.{TellsCompletion, TellsNeed, Withholds};
 ghost use Rattle.pv_cli.specs.Session.{done_of};
 ghost use Rattle.pv_cli.specs.Turns.{IsReplyBy};
 ghost use Rattle.pv_complete.specs.Needing.{HasCause};
 
 use super::answers::{Answer, other};
 use pv_chars::NoMemory;
-use pv_complete::{Completion, NeedError};
+use pv_complete::{Completion, NeedError, complete_by, need_by};
 use pv_dtd::laws::proper_dtd_law;
 use pv_script::{Command, Reply};
 use pv_session::Session;
@@ -19,7 +19,7 @@ use std::alloc::Global;
 // The reply where the number isn't told. In a session no list is Impossible, or too wide for a
 // verdict.
 fn withheld(session: &Session, error: NeedError) -> Result<Reply, NoMemory>
-    requires { HasCause session.now.dtd session.now.root session.now.doc error }
+    requires { ∥ HasCause session.now.dtd session.now.root session.now.doc error ∥₁ }
     ensures withholds { IfOk result (Withholds session.now) }
     ensures not_done { IfOk result (λ told. done_of told ≡ None) }
 {
@@ -34,17 +34,31 @@ fn withheld(session: &Session, error: NeedError) -> Result<Reply, NoMemory>
     }
 }
 
+// The least number of missing elements, or why it isn't told.
+fn needed(alloc: Global, session: &Session) -> Result<Reply, NoMemory>
+    ensures tells { IfOk result (TellsNeed session.now) }
+    ensures not_done { IfOk result (λ told. done_of told ≡ None) }
+{
+    session_law(session);
+    let verdicts = session.verdicts()?;
+    match need_by(
+        alloc,
+        session.grammar(),
+        session.root(),
+        session.doc(),
+        &verdicts,
+    ) {
+        Ok(number) => Ok(Reply::Need(number)),
+        Err(error) => withheld(session, error),
+    }
+}
+
 /// The reply to `need`.
 pub fn need(alloc: Global, session: &Session) -> Result<Answer, NoMemory>
     ensures { IfOk result (IsReplyBy session.now Command.Need session.now) }
 {
-    match pv_complete::need(alloc, session.grammar(), session.root(), session.doc()) {
-        Ok(number) => other(alloc, &Reply::Need(number)),
-        Err(error) => {
-            let reply = withheld(session, error)?;
-            other(alloc, &reply)
-        }
-    }
+    let reply = needed(alloc, session)?;
+    other(alloc, &reply)
 }
 
 // The document with the missing elements, or why it isn't told.
@@ -53,7 +67,14 @@ fn completed(alloc: Global, session: &Session) -> Result<Reply, NoMemory>
     ensures not_done { IfOk result (λ told. done_of told ≡ None) }
 {
     session_law(session);
-    match pv_complete::complete(alloc, session.grammar(), session.root(), session.doc()) {
+    let verdicts = session.verdicts()?;
+    match complete_by(
+        alloc,
+        session.grammar(),
+        session.root(),
+        session.doc(),
+        &verdicts,
+    ) {
         Ok(Completion { count, body, .. }) => Ok(Reply::Completed(count, body)),
         Err(error) => withheld(session, error),
     }

@@ -1,4 +1,5 @@
 use Rattle.std.proofs.Common.{refl}
+use Rattle.std.proofs.Math.Logic.{∥∥₁_elim}
 use Rattle.pv_cli.specs.Missing.{is_wide}
 use Rattle.pv_cli.proofs.MissingElements.{none_impossible, wide_for_weights}
 use Rattle.pv_cli.proofs.conversation.missing.withheld.Goals as goal
@@ -12,3 +13,6 @@ pub returns-in-TooWide-clause-withholds : goal.returns-in-TooWide-clause-withhol
 returns-in-TooWide-clause-withholds c =
     let session = c.args.session.now in
     is_wide c.in-TooWide.path (wide_for_weights session _ c.session_law.ensures (rw c.in-TooWide.is at c.requires)) refl
+
+pub unreachable-requires-in-TooMany : goal.unreachable-requires-in-TooMany
+unreachable-requires-in-TooMany c = ∥∥₁_elim (rw c.in-TooMany.is at c.requires) (λ x. absurd x) (λ none. none)
