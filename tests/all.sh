@@ -82,7 +82,7 @@ skip "the comparison with derivations by spans" python3 || check 300 python3 tes
 skip "the comparison of least numbers" python3 || check 300 python3 tests/least_numbers.py crates/pvtag/out/pvtag 850 1
 skip "the comparison of completions" python3 || check 300 python3 tests/completions.py crates/pvtag/out/pvtag 400 1 60
 skip "the comparison with a model" python3 || check 300 python3 tests/against_a_model.py crates/pvtag/out/pvtag 20000 7
-skip "the hostile files and failing machines" python3 || check 300 python3 tests/hostile.py crates/pvtag/out/pvtag
+skip "the hostile files and failing machines" python3 || check 400 python3 tests/hostile.py crates/pvtag/out/pvtag 200
 skip "the failing allocations" python3 cc || check 300 python3 tests/failing_allocations.py crates/pvtag/out/pvtag 12000
 skip "the comparison with xmllint" python3 xmllint || check 300 python3 tests/against_xmllint.py crates/pvtag/out/pvtag 200 1 120
 skip "the comparison of expansions" python3 || check 300 python3 tests/expansions.py crates/pvtag/out/pvtag 3000 1

@@ -1,6 +1,6 @@
 """Attacks the program as hostile files, a hostile input and a failing machine would.
 
-Words: PROGRAM. Each command is run on DTDs, documents and scripts made to cost much, at the limits and past them; on files that are no
+Words: PROGRAM [SECONDS]. Behind so many seconds, 200 where none are given, what is left isn't tried, which is said. Each command is run on DTDs, documents and scripts made to cost much, at the limits and past them; on files that are no
 files, are endless, change, or may not be read; with little memory, stack and few files; and with an output that is full, closed, slow or
 refuses. What each run must answer is told by `docs/COMMANDS.md` and `docs/FORMATS.md`. A run must end within a minute, write nothing as an
 error, and take no more memory than `docs/COMMANDS.md` tells under "Time and memory". Prints each difference, the most memory that each
@@ -58,6 +58,8 @@ def try_documents(trial):
     else:
         print("skipped: a document of 16,777,214 elements (too little memory)")
     for name, pieces, status, said in documents:
+        if trial.is_late(name):
+            break
         trial.write("hostile.xml", *pieces)
         for command in "valid", "check", "session":
             words = [command, "any.dtd", "a", "hostile.xml"]
@@ -65,7 +67,8 @@ def try_documents(trial):
                 expect_unread(trial, name, words, (status, said if command == "valid" else said.replace(b"invalid", b"impossible")))
             else:
                 trial.expect(name, words, (0, b"need 0\nhistory 0\n" if command == "session" else b"valid\n"), script=[b"need\nhistory\n"])
-    os.remove(trial.path("hostile.xml"))
+    if os.path.exists(trial.path("hostile.xml")):
+        os.remove(trial.path("hostile.xml"))
 
 
 def try_scripts(trial):
@@ -338,13 +341,16 @@ def try_inputs(trial):
 
 def main():
     program = os.path.abspath(sys.argv[1])
+    seconds = int(sys.argv[2]) if len(sys.argv) > 2 else 200
     with tempfile.TemporaryDirectory() as folder:
-        trial = Trial(program, folder)
+        trial = Trial(program, folder, seconds)
         trial.write("any.dtd", b"<!ELEMENT a ANY>")
         trial.write("a.xml", b"<a/>")
         write_small_files(trial)
         for part in (try_memory, try_words, try_files, try_pipes, try_inputs, try_permissions, try_changing_files, try_outputs, try_dtds, try_scripts,
                      try_documents):
+            if trial.is_late(part.__name__):
+                break
             started = time.monotonic()
             part(trial)
             print(f"{part.__name__}: {time.monotonic() - started:.0f} s", flush=True)

@@ -57,13 +57,21 @@ def least(holds, low, high):
 
 
 class Trial:
-    def __init__(self, program, folder):
+    def __init__(self, program, folder, seconds):
         self.program, self.folder = program, folder
+        self.end = time.monotonic() + seconds
         self.passed = self.failed = 0
         self.most, self.listed = {}, None
 
     def path(self, name):
         return os.path.join(self.folder, name)
+
+    def is_late(self, name):
+        """Whether the time is over: then this, and what comes behind it, isn't tried, which is said."""
+        if time.monotonic() < self.end:
+            return False
+        print(f"skipped: {name} and what comes behind it (no time)", flush=True)
+        return True
 
     def write(self, name, *pieces):
         with open(self.path(name), "wb") as file:
