@@ -4,7 +4,7 @@ ghost use Rattle.std.specs.Prelude.{◌≡◌, ◌<◌, ◌≤◌, ◌∷◌, �
 ghost use Rattle.std.specs.Prelude.{None, OnOk, get_or, length, true};
 ghost use Rattle.pv_columns.specs.ColumnRules.{InRange, ReadThrough, TokensMayBeMissing};
 ghost use Rattle.pv_columns.specs.FreeSets.{AreFreeSets, AreInRow, IsRowOf, IsSetAt};
-ghost use Rattle.pv_columns.specs.FreeSets.{KeepSets};
+ghost use Rattle.pv_columns.specs.FreeSets.{IsFreeOver, KeepSets};
 ghost use Rattle.pv_columns.specs.Frees.{AreFree};
 ghost use Rattle.pv_columns.specs.Marks.{AreBare, AreClosedMarks, ReadAlone};
 ghost use Rattle.pv_columns.specs.Sets.{AreLayers, AreTokensBelow};
@@ -172,5 +172,18 @@ impl FreeSets {
             return None;
         }
         Some(are_in_row(&self.sets[number].words, word))
+    }
+
+    /// The set of the column at this place, where it is free.
+    pub fn set_at(&self, place: usize) -> Option<&[u64]>
+        ensures { IfSome result (λ row. (rules : List PlainRule) (columns : List ℕ) →
+            AreFreeSets rules columns self.now →
+            IsFreeOver rules row.now (get_or columns place 0)) }
+    {
+        let number = number_at(&self.numbers, place)?;
+        if number >= self.sets.len() {
+            return None;
+        }
+        Some(&self.sets[number].words)
     }
 }

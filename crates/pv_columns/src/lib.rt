@@ -26,3 +26,4 @@ mod tokens;
 pub use free_sets::FreeSets;
 pub use marks::{are_marked, close_marks, is_marked, is_open};
 pub use rules::ColumnRule;
+pub use tokens::has;

@@ -1,6 +1,7 @@
 -- of this crate:
 pub mod Alone
 pub mod Cells
+pub mod Cutting
 pub mod Closing
 pub mod ColumnAnswers
 pub mod ColumnsDerive
@@ -15,6 +16,7 @@ pub mod Naming
 pub mod Placing
 pub mod Pushing
 pub mod Raising
+pub mod Ranged
 pub mod Ranging
 pub mod Replacing
 pub mod SitesReach

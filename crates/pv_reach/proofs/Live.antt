@@ -1,14 +1,13 @@
 -- Columns that reach over no tokens, by those that stand for them.
-use Rattle.std.proofs.Common.{Bool, List, [], ap, arith, false, get_or, inl, inr, length, replicate, subst, sym, take, true, ℕ, ◌+◌, ◌<◌, ◌^◌, ◌∙◌, ◌∷◌, ◌↔◌, ◌≡◌, ◌≤◌, ◌⊎◌, All, Contains, IsTrue}
-use Rattle.std.proofs.lemmas.List.{get_or-take}
+use Rattle.std.proofs.Common.{All, Bool, Contains, List, [], ap, arith, false, get_or, inl, inr, length, replicate, subst, sym, true, ℕ, ◌+◌, ◌<◌, ◌^◌, ◌∙◌, ◌∷◌, ◌≡◌, ◌≤◌, ◌⊎◌}
 use Rattle.pv_model.specs.declared.models.Token.{Token}
 use Rattle.pv_columns.specs.ColumnRules.{InRange, ReadThrough}
 use Rattle.pv_columns.specs.Marks.{AreBare}
 use Rattle.pv_columns.specs.declared.rules.ColumnRule.{ColumnRule}
-use Rattle.pv_dtd.specs.Plain.{PlainDtd, declared}
+use Rattle.pv_dtd.specs.Plain.{PlainDtd}
 use Rattle.pv_reach.specs.Columns.{AreRules, width_of}
 use Rattle.pv_reach.specs.Leading.{AreAlike}
-use Rattle.pv_reach.specs.Merging.{AreHeadsBare, AreMerged, HasMerged, IsMerging, Replaces, head_of}
+use Rattle.pv_reach.specs.Merging.{AreHeadsBare, AreMerged, HasMerged, IsMerging, Replaces}
 use Rattle.pv_reach.specs.declared.merging.Merging.{Merging}
 use Rattle.pv_reach.proofs.FormedDtds.{IsFormedDtd}
 use Rattle.pv_reach.proofs.Placing.{unset}
@@ -35,7 +34,6 @@ pub record IsPlanned (g : PlainDtd) (rules : List ColumnRule) (m : Merging) (mer
   pub replaces : Replaces rules merged (width_of g) wider m.heads.items
   pub narrow : wider < 2 ^ 26
   pub heads : AreHeadsBare merged m.bare.items m.heads.items
-  pub names : declared g ≤ length m.heads.items
 
 module _ (g : PlainDtd) (formed : IsFormedDtd g) (rules : List ColumnRule) (m : Merging) (bare : List Bool) (heads order : List ℕ) (merged : List ColumnRule) (n led : ℕ) (are : AreRules g rules)
     (same : (m.bare.items ≡ bare) × (m.heads.items ≡ heads)) (are_bare : AreBare rules bare) (alike : (length heads ≡ n) × AreAlike rules heads) (width : n ≡ width_of g) (narrow : n < 2 ^ 25)
@@ -58,13 +56,4 @@ module _ (g : PlainDtd) (formed : IsFormedDtd g) (rules : List ColumnRule) (m : 
         replaces = r;
         narrow = (let z = is.narrow in omega arith);
         heads = λ c mark lt word p. (r.same word c p p (let z = long in omega arith)).1 (is.bare.bare c mark word p);
-        names = (let z = formed.is_proper.named in omega arith);
       }
-
--- the set of a declared name's content
-pub free_reaches : (rules : List ColumnRule) (heads : List ℕ) (n x : ℕ) (word : List Token) (b : Bool) → x < n →
-    IsTrue b ↔ ReadThrough rules word (get_or (take n heads) x 0 ∷ []) 0 (length word) → IsTrue b ↔ ReadThrough rules word (head_of heads x ∷ []) 0 (length word)
-free_reaches rules heads n x word b lt iff =
-    let e = get_or-take n heads x 0 lt in
-    let P : ℕ → Type 0 = λ v. IsTrue b ↔ ReadThrough rules word (v ∷ []) 0 (length word) in
-    subst P e iff

@@ -19,7 +19,7 @@ use Rattle.pv_reach.proofs.Pushing.{grow_none, grow_twice, has_as}
 use Rattle.pv_columns.proofs.Spans.{join}
 
 -- a rule that is told by its parts
-by_has : (rules : List ColumnRule) (word : List Token) (l : ℕ) (o : Option Token) (cs : List ℕ) (i m j : ℕ) → Has rules l o cs → Reads word o i m → ReadThrough rules word cs m j → ReadThrough rules word (l ∷ []) i j
+pub by_has : (rules : List ColumnRule) (word : List Token) (l : ℕ) (o : Option Token) (cs : List ℕ) (i m j : ℕ) → Has rules l o cs → Reads word o i m → ReadThrough rules word cs m j → ReadThrough rules word (l ∷ []) i j
 by_has rules word l o cs i m j h reads d =
     by_rule l [] h.rule i m j j h.is_in (sym h.is_left) (rw h.is_token reads) (let P : List ℕ → Type 0 = λ x. ReadThrough rules word x m j in subst P (sym h.are_columns) d) (done j j refl)
 

@@ -5,4 +5,5 @@ pub mod Adding
 pub mod Parts
 pub mod Leading
 pub mod Merging
+pub mod Cuts
 pub mod Plans

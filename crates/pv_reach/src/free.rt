@@ -1,13 +1,14 @@
-//! The names whose content is free, with the sets of tokens that they take.
+//! The columns that are free, with the sets of tokens that they take.
 
-ghost use Rattle.std.specs.Prelude.{◌≡◌, ◌<◌, ◌≤◌, IfOk, length, take};
+ghost use Rattle.std.specs.Prelude.{IfOk};
 ghost use Rattle.pv_columns.specs.ColumnRules.{InRange};
-ghost use Rattle.pv_columns.specs.FreeSets.{AreFreeSets};
 ghost use Rattle.pv_columns.specs.Marks.{AreBare, AreClosedMarks, ReadAlone};
+ghost use Rattle.pv_reach.specs.Cuts.{AreOwnSets};
 ghost use Rattle.pv_reach.specs.Merging.{AreHeadsBare};
 
 use crate::flags::set_flag;
 use crate::merging::{Merging, head_of};
+use crate::sweep::numbers_below;
 use pv_columns::{ColumnRule, FreeSets, close_marks, is_marked};
 use std::alloc::{AllocError, Global};
 
@@ -33,21 +34,19 @@ fn live_columns(
     Ok(live)
 }
 
-/// The sets of those of the first `names` columns, the contents of declared names, that are free.
-pub fn free_names(
+/// The sets of the columns below `wider` that are free.
+pub fn free_sets(
     alloc: Global,
     merged: &[ColumnRule],
     merging: &Merging,
-    names: usize,
     wider: usize,
 ) -> Result<FreeSets, AllocError>
-    requires names { names ≤ length merging.now.heads.items }
     requires in_range { InRange wider merged.now }
     requires heads { AreHeadsBare merged.now merging.now.bare.items merging.now.heads.items }
     requires alone { ReadAlone merged.now }
-    ensures { IfOk result (λ free. AreFreeSets merged.now
-        (take names merging.now.heads.items) free) }
+    ensures { IfOk result (λ free. AreOwnSets merged.now wider free) }
 {
     let live = live_columns(alloc, merged, merging, wider)?;
-    FreeSets::of(alloc, merged, &live, &merging.heads[..names], wider)
+    let columns = numbers_below(alloc, wider)?;
+    FreeSets::of(alloc, merged, &live, &columns, wider)
 }

@@ -9,8 +9,10 @@
 //! places up to the furthest one, a number for each is enough. The rules are laid out once for a
 //! grammar, in a plan (`specs/Plans.antt`), over one column for all that lead to one another
 //! (`specs/Leading.antt`, `Merging.antt`). Most contents are free: they derive each word of tokens
-//! that they take, so a plan has the sets of these, and a word is tried against one set in place of
-//! a table. A grammar with its plan is a `Judge`, by which many verdicts are found.
+//! that they take, so a plan has the sets of free columns, and a word is tried against one set in
+//! place of a table. Where a content isn't free, the table has only the columns that are needed
+//! before free ones are come to (`specs/Cuts.antt`). A grammar with its plan is a `Judge`, by which
+//! many verdicts are found.
 #![tactic(auto)]
 
 mod adding;
@@ -19,9 +21,11 @@ mod bare;
 mod chains;
 mod components;
 mod contents;
+mod cut;
 mod edges;
 mod errors;
 mod flags;
+mod found;
 mod free;
 mod judge;
 pub mod laws;
@@ -32,6 +36,7 @@ mod merging;
 mod order;
 mod parts;
 mod plan;
+mod ranges;
 mod sweep;
 mod table;
 mod verdict;

@@ -8,11 +8,12 @@ ghost use Rattle.pv_reach.specs.Plans.{IsPlan};
 use crate::adding::any_column;
 use crate::bare::bare_columns;
 use crate::components::components_of;
-use crate::free::free_names;
+use crate::free::free_sets;
 use crate::layout::rules_of;
 use crate::led::merging_of;
 use crate::merging::merge;
 use crate::order::rule_order;
+use crate::ranges::Ranges;
 use pv_chars::NoMemory;
 use pv_columns::{ColumnRule, FreeSets};
 use pv_productive::Grammar;
@@ -26,8 +27,10 @@ pub struct Plan {
     /// For each column of the DTD the one that stands for it.
     pub(crate) heads: Vec<usize>,
     pub(crate) width: usize,
-    /// The sets of the names whose content is free.
+    /// The sets of the columns that are free.
     pub(crate) free: FreeSets,
+    /// Where the rules of each column stand.
+    pub(crate) ranges: Ranges,
 }
 
 impl Plan {
@@ -61,12 +64,13 @@ fn plan_over(alloc: Global, grammar: &Grammar, rules: &[ColumnRule]) -> Result<P
     let merging = merging_of(alloc, rules, bare, components.heads)?;
     let merged = merge(alloc, rules, &merging, &order)?;
     let wider = width + merging.led.len();
-    let names = grammar.dtd().count() as usize;
-    let free = free_names(alloc, &merged, &merging, names, wider)?;
+    let free = free_sets(alloc, &merged, &merging, wider)?;
+    let ranges = Ranges::of(alloc, &merged, wider)?;
     Ok(Plan {
         rules: merged,
         heads: merging.heads,
         width: wider,
         free,
+        ranges,
     })
 }

@@ -1,6 +1,6 @@
 //! A sweep against the edges: for each column, one that it leads to.
 
-ghost use Rattle.std.specs.Prelude.{◌≡◌, ◌<◌, List, IfOk, OnOk, length};
+ghost use Rattle.std.specs.Prelude.{◌≡◌, ◌<◌, ℕ, List, IfOk, OnOk, get_or, length};
 ghost use Rattle.pv_reach.specs.Leading.{AreLed};
 ghost use Rattle.pv_reach.specs.declared.edges.Edge.{Edge as PlainEdge};
 
@@ -20,9 +20,11 @@ pub struct Sweep {
 }
 
 /// Each number below `width`, in order.
-fn numbers_below(alloc: Global, width: usize) -> Result<Vec<usize>, AllocError>
-    ensures { IfOk result (λ numbers. (length numbers.items ≡ width)
-        × ((edges : List PlainEdge) → AreLed edges numbers.items)) }
+pub fn numbers_below(alloc: Global, width: usize) -> Result<Vec<usize>, AllocError>
+    ensures long { IfOk result (λ numbers. length numbers.items ≡ width) }
+    ensures own { IfOk result (λ numbers. (k : ℕ) → k < width → get_or numbers.items k 0 ≡ k) }
+    ensures led { IfOk result (λ numbers. (edges : List PlainEdge) →
+        AreLed edges numbers.items) }
 {
     let mut numbers = Vec::new(alloc);
     for number in 0..width {

@@ -12,11 +12,11 @@ ghost use Rattle.pv_missing.specs.WordVerdicts.{IsPossibleAt};
 ghost use Rattle.pv_rules.specs.Deriving.{DerivesAt};
 ghost use Rattle.pv_reach.specs.declared.errors.ReachError.TheVariants.{TooWide as too_wide};
 
+use crate::cut::column_reaches;
 use crate::errors::ReachError;
 use crate::judge::Judge;
 use crate::merging::head_of;
 use crate::plan::Plan;
-use crate::table::reaches_end;
 use pv_missing::{Of, is_narrow};
 use pv_model::{NameId, Token};
 use pv_productive::Grammar;
@@ -41,11 +41,11 @@ pub(crate) fn content_derives(
         return Ok(false);
     }
     let plan = judge.plan();
-    if let Some(covers) = plan.free.covers(id.0 as usize, word) {
+    let column = head_of(&plan.heads, id.0 as usize);
+    if let Some(covers) = plan.free.covers(column, word) {
         return Ok(covers);
     }
-    let column = head_of(&plan.heads, id.0 as usize);
-    reaches_end(judge.alloc(), &plan.rules, word, plan.width, column)
+    column_reaches(judge.alloc(), plan, word, column)
 }
 
 /// Whether the word is one element of this name.
@@ -73,7 +73,7 @@ fn is_possible(judge: &Judge<'_>, of: Of, word: &[Token]) -> Result<bool, AllocE
 /// element.
 ///
 /// `TooWide` is asked first, and takes no memory. Where the content isn't free there is a table,
-/// which takes four bytes for each column and each place of the word.
+/// which takes four bytes for each column that is needed and each place of the word.
 pub fn possible<L: Ledger>(
     alloc: Global,
     grammar: &Grammar,

@@ -1,21 +1,25 @@
-use Rattle.std.proofs.Common.{List, [], ap, arith, length, subst, sym, take, ℕ, ◌<◌, ◌∙◌, ◌∷◌}
+use Rattle.std.proofs.Common.{IsTrue, [], ap, arith, length, subst, sym, ℕ, ◌<◌, ◌∙◌, ◌∷◌, ◌↔◌, ◌≡◌}
 use Rattle.pv_dtd.specs.Plain.{declared}
 use Rattle.pv_productive.specs.PlainForms.{dtd_of}
-use Rattle.pv_columns.specs.declared.rules.ColumnRule.{ColumnRule}
-use Rattle.pv_columns.specs.ColumnRules.{InRange, ReadThrough, TokensMayBeMissing}
+use Rattle.pv_columns.specs.ColumnRules.{ReadThrough}
 use Rattle.pv_reach.specs.Merging.{head_of}
 use Rattle.pv_reach.proofs.Emptied.{tokens_may_be_missing}
 use Rattle.pv_reach.proofs.FormedDtds.{formed_dtd}
 use Rattle.pv_reach.proofs.Listing.{if_ok_as}
-use Rattle.pv_reach.proofs.Live.{free_reaches}
 use Rattle.pv_reach.proofs.ColumnAnswers.{content_reaches}
 use Rattle.pv_reach.proofs.words.content_derives.Goals as goal
 
-pub reaches_end-requires-clause-narrow : goal.reaches_end-requires-clause-narrow
-reaches_end-requires-clause-narrow c = c.plan-plan.ensures.narrow
+pub column_reaches-requires-clause-sets : goal.column_reaches-requires-clause-sets
+column_reaches-requires-clause-sets c = c.plan-plan.ensures.free
 
-pub reaches_end-requires-clause-column : goal.reaches_end-requires-clause-column
-reaches_end-requires-clause-column c =
+pub column_reaches-requires-clause-ranges : goal.column_reaches-requires-clause-ranges
+column_reaches-requires-clause-ranges c = c.plan-plan.ensures.ranges
+
+pub column_reaches-requires-clause-narrow : goal.column_reaches-requires-clause-narrow
+column_reaches-requires-clause-narrow c = c.plan-plan.ensures.narrow
+
+pub column_reaches-requires-clause-column : goal.column_reaches-requires-clause-column
+column_reaches-requires-clause-column c =
     let n = c.count.ensures ∙ ap declared (c.dtd.ensures ∙ ap dtd_of c.grammar-grammar.ensures) in
     let l = c.if-id-count.false in
     let many = (formed_dtd c.args.judge.now).is_proper.named in
@@ -23,17 +27,13 @@ reaches_end-requires-clause-column c =
     let P : ℕ → Type 0 = λ v. v < c.plan-plan.result.now.width in
     subst P (sym e) (c.plan-plan.ensures.replaces.columns c.args.id.0 (omega arith))
 
-pub reaches_end-requires-clause-in_range : goal.reaches_end-requires-clause-in_range
-reaches_end-requires-clause-in_range c =
-    let P : List ColumnRule → Type 0 = λ v. InRange c.plan-plan.result.now.width v in
-    subst P (sym c.deref-2.ensures.value) c.plan-plan.ensures.replaces.in_range
+pub column_reaches-requires-clause-in_range : goal.column_reaches-requires-clause-in_range
+column_reaches-requires-clause-in_range c = c.plan-plan.ensures.replaces.in_range
 
-pub reaches_end-requires-clause-missing : goal.reaches_end-requires-clause-missing
-reaches_end-requires-clause-missing c =
-    let P : List ColumnRule → Type 0 = λ v. TokensMayBeMissing v c.args.word.now in
-    subst P (sym c.deref-2.ensures.value)
-    (c.plan-plan.ensures.replaces.missing c.args.word.now
-    (tokens_may_be_missing (dtd_of c.args.judge.now) c.plan-plan.ensures.rules c.args.word.now c.plan-plan.ensures.are_rules (formed_dtd c.args.judge.now) c.requires.productive))
+pub column_reaches-requires-clause-missing : goal.column_reaches-requires-clause-missing
+column_reaches-requires-clause-missing c =
+    c.plan-plan.ensures.replaces.missing c.args.word.now
+    (tokens_may_be_missing (dtd_of c.args.judge.now) c.plan-plan.ensures.rules c.args.word.now c.plan-plan.ensures.are_rules (formed_dtd c.args.judge.now) c.requires.productive)
 
 pub returns-in-Some : goal.returns-in-Some
 returns-in-Some c =
@@ -44,7 +44,11 @@ returns-in-Some c =
     let many = (formed_dtd c.args.judge.now).is_proper.named in
     let missing = is.replaces.missing word (tokens_may_be_missing g is.rules word is.are_rules (formed_dtd c.args.judge.now) c.requires.productive) in
     let s = is.replaces.same word c.args.id.0 0 (length word) (omega arith) in
-    let r = free_reaches plan.rules.items plan.heads.items (declared g) c.args.id.0 word c.in-Some.covers lt (c.in-Some.ensures plan.rules.items (take (declared g) plan.heads.items) is.free missing) in
+    let e : c.head_of-column.result ≡ head_of plan.heads.items c.args.id.0 = c.head_of-column.ensures ∙ ap (λ v. head_of v c.args.id.0) c.deref.ensures.value in
+    let W : ℕ → Type 0 = λ v. v < plan.width in
+    let own = is.free.own c.head_of-column.result (subst W (sym e) (is.replaces.columns c.args.id.0 (omega arith))) in
+    let P : ℕ → Type 0 = λ v. IsTrue c.in-Some.covers ↔ ReadThrough plan.rules.items word (v ∷ []) 0 (length word) in
+    let r = subst P (own ∙ e) (c.in-Some.ensures plan.rules.items is.free.columns is.free.sets missing) in
     content_reaches g is.rules word c.args.id.0 c.in-Some.covers is.are_rules (formed_dtd c.args.judge.now) lt ((λ t. s.0 (r.0 t)), (λ d. r.1 (s.1 d)))
 
 pub returns : goal.returns
@@ -56,8 +60,7 @@ returns c =
     let many = (formed_dtd c.args.judge.now).is_proper.named in
     let s = c.plan-plan.ensures.replaces.same word c.args.id.0 0 (length word) (omega arith) in
     let e = c.head_of-column.ensures ∙ ap (λ v. head_of v c.args.id.0) c.deref.ensures.value in
-    let P : List ColumnRule → Type 0 = λ v. ReadThrough v word (c.head_of-column.result ∷ []) 0 (length word) in
     let Q : ℕ → Type 0 = λ v. ReadThrough c.plan-plan.result.now.rules.items word (v ∷ []) 0 (length word) in
-    if_ok_as c.reaches_end.result _ _
+    if_ok_as c.column_reaches.result _ _
     (λ b iff. content_reaches g c.plan-plan.ensures.rules word c.args.id.0 b c.plan-plan.ensures.are_rules (formed_dtd c.args.judge.now) lt
-    ((λ t. s.0 (subst Q e (subst P c.deref-2.ensures.value (iff.0 t)))), (λ d. iff.1 (subst P (sym c.deref-2.ensures.value) (subst Q (sym e) (s.1 d)))))) c.reaches_end.ensures
+    ((λ t. s.0 (subst Q e (iff.0 t))), (λ d. iff.1 (subst Q (sym e) (s.1 d))))) c.column_reaches.ensures
