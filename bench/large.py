@@ -2,9 +2,10 @@
 
 The DTDs are a made one in the shape of DocBook, of 400 names and some 15,000 parts, DocBook itself where it is installed with lxml, and the
 largest within the limits, of 4,096 names and 65,536 parts. Under each: an opened document of one element, for the DTD's reading and laying
-out; a document of 18 MB, valid and without every tenth pair of tags; an edit in a list of 20 and of 2,000 kids; and `need` of a draft of
-300 kB. The runs are interleaved; the best of each is told, in milliseconds of processor time and megabytes at the peak, and of an edit in
-microseconds, without the opening.
+out; a document of 18 MB whose lists are within the limit of their width, valid and without every tenth pair of tags (of 8 MB under the
+largest DTD, where more is too wide); an edit in a list of 20 and of 2,000 kids (900 under the largest DTD), by an owner whose content is free and by one whose content isn't;
+and `need` of a draft of 300 kB. The runs are interleaved; the best of each is told, in milliseconds of processor time and megabytes at the
+peak, and of an edit in microseconds, without the opening.
 """
 import os
 import random
@@ -17,6 +18,10 @@ import published as tests  # noqa: E402
 from check import without_tags  # noqa: E402
 
 EDITS = 2_000
+# Of the documents of a DTD their begin and end, the names of blocks, paragraphs and inline elements; an owner whose content isn't free, a
+# kid of it, and the name of an element that may be inserted before all kids.
+BOOK = ["<book><title>t</title><b0>", "</b0></book>", "b2", "b4", "para", "i1", "book", "<b0/>", "b0"]
+SECTION = ["<section><title>t</title>", "</section>", "blockquote", "blockquote", "para", "emphasis", "refentry", "<refsect1/>", "refnamediv"]
 
 
 # Names in four layers: blocks hold blocks and paragraphs in any order, most with a title in front, and paragraphs hold inline names.
@@ -35,12 +40,23 @@ def shaped(inlines, blocks, most):
     return "\n".join(lines) + "\n"
 
 
-# So many paragraphs in blocks, each with inline elements.
-def text_of(book, block, para, inline, count):
+# So many paragraphs in blocks, which stand in further ones, each paragraph with inline elements.
+def text_of(book, outer, block, para, inline, count):
     paras = f"<{para}>one <{inline}>two</{inline}> three <{inline}>four</{inline}></{para}>"
-    per = 20
-    blocks = f"<{block}>" + paras * per + f"</{block}>"
-    return f"{book}{blocks * (count // per)}"
+    per, blocks = 20, 100
+    text = f"<{block}>{paras * per}</{block}>"
+    whole, rest = divmod(count // per, blocks)
+    return book + f"<{outer}>{text * blocks}</{outer}>" * whole + f"<{outer}>{text * rest}</{outer}>"
+
+
+# Writes a document that a process of its own makes: the peak of a process counts from that of the one which starts it.
+def document(name, make):
+    child = os.fork()
+    if not child:
+        tests.write(name, make())
+        os._exit(0)
+    os.waitpid(child, 0)
+    return name
 
 
 def seconds(words, given=""):
@@ -55,36 +71,37 @@ def seconds(words, given=""):
 
 
 # Words, script and edits of each case of a DTD whose documents begin and end so, by title.
-def cases(program, dtd, root, begin, end, block, para, inline):
-    def document(name, text):
-        tests.write(name, text)
-        return name
-
-    def words(command, name):
+def cases(program, dtd, root, begin, end, outer, block, para, inline, owner, kid, insert, most, size):
+    def words(command, name, root=root):
         return [program, command, dtd, root, name]
 
-    whole = text_of(begin, block, para, inline, 18_000_000 // 80) + end
-    draft = without_tags(text_of(begin, block, para, inline, 300_000 // 80) + end)
-    one = document(f"{dtd}.one.xml", text_of(begin, block, para, inline, 20) + end)
-    yield "a small document opened", words("check", one), "", 0
-    yield "18 MB, valid", words("check", document(f"{dtd}.whole.xml", whole)), "", 0
-    yield "18 MB, without every tenth pair of tags", words("check", document(f"{dtd}.tags.xml", without_tags(whole))), "", 0
-    for count in (20, 2_000):
+    def whole(bytes):
+        return text_of(begin, outer, block, para, inline, bytes // 80) + end
+
+    yield "a small document opened", words("check", document(f"{dtd}.one.xml", lambda: whole(1_600))), "", 0
+    yield f"{size} MB, valid", words("check", document(f"{dtd}.whole.xml", lambda: whole(size * 1_000_000))), "", 0
+    name = document(f"{dtd}.tags.xml", lambda: without_tags(whole(size * 1_000_000)))
+    yield f"{size} MB, without every tenth pair of tags", words("check", name), "", 0
+    for count in (20, most):
         kids = f"<{block}>" + f"<{para}>a</{para}>" * count + f"</{block}>"
-        name = document(f"{dtd}.{count}.xml", begin + kids + end)
+        name = document(f"{dtd}.{count}.xml", lambda: begin + kids + end)
         path = f"0.{begin.count('</')}"
         yield f"{count:,} kids", words("session", name), f"wrap {path} 0 1 {block}\nundo\n" * (EDITS // 2), EDITS
-    yield "a draft of 300 kB", words("session", document(f"{dtd}.draft.xml", draft)), "need\n", 0
+    for count in (20, most):
+        name = document(f"{dtd}.{count}.owner.xml", lambda: f"<{owner}>" + kid * count + f"</{owner}>")
+        yield f"{count:,} kids, not free", words("session", name, owner), f"insert 0 0 {insert}\nundo\n" * (EDITS // 20), EDITS // 10
+    name = document(f"{dtd}.draft.xml", lambda: without_tags(whole(300_000)))
+    yield "a draft of 300 kB", words("session", name), "need\n", 0
 
 
 def dtds(python):
     tests.write("shaped.dtd", shaped(200, 196, 40))
-    yield "in the shape of DocBook", "shaped.dtd", "book", "<book><title>t</title><b0>", "</b0></book>", "b2", "para", "i1"
+    yield "in the shape of DocBook", "shaped.dtd", "book", *BOOK, 2_000, 18
     if python and os.path.exists(tests.MANUALS):
         tests.write("docbook.dtd", tests.run(python, tests.TOOL, tests.MANUALS).stdout)
-        yield "DocBook 4.5", "docbook.dtd", "section", "<section><title>t</title>", "</section>", "blockquote", "para", "emphasis"
+        yield "DocBook 4.5", "docbook.dtd", "section", *SECTION, 2_000, 18
     tests.write("largest.dtd", shaped(2_048, 2_044, 16))
-    yield "the largest", "largest.dtd", "book", "<book><title>t</title><b0>", "</b0></book>", "b2", "para", "i1"
+    yield "the largest", "largest.dtd", "book", *BOOK, 900, 8
 
 
 def main():
