@@ -237,6 +237,23 @@ for k in $(seq 0 19); do echo "<!ELEMENT t$k (t$((k + 1)),t$((k + 1)))>"; done >
 echo '<!ELEMENT t20 EMPTY>' >>doubling.dtd
 session "need past a million" "$(lines 'no heavy' 'no heavy')" doubling.dtd t0 '<t0/>' need complete
 session "need below a million" 'need 524286' doubling.dtd t2 '<t2/>' need
+
+# Packs.
+printf '<!ELEMENT a (b)><!ELEMENT b EMPTY>' >pair.dtd
+printf '<a/>' >one.xml
+expect "a pack" 0 "$(lines 'pvpack 1' 'total 1' 'mark 1' 'body 14' '<a><b></b></a>' 'list 0' 'c 0 0 0 1' 'c 1 0 0 0' 'n 0 0 0 2' \
+    'n 1 0 0 1' 'p 0 0 0 1' 'p 1 0 0 1' 's 1 0 0 1' 'end')$lf" "$pvtag" complete pair.dtd a one.xml
+printf '<a><b/></a>' >one.xml
+expect "a pack of a valid document" 0 "$(lines 'pvpack 1' 'total 0' 'body 11' '<a><b/></a>' 'end')$lf" "$pvtag" complete pair.dtd a one.xml
+printf '<doc><sec/><head/></doc>' >one.xml
+expect "no pack of an impossible document" 1 "impossible 0$lf" "$pvtag" complete a.dtd doc one.xml
+printf '<t0/>' >one.xml
+expect "a pack of too many elements" 8 "limit weight$lf" "$pvtag" complete doubling.dtd t0 one.xml
+printf '<doc>%s</doc>' "$(repeat 1057 '<sec/>')" >one.xml
+expect "a list too wide for a pack" 8 "limit width 0$lf" "$pvtag" complete a.dtd doc one.xml
+printf '<!ELEMENT t (r)*><!ELEMENT r (a)><!ELEMENT a ANY>' >one.dtd
+printf '<t>%s</t>' "$(repeat 12 "<r>$(repeat 400 '<a/>')</r>")" >one.xml
+expect "a pack of too many entries" 8 "limit tables$lf" "$pvtag" complete one.dtd t one.xml
 session "not yet valid" "$(lines 'no shape range' 'ok 2 1' 'ok 2 1' 'show 30' '<doc><head/>Hello<p></p></doc>')" a.dtd doc "$hello" \
     'wrap 0 2 5 p' 'wrap 0 1 1 p' 'insert 0 0 head' show
 session "shapes" "$(lines 'no shape close-mark' 'no shape not-element' 'no shape root-shape' 'no shape no-node' 'no shape root-shape' 'no shape bad-name')" \

@@ -12,8 +12,9 @@ use Rattle.pv_tree.specs.declared.nodes.Mark.{Mark}
 use Rattle.pv_session.specs.Sessions.{PlainSession}
 use Rattle.pv_params.specs.Meaning.{conditional, external, undeclared, recursive, limit as params_limit, syntax as params_syntax}
 use Rattle.pv_cli.specs.Parameters.{RefusesParameters, not_expanded}
-use Rattle.pv_cli.specs.Causes.{HoldsText, ReadsScript, TestsFor, parameters, HasCause, OneRoseAtMost, ReadsBoth, ReadsDocument, ReadsDtd, RespondsBy, is_document_limit, dtd_file, document_file, in_dtd, in_document, document_bytes, list_width, not_possible, not_valid, of_input, of_shelf, script_line, whole_script}
+use Rattle.pv_cli.specs.Causes.{HoldsText, MakesTables, ReadsScript, TestsFor, parameters, HasCause, OneRoseAtMost, ReadsBoth, ReadsDocument, ReadsDtd, RespondsBy, is_document_limit, dtd_file, document_file, in_dtd, in_document, document_bytes, list_width, not_possible, not_valid, of_input, of_shelf, script_line, whole_script, missing_elements, table_entries, weights_width}
 use Rattle.pv_cli.specs.Check.{TellsPossibility, is_no_more, is_possible}
+use Rattle.pv_cli.specs.Complete.{TellsPack, has_too_many, is_heavy, is_pack, is_wide}
 use Rattle.pv_cli.specs.CommandLine.{PlainCommandLine, drill, files_named, on_document, on_dtd}
 use Rattle.pv_cli.specs.Commands.{Tells, possibility, validity}
 use Rattle.pv_cli.specs.Course.{Course, RunEnding, input_fault, no_memory, output_fault, responds, shelf_fault}
@@ -23,7 +24,7 @@ use Rattle.pv_cli.specs.Drill.{DRILL_ROOT, TellsCounts, drill_stage}
 use Rattle.pv_cli.specs.Dtd.{TellsDtd}
 use Rattle.pv_cli.specs.Laws.{ComesByCause, RaisesOneAtMost}
 use Rattle.pv_cli.specs.Opening.{Files, RefusesDtd, dtd_file_stage, file_at, no_dtd, opening_stage}
-use Rattle.pv_cli.specs.Possibility.{RefusesImpossible, RefusesWidth, is_impossible, is_too_wide, width_stage}
+use Rattle.pv_cli.specs.Possibility.{RefusesImpossible, RefusesWidth, is_impossible, is_too_wide, possibility_stage, width_stage}
 use Rattle.pv_cli.specs.Program.{CountsInput, CountsShelf, IsDefined, Writes, cut_off, wrote}
 use Rattle.pv_cli.specs.Response.{PlainResponse}
 use Rattle.pv_cli.specs.Session.{Converses, ended_over, finished, guarding_stage, input_failed, output_failed, past_line, past_script, quitted, without_room}
@@ -32,7 +33,7 @@ use Rattle.pv_cli.specs.Valid.{TellsValidity, is_invalid, is_valid}
 use Rattle.pv_cli.specs.declared.status.Status.{Status}
 use Rattle.pv_cli.specs.declared.status.Status.TheVariants.{Done, Negative, Usage, ReadFault, WriteFault, NoMemory, BadDtd, BadDocument, Limit}
 use Rattle.pv_cli.specs.declared.verb.Verb.{Verb}
-use Rattle.pv_cli.specs.declared.verb.Verb.TheVariants.{Valid, Check, Session}
+use Rattle.pv_cli.specs.declared.verb.Verb.TheVariants.{Valid, Check, Session, Complete}
 
 -- a response of a known status
 by_status : (line : Option PlainCommandLine) (files : Files) (taken : Option (List ℕ)) (status : Status) (r told : PlainResponse) → r ≡ told → told.status ≡ status → RespondsBy line files taken status → RespondsBy line files taken r.status
@@ -84,9 +85,18 @@ module _ (line : Option PlainCommandLine) (files : Files) (taken : Option (List 
     possibility_told tests (is_possible n can have is) = by_status line files taken Done r _ is refl tt
     possibility_told tests (is_no_more denies) = impossible_refused tests denies
 
+    pack_told : TestsFor line possibility → MakesTables line → TellsPack root g doc r → RespondsBy line files taken r.status
+    pack_told tests makes (is_pack pack least is) = by_status line files taken Done r _ is refl tt
+    pack_told tests makes (is_wide path stops is) = by_status line files taken Limit r _ is refl (weights_width root g doc path makes both stops)
+    pack_told tests makes (is_heavy heavy is) = by_status line files taken Limit r _ is refl (missing_elements root g doc makes both heavy)
+    pack_told tests makes (has_too_many many is) = by_status line files taken Limit r _ is refl (table_entries root g doc makes both many)
+
+    possibility_refused : TestsFor line possibility → (k : ℕ) → (possibility_stage root g doc).Refuses r k → RespondsBy line files taken r.status
+    possibility_refused tests k (inl wide) = width_refused tests wide.0
+    possibility_refused tests k (inr (u, i, j, narrow, denies, e)) = impossible_refused tests denies.0
+
     guarding_refused : TestsFor line possibility → (k : ℕ) → (guarding_stage root g doc).Refuses r k → RespondsBy line files taken r.status
-    guarding_refused tests k (inl (inl wide)) = width_refused tests wide.0
-    guarding_refused tests k (inl (inr (u, i, j, narrow, denies, e))) = impossible_refused tests denies.0
+    guarding_refused tests k (inl denies) = possibility_refused tests k denies
     guarding_refused tests k (inr (u, i, j, possible, never, e)) = absurd never.0
 
 ending_is : (ending : RunEnding) (r s : PlainResponse) → ending ≡ responds r → ending ≡ responds s → r ≡ s
@@ -165,6 +175,11 @@ verb_by Session dtd root doc files o course r both tells at =
     (λ s k denies. guarding_refused (Some (on_document Session dtd root doc)) files course.taken root o.dtd o.doc both s refl k denies)
     (λ s k rest begun talk same ends. subst (λ (t : Option (List ℕ)). RespondsBy (Some (on_document Session dtd root doc)) files t r.status) same
     (session_by (Some (on_document Session dtd root doc)) files s rest r refl talk ends)) tells at
+verb_by Complete dtd root doc files o course r both tells at =
+    behind_by (possibility_stage root o.dtd o.doc) (λ _. Responds (TellsPack root o.dtd o.doc)) (λ s. RespondsBy (Some (on_document Complete dtd root doc)) files course.taken s.status) course r
+    (λ s k denies. possibility_refused (Some (on_document Complete dtd root doc)) files course.taken root o.dtd o.doc both s refl k denies)
+    (λ u k rest can told same ends. pack_told (Some (on_document Complete dtd root doc)) files course.taken root o.dtd o.doc both r refl refl
+    (responds_by (TellsPack root o.dtd o.doc) rest r told ends)) tells at
 
 drill_refused : (n : ℕ) (files : Files) (taken : Option (List ℕ)) (r : PlainResponse) (k : ℕ) → (drill_stage n).Refuses r k → RespondsBy (Some (drill n)) files taken r.status
 drill_refused n files taken r k (inl (inl denies)) = dtd_refused (Some (drill n)) files taken _ r refl denies.0
@@ -243,6 +258,8 @@ verb_reads Valid dtd root doc o course out tells at = absurd (told_by_input (Tel
 verb_reads Check dtd root doc o course out tells at =
     absurd (behind_input (width_stage o.dtd o.doc) (λ _. Responds (TellsPossibility root o.dtd o.doc)) course out (λ u rest told. told_by_input (TellsPossibility root o.dtd o.doc) rest out told) tells at)
 verb_reads Session dtd root doc o course out tells at = refl
+verb_reads Complete dtd root doc o course out tells at =
+    absurd (behind_input (possibility_stage root o.dtd o.doc) (λ _. Responds (TellsPack root o.dtd o.doc)) course out (λ u rest told. told_by_input (TellsPack root o.dtd o.doc) rest out told) tells at)
 
 document_reads : (verb : Verb) (dtd root doc : List ℕ) (files : Files) (course : Course) (out : List ℕ) → Behind (opening_stage root files) (Tells verb root) course → course.ending ≡ input_fault out →
     ReadsScript (Some (on_document verb dtd root doc))

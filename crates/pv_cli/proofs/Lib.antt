@@ -22,10 +22,12 @@ pub mod MissingElements
 pub mod OneCheck
 pub mod OneDtd
 pub mod OneNeed
+pub mod OnePack
 pub mod OneReplies
 pub mod OneResponse
 pub mod OneSession
 pub mod OneVerdict
+pub mod Packing
 pub mod Piecewise
 pub mod Replies
 pub mod ReplyTexts

@@ -56,7 +56,7 @@ module _ {M N : Type 0} (f : M → N) (g : PlainDtd) (root : List ℕ) where
     impossible_as : (path : List ℕ) → StopsAtImpossible g root doc path → StopsAtImpossible g root (doc_as f doc) path
     impossible_as path stops = record { narrow = all_narrow_to f doc g stops.narrow; first = first_to f doc g root path stops.first }
 
-    wide_as : (path : List ℕ) → StopsAtWide g root doc path → StopsAtWide g root (doc_as f doc) path
+    pub wide_as : (path : List ℕ) → StopsAtWide g root doc path → StopsAtWide g root (doc_as f doc) path
     wide_as path stops = record {
       narrow = all_narrow_to f doc g stops.narrow;
       possible = rw (view_as f doc.root) stops.possible;

@@ -5,6 +5,7 @@ use Rattle.pv_tree.specs.Laws.{IsValidByLists}
 use Rattle.pv_tree.specs.declared.nodes.Mark.{Mark}
 use Rattle.pv_read.specs.DocumentLaws.{SpellsOneDocument}
 use Rattle.pv_cli.specs.Alike.{VerbRespondsAlike}
+use Rattle.pv_cli.specs.Complete.{are_one}
 use Rattle.pv_cli.specs.CommandLine.{on_dtd, on_document, drill}
 use Rattle.pv_cli.specs.Commands.{Tells}
 use Rattle.pv_cli.specs.Course.{Course}
@@ -17,12 +18,13 @@ use Rattle.pv_cli.specs.Response.{PlainResponse}
 use Rattle.pv_cli.specs.Stage.{Responds}
 use Rattle.pv_cli.specs.Valid.{IsValidCourse, TellsValidity}
 use Rattle.pv_cli.specs.declared.verb.Verb.{Verb}
-use Rattle.pv_cli.specs.declared.verb.Verb.TheVariants.{Valid, Check, Session}
+use Rattle.pv_cli.specs.declared.verb.Verb.TheVariants.{Valid, Check, Session, Complete}
 use Rattle.pv_cli.proofs.Likeness.{one_response_alike}
 use Rattle.pv_cli.proofs.OneCheck.{check_once}
 use Rattle.pv_cli.proofs.OneDrill.{drill_sure, one_drill}
 use Rattle.pv_cli.proofs.OneDtd.{one_dtd}
 use Rattle.pv_cli.proofs.OneOpening.{AreSameOpened, IsEqual, ReadsOne, ReadsOneDtd, RunsAs, dtd_file_sure, has_units, one_like, opening_sure, told, unmarked_same}
+use Rattle.pv_cli.proofs.OnePack.{ListsOnce, complete_once}
 use Rattle.pv_cli.proofs.OneReplies.{AnswersOnce}
 use Rattle.pv_cli.proofs.OneSession.{session_once}
 use Rattle.pv_cli.proofs.OneVerdict.{one_verdict}
@@ -40,6 +42,7 @@ record KnowsOne : Type 0 where
   documents : ReadsOne
   by_lists : IsValidByLists Mark
   once : AnswersOnce
+  lists : ListsOnce
 
 -- a line for each verb
 verb_once : KnowsOne → (verb : Verb) (root : List ℕ) (x y : PlainOpened) (course other : Course) (r also : PlainResponse) → AreSameOpened x y → RunsAs course other r also →
@@ -47,26 +50,28 @@ verb_once : KnowsOne → (verb : Verb) (root : List ℕ) (x y : PlainOpened) (co
 verb_once known Valid = valid_once known.documents.spells_one known.by_lists
 verb_once known Check = check_once known.documents.spells_one
 verb_once known Session = session_once known.once known.documents.spells_one
+verb_once known Complete = complete_once known.lists known.documents.spells_one
 
 equal_alike : (verb : Verb) (r also : PlainResponse) → r ≡ also → VerbRespondsAlike verb r also
 equal_alike Valid r also is = is
 equal_alike Check r also is = is
 equal_alike Session r also is = one_response_alike r also is
+equal_alike Complete r also is = are_one is
 
-pub one_response : ReadsOneDtd → ReadsOne → IsValidByLists Mark → AnswersOnce → HasOneResponse
-one_response dtds documents by_lists once None files course other r also is are taken silent at on = told _ course r is at ∙ sym (told _ other also are on)
-one_response dtds documents by_lists once (Some (on_dtd dtd)) files course other r also is are taken silent at on =
+pub one_response : ReadsOneDtd → ReadsOne → IsValidByLists Mark → AnswersOnce → ListsOnce → HasOneResponse
+one_response dtds documents by_lists once lists None files course other r also is are taken silent at on = told _ course r is at ∙ sym (told _ other also are on)
+one_response dtds documents by_lists once lists (Some (on_dtd dtd)) files course other r also is are taken silent at on =
     let stage = dtd_file_stage (file_at 0 files) in
     one_like stage stage IsEqual (λ g. Responds (TellsDtd g)) (λ g. Responds (TellsDtd g)) r also (r ≡ also) (λ e. e) (dtd_file_sure dtds (file_at 0 files))
     (λ g h rest more same both goes others. one_dtd g r also (told (TellsDtd g) rest r goes both.ends)
     (subst (λ (d : PlainDtd). TellsDtd d also) (sym same) (told (TellsDtd h) more also others both.ends_too)))
     course other (record { taken = taken; silent = silent; ends = at; ends_too = on }) is are
-one_response dtds documents by_lists once (Some (on_document verb dtd root doc)) files course other r also is are taken silent at on =
+one_response dtds documents by_lists once lists (Some (on_document verb dtd root doc)) files course other r also is are taken silent at on =
     let stage = opening_stage root files in
     one_like stage stage AreSameOpened (Tells verb root) (Tells verb root) r also (VerbRespondsAlike verb r also) (equal_alike verb r also) (opening_sure dtds documents root files)
-    (λ x y rest more same both goes others. verb_once (record { documents = documents; by_lists = by_lists; once = once }) verb root x y rest more r also same both goes others)
+    (λ x y rest more same both goes others. verb_once (record { documents = documents; by_lists = by_lists; once = once; lists = lists }) verb root x y rest more r also same both goes others)
     course other (record { taken = taken; silent = silent; ends = at; ends_too = on }) is are
-one_response dtds documents by_lists once (Some (drill n)) files course other r also is are taken silent at on =
+one_response dtds documents by_lists once lists (Some (drill n)) files course other r also is are taken silent at on =
     one_like (drill_stage n) (drill_stage n) IsEqual (λ s. Responds (TellsCounts n s)) (λ s. Responds (TellsCounts n s)) r also (r ≡ also) (λ e. e) (drill_sure dtds.means_one documents n)
     (λ x y rest more same both here there. one_drill once n x y r also same (told (TellsCounts n x) rest r here both.ends) (told (TellsCounts n y) more also there both.ends_too))
     course other (record { taken = taken; silent = silent; ends = at; ends_too = on }) is are

@@ -4,9 +4,10 @@ use Rattle.pv_script.specs.Replies.{reply_bytes}
 use Rattle.pv_script.specs.declared.replies.Reply.{Reply}
 use Rattle.pv_script.specs.declared.replies.Reply.TheVariants as reply
 use Rattle.pv_cli.specs.CommandLine.{PlainCommandLine, on_dtd, on_document, drill}
+use Rattle.pv_cli.specs.Complete.{PacksAlike}
 use Rattle.pv_cli.specs.Response.{PlainResponse}
 use Rattle.pv_cli.specs.declared.verb.Verb.{Verb}
-use Rattle.pv_cli.specs.declared.verb.Verb.TheVariants.{Session}
+use Rattle.pv_cli.specs.declared.verb.Verb.TheVariants.{Session, Complete}
 
 -- One reply, or two that show a completion, with the same number of inserted elements.
 pub data AreAlike (told also : Reply) : Type 0 where
@@ -29,6 +30,7 @@ pub record ResponsesAlike (r also : PlainResponse) : Type 0 where
 -- what two responses to such a verb are to each other: one, by default
 abbrev pub VerbRespondsAlike : Verb → PlainResponse → PlainResponse → Type 0
 VerbRespondsAlike Session r also = ResponsesAlike r also
+VerbRespondsAlike Complete r also = PacksAlike r also
 VerbRespondsAlike other r also = r ≡ also
 
 -- and to such a command line

@@ -1,6 +1,8 @@
 -- The causes of each status: a record or a case for each.
 use Rattle.std.specs.Prelude.{◌≡◌, ◌⊎◌, ◌<◌, ℕ, Bool, true, false, List, [], length, Option, Some}
 use Rattle.std.specs.Prelude.{None}
+use Rattle.pv_complete.specs.Needing.{IsHeavy, StopsAtWide}
+use Rattle.pv_complete.specs.Tables.{HasTooMany}
 use Rattle.pv_dtd.specs.Facts.{MAX_DTD_BYTES}
 use Rattle.pv_dtd.specs.Kinds.{Kind as DtdKind, nesting, limit}
 use Rattle.pv_dtd.specs.Meaning.{DtdTextMeans, is_dtd, faulty as faulty_dtd}
@@ -19,7 +21,7 @@ use Rattle.pv_tree.specs.Plain.{PlainDoc}
 use Rattle.pv_tree.specs.View.{view}
 use Rattle.pv_tree.specs.declared.nodes.Mark.{Mark}
 use Rattle.pv_cli.specs.CommandLine.{PlainCommandLine, drill, on_document, on_dtd, files_named}
-use Rattle.pv_cli.specs.Commands.{Test, validity, possibility, test_of, reads_script}
+use Rattle.pv_cli.specs.Commands.{Test, validity, possibility, test_of, makes_tables, reads_script}
 use Rattle.pv_cli.specs.Devices.{Devices}
 use Rattle.pv_cli.specs.Drill.{DRILL_ROOT}
 use Rattle.pv_cli.specs.Opening.{Files, file_at}
@@ -75,6 +77,13 @@ ReadsScript (Some (on_dtd dtd)) = ⊥
 ReadsScript (Some (on_document verb dtd root doc)) = reads_script verb ≡ true
 ReadsScript (Some (drill n)) = ⊥
 
+-- a command line makes tables of weights, by its verb
+abbrev pub MakesTables : Option PlainCommandLine → Type 0
+MakesTables None = ⊥
+MakesTables (Some (on_dtd dtd)) = ⊥
+MakesTables (Some (on_document verb dtd root doc)) = makes_tables verb ≡ true
+MakesTables (Some (drill n)) = ⊥
+
 -- whether a first fault is a limit that is passed
 abbrev pub is_dtd_limit : DtdKind → Bool
 is_dtd_limit limit = true
@@ -113,7 +122,8 @@ pub record IsBadDocument (line : Option PlainCommandLine) (files : Files) : Type
   pub no_limit : is_document_limit kind ≡ false
 
 -- status 8: a limit is passed, by a file, by the parameter entities, in the DTD or the document, by
--- a list where it is tested whether inserting elements can make the document valid, or by a script
+-- a list where it is tested whether inserting elements can make the document valid, by a list, the
+-- missing elements or the entries where tables are made, or by a script
 pub data PassesLimit (line : Option PlainCommandLine) (files : Files) (taken : Option (List ℕ)) :
     Type 0 where
   dtd_file : (bytes : List ℕ) → file_at 0 files ≡ Some bytes → MAX_DTD_BYTES < length bytes →
@@ -135,6 +145,15 @@ pub data PassesLimit (line : Option PlainCommandLine) (files : Files) (taken : O
   list_width : (root : List ℕ) (g : PlainDtd) (doc : PlainDoc Mark) (path : List ℕ) →
       TestsFor line possibility → ReadsBoth line files root g doc →
       IsFirstTooWide g (lists_of doc) path → PassesLimit line files taken
+  weights_width : (root : List ℕ) (g : PlainDtd) (doc : PlainDoc Mark) (path : List ℕ) →
+      MakesTables line → ReadsBoth line files root g doc → StopsAtWide g root doc path →
+      PassesLimit line files taken
+  missing_elements : (root : List ℕ) (g : PlainDtd) (doc : PlainDoc Mark) →
+      MakesTables line → ReadsBoth line files root g doc → IsHeavy g root doc →
+      PassesLimit line files taken
+  table_entries : (root : List ℕ) (g : PlainDtd) (doc : PlainDoc Mark) →
+      MakesTables line → ReadsBoth line files root g doc → HasTooMany g root doc →
+      PassesLimit line files taken
   script_line : (script : List ℕ) → ReadsScript line → taken ≡ Some script →
       has_long_line script ≡ true → PassesLimit line files taken
   whole_script : (script : List ℕ) → ReadsScript line → taken ≡ Some script →

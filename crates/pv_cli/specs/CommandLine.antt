@@ -7,7 +7,7 @@ use Rattle.pv_script.specs.Reading.{number_of}
 use Rattle.pv_cli.specs.declared.command_line.CommandLine.{CommandLine}
 use Rattle.pv_cli.specs.declared.command_line.CommandLine.TheVariants.{OnDtd, OnDocument, Drill}
 use Rattle.pv_cli.specs.declared.verb.Verb.{Verb}
-use Rattle.pv_cli.specs.declared.verb.Verb.TheVariants.{Valid, Check, Session}
+use Rattle.pv_cli.specs.declared.verb.Verb.TheVariants.{Valid, Check, Session, Complete}
 
 -- by form: `dtd DTD`; a verb with DTD ROOT DOC; and `drill N`
 pub data PlainCommandLine : Type 0 where
@@ -21,6 +21,7 @@ verb_of word =
     if bytes_eq word (codes "valid") then Some Valid
     else if bytes_eq word (codes "check") then Some Check
     else if bytes_eq word (codes "session") then Some Session
+    else if bytes_eq word (codes "complete") then Some Complete
     else None
 
 -- how many sections a drill may have

@@ -3,6 +3,7 @@ use Rattle.std.specs.Prelude.{ℕ, Bool, true, false, List, Option, Some, None}
 use Rattle.pv_dtd.specs.Plain.{PlainDtd}
 use Rattle.pv_cli.specs.Check.{IsCheckCourse}
 use Rattle.pv_cli.specs.Checking.{lines_taken}
+use Rattle.pv_cli.specs.Complete.{IsCompleteCourse}
 use Rattle.pv_cli.specs.Course.{Course}
 use Rattle.pv_cli.specs.Documents.{PlainOpened, document_stage}
 use Rattle.pv_cli.specs.Opening.{Files, opening_stage}
@@ -10,13 +11,14 @@ use Rattle.pv_cli.specs.Session.{IsSessionCourse}
 use Rattle.pv_cli.specs.Stage.{Behind}
 use Rattle.pv_cli.specs.Valid.{IsValidCourse}
 use Rattle.pv_cli.specs.declared.verb.Verb.{Verb}
-use Rattle.pv_cli.specs.declared.verb.Verb.TheVariants.{Valid, Check, Session}
+use Rattle.pv_cli.specs.declared.verb.Verb.TheVariants.{Valid, Check, Session, Complete}
 
 -- what each verb does behind the opened files
 abbrev pub Tells : Verb → List ℕ → PlainOpened → Course → Type 0
 Tells Valid root opened = IsValidCourse root opened
 Tells Check root opened = IsCheckCourse root opened
 Tells Session root opened = IsSessionCourse root opened
+Tells Complete root opened = IsCompleteCourse root opened
 
 -- what a verb tests of its document: that it is valid; or, in lists that aren't too wide, that
 -- inserting elements can make it valid
@@ -29,11 +31,17 @@ abbrev pub test_of : Verb → Test
 test_of Valid = validity
 test_of Check = possibility
 test_of Session = possibility
+test_of Complete = possibility
 
 -- whether a verb reads a script, and so asks its input
 abbrev pub reads_script : Verb → Bool
 reads_script Session = true
 reads_script other = false
+
+-- whether a verb weighs the lists of its document, and makes their tables
+abbrev pub makes_tables : Verb → Bool
+makes_tables Complete = true
+makes_tables other = false
 
 -- Where a verb checks lists: besides those of the document, two for each of so many lines of what
 -- was taken from the input. Any other verb checks none.

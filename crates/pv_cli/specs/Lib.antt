@@ -3,6 +3,7 @@ pub mod Causes
 pub mod Check
 pub mod Checking
 pub mod CommandLine
+pub mod Complete
 pub mod Commands
 pub mod Conversation
 pub mod Course
@@ -14,6 +15,7 @@ pub mod Devices
 pub mod Documents
 pub mod Dtd
 pub mod Opening
+pub mod Packing
 pub mod Parameters
 pub mod Possibility
 pub mod Program

@@ -1,6 +1,7 @@
 //! The commands, each behind the files that its form opens.
 
 pub mod check;
+pub mod complete;
 pub mod drill;
 pub mod dtd;
 pub mod session;

@@ -8,6 +8,7 @@ ghost use Rattle.pv_cli.specs.Returns.{DoesRest, FindsResponse, plain_fetched};
 
 use crate::command_line::Named;
 use crate::commands::check::check;
+use crate::commands::complete::complete;
 use crate::commands::dtd::dtd;
 use crate::commands::session::session;
 use crate::commands::valid::valid;
@@ -58,6 +59,7 @@ fn do_rest<S: Source, K: Sink, L: Ledger>(
         Verb::Valid => respond(out, valid(alloc, &fetched, root)),
         Verb::Check => respond(out, check(rt, alloc, fetched, root, steps)),
         Verb::Session => session(rt, alloc, fetched, root, input, out, steps),
+        Verb::Complete => respond(out, complete(alloc, fetched, root)),
     }
 }
 

@@ -6,14 +6,17 @@ ghost use Rattle.pv_cli.specs.Laws.{ComesByCause, RaisesOneAtMost, SessionsAreGu
 
 use pv_dtd::laws::{dtd_text_law, one_meaning_law};
 use pv_io::Source;
+use pv_missing::laws::words::one_live_word_law;
 use pv_params::laws::one_expansion_law;
 use pv_read::laws::{meant_law, one_document_law, one_meaning_law as one_document_meaning_law};
 use pv_script::laws::one_command_law;
 use pv_session::laws::one_answer_law;
+use pv_tables::laws::one_tables_law;
 use pv_tree::laws::valid_lists_law;
 
 /// Over given files a command has one response, and `session` one for each script and each set of
-/// lines that there was no memory for, but for the documents of completions.
+/// lines that there was no memory for, but for the documents of completions; so has `complete`, but
+/// for the bodies and marks of packs.
 pub fn one_response_law()
     ensures { HasOneResponse }
 {
@@ -25,6 +28,8 @@ pub fn one_response_law()
     valid_lists_law();
     one_command_law();
     one_answer_law();
+    one_live_word_law();
+    one_tables_law::<()>();
 }
 
 /// Where no device failed, the defined response was written, or there was no memory and nothing was

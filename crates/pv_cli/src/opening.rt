@@ -45,8 +45,8 @@ pub struct Opened {
     pub doc: Doc,
 }
 
-// Refuses with this line.
-fn refuse(alloc: Global, status: Status, text: &[u8]) -> Stop
+/// Refuses with this line.
+pub fn refuse(alloc: Global, status: Status, text: &[u8]) -> Stop
     requires { needs_cause status ≡ false }
     ensures { RefusesWith (λ r. r ≡ with_line status text.now) result }
 {

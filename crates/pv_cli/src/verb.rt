@@ -12,6 +12,8 @@ pub enum Verb {
     Check,
     /// Answers a script of edits.
     Session,
+    /// Prints the pack of a least completion.
+    Complete,
 }
 
 /// The verb that a word is.
@@ -24,6 +26,8 @@ pub fn verb_of(word: &str) -> Option<Verb>
         Some(Verb::Check)
     } else if word == "session" {
         Some(Verb::Session)
+    } else if word == "complete" {
+        Some(Verb::Complete)
     } else {
         None
     }

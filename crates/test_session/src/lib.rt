@@ -1,10 +1,12 @@
-//! Worked rows of `session`, through the top call.
+//! Worked rows of `session` and `complete`, through the top call.
 #![tactic(auto)]
 
 #[cfg(test)]
 mod drills;
 #[cfg(test)]
 mod needs;
+#[cfg(test)]
+mod packs;
 #[cfg(test)]
 mod scripts;
 #[cfg(test)]

@@ -1,0 +1,49 @@
+use Rattle.std.proofs.Common.{◌≡◌, Err, arith, refl, sym}
+use Rattle.std.proofs.lemmas.Grind.{common_steps}
+use Rattle.std.proofs.lemmas.Result.{err_from_is_err_and}
+use Rattle.pv_dtd.specs.PlainForms.{plain_dtd}
+use Rattle.pv_cli.specs.Complete.{IsCompleteCourse}
+use Rattle.pv_cli.specs.Documents.{document_stage}
+use Rattle.pv_cli.specs.Returns.{plain_opened}
+use Rattle.pv_cli.specs.Stage.{short_of_memory}
+use Rattle.pv_cli.specs.declared.stop.Stop.TheVariants.{NoMemory}
+use Rattle.pv_cli.proofs.Stages.{found_behind, stop_found}
+use Rattle.pv_cli.proofs.commands.complete.complete.Goals as goal
+
+pub tell-requires : goal.tell-requires
+tell-requires c = c.in_ok-dtd.ensures.0.is_text.spelled.is_prolog
+
+pub returns-in_err-dtd : goal.returns-in_err-dtd
+returns-in_err-dtd c =
+    let root = c.args.root.now in
+    let stage = document_stage root (plain_dtd c.args.fetched.dtd) c.args.fetched.bytes.items in
+    let p = err_from_is_err_and c.from_residual.result c.from_residual.ensures.1 in
+    rw (p.1, p.2) (stop_found stage (IsCompleteCourse root) c.in_err-dtd.field-0.0 (λ never. never) c.in_err-dtd.ensures)
+
+pub returns-in_err-grammar : goal.returns-in_err-grammar
+returns-in_err-grammar c =
+    let out : c.from_residual-in_err-grammar.result ≡ Err NoMemory = grind (arith, common_steps) in
+    rw out (short_of_memory 0 refl refl)
+
+pub returns : goal.returns
+returns c =
+    let root = c.args.root.now in
+    let both = plain_opened c.in_ok-dtd.field-0 in
+    let stage = document_stage root (plain_dtd c.args.fetched.dtd) c.args.fetched.bytes.items in
+    found_behind stage (IsCompleteCourse root) both c.tell.result c.in_ok-dtd.ensures (c.tell.ensures both (sym c.in_ok-grammar.ensures) refl)
+
+pub invariant_of-doc-2 : goal.invariant_of-doc-2
+invariant_of-doc-2 c =
+    let doc = c.in_ok-dtd.field-0.doc in
+    record {
+      rooted = doc.rooted;
+      formed = doc.formed;
+      shallow = doc.shallow;
+      small = doc.small;
+      named = doc.named;
+      units = doc.units;
+      legal = doc.legal;
+      no_close_mark = doc.no_close_mark;
+      prolog = doc.prolog;
+      epilog = doc.epilog;
+    }

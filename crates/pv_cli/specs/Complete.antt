@@ -1,0 +1,53 @@
+-- What `complete DTD ROOT DOC` responds.
+use Rattle.std.specs.Prelude.{◌≡◌, ℕ, List, ◌++◌, codes}
+use Rattle.pv_cert.specs.Packs.{lines_of, lines_text}
+use Rattle.pv_cert.specs.declared.packs.Pack.{Pack}
+use Rattle.pv_complete.specs.Completing.{IsLeastCompletion}
+use Rattle.pv_complete.specs.Growing.{IsGrownText}
+use Rattle.pv_complete.specs.Needing.{IsHeavy, StopsAtWide}
+use Rattle.pv_complete.specs.Tables.{HasTables, HasTooMany}
+use Rattle.pv_dtd.specs.Plain.{PlainDtd}
+use Rattle.pv_script.specs.Paths.{path_text}
+use Rattle.pv_tree.specs.Plain.{PlainDoc}
+use Rattle.pv_cli.specs.declared.status.Status.TheVariants.{Done, Limit}
+use Rattle.pv_cli.specs.Course.{Course}
+use Rattle.pv_cli.specs.Documents.{PlainOpened}
+use Rattle.pv_cli.specs.Possibility.{possibility_stage}
+use Rattle.pv_cli.specs.Response.{PlainResponse, with_line}
+use Rattle.pv_cli.specs.Stage.{Behind, Responds}
+
+-- The pack of a least completion: its body is a text of the document with `total` elements
+-- inserted, which makes it valid, and no fewer can; all else is written as it was; the marks are
+-- the numbers of the new elements in the body; and the tables are those of the document's lists.
+pub record IsLeastPack {M : Type 0} (root : List ℕ) (g : PlainDtd) (doc : PlainDoc M)
+    (pack : Pack) : Type 0 where
+  pub completion : IsLeastCompletion g root doc pack.total pack.marks pack.body
+  pub grown : IsGrownText doc pack.body
+  pub tables : HasTables g root doc pack.tables
+
+-- Such a pack is printed, of several any. Or none is: the list at a path is the first Possible one
+-- that is too wide for weights; or there is none, and more than 1,000,000 elements are missing; or
+-- no more are, and the tables would have more than 8,388,608 entries.
+pub data TellsPack {M : Type 0} (root : List ℕ) (g : PlainDtd) (doc : PlainDoc M)
+    (r : PlainResponse) : Type 0 where
+  is_pack : (pack : Pack) → IsLeastPack root g doc pack →
+      r ≡ record { status = Done; output = lines_text (lines_of pack) } → TellsPack root g doc r
+  is_wide : (path : List ℕ) → StopsAtWide g root doc path →
+      r ≡ with_line Limit (codes "limit width " ++ path_text path) → TellsPack root g doc r
+  is_heavy : IsHeavy g root doc → r ≡ with_line Limit (codes "limit weight") →
+      TellsPack root g doc r
+  has_too_many : HasTooMany g root doc → r ≡ with_line Limit (codes "limit tables") →
+      TellsPack root g doc r
+
+-- behind the opened files: whether inserting elements can make the document valid, and then the
+-- pack
+abbrev pub IsCompleteCourse : List ℕ → PlainOpened → Course → Type 0
+IsCompleteCourse root opened = Behind (possibility_stage root opened.dtd opened.doc)
+    (λ _. Responds (TellsPack root opened.dtd opened.doc))
+
+-- one response, or the packs of two least completions, with the same total and the same tables
+pub data PacksAlike (r also : PlainResponse) : Type 0 where
+  are_one : r ≡ also → PacksAlike r also
+  are_packs : (pack other : Pack) → pack.total ≡ other.total → pack.tables ≡ other.tables →
+      r ≡ record { status = Done; output = lines_text (lines_of pack) } →
+      also ≡ record { status = Done; output = lines_text (lines_of other) } → PacksAlike r also

@@ -1,0 +1,85 @@
+//! The command `complete`.
+
+ghost use Rattle.std.specs.Prelude.{◌≡◌, IfErr, IfOk};
+ghost use Rattle.pv_cli.specs.Commands.{GoesOn};
+ghost use Rattle.pv_cli.specs.Complete.{IsCompleteCourse, IsLeastPack};
+ghost use Rattle.pv_cli.specs.Documents.{PlainOpened};
+ghost use Rattle.pv_cli.specs.Packing.{IsRefusalFor};
+ghost use Rattle.pv_cli.specs.Returns.{Finds, RefusesWith, plain_fetched};
+ghost use Rattle.pv_cli.specs.declared.verb.Verb.TheVariants.{Complete};
+ghost use Rattle.pv_complete.specs.Tables.{HasTablesCause};
+ghost use Rattle.pv_productive.specs.PlainForms.{dtd_of};
+ghost use Rattle.pv_tree.specs.PlainDocs.{plain_doc};
+ghost use Rattle.pv_tree.specs.Prolog.{IsProlog};
+
+use crate::opening::{Fetched, Opened, open_document, refuse, refuse_path};
+use crate::response::Response;
+use crate::status::Status;
+use crate::stop::Stop;
+use pv_cert::{Pack, write_pack};
+use pv_complete::{Completion, NeedError, tables};
+use pv_dtd::laws::proper_dtd_law;
+use pv_missing::laws::proper::proper_doc_law;
+use pv_productive::{Grammar, build};
+use pv_tree::Doc;
+use std::alloc::Global;
+
+// The pack of a least completion of a document.
+fn pack_of(alloc: Global, grammar: &Grammar, doc: &Doc, root: &[u8]) -> Result<Pack, NeedError>
+    requires { IsProlog root.now (plain_doc doc.now).before }
+    ensures least { IfOk result (IsLeastPack root.now (dtd_of grammar.now) (plain_doc doc.now)) }
+    ensures refused { IfErr result (HasTablesCause (dtd_of grammar.now)
+        root.now (plain_doc doc.now)) }
+{
+    let tables = tables(alloc, grammar, root, doc)?;
+    let Completion { count, marks, body } = pv_complete::complete(alloc, grammar, root, doc)?;
+    Ok(Pack {
+        total: count,
+        marks,
+        body,
+        tables,
+    })
+}
+
+// Refuses a document that has no pack, for this reason.
+fn refuse_pack(alloc: Global, error: NeedError) -> Stop
+    ensures { RefusesWith (IsRefusalFor error) result }
+{
+    match error {
+        NeedError::Impossible(path) => {
+            refuse_path(alloc, Status::Negative, b"impossible ", path.places())
+        }
+        NeedError::TooWide(path) => {
+            refuse_path(alloc, Status::Limit, b"limit width ", path.places())
+        }
+        NeedError::TooHeavy => refuse(alloc, Status::Limit, b"limit weight"),
+        NeedError::TooMany => refuse(alloc, Status::Limit, b"limit tables"),
+        NeedError::NoMemory => Stop::NoMemory,
+    }
+}
+
+// The text of the pack, or why there is none.
+fn tell(alloc: Global, grammar: &Grammar, doc: &Doc, root: &[u8]) -> Result<Response, Stop>
+    requires { IsProlog root.now (plain_doc doc.now).before }
+    ensures { (opened : PlainOpened) → opened.dtd ≡ dtd_of grammar.now →
+        opened.doc ≡ plain_doc doc.now → Finds (IsCompleteCourse root.now opened) result }
+{
+    proper_dtd_law(grammar.dtd());
+    proper_doc_law(doc);
+    match pack_of(alloc, grammar, doc, root) {
+        Ok(pack) => Ok(Response {
+            status: Status::Done,
+            output: write_pack(alloc, &pack)?,
+        }),
+        Err(error) => Err(refuse_pack(alloc, error)),
+    }
+}
+
+/// The pack of a least completion of a document, for a DTD.
+pub fn complete(alloc: Global, fetched: Fetched, root: &[u8]) -> Result<Response, Stop>
+    ensures { Finds (GoesOn Complete root.now (plain_fetched fetched)) result }
+{
+    let Opened { dtd, doc, .. } = open_document(alloc, fetched, root)?;
+    let grammar = build(alloc, dtd)?;
+    tell(alloc, &grammar, &doc, root)
+}
