@@ -1,10 +1,11 @@
-"""Lets each allocation of a session fail in turn.
+"""Lets each allocation of a session fail in turn, and then those of `check` on lists that several threads judge.
 
 Words: PROGRAM MOST. A C compiler makes a library that is loaded before the C library and lets allocation number N give nothing; N goes up
 until a run asks for fewer, or up to MOST. Where a run ends with status 5, or with 10 for want of words, it must have written nothing. Else
 one line at most answers `no memory`, and the replies to the other lines must be those to the script without this line: each edit of the
-script, `need` and `complete` stand between `show` and `history`, which tell whether anything changed. Prints each difference, and how many runs
-passed; ends with 1 where one failed.
+script, `need` and `complete` stand between `show` and `history`, which tell whether anything changed. `check` must end with status 5 and
+write nothing, or answer as with ample memory; of its allocations before the verdicts one in FEW is tried. Prints each difference, and how many
+runs passed; ends with 1 where one failed.
 """
 import os
 import subprocess
@@ -12,14 +13,24 @@ import sys
 import tempfile
 
 LIBRARY = r"""
+#include <errno.h>
+#include <stdio.h>
 #include <stdlib.h>
+#include <sys/syscall.h>
 #include <unistd.h>
 extern void *__libc_malloc(size_t), *__libc_calloc(size_t, size_t), *__libc_realloc(void *, size_t), *__libc_memalign(size_t, size_t);
 static long left = -1;
-static int failed;
 __attribute__((constructor)) static void begin(void) { left = atol(getenv("FAIL_AT")); }
-__attribute__((destructor)) static void end(void) { if (failed) write(2, "failed", 6); }
-static int fails(void) { return left > 0 && --left == 0 && (failed = 1); }
+static void count(void) { if (getenv("COUNTED")) dprintf(2, "%ld", -left); }
+__attribute__((destructor)) static void end(void) { count(); }
+// By this a program with threads ends, and then no destructor runs.
+void _exit(int status) { count(); for (;;) syscall(SYS_exit_group, status); }
+static int fails(void) {
+    if (__atomic_sub_fetch(&left, 1, __ATOMIC_SEQ_CST)) return 0;
+    write(2, "failed", 6);
+    errno = ENOMEM;
+    return 1;
+}
 void *malloc(size_t n) { return fails() ? 0 : __libc_malloc(n); }
 void *calloc(size_t n, size_t m) { return fails() ? 0 : __libc_calloc(n, m); }
 void *realloc(void *p, size_t n) { return fails() ? 0 : __libc_realloc(p, n); }
@@ -120,11 +131,50 @@ class Trial:
         return reached
 
 
+# Lists that are judged by a table, and long enough that two threads judge them.
+LISTS_DTD = "<!ELEMENT r (a*)><!ELEMENT a (b, c)><!ELEMENT b (#PCDATA)><!ELEMENT c EMPTY>"
+LISTS = f"<r>{('<a>' + 400 * '<![CDATA[x]]>' + '</a>') * 24}</r>"
+# Those of so many allocations at the end of a run, which are more than those of the verdicts, are all tried, and one in FEW of the others.
+LAST, FEW = 800, 41
+
+
+class CheckTrial:
+    """`check` with an allocation that fails: the answer with ample memory, or want of memory."""
+
+    def __init__(self, program, library):
+        self.words, self.library = [program, "check", "l.dtd", "r", "l.xml"], library
+        self.passed = self.failed = self.silent = 0
+        counted = self.run({"FAIL_AT": "0", "COUNTED": "1"})
+        self.wanted, self.count = (counted.returncode, counted.stdout), int(counted.stderr)
+
+    def run(self, environment):
+        return subprocess.run(self.words, capture_output=True, env={"LD_PRELOAD": self.library, **environment})
+
+    def try_at(self, number):
+        ran = self.run({"FAIL_AT": str(number)})
+        is_silent = ran.returncode in (5, 10) and ran.stdout == b""
+        self.silent += is_silent
+        if is_silent or (ran.returncode, ran.stdout) == self.wanted:
+            self.passed += 1
+        else:
+            self.failed += 1
+            print(f"check, allocation {number}: status {ran.returncode}, output {ran.stdout!r}")
+
+    def try_all(self):
+        if self.wanted != (0, b"possible 24\n"):
+            self.failed += 1
+            print(f"check, with ample memory: {self.wanted}")
+        for number in range(1, self.count + 1):
+            if self.failed < 20 and (number % FEW == 0 or number > self.count - LAST):
+                self.try_at(number)
+        print(f"check: {self.count} allocations, {self.passed + self.failed} tried, {self.silent} without memory")
+
+
 def main():
     program, most = os.path.abspath(sys.argv[1]), int(sys.argv[2])
     with tempfile.TemporaryDirectory() as folder:
         os.chdir(folder)
-        for name, text in [("a.dtd", DTD), ("d.xml", DOCUMENT), ("failing.c", LIBRARY)]:
+        for name, text in [("a.dtd", DTD), ("d.xml", DOCUMENT), ("l.dtd", LISTS_DTD), ("l.xml", LISTS), ("failing.c", LIBRARY)]:
             with open(name, "w", encoding="utf-8") as file:
                 file.write(text)
         library = os.path.join(folder, "failing.so")
@@ -133,6 +183,8 @@ def main():
         number = 1
         while number <= most and trial.failed < 20 and trial.try_at(number):
             number += 1
+        checks = CheckTrial(program, library)
+        checks.try_all()
         os.chdir("/")
     print(f"allocations {trial.reached}, lines without memory {trial.silent}")
     if number > most:
@@ -141,8 +193,12 @@ def main():
     if trial.silent == 0:
         print("no line was without memory")
         trial.failed += 1
-    print(f"failing allocations: {trial.passed} passed, {trial.failed} failed")
-    sys.exit(1 if trial.failed else 0)
+    if checks.silent == 0:
+        print("no check was without memory")
+        checks.failed += 1
+    failed = trial.failed + checks.failed
+    print(f"failing allocations: {trial.passed + checks.passed} passed, {failed} failed")
+    sys.exit(1 if failed else 0)
 
 
 main()
