@@ -43,8 +43,8 @@ abbrev pub makes_tables : Verb → Bool
 makes_tables Complete = true
 makes_tables other = false
 
--- Where a verb checks lists: besides those of the document, two for each of so many lines of what
--- was taken from the input. Any other verb checks none.
+-- Where a verb counts the lists that it checks: besides those of the document, two for each of so
+-- many lines of what was taken from the input. Any other verb counts none.
 abbrev pub lines_checked : Verb → Option (List ℕ) → Option ℕ
 lines_checked Check taken = Some 0
 lines_checked Session taken = Some (lines_taken taken)

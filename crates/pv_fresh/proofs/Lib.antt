@@ -1,2 +1,2 @@
--- of this crate:
+-- for other crates:
 pub mod Walking

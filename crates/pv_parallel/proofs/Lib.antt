@@ -1,2 +1,3 @@
+-- of this crate:
 mod JobLists
 mod ListNumbers

@@ -1,3 +1,4 @@
+-- of this crate:
 pub mod Runs
 pub mod ItemsRead
 pub mod ValuesRead
