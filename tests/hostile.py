@@ -1,8 +1,9 @@
 """Attacks the program as hostile files, a hostile input and a failing machine would.
 
-Words: PROGRAM [SECONDS]. Behind so many seconds, 200 where none are given, what is left isn't tried, which is said. Each command is run on DTDs, documents and scripts made to cost much, at the limits and past them; on files that are no
-files, are endless, change, or may not be read; with little memory, stack and few files; and with an output that is full, closed, slow or
-refuses. What each run must answer is told by `docs/COMMANDS.md` and `docs/FORMATS.md`. A run must end within a minute, write nothing as an
+Words: PROGRAM [SECONDS]. Behind so many seconds, 200 where none are given, what is left isn't tried, which is said. Each command but
+`complete` is run on DTDs, documents and scripts made to cost much, at the limits and past them, and on files that change; each command on
+files that are no files, are endless, or may not be read; with little memory, stack and few files; and with an output that is full, closed,
+slow or refuses. What each run must answer is told by `docs/COMMANDS.md` and `docs/FORMATS.md`. A run must end within a minute, write nothing as an
 error, and take no more memory than `docs/COMMANDS.md` tells under "Time and memory". Prints each difference, the most memory that each
 command took, and how many cases passed; ends with 1 where one failed.
 """
@@ -20,7 +21,7 @@ import time
 sys.dont_write_bytecode = True
 
 from hostile_files import DOC_MOST, KB, MB, NONE, hostile_documents, hostile_dtds, hostile_scripts, largest_document, listing, long_name
-from hostile_runs import GUIDE, LINES, MEMORY, Trial, closed_late, follows, least, read_once, read_slowly, runs_of
+from hostile_runs import ANSWERS, GUIDE, LINES, MEMORY, Trial, closed_late, follows, least, read_once, read_slowly, runs_of
 
 NOBODY = 65534
 
@@ -153,7 +154,7 @@ def try_names(trial, name, of_dtd, of_document):
     """Runs each command with this name for the DTD, and for the document, on which the answers are these."""
     if of_dtd:
         trial.expect("a name", ["dtd", name], of_dtd)
-    for command in "valid", "check", "session":
+    for command in ANSWERS:
         if of_dtd:
             trial.expect("a name", [command, name, "a", "a.xml"], of_dtd)
         trial.expect("a name", [command, "any.dtd", "a", name], of_document)
@@ -180,7 +181,7 @@ def try_files(trial):
         shutil.copy(trial.path("any.dtd"), trial.path(name))
         trial.expect("a name", ["dtd", name], (0, b"a any 1\ntypes 1 parts 0 undeclared 0\n"))
         shutil.copy(trial.path("a.xml"), trial.path(name))
-        for command, said in ("valid", b"valid\n"), ("check", b"valid\n"), ("session", NONE):
+        for command, said in ANSWERS.items():
             trial.expect("a name", [command, "any.dtd", "a", name], (0, said))
         os.remove(trial.path(name))
 
@@ -189,7 +190,7 @@ def try_words(trial):
     bad = b"\xff.xml"
     shutil.copy(trial.path("a.xml"), os.path.join(os.fsencode(trial.folder), bad))
     lines = [[b"dtd", bad], [b"drill", bad], [bad]]
-    for command in b"valid", b"check", b"session":
+    for command in map(str.encode, ANSWERS):
         lines += [[command, bad, b"a", b"a.xml"], [command, b"any.dtd", bad, b"a.xml"], [command, b"any.dtd", b"a", bad]]
     for words in lines:
         trial.expect("bytes that aren't UTF-8", words, (10, NONE))
@@ -197,7 +198,8 @@ def try_words(trial):
                   ["drill", "9" * 100000], ["drill", "18446744073709551617"], ["drill", ""], ["drill", "\uff11"], ["drill", "1", "2"], ["dtd"],
                   ["VALID", "any.dtd", "a", "a.xml"], [""]]:
         trial.expect("no command", words, (2, b"usage\n"))
-    for command, said in ("valid", b"invalid .\n"), ("check", b"impossible .\n"), ("session", b"impossible .\n"):
+    for command in ANSWERS:
+        said = b"invalid .\n" if command == "valid" else b"impossible .\n"
         trial.expect("a root of 100,000 bytes", [command, "any.dtd", "n" * 100000, "a.xml"], (1, said))
 
 
@@ -214,10 +216,11 @@ def try_pipes(trial):
 
     expect(["dtd", "fifo"], [b"<!ELEMENT a ANY>"], (0, b"a any 1\ntypes 1 parts 0 undeclared 0\n"))
     expect(["dtd", "fifo"], [(b" ", 1 << 36)], (8, b"limit dtd-file\n"))
-    for command, said in ("valid", b"valid\n"), ("check", b"valid\n"), ("session", NONE):
+    text = b"<a>%s</a>" % (b"<a/>" * 100000)
+    for command, said in ANSWERS.items():
         expect([command, "fifo", "a", "a.xml"], [b"<!ELEMENT a ANY>"], (0, said))
         expect([command, "fifo", "a", "a.xml"], [(b" ", 1 << 36)], (8, b"limit dtd-file\n"))
-        expect([command, "any.dtd", "a", "fifo"], [b"<a>", (b"<a/>", 100000), b"</a>"], (0, said))
+        expect([command, "any.dtd", "a", "fifo"], [text], (0, said.replace(b"body 4\n<a/>", b"body %d\n%s" % (len(text), text))))
         expect([command, "any.dtd", "a", "fifo"], [(b"\0", 1 << 36)], (8, b"limit document-file\n"))
 
 
@@ -265,7 +268,7 @@ def try_permissions(trial):
         print("skipped: files without permission (no other user)")
         return
     trial.expect("no permission", ["dtd", "closed-any.dtd"], (3, NONE), **as_nobody)
-    for command in "valid", "check", "session":
+    for command in ANSWERS:
         trial.expect("no permission", [command, "closed-any.dtd", "a", "a.xml"], (3, NONE), **as_nobody)
         trial.expect("no permission", [command, "any.dtd", "a", "closed-a.xml"], (3, NONE), **as_nobody)
 

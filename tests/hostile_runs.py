@@ -134,6 +134,14 @@ class Trial:
 
 # Small files, on which a run is tried with little memory and with each kind of output.
 GUIDE = b"<!ELEMENT doc (head, sec*)><!ELEMENT head (#PCDATA)><!ELEMENT sec EMPTY>"
+PACK = b"".join(line + b"\n" for line in [
+    b"pvpack 1", b"total 1", b"mark 1", b"body 29", b"<doc><head>Hello</head></doc>", b"list 0",
+    b"c 0 0 0 1", b"c 0 0 1 1", b"c 0 1 1 1", b"c 1 0 0 0", b"c 1 0 1 0", b"c 1 1 1 0", b"c 2 0 0 0", b"c 2 1 1 0",
+    b"n 0 0 0 2", b"n 0 0 1 2", b"n 0 1 1 2", b"n 1 0 0 1", b"n 1 0 1 1", b"n 1 1 1 1", b"n 2 0 0 1", b"n 2 1 1 1",
+    b"p 0 0 0 1", b"p 0 0 1 1", b"p 0 1 1 1", b"p 1 0 0 1", b"p 1 0 1 1", b"p 1 1 1 1", b"p 2 0 0 0", b"p 2 1 1 0", b"p 3 0 0 1", b"p 3 1 1 1",
+    b"s 1 0 0 1", b"s 1 0 1 1", b"s 1 1 1 1", b"s 2 0 0 0", b"s 2 1 1 0", b"end"])
+# What the commands that read a document answer to `<a/>` where an `a` may hold anything.
+ANSWERS = {"valid": b"valid\n", "check": b"valid\n", "session": NONE, "complete": b"pvpack 1\ntotal 0\nbody 4\n<a/>\nend\n"}
 LISTED = b"doc children 2\nhead mixed 1\nsec empty 1\ntypes 3 parts 4 undeclared 0\n"
 
 
@@ -143,6 +151,7 @@ def runs_of():
     yield ["valid", "guide.dtd", "doc", "draft.xml"], NONE, 1, b"invalid 0\n"
     yield ["check", "guide.dtd", "doc", "draft.xml"], NONE, 0, b"possible 1\n"
     yield ["session", "guide.dtd", "doc", "draft.xml"], b"need\nundo\n", 0, b"need 1\nno history\n"
+    yield ["complete", "guide.dtd", "doc", "draft.xml"], NONE, 0, PACK
     yield ["drill", "30"], NONE, 0, b"drill 30 lines 70 ok 40 refused 30 open 10 checked 70\n"
     yield ["valid"], NONE, 2, b"usage\n"
 
