@@ -3,7 +3,8 @@
 # docs/DEFINITIONS.md is compared with the comments that its tables are written from, where Python is installed; the built program is tried
 # on the machine's files, and on hostile ones, with little memory and outputs that fail; edits and sessions are tried with each allocation
 # failing in turn, where a C compiler is installed; and the program is compared with a search that inserts elements, with a model of a
-# session and with xmllint, also with published DTDs, where Python and xmllint are installed. The last line tells how many passed.
+# session and with xmllint, also with published DTDs, and its packs are tried with a checker, where Python and xmllint are installed. The
+# last line tells how many passed.
 set -u
 cd "$(dirname "$0")/.." || exit 1
 log=$(mktemp)
@@ -81,6 +82,7 @@ skip "the comparison with insertions" python3 || check 300 python3 tests/against
 skip "the comparison with derivations by spans" python3 || check 300 python3 tests/possible_lists.py crates/pvtag/out/pvtag 120 1
 skip "the comparison of least numbers" python3 || check 300 python3 tests/least_numbers.py crates/pvtag/out/pvtag 850 1
 skip "the comparison of completions" python3 || check 300 python3 tests/completions.py crates/pvtag/out/pvtag 400 1 60
+skip "the packs" python3 || check 300 python3 tests/packs.py crates/pvtag/out/pvtag 300 1
 skip "the comparison with a model" python3 || check 300 python3 tests/against_a_model.py crates/pvtag/out/pvtag 20000 7
 skip "the hostile files and failing machines" python3 || check 400 python3 tests/hostile.py crates/pvtag/out/pvtag 200
 skip "the failing allocations" python3 cc || check 300 python3 tests/failing_allocations.py crates/pvtag/out/pvtag 12000
