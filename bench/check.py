@@ -2,7 +2,9 @@
 
 On a valid document of 18 MB, and on the same without every tenth pair of tags, beside `valid` and `xmllint --noout --dtdvalid`; on long
 lists, each beside one of a tenth of its kids; and on the widest list within the limit. The runs of one document are interleaved; the best
-of each is told, in milliseconds of processor time and in kilobytes of memory at the peak, with the status of the last.
+of each is told, in milliseconds of processor time and in kilobytes of memory at the peak, with the status of the last. Then the verdicts
+alone, by one thread and by several on 1, 2 and 4 processors: the best time that passes, without that of reading, and how many times as fast
+that is as by one thread.
 """
 import os
 import re
@@ -10,6 +12,7 @@ import shutil
 import subprocess
 import sys
 import tempfile
+import time
 
 from valid import run
 
@@ -18,6 +21,10 @@ LONG_LEFT = "<!ELEMENT a (b, c?)><!ELEMENT b (d)><!ELEMENT d (e)><!ELEMENT e (a?
 ROW = "<!ELEMENT a (b, c)*><!ELEMENT b EMPTY><!ELEMENT c EMPTY>"
 # Four parts and four names. Every other kid is missing, so that a table is filled.
 WIDE = "<!ELEMENT a (b, c)*><!ELEMENT b EMPTY><!ELEMENT c EMPTY><!ELEMENT d EMPTY>"
+
+# Lists of `a`: `b` alone is free content, and `c` alone takes tables.
+FREE_LISTS = f"<!ELEMENT r (a*)>{ROW}"
+TABLE_LISTS = f"<!ELEMENT r (a*)>{LEFT}"
 
 
 # Cycles in a chain: each name's content leads back to it, with an `x` behind it, and on to the next name.
@@ -70,6 +77,48 @@ def cases(top, folder):
     yield "the widest list", WIDE, "a", row("b", 8_388_607), False
 
 
+# Title, DTD, root, document, and how often a run finds its verdicts.
+def verdict_cases(article, tagless):
+    yield "18 MB of small lists", article, "doc", tagless, 5
+    yield "2,000 lists of 400 kids, every other one missing", FREE_LISTS, "r", "<r>" + row("b", 400) * 2_000 + "</r>", 5
+    yield "2,000 such lists by left recursion", TABLE_LISTS, "r", "<r>" + row("c", 400) * 2_000 + "</r>", 3
+    yield "20 lists", FREE_LISTS, "r", "<r>" + row("b", 2) * 6 + "</r>", 20_000
+    yield "<a/>", "<!ELEMENT a EMPTY>", "a", "<a/>", 50_000
+
+
+# The seconds that pass while a program runs on so many processors.
+def passed(words, processors):
+    allowed = sorted(os.sched_getaffinity(0))[:processors]
+    before = time.monotonic()
+    subprocess.run(words, stdout=subprocess.DEVNULL, check=True, preexec_fn=lambda: os.sched_setaffinity(0, allowed))
+    return time.monotonic() - before
+
+
+# The seconds of one finding of the verdicts, by one thread and by several on so many processors.
+def verdict_times(program, files, often, rounds):
+    ways = [("one", 1)] + [("several", count) for count in (1, 2, 4) if count <= len(os.sched_getaffinity(0))]
+    best = {(way, times): float("inf") for way in ways for times in (0, often)}
+    for _ in range(rounds):
+        for way, times in best:
+            seconds = passed([program, way[0], str(times), *files], way[1])
+            best[way, times] = min(best[way, times], seconds)
+    return {way: (best[way, often] - best[way, 0]) / often for way in ways}
+
+
+def tell_verdicts(top, folder, rounds):
+    program = f"{top}/crates/bench_check/out/bench_check"
+    article = open(f"{top}/examples/article.dtd").read()
+    tagless = without_tags(open(f"{folder}/plain.xml").read())
+    for title, dtd, root, doc, often in verdict_cases(article, tagless):
+        for name, text in (("a.dtd", dtd), ("d.xml", doc)):
+            with open(f"{folder}/{name}", "w") as file:
+                file.write(text)
+        found = verdict_times(program, [f"{folder}/a.dtd", root, f"{folder}/d.xml"], often, rounds)
+        print(f"verdicts of {title}")
+        for (name, count), seconds in found.items():
+            print(f"  {name:8} on {count}: {1_000_000 * seconds:11,.1f} us  {found['one', 1] / seconds:5.2f}")
+
+
 def main():
     top, rounds = sys.argv[1], int(sys.argv[2])
     program = f"{top}/crates/pvtag/out/pvtag"
@@ -91,6 +140,7 @@ def main():
             print(f"{title}, {os.path.getsize(files[2]):,} bytes")
             for name, (seconds, memory, status) in best.items():
                 print(f"  {name:8} {1000 * seconds:8.0f} ms  {memory:9,} kB  status {status}")
+        tell_verdicts(top, folder, rounds)
 
 
 if __name__ == "__main__":

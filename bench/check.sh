@@ -1,5 +1,6 @@
 #!/usr/bin/env bash
-# Times `check`, beside `valid` and xmllint where it is installed. Words: how many runs of each, 5 where none are given.
+# Times `check`, beside `valid` and xmllint where it is installed, and the verdicts alone, by one thread and by several. Words: how many runs
+# of each, 5 where none are given.
 set -eu
 top=$(cd "$(dirname "$0")/.." && pwd)
 command -v python3 >/dev/null || {
@@ -7,4 +8,5 @@ command -v python3 >/dev/null || {
     exit 0
 }
 "$top/pvtag" check "$top/examples/article.dtd" doc "$top/examples/article.xml" >/dev/null
+(cd "$top/crates/bench_check" && rt run -- several 2 data/a.dtd doc data/d.xml) >/dev/null 2>&1 </dev/null
 exec python3 "$top/bench/check.py" "$top" "${1:-5}"

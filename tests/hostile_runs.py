@@ -8,9 +8,8 @@ import time
 from hostile_files import KB, MB, NONE
 
 SECONDS = 60
-# The most memory of a run, in MB: what `docs/COMMANDS.md` tells under "Time and memory", and some 80 MB that this test takes itself, with room for the
-# lists that `check` and `session` gather.
-MEMORY = {"dtd": 100, "valid": 300, "check": 5000, "session": 5000, "drill": 100}
+# The most memory of a run, in MB: what `docs/COMMANDS.md` tells under "Time and memory", and some 80 MB that this test takes itself, with room.
+MEMORY = {"dtd": 100, "valid": 300, "check": 4200, "session": 4200, "drill": 100}
 
 
 def feed(file, pieces):
