@@ -9,14 +9,10 @@ import sys
 
 sys.dont_write_bytecode = True
 
-from expansions import CHAR, COMMENT, INSTRUCTION, LITERAL, NAME, S, TEXT_DECLARATION, Reading
+from expansions import CHAR, COMMENT, Fault, INSTRUCTION, LITERAL, NAME, S, TEXT_DECLARATION, Reading
 
 HEAVIEST = 1000001
 KINDS = "cnps"
-
-
-class Fault(Exception):
-    pass
 
 
 def need(holds, what):
@@ -88,7 +84,7 @@ class Dtd:
 
     def tree(self, tokens):
         """The first particle, as a kind and its members, and the tokens behind it."""
-        need(tokens and tokens[0][0] not in ("," , "|", ")"), "dtd model")
+        need(tokens and tokens[0][0] not in (",", "|", ")"), "dtd model")
         (token, sign), tokens = tokens[0], tokens[1:]
         made = ("name", token)
         if token == "(":
@@ -472,7 +468,7 @@ def main():
     try:
         dtd, doc, pack = Dtd(read(dtd).decode()), Document(read(doc), root), Pack(read(pack))
         print(f"accepted {check(dtd, root, doc, pack)}")
-    except Fault as fault:
+    except (Fault, UnicodeDecodeError) as fault:
         print(fault)
         sys.exit(1)
 

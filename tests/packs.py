@@ -2,10 +2,11 @@
 
 Words: PROGRAM COUNT SEED. So many packs are taken of random small documents under random DTDs, made as in `completions.py`, and those of the
 examples. Each must be accepted; its total must be what `need` tells in a session, its body `valid` for the program, with all texts and tags
-kept, and its tables all light weights of the lists that aren't valid by themselves, found anew by the rules. From each some hostile packs are
-made: a number changed, lines swapped, dropped or doubled, tables moved, a byte of the body changed, the pack of another document, a smaller
-or larger completion whose numbers add up, tables for which a rule was left out. What is accepted of these must be least all the same. Some packs stand here with the answer that each must
-get. Prints each difference, how often each answer came, and how many packs passed; ends with 1 where one failed.
+kept, and its tables all light weights of the lists that aren't valid by themselves, found anew by the rules. From each some hostile packs
+are made: a number changed, lines swapped, dropped or doubled, tables moved, a byte of the body changed, the pack of another document, a
+smaller or larger completion whose numbers add up, tables for which a rule was left out. What is accepted of these must be least all the
+same. Some packs stand here with the answer that each must get. Prints each difference, how often each answer came, and how many packs
+passed; ends with 1 where one failed.
 """
 import glob
 import os
@@ -267,6 +268,15 @@ def smaller_completion(case):
     return written(len(marks), marks, plain(body).encode(), random.choice([pack.tables, tables]))
 
 
+def whole_goal(case, owner, word):
+    """The site and the span whose value is a table's whole-list value."""
+    return ("n" if owner is None else "c", case.dtd.token(case.root if owner is None else owner)), 0, len(word)
+
+
+def value_in(entries, goal):
+    return sum(entry[3] for entry in entries if entry[:3] == goal)
+
+
 def larger_completion(case):
     """A larger completion, whose total, marks and whole-list values are made to agree."""
     pack = Pack(case.pack)
@@ -277,7 +287,7 @@ def larger_completion(case):
     path, owner, kids = random.choice(lists)
     word = word_of(case.dtd, kids)
     table = dict(pack.tables).get(path) or weights(case.dtd, word)
-    whole = ("n" if owner is None else "c", case.dtd.token(case.root if owner is None else owner)), 0, len(word)
+    whole = whole_goal(case, owner, word)
     raised = random.choice([lambda entry: entry[:3] == whole, lambda entry: entry[:3] == whole or entry[3] > 0,
                             lambda entry: entry[1:3] == whole[1:]])
     table = [(*entry[:3], entry[3] + 1 if raised(entry) else entry[3]) for entry in table]
@@ -290,17 +300,17 @@ def rule_left_out(case):
     tables, rules = dict(pack.tables), list(rules_of(case.dtd))
     path, owner, kids = random.choice([each for each in case.document.lists() if each[0] in tables] or case.document.lists())
     word = word_of(case.dtd, kids)
-    whole = ("n" if owner is None else "c", case.dtd.token(case.root if owner is None else owner)), 0, len(word)
+    whole = whole_goal(case, owner, word)
     tables[path] = weights(case.dtd, word, random.sample(rules, len(rules) - 1))
-    more = sum(entry[3] for entry in tables[path] if entry[:3] == whole) - sum(entry[3] for entry in dict(pack.tables).get(path, []) if entry[:3] == whole)
+    more = value_in(tables[path], whole) - value_in(dict(pack.tables).get(path, []), whole)
     found = pack.marks, pack.body
     for _ in range(more if more < 4 else 0):
         found = enlarged(case, *found) or found
     return written(len(found[0]), *found, sorted(tables.items()))
 
 
-CHANGES = [number_changed, value_changed, lines_changed, tables_changed, table_added, body_changed, marks_changed, smaller_completion, larger_completion,
-           rule_left_out]
+CHANGES = [number_changed, value_changed, lines_changed, tables_changed, table_added, body_changed, marks_changed, smaller_completion,
+           larger_completion, rule_left_out]
 
 
 # Packs that stand here, with their answers.
@@ -336,24 +346,33 @@ def rows(program):
             (b"14\n<a><b></b></a>", b"12\n<a><b></a>\n ", "rejected body"), (b"14\n<a><b></b></a>", b"15\n<a ><b></b></a>", "rejected kept"),
             (b"14\n<a><b></b></a>", b"15\n<a><b ></b></a>", "rejected marks"), (b"14\n<a><b></b></a>", b"15\n<a><b></b ></a>", "accepted 1"),
             (b"14\n<a><b></b></a>", b"11\n<a><b/></a>", "accepted 1"), (b"14\n<a><b></b></a>", b"15\n<a><b></b></a>\n", "rejected kept"),
-            (b"14\n<a><b></b></a>", b"14\n<a><a></a></a>", "rejected validity"), (b"14\n<a><b></b></a>", b"22\n<a><!--c--><b></b></a>", "rejected kept"),
+            (b"14\n<a><b></b></a>", b"14\n<a><a></a></a>", "rejected validity"),
+            (b"14\n<a><b></b></a>", b"22\n<a><!--c--><b></b></a>", "rejected kept"),
             (b"list 0", b"list 7", "rejected closure"), (b"list 0", b"list .", "rejected closure"), (b"list 0", b"list 0.0", "rejected closure"),
             (b"list 0", b"list 00", "pack line 4"), (b"list 0\n", b"", "pack line 4"), (b"list 0\n", b"list 0\nlist 0\n", "rejected closure"),
-            (b"c 0 0 0 1\n", b"", "rejected closure"), (b"c 0 0 0 1", b"c 0 0 0 2", "rejected closure"), (b"c 0 0 0 1", b"c 0 0 0 0", "rejected closure"),
+            (b"c 0 0 0 1\n", b"", "rejected closure"), (b"c 0 0 0 1", b"c 0 0 0 2", "rejected closure"),
+            (b"c 0 0 0 1", b"c 0 0 0 0", "rejected closure"),
             (b"c 0 0 0 1\nc 1 0 0 0\nn 0 0 0 2", b"c 0 0 0 0\nc 1 0 0 0\nn 0 0 0 1", "rejected totals"),
             (b"c 1 0 0 0\n", b"", "rejected closure"), (b"n 0 0 0 2\n", b"", "rejected closure"), (b"s 1 0 0 1\n", b"", "rejected closure"),
+            (b"n 1 0 0 1", b"n 0 0 1 2\nn 1 0 0 1", "rejected closure"), (b"n 1 0 0 1", b"n 0 1 0 2\nn 1 0 0 1", "rejected closure"),
             (b"n 0 0 0 2", b"n 0 0 1 2", "rejected closure"), (b"s 1 0 0 1", b"s 0 0 0 1", "rejected closure"),
             (b"s 1 0 0 1", b"s 1 0 0 1\ns 2 0 0 1", "rejected closure"), (b"s 1 0 0 1", b"s 4294967295 0 0 1", "rejected closure"),
             (b"c 0 0 0 1\nc 1 0 0 0", b"c 1 0 0 0\nc 0 0 0 1", "pack line 6"), (b"p 1 0 0 1", b"p 1 0 0 1000000", "rejected closure"),
             (b"p 1 0 0 1", b"p 1 0 0 1000001", "pack line 10"), (b"end\n", b"end", "pack line 12"), (b"end\n", b"end\n\n", "pack line 13")]:
         need(old in PACK, f"{old!r} isn't in the pack")
         yield small, PACK.replace(old, new), answer
+    yield small, PACK.replace(b"end\n", PACK[PACK.index(b"list 0\n"):]), "rejected closure"
     done = Case(program, SMALL, "a", "<a><b/></a>")
     yield done, b"pvpack 1\ntotal 0\nbody 11\n<a><b/></a>\nend\n", "accepted 0"
-    word = word_of(done.dtd, done.document.lists()[1][2])
-    yield done, written(0, [], b"<a><b/></a>", [((0,), weights(done.dtd, word))]), "accepted 0"
+    tables = [(path, weights(done.dtd, word_of(done.dtd, kids))) for path, _, kids in done.document.lists()]
+    for chosen in tables, tables[1:2]:
+        yield done, written(0, [], done.text.encode(), chosen), "accepted 0"
+    for chosen in tables[::-1], tables[2:] * 2:
+        yield done, written(0, [], done.text.encode(), chosen), "rejected closure"
     yield done, PACK, "rejected kept"
     deep = Case(program, "<!ELEMENT a (a?)>", "a", "<a/>")
+    yield deep, written(0, [1], b"<a><a></a></a>", []), "rejected totals"
+    yield deep, written(1, [1], b"<a><a></a></a>", []), "rejected totals"
     yield deep, written(19999, range(1, 20000), b"<a>" * 20000 + b"</a>" * 20000, []), "rejected totals"
     yield deep, written(19999, range(1, 20000), b"<a>" * 20000 + b"</a>" * 19999, []), "rejected body"
     doctype = Case(program, SMALL, "a", "<!DOCTYPE a><a/>")
@@ -411,7 +430,14 @@ class Trial:
             self.answers[answer] = self.answers.get(answer, 0) + 1
 
 
+# A DTD with each form of model, and documents for it.
+FORMS = "<!ELEMENT a (c, b+, (d | e)?, (b, d)*)><!ELEMENT b (#PCDATA | d)*><!ELEMENT c ANY><!ELEMENT d EMPTY><!ELEMENT e (f?, b)>"
+FORMED = ["<a><b/><b/><d/></a>", "<a>x<b/><b/><e/><b/></a>", "<a><b/>x<b/><b/></a>", "<a><d/>y<!--c-->z<d/></a>"]
+
+
 def examples():
+    for text in FORMED:
+        yield FORMS, "a", text
     top = os.path.dirname(os.path.dirname(os.path.abspath(__file__)))
     dtds = {names_in(text)[0]: text for text in map(text_of, sorted(glob.glob(f"{top}/examples/*.dtd")))}
     for text in map(text_of, sorted(glob.glob(f"{top}/examples/*.xml"))):
