@@ -211,8 +211,11 @@ def try_pipes(trial):
         closed_late(open(trial.path("fifo"), "wb"), pieces)
 
     def expect(words, pieces, answer):
-        threading.Thread(target=send, args=(pieces,), daemon=True).start()
+        sender = threading.Thread(target=send, args=(pieces,), daemon=True)
+        sender.start()
         trial.expect("a pipe", words, answer)
+        # What an endless one still sends isn't for the next that reads.
+        sender.join(10)
 
     expect(["dtd", "fifo"], [b"<!ELEMENT a ANY>"], (0, b"a any 1\ntypes 1 parts 0 undeclared 0\n"))
     expect(["dtd", "fifo"], [(b" ", 1 << 36)], (8, b"limit dtd-file\n"))
