@@ -26,7 +26,7 @@ pub mod utf8;
 
 pub use characters::{are_chars, is_char, is_name_char, is_name_start};
 pub use errors::TextError;
-pub use lists::{Bytes, List, Numbers, bytes_of};
+pub use lists::{Bytes, Labels, List, Numbers, bytes_of};
 pub use memory::NoMemory;
 pub use names::{is_name, name_at};
 pub use unit_text::{Units, are_simple, is_predefined, text_units};

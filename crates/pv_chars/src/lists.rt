@@ -42,6 +42,9 @@ pub type Bytes = List<u8>;
 /// A list of numbers.
 pub type Numbers = List<u32>;
 
+/// A list of names.
+pub type Labels = List<Bytes>;
+
 /// A copy of the bytes.
 pub fn bytes_of(alloc: Global, bytes: &[u8]) -> Result<Bytes, NoMemory>
     ensures { IfOk result (λ b. b ≡ bytes.now) }

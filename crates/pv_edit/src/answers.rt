@@ -15,6 +15,8 @@ pub struct Done {
     pub checked: u32,
     /// The lists that are Possible after it.
     pub left: u64,
+    /// The lists that are Impossible after it.
+    pub bad: u64,
 }
 
 /// Why an edit isn't accepted.
@@ -22,8 +24,8 @@ pub struct Done {
 pub enum EditAnswer {
     /// It can't be made; this is the first reason.
     Shape(Reason),
-    /// Inserting elements could no longer make the document valid; this is the path of the first
-    /// impossible list.
+    /// More lists would be impossible than before; this is the path of the first impossible one
+    /// among the lists that it would change.
     Impossible(Path),
     /// The document would be past a limit.
     Limit,

@@ -8,6 +8,7 @@
 #![tactic(auto)]
 
 mod answers;
+mod asks;
 mod changes;
 mod close_marks;
 mod counts;
@@ -28,6 +29,7 @@ mod text_preparations;
 mod ways_back;
 
 pub use answers::{Done, EditAnswer, VerdictRow, VerdictRows};
+pub use asks::Ask;
 pub use changes::{apply, make, prepare, prepare_back, revert};
 pub use descent::{put_kids, take_kids};
 pub use edits::{Edit, Edits};

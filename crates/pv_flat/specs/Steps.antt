@@ -1,5 +1,5 @@
 -- From one state of a reader to the next, by an event or by none.
-use Rattle.std.specs.Prelude.{◌≡◌, ◌<◌, ◌+◌, ◌-◌, ◌*◌, List, [], ◌∷◌, ℕ, suc, length, take}
+use Rattle.std.specs.Prelude.{◌≡◌, ◌≢◌, ◌<◌, ◌+◌, ◌-◌, ◌*◌, List, [], ◌∷◌, ℕ, suc, length, take}
 use Rattle.std.specs.Prelude.{Option, Some, None, Result, Ok, Err, if◌then◌else◌}
 use Rattle.pv_read.specs.Items.{Item, xml_declaration, doctype, comment_or_instruction}
 use Rattle.pv_read.specs.Items.{cdata_section, start_tag, empty_tag, end_tag, text_run}
@@ -81,12 +81,13 @@ pub record PassesItem (old : Events) (i : Item) (more : List ℕ) (e : PlainEven
   pub at_stage : new.stage ≡ stage_behind i
 
 -- By this event a reader moves on from a stage: it enters the root; it passes the item at the front
--- of the rest; it ends the element of an empty-element tag.
+-- of the rest, in the innermost of the open elements; it ends the element of an empty-element tag.
 abbrev pub StepsBy : Stage → PlainEvent → Events → Events → Type 0
 StepsBy stage.Fresh e old new =
     (tag : RootTag) × IsOpening old.root old.bytes.now tag × EntersRoot old tag e new
 StepsBy stage.Inside e old new =
-    (i : Item) × (more : List ℕ) × TakesInside old i more × PassesItem old i more e new
+    (i : Item) × (more : List ℕ) × (open_names old ≢ []) × TakesInside old i more
+    × PassesItem old i more e new
 StepsBy stage.StopDue e old new =
     (e ≡ end_element) × StandsAs old new × (new.stage ≡ stage.Inside)
 StepsBy stage.Ended e old new = ⊥

@@ -1,6 +1,6 @@
 //! What stands after the root element (XML 1.0, section 2.8).
 
-ghost use Rattle.std.specs.Prelude.{◌<◌, ◌+◌, ◌^◌, [], ℕ, List, length, IfOk, IfErr};
+ghost use Rattle.std.specs.Prelude.{◌≢◌, ◌<◌, ◌+◌, ◌^◌, [], ℕ, List, length, IfOk, IfErr};
 ghost use Rattle.pv_tree.specs.Plain.{Tree};
 ghost use Rattle.pv_tree.specs.Marks.{blank_mark};
 ghost use Rattle.pv_tree.specs.declared.nodes.Mark.{Mark};
@@ -26,6 +26,7 @@ pub fn read_epilog(
     ensures refused { IfErr result (λ e. (before : List ℕ) (t : Tree Mark) →
         Refuses (DocumentRestMeans most_depth blank_mark root.now first (in_epilog before t [])
         end.now) e) }
+    ensures no_want { IfErr result (λ e. e ≢ DocError.NoMemory) }
 {
     let mut rest = end;
     let mut count = first;

@@ -1,6 +1,6 @@
 //! The item at the front, where it is in no fault.
 
-ghost use Rattle.std.specs.Prelude.{◌≡◌, ◌<◌, ◌↔◌, length, IsTrue, IfOk, IfErr};
+ghost use Rattle.std.specs.Prelude.{◌≡◌, ◌≢◌, ◌<◌, ◌↔◌, length, IsTrue, IfOk, IfErr};
 ghost use Rattle.pv_tree.specs.declared.nodes.Mark.{Mark};
 ghost use Rattle.pv_tree.specs.Marks.{blank_mark};
 ghost use Rattle.pv_read.specs.Left.{Left};
@@ -59,6 +59,7 @@ pub fn next_item<'a>(
     ensures refused { IfErr result (λ e. (left : Left Mark) →
         place_of left ≡ plain_place place.now →
         Refuses (DocumentRestMeans most_depth blank_mark root.now count left rest.now) e) }
+    ensures no_want { IfErr result (λ e. e ≢ DocError.NoMemory) }
     ensures within { IfOk result (λ r. length r.1.now < length rest.now) }
 {
     if has_subset(place, rest) {

@@ -1,6 +1,6 @@
 //! What stands before the root element (XML 1.0, section 2.8).
 
-ghost use Rattle.std.specs.Prelude.{◌<◌, ◌^◌, ℕ, List, length, IfOk, IfErr};
+ghost use Rattle.std.specs.Prelude.{◌≢◌, ◌<◌, ◌^◌, ℕ, List, length, IfOk, IfErr};
 ghost use Rattle.pv_tree.specs.Marks.{blank_mark};
 ghost use Rattle.pv_read.specs.Left.{in_prolog, at_front};
 ghost use Rattle.pv_read.specs.Meaning.{DocumentRestMeans};
@@ -38,6 +38,7 @@ pub fn root_tag<'a>(
     ensures refused { IfErr result (λ e. (mark : List ℕ) →
         Refuses (DocumentRestMeans most_depth blank_mark root.now 0 (in_prolog at_front mark)
         text.now) e) }
+    ensures no_want { IfErr result (λ e. e ≢ DocError.NoMemory) }
 {
     let mut stage = PrologStage::AtFront;
     let mut rest = text;

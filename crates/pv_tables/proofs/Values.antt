@@ -15,7 +15,7 @@ use Rattle.pv_rules.specs.Sites.{HasSite, PlainSite, content_site, name_site, pa
 use Rattle.pv_rules.specs.declared.sites.Site.{Site}
 use Rattle.pv_rules.specs.declared.sites.Site.TheVariants as site
 use Rattle.pv_tables.specs.Tables.{AreAllEntries, IsEntry, kind_rank, site_number}
-use Rattle.pv_tables.specs.Values.{are_same_goals, are_same_sites, goal_of, listed_value}
+use Rattle.pv_tables.specs.Values.{IsListed, IsUnlisted, are_same_goals, are_same_sites, goal_of, listed_value}
 use Rattle.pv_tables.specs.declared.tables.Entry.{Entry}
 
 -- a site is told by its kind and number
@@ -60,13 +60,6 @@ same_goals a b e = goal_same a.site b.site a.from a.to b.from b.to
 
 pub itself : (a : Goal) → are_same_goals a a ≡ true
 itself a = rw (eq-eqb (kind_rank a.site) (kind_rank a.site) refl, eq-eqb (site_number a.site) (site_number a.site) refl, eq-eqb a.from a.from refl, eq-eqb a.to a.to refl) refl
-
--- the entry of a goal is listed, or none is
-abbrev pub IsListed : List Entry → Goal → Type 0
-IsListed es x = (e : Entry) × Contains es e × (goal_of e ≡ x) × (listed_value es x ≡ e.value)
-
-abbrev pub IsUnlisted : List Entry → Goal → Type 0
-IsUnlisted es x = (listed_value es x ≡ heaviest) × ((e : Entry) → Contains es e → goal_of e ≡ x → ⊥)
 
 first_listed : (e : Entry) (es : List Entry) (x : Goal) (b : Bool) → are_same_goals (goal_of e) x ≡ b → IsListed es x ⊎ IsUnlisted es x → IsListed (e ∷ es) x ⊎ IsUnlisted (e ∷ es) x
 first_listed e es x true same rest = inl (e, (0, omega arith, refl), same_goals (goal_of e) x same, rw same refl)

@@ -1,5 +1,6 @@
 -- Laws of tables, each a statement. M is the type of a document's marks.
-use Rattle.std.specs.Prelude.{List, ℕ, ◌≡◌}
+use Rattle.std.specs.Prelude.{List, true, ℕ, ◌≡◌, ◌↔◌, ◌⊎◌}
+use Rattle.std.specs.List.{Contains}
 use Rattle.pv_model.specs.Plain.{PlainToken}
 use Rattle.pv_dtd.specs.Plain.{PlainDtd}
 use Rattle.pv_dtd.specs.Proper.{IsProperDtd}
@@ -8,16 +9,34 @@ use Rattle.pv_tree.specs.Plain.{PlainDoc}
 use Rattle.pv_tree.specs.View.{view}
 use Rattle.pv_tree.specs.declared.nodes.Verdict.{Verdict}
 use Rattle.pv_rules.specs.Derivations.{IsClosed, IsWeight}
-use Rattle.pv_rules.specs.Rules.{IsKnownWord, IsSpan, Rule, over}
+use Rattle.pv_rules.specs.Rules.{Goal, IsKnownWord, IsSpan, Rule, over}
 use Rattle.pv_rules.specs.Sites.{HasSite, PlainSite}
 use Rattle.pv_missing.specs.Completing.{IsPotentiallyValid}
 use Rattle.pv_missing.specs.Proper.{IsProperDoc}
 use Rattle.pv_missing.specs.Verdicts.{AreVerdicts}
 use Rattle.pv_missing.specs.Weighing.{SumIsLeast}
-use Rattle.pv_tables.specs.Tables.{AreAllEntries, AreTables}
-use Rattle.pv_tables.specs.Values.{HaveTotal, listed_value}
+use Rattle.pv_tables.specs.Tables.{AreAllEntries, AreTables, kind_rank, site_number}
+use Rattle.pv_tables.specs.Values.{HaveTotal, IsListed, IsUnlisted, are_same_goals, listed_value}
 use Rattle.pv_tables.specs.declared.tables.Entry.{Entry}
 use Rattle.pv_tables.specs.declared.tables.Table.{Table}
+
+-- the value that entries give a site over a span is that of one of them, or past the cut where none
+-- has that site and span
+abbrev pub ListedOrNot : Type 0
+ListedOrNot = (es : List Entry) (x : Goal) → IsListed es x ⊎ IsUnlisted es x
+
+-- the test for the same site and span holds exactly of the same
+abbrev pub GoalsAreTold : Type 0
+GoalsAreTold = (a b : Goal) → (are_same_goals a b ≡ true) ↔ (a ≡ b)
+
+-- a site is told by its kind and its number
+abbrev pub SitesAreTold : Type 0
+SitesAreTold = (a b : PlainSite) → kind_rank a ≡ kind_rank b → site_number a ≡ site_number b → a ≡ b
+
+-- a document's list is told by its path
+abbrev pub OneListAtPath : (M : Type 0) → Type 0
+OneListAtPath M = (doc : PlainDoc M) (a b : Listed M) → Contains (lists_of doc) a →
+    Contains (lists_of doc) b → a.path ≡ b.path → a ≡ b
 
 -- lists have one list of tables
 abbrev pub OneTables : (M : Type 0) → Type 0

@@ -79,6 +79,10 @@ pub data AreTables {M : Type 0} (g : PlainDtd) (root : List ℕ) :
       (IsVerdict g root list verdict.Possible → ⊥) → AreTables g root lists ts →
       AreTables g root (list ∷ lists) ts
 
+-- how many entries the tables of a document may have
+abbrev pub most_entries : ℕ
+most_entries = 8388608
+
 -- how many entries the tables have
 abbrev pub entries_in : List Table → ℕ
 entries_in [] = 0

@@ -30,6 +30,15 @@ abbrev pub listed_value : List Entry → Goal → ℕ
 listed_value [] x = heaviest
 listed_value (e ∷ es) x = if are_same_goals (goal_of e) x then e.value else listed_value es x
 
+-- an entry of the list has this site and span, and its value is theirs
+abbrev pub IsListed : List Entry → Goal → Type 0
+IsListed es x = (e : Entry) × Contains es e × (goal_of e ≡ x) × (listed_value es x ≡ e.value)
+
+-- no entry of the list has this site and span, and their value is past the cut
+abbrev pub IsUnlisted : List Entry → Goal → Type 0
+IsUnlisted es x =
+    (listed_value es x ≡ heaviest) × ((e : Entry) → Contains es e → goal_of e ≡ x → ⊥)
+
 -- The table has the path of one of the lists, and k is its value for all of that list's word, at
 -- the site of the list's owner.
 pub record HasWholeValue {M : Type 0} (g : PlainDtd) (root : List ℕ) (lists : List (Listed M))

@@ -34,6 +34,11 @@ PossibleWeigh g root (list ∷ lists) (verdict.Possible ∷ vs) s = (a : ℕ) ×
     LiveWeighs g root list a × PossibleWeigh g root lists vs b
 PossibleWeigh g root (list ∷ lists) (verdict.Impossible ∷ vs) s = PossibleWeigh g root lists vs s
 
+-- the live word of a live list is its word
+abbrev pub LiveIsWord : (M : Type 0) → Type 0
+LiveIsWord M = (g : PlainDtd) (root : List ℕ) (list : Listed M) (live : List PlainToken) →
+    IsLive g root list → IsLiveWord g (word_of g list.kids) live → live ≡ word_of g list.kids
+
 -- the live word of a live list may be weighed in place of its word
 abbrev pub LiveWeight : (M : Type 0) → Type 0
 LiveWeight M = (g : PlainDtd) (root : List ℕ) (list : Listed M) (k : ℕ) → IsLive g root list →

@@ -4,6 +4,9 @@ use pv_chars::List;
 use pv_rules::Site;
 use pv_tree::Path;
 
+/// How many entries all tables of a document may have.
+pub const MOST_ENTRIES: u32 = 8_388_608;
+
 /// The weight of a site over the tokens from number `from` up to number `to`, which is left out.
 #[derive(Clone, Copy, Debug, PartialEq, Eq)]
 pub struct Entry {

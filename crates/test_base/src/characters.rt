@@ -7,8 +7,8 @@ use pv_chars::references::{after_char_ref, entity_ref_at};
 use pv_chars::scan::{after_blank, after_byte_order_mark, space_length};
 use pv_chars::utf8::char_at;
 use pv_chars::{
-    Numbers, TextError, Units, are_chars, bytes_of, is_char, is_name, is_name_char, is_name_start,
-    text_units,
+    Labels, Numbers, TextError, Units, are_chars, bytes_of, is_char, is_name, is_name_char,
+    is_name_start, text_units,
 };
 use std::test::Fail;
 
@@ -198,6 +198,10 @@ fn lists(rt: HostRuntime) -> Result<(), Fail> {
     assert!(rt; bytes.as_slice() == b"xyz".as_slice());
     let numbers = Numbers::of([1, 2].to_vec(alloc)?);
     assert!(rt; numbers.as_slice() == [1, 2].as_slice());
+    let mut names = Vec::new(alloc);
+    names.push(bytes_of(alloc, b"em").map_err(|_| "no memory")?)?;
+    let labels = Labels::of(names);
+    assert!(rt; labels.as_slice()[0].as_slice() == b"em".as_slice());
     Ok(())
 }
 

@@ -1,0 +1,14 @@
+//! What may be asked of a document before an edit of it is made.
+
+use pv_tree::Path;
+
+/// An edit but for its name, of which it is asked what names it may have. Places are numbers of
+/// kids, counted from 0.
+#[derive(Debug, Drop)]
+pub enum Ask {
+    /// Which names a new element may have that holds the kids from `from` up to but not including
+    /// `to` of the element or document at `path`.
+    Wrap { path: Path, from: u32, to: u32 },
+    /// Which names the element at `path` may have instead of its own.
+    Rename { path: Path },
+}
