@@ -195,3 +195,10 @@ module _ (g : PlainDtd) (rules : List ColumnRule) (word : List Token) (are : Are
 
   pub content_derives : (x i j : ℕ) → IsDeclared g x → i ≤ length word → ReadThrough rules word (x ∷ []) i j → DerivesAt g (map plain_token word) (content_site x) i j
   content_derives x i j l le d = only_content x i j l (all_mean (x ∷ []) i j d le)
+
+  pub part_derives : (q i j : ℕ) (p : PlainPart) → part_at g q ≡ Some p → i ≤ length word → ReadThrough rules word (part_column g q ∷ []) i j → DerivesAt g (map plain_token word) (part_site q) i j
+  part_derives q i j p h le d = only_part q i j p h (all_mean (part_column g q ∷ []) i j d le)
+
+  pub rest_derives : (q i j : ℕ) (p : PlainPart) (ps : PlainParts) → rest_at g q ≡ Some (part p ps) → i ≤ length word → ReadThrough rules word (member_columns g q (part p ps)) i j →
+      DerivesAt g (map plain_token word) (rest_site q) i j
+  rest_derives q i j p ps h le d = members_derive q i j p ps h (all_mean (member_columns g q (part p ps)) i j d le)

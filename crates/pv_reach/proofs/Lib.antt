@@ -18,6 +18,8 @@ pub mod Pushing
 pub mod Raising
 pub mod Ranged
 pub mod Ranging
+pub mod Reaching
+pub mod Resting
 pub mod Replacing
 pub mod SitesReach
 pub mod Sweeping

@@ -31,7 +31,7 @@ module _ (g : PlainDtd) (formed : IsFormedDtd g) where
   pub part_number : (q : ℕ) (p : PlainPart) → part_at g q ≡ Some p → q < parts_in_models g.models
   part_number q p e = let a = (parts_by_number g).within q p e in let b = some_part p in omega arith
 
-  in_part : (q : ℕ) (p : PlainPart) → part_at g q ≡ Some p → part_column g q < width_of g
+  pub in_part : (q : ℕ) (p : PlainPart) → part_at g q ≡ Some p → part_column g q < width_of g
   in_part q p e = let a = part_number q p e in omega arith
 
   in_name : (x : ℕ) → IsDeclared g x → x < width_of g
@@ -40,7 +40,7 @@ module _ (g : PlainDtd) (formed : IsFormedDtd g) where
   in_content : (x : ℕ) (m : PlainModel) → model_of g x ≡ Some m → x < width_of g
   in_content x m e = in_name x (slice_get_within g.models x m e)
 
-  members_within : (q : ℕ) (p : PlainPart) (ps : PlainParts) → rest_at g q ≡ Some (part p ps) → Within (member_columns g q (part p ps))
+  pub members_within : (q : ℕ) (p : PlainPart) (ps : PlainParts) → rest_at g q ≡ Some (part p ps) → Within (member_columns g q (part p ps))
   members_within q p no_parts e = one_more (part_column g q) [] (in_part q p ((parts_by_number g).member q p no_parts e)) none
   members_within q p (part r rs) e =
       one_more (part_column g q) (member_columns g (q + parts_in p) (part r rs)) (in_part q p ((parts_by_number g).member q p (part r rs) e))

@@ -7,3 +7,5 @@ pub mod Leading
 pub mod Merging
 pub mod Cuts
 pub mod Plans
+pub mod Reached
+pub mod Ending

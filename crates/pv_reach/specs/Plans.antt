@@ -1,5 +1,5 @@
 -- Rules that are laid out for all words.
-use Rattle.std.specs.Prelude.{List, ◌<◌, ◌^◌}
+use Rattle.std.specs.Prelude.{List, length, ◌<◌, ◌^◌, ◌≡◌}
 use Rattle.pv_dtd.specs.Plain.{PlainDtd}
 use Rattle.pv_reach.specs.Columns.{AreRules, width_of}
 use Rattle.pv_reach.specs.Cuts.{AreOwnSets, AreRanges}
@@ -7,13 +7,14 @@ use Rattle.pv_reach.specs.Merging.{Replaces}
 use Rattle.pv_reach.specs.declared.plan.Plan.{Plan}
 use Rattle.pv_columns.specs.declared.rules.ColumnRule.{ColumnRule}
 
--- By the plan's rules the columns that stand for those of the DTD reach what these reach by the
--- DTD's own; columns that have a set in the plan are free, over that set; and the rules of each
--- column stand in its range.
+-- Each column of the DTD has one that stands for it. By the plan's rules the columns that stand for
+-- those of the DTD reach what these reach by the DTD's own; columns that have a set in the plan are
+-- free, over that set; and the rules of each column stand in its range.
 pub record IsPlan (g : PlainDtd) (plan : Plan) : Type 0 where
   pub rules : List ColumnRule
   pub are_rules : AreRules g rules
   pub replaces : Replaces rules plan.rules.items (width_of g) plan.width plan.heads.items
+  pub long : length plan.heads.items ≡ width_of g
   pub narrow : plan.width < 2 ^ 26
   pub free : AreOwnSets plan.rules.items plan.width plan.free
   pub ranges : AreRanges plan.rules.items plan.ranges

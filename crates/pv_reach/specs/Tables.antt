@@ -6,6 +6,7 @@ use Rattle.pv_model.specs.declared.models.Token.{Token}
 use Rattle.pv_columns.specs.declared.rules.ColumnRule.{ColumnRule}
 use Rattle.pv_columns.specs.ColumnRules.{Reads, ReadThrough}
 
+-- what the table has for a column at a place
 abbrev pub cell : ℕ → List ℕ → ℕ → ℕ → ℕ
 cell width table c i = slice_index table (i * width + c)
 

@@ -59,6 +59,7 @@ returns c =
       rules = rules;
       are_rules = c.requires;
       replaces = p.replaces;
+      long = p.long;
       narrow = p.narrow;
       free = subst F c.deref-4.ensures.value c.in_ok-free.ensures;
       ranges = subst R c.deref-5.ensures.value c.in_ok-ranges.ensures;
