@@ -1,2 +1,3 @@
 -- for other crates:
 pub mod Walking
+pub mod Narrow

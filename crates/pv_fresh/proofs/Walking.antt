@@ -18,7 +18,7 @@ use Rattle.pv_tree.specs.declared.nodes.Verdict.{Verdict}
 use Rattle.pv_tree.specs.declared.nodes.Verdict.TheVariants as verdict
 use Rattle.pv_fresh.specs.Walks.{GoesOver, first_after}
 
-verdicts_more : {M : Type 0} (g : PlainDtd) (root : List ℕ) (lists : List (Listed M)) (vs : List Verdict) (list : Listed M) (v : Verdict) → AreVerdicts g root lists vs → IsVerdict g root list v →
+pub verdicts_more : {M : Type 0} (g : PlainDtd) (root : List ℕ) (lists : List (Listed M)) (vs : List Verdict) (list : Listed M) (v : Verdict) → AreVerdicts g root lists vs → IsVerdict g root list v →
     AreVerdicts g root (lists ++ list ∷ []) (vs ++ v ∷ [])
 verdicts_more g root [] vs list v a j = let none : vs ≡ [] = a in (v, [], rw none refl, j, refl)
 verdicts_more g root (l ∷ lists) vs list v a j =

@@ -1,16 +1,14 @@
 //! The check of a whole document.
 
-ghost use Rattle.std.specs.Prelude.{◌≡◌, ◌≤◌, ◌+◌, ◌↔◌, IfErr, IfOk, IsNone, MatchResult, OnOk};
-ghost use Rattle.std.specs.Prelude.{length};
+ghost use Rattle.std.specs.Prelude.{◌≡◌, ◌≤◌, ◌+◌, IfOk, OnOk, length};
 ghost use Rattle.std.specs.List.{AllByRecursion};
 ghost use Rattle.pv_productive.specs.PlainForms.{dtd_of};
 ghost use Rattle.pv_tree.specs.Lists.{lists_of};
 ghost use Rattle.pv_tree.specs.PlainDocs.{plain_doc};
-ghost use Rattle.pv_tree.specs.View.{view};
-ghost use Rattle.pv_missing.specs.Completing.{IsPotentiallyValid};
 ghost use Rattle.pv_missing.specs.Verdicts.{HaveVerdicts};
 ghost use Rattle.pv_missing.specs.Widths.{IsListForVerdict};
-ghost use Rattle.pv_fresh.specs.Answers.{HasCause};
+ghost use Rattle.pv_fresh.specs.Answers.{CountsFewLists, CountsLists, FindsCause, FindsNarrow};
+ghost use Rattle.pv_fresh.specs.Answers.{FindsPossible, FindsVerdicts};
 ghost use Rattle.pv_fresh.specs.Walks.{verdicts_of};
 
 use crate::errors::FreshError;
@@ -41,15 +39,12 @@ pub fn check_doc<L: Ledger>(
     doc: &Doc,
     steps: &mut Steps<L>,
 ) -> Result<Verdicts, FreshError>
-    ensures verdicts { IfOk result (HaveVerdicts (dtd_of grammar.now) root.now
-        (lists_of (plain_doc doc.now))) }
-    ensures possible { IfOk result (λ vs. IsNone vs.first ↔
-        IsPotentiallyValid (dtd_of grammar.now) root.now (view (plain_doc doc.now).root)) }
-    ensures narrow { OnOk result (AllByRecursion (IsListForVerdict (dtd_of grammar.now))
-        (lists_of (plain_doc doc.now))) }
-    ensures refused { IfErr result (HasCause (dtd_of grammar.now) (plain_doc doc.now)) }
-    ensures steps { OnOk result (steps.new ≡ steps.old + length (lists_of (plain_doc doc.now))) }
-    ensures few_steps { steps.new ≤ steps.old + length (lists_of (plain_doc doc.now)) }
+    ensures verdicts { FindsVerdicts (dtd_of grammar.now) root.now (plain_doc doc.now) result }
+    ensures possible { FindsPossible (dtd_of grammar.now) root.now (plain_doc doc.now) result }
+    ensures narrow { FindsNarrow (dtd_of grammar.now) (plain_doc doc.now) result }
+    ensures refused { FindsCause (dtd_of grammar.now) (plain_doc doc.now) result }
+    ensures steps { CountsLists (plain_doc doc.now) steps.old steps.new result }
+    ensures few_steps { CountsFewLists (plain_doc doc.now) steps.old steps.new }
 {
     live_lists_law::<Mark>();
     proper_dtd_law(grammar.dtd());

@@ -1,3 +1,5 @@
 -- of this crate:
-mod JobLists
-mod ListNumbers
+pub mod Tallying
+pub mod JobLists
+pub mod Judgements
+pub mod ListNumbers

@@ -1,64 +1,166 @@
 //! Lists judged by threads, and their verdicts in order.
 
-ghost use Rattle.std.specs.Prelude.{◌≡◌, ◌≢◌, ◌≤◌, ◌<◌, ◌+◌, IfOk, OnOk, Ok, Err, length, map};
+ghost use Rattle.std.specs.Prelude.{◌≡◌, ◌≢◌, ◌<◌, ◌+◌, ◌∷◌, [], ℕ, IfErr, IfOk, IfSome, List, OnOk, Ok};
+ghost use Rattle.std.specs.Prelude.{Err, Vec, length};
 ghost use Rattle.std.specs.List.{AllByRecursion, AllZip};
+ghost use Rattle.std.specs.declared.alloc.Global.{Global};
 ghost use Rattle.pv_productive.specs.PlainForms.{dtd_of};
+ghost use Rattle.pv_rules.specs.Sites.{HasSite};
+ghost use Rattle.pv_tree.specs.Lists.{Listed, lists_at, lists_from};
+ghost use Rattle.pv_tree.specs.PlainForms.{plain, forest};
+ghost use Rattle.pv_tree.specs.Words.{word_of};
+ghost use Rattle.pv_tree.specs.declared.nodes.Mark.{Mark};
+ghost use Rattle.pv_tree.specs.declared.nodes.Verdict.{Verdict};
+ghost use Rattle.pv_missing.specs.Owners.{IsOwner};
+ghost use Rattle.pv_missing.specs.PlainForms.{plain_of};
+ghost use Rattle.pv_missing.specs.Verdicts.{IsVerdict};
+ghost use Rattle.pv_missing.specs.Widths.{FitsVerdict, IsListForVerdict};
+ghost use Rattle.pv_missing.specs.WordVerdicts.{HoldsOne};
 ghost use Rattle.pv_reach.specs.declared.errors.ReachError.TheVariants.{TooWide as too_wide};
-ghost use Rattle.pv_parallel.specs.Jobs.{AreEntered, JudgesJob};
+ghost use Rattle.pv_parallel.specs.Jobs.{AreJoined, IsRunOf, Judges, JudgesJob, owner_of};
 
 use crate::gate::Gate;
-use crate::jobs::{Job, ListOwner};
+use crate::jobs::{Job, ListOwner, Run};
 use pv_chars::NoMemory;
-use pv_missing::{element_owner, root_owner};
+use pv_missing::{Of, element_owner, root_owner};
 use pv_reach::{Judge, ReachError, list_verdict_by};
 use pv_steps::Steps;
-use pv_tree::Verdict;
+use pv_tree::{Node, Verdict};
 use rayon::prelude::*;
 use std::alloc::{AllocError, Global};
 use std::marker::Brand;
 use std::sync::ledger::{Blank, Ledger};
 use std::thread::Threads;
 
-/// What came of a list.
-pub type Judged = Result<Verdict, ReachError>;
+/// What came of a piece of work.
+pub type Judged = Result<Vec<Verdict>, ReachError>;
 
-// Kids that a piece of work has in the mean, at least, so that it is worth a thread.
-const PIECE: usize = 4096;
+// The fewest pieces of work that are worth a thread.
+const PIECES: usize = 8;
 
-// Judges the list on a counter of its own.
-fn judge_on<L: Ledger>(judge: &Judge<'_>, root: &[u8], job: &Job<'_>, blank: Blank) -> Judged
+// The verdict of a list, found on a counter of its own.
+fn verdict_on<L: Ledger>(
+    judge: &Judge<'_>,
+    owner: Option<Of>,
+    kids: &[Node],
+    blank: Blank,
+) -> Result<Verdict, ReachError>
     requires name { blank.name ≡ L.name }
     requires parts { blank.parts ≡ L.parts }
     requires some { 0 < L.parts }
-    ensures { JudgesJob (dtd_of judge.now) root.now job.now result }
+    requires known { IfSome owner (λ of. HasSite (dtd_of judge.now) (plain_of of)) }
+    ensures verdict { IfOk result (λ verdict. (root : List ℕ) (list : Listed Mark) →
+        list.kids ≡ forest kids.now → IsOwner (dtd_of judge.now) root list owner →
+        HoldsOne list.owner list.kids → IsVerdict (dtd_of judge.now) root list verdict) }
+    ensures wide { IfErr result (λ e. e ≡ too_wide → ¬ FitsVerdict (dtd_of judge.now)
+        (length (word_of (dtd_of judge.now) (forest kids.now)))) }
+{
+    let mut steps = Steps::<L>::start(blank);
+    list_verdict_by(judge, owner, kids, &mut steps)
+}
+
+// Judges a list behind those judged so far, when its number is told.
+fn judge_list<G: Gate>(
+    judge: &Judge<'_>,
+    owner: Option<Of>,
+    kids: &[Node],
+    first: u64,
+    gate: &G,
+    verdicts: &mut Vec<Verdict>,
+) -> Result<(), ReachError>
+    requires known { IfSome owner (λ of. HasSite (dtd_of judge.now) (plain_of of)) }
+    ensures judged { OnOk result ((root : List ℕ) (list : Listed Mark) →
+        list.kids ≡ forest kids.now → IsOwner (dtd_of judge.now) root list owner →
+        HoldsOne list.owner list.kids →
+        Judges (dtd_of judge.now) root (G.entered gate.now) first (list ∷ [])
+        verdicts.old.items verdicts.new.items) }
+    ensures wide { IfErr result (λ e. e ≡ too_wide → ¬ FitsVerdict (dtd_of judge.now)
+        (length (word_of (dtd_of judge.now) (forest kids.now)))) }
+{
+    gate.enter(first.wrapping_add(verdicts.len() as u64));
+    let verdict = verdict_on::<Brand>(judge, owner, kids, Blank::new(1))?;
+    verdicts.push(verdict)?;
+    Ok(())
+}
+
+// Judges the lists of this subtree.
+#[cycle(judging)]
+fn judge_node<G: Gate>(
+    judge: &Judge<'_>,
+    node: &Node,
+    first: u64,
+    gate: &G,
+    verdicts: &mut Vec<Verdict>,
+) -> Result<(), ReachError>
+    ensures judged { OnOk result ((root path : List ℕ) →
+        Judges (dtd_of judge.now) root (G.entered gate.now) first (lists_at path (plain node.now))
+        verdicts.old.items verdicts.new.items) }
+    ensures wide { IfErr result (λ e. e ≡ too_wide → (path : List ℕ) →
+        ¬ AllByRecursion (IsListForVerdict (dtd_of judge.now)) (lists_at path (plain node.now))) }
+{
+    let Node::Elem { name, kids, .. } = node else {
+        return Ok(());
+    };
+    let owner = element_owner(judge.grammar().dtd(), name.as_slice());
+    judge_list(judge, owner, kids, first, gate, verdicts)?;
+    judge_nodes(judge, kids, first, gate, verdicts)
+}
+
+// The same of nodes side by side.
+#[cycle(judging)]
+fn judge_nodes<G: Gate>(
+    judge: &Judge<'_>,
+    nodes: &[Node],
+    first: u64,
+    gate: &G,
+    verdicts: &mut Vec<Verdict>,
+) -> Result<(), ReachError>
+    ensures judged { OnOk result ((root path : List ℕ) (i : ℕ) →
+        Judges (dtd_of judge.now) root (G.entered gate.now) first
+        (lists_from path i (forest nodes.now)) verdicts.old.items verdicts.new.items) }
+    ensures wide { IfErr result (λ e. e ≡ too_wide → (path : List ℕ) (i : ℕ) →
+        ¬ AllByRecursion (IsListForVerdict (dtd_of judge.now))
+        (lists_from path i (forest nodes.now))) }
+{
+    for node in nodes {
+        judge_node(judge, node, first, gate, verdicts)?;
+    }
+    Ok(())
+}
+
+// Whose list it is, as the grammar knows it.
+fn owner_in(judge: &Judge<'_>, root: &[u8], owner: ListOwner<'_>) -> Option<Of>
+    ensures known { IfSome result (λ of. HasSite (dtd_of judge.now) (plain_of of)) }
+    ensures owner { (list : Listed Mark) → list.owner ≡ owner_of owner.entry →
+        IsOwner (dtd_of judge.now) root.now list result }
 {
     let dtd = judge.grammar().dtd();
-    let owner = match job.owner {
+    match owner {
         ListOwner::Document => root_owner(dtd, root),
         ListOwner::Element(name) => element_owner(dtd, name),
-    };
-    let mut steps = Steps::<L>::start(blank);
-    list_verdict_by(judge, owner, job.kids, &mut steps)
-}
-
-fn judge_job(judge: &Judge<'_>, root: &[u8], job: &Job<'_>) -> Judged
-    ensures { JudgesJob (dtd_of judge.now) root.now job.now result }
-{
-    judge_on::<Brand>(judge, root, job, Blank::new(1))
-}
-
-// The least number of lists that is worth a thread.
-fn least_piece(jobs: &[Job<'_>]) -> usize {
-    let mut kids: usize = 0;
-    for job in jobs {
-        kids = kids.saturating_add(job.kids.len());
     }
-    let each = kids / jobs.len().max(1);
-    (PIECE / each.max(1)).max(1)
 }
 
-/// Judges lists by as many threads as there are processors, each behind the gate; what came of them
-/// stands in their order.
+// Judges the lists of a job.
+fn judge_job<G: Gate>(judge: &Judge<'_>, root: &[u8], job: &Job<'_>, gate: &G) -> Judged
+    ensures { JudgesJob (dtd_of judge.now) root.now (G.entered gate.now) job.now result }
+{
+    let mut verdicts = Vec::new(judge.alloc());
+    match job.run {
+        Run::List(owner, kids) => {
+            let owner = owner_in(judge, root, owner);
+            judge_list(judge, owner, kids, job.first, gate, &mut verdicts)?;
+            Ok(verdicts)
+        }
+        Run::Subtrees(nodes) => {
+            judge_nodes(judge, nodes, job.first, gate, &mut verdicts)?;
+            Ok(verdicts)
+        }
+    }
+}
+
+/// Judges the lists of these jobs by as many threads as there are processors, each list when its
+/// number was told; what came of the jobs stands in their order.
 pub fn judge_jobs<G: Gate + Sync>(
     rt: &(impl Threads + Sync),
     judge: &Judge<'_>,
@@ -66,51 +168,50 @@ pub fn judge_jobs<G: Gate + Sync>(
     jobs: &[Job<'_>],
     gate: &G,
 ) -> Result<Vec<Judged>, AllocError>
-    ensures judged { IfOk result (λ judged.
-        AllZip (JudgesJob (dtd_of judge.now) root.now) jobs.now judged.items) }
-    ensures entered { OnOk result (AreEntered (G.entered gate.now) jobs.now) }
+    ensures { IfOk result (λ judged. AllZip (JudgesJob (dtd_of judge.now) root.now
+        (G.entered gate.now)) jobs.now judged.items) }
 {
     jobs.par_iter()
-        .with_min_len(least_piece(jobs))
+        .with_min_len(PIECES)
         .map(
             |job: &Job<'_>| -> Judged
-                ensures { JudgesJob (dtd_of judge.entry.now) root.entry.now job.now result
-                    × G.entered gate.entry.now job.now.number }
-            {
-                gate.enter(job.number);
-                judge_job(judge, root, job)
-            },
+                ensures { JudgesJob (dtd_of judge.entry.now) root.entry.now
+                    (G.entered gate.entry.now) job.now result }
+            { judge_job(judge, root, job, gate) },
         )
         .collect(rt, judge.alloc())
 }
 
-// The verdict of a list that isn't too wide.
-fn verdict_in(judged: &Judged) -> Result<Verdict, NoMemory>
+// The verdicts of a job none of whose lists is too wide.
+fn verdicts_in(judged: &Judged) -> Result<&[Verdict], NoMemory>
     requires { judged.now ≢ Err too_wide }
-    ensures { IfOk result (λ verdict. judged.now ≡ Ok verdict) }
+    ensures { IfOk result (λ vs. (here : Vec Verdict Global) × (judged.now ≡ Ok here) ×
+        (vs.now ≡ here.items)) }
 {
     match judged {
-        Ok(verdict) => Ok(*verdict),
+        Ok(verdicts) => Ok(verdicts),
         Err(ReachError::TooWide) => unreachable!(),
         Err(ReachError::NoMemory) => Err(NoMemory),
     }
 }
 
-/// The verdicts of lists none of which is too wide, with one step for each.
-pub fn verdicts_in<L: Ledger>(
-    alloc: Global,
-    judged: &[Judged],
-    steps: &mut Steps<L>,
-) -> Result<Vec<Verdict>, NoMemory>
+/// The verdicts of all jobs, none of whose lists is too wide.
+pub fn joined(alloc: Global, judged: &[Judged]) -> Result<Vec<Verdict>, NoMemory>
     requires { AllByRecursion (λ one. one ≢ Err too_wide) judged.now }
-    ensures verdicts { IfOk result (λ vs. map Ok vs.items ≡ judged.now) }
-    ensures steps { OnOk result (steps.new ≡ steps.old + length judged.now) }
-    ensures few_steps { steps.new ≤ steps.old + length judged.now }
+    ensures { IfOk result (λ vs. AreJoined judged.now vs.items) }
 {
-    let mut verdicts = Vec::with_capacity(alloc, judged.len())?;
+    let mut verdicts = Vec::new(alloc);
     for one in judged {
-        steps.tick();
-        verdicts.push(verdict_in(one)?)?;
+        verdicts.extend_from_slice(verdicts_in(one)?)?;
     }
     Ok(verdicts)
+}
+
+/// Takes one step for each verdict.
+pub fn count_lists<L: Ledger>(verdicts: &[Verdict], steps: &mut Steps<L>)
+    ensures { steps.new ≡ steps.old + length verdicts.now }
+{
+    for _one in verdicts {
+        steps.tick();
+    }
 }

@@ -1,21 +1,19 @@
-use Rattle.std.proofs.Common.{subst}
 use Rattle.pv_productive.specs.PlainForms.{dtd_of}
-use Rattle.pv_productive.specs.declared.grammar.Grammar.{Grammar}
 use Rattle.pv_tree.specs.Lists.{lists_of}
 use Rattle.pv_tree.specs.PlainDocs.{plain_doc}
 use Rattle.pv_missing.specs.Verdicts.{AreVerdicts}
 use Rattle.pv_fresh.proofs.Walking.{none_is_possible}
 use Rattle.pv_parallel.specs.Numbers.{IsFirstPath}
-use Rattle.pv_parallel.proofs.JobLists.{have_verdicts}
+use Rattle.pv_parallel.proofs.Judgements.{have_verdicts}
 use Rattle.pv_parallel.proofs.check.check_doc_par.Goals as goal
 
 pub returns-clause-verdicts : goal.returns-clause-verdicts
 returns-clause-verdicts g c =
     let lists = lists_of (plain_doc c.args.doc.now) in
     let vs = c.in_ok-verdicts.verdicts.items in
-    let are = subst (λ (v : Grammar). AreVerdicts (dtd_of v) c.args.root.now lists vs) c.new-judge.ensures c.in_ok-verdicts.ensures.verdicts in
+    let are : AreVerdicts (dtd_of c.args.grammar.now) c.args.root.now lists vs = c.in_ok-verdicts.ensures.verdicts in
     let first : IsFirstPath lists vs c.in_ok-first.first = rw c.deref.ensures.value at c.in_ok-first.ensures in
-    rw c.of-2.ensures (have_verdicts (dtd_of c.args.grammar.now) c.args.root.now c.first_impossible_at_law.ensures lists vs c.in_ok-first.first are first)
+    rw c.of.ensures (have_verdicts (dtd_of c.args.grammar.now) c.args.root.now c.first_impossible_at_law.ensures lists vs c.in_ok-first.first are first)
 
 pub returns-clause-possible : goal.returns-clause-possible
 returns-clause-possible g c =

@@ -1,52 +1,62 @@
-use Rattle.std.proofs.Common.{Ok, ap, length, map, subst, sym, ℕ, ◌+◌, ◌∙◌, ◌≡◌, ◌≤◌}
-use Rattle.std.proofs.lemmas.Result.{IfOk-weaker, on_ok_weaker}
-use Rattle.std.specs.List.{AllZip}
+use Rattle.std.proofs.Common.{[], ap, arith, length, refl, subst, ◌+◌, ◌≡◌}
+use Rattle.std.specs.List.{AllByRecursion, AllZip}
+use Rattle.pv_dtd.specs.Plain.{PlainDtd}
+use Rattle.pv_dtd.specs.PlainForms.{plain_dtd}
 use Rattle.pv_productive.specs.PlainForms.{dtd_of}
+use Rattle.pv_productive.specs.declared.grammar.Grammar.{Grammar}
 use Rattle.pv_tree.specs.Lists.{lists_of}
 use Rattle.pv_tree.specs.PlainDocs.{plain_doc}
-use Rattle.pv_parallel.specs.Jobs.{JudgesJob}
-use Rattle.pv_parallel.proofs.JobLists.{judged_length, judged_verdicts, none_too_wide, told_each, verdict_count}
+use Rattle.pv_missing.specs.Widths.{IsListForVerdict}
+use Rattle.pv_parallel.specs.Jobs.{AreJoined, JudgesJob}
+use Rattle.pv_parallel.proofs.Judgements.{jobs_judged, none_too_wide}
 use Rattle.pv_parallel.proofs.check.judge_lists.Goals as goal
 
-pub verdicts_in-requires : goal.verdicts_in-requires
-verdicts_in-requires g c =
-    let d = dtd_of c.args.judge.now in
-    let zip : AllZip (JudgesJob d c.args.root.now) c.in_ok-jobs.jobs.items c.in_ok-judged.judged.items = rw c.deref.ensures.value at c.in_ok-judged.ensures.judged in
-    rw c.deref-2.ensures.value (none_too_wide d c.args.root.now 0 (lists_of (plain_doc c.args.doc.now)) c.in_ok-jobs.jobs.items c.in_ok-judged.judged.items c.in_ok-jobs.ensures zip c.requires.fits)
+pub joined-requires : goal.joined-requires
+joined-requires g c =
+    let d = dtd_of c.args.grammar.now in
+    let entered = g.G.Gate.entered c.args.gate.now in
+    let zip : AllZip (JudgesJob d c.args.root.now entered) c.in_ok-jobs.jobs.items c.in_ok-judged.judged.items = subst (λ (v : Grammar). AllZip (JudgesJob (dtd_of v) c.args.root.now entered) c.in_ok-jobs.jobs.items c.in_ok-judged.judged.items) c.new-judge.ensures (rw c.deref.ensures.value at c.in_ok-judged.ensures) in
+    let found : AllByRecursion (IsListForVerdict (plain_dtd c.dtd.result.now)) (lists_of (plain_doc c.args.doc.now)) = rw c.in_default.is at c.in_ok-path.ensures in
+    let fits = subst (λ (v : PlainDtd). AllByRecursion (IsListForVerdict v) (lists_of (plain_doc c.args.doc.now))) c.dtd.ensures found in
+    rw c.deref-2.ensures.value (none_too_wide d c.args.root.now entered 0 (lists_of (plain_doc c.args.doc.now)) c.in_ok-jobs.jobs.items c.in_ok-judged.judged.items c.in_ok-jobs.ensures.jobs zip fits)
 
 pub returns-clause-verdicts : goal.returns-clause-verdicts
 returns-clause-verdicts g c =
-    let d = dtd_of c.args.judge.now in
-    let root = c.args.root.now in
-    let zip : AllZip (JudgesJob d root) c.in_ok-jobs.jobs.items c.in_ok-judged.judged.items = rw c.deref.ensures.value at c.in_ok-judged.ensures.judged in
-    IfOk-weaker c.verdicts_in.result _ _ (λ vs e.
-    let same : map Ok vs.items ≡ c.in_ok-judged.judged.items = e ∙ c.deref-2.ensures.value in
-    judged_verdicts d root 0 (lists_of (plain_doc c.args.doc.now)) c.in_ok-jobs.jobs.items vs.items c.in_ok-jobs.ensures (subst (AllZip (JudgesJob d root) c.in_ok-jobs.jobs.items) (sym same) zip))
-    c.verdicts_in.ensures.verdicts
+    let d = dtd_of c.args.grammar.now in
+    let entered = g.G.Gate.entered c.args.gate.now in
+    let zip : AllZip (JudgesJob d c.args.root.now entered) c.in_ok-jobs.jobs.items c.in_ok-judged.judged.items = subst (λ (v : Grammar). AllZip (JudgesJob (dtd_of v) c.args.root.now entered) c.in_ok-jobs.jobs.items c.in_ok-judged.judged.items) c.new-judge.ensures (rw c.deref.ensures.value at c.in_ok-judged.ensures) in
+    let joined : AreJoined c.in_ok-judged.judged.items c.in_ok-verdicts.verdicts.items = rw c.deref-2.ensures.value at c.in_ok-verdicts.ensures in
+    let all = jobs_judged d c.args.root.now entered 0 (lists_of (plain_doc c.args.doc.now)) c.in_ok-jobs.jobs.items c.in_ok-judged.judged.items c.in_ok-verdicts.verdicts.items c.in_ok-jobs.ensures.jobs zip joined in
+    all.verdicts [] refl
 
 pub returns-clause-as_many : goal.returns-clause-as_many
 returns-clause-as_many g c =
-    IfOk-weaker c.verdicts_in.result _ _ (λ vs are. verdict_count (dtd_of c.args.judge.now) c.args.root.now (lists_of (plain_doc c.args.doc.now)) vs.items are) (returns-clause-verdicts g c)
-
-counted : {n m k : ℕ} (to from : ℕ) → n ≡ m → m ≡ k → to ≡ from + n → to ≡ from + k
-counted to from e f h = h ∙ ap (λ i. from + i) (e ∙ f)
-
-few : {n m k : ℕ} (to from : ℕ) → n ≡ m → m ≡ k → to ≤ from + n → to ≤ from + k
-few to from e f h = subst (λ i. to ≤ from + i) (e ∙ f) h
+    let d = dtd_of c.args.grammar.now in
+    let entered = g.G.Gate.entered c.args.gate.now in
+    let zip : AllZip (JudgesJob d c.args.root.now entered) c.in_ok-jobs.jobs.items c.in_ok-judged.judged.items = subst (λ (v : Grammar). AllZip (JudgesJob (dtd_of v) c.args.root.now entered) c.in_ok-jobs.jobs.items c.in_ok-judged.judged.items) c.new-judge.ensures (rw c.deref.ensures.value at c.in_ok-judged.ensures) in
+    let joined : AreJoined c.in_ok-judged.judged.items c.in_ok-verdicts.verdicts.items = rw c.deref-2.ensures.value at c.in_ok-verdicts.ensures in
+    let all = jobs_judged d c.args.root.now entered 0 (lists_of (plain_doc c.args.doc.now)) c.in_ok-jobs.jobs.items c.in_ok-judged.judged.items c.in_ok-verdicts.verdicts.items c.in_ok-jobs.ensures.jobs zip joined in
+    let n = all.as_many in
+    omega arith
 
 pub returns-clause-steps : goal.returns-clause-steps
 returns-clause-steps g c =
-    let zip : AllZip (JudgesJob (dtd_of c.args.judge.now) c.args.root.now) c.in_ok-jobs.jobs.items c.in_ok-judged.judged.items = rw c.deref.ensures.value at c.in_ok-judged.ensures.judged in
-    let n = judged_length _ (lists_of (plain_doc c.args.doc.now)) c.in_ok-jobs.jobs.items c.in_ok-judged.judged.items c.in_ok-jobs.ensures zip in
-    on_ok_weaker c.verdicts_in.result (counted c.verdicts_in.new.steps c.args.steps.now (ap length c.deref-2.ensures.value) n) c.verdicts_in.ensures.steps
+    let n : length c.in_ok-verdicts.verdicts.items ≡ length (lists_of (plain_doc c.args.doc.now)) = returns-clause-as_many g c in
+    let m = ap length c.deref-3.ensures.value in
+    let k = c.count_lists.ensures in
+    omega arith
 
 pub returns-clause-few_steps : goal.returns-clause-few_steps
-returns-clause-few_steps g c =
-    let zip : AllZip (JudgesJob (dtd_of c.args.judge.now) c.args.root.now) c.in_ok-jobs.jobs.items c.in_ok-judged.judged.items = rw c.deref.ensures.value at c.in_ok-judged.ensures.judged in
-    let n = judged_length _ (lists_of (plain_doc c.args.doc.now)) c.in_ok-jobs.jobs.items c.in_ok-judged.judged.items c.in_ok-jobs.ensures zip in
-    few c.verdicts_in.new.steps c.args.steps.now (ap length c.deref-2.ensures.value) n c.verdicts_in.ensures.few_steps
+returns-clause-few_steps g c = let k = returns-clause-steps g c in omega arith
 
 pub returns-clause-entered : goal.returns-clause-entered
-returns-clause-entered g c =
-    let told = rw c.deref.ensures.value at c.in_ok-judged.ensures.entered in
-    IfOk-weaker c.verdicts_in.result _ _ (λ vs e. told_each (g.G.Gate.entered c.args.gate.now) (lists_of (plain_doc c.args.doc.now)) c.in_ok-jobs.jobs.items c.in_ok-jobs.ensures told) c.verdicts_in.ensures.verdicts
+returns-clause-entered g c = λ k lt.
+    let d = dtd_of c.args.grammar.now in
+    let entered = g.G.Gate.entered c.args.gate.now in
+    let zip : AllZip (JudgesJob d c.args.root.now entered) c.in_ok-jobs.jobs.items c.in_ok-judged.judged.items = subst (λ (v : Grammar). AllZip (JudgesJob (dtd_of v) c.args.root.now entered) c.in_ok-jobs.jobs.items c.in_ok-judged.judged.items) c.new-judge.ensures (rw c.deref.ensures.value at c.in_ok-judged.ensures) in
+    let joined : AreJoined c.in_ok-judged.judged.items c.in_ok-verdicts.verdicts.items = rw c.deref-2.ensures.value at c.in_ok-verdicts.ensures in
+    let all = jobs_judged d c.args.root.now entered 0 (lists_of (plain_doc c.args.doc.now)) c.in_ok-jobs.jobs.items c.in_ok-judged.judged.items c.in_ok-verdicts.verdicts.items c.in_ok-jobs.ensures.jobs zip joined in
+    let few = c.in_ok-jobs.ensures.few in
+    let n = all.as_many in
+    let same : 0 + k ≡ k = omega arith in
+    subst entered same (all.told k (omega arith) (omega arith) (omega arith))
