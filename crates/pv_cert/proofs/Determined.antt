@@ -4,6 +4,7 @@ use Rattle.std.specs.Prelude.{if◌then◌else◌, ◌==◌}
 use Rattle.std.proofs.lemmas.List.{append_cancel_left}
 use Rattle.std.proofs.Math.Seq.{take-append_seam}
 use Rattle.pv_model.specs.declared.models.NameId.{NameId}
+use Rattle.pv_rules.specs.Derivations.{most_missing}
 use Rattle.pv_rules.specs.PlainForms.{plain_site}
 use Rattle.pv_rules.specs.Sites.{PlainSite, content_site, name_site, part_site, rest_site}
 use Rattle.pv_rules.specs.declared.sites.Site.{Site}
@@ -16,7 +17,7 @@ use Rattle.pv_script.proofs.PathWords.{path-free, path_of-path_text}
 use Rattle.pv_tables.specs.Tables.{site_number}
 use Rattle.pv_tables.specs.declared.tables.Entry.{Entry}
 use Rattle.pv_cert.specs.Fronts.{Begins, IsEntryText, IsKind, IsLineOf, IsNumberLine}
-use Rattle.pv_cert.specs.Lines.{IsEntryInRange, IsInRange, MAX_VALUE, PackLine, entry_words, kind_word, line_text, version_line, total_line, mark_line, body_line, list_line, entry_line, end_line}
+use Rattle.pv_cert.specs.Lines.{IsEntryInRange, IsInRange, PackLine, entry_words, kind_word, line_text, version_line, total_line, mark_line, body_line, list_line, entry_line, end_line}
 use Rattle.pv_cert.specs.Meaning.{MAX_PACK_BYTES}
 use Rattle.pv_cert.proofs.Cuts.{cut-once, feed-behind, one-line-of}
 use Rattle.pv_cert.proofs.EntryWords.{SameNumber, entry-free, has-letter, one-number-before, one-span-and-value, span_text}
@@ -142,7 +143,7 @@ apart i j e n = absurd (n e)
 same-by : (l m : PackLine) (x y : List ℕ) → kind_of l ≡ kind_of m → length (line_text l ++ x) ≤ MAX_PACK_BYTES → IsInRange l → IsInRange m → line_text l ++ x ≡ line_text m ++ y → SameLine l m x y
 same-by version_line version_line x y k few r s e = record { lines = refl; rests = append_cancel_left (line_text version_line) x y e }
 same-by (total_line n) (total_line m) x y k few r s e =
-    let same = same-total (codes "total ") MAX_VALUE n m x y refl (omega arith) r s e in record { lines = ap total_line same.numbers; rests = same.rests }
+    let same = same-total (codes "total ") most_missing n m x y refl (omega arith) r s e in record { lines = ap total_line same.numbers; rests = same.rests }
 same-by (mark_line n) (mark_line m) x y k few r s e =
     let same = same-total (codes "mark ") MAX_NUMBER n m x y refl (omega arith) r s e in record { lines = ap mark_line same.numbers; rests = same.rests }
 same-by (body_line b) (body_line c) x y k few r s e = same-body b c x y few e

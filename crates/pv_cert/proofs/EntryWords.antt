@@ -1,6 +1,7 @@
 -- The words of an entry are read as they are written.
 use Rattle.std.proofs.Common.{◌≡◌, ◌≤◌, ◌<◌, ℕ, List, [], ◌∷◌, ◌++◌, refl, sym, ap, ◌∙◌, arith, decimal, None}
 use Rattle.pv_chars.specs.Fronts.{ContainsBytes, EndsAt}
+use Rattle.pv_rules.specs.Derivations.{most_missing}
 use Rattle.pv_rules.specs.PlainForms.{plain_site}
 use Rattle.pv_rules.specs.Sites.{PlainSite, content_site, name_site, part_site, rest_site}
 use Rattle.pv_rules.specs.declared.sites.Site.{Site}
@@ -12,7 +13,7 @@ use Rattle.pv_script.proofs.Words.{Free, Free-append}
 use Rattle.pv_tables.specs.Tables.{site_number}
 use Rattle.pv_tables.specs.declared.tables.Entry.{Entry}
 use Rattle.pv_cert.specs.Fronts.{AreSpanAndValue, Begins, IsEntryText, IsKind, IsNumberBefore}
-use Rattle.pv_cert.specs.Lines.{IsEntryInRange, MAX_VALUE, entry_line, entry_words, kind_word}
+use Rattle.pv_cert.specs.Lines.{IsEntryInRange, entry_line, entry_words, kind_word}
 use Rattle.pv_cert.proofs.Cuts.{cut-once, ends-once, feed-behind, holds-none}
 
 pub no-number-before : (bytes : List ℕ) → (ContainsBytes bytes (32 ∷ []) → ⊥) → (n : ℕ) (rest : List ℕ) → IsNumberBefore bytes n rest → ⊥
@@ -110,7 +111,7 @@ pub record AreParts (rest : List ℕ) (letter : ℕ) (e : Entry) : Type 0 where
   pub is_kind : IsKind letter e.site
   pub number : IsNumberBefore rest (site_number (plain_site e.site)) (span_text e)
   pub span : AreSpanAndValue (span_text e) e.from e.to e.value
-  pub value : e.value ≤ MAX_VALUE
+  pub value : e.value ≤ most_missing
 
 pub parts-of : (letter : ℕ) (rest : List ℕ) (e : Entry) → IsEntryText (letter ∷ 32 ∷ rest) e → AreParts rest letter e
 parts-of letter rest e t =
@@ -126,7 +127,7 @@ parts-of letter rest e t =
     }
 
 pub entry-of-parts : (letter : ℕ) (rest : List ℕ) (e : Entry) (behind : List ℕ) → IsKind letter e.site → IsNumberBefore rest (site_number (plain_site e.site)) behind →
-    AreSpanAndValue behind e.from e.to e.value → e.value ≤ MAX_VALUE → IsEntryText (letter ∷ 32 ∷ rest) e
+    AreSpanAndValue behind e.from e.to e.value → e.value ≤ most_missing → IsEntryText (letter ∷ 32 ∷ rest) e
 entry-of-parts letter rest e behind kind number span small = record {
   in_range = record { number = number.within; from = span.is_from; to = span.is_to; value = small };
   whole = ap (λ l. letter ∷ 32 ∷ l) (number.whole ∙ ap (λ l. decimal (site_number (plain_site e.site)) ++ (32 ∷ l)) span.whole) ∙ ap (λ k. k ++ (32 ∷ (decimal (site_number (plain_site e.site)) ++ (32 ∷ span_text e)))) (sym kind);
@@ -171,7 +172,7 @@ no-span letter rest n behind number none e t =
     let same = one-number-before rest n (site_number (plain_site e.site)) behind (span_text e) number p.number in
     none e.from e.to e.value (rw same.rests p.span)
 
-pub value-past : (letter : ℕ) (rest : List ℕ) (n : ℕ) (behind : List ℕ) (from to value : ℕ) → IsNumberBefore rest n behind → AreSpanAndValue behind from to value → MAX_VALUE < value → (e : Entry) → IsEntryText (letter ∷ 32 ∷ rest) e → ⊥
+pub value-past : (letter : ℕ) (rest : List ℕ) (n : ℕ) (behind : List ℕ) (from to value : ℕ) → IsNumberBefore rest n behind → AreSpanAndValue behind from to value → most_missing < value → (e : Entry) → IsEntryText (letter ∷ 32 ∷ rest) e → ⊥
 value-past letter rest n behind from to value number span past e t =
     let p = parts-of letter rest e t in
     let same = one-number-before rest n (site_number (plain_site e.site)) behind (span_text e) number p.number in

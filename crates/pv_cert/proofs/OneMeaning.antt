@@ -1,12 +1,12 @@
 -- Bytes mean one thing as a pack.
 use Rattle.std.proofs.Common.{◌≡◌, ◌≤◌, ℕ, List, [], ◌∷◌, ◌++◌, map, length, refl, sym, ap, ◌∙◌, append_assoc, append-nil, arith, Option, Some, None, inl, inr}
 use Rattle.std.proofs.lemmas.List.{append_cancel_left, append_cancel_right, length-append}
-use Rattle.pv_tables.specs.Tables.{entries_in}
+use Rattle.pv_tables.specs.Tables.{entries_in, most_entries}
 use Rattle.pv_tables.specs.declared.tables.Entry.{Entry}
 use Rattle.pv_tables.specs.declared.tables.Table.{Table}
 use Rattle.pv_cert.specs.Laws.{OneMeaning}
 use Rattle.pv_cert.specs.Lines.{PackLine, line_text, total_line, mark_line, body_line, entry_line, end_line}
-use Rattle.pv_cert.specs.Meaning.{HasTooMany, IsFaulty, MAX_ENTRIES, MAX_PACK_BYTES, Stand, StandsNone, entries_among, is_pack, is_fault, is_past_limit}
+use Rattle.pv_cert.specs.Meaning.{HasTooMany, IsFaulty, MAX_PACK_BYTES, Stand, StandsNone, entries_among, is_pack, is_fault, is_past_limit}
 use Rattle.pv_cert.specs.Packs.{IsPackText, last_line, lines_of, lines_text, table_lines}
 use Rattle.pv_cert.specs.declared.packs.Pack.{Pack}
 use Rattle.pv_cert.proofs.Determined.{same-line}
@@ -40,7 +40,7 @@ longest before bytes (x ∷ xs) rest (y ∷ ys) more few s none t =
 record IsRun (bytes : List ℕ) (lines : List PackLine) (rest : List ℕ) : Type 0 where
   pub stand : Stand None bytes lines rest
   pub none : StandsNone (last_line None lines) rest
-  pub within : entries_among lines ≤ MAX_ENTRIES
+  pub within : entries_among lines ≤ most_entries
 
 none-left : (xs : List PackLine) → length xs ≡ 0 → xs ≡ []
 none-left [] e = refl
@@ -74,7 +74,7 @@ entries-of-pack pack =
     let tail = table_lines pack.tables ++ end_line ∷ [] in
     omega (arith, entries-append (map mark_line pack.marks) (body_line pack.body ∷ tail), entries-of-marks pack.marks, entries-append (table_lines pack.tables) (end_line ∷ []), entries-in-lines pack.tables)
 
-pack-run : (bytes : List ℕ) (pack : Pack) → IsPackText bytes pack → entries_in pack.tables ≤ MAX_ENTRIES → IsRun bytes (lines_of pack) []
+pack-run : (bytes : List ℕ) (pack : Pack) → IsPackText bytes pack → entries_in pack.tables ≤ most_entries → IsRun bytes (lines_of pack) []
 pack-run bytes pack t few = record {
   stand = record { are_lines = t.are_lines; whole = t.spelled ∙ sym (append-nil (lines_text (lines_of pack))) };
   none = rw (last-of-pack pack) (λ line more s. s.may_follow);
@@ -137,7 +137,7 @@ same-pack p q e =
     λ i. record { total = totals i; marks = both.marks i; body = both.bodies i; tables = tables i }
 
 -- a pack and a fault
-not-both : (bytes : List ℕ) (pack : Pack) (k : ℕ) → length bytes ≤ MAX_PACK_BYTES → IsPackText bytes pack → entries_in pack.tables ≤ MAX_ENTRIES → IsFaulty bytes k → ⊥
+not-both : (bytes : List ℕ) (pack : Pack) (k : ℕ) → length bytes ≤ MAX_PACK_BYTES → IsPackText bytes pack → entries_in pack.tables ≤ most_entries → IsFaulty bytes k → ⊥
 not-both bytes pack k few t least f =
     let one = pack-run bytes pack t least in
     let other = fault-run bytes k f in

@@ -1,12 +1,12 @@
 -- Tables behind a body.
 use Rattle.std.proofs.Common.{◌≡◌, ◌≤◌, ◌<◌, ℕ, ◌+◌, List, [], ◌∷◌, ◌++◌, map, length, refl, sym, ap, ◌∙◌, append_assoc, append-nil, arith, Option, Some, None, MatchOption}
 use Rattle.std.proofs.lemmas.List.{length-append, length-map, map-append}
-use Rattle.pv_tables.specs.Tables.{entries_in}
+use Rattle.pv_tables.specs.Tables.{entries_in, most_entries}
 use Rattle.pv_tables.specs.declared.tables.Entry.{Entry}
 use Rattle.pv_tables.specs.declared.tables.Table.{Table}
 use Rattle.pv_cert.specs.Fronts.{Begins, BeginsNone, BeginsNot}
 use Rattle.pv_cert.specs.Lines.{PackLine, version_line, total_line, mark_line, body_line, list_line, entry_line, end_line}
-use Rattle.pv_cert.specs.Meaning.{MAX_ENTRIES, Stand, Stands, StandsNone, entries_among}
+use Rattle.pv_cert.specs.Meaning.{Stand, Stands, StandsNone, entries_among}
 use Rattle.pv_cert.specs.Packs.{IsOfTables, MayFollow, last_line, lines_of_table, table_lines}
 use Rattle.pv_cert.specs.Steps.{EndsWithTables, Follows, HasMoreEntries, HasTooManyBehind, IsFaultyBehind, RefusesEntries, RefusesTables, StandsNoEntry, TakesEntries, line_before}
 use Rattle.pv_cert.specs.declared.errors.PackError.{PackError}
@@ -133,7 +133,7 @@ table-read bytes ts rest after t more h l e = record {
   none = λ b. rw (lines-more ts t, last-append (Some (body_line b)) (table_lines ts) (lines_of_table t)) (e.none t.path);
 }
 
-pub too-many : (bytes : List ℕ) (ts : List Table) (rest : List ℕ) (path : List ℕ) (after : List ℕ) (most : ℕ) → TablesRead bytes ts rest → Begins rest (list_line path) after → HasMoreEntries after most → most + entries_in ts ≡ MAX_ENTRIES →
+pub too-many : (bytes : List ℕ) (ts : List Table) (rest : List ℕ) (path : List ℕ) (after : List ℕ) (most : ℕ) → TablesRead bytes ts rest → Begins rest (list_line path) after → HasMoreEntries after most → most + entries_in ts ≡ most_entries →
     (b : List ℕ) → HasTooManyBehind (Some (body_line b)) bytes
 too-many bytes ts rest path after most h l m all b = record {
   lines = table_lines ts ++ list_line path ∷ map entry_line m.es;
@@ -149,10 +149,10 @@ end-stands : (b : List ℕ) (bytes : List ℕ) (ts : List Table) (rest after : L
 end-stands b bytes ts rest after h e =
     stand-more (Some (body_line b)) bytes (table_lines ts) rest end_line after (h.stand b) record { may_follow = (behind-tables b ts).ends; begins = e }
 
-pub tables-end : (bytes : List ℕ) (ts : List Table) (rest : List ℕ) → TablesRead bytes ts rest → Begins rest end_line [] → entries_in ts ≤ MAX_ENTRIES → EndsWithTables bytes ts
+pub tables-end : (bytes : List ℕ) (ts : List Table) (rest : List ℕ) → TablesRead bytes ts rest → Begins rest end_line [] → entries_in ts ≤ most_entries → EndsWithTables bytes ts
 tables-end bytes ts rest h e few = record { stand = λ b. end-stands b bytes ts rest [] h e; few = few }
 
-pub more-behind-end : (first : ℕ) (bytes : List ℕ) (ts : List Table) (rest after : List ℕ) (k : ℕ) → TablesRead bytes ts rest → Begins rest end_line after → (after ≡ [] → ⊥) → entries_in ts ≤ MAX_ENTRIES → k ≡ first + length (table_lines ts) →
+pub more-behind-end : (first : ℕ) (bytes : List ℕ) (ts : List Table) (rest after : List ℕ) (k : ℕ) → TablesRead bytes ts rest → Begins rest end_line after → (after ≡ [] → ⊥) → entries_in ts ≤ most_entries → k ≡ first + length (table_lines ts) →
     (b : List ℕ) → IsFaultyBehind (Some (body_line b)) first bytes (k + 1)
 more-behind-end first bytes ts rest after k h e some few is b =
     let last = last-append (Some (body_line b)) (table_lines ts) (end_line ∷ []) in
@@ -166,7 +166,7 @@ more-behind-end first bytes ts rest after k h e some few is b =
       cut = λ w. some w.1;
     }
 
-pub no-end : (first : ℕ) (bytes : List ℕ) (ts : List Table) (rest : List ℕ) (k : ℕ) → TablesRead bytes ts rest → BeginsNone list_line rest → BeginsNot end_line rest → entries_in ts ≤ MAX_ENTRIES → k ≡ first + length (table_lines ts) →
+pub no-end : (first : ℕ) (bytes : List ℕ) (ts : List Table) (rest : List ℕ) (k : ℕ) → TablesRead bytes ts rest → BeginsNone list_line rest → BeginsNot end_line rest → entries_in ts ≤ most_entries → k ≡ first + length (table_lines ts) →
     (b : List ℕ) → IsFaultyBehind (Some (body_line b)) first bytes k
 no-end first bytes ts rest k h l e few is b = record {
   lines = table_lines ts;
@@ -195,7 +195,7 @@ table-number ts t = omega (arith, ap length (lines-more ts t), length-append (ta
 
 -- the entries behind the head of a table are refused, and so what stands behind the body
 pub entries-refused : (first : ℕ) (bytes : List ℕ) (ts : List Table) (rest : List ℕ) (path : List ℕ) (after : List ℕ) (most : ℕ) (error : PackError) → TablesRead bytes ts rest → Begins rest (list_line path) after →
-    most + entries_in ts ≡ MAX_ENTRIES → RefusesEntries after most error → RefusesTables first bytes error
+    most + entries_in ts ≡ most_entries → RefusesEntries after most error → RefusesTables first bytes error
 entries-refused first bytes ts rest path after most (Syntax k) h l all r = absurd r
 entries-refused first bytes ts rest path after most Limit h l all r = too-many bytes ts rest path after most h l r all
 entries-refused first bytes ts rest path after most NoMemory h l all r = tt
@@ -204,7 +204,7 @@ none-short : (xs : List ℕ) → length xs < 1 → xs ≡ []
 none-short [] s = refl
 none-short (x ∷ xs) s = absurd (omega arith)
 
-pub pack-ends : (bytes : List ℕ) (ts : List Table) (rest after : List ℕ) → TablesRead bytes ts rest → Begins rest end_line after → length after < 1 → entries_in ts ≤ MAX_ENTRIES → EndsWithTables bytes ts
+pub pack-ends : (bytes : List ℕ) (ts : List Table) (rest after : List ℕ) → TablesRead bytes ts rest → Begins rest end_line after → length after < 1 → entries_in ts ≤ most_entries → EndsWithTables bytes ts
 pack-ends bytes ts rest after h e short few = tables-end bytes ts rest h (rw (← none-short after short) e) few
 
 -- nothing of the kind was found

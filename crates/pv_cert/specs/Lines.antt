@@ -1,5 +1,6 @@
 -- The lines of a pack.
 use Rattle.std.specs.Prelude.{◌≤◌, ℕ, List, [], ◌∷◌, ◌++◌, length, codes, decimal}
+use Rattle.pv_rules.specs.Derivations.{most_missing}
 use Rattle.pv_rules.specs.PlainForms.{plain_site}
 use Rattle.pv_rules.specs.Sites.{PlainSite, content_site, name_site, part_site, rest_site}
 use Rattle.pv_tables.specs.Tables.{site_number}
@@ -42,20 +43,16 @@ line_text (list_line path) = with_feed (words (codes "list" ∷ path_text path �
 line_text (entry_line e) = with_feed (words (entry_words e))
 line_text end_line = with_feed (codes "end")
 
--- the largest total, and the largest value of an entry
-abbrev pub MAX_VALUE : ℕ
-MAX_VALUE = 1000000
-
 pub record IsEntryInRange (e : Entry) : Type 0 where
   pub number : site_number (plain_site e.site) ≤ MAX_NUMBER
   pub from : e.from ≤ MAX_NUMBER
   pub to : e.to ≤ MAX_NUMBER
-  pub value : e.value ≤ MAX_VALUE
+  pub value : e.value ≤ most_missing
 
 -- the numbers of the line are in range
 abbrev pub IsInRange : PackLine → Type 0
 IsInRange version_line = Unit {0}
-IsInRange (total_line k) = k ≤ MAX_VALUE
+IsInRange (total_line k) = k ≤ most_missing
 IsInRange (mark_line m) = m ≤ MAX_NUMBER
 IsInRange (body_line bytes) = Unit {0}
 IsInRange (list_line path) = AreNumbers path

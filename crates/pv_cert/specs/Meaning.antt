@@ -1,7 +1,7 @@
 -- What bytes mean as a pack, and where they are at fault.
 use Rattle.std.specs.Prelude.{◌≡◌, ◌≤◌, ◌<◌, ◌⊎◌, ℕ, suc, List, [], ◌∷◌, ◌++◌, length, Option}
 use Rattle.std.specs.Prelude.{Some, None, Result, Ok, Err}
-use Rattle.pv_tables.specs.Tables.{entries_in}
+use Rattle.pv_tables.specs.Tables.{entries_in, most_entries}
 use Rattle.pv_tables.specs.declared.tables.Entry.{Entry}
 use Rattle.pv_cert.specs.Fronts.{Begins}
 use Rattle.pv_cert.specs.Lines.{PackLine, body_line, end_line, entry_line, list_line, mark_line}
@@ -11,12 +11,9 @@ use Rattle.pv_cert.specs.declared.packs.Pack.{Pack}
 use Rattle.pv_cert.specs.declared.errors.PackError.{PackError}
 use Rattle.pv_cert.specs.declared.errors.PackError.TheVariants.{Limit, NoMemory, Syntax}
 
--- the most bytes of a pack, and the most entries of its tables
+-- the most bytes of a pack
 abbrev pub MAX_PACK_BYTES : ℕ
 MAX_PACK_BYTES = 1073741824
-
-abbrev pub MAX_ENTRIES : ℕ
-MAX_ENTRIES = 8388608
 
 -- how many of some lines are entries
 abbrev pub entries_among : List PackLine → ℕ
@@ -56,7 +53,7 @@ pub record IsFaulty (bytes : List ℕ) (k : ℕ) : Type 0 where
   pub rest : List ℕ
   pub stand : Stand None bytes lines rest
   pub number : k ≡ length lines
-  pub within : entries_among lines ≤ MAX_ENTRIES
+  pub within : entries_among lines ≤ most_entries
   pub none : StandsNone (last_line None lines) rest
   pub cut : IsWhole (last_line None lines) rest → ⊥
 
@@ -66,7 +63,7 @@ pub record HasTooMany (bytes : List ℕ) : Type 0 where
   pub e : Entry
   pub rest : List ℕ
   pub stand : Stand None bytes (lines ++ entry_line e ∷ []) rest
-  pub full : entries_among lines ≡ MAX_ENTRIES
+  pub full : entries_among lines ≡ most_entries
 
 -- a pack; a fault behind so many whole lines; or past a limit
 pub data Outcome : Type 0 where
@@ -77,7 +74,7 @@ pub data Outcome : Type 0 where
 -- what bytes mean within the limits
 abbrev pub PackMeans : List ℕ → Outcome → Type 0
 PackMeans bytes (is_pack pack) = (length bytes ≤ MAX_PACK_BYTES) × IsPackText bytes pack ×
-    (entries_in pack.tables ≤ MAX_ENTRIES)
+    (entries_in pack.tables ≤ most_entries)
 PackMeans bytes (is_fault k) = (length bytes ≤ MAX_PACK_BYTES) × IsFaulty bytes k
 PackMeans bytes is_past_limit =
     (MAX_PACK_BYTES < length bytes) ⊎ ((length bytes ≤ MAX_PACK_BYTES) × HasTooMany bytes)

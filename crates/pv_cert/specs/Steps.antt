@@ -1,14 +1,14 @@
 -- The parts of a pack, one behind the other, and what is at fault in them.
 use Rattle.std.specs.Prelude.{◌≡◌, ◌≤◌, ◌+◌, ℕ, List, [], ◌∷◌, ◌++◌, length, map, Option, Some}
 use Rattle.std.specs.Prelude.{None}
-use Rattle.pv_tables.specs.Tables.{Precedes, entries_in}
+use Rattle.pv_tables.specs.Tables.{Precedes, entries_in, most_entries}
 use Rattle.pv_tables.specs.declared.tables.Entry.{Entry}
 use Rattle.pv_tables.specs.declared.tables.Table.{Table}
 use Rattle.pv_cert.specs.Fronts.{BeginsNone}
 use Rattle.pv_cert.specs.Lines.{PackLine, body_line, end_line, entry_line, list_line, mark_line}
 use Rattle.pv_cert.specs.Lines.{total_line, version_line}
 use Rattle.pv_cert.specs.Packs.{last_line, table_lines}
-use Rattle.pv_cert.specs.Meaning.{IsFaulty, IsWhole, MAX_ENTRIES, Stand, Stands, StandsNone}
+use Rattle.pv_cert.specs.Meaning.{IsFaulty, IsWhole, Stand, Stands, StandsNone}
 use Rattle.pv_cert.specs.Meaning.{entries_among}
 use Rattle.pv_cert.specs.declared.errors.PackError.{PackError}
 use Rattle.pv_cert.specs.declared.errors.PackError.TheVariants.{Limit, NoMemory, Syntax}
@@ -56,7 +56,7 @@ pub record IsFaultyBehind (before : Option PackLine) (first : ℕ) (bytes : List
   pub rest : List ℕ
   pub stand : Stand before bytes lines rest
   pub number : k ≡ first + length lines
-  pub within : entries_among lines ≤ MAX_ENTRIES
+  pub within : entries_among lines ≤ most_entries
   pub none : StandsNone (last_line before lines) rest
   pub cut : IsWhole (last_line before lines) rest → ⊥
 
@@ -66,13 +66,13 @@ pub record HasTooManyBehind (before : Option PackLine) (bytes : List ℕ) : Type
   pub e : Entry
   pub rest : List ℕ
   pub stand : Stand before bytes (lines ++ entry_line e ∷ []) rest
-  pub full : entries_among lines ≡ MAX_ENTRIES
+  pub full : entries_among lines ≡ most_entries
 
 -- The tables and the end of the pack stand behind a body, and nothing behind them.
 pub record EndsWithTables (bytes : List ℕ) (ts : List Table) : Type 0 where
   pub stand : (before : List ℕ) →
       Stand (Some (body_line before)) bytes (table_lines ts ++ end_line ∷ []) []
-  pub few : entries_in ts ≤ MAX_ENTRIES
+  pub few : entries_in ts ≤ most_entries
 
 -- what the error tells of what stands behind a body, behind so many lines
 abbrev pub RefusesTables : ℕ → List ℕ → PackError → Type 0

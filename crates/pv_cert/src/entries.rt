@@ -9,10 +9,9 @@ ghost use Rattle.pv_cert.specs.Fronts.{AreSpanAndValue, Begins, BeginsNone, IsEn
 ghost use Rattle.pv_cert.specs.Fronts.{IsNumberBefore};
 ghost use Rattle.pv_cert.specs.Lines.{entry_line};
 
-use crate::packs::MAX_VALUE;
 use pv_chars::delimiters::up_to_byte;
 use pv_model::NameId;
-use pv_rules::Site;
+use pv_rules::{MOST_MISSING, Site};
 use pv_script::written_number;
 use pv_tables::Entry;
 
@@ -74,7 +73,7 @@ fn entry_in(line: &[u8]) -> Option<Entry>
     let (number, behind_number) = next_number(behind_kind)?;
     let site = site_of(letter, number)?;
     let (from, to, value) = span_and_value(behind_number)?;
-    if MAX_VALUE < value {
+    if MOST_MISSING < value {
         return None;
     }
     Some(Entry {

@@ -10,13 +10,12 @@ mod entries;
 mod errors;
 pub mod laws;
 mod lines;
-mod order;
 mod packs;
 mod reading;
 mod tables;
 mod writing;
 
 pub use errors::PackError;
-pub use packs::{MAX_ENTRIES, MAX_PACK_BYTES, Pack};
+pub use packs::{MAX_PACK_BYTES, Pack};
 pub use reading::read_pack;
 pub use writing::write_pack;

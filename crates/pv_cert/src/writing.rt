@@ -8,12 +8,11 @@ ghost use Rattle.pv_cert.specs.Lines.{kind_word, line_text, mark_line, body_line
 ghost use Rattle.pv_cert.specs.Packs.{AreLines, IsPackText, lines_of, lines_of_table, lines_text};
 ghost use Rattle.pv_cert.specs.Packs.{table_lines};
 
-use crate::order::site_number;
 use crate::packs::Pack;
 use pv_chars::NoMemory;
 use pv_rules::Site;
 use pv_script::{push_number, push_path};
-use pv_tables::{Entry, Table};
+use pv_tables::{Entry, Table, site_number};
 use std::alloc::{AllocError, Global};
 
 // Appends a line of a word and a number.

@@ -9,16 +9,13 @@ use Rattle.pv_tree.specs.declared.nodes.Verdict.TheVariants as verdict
 use Rattle.pv_missing.specs.LiveWords.{IsLiveWord}
 use Rattle.pv_missing.specs.Verdicts.{IsVerdict}
 use Rattle.pv_tables.specs.Tables.{AreEntries, AreTables, entries_in}
+pub use Rattle.pv_tables.specs.Tables.{most_entries}
 use Rattle.pv_tables.specs.declared.tables.Entry.{Entry}
 use Rattle.pv_tables.specs.declared.tables.Table.{Table}
 use Rattle.pv_complete.specs.Needing.{HasCause, Needs}
 use Rattle.pv_complete.specs.declared.errors.NeedError.{NeedError}
 use Rattle.pv_complete.specs.declared.errors.NeedError.TheVariants.{Impossible, NoMemory}
 use Rattle.pv_complete.specs.declared.errors.NeedError.TheVariants.{TooHeavy, TooMany, TooWide}
-
--- how many entries the tables of a document may have
-abbrev pub most_entries : ℕ
-most_entries = 8388608
 
 -- The tables of the lists before a Possible list, and entries of that list, are more than n in all.
 pub record HasMore {M : Type 0} (g : PlainDtd) (root : List ℕ) (lists : List (Listed M)) (n : ℕ) :

@@ -1,6 +1,6 @@
 -- What passes the tests is a least completion.
 use Rattle.std.proofs.Common.{List, [], arith, refl, subst, suc, sym, ℕ, ◌+◌, ◌∙◌, ◌∷◌, ◌≡◌, ◌≤◌}
-use Rattle.std.specs.List.{All, AllByRecursion, AllPairs}
+use Rattle.std.specs.List.{All, AllByRecursion, AllPairs, Contains}
 use Rattle.std.proofs.lemmas.List.Elements.{All-cons, All-from_get_or, All-head, All-nil, All-tail}
 use Rattle.std.proofs.lemmas.List.Kept.{AllPairs-cons}
 use Rattle.pv_dtd.specs.Hedge.{elements}
@@ -8,20 +8,21 @@ use Rattle.pv_dtd.specs.Plain.{PlainDtd}
 use Rattle.pv_dtd.specs.Proper.{IsProperDtd}
 use Rattle.pv_rules.specs.Derivations.{IsClosed}
 use Rattle.pv_rules.specs.Rules.{Rule}
-use Rattle.pv_tree.specs.Laws.{ListsAscend}
 use Rattle.pv_tree.specs.Lists.{Listed, lists_of}
-use Rattle.pv_tree.specs.PathOrder.{IsListBefore, IsPathBefore}
+use Rattle.pv_tree.specs.PathOrder.{IsPathBefore}
 use Rattle.pv_tree.specs.View.{view}
 use Rattle.pv_tree.specs.Words.{word_of}
 use Rattle.pv_missing.specs.Completing.{Completes, HasCompletion}
 use Rattle.pv_missing.specs.DocumentLaws.{SomeBounds, TagsExtend}
 use Rattle.pv_missing.specs.ListLaws.{ClosedIsBound}
 use Rattle.pv_missing.specs.Weighing.{AscendBounds, BoundAt, IsBound, IsBoundAt, sum_of_bounds}
+use Rattle.pv_tables.specs.TableLaws.{OneListAtPath}
 use Rattle.pv_tables.specs.Values.{HasWholeValue, HaveTotal, listed_value}
 use Rattle.pv_tables.specs.declared.tables.Table.{Table}
-use Rattle.pv_tables.proofs.AddingUp.{same_place}
+use Rattle.pv_closed.specs.ClosedTables.{AreClosedTables, IsClosedTable}
+use Rattle.pv_kept.specs.Kept.{IsKept}
 use Rattle.pv_verify.specs.Laws.{AcceptedIsLeast}
-use Rattle.pv_verify.specs.Tests.{AreClosedTables, HasTotals, IsClosedTable, IsKept}
+use Rattle.pv_verify.specs.Tests.{HasTotals}
 use Rattle.pv_verify.specs.declared.answers.Why.TheVariants as why
 
 abbrev IsTableBefore : Table → Table → Type 0
@@ -31,10 +32,10 @@ abbrev IsBoundBefore : BoundAt → BoundAt → Type 0
 IsBoundBefore b c = IsPathBefore b.path c.path
 
 -- what is first is before all others, and these ascend
-first_before : {X : Type 0} (R : X → X → Type 0) (x : X) (xs : List X) → AllPairs R (x ∷ xs) → All (R x) xs
+pub first_before : {X : Type 0} (R : X → X → Type 0) (x : X) (xs : List X) → AllPairs R (x ∷ xs) → All (R x) xs
 first_before R x xs p = All-from_get_or (R x) xs x (λ i h. p 0 (suc i) x (omega arith) (omega arith))
 
-others_ascend : {X : Type 0} (R : X → X → Type 0) (x : X) (xs : List X) → AllPairs R (x ∷ xs) → AllPairs R xs
+pub others_ascend : {X : Type 0} (R : X → X → Type 0) (x : X) (xs : List X) → AllPairs R (x ∷ xs) → AllPairs R xs
 others_ascend R x xs p i j d h k = p (suc i) (suc j) d (omega arith) (omega arith)
 
 -- these bounds stand at the paths of these tables
@@ -63,13 +64,13 @@ module _ {M : Type 0} (g : PlainDtd) (root : List ℕ) (lists : List (Listed M))
     sum : sum_of_bounds bounds ≡ s
     each : AllByRecursion (IsBoundAt g root lists) bounds
 
-  module _ (proper : IsProperDtd g) (closed_is_bound : ClosedIsBound M) (ascend : AllPairs IsListBefore lists) where
+  module _ (proper : IsProperDtd g) (closed_is_bound : ClosedIsBound M) (one_list : (a b : Listed M) → Contains lists a → Contains lists b → a.path ≡ b.path → a ≡ b) where
     -- the whole-list value of a closed table is a bound
     table_bounds : (t : Table) (k : ℕ) → IsClosedTable g root lists t → HasWholeValue g root lists t k → IsBoundAt g root lists (record { path = t.path; bound = k })
     table_bounds t k c v = record { list = v.list; is_listed = v.is_listed; is_path = sym v.is_path; is_bound = bound }
       where
         same : c.list ≡ v.list
-        same = same_place M lists ascend c.list v.list c.is_listed v.is_listed (sym c.is_path ∙ v.is_path)
+        same = one_list c.list v.list c.is_listed v.is_listed (sym c.is_path ∙ v.is_path)
 
         bound : IsBound g root v.list k
         bound = subst (IsBound g root v.list) (sym v.is_value)
@@ -88,8 +89,8 @@ module _ {M : Type 0} (g : PlainDtd) (root : List ℕ) (lists : List (Listed M))
           each = (table_bounds t a (All-head (IsClosedTable g root lists) t ts all) v, rest.each);
         }
 
-pub accepted_is_least : (M : Type 0) → SomeBounds M → TagsExtend → ClosedIsBound M → ListsAscend M → AcceptedIsLeast M
-accepted_is_least M some_bounds tags_extend closed_is_bound lists_ascend g root doc pack proper proper_doc a =
+pub accepted_is_least : (M : Type 0) → SomeBounds M → TagsExtend → ClosedIsBound M → OneListAtPath M → AcceptedIsLeast M
+accepted_is_least M some_bounds tags_extend closed_is_bound one_list g root doc pack proper proper_doc a =
     record { body = a.body; is_body = a.passes why.Body; completes = completes; least = record { completes = completion; least = least } }
   where
     kept : IsKept doc a.body pack.marks
@@ -119,7 +120,7 @@ accepted_is_least M some_bounds tags_extend closed_is_bound lists_ascend g root 
     completion = record { hedge = view a.body.root; extends = completes.extends; valid = completes.valid; inserted = inserted }
 
     shown : Bounds g root (lists_of doc) pack.tables pack.total
-    shown = all_bound g root (lists_of doc) proper closed_is_bound (lists_ascend doc) pack.tables pack.total tables.each totals.adds_up
+    shown = all_bound g root (lists_of doc) proper closed_is_bound (one_list doc) pack.tables pack.total tables.each totals.adds_up
 
     least : (n : ℕ) → HasCompletion g root n (view doc.root) → pack.total ≤ n
     least n c =

@@ -1,6 +1,7 @@
 -- of this crate:
 pub mod Certified
-pub mod ClosedSites
-pub mod EntryOrder
-pub mod LikeEntries
+pub mod InOrder
+pub mod MadePack
+pub mod NoText
 pub mod OneAnswer
+pub mod Refusals

@@ -1,14 +1,20 @@
 -- What the tests of a pack show, as a statement. M is the type of a document's marks.
-use Rattle.std.specs.Prelude.{List, ℕ, ◌≡◌}
+use Rattle.std.specs.Prelude.{List, ℕ, ◌<◌, ◌≡◌}
 use Rattle.pv_dtd.specs.Plain.{PlainDtd}
 use Rattle.pv_dtd.specs.Proper.{IsProperDtd}
+use Rattle.pv_tree.specs.Lists.{lists_of}
 use Rattle.pv_tree.specs.Plain.{PlainDoc}
 use Rattle.pv_tree.specs.View.{view}
 use Rattle.pv_tree.specs.declared.nodes.Mark.{Mark}
+use Rattle.pv_tree.specs.declared.nodes.Verdict.{Verdict}
+use Rattle.pv_rules.specs.Derivations.{heaviest}
 use Rattle.pv_missing.specs.Completing.{Completes, IsLeast}
 use Rattle.pv_missing.specs.Proper.{IsProperDoc}
+use Rattle.pv_missing.specs.Verdicts.{AreVerdicts}
+use Rattle.pv_tables.specs.Tables.{AreTables}
+use Rattle.pv_kept.specs.Kept.{IsBodyText}
 use Rattle.pv_cert.specs.declared.packs.Pack.{Pack}
-use Rattle.pv_verify.specs.Tests.{IsAccepted, IsBodyText, IsRejected}
+use Rattle.pv_verify.specs.Tests.{IsAccepted, IsRejected}
 use Rattle.pv_verify.specs.declared.answers.Why.{Why}
 
 -- The body is the text of a completion of the document, by as many elements as the total says, and
@@ -35,3 +41,13 @@ pub record HasOneAnswer {M : Type 0} (g : PlainDtd) (root : List ℕ) (doc : Pla
 abbrev pub OneAnswer : (M : Type 0) → Type 0
 OneAnswer M = (g : PlainDtd) (root : List ℕ) (doc : PlainDoc M) (pack : Pack) →
     HasOneAnswer g root doc pack
+
+-- The pack of a least completion of a document, by at most 1,000,000 elements, and of the tables of
+-- its Possible lists passes all tests.
+abbrev pub MadeIsAccepted : (M : Type 0) → Type 0
+MadeIsAccepted M = (g : PlainDtd) (root : List ℕ) (doc : PlainDoc M) (pack : Pack)
+    (body : PlainDoc Mark) (vs : List Verdict) → IsProperDtd g → IsProperDoc doc →
+    AreVerdicts g root (lists_of doc) vs → IsBodyText root pack.body body →
+    Completes g root doc body pack.marks pack.total → IsLeast g root pack.total (view doc.root) →
+    pack.total < heaviest → AreTables g root (lists_of doc) pack.tables →
+    IsAccepted g root doc pack

@@ -1,4 +1,4 @@
 pub mod Tests
 pub mod Laws
-pub mod Lookup
-pub mod ClosedForms
+pub mod Answers
+pub mod Reading

@@ -6,20 +6,17 @@
 //! (`specs/Laws.antt`): that rests on definitions and laws alone, and nothing is assumed of whoever
 //! made the pack. The crate stands on nothing that makes completions or tables.
 //!
-//! Whether a table is closed is asked of its listed entries alone: `nothing_holds`, `one_holds` and
-//! `two_holds` test it under the rules that have no right side, one and two, and `text_holds` and
-//! `names_hold` under those that look at a token (`specs/ClosedForms.antt`), looking up entries in
-//! their order. Nothing tests a whole pack yet.
+//! `verify` makes the tests in their order: bodies are read and compared with the document by
+//! pv_kept, tables are tested and added up by pv_closed.
 #![tactic(auto)]
 
 mod answers;
-mod forms;
+mod errors;
 pub mod laws;
-mod lookup;
-mod order;
-mod texts;
+mod totals;
+mod verifying;
 
 pub use answers::{Answer, Why};
-pub use forms::{nothing_holds, one_holds, two_holds};
-pub use lookup::value_at;
-pub use texts::{names_hold, text_holds};
+pub use errors::VerifyError;
+pub use totals::totals_agree;
+pub use verifying::verify;

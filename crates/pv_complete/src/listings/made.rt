@@ -3,11 +3,9 @@
 use crate::missing::load::Load;
 use pv_chars::{List, NoMemory};
 use pv_span::{Entry, Table};
+use pv_tables::MOST_ENTRIES;
 use pv_tree::Path;
 use std::alloc::Global;
-
-/// How many entries all tables of a document may have.
-const MOST_ENTRIES: u32 = 8_388_608;
 
 /// How far a walk has come, the tables so far, and how many entries more there may be.
 #[derive(Drop)]
@@ -19,7 +17,7 @@ pub struct Made {
 
 impl Made {
     ghost use Rattle.std.specs.Prelude.{◌≡◌, ◌≤◌, ◌+◌, ◌++◌, ◌∷◌, [], OnOk, length};
-    ghost use Rattle.pv_complete.specs.Tables.{most_entries};
+    ghost use Rattle.pv_tables.specs.Tables.{most_entries};
 
     /// No table so far, and the next list is that of the document node.
     pub fn new(alloc: Global) -> Made

@@ -1,0 +1,35 @@
+use Rattle.std.proofs.Common.{IsTrue, [], arith, map, subst, sym, ◌++◌, ◌∙◌, ◌∷◌, ◌↔◌}
+use Rattle.pv_flat.specs.Plain.{plain_event}
+use Rattle.pv_kept.specs.LeftOut.{LeavesEvents}
+use Rattle.pv_kept.proofs.GivenEvents.{given-all, given-more}
+use Rattle.pv_kept.proofs.comparing.Compared.of.Goals as goal
+
+pub events-preserved : goal.events-preserved
+events-preserved c =
+    let i = c.events.invariant in
+    let e = plain_event c.in-Some.event in
+    let leads = rw c.in-Some.is at c.in_ok-event.ensures.answers in
+    let less = rw c.in-Some.is at c.in_ok-event.ensures.leaves_less in
+    let moves = c.in_ok-take.ensures in
+    let next = moves.next in (
+      i.0 ++ e ∷ [],
+      given-more c.args.root.now c.args.bytes.now i.0 c.events.events i.1 e c.next.new.self leads,
+      moves.past c.args.marks.now (map plain_event c.args.other.now) i.0 i.2,
+      omega (arith, less, next, i.3),
+    )
+
+pub returns : goal.returns
+returns c =
+    let i = c.events.invariant in
+    let other = map plain_event c.args.other.now in
+    let ends = rw c.in_default.is at c.in_ok-event.ensures.answers in
+    let t = given-all c.args.root.now c.args.bytes.now i.0 c.events.events i.1 c.next.new.self ends.0 ends.1 in
+    record {
+      compared = record {
+        doc = t.0;
+        is_text = t.1;
+        is_before = t.3 ∙ sym c.before-2.ensures;
+        is_after = t.4 ∙ sym c.rest.ensures;
+        leaves = subst (λ l. IsTrue c.is_whole.result ↔ LeavesEvents c.args.marks.now l other) (sym t.2) (c.is_whole.ensures c.args.marks.now other i.0 i.2);
+      };
+    }

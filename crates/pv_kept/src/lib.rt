@@ -1,0 +1,19 @@
+//! Whether a document is another one with the tags of marked elements put in, and nothing else.
+//!
+//! Documents are read by events, so that elements may stand at any depth and nothing recurses on
+//! it. Which events stay where the tags of marked elements are left out is told by `kept_events`
+//! (`specs/LeftOut.antt`); `laws` says that this is leaving the elements out of hedges (`IsKept`,
+//! `specs/Kept.antt`). `plain_elements` tells which elements have no attribute bytes, `are_marks`
+//! whether marks ascend and are numbers of such elements, and `is_kept` compares two documents.
+#![tactic(auto)]
+
+mod comparing;
+pub mod laws;
+mod marks;
+mod reading;
+mod tags;
+mod wanted;
+
+pub use comparing::is_kept;
+pub use marks::are_marks;
+pub use reading::plain_elements;

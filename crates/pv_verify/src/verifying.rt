@@ -1,0 +1,147 @@
+//! The tests of a pack, one behind another.
+
+ghost use Rattle.std.specs.Prelude.{◌≤◌, ◌↔◌, IfErr, IfOk, IsTrue, MatchOption, length};
+ghost use Rattle.pv_dtd.specs.Hedge.{IsValid};
+ghost use Rattle.pv_dtd.specs.PlainForms.{plain_dtd};
+ghost use Rattle.pv_tree.specs.Marks.{blank_mark};
+ghost use Rattle.pv_tree.specs.Plain.{PlainDoc};
+ghost use Rattle.pv_tree.specs.PlainDocs.{plain_doc};
+ghost use Rattle.pv_tree.specs.View.{view};
+ghost use Rattle.pv_tree.specs.declared.nodes.Mark.{Mark};
+ghost use Rattle.pv_read.specs.Meaning.{DocumentMeans, is_document};
+ghost use Rattle.pv_flat.specs.Coming.{MAX_FLAT_BYTES};
+ghost use Rattle.pv_kept.specs.Kept.{AreMarks, IsBodyText, IsKept};
+ghost use Rattle.pv_verify.specs.Answers.{IsAnswer, IsRefusal};
+ghost use Rattle.pv_verify.specs.Tests.{IsAccepted, IsRejected};
+ghost use Rattle.pv_verify.specs.Reading.{IsBodyRead};
+
+use crate::answers::{Answer, Why};
+use crate::errors::VerifyError;
+use crate::laws::certified_law;
+use crate::totals::totals_agree;
+use pv_cert::Pack;
+use pv_chars::NoMemory;
+use pv_closed::{first_wide_table, tables_closed};
+use pv_dtd::Dtd;
+use pv_dtd::laws::proper_dtd_law;
+use pv_flat::valid_events;
+use pv_kept::{are_marks, is_kept, plain_elements};
+use pv_missing::laws::proper::proper_doc_law;
+use pv_read::laws::{one_meaning_law, wider_limits_law};
+use pv_read::{DocError, read_doc};
+use pv_tree::{Doc, Mark};
+use std::alloc::Global;
+
+// Of each element of the body, whether it has no attribute bytes; none where the bytes aren't the
+// text of a document.
+fn read_body(alloc: Global, root: &[u8], bytes: &[u8]) -> Result<Option<Vec<bool>>, NoMemory>
+    ensures { IfOk result (λ found. MatchOption found
+        ((body : PlainDoc Mark) → IsBodyText root.now bytes.now body → ⊥)
+        (λ plain. IsBodyRead root.now bytes.now plain.items)) }
+{
+    match plain_elements(alloc, root, bytes) {
+        Ok(plain) => Ok(Some(plain)),
+        Err(DocError::NoMemory) => Err(NoMemory),
+        Err(_) => {
+            one_meaning_law();
+            Ok(None)
+        }
+    }
+}
+
+// Whether the body without the tags of marked elements is the document.
+fn keeps(
+    alloc: Global,
+    root: &[u8],
+    doc: &[u8],
+    body: &[u8],
+    marks: &[u32],
+) -> Result<bool, NoMemory>
+    requires { length body.now ≤ MAX_FLAT_BYTES }
+    ensures { IfOk result (λ kept. (d b : PlainDoc Mark) → IsBodyText root.now doc.now d →
+        IsBodyText root.now body.now b → IsTrue kept ↔ IsKept d b marks.now) }
+{
+    match is_kept(alloc, root, doc, body, marks) {
+        Ok(kept) => Ok(kept),
+        Err(_) => Err(NoMemory),
+    }
+}
+
+// Whether the body is valid.
+fn is_valid(alloc: Global, dtd: &Dtd, root: &[u8], body: &[u8]) -> Result<bool, NoMemory>
+    ensures { IfOk result (λ valid. (doc : PlainDoc Mark) → IsBodyText root.now body.now doc →
+        IsTrue valid ↔ IsValid (plain_dtd dtd.now) root.now (view doc.root)) }
+{
+    valid_events(alloc, dtd, root, body).map_err(|_| NoMemory)
+}
+
+// The first test that a pack fails, against the document that the bytes are.
+fn first_failed(
+    alloc: Global,
+    dtd: &Dtd,
+    root: &[u8],
+    bytes: &[u8],
+    doc: &Doc,
+    pack: &Pack,
+) -> Result<Option<Why>, NoMemory>
+    requires { DocumentMeans blank_mark root.now bytes.now (is_document (plain_doc doc.now)) }
+    ensures { IfOk result (λ failed. MatchOption failed
+        (IsAccepted (plain_dtd dtd.now) root.now (plain_doc doc.now) pack.now)
+        (IsRejected (plain_dtd dtd.now) root.now (plain_doc doc.now) pack.now)) }
+{
+    let body = pack.body.as_slice();
+    let marks = pack.marks.as_slice();
+    let tables = pack.tables.as_slice();
+    wider_limits_law();
+    let Some(plain) = read_body(alloc, root, body)? else {
+        return Ok(Some(Why::Body));
+    };
+    if !are_marks(marks, &plain) {
+        return Ok(Some(Why::Marks));
+    }
+    if !keeps(alloc, root, bytes, body, marks)? {
+        return Ok(Some(Why::Kept));
+    }
+    if !is_valid(alloc, dtd, root, body)? {
+        return Ok(Some(Why::Validity));
+    }
+    if !tables_closed(alloc, dtd, root, doc, tables)? {
+        return Ok(Some(Why::Closure));
+    }
+    if !totals_agree(alloc, dtd, root, doc, pack)? {
+        return Ok(Some(Why::Totals));
+    }
+    Ok(None)
+}
+
+/// Verifies a pack against the document that the bytes are, where the root's name is this one: it
+/// is accepted where it passes all tests, and then its body is a least completion, whoever made it;
+/// else the first test that it fails is told.
+///
+/// The document is read first, and then a table of a list past the width for weights is looked for.
+pub fn verify(
+    alloc: Global,
+    dtd: &Dtd,
+    root: &[u8],
+    doc: &[u8],
+    pack: &Pack,
+) -> Result<Answer, VerifyError>
+    ensures answers { IfOk result (λ answer. (d : PlainDoc Mark) ×
+        DocumentMeans blank_mark root.now doc.now (is_document d) ×
+        IsAnswer (plain_dtd dtd.now) root.now d pack.now answer) }
+    ensures refused { IfErr result (λ error.
+        IsRefusal (plain_dtd dtd.now) root.now doc.now pack.now error) }
+{
+    let document = read_doc(alloc, doc, root)?;
+    let wide = first_wide_table(alloc, dtd, &document, pack.tables.as_slice())?;
+    if let Some(path) = wide {
+        return Err(VerifyError::TooWide(path));
+    }
+    proper_dtd_law(dtd);
+    proper_doc_law(&document);
+    certified_law::<Mark>();
+    match first_failed(alloc, dtd, root, doc, &document, pack)? {
+        None => Ok(Answer::Accepted(pack.total)),
+        Some(why) => Ok(Answer::Rejected(why)),
+    }
+}
