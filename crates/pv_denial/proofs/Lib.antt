@@ -1,0 +1,15 @@
+-- for other crates:
+pub mod Answering
+pub mod Denied
+pub mod Rowing
+-- of this crate:
+pub mod Choices
+pub mod Contents
+pub mod Holding
+pub mod Indexing
+pub mod OneJudged
+pub mod Rising
+pub mod SiteKinds
+pub mod Sites
+pub mod Standing
+pub mod Tokens

@@ -1,0 +1,5 @@
+use Rattle.pv_denial.proofs.OneJudged.{one_judged}
+use Rattle.pv_denial.proofs.laws.one_judged_law.Goals as goal
+
+pub returns : goal.returns
+returns g c = one_judged _ c.lists_ascend_law.ensures

@@ -1,0 +1,6 @@
+use Rattle.pv_productive.specs.PlainForms.{dtd_of}
+use Rattle.pv_denial.proofs.Indexing.{AreTaken}
+use Rattle.pv_denial.proofs.listing.barrier_of.Given as goal
+
+abbrev pub invariant-loop-number : goal.invariant-loop-number
+invariant-loop-number l = AreTaken (dtd_of l.grammar) l.tokens l.rows l.number l.index

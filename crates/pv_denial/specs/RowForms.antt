@@ -1,0 +1,51 @@
+-- What rows hold under the rules of each form. A value is told by one more than it, and 0 tells
+-- none, so that none is less than every number.
+use Rattle.std.specs.Prelude.{List, None, Option, Some, slice_get, suc, zero, ℕ, ◌≡◌, ◌≤◌}
+use Rattle.pv_model.specs.Plain.{PlainToken, named, text}
+use Rattle.pv_dtd.specs.Plain.{PlainDtd}
+use Rattle.pv_rules.specs.Barriers.{AreAtRows, IsWithinRows}
+use Rattle.pv_rules.specs.Rules.{Goal, Rule, over}
+use Rattle.pv_rules.specs.Sites.{PlainSite, name_site}
+use Rattle.pv_denial.specs.Rows.{row_value}
+use Rattle.pv_denial.specs.declared.denials.Row.{Row}
+
+abbrev pub one_past : Option ℕ → ℕ
+one_past None = 0
+one_past (Some k) = suc k
+
+-- one past the value of a site at a place, or 0
+abbrev pub past_at : List Row → PlainSite → ℕ → ℕ
+past_at rows s i = one_past (row_value rows s i)
+
+-- what stands behind a value, where there is one
+abbrev pub behind : ℕ → (ℕ → ℕ) → ℕ
+behind zero f = 0
+behind (suc k) f = f k
+
+-- the site has a value at each place of a word of n tokens
+abbrev pub HoldsNone : List Row → PlainSite → ℕ → Type 0
+HoldsNone rows s n = (i : ℕ) → i ≤ n → suc i ≤ past_at rows s i
+
+-- it is at least another site
+abbrev pub HoldsOne : List Row → PlainSite → PlainSite → ℕ → Type 0
+HoldsOne rows s r n = (i : ℕ) → i ≤ n → past_at rows r i ≤ past_at rows s i
+
+-- it is at least a second site at the values of a first
+abbrev pub HoldsTwo : List Row → PlainSite → PlainSite → PlainSite → ℕ → Type 0
+HoldsTwo rows s r q n = (i : ℕ) → i ≤ n →
+    behind (past_at rows r i) (past_at rows q) ≤ past_at rows s i
+
+-- before each text it is at least itself behind the text
+abbrev pub HoldsText : List Row → PlainSite → List PlainToken → Type 0
+HoldsText rows s w = (i : ℕ) → slice_get w i ≡ Some text →
+    past_at rows s (suc i) ≤ past_at rows s i
+
+-- an element of the name leads beyond each token of that name
+abbrev pub HoldsKept : List Row → ℕ → List PlainToken → Type 0
+HoldsKept rows x w = (i : ℕ) → slice_get w i ≡ Some (named x) →
+    suc (suc i) ≤ past_at rows (name_site x) i
+
+-- all rules of the site hold
+abbrev pub HoldsAt : PlainDtd → List PlainToken → List Row → PlainSite → Type 0
+HoldsAt g w rows s = (i j c : ℕ) (xs : List Goal) → Rule g w (over s i j) c xs →
+    AreAtRows (row_value rows) xs → IsWithinRows (row_value rows) (over s i j)

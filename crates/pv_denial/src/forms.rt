@@ -1,0 +1,131 @@
+//! Whether rows hold under the rules of one form.
+
+ghost use Rattle.std.specs.Prelude.{◌≡◌, ◌≤◌, ◌<◌, ◌^◌, ◌↔◌, IsTrue, length, map, suc};
+ghost use Rattle.pv_model.specs.Plain.{named, text};
+ghost use Rattle.pv_model.specs.PlainForms.{plain_token};
+ghost use Rattle.pv_rules.specs.PlainForms.{plain_site};
+ghost use Rattle.pv_rules.specs.Sites.{name_site};
+ghost use Rattle.pv_denial.specs.RowForms.{HoldsKept, HoldsNone, HoldsOne, HoldsText, HoldsTwo};
+ghost use Rattle.pv_denial.specs.RowForms.{behind, past_at};
+
+use crate::barrier::Barrier;
+use pv_model::{NameId, Token};
+use pv_rules::Site;
+
+/// Whether a site has a value at each place.
+pub fn none_holds(barrier: &Barrier<'_>, left: Site, tokens: usize) -> bool
+    requires { tokens < 2 ^ 62 }
+    ensures { IsTrue result ↔ HoldsNone barrier.now (plain_site left) tokens }
+{
+    for place in 0..tokens + 1 {
+        if barrier.past_at(left, place) <= place as u64 {
+            return false;
+        }
+    }
+    true
+}
+
+/// Whether a site is at least another.
+pub fn one_holds(barrier: &Barrier<'_>, left: Site, right: Site, tokens: usize) -> bool
+    requires { tokens < 2 ^ 62 }
+    ensures { IsTrue result ↔
+        HoldsOne barrier.now (plain_site left) (plain_site right) tokens }
+{
+    for place in 0..tokens + 1 {
+        if barrier.past_at(left, place) < barrier.past_at(right, place) {
+            return false;
+        }
+    }
+    true
+}
+
+/// One past the value of a second site at the value of a first, or 0.
+fn past_behind(barrier: &Barrier<'_>, first: Site, second: Site, place: usize) -> u64
+    ensures { result ≡ behind (past_at barrier.now (plain_site first) place)
+        (past_at barrier.now (plain_site second)) }
+{
+    match barrier.past_at(first, place) {
+        0 => 0,
+        past => barrier.past_at(second, (past - 1) as usize),
+    }
+}
+
+/// Whether a site is at least a second one at the values of a first.
+pub fn two_holds(
+    barrier: &Barrier<'_>,
+    left: Site,
+    first: Site,
+    second: Site,
+    tokens: usize,
+) -> bool
+    requires { tokens < 2 ^ 62 }
+    ensures { IsTrue result ↔
+        HoldsTwo barrier.now (plain_site left) (plain_site first) (plain_site second) tokens }
+{
+    for place in 0..tokens + 1 {
+        if barrier.past_at(left, place) < past_behind(barrier, first, second, place) {
+            return false;
+        }
+    }
+    true
+}
+
+/// Whether a site is at least itself behind this token, where the token is a text.
+fn text_here_holds(barrier: &Barrier<'_>, left: Site, token: Token, place: usize) -> bool
+    requires { place < 2 ^ 62 }
+    ensures { IsTrue result ↔ (plain_token token ≡ text →
+        past_at barrier.now (plain_site left) (suc place) ≤
+        past_at barrier.now (plain_site left) place) }
+{
+    match token {
+        Token::Text => barrier.past_at(left, place + 1) <= barrier.past_at(left, place),
+        Token::Name(_) => true,
+        Token::Other => true,
+    }
+}
+
+/// Whether a site is before each text at least itself behind the text.
+pub fn text_holds(barrier: &Barrier<'_>, left: Site, word: &[Token]) -> bool
+    requires { length word.now < 2 ^ 62 }
+    ensures { IsTrue result ↔
+        HoldsText barrier.now (plain_site left) (map plain_token word.now) }
+{
+    for place in 0..word.len() {
+        if !text_here_holds(barrier, left, word[place], place) {
+            return false;
+        }
+    }
+    true
+}
+
+/// Whether an element of a name leads beyond this token, where the token is of that name.
+fn kept_here_holds(barrier: &Barrier<'_>, id: NameId, token: Token, place: usize) -> bool
+    requires { place < 2 ^ 62 }
+    ensures { IsTrue result ↔ (plain_token token ≡ named id.0 →
+        suc (suc place) ≤ past_at barrier.now (name_site id.0) place) }
+{
+    match token {
+        Token::Name(other) => {
+            if other.0 == id.0 {
+                place as u64 + 2 <= barrier.past_at(Site::Name(id), place)
+            } else {
+                true
+            }
+        }
+        Token::Text => true,
+        Token::Other => true,
+    }
+}
+
+/// Whether an element of a name leads beyond each token of that name.
+pub fn kept_holds(barrier: &Barrier<'_>, id: NameId, word: &[Token]) -> bool
+    requires { length word.now < 2 ^ 62 }
+    ensures { IsTrue result ↔ HoldsKept barrier.now id.0 (map plain_token word.now) }
+{
+    for place in 0..word.len() {
+        if !kept_here_holds(barrier, id, word[place], place) {
+            return false;
+        }
+    }
+    true
+}

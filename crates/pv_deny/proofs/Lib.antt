@@ -1,0 +1,3 @@
+-- of this crate:
+pub mod Denials
+pub mod Furthest

@@ -1,0 +1,24 @@
+-- What holds of denials, each a statement. M is the type of marks.
+use Rattle.std.specs.Prelude.{List, ℕ}
+use Rattle.pv_model.specs.Plain.{PlainToken}
+use Rattle.pv_dtd.specs.Plain.{PlainDtd}
+use Rattle.pv_dtd.specs.Proper.{IsProperDtd}
+use Rattle.pv_rules.specs.Rules.{IsKnownWord}
+use Rattle.pv_tree.specs.Plain.{PlainDoc}
+use Rattle.pv_missing.specs.LiveWords.{AreProductiveTokens}
+use Rattle.pv_denial.specs.Judging.{IsJudged}
+use Rattle.pv_denial.specs.Rows.{AreBarrierRows}
+use Rattle.pv_denial.specs.declared.denials.Denial.{Denial}
+use Rattle.pv_denial.specs.declared.denials.Judged.TheVariants as judged
+use Rattle.pv_denial.specs.declared.denials.Row.{Row}
+use Rattle.pv_deny.specs.Denying.{AreFurthestRows, IsDenialOf}
+
+-- rows of furthest places over a word of productive names are a barrier for it
+abbrev pub FurthestIsBarrier : Type 0
+FurthestIsBarrier = (g : PlainDtd) (w : List PlainToken) (rows : List Row) → IsProperDtd g →
+    IsKnownWord g w → AreProductiveTokens g w → AreFurthestRows g w rows → AreBarrierRows g w rows
+
+-- what denies a document passes all tests of the judge
+abbrev pub DenialIsJudged : (M : Type 0) → Type 0
+DenialIsJudged M = (g : PlainDtd) (root : List ℕ) (doc : PlainDoc M) (d : Denial) →
+    IsProperDtd g → IsDenialOf g root doc d → IsJudged g root doc d judged.Denied
