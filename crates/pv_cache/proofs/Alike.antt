@@ -1,5 +1,5 @@
 -- What holds of a document whatever its marks are.
-use Rattle.std.proofs.Common.{List, None, Option, Some, [], ap, refl, subst, sym, ℕ, zero, suc, length, ◌∙◌, ◌∷◌, ◌≡◌, map}
+use Rattle.std.proofs.Common.{Bool, List, None, Option, Some, [], ap, refl, subst, sym, ℕ, zero, suc, length, ◌∙◌, ◌∷◌, ◌≡◌, map}
 use Rattle.std.proofs.Math.Logic.{∥∥₁_map}
 use Rattle.std.specs.List.{AllByRecursion}
 use Rattle.std.specs.Option.{option_and_then, option_map}
@@ -15,20 +15,26 @@ use Rattle.pv_edit.specs.declared.edits.Edit.{Edit}
 use Rattle.pv_edit.specs.declared.edits.Edit.TheVariants.{AddText, DelText, Insert, Join, Rename, SetText, Split, Unwrap, Wrap}
 use Rattle.pv_edit.specs.declared.inverses.Inverse.{Inverse}
 use Rattle.pv_edit.specs.declared.reasons.Reason.{Reason}
-use Rattle.pv_edit.proofs.Remarked.{back-as, change_as, forest-as, node-as, root-as, trees-as, units-as}
+use Rattle.pv_edit.proofs.Remarked.{back-as, change_as, forest-as, node-as, root-as, spot-as, spot_as, trees-as, units-as}
 use Rattle.pv_edit.proofs.RemarkedReasons.{reason-as}
-use Rattle.pv_missing.specs.Verdicts.{HavePossible}
+use Rattle.pv_edit.specs.Inverses.{name_on}
+use Rattle.pv_missing.specs.Verdicts.{HaveCount, IsLiveBy, is_impossible}
+use Rattle.pv_missing.proofs.Counts.{same_counts}
+use Rattle.pv_missing.proofs.VerdictHeads.{live_alike}
 use Rattle.pv_missing.specs.Widths.{FitsVerdict}
-use Rattle.pv_tree.specs.Lists.{lists_of}
+use Rattle.pv_tree.specs.Heads.{heads_of}
+use Rattle.pv_tree.specs.Lists.{Owner, an_element, lists_of}
 use Rattle.pv_tree.specs.Marks.{unmarked_doc}
 use Rattle.pv_tree.specs.Plain.{Forest, PlainDoc, Tree, cdata_node, element, forest_of, map_marks, map_marks_all, misc_node, no_trees, text_node, tree, without_marks}
-use Rattle.pv_tree.specs.Places.{list_at, list_of, node_below}
+use Rattle.pv_tree.specs.Places.{Spot, at_document, at_node, list_at, list_of, node_below, spot_at}
 use Rattle.pv_tree.specs.Words.{word_of}
-use Rattle.pv_cache.specs.Accepting.{IsAccepted, IsGuarded, IsNarrowAt, IsWithinLimits}
+use Rattle.pv_tree.specs.declared.nodes.Verdict.{Verdict}
+use Rattle.pv_cache.specs.Accepting.{GetsNoWorse, GetsWorse, HaveBoth, IsAccepted, IsHoldable, IsNarrowAt, IsWithinLimits}
+use Rattle.pv_cache.specs.Changed.{IsFirstImpossibleAt, IsLiveAt, owner_at}
 use Rattle.pv_cache.specs.Moves.{HasGround}
 use Rattle.pv_cache.specs.Stamps.{doc_as}
-use Rattle.pv_cache.proofs.ListMarks.{all_narrow_from, all_narrow_to, first_to, verdicts_from, verdicts_to}
-use Rattle.pv_cache.proofs.OtherMarks.{nodes_as, view_as, word_as}
+use Rattle.pv_cache.proofs.ListMarks.{all_narrow_from, all_narrow_to}
+use Rattle.pv_cache.proofs.OtherMarks.{heads_as, nodes_as, word_as}
 
 -- the outcome with other marks
 abbrev pub outcome_as : {M N : Type 0} → (M → N) → Outcome M → Outcome N
@@ -49,6 +55,14 @@ module _ {M N : Type 0} (f : M → N) where
     all_twice : (ks : Forest M) → bare_all (map_marks_all f ks) ≡ bare_all ks
     all_twice no_trees = refl
     all_twice (tree t rest) = ap (λ (u : Tree Unit). tree u (bare_all (map_marks_all f rest))) (twice t) ∙ ap (tree (without_marks t)) (all_twice rest)
+
+  name_as : (o : Option (Spot M)) → name_on (option_map (spot_as f) o) ≡ name_on o
+  name_as None = refl
+  name_as (Some at_document) = refl
+  name_as (Some (at_node (element x a e ks m))) = refl
+  name_as (Some (at_node (text_node us))) = refl
+  name_as (Some (at_node (cdata_node b))) = refl
+  name_as (Some (at_node (misc_node b))) = refl
 
   pub change_of_as : (blank : M) (root : Tree M) (edit : Edit) → change_as f (change_of blank root edit) ≡ change_of (f blank) (map_marks f root) edit
   change_of_as blank root (Wrap path from to name) = refl
@@ -89,23 +103,14 @@ module _ {M N : Type 0} (f : M → N) where
     unmarked_as = ap (λ (t : Tree Unit). record { before = doc.before; root = t; after = doc.after; mark = tt }) (twice doc.root)
 
     module _ (g : PlainDtd) (root : List ℕ) where
-      pub guarded_to : IsGuarded g root doc → IsGuarded g root (doc_as f doc)
-      guarded_to h = record {
-        possible = rw (view_as f doc.root) h.possible;
-        holdable = record { narrow = all_narrow_to f doc g h.holdable.narrow; few = rw (nodes_as f doc.root) h.holdable.few };
-      }
+      pub holdable_to : IsHoldable g doc → IsHoldable g (doc_as f doc)
+      holdable_to h = record { narrow = all_narrow_to f doc g h.narrow; few = rw (nodes_as f doc.root) h.few }
 
-      pub guarded_from : IsGuarded g root (doc_as f doc) → IsGuarded g root doc
-      guarded_from h = record {
-        possible = rw (view_as f doc.root) at h.possible;
-        holdable = record { narrow = all_narrow_from f doc g h.holdable.narrow; few = rw (nodes_as f doc.root) at h.holdable.few };
-      }
+      pub holdable_from : IsHoldable g (doc_as f doc) → IsHoldable g doc
+      holdable_from h = record { narrow = all_narrow_from f doc g h.narrow; few = rw (nodes_as f doc.root) at h.few }
 
-      pub open_to : (n : ℕ) → HavePossible g root (lists_of doc) n → HavePossible g root (lists_of (doc_as f doc)) n
-      open_to n h = record { verdicts = h.verdicts; are_verdicts = verdicts_to f doc g root h.verdicts h.are_verdicts; count = h.count }
-
-      pub open_from : (n : ℕ) → HavePossible g root (lists_of (doc_as f doc)) n → HavePossible g root (lists_of doc) n
-      open_from n h = record { verdicts = h.verdicts; are_verdicts = verdicts_from f doc g root h.verdicts h.are_verdicts; count = h.count }
+      pub count_to : (test : Verdict → Bool) (n : ℕ) → HaveCount test g root (lists_of doc) n → HaveCount test g root (lists_of (doc_as f doc)) n
+      count_to test n h = same_counts M N test g root doc (doc_as f doc) n (sym unmarked_as) h
 
       -- ---- limits
       of_kind : (t : Tree M) → list_of (map_marks f t) ≡ option_map (map (map_marks f)) (list_of t)
@@ -154,6 +159,54 @@ module _ {M N : Type 0} (f : M → N) where
       pub within_from : (paths : List (List ℕ)) → IsWithinLimits g (doc_as f doc) paths → IsWithinLimits g doc paths
       within_from paths h = record { few = rw (nodes_as f doc.root) at h.few; narrow = paths_from paths h.narrow }
 
+      -- ---- Impossible lists
+      owner_as : (path : List ℕ) → owner_at path (map_marks f doc.root) ≡ owner_at path doc.root
+      owner_as [] = refl
+      owner_as (i ∷ path) = ap an_element (ap name_on (spot-as f (i ∷ path) doc.root) ∙ name_as (spot_at (i ∷ path) doc.root))
+
+      heads_all : (ts : List (Tree M)) → heads_of (forest_of (map (map_marks f) ts)) ≡ heads_of (forest_of ts)
+      heads_all ts = ap heads_of (forest-as f ts) ∙ heads_as f (forest_of ts)
+
+      live_path_to : (path : List ℕ) → IsLiveAt g root doc path → IsLiveAt g root (doc_as f doc) path
+      live_path_to path h kids e = by (list_at path doc.root) refl (sym (list_at_as path) ∙ e)
+        where
+          by : (o : Option (List (Tree M))) → list_at path doc.root ≡ o → option_map (map (map_marks f)) o ≡ Some kids → IsLiveBy g root (owner_at path (map_marks f doc.root)) (forest_of kids)
+          by None l n = absurd cc
+          by (Some ts) l n =
+              let is : map (map_marks f) ts ≡ kids = cc in
+              let live = live_alike g root (owner_at path doc.root) (forest_of ts) (forest_of (map (map_marks f) ts)) (sym (heads_all ts)) (h ts l) in
+              subst (λ (ks : List (Tree N)). IsLiveBy g root (owner_at path (map_marks f doc.root)) (forest_of ks)) is
+              (subst (λ (o : Owner). IsLiveBy g root o (forest_of (map (map_marks f) ts))) (sym (owner_as path)) live)
+
+      live_path_from : (path : List ℕ) → IsLiveAt g root (doc_as f doc) path → IsLiveAt g root doc path
+      live_path_from path h kids e =
+          let live = h (map (map_marks f) kids) (list_at_as path ∙ ap (option_map (map (map_marks f))) e) in
+          live_alike g root (owner_at path doc.root) (forest_of (map (map_marks f) kids)) (forest_of kids) (heads_all kids)
+          (subst (λ (o : Owner). IsLiveBy g root o (forest_of (map (map_marks f) kids))) (owner_as path) live)
+
+      live_paths_to : (paths : List (List ℕ)) → AllByRecursion (IsLiveAt g root doc) paths → AllByRecursion (IsLiveAt g root (doc_as f doc)) paths
+      live_paths_to [] h = tt
+      live_paths_to (path ∷ paths) h = (live_path_to path h.0, live_paths_to paths h.1)
+
+      pub first_at_to : (paths : List (List ℕ)) (path : List ℕ) → IsFirstImpossibleAt g root doc paths path → IsFirstImpossibleAt g root (doc_as f doc) paths path
+      first_at_to paths path h = record {
+        before = h.before;
+        after = h.after;
+        is_split = h.is_split;
+        all_before = live_paths_to h.before h.all_before;
+        is_not = λ l. h.is_not (live_path_from path l);
+      }
+
+  -- as many lists are Impossible
+  both_to : (g : PlainDtd) (root : List ℕ) (doc other : PlainDoc M) (m n : ℕ) → HaveBoth g root doc other m n → HaveBoth g root (doc_as f doc) (doc_as f other) m n
+  both_to g root doc other m n h = record { had = count_to doc g root is_impossible m h.had; has = count_to other g root is_impossible n h.has }
+
+  no_worse_to : (g : PlainDtd) (root : List ℕ) (doc other : PlainDoc M) → GetsNoWorse g root doc other → GetsNoWorse g root (doc_as f doc) (doc_as f other)
+  no_worse_to g root doc other h = (h.0, h.1, both_to g root doc other h.0 h.1 h.2, h.3)
+
+  worse_to : (g : PlainDtd) (root : List ℕ) (doc other : PlainDoc M) → GetsWorse g root doc other → GetsWorse g root (doc_as f doc) (doc_as f other)
+  worse_to g root doc other h = (h.0, h.1, both_to g root doc other h.0 h.1 h.2, h.3)
+
   -- an edit is refused on the same ground
   module _ (blank : M) (g : PlainDtd) (root : List ℕ) (doc : PlainDoc M) (edit : Edit) where
     pub ground_as : (a : EditAnswer) → HasGround blank g root doc edit a → HasGround (f blank) g root (doc_as f doc) edit a
@@ -163,8 +216,8 @@ module _ {M N : Type 0} (f : M → N) where
       doc_as f edited,
       gives_as blank doc edited edit e,
       within_to edited g root (changed_lists (makes edit)) w,
-      (λ v. n (rw (view_as f edited.root) at v)),
-      ∥∥₁_map first (first_to f edited g root path),
+      ∥∥₁_map n (worse_to g root doc edited),
+      ∥∥₁_map first (first_at_to edited g root (changed_lists (makes edit)) path),
     )
     ground_as NoMemory h = tt
 
@@ -173,15 +226,10 @@ module _ {M N : Type 0} (f : M → N) where
     accepted_as edited h = record {
       is_edited = gives_as blank doc edited edit h.is_edited;
       within = within_to edited g root (changed_lists (makes edit)) h.within;
-      possible = rw (view_as f edited.root) h.possible;
+      no_worse = ∥∥₁_map h.no_worse (no_worse_to g root doc edited);
     }
 
 -- ---- two documents that differ in marks alone
 module _ {M N : Type 0} (g : PlainDtd) (root : List ℕ) (doc : PlainDoc M) (other : PlainDoc N) (same : unmarked_doc doc ≡ unmarked_doc other) where
-  pub guarded_alike : IsGuarded g root doc → IsGuarded g root other
-  guarded_alike h = guarded_from (λ _. tt) other g root (subst (IsGuarded g root) same (guarded_to (λ _. tt) doc g root h))
-
-  pub open_alike : (n : ℕ) → HavePossible g root (lists_of doc) n → HavePossible g root (lists_of other) n
-  open_alike n h =
-      open_from (λ _. tt) other g root n
-      (subst (λ (d : PlainDoc Unit). HavePossible g root (lists_of d) n) same (open_to (λ _. tt) doc g root n h))
+  pub holdable_alike : IsHoldable g doc → IsHoldable g other
+  holdable_alike h = holdable_from (λ _. tt) other g root (subst (IsHoldable g) same (holdable_to (λ _. tt) doc g root h))

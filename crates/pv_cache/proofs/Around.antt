@@ -53,7 +53,6 @@ module _ (g : PlainDtd) (root : List ℕ) where
   pub tells-same : (owner : Owner) (kids kids' : Forest Mark) (m : Mark) → ShowSame kids' kids → TellsList g root owner kids m → TellsList g root owner kids' m
   tells-same owner kids kids' m s t = record {
     judged = (verdict_by_heads Mark Mark g root (record { path = []; owner = owner; kids = kids }) (record { path = []; owner = owner; kids = kids' }) m.verdict refl (sym s.heads)).0 t.judged;
-    live = t.live;
     narrow = rw (same_word g kids' kids s.heads) t.narrow;
     left = let h = t.left in let l = s.left in omega arith;
     nodes = let h = t.nodes in let l = s.nodes in omega arith;
@@ -63,7 +62,6 @@ module _ (g : PlainDtd) (root : List ℕ) where
   pub tells-again : (owner : Owner) (kids kids' : Forest Mark) (m : Mark) → heads_of kids' ≡ heads_of kids → TellsList g root owner kids m → TellsList g root owner kids' (count_again kids kids' m)
   tells-again owner kids kids' m e t = record {
     judged = (verdict_by_heads Mark Mark g root (record { path = []; owner = owner; kids = kids }) (record { path = []; owner = owner; kids = kids' }) m.verdict refl (sym e)).0 t.judged;
-    live = t.live;
     narrow = rw (same_word g kids' kids e) t.narrow;
     left = let h = t.left in omega arith;
     nodes = let h = t.nodes in omega arith;

@@ -19,15 +19,14 @@ use Rattle.pv_tree.specs.Places.{at_node as at_spot}
 use Rattle.pv_tree.specs.Plain.{Ending, Forest, PlainDoc, Tree, element, forest_of, no_trees, tree, trees_of}
 use Rattle.pv_tree.specs.declared.nodes.Mark.{Mark}
 use Rattle.pv_tree.specs.declared.nodes.Verdict.{Verdict}
-use Rattle.pv_cache.specs.Changed.{owner_at}
-use Rattle.pv_cache.proofs.Acceptable.{AreAcceptable, IsInnerAcceptable, acceptable}
+use Rattle.pv_cache.specs.Changed.{AreJudged, IsInnerJudged, owner_at}
 use Rattle.pv_cache.specs.Laws.{MarksTell, MendedIsMarked}
 use Rattle.pv_cache.specs.Mending.{mend_below, mend_doc, mend_kids, mend_owner, mend_root}
 use Rattle.pv_cache.specs.declared.mending.InnerVerdict.{InnerVerdict}
 use Rattle.pv_cache.specs.WellMarked.{EachListIn, IsWellMarked, TellsList}
 use Rattle.pv_cache.proofs.Around.{ShowsSame, ShowSame, below-shows, changed-around, around-node, below-head, mended-around, tells-again, tells-same}
 use Rattle.pv_cache.proofs.Marking.{node-has}
-use Rattle.pv_cache.proofs.Telling.{doc-left, doc-live, doc-narrow, doc-nodes, doc-told}
+use Rattle.pv_cache.proofs.Telling.{doc-bad, doc-left, doc-narrow, doc-nodes, doc-told}
 use Rattle.pv_cache.proofs.Owning.{fresh-tells, kids-heads, list-marked, owner-marked}
 
 pub in-root : {M : Type 0} {m : M} {path : List ℕ} {root u : Tree M} → NodeAt (zero ∷ path) (whole m root) u → NodeAt path root u
@@ -44,15 +43,33 @@ only root [] n = absurd (omega arith)
 only root (t ∷ []) n = refl
 only root (t ∷ u ∷ ts) n = absurd (omega arith)
 
+-- the list of the document node holds the root alone, and what came is the root
+pub top-list : (stamp : ℕ) (t : Tree Mark) (list : List (Tree Mark)) → list ≡ t ∷ [] → (i : Option InnerVerdict) → ((k : InnerVerdict) → i ≡ Some k → k.place ≡ 0) → mend_kids i stamp (forest_of list) ≡ tree (mend_root i stamp t) no_trees
+top-list stamp t list e None p = ap forest_of e
+top-list stamp t list e (Some k) p = ap (λ l. mend_kids (Some k) stamp (forest_of l)) e ∙ ap (λ n. mend_kids (Some (record k { place = n })) stamp (tree t no_trees)) (p k refl)
+
+pub top-place : (g : PlainDtd) (root : List ℕ) (c : Change Mark) (ts : List (Tree Mark)) → c.from ≤ c.to → c.to ≤ length ts → length (list_after c ts) ≡ 1 → (i : Option InnerVerdict) → IsInnerJudged g root c (in_place_of c.filling (between c.from c.to ts)) i → (k : InnerVerdict) → i ≡ Some k → k.place ≡ 0
+top-place g root c ts h l n None j k e = absurd cc
+top-place g root c ts h l n (Some i) j k e =
+    let b = j.2 in
+    let front = front-length ts c.from c.to h l in
+    let whole : length (take c.from ts ++ (in_place_of c.filling (between c.from c.to ts) ++ drop c.to ts)) ≡ 1 = n in
+    let many = length-append (take c.from ts) (in_place_of c.filling (between c.from c.to ts) ++ drop c.to ts) in
+    let some : length (in_place_of c.filling (between c.from c.to ts) ++ drop c.to ts) ≡ suc (length (drop c.to ts)) = ap (λ (l : List (Tree Mark)). length (l ++ drop c.to ts)) b.is_one in
+    let p : i.place ≡ c.from = j.1 in
+    let s : i ≡ k = cc in
+    let q : i.place ≡ 0 = omega arith in
+    ap (λ (m : InnerVerdict). m.place) (sym s) ∙ q
+
 module _ (g : PlainDtd) (root : List ℕ) (doc : PlainDoc Mark) (w : IsWellMarked g root doc) (c : Change Mark) (z : HaveNoKids c.filling) (v : Verdict) (inner : Option InnerVerdict) (stamp : ℕ) where
-  below-marked : (path : List ℕ) (ts : List (Tree Mark)) → Made doc.mark (zero ∷ path) c doc.root ts → AreAcceptable g root (owner_at (zero ∷ path) doc.root) ts c v inner
+  below-marked : (path : List ℕ) (ts : List (Tree Mark)) → Made doc.mark (zero ∷ path) c doc.root ts → AreJudged g root (owner_at (zero ∷ path) doc.root) ts c v inner
       → IsWellMarked g root (mend_doc (zero ∷ path) v inner stamp (record doc { root = root_after (zero ∷ path) c doc.root }))
   below-marked path ts d j =
       let o = d.owner in
       let n = in-root o.node in
       let name = root-name path doc.root o.name o.attrs o.ending o.kids o.mark n in
       let within : c.to ≤ length (trees_of o.kids) = subst (λ k. c.to ≤ length k) (sym o.are) d.within in
-      let judged : AreAcceptable g root (an_element o.name) (trees_of o.kids) c v inner = rw (← name, o.are) j in
+      let judged : AreJudged g root (an_element o.name) (trees_of o.kids) c v inner = rw (← name, o.are) j in
       let u = element o.name o.attrs o.ending o.kids o.mark in
       let a = changed-around g root (owner_after c) n (owner-shows c o.name o.attrs o.ending o.kids o.mark) w.elements in
       let has = node-has (TellsList g root) n w.elements in
@@ -67,32 +84,15 @@ module _ (g : PlainDtd) (root : List ℕ) (doc : PlainDoc Mark) (w : IsWellMarke
         elements = mended-around g root (mend_owner v inner stamp) a refl m;
       }
 
-  top-list : (t : Tree Mark) (list : List (Tree Mark)) → list ≡ t ∷ [] → (i : Option InnerVerdict) → ((k : InnerVerdict) → i ≡ Some k → k.place ≡ 0) → mend_kids i stamp (forest_of list) ≡ tree (mend_root i stamp t) no_trees
-  top-list t list e None p = ap forest_of e
-  top-list t list e (Some k) p = ap (λ l. mend_kids (Some k) stamp (forest_of l)) e ∙ ap (λ n. mend_kids (Some (record k { place = n })) stamp (tree t no_trees)) (p k refl)
-
-  top-place : (ts : List (Tree Mark)) → c.from ≤ c.to → c.to ≤ length ts → length (list_after c ts) ≡ 1 → (i : Option InnerVerdict) → IsInnerAcceptable g root c (in_place_of c.filling (between c.from c.to ts)) i → (k : InnerVerdict) → i ≡ Some k → k.place ≡ 0
-  top-place ts h l n None j k e = absurd cc
-  top-place ts h l n (Some i) j k e =
-      let b = j.2 in
-      let front = front-length ts c.from c.to h l in
-      let whole : length (take c.from ts ++ (in_place_of c.filling (between c.from c.to ts) ++ drop c.to ts)) ≡ 1 = n in
-      let many = length-append (take c.from ts) (in_place_of c.filling (between c.from c.to ts) ++ drop c.to ts) in
-      let some : length (in_place_of c.filling (between c.from c.to ts) ++ drop c.to ts) ≡ suc (length (drop c.to ts)) = ap (λ (l : List (Tree Mark)). length (l ++ drop c.to ts)) b.is_one in
-      let p : i.place ≡ c.from = j.1 in
-      let s : i ≡ k = cc in
-      let q : i.place ≡ 0 = omega arith in
-      ap (λ (m : InnerVerdict). m.place) (sym s) ∙ q
-
-  top-marked : (ts : List (Tree Mark)) → Made doc.mark [] c doc.root ts → AreAcceptable g root the_document ts c v inner → IsWellMarked g root (mend_doc [] v inner stamp (record doc { root = root_after [] c doc.root }))
+  top-marked : (ts : List (Tree Mark)) → Made doc.mark [] c doc.root ts → AreJudged g root the_document ts c v inner → IsWellMarked g root (mend_doc [] v inner stamp (record doc { root = root_after [] c doc.root }))
   top-marked ts d j =
       let k = top-kids d.owner in
-      let judged : AreAcceptable g root the_document (doc.root ∷ []) c v inner = rw (← k) j in
+      let judged : AreJudged g root the_document (doc.root ∷ []) c v inner = rw (← k) j in
       let one : length (list_after c (doc.root ∷ [])) ≡ 1 = rw (← k) (d.one refl) in
       let within : c.to ≤ length (doc.root ∷ []) = subst (λ l. c.to ≤ length l) k d.within in
       let t = first_tree doc.root (list_after c (doc.root ∷ [])) in
       let is = only doc.root (list_after c (doc.root ∷ [])) one in
-      let e = top-list t (list_after c (doc.root ∷ [])) is inner (top-place (doc.root ∷ []) d.order within one inner judged.within) in
+      let e = top-list stamp t (list_after c (doc.root ∷ [])) is inner (top-place g root c (doc.root ∷ []) d.order within one inner judged.within) in
       let m = list-marked g root c (doc.root ∷ []) inner stamp d.order within z judged.within (w.elements, tt) in
       let marked : EachListIn (TellsList g root) (tree (mend_root inner stamp t) no_trees) = subst (EachListIn (TellsList g root)) e m in
       record {
@@ -100,25 +100,25 @@ module _ (g : PlainDtd) (root : List ℕ) (doc : PlainDoc Mark) (w : IsWellMarke
         elements = marked.0;
       }
 
-bare-kids : (f : Filling Mark) → BringsBare f → HaveNoKids f
+pub bare-kids : (f : Filling Mark) → BringsBare f → HaveNoKids f
 bare-kids (others trees) b = b.0
 bare-kids (around name attrs ending mark) b = tt
 bare-kids own_kids b = tt
 bare-kids (named name) b = tt
 
-owner-list : {M : Type 0} {m : M} {list : List ℕ} {root : Tree M} {ts : List (Tree M)} {c : Change M} → Made m list c root ts → kids_at list root ≡ ts
+pub owner-list : {M : Type 0} {m : M} {list : List ℕ} {root : Tree M} {ts : List (Tree M)} {c : Change M} → Made m list c root ts → kids_at list root ≡ ts
 owner-list d = owner-kids d.owner
 
 after-marked : (g : PlainDtd) (root : List ℕ) (doc : PlainDoc Mark) (c : Change Mark) (v : Verdict) (i : Option InnerVerdict) (stamp : ℕ) → IsWellMarked g root doc → BringsBare c.filling → (list : List ℕ) (ts : List (Tree Mark)) → Made doc.mark list c doc.root ts →
-    AreAcceptable g root (owner_at list doc.root) (kids_at list doc.root) c v i → IsWellMarked g root (mend_doc list v i stamp (record doc { root = root_after list c doc.root }))
+    AreJudged g root (owner_at list doc.root) (kids_at list doc.root) c v i → IsWellMarked g root (mend_doc list v i stamp (record doc { root = root_after list c doc.root }))
 after-marked g root doc c v i stamp w b [] ts d j = top-marked g root doc w c (bare-kids c.filling b) v i stamp ts d (rw (owner-list d) at j)
 after-marked g root doc c v i stamp w b (zero ∷ path) ts d j = below-marked g root doc w c (bare-kids c.filling b) v i stamp path ts d (rw (owner-list d) at j)
 after-marked g root doc c v i stamp w b (suc k ∷ path) ts d j = let h = at_node d.owner.node in absurd cc
 
 pub mended-marked : MendedIsMarked
-mended-marked g root doc c v i stamp w can unshort b j l =
+mended-marked g root doc c v i stamp w can unshort b j =
     let d = can-made doc.mark c.list c doc.root can unshort in
-    after-marked g root doc c v i stamp w b c.list d.0 d.1 (acceptable g root (owner_at c.list doc.root) (kids_at c.list doc.root) c v i j l)
+    after-marked g root doc c v i stamp w b c.list d.0 d.1 j
 
 pub marks-tell : MarksTell
-marks-tell g root doc w = (doc-told g root doc w, doc-left g root doc w, doc-nodes g root doc w, doc-live g root doc w, doc-narrow g root doc w)
+marks-tell g root doc w = (doc-told g root doc w, doc-left g root doc w, doc-nodes g root doc w, doc-bad doc, doc-narrow g root doc w)

@@ -2,7 +2,7 @@
 use Rattle.std.proofs.Common.{List, [], ap, arith, append_assoc, append-nil, drop, refl, suc, subst, sym, zero, ℕ, ◌+◌, ◌++◌, ◌≤◌, ◌∙◌, ◌∷◌, ◌≡◌}
 use Rattle.std.specs.List.{AllByRecursion}
 use Rattle.pv_dtd.specs.Plain.{PlainDtd}
-use Rattle.pv_missing.specs.Verdicts.{AreVerdicts, IsLive, IsVerdict}
+use Rattle.pv_missing.specs.Verdicts.{AreVerdicts, IsVerdict}
 use Rattle.pv_missing.specs.Widths.{IsListForVerdict}
 use Rattle.pv_tree.specs.Heads.{head_of, heads_of}
 use Rattle.pv_tree.specs.Lists.{Listed, Owner, an_element, lists_at, lists_from, lists_of, the_document}
@@ -11,7 +11,7 @@ use Rattle.pv_tree.specs.Plain.{Forest, PlainDoc, Tree, cdata_node, element, map
 use Rattle.pv_tree.proofs.Every.{all_left, all_right}
 use Rattle.pv_tree.specs.declared.nodes.Mark.{Mark}
 use Rattle.pv_tree.specs.declared.nodes.Verdict.{Verdict}
-use Rattle.pv_cache.proofs.Acceptable.{IsAcceptable}
+use Rattle.pv_cache.specs.Changed.{IsJudged}
 use Rattle.pv_cache.specs.Laying.{lay_node, lay_kids, lay_doc, lists_in, lists_in_all, nth_verdict}
 use Rattle.pv_cache.specs.Stamps.{doc_as, stamps_of}
 use Rattle.pv_cache.specs.WellMarked.{EachList, EachListIn, IsWellMarked, TellsList}
@@ -38,47 +38,46 @@ first_from (w ∷ vs) rest zero v e = (cc, cc)
 first_from (w ∷ vs) rest (suc at) v e = first_from vs rest at v e
 
 module _ (g : PlainDtd) (root : List ℕ) (vs : List Verdict) where
-  live : (owner : Owner) (kids : Forest Mark) (v : Verdict) → IsVerdict g root (record { path = []; owner = owner; kids = kids }) v → IsLive g root (record { path = []; owner = owner; kids = kids }) →
-      IsListForVerdict g (record { path = []; owner = owner; kids = kids }) → IsAcceptable g root owner kids v
-  live owner kids v j l n = record { judged = j; live = λ e. (subst (IsVerdict g root (record { path = []; owner = owner; kids = kids })) e j) l; narrow = n }
+  judged : (owner : Owner) (kids : Forest Mark) (v : Verdict) → IsVerdict g root (record { path = []; owner = owner; kids = kids }) v → IsListForVerdict g (record { path = []; owner = owner; kids = kids }) → IsJudged g root owner kids v
+  judged owner kids v j n = record { judged = j; narrow = n }
 
   -- what is left of the verdicts behind a tree
   abbrev Behind : List (Listed Mark) → ℕ → Type 0
   Behind more at = AreVerdicts g root more (drop at vs)
 
   mutual
-    laid_marked : (path : List ℕ) (t : Tree Mark) (more : List (Listed Mark)) (at : ℕ) → Behind (lists_at path t ++ more) at → AllByRecursion (IsLive g root) (lists_at path t) → AllByRecursion (IsListForVerdict g) (lists_at path t) →
+    laid_marked : (path : List ℕ) (t : Tree Mark) (more : List (Listed Mark)) (at : ℕ) → Behind (lists_at path t ++ more) at → AllByRecursion (IsListForVerdict g) (lists_at path t) →
         EachList (TellsList g root) (lay_node vs at t) × Behind more (at + lists_in t)
-    laid_marked path (element x a e ks m) more at (v, rest, is, j, others) l n =
+    laid_marked path (element x a e ks m) more at (v, rest, is, j, others) n =
         let f = first_from vs rest at v is in
-        let k = all_laid_marked path 0 ks more (suc at) (subst (AreVerdicts g root (lists_from path 0 ks ++ more)) (sym f.1) others) l.1 n.1 in
-        let b : IsAcceptable g root (an_element x) ks (nth_verdict vs at) = live (an_element x) ks (nth_verdict vs at) (subst (IsVerdict g root (record { path = []; owner = an_element x; kids = ks })) (sym f.0) j) l.0 n.0 in
+        let k = all_laid_marked path 0 ks more (suc at) (subst (AreVerdicts g root (lists_from path 0 ks ++ more)) (sym f.1) others) n.1 in
+        let b : IsJudged g root (an_element x) ks (nth_verdict vs at) = judged (an_element x) ks (nth_verdict vs at) (subst (IsVerdict g root (record { path = []; owner = an_element x; kids = ks })) (sym f.0) j) n.0 in
         let number : suc at + lists_in_all ks ≡ at + lists_in (element x a e ks m) = omega arith in
         ((fresh-tells g root (an_element x) ks (lay_kids vs (suc at) ks) (nth_verdict vs at) 0 (laid_heads vs (suc at) ks) b, k.0), subst (Behind more) number k.1)
-    laid_marked path (text_node us) more at h l n = (tt, let number : at ≡ at + 0 = omega arith in subst (Behind more) number h)
-    laid_marked path (cdata_node b) more at h l n = (tt, let number : at ≡ at + 0 = omega arith in subst (Behind more) number h)
-    laid_marked path (misc_node b) more at h l n = (tt, let number : at ≡ at + 0 = omega arith in subst (Behind more) number h)
+    laid_marked path (text_node us) more at h n = (tt, let number : at ≡ at + 0 = omega arith in subst (Behind more) number h)
+    laid_marked path (cdata_node b) more at h n = (tt, let number : at ≡ at + 0 = omega arith in subst (Behind more) number h)
+    laid_marked path (misc_node b) more at h n = (tt, let number : at ≡ at + 0 = omega arith in subst (Behind more) number h)
 
-    all_laid_marked : (path : List ℕ) (i : ℕ) (kids : Forest Mark) (more : List (Listed Mark)) (at : ℕ) → Behind (lists_from path i kids ++ more) at → AllByRecursion (IsLive g root) (lists_from path i kids) →
+    all_laid_marked : (path : List ℕ) (i : ℕ) (kids : Forest Mark) (more : List (Listed Mark)) (at : ℕ) → Behind (lists_from path i kids ++ more) at →
         AllByRecursion (IsListForVerdict g) (lists_from path i kids) → EachListIn (TellsList g root) (lay_kids vs at kids) × Behind more (at + lists_in_all kids)
-    all_laid_marked path i no_trees more at h l n = (tt, let number : at ≡ at + 0 = omega arith in subst (Behind more) number h)
-    all_laid_marked path i (tree t rest) more at h l n =
+    all_laid_marked path i no_trees more at h n = (tt, let number : at ≡ at + 0 = omega arith in subst (Behind more) number h)
+    all_laid_marked path i (tree t rest) more at h n =
         let here = lists_at (path ++ i ∷ []) t in
         let behind = lists_from path (suc i) rest in
         let assoc : (here ++ behind) ++ more ≡ here ++ (behind ++ more) = append_assoc here behind more in
-        let a = laid_marked (path ++ i ∷ []) t (behind ++ more) at (subst (λ ls. Behind ls at) assoc h) (all_left (IsLive g root) here behind l) (all_left (IsListForVerdict g) here behind n) in
-        let b = all_laid_marked path (suc i) rest more (at + lists_in t) a.1 (all_right (IsLive g root) here behind l) (all_right (IsListForVerdict g) here behind n) in
+        let a = laid_marked (path ++ i ∷ []) t (behind ++ more) at (subst (λ ls. Behind ls at) assoc h) (all_left (IsListForVerdict g) here behind n) in
+        let b = all_laid_marked path (suc i) rest more (at + lists_in t) a.1 (all_right (IsListForVerdict g) here behind n) in
         let number : at + lists_in t + lists_in_all rest ≡ at + lists_in_all (tree t rest) = omega arith in
         ((a.0, b.0), subst (Behind more) number b.1)
 
-  pub doc_marked : (doc : PlainDoc Mark) → AreVerdicts g root (lists_of doc) vs → AllByRecursion (IsLive g root) (lists_of doc) → AllByRecursion (IsListForVerdict g) (lists_of doc) → IsWellMarked g root (lay_doc vs doc)
-  doc_marked doc (v, rest, is, j, others) l n =
+  pub doc_marked : (doc : PlainDoc Mark) → AreVerdicts g root (lists_of doc) vs → AllByRecursion (IsListForVerdict g) (lists_of doc) → IsWellMarked g root (lay_doc vs doc)
+  doc_marked doc (v, rest, is, j, others) n =
       let f = first_from vs rest 0 v is in
       let at_root = lists_at (0 ∷ []) doc.root in
       let h : Behind (at_root ++ []) 1 = subst (AreVerdicts g root (at_root ++ [])) (sym f.1) (subst (λ ls. AreVerdicts g root ls rest) (sym (append-nil at_root)) others) in
-      let k = laid_marked (0 ∷ []) doc.root [] 1 h l.1 n.1 in
+      let k = laid_marked (0 ∷ []) doc.root [] 1 h n.1 in
       let kids = tree doc.root no_trees in
-      let b : IsAcceptable g root the_document kids (nth_verdict vs 0) = live the_document kids (nth_verdict vs 0) (subst (IsVerdict g root (record { path = []; owner = the_document; kids = kids })) (sym f.0) j) l.0 n.0 in
+      let b : IsJudged g root the_document kids (nth_verdict vs 0) = judged the_document kids (nth_verdict vs 0) (subst (IsVerdict g root (record { path = []; owner = the_document; kids = kids })) (sym f.0) j) n.0 in
       record { document = fresh-tells g root the_document kids (tree (lay_node vs 1 doc.root) no_trees) (nth_verdict vs 0) 0 (ap (λ h. h ∷ []) (laid_head vs 1 doc.root)) b; elements = k.0 }
 
 -- ---- it is the same document, with stamps of 0

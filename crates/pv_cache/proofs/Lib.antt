@@ -5,7 +5,6 @@ pub mod Widths
 pub mod Alike
 pub mod OneRows
 -- of this crate:
-pub mod Acceptable
 pub mod Marking
 pub mod Around
 pub mod Telling
@@ -14,14 +13,16 @@ pub mod Docs
 pub mod Levels
 pub mod Unmarked
 pub mod Joining
-pub mod Impossible
-pub mod FirstAfter
 pub mod Found
 pub mod Tasks
 pub mod Ready
 pub mod ListPlaces
 pub mod Stamping
 pub mod Limits
+pub mod Counting
+pub mod FirstBad
+pub mod Accepts
+pub mod FirstChanged
 pub mod Grounds
 pub mod OneGround
 pub mod Laid

@@ -29,7 +29,7 @@ module _ {M : Type 0} where
   kid_changed f first = first
   kid_changed f (later q) = later (kid_changed f q)
 
-  node_changed : {path : List ℕ} {t u : Tree M} (f : Tree M → Tree M) → NodeAt path t u → NodeAt path (change_below path f t) (f u)
+  pub node_changed : {path : List ℕ} {t u : Tree M} (f : Tree M → Tree M) → NodeAt path t u → NodeAt path (change_below path f t) (f u)
   node_changed f here = here
   node_changed f (down {path = path} q n) = down (kid_changed (change_below path f) q) (node_changed f n)
 
@@ -55,17 +55,24 @@ module _ {M : Type 0} where
       by (Some u) n e = let is : u ≡ t = cc in ap (option_and_then list_of) n ∙ ap list_of is
   spot_list (suc i ∷ path) root t s = absurd cc
 
-  -- the list of an element that came alone stands below it
-  pub inner_stands : (m : M) (list : List ℕ) (c : Change M) (root : Tree M) (ts : List (Tree M)) → Made m list c root ts →
+  -- an element that came alone stands below it
+  pub came_stands : (m : M) (list : List ℕ) (c : Change M) (root : Tree M) (ts : List (Tree M)) → Made m list c root ts →
       (name attrs : List ℕ) (ending : Ending) (kids : Forest M) (mark : M) → in_place_of c.filling (between c.from c.to ts) ≡ element name attrs ending kids mark ∷ [] →
-      list_at (list ++ c.from ∷ []) (root_after list c root) ≡ Some (trees_of kids)
-  inner_stands m list c root ts d name attrs ending kids mark e =
+      spot_at (list ++ c.from ∷ []) (root_after list c root) ≡ Some (at_spot (element name attrs ending kids mark))
+  came_stands m list c root ts d name attrs ending kids mark e =
       let t = element name attrs ending kids mark in
       let is : list_after c ts ≡ take c.from ts ++ (t ∷ drop c.to ts) = ap (λ (l : List (Tree M)). take c.from ts ++ (l ++ drop c.to ts)) e in
       let at : slice_get (list_after c ts) c.from ≡ Some t =
       ap (λ (l : List (Tree M)). slice_get l c.from) is ∙ ap (slice_get (take c.from ts ++ (t ∷ drop c.to ts))) (sym (front-length ts c.from c.to d.order d.within)) ∙ get-middle (take c.from ts) (drop c.to ts) t in
       let kid : slice_get (kids_at list (root_after list c root)) c.from ≡ Some t = ap (λ o. slice_get (items_of o) c.from) (list_stands m list c root ts d) ∙ at in
-      spot_list (list ++ c.from ∷ []) (root_after list c root) t (spot-kid list c.from (root_after list c root) ∙ ap (option_map at_spot) kid)
+      spot-kid list c.from (root_after list c root) ∙ ap (option_map at_spot) kid
+
+  -- and its list
+  pub inner_stands : (m : M) (list : List ℕ) (c : Change M) (root : Tree M) (ts : List (Tree M)) → Made m list c root ts →
+      (name attrs : List ℕ) (ending : Ending) (kids : Forest M) (mark : M) → in_place_of c.filling (between c.from c.to ts) ≡ element name attrs ending kids mark ∷ [] →
+      list_at (list ++ c.from ∷ []) (root_after list c root) ≡ Some (trees_of kids)
+  inner_stands m list c root ts d name attrs ending kids mark e =
+      spot_list (list ++ c.from ∷ []) (root_after list c root) (element name attrs ending kids mark) (came_stands m list c root ts d name attrs ending kids mark e)
 
   -- ---- an element that came
   pub record IsOne (new : List (Tree M)) : Type 0 where
@@ -107,21 +114,21 @@ module _ {M : Type 0} where
   brought inner old b f e = absurd cc
   brought (named name) old b f e = named_one name old f
 
+-- the paths of the changed lists
+abbrev pub lists_by : {M : Type 0} → Change M → Bool → List (List ℕ)
+lists_by c true = c.list ∷ (c.list ++ c.from ∷ []) ∷ []
+lists_by c false = c.list ∷ []
+
+pub lists_are : {M : Type 0} (c : Change M) (b : Bool) → brings_element c.filling ≡ b → lists_by c b ≡ lists_changed c
+lists_are c true e = rw e refl
+lists_are c false e = rw e refl
+
 module _ (g : PlainDtd) (doc : PlainDoc Mark) (c : Change Mark) (bare : BringsBare c.filling) (ts : List (Tree Mark)) (d : Made doc.mark c.list c doc.root ts) where
   abbrev after : PlainDoc Mark
   after = doc_after c doc
 
   same_kids : kids_at c.list doc.root ≡ ts
   same_kids = owner-kids d.owner
-
-  -- the paths of the changed lists
-  abbrev lists_by : Bool → List (List ℕ)
-  lists_by true = c.list ∷ (c.list ++ c.from ∷ []) ∷ []
-  lists_by false = c.list ∷ []
-
-  lists_are : (b : Bool) → brings_element c.filling ≡ b → lists_by b ≡ lists_changed c
-  lists_are true e = rw e refl
-  lists_are false e = rw e refl
 
   -- narrow by what comes, and at its path
   outer_at : FitsVerdict g (length (word_of g (forest_of (list_after c ts)))) → IsNarrowAt g after c.list
@@ -149,13 +156,13 @@ module _ (g : PlainDtd) (doc : PlainDoc Mark) (c : Change Mark) (bare : BringsBa
         let w : FitsVerdict g (length (word_of g (forest_of (trees_of o.kids)))) = h (trees_of o.kids) stands in
         rw (forest-trees o.kids) at w
 
-  paths_by : (b : Bool) → brings_element c.filling ≡ b → AreNarrowAfter g c ts → AllByRecursion (IsNarrowAt g after) (lists_by b)
+  paths_by : (b : Bool) → brings_element c.filling ≡ b → AreNarrowAfter g c ts → AllByRecursion (IsNarrowAt g after) (lists_by c b)
   paths_by false e n = (outer_at n.outer, tt)
   paths_by true e n =
       let o = brought c.filling (between c.from c.to ts) bare d.fits e in
       (outer_at n.outer, (inner_at o (n.inner e o.name o.attrs o.ending o.kids o.mark o.is_one), tt))
 
-  by_paths : (b : Bool) → brings_element c.filling ≡ b → AllByRecursion (IsNarrowAt g after) (lists_by b) → AreNarrowAfter g c ts
+  by_paths : (b : Bool) → brings_element c.filling ≡ b → AllByRecursion (IsNarrowAt g after) (lists_by c b) → AreNarrowAfter g c ts
   by_paths false e n = record { outer = at_outer n.0; inner = λ y x a en ks m is. absurd (let z : false ≡ true = cc in cc) }
   by_paths true e n = record {
     outer = at_outer n.0;
@@ -163,7 +170,7 @@ module _ (g : PlainDtd) (doc : PlainDoc Mark) (c : Change Mark) (bare : BringsBa
   }
 
   pub narrow_paths : AreNarrowAfter g c (kids_at c.list doc.root) → AllByRecursion (IsNarrowAt g after) (lists_changed c)
-  narrow_paths n = subst (AllByRecursion (IsNarrowAt g after)) (lists_are (brings_element c.filling) refl) (paths_by (brings_element c.filling) refl (rw same_kids at n))
+  narrow_paths n = subst (AllByRecursion (IsNarrowAt g after)) (lists_are c (brings_element c.filling) refl) (paths_by (brings_element c.filling) refl (rw same_kids at n))
 
   pub paths_narrow : AllByRecursion (IsNarrowAt g after) (lists_changed c) → AreNarrowAfter g c (kids_at c.list doc.root)
-  paths_narrow n = rw same_kids (by_paths (brings_element c.filling) refl (subst (AllByRecursion (IsNarrowAt g after)) (sym (lists_are (brings_element c.filling) refl)) n))
+  paths_narrow n = rw same_kids (by_paths (brings_element c.filling) refl (subst (AllByRecursion (IsNarrowAt g after)) (sym (lists_are c (brings_element c.filling) refl)) n))

@@ -4,13 +4,11 @@ use Rattle.std.proofs.Math.Bridge.{le_prop}
 use Rattle.std.proofs.Math.Logic.{∥∥₁_elim, ∥∥₁_map, ∥∥₁_prop}
 use Rattle.std.proofs.lemmas.Bool.{ltb-false, ltb-true}
 use Rattle.std.proofs.lemmas.Result.{err_from_is_err_and}
-use Rattle.std.specs.Option.{MatchOption}
-use Rattle.std.specs.Prelude.{Err, IfErr, IfSome, IsNone, Result}
+use Rattle.std.specs.Prelude.{Err, IfErr, Result}
 use Rattle.std.specs.Result.{IsErr, IsErrAnd}
 use Rattle.std.specs.Coded.{Coded-set, Unit-prop, coded_ℕ, ×_prop}
 use Rattle.std.specs.List.{AllByRecursion}
 use Rattle.pv_dtd.specs.Plain.{PlainDtd}
-use Rattle.pv_dtd.specs.Proper.{IsProperDtd}
 use Rattle.pv_edit.specs.Brought.{BringsBare, lists_changed}
 use Rattle.pv_edit.specs.ChangedLists.{changed_lists, makes, undoes}
 use Rattle.pv_edit.specs.Changes.{Change, doc_after, root_after}
@@ -29,36 +27,30 @@ use Rattle.pv_edit.specs.declared.reasons.EditError.TheVariants as error
 use Rattle.pv_edit.specs.declared.inverses.Inverse.{Inverse}
 use Rattle.pv_edit.proofs.KeptBack.{can-made}
 use Rattle.pv_edit.proofs.RemarkedReasons.{inverse-as}
-use Rattle.pv_missing.specs.DocumentLaws.{IsPotentiallyValidByLists}
-use Rattle.pv_missing.specs.Verdicts.{HaveVerdicts, IsFirstImpossible, IsLive, PlainVerdicts}
+use Rattle.pv_missing.specs.Verdicts.{is_impossible, is_possible}
 use Rattle.pv_missing.specs.Widths.{IsListForVerdict}
 use Rattle.pv_tree.specs.Lists.{lists_of}
 use Rattle.pv_tree.specs.Marks.{blank_mark, unmarked_doc}
 use Rattle.pv_tree.specs.Plain.{PlainDoc, nodes_in}
 use Rattle.pv_tree.specs.declared.nodes.Mark.{Mark}
 use Rattle.pv_tree.specs.declared.nodes.Verdict.{Verdict}
-use Rattle.pv_tree.specs.declared.nodes.Verdict.TheVariants as verdict
-use Rattle.pv_cache.specs.Accepting.{IsAccepted, IsGuarded, IsHoldable, MAX_EDITED_NODES}
-use Rattle.pv_cache.specs.Changed.{AreJudged, AreLive, owner_at}
+use Rattle.pv_cache.specs.Accepting.{IsAccepted, IsHoldable, MAX_EDITED_NODES}
+use Rattle.pv_cache.specs.BadLists.{bad_gained, bad_lost}
+use Rattle.pv_cache.specs.Changed.{AreJudged, owner_at}
 use Rattle.pv_cache.specs.Changing.{AreNarrowAfter, IsUnaccepted}
-use Rattle.pv_cache.specs.Mending.{mend_doc}
 use Rattle.pv_cache.specs.declared.mending.InnerVerdict.{InnerVerdict}
 use Rattle.pv_cache.specs.declared.moving.JudgedEdit.{JudgedEdit}
-use Rattle.pv_cache.proofs.Ready.{ready-marked}
-use Rattle.pv_cache.proofs.Tasks.{judged-live}
-use Rattle.pv_cache.specs.Moves.{HasGround, HasOpen, IsEdited, IsReverted}
+use Rattle.pv_cache.specs.Moves.{HasBad, HasGround, HasOpen, IsEdited, IsReverted}
 use Rattle.pv_cache.specs.Stamps.{doc_as, stamp_of, stamp_lists, stamped_doc_of, stamps_of}
-use Rattle.pv_cache.specs.WellMarked.{IsWellMarked}
-use Rattle.pv_cache.proofs.Alike.{accepted_as, ground_as, guarded_alike, open_to, reverted_as, unmarked_as}
-use Rattle.pv_cache.proofs.Grounds.{is_accepted, is_given, kept_proper, many_ground, marked_guarded, marked_open, refused_ground}
+use Rattle.pv_cache.specs.WellMarked.{IsWellMarked, told_bad}
+use Rattle.pv_cache.proofs.Alike.{accepted_as, count_to, ground_as, holdable_alike, reverted_as, unmarked_as}
+use Rattle.pv_cache.proofs.Grounds.{is_accepted, is_given, many_ground, marked_bad, marked_holdable, marked_open, refused_ground}
 use Rattle.pv_cache.proofs.Limits.{paths_narrow}
-use Rattle.pv_cache.proofs.OtherMarks.{nodes_unmarked}
 use Rattle.pv_cache.proofs.Telling.{doc-nodes}
-use Rattle.pv_cache.proofs.Unmarked.{doc-as, still-kept}
 use Rattle.pv_cache.proofs.Widths.{narrow_at_all}
 use Rattle.pv_edit.specs.declared.answers.Done.{Done}
 
--- ---- whether a document is guarded is a proposition
+-- ---- whether a document can be held is a proposition
 all_prop : {A : Type 0} (P : A → Type 0) → ((x : A) → IsProp (P x)) → (xs : List A) → IsProp (AllByRecursion P xs)
 all_prop P p [] = Unit-prop
 all_prop P p (x ∷ xs) = ×_prop (p x) (all_prop P p xs)
@@ -69,35 +61,24 @@ holdable_prop g doc = λ x y.
     let f = le_prop x.few y.few in
     ap (λ q. record { narrow = q; few = x.few }) n ∙ ap (λ q. record { narrow = y.narrow; few = q }) f
 
-pub guarded_prop : {M : Type 0} (g : PlainDtd) (root : List ℕ) (doc : PlainDoc M) → IsProp (IsGuarded g root doc)
-guarded_prop g root doc = λ x y.
-    let p = ∥∥₁_prop x.possible y.possible in
-    let h = holdable_prop g doc x.holdable y.holdable in
-    ap (λ q. record { possible = q; holdable = x.holdable }) p ∙ ap (λ q. record { possible = y.possible; holdable = q }) h
-
 module _ (g : PlainDtd) (root : List ℕ) where
   -- ---- a well marked document
   pub told_nodes : (doc : PlainDoc Mark) → ∥ IsWellMarked g root doc ∥₁ → doc.mark.nodes ≡ nodes_in doc.root
   told_nodes doc w = ∥∥₁_elim w (Coded-set coded_ℕ doc.mark.nodes (nodes_in doc.root)) (doc-nodes g root doc)
 
-  pub guarded_of : (doc : PlainDoc Mark) → IsPotentiallyValidByLists Mark → IsProperDtd g → IsKept doc.root → nodes_in doc.root ≤ MAX_EDITED_NODES → ∥ IsWellMarked g root doc ∥₁ → IsGuarded g root doc
-  guarded_of doc by p k few w = ∥∥₁_elim (marked_guarded g root doc by p (kept_proper doc k) few w) (guarded_prop g root doc) (λ x. x)
-
-  -- where there is no first impossible list, all are live
-  pub all_live : (doc : PlainDoc Mark) (vs : PlainVerdicts) → HaveVerdicts g root (lists_of doc) vs → IsNone vs.first → AllByRecursion (IsLive g root) (lists_of doc)
-  all_live doc vs h n = by vs.first h.is_first n
-    where
-      by : (o : Option (List ℕ)) → MatchOption o (AllByRecursion (IsLive g root) (lists_of doc)) (IsFirstImpossible g root (lists_of doc)) → IsNone o → AllByRecursion (IsLive g root) (lists_of doc)
-      by None h n = h
-      by (Some path) h n = absurd cc
+  pub holdable_of : (doc : PlainDoc Mark) → nodes_in doc.root ≤ MAX_EDITED_NODES → ∥ IsWellMarked g root doc ∥₁ → IsHoldable g doc
+  holdable_of doc few w = ∥∥₁_elim (marked_holdable g root doc few w) (holdable_prop g doc) (λ x. x)
 
   pub open_stamps : (doc : PlainDoc Mark) → ∥ IsWellMarked g root doc ∥₁ → HasOpen (stamped_doc_of g root doc) doc.mark.left
-  open_stamps doc w = ∥∥₁_map (marked_open g root doc w) (open_to stamp_of doc g root doc.mark.left)
+  open_stamps doc w = ∥∥₁_map (marked_open g root doc w) (count_to stamp_of doc g root is_possible doc.mark.left)
+
+  pub bad_stamps : (doc : PlainDoc Mark) → ∥ IsWellMarked g root doc ∥₁ → HasBad (stamped_doc_of g root doc) (told_bad doc)
+  bad_stamps doc w = ∥∥₁_map (marked_bad g root doc w) (count_to stamp_of doc g root is_impossible (told_bad doc))
 
   -- ---- an edit
   module _ (old : PlainDoc Mark) (edit : Edit) (given : reason_of blank_mark old.root edit ≡ None) (lists : EditsChangeLists Mark) where
     abbrev Ready : Change Mark → Type 0
-    Ready ch = CanChange ch.list ch old.root × (is_top ch.list ≡ true → ch.shorten ≡ false) × BringsBare ch.filling × IsKept (root_after ch.list ch old.root)
+    Ready ch = CanChange ch.list ch old.root × (is_top ch.list ≡ true → ch.shorten ≡ false) × BringsBare ch.filling
 
     abbrev c : Change Mark
     c = change_of blank_mark old.root edit
@@ -120,17 +101,18 @@ module _ (g : PlainDtd) (root : List ℕ) where
     -- an edit that is made
     abbrev Makes : Change Mark → Type 0
     Makes ch = (new : PlainDoc Mark) → ∥ IsWellMarked g root new ∥₁ → (stamp : ℕ) → stamps_of new ≡ stamp_lists stamp (lists_changed ch) (stamps_of (doc_after ch old)) →
-        (done : Done) → done.checked ≡ length (lists_changed ch) → done.left ≡ new.mark.left → (inverse : Inverse) → inverse ≡ inverse_of old.root edit →
+        (done : Done) → done.checked ≡ length (lists_changed ch) → done.left ≡ new.mark.left → done.bad ≡ told_bad new → (inverse : Inverse) → inverse ≡ inverse_of old.root edit →
         IsEdited (stamped_doc_of g root old) edit stamp done inverse (stamped_doc_of g root new)
 
     module _ (accepted : IsAccepted 0 g root (stamps_of old) edit (stamps_of (doc_after c old))) where
       made_here : Makes c
-      made_here new w stamp stamps done checked left inverse is = record {
+      made_here new w stamp stamps done checked left bad inverse is = record {
         edited = stamps_of (doc_after c old);
         accepted = accepted;
         is_after = ap (λ (d : PlainDoc ℕ). record { dtd = g; root = root; doc = d }) (stamps ∙ ap (λ ls. stamp_lists stamp ls (stamps_of (doc_after c old))) same_lists);
         is_checked = checked ∙ ap length same_lists;
         is_left = subst (HasOpen (stamped_doc_of g root new)) (sym left) (open_stamps new w);
+        is_bad = subst (HasBad (stamped_doc_of g root new)) (sym bad) (bad_stamps new w);
         is_inverse = is ∙ sym (inverse-as stamp_of old.root edit);
       }
 
@@ -141,71 +123,41 @@ module _ (g : PlainDtd) (root : List ℕ) where
     abbrev Refuses : Change Mark → Type 0
     Refuses ch = (a : EditAnswer) → IsUnaccepted g root old ch a → HasGround 0 g root (stamps_of old) edit a
 
-    module _ (by : IsPotentiallyValidByLists Mark) (p : IsProperDtd g) (few : nodes_in (doc_after c old).root ≤ MAX_EDITED_NODES) where
-      pub few_new : (ch : Change Mark) → ch ≡ c → (new : PlainDoc Mark) → unmarked_doc new ≡ unmarked_doc (doc_after ch old) → nodes_in new.root ≤ MAX_EDITED_NODES
-      few_new ch e new same =
-          let s : unmarked_doc new ≡ unmarked_doc (doc_after c old) = same ∙ ap (λ (d : Change Mark). unmarked_doc (doc_after d old)) e in
-          let n = ap (λ (d : PlainDoc Unit). nodes_in d.root) s in
-          let a = nodes_unmarked new.root in
-          let b = nodes_unmarked (doc_after c old).root in
-          omega arith
-
-      -- it is accepted where none of the changed lists is Impossible
+    module _ (few : nodes_in (doc_after c old).root ≤ MAX_EDITED_NODES) (w : ∥ IsWellMarked g root old ∥₁) where
+      -- it is accepted where no more of the changed lists are Impossible than before
       abbrev Accepts : Change Mark → Type 0
-      Accepts ch = (v : Verdict) (within : Option InnerVerdict) → AreJudged g root (owner_at ch.list old.root) (kids_at ch.list old.root) ch v within → AreLive v within → IsAccepted 0 g root (stamps_of old) edit (stamps_of (doc_after c old))
+      Accepts ch = (v : Verdict) (within : Option InnerVerdict) → AreJudged g root (owner_at ch.list old.root) (kids_at ch.list old.root) ch v within → bad_gained v within ≤ bad_lost ch old →
+          IsAccepted 0 g root (stamps_of old) edit (stamps_of (doc_after c old))
 
-      accepted_here : ∥ IsWellMarked g root old ∥₁ → Ready c → Accepts c
-      accepted_here w (can, unshort, bare, kept) v i j l =
-          let new = mend_doc c.list v i 0 (doc_after c old) in
-          let marked = ready-marked g root old c v i 0 can unshort bare j l w in
-          let same : unmarked_doc new ≡ unmarked_doc (doc_after c old) = doc-as c.list v i 0 (doc_after c old) in
-          let still = still-kept (doc_after c old).root new.root (ap (λ (d : PlainDoc Unit). d.root) same) kept in
-          let guarded = guarded_of new by p still (few_new c refl new same) marked in
-          accepted_as stamp_of blank_mark g root old edit (doc_after c old)
-          (is_accepted g root old edit given same_lists can unshort bare few (guarded_alike g root new (doc_after c old) same guarded))
+      accepted_here : Ready c → Accepts c
+      accepted_here (can, unshort, bare) v i j n = accepted_as stamp_of blank_mark g root old edit (doc_after c old) (is_accepted g root old edit given same_lists can unshort bare few v i j n w)
 
-      pub edit_accepted : ∥ IsWellMarked g root old ∥₁ → (ch : Change Mark) → ch ≡ c → Ready ch → Accepts ch
-      edit_accepted w ch e r = subst Accepts (sym e) (accepted_here w (subst Ready e r))
+      pub edit_accepted : (ch : Change Mark) → ch ≡ c → Ready ch → Accepts ch
+      edit_accepted ch e r = subst Accepts (sym e) (accepted_here (subst Ready e r))
 
-      refused_here : ∥ IsWellMarked g root old ∥₁ → Ready c → Refuses c
-      refused_here w (can, unshort, bare, kept) a u = ground_as stamp_of blank_mark g root old edit a (refused_ground g root old edit given same_lists can unshort bare few by p kept w a u)
+      refused_here : Ready c → Refuses c
+      refused_here (can, unshort, bare) a u = ground_as stamp_of blank_mark g root old edit a (refused_ground g root old edit given same_lists can unshort bare few w a u)
 
-      pub edit_refused : ∥ IsWellMarked g root old ∥₁ → (ch : Change Mark) → ch ≡ c → Ready ch → Refuses ch
-      edit_refused w ch e r = subst Refuses (sym e) (refused_here w (subst Ready e r))
+      pub edit_refused : (ch : Change Mark) → ch ≡ c → Ready ch → Refuses ch
+      edit_refused ch e r = subst Refuses (sym e) (refused_here (subst Ready e r))
 
   -- ---- an inverse
   module _ (old : PlainDoc Mark) (inverse : Inverse) (before : PlainDoc Unit) (l : LeadsBack inverse old before) (one : LeadsToOne Mark) (ch : Change Mark) (e : ch ≡ change_back blank_mark old.root inverse) where
     is_before : unmarked_doc (doc_after ch old) ≡ before
     is_before = ap (λ (d : Change Mark). unmarked_doc (doc_after d old)) e ∙ sym (reverted_as (λ _. tt) blank_mark old inverse) ∙ one inverse old before l
 
-    -- where that document can be held, and inserting elements can make it valid
-    module _ (guarded : IsGuarded g root before) where
-      guarded_back : IsGuarded g root (doc_after ch old)
-      guarded_back = guarded_alike g root before (doc_after ch old) (ap unmarked_doc (sym is_before) ∙ unmarked_as (λ _. tt) (doc_after ch old)) guarded
+    -- where that document can be held
+    module _ (holdable : IsHoldable g before) where
+      holdable_back : IsHoldable g (doc_after ch old)
+      holdable_back = holdable_alike g root before (doc_after ch old) (ap unmarked_doc (sym is_before) ∙ unmarked_as (λ _. tt) (doc_after ch old)) holdable
 
       pub back_few : nodes_in (doc_after ch old).root ≤ MAX_EDITED_NODES
-      back_few = guarded_back.holdable.few
+      back_few = holdable_back.few
 
-      module _ (can : CanChange ch.list ch old.root) (unshort : is_top ch.list ≡ true → ch.shorten ≡ false) where
-        pub back_narrow : BringsBare ch.filling → AreNarrowAfter g ch (kids_at ch.list old.root)
-        back_narrow bare =
-            let d = can-made old.mark ch.list ch old.root can unshort in
-            paths_narrow g old ch bare d.0 d.1 (narrow_at_all g (doc_after ch old) guarded_back.holdable.narrow (lists_changed ch))
-
-        module _ (by : IsPotentiallyValidByLists Mark) (p : IsProperDtd g) (k : IsKept (root_after ch.list ch old.root)) (w : ∥ IsWellMarked g root old ∥₁) (v : Verdict) (within : Option InnerVerdict)
-            (j : AreJudged g root (owner_at ch.list old.root) (kids_at ch.list old.root) ch v within) where
-          surely_live : (AreLive v within → ⊥) → ⊥
-          surely_live n =
-              ∥∥₁_elim w (λ x. absurd x)
-              (λ m. ∥∥₁_elim guarded_back.possible (λ x. absurd x) (λ valid. n (judged-live g root old ch can unshort v within j m ((by g root (doc_after ch old) p (kept_proper (doc_after ch old) k)).0 valid))))
-
-          -- none of the changed lists is Impossible
-          pub back_live : AreLive v within
-          back_live = record { outer = λ e. surely_live (λ live. live.outer e); inner = inside within (λ n. surely_live (λ live. n live.inner)) }
-            where
-              inside : (o : Option InnerVerdict) → ((IfSome o (λ i. i.verdict ≡ verdict.Impossible → ⊥) → ⊥) → ⊥) → IfSome o (λ i. i.verdict ≡ verdict.Impossible → ⊥)
-              inside None h = tt
-              inside (Some i) h = λ e. h (λ live. live e)
+      pub back_narrow : CanChange ch.list ch old.root → (is_top ch.list ≡ true → ch.shorten ≡ false) → BringsBare ch.filling → AreNarrowAfter g ch (kids_at ch.list old.root)
+      back_narrow can unshort bare =
+          let d = can-made old.mark ch.list ch old.root can unshort in
+          paths_narrow g old ch bare d.0 d.1 (narrow_at_all g (doc_after ch old) holdable_back.narrow (lists_changed ch))
 
     -- the change that is made
     module _ (undone : InversesChangeLists Mark) (stamp : ℕ) where
@@ -218,14 +170,15 @@ module _ (g : PlainDtd) (root : List ℕ) where
       same_stamps = ap (λ (d : Change Mark). stamps_of (doc_after d old)) e ∙ sym (reverted_as stamp_of blank_mark old inverse)
 
       pub back_made : (new : PlainDoc Mark) → ∥ IsWellMarked g root new ∥₁ → unmarked_doc new ≡ unmarked_doc (doc_after ch old) → stamps_of new ≡ stamp_lists stamp (lists_changed ch) (stamps_of (doc_after ch old)) →
-          (done : Done) → done.checked ≡ length (lists_changed ch) → done.left ≡ new.mark.left → IsReverted (stamped_doc_of g root old) inverse l.edit before stamp done (stamped_doc_of g root new)
-      back_made new w made stamps done checked left = record {
+          (done : Done) → done.checked ≡ length (lists_changed ch) → done.left ≡ new.mark.left → done.bad ≡ told_bad new → IsReverted (stamped_doc_of g root old) inverse l.edit before stamp done (stamped_doc_of g root new)
+      back_made new w made stamps done checked left bad = record {
         led = unmarked_as stamp_of new ∙ made ∙ is_before;
         is_after =
             ap (λ (d : PlainDoc ℕ). record { dtd = g; root = root; doc = d })
             (stamps ∙ ap (λ ls. stamp_lists stamp ls (stamps_of (doc_after ch old))) same_undone ∙ ap (stamp_lists stamp (changed_lists (undoes l.edit))) same_stamps);
         is_checked = checked ∙ ap length same_undone;
         is_left = subst (HasOpen (stamped_doc_of g root new)) (sym left) (open_stamps new w);
+        is_bad = subst (HasBad (stamped_doc_of g root new)) (sym bad) (bad_stamps new w);
       }
 
   -- ---- an edit that can't be made

@@ -1,14 +1,15 @@
--- The rows of a document are one list, and the number of its Possible lists is one number.
+-- The rows of a document are one list, and the numbers of its Possible and its Impossible lists are
+-- one number each.
 use Rattle.std.proofs.Common.{List, [], ap, map, refl, subst, sym, ℕ, ◌∙◌, ◌∷◌, ◌≡◌}
 use Rattle.std.proofs.Math.Logic.{∥∥₁_elim}
 use Rattle.std.specs.Coded.{Coded-set, coded_list, coded_ℕ}
 use Rattle.pv_edit.specs.declared.answers.VerdictRow.{VerdictRow}
-use Rattle.pv_missing.specs.Verdicts.{HavePossible, possible_in}
+use Rattle.pv_missing.specs.Verdicts.{is_impossible, is_possible}
+use Rattle.pv_missing.proofs.Counts.{one_count_of_lists}
 use Rattle.pv_missing.proofs.VerdictLists.{one_list_of_verdicts}
-use Rattle.pv_tree.specs.Lists.{Listed, lists_of}
+use Rattle.pv_tree.specs.Lists.{lists_of}
 use Rattle.pv_tree.specs.contracts.nodes.Verdict as verdict
-use Rattle.pv_dtd.specs.Plain.{PlainDtd}
-use Rattle.pv_cache.specs.Moves.{HasOpen}
+use Rattle.pv_cache.specs.Moves.{HasBad, HasOpen}
 use Rattle.pv_cache.specs.Rows.{AreRows, row_path, row_stamp, row_verdict}
 use Rattle.pv_cache.specs.Stamps.{StampedDoc}
 
@@ -37,12 +38,12 @@ one_rows s rows other a b =
     ∥∥₁_elim a.verdicts set (λ x. ∥∥₁_elim b.verdicts set (λ y. one_list_of_verdicts ℕ s.dtd s.root (lists_of s.doc) (map row_verdict rows) (map row_verdict other) x y)) in
     same_rows rows other (a.paths ∙ sym b.paths) same (a.stamps ∙ sym b.stamps)
 
-one_number : (g : PlainDtd) (root : List ℕ) (lists : List (Listed ℕ)) (m n : ℕ) → HavePossible g root lists m → HavePossible g root lists n → m ≡ n
-one_number g root lists m n a b =
-    let e = ap possible_in (one_list_of_verdicts ℕ g root lists a.verdicts b.verdicts a.are_verdicts b.are_verdicts) in
-    a.count ∙ e ∙ sym b.count
-
 pub one_open : (s t : StampedDoc) (m n : ℕ) → s ≡ t → HasOpen s m → HasOpen t n → m ≡ n
 one_open s t m n e a b =
     let c : HasOpen t m = subst (λ (u : StampedDoc). HasOpen u m) e a in
-    ∥∥₁_elim c (Coded-set coded_ℕ m n) (λ x. ∥∥₁_elim b (Coded-set coded_ℕ m n) (λ y. one_number t.dtd t.root (lists_of t.doc) m n x y))
+    ∥∥₁_elim c (Coded-set coded_ℕ m n) (λ x. ∥∥₁_elim b (Coded-set coded_ℕ m n) (λ y. one_count_of_lists ℕ is_possible t.dtd t.root (lists_of t.doc) m n x y))
+
+pub one_bad : (s t : StampedDoc) (m n : ℕ) → s ≡ t → HasBad s m → HasBad t n → m ≡ n
+one_bad s t m n e a b =
+    let c : HasBad t m = subst (λ (u : StampedDoc). HasBad u m) e a in
+    ∥∥₁_elim c (Coded-set coded_ℕ m n) (λ x. ∥∥₁_elim b (Coded-set coded_ℕ m n) (λ y. one_count_of_lists ℕ is_impossible t.dtd t.root (lists_of t.doc) m n x y))

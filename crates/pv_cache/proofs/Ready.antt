@@ -22,7 +22,7 @@ use Rattle.pv_tree.specs.Plain.{PlainDoc, Tree, cdata_node, element, is_element,
 use Rattle.pv_tree.proofs.Levels.{trees-forest}
 use Rattle.pv_tree.specs.declared.nodes.Mark.{Mark}
 use Rattle.pv_tree.specs.declared.nodes.Verdict.{Verdict}
-use Rattle.pv_cache.specs.Changed.{AreJudged, AreLive, IsInnerJudged, owner_at}
+use Rattle.pv_cache.specs.Changed.{AreJudged, IsInnerJudged, owner_at}
 use Rattle.pv_cache.specs.Mending.{CanMend, CanMendDoc, HasElement, IsDocCounted, mend_doc}
 use Rattle.pv_cache.specs.WellMarked.{IsWellMarked, told_left, told_left_in, told_nodes, told_nodes_in}
 use Rattle.pv_cache.specs.declared.mending.InnerVerdict.{InnerVerdict}
@@ -106,14 +106,14 @@ module _ (g : PlainDtd) (root : List ℕ) where
     can-by w (suc k ∷ path) ts d j = let h = at_node d.owner.node in absurd cc
 
     module _ (can : CanChange c.list c doc.root) (unshort : is_top c.list ≡ true → c.shorten ≡ false) (bare : BringsBare c.filling)
-        (j : AreJudged g root (owner_at c.list doc.root) (kids_at c.list doc.root) c v inner) (l : AreLive v inner) where
+        (j : AreJudged g root (owner_at c.list doc.root) (kids_at c.list doc.root) c v inner) where
       pub ready-can : ∥ IsWellMarked g root doc ∥₁ → CanMendDoc inner c.list (doc_after c doc)
       ready-can m = ∥∥₁_elim m (doc-prop inner c.list (doc_after c doc)) (λ w.
           let d = can-made doc.mark c.list c doc.root can unshort in
           can-by w c.list d.0 d.1 (subst (λ (ts : List (Tree Mark)). IsInnerJudged g root c (in_place_of c.filling (between c.from c.to ts)) inner) (owner-kids d.1.owner) j.within))
 
       pub ready-marked : ∥ IsWellMarked g root doc ∥₁ → ∥ IsWellMarked g root (mend_doc c.list v inner stamp (doc_after c doc)) ∥₁
-      ready-marked m = ∥∥₁_map m (λ w. mended-marked g root doc c v inner stamp w can unshort bare j l)
+      ready-marked m = ∥∥₁_map m (λ w. mended-marked g root doc c v inner stamp w can unshort bare j)
 
       abbrev pub new : PlainDoc Mark
       new = mend_doc c.list v inner stamp (doc_after c doc)

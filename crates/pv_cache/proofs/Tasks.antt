@@ -9,14 +9,13 @@ use Rattle.pv_edit.specs.Changes.{Change, doc_after, in_place_of, list_after}
 use Rattle.pv_edit.specs.Fitting.{CanChange, Suits}
 use Rattle.pv_edit.specs.Reasons.{is_given, is_top, kids_at, lacks_list}
 use Rattle.pv_edit.proofs.KeptBack.{can-made}
+use Rattle.pv_edit.proofs.Levels.{forest-trees}
 use Rattle.pv_edit.proofs.Standing.{KidAt, NodeAt, at_node, down, first, here, later}
 use Rattle.pv_edit.proofs.Whole.{Made, list-whole, owner-kids}
 use Rattle.pv_edit.specs.declared.answers.EditAnswer.TheVariants.{Impossible}
-use Rattle.pv_missing.specs.Verdicts.{IsFirstImpossible, IsLive, IsLiveBy}
 use Rattle.pv_missing.specs.Weighing.{site_of}
 use Rattle.pv_missing.specs.Widths.{FitsVerdict}
 use Rattle.pv_missing.specs.WordVerdicts.{HoldsOne}
-use Rattle.pv_missing.proofs.VerdictLists.{live_of}
 use Rattle.pv_model.specs.PlainForms.{plain_token}
 use Rattle.pv_rules.specs.Sites.{PlainSite}
 use Rattle.pv_tree.specs.Lists.{an_element, lists_of}
@@ -27,21 +26,18 @@ use Rattle.pv_tree.specs.Plain.{Ending, Forest, PlainDoc, Tree, cdata_node, elem
 use Rattle.pv_tree.specs.Words.{word_of}
 use Rattle.pv_tree.specs.declared.nodes.Mark.{Mark}
 use Rattle.pv_tree.specs.declared.nodes.Verdict.{Verdict}
-use Rattle.pv_tree.specs.declared.nodes.Verdict.TheVariants as verdict
-use Rattle.pv_cache.specs.Changed.{AreJudged, AreLive, IsFirstAmong, IsInnerJudged, inner_first, outer_first, owner_at}
+use Rattle.pv_cache.specs.BadLists.{bad_gained, bad_lost}
+use Rattle.pv_cache.specs.Changed.{AreJudged, IsFirstAmong, IsInnerJudged, owner_at}
 use Rattle.pv_cache.specs.Changing.{AreNarrowAfter, IsUnaccepted}
 use Rattle.pv_cache.specs.Judging.{AreFound, AreNarrow, AreWords, IsInnerWord, IsWordOf}
-use Rattle.pv_cache.specs.WellMarked.{IsWellMarked}
 use Rattle.pv_cache.specs.declared.mending.ChangedVerdicts.{ChangedVerdicts}
 use Rattle.pv_cache.specs.declared.mending.InnerVerdict.{InnerVerdict}
 use Rattle.pv_cache.specs.declared.words.InnerWord.{InnerWord}
 use Rattle.pv_cache.specs.declared.words.ListWord.{ListWord}
 use Rattle.pv_cache.specs.declared.words.Words.{Words}
 use Rattle.pv_cache.proofs.Found.{found-judged}
-use Rattle.pv_cache.proofs.Grounds.{none_first}
 use Rattle.pv_reach.specs.declared.errors.ReachError.{ReachError}
 use Rattle.pv_reach.specs.declared.errors.ReachError.TheVariants as reach
-use Rattle.pv_cache.proofs.FirstAfter.{inner-is-first, outer-is-first}
 
 one-tree : {M : Type 0} (ts : List (Tree M)) → length ts ≡ 1 → (t : Tree M) × (forest_of ts ≡ tree t no_trees)
 one-tree [] n = absurd (omega arith)
@@ -93,6 +89,15 @@ module _ (root : Tree Mark) (c : Change Mark) (can : CanChange c.list c root) (u
       let w = made.1.within in
       omega arith
 
+  -- its nodes are among those of the document
+  pub task-few : nodes_in_all (forest_of (kids_at c.list root)) ≤ nodes_in root
+  task-few =
+      let o = made.1.owner in
+      let a = node-few o.node in
+      let e : nodes_in_all (forest_of made.0) ≡ nodes_in_all o.kids = ap (λ (ts : List (Tree Mark)). nodes_in_all (forest_of ts)) (sym o.are) ∙ ap nodes_in_all (forest-trees o.kids) in
+      let k = ap (λ (ts : List (Tree Mark)). nodes_in_all (forest_of ts)) their-kids in
+      omega arith
+
   pub task-list : lacks_list c.list root ≡ false
   task-list = ap (λ (o : Option (List (Tree Mark))). not (is_given o)) (list-whole m c.list root ∙ ap (option_and_then list_of) (at_node made.1.owner.node))
 
@@ -121,47 +126,13 @@ module _ (g : PlainDtd) (root : List ℕ) where
     abbrev new : List (Tree Mark)
     new = in_place_of c.filling (between c.from c.to (kids_at c.list doc.root))
 
-    abbrev IsOuterLive : Type 0
-    IsOuterLive = IsLiveBy g root (owner_at c.list doc.root) (forest_of (list_after c (kids_at c.list doc.root)))
-
     -- none of the lists is too wide
     pub judged-narrow : AreNarrowAfter g c (kids_at c.list doc.root)
     judged-narrow = record { outer = j.outer.narrow; inner = judged-inside c new inner j.within }
 
-    outer-live : (v ≡ verdict.Impossible → ⊥) → IsOuterLive
-    outer-live n = live_of g root (record { path = []; owner = owner_at c.list doc.root; kids = forest_of (list_after c (kids_at c.list doc.root)) }) v n j.outer.judged
-
-    outer-not : v ≡ verdict.Impossible → IsOuterLive → ⊥
-    outer-not e = rw e at j.outer.judged
-
-    outer-path : IsWellMarked g root doc → v ≡ verdict.Impossible → IsFirstImpossible g root (lists_of (doc_after c doc)) c.list
-    outer-path m e = outer-is-first g root doc c m can unshort (outer-not e)
-
-    inner-path : IsWellMarked g root doc → (v ≡ verdict.Impossible → ⊥) → (i : InnerVerdict) → IsInnerJudged g root c new (Some i) → i.verdict ≡ verdict.Impossible → IsFirstImpossible g root (lists_of (doc_after c doc)) (c.list ++ c.from ∷ [])
-    inner-path m n i (b, p, o) e =
-        let not : IsLiveBy g root (an_element o.name) o.kids → ⊥ = rw e at o.list.judged in
-        inner-is-first g root doc c m can unshort o.name o.attrs o.ending o.kids o.mark o.is_one (outer-live n) not
-
-    named-inner : (i : InnerVerdict) → inner ≡ Some i → IsInnerJudged g root c new (Some i)
-    named-inner i e = subst (IsInnerJudged g root c new) e j.within
-
-    -- the first of them that is Impossible is the ground
-    pub first-unaccepted : (path : List ℕ) → IsFirstAmong c.list v inner path → IsUnaccepted g root doc c (Impossible path)
-    first-unaccepted path (outer_first e p) = (judged-narrow, λ m. rw p (outer-path m e))
-    first-unaccepted path (inner_first i n e f p) =
-        let k = named-inner i e in
-        (judged-narrow, λ m. rw (p, k.1) (inner-path m n i k f))
-
-    -- where all lists of the changed document are live, none of them is Impossible
-    pub judged-live : IsWellMarked g root doc → AllByRecursion (IsLive g root) (lists_of (doc_after c doc)) → AreLive v inner
-    judged-live m all = record { outer = not-outer; inner = inside inner (λ i e. named-inner i e) }
-      where
-        not-outer : v ≡ verdict.Impossible → ⊥
-        not-outer e = none_first (IsLive g root) (lists_of (doc_after c doc)) c.list all (outer-path m e)
-
-        inside : (o : Option InnerVerdict) → ((i : InnerVerdict) → o ≡ Some i → IsInnerJudged g root c new (Some i)) → IfSome o (λ i. i.verdict ≡ verdict.Impossible → ⊥)
-        inside None h = tt
-        inside (Some i) h = λ e. none_first (IsLive g root) (lists_of (doc_after c doc)) (c.list ++ c.from ∷ []) all (inner-path m not-outer i (h i refl) e)
+    -- the first of them that is Impossible is the ground, where more of them are than before
+    pub first-unaccepted : (path : List ℕ) → bad_lost c doc < bad_gained v inner → IsFirstAmong c.list v inner path → IsUnaccepted g root doc c (Impossible path)
+    first-unaccepted path more is = (judged-narrow, record { verdict = v; inner = inner; judged = j; more = more; first = is })
 
   -- what is answered of the words of a task is answered of the task
   module _ (doc : PlainDoc Mark) (c : Change Mark) (can : CanChange c.list c doc.root) (unshort : is_top c.list ≡ true → c.shorten ≡ false) (words : Words) (w : AreWords g c (kids_at c.list doc.root) words)

@@ -4,16 +4,59 @@ use Rattle.std.specs.List.{AllByRecursion}
 use Rattle.std.proofs.Common.{cond}
 use Rattle.std.proofs.lemmas.List.Sums.{sum_by-cons}
 use Rattle.pv_dtd.specs.Plain.{PlainDtd}
-use Rattle.pv_missing.specs.Verdicts.{AreVerdicts, IsLive, is_possible, possible_in}
+use Rattle.pv_missing.specs.Verdicts.{AreVerdicts, impossible_in, is_impossible, is_possible, possible_in}
 use Rattle.pv_missing.specs.Widths.{IsListForVerdict}
-use Rattle.pv_missing.proofs.VerdictLists.{live_of}
 use Rattle.pv_tree.specs.Lists.{Listed, an_element, lists_at, lists_from, lists_of, the_document}
 use Rattle.pv_tree.specs.Plain.{Forest, PlainDoc, Tree, cdata_node, element, misc_node, no_trees, text_node, tree, nodes_in, nodes_in_all}
 use Rattle.pv_tree.proofs.Every.{all_joined}
 use Rattle.pv_tree.specs.declared.nodes.Mark.{Mark}
 use Rattle.pv_tree.specs.declared.nodes.Verdict.{Verdict}
 use Rattle.pv_tree.specs.declared.nodes.Verdict.TheVariants as verdict
-use Rattle.pv_cache.specs.WellMarked.{EachList, EachListIn, IsWellMarked, TellsList, own_left, told_left, told_left_in, told_nodes, told_nodes_in, told_verdicts, told_verdicts_in, verdicts_told}
+use Rattle.pv_cache.specs.WellMarked.{EachList, EachListIn, IsWellMarked, TellsList, bad_in, bad_in_all, own_bad, own_left, told_bad, told_left, told_left_in, told_nodes, told_nodes_in, told_verdicts, told_verdicts_in, verdicts_told}
+
+-- ---- how many lists are Impossible
+is-own-bad : (v : Verdict) → cond (is_impossible v) 1 0 ≡ own_bad v
+is-own-bad verdict.Valid = refl
+is-own-bad verdict.Possible = refl
+is-own-bad verdict.Impossible = refl
+
+bad-first : (v : Verdict) (vs : List Verdict) → impossible_in (v ∷ vs) ≡ own_bad v + impossible_in vs
+bad-first v vs = sum_by-cons (λ w. cond (is_impossible w) 1 0) v vs ∙ ap (λ n. n + impossible_in vs) (is-own-bad v)
+
+bad-joined : (vs ws : List Verdict) → impossible_in (vs ++ ws) ≡ impossible_in vs + impossible_in ws
+bad-joined [] ws = omega arith
+bad-joined (v ∷ vs) ws = let a = bad-first v (vs ++ ws) in let b = bad-first v vs in let h = bad-joined vs ws in omega arith
+
+abbrev mutual
+  bad-told : (t : Tree Mark) → bad_in t ≡ impossible_in (told_verdicts t)
+  bad-told (element x a e kids m) = let p = bad-first m.verdict (told_verdicts_in kids) in let k = all-bad-told kids in omega arith
+  bad-told (text_node us) = refl
+  bad-told (cdata_node b) = refl
+  bad-told (misc_node b) = refl
+
+  all-bad-told : (kids : Forest Mark) → bad_in_all kids ≡ impossible_in (told_verdicts_in kids)
+  all-bad-told no_trees = refl
+  all-bad-told (tree t rest) = let h = bad-told t in let k = all-bad-told rest in let p = bad-joined (told_verdicts t) (told_verdicts_in rest) in omega arith
+
+pub doc-bad : (doc : PlainDoc Mark) → told_bad doc ≡ impossible_in (verdicts_told doc)
+doc-bad doc = let p = bad-first doc.mark.verdict (told_verdicts doc.root) in let k = bad-told doc.root in omega arith
+
+pub own-bad-small : (v : Verdict) → own_bad v ≤ 1
+own-bad-small verdict.Valid = omega arith
+own-bad-small verdict.Possible = omega arith
+own-bad-small verdict.Impossible = omega arith
+
+abbrev mutual
+  -- at most each node has one
+  pub bad-within : (t : Tree Mark) → bad_in t ≤ nodes_in t
+  bad-within (element x a e kids m) = let o = own-bad-small m.verdict in let k = all-bad-within kids in omega arith
+  bad-within (text_node us) = omega arith
+  bad-within (cdata_node b) = omega arith
+  bad-within (misc_node b) = omega arith
+
+  pub all-bad-within : (kids : Forest Mark) → bad_in_all kids ≤ nodes_in_all kids
+  all-bad-within no_trees = omega arith
+  all-bad-within (tree t rest) = let h = bad-within t in let k = all-bad-within rest in omega arith
 
 module _ (g : PlainDtd) (root : List ℕ) where
   abbrev mutual
@@ -84,18 +127,6 @@ module _ (g : PlainDtd) (root : List ℕ) where
     all-left-told (tree t rest) w = let h = left-told t w.0 in let k = all-left-told rest w.1 in let p = possible-joined (told_verdicts t) (told_verdicts_in rest) in omega arith
 
   abbrev mutual
-    -- no list is impossible
-    pub lists-live : (path : List ℕ) (t : Tree Mark) → EachList (TellsList g root) t → AllByRecursion (IsLive g root) (lists_at path t)
-    lists-live path (element x a e kids m) w = (live_of g root (record { path = path; owner = an_element x; kids = kids }) m.verdict w.0.live w.0.judged, all-lists-live path 0 kids w.1)
-    lists-live path (text_node us) w = tt
-    lists-live path (cdata_node b) w = tt
-    lists-live path (misc_node b) w = tt
-
-    pub all-lists-live : (path : List ℕ) (i : ℕ) (kids : Forest Mark) → EachListIn (TellsList g root) kids → AllByRecursion (IsLive g root) (lists_from path i kids)
-    all-lists-live path i no_trees w = tt
-    all-lists-live path i (tree t rest) w = all_joined (IsLive g root) (lists_at (path ++ i ∷ []) t) (lists_from path (suc i) rest) (lists-live (path ++ i ∷ []) t w.0) (all-lists-live path (suc i) rest w.1)
-
-  abbrev mutual
     -- none is too wide
     pub lists-narrow : (path : List ℕ) (t : Tree Mark) → EachList (TellsList g root) t → AllByRecursion (IsListForVerdict g) (lists_at path t)
     lists-narrow path (element x a e kids m) w = (w.0.narrow, all-lists-narrow path 0 kids w.1)
@@ -116,9 +147,6 @@ module _ (g : PlainDtd) (root : List ℕ) where
 
     pub doc-nodes : doc.mark.nodes ≡ nodes_in doc.root
     doc-nodes = let n = w.document.nodes in let k = nodes-told doc.root w.elements in omega arith
-
-    pub doc-live : AllByRecursion (IsLive g root) (lists_of doc)
-    doc-live = (live_of g root (record { path = []; owner = the_document; kids = tree doc.root no_trees }) doc.mark.verdict w.document.live w.document.judged, lists-live (0 ∷ []) doc.root w.elements)
 
     pub doc-narrow : AllByRecursion (IsListForVerdict g) (lists_of doc)
     doc-narrow = (w.document.narrow, lists-narrow (0 ∷ []) doc.root w.elements)

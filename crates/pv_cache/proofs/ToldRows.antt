@@ -153,10 +153,6 @@ module _ (g : PlainDtd) (root : List ℕ) (doc : PlainDoc Mark) (w : ∥ IsWellM
     stamps = ap (λ ns. stamp_of doc.mark ∷ ns) (stamps_at (0 ∷ []) doc.root);
   })
 
-  -- ---- verdicts
-  pub tell_verdicts : (vs : PlainVerdicts) → vs ≡ record { verdicts = verdicts_told doc; first = None } → TellVerdicts (stamped_doc_of g root doc) vs
-  tell_verdicts vs e = rw e (record { none = refl; verdicts = ∥∥₁_map w (λ w. verdicts_to stamp_of doc g root (verdicts_told doc) (doc-told g root doc w)) })
-
 -- ---- rows of nodes side by side, one after the other
 pub more_rows : (path : List ℕ) (i : ℕ) (ks rest : Forest Mark) (t : Tree Mark) (rows now : List VerdictRow) → ks ≡ tree t rest → now ≡ rows ++ rows_at (path ++ i ∷ []) t →
     now ++ rows_from path (suc i) rest ≡ rows ++ rows_from path i ks

@@ -11,8 +11,7 @@ use Rattle.pv_edit.proofs.KeptLists.{keeps-lists}
 use Rattle.pv_edit.proofs.Levels.{forest-trees}
 use Rattle.pv_missing.specs.Widths.{FitsVerdict, IsFirstTooWide, IsListForVerdict}
 use Rattle.pv_missing.proofs.VerdictHeads.{same_word}
-use Rattle.pv_cache.specs.Accepting.{IsNarrowAt, IsWithinLimits}
-use Rattle.pv_cache.specs.Accepting.{IsGuarded}
+use Rattle.pv_cache.specs.Accepting.{IsHoldable, IsNarrowAt, IsWithinLimits}
 use Rattle.pv_cache.proofs.ListPlaces.{Stands, all_stand, had_at}
 use Rattle.pv_tree.specs.Heads.{heads_of}
 use Rattle.pv_tree.specs.Lists.{Listed, lists_of}
@@ -30,8 +29,8 @@ module _ {M : Type 0} (g : PlainDtd) where
   narrow_at_all doc h [] = tt
   narrow_at_all doc h (path ∷ paths) = (narrow_at doc h path, narrow_at_all doc h paths)
 
-  pub within : (root : List ℕ) (doc : PlainDoc M) (changed : List (List ℕ)) → IsGuarded g root doc → IsWithinLimits g doc changed
-  within root doc changed h = record { few = h.holdable.few; narrow = narrow_at_all doc h.holdable.narrow changed }
+  pub within : (doc : PlainDoc M) (changed : List (List ℕ)) → IsHoldable g doc → IsWithinLimits g doc changed
+  within doc changed h = record { few = h.few; narrow = narrow_at_all doc h.narrow changed }
 
   either_path : (doc : PlainDoc M) (path : List ℕ) (paths : List (List ℕ)) → AllByRecursion (IsNarrowAt g doc) paths → IsNone path paths ⊎ IsNarrowAt g doc path
   either_path doc path [] h = inl tt
@@ -59,12 +58,12 @@ module _ {M : Type 0} (g : PlainDtd) where
       rw w at n
 
   -- An edited document in which a list is too wide is past a limit.
-  pub too_wide : (root : List ℕ) (blank : M) (before edited : PlainDoc M) (edit : Edit) (path : List ℕ) → IsGuarded g root before → IsKept before.root → applied blank before edit ≡ gives edited →
+  pub too_wide : (blank : M) (before edited : PlainDoc M) (edit : Edit) (path : List ℕ) → IsHoldable g before → IsKept before.root → applied blank before edit ≡ gives edited →
       IsFirstTooWide g (lists_of edited) path → IsWithinLimits g edited (changed_lists (makes edit)) → ⊥
-  too_wide root blank before edited edit path guarded k a f w =
+  too_wide blank before edited edit path holdable k a f w =
       let all : AllByRecursion (Stands edited.root) (f.before ++ f.list ∷ f.after) = subst (AllByRecursion (Stands edited.root)) f.is_split (all_stand edited) in
       let s : Stands edited.root f.list = (all_right (Stands edited.root) f.before (f.list ∷ f.after) all).0 in
       f.is_not
       (narrow_list edited f.list s
       (elim (either_path edited f.list.path (changed_lists (makes edit)) w.narrow) as (λ _. IsNarrowAt g edited f.list.path)
-      [ inl none ↦ kept_narrow blank before edited edit k a guarded.holdable.narrow f.list.path none | inr narrow ↦ narrow ]))
+      [ inl none ↦ kept_narrow blank before edited edit k a holdable.narrow f.list.path none | inr narrow ↦ narrow ]))

@@ -1,11 +1,12 @@
 -- Which edits are accepted.
-use Rattle.std.specs.Prelude.{◌≡◌, ◌≤◌, List, Some, length, ℕ}
+use Rattle.std.specs.Prelude.{◌≡◌, ◌<◌, ◌≤◌, List, Some, length, ℕ}
 use Rattle.std.specs.List.{AllByRecursion}
 use Rattle.pv_dtd.specs.Plain.{PlainDtd}
 use Rattle.pv_edit.specs.ChangedLists.{changed_lists, makes}
 use Rattle.pv_edit.specs.Reasons.{applied, gives}
 use Rattle.pv_edit.specs.declared.edits.Edit.{Edit}
 use Rattle.pv_missing.specs.Completing.{IsPotentiallyValid}
+use Rattle.pv_missing.specs.Verdicts.{HaveImpossible}
 use Rattle.pv_missing.specs.Widths.{FitsVerdict, IsListForVerdict}
 use Rattle.pv_tree.specs.Lists.{lists_of}
 use Rattle.pv_tree.specs.Places.{list_at}
@@ -29,10 +30,34 @@ pub record IsWithinLimits {M : Type 0} (g : PlainDtd) (doc : PlainDoc M) (change
   pub few : nodes_in doc.root ≤ MAX_EDITED_NODES
   pub narrow : AllByRecursion (IsNarrowAt g doc) changed
 
--- An edit is accepted: it can be made, the edited document is within the limits, and inserting
--- elements can make it valid, in whichever way (`∥ ∥₁` says that there is one, and not which). New
--- elements are marked with `blank`.
+-- So many lists of one document are Impossible, and so many of another.
+pub record HaveBoth {M : Type 0} (g : PlainDtd) (root : List ℕ) (doc other : PlainDoc M)
+    (before after : ℕ) : Type 0 where
+  pub had : HaveImpossible g root (lists_of doc) before
+  pub has : HaveImpossible g root (lists_of other) after
+
+-- No more lists of the edited document are Impossible than of the one before.
+abbrev pub GetsNoWorse : {M : Type 0} → PlainDtd → List ℕ → PlainDoc M → PlainDoc M → Type 0
+GetsNoWorse g root doc edited =
+    (before : ℕ) × (after : ℕ) × HaveBoth g root doc edited before after × (after ≤ before)
+
+-- More lists of the edited document are Impossible than of the one before.
+abbrev pub GetsWorse : {M : Type 0} → PlainDtd → List ℕ → PlainDoc M → PlainDoc M → Type 0
+GetsWorse g root doc edited =
+    (before : ℕ) × (after : ℕ) × HaveBoth g root doc edited before after × (before < after)
+
+-- An edit is accepted: it can be made, the edited document is within the limits, and no more lists
+-- of it are Impossible than before (`∥ ∥₁` says that there are such numbers, and not which verdicts
+-- show them). New elements are marked with `blank`.
 pub record IsAccepted {M : Type 0} (blank : M) (g : PlainDtd) (root : List ℕ) (doc : PlainDoc M)
+    (edit : Edit) (edited : PlainDoc M) : Type 0 where
+  pub is_edited : applied blank doc edit ≡ gives edited
+  pub within : IsWithinLimits g edited (changed_lists (makes edit))
+  pub no_worse : ∥ GetsNoWorse g root doc edited ∥₁
+
+-- An edit can be made, the edited document is within the limits, and inserting elements can make
+-- it valid, in whichever way.
+pub record KeepsPossible {M : Type 0} (blank : M) (g : PlainDtd) (root : List ℕ) (doc : PlainDoc M)
     (edit : Edit) (edited : PlainDoc M) : Type 0 where
   pub is_edited : applied blank doc edit ≡ gives edited
   pub within : IsWithinLimits g edited (changed_lists (makes edit))
@@ -42,8 +67,3 @@ pub record IsAccepted {M : Type 0} (blank : M) (g : PlainDtd) (root : List ℕ) 
 pub record IsHoldable {M : Type 0} (g : PlainDtd) (doc : PlainDoc M) : Type 0 where
   pub narrow : AllByRecursion (IsListForVerdict g) (lists_of doc)
   pub few : nodes_in doc.root ≤ MAX_EDITED_NODES
-
--- the document can be held, and inserting elements can make it valid
-pub record IsGuarded {M : Type 0} (g : PlainDtd) (root : List ℕ) (doc : PlainDoc M) : Type 0 where
-  pub possible : ∥ IsPotentiallyValid g root (view doc.root) ∥₁
-  pub holdable : IsHoldable g doc

@@ -1,17 +1,17 @@
 -- The lists that a change of one list changes, and their verdicts.
-use Rattle.std.specs.Prelude.{IfSome, List, [], None, Option, Some, false, length, true, ℕ, ◌++◌}
+use Rattle.std.specs.Prelude.{List, [], None, Option, Some, false, length, true, ℕ, ◌++◌}
 use Rattle.std.specs.Prelude.{◌∷◌, ◌≡◌}
-use Rattle.std.specs.List.{between}
+use Rattle.std.specs.List.{AllByRecursion, between}
 use Rattle.pv_cache.specs.declared.mending.InnerVerdict.{InnerVerdict}
 use Rattle.pv_dtd.specs.Plain.{PlainDtd}
 use Rattle.pv_edit.specs.Brought.{brings_element}
 use Rattle.pv_edit.specs.Changes.{Change, in_place_of, list_after}
 use Rattle.pv_edit.specs.Inverses.{name_on}
-use Rattle.pv_missing.specs.Verdicts.{IsVerdict}
+use Rattle.pv_missing.specs.Verdicts.{IsLiveBy, IsVerdict}
 use Rattle.pv_missing.specs.Widths.{FitsVerdict}
 use Rattle.pv_tree.specs.Lists.{Owner, an_element, the_document}
-use Rattle.pv_tree.specs.Places.{spot_at}
-use Rattle.pv_tree.specs.Plain.{Ending, Forest, Tree, element, forest_of}
+use Rattle.pv_tree.specs.Places.{list_at, spot_at}
+use Rattle.pv_tree.specs.Plain.{Ending, Forest, PlainDoc, Tree, element, forest_of}
 use Rattle.pv_tree.specs.Words.{word_of}
 use Rattle.pv_tree.specs.declared.nodes.Verdict.{Verdict}
 use Rattle.pv_tree.specs.declared.nodes.Verdict.TheVariants as verdict
@@ -20,6 +20,20 @@ use Rattle.pv_tree.specs.declared.nodes.Verdict.TheVariants as verdict
 abbrev pub owner_at : {M : Type 0} → List ℕ → Tree M → Owner
 owner_at [] root = the_document
 owner_at (i ∷ path) root = an_element (name_on (spot_at (i ∷ path) root))
+
+-- the list at this path isn't Impossible
+abbrev pub IsLiveAt : {M : Type 0} → PlainDtd → List ℕ → PlainDoc M → List ℕ → Type 0
+IsLiveAt {M} g root doc path = (kids : List (Tree M)) → list_at path doc.root ≡ Some kids →
+    IsLiveBy g root (owner_at path doc.root) (forest_of kids)
+
+-- This is the first of these paths at which an Impossible list stands.
+pub record IsFirstImpossibleAt {M : Type 0} (g : PlainDtd) (root : List ℕ) (doc : PlainDoc M)
+    (paths : List (List ℕ)) (path : List ℕ) : Type 0 where
+  pub before : List (List ℕ)
+  pub after : List (List ℕ)
+  pub is_split : paths ≡ before ++ path ∷ after
+  pub all_before : AllByRecursion (IsLiveAt g root doc) before
+  pub is_not : IsLiveAt g root doc path → ⊥
 
 -- The list has this verdict, and isn't too wide for one.
 pub record IsJudged {M : Type 0} (g : PlainDtd) (root : List ℕ) (owner : Owner) (kids : Forest M)
@@ -50,11 +64,6 @@ pub record AreJudged {M : Type 0} (g : PlainDtd) (root : List ℕ) (owner : Owne
     (kids : List (Tree M)) (c : Change M) (v : Verdict) (inner : Option InnerVerdict) : Type 0 where
   pub outer : IsJudged g root owner (forest_of (list_after c kids)) v
   pub within : IsInnerJudged g root c (in_place_of c.filling (between c.from c.to kids)) inner
-
--- none of these verdicts of changed lists is Impossible
-pub record AreLive (v : Verdict) (within : Option InnerVerdict) : Type 0 where
-  pub outer : v ≡ verdict.Impossible → ⊥
-  pub inner : IfSome within (λ i. i.verdict ≡ verdict.Impossible → ⊥)
 
 -- The path of the first of the changed lists whose verdict is Impossible: the one at this path, or
 -- that of the element which came into it.

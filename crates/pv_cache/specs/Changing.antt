@@ -1,12 +1,13 @@
 -- Tasks in a well marked document: which can be done, what they do, and why one isn't accepted.
-use Rattle.std.specs.Prelude.{List, None, [], false, length, true, ℕ, ◌≤◌, ◌∷◌, ◌≡◌}
+use Rattle.std.specs.Prelude.{List, None, Option, [], false, length, true, ℕ, ◌<◌, ◌≤◌, ◌∷◌, ◌≡◌}
 use Rattle.std.specs.List.{between}
 use Rattle.pv_cache.specs.Accepting.{MAX_EDITED_NODES}
-use Rattle.pv_cache.specs.Changed.{AreJudged, AreLive, owner_at}
+use Rattle.pv_cache.specs.BadLists.{bad_gained, bad_lost}
+use Rattle.pv_cache.specs.Changed.{AreJudged, IsFirstAmong, owner_at}
 use Rattle.pv_cache.specs.PlainMarked.{PlainMarked}
+use Rattle.pv_cache.specs.declared.mending.InnerVerdict.{InnerVerdict}
 use Rattle.pv_cache.specs.declared.moving.JudgedEdit.{JudgedEdit}
 use Rattle.pv_cache.specs.Stamps.{stamp_lists, stamps_of}
-use Rattle.pv_cache.specs.WellMarked.{IsWellMarked}
 use Rattle.pv_dtd.specs.Plain.{PlainDtd}
 use Rattle.pv_edit.specs.Brought.{BringsBare, brings_element, lists_changed}
 use Rattle.pv_edit.specs.Changes.{Change, doc_after, in_place_of, list_after, root_after}
@@ -20,13 +21,12 @@ use Rattle.pv_edit.specs.declared.answers.EditAnswer.TheVariants.{Impossible, Li
 use Rattle.pv_edit.specs.declared.answers.EditAnswer.TheVariants.{Shape}
 use Rattle.pv_edit.specs.declared.edits.Edit.{Edit}
 use Rattle.pv_edit.specs.declared.tasks.Task.{Task}
-use Rattle.pv_missing.specs.Verdicts.{IsFirstImpossible}
 use Rattle.pv_missing.specs.Widths.{FitsVerdict}
-use Rattle.pv_tree.specs.Lists.{lists_of}
 use Rattle.pv_tree.specs.Marks.{blank_mark, unmarked_doc}
 use Rattle.pv_tree.specs.Plain.{Ending, Forest, PlainDoc, Tree, element, forest_of, nodes_in}
 use Rattle.pv_tree.specs.Words.{word_of}
 use Rattle.pv_tree.specs.declared.nodes.Mark.{Mark}
+use Rattle.pv_tree.specs.declared.nodes.Verdict.{Verdict}
 
 -- none of the lists that a change of these kids changes is too wide for a verdict
 pub record AreNarrowAfter (g : PlainDtd) (c : Change Mark) (kids : List (Tree Mark)) : Type 0 where
@@ -36,12 +36,22 @@ pub record AreNarrowAfter (g : PlainDtd) (c : Change Mark) (kids : List (Tree Ma
       in_place_of c.filling (between c.from c.to kids) ≡ element name attrs ending below mark ∷ [] →
       FitsVerdict g (length (word_of g below))
 
--- A change isn't accepted: a changed list is too wide; or none is, and the path is that of the
--- first impossible list of the changed document, if it was well marked before.
+-- The changed lists have these verdicts, more of them are Impossible than of those that the change
+-- takes away or changes, and the path is that of the first.
+pub record AreWorse (g : PlainDtd) (root : List ℕ) (doc : PlainDoc Mark) (c : Change Mark)
+    (path : List ℕ) : Type 0 where
+  pub verdict : Verdict
+  pub inner : Option InnerVerdict
+  pub judged : AreJudged g root (owner_at c.list doc.root) (kids_at c.list doc.root) c verdict inner
+  pub more : bad_lost c doc < bad_gained verdict inner
+  pub first : IsFirstAmong c.list verdict inner path
+
+-- A change isn't accepted: a changed list is too wide; or none is, and more are Impossible than
+-- before.
 abbrev pub IsUnaccepted : PlainDtd → List ℕ → PlainDoc Mark → Change Mark → EditAnswer → Type 0
 IsUnaccepted g root doc c (Shape reason) = ⊥
-IsUnaccepted g root doc c (Impossible path) = AreNarrowAfter g c (kids_at c.list doc.root) ×
-    (IsWellMarked g root doc → IsFirstImpossible g root (lists_of (doc_after c doc)) path)
+IsUnaccepted g root doc c (Impossible path) =
+    AreNarrowAfter g c (kids_at c.list doc.root) × AreWorse g root doc c path
 IsUnaccepted g root doc c Limit = AreNarrowAfter g c (kids_at c.list doc.root) → ⊥
 IsUnaccepted g root doc c NoMemory = Unit {0}
 
@@ -70,7 +80,7 @@ abbrev pub edited_doc : PlainDoc Mark → Edit → PlainDoc Mark
 edited_doc doc edit = doc_after (change_of blank_mark doc.root edit) doc
 
 -- An edit is ready to be made: what it does and what undoes it, and the verdicts of the lists that
--- it changes, none of which is Impossible.
+-- it changes, no more of which are Impossible than of those that it takes away or changes.
 pub record IsReady (g : PlainDtd) (root : List ℕ) (doc : PlainDoc Mark) (edit : Edit)
     (ready : JudgedEdit) : Type 0 where
   pub given : reason_of blank_mark doc.root edit ≡ None
@@ -78,4 +88,5 @@ pub record IsReady (g : PlainDtd) (root : List ℕ) (doc : PlainDoc Mark) (edit 
   pub task : IsTaskFor doc ready.task
   pub judged : AreJudged g root (owner_at ready.task.list doc.root) (kids_at ready.task.list doc.root)
       (plain_task ready.task) ready.verdicts.outer ready.verdicts.inner
-  pub live : AreLive ready.verdicts.outer ready.verdicts.inner
+  pub no_more : bad_gained ready.verdicts.outer ready.verdicts.inner ≤
+      bad_lost (plain_task ready.task) doc

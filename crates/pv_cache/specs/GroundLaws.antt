@@ -1,15 +1,14 @@
 -- What holds of grounds to refuse an edit. M and N are types of marks.
-use Rattle.std.specs.Prelude.{List, ℕ, ◌≡◌}
-use Rattle.pv_cache.specs.Accepting.{IsAccepted}
+use Rattle.std.specs.Prelude.{List, ℕ, ◌↔◌, ◌≡◌}
+use Rattle.pv_cache.specs.Accepting.{IsAccepted, KeepsPossible}
 use Rattle.pv_cache.specs.Moves.{HasGround}
 use Rattle.pv_dtd.specs.Plain.{PlainDtd}
 use Rattle.pv_dtd.specs.Proper.{IsProperDtd}
-use Rattle.pv_edit.specs.Reasons.{applied, gives}
 use Rattle.pv_edit.specs.declared.answers.EditAnswer.{EditAnswer}
 use Rattle.pv_edit.specs.declared.answers.EditAnswer.TheVariants.{NoMemory}
 use Rattle.pv_edit.specs.declared.edits.Edit.{Edit}
 use Rattle.pv_missing.specs.Proper.{IsProperDoc}
-use Rattle.pv_missing.specs.Verdicts.{AreVerdicts}
+use Rattle.pv_missing.specs.Verdicts.{AreVerdicts, HaveImpossible}
 use Rattle.pv_tree.specs.Lists.{lists_of}
 use Rattle.pv_tree.specs.Marks.{unmarked_doc}
 use Rattle.pv_tree.specs.Plain.{PlainDoc}
@@ -23,14 +22,14 @@ AcceptedHasNoGround M N = (blank : M) (other : N) (g : PlainDtd) (root : List �
     unmarked_doc doc ≡ unmarked_doc same → IsAccepted blank g root doc edit edited →
     HasGround other g root same edit answer → answer ≡ NoMemory
 
--- An edit that can be made, and has no ground to be refused on, is accepted. The lists of the
--- edited document have verdicts.
-abbrev pub WithoutGroundIsAccepted : Type 0 → Type 0
-WithoutGroundIsAccepted M = (blank : M) (g : PlainDtd) (root : List ℕ) (doc edited : PlainDoc M)
+-- Where no list of a document is Impossible, an edit of it is accepted exactly where it can be made
+-- within the limits and inserting elements can make the edited document valid. The lists of that
+-- have verdicts.
+abbrev pub AcceptsThePossible : Type 0 → Type 0
+AcceptsThePossible M = (blank : M) (g : PlainDtd) (root : List ℕ) (doc edited : PlainDoc M)
     (edit : Edit) (vs : List Verdict) → IsProperDtd g → IsProperDoc edited →
-    applied blank doc edit ≡ gives edited → AreVerdicts g root (lists_of edited) vs →
-    ((answer : EditAnswer) → HasGround blank g root doc edit answer → answer ≡ NoMemory) →
-    IsAccepted blank g root doc edit edited
+    HaveImpossible g root (lists_of doc) 0 → AreVerdicts g root (lists_of edited) vs →
+    IsAccepted blank g root doc edit edited ↔ KeepsPossible blank g root doc edit edited
 
 -- An edit has one ground at most.
 abbrev pub HasOneGround : Type 0 → Type 0

@@ -1,45 +1,46 @@
 -- What holds of well marked documents.
-use Rattle.std.specs.Prelude.{List, [], Option, true, false, ℕ, ◌++◌, ◌∷◌, ◌≡◌}
-use Rattle.std.specs.List.{AllByRecursion, between}
-use Rattle.pv_cache.specs.Changed.{AreJudged, AreLive, owner_at}
+use Rattle.std.specs.Prelude.{List, Option, true, false, ℕ, ◌+◌, ◌≡◌}
+use Rattle.std.specs.List.{AllByRecursion}
+use Rattle.pv_cache.specs.BadLists.{bad_gained, bad_lost}
+use Rattle.pv_cache.specs.Changed.{AreJudged, IsFirstAmong, IsFirstImpossibleAt, owner_at}
 use Rattle.pv_cache.specs.Mending.{mend_doc}
-use Rattle.pv_cache.specs.Moves.{HasOpen}
+use Rattle.pv_cache.specs.Moves.{HasBad, HasOpen}
 use Rattle.pv_cache.specs.Rows.{AreRows}
 use Rattle.pv_cache.specs.Stamps.{StampedDoc}
-use Rattle.pv_cache.specs.WellMarked.{IsWellMarked, verdicts_told}
+use Rattle.pv_cache.specs.WellMarked.{IsWellMarked, told_bad, verdicts_told}
 use Rattle.pv_cache.specs.declared.mending.InnerVerdict.{InnerVerdict}
 use Rattle.pv_dtd.specs.Plain.{PlainDtd}
-use Rattle.pv_edit.specs.Brought.{BringsBare}
-use Rattle.pv_edit.specs.Changes.{Change, doc_after, in_place_of, list_after}
+use Rattle.pv_edit.specs.Brought.{BringsBare, lists_changed}
+use Rattle.pv_edit.specs.Changes.{Change, doc_after}
 use Rattle.pv_edit.specs.Fitting.{CanChange}
 use Rattle.pv_edit.specs.declared.answers.VerdictRow.{VerdictRow}
 use Rattle.pv_edit.specs.Reasons.{is_top, kids_at}
-use Rattle.pv_missing.specs.Verdicts.{AreVerdicts, IsFirstImpossible, IsLive, IsLiveBy, possible_in}
+use Rattle.pv_missing.specs.Verdicts.{AreVerdicts, impossible_in, possible_in}
 use Rattle.pv_missing.specs.Widths.{IsListForVerdict}
-use Rattle.pv_tree.specs.Lists.{an_element, lists_of}
+use Rattle.pv_tree.specs.Lists.{lists_of}
 use Rattle.pv_tree.specs.Marks.{unmarked_doc}
-use Rattle.pv_tree.specs.Plain.{Ending, Forest, PlainDoc, element, forest_of, nodes_in}
+use Rattle.pv_tree.specs.Plain.{PlainDoc, nodes_in}
 use Rattle.pv_tree.specs.declared.nodes.Mark.{Mark}
 use Rattle.pv_tree.specs.declared.nodes.Verdict.{Verdict}
 
 -- The marks of a well marked document tell the verdicts of its lists, in document order; its own
--- mark tells how many of them are Possible, and how many nodes there are. No list is impossible,
--- and none too wide.
+-- mark tells how many of them are Possible, and how many nodes there are; their marks tell how many
+-- are Impossible. No list is too wide.
 abbrev pub MarksTell : Type 0
 MarksTell = (g : PlainDtd) (root : List ℕ) (doc : PlainDoc Mark) → IsWellMarked g root doc →
     AreVerdicts g root (lists_of doc) (verdicts_told doc) ×
     (doc.mark.left ≡ possible_in (verdicts_told doc)) × (doc.mark.nodes ≡ nodes_in doc.root) ×
-    AllByRecursion (IsLive g root) (lists_of doc) ×
+    (told_bad doc ≡ impossible_in (verdicts_told doc)) ×
     AllByRecursion (IsListForVerdict g) (lists_of doc)
 
 -- A well marked document, of which a list is changed so that the changed lists have these verdicts,
--- none of them Impossible, is well marked once its marks are mended.
+-- is well marked once its marks are mended.
 abbrev pub MendedIsMarked : Type 0
 MendedIsMarked = (g : PlainDtd) (root : List ℕ) (doc : PlainDoc Mark) (c : Change Mark)
     (v : Verdict)
     (i : Option InnerVerdict) (stamp : ℕ) → IsWellMarked g root doc → CanChange c.list c doc.root →
     (is_top c.list ≡ true → c.shorten ≡ false) → BringsBare c.filling →
-    AreJudged g root (owner_at c.list doc.root) (kids_at c.list doc.root) c v i → AreLive v i →
+    AreJudged g root (owner_at c.list doc.root) (kids_at c.list doc.root) c v i →
     IsWellMarked g root (mend_doc c.list v i stamp (doc_after c doc))
 
 -- a mended document is the same document
@@ -48,29 +49,26 @@ MendingKeepsDocuments = (path : List ℕ) (v : Verdict) (i : Option InnerVerdict
     (doc : PlainDoc Mark) →
     unmarked_doc (mend_doc path v i stamp doc) ≡ unmarked_doc doc
 
--- A well marked document, of which a list is changed so that it can't stand in its owner, has that
--- list as its first impossible one.
-abbrev pub OuterIsFirst : Type 0
-OuterIsFirst = (g : PlainDtd) (root : List ℕ) (doc : PlainDoc Mark) (c : Change Mark) →
-    IsWellMarked g root doc →
-    CanChange c.list c doc.root → (is_top c.list ≡ true → c.shorten ≡ false) →
-    (IsLiveBy g root (owner_at c.list doc.root) (forest_of (list_after c (kids_at c.list doc.root)))
-    → ⊥) →
-    IsFirstImpossible g root (lists_of (doc_after c doc)) c.list
+-- The number of its Impossible lists is that from before, without those that the change takes away
+-- or changes, and with those of the changed lists.
+abbrev pub MendedIsCounted : Type 0
+MendedIsCounted = (g : PlainDtd) (root : List ℕ) (doc : PlainDoc Mark) (c : Change Mark)
+    (v : Verdict)
+    (i : Option InnerVerdict) (stamp : ℕ) → CanChange c.list c doc.root →
+    (is_top c.list ≡ true → c.shorten ≡ false) → BringsBare c.filling →
+    AreJudged g root (owner_at c.list doc.root) (kids_at c.list doc.root) c v i →
+    told_bad (mend_doc c.list v i stamp (doc_after c doc)) + bad_lost c doc
+    ≡ told_bad doc + bad_gained v i
 
--- Where the changed list can stand in its owner, and an element came whose list can't stand in it,
--- that is the first impossible one.
-abbrev pub InnerIsFirst : Type 0
-InnerIsFirst = (g : PlainDtd) (root : List ℕ) (doc : PlainDoc Mark) (c : Change Mark) →
-    IsWellMarked g root doc →
-    CanChange c.list c doc.root → (is_top c.list ≡ true → c.shorten ≡ false) →
-    (name attrs : List ℕ) (ending : Ending) (kids : Forest Mark) (mark : Mark) →
-    in_place_of c.filling (between c.from c.to (kids_at c.list doc.root))
-    ≡ element name attrs ending kids mark ∷ [] →
-    IsLiveBy g root (owner_at c.list doc.root) (forest_of (list_after c (kids_at c.list doc.root)))
-    →
-    (IsLiveBy g root (an_element name) kids → ⊥) →
-    IsFirstImpossible g root (lists_of (doc_after c doc)) (c.list ++ c.from ∷ [])
+-- The first Impossible one of the lists that a change changes, as the changed document has them, is
+-- the first of their verdicts that is Impossible.
+abbrev pub FirstIsFirstAmong : Type 0
+FirstIsFirstAmong = (g : PlainDtd) (root : List ℕ) (doc : PlainDoc Mark) (c : Change Mark)
+    (v : Verdict) (i : Option InnerVerdict) (path : List ℕ) → CanChange c.list c doc.root →
+    (is_top c.list ≡ true → c.shorten ≡ false) → BringsBare c.filling →
+    AreJudged g root (owner_at c.list doc.root) (kids_at c.list doc.root) c v i →
+    IsFirstAmong c.list v i path →
+    IsFirstImpossibleAt g root (doc_after c doc) (lists_changed c) path
 
 -- The rows of a document with stamps are one list.
 abbrev pub HasOneRows : Type 0
@@ -80,3 +78,7 @@ HasOneRows = (s : StampedDoc) (rows other : List VerdictRow) → AreRows s rows 
 -- The number of its Possible lists is one number.
 abbrev pub HasOneOpen : Type 0
 HasOneOpen = (s : StampedDoc) (m n : ℕ) → HasOpen s m → HasOpen s n → m ≡ n
+
+-- And so is that of its Impossible lists.
+abbrev pub HasOneBad : Type 0
+HasOneBad = (s : StampedDoc) (m n : ℕ) → HasBad s m → HasBad s n → m ≡ n

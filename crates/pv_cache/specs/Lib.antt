@@ -1,4 +1,5 @@
 pub mod WellMarked
+pub mod BadLists
 pub mod Mending
 pub mod Changed
 pub mod Judging
@@ -9,6 +10,7 @@ pub mod Stamps
 pub mod Moves
 pub mod Codes
 pub mod Laying
+pub mod Firsts
 pub mod Rows
 pub mod Planned
 pub mod PlainMarked

@@ -1,6 +1,7 @@
 -- Edits of a document with stamps, and taking them back.
 use Rattle.std.specs.Prelude.{◌≡◌, List, length, ℕ}
-use Rattle.pv_cache.specs.Accepting.{IsAccepted, IsWithinLimits}
+use Rattle.pv_cache.specs.Accepting.{GetsWorse, IsAccepted, IsWithinLimits}
+use Rattle.pv_cache.specs.Changed.{IsFirstImpossibleAt}
 use Rattle.pv_cache.specs.Stamps.{StampedDoc, stamp_lists}
 use Rattle.pv_dtd.specs.Plain.{PlainDtd}
 use Rattle.pv_edit.specs.ChangedLists.{changed_lists, makes, undoes}
@@ -12,20 +13,22 @@ use Rattle.pv_edit.specs.declared.answers.EditAnswer.TheVariants.{Impossible, Li
 use Rattle.pv_edit.specs.declared.answers.EditAnswer.TheVariants.{Shape}
 use Rattle.pv_edit.specs.declared.edits.Edit.{Edit}
 use Rattle.pv_edit.specs.declared.inverses.Inverse.{Inverse}
-use Rattle.pv_missing.specs.Completing.{IsPotentiallyValid}
-use Rattle.pv_missing.specs.Verdicts.{HavePossible, IsFirstImpossible}
+use Rattle.pv_missing.specs.Verdicts.{HaveImpossible, HavePossible}
 use Rattle.pv_tree.specs.Lists.{lists_of}
 use Rattle.pv_tree.specs.Marks.{unmarked_doc}
 use Rattle.pv_tree.specs.Plain.{PlainDoc}
-use Rattle.pv_tree.specs.View.{view}
 
 -- so many lists of a document are Possible
 abbrev pub HasOpen : StampedDoc → ℕ → Type 0
 HasOpen s left = ∥ HavePossible s.dtd s.root (lists_of s.doc) left ∥₁
 
+-- so many lists of a document are Impossible
+abbrev pub HasBad : StampedDoc → ℕ → Type 0
+HasBad s bad = ∥ HaveImpossible s.dtd s.root (lists_of s.doc) bad ∥₁
+
 -- An edit is made: it is accepted, the lists that it changed have this stamp, and each other list
--- keeps its own. So many lists were changed, and so many are Possible now; and this undoes the
--- edit.
+-- keeps its own. So many lists were changed, so many are Possible now, and so many Impossible; and
+-- this undoes the edit.
 pub record IsEdited (before : StampedDoc) (edit : Edit) (stamp : ℕ) (done : Done)
     (inverse : Inverse) (after : StampedDoc) : Type 0 where
   pub edited : PlainDoc ℕ
@@ -35,6 +38,7 @@ pub record IsEdited (before : StampedDoc) (edit : Edit) (stamp : ℕ) (done : Do
   }
   pub is_checked : done.checked ≡ length (changed_lists (makes edit))
   pub is_left : HasOpen after done.left
+  pub is_bad : HasBad after done.bad
   pub is_inverse : inverse ≡ inverse_of before.doc.root edit
 
 -- An edit of a document is taken back by its inverse: that document is made again. The lists that
@@ -47,9 +51,11 @@ pub record IsReverted (edited : StampedDoc) (inverse : Inverse) (edit : Edit)
   }
   pub is_checked : done.checked ≡ length (changed_lists (undoes edit))
   pub is_left : HasOpen after done.left
+  pub is_bad : HasBad after done.bad
 
 -- The ground on which an edit of a document is refused; want of memory has none. Its shape comes
--- before the limits, and these before potential validity.
+-- before the limits, and these before Impossible lists: there would be more of them than before,
+-- and the path is that of the first among the lists that the edit changes.
 abbrev pub HasGround : {M : Type 0} → M → PlainDtd → List ℕ → PlainDoc M → Edit → EditAnswer →
     Type 0
 HasGround blank g root doc edit (Shape reason) = applied blank doc edit ≡ refuses reason
@@ -59,6 +65,6 @@ HasGround {M} blank g root doc edit Limit =
 HasGround {M} blank g root doc edit (Impossible path) =
     (edited : PlainDoc M) × (applied blank doc edit ≡ gives edited) ×
     IsWithinLimits g edited (changed_lists (makes edit)) ×
-    (IsPotentiallyValid g root (view edited.root) → ⊥) ×
-    ∥ IsFirstImpossible g root (lists_of edited) path ∥₁
+    ∥ GetsWorse g root doc edited ∥₁ ×
+    ∥ IsFirstImpossibleAt g root edited (changed_lists (makes edit)) path ∥₁
 HasGround blank g root doc edit NoMemory = Unit {0}

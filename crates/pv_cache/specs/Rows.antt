@@ -1,10 +1,10 @@
 -- What the marks of a document tell of each list.
-use Rattle.std.specs.Prelude.{◌≡◌, List, None, [], Some, map, suc, ℕ, ◌++◌, ◌∷◌}
+use Rattle.std.specs.Prelude.{◌≡◌, List, [], Some, map, suc, ℕ, ◌++◌, ◌∷◌}
 use Rattle.pv_cache.specs.Changed.{owner_at}
 use Rattle.pv_cache.specs.Stamps.{StampedDoc}
 use Rattle.pv_dtd.specs.Plain.{PlainDtd}
 use Rattle.pv_edit.specs.declared.answers.VerdictRow.{VerdictRow}
-use Rattle.pv_missing.specs.Verdicts.{AreVerdicts, IsVerdict, PlainVerdicts}
+use Rattle.pv_missing.specs.Verdicts.{AreVerdicts, HaveVerdicts, IsVerdict, PlainVerdicts}
 use Rattle.pv_tree.specs.Lists.{Listed, lists_of}
 use Rattle.pv_tree.specs.Places.{list_at}
 use Rattle.pv_tree.specs.Plain.{Forest, PlainDoc, Tree, cdata_node, element, forest_of, misc_node}
@@ -54,10 +54,9 @@ pub record AreRows (s : StampedDoc) (rows : List VerdictRow) : Type 0 where
   pub verdicts : ∥ AreVerdicts s.dtd s.root (lists_of s.doc) (map row_verdict rows) ∥₁
   pub stamps : map row_stamp rows ≡ marks_of s.doc
 
--- These are the verdicts of its lists, in document order, and no list is Impossible.
-pub record TellVerdicts (s : StampedDoc) (vs : PlainVerdicts) : Type 0 where
-  pub none : vs.first ≡ None
-  pub verdicts : ∥ AreVerdicts s.dtd s.root (lists_of s.doc) vs.verdicts ∥₁
+-- these are the verdicts of its lists, and the path of its first Impossible list, if there is one
+abbrev pub TellVerdicts : StampedDoc → PlainVerdicts → Type 0
+TellVerdicts s vs = ∥ HaveVerdicts s.dtd s.root (lists_of s.doc) vs ∥₁
 
 -- ---- as the marks tell it
 abbrev pub row_at : List ℕ → Mark → VerdictRow

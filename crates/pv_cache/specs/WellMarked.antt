@@ -39,17 +39,38 @@ own_left verdict.Valid = 0
 own_left verdict.Possible = 1
 own_left verdict.Impossible = 0
 
+-- a list adds one to the Impossible ones where it is Impossible
+abbrev pub own_bad : Verdict → ℕ
+own_bad verdict.Valid = 0
+own_bad verdict.Possible = 0
+own_bad verdict.Impossible = 1
+
+-- how many lists of a subtree are Impossible, as their marks tell
+abbrev mutual
+  pub bad_in : Tree Mark → ℕ
+  bad_in (element x attrs ending kids mark) = own_bad mark.verdict + bad_in_all kids
+  bad_in (text_node units) = 0
+  bad_in (cdata_node bytes) = 0
+  bad_in (misc_node bytes) = 0
+
+  pub bad_in_all : Forest Mark → ℕ
+  bad_in_all no_trees = 0
+  bad_in_all (tree t rest) = bad_in t + bad_in_all rest
+
+-- how many lists of a document are Impossible, as their marks tell
+abbrev pub told_bad : PlainDoc Mark → ℕ
+told_bad doc = own_bad doc.mark.verdict + bad_in doc.root
+
 -- an element is a node, and the document node isn't counted
 abbrev pub own_node : Owner → ℕ
 own_node the_document = 0
 own_node (an_element x) = 1
 
 -- The mark tells of a list its verdict, and of its owner's subtree how many lists are Possible and
--- how many nodes there are. The list isn't impossible, and not too wide for a verdict.
+-- how many nodes there are. The list isn't too wide for a verdict.
 pub record TellsList (g : PlainDtd) (root : List ℕ) (owner : Owner) (kids : Forest Mark)
     (mark : Mark) : Type 0 where
   pub judged : IsVerdict g root (record { path = []; owner = owner; kids = kids }) mark.verdict
-  pub live : mark.verdict ≡ verdict.Impossible → ⊥
   pub narrow : FitsVerdict g (length (word_of g kids))
   pub left : mark.left ≡ own_left mark.verdict + told_left_in kids
   pub nodes : mark.nodes ≡ own_node owner + told_nodes_in kids

@@ -1,9 +1,10 @@
 //! A change of one list of a well marked document.
 
-ghost use Rattle.std.specs.Prelude.{◌≡◌, ◌≤◌, ◌+◌, [], false, IfErr, IfOk, IfSome, OnErr};
+ghost use Rattle.std.specs.Prelude.{◌≡◌, ◌≤◌, ◌+◌, [], false, IfErr, IfOk, IfSome, OnErr, OnOk};
 ghost use Rattle.std.specs.Prelude.{length};
 ghost use Rattle.std.specs.Option.{option_map};
-ghost use Rattle.pv_cache.specs.Changed.{AreJudged, AreLive, owner_at};
+ghost use Rattle.pv_cache.specs.BadLists.{bad_gained, bad_lost, own_at};
+ghost use Rattle.pv_cache.specs.Changed.{AreJudged, owner_at};
 ghost use Rattle.pv_cache.specs.Changing.{AreNarrowAfter, IsChanged, IsTaskFor};
 ghost use Rattle.pv_cache.specs.PlainMarked.{plain_marked};
 ghost use Rattle.pv_cache.specs.Stamps.{changed_by};
@@ -13,8 +14,10 @@ ghost use Rattle.pv_missing.specs.PlainForms.{plain_of};
 ghost use Rattle.pv_missing.specs.Weighing.{site_of};
 ghost use Rattle.pv_reach.specs.declared.errors.ReachError.TheVariants.{TooWide as too_wide};
 ghost use Rattle.pv_rules.specs.Sites.{HasSite};
+ghost use Rattle.pv_tree.specs.Places.{spot_at};
 ghost use Rattle.pv_tree.specs.PlainDocs.{plain_doc};
 
+use crate::bad_lists::{bad_taken, own_bad, own_inner, own_of};
 use crate::judging::judge_words;
 use crate::mending::{ChangedVerdicts, Mend, mend_doc};
 use crate::well_marked::WellMarked;
@@ -86,8 +89,44 @@ impl WellMarked {
         )
     }
 
-    /// Makes a change whose lists have these verdicts, none of them Impossible, and mends the
-    /// marks. Without memory the document is left.
+    // One, where the list at a path is Impossible.
+    fn own_at(&self, list: &Path) -> u64
+        ensures { result ≡ own_at self.now.doc.mark (spot_at list.now (plain_doc self.now.doc).root) }
+    {
+        match self.doc.node_at(list) {
+            None => 0,
+            Some(Found::Document) => own_bad(self.doc.mark.verdict),
+            Some(Found::Inner(node)) => own_of(node),
+        }
+    }
+
+    // How many of the lists that a task takes away or changes are Impossible.
+    fn bad_lost(&self, task: &Task) -> u64
+        requires { IsTaskFor (plain_doc self.now.doc) task.now }
+        ensures { result ≡ bad_lost (plain_task task.now) (plain_doc self.now.doc) }
+    {
+        let Some(kids) = self.doc.kids_at(&task.list) else {
+            unreachable!()
+        };
+        self.own_at(&task.list) + bad_taken(kids, &task.change)
+    }
+
+    /// How many lists are Impossible once a task is done whose lists have these verdicts.
+    pub(crate) fn bad_after(&self, task: &Task, verdicts: &ChangedVerdicts) -> u64
+        requires task { IsTaskFor (plain_doc self.now.doc) task.now }
+        requires judged { AreJudged self.now.grammar self.now.root
+            (owner_at task.now.list (plain_doc self.now.doc).root)
+            (kids_at task.now.list (plain_doc self.now.doc).root)
+            (plain_task task.now) verdicts.now.outer verdicts.now.inner }
+        ensures { result + bad_lost (plain_task task.now) (plain_doc self.now.doc)
+            ≡ self.now.bad + bad_gained verdicts.now.outer verdicts.now.inner }
+    {
+        let gained = own_bad(verdicts.outer) + own_inner(verdicts.inner);
+        self.bad + gained - self.bad_lost(task)
+    }
+
+    /// Makes a change whose lists have these verdicts, and mends the marks. Without memory the
+    /// document is left.
     ///
     /// The changed lists get the stamp; their number is given.
     pub(crate) fn make_judged(
@@ -101,7 +140,6 @@ impl WellMarked {
             (owner_at task.list (plain_doc self.old.doc).root)
             (kids_at task.list (plain_doc self.old.doc).root)
             (plain_task task) verdicts.outer verdicts.inner }
-        requires live { AreLive verdicts.outer verdicts.inner }
         ensures changed { IfOk result (λ lists.
             IsChanged (plain_marked self.old) task stamp lists (plain_marked self.new)) }
         ensures unchanged { OnErr result (plain_marked self.new ≡ plain_marked self.old) }
@@ -112,8 +150,10 @@ impl WellMarked {
             stamp,
         };
         let list = Path::new(self.alloc, task.list.places())?;
+        let bad = self.bad_after(&task, &verdicts);
         make(self.alloc, &mut self.doc, task)?;
         mend_doc(self.alloc, &mut self.doc, list.places(), &mend);
+        self.bad = bad;
         Ok(number_of(&mend))
     }
 }

@@ -1,8 +1,9 @@
 //! The decision on a change of one list, by the verdicts of the lists that it changes.
 
 ghost use Rattle.std.specs.Prelude.{◌≡◌, ◌≤◌, ◌+◌, true, IfErr, IfOk, IfSome, MatchOption, Some};
-ghost use Rattle.std.specs.Prelude.{false};
-ghost use Rattle.pv_cache.specs.Changed.{AreJudged, AreLive, IsFirstAmong, owner_at};
+ghost use Rattle.std.specs.Prelude.{false, None};
+ghost use Rattle.pv_cache.specs.BadLists.{bad_gained, bad_lost};
+ghost use Rattle.pv_cache.specs.Changed.{AreJudged, IsFirstAmong, owner_at};
 ghost use Rattle.pv_cache.specs.Changing.{IsTaskFor, IsUnaccepted};
 ghost use Rattle.pv_cache.specs.declared.mending.InnerVerdict.{InnerVerdict};
 ghost use Rattle.pv_edit.specs.Fitting.{plain_task};
@@ -42,7 +43,7 @@ fn first_impossible(
 ) -> Result<Option<Path>, NoMemory>
     requires { IfSome verdicts.now.inner (λ i. i.place ≡ from) }
     ensures { IfOk result (λ first. MatchOption first
-        (AreLive verdicts.now.outer verdicts.now.inner)
+        (bad_gained verdicts.now.outer verdicts.now.inner ≡ 0)
         (IsFirstAmong list.now verdicts.now.outer verdicts.now.inner)) }
 {
     if verdicts.outer == Verdict::Impossible {
@@ -56,7 +57,8 @@ fn first_impossible(
 
 impl WellMarked {
     /// Decides on a change: the verdicts of the lists that it changes, or why it isn't accepted.
-    /// Limits come before verdicts, and the outer list before the inner one.
+    /// Limits come before verdicts, and the outer list before the inner one. No more lists may be
+    /// Impossible afterwards.
     pub(crate) fn decide<L: Ledger>(
         &self,
         task: &Task,
@@ -67,7 +69,8 @@ impl WellMarked {
             (owner_at task.now.list (plain_doc self.now.doc).root)
             (kids_at task.now.list (plain_doc self.now.doc).root)
             (plain_task task.now) verdicts.outer verdicts.inner) }
-        ensures live { IfOk result (λ verdicts. AreLive verdicts.outer verdicts.inner) }
+        ensures no_more { IfOk result (λ verdicts. bad_gained verdicts.outer verdicts.inner
+            ≤ bad_lost (plain_task task.now) (plain_doc self.now.doc)) }
         ensures refused { IfErr result (IsUnaccepted self.now.grammar self.now.root
             (plain_doc self.now.doc) (plain_task task.now)) }
         ensures steps { steps.new ≤ steps.old + 2 }
@@ -77,9 +80,12 @@ impl WellMarked {
             Err(ReachError::TooWide) => return Err(EditAnswer::Limit),
             Err(ReachError::NoMemory) => return Err(EditAnswer::NoMemory),
         };
+        if self.bad_after(task, &verdicts) <= self.bad {
+            return Ok(verdicts);
+        }
         let from = task.change.from as u32;
         match first_impossible(self.alloc, &task.list, from, &verdicts)? {
-            None => Ok(verdicts),
+            None => unreachable!(),
             Some(path) => Err(EditAnswer::Impossible(path)),
         }
     }

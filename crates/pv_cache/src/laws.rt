@@ -2,15 +2,16 @@
 //! types of marks.
 
 ghost use Rattle.pv_cache.specs.GroundLaws.{AcceptedHasNoGround, HasOneGround};
-ghost use Rattle.pv_cache.specs.GroundLaws.{WithoutGroundIsAccepted};
-ghost use Rattle.pv_cache.specs.Laws.{HasOneOpen, HasOneRows, InnerIsFirst, MarksTell};
-ghost use Rattle.pv_cache.specs.Laws.{MendedIsMarked, MendingKeepsDocuments, OuterIsFirst};
+ghost use Rattle.pv_cache.specs.GroundLaws.{AcceptsThePossible};
+ghost use Rattle.pv_cache.specs.Laws.{FirstIsFirstAmong, HasOneBad, HasOneOpen, HasOneRows};
+ghost use Rattle.pv_cache.specs.Laws.{MarksTell, MendedIsCounted, MendedIsMarked};
+ghost use Rattle.pv_cache.specs.Laws.{MendingKeepsDocuments};
 ghost use Rattle.pv_cache.specs.MarkLaws.{HoldsByOtherMarks};
 
-use pv_missing::laws::documents::live_lists_law;
+use pv_missing::laws::verdicts::none_impossible_law;
 
 /// The marks of a well marked document tell the verdicts of all its lists, how many are Possible,
-/// and how many nodes there are. No list is impossible or too wide.
+/// how many Impossible, and how many nodes there are. No list is too wide.
 pub fn marks_tell_law()
     ensures { MarksTell }
 {}
@@ -18,6 +19,11 @@ pub fn marks_tell_law()
 /// A well marked document is well marked after a change too, once its marks are mended.
 pub fn mended_law()
     ensures { MendedIsMarked }
+{}
+
+/// A change changes the number of Impossible lists by those alone that it takes away or changes.
+pub fn mended_count_law()
+    ensures { MendedIsCounted }
 {}
 
 /// Mending changes marks alone.
@@ -35,25 +41,33 @@ pub fn one_open_law()
     ensures { HasOneOpen }
 {}
 
+/// The number of its Impossible lists is one number.
+pub fn one_bad_law()
+    ensures { HasOneBad }
+{}
+
 /// What holds of a document holds of it with other marks.
 pub fn other_marks_law<M, N>()
     ensures { HoldsByOtherMarks M N }
 {}
 
-/// Which list of a changed document is the first impossible one: the changed list, where it is
-/// impossible, and else that of the element which came into it.
+/// The first impossible one of the lists that a change changes is the first whose verdict is
+/// Impossible.
 pub fn first_impossible_law()
-    ensures outer { OuterIsFirst }
-    ensures inner { InnerIsFirst }
+    ensures { FirstIsFirstAmong }
 {}
 
-/// An accepted edit has no ground to be refused on, and one that can be made and has no ground is
-/// accepted.
+/// An accepted edit has no ground to be refused on.
 pub fn accepted_law<M, N>()
-    ensures accepted { AcceptedHasNoGround M N }
-    ensures without { WithoutGroundIsAccepted M }
+    ensures { AcceptedHasNoGround M N }
+{}
+
+/// Where no list is impossible, an edit is accepted exactly where inserting elements can make the
+/// edited document valid, and it is within the limits.
+pub fn accepts_possible_law<M>()
+    ensures { AcceptsThePossible M }
 {
-    live_lists_law::<M>();
+    none_impossible_law::<M>();
 }
 
 /// An edit has one ground at most.

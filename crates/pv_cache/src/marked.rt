@@ -1,10 +1,10 @@
 //! A document whose marks tell the verdict of each list, whatever edits came before.
 
-ghost use Rattle.std.specs.Prelude.{◌≡◌, ◌≤◌, ◌+◌, ℕ, None, IfErr, IfOk, IsNone, MatchOption};
+ghost use Rattle.std.specs.Prelude.{◌≡◌, ◌≤◌, ◌+◌, ℕ, None, IfErr, IfOk, MatchOption};
 ghost use Rattle.std.specs.Prelude.{OnErr, OnOk};
 ghost use Rattle.std.specs.List.{AllByRecursion};
-ghost use Rattle.pv_cache.specs.Accepting.{IsAccepted, IsGuarded, MAX_EDITED_NODES};
-ghost use Rattle.pv_cache.specs.Moves.{HasGround, HasOpen, IsEdited, IsReverted};
+ghost use Rattle.pv_cache.specs.Accepting.{IsAccepted, IsHoldable, MAX_EDITED_NODES};
+ghost use Rattle.pv_cache.specs.Moves.{HasBad, HasGround, HasOpen, IsEdited, IsReverted};
 ghost use Rattle.pv_cache.specs.Rows.{AreRows, IsVerdictAt, TellVerdicts};
 ghost use Rattle.pv_cache.specs.Stamps.{doc_as, stamps_of};
 ghost use Rattle.pv_cache.specs.WellMarked.{IsWellMarked};
@@ -17,6 +17,8 @@ ghost use Rattle.pv_tree.specs.Places.{list_at};
 ghost use Rattle.pv_tree.specs.Plain.{PlainDoc, nodes_in};
 ghost use Rattle.pv_tree.specs.PlainDocs.{plain_doc};
 
+use crate::bad_lists::told_bad;
+use crate::firsts::first_bad;
 use crate::laying::lay_doc;
 use crate::planned::PlannedGrammar;
 use crate::rows::rows_of;
@@ -24,22 +26,19 @@ use crate::told::told_verdict;
 use crate::verdicts::verdicts_told;
 use crate::well_marked::WellMarked;
 use pv_chars::{Bytes, List, NoMemory};
-use pv_dtd::laws::proper_dtd_law;
 use pv_edit::{Done, Edit, EditAnswer, Inverse, VerdictRows};
 use pv_missing::Verdicts;
-use pv_missing::laws::documents::live_lists_law;
-use pv_missing::laws::proper::proper_doc_law;
 use pv_productive::Grammar;
 use pv_steps::Steps;
-use pv_tree::{Doc, Found, Mark, Path, Verdict};
+use pv_tree::{Doc, Found, Path, Verdict};
 use std::alloc::Global;
 use std::marker::Model;
 use std::sync::ledger::Ledger;
 
 /// A document for a DTD and a root's name, whose marks tell the verdict of each list.
 ///
-/// No list of it is Impossible or too wide for a verdict, and it has at most 33,554,432 nodes below
-/// its document node.
+/// No list of it is too wide for a verdict, and it has at most 33,554,432 nodes below its document
+/// node. It also keeps how many of its lists are Impossible.
 #[derive(Drop)]
 pub struct Marked {
     document: WellMarked,
@@ -68,7 +67,6 @@ impl Marked {
         verdicts: Verdicts,
     ) -> Result<Marked, NoMemory>
         requires verdicts { HaveVerdicts (dtd_of grammar) root (lists_of (plain_doc doc)) verdicts }
-        requires possible { IsNone verdicts.first }
         requires narrow { AllByRecursion (IsListForVerdict (dtd_of grammar))
             (lists_of (plain_doc doc)) }
         requires few { nodes_in (plain_doc doc).root ≤ MAX_EDITED_NODES }
@@ -78,11 +76,13 @@ impl Marked {
         let grammar = PlannedGrammar::of(alloc, grammar)?;
         let mut doc = doc;
         lay_doc(alloc, &mut doc, &verdicts);
+        let bad = told_bad(&doc);
         let document = WellMarked {
             alloc,
             grammar,
             root,
             doc,
+            bad,
         };
         Ok(Marked { document })
     }
@@ -121,9 +121,8 @@ impl Marked {
         self.document.edit(edit, stamp, steps)
     }
 
-    /// Takes an edit back: makes the document that an inverse leads to, which can be held, and
-    /// which inserting elements can make valid. The lists that this changes get the stamp. After an
-    /// error the document is as it was.
+    /// Takes an edit back: makes the document that an inverse leads to, which can be held. The
+    /// lists that this changes get the stamp. After an error the document is as it was.
     ///
     /// At most two lists are checked, beside the tree.
     pub fn revert<L: Ledger>(
@@ -133,7 +132,7 @@ impl Marked {
         steps: &mut Steps<L>,
     ) -> Result<Done, NoMemory>
         requires { (before : PlainDoc Unit) × LeadsBack inverse.now self.old.doc before ×
-            IsGuarded self.old.dtd self.old.root before }
+            IsHoldable self.old.dtd before }
         ensures reverted { (before : PlainDoc Unit)
             (back : LeadsBack inverse.now self.old.doc before) →
             IfOk result (λ done. IsReverted self.old inverse.now back.edit before stamp done
@@ -149,6 +148,13 @@ impl Marked {
         ensures { HasOpen self.now result }
     {
         self.document.doc.mark.left
+    }
+
+    /// How many lists of the document are Impossible.
+    pub fn bad_count(&self) -> u64
+        ensures { HasBad self.now result }
+    {
+        self.document.bad
     }
 
     /// The verdict of the list at a path; none where no list stands there.
@@ -170,12 +176,13 @@ impl Marked {
         Ok(List::of(rows_of(self.document.alloc, &self.document.doc)?))
     }
 
-    /// The verdicts of all its lists, in document order; none is Impossible.
+    /// The verdicts of all its lists, in document order, and the path of the first Impossible one.
     pub fn verdicts(&self) -> Result<Verdicts, NoMemory>
         ensures { IfOk result (TellVerdicts self.now) }
     {
         let verdicts = verdicts_told(self.document.alloc, &self.document.doc)?;
-        Ok(Verdicts::of(verdicts, None))
+        let first = first_bad(self.document.alloc, &self.document.doc)?;
+        Ok(Verdicts::of(verdicts, first))
     }
 
     /// The document; its marks are those of a well marked one.
@@ -200,14 +207,11 @@ impl Marked {
         self.document.grammar.grammar()
     }
 
-    /// Inserting elements can make the document valid, it is within the limits, and it has what
-    /// each document has.
-    pub fn guarded_law(&self)
-        ensures guarded { IsGuarded self.now.dtd self.now.root self.now.doc }
+    /// The document can be held, and it has what each document has.
+    pub fn holdable_law(&self)
+        ensures holdable { IsHoldable self.now.dtd self.now.doc }
         ensures kept { IsKept self.now.doc.root }
     {
-        live_lists_law::<Mark>();
-        proper_dtd_law(self.document.grammar.dtd());
-        proper_doc_law(&self.document.doc);
+        let _document = &self.document;
     }
 }

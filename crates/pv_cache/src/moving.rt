@@ -1,7 +1,7 @@
 //! Edits of a well marked document, and taking them back.
 
 ghost use Rattle.std.specs.Prelude.{◌≡◌, ◌≤◌, ◌+◌, nat_lt, IfErr, IfOk, OnErr, OnOk};
-ghost use Rattle.pv_cache.specs.Accepting.{IsAccepted, IsGuarded, MAX_EDITED_NODES};
+ghost use Rattle.pv_cache.specs.Accepting.{IsAccepted, IsHoldable, MAX_EDITED_NODES};
 ghost use Rattle.pv_cache.specs.Changing.{IsReady, edited_doc};
 ghost use Rattle.pv_cache.specs.Moves.{HasGround, IsEdited, IsReverted};
 ghost use Rattle.pv_cache.specs.PlainForms.{stamped_doc};
@@ -14,10 +14,8 @@ ghost use Rattle.pv_tree.specs.PlainDocs.{plain_doc};
 use crate::mending::ChangedVerdicts;
 use crate::well_marked::WellMarked;
 use pv_chars::NoMemory;
-use pv_dtd::laws::proper_dtd_law;
 use pv_edit::laws::{changed_lists_law, leads_back_law, nodes_law};
 use pv_edit::{Done, Edit, EditAnswer, Inverse, Preparation, Task, prepare, prepare_back};
-use pv_missing::laws::documents::live_lists_law;
 use pv_reach::ReachError;
 use pv_steps::Steps;
 use pv_tree::Mark;
@@ -60,10 +58,8 @@ impl WellMarked {
             (stamps_of (plain_doc self.now.doc)) edit.now) }
         ensures steps { steps.new ≤ steps.old + 2 }
     {
-        live_lists_law::<Mark>();
         changed_lists_law::<Mark>();
         nodes_law::<Mark>();
-        proper_dtd_law(self.grammar.dtd());
         let ready = prepare(self.alloc, &self.doc, edit)?;
         if gives_too_many(edit, self.doc.mark.nodes) {
             return Err(EditAnswer::Limit);
@@ -101,7 +97,8 @@ impl WellMarked {
         } = judged;
         let checked = self.make_judged(task, verdicts, stamp)?;
         let left = self.doc.mark.left;
-        Ok((Done { checked, left }, inverse))
+        let bad = self.bad;
+        Ok((Done { checked, left, bad }, inverse))
     }
 
     /// Takes an edit back: makes the document that an inverse leads to. After an error the document
@@ -114,7 +111,7 @@ impl WellMarked {
     ) -> Result<Done, NoMemory>
         requires { (before : PlainDoc Unit) ×
             LeadsBack inverse.now (plain_doc self.old.doc) before ×
-            IsGuarded self.old.grammar self.old.root before }
+            IsHoldable self.old.grammar before }
         ensures reverted { (before : PlainDoc Unit)
             (back : LeadsBack inverse.now (plain_doc self.old.doc) before) →
             IfOk result (λ done. IsReverted (stamped_doc self.old) inverse.now back.edit before
@@ -122,10 +119,8 @@ impl WellMarked {
         ensures unchanged { OnErr result (stamped_doc self.new ≡ stamped_doc self.old) }
         ensures steps { steps.new ≤ steps.old + 2 }
     {
-        live_lists_law::<Mark>();
         leads_back_law::<Mark>();
         changed_lists_law::<Mark>();
-        proper_dtd_law(self.grammar.dtd());
         let task = prepare_back(self.alloc, &self.doc, inverse)?;
         let verdicts = match self.judge_task(&task, steps) {
             Ok(verdicts) => verdicts,
@@ -134,6 +129,10 @@ impl WellMarked {
         };
         let checked = self.make_judged(task, verdicts, stamp)?;
         let left = self.doc.mark.left;
-        Ok(Done { checked, left })
+        Ok(Done {
+            checked,
+            left,
+            bad: self.bad,
+        })
     }
 }

@@ -1,8 +1,8 @@
 //! A well marked document, and what its lists are judged by.
 
-ghost use Rattle.std.specs.Prelude.{◌≤◌};
+ghost use Rattle.std.specs.Prelude.{◌≡◌, ◌≤◌};
 ghost use Rattle.pv_cache.specs.Accepting.{MAX_EDITED_NODES};
-ghost use Rattle.pv_cache.specs.WellMarked.{IsWellMarked};
+ghost use Rattle.pv_cache.specs.WellMarked.{IsWellMarked, told_bad};
 ghost use Rattle.pv_tree.specs.Plain.{nodes_in};
 ghost use Rattle.pv_tree.specs.PlainDocs.{plain_doc};
 
@@ -11,13 +11,16 @@ use pv_chars::Bytes;
 use pv_tree::Doc;
 use std::alloc::Global;
 
-/// A document for a DTD and a root's name, whose marks tell of its lists.
+/// A document for a DTD and a root's name, whose marks tell of its lists, and how many of these are
+/// Impossible.
 #[derive(Drop)]
 pub struct WellMarked {
     pub alloc: Global,
     pub grammar: PlannedGrammar,
     pub root: Bytes,
     pub doc: Doc,
+    pub bad: u64,
     pub ghost marked: { ∥ IsWellMarked grammar root (plain_doc doc) ∥₁ },
+    pub ghost counted: { bad ≡ told_bad (plain_doc doc) },
     pub ghost few: { nodes_in (plain_doc doc).root ≤ MAX_EDITED_NODES },
 }

@@ -47,7 +47,8 @@ row_lines (row ∷ rows) = with_feed (row_text row) ++ row_lines rows
 -- the bytes of a reply; each of its lines ends with LF
 abbrev pub reply_bytes : Reply → List ℕ
 reply_bytes (reply.Okay done) =
-    with_feed (words (codes "ok" ∷ decimal done.checked ∷ decimal done.left ∷ []))
+    with_feed (words (codes "ok" ∷ decimal done.checked ∷ decimal done.left ∷
+    decimal done.bad ∷ []))
 reply_bytes (reply.Shape reason) = with_feed (words (codes "no shape" ∷ reason_word reason ∷ []))
 reply_bytes (reply.Impossible path) =
     with_feed (words (codes "no impossible" ∷ path_text path ∷ []))

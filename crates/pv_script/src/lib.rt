@@ -20,7 +20,7 @@ mod replies;
 pub use commands::{Command, read_command};
 pub use edits::edit_line;
 pub use errors::CommandError;
-pub use lines::{Lines, MAX_LINE_BYTES, Took};
+pub use lines::{Lines, MAX_LINE_BYTES, Took, without_returns};
 pub use okay::{limit_line_text, okay_text};
 pub use paths::{push_number, push_path, written_number, written_path};
 pub use replies::{Reply, no_command_text, no_memory_text, reply_text};

@@ -25,7 +25,7 @@ pub enum Took {
 }
 
 /// The line without the CR bytes at its end.
-fn without_returns(line: &[u8]) -> &[u8]
+pub fn without_returns(line: &[u8]) -> &[u8]
     ensures { result.now ≡ without_returns line.now }
 {
     let mut end = line.len();

@@ -33,6 +33,8 @@ pub fn okay_text(done: &Done, room: &mut [u8]) -> usize
     let end = put(room, end, buffer.format(done.checked).as_bytes());
     let end = put(room, end, b" ");
     let end = put(room, end, buffer.format(done.left).as_bytes());
+    let end = put(room, end, b" ");
+    let end = put(room, end, buffer.format(done.bad).as_bytes());
     put(room, end, b"\n")
 }
 

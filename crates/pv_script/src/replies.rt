@@ -21,8 +21,9 @@ pub enum Reply {
     Okay(Done),
     /// The edit can't be made: its first reason.
     Shape(Reason),
-    /// Inserting elements could no longer make the document valid: the path of the first
-    /// impossible list.
+    /// More lists would be impossible than before: the path of the first of the changed ones. Or,
+    /// to `need` and `complete`, inserting elements can't make the document valid: the path of its
+    /// first impossible list.
     Impossible(Path),
     /// There is nothing left to undo or redo.
     NoHistory,

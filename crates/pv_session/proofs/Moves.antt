@@ -2,9 +2,9 @@
 use Rattle.std.proofs.Common.{List, [], ap, refl, subst, sym, ◌++◌, ◌∙◌, ◌∷◌, ◌≡◌, ℕ}
 use Rattle.std.specs.Prelude.{Err, None, Option, Some}
 use Rattle.std.specs.Option.{MatchOption}
-use Rattle.pv_cache.specs.Accepting.{IsAccepted, IsGuarded}
+use Rattle.pv_cache.specs.Accepting.{IsAccepted, IsHoldable}
 use Rattle.pv_cache.specs.MarkLaws.{HoldsByOtherMarks}
-use Rattle.pv_cache.specs.Moves.{HasGround, HasOpen, IsEdited, IsReverted}
+use Rattle.pv_cache.specs.Moves.{HasBad, HasGround, HasOpen, IsEdited, IsReverted}
 use Rattle.pv_cache.specs.Stamps.{StampedDoc, doc_as, stamp_lists}
 use Rattle.pv_edit.specs.ChangedLists.{changed_lists, makes, undoes}
 use Rattle.pv_edit.specs.Inverses.{IsKept, LeadsBack, inverse_of, doc_back}
@@ -44,16 +44,16 @@ module _ (one : LeadsToOne Unit) (marks : HoldsByOtherMarks ℕ Unit) (m : Stamp
   pub is_session : IsSession s
   is_session =
       let steps = replays s.dtd s.root s.opened now edits ways k.past in
-      record { replays = steps; guarded = k.guarded; kept = k.kept; same_before = sym (same_before s.opened now edits steps); prolog = subst (IsProlog s.root) (same_before s.opened now edits steps) k.prolog }
+      record { replays = steps; holdable = k.holdable; kept = k.kept; same_before = sym (same_before s.opened now edits steps); prolog = subst (IsProlog s.root) (same_before s.opened now edits steps) k.prolog }
 
-  guarded_now : IsGuarded s.dtd s.root now
-  guarded_now = marks.guarded (λ _. tt) s.dtd s.root m.doc k.guarded
+  holdable_now : IsHoldable s.dtd now
+  holdable_now = marks.holdable (λ _. tt) s.dtd m.doc k.holdable
 
   kept_now : IsKept now.root
   kept_now = marks.kept (λ _. tt) m.doc.root k.kept
 
   -- ---- an edit
-  module _ (edit : Edit) (n : ℕ) (is_next : n ≡ next_move moves) (done : Done) (way : Inverse) (after : StampedDoc) (e : IsEdited m edit n done way after) (guarded : IsGuarded after.dtd after.root after.doc) (kept : IsKept after.doc.root) where
+  module _ (edit : Edit) (n : ℕ) (is_next : n ≡ next_move moves) (done : Done) (way : Inverse) (after : StampedDoc) (e : IsEdited m edit n done way after) (holdable : IsHoldable after.dtd after.doc) (kept : IsKept after.doc.root) where
     same_dtd : after.dtd ≡ m.dtd
     same_dtd = ap (λ (a : StampedDoc). a.dtd) e.is_after
 
@@ -77,7 +77,7 @@ module _ (one : LeadsToOne Unit) (marks : HoldsByOtherMarks ℕ Unit) (m : Stamp
     }
 
     longer : LeadsTo s.dtd s.root s.opened (edits ++ edit ∷ []) (ways ++ way ∷ []) later
-    longer = leads_more s.dtd s.root s.opened now later edits ways edit way k.past guarded_now made
+    longer = leads_more s.dtd s.root s.opened now later edits ways edit way k.past holdable_now made
 
     still_opened : opened_doc (ways ++ way ∷ []) later ≡ s.opened
     still_opened = led_opened one s.dtd s.root s.opened later (edits ++ edit ∷ []) (ways ++ way ∷ []) longer
@@ -96,9 +96,12 @@ module _ (one : LeadsToOne Unit) (marks : HoldsByOtherMarks ℕ Unit) (m : Stamp
       is_left : HasOpen (stamped_document t) done.left
       is_left = e.is_left
 
+      is_bad : HasBad (stamped_document t) done.bad
+      is_bad = e.is_bad
+
       keeps_with : (last : PlainDoc Unit) → LeadsOn t.dtd t.root (unmarked_doc t.doc) undone' last → KeepsWays t ways'
       keeps_with last on =
-          record { guarded = guarded; kept = kept; prolog = rw (same_opened, same_root) k.prolog; past = leads_past; last = last; undone = on }
+          record { holdable = holdable; kept = kept; prolog = rw (same_opened, same_root) k.prolog; past = leads_past; last = last; undone = on }
 
       -- whose parts are those of the session before it
       same_parts : (u : List Edit) → undone' ≡ u → t ≡ record s { past = edits ++ edit ∷ []; undone = u; moves = next_move moves; doc = behind_move s (changed_lists (makes edit)) e.edited }
@@ -113,8 +116,8 @@ module _ (one : LeadsToOne Unit) (marks : HoldsByOtherMarks ℕ Unit) (m : Stamp
         pub edit_keeps : KeepsWays t ways'
         edit_keeps = keeps_with later (subst (λ (es : List Edit). LeadsOn t.dtd t.root later es later) (sym u) refl)
 
-        pub edit_is_step : IsEditStep s edit (is_done done.checked done.left) t
-        edit_is_step = accepted e.edited done.left e.accepted (same_parts [] u) is_left (ap (λ (i : ℕ). is_done i done.left) e.is_checked)
+        pub edit_is_step : IsEditStep s edit (is_done done.checked done.left done.bad) t
+        edit_is_step = accepted e.edited done.left done.bad e.accepted (same_parts [] u) is_left is_bad (ap (λ (i : ℕ). is_done i done.left done.bad) e.is_checked)
 
       -- ---- made again
       module _ (rest : List Edit) (o : gone ≡ rest ++ edit ∷ []) (u : undone' ≡ rest) where
@@ -129,10 +132,10 @@ module _ (one : LeadsToOne Unit) (marks : HoldsByOtherMarks ℕ Unit) (m : Stamp
             let on : LeadsOn s.dtd s.root later rest k.last = subst (λ (d : PlainDoc Unit). LeadsOn s.dtd s.root d rest k.last) same_next next.leads in
             keeps_with k.last (rw (same_dtd, same_root, u) on)
 
-        pub redo_is_step : IsRedoStep s (is_done done.checked done.left) t
+        pub redo_is_step : IsRedoStep s (is_done done.checked done.left done.bad) t
         redo_is_step =
-            redone edit rest e.edited done.left o e.accepted.is_edited (replays s.dtd s.root s.opened later (edits ++ edit ∷ []) (ways ++ way ∷ []) longer) (same_parts rest u) is_left
-            (ap (λ (i : ℕ). is_done i done.left) e.is_checked)
+            redone edit rest e.edited done.left done.bad o e.accepted.is_edited (replays s.dtd s.root s.opened later (edits ++ edit ∷ []) (ways ++ way ∷ []) longer) (same_parts rest u) is_left is_bad
+            (ap (λ (i : ℕ). is_done i done.left done.bad) e.is_checked)
 
   -- ---- an undo
   module _ (before : List Edit) (fewer : List Inverse) (edit : Edit) (way : Inverse) (e : edits ≡ before ++ edit ∷ []) (f : ways ≡ fewer ++ way ∷ []) where
@@ -145,10 +148,10 @@ module _ (one : LeadsToOne Unit) (marks : HoldsByOtherMarks ℕ Unit) (m : Stamp
     abbrev pub leads_back : LeadsBack way m.doc last_made.before
     leads_back = goes_back s.dtd s.root last_made.before edit way m.doc last_made.made
 
-    pub guarded_before : IsGuarded s.dtd s.root last_made.before
-    guarded_before = last_made.guarded
+    pub holdable_before : IsHoldable s.dtd last_made.before
+    holdable_before = last_made.holdable
 
-    module _ (n : ℕ) (is_next : n ≡ next_move moves) (done : Done) (after : StampedDoc) (r : IsReverted m way edit last_made.before n done after) (guarded : IsGuarded after.dtd after.root after.doc) (kept : IsKept after.doc.root) where
+    module _ (n : ℕ) (is_next : n ≡ next_move moves) (done : Done) (after : StampedDoc) (r : IsReverted m way edit last_made.before n done after) (holdable : IsHoldable after.dtd after.doc) (kept : IsKept after.doc.root) where
       back_dtd : after.dtd ≡ m.dtd
       back_dtd = ap (λ (a : StampedDoc). a.dtd) r.is_after
 
@@ -173,7 +176,7 @@ module _ (one : LeadsToOne Unit) (marks : HoldsByOtherMarks ℕ Unit) (m : Stamp
             let again : IsAccepted tt s.dtd s.root (unmarked_doc after.doc) edit now = subst (λ (d : PlainDoc Unit). IsAccepted tt s.dtd s.root d edit now) (sym r.led) last_made.made.accepted in
             let on = leads_on_more s.dtd s.root (unmarked_doc after.doc) now k.last gone edit k.undone again in
             record {
-              guarded = guarded;
+              holdable = holdable;
               kept = kept;
               prolog = rw (back_opened, back_root) k.prolog;
               past = rw (back_opened, p, w, back_dtd, back_root) shorter;
@@ -181,15 +184,15 @@ module _ (one : LeadsToOne Unit) (marks : HoldsByOtherMarks ℕ Unit) (m : Stamp
               undone = rw (back_dtd, back_root, u) on;
             }
 
-        pub undo_is_step : IsUndoStep s (is_done done.checked done.left) b
+        pub undo_is_step : IsUndoStep s (is_done done.checked done.left done.bad) b
         undo_is_step =
             let d : after.doc ≡ behind_move s (changed_lists (undoes edit)) (doc_back 0 m.doc (inverse_of last_made.before.root edit)) =
             back_doc ∙ ap (λ (i : ℕ). stamp_lists i (changed_lists (undoes edit)) (doc_back 0 m.doc way)) is_next
             ∙ ap (λ (w : Inverse). behind_move s (changed_lists (undoes edit)) (doc_back 0 m.doc w)) (sym last_made.made.is_inverse) in
             let parts : b ≡ record s { past = before; undone = gone ++ edit ∷ []; moves = next_move moves; doc = behind_move s (changed_lists (undoes edit)) (doc_back 0 m.doc (inverse_of last_made.before.root edit)) } =
             (let x = back_dtd in let y = back_root in let z = back_opened in cc) in
-            undone edit before last_made.before done.left e (replays s.dtd s.root s.opened last_made.before before fewer last_made.led) r.led parts r.is_left
-            (ap (λ (i : ℕ). is_done i done.left) r.is_checked)
+            undone edit before last_made.before done.left done.bad e (replays s.dtd s.root s.opened last_made.before before fewer last_made.led) r.led parts r.is_left r.is_bad
+            (ap (λ (i : ℕ). is_done i done.left done.bad) r.is_checked)
 
   -- the last edit can be undone by the last way back
   pub record CanUndo (way : Inverse) : Type 0 where
@@ -219,10 +222,10 @@ pub refuse_step : (s : PlainSession) (edit : Edit) (a : EditAnswer) → HasGroun
 refuse_step s edit a h = refused_by s edit a h (refusal_of a) refl
 
 -- a session that begins
-pub begun_keeps : (m : StampedDoc) (edits gone : List Edit) (ways : List Inverse) → edits ≡ [] → ways ≡ [] → gone ≡ [] → IsGuarded m.dtd m.root m.doc → IsKept m.doc.root → IsProlog m.root m.doc.before →
+pub begun_keeps : (m : StampedDoc) (edits gone : List Edit) (ways : List Inverse) → edits ≡ [] → ways ≡ [] → gone ≡ [] → IsHoldable m.dtd m.doc → IsKept m.doc.root → IsProlog m.root m.doc.before →
     KeepsWays (session_of m edits ways gone 0) ways
-begun_keeps m edits gone ways p w u guarded kept prolog = record {
-  guarded = guarded;
+begun_keeps m edits gone ways p w u holdable kept prolog = record {
+  holdable = holdable;
   kept = kept;
   prolog = rw w prolog;
   past = rw (p, w) refl;

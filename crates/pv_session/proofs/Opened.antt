@@ -20,5 +20,5 @@ pub led_opened : LeadsToOne Unit → (g : PlainDtd) (root : List ℕ) (opened af
 led_opened one g root opened after [] [] l = l
 led_opened one g root opened after [] (way ∷ ways) l = absurd l
 led_opened one g root opened after (edit ∷ edits) [] l = absurd l
-led_opened one g root opened after (edit ∷ edits) (way ∷ ways) (next, guarded, made, l) =
+led_opened one g root opened after (edit ∷ edits) (way ∷ ways) (next, holdable, made, l) =
     ap (λ (d : PlainDoc Unit). doc_back tt d way) (led_opened one g root next after edits ways l) ∙ undoes_made one g root opened edit way next made

@@ -8,7 +8,7 @@ use Rattle.pv_edit.specs.Reasons.{applied, gives, outcome, reason_of}
 use Rattle.pv_edit.specs.declared.edits.Edit.{Edit}
 use Rattle.pv_edit.specs.declared.inverses.Inverse.{Inverse}
 use Rattle.pv_edit.specs.declared.reasons.Reason.{Reason}
-use Rattle.pv_cache.specs.Accepting.{IsAccepted, IsGuarded}
+use Rattle.pv_cache.specs.Accepting.{IsAccepted, IsHoldable}
 use Rattle.pv_session.specs.Keeping.{IsMade, LeadsOn, LeadsTo}
 use Rattle.pv_session.specs.Sessions.{Replays}
 use Rattle.pv_tree.specs.Marks.{unmarked_doc}
@@ -41,34 +41,34 @@ module _ (g : PlainDtd) (root : List ℕ) where
   replays doc after [] [] l = l
   replays doc after [] (way ∷ ways) l = absurd l
   replays doc after (edit ∷ edits) [] l = absurd l
-  replays doc after (edit ∷ edits) (way ∷ ways) (next, guarded, made, l) = (next, made.accepted.is_edited, replays next after edits ways l)
+  replays doc after (edit ∷ edits) (way ∷ ways) (next, holdable, made, l) = (next, made.accepted.is_edited, replays next after edits ways l)
 
   -- ---- the past
   -- one more edit
-  pub leads_more : (doc last after : PlainDoc Unit) (edits : List Edit) (ways : List Inverse) (edit : Edit) (way : Inverse) → LeadsTo g root doc edits ways last → IsGuarded g root last → IsMade g root last edit way after →
+  pub leads_more : (doc last after : PlainDoc Unit) (edits : List Edit) (ways : List Inverse) (edit : Edit) (way : Inverse) → LeadsTo g root doc edits ways last → IsHoldable g last → IsMade g root last edit way after →
       LeadsTo g root doc (edits ++ edit ∷ []) (ways ++ way ∷ []) after
-  leads_more doc last after [] [] edit way l guarded made =
-      (after, subst (IsGuarded g root) l guarded, subst (λ (d : PlainDoc Unit). IsMade g root d edit way after) l made, refl)
-  leads_more doc last after [] (w ∷ ways) edit way l guarded made = absurd l
-  leads_more doc last after (e ∷ edits) [] edit way l guarded made = absurd l
-  leads_more doc last after (e ∷ edits) (w ∷ ways) edit way (next, g1, m, l) guarded made = (next, g1, m, leads_more next last after edits ways edit way l guarded made)
+  leads_more doc last after [] [] edit way l holdable made =
+      (after, subst (IsHoldable g) l holdable, subst (λ (d : PlainDoc Unit). IsMade g root d edit way after) l made, refl)
+  leads_more doc last after [] (w ∷ ways) edit way l holdable made = absurd l
+  leads_more doc last after (e ∷ edits) [] edit way l holdable made = absurd l
+  leads_more doc last after (e ∷ edits) (w ∷ ways) edit way (next, g1, m, l) holdable made = (next, g1, m, leads_more next last after edits ways edit way l holdable made)
 
   -- the last edit and its way back
   pub record IsLast (doc : PlainDoc Unit) (edits : List Edit) (ways : List Inverse) (edit : Edit) (way : Inverse) (after : PlainDoc Unit) : Type 0 where
     pub before : PlainDoc Unit
     pub led : LeadsTo g root doc edits ways before
-    pub guarded : IsGuarded g root before
+    pub holdable : IsHoldable g before
     pub made : IsMade g root before edit way after
 
   pub last_edit : (doc after : PlainDoc Unit) (edits : List Edit) (ways : List Inverse) (edit : Edit) (way : Inverse) → LeadsTo g root doc (edits ++ edit ∷ []) (ways ++ way ∷ []) after → IsLast doc edits ways edit way after
-  last_edit doc after [] [] edit way (next, guarded, made, l) = record { before = doc; led = refl; guarded = guarded; made = subst (IsMade g root doc edit way) (sym l) made }
-  last_edit doc after [] (w ∷ []) edit way (next, guarded, made, l) = absurd l
-  last_edit doc after [] (w ∷ v ∷ ways) edit way (next, guarded, made, l) = absurd l
-  last_edit doc after (e ∷ []) [] edit way (next, guarded, made, l) = absurd l
-  last_edit doc after (e ∷ f ∷ edits) [] edit way (next, guarded, made, l) = absurd l
-  last_edit doc after (e ∷ edits) (w ∷ ways) edit way (next, guarded, made, l) =
+  last_edit doc after [] [] edit way (next, holdable, made, l) = record { before = doc; led = refl; holdable = holdable; made = subst (IsMade g root doc edit way) (sym l) made }
+  last_edit doc after [] (w ∷ []) edit way (next, holdable, made, l) = absurd l
+  last_edit doc after [] (w ∷ v ∷ ways) edit way (next, holdable, made, l) = absurd l
+  last_edit doc after (e ∷ []) [] edit way (next, holdable, made, l) = absurd l
+  last_edit doc after (e ∷ f ∷ edits) [] edit way (next, holdable, made, l) = absurd l
+  last_edit doc after (e ∷ edits) (w ∷ ways) edit way (next, holdable, made, l) =
       let rest = last_edit next after edits ways edit way l in
-      record { before = rest.before; led = (next, guarded, made, rest.led); guarded = rest.guarded; made = rest.made }
+      record { before = rest.before; led = (next, holdable, made, rest.led); holdable = rest.holdable; made = rest.made }
 
   -- there are as many ways back as edits
   pub both_empty : (doc after : PlainDoc Unit) (edits : List Edit) (ways : List Inverse) → LeadsTo g root doc edits ways after → ways ≡ [] → edits ≡ []

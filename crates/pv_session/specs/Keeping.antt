@@ -1,6 +1,6 @@
 -- What each session keeps.
 use Rattle.std.specs.Prelude.{◌≡◌, List, [], ℕ, ◌∷◌}
-use Rattle.pv_cache.specs.Accepting.{IsAccepted, IsGuarded}
+use Rattle.pv_cache.specs.Accepting.{IsAccepted, IsHoldable}
 use Rattle.pv_dtd.specs.Plain.{PlainDtd}
 use Rattle.pv_edit.specs.Inverses.{IsKept, inverse_of, doc_back}
 use Rattle.pv_edit.specs.declared.edits.Edit.{Edit}
@@ -15,7 +15,7 @@ use Rattle.pv_tree.specs.Prolog.{IsProlog}
 -- root.
 pub record IsSession (s : PlainSession) : Type 0 where
   pub replays : Replays s.opened s.past (unmarked_doc s.doc)
-  pub guarded : IsGuarded s.dtd s.root s.doc
+  pub holdable : IsHoldable s.dtd s.doc
   pub kept : IsKept s.doc.root
   pub same_before : s.doc.before ≡ s.opened.before
   pub prolog : IsProlog s.root s.doc.before
@@ -34,7 +34,7 @@ LeadsTo g root doc [] [] after = after ≡ doc
 LeadsTo g root doc [] (way_back ∷ ways_back) after = ⊥
 LeadsTo g root doc (edit ∷ edits) [] after = ⊥
 LeadsTo g root doc (edit ∷ edits) (way_back ∷ ways_back) after =
-    (next : PlainDoc Unit) × IsGuarded g root doc × IsMade g root doc edit way_back next ×
+    (next : PlainDoc Unit) × IsHoldable g doc × IsMade g root doc edit way_back next ×
     LeadsTo g root next edits ways_back after
 
 -- Undone edits, the last of them first, lead on from one document to another: each of them is
@@ -51,7 +51,7 @@ opened_doc (way_back ∷ ways_back) doc = doc_back tt (opened_doc ways_back doc)
 
 -- what a session keeps with its ways back
 pub record KeepsWays (s : PlainSession) (ways_back : List Inverse) : Type 0 where
-  pub guarded : IsGuarded s.dtd s.root s.doc
+  pub holdable : IsHoldable s.dtd s.doc
   pub kept : IsKept s.doc.root
   pub prolog : IsProlog s.root s.opened.before
   pub past : LeadsTo s.dtd s.root s.opened s.past ways_back (unmarked_doc s.doc)

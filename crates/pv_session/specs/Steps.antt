@@ -2,7 +2,7 @@
 -- behind it.
 use Rattle.std.specs.Prelude.{◌≡◌, ◌++◌, List, None, Option, Some, [], length, ℕ, ◌∷◌}
 use Rattle.pv_cache.specs.Accepting.{IsAccepted}
-use Rattle.pv_cache.specs.Moves.{HasGround, HasOpen}
+use Rattle.pv_cache.specs.Moves.{HasBad, HasGround, HasOpen}
 use Rattle.pv_cache.specs.Stamps.{stamp_lists}
 use Rattle.pv_edit.specs.ChangedLists.{changed_lists, makes, undoes}
 use Rattle.pv_edit.specs.Inverses.{inverse_of, doc_back}
@@ -15,10 +15,10 @@ use Rattle.pv_session.specs.Sessions.{PlainSession, Replays, next_move, stamped_
 use Rattle.pv_tree.specs.Marks.{unmarked_doc}
 use Rattle.pv_tree.specs.Plain.{PlainDoc}
 
--- The answer to a move. `is_done`: it was made; so many lists were changed, and so many lists are
--- Possible now.
+-- The answer to a move. `is_done`: it was made; so many lists were changed, so many lists are
+-- Possible now, and so many Impossible.
 pub data PlainAnswer : Type 0 where
-  is_done : (changed left : ℕ) → PlainAnswer
+  is_done : (changed left bad : ℕ) → PlainAnswer
   lacks_shape : (reason : Reason) → PlainAnswer
   is_past_limit : PlainAnswer
   is_impossible : (path : List ℕ) → PlainAnswer
@@ -41,7 +41,7 @@ refusal_of refusal.NoMemory = None
 pub data IsEditStep (before : PlainSession) (edit : Edit) (answer : PlainAnswer)
     (after : PlainSession)
     : Type 0 where
-  accepted : (edited : PlainDoc ℕ) (left : ℕ) →
+  accepted : (edited : PlainDoc ℕ) (left bad : ℕ) →
       IsAccepted 0 before.dtd before.root before.doc edit edited →
       after ≡ record before {
         past = before.past ++ edit ∷ [];
@@ -49,8 +49,8 @@ pub data IsEditStep (before : PlainSession) (edit : Edit) (answer : PlainAnswer)
         moves = next_move before.moves;
         doc = behind_move before (changed_lists (makes edit)) edited;
       } →
-      HasOpen (stamped_document after) left →
-      answer ≡ is_done (length (changed_lists (makes edit))) left →
+      HasOpen (stamped_document after) left → HasBad (stamped_document after) bad →
+      answer ≡ is_done (length (changed_lists (makes edit))) left bad →
       IsEditStep before edit answer after
   refused : (why : EditAnswer) → HasGround 0 before.dtd before.root before.doc edit why →
       refusal_of why ≡ Some answer → after ≡ before → IsEditStep before edit answer after
@@ -59,7 +59,7 @@ pub data IsEditStep (before : PlainSession) (edit : Edit) (answer : PlainAnswer)
 -- it make of the opened one.
 pub data IsUndoStep (before : PlainSession) (answer : PlainAnswer) (after : PlainSession) :
     Type 0 where
-  undone : (edit : Edit) (past : List Edit) (doc : PlainDoc Unit) (left : ℕ) →
+  undone : (edit : Edit) (past : List Edit) (doc : PlainDoc Unit) (left bad : ℕ) →
       before.past ≡ past ++ edit ∷ [] → Replays before.opened past doc →
       unmarked_doc after.doc ≡ doc →
       after ≡ record before {
@@ -69,8 +69,8 @@ pub data IsUndoStep (before : PlainSession) (answer : PlainAnswer) (after : Plai
         doc = behind_move before (changed_lists (undoes edit))
             (doc_back 0 before.doc (inverse_of doc.root edit));
       } →
-      HasOpen (stamped_document after) left →
-      answer ≡ is_done (length (changed_lists (undoes edit))) left →
+      HasOpen (stamped_document after) left → HasBad (stamped_document after) bad →
+      answer ≡ is_done (length (changed_lists (undoes edit))) left bad →
       IsUndoStep before answer after
   no_past : before.past ≡ [] → answer ≡ lacks_history → after ≡ before →
       IsUndoStep before answer after
@@ -79,7 +79,7 @@ pub data IsUndoStep (before : PlainSession) (answer : PlainAnswer) (after : Plai
 -- opened one.
 pub data IsRedoStep (before : PlainSession) (answer : PlainAnswer) (after : PlainSession) :
     Type 0 where
-  redone : (edit : Edit) (undone : List Edit) (edited : PlainDoc ℕ) (left : ℕ) →
+  redone : (edit : Edit) (undone : List Edit) (edited : PlainDoc ℕ) (left bad : ℕ) →
       before.undone ≡ undone ++ edit ∷ [] → applied 0 before.doc edit ≡ gives edited →
       Replays before.opened (before.past ++ edit ∷ []) (unmarked_doc after.doc) →
       after ≡ record before {
@@ -88,8 +88,8 @@ pub data IsRedoStep (before : PlainSession) (answer : PlainAnswer) (after : Plai
         moves = next_move before.moves;
         doc = behind_move before (changed_lists (makes edit)) edited;
       } →
-      HasOpen (stamped_document after) left →
-      answer ≡ is_done (length (changed_lists (makes edit))) left →
+      HasOpen (stamped_document after) left → HasBad (stamped_document after) bad →
+      answer ≡ is_done (length (changed_lists (makes edit))) left bad →
       IsRedoStep before answer after
   none_undone : before.undone ≡ [] → answer ≡ lacks_history → after ≡ before →
       IsRedoStep before answer after

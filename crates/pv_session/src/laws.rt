@@ -4,7 +4,7 @@ ghost use Rattle.pv_session.specs.Keeping.{IsSession};
 ghost use Rattle.pv_session.specs.Laws.{ReplaysToOne, StepsHaveOneAnswer};
 
 use crate::session::Session;
-use pv_cache::laws::{accepted_law, one_ground_law, one_open_law};
+use pv_cache::laws::{accepted_law, one_bad_law, one_ground_law, one_open_law};
 
 /// Edits lead from a document to one other at most.
 pub fn replay_law()
@@ -18,6 +18,7 @@ pub fn one_answer_law()
     accepted_law::<u64, u64>();
     one_ground_law::<u64>();
     one_open_law();
+    one_bad_law();
 }
 
 /// What each session keeps.

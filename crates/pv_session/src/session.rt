@@ -1,10 +1,10 @@
 //! A session on a document.
 
-ghost use Rattle.std.specs.Prelude.{◌≡◌, ◌≤◌, ◌<◌, ◌+◌, None, IfOk, IsNone, MatchOption, OnOk};
+ghost use Rattle.std.specs.Prelude.{◌≡◌, ◌≤◌, ◌<◌, ◌+◌, None, IfOk, MatchOption, OnOk};
 ghost use Rattle.std.specs.Prelude.{vec_capacity, vec_len};
 ghost use Rattle.std.specs.List.{AllByRecursion};
 ghost use Rattle.pv_cache.specs.Accepting.{MAX_EDITED_NODES};
-ghost use Rattle.pv_cache.specs.Moves.{HasOpen};
+ghost use Rattle.pv_cache.specs.Moves.{HasBad, HasOpen};
 ghost use Rattle.pv_cache.specs.Rows.{AreRows, IsVerdictAt, TellVerdicts};
 ghost use Rattle.pv_cache.specs.Stamps.{stamps_of};
 ghost use Rattle.pv_cache.specs.WellMarked.{IsWellMarked};
@@ -36,7 +36,7 @@ use std::alloc::Global;
 use std::marker::Model;
 use std::sync::ledger::Ledger;
 
-/// A document under edits that keep it potentially valid.
+/// A document under edits that leave no more of its lists impossible than before.
 #[derive(Drop)]
 pub struct Session {
     alloc: Global,
@@ -75,7 +75,6 @@ impl Session {
         verdicts: Verdicts,
     ) -> Result<Session, NoMemory>
         requires verdicts { HaveVerdicts (dtd_of grammar) root (lists_of (plain_doc doc)) verdicts }
-        requires possible { IsNone verdicts.first }
         requires narrow { AllByRecursion (IsListForVerdict (dtd_of grammar))
             (lists_of (plain_doc doc)) }
         requires few { nodes_in (plain_doc doc).root ≤ MAX_EDITED_NODES }
@@ -84,7 +83,7 @@ impl Session {
             ≡ session_on (dtd_of grammar) root (unmarked_doc (plain_doc doc))) }
     {
         let marked = Marked::build(alloc, grammar, root, doc, verdicts)?;
-        marked.guarded_law();
+        marked.holdable_law();
         Ok(Session {
             alloc,
             marked,
@@ -113,7 +112,7 @@ impl Session {
         }
         let moves = next_move(self.moves);
         let (done, way_back) = self.marked.edit(edit, moves, steps)?;
-        self.marked.guarded_law();
+        self.marked.holdable_law();
         self.moves = moves;
         self.past.push_reserved(made);
         self.ways_back.push_reserved(way_back);
@@ -140,7 +139,7 @@ impl Session {
         let Ok(done) = self.marked.revert(way_back, moves, steps) else {
             return Err(BackAnswer::NoMemory);
         };
-        self.marked.guarded_law();
+        self.marked.holdable_law();
         let Some(edit) = self.past.pop() else {
             unreachable!()
         };
@@ -176,7 +175,7 @@ impl Session {
             Err(EditAnswer::Limit) => unreachable!(),
             Err(EditAnswer::Impossible(_)) => unreachable!(),
         };
-        self.marked.guarded_law();
+        self.marked.holdable_law();
         let Some(edit) = self.undone.pop() else {
             unreachable!()
         };
@@ -222,6 +221,13 @@ impl Session {
         self.marked.open_count()
     }
 
+    /// How many lists of the document are Impossible.
+    pub fn bad_count(&self) -> u64
+        ensures { HasBad (stamped_document self.now) result }
+    {
+        self.marked.bad_count()
+    }
+
     /// The verdict of the list at a path; none where no list stands there.
     pub fn verdict_at(&self, path: &Path) -> Option<Verdict>
         ensures { MatchOption result (list_at path.now self.now.doc.root ≡ None)
@@ -237,7 +243,7 @@ impl Session {
         self.marked.verdict_rows()
     }
 
-    /// The verdicts of all its lists, in document order; none is Impossible.
+    /// The verdicts of all its lists, in document order, and the path of the first Impossible one.
     pub fn verdicts(&self) -> Result<Verdicts, NoMemory>
         ensures { IfOk result (TellVerdicts (stamped_document self.now)) }
     {

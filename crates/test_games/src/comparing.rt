@@ -2,14 +2,39 @@
 
 use pv_edit::{Done, VerdictRow, VerdictRows};
 use pv_fresh::check_doc;
+use pv_missing::Verdicts;
 use pv_session::Session;
 use pv_steps::Steps;
+use pv_tree::Verdict;
 use std::alloc::Global;
 use std::sync::ledger::Ledger;
 use std::test::Fail;
 
+// The numbers of Possible and of Impossible lists, and the first of these, are those of a fresh check.
+fn expect_counts(session: &Session, fresh: &Verdicts) -> Result<(), Fail> {
+    let mut bad: u64 = 0;
+    for k in 0..fresh.len() {
+        if fresh.at(k) == Some(Verdict::Impossible) {
+            bad = bad.saturating_add(1);
+        }
+    }
+    if fresh.left() != session.open_count() || bad != session.bad_count() {
+        return Err(Fail::new("a fresh check counts other verdicts"));
+    }
+    let told = session.verdicts()?;
+    if first_places(&told) != first_places(fresh) {
+        return Err(Fail::new("the first impossible list is another"));
+    }
+    Ok(())
+}
+
+// The places of the first impossible list.
+fn first_places(verdicts: &Verdicts) -> Option<&[u32]> {
+    verdicts.first_impossible().map(|path| path.places())
+}
+
 /// The rows of the session are, in document order, the lists of its document with the verdicts that
-/// a fresh check finds.
+/// a fresh check finds, and its numbers those of the check.
 pub fn expect_fresh<L: Ledger>(
     alloc: Global,
     session: &Session,
@@ -24,8 +49,9 @@ pub fn expect_fresh<L: Ledger>(
         session.doc(),
         steps,
     )?;
+    expect_counts(session, &fresh)?;
     let rows = rows.as_slice();
-    if fresh.len() != rows.len() as u64 || fresh.left() != session.open_count() {
+    if fresh.len() != rows.len() as u64 {
         return Err(Fail::new("a fresh check counts other lists"));
     }
     let mut before: Option<&VerdictRow> = None;

@@ -15,7 +15,8 @@ use std::sync::ledger::{Blank, Ledger};
 use std::test::Fail;
 use test_fixture::dtds::{ANY_OR_ENDLESS, ARTICLE, MIXED, NESTED, REALISTIC};
 
-// Makes a move, and compares: what was done; none where it was refused. So many were made before.
+// Makes a move, and compares: what was done; none where it was refused. So many were made before. An
+// edit leaves no more impossible lists than there were.
 fn turn<L: Ledger>(
     alloc: Global,
     session: &mut Session,
@@ -25,6 +26,7 @@ fn turn<L: Ledger>(
     steps: &mut Steps<L>,
 ) -> Result<Option<Done>, Fail> {
     let before = session.verdict_rows()?;
+    let bad = session.bad_count();
     let made = make(session, command, steps)?;
     let after = session.verdict_rows()?;
     expect_fresh(alloc, session, &after, root, steps)?;
@@ -32,6 +34,9 @@ fn turn<L: Ledger>(
         Some(done) => {
             *moves = moves.saturating_add(1);
             expect_stamped(&after, done, *moves)?;
+            if matches!(command, Command::Edit(_)) && done.bad > bad {
+                return Err(Fail::new("an edit left more impossible lists"));
+            }
         }
         None => expect_same(&before, &after)?,
     }
@@ -74,7 +79,8 @@ fn play_each_line<L: Ledger>(
     for (line, wanted) in &LINES {
         let command = read_command(alloc, line.as_bytes())?;
         let made = turn(alloc, session, "doc", &mut moves, &command, steps)?;
-        if made.map(|done| (done.checked, done.left)) != *wanted {
+        let told = made.map(|done| (done.checked, done.left));
+        if told != *wanted || session.bad_count() != 0 {
             return Err(Fail::new(format_args!("{line}: another answer")));
         }
     }
@@ -102,7 +108,7 @@ const GAMES: u32 = 10;
 const TURNS: u32 = 60;
 
 // Documents, and names for their elements.
-static BOARDS: [(Texts, &[&str]); 5] = [
+static BOARDS: [(Texts, &[&str]); 8] = [
     (
         (ARTICLE, "doc", REALISTIC),
         &[
@@ -123,6 +129,25 @@ static BOARDS: [(Texts, &[&str]); 5] = [
     (
         (MIXED, "a", "<a>x<b/><![CDATA[y]]></a>"),
         &["a", "b", "b", "c"],
+    ),
+    // Impossible documents.
+    (
+        (ARTICLE, "doc", "<doc><sec/><head/></doc>"),
+        &[
+            "head", "sec", "title", "p", "em", "br", "list", "item", "doc",
+        ],
+    ),
+    (
+        (
+            ARTICLE,
+            "doc",
+            "<doc><br>x<head/></br><sec><p><br> </br></p></sec><head/>y<zz/></doc>",
+        ),
+        &["head", "head", "sec", "p", "p", "em", "br", "br", "zz"],
+    ),
+    (
+        (ANY_OR_ENDLESS, "a", "<a><b><a/></b>x<c/></a>"),
+        &["a", "a", "b", "b", "c"],
     ),
 ];
 

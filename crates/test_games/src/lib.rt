@@ -8,6 +8,8 @@ mod comparing;
 #[cfg(test)]
 mod games;
 #[cfg(test)]
+mod judging;
+#[cfg(test)]
 mod random;
 #[cfg(test)]
 mod sessions;

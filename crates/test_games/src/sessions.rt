@@ -8,7 +8,7 @@ ghost use Rattle.pv_tree.specs.Prolog.{IsProlog};
 
 use pv_chars::bytes_of;
 use pv_edit::{Done, EditAnswer};
-use pv_fresh::possible_verdicts;
+use pv_fresh::check_doc;
 use pv_productive::{Grammar, build};
 use pv_read::read_doc;
 use pv_script::Command;
@@ -52,7 +52,7 @@ fn begin_on<L: Ledger>(
     requires few { nodes_in (plain_doc doc).root ≤ MAX_EDITED_NODES }
     requires prolog { IsProlog root.now (plain_doc doc).before }
 {
-    let verdicts = possible_verdicts(alloc, &grammar, root, &doc, steps)?;
+    let verdicts = check_doc(alloc, &grammar, root, &doc, steps)?;
     let root = bytes_of(alloc, root)?;
     Ok(Session::begin(alloc, grammar, root, doc, verdicts)?)
 }

@@ -202,8 +202,9 @@ fn okay(rt: HostRuntime) -> Result<(), Fail> {
     let done = Done {
         checked: 4_294_967_295,
         left: 18_446_744_073_709_551_615,
+        bad: 18_446_744_073_709_551_614,
     };
-    let expected = "ok 4294967295 18446744073709551615\n";
+    let expected = "ok 4294967295 18446744073709551615 18446744073709551614\n";
     let mut room = [0; 64];
     let end = okay_text(&done, &mut room);
     assert_eq!(rt; &room[..end], expected.as_bytes());

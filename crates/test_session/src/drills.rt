@@ -46,10 +46,10 @@ fn replies(alloc: Global) -> Result<String, Fail> {
     for before in 0..SECTIONS {
         let k = before + 1;
         let open = (SECTIONS + before / 3).saturating_sub(k);
-        let both = format!(in alloc; "no impossible 0.{k}.0\nok 2 {open}\n")?;
+        let both = format!(in alloc; "no impossible 0.{k}.0\nok 2 {open} 0\n")?;
         replies.push_str(both.as_str())?;
         if k % 3 == 0 {
-            let undone = format!(in alloc; "ok 1 {}\n", open + 1)?;
+            let undone = format!(in alloc; "ok 1 {} 0\n", open + 1)?;
             replies.push_str(undone.as_str())?;
         }
     }

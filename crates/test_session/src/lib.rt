@@ -8,6 +8,8 @@ mod needs;
 #[cfg(test)]
 mod packs;
 #[cfg(test)]
+mod repairs;
+#[cfg(test)]
 mod scripts;
 #[cfg(test)]
 mod verdicts;

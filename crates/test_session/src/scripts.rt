@@ -30,12 +30,12 @@ verdicts
 show
 ";
 
-const MARKED: &str = "ok 2 1
-ok 2 0
-ok 2 0
-ok 1 0
-ok 2 1
-ok 2 0
+const MARKED: &str = "ok 2 1 0
+ok 2 0 0
+ok 2 0 0
+ok 1 0 0
+ok 2 1 0
+ok 2 0 0
 no impossible 0.3
 no shape not-element
 verdicts 9
@@ -88,25 +88,25 @@ static SCRIPTS: [Row; 15] = [
     (
         "<doc><p>a</p></doc>",
         "rename 0.0 head\nundo\nundo\nredo\nredo\n",
-        "ok 2 1\nok 2 1\nno history\nok 2 1\nno history\n",
+        "ok 2 1 0\nok 2 1 0\nno history\nok 2 1 0\nno history\n",
     ),
     (
         HELLO,
         "split 0.0 2\nwrap 0 0 1 head\nshow\nhistory\nverdicts\n",
-        "ok 1 1\nok 2 1\nshow 29\n<doc><head>He</head>llo</doc>\n\
+        "ok 1 1 0\nok 2 1 0\nshow 29\n<doc><head>He</head>llo</doc>\n\
          history 2\nsplit 0.0 2\nwrap 0 0 1 head\n\
          verdicts 3\n. valid 0\n0 possible 2\n0.0 valid 2\n",
     ),
     (
         HELLO,
         "wrap 0 2 5 p\nwrap 0 1 1 p\ninsert 0 0 head\nshow\n",
-        "no shape range\nok 2 1\nok 2 1\nshow 30\n<doc><head/>Hello<p></p></doc>\n",
+        "no shape range\nok 2 1 0\nok 2 1 0\nshow 30\n<doc><head/>Hello<p></p></doc>\n",
     ),
     (
         HELLO,
         "addtext 0 1 , you\njoin 0.0\ntext 0.0 Hi &amp; bye\ntext 0.0 a&nbsp;\ndeltext 0.0\nshow\nundo\nshow\n",
-        "ok 1 1\nok 1 1\nok 1 1\nno shape bad-text\nok 1 1\nshow 11\n<doc></doc>\n\
-         ok 1 1\nshow 23\n<doc>Hi &amp; bye</doc>\n",
+        "ok 1 1 0\nok 1 1 0\nok 1 1 0\nno shape bad-text\nok 1 1 0\nshow 11\n<doc></doc>\n\
+         ok 1 1 0\nshow 23\n<doc>Hi &amp; bye</doc>\n",
     ),
     (REALISTIC, MARKUP, MARKED),
 ];

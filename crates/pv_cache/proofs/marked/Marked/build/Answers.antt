@@ -7,7 +7,6 @@ use Rattle.pv_cache.specs.Accepting.{MAX_EDITED_NODES}
 use Rattle.pv_cache.specs.Stamps.{stamped_doc_of}
 use Rattle.pv_cache.specs.WellMarked.{IsWellMarked}
 use Rattle.pv_cache.proofs.Laid.{doc_marked, laid_few, no_stamps}
-use Rattle.pv_cache.proofs.Moved.{all_live}
 use Rattle.pv_cache.proofs.marked.Marked.build.Goals as goal
 
 pub invariant_of-document : goal.invariant_of-document
@@ -15,9 +14,10 @@ invariant_of-document c =
     let d = dtd_of c.args.grammar in
     let doc = plain_doc c.args.doc in
     let vs = c.args.verdicts.verdicts in
-    let w = doc_marked d c.args.root vs doc c.requires.verdicts.are_verdicts (all_live d c.args.root doc c.args.verdicts c.requires.verdicts c.requires.possible) c.requires.narrow in
+    let w = doc_marked d c.args.root vs doc c.requires.verdicts.are_verdicts c.requires.narrow in
     record {
       marked = rw c.in_ok-grammar.ensures (subst (λ (e : PlainDoc Mark). ∥ IsWellMarked d c.args.root e ∥₁) (sym c.lay_doc.ensures) ∣ w ∣₁);
+      counted = c.told_bad-bad.ensures;
       few = subst (λ (e : PlainDoc Mark). nodes_in e.root ≤ MAX_EDITED_NODES) (sym c.lay_doc.ensures) (laid_few vs doc c.requires.few);
     }
 

@@ -1,9 +1,16 @@
 use Rattle.std.proofs.Common.{subst}
+use Rattle.std.proofs.lemmas.Result.{err_from_is_err_and}
 use Rattle.pv_tree.specs.PlainDocs.{plain_doc}
 use Rattle.pv_cache.specs.Accepting.{IsAccepted}
 use Rattle.pv_cache.specs.Changing.{edited_doc}
+use Rattle.pv_cache.specs.Moves.{HasGround}
 use Rattle.pv_cache.specs.Stamps.{StampedDoc, stamps_of}
 use Rattle.pv_cache.proofs.marked.Marked.judge.Goals as goal
+
+pub returns-in_err-_judged-clause-refused : goal.returns-in_err-_judged-clause-refused
+returns-in_err-_judged-clause-refused g c =
+    let p = err_from_is_err_and c.from_residual.result c.from_residual.ensures.1 in
+    rw (p.1, p.2) (subst (λ (s : StampedDoc). HasGround 0 s.dtd s.root s.doc c.args.edit.now c.in_err-_judged.field-0.0) c.self.view_is c.in_err-_judged.ensures.refused)
 
 pub returns-clause-accepted : goal.returns-clause-accepted
 returns-clause-accepted g c =

@@ -4,7 +4,7 @@ use Rattle.pv_edit.specs.Inverses.{LeadsBack}
 use Rattle.pv_edit.specs.Reasons.{gives}
 use Rattle.pv_tree.specs.Marks.{unmarked_doc}
 use Rattle.pv_tree.specs.PlainDocs.{plain_doc}
-use Rattle.pv_cache.specs.Accepting.{IsGuarded}
+use Rattle.pv_cache.specs.Accepting.{IsHoldable}
 use Rattle.pv_cache.specs.Moves.{IsReverted}
 use Rattle.pv_cache.specs.PlainForms.{stamped_doc}
 use Rattle.pv_cache.specs.Stamps.{StampedDoc, stamp_of}
@@ -17,8 +17,8 @@ revert-requires g c =
     let m = c.self.inside.document in
     let l = c.requires in
     let leads = subst (λ (s : StampedDoc). LeadsBack c.args.inverse.now s.doc l.0) (sym c.self.view_is) l.1 in
-    let guarded = subst (λ (s : StampedDoc). IsGuarded s.dtd s.root l.0) (sym c.self.view_is) l.2 in
-    (l.0, leads_from stamp_of (plain_doc m.doc) c.args.inverse.now l.0 leads, guarded)
+    let holdable = subst (λ (s : StampedDoc). IsHoldable s.dtd l.0) (sym c.self.view_is) l.2 in
+    (l.0, leads_from stamp_of (plain_doc m.doc) c.args.inverse.now l.0 leads, holdable)
 
 pub returns-clause-reverted : goal.returns-clause-reverted
 returns-clause-reverted g c = λ before back.

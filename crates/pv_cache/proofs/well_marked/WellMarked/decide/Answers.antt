@@ -1,4 +1,5 @@
-use Rattle.std.proofs.Common.{arith}
+use Rattle.std.proofs.Common.{arith, ◌<◌}
+use Rattle.pv_cache.specs.BadLists.{bad_gained, bad_lost}
 use Rattle.pv_cache.specs.Changed.{IsFirstAmong}
 use Rattle.pv_edit.specs.Fitting.{plain_task}
 use Rattle.pv_tree.specs.PlainDocs.{plain_doc}
@@ -12,8 +13,10 @@ overflow_cast-from g c =
     let p = task-place (plain c.args.self.now.doc.root) (plain_task t) c.requires.can c.requires.unshort c.args.self.now.doc.mark c.args.self.now.doc.small in
     omega arith
 
-pub returns-in-Some-clause-refused : goal.returns-in-Some-clause-refused
-returns-in-Some-clause-refused g c =
+pub returns-clause-refused : goal.returns-clause-refused
+returns-clause-refused g c =
     let vs = c.in-Ok.verdicts in
     let first : IsFirstAmong c.args.task.now.list vs.outer vs.inner c.in-Some.path = rw c.in-Some.is at c.in_ok-first_impossible.ensures in
-    first-unaccepted c.args.self.now.grammar c.args.self.now.root (plain_doc c.args.self.now.doc) (plain_task c.args.task.now) c.requires.can c.requires.unshort vs.outer vs.inner c.in-Ok.ensures.judged c.in-Some.path first
+    let after = c.bad_after.ensures in
+    let more : bad_lost (plain_task c.args.task.now) (plain_doc c.args.self.now.doc) < bad_gained vs.outer vs.inner = omega (arith, c.if-bad_after-self.false) in
+    first-unaccepted c.args.self.now.grammar c.args.self.now.root (plain_doc c.args.self.now.doc) (plain_task c.args.task.now) c.requires.can c.requires.unshort vs.outer vs.inner c.in-Ok.ensures.judged c.in-Some.path more first

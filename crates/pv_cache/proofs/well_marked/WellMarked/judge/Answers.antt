@@ -4,7 +4,6 @@ use Rattle.pv_tree.specs.Plain.{nodes_in}
 use Rattle.pv_tree.specs.declared.nodes.Mark.{Mark}
 use Rattle.pv_cache.specs.Accepting.{MAX_EDITED_NODES}
 use Rattle.std.proofs.lemmas.Result.{err_from_is_err_and}
-use Rattle.pv_dtd.specs.Proper.{IsProperDtd}
 use Rattle.pv_edit.specs.Fitting.{plain_task}
 use Rattle.pv_tree.specs.PlainDocs.{plain_doc}
 use Rattle.pv_edit.proofs.Prepared.{doc-kept}
@@ -38,11 +37,9 @@ returns-in_err-verdicts-clause-refused g c =
     let lists = c.changed_lists_law.ensures.made in
     let n = told_nodes d c.args.self.now.root old c.args.self.now.marked in
     let few = few_after d c.args.self.now.root old edit given lists (doc-kept c.args.self.now.doc) c.nodes_law.ensures old.mark.nodes n c.if-gives_too_many.ensures in
-    let proper : IsProperDtd d = rw c.dtd.ensures at c.proper_dtd_law.ensures in
-    let kept = c.in_ok-ready.ensures.kept (omega (arith, c.args.self.now.few)) in
     let p = err_from_is_err_and c.from_residual-in_err-verdicts.result c.from_residual-in_err-verdicts.ensures.1 in
-    rw (p.1, p.2) (edit_refused d c.args.self.now.root old edit given lists c.live_lists_law.ensures proper few c.args.self.now.marked (plain_task ready.task) c.in_ok-ready.ensures.prepared.change
-    (c.in_ok-ready.ensures.can, c.in_ok-ready.ensures.unshort, c.in_ok-ready.ensures.bare, kept) c.in_err-verdicts.field-0.0 c.in_err-verdicts.ensures.refused)
+    rw (p.1, p.2) (edit_refused d c.args.self.now.root old edit given lists few c.args.self.now.marked (plain_task ready.task) c.in_ok-ready.ensures.prepared.change
+    (c.in_ok-ready.ensures.can, c.in_ok-ready.ensures.unshort, c.in_ok-ready.ensures.bare) c.in_err-verdicts.field-0.0 c.in_err-verdicts.ensures.refused)
 
 pub decide-requires : goal.decide-requires
 decide-requires g c =
@@ -73,11 +70,9 @@ returns-clause-accepted g c =
     let lists = c.changed_lists_law.ensures.made in
     let n = told_nodes d root old c.args.self.now.marked in
     let few = few_after d root old edit given lists (doc-kept c.args.self.now.doc) c.nodes_law.ensures old.mark.nodes n c.if-gives_too_many.ensures in
-    let proper : IsProperDtd d = rw c.dtd.ensures at c.proper_dtd_law.ensures in
-    let kept = c.in_ok-ready.ensures.kept (omega (arith, c.args.self.now.few)) in
     let vs = c.in_ok-verdicts.verdicts in
-    edit_accepted d root old edit given lists c.live_lists_law.ensures proper few c.args.self.now.marked (plain_task ready.task) c.in_ok-ready.ensures.prepared.change
-    (c.in_ok-ready.ensures.can, c.in_ok-ready.ensures.unshort, c.in_ok-ready.ensures.bare, kept) vs.outer vs.inner c.in_ok-verdicts.ensures.judged c.in_ok-verdicts.ensures.live
+    edit_accepted d root old edit given lists few c.args.self.now.marked (plain_task ready.task) c.in_ok-ready.ensures.prepared.change
+    (c.in_ok-ready.ensures.can, c.in_ok-ready.ensures.unshort, c.in_ok-ready.ensures.bare) vs.outer vs.inner c.in_ok-verdicts.ensures.judged c.in_ok-verdicts.ensures.no_more
 
 pub returns-clause-ready : goal.returns-clause-ready
 returns-clause-ready g c =
@@ -100,5 +95,5 @@ returns-clause-ready g c =
         few = subst (λ (ch : Change Mark). nodes_in (root_after ch.list ch old.root) ≤ MAX_EDITED_NODES) (sym c.in_ok-ready.ensures.prepared.change) few;
       };
       judged = c.in_ok-verdicts.ensures.judged;
-      live = c.in_ok-verdicts.ensures.live;
+      no_more = c.in_ok-verdicts.ensures.no_more;
     }

@@ -1,4 +1,4 @@
-use Rattle.std.proofs.Common.{◌≡◌, ◌≤◌, ◌∙◌, ap, length, refl, sym, rules, subst, List, ℕ}
+use Rattle.std.proofs.Common.{◌≡◌, ◌≤◌, ◌∙◌, ap, arith, length, refl, sym, rules, subst, List, ℕ}
 use Rattle.std.specs.List.{between}
 use Rattle.pv_edit.specs.Brought.{lists_changed}
 use Rattle.pv_edit.specs.Changes.{doc_after, in_place_of}
@@ -11,9 +11,10 @@ use Rattle.pv_tree.specs.PlainDocs.{plain_doc}
 use Rattle.pv_tree.specs.declared.nodes.Mark.{Mark}
 use Rattle.pv_cache.specs.Accepting.{MAX_EDITED_NODES}
 use Rattle.pv_cache.specs.Mending.{CanMendDoc, IsDocCounted, mend_doc}
-use Rattle.pv_cache.specs.WellMarked.{IsWellMarked}
+use Rattle.pv_cache.specs.WellMarked.{IsWellMarked, told_bad}
 use Rattle.pv_cache.specs.Stamps.{changed_by, stamp_lists, stamps_of}
 use Rattle.pv_cache.proofs.Stamping.{changed_are, same_number, stamps_mended}
+use Rattle.pv_cache.proofs.Counting.{mended-counted}
 use Rattle.pv_cache.proofs.Ready.{ready-can, ready-counted, ready-marked}
 use Rattle.pv_cache.proofs.Unmarked.{doc-as, few-mended}
 use Rattle.pv_cache.proofs.well_marked.WellMarked.make_judged.Goals as goal
@@ -26,7 +27,7 @@ mend_doc-requires-clause-can c =
     let old = plain_doc c.args.self.now.doc in
     let l : c.places-2.result.now ≡ t.list = search rules in
     let made = c.in_ok-make.ensures.ok in
-    let r = ready-can c.args.self.now.grammar c.args.self.now.root old ch m.outer m.inner c.args.stamp c.requires.task.can c.requires.task.unshort c.requires.task.bare c.requires.judged c.requires.live c.args.self.now.marked in
+    let r = ready-can c.args.self.now.grammar c.args.self.now.root old ch m.outer m.inner c.args.stamp c.requires.task.can c.requires.task.unshort c.requires.task.bare c.requires.judged c.args.self.now.marked in
     subst (λ (q : List ℕ). CanMendDoc m.inner q (plain_doc c.make.new.doc)) (sym l) (subst (λ (d : PlainDoc Mark). CanMendDoc m.inner t.list d) (sym made) r)
 
 pub mend_doc-requires-clause-counted : goal.mend_doc-requires-clause-counted
@@ -37,7 +38,7 @@ mend_doc-requires-clause-counted c =
     let old = plain_doc c.args.self.now.doc in
     let l : c.places-2.result.now ≡ t.list = search rules in
     let made = c.in_ok-make.ensures.ok in
-    let r = ready-counted c.args.self.now.grammar c.args.self.now.root old ch m.outer m.inner c.args.stamp c.requires.task.can c.requires.task.unshort c.requires.task.bare c.requires.judged c.requires.live c.requires.task.kept c.args.self.now.marked in
+    let r = ready-counted c.args.self.now.grammar c.args.self.now.root old ch m.outer m.inner c.args.stamp c.requires.task.can c.requires.task.unshort c.requires.task.bare c.requires.judged c.requires.task.kept c.args.self.now.marked in
     subst (λ (q : List ℕ). IsDocCounted (mend_doc q m.outer m.inner c.args.stamp (plain_doc c.make.new.doc))) (sym l) (subst (λ (d : PlainDoc Mark). IsDocCounted (mend_doc t.list m.outer m.inner c.args.stamp d)) (sym made) r)
 
 abbrev Marked_ : PlainDtd → List ℕ → PlainDoc Mark → Type 0
@@ -51,6 +52,7 @@ invariant_of-self c =
     let same = c.in_err-make.ensures.err in
     record {
       marked = subst (Marked_ d root) (sym same) c.args.self.now.marked;
+      counted = c.args.self.now.counted ∙ ap told_bad (sym same);
       few = subst (λ (e : PlainDoc Mark). nodes_in e.root ≤ MAX_EDITED_NODES) (sym same) c.args.self.now.few;
     }
 
@@ -65,11 +67,16 @@ invariant_of-self-2 c =
     let old = plain_doc c.args.self.now.doc in
     let l : c.places-2.result.now ≡ t.list = search rules in
     let made = c.in_ok-make.ensures.ok in
-    let r = ready-marked d root old ch m.outer m.inner c.args.stamp c.requires.task.can c.requires.task.unshort c.requires.task.bare c.requires.judged c.requires.live c.args.self.now.marked in
+    let r = ready-marked d root old ch m.outer m.inner c.args.stamp c.requires.task.can c.requires.task.unshort c.requires.task.bare c.requires.judged c.args.self.now.marked in
     let is : plain_doc c.mend_doc.new.doc ≡ mend_doc t.list m.outer m.inner c.args.stamp (doc_after ch old) =
     c.mend_doc.ensures ∙ ap (λ (q : List ℕ). mend_doc q m.outer m.inner c.args.stamp (plain_doc c.make.new.doc)) l ∙ ap (mend_doc t.list m.outer m.inner c.args.stamp) made in
+    let count = mended-counted d root old ch m.outer m.inner c.args.stamp c.requires.task.can c.requires.task.unshort c.requires.task.bare c.requires.judged in
+    let after = c.bad_after-bad.ensures in
+    let before = c.args.self.now.counted in
+    let told = ap told_bad is in
     record {
       marked = subst (Marked_ d root) (sym is) r;
+      counted = omega arith;
       few = subst (λ (e : PlainDoc Mark). nodes_in e.root ≤ MAX_EDITED_NODES) (sym is) (few-mended t.list m.outer m.inner c.args.stamp (doc_after ch old) c.requires.task.few);
     }
 

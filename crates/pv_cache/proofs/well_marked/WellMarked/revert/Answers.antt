@@ -2,10 +2,9 @@ use Rattle.std.proofs.Common.{◌≡◌, refl, subst, sym}
 use Rattle.pv_cache.specs.Moves.{IsReverted}
 use Rattle.pv_cache.specs.Stamps.{StampedDoc, stamped_doc_of}
 use Rattle.pv_cache.specs.WellMarked.{IsWellMarked}
-use Rattle.pv_dtd.specs.Proper.{IsProperDtd}
 use Rattle.pv_edit.specs.Fitting.{plain_task}
 use Rattle.pv_tree.specs.PlainDocs.{plain_doc}
-use Rattle.pv_cache.proofs.Moved.{back_few, back_live, back_made, back_narrow, same_ground, stamped_ground}
+use Rattle.pv_cache.proofs.Moved.{back_few, back_made, back_narrow, same_ground, stamped_ground}
 use Rattle.pv_cache.proofs.well_marked.WellMarked.revert.Goals as goal
 
 pub judge_task-requires : goal.judge_task-requires
@@ -45,17 +44,6 @@ unreachable-requires g c =
     c.in-Err-TooWide.ensures.wide c.in-Err-TooWide.field-0-is
     (back_narrow d c.args.self.now.root old c.args.inverse.now l.0 l.1 c.leads_back_law.ensures (plain_task t) c.in_ok-task.ensures.task l.2 c.in_ok-task.ensures.can c.in_ok-task.ensures.unshort c.in_ok-task.ensures.bare)
 
-pub make_judged-requires-clause-live : goal.make_judged-requires-clause-live
-make_judged-requires-clause-live g c =
-    let d = c.args.self.now.grammar in
-    let old = plain_doc c.args.self.now.doc in
-    let t = c.in_ok-task.task in
-    let l = c.requires in
-    let vs = c.in-Ok.verdicts in
-    let proper : IsProperDtd d = rw c.dtd.ensures at c.proper_dtd_law.ensures in
-    back_live d c.args.self.now.root old c.args.inverse.now l.0 l.1 c.leads_back_law.ensures (plain_task t) c.in_ok-task.ensures.task l.2 c.in_ok-task.ensures.can c.in_ok-task.ensures.unshort
-    c.live_lists_law.ensures proper c.in_ok-task.ensures.kept c.args.self.now.marked vs.outer vs.inner c.in-Ok.ensures.judged
-
 pub returns-clause-reverted : goal.returns-clause-reverted
 returns-clause-reverted g c = λ before l.
     let d = c.args.self.now.grammar in
@@ -67,6 +55,6 @@ returns-clause-reverted g c = λ before l.
     let marked : ∥ IsWellMarked d root new ∥₁ = same_ground c.make_judged.new.self.grammar d c.make_judged.new.self.root root new changed.same_dtd changed.same_root c.make_judged.new.self.marked in
     let back =
     back_made d root old c.args.inverse.now before l c.leads_back_law.ensures (plain_task t) c.in_ok-task.ensures.task c.changed_lists_law.ensures.undone c.args.stamp new marked changed.made changed.stamps
-    (record { checked = c.in_ok-checked.checked; left = new.mark.left }) changed.counted refl in
+    (record { checked = c.in_ok-checked.checked; left = new.mark.left; bad = c.make_judged.new.self.bad }) changed.counted refl c.make_judged.new.self.counted in
     let is : stamped_doc_of c.make_judged.new.self.grammar c.make_judged.new.self.root new ≡ stamped_doc_of d root new = stamped_ground new changed.same_dtd changed.same_root in
-    subst (λ (s : StampedDoc). IsReverted (stamped_doc_of d root old) c.args.inverse.now l.edit before c.args.stamp (record { checked = c.in_ok-checked.checked; left = new.mark.left }) s) (sym is) back
+    subst (λ (s : StampedDoc). IsReverted (stamped_doc_of d root old) c.args.inverse.now l.edit before c.args.stamp (record { checked = c.in_ok-checked.checked; left = new.mark.left; bad = c.make_judged.new.self.bad }) s) (sym is) back

@@ -5,7 +5,7 @@ use Rattle.pv_session.proofs.session.Session.begin.Goals as goal
 
 pub invariant_of-result : goal.invariant_of-result
 invariant_of-result c =
-    begun_keeps c.in_ok-marked.marked c.new.result.items c.new-3.result.items c.new-2.result.items c.new.ensures.items c.new-2.ensures.items c.new-3.ensures.items c.guarded_law.ensures.guarded c.guarded_law.ensures.kept
+    begun_keeps c.in_ok-marked.marked c.new.result.items c.new-3.result.items c.new-2.result.items c.new.ensures.items c.new-2.ensures.items c.new-3.ensures.items c.holdable_law.ensures.holdable c.holdable_law.ensures.kept
     (rw c.in_ok-marked.ensures c.requires.prolog)
 
 pub returns : goal.returns

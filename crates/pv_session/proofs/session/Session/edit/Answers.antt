@@ -20,7 +20,7 @@ invariant_of-self-2 g c =
     let d = c.in_ok-done in
     let p : c.push_reserved.new.self.items ≡ i.past.items ++ edit ∷ [] = cc (c.push_reserved.ensures.items, c.make_room.ensures.past, c.in-Ok.ensures) in
     let w : c.push_reserved-2.new.self.items ≡ i.ways_back.items ++ d.way_back ∷ [] = cc (c.push_reserved-2.ensures.items, c.make_room.ensures.ways_back) in
-    edit_keeps c.leads_back_law.ensures c.other_marks_law.ensures i.marked i.past.items i.ways_back.items i.undone.items i.moves c.self.invariant edit c.next_move-moves.result c.next_move-moves.ensures d.done d.way_back c.edit.new.self d.ensures.edited c.guarded_law.ensures.guarded c.guarded_law.ensures.kept
+    edit_keeps c.leads_back_law.ensures c.other_marks_law.ensures i.marked i.past.items i.ways_back.items i.undone.items i.moves c.self.invariant edit c.next_move-moves.result c.next_move-moves.ensures d.done d.way_back c.edit.new.self d.ensures.edited c.holdable_law.ensures.holdable c.holdable_law.ensures.kept
     c.push_reserved.new.self.items c.clear.new.self.items c.push_reserved-2.new.self.items p w c.clear.ensures.items
 
 pub returns-clause-stepped : goal.returns-clause-stepped
@@ -30,6 +30,6 @@ returns-clause-stepped g c =
     let d = c.in_ok-done in
     let p : c.push_reserved.new.self.items ≡ i.past.items ++ edit ∷ [] = cc (c.push_reserved.ensures.items, c.make_room.ensures.past, c.in-Ok.ensures) in
     let w : c.push_reserved-2.new.self.items ≡ i.ways_back.items ++ d.way_back ∷ [] = cc (c.push_reserved-2.ensures.items, c.make_room.ensures.ways_back) in
-    let step = edit_is_step c.leads_back_law.ensures c.other_marks_law.ensures i.marked i.past.items i.ways_back.items i.undone.items i.moves c.self.invariant edit c.next_move-moves.result c.next_move-moves.ensures d.done d.way_back c.edit.new.self d.ensures.edited c.guarded_law.ensures.guarded c.guarded_law.ensures.kept
+    let step = edit_is_step c.leads_back_law.ensures c.other_marks_law.ensures i.marked i.past.items i.ways_back.items i.undone.items i.moves c.self.invariant edit c.next_move-moves.result c.next_move-moves.ensures d.done d.way_back c.edit.new.self d.ensures.edited c.holdable_law.ensures.holdable c.holdable_law.ensures.kept
     c.push_reserved.new.self.items c.clear.new.self.items c.push_reserved-2.new.self.items p w c.clear.ensures.items in
-    subst (λ (s : PlainSession). IsEditStep s edit (is_done d.done.checked d.done.left) (session_of c.edit.new.self c.push_reserved.new.self.items c.push_reserved-2.new.self.items c.clear.new.self.items c.next_move-moves.result)) c.self.view_is step
+    subst (λ (s : PlainSession). IsEditStep s edit (is_done d.done.checked d.done.left d.done.bad) (session_of c.edit.new.self c.push_reserved.new.self.items c.push_reserved-2.new.self.items c.clear.new.self.items c.next_move-moves.result)) c.self.view_is step

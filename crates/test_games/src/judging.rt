@@ -1,0 +1,176 @@
+//! What is judged of an edit, against what is answered where it is made.
+
+ghost use Rattle.std.specs.Prelude.{◌≡◌, ◌<◌, ◌≤◌};
+ghost use Rattle.pv_cache.specs.Accepting.{MAX_EDITED_NODES};
+ghost use Rattle.pv_tree.specs.Plain.{nodes_in};
+ghost use Rattle.pv_tree.specs.PlainDocs.{plain_doc};
+
+use pv_cache::Marked;
+use pv_chars::bytes_of;
+use pv_edit::{Edit, EditAnswer, Reason};
+use pv_fresh::check_doc;
+use pv_productive::{Grammar, build};
+use pv_read::read_doc;
+use pv_script::{Command, read_command};
+use pv_steps::Steps;
+use pv_tree::Doc;
+use std::alloc::Global;
+use std::marker::Brand;
+use std::sync::ledger::{Blank, Ledger};
+use std::test::Fail;
+use test_fixture::documents::dtd_of;
+use test_fixture::dtds::ARTICLE;
+
+/// The greatest number of nodes of a document that is edited.
+const MAX_NODES: u64 = 33_554_432;
+
+// A document with its verdicts, for the root doc.
+fn marked_on<L: Ledger>(
+    alloc: Global,
+    grammar: Grammar,
+    doc: Doc,
+    steps: &mut Steps<L>,
+) -> Result<Marked, Fail>
+    requires { nodes_in (plain_doc doc).root ≤ MAX_EDITED_NODES }
+{
+    let verdicts = check_doc(alloc, &grammar, b"doc", &doc, steps)?;
+    let root = bytes_of(alloc, b"doc")?;
+    Ok(Marked::build(alloc, grammar, root, doc, verdicts)?)
+}
+
+// The same of the text of a document.
+fn marked<L: Ledger>(alloc: Global, text: &str, steps: &mut Steps<L>) -> Result<Marked, Fail> {
+    let grammar = build(alloc, dtd_of(alloc, ARTICLE)?)?;
+    let doc = read_doc(alloc, text.as_bytes(), b"doc")?;
+    if doc.nodes() > MAX_NODES {
+        return Err(Fail::new("too many nodes"));
+    }
+    marked_on(alloc, grammar, doc, steps)
+}
+
+// What an answer says: an impossible list's path, or a reason.
+fn told(answer: &EditAnswer) -> (&'static str, &[u32]) {
+    match answer {
+        EditAnswer::Impossible(path) => ("impossible", path.places()),
+        EditAnswer::Shape(Reason::Range) => ("range", &[]),
+        EditAnswer::Shape(_) => ("shape", &[]),
+        EditAnswer::Limit => ("limit", &[]),
+        EditAnswer::NoMemory => ("memory", &[]),
+    }
+}
+
+// The edit is refused in this way, where it is judged and where it is made.
+fn expect_refused<L: Ledger>(
+    document: &mut Marked,
+    edit: &Edit,
+    wanted: (&str, &[u32]),
+    steps: &mut Steps<L>,
+) -> Result<(), Fail> {
+    match document.judge(edit, steps) {
+        Ok(()) => return Err(Fail::new("an edit that is refused is judged to be accepted")),
+        Err(ground) => {
+            if told(&ground) != wanted {
+                return Err(Fail::new("an edit is judged on another ground"));
+            }
+        }
+    }
+    match document.edit(edit, 1, steps) {
+        Ok(_) => Err(Fail::new("an edit is made that is refused")),
+        Err(answer) => {
+            if told(&answer) == wanted {
+                Ok(())
+            } else {
+                Err(Fail::new("an edit is refused on another ground"))
+            }
+        }
+    }
+}
+
+// It is accepted, where it is judged and where it is made, which leaves so many Impossible lists.
+fn expect_accepted<L: Ledger>(
+    document: &mut Marked,
+    edit: &Edit,
+    bad: u64,
+    steps: &mut Steps<L>,
+) -> Result<(), Fail> {
+    if document.judge(edit, steps).is_err() {
+        return Err(Fail::new("an edit that is accepted is judged to be refused"));
+    }
+    match document.edit(edit, 1, steps) {
+        Ok((done, _)) => {
+            if done.bad == bad && document.bad_count() == bad {
+                Ok(())
+            } else {
+                Err(Fail::new("another number of lists is impossible"))
+            }
+        }
+        Err(_) => Err(Fail::new("an edit is refused that is accepted")),
+    }
+}
+
+// What is wanted of an edit: its ground, or how many lists are Impossible after it.
+enum Wanted {
+    Refused(&'static str, &'static [u32]),
+    Accepted(u64),
+}
+
+// Documents, each with a line and what is wanted of its edit.
+static JUDGED: [(&str, &str, Wanted); 7] = [
+    (
+        "<doc>Hello</doc>",
+        "wrap 0 0 1 br",
+        Wanted::Refused("impossible", &[0, 0]),
+    ),
+    (
+        "<doc>Hello</doc>",
+        "wrap 0 2 5 p",
+        Wanted::Refused("range", &[]),
+    ),
+    ("<doc>Hello</doc>", "wrap 0 0 1 head", Wanted::Accepted(0)),
+    (
+        "<doc><sec/><head/></doc>",
+        "wrap 0 0 1 br",
+        Wanted::Refused("impossible", &[0]),
+    ),
+    (
+        "<doc><sec/><head/></doc>",
+        "unwrap 0.1",
+        Wanted::Accepted(0),
+    ),
+    (
+        "<doc><sec/><head/></doc>",
+        "wrap 0 0 2 sec",
+        Wanted::Accepted(1),
+    ),
+    (
+        "<doc><sec/><head/></doc>",
+        "insert 0.1 0 br",
+        Wanted::Refused("impossible", &[0, 1]),
+    ),
+];
+
+fn judge_all<L: Ledger>(alloc: Global, blank: Blank) -> Result<(), Fail>
+    requires name { blank.name ≡ L.name }
+    requires parts { blank.parts ≡ L.parts }
+    requires some { 0 < L.parts }
+{
+    let mut steps = Steps::<L>::start(blank);
+    for (text, line, wanted) in &JUDGED {
+        let mut document = marked(alloc, text, &mut steps)?;
+        let Command::Edit(edit) = read_command(alloc, line.as_bytes())? else {
+            return Err(Fail::new("no edit"));
+        };
+        match wanted {
+            Wanted::Refused(kind, places) => {
+                expect_refused(&mut document, &edit, (kind, places), &mut steps)?;
+            }
+            Wanted::Accepted(bad) => expect_accepted(&mut document, &edit, *bad, &mut steps)?,
+        }
+    }
+    Ok(())
+}
+
+#[test]
+fn judged_and_made(rt: HostRuntime) -> Result<(), Fail> {
+    judge_all::<Brand>(rt.alloc(), Blank::new(1))
+}
