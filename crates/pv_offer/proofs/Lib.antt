@@ -1,0 +1,4 @@
+-- of this crate:
+mod Alike
+mod Choosing
+mod Outlines

@@ -1,0 +1,5 @@
+use Rattle.pv_offer.proofs.Alike.{limits_alike}
+use Rattle.pv_offer.proofs.laws.limits_law.Goals as goal
+
+pub returns : goal.returns
+returns g c = limits_alike _

@@ -1,0 +1,5 @@
+use Rattle.pv_offer.proofs.Alike.{renames_within}
+use Rattle.pv_offer.proofs.laws.renames_law.Goals as goal
+
+pub returns : goal.returns
+returns g c = renames_within _

@@ -1,0 +1,35 @@
+//! Laws of offers. `M` is a type of marks.
+
+ghost use Rattle.pv_offer.specs.Laws.{AskedHasNoGround, HasOneOffer, LimitsDontTellNames};
+ghost use Rattle.pv_offer.specs.Laws.{ReasonsDontTellNames, RenamesAreWithin, TriedAsOffered};
+
+/// Why an edit can't be made doesn't depend on which Name is given.
+pub fn reasons_law<M>()
+    ensures { ReasonsDontTellNames M }
+{}
+
+/// Whether the edited document is within the limits doesn't depend on which name is given.
+pub fn limits_law<M>()
+    ensures { LimitsDontTellNames M }
+{}
+
+/// A rename leaves a document within the limits.
+pub fn renames_law<M>()
+    ensures { RenamesAreWithin M }
+{}
+
+/// There is one list of offered names.
+pub fn one_offer_law()
+    ensures { HasOneOffer }
+{}
+
+/// Where names may be asked of, there is no ground to offer nothing.
+pub fn no_ground_law()
+    ensures { AskedHasNoGround }
+{}
+
+/// Where names may be asked of, a Name that is tried is refused only where it isn't offered, and
+/// then for Impossible lists alone; want of memory aside.
+pub fn tried_law()
+    ensures { TriedAsOffered }
+{}
