@@ -1,0 +1,10 @@
+pub mod Ranges
+pub mod Lines
+pub mod Compared
+pub mod Spans
+pub mod Refused
+pub mod Nested
+pub mod Stacks
+pub mod PlainForms
+pub mod Texts
+pub mod Laws
