@@ -1,11 +1,11 @@
 """Compares `session` with a model of a session, on random small DTDs, documents and scripts.
 
 Words: PROGRAM LINES SEED. Scripts are played until so many lines have been answered. The model keeps a tree, makes each edit on a copy of
-it, and undoes by making the edits before again on the document that was opened. It accepts an edit where elements can be inserted so that
-the document becomes valid: it tries all insertions of at most `MOST` elements (against_insertions.py), and where that finds none, it decides
-list by list, over all spans of a list. Both are tied together: where some insertions are found, no list may be impossible. The least number
-of insertions is the reply to `need`, which isn't asked where they are more than `MOST`. Prints each difference, and how many lines passed;
-ends with 1 where one failed.
+it, and undoes by making the edits before again on the document that was opened. It accepts an edit where no more lists are impossible than
+before, which it decides list by list, over all spans of a list. It also tries all insertions of at most `MOST` elements
+(against_insertions.py): where some make the document valid, no list may be impossible. The least number of insertions is the reply to
+`need`, which isn't asked where they are more than `MOST` and the document can be made valid. Documents are opened whatever their verdicts
+are. Prints each difference, and how many lines passed; ends with 1 where one failed.
 """
 import copy
 import itertools
@@ -395,18 +395,24 @@ class Session:
         # How many moves there were, and by the numbers of elements which of them changed their lists last.
         self.moves, self.stamps = 0, {}
 
-    def first_impossible(self, doc):
+    def impossible(self, doc):
+        """The paths of the impossible lists."""
         found = self.search.least((*items_of(doc.root),), ("children", ("name", self.root)), MOST) <= MOST
         dead = [path for path, owner, kids in doc.lists() if not is_live(self.search, owner, kids, self.root)]
         assert not (found and dead), f"insertions were found for {doc.written()}, but {dead} are impossible"
-        return dead[0] if dead else None
+        return dead
 
     def least(self):
         """The least number of missing elements; more than `MOST` where the search finds none."""
         return self.search.least((*items_of(self.document.root),), ("children", ("name", self.root)), MOST)
 
+    def verdict(self, owner, kids):
+        if not is_live(self.search, owner, kids, self.root):
+            return "impossible"
+        return "valid" if is_valid_list(self.search, owner, kids, self.root) else "possible"
+
     def left(self):
-        return sum(not is_valid_list(self.search, owner, kids, self.root) for _, owner, kids in self.document.lists())
+        return sum(self.verdict(owner, kids) == "possible" for _, owner, kids in self.document.lists())
 
     def edited(self, doc, edit):
         after = copy.deepcopy(doc)
@@ -426,16 +432,17 @@ class Session:
         self.moves += 1
         for path in changed:
             self.stamps[self.document.node_at(path).number] = self.moves
-        return f"ok {len(changed)} {self.left()}"
+        return f"ok {len(changed)} {self.left()} {len(self.impossible(self.document))}"
 
     def edit(self, edit):
         try:
             after = self.edited(self.document, edit)
         except Refused as reason:
             return f"no shape {reason}"
-        path = self.first_impossible(after)
-        if path is not None:
-            return f"no impossible {dotted(path)}"
+        dead = self.impossible(after)
+        if len(dead) > len(self.impossible(self.document)):
+            first = next(path for path in changed_lists(edit, False) if tuple(path) in dead)
+            return f"no impossible {dotted(first)}"
         self.past, self.undone = [*self.past, (edit, self.document)], []
         self.document = after
         return self.moved(edit)
@@ -459,8 +466,7 @@ class Session:
     def verdicts(self):
         rows = []
         for path, owner, kids in self.document.lists():
-            verdict = "valid" if is_valid_list(self.search, owner, kids, self.root) else "possible"
-            rows.append(f"{dotted(path)} {verdict} {self.stamps.get(self.document.node_at(path).number, 0)}")
+            rows.append(f"{dotted(path)} {self.verdict(owner, kids)} {self.stamps.get(self.document.node_at(path).number, 0)}")
         return [f"verdicts {len(rows)}", *rows]
 
     def reply(self, line):
@@ -476,7 +482,8 @@ class Session:
         if line == "verdicts":
             return "".join(f"{each}\n" for each in self.verdicts())
         if line == "need":
-            return f"need {self.least()}\n"
+            dead = self.impossible(self.document)
+            return f"no impossible {dotted(dead[0])}\n" if dead else f"need {self.least()}\n"
         if line in ("undo", "redo"):
             return (self.undo() if line == "undo" else self.redo()) + "\n"
         edit = edit_of(line)
@@ -599,7 +606,7 @@ def play(session, length):
     script, replies = [], []
     for _ in range(length):
         line = script_line(session.document)
-        if line == "need" and session.least() > MOST:
+        if line == "need" and not session.impossible(session.document) and session.least() > MOST:
             line = "show"
         script.append(line)
         reply = session.reply(line)
@@ -612,9 +619,6 @@ def play(session, length):
 def expected(search, root, document, length):
     """A script, the bytes that the program must write, and its status."""
     session = Session(search, root, document)
-    path = session.first_impossible(document)
-    if path is not None:
-        return ["show"], [f"impossible {dotted(path)}\n"], 1
     script, replies = play(session, length)
     if random.random() < 0.1:
         script += ["quit", "show"]

@@ -149,15 +149,18 @@ def judge(program, dtd, root, text):
     """What is missing: a number, or that the document is impossible."""
     write("d.xml", text)
     status, out = replies_of(program, dtd, root, "d.xml")
-    if status == 1:
-        need(re.fullmatch(rb"impossible [0-9.]+\n", out), f"the output is {out!r}")
+    shown = f"show {len(text.encode())}\n{text}\n".encode()
+    if out.startswith(b"no impossible "):
+        reply, _, _ = out.partition(b"\n")
+        need(status == 0 and re.fullmatch(rb"no impossible [0-9.]+", reply), f"status {status}, the output is {out!r}")
+        need(out == (reply + b"\n") * 2 + shown, f"the output is {out!r}")
         return None
     told = re.match(rb"need ([0-9]+)\ncompleted ([0-9]+) ([0-9]+)\n", out)
     need(status == 0 and told, f"status {status}, the output is {out!r}")
     count, inserted, length = map(int, told.groups())
     need(count == inserted, f"{count} elements are missing, and {inserted} were inserted")
     body, rest = out[told.end():told.end() + length], out[told.end() + length:]
-    need(rest == f"\nshow {len(text.encode())}\n{text}\n".encode(), f"behind the body stands {rest!r}")
+    need(rest == b"\n" + shown, f"behind the body stands {rest!r}")
     check_valid(program, dtd, root, body.decode())
     check_kept(text, body.decode(), count)
     return count

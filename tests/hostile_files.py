@@ -134,7 +134,7 @@ def hostile_scripts():
     line = LINE_MOST - len(b"text 0.0 ")
     edits = b"".join(b"text 0.0 " + b"%d" % (k % 10) * line + b"\n" for k in range(16))
     for name, pieces, status, said in [
-            ("a text as long as a line", [b"text 0.0 ", (b"x", line), b"\n"], 0, b"ok 1 0\n"),
+            ("a text as long as a line", [b"text 0.0 ", (b"x", line), b"\n"], 0, b"ok 1 0 0\n"),
             ("one byte more", [b"undo\n", b"text 0.0 ", (b"x", line + 1), b"\n"], 8, b"no history\nlimit line 2\n"),
             ("a name as long as a line", [b"rename 0 ", (b"n", line), b"\n"], 0, b"no impossible .\n"),
             ("CR up to the limit", [b"undo", (b"\r", LINE_MOST - 4), b"\nundo"], 0, b"no history\n" * 2),
@@ -156,10 +156,10 @@ def hostile_scripts():
             ("a path of 524,284 numbers", [b"unwrap 0", (b".0", (LINE_MOST - 8) // 2), b"\n"], 0, b"no shape no-node\n"),
             ("a path of a million numbers", [b"unwrap 0", (b".0", 999999), b"\n"], 8, b"limit line 1\n"),
             ("dots", [b"unwrap ", (b".", LINE_MOST - 7), b"\n"], 0, b"no command\n"),
-            ("references", [b"text 0.0 ", (b"&#65;", line // 5), b"\n"], 0, b"ok 1 0\n"),
+            ("references", [b"text 0.0 ", (b"&#65;", line // 5), b"\n"], 0, b"ok 1 0 0\n"),
             ("&", [b"text 0.0 ", (b"&", line), b"\n"], 0, b"no shape bad-text\n"),
             ("]]>", [b"text 0.0 ", (b"]]>", line // 3), b"\n"], 0, b"no shape bad-text\n"),
-            ("16 MB of edits, and their history", [edits, b"history\n"], 0, b"ok 1 0\n" * 16 + b"history 16\n" + edits),
+            ("16 MB of edits, and their history", [edits, b"history\n"], 0, b"ok 1 0 0\n" * 16 + b"history 16\n" + edits),
             ("50,000 edits taken back and made again", [(b"rename 0 a\n", 50000), (b"undo\n", 50001), (b"redo\n", 50001)], 0,
-             b"ok 2 0\n" * 100000 + b"no history\n" + b"ok 2 0\n" * 50000 + b"no history\n")]:
+             b"ok 2 0 0\n" * 100000 + b"no history\n" + b"ok 2 0 0\n" * 50000 + b"no history\n")]:
         yield name, pieces, status, said

@@ -181,10 +181,10 @@ class Model:
             rows = b"0 valid %d\n0.0 valid %d\n" % (self.stamp, self.stamp) if self.past else b"0 possible %d\n" % self.stamp
             return b"verdicts %d\n. valid 0\n" % (2 + self.past) + rows, False
         if line == b"undo":
-            return (b"ok 1 1\n", True) if self.past else (b"no history\n", False)
+            return (b"ok 1 1 0\n", True) if self.past else (b"no history\n", False)
         if line == b"redo":
-            return (b"ok 2 0\n", True) if self.future else (b"no history\n", False)
-        return b"ok 2 0\n", True
+            return (b"ok 2 0 0\n", True) if self.future else (b"no history\n", False)
+        return b"ok 2 0 0\n", True
 
     def make(self, line):
         self.moves += 1

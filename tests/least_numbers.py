@@ -26,7 +26,7 @@ def kind_of(least, got):
         return "failed" if got != f"need {least}" else "valid" if least == 0 else "need"
     if word == "need":
         return "larger" if int(numbers[0]) > MOST else "failed"
-    return "impossible" if word == "impossible" else "failed"
+    return "impossible" if got.startswith("no impossible ") else "failed"
 
 
 def round_of(program, counts):

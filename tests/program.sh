@@ -97,8 +97,8 @@ expect "a larger drill" 0 "drill 100 lines 233 ok 133 refused 100 open 33 checke
 expect "the largest drill" 0 "drill 20000 lines 46666 ok 26666 refused 20000 open 6666 checked 46666$lf" timeout 60 "$pvtag" drill 20000
 seq 20000 | awk 'BEGIN { printf "<doc><head>drill</head>" } { printf "<sec>t%d</sec>", $1 } END { printf "</doc>" }' >large.xml
 seq 20000 | awk '{ printf "wrap 0.%d 0 1 br\nwrap 0.%d 0 1 p\n", $1, $1; if ($1 % 3 == 0) print "undo" }' >large.txt
-seq 20000 | awk 'BEGIN { open = 20000 } { printf "no impossible 0.%d.0\nok 2 %d\n", $1, --open; if ($1 % 3 == 0) print "ok 1", ++open }' >replies.txt
-expect "its lines in a session" 0 "46666 no impossible 0.1.0 ok 2 19999 ok 2 6666$lf" timeout 60 bash -c '"$0" session a.dtd doc large.xml <large.txt |
+seq 20000 | awk 'BEGIN { open = 20000 } { printf "no impossible 0.%d.0\nok 2 %d 0\n", $1, --open; if ($1 % 3 == 0) print "ok 1", ++open, 0 }' >replies.txt
+expect "its lines in a session" 0 "46666 no impossible 0.1.0 ok 2 19999 0 ok 2 6666 0$lf" timeout 60 bash -c '"$0" session a.dtd doc large.xml <large.txt |
     tee got.txt | awk "NR == 1 || NR == 2 { first = first \" \" \$0 } { last = \$0 } END { print NR first, last }"' "$pvtag"
 expect "each of its replies" 0 "" cmp got.txt replies.txt
 for size in 0 20001 007 +3 x; do expect "a drill of $size" 2 "usage$lf" "$pvtag" drill "$size"; done
@@ -208,21 +208,22 @@ lines() { local IFS=$lf; printf '%s' "$*"; }
 hello='<doc>Hello</doc>'
 "$pvtag" session "$top/examples/article.dtd" doc "$top/examples/draft.xml" <"$top/examples/markup.txt" | tail -n +7 | head -n 2 >marked.xml
 expect "a draft that was marked up" 0 "valid$lf" "$pvtag" valid a.dtd doc marked.xml
-printf '<doc><sec/><head/></doc>' >one.xml
-printf 'show\n' >script.txt
-expect "an impossible document" 1 "impossible 0$lf" bash -c '"$0" session a.dtd doc one.xml <script.txt' "$pvtag"
-expect "its input is left alone" 0 "impossible 0${lf}show$lf" bash -c '("$0" session a.dtd doc one.xml; cat) <script.txt' "$pvtag"
+session "an impossible document" "$(lines 'no impossible 0' 'no impossible 0' 'ok 1 1 0' 'need 1' 'ok 2 0 1' 'verdicts 4' '. valid 0' '0 impossible 2' \
+    '0.0 valid 0' '0.1 valid 2')" a.dtd doc '<doc><sec/><head/></doc>' need 'wrap 0 0 1 br' 'unwrap 0.1' need undo verdicts
+session "its blank in a br" 'ok 1 0 0' a.dtd doc '<doc><head/><sec><p><br> </br></p></sec></doc>' 'deltext 0.1.0.0.0'
+session "no more impossible lists" 'ok 2 1 1' a.dtd doc '<doc><sec/><head/></doc>' 'wrap 0 0 2 sec'
+session "the first changed list" "$(lines 'no impossible 0.1' 'no impossible 0')" a.dtd doc '<doc><sec/><head/></doc>' 'insert 0.1 0 br' complete
 session "a refused edit" "$(lines 'no impossible 0.0' 'show 16' "$hello" 'history 0')" a.dtd doc "$hello" 'wrap 0 0 1 br' show history
-session "undo and redo" "$(lines 'ok 2 1' 'ok 2 1' 'no history' 'ok 2 1' 'no history')" a.dtd doc '<doc><p>a</p></doc>' \
+session "undo and redo" "$(lines 'ok 2 1 0' 'ok 2 1 0' 'no history' 'ok 2 1 0' 'no history')" a.dtd doc '<doc><p>a</p></doc>' \
     'rename 0.0 head' undo undo redo redo
-session "a head" "$(lines 'ok 1 1' 'ok 2 1' 'show 29' '<doc><head>He</head>llo</doc>' 'history 2' 'split 0.0 2' 'wrap 0 0 1 head')" \
+session "a head" "$(lines 'ok 1 1 0' 'ok 2 1 0' 'show 29' '<doc><head>He</head>llo</doc>' 'history 2' 'split 0.0 2' 'wrap 0 0 1 head')" \
     a.dtd doc "$hello" 'split 0.0 2' 'wrap 0 0 1 head' show history
-session "verdicts" "$(lines 'verdicts 2' '. valid 0' '0 possible 0' 'ok 1 1' 'ok 2 1' 'verdicts 3' '. valid 0' '0 possible 2' '0.0 valid 2' 'no impossible 0' \
-    'verdicts 3' '. valid 0' '0 possible 2' '0.0 valid 2' 'ok 1 1' 'ok 2 1' 'verdicts 3' '. valid 0' '0 possible 4' '0.0 valid 4')" \
+session "verdicts" "$(lines 'verdicts 2' '. valid 0' '0 possible 0' 'ok 1 1 0' 'ok 2 1 0' 'verdicts 3' '. valid 0' '0 possible 2' '0.0 valid 2' 'no impossible 0' \
+    'verdicts 3' '. valid 0' '0 possible 2' '0.0 valid 2' 'ok 1 1 0' 'ok 2 1 0' 'verdicts 3' '. valid 0' '0 possible 4' '0.0 valid 4')" \
     a.dtd doc "$hello" verdicts 'split 0.0 2' 'wrap 0 0 1 head' verdicts 'wrap 0 1 2 head' verdicts undo redo verdicts
-session "need" "$(lines 'need 2' 'ok 2 1' 'need 1' 'ok 1 1' 'need 2' 'show 16' "$hello" 'history 0')" a.dtd doc "$hello" \
+session "need" "$(lines 'need 2' 'ok 2 1 0' 'need 1' 'ok 1 1 0' 'need 2' 'show 16' "$hello" 'history 0')" a.dtd doc "$hello" \
     need 'wrap 0 0 1 head' need undo need show history
-session "need on a list too wide for weights" "$(lines 'no wide 0' 'ok 2 0' 'need 0')" a.dtd doc "<doc>$(repeat 1057 '<sec/>')</doc>" need 'insert 0 0 head' need
+session "need on a list too wide for weights" "$(lines 'no wide 0' 'ok 2 0 0' 'need 0')" a.dtd doc "<doc>$(repeat 1057 '<sec/>')</doc>" need 'insert 0 0 head' need
 session "complete" "$(lines 'completed 2 40' '<doc><head>Hello</head><sec></sec></doc>' 'show 16' "$hello" 'history 0')" a.dtd doc "$hello" complete show history
 # completes DTD ROOT DOCUMENT: what `complete` shows of an example is valid
 completes() {
@@ -238,11 +239,27 @@ echo '<!ELEMENT t20 EMPTY>' >>doubling.dtd
 session "need past a million" "$(lines 'no heavy' 'no heavy')" doubling.dtd t0 '<t0/>' need complete
 session "need below a million" 'need 524286' doubling.dtd t2 '<t2/>' need
 
+# Ranges beside a text.
+printf 'Tea time' >tea.txt
+printf '0 8 0 p\n0 3 0 em\n' >tea.ranges
+expect "ranges nest" 0 "$(lines 'possible 1' 'show 35' '<doc><p><em>Tea</em> time</p></doc>')$lf" "$pvtag" standoff a.dtd doc tea.txt tea.ranges
+printf '3 8 0 em\n0 5 0 em\n' >tea.ranges
+expect "ranges cross" 9 "ranges cross 0 5 3 8$lf" "$pvtag" standoff a.dtd doc tea.txt tea.ranges
+printf '0 8 0 br\n' >tea.ranges
+expect "ranges of an impossible document" 1 "$(lines 'impossible 0.0' 'show 28' '<doc><br>Tea time</br></doc>')$lf" "$pvtag" standoff a.dtd doc tea.txt tea.ranges
+
 # Packs.
 printf '<!ELEMENT a (b)><!ELEMENT b EMPTY>' >pair.dtd
 printf '<a/>' >one.xml
 expect "a pack" 0 "$(lines 'pvpack 1' 'total 1' 'mark 1' 'body 14' '<a><b></b></a>' 'list 0' 'c 0 0 0 1' 'c 1 0 0 0' 'n 0 0 0 2' \
     'n 1 0 0 1' 'p 0 0 0 1' 'p 1 0 0 1' 's 1 0 0 1' 'end')$lf" "$pvtag" complete pair.dtd a one.xml
+"$pvtag" complete pair.dtd a one.xml >one.pack
+expect "a pack is accepted" 0 "accepted 1$lf" "$pvtag" verify pair.dtd a one.xml one.pack
+sed 's/^total 1$/total 2/' one.pack >other.pack
+expect "a pack is rejected" 1 "rejected totals$lf" "$pvtag" verify pair.dtd a one.xml other.pack
+sed '$d' one.pack >other.pack
+expect "a pack without its end" 9 "pack line 12$lf" "$pvtag" verify pair.dtd a one.xml other.pack
+expect "no pack" 3 "" "$pvtag" verify pair.dtd a one.xml none.pack
 printf '<a><b/></a>' >one.xml
 expect "a pack of a valid document" 0 "$(lines 'pvpack 1' 'total 0' 'body 11' '<a><b/></a>' 'end')$lf" "$pvtag" complete pair.dtd a one.xml
 printf '<doc><sec/><head/></doc>' >one.xml
@@ -254,20 +271,20 @@ expect "a list too wide for a pack" 8 "limit width 0$lf" "$pvtag" complete a.dtd
 printf '<!ELEMENT t (r)*><!ELEMENT r (a)><!ELEMENT a ANY>' >one.dtd
 printf '<t>%s</t>' "$(repeat 12 "<r>$(repeat 400 '<a/>')</r>")" >one.xml
 expect "a pack of too many entries" 8 "limit tables$lf" "$pvtag" complete one.dtd t one.xml
-session "not yet valid" "$(lines 'no shape range' 'ok 2 1' 'ok 2 1' 'show 30' '<doc><head/>Hello<p></p></doc>')" a.dtd doc "$hello" \
+session "not yet valid" "$(lines 'no shape range' 'ok 2 1 0' 'ok 2 1 0' 'show 30' '<doc><head/>Hello<p></p></doc>')" a.dtd doc "$hello" \
     'wrap 0 2 5 p' 'wrap 0 1 1 p' 'insert 0 0 head' show
 session "shapes" "$(lines 'no shape close-mark' 'no shape not-element' 'no shape root-shape' 'no shape no-node' 'no shape root-shape' 'no shape bad-name')" \
     a.dtd doc '<doc><head/><sec><p><em>]]</em>></p></sec></doc>' 'unwrap 0.1.0.0' 'unwrap .' 'unwrap 0' 'unwrap 9' 'insert . 0 doc' 'rename 0.1 1x'
-session "texts" "$(lines 'ok 1 1' 'ok 1 1' 'ok 1 1' 'no shape bad-text' 'ok 1 1' 'show 11' '<doc></doc>' 'ok 1 1' 'show 23' '<doc>Hi &amp; bye</doc>')" \
+session "texts" "$(lines 'ok 1 1 0' 'ok 1 1 0' 'ok 1 1 0' 'no shape bad-text' 'ok 1 1 0' 'show 11' '<doc></doc>' 'ok 1 1 0' 'show 23' '<doc>Hi &amp; bye</doc>')" \
     a.dtd doc "$hello" 'addtext 0 1 , you' 'join 0.0' 'text 0.0 Hi &amp; bye' 'text 0.0 a&nbsp;' 'deltext 0.0' show undo show
 session "the parent of a renamed element" "$(lines 'no impossible 0' 'show 24' '<doc><head/><sec/></doc>')" a.dtd doc '<doc><head/><sec/></doc>' \
     'rename 0.1 head' show
-session "history" "$(lines 'ok 2 1' 'no impossible 0.0.0' 'no shape range' 'ok 2 1' 'history 2' 'wrap 0 0 1 p' 'wrap 0 0 1 sec' 'ok 1 1' 'history 1' \
-    'wrap 0 0 1 p' 'ok 2 1' 'history 2' 'wrap 0 0 1 p' 'wrap 0 0 1 sec')" a.dtd doc "$hello" \
+session "history" "$(lines 'ok 2 1 0' 'no impossible 0.0.0' 'no shape range' 'ok 2 1 0' 'history 2' 'wrap 0 0 1 p' 'wrap 0 0 1 sec' 'ok 1 1 0' 'history 1' \
+    'wrap 0 0 1 p' 'ok 2 1 0' 'history 2' 'wrap 0 0 1 p' 'wrap 0 0 1 sec')" a.dtd doc "$hello" \
     'wrap 0 0 1 p' 'wrap 0.0 0 1 br' 'wrap 0 0 9 p' 'wrap 0 0 1 sec' history undo history redo history
-session "a new edit drops what was undone" "$(lines 'ok 2 1' 'ok 1 1' 'ok 2 1' 'no history' 'history 1' 'wrap 0 0 1 head')" a.dtd doc "$hello" \
+session "a new edit drops what was undone" "$(lines 'ok 2 1 0' 'ok 1 1 0' 'ok 2 1 0' 'no history' 'history 1' 'wrap 0 0 1 head')" a.dtd doc "$hello" \
     'wrap 0 0 1 p' undo 'wrap 0 0 1 head' redo history
-session "a refused edit keeps what was undone" "$(lines 'ok 2 1' 'ok 1 1' 'no impossible 0.0' 'ok 2 1' 'history 1' 'wrap 0 0 1 p')" a.dtd doc "$hello" \
+session "a refused edit keeps what was undone" "$(lines 'ok 2 1 0' 'ok 1 1 0' 'no impossible 0.0' 'ok 2 1 0' 'history 1' 'wrap 0 0 1 p')" a.dtd doc "$hello" \
     'wrap 0 0 1 p' undo 'wrap 0 0 1 br' redo history
 session "numbers and paths" "$(lines 'no shape range' 'no command' 'no command' 'no command' 'no shape no-node' 'no command' 'no command' 'no command' \
     'no command' 'no command' 'no command' 'no shape no-node' 'no command')" a.dtd doc "$hello" \
@@ -278,7 +295,7 @@ session "paths of the document node" "$(lines 'no shape not-text' 'no shape not-
 session "empty names and texts" "$(lines 'no shape bad-name' 'no shape bad-name' 'no shape bad-name' 'no shape bad-text' 'no shape bad-text' \
     'no command' 'no command' 'no command' 'no command' 'no command')" a.dtd doc "$hello" \
     'wrap 0 0 1 ' 'insert 0 0 ' 'rename 0 ' 'text 0.0 ' 'addtext 0 0 ' 'wrap 0 0 1' 'insert 0 0' 'rename 0' 'text 0.0' 'addtext 0 0'
-session "blanks in names and texts" "$(lines 'no shape bad-name' 'no shape bad-name' 'no shape bad-name' 'ok 1 1' 'show 14' '<doc> a </doc>')" a.dtd doc "$hello" \
+session "blanks in names and texts" "$(lines 'no shape bad-name' 'no shape bad-name' 'no shape bad-name' 'ok 1 1 0' 'show 14' '<doc> a </doc>')" a.dtd doc "$hello" \
     'wrap 0 0 1  p' 'wrap 0 0 1 p ' 'insert 0 0 p p' 'text 0.0  a ' show
 forms=('wrap' 'wrap  0 0 1 p' 'wrap 0  0 1 p' 'wrap 0 0  1 p' ' wrap 0 0 1 p' 'wrap0 0 1 p' 'wrap 0 01 p' 'Wrap 0 0 1 p' 'insert' 'insert  0 0 p' 'insert 0  0 p'
     'insert 00 p' 'unwrap' 'unwrap ' 'unwrap  0' 'unwrap 0 ' 'unwrap 0 0' 'unwrap0' 'rename' 'rename  0 p' 'rename0 p' 'split' 'split 0.0' 'split  0.0 2'
@@ -286,7 +303,7 @@ forms=('wrap' 'wrap  0 0 1 p' 'wrap 0  0 1 p' 'wrap 0 0  1 p' ' wrap 0 0 1 p' 'w
     'addtext 0  0 x' 'deltext' 'deltext ' 'deltext  0.0' 'deltext 0.0 ' 'undo ' ' undo' 'undo 1' 'redo ' 'redo 1' 'history ' 'history 1' 'show ' 'show 1'
     'quit ' ' quit' 'quit 1' 'Quit' 'need ' ' need' 'need 1' 'complete ' 'complete 1' 'completed' 'verdicts ' '')
 session "lines that are no commands" "$(printf 'no command\n%.0s' "${forms[@]}")" a.dtd doc "$hello" "${forms[@]}"
-session "1,055 sections" 'ok 2 0' a.dtd doc "<doc><head/>$(repeat 1055 '<sec/>')</doc>" 'insert 0 1 sec'
+session "1,055 sections" 'ok 2 0 0' a.dtd doc "<doc><head/>$(repeat 1055 '<sec/>')</doc>" 'insert 0 1 sec'
 session "512 elements in one another" 'no shape deep' a.dtd em "$(repeat 512 '<em>')$(repeat 512 '</em>')" 'wrap . 0 1 em'
 { printf '<!ELEMENT r (#PCDATA'; seq -f '|a%g' 4000 | tr -d '\n'; printf ')*><!ELEMENT a1 EMPTY>'; } >wide.dtd
 session "an edit past the width" "$(lines 'no limit' 'history 0' 'verdicts 2' '. valid 0' '0 valid 0')" wide.dtd r "<r>$(repeat 8386 'x<!---->')</r>" \

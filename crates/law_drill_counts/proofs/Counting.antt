@@ -39,16 +39,16 @@ counts_same : (l m a b r s c d : ℕ) → l ≡ m → a ≡ b → r ≡ s → c 
 counts_same l m a b r s c d e f g h = cc
 
 -- what was done where so many lists were checked
-abbrev checks : ℕ → ℕ → WhatWasDone
-checks n left = record { checked = n; left = left }
+abbrev checks : ℕ → ℕ → ℕ → WhatWasDone
+checks n left bad = record { checked = n; left = left; bad = bad }
 
-two_counted : (j left : ℕ) → (suc j % 3 == 0) ≡ false → counts_with (counts_with (drill_counts j) None) (Some (checks 2 left)) ≡ drill_counts (suc j)
-two_counted j left e =
+two_counted : (j left bad : ℕ) → (suc j % 3 == 0) ≡ false → counts_with (counts_with (drill_counts j) None) (Some (checks 2 left bad)) ≡ drill_counts (suc j)
+two_counted j left bad e =
     let rest = eqb-false (suc j % 3) 0 e in
     counts_same _ _ _ _ _ _ _ _ (omega (arith, rest)) (omega (arith, rest)) (omega arith) (omega (arith, rest))
 
-three_counted : (j left last : ℕ) → (suc j % 3 == 0) ≡ true → counts_with (counts_with (counts_with (drill_counts j) None) (Some (checks 2 left))) (Some (checks 1 last)) ≡ drill_counts (suc j)
-three_counted j left last e =
+three_counted : (j left bad last worst : ℕ) → (suc j % 3 == 0) ≡ true → counts_with (counts_with (counts_with (drill_counts j) None) (Some (checks 2 left bad))) (Some (checks 1 last worst)) ≡ drill_counts (suc j)
+three_counted j left bad last worst e =
     let none = eqb-true (suc j % 3) 0 e in
     counts_same _ _ _ _ _ _ _ _ (omega (arith, none)) (omega (arith, none)) (omega arith) (omega (arith, none))
 
@@ -70,18 +70,18 @@ module _ (one : OneCommand) (j m : ℕ) (most : j + suc m ≤ 20000) where
       (refused.0, ap done_of step.2 ∙ refused.1)
 
   p_line : (s next : PlainSession) (told : Reply) → At here s → RepliesTo s (line_text (suc j) 1) told next →
-      (answer : PlainAnswer) × (left : ℕ) × Made there (wrap_of (suc j) (codes "p")) s next answer × (done_of told ≡ Some (checks 2 left))
+      (answer : PlainAnswer) × (left : ℕ) × (bad : ℕ) × Made there (wrap_of (suc j) (codes "p")) s next answer × (done_of told ≡ Some (checks 2 left bad))
   p_line s next told h r =
       let step = replies_wrap_p one s next (suc j) told (omega arith) r in
       let made = p_made (behind j) (ahead (suc j) m) (suc j) j (length_behind j) few s h next step.0 step.1 in
-      (step.0, made.left, made, ap done_of step.2 ∙ ap (λ a. done_of (reply_to a)) made.is_answer)
+      (step.0, made.left, made.bad, made, ap done_of step.2 ∙ ap (λ a. done_of (reply_to a)) made.is_answer)
 
   undo_line : (s w next : PlainSession) (told : Reply) (answer : PlainAnswer) → At here s → Made there (wrap_of (suc j) (codes "p")) s w answer → RepliesTo w (line_text (suc j) 2) told next →
-      (left : ℕ) × At here next × (done_of told ≡ Some (checks 1 left))
+      (left : ℕ) × (bad : ℕ) × At here next × (done_of told ≡ Some (checks 1 left bad))
   undo_line s w next told answer h made r =
       let step = replies_undo one w next (suc j) told r in
       let back = undone_at here there (wrap_of (suc j) (codes "p")) s w next step.0 answer refl h made step.1 in
-      (back.1.0, back.0, ap done_of step.2 ∙ ap (λ a. done_of (reply_to a)) back.1.1)
+      (back.1.0, back.1.1, back.0, ap done_of step.2 ∙ ap (λ a. done_of (reply_to a)) back.1.2)
 
   -- two lines, and a third where it is a third section
   two_lines : (s after : PlainSession) (now : Counts) → (suc j % 3 == 0) ≡ false → At here s → CountsReplies s (drill_counts j) (line_text (suc j) 0 ∷ line_text (suc j) 1 ∷ []) after now →
@@ -89,8 +89,8 @@ module _ (one : OneCommand) (j m : ℕ) (most : j + suc m ≤ 20000) where
   two_lines s after now e h (told, next, r, (also, last, q, (is, counted))) =
       let br = br_line s next told h r in
       let p = p_line s last also h (subst (λ (x : PlainSession). RepliesTo x (line_text (suc j) 1) also last) br.0 q) in (
-        subst (λ (x : PlainSession). At (state (suc j) m) x) (sym is) (rw (state_next j m false e) p.2.at),
-        counted ∙ ap (λ d. counts_with (counts_with (drill_counts j) d) (done_of also)) br.1 ∙ ap (λ d. counts_with (counts_with (drill_counts j) None) d) p.3 ∙ two_counted j p.1 e,
+        subst (λ (x : PlainSession). At (state (suc j) m) x) (sym is) (rw (state_next j m false e) p.3.at),
+        counted ∙ ap (λ d. counts_with (counts_with (drill_counts j) d) (done_of also)) br.1 ∙ ap (λ d. counts_with (counts_with (drill_counts j) None) d) p.4 ∙ two_counted j p.1 p.2 e,
       )
 
   three_lines : (s after : PlainSession) (now : Counts) → (suc j % 3 == 0) ≡ true → At here s → CountsReplies s (drill_counts j) (line_text (suc j) 0 ∷ line_text (suc j) 1 ∷ line_text (suc j) 2 ∷ []) after now →
@@ -98,11 +98,11 @@ module _ (one : OneCommand) (j m : ℕ) (most : j + suc m ≤ 20000) where
   three_lines s after now e h (told, next, r, (also, last, q, (third_told, end, u, (is, counted)))) =
       let br = br_line s next told h r in
       let p = p_line s last also h (subst (λ (x : PlainSession). RepliesTo x (line_text (suc j) 1) also last) br.0 q) in
-      let back = undo_line s last end third_told p.0 h p.2 u in (
-        subst (λ (x : PlainSession). At (state (suc j) m) x) (sym is) (rw (state_next j m true e) back.1),
+      let back = undo_line s last end third_told p.0 h p.3 u in (
+        subst (λ (x : PlainSession). At (state (suc j) m) x) (sym is) (rw (state_next j m true e) back.2),
         counted ∙ ap (λ d. counts_with (counts_with (counts_with (drill_counts j) d) (done_of also)) (done_of third_told)) br.1
-            ∙ ap (λ d. counts_with (counts_with (counts_with (drill_counts j) None) d) (done_of third_told)) p.3
-            ∙ ap (λ d. counts_with (counts_with (counts_with (drill_counts j) None) (Some (checks 2 p.1))) d) back.2 ∙ three_counted j p.1 back.0 e,
+            ∙ ap (λ d. counts_with (counts_with (counts_with (drill_counts j) None) d) (done_of third_told)) p.4
+            ∙ ap (λ d. counts_with (counts_with (counts_with (drill_counts j) None) (Some (checks 2 p.1 p.2))) d) back.3 ∙ three_counted j p.1 p.2 back.0 back.1 e,
       )
 
   by_third : (s after : PlainSession) (now : Counts) (third : Bool) → (suc j % 3 == 0) ≡ third → At here s →

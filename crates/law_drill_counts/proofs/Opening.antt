@@ -4,7 +4,6 @@ use Rattle.std.proofs.Common.{List, [], ap, arith, refl, subst, ℕ, ◌∙◌, 
 use Rattle.std.proofs.lemmas.List.{length-map}
 use Rattle.pv_cache.proofs.Alike.{twice}
 use Rattle.pv_cache.proofs.ListMarks.{all_narrow_to}
-use Rattle.pv_cache.proofs.OtherMarks.{view_as}
 use Rattle.pv_cli.proofs.OneDrill.{drill_sure}
 use Rattle.pv_cli.proofs.OneOpening.{ReadsOne}
 use Rattle.pv_cli.specs.CommandLine.{IsDrillSize}
@@ -14,8 +13,6 @@ use Rattle.pv_cli.specs.Possibility.{AreNarrow}
 use Rattle.pv_cli.specs.Response.{PlainResponse}
 use Rattle.pv_cli.specs.Session.{guarding_stage}
 use Rattle.pv_drill.specs.Drill.{drill_text}
-use Rattle.pv_missing.specs.Completing.{IsPotentiallyValid}
-use Rattle.pv_tree.specs.View.{view}
 use Rattle.pv_dtd.specs.Laws.{OneMeaning}
 use Rattle.law_missing.specs.Dtds.{sections_dtd}
 use Rattle.pv_session.proofs.Stamped.{begun_unmarked, unmarked_bare}
@@ -23,7 +20,6 @@ use Rattle.pv_session.specs.Sessions.{PlainSession, session_on}
 use Rattle.pv_tree.specs.Marks.{blank_mark, unmarked_doc}
 use Rattle.pv_tree.specs.Plain.{Tree}
 use Rattle.pv_tree.specs.declared.nodes.Mark.{Mark}
-use Rattle.law_drill_tree.proofs.Verdicts.{doc_possible}
 use Rattle.law_drill_tree.specs.Laws.{MeansDrillDtd, SpellsDrillDocument}
 use Rattle.law_drill_tree.specs.Sections.{ahead, drill_doc, marked_doc, root_tree, section_tree, trees}
 use Rattle.law_drill_counts.proofs.Answered.{length_ahead, state}
@@ -63,13 +59,8 @@ narrow n size =
     let sections = length-map (ahead 0 n) section_tree in
     all_narrow_to {M = Unit} {N = Mark} (λ _. blank_mark) (drill_doc (trees (ahead 0 n))) sections_dtd (narrow_doc (ahead 0 n) (omega (arith, sections, few, size.1)))
 
-possible : (n : ℕ) → IsDrillSize n → IsPotentiallyValid sections_dtd (codes "doc") (view (marked_doc (trees (ahead 0 n))).root)
-possible n size =
-    let few = length_ahead 0 n in
-    rw (view_as {M = Unit} {N = Mark} (λ _. blank_mark) (root_tree (trees (ahead 0 n)))) (doc_possible (ahead 0 n) (omega (arith, few, size.0)))
-
 begins : (n : ℕ) → IsDrillSize n → (guarding_stage (codes "doc") sections_dtd (marked_doc (trees (ahead 0 n)))).Opens (drill_session n) 0
-begins n size = (tt, 0, 0, (tt, 0, 0, (narrow n size, refl), (possible n size, refl), refl), (refl, refl), refl)
+begins n size = (tt, 0, 0, (narrow n size, refl), (refl, refl), refl)
 
 reads : Reading → (n : ℕ) → IsDrillSize n → (reading_stage n).Opens (drill_opened n) 0
 reads known n size = (sections_dtd, 0, 0, (known.drill_dtd, refl), (record { is_dtd = refl; are_bytes = refl; is_text = known.drill_document n size.1 }, refl), refl)

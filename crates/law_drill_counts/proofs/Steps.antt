@@ -2,9 +2,10 @@
 use Rattle.std.specs.Prelude.{codes}
 use Rattle.std.proofs.Common.{List, None, Some, [], ap, arith, length, refl, suc, sym, true, ℕ, ◌++◌, ◌+◌, ◌∙◌, ◌∷◌, ◌≡◌, ◌≤◌}
 use Rattle.std.proofs.Math.Logic.{∥∥₁_elim}
+use Rattle.std.specs.Prelude.{◌↔◌}
 use Rattle.std.proofs.lemmas.List.{length-append, same_from_push}
-use Rattle.pv_cache.proofs.OtherMarks.{nodes_unmarked, view_unmarked}
-use Rattle.pv_cache.specs.Accepting.{IsWithinLimits}
+use Rattle.pv_cache.proofs.OtherMarks.{nodes_unmarked}
+use Rattle.pv_cache.specs.Accepting.{GetsNoWorse, GetsWorse, IsWithinLimits}
 use Rattle.pv_chars.specs.Names.{is_name}
 use Rattle.pv_chars.proofs.NameLemmas.{is_name-IsName}
 use Rattle.pv_cli.specs.Session.{done_of, reply_to}
@@ -17,20 +18,26 @@ use Rattle.pv_edit.specs.declared.answers.EditAnswer.TheVariants as refusal
 use Rattle.pv_edit.specs.declared.edits.Edit.{Edit}
 use Rattle.pv_edit.specs.declared.reasons.Reason.{Reason}
 use Rattle.pv_missing.specs.Completing.{IsPotentiallyValid}
+use Rattle.pv_missing.specs.Proper.{IsProperDoc}
+use Rattle.pv_missing.specs.Verdicts.{HaveImpossible, is_impossible as impossible_verdict}
+use Rattle.pv_missing.proofs.Counts.{same_counts}
+use Rattle.pv_missing.proofs.NoneImpossible.{none_impossible}
+use Rattle.law_missing.proofs.Sections.{proper_sections}
 use Rattle.law_missing.specs.Dtds.{sections_dtd}
-use Rattle.pv_session.proofs.Stamped.{stamped_same}
+use Rattle.pv_session.proofs.Stamped.{stamped_same, unmarked_bare}
 use Rattle.pv_session.proofs.Ways.{one_replay, replays_more}
 use Rattle.pv_session.proofs.Steps.{not_empty}
 use Rattle.pv_session.specs.Sessions.{PlainSession, Replays, next_move}
 use Rattle.pv_session.specs.Steps.{IsEditStep, IsUndoStep, PlainAnswer, accepted, is_done, is_impossible, no_past, refused, undone}
+use Rattle.pv_tree.specs.Lists.{lists_of}
 use Rattle.pv_tree.specs.Marks.{unmarked_doc}
 use Rattle.pv_tree.specs.Plain.{PlainDoc, Tree, nodes_in}
 use Rattle.pv_tree.specs.View.{view}
 use Rattle.law_drill_tree.proofs.DtdText.{br_named, p_named}
 use Rattle.law_drill_tree.proofs.Sections.{trees-join}
-use Rattle.law_drill_tree.proofs.Verdicts.{br_impossible, doc_possible}
+use Rattle.law_drill_tree.proofs.Verdicts.{br_impossible, br_proper, doc_possible, proper_doc}
 use Rattle.law_drill_tree.proofs.Wrapping.{nodes_around, wrap_made}
-use Rattle.law_drill_tree.specs.Sections.{Section, bare_section, drill_doc, root_tree, trees, with_around, wrap_of, wrapped}
+use Rattle.law_drill_tree.specs.Sections.{Section, bare, bare_section, drill_doc, root_tree, trees, with_around, wrap_of, wrapped}
 use Rattle.law_drill_counts.proofs.Limits.{within_limits}
 
 -- a session on the document of a drill with these sections
@@ -54,8 +61,13 @@ not_refused : (doc : PlainDoc ℕ) (edit : Edit) (d e : PlainDoc Unit) (reason :
 not_refused doc edit d e reason is made given =
     let both : refuses reason ≡ gives e = ap unmarked_outcome (sym given) ∙ unmarked_made doc edit d e is made in cc
 
-same_view : (doc : PlainDoc ℕ) (d : PlainDoc Unit) → unmarked_doc doc ≡ d → view doc.root ≡ view d.root
-same_view doc d e = sym (view_unmarked doc.root) ∙ ap (λ (x : PlainDoc Unit). view x.root) e
+-- no list of a document that can be made valid is Impossible, and where none is, it can
+no_bad : (doc : PlainDoc ℕ) (ts : List (Tree Unit)) → unmarked_doc doc ≡ drill_doc ts → IsProperDoc (drill_doc ts) → (n : ℕ) → HaveImpossible sections_dtd (codes "doc") (lists_of doc) n →
+    IsPotentiallyValid sections_dtd (codes "doc") (view (root_tree ts)) ↔ (n ≡ 0)
+no_bad doc ts is proper n h =
+    let bare = same_counts ℕ Unit impossible_verdict sections_dtd (codes "doc") doc (drill_doc ts) n (is ∙ sym (unmarked_bare (drill_doc ts))) h in
+    let by = none_impossible Unit sections_dtd (codes "doc") (drill_doc ts) bare.verdicts proper_sections proper bare.are_verdicts in
+    ((λ v. bare.count ∙ by.0 v), (λ z. by.1 (sym bare.count ∙ z)))
 
 same_nodes : (doc : PlainDoc ℕ) (d : PlainDoc Unit) → unmarked_doc doc ≡ d → nodes_in doc.root ≡ nodes_in d.root
 same_nodes doc d e = sym (nodes_unmarked doc.root) ∙ ap (λ (x : PlainDoc Unit). nodes_in x.root) e
@@ -66,7 +78,8 @@ pub record Made (ts : List (Tree Unit)) (edit : Edit) (s after : PlainSession) (
   pub opened : after.opened ≡ s.opened
   pub past : after.past ≡ s.past ++ edit ∷ []
   pub left : ℕ
-  pub is_answer : answer ≡ is_done 2 left
+  pub bad : ℕ
+  pub is_answer : answer ≡ is_done 2 left bad
 
 module _ (front back : List Section) (k i : ℕ) (place : length front ≡ i) (few : length front + length back ≤ 20000) (s : PlainSession)
     (h : At (trees front ++ bare_section k ∷ trees back) s) where
@@ -82,10 +95,25 @@ module _ (front back : List Section) (k i : ℕ) (place : length front ≡ i) (f
       let nodes = same_nodes edited _ is in
       rw h.is_dtd (within_limits edited (omega (arith, nodes, nodes_around name front k back)) paths)
 
+  -- the document can be made valid before
+  here_possible : IsPotentiallyValid sections_dtd (codes "doc") (view (root_tree (trees front ++ bare_section k ∷ trees back)))
+  here_possible = rw (trees-join front (bare k ∷ back)) at (doc_possible (front ++ bare k ∷ back) (omega (arith, length-append front (bare k ∷ back))))
+
+  here_proper : IsProperDoc (drill_doc (trees front ++ bare_section k ∷ trees back))
+  here_proper = rw (trees-join front (bare k ∷ back)) at (proper_doc (front ++ bare k ∷ back))
+
+  -- more lists are Impossible with a text in a br
+  br_worse : (edited : PlainDoc ℕ) → unmarked_doc edited ≡ drill_doc (with_around (codes "br") front k back) → GetsNoWorse s.dtd s.root s.doc edited → ⊥
+  br_worse edited is (m, n, both, le) =
+      let had : HaveImpossible sections_dtd (codes "doc") (lists_of s.doc) m = rw (h.is_dtd, h.is_root) at both.had in
+      let has : HaveImpossible sections_dtd (codes "doc") (lists_of edited) n = rw (h.is_dtd, h.is_root) at both.has in
+      let none = (no_bad s.doc _ h.is_doc here_proper m had).0 here_possible in
+      br_impossible front k back ((no_bad edited _ is (br_proper front k back) n has).1 (omega arith))
+
   pub br_refused : (after : PlainSession) (answer : PlainAnswer) → IsEditStep s (wrap_of (suc i) (codes "br")) answer after → (after ≡ s) × (done_of (reply_to answer) ≡ None)
-  br_refused after answer (accepted edited left acc is has ans) =
-      let same = same_view edited _ (is_around (codes "br") (is_name-IsName (codes "br") br_named) edited acc.is_edited) in
-      absurd (∥∥₁_elim acc.possible (λ a b. absurd a) (λ v. br_impossible front k back (rw (h.is_dtd, h.is_root, same) at v)))
+  br_refused after answer (accepted edited left bad acc is has also ans) =
+      let here = is_around (codes "br") (is_name-IsName (codes "br") br_named) edited acc.is_edited in
+      absurd (∥∥₁_elim acc.no_worse (λ a b. absurd a) (br_worse edited here))
   br_refused after answer (refused (refusal.Shape reason) given told is) =
       absurd (not_refused s.doc (wrap_of (suc i) (codes "br")) _ _ reason h.is_doc (made_around (codes "br") (is_name-IsName (codes "br") br_named)) given)
   br_refused after answer (refused refusal.Limit (edited, given, beyond) told is) =
@@ -97,9 +125,18 @@ module _ (front back : List Section) (k i : ℕ) (place : length front ≡ i) (f
   p_possible : IsPotentiallyValid sections_dtd (codes "doc") (view (root_tree (with_around (codes "p") front k back)))
   p_possible = rw (trees-join front (wrapped k ∷ back)) at (doc_possible (front ++ wrapped k ∷ back) (omega (arith, length-append front (wrapped k ∷ back))))
 
+  p_proper : IsProperDoc (drill_doc (with_around (codes "p") front k back))
+  p_proper = rw (trees-join front (wrapped k ∷ back)) at (proper_doc (front ++ wrapped k ∷ back))
+
+  p_no_worse : (edited : PlainDoc ℕ) → unmarked_doc edited ≡ drill_doc (with_around (codes "p") front k back) → GetsWorse s.dtd s.root s.doc edited → ⊥
+  p_no_worse edited is (m, n, both, lt) =
+      let has : HaveImpossible sections_dtd (codes "doc") (lists_of edited) n = rw (h.is_dtd, h.is_root) at both.has in
+      let none = (no_bad edited _ is p_proper n has).0 p_possible in
+      absurd (omega arith)
+
   pub p_made : (after : PlainSession) (answer : PlainAnswer) → IsEditStep s (wrap_of (suc i) (codes "p")) answer after →
       Made (with_around (codes "p") front k back) (wrap_of (suc i) (codes "p")) s after answer
-  p_made after answer (accepted edited left acc is has ans) =
+  p_made after answer (accepted edited left bad acc is has also ans) =
       let edit = wrap_of (suc i) (codes "p") in
       let same = is_around (codes "p") (is_name-IsName (codes "p") p_named) edited acc.is_edited in
       let stamped = ap (λ (t : PlainSession). unmarked_doc t.doc) is ∙ stamped_same (next_move s.moves) (changed_lists (makes edit)) edited in
@@ -117,21 +154,22 @@ module _ (front back : List Section) (k i : ℕ) (place : length front ≡ i) (f
         opened = opened;
         past = past;
         left = left;
+        bad = bad;
         is_answer = ans;
       }
   p_made after answer (refused (refusal.Shape reason) given told is) =
       absurd (not_refused s.doc (wrap_of (suc i) (codes "p")) _ _ reason h.is_doc (made_around (codes "p") (is_name-IsName (codes "p") p_named)) given)
   p_made after answer (refused refusal.Limit (edited, given, beyond) told is) =
       absurd (beyond (around_within (codes "p") edited (is_around (codes "p") (is_name-IsName (codes "p") p_named) edited given) _))
-  p_made after answer (refused (refusal.Impossible path) (edited, given, within, not, first) told is) =
-      let same = same_view edited _ (is_around (codes "p") (is_name-IsName (codes "p") p_named) edited given) in
-      absurd (not (rw (h.is_dtd, h.is_root, same) p_possible))
+  p_made after answer (refused (refusal.Impossible path) (edited, given, within, worse, first) told is) =
+      let here = is_around (codes "p") (is_name-IsName (codes "p") p_named) edited given in
+      absurd (∥∥₁_elim worse (λ x. absurd x) (p_no_worse edited here))
   p_made after answer (refused refusal.NoMemory none told is) = let z : None ≡ Some answer = told in absurd cc
 
 -- The edit that was made last is undone.
 pub undone_at : (ts now : List (Tree Unit)) (edit : Edit) (s w after : PlainSession) (answer made : PlainAnswer) → length (changed_lists (undoes edit)) ≡ 1 → At ts s → Made now edit s w made → IsUndoStep w answer after →
-    At ts after × ((left : ℕ) × (answer ≡ is_done 1 left))
-undone_at ts now edit s w after answer made one h m (undone other past doc left e replays same is has ans) =
+    At ts after × ((left : ℕ) × (bad : ℕ) × (answer ≡ is_done 1 left bad))
+undone_at ts now edit s w after answer made one h m (undone other past doc left bad e replays same is has also ans) =
     let last = same_from_push past s.past other edit (sym e ∙ m.past) in
     let there = moved_replays w.opened s.opened past s.past doc doc (sym m.opened) (sym last.0) refl replays in
     let docs = one_replay s.opened doc (unmarked_doc s.doc) s.past there h.replays in
@@ -143,6 +181,6 @@ undone_at ts now edit s w after answer made one h m (undone other past doc left 
         is_doc = same ∙ docs ∙ h.is_doc;
         replays = moved_replays s.opened after.opened s.past after.past (unmarked_doc s.doc) (unmarked_doc after.doc) opened before (same ∙ docs) h.replays;
       },
-      (left, ans ∙ ap (λ u. is_done (length (changed_lists (undoes u))) left) last.1 ∙ ap (λ n. is_done n left) one),
+      (left, bad, ans ∙ ap (λ u. is_done (length (changed_lists (undoes u))) left bad) last.1 ∙ ap (λ n. is_done n left bad) one),
     )
 undone_at ts now edit s w after answer made one h m (no_past e ans is) = absurd (not_empty s.past w.past edit m.past e)

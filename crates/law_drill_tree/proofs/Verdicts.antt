@@ -194,8 +194,10 @@ br_units [] k back = (((number_units (decimal k), tt), tt), section_units back)
 br_units (bare j ∷ front) k back = ((number_units (decimal j), tt), br_units front k back)
 br_units (wrapped j ∷ front) k back = (((number_units (decimal j), tt), tt), br_units front k back)
 
+pub br_proper : (front : List Section) (k : ℕ) (back : List Section) → IsProperDoc (drill_doc (with_around (codes "br") front k back))
+br_proper front k back = record { rooted = refl; units = ((head_units, tt), br_units front k back) }
+
 pub br_impossible : (front : List Section) (k : ℕ) (back : List Section) → IsPotentiallyValid sections_dtd (codes "doc") (view (root_tree (with_around (codes "br") front k back))) → ⊥
 br_impossible front k back v =
-    let proper : IsProperDoc (drill_doc (with_around (codes "br") front k back)) = record { rooted = refl; units = ((head_units, tt), br_units front k back) } in
-    let all = (live_locality Unit sections_dtd (codes "doc") (drill_doc (with_around (codes "br") front k back)) proper_sections proper).0 v in
+    let all = (live_locality Unit sections_dtd (codes "doc") (drill_doc (with_around (codes "br") front k back)) proper_sections (br_proper front k back)).0 v in
     br_among (0 ∷ []) 1 front k back all.1.1.1

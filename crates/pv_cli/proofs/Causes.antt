@@ -1,164 +1,38 @@
 -- The causes of each status.
-use Rattle.std.proofs.Common.{◌≡◌, inl, inr, ℕ, List, [], ◌∷◌, Option, Some, None, false, ap, refl, sym, ◌∙◌, subst}
-use Rattle.pv_dtd.specs.Kinds.{parameter, nesting, syntax, twice, mixed_twice, limit}
+use Rattle.std.proofs.Common.{◌≡◌, inl, inr, ℕ, List, [], ◌∷◌, Option, Some, None, ap, refl, sym, ◌∙◌, subst}
 use Rattle.pv_dtd.specs.Meaning.{DtdTextMeans, is_dtd}
 use Rattle.pv_dtd.specs.Plain.{PlainDtd}
 use Rattle.pv_drill.specs.Drill.{DRILL_DTD, drill_text}
-use Rattle.pv_read.specs.Kinds.{Kind, subset, syntax as bad_syntax, entity, mismatch, doctype_name, deep}
-use Rattle.pv_read.specs.Meaning.{DocumentMeans, faulty}
-use Rattle.pv_tree.specs.Marks.{blank_mark}
-use Rattle.pv_tree.specs.Plain.{PlainDoc}
-use Rattle.pv_tree.specs.declared.nodes.Mark.{Mark}
-use Rattle.pv_session.specs.Sessions.{PlainSession}
-use Rattle.pv_params.specs.Meaning.{conditional, external, undeclared, recursive, limit as params_limit, syntax as params_syntax}
-use Rattle.pv_cli.specs.Parameters.{RefusesParameters, not_expanded}
-use Rattle.pv_cli.specs.Causes.{HoldsText, MakesTables, ReadsScript, TestsFor, parameters, HasCause, OneRoseAtMost, ReadsBoth, ReadsDocument, ReadsDtd, RespondsBy, is_document_limit, dtd_file, document_file, in_dtd, in_document, document_bytes, list_width, not_possible, not_valid, of_input, of_shelf, script_line, whole_script, missing_elements, table_entries, weights_width}
-use Rattle.pv_cli.specs.Check.{TellsPossibility, is_no_more, is_possible}
-use Rattle.pv_cli.specs.Complete.{TellsPack, has_too_many, is_heavy, is_pack, is_wide}
-use Rattle.pv_cli.specs.CommandLine.{PlainCommandLine, drill, files_named, on_document, on_dtd}
-use Rattle.pv_cli.specs.Commands.{Tells, possibility, validity}
+use Rattle.pv_cli.specs.Causes.{ReadsScript, HasCause, OneRoseAtMost, ReadsBoth, RespondsBy, of_input, of_shelf}
+use Rattle.pv_cli.specs.Certificates.{certificate_stage}
+use Rattle.pv_cli.specs.Check.{TellsPossibility}
+use Rattle.pv_cli.specs.Complete.{TellsPack}
+use Rattle.pv_cli.specs.CommandLine.{PlainCommandLine, drill, files_named, on_certificate, on_document, on_dtd, on_ranges}
+use Rattle.pv_cli.specs.Commands.{Tells, possibility}
 use Rattle.pv_cli.specs.Course.{Course, RunEnding, input_fault, no_memory, output_fault, responds, shelf_fault}
 use Rattle.pv_cli.specs.Devices.{Devices}
-use Rattle.pv_cli.specs.Documents.{PlainOpened, RefusesDocument, no_document, too_many_bytes}
+use Rattle.pv_cli.specs.Documents.{PlainOpened}
 use Rattle.pv_cli.specs.Drill.{DRILL_ROOT, TellsCounts, drill_stage}
 use Rattle.pv_cli.specs.Dtd.{TellsDtd}
 use Rattle.pv_cli.specs.Laws.{ComesByCause, RaisesOneAtMost}
-use Rattle.pv_cli.specs.Opening.{Files, RefusesDtd, dtd_file_stage, file_at, no_dtd, opening_stage}
-use Rattle.pv_cli.specs.Possibility.{RefusesImpossible, RefusesWidth, is_impossible, is_too_wide, possibility_stage, width_stage}
+use Rattle.pv_cli.specs.Opening.{Files, dtd_file_stage, file_at, opening_stage}
+use Rattle.pv_cli.specs.PackFiles.{pack_file_stage}
+use Rattle.pv_cli.specs.Possibility.{possibility_stage, width_stage}
 use Rattle.pv_cli.specs.Program.{CountsInput, CountsShelf, IsDefined, Writes, cut_off, wrote}
 use Rattle.pv_cli.specs.Response.{PlainResponse}
-use Rattle.pv_cli.specs.Session.{Converses, ended_over, finished, guarding_stage, input_failed, output_failed, past_line, past_script, quitted, without_room}
+use Rattle.pv_cli.specs.Session.{Converses, guarding_stage}
 use Rattle.pv_cli.specs.Stage.{Stage, Behind, Responds, opened, refused, responded, short_of_memory, short_of_memory as out_of_memory, stopped}
-use Rattle.pv_cli.specs.Valid.{TellsValidity, is_invalid, is_valid}
+use Rattle.pv_cli.specs.Standoff.{IsShownCourse, TellsNested, nested_stage}
+use Rattle.pv_cli.specs.Valid.{TellsValidity}
+use Rattle.pv_cli.specs.Verify.{TellsOfPack}
+use Rattle.pv_cli.specs.declared.checker.Checker.TheVariants.{Verify}
 use Rattle.pv_cli.specs.declared.status.Status.{Status}
-use Rattle.pv_cli.specs.declared.status.Status.TheVariants.{Done, Negative, Usage, ReadFault, WriteFault, NoMemory, BadDtd, BadDocument, Limit}
+use Rattle.pv_cli.specs.declared.status.Status.TheVariants.{Done, Negative, Usage, ReadFault, WriteFault, NoMemory, BadDtd, BadDocument, BadPack, Limit}
 use Rattle.pv_cli.specs.declared.verb.Verb.{Verb}
 use Rattle.pv_cli.specs.declared.verb.Verb.TheVariants.{Valid, Check, Session, Complete}
-
--- a response of a known status
-by_status : (line : Option PlainCommandLine) (files : Files) (taken : Option (List ℕ)) (status : Status) (r told : PlainResponse) → r ≡ told → told.status ≡ status → RespondsBy line files taken status → RespondsBy line files taken r.status
-by_status line files taken status r told is at cause = subst (RespondsBy line files taken) (sym (ap (λ (p : PlainResponse). p.status) is ∙ at)) cause
-
-module _ (line : Option PlainCommandLine) (files : Files) (taken : Option (List ℕ)) where
-  dtd_refused : (bytes : List ℕ) (r : PlainResponse) → ReadsDtd line files bytes → RefusesDtd bytes r → RespondsBy line files taken r.status
-  dtd_refused bytes r reads (no_dtd parameter k means is) = by_status line files taken BadDtd r _ is refl (inl record { bytes = bytes; reads = reads; kind = parameter; items = k; means = means; no_limit = refl })
-  dtd_refused bytes r reads (no_dtd nesting k means is) = by_status line files taken Limit r _ is refl (in_dtd bytes nesting k reads means refl)
-  dtd_refused bytes r reads (no_dtd syntax k means is) = by_status line files taken BadDtd r _ is refl (inl record { bytes = bytes; reads = reads; kind = syntax; items = k; means = means; no_limit = refl })
-  dtd_refused bytes r reads (no_dtd twice k means is) = by_status line files taken BadDtd r _ is refl (inl record { bytes = bytes; reads = reads; kind = twice; items = k; means = means; no_limit = refl })
-  dtd_refused bytes r reads (no_dtd mixed_twice k means is) = by_status line files taken BadDtd r _ is refl (inl record { bytes = bytes; reads = reads; kind = mixed_twice; items = k; means = means; no_limit = refl })
-  dtd_refused bytes r reads (no_dtd limit k means is) = by_status line files taken Limit r _ is refl (in_dtd bytes limit k reads means refl)
-
-  parameters_refused : (bytes : List ℕ) (r : PlainResponse) → file_at 0 files ≡ Some bytes → RefusesParameters bytes r → RespondsBy line files taken r.status
-  parameters_refused bytes r file (not_expanded conditional e is) = by_status line files taken BadDtd r _ is refl (inr record { bytes = bytes; is_file = file; fault = conditional; expands = e; no_limit = refl })
-  parameters_refused bytes r file (not_expanded external e is) = by_status line files taken BadDtd r _ is refl (inr record { bytes = bytes; is_file = file; fault = external; expands = e; no_limit = refl })
-  parameters_refused bytes r file (not_expanded undeclared e is) = by_status line files taken BadDtd r _ is refl (inr record { bytes = bytes; is_file = file; fault = undeclared; expands = e; no_limit = refl })
-  parameters_refused bytes r file (not_expanded recursive e is) = by_status line files taken BadDtd r _ is refl (inr record { bytes = bytes; is_file = file; fault = recursive; expands = e; no_limit = refl })
-  parameters_refused bytes r file (not_expanded params_syntax e is) = by_status line files taken BadDtd r _ is refl (inr record { bytes = bytes; is_file = file; fault = params_syntax; expands = e; no_limit = refl })
-  parameters_refused bytes r file (not_expanded params_limit e is) = by_status line files taken Limit r _ is refl (parameters bytes params_limit file e refl)
-
-  bad_document : (root bytes : List ℕ) (kind : Kind) (k : ℕ) (r told : PlainResponse) → ReadsDocument line files root bytes → DocumentMeans blank_mark root bytes (faulty kind k) →
-      is_document_limit kind ≡ false → r ≡ told → told.status ≡ BadDocument → RespondsBy line files taken r.status
-  bad_document root bytes kind k r told reads means none is at =
-      by_status line files taken BadDocument r told is at (record { root = root; bytes = bytes; reads = reads; kind = kind; items = k; means = means; no_limit = none })
-
-  document_refused : (root bytes : List ℕ) (r : PlainResponse) → ReadsDocument line files root bytes → RefusesDocument root bytes r → RespondsBy line files taken r.status
-  document_refused root bytes r reads (no_document subset k means is) = bad_document root bytes subset k r _ reads means refl is refl
-  document_refused root bytes r reads (no_document bad_syntax k means is) = bad_document root bytes bad_syntax k r _ reads means refl is refl
-  document_refused root bytes r reads (no_document entity k means is) = bad_document root bytes entity k r _ reads means refl is refl
-  document_refused root bytes r reads (no_document mismatch k means is) = bad_document root bytes mismatch k r _ reads means refl is refl
-  document_refused root bytes r reads (no_document doctype_name k means is) = bad_document root bytes doctype_name k r _ reads means refl is refl
-  document_refused root bytes r reads (no_document deep k means is) = by_status line files taken Limit r _ is refl (in_document root bytes deep k reads means refl)
-  document_refused root bytes r reads (too_many_bytes means is) = by_status line files taken Limit r _ is refl (document_bytes root bytes reads means)
-
-  module _ (root : List ℕ) (g : PlainDtd) (doc : PlainDoc Mark) (both : ReadsBoth line files root g doc) (r : PlainResponse) where
-    width_refused : TestsFor line possibility → RefusesWidth g doc r → RespondsBy line files taken r.status
-    width_refused tests (is_too_wide path first is) = by_status line files taken Limit r _ is refl (list_width root g doc path tests both first)
-
-    impossible_refused : TestsFor line possibility → RefusesImpossible root g doc r → RespondsBy line files taken r.status
-    impossible_refused tests (is_impossible path never first is) = by_status line files taken Negative r _ is refl (not_possible root g doc tests both never)
-
-    validity_told : TestsFor line validity → TellsValidity root g doc r → RespondsBy line files taken r.status
-    validity_told tests (is_valid valid is) = by_status line files taken Done r _ is refl tt
-    validity_told tests (is_invalid path first is) = by_status line files taken Negative r _ is refl (not_valid root g doc path tests both first)
-
-    possibility_told : TestsFor line possibility → TellsPossibility root g doc r → RespondsBy line files taken r.status
-    possibility_told tests (is_possible n can have is) = by_status line files taken Done r _ is refl tt
-    possibility_told tests (is_no_more denies) = impossible_refused tests denies
-
-    pack_told : TestsFor line possibility → MakesTables line → TellsPack root g doc r → RespondsBy line files taken r.status
-    pack_told tests makes (is_pack pack least is) = by_status line files taken Done r _ is refl tt
-    pack_told tests makes (is_wide path stops is) = by_status line files taken Limit r _ is refl (weights_width root g doc path makes both stops)
-    pack_told tests makes (is_heavy heavy is) = by_status line files taken Limit r _ is refl (missing_elements root g doc makes both heavy)
-    pack_told tests makes (has_too_many many is) = by_status line files taken Limit r _ is refl (table_entries root g doc makes both many)
-
-    possibility_refused : TestsFor line possibility → (k : ℕ) → (possibility_stage root g doc).Refuses r k → RespondsBy line files taken r.status
-    possibility_refused tests k (inl wide) = width_refused tests wide.0
-    possibility_refused tests k (inr (u, i, j, narrow, denies, e)) = impossible_refused tests denies.0
-
-    guarding_refused : TestsFor line possibility → (k : ℕ) → (guarding_stage root g doc).Refuses r k → RespondsBy line files taken r.status
-    guarding_refused tests k (inl denies) = possibility_refused tests k denies
-    guarding_refused tests k (inr (u, i, j, possible, never, e)) = absurd never.0
-
-ending_is : (ending : RunEnding) (r s : PlainResponse) → ending ≡ responds r → ending ≡ responds s → r ≡ s
-ending_is ending r s at is = cc
-
--- the end of the order of work
-responds_by : (P : PlainResponse → Type 0) (course : Course) (r : PlainResponse) → Responds P course → course.ending ≡ responds r → P r
-responds_by P course r (responded s is ends) at = subst P (ending_is course.ending s r (ap (λ (c : Course). c.ending) ends) at) is
-responds_by P course r (out_of_memory ends) at = let here = ap (λ (c : Course). c.ending) ends in cc
-
--- a run over a stage whose refusals have a cause, and behind which responses have one
-behind_by : {X : Type 0} (stage : Stage X) (Goes : X → Course → Type 0) (P : PlainResponse → Type 0) (course : Course) (r : PlainResponse) →
-    ((s : PlainResponse) (k : ℕ) → stage.Refuses s k → P s) →
-    ((x : X) (k : ℕ) (rest : Course) → stage.Opens x k → Goes x rest → rest.taken ≡ course.taken → rest.ending ≡ responds r → P r) →
-    Behind stage Goes course → course.ending ≡ responds r → P r
-behind_by stage Goes P course r refuses goes (opened x k rest opens more is) at =
-    goes x k rest opens more (sym (ap (λ (c : Course). c.taken) is)) (sym (ap (λ (c : Course). c.ending) is) ∙ at)
-behind_by stage Goes P course r refuses goes (refused s k denies is) at = subst P (ending_is course.ending s r (ap (λ (c : Course). c.ending) is) at) (refuses s k denies)
-behind_by stage Goes P course r refuses goes (stopped k faults is) at = let here = ap (λ (c : Course). c.ending) is in cc
-behind_by stage Goes P course r refuses goes (short_of_memory k lacks is) at = let here = ap (λ (c : Course). c.ending) is in cc
-
--- how a session responds
-session_by : (line : Option PlainCommandLine) (files : Files) (session : PlainSession) (course : Course) (r : PlainResponse) → ReadsScript line → Converses session course → course.ending ≡ responds r →
-    RespondsBy line files course.taken r.status
-session_by line files session course r reads (without_room is) at = let here = ap (λ (c : Course). c.ending) is in cc
-session_by line files session course r reads (ended_over script f is (finished out place e w replies ends)) at = by_status line files course.taken Done r _ (ending_is course.ending r _ at ends) refl tt
-session_by line files session course r reads (ended_over script f is (quitted out replies ends)) at = by_status line files course.taken Done r _ (ending_is course.ending r _ at ends) refl tt
-session_by line files session course r reads (ended_over script f is (past_line out number after long replies ends)) at =
-    by_status line files course.taken Limit r _ (ending_is course.ending r _ at ends) refl (script_line script reads is long)
-session_by line files session course r reads (ended_over script f is (past_script out number after none beyond replies ends)) at =
-    by_status line files course.taken Limit r _ (ending_is course.ending r _ at ends) refl (whole_script script reads is beyond)
-session_by line files session course r reads (ended_over script f is (input_failed out number after w replies ends)) at = cc
-session_by line files session course r reads (ended_over script f is (output_failed lines more out place e replies ends)) at = cc
-
--- opening the DTD's file
-file_refused : (line : Option PlainCommandLine) (files : Files) (taken : Option (List ℕ)) → ((text : List ℕ) → HoldsText (file_at 0 files) text → ReadsDtd line files text) → (r : PlainResponse) (k : ℕ) →
-    (dtd_file_stage (file_at 0 files)).Refuses r k → RespondsBy line files taken r.status
-file_refused line files taken reads r k (inl long) = by_status line files taken Limit r _ long.0.is_response refl (dtd_file long.0.bytes long.0.is_file long.0.beyond)
-file_refused line files taken reads r k (inr (bytes, i, j, given, inl denies, e)) = parameters_refused line files taken bytes r given.0.is_file denies.0
-file_refused line files taken reads r k (inr (bytes, i, j, given, inr (text, u, v, expands, denies, f), e)) =
-    dtd_refused line files taken text r (reads text record { bytes = bytes; is_file = given.0.is_file; expands = expands.0 }) denies.0
-
--- opening both files
-opening_refused : (verb : Verb) (dtd root doc : List ℕ) (files : Files) (taken : Option (List ℕ)) (r : PlainResponse) (k : ℕ) → (opening_stage root files).Refuses r k →
-    RespondsBy (Some (on_document verb dtd root doc)) files taken r.status
-opening_refused verb dtd root doc files taken r k (inl (inl file)) = file_refused (Some (on_document verb dtd root doc)) files taken (λ bytes is. is) r k file
-opening_refused verb dtd root doc files taken r k (inl (inr (g, i, j, read, long, e))) =
-    by_status (Some (on_document verb dtd root doc)) files taken Limit r _ long.0.is_response refl (document_file long.0.bytes long.0.is_file long.0.beyond)
-opening_refused verb dtd root doc files taken r k (inr (both, i, j, fetched, denies, e)) =
-    document_refused (Some (on_document verb dtd root doc)) files taken root both.1 r (refl, fetched.4.1.0.is_file) denies.0
-
-opening_reads : (verb : Verb) (dtd root doc : List ℕ) (files : Files) (o : PlainOpened) (k : ℕ) → (opening_stage root files).Opens o k → ReadsBoth (Some (on_document verb dtd root doc)) files root o.dtd o.doc
-opening_reads verb dtd root doc files o k (both, i, j, (g, a, b, (bytes, u, v, given, (text, x, y, expands, means, l), e), (same, fetched), f), read, h) =
-    let is = read.0.is_dtd ∙ same in
-    record {
-      dtd_bytes = text;
-      reads_dtd = record { bytes = bytes; is_file = given.0.is_file; expands = expands.0 };
-      is_dtd_text = subst (λ (d : PlainDtd). DtdTextMeans text (is_dtd d)) (sym is) means.0;
-      bytes = both.1;
-      reads_document = (refl, fetched.0.is_file);
-      is_text = read.0.is_text;
-    }
+use Rattle.pv_cli.proofs.AnnotationCauses.{nested_refused, shown_told}
+use Rattle.pv_cli.proofs.CertificateCauses.{verify_refused, verify_told}
+use Rattle.pv_cli.proofs.ResponseCauses.{behind_by, by_status, document_refused, dtd_refused, file_refused, guarding_refused, opening_reads, opening_refused, pack_told, possibility_refused, possibility_told, responds_by, session_by, validity_told, width_refused}
 
 -- a line for each verb
 verb_by : (verb : Verb) (dtd root doc : List ℕ) (files : Files) (o : PlainOpened) (course : Course) (r : PlainResponse) → ReadsBoth (Some (on_document verb dtd root doc)) files root o.dtd o.doc →
@@ -167,7 +41,7 @@ verb_by Valid dtd root doc files o course r both tells at =
     validity_told (Some (on_document Valid dtd root doc)) files course.taken root o.dtd o.doc both r refl (responds_by (TellsValidity root o.dtd o.doc) course r tells at)
 verb_by Check dtd root doc files o course r both tells at =
     behind_by (width_stage o.dtd o.doc) (λ _. Responds (TellsPossibility root o.dtd o.doc)) (λ s. RespondsBy (Some (on_document Check dtd root doc)) files course.taken s.status) course r
-    (λ s k wide. width_refused (Some (on_document Check dtd root doc)) files course.taken root o.dtd o.doc both s refl wide.0)
+    (λ s k wide. width_refused (Some (on_document Check dtd root doc)) files course.taken root o.dtd o.doc both s possibility refl refl wide.0)
     (λ u k rest narrow told same ends. possibility_told (Some (on_document Check dtd root doc)) files course.taken root o.dtd o.doc both r refl
     (responds_by (TellsPossibility root o.dtd o.doc) rest r told ends)) tells at
 verb_by Session dtd root doc files o course r both tells at =
@@ -204,9 +78,17 @@ responds_caused (Some (on_dtd dtd)) files course r defined at =
     (λ g k rest opens told same ends. by_status (Some (on_dtd dtd)) files course.taken Done r _ (responds_by (TellsDtd g) rest r told ends).is_response refl tt) defined at
 responds_caused (Some (on_document verb dtd root doc)) files course r defined at =
     behind_by (opening_stage root files) (Tells verb root) (λ s. RespondsBy (Some (on_document verb dtd root doc)) files course.taken s.status) course r
-    (λ s k denies. opening_refused verb dtd root doc files course.taken s k denies)
+    (λ s k denies. opening_refused (Some (on_document verb dtd root doc)) root files (λ text is. is) (λ bytes is. (refl, is)) course.taken s k denies)
     (λ o k rest opens told same ends. subst (λ (t : Option (List ℕ)). RespondsBy (Some (on_document verb dtd root doc)) files t r.status) same
-    (verb_by verb dtd root doc files o rest r (opening_reads verb dtd root doc files o k opens) told ends)) defined at
+    (verb_by verb dtd root doc files o rest r (opening_reads (Some (on_document verb dtd root doc)) root files (λ text is. is) (λ bytes is. (refl, is)) o k opens) told ends)) defined at
+responds_caused (Some (on_certificate Verify dtd root doc file)) files course r defined at =
+    behind_by (certificate_stage pack_file_stage root files) (λ both. Responds (TellsOfPack root both.0.dtd both.0.bytes both.1)) (λ s. RespondsBy (Some (on_certificate Verify dtd root doc file)) files course.taken s.status) course r
+    (λ s k denies. verify_refused dtd root doc file files course.taken s k denies)
+    (λ both k rest opens told same ends. verify_told dtd root doc file files course.taken both k r opens (responds_by (TellsOfPack root both.0.dtd both.0.bytes both.1) rest r told ends)) defined at
+responds_caused (Some (on_ranges dtd root text ranges)) files course r defined at =
+    behind_by (nested_stage root files) (λ nested. IsShownCourse root nested.0 nested.1) (λ s. RespondsBy (Some (on_ranges dtd root text ranges)) files course.taken s.status) course r
+    (λ s k denies. nested_refused dtd root text ranges files course.taken s k denies)
+    (λ nested k rest opens shown same ends. shown_told dtd root text ranges files course.taken nested k rest r opens shown ends) defined at
 responds_caused (Some (drill n)) files course r defined at =
     behind_by (drill_stage n) (λ s. Responds (TellsCounts n s)) (λ s. RespondsBy (Some (drill n)) files course.taken s.status) course r
     (λ s k denies. drill_refused n files course.taken s k denies)
@@ -240,15 +122,16 @@ behind_input stage Goes course out never (short_of_memory k lacks is) at = let h
 drill_stands : (n k : ℕ) → (drill_stage n).Faults k → ⊥
 drill_stands n k (inl (inl never)) = never
 drill_stands n k (inl (inr (g, i, j, means, never, e))) = never
-drill_stands n k (inr (o, i, j, reads, inl (inl never), e)) = never
-drill_stands n k (inr (o, i, j, reads, inl (inr (u, a, b, narrow, never, f)), e)) = never
-drill_stands n k (inr (o, i, j, reads, inr (u, a, b, possible, never, f), e)) = never
+drill_stands n k (inr (o, i, j, reads, inl never, e)) = never
+drill_stands n k (inr (o, i, j, reads, inr (u, a, b, narrow, never, f), e)) = never
 
 -- what ends at a fault of the shelf names files
 names_files : (line : Option PlainCommandLine) (files : Files) (course : Course) → IsDefined line files course → course.ending ≡ shelf_fault → files_named line ≡ [] → ⊥
 names_files None files course defined at none = told_by_shelf _ course defined at
 names_files (Some (on_dtd dtd)) files course defined at none = let no : dtd ∷ [] ≡ [] = none in cc
 names_files (Some (on_document verb dtd root doc)) files course defined at none = let no : dtd ∷ doc ∷ [] ≡ [] = none in cc
+names_files (Some (on_certificate checker dtd root doc file)) files course defined at none = let no : dtd ∷ doc ∷ file ∷ [] ≡ [] = none in cc
+names_files (Some (on_ranges dtd root text ranges)) files course defined at none = let no : dtd ∷ text ∷ ranges ∷ [] ≡ [] = none in cc
 names_files (Some (drill n)) files course defined at none =
     behind_shelf (drill_stage n) (λ s. Responds (TellsCounts n s)) course (drill_stands n) (λ s rest told. told_by_shelf (TellsCounts n s) rest told) defined at
 
@@ -273,6 +156,12 @@ script_read None files course out defined at = told_by_input _ course out define
 script_read (Some (on_dtd dtd)) files course out defined at =
     behind_input (dtd_file_stage (file_at 0 files)) (λ g. Responds (TellsDtd g)) course out (λ g rest told. told_by_input (TellsDtd g) rest out told) defined at
 script_read (Some (on_document verb dtd root doc)) files course out defined at = document_reads verb dtd root doc files course out defined at
+script_read (Some (on_certificate Verify dtd root doc file)) files course out defined at =
+    behind_input (certificate_stage pack_file_stage root files) (λ both. Responds (TellsOfPack root both.0.dtd both.0.bytes both.1)) course out
+    (λ both rest told. told_by_input (TellsOfPack root both.0.dtd both.0.bytes both.1) rest out told) defined at
+script_read (Some (on_ranges dtd root text ranges)) files course out defined at =
+    behind_input (nested_stage root files) (λ nested. IsShownCourse root nested.0 nested.1) course out
+    (λ nested rest shown. behind_input (width_stage nested.0 nested.1) (λ _. Responds (TellsNested root nested.0 nested.1)) rest out (λ u more told. told_by_input (TellsNested root nested.0 nested.1) more out told) shown) defined at
 script_read (Some (drill n)) files course out defined at =
     behind_input (drill_stage n) (λ s. Responds (TellsCounts n s)) course out (λ s rest told. told_by_input (TellsCounts n s) rest out told) defined at
 
@@ -286,6 +175,7 @@ no_device line files taken before after NoMemory cause = absurd cause
 no_device line files taken before after BadDtd cause = cause
 no_device line files taken before after BadDocument cause = cause
 no_device line files taken before after Limit cause = cause
+no_device line files taken before after BadPack cause = cause
 
 module _ {S : Type 0} (line : Option PlainCommandLine) (files : Files) (course : Course) (before after : Devices S) (status : Status) where
   cause_at : (ending : RunEnding) → course.ending ≡ ending → IsDefined line files course → CountsShelf ending before.shelf.faults after.shelf.faults → CountsInput ending before.input.faults after.input.faults →

@@ -1,5 +1,5 @@
 -- A completion of a document is one whatever its marks are; a session's, where it isn't told.
-use Rattle.std.proofs.Common.{◌≡◌, ◌∙◌, Bool, Err, IfOk, IsTrue, List, Ok, Result, ap, false, inl, inr, not, refl, sym, subst, ℕ}
+use Rattle.std.proofs.Common.{◌≡◌, ◌∙◌, Bool, Err, IfOk, IsTrue, List, None, Ok, Result, ap, false, inl, inr, not, refl, sym, subst, ℕ}
 use Rattle.std.proofs.Math.Logic.{∥∥₁_map}
 use Rattle.pv_cache.specs.Rows.{TellVerdicts}
 use Rattle.pv_cache.specs.Stamps.{doc_as, stamp_of, stamps_of}
@@ -9,6 +9,7 @@ use Rattle.pv_complete.specs.Completing.{IsLeastCompletion}
 use Rattle.pv_complete.specs.Needing.{AreLiveVerdicts}
 use Rattle.pv_complete.specs.Growing.{Grows, IsGrownText, KeepsEnding, beside, grows_kept, grows_leaf, grows_new, grows_none}
 use Rattle.pv_dtd.specs.Plain.{PlainDtd}
+use Rattle.pv_dtd.specs.Proper.{IsProperDtd}
 use Rattle.pv_missing.specs.Completing.{Completes}
 use Rattle.pv_read.specs.Grammar.{IsElement, IsWholeRun, SpellsContent, SpellsDocument, SpellsNode, begins_with_text}
 use Rattle.pv_tree.specs.Plain.{Ending, Forest, PlainDoc, Tree, cdata_node, element, is_element, map_marks, map_marks_all, misc_node, no_trees, short, tagged, text_node, tree}
@@ -126,9 +127,9 @@ module _ {M N : Type 0} (f : M → N) where
 
 -- what a completion by the verdicts that a session tells is of the session's document
 module _ (s : PlainSession) (g : PlainDtd) (root : List ℕ) (doc : PlainDoc Mark) (vs : PlainVerdicts) (same_dtd : g ≡ s.dtd) (same_root : root ≡ s.root) (same_doc : stamps_of doc ≡ s.doc) (is : IsSession s)
-    (tell : TellVerdicts (stamped_document s) vs) where
+    (proper : IsProperDtd s.dtd) (tell : TellVerdicts (stamped_document s) vs) (none : vs.first ≡ None) where
   abbrev live : ∥ AreLiveVerdicts g root doc vs.verdicts ∥₁
-  live = live_verdicts s g root doc vs same_dtd same_root same_doc is tell
+  live = live_verdicts s g root doc vs same_dtd same_root same_doc is proper tell none
 
   pub completion_told : (n : ℕ) (marks body : List ℕ) → (AreLiveVerdicts g root doc vs.verdicts → IsLeastCompletion g root doc n marks body) → ∥ IsLeastCompletion s.dtd s.root s.doc n marks body ∥₁
   completion_told n marks body f = ∥∥₁_map live (λ live. rw (same_dtd, same_root, same_doc) at (completion_as stamp_of g root doc n marks body (f live)))

@@ -91,28 +91,27 @@ both_fetched dtd doc before between after f first second =
       same = second.same ∙ first.same;
     }
 
--- a file that was fetched, and the reading of its bytes
-pub read_stopped : {X Y : Type 0} (AreSuch : Option (List ℕ) → Type 0) (plain : X → Y) (most : ℕ) (passed : List ℕ) (reading : List ℕ → Stage Y) (before after : ShelfNow) (stop : Stop) →
-    ReturnsOver {X = Vec ℕ Global} AreSuch (λ v. v.items) (λ file. fetch_stage file most passed) before after (Err stop) →
-    ReturnsOver {X = X} AreSuch plain (λ file. followed_by (fetch_stage file most passed) reading) before after (Err stop)
-read_stopped AreSuch plain most passed reading before after stop over = record {
+-- a stage over files, and one behind it that fetches nothing
+pub stopped_over : {F V W X Y : Type 0} (AreSuch : F → Type 0) (shown : V → W) (first : F → Stage W) (plain : X → Y) (second : W → Stage Y) (before after : ShelfNow) (stop : Stop) →
+    ReturnsOver {X = V} AreSuch shown first before after (Err stop) → ReturnsOver {X = X} AreSuch plain (λ files. followed_by (first files) second) before after (Err stop)
+stopped_over AreSuch shown first plain second before after stop over = record {
   files = over.files;
   are_such = over.are_such;
   fetches = over.fetches;
-  returns = stopped_first (fetch_stage over.files most passed) reading over.fetches stop over.returns;
+  returns = stopped_first (first over.files) second over.fetches stop over.returns;
   calls = over.calls;
   faults = over.faults;
   same = over.same;
 }
 
-pub read_behind : {X Y : Type 0} (AreSuch : Option (List ℕ) → Type 0) (plain : X → Y) (most : ℕ) (passed : List ℕ) (reading : List ℕ → Stage Y) (before after : ShelfNow) (v : Vec ℕ Global) (result : Result X Stop) →
-    ReturnsOver AreSuch (λ v. v.items) (λ file. fetch_stage file most passed) before after (Ok v) → Returns plain (reading v.items) 0 result → ShelfCounts before.faults before.faults result →
-    ReturnsOver AreSuch plain (λ file. followed_by (fetch_stage file most passed) reading) before after result
-read_behind AreSuch plain most passed reading before after v result over returns counts = record {
+pub behind_over : {F V W X Y : Type 0} (AreSuch : F → Type 0) (shown : V → W) (first : F → Stage W) (plain : X → Y) (second : W → Stage Y) (before after : ShelfNow) (v : V) (result : Result X Stop) →
+    ReturnsOver AreSuch shown first before after (Ok v) → Returns plain (second (shown v)) 0 result → ShelfCounts before.faults before.faults result →
+    ReturnsOver AreSuch plain (λ files. followed_by (first files) second) before after result
+behind_over AreSuch shown first plain second before after v result over returns counts = record {
   files = over.files;
   are_such = over.are_such;
   fetches = over.fetches + 0;
-  returns = returned_second plain (fetch_stage over.files most passed) reading v.items over.fetches 0 result over.returns returns;
+  returns = returned_second plain (first over.files) second (shown v) over.fetches 0 result over.returns returns;
   calls = let one = over.calls in omega arith;
   faults = subst (λ (n : ℕ). ShelfCounts before.faults n result) (sym over.faults) counts;
   same = over.same;

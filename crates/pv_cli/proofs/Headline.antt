@@ -5,12 +5,10 @@ use Rattle.std.specs.Io.KnownBytes.{Appends, Consumes, IsAtEnd}
 use Rattle.pv_dtd.specs.Laws.{MeansDtd}
 use Rattle.pv_dtd.specs.Plain.{PlainDtd}
 use Rattle.pv_io.specs.Files.{file_named}
-use Rattle.pv_missing.specs.Completing.{IsPotentiallyValid}
 use Rattle.pv_script.specs.Lines.{lines_of}
 use Rattle.pv_session.specs.Sessions.{PlainSession, session_on}
 use Rattle.pv_tree.specs.Marks.{unmarked_doc}
 use Rattle.pv_tree.specs.Plain.{PlainDoc}
-use Rattle.pv_tree.specs.View.{view}
 use Rattle.pv_tree.specs.declared.nodes.Mark.{Mark}
 use Rattle.pv_cli.specs.CommandLine.{PlainCommandLine, on_document}
 use Rattle.pv_cli.specs.Course.{Course, RunEnding, input_fault, responds}
@@ -97,13 +95,13 @@ opens means told dtd root name files g doc are d e =
     )
 
 -- behind the opened files
-behind_files : ReadsOne → (root : List ℕ) (x y : PlainOpened) (course : Course) (r : PlainResponse) → AreSameOpened x y → AreNarrow y.dtd y.doc → IsPotentiallyValid y.dtd root (view y.doc.root) → course.ending ≡ responds r →
+behind_files : ReadsOne → (root : List ℕ) (x y : PlainOpened) (course : Course) (r : PlainResponse) → AreSameOpened x y → AreNarrow y.dtd y.doc → course.ending ≡ responds r →
     IsSessionCourse root x course → GoesWith (guarding_stage root x.dtd x.doc) (λ s rest. Converses s rest × (s ≡ session_on y.dtd root (unmarked_doc y.doc))) course
-behind_files one root x y course r same narrow possible at goes =
+behind_files one root x y course r same narrow at goes =
     by (went_on (guarding_stage root x.dtd x.doc) Converses course r goes at)
   where
     begins : (guarding_stage root y.dtd y.doc).Opens (session_on y.dtd root (unmarked_doc y.doc)) 0
-    begins = session_begins root y.dtd y.dtd y.doc (session_on y.dtd root (unmarked_doc y.doc)) refl narrow possible refl
+    begins = session_begins root y.dtd y.dtd y.doc (session_on y.dtd root (unmarked_doc y.doc)) refl narrow refl
 
     by : GoesWith (guarding_stage root x.dtd x.doc) Converses course ⊎ ((k : ℕ) × (guarding_stage root x.dtd x.doc).Refuses r k) →
         GoesWith (guarding_stage root x.dtd x.doc) (λ s rest. Converses s rest × (s ≡ session_on y.dtd root (unmarked_doc y.doc))) course
@@ -119,7 +117,7 @@ behind_files one root x y course r same narrow possible at goes =
 
 module _ (S : Type 0) (dtds : ReadsOneDtd) (means : MeansDtd) (one : ReadsOne) (told : List (List ℕ × List ℕ)) (dtd root name script : List ℕ) (g : PlainDtd) (doc : PlainDoc Mark) (before after : Devices S) (status : Status)
     (run : Runs (Some (on_document Session dtd root name)) before after status) (is_told : before.shelf.files ≡ Some told) (is_left : before.input.left ≡ Some script) (d : HoldsDtd told dtd g) (e : HoldsDocument told name root doc)
-    (narrow : AreNarrow g doc) (possible : IsPotentiallyValid g root (view doc.root)) (within : IsWithin script) where
+    (narrow : AreNarrow g doc) (within : IsWithin script) where
   abbrev held : PlainOpened
   held = record { dtd = g; bytes = e.bytes; doc = doc }
 
@@ -138,7 +136,7 @@ module _ (S : Type 0) (dtds : ReadsOneDtd) (means : MeansDtd) (one : ReadsOne) (
       let are = subst (λ t. AreFiles t (dtd ∷ name ∷ []) run.files) is_told run.are_files in
       let same = (opening_sure dtds one root run.files).same w.x held w.count 2 w.opens (opens means told dtd root name run.files g doc are d e) in
       let at = sym (ap (λ (c : Course). c.ending) w.is_rest) ∙ told_by.is_response in
-      let v = behind_files one root w.x held w.rest told_by.response same narrow possible at w.goes in
+      let v = behind_files one root w.x held w.rest told_by.response same narrow at w.goes in
       let of_taken = ap (λ (c : Course). c.taken) w.is_rest ∙ ap (λ (c : Course). c.taken) v.is_rest in
       let of_end = ap (λ (c : Course). c.at_end) w.is_rest ∙ ap (λ (c : Course). c.at_end) v.is_rest in
       let last = sym (ap (λ (c : Course). c.ending) v.is_rest) ∙ at in
@@ -158,7 +156,7 @@ module _ (S : Type 0) (dtds : ReadsOneDtd) (means : MeansDtd) (one : ReadsOne) (
   guarded (inr told_by) = inr (answered told_by (went_on (opening_stage root run.files) (IsSessionCourse root) run.course told_by.response run.is_defined told_by.is_response))
 
 pub guards_session : (S : Type 0) → ReadsOneDtd → MeansDtd → ReadsOne → IsComplete S → SessionsAreGuarded S
-guards_session S dtds means one complete line before after status run told dtd root name script g doc is is_told is_left quiet d e narrow possible within =
+guards_session S dtds means one complete line before after status run told dtd root name script g doc is is_told is_left quiet d e narrow within =
     let this = subst (λ (l : Option PlainCommandLine). Runs l before after status) is run in
-    guarded S dtds means one told dtd root name script g doc before after status this is_told is_left d e narrow possible within
+    guarded S dtds means one told dtd root name script g doc before after status this is_told is_left d e narrow within
     (complete (Some (on_document Session dtd root name)) before after status this quiet.shelf quiet.input quiet.output)

@@ -2,8 +2,14 @@
 pub mod OneDrill
 pub mod OneOpening
 -- of this crate:
+pub mod Accepting
+pub mod AnnotationCauses
+pub mod Annotations
 pub mod Beginning
+pub mod Both
 pub mod Causes
+pub mod CertificateCauses
+pub mod Certificates
 pub mod CommandLines
 pub mod Completeness
 pub mod Completions
@@ -19,6 +25,7 @@ pub mod Likeness
 pub mod Limits
 pub mod DtdLines
 pub mod MissingElements
+pub mod OneAnnotation
 pub mod OneCheck
 pub mod OneDtd
 pub mod OneNeed
@@ -27,8 +34,11 @@ pub mod OneReplies
 pub mod OneResponse
 pub mod OneSession
 pub mod OneVerdict
+pub mod OneVerification
 pub mod Packing
 pub mod Piecewise
+pub mod Refusals
+pub mod ResponseCauses
 pub mod Replies
 pub mod ReplyTexts
 pub mod Runs

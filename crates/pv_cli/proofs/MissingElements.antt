@@ -1,6 +1,7 @@
 -- What is missing in a document, whatever its marks are, and what a session can't be told of it.
-use Rattle.std.proofs.Common.{◌≡◌, ◌⊎◌, inl, inr, List, refl, subst, sym, ℕ}
-use Rattle.std.proofs.Math.Logic.{∥∥₁_elim, ∥∥₁_map, ∥∥₁_prop}
+use Rattle.std.proofs.Common.{◌≡◌, ◌⊎◌, inl, inr, List, None, Some, refl, subst, sym, ℕ}
+use Rattle.std.specs.Prelude.{◌↔◌}
+use Rattle.std.proofs.Math.Logic.{∥∥₁_map}
 use Rattle.std.specs.List.{AllByRecursion}
 use Rattle.pv_cache.specs.Rows.{TellVerdicts}
 use Rattle.pv_cache.specs.Stamps.{doc_as, stamp_of, stamps_of}
@@ -15,7 +16,8 @@ use Rattle.pv_missing.proofs.DocLists.{live_locality}
 use Rattle.pv_missing.proofs.VerdictHeads.{verdict_by_heads}
 use Rattle.pv_missing.specs.Widths.{IsFirstTooWide, IsListForVerdict, IsListForWeights}
 use Rattle.pv_missing.specs.Completing.{IsPotentiallyValid}
-use Rattle.pv_missing.specs.Verdicts.{AreVerdicts, IsLive, PlainVerdicts}
+use Rattle.pv_fresh.specs.Answers.{IsImpossibleAt}
+use Rattle.pv_missing.specs.Verdicts.{AreVerdicts, HaveVerdicts, IsFirstImpossible, IsLive, PlainVerdicts}
 use Rattle.pv_session.specs.Keeping.{IsSession}
 use Rattle.pv_session.specs.Sessions.{PlainSession, stamped_document}
 use Rattle.pv_tree.specs.Lists.{Listed, lists_of}
@@ -74,11 +76,34 @@ module _ {M N : Type 0} (f : M → N) (g : PlainDtd) (root : List ℕ) where
     cause_as TooMany none = absurd none
     cause_as NoMemory none = tt
 
--- What the verdicts that a session tells tell of its document: it is this one, whatever its marks are.
+-- ---- a session whose DTD is proper
+module _ (s : PlainSession) (is : IsSession s) (proper : IsProperDtd s.dtd) where
+  -- its document is potentially valid exactly where each list is live
+  abbrev by_lists : IsPotentiallyValid s.dtd s.root (view s.doc.root) ↔ AllByRecursion (IsLive s.dtd s.root) (lists_of s.doc)
+  by_lists = live_locality ℕ s.dtd s.root s.doc proper (record { rooted = is.kept.rooted; units = is.kept.units })
+
+  impossible_here : (path : List ℕ) → IsFirstImpossible s.dtd s.root (lists_of s.doc) path → IsImpossibleAt s.root s.dtd s.doc path
+  impossible_here path first = record {
+    narrow = is.holdable.narrow;
+    impossible = λ possible. none_first (IsLive s.dtd s.root) (lists_of s.doc) path (by_lists.0 possible) first;
+    first = first;
+  }
+
+  -- the first impossible list of its document, where it is told
+  pub impossible_told : (path : List ℕ) → ∥ StopsAtImpossible s.dtd s.root s.doc path ∥₁ → ∥ IsImpossibleAt s.root s.dtd s.doc path ∥₁
+  impossible_told path stops = ∥∥₁_map stops (λ stops. impossible_here path stops.first)
+
+  pub told_impossible : (vs : PlainVerdicts) (path : List ℕ) → vs.first ≡ Some path → TellVerdicts (stamped_document s) vs → ∥ IsImpossibleAt s.root s.dtd s.doc path ∥₁
+  told_impossible vs path e tell = ∥∥₁_map tell (λ have. let first : IsFirstImpossible s.dtd s.root (lists_of s.doc) path = rw e at have.is_first in impossible_here path first)
+
+  all_live : (vs : PlainVerdicts) → vs.first ≡ None → HaveVerdicts s.dtd s.root (lists_of s.doc) vs → AllByRecursion (IsLive s.dtd s.root) (lists_of s.doc)
+  all_live vs none have = rw none at have.is_first
+
+-- What the verdicts that a session tells, none of them Impossible, tell of its document: it is this one, whatever its marks are.
 module _ (s : PlainSession) (g : PlainDtd) (root : List ℕ) (doc : PlainDoc Mark) (vs : PlainVerdicts) (same_dtd : g ≡ s.dtd) (same_root : root ≡ s.root) (same_doc : stamps_of doc ≡ s.doc) (is : IsSession s)
-    (tell : TellVerdicts (stamped_document s) vs) where
+    (proper : IsProperDtd s.dtd) (tell : TellVerdicts (stamped_document s) vs) (none : vs.first ≡ None) where
   narrow_lists : AllByRecursion (IsListForVerdict s.dtd) (lists_of doc)
-  narrow_lists = all_narrow_from stamp_of doc s.dtd (subst (λ (d : PlainDoc ℕ). AllByRecursion (IsListForVerdict s.dtd) (lists_of d)) (sym same_doc) is.guarded.holdable.narrow)
+  narrow_lists = all_narrow_from stamp_of doc s.dtd (subst (λ (d : PlainDoc ℕ). AllByRecursion (IsListForVerdict s.dtd) (lists_of d)) (sym same_doc) is.holdable.narrow)
 
   can_be_valid : IsPotentiallyValid s.dtd s.root (view s.doc.root) → IsPotentiallyValid s.dtd s.root (view doc.root)
   can_be_valid possible =
@@ -91,7 +116,7 @@ module _ (s : PlainSession) (g : PlainDtd) (root : List ℕ) (doc : PlainDoc Mar
   pub live_verdicts : ∥ AreLiveVerdicts g root doc vs.verdicts ∥₁
   live_verdicts =
       rw (same_dtd, same_root)
-      (∥∥₁_elim tell.verdicts ∥∥₁_prop (λ are. ∥∥₁_map is.guarded.possible (λ possible. record { narrow = narrow_lists; possible = can_be_valid possible; verdicts = are_verdicts are })))
+      (∥∥₁_map tell (λ have. record { narrow = narrow_lists; possible = can_be_valid ((by_lists s is proper).1 (all_live s is proper vs none have)); verdicts = are_verdicts have.are_verdicts }))
 
   pub needs_told : (n : ℕ) → (AreLiveVerdicts g root doc vs.verdicts → Needs g root doc n) → ∥ Needs s.dtd s.root s.doc n ∥₁
   needs_told n f = ∥∥₁_map live_verdicts (λ live. rw (same_dtd, same_root, same_doc) at (needs_as stamp_of g root doc n (f live)))
@@ -99,16 +124,9 @@ module _ (s : PlainSession) (g : PlainDtd) (root : List ℕ) (doc : PlainDoc Mar
   pub cause_told : (e : NeedError) → (AreLiveVerdicts g root doc vs.verdicts → HasCause g root doc e) → ∥ HasCause s.dtd s.root s.doc e ∥₁
   cause_told e f = ∥∥₁_map live_verdicts (λ live. rw (same_dtd, same_root, same_doc) at (cause_as stamp_of g root doc e (f live)))
 
--- no list of a session is Impossible
-pub none_impossible : (s : PlainSession) (path : List ℕ) → IsProperDtd s.dtd → IsSession s → ∥ StopsAtImpossible s.dtd s.root s.doc path ∥₁ → ⊥
-none_impossible s path proper is stops =
-    let by_lists = live_locality ℕ s.dtd s.root s.doc proper (record { rooted = is.kept.rooted; units = is.kept.units }) in
-    ∥∥₁_elim stops (λ x. absurd x) (λ stops.
-    ∥∥₁_elim is.guarded.possible (λ x. absurd x) (λ possible. none_first (IsLive s.dtd s.root) (lists_of s.doc) path (by_lists.0 possible) stops.first))
-
--- nor is one too wide for a verdict
+-- no list of it is too wide for a verdict
 not_too_wide : (s : PlainSession) (path : List ℕ) → IsSession s → IsFirstTooWide s.dtd (lists_of s.doc) path ⊎ StopsAtWide s.dtd s.root s.doc path → StopsAtWide s.dtd s.root s.doc path
-not_too_wide s path is (inl first) = absurd (none_first (IsListForVerdict s.dtd) (lists_of s.doc) path is.guarded.holdable.narrow first)
+not_too_wide s path is (inl first) = absurd (none_first (IsListForVerdict s.dtd) (lists_of s.doc) path is.holdable.narrow first)
 not_too_wide s path is (inr stops) = stops
 
 pub wide_for_weights : (s : PlainSession) (path : List ℕ) → IsSession s → ∥ IsFirstTooWide s.dtd (lists_of s.doc) path ⊎ StopsAtWide s.dtd s.root s.doc path ∥₁ → ∥ StopsAtWide s.dtd s.root s.doc path ∥₁

@@ -50,11 +50,10 @@ drill_sure one documents n =
 pub asks_none : (n k : ℕ) → (drill_stage n).Faults k → ⊥
 asks_none n k (inl (inl never)) = never
 asks_none n k (inl (inr (g, i, j, opens, never, e))) = never
-asks_none n k (inr (o, i, j, opens, inl (inl never), e)) = never
-asks_none n k (inr (o, i, j, opens, inl (inr (u, v, w, narrow, never, f)), e)) = never
-asks_none n k (inr (o, i, j, opens, inr (u, v, w, possible, never, f), e)) = never
+asks_none n k (inr (o, i, j, opens, inl never, e)) = never
+asks_none n k (inr (o, i, j, opens, inr (u, v, w, narrow, never, f), e)) = never
 
 -- and fetch nothing where they open
 pub fetches_none : (n k : ℕ) (session : PlainSession) → (drill_stage n).Opens session k → k ≡ 0
-fetches_none n k session (o, i, j, (g, a, b, dtd, doc, e), (u, c, d, (v, p, q, narrow, possible, f), begins, h), l) =
-    omega (arith, e, dtd.1, doc.1, narrow.1, possible.1, f, begins.1, h, l)
+fetches_none n k session (o, i, j, (g, a, b, dtd, doc, e), (u, c, d, narrow, begins, h), l) =
+    omega (arith, e, dtd.1, doc.1, narrow.1, begins.1, h, l)

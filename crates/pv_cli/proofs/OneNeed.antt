@@ -4,13 +4,15 @@ use Rattle.std.proofs.Math.Logic.{∥∥₁_elim, ∥∥₁_map}
 use Rattle.std.specs.Coded.{Coded-set, coded_list, coded_ℕ}
 use Rattle.pv_complete.specs.Completing.{IsLeastCompletion}
 use Rattle.pv_complete.specs.Needing.{CanNeed, CanWeigh, IsHeavy, Needs, StopsAtWide}
+use Rattle.pv_fresh.specs.Answers.{IsImpossibleAt}
+use Rattle.pv_missing.specs.Verdicts.{IsLive}
 use Rattle.pv_script.specs.declared.replies.Reply.{Reply}
 use Rattle.pv_script.specs.declared.replies.Reply.TheVariants as reply
 use Rattle.pv_session.specs.Sessions.{PlainSession}
 use Rattle.pv_tree.specs.Lists.{lists_of}
 use Rattle.pv_tree.proofs.Firsts.{one_first}
 use Rattle.pv_cli.specs.Alike.{AreAlike, are_completions, are_one}
-use Rattle.pv_cli.specs.Missing.{TellsCompletion, TellsNeed, Withholds, is_completed, is_heavy, is_needed, is_not_completed, is_wide, is_withheld}
+use Rattle.pv_cli.specs.Missing.{TellsCompletion, TellsNeed, Withholds, is_completed, is_heavy, is_impossible, is_needed, is_not_completed, is_wide, is_withheld}
 use Rattle.pv_cli.proofs.OneCheck.{none_first}
 
 module _ (s : PlainSession) where
@@ -39,7 +41,17 @@ module _ (s : PlainSession) where
   neither : {A B : Type 0} → ∥ A ∥₁ → ∥ B ∥₁ → (A → B → ⊥) → ⊥
   neither a b not = ∥∥₁_elim a (λ x. absurd x) (λ a. ∥∥₁_elim b (λ x. absurd x) (λ b. not a b))
 
+  same_impossible : (path other : List ℕ) → ∥ IsImpossibleAt s.root s.dtd s.doc path ∥₁ → ∥ IsImpossibleAt s.root s.dtd s.doc other ∥₁ → path ≡ other
+  same_impossible path other f h =
+      let set = Coded-set (coded_list coded_ℕ) path other in
+      ∥∥₁_elim f set (λ f. ∥∥₁_elim h set (λ h. one_first (IsLive s.dtd s.root) (lists_of s.doc) path other f.first h.first))
+
   pub one_withheld : (told also : Reply) → Withholds s told → Withholds s also → told ≡ also
+  one_withheld told also (is_impossible path f is) (is_impossible other h are) = is ∙ ap reply.Impossible (same_impossible path other f h) ∙ sym are
+  one_withheld told also (is_impossible path f is) (is_wide other h are) = absurd (neither f h (λ f h. f.impossible h.possible))
+  one_withheld told also (is_impossible path f is) (is_heavy h are) = absurd (neither f h (λ f h. f.impossible h.can.possible))
+  one_withheld told also (is_wide path f is) (is_impossible other h are) = absurd (neither h f (λ h f. h.impossible f.possible))
+  one_withheld told also (is_heavy h is) (is_impossible other f are) = absurd (neither f h (λ f h. f.impossible h.can.possible))
   one_withheld told also (is_wide path f is) (is_wide other h are) =
       is ∙ ap reply.Wide (same_wide path other f h) ∙ sym are
   one_withheld told also (is_wide path f is) (is_heavy h are) = absurd (neither h f (λ h f. not_wide path h.can f))
@@ -48,6 +60,7 @@ module _ (s : PlainSession) where
 
   -- the number isn't both told and not told
   pub told_or_withheld : (k : ℕ) (also : Reply) → ∥ Needs s.dtd s.root s.doc k ∥₁ → Withholds s also → ⊥
+  told_or_withheld k also needs (is_impossible path f are) = neither needs f (λ needs f. f.impossible needs.can.possible)
   told_or_withheld k also needs (is_wide path f are) = neither needs f (λ needs f. not_wide path needs.can f)
   told_or_withheld k also needs (is_heavy h are) = neither needs h (λ needs h. not_heavy k needs h)
 

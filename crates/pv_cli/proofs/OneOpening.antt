@@ -66,7 +66,7 @@ sure_at behind Like sure x z is = subst (λ (w : _). AreSure (behind x) (behind 
 abbrev pub IsSamePair : {X Y : Type 0} → (Y → Y → Type 0) → X × Y → X × Y → Type 0
 IsSamePair Same a b = (a.0 ≡ b.0) × Same a.1 b.1
 
-beside_sure : {X Y : Type 0} (x : X) (stage : Stage Y) (Same : Y → Y → Type 0) → IsSure stage Same → IsSure (beside x stage) (IsSamePair Same)
+pub beside_sure : {X Y : Type 0} (x : X) (stage : Stage Y) (Same : Y → Y → Type 0) → IsSure stage Same → IsSure (beside x stage) (IsSamePair Same)
 beside_sure x stage Same sure = record {
   opens_or = λ both r k m opens refuses. sure.opens_or both.1 r k m opens.1 refuses;
   refuses_or = λ both r k m refuses opens. sure.refuses_or both.1 r k m refuses opens.1;
@@ -95,7 +95,7 @@ fetch_not_both file most passed bytes r is are =
     let beyond = are.beyond in
     let within = is.within in absurd (omega arith)
 
-fetch_sure : (file : Option (List ℕ)) (most : ℕ) (passed : List ℕ) → IsSure (fetch_stage file most passed) IsEqual
+pub fetch_sure : (file : Option (List ℕ)) (most : ℕ) (passed : List ℕ) → IsSure (fetch_stage file most passed) IsEqual
 fetch_sure file most passed = record {
   opens_or = λ bytes r k m is are. fetch_not_both file most passed bytes r is.0 are.0;
   refuses_or = λ bytes r k m is are. fetch_not_both file most passed bytes r are.0 is.0;
@@ -168,7 +168,7 @@ pub record ReadsOne : Type 0 where
   pub means : MeansWhatItSpells
   pub spells_one : SpellsOneDocument
 
-document_not_both : ReadsOne → (root bytes : List ℕ) (doc : PlainDoc Mark) (r : PlainResponse) → IsDocumentText root bytes doc → RefusesDocument root bytes r → ⊥
+pub document_not_both : ReadsOne → (root bytes : List ℕ) (doc : PlainDoc Mark) (r : PlainResponse) → IsDocumentText root bytes doc → RefusesDocument root bytes r → ⊥
 document_not_both one root bytes doc r is (no_document kind k means line) =
     let same = one.means_one document_limits root bytes (is_document (with_marks blank_mark doc)) (faulty_document kind k) (one.means document_limits blank_mark root bytes doc is) means in cc
 document_not_both one root bytes doc r is (too_many_bytes beyond line) =
@@ -189,6 +189,7 @@ document_one_refusal one root bytes r also (too_many_bytes beyond line) (too_man
 -- the same DTD, and documents with one text
 pub record AreSameOpened (x y : PlainOpened) : Type 0 where
   pub dtds : x.dtd ≡ y.dtd
+  pub bytes : x.bytes ≡ y.bytes
   pub docs : IsSameText x.doc y.doc
 
 pub document_sure : ReadsOne → (root : List ℕ) (g : PlainDtd) (bytes : List ℕ) → IsSure (document_stage root g bytes) AreSameOpened
@@ -196,7 +197,7 @@ document_sure one root g bytes =
     reading_sure (OpensDocument root g bytes) (OpensDocument root g bytes) (RefusesDocument root bytes) (RefusesDocument root bytes) AreSameOpened
     (λ o r is denies. document_not_both one root bytes o.doc r is.is_text denies) (λ o r denies is. document_not_both one root bytes o.doc r is.is_text denies)
     (document_one_refusal one root bytes)
-    (λ x y is are. record { dtds = is.is_dtd ∙ sym are.is_dtd; docs = record { root = root; bytes = bytes; is_text = is.is_text; is_same = are.is_text } })
+    (λ x y is are. record { dtds = is.is_dtd ∙ sym are.is_dtd; bytes = is.are_bytes ∙ sym are.are_bytes; docs = record { root = root; bytes = bytes; is_text = is.is_text; is_same = are.is_text } })
 
 fetching_sure : ReadsOneDtd → (files : Files) → IsSure (fetching_stage files) (IsSamePair IsEqual)
 fetching_sure one files =

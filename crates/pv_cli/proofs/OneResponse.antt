@@ -6,7 +6,8 @@ use Rattle.pv_tree.specs.declared.nodes.Mark.{Mark}
 use Rattle.pv_read.specs.DocumentLaws.{SpellsOneDocument}
 use Rattle.pv_cli.specs.Alike.{VerbRespondsAlike}
 use Rattle.pv_cli.specs.Complete.{are_one}
-use Rattle.pv_cli.specs.CommandLine.{on_dtd, on_document, drill}
+use Rattle.pv_cli.specs.Certificates.{certificate_stage}
+use Rattle.pv_cli.specs.CommandLine.{drill, on_certificate, on_document, on_dtd, on_ranges}
 use Rattle.pv_cli.specs.Commands.{Tells}
 use Rattle.pv_cli.specs.Course.{Course}
 use Rattle.pv_cli.specs.Documents.{PlainOpened}
@@ -16,18 +17,24 @@ use Rattle.pv_cli.specs.Laws.{HasOneResponse}
 use Rattle.pv_cli.specs.Opening.{dtd_file_stage, file_at, opening_stage}
 use Rattle.pv_cli.specs.Response.{PlainResponse}
 use Rattle.pv_cli.specs.Stage.{Responds}
+use Rattle.pv_cli.specs.Standoff.{IsShownCourse, nested_stage}
 use Rattle.pv_cli.specs.Valid.{IsValidCourse, TellsValidity}
+use Rattle.pv_cli.specs.PackFiles.{pack_file_stage}
+use Rattle.pv_cli.specs.Verify.{TellsOfPack}
+use Rattle.pv_cli.specs.declared.checker.Checker.TheVariants.{Verify}
 use Rattle.pv_cli.specs.declared.verb.Verb.{Verb}
 use Rattle.pv_cli.specs.declared.verb.Verb.TheVariants.{Valid, Check, Session, Complete}
 use Rattle.pv_cli.proofs.Likeness.{one_response_alike}
+use Rattle.pv_cli.proofs.OneAnnotation.{NestsOnce, nested_sure, one_annotation}
 use Rattle.pv_cli.proofs.OneCheck.{check_once}
 use Rattle.pv_cli.proofs.OneDrill.{drill_sure, one_drill}
 use Rattle.pv_cli.proofs.OneDtd.{one_dtd}
-use Rattle.pv_cli.proofs.OneOpening.{AreSameOpened, IsEqual, ReadsOne, ReadsOneDtd, RunsAs, dtd_file_sure, has_units, one_like, opening_sure, told, unmarked_same}
+use Rattle.pv_cli.proofs.OneOpening.{AreSameOpened, IsEqual, IsSamePair, ReadsOne, ReadsOneDtd, RunsAs, dtd_file_sure, has_units, one_like, opening_sure, told, unmarked_same}
 use Rattle.pv_cli.proofs.OnePack.{ListsOnce, complete_once}
 use Rattle.pv_cli.proofs.OneReplies.{AnswersOnce}
 use Rattle.pv_cli.proofs.OneSession.{session_once}
 use Rattle.pv_cli.proofs.OneVerdict.{one_verdict}
+use Rattle.pv_cli.proofs.OneVerification.{AreSameFiles, VerifiesOnce, certificate_sure, one_verification, pack_file_sure}
 
 valid_once : SpellsOneDocument → IsValidByLists Mark → (root : List ℕ) (x y : PlainOpened) (course other : Course) (r also : PlainResponse) → AreSameOpened x y → RunsAs course other r also →
     IsValidCourse root x course → IsValidCourse root y other → r ≡ also
@@ -58,20 +65,32 @@ equal_alike Check r also is = is
 equal_alike Session r also is = one_response_alike r also is
 equal_alike Complete r also is = are_one is
 
-pub one_response : ReadsOneDtd → ReadsOne → IsValidByLists Mark → AnswersOnce → ListsOnce → HasOneResponse
-one_response dtds documents by_lists once lists None files course other r also is are taken silent at on = told _ course r is at ∙ sym (told _ other also are on)
-one_response dtds documents by_lists once lists (Some (on_dtd dtd)) files course other r also is are taken silent at on =
+pub one_response : ReadsOneDtd → ReadsOne → IsValidByLists Mark → AnswersOnce → ListsOnce → VerifiesOnce → NestsOnce → HasOneResponse
+one_response dtds documents by_lists once lists packs nests None files course other r also is are taken silent at on = told _ course r is at ∙ sym (told _ other also are on)
+one_response dtds documents by_lists once lists packs nests (Some (on_dtd dtd)) files course other r also is are taken silent at on =
     let stage = dtd_file_stage (file_at 0 files) in
     one_like stage stage IsEqual (λ g. Responds (TellsDtd g)) (λ g. Responds (TellsDtd g)) r also (r ≡ also) (λ e. e) (dtd_file_sure dtds (file_at 0 files))
     (λ g h rest more same both goes others. one_dtd g r also (told (TellsDtd g) rest r goes both.ends)
     (subst (λ (d : PlainDtd). TellsDtd d also) (sym same) (told (TellsDtd h) more also others both.ends_too)))
     course other (record { taken = taken; silent = silent; ends = at; ends_too = on }) is are
-one_response dtds documents by_lists once lists (Some (on_document verb dtd root doc)) files course other r also is are taken silent at on =
+one_response dtds documents by_lists once lists packs nests (Some (on_document verb dtd root doc)) files course other r also is are taken silent at on =
     let stage = opening_stage root files in
     one_like stage stage AreSameOpened (Tells verb root) (Tells verb root) r also (VerbRespondsAlike verb r also) (equal_alike verb r also) (opening_sure dtds documents root files)
     (λ x y rest more same both goes others. verb_once (record { documents = documents; by_lists = by_lists; once = once; lists = lists }) verb root x y rest more r also same both goes others)
     course other (record { taken = taken; silent = silent; ends = at; ends_too = on }) is are
-one_response dtds documents by_lists once lists (Some (drill n)) files course other r also is are taken silent at on =
+one_response dtds documents by_lists once lists packs nests (Some (on_certificate Verify dtd root doc file)) files course other r also is are taken silent at on =
+    let stage = certificate_stage pack_file_stage root files in
+    one_like stage stage AreSameFiles (λ both. Responds (TellsOfPack root both.0.dtd both.0.bytes both.1)) (λ both. Responds (TellsOfPack root both.0.dtd both.0.bytes both.1)) r also (r ≡ also) (λ e. e)
+    (certificate_sure pack_file_stage (pack_file_sure packs.packs) dtds documents root files)
+    (λ x y rest more same both goes others. one_verification packs documents.means_one root x y r also same (told (TellsOfPack root x.0.dtd x.0.bytes x.1) rest r goes both.ends)
+    (told (TellsOfPack root y.0.dtd y.0.bytes y.1) more also others both.ends_too))
+    course other (record { taken = taken; silent = silent; ends = at; ends_too = on }) is are
+one_response dtds documents by_lists once lists packs nests (Some (on_ranges dtd root text ranges)) files course other r also is are taken silent at on =
+    let stage = nested_stage root files in
+    one_like stage stage (IsSamePair IsEqual) (λ nested. IsShownCourse root nested.0 nested.1) (λ nested. IsShownCourse root nested.0 nested.1) r also (r ≡ also) (λ e. e) (nested_sure nests root dtds files)
+    (λ x y rest more same both here there. one_annotation root x y rest more r also same both here there)
+    course other (record { taken = taken; silent = silent; ends = at; ends_too = on }) is are
+one_response dtds documents by_lists once lists packs nests (Some (drill n)) files course other r also is are taken silent at on =
     one_like (drill_stage n) (drill_stage n) IsEqual (λ s. Responds (TellsCounts n s)) (λ s. Responds (TellsCounts n s)) r also (r ≡ also) (λ e. e) (drill_sure dtds.means_one documents n)
     (λ x y rest more same both here there. one_drill once n x y r also same (told (TellsCounts n x) rest r here both.ends) (told (TellsCounts n y) more also there both.ends_too))
     course other (record { taken = taken; silent = silent; ends = at; ends_too = on }) is are

@@ -10,14 +10,14 @@ use Rattle.pv_cli.specs.declared.status.Status.TheVariants.{Done, Limit}
 use Rattle.pv_cli.specs.Alike.{OutputsAlike, ResponsesAlike}
 use Rattle.pv_cli.specs.Course.{Course, RunEnding, responds}
 use Rattle.pv_cli.specs.Documents.{PlainOpened}
-use Rattle.pv_cli.specs.Possibility.{possibility_stage}
+use Rattle.pv_cli.specs.Possibility.{width_stage}
 use Rattle.pv_cli.specs.Response.{PlainResponse}
 use Rattle.pv_cli.specs.Script.{MAX_SCRIPT_BYTES, IsWithin, lines_within}
 use Rattle.pv_cli.specs.Session.{Converses, EndsSession, IsSessionCourse, Place, Replies, at_line, at_quit, beginning_stage, ended_over, finished, guarding_stage, input_failed, limited, output_failed, past_line, past_script, quitted, without_room}
 use Rattle.pv_script.proofs.RawLines.{cut_of}
 use Rattle.pv_cli.proofs.GoingOn.{lines_and_last}
 use Rattle.pv_cli.proofs.Likeness.{alike_behind, endings_alike, one_response_alike}
-use Rattle.pv_cli.proofs.OneCheck.{possibility_sure}
+use Rattle.pv_cli.proofs.OneCheck.{width_sure}
 use Rattle.pv_cli.proofs.OneOpening.{AreSameOpened, AreSure, IsEqual, RunsAs, followed_sure, one_like, reading_sure, unmarked_same}
 use Rattle.pv_cli.proofs.OneReplies.{AnswersOnce, one_replies}
 use Rattle.pv_cli.proofs.Replies.{ends_at_quit}
@@ -33,9 +33,9 @@ beginning_sure one root x z same =
 pub guarding_sure : SpellsOneDocument → (root : List ℕ) (x z : PlainOpened) → AreSameOpened x z → AreSure (guarding_stage root x.dtd x.doc) (guarding_stage root z.dtd z.doc) IsEqual
 guarding_sure one root x z same =
     let alike = unmarked_same one x.doc z.doc same.docs in
-    let possible : AreSure (possibility_stage root x.dtd x.doc) (possibility_stage root z.dtd z.doc) IsEqual =
-    subst (λ (g : PlainDtd). AreSure (possibility_stage root x.dtd x.doc) (possibility_stage root g z.doc) IsEqual) same.dtds (possibility_sure root x.dtd x.doc z.doc alike) in
-    followed_sure (possibility_stage root x.dtd x.doc) (possibility_stage root z.dtd z.doc) IsEqual (λ _. beginning_stage root x.dtd x.doc) (λ _. beginning_stage root z.dtd z.doc) IsEqual possible
+    let narrow : AreSure (width_stage x.dtd x.doc) (width_stage z.dtd z.doc) IsEqual =
+    subst (λ (g : PlainDtd). AreSure (width_stage x.dtd x.doc) (width_stage g z.doc) IsEqual) same.dtds (width_sure x.dtd x.doc z.doc alike) in
+    followed_sure (width_stage x.dtd x.doc) (width_stage z.dtd z.doc) IsEqual (λ _. beginning_stage root x.dtd x.doc) (λ _. beginning_stage root z.dtd z.doc) IsEqual narrow
     (λ u v is. beginning_sure one root x z same)
 
 -- the replies up to a `quit` are those to all lines

@@ -162,9 +162,8 @@ rest_runs verb dtd root doc before after fetched input input_now old new checked
 
 -- beginning a session asks no shelf
 guarding_quiet : (root : List ℕ) (o : PlainOpened) (m : ℕ) → (guarding_stage root o.dtd o.doc).Faults m → ⊥
-guarding_quiet root o m (inl (inl never)) = never
-guarding_quiet root o m (inl (inr (u, v, w, narrow, never, f))) = never
-guarding_quiet root o m (inr (u, v, w, possible, never, f)) = never
+guarding_quiet root o m (inl never) = never
+guarding_quiet root o m (inr (u, v, w, narrow, never, f)) = never
 
 -- the stages of a session stopped
 pub session_stopped : (root : List ℕ) (fetched : PlainDtd × List ℕ) (stop : Stop) → StopsBy (session_stage root fetched) 0 stop → Finds (GoesOn Session root fetched) (Err stop)

@@ -3,7 +3,8 @@ use Rattle.std.specs.Prelude.{◌≡◌, ℕ, List, ◌++◌, Option, Some, None
 use Rattle.pv_script.specs.Replies.{reply_bytes}
 use Rattle.pv_script.specs.declared.replies.Reply.{Reply}
 use Rattle.pv_script.specs.declared.replies.Reply.TheVariants as reply
-use Rattle.pv_cli.specs.CommandLine.{PlainCommandLine, on_dtd, on_document, drill}
+use Rattle.pv_cli.specs.CommandLine.{PlainCommandLine, drill, on_certificate, on_document, on_dtd}
+use Rattle.pv_cli.specs.CommandLine.{on_ranges}
 use Rattle.pv_cli.specs.Complete.{PacksAlike}
 use Rattle.pv_cli.specs.Response.{PlainResponse}
 use Rattle.pv_cli.specs.declared.verb.Verb.{Verb}
@@ -38,4 +39,6 @@ abbrev pub RespondsAlike : Option PlainCommandLine → PlainResponse → PlainRe
 RespondsAlike None r also = r ≡ also
 RespondsAlike (Some (on_dtd dtd)) r also = r ≡ also
 RespondsAlike (Some (on_document verb dtd root doc)) r also = VerbRespondsAlike verb r also
+RespondsAlike (Some (on_certificate checker dtd root doc file)) r also = r ≡ also
+RespondsAlike (Some (on_ranges dtd root text ranges)) r also = r ≡ also
 RespondsAlike (Some (drill n)) r also = r ≡ also

@@ -1,6 +1,11 @@
 -- The causes of each status: a record or a case for each.
 use Rattle.std.specs.Prelude.{◌≡◌, ◌⊎◌, ◌<◌, ℕ, Bool, true, false, List, [], length, Option, Some}
-use Rattle.std.specs.Prelude.{None}
+use Rattle.std.specs.Prelude.{None, Ok, Err}
+use Rattle.pv_chars.specs.Units.{TextMeans}
+use Rattle.pv_chars.specs.declared.errors.TextError.{TextError}
+use Rattle.pv_cert.specs.Meaning.{MAX_PACK_BYTES, PackMeans, is_fault, is_pack, is_past_limit}
+use Rattle.pv_cert.specs.declared.packs.Pack.{Pack}
+use Rattle.pv_closed.specs.ClosedTables.{IsFirstWideTable}
 use Rattle.pv_complete.specs.Needing.{IsHeavy, StopsAtWide}
 use Rattle.pv_complete.specs.Tables.{HasTooMany}
 use Rattle.pv_dtd.specs.Facts.{MAX_DTD_BYTES}
@@ -15,22 +20,35 @@ use Rattle.pv_missing.specs.Widths.{IsFirstTooWide}
 use Rattle.pv_read.specs.Grammar.{IsDocumentText}
 use Rattle.pv_read.specs.Kinds.{Kind, deep}
 use Rattle.pv_read.specs.Meaning.{DocumentMeans, MAX_DOC_BYTES, faulty, too_long}
+use Rattle.pv_standoff.specs.Lines.{RangesMean}
+use Rattle.pv_standoff.specs.Nested.{NestMeans}
+use Rattle.pv_standoff.specs.declared.errors.NestError.{NestError}
+use Rattle.pv_standoff.specs.declared.errors.NestError.TheVariants.{Deep}
+use Rattle.pv_standoff.specs.declared.errors.RangesError.TheVariants.{Limit as TooMany, Syntax}
+use Rattle.pv_standoff.specs.declared.ranges.Range.{Range}
 use Rattle.pv_tree.specs.Lists.{IsFirstNot, IsValidList, lists_of}
 use Rattle.pv_tree.specs.Marks.{blank_mark}
 use Rattle.pv_tree.specs.Plain.{PlainDoc}
 use Rattle.pv_tree.specs.View.{view}
 use Rattle.pv_tree.specs.declared.nodes.Mark.{Mark}
-use Rattle.pv_cli.specs.CommandLine.{PlainCommandLine, drill, on_document, on_dtd, files_named}
-use Rattle.pv_cli.specs.Commands.{Test, validity, possibility, test_of, makes_tables, reads_script}
+use Rattle.pv_verify.specs.Tests.{IsRejected}
+use Rattle.pv_verify.specs.declared.answers.Why.{Why}
+use Rattle.pv_cli.specs.CommandLine.{PlainCommandLine, drill, files_named, on_certificate}
+use Rattle.pv_cli.specs.CommandLine.{on_document, on_dtd, on_ranges}
+use Rattle.pv_cli.specs.Commands.{Test, validity, width, possibility, test_of, makes_tables}
+use Rattle.pv_cli.specs.Commands.{reads_script, tests_width}
 use Rattle.pv_cli.specs.Devices.{Devices}
 use Rattle.pv_cli.specs.Drill.{DRILL_ROOT}
 use Rattle.pv_cli.specs.Opening.{Files, file_at}
 use Rattle.pv_cli.specs.Parameters.{is_parameters_limit}
 use Rattle.pv_cli.specs.Script.{MAX_SCRIPT_BYTES, has_long_line}
+use Rattle.pv_cli.specs.Standoff.{MAX_RANGES_BYTES, MAX_TEXT_BYTES}
+use Rattle.pv_cli.specs.declared.checker.Checker.{Checker}
+use Rattle.pv_cli.specs.declared.checker.Checker.TheVariants.{Verify}
 use Rattle.pv_cli.specs.declared.status.Status.{Status}
 use Rattle.pv_cli.specs.declared.status.Status.TheVariants.{Done, Negative, Usage, ReadFault}
 use Rattle.pv_cli.specs.declared.status.Status.TheVariants.{WriteFault, NoMemory, BadDtd}
-use Rattle.pv_cli.specs.declared.status.Status.TheVariants.{BadDocument, Limit}
+use Rattle.pv_cli.specs.declared.status.Status.TheVariants.{BadDocument, BadPack, Limit}
 
 -- a file is this text, with its parameter entities put in place
 pub record HoldsText (file : Option (List ℕ)) (text : List ℕ) : Type 0 where
@@ -44,6 +62,9 @@ abbrev pub ReadsDtd : Option PlainCommandLine → Files → List ℕ → Type 0
 ReadsDtd None files text = ⊥
 ReadsDtd (Some (on_dtd dtd)) files text = HoldsText (file_at 0 files) text
 ReadsDtd (Some (on_document verb dtd root doc)) files text = HoldsText (file_at 0 files) text
+ReadsDtd (Some (on_certificate checker dtd root doc file)) files text =
+    HoldsText (file_at 0 files) text
+ReadsDtd (Some (on_ranges dtd root text ranges)) files bytes = HoldsText (file_at 0 files) bytes
 ReadsDtd (Some (drill n)) files text = text ≡ DRILL_DTD
 
 abbrev pub ReadsDocument : Option PlainCommandLine → Files → List ℕ → List ℕ → Type 0
@@ -51,6 +72,9 @@ ReadsDocument None files name bytes = ⊥
 ReadsDocument (Some (on_dtd dtd)) files name bytes = ⊥
 ReadsDocument (Some (on_document verb dtd root doc)) files name bytes =
     (name ≡ root) × (file_at 1 files ≡ Some bytes)
+ReadsDocument (Some (on_certificate checker dtd root doc file)) files name bytes =
+    (name ≡ root) × (file_at 1 files ≡ Some bytes)
+ReadsDocument (Some (on_ranges dtd root text ranges)) files name bytes = ⊥
 ReadsDocument (Some (drill n)) files name bytes = (name ≡ DRILL_ROOT) × (bytes ≡ drill_text n)
 
 -- a DTD and a document that a command line reads
@@ -63,18 +87,78 @@ pub record ReadsBoth (line : Option PlainCommandLine) (files : Files) (root : Li
   pub reads_document : ReadsDocument line files root bytes
   pub is_text : IsDocumentText root bytes doc
 
+-- a command line has a checker read a certificate of these bytes
+abbrev pub ReadsCertificate : Checker → Option PlainCommandLine → Files → List ℕ → Type 0
+ReadsCertificate checker None files bytes = ⊥
+ReadsCertificate checker (Some (on_dtd dtd)) files bytes = ⊥
+ReadsCertificate checker (Some (on_document verb dtd root doc)) files bytes = ⊥
+ReadsCertificate checker (Some (on_certificate other dtd root doc file)) files bytes =
+    (other ≡ checker) × (file_at 2 files ≡ Some bytes)
+ReadsCertificate checker (Some (on_ranges dtd root text ranges)) files bytes = ⊥
+ReadsCertificate checker (Some (drill n)) files bytes = ⊥
+
+-- a command line reads a text and ranges of these bytes
+abbrev pub ReadsText : Option PlainCommandLine → Files → List ℕ → Type 0
+ReadsText None files bytes = ⊥
+ReadsText (Some (on_dtd dtd)) files bytes = ⊥
+ReadsText (Some (on_document verb dtd root doc)) files bytes = ⊥
+ReadsText (Some (on_certificate checker dtd root doc file)) files bytes = ⊥
+ReadsText (Some (on_ranges dtd root text ranges)) files bytes = file_at 1 files ≡ Some bytes
+ReadsText (Some (drill n)) files bytes = ⊥
+
+abbrev pub ReadsRanges : Option PlainCommandLine → Files → List ℕ → Type 0
+ReadsRanges None files bytes = ⊥
+ReadsRanges (Some (on_dtd dtd)) files bytes = ⊥
+ReadsRanges (Some (on_document verb dtd root doc)) files bytes = ⊥
+ReadsRanges (Some (on_certificate checker dtd root doc file)) files bytes = ⊥
+ReadsRanges (Some (on_ranges dtd root text ranges)) files bytes = file_at 2 files ≡ Some bytes
+ReadsRanges (Some (drill n)) files bytes = ⊥
+
+-- a DTD, a text and ranges that a command line reads
+pub record ReadsAnnotation (line : Option PlainCommandLine) (files : Files) (g : PlainDtd)
+    (text : List (List ℕ)) (ranges : List Range) : Type 0 where
+  pub dtd_bytes : List ℕ
+  pub reads_dtd : ReadsDtd line files dtd_bytes
+  pub is_dtd_text : DtdTextMeans dtd_bytes (is_dtd g)
+  pub bytes : List ℕ
+  pub reads_text : ReadsText line files bytes
+  pub text_means : TextMeans bytes (Ok text)
+  pub lines : List ℕ
+  pub reads_ranges : ReadsRanges line files lines
+  pub ranges_mean : RangesMean lines (Ok ranges)
+
+-- the same, and the document that stands for them under a root
+pub record ReadsNested (line : Option PlainCommandLine) (files : Files) (root : List ℕ)
+    (g : PlainDtd) (doc : PlainDoc Mark) : Type 0 where
+  pub text : List (List ℕ)
+  pub ranges : List Range
+  pub reads : ReadsAnnotation line files g text ranges
+  pub nests : NestMeans root text ranges (Ok doc)
+
+-- a DTD, a document and a pack that a command line reads
+pub record ReadsPack (line : Option PlainCommandLine) (files : Files) (root : List ℕ) (g : PlainDtd)
+    (doc : PlainDoc Mark) (pack : Pack) : Type 0 where
+  pub both : ReadsBoth line files root g doc
+  pub bytes : List ℕ
+  pub reads : ReadsCertificate Verify line files bytes
+  pub means : PackMeans bytes (is_pack pack)
+
 -- a command line tests this of its document: by its verb, and a drill as `session` does
 abbrev pub TestsFor : Option PlainCommandLine → Test → Type 0
 TestsFor None test = ⊥
 TestsFor (Some (on_dtd dtd)) test = ⊥
 TestsFor (Some (on_document verb dtd root doc)) test = test ≡ test_of verb
-TestsFor (Some (drill n)) test = test ≡ possibility
+TestsFor (Some (on_certificate checker dtd root doc file)) test = ⊥
+TestsFor (Some (on_ranges dtd root text ranges)) test = ⊥
+TestsFor (Some (drill n)) test = test ≡ width
 
 -- a command line reads a script, by its verb
 abbrev pub ReadsScript : Option PlainCommandLine → Type 0
 ReadsScript None = ⊥
 ReadsScript (Some (on_dtd dtd)) = ⊥
 ReadsScript (Some (on_document verb dtd root doc)) = reads_script verb ≡ true
+ReadsScript (Some (on_certificate checker dtd root doc file)) = ⊥
+ReadsScript (Some (on_ranges dtd root text ranges)) = ⊥
 ReadsScript (Some (drill n)) = ⊥
 
 -- a command line makes tables of weights, by its verb
@@ -82,6 +166,8 @@ abbrev pub MakesTables : Option PlainCommandLine → Type 0
 MakesTables None = ⊥
 MakesTables (Some (on_dtd dtd)) = ⊥
 MakesTables (Some (on_document verb dtd root doc)) = makes_tables verb ≡ true
+MakesTables (Some (on_certificate checker dtd root doc file)) = ⊥
+MakesTables (Some (on_ranges dtd root text ranges)) = ⊥
 MakesTables (Some (drill n)) = ⊥
 
 -- whether a first fault is a limit that is passed
@@ -121,9 +207,42 @@ pub record IsBadDocument (line : Option PlainCommandLine) (files : Files) : Type
   pub means : DocumentMeans blank_mark root bytes (faulty kind items)
   pub no_limit : is_document_limit kind ≡ false
 
+-- status 7: or the text's first fault
+pub record IsBadText (line : Option PlainCommandLine) (files : Files) : Type 0 where
+  pub bytes : List ℕ
+  pub reads : ReadsText line files bytes
+  pub fault : TextError
+  pub means : TextMeans bytes (Err fault)
+
+-- status 9: the first line of ranges that is none
+pub record IsBadRanges (line : Option PlainCommandLine) (files : Files) : Type 0 where
+  pub bytes : List ℕ
+  pub reads : ReadsRanges line files bytes
+  pub lines : ℕ
+  pub means : RangesMean bytes (Err (Syntax lines))
+
+-- or the first that is outside, twice or crosses another
+pub record AreUnnested (line : Option PlainCommandLine) (files : Files) : Type 0 where
+  pub root : List ℕ
+  pub g : PlainDtd
+  pub text : List (List ℕ)
+  pub ranges : List Range
+  pub reads : ReadsAnnotation line files g text ranges
+  pub fault : NestError
+  pub means : NestMeans root text ranges (Err fault)
+  pub no_limit : fault ≡ Deep → ⊥
+
+-- status 9: the pack's first line at fault
+pub record IsBadPack (line : Option PlainCommandLine) (files : Files) : Type 0 where
+  pub bytes : List ℕ
+  pub reads : ReadsCertificate Verify line files bytes
+  pub lines : ℕ
+  pub means : PackMeans bytes (is_fault lines)
+
 -- status 8: a limit is passed, by a file, by the parameter entities, in the DTD or the document, by
--- a list where it is tested whether inserting elements can make the document valid, by a list, the
--- missing elements or the entries where tables are made, or by a script
+-- a list where the width of lists is tested, by a list, the missing elements or the entries where
+-- tables are made, by a pack or a list that it names, by a text, by ranges or the document that
+-- stands for them, or by a script
 pub data PassesLimit (line : Option PlainCommandLine) (files : Files) (taken : Option (List ℕ)) :
     Type 0 where
   dtd_file : (bytes : List ℕ) → file_at 0 files ≡ Some bytes → MAX_DTD_BYTES < length bytes →
@@ -142,8 +261,8 @@ pub data PassesLimit (line : Option PlainCommandLine) (files : Files) (taken : O
       PassesLimit line files taken
   document_bytes : (root bytes : List ℕ) → ReadsDocument line files root bytes →
       DocumentMeans blank_mark root bytes too_long → PassesLimit line files taken
-  list_width : (root : List ℕ) (g : PlainDtd) (doc : PlainDoc Mark) (path : List ℕ) →
-      TestsFor line possibility → ReadsBoth line files root g doc →
+  list_width : (root : List ℕ) (g : PlainDtd) (doc : PlainDoc Mark) (path : List ℕ) (test : Test) →
+      TestsFor line test → tests_width test ≡ true → ReadsBoth line files root g doc →
       IsFirstTooWide g (lists_of doc) path → PassesLimit line files taken
   weights_width : (root : List ℕ) (g : PlainDtd) (doc : PlainDoc Mark) (path : List ℕ) →
       MakesTables line → ReadsBoth line files root g doc → StopsAtWide g root doc path →
@@ -154,13 +273,33 @@ pub data PassesLimit (line : Option PlainCommandLine) (files : Files) (taken : O
   table_entries : (root : List ℕ) (g : PlainDtd) (doc : PlainDoc Mark) →
       MakesTables line → ReadsBoth line files root g doc → HasTooMany g root doc →
       PassesLimit line files taken
+  pack_file : (bytes : List ℕ) → ReadsCertificate Verify line files bytes →
+      MAX_PACK_BYTES < length bytes → PassesLimit line files taken
+  in_pack : (bytes : List ℕ) → ReadsCertificate Verify line files bytes →
+      PackMeans bytes is_past_limit → PassesLimit line files taken
+  pack_width : (root : List ℕ) (g : PlainDtd) (doc : PlainDoc Mark) (pack : Pack)
+      (path : List ℕ) → ReadsPack line files root g doc pack →
+      IsFirstWideTable g (lists_of doc) pack.tables path → PassesLimit line files taken
+  text_file : (bytes : List ℕ) → ReadsText line files bytes → MAX_TEXT_BYTES < length bytes →
+      PassesLimit line files taken
+  ranges_file : (bytes : List ℕ) → ReadsRanges line files bytes →
+      MAX_RANGES_BYTES < length bytes → PassesLimit line files taken
+  range_lines : (bytes : List ℕ) → ReadsRanges line files bytes →
+      RangesMean bytes (Err TooMany) → PassesLimit line files taken
+  nested_depth : (root : List ℕ) (g : PlainDtd) (text : List (List ℕ)) (ranges : List Range) →
+      ReadsAnnotation line files g text ranges → NestMeans root text ranges (Err Deep) →
+      PassesLimit line files taken
+  nested_width : (root : List ℕ) (g : PlainDtd) (doc : PlainDoc Mark) (path : List ℕ) →
+      ReadsNested line files root g doc → IsFirstTooWide g (lists_of doc) path →
+      PassesLimit line files taken
   script_line : (script : List ℕ) → ReadsScript line → taken ≡ Some script →
       has_long_line script ≡ true → PassesLimit line files taken
   whole_script : (script : List ℕ) → ReadsScript line → taken ≡ Some script →
       MAX_SCRIPT_BYTES < length script → PassesLimit line files taken
 
 -- status 1: what the command line tests of its document doesn't hold. A list of it isn't valid, or
--- inserting elements can't make it valid.
+-- inserting elements can't make it valid. Nor the
+-- document that stands for its text and ranges. Or its pack fails a test.
 pub data IsNegative (line : Option PlainCommandLine) (files : Files) : Type 0 where
   not_valid : (root : List ℕ) (g : PlainDtd) (doc : PlainDoc Mark) (path : List ℕ) →
       TestsFor line validity → ReadsBoth line files root g doc →
@@ -168,6 +307,12 @@ pub data IsNegative (line : Option PlainCommandLine) (files : Files) : Type 0 wh
   not_possible : (root : List ℕ) (g : PlainDtd) (doc : PlainDoc Mark) →
       TestsFor line possibility → ReadsBoth line files root g doc →
       (IsPotentiallyValid g root (view doc.root) → ⊥) → IsNegative line files
+  nested_impossible : (root : List ℕ) (g : PlainDtd) (doc : PlainDoc Mark) →
+      ReadsNested line files root g doc → (IsPotentiallyValid g root (view doc.root) → ⊥) →
+      IsNegative line files
+  not_accepted : (root : List ℕ) (g : PlainDtd) (doc : PlainDoc Mark) (pack : Pack) (test : Why) →
+      ReadsPack line files root g doc pack → IsRejected g root doc pack test →
+      IsNegative line files
 
 -- status 3: the shelf failed, which a command line asks only where it names files; or the input
 -- failed, which it asks only where it reads a script
@@ -189,8 +334,10 @@ RespondsBy line files taken ReadFault = ⊥
 RespondsBy line files taken WriteFault = ⊥
 RespondsBy line files taken NoMemory = ⊥
 RespondsBy line files taken BadDtd = IsBadDtd line files ⊎ HasBadParameters files
-RespondsBy line files taken BadDocument = IsBadDocument line files
+RespondsBy line files taken BadDocument = IsBadDocument line files ⊎ IsBadText line files
 RespondsBy line files taken Limit = PassesLimit line files taken
+RespondsBy line files taken BadPack =
+    IsBadPack line files ⊎ IsBadRanges line files ⊎ AreUnnested line files
 
 -- the cause of each status, in the files, the script or the devices; want of memory is free
 abbrev pub HasCause : {S : Type 0} → Option PlainCommandLine → Files → Option (List ℕ) → Devices S →

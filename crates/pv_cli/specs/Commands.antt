@@ -1,4 +1,5 @@
--- The commands on a DTD and a document, a line for each verb in each table.
+-- The commands on a DTD and a document, a line for each verb in each table, and those that check a
+-- certificate.
 use Rattle.std.specs.Prelude.{ℕ, Bool, true, false, List, Option, Some, None}
 use Rattle.pv_dtd.specs.Plain.{PlainDtd}
 use Rattle.pv_cli.specs.Check.{IsCheckCourse}
@@ -10,6 +11,9 @@ use Rattle.pv_cli.specs.Opening.{Files, opening_stage}
 use Rattle.pv_cli.specs.Session.{IsSessionCourse}
 use Rattle.pv_cli.specs.Stage.{Behind}
 use Rattle.pv_cli.specs.Valid.{IsValidCourse}
+use Rattle.pv_cli.specs.Verify.{IsVerifyCourse}
+use Rattle.pv_cli.specs.declared.checker.Checker.{Checker}
+use Rattle.pv_cli.specs.declared.checker.Checker.TheVariants.{Verify}
 use Rattle.pv_cli.specs.declared.verb.Verb.{Verb}
 use Rattle.pv_cli.specs.declared.verb.Verb.TheVariants.{Valid, Check, Session, Complete}
 
@@ -20,18 +24,25 @@ Tells Check root opened = IsCheckCourse root opened
 Tells Session root opened = IsSessionCourse root opened
 Tells Complete root opened = IsCompleteCourse root opened
 
--- what a verb tests of its document: that it is valid; or, in lists that aren't too wide, that
+-- what a verb tests of its document: that it is valid; that no list is too wide; or that, and that
 -- inserting elements can make it valid
 pub data Test : Type 0 where
   validity : Test
+  width : Test
   possibility : Test
 
 -- what each verb tests of its document
 abbrev pub test_of : Verb → Test
 test_of Valid = validity
 test_of Check = possibility
-test_of Session = possibility
+test_of Session = width
 test_of Complete = possibility
+
+-- whether a test looks at the width of lists
+abbrev pub tests_width : Test → Bool
+tests_width validity = false
+tests_width width = true
+tests_width possibility = true
 
 -- whether a verb reads a script, and so asks its input
 abbrev pub reads_script : Verb → Bool
@@ -57,3 +68,7 @@ IsDocumentCourse verb root files = Behind (opening_stage root files) (Tells verb
 -- the same, once the DTD is opened and the document's bytes are fetched
 abbrev pub GoesOn : Verb → List ℕ → PlainDtd × List ℕ → Course → Type 0
 GoesOn verb root fetched = Behind (document_stage root fetched.0 fetched.1) (Tells verb root)
+
+-- a command on a certificate, over its files
+abbrev pub IsCheckerCourse : Checker → List ℕ → Files → Course → Type 0
+IsCheckerCourse Verify root files = IsVerifyCourse root files

@@ -40,6 +40,11 @@ pub record OpensDocument (root : List ℕ) (g : PlainDtd) (bytes : List ℕ) (op
   pub are_bytes : opened.bytes ≡ bytes
   pub is_text : IsDocumentText root bytes opened.doc
 
+-- the bytes are the text of some document
+pub record SpellsSome (root bytes : List ℕ) : Type 0 where
+  pub doc : PlainDoc Mark
+  pub is_text : IsDocumentText root bytes doc
+
 -- reading a document
 abbrev pub document_stage : List ℕ → PlainDtd → List ℕ → Stage PlainOpened
 document_stage root g bytes =

@@ -1,5 +1,5 @@
 -- What a session does, in one statement: all that it cites is the grammars of DTDs and documents,
--- potential validity, the steps of a session, and the bytes of scripts and replies.
+-- the steps of a session, and the bytes of scripts and replies.
 use Rattle.std.specs.Prelude.{◌≡◌, ◌≤◌, ◌⊎◌, ℕ, List, [], length, Option, Some}
 use Rattle.std.specs.Io.KnownBytes.{Appends}
 use Rattle.pv_dtd.specs.DtdTexts.{IsDtdText, KeepsLimits}
@@ -7,7 +7,6 @@ use Rattle.pv_dtd.specs.Facts.{MAX_DTD_BYTES}
 use Rattle.pv_dtd.specs.Plain.{PlainDtd}
 use Rattle.pv_io.specs.Causes.{Rose}
 use Rattle.pv_io.specs.Files.{file_named}
-use Rattle.pv_missing.specs.Completing.{IsPotentiallyValid}
 use Rattle.pv_params.specs.Meaning.{Expands, expanded}
 use Rattle.pv_read.specs.Grammar.{IsDocumentText}
 use Rattle.pv_read.specs.Meaning.{MAX_DOC_BYTES}
@@ -15,7 +14,6 @@ use Rattle.pv_script.specs.Lines.{lines_of}
 use Rattle.pv_session.specs.Sessions.{PlainSession, session_on}
 use Rattle.pv_tree.specs.Marks.{unmarked_doc}
 use Rattle.pv_tree.specs.Plain.{PlainDoc}
-use Rattle.pv_tree.specs.View.{view}
 use Rattle.pv_tree.specs.declared.nodes.Mark.{Mark}
 use Rattle.pv_cli.specs.CommandLine.{PlainCommandLine, on_document}
 use Rattle.pv_cli.specs.Devices.{Devices}
@@ -68,9 +66,9 @@ pub record AnswersScript {S : Type 0} (session : PlainSession) (script : List �
   pub is_done : status ≡ Done
 
 -- Where the shelf and the input tell their bytes and no device failed, the files are the texts of a
--- DTD and of a document, no list of the document is too wide, inserting tag pairs alone can make it
--- valid, and the script keeps its limits: `session` writes exactly the replies to the script in the
--- session that the document begins, or there was no memory before the first, and it wrote nothing.
+-- DTD and of a document, no list of the document is too wide, and the script keeps its limits:
+-- `session` writes exactly the replies to the script in the session that the document begins, or
+-- there was no memory before the first, and it wrote nothing.
 abbrev pub GuardsSession : {S : Type 0} → Option PlainCommandLine → Devices S → Devices S → Status →
     Type 0
 GuardsSession line before after status = (told : List (List ℕ × List ℕ))
@@ -78,6 +76,6 @@ GuardsSession line before after status = (told : List (List ℕ × List ℕ))
     line ≡ Some (on_document Session dtd root name) →
     before.shelf.files ≡ Some told → before.input.left ≡ Some script → NoneRose before after →
     HoldsDtd told dtd g → HoldsDocument told name root doc → AreNarrow g doc →
-    IsPotentiallyValid g root (view doc.root) → IsWithin script →
+    IsWithin script →
     HadNoMemory before after status ⊎
     AnswersScript (session_on g root (unmarked_doc doc)) script before after status

@@ -1,14 +1,20 @@
 -- Laws on what the program does.
-use Rattle.std.specs.Prelude.{◌≡◌, ◌⊎◌, ℕ, false, List, ◌++◌, Option}
+use Rattle.std.specs.Prelude.{◌≡◌, ◌⊎◌, ℕ, false, List, ◌++◌, codes, decimal, Option, Some}
 use Rattle.std.specs.Io.KnownBytes.{Appends}
+use Rattle.pv_cert.specs.declared.packs.Pack.{Pack}
+use Rattle.pv_dtd.specs.Plain.{PlainDtd}
 use Rattle.pv_io.specs.Causes.{CountStays, Rose}
 use Rattle.pv_script.specs.declared.replies.Reply.{Reply}
 use Rattle.pv_session.specs.Sessions.{PlainSession}
+use Rattle.pv_tree.specs.Plain.{PlainDoc}
+use Rattle.pv_tree.specs.declared.nodes.Mark.{Mark}
+use Rattle.pv_verify.specs.Laws.{IsLeastPack}
+use Rattle.pv_cli.specs.declared.checker.Checker.TheVariants.{Verify}
 use Rattle.pv_cli.specs.declared.status.Status.{Status}
-use Rattle.pv_cli.specs.declared.status.Status.TheVariants.{ReadFault, WriteFault}
+use Rattle.pv_cli.specs.declared.status.Status.TheVariants.{Done, ReadFault, WriteFault}
 use Rattle.pv_cli.specs.Alike.{AreAlike, OutputsAlike, RespondsAlike}
-use Rattle.pv_cli.specs.Causes.{HasCause, OneRoseAtMost}
-use Rattle.pv_cli.specs.CommandLine.{PlainCommandLine}
+use Rattle.pv_cli.specs.Causes.{HasCause, OneRoseAtMost, ReadsPack}
+use Rattle.pv_cli.specs.CommandLine.{PlainCommandLine, on_certificate}
 use Rattle.pv_cli.specs.Course.{Course, RunEnding, responds, input_fault}
 use Rattle.pv_cli.specs.Headline.{GuardsSession, HadNoMemory}
 use Rattle.pv_cli.specs.Opening.{Files}
@@ -110,3 +116,22 @@ MoreChangesNothing = (session : PlainSession) (script more silent : List ℕ) (e
     ((out : List ℕ) → ending ≡ input_fault out → ⊥) →
     EndsSession session script silent false ending →
     EndsSession session (script ++ more) silent false ending
+
+-- A run read a DTD, a document and a pack, and wrote `accepted K`: K is the least number of
+-- elements whose insertion makes the document valid, and the pack's body is the text of a
+-- completion of the document by so many.
+pub record ShowsLeast {S : Type 0} (line : Option PlainCommandLine) (files : Files)
+    (root : List ℕ) (before after : Devices S) : Type 0 where
+  pub dtd : PlainDtd
+  pub doc : PlainDoc Mark
+  pub pack : Pack
+  pub reads : ReadsPack line files root dtd doc pack
+  pub least : IsLeastPack dtd root doc pack
+  pub written : Appends before.output.written after.output.written
+      (codes "accepted " ++ decimal pack.total ++ codes "\n")
+
+-- whatever run of `verify` ends with status 0 shows so, whoever made the pack
+abbrev pub AcceptsLeast : Type 0 → Type 0
+AcceptsLeast S = (dtd root doc file : List ℕ) (before after : Devices S)
+    (run : Runs (Some (on_certificate Verify dtd root doc file)) before after Done) →
+    ShowsLeast (Some (on_certificate Verify dtd root doc file)) run.files root before after

@@ -1,5 +1,7 @@
 pub mod Alike
+pub mod Annotations
 pub mod Causes
+pub mod Certificates
 pub mod Check
 pub mod Checking
 pub mod CommandLine
@@ -15,6 +17,7 @@ pub mod Devices
 pub mod Documents
 pub mod Dtd
 pub mod Opening
+pub mod PackFiles
 pub mod Packing
 pub mod Parameters
 pub mod Possibility
@@ -25,7 +28,9 @@ pub mod Returns
 pub mod Script
 pub mod Session
 pub mod Stage
+pub mod Standoff
 pub mod Status
 pub mod Turns
 pub mod Valid
+pub mod Verify
 pub mod Validity

@@ -1,5 +1,5 @@
 -- Whether inserting elements can make a document valid: the width of its lists, and the verdict.
-use Rattle.std.specs.Prelude.{◌≡◌, ℕ, List, ◌++◌, codes}
+use Rattle.std.specs.Prelude.{◌≡◌, ◌↔◌, ℕ, IsNone, List, ◌++◌, codes}
 use Rattle.std.specs.List.{AllByRecursion}
 use Rattle.pv_dtd.specs.Plain.{PlainDtd}
 use Rattle.pv_tree.specs.Lists.{lists_of}
@@ -7,7 +7,7 @@ use Rattle.pv_tree.specs.Plain.{PlainDoc}
 use Rattle.pv_tree.specs.View.{view}
 use Rattle.pv_tree.specs.declared.nodes.Mark.{Mark}
 use Rattle.pv_missing.specs.Completing.{IsPotentiallyValid}
-use Rattle.pv_missing.specs.Verdicts.{IsFirstImpossible}
+use Rattle.pv_missing.specs.Verdicts.{HaveVerdicts, IsFirstImpossible, PlainVerdicts}
 use Rattle.pv_missing.specs.Widths.{IsFirstTooWide, IsListForVerdict}
 use Rattle.pv_script.specs.Paths.{path_text}
 use Rattle.pv_cli.specs.declared.status.Status.TheVariants.{Limit, Negative}
@@ -17,6 +17,14 @@ use Rattle.pv_cli.specs.Stage.{Stage, followed_by, test_stage}
 -- no list is too wide
 abbrev pub AreNarrow : PlainDtd → PlainDoc Mark → Type 0
 AreNarrow g doc = AllByRecursion (IsListForVerdict g) (lists_of doc)
+
+-- No list is too wide, and these are the verdicts of all lists; none is Impossible exactly where
+-- inserting elements can make the document valid.
+pub record HasVerdicts (root : List ℕ) (g : PlainDtd) (doc : PlainDoc Mark) (vs : PlainVerdicts) :
+    Type 0 where
+  pub narrow : AreNarrow g doc
+  pub verdicts : HaveVerdicts g root (lists_of doc) vs
+  pub possible : IsNone vs.first ↔ IsPotentiallyValid g root (view doc.root)
 
 -- this is the path of the first list that is too wide
 pub data RefusesWidth (g : PlainDtd) (doc : PlainDoc Mark) (r : PlainResponse) : Type 0 where

@@ -8,8 +8,9 @@ use Rattle.pv_cli.specs.declared.status.Status.{Status}
 use Rattle.pv_cli.specs.declared.status.Status.TheVariants.{Usage, ReadFault, WriteFault}
 use Rattle.pv_cli.specs.declared.status.Status.TheVariants.{NoMemory as OutOfMemory}
 use Rattle.pv_cli.specs.Checking.{CountsLists}
-use Rattle.pv_cli.specs.CommandLine.{PlainCommandLine, on_dtd, on_document, drill, files_named}
-use Rattle.pv_cli.specs.Commands.{IsDocumentCourse, lines_checked}
+use Rattle.pv_cli.specs.CommandLine.{PlainCommandLine, drill, files_named, on_certificate}
+use Rattle.pv_cli.specs.CommandLine.{on_document, on_dtd, on_ranges}
+use Rattle.pv_cli.specs.Commands.{IsCheckerCourse, IsDocumentCourse, lines_checked}
 use Rattle.pv_cli.specs.Course.{RunEnding, responds, shelf_fault, input_fault, output_fault}
 use Rattle.pv_cli.specs.Course.{no_memory, Course}
 use Rattle.pv_cli.specs.Devices.{Devices, InputNow, OutputNow, ShelfNow}
@@ -18,6 +19,7 @@ use Rattle.pv_cli.specs.Dtd.{IsDtdCourse}
 use Rattle.pv_cli.specs.Opening.{AreFiles, Files, file_at}
 use Rattle.pv_cli.specs.Response.{with_line}
 use Rattle.pv_cli.specs.Stage.{Responds}
+use Rattle.pv_cli.specs.Standoff.{CountsNested, IsStandoffCourse}
 
 -- the courses that a command line may take over its files
 abbrev pub IsDefined : Option PlainCommandLine → Files → Course → Type 0
@@ -25,6 +27,9 @@ IsDefined None files course = Responds (λ r. r ≡ with_line Usage (codes "usag
 IsDefined (Some (on_dtd dtd)) files course = IsDtdCourse files course
 IsDefined (Some (on_document verb dtd root doc)) files course =
     IsDocumentCourse verb root files course
+IsDefined (Some (on_certificate checker dtd root doc file)) files course =
+    IsCheckerCourse checker root files course
+IsDefined (Some (on_ranges dtd root text ranges)) files course = IsStandoffCourse root files course
 IsDefined (Some (drill n)) files course = IsDrillCourse n course
 
 -- How many lists a command line checks over its files and what was taken from the input, as the
@@ -36,6 +41,10 @@ ChecksLists None files taken before after = after ≡ before
 ChecksLists (Some (on_dtd dtd)) files taken before after = after ≡ before
 ChecksLists (Some (on_document verb dtd root doc)) files taken before after =
     CountsLists root (file_at 1 files) (lines_checked verb taken) before after
+ChecksLists (Some (on_certificate checker dtd root doc file)) files taken before after =
+    after ≡ before
+ChecksLists (Some (on_ranges dtd root text ranges)) files taken before after =
+    CountsNested root files before after
 ChecksLists (Some (drill n)) files taken before after =
     CountsLists DRILL_ROOT (Some (drill_text n)) (Some (length (drill_lines n))) before after
 

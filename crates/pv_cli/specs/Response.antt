@@ -1,5 +1,5 @@
 -- What a command writes.
-use Rattle.std.specs.Prelude.{ℕ, List, ◌++◌, codes}
+use Rattle.std.specs.Prelude.{ℕ, List, [], ◌∷◌, ◌++◌, codes, decimal}
 use Rattle.pv_cli.specs.declared.status.Status.{Status}
 use Rattle.pv_cli.specs.declared.response.Response.{Response}
 
@@ -11,6 +11,11 @@ pub record PlainResponse : Type 0 where
 -- one line, with its LF
 abbrev pub with_line : Status → List ℕ → PlainResponse
 with_line status text = record { status = status; output = text ++ codes "\n" }
+
+-- numbers in decimal digits, each behind a blank
+abbrev pub numbers_text : List ℕ → List ℕ
+numbers_text [] = []
+numbers_text (n ∷ ns) = codes " " ++ decimal n ++ numbers_text ns
 
 abbrev pub plain_response : Response → PlainResponse
 plain_response r = record { status = r.status; output = r.output.items }

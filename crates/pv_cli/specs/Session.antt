@@ -26,7 +26,7 @@ use Rattle.pv_cli.specs.Course.{Course, RunEnding, responds, input_fault, output
 use Rattle.pv_cli.specs.Course.{no_memory as short_of_memory, without_input}
 use Rattle.pv_cli.specs.Missing.{TellsCompletion, TellsNeed}
 use Rattle.pv_cli.specs.Documents.{PlainOpened}
-use Rattle.pv_cli.specs.Possibility.{possibility_stage}
+use Rattle.pv_cli.specs.Possibility.{width_stage}
 use Rattle.pv_cli.specs.Script.{MAX_SCRIPT_BYTES, IsWithin, has_long_line, lines_within}
 use Rattle.pv_cli.specs.Stage.{Stage, without_fetch, followed_by, Behind}
 
@@ -35,14 +35,14 @@ abbrev pub beginning_stage : List ℕ → PlainDtd → PlainDoc Mark → Stage P
 beginning_stage root g doc =
     without_fetch (λ session. session ≡ session_on g root (unmarked_doc doc)) (λ r. ⊥)
 
--- beginning a session on a document that can be made valid, no list being too wide
+-- beginning a session on a document, no list being too wide
 abbrev pub guarding_stage : List ℕ → PlainDtd → PlainDoc Mark → Stage PlainSession
-guarding_stage root g doc =
-    followed_by (possibility_stage root g doc) (λ _. beginning_stage root g doc)
+guarding_stage root g doc = followed_by (width_stage g doc) (λ _. beginning_stage root g doc)
 
 -- the reply to an edit, an undo or a redo that is answered so
 abbrev pub reply_to : PlainAnswer → Reply
-reply_to (is_done checked left) = reply.Okay (record { checked = checked; left = left })
+reply_to (is_done checked left bad) =
+    reply.Okay (record { checked = checked; left = left; bad = bad })
 reply_to (lacks_shape reason) = reply.Shape reason
 reply_to is_past_limit = reply.Limit
 reply_to (is_impossible path) = reply.Impossible path

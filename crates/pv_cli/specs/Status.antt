@@ -3,7 +3,7 @@ use Rattle.std.specs.Prelude.{ℕ, Bool, true, false}
 use Rattle.pv_cli.specs.declared.status.Status.{Status}
 use Rattle.pv_cli.specs.declared.status.Status.TheVariants.{Done, Negative, Usage, ReadFault}
 use Rattle.pv_cli.specs.declared.status.Status.TheVariants.{WriteFault, NoMemory, BadDtd}
-use Rattle.pv_cli.specs.declared.status.Status.TheVariants.{BadDocument, Limit}
+use Rattle.pv_cli.specs.declared.status.Status.TheVariants.{BadDocument, BadPack, Limit}
 
 -- the exit status of the process
 abbrev pub code_of : Status → ℕ
@@ -16,6 +16,7 @@ code_of NoMemory = 5
 code_of BadDtd = 6
 code_of BadDocument = 7
 code_of Limit = 8
+code_of BadPack = 9
 
 abbrev pub needs_cause : Status → Bool
 needs_cause ReadFault = true

@@ -7,6 +7,7 @@ ghost use Rattle.pv_io.specs.Files.{byte_lists, fetch_names};
 ghost use Rattle.pv_cli.specs.CommandLine.{command_line_of, plain_command_line, files_named};
 ghost use Rattle.pv_cli.specs.CommandLine.{IsDrillSize, IsSized, drill_size};
 
+use crate::checker::{Checker, checker_of};
 use crate::verb::{Verb, verb_of};
 use pv_chars::is_name;
 use pv_script::written_number;
@@ -19,6 +20,15 @@ pub struct Named<'a> {
     pub doc: &'a str,
 }
 
+/// A root name, and the names of a DTD, a text and ranges.
+#[derive(Clone, Copy)]
+pub struct Annotation<'a> {
+    pub dtd: &'a str,
+    pub root: &'a [u8],
+    pub text: &'a str,
+    pub ranges: &'a str,
+}
+
 /// A well-formed command line, by its form.
 #[derive(Clone, Copy)]
 pub enum CommandLine<'a> {
@@ -26,6 +36,10 @@ pub enum CommandLine<'a> {
     OnDtd(&'a str),
     /// A verb with DTD ROOT DOC.
     OnDocument(Verb, Named<'a>),
+    /// A checker with DTD ROOT DOC and the name of a certificate.
+    OnCertificate(Checker, Named<'a>, &'a str),
+    /// `standoff DTD ROOT TEXT RANGES`.
+    OnRanges(Annotation<'a>),
     /// `drill N`.
     Drill(u32),
 }
@@ -69,19 +83,14 @@ fn line_of_two(words: &[String]) -> Option<CommandLine<'_>>
     None
 }
 
-/// The command line that the words are; none where they are none.
-pub fn command_line_of(words: &[String]) -> Option<CommandLine<'_>>
+// The command line that four words are.
+fn line_of_four(words: &[String]) -> Option<CommandLine<'_>>
+    requires { length words.now ≡ 4 }
     ensures line { option_map plain_command_line result ≡ command_line_of (byte_lists words.now) }
     ensures named { AllByRecursion (Contains (fetch_names words.now))
         (files_named (option_map plain_command_line result)) }
     ensures sized { IfSome result IsSized }
 {
-    if words.len() == 2 {
-        return line_of_two(words);
-    }
-    if words.len() != 4 {
-        return None;
-    }
     let [command, dtd, root, doc] = words else {
         unreachable!()
     };
@@ -97,4 +106,52 @@ pub fn command_line_of(words: &[String]) -> Option<CommandLine<'_>>
         doc: doc.as_str(),
     };
     Some(CommandLine::OnDocument(verb, named))
+}
+
+// The command line that five words are.
+fn line_of_five(words: &[String]) -> Option<CommandLine<'_>>
+    requires { length words.now ≡ 5 }
+    ensures line { option_map plain_command_line result ≡ command_line_of (byte_lists words.now) }
+    ensures named { AllByRecursion (Contains (fetch_names words.now))
+        (files_named (option_map plain_command_line result)) }
+    ensures sized { IfSome result IsSized }
+{
+    let [command, dtd, root, doc, file] = words else {
+        unreachable!()
+    };
+    if !is_name(root.as_bytes()) {
+        return None;
+    }
+    if command.as_str() == "standoff" {
+        return Some(CommandLine::OnRanges(Annotation {
+            dtd: dtd.as_str(),
+            root: root.as_bytes(),
+            text: doc.as_str(),
+            ranges: file.as_str(),
+        }));
+    }
+    let Some(checker) = checker_of(command.as_str()) else {
+        return None;
+    };
+    let named = Named {
+        dtd: dtd.as_str(),
+        root: root.as_bytes(),
+        doc: doc.as_str(),
+    };
+    Some(CommandLine::OnCertificate(checker, named, file.as_str()))
+}
+
+/// The command line that the words are; none where they are none.
+pub fn command_line_of(words: &[String]) -> Option<CommandLine<'_>>
+    ensures line { option_map plain_command_line result ≡ command_line_of (byte_lists words.now) }
+    ensures named { AllByRecursion (Contains (fetch_names words.now))
+        (files_named (option_map plain_command_line result)) }
+    ensures sized { IfSome result IsSized }
+{
+    match words.len() {
+        2 => line_of_two(words),
+        4 => line_of_four(words),
+        5 => line_of_five(words),
+        _ => None,
+    }
 }

@@ -5,4 +5,6 @@ pub mod complete;
 pub mod drill;
 pub mod dtd;
 pub mod session;
+pub mod standoff;
 pub mod valid;
+pub mod verify;

@@ -1,17 +1,19 @@
 //! Command lines by form: what each opens, and the command behind it.
 
 ghost use Rattle.std.specs.Prelude.{◌≡◌, ℕ, List, Some, Contains};
-ghost use Rattle.pv_cli.specs.CommandLine.{on_document, on_dtd};
+ghost use Rattle.pv_cli.specs.CommandLine.{on_certificate, on_document, on_dtd};
 ghost use Rattle.pv_cli.specs.Devices.{devices, input_at, output_at, shelf_at};
 ghost use Rattle.pv_cli.specs.Program.{Runs};
 ghost use Rattle.pv_cli.specs.Returns.{DoesRest, FindsResponse, plain_fetched};
 
+use crate::checker::Checker;
 use crate::command_line::Named;
 use crate::commands::check::check;
 use crate::commands::complete::complete;
 use crate::commands::dtd::dtd;
 use crate::commands::session::session;
 use crate::commands::valid::valid;
+use crate::commands::verify::verify;
 use crate::opening::{Fetched, fetch_files, open_dtd};
 use crate::respond::respond;
 use crate::response::Response;
@@ -36,6 +38,30 @@ pub fn run_on_dtd<H: Shelf>(alloc: Global, shelf: &mut H, name: &str) -> Result<
 {
     let opened = open_dtd(alloc, shelf, name)?;
     dtd(alloc, opened)
+}
+
+/// A command on a DTD, a document and a certificate.
+pub fn run_on_certificate<H: Shelf>(
+    alloc: Global,
+    checker: Checker,
+    shelf: &mut H,
+    named: &Named<'_>,
+    file: &str,
+) -> Result<Response, Stop>
+    requires dtd_named { Contains (H.names shelf.old) named.now.dtd.now }
+    requires doc_named { Contains (H.names shelf.old) named.now.doc.now }
+    requires file_named { Contains (H.names shelf.old) file.now }
+    ensures finds { (checked : ℕ) → FindsResponse (Some (on_certificate checker
+        named.now.dtd.now named.now.root.now named.now.doc.now file.now))
+        (shelf_at (H.files shelf.old) (H.calls shelf.old) (H.faults shelf.old))
+        (shelf_at (H.files shelf.new) (H.calls shelf.new) (H.faults shelf.new))
+        checked checked result }
+    ensures names { H.names shelf.new ≡ H.names shelf.old }
+    ensures files { H.files shelf.new ≡ H.files shelf.old }
+{
+    match checker {
+        Checker::Verify => verify(alloc, shelf, named, file),
+    }
 }
 
 // What a verb does once the DTD is opened and the document's bytes are fetched.

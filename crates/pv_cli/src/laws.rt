@@ -2,8 +2,10 @@
 
 ghost use Rattle.pv_cli.specs.Laws.{HasOneResponse, IsComplete, FaultsShow, HasOneReply};
 ghost use Rattle.pv_cli.specs.Laws.{HasOneOutput, JoinsReplies, EndsAtQuit, MoreChangesNothing};
-ghost use Rattle.pv_cli.specs.Laws.{ComesByCause, RaisesOneAtMost, SessionsAreGuarded};
+ghost use Rattle.pv_cli.specs.Laws.{AcceptsLeast, ComesByCause, RaisesOneAtMost, SessionsAreGuarded};
 
+use pv_cert::laws::one_meaning_law as one_pack_meaning_law;
+use pv_chars::laws::one_meaning_law as one_text_meaning_law;
 use pv_dtd::laws::{dtd_text_law, one_meaning_law};
 use pv_io::Source;
 use pv_missing::laws::words::one_live_word_law;
@@ -11,8 +13,11 @@ use pv_params::laws::one_expansion_law;
 use pv_read::laws::{meant_law, one_document_law, one_meaning_law as one_document_meaning_law};
 use pv_script::laws::one_command_law;
 use pv_session::laws::one_answer_law;
+use pv_standoff::laws::{one_meaning_law as one_nesting_law, one_reading_law};
 use pv_tables::laws::one_tables_law;
+use pv_tree::Mark;
 use pv_tree::laws::valid_lists_law;
+use pv_verify::laws::one_answer_law as one_pack_answer_law;
 
 /// Over given files a command has one response, and `session` one for each script and each set of
 /// lines that there was no memory for, but for the documents of completions; so has `complete`, but
@@ -30,6 +35,11 @@ pub fn one_response_law()
     one_answer_law();
     one_live_word_law();
     one_tables_law::<()>();
+    one_pack_meaning_law();
+    one_pack_answer_law::<Mark>();
+    one_text_meaning_law();
+    one_reading_law();
+    one_nesting_law();
 }
 
 /// Where no device failed, the defined response was written, or there was no memory and nothing was
@@ -49,8 +59,14 @@ pub fn causes_law<S: Source>()
     ensures one { RaisesOneAtMost S }
 {}
 
-/// Over files that hold a DTD and a document that can be made valid, and devices that don't fail, a
-/// session answers its whole script, or there was no memory and it wrote nothing.
+/// Whatever run of `verify` ends with status 0 has written `accepted K`, where K is the least number
+/// of missing elements and the pack's body completes the document by so many, whoever made the pack.
+pub fn accepted_law<S: Source>()
+    ensures { AcceptsLeast S }
+{}
+
+/// Over files that hold a DTD and a document none of whose lists is too wide, and devices that don't
+/// fail, a session answers its whole script, or there was no memory and it wrote nothing.
 pub fn guarded_session_law<S: Source>()
     ensures { SessionsAreGuarded S }
 {

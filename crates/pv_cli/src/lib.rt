@@ -7,6 +7,7 @@
 //! (`specs/Program.antt`).
 #![tactic(auto)]
 
+mod checker;
 mod command_line;
 mod commands;
 mod conversation;

@@ -7,10 +7,10 @@ ghost use Rattle.pv_cli.specs.Opening.{expanded_dtd_stage};
 ghost use Rattle.pv_cli.specs.Parameters.{RefusesParameters};
 ghost use Rattle.pv_params.specs.Answers.{Tells};
 ghost use Rattle.pv_params.specs.Meaning.{Expands, faulty};
-ghost use Rattle.pv_cli.specs.Opening.{document_fetch_stage, fetching_stage};
+ghost use Rattle.pv_cli.specs.Opening.{document_fetch_stage, fetching_stage, opening_stage};
 ghost use Rattle.pv_cli.specs.Documents.{document_stage, RefusesDocument};
 ghost use Rattle.pv_script.specs.Paths.{path_text};
-ghost use Rattle.pv_cli.specs.Response.{with_line};
+ghost use Rattle.pv_cli.specs.Response.{numbers_text, with_line};
 ghost use Rattle.pv_cli.specs.Returns.{RefusesWith, Returns, ReturnsOver, plain_fetched};
 ghost use Rattle.pv_cli.specs.Returns.{plain_opened};
 ghost use Rattle.pv_cli.specs.Status.{needs_cause};
@@ -56,8 +56,8 @@ pub fn refuse(alloc: Global, status: Status, text: &[u8]) -> Stop
     }
 }
 
-// Refuses with a line of this text and the number of an item.
-fn refuse_item(alloc: Global, status: Status, text: &[u8], item: u64) -> Stop
+/// Refuses with a line of this text and the number of an item.
+pub fn refuse_item(alloc: Global, status: Status, text: &[u8], item: u64) -> Stop
     requires { needs_cause status ≡ false }
     ensures { RefusesWith (λ r. r ≡ with_line status (text.now ++ decimal item)) result }
 {
@@ -73,6 +73,18 @@ pub fn refuse_path(alloc: Global, status: Status, text: &[u8], places: &[u32]) -
     ensures { RefusesWith (λ r. r ≡ with_line status (text.now ++ path_text places.now)) result }
 {
     match Response::with_path(alloc, status, text, places) {
+        Ok(response) => Stop::Refused(response),
+        Err(_) => Stop::NoMemory,
+    }
+}
+
+/// Refuses with a line of this text and some numbers.
+pub fn refuse_numbers(alloc: Global, status: Status, text: &[u8], numbers: &[u32]) -> Stop
+    requires { needs_cause status ≡ false }
+    ensures { RefusesWith (λ r. r ≡ with_line status (text.now ++ numbers_text numbers.now))
+        result }
+{
+    match Response::with_numbers(alloc, status, text, numbers) {
         Ok(response) => Stop::Refused(response),
         Err(_) => Stop::NoMemory,
     }
@@ -234,4 +246,19 @@ pub fn fetch_files<H: Shelf>(
     let dtd = open_dtd(alloc, shelf, named.dtd)?;
     let bytes = fetch_document(alloc, shelf, named.doc)?;
     Ok(Fetched { dtd, bytes })
+}
+
+/// The DTD and the document in the files of these names.
+pub fn open_files<H: Shelf>(alloc: Global, shelf: &mut H, named: &Named<'_>) -> Result<Opened, Stop>
+    requires dtd_named { Contains (H.names shelf.old) named.now.dtd.now }
+    requires doc_named { Contains (H.names shelf.old) named.now.doc.now }
+    ensures over { ReturnsOver (AreFiles (H.files shelf.old)
+        (named.now.dtd.now ∷ named.now.doc.now ∷ [])) plain_opened
+        (opening_stage named.now.root.now)
+        (shelf_at (H.files shelf.old) (H.calls shelf.old) (H.faults shelf.old))
+        (shelf_at (H.files shelf.new) (H.calls shelf.new) (H.faults shelf.new)) result }
+    ensures names { H.names shelf.new ≡ H.names shelf.old }
+{
+    let fetched = fetch_files(alloc, shelf, named)?;
+    open_document(alloc, fetched, named.root)
 }

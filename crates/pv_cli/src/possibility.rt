@@ -1,8 +1,8 @@
-//! Whether inserting elements can make a document valid, as `check` and the opening of a session
-//! ask.
+//! Whether inserting elements can make a document valid, as `check` asks, and the verdicts that the
+//! opening of a session asks for.
 
 ghost use Rattle.std.specs.Prelude.{◌≤◌, ◌+◌, IfErr, IfOk, length};
-ghost use Rattle.pv_cli.specs.Possibility.{possibility_stage};
+ghost use Rattle.pv_cli.specs.Possibility.{HasVerdicts, possibility_stage, width_stage};
 ghost use Rattle.pv_cli.specs.Returns.{StopsBy};
 ghost use Rattle.pv_fresh.specs.Answers.{HasPossibility};
 ghost use Rattle.pv_productive.specs.PlainForms.{dtd_of};
@@ -22,6 +22,29 @@ use std::alloc::Global;
 use std::sync::ledger::Ledger;
 use std::thread::Threads;
 
+/// The verdicts of a document's lists. It refuses where a list is too wide.
+pub fn narrow_verdicts<L: Ledger>(
+    rt: &(impl Threads + Sync),
+    alloc: Global,
+    grammar: &Grammar,
+    doc: &Doc,
+    root: &[u8],
+    steps: &mut Steps<L>,
+) -> Result<Verdicts, Stop>
+    ensures has { IfOk result (HasVerdicts root.now (dtd_of grammar.now) (plain_doc doc.now)) }
+    ensures denied { IfErr result (StopsBy (width_stage (dtd_of grammar.now)
+        (plain_doc doc.now)) 0) }
+    ensures steps { steps.new ≤ steps.old + length (lists_of (plain_doc doc.now)) }
+{
+    match check_doc_par(rt, alloc, grammar, root, doc, &NoGate, steps) {
+        Ok(verdicts) => Ok(verdicts),
+        Err(FreshError::TooWide(path)) => {
+            Err(refuse_path(alloc, Status::Limit, b"limit width ", path.places()))
+        }
+        Err(FreshError::NoMemory) => Err(Stop::NoMemory),
+    }
+}
+
 /// The verdicts of a document's lists. It refuses where a list is too wide, or no insertions can
 /// make the document valid.
 pub fn verdicts_or_stop<L: Ledger>(
@@ -38,13 +61,7 @@ pub fn verdicts_or_stop<L: Ledger>(
         (plain_doc doc.now)) 0) }
     ensures steps { steps.new ≤ steps.old + length (lists_of (plain_doc doc.now)) }
 {
-    let verdicts = match check_doc_par(rt, alloc, grammar, root, doc, &NoGate, steps) {
-        Ok(verdicts) => verdicts,
-        Err(FreshError::TooWide(path)) => {
-            return Err(refuse_path(alloc, Status::Limit, b"limit width ", path.places()));
-        }
-        Err(FreshError::NoMemory) => return Err(Stop::NoMemory),
-    };
+    let verdicts = narrow_verdicts(rt, alloc, grammar, doc, root, steps)?;
     if let Some(path) = verdicts.first_impossible() {
         return Err(refuse_path(alloc, Status::Negative, b"impossible ", path.places()));
     }

@@ -12,7 +12,8 @@ ghost use Rattle.pv_io.specs.Files.{byte_lists, fetch_names};
 
 use crate::command_line::{CommandLine, command_line_of};
 use crate::commands::drill::drill;
-use crate::forms::{run_on_document, run_on_dtd};
+use crate::commands::standoff::standoff;
+use crate::forms::{run_on_certificate, run_on_document, run_on_dtd};
 use crate::laws::guarded_session_law;
 use crate::respond::respond;
 use crate::response::Response;
@@ -57,6 +58,13 @@ fn run_words<H: Shelf, S: Source, K: Sink, L: Ledger>(
     match command_line_of(words) {
         Some(CommandLine::OnDocument(verb, named)) => {
             run_on_document(rt, alloc, verb, shelf, &named, input, out, steps)
+        }
+        Some(CommandLine::OnCertificate(checker, named, file)) => respond(
+            out,
+            run_on_certificate(alloc, checker, shelf, &named, file),
+        ),
+        Some(CommandLine::OnRanges(named)) => {
+            respond(out, standoff(rt, alloc, shelf, &named, steps))
         }
         Some(CommandLine::OnDtd(name)) => respond(out, run_on_dtd(alloc, shelf, name)),
         Some(CommandLine::Drill(n)) => respond(out, drill(rt, alloc, n, steps)),

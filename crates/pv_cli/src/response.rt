@@ -1,6 +1,6 @@
 //! What a command writes.
 
-ghost use Rattle.std.specs.Prelude.{◌≡◌, ◌++◌, IfOk, decimal, false};
+ghost use Rattle.std.specs.Prelude.{◌≡◌, ◌++◌, IfOk, OnOk, decimal, false};
 ghost use Rattle.pv_script.specs.Paths.{path_text};
 ghost use Rattle.pv_cli.specs.Status.{needs_cause};
 
@@ -17,7 +17,7 @@ pub struct Response {
 }
 
 impl Response {
-    ghost use Rattle.pv_cli.specs.Response.{plain_response, with_line};
+    ghost use Rattle.pv_cli.specs.Response.{numbers_text, plain_response, with_line};
 
     // The line of this text, which is ended here.
     fn of_text(status: Status, mut text: Vec<u8>) -> Result<Response, AllocError>
@@ -52,6 +52,48 @@ impl Response {
     {
         let mut line = Vec::from_slice(alloc, text)?;
         push_number(&mut line, number)?;
+        Response::of_text(status, line)
+    }
+
+    // Appends numbers in decimal digits, each behind a blank.
+    fn push_numbers(text: &mut Vec<u8>, numbers: &[u32]) -> Result<(), AllocError>
+        ensures { OnOk result (text.new.items ≡ text.old.items ++ numbers_text numbers.now) }
+    {
+        for number in numbers {
+            text.extend_from_slice(b" ")?;
+            push_number(text, u64::from(*number))?;
+        }
+        Ok(())
+    }
+
+    /// The line of this text and some numbers.
+    pub fn with_numbers(
+        alloc: Global,
+        status: Status,
+        text: &[u8],
+        numbers: &[u32],
+    ) -> Result<Response, AllocError>
+        requires { needs_cause status ≡ false }
+        ensures { IfOk result (λ r. plain_response r
+            ≡ with_line status (text.now ++ numbers_text numbers.now)) }
+    {
+        let mut line = Vec::from_slice(alloc, text)?;
+        Response::push_numbers(&mut line, numbers)?;
+        Response::of_text(status, line)
+    }
+
+    /// The line of these two texts.
+    pub fn with_text(
+        alloc: Global,
+        status: Status,
+        text: &[u8],
+        more: &[u8],
+    ) -> Result<Response, AllocError>
+        requires { needs_cause status ≡ false }
+        ensures { IfOk result (λ r. plain_response r ≡ with_line status (text.now ++ more.now)) }
+    {
+        let mut line = Vec::from_slice(alloc, text)?;
+        line.extend_from_slice(more)?;
         Response::of_text(status, line)
     }
 

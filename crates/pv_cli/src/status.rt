@@ -24,6 +24,8 @@ pub enum Status {
     BadDocument,
     /// A limit was passed.
     Limit,
+    /// The pack isn't one.
+    BadPack,
 }
 
 impl Status {
@@ -42,6 +44,7 @@ impl Status {
             Status::BadDtd => 6,
             Status::BadDocument => 7,
             Status::Limit => 8,
+            Status::BadPack => 9,
         }
     }
 }

@@ -25,8 +25,8 @@ use std::alloc::{AllocError, Global};
 use std::sync::ledger::Ledger;
 use std::thread::Threads;
 
-// So many lists are Possible, and none is Impossible.
-fn possible(alloc: Global, left: u64) -> Result<Response, AllocError>
+/// So many lists are Possible, and none is Impossible.
+pub fn possible(alloc: Global, left: u64) -> Result<Response, AllocError>
     ensures { IfOk result (λ r. plain_response r ≡ with_line Done (possible_text left)) }
 {
     if left == 0 {

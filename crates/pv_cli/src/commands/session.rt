@@ -15,7 +15,7 @@ ghost use Rattle.pv_tree.specs.Prolog.{IsProlog};
 
 use crate::conversation::talk::converse;
 use crate::opening::{Fetched, Opened, open_document};
-use crate::possibility::verdicts_or_stop;
+use crate::possibility::narrow_verdicts;
 use crate::respond::respond;
 use crate::status::Status;
 use crate::stop::Stop;
@@ -28,7 +28,7 @@ use std::alloc::Global;
 use std::sync::ledger::Ledger;
 use std::thread::Threads;
 
-/// Begins a session on these files, where inserting elements can make the document valid.
+/// Begins a session on these files, whatever the verdicts of the document's lists are.
 pub fn begin<L: Ledger>(
     rt: &(impl Threads + Sync),
     alloc: Global,
@@ -44,7 +44,7 @@ pub fn begin<L: Ledger>(
 {
     let Opened { dtd, doc, .. } = opened;
     let grammar = build(alloc, dtd)?;
-    let verdicts = verdicts_or_stop(rt, alloc, &grammar, &doc, root, steps)?;
+    let verdicts = narrow_verdicts(rt, alloc, &grammar, &doc, root, steps)?;
     let root = bytes_of(alloc, root)?;
     Ok(Session::begin(alloc, grammar, root, doc, verdicts)?)
 }

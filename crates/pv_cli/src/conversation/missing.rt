@@ -1,23 +1,46 @@
 //! The replies to `need` and `complete`: how many elements are missing in a session's document, and
 //! the document with them.
 
-ghost use Rattle.std.specs.Prelude.{◌≡◌, IfOk, None};
+ghost use Rattle.std.specs.Prelude.{◌≡◌, IfOk, IfSome, MatchOption, None};
+ghost use Rattle.pv_cache.specs.Rows.{TellVerdicts};
 ghost use Rattle.pv_cli.specs.Missing.{TellsCompletion, TellsNeed, Withholds};
 ghost use Rattle.pv_cli.specs.Session.{done_of};
 ghost use Rattle.pv_cli.specs.Turns.{IsReplyBy};
 ghost use Rattle.pv_complete.specs.Needing.{HasCause};
+ghost use Rattle.pv_session.specs.Sessions.{stamped_document};
 
 use super::answers::{Answer, other};
 use pv_chars::NoMemory;
 use pv_complete::{Completion, NeedError, complete_by, need_by};
 use pv_dtd::laws::proper_dtd_law;
+use pv_missing::Verdicts;
 use pv_script::{Command, Reply};
 use pv_session::Session;
 use pv_session::laws::session_law;
+use pv_tree::Path;
 use std::alloc::Global;
 
-// The reply where the number isn't told. In a session no list is Impossible, or too wide for a
-// verdict.
+// The reply where a list is impossible, if one is.
+fn impossible(
+    alloc: Global,
+    session: &Session,
+    verdicts: &Verdicts,
+) -> Result<Option<Reply>, NoMemory>
+    requires { TellVerdicts (stamped_document session.now) verdicts.now }
+    ensures withholds { IfOk result (λ told. MatchOption told (verdicts.now.first ≡ None)
+        (Withholds session.now)) }
+    ensures not_done { IfOk result (λ told. IfSome told (λ told. done_of told ≡ None)) }
+{
+    session_law(session);
+    proper_dtd_law(session.grammar().dtd());
+    match verdicts.first_impossible() {
+        None => Ok(None),
+        Some(path) => Ok(Some(Reply::Impossible(Path::new(alloc, path.places())?))),
+    }
+}
+
+// The reply where the number isn't told, though no list is impossible. In a session none is too wide
+// for a verdict.
 fn withheld(session: &Session, error: NeedError) -> Result<Reply, NoMemory>
     requires { ∥ HasCause session.now.dtd session.now.root session.now.doc error ∥₁ }
     ensures withholds { IfOk result (Withholds session.now) }
@@ -29,8 +52,29 @@ fn withheld(session: &Session, error: NeedError) -> Result<Reply, NoMemory>
         NeedError::TooWide(path) => Ok(Reply::Wide(path)),
         NeedError::TooHeavy => Ok(Reply::Heavy),
         NeedError::NoMemory => Err(NoMemory),
-        NeedError::Impossible(_) => unreachable!(),
+        NeedError::Impossible(path) => Ok(Reply::Impossible(path)),
         NeedError::TooMany => unreachable!(),
+    }
+}
+
+// The least number of missing elements, or why it isn't told; no list is impossible.
+fn needed_by(alloc: Global, session: &Session, verdicts: &Verdicts) -> Result<Reply, NoMemory>
+    requires verdicts { TellVerdicts (stamped_document session.now) verdicts.now }
+    requires possible { verdicts.now.first ≡ None }
+    ensures tells { IfOk result (TellsNeed session.now) }
+    ensures not_done { IfOk result (λ told. done_of told ≡ None) }
+{
+    session_law(session);
+    proper_dtd_law(session.grammar().dtd());
+    match need_by(
+        alloc,
+        session.grammar(),
+        session.root(),
+        session.doc(),
+        verdicts,
+    ) {
+        Ok(number) => Ok(Reply::Need(number)),
+        Err(error) => withheld(session, error),
     }
 }
 
@@ -39,17 +83,10 @@ fn needed(alloc: Global, session: &Session) -> Result<Reply, NoMemory>
     ensures tells { IfOk result (TellsNeed session.now) }
     ensures not_done { IfOk result (λ told. done_of told ≡ None) }
 {
-    session_law(session);
     let verdicts = session.verdicts()?;
-    match need_by(
-        alloc,
-        session.grammar(),
-        session.root(),
-        session.doc(),
-        &verdicts,
-    ) {
-        Ok(number) => Ok(Reply::Need(number)),
-        Err(error) => withheld(session, error),
+    match impossible(alloc, session, &verdicts)? {
+        Some(reply) => Ok(reply),
+        None => needed_by(alloc, session, &verdicts),
     }
 }
 
@@ -61,22 +98,36 @@ pub fn need(alloc: Global, session: &Session) -> Result<Answer, NoMemory>
     other(alloc, &reply)
 }
 
-// The document with the missing elements, or why it isn't told.
-fn completed(alloc: Global, session: &Session) -> Result<Reply, NoMemory>
+// The document with the missing elements, or why it isn't told; no list is impossible.
+fn completed_by(alloc: Global, session: &Session, verdicts: &Verdicts) -> Result<Reply, NoMemory>
+    requires verdicts { TellVerdicts (stamped_document session.now) verdicts.now }
+    requires possible { verdicts.now.first ≡ None }
     ensures tells { IfOk result (TellsCompletion session.now) }
     ensures not_done { IfOk result (λ told. done_of told ≡ None) }
 {
     session_law(session);
-    let verdicts = session.verdicts()?;
+    proper_dtd_law(session.grammar().dtd());
     match complete_by(
         alloc,
         session.grammar(),
         session.root(),
         session.doc(),
-        &verdicts,
+        verdicts,
     ) {
         Ok(Completion { count, body, .. }) => Ok(Reply::Completed(count, body)),
         Err(error) => withheld(session, error),
+    }
+}
+
+// The document with the missing elements, or why it isn't told.
+fn completed(alloc: Global, session: &Session) -> Result<Reply, NoMemory>
+    ensures tells { IfOk result (TellsCompletion session.now) }
+    ensures not_done { IfOk result (λ told. done_of told ≡ None) }
+{
+    let verdicts = session.verdicts()?;
+    match impossible(alloc, session, &verdicts)? {
+        Some(reply) => Ok(reply),
+        None => completed_by(alloc, session, &verdicts),
     }
 }
 

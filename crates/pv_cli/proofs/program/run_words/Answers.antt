@@ -1,6 +1,6 @@
 use Rattle.std.proofs.Common.{◌≡◌, ℕ, List, [], ◌∷◌, refl, sym, Some, None, codes}
 use Rattle.pv_io.specs.Files.{byte_lists}
-use Rattle.pv_cli.specs.CommandLine.{command_line_of, on_document, on_dtd, drill}
+use Rattle.pv_cli.specs.CommandLine.{command_line_of, drill, on_certificate, on_document, on_dtd, on_ranges}
 use Rattle.pv_cli.specs.Response.{PlainResponse, with_line}
 use Rattle.pv_cli.specs.declared.status.Status.TheVariants.{Usage}
 use Rattle.pv_cli.proofs.Runs.{found_alone, found_runs}
@@ -18,7 +18,21 @@ pub returns-in-Some-OnDtd-clause-runs : goal.returns-in-Some-OnDtd-clause-runs
 returns-in-Some-OnDtd-clause-runs g c =
     let name = c.in-Some-OnDtd.name in
     let line : command_line_of (byte_lists c.args.words.now) ≡ Some (on_dtd name.now) = sym (rw c.in-Some-OnDtd.field-0-is at c.in-Some-OnDtd.ensures.line) in
-    rw line (found_runs _ _ _ _ _ _ _ _ c.run_on_dtd.result _ (c.run_on_dtd.ensures.finds _) c.respond.ensures)
+    rw line (found_runs _ _ _ _ _ _ _ _ c.run_on_dtd.result _ (c.run_on_dtd.ensures.finds _) c.respond-in-Some-OnDtd.ensures)
+
+pub returns-in-Some-OnCertificate-clause-runs : goal.returns-in-Some-OnCertificate-clause-runs
+returns-in-Some-OnCertificate-clause-runs g c =
+    let named = c.in-Some-OnCertificate.named in
+    let line : command_line_of (byte_lists c.args.words.now) ≡ Some (on_certificate c.in-Some-OnCertificate.checker named.dtd.now named.root.now named.doc.now c.in-Some-OnCertificate.file.now) =
+    sym (rw c.in-Some-OnCertificate.field-0-is at c.in-Some-OnCertificate.ensures.line) in
+    rw line (found_runs _ _ _ _ _ _ _ _ c.run_on_certificate.result _ (c.run_on_certificate.ensures.finds _) c.respond.ensures)
+
+pub returns-in-Some-OnRanges-clause-runs : goal.returns-in-Some-OnRanges-clause-runs
+returns-in-Some-OnRanges-clause-runs g c =
+    let named = c.in-Some-OnRanges.named in
+    let line : command_line_of (byte_lists c.args.words.now) ≡ Some (on_ranges named.dtd.now named.root.now named.text.now named.ranges.now) =
+    sym (rw c.in-Some-OnRanges.field-0-is at c.in-Some-OnRanges.ensures.line) in
+    rw line (found_runs _ _ _ _ _ _ _ _ c.standoff.result _ c.standoff.ensures.finds c.respond-in-Some-OnRanges.ensures)
 
 pub returns-in-None-clause-runs : goal.returns-in-None-clause-runs
 returns-in-None-clause-runs g c =
@@ -42,6 +56,39 @@ run_on_document-requires-clause-doc_named g c =
     let named = rw c.in-Some-OnDocument.field-0-is at c.in-Some-OnDocument.ensures.named in
     rw c.requires (λ κs l. named.1.0)
 
+pub run_on_certificate-requires-clause-dtd_named : goal.run_on_certificate-requires-clause-dtd_named
+run_on_certificate-requires-clause-dtd_named g c =
+    let named = rw c.in-Some-OnCertificate.field-0-is at c.in-Some-OnCertificate.ensures.named in
+    rw c.requires named.0
+
+pub run_on_certificate-requires-clause-doc_named : goal.run_on_certificate-requires-clause-doc_named
+run_on_certificate-requires-clause-doc_named g c =
+    let named = rw c.in-Some-OnCertificate.field-0-is at c.in-Some-OnCertificate.ensures.named in
+    rw c.requires named.1.0
+
+pub run_on_certificate-requires-clause-file_named : goal.run_on_certificate-requires-clause-file_named
+run_on_certificate-requires-clause-file_named g c =
+    let named = rw c.in-Some-OnCertificate.field-0-is at c.in-Some-OnCertificate.ensures.named in
+    rw c.requires named.1.1.0
+
+pub standoff-requires-clause-dtd_named : goal.standoff-requires-clause-dtd_named
+standoff-requires-clause-dtd_named g c =
+    let named = rw c.in-Some-OnRanges.field-0-is at c.in-Some-OnRanges.ensures.named in
+    rw c.requires (λ κs l. named.0)
+
+pub standoff-requires-clause-text_named : goal.standoff-requires-clause-text_named
+standoff-requires-clause-text_named g c =
+    let named = rw c.in-Some-OnRanges.field-0-is at c.in-Some-OnRanges.ensures.named in
+    rw c.requires (λ κs l. named.1.0)
+
+pub standoff-requires-clause-ranges_named : goal.standoff-requires-clause-ranges_named
+standoff-requires-clause-ranges_named g c =
+    let named = rw c.in-Some-OnRanges.field-0-is at c.in-Some-OnRanges.ensures.named in
+    rw c.requires (λ κs l. named.1.1.0)
+
+pub standoff-requires-clause-root_named : goal.standoff-requires-clause-root_named
+standoff-requires-clause-root_named g c = λ κs l. rw c.in-Some-OnRanges.field-0-is at c.in-Some-OnRanges.ensures.sized
+
 pub run_on_dtd-requires : goal.run_on_dtd-requires
 run_on_dtd-requires g c =
     let named = rw c.in-Some-OnDtd.field-0-is at c.in-Some-OnDtd.ensures.named in
@@ -55,6 +102,20 @@ returns-in-Some-OnDocument-clause-unasked g c =
     let named = c.in-Some-OnDocument.named in
     let line : command_line_of (byte_lists c.args.words.now) ≡ Some (on_document c.in-Some-OnDocument.verb named.dtd.now named.root.now named.doc.now) =
     sym (rw c.in-Some-OnDocument.field-0-is at c.in-Some-OnDocument.ensures.line) in
+    rw line (λ none. absurd (no_files _ _ none))
+
+pub returns-in-Some-OnCertificate-clause-unasked : goal.returns-in-Some-OnCertificate-clause-unasked
+returns-in-Some-OnCertificate-clause-unasked g c =
+    let named = c.in-Some-OnCertificate.named in
+    let line : command_line_of (byte_lists c.args.words.now) ≡ Some (on_certificate c.in-Some-OnCertificate.checker named.dtd.now named.root.now named.doc.now c.in-Some-OnCertificate.file.now) =
+    sym (rw c.in-Some-OnCertificate.field-0-is at c.in-Some-OnCertificate.ensures.line) in
+    rw line (λ none. absurd (no_files _ _ none))
+
+pub returns-in-Some-OnRanges-clause-unasked : goal.returns-in-Some-OnRanges-clause-unasked
+returns-in-Some-OnRanges-clause-unasked g c =
+    let named = c.in-Some-OnRanges.named in
+    let line : command_line_of (byte_lists c.args.words.now) ≡ Some (on_ranges named.dtd.now named.root.now named.text.now named.ranges.now) =
+    sym (rw c.in-Some-OnRanges.field-0-is at c.in-Some-OnRanges.ensures.line) in
     rw line (λ none. absurd (no_files _ _ none))
 
 pub returns-in-Some-OnDtd-clause-unasked : goal.returns-in-Some-OnDtd-clause-unasked

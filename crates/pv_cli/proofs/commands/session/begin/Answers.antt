@@ -4,7 +4,7 @@ use Rattle.pv_dtd.specs.Plain.{PlainDtd}
 use Rattle.pv_dtd.specs.PlainForms.{plain_dtd}
 use Rattle.pv_productive.specs.PlainForms.{dtd_of}
 use Rattle.pv_tree.specs.PlainDocs.{plain_doc}
-use Rattle.pv_cli.specs.Possibility.{possibility_stage}
+use Rattle.pv_cli.specs.Possibility.{width_stage}
 use Rattle.pv_cli.specs.Returns.{StopsBy}
 use Rattle.pv_cli.specs.Session.{beginning_stage}
 use Rattle.pv_cli.proofs.Beginning.{session_begins}
@@ -17,15 +17,18 @@ returns-in_err-verdicts-clause-returns g c =
     let d = plain_dtd c.args.opened.dtd in
     let doc = plain_doc c.args.opened.doc in
     let stop = c.in_err-verdicts.field-0.0 in
-    let stops = subst (λ (h : PlainDtd). StopsBy (possibility_stage root h doc) 0 stop) c.in_ok-grammar.ensures c.in_err-verdicts.ensures.denied in
+    let stops = subst (λ (h : PlainDtd). StopsBy (width_stage h doc) 0 stop) c.in_ok-grammar.ensures c.in_err-verdicts.ensures.denied in
     let p = err_from_is_err_and c.from_residual-in_err-verdicts.result c.from_residual-in_err-verdicts.ensures.1 in
-    rw (p.1, p.2) (stopped_first (possibility_stage root d doc) (λ _. beginning_stage root d doc) 0 stop stops)
+    rw (p.1, p.2) (stopped_first (width_stage d doc) (λ _. beginning_stage root d doc) 0 stop stops)
+
+pub begin-requires-clause-verdicts : goal.begin-requires-clause-verdicts
+begin-requires-clause-verdicts g c = rw c.in_ok-root.ensures c.in_ok-verdicts.ensures.has.verdicts
 
 pub returns-clause-returns : goal.returns-clause-returns
 returns-clause-returns g c =
-    let has = c.in_ok-verdicts.ensures.possible in
+    let has = c.in_ok-verdicts.ensures.has in
     let begun = rw c.in_ok-root.ensures at c.in_ok-begin.ensures in
-    session_begins c.args.root.now (dtd_of c.in_ok-grammar.grammar) (plain_dtd c.args.opened.dtd) (plain_doc c.args.opened.doc) c.in_ok-begin.field-0 c.in_ok-grammar.ensures has.narrow has.possible begun
+    session_begins c.args.root.now (dtd_of c.in_ok-grammar.grammar) (plain_dtd c.args.opened.dtd) (plain_doc c.args.opened.doc) c.in_ok-begin.field-0 c.in_ok-grammar.ensures has.narrow begun
 
 pub invariant_of-doc-in_err-root : goal.invariant_of-doc-in_err-root
 invariant_of-doc-in_err-root g c =

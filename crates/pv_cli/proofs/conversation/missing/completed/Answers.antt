@@ -1,34 +1,8 @@
-use Rattle.std.proofs.Common.{refl, subst, sym, ℕ}
-use Rattle.pv_productive.specs.PlainForms.{dtd_of}
-use Rattle.pv_tree.specs.Plain.{PlainDoc}
-use Rattle.pv_tree.specs.PlainDocs.{plain_doc}
-use Rattle.pv_tree.specs.Prolog.{IsProlog}
-use Rattle.pv_cli.specs.Missing.{is_completed}
-use Rattle.pv_cli.proofs.Completions.{completion_told, grown_told, not_completed}
-use Rattle.pv_cli.proofs.MissingElements.{cause_told, live_verdicts}
+use Rattle.pv_cli.specs.Missing.{is_not_completed}
 use Rattle.pv_cli.proofs.conversation.missing.completed.Goals as goal
 
-pub complete_by-requires-clause-names : goal.complete_by-requires-clause-names
-complete_by-requires-clause-names c = rw c.root.ensures (subst (λ (d : PlainDoc ℕ). IsProlog c.args.session.now.root d.before) (sym c.doc.ensures.doc) c.session_law.ensures.prolog)
+pub returns-in-Some-clause-tells : goal.returns-in-Some-clause-tells
+returns-in-Some-clause-tells c = is_not_completed (rw c.in-Some.is at c.in_ok-reply.ensures.withholds)
 
-pub complete_by-requires-clause-verdicts : goal.complete_by-requires-clause-verdicts
-complete_by-requires-clause-verdicts c =
-    live_verdicts c.args.session.now (dtd_of c.grammar.result.now) c.root.result.now (plain_doc c.doc.result.now) c.in_ok-verdicts.verdicts c.grammar.ensures c.root.ensures c.doc.ensures.doc c.session_law.ensures c.in_ok-verdicts.ensures
-
-pub returns-in-Ok-clause-tells : goal.returns-in-Ok-clause-tells
-returns-in-Ok-clause-tells c =
-    let found = c.in-Ok.field-0 in
-    let now = c.args.session.now in
-    let least = completion_told now (dtd_of c.grammar.result.now) c.root.result.now (plain_doc c.doc.result.now) c.in_ok-verdicts.verdicts c.grammar.ensures c.root.ensures c.doc.ensures.doc c.session_law.ensures c.in_ok-verdicts.ensures
-    found.count found.marks found.body c.in-Ok.ensures.completed in
-    let shown = grown_told now (dtd_of c.grammar.result.now) c.root.result.now (plain_doc c.doc.result.now) c.in_ok-verdicts.verdicts c.grammar.ensures c.root.ensures c.doc.ensures.doc c.session_law.ensures c.in_ok-verdicts.ensures
-    found.body c.in-Ok.ensures.written in
-    is_completed found.count found.marks found.body least shown refl
-
-pub withheld-requires : goal.withheld-requires
-withheld-requires c =
-    cause_told c.args.session.now (dtd_of c.grammar.result.now) c.root.result.now (plain_doc c.doc.result.now) c.in_ok-verdicts.verdicts c.grammar.ensures c.root.ensures c.doc.ensures.doc c.session_law.ensures c.in_ok-verdicts.ensures
-    c.in-Err.error c.in-Err.ensures.refused
-
-pub returns-clause-tells : goal.returns-clause-tells
-returns-clause-tells c = not_completed c.args.session.now c.withheld.result c.withheld.ensures.withholds
+pub completed_by-requires-clause-possible : goal.completed_by-requires-clause-possible
+completed_by-requires-clause-possible c = rw c.in-None.is at c.in_ok-reply.ensures.withholds

@@ -1,22 +1,8 @@
-use Rattle.std.proofs.Common.{refl}
-use Rattle.pv_productive.specs.PlainForms.{dtd_of}
-use Rattle.pv_tree.specs.PlainDocs.{plain_doc}
-use Rattle.pv_cli.specs.Missing.{is_needed}
-use Rattle.pv_cli.proofs.Completions.{not_needed}
-use Rattle.pv_cli.proofs.MissingElements.{cause_told, needs_told}
+use Rattle.pv_cli.specs.Missing.{is_withheld}
 use Rattle.pv_cli.proofs.conversation.missing.needed.Goals as goal
 
-pub withheld-requires : goal.withheld-requires
-withheld-requires c =
-    cause_told c.args.session.now (dtd_of c.grammar.result.now) c.root.result.now (plain_doc c.doc.result.now) c.in_ok-verdicts.verdicts c.grammar.ensures c.root.ensures c.doc.ensures.doc c.session_law.ensures c.in_ok-verdicts.ensures
-    c.in-Err.error c.in-Err.ensures.refused
+pub returns-in-Some-clause-tells : goal.returns-in-Some-clause-tells
+returns-in-Some-clause-tells c = is_withheld (rw c.in-Some.is at c.in_ok-reply.ensures.withholds)
 
-pub returns-in-Ok-clause-tells : goal.returns-in-Ok-clause-tells
-returns-in-Ok-clause-tells c =
-    let number = c.in-Ok.number in
-    let told = needs_told c.args.session.now (dtd_of c.grammar.result.now) c.root.result.now (plain_doc c.doc.result.now) c.in_ok-verdicts.verdicts c.grammar.ensures c.root.ensures c.doc.ensures.doc c.session_law.ensures c.in_ok-verdicts.ensures
-    number c.in-Ok.ensures.needs in
-    is_needed number told refl
-
-pub returns-clause-tells : goal.returns-clause-tells
-returns-clause-tells c = not_needed c.args.session.now c.withheld.result c.withheld.ensures.withholds
+pub needed_by-requires-clause-possible : goal.needed_by-requires-clause-possible
+needed_by-requires-clause-possible c = rw c.in-None.is at c.in_ok-reply.ensures.withholds

@@ -1,0 +1,98 @@
+-- What `standoff` did, as a response that is defined for it.
+use Rattle.std.proofs.Common.{◌≡◌, ℕ, ◌+◌, List, [], ◌∷◌, Option, Some, Result, Ok, Err, false, length, refl, subst, sym, ◌≤◌, arith}
+use Rattle.pv_chars.specs.Texts.{holds_close_mark}
+use Rattle.pv_chars.specs.Units.{TextMeans}
+use Rattle.pv_dtd.specs.Plain.{PlainDtd}
+use Rattle.pv_dtd.specs.PlainForms.{plain_dtd}
+use Rattle.pv_dtd.specs.declared.dtd.Dtd.{Dtd}
+use Rattle.pv_standoff.specs.Laws.{TextsHaveNoCloseMark}
+use Rattle.pv_standoff.specs.Lines.{SpellRanges}
+use Rattle.pv_standoff.specs.Ranges.{AreNamed, MAX_RANGES}
+use Rattle.pv_standoff.specs.declared.ranges.Range.{Range}
+use Rattle.pv_cli.specs.declared.response.Response.{Response}
+use Rattle.pv_cli.specs.declared.stop.Stop.{Stop}
+use Rattle.pv_cli.specs.CommandLine.{PlainCommandLine, on_ranges}
+use Rattle.pv_cli.specs.Course.{Course, without_input}
+use Rattle.pv_cli.specs.Devices.{ShelfNow}
+use Rattle.pv_cli.specs.Opening.{Files, IsFile, dtd_file_stage}
+use Rattle.pv_cli.specs.Program.{CountsShelf}
+use Rattle.pv_cli.specs.Returns.{Finds, FindsResponse, ReturnsOver, ending_of}
+use Rattle.pv_cli.specs.Stage.{Behind, Stage, beside, followed_by}
+use Rattle.pv_cli.specs.Standoff.{CountsDocument, IsShownCourse, annotation_stage, nested_stage, nesting_stage, none_nested, ranges_file_stage, some_nested, text_file_stage}
+use Rattle.pv_cli.proofs.Stages.{behind_second, finds_goes, finds_stays, stays_from, stop_counts, stop_ends, stopped_first}
+
+-- the files of a DTD and a text, and of ranges
+abbrev pub ThreeFiles : Type 0
+ThreeFiles = (Option (List ℕ) × Option (List ℕ)) × Option (List ℕ)
+
+abbrev pub AreThree : Option (List (List ℕ × List ℕ)) → List ℕ → List ℕ → List ℕ → ThreeFiles → Type 0
+AreThree told dtd text ranges files = (IsFile told dtd files.0.0 × IsFile told text files.0.1) × IsFile told ranges files.1
+
+abbrev pub plain_given : (Dtd × List (List ℕ)) × List Range → (PlainDtd × List (List ℕ)) × List Range
+plain_given given = ((plain_dtd given.0.0, given.0.1), given.1)
+
+abbrev pub three_stage : ThreeFiles → Stage ((PlainDtd × List (List ℕ)) × List Range)
+three_stage files =
+    followed_by (followed_by (dtd_file_stage files.0.0) (λ g. beside g (text_file_stage files.0.1))) (λ both. beside both (ranges_file_stage files.1))
+
+abbrev files_of : ThreeFiles → Files
+files_of files = files.0.0 ∷ files.0.1 ∷ files.1 ∷ []
+
+module _ (dtd root text ranges : List ℕ) (before after : ShelfNow) where
+  abbrev line : Option PlainCommandLine
+  line = Some (on_ranges dtd root text ranges)
+
+  -- its files stopped it
+  pub annotation_stopped : (checked : ℕ) (stop : Stop) → ReturnsOver {X = (Dtd × List (List ℕ)) × List Range} (AreThree before.files dtd text ranges) plain_given three_stage before after (Err stop) →
+      FindsResponse line before after checked checked (Err stop)
+  annotation_stopped checked stop over =
+      let files = files_of over.files in
+      record {
+        files = files;
+        are_files = (over.are_such.0.0, (over.are_such.0.1, (over.are_such.1, tt)));
+        fetches = over.fetches;
+        is_defined = stop_ends (nested_stage root files) (λ nested. IsShownCourse root nested.0 nested.1) over.fetches stop
+            (stopped_first (annotation_stage files) (λ given. beside given.0.0 (nesting_stage root given.0.1 given.1)) over.fetches stop over.returns);
+        shelf = record { calls = over.calls; faults = stop_counts before.faults after.faults stop over.faults };
+        checks = none_nested refl;
+      }
+
+  -- it found this behind them
+  pub annotation_found : (checked checked_now : ℕ) (given : (Dtd × List (List ℕ)) × List Range) (result : Result Response Stop) →
+      ReturnsOver (AreThree before.files dtd text ranges) plain_given three_stage before after (Ok given) →
+      Finds (Behind (beside (plain_dtd given.0.0) (nesting_stage root given.0.1 given.1)) (λ nested. IsShownCourse root nested.0 nested.1)) result →
+      CountsDocument root given.0.1 given.1 checked checked_now → FindsResponse line before after checked checked_now result
+  annotation_found checked checked_now given result over finds counts =
+      let files = files_of over.files in
+      let Goes = Behind (beside (plain_dtd given.0.0) (nesting_stage root given.0.1 given.1)) (λ nested. IsShownCourse root nested.0 nested.1) in
+      record {
+        files = files;
+        are_files = (over.are_such.0.0, (over.are_such.0.1, (over.are_such.1, tt)));
+        fetches = over.fetches + 0;
+        is_defined = behind_second (annotation_stage files) (λ g. beside g.0.0 (nesting_stage root g.0.1 g.1)) (λ nested. IsShownCourse root nested.0 nested.1) (plain_given given) over.fetches
+            (without_input 0 (ending_of result)) over.returns (finds_goes Goes result finds);
+        shelf = record {
+          calls = omega (arith, over.calls);
+          faults = stays_from (CountsShelf (ending_of result)) before.faults after.faults over.faults (finds_stays Goes result finds);
+        };
+        checks = some_nested (plain_given given) over.fetches over.returns counts;
+      }
+
+-- what was read is named, few, and without `]]>`
+named : (lines : List (List ℕ)) (ranges : List Range) → SpellRanges lines ranges → AreNamed ranges
+named [] [] spells = tt
+named [] (r ∷ rs) spells = absurd spells
+named (l ∷ ls) [] spells = absurd spells
+named (l ∷ ls) (r ∷ rs) spells = (spells.0.is_name, named ls rs spells.1)
+
+pub record CanNest (text : List (List ℕ)) (ranges : List Range) : Type 0 where
+  pub named : AreNamed ranges
+  pub few : length ranges ≤ MAX_RANGES
+  pub no_close_mark : holds_close_mark text ≡ false
+
+pub can_nest : TextsHaveNoCloseMark → (files : ThreeFiles) (given : (PlainDtd × List (List ℕ)) × List Range) (k : ℕ) → (three_stage files).Opens given k → CanNest given.0.1 given.1
+can_nest none files given k (both, i, j, (g, a, b, dtd, (same, (bytes, u, v, fetched, text, e)), f), (are, (lines, x, y, more, ranges, h)), l) = record {
+  named = named _ given.1 ranges.0.0;
+  few = ranges.0.1;
+  no_close_mark = none bytes given.0.1 (subst (λ (p : PlainDtd × List (List ℕ)). TextMeans bytes (Ok p.1)) (sym are) text.0);
+}

@@ -1,0 +1,52 @@
+use Rattle.std.proofs.Common.{◌≡◌, ◌∙◌, ℕ, List}
+use Rattle.std.proofs.lemmas.Result.{err_from_is_err_and}
+use Rattle.pv_cert.specs.declared.packs.Pack.{Pack}
+use Rattle.pv_cli.specs.Course.{Course}
+use Rattle.pv_cli.specs.Documents.{PlainOpened}
+use Rattle.pv_cli.specs.Opening.{Files}
+use Rattle.pv_cli.specs.PackFiles.{pack_file_stage}
+use Rattle.pv_cli.specs.Response.{PlainResponse}
+use Rattle.pv_cli.specs.Verify.{TellsOfPack}
+use Rattle.pv_cli.specs.declared.checker.Checker.TheVariants.{Verify}
+use Rattle.pv_cli.proofs.Certificates.{certificate_stopped, certificate_told, opening_spells, opening_stopped}
+use Rattle.pv_cli.proofs.commands.verify.verify.Goals as goal
+
+-- what is told of the opened files and a pack
+abbrev Told : List ℕ → PlainOpened × Pack → PlainResponse → Type 0
+Told root both r = TellsOfPack root both.0.dtd both.0.bytes both.1 r
+
+pub returns-in_err-dtd-clause-finds : goal.returns-in_err-dtd-clause-finds
+returns-in_err-dtd-clause-finds g c = λ checked.
+    let named = c.args.named.now in
+    let p = err_from_is_err_and c.from_residual.result c.from_residual.ensures.1 in
+    rw (p.1, p.2) (opening_stopped Verify named.dtd.now named.root.now named.doc.now c.args.name.now (λ (pack : Pack). pack) pack_file_stage (Told named.root.now) (λ files course goes. goes) _ checked _
+    c.in_err-dtd.field-0.0 c.in_err-dtd.ensures.over)
+
+pub returns-in_err-pack-clause-finds : goal.returns-in_err-pack-clause-finds
+returns-in_err-pack-clause-finds g c = λ checked.
+    let named = c.args.named.now in
+    let p = err_from_is_err_and c.from_residual-in_err-pack.result c.from_residual-in_err-pack.ensures.1 in
+    rw (p.1, p.2) (certificate_stopped Verify named.dtd.now named.root.now named.doc.now c.args.name.now (λ (pack : Pack). pack) pack_file_stage (Told named.root.now) (λ files course goes. goes) _ checked _ _
+    c.in_ok-dtd.field-0 c.in_ok-dtd.ensures.over c.in_err-pack.field-0.0 c.in_err-pack.ensures.over)
+
+pub returns-clause-finds : goal.returns-clause-finds
+returns-clause-finds g c = λ checked.
+    let named = c.args.named.now in
+    let told = rw c.deref.ensures.value at c.tell.ensures in
+    certificate_told Verify named.dtd.now named.root.now named.doc.now c.args.name.now (λ (pack : Pack). pack) pack_file_stage (Told named.root.now) (λ files course goes. goes) _ checked _ _
+    c.in_ok-dtd.field-0 c.in_ok-dtd.ensures.over c.in_ok-pack.pack c.tell.result c.in_ok-pack.ensures.over told
+
+pub tell-requires : goal.tell-requires
+tell-requires g c =
+    let named = c.args.named.now in
+    let over = c.in_ok-dtd.ensures.over in
+    rw c.deref.ensures.value (opening_spells named.root.now over.files _ over.fetches over.returns)
+
+pub returns-in_err-dtd-clause-files : goal.returns-in_err-dtd-clause-files
+returns-in_err-dtd-clause-files g c = c.in_err-dtd.ensures.over.same
+
+pub returns-in_err-pack-clause-files : goal.returns-in_err-pack-clause-files
+returns-in_err-pack-clause-files g c = c.in_err-pack.ensures.over.same ∙ c.in_ok-dtd.ensures.over.same
+
+pub returns-clause-files : goal.returns-clause-files
+returns-clause-files g c = c.in_ok-pack.ensures.over.same ∙ c.in_ok-dtd.ensures.over.same

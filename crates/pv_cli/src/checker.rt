@@ -1,0 +1,22 @@
+//! Commands on a DTD, a document and a certificate, by their words.
+
+ghost use Rattle.std.specs.Prelude.{◌≡◌};
+ghost use Rattle.pv_cli.specs.CommandLine.{checker_of};
+
+/// A command that checks a certificate, whoever made it.
+#[derive(Clone, Copy, Debug, PartialEq, Eq)]
+pub enum Checker {
+    /// Tells whether a pack shows a least completion.
+    Verify,
+}
+
+/// The checker that a word is.
+pub fn checker_of(word: &str) -> Option<Checker>
+    ensures { result ≡ checker_of word.now }
+{
+    if word == "verify" {
+        Some(Checker::Verify)
+    } else {
+        None
+    }
+}
