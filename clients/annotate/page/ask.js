@@ -1,0 +1,25 @@
+// Asks the program. Each answer is JSON; `gone` is called where the program doesn't answer any more.
+
+const window_ = crypto.randomUUID()
+let gone = () => {}
+
+export const whenGone = (call) => (gone = call)
+export class Gone extends Error {}
+
+export async function ask(name, what = {}) {
+  let answer
+  try {
+    answer = await fetch(name, { method: "POST", headers: { "Content-Type": "application/json" }, body: JSON.stringify(what) })
+  } catch {
+    gone()
+    throw new Gone()
+  }
+  if (!answer.ok) throw new Error(await answer.text())
+  return answer.json()
+}
+
+export const hello = () => ask("hello", { window: window_ })
+
+export function sayBye() {
+  fetch("bye", { method: "POST", keepalive: true, headers: { "Content-Type": "application/json" }, body: JSON.stringify({ window: window_ }) })
+}

@@ -1,0 +1,273 @@
+// Draws a tree as boxes. A list is drawn in chunks, each of some hundred nodes, and a chunk is filled when it comes into sight and emptied
+// when it is far from it. So what is drawn stays small, whatever the size of the document.
+//
+// A list without text is drawn as blocks, one below another. One with text is drawn as a flow, and so is what stands in it, unless that is big.
+import { holdsText, lengthOf, lineEndBefore, lineOf, sliceOf } from "./tree.js"
+
+// The most nodes, and the most characters, of a chunk; an element with more nodes is a block.
+const NODES = 200
+const CHARACTERS = 6000
+// From which depth on a block isn't indented any more.
+const DEEP = 20
+// How far from sight a chunk is filled, in pixels.
+const NEAR = 1000
+
+export function make(name, className, ...inside) {
+  const made = document.createElement(name)
+  made.className = className
+  made.append(...inside)
+  return made
+}
+
+export class View {
+  constructor(host, scroller) {
+    this.host = host
+    this.scroller = scroller
+    this.boxes = new Map()
+    this.seen = new IntersectionObserver((entries) => this.look(entries), { root: scroller, rootMargin: `${NEAR}px` })
+  }
+
+  // Everything anew.
+  draw(tree) {
+    this.seen.disconnect()
+    this.boxes.clear()
+    this.tree = tree
+    this.host.replaceChildren()
+    this.fillList(tree.top, this.host)
+  }
+
+  // The box of a node, where it is drawn.
+  box(node) {
+    return this.boxes.get(node.id)
+  }
+
+  // A node's list has changed, or its name.
+  redraw(node, renamed) {
+    const box = node.owner === null ? this.host : this.box(node)
+    if (!box) return
+    if (node.owner !== null && (renamed || box.classList.contains("inline"))) this.refill((renamed ? box.parentElement : box).closest(".chunk"))
+    else this.fillList(node, node.owner === null ? this.host : box.querySelector(":scope > .list"))
+  }
+
+  // A node's verdict has changed.
+  mark(node) {
+    const box = this.box(node)
+    if (box) box.dataset.verdict = node.verdict ?? "valid"
+  }
+
+  // Draws all that is needed to show this node, and gives its box.
+  reveal(node) {
+    if (node.owner === null) return this.host
+    const list = this.reveal(node.owner)
+    if (!this.box(node)) {
+      const chunks = list === this.host ? list.children : list.querySelector(":scope > .list")?.children ?? []
+      for (const chunk of chunks) if (chunk.rows?.some((row) => row.nodes.includes(node))) this.fill(chunk)
+    }
+    return this.box(node) ?? list
+  }
+
+  // Puts the chunks of a list into its box; those that are as before are kept.
+  fillList(node, list) {
+    const old = new Map([...list.children].map((chunk) => [chunk.key, chunk]))
+    const chunks = chunksOf(node).map((rows) => {
+      const key = keyOf(rows)
+      const chunk = old.get(key) ?? make("div", "chunk")
+      old.delete(key)
+      chunk.key = key
+      chunk.rows = rows
+      return chunk
+    })
+    for (const chunk of old.values()) this.drop(chunk)
+    list.replaceChildren(...chunks)
+    list.parentElement.classList.toggle("texts", holdsText(node))
+    list.classList.toggle("nothing", chunks.length === 0)
+    if (chunks.length === 1) return this.fill(chunks[0])
+    for (const chunk of chunks) {
+      if (!chunk.filled) chunk.style.height ||= `${heightOf(chunk.rows)}px`
+      this.seen.observe(chunk)
+    }
+    this.fillNear(chunks)
+  }
+
+  // Fills at once what is in sight, so that nothing flickers.
+  fillNear(chunks) {
+    const { top, bottom } = this.scroller.getBoundingClientRect()
+    for (const chunk of chunks) {
+      if (!chunk.isConnected) return
+      const box = chunk.getBoundingClientRect()
+      if (box.top > bottom) break
+      if (box.bottom >= top) this.fill(chunk)
+    }
+  }
+
+  look(entries) {
+    for (const { target, isIntersecting } of entries) {
+      if (isIntersecting) this.fill(target)
+      else if (target.filled && !target.contains(getSelection().anchorNode)) this.empty(target)
+    }
+  }
+
+  fill(chunk) {
+    if (chunk.filled) return
+    chunk.filled = true
+    chunk.style.height = ""
+    chunk.append(...chunk.rows.map((row) => this.row(row)))
+    for (const wait of this.waiting.splice(0)) this.fillList(...wait)
+  }
+
+  empty(chunk) {
+    chunk.style.height = `${chunk.getBoundingClientRect().height}px`
+    this.drop(chunk)
+  }
+
+  drop(chunk) {
+    for (const inner of chunk.querySelectorAll(".chunk")) this.seen.unobserve(inner)
+    for (const box of chunk.querySelectorAll("[data-id]")) {
+      const id = Number(box.dataset.id)
+      if (this.boxes.get(id) === box) this.boxes.delete(id)
+    }
+    chunk.replaceChildren()
+    chunk.filled = false
+  }
+
+  refill(chunk) {
+    this.drop(chunk)
+    this.fill(chunk)
+  }
+
+  // Lists whose boxes have to stand in the page before they are filled.
+  waiting = []
+
+  row(row) {
+    if (row.block) return this.block(row.nodes[0])
+    const flow = make("div", "flow")
+    for (const node of row.nodes) flow.append(this.inline(node, row))
+    return flow
+  }
+
+  block(node) {
+    if (node.kind !== "element") return this.leaf(node, "div")
+    const list = make("div", "list")
+    const depth = lineOf(node).length
+    const box = this.element(node, "div", depth > DEEP ? "block deep" : "block", this.tag(node, "start"), list)
+    this.waiting.push([node, list])
+    return box
+  }
+
+  inline(node, row) {
+    if (node.kind === "text") return this.text(node, row.from ?? 0, row.to)
+    if (node.kind !== "element") return this.leaf(node, "span")
+    if (node.kids.length === 0) return this.element(node, "span", "inline", this.tag(node, "only"))
+    return this.element(node, "span", "inline", this.tag(node, "start"), ...node.kids.map((kid) => this.inline(kid, {})), this.tag(node, "end"))
+  }
+
+  element(node, name, className, ...inside) {
+    const box = this.put(node, make(name, `element ${className}`, ...inside))
+    box.dataset.verdict = node.verdict ?? "valid"
+    if (node.new) box.classList.add("new")
+    return box
+  }
+
+  // A comment, a processing instruction or a CDATA section.
+  leaf(node, name) {
+    return this.put(node, make(name, `leaf ${node.kind}`, node.text))
+  }
+
+  put(node, box) {
+    box.dataset.id = node.id
+    this.boxes.set(node.id, box)
+    return box
+  }
+
+  tag(node, form) {
+    const tag = make("span", `tag ${form}`, node.name)
+    tag.dataset.tag = node.id
+    if (node.attrs && form !== "end") tag.append(" ", make("span", "attrs", node.attrs))
+    return tag
+  }
+
+  // A text, or its units from one up to another; a reference is told apart from the character that it stands for.
+  text(node, from, to) {
+    const text = make("span", "text")
+    text.dataset.id = node.id
+    text.dataset.at = from
+    if (from === 0) this.boxes.set(node.id, text)
+    const end = to ?? lengthOf(node)
+    let at = from
+    for (const [place, source] of referencesOf(node, from, end)) {
+      const reference = make("span", "reference", sliceOf(node, place, place + 1))
+      reference.title = source
+      text.append(sliceOf(node, at, place), reference)
+      at = place + 1
+    }
+    text.append(sliceOf(node, at, end))
+    return text
+  }
+}
+
+// The references among units of a text, in order.
+function referencesOf(node, from, to) {
+  const found = Object.entries(node.refs ?? {}).map(([at, source]) => [Number(at), source])
+  return found.filter(([at]) => at >= from && at < to)
+}
+
+// The rows of a list: each is a block, or a run of what flows.
+function rowsOf(node) {
+  if (!holdsText(node)) return node.kids.filter((kid) => kid.kind !== "text").map((kid) => ({ block: true, nodes: [kid], size: kid.size, length: 0 }))
+  const rows = []
+  let run = null
+  for (const kid of node.kids) {
+    if (kid.kind === "text" && kid.text.length > CHARACTERS) {
+      rows.push(...piecesOf(kid))
+      run = null
+    } else if (kid.size > NODES) {
+      rows.push({ block: true, nodes: [kid], size: kid.size, length: 0 })
+      run = null
+    } else {
+      if (!run || run.size + kid.size > NODES || run.length > CHARACTERS) rows.push((run = { block: false, nodes: [], size: 0, length: 0 }))
+      run.nodes.push(kid)
+      run.size += kid.size
+      run.length += kid.text?.length ?? 40
+    }
+  }
+  return rows
+}
+
+// A long text in pieces, cut behind a line end where there is one.
+function piecesOf(node) {
+  const length = lengthOf(node)
+  const pieces = []
+  for (let from = 0; from < length; ) {
+    const most = Math.min(from + CHARACTERS, length)
+    const to = most === length ? length : lineEndBefore(node, from, most)
+    pieces.push({ block: false, nodes: [node], from, to, size: 1, length: to - from })
+    from = to
+  }
+  return pieces
+}
+
+function chunksOf(node) {
+  const chunks = []
+  let size = 0
+  let length = 0
+  for (const row of rowsOf(node)) {
+    if (chunks.length === 0 || size + row.size > NODES || length + row.length > CHARACTERS) {
+      chunks.push([])
+      size = length = 0
+    }
+    chunks.at(-1).push(row)
+    size += row.size
+    length += row.length
+  }
+  return chunks
+}
+
+// What tells one chunk from another.
+const keyOf = (rows) => rows.map(({ block, nodes, from, to }) => [block, from, to, ...nodes.map((node) => node.id)].join()).join(";")
+
+// A guess: it stands until the chunk is filled for the first time.
+function heightOf(rows) {
+  let height = 0
+  for (const row of rows) height += row.block ? 34 + Math.min(row.size - 1, 4000) * 26 : 28 * Math.ceil(1 + row.length / 90)
+  return height
+}

@@ -1,0 +1,163 @@
+// Where a selection is: a run of one list, told as [kid, unit] from and to. What it takes of an element in part, it takes whole.
+import { isWhite, lengthOf, lineOf, unitAt } from "./tree.js"
+
+const count = (text) => [...text].length
+
+// The run of a range of the page; none where it holds nothing of the document.
+export function runOf(range, tree, host) {
+  if (!host.contains(range.commonAncestorContainer)) return null
+  const found = range.collapsed ? caretIn(range) : itemsIn(range, host)
+  if (!found) return null
+  const [first, from, last, to] = found
+  const start = tree.nodes.get(first)
+  const end = tree.nodes.get(last)
+  if (!start || !end) return null
+  return trimmed(joined(start, from, end, to), range.collapsed)
+}
+
+// A run over an element, or from what is before or behind it up to it.
+export function runOver(node, run = null) {
+  const over = { owner: node.owner, from: [node, 0], to: [node, 1] }
+  if (!run) return over
+  const start = run.from[0] ?? run.owner
+  const end = run.to[0] ?? run.owner
+  return isBefore(start, node) ? joined(start, run.from[1], node, 1) : joined(node, 0, end, run.to[1])
+}
+
+export const isEmpty = (run) => run.from[0] === run.to[0] && run.from[1] === run.to[1]
+
+// As the program takes it.
+export const told = (run) => ({ list: run.owner.id, from: [run.from[0]?.id ?? null, run.from[1]], to: [run.to[0]?.id ?? null, run.to[1]] })
+
+function caretIn(range) {
+  const text = textAt(range.startContainer)
+  if (!text) return null
+  const unit = placeIn(text, range.startContainer, range.startOffset)
+  return [Number(text.dataset.id), unit, Number(text.dataset.id), unit]
+}
+
+// The first and the last text, or other leaf, that the range holds something of.
+function itemsIn(range, host) {
+  const common = range.commonAncestorContainer
+  const text = textAt(common)
+  const among = text ? [text] : common.querySelectorAll(".text, .leaf, .tag.only")
+  const items = [...among].filter((item) => range.intersectsNode(item) && isTouched(range, item))
+  if (items.length === 0 || !host.contains(items[0])) return null
+  const [first, last] = [items[0], items.at(-1)]
+  const from = first.contains(range.startContainer) && isText(first) ? placeIn(first, range.startContainer, range.startOffset) : atOf(first)
+  const to = last.contains(range.endContainer) && isText(last) ? placeIn(last, range.endContainer, range.endOffset) : endOf(last)
+  return [numberOf(first), from, numberOf(last), to]
+}
+
+const isText = (item) => item.classList.contains("text")
+const atOf = (item) => Number(item.dataset.at ?? 0)
+const endOf = (item) => (isText(item) ? atOf(item) + count(item.textContent) : 1)
+const numberOf = (item) => Number(item.closest("[data-id]").dataset.id)
+const textAt = (node) => (node.nodeType === Node.TEXT_NODE ? node.parentElement : node).closest(".text")
+
+function isTouched(range, item) {
+  const inside = document.createRange()
+  inside.selectNodeContents(item)
+  if (range.compareBoundaryPoints(Range.START_TO_START, inside) > 0) inside.setStart(range.startContainer, range.startOffset)
+  if (range.compareBoundaryPoints(Range.END_TO_END, inside) < 0) inside.setEnd(range.endContainer, range.endOffset)
+  return !inside.collapsed && inside.toString() !== ""
+}
+
+function placeIn(text, container, offset) {
+  const before = document.createRange()
+  before.setStart(text, 0)
+  before.setEnd(container, offset)
+  return atOf(text) + count(before.toString())
+}
+
+// The run of the deepest list that holds both ends.
+function joined(start, from, end, to) {
+  const starts = lineOf(start)
+  const ends = lineOf(end)
+  let depth = 0
+  while (depth + 2 < starts.length && depth + 2 < ends.length && starts[depth + 1] === ends[depth + 1]) depth += 1
+  const [first, last] = [starts[depth + 1], ends[depth + 1]]
+  return { owner: starts[depth], from: [first, first === start ? from : 0], to: [last, last === end ? to : 1] }
+}
+
+// The run without the white space at its ends, where it holds something else.
+function trimmed(run, collapsed) {
+  if (collapsed) return run
+  const { kids } = run.owner
+  let [first, from] = run.from
+  let [last, to] = run.to
+  while (first !== last || from < to) {
+    if (first.kind !== "text") break
+    const end = first === last ? to : lengthOf(first)
+    while (from < end && isBlank(first, from)) from += 1
+    if (from < end || first === last) break
+    ;[first, from] = [kids[kids.indexOf(first) + 1], 0]
+  }
+  if (first === last && from >= to) return run
+  while (last.kind === "text") {
+    while (to > (first === last ? from : 0) && isBlank(last, to - 1)) to -= 1
+    if (to > 0) break
+    last = kids[kids.indexOf(last) - 1]
+    to = last.kind === "text" ? lengthOf(last) : 1
+  }
+  return { owner: run.owner, from: [first, from], to: [last, to] }
+}
+
+const isBlank = (node, at) => !node.refs?.[at] && " \t\r\n".includes(unitAt(node, at))
+
+function isBefore(one, other) {
+  const [ones, others] = [lineOf(one), lineOf(other)]
+  let at = 0
+  while (ones[at] === others[at] && at < ones.length) at += 1
+  if (at === ones.length || at === others.length) return at === ones.length
+  const kids = ones[at - 1].kids
+  return kids.indexOf(ones[at]) < kids.indexOf(others[at])
+}
+
+// The range of the page that shows a run, as far as it is drawn.
+export function rangeOf(run, view) {
+  const range = document.createRange()
+  const start = pointOf(run.from, view, false)
+  const end = pointOf(run.to, view, true)
+  if (!start || !end) return null
+  range.setStart(...start)
+  range.setEnd(...end)
+  return range
+}
+
+function pointOf([node, unit], view, behind) {
+  if (node === null) return null
+  if (node.kind !== "text") {
+    const box = view.box(node)
+    if (!box) return null
+    const at = [...box.parentNode.childNodes].indexOf(box)
+    return [box.parentNode, at + unit]
+  }
+  const pieces = view.host.querySelectorAll(`.text[data-id="${node.id}"]`)
+  const isIn = (piece) => unit >= atOf(piece) && (unit < endOf(piece) || (unit === endOf(piece) && (behind || unit === lengthOf(node))))
+  const piece = [...pieces].find(isIn)
+  return piece ? pointIn(piece, unit - atOf(piece)) : null
+}
+
+function pointIn(piece, units) {
+  const walk = document.createTreeWalker(piece, NodeFilter.SHOW_TEXT)
+  let text = piece
+  for (let left = units; walk.nextNode(); ) {
+    text = walk.currentNode
+    const size = count(text.data)
+    if (left <= size) return [text, [...text.data].slice(0, left).join("").length]
+    left -= size
+  }
+  return [text, text.length ?? 0]
+}
+
+// What a run is, in words.
+export function nameOf(run) {
+  const kids = run.owner.kids
+  const whole = kids.slice(kids.indexOf(run.from[0]), kids.indexOf(run.to[0]) + 1)
+  const elements = whole.filter((kid) => kid.kind === "element")
+  const texts = whole.some((kid) => kid.kind !== "element" && !isWhite(kid))
+  const named = elements.length === 1 ? `⟨${elements[0].name}⟩` : `${elements.length} elements`
+  const what = elements.length === 0 ? "text" : texts ? `text and ${named}` : named
+  return run.owner.id === 0 ? what : `${what} in ⟨${run.owner.name}⟩`
+}

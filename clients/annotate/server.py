@@ -1,0 +1,204 @@
+"""The page and its requests, on 127.0.0.1 alone.
+
+An address has a random token in front of its path. A request without it, for another host (as a page of another origin sends that has this
+machine's address under a name of its own), or from another origin is refused, and so is each path but those listed here: no file is looked up
+by a request. What comes is JSON of at most `LONGEST` bytes.
+"""
+import json
+import os
+import secrets
+import sys
+import threading
+import traceback
+from http.server import BaseHTTPRequestHandler, ThreadingHTTPServer
+
+from editor import Stale
+from script import Trouble
+from session import Ended
+
+FOLDER = os.path.join(os.path.dirname(os.path.abspath(__file__)), "page")
+TYPES = {".html": "text/html", ".css": "text/css", ".js": "text/javascript"}
+LONGEST = 1 << 20
+# A page that is loaded again says goodbye and comes back within this time, in seconds.
+PATIENCE = 5
+HEADERS = {
+    "Content-Security-Policy": "default-src 'none'; script-src 'self'; style-src 'self'; connect-src 'self'; img-src data:; base-uri 'none'; "
+    "form-action 'none'; frame-ancestors 'none'",
+    "Cache-Control": "no-store",
+    "Cross-Origin-Opener-Policy": "same-origin",
+    "Cross-Origin-Resource-Policy": "same-origin",
+    "Referrer-Policy": "same-origin",
+    "X-Content-Type-Options": "nosniff",
+}
+
+
+class Refusal(Exception):
+    def __init__(self, status, why):
+        super().__init__(why)
+        self.status, self.why = status, why
+
+
+class Server(ThreadingHTTPServer):
+    daemon_threads = True
+
+    def __init__(self, editor, port, title):
+        self.editor, self.title = editor, title
+        self.token = secrets.token_urlsafe(24)
+        self.files = {name: read_page(name) for name in os.listdir(FOLDER) if os.path.splitext(name)[1] in TYPES}
+        self.windows, self.lock = set(), threading.Lock()
+        self.over = threading.Event()
+        super().__init__(("127.0.0.1", port), Handler)
+        self.hosts = {f"127.0.0.1:{self.server_port}", f"localhost:{self.server_port}"}
+        self.address = f"http://127.0.0.1:{self.server_port}/{self.token}/"
+
+    def hello(self, window):
+        with self.lock:
+            self.windows.add(window)
+
+    def bye(self, window):
+        """A window was closed; where it was the last, the program ends soon."""
+        with self.lock:
+            self.windows.discard(window)
+        timer = threading.Timer(PATIENCE, self.end_if_alone)
+        timer.daemon = True
+        timer.start()
+
+    def end_if_alone(self):
+        with self.lock:
+            if not self.windows:
+                self.over.set()
+
+    def handle_error(self, request, client_address):
+        """A browser that goes away in mid-answer is no fault."""
+        if not isinstance(sys.exc_info()[1], ConnectionError | TimeoutError):
+            super().handle_error(request, client_address)
+
+
+def read_page(name):
+    with open(os.path.join(FOLDER, name), "rb") as file:
+        return file.read()
+
+
+class Handler(BaseHTTPRequestHandler):
+    protocol_version = "HTTP/1.1"
+    server_version, sys_version = "annotate", ""
+    timeout = 60
+
+    def do_GET(self):
+        self.handle_with(self.get)
+
+    def do_POST(self):
+        self.handle_with(self.post)
+
+    def handle_with(self, answer):
+        try:
+            status, kind, body = 200, *answer(self.checked_path())
+        except Refusal as refusal:
+            # What came behind the head wasn't read, so the connection is of no more use.
+            self.close_connection = True
+            status, kind, body = refusal.status, "text/plain", refusal.why.encode() + b"\n"
+        except Exception:
+            traceback.print_exc()
+            self.close_connection = True
+            status, kind, body = 500, "text/plain", b"annotate has a fault: the terminal tells it\n"
+        self.send_response(status)
+        self.send_header("Content-Type", f"{kind}; charset=utf-8")
+        self.send_header("Content-Length", str(len(body)))
+        if self.close_connection:
+            self.send_header("Connection", "close")
+        for name, value in HEADERS.items():
+            self.send_header(name, value)
+        self.end_headers()
+        self.wfile.write(body)
+
+    def checked_path(self):
+        """What stands behind the token, for a request that may ask."""
+        if self.headers.get_all("Host") is None or set(self.headers.get_all("Host")) - self.server.hosts:
+            raise Refusal(403, "another host")
+        origins = {f"http://{host}" for host in self.server.hosts}
+        if set(self.headers.get_all("Origin") or ()) - origins:
+            raise Refusal(403, "another origin")
+        if self.headers.get("Sec-Fetch-Site", "none") not in ("none", "same-origin"):
+            raise Refusal(403, "another origin")
+        front, token, name = (self.path.split("/", 2) + ["", ""])[:3]
+        if front or not secrets.compare_digest(token.encode(), self.server.token.encode()):
+            raise Refusal(403, "the address has no token, or that of another run: take it from the terminal")
+        return name
+
+    def get(self, name):
+        name = name or "index.html"
+        if name not in self.server.files:
+            raise Refusal(404, "there is no such page")
+        return TYPES[os.path.splitext(name)[1]], self.server.files[name]
+
+    def post(self, name):
+        if name not in ASKED:
+            raise Refusal(404, "there is no such request")
+        if self.headers.get("Origin") is None or self.headers.get_content_type() != "application/json":
+            raise Refusal(403, "a request comes from the page, as JSON")
+        size = self.headers.get("Content-Length", "")
+        if not size.isascii() or not size.isdigit() or int(size) > LONGEST:
+            raise Refusal(413, "a request has a length, and isn't long")
+        try:
+            ask = json.loads(self.rfile.read(int(size)))
+        except ValueError:
+            raise Refusal(400, "that is no JSON") from None
+        return "application/json", json.dumps(self.answer(name, ask)).encode()
+
+    def answer(self, name, ask):
+        """What the editor answers, or `trouble`, a sentence for the user."""
+        editor = self.server.editor
+        try:
+            return ASKED[name](self.server, editor, ask)
+        except Stale:
+            return {"stale": True}
+        except Trouble as trouble:
+            return {"trouble": str(trouble)}
+        except Ended as ended:
+            return self.begin_again(editor, ended)
+        except (KeyError, TypeError, ValueError, AttributeError, IndexError):
+            traceback.print_exc()
+            raise Refusal(400, "that is no request") from None
+
+    def begin_again(self, editor, ended):
+        """The session is gone: another one makes the moves that were written down."""
+        if self.server.over.is_set():
+            return {"trouble": "annotate is ending"}
+        try:
+            with editor.lock:
+                editor.session.close()
+                editor.begin()
+        except (Ended, Trouble) as fault:
+            return {"trouble": f"{ended}, and can't be begun again: {fault}"}
+        return {"stale": True, "trouble": f"{ended}; it was begun again, with all moves that were made"}
+
+    def log_message(self, *_):
+        pass
+
+
+def hello(server, editor, ask):
+    server.hello(str(ask["window"]))
+    return {"title": server.title}
+
+
+def bye(server, editor, ask):
+    server.bye(str(ask["window"]))
+    return {}
+
+
+# What the page asks for.
+ASKED = {
+    "hello": hello,
+    "bye": bye,
+    "state": lambda server, editor, ask: editor.state(ask.get("since")),
+    "history": lambda server, editor, ask: editor.history(),
+    "need": lambda server, editor, ask: editor.need(),
+    "offer": lambda server, editor, ask: editor.offer(ask),
+    "move": lambda server, editor, ask: editor.move(ask),
+    "undo": lambda server, editor, ask: editor.undo(ask),
+    "redo": lambda server, editor, ask: editor.redo(ask),
+    "back": lambda server, editor, ask: editor.back(ask),
+    "save": lambda server, editor, ask: editor.save(ask),
+    "preview": lambda server, editor, ask: editor.preview(),
+    "stop": lambda server, editor, ask: editor.stop(),
+}

@@ -1,0 +1,317 @@
+"""Tries what stands behind the page of `clients/annotate`: its session, its tree and its script.
+
+Words: PROGRAM SEED. Prints each difference, and how many cases passed; ends with 1 where one failed.
+"""
+import functools
+import os
+import random
+import resource
+import sys
+import tempfile
+
+sys.dont_write_bytecode = True
+
+from annotate_fixture import DRAFT, EXAMPLES, FOLDER, LETTER, Fault, Skipped, fault_of, need, run_cases, same  # noqa: E402
+
+sys.path.insert(0, FOLDER)
+
+from document import TEXT, Document  # noqa: E402
+from editor import Editor, Stale  # noqa: E402
+from script import Script, Trouble  # noqa: E402
+from session import Ended, Made, Refused, Session  # noqa: E402
+
+
+# Sessions.
+def speaks_each_line(program):
+    with tempfile.TemporaryDirectory() as folder:
+        path = os.path.join(folder, "a.xml")
+        with open(path, "w", encoding="utf-8") as file:
+            file.write(DRAFT)
+        with Session([program], LETTER, "letter", path) as session:
+            same(session.show(), DRAFT.encode(), "show")
+            same(session.wrap("0.0", 0, 1, "p"), Refused("impossible", "0.0"), "a refused wrap")
+            same(session.wrap("0.0", 0, 1, "salute"), Made(2, 0, 0), "a wrap")
+            same([tuple(row) for row in session.changed(0)], [("0.0", "valid", 1), ("0.0.0", "valid", 1)], "the lists that it changed")
+            same(session.need(), 0, "need")
+            same(session.insert("0.2.0", 1, "lb"), Made(2, 0, 0), "an insertion")
+            same(session.rename("0.0.0", "dateline"), Made(2, 1, 0), "a rename")
+            same(session.need(), 1, "need behind it")
+            same(session.split("0.2.0.0", 4), Made(1, 1, 0), "a split")
+            same(session.join("0.2.0.0"), Made(1, 1, 0), "a join")
+            same(session.text("0.2.0.0", "I met Tom &amp; Anna."), Made(1, 1, 0), "a text")
+            same(session.addtext("0.2.0", 2, "é𐀀"), Made(1, 1, 0), "an added text")
+            same(session.deltext("0.2.0.2"), Made(1, 1, 0), "a text taken away")
+            same(session.unwrap("0.0.0"), Made(1, 1, 0), "an unwrap")
+            same(session.undo(), Made(2, 1, 0), "its undo")
+            same(session.redo(), Made(1, 1, 0), "its redo")
+            same(session.redo(), Refused("history"), "another redo")
+            same(session.history()[-2:], ["deltext 0.2.0.2", "unwrap 0.0.0"], "the history")
+            same(session.edit("unwrap 9"), Refused("shape", "no-node"), "a path without a node")
+            same(session.edit("what"), Refused("command"), "no command")
+            same(len(session.verdicts()), 6, "the lists")
+            completed = session.complete()
+            same((completed.new, completed.document.count(b"<salute>")), (1, 1), "a completion")
+        for call in (session.show, session.undo):
+            need(isinstance(fault_of(call), Ended), "a session that is closed says so")
+        with open(path, "w", encoding="utf-8") as file:
+            file.write("<letter>")
+        fault = fault_of(Session([program], LETTER, "letter", path).show)
+        same((fault.status, fault.line), (7, "document syntax 1"), "a session that can't begin")
+
+
+def offers_names(program):
+    with Session([program], LETTER, "letter", os.path.join(EXAMPLES, "letter-draft.xml")) as session:
+        if session.offer("0.0") == Refused("command"):
+            raise Skipped("the program can't offer names")
+        same(session.offer("0.0", 0, 1), ["dateline", "place", "date", "salute"], "names round a text")
+        need("salute" not in session.offer("0.2"), "names for the body")
+        same(session.offer("0.0.0"), Refused("shape", "not-element"), "names for a text")
+
+
+# Trees.
+SOURCES = [
+    ("article.dtd", "doc", open(os.path.join(EXAMPLES, "report.xml"), encoding="utf-8").read()),
+    ("article.dtd", "doc", "\ufeff<?xml version='1.0'?>\n<!--b--><!DOCTYPE doc>\n<doc a='>/' >Tom &amp; &#x10000;Anna 𐀀é<br/>\r\n<br/ ><?p i?>"
+     .replace("<br/ >", "<br />") + "x<![CDATA[<]]>y<!-- c --><em b=\"'\">z</em ></doc>\n<?z?>\n"),
+    ("letter.dtd", "letter", DRAFT),
+]
+
+
+def random_edit(document):
+    nodes = [node for node in document.nodes.values() if is_there(document, node)]
+    node = random.choice(nodes)
+    path = document.path_of(node)
+    name = random.choice(["p", "em", "head", "sec", "title", "br", "item", "place", "person", "salute"])
+    if node.kind == TEXT:
+        size = len(node.units)
+        return random.choice([f"split {path} {random.randint(1, max(1, size - 1))}", f"join {path}", f"text {path} a&lt;b𐀀", f"deltext {path}"])
+    if node.kids is None:
+        return f"join {path}"
+    start = random.randint(0, len(node.kids))
+    end = random.randint(start, len(node.kids))
+    return random.choice([f"wrap {path} {start} {end} {name}", f"wrap {path} {start} {start} {name}", f"insert {path} {start} {name}", f"unwrap {path}",
+                          f"rename {path} {name}", f"addtext {path} {start} &#10;é"])
+
+
+def is_there(document, node):
+    while node.owner is not None:
+        if node not in node.owner.kids:
+            return False
+        node = node.owner
+    return node is document.top
+
+
+def keeps_the_tree(program):
+    """What the tree tells is what the session shows, behind each edit and each undo."""
+    made = 0
+    with tempfile.TemporaryDirectory() as folder:
+        path = os.path.join(folder, "a.xml")
+        for dtd, root, source in SOURCES * 3:
+            with open(path, "w", encoding="utf-8", newline="") as file:
+                file.write(source)
+            with Session([program], os.path.join(EXAMPLES, dtd), root, path) as session:
+                made += random_moves(session, Document(source.encode()))
+    need(made > 200, f"too few edits were made: {made}")
+
+
+def random_moves(session, document):
+    backs = []
+    for _ in range(150):
+        if backs and random.random() < 0.2:
+            need(isinstance(session.undo(), Made), "an undo")
+            backs.pop()()
+        else:
+            line = random_edit(document)
+            if not isinstance(session.edit(line), Made):
+                continue
+            backs.append(document.edit(line)[1])
+        same(document.written().encode(), session.show(), "the document")
+        rows = session.verdicts()
+        same([row.path for row in rows], [document.path_of(node) for node in document.elements()], "the paths of lists")
+        same([document.node_at(row.path) for row in rows], list(document.elements()), "the lists at paths")
+    return len(backs)
+
+
+# Scripts.
+def editor_on(program, folder, source=None):
+    path = os.path.join(folder, "doc.xml")
+    if source is not None:
+        with open(path, "w", encoding="utf-8") as file:
+            file.write(source)
+    script = Script(path)
+    try:
+        return Editor([program], LETTER, "letter", script)
+    except Exception:
+        script.close()
+        raise
+
+
+def text_of(node):
+    return "".join(node.units)
+
+
+def place_of(editor, words):
+    """The run of these words in the first text that holds them."""
+    for node in editor.document.nodes.values():
+        if node.kind == TEXT and words in text_of(node) and is_there(editor.document, node):
+            at = text_of(node).index(words)
+            return {"list": node.owner.id, "from": [node.id, at], "to": [node.id, at + len(words)]}
+    raise Fault(f"no text holds {words!r}")
+
+
+def wrap(editor, name, words):
+    return editor.move({"kind": "wrap", "place": place_of(editor, words), "name": name, "version": editor.version})
+
+
+def state(editor):
+    return editor.shown(), [move.lines for move in editor.made], [move.lines for move in editor.undone]
+
+
+def put(path, text):
+    with open(path, "w", encoding="utf-8") as file:
+        file.write(text)
+
+
+def keeps_moves(program):
+    """What was made, taken back and made again is there at the next start, in the same moves; a refusal changes nothing."""
+    with tempfile.TemporaryDirectory() as folder:
+        editor = editor_on(program, folder, DRAFT)
+        need("changes" in wrap(editor, "person", "Mr Adams"), "a wrap")
+        need("changes" in wrap(editor, "place", "Delft"), "another wrap")
+        before = state(editor)
+        answer = wrap(editor, "lb", "have")
+        same((answer["no"], answer["new"]), ("impossible", True), "an element that can't hold it")
+        answer = wrap(editor, "body", "Mr")
+        same((answer["no"], answer["new"], answer["list"]), ("impossible", False, place_of(editor, "Mr")["list"]), "a list that can't hold the element")
+        same(state(editor), before, "what stands behind a refusal")
+        editor.undo({"version": editor.version})
+        editor.offer(place_of(editor, "met"))
+        same(len(editor.undone), 1, "an offer leaves what was undone")
+        before = state(editor)
+        editor.close()
+        editor = editor_on(program, folder)
+        same(state(editor), before, "the next start")
+        editor.redo({"version": editor.version})
+        need(b"in <place>Delft</place>." in editor.shown(), "a redo at the next start")
+        editor.back({"version": editor.version, "to": 0})
+        same(editor.shown(), DRAFT.encode(), "back to the start")
+        editor.back({"version": editor.version, "to": 2})
+        same(editor.document.written().encode(), editor.shown(), "forth again")
+        before = state(editor)
+        editor.close()
+        editor = editor_on(program, folder)
+        same(state(editor), before, "the start behind that")
+        need(isinstance(fault_of(lambda: editor.undo({"version": editor.version - 1})), Stale), "a window that is behind")
+        need(isinstance(fault_of(lambda: wrap_in_gone(editor)), Stale), "a node that is gone")
+        editor.close()
+
+
+def wrap_in_gone(editor):
+    place = place_of(editor, "have")
+    wrap(editor, "date", "have")
+    editor.move({"kind": "wrap", "place": place, "name": "date", "version": editor.version})
+
+
+def saves(program):
+    """Save writes the document, moves can be taken back behind it, also at the next start, and nothing that changed is written over."""
+    with tempfile.TemporaryDirectory() as folder:
+        path = os.path.join(folder, "doc.xml")
+        editor = editor_on(program, folder, DRAFT)
+        os.chmod(path, 0o640)
+        wrap(editor, "person", "Mr Adams")
+        need(editor.save({"version": editor.version})["saved"], "it is saved")
+        same(open(path, "rb").read(), editor.shown(), "what was saved")
+        same(os.stat(path).st_mode & 0o777, 0o640, "its permissions")
+        wrap(editor, "place", "Delft")
+        editor.save({"version": editor.version})
+        editor.undo({"version": editor.version})
+        editor.undo({"version": editor.version})
+        need(not editor.state()["saved"], "an undo behind a save is to be saved")
+        editor.close()
+        editor = editor_on(program, folder)
+        same(state(editor)[0], DRAFT.encode(), "what was undone behind a save, at the next start")
+        same(len(editor.undone), 2, "what can be made again")
+        editor.redo({"version": editor.version})
+        put(path, "<letter/>")
+        need(isinstance(fault_of(lambda: editor.save({"version": editor.version})), Trouble), "a document that has changed isn't written over")
+        same(open(path).read(), "<letter/>", "it")
+        editor.close()
+        need(isinstance(fault_of(lambda: editor_on(program, folder)), Trouble), "nor is it opened with the script of the other")
+        put(path, DRAFT)
+        editor = editor_on(program, folder)
+        need(b"<person>" in editor.shown(), "brought back, it is")
+        need(isinstance(fault_of(lambda: Script(path)), Trouble), "two of them on one document")
+        editor.close()
+        same(sorted(os.listdir(folder)), ["doc.xml", "doc.xml.pvtag", "doc.xml.pvtag.base"], "the files")
+
+
+def survives_cuts(program):
+    """Wherever the machine stopped while a script was written, each whole move is there, and no part of one."""
+    with tempfile.TemporaryDirectory() as folder:
+        editor = editor_on(program, folder, DRAFT)
+        shown = {0: DRAFT.encode()}
+        for name, words in (("person", "Mr Adams"), ("place", "Delft")):
+            wrap(editor, name, words)
+            shown[len(editor.made)] = editor.shown()
+        editor.undo({"version": editor.version})
+        editor.close()
+        path = os.path.join(folder, "doc.xml.pvtag")
+        script = open(path, "rb").read()
+        for size in range(len(script) + 1):
+            with open(path, "wb") as file:
+                file.write(script[:size])
+            editor = editor_on(program, folder)
+            same(editor.shown(), shown[len(editor.made)], f"{size} bytes of the script")
+            before = state(editor)
+            editor.close()
+            editor = editor_on(program, folder)
+            same(state(editor), before, f"{size} bytes of the script, at the next start")
+            for _ in range(len(editor.undone)):
+                editor.redo({"version": editor.version})
+            same(editor.shown(), shown[len(editor.made)], f"what can be made again behind {size} bytes")
+            editor.close()
+        # The machine stops between the line of a Save and the file's renaming.
+        with open(path, "ab") as file:
+            file.write(b"saved 00\n")
+        editor = editor_on(program, folder)
+        same(editor.shown(), shown[len(editor.made)], "a save that wasn't made")
+        editor.close()
+        with open(path, "ab") as file:
+            file.write(b"unwrap 0.9\n")
+        need("can't be made any more" in str(fault_of(lambda: editor_on(program, folder))), "a move that can't be made is told")
+
+
+def survives_a_full_disk(program):
+    """A move that can't be written down isn't made."""
+    with tempfile.TemporaryDirectory() as folder:
+        editor = editor_on(program, folder, DRAFT)
+        wrap(editor, "person", "Mr Adams")
+        before, size = state(editor), os.path.getsize(editor.script.path)
+        limits = resource.getrlimit(resource.RLIMIT_FSIZE)
+        resource.setrlimit(resource.RLIMIT_FSIZE, (size + 3, limits[1]))
+        try:
+            need(isinstance(fault_of(lambda: wrap(editor, "place", "Delft")), Trouble), "a wrap")
+            need(isinstance(fault_of(lambda: editor.undo({"version": editor.version})), Trouble), "an undo")
+            need(isinstance(fault_of(lambda: editor.save({"version": editor.version})), Trouble), "a save")
+        finally:
+            resource.setrlimit(resource.RLIMIT_FSIZE, limits)
+        same((state(editor), os.path.getsize(editor.script.path)), (before, size), "what stands behind it")
+        need("changes" in wrap(editor, "place", "Delft"), "where there is room again")
+        before = state(editor)
+        editor.close()
+        editor = editor_on(program, folder)
+        same(state(editor), before, "the next start")
+        editor.close()
+
+
+CASES = [speaks_each_line, offers_names, keeps_the_tree, keeps_moves, saves, survives_cuts, survives_a_full_disk]
+
+
+def main():
+    program = os.path.abspath(sys.argv[1])
+    random.seed(int(sys.argv[2]))
+    return run_cases("annotate's parts", [functools.update_wrapper(functools.partial(case, program), case) for case in CASES])
+
+
+if __name__ == "__main__":
+    sys.exit(main())
