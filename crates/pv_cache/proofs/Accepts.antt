@@ -1,7 +1,7 @@
 -- Where no list is Impossible, what is accepted can be made valid.
-use Rattle.std.proofs.Common.{List, arith, refl, ℕ, ◌∙◌, ◌≡◌, ◌≤◌}
+use Rattle.std.proofs.Common.{List, arith, refl, ℕ, ◌≡◌}
 use Rattle.std.proofs.Math.Logic.{∥∥₁_map}
-use Rattle.pv_cache.specs.Accepting.{GetsNoWorse, IsAccepted, KeepsPossible}
+use Rattle.pv_cache.specs.Accepting.{GetsNoWorse}
 use Rattle.pv_cache.specs.GroundLaws.{AcceptsThePossible}
 use Rattle.pv_dtd.specs.Plain.{PlainDtd}
 use Rattle.pv_missing.specs.VerdictLaws.{NoneImpossible}

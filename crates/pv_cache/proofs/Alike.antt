@@ -188,6 +188,19 @@ module _ {M N : Type 0} (f : M → N) where
       live_paths_to [] h = tt
       live_paths_to (path ∷ paths) h = (live_path_to path h.0, live_paths_to paths h.1)
 
+      live_paths_from : (paths : List (List ℕ)) → AllByRecursion (IsLiveAt g root (doc_as f doc)) paths → AllByRecursion (IsLiveAt g root doc) paths
+      live_paths_from [] h = tt
+      live_paths_from (path ∷ paths) h = (live_path_from path h.0, live_paths_from paths h.1)
+
+      pub first_at_from : (paths : List (List ℕ)) (path : List ℕ) → IsFirstImpossibleAt g root (doc_as f doc) paths path → IsFirstImpossibleAt g root doc paths path
+      first_at_from paths path h = record {
+        before = h.before;
+        after = h.after;
+        is_split = h.is_split;
+        all_before = live_paths_from h.before h.all_before;
+        is_not = λ l. h.is_not (live_path_to path l);
+      }
+
       pub first_at_to : (paths : List (List ℕ)) (path : List ℕ) → IsFirstImpossibleAt g root doc paths path → IsFirstImpossibleAt g root (doc_as f doc) paths path
       first_at_to paths path h = record {
         before = h.before;

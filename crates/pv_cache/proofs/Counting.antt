@@ -2,10 +2,10 @@
 use Rattle.std.proofs.Common.{List, None, Option, Some, [], ap, arith, drop, length, refl, subst, suc, sym, take, true, false, zero, ℕ, ◌+◌, ◌++◌, ◌≤◌, ◌∙◌, ◌∷◌, ◌≡◌, map, Bool, ◌||◌}
 use Rattle.std.proofs.lemmas.List.Edits.{split_between}
 use Rattle.std.specs.List.{between, list_any}
-use Rattle.pv_cache.specs.BadLists.{bad_gained, bad_gone, bad_lost, own_at, own_in, own_inner, own_of}
+use Rattle.pv_cache.specs.BadLists.{bad_gained, bad_gone, own_at, own_in, own_inner, own_of}
 use Rattle.pv_cache.specs.Changed.{IsInnerJudged}
 use Rattle.pv_cache.specs.Laws.{MendedIsCounted}
-use Rattle.pv_cache.specs.Mending.{mend_below, mend_doc, mend_element, mend_kids, mend_owner, mend_root}
+use Rattle.pv_cache.specs.Mending.{mend_below, mend_doc, mend_element, mend_kids, mend_owner}
 use Rattle.pv_cache.specs.WellMarked.{bad_in, bad_in_all, own_bad, told_bad}
 use Rattle.pv_cache.specs.declared.mending.InnerVerdict.{InnerVerdict}
 use Rattle.pv_cache.proofs.Docs.{bare-kids, in-root, only, owner-list, top-list, top-place}
@@ -16,7 +16,7 @@ use Rattle.pv_dtd.specs.Plain.{PlainDtd}
 use Rattle.pv_edit.specs.Brought.{brings_element}
 use Rattle.pv_edit.specs.Changes.{Change, Filling, all_kids, around, change_below, change_kid, doc_after, first_tree, in_place_of, inner, list_after, named, others, owner_after, root_after, with_name}
 use Rattle.pv_edit.specs.Fitting.{CanFill}
-use Rattle.pv_edit.specs.Reasons.{is_one_element, kids_at}
+use Rattle.pv_edit.specs.Reasons.{is_one_element}
 use Rattle.pv_edit.proofs.KeptBack.{can-made}
 use Rattle.pv_edit.proofs.Levels.{forest-trees}
 use Rattle.pv_edit.proofs.Standing.{KidAt, NodeAt, at_node, down, first, here, later}
@@ -25,7 +25,7 @@ use Rattle.pv_edit.proofs.Whole.{Made, top-kids}
 use Rattle.pv_tree.specs.Places.{Spot, at_document, spot_at}
 use Rattle.pv_tree.specs.Places.{at_node as at_spot}
 use Rattle.std.specs.Option.{option_map}
-use Rattle.pv_tree.specs.Plain.{Ending, Forest, PlainDoc, Tree, cdata_node, element, forest_of, is_element, misc_node, no_trees, nodes_in, nodes_in_all, text_node, tree, trees_of}
+use Rattle.pv_tree.specs.Plain.{Ending, Forest, PlainDoc, Tree, cdata_node, element, forest_of, is_element, misc_node, nodes_in, nodes_in_all, text_node, trees_of}
 use Rattle.pv_tree.specs.declared.nodes.Mark.{Mark}
 use Rattle.pv_tree.specs.declared.nodes.Verdict.{Verdict}
 

@@ -1,5 +1,5 @@
 -- The first Impossible list of a document, as its marks tell.
-use Rattle.std.proofs.Common.{Bool, List, None, Option, Some, [], ap, arith, append_assoc, append-nil, false, refl, subst, suc, sym, true, ℕ, ◌+◌, ◌++◌, ◌∙◌, ◌∷◌, ◌≡◌}
+use Rattle.std.proofs.Common.{List, None, Option, Some, [], suc, ℕ, ◌++◌, ◌∷◌, ◌≡◌}
 use Rattle.std.proofs.Math.Logic.{∥∥₁_map}
 use Rattle.std.specs.List.{AllByRecursion}
 use Rattle.std.specs.Option.{MatchOption}
@@ -11,7 +11,7 @@ use Rattle.pv_cache.proofs.ListMarks.{have_to}
 use Rattle.pv_cache.proofs.Telling.{doc-told}
 use Rattle.pv_dtd.specs.Plain.{PlainDtd}
 use Rattle.pv_missing.specs.Verdicts.{HaveVerdicts, IsFirstImpossible, IsLive, IsVerdict, PlainVerdicts}
-use Rattle.pv_missing.proofs.VerdictLists.{first_from, first_own, live_of}
+use Rattle.pv_missing.proofs.VerdictLists.{first_from, first_own}
 use Rattle.pv_tree.specs.Lists.{Listed, an_element, lists_at, lists_from, lists_of, the_document}
 use Rattle.pv_tree.specs.Plain.{Forest, PlainDoc, Tree, cdata_node, element, misc_node, no_trees, text_node, tree}
 use Rattle.pv_tree.proofs.Every.{all_joined}

@@ -1,5 +1,5 @@
 -- The first Impossible one of the lists that a change changes.
-use Rattle.std.proofs.Common.{Bool, List, None, Option, Some, [], ap, false, refl, subst, suc, sym, true, zero, ℕ, ◌++◌, ◌∙◌, ◌∷◌, ◌≡◌}
+use Rattle.std.proofs.Common.{Bool, List, Option, Some, [], ap, false, refl, subst, suc, sym, true, zero, ℕ, ◌++◌, ◌∙◌, ◌∷◌, ◌≡◌}
 use Rattle.std.specs.List.{AllByRecursion, between}
 use Rattle.pv_cache.specs.Changed.{AreJudged, IsFirstAmong, IsFirstImpossibleAt, IsInnerJudged, IsLiveAt, inner_first, outer_first, owner_at}
 use Rattle.pv_cache.specs.Laws.{FirstIsFirstAmong}
@@ -17,7 +17,7 @@ use Rattle.pv_edit.proofs.Whole.{Made}
 use Rattle.pv_missing.specs.Verdicts.{IsLiveBy}
 use Rattle.pv_missing.proofs.VerdictLists.{live_of}
 use Rattle.pv_tree.specs.Lists.{Owner, an_element}
-use Rattle.pv_tree.specs.Places.{Spot, list_at, spot_at}
+use Rattle.pv_tree.specs.Places.{spot_at}
 use Rattle.pv_tree.specs.Places.{at_node as at_spot}
 use Rattle.pv_tree.specs.Plain.{Ending, Forest, PlainDoc, Tree, element, forest_of, trees_of}
 use Rattle.pv_tree.specs.declared.nodes.Mark.{Mark}
@@ -35,7 +35,7 @@ pub one_first_at : {M : Type 0} (g : PlainDtd) (root : List ℕ) (doc : PlainDoc
 one_first_at g root doc paths p q x y = one_place (IsLiveAt g root doc) x.before x.after y.before y.after p q (sym x.is_split ∙ y.is_split) x.all_before y.all_before x.is_not y.is_not
 
 -- ---- owners after a change
-owner_stays : (m : Mark) (list : List ℕ) (c : Change Mark) (root : Tree Mark) (ts : List (Tree Mark)) → Made m list c root ts → owner_at list (root_after list c root) ≡ owner_at list root
+pub owner_stays : (m : Mark) (list : List ℕ) (c : Change Mark) (root : Tree Mark) (ts : List (Tree Mark)) → Made m list c root ts → owner_at list (root_after list c root) ≡ owner_at list root
 owner_stays m [] c root ts d = refl
 owner_stays m (zero ∷ path) c root ts d =
     let o = d.owner in
@@ -43,7 +43,7 @@ owner_stays m (zero ∷ path) c root ts d =
     root-name path (change_below path (owner_after c) root) o.name o.attrs _ _ o.mark (node_changed (owner_after c) n) ∙ sym (root-name path root o.name o.attrs o.ending o.kids o.mark n)
 owner_stays m (suc k ∷ path) c root ts d = let h = at_node d.owner.node in absurd cc
 
-owner_here : (path : List ℕ) (root : Tree Mark) (x attrs : List ℕ) (e : Ending) (kids : Forest Mark) (m : Mark) → spot_at path root ≡ Some (at_spot (element x attrs e kids m)) → owner_at path root ≡ an_element x
+pub owner_here : (path : List ℕ) (root : Tree Mark) (x attrs : List ℕ) (e : Ending) (kids : Forest Mark) (m : Mark) → spot_at path root ≡ Some (at_spot (element x attrs e kids m)) → owner_at path root ≡ an_element x
 owner_here [] root x attrs e kids m s = absurd cc
 owner_here (i ∷ path) root x attrs e kids m s = ap (λ o. an_element (name_on o)) s
 

@@ -1,5 +1,5 @@
 -- Why a change isn't accepted, as the ground of an edit.
-use Rattle.std.proofs.Common.{List, None, Option, ap, arith, false, true, subst, sym, ℕ, ◌+◌, ◌∷◌, ◌≡◌, ◌≤◌, ◌<◌}
+use Rattle.std.proofs.Common.{List, None, Option, ap, arith, false, true, subst, sym, ℕ, ◌+◌, ◌≡◌, ◌≤◌, ◌<◌}
 use Rattle.std.proofs.Math.Logic.{∥∥₁_map}
 use Rattle.std.specs.List.{AllByRecursion}
 use Rattle.pv_dtd.specs.Plain.{PlainDtd}

@@ -25,6 +25,7 @@ pub mod Accepts
 pub mod FirstChanged
 pub mod Grounds
 pub mod OneGround
+pub mod WithoutGround
 pub mod Laid
 pub mod Moved
 pub mod LaidLevels

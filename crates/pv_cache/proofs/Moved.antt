@@ -1,7 +1,7 @@
 -- A change that an edit or an inverse makes, as a move of a document with stamps.
-use Rattle.std.proofs.Common.{List, None, Option, Some, [], ap, arith, length, nat_lt, refl, subst, sym, ℕ, ◌+◌, ◌<◌, ◌≤◌, ◌∙◌, ◌∷◌, ◌≡◌, true, false}
+use Rattle.std.proofs.Common.{List, None, Option, [], ap, arith, length, nat_lt, subst, sym, ℕ, ◌+◌, ◌<◌, ◌≤◌, ◌∙◌, ◌∷◌, ◌≡◌, true, false}
 use Rattle.std.proofs.Math.Bridge.{le_prop}
-use Rattle.std.proofs.Math.Logic.{∥∥₁_elim, ∥∥₁_map, ∥∥₁_prop}
+use Rattle.std.proofs.Math.Logic.{∥∥₁_elim, ∥∥₁_map}
 use Rattle.std.proofs.lemmas.Bool.{ltb-false, ltb-true}
 use Rattle.std.proofs.lemmas.Result.{err_from_is_err_and}
 use Rattle.std.specs.Prelude.{Err, IfErr, Result}
@@ -11,7 +11,7 @@ use Rattle.std.specs.List.{AllByRecursion}
 use Rattle.pv_dtd.specs.Plain.{PlainDtd}
 use Rattle.pv_edit.specs.Brought.{BringsBare, lists_changed}
 use Rattle.pv_edit.specs.ChangedLists.{changed_lists, makes, undoes}
-use Rattle.pv_edit.specs.Changes.{Change, doc_after, root_after}
+use Rattle.pv_edit.specs.Changes.{Change, doc_after}
 use Rattle.pv_edit.specs.Counts.{nodes_made, nodes_taken}
 use Rattle.pv_edit.specs.Effects.{change_of}
 use Rattle.pv_edit.specs.Fitting.{CanChange}

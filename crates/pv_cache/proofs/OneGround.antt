@@ -1,5 +1,5 @@
 -- An edit is accepted, or has one ground to be refused on.
-use Rattle.std.proofs.Common.{List, ap, arith, refl, subst, sym, ℕ, ◌<◌, ◌≤◌, ◌≡◌}
+use Rattle.std.proofs.Common.{List, ap, arith, refl, subst, sym, ℕ, ◌≡◌}
 use Rattle.std.proofs.Math.Logic.{∥∥₁_elim}
 use Rattle.std.specs.Coded.{Coded-set, coded_list, coded_ℕ}
 use Rattle.pv_cache.specs.Accepting.{GetsNoWorse, GetsWorse, IsAccepted, IsWithinLimits}
@@ -37,7 +37,7 @@ module _ {M : Type 0} where
       ∥∥₁_elim a set (λ x. ∥∥₁_elim b set (λ y. one_first_at g root doc paths path other x y))
 
   -- as many lists can't be both more and no more
-  not_worse : (g : PlainDtd) (root : List ℕ) (doc edited : PlainDoc M) → GetsNoWorse g root doc edited → GetsWorse g root doc edited → ⊥
+  pub not_worse : (g : PlainDtd) (root : List ℕ) (doc edited : PlainDoc M) → GetsNoWorse g root doc edited → GetsWorse g root doc edited → ⊥
   not_worse g root doc edited (m, n, a, le) (k, l, b, lt) =
       let p = one_count_of_lists M is_impossible g root (lists_of doc) m k a.had b.had in
       let q = one_count_of_lists M is_impossible g root (lists_of edited) n l a.has b.has in
@@ -53,7 +53,7 @@ module _ {M : Type 0} where
     within_same : (x y : PlainDoc M) → Given x → Given y → Within x → Within y
     within_same x y a b w = subst Within (same_given _ x y a b) w
 
-    no_ground : (edited : PlainDoc M) (answer : EditAnswer) → IsAccepted blank g root doc edit edited → HasGround blank g root doc edit answer → answer ≡ NoMemory
+    pub no_ground : (edited : PlainDoc M) (answer : EditAnswer) → IsAccepted blank g root doc edit edited → HasGround blank g root doc edit answer → answer ≡ NoMemory
     no_ground edited (Shape reason) a h = absurd (not_both _ edited reason a.is_edited h)
     no_ground edited Limit a (d, e, n) = absurd (n (within_same edited d a.is_edited e a.within))
     no_ground edited (Impossible path) a (d, e, w, n, f) =

@@ -1,11 +1,11 @@
 -- What holds of a task that can be done, and of its verdicts.
-use Rattle.std.proofs.Common.{◌≡◌, ◌∙◌, ap, sym, refl, ℕ, ◌<◌, ◌≤◌, ◌^◌, true, false, List, [], ◌∷◌, ◌++◌, length, not, Option, Some, None, arith, subst}
+use Rattle.std.proofs.Common.{◌≡◌, ◌∙◌, ap, sym, refl, ℕ, ◌<◌, ◌≤◌, ◌^◌, true, false, List, [], ◌∷◌, length, not, Option, Some, None, arith, subst}
 use Rattle.std.specs.Prelude.{Err, IfErr, IfOk, IfSome, MatchOption, Ok, Result}
-use Rattle.std.specs.List.{AllByRecursion, between}
+use Rattle.std.specs.List.{between}
 use Rattle.std.proofs.lemmas.List.{length-map}
 use Rattle.pv_dtd.specs.Plain.{PlainDtd}
 use Rattle.pv_edit.specs.Brought.{brings_element}
-use Rattle.pv_edit.specs.Changes.{Change, doc_after, in_place_of, list_after}
+use Rattle.pv_edit.specs.Changes.{Change, in_place_of, list_after}
 use Rattle.pv_edit.specs.Fitting.{CanChange, Suits}
 use Rattle.pv_edit.specs.Reasons.{is_given, is_top, kids_at, lacks_list}
 use Rattle.pv_edit.proofs.KeptBack.{can-made}
@@ -18,7 +18,6 @@ use Rattle.pv_missing.specs.Widths.{FitsVerdict}
 use Rattle.pv_missing.specs.WordVerdicts.{HoldsOne}
 use Rattle.pv_model.specs.PlainForms.{plain_token}
 use Rattle.pv_rules.specs.Sites.{PlainSite}
-use Rattle.pv_tree.specs.Lists.{an_element, lists_of}
 use Rattle.pv_tree.specs.Legal.{MAX_NODES}
 use Rattle.std.specs.Option.{option_and_then}
 use Rattle.pv_tree.specs.Places.{list_of}

@@ -6,7 +6,7 @@ use Rattle.std.proofs.lemmas.List.Sums.{sum_by-cons}
 use Rattle.pv_dtd.specs.Plain.{PlainDtd}
 use Rattle.pv_missing.specs.Verdicts.{AreVerdicts, impossible_in, is_impossible, is_possible, possible_in}
 use Rattle.pv_missing.specs.Widths.{IsListForVerdict}
-use Rattle.pv_tree.specs.Lists.{Listed, an_element, lists_at, lists_from, lists_of, the_document}
+use Rattle.pv_tree.specs.Lists.{Listed, lists_at, lists_from, lists_of}
 use Rattle.pv_tree.specs.Plain.{Forest, PlainDoc, Tree, cdata_node, element, misc_node, no_trees, text_node, tree, nodes_in, nodes_in_all}
 use Rattle.pv_tree.proofs.Every.{all_joined}
 use Rattle.pv_tree.specs.declared.nodes.Mark.{Mark}

@@ -9,7 +9,7 @@ use Rattle.pv_edit.specs.declared.answers.VerdictRow.{VerdictRow}
 use Rattle.pv_edit.proofs.Levels.{forest-trees}
 use Rattle.pv_edit.proofs.Remarked.{forest-as, node-as}
 use Rattle.pv_edit.proofs.Standing.{NodeAt, at_node, node_at}
-use Rattle.pv_missing.specs.Verdicts.{AreVerdicts, IsVerdict, PlainVerdicts}
+use Rattle.pv_missing.specs.Verdicts.{AreVerdicts, IsVerdict}
 use Rattle.pv_missing.proofs.VerdictHeads.{verdict_by_heads}
 use Rattle.pv_tree.specs.Lists.{Owner, an_element, lists_at, lists_from, lists_of, the_document}
 use Rattle.pv_tree.specs.Places.{list_at, list_of, node_below, spot_at}
@@ -18,7 +18,7 @@ use Rattle.pv_tree.specs.Plain.{Ending, Forest, PlainDoc, Tree, cdata_node, elem
 use Rattle.pv_tree.specs.declared.nodes.Mark.{Mark}
 use Rattle.pv_tree.specs.declared.nodes.Verdict.{Verdict}
 use Rattle.pv_cache.specs.Changed.{owner_at}
-use Rattle.pv_cache.specs.Rows.{AreRows, IsVerdictAt, TellVerdicts, marks_in, marks_in_all, path_of, row_path, row_stamp, row_verdict, rows_at, rows_from, rows_of}
+use Rattle.pv_cache.specs.Rows.{AreRows, IsVerdictAt, marks_in, marks_in_all, path_of, row_path, row_stamp, row_verdict, rows_at, rows_from, rows_of}
 use Rattle.pv_cache.specs.Stamps.{stamp_of, stamped_doc_of, stamps_of}
 use Rattle.pv_cache.specs.WellMarked.{IsWellMarked, TellsList, told_verdict, told_verdicts, told_verdicts_in, verdicts_told}
 use Rattle.pv_cache.proofs.Alike.{list_at_as}

@@ -1,9 +1,10 @@
 -- What holds of grounds to refuse an edit. M and N are types of marks.
-use Rattle.std.specs.Prelude.{List, ℕ, ◌↔◌, ◌≡◌}
-use Rattle.pv_cache.specs.Accepting.{IsAccepted, KeepsPossible}
+use Rattle.std.specs.Prelude.{IsTrue, List, ℕ, ◌↔◌, ◌≡◌}
+use Rattle.pv_cache.specs.Accepting.{HaveBoth, IsAccepted, IsHoldable, KeepsPossible}
 use Rattle.pv_cache.specs.Moves.{HasGround}
 use Rattle.pv_dtd.specs.Plain.{PlainDtd}
 use Rattle.pv_dtd.specs.Proper.{IsProperDtd}
+use Rattle.pv_edit.specs.Reasons.{applied, gives}
 use Rattle.pv_edit.specs.declared.answers.EditAnswer.{EditAnswer}
 use Rattle.pv_edit.specs.declared.answers.EditAnswer.TheVariants.{NoMemory}
 use Rattle.pv_edit.specs.declared.edits.Edit.{Edit}
@@ -11,7 +12,7 @@ use Rattle.pv_missing.specs.Proper.{IsProperDoc}
 use Rattle.pv_missing.specs.Verdicts.{AreVerdicts, HaveImpossible}
 use Rattle.pv_tree.specs.Lists.{lists_of}
 use Rattle.pv_tree.specs.Marks.{unmarked_doc}
-use Rattle.pv_tree.specs.Plain.{PlainDoc}
+use Rattle.pv_tree.specs.Plain.{PlainDoc, is_element}
 use Rattle.pv_tree.specs.declared.nodes.Verdict.{Verdict}
 
 -- An accepted edit has no ground to be refused on, whatever the marks of the document are; only
@@ -21,6 +22,16 @@ AcceptedHasNoGround M N = (blank : M) (other : N) (g : PlainDtd) (root : List �
     (same : PlainDoc N) (edit : Edit) (edited : PlainDoc M) (answer : EditAnswer) →
     unmarked_doc doc ≡ unmarked_doc same → IsAccepted blank g root doc edit edited →
     HasGround other g root same edit answer → answer ≡ NoMemory
+
+-- An edit that can be made is accepted exactly where it has no ground to be refused on but want of
+-- memory. The document can be held, and so many lists of it and of the edited one are Impossible.
+abbrev pub AcceptedExactlyWithoutGround : Type 0 → Type 0
+AcceptedExactlyWithoutGround M = (blank : M) (g : PlainDtd) (root : List ℕ)
+    (doc edited : PlainDoc M) (edit : Edit) (before after : ℕ) → IsTrue (is_element doc.root) →
+    IsHoldable g doc → ∥ HaveBoth g root doc edited before after ∥₁ →
+    applied blank doc edit ≡ gives edited →
+    IsAccepted blank g root doc edit edited ↔
+    ((answer : EditAnswer) → HasGround blank g root doc edit answer → answer ≡ NoMemory)
 
 -- Where no list of a document is Impossible, an edit of it is accepted exactly where it can be made
 -- within the limits and inserting elements can make the edited document valid. The lists of that

@@ -1,14 +1,16 @@
 //! Laws of well marked documents, and of the grounds on which edits are refused. `M` and `N` are
 //! types of marks.
 
-ghost use Rattle.pv_cache.specs.GroundLaws.{AcceptedHasNoGround, HasOneGround};
-ghost use Rattle.pv_cache.specs.GroundLaws.{AcceptsThePossible};
+ghost use Rattle.pv_cache.specs.GroundLaws.{AcceptedExactlyWithoutGround, AcceptedHasNoGround};
+ghost use Rattle.pv_cache.specs.GroundLaws.{AcceptsThePossible, HasOneGround};
 ghost use Rattle.pv_cache.specs.Laws.{FirstIsFirstAmong, HasOneBad, HasOneOpen, HasOneRows};
 ghost use Rattle.pv_cache.specs.Laws.{MarksTell, MendedIsCounted, MendedIsMarked};
 ghost use Rattle.pv_cache.specs.Laws.{MendingKeepsDocuments};
 ghost use Rattle.pv_cache.specs.MarkLaws.{HoldsByOtherMarks};
 
+use pv_edit::laws::{changed_lists_law, changes_law};
 use pv_missing::laws::verdicts::none_impossible_law;
+use pv_tree::Mark;
 
 /// The marks of a well marked document tell the verdicts of all its lists, how many are Possible,
 /// how many Impossible, and how many nodes there are. No list is too wide.
@@ -61,6 +63,14 @@ pub fn first_impossible_law()
 pub fn accepted_law<M, N>()
     ensures { AcceptedHasNoGround M N }
 {}
+
+/// An edit that can be made is accepted exactly where it has no ground to be refused on.
+pub fn without_ground_law<M>()
+    ensures { AcceptedExactlyWithoutGround M }
+{
+    changes_law::<Mark>();
+    changed_lists_law::<Mark>();
+}
 
 /// Where no list is impossible, an edit is accepted exactly where inserting elements can make the
 /// edited document valid, and it is within the limits.

@@ -50,7 +50,7 @@ edit-bare blank root (SetText path text) = ((refl, tt), λ h. refl)
 edit-bare blank root (AddText path at text) = ((refl, tt), λ h. refl)
 edit-bare blank root (DelText path) = (tt, λ h. absurd cc)
 
-edit-unshort : {M : Type 0} (blank : M) (root : Tree M) (edit : Edit) → (change_of blank root edit).shorten ≡ false
+pub edit-unshort : {M : Type 0} (blank : M) (root : Tree M) (edit : Edit) → (change_of blank root edit).shorten ≡ false
 edit-unshort blank root (Wrap path from to name) = refl
 edit-unshort blank root (Insert path at name) = refl
 edit-unshort blank root (Unwrap path) = refl

@@ -4,10 +4,12 @@ use Rattle.std.specs.List.{list_any}
 use Rattle.pv_chars.specs.Units.{TextMeans}
 use Rattle.pv_tree.specs.Plain.{Tree, PlainDoc, is_element, nodes_in}
 use Rattle.pv_tree.specs.Places.{list_at}
-use Rattle.pv_edit.specs.Brought.{lists_changed}
+use Rattle.pv_edit.specs.Brought.{BringsBare, lists_changed}
 use Rattle.pv_edit.specs.ChangedLists.{changed_lists, makes, undoes}
+use Rattle.pv_edit.specs.Changes.{Change, doc_after}
 use Rattle.pv_edit.specs.Counts.{nodes_made, nodes_taken}
 use Rattle.pv_edit.specs.Effects.{change_of}
+use Rattle.pv_edit.specs.Fitting.{CanChange}
 use Rattle.pv_edit.specs.Origins.{IsKeptList, IsNone}
 use Rattle.pv_tree.specs.Legal.{MAX_NODES}
 use Rattle.pv_tree.specs.Marks.{unmarked_doc}
@@ -67,6 +69,20 @@ OtherListsStayUndone M = (blank : M) (inverse : Inverse) (doc : PlainDoc M) (bef
     ≡ Some kids →
     IsNone path (changed_lists (undoes l.edit)) →
     IsKeptList (change_back blank doc.root inverse) doc (doc_back blank doc inverse) path
+
+-- A change makes one document of another: the list that it changes can be changed so, its owner's
+-- tags stay, and no more than one element comes, without kids.
+pub record IsMadeBy {M : Type 0} (c : Change M) (doc made : PlainDoc M) : Type 0 where
+  pub can : CanChange c.list c doc.root
+  pub unshort : c.shorten ≡ false
+  pub bare : BringsBare c.filling
+  pub is_made : doc_after c doc ≡ made
+
+-- What an edit makes of a document is made by its change.
+abbrev pub EditsAreChanges : Type 0 → Type 0
+EditsAreChanges M = (blank : M) (doc made : PlainDoc M) (edit : Edit) →
+    IsTrue (is_element doc.root) → applied blank doc edit ≡ gives made →
+    IsMadeBy (change_of blank doc.root edit) doc made
 
 -- The lists that an edit changes are those that its change changes.
 abbrev pub EditsChangeLists : Type 0 → Type 0

@@ -1,6 +1,7 @@
 //! Laws on edits and their inverses. `M` is a type of marks.
 
-ghost use Rattle.pv_edit.specs.Laws.{EditsChangeLists, EditsKeep, InversesChangeLists};
+ghost use Rattle.pv_edit.specs.Laws.{EditsAreChanges, EditsChangeLists, EditsKeep};
+ghost use Rattle.pv_edit.specs.Laws.{InversesChangeLists};
 ghost use Rattle.pv_edit.specs.Laws.{InversesLeadBack, LeadsToOne};
 ghost use Rattle.pv_edit.specs.Laws.{MarksDontCount, NewTextsMeanUnits, NodesAreCounted};
 ghost use Rattle.pv_edit.specs.Laws.{OtherListsStay, OtherListsStayUndone, TagsKeepLeaves};
@@ -44,6 +45,11 @@ pub fn other_lists_undone_law<M>()
 /// An edit does the same whatever the marks of the document are.
 pub fn marks_law<M>()
     ensures { MarksDontCount M }
+{}
+
+/// What an edit makes of a document is made by its change.
+pub fn changes_law<M>()
+    ensures { EditsAreChanges M }
 {}
 
 /// The lists that an edit and its inverse change are those that their changes change.

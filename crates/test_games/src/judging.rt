@@ -24,28 +24,29 @@ use test_fixture::dtds::ARTICLE;
 /// The greatest number of nodes of a document that is edited.
 const MAX_NODES: u64 = 33_554_432;
 
-// A document with its verdicts, for the root doc.
+// A document with its verdicts.
 fn marked_on<L: Ledger>(
     alloc: Global,
     grammar: Grammar,
+    root: &[u8],
     doc: Doc,
     steps: &mut Steps<L>,
 ) -> Result<Marked, Fail>
     requires { nodes_in (plain_doc doc).root ≤ MAX_EDITED_NODES }
 {
-    let verdicts = check_doc(alloc, &grammar, b"doc", &doc, steps)?;
-    let root = bytes_of(alloc, b"doc")?;
+    let verdicts = check_doc(alloc, &grammar, root, &doc, steps)?;
+    let root = bytes_of(alloc, root)?;
     Ok(Marked::build(alloc, grammar, root, doc, verdicts)?)
 }
 
-// The same of the text of a document.
+// The same of the text of a document, for the root doc.
 fn marked<L: Ledger>(alloc: Global, text: &str, steps: &mut Steps<L>) -> Result<Marked, Fail> {
     let grammar = build(alloc, dtd_of(alloc, ARTICLE)?)?;
     let doc = read_doc(alloc, text.as_bytes(), b"doc")?;
     if doc.nodes() > MAX_NODES {
         return Err(Fail::new("too many nodes"));
     }
-    marked_on(alloc, grammar, doc, steps)
+    marked_on(alloc, grammar, b"doc", doc, steps)
 }
 
 // What an answer says: an impossible list's path, or a reason.
@@ -149,6 +150,35 @@ static JUDGED: [(&str, &str, Wanted); 7] = [
     ),
 ];
 
+// What is wanted of the edit of this line.
+fn judge_line<L: Ledger>(
+    alloc: Global,
+    document: &mut Marked,
+    line: &str,
+    wanted: &Wanted,
+    steps: &mut Steps<L>,
+) -> Result<(), Fail> {
+    let Command::Edit(edit) = read_command(alloc, line.as_bytes())? else {
+        return Err(Fail::new("no edit"));
+    };
+    match wanted {
+        Wanted::Refused(kind, places) => { expect_refused(document, &edit, (kind, places), steps) }
+        Wanted::Accepted(bad) => expect_accepted(document, &edit, *bad, steps),
+    }
+}
+
+// The same of a line for a document.
+fn judge_text<L: Ledger>(
+    alloc: Global,
+    text: &str,
+    line: &str,
+    wanted: &Wanted,
+    steps: &mut Steps<L>,
+) -> Result<(), Fail> {
+    let mut document = marked(alloc, text, steps)?;
+    judge_line(alloc, &mut document, line, wanted, steps)
+}
+
 fn judge_all<L: Ledger>(alloc: Global, blank: Blank) -> Result<(), Fail>
     requires name { blank.name ≡ L.name }
     requires parts { blank.parts ≡ L.parts }
@@ -156,16 +186,7 @@ fn judge_all<L: Ledger>(alloc: Global, blank: Blank) -> Result<(), Fail>
 {
     let mut steps = Steps::<L>::start(blank);
     for (text, line, wanted) in &JUDGED {
-        let mut document = marked(alloc, text, &mut steps)?;
-        let Command::Edit(edit) = read_command(alloc, line.as_bytes())? else {
-            return Err(Fail::new("no edit"));
-        };
-        match wanted {
-            Wanted::Refused(kind, places) => {
-                expect_refused(&mut document, &edit, (kind, places), &mut steps)?;
-            }
-            Wanted::Accepted(bad) => expect_accepted(&mut document, &edit, *bad, &mut steps)?,
-        }
+        judge_text(alloc, text, line, wanted, &mut steps)?;
     }
     Ok(())
 }

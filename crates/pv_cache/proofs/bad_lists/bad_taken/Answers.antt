@@ -1,4 +1,4 @@
-use Rattle.std.proofs.Common.{arith, ap, ◌≡◌, ◌≤◌, ◌∙◌}
+use Rattle.std.proofs.Common.{arith, ap, ◌≤◌, ◌∙◌}
 use Rattle.std.specs.List.{between}
 use Rattle.pv_edit.proofs.Filled.{slice_plain}
 use Rattle.pv_edit.specs.Fitting.{plain_filling}

@@ -1,4 +1,4 @@
-use Rattle.std.proofs.Common.{subst, sym}
+use Rattle.std.proofs.Common.{subst}
 use Rattle.pv_tree.specs.PlainDocs.{plain_doc}
 use Rattle.pv_cache.specs.Moves.{HasBad}
 use Rattle.pv_cache.specs.Stamps.{StampedDoc}

@@ -1,14 +1,13 @@
-use Rattle.std.proofs.Common.{List, ap, arith, subst, sym, ◌+◌, ◌≡◌, ◌≤◌, ◌∙◌}
+use Rattle.std.proofs.Common.{List, ap, arith, subst, sym, ◌≡◌, ◌∙◌}
 use Rattle.std.specs.List.{between}
-use Rattle.pv_edit.specs.Fitting.{Suits, plain_filling, plain_task}
+use Rattle.pv_edit.specs.Fitting.{Suits, plain_task}
 use Rattle.pv_edit.specs.Reasons.{items_of, kids_at}
-use Rattle.pv_tree.specs.Legal.{MAX_NODES}
 use Rattle.pv_tree.specs.Places.{spot_at}
 use Rattle.pv_tree.specs.Plain.{Tree, forest_of, nodes_in_all}
 use Rattle.pv_tree.specs.PlainDocs.{plain_doc}
 use Rattle.pv_tree.specs.PlainForms.{plain_all}
 use Rattle.pv_tree.specs.declared.nodes.Mark.{Mark}
-use Rattle.pv_cache.specs.BadLists.{bad_gone, own_at}
+use Rattle.pv_cache.specs.BadLists.{bad_gone}
 use Rattle.pv_cache.proofs.Counting.{few-between, gone-few, own-at-small}
 use Rattle.pv_cache.proofs.Tasks.{task-few, task-suits}
 use Rattle.pv_cache.proofs.well_marked.WellMarked.bad_lost.Goals as goal
