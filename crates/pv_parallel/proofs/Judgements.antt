@@ -121,6 +121,21 @@ joined_next judged n one here before after last h e ok new so_far more =
     let behind : AreJoined (drop n judged) (here.items ++ last) = subst (λ (l : List (Result (Vec Verdict Global) ReachError)). AreJoined l (here.items ++ last)) (sym whole) (last, refl, more) in
     subst (AreJoined judged) (sym (ap (λ (l : List Verdict). l ++ last) new ∙ append_assoc before here.items last)) (so_far (here.items ++ last) behind)
 
+-- what came of one more job stands behind what came of those before it
+pub in_turn_next : {A B : Type 0} (R : A → B → Type 0) (jobs : List A) (n : ℕ) (job : A) (one : B)
+    (before after last : List B) → n < length jobs → job ≡ get_or jobs n job → R job one →
+    after ≡ before ++ one ∷ [] →
+    ((rest : List B) → AllZip R (drop n jobs) rest → AllZip R jobs (before ++ rest)) →
+    AllZip R (drop (n + 1) jobs) last → AllZip R jobs (after ++ last)
+in_turn_next {A} {B} R jobs n job one before after last h e of new so_far more =
+    let whole : drop n jobs ≡ job ∷ drop (n + 1) jobs =
+    drop_more jobs n job h ∙ ap (λ (j : A). j ∷ drop (n + 1) jobs) (sym e) in
+    let behind : AllZip R (drop n jobs) (one ∷ last) =
+    subst (λ (l : List A). AllZip R l (one ∷ last)) (sym whole) (of, more) in
+    subst (AllZip R jobs)
+    (sym (ap (λ (l : List B). l ++ last) new ∙ append_assoc before (one ∷ []) last))
+    (so_far (one ∷ last) behind)
+
 pub narrow_next : (judged : List (Result (Vec Verdict Global) ReachError)) (n : ℕ) (one : Result (Vec Verdict Global) ReachError) → n < length judged → one ≡ get_or judged n one → AllByRecursion (λ one. one ≢ Err TooWide) (drop n judged) →
     AllByRecursion (λ one. one ≢ Err TooWide) (drop (n + 1) judged)
 narrow_next judged n one h e all = (subst (AllByRecursion (λ (o : Result (Vec Verdict Global) ReachError). o ≢ Err TooWide)) (drop_more judged n one h) all).1

@@ -38,6 +38,9 @@ pub type Judged = Result<Vec<Verdict>, ReachError>;
 // The fewest pieces of work that are worth a thread.
 const PIECES: usize = 8;
 
+// The fewest that are worth more threads than one.
+const MANY: usize = 4;
+
 // The verdict of a list, found on a counter of its own.
 fn verdict_on<L: Ledger>(
     judge: &Judge<'_>,
@@ -159,8 +162,25 @@ fn judge_job<G: Gate>(judge: &Judge<'_>, root: &[u8], job: &Job<'_>, gate: &G) -
     }
 }
 
-/// Judges the lists of these jobs by as many threads as there are processors, each list when its
-/// number was told; what came of the jobs stands in their order.
+// Judges the lists of these jobs, one after the other.
+fn judge_in_turn<G: Gate>(
+    judge: &Judge<'_>,
+    root: &[u8],
+    jobs: &[Job<'_>],
+    gate: &G,
+) -> Result<Vec<Judged>, AllocError>
+    ensures { IfOk result (λ judged. AllZip (JudgesJob (dtd_of judge.now) root.now
+        (G.entered gate.now)) jobs.now judged.items) }
+{
+    let mut judged = Vec::new(judge.alloc());
+    for job in jobs {
+        judged.push(judge_job(judge, root, job, gate))?;
+    }
+    Ok(judged)
+}
+
+/// Judges the lists of these jobs by as many threads as there are processors, where they are worth
+/// it, each list when its number was told; what came of the jobs stands in their order.
 pub fn judge_jobs<G: Gate + Sync>(
     rt: &(impl Threads + Sync),
     judge: &Judge<'_>,
@@ -171,6 +191,9 @@ pub fn judge_jobs<G: Gate + Sync>(
     ensures { IfOk result (λ judged. AllZip (JudgesJob (dtd_of judge.now) root.now
         (G.entered gate.now)) jobs.now judged.items) }
 {
+    if jobs.len() < MANY {
+        return judge_in_turn(judge, root, jobs, gate);
+    }
     jobs.par_iter()
         .with_min_len(PIECES)
         .map(
