@@ -12,7 +12,7 @@ use Rattle.pv_tree.specs.declared.nodes.Mark.{Mark}
 use Rattle.pv_missing.specs.Completing.{LeavesOut, out_done, out_kept, out_leaf, out_new}
 use Rattle.pv_complete.specs.Completing.{IsLeastCompletion}
 
-elements_spread : (us : List (List ℕ)) (h : Hedge) → elements (spread us h) ≡ elements h
+pub elements_spread : (us : List (List ℕ)) (h : Hedge) → elements (spread us h) ≡ elements h
 elements_spread [] h = refl
 elements_spread (u ∷ us) h = elements_spread us h
 

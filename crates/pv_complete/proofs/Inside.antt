@@ -2,11 +2,11 @@
 use Rattle.std.proofs.Common.{Bool, IsTrue, List, [], false, length, refl, rules, true, ℕ, ◌&&◌, ◌∷◌, ◌≡◌}
 use Rattle.std.specs.Prelude.{◌==◌}
 use Rattle.std.proofs.Math.Logic.{∥∥₁_elim}
-use Rattle.std.proofs.lemmas.Bool.{and_from}
+use Rattle.std.proofs.lemmas.Bool.{and_from, and_parts}
 use Rattle.std.specs.List.{list_all}
 use Rattle.pv_chars.specs.Names.{is_name}
 use Rattle.pv_chars.proofs.NameLemmas.{is_name-IsName}
-use Rattle.pv_dtd.specs.Facts.{AreLegal}
+use Rattle.pv_dtd.specs.Facts.{AreLegal, are_distinct, is_short}
 use Rattle.pv_dtd.specs.PlainForms.{plain_dtd}
 use Rattle.pv_dtd.specs.declared.dtd.Dtd.{Dtd}
 use Rattle.pv_tree.specs.Legal.{has_names, has_no_close_mark, is_formed, starts_no_close_mark}
@@ -20,6 +20,7 @@ use Rattle.pv_tree.proofs.Decidable.{had}
 use Rattle.pv_tree.proofs.DecidedForms.{epilog, legal}
 use Rattle.pv_complete.specs.PieceForms.{plain_pieces}
 use Rattle.pv_complete.specs.declared.words.pieces.Piece.{Piece}
+use Rattle.pv_complete.specs.Growing.{HasShortNames}
 use Rattle.pv_complete.specs.Writable.{AreWritable, HasNames}
 
 all_names : (xs : List (List ℕ)) → AreLegal xs → list_all is_name xs ≡ true
@@ -32,6 +33,9 @@ names_are xs h false e = absurd (∥∥₁_elim h (λ x. absurd x) (λ a. let t 
 
 pub dtd_names : (d : Dtd) → HasNames (plain_dtd d)
 dtd_names d = names_are (plain_dtd d).names d.legal (list_all is_name (plain_dtd d).names) refl
+
+pub short_names : (d : Dtd) → HasShortNames (plain_dtd d)
+short_names d = (and_parts (list_all is_short (plain_dtd d).names) (are_distinct (plain_dtd d).names) d.distinct).0
 
 starts_alone : (t : Tree Mark) → IsTrue (is_element t) → IsTrue (starts_no_close_mark t no_trees)
 starts_alone (element x a e k m) is = refl

@@ -1,9 +1,10 @@
 -- A document whose list is completed is a least completion.
 use Rattle.std.proofs.Common.{IsTrue, List, None, Option, Some, [], ap, append-nil, arith, length, refl, subst, suc, sym, true, ℕ, ◌&&◌, ◌++◌, ◌+◌, ◌∙◌, ◌∷◌, ◌≡◌}
 use Rattle.std.proofs.lemmas.Bool.{and_parts}
+use Rattle.std.proofs.lemmas.List.{length-append}
 use Rattle.std.specs.List.{AllByRecursion}
 use Rattle.pv_model.specs.Plain.{named}
-use Rattle.pv_dtd.specs.Hedge.{IsValid, done, elements, token}
+use Rattle.pv_dtd.specs.Hedge.{AreGood, IsValid, done, elements, token}
 use Rattle.pv_dtd.specs.Plain.{PlainDtd, number_of}
 use Rattle.pv_dtd.specs.Proper.{IsProperDtd}
 use Rattle.pv_dtd.proofs.Proper.{one_name}
@@ -29,7 +30,7 @@ use Rattle.pv_missing.specs.Verdicts.{AreVerdicts, IsLiveRoot}
 use Rattle.pv_missing.specs.Weighing.{SumIsLeast}
 use Rattle.pv_tables.specs.WeightLaws.{PossibleWeigh, PossibleWeightsAddUp}
 use Rattle.pv_complete.specs.Completing.{IsLeastCompletion}
-use Rattle.pv_complete.specs.Growing.{Grows, IsGrownText}
+use Rattle.pv_complete.specs.Growing.{Grows, HasShortNames, IsBounded, IsGrownText}
 use Rattle.pv_complete.specs.Events.{Event, events_text, marks_from, new_end, new_start, news, old_bytes, old_start, opens}
 use Rattle.pv_complete.specs.Merging.{AreValidTrees, IsCompletedList, IsValidTree}
 use Rattle.pv_complete.specs.Needing.{Needs}
@@ -39,6 +40,7 @@ use Rattle.pv_complete.specs.Written.{AreListPieces, Passes, WritesDoc}
 use Rattle.pv_complete.proofs.Completed.{merged_completed}
 use Rattle.pv_complete.proofs.Keeping.{keeps_none}
 use Rattle.pv_complete.proofs.Merging.{beside-none}
+use Rattle.pv_complete.proofs.Sizes.{tree_sizes}
 use Rattle.pv_complete.proofs.Walks.{passes_join}
 
 marks_length : (m : ℕ) (es : List Event) → length (marks_from m es) ≡ news es
@@ -145,24 +147,11 @@ root_of_list g root y old before after mark new es n k is rooted writable c = re
     same_name : o.name ≡ root
     same_name = one_name g o.name root y o.number is
 
--- the text of a completed document
+-- the text of a completed document, and how long it is where names are short
 completed_whole : (g : PlainDtd) (root : List ℕ) (doc : PlainDoc Mark) (es : List Event) (s count : ℕ) (marks body : List ℕ) → WritesEveryView → TagsExtend → IsProlog root doc.before → IsEpilog doc.after →
     Needs g root doc count → SumIsLeast g root s (view doc.root) → IsCompletedRoot g root doc.root es s → marks ≡ marks_from 0 es → body ≡ doc.before ++ events_text es ++ doc.after →
-    IsLeastCompletion g root doc count marks body
-completed_whole g root doc es s count marks body written tags_extend prolog epilog needs sum c are_marks is_body = record {
-  needs = needs;
-  tree = v.tree;
-  spelled = let q = v.spelled in rw same_text at q;
-  completes = record {
-    valid = let q = c.valid in rw view_same q;
-    extends = rw view_same extended;
-    inserted = rw view_same inserted;
-    same_before = refl;
-    same_after = refl;
-    counted = length_is;
-    tags = rw (view_same, are_marks) (let q = c.tags in rw opens_are at q);
-  };
-}
+    IsLeastCompletion g root doc count marks body × (HasShortNames g → IsTrue (is_formed doc.root) → IsBounded doc count body)
+completed_whole g root doc es s count marks body written tags_extend prolog epilog needs sum c are_marks is_body = (least, bounded)
   where
     new_doc : PlainDoc Mark
     new_doc = record { before = doc.before; root = c.new; after = doc.after; mark = doc.mark }
@@ -197,6 +186,31 @@ completed_whole g root doc es s count marks body written tags_extend prolog epil
     length_is : length marks ≡ count
     length_is = let n = c.count in ap length are_marks ∙ marks_length 0 es ∙ n ∙ sym same_count
 
+    least : IsLeastCompletion g root doc count marks body
+    least = record {
+      needs = needs;
+      tree = v.tree;
+      spelled = let q = v.spelled in rw same_text at q;
+      completes = record {
+        valid = let q = c.valid in rw view_same q;
+        extends = rw view_same extended;
+        inserted = rw view_same inserted;
+        same_before = refl;
+        same_after = refl;
+        counted = length_is;
+        tags = rw (view_same, are_marks) (let q = c.tags in rw opens_are at q);
+      };
+    }
+
+    good : AreGood g (view c.new)
+    good = let v = c.valid in v.good
+
+    bounded : HasShortNames g → IsTrue (is_formed doc.root) → IsBounded doc count body
+    bounded names formed =
+        let size = tree_sizes g names doc.root c.new c.grows formed good in
+        subst (λ (b : List ℕ). IsBounded doc count b) same_text
+        (omega (arith, size, inserted, length-append (doc.before ++ tree_text c.new) doc.after, length-append doc.before (tree_text c.new), length-append (doc.before ++ tree_text doc.root) doc.after, length-append doc.before (tree_text doc.root)))
+
 -- the lists of a document, as a walk goes over them
 pub whole_lists : (doc : PlainDoc Mark) → lists_of doc ≡ record { path = []; owner = the_document; kids = tree doc.root no_trees } ∷ (lists_from [] 0 (tree doc.root no_trees) ++ [])
 whole_lists doc =
@@ -226,10 +240,10 @@ walked_root g root doc vs marks body proper names rooted writable w = (p.count, 
         root_of_list g root live.number doc.root doc.before doc.after doc.mark r.0 w.events p.count w.within live.is_owner rooted writable r.1
 
 -- what a walk over a whole document has written
-pub least_completion : (g : PlainDtd) (root : List ℕ) (doc : PlainDoc Mark) (vs : List Verdict) (count : ℕ) (marks body : List ℕ) → IsProperDtd g → HasNames g → WritesEveryView → TagsExtend →
+whole : (g : PlainDtd) (root : List ℕ) (doc : PlainDoc Mark) (vs : List Verdict) (count : ℕ) (marks body : List ℕ) → IsProperDtd g → HasNames g → WritesEveryView → TagsExtend →
     PossibleWeightsAddUp Mark → IsProperDoc doc → AreWritable (tree doc.root no_trees) → IsProlog root doc.before → IsEpilog doc.after → Needs g root doc count → AreVerdicts g root (lists_of doc) vs →
-    WritesDoc g root doc vs marks body → IsLeastCompletion g root doc count marks body
-least_completion g root doc vs count marks body proper names written tags_extend adds_up proper_doc writable prolog epilog needs are w =
+    WritesDoc g root doc vs marks body → IsLeastCompletion g root doc count marks body × (HasShortNames g → IsTrue (is_formed doc.root) → IsBounded doc count body)
+whole g root doc vs count marks body proper names written tags_extend adds_up proper_doc writable prolog epilog needs are w =
     completed_whole g root doc w.events sum count marks body written tags_extend prolog epilog needs
     (adds_up g root doc vs sum proper proper_doc are needs.can.possible weighed) completed w.are_marks w.is_body
   where
@@ -253,6 +267,18 @@ least_completion g root doc vs count marks body proper names written tags_extend
 
     completed : IsCompletedRoot g root doc.root w.events sum
     completed = let r = walked_root g root doc vs marks body proper names proper_doc.rooted writable w in let e = r.1 in rw e at r.2
+
+pub least_completion : (g : PlainDtd) (root : List ℕ) (doc : PlainDoc Mark) (vs : List Verdict) (count : ℕ) (marks body : List ℕ) → IsProperDtd g → HasNames g → WritesEveryView → TagsExtend →
+    PossibleWeightsAddUp Mark → IsProperDoc doc → AreWritable (tree doc.root no_trees) → IsProlog root doc.before → IsEpilog doc.after → Needs g root doc count → AreVerdicts g root (lists_of doc) vs →
+    WritesDoc g root doc vs marks body → IsLeastCompletion g root doc count marks body
+least_completion g root doc vs count marks body proper names written tags_extend adds_up proper_doc writable prolog epilog needs are w =
+    (whole g root doc vs count marks body proper names written tags_extend adds_up proper_doc writable prolog epilog needs are w).0
+
+pub bounded_text : (g : PlainDtd) (root : List ℕ) (doc : PlainDoc Mark) (vs : List Verdict) (count : ℕ) (marks body : List ℕ) → IsProperDtd g → HasNames g → WritesEveryView → TagsExtend →
+    PossibleWeightsAddUp Mark → IsProperDoc doc → AreWritable (tree doc.root no_trees) → IsProlog root doc.before → IsEpilog doc.after → Needs g root doc count → AreVerdicts g root (lists_of doc) vs →
+    WritesDoc g root doc vs marks body → HasShortNames g → IsTrue (is_formed doc.root) → IsBounded doc count body
+bounded_text g root doc vs count marks body proper names written tags_extend adds_up proper_doc writable prolog epilog needs are w =
+    (whole g root doc vs count marks body proper names written tags_extend adds_up proper_doc writable prolog epilog needs are w).1
 
 -- its text is that of the document with new elements
 pub grown_text : (g : PlainDtd) (root : List ℕ) (doc : PlainDoc Mark) (vs : List Verdict) (marks body : List ℕ) → IsProperDtd g → HasNames g → IsProperDoc doc → AreWritable (tree doc.root no_trees) →

@@ -1,5 +1,8 @@
 -- Trees with new elements put in, as they are written.
-use Rattle.std.specs.Prelude.{List, [], false, ℕ, ◌≡◌, ◌≢◌, ◌⊎◌}
+use Rattle.std.specs.Prelude.{IsTrue, List, [], false, length, ℕ, ◌*◌, ◌+◌, ◌≡◌, ◌≢◌, ◌≤◌, ◌⊎◌}
+use Rattle.std.specs.List.{list_all}
+use Rattle.pv_dtd.specs.Facts.{is_short}
+use Rattle.pv_dtd.specs.Plain.{PlainDtd}
 use Rattle.pv_tree.specs.Plain.{Ending, Forest, PlainDoc, Tree, element, is_element, no_trees}
 use Rattle.pv_tree.specs.Plain.{short, tagged, tree}
 use Rattle.pv_write.specs.Text.{doc_text}
@@ -35,3 +38,16 @@ pub record IsGrownText {M : Type 0} (doc : PlainDoc M) (body : List ℕ) : Type 
   pub root : Tree M
   pub grows : Grows (tree doc.root no_trees) (tree root no_trees)
   pub text : body ≡ doc_text (record doc { root = root })
+
+-- each name of the DTD has at most 256 bytes
+abbrev pub HasShortNames : PlainDtd → Type 0
+HasShortNames g = IsTrue (list_all is_short g.names)
+
+-- the most bytes of both tags of a new element: `<`, `>`, `</` and `>`, and its name twice
+abbrev pub most_tag_bytes : ℕ
+most_tag_bytes = 517
+
+-- A body of n new elements is at most twice as long as the document, in which each element may get
+-- an end tag, and as long as the tags of n new elements may be.
+abbrev pub IsBounded : {M : Type 0} → PlainDoc M → ℕ → List ℕ → Type 0
+IsBounded doc n body = length body ≤ 2 * length (doc_text doc) + most_tag_bytes * n

@@ -28,6 +28,11 @@ pub record AreLiveVerdicts {M : Type 0} (g : PlainDtd) (root : List ℕ) (doc : 
   pub possible : IsPotentiallyValid g root (view doc.root)
   pub verdicts : AreVerdicts g root (lists_of doc) vs
 
+-- Each list of the document has a verdict.
+pub record HasVerdicts {M : Type 0} (g : PlainDtd) (root : List ℕ) (doc : PlainDoc M) : Type 0 where
+  pub verdicts : List Verdict
+  pub are_verdicts : AreVerdicts g root (lists_of doc) verdicts
+
 -- where the list is Possible, it isn't too wide for weights
 abbrev pub CanWeigh : {M : Type 0} → PlainDtd → List ℕ → Listed M → Type 0
 CanWeigh g root list = IsVerdict g root list verdict.Possible → IsListForWeights g list

@@ -1,7 +1,7 @@
 //! A document without the tags of marked elements, compared with another by their events.
 
 ghost use Rattle.std.specs.Prelude.{◌≡◌, ◌≤◌, ◌<◌, ◌^◌, ◌↔◌, [], IfOk, IfErr, IsTrue, length, map};
-ghost use Rattle.std.specs.Prelude.{true};
+ghost use Rattle.std.specs.Prelude.{true, ◌⊎◌};
 ghost use Rattle.pv_tree.specs.Marks.{blank_mark};
 ghost use Rattle.pv_tree.specs.Plain.{PlainDoc};
 ghost use Rattle.pv_tree.specs.declared.nodes.Mark.{Mark};
@@ -94,6 +94,8 @@ impl<'a> Compared<'a> {
         requires { length bytes.now ≤ MAX_FLAT_BYTES }
         ensures compared { IfOk result (λ found.
             IsCompared root.now bytes.now marks.now (map plain_event other.now) found) }
+        ensures refused { IfErr result (λ error.
+            Refuses (DocumentMeansWithin flat_limits blank_mark root.now bytes.now) error) }
     {
         let mut events = Events::new(alloc, bytes, root)?;
         let mut comparison = Comparison::new(alloc, marks, other);
@@ -118,7 +120,8 @@ impl<'a> Compared<'a> {
 /// Whether the second document, of any depth, is the first one with the tags of the marked elements
 /// put in, and nothing else.
 ///
-/// Each is read here; where one of them isn't the text of a document, an error tells why.
+/// Each is read here; an error, but for want of memory, tells why one of them isn't the text of a
+/// document.
 pub fn is_kept(
     alloc: Global,
     root: &[u8],
@@ -127,8 +130,11 @@ pub fn is_kept(
     marks: &[u32],
 ) -> Result<bool, DocError>
     requires { length body.now ≤ MAX_FLAT_BYTES }
-    ensures { IfOk result (λ kept. (d b : PlainDoc Mark) → IsBodyText root.now doc.now d →
+    ensures kept { IfOk result (λ kept. (d b : PlainDoc Mark) → IsBodyText root.now doc.now d →
         IsBodyText root.now body.now b → IsTrue kept ↔ IsKept d b marks.now) }
+    ensures refused { IfErr result (λ error.
+        Refuses (DocumentMeansWithin flat_limits blank_mark root.now doc.now) error ⊎
+        Refuses (DocumentMeansWithin flat_limits blank_mark root.now body.now) error) }
 {
     let parts = Parts::of(alloc, root, doc)?;
     let found = Compared::of(alloc, root, body, marks, &parts.events)?;

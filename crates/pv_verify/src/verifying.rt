@@ -13,7 +13,7 @@ ghost use Rattle.pv_flat.specs.Coming.{MAX_FLAT_BYTES};
 ghost use Rattle.pv_kept.specs.Kept.{AreMarks, IsBodyText, IsKept};
 ghost use Rattle.pv_verify.specs.Answers.{IsAnswer, IsRefusal};
 ghost use Rattle.pv_verify.specs.Tests.{IsAccepted, IsRejected};
-ghost use Rattle.pv_verify.specs.Reading.{IsBodyRead};
+ghost use Rattle.pv_verify.specs.Reading.{IsBodyRead, IsText};
 
 use crate::answers::{Answer, Why};
 use crate::errors::VerifyError;
@@ -57,22 +57,32 @@ fn keeps(
     body: &[u8],
     marks: &[u32],
 ) -> Result<bool, NoMemory>
-    requires { length body.now ≤ MAX_FLAT_BYTES }
+    requires few { length body.now ≤ MAX_FLAT_BYTES }
+    requires is_doc { IsText root.now doc.now }
+    requires is_body { IsText root.now body.now }
     ensures { IfOk result (λ kept. (d b : PlainDoc Mark) → IsBodyText root.now doc.now d →
         IsBodyText root.now body.now b → IsTrue kept ↔ IsKept d b marks.now) }
 {
+    one_meaning_law();
     match is_kept(alloc, root, doc, body, marks) {
         Ok(kept) => Ok(kept),
-        Err(_) => Err(NoMemory),
+        Err(DocError::NoMemory) => Err(NoMemory),
+        Err(_) => unreachable!(),
     }
 }
 
 // Whether the body is valid.
 fn is_valid(alloc: Global, dtd: &Dtd, root: &[u8], body: &[u8]) -> Result<bool, NoMemory>
+    requires { IsText root.now body.now }
     ensures { IfOk result (λ valid. (doc : PlainDoc Mark) → IsBodyText root.now body.now doc →
         IsTrue valid ↔ IsValid (plain_dtd dtd.now) root.now (view doc.root)) }
 {
-    valid_events(alloc, dtd, root, body).map_err(|_| NoMemory)
+    one_meaning_law();
+    match valid_events(alloc, dtd, root, body) {
+        Ok(valid) => Ok(valid),
+        Err(DocError::NoMemory) => Err(NoMemory),
+        Err(_) => unreachable!(),
+    }
 }
 
 // The first test that a pack fails, against the document that the bytes are.

@@ -5,8 +5,8 @@ ghost use Rattle.pv_productive.specs.PlainForms.{dtd_of};
 ghost use Rattle.pv_tree.specs.PlainDocs.{plain_doc};
 ghost use Rattle.pv_tree.specs.Prolog.{IsProlog};
 ghost use Rattle.pv_complete.specs.Completing.{IsLeastCompletion};
-ghost use Rattle.pv_complete.specs.Growing.{IsGrownText};
-ghost use Rattle.pv_complete.specs.Needing.{AreLiveVerdicts, HasCause, Needs};
+ghost use Rattle.pv_complete.specs.Growing.{IsBounded, IsGrownText};
+ghost use Rattle.pv_complete.specs.Needing.{AreLiveVerdicts, HasCause, HasVerdicts, Needs};
 ghost use Rattle.pv_complete.specs.declared.errors.NeedError.TheVariants.{NoMemory as no_memory};
 
 use crate::errors::NeedError;
@@ -52,6 +52,9 @@ pub fn complete(
     ensures completed { IfOk result (λ c. IsLeastCompletion (dtd_of grammar.now)
         root.now (plain_doc doc.now) c.count c.marks c.body) }
     ensures written { IfOk result (λ c. IsGrownText (plain_doc doc.now) c.body) }
+    ensures bounded { IfOk result (λ c. IsBounded (plain_doc doc.now) c.count c.body) }
+    ensures judged { IfOk result (λ _.
+        HasVerdicts (dtd_of grammar.now) root.now (plain_doc doc.now)) }
     ensures refused { IfErr result (HasCause (dtd_of grammar.now) root.now (plain_doc doc.now)) }
     ensures succeeds { (n : ℕ) → Needs (dtd_of grammar.now) root.now (plain_doc doc.now) n →
         IfErr result (λ e. e ≡ no_memory) }
@@ -67,8 +70,9 @@ pub fn complete(
 /// inserted. The document stays as it is.
 ///
 /// New elements are written as `<NAME>` and `</NAME>`, and all else as it is, but that an
-/// empty-element tag that gets content becomes a pair of tags. The refusals are those of `need_by`.
-/// One walk weighs the lists, and one writes them.
+/// empty-element tag that gets content becomes a pair of tags. The body is at most twice as long as
+/// the document, and 517 bytes for each new element. The refusals are those of `need_by`. One walk
+/// weighs the lists, and one writes them.
 pub fn complete_by(
     alloc: Global,
     grammar: &Grammar,
@@ -85,6 +89,8 @@ pub fn complete_by(
         c.body) }
     ensures written { IfOk result (λ c. AreLiveVerdicts (dtd_of grammar.now) root.now
         (plain_doc doc.now) verdicts.now.verdicts → IsGrownText (plain_doc doc.now) c.body) }
+    ensures bounded { IfOk result (λ c. AreLiveVerdicts (dtd_of grammar.now) root.now
+        (plain_doc doc.now) verdicts.now.verdicts → IsBounded (plain_doc doc.now) c.count c.body) }
     ensures refused { IfErr result (λ error. AreLiveVerdicts (dtd_of grammar.now) root.now
         (plain_doc doc.now) verdicts.now.verdicts →
         HasCause (dtd_of grammar.now) root.now (plain_doc doc.now) error) }

@@ -9,6 +9,15 @@ use Rattle.pv_verify.proofs.InOrder.{accepted, at-closure, at-kept, at-marks, at
 use Rattle.pv_verify.proofs.NoText.{wider-text}
 use Rattle.pv_verify.proofs.verifying.first_failed.Goals as goal
 
+pub keeps-requires-clause-is_doc : goal.keeps-requires-clause-is_doc
+keeps-requires-clause-is_doc c = record { body = plain_doc c.args.doc.now; is_text = wider-text c.wider_limits_law.ensures c.args.root.now c.args.bytes.now (plain_doc c.args.doc.now) c.requires }
+
+pub keeps-requires-clause-is_body : goal.keeps-requires-clause-is_body
+keeps-requires-clause-is_body c = let read = rw c.in-Some.is at c.in_ok-plain.ensures in record { body = read.body; is_text = read.is_text }
+
+pub is_valid-requires : goal.is_valid-requires
+is_valid-requires c = let read = rw c.in-Some.is at c.in_ok-plain.ensures in record { body = read.body; is_text = read.is_text }
+
 pub returns-then-not-branch : goal.returns-then-not-branch
 returns-then-not-branch c =
     let g = plain_dtd c.args.dtd.now in

@@ -24,6 +24,14 @@ returns-clause-completed c = IfOk-weaker c.complete_by.result _ _ (λ made least
 pub returns-clause-written : goal.returns-clause-written
 returns-clause-written c = IfOk-weaker c.complete_by.result _ _ (λ made grown. grown c.in_ok-verdicts.ensures.verdicts) c.complete_by.ensures.written
 
+pub returns-clause-bounded : goal.returns-clause-bounded
+returns-clause-bounded c = IfOk-weaker c.complete_by.result _ _ (λ made few. few c.in_ok-verdicts.ensures.verdicts) c.complete_by.ensures.bounded
+
+pub returns-clause-judged : goal.returns-clause-judged
+returns-clause-judged c =
+    let live = c.in_ok-verdicts.ensures.verdicts in
+    IfOk-weaker c.complete_by.result _ _ (λ made few. record { verdicts = c.in_ok-verdicts.verdicts.verdicts; are_verdicts = live.verdicts }) c.complete_by.ensures.bounded
+
 pub returns-clause-refused : goal.returns-clause-refused
 returns-clause-refused c = IfErr-weaker c.complete_by.result _ _ (λ e why. why c.in_ok-verdicts.ensures.verdicts) c.complete_by.ensures.refused
 

@@ -3,8 +3,8 @@ use Rattle.std.proofs.Math.Logic.{∥∥₁_elim, ∥∥₁_map}
 use Rattle.pv_productive.specs.PlainForms.{dtd_of}
 use Rattle.pv_dtd.proofs.Proper.{proper}
 use Rattle.pv_tree.specs.PlainDocs.{plain_doc}
-use Rattle.pv_complete.proofs.Inside.{doc_epilog, doc_writable, dtd_names}
-use Rattle.pv_complete.proofs.Wholes.{grown_text, least_completion}
+use Rattle.pv_complete.proofs.Inside.{doc_epilog, doc_writable, dtd_names, short_names}
+use Rattle.pv_complete.proofs.Wholes.{bounded_text, grown_text, least_completion}
 use Rattle.pv_tree.specs.declared.nodes.Mark.{Mark}
 use Rattle.pv_complete.proofs.FewMarks.{few_marks}
 use Rattle.pv_complete.proofs.LightLists.{light_lists, live_verdicts}
@@ -52,3 +52,11 @@ returns-clause-written c = λ live.
     rw c.of-2.ensures
     (grown_text (dtd_of c.args.grammar.now) c.args.root.now (plain_doc c.args.doc.now) c.args.verdicts.now.verdicts c.in_ok-text.text.marks.items c.in_ok-text.text.body.items
     (proper dtd) (dtd_names dtd) c.proper_doc_law.ensures (doc_writable c.args.doc.now) (c.in_ok-text.ensures live.verdicts))
+
+pub returns-clause-bounded : goal.returns-clause-bounded
+returns-clause-bounded c = λ live.
+    let dtd = c.args.grammar.now.layout.dtd in
+    rw c.of-2.ensures
+    (bounded_text (dtd_of c.args.grammar.now) c.args.root.now (plain_doc c.args.doc.now) c.args.verdicts.now.verdicts c.in_ok-count.count c.in_ok-text.text.marks.items c.in_ok-text.text.body.items
+    (proper dtd) (dtd_names dtd) c.every_view_is_written_law.ensures c.tags_extend_law.ensures c.possible_weights_law.ensures c.proper_doc_law.ensures (doc_writable c.args.doc.now)
+    c.requires.names (doc_epilog c.args.doc.now) (c.in_ok-count.ensures.needs live) live.verdicts (c.in_ok-text.ensures live.verdicts) (short_names dtd) c.args.doc.now.formed)

@@ -1,7 +1,8 @@
 use Rattle.std.proofs.Common.{IsTrue, [], arith, map, subst, sym, ◌++◌, ◌∙◌, ◌∷◌, ◌↔◌}
+use Rattle.std.proofs.lemmas.Result.{err_from_is_err_and}
 use Rattle.pv_flat.specs.Plain.{plain_event}
 use Rattle.pv_kept.specs.LeftOut.{LeavesEvents}
-use Rattle.pv_kept.proofs.GivenEvents.{given-all, given-more}
+use Rattle.pv_kept.proofs.GivenEvents.{given-all, given-more, given-refused}
 use Rattle.pv_kept.proofs.comparing.Compared.of.Goals as goal
 
 pub events-preserved : goal.events-preserved
@@ -18,18 +19,21 @@ events-preserved c =
       omega (arith, less, next, i.3),
     )
 
-pub returns : goal.returns
-returns c =
+pub returns-in_err-event-clause-refused : goal.returns-in_err-event-clause-refused
+returns-in_err-event-clause-refused c =
+    let from = err_from_is_err_and c.from_residual-in_err-event.result c.from_residual-in_err-event.ensures.1 in
+    rw (from.1, from.2) (given-refused c.args.root.now c.args.bytes.now c.events.invariant.0 c.events.events c.events.invariant.1 _ c.in_err-event.ensures.answers.0)
+
+pub returns-clause-compared : goal.returns-clause-compared
+returns-clause-compared c =
     let i = c.events.invariant in
     let other = map plain_event c.args.other.now in
     let ends = rw c.in_default.is at c.in_ok-event.ensures.answers in
     let t = given-all c.args.root.now c.args.bytes.now i.0 c.events.events i.1 c.next.new.self ends.0 ends.1 in
     record {
-      compared = record {
-        doc = t.0;
-        is_text = t.1;
-        is_before = t.3 ∙ sym c.before-2.ensures;
-        is_after = t.4 ∙ sym c.rest.ensures;
-        leaves = subst (λ l. IsTrue c.is_whole.result ↔ LeavesEvents c.args.marks.now l other) (sym t.2) (c.is_whole.ensures c.args.marks.now other i.0 i.2);
-      };
+      doc = t.0;
+      is_text = t.1;
+      is_before = t.3 ∙ sym c.before-2.ensures;
+      is_after = t.4 ∙ sym c.rest.ensures;
+      leaves = subst (λ l. IsTrue c.is_whole.result ↔ LeavesEvents c.args.marks.now l other) (sym t.2) (c.is_whole.ensures c.args.marks.now other i.0 i.2);
     }
