@@ -1,5 +1,5 @@
 -- A text and ranges mean one thing.
-use Rattle.std.proofs.Common.{◌≡◌, ◌⊎◌, inl, inr, ℕ, zero, suc, ◌+◌, ◌<◌, ◌≤◌, List, [], ◌∷◌, ◌++◌, length, Result, Ok, Err, refl, sym, ◌∙◌, ap, subst, arith, append_assoc}
+use Rattle.std.proofs.Common.{◌≡◌, inl, inr, ℕ, zero, suc, ◌<◌, ◌≤◌, List, [], ◌∷◌, ◌++◌, length, Ok, Err, refl, sym, ◌∙◌, ap, subst, arith, append_assoc}
 use Rattle.std.specs.Prelude.{IsPermutation}
 use Rattle.std.specs.List.{AllByRecursion, All, sum_by}
 use Rattle.std.proofs.lemmas.List.Sums.{sum_by-cons}
@@ -12,7 +12,7 @@ use Rattle.pv_standoff.specs.declared.ranges.Range.{Range}
 use Rattle.pv_standoff.specs.declared.errors.NestError.{NestError}
 use Rattle.pv_standoff.specs.declared.errors.NestError.TheVariants as error
 use Rattle.pv_standoff.specs.Laws.{OneMeaning, SameForAnyOrder}
-use Rattle.pv_standoff.specs.Nested.{Nests, HasTwice, HasCrossing, IsTooDeep, NestMeans, Refuses}
+use Rattle.pv_standoff.specs.Nested.{Nests, HasTwice, HasCrossing, Refuses}
 use Rattle.pv_standoff.specs.Refused.{IsFirstOutside, IsFirstTwice, IsFirstCrossing}
 use Rattle.pv_standoff.specs.Spans.{StandsFor}
 use Rattle.pv_standoff.proofs.Lists.{cuts}

@@ -1,5 +1,5 @@
 -- What a document keeps of its tree, where it stands for a text and ranges.
-use Rattle.std.proofs.Common.{◌≡◌, ◌≢◌, ◌≤◌, ◌+◌, ◌*◌, ℕ, suc, List, [], ◌∷◌, ◌++◌, Bool, true, false, not, ◌&&◌, inl, length, map, refl, sym, ◌∙◌, ap, subst, arith, length-append, append-nil}
+use Rattle.std.proofs.Common.{◌≡◌, ◌≤◌, ◌+◌, ◌*◌, ℕ, List, [], ◌∷◌, ◌++◌, true, false, not, ◌&&◌, inl, length, map, refl, sym, ◌∙◌, ap, subst, arith, length-append, append-nil}
 use Rattle.std.proofs.lemmas.Bool.{or_parts}
 use Rattle.std.proofs.lemmas.List.{length-map}
 use Rattle.std.proofs.lemmas.List.Sorted.{length_permutation}
@@ -9,13 +9,13 @@ use Rattle.pv_chars.specs.Texts.{begins_close_mark, holds_close_mark, joined}
 use Rattle.pv_chars.specs.Units.{AllUnits}
 use Rattle.pv_chars.proofs.NameLemmas.{is_name-IsName}
 use Rattle.pv_tree.specs.Attributes.{AreMadeOf, IsAttributes, IsKnownReference}
-use Rattle.pv_tree.specs.Legal.{MAX_NODES, IsLegal, AreLegal, is_formed, are_formed, has_names, have_names, front_units, is_open, have_no_close_mark, has_no_close_mark, starts_no_close_mark}
+use Rattle.pv_tree.specs.Legal.{MAX_NODES, IsLegal, AreLegal, is_formed, are_formed, has_names, have_names, front_units, is_open, have_no_close_mark, has_no_close_mark}
 use Rattle.pv_tree.specs.Plain.{Tree, element, text_node, cdata_node, misc_node, Forest, no_trees, tree, nodes_in_all, nodes_in, is_element}
 use Rattle.pv_tree.specs.Prolog.{IsProlog, IsEpilog}
 use Rattle.pv_tree.specs.Units.{HasUnits, HaveUnits}
 use Rattle.pv_tree.specs.declared.nodes.Mark.{Mark}
 use Rattle.pv_standoff.specs.Ranges.{AreNamed, MAX_RANGES}
-use Rattle.pv_standoff.specs.Spans.{Span, StandsFor, document, root_of, span_of, units_of, units_of_all, spans_of, spans_of_all, AreBare, AreApart, IsText, BeginsWithText}
+use Rattle.pv_standoff.specs.Spans.{StandsFor, document, root_of, span_of, units_of_all, spans_of_all, AreBare, AreApart, BeginsWithText}
 use Rattle.pv_standoff.specs.declared.ranges.Range.{Range}
 use Rattle.pv_standoff.proofs.Lists.{all-left, all-right}
 use Rattle.pv_standoff.proofs.Sorted.{all-permutation}

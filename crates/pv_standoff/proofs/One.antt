@@ -1,5 +1,5 @@
 -- At most one document stands for a text and ranges.
-use Rattle.std.proofs.Common.{◌≡◌, ◌<◌, List, [], ◌∷◌, map, sym, ◌∙◌, ap}
+use Rattle.std.proofs.Common.{◌<◌, List, [], ◌∷◌, map, sym, ◌∙◌, ap}
 use Rattle.std.specs.List.{AllByRecursion}
 use Rattle.std.proofs.lemmas.List.Sorted.{All-permutation}
 use Rattle.pv_standoff.specs.declared.ranges.Range.{Range}

@@ -1,13 +1,12 @@
 -- Lines of ranges are read as they are written.
-use Rattle.std.proofs.Common.{◌≡◌, ◌⊎◌, inl, inr, ℕ, ◌<◌, ◌≤◌, suc, List, [], ◌∷◌, ◌++◌, length, Bool, true, false, Option, Some, None, Result, Ok, Err, refl, sym, ◌∙◌, ap, subst, arith, append_assoc, map, decimal, length-append}
+use Rattle.std.proofs.Common.{◌≡◌, inl, inr, ℕ, ◌≤◌, List, [], ◌∷◌, ◌++◌, length, Bool, true, false, Option, Some, None, Ok, Err, refl, sym, ◌∙◌, ap, subst, arith, append_assoc, map, decimal, length-append}
 use Rattle.std.specs.Option.{option_and_then, option_map}
 use Rattle.std.proofs.lemmas.List.{append-nil}
-use Rattle.std.specs.List.{AllByRecursion}
 use Rattle.pv_chars.specs.Fronts.{ContainsBytes, EndsAt}
-use Rattle.pv_chars.specs.Names.{IsName, is_name}
+use Rattle.pv_chars.specs.Names.{is_name}
 use Rattle.pv_chars.proofs.NameLemmas.{is_name-IsName, IsName-is_name}
 use Rattle.pv_script.specs.Edits.{MAX_NUMBER}
-use Rattle.pv_script.specs.Lines.{FEED, HasNoFeed, lines_of, without_returns}
+use Rattle.pv_script.specs.Lines.{HasNoFeed, lines_of, without_returns}
 use Rattle.pv_script.specs.Reading.{first_word, number_of}
 use Rattle.pv_script.proofs.Numbers.{decimal-free, number_of-decimal, number-word}
 use Rattle.pv_script.proofs.Words.{Free, ends-free, none-free, first_word-free, first_word-none, first_word-whole}
@@ -15,7 +14,6 @@ use Rattle.pv_script.proofs.RawLines.{ends_line, raw_lines_of-part}
 use Rattle.pv_standoff.specs.Laws.{OneReading}
 use Rattle.pv_standoff.specs.Lines.{SpellsRange, IsNoRange, SpellRanges, IsFirstNoRange, HasTooMany, RangesMean, number_at, range_with, range_of}
 use Rattle.pv_standoff.specs.Ranges.{AreNamed, MAX_RANGES}
-use Rattle.pv_standoff.specs.declared.errors.RangesError.{RangesError}
 use Rattle.pv_standoff.specs.declared.errors.RangesError.TheVariants.{Syntax, Limit, NoMemory}
 use Rattle.pv_standoff.specs.declared.ranges.Range.{Range}
 use Rattle.pv_standoff.proofs.Lists.{cuts}

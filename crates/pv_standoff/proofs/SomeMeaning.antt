@@ -1,6 +1,6 @@
 -- A text and ranges mean something, and so do the bytes of ranges.
-use Rattle.std.proofs.Common.{◌≡◌, ◌⊎◌, inl, inr, ℕ, zero, suc, ◌+◌, ◌<◌, ◌≤◌, List, [], ◌∷◌, ◌++◌, length, Option, Some, None, Result, Ok, Err, refl, sym, ◌∙◌, ap, subst, arith, append_assoc, length-append}
-use Rattle.std.specs.List.{AllByRecursion, All, Contains}
+use Rattle.std.proofs.Common.{◌≡◌, ◌⊎◌, inl, inr, ℕ, zero, suc, ◌≤◌, List, [], ◌∷◌, ◌++◌, length, Option, Some, None, Result, Ok, Err, refl, sym, ◌∙◌, ap, subst, arith, append_assoc, length-append}
+use Rattle.std.specs.List.{AllByRecursion, All}
 use Rattle.std.proofs.lemmas.Bool.{cases_eq, cases_lt}
 use Rattle.std.proofs.lemmas.List.{append-nil}
 use Rattle.std.proofs.lemmas.List.Sorted.{Contains-permutation, IsPermutation-sym}
@@ -9,11 +9,10 @@ use Rattle.pv_tree.specs.Legal.{MAX_DEPTH}
 use Rattle.pv_tree.specs.Plain.{PlainDoc, depth_of}
 use Rattle.pv_tree.specs.declared.nodes.Mark.{Mark}
 use Rattle.pv_standoff.specs.Laws.{SomeMeaning, SomeReading}
-use Rattle.pv_standoff.specs.Lines.{HasTooMany, IsFirstNoRange, RangesMean, SpellRanges, range_of}
+use Rattle.pv_standoff.specs.Lines.{RangesMean, SpellRanges, range_of}
 use Rattle.pv_standoff.specs.Nested.{Nests, NestMeans}
 use Rattle.pv_standoff.specs.Ranges.{AreInOrder, Cross, IsBefore, IsInside, IsSortedFrom, MAX_RANGES, NoneCross, NoneCrossLater, NoneTwice}
 use Rattle.pv_standoff.specs.Refused.{IsFirstCrossing, IsFirstOutside, IsFirstTwice}
-use Rattle.pv_standoff.specs.Spans.{StandsFor}
 use Rattle.pv_standoff.specs.declared.errors.NestError.{NestError}
 use Rattle.pv_standoff.specs.declared.errors.NestError.TheVariants as error
 use Rattle.pv_standoff.specs.declared.errors.RangesError.{RangesError}
@@ -21,7 +20,7 @@ use Rattle.pv_standoff.specs.declared.errors.RangesError.TheVariants.{Limit, Syn
 use Rattle.pv_standoff.specs.declared.ranges.Range.{Range}
 use Rattle.pv_standoff.proofs.Crossing.{none_cross_push, once_push}
 use Rattle.pv_standoff.proofs.Exclusive.{all_full}
-use Rattle.pv_standoff.proofs.Exists.{has_one, one_nests}
+use Rattle.pv_standoff.proofs.Exists.{has_one}
 use Rattle.pv_standoff.proofs.Order.{sorted_from}
 use Rattle.pv_standoff.proofs.ReadingLemmas.{no_range, spell-length, spell-push, spelled-range_of}
 use Rattle.pv_standoff.proofs.Sorted.{Among, all-among, contains-among, none_twice-permutation, place_cases}

@@ -1,11 +1,10 @@
 -- A text cut from the left, and that its parts are texts.
-use Rattle.std.proofs.Common.{◌≡◌, ◌≢◌, ◌⊎◌, inl, inr, ℕ, zero, suc, ◌+◌, ◌-◌, ◌<◌, ◌≤◌, Bool, true, false, not, ◌||◌, ◌==◌, List, [], ◌∷◌, ◌++◌, length, take, drop, Result, Ok, Err, refl, sym, ◌∙◌, ap, subst, arith, append_assoc, append-nil, length-append}
+use Rattle.std.proofs.Common.{◌≡◌, ◌≢◌, inl, inr, ℕ, zero, suc, ◌+◌, ◌-◌, ◌<◌, ◌≤◌, Bool, true, false, not, ◌==◌, List, [], ◌∷◌, ◌++◌, length, take, drop, Result, Ok, Err, refl, sym, ◌∙◌, ap, subst, arith, append_assoc, append-nil, length-append}
 use Rattle.std.specs.Prelude.{codes}
 use Rattle.std.proofs.lemmas.Bool.{true≢false, false_from_ne_true}
 use Rattle.std.proofs.lemmas.List.{take-append-drop, take_at, length-take-le}
-use Rattle.pv_chars.specs.Fronts.{ContainsBytes}
 use Rattle.pv_chars.specs.Texts.{joined, begins_close_mark, holds_close_mark}
-use Rattle.pv_chars.specs.Units.{IsUnit, AllUnits, BeginsUnit, BeginsCloseMark, HasTextFault, TextMeans, TextRestMeans, ends, unit, fault, cut, goes_on, opens, units_in}
+use Rattle.pv_chars.specs.Units.{AllUnits, BeginsUnit, TextMeans, TextRestMeans, ends, unit, fault, cut, units_in}
 use Rattle.pv_chars.specs.Utf8.{continues}
 use Rattle.pv_chars.specs.declared.errors.TextError.{TextError}
 use Rattle.pv_chars.proofs.CloseMarks.{held_by_units, held_by_bytes, begins_bytes, units_some}

@@ -17,6 +17,7 @@ mod nesting;
 mod ranges;
 mod reading;
 mod refusing;
+mod sorting;
 mod texts;
 
 pub use errors::{NestError, RangesError};

@@ -12,8 +12,9 @@ ghost use Rattle.pv_tree.specs.PlainForms.{plain};
 
 use crate::building::build;
 use crate::errors::NestError;
-use crate::ranges::{Range, Ranges, in_order};
+use crate::ranges::{Range, Ranges};
 use crate::refusing::{first_crossing, first_outside, first_twice};
+use crate::sorting::in_order;
 use pv_chars::{Bytes, Units, bytes_of};
 use pv_tree::{Doc, Mark, Node};
 use std::alloc::Global;

@@ -1,9 +1,7 @@
-use Rattle.std.proofs.Common.{◌≡◌, ◌≤◌, ℕ, List, [], Ok, length, refl, sym, ◌∙◌, ap, subst}
+use Rattle.std.proofs.Common.{◌≡◌, [], Ok, refl, sym, ◌∙◌, subst}
 use Rattle.pv_chars.specs.Texts.{joined}
-use Rattle.pv_tree.specs.Plain.{Tree}
 use Rattle.pv_tree.specs.PlainForms.{plain}
 use Rattle.pv_tree.specs.Prolog.{IsProlog, IsEpilog}
-use Rattle.pv_tree.specs.declared.nodes.Mark.{Mark}
 use Rattle.pv_standoff.specs.Nested.{NestMeans}
 use Rattle.pv_standoff.specs.Spans.{document}
 use Rattle.pv_standoff.specs.Texts.{SpellsUnits}

@@ -1,6 +1,6 @@
-use Rattle.std.proofs.Common.{◌≡◌, ◌∷◌, [], inr, length, None, Some, sym, ◌∙◌, subst, arith}
-use Rattle.pv_standoff.specs.Lines.{IsFirstNoRange, range_of}
-use Rattle.pv_standoff.specs.Ranges.{AreNamed, MAX_RANGES}
+use Rattle.std.proofs.Common.{◌≡◌, inr, length, sym, ◌∙◌, subst, arith}
+use Rattle.pv_standoff.specs.Lines.{IsFirstNoRange}
+use Rattle.pv_standoff.specs.Ranges.{AreNamed}
 use Rattle.pv_standoff.proofs.ReadingLemmas.{HasRead, read-fault, read-more, read-named, read-too_many}
 use Rattle.pv_standoff.proofs.reading.read_ranges.Goals as goal
 

@@ -1,14 +1,13 @@
-use Rattle.std.proofs.Common.{◌≡◌, ◌≤◌, ◌<◌, ◌-◌, ℕ, List, [], ◌∷◌, ◌++◌, length, take, drop, map, refl, sym, ◌∙◌, ap, rules, arith, length-append}
+use Rattle.std.proofs.Common.{◌≡◌, ◌≤◌, ◌<◌, ℕ, List, [], ◌∷◌, ◌++◌, length, take, refl, sym, ◌∙◌, ap, rules, arith, length-append}
 use Rattle.std.proofs.lemmas.List.{map-append, length-take-le}
 use Rattle.pv_tree.specs.Plain.{Tree, text_node}
 use Rattle.pv_tree.specs.PlainForms.{plain, plain_all}
 use Rattle.pv_tree.specs.declared.nodes.Mark.{Mark}
 use Rattle.pv_tree.specs.declared.nodes.Node.{Node, Text, the_lemmas}
 use Rattle.pv_standoff.specs.PlainForms.{plain_open}
-use Rattle.pv_standoff.specs.Stacks.{PlainOpen, with_text, write}
+use Rattle.pv_standoff.specs.Stacks.{with_text, write}
 use Rattle.pv_chars.specs.Texts.{joined}
 use Rattle.pv_chars.specs.Units.{units_in}
-use Rattle.pv_standoff.specs.Texts.{SpellsUnits}
 use Rattle.pv_standoff.proofs.TextLemmas.{cut_whole, front_is, some_front, spells_front, spells-take, spelled-units}
 use Rattle.pv_standoff.proofs.building.Open.write.Goals as goal
 use Rattle.pv_standoff.proofs.building.Open.write.Goals.{then-count-gt0+in_ok-units+in_ok-push, else-count-gt0}
