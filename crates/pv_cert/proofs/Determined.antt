@@ -98,7 +98,7 @@ name-same i j e = λ k. record { 0 = e k }
 other : {A : Type 0} (a b letter : ℕ) → a ∷ [] ≡ letter ∷ [] → b ∷ [] ≡ letter ∷ [] → (a ≡ b → ⊥) → A
 other a b letter k l n = let same : a ≡ b = cc in absurd (n same)
 
-same-site : (s t : Site) (letter : ℕ) → IsKind letter s → IsKind letter t → site_number (plain_site s) ≡ site_number (plain_site t) → s ≡ t
+pub same-site : (s t : Site) (letter : ℕ) → IsKind letter s → IsKind letter t → site_number (plain_site s) ≡ site_number (plain_site t) → s ≡ t
 same-site (site.Name i) (site.Name j) letter k l n = ap site.Name (name-same i j n)
 same-site (site.Content i) (site.Content j) letter k l n = ap site.Content (name-same i j n)
 same-site (site.Part p) (site.Part q) letter k l n = ap site.Part n

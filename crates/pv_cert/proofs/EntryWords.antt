@@ -95,7 +95,7 @@ pub record HasLetter (line : List ℕ) (e : Entry) : Type 0 where
   pub is_kind : IsKind letter e.site
   pub whole : line ≡ letter ∷ 32 ∷ (decimal (site_number (plain_site e.site)) ++ (32 ∷ span_text e))
 
-letter-by : (s : PlainSite) → (letter : ℕ) × (kind_word s ≡ letter ∷ [])
+pub letter-by : (s : PlainSite) → (letter : ℕ) × (kind_word s ≡ letter ∷ [])
 letter-by (content_site x) = (99, refl)
 letter-by (name_site x) = (110, refl)
 letter-by (part_site q) = (112, refl)

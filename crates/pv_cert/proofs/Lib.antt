@@ -1,10 +1,11 @@
--- of this crate:
+-- for other crates:
 pub mod Cuts
-pub mod Fronts
 pub mod EntryWords
+pub mod Determined
+-- of this crate:
+pub mod Fronts
 pub mod Stands
 pub mod TableLines
-pub mod Determined
 pub mod OneMeaning
 pub mod Heads
 pub mod EntryOrder

@@ -15,8 +15,8 @@ use pv_rules::{MOST_MISSING, Site};
 use pv_script::written_number;
 use pv_tables::Entry;
 
-// The number before the first blank, and what stands behind the blank.
-fn next_number(bytes: &[u8]) -> Option<(u32, &[u8])>
+/// The number before the first blank, and what stands behind the blank.
+pub fn next_number(bytes: &[u8]) -> Option<(u32, &[u8])>
     ensures { MatchOption result
         ((n : ℕ) (rest : List ℕ) → IsNumberBefore bytes.now n rest → ⊥)
         (λ r. IsNumberBefore bytes.now r.0 r.1.now) }
@@ -38,8 +38,8 @@ fn span_and_value(bytes: &[u8]) -> Option<(u32, u32, u32)>
     Some((from, to, value))
 }
 
-// The site of a kind, by its letter and the number of the name or part.
-fn site_of(letter: u8, number: u32) -> Option<Site>
+/// The site of a kind, by its letter and the number of the name or part.
+pub fn site_of(letter: u8, number: u32) -> Option<Site>
     ensures { MatchOption result ((site : Site) → IsKind letter site → ⊥)
         (λ site. IsKind letter site × (site_number (plain_site site) ≡ number)) }
 {
@@ -52,8 +52,8 @@ fn site_of(letter: u8, number: u32) -> Option<Site>
     }
 }
 
-// The letter before a blank at the front, and what stands behind the blank.
-fn letter_at(line: &[u8]) -> Option<(u8, &[u8])>
+/// The letter before a blank at the front, and what stands behind the blank.
+pub fn letter_at(line: &[u8]) -> Option<(u8, &[u8])>
     ensures { MatchOption result
         ((letter : ℕ) (rest : List ℕ) → line.now ≢ letter ∷ 32 ∷ rest)
         (λ r. line.now ≡ r.0 ∷ 32 ∷ r.1.now) }

@@ -15,8 +15,8 @@ use pv_script::{written_number, written_path};
 use pv_tree::Path;
 use std::alloc::Global;
 
-// What stands behind the word that begins the line at the front, and behind that line.
-fn line_of<'a>(word: &[u8], bytes: &'a [u8]) -> Option<(&'a [u8], &'a [u8])>
+/// What stands behind the word that begins the line at the front, and behind that line.
+pub fn line_of<'a>(word: &[u8], bytes: &'a [u8]) -> Option<(&'a [u8], &'a [u8])>
     requires { IsTrue (has_no_feed word.now) }
     ensures line { MatchOption result
         ((args : List ℕ) (rest : List ℕ) → IsLineOf word.now bytes.now args rest → ⊥)

@@ -26,8 +26,8 @@ fn push_number_line(text: &mut Vec<u8>, word: &[u8], number: u64) -> Result<(), 
     Ok(())
 }
 
-// Appends a number behind a blank.
-fn push_next_number(text: &mut Vec<u8>, number: u32) -> Result<(), AllocError>
+/// Appends a number behind a blank.
+pub fn push_next_number(text: &mut Vec<u8>, number: u32) -> Result<(), AllocError>
     ensures { OnOk result (text.new.items ≡ text.old.items ++ (codes " " ++ decimal number)) }
 {
     text.push(b' ')?;
@@ -55,8 +55,8 @@ fn push_body(text: &mut Vec<u8>, body: &[u8]) -> Result<(), AllocError>
     Ok(())
 }
 
-// The letter of a site's kind.
-fn kind_word(site: Site) -> &'static [u8]
+/// The letter of a site's kind.
+pub fn kind_word(site: Site) -> &'static [u8]
     ensures { result.now ≡ kind_word (plain_site site) }
 {
     match site {

@@ -15,9 +15,8 @@ use Rattle.pv_rules.specs.declared.flat.FlatPart.{FlatPart}
 use Rattle.pv_rules.specs.declared.flat.Kind.TheVariants as kind
 use Rattle.pv_rules.specs.declared.flat.Membership.TheVariants as membership
 use Rattle.pv_rules.proofs.FlatContents.{any_at, children_at, empty_at, mixed_at, no_content}
-use Rattle.pv_rules.proofs.FlatKinds.{choice_at, followed_at, last_at, name_at, no_part, opt_at, plus_at, seq_at, star_at}
+use Rattle.pv_rules.proofs.FlatKinds.{IsNoRest, choice_at, followed_at, last_at, name_at, no_part, no_rest, opt_at, outside_at, plus_at, seq_at, star_at}
 use Rattle.pv_rules.proofs.Formed.{parts_formed}
-use Rattle.pv_rules.proofs.Rests.{no_flat, outside}
 use Rattle.pv_denial.specs.RowForms.{HoldsAt, HoldsNone, HoldsOne, HoldsText, HoldsTwo}
 use Rattle.pv_denial.specs.Rows.{EachRow, IsRow}
 use Rattle.pv_denial.specs.declared.denials.Row.{Row}
@@ -73,12 +72,14 @@ module _ (g : PlainDtd) (w : List PlainToken) (n : ℕ) (size : n ≡ length w) 
     pub no_part_holds : slice_get (flat_parts g) q ≡ None → b ≡ true → IsTrue b ↔ HoldsAt g w rows (part_site q)
     no_part_holds h t = let i = holds_part g w n size rows each q None (no_part g q h) in ((λ _. i.0 tt), (λ _. t))
 
+    -- no member has this number
+    member_case : (o : Option PlainParts) → rest_at g q ≡ o → IsNoRest o → b ≡ true → IsTrue b ↔ HoldsAt g w rows (rest_site q)
+    member_case None e no_member t = let i = holds_rest g w n size rows each q None e in ((λ _. i.0 tt), (λ _. t))
+    member_case (Some no_parts) e no_member t = let i = holds_rest g w n size rows each q (Some no_parts) e in ((λ _. i.0 tt), (λ _. t))
+    member_case (Some (part p ps)) e no_member t = absurd no_member
+
     pub no_rest_holds : slice_get (flat_parts g) q ≡ None → b ≡ true → IsTrue b ↔ HoldsAt g w rows (rest_site q)
-    no_rest_holds h t = none_case (rest_at g q) refl (no_flat g q h)
-      where
-        none_case : (o : Option PlainParts) → rest_at g q ≡ o → ¬ IsSome (rest_at g q) → IsTrue b ↔ HoldsAt g w rows (rest_site q)
-        none_case None e not = let i = holds_rest g w n size rows each q None e in ((λ _. i.0 tt), (λ _. t))
-        none_case (Some ps) e not = absurd (not (rw e refl))
+    no_rest_holds h t = member_case (rest_at g q) refl (no_rest g q h) t
 
     module _ (f : FlatPart) (h : slice_get (flat_parts g) q ≡ Some f) where
       pub name_part_holds : (y : ℕ) → f.kind ≡ kind.Name (record { 0 = y }) → IsTrue b ↔ HoldsOne rows (part_site q) (name_site y) n → IsTrue b ↔ HoldsAt g w rows (part_site q)
@@ -114,11 +115,7 @@ module _ (g : PlainDtd) (w : List PlainToken) (n : ℕ) (size : n ≡ length w) 
           let a = plus_at g q f h k in let P : ℕ → Type 0 = λ v. IsTrue b ↔ (HoldsOne rows (part_site q) (part_site v) n × HoldsTwo rows (part_site q) (part_site v) (part_site q) n) in both (subst P z i) (holds_part g w n size rows each q (Some (plus a.0)) a.1)
 
       pub outside_holds : f.membership ≡ membership.Outside → b ≡ true → IsTrue b ↔ HoldsAt g w rows (rest_site q)
-      outside_holds m t = none_case (rest_at g q) refl (outside g q f h m)
-        where
-          none_case : (o : Option PlainParts) → rest_at g q ≡ o → ¬ IsSome (rest_at g q) → IsTrue b ↔ HoldsAt g w rows (rest_site q)
-          none_case None e not = let i = holds_rest g w n size rows each q None e in ((λ _. i.0 tt), (λ _. t))
-          none_case (Some ps) e not = absurd (not (rw e refl))
+      outside_holds m t = member_case (rest_at g q) refl (outside_at g q f h m) t
 
       pub last_holds : f.membership ≡ membership.Last → IsTrue b ↔ HoldsOne rows (rest_site q) (part_site q) n → IsTrue b ↔ HoldsAt g w rows (rest_site q)
       last_holds m i = let a = last_at g q f h m in both i (holds_rest g w n size rows each q (Some (part a.0 no_parts)) a.1)

@@ -1,18 +1,10 @@
 -- An index takes in row after row, and tells the row of each site.
-use Rattle.std.specs.Prelude.{Bool, IsSome, false, option_and_then, true}
+use Rattle.std.specs.Prelude.{Bool, false, option_and_then, true}
 use Rattle.std.proofs.Common.{List, None, Option, Some, ap, arith, inl, inr, length, refl, slice_get, subst, suc, sym, zero, ℕ, ◌<◌, ◌∙◌, ◌≡◌, ◌≢◌, ◌≤◌, ◌⊎◌}
 use Rattle.std.proofs.lemmas.Bool.{cases_lt}
 use Rattle.std.proofs.lemmas.Option.{slice_get_within}
-use Rattle.pv_model.specs.Plain.{PlainPart, PlainParts, no_parts, part}
 use Rattle.pv_dtd.specs.Plain.{PlainDtd, parts_in_models}
-use Rattle.pv_rules.specs.Flat.{flat_parts}
-use Rattle.pv_rules.specs.Numbering.{part_at, rest_at}
-use Rattle.pv_rules.specs.PartLaws.{membership_at}
-use Rattle.pv_rules.specs.declared.flat.FlatPart.{FlatPart}
 use Rattle.pv_rules.proofs.Facts.{parts_by_number}
-use Rattle.pv_rules.proofs.FlatKinds.{made}
-use Rattle.pv_rules.proofs.Members.{some_part}
-use Rattle.pv_rules.proofs.Rests.{no_flat, outside}
 use Rattle.pv_rules.specs.PlainForms.{plain_site}
 use Rattle.pv_rules.specs.Sites.{PlainSite, content_site, name_site, part_site, rest_site}
 use Rattle.pv_tables.specs.Values.{are_same_sites}
@@ -21,6 +13,7 @@ use Rattle.pv_denial.specs.RowForms.{one_past, past_at}
 use Rattle.pv_denial.specs.Rows.{AreOfOtherSites, EachRow, IsRow, row_of}
 use Rattle.pv_denial.specs.declared.denials.Row.{Row}
 use Rattle.pv_denial.specs.declared.index.Index.{Index}
+use Rattle.pv_denial.proofs.PartSites.{part_within, rest_within}
 use Rattle.pv_denial.proofs.Rowing.{other_site, row_found, row_is, same_site}
 
 -- the first rows are rows of a word, no two have one site, and the index has them
@@ -120,23 +113,8 @@ pub rooms : (g : PlainDtd) (ix : Index) → length ix.names.items ≡ length g.n
     length ix.rests.items ≡ parts_in_models g.models → HasRooms g ix
 rooms g ix a b c d (name_site x) has = omega arith
 rooms g ix a b c d (content_site x) has = omega arith
-rooms g ix a b c d (part_site q) has = some_part_at (part_at g q) refl has
-  where
-    some_part_at : (o : Option PlainPart) → part_at g q ≡ o → IsSome o → q < length ix.parts.items
-    some_part_at None e s = absurd cc
-    some_part_at (Some p) e s = let x = (parts_by_number g).within q p e in let y = some_part p in omega arith
-rooms g ix a b c d (rest_site q) has = some_rest_at (rest_at g q) refl has
-  where
-    some_rest_at : (o : Option PlainParts) → rest_at g q ≡ o → IsSome o → q < length ix.rests.items
-    some_rest_at None e s = absurd cc
-    some_rest_at (Some no_parts) e s = absurd (no_rests (slice_get (flat_parts g) q) refl)
-      where
-        no_rests : (f : Option FlatPart) → slice_get (flat_parts g) q ≡ f → ⊥
-        no_rests None h = no_flat g q h (rw e refl)
-        no_rests (Some f) h =
-            let m = made g q f h in
-            outside g q f h (ap (λ (x : FlatPart). x.membership) m.is_flat ∙ ap membership_at e) (rw e refl)
-    some_rest_at (Some (part p ps)) e s = let x = (parts_by_number g).within q p ((parts_by_number g).member q p ps e) in let y = some_part p in omega arith
+rooms g ix a b c d (part_site q) has = let lt = part_within g (parts_by_number g) (part_site q) has refl in omega arith
+rooms g ix a b c d (rest_site q) has = let lt = rest_within g (parts_by_number g) (rest_site q) has refl in omega arith
 
 pub fresh : (g : PlainDtd) (tokens : ℕ) (rows : List Row) (n : ℕ) (ix : Index) → AreTaken g tokens rows n ix → (r : Row) → slice_get rows n ≡ Some r → AreOfOtherSites rows → (v : ℕ) → slot ix (plain_site r.site) ≡ v → v ≡ 0
 fresh g tokens rows n ix are r here others zero e = refl

@@ -1,9 +1,8 @@
 -- A denial is judged to be one thing only.
 use Rattle.std.proofs.Common.{List, ap, inl, inr, refl, subst, sym, ℕ, ◌∙◌, ◌≡◌}
 use Rattle.pv_dtd.specs.Plain.{PlainDtd}
-use Rattle.pv_tree.specs.Laws.{ListsAscend}
-use Rattle.pv_tree.specs.Lists.{Listed, lists_of}
-use Rattle.pv_tables.proofs.AddingUp.{same_place}
+use Rattle.pv_tree.specs.Lists.{Listed}
+use Rattle.pv_tables.specs.TableLaws.{OneListAtPath}
 use Rattle.pv_denial.specs.Judging.{FailsAt, IsAbout, IsJudged, IsTooWideFor, JudgesAt}
 use Rattle.pv_denial.specs.Laws.{OneJudged}
 use Rattle.pv_missing.specs.Widths.{IsListForVerdict}
@@ -47,11 +46,11 @@ module _ {M : Type 0} (g : PlainDtd) (root : List ℕ) (d : Denial) (list : List
   narrow_at (judged.Rejected flaw.Table) p = p.0
   narrow_at (judged.Rejected flaw.Reached) p = p.0
 
-pub one_judged : (M : Type 0) → ListsAscend M → OneJudged M
-one_judged M ascend g root doc d = (same, narrow)
+pub one_judged : (M : Type 0) → OneListAtPath M → OneJudged M
+one_judged M paths g root doc d = (same, narrow)
   where
     one_list : (a b : Listed M) → IsAbout doc d a → IsAbout doc d b → a ≡ b
-    one_list a b p q = same_place M (lists_of doc) (ascend doc) a b p.is_listed q.is_listed (p.is_path ∙ sym q.is_path)
+    one_list a b p q = paths doc a b p.is_listed q.is_listed (p.is_path ∙ sym q.is_path)
 
     same : (j k : Judged) → IsJudged g root doc d j → IsJudged g root doc d k → j ≡ k
     same j k (inl (n, e)) (inl (m, f)) = e ∙ sym f

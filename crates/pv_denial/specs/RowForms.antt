@@ -1,8 +1,8 @@
 -- What rows hold under the rules of each form. A value is told by one more than it, and 0 tells
 -- none, so that none is less than every number.
-use Rattle.std.specs.Prelude.{List, None, Option, Some, slice_get, suc, zero, ℕ, ◌≡◌, ◌≤◌}
+use Rattle.std.specs.Prelude.{List, None, Option, Some, length, slice_get, suc, zero, ℕ, ◌≡◌, ◌≤◌, ◌⊎◌}
 use Rattle.pv_model.specs.Plain.{PlainToken, named, text}
-use Rattle.pv_dtd.specs.Plain.{PlainDtd}
+use Rattle.pv_dtd.specs.Plain.{IsDeclared, PlainDtd}
 use Rattle.pv_rules.specs.Barriers.{AreAtRows, IsWithinRows}
 use Rattle.pv_rules.specs.Rules.{Goal, Rule, over}
 use Rattle.pv_rules.specs.Sites.{PlainSite, name_site}
@@ -49,3 +49,13 @@ HoldsKept rows x w = (i : ℕ) → slice_get w i ≡ Some (named x) →
 abbrev pub HoldsAt : PlainDtd → List PlainToken → List Row → PlainSite → Type 0
 HoldsAt g w rows s = (i j c : ℕ) (xs : List Goal) → Rule g w (over s i j) c xs →
     AreAtRows (row_value rows) xs → IsWithinRows (row_value rows) (over s i j)
+
+-- One past the greatest value of the declared names at a place, or 0 where none has any.
+pub record IsMost (g : PlainDtd) (rows : List Row) (i m : ℕ) : Type 0 where
+  pub all : (y : ℕ) → IsDeclared g y → past_at rows (name_site y) i ≤ m
+  pub attained : (m ≡ 0) ⊎ ((y : ℕ) × IsDeclared g y × (past_at rows (name_site y) i ≡ m))
+
+-- the same at each place of a word of n tokens
+pub record AreMost (g : PlainDtd) (rows : List Row) (n : ℕ) (ms : List ℕ) : Type 0 where
+  pub long : length ms ≡ suc n
+  pub each : (i m : ℕ) → slice_get ms i ≡ Some m → IsMost g rows i m

@@ -1,11 +1,12 @@
 -- The rows of a denial, and what it means that they are a barrier.
 use Rattle.std.specs.Prelude.{List, None, Option, Some, [], length, option_and_then, slice_get, suc}
-use Rattle.std.specs.Prelude.{ℕ, ◌<◌, ◌∷◌, ◌≡◌, ◌≢◌, ◌≤◌, if◌then◌else◌}
+use Rattle.std.specs.Prelude.{ℕ, ◌+◌, ◌<◌, ◌∷◌, ◌≡◌, ◌≢◌, ◌≤◌, ◌⊎◌, if◌then◌else◌}
 use Rattle.pv_model.specs.Plain.{PlainToken}
 use Rattle.pv_dtd.specs.Plain.{PlainDtd}
 use Rattle.pv_rules.specs.Barriers.{IsBarrierAtRows}
 use Rattle.pv_rules.specs.PlainForms.{plain_site}
 use Rattle.pv_rules.specs.Sites.{HasSite, PlainSite}
+use Rattle.pv_tables.specs.Tables.{kind_rank, site_number}
 use Rattle.pv_tables.specs.Values.{are_same_sites}
 use Rattle.pv_denial.specs.declared.denials.Row.{Row}
 
@@ -46,3 +47,25 @@ pub record AreBarrierRows (g : PlainDtd) (w : List PlainToken) (rows : List Row)
   pub each : EachRow (IsRow g (length w)) rows
   pub once : AreOfOtherSites rows
   pub barrier : IsBarrierAtRows g w (row_value rows)
+
+-- One site is before another by kind, in the order of contents, names, parts and members of
+-- sequences, and then by number.
+abbrev pub IsSiteBefore : PlainSite → PlainSite → Type 0
+IsSiteBefore a b = (kind_rank a < kind_rank b) ⊎
+    ((kind_rank a ≡ kind_rank b) × (site_number a < site_number b))
+
+-- how many values all rows of a denial may have
+abbrev pub most_values : ℕ
+most_values = 8388608
+
+-- how many values rows have
+abbrev pub values_in : List Row → ℕ
+values_in [] = 0
+values_in (r ∷ rows) = length r.values + values_in rows
+
+-- Rows stand in the order of their sites, each has a value, and they have no more than there may be.
+pub record AreInOrder (rows : List Row) : Type 0 where
+  pub ascend : (j k : ℕ) (q r : Row) → j < k → slice_get rows j ≡ Some q →
+      slice_get rows k ≡ Some r → IsSiteBefore (plain_site q.site) (plain_site r.site)
+  pub some : EachRow (λ r. r.values ≢ []) rows
+  pub few : values_in rows ≤ most_values

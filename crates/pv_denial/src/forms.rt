@@ -39,14 +39,13 @@ pub fn one_holds(barrier: &Barrier<'_>, left: Site, right: Site, tokens: usize) 
     true
 }
 
-/// One past the value of a second site at the value of a first, or 0.
-fn past_behind(barrier: &Barrier<'_>, first: Site, second: Site, place: usize) -> u64
-    ensures { result ≡ behind (past_at barrier.now (plain_site first) place)
-        (past_at barrier.now (plain_site second)) }
+/// One past the value of a site at the place that is told by one more than it, or 0.
+pub fn past_from(barrier: &Barrier<'_>, site: Site, past: u64) -> u64
+    ensures { result ≡ behind past (past_at barrier.now (plain_site site)) }
 {
-    match barrier.past_at(first, place) {
+    match past {
         0 => 0,
-        past => barrier.past_at(second, (past - 1) as usize),
+        past => barrier.past_at(site, (past - 1) as usize),
     }
 }
 
@@ -63,7 +62,8 @@ pub fn two_holds(
         HoldsTwo barrier.now (plain_site left) (plain_site first) (plain_site second) tokens }
 {
     for place in 0..tokens + 1 {
-        if barrier.past_at(left, place) < past_behind(barrier, first, second, place) {
+        let past = barrier.past_at(first, place);
+        if barrier.past_at(left, place) < past_from(barrier, second, past) {
             return false;
         }
     }

@@ -21,6 +21,7 @@ use crate::causes::holds;
 use crate::denials::{Cause, Denial, Flaw, Judged, Row};
 use crate::errors::JudgeError;
 use crate::listing::barrier_of;
+use crate::names::most_of_names;
 use crate::places::{Place, place_at};
 use crate::rules::all_hold;
 use pv_missing::laws::lists::known_word_law;
@@ -69,7 +70,8 @@ fn judge_rows(
     let Some(barrier) = barrier_of(alloc, grammar, rows, word.len())? else {
         return Ok(Judged::Rejected(Flaw::Table));
     };
-    if !all_hold(grammar, &barrier, word) {
+    let most = most_of_names(alloc, grammar, &barrier, word.len())?;
+    if !all_hold(grammar, &barrier, &most, word) {
         return Ok(Judged::Rejected(Flaw::Table));
     }
     if barrier.past_at(owner_site(owner), 0) == word.len() as u64 + 1 {
@@ -120,8 +122,8 @@ fn judge_cause(grammar: &Grammar, place: &Place<'_>, denial: &Denial) -> Judged
 /// Whether a denial shows that no insertions make a document valid.
 ///
 /// The list comes first, then its width, the cause, the rows and what they reach. The time is about
-/// linear in the values of the rows times the rules of the DTD; the memory is eight bytes for each
-/// site of the DTD, and the list's word.
+/// linear in the values of the rows; the memory is eight bytes for each site of the DTD and for each
+/// place of the list's word, and that word.
 pub fn judge(
     alloc: Global,
     grammar: &Grammar,

@@ -6,7 +6,7 @@ ghost use Rattle.pv_denial.specs.Laws.{DeniedIsImpossible, DeniedListIsImpossibl
 use pv_missing::laws::documents::live_lists_law;
 use pv_missing::laws::words::{live_follows_law, possible_derives_law};
 use pv_rules::laws::{barrier_law, barrier_rows_law};
-use pv_tree::laws::lists_ascend_law;
+use pv_tables::laws::one_list_at_path_law;
 
 /// The list of a denial that passes all tests is impossible, whoever made the denial.
 pub fn denied_list_law<M>()
@@ -30,5 +30,5 @@ pub fn denied_law<M>()
 pub fn one_judged_law<M>()
     ensures { OneJudged M }
 {
-    lists_ascend_law::<M>();
+    one_list_at_path_law::<M>();
 }

@@ -18,11 +18,12 @@ mod index;
 mod judging;
 pub mod laws;
 mod listing;
+mod names;
 mod places;
 mod rules;
 
 pub use causes::cause_of;
-pub use denials::{Cause, Denial, Flaw, Judged, Row, Rows};
+pub use denials::{Cause, Denial, Flaw, Judged, MOST_VALUES, Row, Rows};
 pub use errors::JudgeError;
 pub use judging::judge;
 pub use places::{Place, place_at};

@@ -12,11 +12,11 @@ ghost use Rattle.pv_rules.specs.Sites.{content_site, name_site, part_site, rest_
 ghost use Rattle.pv_productive.specs.PlainForms.{dtd_of};
 ghost use Rattle.pv_productive.specs.Tables.{IsChoiceAt};
 ghost use Rattle.pv_denial.specs.RowForms.{HoldsAt, HoldsKept, HoldsNone, HoldsOne, HoldsText};
-ghost use Rattle.pv_denial.specs.RowForms.{HoldsTwo};
+ghost use Rattle.pv_denial.specs.RowForms.{AreMost, HoldsTwo};
 ghost use Rattle.pv_denial.specs.Rows.{EachRow, IsRow, row_value};
 
 use crate::barrier::Barrier;
-use crate::forms::{kept_holds, none_holds, one_holds, text_holds, two_holds};
+use crate::forms::{kept_holds, none_holds, one_holds, past_from, text_holds, two_holds};
 use pv_model::{NameId, Token};
 use pv_productive::Grammar;
 use pv_rules::{ContentKind, Kind, Membership, Site};
@@ -56,15 +56,23 @@ fn parts_hold(barrier: &Barrier<'_>, id: NameId, first: u32, end: u32, tokens: u
     true
 }
 
-/// Whether some content is at least itself behind each declared name.
-fn names_hold(grammar: &Grammar, barrier: &Barrier<'_>, id: NameId, tokens: usize) -> bool
-    requires { tokens < 2 ^ 62 }
+/// Whether some content is at least itself behind each declared name, by the most of these.
+fn names_hold(
+    grammar: &Grammar,
+    barrier: &Barrier<'_>,
+    id: NameId,
+    most: &[u64],
+    word: &[Token],
+) -> bool
+    requires rows { EachRow (IsRow (dtd_of grammar.now) (length word.now)) barrier.now }
+    requires most { AreMost (dtd_of grammar.now) barrier.now (length word.now) most.now }
     ensures { IsTrue result ↔ ((y : ℕ) → IsDeclared (dtd_of grammar.now) y →
-        HoldsTwo barrier.now (content_site id.0) (name_site y) (content_site id.0) tokens) }
+        HoldsTwo barrier.now (content_site id.0) (name_site y) (content_site id.0)
+        (length word.now)) }
 {
-    for name in 0..grammar.dtd().count() {
+    for (place, past) in most.iter().enumerate() {
         let content = Site::Content(id);
-        if !two_holds(barrier, content, Site::Name(NameId(name)), content, tokens) {
+        if barrier.past_at(content, place) < past_from(barrier, content, *past) {
             return false;
         }
     }
@@ -93,20 +101,35 @@ fn mixed_holds(barrier: &Barrier<'_>, id: NameId, first: u32, end: u32, word: &[
 }
 
 /// Whether the rules of content that may be anything hold.
-fn any_holds(grammar: &Grammar, barrier: &Barrier<'_>, id: NameId, word: &[Token]) -> bool
-    requires { length word.now < 2 ^ 62 }
+fn any_holds(
+    grammar: &Grammar,
+    barrier: &Barrier<'_>,
+    id: NameId,
+    most: &[u64],
+    word: &[Token],
+) -> bool
+    requires short { length word.now < 2 ^ 62 }
+    requires rows { EachRow (IsRow (dtd_of grammar.now) (length word.now)) barrier.now }
+    requires most { AreMost (dtd_of grammar.now) barrier.now (length word.now) most.now }
     ensures { IsTrue result ↔ ((HoldsNone barrier.now (content_site id.0) (length word.now) ×
         HoldsText barrier.now (content_site id.0) (map plain_token word.now)) ×
         ((y : ℕ) → IsDeclared (dtd_of grammar.now) y → HoldsTwo barrier.now (content_site id.0)
         (name_site y) (content_site id.0) (length word.now))) }
 {
-    texts_hold(barrier, id, word) && names_hold(grammar, barrier, id, word.len())
+    texts_hold(barrier, id, word) && names_hold(grammar, barrier, id, most, word)
 }
 
 /// Whether the rules of the content of a name hold.
-fn content_holds(grammar: &Grammar, barrier: &Barrier<'_>, id: NameId, word: &[Token]) -> bool
+fn content_holds(
+    grammar: &Grammar,
+    barrier: &Barrier<'_>,
+    id: NameId,
+    most: &[u64],
+    word: &[Token],
+) -> bool
     requires short { length word.now < 2 ^ 62 }
     requires rows { EachRow (IsRow (dtd_of grammar.now) (length word.now)) barrier.now }
+    requires most { AreMost (dtd_of grammar.now) barrier.now (length word.now) most.now }
     ensures { IsTrue result ↔ HoldsAt (dtd_of grammar.now) (map plain_token word.now) barrier.now
         (content_site id.0) }
 {
@@ -116,7 +139,7 @@ fn content_holds(grammar: &Grammar, barrier: &Barrier<'_>, id: NameId, word: &[T
     let site = Site::Content(id);
     match content.kind {
         ContentKind::Empty => none_holds(barrier, site, word.len()),
-        ContentKind::Any => any_holds(grammar, barrier, id, word),
+        ContentKind::Any => any_holds(grammar, barrier, id, most, word),
         ContentKind::Mixed => mixed_holds(barrier, id, content.first, content.end, word),
         ContentKind::Children => one_holds(barrier, site, Site::Part(content.first), word.len()),
     }
@@ -228,26 +251,34 @@ fn rest_holds(grammar: &Grammar, barrier: &Barrier<'_>, number: u32, word: &[Tok
 }
 
 /// Whether the rules of a name and of its content hold.
-fn both_hold(grammar: &Grammar, barrier: &Barrier<'_>, id: NameId, word: &[Token]) -> bool
+fn both_hold(
+    grammar: &Grammar,
+    barrier: &Barrier<'_>,
+    id: NameId,
+    most: &[u64],
+    word: &[Token],
+) -> bool
     requires short { length word.now < 2 ^ 62 }
     requires rows { EachRow (IsRow (dtd_of grammar.now) (length word.now)) barrier.now }
+    requires most { AreMost (dtd_of grammar.now) barrier.now (length word.now) most.now }
     ensures { IsTrue result ↔
         (HoldsAt (dtd_of grammar.now) (map plain_token word.now) barrier.now (name_site id.0) ×
         HoldsAt (dtd_of grammar.now) (map plain_token word.now) barrier.now (content_site id.0)) }
 {
-    name_holds(grammar, barrier, id, word) && content_holds(grammar, barrier, id, word)
+    name_holds(grammar, barrier, id, word) && content_holds(grammar, barrier, id, most, word)
 }
 
 /// Whether the rules of all names and their contents hold.
-fn all_names_hold(grammar: &Grammar, barrier: &Barrier<'_>, word: &[Token]) -> bool
+fn all_names_hold(grammar: &Grammar, barrier: &Barrier<'_>, most: &[u64], word: &[Token]) -> bool
     requires short { length word.now < 2 ^ 62 }
     requires rows { EachRow (IsRow (dtd_of grammar.now) (length word.now)) barrier.now }
+    requires most { AreMost (dtd_of grammar.now) barrier.now (length word.now) most.now }
     ensures { IsTrue result ↔ ((x : ℕ) → x < length (dtd_of grammar.now).names →
         HoldsAt (dtd_of grammar.now) (map plain_token word.now) barrier.now (name_site x) ×
         HoldsAt (dtd_of grammar.now) (map plain_token word.now) barrier.now (content_site x)) }
 {
     for name in 0..grammar.dtd().names() {
-        if !both_hold(grammar, barrier, NameId(name), word) {
+        if !both_hold(grammar, barrier, NameId(name), most, word) {
             return false;
         }
     }
@@ -283,9 +314,10 @@ fn all_parts_hold(grammar: &Grammar, barrier: &Barrier<'_>, word: &[Token]) -> b
 }
 
 /// Whether the rules of all names and of all parts hold.
-fn sites_hold(grammar: &Grammar, barrier: &Barrier<'_>, word: &[Token]) -> bool
+fn sites_hold(grammar: &Grammar, barrier: &Barrier<'_>, most: &[u64], word: &[Token]) -> bool
     requires short { length word.now < 2 ^ 62 }
     requires rows { EachRow (IsRow (dtd_of grammar.now) (length word.now)) barrier.now }
+    requires most { AreMost (dtd_of grammar.now) barrier.now (length word.now) most.now }
     ensures { IsTrue result ↔
         (((x : ℕ) → x < length (dtd_of grammar.now).names →
         HoldsAt (dtd_of grammar.now) (map plain_token word.now) barrier.now (name_site x) ×
@@ -294,16 +326,18 @@ fn sites_hold(grammar: &Grammar, barrier: &Barrier<'_>, word: &[Token]) -> bool
         HoldsAt (dtd_of grammar.now) (map plain_token word.now) barrier.now (part_site q) ×
         HoldsAt (dtd_of grammar.now) (map plain_token word.now) barrier.now (rest_site q))) }
 {
-    all_names_hold(grammar, barrier, word) && all_parts_hold(grammar, barrier, word)
+    all_names_hold(grammar, barrier, most, word) && all_parts_hold(grammar, barrier, word)
 }
 
-/// Whether all rules hold: each left side is at least each right side.
-pub fn all_hold(grammar: &Grammar, barrier: &Barrier<'_>, word: &[Token]) -> bool
+/// Whether all rules hold: each left side is at least each right side. The most of the declared
+/// names is told of each place.
+pub fn all_hold(grammar: &Grammar, barrier: &Barrier<'_>, most: &[u64], word: &[Token]) -> bool
     requires short { length word.now < 2 ^ 62 }
     requires rows { EachRow (IsRow (dtd_of grammar.now) (length word.now)) barrier.now }
+    requires most { AreMost (dtd_of grammar.now) barrier.now (length word.now) most.now }
     requires known { IsKnownWord (dtd_of grammar.now) (map plain_token word.now) }
     ensures { IsTrue result ↔ IsBarrierAtRows (dtd_of grammar.now) (map plain_token word.now)
         (row_value barrier.now) }
 {
-    sites_hold(grammar, barrier, word)
+    sites_hold(grammar, barrier, most, word)
 }

@@ -6,13 +6,14 @@ use Rattle.pv_dtd.specs.Plain.{PlainDtd, model_of, number_of}
 use Rattle.pv_dtd.specs.Proper.{IsProperDtd}
 use Rattle.pv_rules.specs.Deriving.{DerivesAt}
 use Rattle.pv_rules.specs.Sites.{PlainSite, content_site, name_site}
-use Rattle.pv_tree.specs.Lists.{Listed, Owner, an_element, the_document}
+use Rattle.pv_tree.specs.Lists.{Listed, Owner, an_element, lists_of, the_document}
 use Rattle.pv_tree.specs.Plain.{Forest, no_trees, tree}
 use Rattle.pv_tree.specs.Words.{word_of}
 use Rattle.pv_missing.specs.ListLaws.{KnownWord}
 use Rattle.pv_missing.specs.LiveWords.{IsLiveWord}
 use Rattle.pv_missing.specs.Verdicts.{IsLiveBy}
 use Rattle.pv_missing.specs.Weighing.{site_of}
+use Rattle.pv_missing.specs.Widths.{IsListForVerdict}
 use Rattle.pv_missing.specs.WordLaws.{LiveFollows, OneLiveWord, OwnerIsProductive, PossibleDerives}
 use Rattle.pv_missing.specs.declared.owners.Of.TheVariants as of
 use Rattle.pv_denial.specs.Causes.{HasKidsInEmpty, Holds, IsCause}
@@ -28,6 +29,7 @@ use Rattle.pv_reach.specs.Laws.{SpansWithin}
 use Rattle.pv_deny.specs.Denying.{AreFurthestRows}
 use Rattle.pv_deny.specs.Laws.{DenialIsJudged, FurthestIsBarrier}
 use Rattle.pv_deny.proofs.Furthest.{found}
+use Rattle.pv_denial.proofs.Lists.{every}
 
 module _ (M : Type 0) (spans : SpansWithin) (barrier : FurthestIsBarrier) (words : KnownWord M) (follows : LiveFollows) (one : OneLiveWord) (owner : OwnerIsProductive) (possible : PossibleDerives)
     (g : PlainDtd) (root : List ℕ) (d : Denial) (proper : IsProperDtd g) (list : Listed M) where
@@ -93,7 +95,7 @@ denial_judged M spans barrier words follows one owner possible g root doc d prop
     judges : (d.cause ≡ cause.Word) ⊎ (d.cause ≢ cause.Word) → JudgesAt g root d is.list judged.Denied
     judges (inl e) =
         let w = is.by_word e in (
-          (λ _. is.narrow),
+          (λ _. every (IsListForVerdict g) (lists_of doc) is.list is.narrow is.is_about.is_listed),
           record { holds = holds M spans barrier words follows one owner possible g root d proper is.list d.cause is.is_cause; rows = inl e },
           table M spans barrier words follows one owner possible g root d proper is.list w.0 w.1 w.2,
           not_reached M spans barrier words follows one owner possible g root d proper is.list w.0 w.1 w.2 is.is_cause is.impossible,

@@ -19,10 +19,10 @@ use Rattle.pv_rules.proofs.Deriving.{spanned}
 use Rattle.pv_missing.specs.LiveWords.{AreProductiveTokens}
 use Rattle.pv_tables.specs.Tables.{kind_rank, site_number}
 use Rattle.pv_reach.specs.Laws.{SpansWithin}
-use Rattle.pv_denial.specs.Rows.{AreBarrierRows, AreOfOtherSites, EachRow, IsRow, row_of, row_value}
+use Rattle.pv_denial.specs.Rows.{AreBarrierRows, AreOfOtherSites, EachRow, IsRow, IsSiteBefore, row_of, row_value}
 use Rattle.pv_denial.specs.declared.denials.Row.{Row}
 use Rattle.pv_denial.proofs.Rowing.{row_found, row_is, slice_get_below}
-use Rattle.pv_deny.specs.Denying.{AreFurthestRows, IsFurthestRow, IsSiteBefore}
+use Rattle.pv_deny.specs.Denying.{AreFurthestRows, IsFurthestRow}
 
 before_itself : (a b : PlainSite) → a ≡ b → IsSiteBefore a b → ⊥
 before_itself a b e (inl lt) = let k = ap kind_rank e in omega arith

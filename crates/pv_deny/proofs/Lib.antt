@@ -1,3 +1,8 @@
 -- of this crate:
+pub mod ToldSites
+pub mod RowFacts
+pub mod WordRows
+pub mod Outcomes
+pub mod AtPaths
 pub mod Denials
 pub mod Furthest

@@ -1,2 +1,3 @@
 pub mod Denying
 pub mod Laws
+pub mod Told

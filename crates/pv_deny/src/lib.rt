@@ -1,9 +1,18 @@
 //! What denies a document: the first impossible list, its cause, and for its word the furthest
 //! places of all sites as rows.
 //!
-//! `IsDenialOf` says what a denial of a document is (`specs/Denying.antt`). Rows of furthest places
-//! are a barrier, so that such a denial passes each test of its judge (`laws`). Nothing makes a
-//! denial yet.
+//! `deny` finds a denial, or tells why there is none: each document has one such outcome
+//! (`specs/Denying.antt`). `denial_at` makes the denial where the first impossible list is known
+//! already. Rows of furthest places are a barrier, so that a denial that is found passes each test
+//! of its judge (`laws`), which stands on none of this.
 #![tactic(auto)]
 
+mod denying;
+mod errors;
 pub mod laws;
+mod rows;
+mod sites;
+mod words;
+
+pub use denying::{denial_at, deny};
+pub use errors::DenyError;

@@ -1,7 +1,11 @@
-//! Furthest places, denials and their judge: rows by public calls.
+//! Furthest places, denials, their judge and their text: rows by public calls.
 #![tactic(auto)]
 
 #[cfg(test)]
 mod denials;
 #[cfg(test)]
+mod denying;
+#[cfg(test)]
 mod reaches;
+#[cfg(test)]
+mod texts;

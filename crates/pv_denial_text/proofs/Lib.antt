@@ -1,0 +1,9 @@
+-- of this crate:
+pub mod ValueWords
+pub mod RowWords
+pub mod Stands
+pub mod RowLines
+pub mod Determined
+pub mod OneMeaning
+pub mod Heads
+pub mod WrittenLines

@@ -1,0 +1,39 @@
+//! The values of a row.
+
+ghost use Rattle.std.specs.Prelude.{ℕ, List, IfOk, MatchOption};
+ghost use Rattle.pv_denial_text.specs.Fronts.{AreValues};
+
+use pv_cert::next_number;
+use pv_chars::NoMemory;
+use pv_denial::MOST_VALUES;
+use pv_script::written_number;
+use std::alloc::Global;
+
+// At most how many values some bytes are.
+fn room_for(bytes: &[u8]) -> usize {
+    let blanks = bytes.iter().filter(|byte| **byte == b' ').count();
+    if blanks < MOST_VALUES as usize {
+        blanks + 1
+    } else {
+        MOST_VALUES as usize
+    }
+}
+
+/// The values that some bytes are.
+pub fn values_of(alloc: Global, bytes: &[u8]) -> Result<Option<Vec<u32>>, NoMemory>
+    ensures { IfOk result (λ found. MatchOption found
+        ((values : List ℕ) → AreValues bytes.now values → ⊥)
+        (λ values. AreValues bytes.now values.items)) }
+{
+    let mut values = Vec::with_capacity(alloc, room_for(bytes))?;
+    let mut rest = bytes;
+    'values: while let Some((value, after)) = next_number(rest) {
+        values.push(value)?;
+        rest = after;
+    }
+    let Some(last) = written_number(rest) else {
+        return Ok(None);
+    };
+    values.push(last)?;
+    Ok(Some(values))
+}

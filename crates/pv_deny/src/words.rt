@@ -1,0 +1,62 @@
+//! The rows of a list's word.
+
+ghost use Rattle.std.specs.Prelude.{IfOk, MatchOption, length, map};
+ghost use Rattle.pv_model.specs.PlainForms.{plain_token};
+ghost use Rattle.pv_productive.specs.PlainForms.{dtd_of};
+ghost use Rattle.pv_tree.specs.PlainForms.{forest};
+ghost use Rattle.pv_tree.specs.Words.{word_of};
+ghost use Rattle.pv_missing.specs.LiveWords.{AreProductiveTokens};
+ghost use Rattle.pv_missing.specs.Widths.{FitsVerdict};
+ghost use Rattle.pv_reach.specs.Ending.{AreReaches};
+ghost use Rattle.pv_deny.specs.Told.{HasManyValues, HasRows};
+
+use crate::rows::{are_few, rows_of};
+use crate::sites::told_sites;
+use pv_chars::{List, NoMemory};
+use pv_denial::Rows;
+use pv_dtd::laws::proper_dtd_law;
+use pv_missing::laws::words::live_follows_law;
+use pv_missing::live_word;
+use pv_model::Token;
+use pv_productive::Grammar;
+use pv_reach::laws::spans_within_law;
+use pv_reach::{ReachError, Reaches, furthest};
+use pv_tree::Node;
+use std::alloc::Global;
+
+/// The furthest places over a word that isn't too wide.
+fn reaches_over(alloc: Global, grammar: &Grammar, word: &[Token]) -> Result<Reaches, NoMemory>
+    requires productive { AreProductiveTokens (dtd_of grammar.now) (map plain_token word.now) }
+    requires narrow { FitsVerdict (dtd_of grammar.now) (length word.now) }
+    ensures { IfOk result (λ reaches.
+        AreReaches (dtd_of grammar.now) (map plain_token word.now) reaches) }
+{
+    match furthest(alloc, grammar, word) {
+        Ok(reaches) => Ok(reaches),
+        Err(ReachError::TooWide) => unreachable!(),
+        Err(ReachError::NoMemory) => Err(NoMemory),
+    }
+}
+
+/// The rows of furthest places over the live word of some kids, which isn't too wide; none where
+/// they would have too many values.
+pub fn word_rows(alloc: Global, grammar: &Grammar, kids: &[Node]) -> Result<Option<Rows>, NoMemory>
+    requires { FitsVerdict (dtd_of grammar.now)
+        (length (word_of (dtd_of grammar.now) (forest kids.now))) }
+    ensures { IfOk result (λ found. MatchOption found
+        (HasManyValues (dtd_of grammar.now) (word_of (dtd_of grammar.now) (forest kids.now)))
+        (HasRows (dtd_of grammar.now) (word_of (dtd_of grammar.now) (forest kids.now)))) }
+{
+    proper_dtd_law(grammar.dtd());
+    live_follows_law();
+    spans_within_law();
+    let live = live_word(alloc, grammar, kids)?;
+    let word = live.as_slice();
+    let reaches = reaches_over(alloc, grammar, word)?;
+    let sites = told_sites(alloc, grammar, &reaches)?;
+    if !are_few(sites.len() as u64, word.len() as u64) {
+        return Ok(None);
+    }
+    let rows = rows_of(alloc, &reaches, &sites, word.len())?;
+    Ok(Some(List::of(rows)))
+}
