@@ -23,7 +23,7 @@ use Rattle.pv_edit.specs.declared.asks.Ask.TheVariants.{Rename, Wrap}
 use Rattle.pv_edit.specs.declared.reasons.Reason.{Reason}
 use Rattle.pv_edit.specs.declared.reasons.Reason.TheVariants.{BadName, Deep, NoNode, NotElement, Range, RootShape}
 use Rattle.pv_missing.specs.Widths.{FitsVerdict, IsListForVerdict}
-use Rattle.pv_offer.specs.Laws.{AskedHasNoGround, LimitsDontTellNames, ReasonsDontTellNames, RenamesAreWithin, TriedAsOffered}
+use Rattle.pv_offer.specs.Laws.{AskedHasNoGround, HasOneOfferGround, LimitsDontTellNames, ReasonsDontTellNames, RenamesAreWithin, TriedAsOffered}
 use Rattle.pv_offer.specs.Offers.{CanBeAsked, HasOfferGround, IsRefusedBy, edit_with}
 use Rattle.pv_offer.specs.declared.errors.OfferError.TheVariants.{Limit, NoMemory, Shape}
 use Rattle.pv_offer.proofs.Outlines.{depth_outline, list_outline, nodes_outline, outline, outlines, root_alike, root_kept, words_long}
@@ -196,6 +196,23 @@ tried_as_offered s ask x answer.Limit can nx (d, e, w) n =
 tried_as_offered s ask x (answer.Impossible path) can nx h n =
     ((λ (d, a). n (no_ground_of_accepted ℕ ℕ 0 0 s.dtd s.root s.doc s.doc (edit_with ask x) d (answer.Impossible path) refl a h)), (path, refl))
 tried_as_offered s ask x answer.NoMemory can nx h n = absurd (n refl)
+
+refused_once : {M : Type 0} (o : Outcome M) (r q : Reason) → o ≡ refuses r → o ≡ refuses q → r ≡ q
+refused_once o r q a b = cc
+
+pub one_offer_ground : HasOneOfferGround
+one_offer_ground s ask (Shape reason) (Shape other) h k here there =
+    ap Shape (refused_once (applied 0 s.doc (edit_with ask (codes "a"))) reason other (h (codes "a") a_name) (k (codes "a") a_name))
+one_offer_ground s ask (Shape reason) Limit h (w, k) here there =
+    let (d, e, n) = k (codes "a") a_name in
+    absurd (never_both (applied 0 s.doc (edit_with ask (codes "a"))) d reason e (h (codes "a") a_name))
+one_offer_ground s ask (Shape reason) NoMemory h k here there = absurd (there refl)
+one_offer_ground s ask Limit (Shape reason) (w, h) k here there =
+    let (d, e, n) = h (codes "a") a_name in
+    absurd (never_both (applied 0 s.doc (edit_with ask (codes "a"))) d reason e (k (codes "a") a_name))
+one_offer_ground s ask Limit Limit h k here there = refl
+one_offer_ground s ask Limit NoMemory h k here there = absurd (there refl)
+one_offer_ground s ask NoMemory other h k here there = absurd (here refl)
 
 -- ---- what one name shows
 module _ (s : StampedDoc) (ask : Ask) where

@@ -1,5 +1,5 @@
 -- What holds of offers. M is a type of marks.
-use Rattle.std.specs.Prelude.{IsTrue, List, ℕ, ◌≡◌}
+use Rattle.std.specs.Prelude.{Contains, IsTrue, List, ℕ, ◌≡◌}
 use Rattle.pv_cache.specs.Accepting.{IsHoldable, IsWithinLimits}
 use Rattle.pv_cache.specs.Moves.{HasGround}
 use Rattle.pv_cache.specs.Stamps.{StampedDoc}
@@ -12,7 +12,8 @@ use Rattle.pv_edit.specs.declared.answers.EditAnswer.TheVariants as answer_of
 use Rattle.pv_edit.specs.declared.asks.Ask.{Ask}
 use Rattle.pv_edit.specs.declared.asks.Ask.TheVariants.{Rename}
 use Rattle.pv_edit.specs.declared.reasons.Reason.{Reason}
-use Rattle.pv_offer.specs.Offers.{AreOffered, CanBeAsked, HasOfferGround, IsOffered, edit_with}
+use Rattle.pv_offer.specs.Offers.{AreOffered, CanBeAsked, HasOfferGround, IsOffered, declared_names}
+use Rattle.pv_offer.specs.Offers.{edit_with}
 use Rattle.pv_offer.specs.declared.errors.OfferError.{OfferError}
 use Rattle.pv_offer.specs.declared.errors.OfferError.TheVariants.{NoMemory}
 use Rattle.pv_tree.specs.Plain.{PlainDoc}
@@ -48,6 +49,19 @@ HasOneOffer = (s : StampedDoc) (ask : Ask) (names others : List (List ℕ)) →
 abbrev pub AskedHasNoGround : Type 0
 AskedHasNoGround = (s : StampedDoc) (ask : Ask) (error : OfferError) → CanBeAsked s ask →
     HasOfferGround s ask error → error ≡ NoMemory
+
+-- There is one ground on which nothing is offered; want of memory aside.
+abbrev pub HasOneOfferGround : Type 0
+HasOneOfferGround = (s : StampedDoc) (ask : Ask) (error other : OfferError) →
+    HasOfferGround s ask error → HasOfferGround s ask other → (error ≡ NoMemory → ⊥) →
+    (other ≡ NoMemory → ⊥) → error ≡ other
+
+-- Each offered name may be put there, and a declared name that isn't among them may not.
+abbrev pub OffersExactly : Type 0
+OffersExactly = (s : StampedDoc) (ask : Ask) (names : List (List ℕ)) (x : List ℕ) →
+    AreOffered s ask names →
+    (Contains names x → IsOffered s ask x) ×
+    (Contains (declared_names s.dtd) x → (Contains names x → ⊥) → IsOffered s ask x → ⊥)
 
 -- Where names may be asked of, the edit with an offered name has no ground to be refused on, and
 -- that with another Name has no ground but Impossible lists; want of memory aside.

@@ -1,7 +1,8 @@
 //! Laws of offers. `M` is a type of marks.
 
-ghost use Rattle.pv_offer.specs.Laws.{AskedHasNoGround, HasOneOffer, LimitsDontTellNames};
-ghost use Rattle.pv_offer.specs.Laws.{ReasonsDontTellNames, RenamesAreWithin, TriedAsOffered};
+ghost use Rattle.pv_offer.specs.Laws.{AskedHasNoGround, HasOneOffer, HasOneOfferGround};
+ghost use Rattle.pv_offer.specs.Laws.{LimitsDontTellNames, OffersExactly, ReasonsDontTellNames};
+ghost use Rattle.pv_offer.specs.Laws.{RenamesAreWithin, TriedAsOffered};
 
 /// Why an edit can't be made doesn't depend on which Name is given.
 pub fn reasons_law<M>()
@@ -21,6 +22,16 @@ pub fn renames_law<M>()
 /// There is one list of offered names.
 pub fn one_offer_law()
     ensures { HasOneOffer }
+{}
+
+/// There is one ground on which nothing is offered; want of memory aside.
+pub fn one_ground_law()
+    ensures { HasOneOfferGround }
+{}
+
+/// Each offered name may be put there, and a declared name that isn't among them may not.
+pub fn offered_law()
+    ensures { OffersExactly }
 {}
 
 /// Where names may be asked of, there is no ground to offer nothing.

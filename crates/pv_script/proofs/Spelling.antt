@@ -1,22 +1,29 @@
 -- A line spells a command exactly where it is read as that command.
-use Rattle.std.proofs.Common.{◌≡◌, ℕ, List, ◌∷◌, ◌++◌, Option, Some, None, Bool, true, false, inl, inr, ◌⊎◌, refl, sym, ap, ◌∙◌, codes, decimal}
+use Rattle.std.proofs.Common.{◌≡◌, ℕ, List, ◌∷◌, ◌++◌, Option, Some, None, Bool, true, false, inl, inr, ◌⊎◌, refl, sym, ap, ◌∙◌, arith, codes, decimal}
 use Rattle.std.specs.Prelude.{if◌then◌else◌}
 use Rattle.std.proofs.lemmas.Slice.Eq.{bytes_eq-Decides}
-use Rattle.std.specs.Option.{option_map}
+use Rattle.std.specs.Option.{option_and_then, option_map}
 use Rattle.std.specs.Str.{bytes_eq}
+use Rattle.pv_edit.specs.declared.asks.Ask.{Ask}
+use Rattle.pv_edit.specs.declared.asks.Ask.TheVariants as asks
 use Rattle.pv_edit.specs.declared.edits.Edit.{Edit}
 use Rattle.pv_edit.specs.declared.edits.Edit.TheVariants.{Wrap, Insert, Unwrap, Rename, Split, Join, SetText, AddText, DelText}
+use Rattle.pv_script.specs.Asks.{ask_text, numbers_asked}
 use Rattle.pv_script.specs.Commands.{command_text, command_numbers, SpellsCommand, IsNoCommand}
 use Rattle.pv_script.specs.Edits.{AreNumbers, edit_text, numbers_in}
 use Rattle.pv_script.specs.Laws.{OneCommand, CommandOrNone}
 use Rattle.pv_script.specs.Paths.{path_text}
-use Rattle.pv_script.specs.Reading.{first_word, number_of, path_of, on_number, wrap_of, insert_of, rename_of, split_of, set_text_of, add_text_of, edit_of, edit_in, command_of}
+use Rattle.pv_script.specs.Reading.{first_word, number_of, path_of, on_number, wrap_of, insert_of, rename_of, split_of, set_text_of, add_text_of, edit_of, wrap_asked_of, ask_by, ask_of, command_in, command_of}
 use Rattle.pv_script.specs.declared.commands.Command.{Command}
 use Rattle.pv_script.specs.declared.commands.Command.TheVariants as commands
 use Rattle.pv_script.proofs.ArgumentWords.{on_path-written, on_number-written, on-path, on-number}
 use Rattle.pv_script.proofs.Numbers.{number_of-decimal, number-word}
-use Rattle.pv_script.proofs.PathWords.{path_of-path_text, path-word}
-use Rattle.pv_script.proofs.Words.{first_word-whole}
+use Rattle.pv_script.proofs.PathWords.{path-free, path_of-path_text, path-word}
+use Rattle.pv_script.proofs.Words.{first_word-free, first_word-none, first_word-whole}
+
+-- the edit that a line spells
+abbrev edit_in : List ℕ → Option Edit
+edit_in line = option_and_then (λ cut. edit_of cut.0 cut.1) (first_word line)
 
 -- what follows the path of an edit
 abbrev wrap_on : List ℕ → List ℕ → Option Edit
@@ -56,6 +63,24 @@ edit-read (AddText path at text) all =
     ∙ on_number-written (λ (i : ℕ) (x : List ℕ). Some (AddText path i x)) at text all.0
 edit-read (DelText path) all = ap (option_map DelText) (path_of-path_text path all)
 
+-- what follows the path of a new element that is asked of
+abbrev asked_on : List ℕ → List ℕ → Option Ask
+asked_on path = on_number (λ from rest. option_map (asks.Wrap path from) (number_of rest))
+
+-- what stands behind `offer`
+abbrev asked_text : Ask → List ℕ
+asked_text (asks.Wrap path from to) = path_text path ++ (32 ∷ (decimal from ++ (32 ∷ decimal to)))
+asked_text (asks.Rename path) = path_text path
+
+ask-read : (ask : Ask) → AreNumbers (numbers_asked ask) → ask_of (asked_text ask) ≡ Some ask
+ask-read (asks.Wrap path from to) all =
+    ap (ask_by (asked_text (asks.Wrap path from to))) (first_word-free (path_text path) (decimal from ++ (32 ∷ decimal to)) (path-free 32 path (omega arith) all.1.1))
+    ∙ on_path-written asked_on path (decimal from ++ (32 ∷ decimal to)) all.1.1
+    ∙ on_number-written (λ (i : ℕ) (rest : List ℕ). option_map (asks.Wrap path i) (number_of rest)) from (decimal to) all.0
+    ∙ ap (option_map (asks.Wrap path from)) (number_of-decimal to all.1.0)
+ask-read (asks.Rename path) all =
+    ap (ask_by (path_text path)) (first_word-none (path_text path) (path-free 32 path (omega arith) all)) ∙ ap (option_map asks.Rename) (path_of-path_text path all)
+
 pub command-read : (command : Command) → AreNumbers (command_numbers command) → command_of (command_text command) ≡ Some command
 command-read (commands.Edit (Wrap path from to name)) all = ap (option_map commands.Edit) (edit-read (Wrap path from to name) all)
 command-read (commands.Edit (Insert path at name)) all = ap (option_map commands.Edit) (edit-read (Insert path at name) all)
@@ -73,6 +98,8 @@ command-read commands.Show all = refl
 command-read commands.Verdicts all = refl
 command-read commands.Need all = refl
 command-read commands.Complete all = refl
+command-read (commands.Offer (asks.Wrap path from to)) all = ap (option_map commands.Offer) (ask-read (asks.Wrap path from to) all)
+command-read (commands.Offer (asks.Rename path)) all = ap (option_map commands.Offer) (ask-read (asks.Rename path) all)
 command-read commands.Quit all = refl
 
 -- a word, a blank and these arguments spell the edit
@@ -181,18 +208,63 @@ edit-spelled word bytes edit =
     (on-word word (codes "deltext") bytes edit _ _ (bytes_eq word (codes "deltext")) refl (del-text-by bytes edit (path_of bytes) refl)
     (λ never. cc)))))))))
 
-line-by : (line : List ℕ) (edit : Edit) (o : Option (List ℕ × List ℕ)) → first_word line ≡ o → edit_in line ≡ Some edit → (line ≡ edit_text edit) × AreNumbers (numbers_in edit)
-line-by line edit None is found = let these = rw is at found in cc
-line-by line edit (Some (word, bytes)) is found =
-    let spelled = edit-spelled word bytes edit (rw is at found) in
-    (first_word-whole line word bytes is ∙ spelled.text, spelled.within)
+-- these arguments of `offer` spell what is asked
+record IsAskSpelled (bytes : List ℕ) (ask : Ask) : Type 0 where
+  text : codes "offer" ++ (32 ∷ bytes) ≡ ask_text ask
+  within : AreNumbers (numbers_asked ask)
 
-edit-in-line : (line : List ℕ) (command : Command) (o : Option Edit) → edit_in line ≡ o → option_map commands.Edit o ≡ Some command → SpellsCommand line command
-edit-in-line line command None is found = cc
-edit-in-line line command (Some edit) is found =
-    let line_is = line-by line edit (first_word line) refl is in
+wrap-asked-by : (bytes path rest places : List ℕ) (from : ℕ) (ask : Ask) (o : Option ℕ) → number_of places ≡ o → option_map (asks.Wrap path from) o ≡ Some ask → bytes ≡ path_text path ++ (32 ∷ rest) →
+    rest ≡ decimal from ++ (32 ∷ places) → AreNumbers (from ∷ path) → IsAskSpelled bytes ask
+wrap-asked-by bytes path rest places from ask None is makes whole more within = cc
+wrap-asked-by bytes path rest places from ask (Some to) is makes whole more within =
+    let number = number-word places to is in
+    let this : asks.Wrap path from to ≡ ask = cc in
+    rw (← this) record {
+      text = ap (λ b. codes "offer" ++ (32 ∷ b)) (whole ∙ ap (λ b. path_text path ++ (32 ∷ b)) (more ∙ ap (λ b. decimal from ++ (32 ∷ b)) number.digits));
+      within = (within.0, (number.within, within.1));
+    }
+
+wrap-asked : (bytes : List ℕ) (ask : Ask) → wrap_asked_of bytes ≡ Some ask → IsAskSpelled bytes ask
+wrap-asked bytes ask found =
+    let p = on-path asked_on bytes ask found in
+    let q = on-number (λ (i : ℕ) (rest : List ℕ). option_map (asks.Wrap p.path i) (number_of rest)) p.rest ask p.makes in
+    wrap-asked-by bytes p.path p.rest q.rest q.number ask (number_of q.rest) refl q.makes p.whole q.whole (q.within, p.within)
+
+rename-asked-by : (bytes : List ℕ) (ask : Ask) (o : Option (List ℕ)) → path_of bytes ≡ o → option_map asks.Rename o ≡ Some ask → IsAskSpelled bytes ask
+rename-asked-by bytes ask None is makes = cc
+rename-asked-by bytes ask (Some path) is makes =
+    let read = path-word bytes path is in
+    let this : asks.Rename path ≡ ask = cc in
+    rw (← this) record { text = ap (λ b. codes "offer" ++ (32 ∷ b)) read.text; within = read.within }
+
+ask-spelled : (bytes : List ℕ) (ask : Ask) (o : Option (List ℕ × List ℕ)) → ask_by bytes o ≡ Some ask → IsAskSpelled bytes ask
+ask-spelled bytes ask None found = rename-asked-by bytes ask (path_of bytes) refl found
+ask-spelled bytes ask (Some cut) found = wrap-asked bytes ask found
+
+-- the command of a question, or of an edit, is spelled by its word and arguments
+offer-spelled : (bytes : List ℕ) (command : Command) (o : Option Ask) → ask_of bytes ≡ o → option_map commands.Offer o ≡ Some command → SpellsCommand (codes "offer" ++ (32 ∷ bytes)) command
+offer-spelled bytes command None is found = cc
+offer-spelled bytes command (Some ask) is found =
+    let spelled = ask-spelled bytes ask (first_word bytes) is in
+    let this : commands.Offer ask ≡ command = cc in
+    rw (← this) record { text = spelled.text; numbers = spelled.within }
+
+edit-command : (word bytes : List ℕ) (command : Command) (o : Option Edit) → edit_of word bytes ≡ o → option_map commands.Edit o ≡ Some command → SpellsCommand (word ++ (32 ∷ bytes)) command
+edit-command word bytes command None is found = cc
+edit-command word bytes command (Some edit) is found =
+    let spelled = edit-spelled word bytes edit is in
     let this : commands.Edit edit ≡ command = cc in
-    rw (← this) record { text = line_is.0; numbers = line_is.1 }
+    rw (← this) record { text = spelled.text; numbers = spelled.within }
+
+with-by : (word bytes : List ℕ) (command : Command) (same : Bool) → bytes_eq word (codes "offer") ≡ same →
+    (if same then option_map commands.Offer (ask_of bytes) else option_map commands.Edit (edit_of word bytes)) ≡ Some command → SpellsCommand (word ++ (32 ∷ bytes)) command
+with-by word bytes command true is found = rw ((bytes_eq-Decides word (codes "offer")).0 is) (offer-spelled bytes command (ask_of bytes) refl found)
+with-by word bytes command false is found = edit-command word bytes command (edit_of word bytes) refl found
+
+in-line : (line : List ℕ) (command : Command) (o : Option (List ℕ × List ℕ)) → first_word line ≡ o → command_in line ≡ Some command → SpellsCommand line command
+in-line line command None is found = let these = rw is at found in cc
+in-line line command (Some (word, bytes)) is found =
+    rw (first_word-whole line word bytes is) (with-by word bytes command (bytes_eq word (codes "offer")) refl (rw is at found))
 
 -- where the line is this, the command is spelled by it
 on-line : (line name : List ℕ) (command this : Command) (other : Option Command) (same : Bool) → bytes_eq line name ≡ same → (command_text this ≡ name) → AreNumbers (command_numbers this) →
@@ -212,7 +284,7 @@ command-spelled line command =
     (on-line line (codes "need") command commands.Need _ (bytes_eq line (codes "need")) refl refl tt
     (on-line line (codes "complete") command commands.Complete _ (bytes_eq line (codes "complete")) refl refl tt
     (on-line line (codes "quit") command commands.Quit _ (bytes_eq line (codes "quit")) refl refl tt
-    (edit-in-line line command (edit_in line) refl))))))))
+    (in-line line command (first_word line) refl))))))))
 
 pub spelled-read : (line : List ℕ) (command : Command) → SpellsCommand line command → command_of line ≡ Some command
 spelled-read line command spelled = ap command_of spelled.text ∙ command-read command spelled.numbers

@@ -1,5 +1,6 @@
 -- The commands of a script, and the lines that spell them.
 use Rattle.std.specs.Prelude.{◌≡◌, ℕ, List, [], codes, Option, Some, None, Result, Ok, Err}
+use Rattle.pv_script.specs.Asks.{ask_text, numbers_asked}
 use Rattle.pv_script.specs.Edits.{edit_text, numbers_in, AreNumbers}
 use Rattle.pv_script.specs.declared.commands.Command.{Command}
 use Rattle.pv_script.specs.declared.commands.Command.TheVariants as command
@@ -16,6 +17,7 @@ command_text command.Show = codes "show"
 command_text command.Verdicts = codes "verdicts"
 command_text command.Need = codes "need"
 command_text command.Complete = codes "complete"
+command_text (command.Offer ask) = ask_text ask
 command_text command.Quit = codes "quit"
 
 -- the numbers in it
@@ -28,6 +30,7 @@ command_numbers command.Show = []
 command_numbers command.Verdicts = []
 command_numbers command.Need = []
 command_numbers command.Complete = []
+command_numbers (command.Offer ask) = numbers_asked ask
 command_numbers command.Quit = []
 
 -- The line spells the command. No number in it is past the largest.

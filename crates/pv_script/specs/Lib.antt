@@ -3,6 +3,7 @@ pub mod Words
 pub mod Lines
 pub mod Taking
 pub mod Edits
+pub mod Asks
 pub mod Commands
 pub mod Reading
 pub mod Replies

@@ -4,6 +4,8 @@ use Rattle.std.specs.Prelude.{ℕ, ◌&&◌, ◌==◌, nat_le, List, [], ◌∷�
 use Rattle.std.specs.Prelude.{None, option_and_then, option_map, if◌then◌else◌}
 use Rattle.std.specs.Str.{bytes_eq}
 use Rattle.std.specs.Str.Parse.{digits_value}
+use Rattle.pv_edit.specs.declared.asks.Ask.{Ask}
+use Rattle.pv_edit.specs.declared.asks.Ask.TheVariants as ask
 use Rattle.pv_edit.specs.declared.edits.Edit.{Edit}
 use Rattle.pv_edit.specs.declared.edits.Edit.TheVariants.{Wrap, Insert, Unwrap, Rename, Split}
 use Rattle.pv_edit.specs.declared.edits.Edit.TheVariants.{Join, SetText, AddText, DelText}
@@ -94,9 +96,31 @@ edit_of word bytes =
     else if bytes_eq word (codes "deltext") then del_text_of bytes
     else None
 
--- the edit that a line spells
-abbrev pub edit_in : List ℕ → Option Edit
-edit_in line = option_and_then (λ cut. edit_of cut.0 cut.1) (first_word line)
+-- what is asked with these arguments of `offer`: of a new element where a blank stands among them
+abbrev pub wrap_asked_of : List ℕ → Option Ask
+wrap_asked_of bytes =
+    on_path (λ path. on_number (λ from rest. option_map (ask.Wrap path from) (number_of rest)))
+    bytes
+
+abbrev pub rename_asked_of : List ℕ → Option Ask
+rename_asked_of bytes = option_map ask.Rename (path_of bytes)
+
+abbrev pub ask_by : List ℕ → Option (List ℕ × List ℕ) → Option Ask
+ask_by bytes None = rename_asked_of bytes
+ask_by bytes (Some cut) = wrap_asked_of bytes
+
+abbrev pub ask_of : List ℕ → Option Ask
+ask_of bytes = ask_by bytes (first_word bytes)
+
+-- the command of this word with these arguments
+abbrev pub command_with : List ℕ → List ℕ → Option Command
+command_with word bytes =
+    if bytes_eq word (codes "offer") then option_map command.Offer (ask_of bytes)
+    else option_map command.Edit (edit_of word bytes)
+
+-- the command that a line of several words spells
+abbrev pub command_in : List ℕ → Option Command
+command_in line = option_and_then (λ cut. command_with cut.0 cut.1) (first_word line)
 
 -- the command that a line spells
 abbrev pub command_of : List ℕ → Option Command
@@ -109,4 +133,4 @@ command_of line =
     else if bytes_eq line (codes "need") then Some command.Need
     else if bytes_eq line (codes "complete") then Some command.Complete
     else if bytes_eq line (codes "quit") then Some command.Quit
-    else option_map command.Edit (edit_in line)
+    else command_in line

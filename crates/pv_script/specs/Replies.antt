@@ -10,6 +10,7 @@ use Rattle.pv_edit.specs.declared.reasons.Reason.TheVariants.{NoNode, NotElement
 use Rattle.pv_edit.specs.declared.reasons.Reason.TheVariants.{BadName, BadText, RootShape, Deep}
 use Rattle.pv_edit.specs.declared.reasons.Reason.TheVariants.{CloseMark}
 use Rattle.pv_script.specs.Edits.{edit_text}
+use Rattle.pv_script.specs.Lines.{with_feeds}
 use Rattle.pv_script.specs.Paths.{path_text}
 use Rattle.pv_script.specs.Words.{words, with_feed}
 use Rattle.pv_script.specs.declared.replies.Reply.{Reply}
@@ -68,3 +69,5 @@ reply_bytes (reply.History edits) =
     with_feed (words (codes "history" ∷ decimal (length edits) ∷ [])) ++ edit_lines edits
 reply_bytes (reply.Verdicts rows) =
     with_feed (words (codes "verdicts" ∷ decimal (length rows) ∷ [])) ++ row_lines rows
+reply_bytes (reply.Offer names) =
+    with_feed (words (codes "offer" ∷ decimal (length names) ∷ [])) ++ with_feeds names

@@ -5,7 +5,7 @@ ghost use Rattle.std.specs.Str.{bytes_eq};
 ghost use Rattle.pv_script.specs.Commands.{Reads};
 ghost use Rattle.pv_script.specs.Reading.{first_word, wrap_of, insert_of, unwrap_of, rename_of};
 ghost use Rattle.pv_script.specs.Reading.{split_of, join_of, set_text_of, add_text_of};
-ghost use Rattle.pv_script.specs.Reading.{del_text_of, edit_of, edit_in};
+ghost use Rattle.pv_script.specs.Reading.{del_text_of, edit_of};
 
 use crate::errors::CommandError;
 use crate::paths::{read_number, read_path};
@@ -14,8 +14,8 @@ use pv_chars::delimiters::up_to_byte;
 use pv_edit::Edit;
 use std::alloc::Global;
 
-// The word before the first blank, and what stands behind the blank.
-fn first_word(bytes: &[u8]) -> Result<(&[u8], &[u8]), CommandError>
+/// The word before the first blank, and what stands behind the blank.
+pub(crate) fn first_word(bytes: &[u8]) -> Result<(&[u8], &[u8]), CommandError>
     ensures { MatchResult result (λ cut. first_word bytes.now ≡ Some (cut.0.now, cut.1.now))
         (λ error. (error ≡ CommandError.Unknown) × (first_word bytes.now ≡ None)) }
 {
@@ -126,8 +126,8 @@ fn read_del_text(alloc: Global, bytes: &[u8]) -> Result<Edit, CommandError>
     Ok(Edit::DelText { path })
 }
 
-// The edit of this word with these arguments.
-fn edit_of(alloc: Global, word: &[u8], bytes: &[u8]) -> Result<Edit, CommandError>
+/// The edit of this word with these arguments.
+pub(crate) fn read_edit(alloc: Global, word: &[u8], bytes: &[u8]) -> Result<Edit, CommandError>
     ensures { Reads (edit_of word.now bytes.now) result }
 {
     if is_word(word, b"wrap") {
@@ -151,12 +151,4 @@ fn edit_of(alloc: Global, word: &[u8], bytes: &[u8]) -> Result<Edit, CommandErro
     } else {
         Err(CommandError::Unknown)
     }
-}
-
-/// The edit that a line is.
-pub(crate) fn read_edit(alloc: Global, line: &[u8]) -> Result<Edit, CommandError>
-    ensures { Reads (edit_in line.now) result }
-{
-    let (word, bytes) = first_word(line)?;
-    edit_of(alloc, word, bytes)
 }

@@ -2,11 +2,12 @@
 
 ghost use Rattle.std.specs.Prelude.{◌≡◌, Some, None, Err, IfOk};
 ghost use Rattle.pv_script.specs.Commands.{SpellsCommand, IsNoCommand, Reads};
-ghost use Rattle.pv_script.specs.Reading.{command_of};
+ghost use Rattle.pv_script.specs.Reading.{command_of, command_with};
 
-use crate::arguments::{is_word, read_edit};
+use crate::arguments::{first_word, is_word, read_edit};
+use crate::asks::read_ask;
 use crate::errors::CommandError;
-use pv_edit::Edit;
+use pv_edit::{Ask, Edit};
 use std::alloc::Global;
 
 /// What a line asks for.
@@ -29,8 +30,21 @@ pub enum Command {
     Need,
     /// `complete`: tell the document with the elements that are missing.
     Complete,
+    /// `offer`: tell the names that may be put there.
+    Offer(Ask),
     /// `quit`: end the session.
     Quit,
+}
+
+// The command of this word with these arguments.
+fn command_with(alloc: Global, word: &[u8], bytes: &[u8]) -> Result<Command, CommandError>
+    ensures { Reads (command_with word.now bytes.now) result }
+{
+    if is_word(word, b"offer") {
+        Ok(Command::Offer(read_ask(alloc, bytes)?))
+    } else {
+        Ok(Command::Edit(read_edit(alloc, word, bytes)?))
+    }
 }
 
 // The command that a line is, read from the left.
@@ -54,7 +68,8 @@ fn command_of(alloc: Global, line: &[u8]) -> Result<Command, CommandError>
     } else if is_word(line, b"quit") {
         Ok(Command::Quit)
     } else {
-        Ok(Command::Edit(read_edit(alloc, line)?))
+        let (word, bytes) = first_word(line)?;
+        command_with(alloc, word, bytes)
     }
 }
 

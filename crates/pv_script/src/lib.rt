@@ -8,6 +8,7 @@
 #![tactic(auto)]
 
 mod arguments;
+mod asks;
 mod commands;
 mod edits;
 mod errors;

@@ -1,6 +1,7 @@
 //! The replies to a script's lines.
 
 ghost use Rattle.std.specs.Prelude.{◌≡◌, [], ◌∷◌, ◌++◌, codes, decimal, length, IfOk, OnOk};
+ghost use Rattle.pv_script.specs.Lines.{with_feeds};
 ghost use Rattle.pv_script.specs.Paths.{path_text};
 ghost use Rattle.pv_script.specs.Replies.{reply_bytes, reason_word, verdict_word, edit_lines};
 ghost use Rattle.pv_script.specs.Replies.{row_text, row_lines};
@@ -9,7 +10,7 @@ ghost use Rattle.pv_script.specs.Words.{words, with_feed};
 use crate::edits::{push_edit, push_next_number, push_next_word};
 use crate::okay::okay_text;
 use crate::paths::{push_number, push_path};
-use pv_chars::{Bytes, NoMemory};
+use pv_chars::{Bytes, Labels, NoMemory};
 use pv_edit::{Done, Edit, Edits, Reason, VerdictRow, VerdictRows};
 use pv_tree::{Path, Verdict};
 use std::alloc::{AllocError, Global};
@@ -47,6 +48,8 @@ pub enum Reply {
     History(Edits),
     /// What is known of each list, in document order.
     Verdicts(VerdictRows),
+    /// The names that may be put there, in order of declaration.
+    Offer(Labels),
 }
 
 /// The word of a reason.
@@ -177,6 +180,16 @@ fn push_rows(text: &mut Vec<u8>, rows: &[VerdictRow]) -> Result<(), AllocError>
     Ok(())
 }
 
+// Appends each name on a line of its own.
+fn push_names(text: &mut Vec<u8>, names: &[Bytes]) -> Result<(), AllocError>
+    ensures { OnOk result (text.new.items ≡ text.old.items ++ with_feeds names.now) }
+{
+    for name in names {
+        push_line(text, name.as_slice())?;
+    }
+    Ok(())
+}
+
 // Appends a reply that holds more than one line.
 fn push_completed(text: &mut Vec<u8>, inserted: u64, bytes: &[u8]) -> Result<(), AllocError>
     ensures { OnOk result (text.new.items ≡ text.old.items ++
@@ -212,6 +225,15 @@ fn push_verdicts(text: &mut Vec<u8>, rows: &[VerdictRow]) -> Result<(), AllocErr
 {
     push_with_number(text, b"verdicts", rows.len() as u64)?;
     push_rows(text, rows)
+}
+
+fn push_offer(text: &mut Vec<u8>, names: &[Bytes]) -> Result<(), AllocError>
+    ensures { OnOk result (text.new.items ≡ text.old.items ++
+        (with_feed (words (codes "offer" ∷ decimal (length names.now) ∷ []))
+        ++ with_feeds names.now)) }
+{
+    push_with_number(text, b"offer", names.len() as u64)?;
+    push_names(text, names)
 }
 
 // Appends the reply to a change that was made.
@@ -256,6 +278,7 @@ fn push_reply(text: &mut Vec<u8>, reply: &Reply) -> Result<(), AllocError>
         Reply::Completed(inserted, bytes) => push_completed(text, *inserted, bytes.as_slice()),
         Reply::History(edits) => push_history(text, edits.as_slice()),
         Reply::Verdicts(rows) => push_verdicts(text, rows.as_slice()),
+        Reply::Offer(names) => push_offer(text, names.as_slice()),
     }
 }
 

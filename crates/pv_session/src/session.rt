@@ -192,6 +192,13 @@ impl Session {
         self.past.as_slice()
     }
 
+    /// The document as it is now, by which it can be asked what edits would be accepted.
+    pub fn marked(&self) -> &Marked
+        ensures { result.now ≡ stamped_document self.now }
+    {
+        &self.marked
+    }
+
     /// The document as it is now; its marks tell the verdicts of its lists.
     pub fn doc(&self) -> &Doc
         ensures doc { stamps_of (plain_doc result.now) ≡ self.now.doc }

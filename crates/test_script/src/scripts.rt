@@ -1,7 +1,7 @@
 //! Lines, commands, and replies as they are written.
 
 use pv_chars::{List, bytes_of};
-use pv_edit::{Done, Edit, Reason, VerdictRow};
+use pv_edit::{Ask, Done, Edit, Reason, VerdictRow};
 use pv_script::{
     Command, CommandError, Lines, Reply, Took, edit_line, okay_text, read_command, reply_text,
 };
@@ -37,6 +37,34 @@ fn commands(rt: HostRuntime) -> Result<(), Fail> {
     assert!(rt; matches!(read_command(alloc, b"need"), Ok(Command::Need)));
     assert!(rt; matches!(read_command(alloc, b"complete"), Ok(Command::Complete)));
     assert!(rt; matches!(read_command(alloc, b"quit"), Ok(Command::Quit)));
+    Ok(())
+}
+
+// What is asked by lines of `offer`, and lines that ask nothing.
+#[test]
+fn asks(rt: HostRuntime) -> Result<(), Fail> {
+    let alloc = rt.alloc();
+    let Command::Offer(Ask::Wrap { path, from, to }) = read_command(alloc, b"offer 0.1 2 30")?
+    else {
+        return Err("no question of a wrap")?;
+    };
+    assert_eq!(rt; path.places(), [0, 1].as_slice());
+    assert_eq!(rt; (from, to), (2, 30));
+    let Command::Offer(Ask::Rename { path }) = read_command(alloc, b"offer .")? else {
+        return Err("no question of a rename")?;
+    };
+    assert!(rt; path.places().is_empty());
+    for line in [
+        "offer",
+        "offer ",
+        "offer 0 ",
+        "offer 0 1",
+        "offer 0 1 2 p",
+        "offer 0 01 2",
+    ] {
+        let read = read_command(alloc, line.as_bytes());
+        assert!(rt; matches!(read, Err(CommandError::Unknown)));
+    }
     Ok(())
 }
 
@@ -194,7 +222,9 @@ fn replies_with_bytes(rt: HostRuntime) -> Result<(), Fail> {
         path: Path::new(alloc, &[0, 1])?,
     };
     let edits = List::of(vec![in alloc; edit]?);
-    is_written(&rt, alloc, Reply::History(edits), "history 1\nunwrap 0.1\n")
+    is_written(&rt, alloc, Reply::History(edits), "history 1\nunwrap 0.1\n")?;
+    let names = List::of(vec![in alloc; bytes_of(alloc, b"p")?, bytes_of(alloc, b"em")?]?);
+    is_written(&rt, alloc, Reply::Offer(names), "offer 2\np\nem\n")
 }
 
 #[test]
