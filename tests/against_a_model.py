@@ -125,6 +125,20 @@ def depth_of(node):
     return 1 + max(map(depth_of, node.kids), default=0) if isinstance(node, Element) else 0
 
 
+class Grammar(Search):
+    """One DTD, with the spans of each word that was judged under it."""
+
+    def __init__(self, models):
+        super().__init__(models)
+        self.spans = {}
+
+    def spans_of(self, word):
+        key = tuple(word)
+        if key not in self.spans:
+            self.spans[key] = Spans(self, word)
+        return self.spans[key]
+
+
 class Spans:
     """Which words may stand where content is wanted, over all spans of the word."""
 
@@ -173,10 +187,10 @@ def is_live(search, owner, kids, root):
     if any(token != "data" and token not in search.sizes for token in word):
         return False
     if owner is None:
-        return root in search.models and len(word) in Spans(search, word).stands(root, 0)
+        return root in search.models and len(word) in search.spans_of(word).stands(root, 0)
     if owner not in search.sizes or search.models[owner] == ("empty",) and kids:
         return False
-    return len(word) in Spans(search, word).filled[owner, 0]
+    return len(word) in search.spans_of(word).filled[owner, 0]
 
 
 def is_valid_list(search, owner, kids, root):
@@ -387,6 +401,15 @@ def edit_of(line):
     return None if None in values else (name, values, line)
 
 
+def ask_of(line):
+    """The edit that a line asks of, but for the name; none where it asks of none."""
+    name, *rest = line.split(" ", 1)
+    if name != "offer" or not rest:
+        return None
+    kind = {1: "rename", 3: "wrap"}.get(len(rest[0].split(" ")))
+    return f"{kind} {rest[0]}" if kind and edit_of(f"{kind} {rest[0]} a") else None
+
+
 class Session:
     def __init__(self, search, root, document):
         self.search, self.root = search, root
@@ -447,6 +470,17 @@ class Session:
         self.document = after
         return self.moved(edit)
 
+    def offer(self, asked):
+        """The declared names with which an edit would be made, in order of declaration."""
+        def dead(doc):
+            return sum(not is_live(self.search, owner, kids, self.root) for _, owner, kids in doc.lists())
+        try:
+            after = {name: self.edited(self.document, edit_of(f"{asked} {name}")) for name in self.search.models}
+        except Refused as reason:
+            return [f"no shape {reason}"]
+        names = [name for name, doc in after.items() if dead(doc) <= dead(self.document)]
+        return [f"offer {len(names)}", *names]
+
     def undo(self):
         if not self.past:
             return "no history"
@@ -484,6 +518,8 @@ class Session:
         if line == "need":
             dead = self.impossible(self.document)
             return f"no impossible {dotted(dead[0])}\n" if dead else f"need {self.least()}\n"
+        if ask_of(line):
+            return "".join(f"{each}\n" for each in self.offer(ask_of(line)))
         if line in ("undo", "redo"):
             return (self.undo() if line == "undo" else self.redo()) + "\n"
         edit = edit_of(line)
@@ -581,6 +617,14 @@ def broken(line):
         "\r" + line])
 
 
+def offer_line(doc):
+    """A question of a wrap or a rename."""
+    while True:
+        name, _, rest = edit_line(doc).partition(" ")
+        if name in ("wrap", "rename"):
+            return "offer " + rest.rsplit(" ", 1)[0]
+
+
 def script_line(doc):
     chance = random.random()
     if chance < 0.08:
@@ -596,8 +640,8 @@ def script_line(doc):
     if chance < 0.39:
         return "need"
     if chance < 0.40:
-        return random.choice(["", "verdict", "need 1", "Show", "show\r\r", "history ", "undo 1", "wrap", "nothing", "quit "])
-    line = edit_line(doc)
+        return random.choice(["", "verdict", "need 1", "Show", "show\r\r", "history ", "undo 1", "wrap", "nothing", "quit ", "offer", "offer "])
+    line = offer_line(doc) if chance < 0.48 else edit_line(doc)
     return broken(line) if random.random() < 0.08 else line
 
 
@@ -646,7 +690,7 @@ def game(program, counts):
     declared = random.sample(NAMES, random.randint(2, 4))
     models = {x: insertions.model(declared * 6 + NAMES) for x in declared}
     write("a.dtd", "".join(insertions.declaration(x, models[x]) for x in declared))
-    search = Search(models)
+    search = Grammar(models)
     for _ in range(4):
         document, named = document_of(models, declared)
         write("d.xml", document.written())

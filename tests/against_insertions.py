@@ -35,12 +35,26 @@ def may_be_empty(p):
     return form == "+" and may_be_empty(p[1])
 
 
+def forms(p):
+    """What a particle is a choice of, none for the one without a word."""
+    return [] if p == NONE else [r for q in p[1:] for r in forms(q)] if p[0] == "choice" else [p]
+
+
 def in_order(first, rest):
-    return NONE if NONE in (first, rest) else rest if first == DONE else first if rest == DONE else ("seq", first, rest)
+    if NONE in (first, rest):
+        return NONE
+    if DONE in (first, rest):
+        return rest if first == DONE else first
+    if first[0] == "choice":
+        return either([in_order(p, rest) for p in first[1:]])
+    if first[0] == "seq":
+        return in_order(first[1], in_order(("seq", *first[2:]), rest))
+    return ("seq", first, rest)
 
 
 def either(ps):
-    alive = sorted(set(ps) - {NONE})
+    """A choice in one form, so that a particle has only so many derivatives."""
+    alive = sorted({q for p in ps for q in forms(p)})
     return NONE if not alive else alive[0] if len(alive) == 1 else ("choice", *alive)
 
 

@@ -3,8 +3,8 @@
 # docs/DEFINITIONS.md is compared with the comments that its tables are written from, where Python is installed; the built program is tried
 # on the machine's files, and on hostile ones, with little memory and outputs that fail; edits and sessions are tried with each allocation
 # failing in turn, where a C compiler is installed; and the program is compared with a search that inserts elements, with a model of a
-# session and with xmllint, also with published DTDs, its packs are tried with a checker, and the page over a session in a browser, where
-# Python, xmllint and Chromium are installed. The last line tells how many passed.
+# session and with xmllint, also with published DTDs, its packs and denials are tried with checkers, and the page over a session in a
+# browser, where Python, xmllint and Chromium are installed. The last line tells how many passed.
 set -u
 cd "$(dirname "$0")/.." || exit 1
 log=$(mktemp)
@@ -84,6 +84,7 @@ skip "the comparison of least numbers" python3 || check 300 python3 tests/least_
 skip "the comparison of completions" python3 || check 300 python3 tests/completions.py crates/pvtag/out/pvtag 400 1 60
 skip "the packs" python3 || check 300 python3 tests/packs.py crates/pvtag/out/pvtag 300 1
 skip "the hostile packs" python3 || check 400 python3 tests/hostile_packs.py crates/pvtag/out/pvtag 100 1
+skip "the hostile denials" python3 || check 400 python3 tests/hostile_denials.py crates/pvtag/out/pvtag 150 1 240
 skip "the comparison with a model" python3 || check 300 python3 tests/against_a_model.py crates/pvtag/out/pvtag 20000 7
 skip "the parts of the page" python3 || check 300 python3 tests/annotate_parts.py crates/pvtag/out/pvtag 1
 skip "the requests of the page" python3 || check 120 python3 tests/annotate_requests.py crates/pvtag/out/pvtag

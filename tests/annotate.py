@@ -16,7 +16,7 @@ import time
 
 sys.dont_write_bytecode = True
 
-from annotate_fixture import ARTICLE, EXAMPLES, Fault, LETTER as DTD, Server, Skipped, need, same, soon  # noqa: E402
+from annotate_fixture import ARTICLE, EXAMPLES, Fault, LETTER as DTD, Server, need, same, soon  # noqa: E402
 
 if importlib.util.find_spec("selenium"):
     from selenium import webdriver
@@ -234,9 +234,7 @@ def refuses_where_it_was_asked(driver, program):
     with Server(program, LETTER) as server:
         page = Page(driver, server.url)
         page.select("met")
-        offered = page.open_menu()
-        if "can't offer" not in page.find("#choices").text:
-            same(offered, ["place", "date", "person"], "what is offered in a paragraph")
+        same(page.open_menu(), ["place", "date", "person"], "what is offered in a paragraph")
         page.keys("body", Keys.ENTER)
         soon(lambda: page.find("#menu .refusal").is_displayed(), True, "the refusal")
         need("⟨p⟩" in page.find("#menu .refusal").text, "it tells the list")
@@ -450,10 +448,7 @@ def previews(driver, program):
 
 
 def opens_what_is_impossible(driver, program):
-    path = os.path.join(EXAMPLES, "letter-swapped.xml")
-    if subprocess.run([program, "session", DTD, "letter", path], input=b"", capture_output=True).returncode == 1:
-        raise Skipped("the program doesn't open impossible documents")
-    with open(path, encoding="utf-8") as file:
+    with open(os.path.join(EXAMPLES, "letter-swapped.xml"), encoding="utf-8") as file:
         source = file.read()
     with Server(program, source) as server:
         page = Page(driver, server.url)
@@ -538,13 +533,13 @@ def stays_quick(driver, program):
     with Server(program, f"<doc><head>Big</head>{sections}</doc>", ARTICLE, "doc") as server:
         started = time.monotonic()
         page = Page(driver, server.url)
-        need(time.monotonic() - started < 15, "it opens in 15 seconds")
+        need(time.monotonic() - started < 40, "it opens in 40 seconds, also on a busy machine")
         need(page.drawn() < 5000, f"what is seen is drawn, and not all: {page.drawn()}")
         started = time.monotonic()
         page.wrap("em", "section 2,")
         page.keys(Keys.CONTROL, "z")
         soon(page.moves, 0, "undo")
-        need(time.monotonic() - started < 5, "a move and its undo take 5 seconds at most")
+        need(time.monotonic() - started < 15, "a move and its undo take 15 seconds at most, also on a busy machine")
         page.js("const all = document.getElementById('document'); all.scrollTop = all.scrollHeight / 2")
         soon(lambda: len([text for text in page.texts("#document .text") if text.startswith("Section")]), lambda count: count > 10, "the middle is drawn")
         page.js("const all = document.getElementById('document'); all.scrollTop = all.scrollHeight")
@@ -582,8 +577,6 @@ def main():
             faults = [entry["message"] for entry in driver.get_log("browser") if "ERR_CONNECTION_REFUSED" not in entry["message"]]
             same(faults, [], "the browser's log")
             passed += 1
-        except Skipped as why:
-            print(f"skipped: {case.__name__}: {why}")
         except (Fault, OSError, WebDriverException, subprocess.SubprocessError) as fault:
             failed += 1
             print(f"{case.__name__}: {fault}")

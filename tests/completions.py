@@ -18,8 +18,8 @@ import time
 
 sys.dont_write_bytecode = True
 
-from against_a_model import document_of, items_of
-from against_insertions import MOST, NAMES, Search, declaration, model, write
+from against_a_model import Grammar, document_of, items_of
+from against_insertions import MOST, NAMES, declaration, model, write
 
 TAG = r"""<(?:[^<>"']|"[^"]*"|'[^']*')*>"""
 TOKEN = re.compile(rf"<!--.*?-->|<\?.*?\?>|<!\[CDATA\[.*?\]\]>|{TAG}|&[^;]*;|[^<&]", re.S)
@@ -202,7 +202,7 @@ def grammar():
     while True:
         declared = random.sample(NAMES, random.randint(2, 4))
         models = {x: model(declared * 6 + NAMES) for x in declared}
-        search = Search(models)
+        search = Grammar(models)
         if len(search.sizes) >= 2:
             return models, search
 

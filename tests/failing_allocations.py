@@ -1,11 +1,11 @@
-"""Lets each allocation of a session fail in turn, and then those of `check` on lists that several threads judge.
+"""Lets each allocation of a session fail in turn, and then those of the other commands, of `check` on lists that several threads judge.
 
 Words: PROGRAM MOST. A C compiler makes a library that is loaded before the C library and lets allocation number N give nothing; N goes up
 until a run asks for fewer, or up to MOST. Where a run ends with status 5, or with 10 for want of words, it must have written nothing. Else
 one line at most answers `no memory`, and the replies to the other lines must be those to the script without this line: each edit of the
-script, `need` and `complete` stand between `show` and `history`, which tell whether anything changed. `check` must end with status 5 and
-write nothing, or answer as with ample memory; of its allocations before the verdicts one in FEW is tried. Prints each difference, and how many
-runs passed; ends with 1 where one failed.
+script, `need`, `complete` and `offer` stand between `show` and `history`, which tell whether anything changed. The other commands must end with
+status 5 and write nothing, or answer as with ample memory; of the allocations of `check` before the verdicts one in FEW is tried. Prints each
+difference, and how many runs passed; ends with 1 where one failed.
 """
 import os
 import subprocess
@@ -49,9 +49,9 @@ DTD = """<!ELEMENT doc (head, sec+)>
 """
 DOCUMENT = '<?xml version="1.0"?>\n<doc lang="en">Hello, you&amp;me<em/></doc>\n'
 
-MOVES = ["wrap 0 0 1 br", "need", "complete", "split 0.0 5", "wrap 0 0 1 head", "undo", "redo", "undo", "wrap 0 0 1 head", "text 0.1 a&nbsp;", "text 0.1 you",
+MOVES = ["wrap 0 0 1 br", "need", "complete", "offer 0 0 1", "split 0.0 5", "wrap 0 0 1 head", "undo", "redo", "undo", "wrap 0 0 1 head", "text 0.1 a&nbsp;", "text 0.1 you",
          "addtext 0 2 !", "join 0.1", "deltext 0.0.0", "undo", "wrap 0 1 3 p", "wrap 0 1 2 sec", "rename 0.1 title", "rename 0.1 sec",
-         "unwrap 0.1.0.1", "undo", "insert 0.1.0 1 br", "unwrap 0.9", "nothing", "undo", "undo",
+         "offer 0.1", "offer 0.9", "unwrap 0.1.0.1", "undo", "insert 0.1.0 1 br", "unwrap 0.9", "nothing", "undo", "undo",
          "wrap 0 0 1 br", "redo", "undo", "addtext 0 9 x", "redo"]
 
 
@@ -80,7 +80,7 @@ def replies_of(output, script):
         if words[0] in (b"show", b"completed"):
             size = int(words[-1])
             line, rest = line + b"\n" + rest[:size], rest[size + 1:]
-        if words[0] == b"history":
+        if words[0] in (b"history", b"offer"):
             more = rest.split(b"\n", int(words[1]))
             line, rest = b"\n".join([line, *more[:-1]]), more[-1]
         replies.append(line)
@@ -134,18 +134,21 @@ class Trial:
 # Lists that are judged by a table, and long enough that two threads judge them.
 LISTS_DTD = "<!ELEMENT r (a*)><!ELEMENT a (b, c)><!ELEMENT b (#PCDATA)><!ELEMENT c EMPTY>"
 LISTS = f"<r>{('<a>' + 400 * '<![CDATA[x]]>' + '</a>') * 24}</r>"
-# Those of so many allocations at the end of a run, which are more than those of the verdicts, are all tried, and one in FEW of the others.
-LAST, FEW = 800, 41
+# Of a run with more than MANY allocations the last ones, which are more than those of the verdicts, are all tried, and one in FEW of the others.
+MANY, LAST, FEW = 1500, 800, 41
 
 
-class CheckTrial:
-    """`check` with an allocation that fails: the answer with ample memory, or want of memory."""
+class AnswerTrial:
+    """A command that answers once, with an allocation that fails: the answer with ample memory, or want of memory."""
 
-    def __init__(self, program, library):
-        self.words, self.library = [program, "check", "l.dtd", "r", "l.xml"], library
+    def __init__(self, program, library, words, begins):
+        self.words, self.name, self.library = [program, *words], words[0], library
         self.passed = self.failed = self.silent = 0
         counted = self.run({"FAIL_AT": "0", "COUNTED": "1"})
         self.wanted, self.count = (counted.returncode, counted.stdout), int(counted.stderr)
+        if self.wanted[0] != 0 or not self.wanted[1].startswith(begins):
+            self.failed += 1
+            print(f"{self.name}, with ample memory: {self.wanted}")
 
     def run(self, environment):
         return subprocess.run(self.words, capture_output=True, env={"LD_PRELOAD": self.library, **environment})
@@ -158,23 +161,49 @@ class CheckTrial:
             self.passed += 1
         else:
             self.failed += 1
-            print(f"check, allocation {number}: status {ran.returncode}, output {ran.stdout!r}")
+            print(f"{self.name}, allocation {number}: status {ran.returncode}, output {ran.stdout!r}")
 
     def try_all(self):
-        if self.wanted != (0, b"possible 24\n"):
-            self.failed += 1
-            print(f"check, with ample memory: {self.wanted}")
         for number in range(1, self.count + 1):
-            if self.failed < 20 and (number % FEW == 0 or number > self.count - LAST):
+            if self.failed < 20 and (self.count <= MANY or number % FEW == 0 or number > self.count - LAST):
                 self.try_at(number)
-        print(f"check: {self.count} allocations, {self.passed + self.failed} tried, {self.silent} without memory")
+        print(f"{self.name}: {self.count} allocations, {self.passed + self.failed} tried, {self.silent} without memory")
+        if self.silent == 0:
+            print(f"no {self.name} was without memory")
+            self.failed += 1
+
+
+# Ranges beside the document's text, which become the document with a head, a sec and an em.
+TEXT = "Hello, you&amp;me"
+RANGES = "0 6 0 head\n7 13 0 sec\n7 13 1 p\n7 10 2 em\n"
+
+
+def answers_of(program, library):
+    """The commands that answer once: `check` on lists that two threads judge; `complete` and `verify` of its pack; `why` and `deny` of its
+    denial; and the others."""
+    yield AnswerTrial(program, library, ["dtd", "a.dtd"], b"doc children ")
+    yield AnswerTrial(program, library, ["valid", "a.dtd", "doc", "v.xml"], b"valid\n")
+    yield AnswerTrial(program, library, ["drill", "3"], b"drill 3 ")
+    yield AnswerTrial(program, library, ["check", "l.dtd", "r", "l.xml"], b"possible 24\n")
+    complete = AnswerTrial(program, library, ["complete", "a.dtd", "doc", "d.xml"], b"pvpack 1\n")
+    with open("d.pack", "wb") as file:
+        file.write(complete.wanted[1])
+    yield complete
+    yield AnswerTrial(program, library, ["verify", "a.dtd", "doc", "d.xml", "d.pack"], b"accepted ")
+    why = AnswerTrial(program, library, ["why", "a.dtd", "doc", "i.xml"], b"pvdeny 1\n")
+    with open("i.denial", "wb") as file:
+        file.write(why.wanted[1])
+    yield why
+    yield AnswerTrial(program, library, ["deny", "a.dtd", "doc", "i.xml", "i.denial"], b"denied ")
+    yield AnswerTrial(program, library, ["standoff", "a.dtd", "doc", "t.txt", "r.txt"], b"valid\n")
 
 
 def main():
     program, most = os.path.abspath(sys.argv[1]), int(sys.argv[2])
     with tempfile.TemporaryDirectory() as folder:
         os.chdir(folder)
-        for name, text in [("a.dtd", DTD), ("d.xml", DOCUMENT), ("l.dtd", LISTS_DTD), ("l.xml", LISTS), ("failing.c", LIBRARY)]:
+        for name, text in [("a.dtd", DTD), ("d.xml", DOCUMENT), ("v.xml", "<doc><head/><sec/></doc>"), ("i.xml", "<doc><sec/><head/></doc>"), ("l.dtd", LISTS_DTD), ("l.xml", LISTS), ("t.txt", TEXT), ("r.txt", RANGES),
+                           ("failing.c", LIBRARY)]:
             with open(name, "w", encoding="utf-8") as file:
                 file.write(text)
         library = os.path.join(folder, "failing.so")
@@ -183,8 +212,9 @@ def main():
         number = 1
         while number <= most and trial.failed < 20 and trial.try_at(number):
             number += 1
-        checks = CheckTrial(program, library)
-        checks.try_all()
+        answers = list(answers_of(program, library))
+        for answer in answers:
+            answer.try_all()
         os.chdir("/")
     print(f"allocations {trial.reached}, lines without memory {trial.silent}")
     if number > most:
@@ -193,11 +223,9 @@ def main():
     if trial.silent == 0:
         print("no line was without memory")
         trial.failed += 1
-    if checks.silent == 0:
-        print("no check was without memory")
-        checks.failed += 1
-    failed = trial.failed + checks.failed
-    print(f"failing allocations: {trial.passed + checks.passed} passed, {failed} failed")
+    passed = trial.passed + sum(answer.passed for answer in answers)
+    failed = trial.failed + sum(answer.failed for answer in answers)
+    print(f"failing allocations: {passed} passed, {failed} failed")
     sys.exit(1 if failed else 0)
 
 

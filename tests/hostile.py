@@ -1,9 +1,9 @@
 """Attacks the program as hostile files, a hostile input and a failing machine would.
 
-Words: PROGRAM [SECONDS]. Behind so many seconds, 200 where none are given, what is left isn't tried, which is said. Each command but
-`complete` is run on DTDs, documents and scripts made to cost much, at the limits and past them, and on files that change; each command on
-files that are no files, are endless, or may not be read; with little memory, stack and few files; and with an output that is full, closed,
-slow or refuses. What each run must answer is told by `docs/COMMANDS.md` and `docs/FORMATS.md`. A run must end within a minute, write nothing as an
+Words: PROGRAM [SECONDS]. Behind so many seconds, 200 where none are given, what is left isn't tried, which is said. `dtd`,
+`valid`, `check` and `session` are run on DTDs, documents and scripts made to cost much, at the limits and past them, and on files that change;
+each command on files that are no files, are endless, or may not be read; with little memory, stack and few files; and with an output that is
+full, closed, slow or refuses. What each run must answer is told by `docs/COMMANDS.md` and `docs/FORMATS.md`. A run must end within a minute, write nothing as an
 error, and take no more memory than `docs/COMMANDS.md` tells under "Time and memory". Prints each difference, the most memory that each
 command took, and how many cases passed; ends with 1 where one failed.
 """
@@ -21,7 +21,7 @@ import time
 sys.dont_write_bytecode = True
 
 from hostile_files import DOC_MOST, KB, MB, NONE, hostile_documents, hostile_dtds, hostile_scripts, largest_document, listing, long_name
-from hostile_runs import ANSWERS, GUIDE, LINES, MEMORY, Trial, closed_late, follows, least, read_once, read_slowly, runs_of
+from hostile_runs import ANSWERS, DENIAL, GUIDE, LINES, MEMORY, PACK, RANGES, SWAPPED, TEXT, Trial, closed_late, follows, least, read_once, read_slowly, runs_of
 
 NOBODY = 65534
 
@@ -97,6 +97,11 @@ def try_scripts(trial):
 def write_small_files(trial):
     trial.write("guide.dtd", GUIDE)
     trial.write("draft.xml", b"<doc>Hello</doc>")
+    trial.write("draft.pack", PACK)
+    trial.write("swapped.xml", SWAPPED)
+    trial.write("swapped.denial", DENIAL)
+    trial.write("hello.txt", TEXT)
+    trial.write("ranges.txt", RANGES)
     names = [long_name(k) for k in range(4096)]
     trial.write("names.dtd", *(b"<!ELEMENT %s EMPTY>" % name for name in names))
     trial.listed = listing(names)
@@ -151,7 +156,21 @@ def try_memory(trial):
         trial.expect("few files, no threads and a small stack", words, (status, said), limits=few, script=[script])
 
 
+# The files of some commands behind the DTD.
+BEHIND = {"why": ["swapped.xml"], "verify": ["draft.xml", "draft.pack"], "deny": ["swapped.xml", "swapped.denial"],
+          "standoff": ["hello.txt", "ranges.txt"]}
+
+
 # Files that are no plain files, or change.
+def try_behind(trial, name, answers):
+    """Runs these commands with this name for each file, on which the answers are these, by command."""
+    for command, files in BEHIND.items():
+        files = ["guide.dtd", *files]
+        for place, answer in zip(range(len(files)), answers[command]):
+            words = [name if at == place else file for at, file in enumerate(files)]
+            trial.expect("a name", [command, words[0], "doc", *words[1:]], answer)
+
+
 def try_names(trial, name, of_dtd, of_document):
     """Runs each command with this name for the DTD, and for the document, on which the answers are these."""
     if of_dtd:
@@ -174,9 +193,17 @@ def try_files(trial):
         for name in ["folder", ".", "", "/", "nothing", "dangling", "loop", "socket", "a.xml/", "a.xml/b", "-", "n" * 256, "n" * 5000, "n/" * 50000,
                      "\n", " ", "/proc/self/mem"]:
             try_names(trial, name, (3, NONE), (3, NONE))
+            try_behind(trial, name, dict.fromkeys(BEHIND, [(3, NONE)] * 3))
     for name in ["sparse", "/dev/zero", "/dev/urandom", "/dev/full"]:
         if os.path.exists(trial.path(name)):
             try_names(trial, name, (8, b"limit dtd-file\n"), (8, b"limit document-file\n"))
+            limits = {"why": ["dtd", "document"], "verify": ["dtd", "document", "pack"], "deny": ["dtd", "document", "table"],
+                      "standoff": ["dtd", "text", "ranges"]}
+            try_behind(trial, name, {command: [(8, b"limit %s-file\n" % file.encode()) for file in files] for command, files in limits.items()})
+    trial.expect("no ranges", ["standoff", "guide.dtd", "doc", "hello.txt", "/dev/null"], (0, b"possible 1\nshow 16\n<doc>Hello</doc>\n"))
+    trial.expect("an empty text", ["standoff", "guide.dtd", "doc", "/dev/null", "ranges.txt"], (7, b"text empty 0\n"))
+    trial.expect("an empty pack", ["verify", "guide.dtd", "doc", "draft.xml", "/dev/null"], (9, b"pack line 0\n"))
+    trial.expect("an empty denial", ["deny", "guide.dtd", "doc", "swapped.xml", "/dev/null"], (9, b"table line 0\n"))
     try_names(trial, "/dev/null", None, (7, b"document syntax 0\n"))
     trial.expect("an empty DTD", ["dtd", "/dev/null"], (0, b"types 0 parts 0 undeclared 0\n"))
     for name in ["with blanks  in it", " ", "\n", "-", "--help", "a\nb\t'\"\\", "\u00e9\U0001d538", "%", "n" * 255]:
@@ -274,6 +301,12 @@ def try_permissions(trial):
         print("skipped: files without permission (no other user)")
         return
     trial.expect("no permission", ["dtd", "closed-any.dtd"], (3, NONE), **as_nobody)
+    for file in {file for files in BEHIND.values() for file in files}:
+        os.chmod(shutil.copy(trial.path(file), trial.path("closed-" + file)), 0)
+    for command, files in BEHIND.items():
+        for at in range(len(files)):
+            words = [f"closed-{file}" if at == place else file for place, file in enumerate(files)]
+            trial.expect("no permission", [command, "guide.dtd", "doc", *words], (3, NONE), **as_nobody)
     for command in ANSWERS:
         trial.expect("no permission", [command, "closed-any.dtd", "a", "a.xml"], (3, NONE), **as_nobody)
         trial.expect("no permission", [command, "any.dtd", "a", "closed-a.xml"], (3, NONE), **as_nobody)

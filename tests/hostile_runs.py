@@ -9,7 +9,7 @@ from hostile_files import KB, MB, NONE
 
 SECONDS = 60
 # The most memory of a run, in MB: what `docs/COMMANDS.md` tells under "Time and memory", and some 80 MB that this test takes itself, with room.
-MEMORY = {"dtd": 100, "valid": 300, "check": 4200, "session": 4200, "drill": 100}
+MEMORY = {"dtd": 100, "valid": 300, "check": 4200, "session": 4200, "verify": 1200, "deny": 400, "standoff": 150, "drill": 100}
 
 
 def feed(file, pieces):
@@ -139,6 +139,14 @@ PACK = b"".join(line + b"\n" for line in [
     b"n 0 0 0 2", b"n 0 0 1 2", b"n 0 1 1 2", b"n 1 0 0 1", b"n 1 0 1 1", b"n 1 1 1 1", b"n 2 0 0 1", b"n 2 1 1 1",
     b"p 0 0 0 1", b"p 0 0 1 1", b"p 0 1 1 1", b"p 1 0 0 1", b"p 1 0 1 1", b"p 1 1 1 1", b"p 2 0 0 0", b"p 2 1 1 0", b"p 3 0 0 1", b"p 3 1 1 1",
     b"s 1 0 0 1", b"s 1 0 1 1", b"s 1 1 1 1", b"s 2 0 0 0", b"s 2 1 1 0", b"end"])
+# A document whose kids stand in the wrong order, and why no insertions make it valid.
+SWAPPED = b"<doc><sec/><head/></doc>"
+DENIAL = b"".join(line + b"\n" for line in [
+    b"pvdeny 1", b"list 0", b"cause word", b"c 0 1 2 2", b"c 1 0 1 2", b"c 2 0 1 2", b"n 0 1 2 2", b"n 1 0 2 2", b"n 2 1 1 2",
+    b"p 0 1 2 2", b"p 1 0 2 2", b"p 2 1 1 2", b"p 3 1 1 2", b"s 1 1 2 2", b"s 2 1 1 2", b"end"])
+# The text of the first document, a range over it, and what they become.
+TEXT, RANGES = b"Hello", b"0 5 0 head\n"
+NESTED = b"valid\nshow 29\n<doc><head>Hello</head></doc>\n"
 # What the commands that read a document answer to `<a/>` where an `a` may hold anything.
 ANSWERS = {"valid": b"valid\n", "check": b"valid\n", "session": NONE, "complete": b"pvpack 1\ntotal 0\nbody 4\n<a/>\nend\n"}
 LISTED = b"doc children 2\nhead mixed 1\nsec empty 1\ntypes 3 parts 4 undeclared 0\n"
@@ -151,6 +159,10 @@ def runs_of():
     yield ["check", "guide.dtd", "doc", "draft.xml"], NONE, 0, b"possible 1\n"
     yield ["session", "guide.dtd", "doc", "draft.xml"], b"need\nundo\n", 0, b"need 1\nno history\n"
     yield ["complete", "guide.dtd", "doc", "draft.xml"], NONE, 0, PACK
+    yield ["verify", "guide.dtd", "doc", "draft.xml", "draft.pack"], NONE, 0, b"accepted 1\n"
+    yield ["why", "guide.dtd", "doc", "swapped.xml"], NONE, 0, DENIAL
+    yield ["deny", "guide.dtd", "doc", "swapped.xml", "swapped.denial"], NONE, 0, b"denied 0\n"
+    yield ["standoff", "guide.dtd", "doc", "hello.txt", "ranges.txt"], NONE, 0, NESTED
     yield ["drill", "30"], NONE, 0, b"drill 30 lines 70 ok 40 refused 30 open 10 checked 70\n"
     yield ["valid"], NONE, 2, b"usage\n"
 

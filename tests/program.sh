@@ -27,6 +27,7 @@ cd "$work" || exit 1
 cp "$top/examples/article.dtd" a.dtd
 printf '<doc>Hello</doc>' >hello.xml
 printf '<doc><head>a</head><sec></sec></doc>' >valid.xml
+printf 'Hello' >hello.txt
 printf '<!ELEMENT doc (#PCDATA)>' >text.dtd
 printf '<!ELEMENT doc EMPTY>' >empty.dtd
 printf '<doc> </doc>' >blank.xml
@@ -36,6 +37,9 @@ head -c 67108865 /dev/zero | tr '\0' ' ' >long.xml
 { printf '<a>'; head -c 60000000 /dev/zero | tr '\0' x; printf '</a>'; } >text.xml
 { printf '<a>'; yes '<a/>' | head -n 1000000 | tr -d '\n'; printf '</a>'; } >siblings.xml
 printf '<!ELEMENT a ANY>' >any.dtd
+printf '0 5 0 a\n' >ranges.txt
+head -c 67108864 long.xml | tr ' ' '\n' >lines.txt
+head -c 67108864 long.xml | tr ' ' x >long.txt
 printf 'show\n' >show.txt
 pvtag=$top/pvtag
 lf=$'\n'
@@ -54,11 +58,20 @@ expect "a long DTD" 8 "limit dtd-file$lf" "$pvtag" valid long.dtd doc hello.xml
 expect "the longest DTD" 1 "invalid 0$lf" "$pvtag" valid spaces.dtd doc hello.xml
 expect "EMPTY with text" 1 "invalid 0$lf" "$pvtag" valid empty.dtd doc hello.xml
 expect "a long document" 8 "limit document-file$lf" "$pvtag" valid text.dtd doc long.xml
+expect "a long text" 8 "limit text-file$lf" "$pvtag" standoff any.dtd a long.xml ranges.txt
+expect "the longest text" 0 "valid${lf}show 67108878$lf" bash -c '"$0" standoff any.dtd a long.txt ranges.txt | head -n 2' "$pvtag"
+expect "a long file of ranges" 8 "limit ranges-file$lf" "$pvtag" standoff any.dtd a hello.txt long.xml
+expect "the longest file of ranges" 9 "ranges line 0$lf" "$pvtag" standoff any.dtd a hello.txt lines.txt
 expect "60 MB of text" 0 "valid$lf" "$pvtag" valid any.dtd a text.xml
 expect "1,000,000 siblings" 0 "valid$lf" "$pvtag" valid any.dtd a siblings.xml
 expect "check, possible" 0 "possible 1$lf" "$pvtag" check "$top/examples/letter.dtd" letter "$top/examples/letter-draft.xml"
 expect "check, impossible" 1 "impossible 0$lf" "$pvtag" check "$top/examples/letter.dtd" letter "$top/examples/letter-swapped.xml"
 expect "check, valid" 0 "valid$lf" "$pvtag" check a.dtd doc valid.xml
+expect "why, possible" 1 "possible$lf" "$pvtag" why a.dtd doc hello.xml
+expect "why, impossible" 0 "pvdeny 1${lf}list 0${lf}cause empty${lf}end$lf" "$pvtag" why empty.dtd doc blank.xml
+expect "deny, by a pipe" 0 "denied 0$lf" bash -c '"$0" why empty.dtd doc blank.xml | "$0" deny empty.dtd doc blank.xml /dev/stdin' "$pvtag"
+expect "deny, a missing file" 3 "" "$pvtag" deny empty.dtd doc blank.xml nothing.den
+expect "deny, no denial" 9 "table line 0$lf" "$pvtag" deny empty.dtd doc blank.xml blank.xml
 expect "one word" 2 "usage$lf" "$pvtag" valid
 expect "no words" 2 "usage$lf" "$pvtag"
 expect "no name" 2 "usage$lf" "$pvtag" valid text.dtd 1x hello.xml
@@ -214,6 +227,11 @@ session "its blank in a br" 'ok 1 0 0' a.dtd doc '<doc><head/><sec><p><br> </br>
 session "no more impossible lists" 'ok 2 1 1' a.dtd doc '<doc><sec/><head/></doc>' 'wrap 0 0 2 sec'
 session "the first changed list" "$(lines 'no impossible 0.1' 'no impossible 0')" a.dtd doc '<doc><sec/><head/></doc>' 'insert 0.1 0 br' complete
 session "a refused edit" "$(lines 'no impossible 0.0' 'show 16' "$hello" 'history 0')" a.dtd doc "$hello" 'wrap 0 0 1 br' show history
+session "offers" "$(lines 'offer 7' head sec title p em list item 'offer 0' 'no shape root-shape' 'no shape not-element' 'no shape range' 'no shape not-element' \
+    'history 0')" a.dtd doc "$hello" 'offer 0 0 1' 'offer . 0 1' 'offer . 0 0' 'offer 0.0 0 0' 'offer 0 1 0' 'offer .' history
+session "offers round a root, and for it" "$(lines 'offer 4' doc sec list item 'offer 8' doc head sec title p em list item)" a.dtd doc '<p>a</p>' 'offer . 0 1' 'offer 0'
+session "offers in an impossible document" "$(lines 'offer 1' doc 'ok 2 1 1' 'ok 1 0 1' 'no impossible 0')" a.dtd doc '<doc><sec/><head/></doc>' \
+    'offer 0 0 1' 'wrap 0 0 1 doc' undo 'wrap 0 0 1 head'
 session "undo and redo" "$(lines 'ok 2 1 0' 'ok 2 1 0' 'no history' 'ok 2 1 0' 'no history')" a.dtd doc '<doc><p>a</p></doc>' \
     'rename 0.0 head' undo undo redo redo
 session "a head" "$(lines 'ok 1 1 0' 'ok 2 1 0' 'show 29' '<doc><head>He</head>llo</doc>' 'history 2' 'split 0.0 2' 'wrap 0 0 1 head')" \
@@ -301,7 +319,8 @@ forms=('wrap' 'wrap  0 0 1 p' 'wrap 0  0 1 p' 'wrap 0 0  1 p' ' wrap 0 0 1 p' 'w
     'insert 00 p' 'unwrap' 'unwrap ' 'unwrap  0' 'unwrap 0 ' 'unwrap 0 0' 'unwrap0' 'rename' 'rename  0 p' 'rename0 p' 'split' 'split 0.0' 'split  0.0 2'
     'split 0.0  2' 'split 0.0 2 ' 'split 0.0 2 2' 'join' 'join ' 'join  0.0' 'join 0.0 ' 'join0.0' 'text' 'text ' 'text  0.0 x' 'addtext' 'addtext  0 0 x'
     'addtext 0  0 x' 'deltext' 'deltext ' 'deltext  0.0' 'deltext 0.0 ' 'undo ' ' undo' 'undo 1' 'redo ' 'redo 1' 'history ' 'history 1' 'show ' 'show 1'
-    'quit ' ' quit' 'quit 1' 'Quit' 'need ' ' need' 'need 1' 'complete ' 'complete 1' 'completed' 'verdicts ' '')
+    'quit ' ' quit' 'quit 1' 'Quit' 'need ' ' need' 'need 1' 'complete ' 'complete 1' 'completed' 'verdicts ' 'offer' 'offer ' 'offer 0 ' 'offer 0 0' 'offer 0 0 ' 'offer 0 0 1 ' 'offer 0 0 1 p' 'offer  0'
+    'offer 0 01 1' 'offer0' 'Offer 0' '')
 session "lines that are no commands" "$(printf 'no command\n%.0s' "${forms[@]}")" a.dtd doc "$hello" "${forms[@]}"
 session "1,055 sections" 'ok 2 0 0' a.dtd doc "<doc><head/>$(repeat 1055 '<sec/>')</doc>" 'insert 0 1 sec'
 session "512 elements in one another" 'no shape deep' a.dtd em "$(repeat 512 '<em>')$(repeat 512 '</em>')" 'wrap . 0 1 em'

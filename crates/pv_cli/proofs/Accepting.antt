@@ -36,10 +36,10 @@ wrote_all (output_fault out) old new before after (wrote whole is written stays)
 wrote_all no_memory old new before after (wrote whole is written stays) = let never : Done ≡ NoMemory = is in cc
 wrote_all ending old new before after (cut_off out cuts is front rose) = let never : Done ≡ WriteFault = is in cc
 
-no_negative_done : Negative ≡ Done → ⊥
+pub no_negative_done : Negative ≡ Done → ⊥
 no_negative_done e = cc
 
-no_limit_done : Limit ≡ Done → ⊥
+pub no_limit_done : Limit ≡ Done → ⊥
 no_limit_done e = cc
 
 module _ (dtd root doc file : List ℕ) (files : Files) where

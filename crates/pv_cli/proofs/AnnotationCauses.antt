@@ -30,7 +30,7 @@ module _ (dtd root text ranges : List ℕ) (files : Files) (taken : Option (List
   ranges_line = Some (on_ranges dtd root text ranges)
 
   faulty_text : (bytes : List ℕ) (e : TextError) (r told : PlainResponse) → file_at 1 files ≡ Some bytes → TextMeans bytes (Err e) → r ≡ told → told.status ≡ BadDocument → RespondsBy ranges_line files taken r.status
-  faulty_text bytes e r told file means is at = by_status ranges_line files taken BadDocument r told is at (inr record { bytes = bytes; reads = file; fault = e; means = means })
+  faulty_text bytes e r told file means is at = by_status ranges_line files taken BadDocument r told is at (inr record { root = root; bytes = bytes; reads = (refl, file); fault = e; means = means })
 
   text_refused : (bytes : List ℕ) (r : PlainResponse) → file_at 1 files ≡ Some bytes → RefusesText bytes r → RespondsBy ranges_line files taken r.status
   text_refused bytes r file (no_text bad_text.Empty means is) = faulty_text bytes bad_text.Empty r _ file means is refl
@@ -45,25 +45,25 @@ module _ (dtd root text ranges : List ℕ) (files : Files) (taken : Option (List
   ranges_refused bytes r file (no_ranges bad_line.Limit means is) = by_status ranges_line files taken Limit r _ is refl (range_lines bytes file means)
   ranges_refused bytes r file (no_ranges bad_line.NoMemory means is) = absurd is
 
-  unnested : (g : PlainDtd) (units : List (List ℕ)) (rs : List Range) (e : NestError) (r told : PlainResponse) → ReadsAnnotation ranges_line files g units rs → NestMeans root units rs (Err e) → (e ≡ bad_nest.Deep → ⊥) →
+  unnested : (g : PlainDtd) (units : List (List ℕ)) (rs : List Range) (e : NestError) (r told : PlainResponse) → ReadsAnnotation ranges_line files root g units rs → NestMeans root units rs (Err e) → (e ≡ bad_nest.Deep → ⊥) →
       r ≡ told → told.status ≡ BadPack → RespondsBy ranges_line files taken r.status
   unnested g units rs e r told reads means other is at =
-      by_status ranges_line files taken BadPack r told is at (inr (inr record { root = root; g = g; text = units; ranges = rs; reads = reads; fault = e; means = means; no_limit = other }))
+      by_status ranges_line files taken BadPack r told is at (inr (inr (inl record { root = root; g = g; text = units; ranges = rs; reads = reads; fault = e; means = means; no_limit = other })))
 
-  nesting_refused : (g : PlainDtd) (units : List (List ℕ)) (rs : List Range) (r : PlainResponse) → ReadsAnnotation ranges_line files g units rs → RefusesNesting root units rs r → RespondsBy ranges_line files taken r.status
+  nesting_refused : (g : PlainDtd) (units : List (List ℕ)) (rs : List Range) (r : PlainResponse) → ReadsAnnotation ranges_line files root g units rs → RefusesNesting root units rs r → RespondsBy ranges_line files taken r.status
   nesting_refused g units rs r reads (no_nesting (bad_nest.Outside k) means is) = unnested g units rs (bad_nest.Outside k) r _ reads means (λ e. cc) is refl
   nesting_refused g units rs r reads (no_nesting (bad_nest.Twice from to level) means is) = unnested g units rs (bad_nest.Twice from to level) r _ reads means (λ e. cc) is refl
   nesting_refused g units rs r reads (no_nesting (bad_nest.Crossing from to after past) means is) = unnested g units rs (bad_nest.Crossing from to after past) r _ reads means (λ e. cc) is refl
   nesting_refused g units rs r reads (no_nesting bad_nest.Deep means is) = by_status ranges_line files taken Limit r _ is refl (nested_depth root g units rs reads means)
   nesting_refused g units rs r reads (no_nesting bad_nest.NoMemory means is) = absurd is
 
-  pub annotation_reads : (given : (PlainDtd × List (List ℕ)) × List Range) (k : ℕ) → (annotation_stage files).Opens given k → ReadsAnnotation ranges_line files given.0.0 given.0.1 given.1
+  pub annotation_reads : (given : (PlainDtd × List (List ℕ)) × List Range) (k : ℕ) → (annotation_stage files).Opens given k → ReadsAnnotation ranges_line files root given.0.0 given.0.1 given.1
   annotation_reads given k (both, i, j, (g, a, b, (bytes, u, v, fetched, (expansion, x, y, expands, means, l), e), (same, (text_bytes, m, n, text_given, reads_text, f)), h), (are, (lines, p, q, lines_given, reads_lines, o)), z) = record {
     dtd_bytes = expansion;
     reads_dtd = record { bytes = bytes; is_file = fetched.0.is_file; expands = expands.0 };
     is_dtd_text = subst (λ (d : PlainDtd). DtdTextMeans expansion (is_dtd d)) (sym (ap (λ (w : PlainDtd × List (List ℕ)). w.0) are ∙ same)) means.0;
     bytes = text_bytes;
-    reads_text = text_given.0.is_file;
+    reads_text = (refl, text_given.0.is_file);
     text_means = subst (λ (w : PlainDtd × List (List ℕ)). TextMeans text_bytes (Ok w.1)) (sym are) reads_text.0;
     lines = lines;
     reads_ranges = lines_given.0.is_file;
@@ -72,7 +72,7 @@ module _ (dtd root text ranges : List ℕ) (files : Files) (taken : Option (List
 
   pub nested_refused : (r : PlainResponse) (k : ℕ) → (nested_stage root files).Refuses r k → RespondsBy ranges_line files taken r.status
   nested_refused r k (inl (inl (inl file))) = file_refused ranges_line files taken (λ bytes is. is) r k file
-  nested_refused r k (inl (inl (inr (g, i, j, opens, inl long, e)))) = by_status ranges_line files taken Limit r _ long.0.is_response refl (text_file long.0.bytes long.0.is_file long.0.beyond)
+  nested_refused r k (inl (inl (inr (g, i, j, opens, inl long, e)))) = by_status ranges_line files taken Limit r _ long.0.is_response refl (text_file root long.0.bytes (refl, long.0.is_file) long.0.beyond)
   nested_refused r k (inl (inl (inr (g, i, j, opens, inr (bytes, u, v, given, denies, f), e)))) = text_refused bytes r given.0.is_file denies.0
   nested_refused r k (inl (inr (both, i, j, opens, inl long, e))) = by_status ranges_line files taken Limit r _ long.0.is_response refl (ranges_file long.0.bytes long.0.is_file long.0.beyond)
   nested_refused r k (inl (inr (both, i, j, opens, inr (bytes, u, v, given, denies, f), e))) = ranges_refused bytes r given.0.is_file denies.0
@@ -82,7 +82,7 @@ module _ (dtd root text ranges : List ℕ) (files : Files) (taken : Option (List
   nested_reads nested k (given, i, j, opens, (same, stands), e) = record {
     text = given.0.1;
     ranges = given.1;
-    reads = subst (λ (g : PlainDtd). ReadsAnnotation ranges_line files g given.0.1 given.1) (sym same) (annotation_reads given i opens);
+    reads = subst (λ (g : PlainDtd). ReadsAnnotation ranges_line files root g given.0.1 given.1) (sym same) (annotation_reads given i opens);
     nests = stands.0;
   }
 

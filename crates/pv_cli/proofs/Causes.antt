@@ -8,8 +8,10 @@ use Rattle.pv_cli.specs.Certificates.{certificate_stage}
 use Rattle.pv_cli.specs.Check.{TellsPossibility}
 use Rattle.pv_cli.specs.Complete.{TellsPack}
 use Rattle.pv_cli.specs.CommandLine.{PlainCommandLine, drill, files_named, on_certificate, on_document, on_dtd, on_ranges}
-use Rattle.pv_cli.specs.Commands.{Tells, possibility}
+use Rattle.pv_cli.specs.Commands.{Tells, impossibility, possibility}
 use Rattle.pv_cli.specs.Course.{Course, RunEnding, input_fault, no_memory, output_fault, responds, shelf_fault}
+use Rattle.pv_cli.specs.DenialFiles.{denial_file_stage}
+use Rattle.pv_cli.specs.Deny.{TellsJudgement}
 use Rattle.pv_cli.specs.Devices.{Devices}
 use Rattle.pv_cli.specs.Documents.{PlainOpened}
 use Rattle.pv_cli.specs.Drill.{DRILL_ROOT, TellsCounts, drill_stage}
@@ -25,13 +27,15 @@ use Rattle.pv_cli.specs.Stage.{Stage, Behind, Responds, opened, refused, respond
 use Rattle.pv_cli.specs.Standoff.{IsShownCourse, TellsNested, nested_stage}
 use Rattle.pv_cli.specs.Valid.{TellsValidity}
 use Rattle.pv_cli.specs.Verify.{TellsOfPack}
-use Rattle.pv_cli.specs.declared.checker.Checker.TheVariants.{Verify}
+use Rattle.pv_cli.specs.Why.{TellsWhy}
+use Rattle.pv_cli.specs.declared.checker.Checker.TheVariants.{Deny, Verify}
 use Rattle.pv_cli.specs.declared.status.Status.{Status}
 use Rattle.pv_cli.specs.declared.status.Status.TheVariants.{Done, Negative, Usage, ReadFault, WriteFault, NoMemory, BadDtd, BadDocument, BadPack, Limit}
 use Rattle.pv_cli.specs.declared.verb.Verb.{Verb}
-use Rattle.pv_cli.specs.declared.verb.Verb.TheVariants.{Valid, Check, Session, Complete}
+use Rattle.pv_cli.specs.declared.verb.Verb.TheVariants.{Valid, Check, Session, Complete, Why}
 use Rattle.pv_cli.proofs.AnnotationCauses.{nested_refused, shown_told}
 use Rattle.pv_cli.proofs.CertificateCauses.{verify_refused, verify_told}
+use Rattle.pv_cli.proofs.DenialCauses.{deny_refused, deny_told, why_told}
 use Rattle.pv_cli.proofs.ResponseCauses.{behind_by, by_status, document_refused, dtd_refused, file_refused, guarding_refused, opening_reads, opening_refused, pack_told, possibility_refused, possibility_told, responds_by, session_by, validity_told, width_refused}
 
 -- a line for each verb
@@ -54,6 +58,11 @@ verb_by Complete dtd root doc files o course r both tells at =
     (λ s k denies. possibility_refused (Some (on_document Complete dtd root doc)) files course.taken root o.dtd o.doc both s refl k denies)
     (λ u k rest can told same ends. pack_told (Some (on_document Complete dtd root doc)) files course.taken root o.dtd o.doc both r refl refl
     (responds_by (TellsPack root o.dtd o.doc) rest r told ends)) tells at
+verb_by Why dtd root doc files o course r both tells at =
+    behind_by (width_stage o.dtd o.doc) (λ _. Responds (TellsWhy root o.dtd o.doc)) (λ s. RespondsBy (Some (on_document Why dtd root doc)) files course.taken s.status) course r
+    (λ s k wide. width_refused (Some (on_document Why dtd root doc)) files course.taken root o.dtd o.doc both s impossibility refl refl wide.0)
+    (λ u k rest narrow told same ends. why_told (Some (on_document Why dtd root doc)) files course.taken root o.dtd o.doc both r refl
+    (responds_by (TellsWhy root o.dtd o.doc) rest r told ends)) tells at
 
 drill_refused : (n : ℕ) (files : Files) (taken : Option (List ℕ)) (r : PlainResponse) (k : ℕ) → (drill_stage n).Refuses r k → RespondsBy (Some (drill n)) files taken r.status
 drill_refused n files taken r k (inl (inl denies)) = dtd_refused (Some (drill n)) files taken _ r refl denies.0
@@ -69,7 +78,7 @@ drill_refused n files taken r k (inr (o, i, j, (g, a, b, means, read, f), denies
     } in guarding_refused (Some (drill n)) files taken DRILL_ROOT o.dtd o.doc both r refl j denies
 
 -- each defined response has its cause
-responds_caused : (line : Option PlainCommandLine) (files : Files) (course : Course) (r : PlainResponse) → IsDefined line files course → course.ending ≡ responds r → RespondsBy line files course.taken r.status
+pub responds_caused : (line : Option PlainCommandLine) (files : Files) (course : Course) (r : PlainResponse) → IsDefined line files course → course.ending ≡ responds r → RespondsBy line files course.taken r.status
 responds_caused None files course r defined at =
     by_status None files course.taken Usage r _ (responds_by _ course r defined at) refl refl
 responds_caused (Some (on_dtd dtd)) files course r defined at =
@@ -85,6 +94,10 @@ responds_caused (Some (on_certificate Verify dtd root doc file)) files course r 
     behind_by (certificate_stage pack_file_stage root files) (λ both. Responds (TellsOfPack root both.0.dtd both.0.bytes both.1)) (λ s. RespondsBy (Some (on_certificate Verify dtd root doc file)) files course.taken s.status) course r
     (λ s k denies. verify_refused dtd root doc file files course.taken s k denies)
     (λ both k rest opens told same ends. verify_told dtd root doc file files course.taken both k r opens (responds_by (TellsOfPack root both.0.dtd both.0.bytes both.1) rest r told ends)) defined at
+responds_caused (Some (on_certificate Deny dtd root doc file)) files course r defined at =
+    behind_by (certificate_stage denial_file_stage root files) (λ both. Responds (TellsJudgement root both.0.dtd both.0.doc both.1)) (λ s. RespondsBy (Some (on_certificate Deny dtd root doc file)) files course.taken s.status) course r
+    (λ s k denies. deny_refused dtd root doc file files course.taken s k denies)
+    (λ both k rest opens told same ends. deny_told dtd root doc file files course.taken both k r opens (responds_by (TellsJudgement root both.0.dtd both.0.doc both.1) rest r told ends)) defined at
 responds_caused (Some (on_ranges dtd root text ranges)) files course r defined at =
     behind_by (nested_stage root files) (λ nested. IsShownCourse root nested.0 nested.1) (λ s. RespondsBy (Some (on_ranges dtd root text ranges)) files course.taken s.status) course r
     (λ s k denies. nested_refused dtd root text ranges files course.taken s k denies)
@@ -143,6 +156,8 @@ verb_reads Check dtd root doc o course out tells at =
 verb_reads Session dtd root doc o course out tells at = refl
 verb_reads Complete dtd root doc o course out tells at =
     absurd (behind_input (possibility_stage root o.dtd o.doc) (λ _. Responds (TellsPack root o.dtd o.doc)) course out (λ u rest told. told_by_input (TellsPack root o.dtd o.doc) rest out told) tells at)
+verb_reads Why dtd root doc o course out tells at =
+    absurd (behind_input (width_stage o.dtd o.doc) (λ _. Responds (TellsWhy root o.dtd o.doc)) course out (λ u rest told. told_by_input (TellsWhy root o.dtd o.doc) rest out told) tells at)
 
 document_reads : (verb : Verb) (dtd root doc : List ℕ) (files : Files) (course : Course) (out : List ℕ) → Behind (opening_stage root files) (Tells verb root) course → course.ending ≡ input_fault out →
     ReadsScript (Some (on_document verb dtd root doc))
@@ -159,6 +174,9 @@ script_read (Some (on_document verb dtd root doc)) files course out defined at =
 script_read (Some (on_certificate Verify dtd root doc file)) files course out defined at =
     behind_input (certificate_stage pack_file_stage root files) (λ both. Responds (TellsOfPack root both.0.dtd both.0.bytes both.1)) course out
     (λ both rest told. told_by_input (TellsOfPack root both.0.dtd both.0.bytes both.1) rest out told) defined at
+script_read (Some (on_certificate Deny dtd root doc file)) files course out defined at =
+    behind_input (certificate_stage denial_file_stage root files) (λ both. Responds (TellsJudgement root both.0.dtd both.0.doc both.1)) course out
+    (λ both rest told. told_by_input (TellsJudgement root both.0.dtd both.0.doc both.1) rest out told) defined at
 script_read (Some (on_ranges dtd root text ranges)) files course out defined at =
     behind_input (nested_stage root files) (λ nested. IsShownCourse root nested.0 nested.1) course out
     (λ nested rest shown. behind_input (width_stage nested.0 nested.1) (λ _. Responds (TellsNested root nested.0 nested.1)) rest out (λ u more told. told_by_input (TellsNested root nested.0 nested.1) more out told) shown) defined at

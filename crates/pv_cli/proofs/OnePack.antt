@@ -3,6 +3,8 @@ use Rattle.std.proofs.Common.{◌≡◌, ◌≤◌, ◌+◌, ◌⊎◌, inl, inr
 use Rattle.std.specs.List.{AllPairs, Contains}
 use Rattle.std.proofs.lemmas.List.{map-append}
 use Rattle.std.proofs.lemmas.List.Elements.{All-contains}
+use Rattle.pv_cert.specs.Packs.{lines_of, lines_text}
+use Rattle.pv_cert.specs.declared.packs.Pack.{Pack}
 use Rattle.pv_cache.specs.Stamps.{doc_as}
 use Rattle.pv_cache.proofs.ListMarks.{list_as, lists_as}
 use Rattle.pv_cache.proofs.OtherMarks.{heads_as, word_as}
@@ -29,13 +31,13 @@ use Rattle.pv_tree.specs.Words.{word_of}
 use Rattle.pv_tree.specs.declared.nodes.Mark.{Mark}
 use Rattle.pv_tree.specs.declared.nodes.Verdict.TheVariants as verdict
 use Rattle.pv_missing.specs.LiveWords.{IsLiveWord}
-use Rattle.pv_cli.specs.Complete.{IsCompleteCourse, PacksAlike, TellsPack, are_one, are_packs, has_too_many, is_heavy, is_pack, is_wide}
+use Rattle.pv_cli.specs.Complete.{IsCompleteCourse, IsLeastPack, PacksAlike, TellsPack, are_one, are_packs, has_too_many, is_heavy, is_pack, is_wide}
 use Rattle.pv_cli.specs.Course.{Course}
 use Rattle.pv_cli.specs.Documents.{PlainOpened}
 use Rattle.pv_cli.specs.Possibility.{possibility_stage}
 use Rattle.pv_cli.specs.Response.{PlainResponse, with_line}
 use Rattle.pv_cli.specs.Stage.{Behind, Responds}
-use Rattle.pv_cli.specs.declared.status.Status.TheVariants.{Limit}
+use Rattle.pv_cli.specs.declared.status.Status.TheVariants.{Done, Limit}
 use Rattle.pv_cli.proofs.Completions.{completion_as, grown_as}
 use Rattle.pv_cli.proofs.MissingElements.{cause_as, needs_as, wide_as}
 use Rattle.pv_cli.proofs.OneCheck.{none_first, possibility_sure}
@@ -110,6 +112,13 @@ module _ (word : OneLiveWord) (g : PlainDtd) (root : List ℕ) {M : Type 0} wher
       let more = h.more in
       let few = has.few in omega arith
 
+-- what is told, but for the tests of a pack
+data TellsLess {M : Type 0} (root : List ℕ) (g : PlainDtd) (doc : PlainDoc M) (r : PlainResponse) : Type 0 where
+  some_pack : (pack : Pack) → IsLeastPack root g doc pack → r ≡ record { status = Done; output = lines_text (lines_of pack) } → TellsLess root g doc r
+  first_wide : (path : List ℕ) → StopsAtWide g root doc path → r ≡ with_line Limit (codes "limit width " ++ path_text path) → TellsLess root g doc r
+  too_heavy : IsHeavy g root doc → r ≡ with_line Limit (codes "limit weight") → TellsLess root g doc r
+  too_many : HasTooMany g root doc → r ≡ with_line Limit (codes "limit tables") → TellsLess root g doc r
+
 -- what is told is told of the document with other marks
 module _ {M N : Type 0} (f : M → N) (g : PlainDtd) (root : List ℕ) where
   verdict_to : (list : Listed M) → IsVerdict g root list verdict.Possible → IsVerdict g root (list_as f list) verdict.Possible
@@ -154,15 +163,15 @@ module _ {M N : Type 0} (f : M → N) (g : PlainDtd) (root : List ℕ) where
     too_many_as : HasTooMany g root doc → HasTooMany g root (doc_as f doc)
     too_many_as many = record { least = many.least; needs = needs_as f g root doc many.least many.needs; many = more_as most_entries many.many }
 
-    tells_as : (r : PlainResponse) → TellsPack root g doc r → TellsPack root g (doc_as f doc) r
-    tells_as r (is_pack pack least is) = is_pack pack (record {
+    tells_as : (r : PlainResponse) → TellsPack root g doc r → TellsLess root g (doc_as f doc) r
+    tells_as r (is_pack pack least verifiable is) = some_pack pack (record {
       completion = completion_as f g root doc pack.total pack.marks pack.body least.completion;
       grown = grown_as f doc pack.body least.grown;
       tables = has_tables_as pack.tables least.tables;
     }) is
-    tells_as r (is_wide path stops is) = is_wide path (wide_as f g root doc path stops) is
-    tells_as r (is_heavy heavy is) = is_heavy (cause_as f g root doc TooHeavy heavy) is
-    tells_as r (has_too_many many is) = has_too_many (too_many_as many) is
+    tells_as r (is_wide path stops is) = first_wide path (wide_as f g root doc path stops) is
+    tells_as r (is_heavy heavy is) = too_heavy (cause_as f g root doc TooHeavy heavy) is
+    tells_as r (has_too_many many is) = too_many (too_many_as many) is
 
 module _ {M : Type 0} (word : OneLiveWord) (tables : OneTables M) (root : List ℕ) (g : PlainDtd) (doc : PlainDoc M) where
   not_wide : (path : List ℕ) → CanNeed g root doc → StopsAtWide g root doc path → ⊥
@@ -178,25 +187,25 @@ module _ {M : Type 0} (word : OneLiveWord) (tables : OneTables M) (root : List �
       omega arith
 
   -- one response, but for the bodies of packs
-  one_pack : (r also : PlainResponse) → TellsPack root g doc r → TellsPack root g doc also → PacksAlike r also
-  one_pack r also (is_pack p l is) (is_pack q m are) =
+  one_pack : (r also : PlainResponse) → TellsLess root g doc r → TellsLess root g doc also → PacksAlike r also
+  one_pack r also (some_pack p l is) (some_pack q m are) =
       are_packs p q (one_total p.total q.total l.completion.needs m.completion.needs) (tables g root (lists_of doc) p.tables q.tables l.tables.are_tables m.tables.are_tables) is are
-  one_pack r also (is_pack p l is) (is_wide path stops are) = absurd (not_wide path l.completion.needs.can stops)
-  one_pack r also (is_pack p l is) (is_heavy heavy are) = absurd (not_heavy p.total l.completion.needs heavy)
-  one_pack r also (is_pack p l is) (has_too_many many are) = absurd (not_too_many word g root doc p.tables l.tables many)
-  one_pack r also (is_wide path stops is) (is_pack q m are) = absurd (not_wide path m.completion.needs.can stops)
-  one_pack r also (is_wide path stops is) (is_wide other first are) =
+  one_pack r also (some_pack p l is) (first_wide path stops are) = absurd (not_wide path l.completion.needs.can stops)
+  one_pack r also (some_pack p l is) (too_heavy heavy are) = absurd (not_heavy p.total l.completion.needs heavy)
+  one_pack r also (some_pack p l is) (too_many many are) = absurd (not_too_many word g root doc p.tables l.tables many)
+  one_pack r also (first_wide path stops is) (some_pack q m are) = absurd (not_wide path m.completion.needs.can stops)
+  one_pack r also (first_wide path stops is) (first_wide other first are) =
       are_one (is ∙ ap (λ p. with_line Limit (codes "limit width " ++ path_text p)) (one_first (CanWeigh g root) (lists_of doc) path other stops.first first.first) ∙ sym are)
-  one_pack r also (is_wide path stops is) (is_heavy heavy are) = absurd (not_wide path heavy.can stops)
-  one_pack r also (is_wide path stops is) (has_too_many many are) = absurd (not_wide path many.needs.can stops)
-  one_pack r also (is_heavy heavy is) (is_pack q m are) = absurd (not_heavy q.total m.completion.needs heavy)
-  one_pack r also (is_heavy heavy is) (is_wide path stops are) = absurd (not_wide path heavy.can stops)
-  one_pack r also (is_heavy heavy is) (is_heavy other are) = are_one (is ∙ sym are)
-  one_pack r also (is_heavy heavy is) (has_too_many many are) = absurd (not_heavy many.least many.needs heavy)
-  one_pack r also (has_too_many many is) (is_pack q m are) = absurd (not_too_many word g root doc q.tables m.tables many)
-  one_pack r also (has_too_many many is) (is_wide path stops are) = absurd (not_wide path many.needs.can stops)
-  one_pack r also (has_too_many many is) (is_heavy heavy are) = absurd (not_heavy many.least many.needs heavy)
-  one_pack r also (has_too_many many is) (has_too_many other are) = are_one (is ∙ sym are)
+  one_pack r also (first_wide path stops is) (too_heavy heavy are) = absurd (not_wide path heavy.can stops)
+  one_pack r also (first_wide path stops is) (too_many many are) = absurd (not_wide path many.needs.can stops)
+  one_pack r also (too_heavy heavy is) (some_pack q m are) = absurd (not_heavy q.total m.completion.needs heavy)
+  one_pack r also (too_heavy heavy is) (first_wide path stops are) = absurd (not_wide path heavy.can stops)
+  one_pack r also (too_heavy heavy is) (too_heavy other are) = are_one (is ∙ sym are)
+  one_pack r also (too_heavy heavy is) (too_many many are) = absurd (not_heavy many.least many.needs heavy)
+  one_pack r also (too_many many is) (some_pack q m are) = absurd (not_too_many word g root doc q.tables m.tables many)
+  one_pack r also (too_many many is) (first_wide path stops are) = absurd (not_wide path many.needs.can stops)
+  one_pack r also (too_many many is) (too_heavy heavy are) = absurd (not_heavy many.least many.needs heavy)
+  one_pack r also (too_many many is) (too_many other are) = are_one (is ∙ sym are)
 
 -- what the laws of tables say that the proof stands on
 pub record ListsOnce : Type 0 where
@@ -216,5 +225,5 @@ complete_once lists one root x y course other r also same so is are =
   where
     one_of : (g : PlainDtd) → unmarked_doc x.doc ≡ unmarked_doc y.doc → TellsPack root g x.doc r → TellsPack root g y.doc also → PacksAlike r also
     one_of g alike first second =
-        one_pack lists.word lists.tables root g (unmarked_doc y.doc) r also (subst (λ (d : PlainDoc Unit). TellsPack root g d r) alike (tells_as (λ (m : Mark). tt) g root x.doc r first))
+        one_pack lists.word lists.tables root g (unmarked_doc y.doc) r also (subst (λ (d : PlainDoc Unit). TellsLess root g d r) alike (tells_as (λ (m : Mark). tt) g root x.doc r first))
         (tells_as (λ (m : Mark). tt) g root y.doc also second)

@@ -3,7 +3,7 @@ use Rattle.std.proofs.Common.{◌≡◌, ℕ, suc, List, [], ◌∷◌, sym, ap,
 use Rattle.pv_script.specs.Commands.{SpellsCommand}
 use Rattle.pv_script.specs.Laws.{OneCommand}
 use Rattle.pv_script.specs.declared.commands.Command.{Command}
-use Rattle.pv_script.specs.declared.commands.Command.TheVariants.{Edit, Undo, Redo, History, Show, Verdicts, Need, Complete, Quit}
+use Rattle.pv_script.specs.declared.commands.Command.TheVariants.{Edit, Undo, Redo, History, Show, Verdicts, Need, Complete, Offer, Quit}
 use Rattle.pv_script.specs.declared.replies.Reply.{Reply}
 use Rattle.pv_script.specs.declared.replies.Reply.TheVariants.{NoMemory}
 use Rattle.pv_script.specs.declared.replies.Reply.TheVariants.{Verdicts as tells}
@@ -15,11 +15,13 @@ use Rattle.pv_cli.specs.Session.{RepliesBy, RepliesByStep, RepliesTo, unknown, k
 use Rattle.pv_cli.specs.Alike.{AreAlike, are_one, begins_alike, ends_alike}
 use Rattle.pv_cli.specs.Laws.{HasOneReply, HasOneOutput}
 use Rattle.pv_cli.proofs.OneNeed.{one_completion, one_told}
+use Rattle.pv_cli.proofs.OneOffer.{OffersOnce, one_told_offer}
 
--- a line spells one command, and each move of a session has one answer
+-- a line spells one command, each move of a session has one answer, and there is one offer
 pub record AnswersOnce : Type 0 where
   pub commands : OneCommand
   pub steps : StepsHaveOneAnswer
+  pub offers : OffersOnce
 
 by_step : (IsStep : PlainAnswer → PlainSession → Type 0) → ((s t : PlainSession) (a b : PlainAnswer) → IsStep a s → IsStep b t → (a ≡ b) × (s ≡ t)) →
     (told also : Reply) (after later : PlainSession) → RepliesByStep IsStep told after → RepliesByStep IsStep also later →
@@ -42,6 +44,7 @@ one_by once session Verdicts told also after later here there =
     (are_one (here.1 ∙ ap tells (one_rows (stamped_document session) here.0 there.0 here.2 there.2) ∙ sym there.1), here.3 ∙ sym there.3)
 one_by once session Need told also after later here there = (are_one (one_told session told also here.0 there.0), here.1 ∙ sym there.1)
 one_by once session Complete told also after later here there = (one_completion session told also here.0 there.0, here.1 ∙ sym there.1)
+one_by once session (Offer ask) told also after later here there = (are_one (one_told_offer once.offers session ask told also here.0 there.0), here.1 ∙ sym there.1)
 one_by once session Quit told also after later here there = absurd here
 
 pub one_reply : AnswersOnce → HasOneReply

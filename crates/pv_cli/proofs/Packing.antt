@@ -14,7 +14,7 @@ use Rattle.pv_missing.specs.Verdicts.{IsLive}
 use Rattle.pv_tree.specs.Lists.{lists_of}
 use Rattle.pv_tree.specs.Plain.{PlainDoc}
 use Rattle.pv_tree.specs.declared.nodes.Mark.{Mark}
-use Rattle.pv_cli.specs.Complete.{IsLeastPack, TellsPack, has_too_many, is_heavy, is_pack, is_wide}
+use Rattle.pv_cli.specs.Complete.{IsLeastPack, IsVerifiable, TellsPack, has_too_many, is_heavy, is_pack, is_wide}
 use Rattle.pv_cli.specs.Course.{Course, responds, without_input}
 use Rattle.pv_cli.specs.Packing.{IsRefusalFor}
 use Rattle.pv_cli.specs.Possibility.{is_impossible, is_too_wide, possibility_stage}
@@ -69,9 +69,9 @@ packs_as root g d doc same result is are finds =
     subst (λ (h : PlainDtd). Finds (IsPackCourse root h same) result) (sym is) (subst (λ (s : PlainDoc Mark). Finds (IsPackCourse root g s) result) (sym are) finds)
 
 -- the pack of the opened files is told
-pub packs_told : (root : List ℕ) (g d : PlainDtd) (doc same : PlainDoc Mark) (pack : Pack) (output : List ℕ) → d ≡ g → same ≡ doc → IsLeastPack root g doc pack → output ≡ lines_text (lines_of pack) →
+pub packs_told : (root : List ℕ) (g d : PlainDtd) (doc same : PlainDoc Mark) (pack : Pack) (output : List ℕ) → d ≡ g → same ≡ doc → IsLeastPack root g doc pack → IsVerifiable root g doc pack → output ≡ lines_text (lines_of pack) →
     IsPackCourse root d same (without_input 0 (responds (record { status = Done; output = output })))
-packs_told root g d doc same pack output is are least spelled =
+packs_told root g d doc same pack output is are least verifiable spelled =
     let r : PlainResponse = record { status = Done; output = output } in
-    let told = told_behind root g doc r least.completion.needs.can (is_pack pack least (ap (λ (out : List ℕ). record { status = Done; output = out }) spelled)) in
+    let told = told_behind root g doc r least.completion.needs.can (is_pack pack least verifiable (ap (λ (out : List ℕ). record { status = Done; output = out }) spelled)) in
     subst (λ (h : PlainDtd). IsPackCourse root h same (without_input 0 (responds r))) (sym is) (subst (λ (s : PlainDoc Mark). IsPackCourse root g s (without_input 0 (responds r))) (sym are) told)

@@ -3,6 +3,7 @@ use Rattle.std.proofs.Common.{◌≡◌, ◌∙◌, inl, inr, ℕ, List, Option,
 use Rattle.pv_dtd.specs.Kinds.{parameter, nesting, syntax, twice, mixed_twice, limit}
 use Rattle.pv_params.specs.Meaning.{conditional, external, undeclared, recursive, limit as params_limit, syntax as params_syntax}
 use Rattle.pv_read.specs.Kinds.{subset, syntax as bad_syntax, entity, mismatch, doctype_name, deep}
+use Rattle.pv_cli.specs.DenialFiles.{denial_file_stage, no_denial, too_large as too_large_denial}
 use Rattle.pv_cli.specs.Documents.{RefusesDocument, no_document, too_many_bytes}
 use Rattle.pv_cli.specs.Opening.{Files, IsFileTooLong, RefusesDtd, dtd_file_stage, no_dtd, opening_stage}
 use Rattle.pv_cli.specs.PackFiles.{RefusesPack, no_pack, pack_file_stage, too_large}
@@ -72,3 +73,8 @@ pub pack_file_undone : (file : Option (List ℕ)) (r : PlainResponse) (k : ℕ) 
 pack_file_undone file r k (inl long) = too_long_undone file _ _ r long.0
 pack_file_undone file r k (inr (bytes, i, j, given, (no_pack n means is, e), f)) = undone BadPack r _ no_pack_done is refl
 pack_file_undone file r k (inr (bytes, i, j, given, (too_large past is, e), f)) = undone Limit r _ no_limit_done is refl
+
+pub denial_file_undone : (file : Option (List ℕ)) (r : PlainResponse) (k : ℕ) → (denial_file_stage file).Refuses r k → IsUndone r
+denial_file_undone file r k (inl long) = too_long_undone file _ _ r long.0
+denial_file_undone file r k (inr (bytes, i, j, given, (no_denial n means is, e), f)) = undone BadPack r _ no_pack_done is refl
+denial_file_undone file r k (inr (bytes, i, j, given, (too_large_denial past is, e), f)) = undone Limit r _ no_limit_done is refl

@@ -79,7 +79,7 @@ module _ (line : Option PlainCommandLine) (files : Files) (taken : Option (List 
     possibility_told tests (is_no_more denies) = impossible_refused tests denies
 
     pub pack_told : TestsFor line possibility → MakesTables line → TellsPack root g doc r → RespondsBy line files taken r.status
-    pack_told tests makes (is_pack pack least is) = by_status line files taken Done r _ is refl tt
+    pack_told tests makes (is_pack pack least verifiable is) = by_status line files taken Done r _ is refl tt
     pack_told tests makes (is_wide path stops is) = by_status line files taken Limit r _ is refl (weights_width root g doc path makes both stops)
     pack_told tests makes (is_heavy heavy is) = by_status line files taken Limit r _ is refl (missing_elements root g doc makes both heavy)
     pack_told tests makes (has_too_many many is) = by_status line files taken Limit r _ is refl (table_entries root g doc makes both many)

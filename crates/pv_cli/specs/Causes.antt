@@ -8,6 +8,14 @@ use Rattle.pv_cert.specs.declared.packs.Pack.{Pack}
 use Rattle.pv_closed.specs.ClosedTables.{IsFirstWideTable}
 use Rattle.pv_complete.specs.Needing.{IsHeavy, StopsAtWide}
 use Rattle.pv_complete.specs.Tables.{HasTooMany}
+use Rattle.pv_denial.specs.Judging.{IsJudged, IsTooWideFor}
+use Rattle.pv_denial.specs.declared.denials.Denial.{Denial}
+use Rattle.pv_denial.specs.declared.denials.Flaw.{Flaw}
+use Rattle.pv_denial.specs.declared.denials.Judged.TheVariants as judged
+use Rattle.pv_denial_text.specs.Meaning.{DenialMeans, MAX_DENIAL_BYTES, is_denial}
+use Rattle.pv_denial_text.specs.Meaning.{is_fault as is_table_fault}
+use Rattle.pv_denial_text.specs.Meaning.{is_past_limit as is_past_table_limit}
+use Rattle.pv_deny.specs.Denying.{HasTooMany as HasTooManyValues}
 use Rattle.pv_dtd.specs.Facts.{MAX_DTD_BYTES}
 use Rattle.pv_dtd.specs.Kinds.{Kind as DtdKind, nesting, limit}
 use Rattle.pv_dtd.specs.Meaning.{DtdTextMeans, is_dtd, faulty as faulty_dtd}
@@ -35,8 +43,8 @@ use Rattle.pv_verify.specs.Tests.{IsRejected}
 use Rattle.pv_verify.specs.declared.answers.Why.{Why}
 use Rattle.pv_cli.specs.CommandLine.{PlainCommandLine, drill, files_named, on_certificate}
 use Rattle.pv_cli.specs.CommandLine.{on_document, on_dtd, on_ranges}
-use Rattle.pv_cli.specs.Commands.{Test, validity, width, possibility, test_of, makes_tables}
-use Rattle.pv_cli.specs.Commands.{reads_script, tests_width}
+use Rattle.pv_cli.specs.Commands.{Test, validity, width, possibility, impossibility, test_of}
+use Rattle.pv_cli.specs.Commands.{makes_tables, reads_script, tests_width}
 use Rattle.pv_cli.specs.Devices.{Devices}
 use Rattle.pv_cli.specs.Drill.{DRILL_ROOT}
 use Rattle.pv_cli.specs.Opening.{Files, file_at}
@@ -44,7 +52,7 @@ use Rattle.pv_cli.specs.Parameters.{is_parameters_limit}
 use Rattle.pv_cli.specs.Script.{MAX_SCRIPT_BYTES, has_long_line}
 use Rattle.pv_cli.specs.Standoff.{MAX_RANGES_BYTES, MAX_TEXT_BYTES}
 use Rattle.pv_cli.specs.declared.checker.Checker.{Checker}
-use Rattle.pv_cli.specs.declared.checker.Checker.TheVariants.{Verify}
+use Rattle.pv_cli.specs.declared.checker.Checker.TheVariants.{Deny, Verify}
 use Rattle.pv_cli.specs.declared.status.Status.{Status}
 use Rattle.pv_cli.specs.declared.status.Status.TheVariants.{Done, Negative, Usage, ReadFault}
 use Rattle.pv_cli.specs.declared.status.Status.TheVariants.{WriteFault, NoMemory, BadDtd}
@@ -97,14 +105,16 @@ ReadsCertificate checker (Some (on_certificate other dtd root doc file)) files b
 ReadsCertificate checker (Some (on_ranges dtd root text ranges)) files bytes = ⊥
 ReadsCertificate checker (Some (drill n)) files bytes = ⊥
 
--- a command line reads a text and ranges of these bytes
-abbrev pub ReadsText : Option PlainCommandLine → Files → List ℕ → Type 0
-ReadsText None files bytes = ⊥
-ReadsText (Some (on_dtd dtd)) files bytes = ⊥
-ReadsText (Some (on_document verb dtd root doc)) files bytes = ⊥
-ReadsText (Some (on_certificate checker dtd root doc file)) files bytes = ⊥
-ReadsText (Some (on_ranges dtd root text ranges)) files bytes = file_at 1 files ≡ Some bytes
-ReadsText (Some (drill n)) files bytes = ⊥
+-- a command line reads a text of these bytes, with the name of the root that its document is to
+-- have; and ranges
+abbrev pub ReadsText : Option PlainCommandLine → Files → List ℕ → List ℕ → Type 0
+ReadsText None files name bytes = ⊥
+ReadsText (Some (on_dtd dtd)) files name bytes = ⊥
+ReadsText (Some (on_document verb dtd root doc)) files name bytes = ⊥
+ReadsText (Some (on_certificate checker dtd root doc file)) files name bytes = ⊥
+ReadsText (Some (on_ranges dtd root text ranges)) files name bytes =
+    (name ≡ root) × (file_at 1 files ≡ Some bytes)
+ReadsText (Some (drill n)) files name bytes = ⊥
 
 abbrev pub ReadsRanges : Option PlainCommandLine → Files → List ℕ → Type 0
 ReadsRanges None files bytes = ⊥
@@ -114,25 +124,25 @@ ReadsRanges (Some (on_certificate checker dtd root doc file)) files bytes = ⊥
 ReadsRanges (Some (on_ranges dtd root text ranges)) files bytes = file_at 2 files ≡ Some bytes
 ReadsRanges (Some (drill n)) files bytes = ⊥
 
--- a DTD, a text and ranges that a command line reads
-pub record ReadsAnnotation (line : Option PlainCommandLine) (files : Files) (g : PlainDtd)
-    (text : List (List ℕ)) (ranges : List Range) : Type 0 where
+-- a DTD, the name of a root, a text and ranges that a command line reads
+pub record ReadsAnnotation (line : Option PlainCommandLine) (files : Files) (root : List ℕ)
+    (g : PlainDtd) (text : List (List ℕ)) (ranges : List Range) : Type 0 where
   pub dtd_bytes : List ℕ
   pub reads_dtd : ReadsDtd line files dtd_bytes
   pub is_dtd_text : DtdTextMeans dtd_bytes (is_dtd g)
   pub bytes : List ℕ
-  pub reads_text : ReadsText line files bytes
+  pub reads_text : ReadsText line files root bytes
   pub text_means : TextMeans bytes (Ok text)
   pub lines : List ℕ
   pub reads_ranges : ReadsRanges line files lines
   pub ranges_mean : RangesMean lines (Ok ranges)
 
--- the same, and the document that stands for them under a root
+-- the same, and the document that stands for them under that root
 pub record ReadsNested (line : Option PlainCommandLine) (files : Files) (root : List ℕ)
     (g : PlainDtd) (doc : PlainDoc Mark) : Type 0 where
   pub text : List (List ℕ)
   pub ranges : List Range
-  pub reads : ReadsAnnotation line files g text ranges
+  pub reads : ReadsAnnotation line files root g text ranges
   pub nests : NestMeans root text ranges (Ok doc)
 
 -- a DTD, a document and a pack that a command line reads
@@ -142,6 +152,14 @@ pub record ReadsPack (line : Option PlainCommandLine) (files : Files) (root : Li
   pub bytes : List ℕ
   pub reads : ReadsCertificate Verify line files bytes
   pub means : PackMeans bytes (is_pack pack)
+
+-- a DTD, a document and a denial that a command line reads
+pub record ReadsDenial (line : Option PlainCommandLine) (files : Files) (root : List ℕ)
+    (g : PlainDtd) (doc : PlainDoc Mark) (denial : Denial) : Type 0 where
+  pub both : ReadsBoth line files root g doc
+  pub bytes : List ℕ
+  pub reads : ReadsCertificate Deny line files bytes
+  pub means : DenialMeans bytes (is_denial denial)
 
 -- a command line tests this of its document: by its verb, and a drill as `session` does
 abbrev pub TestsFor : Option PlainCommandLine → Test → Type 0
@@ -209,8 +227,9 @@ pub record IsBadDocument (line : Option PlainCommandLine) (files : Files) : Type
 
 -- status 7: or the text's first fault
 pub record IsBadText (line : Option PlainCommandLine) (files : Files) : Type 0 where
+  pub root : List ℕ
   pub bytes : List ℕ
-  pub reads : ReadsText line files bytes
+  pub reads : ReadsText line files root bytes
   pub fault : TextError
   pub means : TextMeans bytes (Err fault)
 
@@ -227,7 +246,7 @@ pub record AreUnnested (line : Option PlainCommandLine) (files : Files) : Type 0
   pub g : PlainDtd
   pub text : List (List ℕ)
   pub ranges : List Range
-  pub reads : ReadsAnnotation line files g text ranges
+  pub reads : ReadsAnnotation line files root g text ranges
   pub fault : NestError
   pub means : NestMeans root text ranges (Err fault)
   pub no_limit : fault ≡ Deep → ⊥
@@ -239,10 +258,17 @@ pub record IsBadPack (line : Option PlainCommandLine) (files : Files) : Type 0 w
   pub lines : ℕ
   pub means : PackMeans bytes (is_fault lines)
 
+-- status 9: the denial's first line at fault
+pub record IsBadDenial (line : Option PlainCommandLine) (files : Files) : Type 0 where
+  pub bytes : List ℕ
+  pub reads : ReadsCertificate Deny line files bytes
+  pub lines : ℕ
+  pub means : DenialMeans bytes (is_table_fault lines)
+
 -- status 8: a limit is passed, by a file, by the parameter entities, in the DTD or the document, by
 -- a list where the width of lists is tested, by a list, the missing elements or the entries where
--- tables are made, by a pack or a list that it names, by a text, by ranges or the document that
--- stands for them, or by a script
+-- tables are made, by the values of a denial that is made, by a pack or a list that it names, by a
+-- denial or its list, by a text, by ranges or the document that stands for them, or by a script
 pub data PassesLimit (line : Option PlainCommandLine) (files : Files) (taken : Option (List ℕ)) :
     Type 0 where
   dtd_file : (bytes : List ℕ) → file_at 0 files ≡ Some bytes → MAX_DTD_BYTES < length bytes →
@@ -273,6 +299,9 @@ pub data PassesLimit (line : Option PlainCommandLine) (files : Files) (taken : O
   table_entries : (root : List ℕ) (g : PlainDtd) (doc : PlainDoc Mark) →
       MakesTables line → ReadsBoth line files root g doc → HasTooMany g root doc →
       PassesLimit line files taken
+  denial_values : (root : List ℕ) (g : PlainDtd) (doc : PlainDoc Mark) →
+      TestsFor line impossibility → ReadsBoth line files root g doc →
+      HasTooManyValues g root doc → PassesLimit line files taken
   pack_file : (bytes : List ℕ) → ReadsCertificate Verify line files bytes →
       MAX_PACK_BYTES < length bytes → PassesLimit line files taken
   in_pack : (bytes : List ℕ) → ReadsCertificate Verify line files bytes →
@@ -280,14 +309,21 @@ pub data PassesLimit (line : Option PlainCommandLine) (files : Files) (taken : O
   pack_width : (root : List ℕ) (g : PlainDtd) (doc : PlainDoc Mark) (pack : Pack)
       (path : List ℕ) → ReadsPack line files root g doc pack →
       IsFirstWideTable g (lists_of doc) pack.tables path → PassesLimit line files taken
-  text_file : (bytes : List ℕ) → ReadsText line files bytes → MAX_TEXT_BYTES < length bytes →
+  denial_file : (bytes : List ℕ) → ReadsCertificate Deny line files bytes →
+      MAX_DENIAL_BYTES < length bytes → PassesLimit line files taken
+  in_denial : (bytes : List ℕ) → ReadsCertificate Deny line files bytes →
+      DenialMeans bytes is_past_table_limit → PassesLimit line files taken
+  denial_width : (root : List ℕ) (g : PlainDtd) (doc : PlainDoc Mark) (denial : Denial) →
+      ReadsDenial line files root g doc denial → IsTooWideFor g doc denial →
       PassesLimit line files taken
+  text_file : (root bytes : List ℕ) → ReadsText line files root bytes →
+      MAX_TEXT_BYTES < length bytes → PassesLimit line files taken
   ranges_file : (bytes : List ℕ) → ReadsRanges line files bytes →
       MAX_RANGES_BYTES < length bytes → PassesLimit line files taken
   range_lines : (bytes : List ℕ) → ReadsRanges line files bytes →
       RangesMean bytes (Err TooMany) → PassesLimit line files taken
   nested_depth : (root : List ℕ) (g : PlainDtd) (text : List (List ℕ)) (ranges : List Range) →
-      ReadsAnnotation line files g text ranges → NestMeans root text ranges (Err Deep) →
+      ReadsAnnotation line files root g text ranges → NestMeans root text ranges (Err Deep) →
       PassesLimit line files taken
   nested_width : (root : List ℕ) (g : PlainDtd) (doc : PlainDoc Mark) (path : List ℕ) →
       ReadsNested line files root g doc → IsFirstTooWide g (lists_of doc) path →
@@ -297,9 +333,9 @@ pub data PassesLimit (line : Option PlainCommandLine) (files : Files) (taken : O
   whole_script : (script : List ℕ) → ReadsScript line → taken ≡ Some script →
       MAX_SCRIPT_BYTES < length script → PassesLimit line files taken
 
--- status 1: what the command line tests of its document doesn't hold. A list of it isn't valid, or
--- inserting elements can't make it valid. Nor the
--- document that stands for its text and ranges. Or its pack fails a test.
+-- status 1: what the command line tests of its document doesn't hold. A list of it isn't valid;
+-- inserting elements can't make it valid, or where it asks why they can't, they can; they can't
+-- make the document valid that stands for its text and ranges. Or its pack or denial fails a test.
 pub data IsNegative (line : Option PlainCommandLine) (files : Files) : Type 0 where
   not_valid : (root : List ℕ) (g : PlainDtd) (doc : PlainDoc Mark) (path : List ℕ) →
       TestsFor line validity → ReadsBoth line files root g doc →
@@ -307,12 +343,18 @@ pub data IsNegative (line : Option PlainCommandLine) (files : Files) : Type 0 wh
   not_possible : (root : List ℕ) (g : PlainDtd) (doc : PlainDoc Mark) →
       TestsFor line possibility → ReadsBoth line files root g doc →
       (IsPotentiallyValid g root (view doc.root) → ⊥) → IsNegative line files
+  can_be_valid : (root : List ℕ) (g : PlainDtd) (doc : PlainDoc Mark) →
+      TestsFor line impossibility → ReadsBoth line files root g doc →
+      IsPotentiallyValid g root (view doc.root) → IsNegative line files
   nested_impossible : (root : List ℕ) (g : PlainDtd) (doc : PlainDoc Mark) →
       ReadsNested line files root g doc → (IsPotentiallyValid g root (view doc.root) → ⊥) →
       IsNegative line files
   not_accepted : (root : List ℕ) (g : PlainDtd) (doc : PlainDoc Mark) (pack : Pack) (test : Why) →
       ReadsPack line files root g doc pack → IsRejected g root doc pack test →
       IsNegative line files
+  not_denied : (root : List ℕ) (g : PlainDtd) (doc : PlainDoc Mark) (denial : Denial)
+      (flaw : Flaw) → ReadsDenial line files root g doc denial →
+      IsJudged g root doc denial (judged.Rejected flaw) → IsNegative line files
 
 -- status 3: the shelf failed, which a command line asks only where it names files; or the input
 -- failed, which it asks only where it reads a script
@@ -337,7 +379,7 @@ RespondsBy line files taken BadDtd = IsBadDtd line files ⊎ HasBadParameters fi
 RespondsBy line files taken BadDocument = IsBadDocument line files ⊎ IsBadText line files
 RespondsBy line files taken Limit = PassesLimit line files taken
 RespondsBy line files taken BadPack =
-    IsBadPack line files ⊎ IsBadRanges line files ⊎ AreUnnested line files
+    IsBadPack line files ⊎ IsBadRanges line files ⊎ AreUnnested line files ⊎ IsBadDenial line files
 
 -- the cause of each status, in the files, the script or the devices; want of memory is free
 abbrev pub HasCause : {S : Type 0} → Option PlainCommandLine → Files → Option (List ℕ) → Devices S →

@@ -5,13 +5,13 @@ use Rattle.std.specs.Str.{bytes_eq}
 use Rattle.pv_chars.specs.Names.{IsName, is_name}
 use Rattle.pv_script.specs.Reading.{number_of}
 use Rattle.pv_cli.specs.declared.checker.Checker.{Checker}
-use Rattle.pv_cli.specs.declared.checker.Checker.TheVariants.{Verify}
+use Rattle.pv_cli.specs.declared.checker.Checker.TheVariants.{Deny, Verify}
 use Rattle.pv_cli.specs.declared.command_line.CommandLine.{CommandLine}
 use Rattle.pv_cli.specs.declared.command_line.CommandLine.TheVariants.{Drill, OnCertificate}
 use Rattle.pv_cli.specs.declared.command_line.CommandLine.TheVariants.{OnDocument, OnDtd}
 use Rattle.pv_cli.specs.declared.command_line.CommandLine.TheVariants.{OnRanges}
 use Rattle.pv_cli.specs.declared.verb.Verb.{Verb}
-use Rattle.pv_cli.specs.declared.verb.Verb.TheVariants.{Valid, Check, Session, Complete}
+use Rattle.pv_cli.specs.declared.verb.Verb.TheVariants.{Valid, Check, Session, Complete, Why}
 
 -- by form: `dtd DTD`; a verb with DTD ROOT DOC; a checker with these and a certificate;
 -- `standoff DTD ROOT TEXT RANGES`; and `drill N`
@@ -29,11 +29,15 @@ verb_of word =
     else if bytes_eq word (codes "check") then Some Check
     else if bytes_eq word (codes "session") then Some Session
     else if bytes_eq word (codes "complete") then Some Complete
+    else if bytes_eq word (codes "why") then Some Why
     else None
 
 -- the checker that a word is
 abbrev pub checker_of : List ℕ → Option Checker
-checker_of word = if bytes_eq word (codes "verify") then Some Verify else None
+checker_of word =
+    if bytes_eq word (codes "verify") then Some Verify
+    else if bytes_eq word (codes "deny") then Some Deny
+    else None
 
 -- how many sections a drill may have
 abbrev pub IsDrillSize : ℕ → Type 0

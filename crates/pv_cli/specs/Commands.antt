@@ -6,16 +6,18 @@ use Rattle.pv_cli.specs.Check.{IsCheckCourse}
 use Rattle.pv_cli.specs.Checking.{lines_taken}
 use Rattle.pv_cli.specs.Complete.{IsCompleteCourse}
 use Rattle.pv_cli.specs.Course.{Course}
+use Rattle.pv_cli.specs.Deny.{IsDenyCourse}
 use Rattle.pv_cli.specs.Documents.{PlainOpened, document_stage}
 use Rattle.pv_cli.specs.Opening.{Files, opening_stage}
 use Rattle.pv_cli.specs.Session.{IsSessionCourse}
 use Rattle.pv_cli.specs.Stage.{Behind}
 use Rattle.pv_cli.specs.Valid.{IsValidCourse}
 use Rattle.pv_cli.specs.Verify.{IsVerifyCourse}
+use Rattle.pv_cli.specs.Why.{IsWhyCourse}
 use Rattle.pv_cli.specs.declared.checker.Checker.{Checker}
-use Rattle.pv_cli.specs.declared.checker.Checker.TheVariants.{Verify}
+use Rattle.pv_cli.specs.declared.checker.Checker.TheVariants.{Deny, Verify}
 use Rattle.pv_cli.specs.declared.verb.Verb.{Verb}
-use Rattle.pv_cli.specs.declared.verb.Verb.TheVariants.{Valid, Check, Session, Complete}
+use Rattle.pv_cli.specs.declared.verb.Verb.TheVariants.{Valid, Check, Session, Complete, Why}
 
 -- what each verb does behind the opened files
 abbrev pub Tells : Verb → List ℕ → PlainOpened → Course → Type 0
@@ -23,13 +25,15 @@ Tells Valid root opened = IsValidCourse root opened
 Tells Check root opened = IsCheckCourse root opened
 Tells Session root opened = IsSessionCourse root opened
 Tells Complete root opened = IsCompleteCourse root opened
+Tells Why root opened = IsWhyCourse root opened
 
 -- what a verb tests of its document: that it is valid; that no list is too wide; or that, and that
--- inserting elements can make it valid
+-- inserting elements can make it valid, or can't
 pub data Test : Type 0 where
   validity : Test
   width : Test
   possibility : Test
+  impossibility : Test
 
 -- what each verb tests of its document
 abbrev pub test_of : Verb → Test
@@ -37,12 +41,14 @@ test_of Valid = validity
 test_of Check = possibility
 test_of Session = width
 test_of Complete = possibility
+test_of Why = impossibility
 
 -- whether a test looks at the width of lists
 abbrev pub tests_width : Test → Bool
 tests_width validity = false
 tests_width width = true
 tests_width possibility = true
+tests_width impossibility = true
 
 -- whether a verb reads a script, and so asks its input
 abbrev pub reads_script : Verb → Bool
@@ -58,6 +64,7 @@ makes_tables other = false
 -- many lines of what was taken from the input. Any other verb counts none.
 abbrev pub lines_checked : Verb → Option (List ℕ) → Option ℕ
 lines_checked Check taken = Some 0
+lines_checked Why taken = Some 0
 lines_checked Session taken = Some (lines_taken taken)
 lines_checked other taken = None
 
@@ -72,3 +79,4 @@ GoesOn verb root fetched = Behind (document_stage root fetched.0 fetched.1) (Tel
 -- a command on a certificate, over its files
 abbrev pub IsCheckerCourse : Checker → List ℕ → Files → Course → Type 0
 IsCheckerCourse Verify root files = IsVerifyCourse root files
+IsCheckerCourse Deny root files = IsDenyCourse root files

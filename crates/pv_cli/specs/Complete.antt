@@ -1,14 +1,17 @@
 -- What `complete DTD ROOT DOC` responds.
 use Rattle.std.specs.Prelude.{◌≡◌, ℕ, List, ◌++◌, codes}
-use Rattle.pv_cert.specs.Packs.{lines_of, lines_text}
+use Rattle.pv_cert.specs.Packs.{IsPackText, lines_of, lines_text}
 use Rattle.pv_cert.specs.declared.packs.Pack.{Pack}
+use Rattle.pv_closed.specs.ClosedTables.{AreNarrowTables}
 use Rattle.pv_complete.specs.Completing.{IsLeastCompletion}
 use Rattle.pv_complete.specs.Growing.{IsGrownText}
 use Rattle.pv_complete.specs.Needing.{IsHeavy, StopsAtWide}
 use Rattle.pv_complete.specs.Tables.{HasTables, HasTooMany}
 use Rattle.pv_dtd.specs.Plain.{PlainDtd}
 use Rattle.pv_script.specs.Paths.{path_text}
+use Rattle.pv_tree.specs.Lists.{lists_of}
 use Rattle.pv_tree.specs.Plain.{PlainDoc}
+use Rattle.pv_verify.specs.Tests.{IsAccepted}
 use Rattle.pv_cli.specs.declared.status.Status.TheVariants.{Done, Limit}
 use Rattle.pv_cli.specs.Course.{Course}
 use Rattle.pv_cli.specs.Documents.{PlainOpened}
@@ -25,12 +28,21 @@ pub record IsLeastPack {M : Type 0} (root : List ℕ) (g : PlainDtd) (doc : Plai
   pub grown : IsGrownText doc pack.body
   pub tables : HasTables g root doc pack.tables
 
--- Such a pack is printed, of several any. Or none is: the list at a path is the first Possible one
--- that is too wide for weights; or there is none, and more than 1,000,000 elements are missing; or
--- no more are, and the tables would have more than 8,388,608 entries.
+-- `verify` accepts the pack, the limit on bytes aside: its text is one of a pack, no table of it
+-- names a list that is too wide for weights, and it passes all tests.
+pub record IsVerifiable {M : Type 0} (root : List ℕ) (g : PlainDtd) (doc : PlainDoc M)
+    (pack : Pack) : Type 0 where
+  pub text : IsPackText (lines_text (lines_of pack)) pack
+  pub narrow : AreNarrowTables g (lists_of doc) pack.tables
+  pub accepted : IsAccepted g root doc pack
+
+-- The text of such a pack is printed, of several any, and it is accepted. Or none is: the list at a
+-- path is the first Possible one that is too wide for weights; or there is none, and more than
+-- 1,000,000 elements are missing; or no more are, and the tables would have more than 8,388,608
+-- entries.
 pub data TellsPack {M : Type 0} (root : List ℕ) (g : PlainDtd) (doc : PlainDoc M)
     (r : PlainResponse) : Type 0 where
-  is_pack : (pack : Pack) → IsLeastPack root g doc pack →
+  is_pack : (pack : Pack) → IsLeastPack root g doc pack → IsVerifiable root g doc pack →
       r ≡ record { status = Done; output = lines_text (lines_of pack) } → TellsPack root g doc r
   is_wide : (path : List ℕ) → StopsAtWide g root doc path →
       r ≡ with_line Limit (codes "limit width " ++ path_text path) → TellsPack root g doc r

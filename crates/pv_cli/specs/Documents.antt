@@ -45,6 +45,11 @@ pub record SpellsSome (root bytes : List ℕ) : Type 0 where
   pub doc : PlainDoc Mark
   pub is_text : IsDocumentText root bytes doc
 
+-- the document has a text
+pub record HasText (root : List ℕ) (doc : PlainDoc Mark) : Type 0 where
+  pub bytes : List ℕ
+  pub is_text : IsDocumentText root bytes doc
+
 -- reading a document
 abbrev pub document_stage : List ℕ → PlainDtd → List ℕ → Stage PlainOpened
 document_stage root g bytes =

@@ -1,19 +1,31 @@
 -- Laws on what the program does.
-use Rattle.std.specs.Prelude.{◌≡◌, ◌⊎◌, ℕ, false, List, ◌++◌, codes, decimal, Option, Some}
+use Rattle.std.specs.Prelude.{◌≡◌, ◌⊎◌, Contains, IsTrue, ℕ, false, List, ◌++◌, codes, decimal}
+use Rattle.std.specs.Prelude.{Option, Some}
 use Rattle.std.specs.Io.KnownBytes.{Appends}
 use Rattle.pv_cert.specs.declared.packs.Pack.{Pack}
+use Rattle.pv_denial.specs.declared.denials.Denial.{Denial}
 use Rattle.pv_dtd.specs.Plain.{PlainDtd}
+use Rattle.pv_edit.specs.Given.{is_new_name}
+use Rattle.pv_edit.specs.declared.answers.Done.{Done as WhatWasDone}
+use Rattle.pv_edit.specs.declared.asks.Ask.{Ask}
 use Rattle.pv_io.specs.Causes.{CountStays, Rose}
+use Rattle.pv_offer.specs.Offers.{declared_names, edit_with}
+use Rattle.pv_script.specs.Commands.{SpellsCommand}
+use Rattle.pv_script.specs.declared.commands.Command.TheVariants as command
+use Rattle.pv_missing.specs.Completing.{IsPotentiallyValid}
+use Rattle.pv_script.specs.Paths.{path_text}
 use Rattle.pv_script.specs.declared.replies.Reply.{Reply}
+use Rattle.pv_script.specs.declared.replies.Reply.TheVariants as reply
 use Rattle.pv_session.specs.Sessions.{PlainSession}
 use Rattle.pv_tree.specs.Plain.{PlainDoc}
+use Rattle.pv_tree.specs.View.{view}
 use Rattle.pv_tree.specs.declared.nodes.Mark.{Mark}
 use Rattle.pv_verify.specs.Laws.{IsLeastPack}
-use Rattle.pv_cli.specs.declared.checker.Checker.TheVariants.{Verify}
+use Rattle.pv_cli.specs.declared.checker.Checker.TheVariants.{Deny, Verify}
 use Rattle.pv_cli.specs.declared.status.Status.{Status}
 use Rattle.pv_cli.specs.declared.status.Status.TheVariants.{Done, ReadFault, WriteFault}
 use Rattle.pv_cli.specs.Alike.{AreAlike, OutputsAlike, RespondsAlike}
-use Rattle.pv_cli.specs.Causes.{HasCause, OneRoseAtMost, ReadsPack}
+use Rattle.pv_cli.specs.Causes.{HasCause, OneRoseAtMost, ReadsDenial, ReadsPack}
 use Rattle.pv_cli.specs.CommandLine.{PlainCommandLine, on_certificate}
 use Rattle.pv_cli.specs.Course.{Course, RunEnding, responds, input_fault}
 use Rattle.pv_cli.specs.Headline.{GuardsSession, HadNoMemory}
@@ -46,6 +58,22 @@ HasOneReply = (session : PlainSession) (line : List ℕ) (reply also : Reply)
     (after later : PlainSession) →
     RepliesTo session line reply after → RepliesTo session line also later → AreAlike reply also ×
     (after ≡ later)
+
+-- What `offer` told is kept when the edit is tried with a name: one of those it told is made, and
+-- another declared name is refused, since more lists would be impossible.
+pub record IsKeptFor (names : List (List ℕ)) (x : List ℕ) (told : Reply) : Type 0 where
+  pub made : Contains names x → (done : WhatWasDone) × (told ≡ reply.Okay done)
+  pub refused : (Contains names x → ⊥) → (path : List ℕ) × (told ≡ reply.Impossible path)
+
+-- A line that spells `offer` is answered by names, and the next line spells the edit that it asked
+-- of, with a declared name, which is a Name; no line is answered for want of memory.
+abbrev pub OffersAreKept : Type 0
+OffersAreKept = (session behind after : PlainSession) (line next : List ℕ) (ask : Ask)
+    (names : List (List ℕ)) (x : List ℕ) (told : Reply) →
+    SpellsCommand line (command.Offer ask) → RepliesTo session line (reply.Offer names) behind →
+    Contains (declared_names session.dtd) x → IsTrue (is_new_name x) →
+    SpellsCommand next (command.Edit (edit_with ask x)) → RepliesTo behind next told after →
+    IsKeptFor names x told
 
 -- lines have one output, but for the documents of completions, and lead to one place, counted from
 -- any number and begun in any session, where there was no memory for the same of them
@@ -135,3 +163,21 @@ abbrev pub AcceptsLeast : Type 0 → Type 0
 AcceptsLeast S = (dtd root doc file : List ℕ) (before after : Devices S)
     (run : Runs (Some (on_certificate Verify dtd root doc file)) before after Done) →
     ShowsLeast (Some (on_certificate Verify dtd root doc file)) run.files root before after
+
+-- A run read a DTD, a document and a denial, and wrote `denied PATH` with the denial's path: no
+-- insertions make the document valid.
+pub record ShowsImpossible {S : Type 0} (line : Option PlainCommandLine) (files : Files)
+    (root : List ℕ) (before after : Devices S) : Type 0 where
+  pub dtd : PlainDtd
+  pub doc : PlainDoc Mark
+  pub denial : Denial
+  pub reads : ReadsDenial line files root dtd doc denial
+  pub impossible : ¬ IsPotentiallyValid dtd root (view doc.root)
+  pub written : Appends before.output.written after.output.written
+      (codes "denied " ++ path_text denial.path ++ codes "\n")
+
+-- whatever run of `deny` ends with status 0 shows so, whoever made the denial
+abbrev pub DeniesImpossible : Type 0 → Type 0
+DeniesImpossible S = (dtd root doc file : List ℕ) (before after : Devices S)
+    (run : Runs (Some (on_certificate Deny dtd root doc file)) before after Done) →
+    ShowsImpossible (Some (on_certificate Deny dtd root doc file)) run.files root before after

@@ -13,9 +13,12 @@ pub mod Laws
 pub mod Drill
 pub mod Headline
 pub mod Missing
+pub mod DenialFiles
+pub mod Deny
 pub mod Devices
 pub mod Documents
 pub mod Dtd
+pub mod Offers
 pub mod Opening
 pub mod PackFiles
 pub mod Packing
@@ -33,4 +36,6 @@ pub mod Status
 pub mod Turns
 pub mod Valid
 pub mod Verify
+pub mod Why
 pub mod Validity
+pub mod Within

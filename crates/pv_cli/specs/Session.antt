@@ -25,6 +25,7 @@ use Rattle.pv_cli.specs.declared.status.Status.TheVariants.{Done, Limit}
 use Rattle.pv_cli.specs.Course.{Course, RunEnding, responds, input_fault, output_fault}
 use Rattle.pv_cli.specs.Course.{no_memory as short_of_memory, without_input}
 use Rattle.pv_cli.specs.Missing.{TellsCompletion, TellsNeed}
+use Rattle.pv_cli.specs.Offers.{TellsOffer}
 use Rattle.pv_cli.specs.Documents.{PlainOpened}
 use Rattle.pv_cli.specs.Possibility.{width_stage}
 use Rattle.pv_cli.specs.Script.{MAX_SCRIPT_BYTES, IsWithin, has_long_line, lines_within}
@@ -74,6 +75,7 @@ RepliesBy before command.Verdicts told after =
     AreRows (stamped_document before) rows × (after ≡ before)
 RepliesBy before command.Need told after = TellsNeed before told × (after ≡ before)
 RepliesBy before command.Complete told after = TellsCompletion before told × (after ≡ before)
+RepliesBy before (command.Offer ask) told after = TellsOffer before ask told × (after ≡ before)
 RepliesBy before command.Quit told after = ⊥
 
 -- what a line that doesn't end the session does: the reply to it, and the session behind it

@@ -8,6 +8,8 @@ ghost use Rattle.pv_cli.specs.CommandLine.{checker_of};
 pub enum Checker {
     /// Tells whether a pack shows a least completion.
     Verify,
+    /// Tells whether a denial shows that no insertions can make a document valid.
+    Deny,
 }
 
 /// The checker that a word is.
@@ -16,6 +18,8 @@ pub fn checker_of(word: &str) -> Option<Checker>
 {
     if word == "verify" {
         Some(Checker::Verify)
+    } else if word == "deny" {
+        Some(Checker::Deny)
     } else {
         None
     }

@@ -2,9 +2,11 @@
 
 pub mod check;
 pub mod complete;
+pub mod deny;
 pub mod drill;
 pub mod dtd;
 pub mod session;
 pub mod standoff;
 pub mod valid;
 pub mod verify;
+pub mod why;

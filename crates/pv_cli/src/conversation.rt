@@ -2,6 +2,7 @@
 
 pub mod answers;
 mod missing;
+mod offers;
 mod reply_buffer;
 pub mod talk;
 pub mod turns;

@@ -10,10 +10,12 @@ use crate::checker::Checker;
 use crate::command_line::Named;
 use crate::commands::check::check;
 use crate::commands::complete::complete;
+use crate::commands::deny::deny;
 use crate::commands::dtd::dtd;
 use crate::commands::session::session;
 use crate::commands::valid::valid;
 use crate::commands::verify::verify;
+use crate::commands::why::why;
 use crate::opening::{Fetched, fetch_files, open_dtd};
 use crate::respond::respond;
 use crate::response::Response;
@@ -61,6 +63,7 @@ pub fn run_on_certificate<H: Shelf>(
 {
     match checker {
         Checker::Verify => verify(alloc, shelf, named, file),
+        Checker::Deny => deny(alloc, shelf, named, file),
     }
 }
 
@@ -86,6 +89,7 @@ fn do_rest<S: Source, K: Sink, L: Ledger>(
         Verb::Check => respond(out, check(rt, alloc, fetched, root, steps)),
         Verb::Session => session(rt, alloc, fetched, root, input, out, steps),
         Verb::Complete => respond(out, complete(alloc, fetched, root)),
+        Verb::Why => respond(out, why(rt, alloc, fetched, root, steps)),
     }
 }
 

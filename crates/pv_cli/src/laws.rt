@@ -2,13 +2,19 @@
 
 ghost use Rattle.pv_cli.specs.Laws.{HasOneResponse, IsComplete, FaultsShow, HasOneReply};
 ghost use Rattle.pv_cli.specs.Laws.{HasOneOutput, JoinsReplies, EndsAtQuit, MoreChangesNothing};
-ghost use Rattle.pv_cli.specs.Laws.{AcceptsLeast, ComesByCause, RaisesOneAtMost, SessionsAreGuarded};
+ghost use Rattle.pv_cli.specs.Laws.{AcceptsLeast, ComesByCause, DeniesImpossible, OffersAreKept};
+ghost use Rattle.pv_cli.specs.Laws.{RaisesOneAtMost, SessionsAreGuarded};
+ghost use Rattle.pv_cli.specs.Within.{AnswersWithin};
 
 use pv_cert::laws::one_meaning_law as one_pack_meaning_law;
 use pv_chars::laws::one_meaning_law as one_text_meaning_law;
+use pv_denial::laws::one_judged_law;
+use pv_denial_text::laws::one_meaning_law as one_denial_meaning_law;
+use pv_deny::laws::one_denial_law;
 use pv_dtd::laws::{dtd_text_law, one_meaning_law};
 use pv_io::Source;
 use pv_missing::laws::words::one_live_word_law;
+use pv_offer::laws::{no_ground_law, offered_law, one_ground_law, one_offer_law, tried_law};
 use pv_params::laws::one_expansion_law;
 use pv_read::laws::{meant_law, one_document_law, one_meaning_law as one_document_meaning_law};
 use pv_script::laws::one_command_law;
@@ -33,6 +39,9 @@ pub fn one_response_law()
     valid_lists_law();
     one_command_law();
     one_answer_law();
+    one_offer_law();
+    one_ground_law();
+    no_ground_law();
     one_live_word_law();
     one_tables_law::<()>();
     one_pack_meaning_law();
@@ -40,6 +49,9 @@ pub fn one_response_law()
     one_text_meaning_law();
     one_reading_law();
     one_nesting_law();
+    one_denial_meaning_law();
+    one_judged_law::<()>();
+    one_denial_law::<()>();
 }
 
 /// Where no device failed, the defined response was written, or there was no memory and nothing was
@@ -59,10 +71,33 @@ pub fn causes_law<S: Source>()
     ensures one { RaisesOneAtMost S }
 {}
 
+/// Where the words are a command, what it reads is within its grammars and limits, and no device
+/// failed, what was asked was done, or is answered by no, or a list, the missing elements, or what
+/// is made for tables or a denial passes a limit, or there was no memory and nothing was written.
+pub fn within_law<S: Source>()
+    ensures { AnswersWithin S }
+{
+    one_expansion_law();
+    one_meaning_law();
+    one_document_meaning_law();
+    one_pack_meaning_law();
+    one_text_meaning_law();
+    one_reading_law();
+    one_nesting_law();
+    one_denial_meaning_law();
+    complete_law::<S>();
+}
+
 /// Whatever run of `verify` ends with status 0 has written `accepted K`, where K is the least number
 /// of missing elements and the pack's body completes the document by so many, whoever made the pack.
 pub fn accepted_law<S: Source>()
     ensures { AcceptsLeast S }
+{}
+
+/// Whatever run of `deny` ends with status 0 has written `denied PATH`, and no insertions make the
+/// document valid, whoever made the denial.
+pub fn denied_law<S: Source>()
+    ensures { DeniesImpossible S }
 {}
 
 /// Over files that hold a DTD and a document none of whose lists is too wide, and devices that don't
@@ -89,6 +124,19 @@ pub fn replies_law()
 {
     one_command_law();
     one_answer_law();
+    one_offer_law();
+    one_ground_law();
+    no_ground_law();
+}
+
+/// Where `offer` told names in a session, the edit with one of them, tried next, answers `ok`, and
+/// that with another declared name `no impossible`.
+pub fn offers_law()
+    ensures { OffersAreKept }
+{
+    one_command_law();
+    offered_law();
+    tried_law();
 }
 
 /// A session that a `quit` or a limit ended ends so whatever else its script has.

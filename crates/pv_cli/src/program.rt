@@ -75,8 +75,8 @@ fn run_words<H: Shelf, S: Source, K: Sink, L: Ledger>(
 /// All that the program does: the words are those after its name.
 ///
 /// The shelf's names are the words but number 0 and number 2, counted from 0. `steps` counts the
-/// verdicts that `check`, the opening of a session or a drill, and its edits, undos and redos find;
-/// no other line of a session finds any, and other commands leave it.
+/// verdicts that `check`, `why`, `standoff`, the opening of a session or a drill, and its edits,
+/// undos and redos find; no other line of a session finds any, and other commands leave it.
 pub fn pvtag<H: Shelf, S: Source, K: Sink, L: Ledger>(
     rt: &(impl Threads + Sync),
     alloc: Global,

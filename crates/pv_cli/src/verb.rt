@@ -14,6 +14,8 @@ pub enum Verb {
     Session,
     /// Prints the pack of a least completion.
     Complete,
+    /// Prints why no insertions can make the document valid.
+    Why,
 }
 
 /// The verb that a word is.
@@ -28,6 +30,8 @@ pub fn verb_of(word: &str) -> Option<Verb>
         Some(Verb::Session)
     } else if word == "complete" {
         Some(Verb::Complete)
+    } else if word == "why" {
+        Some(Verb::Why)
     } else {
         None
     }

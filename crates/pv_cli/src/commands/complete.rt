@@ -2,15 +2,14 @@
 
 ghost use Rattle.std.specs.Prelude.{◌≡◌, IfErr, IfOk};
 ghost use Rattle.pv_cli.specs.Commands.{GoesOn};
-ghost use Rattle.pv_cli.specs.Complete.{IsCompleteCourse, IsLeastPack};
-ghost use Rattle.pv_cli.specs.Documents.{PlainOpened};
+ghost use Rattle.pv_cli.specs.Complete.{IsCompleteCourse, IsLeastPack, IsVerifiable};
+ghost use Rattle.pv_cli.specs.Documents.{HasText, PlainOpened};
 ghost use Rattle.pv_cli.specs.Packing.{IsRefusalFor};
 ghost use Rattle.pv_cli.specs.Returns.{Finds, RefusesWith, plain_fetched};
 ghost use Rattle.pv_cli.specs.declared.verb.Verb.TheVariants.{Complete};
 ghost use Rattle.pv_complete.specs.Tables.{HasTablesCause};
 ghost use Rattle.pv_productive.specs.PlainForms.{dtd_of};
 ghost use Rattle.pv_tree.specs.PlainDocs.{plain_doc};
-ghost use Rattle.pv_tree.specs.Prolog.{IsProlog};
 
 use crate::opening::{Fetched, Opened, open_document, refuse, refuse_path};
 use crate::response::Response;
@@ -21,16 +20,28 @@ use pv_complete::{Completion, NeedError, tables};
 use pv_dtd::laws::proper_dtd_law;
 use pv_missing::laws::proper::proper_doc_law;
 use pv_productive::{Grammar, build};
-use pv_tree::Doc;
+use pv_read::laws::meant_law;
+use pv_tables::laws::one_list_at_path_law;
+use pv_tree::{Doc, Mark};
+use pv_verify::laws::made_pack_law;
+use pv_write::laws::spelled_is_written_law;
 use std::alloc::Global;
 
-// The pack of a least completion of a document.
+// The pack of a least completion of a document, which `verify` accepts.
 fn pack_of(alloc: Global, grammar: &Grammar, doc: &Doc, root: &[u8]) -> Result<Pack, NeedError>
-    requires { IsProlog root.now (plain_doc doc.now).before }
+    requires { HasText root.now (plain_doc doc.now) }
     ensures least { IfOk result (IsLeastPack root.now (dtd_of grammar.now) (plain_doc doc.now)) }
+    ensures verifiable { IfOk result (IsVerifiable root.now (dtd_of grammar.now)
+        (plain_doc doc.now)) }
     ensures refused { IfErr result (HasTablesCause (dtd_of grammar.now)
         root.now (plain_doc doc.now)) }
 {
+    meant_law();
+    spelled_is_written_law();
+    one_list_at_path_law::<Mark>();
+    made_pack_law::<Mark>();
+    proper_dtd_law(grammar.dtd());
+    proper_doc_law(doc);
     let tables = tables(alloc, grammar, root, doc)?;
     let Completion { count, marks, body } = pv_complete::complete(alloc, grammar, root, doc)?;
     Ok(Pack {
@@ -60,7 +71,7 @@ fn refuse_pack(alloc: Global, error: NeedError) -> Stop
 
 // The text of the pack, or why there is none.
 fn tell(alloc: Global, grammar: &Grammar, doc: &Doc, root: &[u8]) -> Result<Response, Stop>
-    requires { IsProlog root.now (plain_doc doc.now).before }
+    requires { HasText root.now (plain_doc doc.now) }
     ensures { (opened : PlainOpened) → opened.dtd ≡ dtd_of grammar.now →
         opened.doc ≡ plain_doc doc.now → Finds (IsCompleteCourse root.now opened) result }
 {

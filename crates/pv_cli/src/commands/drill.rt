@@ -68,6 +68,7 @@ fn counted(counts: Counts, done: Option<Done>) -> Counts
 
 // Answers a line, and counts the reply.
 fn count_line<L: Ledger>(
+    rt: &(impl Threads + Sync),
     alloc: Global,
     session: &mut Session,
     line: &[u8],
@@ -81,7 +82,7 @@ fn count_line<L: Ledger>(
     ensures bounded { IfOk result (IsCountOf (counts.lines + 1)) }
     ensures steps { steps.new ≤ steps.old + 2 }
 {
-    let Some(answer) = turn(alloc, session, line, steps)? else {
+    let Some(answer) = turn(rt, alloc, session, line, steps)? else {
         unreachable!();
     };
     Ok(counted(counts, answer.done))
@@ -89,6 +90,7 @@ fn count_line<L: Ledger>(
 
 // Answers a line of the drill, and counts the reply.
 fn count_drill_line<L: Ledger>(
+    rt: &(impl Threads + Sync),
     alloc: Global,
     session: &mut Session,
     k: u32,
@@ -107,11 +109,12 @@ fn count_drill_line<L: Ledger>(
     ensures steps { steps.new ≤ steps.old + 2 }
 {
     let line = drill_line(alloc, k, which)?;
-    count_line(alloc, session, &line, counts, steps)
+    count_line(rt, alloc, session, &line, counts, steps)
 }
 
 // Answers the lines for a section, and counts the replies.
 fn count_section<L: Ledger>(
+    rt: &(impl Threads + Sync),
     alloc: Global,
     session: &mut Session,
     k: u32,
@@ -126,10 +129,10 @@ fn count_section<L: Ledger>(
     ensures bounded { IfOk result (IsCountOf (counts.lines + 3)) }
     ensures steps { steps.new ≤ steps.old + 2 * length (section_lines k) }
 {
-    let first = count_drill_line(alloc, session, k, 0, counts, steps)?;
-    let second = count_drill_line(alloc, session, k, 1, first, steps)?;
+    let first = count_drill_line(rt, alloc, session, k, 0, counts, steps)?;
+    let second = count_drill_line(rt, alloc, session, k, 1, first, steps)?;
     if k % 3 == 0 {
-        count_drill_line(alloc, session, k, 2, second, steps)
+        count_drill_line(rt, alloc, session, k, 2, second, steps)
     } else {
         Ok(second)
     }
@@ -137,6 +140,7 @@ fn count_section<L: Ledger>(
 
 // Answers the lines of the drill, and counts the replies.
 fn count_drill<L: Ledger>(
+    rt: &(impl Threads + Sync),
     alloc: Global,
     session: &mut Session,
     n: u32,
@@ -156,7 +160,7 @@ fn count_drill<L: Ledger>(
     let mut k = 0;
     while k < n {
         k += 1;
-        counts = count_section(alloc, session, k, counts, steps)?;
+        counts = count_section(rt, alloc, session, k, counts, steps)?;
     }
     Ok(counts)
 }
@@ -202,6 +206,7 @@ fn begin_drill<L: Ledger>(
 
 // Answers the script of the drill, and tells the counts of the replies.
 fn answer_drill<L: Ledger>(
+    rt: &(impl Threads + Sync),
     alloc: Global,
     session: &mut Session,
     n: u32,
@@ -211,7 +216,7 @@ fn answer_drill<L: Ledger>(
     ensures tells { TellsBy (TellsCounts n session.old) result }
     ensures steps { steps.new ≤ steps.old + 2 * length (drill_lines n) }
 {
-    let counts = count_drill(alloc, session, n, steps)?;
+    let counts = count_drill(rt, alloc, session, n, steps)?;
     Ok(tell(alloc, n, counts, session.open_count())?)
 }
 
@@ -228,5 +233,5 @@ pub fn drill<L: Ledger>(
         steps.old steps.new }
 {
     let mut session = begin_drill(rt, alloc, n, steps)?;
-    answer_drill(alloc, &mut session, n, steps)
+    answer_drill(rt, alloc, &mut session, n, steps)
 }

@@ -84,5 +84,5 @@ pub fn session<S: Source, K: Sink, L: Ledger>(
         Ok(session) => session,
         Err(stop) => return respond(out, Err(stop)),
     };
-    converse(alloc, &mut session, input, out, steps)
+    converse(rt, alloc, &mut session, input, out, steps)
 }

@@ -25,6 +25,7 @@ use pv_session::Session;
 use pv_steps::Steps;
 use std::alloc::{AllocError, Global};
 use std::sync::ledger::Ledger;
+use std::thread::Threads;
 
 /// The most bytes of a script.
 const MAX_SCRIPT_BYTES: usize = 268_435_456;
@@ -55,6 +56,7 @@ pub enum Next {
 // Answers a line, its reply held or written, and tells whether the session goes on. A line that
 // there is no memory for answers so, and changes nothing.
 fn answer_line<K: Sink, L: Ledger>(
+    rt: &(impl Threads + Sync),
     alloc: Global,
     session: &mut Session,
     line: &[u8],
@@ -70,7 +72,7 @@ fn answer_line<K: Sink, L: Ledger>(
     ensures cause { CountsFault (K.faults out.old) (K.faults out.new) result }
     ensures steps { steps.new ≤ steps.old + 2 }
 {
-    match turn(alloc, session, line, steps) {
+    match turn(rt, alloc, session, line, steps) {
         Ok(Some(answer)) => buffer.push(out, answer.text.bytes())?,
         Ok(None) => return Ok(false),
         Err(NoMemory) => buffer.push(out, no_memory_text())?,
@@ -80,6 +82,7 @@ fn answer_line<K: Sink, L: Ledger>(
 
 // Answers the lines that the piece ends.
 fn answer_lines<K: Sink, L: Ledger>(
+    rt: &(impl Threads + Sync),
     alloc: Global,
     session: &mut Session,
     reading: &mut Reading,
@@ -106,7 +109,7 @@ fn answer_lines<K: Sink, L: Ledger>(
             Took::More => return Ok(Next::More),
             Took::TooLong => return Ok(Next::LineLimit),
             Took::Line(eaten) => {
-                if !answer_line(alloc, session, reading.lines.line(), buffer, out, steps)? {
+                if !answer_line(rt, alloc, session, reading.lines.line(), buffer, out, steps)? {
                     return Ok(Next::Quit);
                 }
                 reading.lines.clear();
@@ -142,6 +145,7 @@ fn beyond(next: Next, lines: &Lines, byte: u8) -> Next
 
 // Answers the lines that the piece ends, up to the limit on the script, which so many bytes pass.
 fn answer_within<K: Sink, L: Ledger>(
+    rt: &(impl Threads + Sync),
     alloc: Global,
     session: &mut Session,
     reading: &mut Reading,
@@ -165,14 +169,24 @@ fn answer_within<K: Sink, L: Ledger>(
     ensures steps { steps.new ≤ steps.old + 2 * length (ended_lines piece.now) }
 {
     if piece.len() <= left {
-        return answer_lines(alloc, session, reading, piece, buffer, out, steps);
+        return answer_lines(rt, alloc, session, reading, piece, buffer, out, steps);
     }
-    let next = answer_lines(alloc, session, reading, &piece[..left], buffer, out, steps)?;
+    let next = answer_lines(
+        rt,
+        alloc,
+        session,
+        reading,
+        &piece[..left],
+        buffer,
+        out,
+        steps,
+    )?;
     Ok(beyond(next, &reading.lines, piece[left]))
 }
 
 // The same, and writes what is held.
 fn answer_piece<K: Sink, L: Ledger>(
+    rt: &(impl Threads + Sync),
     alloc: Global,
     session: &mut Session,
     reading: &mut Reading,
@@ -195,13 +209,14 @@ fn answer_piece<K: Sink, L: Ledger>(
     ensures cause { CountsFault (K.faults out.old) (K.faults out.new) result }
     ensures steps { steps.new ≤ steps.old + 2 * length (ended_lines piece.now) }
 {
-    let next = answer_within(alloc, session, reading, piece, left, buffer, out, steps)?;
+    let next = answer_within(rt, alloc, session, reading, piece, left, buffer, out, steps)?;
     buffer.flush(out)?;
     Ok(next)
 }
 
 // Answers a last line, which no LF ends.
 fn finish<K: Sink, L: Ledger>(
+    rt: &(impl Threads + Sync),
     alloc: Global,
     session: &mut Session,
     reading: &Reading,
@@ -219,7 +234,7 @@ fn finish<K: Sink, L: Ledger>(
     ensures steps { steps.new ≤ steps.old + 2 * length (lines_of reading.now.lines.bytes) }
 {
     if reading.lines.held() > 0 {
-        answer_line(alloc, session, reading.lines.line(), buffer, out, steps)?;
+        answer_line(rt, alloc, session, reading.lines.line(), buffer, out, steps)?;
         buffer.flush(out)?;
     }
     Ok(())
@@ -259,6 +274,7 @@ fn zeros(alloc: Global, count: usize) -> Result<Vec<u8>, AllocError>
 
 /// Answers the lines of the input, each before more of it is asked for.
 pub fn converse<S: Source, K: Sink, L: Ledger>(
+    rt: &(impl Threads + Sync),
     alloc: Global,
     session: &mut Session,
     input: &mut S,
@@ -287,12 +303,13 @@ pub fn converse<S: Source, K: Sink, L: Ledger>(
             return Status::ReadFault;
         };
         if count == 0 {
-            return match finish(alloc, session, &reading, &mut buffer, out, steps) {
+            return match finish(rt, alloc, session, &reading, &mut buffer, out, steps) {
                 Ok(()) => Status::Done,
                 Err(_) => Status::WriteFault,
             };
         }
         match answer_piece(
+            rt,
             alloc,
             session,
             &mut reading,

@@ -5,6 +5,7 @@ ghost use Rattle.pv_cli.specs.Turns.{IsReplyBy, IsTurn};
 
 use super::answers::{Answer, no_command, okay, other, take_room};
 use super::missing::{complete, need};
+use super::offers::offer;
 use pv_chars::{Bytes, NoMemory};
 use pv_edit::{Edit, EditAnswer, Edits};
 use pv_script::{Command, CommandError, Reply, read_command};
@@ -13,6 +14,7 @@ use pv_steps::Steps;
 use pv_write::doc_bytes;
 use std::alloc::Global;
 use std::sync::ledger::Ledger;
+use std::thread::Threads;
 
 // The reply to an edit. Nothing behind the edit takes memory where it was made.
 fn edit<L: Ledger>(
@@ -99,8 +101,9 @@ fn verdicts(alloc: Global, session: &Session) -> Result<Answer, NoMemory>
     other(alloc, &Reply::Verdicts(rows))
 }
 
-// The reply to a line, or none where it ends the session.
+/// The reply to a line, or none where it ends the session.
 pub fn turn<L: Ledger>(
+    rt: &(impl Threads + Sync),
     alloc: Global,
     session: &mut Session,
     line: &[u8],
@@ -119,6 +122,7 @@ pub fn turn<L: Ledger>(
         Ok(Command::Verdicts) => Ok(Some(verdicts(alloc, session)?)),
         Ok(Command::Need) => Ok(Some(need(alloc, session)?)),
         Ok(Command::Complete) => Ok(Some(complete(alloc, session)?)),
+        Ok(Command::Offer(ask)) => Ok(Some(offer(rt, alloc, session, &ask)?)),
         Ok(Command::Quit) => Ok(None),
         Err(CommandError::Unknown) => Ok(Some(no_command())),
         Err(CommandError::NoMemory) => Err(NoMemory),

@@ -1,22 +1,16 @@
-use Rattle.std.proofs.Common.{◌≡◌, List, Some, ap, ℕ, refl, sym, codes, ◌++◌, ◌∙◌}
+use Rattle.std.proofs.Common.{◌≡◌, Some, ap, refl, sym, codes, ◌++◌, ◌∙◌}
 use Rattle.std.proofs.lemmas.Result.{err_from_is_err_and}
-use Rattle.std.specs.Prelude.{IsNone}
 use Rattle.std.specs.Option.{option_copied}
-use Rattle.pv_dtd.specs.Plain.{PlainDtd}
-use Rattle.pv_fresh.specs.Answers.{IsImpossibleAt}
 use Rattle.pv_missing.specs.Completing.{IsPotentiallyValid}
-use Rattle.pv_missing.specs.Verdicts.{IsFirstImpossible, PlainVerdicts}
 use Rattle.pv_productive.specs.PlainForms.{dtd_of}
 use Rattle.pv_script.specs.Paths.{path_text}
-use Rattle.pv_tree.specs.Lists.{lists_of}
-use Rattle.pv_tree.specs.Plain.{PlainDoc}
 use Rattle.pv_tree.specs.PlainDocs.{plain_doc}
 use Rattle.pv_tree.specs.View.{view}
-use Rattle.pv_tree.specs.declared.nodes.Mark.{Mark}
-use Rattle.pv_cli.specs.Possibility.{HasVerdicts, RefusesImpossible, is_impossible, verdict_stage, width_stage}
+use Rattle.pv_cli.specs.Possibility.{RefusesImpossible, is_impossible, verdict_stage, width_stage}
 use Rattle.pv_cli.specs.Response.{with_line}
 use Rattle.pv_cli.specs.Returns.{RefusesWith}
 use Rattle.pv_cli.specs.declared.status.Status.TheVariants.{Negative}
+use Rattle.pv_cli.proofs.Possibilities.{impossible_at}
 use Rattle.pv_cli.proofs.Stages.{refusal_stops, stopped_first, stopped_second, stops_as}
 use Rattle.pv_cli.proofs.possibility.verdicts_or_stop.Goals as goal
 
@@ -28,12 +22,6 @@ returns-in_err-verdicts-clause-denied g c =
     let stop = c.in_err-verdicts.field-0.0 in
     let p = err_from_is_err_and c.from_residual.result c.from_residual.ensures.1 in
     rw (p.1, p.2) (stopped_first (width_stage d doc) (λ _. verdict_stage root d doc) 0 stop c.in_err-verdicts.ensures.denied)
-
--- the verdicts of a document of which one is Impossible
-impossible_at : (root : List ℕ) (d : PlainDtd) (doc : PlainDoc Mark) (vs : PlainVerdicts) (path : List ℕ) → vs.first ≡ Some path → HasVerdicts root d doc vs → IsImpossibleAt root d doc path
-impossible_at root d doc vs path is has =
-    let first : IsFirstImpossible d root (lists_of doc) path = rw is at has.verdicts.is_first in
-    record { narrow = has.narrow; impossible = λ possible. (let none : IsNone (Some path) = rw is at (has.possible.1 possible) in absurd cc); first = first }
 
 pub returns-in-Some-clause-denied : goal.returns-in-Some-clause-denied
 returns-in-Some-clause-denied g c =

@@ -11,7 +11,7 @@ use Rattle.pv_cli.proofs.Stages.{found_behind, stop_found}
 use Rattle.pv_cli.proofs.commands.complete.complete.Goals as goal
 
 pub tell-requires : goal.tell-requires
-tell-requires c = c.in_ok-dtd.ensures.0.is_text.spelled.is_prolog
+tell-requires c = record { bytes = _; is_text = c.in_ok-dtd.ensures.0.is_text }
 
 pub returns-in_err-dtd : goal.returns-in_err-dtd
 returns-in_err-dtd c =

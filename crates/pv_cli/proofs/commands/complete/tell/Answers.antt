@@ -14,7 +14,7 @@ returns-in_err-write_pack-in-Ok c = λ opened is are.
 pub returns-in_ok-write_pack-in-Ok : goal.returns-in_ok-write_pack-in-Ok
 returns-in_ok-write_pack-in-Ok c = λ opened is are.
     packs_told c.args.root.now (dtd_of c.args.grammar.now) opened.dtd (plain_doc c.args.doc.now) opened.doc c.in-Ok.pack c.in_ok-write_pack-in-Ok.field-0.items is are c.in-Ok.ensures.least
-    c.in_ok-write_pack-in-Ok.ensures.spelled
+    c.in-Ok.ensures.verifiable c.in_ok-write_pack-in-Ok.ensures.spelled
 
 pub returns-in-Err : goal.returns-in-Err
 returns-in-Err c = λ opened is are.

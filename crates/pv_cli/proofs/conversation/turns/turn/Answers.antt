@@ -1,5 +1,5 @@
 use Rattle.std.proofs.Common.{refl}
-use Rattle.pv_script.specs.declared.commands.Command.TheVariants.{Edit, Undo, Redo, History, Show, Verdicts, Need, Complete}
+use Rattle.pv_script.specs.declared.commands.Command.TheVariants.{Edit, Undo, Redo, History, Show, Verdicts, Need, Complete, Offer}
 use Rattle.pv_script.specs.declared.replies.Reply.TheVariants.{NoCommand}
 use Rattle.pv_cli.specs.Session.{unknown, known}
 use Rattle.pv_cli.proofs.conversation.turns.turn.Goals as goal
@@ -56,3 +56,9 @@ returns-in_ok-complete-in-Ok-Complete-clause-turned g c =
     let by = c.in_ok-complete-in-Ok-Complete.ensures in
     let spells = rw c.in-Ok-Complete.field-0-is at c.in-Ok-Complete.ensures.read in
     (by.0, known Complete spells by.1, by.2)
+
+pub returns-in_ok-offer-in-Ok-Offer-clause-turned : goal.returns-in_ok-offer-in-Ok-Offer-clause-turned
+returns-in_ok-offer-in-Ok-Offer-clause-turned g c =
+    let by = c.in_ok-offer-in-Ok-Offer.ensures in
+    let spells = rw c.in-Ok-Offer.field-0-is at c.in-Ok-Offer.ensures.read in
+    (by.0, known (Offer c.in-Ok-Offer.ask) spells by.1, by.2)

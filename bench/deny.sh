@@ -1,0 +1,10 @@
+#!/usr/bin/env bash
+# Times `why` beside `check`, and `deny` beside `why`, on impossible documents. Words: how many runs of each, 5 where none are given.
+set -eu
+top=$(cd "$(dirname "$0")/.." && pwd)
+command -v python3 >/dev/null || {
+    echo "skipped: no python3"
+    exit 0
+}
+"$top/pvtag" check "$top/examples/article.dtd" doc "$top/examples/article.xml" >/dev/null
+exec python3 "$top/bench/deny.py" "$top" "${1:-5}"

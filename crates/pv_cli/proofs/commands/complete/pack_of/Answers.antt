@@ -1,0 +1,17 @@
+use Rattle.pv_productive.specs.PlainForms.{dtd_of}
+use Rattle.pv_tree.specs.PlainDocs.{plain_doc}
+use Rattle.pv_cli.proofs.MadePacks.{verifiable}
+use Rattle.pv_cli.proofs.commands.complete.pack_of.Goals as goal
+
+pub complete-requires : goal.complete-requires
+complete-requires c = record { names = c.requires.is_text.spelled.is_prolog }
+
+pub returns-clause-verifiable : goal.returns-clause-verifiable
+returns-clause-verifiable c =
+    let made = c.in_ok-count.ensures in
+    let judged = made.judged in
+    let completion = c.in_ok-count.field-0 in
+    verifiable c.meant_law.ensures c.spelled_is_written_law.ensures c.one_list_at_path_law.ensures c.made_pack_law.ensures (dtd_of c.args.grammar.now) c.args.root.now c.requires.bytes (plain_doc c.args.doc.now)
+    (record { total = completion.count; marks = completion.marks; body = completion.body; tables = c.in_ok-tables.tables }) judged.verdicts
+    (rw c.dtd.ensures at c.proper_dtd_law.ensures) c.proper_doc_law.ensures c.args.doc.now.small c.requires.is_text judged.are_verdicts
+    (record { completion = made.completed; grown = made.written; tables = c.in_ok-tables.ensures.tables }) made.bounded

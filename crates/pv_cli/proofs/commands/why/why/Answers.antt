@@ -1,0 +1,56 @@
+use Rattle.std.proofs.Common.{◌≡◌, Err, arith, refl, sym}
+use Rattle.std.proofs.lemmas.Grind.{common_steps}
+use Rattle.std.proofs.lemmas.Result.{err_from_is_err_and}
+use Rattle.pv_dtd.specs.PlainForms.{plain_dtd}
+use Rattle.pv_cli.specs.Checking.{none_checked, some_checked}
+use Rattle.pv_cli.specs.Documents.{document_stage}
+use Rattle.pv_cli.specs.Returns.{plain_opened}
+use Rattle.pv_cli.specs.Stage.{short_of_memory}
+use Rattle.pv_cli.specs.Why.{IsWhyCourse}
+use Rattle.pv_cli.specs.declared.stop.Stop.TheVariants.{NoMemory}
+use Rattle.pv_cli.proofs.Stages.{found_behind, stop_found}
+use Rattle.pv_cli.proofs.commands.why.why.Goals as goal
+
+pub returns-in_err-dtd-clause-finds : goal.returns-in_err-dtd-clause-finds
+returns-in_err-dtd-clause-finds g c =
+    let root = c.args.root.now in
+    let stage = document_stage root (plain_dtd c.args.fetched.dtd) c.args.fetched.bytes.items in
+    let p = err_from_is_err_and c.from_residual.result c.from_residual.ensures.1 in
+    rw (p.1, p.2) (stop_found stage (IsWhyCourse root) c.in_err-dtd.field-0.0 (λ never. never) c.in_err-dtd.ensures)
+
+pub returns-in_err-grammar-clause-finds : goal.returns-in_err-grammar-clause-finds
+returns-in_err-grammar-clause-finds g c =
+    let out : c.from_residual-in_err-grammar.result ≡ Err NoMemory = grind (arith, common_steps) in
+    rw out (short_of_memory 0 refl refl)
+
+pub returns-clause-finds : goal.returns-clause-finds
+returns-clause-finds g c =
+    let root = c.args.root.now in
+    let both = plain_opened c.in_ok-dtd.field-0 in
+    let stage = document_stage root (plain_dtd c.args.fetched.dtd) c.args.fetched.bytes.items in
+    found_behind stage (IsWhyCourse root) both c.tell.result c.in_ok-dtd.ensures (c.tell.ensures.tells both (sym c.in_ok-grammar.ensures) refl)
+
+pub returns-in_err-dtd-clause-checks : goal.returns-in_err-dtd-clause-checks
+returns-in_err-dtd-clause-checks g c = none_checked refl
+
+pub returns-in_err-grammar-clause-checks : goal.returns-in_err-grammar-clause-checks
+returns-in_err-grammar-clause-checks g c = none_checked refl
+
+pub returns-clause-checks : goal.returns-clause-checks
+returns-clause-checks g c = some_checked c.args.fetched.bytes.items _ 0 refl c.in_ok-dtd.ensures.0.is_text refl (omega (arith, c.tell.ensures.steps))
+
+pub invariant_of-doc-2 : goal.invariant_of-doc-2
+invariant_of-doc-2 g c =
+    let doc = c.in_ok-dtd.field-0.doc in
+    record {
+      rooted = doc.rooted;
+      formed = doc.formed;
+      shallow = doc.shallow;
+      small = doc.small;
+      named = doc.named;
+      units = doc.units;
+      legal = doc.legal;
+      no_close_mark = doc.no_close_mark;
+      prolog = doc.prolog;
+      epilog = doc.epilog;
+    }

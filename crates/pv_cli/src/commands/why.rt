@@ -1,0 +1,89 @@
+//! The command `why`.
+
+ghost use Rattle.std.specs.Prelude.{◌≡◌, ◌≤◌, ◌+◌, Some, None, length};
+ghost use Rattle.pv_cli.specs.Checking.{CountsLists};
+ghost use Rattle.pv_cli.specs.Commands.{GoesOn, lines_checked};
+ghost use Rattle.pv_cli.specs.Documents.{PlainOpened};
+ghost use Rattle.pv_cli.specs.Returns.{Finds, TellsBy, plain_fetched};
+ghost use Rattle.pv_cli.specs.Why.{IsWhyCourse, TellsWhy};
+ghost use Rattle.pv_cli.specs.declared.verb.Verb.TheVariants.{Why};
+ghost use Rattle.pv_fresh.specs.Answers.{IsImpossibleAt};
+ghost use Rattle.pv_productive.specs.PlainForms.{dtd_of};
+ghost use Rattle.pv_tree.specs.Lists.{lists_of};
+ghost use Rattle.pv_tree.specs.PlainDocs.{plain_doc};
+
+use crate::opening::{Fetched, Opened, open_document, refuse};
+use crate::possibility::narrow_verdicts;
+use crate::response::Response;
+use crate::status::Status;
+use crate::stop::Stop;
+use pv_denial_text::write_denial;
+use pv_deny::{DenyError, denial_at};
+use pv_productive::{Grammar, build};
+use pv_steps::Steps;
+use pv_tree::{Doc, Path};
+use std::alloc::Global;
+use std::sync::ledger::Ledger;
+use std::thread::Threads;
+
+// The text of what denies a document whose first impossible list is at this path.
+fn explain(
+    alloc: Global,
+    grammar: &Grammar,
+    doc: &Doc,
+    root: &[u8],
+    path: &Path,
+) -> Result<Response, Stop>
+    requires { IsImpossibleAt root.now (dtd_of grammar.now) (plain_doc doc.now) path.now }
+    ensures { TellsBy (TellsWhy root.now (dtd_of grammar.now) (plain_doc doc.now)) result }
+{
+    let path = Path::new(alloc, path.places())?;
+    match denial_at(alloc, grammar, root, doc, path) {
+        Ok(denial) => Ok(Response {
+            status: Status::Done,
+            output: write_denial(alloc, &denial)?,
+        }),
+        Err(DenyError::TooMany) => Err(refuse(alloc, Status::Limit, b"limit tables")),
+        Err(DenyError::NoMemory) => Err(Stop::NoMemory),
+        Err(DenyError::TooWide(_path)) => unreachable!(),
+        Err(DenyError::Possible) => unreachable!(),
+    }
+}
+
+// Why no insertions can make the document valid, or that they can.
+fn tell<L: Ledger>(
+    rt: &(impl Threads + Sync),
+    alloc: Global,
+    grammar: &Grammar,
+    doc: &Doc,
+    root: &[u8],
+    steps: &mut Steps<L>,
+) -> Result<Response, Stop>
+    ensures tells { (opened : PlainOpened) → opened.dtd ≡ dtd_of grammar.now →
+        opened.doc ≡ plain_doc doc.now → Finds (IsWhyCourse root.now opened) result }
+    ensures steps { steps.new ≤ steps.old + length (lists_of (plain_doc doc.now)) }
+{
+    let verdicts = narrow_verdicts(rt, alloc, grammar, doc, root, steps)?;
+    match verdicts.first_impossible() {
+        Some(path) => explain(alloc, grammar, doc, root, path),
+        None => Ok(Response::with_line(alloc, Status::Negative, b"possible")?),
+    }
+}
+
+/// Why no insertions can make a document valid for a DTD: its first impossible list, the cause, and
+/// where that is its word a table that shows it.
+pub fn why<L: Ledger>(
+    rt: &(impl Threads + Sync),
+    alloc: Global,
+    fetched: Fetched,
+    root: &[u8],
+    steps: &mut Steps<L>,
+) -> Result<Response, Stop>
+    ensures finds { Finds (GoesOn Why root.now (plain_fetched fetched)) result }
+    ensures checks { CountsLists root.now (Some fetched.bytes.items) (lines_checked Why None)
+        steps.old steps.new }
+{
+    let Opened { dtd, doc, .. } = open_document(alloc, fetched, root)?;
+    let grammar = build(alloc, dtd)?;
+    tell(rt, alloc, &grammar, &doc, root, steps)
+}
