@@ -79,8 +79,7 @@ class Session:
         if words[0] == "no":
             return refused(words)
         self.moves += 1
-        # A program that opens no impossible documents tells two numbers.
-        return Made(*map(int, words[1:4])) if len(words) > 3 else Made(*map(int, words[1:3]), 0)
+        return Made(*map(int, words[1:4]))
 
     # What changes nothing.
     def history(self):

@@ -78,7 +78,7 @@ function openForElement(node) {
   openMenu({ name, box: boxOfChosen, choices, closed })
 }
 
-// The names that the session offers for a move; where it can't offer, names are typed.
+// The names that the session offers for a move; another that is typed is tried.
 async function offerNames(name, move) {
   const before = [run, element]
   const answer = await question("offer", move.kind === "rename" ? { node: move.node } : move.place)
@@ -87,13 +87,11 @@ async function offerNames(name, move) {
   if (run !== before[0] || element !== before[1]) return
   const take = (label) => make({ ...move, name: label })
   const choices = (answer.names ?? []).map((label) => ({ label, take }))
-  const tried = answer.names ? " isn't offered; Enter tries it" : ": Enter tries it"
-  openMenu({ name, box: boxOfChosen, choices, typed: take, tried, hint: hintOf(answer), closed })
-  if (answer.no && answer.no !== "command") refuse(sentence(answer))
+  openMenu({ name, box: boxOfChosen, choices, typed: take, tried: " isn't offered; Enter tries it", hint: hintOf(answer), closed })
+  if (answer.no) refuse(sentence(answer))
 }
 
 function hintOf(answer) {
-  if (answer.no === "command") return "This program can't offer names. Type one: Enter tries it."
   if (answer.names?.length === 0) return "No element may stand here. A name that is typed is tried all the same."
   return "No name that is offered begins so."
 }
