@@ -18,6 +18,9 @@ use pv_tree::{End, Mark, Node, Nodes};
 use std::alloc::Global;
 use std::mem;
 
+/// The most kids of an element that are moved into a vector of their own.
+const FEW_KIDS: usize = 64;
+
 /// An open element, by its start tag, with its kids so far.
 #[derive(Drop)]
 pub struct OpenElement<'a> {
@@ -27,14 +30,15 @@ pub struct OpenElement<'a> {
 }
 
 impl<'a> OpenElement<'a> {
-    /// The element that a start tag opens.
-    fn of(alloc: Global, tag: &Tag<'a>) -> OpenElement<'a>
+    /// The element that a start tag opens, whose kids come into this vector.
+    fn of(tag: &Tag<'a>, kids: Nodes) -> OpenElement<'a>
+        requires { kids.items ≡ [] }
         ensures { plain_open result ≡ just_opened tag.now.name.now tag.now.attrs.now }
     {
         OpenElement {
             name: tag.name,
             attrs: tag.attrs,
-            kids: Vec::new(alloc),
+            kids,
         }
     }
 }
@@ -64,8 +68,6 @@ fn tagged_element(
     ensures { IfOk result (λ node. plain node
         ≡ element name.now attrs.now (tagged gap.now) (forest kids.items) blank_mark) }
 {
-    let mut kids = kids;
-    kids.shrink_to_fit();
     Ok(Node::Elem {
         name: bytes_of(alloc, name)?,
         attrs: bytes_of(alloc, attrs)?,
@@ -75,11 +77,40 @@ fn tagged_element(
     })
 }
 
+// An empty vector, with room that was used before where there is some.
+fn no_kids(alloc: Global, rooms: &mut Vec<Nodes>) -> Nodes
+    ensures { result.items ≡ [] }
+{
+    let Some(mut room) = rooms.pop() else {
+        return Vec::new(alloc);
+    };
+    room.clear();
+    room
+}
+
+// The same kids, with no more room than they take. A few are moved, so that other kids can have
+// their room.
+fn exact_kids(alloc: Global, kids: Nodes, rooms: &mut Vec<Nodes>) -> Result<Nodes, NoMemory>
+    ensures { IfOk result (λ exact. exact.items ≡ kids.items) }
+{
+    let mut room = kids;
+    if room.len() > FEW_KIDS {
+        room.shrink_to_fit();
+        return Ok(room);
+    }
+    let mut exact = Vec::with_capacity(alloc, room.len())?;
+    exact.append(&mut room)?;
+    rooms.push(room)?;
+    Ok(exact)
+}
+
 /// The innermost open element, and those around it, outermost first.
 #[derive(Drop)]
 pub struct OpenElements<'a> {
     pub inner: OpenElement<'a>,
     pub outer: Vec<OpenElement<'a>>,
+    // Vectors that held kids of elements that ended, for those of elements to come.
+    rooms: Vec<Nodes>,
 }
 
 impl<'a> OpenElements<'a> {
@@ -89,8 +120,9 @@ impl<'a> OpenElements<'a> {
         ensures outer { result.outer.items ≡ [] }
     {
         OpenElements {
-            inner: OpenElement::of(alloc, tag),
+            inner: OpenElement::of(tag, Vec::new(alloc)),
             outer: Vec::new(alloc),
+            rooms: Vec::new(alloc),
         }
     }
 
@@ -118,8 +150,9 @@ impl<'a> OpenElements<'a> {
         ensures outer { OnOk result (opens_of self.new.outer.items ≡ plain_open self.old.inner
             ∷ opens_of self.old.outer.items) }
     {
-        let inner = mem::replace(&mut self.inner, OpenElement::of(alloc, tag));
-        self.outer.push(inner)?;
+        let kids = no_kids(alloc, &mut self.rooms);
+        let around = mem::replace(&mut self.inner, OpenElement::of(tag, kids));
+        self.outer.push(around)?;
         Ok(())
     }
 
@@ -130,6 +163,7 @@ impl<'a> OpenElements<'a> {
             (closed_element blank_mark (plain_open self.old.inner) gap.now)) }
     {
         let kids = mem::replace(&mut self.inner.kids, Vec::new(alloc));
+        let kids = exact_kids(alloc, kids, &mut self.rooms)?;
         let element = tagged_element(alloc, self.inner.name, self.inner.attrs, kids, gap)?;
         let Some(around) = self.outer.pop() else {
             return Ok(Some(element));
