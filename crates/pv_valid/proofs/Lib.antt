@@ -7,3 +7,5 @@ pub mod Behind
 pub mod Taken
 pub mod Whole
 pub mod SimpleRuns
+pub mod KnownTags
+pub mod Found

@@ -5,6 +5,7 @@ use Rattle.std.specs.Option.{option_copied, option_map, option_and_then}
 use Rattle.std.proofs.lemmas.List.{reverse-append, reverse-reverse, map_push, length-map, length-reverse, take-map, take_at, drop_at, drop-map}
 use Rattle.std.proofs.lemmas.Grind.{reverse_onto}
 use Rattle.std.proofs.Math.Seq.{take-length}
+use Rattle.pv_chars.specs.Names.{IsName}
 use Rattle.pv_model.specs.declared.models.Token.{Token}
 use Rattle.pv_model.specs.Plain.{PlainToken}
 use Rattle.pv_model.specs.PlainForms.{plain_model, plain_token}
@@ -25,6 +26,7 @@ use Rattle.pv_valid.proofs.Judged.{put_so, put_not, put_behind, whether_by}
 -- an element that begins, as it is read
 pub record Begins (g : PlainDtd) (list : OpenList) (name : List ℕ) : Type 0 where
   pub is_name : list.name.now ≡ name
+  pub is_named : IsTrue list.is_name → IsName name
   pub is_model : option_map plain_model (option_copied list.model) ≡ option_and_then (model_of g) (number_of g name)
   pub is_token : plain_token list.token ≡ token (number_of g name)
   pub no_kids : list.kids ≡ 0
@@ -53,6 +55,7 @@ module _ (g : PlainDtd) (root : List ℕ) where
       → TellsWhether (IsValidList g root) (whole_lists outer) list.is_behind → IsOpen g root list (just_opened name attrs) outer tokens tokens
   begun list name attrs outer tokens b start behind = record {
     is_name = b.is_name;
+    is_named = b.is_named;
     is_model = b.is_model;
     is_token = b.is_token;
     is_count = b.no_kids;
@@ -92,6 +95,7 @@ module _ (g : PlainDtd) (root : List ℕ) where
       → IsOpen g root (record l { kids = l.kids + 1 }) (with_kid o t) os below more
   grown l o os below tokens more t is more_is = record {
     is_name = is.is_name;
+    is_named = is.is_named;
     is_model = is.is_model;
     is_token = is.is_token;
     is_count = omega (arith, is.is_count, length-append o.kids (t ∷ []));
@@ -122,6 +126,9 @@ module _ (g : PlainDtd) (root : List ℕ) where
 
     pub inner_name : lists.inner.name.now ≡ inner.name
     inner_name = r.are_open.1.is_name
+
+    pub inner_named : IsTrue lists.inner.is_name → IsName lists.inner.name.now
+    inner_named is = subst IsName (sym r.are_open.1.is_name) (r.are_open.1.is_named is)
 
     pub inner_model : option_map plain_model (option_copied lists.inner.model) ≡ option_and_then (model_of g) (number_of g inner.name)
     inner_model = r.are_open.1.is_model

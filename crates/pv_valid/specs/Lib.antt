@@ -1,4 +1,5 @@
 pub mod WholeLists
+pub mod Types
 pub mod OpenLists
 pub mod Contents
 pub mod Runs

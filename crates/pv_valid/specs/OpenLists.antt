@@ -1,6 +1,7 @@
 -- The lists of the open elements, as far as they were read.
 use Rattle.std.specs.Prelude.{◌≡◌, ◌≤◌, ◌<◌, ℕ, Bool, true, false, List, [], ◌∷◌, ◌++◌, length}
-use Rattle.std.specs.Prelude.{map, reverse}
+use Rattle.std.specs.Prelude.{map, reverse, IsTrue}
+use Rattle.pv_chars.specs.Names.{IsName}
 use Rattle.std.specs.List.{AllByRecursion}
 use Rattle.std.specs.Option.{option_copied, option_map, option_and_then}
 use Rattle.pv_model.specs.Plain.{PlainToken}
@@ -20,12 +21,13 @@ use Rattle.pv_valid.specs.declared.open.OpenLists.{OpenLists}
 abbrev pub MOST_KIDS : ℕ
 MOST_KIDS = 4294967295
 
--- This is known of an open element in others: its name with its model and token, how many kids it
--- has so far, and which tokens, behind those of the others, are their word; and whether a list
--- that was whole before it began isn't valid by itself.
+-- This is known of an open element in others: its name, which may be known to be a Name, with its
+-- model and token, how many kids it has so far, and which tokens, behind those of the others, are
+-- their word; and whether a list that was whole before it began isn't valid by itself.
 pub record IsOpen (g : PlainDtd) (root : List ℕ) (list : OpenList)
     (o : Open Mark) (outer : List (Open Mark)) (below tokens : List PlainToken) : Type 0 where
   pub is_name : list.name.now ≡ o.name
+  pub is_named : IsTrue list.is_name → IsName o.name
   pub is_model : option_map plain_model (option_copied list.model)
       ≡ option_and_then (model_of g) (number_of g o.name)
   pub is_token : plain_token list.token ≡ token (number_of g o.name)

@@ -1,6 +1,7 @@
 //! The root element (XML 1.0, section 3.1).
 
 ghost use Rattle.std.specs.Prelude.{◌≤◌, ◌<◌, ◌+◌, [], ℕ, suc, List, false, length, IfOk, IfErr};
+ghost use Rattle.std.specs.Prelude.{OnOk};
 ghost use Rattle.pv_dtd.specs.PlainForms.{plain_dtd};
 ghost use Rattle.pv_tree.specs.Marks.{blank_mark};
 ghost use Rattle.pv_tree.specs.declared.nodes.Mark.{Mark};
@@ -8,6 +9,7 @@ ghost use Rattle.pv_read.specs.Errors.{Refuses};
 ghost use Rattle.pv_read.specs.Left.{Open, in_content, just_opened};
 ghost use Rattle.pv_read.specs.Meaning.{DocumentRestMeans};
 ghost use Rattle.pv_valid.specs.Contents.{TakesInto, ReadsRoot};
+ghost use Rattle.pv_valid.specs.Types.{AreTypes};
 ghost use Rattle.pv_valid.specs.OpenLists.{HasRead, HasRoom, MOST_KIDS};
 
 use crate::items::item_in;
@@ -30,6 +32,7 @@ fn read_item<'a>(
     requires room { HasRoom lists.old }
     requires read { (inner : Open Mark) × (outer : List (Open Mark)) ×
         HasRead (plain_dtd dtd.now) root.now lists.old inner outer }
+    requires types { AreTypes (plain_dtd dtd.now) lists.old.types }
     ensures step { IfOk result (λ r. (inner : Open Mark) (outer : List (Open Mark)) →
         HasRead (plain_dtd dtd.now) root.now lists.old inner outer →
         TakesInto most_depth (plain_dtd dtd.now) root.now lists.new r.0 inner outer rest.now
@@ -40,11 +43,13 @@ fn read_item<'a>(
         Refuses (DocumentRestMeans most_depth blank_mark root.now count
         (in_content before inner outer) rest.now) e) }
     ensures within { IfOk result (λ r. length r.1.now < length rest.now) }
+    ensures types { OnOk result (AreTypes (plain_dtd dtd.now) lists.new.types) }
 {
     let open_elements = lists.outer.len() + 1;
     let (item, more) = item_in(
         most_depth,
-        lists.inner.name,
+        &lists.inner,
+        &lists.types,
         open_elements,
         root,
         rest,
@@ -73,7 +78,7 @@ pub fn read_content<'a>(
         Refuses (DocumentRestMeans most_depth blank_mark root.now first
         (in_content before (just_opened tag.now.name.now tag.now.attrs.now) []) bytes.now) e) }
 {
-    let mut lists = OpenLists::of(alloc, dtd, tag.name);
+    let mut lists = OpenLists::of(alloc, dtd, tag.name)?;
     let mut rest = bytes;
     let mut count = first;
     'items: loop {

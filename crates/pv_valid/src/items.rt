@@ -1,20 +1,28 @@
 //! The item at the front, in the root.
 
-ghost use Rattle.std.specs.Prelude.{◌≡◌, ◌<◌, length, IfOk, IfErr, IfSome};
+ghost use Rattle.std.specs.Prelude.{◌≡◌, ◌<◌, ◌++◌, codes, length, IfOk, IfErr, IfSome};
+ghost use Rattle.std.specs.Prelude.{IsTrue};
+ghost use Rattle.pv_chars.specs.Names.{IsName};
 ghost use Rattle.pv_tree.specs.Marks.{blank_mark};
 ghost use Rattle.pv_tree.specs.declared.nodes.Mark.{Mark};
 ghost use Rattle.pv_read.specs.Errors.{Refuses};
 ghost use Rattle.pv_read.specs.Left.{Left};
+ghost use Rattle.pv_read.specs.Limits.{IsDeepest};
 ghost use Rattle.pv_read.specs.Meaning.{DocumentRestMeans};
 ghost use Rattle.pv_read.specs.PlainItems.{plain_item};
 ghost use Rattle.pv_read.specs.Places.{place_of, content};
 ghost use Rattle.pv_read.specs.Steps.{TakesItem};
 ghost use Rattle.pv_valid.specs.Runs.{BeginsKnownRun};
+ghost use Rattle.pv_valid.specs.Types.{AreNamed};
 
+use crate::open::OpenList;
+use crate::types::FoundTypes;
 use pv_chars::are_simple;
+use pv_chars::delimiters::up_to_byte;
+use pv_chars::scan::after_bytes;
 use pv_read::DocError;
 use pv_read::faults::next_item;
-use pv_read::forms::{Item, run_at};
+use pv_read::forms::{Item, Tag, run_at};
 use pv_read::places::Place;
 
 // The text run at the front, where each of its characters is one of ASCII that stands for itself
@@ -33,30 +41,83 @@ fn simple_run_at(bytes: &[u8]) -> Option<(&[u8], &[u8])>
     Some((run, rest))
 }
 
+// What stands after the end tag of this name at the front, where no white space stands in it.
+fn after_end_tag<'a>(name: &[u8], bytes: &'a [u8]) -> Option<&'a [u8]>
+    ensures whole { IfSome result (λ r.
+        bytes.now ≡ codes "</" ++ (name.now ++ (codes ">" ++ r.now))) }
+    ensures within { IfSome result (λ r. length r.now < length bytes.now) }
+{
+    let start = after_bytes(b"</", bytes)?;
+    let end = after_bytes(name, start)?;
+    after_bytes(b">", end)
+}
+
+// The name of the start tag at the front, where it was found lately and no attribute stands in the
+// tag, and what stands after the tag.
+fn start_tag_at<'a>(types: &FoundTypes<'_>, bytes: &'a [u8]) -> Option<(&'a [u8], &'a [u8])>
+    requires { AreNamed types.now }
+    ensures named { IfSome result (λ r. IsName r.0.now) }
+    ensures whole { IfSome result (λ r.
+        bytes.now ≡ codes "<" ++ (r.0.now ++ (codes ">" ++ r.1.now))) }
+    ensures within { IfSome result (λ r. length r.1.now < length bytes.now) }
+{
+    let start = after_bytes(b"<", bytes)?;
+    let (name, rest) = up_to_byte(b'>', start)?;
+    if !types.holds_name(name) {
+        return None;
+    }
+    Some((name, rest))
+}
+
+// Whether another element may stand inside so many.
+fn may_open(most_depth: Option<usize>, open_elements: usize) -> bool
+    ensures { IsTrue result → IsDeepest most_depth open_elements → ⊥ }
+{
+    match most_depth {
+        Some(most) => open_elements < most,
+        None => true,
+    }
+}
+
 /// The item at the front and what stands after it, or the first kind of fault there, behind so
-/// many items, in an element of this name with so many open ones. A run of simple characters is
-/// told by one look at them. Elements stand at most so deep, or at any depth.
+/// many items, in this open element, with so many open ones. A run of simple characters is told by
+/// one look at them, an end tag by its element's name, and a start tag by the names that were
+/// found. Elements stand at most so deep, or at any depth.
 pub fn item_in<'a>(
     most_depth: Option<usize>,
-    name: &[u8],
+    element: &OpenList<'a>,
+    types: &FoundTypes<'_>,
     open_elements: usize,
     root: &[u8],
     rest: &'a [u8],
     count: u64,
 ) -> Result<(Item<'a>, &'a [u8]), DocError>
-    requires { 0 < open_elements }
+    requires open { 0 < open_elements }
+    requires named { IsTrue element.now.is_name → IsName element.now.name.now }
+    requires types { AreNamed types.now }
     ensures taken { IfOk result (λ r. (left : Left Mark) →
-        place_of left ≡ content name.now open_elements →
+        place_of left ≡ content element.now.name.now open_elements →
         TakesItem most_depth blank_mark root.now left rest.now (plain_item r.0)
         r.1.now) }
     ensures refused { IfErr result (λ e. (left : Left Mark) →
-        place_of left ≡ content name.now open_elements →
+        place_of left ≡ content element.now.name.now open_elements →
         Refuses (DocumentRestMeans most_depth blank_mark root.now count left rest.now)
         e) }
     ensures within { IfOk result (λ r. length r.1.now < length rest.now) }
 {
     if let Some((run, more)) = simple_run_at(rest) {
         return Ok((Item::TextRun(run), more));
+    }
+    let name = element.name;
+    if element.is_name
+        && let Some(more) = after_end_tag(name, rest)
+    {
+        return Ok((Item::EndTag { name, gap: b"" }, more));
+    }
+    if may_open(most_depth, open_elements)
+        && let Some((name, more)) = start_tag_at(types, rest)
+    {
+        return Ok((Item::StartTag(Tag { name, attrs: b"" }), more));
     }
     let place = Place::Content(name, open_elements);
     next_item(most_depth, &place, root, rest, count)

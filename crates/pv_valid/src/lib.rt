@@ -13,5 +13,6 @@ mod fitting;
 mod items;
 mod open;
 mod reading;
+mod types;
 
 pub use reading::{first_invalid_in, first_invalid_within};

@@ -18,10 +18,12 @@ ghost use Rattle.pv_read.specs.PlainItems.{plain_item};
 ghost use Rattle.pv_read.specs.Places.{may_stand_in_content};
 ghost use Rattle.pv_valid.specs.Contents.{IsBehind};
 ghost use Rattle.pv_valid.specs.OpenLists.{HasRead, HasRoom, HasEnded, ended_element, MOST_KIDS};
+ghost use Rattle.pv_valid.specs.Types.{AreTypes};
 ghost use Rattle.pv_valid.specs.WholeLists.{next_path, whole_lists, TellsFirst};
 ghost use Rattle.pv_valid.specs.declared.open.OpenList.{OpenList};
 
 use crate::fitting::fits;
+use crate::types::{ElementType, FoundTypes};
 use pv_chars::NoMemory;
 use pv_chars::scan::is_space;
 use pv_dtd::Dtd;
@@ -34,6 +36,8 @@ use std::alloc::Global;
 #[derive(Clone, Copy)]
 pub struct OpenList<'a> {
     pub name: &'a [u8],
+    /// Whether the name is known to be a Name.
+    pub is_name: bool,
     pub model: Option<&'a ContentModel>,
     pub token: Token,
     /// The number of the kids so far.
@@ -45,34 +49,24 @@ pub struct OpenList<'a> {
 }
 
 impl<'a> OpenList<'a> {
-    /// That of an element that begins.
-    pub fn of(dtd: &'a Dtd, name: &'a [u8], start: usize, is_behind: bool) -> OpenList<'a>
-        ensures name { result.name.now ≡ name.now }
-        ensures model { option_map plain_model (option_copied result.model)
-            ≡ option_and_then (model_of (plain_dtd dtd.now))
-            (number_of (plain_dtd dtd.now) name.now) }
-        ensures token { plain_token result.token ≡ token (number_of (plain_dtd dtd.now) name.now) }
+    /// That of an element of this type that begins.
+    pub fn of(kind: ElementType<'a>, start: usize, is_behind: bool) -> OpenList<'a>
+        ensures name { result.name ≡ kind.entry.name }
+        ensures is_name { result.is_name ≡ kind.entry.is_name }
+        ensures model { result.model ≡ kind.entry.model }
+        ensures token { result.token ≡ kind.entry.token }
         ensures kids { result.kids ≡ 0 }
         ensures start { result.start ≡ start }
         ensures is_behind { result.is_behind ≡ is_behind }
     {
-        match dtd.name_id(name) {
-            Some(id) => OpenList {
-                name,
-                model: dtd.model_of(id),
-                token: Token::Name(id),
-                kids: 0,
-                start,
-                is_behind,
-            },
-            None => OpenList {
-                name,
-                model: None,
-                token: Token::Other,
-                kids: 0,
-                start,
-                is_behind,
-            },
+        OpenList {
+            name: kind.name,
+            is_name: kind.is_name,
+            model: kind.model,
+            token: kind.token,
+            kids: 0,
+            start,
+            is_behind,
         }
     }
 }
@@ -92,41 +86,49 @@ fn places_in(alloc: Global, outer: &[OpenList<'_>]) -> Result<Vec<u32>, NoMemory
 }
 
 /// The list of the innermost open element, those around it, outermost first, the tokens of their
-/// words, one behind another, and the path of the first list that is whole and isn't valid by
-/// itself.
+/// words, one behind another, the path of the first list that is whole and isn't valid by itself,
+/// and the element types that were found.
 #[derive(Drop)]
 pub struct OpenLists<'a> {
     pub inner: OpenList<'a>,
     pub outer: Vec<OpenList<'a>>,
     pub tokens: Vec<Token>,
     pub found: Option<Path>,
+    pub types: FoundTypes<'a>,
 }
 
 impl<'a> OpenLists<'a> {
     /// Where the root begins.
-    pub fn of(alloc: Global, dtd: &'a Dtd, name: &'a [u8]) -> OpenLists<'a>
-        ensures read { (root attrs : List ℕ) →
-            HasRead (plain_dtd dtd.now) root result (just_opened name.now attrs) [] }
-        ensures room { HasRoom result }
+    pub fn of(alloc: Global, dtd: &'a Dtd, name: &'a [u8]) -> Result<OpenLists<'a>, NoMemory>
+        ensures read { (root attrs : List ℕ) → IfOk result (λ lists.
+            HasRead (plain_dtd dtd.now) root lists (just_opened name.now attrs) []) }
+        ensures room { IfOk result (λ lists. HasRoom lists) }
+        ensures types { IfOk result (λ lists. AreTypes (plain_dtd dtd.now) lists.types) }
     {
-        OpenLists {
-            inner: OpenList::of(dtd, name, 0, false),
+        let mut types = FoundTypes::of(alloc, dtd, name)?;
+        let kind = types.find(dtd, name);
+        Ok(OpenLists {
+            inner: OpenList::of(kind, 0, false),
             outer: Vec::new(alloc),
             tokens: Vec::new(alloc),
             found: None,
-        }
+            types,
+        })
     }
 
     // One more open element, the innermost.
     fn open(&mut self, dtd: &'a Dtd, name: &'a [u8]) -> Result<(), NoMemory>
+        requires { AreTypes (plain_dtd dtd.now) self.old.types }
         ensures read { (root attrs : List ℕ) (inner : Open Mark) (outer : List (Open Mark)) →
             HasRead (plain_dtd dtd.now) root self.old inner outer →
             OnOk result (HasRead (plain_dtd dtd.now) root self.new (just_opened name.now attrs)
             (inner ∷ outer)) }
         ensures room { HasRoom self.old → OnOk result (HasRoom self.new) }
+        ensures types { OnOk result (AreTypes (plain_dtd dtd.now) self.new.types) }
     {
         self.outer.push(self.inner)?;
-        self.inner = OpenList::of(dtd, name, self.tokens.len(), self.found.is_some());
+        let kind = self.types.find(dtd, name);
+        self.inner = OpenList::of(kind, self.tokens.len(), self.found.is_some());
         Ok(())
     }
 
@@ -139,6 +141,7 @@ impl<'a> OpenLists<'a> {
         ensures tokens { OnOk result (self.new.tokens.items ≡ self.old.tokens.items
             ++ option_to_list token) }
         ensures found { self.new.found ≡ self.old.found }
+        ensures types { self.new.types ≡ self.old.types }
     {
         self.inner.kids += 1;
         match token {
@@ -186,6 +189,7 @@ impl<'a> OpenLists<'a> {
         ensures inner { self.new.inner ≡ self.old.inner }
         ensures outer { self.new.outer ≡ self.old.outer }
         ensures tokens { self.new.tokens ≡ self.old.tokens }
+        ensures types { self.new.types ≡ self.old.types }
     {
         if self.inner.is_behind {
             return Ok(());
@@ -201,11 +205,12 @@ impl<'a> OpenLists<'a> {
     /// this says true.
     pub fn close(&mut self, alloc: Global, dtd: &Dtd) -> Result<bool, NoMemory>
         requires { HasRoom self.old }
-        ensures { (root attrs : List ℕ) (inner : Open Mark) (outer : List (Open Mark))
+        ensures ended { (root attrs : List ℕ) (inner : Open Mark) (outer : List (Open Mark))
             (ending : Ending) (mark : Mark) →
             HasRead (plain_dtd dtd.now) root self.old inner outer →
             IfOk result (λ whole. HasEnded (plain_dtd dtd.now) root self.new whole outer
             (ended_element inner attrs ending mark)) }
+        ensures types { OnOk result (self.new.types ≡ self.old.types) }
     {
         self.judge(alloc, dtd)?;
         let token = self.inner.token;
@@ -223,10 +228,12 @@ impl<'a> OpenLists<'a> {
         requires room { HasRoom self.old }
         requires stands { may_stand_in_content (plain_item item.now) ≡ true }
         requires known { HasKnownReferences (plain_item item.now) }
-        ensures { (root : List ℕ) (inner : Open Mark) (outer : List (Open Mark)) →
+        requires types { AreTypes (plain_dtd dtd.now) self.old.types }
+        ensures behind { (root : List ℕ) (inner : Open Mark) (outer : List (Open Mark)) →
             HasRead (plain_dtd dtd.now) root self.old inner outer →
             IfOk result (λ whole. IsBehind (plain_dtd dtd.now) root self.new whole inner outer
             (plain_item item.now)) }
+        ensures types { OnOk result (AreTypes (plain_dtd dtd.now) self.new.types) }
     {
         match item {
             Item::StartTag(tag) => {

@@ -48,7 +48,7 @@ fn read_root<'a>(
 {
     let count = opening.count + 1;
     if opening.is_short {
-        let mut lists = OpenLists::of(alloc, dtd, opening.tag.name);
+        let mut lists = OpenLists::of(alloc, dtd, opening.tag.name)?;
         lists.close(alloc, dtd)?;
         return Ok((lists, opening.rest, count));
     }

@@ -5,6 +5,7 @@ use Rattle.pv_read.specs.Left.{in_content}
 use Rattle.pv_read.specs.PlainItems.{plain_item}
 use Rattle.pv_valid.proofs.Taken.{place_is, item_stands}
 use Rattle.pv_valid.proofs.Behind.{known_taken}
+use Rattle.pv_valid.proofs.Stack.{inner_named}
 use Rattle.pv_valid.proofs.content.read_item.Goals as goal
 
 pub returns-in_err-item-clause-refused : goal.returns-in_err-item-clause-refused
@@ -32,5 +33,13 @@ returns-clause-step c = λ inner outer r.
     record {
       item = plain_item c.in_ok-item.item;
       taken = λ before. c.in_ok-item.ensures.taken (in_content before inner outer) (place_is (plain_dtd c.args.dtd.now) c.args.root.now c.args.lists.now inner outer r before (c.len-open_elements.result + 1) many);
-      is_behind = c.in_ok-whole.ensures c.args.root.now inner outer r;
+      is_behind = c.in_ok-whole.ensures.behind c.args.root.now inner outer r;
     }
+
+pub item_in-requires-clause-named : goal.item_in-requires-clause-named
+item_in-requires-clause-named c =
+    let read = c.requires.read in
+    inner_named (plain_dtd c.args.dtd.now) c.args.root.now c.args.lists.now read.0 read.1 read.2
+
+pub item_in-requires-clause-types : goal.item_in-requires-clause-types
+item_in-requires-clause-types c = λ k d less. (c.requires.types k d less).is_name

@@ -14,7 +14,7 @@ returns-then-opening-clause-read c =
     let o = c.args.opening.now in
     let next : o.count + 1 ≡ suc o.count = omega arith in
     short_root c.args.most_depth (plain_dtd c.args.dtd.now) c.args.root.now o.tag.name.now o.tag.attrs.now o.rest.now o.count (o.count + 1) o.is_short c.in_ok-close.field-0 c.close.new.self
-    (c.in_ok-close.ensures c.args.root.now o.tag.attrs.now (just_opened o.tag.name.now o.tag.attrs.now) [] short blank_mark (c.of-lists.ensures.read c.args.root.now o.tag.attrs.now)) c.if-opening.true next
+    (c.in_ok-close.ensures.ended c.args.root.now o.tag.attrs.now (just_opened o.tag.name.now o.tag.attrs.now) [] short blank_mark (c.in_ok-lists.ensures.read c.args.root.now o.tag.attrs.now)) c.if-opening.true next
 
 pub returns-clause-refused : goal.returns-clause-refused
 returns-clause-refused c =

@@ -8,40 +8,40 @@ use Rattle.pv_read.specs.PlainItems.{plain_item}
 use Rattle.pv_valid.proofs.Behind.{behind_start, behind_end, behind_empty, behind_misc, behind_cdata, behind_text}
 use Rattle.pv_valid.proofs.open.OpenLists.add.Goals as goal
 
-pub returns-in_ok-open-in-StartTag : goal.returns-in_ok-open-in-StartTag
-returns-in_ok-open-in-StartTag c = λ root inner outer r.
+pub returns-in_ok-open-in-StartTag-clause-behind : goal.returns-in_ok-open-in-StartTag-clause-behind
+returns-in_ok-open-in-StartTag-clause-behind c = λ root inner outer r.
     rw (ap plain_item c.in-StartTag.is) (behind_start (plain_dtd c.args.dtd.now) root inner outer c.open.new.self c.in-StartTag.tag.name.now c.in-StartTag.tag.attrs.now (c.in_ok-open-in-StartTag.ensures.read root c.in-StartTag.tag.attrs.now inner outer r))
 
-pub returns-in_ok-whole-in-EmptyTag : goal.returns-in_ok-whole-in-EmptyTag
-returns-in_ok-whole-in-EmptyTag c = λ root inner outer r.
+pub returns-in_ok-whole-in-EmptyTag-clause-behind : goal.returns-in_ok-whole-in-EmptyTag-clause-behind
+returns-in_ok-whole-in-EmptyTag-clause-behind c = λ root inner outer r.
     let is = ap plain_item c.in-EmptyTag.is in
     let name = c.in-EmptyTag.tag.name.now in
     let attrs = c.in-EmptyTag.tag.attrs.now in
     rw is (behind_empty (plain_dtd c.args.dtd.now) root inner outer c.close.new.self c.in_ok-whole-in-EmptyTag.whole name attrs
-    (c.in_ok-whole-in-EmptyTag.ensures root attrs (just_opened name attrs) (inner ∷ outer) short blank_mark (c.in_ok-open-in-EmptyTag.ensures.read root attrs inner outer r)))
+    (c.in_ok-whole-in-EmptyTag.ensures.ended root attrs (just_opened name attrs) (inner ∷ outer) short blank_mark (c.in_ok-open-in-EmptyTag.ensures.read root attrs inner outer r)))
 
-pub returns-in_ok-whole-in-EndTag : goal.returns-in_ok-whole-in-EndTag
-returns-in_ok-whole-in-EndTag c = λ root inner outer r.
+pub returns-in_ok-whole-in-EndTag-clause-behind : goal.returns-in_ok-whole-in-EndTag-clause-behind
+returns-in_ok-whole-in-EndTag-clause-behind c = λ root inner outer r.
     let is = ap plain_item c.in-EndTag.is in
     rw is (behind_end (plain_dtd c.args.dtd.now) root inner outer c.close-in-EndTag.new.self c.in_ok-whole-in-EndTag.whole c.in-EndTag.name.now c.in-EndTag.gap.now
-    (c.in_ok-whole-in-EndTag.ensures root inner.attrs inner outer (tagged c.in-EndTag.gap.now) blank_mark r))
+    (c.in_ok-whole-in-EndTag.ensures.ended root inner.attrs inner outer (tagged c.in-EndTag.gap.now) blank_mark r))
 
-pub returns-in_ok-add_kid-in-TextRun : goal.returns-in_ok-add_kid-in-TextRun
-returns-in_ok-add_kid-in-TextRun c = λ root inner outer r.
+pub returns-in_ok-add_kid-in-TextRun-clause-behind : goal.returns-in_ok-add_kid-in-TextRun-clause-behind
+returns-in_ok-add_kid-in-TextRun-clause-behind c = λ root inner outer r.
     let is = ap plain_item c.in-TextRun.is in
     let added = c.in_ok-add_kid-in-TextRun.ensures in
     rw is (behind_text (plain_dtd c.args.dtd.now) root inner outer c.args.self.now c.add_kid.new.self r added.inner (ap (λ (v : _). v.items) added.outer) added.found _ added.tokens
     c.in-TextRun.run'.now c.holds_data.result (rw is at c.requires.known) c.holds_data.ensures c.then_some.ensures)
 
-pub returns-in_ok-add_kid-in-CdataSection : goal.returns-in_ok-add_kid-in-CdataSection
-returns-in_ok-add_kid-in-CdataSection c = λ root inner outer r.
+pub returns-in_ok-add_kid-in-CdataSection-clause-behind : goal.returns-in_ok-add_kid-in-CdataSection-clause-behind
+returns-in_ok-add_kid-in-CdataSection-clause-behind c = λ root inner outer r.
     let is = ap plain_item c.in-CdataSection.is in
     let added = c.in_ok-add_kid-in-CdataSection.ensures in
     rw is (behind_cdata (plain_dtd c.args.dtd.now) root inner outer c.args.self.now c.add_kid-in-CdataSection.new.self r added.inner (ap (λ (v : _). v.items) added.outer) added.found (Some Text) added.tokens
     c.in-CdataSection.field-0.now refl)
 
-pub returns-in_ok-add_kid-in-CommentOrInstruction : goal.returns-in_ok-add_kid-in-CommentOrInstruction
-returns-in_ok-add_kid-in-CommentOrInstruction c = λ root inner outer r.
+pub returns-in_ok-add_kid-in-CommentOrInstruction-clause-behind : goal.returns-in_ok-add_kid-in-CommentOrInstruction-clause-behind
+returns-in_ok-add_kid-in-CommentOrInstruction-clause-behind c = λ root inner outer r.
     let is = ap plain_item c.in-CommentOrInstruction.is in
     let added = c.in_ok-add_kid-in-CommentOrInstruction.ensures in
     rw is (behind_misc (plain_dtd c.args.dtd.now) root inner outer c.args.self.now c.add_kid-in-CommentOrInstruction.new.self r added.inner (ap (λ (v : _). v.items) added.outer) added.found None added.tokens

@@ -4,15 +4,15 @@ use Rattle.pv_valid.specs.declared.open.OpenLists.{OpenLists}
 use Rattle.pv_valid.proofs.Stack.{root_ended, kid_ended, none_popped, cut_off}
 use Rattle.pv_valid.proofs.open.OpenLists.close.Goals as goal
 
-pub returns-in_default : goal.returns-in_default
-returns-in_default c = λ root attrs inner outer ending mark r.
+pub returns-in_default-clause-ended : goal.returns-in_default-clause-ended
+returns-in_default-clause-ended c = λ root attrs inner outer ending mark r.
     let judged = c.in_ok-judge.ensures in
-    let new : OpenLists = record { inner = c.judge.new.self.inner; outer = c.pop.new.self; tokens = c.truncate.new.self; found = c.judge.new.self.found } in
+    let new : OpenLists = record { inner = c.judge.new.self.inner; outer = c.pop.new.self; tokens = c.truncate.new.self; found = c.judge.new.self.found; types = c.judge.new.self.types } in
     root_ended (plain_dtd c.args.dtd.now) root c.args.self.now new inner outer attrs ending mark r
     (ap (λ (v : _). v.items) (sym judged.outer) ∙ none_popped c.judge.new.self.outer.items (vec_len c.judge.new.self.outer) c.in_default.ensures.cases.0 (omega arith)) judged.inner (judged.found root attrs inner outer ending mark r)
 
-pub returns : goal.returns
-returns c = λ root attrs inner outer ending mark r.
+pub returns-clause-ended : goal.returns-clause-ended
+returns-clause-ended c = λ root attrs inner outer ending mark r.
     let judged = c.in_ok-judge.ensures in
     let added = c.in_ok-add_kid.ensures in
     kid_ended (plain_dtd c.args.dtd.now) root c.args.self.now c.add_kid.new.self c.in-Some.around c.pop.new.self.items inner outer attrs ending mark r

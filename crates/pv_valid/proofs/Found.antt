@@ -1,0 +1,25 @@
+-- Element types that were found, where one more is put among them, or an element of one begins.
+use Rattle.std.proofs.Common.{◌≡◌, ℕ, List, slice_set, IsTrue, sym, ap, ◌∙◌, subst}
+use Rattle.std.specs.List.{All}
+use Rattle.std.specs.Option.{option_copied, option_map}
+use Rattle.std.proofs.lemmas.List.Elements.{All-set}
+use Rattle.pv_model.specs.PlainForms.{plain_model, plain_token}
+use Rattle.pv_dtd.specs.Plain.{PlainDtd}
+use Rattle.pv_valid.specs.Types.{IsTypeOf}
+use Rattle.pv_valid.specs.declared.open.OpenList.{OpenList}
+use Rattle.pv_valid.specs.declared.types.ElementType.{ElementType}
+use Rattle.pv_valid.proofs.Stack.{Begins}
+
+pub type_put : (g : PlainDtd) (types : List ElementType) (place : ℕ) (t : ElementType) (name : List ℕ) → IsTypeOf g name t → All (λ (t : ElementType). IsTypeOf g t.name.now t) types
+    → All (λ (t : ElementType). IsTypeOf g t.name.now t) (slice_set types place t)
+type_put g types place t name is all = All-set (λ (t : ElementType). IsTypeOf g t.name.now t) types place t (subst (λ (n : List ℕ). IsTypeOf g n t) (sym is.is_bytes) is) all
+
+pub begins_of : (g : PlainDtd) (list : OpenList) (t : ElementType) (name : List ℕ) → IsTypeOf g name t → list.name ≡ t.name → list.is_name ≡ t.is_name → list.model ≡ t.model → list.token ≡ t.token
+    → list.kids ≡ 0 → Begins g list name
+begins_of g list t name is same_name same_known same_model same_token none = record {
+  is_name = ap (λ n. n.now) same_name ∙ is.is_bytes;
+  is_named = λ known. is.is_name (subst IsTrue same_known known);
+  is_model = ap (λ m. option_map plain_model (option_copied m)) same_model ∙ is.is_model;
+  is_token = ap plain_token same_token ∙ is.is_token;
+  no_kids = none;
+}
