@@ -12,24 +12,10 @@ use Rattle.pv_rules.specs.PlainForms.{plain_site}
 use Rattle.pv_rules.specs.Rules.{IsSpan, over}
 use Rattle.pv_rules.specs.Sites.{HasSite, PlainSite, content_site, name_site, part_site, rest_site}
 use Rattle.pv_productive.specs.PlainForms.{dtd_of}
+use Rattle.pv_span.proofs.KnownSites.{known_site}
 use Rattle.pv_span.specs.Weights.{weight_of}
 use Rattle.pv_complete.specs.declared.words.spot.Spot.{Spot}
 use Rattle.pv_complete.proofs.Weighed.{long_word}
-
--- whether the DTD has a site can be told, so it has one that it is known to have
-below : (x n : ℕ) → ∥ x < n ∥₁ → (b : Bool) → nat_lt x n ≡ b → x < n
-below x n h true e = ltb-true x n e
-below x n h false e = absurd (∥∥₁_elim h (λ v. absurd v) (λ l. let k = lt-ltb x n l in cc))
-
-some : {A : Type 0} → (o : Option A) → ∥ IsSome o ∥₁ → IsSome o
-some None h = absurd (∥∥₁_elim h (λ v. absurd v) (λ s. absurd cc))
-some (Some a) h = refl
-
-pub known_site : (g : PlainDtd) (s : PlainSite) → ∥ HasSite g s ∥₁ → HasSite g s
-known_site g (name_site x) h = below x (length g.names) h (nat_lt x (length g.names)) refl
-known_site g (content_site x) h = below x (length g.names) h (nat_lt x (length g.names)) refl
-known_site g (part_site q) h = some (part_at g q) h
-known_site g (rest_site q) h = some (rest_at g q) h
 
 module _ (v : Spot) where
   pub spot_has : HasSite (dtd_of v.weights.grammar.now) (plain_site v.site)

@@ -2,6 +2,7 @@ pub mod Needing
 pub mod NeedLaws
 pub mod Completing
 pub mod Loads
+pub mod WideLists
 pub mod PlainForms
 pub mod Pieces
 pub mod PieceForms

@@ -4,3 +4,4 @@ pub mod lists;
 pub mod load;
 pub mod needing;
 pub mod weighing;
+pub mod widths;

@@ -1,3 +1,5 @@
+-- for other crates:
+pub mod KnownSites
 -- of this crate:
 pub mod Across
 pub mod Among
@@ -7,6 +9,7 @@ pub mod ColumnFacts
 pub mod CutSums
 pub mod Finishing
 pub mod Flats
+pub mod HeldFits
 pub mod Judging
 pub mod Known
 pub mod Laid
@@ -22,3 +25,4 @@ pub mod Sited
 pub mod Standing
 pub mod Taken
 pub mod SiteWeights
+pub mod WordWeights

@@ -9,7 +9,7 @@ use Rattle.pv_model.specs.Plain.{PlainToken}
 use Rattle.pv_rules.specs.Derivations.{DeriveAll, by_rule, heaviest, none_left, one_more, sum_of}
 use Rattle.pv_productive.specs.Tables.{IsLowered, cut, no_size, size_at}
 use Rattle.pv_productive.proofs.Cutting.{cut_below, cut_few, cut_least, cut_mono}
-use Rattle.pv_span.specs.Charts.{AreSettled, HasValue, IsAttained, IsDone, IsSettling, IsSettledAt, IsSound, PlainChart, row_at, span_number, value_of}
+use Rattle.pv_span.specs.Charts.{AreSettled, AreSettledFrom, HasValue, IsAttained, IsDone, IsSettling, IsSettledAt, IsSound, PlainChart, row_at, span_number, value_of}
 use Rattle.pv_span.specs.ColumnRules.{Cell, ColumnRule, cell}
 use Rattle.pv_span.specs.Forms.{PlainForm}
 use Rattle.pv_span.specs.Least.{IsLeastAt}
@@ -151,12 +151,26 @@ module _ (g : List PlainForm) (w : List PlainToken) (i j : ℕ) where
   pub settling_map : (P Q : PlainChart → Type 0) (a b : PlainChart) (x : Bool) → ((t : PlainChart) → P t → Q t) → IsSettling g w i j P a b x → IsSettling g w i j Q a b x
   settling_map P Q a b x f r = record { attained = r.attained; same = r.same; settled = λ e. f a (r.settled e); less = r.less }
 
-  settled_more : (end : ℕ) (t : PlainChart) → AreSettled g w i j end t × At end t → AreSettled g w i j (end + 1) t
-  settled_more end t (p, d) q l = elim (same_or_not q end) [ inl z ↦ rw z d | inr ne ↦ p q (omega arith) ]
+  module _ (first : ℕ) where
+    abbrev From : ℕ → PlainChart → Type 0
+    From = AreSettledFrom g w i j first
 
-  -- one column more
-  pub column_settling : (end : ℕ) (a b c : PlainChart) (x y : Bool) → IsSettling g w i j (AreSettled g w i j end) a b x → IsSettling g w i j (At end) b c y →
-      IsSettling g w i j (AreSettled g w i j (end + 1)) a c (x || y)
-  column_settling end a b c x y r s =
-      settling_map (λ u. AreSettled g w i j end u × At end u) (AreSettled g w i j (end + 1)) a c (x || y) (λ u k. settled_more end u k)
-      (settling_both (AreSettled g w i j end) (At end) a b c x y r s)
+    settled_more : (end : ℕ) (t : PlainChart) → From end t × At end t → From (end + 1) t
+    settled_more end t (p, d) q a l = elim (same_or_not q end) [ inl z ↦ rw z d | inr ne ↦ p q a (omega arith) ]
+
+    -- one column more
+    pub column_settling : (end : ℕ) (a b c : PlainChart) (x y : Bool) → IsSettling g w i j (From end) a b x → IsSettling g w i j (At end) b c y →
+        IsSettling g w i j (From (end + 1)) a c (x || y)
+    column_settling end a b c x y r s =
+        settling_map (λ u. From end u × At end u) (From (end + 1)) a c (x || y) (λ u k. settled_more end u k)
+        (settling_both (From end) (At end) a b c x y r s)
+
+    settled_all : (end : ℕ) (t : PlainChart) → From end t × AreSettledFrom g w i j 0 first t → AreSettled g w i j end t
+    settled_all end t (p, d) q l = elim (cases_lt q first) [ inl lt ↦ d q (omega arith) lt | inr ge ↦ p q ge l ]
+
+    -- the columns from a number on, and those before it
+    pub all_settling : (end : ℕ) (a b c : PlainChart) (x y : Bool) → IsSettling g w i j (From end) a b x → IsSettling g w i j (AreSettledFrom g w i j 0 first) b c y →
+        IsSettling g w i j (AreSettled g w i j end) a c (x || y)
+    all_settling end a b c x y r s =
+        settling_map (λ u. From end u × AreSettledFrom g w i j 0 first u) (AreSettled g w i j end) a c (x || y) (λ u k. settled_all end u k)
+        (settling_both (From end) (AreSettledFrom g w i j 0 first) a b c x y r s)

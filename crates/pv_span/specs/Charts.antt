@@ -80,6 +80,10 @@ pub record IsSettling (f : List PlainForm) (w : List PlainToken) (i j : ℕ)
 abbrev pub AreSettled : List PlainForm → List PlainToken → ℕ → ℕ → ℕ → PlainChart → Type 0
 AreSettled f w i j end t = (s : ℕ) → s < end → IsSettledAt f w t (cell s i j)
 
+-- the rules lower nothing in the columns from one number up to another
+abbrev pub AreSettledFrom : List PlainForm → List PlainToken → ℕ → ℕ → ℕ → ℕ → PlainChart → Type 0
+AreSettledFrom f w i j first end t = (s : ℕ) → first ≤ s → s < end → IsSettledAt f w t (cell s i j)
+
 -- k spans are done, and nothing is known of the next one
 pub record HasDone (f : List PlainForm) (w : List PlainToken) (k : ℕ) (t : PlainChart) :
     Type 0 where

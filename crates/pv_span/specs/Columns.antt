@@ -82,6 +82,7 @@ module _ (g : PlainDtd) (m : PlainSites) (H : ℕ → PlainForm → Type 0) (c :
   FitsSite (part_site q) = FitsPart q (part_at g q)
   FitsSite (rest_site q) = FitsRest q (rest_at g q)
 
+-- in the column of each site stands what the DTD says of the site
 abbrev pub AreFit : PlainDtd → PlainSites → List PlainForm → Type 0
 AreFit g m forms = (s : PlainSite) → HasSite g s →
     FitsSite g m (λ c f. form_at forms c ≡ f) (column_of m s) s

@@ -15,5 +15,6 @@ plain_form (form.Star d texts) = of_star d texts
 plain_form (form.Plus d) = of_plus d
 plain_form (form.Then d e) = of_two d e
 
+-- the plain forms of what stands in all columns
 abbrev pub plain_all : List Form → List PlainForm
 plain_all forms = map plain_form forms

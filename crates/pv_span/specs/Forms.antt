@@ -1,6 +1,7 @@
 -- What stands in a column of a chart: sites that stand for the same words share one.
 use Rattle.std.specs.Prelude.{Bool, List, slice_index_or, ℕ}
 
+-- what stands in a column; other columns are told by their numbers
 pub data PlainForm : Type 0 where
   -- nothing
   of_none : PlainForm
@@ -19,5 +20,6 @@ pub data PlainForm : Type 0 where
   -- one column, and another behind it
   of_two : ℕ → ℕ → PlainForm
 
+-- what stands in the column of this number, or nothing where there is none
 abbrev pub form_at : List PlainForm → ℕ → PlainForm
 form_at forms c = slice_index_or forms c of_none

@@ -1,6 +1,6 @@
 -- The plain form of a chart.
 use Rattle.std.specs.Prelude.{◌≡◌}
-pub use Rattle.pv_span.specs.SiteForms.{plain_sites}
+pub use Rattle.pv_span.specs.SiteForms.{plain_columns, plain_sites}
 use Rattle.pv_span.specs.Charts.{PlainChart}
 use Rattle.pv_span.specs.Done.{rows_of}
 use Rattle.pv_span.specs.declared.charts.Chart.{Chart}

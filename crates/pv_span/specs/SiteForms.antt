@@ -1,5 +1,7 @@
 -- The plain form of the columns of sites.
 use Rattle.pv_span.specs.Columns.{PlainSites}
+use Rattle.pv_span.specs.declared.sites.SiteColumns.{SiteColumns}
+use Rattle.pv_span.specs.declared.sites.SiteColumns.TheVariants.{Lent, Own}
 use Rattle.pv_span.specs.declared.sites.Sites.{Sites}
 
 -- the plain form of the columns of all sites
@@ -10,3 +12,8 @@ plain_sites s = record {
   parts = s.parts.items;
   rests = s.rests.items;
 }
+
+-- the same, whoever owns them
+abbrev pub plain_columns : SiteColumns → PlainSites
+plain_columns (Own s) = plain_sites s
+plain_columns (Lent s) = plain_sites s.now

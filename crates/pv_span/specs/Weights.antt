@@ -9,13 +9,13 @@ use Rattle.pv_productive.specs.Tables.{no_size}
 use Rattle.pv_span.specs.Charts.{value_of}
 use Rattle.pv_span.specs.ColumnRules.{cell}
 use Rattle.pv_span.specs.Columns.{column_of}
-use Rattle.pv_span.specs.PlainForms.{plain_chart, plain_sites}
+use Rattle.pv_span.specs.PlainForms.{plain_chart, plain_columns}
 use Rattle.pv_span.specs.declared.weighing.Spans.{Spans}
 
 -- the value of a site over a span
 abbrev pub site_value : Spans → Goal → ℕ
 site_value spans x = value_of (plain_chart spans.chart)
-    (cell (column_of (plain_sites spans.sites) x.site) x.from x.to)
+    (cell (column_of (plain_columns spans.sites) x.site) x.from x.to)
 
 -- what is told of a site over a span
 abbrev pub weight_of : Spans → Goal → ℕ

@@ -14,8 +14,9 @@ use pv_chars::NoMemory;
 use pv_model::Token;
 use std::alloc::Global;
 
-/// The values of all columns over all spans of a word.
-fn fill(alloc: Global, forms: &[Form], word: &[Token]) -> Result<Chart, NoMemory>
+/// The values of all columns over all spans of a word. So many columns, the first ones, are of
+/// names.
+fn fill(alloc: Global, forms: &[Form], names: u32, word: &[Token]) -> Result<Chart, NoMemory>
     requires short { length word.now < 2 ^ 13 }
     requires few { length forms.now < 2 ^ 32 }
     ensures { IfOk result (λ chart. IsFilled (plain_all forms.now) (map plain_token word.now)
@@ -25,21 +26,26 @@ fn fill(alloc: Global, forms: &[Form], word: &[Token]) -> Result<Chart, NoMemory
     let lines = lines_of(alloc, forms, tokens)?;
     let mut chart = Chart::new(alloc, tokens, forms.len() as u32, lines)?;
     while !chart.is_full() {
-        settle(forms, word, &mut chart);
+        settle(forms, names, word, &mut chart);
         chart.next();
     }
     Ok(chart)
 }
 
 /// The same, where the word has fewer than 8,192 tokens.
-pub fn chart_of(alloc: Global, forms: &[Form], word: &[Token]) -> Result<Chart, NoMemory>
+pub fn chart_of(
+    alloc: Global,
+    forms: &[Form],
+    names: u32,
+    word: &[Token],
+) -> Result<Chart, NoMemory>
     requires few { length forms.now < 2 ^ 32 }
     ensures { IfOk result (λ chart. length word.now < 2 ^ 13 → IsFilled (plain_all forms.now)
         (map plain_token word.now) (plain_chart chart)) }
 {
     if word.len() < 8192 {
-        fill(alloc, forms, word)
+        fill(alloc, forms, names, word)
     } else {
-        fill(alloc, forms, &[])
+        fill(alloc, forms, names, &[])
     }
 }

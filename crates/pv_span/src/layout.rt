@@ -1,4 +1,4 @@
-//! The columns of a grammar.
+//! A grammar with its columns.
 
 ghost use Rattle.std.specs.Prelude.{◌≡◌, ◌≤◌, ◌++◌, IfOk, OnOk, length};
 ghost use Rattle.pv_dtd.specs.Plain.{parts_in_models};
@@ -17,11 +17,16 @@ use pv_model::NameId;
 use pv_productive::Grammar;
 use std::alloc::Global;
 
-/// The columns of a grammar: which one each site has, and what stands in each.
+/// A grammar with its columns, laid out once for all words: which one each site has, and what
+/// stands in each.
 #[derive(Debug, Drop)]
-pub struct Layout {
-    pub sites: Sites,
-    pub forms: Vec<Form>,
+pub struct Layout<'a> {
+    /// The grammar.
+    pub grammar: &'a Grammar,
+    pub(crate) sites: Sites,
+    pub(crate) forms: Vec<Form>,
+    pub ghost fit: { ∥ AreFit (dtd_of grammar.now) (plain_sites sites) (plain_all forms.items) ∥₁ },
+    pub ghost few: { length forms.items ≤ no_column },
 }
 
 /// Gives all parts their columns, the last part first: what is within a part has higher numbers,
@@ -82,11 +87,9 @@ fn all_forms(
     Ok(forms)
 }
 
-/// The columns of a grammar.
-pub fn lay_out(alloc: Global, grammar: &Grammar) -> Result<Layout, NoMemory>
-    ensures fit { IfOk result (λ layout. AreFit (dtd_of grammar.now) (plain_sites layout.sites)
-        (plain_all layout.forms.items)) }
-    ensures few { IfOk result (λ layout. length layout.forms.items ≤ no_column) }
+/// A grammar with its columns. Sites that stand for the same words get one.
+pub fn lay_out(alloc: Global, grammar: &Grammar) -> Result<Layout<'_>, NoMemory>
+    ensures { IfOk result (λ layout. layout.grammar.now ≡ grammar.now) }
 {
     let (names, parts) = (grammar.dtd().names(), grammar.dtd().parts());
     let mut making = Making::new(alloc, names)?;
@@ -94,5 +97,9 @@ pub fn lay_out(alloc: Global, grammar: &Grammar) -> Result<Layout, NoMemory>
     lay_parts(alloc, grammar, &mut sites, &mut making)?;
     lay_contents(alloc, grammar, &mut sites, &mut making)?;
     let forms = all_forms(alloc, names, &sites.contents, making.forms)?;
-    Ok(Layout { sites, forms })
+    Ok(Layout {
+        grammar,
+        sites,
+        forms,
+    })
 }

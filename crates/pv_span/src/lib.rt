@@ -3,7 +3,8 @@
 //! `weights` tells of each site and each span of a word how many elements are missing there at
 //! least (`IsWeight` of pv_rules, cut at 1,000,001), and `member` whether a word may stand for the
 //! content of an element, or in the document node (`IsPossible` and `IsPossibleRoot` of
-//! pv_missing). Sites that stand for the same words share a column (`specs/Columns.antt`). Both
+//! pv_missing). Sites that stand for the same words share a column (`specs/Columns.antt`); which
+//! ones is laid out once for a grammar (`lay_out`) by whoever weighs many words (`weights_by`). All
 //! calls fill a chart (`specs/Charts.antt`): a value for each column over each span, lowered by the
 //! rules of columns until none lowers a value, span after span, those within a span before it.
 //! The crate also has the type in which weights are handed out to whoever wants to check a number
@@ -23,6 +24,7 @@ mod lines;
 mod lowering;
 mod making;
 mod membership;
+mod owners;
 mod pairs;
 mod sites;
 mod spans;
@@ -31,7 +33,9 @@ mod verdict;
 mod weighing;
 
 pub use errors::SpanError;
+pub use layout::{Layout, lay_out};
 pub use membership::member;
+pub use owners::ListOwner;
 pub use pv_tables::{Entries, Entry, Table, Tables};
 pub use verdict::list_verdict;
-pub use weighing::{Spans, weights};
+pub use weighing::{Spans, weights, weights_by};

@@ -1,9 +1,10 @@
 //! Lowering the values over the span at hand by the rules, until the rules lower none.
 
-ghost use Rattle.std.specs.Prelude.{◌≡◌, ◌<◌, length, map};
+ghost use Rattle.std.specs.Prelude.{◌≡◌, ◌≤◌, ◌<◌, length, map};
 ghost use Rattle.pv_model.specs.PlainForms.{plain_token};
 ghost use Rattle.pv_productive.specs.Tables.{cut};
-ghost use Rattle.pv_span.specs.Charts.{AreSettled, IsAttained, IsSettling, IsSettledAt};
+ghost use Rattle.pv_span.specs.Charts.{AreSettled, AreSettledFrom, IsAttained, IsSettling};
+ghost use Rattle.pv_span.specs.Charts.{IsSettledAt};
 ghost use Rattle.pv_span.specs.ColumnRules.{cell};
 ghost use Rattle.pv_span.specs.FormForms.{plain_all};
 ghost use Rattle.pv_span.specs.PlainForms.{DiffersInRow, plain_chart};
@@ -45,8 +46,28 @@ fn lower_column(forms: &[Form], word: &[Token], number: u32, chart: &mut Chart) 
     lower(&mut chart.row, number as usize, least)
 }
 
-/// The same for all columns, each once.
-fn lower_all(forms: &[Form], word: &[Token], chart: &mut Chart) -> bool
+/// The same for the columns of numbers from `first` up to `end`, each once.
+fn lower_some(forms: &[Form], word: &[Token], first: usize, end: usize, chart: &mut Chart) -> bool
+    requires attained { IsAttained (plain_all forms.now) (map plain_token word.now) chart.old.from
+        chart.old.to (plain_chart chart.old) }
+    requires end { end ≤ length forms.now }
+    ensures settling { IsSettling (plain_all forms.now) (map plain_token word.now) chart.old.from
+        chart.old.to (AreSettledFrom (plain_all forms.now) (map plain_token word.now)
+        chart.old.from chart.old.to first end) (plain_chart chart.old) (plain_chart chart.new)
+        result }
+    ensures same { DiffersInRow chart.old chart.new }
+{
+    let mut changed = false;
+    for number in first..end {
+        let is_less = lower_column(forms, word, number as u32, chart);
+        changed = changed | is_less;
+    }
+    changed
+}
+
+/// The same for all columns. The first ones, of names, come last: what stands in the others, and
+/// within them, was made before them, so that few rounds are needed.
+fn lower_all(forms: &[Form], names: u32, word: &[Token], chart: &mut Chart) -> bool
     requires { IsAttained (plain_all forms.now) (map plain_token word.now) chart.old.from
         chart.old.to (plain_chart chart.old) }
     ensures settling { IsSettling (plain_all forms.now) (map plain_token word.now) chart.old.from
@@ -54,16 +75,16 @@ fn lower_all(forms: &[Form], word: &[Token], chart: &mut Chart) -> bool
         chart.old.to (length forms.now)) (plain_chart chart.old) (plain_chart chart.new) result }
     ensures same { DiffersInRow chart.old chart.new }
 {
-    let mut changed = false;
-    for number in 0..forms.len() {
-        let is_less = lower_column(forms, word, number as u32, chart);
-        changed = changed | is_less;
-    }
-    changed
+    let end = forms.len();
+    let first = (names as usize).min(end);
+    let others = lower_some(forms, word, first, end, chart);
+    let named = lower_some(forms, word, 0, first, chart);
+    others | named
 }
 
-/// Lowers the values over the span at hand until the rules lower none.
-pub fn settle(forms: &[Form], word: &[Token], chart: &mut Chart)
+/// Lowers the values over the span at hand until the rules lower none. So many columns, the first
+/// ones, are of names.
+pub fn settle(forms: &[Form], names: u32, word: &[Token], chart: &mut Chart)
     requires { IsAttained (plain_all forms.now) (map plain_token word.now) chart.old.from
         chart.old.to (plain_chart chart.old) }
     ensures attained { IsAttained (plain_all forms.now) (map plain_token word.now) chart.new.from
@@ -72,5 +93,5 @@ pub fn settle(forms: &[Form], word: &[Token], chart: &mut Chart)
         chart.new.to (length forms.now) (plain_chart chart.new) }
     ensures same { DiffersInRow chart.old chart.new }
 {
-    while lower_all(forms, word, chart) {}
+    while lower_all(forms, names, word, chart) {}
 }

@@ -2,7 +2,6 @@
 
 ghost use Rattle.std.specs.Prelude.{◌≡◌, ◌↔◌, ◌+◌, IfErr, IfOk, IsTrue, length, map};
 ghost use Rattle.pv_model.specs.PlainForms.{plain_token};
-ghost use Rattle.pv_rules.specs.PlainForms.{plain_site};
 ghost use Rattle.pv_rules.specs.Sites.{HasSite};
 ghost use Rattle.pv_productive.specs.PlainForms.{dtd_of};
 ghost use Rattle.pv_missing.specs.LiveWords.{AreProductiveTokens};
@@ -12,41 +11,32 @@ ghost use Rattle.pv_missing.specs.WordVerdicts.{IsPossibleAt};
 ghost use Rattle.pv_span.specs.declared.errors.SpanError.TheVariants.{TooWide as too_wide};
 
 use crate::errors::SpanError;
-use crate::weighing::{is_narrow, spans_of};
+use crate::layout::lay_out;
+use crate::owners::ListOwner;
+use crate::weighing::{is_narrow, spans_by};
 use pv_chars::NoMemory;
 use pv_missing::Of;
 use pv_model::Token;
 use pv_productive::{Grammar, NO_SIZE};
-use pv_rules::Site;
 use pv_steps::Steps;
 use std::alloc::Global;
 use std::sync::ledger::Ledger;
 
-/// The site of the owner of a list.
-fn site_of(of: Of) -> Site
-    ensures { plain_site result ≡ plain_of of }
-{
-    match of {
-        Of::Root(id) => Site::Name(id),
-        Of::Elem(id) => Site::Content(id),
-    }
-}
-
 /// Whether the owner's site derives the whole word.
 pub(crate) fn derives(
     alloc: Global,
-    grammar: &Grammar,
-    of: Of,
+    owner: &ListOwner<'_>,
     word: &[Token],
 ) -> Result<bool, NoMemory>
-    requires site { HasSite (dtd_of grammar.now) (plain_of of) }
-    requires productive { AreProductiveTokens (dtd_of grammar.now) (map plain_token word.now) }
-    requires fits { FitsWeights (dtd_of grammar.now) (length word.now) }
+    requires productive { AreProductiveTokens (dtd_of owner.now.layout.now.grammar.now)
+        (map plain_token word.now) }
+    requires fits { FitsWeights (dtd_of owner.now.layout.now.grammar.now) (length word.now) }
     ensures { IfOk result (λ b. IsTrue b ↔
-        IsPossibleAt (dtd_of grammar.now) (plain_of of) (map plain_token word.now)) }
+        IsPossibleAt (dtd_of owner.now.layout.now.grammar.now) (plain_of owner.now.of)
+        (map plain_token word.now)) }
 {
-    let spans = spans_of(alloc, grammar, word)?;
-    Ok(spans.value(site_of(of), 0, word.len() as u32) < NO_SIZE)
+    let spans = spans_by(alloc, owner.layout, word)?;
+    Ok(spans.value(owner.site(), 0, word.len() as u32) < NO_SIZE)
 }
 
 /// Whether a word of productive names is possible for the document node or for the content of an
@@ -73,6 +63,11 @@ pub fn member<L: Ledger>(
     if !is_narrow(grammar, word.len()) {
         return Err(SpanError::TooWide);
     }
-    let derives = derives(alloc, grammar, of, word)?;
+    let layout = lay_out(alloc, grammar)?;
+    let owner = ListOwner {
+        layout: &layout,
+        of,
+    };
+    let derives = derives(alloc, &owner, word)?;
     Ok(derives)
 }

@@ -48,3 +48,28 @@ impl Sites {
         }
     }
 }
+
+/// The columns of sites, owned or lent.
+#[derive(Debug, Drop)]
+pub enum SiteColumns<'a> {
+    Own(Sites),
+    Lent(&'a Sites),
+}
+
+impl SiteColumns<'_> {
+    ghost use Rattle.std.specs.Prelude.{◌≡◌};
+    ghost use Rattle.pv_rules.specs.PlainForms.{plain_site};
+    ghost use Rattle.pv_span.specs.Columns.{column_of};
+    ghost use Rattle.pv_span.specs.SiteForms.{plain_columns};
+
+    /// The column of a site.
+    #[inline(always)]
+    pub fn column(&self, site: Site) -> u32
+        ensures { result ≡ column_of (plain_columns self.now) (plain_site site) }
+    {
+        match self {
+            SiteColumns::Own(sites) => sites.column(site),
+            SiteColumns::Lent(sites) => sites.column(site),
+        }
+    }
+}

@@ -20,7 +20,9 @@ ghost use Rattle.pv_missing.specs.Owners.{IsOwner};
 ghost use Rattle.pv_span.specs.declared.errors.SpanError.TheVariants.{TooWide as too_wide};
 
 use crate::errors::SpanError;
+use crate::layout::lay_out;
 use crate::membership::derives;
+use crate::owners::ListOwner;
 use crate::weighing::is_narrow;
 use pv_chars::NoMemory;
 use pv_missing::{Of, live_word};
@@ -121,7 +123,12 @@ fn judge(
     if !may_have_kids(grammar, of, is_bare) {
         return Ok(Verdict::Impossible);
     }
-    if !derives(alloc, grammar, of, live)? {
+    let layout = lay_out(alloc, grammar)?;
+    let owner = ListOwner {
+        layout: &layout,
+        of,
+    };
+    if !derives(alloc, &owner, live)? {
         return Ok(Verdict::Impossible);
     }
     if is_valid(alloc, grammar, of, word, is_bare)? {

@@ -13,8 +13,8 @@ ghost use Rattle.pv_span.specs.declared.errors.SpanError.TheVariants.{TooWide as
 use crate::charts::Chart;
 use crate::errors::SpanError;
 use crate::fill::chart_of;
-use crate::layout::lay_out;
-use crate::sites::Sites;
+use crate::layout::{Layout, lay_out};
+use crate::sites::SiteColumns;
 use pv_chars::NoMemory;
 use pv_missing::is_narrow_for_weights;
 use pv_model::Token;
@@ -24,12 +24,12 @@ use std::alloc::Global;
 
 /// The weights of all sites over all spans of a word.
 #[derive(Debug, Drop)]
-pub struct Spans {
+pub struct Spans<'a> {
     chart: Chart,
-    sites: Sites,
+    sites: SiteColumns<'a>,
 }
 
-impl Spans {
+impl Spans<'_> {
     /// The weight of a derivation, cut, or `NO_SIZE` where the site derives nothing over the span.
     pub(crate) fn value(&self, site: Site, from: u32, to: u32) -> u32
         requires { (from ≤ to) × (to ≤ tokens_of self.now) }
@@ -57,26 +57,56 @@ pub(crate) fn is_narrow(grammar: &Grammar, tokens: usize) -> bool
 
 /// The values of all sites over all spans of a word that isn't too wide. Only a DTD without names
 /// lets a word have 8,192 tokens.
-pub(crate) fn spans_of(alloc: Global, grammar: &Grammar, word: &[Token]) -> Result<Spans, NoMemory>
-    requires fits { FitsWeights (dtd_of grammar.now) (length word.now) }
-    ensures weights { IfOk result (λ spans. AreWeights (dtd_of grammar.now)
+pub(crate) fn spans_by<'a>(
+    alloc: Global,
+    layout: &'a Layout<'_>,
+    word: &[Token],
+) -> Result<Spans<'a>, NoMemory>
+    requires fits { FitsWeights (dtd_of layout.now.grammar.now) (length word.now) }
+    ensures weights { IfOk result (λ spans. AreWeights (dtd_of layout.now.grammar.now)
         (map plain_token word.now) spans) }
-    ensures values { IfOk result (λ spans. AreValues (dtd_of grammar.now)
+    ensures values { IfOk result (λ spans. AreValues (dtd_of layout.now.grammar.now)
         (map plain_token word.now) spans) }
 {
-    let layout = lay_out(alloc, grammar)?;
-    let chart = chart_of(alloc, &layout.forms, word)?;
+    let chart = chart_of(alloc, &layout.forms, layout.grammar.dtd().names(), word)?;
     Ok(Spans {
         chart,
-        sites: layout.sites,
+        sites: SiteColumns::Lent(&layout.sites),
     })
 }
 
-/// The weights of all sites over all spans of a word whose names are productive.
+/// The weights of all sites over all spans of a word whose names are productive, under a grammar
+/// that is laid out.
 ///
 /// `TooWide` is asked first, and takes no memory. The chart takes four bytes for each column and
 /// each span of the word; sites that stand for the same words share a column.
-pub fn weights(alloc: Global, grammar: &Grammar, word: &[Token]) -> Result<Spans, SpanError>
+pub fn weights_by<'a>(
+    alloc: Global,
+    layout: &'a Layout<'_>,
+    word: &[Token],
+) -> Result<Spans<'a>, SpanError>
+    requires productive { AreProductiveTokens (dtd_of layout.now.grammar.now)
+        (map plain_token word.now) }
+    ensures weights { IfOk result (λ spans. AreWeights (dtd_of layout.now.grammar.now)
+        (map plain_token word.now) spans) }
+    ensures fits { IfOk result (λ _. FitsWeights (dtd_of layout.now.grammar.now)
+        (length word.now)) }
+    ensures wide { IfErr result (λ e. e ≡ too_wide →
+        ¬ FitsWeights (dtd_of layout.now.grammar.now) (length word.now)) }
+{
+    if !is_narrow(layout.grammar, word.len()) {
+        return Err(SpanError::TooWide);
+    }
+    let spans = spans_by(alloc, layout, word)?;
+    Ok(spans)
+}
+
+/// The same, where the grammar isn't laid out: it is, for this word alone.
+pub fn weights(
+    alloc: Global,
+    grammar: &Grammar,
+    word: &[Token],
+) -> Result<Spans<'static>, SpanError>
     requires productive { AreProductiveTokens (dtd_of grammar.now) (map plain_token word.now) }
     ensures weights { IfOk result (λ spans. AreWeights (dtd_of grammar.now)
         (map plain_token word.now) spans) }
@@ -87,6 +117,10 @@ pub fn weights(alloc: Global, grammar: &Grammar, word: &[Token]) -> Result<Spans
     if !is_narrow(grammar, word.len()) {
         return Err(SpanError::TooWide);
     }
-    let spans = spans_of(alloc, grammar, word)?;
-    Ok(spans)
+    let layout = lay_out(alloc, grammar)?;
+    let chart = chart_of(alloc, &layout.forms, layout.grammar.dtd().names(), word)?;
+    Ok(Spans {
+        chart,
+        sites: SiteColumns::Own(layout.sites),
+    })
 }

@@ -22,7 +22,7 @@ use std::alloc::Global;
 #[derive(Clone, Copy)]
 struct Listing<'a> {
     grammar: &'a Grammar,
-    spans: &'a Spans,
+    spans: &'a Spans<'a>,
     site: Site,
     tokens: u32,
     pub ghost has: { ∥ HasSite (dtd_of grammar.now) (plain_site site) ∥₁ },
@@ -116,7 +116,7 @@ fn list_site(listing: &Listing<'_>, room: u32, entries: &mut Vec<Entry>) -> Resu
 /// Lists the entries of the site of a kind and number, if there is one.
 fn list_number(
     grammar: &Grammar,
-    spans: &Spans,
+    spans: &Spans<'_>,
     kind: SiteKind,
     number: u32,
     tokens: u32,
@@ -152,7 +152,7 @@ fn list_number(
 /// Lists the entries of the sites of a kind.
 fn list_kind(
     grammar: &Grammar,
-    spans: &Spans,
+    spans: &Spans<'_>,
     kind: SiteKind,
     tokens: u32,
     room: u32,
@@ -179,7 +179,7 @@ fn list_kind(
 pub fn entries_of(
     alloc: Global,
     grammar: &Grammar,
-    spans: &Spans,
+    spans: &Spans<'_>,
     tokens: u32,
     room: u32,
 ) -> Result<Vec<Entry>, NeedError>

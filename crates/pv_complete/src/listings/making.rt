@@ -14,7 +14,7 @@ use crate::listings::tabling::table_doc;
 use crate::missing::needing::light_verdicts;
 use pv_chars::List;
 use pv_productive::Grammar;
-use pv_span::Tables;
+use pv_span::{Tables, lay_out};
 use pv_tree::Doc;
 use std::alloc::Global;
 
@@ -29,8 +29,9 @@ pub fn tables(alloc: Global, grammar: &Grammar, root: &[u8], doc: &Doc) -> Resul
     ensures refused { IfErr result (HasTablesCause (dtd_of grammar.now)
         root.now (plain_doc doc.now)) }
 {
-    let verdicts = light_verdicts(alloc, grammar, root, doc)?;
+    let layout = lay_out(alloc, grammar)?;
+    let verdicts = light_verdicts(alloc, &layout, root, doc)?;
     let mut made = Made::new(alloc);
-    table_doc(alloc, grammar, root, doc, &verdicts, &mut made)?;
+    table_doc(alloc, &layout, root, doc, &verdicts, &mut made)?;
     Ok(List::of(made.tables))
 }

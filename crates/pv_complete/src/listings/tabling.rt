@@ -26,8 +26,7 @@ use crate::listings::entries::entries_of;
 use crate::listings::made::Made;
 use pv_missing::{Of, Verdicts, element_owner, live_word, root_owner};
 use pv_model::Token;
-use pv_productive::Grammar;
-use pv_span::{Entry, SpanError, weights};
+use pv_span::{Entry, Layout, ListOwner, SpanError, weights_by};
 use pv_tree::{Doc, Node, Path};
 use std::alloc::Global;
 
@@ -35,23 +34,23 @@ use std::alloc::Global;
 /// no more than there is room for.
 fn word_entries(
     alloc: Global,
-    grammar: &Grammar,
-    of: Of,
+    owner: &ListOwner<'_>,
     word: &[Token],
     places: &[u32],
     room: u32,
 ) -> Result<Vec<Entry>, NeedError>
-    requires site { HasSite (dtd_of grammar.now) (plain_of of) }
-    requires productive { AreProductiveTokens (dtd_of grammar.now) (map plain_token word.now) }
-    ensures entries { IfOk result (λ entries. AreAllEntries (dtd_of grammar.now)
-        (map plain_token word.now) entries.items) }
+    requires { AreProductiveTokens (dtd_of owner.now.layout.now.grammar.now)
+        (map plain_token word.now) }
+    ensures entries { IfOk result (λ entries. AreAllEntries
+        (dtd_of owner.now.layout.now.grammar.now) (map plain_token word.now) entries.items) }
     ensures few { IfOk result (λ entries. length entries.items ≤ room) }
-    ensures fits { OnOk result (FitsWeights (dtd_of grammar.now) (length word.now)) }
-    ensures refused { IfErr result (StopsWord (dtd_of grammar.now) (map plain_token word.now)
-        places.now room) }
+    ensures fits { OnOk result (FitsWeights (dtd_of owner.now.layout.now.grammar.now)
+        (length word.now)) }
+    ensures refused { IfErr result (StopsWord (dtd_of owner.now.layout.now.grammar.now)
+        (map plain_token word.now) places.now room) }
 {
-    match weights(alloc, grammar, word) {
-        Ok(spans) => entries_of(alloc, grammar, &spans, word.len() as u32, room),
+    match weights_by(alloc, owner.layout, word) {
+        Ok(spans) => entries_of(alloc, owner.layout.grammar, &spans, word.len() as u32, room),
         Err(SpanError::TooWide) => Err(NeedError::TooWide(Path::new(alloc, places)?)),
         Err(SpanError::NoMemory) => Err(NeedError::NoMemory),
     }
@@ -60,44 +59,42 @@ fn word_entries(
 /// The same of the live word of these kids.
 fn kids_entries(
     alloc: Global,
-    grammar: &Grammar,
-    of: Of,
+    owner: &ListOwner<'_>,
     kids: &[Node],
     places: &[u32],
     room: u32,
 ) -> Result<Vec<Entry>, NeedError>
-    requires { HasSite (dtd_of grammar.now) (plain_of of) }
-    ensures entries { IfOk result (λ entries. AreListEntries (dtd_of grammar.now) (forest kids.now)
-        entries.items) }
+    ensures entries { IfOk result (λ entries. AreListEntries
+        (dtd_of owner.now.layout.now.grammar.now) (forest kids.now) entries.items) }
     ensures few { IfOk result (λ entries. length entries.items ≤ room) }
-    ensures fits { OnOk result (FitsWeights (dtd_of grammar.now)
-        (length (word_of (dtd_of grammar.now) (forest kids.now)))) }
-    ensures refused { IfErr result (StopsKids (dtd_of grammar.now) (forest kids.now)
-        places.now room) }
+    ensures fits { OnOk result (FitsWeights (dtd_of owner.now.layout.now.grammar.now)
+        (length (word_of (dtd_of owner.now.layout.now.grammar.now) (forest kids.now)))) }
+    ensures refused { IfErr result (StopsKids (dtd_of owner.now.layout.now.grammar.now)
+        (forest kids.now) places.now room) }
 {
-    let live = live_word(alloc, grammar, kids)?;
-    word_entries(alloc, grammar, of, live.as_slice(), places, room)
+    let live = live_word(alloc, owner.layout.grammar, kids)?;
+    word_entries(alloc, owner, live.as_slice(), places, room)
 }
 
 /// Adds the table of the list of these kids where it is Possible.
 fn table_list(
     alloc: Global,
-    grammar: &Grammar,
+    layout: &Layout<'_>,
     owner: Option<Of>,
     kids: &[Node],
     verdicts: &Verdicts,
     made: &mut Made,
 ) -> Result<(), NeedError>
-    requires { IfSome owner (λ of. HasSite (dtd_of grammar.now) (plain_of of)) }
+    requires { IfSome owner (λ of. HasSite (dtd_of layout.now.grammar.now) (plain_of of)) }
     ensures tabled { OnOk result ((root : List ℕ) (list : Listed Mark) →
         list.kids ≡ forest kids.now →
-        list.path ≡ made.old.load.places.items → IsOwner (dtd_of grammar.now) root list owner →
-        MakesTables (dtd_of grammar.now) root (list ∷ []) verdicts.now.verdicts (made_of made.old)
-        (made_of made.new)) }
+        list.path ≡ made.old.load.places.items → IsOwner (dtd_of layout.now.grammar.now) root list
+        owner → MakesTables (dtd_of layout.now.grammar.now) root (list ∷ []) verdicts.now.verdicts
+        (made_of made.old) (made_of made.new)) }
     ensures refused { IfErr result (λ e. (root : List ℕ) (list : Listed Mark) →
         list.kids ≡ forest kids.now →
-        list.path ≡ made.old.load.places.items → IsOwner (dtd_of grammar.now) root list owner →
-        StopsTables (dtd_of grammar.now) root (list ∷ [])
+        list.path ≡ made.old.load.places.items → IsOwner (dtd_of layout.now.grammar.now) root list
+        owner → StopsTables (dtd_of layout.now.grammar.now) root (list ∷ [])
         verdicts.now.verdicts (made_of made.old) e) }
     ensures places { made.new.load.places ≡ made.old.load.places }
 {
@@ -107,7 +104,8 @@ fn table_list(
     let Some(of) = owner else {
         return Ok(());
     };
-    let entries = kids_entries(alloc, grammar, of, kids, &made.load.places, made.room)?;
+    let owner = ListOwner { layout, of };
+    let entries = kids_entries(alloc, &owner, kids, &made.load.places, made.room)?;
     made.add(alloc, entries)?;
     Ok(())
 }
@@ -116,26 +114,26 @@ fn table_list(
 #[cycle(table)]
 fn table_node(
     alloc: Global,
-    grammar: &Grammar,
+    layout: &Layout<'_>,
     node: &Node,
     verdicts: &Verdicts,
     made: &mut Made,
 ) -> Result<(), NeedError>
     requires { nodes_in (plain node.now) ≤ MAX_NODES }
-    ensures tabled { OnOk result ((root : List ℕ) → MakesTables (dtd_of grammar.now) root
+    ensures tabled { OnOk result ((root : List ℕ) → MakesTables (dtd_of layout.now.grammar.now) root
         (lists_at made.old.load.places.items (plain node.now))
         verdicts.now.verdicts
         (made_of made.old) (made_of made.new)) }
-    ensures refused { IfErr result (λ e. (root : List ℕ) → StopsTables (dtd_of grammar.now) root
-        (lists_at made.old.load.places.items (plain node.now))
+    ensures refused { IfErr result (λ e. (root : List ℕ) → StopsTables
+        (dtd_of layout.now.grammar.now) root (lists_at made.old.load.places.items (plain node.now))
         verdicts.now.verdicts (made_of made.old) e) }
     ensures places { OnOk result (made.new.load.places.items ≡ made.old.load.places.items) }
 {
     match node {
         Node::Elem { name, kids, .. } => {
-            let owner = element_owner(grammar.dtd(), name.as_slice());
-            table_list(alloc, grammar, owner, kids, verdicts, made)?;
-            table_kids(alloc, grammar, kids, verdicts, made)
+            let owner = element_owner(layout.grammar.dtd(), name.as_slice());
+            table_list(alloc, layout, owner, kids, verdicts, made)?;
+            table_kids(alloc, layout, kids, verdicts, made)
         }
         Node::Text(_) => Ok(()),
         Node::Cdata(_) => Ok(()),
@@ -147,24 +145,25 @@ fn table_node(
 #[cycle(table)]
 fn table_kids(
     alloc: Global,
-    grammar: &Grammar,
+    layout: &Layout<'_>,
     kids: &[Node],
     verdicts: &Verdicts,
     made: &mut Made,
 ) -> Result<(), NeedError>
     requires { nodes_in_all (forest kids.now) ≤ MAX_NODES }
-    ensures tabled { OnOk result ((root : List ℕ) → MakesTables (dtd_of grammar.now) root
+    ensures tabled { OnOk result ((root : List ℕ) → MakesTables (dtd_of layout.now.grammar.now) root
         (lists_from made.old.load.places.items 0 (forest kids.now))
         verdicts.now.verdicts
         (made_of made.old) (made_of made.new)) }
-    ensures refused { IfErr result (λ e. (root : List ℕ) → StopsTables (dtd_of grammar.now) root
+    ensures refused { IfErr result (λ e. (root : List ℕ) → StopsTables
+        (dtd_of layout.now.grammar.now) root
         (lists_from made.old.load.places.items 0 (forest kids.now))
         verdicts.now.verdicts (made_of made.old) e) }
     ensures places { OnOk result (made.new.load.places.items ≡ made.old.load.places.items) }
 {
     for (i, kid) in kids.iter().enumerate() {
         made.load.enter(i as u32)?;
-        table_node(alloc, grammar, kid, verdicts, made)?;
+        table_node(alloc, layout, kid, verdicts, made)?;
         made.load.places.pop();
     }
     Ok(())
@@ -173,22 +172,22 @@ fn table_kids(
 /// Adds the tables of the Possible lists of a document to nothing.
 pub fn table_doc(
     alloc: Global,
-    grammar: &Grammar,
+    layout: &Layout<'_>,
     root: &[u8],
     doc: &Doc,
     verdicts: &Verdicts,
     made: &mut Made,
 ) -> Result<(), NeedError>
     requires { made.old.load.places.items ≡ [] }
-    ensures tabled { OnOk result (MakesTables (dtd_of grammar.now) root.now
+    ensures tabled { OnOk result (MakesTables (dtd_of layout.now.grammar.now) root.now
         (lists_of (plain_doc doc.now)) verdicts.now.verdicts
         (made_of made.old) (made_of made.new)) }
-    ensures refused { IfErr result (StopsTables (dtd_of grammar.now) root.now
+    ensures refused { IfErr result (StopsTables (dtd_of layout.now.grammar.now) root.now
         (lists_of (plain_doc doc.now)) verdicts.now.verdicts (made_of made.old)) }
 {
-    let owner = root_owner(grammar.dtd(), root);
+    let owner = root_owner(layout.grammar.dtd(), root);
     let kids = std::slice::from_ref(&doc.root);
-    table_list(alloc, grammar, owner, kids, verdicts, made)?;
+    table_list(alloc, layout, owner, kids, verdicts, made)?;
     made.load.enter(0)?;
-    table_node(alloc, grammar, &doc.root, verdicts, made)
+    table_node(alloc, layout, &doc.root, verdicts, made)
 }

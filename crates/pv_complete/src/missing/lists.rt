@@ -4,9 +4,7 @@ ghost use Rattle.std.specs.Prelude.{◌≡◌, ◌≤◌, ◌<◌, ◌^◌, IfEr
 ghost use Rattle.pv_model.specs.Plain.{PlainToken};
 ghost use Rattle.pv_model.specs.PlainForms.{plain_token};
 ghost use Rattle.pv_rules.specs.Derivations.{IsWeight, heaviest};
-ghost use Rattle.pv_rules.specs.PlainForms.{plain_site};
 ghost use Rattle.pv_rules.specs.Rules.{Rule};
-ghost use Rattle.pv_rules.specs.Sites.{HasSite};
 ghost use Rattle.pv_productive.specs.PlainForms.{dtd_of};
 ghost use Rattle.pv_tree.specs.PlainForms.{forest};
 ghost use Rattle.pv_tree.specs.Words.{word_of};
@@ -16,51 +14,42 @@ ghost use Rattle.pv_missing.specs.Weighing.{whole};
 ghost use Rattle.pv_missing.specs.Widths.{FitsWeights};
 ghost use Rattle.pv_span.specs.declared.errors.SpanError.TheVariants.{TooWide as too_wide};
 
-use pv_missing::{Of, live_word};
+use pv_missing::live_word;
 use pv_model::Token;
-use pv_productive::Grammar;
-use pv_rules::Site;
-use pv_span::{SpanError, weights};
+use pv_span::{ListOwner, SpanError, weights_by};
 use pv_tree::Node;
 use std::alloc::Global;
 
-/// The site of the owner of a list.
-pub fn site_of(of: Of) -> Site
-    ensures { plain_site result ≡ plain_of of }
-{
-    match of {
-        Of::Root(id) => Site::Name(id),
-        Of::Elem(id) => Site::Content(id),
-    }
-}
-
 /// The weight of a whole word of productive names at its owner's site.
-fn word_weight(alloc: Global, grammar: &Grammar, of: Of, word: &[Token]) -> Result<u32, SpanError>
-    requires site { HasSite (dtd_of grammar.now) (plain_of of) }
-    requires productive { AreProductiveTokens (dtd_of grammar.now) (map plain_token word.now) }
-    ensures weight { IfOk result (IsWeight (Rule (dtd_of grammar.now) (map plain_token word.now))
-        (whole (plain_of of) (map plain_token word.now))) }
-    ensures fits { OnOk result (FitsWeights (dtd_of grammar.now) (length word.now)) }
+fn word_weight(alloc: Global, owner: &ListOwner<'_>, word: &[Token]) -> Result<u32, SpanError>
+    requires { AreProductiveTokens (dtd_of owner.now.layout.now.grammar.now)
+        (map plain_token word.now) }
+    ensures weight { IfOk result (IsWeight (Rule (dtd_of owner.now.layout.now.grammar.now)
+        (map plain_token word.now)) (whole (plain_of owner.now.of) (map plain_token word.now))) }
+    ensures fits { OnOk result (FitsWeights (dtd_of owner.now.layout.now.grammar.now)
+        (length word.now)) }
     ensures wide { IfErr result (λ e. e ≡ too_wide →
-        ¬ FitsWeights (dtd_of grammar.now) (length word.now)) }
+        ¬ FitsWeights (dtd_of owner.now.layout.now.grammar.now) (length word.now)) }
 {
-    match weights(alloc, grammar, word) {
-        Ok(spans) => Ok(spans.at(site_of(of), 0, word.len() as u32)),
+    match weights_by(alloc, owner.layout, word) {
+        Ok(spans) => Ok(spans.at(owner.site(), 0, word.len() as u32)),
         Err(error) => Err(error),
     }
 }
 
 /// The weight of the whole live word of these kids at their owner's site.
-pub fn weight_of(alloc: Global, grammar: &Grammar, of: Of, kids: &[Node]) -> Result<u32, SpanError>
-    requires { HasSite (dtd_of grammar.now) (plain_of of) }
+pub fn weight_of(alloc: Global, owner: &ListOwner<'_>, kids: &[Node]) -> Result<u32, SpanError>
     ensures weight { IfOk result (λ weight. (live : List PlainToken) ×
-        IsLiveWord (dtd_of grammar.now) (word_of (dtd_of grammar.now) (forest kids.now)) live ×
-        IsWeight (Rule (dtd_of grammar.now) live) (whole (plain_of of) live) weight) }
-    ensures fits { OnOk result (FitsWeights (dtd_of grammar.now)
-        (length (word_of (dtd_of grammar.now) (forest kids.now)))) }
-    ensures wide { IfErr result (λ e. e ≡ too_wide → ¬ FitsWeights (dtd_of grammar.now)
-        (length (word_of (dtd_of grammar.now) (forest kids.now)))) }
+        IsLiveWord (dtd_of owner.now.layout.now.grammar.now)
+        (word_of (dtd_of owner.now.layout.now.grammar.now) (forest kids.now)) live ×
+        IsWeight (Rule (dtd_of owner.now.layout.now.grammar.now) live)
+        (whole (plain_of owner.now.of) live) weight) }
+    ensures fits { OnOk result (FitsWeights (dtd_of owner.now.layout.now.grammar.now)
+        (length (word_of (dtd_of owner.now.layout.now.grammar.now) (forest kids.now)))) }
+    ensures wide { IfErr result (λ e. e ≡ too_wide →
+        ¬ FitsWeights (dtd_of owner.now.layout.now.grammar.now)
+        (length (word_of (dtd_of owner.now.layout.now.grammar.now) (forest kids.now)))) }
 {
-    let live = live_word(alloc, grammar, kids)?;
-    word_weight(alloc, grammar, of, live.as_slice())
+    let live = live_word(alloc, owner.layout.grammar, kids)?;
+    word_weight(alloc, owner, live.as_slice())
 }

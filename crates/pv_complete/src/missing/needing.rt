@@ -10,13 +10,14 @@ ghost use Rattle.pv_complete.specs.Needing.{AreLiveVerdicts, HasCause, Needs, We
 use crate::errors::NeedError;
 use crate::missing::load::Load;
 use crate::missing::weighing::weigh_doc;
+use crate::missing::widths::first_wide_list;
 use pv_dtd::laws::proper_dtd_law;
 use pv_fresh::{PossibleError, possible_verdicts};
 use pv_missing::Verdicts;
 use pv_missing::laws::proper::proper_doc_law;
 use pv_productive::Grammar;
 use pv_rules::HEAVIEST;
-use pv_span::SpanError;
+use pv_span::{Layout, SpanError, lay_out};
 use pv_steps::Steps;
 use pv_tables::laws::possible_weights_law;
 use pv_tree::{Doc, Mark, Path};
@@ -49,36 +50,65 @@ pub(crate) fn uncounted_verdicts<L: Ledger>(
 }
 
 /// The weights of the Possible lists of a document whose lists have these verdicts, none of them
-/// Impossible, added up and cut.
+/// Impossible, added up and cut. No table is made where a list is too wide for one.
 fn total_weight(
     alloc: Global,
-    grammar: &Grammar,
+    layout: &Layout<'_>,
     root: &[u8],
     doc: &Doc,
     verdicts: &Verdicts,
 ) -> Result<u32, NeedError>
-    ensures total { IfOk result (λ total. AreLiveVerdicts (dtd_of grammar.now) root.now
+    ensures total { IfOk result (λ total. AreLiveVerdicts (dtd_of layout.now.grammar.now) root.now
         (plain_doc doc.now) verdicts.now.verdicts →
-        WeighsIn (dtd_of grammar.now) root.now (plain_doc doc.now) total) }
-    ensures refused { IfErr result (λ error. AreLiveVerdicts (dtd_of grammar.now) root.now
-        (plain_doc doc.now) verdicts.now.verdicts →
-        HasCause (dtd_of grammar.now) root.now (plain_doc doc.now) error) }
+        WeighsIn (dtd_of layout.now.grammar.now) root.now (plain_doc doc.now) total) }
+    ensures refused { IfErr result (λ error. AreLiveVerdicts (dtd_of layout.now.grammar.now)
+        root.now (plain_doc doc.now) verdicts.now.verdicts →
+        HasCause (dtd_of layout.now.grammar.now) root.now (plain_doc doc.now) error) }
 {
     possible_weights_law::<Mark>();
-    proper_dtd_law(grammar.dtd());
+    proper_dtd_law(layout.grammar.dtd());
     proper_doc_law(doc);
+    if let Some(path) = first_wide_list(alloc, layout.grammar.dtd(), doc, verdicts)? {
+        return Err(NeedError::TooWide(path));
+    }
     let mut load = Load::new(alloc);
-    match weigh_doc(alloc, grammar, root, doc, verdicts, &mut load) {
+    match weigh_doc(alloc, layout, root, doc, verdicts, &mut load) {
         Ok(()) => Ok(load.total),
         Err(SpanError::TooWide) => Err(NeedError::TooWide(Path::new(alloc, &load.places)?)),
         Err(SpanError::NoMemory) => Err(NeedError::NoMemory),
     }
 }
 
+/// The least number of elements whose insertion makes a document valid, under a grammar that is
+/// laid out, by the verdicts of its lists.
+///
+/// A list that is Valid takes no table of weights. Tables are made one at a time, and let go.
+pub(crate) fn need_under(
+    alloc: Global,
+    layout: &Layout<'_>,
+    root: &[u8],
+    doc: &Doc,
+    verdicts: &Verdicts,
+) -> Result<u64, NeedError>
+    ensures needs { IfOk result (λ n. AreLiveVerdicts (dtd_of layout.now.grammar.now) root.now
+        (plain_doc doc.now) verdicts.now.verdicts →
+        Needs (dtd_of layout.now.grammar.now) root.now (plain_doc doc.now) n) }
+    ensures refused { IfErr result (λ error. AreLiveVerdicts (dtd_of layout.now.grammar.now)
+        root.now (plain_doc doc.now) verdicts.now.verdicts →
+        HasCause (dtd_of layout.now.grammar.now) root.now (plain_doc doc.now) error) }
+{
+    let total = total_weight(alloc, layout, root, doc, verdicts)?;
+    if total < HEAVIEST {
+        Ok(u64::from(total))
+    } else {
+        Err(NeedError::TooHeavy)
+    }
+}
+
 /// The least number of elements whose insertion makes a document valid, by the verdicts of its
 /// lists, none of which is Impossible or too wide for one. The document stays as it is.
 ///
-/// A list that is Valid takes no table of weights. Tables are made one at a time, and let go.
+/// The grammar is laid out once for all lists.
 pub fn need_by(
     alloc: Global,
     grammar: &Grammar,
@@ -93,29 +123,26 @@ pub fn need_by(
         (plain_doc doc.now) verdicts.now.verdicts →
         HasCause (dtd_of grammar.now) root.now (plain_doc doc.now) error) }
 {
-    let total = total_weight(alloc, grammar, root, doc, verdicts)?;
-    if total < HEAVIEST {
-        Ok(u64::from(total))
-    } else {
-        Err(NeedError::TooHeavy)
-    }
+    let layout = lay_out(alloc, grammar)?;
+    need_under(alloc, &layout, root, doc, verdicts)
 }
 
 /// The verdicts of the lists of a document that misses at most 1,000,000 elements.
 pub fn light_verdicts(
     alloc: Global,
-    grammar: &Grammar,
+    layout: &Layout<'_>,
     root: &[u8],
     doc: &Doc,
 ) -> Result<Verdicts, NeedError>
-    ensures verdicts { IfOk result (λ verdicts. AreVerdicts (dtd_of grammar.now) root.now
+    ensures verdicts { IfOk result (λ verdicts. AreVerdicts (dtd_of layout.now.grammar.now) root.now
         (lists_of (plain_doc doc.now)) verdicts.verdicts) }
-    ensures light { OnOk result ((n : ℕ) × Needs (dtd_of grammar.now)
+    ensures light { OnOk result ((n : ℕ) × Needs (dtd_of layout.now.grammar.now)
         root.now (plain_doc doc.now) n) }
-    ensures refused { IfErr result (HasCause (dtd_of grammar.now) root.now (plain_doc doc.now)) }
+    ensures refused { IfErr result (HasCause (dtd_of layout.now.grammar.now) root.now
+        (plain_doc doc.now)) }
 {
-    let verdicts = uncounted_verdicts::<Brand>(alloc, grammar, root, doc, Blank::new(1))?;
-    need_by(alloc, grammar, root, doc, &verdicts)?;
+    let verdicts = uncounted_verdicts::<Brand>(alloc, layout.grammar, root, doc, Blank::new(1))?;
+    need_under(alloc, layout, root, doc, &verdicts)?;
     Ok(verdicts)
 }
 

@@ -18,30 +18,29 @@ ghost use Rattle.pv_span.specs.declared.errors.SpanError.TheVariants.{TooWide as
 use crate::missing::lists::weight_of;
 use crate::missing::load::Load;
 use pv_missing::{Of, Verdicts, element_owner, root_owner};
-use pv_productive::Grammar;
-use pv_span::SpanError;
+use pv_span::{Layout, ListOwner, SpanError};
 use pv_tree::{Doc, Node};
 use std::alloc::Global;
 
 /// Adds the weight of the list of these kids where it is Possible.
 fn weigh_list(
     alloc: Global,
-    grammar: &Grammar,
+    layout: &Layout<'_>,
     owner: Option<Of>,
     kids: &[Node],
     verdicts: &Verdicts,
     load: &mut Load,
 ) -> Result<(), SpanError>
-    requires { IfSome owner (λ of. HasSite (dtd_of grammar.now) (plain_of of)) }
+    requires { IfSome owner (λ of. HasSite (dtd_of layout.now.grammar.now) (plain_of of)) }
     ensures weighed { OnOk result ((root : List ℕ) (list : Listed Mark) →
         list.kids ≡ forest kids.now →
-        IsOwner (dtd_of grammar.now) root list owner →
-        AddsUp (dtd_of grammar.now) root (list ∷ []) verdicts.now.verdicts (load_of load.old)
-        (load_of load.new)) }
+        IsOwner (dtd_of layout.now.grammar.now) root list owner →
+        AddsUp (dtd_of layout.now.grammar.now) root (list ∷ []) verdicts.now.verdicts
+        (load_of load.old) (load_of load.new)) }
     ensures wide { IfErr result (λ e. e ≡ too_wide → (root : List ℕ) (list : Listed Mark) →
-        list.kids ≡ forest kids.now → IsOwner (dtd_of grammar.now) root list owner →
-        StopsAt (dtd_of grammar.now) root (list ∷ []) verdicts.now.verdicts (load_of load.old)
-        list.path) }
+        list.kids ≡ forest kids.now → IsOwner (dtd_of layout.now.grammar.now) root list owner →
+        StopsAt (dtd_of layout.now.grammar.now) root (list ∷ []) verdicts.now.verdicts
+        (load_of load.old) list.path) }
     ensures places { load.new.places ≡ load.old.places }
 {
     if !load.takes_possible(verdicts) {
@@ -50,7 +49,7 @@ fn weigh_list(
     let Some(of) = owner else {
         return Ok(());
     };
-    match weight_of(alloc, grammar, of, kids) {
+    match weight_of(alloc, &ListOwner { layout, of }, kids) {
         Ok(weight) => {
             load.add(weight);
             Ok(())
@@ -64,17 +63,17 @@ fn weigh_list(
 #[cycle(weigh)]
 fn weigh_node(
     alloc: Global,
-    grammar: &Grammar,
+    layout: &Layout<'_>,
     node: &Node,
     verdicts: &Verdicts,
     load: &mut Load,
 ) -> Result<(), SpanError>
     requires { nodes_in (plain node.now) ≤ MAX_NODES }
-    ensures weighed { OnOk result ((root : List ℕ) → AddsUp (dtd_of grammar.now) root
+    ensures weighed { OnOk result ((root : List ℕ) → AddsUp (dtd_of layout.now.grammar.now) root
         (lists_at load.old.places.items (plain node.now)) verdicts.now.verdicts (load_of load.old)
         (load_of load.new)) }
     ensures wide { IfErr result (λ e. e ≡ too_wide → (root : List ℕ) →
-        StopsAt (dtd_of grammar.now) root
+        StopsAt (dtd_of layout.now.grammar.now) root
         (lists_at load.old.places.items (plain node.now)) verdicts.now.verdicts (load_of load.old)
         load.new.places.items) }
     ensures places { OnOk result (load.new.places.items ≡ load.old.places.items) }
@@ -82,34 +81,34 @@ fn weigh_node(
     let Node::Elem { name, kids, .. } = node else {
         return Ok(());
     };
-    let owner = element_owner(grammar.dtd(), name.as_slice());
-    weigh_list(alloc, grammar, owner, kids, verdicts, load)?;
-    weigh_kids(alloc, grammar, kids, verdicts, load)
+    let owner = element_owner(layout.grammar.dtd(), name.as_slice());
+    weigh_list(alloc, layout, owner, kids, verdicts, load)?;
+    weigh_kids(alloc, layout, kids, verdicts, load)
 }
 
 /// The same of nodes side by side, at the places of their list.
 #[cycle(weigh)]
 fn weigh_kids(
     alloc: Global,
-    grammar: &Grammar,
+    layout: &Layout<'_>,
     kids: &[Node],
     verdicts: &Verdicts,
     load: &mut Load,
 ) -> Result<(), SpanError>
     requires { nodes_in_all (forest kids.now) ≤ MAX_NODES }
-    ensures weighed { OnOk result ((root : List ℕ) → AddsUp (dtd_of grammar.now) root
+    ensures weighed { OnOk result ((root : List ℕ) → AddsUp (dtd_of layout.now.grammar.now) root
         (lists_from load.old.places.items 0 (forest kids.now))
         verdicts.now.verdicts
         (load_of load.old) (load_of load.new)) }
     ensures wide { IfErr result (λ e. e ≡ too_wide → (root : List ℕ) →
-        StopsAt (dtd_of grammar.now) root
+        StopsAt (dtd_of layout.now.grammar.now) root
         (lists_from load.old.places.items 0 (forest kids.now))
         verdicts.now.verdicts (load_of load.old) load.new.places.items) }
     ensures places { OnOk result (load.new.places.items ≡ load.old.places.items) }
 {
     for (i, kid) in kids.iter().enumerate() {
         load.enter(i as u32)?;
-        weigh_node(alloc, grammar, kid, verdicts, load)?;
+        weigh_node(alloc, layout, kid, verdicts, load)?;
         load.places.pop();
     }
     Ok(())
@@ -119,29 +118,29 @@ fn weigh_kids(
 /// places are those of the first such list.
 pub fn weigh_doc(
     alloc: Global,
-    grammar: &Grammar,
+    layout: &Layout<'_>,
     root: &[u8],
     doc: &Doc,
     verdicts: &Verdicts,
     load: &mut Load,
 ) -> Result<(), SpanError>
     requires { load.old.places.items ≡ [] }
-    ensures weighed { OnOk result (AddsUp (dtd_of grammar.now) root.now
+    ensures weighed { OnOk result (AddsUp (dtd_of layout.now.grammar.now) root.now
         (lists_of (plain_doc doc.now)) verdicts.now.verdicts
         (load_of load.old) (load_of load.new)) }
-    ensures wide { IfErr result (λ e. e ≡ too_wide → StopsAt (dtd_of grammar.now) root.now
-        (lists_of (plain_doc doc.now)) verdicts.now.verdicts (load_of load.old)
+    ensures wide { IfErr result (λ e. e ≡ too_wide → StopsAt (dtd_of layout.now.grammar.now)
+        root.now (lists_of (plain_doc doc.now)) verdicts.now.verdicts (load_of load.old)
         load.new.places.items) }
 {
-    let owner = root_owner(grammar.dtd(), root);
+    let owner = root_owner(layout.grammar.dtd(), root);
     weigh_list(
         alloc,
-        grammar,
+        layout,
         owner,
         std::slice::from_ref(&doc.root),
         verdicts,
         load,
     )?;
     load.enter(0)?;
-    weigh_node(alloc, grammar, &doc.root, verdicts, load)
+    weigh_node(alloc, layout, &doc.root, verdicts, load)
 }

@@ -14,7 +14,7 @@ use pv_span::Spans;
 pub struct WordWeights<'a> {
     pub grammar: &'a Grammar,
     pub word: &'a [Token],
-    pub spans: &'a Spans,
+    pub spans: &'a Spans<'a>,
     pub ghost weights: { ∥ AreWeights (dtd_of grammar.now) (map plain_token word.now)
         spans.now ∥₁ },
 }

@@ -1,12 +1,11 @@
 //! The pieces of each list, in document order.
 
-ghost use Rattle.std.specs.Prelude.{◌≡◌, ◌<◌, ◌∷◌, List, IfOk, IfSome, OnOk, ℕ, drop, length, map};
+ghost use Rattle.std.specs.Prelude.{◌≡◌, ◌<◌, ◌∷◌, List, IfOk, OnOk, ℕ, drop, length, map};
 ghost use Rattle.pv_model.specs.Plain.{PlainToken};
 ghost use Rattle.pv_model.specs.PlainForms.{plain_token};
 ghost use Rattle.pv_productive.specs.PlainForms.{dtd_of};
 ghost use Rattle.pv_rules.specs.Derivations.{IsWeight, heaviest};
 ghost use Rattle.pv_rules.specs.Rules.{Rule};
-ghost use Rattle.pv_rules.specs.Sites.{HasSite};
 ghost use Rattle.pv_tree.specs.Lists.{Listed};
 ghost use Rattle.pv_tree.specs.PlainForms.{forest};
 ghost use Rattle.pv_tree.specs.Words.{word_of};
@@ -28,8 +27,7 @@ use crate::writing::text::Writing;
 use pv_chars::NoMemory;
 use pv_missing::{Of, Verdicts, live_word};
 use pv_model::Token;
-use pv_productive::Grammar;
-use pv_span::SpanError;
+use pv_span::{Layout, ListOwner, SpanError};
 use pv_tree::Node;
 use std::alloc::Global;
 
@@ -47,23 +45,22 @@ fn kept_pieces(alloc: Global, count: usize) -> Result<Vec<Piece>, NoMemory>
 // The pieces of a least completion of a word.
 fn least_pieces(
     alloc: Global,
-    grammar: &Grammar,
-    of: Of,
+    owner: &ListOwner<'_>,
     word: &[Token],
 ) -> Result<Vec<Piece>, NoMemory>
-    requires site { HasSite (dtd_of grammar.now) (plain_of of) }
-    requires productive { AreProductiveTokens (dtd_of grammar.now) (map plain_token word.now) }
-    requires fits { FitsWeights (dtd_of grammar.now) (length word.now) }
+    requires productive { AreProductiveTokens (dtd_of owner.now.layout.now.grammar.now)
+        (map plain_token word.now) }
+    requires fits { FitsWeights (dtd_of owner.now.layout.now.grammar.now) (length word.now) }
     requires light { (k : ℕ) →
-        IsWeight (Rule (dtd_of grammar.now) (map plain_token word.now))
-        (whole (plain_of of) (map plain_token word.now)) k → k < heaviest }
+        IsWeight (Rule (dtd_of owner.now.layout.now.grammar.now) (map plain_token word.now))
+        (whole (plain_of owner.now.of) (map plain_token word.now)) k → k < heaviest }
     ensures { IfOk result (λ pieces. (n : ℕ) ×
-        IsWeight (Rule (dtd_of grammar.now) (map plain_token word.now))
-        (whole (plain_of of) (map plain_token word.now)) n ×
-        WritesAt (dtd_of grammar.now) (plain_of of) n (map plain_token word.now)
-        (plain_pieces pieces.items)) }
+        IsWeight (Rule (dtd_of owner.now.layout.now.grammar.now) (map plain_token word.now))
+        (whole (plain_of owner.now.of) (map plain_token word.now)) n ×
+        WritesAt (dtd_of owner.now.layout.now.grammar.now) (plain_of owner.now.of) n
+        (map plain_token word.now) (plain_pieces pieces.items)) }
 {
-    match list_pieces(alloc, grammar, of, word) {
+    match list_pieces(alloc, owner, word) {
         Ok(Some(pieces)) => Ok(pieces),
         Ok(None) => unreachable!(),
         Err(SpanError::TooWide) => unreachable!(),
@@ -75,25 +72,24 @@ fn least_pieces(
 /// and a kept one for each token where it is Valid.
 pub fn take_pieces(
     alloc: Global,
-    grammar: &Grammar,
+    layout: &Layout<'_>,
     owner: Option<Of>,
     kids: &[Node],
     verdicts: &Verdicts,
     out: &mut Writing,
 ) -> Result<Vec<Piece>, NoMemory>
-    requires site { IfSome owner (λ of. HasSite (dtd_of grammar.now) (plain_of of)) }
     requires possible { AreNotImpossible verdicts.now.verdicts }
-    requires next { ∥ HasNextList (dtd_of grammar.now) owner (forest kids.now)
+    requires next { ∥ HasNextList (dtd_of layout.now.grammar.now) owner (forest kids.now)
         verdicts.now.verdicts out.old.used ∥₁ }
     ensures pieces { IfOk result (λ pieces. (root : List ℕ) (list : Listed Mark)
         (more : List (Listed Mark)) →
-        list.kids ≡ forest kids.now → IsOwner (dtd_of grammar.now) root list owner →
-        AreVerdicts (dtd_of grammar.now) root (list ∷ more)
+        list.kids ≡ forest kids.now → IsOwner (dtd_of layout.now.grammar.now) root list owner →
+        AreVerdicts (dtd_of layout.now.grammar.now) root (list ∷ more)
         (drop out.old.used verdicts.now.verdicts) →
-        AreListPieces (dtd_of grammar.now) root list more verdicts.now.verdicts out.old.used
-        out.new.used (plain_pieces pieces.items)) }
-    ensures suits { IfOk result (λ pieces. Suits (dtd_of grammar.now) (plain_pieces pieces.items)
-        (word_of (dtd_of grammar.now) (forest kids.now))) }
+        AreListPieces (dtd_of layout.now.grammar.now) root list more verdicts.now.verdicts
+        out.old.used out.new.used (plain_pieces pieces.items)) }
+    ensures suits { IfOk result (λ pieces. Suits (dtd_of layout.now.grammar.now)
+        (plain_pieces pieces.items) (word_of (dtd_of layout.now.grammar.now) (forest kids.now))) }
     ensures body { out.new.body ≡ out.old.body }
     ensures marks { out.new.marks ≡ out.old.marks }
     ensures begun { out.new.begun ≡ out.old.begun }
@@ -102,9 +98,9 @@ pub fn take_pieces(
     let Some(of) = owner else {
         unreachable!();
     };
-    let live = live_word(alloc, grammar, kids)?;
+    let live = live_word(alloc, layout.grammar, kids)?;
     if possible {
-        least_pieces(alloc, grammar, of, live.as_slice())
+        least_pieces(alloc, &ListOwner { layout, of }, live.as_slice())
     } else {
         kept_pieces(alloc, live.as_slice().len())
     }

@@ -10,7 +10,7 @@ ghost use Rattle.pv_complete.specs.Needing.{AreLiveVerdicts, HasCause, HasVerdic
 ghost use Rattle.pv_complete.specs.declared.errors.NeedError.TheVariants.{NoMemory as no_memory};
 
 use crate::errors::NeedError;
-use crate::missing::needing::{need_by, uncounted_verdicts};
+use crate::missing::needing::{need_under, uncounted_verdicts};
 use crate::writing::text::numbers_of;
 use crate::writing::walk::write_doc;
 use pv_chars::{Bytes, Numbers};
@@ -22,6 +22,7 @@ use pv_missing::laws::documents::{
 use pv_missing::laws::lists::weight_is_least_law;
 use pv_missing::laws::proper::proper_doc_law;
 use pv_productive::Grammar;
+use pv_span::lay_out;
 use pv_tables::laws::{live_weight_law, possible_weights_law};
 use pv_tree::{Doc, Mark};
 use pv_write::laws::every_view_is_written_law;
@@ -104,8 +105,9 @@ pub fn complete_by(
     locality_law::<Mark>();
     proper_dtd_law(grammar.dtd());
     proper_doc_law(doc);
-    let count = need_by(alloc, grammar, root, doc, verdicts)?;
-    let text = write_doc(alloc, grammar, root, doc, verdicts)?;
+    let layout = lay_out(alloc, grammar)?;
+    let count = need_under(alloc, &layout, root, doc, verdicts)?;
+    let text = write_doc(alloc, &layout, root, doc, verdicts)?;
     let marks = numbers_of(alloc, text.marks.as_slice())?;
     Ok(Completion {
         count,

@@ -20,7 +20,7 @@ use crate::writing::tags::{gap_of, has_token, is_bare, write_tags};
 use crate::writing::text::Writing;
 use pv_chars::NoMemory;
 use pv_missing::{Verdicts, element_owner, root_owner};
-use pv_productive::Grammar;
+use pv_span::Layout;
 use pv_tree::{Doc, Node};
 use std::alloc::Global;
 
@@ -28,18 +28,18 @@ use std::alloc::Global;
 #[cycle(merge)]
 fn write_node(
     alloc: Global,
-    grammar: &Grammar,
+    layout: &Layout<'_>,
     node: &Node,
     verdicts: &Verdicts,
     out: &mut Writing,
 ) -> Result<(), NoMemory>
     requires possible { AreNotImpossible verdicts.now.verdicts }
-    requires next { ∥ HasNextTree (dtd_of grammar.now) (plain node.now) verdicts.now.verdicts
-        out.old.used ∥₁ }
+    requires next { ∥ HasNextTree (dtd_of layout.now.grammar.now) (plain node.now)
+        verdicts.now.verdicts out.old.used ∥₁ }
     ensures { OnOk result ((root path : List ℕ) (more : List (Listed Mark)) →
-        AreVerdicts (dtd_of grammar.now) root (lists_at path (plain node.now) ++ more)
+        AreVerdicts (dtd_of layout.now.grammar.now) root (lists_at path (plain node.now) ++ more)
         (drop out.old.used verdicts.now.verdicts) →
-        WritesTree (dtd_of grammar.now) root path (plain node.now) more
+        WritesTree (dtd_of layout.now.grammar.now) root path (plain node.now) more
         verdicts.now.verdicts (writing_of out.old) (writing_of out.new)) }
 {
     match node {
@@ -50,13 +50,13 @@ fn write_node(
             kids,
             ..
         } => {
-            let owner = element_owner(grammar.dtd(), name.as_slice());
-            let pieces = take_pieces(alloc, grammar, owner, kids, verdicts, out)?;
+            let owner = element_owner(layout.grammar.dtd(), name.as_slice());
+            let pieces = take_pieces(alloc, layout, owner, kids, verdicts, out)?;
             if is_bare(end, kids, pieces.as_slice()) {
                 return out.start_old(name.as_slice(), attrs.as_slice(), b"/>");
             }
             out.start_old(name.as_slice(), attrs.as_slice(), b">")?;
-            write_list(alloc, grammar, pieces.as_slice(), kids, verdicts, out)?;
+            write_list(alloc, layout, pieces.as_slice(), kids, verdicts, out)?;
             out.end_old(name.as_slice(), gap_of(end))
         }
         Node::Text(units) => out.bytes(units.bytes()),
@@ -69,58 +69,58 @@ fn write_node(
 #[cycle(merge)]
 pub fn write_list(
     alloc: Global,
-    grammar: &Grammar,
+    layout: &Layout<'_>,
     pieces: &[Piece],
     kids: &[Node],
     verdicts: &Verdicts,
     out: &mut Writing,
 ) -> Result<(), NoMemory>
     requires possible { AreNotImpossible verdicts.now.verdicts }
-    requires next { ∥ HasNextKids (dtd_of grammar.now) (forest kids.now) verdicts.now.verdicts
-        out.old.used ∥₁ }
-    requires suits { Suits (dtd_of grammar.now) (plain_pieces pieces.now)
-        (word_of (dtd_of grammar.now) (forest kids.now)) }
+    requires next { ∥ HasNextKids (dtd_of layout.now.grammar.now) (forest kids.now)
+        verdicts.now.verdicts out.old.used ∥₁ }
+    requires suits { Suits (dtd_of layout.now.grammar.now) (plain_pieces pieces.now)
+        (word_of (dtd_of layout.now.grammar.now) (forest kids.now)) }
     ensures { OnOk result ((root path : List ℕ) (more : List (Listed Mark)) →
-        AreVerdicts (dtd_of grammar.now) root (lists_from path 0 (forest kids.now) ++ more)
-        (drop out.old.used verdicts.now.verdicts) →
-        WritesList (dtd_of grammar.now) root path (plain_pieces pieces.now) (forest kids.now) more
-        verdicts.now.verdicts
+        AreVerdicts (dtd_of layout.now.grammar.now) root
+        (lists_from path 0 (forest kids.now) ++ more) (drop out.old.used verdicts.now.verdicts) →
+        WritesList (dtd_of layout.now.grammar.now) root path (plain_pieces pieces.now)
+        (forest kids.now) more verdicts.now.verdicts
         (writing_of out.old) (writing_of out.new)) }
 {
     let mut next = 0;
     for kid in kids {
-        next = write_tags(grammar, pieces, next, out)?;
-        write_node(alloc, grammar, kid, verdicts, out)?;
+        next = write_tags(layout.grammar, pieces, next, out)?;
+        write_node(alloc, layout, kid, verdicts, out)?;
         if has_token(kid) {
             next += 1;
         }
     }
-    write_tags(grammar, pieces, next, out)?;
+    write_tags(layout.grammar, pieces, next, out)?;
     Ok(())
 }
 
 /// Writes a document with the missing elements.
 pub fn write_doc(
     alloc: Global,
-    grammar: &Grammar,
+    layout: &Layout<'_>,
     root: &[u8],
     doc: &Doc,
     verdicts: &Verdicts,
 ) -> Result<Writing, NoMemory>
     requires possible { AreNotImpossible verdicts.now.verdicts }
-    requires verdicts { ∥ AreLightVerdicts (dtd_of grammar.now) root.now (plain_doc doc.now)
-        verdicts.now.verdicts ∥₁ }
-    ensures { IfOk result (λ out. AreVerdicts (dtd_of grammar.now) root.now
+    requires verdicts { ∥ AreLightVerdicts (dtd_of layout.now.grammar.now) root.now
+        (plain_doc doc.now) verdicts.now.verdicts ∥₁ }
+    ensures { IfOk result (λ out. AreVerdicts (dtd_of layout.now.grammar.now) root.now
         (lists_of (plain_doc doc.now)) verdicts.now.verdicts →
-        WritesDoc (dtd_of grammar.now) root.now (plain_doc doc.now) verdicts.now.verdicts
+        WritesDoc (dtd_of layout.now.grammar.now) root.now (plain_doc doc.now) verdicts.now.verdicts
         out.marks.items out.body.items) }
 {
     let mut out = Writing::new(alloc);
-    let owner = root_owner(grammar.dtd(), root);
+    let owner = root_owner(layout.grammar.dtd(), root);
     let kids = std::slice::from_ref(&doc.root);
-    let pieces = take_pieces(alloc, grammar, owner, kids, verdicts, &mut out)?;
+    let pieces = take_pieces(alloc, layout, owner, kids, verdicts, &mut out)?;
     out.bytes(doc.before.as_slice())?;
-    write_list(alloc, grammar, pieces.as_slice(), kids, verdicts, &mut out)?;
+    write_list(alloc, layout, pieces.as_slice(), kids, verdicts, &mut out)?;
     out.bytes(doc.after.as_slice())?;
     Ok(out)
 }

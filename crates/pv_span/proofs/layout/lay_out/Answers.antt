@@ -16,18 +16,18 @@ lay_parts-requires c =
     rw c.in_ok-making.ensures.names
     (none_laid g (plain_sites c.in_ok-sites.sites) c.names-names.result c.parts-parts.result (plain_all c.in_ok-making.making.forms.items) n p c.in_ok-sites.ensures)
 
-pub returns-clause-fit : goal.returns-clause-fit
-returns-clause-fit c =
+pub invariant_of-result-clause-fit : goal.invariant_of-result-clause-fit
+invariant_of-result-clause-fit c =
     let g = dtd_of c.args.grammar.now in
     let laid = c.in_ok-lay_contents.ensures in
     let n : c.names-names.result ≡ length g.names = c.names-names.ensures ∙ ap (λ (d : PlainDtd). length d.names) c.dtd.ensures in
     let same : c.names-names.result ≡ c.lay_contents.new.making.names = n ∙ sym laid.named in
     let e = rw (same, c.deref.ensures.value) at c.in_ok-forms.ensures in
-    rw e (all_fit g (plain_sites c.lay_contents.new.sites) c.lay_contents.new.making.names (plain_all c.lay_contents.new.making.forms.items) laid
-    (let f = c.lay_contents.new.making.few in simp length-map f))
+    ∣ rw e (all_fit g (plain_sites c.lay_contents.new.sites) c.lay_contents.new.making.names (plain_all c.lay_contents.new.making.forms.items) laid
+    (let f = c.lay_contents.new.making.few in simp length-map f)) ∣₁
 
-pub returns-clause-few : goal.returns-clause-few
-returns-clause-few c =
+pub invariant_of-result-clause-few : goal.invariant_of-result-clause-few
+invariant_of-result-clause-few c =
     let g = dtd_of c.args.grammar.now in
     let laid = c.in_ok-lay_contents.ensures in
     let n : c.names-names.result ≡ length g.names = c.names-names.ensures ∙ ap (λ (d : PlainDtd). length d.names) c.dtd.ensures in

@@ -7,10 +7,10 @@ use Rattle.pv_span.proofs.Judging.{impossible_judged}
 use Rattle.pv_span.proofs.verdict.judge.Goals as goal
 
 pub derives-requires-clause-productive : goal.derives-requires-clause-productive
-derives-requires-clause-productive c =
+derives-requires-clause-productive c = rw c.in_ok-layout.ensures
     (live_follows (dtd_of c.args.grammar.now) (map plain_token c.args.word.now) (map plain_token c.args.live.now) c.requires.live).names
 
 pub returns-then-not-branch : goal.returns-then-not-branch
 returns-then-not-branch c =
     impossible_judged (dtd_of c.args.grammar.now) (map plain_token c.args.word.now) (map plain_token c.args.live.now) (plain_of c.args.of) c.args.is_bare c.requires.live
-    (λ p. true≢false (sym (c.in_ok-derives.ensures.1 p) ∙ c.if-not-branch.true))
+    (λ p. true≢false (sym ((rw c.in_ok-layout.ensures at c.in_ok-derives.ensures).1 p) ∙ c.if-not-branch.true))

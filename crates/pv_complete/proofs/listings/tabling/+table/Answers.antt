@@ -31,7 +31,7 @@ table_kids-table_node-requires t c = (
 
 pub table_kids-returns-in_err-table_node-clause-refused : goal.table_kids-returns-in_err-table_node-clause-refused
 table_kids-returns-in_err-table_node-clause-refused t c =
-    let d = dtd_of c.args.grammar.now in
+    let d = dtd_of c.args.layout.now.grammar.now in
     let vs = c.args.verdicts.now.verdicts in
     let kid = c.index-kids-i.result in
     let rest = forest (drop (c.loop-i.i + 1) c.args.kids.now) in
@@ -50,7 +50,7 @@ table_kids-returns-in_err-table_node-clause-refused t c =
 
 pub table_kids-loop-i-preserved : goal.table_kids-loop-i-preserved
 table_kids-loop-i-preserved t c =
-    let d = dtd_of c.args.grammar.now in
+    let d = dtd_of c.args.layout.now.grammar.now in
     let kid = c.index-kids-i.result in
     let rest = forest (drop (c.loop-i.i + 1) c.args.kids.now) in
     let path = c.loop-i.made.load.places.items in
@@ -71,7 +71,7 @@ table_kids-loop-i-preserved t c =
 
 pub table_kids-returns-clause-tabled : goal.table_kids-returns-clause-tabled
 table_kids-returns-clause-tabled t c =
-    let d = dtd_of c.args.grammar.now in
+    let d = dtd_of c.args.layout.now.grammar.now in
     let none : forest (drop c.loop-i.i c.args.kids.now) ≡ no_trees = forest-end c.args.kids.now c.loop-i.i (omega arith) in
     λ root.
     let rest : MakesTables d root (lists_from c.loop-i.made.load.places.items c.loop-i.i (forest (drop c.loop-i.i c.args.kids.now))) c.args.verdicts.now.verdicts (made_of c.loop-i.made) (made_of c.loop-i.made) =
@@ -80,19 +80,19 @@ table_kids-returns-clause-tabled t c =
 
 pub table_node-returns-in-Text-clause-tabled : goal.table_node-returns-in-Text-clause-tabled
 table_node-returns-in-Text-clause-tabled t c = λ root.
-    rw (c.in-Text.is, text_none c.in-Text.field-0 c.args.made.now.load.places.items) (makes_nothing (dtd_of c.args.grammar.now) root c.args.verdicts.now.verdicts (made_of c.args.made.now))
+    rw (c.in-Text.is, text_none c.in-Text.field-0 c.args.made.now.load.places.items) (makes_nothing (dtd_of c.args.layout.now.grammar.now) root c.args.verdicts.now.verdicts (made_of c.args.made.now))
 
 pub table_node-returns-in-Cdata-clause-tabled : goal.table_node-returns-in-Cdata-clause-tabled
 table_node-returns-in-Cdata-clause-tabled t c = λ root.
-    rw (c.in-Cdata.is, cdata_none c.in-Cdata.field-0 c.args.made.now.load.places.items) (makes_nothing (dtd_of c.args.grammar.now) root c.args.verdicts.now.verdicts (made_of c.args.made.now))
+    rw (c.in-Cdata.is, cdata_none c.in-Cdata.field-0 c.args.made.now.load.places.items) (makes_nothing (dtd_of c.args.layout.now.grammar.now) root c.args.verdicts.now.verdicts (made_of c.args.made.now))
 
 pub table_node-returns-in-Misc-clause-tabled : goal.table_node-returns-in-Misc-clause-tabled
 table_node-returns-in-Misc-clause-tabled t c = λ root.
-    rw (c.in-Misc.is, misc_none c.in-Misc.field-0 c.args.made.now.load.places.items) (makes_nothing (dtd_of c.args.grammar.now) root c.args.verdicts.now.verdicts (made_of c.args.made.now))
+    rw (c.in-Misc.is, misc_none c.in-Misc.field-0 c.args.made.now.load.places.items) (makes_nothing (dtd_of c.args.layout.now.grammar.now) root c.args.verdicts.now.verdicts (made_of c.args.made.now))
 
 pub table_node-returns-in_err-table_list-in-Elem-clause-refused : goal.table_node-returns-in_err-table_list-in-Elem-clause-refused
 table_node-returns-in_err-table_list-in-Elem-clause-refused t c =
-    let d = dtd_of c.args.grammar.now in
+    let d = dtd_of c.args.layout.now.grammar.now in
     let vs = c.args.verdicts.now.verdicts in
     let path = c.args.made.now.load.places.items in
     let kids = forest c.in-Elem.kids.items in
@@ -108,7 +108,7 @@ table_node-returns-in_err-table_list-in-Elem-clause-refused t c =
 
 pub table_node-returns-in_ok-table_list-in-Elem-clause-tabled : goal.table_node-returns-in_ok-table_list-in-Elem-clause-tabled
 table_node-returns-in_ok-table_list-in-Elem-clause-tabled t c =
-    let d = dtd_of c.args.grammar.now in
+    let d = dtd_of c.args.layout.now.grammar.now in
     let path = c.args.made.now.load.places.items in
     let kids = forest c.in-Elem.kids.items in
     let list : Listed Mark = record { path = path; owner = an_element c.in-Elem.name; kids = kids } in
@@ -121,7 +121,7 @@ table_node-returns-in_ok-table_list-in-Elem-clause-tabled t c =
 
 pub table_node-returns-in_ok-table_list-in-Elem-clause-refused : goal.table_node-returns-in_ok-table_list-in-Elem-clause-refused
 table_node-returns-in_ok-table_list-in-Elem-clause-refused t c =
-    let d = dtd_of c.args.grammar.now in
+    let d = dtd_of c.args.layout.now.grammar.now in
     let path = c.args.made.now.load.places.items in
     let kids = forest c.in-Elem.kids.items in
     let list : Listed Mark = record { path = path; owner = an_element c.in-Elem.name; kids = kids } in

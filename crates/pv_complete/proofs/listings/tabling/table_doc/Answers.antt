@@ -17,7 +17,7 @@ use Rattle.pv_complete.proofs.listings.tabling.table_doc.Goals as goal
 
 pub returns-in_err-table_list-clause-refused : goal.returns-in_err-table_list-clause-refused
 returns-in_err-table_list-clause-refused c =
-    let d = dtd_of c.args.grammar.now in
+    let d = dtd_of c.args.layout.now.grammar.now in
     let root = c.args.root.now in
     let vs = c.args.verdicts.now.verdicts in
     let list : Listed Mark = record { path = []; owner = the_document; kids = tree (plain c.args.doc.now.root) no_trees } in
@@ -31,7 +31,7 @@ returns-in_err-table_list-clause-refused c =
 
 pub returns-clause-tabled : goal.returns-clause-tabled
 returns-clause-tabled c =
-    let d = dtd_of c.args.grammar.now in
+    let d = dtd_of c.args.layout.now.grammar.now in
     let root = c.args.root.now in
     let vs = c.args.verdicts.now.verdicts in
     let list : Listed Mark = record { path = []; owner = the_document; kids = tree (plain c.args.doc.now.root) no_trees } in
@@ -44,7 +44,7 @@ returns-clause-tabled c =
 
 pub returns-clause-refused : goal.returns-clause-refused
 returns-clause-refused c =
-    let d = dtd_of c.args.grammar.now in
+    let d = dtd_of c.args.layout.now.grammar.now in
     let root = c.args.root.now in
     let vs = c.args.verdicts.now.verdicts in
     let list : Listed Mark = record { path = []; owner = the_document; kids = tree (plain c.args.doc.now.root) no_trees } in

@@ -10,15 +10,15 @@ use Rattle.pv_complete.proofs.listings.tabling.table_list.Goals as goal
 
 pub returns-then-not-takes_possible-clause-tabled : goal.returns-then-not-takes_possible-clause-tabled
 returns-then-not-takes_possible-clause-tabled c = λ root list kids path owner.
-    makes_other (dtd_of c.args.grammar.now) root c.args.verdicts.now.verdicts list (made_of c.args.made.now) _ c.if-not-takes_possible.ensures.taken refl refl
+    makes_other (dtd_of c.args.layout.now.grammar.now) root c.args.verdicts.now.verdicts list (made_of c.args.made.now) _ c.if-not-takes_possible.ensures.taken refl refl
 
 pub returns-in_default-clause-tabled : goal.returns-in_default-clause-tabled
 returns-in_default-clause-tabled c = λ root list kids path owner.
-    makes_no_owner (dtd_of c.args.grammar.now) root c.args.verdicts.now.verdicts list (made_of c.args.made.now) _ c.if-not-takes_possible.ensures.taken (rw c.in_default.is at owner)
+    makes_no_owner (dtd_of c.args.layout.now.grammar.now) root c.args.verdicts.now.verdicts list (made_of c.args.made.now) _ c.if-not-takes_possible.ensures.taken (rw c.in_default.is at owner)
 
 pub returns-in_err-entries-clause-refused : goal.returns-in_err-entries-clause-refused
 returns-in_err-entries-clause-refused c =
-    let d = dtd_of c.args.grammar.now in
+    let d = dtd_of c.args.layout.now.grammar.now in
     let p = err_from_is_err_and c.from_residual.result c.from_residual.ensures.1 in
     rw p.1 (λ root list kids path owner.
     let q = p.2 in
@@ -31,6 +31,6 @@ returns-in_err-entries-clause-refused c =
 pub returns-clause-tabled : goal.returns-clause-tabled
 returns-clause-tabled c = λ root list kids path owner.
     let at = ap (λ v. v.items) c.if-not-takes_possible.ensures.places in
-    makes_table (dtd_of c.args.grammar.now) root c.args.verdicts.now.verdicts list (made_of c.args.made.now) (made_of c.add.new.self) (forest c.args.kids.now) c.in_ok-entries.entries.items kids
+    makes_table (dtd_of c.args.layout.now.grammar.now) root c.args.verdicts.now.verdicts list (made_of c.args.made.now) (made_of c.add.new.self) (forest c.args.kids.now) c.in_ok-entries.entries.items kids
     (rw c.add.ensures.load c.if-not-takes_possible.ensures.taken) c.in_ok-entries.ensures.entries c.in_ok-entries.ensures.fits
     (rw path (rw at at c.in_ok-add.ensures.tables)) c.in_ok-add.ensures.room

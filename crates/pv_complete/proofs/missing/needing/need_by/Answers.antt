@@ -1,12 +1,7 @@
-use Rattle.pv_productive.specs.PlainForms.{dtd_of}
-use Rattle.pv_tree.specs.PlainDocs.{plain_doc}
-use Rattle.pv_complete.proofs.Adding.{heavy_of, needs_of}
 use Rattle.pv_complete.proofs.missing.needing.need_by.Goals as goal
 
-pub returns-then-total-lt-HEAVIEST-clause-needs : goal.returns-then-total-lt-HEAVIEST-clause-needs
-returns-then-total-lt-HEAVIEST-clause-needs c = λ live.
-    needs_of (dtd_of c.args.grammar.now) c.args.root.now (plain_doc c.args.doc.now) c.in_ok-total.total c.from.result (c.in_ok-total.ensures.total live) c.from.ensures c.if-total-lt-HEAVIEST.true
+pub returns-clause-needs : goal.returns-clause-needs
+returns-clause-needs c = rw c.in_ok-layout.ensures at c.need_under.ensures.needs
 
-pub returns-else-total-lt-HEAVIEST-clause-refused : goal.returns-else-total-lt-HEAVIEST-clause-refused
-returns-else-total-lt-HEAVIEST-clause-refused c = λ live.
-    heavy_of (dtd_of c.args.grammar.now) c.args.root.now (plain_doc c.args.doc.now) c.in_ok-total.total (c.in_ok-total.ensures.total live) c.if-total-lt-HEAVIEST.false
+pub returns-clause-refused : goal.returns-clause-refused
+returns-clause-refused c = rw c.in_ok-layout.ensures at c.need_under.ensures.refused

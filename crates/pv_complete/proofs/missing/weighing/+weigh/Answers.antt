@@ -30,7 +30,7 @@ weigh_kids-weigh_node-requires t c = (
 
 pub weigh_kids-returns-in_err-weigh_node-clause-wide : goal.weigh_kids-returns-in_err-weigh_node-clause-wide
 weigh_kids-returns-in_err-weigh_node-clause-wide t c =
-    let d = dtd_of c.args.grammar.now in
+    let d = dtd_of c.args.layout.now.grammar.now in
     let kid = c.index-kids-i.result in
     let rest = forest (drop (c.loop-i.i + 1) c.args.kids.now) in
     let path = c.loop-i.load.places.items in
@@ -47,7 +47,7 @@ weigh_kids-returns-in_err-weigh_node-clause-wide t c =
 
 pub weigh_kids-loop-i-preserved : goal.weigh_kids-loop-i-preserved
 weigh_kids-loop-i-preserved t c =
-    let d = dtd_of c.args.grammar.now in
+    let d = dtd_of c.args.layout.now.grammar.now in
     let kid = c.index-kids-i.result in
     let rest = forest (drop (c.loop-i.i + 1) c.args.kids.now) in
     let path = c.loop-i.load.places.items in
@@ -68,7 +68,7 @@ weigh_kids-loop-i-preserved t c =
 
 pub weigh_kids-returns-clause-weighed : goal.weigh_kids-returns-clause-weighed
 weigh_kids-returns-clause-weighed t c =
-    let d = dtd_of c.args.grammar.now in
+    let d = dtd_of c.args.layout.now.grammar.now in
     let none : forest (drop c.loop-i.i c.args.kids.now) ≡ no_trees = forest-end c.args.kids.now c.loop-i.i (omega arith) in
     λ root.
     let rest : AddsUp d root (lists_from c.loop-i.load.places.items c.loop-i.i (forest (drop c.loop-i.i c.args.kids.now))) c.args.verdicts.now.verdicts (load_of c.loop-i.load) (load_of c.loop-i.load) =
@@ -77,7 +77,7 @@ weigh_kids-returns-clause-weighed t c =
 
 pub weigh_node-returns-in_err-weigh_list-clause-wide : goal.weigh_node-returns-in_err-weigh_list-clause-wide
 weigh_node-returns-in_err-weigh_list-clause-wide t c =
-    let d = dtd_of c.args.grammar.now in
+    let d = dtd_of c.args.layout.now.grammar.now in
     let path = c.args.load.now.places.items in
     let kids = forest c.in-Elem.kids.items in
     let list : Listed Mark = record { path = path; owner = an_element c.in-Elem.name; kids = kids } in
@@ -91,7 +91,7 @@ weigh_node-returns-in_err-weigh_list-clause-wide t c =
 
 pub weigh_node-returns-clause-weighed : goal.weigh_node-returns-clause-weighed
 weigh_node-returns-clause-weighed t c =
-    let d = dtd_of c.args.grammar.now in
+    let d = dtd_of c.args.layout.now.grammar.now in
     let path = c.args.load.now.places.items in
     let kids = forest c.in-Elem.kids.items in
     let list : Listed Mark = record { path = path; owner = an_element c.in-Elem.name; kids = kids } in
@@ -104,7 +104,7 @@ weigh_node-returns-clause-weighed t c =
 
 pub weigh_node-returns-clause-wide : goal.weigh_node-returns-clause-wide
 weigh_node-returns-clause-wide t c =
-    let d = dtd_of c.args.grammar.now in
+    let d = dtd_of c.args.layout.now.grammar.now in
     let path = c.args.load.now.places.items in
     let kids = forest c.in-Elem.kids.items in
     let list : Listed Mark = record { path = path; owner = an_element c.in-Elem.name; kids = kids } in

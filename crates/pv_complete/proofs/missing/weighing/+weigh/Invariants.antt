@@ -12,10 +12,10 @@ abbrev pub invariant-weigh_kids-loop-i : goal.invariant-weigh_kids-loop-i
 invariant-weigh_kids-loop-i l = record {
   same_places : l.load.places.items ≡ l.fn.load.places.items;
   few_nodes : nodes_in_all (forest (drop l.i l.kids)) ≤ nodes_in_all (forest l.kids);
-  adds : (root : List ℕ) (last : PlainLoad) → AddsUp (dtd_of l.grammar) root (lists_from l.load.places.items l.i (forest (drop l.i l.kids))) l.verdicts.verdicts (load_of l.load) last →
-      AddsUp (dtd_of l.grammar) root (lists_from l.load.places.items 0 (forest l.kids)) l.verdicts.verdicts (load_of l.fn.load) last;
-  stops : (root path : List ℕ) → StopsAt (dtd_of l.grammar) root (lists_from l.load.places.items l.i (forest (drop l.i l.kids))) l.verdicts.verdicts (load_of l.load) path →
-      StopsAt (dtd_of l.grammar) root (lists_from l.load.places.items 0 (forest l.kids)) l.verdicts.verdicts (load_of l.fn.load) path;
+  adds : (root : List ℕ) (last : PlainLoad) → AddsUp (dtd_of l.layout.grammar.now) root (lists_from l.load.places.items l.i (forest (drop l.i l.kids))) l.verdicts.verdicts (load_of l.load) last →
+      AddsUp (dtd_of l.layout.grammar.now) root (lists_from l.load.places.items 0 (forest l.kids)) l.verdicts.verdicts (load_of l.fn.load) last;
+  stops : (root path : List ℕ) → StopsAt (dtd_of l.layout.grammar.now) root (lists_from l.load.places.items l.i (forest (drop l.i l.kids))) l.verdicts.verdicts (load_of l.load) path →
+      StopsAt (dtd_of l.layout.grammar.now) root (lists_from l.load.places.items 0 (forest l.kids)) l.verdicts.verdicts (load_of l.fn.load) path;
 }
 
 abbrev pub decreases-weigh_node : goal.decreases-weigh_node

@@ -17,7 +17,7 @@ use Rattle.pv_complete.proofs.missing.weighing.weigh_doc.Goals as goal
 
 pub returns-in_err-weigh_list-clause-wide : goal.returns-in_err-weigh_list-clause-wide
 returns-in_err-weigh_list-clause-wide c =
-    let d = dtd_of c.args.grammar.now in
+    let d = dtd_of c.args.layout.now.grammar.now in
     let root = c.args.root.now in
     let list : Listed Mark = record { path = []; owner = the_document; kids = tree (plain c.args.doc.now.root) no_trees } in
     let owner : site_of d root the_document ≡ option_map plain_of c.root_owner-owner.result = root_site _ d root _ c.dtd.ensures c.root_owner-owner.ensures.owner in
@@ -30,7 +30,7 @@ returns-in_err-weigh_list-clause-wide c =
 
 pub returns-clause-weighed : goal.returns-clause-weighed
 returns-clause-weighed c =
-    let d = dtd_of c.args.grammar.now in
+    let d = dtd_of c.args.layout.now.grammar.now in
     let root = c.args.root.now in
     let vs = c.args.verdicts.now.verdicts in
     let list : Listed Mark = record { path = []; owner = the_document; kids = tree (plain c.args.doc.now.root) no_trees } in
@@ -43,7 +43,7 @@ returns-clause-weighed c =
 
 pub returns-clause-wide : goal.returns-clause-wide
 returns-clause-wide c =
-    let d = dtd_of c.args.grammar.now in
+    let d = dtd_of c.args.layout.now.grammar.now in
     let root = c.args.root.now in
     let vs = c.args.verdicts.now.verdicts in
     let list : Listed Mark = record { path = []; owner = the_document; kids = tree (plain c.args.doc.now.root) no_trees } in

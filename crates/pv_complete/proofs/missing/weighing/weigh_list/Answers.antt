@@ -7,17 +7,17 @@ use Rattle.pv_complete.proofs.missing.weighing.weigh_list.Goals as goal
 
 pub returns-then-not-takes_possible-clause-weighed : goal.returns-then-not-takes_possible-clause-weighed
 returns-then-not-takes_possible-clause-weighed c = λ root list kids owner.
-    adds_other (dtd_of c.args.grammar.now) root c.args.verdicts.now.verdicts list (load_of c.args.load.now) (load_of c.takes_possible.new.self)
+    adds_other (dtd_of c.args.layout.now.grammar.now) root c.args.verdicts.now.verdicts list (load_of c.args.load.now) (load_of c.takes_possible.new.self)
     c.if-not-takes_possible.ensures.taken c.if-not-takes_possible.ensures.total c.args.load.now.bounded
 
 pub returns-in_default-clause-weighed : goal.returns-in_default-clause-weighed
 returns-in_default-clause-weighed c = λ root list kids owner.
-    adds_no_owner (dtd_of c.args.grammar.now) root c.args.verdicts.now.verdicts list (load_of c.args.load.now) (load_of c.takes_possible.new.self)
+    adds_no_owner (dtd_of c.args.layout.now.grammar.now) root c.args.verdicts.now.verdicts list (load_of c.args.load.now) (load_of c.takes_possible.new.self)
     c.if-not-takes_possible.ensures.taken (rw c.in_default.is at owner)
 
 pub returns-in-Ok-clause-weighed : goal.returns-in-Ok-clause-weighed
 returns-in-Ok-clause-weighed c = λ root list kids owner.
-    let d = dtd_of c.args.grammar.now in
+    let d = dtd_of c.args.layout.now.grammar.now in
     adds_weight d root c.args.verdicts.now.verdicts list c.in-Ok.weight (load_of c.args.load.now) (load_of c.add.new.self)
     (rw c.add.ensures.used c.if-not-takes_possible.ensures.taken)
     (weighs_by d root list (forest c.args.kids.now) (plain_of c.in-Some.of) c.in-Ok.weight kids (rw c.in-Some.is at owner) c.in-Ok.ensures.weight)
@@ -25,5 +25,5 @@ returns-in-Ok-clause-weighed c = λ root list kids owner.
 
 pub returns-in-Err-clause-wide : goal.returns-in-Err-clause-wide
 returns-in-Err-clause-wide c = λ e root list kids owner.
-    stops_here (dtd_of c.args.grammar.now) root c.args.verdicts.now.verdicts list _ (load_of c.args.load.now)
+    stops_here (dtd_of c.args.layout.now.grammar.now) root c.args.verdicts.now.verdicts list _ (load_of c.args.load.now)
     c.if-not-takes_possible.ensures.taken (rw kids (c.in-Err.ensures.wide e))

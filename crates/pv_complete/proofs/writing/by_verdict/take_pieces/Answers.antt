@@ -1,6 +1,7 @@
 use Rattle.std.proofs.Common.{None, Option, ap, length, refl, map, subst, sym, ◌∙◌, ◌≡◌}
+use Rattle.std.specs.Option.{option_map}
 use Rattle.std.proofs.Math.Bridge.{le_prop}
-use Rattle.std.proofs.Math.Logic.{∥∥₁_elim}
+use Rattle.std.proofs.Math.Logic.{∥∥₁_elim, ∥∥₁_map}
 use Rattle.std.proofs.lemmas.List.{length-map}
 use Rattle.std.proofs.lemmas.Result.{IfOk-weaker}
 use Rattle.pv_model.specs.PlainForms.{plain_token}
@@ -16,20 +17,29 @@ use Rattle.pv_missing.specs.Widths.{FitsWeights}
 use Rattle.pv_missing.specs.declared.owners.Of.{Of}
 use Rattle.pv_complete.specs.Written.{HasNextList, Suits, kept_for, kept_times}
 use Rattle.pv_complete.proofs.Taking.{kept_by_length, kept_pieces, possible_pieces, suits_at, suits_kept, suits_length}
+use Rattle.pv_complete.proofs.OwnerSites.{owner_site}
 use Rattle.pv_complete.proofs.LightLists.{has_owner, next_light}
 use Rattle.pv_complete.proofs.writing.by_verdict.take_pieces.Goals as goal
 
 pub unreachable-requires : goal.unreachable-requires
 unreachable-requires c =
-    let d = dtd_of c.args.grammar.now in
+    let d = dtd_of c.args.layout.now.grammar.now in
     let none : c.args.owner ≡ None = cc in
     ∥∥₁_elim c.requires.next (λ x. absurd x)
     (λ next. has_owner d c.args.verdicts.now.verdicts (forest c.args.kids.now) c.args.out.now.used
     (subst (λ (o : Option Of). HasNextList d o (forest c.args.kids.now) c.args.verdicts.now.verdicts c.args.out.now.used) none next) c.requires.possible)
 
+pub invariant_of-least_pieces : goal.invariant_of-least_pieces
+invariant_of-least_pieces c =
+    let d = dtd_of c.args.layout.now.grammar.now in
+    record {
+      has = ∥∥₁_map c.requires.next (λ next.
+          owner_site d next.root next.list.owner (plain_of c.in-Some.of) (next.is_owner ∙ ap (λ o. option_map plain_of o) c.in-Some.is));
+    }
+
 pub least_pieces-requires-clause-fits : goal.least_pieces-requires-clause-fits
 least_pieces-requires-clause-fits c =
-    let d = dtd_of c.args.grammar.now in
+    let d = dtd_of c.args.layout.now.grammar.now in
     let w = word_of d (forest c.args.kids.now) in
     let live = map plain_token c.in_ok-live.live in
     let n : length c.as_slice.result.now ≡ length live = rw c.as_slice.ensures (simp length-map) in
@@ -41,7 +51,7 @@ least_pieces-requires-clause-fits c =
 
 pub least_pieces-requires-clause-light : goal.least_pieces-requires-clause-light
 least_pieces-requires-clause-light c =
-    let d = dtd_of c.args.grammar.now in
+    let d = dtd_of c.args.layout.now.grammar.now in
     let live = map plain_token c.in_ok-live.live in
     rw c.as_slice.ensures
     (λ k w. ∥∥₁_elim c.requires.next le_prop
@@ -50,13 +60,13 @@ least_pieces-requires-clause-light c =
 
 pub least_pieces-requires-clause-productive : goal.least_pieces-requires-clause-productive
 least_pieces-requires-clause-productive c =
-    let d = dtd_of c.args.grammar.now in
+    let d = dtd_of c.args.layout.now.grammar.now in
     subst (λ v. AreProductiveTokens d (map plain_token v)) (sym c.as_slice.ensures)
     (live_follows d (word_of d (forest c.args.kids.now)) (map plain_token c.in_ok-live.live) c.in_ok-live.ensures).names
 
 pub returns-then-possible-clause-pieces : goal.returns-then-possible-clause-pieces
 returns-then-possible-clause-pieces c =
-    let d = dtd_of c.args.grammar.now in
+    let d = dtd_of c.args.layout.now.grammar.now in
     let live = map plain_token c.as_slice.result.now in
     let is : IsLiveWord d (word_of d (forest c.args.kids.now)) live = rw c.as_slice.ensures c.in_ok-live.ensures in
     IfOk-weaker c.least_pieces.result _ _
@@ -67,18 +77,18 @@ returns-then-possible-clause-pieces c =
 
 pub returns-then-possible-clause-suits : goal.returns-then-possible-clause-suits
 returns-then-possible-clause-suits c =
-    let d = dtd_of c.args.grammar.now in
+    let d = dtd_of c.args.layout.now.grammar.now in
     let w = word_of d (forest c.args.kids.now) in
     let live = map plain_token c.as_slice.result.now in
     let is : IsLiveWord d w live = rw c.as_slice.ensures c.in_ok-live.ensures in
     IfOk-weaker c.least_pieces.result _ _
     (λ pieces f. suits_length d (plain_pieces pieces.items) live w (sym (live_follows d w live is).same_length)
-    (suits_at d (proper c.args.grammar.now.layout.dtd) (plain_of c.in-Some.of) f.0 live (plain_pieces pieces.items) f.2))
+    (suits_at d (proper c.args.layout.now.grammar.now.layout.dtd) (plain_of c.in-Some.of) f.0 live (plain_pieces pieces.items) f.2))
     c.least_pieces.ensures
 
 pub returns-clause-pieces : goal.returns-clause-pieces
 returns-clause-pieces c =
-    let d = dtd_of c.args.grammar.now in
+    let d = dtd_of c.args.layout.now.grammar.now in
     let live = map plain_token c.as_slice-else-possible.result.now in
     let is : IsLiveWord d (word_of d (forest c.args.kids.now)) live = rw c.as_slice-else-possible.ensures c.in_ok-live.ensures in
     let n : length c.as_slice-else-possible.result.now ≡ length live = simp length-map in
@@ -90,7 +100,7 @@ returns-clause-pieces c =
 
 pub returns-clause-suits : goal.returns-clause-suits
 returns-clause-suits c =
-    let d = dtd_of c.args.grammar.now in
+    let d = dtd_of c.args.layout.now.grammar.now in
     let w = word_of d (forest c.args.kids.now) in
     let live = map plain_token c.as_slice-else-possible.result.now in
     let is : IsLiveWord d w live = rw c.as_slice-else-possible.ensures c.in_ok-live.ensures in

@@ -27,7 +27,7 @@ use Rattle.pv_complete.proofs.writing.walk.+merge.Goals.{write_list-then-has_tok
 
 pub write_node-take_pieces-requires-clause-next : goal.write_node-take_pieces-requires-clause-next
 write_node-take_pieces-requires-clause-next t c =
-    let d = dtd_of c.args.grammar.now in
+    let d = dtd_of c.args.layout.now.grammar.now in
     let x = c.in-Elem.name in
     let kids = forest c.in-Elem.kids.items in
     let whole = element x c.in-Elem.attrs (plain_end c.in-Elem.end) kids c.in-Elem.mark in
@@ -39,7 +39,7 @@ write_node-take_pieces-requires-clause-next t c =
 
 pub write_node-write_list-requires : goal.write_node-write_list-requires
 write_node-write_list-requires t c =
-    let d = dtd_of c.args.grammar.now in
+    let d = dtd_of c.args.layout.now.grammar.now in
     let x = c.in-Elem.name in
     let kids = forest c.in-Elem.kids.items in
     let whole = element x c.in-Elem.attrs (plain_end c.in-Elem.end) kids c.in-Elem.mark in
@@ -55,7 +55,7 @@ write_node-write_list-requires t c =
 
 pub write_list-write_node-requires : goal.write_list-write_node-requires
 write_list-write_node-requires t c =
-    let d = dtd_of c.args.grammar.now in
+    let d = dtd_of c.args.layout.now.grammar.now in
     let kid = c.kid-item.result in
     let i = c.loop-kid.kid-index in
     let rest = forest (drop (i + 1) c.args.kids.now) in
@@ -71,12 +71,12 @@ write_list-loop-kid-init t c = record {
   within = omega arith;
   few = omega arith;
   suits = c.requires.suits;
-  some = λ root path more are. some_none (dtd_of c.args.grammar.now) root path (plain_pieces c.args.pieces.now) (forest c.args.kids.now) more c.args.verdicts.now.verdicts (writing_of c.args.out.now) are;
+  some = λ root path more are. some_none (dtd_of c.args.layout.now.grammar.now) root path (plain_pieces c.args.pieces.now) (forest c.args.kids.now) more c.args.verdicts.now.verdicts (writing_of c.args.out.now) are;
 }
 
 pub write_list-loop-kid-preserved : goal.write_list-loop-kid-preserved
 write_list-loop-kid-preserved t c =
-    let d = dtd_of c.args.grammar.now in
+    let d = dtd_of c.args.layout.now.grammar.now in
     let kid = c.kid-item.result in
     let i = c.loop-kid.kid-index in
     let rest = forest (drop (i + 1) c.args.kids.now) in
@@ -102,7 +102,7 @@ write_list-loop-kid-preserved t c =
 
 pub write_list-returns : goal.write_list-returns
 write_list-returns t c = λ root path more are.
-    let d = dtd_of c.args.grammar.now in
+    let d = dtd_of c.args.layout.now.grammar.now in
     let none : forest (drop c.loop-kid.kid-index c.args.kids.now) ≡ no_trees = forest-end c.args.kids.now c.loop-kid.kid-index (omega arith) in
     some_all d root path (plain_pieces c.args.pieces.now) (forest c.args.kids.now) more c.args.verdicts.now.verdicts (writing_of c.args.out.now) c.loop-kid.kid-index
     (plain_pieces (drop c.loop-kid.next c.args.pieces.now)) (plain_pieces (drop c.in_ok-write_tags.field-0 c.args.pieces.now)) (forest (drop c.loop-kid.kid-index c.args.kids.now))
@@ -111,7 +111,7 @@ write_list-returns t c = λ root path more are.
 
 pub write_node-returns-in-Text : goal.write_node-returns-in-Text
 write_node-returns-in-Text t c =
-    let d = dtd_of c.args.grammar.now in
+    let d = dtd_of c.args.layout.now.grammar.now in
     let leaf = text_node c.in-Text.units in
     let is : plain c.args.node.now ≡ leaf = ap plain c.in-Text.is ∙ plain-Text c.in-Text.units in
     IfOk-weaker c.bytes-in-Text.result _ _
@@ -123,7 +123,7 @@ write_node-returns-in-Text t c =
 
 pub write_node-returns-in-Cdata : goal.write_node-returns-in-Cdata
 write_node-returns-in-Cdata t c =
-    let d = dtd_of c.args.grammar.now in
+    let d = dtd_of c.args.layout.now.grammar.now in
     let leaf = cdata_node c.in-Cdata.bytes in
     let is : plain c.args.node.now ≡ leaf = ap plain c.in-Cdata.is ∙ plain-Cdata c.in-Cdata.bytes in
     IfOk-weaker c.bytes-in-Cdata.result _ _
@@ -135,7 +135,7 @@ write_node-returns-in-Cdata t c =
 
 pub write_node-returns-in-Misc : goal.write_node-returns-in-Misc
 write_node-returns-in-Misc t c =
-    let d = dtd_of c.args.grammar.now in
+    let d = dtd_of c.args.layout.now.grammar.now in
     let leaf = misc_node c.in-Misc.bytes in
     let is : plain c.args.node.now ≡ leaf = ap plain c.in-Misc.is ∙ plain-Misc c.in-Misc.bytes in
     IfOk-weaker c.bytes-in-Misc.result _ _
@@ -147,7 +147,7 @@ write_node-returns-in-Misc t c =
 
 pub write_node-returns-then-is_bare : goal.write_node-returns-then-is_bare
 write_node-returns-then-is_bare t c =
-    let d = dtd_of c.args.grammar.now in
+    let d = dtd_of c.args.layout.now.grammar.now in
     let vs = c.args.verdicts.now.verdicts in
     let x = c.in-Elem.name in
     let kids = forest c.in-Elem.kids.items in
@@ -163,7 +163,7 @@ write_node-returns-then-is_bare t c =
     let left : AreVerdicts d root (list ∷ (lists_from path 0 kids ++ more)) (drop c.args.out.now.used vs) = subst (λ k. AreVerdicts d root (lists_at path k ++ more) (drop c.args.out.now.used vs)) is are in
     let p = c.in_ok-pieces-in-Elem.ensures.pieces root list (lists_from path 0 kids ++ more) (rw c.deref.ensures.value refl) owner left in
     subst (λ k. WritesTree d root path k more vs (writing_of c.args.out.now) (writing_of c.start_old.new.self)) (sym is)
-    (bare_written d (proper c.args.grammar.now.layout.dtd) (dtd_names c.args.grammar.now.layout.dtd) root path x c.in-Elem.attrs (plain_end c.in-Elem.end) kids c.in-Elem.mark more vs
+    (bare_written d (proper c.args.layout.now.grammar.now.layout.dtd) (dtd_names c.args.layout.now.grammar.now.layout.dtd) root path x c.in-Elem.attrs (plain_end c.in-Elem.end) kids c.in-Elem.mark more vs
     (writing_of c.args.out.now) (writing_of c.take_pieces.new.out) (writing_of c.start_old.new.self) (plain_pieces c.in_ok-pieces-in-Elem.pieces.items) p bare.0 no_kids no_pieces
     (rw c.take_pieces.ensures.body refl) (rw c.take_pieces.ensures.marks refl) c.take_pieces.ensures.begun
     (rw (c.as_slice-then-is_bare.ensures, c.as_slice-then-is_bare-2.ensures) at f) c.start_old.ensures.used))
@@ -171,7 +171,7 @@ write_node-returns-then-is_bare t c =
 
 pub write_node-returns-in_ok-write_list-in-Elem : goal.write_node-returns-in_ok-write_list-in-Elem
 write_node-returns-in_ok-write_list-in-Elem t c =
-    let d = dtd_of c.args.grammar.now in
+    let d = dtd_of c.args.layout.now.grammar.now in
     let vs = c.args.verdicts.now.verdicts in
     let x = c.in-Elem.name in
     let kids = forest c.in-Elem.kids.items in
@@ -186,7 +186,7 @@ write_node-returns-in_ok-write_list-in-Elem t c =
     let left : AreVerdicts d root (list ∷ (lists_from path 0 kids ++ more)) (drop c.args.out.now.used vs) = subst (λ k. AreVerdicts d root (lists_at path k ++ more) (drop c.args.out.now.used vs)) is are in
     let p = c.in_ok-pieces-in-Elem.ensures.pieces root list (lists_from path 0 kids ++ more) (rw c.deref.ensures.value refl) owner left in
     subst (λ k. WritesTree d root path k more vs (writing_of c.args.out.now) (writing_of c.end_old.new.self)) (sym is)
-    (element_written d (proper c.args.grammar.now.layout.dtd) (dtd_names c.args.grammar.now.layout.dtd) root path x c.in-Elem.attrs (plain_end c.in-Elem.end) kids c.in-Elem.mark more vs
+    (element_written d (proper c.args.layout.now.grammar.now.layout.dtd) (dtd_names c.args.layout.now.grammar.now.layout.dtd) root path x c.in-Elem.attrs (plain_end c.in-Elem.end) kids c.in-Elem.mark more vs
     (writing_of c.args.out.now) (writing_of c.take_pieces.new.out) (writing_of c.start_old-in-Elem.new.self) (writing_of c.write_list.new.out) (writing_of c.end_old.new.self) (plain_pieces c.in_ok-pieces-in-Elem.pieces.items) p
     (rw c.take_pieces.ensures.body refl) (rw c.take_pieces.ensures.marks refl) c.take_pieces.ensures.begun
     first c.start_old-in-Elem.ensures.used (all root path more (rw c.start_old-in-Elem.ensures.used p.passes.left))

@@ -22,7 +22,7 @@ use Rattle.pv_complete.proofs.writing.walk.write_doc.Goals as goal
 
 pub take_pieces-requires-clause-next : goal.take_pieces-requires-clause-next
 take_pieces-requires-clause-next c =
-    let d = dtd_of c.args.grammar.now in
+    let d = dtd_of c.args.layout.now.grammar.now in
     let root = c.args.root.now in
     let kids = tree (plain c.args.doc.now.root) no_trees in
     ∥∥₁_map c.requires.verdicts (λ h.
@@ -38,7 +38,7 @@ take_pieces-requires-clause-next c =
 
 pub write_list-requires-clause-next : goal.write_list-requires-clause-next
 write_list-requires-clause-next c =
-    let d = dtd_of c.args.grammar.now in
+    let d = dtd_of c.args.layout.now.grammar.now in
     let root = c.args.root.now in
     let vs = c.args.verdicts.now.verdicts in
     let kids = tree (plain c.args.doc.now.root) no_trees in
@@ -58,7 +58,7 @@ write_list-requires-clause-next c =
 
 pub returns : goal.returns
 returns c = λ are.
-    let d = dtd_of c.args.grammar.now in
+    let d = dtd_of c.args.layout.now.grammar.now in
     let root = c.args.root.now in
     let vs = c.args.verdicts.now.verdicts in
     let kids = tree (plain c.args.doc.now.root) no_trees in

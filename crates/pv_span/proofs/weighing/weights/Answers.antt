@@ -1,0 +1,10 @@
+use Rattle.std.proofs.Common.{map, refl}
+use Rattle.pv_model.specs.PlainForms.{plain_token}
+use Rattle.pv_span.specs.declared.sites.SiteColumns.TheVariants.{Own}
+use Rattle.pv_span.proofs.WordWeights.{chart_weighs}
+use Rattle.pv_span.proofs.weighing.weights.Goals as goal
+
+pub returns-clause-weights : goal.returns-clause-weights
+returns-clause-weights c =
+    rw c.in_ok-layout.ensures at (chart_weighs c.in_ok-layout.layout c.args.word.now c.in_ok-chart.chart (Own c.in_ok-layout.layout.sites) refl (rw c.in_ok-layout.ensures (c.is_narrow.ensures.0 c.if-not-is_narrow.false))
+    (rw c.deref.ensures.value at c.in_ok-chart.ensures))

@@ -1,0 +1,35 @@
+//! The owners of lists, under a grammar that is laid out.
+
+ghost use Rattle.pv_rules.specs.Sites.{HasSite};
+ghost use Rattle.pv_productive.specs.PlainForms.{dtd_of};
+ghost use Rattle.pv_missing.specs.PlainForms.{plain_of};
+
+use crate::layout::Layout;
+use pv_missing::Of;
+use pv_rules::Site;
+
+/// The owner of a list, whose name the grammar has.
+#[derive(Clone, Copy)]
+pub struct ListOwner<'a> {
+    /// The grammar, laid out.
+    pub layout: &'a Layout<'a>,
+    /// The owner.
+    pub of: Of,
+    pub ghost has: { ∥ HasSite (dtd_of layout.now.grammar.now) (plain_of of) ∥₁ },
+}
+
+impl ListOwner<'_> {
+    ghost use Rattle.std.specs.Prelude.{◌≡◌};
+    ghost use Rattle.pv_rules.specs.PlainForms.{plain_site};
+    ghost use Rattle.pv_missing.specs.PlainForms.{plain_of};
+
+    /// The site of what the owner's kids are to be.
+    pub fn site(&self) -> Site
+        ensures { plain_site result ≡ plain_of self.now.of }
+    {
+        match self.of {
+            Of::Root(id) => Site::Name(id),
+            Of::Elem(id) => Site::Content(id),
+        }
+    }
+}
