@@ -4,6 +4,7 @@ use Rattle.pv_dtd.specs.Plain.{PlainDtd}
 use Rattle.pv_productive.specs.PlainForms.{dtd_of}
 use Rattle.pv_reach.specs.Plans.{IsPlan}
 
+-- the DTD of a grammar whose rules are laid out
 abbrev pub planned_dtd : Inside → PlainDtd
 planned_dtd p = dtd_of p.grammar
 

@@ -3,13 +3,13 @@
 //!
 //! `specs/WellMarked.antt` says what the marks of a well marked document tell: of each list its
 //! verdict, and of each subtree how many of its lists are Possible and how many nodes it has.
-//! `Marked` holds one, and the number of its Impossible lists. An edit is accepted by `IsAccepted`
-//! (specs/Accepting.antt): the words of the lists that it changes are made beside the tree, and
-//! their verdicts found, in at most two steps; where none of them is too wide, and no more of them
-//! are Impossible than of the lists that they stand for (`bad_lost`, `bad_gained` in
-//! specs/BadLists.antt), the change is made and the marks are told again, at the changed lists and
-//! above them. The changed lists get the stamp of the move, and all others
-//! keep theirs (`IsEdited`, `IsReverted` in specs/Moves.antt).
+//! `Marked` holds one, the `PlannedGrammar` that it is judged by, and the number of its Impossible
+//! lists. An edit is accepted by `IsAccepted` (specs/Accepting.antt): the words of the lists that
+//! it changes are made beside the tree, and their verdicts found, in at most two steps; where none
+//! of them is too wide, and no more of them are Impossible than of the lists that they stand for
+//! (`bad_lost`, `bad_gained` in specs/BadLists.antt), the change is made and the marks are told
+//! again, at the changed lists and above them. The changed lists get the stamp of the move, and
+//! all others keep theirs (`IsEdited`, `IsReverted` in specs/Moves.antt).
 #![tactic(auto)]
 
 mod bad_lists;
@@ -30,3 +30,4 @@ mod well_marked;
 mod words;
 
 pub use marked::Marked;
+pub use planned::PlannedGrammar;

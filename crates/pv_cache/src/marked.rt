@@ -58,7 +58,8 @@ impl Model for Marked {
 }
 
 impl Marked {
-    /// Marks a document by the verdicts of its lists. It isn't copied, and all stamps are 0.
+    /// Marks a document by the verdicts of its lists. It isn't copied, and all stamps are 0. The call
+    /// lays out the rules of the grammar; who has them laid out calls `build_by`.
     pub fn build(
         alloc: Global,
         grammar: Grammar,
@@ -74,6 +75,23 @@ impl Marked {
             ≡ record { dtd = dtd_of grammar; root = root; doc = doc_as (λ _. 0) (plain_doc doc) }) }
     {
         let grammar = PlannedGrammar::of(alloc, grammar)?;
+        Ok(Marked::build_by(alloc, grammar, root, doc, verdicts))
+    }
+
+    /// The same by a grammar whose rules are laid out.
+    pub fn build_by(
+        alloc: Global,
+        grammar: PlannedGrammar,
+        root: Bytes,
+        doc: Doc,
+        verdicts: Verdicts,
+    ) -> Marked
+        requires verdicts { HaveVerdicts grammar root (lists_of (plain_doc doc)) verdicts }
+        requires narrow { AllByRecursion (IsListForVerdict grammar) (lists_of (plain_doc doc)) }
+        requires few { nodes_in (plain_doc doc).root ≤ MAX_EDITED_NODES }
+        ensures { result
+            ≡ record { dtd = grammar; root = root; doc = doc_as (λ _. 0) (plain_doc doc) } }
+    {
         let mut doc = doc;
         lay_doc(alloc, &mut doc, &verdicts);
         let bad = told_bad(&doc);
@@ -84,7 +102,7 @@ impl Marked {
             doc,
             bad,
         };
-        Ok(Marked { document })
+        Marked { document }
     }
 
     /// Judges an edit: Ok where it is accepted, else the ground on which it is refused.

@@ -22,7 +22,8 @@ use std::alloc::Global;
 use std::marker::Model;
 use std::sync::ledger::Ledger;
 
-/// A grammar, and its rules laid out for all words.
+/// A grammar, and its rules laid out for all words, once for whoever judges by it. Contracts see
+/// the DTD.
 #[derive(Drop)]
 pub struct PlannedGrammar {
     grammar: Grammar,
@@ -46,14 +47,22 @@ impl Model for PlannedGrammar {
 
 impl PlannedGrammar {
     /// Lays out the rules of a grammar.
-    pub(crate) fn of(alloc: Global, grammar: Grammar) -> Result<PlannedGrammar, NoMemory>
+    pub fn of(alloc: Global, grammar: Grammar) -> Result<PlannedGrammar, NoMemory>
         ensures { IfOk result (λ planned. planned ≡ dtd_of grammar) }
     {
         let plan = Plan::of(alloc, &grammar)?;
         Ok(PlannedGrammar { grammar, plan })
     }
 
-    pub(crate) fn grammar(&self) -> &Grammar
+    /// What verdicts are found by.
+    pub fn judge(&self, alloc: Global) -> Judge<'_>
+        ensures { dtd_of result ≡ self.now }
+    {
+        Judge::new(alloc, &self.grammar, &self.plan)
+    }
+
+    /// The grammar.
+    pub fn grammar(&self) -> &Grammar
         ensures { dtd_of result.now ≡ self.now }
     {
         &self.grammar
@@ -79,7 +88,7 @@ impl PlannedGrammar {
             ¬ FitsVerdict self.now (length word.now.tokens.items)) }
         ensures steps { steps.new ≡ steps.old + 1 }
     {
-        let judge = Judge::new(alloc, &self.grammar, &self.plan);
+        let judge = self.judge(alloc);
         word_verdict(&judge, owner, &word.tokens, word.is_bare, steps)
     }
 }

@@ -33,7 +33,8 @@ use std::sync::ledger::Ledger;
 use std::thread::Threads;
 
 /// What `check_doc` answers, found by as many threads as there are processors. Of several wants of
-/// memory any may come. The gate is told the number of each list.
+/// memory any may come. The gate is told the number of each list. The call lays out a plan of the
+/// grammar; who has one asks `check_doc_par_by`.
 pub fn check_doc_par<G: Gate + Sync, L: Ledger>(
     rt: &(impl Threads + Sync),
     alloc: Global,
@@ -52,43 +53,64 @@ pub fn check_doc_par<G: Gate + Sync, L: Ledger>(
     ensures entered { OnOk result ((k : ℕ) → k < length (lists_of (plain_doc doc.now)) →
         G.entered gate.now k) }
 {
+    let plan = Plan::of(alloc, grammar)?;
+    let judge = Judge::new(alloc, grammar, &plan);
+    check_doc_par_by(rt, &judge, root, doc, gate, steps)
+}
+
+/// The same by a grammar whose rules are laid out.
+pub fn check_doc_par_by<G: Gate + Sync, L: Ledger>(
+    rt: &(impl Threads + Sync),
+    judge: &Judge<'_>,
+    root: &[u8],
+    doc: &Doc,
+    gate: &G,
+    steps: &mut Steps<L>,
+) -> Result<Verdicts, FreshError>
+    ensures verdicts { FindsVerdicts (dtd_of judge.now) root.now (plain_doc doc.now) result }
+    ensures possible { FindsPossible (dtd_of judge.now) root.now (plain_doc doc.now) result }
+    ensures narrow { FindsNarrow (dtd_of judge.now) (plain_doc doc.now) result }
+    ensures refused { FindsCause (dtd_of judge.now) (plain_doc doc.now) result }
+    ensures steps { CountsLists (plain_doc doc.now) steps.old steps.new result }
+    ensures few_steps { CountsFewLists (plain_doc doc.now) steps.old steps.new }
+    ensures entered { OnOk result ((k : ℕ) → k < length (lists_of (plain_doc doc.now)) →
+        G.entered gate.now k) }
+{
     live_lists_law::<Mark>();
     first_impossible_at_law::<Mark>();
-    proper_dtd_law(grammar.dtd());
+    proper_dtd_law(judge.grammar().dtd());
     proper_doc_law(doc);
-    let verdicts = judge_lists(rt, alloc, grammar, root, doc, gate, steps)?;
-    let first = first_path(alloc, doc, &verdicts)?;
+    let verdicts = judge_lists(rt, judge, root, doc, gate, steps)?;
+    let first = first_path(judge.alloc(), doc, &verdicts)?;
     Ok(Verdicts::of(verdicts, first))
 }
 
 // The verdicts of all lists, none of which is too wide.
 fn judge_lists<G: Gate + Sync, L: Ledger>(
     rt: &(impl Threads + Sync),
-    alloc: Global,
-    grammar: &Grammar,
+    judge: &Judge<'_>,
     root: &[u8],
     doc: &Doc,
     gate: &G,
     steps: &mut Steps<L>,
 ) -> Result<Vec<Verdict>, FreshError>
-    ensures verdicts { IfOk result (λ vs. AreVerdicts (dtd_of grammar.now) root.now
+    ensures verdicts { IfOk result (λ vs. AreVerdicts (dtd_of judge.now) root.now
         (lists_of (plain_doc doc.now)) vs.items) }
     ensures as_many { IfOk result (λ vs. length vs.items ≡ length (lists_of (plain_doc doc.now))) }
-    ensures narrow { OnOk result (AllByRecursion (IsListForVerdict (dtd_of grammar.now))
+    ensures narrow { OnOk result (AllByRecursion (IsListForVerdict (dtd_of judge.now))
         (lists_of (plain_doc doc.now))) }
-    ensures refused { IfErr result (HasCause (dtd_of grammar.now) (plain_doc doc.now)) }
+    ensures refused { IfErr result (HasCause (dtd_of judge.now) (plain_doc doc.now)) }
     ensures steps { OnOk result (steps.new ≡ steps.old + length (lists_of (plain_doc doc.now))) }
     ensures few_steps { steps.new ≤ steps.old + length (lists_of (plain_doc doc.now)) }
     ensures entered { OnOk result ((k : ℕ) → k < length (lists_of (plain_doc doc.now)) →
         G.entered gate.now k) }
 {
+    let alloc = judge.alloc();
     let (jobs, longest) = jobs_of(alloc, doc)?;
-    if let Some(path) = first_wide(alloc, grammar.dtd(), doc, longest)? {
+    if let Some(path) = first_wide(alloc, judge.grammar().dtd(), doc, longest)? {
         return Err(FreshError::TooWide(path));
     }
-    let plan = Plan::of(alloc, grammar)?;
-    let judge = Judge::new(alloc, grammar, &plan);
-    let judged = judge_jobs(rt, &judge, root, &jobs, gate)?;
+    let judged = judge_jobs(rt, judge, root, &jobs, gate)?;
     let verdicts = joined(alloc, &judged)?;
     count_lists(&verdicts, steps);
     Ok(verdicts)

@@ -26,7 +26,6 @@ use Rattle.pv_session.proofs.Ways.{IsLast, IsNext, both_empty, empty_both, goes_
 use Rattle.pv_tree.specs.Marks.{unmarked_doc}
 use Rattle.pv_dtd.specs.Plain.{PlainDtd}
 use Rattle.pv_tree.specs.Plain.{PlainDoc}
-use Rattle.pv_tree.specs.Prolog.{IsProlog}
 use Rattle.pv_tree.specs.declared.nodes.Mark.{Mark}
 
 -- a session of these parts
@@ -44,7 +43,7 @@ module _ (one : LeadsToOne Unit) (marks : HoldsByOtherMarks ℕ Unit) (m : Stamp
   pub is_session : IsSession s
   is_session =
       let steps = replays s.dtd s.root s.opened now edits ways k.past in
-      record { replays = steps; holdable = k.holdable; kept = k.kept; same_before = sym (same_before s.opened now edits steps); prolog = subst (IsProlog s.root) (same_before s.opened now edits steps) k.prolog }
+      record { replays = steps; holdable = k.holdable; kept = k.kept; same_before = sym (same_before s.opened now edits steps) }
 
   holdable_now : IsHoldable s.dtd now
   holdable_now = marks.holdable (λ _. tt) s.dtd m.doc k.holdable
@@ -101,7 +100,7 @@ module _ (one : LeadsToOne Unit) (marks : HoldsByOtherMarks ℕ Unit) (m : Stamp
 
       keeps_with : (last : PlainDoc Unit) → LeadsOn t.dtd t.root (unmarked_doc t.doc) undone' last → KeepsWays t ways'
       keeps_with last on =
-          record { holdable = holdable; kept = kept; prolog = rw (same_opened, same_root) k.prolog; past = leads_past; last = last; undone = on }
+          record { holdable = holdable; kept = kept; past = leads_past; last = last; undone = on }
 
       -- whose parts are those of the session before it
       same_parts : (u : List Edit) → undone' ≡ u → t ≡ record s { past = edits ++ edit ∷ []; undone = u; moves = next_move moves; doc = behind_move s (changed_lists (makes edit)) e.edited }
@@ -178,7 +177,6 @@ module _ (one : LeadsToOne Unit) (marks : HoldsByOtherMarks ℕ Unit) (m : Stamp
             record {
               holdable = holdable;
               kept = kept;
-              prolog = rw (back_opened, back_root) k.prolog;
               past = rw (back_opened, p, w, back_dtd, back_root) shorter;
               last = k.last;
               undone = rw (back_dtd, back_root, u) on;
@@ -222,12 +220,11 @@ pub refuse_step : (s : PlainSession) (edit : Edit) (a : EditAnswer) → HasGroun
 refuse_step s edit a h = refused_by s edit a h (refusal_of a) refl
 
 -- a session that begins
-pub begun_keeps : (m : StampedDoc) (edits gone : List Edit) (ways : List Inverse) → edits ≡ [] → ways ≡ [] → gone ≡ [] → IsHoldable m.dtd m.doc → IsKept m.doc.root → IsProlog m.root m.doc.before →
+pub begun_keeps : (m : StampedDoc) (edits gone : List Edit) (ways : List Inverse) → edits ≡ [] → ways ≡ [] → gone ≡ [] → IsHoldable m.dtd m.doc → IsKept m.doc.root →
     KeepsWays (session_of m edits ways gone 0) ways
-begun_keeps m edits gone ways p w u holdable kept prolog = record {
+begun_keeps m edits gone ways p w u holdable kept = record {
   holdable = holdable;
   kept = kept;
-  prolog = rw w prolog;
   past = rw (p, w) refl;
   last = unmarked_doc m.doc;
   undone = rw u refl;

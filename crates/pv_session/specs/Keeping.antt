@@ -8,17 +8,14 @@ use Rattle.pv_edit.specs.declared.inverses.Inverse.{Inverse}
 use Rattle.pv_session.specs.Sessions.{PlainSession, Replays}
 use Rattle.pv_tree.specs.Marks.{unmarked_doc}
 use Rattle.pv_tree.specs.Plain.{PlainDoc}
-use Rattle.pv_tree.specs.Prolog.{IsProlog}
 
 -- The past edits lead from the opened document to the present one, which has the same before its
--- root, and is a document that a session can be on. A DOCTYPE before its root names the session's
--- root.
+-- root, and is a document that a session can be on.
 pub record IsSession (s : PlainSession) : Type 0 where
   pub replays : Replays s.opened s.past (unmarked_doc s.doc)
   pub holdable : IsHoldable s.dtd s.doc
   pub kept : IsKept s.doc.root
   pub same_before : s.doc.before ≡ s.opened.before
-  pub prolog : IsProlog s.root s.doc.before
 
 -- an edit is accepted and makes one document of another, and this is its inverse
 pub record IsMade (g : PlainDtd) (root : List ℕ) (before : PlainDoc Unit) (edit : Edit)
@@ -53,7 +50,6 @@ opened_doc (way_back ∷ ways_back) doc = doc_back tt (opened_doc ways_back doc)
 pub record KeepsWays (s : PlainSession) (ways_back : List Inverse) : Type 0 where
   pub holdable : IsHoldable s.dtd s.doc
   pub kept : IsKept s.doc.root
-  pub prolog : IsProlog s.root s.opened.before
   pub past : LeadsTo s.dtd s.root s.opened s.past ways_back (unmarked_doc s.doc)
   pub last : PlainDoc Unit
   pub undone : LeadsOn s.dtd s.root (unmarked_doc s.doc) s.undone last

@@ -20,11 +20,10 @@ ghost use Rattle.pv_tree.specs.Marks.{unmarked_doc};
 ghost use Rattle.pv_tree.specs.Places.{list_at};
 ghost use Rattle.pv_tree.specs.Plain.{nodes_in};
 ghost use Rattle.pv_tree.specs.PlainDocs.{plain_doc};
-ghost use Rattle.pv_tree.specs.Prolog.{IsProlog};
 
 use crate::answers::BackAnswer;
-use pv_cache::Marked;
 use pv_cache::laws::{accepted_law, other_marks_law};
+use pv_cache::{Marked, PlannedGrammar};
 use pv_chars::{Bytes, NoMemory};
 use pv_edit::laws::leads_back_law;
 use pv_edit::{Done, Edit, EditAnswer, Inverse, VerdictRows};
@@ -65,8 +64,9 @@ impl Model for Session {
 }
 
 impl Session {
-    /// The session on a document as it was opened, whose DOCTYPE, where it has one, names the root.
-    /// The verdicts are those of its lists; the document isn't copied.
+    /// The session on a document as it was opened. The verdicts are those of its lists; the
+    /// document isn't copied. The call lays out the rules of the grammar; who has them laid out calls
+    /// `begin_by`.
     pub fn begin(
         alloc: Global,
         grammar: Grammar,
@@ -78,20 +78,36 @@ impl Session {
         requires narrow { AllByRecursion (IsListForVerdict (dtd_of grammar))
             (lists_of (plain_doc doc)) }
         requires few { nodes_in (plain_doc doc).root ≤ MAX_EDITED_NODES }
-        requires prolog { IsProlog root (plain_doc doc).before }
         ensures { IfOk result (λ session. session
             ≡ session_on (dtd_of grammar) root (unmarked_doc (plain_doc doc))) }
     {
-        let marked = Marked::build(alloc, grammar, root, doc, verdicts)?;
+        let grammar = PlannedGrammar::of(alloc, grammar)?;
+        Ok(Session::begin_by(alloc, grammar, root, doc, verdicts))
+    }
+
+    /// The same by a grammar whose rules are laid out.
+    pub fn begin_by(
+        alloc: Global,
+        grammar: PlannedGrammar,
+        root: Bytes,
+        doc: Doc,
+        verdicts: Verdicts,
+    ) -> Session
+        requires verdicts { HaveVerdicts grammar root (lists_of (plain_doc doc)) verdicts }
+        requires narrow { AllByRecursion (IsListForVerdict grammar) (lists_of (plain_doc doc)) }
+        requires few { nodes_in (plain_doc doc).root ≤ MAX_EDITED_NODES }
+        ensures { result ≡ session_on grammar root (unmarked_doc (plain_doc doc)) }
+    {
+        let marked = Marked::build_by(alloc, grammar, root, doc, verdicts);
         marked.holdable_law();
-        Ok(Session {
+        Session {
             alloc,
             marked,
             moves: 0,
             past: Vec::new(alloc),
             ways_back: Vec::new(alloc),
             undone: Vec::new(alloc),
-        })
+        }
     }
 
     /// Makes an edit, where it is accepted. After a refusal the session is as it was.

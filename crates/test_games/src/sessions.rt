@@ -4,7 +4,6 @@ ghost use Rattle.std.specs.Prelude.{◌≤◌};
 ghost use Rattle.pv_cache.specs.Accepting.{MAX_EDITED_NODES};
 ghost use Rattle.pv_tree.specs.Plain.{nodes_in};
 ghost use Rattle.pv_tree.specs.PlainDocs.{plain_doc};
-ghost use Rattle.pv_tree.specs.Prolog.{IsProlog};
 
 use pv_chars::bytes_of;
 use pv_edit::{Done, EditAnswer};
@@ -49,8 +48,7 @@ fn begin_on<L: Ledger>(
     doc: Doc,
     steps: &mut Steps<L>,
 ) -> Result<Session, Fail>
-    requires few { nodes_in (plain_doc doc).root ≤ MAX_EDITED_NODES }
-    requires prolog { IsProlog root.now (plain_doc doc).before }
+    requires { nodes_in (plain_doc doc).root ≤ MAX_EDITED_NODES }
 {
     let verdicts = check_doc(alloc, &grammar, root, &doc, steps)?;
     let root = bytes_of(alloc, root)?;

@@ -1,9 +1,8 @@
-use Rattle.std.proofs.Common.{[], ap, arith, length, refl, subst, ◌+◌, ◌≡◌}
+use Rattle.std.proofs.Common.{[], ap, arith, length, refl, subst, ◌+◌, ◌∙◌, ◌≡◌}
 use Rattle.std.specs.List.{AllByRecursion, AllZip}
 use Rattle.pv_dtd.specs.Plain.{PlainDtd}
 use Rattle.pv_dtd.specs.PlainForms.{plain_dtd}
 use Rattle.pv_productive.specs.PlainForms.{dtd_of}
-use Rattle.pv_productive.specs.declared.grammar.Grammar.{Grammar}
 use Rattle.pv_tree.specs.Lists.{lists_of}
 use Rattle.pv_tree.specs.PlainDocs.{plain_doc}
 use Rattle.pv_missing.specs.Widths.{IsListForVerdict}
@@ -13,27 +12,27 @@ use Rattle.pv_parallel.proofs.check.judge_lists.Goals as goal
 
 pub joined-requires : goal.joined-requires
 joined-requires g c =
-    let d = dtd_of c.args.grammar.now in
+    let d = dtd_of c.args.judge.now in
     let entered = g.G.Gate.entered c.args.gate.now in
-    let zip : AllZip (JudgesJob d c.args.root.now entered) c.in_ok-jobs.jobs.items c.in_ok-judged.judged.items = subst (λ (v : Grammar). AllZip (JudgesJob (dtd_of v) c.args.root.now entered) c.in_ok-jobs.jobs.items c.in_ok-judged.judged.items) c.new-judge.ensures (rw c.deref.ensures.value at c.in_ok-judged.ensures) in
+    let zip : AllZip (JudgesJob d c.args.root.now entered) c.in_ok-jobs.jobs.items c.in_ok-judged.judged.items = rw c.deref.ensures.value at c.in_ok-judged.ensures in
     let found : AllByRecursion (IsListForVerdict (plain_dtd c.dtd.result.now)) (lists_of (plain_doc c.args.doc.now)) = rw c.in_default.is at c.in_ok-path.ensures in
-    let fits = subst (λ (v : PlainDtd). AllByRecursion (IsListForVerdict v) (lists_of (plain_doc c.args.doc.now))) c.dtd.ensures found in
+    let fits = subst (λ (v : PlainDtd). AllByRecursion (IsListForVerdict v) (lists_of (plain_doc c.args.doc.now))) (c.dtd.ensures ∙ ap dtd_of c.grammar.ensures) found in
     rw c.deref-2.ensures.value (none_too_wide d c.args.root.now entered 0 (lists_of (plain_doc c.args.doc.now)) c.in_ok-jobs.jobs.items c.in_ok-judged.judged.items c.in_ok-jobs.ensures.jobs zip fits)
 
 pub returns-clause-verdicts : goal.returns-clause-verdicts
 returns-clause-verdicts g c =
-    let d = dtd_of c.args.grammar.now in
+    let d = dtd_of c.args.judge.now in
     let entered = g.G.Gate.entered c.args.gate.now in
-    let zip : AllZip (JudgesJob d c.args.root.now entered) c.in_ok-jobs.jobs.items c.in_ok-judged.judged.items = subst (λ (v : Grammar). AllZip (JudgesJob (dtd_of v) c.args.root.now entered) c.in_ok-jobs.jobs.items c.in_ok-judged.judged.items) c.new-judge.ensures (rw c.deref.ensures.value at c.in_ok-judged.ensures) in
+    let zip : AllZip (JudgesJob d c.args.root.now entered) c.in_ok-jobs.jobs.items c.in_ok-judged.judged.items = rw c.deref.ensures.value at c.in_ok-judged.ensures in
     let joined : AreJoined c.in_ok-judged.judged.items c.in_ok-verdicts.verdicts.items = rw c.deref-2.ensures.value at c.in_ok-verdicts.ensures in
     let all = jobs_judged d c.args.root.now entered 0 (lists_of (plain_doc c.args.doc.now)) c.in_ok-jobs.jobs.items c.in_ok-judged.judged.items c.in_ok-verdicts.verdicts.items c.in_ok-jobs.ensures.jobs zip joined in
     all.verdicts [] refl
 
 pub returns-clause-as_many : goal.returns-clause-as_many
 returns-clause-as_many g c =
-    let d = dtd_of c.args.grammar.now in
+    let d = dtd_of c.args.judge.now in
     let entered = g.G.Gate.entered c.args.gate.now in
-    let zip : AllZip (JudgesJob d c.args.root.now entered) c.in_ok-jobs.jobs.items c.in_ok-judged.judged.items = subst (λ (v : Grammar). AllZip (JudgesJob (dtd_of v) c.args.root.now entered) c.in_ok-jobs.jobs.items c.in_ok-judged.judged.items) c.new-judge.ensures (rw c.deref.ensures.value at c.in_ok-judged.ensures) in
+    let zip : AllZip (JudgesJob d c.args.root.now entered) c.in_ok-jobs.jobs.items c.in_ok-judged.judged.items = rw c.deref.ensures.value at c.in_ok-judged.ensures in
     let joined : AreJoined c.in_ok-judged.judged.items c.in_ok-verdicts.verdicts.items = rw c.deref-2.ensures.value at c.in_ok-verdicts.ensures in
     let all = jobs_judged d c.args.root.now entered 0 (lists_of (plain_doc c.args.doc.now)) c.in_ok-jobs.jobs.items c.in_ok-judged.judged.items c.in_ok-verdicts.verdicts.items c.in_ok-jobs.ensures.jobs zip joined in
     let n = all.as_many in
@@ -51,9 +50,9 @@ returns-clause-few_steps g c = let k = returns-clause-steps g c in omega arith
 
 pub returns-clause-entered : goal.returns-clause-entered
 returns-clause-entered g c = λ k lt.
-    let d = dtd_of c.args.grammar.now in
+    let d = dtd_of c.args.judge.now in
     let entered = g.G.Gate.entered c.args.gate.now in
-    let zip : AllZip (JudgesJob d c.args.root.now entered) c.in_ok-jobs.jobs.items c.in_ok-judged.judged.items = subst (λ (v : Grammar). AllZip (JudgesJob (dtd_of v) c.args.root.now entered) c.in_ok-jobs.jobs.items c.in_ok-judged.judged.items) c.new-judge.ensures (rw c.deref.ensures.value at c.in_ok-judged.ensures) in
+    let zip : AllZip (JudgesJob d c.args.root.now entered) c.in_ok-jobs.jobs.items c.in_ok-judged.judged.items = rw c.deref.ensures.value at c.in_ok-judged.ensures in
     let joined : AreJoined c.in_ok-judged.judged.items c.in_ok-verdicts.verdicts.items = rw c.deref-2.ensures.value at c.in_ok-verdicts.ensures in
     let all = jobs_judged d c.args.root.now entered 0 (lists_of (plain_doc c.args.doc.now)) c.in_ok-jobs.jobs.items c.in_ok-judged.judged.items c.in_ok-verdicts.verdicts.items c.in_ok-jobs.ensures.jobs zip joined in
     let few = c.in_ok-jobs.ensures.few in

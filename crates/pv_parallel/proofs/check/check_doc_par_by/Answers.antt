@@ -5,16 +5,16 @@ use Rattle.pv_missing.specs.Verdicts.{AreVerdicts}
 use Rattle.pv_fresh.proofs.Walking.{none_is_possible}
 use Rattle.pv_parallel.specs.Numbers.{IsFirstPath}
 use Rattle.pv_parallel.proofs.Judgements.{have_verdicts}
-use Rattle.pv_parallel.proofs.check.check_doc_par.Goals as goal
+use Rattle.pv_parallel.proofs.check.check_doc_par_by.Goals as goal
 
 pub returns-clause-verdicts : goal.returns-clause-verdicts
 returns-clause-verdicts g c =
     let lists = lists_of (plain_doc c.args.doc.now) in
     let vs = c.in_ok-verdicts.verdicts.items in
-    let are : AreVerdicts (dtd_of c.args.grammar.now) c.args.root.now lists vs = c.in_ok-verdicts.ensures.verdicts in
+    let are : AreVerdicts (dtd_of c.args.judge.now) c.args.root.now lists vs = c.in_ok-verdicts.ensures.verdicts in
     let first : IsFirstPath lists vs c.in_ok-first.first = rw c.deref.ensures.value at c.in_ok-first.ensures in
-    rw c.of.ensures (have_verdicts (dtd_of c.args.grammar.now) c.args.root.now c.first_impossible_at_law.ensures lists vs c.in_ok-first.first are first)
+    rw c.of.ensures (have_verdicts (dtd_of c.args.judge.now) c.args.root.now c.first_impossible_at_law.ensures lists vs c.in_ok-first.first are first)
 
 pub returns-clause-possible : goal.returns-clause-possible
 returns-clause-possible g c =
-    none_is_possible c.live_lists_law.ensures (dtd_of c.args.grammar.now) c.args.root.now (plain_doc c.args.doc.now) _ (rw c.dtd.ensures at c.proper_dtd_law.ensures) c.proper_doc_law.ensures (returns-clause-verdicts g c).is_first
+    none_is_possible c.live_lists_law.ensures (dtd_of c.args.judge.now) c.args.root.now (plain_doc c.args.doc.now) _ (rw (c.dtd.ensures, c.grammar.ensures) at c.proper_dtd_law.ensures) c.proper_doc_law.ensures (returns-clause-verdicts g c).is_first

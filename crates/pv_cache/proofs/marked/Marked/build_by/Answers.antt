@@ -1,5 +1,4 @@
 use Rattle.std.proofs.Common.{ap, subst, sym, ◌∙◌, ◌≤◌}
-use Rattle.pv_productive.specs.PlainForms.{dtd_of}
 use Rattle.pv_tree.specs.Plain.{PlainDoc, nodes_in}
 use Rattle.pv_tree.specs.PlainDocs.{plain_doc}
 use Rattle.pv_tree.specs.declared.nodes.Mark.{Mark}
@@ -7,21 +6,20 @@ use Rattle.pv_cache.specs.Accepting.{MAX_EDITED_NODES}
 use Rattle.pv_cache.specs.Stamps.{stamped_doc_of}
 use Rattle.pv_cache.specs.WellMarked.{IsWellMarked}
 use Rattle.pv_cache.proofs.Laid.{doc_marked, laid_few, no_stamps}
-use Rattle.pv_cache.proofs.marked.Marked.build.Goals as goal
+use Rattle.pv_cache.proofs.marked.Marked.build_by.Goals as goal
 
 pub invariant_of-document : goal.invariant_of-document
 invariant_of-document c =
-    let d = dtd_of c.args.grammar in
+    let d = c.args.grammar in
     let doc = plain_doc c.args.doc in
     let vs = c.args.verdicts.verdicts in
     let w = doc_marked d c.args.root vs doc c.requires.verdicts.are_verdicts c.requires.narrow in
     record {
-      marked = rw c.in_ok-grammar.ensures (subst (λ (e : PlainDoc Mark). ∥ IsWellMarked d c.args.root e ∥₁) (sym c.lay_doc.ensures) ∣ w ∣₁);
+      marked = subst (λ (e : PlainDoc Mark). ∥ IsWellMarked d c.args.root e ∥₁) (sym c.lay_doc.ensures) ∣ w ∣₁;
       counted = c.told_bad-bad.ensures;
       few = subst (λ (e : PlainDoc Mark). nodes_in e.root ≤ MAX_EDITED_NODES) (sym c.lay_doc.ensures) (laid_few vs doc c.requires.few);
     }
 
 pub returns : goal.returns
 returns c =
-    rw c.in_ok-grammar.ensures
-    (ap (stamped_doc_of (dtd_of c.args.grammar) c.args.root) c.lay_doc.ensures ∙ ap (λ e. record { dtd = dtd_of c.args.grammar; root = c.args.root; doc = e }) (no_stamps c.args.verdicts.verdicts (plain_doc c.args.doc)))
+    ap (stamped_doc_of c.args.grammar c.args.root) c.lay_doc.ensures ∙ ap (λ e. record { dtd = c.args.grammar; root = c.args.root; doc = e }) (no_stamps c.args.verdicts.verdicts (plain_doc c.args.doc))
