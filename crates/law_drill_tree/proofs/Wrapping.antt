@@ -12,7 +12,7 @@ use Rattle.law_missing.specs.Documents.{doc_of}
 use Rattle.pv_tree.specs.Legal.{MAX_DEPTH}
 use Rattle.pv_tree.specs.Places.{at_node, list_at, list_of, node_below, spot_at}
 use Rattle.pv_tree.specs.Plain.{Tree, depth_of, depth_of_all, element, forest_of, nodes_in_all, tagged, tree, trees_of}
-use Rattle.law_drill_tree.specs.Sections.{Section, bare, bare_section, drill_doc, head_tree, number_text, root_tree, section_tree, trees, with_around, wrap_of, wrapped}
+use Rattle.law_drill_tree.specs.Sections.{Section, bare, bare_section, drill_doc, head_tree, number_text, root_tree, section_tree, trees, with_around, section_wrap, wrapped}
 
 -- a tree among others
 kid_there : (i : ℕ) (front : List Section) (t : Tree Unit) (back : List (Tree Unit)) → length front ≡ i → slice_get (trees_of (forest_of (trees front ++ t ∷ back))) i ≡ Some t
@@ -71,22 +71,22 @@ module _ (name : List ℕ) (front back : List Section) (k i : ℕ) (place : leng
   list_there : list_at (0 ∷ suc i ∷ []) before ≡ Some (number_text k ∷ [])
   list_there = ap (λ o. option_and_then list_of o) node_there
 
-  changed : root_after (0 ∷ suc i ∷ []) (change_of tt before (wrap_of (suc i) name)) before ≡ after
+  changed : root_after (0 ∷ suc i ∷ []) (change_of tt before (section_wrap (suc i) name)) before ≡ after
   changed = ap (λ ks. element (codes "doc") [] (tagged []) (tree head_tree ks) tt)
-      (kid_changed (change_below [] (owner_after (change_of tt before (wrap_of (suc i) name)))) i front (bare_section k) (trees back) place)
+      (kid_changed (change_below [] (owner_after (change_of tt before (section_wrap (suc i) name)))) i front (bare_section k) (trees back) place)
 
   shallow : depth_of after ≤ MAX_DEPTH
   shallow = omega (arith, depth_around name front k back)
 
-  not_deep : goes_too_deep (change_of tt before (wrap_of (suc i) name)) before ≡ false
+  not_deep : goes_too_deep (change_of tt before (section_wrap (suc i) name)) before ≡ false
   not_deep = ap (λ t. nat_lt MAX_DEPTH (depth_of t)) changed ∙ le-ltb MAX_DEPTH (depth_of after) shallow
 
-  no_reason : is_name name ≡ true → reason_of tt before (wrap_of (suc i) name) ≡ None
+  no_reason : is_name name ≡ true → reason_of tt before (section_wrap (suc i) name) ≡ None
   no_reason named = passes (lacks_node (0 ∷ suc i ∷ []) before) (lacks_list (0 ∷ suc i ∷ []) before) _ _ _ _
       (ap (λ o. not (is_given o)) spot_there) (ap (λ o. not (is_given o)) list_there) (ap (λ o. nat_lt 1 0 || nat_lt (length (items_of o)) 1) list_there)
       (ap not named) refl not_deep
 
-  pub wrap_made : is_name name ≡ true → applied tt (drill_doc (trees front ++ bare_section k ∷ trees back)) (wrap_of (suc i) name) ≡ gives (drill_doc (with_around name front k back))
+  pub wrap_made : is_name name ≡ true → applied tt (drill_doc (trees front ++ bare_section k ∷ trees back)) (section_wrap (suc i) name) ≡ gives (drill_doc (with_around name front k back))
   wrap_made named =
-      ap (λ r. outcome r (doc_after (change_of tt before (wrap_of (suc i) name)) (doc_of before))) (no_reason named)
+      ap (λ r. outcome r (doc_after (change_of tt before (section_wrap (suc i) name)) (doc_of before))) (no_reason named)
       ∙ ap (λ t. gives (doc_of t)) changed

@@ -12,7 +12,7 @@ use Rattle.pv_tree.specs.Lists.{lists_of}
 use Rattle.pv_tree.specs.View.{view}
 use Rattle.law_drill_tree.specs.Sections.{Section, ahead, all_verdicts, bare_section, drill_doc}
 use Rattle.law_drill_tree.specs.Sections.{marked_doc, open_in, root_tree, trees, with_around}
-use Rattle.law_drill_tree.specs.Sections.{wrap_of}
+use Rattle.law_drill_tree.specs.Sections.{section_wrap}
 
 -- the text of the drill's DTD means this DTD
 abbrev pub MeansDrillDtd : Type 0
@@ -44,4 +44,4 @@ BrCannotStand = (front back : List Section) (k : ℕ) →
 abbrev pub TextsCanBeWrapped : Type 0
 TextsCanBeWrapped = (name : List ℕ) (front back : List Section) (k : ℕ) → IsTrue (is_name name) →
     applied tt (drill_doc (trees front ++ bare_section k ∷ trees back))
-    (wrap_of (suc (length front)) name) ≡ gives (drill_doc (with_around name front k back))
+    (section_wrap (suc (length front)) name) ≡ gives (drill_doc (with_around name front k back))

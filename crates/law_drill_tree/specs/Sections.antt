@@ -76,8 +76,8 @@ open_in [] = 0
 open_in (s ∷ ss) = own_open s + open_in ss
 
 -- the text of section number k is put into an element of this name
-abbrev pub wrap_of : ℕ → List ℕ → Edit
-wrap_of k name = Wrap (0 ∷ k ∷ []) 0 1 name
+abbrev pub section_wrap : ℕ → List ℕ → Edit
+section_wrap k name = Wrap (0 ∷ k ∷ []) 0 1 name
 
 -- the verdicts of the lists of sections, and of those of the document
 abbrev pub verdicts_in : List Section → List Verdict

@@ -13,7 +13,7 @@ use Rattle.pv_missing.specs.Proper.{IsProperDoc}
 use Rattle.pv_missing.specs.Missing.{MissInAll, Misses, MissesBy}
 use Rattle.pv_dtd.specs.Productive.{IsProductive}
 use Rattle.law_missing.specs.Documents.{doc_of}
-use Rattle.law_missing.specs.Rows.{IsImpossibleAt, Needs}
+use Rattle.law_missing.specs.Rows.{IsImpossibleAt, NeedsWith}
 use Rattle.pv_missing.specs.Verdicts.{AreProductiveKids, AreVerdicts, IsFirstImpossible, IsProductiveOwner, IsVerdict}
 use Rattle.pv_missing.proofs.DocLists.{misses_live_by, numbers_add_up}
 use Rattle.pv_missing.proofs.Same.{some_number}
@@ -64,7 +64,7 @@ module _ (g : PlainDtd) (root : List ℕ) where
   rows_bound (list ∷ lists) (v ∷ vs) n (a, b, e, r, s) m (c, d, f, p, q) =
       let one = r.bound c p in let two = rows_bound lists vs b s d q in omega (arith, e, f)
 
-  pub needs : IsProperDtd g → (t : Tree Unit) (vs : List Verdict) (n : ℕ) → IsProperDoc (doc_of t) → RowsOf (lists_of (doc_of t)) vs n → Needs g root t vs n
+  pub needs : IsProperDtd g → (t : Tree Unit) (vs : List Verdict) (n : ℕ) → IsProperDoc (doc_of t) → RowsOf (lists_of (doc_of t)) vs n → NeedsWith g root t vs n
   needs proper t vs n p r = (
     rows_judged (lists_of (doc_of t)) vs n r,
     record {

@@ -21,8 +21,8 @@ use Rattle.pv_tree.specs.declared.nodes.Verdict.{Verdict}
 use Rattle.pv_tree.specs.declared.nodes.Verdict.TheVariants as verdict
 
 -- the document has these verdicts, and so many elements are missing in it
-abbrev pub Needs : PlainDtd → List ℕ → Tree Unit → List Verdict → ℕ → Type 0
-Needs g root t vs n = AreVerdicts g root (lists_of (doc_of t)) vs × IsLeast g root n (view t)
+abbrev pub NeedsWith : PlainDtd → List ℕ → Tree Unit → List Verdict → ℕ → Type 0
+NeedsWith g root t vs n = AreVerdicts g root (lists_of (doc_of t)) vs × IsLeast g root n (view t)
 
 -- the document is impossible, and the list at this path is the first that is
 abbrev pub IsImpossibleAt : PlainDtd → List ℕ → Tree Unit → List ℕ → Type 0
@@ -52,19 +52,19 @@ LiveWords =
 
 -- two elements are missing in <doc>Hello</doc>, a head round the text and an empty sec
 abbrev pub HelloRow : Type 0
-HelloRow = Needs sections_dtd (codes "doc") hello (verdict.Valid ∷ verdict.Possible ∷ []) 2
+HelloRow = NeedsWith sections_dtd (codes "doc") hello (verdict.Valid ∷ verdict.Possible ∷ []) 2
 
 -- a text behind a head misses a sec and a title or p in it
 abbrev pub HeadTextRow : Type 0
-HeadTextRow = Needs sections_dtd (codes "doc") head_then_text
+HeadTextRow = NeedsWith sections_dtd (codes "doc") head_then_text
     (verdict.Valid ∷ verdict.Possible ∷ verdict.Valid ∷ []) 2
 
 abbrev pub EmRow : Type 0
-EmRow = Needs sections_dtd (codes "doc") em_alone
+EmRow = NeedsWith sections_dtd (codes "doc") em_alone
     (verdict.Valid ∷ verdict.Possible ∷ verdict.Valid ∷ []) 3
 
 abbrev pub TitleRow : Type 0
-TitleRow = Needs sections_dtd (codes "doc") p_then_title
+TitleRow = NeedsWith sections_dtd (codes "doc") p_then_title
     (verdict.Valid ∷ verdict.Possible ∷ verdict.Valid ∷ verdict.Valid ∷ []) 3
 
 abbrev pub HeadRow : Type 0
@@ -72,26 +72,27 @@ HeadRow = IsImpossibleAt sections_dtd (codes "doc") sec_then_head (0 ∷ [])
 
 -- the missing elements may stand above the root
 abbrev pub ParagraphRow : Type 0
-ParagraphRow = Needs sections_dtd (codes "doc") p_alone (verdict.Possible ∷ verdict.Valid ∷ []) 3
+ParagraphRow = NeedsWith sections_dtd (codes "doc") p_alone
+    (verdict.Possible ∷ verdict.Valid ∷ []) 3
 
 abbrev pub BlankRow : Type 0
 BlankRow = IsImpossibleAt sections_dtd (codes "doc") blank_in_br (0 ∷ 1 ∷ 0 ∷ 0 ∷ [])
 
 abbrev pub CommentRow : Type 0
-CommentRow = Needs sections_dtd (codes "doc") comment_alone
+CommentRow = NeedsWith sections_dtd (codes "doc") comment_alone
     (verdict.Valid ∷ verdict.Possible ∷ []) 2
 
 -- a reference to white space is data, and a literal blank isn't
 abbrev pub ReferenceRow : Type 0
 ReferenceRow =
-    Needs sections_dtd (codes "doc") (sec_with (codes "&#32;" ∷ []))
+    NeedsWith sections_dtd (codes "doc") (sec_with (codes "&#32;" ∷ []))
     (verdict.Valid ∷ verdict.Valid ∷ verdict.Valid ∷ verdict.Possible ∷ []) 1 ×
-    Needs sections_dtd (codes "doc") (sec_with ((32 ∷ []) ∷ []))
+    NeedsWith sections_dtd (codes "doc") (sec_with ((32 ∷ []) ∷ []))
     (verdict.Valid ∷ verdict.Valid ∷ verdict.Valid ∷ verdict.Valid ∷ []) 0
 
 -- missing elements one inside another
 abbrev pub NestedRow : Type 0
-NestedRow = Needs nested_dtd (codes "x") three_ys
+NestedRow = NeedsWith nested_dtd (codes "x") three_ys
     (verdict.Valid ∷ verdict.Possible ∷ verdict.Valid ∷ verdict.Valid ∷ verdict.Valid ∷ []) 3
 
 -- a name that isn't productive
@@ -100,13 +101,13 @@ EndlessRow = IsImpossibleAt endless_dtd (codes "a") (tag (codes "a") (tag (codes
 
 abbrev pub PairRow : Type 0
 PairRow =
-    Needs pair_dtd (codes "a") (tag (codes "a") []) (verdict.Valid ∷ verdict.Possible ∷ []) 1 ×
-    Needs pair_dtd (codes "a") (tag (codes "a") (tag (codes "b") [] ∷ []))
+    NeedsWith pair_dtd (codes "a") (tag (codes "a") []) (verdict.Valid ∷ verdict.Possible ∷ []) 1 ×
+    NeedsWith pair_dtd (codes "a") (tag (codes "a") (tag (codes "b") [] ∷ []))
     (verdict.Valid ∷ verdict.Valid ∷ verdict.Valid ∷ []) 0
 
 -- more elements are missing than any weight says
 abbrev pub DoublingRow : Type 0
-DoublingRow = Needs doubling_dtd (codes "t0") (tag (codes "t0") [])
+DoublingRow = NeedsWith doubling_dtd (codes "t0") (tag (codes "t0") [])
     (verdict.Valid ∷ verdict.Possible ∷ []) 2097150
 
 -- a name that the DTD doesn't have, and one that it only mentions
@@ -121,14 +122,14 @@ DeepRow = (n : ℕ) →
     (lists_of (doc_of (nested_em n)))
 
 abbrev pub LetterRow : Type 0
-LetterRow = Needs sections_dtd (codes "doc") letter
+LetterRow = NeedsWith sections_dtd (codes "doc") letter
     (verdict.Valid ∷ verdict.Valid ∷ verdict.Valid ∷ verdict.Possible ∷ verdict.Valid ∷
     verdict.Valid ∷ []) 1
 
 -- nothing is missing in the completed letter
 abbrev pub CompletedRow : Type 0
 CompletedRow =
-    Needs sections_dtd (codes "doc") completed_letter
+    NeedsWith sections_dtd (codes "doc") completed_letter
     (verdict.Valid ∷ verdict.Valid ∷ verdict.Valid ∷ verdict.Valid ∷ verdict.Valid ∷
     verdict.Valid ∷ verdict.Valid ∷ verdict.Valid ∷ verdict.Valid ∷ []) 0
 

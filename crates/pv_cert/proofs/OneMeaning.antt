@@ -7,7 +7,7 @@ use Rattle.pv_tables.specs.declared.tables.Table.{Table}
 use Rattle.pv_cert.specs.Laws.{OneMeaning}
 use Rattle.pv_cert.specs.Lines.{PackLine, line_text, total_line, mark_line, body_line, entry_line, end_line}
 use Rattle.pv_cert.specs.Meaning.{HasTooMany, IsFaulty, MAX_PACK_BYTES, Stand, StandsNone, entries_among, is_pack, is_fault, is_past_limit}
-use Rattle.pv_cert.specs.Packs.{IsPackText, last_line, lines_of, lines_text, table_lines}
+use Rattle.pv_cert.specs.Packs.{IsPackText, last_line, lines_of_pack, lines_text, table_lines}
 use Rattle.pv_cert.specs.declared.packs.Pack.{Pack}
 use Rattle.pv_cert.proofs.Determined.{same-line}
 use Rattle.pv_cert.proofs.Stands.{entries-append, entries-of-marks, last-append}
@@ -64,19 +64,19 @@ not-too-many bytes xs rest few r m =
     omega (arith, r.within, m.full, ap entries_among a.is, entries-append (m.lines ++ entry_line m.e ∷ []) a.more, entries-append m.lines (entry_line m.e ∷ []))
 
 -- the last line of a pack
-last-of-pack : (pack : Pack) → last_line None (lines_of pack) ≡ Some end_line
+last-of-pack : (pack : Pack) → last_line None (lines_of_pack pack) ≡ Some end_line
 last-of-pack pack =
     last-append (Some (total_line pack.total)) (map mark_line pack.marks) (body_line pack.body ∷ (table_lines pack.tables ++ end_line ∷ []))
     ∙ last-append (Some (body_line pack.body)) (table_lines pack.tables) (end_line ∷ [])
 
-entries-of-pack : (pack : Pack) → entries_among (lines_of pack) ≡ entries_in pack.tables
+entries-of-pack : (pack : Pack) → entries_among (lines_of_pack pack) ≡ entries_in pack.tables
 entries-of-pack pack =
     let tail = table_lines pack.tables ++ end_line ∷ [] in
     omega (arith, entries-append (map mark_line pack.marks) (body_line pack.body ∷ tail), entries-of-marks pack.marks, entries-append (table_lines pack.tables) (end_line ∷ []), entries-in-lines pack.tables)
 
-pack-run : (bytes : List ℕ) (pack : Pack) → IsPackText bytes pack → entries_in pack.tables ≤ most_entries → IsRun bytes (lines_of pack) []
+pack-run : (bytes : List ℕ) (pack : Pack) → IsPackText bytes pack → entries_in pack.tables ≤ most_entries → IsRun bytes (lines_of_pack pack) []
 pack-run bytes pack t few = record {
-  stand = record { are_lines = t.are_lines; whole = t.spelled ∙ sym (append-nil (lines_text (lines_of pack))) };
+  stand = record { are_lines = t.are_lines; whole = t.spelled ∙ sym (append-nil (lines_text (lines_of_pack pack))) };
   none = rw (last-of-pack pack) (λ line more s. s.may_follow);
   within = omega (arith, entries-of-pack pack, few);
 }
@@ -128,7 +128,7 @@ same-tables (t ∷ ts) (u ∷ us) e =
     let below = same-tables ts us both.rests in
     λ i. record { path = paths i; entries = both.entries i } ∷ below i
 
-same-pack : (p q : Pack) → lines_of p ≡ lines_of q → p ≡ q
+same-pack : (p q : Pack) → lines_of_pack p ≡ lines_of_pack q → p ≡ q
 same-pack p q e =
     let totals : p.total ≡ q.total = cc in
     let others : map mark_line p.marks ++ (body_line p.body ∷ (table_lines p.tables ++ end_line ∷ [])) ≡ map mark_line q.marks ++ (body_line q.body ∷ (table_lines q.tables ++ end_line ∷ [])) = cc in
@@ -141,15 +141,15 @@ not-both : (bytes : List ℕ) (pack : Pack) (k : ℕ) → length bytes ≤ MAX_P
 not-both bytes pack k few t least f =
     let one = pack-run bytes pack t least in
     let other = fault-run bytes k f in
-    let lines = one-run bytes (lines_of pack) [] f.lines f.rest few one other in
-    f.cut (ap (last_line None) (sym lines) ∙ last-of-pack pack, sym (one-rest bytes (lines_of pack) [] f.lines f.rest one other lines))
+    let lines = one-run bytes (lines_of_pack pack) [] f.lines f.rest few one other in
+    f.cut (ap (last_line None) (sym lines) ∙ last-of-pack pack, sym (one-rest bytes (lines_of_pack pack) [] f.lines f.rest one other lines))
 
 pub one-meaning : OneMeaning
 one-meaning bytes (is_pack p) (is_pack q) m n =
-    ap is_pack (same-pack p q (one-run bytes (lines_of p) [] (lines_of q) [] m.0 (pack-run bytes p m.1 m.2) (pack-run bytes q n.1 n.2)))
+    ap is_pack (same-pack p q (one-run bytes (lines_of_pack p) [] (lines_of_pack q) [] m.0 (pack-run bytes p m.1 m.2) (pack-run bytes q n.1 n.2)))
 one-meaning bytes (is_pack p) (is_fault k) m n = absurd (not-both bytes p k m.0 m.1 m.2 n.1)
 one-meaning bytes (is_pack p) is_past_limit m (inl long) = absurd (omega (arith, m.0, long))
-one-meaning bytes (is_pack p) is_past_limit m (inr n) = absurd (not-too-many bytes (lines_of p) [] m.0 (pack-run bytes p m.1 m.2) n.1)
+one-meaning bytes (is_pack p) is_past_limit m (inr n) = absurd (not-too-many bytes (lines_of_pack p) [] m.0 (pack-run bytes p m.1 m.2) n.1)
 one-meaning bytes (is_fault k) (is_pack q) m n = absurd (not-both bytes q k n.0 n.1 n.2 m.1)
 one-meaning bytes (is_fault k) (is_fault j) m n =
     let lines = one-run bytes m.1.lines m.1.rest n.1.lines n.1.rest m.0 (fault-run bytes k m.1) (fault-run bytes j n.1) in
@@ -157,7 +157,7 @@ one-meaning bytes (is_fault k) (is_fault j) m n =
 one-meaning bytes (is_fault k) is_past_limit m (inl long) = absurd (omega (arith, m.0, long))
 one-meaning bytes (is_fault k) is_past_limit m (inr n) = absurd (not-too-many bytes m.1.lines m.1.rest m.0 (fault-run bytes k m.1) n.1)
 one-meaning bytes is_past_limit (is_pack q) (inl long) n = absurd (omega (arith, n.0, long))
-one-meaning bytes is_past_limit (is_pack q) (inr m) n = absurd (not-too-many bytes (lines_of q) [] n.0 (pack-run bytes q n.1 n.2) m.1)
+one-meaning bytes is_past_limit (is_pack q) (inr m) n = absurd (not-too-many bytes (lines_of_pack q) [] n.0 (pack-run bytes q n.1 n.2) m.1)
 one-meaning bytes is_past_limit (is_fault k) (inl long) n = absurd (omega (arith, n.0, long))
 one-meaning bytes is_past_limit (is_fault k) (inr m) n = absurd (not-too-many bytes n.1.lines n.1.rest n.0 (fault-run bytes k n.1) m.1)
 one-meaning bytes is_past_limit is_past_limit m n = refl

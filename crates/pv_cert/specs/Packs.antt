@@ -82,13 +82,13 @@ table_lines [] = []
 table_lines (t ∷ ts) = lines_of_table t ++ table_lines ts
 
 -- the lines of a pack
-abbrev pub lines_of : Pack → List PackLine
-lines_of pack =
+abbrev pub lines_of_pack : Pack → List PackLine
+lines_of_pack pack =
     version_line ∷ total_line pack.total
     ∷ (map mark_line pack.marks
     ++ (body_line pack.body ∷ (table_lines pack.tables ++ end_line ∷ [])))
 
 -- The bytes are the lines of the pack, limits aside: its text.
 pub record IsPackText (bytes : List ℕ) (pack : Pack) : Type 0 where
-  pub are_lines : AreLines None (lines_of pack)
-  pub spelled : bytes ≡ lines_text (lines_of pack)
+  pub are_lines : AreLines None (lines_of_pack pack)
+  pub spelled : bytes ≡ lines_text (lines_of_pack pack)

@@ -5,7 +5,8 @@ ghost use Rattle.pv_rules.specs.PlainForms.{plain_site};
 ghost use Rattle.pv_script.specs.Words.{with_feed};
 ghost use Rattle.pv_tables.specs.declared.tables.Table.{Table};
 ghost use Rattle.pv_cert.specs.Lines.{kind_word, line_text, mark_line, body_line, entry_line};
-ghost use Rattle.pv_cert.specs.Packs.{AreLines, IsPackText, lines_of, lines_of_table, lines_text};
+ghost use Rattle.pv_cert.specs.Packs.{AreLines, IsPackText, lines_of_pack, lines_of_table};
+ghost use Rattle.pv_cert.specs.Packs.{lines_text};
 ghost use Rattle.pv_cert.specs.Packs.{table_lines};
 
 use crate::packs::Pack;
@@ -116,8 +117,8 @@ fn push_tables(text: &mut Vec<u8>, tables: &[Table]) -> Result<(), AllocError>
 /// The text of a pack, which is read again as that pack where its numbers are in range, the
 /// entries of each table ascend strictly, and it is within the limits of a text.
 pub fn write_pack(alloc: Global, pack: &Pack) -> Result<Vec<u8>, NoMemory>
-    ensures spelled { IfOk result (λ text. text.items ≡ lines_text (lines_of pack.now)) }
-    ensures is_text { AreLines None (lines_of pack.now) →
+    ensures spelled { IfOk result (λ text. text.items ≡ lines_text (lines_of_pack pack.now)) }
+    ensures is_text { AreLines None (lines_of_pack pack.now) →
         IfOk result (λ text. IsPackText text.items pack.now) }
 {
     let mut text = Vec::new(alloc);

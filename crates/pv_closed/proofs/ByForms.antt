@@ -12,11 +12,11 @@ use Rattle.pv_tables.specs.Values.{IsListed, IsUnlisted, listed_value}
 use Rattle.pv_tables.specs.declared.tables.Entry.{Entry}
 use Rattle.pv_closed.specs.ClosedEntries.{AreOver, IsEntryOver}
 use Rattle.pv_closed.specs.ClosedForms.{WeighsAsBehindText, WeighsAsOne, WeighsAsTwo, WeighsNothing}
-use Rattle.pv_closed.specs.Lookup.{AreInOrder}
+use Rattle.pv_closed.specs.Lookup.{AreAscendingEntries}
 use Rattle.pv_closed.proofs.ClosedSites.{is_light}
 
 module _ (cases : ListedOrNot) (g : PlainDtd) (w : List PlainToken) (es : List Entry) (are : AreOver g w es) where
-  pub in_order : AreInOrder es
+  pub in_order : AreAscendingEntries es
   in_order = record { ascend = are.ascend; light = All-weaker (IsEntryOver g w) (λ e. e.value < heaviest) (λ e o. o.light) es are.each }
 
   light : (x : Goal) → listed_value es x ≤ heaviest

@@ -14,7 +14,7 @@ use Rattle.pv_tables.specs.Tables.{Precedes}
 use Rattle.pv_tables.specs.Values.{IsListed, IsUnlisted, listed_value}
 use Rattle.pv_tables.specs.declared.tables.Entry.{Entry}
 use Rattle.pv_closed.specs.ClosedForms.{WeighsAsBehindText, WeighsAsOne, WeighsAsTwo, WeighsBehind}
-use Rattle.pv_closed.specs.Lookup.{AreInOrder, AreLike, IsLike}
+use Rattle.pv_closed.specs.Lookup.{AreAscendingEntries, AreLike, IsLike}
 use Rattle.pv_closed.proofs.EntryOrder.{absent_value, own_value}
 
 -- the entry that stands for what is behind the end of a list
@@ -28,14 +28,14 @@ item_contained xs k d l = (k, l, get_or_default xs k (get_or xs k d) d l)
 pub by_items : {X : Type 0} (P : X → Type 0) (xs : List X) → ((k : ℕ) (d : X) → k < length xs → P (get_or xs k d)) → (x : X) → Contains xs x → P x
 by_items P xs h x (k, l, e) = subst P e (h k x l)
 
-pub light_value : ListedOrNot → (es : List Entry) → AreInOrder es → (x : Goal) → listed_value es x ≤ heaviest
+pub light_value : ListedOrNot → (es : List Entry) → AreAscendingEntries es → (x : Goal) → listed_value es x ≤ heaviest
 light_value cases es o x = by_case (cases es x)
   where
     by_case : IsListed es x ⊎ IsUnlisted es x → listed_value es x ≤ heaviest
     by_case (inl (e, m, g, v)) = let l = All-contains (λ (f : Entry). f.value < heaviest) es e o.light m in omega arith
     by_case (inr (v, none)) = omega arith
 
-module _ (cases : ListedOrNot) (es : List Entry) (o : AreInOrder es) where
+module _ (cases : ListedOrNot) (es : List Entry) (o : AreAscendingEntries es) where
   pub is_light : (x : Goal) → listed_value es x ≤ heaviest
   is_light x = light_value cases es o x
 
@@ -45,7 +45,7 @@ module _ (cases : ListedOrNot) (es : List Entry) (o : AreInOrder es) where
 
   -- the entries of a site, or those of them that begin at a place, give it the values that all give it
   module _ (anywhere : Bool) (probe : Entry) (found : List Entry) (a : AreLike es anywhere probe found) (p : AllPairs Precedes found) where
-    pub own_order : AreInOrder found
+    pub own_order : AreAscendingEntries found
     own_order = record {
       ascend = p;
       light = All-from_get_or (λ (e : Entry). e.value < heaviest) found no_entry
@@ -101,7 +101,7 @@ module _ (cases : ListedOrNot) (es : List Entry) (o : AreInOrder es) where
     one_within h e m = let l = a.like e m in let v = like_value true probe e l.0 l.1 in let x = h e.from e.to in omega arith
 
   -- ---- a second site behind an entry, by the entries of the first site
-  module _ (ls : List Entry) (lo : AreInOrder ls) (left : PlainSite) (one : Entry) (inner : Bool) (probe : Entry) (from : probe.from ≡ one.to) (found : List Entry) (a : AreLike es false probe found) where
+  module _ (ls : List Entry) (lo : AreAscendingEntries ls) (left : PlainSite) (one : Entry) (inner : Bool) (probe : Entry) (from : probe.from ≡ one.to) (found : List Entry) (a : AreLike es false probe found) where
     abbrev pub IsWithinBoth : Entry → Type 0
     IsWithinBoth e = (inner ≡ true → one.to < e.to) → listed_value ls (over left one.from e.to) ≤ one.value + e.value
 

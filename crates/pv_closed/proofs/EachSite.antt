@@ -13,7 +13,7 @@ use Rattle.pv_rules.proofs.Members.{some_part}
 use Rattle.pv_tables.specs.TableLaws.{ListedOrNot}
 use Rattle.pv_tables.specs.Values.{listed_value}
 use Rattle.pv_tables.specs.declared.tables.Entry.{Entry}
-use Rattle.pv_closed.specs.ClosedEntries.{AreOver, IsClosedAt}
+use Rattle.pv_closed.specs.ClosedEntries.{AreOver, AreClosedAt}
 use Rattle.pv_closed.specs.ClosedForms.{KeepsNames, WeighsAsOne}
 use Rattle.pv_closed.proofs.AtSites.{kept_from, name_from, name_to}
 use Rattle.pv_closed.proofs.ByForms.{known_or_heavy}
@@ -39,15 +39,15 @@ module _ (g : PlainDtd) where
 
 module _ (cases : ListedOrNot) (g : PlainDtd) (w : List PlainToken) (es : List Entry) (are : AreOver g w es) where
   abbrev AtNames : Type 0
-  AtNames = (x : ℕ) → x < length g.names → WeighsAsOne es (name_site x) (content_site x) 1 × IsClosedAt g w es (content_site x)
+  AtNames = (x : ℕ) → x < length g.names → WeighsAsOne es (name_site x) (content_site x) 1 × AreClosedAt g w es (content_site x)
 
   abbrev AtParts : Type 0
-  AtParts = (q : ℕ) → q < parts_in_models g.models → IsClosedAt g w es (part_site q) × IsClosedAt g w es (rest_site q)
+  AtParts = (q : ℕ) → q < parts_in_models g.models → AreClosedAt g w es (part_site q) × AreClosedAt g w es (rest_site q)
 
   pub at_sites : KeepsNames es w → AtNames → AtParts → IsClosedAtSites g w (listed_value es)
   at_sites keeps names parts = record { closed = λ s i j c xs has span r. by_site s has i j c xs r; elsewhere = λ s i j none. by_case s i j none (known_or_heavy cases g w es are s i j) }
     where
-      by_site : (s : PlainSite) → HasSite g s → IsClosedAt g w es s
+      by_site : (s : PlainSite) → HasSite g s → AreClosedAt g w es s
       by_site (name_site x) lt = name_to cases g w es are x keeps (names x lt).0
       by_site (content_site x) lt = (names x lt).1
       by_site (part_site q) h = (parts q (part_few g q h)).0
@@ -58,7 +58,7 @@ module _ (cases : ListedOrNot) (g : PlainDtd) (w : List PlainToken) (es : List E
       by_case s i j none (inr v) = v
 
   module _ (h : IsClosed (Rule g w) (listed_value es)) where
-    at : (s : PlainSite) → IsClosedAt g w es s
+    at : (s : PlainSite) → AreClosedAt g w es s
     at s i j c xs r = h (over s i j) c xs r
 
     pub keeps_names : KeepsNames es w

@@ -24,6 +24,6 @@ pub record AreOver (g : PlainDtd) (w : List PlainToken) (es : List Entry) : Type
 
 -- no rule of the site leads to less than the values of the entries, what isn't listed having the
 -- value 1,000,001
-abbrev pub IsClosedAt : PlainDtd → List PlainToken → List Entry → PlainSite → Type 0
-IsClosedAt g w es s = (i j c : ℕ) (xs : List Goal) → Rule g w (over s i j) c xs →
+abbrev pub AreClosedAt : PlainDtd → List PlainToken → List Entry → PlainSite → Type 0
+AreClosedAt g w es s = (i j c : ℕ) (xs : List Goal) → Rule g w (over s i j) c xs →
     listed_value es (over s i j) ≤ min heaviest (c + sum_of (listed_value es) xs)

@@ -8,7 +8,7 @@ use Rattle.pv_tables.specs.Tables.{Precedes}
 use Rattle.pv_tables.specs.declared.tables.Entry.{Entry}
 
 -- the entries ascend strictly, and none has a value past 1,000,000
-pub record AreInOrder (es : List Entry) : Type 0 where
+pub record AreAscendingEntries (es : List Entry) : Type 0 where
   pub ascend : AllPairs Precedes es
   pub light : All (λ e. e.value < heaviest) es
 

@@ -6,7 +6,7 @@ use Rattle.pv_dtd.specs.Plain.{PlainDtd}
 use Rattle.pv_dtd.specs.PlainForms.{plain_dtd}
 use Rattle.pv_rules.specs.PlainForms.{IsFlat}
 use Rattle.pv_rules.specs.Sites.{PlainSite}
-use Rattle.pv_closed.specs.ClosedEntries.{AreOver, IsClosedAt}
+use Rattle.pv_closed.specs.ClosedEntries.{AreOver, AreClosedAt}
 use Rattle.pv_closed.specs.declared.tested.Tested.{Tested}
 
 abbrev pub dtd_in : Tested → PlainDtd
@@ -15,13 +15,13 @@ dtd_in t = plain_dtd t.dtd.now
 abbrev pub word_in : Tested → List PlainToken
 word_in t = map plain_token t.word.now
 
--- the parts are those of the DTD, the word isn't longer than numbers reach, and the entries are over
--- it
-pub record IsSound (t : Tested) : Type 0 where
+-- the parts are those of the DTD, the word isn't longer than numbers reach, and the entries are
+-- over it
+pub record CanBeTested (t : Tested) : Type 0 where
   pub flat : IsFlat (dtd_in t) t.flat.now
   pub few : length t.word.now < 2 ^ 32 - 1
   pub over : AreOver (dtd_in t) (word_in t) t.entries.now
 
 -- the entries are closed at the site
 abbrev pub IsClosedIn : Tested → PlainSite → Type 0
-IsClosedIn t s = IsClosedAt (dtd_in t) (word_in t) t.entries.now s
+IsClosedIn t s = AreClosedAt (dtd_in t) (word_in t) t.entries.now s

@@ -7,7 +7,7 @@ ghost use Rattle.pv_rules.specs.Rules.{IsKnownWord, Rule};
 ghost use Rattle.pv_rules.specs.Sites.{content_site, name_site, part_site, rest_site};
 ghost use Rattle.pv_tables.specs.Values.{listed_value};
 ghost use Rattle.pv_closed.specs.ClosedForms.{WeighsAsOne};
-ghost use Rattle.pv_closed.specs.Tested.{IsClosedIn, IsSound, dtd_in, word_in};
+ghost use Rattle.pv_closed.specs.Tested.{IsClosedIn, CanBeTested, dtd_in, word_in};
 
 use crate::contents::content_closed;
 use crate::forms::one_holds;
@@ -21,7 +21,7 @@ use pv_tables::laws::listed_or_not_law;
 
 /// Whether a table is closed at the names of the DTD, where it is at those that stand in the word.
 fn names_closed(tested: &Tested<'_>) -> bool
-    requires { IsSound tested.now }
+    requires { CanBeTested tested.now }
     ensures { IsTrue result ↔ ((x : ℕ) → x < length (dtd_in tested.now).names →
         WeighsAsOne tested.now.entries.now (name_site x) (content_site x) 1 ×
         IsClosedIn tested.now (content_site x)) }
@@ -40,7 +40,7 @@ fn names_closed(tested: &Tested<'_>) -> bool
 
 /// Whether a table is closed at the parts of the DTD.
 fn parts_closed(tested: &Tested<'_>) -> bool
-    requires { IsSound tested.now }
+    requires { CanBeTested tested.now }
     ensures { IsTrue result ↔ ((q : ℕ) → q < parts_in_models (dtd_in tested.now).models →
         IsClosedIn tested.now (part_site q) × IsClosedIn tested.now (rest_site q)) }
 {
@@ -57,7 +57,7 @@ fn parts_closed(tested: &Tested<'_>) -> bool
 
 /// Whether a table is closed, whatever isn't listed having the value 1,000,001.
 pub fn is_closed(tested: &Tested<'_>) -> bool
-    requires sound { IsSound tested.now }
+    requires sound { CanBeTested tested.now }
     requires known { IsKnownWord (dtd_in tested.now) (word_in tested.now) }
     ensures { IsTrue result ↔ IsClosed (Rule (dtd_in tested.now) (word_in tested.now))
         (listed_value tested.now.entries.now) }

@@ -5,7 +5,7 @@ ghost use Rattle.pv_model.specs.Plain.{any, mixed};
 ghost use Rattle.pv_dtd.specs.Plain.{model_of};
 ghost use Rattle.pv_rules.specs.Numbering.{first_part};
 ghost use Rattle.pv_rules.specs.Sites.{content_site};
-ghost use Rattle.pv_closed.specs.Tested.{IsClosedIn, IsSound, dtd_in};
+ghost use Rattle.pv_closed.specs.Tested.{IsClosedIn, CanBeTested, dtd_in};
 
 use crate::forms::{nothing_holds, one_holds, two_holds};
 use crate::tested::Tested;
@@ -16,7 +16,7 @@ use pv_tables::laws::listed_or_not_law;
 
 /// Texts, and elements of the names that are listed as the parts from `first` up to `end`.
 fn mixed_closed(tested: &Tested<'_>, id: NameId, first: u32, end: u32) -> bool
-    requires sound { IsSound tested.now }
+    requires sound { CanBeTested tested.now }
     requires mixed { (ys : List ℕ) × (model_of (dtd_in tested.now) id.0 ≡ Some (mixed ys)) ×
         (first ≡ first_part (dtd_in tested.now) id.0) ×
         (end ≡ first_part (dtd_in tested.now) id.0 + length ys) }
@@ -40,7 +40,7 @@ fn mixed_closed(tested: &Tested<'_>, id: NameId, first: u32, end: u32) -> bool
 
 /// Texts, and elements of any declared name.
 fn any_closed(tested: &Tested<'_>, id: NameId) -> bool
-    requires sound { IsSound tested.now }
+    requires sound { CanBeTested tested.now }
     requires any { model_of (dtd_in tested.now) id.0 ≡ Some any }
     ensures { IsTrue result ↔ IsClosedIn tested.now (content_site id.0) }
 {
@@ -69,7 +69,7 @@ fn any_closed(tested: &Tested<'_>, id: NameId) -> bool
 
 /// Whether a table is closed at the content of a name.
 pub fn content_closed(tested: &Tested<'_>, name: u32) -> bool
-    requires { IsSound tested.now }
+    requires { CanBeTested tested.now }
     ensures { IsTrue result ↔ IsClosedIn tested.now (content_site name) }
 {
     listed_or_not_law();

@@ -8,7 +8,7 @@ ghost use Rattle.pv_tables.specs.Tables.{Precedes};
 ghost use Rattle.pv_tables.specs.Values.{listed_value};
 ghost use Rattle.pv_closed.specs.ClosedForms.{WeighsAsOne, WeighsAsTwo, WeighsBehind};
 ghost use Rattle.pv_closed.specs.ClosedForms.{WeighsNothing};
-ghost use Rattle.pv_closed.specs.Lookup.{AreInOrder};
+ghost use Rattle.pv_closed.specs.Lookup.{AreAscendingEntries};
 
 use crate::lookup::{entries_of, row_of, value_at, value_near};
 use pv_rules::Site;
@@ -17,7 +17,7 @@ use pv_tables::laws::listed_or_not_law;
 
 /// Whether a site weighs nothing at each place up to this one.
 pub fn nothing_holds(entries: &[Entry], left: Site, most: u32) -> bool
-    requires { AreInOrder entries.now }
+    requires { AreAscendingEntries entries.now }
     ensures { IsTrue result ↔ WeighsNothing entries.now (plain_site left) most }
 {
     for place in 0..=most {
@@ -41,7 +41,7 @@ fn is_within(lefts: &[Entry], place: usize, left: Site, cost: u32, entry: &Entry
 
 /// Whether a site weighs no more than another over each span, with this cost.
 pub fn one_holds(entries: &[Entry], left: Site, right: Site, cost: u32) -> bool
-    requires { AreInOrder entries.now }
+    requires { AreAscendingEntries entries.now }
     ensures { IsTrue result ↔ WeighsAsOne entries.now (plain_site left) (plain_site right) cost }
 {
     listed_or_not_law();
@@ -89,8 +89,8 @@ fn behind_holds(
     second: Site,
     inner: bool,
 ) -> bool
-    requires lefts { AreInOrder lefts.now }
-    requires seconds { AreInOrder seconds.now }
+    requires lefts { AreAscendingEntries lefts.now }
+    requires seconds { AreAscendingEntries seconds.now }
     ensures { IsTrue result ↔ WeighsBehind lefts.now seconds.now (plain_site left) one.now.from
         one.now.to one.now.value (plain_site second) inner }
 {
@@ -115,8 +115,8 @@ fn first_holds(
     second: Site,
     inner: bool,
 ) -> bool
-    requires lefts { AreInOrder lefts.now }
-    requires seconds { AreInOrder seconds.now }
+    requires lefts { AreAscendingEntries lefts.now }
+    requires seconds { AreAscendingEntries seconds.now }
     ensures { IsTrue result ↔ ((outer ≡ true → one.now.from < one.now.to) →
         WeighsBehind lefts.now seconds.now (plain_site left) one.now.from one.now.to one.now.value
         (plain_site second) inner) }
@@ -134,7 +134,7 @@ pub fn two_holds(
     second: Site,
     inner: bool,
 ) -> bool
-    requires { AreInOrder entries.now }
+    requires { AreAscendingEntries entries.now }
     ensures { IsTrue result ↔ WeighsAsTwo entries.now (plain_site left) (plain_site first)
         (plain_site second) outer inner }
 {

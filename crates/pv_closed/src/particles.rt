@@ -5,7 +5,7 @@ ghost use Rattle.pv_model.specs.Plain.{PlainPart, PlainParts, choice, opt, plus,
 ghost use Rattle.pv_dtd.specs.Plain.{parts_in};
 ghost use Rattle.pv_rules.specs.Numbering.{part_at};
 ghost use Rattle.pv_rules.specs.Sites.{part_site, rest_site};
-ghost use Rattle.pv_closed.specs.Tested.{IsClosedIn, IsSound, dtd_in};
+ghost use Rattle.pv_closed.specs.Tested.{IsClosedIn, CanBeTested, dtd_in};
 
 use crate::forms::{nothing_holds, one_holds, two_holds};
 use crate::tested::Tested;
@@ -14,7 +14,7 @@ use pv_tables::laws::listed_or_not_law;
 
 /// A choice, whose members end before `end`.
 fn choice_closed(tested: &Tested<'_>, number: u32, end: u32) -> bool
-    requires sound { IsSound tested.now }
+    requires sound { CanBeTested tested.now }
     requires choice { (ps : PlainParts) × (part_at (dtd_in tested.now) number ≡ Some (choice ps)) ×
         (end ≡ number + parts_in (choice ps)) }
     ensures { IsTrue result ↔ IsClosedIn tested.now (part_site number) }
@@ -36,7 +36,7 @@ fn choice_closed(tested: &Tested<'_>, number: u32, end: u32) -> bool
 
 /// None of a part, or one.
 fn opt_closed(tested: &Tested<'_>, number: u32) -> bool
-    requires sound { IsSound tested.now }
+    requires sound { CanBeTested tested.now }
     requires few { number + 1 < 2 ^ 32 }
     requires opt { (p : PlainPart) × (part_at (dtd_in tested.now) number ≡ Some (opt p)) }
     ensures { IsTrue result ↔ IsClosedIn tested.now (part_site number) }
@@ -51,7 +51,7 @@ fn opt_closed(tested: &Tested<'_>, number: u32) -> bool
 
 /// None of a part, or some.
 fn star_closed(tested: &Tested<'_>, number: u32) -> bool
-    requires sound { IsSound tested.now }
+    requires sound { CanBeTested tested.now }
     requires few { number + 1 < 2 ^ 32 }
     requires star { (p : PlainPart) × (part_at (dtd_in tested.now) number ≡ Some (star p)) }
     ensures { IsTrue result ↔ IsClosedIn tested.now (part_site number) }
@@ -67,7 +67,7 @@ fn star_closed(tested: &Tested<'_>, number: u32) -> bool
 
 /// One of a part, or one and more.
 fn plus_closed(tested: &Tested<'_>, number: u32) -> bool
-    requires sound { IsSound tested.now }
+    requires sound { CanBeTested tested.now }
     requires few { number + 1 < 2 ^ 32 }
     requires plus { (p : PlainPart) × (part_at (dtd_in tested.now) number ≡ Some (plus p)) }
     ensures { IsTrue result ↔ IsClosedIn tested.now (part_site number) }
@@ -83,7 +83,7 @@ fn plus_closed(tested: &Tested<'_>, number: u32) -> bool
 
 /// Whether a table is closed at a part.
 pub fn part_closed(tested: &Tested<'_>, number: u32) -> bool
-    requires sound { IsSound tested.now }
+    requires sound { CanBeTested tested.now }
     requires few { number + 1 < 2 ^ 32 }
     ensures { IsTrue result ↔ IsClosedIn tested.now (part_site number) }
 {
@@ -104,7 +104,7 @@ pub fn part_closed(tested: &Tested<'_>, number: u32) -> bool
 
 /// Whether a table is closed at the members of a sequence from this one on.
 pub fn rest_closed(tested: &Tested<'_>, number: u32) -> bool
-    requires { IsSound tested.now }
+    requires { CanBeTested tested.now }
     ensures { IsTrue result ↔ IsClosedIn tested.now (rest_site number) }
 {
     listed_or_not_law();

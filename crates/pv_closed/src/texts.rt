@@ -10,7 +10,7 @@ ghost use Rattle.pv_rules.specs.Rules.{over};
 ghost use Rattle.pv_rules.specs.Sites.{content_site, name_site};
 ghost use Rattle.pv_tables.specs.Values.{listed_value};
 ghost use Rattle.pv_closed.specs.ClosedForms.{KeepsNames, WeighsAsBehindText};
-ghost use Rattle.pv_closed.specs.Lookup.{AreInOrder};
+ghost use Rattle.pv_closed.specs.Lookup.{AreAscendingEntries};
 
 use crate::lookup::{entries_like, value_at};
 use pv_model::{NameId, Token};
@@ -27,7 +27,7 @@ fn is_text_at(word: &[Token], place: usize) -> bool
 
 // Whether content from the text before an entry on weighs no more than the entry says.
 fn is_within_text(entries: &[Entry], word: &[Token], name: NameId, entry: &Entry) -> bool
-    requires { AreInOrder entries.now }
+    requires { AreAscendingEntries entries.now }
     ensures { IsTrue result ↔ ((i : ℕ) → suc i ≡ entry.now.from →
         slice_get (map plain_token word.now) i ≡ Some text →
         listed_value entries.now (over (content_site name.0) i entry.now.to) ≤ entry.now.value) }
@@ -41,7 +41,7 @@ fn is_within_text(entries: &[Entry], word: &[Token], name: NameId, entry: &Entry
 
 /// Whether content from a text on weighs no more than the content behind the text.
 pub fn text_holds(entries: &[Entry], word: &[Token], name: NameId) -> bool
-    requires { AreInOrder entries.now }
+    requires { AreAscendingEntries entries.now }
     ensures { IsTrue result ↔ WeighsAsBehindText entries.now (map plain_token word.now) name.0 }
 {
     listed_or_not_law();
@@ -73,7 +73,7 @@ fn name_at(word: &[Token], place: usize) -> Option<NameId>
 
 // Whether the name that stands at a place of the word weighs nothing there.
 fn is_kept_at(entries: &[Entry], word: &[Token], place: usize) -> bool
-    requires order { AreInOrder entries.now }
+    requires order { AreAscendingEntries entries.now }
     requires few { place < 2 ^ 32 - 1 }
     ensures { IsTrue result ↔ ((x : ℕ) →
         slice_get (map plain_token word.now) place ≡ Some (named x) →
@@ -88,7 +88,7 @@ fn is_kept_at(entries: &[Entry], word: &[Token], place: usize) -> bool
 
 /// Whether each name in the word weighs nothing where it stands.
 pub fn names_hold(entries: &[Entry], word: &[Token]) -> bool
-    requires order { AreInOrder entries.now }
+    requires order { AreAscendingEntries entries.now }
     requires few { length word.now < 2 ^ 32 }
     ensures { IsTrue result ↔ KeepsNames entries.now (map plain_token word.now) }
 {

@@ -20,7 +20,7 @@ use Rattle.pv_missing.specs.LiveWords.{IsLiveWord, live_name, live_none, live_ot
 use Rattle.pv_missing.specs.Weighing.{site_of}
 use Rattle.pv_missing.specs.WordLaws.{LiveFollows, OneLiveWord}
 use Rattle.pv_missing.specs.Widths.{FitsVerdict, IsListForVerdict}
-use Rattle.pv_denial.specs.Causes.{HasKidsInEmpty, Holds, owner_name}
+use Rattle.pv_denial.specs.Causes.{HasKidsInEmpty, HoldsOfList, owner_name}
 use Rattle.pv_denial.specs.Judging.{IsReached, IsRightCause, IsRightTable, JudgesAt, JudgesRows}
 use Rattle.pv_denial.specs.Rows.{AreBarrierRows, row_value}
 use Rattle.pv_denial.specs.declared.denials.Cause.{Cause}
@@ -63,12 +63,12 @@ module _ {M : Type 0} (g : PlainDtd) (root : List ℕ) (d : Denial) (list : List
     pub no_owner : site_of g root list.owner ≡ None → IsListForVerdict g list → JudgesAt g root d list (judged.Rejected flaw.Cause)
     no_owner e fits = (
       (λ _. fits),
-      (λ (r : IsRightCause g root d list). let P : Cause → Type 0 = λ c. Holds g root list c in let h = subst P by_word r.holds in no_number_of g root list.owner h.0 e h.1),
+      (λ (r : IsRightCause g root d list). let P : Cause → Type 0 = λ c. HoldsOfList g root list c in let h = subst P by_word r.holds in no_number_of g root list.owner h.0 e h.1),
     )
 
     module _ (follows : LiveFollows) (one : OneLiveWord) (s : PlainSite) (site : site_of g root list.owner ≡ Some s) (live : List PlainToken) (is : IsLiveWord g (word_of g list.kids) live) (fits : IsListForVerdict g list) where
       right : IsRightCause g root d list
-      right = record { holds = let P : Cause → Type 0 = λ c. Holds g root list c in subst P (sym by_word) (number_of_site g root list.owner s site); rows = inl by_word }
+      right = record { holds = let P : Cause → Type 0 = λ c. HoldsOfList g root list c in subst P (sym by_word) (number_of_site g root list.owner s site); rows = inl by_word }
 
       table : AreBarrierRows g live d.rows → IsRightTable g d list
       table are = λ _ w h. let P : List PlainToken → Type 0 = λ v. AreBarrierRows g v d.rows in subst P (one g (word_of g list.kids) live w is h) are
@@ -91,10 +91,10 @@ module _ {M : Type 0} (g : PlainDtd) (root : List ℕ) (d : Denial) (list : List
           ((λ _. fits), right, table are, record { by_word = by_word; site = s; is_site = site; is_value = e ∙ ap (λ v. Some v) same_length })
 
   module _ (other : d.cause ≢ cause.Word) where
-    pub cause_denied : Holds g root list d.cause → d.rows ≡ [] → JudgesAt g root d list judged.Denied
+    pub cause_denied : HoldsOfList g root list d.cause → d.rows ≡ [] → JudgesAt g root d list judged.Denied
     cause_denied h e = ((λ z. absurd (other z)), record { holds = h; rows = inr e }, (λ z. absurd (other z)), (λ (r : IsReached g root d list). other r.by_word))
 
-    pub cause_rejected : (Holds g root list d.cause → d.rows ≡ [] → ⊥) → JudgesAt g root d list (judged.Rejected flaw.Cause)
+    pub cause_rejected : (HoldsOfList g root list d.cause → d.rows ≡ [] → ⊥) → JudgesAt g root d list (judged.Rejected flaw.Cause)
     cause_rejected not = ((λ z. absurd (other z)), (λ (r : IsRightCause g root d list). elim r.rows [ inl z ↦ other z | inr e ↦ not r.holds e ]))
 
 -- the live word of a list has its length

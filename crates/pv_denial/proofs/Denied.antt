@@ -13,17 +13,15 @@ use Rattle.pv_tree.specs.Lists.{Listed, Owner, an_element, lists_of, the_documen
 use Rattle.pv_tree.specs.Plain.{Forest}
 use Rattle.pv_tree.specs.Words.{word_of}
 use Rattle.pv_missing.specs.DocumentLaws.{IsPotentiallyValidByLists}
-use Rattle.pv_missing.specs.LiveWords.{AreProductiveTokens, IsLiveWord}
+use Rattle.pv_missing.specs.LiveWords.{IsLiveWord}
 use Rattle.pv_missing.specs.PlainForms.{plain_of}
 use Rattle.pv_missing.specs.Verdicts.{IsLive, IsLiveBy}
-use Rattle.pv_missing.specs.WordLaws.{LiveFollows, PossibleDerives}
+use Rattle.pv_missing.specs.WordLaws.{LiveFollows, OwnerIsProductive, PossibleDerives}
 use Rattle.pv_missing.specs.WordVerdicts.{IsPossibleAt}
 use Rattle.pv_missing.specs.declared.owners.Of.{Of}
 use Rattle.pv_missing.specs.declared.owners.Of.TheVariants as of
-use Rattle.pv_missing.specs.Filling.{IsPossibleRoot}
-use Rattle.pv_missing.proofs.PossibleSites.{root_either}
-use Rattle.pv_missing.proofs.PossibleWords.{owner_productive}
-use Rattle.pv_denial.specs.Causes.{HasKidsInEmpty, Holds, IsUndeclared, IsUnproductive}
+use Rattle.pv_missing.specs.Filling.{IsPossibleRoot, StandsFor}
+use Rattle.pv_denial.specs.Causes.{HasKidsInEmpty, HoldsOfList, IsUndeclared, IsUnproductive}
 use Rattle.pv_denial.specs.Judging.{IsReached}
 use Rattle.pv_denial.specs.Laws.{DeniedIsImpossible, DeniedListIsImpossible}
 use Rattle.pv_denial.specs.Rows.{AreBarrierRows, row_value}
@@ -34,11 +32,13 @@ use Rattle.pv_denial.specs.declared.denials.Row.{Row}
 use Rattle.pv_denial.proofs.Rowing.{value_bounds, value_rises}
 
 -- a name for whose root some word is possible is productive
-root_productive : (g : PlainDtd) → IsProperDtd g → (x : ℕ) (live : List PlainToken) → AreProductiveTokens g live → IsPossibleRoot g x live → IsProductive g x
-root_productive g proper x live names p = elim (root_either g live proper names x p) [
-  | inl e ↦ (let P : List PlainToken → Type 0 = λ v. AreProductiveTokens g v in (subst P e names).0)
-  | inr c ↦ owner_productive g x live proper c
-]
+root_productive : OwnerIsProductive → (g : PlainDtd) → IsProperDtd g → (x : ℕ) (live : List PlainToken) → IsPossibleRoot g x live → IsProductive g x
+root_productive by_word g proper x live (d, stands) = at_depth d stands
+  where
+    at_depth : (d : ℕ) → StandsFor g d x live → IsProductive g x
+    at_depth zero (productive, e) = productive
+    at_depth (suc d) (inl (productive, e)) = productive
+    at_depth (suc d) (inr fills) = by_word g x live proper (d, fills)
 
 pub rows_rise : (g : PlainDtd) (w : List PlainToken) (rows : List Row) → AreBarrierRows g w rows → AreRising w (row_value rows)
 rows_rise g w rows are = record {
@@ -46,7 +46,7 @@ rows_rise g w rows are = record {
   rising = λ s i j k e le short. value_rises g (length w) rows are.each s i j k e le short;
 }
 
-module _ (follows : LiveFollows) (possible : PossibleDerives) (barrier : (g : PlainDtd) (w : List PlainToken) → BarrierHolds g w) (by_rows : (g : PlainDtd) (w : List PlainToken) → RowsMakeBarrier g w)
+module _ (follows : LiveFollows) (by_word : OwnerIsProductive) (possible : PossibleDerives) (barrier : (g : PlainDtd) (w : List PlainToken) → BarrierHolds g w) (by_rows : (g : PlainDtd) (w : List PlainToken) → RowsMakeBarrier g w)
     (g : PlainDtd) (proper : IsProperDtd g) where
   -- rows of a barrier reach the end of a possible word
   reached_end : (owner : Of) (live : List PlainToken) (w : List PlainToken) (rows : List Row) → IsLiveWord g w live → IsPossibleAt g (plain_of owner) live → AreBarrierRows g live rows →
@@ -62,7 +62,7 @@ module _ (follows : LiveFollows) (possible : PossibleDerives) (barrier : (g : Pl
       r.1 ∙ ap (λ v. Some v) z
 
   module _ {M : Type 0} (root : List ℕ) (d : Denial) where
-    by_cause : (list : Listed M) (c : Cause) → d.cause ≡ c → Holds g root list c → (c ≡ cause.Word → (w : List PlainToken) → IsLiveWord g (word_of g list.kids) w → AreBarrierRows g w d.rows) →
+    by_cause : (list : Listed M) (c : Cause) → d.cause ≡ c → HoldsOfList g root list c → (c ≡ cause.Word → (w : List PlainToken) → IsLiveWord g (word_of g list.kids) w → AreBarrierRows g w d.rows) →
         (IsReached g root d list → ⊥) → IsLive g root list → ⊥
     by_cause list cause.Undeclared e h t n live = undeclared list.owner list.kids h live
       where
@@ -78,7 +78,7 @@ module _ (follows : LiveFollows) (possible : PossibleDerives) (barrier : (g : Pl
         unproductive the_document kids (x, u, p) l =
             let z = same_number (number_of g root) l.number x l.is_owner u in
             let P : ℕ → Type 0 = λ v. IsProductive g v in
-            p (subst P z (root_productive g proper l.number l.live (follows g (word_of g kids) l.live l.is_live).names l.possible))
+            p (subst P z (root_productive by_word g proper l.number l.live l.possible))
         unproductive (an_element y) kids (x, u, p) l =
             let z = same_number (number_of g y) l.number x l.is_owner u in
             let P : ℕ → Type 0 = λ v. IsProductive g v in p (subst P z l.productive)
@@ -109,9 +109,9 @@ module _ (follows : LiveFollows) (possible : PossibleDerives) (barrier : (g : Pl
               is_value = reached_end (of.Elem (record { 0 = l.number })) l.live (word_of g list.kids) d.rows is l.possible (t refl l.live is);
             })
 
-pub denied_list : (M : Type 0) → LiveFollows → PossibleDerives → ((g : PlainDtd) (w : List PlainToken) → BarrierHolds g w) → ((g : PlainDtd) (w : List PlainToken) → RowsMakeBarrier g w) → DeniedListIsImpossible M
-denied_list M follows possible barrier by_rows g root list d proper (narrow, right, table, not) live =
-    by_cause follows possible barrier by_rows g proper root d list d.cause refl right.holds table not live
+pub denied_list : (M : Type 0) → LiveFollows → OwnerIsProductive → PossibleDerives → ((g : PlainDtd) (w : List PlainToken) → BarrierHolds g w) → ((g : PlainDtd) (w : List PlainToken) → RowsMakeBarrier g w) → DeniedListIsImpossible M
+denied_list M follows by_word possible barrier by_rows g root list d proper (narrow, right, table, not) live =
+    by_cause follows by_word possible barrier by_rows g proper root d list d.cause refl right.holds table not live
 
 pub denied : (M : Type 0) → DeniedListIsImpossible M → IsPotentiallyValidByLists M → DeniedIsImpossible M
 denied M impossible by_lists g root doc d proper is (inl x) valid = absurd (let e = x.1 in cc)

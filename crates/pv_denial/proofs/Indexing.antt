@@ -8,9 +8,9 @@ use Rattle.pv_rules.proofs.Facts.{parts_by_number}
 use Rattle.pv_rules.specs.PlainForms.{plain_site}
 use Rattle.pv_rules.specs.Sites.{PlainSite, content_site, name_site, part_site, rest_site}
 use Rattle.pv_tables.specs.Values.{are_same_sites}
-use Rattle.pv_denial.specs.Indexes.{HasRooms, IsIndex, IsSlot, slot}
+use Rattle.pv_denial.specs.Indexes.{HasPlaceForEach, IsIndex, IsSlot, slot}
 use Rattle.pv_denial.specs.RowForms.{one_past, past_at}
-use Rattle.pv_denial.specs.Rows.{AreOfOtherSites, EachRow, IsRow, row_of}
+use Rattle.pv_denial.specs.Rows.{AreOfOtherSites, EachRow, IsRow, row_of_site}
 use Rattle.pv_denial.specs.declared.denials.Row.{Row}
 use Rattle.pv_denial.specs.declared.index.Index.{Index}
 use Rattle.pv_denial.proofs.PartSites.{part_within, rest_within}
@@ -21,9 +21,9 @@ pub record AreTaken (g : PlainDtd) (tokens : ℕ) (rows : List Row) (n : ℕ) (i
   pub each : (k : ℕ) (r : Row) → k < n → slice_get rows k ≡ Some r → IsRow g tokens r
   pub once : (j k : ℕ) (q r : Row) → j < k → k < n → slice_get rows j ≡ Some q → slice_get rows k ≡ Some r → plain_site q.site ≢ plain_site r.site
   pub index : IsIndex rows n ix
-  pub room : HasRooms g ix
+  pub room : HasPlaceForEach g ix
 
-pub taken_none : (g : PlainDtd) (tokens : ℕ) (rows : List Row) (ix : Index) → ((s : PlainSite) → slot ix s ≡ 0) → HasRooms g ix → AreTaken g tokens rows 0 ix
+pub taken_none : (g : PlainDtd) (tokens : ℕ) (rows : List Row) (ix : Index) → ((s : PlainSite) → slot ix s ≡ 0) → HasPlaceForEach g ix → AreTaken g tokens rows 0 ix
 taken_none g tokens rows ix none room = record {
   each = λ k r lt h. absurd (omega arith);
   once = λ j k q r less lt a b. absurd (omega arith);
@@ -48,7 +48,7 @@ module _ (g : PlainDtd) (tokens : ℕ) (rows : List Row) (n : ℕ) (ix : Index) 
   slot_more s (suc k) ne (q, lt, e, f) = (q, omega arith, e, f)
 
   pub taken_more : (new : Index) (next : ℕ) → next ≡ suc n → IsRow g tokens r → slot ix (plain_site r.site) ≡ 0 → slot new (plain_site r.site) ≡ next →
-      ((s : PlainSite) → s ≢ plain_site r.site → slot new s ≡ slot ix s) → HasRooms g new → AreTaken g tokens rows next new
+      ((s : PlainSite) → s ≢ plain_site r.site → slot new s ≡ slot ix s) → HasPlaceForEach g new → AreTaken g tokens rows next new
   taken_more new next z is none put others room = record {
     each = λ k q lt e. each_case k q e (cases_lt k n) lt;
     once = λ j k q p less lt a b. once_case j k q p less a b lt (cases_lt k n);
@@ -95,9 +95,9 @@ module _ (g : PlainDtd) (tokens : ℕ) (rows : List Row) (n : ℕ) (ix : Index) 
 
 -- what the index has tells the row of a site
 pub none_listed : (rows : List Row) (s : PlainSite) → IsSlot rows (length rows) s 0 → past_at rows s ≡ (λ i. 0)
-none_listed rows s h = go (row_of rows s) refl
+none_listed rows s h = go (row_of_site rows s) refl
   where
-    go : (o : Option Row) → row_of rows s ≡ o → past_at rows s ≡ (λ i. 0)
+    go : (o : Option Row) → row_of_site rows s ≡ o → past_at rows s ≡ (λ i. 0)
     go None e = ap (λ (o : Option Row). (λ i. one_past (option_and_then (λ (r : Row). slice_get r.values i) o))) e
     go (Some r) e = let f = row_found rows s r e in absurd (h f.place r (slice_get_within rows f.place r f.is_there) f.is_there f.is_site)
 
@@ -110,7 +110,7 @@ row_listed rows s k i r once (q, lt, e, f) here =
 
 -- an index with a place for each name and each part has room for each site
 pub rooms : (g : PlainDtd) (ix : Index) → length ix.names.items ≡ length g.names → length ix.contents.items ≡ length g.names → length ix.parts.items ≡ parts_in_models g.models →
-    length ix.rests.items ≡ parts_in_models g.models → HasRooms g ix
+    length ix.rests.items ≡ parts_in_models g.models → HasPlaceForEach g ix
 rooms g ix a b c d (name_site x) has = omega arith
 rooms g ix a b c d (content_site x) has = omega arith
 rooms g ix a b c d (part_site q) has = let lt = part_within g (parts_by_number g) (part_site q) has refl in omega arith

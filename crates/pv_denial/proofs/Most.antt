@@ -4,7 +4,7 @@ use Rattle.std.proofs.lemmas.Bool.{cases_lt}
 use Rattle.std.proofs.lemmas.Option.{slice_get_within}
 use Rattle.pv_dtd.specs.Plain.{IsDeclared, PlainDtd, declared}
 use Rattle.pv_rules.specs.Sites.{PlainSite, name_site}
-use Rattle.pv_denial.specs.RowForms.{AreMost, HoldsTwo, IsMost, behind, one_past, past_at}
+use Rattle.pv_denial.specs.RowForms.{AreMost, HoldsTwoSides, IsMost, value_then, one_past, past_at}
 use Rattle.pv_denial.specs.Rows.{EachRow, IsRow, row_value}
 use Rattle.pv_denial.specs.declared.denials.Row.{Row}
 use Rattle.pv_denial.proofs.Lists.{front_or_end}
@@ -23,7 +23,7 @@ module _ (g : PlainDtd) (n : ℕ) (rows : List Row) (each : EachRow (IsRow g n) 
           let m = r.2 in omega arith
 
   -- what stands behind a value isn't more than what stands behind a greater one
-  behind_rises : (s : PlainSite) (p q : ℕ) → p ≤ q → q ≤ suc n → behind p (past_at rows s) ≤ behind q (past_at rows s)
+  behind_rises : (s : PlainSite) (p q : ℕ) → p ≤ q → q ≤ suc n → value_then p (past_at rows s) ≤ value_then q (past_at rows s)
   behind_rises s zero q le short = omega arith
   behind_rises s (suc i) zero le short = absurd (omega arith)
   behind_rises s (suc i) (suc j) le short = past_rises s i j (omega arith) (omega arith)
@@ -41,7 +41,7 @@ module _ (g : PlainDtd) (n : ℕ) (rows : List Row) (each : EachRow (IsRow g n) 
         by (inl e) = omega arith
         by (inr (y, d, e)) = told y m e
 
-    pub names_by_most : (s : PlainSite) → ((i m : ℕ) → slice_get ms i ≡ Some m → behind m (past_at rows s) ≤ past_at rows s i) → (y : ℕ) → IsDeclared g y → HoldsTwo rows s (name_site y) s n
+    pub names_by_most : (s : PlainSite) → ((i m : ℕ) → slice_get ms i ≡ Some m → value_then m (past_at rows s) ≤ past_at rows s i) → (y : ℕ) → IsDeclared g y → HoldsTwoSides rows s (name_site y) s n
     names_by_most s h y d i le =
         let l = most.long in
         let x = slice_get_below ms i (omega arith) in
@@ -49,14 +49,14 @@ module _ (g : PlainDtd) (n : ℕ) (rows : List Row) (each : EachRow (IsRow g n) 
         let a = behind_rises s (past_at rows (name_site y) i) x.0 (is.all y d) (most_short i x.0 is) in
         let b = h i x.0 x.1 in omega arith
 
-    pub most_by_names : (s : PlainSite) → ((y : ℕ) → IsDeclared g y → HoldsTwo rows s (name_site y) s n) → (i m : ℕ) → slice_get ms i ≡ Some m → behind m (past_at rows s) ≤ past_at rows s i
+    pub most_by_names : (s : PlainSite) → ((y : ℕ) → IsDeclared g y → HoldsTwoSides rows s (name_site y) s n) → (i m : ℕ) → slice_get ms i ≡ Some m → value_then m (past_at rows s) ≤ past_at rows s i
     most_by_names s h i m e = by (most.each i m e).attained
       where
-        by : (m ≡ 0) ⊎ ((y : ℕ) × IsDeclared g y × (past_at rows (name_site y) i ≡ m)) → behind m (past_at rows s) ≤ past_at rows s i
-        by (inl z) = let P : ℕ → Type 0 = λ v. behind v (past_at rows s) ≤ past_at rows s i in subst P (sym z) (omega arith)
+        by : (m ≡ 0) ⊎ ((y : ℕ) × IsDeclared g y × (past_at rows (name_site y) i ≡ m)) → value_then m (past_at rows s) ≤ past_at rows s i
+        by (inl z) = let P : ℕ → Type 0 = λ v. value_then v (past_at rows s) ≤ past_at rows s i in subst P (sym z) (omega arith)
         by (inr (y, d, f)) =
             let w = slice_get_within ms i m e in let l = most.long in
-            let P : ℕ → Type 0 = λ v. behind v (past_at rows s) ≤ past_at rows s i in
+            let P : ℕ → Type 0 = λ v. value_then v (past_at rows s) ≤ past_at rows s i in
             subst P f (h y d i (omega arith))
 
 -- the most of the first names

@@ -3,7 +3,7 @@ use Rattle.std.proofs.Common.{List, ap, inl, inr, refl, subst, sym, ℕ, ◌∙�
 use Rattle.pv_dtd.specs.Plain.{PlainDtd}
 use Rattle.pv_tree.specs.Lists.{Listed}
 use Rattle.pv_tables.specs.TableLaws.{OneListAtPath}
-use Rattle.pv_denial.specs.Judging.{FailsAt, IsAbout, IsJudged, IsTooWideFor, JudgesAt}
+use Rattle.pv_denial.specs.Judging.{FailsAt, IsAbout, IsDenialJudged, IsTooWideFor, JudgesAt}
 use Rattle.pv_denial.specs.Laws.{OneJudged}
 use Rattle.pv_missing.specs.Widths.{IsListForVerdict}
 use Rattle.pv_denial.specs.declared.denials.Cause.TheVariants as cause
@@ -52,7 +52,7 @@ one_judged M paths g root doc d = (same, narrow)
     one_list : (a b : Listed M) → IsAbout doc d a → IsAbout doc d b → a ≡ b
     one_list a b p q = paths doc a b p.is_listed q.is_listed (p.is_path ∙ sym q.is_path)
 
-    same : (j k : Judged) → IsJudged g root doc d j → IsJudged g root doc d k → j ≡ k
+    same : (j k : Judged) → IsDenialJudged g root doc d j → IsDenialJudged g root doc d k → j ≡ k
     same j k (inl (n, e)) (inl (m, f)) = e ∙ sym f
     same j k (inl (n, e)) (inr (l, a, p)) = absurd (n l a)
     same j k (inr (l, a, p)) (inl (n, e)) = absurd (n l a)
@@ -60,7 +60,7 @@ one_judged M paths g root doc d = (same, narrow)
         let P : Listed M → Type 0 = λ x. JudgesAt g root d x j in
         one_at g root d m j k (subst P (one_list l m a b) p) q
 
-    narrow : (j : Judged) → IsJudged g root doc d j → IsTooWideFor g doc d → ⊥
+    narrow : (j : Judged) → IsDenialJudged g root doc d j → IsTooWideFor g doc d → ⊥
     narrow j (inl (n, e)) (m, b, c, w) = n m b
     narrow j (inr (l, a, p)) (m, b, c, w) =
         let P : Listed M → Type 0 = λ x. JudgesAt g root d x j in

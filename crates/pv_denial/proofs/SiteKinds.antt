@@ -8,7 +8,7 @@ use Rattle.pv_rules.specs.Numbering.{IsMemberAt, first_part, part_at, rest_at}
 use Rattle.pv_rules.specs.Rules.{Goal, over}
 use Rattle.pv_rules.specs.Sites.{PlainSite, content_site, name_site, part_site, rest_site}
 use Rattle.pv_rules.proofs.ByKind.{by_kind, from_kind}
-use Rattle.pv_denial.specs.RowForms.{HoldsAt, HoldsKept, HoldsNone, HoldsOne, HoldsText, HoldsTwo}
+use Rattle.pv_denial.specs.RowForms.{HoldsAt, HoldsKept, HoldsNoSide, HoldsOneSide, HoldsOverTexts, HoldsTwoSides}
 use Rattle.pv_denial.specs.Rows.{EachRow, IsRow, row_value}
 use Rattle.pv_denial.specs.declared.denials.Row.{Row}
 use Rattle.pv_denial.proofs.Holding.{from_again, from_more, from_none, from_one, from_text, from_then, let_again, let_more, let_none, let_one, let_text, let_then}
@@ -28,11 +28,11 @@ module _ (g : PlainDtd) (w : List PlainToken) (n : ℕ) (size : n ≡ length w) 
   to_rules : (s : PlainSite) → ((i j c : ℕ) (xs : List Goal) → OfSite g w i j c xs s → At xs → Within s i j) → HoldsAt g w rows s
   to_rules s h i j c xs r at = h i j c xs (by_kind g w s i j c xs r) at
 
-  name_let : (x : ℕ) → HoldsKept rows x w → HoldsOne rows (name_site x) (content_site x) n → (i j c : ℕ) (xs : List Goal) → OfName g w i j c xs x → At xs → Within (name_site x) i j
+  name_let : (x : ℕ) → HoldsKept rows x w → HoldsOneSide rows (name_site x) (content_site x) n → (i j c : ℕ) (xs : List Goal) → OfName g w i j c xs x → At xs → Within (name_site x) i j
   name_let x h o i j c xs (inl (t, e, _, _)) at = past_within rows (name_site x) i j (let a = h i t in omega arith)
   name_let x h o i j c xs (inr (span, _, e)) at = let_one g w n size rows each (name_site x) (content_site x) o i j 0 xs (span, refl, e) at
 
-  pub holds_name : (x : ℕ) → (HoldsKept rows x w × HoldsOne rows (name_site x) (content_site x) n) ↔ HoldsAt g w rows (name_site x)
+  pub holds_name : (x : ℕ) → (HoldsKept rows x w × HoldsOneSide rows (name_site x) (content_site x) n) ↔ HoldsAt g w rows (name_site x)
   holds_name x = (
     (λ h. to_rules (name_site x) (name_let x h.0 h.1)),
     (λ h. (
@@ -44,12 +44,12 @@ module _ (g : PlainDtd) (w : List PlainToken) (n : ℕ) (size : n ≡ length w) 
   -- of the content of a name, by its model
   abbrev pub HoldsContent : ℕ → Option PlainModel → Type 0
   HoldsContent x None = Unit {0}
-  HoldsContent x (Some empty) = HoldsNone rows (content_site x) n
-  HoldsContent x (Some any) = HoldsNone rows (content_site x) n × HoldsText rows (content_site x) w ×
-      ((y : ℕ) → IsDeclared g y → HoldsTwo rows (content_site x) (name_site y) (content_site x) n)
-  HoldsContent x (Some (mixed ys)) = HoldsNone rows (content_site x) n × HoldsText rows (content_site x) w ×
-      ((e : ℕ) → e < length ys → HoldsTwo rows (content_site x) (part_site (first_part g x + e)) (content_site x) n)
-  HoldsContent x (Some (children p)) = HoldsOne rows (content_site x) (part_site (first_part g x)) n
+  HoldsContent x (Some empty) = HoldsNoSide rows (content_site x) n
+  HoldsContent x (Some any) = HoldsNoSide rows (content_site x) n × HoldsOverTexts rows (content_site x) w ×
+      ((y : ℕ) → IsDeclared g y → HoldsTwoSides rows (content_site x) (name_site y) (content_site x) n)
+  HoldsContent x (Some (mixed ys)) = HoldsNoSide rows (content_site x) n × HoldsOverTexts rows (content_site x) w ×
+      ((e : ℕ) → e < length ys → HoldsTwoSides rows (content_site x) (part_site (first_part g x + e)) (content_site x) n)
+  HoldsContent x (Some (children p)) = HoldsOneSide rows (content_site x) (part_site (first_part g x)) n
 
   content_let : (x : ℕ) (o : Option PlainModel) → HoldsContent x o → (i j c : ℕ) (xs : List Goal) → OfContent g w i j c xs x o → At xs → Within (content_site x) i j
   content_let x None h i j c xs k at = absurd k
@@ -88,13 +88,13 @@ module _ (g : PlainDtd) (w : List PlainToken) (n : ℕ) (size : n ≡ length w) 
   -- of a part
   abbrev pub HoldsPart : ℕ → Option PlainPart → Type 0
   HoldsPart q None = Unit {0}
-  HoldsPart q (Some (name y)) = HoldsOne rows (part_site q) (name_site y) n
+  HoldsPart q (Some (name y)) = HoldsOneSide rows (part_site q) (name_site y) n
   HoldsPart q (Some (seq no_parts)) = Unit {0}
-  HoldsPart q (Some (seq (part p ps))) = HoldsOne rows (part_site q) (rest_site (suc q)) n
-  HoldsPart q (Some (choice ps)) = (p : PlainPart) (r : ℕ) → IsMemberAt p r (suc q) ps → HoldsOne rows (part_site q) (part_site r) n
-  HoldsPart q (Some (opt p)) = HoldsNone rows (part_site q) n × HoldsOne rows (part_site q) (part_site (suc q)) n
-  HoldsPart q (Some (star p)) = HoldsNone rows (part_site q) n × HoldsTwo rows (part_site q) (part_site (suc q)) (part_site q) n
-  HoldsPart q (Some (plus p)) = HoldsOne rows (part_site q) (part_site (suc q)) n × HoldsTwo rows (part_site q) (part_site (suc q)) (part_site q) n
+  HoldsPart q (Some (seq (part p ps))) = HoldsOneSide rows (part_site q) (rest_site (suc q)) n
+  HoldsPart q (Some (choice ps)) = (p : PlainPart) (r : ℕ) → IsMemberAt p r (suc q) ps → HoldsOneSide rows (part_site q) (part_site r) n
+  HoldsPart q (Some (opt p)) = HoldsNoSide rows (part_site q) n × HoldsOneSide rows (part_site q) (part_site (suc q)) n
+  HoldsPart q (Some (star p)) = HoldsNoSide rows (part_site q) n × HoldsTwoSides rows (part_site q) (part_site (suc q)) (part_site q) n
+  HoldsPart q (Some (plus p)) = HoldsOneSide rows (part_site q) (part_site (suc q)) n × HoldsTwoSides rows (part_site q) (part_site (suc q)) (part_site q) n
 
   part_let : (q : ℕ) (o : Option PlainPart) → HoldsPart q o → (i j c : ℕ) (xs : List Goal) → OfPart g w i j c xs q o → At xs → Within (part_site q) i j
   part_let q None h i j c xs k at = absurd k
@@ -139,8 +139,8 @@ module _ (g : PlainDtd) (w : List PlainToken) (n : ℕ) (size : n ≡ length w) 
   abbrev pub HoldsRest : ℕ → Option PlainParts → Type 0
   HoldsRest q None = Unit {0}
   HoldsRest q (Some no_parts) = Unit {0}
-  HoldsRest q (Some (part p no_parts)) = HoldsOne rows (rest_site q) (part_site q) n
-  HoldsRest q (Some (part p (part r ps))) = HoldsTwo rows (rest_site q) (part_site q) (rest_site (q + parts_in p)) n
+  HoldsRest q (Some (part p no_parts)) = HoldsOneSide rows (rest_site q) (part_site q) n
+  HoldsRest q (Some (part p (part r ps))) = HoldsTwoSides rows (rest_site q) (part_site q) (rest_site (q + parts_in p)) n
 
   rest_let : (q : ℕ) (o : Option PlainParts) → HoldsRest q o → (i j c : ℕ) (xs : List Goal) → OfRest g w i j c xs q o → At xs → Within (rest_site q) i j
   rest_let q None h i j c xs k at = absurd k

@@ -29,11 +29,11 @@ HasKidsInEmpty g (an_element name) kids = (x : ℕ) × (number_of g name ≡ Som
     (model_of g x ≡ Some empty) × ¬ (kids ≡ no_trees)
 
 -- the cause holds of the list, whatever its word; that of the word, where the DTD has the name
-abbrev pub Holds : {M : Type 0} → PlainDtd → List ℕ → Listed M → Cause → Type 0
-Holds g root list cause.Undeclared = IsUndeclared g root list.owner
-Holds g root list cause.Unproductive = IsUnproductive g root list.owner
-Holds g root list cause.Empty = HasKidsInEmpty g list.owner list.kids
-Holds g root list cause.Word = (x : ℕ) × (number_of g (owner_name root list.owner) ≡ Some x)
+abbrev pub HoldsOfList : {M : Type 0} → PlainDtd → List ℕ → Listed M → Cause → Type 0
+HoldsOfList g root list cause.Undeclared = IsUndeclared g root list.owner
+HoldsOfList g root list cause.Unproductive = IsUnproductive g root list.owner
+HoldsOfList g root list cause.Empty = HasKidsInEmpty g list.owner list.kids
+HoldsOfList g root list cause.Word = (x : ℕ) × (number_of g (owner_name root list.owner) ≡ Some x)
 
 -- The first cause of an impossible list that fits, the word where no other does.
 abbrev pub IsCause : {M : Type 0} → PlainDtd → List ℕ → Listed M → Cause → Type 0
@@ -41,5 +41,5 @@ IsCause g root list cause.Undeclared = IsUndeclared g root list.owner
 IsCause g root list cause.Unproductive = IsUnproductive g root list.owner
 IsCause g root list cause.Empty =
     HasKidsInEmpty g list.owner list.kids × ¬ IsUnproductive g root list.owner
-IsCause g root list cause.Word = Holds g root list cause.Word ×
+IsCause g root list cause.Word = HoldsOfList g root list cause.Word ×
     (¬ IsUnproductive g root list.owner) × ¬ HasKidsInEmpty g list.owner list.kids

@@ -14,15 +14,15 @@ slot ix (part_site q) = get_or ix.parts.items q 0
 slot ix (rest_site q) = get_or ix.rests.items q 0
 
 -- it has room for the site
-abbrev pub HasRoom : Index → PlainSite → Type 0
-HasRoom ix (name_site x) = x < length ix.names.items
-HasRoom ix (content_site x) = x < length ix.contents.items
-HasRoom ix (part_site q) = q < length ix.parts.items
-HasRoom ix (rest_site q) = q < length ix.rests.items
+abbrev pub HasPlaceFor : Index → PlainSite → Type 0
+HasPlaceFor ix (name_site x) = x < length ix.names.items
+HasPlaceFor ix (content_site x) = x < length ix.contents.items
+HasPlaceFor ix (part_site q) = q < length ix.parts.items
+HasPlaceFor ix (rest_site q) = q < length ix.rests.items
 
 -- it has room for each site of the DTD
-abbrev pub HasRooms : PlainDtd → Index → Type 0
-HasRooms g ix = (s : PlainSite) → HasSite g s → HasRoom ix s
+abbrev pub HasPlaceForEach : PlainDtd → Index → Type 0
+HasPlaceForEach g ix = (s : PlainSite) → HasSite g s → HasPlaceFor ix s
 
 -- of the first n rows none has the site, or that of the number before v
 abbrev pub IsSlot : List Row → ℕ → PlainSite → ℕ → Type 0

@@ -10,7 +10,7 @@ use Rattle.pv_missing.specs.LiveWords.{IsLiveWord}
 use Rattle.pv_missing.specs.Weighing.{site_of}
 use Rattle.pv_missing.specs.Widths.{IsListForVerdict}
 use Rattle.pv_tree.specs.Words.{word_of}
-use Rattle.pv_denial.specs.Causes.{Holds}
+use Rattle.pv_denial.specs.Causes.{HoldsOfList}
 use Rattle.pv_denial.specs.Rows.{AreBarrierRows, row_value}
 use Rattle.pv_denial.specs.declared.denials.Cause.TheVariants as cause
 use Rattle.pv_denial.specs.declared.denials.Denial.{Denial}
@@ -32,7 +32,7 @@ IsNarrowFor g d list = d.cause ≡ cause.Word → IsListForVerdict g list
 -- the cause holds, and only that of the word has rows
 pub record IsRightCause {M : Type 0} (g : PlainDtd) (root : List ℕ) (d : Denial) (list : Listed M)
     : Type 0 where
-  pub holds : Holds g root list d.cause
+  pub holds : HoldsOfList g root list d.cause
   pub rows : (d.cause ≡ cause.Word) ⊎ (d.rows ≡ [])
 
 -- the rows are a barrier for the live word
@@ -65,8 +65,8 @@ JudgesAt g root d list (judged.Rejected f) = FailsAt g root d list f
 
 -- A denial is rejected where it names no list; and else denied where the list passes all
 -- tests, or rejected for the first that it fails.
-abbrev pub IsJudged : {M : Type 0} → PlainDtd → List ℕ → PlainDoc M → Denial → Judged → Type 0
-IsJudged {M} g root doc d j =
+abbrev pub IsDenialJudged : {M : Type 0} → PlainDtd → List ℕ → PlainDoc M → Denial → Judged → Type 0
+IsDenialJudged {M} g root doc d j =
     (((list : Listed M) → ¬ IsAbout doc d list) × (j ≡ judged.Rejected flaw.List)) ⊎
     ((list : Listed M) × IsAbout doc d list × JudgesAt g root d list j)
 

@@ -8,7 +8,7 @@ use Rattle.pv_tree.specs.View.{view}
 use Rattle.pv_missing.specs.Completing.{IsPotentiallyValid}
 use Rattle.pv_missing.specs.Proper.{IsProperDoc}
 use Rattle.pv_missing.specs.Verdicts.{IsLive}
-use Rattle.pv_denial.specs.Judging.{IsJudged, IsTooWideFor, JudgesAt}
+use Rattle.pv_denial.specs.Judging.{IsDenialJudged, IsTooWideFor, JudgesAt}
 use Rattle.pv_denial.specs.declared.denials.Denial.{Denial}
 use Rattle.pv_denial.specs.declared.denials.Judged.{Judged}
 use Rattle.pv_denial.specs.declared.denials.Judged.TheVariants as judged
@@ -21,11 +21,11 @@ DeniedListIsImpossible M = (g : PlainDtd) (root : List ℕ) (list : Listed M) (d
 -- where a denial passes all tests, no insertions make the document valid
 abbrev pub DeniedIsImpossible : (M : Type 0) → Type 0
 DeniedIsImpossible M = (g : PlainDtd) (root : List ℕ) (doc : PlainDoc M) (d : Denial) →
-    IsProperDtd g → IsProperDoc doc → IsJudged g root doc d judged.Denied →
+    IsProperDtd g → IsProperDoc doc → IsDenialJudged g root doc d judged.Denied →
     ¬ IsPotentiallyValid g root (view doc.root)
 
 -- a denial is judged to be at most one thing, and isn't judged where its list is too wide
 abbrev pub OneJudged : (M : Type 0) → Type 0
 OneJudged M = (g : PlainDtd) (root : List ℕ) (doc : PlainDoc M) (d : Denial) →
-    ((j k : Judged) → IsJudged g root doc d j → IsJudged g root doc d k → j ≡ k) ×
-    ((j : Judged) → IsJudged g root doc d j → ¬ IsTooWideFor g doc d)
+    ((j k : Judged) → IsDenialJudged g root doc d j → IsDenialJudged g root doc d k → j ≡ k) ×
+    ((j : Judged) → IsDenialJudged g root doc d j → ¬ IsTooWideFor g doc d)

@@ -1,6 +1,7 @@
 -- What rows hold under the rules of each form. A value is told by one more than it, and 0 tells
 -- none, so that none is less than every number.
-use Rattle.std.specs.Prelude.{List, None, Option, Some, length, slice_get, suc, zero, ℕ, ◌≡◌, ◌≤◌, ◌⊎◌}
+use Rattle.std.specs.Prelude.{List, None, Option, Some, length, slice_get, suc, zero, ℕ, ◌≡◌, ◌≤◌}
+use Rattle.std.specs.Prelude.{◌⊎◌}
 use Rattle.pv_model.specs.Plain.{PlainToken, named, text}
 use Rattle.pv_dtd.specs.Plain.{IsDeclared, PlainDtd}
 use Rattle.pv_rules.specs.Barriers.{AreAtRows, IsWithinRows}
@@ -18,26 +19,26 @@ abbrev pub past_at : List Row → PlainSite → ℕ → ℕ
 past_at rows s i = one_past (row_value rows s i)
 
 -- what stands behind a value, where there is one
-abbrev pub behind : ℕ → (ℕ → ℕ) → ℕ
-behind zero f = 0
-behind (suc k) f = f k
+abbrev pub value_then : ℕ → (ℕ → ℕ) → ℕ
+value_then zero f = 0
+value_then (suc k) f = f k
 
 -- the site has a value at each place of a word of n tokens
-abbrev pub HoldsNone : List Row → PlainSite → ℕ → Type 0
-HoldsNone rows s n = (i : ℕ) → i ≤ n → suc i ≤ past_at rows s i
+abbrev pub HoldsNoSide : List Row → PlainSite → ℕ → Type 0
+HoldsNoSide rows s n = (i : ℕ) → i ≤ n → suc i ≤ past_at rows s i
 
 -- it is at least another site
-abbrev pub HoldsOne : List Row → PlainSite → PlainSite → ℕ → Type 0
-HoldsOne rows s r n = (i : ℕ) → i ≤ n → past_at rows r i ≤ past_at rows s i
+abbrev pub HoldsOneSide : List Row → PlainSite → PlainSite → ℕ → Type 0
+HoldsOneSide rows s r n = (i : ℕ) → i ≤ n → past_at rows r i ≤ past_at rows s i
 
 -- it is at least a second site at the values of a first
-abbrev pub HoldsTwo : List Row → PlainSite → PlainSite → PlainSite → ℕ → Type 0
-HoldsTwo rows s r q n = (i : ℕ) → i ≤ n →
-    behind (past_at rows r i) (past_at rows q) ≤ past_at rows s i
+abbrev pub HoldsTwoSides : List Row → PlainSite → PlainSite → PlainSite → ℕ → Type 0
+HoldsTwoSides rows s r q n = (i : ℕ) → i ≤ n →
+    value_then (past_at rows r i) (past_at rows q) ≤ past_at rows s i
 
 -- before each text it is at least itself behind the text
-abbrev pub HoldsText : List Row → PlainSite → List PlainToken → Type 0
-HoldsText rows s w = (i : ℕ) → slice_get w i ≡ Some text →
+abbrev pub HoldsOverTexts : List Row → PlainSite → List PlainToken → Type 0
+HoldsOverTexts rows s w = (i : ℕ) → slice_get w i ≡ Some text →
     past_at rows s (suc i) ≤ past_at rows s i
 
 -- an element of the name leads beyond each token of that name

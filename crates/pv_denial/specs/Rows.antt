@@ -11,13 +11,14 @@ use Rattle.pv_tables.specs.Values.{are_same_sites}
 use Rattle.pv_denial.specs.declared.denials.Row.{Row}
 
 -- the first row of a site
-abbrev pub row_of : List Row → PlainSite → Option Row
-row_of [] s = None
-row_of (r ∷ rows) s = if are_same_sites (plain_site r.site) s then Some r else row_of rows s
+abbrev pub row_of_site : List Row → PlainSite → Option Row
+row_of_site [] s = None
+row_of_site (r ∷ rows) s =
+    if are_same_sites (plain_site r.site) s then Some r else row_of_site rows s
 
 -- what the row of a site has at a place; none where no row is listed
 abbrev pub row_value : List Row → PlainSite → ℕ → Option ℕ
-row_value rows s i = option_and_then (λ (r : Row). slice_get r.values i) (row_of rows s)
+row_value rows s i = option_and_then (λ (r : Row). slice_get r.values i) (row_of_site rows s)
 
 -- Each value is its place or one behind it in a word of n tokens, and they don't fall.
 pub record AreRisingValues (values : List ℕ) (n : ℕ) : Type 0 where
@@ -63,7 +64,8 @@ abbrev pub values_in : List Row → ℕ
 values_in [] = 0
 values_in (r ∷ rows) = length r.values + values_in rows
 
--- Rows stand in the order of their sites, each has a value, and they have no more than there may be.
+-- Rows stand in the order of their sites, each has a value, and they have no more than there may
+-- be.
 pub record AreInOrder (rows : List Row) : Type 0 where
   pub ascend : (j k : ℕ) (q r : Row) → j < k → slice_get rows j ≡ Some q →
       slice_get rows k ≡ Some r → IsSiteBefore (plain_site q.site) (plain_site r.site)

@@ -8,7 +8,7 @@ ghost use Rattle.pv_model.specs.declared.models.NameId.{NameId as PlainId};
 ghost use Rattle.pv_productive.specs.PlainForms.{dtd_of};
 ghost use Rattle.pv_tree.specs.Lists.{Listed};
 ghost use Rattle.pv_tree.specs.declared.nodes.Mark.{Mark as PlainMark};
-ghost use Rattle.pv_denial.specs.Causes.{HasKidsInEmpty, Holds, IsCause, IsUnproductive};
+ghost use Rattle.pv_denial.specs.Causes.{HasKidsInEmpty, HoldsOfList, IsCause, IsUnproductive};
 ghost use Rattle.pv_denial.specs.Places.{IsPlaceOf};
 ghost use Rattle.pv_denial.specs.declared.denials.Cause.TheVariants as cause;
 
@@ -69,7 +69,7 @@ fn has_kids_in_empty(grammar: &Grammar, place: &Place<'_>) -> bool
 /// Whether the DTD has the name of the list's owner.
 fn has_name(grammar: &Grammar, place: &Place<'_>) -> bool
     ensures { (root : List ℕ) (list : Listed PlainMark) → IsPlaceOf root list place.now →
-        IsTrue result ↔ Holds (dtd_of grammar.now) root list cause.Word }
+        IsTrue result ↔ HoldsOfList (dtd_of grammar.now) root list cause.Word }
 {
     match owner_id(grammar, place) {
         Some(_id) => true,
@@ -81,7 +81,7 @@ fn has_name(grammar: &Grammar, place: &Place<'_>) -> bool
 /// name.
 pub fn holds(grammar: &Grammar, place: &Place<'_>, cause: Cause) -> bool
     ensures { (root : List ℕ) (list : Listed PlainMark) → IsPlaceOf root list place.now →
-        IsTrue result ↔ Holds (dtd_of grammar.now) root list cause }
+        IsTrue result ↔ HoldsOfList (dtd_of grammar.now) root list cause }
 {
     match cause {
         Cause::Undeclared => grammar.dtd().name_id(place.name).is_none(),

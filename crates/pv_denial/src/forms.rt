@@ -5,8 +5,9 @@ ghost use Rattle.pv_model.specs.Plain.{named, text};
 ghost use Rattle.pv_model.specs.PlainForms.{plain_token};
 ghost use Rattle.pv_rules.specs.PlainForms.{plain_site};
 ghost use Rattle.pv_rules.specs.Sites.{name_site};
-ghost use Rattle.pv_denial.specs.RowForms.{HoldsKept, HoldsNone, HoldsOne, HoldsText, HoldsTwo};
-ghost use Rattle.pv_denial.specs.RowForms.{behind, past_at};
+ghost use Rattle.pv_denial.specs.RowForms.{HoldsKept, HoldsNoSide, HoldsOneSide, HoldsOverTexts};
+ghost use Rattle.pv_denial.specs.RowForms.{HoldsTwoSides};
+ghost use Rattle.pv_denial.specs.RowForms.{value_then, past_at};
 
 use crate::barrier::Barrier;
 use pv_model::{NameId, Token};
@@ -15,7 +16,7 @@ use pv_rules::Site;
 /// Whether a site has a value at each place.
 pub fn none_holds(barrier: &Barrier<'_>, left: Site, tokens: usize) -> bool
     requires { tokens < 2 ^ 62 }
-    ensures { IsTrue result ↔ HoldsNone barrier.now (plain_site left) tokens }
+    ensures { IsTrue result ↔ HoldsNoSide barrier.now (plain_site left) tokens }
 {
     for place in 0..tokens + 1 {
         if barrier.past_at(left, place) <= place as u64 {
@@ -29,7 +30,7 @@ pub fn none_holds(barrier: &Barrier<'_>, left: Site, tokens: usize) -> bool
 pub fn one_holds(barrier: &Barrier<'_>, left: Site, right: Site, tokens: usize) -> bool
     requires { tokens < 2 ^ 62 }
     ensures { IsTrue result ↔
-        HoldsOne barrier.now (plain_site left) (plain_site right) tokens }
+        HoldsOneSide barrier.now (plain_site left) (plain_site right) tokens }
 {
     for place in 0..tokens + 1 {
         if barrier.past_at(left, place) < barrier.past_at(right, place) {
@@ -41,7 +42,7 @@ pub fn one_holds(barrier: &Barrier<'_>, left: Site, right: Site, tokens: usize) 
 
 /// One past the value of a site at the place that is told by one more than it, or 0.
 pub fn past_from(barrier: &Barrier<'_>, site: Site, past: u64) -> u64
-    ensures { result ≡ behind past (past_at barrier.now (plain_site site)) }
+    ensures { result ≡ value_then past (past_at barrier.now (plain_site site)) }
 {
     match past {
         0 => 0,
@@ -59,7 +60,7 @@ pub fn two_holds(
 ) -> bool
     requires { tokens < 2 ^ 62 }
     ensures { IsTrue result ↔
-        HoldsTwo barrier.now (plain_site left) (plain_site first) (plain_site second) tokens }
+        HoldsTwoSides barrier.now (plain_site left) (plain_site first) (plain_site second) tokens }
 {
     for place in 0..tokens + 1 {
         let past = barrier.past_at(first, place);
@@ -88,7 +89,7 @@ fn text_here_holds(barrier: &Barrier<'_>, left: Site, token: Token, place: usize
 pub fn text_holds(barrier: &Barrier<'_>, left: Site, word: &[Token]) -> bool
     requires { length word.now < 2 ^ 62 }
     ensures { IsTrue result ↔
-        HoldsText barrier.now (plain_site left) (map plain_token word.now) }
+        HoldsOverTexts barrier.now (plain_site left) (map plain_token word.now) }
 {
     for place in 0..word.len() {
         if !text_here_holds(barrier, left, word[place], place) {

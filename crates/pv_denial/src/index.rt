@@ -18,12 +18,12 @@ impl Index {
     ghost use Rattle.pv_rules.specs.PlainForms.{plain_site};
     ghost use Rattle.pv_rules.specs.Sites.{PlainSite};
     ghost use Rattle.pv_productive.specs.PlainForms.{dtd_of};
-    ghost use Rattle.pv_denial.specs.Indexes.{HasRoom, HasRooms, slot};
+    ghost use Rattle.pv_denial.specs.Indexes.{HasPlaceFor, HasPlaceForEach, slot};
 
     /// No row yet, with room for the sites of so many names and parts.
     pub fn new(alloc: Global, grammar: &Grammar) -> Result<Index, AllocError>
         ensures none { IfOk result (λ ix. (s : PlainSite) → slot ix s ≡ 0) }
-        ensures room { IfOk result (λ ix. HasRooms (dtd_of grammar.now) ix) }
+        ensures room { IfOk result (λ ix. HasPlaceForEach (dtd_of grammar.now) ix) }
     {
         let names = grammar.dtd().names() as usize;
         let parts = grammar.dtd().parts() as usize;
@@ -53,10 +53,10 @@ impl Index {
 
     /// Has a number for a site from now on.
     pub fn put(&mut self, site: Site, number: usize)
-        requires { HasRoom self.old (plain_site site) }
+        requires { HasPlaceFor self.old (plain_site site) }
         ensures here { slot self.new (plain_site site) ≡ number }
         ensures others { (s : PlainSite) → s ≢ plain_site site → slot self.new s ≡ slot self.old s }
-        ensures room { (s : PlainSite) → HasRoom self.old s → HasRoom self.new s }
+        ensures room { (s : PlainSite) → HasPlaceFor self.old s → HasPlaceFor self.new s }
     {
         match site {
             Site::Name(id) => self.names[id.0 as usize] = number,

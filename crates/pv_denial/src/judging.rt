@@ -12,7 +12,7 @@ ghost use Rattle.pv_tree.specs.declared.nodes.Mark.{Mark as PlainMark};
 ghost use Rattle.pv_missing.specs.PlainForms.{plain_of};
 ghost use Rattle.pv_missing.specs.Weighing.{site_of};
 ghost use Rattle.pv_missing.specs.Widths.{IsListForVerdict};
-ghost use Rattle.pv_denial.specs.Judging.{IsJudged, IsTooWideFor, JudgesAt, JudgesRows};
+ghost use Rattle.pv_denial.specs.Judging.{IsDenialJudged, IsTooWideFor, JudgesAt, JudgesRows};
 ghost use Rattle.pv_denial.specs.Places.{IsPlaceOf};
 ghost use Rattle.pv_denial.specs.declared.denials.Cause.TheVariants as cause;
 ghost use Rattle.pv_denial.specs.declared.errors.JudgeError.TheVariants.{TooWide as too_wide};
@@ -25,6 +25,7 @@ use crate::names::most_of_names;
 use crate::places::{Place, place_at};
 use crate::rules::all_hold;
 use pv_missing::laws::lists::known_word_law;
+use pv_missing::laws::words::{live_follows_law, one_live_word_law};
 use pv_missing::{Of, element_owner, is_narrow, live_word, root_owner};
 use pv_model::Token;
 use pv_productive::Grammar;
@@ -94,6 +95,8 @@ fn judge_word(
         IsPlaceOf root list place.now → ¬ IsListForVerdict (dtd_of grammar.now) list) }
 {
     known_word_law::<Mark>();
+    live_follows_law();
+    one_live_word_law();
     let live = live_word(alloc, grammar, place.kids)?;
     let word = live.as_slice();
     if !is_narrow(grammar.dtd(), word.len() as u64) {
@@ -122,8 +125,8 @@ fn judge_cause(grammar: &Grammar, place: &Place<'_>, denial: &Denial) -> Judged
 /// Whether a denial shows that no insertions make a document valid.
 ///
 /// The list comes first, then its width, the cause, the rows and what they reach. The time is about
-/// linear in the values of the rows; the memory is eight bytes for each site of the DTD and for each
-/// place of the list's word, and that word.
+/// linear in the values of the rows; the memory is eight bytes for each site of the DTD and for
+/// each place of the list's word, and that word.
 pub fn judge(
     alloc: Global,
     grammar: &Grammar,
@@ -131,7 +134,7 @@ pub fn judge(
     doc: &Doc,
     denial: &Denial,
 ) -> Result<Judged, JudgeError>
-    ensures judged { IfOk result (IsJudged (dtd_of grammar.now) root.now (plain_doc doc.now)
+    ensures judged { IfOk result (IsDenialJudged (dtd_of grammar.now) root.now (plain_doc doc.now)
         denial.now) }
     ensures wide { IfErr result (λ e. e ≡ too_wide →
         IsTooWideFor (dtd_of grammar.now) (plain_doc doc.now) denial.now) }

@@ -4,7 +4,7 @@
 ghost use Rattle.pv_denial.specs.Laws.{DeniedIsImpossible, DeniedListIsImpossible, OneJudged};
 
 use pv_missing::laws::documents::live_lists_law;
-use pv_missing::laws::words::{live_follows_law, possible_derives_law};
+use pv_missing::laws::words::{live_follows_law, owner_productive_law, possible_derives_law};
 use pv_rules::laws::{barrier_law, barrier_rows_law};
 use pv_tables::laws::one_list_at_path_law;
 
@@ -13,6 +13,7 @@ pub fn denied_list_law<M>()
     ensures { DeniedListIsImpossible M }
 {
     live_follows_law();
+    owner_productive_law();
     possible_derives_law();
     barrier_law();
     barrier_rows_law();

@@ -1,6 +1,7 @@
 //! Whether rows hold under all rules of a site.
 
-ghost use Rattle.std.specs.Prelude.{◌≡◌, ◌≤◌, ◌<◌, ◌+◌, ◌^◌, ◌↔◌, ℕ, IsTrue, Some, length, map, suc};
+ghost use Rattle.std.specs.Prelude.{◌≡◌, ◌≤◌, ◌<◌, ◌+◌, ◌^◌, ◌↔◌, ℕ, IsTrue, Some, length, map};
+ghost use Rattle.std.specs.Prelude.{suc};
 ghost use Rattle.pv_model.specs.Plain.{PlainPart, PlainParts, choice};
 ghost use Rattle.pv_model.specs.PlainForms.{plain_token};
 ghost use Rattle.pv_dtd.specs.Plain.{IsDeclared, parts_in_models};
@@ -11,8 +12,9 @@ ghost use Rattle.pv_rules.specs.Rules.{IsKnownWord};
 ghost use Rattle.pv_rules.specs.Sites.{content_site, name_site, part_site, rest_site};
 ghost use Rattle.pv_productive.specs.PlainForms.{dtd_of};
 ghost use Rattle.pv_productive.specs.Tables.{IsChoiceAt};
-ghost use Rattle.pv_denial.specs.RowForms.{HoldsAt, HoldsKept, HoldsNone, HoldsOne, HoldsText};
-ghost use Rattle.pv_denial.specs.RowForms.{AreMost, HoldsTwo};
+ghost use Rattle.pv_denial.specs.RowForms.{HoldsAt, HoldsKept, HoldsNoSide, HoldsOneSide};
+ghost use Rattle.pv_denial.specs.RowForms.{HoldsOverTexts};
+ghost use Rattle.pv_denial.specs.RowForms.{AreMost, HoldsTwoSides};
 ghost use Rattle.pv_denial.specs.Rows.{EachRow, IsRow, row_value};
 
 use crate::barrier::Barrier;
@@ -25,7 +27,7 @@ use pv_rules::{ContentKind, Kind, Membership, Site};
 fn element_holds(barrier: &Barrier<'_>, id: NameId, word: &[Token]) -> bool
     requires { length word.now < 2 ^ 62 }
     ensures { IsTrue result ↔ (HoldsKept barrier.now id.0 (map plain_token word.now) ×
-        HoldsOne barrier.now (name_site id.0) (content_site id.0) (length word.now)) }
+        HoldsOneSide barrier.now (name_site id.0) (content_site id.0) (length word.now)) }
 {
     kept_holds(barrier, id, word)
         && one_holds(barrier, Site::Name(id), Site::Content(id), word.len())
@@ -45,7 +47,7 @@ fn name_holds(grammar: &Grammar, barrier: &Barrier<'_>, id: NameId, word: &[Toke
 fn parts_hold(barrier: &Barrier<'_>, id: NameId, first: u32, end: u32, tokens: usize) -> bool
     requires { tokens < 2 ^ 62 }
     ensures { IsTrue result ↔ ((q : ℕ) → first ≤ q → q < end →
-        HoldsTwo barrier.now (content_site id.0) (part_site q) (content_site id.0) tokens) }
+        HoldsTwoSides barrier.now (content_site id.0) (part_site q) (content_site id.0) tokens) }
 {
     for number in first..end {
         let content = Site::Content(id);
@@ -67,7 +69,7 @@ fn names_hold(
     requires rows { EachRow (IsRow (dtd_of grammar.now) (length word.now)) barrier.now }
     requires most { AreMost (dtd_of grammar.now) barrier.now (length word.now) most.now }
     ensures { IsTrue result ↔ ((y : ℕ) → IsDeclared (dtd_of grammar.now) y →
-        HoldsTwo barrier.now (content_site id.0) (name_site y) (content_site id.0)
+        HoldsTwoSides barrier.now (content_site id.0) (name_site y) (content_site id.0)
         (length word.now)) }
 {
     for (place, past) in most.iter().enumerate() {
@@ -82,8 +84,8 @@ fn names_hold(
 /// Whether some content has a value at each place, and each text may stand in it.
 fn texts_hold(barrier: &Barrier<'_>, id: NameId, word: &[Token]) -> bool
     requires { length word.now < 2 ^ 62 }
-    ensures { IsTrue result ↔ (HoldsNone barrier.now (content_site id.0) (length word.now) ×
-        HoldsText barrier.now (content_site id.0) (map plain_token word.now)) }
+    ensures { IsTrue result ↔ (HoldsNoSide barrier.now (content_site id.0) (length word.now) ×
+        HoldsOverTexts barrier.now (content_site id.0) (map plain_token word.now)) }
 {
     none_holds(barrier, Site::Content(id), word.len())
         && text_holds(barrier, Site::Content(id), word)
@@ -92,9 +94,9 @@ fn texts_hold(barrier: &Barrier<'_>, id: NameId, word: &[Token]) -> bool
 /// Whether the rules of mixed content hold, whose parts have the numbers from `first` up to `end`.
 fn mixed_holds(barrier: &Barrier<'_>, id: NameId, first: u32, end: u32, word: &[Token]) -> bool
     requires { length word.now < 2 ^ 62 }
-    ensures { IsTrue result ↔ ((HoldsNone barrier.now (content_site id.0) (length word.now) ×
-        HoldsText barrier.now (content_site id.0) (map plain_token word.now)) ×
-        ((q : ℕ) → first ≤ q → q < end → HoldsTwo barrier.now (content_site id.0) (part_site q)
+    ensures { IsTrue result ↔ ((HoldsNoSide barrier.now (content_site id.0) (length word.now) ×
+        HoldsOverTexts barrier.now (content_site id.0) (map plain_token word.now)) ×
+        ((q : ℕ) → first ≤ q → q < end → HoldsTwoSides barrier.now (content_site id.0) (part_site q)
         (content_site id.0) (length word.now))) }
 {
     texts_hold(barrier, id, word) && parts_hold(barrier, id, first, end, word.len())
@@ -111,9 +113,9 @@ fn any_holds(
     requires short { length word.now < 2 ^ 62 }
     requires rows { EachRow (IsRow (dtd_of grammar.now) (length word.now)) barrier.now }
     requires most { AreMost (dtd_of grammar.now) barrier.now (length word.now) most.now }
-    ensures { IsTrue result ↔ ((HoldsNone barrier.now (content_site id.0) (length word.now) ×
-        HoldsText barrier.now (content_site id.0) (map plain_token word.now)) ×
-        ((y : ℕ) → IsDeclared (dtd_of grammar.now) y → HoldsTwo barrier.now (content_site id.0)
+    ensures { IsTrue result ↔ ((HoldsNoSide barrier.now (content_site id.0) (length word.now) ×
+        HoldsOverTexts barrier.now (content_site id.0) (map plain_token word.now)) ×
+        ((y : ℕ) → IsDeclared (dtd_of grammar.now) y → HoldsTwoSides barrier.now (content_site id.0)
         (name_site y) (content_site id.0) (length word.now))) }
 {
     texts_hold(barrier, id, word) && names_hold(grammar, barrier, id, most, word)
@@ -157,7 +159,7 @@ fn choice_holds(
     requires short { tokens < 2 ^ 62 }
     ensures { (ps : PlainParts) → part_at (dtd_of grammar.now) number ≡ Some (choice ps) →
         IsTrue result ↔ ((p : PlainPart) (r : ℕ) → IsMemberAt p r (suc number) ps →
-        HoldsOne barrier.now (part_site number) (part_site r) tokens) }
+        HoldsOneSide barrier.now (part_site number) (part_site r) tokens) }
 {
     let mut member = number + 1;
     while member < end {
@@ -175,8 +177,8 @@ fn choice_holds(
 /// Whether the rules of a part hold that may be left out.
 fn opt_holds(barrier: &Barrier<'_>, site: Site, inner: Site, tokens: usize) -> bool
     requires { tokens < 2 ^ 62 }
-    ensures { IsTrue result ↔ (HoldsNone barrier.now (plain_site site) tokens ×
-        HoldsOne barrier.now (plain_site site) (plain_site inner) tokens) }
+    ensures { IsTrue result ↔ (HoldsNoSide barrier.now (plain_site site) tokens ×
+        HoldsOneSide barrier.now (plain_site site) (plain_site inner) tokens) }
 {
     none_holds(barrier, site, tokens) && one_holds(barrier, site, inner, tokens)
 }
@@ -184,8 +186,8 @@ fn opt_holds(barrier: &Barrier<'_>, site: Site, inner: Site, tokens: usize) -> b
 /// Whether the rules of a part hold that may be left out or stand any number of times.
 fn star_holds(barrier: &Barrier<'_>, site: Site, inner: Site, tokens: usize) -> bool
     requires { tokens < 2 ^ 62 }
-    ensures { IsTrue result ↔ (HoldsNone barrier.now (plain_site site) tokens ×
-        HoldsTwo barrier.now (plain_site site) (plain_site inner) (plain_site site) tokens) }
+    ensures { IsTrue result ↔ (HoldsNoSide barrier.now (plain_site site) tokens ×
+        HoldsTwoSides barrier.now (plain_site site) (plain_site inner) (plain_site site) tokens) }
 {
     none_holds(barrier, site, tokens) && two_holds(barrier, site, inner, site, tokens)
 }
@@ -193,8 +195,9 @@ fn star_holds(barrier: &Barrier<'_>, site: Site, inner: Site, tokens: usize) -> 
 /// Whether the rules of a part hold that may stand any number of times.
 fn plus_holds(barrier: &Barrier<'_>, site: Site, inner: Site, tokens: usize) -> bool
     requires { tokens < 2 ^ 62 }
-    ensures { IsTrue result ↔ (HoldsOne barrier.now (plain_site site) (plain_site inner) tokens ×
-        HoldsTwo barrier.now (plain_site site) (plain_site inner) (plain_site site) tokens) }
+    ensures { IsTrue result ↔
+        (HoldsOneSide barrier.now (plain_site site) (plain_site inner) tokens ×
+        HoldsTwoSides barrier.now (plain_site site) (plain_site inner) (plain_site site) tokens) }
 {
     one_holds(barrier, site, inner, tokens) && two_holds(barrier, site, inner, site, tokens)
 }

@@ -1,5 +1,5 @@
 -- The lines of a denial's text up to its rows, and a whole text.
-use Rattle.std.proofs.Common.{◌≡◌, ◌≤◌, ℕ, ◌+◌, List, [], ◌∷◌, ◌++◌, map, length, refl, sym, ap, subst, ◌∙◌, append-nil, arith, Option, Some, None, inr, Ok, Err, Result, IfOk, IfErr, codes}
+use Rattle.std.proofs.Common.{◌≡◌, ◌≤◌, ℕ, List, [], ◌∷◌, ◌++◌, map, length, refl, sym, ap, subst, ◌∙◌, append-nil, arith, Some, None, inr, Ok, Err, Result, IfOk, IfErr, codes}
 use Rattle.std.proofs.lemmas.List.{length-append}
 use Rattle.pv_script.specs.Paths.{path_text}
 use Rattle.pv_script.specs.Reading.{path_of}
@@ -11,10 +11,10 @@ use Rattle.pv_denial.specs.declared.denials.Cause.{Cause}
 use Rattle.pv_denial.specs.declared.denials.Denial.{Denial}
 use Rattle.pv_denial.specs.declared.denials.Row.{Row}
 use Rattle.pv_denial_text.specs.Fronts.{Begins, BeginsNone, BeginsNot}
-use Rattle.pv_denial_text.specs.Lines.{DenialLine, cause_line, cause_word, end_line, list_line, row_line, version_line}
-use Rattle.pv_denial_text.specs.Meaning.{Answers, DenialMeans, HasTooMany, IsFaulty, MAX_DENIAL_BYTES, Outcome, Refuses, Stand, is_denial, is_fault, is_past_limit, values_among}
+use Rattle.pv_denial_text.specs.Lines.{cause_line, cause_word, end_line, list_line, row_line, version_line}
+use Rattle.pv_denial_text.specs.Meaning.{Answers, DenialMeans, HasTooMany, IsFaulty, MAX_DENIAL_BYTES, Outcome, Refuses, Stand, is_denial, is_fault, is_past_limit}
 use Rattle.pv_denial_text.specs.Steps.{EndsWithRows, HasTooManyBehind, IsFaultyBehind, RefusesHead, RefusesRows, head_lines}
-use Rattle.pv_denial_text.specs.Texts.{AreLines, last_line, lines_of, lines_text}
+use Rattle.pv_denial_text.specs.Texts.{lines_text}
 use Rattle.pv_denial_text.specs.declared.errors.TableError.{TableError}
 use Rattle.pv_denial_text.specs.declared.errors.TableError.TheVariants.{Limit, NoMemory, Syntax}
 use Rattle.pv_denial_text.proofs.Determined.{cause-free}

@@ -7,7 +7,7 @@ use Rattle.pv_denial.specs.declared.denials.Row.{Row}
 use Rattle.pv_denial_text.specs.Laws.{OneMeaning}
 use Rattle.pv_denial_text.specs.Lines.{DenialLine, cause_line, end_line, line_text, row_line}
 use Rattle.pv_denial_text.specs.Meaning.{HasTooMany, IsFaulty, Stand, StandsNone, is_denial, is_fault, is_past_limit, values_among}
-use Rattle.pv_denial_text.specs.Texts.{IsDenialText, last_line, lines_of, lines_text}
+use Rattle.pv_denial_text.specs.Texts.{IsDenialText, last_line, lines_of_denial, lines_text}
 use Rattle.pv_denial_text.proofs.Determined.{same-line}
 use Rattle.pv_denial_text.proofs.Stands.{last-append, values-append, values-of}
 
@@ -61,15 +61,15 @@ not-too-many bytes xs rest r m =
     omega (arith, r.within, m.past, ap values_among a.is, values-append (m.lines ++ row_line m.row ∷ []) a.more, values-append m.lines (row_line m.row ∷ []))
 
 -- the last line of a denial
-last-of-denial : (d : Denial) → last_line None (lines_of d) ≡ Some end_line
+last-of-denial : (d : Denial) → last_line None (lines_of_denial d) ≡ Some end_line
 last-of-denial d = last-append (Some (cause_line d.cause)) (map row_line d.rows) (end_line ∷ [])
 
-values-of-denial : (d : Denial) → values_among (lines_of d) ≡ values_in d.rows
+values-of-denial : (d : Denial) → values_among (lines_of_denial d) ≡ values_in d.rows
 values-of-denial d = omega (arith, values-append (map row_line d.rows) (end_line ∷ []), values-of d.rows)
 
-denial-run : (bytes : List ℕ) (d : Denial) → IsDenialText bytes d → values_in d.rows ≤ most_values → IsRun bytes (lines_of d) []
+denial-run : (bytes : List ℕ) (d : Denial) → IsDenialText bytes d → values_in d.rows ≤ most_values → IsRun bytes (lines_of_denial d) []
 denial-run bytes d t few = record {
-  stand = record { are_lines = t.are_lines; whole = t.spelled ∙ sym (append-nil (lines_text (lines_of d))) };
+  stand = record { are_lines = t.are_lines; whole = t.spelled ∙ sym (append-nil (lines_text (lines_of_denial d))) };
   none = rw (last-of-denial d) (λ line more s. s.may_follow);
   within = omega (arith, values-of-denial d, few);
 }
@@ -87,7 +87,7 @@ same-rows (r ∷ rs) (q ∷ qs) e =
     let more : map row_line rs ≡ map row_line qs = cc in
     λ i. first i ∷ same-rows rs qs more i
 
-same-denial : (d e : Denial) → lines_of d ≡ lines_of e → d ≡ e
+same-denial : (d e : Denial) → lines_of_denial d ≡ lines_of_denial e → d ≡ e
 same-denial d e is =
     let paths : d.path ≡ e.path = cc in
     let causes : d.cause ≡ e.cause = cc in
@@ -100,15 +100,15 @@ not-both : (bytes : List ℕ) (d : Denial) (k : ℕ) → IsDenialText bytes d �
 not-both bytes d k t few f =
     let one = denial-run bytes d t few in
     let other = fault-run bytes k f in
-    let lines = one-run bytes (lines_of d) [] f.lines f.rest one other in
-    f.cut (ap (last_line None) (sym lines) ∙ last-of-denial d, sym (one-rest bytes (lines_of d) [] f.lines f.rest one other lines))
+    let lines = one-run bytes (lines_of_denial d) [] f.lines f.rest one other in
+    f.cut (ap (last_line None) (sym lines) ∙ last-of-denial d, sym (one-rest bytes (lines_of_denial d) [] f.lines f.rest one other lines))
 
 pub one-meaning : OneMeaning
 one-meaning bytes (is_denial d) (is_denial e) m n =
-    ap is_denial (same-denial d e (one-run bytes (lines_of d) [] (lines_of e) [] (denial-run bytes d m.1 m.2) (denial-run bytes e n.1 n.2)))
+    ap is_denial (same-denial d e (one-run bytes (lines_of_denial d) [] (lines_of_denial e) [] (denial-run bytes d m.1 m.2) (denial-run bytes e n.1 n.2)))
 one-meaning bytes (is_denial d) (is_fault k) m n = absurd (not-both bytes d k m.1 m.2 n.1)
 one-meaning bytes (is_denial d) is_past_limit m (inl long) = absurd (omega (arith, m.0, long))
-one-meaning bytes (is_denial d) is_past_limit m (inr n) = absurd (not-too-many bytes (lines_of d) [] (denial-run bytes d m.1 m.2) n.1)
+one-meaning bytes (is_denial d) is_past_limit m (inr n) = absurd (not-too-many bytes (lines_of_denial d) [] (denial-run bytes d m.1 m.2) n.1)
 one-meaning bytes (is_fault k) (is_denial e) m n = absurd (not-both bytes e k n.1 n.2 m.1)
 one-meaning bytes (is_fault k) (is_fault j) m n =
     let lines = one-run bytes m.1.lines m.1.rest n.1.lines n.1.rest (fault-run bytes k m.1) (fault-run bytes j n.1) in
@@ -116,7 +116,7 @@ one-meaning bytes (is_fault k) (is_fault j) m n =
 one-meaning bytes (is_fault k) is_past_limit m (inl long) = absurd (omega (arith, m.0, long))
 one-meaning bytes (is_fault k) is_past_limit m (inr n) = absurd (not-too-many bytes m.1.lines m.1.rest (fault-run bytes k m.1) n.1)
 one-meaning bytes is_past_limit (is_denial e) (inl long) n = absurd (omega (arith, n.0, long))
-one-meaning bytes is_past_limit (is_denial e) (inr m) n = absurd (not-too-many bytes (lines_of e) [] (denial-run bytes e n.1 n.2) m.1)
+one-meaning bytes is_past_limit (is_denial e) (inr m) n = absurd (not-too-many bytes (lines_of_denial e) [] (denial-run bytes e n.1 n.2) m.1)
 one-meaning bytes is_past_limit (is_fault k) (inl long) n = absurd (omega (arith, n.0, long))
 one-meaning bytes is_past_limit (is_fault k) (inr m) n = absurd (not-too-many bytes n.1.lines n.1.rest (fault-run bytes k n.1) m.1)
 one-meaning bytes is_past_limit is_past_limit m n = refl

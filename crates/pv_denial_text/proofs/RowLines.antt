@@ -1,5 +1,5 @@
 -- Rows behind a cause.
-use Rattle.std.proofs.Common.{◌≡◌, ◌≤◌, ◌<◌, ℕ, ◌+◌, List, [], ◌∷◌, ◌++◌, map, length, refl, sym, subst, ap, ◌∙◌, arith, Option, Some, None, inl, inr}
+use Rattle.std.proofs.Common.{◌≡◌, ◌≤◌, ◌<◌, ℕ, ◌+◌, List, [], ◌∷◌, ◌++◌, map, length, refl, sym, subst, ◌∙◌, arith, Option, Some, None}
 use Rattle.std.proofs.lemmas.List.{length-append, length-map, map-append}
 use Rattle.pv_rules.specs.declared.sites.Site.{Site}
 use Rattle.pv_denial.specs.Rows.{most_values, values_in}
@@ -7,7 +7,7 @@ use Rattle.pv_denial.specs.declared.denials.Cause.{Cause}
 use Rattle.pv_denial.specs.declared.denials.Row.{Row}
 use Rattle.pv_denial_text.specs.Fronts.{Begins, BeginsNone, BeginsNot}
 use Rattle.pv_denial_text.specs.Lines.{DenialLine, version_line, list_line, cause_line, row_line, end_line}
-use Rattle.pv_denial_text.specs.Meaning.{Stand, Stands, StandsNone}
+use Rattle.pv_denial_text.specs.Meaning.{Stand, StandsNone}
 use Rattle.pv_denial_text.specs.Steps.{EndsWithRows, Follows, HasTooManyBehind, IsFaultyBehind, IsRowPlace, StandsNoRow, StandsNoRowBehind, StandsRow}
 use Rattle.pv_denial_text.specs.Texts.{MayFollow, last_line}
 use Rattle.pv_denial_text.proofs.RowWords.{same-row}

@@ -1,10 +1,9 @@
 -- The words of a row are read as they are written.
-use Rattle.std.proofs.Common.{◌≡◌, ◌≢◌, ◌≤◌, ℕ, List, [], ◌∷◌, ◌++◌, map, refl, sym, ap, ◌∙◌, append_assoc, arith, decimal, subst}
+use Rattle.std.proofs.Common.{◌≡◌, ◌≢◌, ℕ, List, [], ◌∷◌, ◌++◌, map, refl, sym, ap, ◌∙◌, arith, decimal, subst}
 use Rattle.pv_chars.specs.Fronts.{ContainsBytes, EndsAt}
 use Rattle.pv_rules.specs.PlainForms.{plain_site}
 use Rattle.pv_rules.specs.Sites.{PlainSite, content_site, name_site, part_site, rest_site}
 use Rattle.pv_rules.specs.declared.sites.Site.{Site}
-use Rattle.pv_script.specs.Edits.{MAX_NUMBER}
 use Rattle.pv_script.specs.Words.{with_feed, words}
 use Rattle.pv_script.proofs.Numbers.{decimal-free}
 use Rattle.pv_script.proofs.Words.{Free, Free-append}
@@ -15,7 +14,7 @@ use Rattle.pv_cert.proofs.Cuts.{cut-once, ends-once, feed-behind, holds-none}
 use Rattle.pv_cert.proofs.Determined.{same-site}
 use Rattle.pv_cert.proofs.EntryWords.{letter-by, one-number-before}
 use Rattle.pv_denial.specs.declared.denials.Row.{Row}
-use Rattle.pv_denial_text.specs.Fronts.{AreValues, Begins, BeginsNone, IsRowText, IsSiteBehind}
+use Rattle.pv_denial_text.specs.Fronts.{AreValueWords, Begins, BeginsNone, IsRowText, IsSiteBehind}
 use Rattle.pv_denial_text.specs.Lines.{IsRowInRange, line_text, row_line, row_words}
 use Rattle.pv_denial_text.proofs.ValueWords.{one-values, values-free}
 
@@ -98,10 +97,10 @@ row-whole r i = record {
 pub row-site : (line : List ℕ) (r : Row) → IsRowText line r → IsSiteBehind line r.site (words (map decimal r.values))
 row-site line r t = record { number = t.in_range.number; whole = t.whole ∙ words-behind (kind_word (plain_site r.site)) (site_number (plain_site r.site)) r.values t.in_range.some }
 
-row-values : (r : Row) → IsRowInRange r → AreValues (words (map decimal r.values)) r.values
+row-values : (r : Row) → IsRowInRange r → AreValueWords (words (map decimal r.values)) r.values
 row-values r i = record { some = i.some; in_range = i.values; whole = refl }
 
-pub row-text : (line : List ℕ) (r : Row) (rest : List ℕ) → IsSiteBehind line r.site rest → AreValues rest r.values → IsRowText line r
+pub row-text : (line : List ℕ) (r : Row) (rest : List ℕ) → IsSiteBehind line r.site rest → AreValueWords rest r.values → IsRowText line r
 row-text line r rest b a = record {
   in_range = record { number = b.number; some = a.some; values = a.in_range };
   whole = b.whole ∙ ap (λ l. kind_word (plain_site r.site) ++ (32 ∷ (decimal (site_number (plain_site r.site)) ++ (32 ∷ l)))) a.whole
@@ -111,16 +110,16 @@ row-text line r rest b a = record {
 pub no-row-site : (line : List ℕ) → ((s : Site) (rest : List ℕ) → IsSiteBehind line s rest → ⊥) → (r : Row) → IsRowText line r → ⊥
 no-row-site line none r t = none r.site _ (row-site line r t)
 
-pub no-row-values : (line : List ℕ) (s : Site) (rest : List ℕ) → IsSiteBehind line s rest → ((values : List ℕ) → AreValues rest values → ⊥) → (r : Row) → IsRowText line r → ⊥
+pub no-row-values : (line : List ℕ) (s : Site) (rest : List ℕ) → IsSiteBehind line s rest → ((values : List ℕ) → AreValueWords rest values → ⊥) → (r : Row) → IsRowText line r → ⊥
 no-row-values line s rest b none r t =
     let same = one-site line r.site s (words (map decimal r.values)) rest (row-site line r t) b in
-    let P : List ℕ → Type 0 = λ l. AreValues l r.values in
+    let P : List ℕ → Type 0 = λ l. AreValueWords l r.values in
     none r.values (subst P same.rests (row-values r t.in_range))
 
 pub one-row : (line : List ℕ) (r q : Row) → IsRowText line r → IsRowText line q → r ≡ q
 one-row line r q t u =
     let same = one-site line r.site q.site (words (map decimal r.values)) (words (map decimal q.values)) (row-site line r t) (row-site line q u) in
-    let P : List ℕ → Type 0 = λ l. AreValues l r.values in
+    let P : List ℕ → Type 0 = λ l. AreValueWords l r.values in
     let values = one-values (words (map decimal q.values)) r.values q.values (subst P same.rests (row-values r t.in_range)) (row-values q u.in_range) in
     λ i. record { site = same.sites i; values = values i }
 

@@ -2,7 +2,7 @@
 use Rattle.std.proofs.Common.{◌≡◌, ℕ, ◌+◌, List, [], ◌∷◌, ◌++◌, map, length, refl, sym, ap, ◌∙◌, append_assoc, append-nil, arith, Option, Some, None}
 use Rattle.pv_denial.specs.Rows.{values_in}
 use Rattle.pv_denial.specs.declared.denials.Row.{Row}
-use Rattle.pv_denial_text.specs.Fronts.{Begins, BeginsNone, BeginsNot}
+use Rattle.pv_denial_text.specs.Fronts.{BeginsNone, BeginsNot}
 use Rattle.pv_denial_text.specs.Lines.{DenialLine, line_text, version_line, list_line, cause_line, row_line, end_line}
 use Rattle.pv_denial_text.specs.Meaning.{Stand, Stands, StandsNone, values_among}
 use Rattle.pv_denial_text.specs.Texts.{AreLines, last_line, lines_text}

@@ -7,7 +7,7 @@ use Rattle.pv_script.proofs.Numbers.{decimal-free, number_of-decimal}
 use Rattle.pv_script.proofs.Words.{Free, Free-append}
 use Rattle.pv_cert.specs.Fronts.{IsNumberBefore}
 use Rattle.pv_cert.proofs.EntryWords.{one-number-before, same-decimal}
-use Rattle.pv_denial_text.specs.Fronts.{AreValues}
+use Rattle.pv_denial_text.specs.Fronts.{AreValueWords}
 
 -- a byte that isn't in some bytes doesn't stand among them
 not-among : (d : ℕ) (a b x : List ℕ) → Free d a → a ≡ b ++ (d ∷ x) → ⊥
@@ -17,11 +17,11 @@ not-among d (z ∷ zs) [] x f is = let same : z ≡ d = cc in f.0 same
 not-among d (z ∷ zs) (y ∷ ys) x f is = let less : zs ≡ ys ++ (d ∷ x) = cc in not-among d zs ys x f.1 less
 
 -- one value alone
-pub last-value : (rest : List ℕ) (v : ℕ) → v ≤ MAX_NUMBER → rest ≡ decimal v → AreValues rest (v ∷ [])
+pub last-value : (rest : List ℕ) (v : ℕ) → v ≤ MAX_NUMBER → rest ≡ decimal v → AreValueWords rest (v ∷ [])
 last-value rest v small is = record { some = λ e. cc; in_range = (small, tt); whole = is }
 
 -- a value before others
-pub more-values : (rest after : List ℕ) (v : ℕ) (more : List ℕ) → IsNumberBefore rest v after → AreValues after more → AreValues rest (v ∷ more)
+pub more-values : (rest after : List ℕ) (v : ℕ) (more : List ℕ) → IsNumberBefore rest v after → AreValueWords after more → AreValueWords rest (v ∷ more)
 more-values rest after v [] b a = absurd (a.some refl)
 more-values rest after v (u ∷ us) b a = record {
   some = λ e. cc;
@@ -33,9 +33,9 @@ more-values rest after v (u ∷ us) b a = record {
 pub record AreBehind (after : List ℕ) (v : ℕ) (all : List ℕ) : Type 0 where
   pub more : List ℕ
   pub is : all ≡ v ∷ more
-  pub are : AreValues after more
+  pub are : AreValueWords after more
 
-pub first-value : (rest after : List ℕ) (v : ℕ) (all : List ℕ) → IsNumberBefore rest v after → AreValues rest all → AreBehind after v all
+pub first-value : (rest after : List ℕ) (v : ℕ) (all : List ℕ) → IsNumberBefore rest v after → AreValueWords rest all → AreBehind after v all
 first-value rest after v [] b a = absurd (a.some refl)
 first-value rest after v (u ∷ []) b a =
     absurd (not-among 32 (decimal u) (decimal v) after (decimal-free 32 u (omega arith) a.in_range.0) (sym a.whole ∙ b.whole))
@@ -49,25 +49,25 @@ first-value rest after v (u ∷ w ∷ ws) b a =
 
 -- some values are read, and these bytes are left
 pub record HaveRead (bytes values rest : List ℕ) : Type 0 where
-  pub forth : (more : List ℕ) → AreValues rest more → AreValues bytes (values ++ more)
-  pub back : (all : List ℕ) → AreValues bytes all → (more : List ℕ) × (all ≡ values ++ more) × AreValues rest more
+  pub forth : (more : List ℕ) → AreValueWords rest more → AreValueWords bytes (values ++ more)
+  pub back : (all : List ℕ) → AreValueWords bytes all → (more : List ℕ) × (all ≡ values ++ more) × AreValueWords rest more
 
 pub none-read : (bytes : List ℕ) → HaveRead bytes [] bytes
 none-read bytes = record { forth = λ more a. a; back = λ all a. (all, refl, a) }
 
 pub value-read : (bytes values rest : List ℕ) (v : ℕ) (after : List ℕ) → HaveRead bytes values rest → IsNumberBefore rest v after → HaveRead bytes (values ++ v ∷ []) after
 value-read bytes values rest v after h b = record {
-  forth = λ more a. subst (AreValues bytes) (sym (append_assoc values (v ∷ []) more)) (h.forth (v ∷ more) (more-values rest after v more b a));
+  forth = λ more a. subst (AreValueWords bytes) (sym (append_assoc values (v ∷ []) more)) (h.forth (v ∷ more) (more-values rest after v more b a));
   back = λ all a.
       let x = h.back all a in let y = first-value rest after v x.0 b x.2 in
       (y.more, x.1 ∙ ap (λ l. values ++ l) y.is ∙ sym (append_assoc values (v ∷ []) y.more), y.are);
 }
 
-pub values-read : (bytes values rest : List ℕ) (v : ℕ) → HaveRead bytes values rest → v ≤ MAX_NUMBER → rest ≡ decimal v → AreValues bytes (values ++ v ∷ [])
+pub values-read : (bytes values rest : List ℕ) (v : ℕ) → HaveRead bytes values rest → v ≤ MAX_NUMBER → rest ≡ decimal v → AreValueWords bytes (values ++ v ∷ [])
 values-read bytes values rest v h small is = h.forth (v ∷ []) (last-value rest v small is)
 
 -- neither a number before a blank nor one alone is left
-no-last : (rest : List ℕ) (all : List ℕ) → ((n : ℕ) (behind : List ℕ) → IsNumberBefore rest n behind → ⊥) → number_of rest ≡ None → AreValues rest all → ⊥
+no-last : (rest : List ℕ) (all : List ℕ) → ((n : ℕ) (behind : List ℕ) → IsNumberBefore rest n behind → ⊥) → number_of rest ≡ None → AreValueWords rest all → ⊥
 no-last rest [] none other a = a.some refl
 no-last rest (u ∷ []) none other a =
     let read = number_of-decimal u a.in_range.0 in
@@ -75,11 +75,11 @@ no-last rest (u ∷ []) none other a =
     cc
 no-last rest (u ∷ w ∷ ws) none other a = none u (words (map decimal (w ∷ ws))) record { within = a.in_range.0; whole = a.whole }
 
-pub no-values : (bytes values rest : List ℕ) → HaveRead bytes values rest → ((n : ℕ) (behind : List ℕ) → IsNumberBefore rest n behind → ⊥) → number_of rest ≡ None → (all : List ℕ) → AreValues bytes all → ⊥
+pub no-values : (bytes values rest : List ℕ) → HaveRead bytes values rest → ((n : ℕ) (behind : List ℕ) → IsNumberBefore rest n behind → ⊥) → number_of rest ≡ None → (all : List ℕ) → AreValueWords bytes all → ⊥
 no-values bytes values rest h none other all a = let x = h.back all a in no-last rest x.0 none other x.2
 
 -- bytes are one list of values at most
-pub one-values : (bytes a b : List ℕ) → AreValues bytes a → AreValues bytes b → a ≡ b
+pub one-values : (bytes a b : List ℕ) → AreValueWords bytes a → AreValueWords bytes b → a ≡ b
 one-values bytes [] b h k = absurd (h.some refl)
 one-values bytes (u ∷ []) [] h k = absurd (k.some refl)
 one-values bytes (u ∷ []) (v ∷ []) h k = ap (λ n. n ∷ []) (same-decimal u v h.in_range.0 k.in_range.0 (sym h.whole ∙ k.whole))

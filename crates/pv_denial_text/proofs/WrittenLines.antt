@@ -14,7 +14,7 @@ use Rattle.pv_denial.specs.declared.denials.Denial.{Denial}
 use Rattle.pv_denial.specs.declared.denials.Row.{Row}
 use Rattle.pv_denial_text.specs.Lines.{IsRowInRange, cause_line, cause_word, end_line, line_text, row_line}
 use Rattle.pv_denial_text.specs.Steps.{head_lines}
-use Rattle.pv_denial_text.specs.Texts.{AreLines, IsRowBefore, lines_of, lines_text}
+use Rattle.pv_denial_text.specs.Texts.{AreLines, IsRowBefore, lines_of_denial, lines_text}
 use Rattle.pv_denial_text.specs.Written.{values_text}
 use Rattle.pv_denial_text.proofs.Stands.{text-append}
 
@@ -102,11 +102,11 @@ rows-lines : (c : Cause) (rows : List Row) → Ascend rows → EachRow IsRowInRa
 rows-lines c [] up each = (tt, tt, tt)
 rows-lines c (r ∷ rows) up each = (tt, each 0 r refl, lines-behind r rows up (λ k. each (suc k)))
 
-pub denial-lines : (d : Denial) → AreNumbers d.path → AreInOrder d.rows → EachRow (λ r. r.values ≢ [] → IsRowInRange r) d.rows → AreLines None (lines_of d)
+pub denial-lines : (d : Denial) → AreNumbers d.path → AreInOrder d.rows → EachRow (λ r. r.values ≢ [] → IsRowInRange r) d.rows → AreLines None (lines_of_denial d)
 denial-lines d path order each =
     (tt, tt, (tt, path, (tt, tt, rows-lines d.cause d.rows order.ascend (λ k r e. each k r e (order.some k r e)))))
 
-pub denial-written : (d : Denial) (t1 t2 t3 : List ℕ) → t1 ≡ lines_text (head_lines d.path d.cause) → t2 ≡ t1 ++ lines_text (map row_line d.rows) → t3 ≡ t2 ++ codes "end\n" → t3 ≡ lines_text (lines_of d)
+pub denial-written : (d : Denial) (t1 t2 t3 : List ℕ) → t1 ≡ lines_text (head_lines d.path d.cause) → t2 ≡ t1 ++ lines_text (map row_line d.rows) → t3 ≡ t2 ++ codes "end\n" → t3 ≡ lines_text (lines_of_denial d)
 denial-written d t1 t2 t3 e1 e2 e3 =
     let head = head_lines d.path d.cause in
     let rows = map row_line d.rows in

@@ -29,7 +29,7 @@ pub record IsSiteBehind (line : List ℕ) (s : Site) (rest : List ℕ) : Type 0 
       (32 ∷ (decimal (site_number (plain_site s)) ++ (32 ∷ rest)))
 
 -- the values of a row: one or more numbers, with one blank between each two
-pub record AreValues (bytes : List ℕ) (values : List ℕ) : Type 0 where
+pub record AreValueWords (bytes : List ℕ) (values : List ℕ) : Type 0 where
   pub some : values ≢ []
   pub in_range : AreNumbers values
   pub whole : bytes ≡ words (map decimal values)

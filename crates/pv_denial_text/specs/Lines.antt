@@ -1,5 +1,5 @@
 -- The lines of a denial's text.
-use Rattle.std.specs.Prelude.{◌≡◌, ◌≢◌, ◌≤◌, ℕ, List, [], ◌∷◌, map, codes, decimal}
+use Rattle.std.specs.Prelude.{◌≢◌, ◌≤◌, ℕ, List, [], ◌∷◌, map, codes, decimal}
 use Rattle.pv_rules.specs.PlainForms.{plain_site}
 use Rattle.pv_script.specs.Edits.{AreNumbers, MAX_NUMBER}
 use Rattle.pv_script.specs.Paths.{path_text}

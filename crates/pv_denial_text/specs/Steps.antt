@@ -74,7 +74,8 @@ pub record HasTooManyBehind (c : Cause) (bytes : List ℕ) : Type 0 where
 
 -- These rows and the end stand behind a cause, and nothing behind them.
 pub record EndsWithRows (bytes : List ℕ) (rows : List Row) : Type 0 where
-  pub stand : (c : Cause) → Stand (Some (cause_line c)) bytes (map row_line rows ++ end_line ∷ []) []
+  pub stand : (c : Cause) →
+      Stand (Some (cause_line c)) bytes (map row_line rows ++ end_line ∷ []) []
   pub few : values_in rows ≤ most_values
 
 -- what the error tells of what stands behind a cause

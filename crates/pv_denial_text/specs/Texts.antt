@@ -67,12 +67,12 @@ lines_text [] = []
 lines_text (line ∷ lines) = line_text line ++ lines_text lines
 
 -- the lines of a denial
-abbrev pub lines_of : Denial → List DenialLine
-lines_of d =
+abbrev pub lines_of_denial : Denial → List DenialLine
+lines_of_denial d =
     version_line ∷ list_line d.path ∷ cause_line d.cause
     ∷ (map row_line d.rows ++ end_line ∷ [])
 
 -- The bytes are the lines of the denial, limits aside: its text.
 pub record IsDenialText (bytes : List ℕ) (d : Denial) : Type 0 where
-  pub are_lines : AreLines None (lines_of d)
-  pub spelled : bytes ≡ lines_text (lines_of d)
+  pub are_lines : AreLines None (lines_of_denial d)
+  pub spelled : bytes ≡ lines_text (lines_of_denial d)

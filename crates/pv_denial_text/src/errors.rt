@@ -1,7 +1,7 @@
 //! Why no denial is read.
 
 ghost use Rattle.std.specs.Prelude.{◌≡◌};
-ghost use Rattle.pv_denial_text.specs.declared.errors.TableError.TheVariants.{NoMemory as no_memory};
+ghost use Rattle.pv_denial_text.specs.declared.errors.TableError.TheVariants as error;
 
 use pv_chars::NoMemory;
 use std::alloc::{AllocError, AllocFailed};
@@ -23,7 +23,7 @@ pub enum TableError {
 }
 
 impl From<NoMemory> for TableError {
-    ghost from_gives = { λ _ e. e ≡ no_memory };
+    ghost from_gives = { λ _ e. e ≡ error.NoMemory };
 
     fn from(_: NoMemory) -> TableError {
         TableError::NoMemory
@@ -31,7 +31,7 @@ impl From<NoMemory> for TableError {
 }
 
 impl From<AllocError> for TableError {
-    ghost from_gives = { λ _ e. e ≡ no_memory };
+    ghost from_gives = { λ _ e. e ≡ error.NoMemory };
 
     fn from(_: AllocError) -> TableError {
         TableError::NoMemory
@@ -39,7 +39,7 @@ impl From<AllocError> for TableError {
 }
 
 impl<T: Drop> From<AllocFailed<T>> for TableError {
-    ghost from_gives = { λ _ e. e ≡ no_memory };
+    ghost from_gives = { λ _ e. e ≡ error.NoMemory };
 
     fn from(_: AllocFailed<T>) -> TableError {
         TableError::NoMemory

@@ -1,7 +1,8 @@
 //! Reads denials.
 
 ghost use Rattle.std.specs.Prelude.{◌≡◌, ◌≤◌, IfOk, IfErr, None, length};
-ghost use Rattle.pv_denial_text.specs.Meaning.{Answers, DenialMeans, MAX_DENIAL_BYTES as MOST_BYTES};
+ghost use Rattle.pv_denial_text.specs.Meaning.{Answers, DenialMeans};
+ghost use Rattle.pv_denial_text.specs.Meaning.{MAX_DENIAL_BYTES as MOST_BYTES};
 ghost use Rattle.pv_denial_text.specs.Meaning.{Outcome, Refuses, Stand, is_denial};
 ghost use Rattle.pv_denial_text.specs.Steps.{RefusesHead, head_lines};
 

@@ -1,7 +1,7 @@
 //! The values of a row.
 
 ghost use Rattle.std.specs.Prelude.{ℕ, List, IfOk, MatchOption};
-ghost use Rattle.pv_denial_text.specs.Fronts.{AreValues};
+ghost use Rattle.pv_denial_text.specs.Fronts.{AreValueWords};
 
 use pv_cert::next_number;
 use pv_chars::NoMemory;
@@ -22,8 +22,8 @@ fn room_for(bytes: &[u8]) -> usize {
 /// The values that some bytes are.
 pub fn values_of(alloc: Global, bytes: &[u8]) -> Result<Option<Vec<u32>>, NoMemory>
     ensures { IfOk result (λ found. MatchOption found
-        ((values : List ℕ) → AreValues bytes.now values → ⊥)
-        (λ values. AreValues bytes.now values.items)) }
+        ((values : List ℕ) → AreValueWords bytes.now values → ⊥)
+        (λ values. AreValueWords bytes.now values.items)) }
 {
     let mut values = Vec::with_capacity(alloc, room_for(bytes))?;
     let mut rest = bytes;

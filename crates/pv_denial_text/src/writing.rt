@@ -4,9 +4,10 @@ ghost use Rattle.std.specs.Prelude.{◌≡◌, ◌≢◌, ◌≤◌, ◌++◌, [
 ghost use Rattle.pv_script.specs.Edits.{AreNumbers};
 ghost use Rattle.pv_denial.specs.Rows.{AreInOrder, EachRow};
 ghost use Rattle.pv_denial_text.specs.Lines.{IsRowInRange, line_text, row_line};
-ghost use Rattle.pv_denial_text.specs.Meaning.{DenialMeans, MAX_DENIAL_BYTES as MOST_BYTES, is_denial};
+ghost use Rattle.pv_denial_text.specs.Meaning.{DenialMeans, MAX_DENIAL_BYTES as MOST_BYTES};
+ghost use Rattle.pv_denial_text.specs.Meaning.{is_denial};
 ghost use Rattle.pv_denial_text.specs.Steps.{head_lines};
-ghost use Rattle.pv_denial_text.specs.Texts.{AreLines, IsDenialText, lines_of, lines_text};
+ghost use Rattle.pv_denial_text.specs.Texts.{AreLines, IsDenialText, lines_of_denial, lines_text};
 ghost use Rattle.pv_denial_text.specs.Written.{values_text};
 
 use crate::causes::cause_word;
@@ -76,10 +77,10 @@ fn push_head(text: &mut Vec<u8>, denial: &Denial) -> Result<(), AllocError>
 /// value, they have at most 8,388,608 in all, and the text is within its limit: numbers of the
 /// program are in range.
 pub fn write_denial(alloc: Global, denial: &Denial) -> Result<Vec<u8>, NoMemory>
-    ensures spelled { IfOk result (λ text. text.items ≡ lines_text (lines_of denial.now)) }
+    ensures spelled { IfOk result (λ text. text.items ≡ lines_text (lines_of_denial denial.now)) }
     ensures again { AreInOrder denial.now.rows → IfOk result (λ text.
         length text.items ≤ MOST_BYTES → DenialMeans text.items (is_denial denial.now)) }
-    ensures is_text { AreLines None (lines_of denial.now) →
+    ensures is_text { AreLines None (lines_of_denial denial.now) →
         IfOk result (λ text. IsDenialText text.items denial.now) }
 {
     let mut text = Vec::new(alloc);

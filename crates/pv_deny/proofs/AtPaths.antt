@@ -1,5 +1,5 @@
 -- The denial of the list at a path.
-use Rattle.std.proofs.Common.{List, Ok, Err, Result, IfOk, IfErr, [], ap, inl, inr, length, refl, subst, sym, zero, ℕ, ◌++◌, ◌∙◌, ◌∷◌, ◌≡◌, ◌≢◌, ◌≤◌, ◌⊎◌, arith}
+use Rattle.std.proofs.Common.{List, Ok, Err, Result, IfOk, IfErr, [], ap, inl, inr, length, refl, subst, sym, ℕ, ◌++◌, ◌∙◌, ◌∷◌, ◌≡◌, ◌≢◌, ◌≤◌, ◌⊎◌, arith}
 use Rattle.std.specs.List.{AllByRecursion, Contains}
 use Rattle.pv_model.specs.Plain.{PlainToken}
 use Rattle.pv_dtd.specs.Plain.{PlainDtd}
@@ -23,7 +23,7 @@ use Rattle.pv_denial.specs.declared.denials.Cause.TheVariants as cause
 use Rattle.pv_denial.specs.declared.denials.Denial.{Denial}
 use Rattle.pv_denial.specs.declared.denials.Row.{Row}
 use Rattle.pv_denial.specs.declared.places.Place.{Place}
-use Rattle.pv_deny.specs.Denying.{Answers, HasOutcome, HasTooMany, IsDenialOf, IsRefusedBy, Outcome, is_denial, is_possible, is_too_many, is_too_wide}
+use Rattle.pv_deny.specs.Denying.{Answers, HasOutcome, HasTooMany, IsDenialOf, HasOutcomeBy, Outcome, is_denial, is_possible, is_too_many, is_too_wide}
 use Rattle.pv_deny.specs.Laws.{OneOutcome}
 use Rattle.pv_deny.specs.Told.{HasManyValues, HasRowsBy}
 use Rattle.pv_deny.specs.declared.errors.DenyError.{DenyError}
@@ -109,7 +109,7 @@ module _ {M : Type 0} (one : OneOutcome M) (g : PlainDtd) (root : List ℕ) (doc
   answers_ok : (d : Denial) → IsDenialOf g root doc d → (o : Outcome) → HasOutcome g root doc o → Answers o (Ok d)
   answers_ok d m o n = subst (λ p. Answers p (Ok d)) (one g root doc (is_denial d) o proper proper_doc m n) refl
 
-  answers_err : (error : DenyError) → IsRefusedBy g root doc error → (o : Outcome) → HasOutcome g root doc o → Answers o (Err error)
+  answers_err : (error : DenyError) → HasOutcomeBy g root doc error → (o : Outcome) → HasOutcome g root doc o → Answers o (Err error)
   answers_err (TooWide path) m o n = subst (λ p. Answers p (Err (TooWide path))) (one g root doc (is_too_wide path) o proper proper_doc m n) refl
   answers_err Possible m o n = subst (λ p. Answers p (Err Possible)) (one g root doc is_possible o proper proper_doc m n) tt
   answers_err TooMany m o n = subst (λ p. Answers p (Err TooMany)) (one g root doc is_too_many o proper proper_doc m n) tt
@@ -118,6 +118,6 @@ module _ {M : Type 0} (one : OneOutcome M) (g : PlainDtd) (root : List ℕ) (doc
   answers_err NoMemory m is_possible n = tt
   answers_err NoMemory m is_too_many n = tt
 
-  pub answers_result : (r : Result Denial DenyError) → IfOk r (IsDenialOf g root doc) → IfErr r (IsRefusedBy g root doc) → (o : Outcome) → HasOutcome g root doc o → Answers o r
+  pub answers_result : (r : Result Denial DenyError) → IfOk r (IsDenialOf g root doc) → IfErr r (HasOutcomeBy g root doc) → (o : Outcome) → HasOutcome g root doc o → Answers o r
   answers_result (Ok d) denied refused o m = answers_ok d denied o m
   answers_result (Err error) denied refused o m = answers_err error refused o m

@@ -16,7 +16,7 @@ use Rattle.pv_missing.specs.Weighing.{site_of}
 use Rattle.pv_missing.specs.Widths.{IsListForVerdict}
 use Rattle.pv_missing.specs.WordLaws.{LiveFollows, OneLiveWord, OwnerIsProductive, PossibleDerives}
 use Rattle.pv_missing.specs.declared.owners.Of.TheVariants as of
-use Rattle.pv_denial.specs.Causes.{HasKidsInEmpty, Holds, IsCause}
+use Rattle.pv_denial.specs.Causes.{HasKidsInEmpty, HoldsOfList, IsCause}
 use Rattle.pv_denial.specs.Judging.{IsReached, IsRightTable, JudgesAt}
 use Rattle.pv_denial.specs.Rows.{AreBarrierRows}
 use Rattle.pv_denial.specs.declared.denials.Cause.{Cause}
@@ -33,7 +33,7 @@ use Rattle.pv_denial.proofs.Lists.{every}
 
 module _ (M : Type 0) (spans : SpansWithin) (barrier : FurthestIsBarrier) (words : KnownWord M) (follows : LiveFollows) (one : OneLiveWord) (owner : OwnerIsProductive) (possible : PossibleDerives)
     (g : PlainDtd) (root : List ℕ) (d : Denial) (proper : IsProperDtd g) (list : Listed M) where
-  holds : (c : Cause) → IsCause g root list c → Holds g root list c
+  holds : (c : Cause) → IsCause g root list c → HoldsOfList g root list c
   holds cause.Undeclared h = h
   holds cause.Unproductive h = h
   holds cause.Empty h = h.0

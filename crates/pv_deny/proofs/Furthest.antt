@@ -19,7 +19,7 @@ use Rattle.pv_rules.proofs.Deriving.{spanned}
 use Rattle.pv_missing.specs.LiveWords.{AreProductiveTokens}
 use Rattle.pv_tables.specs.Tables.{kind_rank, site_number}
 use Rattle.pv_reach.specs.Laws.{SpansWithin}
-use Rattle.pv_denial.specs.Rows.{AreBarrierRows, AreOfOtherSites, EachRow, IsRow, IsSiteBefore, row_of, row_value}
+use Rattle.pv_denial.specs.Rows.{AreBarrierRows, AreOfOtherSites, EachRow, IsRow, IsSiteBefore, row_of_site, row_value}
 use Rattle.pv_denial.specs.declared.denials.Row.{Row}
 use Rattle.pv_denial.proofs.Rowing.{row_found, row_is, slice_get_below}
 use Rattle.pv_deny.specs.Denying.{AreFurthestRows, IsFurthestRow}
@@ -58,14 +58,14 @@ module _ (spans : SpansWithin) (g : PlainDtd) (w : List PlainToken) (rows : List
   once : AreOfOtherSites rows
   once j k q r lt a b e = before_itself (plain_site q.site) (plain_site r.site) e (are.ascend j k q r lt a b)
 
-  found_case : (s : PlainSite) (i k : ℕ) (o : Option Row) → row_of rows s ≡ o → option_and_then (λ (r : Row). slice_get r.values i) o ≡ Some k → DerivesAt g w s i k × HasSite g s
+  found_case : (s : PlainSite) (i k : ℕ) (o : Option Row) → row_of_site rows s ≡ o → option_and_then (λ (r : Row). slice_get r.values i) o ≡ Some k → DerivesAt g w s i k × HasSite g s
   found_case s i k None e h = absurd cc
   found_case s i k (Some r) e h =
       let f = row_found rows s r e in let is = are.each f.place r f.is_there in
       let P : PlainSite → Type 0 = λ v. DerivesAt g w v i k × HasSite g v in subst P f.is_site ((is.ends i k h).0, is.has)
 
   pub found : (s : PlainSite) (i k : ℕ) → row_value rows s i ≡ Some k → DerivesAt g w s i k × HasSite g s
-  found s i k e = found_case s i k (row_of rows s) refl e
+  found s i k e = found_case s i k (row_of_site rows s) refl e
 
   all_derive : (xs : List Goal) → AreAtRows (row_value rows) xs → (m : ℕ) × DeriveAll (Rule g w) m xs
   all_derive [] h = (0, none_left 0 refl)

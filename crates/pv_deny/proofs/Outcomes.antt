@@ -1,18 +1,18 @@
 -- A document has one outcome.
-use Rattle.std.proofs.Common.{List, None, Option, Some, [], ap, arith, inl, inr, length, map, refl, slice_get, subst, suc, sym, ℕ, ◌*◌, ◌<◌, ◌∙◌, ◌∷◌, ◌≡◌, ◌≢◌, ◌≤◌, ◌⊎◌, ◌++◌}
+use Rattle.std.proofs.Common.{List, None, Option, Some, ap, arith, inl, inr, length, map, refl, slice_get, subst, suc, sym, ℕ, ◌*◌, ◌<◌, ◌∙◌, ◌∷◌, ◌≡◌, ◌≢◌, ◌≤◌, ◌⊎◌}
 use Rattle.std.specs.List.{AllByRecursion, Contains}
 use Rattle.std.specs.Option.{option_map}
 use Rattle.std.proofs.lemmas.List.{length-map}
-use Rattle.std.proofs.lemmas.Option.{slice_get-map, slice_get_within}
+use Rattle.std.proofs.lemmas.Option.{slice_get-map}
 use Rattle.pv_model.specs.Plain.{PlainToken}
 use Rattle.pv_model.specs.declared.models.NameId.{NameId}
 use Rattle.pv_dtd.specs.Plain.{PlainDtd, number_of}
 use Rattle.pv_dtd.specs.Proper.{IsProperDtd}
 use Rattle.pv_rules.specs.PlainForms.{plain_site}
-use Rattle.pv_rules.specs.Sites.{HasSite, PlainSite}
+use Rattle.pv_rules.specs.Sites.{PlainSite}
 use Rattle.pv_rules.specs.declared.sites.Site.{Site}
 use Rattle.pv_rules.specs.declared.sites.Site.TheVariants as site
-use Rattle.pv_tree.specs.Lists.{IsFirstNot, Listed, Owner, an_element, lists_of, the_document}
+use Rattle.pv_tree.specs.Lists.{Listed, Owner, an_element, lists_of, the_document}
 use Rattle.pv_tree.specs.Plain.{Forest, PlainDoc}
 use Rattle.pv_tree.specs.View.{view}
 use Rattle.pv_tree.specs.Words.{word_of}
@@ -22,11 +22,10 @@ use Rattle.pv_missing.specs.Completing.{IsPotentiallyValid}
 use Rattle.pv_missing.specs.DocumentLaws.{IsPotentiallyValidByLists}
 use Rattle.pv_missing.specs.LiveWords.{IsLiveWord}
 use Rattle.pv_missing.specs.Proper.{IsProperDoc}
-use Rattle.pv_missing.specs.Verdicts.{IsFirstImpossible, IsLive}
+use Rattle.pv_missing.specs.Verdicts.{IsLive}
 use Rattle.pv_missing.specs.Widths.{IsFirstTooWide, IsListForVerdict}
 use Rattle.pv_missing.specs.WordLaws.{OneLiveWord}
 use Rattle.pv_tables.specs.TableLaws.{OneListAtPath}
-use Rattle.pv_tables.specs.Tables.{kind_rank, site_number}
 use Rattle.pv_reach.specs.Ending.{IsGreatestEnd}
 use Rattle.pv_denial.specs.Causes.{HasKidsInEmpty, IsCause, owner_name}
 use Rattle.pv_denial.specs.Rows.{AreInOrder, IsSiteBefore, most_values, values_in}
@@ -35,7 +34,6 @@ use Rattle.pv_denial.specs.declared.denials.Cause.TheVariants as cause
 use Rattle.pv_denial.specs.declared.denials.Denial.{Denial}
 use Rattle.pv_denial.specs.declared.denials.Row.{Row}
 use Rattle.pv_deny.specs.Denying.{AreDerivingSites, AreFurthestRows, HasOutcome, HasTooMany, IsDenialOf, IsFurthestRow, Outcome, is_denial, is_possible, is_too_many, is_too_wide}
-use Rattle.pv_deny.specs.Laws.{OneOutcome}
 use Rattle.pv_denial.proofs.Lists.{every, one_ascending, same_list}
 use Rattle.pv_deny.proofs.RowFacts.{values_in_rows}
 

@@ -1,8 +1,7 @@
 -- The rows that furthest places tell are the rows of furthest places.
 use Rattle.std.specs.Prelude.{IsSome}
-use Rattle.std.proofs.Common.{List, None, Option, Some, [], ap, arith, inl, inr, length, map, refl, slice_get, subst, suc, sym, zero, ℕ, ◌*◌, ◌++◌, ◌<◌, ◌∙◌, ◌∷◌, ◌≡◌, ◌≤◌, ◌⊎◌}
+use Rattle.std.proofs.Common.{List, None, Option, Some, [], ap, arith, inl, inr, length, map, refl, slice_get, subst, suc, sym, ℕ, ◌*◌, ◌++◌, ◌<◌, ◌∙◌, ◌∷◌, ◌≡◌, ◌≤◌, ◌⊎◌}
 use Rattle.std.specs.Option.{option_map}
-use Rattle.std.proofs.lemmas.List.{length-map}
 use Rattle.std.proofs.lemmas.Option.{slice_get-map, slice_get_within}
 use Rattle.pv_model.specs.Plain.{PlainToken}
 use Rattle.pv_dtd.specs.Plain.{PlainDtd}
@@ -19,7 +18,7 @@ use Rattle.pv_reach.specs.declared.reaches.Reaches.{Reaches}
 use Rattle.pv_denial.specs.Rows.{EachRow, IsSiteBefore, most_values, values_in}
 use Rattle.pv_denial.specs.declared.denials.Row.{Row}
 use Rattle.pv_deny.specs.Denying.{AreDerivingSites, AreFurthestRows, DerivesSome, IsFurthestRow}
-use Rattle.pv_deny.specs.Told.{AreRowsOf, AreToldSites, IsBelow, IsRowOf, IsTold}
+use Rattle.pv_deny.specs.Told.{AreToldRows, AreToldSites, IsBelow, IsToldRow, IsTold}
 use Rattle.pv_denial.proofs.Lists.{front_or_end}
 use Rattle.pv_denial.proofs.Rowing.{slice_get_below}
 
@@ -89,14 +88,14 @@ module _ (spans : SpansWithin) (g : PlainDtd) (w : List PlainToken) (r : Reaches
           (t.0, slice_get-map plain_site sites t.0 ∙ ap (λ v. option_map plain_site v) t.2 ∙ ap (λ v. Some v) t.3);
     }
 
-    module _ (rows : List Row) (of : AreRowsOf r (length w) sites rows) where
+    module _ (rows : List Row) (of : AreToldRows r (length w) sites rows) where
       site_at : (k : ℕ) (row : Row) → slice_get rows k ≡ Some row → (s : Site) × (slice_get sites k ≡ Some s)
       site_at k row e = let n = slice_get_within rows k row e in slice_get_below sites k (let m = of.as_many in omega arith)
 
       row_at : (k : ℕ) (s : Site) → slice_get sites k ≡ Some s → (row : Row) × (slice_get rows k ≡ Some row)
       row_at k s e = let n = slice_get_within sites k s e in slice_get_below rows k (let m = of.as_many in omega arith)
 
-      row_of_site : (s : Site) (row : Row) → IsTold g r (plain_site s) → IsRowOf r (length w) s row → IsFurthestRow g w row
+      row_of_site : (s : Site) (row : Row) → IsTold g r (plain_site s) → IsToldRow r (length w) s row → IsFurthestRow g w row
       row_of_site s row told is =
           let P : Site → Type 0 = λ v. HasSite g (plain_site v) × DerivesSome g w (plain_site v) in
           let p = subst P (sym is.is_site) (told.0, derives_told (plain_site s) told) in
@@ -130,16 +129,16 @@ module _ (spans : SpansWithin) (g : PlainDtd) (w : List PlainToken) (r : Reaches
           omega arith
 
 -- a row more, of the next site
-pub row_more : (r : Reaches) (n : ℕ) (sites : List Site) (rows : List Row) (s : Site) (row : Row) (i : ℕ) → length rows ≡ i → slice_get sites i ≡ Some s → IsRowOf r n s row →
-    ((k : ℕ) (t : Site) (q : Row) → slice_get sites k ≡ Some t → slice_get rows k ≡ Some q → IsRowOf r n t q) →
-    (k : ℕ) (t : Site) (q : Row) → slice_get sites k ≡ Some t → slice_get (rows ++ row ∷ []) k ≡ Some q → IsRowOf r n t q
+pub row_more : (r : Reaches) (n : ℕ) (sites : List Site) (rows : List Row) (s : Site) (row : Row) (i : ℕ) → length rows ≡ i → slice_get sites i ≡ Some s → IsToldRow r n s row →
+    ((k : ℕ) (t : Site) (q : Row) → slice_get sites k ≡ Some t → slice_get rows k ≡ Some q → IsToldRow r n t q) →
+    (k : ℕ) (t : Site) (q : Row) → slice_get sites k ≡ Some t → slice_get (rows ++ row ∷ []) k ≡ Some q → IsToldRow r n t q
 row_more r n sites rows s row i size here is each k t q e f = by (front_or_end rows row k q f)
   where
-    by : (slice_get rows k ≡ Some q) ⊎ ((k ≡ length rows) × (row ≡ q)) → IsRowOf r n t q
+    by : (slice_get rows k ≡ Some q) ⊎ ((k ≡ length rows) × (row ≡ q)) → IsToldRow r n t q
     by (inl g) = each k t q e g
     by (inr (last, same)) =
         let P : ℕ → Type 0 = λ v. slice_get sites v ≡ Some t in
         let there = subst P (last ∙ size) e in
         let site : s ≡ t = cc in
-        let Q : Site → Type 0 = λ v. IsRowOf r n v q in
-        subst Q site (subst (IsRowOf r n s) same is)
+        let Q : Site → Type 0 = λ v. IsToldRow r n v q in
+        subst Q site (subst (IsToldRow r n s) same is)

@@ -1,6 +1,6 @@
 -- What is found of the live word of a list.
 use Rattle.std.specs.Prelude.{IsSome}
-use Rattle.std.proofs.Common.{List, Some, ap, arith, inl, inr, length, map, slice_get, subst, suc, sym, ℕ, ◌*◌, ◌<◌, ◌≡◌, ◌≤◌, ◌⊎◌}
+use Rattle.std.proofs.Common.{List, Some, arith, inl, inr, length, map, slice_get, subst, suc, sym, ℕ, ◌*◌, ◌<◌, ◌≡◌, ◌≤◌, ◌⊎◌}
 use Rattle.std.proofs.lemmas.Bool.{cases_lt}
 use Rattle.std.proofs.lemmas.List.{length-map}
 use Rattle.pv_model.specs.Plain.{PlainToken}
@@ -15,10 +15,9 @@ use Rattle.pv_missing.specs.WordLaws.{LiveFollows}
 use Rattle.pv_reach.specs.Ending.{AreReaches, end_of}
 use Rattle.pv_reach.specs.Laws.{SpansWithin}
 use Rattle.pv_reach.specs.declared.reaches.Reaches.{Reaches}
-use Rattle.pv_denial.specs.Rows.{most_values, values_in}
+use Rattle.pv_denial.specs.Rows.{most_values}
 use Rattle.pv_denial.specs.declared.denials.Row.{Row}
-use Rattle.pv_deny.specs.Denying.{AreFurthestRows}
-use Rattle.pv_deny.specs.Told.{AreRowsOf, AreToldSites, HasManyValues, HasRows}
+use Rattle.pv_deny.specs.Told.{AreToldRows, AreToldSites, HasManyValues, HasRows}
 use Rattle.pv_deny.proofs.RowFacts.{deriving_sites, few_values, furthest_rows, told_each}
 
 module _ (spans : SpansWithin) (follows : LiveFollows) (g : PlainDtd) (plain : PlainDtd) (is_plain : plain ≡ g) (proper : IsProperDtd plain) (w : List PlainToken) (word : List Token) (live : IsLiveWord g w (map plain_token word))
@@ -42,9 +41,9 @@ module _ (spans : SpansWithin) (follows : LiveFollows) (g : PlainDtd) (plain : P
   pub each_told : (k i : ℕ) (s : Site) → slice_get sites k ≡ Some s → i ≤ length word → IsSome (end_of r (plain_site s) i)
   each_told k i s e le = told_each spans g (map plain_token word) r (subst IsProperDtd is_plain proper) (follows g w (map plain_token word) live).names are sites all k i s e (let n = size in omega arith)
 
-  pub has_rows : (rows : List Row) → AreRowsOf r (length word) sites rows → length sites * suc (length word) ≤ most_values → HasRows g w rows
+  pub has_rows : (rows : List Row) → AreToldRows r (length word) sites rows → length sites * suc (length word) ≤ most_values → HasRows g w rows
   has_rows rows of few =
-      let P : ℕ → Type 0 = λ v. AreRowsOf r v sites rows in
+      let P : ℕ → Type 0 = λ v. AreToldRows r v sites rows in
       let Q : ℕ → Type 0 = λ v. length sites * suc v ≤ most_values in
       let of_word = subst P (sym size) of in
       let names = (follows g w (map plain_token word) live).names in

@@ -23,7 +23,8 @@ use Rattle.pv_denial.specs.declared.denials.Cause.TheVariants as cause
 use Rattle.pv_denial.specs.declared.denials.Denial.{Denial}
 use Rattle.pv_denial.specs.declared.denials.Row.{Row}
 use Rattle.pv_deny.specs.declared.errors.DenyError.{DenyError}
-use Rattle.pv_deny.specs.declared.errors.DenyError.TheVariants.{NoMemory, Possible, TooMany, TooWide}
+use Rattle.pv_deny.specs.declared.errors.DenyError.TheVariants.{NoMemory, Possible, TooMany}
+use Rattle.pv_deny.specs.declared.errors.DenyError.TheVariants.{TooWide}
 
 -- the site has a derivation over some tokens of the word
 abbrev pub DerivesSome : PlainDtd → List PlainToken → PlainSite → Type 0
@@ -105,11 +106,11 @@ HasOutcome g root doc is_possible = AllByRecursion (IsListForVerdict g) (lists_o
 HasOutcome g root doc is_too_many = HasTooMany g root doc
 
 -- the outcome that the error tells; nothing is known where memory was wanting
-abbrev pub IsRefusedBy : {M : Type 0} → PlainDtd → List ℕ → PlainDoc M → DenyError → Type 0
-IsRefusedBy g root doc (TooWide path) = HasOutcome g root doc (is_too_wide path)
-IsRefusedBy g root doc Possible = HasOutcome g root doc is_possible
-IsRefusedBy g root doc TooMany = HasOutcome g root doc is_too_many
-IsRefusedBy g root doc NoMemory = Unit {0}
+abbrev pub HasOutcomeBy : {M : Type 0} → PlainDtd → List ℕ → PlainDoc M → DenyError → Type 0
+HasOutcomeBy g root doc (TooWide path) = HasOutcome g root doc (is_too_wide path)
+HasOutcomeBy g root doc Possible = HasOutcome g root doc is_possible
+HasOutcomeBy g root doc TooMany = HasOutcome g root doc is_too_many
+HasOutcomeBy g root doc NoMemory = Unit {0}
 
 -- the result is this outcome, or want of memory
 abbrev pub Answers : Outcome → Result Denial DenyError → Type 0

@@ -7,7 +7,7 @@ use Rattle.pv_rules.specs.Rules.{IsKnownWord}
 use Rattle.pv_tree.specs.Plain.{PlainDoc}
 use Rattle.pv_missing.specs.LiveWords.{AreProductiveTokens}
 use Rattle.pv_missing.specs.Proper.{IsProperDoc}
-use Rattle.pv_denial.specs.Judging.{IsJudged}
+use Rattle.pv_denial.specs.Judging.{IsDenialJudged}
 use Rattle.pv_denial.specs.Rows.{AreBarrierRows, AreInOrder}
 use Rattle.pv_denial.specs.declared.denials.Denial.{Denial}
 use Rattle.pv_denial.specs.declared.denials.Judged.TheVariants as judged
@@ -22,7 +22,7 @@ FurthestIsBarrier = (g : PlainDtd) (w : List PlainToken) (rows : List Row) → I
 -- what denies a document passes all tests of the judge
 abbrev pub DenialIsJudged : (M : Type 0) → Type 0
 DenialIsJudged M = (g : PlainDtd) (root : List ℕ) (doc : PlainDoc M) (d : Denial) →
-    IsProperDtd g → IsDenialOf g root doc d → IsJudged g root doc d judged.Denied
+    IsProperDtd g → IsDenialOf g root doc d → IsDenialJudged g root doc d judged.Denied
 
 -- a document has one denial at most, and none where its rows would have too many values
 abbrev pub OneDenial : (M : Type 0) → Type 0

@@ -1,5 +1,5 @@
 -- The sites that furthest places tell something of, their rows, and what is found of a word.
-use Rattle.std.specs.Prelude.{IsSome, List, Some, length, slice_get, suc, ℕ, ◌*◌, ◌+◌, ◌<◌, ◌≡◌}
+use Rattle.std.specs.Prelude.{IsSome, List, Some, length, slice_get, suc, ℕ, ◌*◌, ◌<◌, ◌≡◌}
 use Rattle.std.specs.Prelude.{◌≤◌, ◌⊎◌, ◌≢◌, []}
 use Rattle.pv_model.specs.Plain.{PlainToken}
 use Rattle.pv_dtd.specs.Plain.{PlainDtd}
@@ -51,16 +51,16 @@ pub record AreToldSites (g : PlainDtd) (r : Reaches) (rank number : ℕ) (sites 
         (k : ℕ) × (t : Site) × (slice_get sites k ≡ Some t) × (plain_site t ≡ s)
 
 -- the row of a site, as furthest places over a word of n tokens tell it
-pub record IsRowOf (r : Reaches) (n : ℕ) (s : Site) (row : Row) : Type 0 where
+pub record IsToldRow (r : Reaches) (n : ℕ) (s : Site) (row : Row) : Type 0 where
   pub is_site : row.site ≡ s
   pub long : length row.values ≡ suc n
   pub told : (i v : ℕ) → slice_get row.values i ≡ Some v → end_of r (plain_site s) i ≡ Some v
 
 -- the rows of sites, in their order
-pub record AreRowsOf (r : Reaches) (n : ℕ) (sites : List Site) (rows : List Row) : Type 0 where
+pub record AreToldRows (r : Reaches) (n : ℕ) (sites : List Site) (rows : List Row) : Type 0 where
   pub as_many : length rows ≡ length sites
   pub each : (k : ℕ) (s : Site) (row : Row) → slice_get sites k ≡ Some s →
-      slice_get rows k ≡ Some row → IsRowOf r n s row
+      slice_get rows k ≡ Some row → IsToldRow r n s row
 
 -- the rows of furthest places over the live word of a word, with no more values than there may be
 pub record HasRows (g : PlainDtd) (w : List PlainToken) (rows : List Row) : Type 0 where

@@ -9,10 +9,10 @@ ghost use Rattle.pv_tree.specs.PlainForms.{forest};
 ghost use Rattle.pv_tree.specs.Words.{word_of};
 ghost use Rattle.pv_missing.specs.Verdicts.{IsFirstImpossible};
 ghost use Rattle.pv_missing.specs.Widths.{FitsVerdict, IsListForVerdict};
-ghost use Rattle.pv_denial.specs.Judging.{IsJudged};
+ghost use Rattle.pv_denial.specs.Judging.{IsDenialJudged};
 ghost use Rattle.pv_denial.specs.declared.denials.Cause.TheVariants.{Word as by_word};
 ghost use Rattle.pv_denial.specs.declared.denials.Judged.TheVariants as judged;
-ghost use Rattle.pv_deny.specs.Denying.{Answers, HasOutcome, IsDenialOf, IsRefusedBy, Outcome};
+ghost use Rattle.pv_deny.specs.Denying.{Answers, HasOutcome, IsDenialOf, HasOutcomeBy, Outcome};
 ghost use Rattle.pv_deny.specs.Told.{HasManyValues, HasRowsBy};
 
 use crate::errors::DenyError;
@@ -68,7 +68,7 @@ pub fn denial_at(
         path }
     ensures denied { IfOk result (IsDenialOf (dtd_of grammar.now) root.now (plain_doc doc.now)) }
     ensures refused { IfErr result
-        (IsRefusedBy (dtd_of grammar.now) root.now (plain_doc doc.now)) }
+        (HasOutcomeBy (dtd_of grammar.now) root.now (plain_doc doc.now)) }
 {
     one_list_at_path_law::<Mark>();
     let Some(place) = place_at(root, doc, &path) else {
@@ -94,7 +94,7 @@ fn deny_by<L: Ledger>(
     requires some { 0 < L.parts }
     ensures denied { IfOk result (IsDenialOf (dtd_of grammar.now) root.now (plain_doc doc.now)) }
     ensures refused { IfErr result
-        (IsRefusedBy (dtd_of grammar.now) root.now (plain_doc doc.now)) }
+        (HasOutcomeBy (dtd_of grammar.now) root.now (plain_doc doc.now)) }
 {
     let mut steps = Steps::<L>::start(blank);
     match possible_verdicts(alloc, grammar, root, doc, &mut steps) {
@@ -113,11 +113,11 @@ fn deny_by<L: Ledger>(
 pub fn deny(alloc: Global, grammar: &Grammar, root: &[u8], doc: &Doc) -> Result<Denial, DenyError>
     ensures denied { IfOk result (IsDenialOf (dtd_of grammar.now) root.now (plain_doc doc.now)) }
     ensures refused { IfErr result
-        (IsRefusedBy (dtd_of grammar.now) root.now (plain_doc doc.now)) }
+        (HasOutcomeBy (dtd_of grammar.now) root.now (plain_doc doc.now)) }
     ensures exactly { (o : Outcome) → HasOutcome (dtd_of grammar.now) root.now (plain_doc doc.now) o
         → Answers o result }
     ensures accepted { IfOk result (λ denial.
-        IsJudged (dtd_of grammar.now) root.now (plain_doc doc.now) denial judged.Denied) }
+        IsDenialJudged (dtd_of grammar.now) root.now (plain_doc doc.now) denial judged.Denied) }
 {
     proper_dtd_law(grammar.dtd());
     proper_doc_law(doc);

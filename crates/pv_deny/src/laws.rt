@@ -1,7 +1,8 @@
 //! The laws of denials, each the contract of a function that does nothing. `M` is the type of a
 //! document's marks.
 
-ghost use Rattle.pv_deny.specs.Laws.{DenialIsInOrder, DenialIsJudged, FurthestIsBarrier, OneDenial, OneOutcome};
+ghost use Rattle.pv_deny.specs.Laws.{DenialIsInOrder, DenialIsJudged, FurthestIsBarrier, OneDenial};
+ghost use Rattle.pv_deny.specs.Laws.{OneOutcome};
 
 use pv_missing::laws::documents::live_lists_law;
 use pv_missing::laws::lists::known_word_law;

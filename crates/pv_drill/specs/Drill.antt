@@ -5,7 +5,10 @@ use Rattle.std.specs.Prelude.{if◌then◌else◌}
 -- the DTD
 abbrev pub DRILL_DTD : List ℕ
 DRILL_DTD =
-    codes "<!ELEMENT doc (head, sec+)>\n<!ELEMENT head (#PCDATA)>\n<!ELEMENT sec (title?, (p|list)*)>\n<!ELEMENT title (#PCDATA)>\n<!ELEMENT p (#PCDATA|em|br)*>\n<!ELEMENT em (#PCDATA|em)*>\n<!ELEMENT br EMPTY>\n<!ELEMENT list (item, item+)>\n<!ELEMENT item (p+)>\n"
+    codes "<!ELEMENT doc (head, sec+)>\n<!ELEMENT head (#PCDATA)>\n" ++ (
+    codes "<!ELEMENT sec (title?, (p|list)*)>\n<!ELEMENT title (#PCDATA)>\n" ++ (
+    codes "<!ELEMENT p (#PCDATA|em|br)*>\n<!ELEMENT em (#PCDATA|em)*>\n<!ELEMENT br EMPTY>\n" ++ (
+    codes "<!ELEMENT list (item, item+)>\n<!ELEMENT item (p+)>\n")))
 
 -- a section with its number as text
 abbrev pub section_text : ℕ → List ℕ
@@ -21,16 +24,16 @@ abbrev pub drill_text : ℕ → List ℕ
 drill_text n = codes "<doc><head>drill</head>" ++ (sections n ++ codes "</doc>")
 
 -- the lines for a section: an element that can't stand there, one that can, and the undo of that
-abbrev pub line_text : ℕ → ℕ → List ℕ
-line_text k zero = codes "wrap 0." ++ (decimal k ++ codes " 0 1 br")
-line_text k (suc zero) = codes "wrap 0." ++ (decimal k ++ codes " 0 1 p")
-line_text k (suc (suc which)) = codes "undo"
+abbrev pub section_line : ℕ → ℕ → List ℕ
+section_line k zero = codes "wrap 0." ++ (decimal k ++ codes " 0 1 br")
+section_line k (suc zero) = codes "wrap 0." ++ (decimal k ++ codes " 0 1 p")
+section_line k (suc (suc which)) = codes "undo"
 
 -- the lines for a section; each third is undone
 abbrev pub section_lines : ℕ → List (List ℕ)
 section_lines k =
-    if k % 3 == 0 then line_text k 0 ∷ line_text k 1 ∷ line_text k 2 ∷ []
-    else line_text k 0 ∷ line_text k 1 ∷ []
+    if k % 3 == 0 then section_line k 0 ∷ section_line k 1 ∷ section_line k 2 ∷ []
+    else section_line k 0 ∷ section_line k 1 ∷ []
 
 -- the lines of the script, for all sections
 abbrev pub drill_lines : ℕ → List (List ℕ)

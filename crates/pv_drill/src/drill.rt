@@ -1,7 +1,7 @@
 //! The document of the drill, and the lines of its script.
 
 ghost use Rattle.std.specs.Prelude.{◌≡◌, ◌≤◌, ◌++◌, ◌%◌, IfOk, OnOk, codes, decimal};
-ghost use Rattle.pv_drill.specs.Drill.{DRILL_DTD, drill_text, line_text, section_text};
+ghost use Rattle.pv_drill.specs.Drill.{DRILL_DTD, drill_text, section_line, section_text};
 
 use itoa::Buffer;
 use pv_chars::NoMemory;
@@ -11,7 +11,10 @@ use std::alloc::{AllocError, Global};
 pub fn drill_dtd() -> &'static [u8]
     ensures { result.now ≡ DRILL_DTD }
 {
-    b"<!ELEMENT doc (head, sec+)>\n<!ELEMENT head (#PCDATA)>\n<!ELEMENT sec (title?, (p|list)*)>\n<!ELEMENT title (#PCDATA)>\n<!ELEMENT p (#PCDATA|em|br)*>\n<!ELEMENT em (#PCDATA|em)*>\n<!ELEMENT br EMPTY>\n<!ELEMENT list (item, item+)>\n<!ELEMENT item (p+)>\n"
+    b"<!ELEMENT doc (head, sec+)>\n<!ELEMENT head (#PCDATA)>\n\
+    <!ELEMENT sec (title?, (p|list)*)>\n<!ELEMENT title (#PCDATA)>\n\
+    <!ELEMENT p (#PCDATA|em|br)*>\n<!ELEMENT em (#PCDATA|em)*>\n<!ELEMENT br EMPTY>\n\
+    <!ELEMENT list (item, item+)>\n<!ELEMENT item (p+)>\n"
 }
 
 // Appends a section.
@@ -61,7 +64,7 @@ pub fn drill_line(alloc: Global, k: u32, which: u32) -> Result<Vec<u8>, NoMemory
     requires most { k ≤ 20000 }
     requires line { which ≤ 2 }
     requires third { which ≡ 2 → k % 3 ≡ 0 }
-    ensures { IfOk result (λ line. line.items ≡ line_text k which) }
+    ensures { IfOk result (λ line. line.items ≡ section_line k which) }
 {
     match which {
         0 => Ok(wrap_line(alloc, k, b"br")?),

@@ -8,12 +8,12 @@ use Rattle.pv_read.specs.Meaning.{is_document}
 use Rattle.pv_read.specs.Steps.{TakesItem}
 use Rattle.pv_read.proofs.Prologs.{same_some, takes_leads}
 use Rattle.pv_flat.specs.Plain.{PlainEvent, events_so_far}
-use Rattle.pv_flat.specs.Coming.{Ending, IsIn, RestComes, ends_with, refused_as}
-use Rattle.pv_flat.specs.Steps.{names_behind}
+use Rattle.pv_flat.specs.Coming.{TextEnd, IsIn, RestComes, ends_with, refused_as}
+use Rattle.pv_flat.specs.Steps.{open_names_behind}
 use Rattle.pv_flat.proofs.Given.{given_by, known-taken, one-more}
 
 -- an item more, and its events
-pub rest-step : (root : List ℕ) (k : ℕ) (left : Left Mark) (rest : List ℕ) (i : Item) (more : List ℕ) (t : TakesItem None blank_mark root left rest i more) (given es : List PlainEvent) (end : Ending) →
+pub rest-step : (root : List ℕ) (k : ℕ) (left : Left Mark) (rest : List ℕ) (i : Item) (more : List ℕ) (t : TakesItem None blank_mark root left rest i more) (given es : List PlainEvent) (end : TextEnd) →
     events_so_far t.next ≡ events_so_far left ++ given → RestComes root (suc k) t.next more es end → RestComes root k left rest (given ++ es) end
 rest-step root k left rest i more t given es (ends_with before after) is c = (
   c.0,
@@ -25,7 +25,7 @@ rest-step root k left rest i more t given es (ends_with before after) is c = (
 rest-step root k left rest i more t given es (refused_as o) is c = takes_leads k t o c
 
 is-in-behind : (before b : List ℕ) (inner : Open Mark) (outer : List (Open Mark)) (i : Item) (next : Left Mark) → b ≡ before → left_by blank_mark (in_content b inner outer) i ≡ Some next →
-    IsIn before (names_behind i (inner.name ∷ map (λ (e : Open Mark). e.name) outer)) next
+    IsIn before (open_names_behind i (inner.name ∷ map (λ (e : Open Mark). e.name) outer)) next
 is-in-behind before b inner outer (xml_declaration bytes) next h e = absurd (cc)
 is-in-behind before b inner outer (doctype name bytes) next h e = absurd (cc)
 is-in-behind before b inner outer (comment_or_instruction bytes) next h e = subst (λ l. IsIn before (inner.name ∷ map (λ (e : Open Mark). e.name) outer) l) (same_some e) (h, refl)
@@ -38,10 +38,10 @@ is-in-behind before b inner outer (text_run bytes) next h e = subst (λ l. IsIn 
 
 -- what comes behind an item in the root comes before it, behind the item's events
 pub inside : (root before rest : List ℕ) (names : List (List ℕ)) (k : ℕ) (i : Item) (more : List ℕ) → (names ≡ [] → ⊥) → ((left : Left Mark) → IsIn before names left → TakesItem None blank_mark root left rest i more) →
-    (es : List PlainEvent) (end : Ending) → ((left : Left Mark) → IsIn before (names_behind i names) left → RestComes root (suc k) left more es end) → (left : Left Mark) → IsIn before names left → RestComes root k left rest (given_by i ++ es) end
+    (es : List PlainEvent) (end : TextEnd) → ((left : Left Mark) → IsIn before (open_names_behind i names) left → RestComes root (suc k) left more es end) → (left : Left Mark) → IsIn before names left → RestComes root k left rest (given_by i ++ es) end
 inside root before rest names k i more some taken es end c (in_prolog at b) h = absurd h
 inside root before rest names k i more some taken es end c (in_epilog b t after) h = absurd (some h.1)
 inside root before rest names k i more some taken es end c (in_content b inner outer) h =
     let t = taken (in_content b inner outer) h in
-    let next = subst (λ ns. IsIn before (names_behind i ns) t.next) h.1 (is-in-behind before b inner outer i t.next h.0 t.stands) in
+    let next = subst (λ ns. IsIn before (open_names_behind i ns) t.next) h.1 (is-in-behind before b inner outer i t.next h.0 t.stands) in
     rest-step root k (in_content b inner outer) rest i more t (given_by i) es end (one-more b inner outer i t.next (known-taken t) t.stands) (c t.next next)

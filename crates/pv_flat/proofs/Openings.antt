@@ -12,7 +12,7 @@ use Rattle.pv_read.specs.declared.errors.DocError.{DocError}
 use Rattle.pv_read.specs.declared.prolog.RootTag.{RootTag}
 use Rattle.pv_read.proofs.Telling.{refused_front}
 use Rattle.pv_flat.specs.Plain.{PlainEvent, begin_element, end_element}
-use Rattle.pv_flat.specs.Coming.{Ending, IsIn, IsOpening, MAX_FLAT_BYTES, RestComes, TextComes, ends_with, flat_limits, refused_as}
+use Rattle.pv_flat.specs.Coming.{TextEnd, IsIn, IsOpening, MAX_FLAT_BYTES, RestComes, TextComes, ends_with, flat_limits, refused_as}
 
 starts : (bytes mark rest : List ℕ) → TakesByteOrderMark bytes mark rest → bytes ≡ mark ++ rest
 starts bytes mark rest (marked e) = e
@@ -28,20 +28,20 @@ before-is root bytes tag o =
     ap (λ b. take (length b - length tag.from_tag.now) b) whole ∙ front-is (o.mark ++ o.opens.before) tag.from_tag.now
 
 -- what comes behind the tag comes behind its event
-behind : (root bytes : List ℕ) (tag : RootTag) (o : IsOpening root bytes tag) (left : Left Mark) (es fs : List PlainEvent) (end : Ending) → behind_tag (o.mark ++ o.opens.before) tag.is_short tag.tag.name.now tag.tag.attrs.now ≡ left →
+behind : (root bytes : List ℕ) (tag : RootTag) (o : IsOpening root bytes tag) (left : Left Mark) (es fs : List PlainEvent) (end : TextEnd) → behind_tag (o.mark ++ o.opens.before) tag.is_short tag.tag.name.now tag.tag.attrs.now ≡ left →
     Rattle.pv_flat.specs.Plain.events_so_far left ++ es ≡ fs → RestComes root (suc tag.count) left tag.rest.now es end → TextComes root bytes fs end
 behind root bytes tag o left es fs (ends_with before after) is given c =
     (c.0, items o.few o.front (o.opens.leads o.mark (is_document c.0) (subst (λ l. DocumentRestMeans None blank_mark root (suc tag.count) l tag.rest.now (is_document c.0)) (sym is) c.1)), c.2 ∙ given, c.3, c.4)
 behind root bytes tag o left es fs (refused_as p) is given c =
     items o.few o.front (o.opens.leads o.mark p (subst (λ l. DocumentRestMeans None blank_mark root (suc tag.count) l tag.rest.now p) (sym is) c))
 
-pub behind-start : (root bytes : List ℕ) (tag : RootTag) (o : IsOpening root bytes tag) (before : List ℕ) (es : List PlainEvent) (end : Ending) → tag.is_short ≡ false → o.mark ++ o.opens.before ≡ before →
+pub behind-start : (root bytes : List ℕ) (tag : RootTag) (o : IsOpening root bytes tag) (before : List ℕ) (es : List PlainEvent) (end : TextEnd) → tag.is_short ≡ false → o.mark ++ o.opens.before ≡ before →
     ((left : Left Mark) → IsIn before (tag.tag.name.now ∷ []) left → RestComes root (suc tag.count) left tag.rest.now es end) → TextComes root bytes (begin_element tag.tag.name.now tag.tag.attrs.now ∷ es) end
 behind-start root bytes tag o before es end long is c =
     let left = in_content (o.mark ++ o.opens.before) (just_opened tag.tag.name.now tag.tag.attrs.now) [] in
     behind root bytes tag o left es (begin_element tag.tag.name.now tag.tag.attrs.now ∷ es) end (ap (λ b. behind_tag (o.mark ++ o.opens.before) b tag.tag.name.now tag.tag.attrs.now) long) refl (c left (is, refl))
 
-pub behind-short : (root bytes : List ℕ) (tag : RootTag) (o : IsOpening root bytes tag) (before : List ℕ) (es : List PlainEvent) (end : Ending) → tag.is_short ≡ true → o.mark ++ o.opens.before ≡ before →
+pub behind-short : (root bytes : List ℕ) (tag : RootTag) (o : IsOpening root bytes tag) (before : List ℕ) (es : List PlainEvent) (end : TextEnd) → tag.is_short ≡ true → o.mark ++ o.opens.before ≡ before →
     ((left : Left Mark) → IsIn before [] left → RestComes root (suc tag.count) left tag.rest.now es end) → TextComes root bytes (begin_element tag.tag.name.now tag.tag.attrs.now ∷ end_element ∷ es) end
 behind-short root bytes tag o before es end short is c =
     let left = in_epilog (o.mark ++ o.opens.before) (empty_element blank_mark tag.tag.name.now tag.tag.attrs.now) [] in

@@ -16,24 +16,24 @@ use Rattle.pv_read.specs.declared.errors.DocError.{DocError}
 use Rattle.pv_read.specs.declared.errors.DocError.TheVariants.{Deep, DoctypeName, Entity, Limit, Mismatch, NoMemory, Subset, Syntax}
 use Rattle.pv_read.specs.declared.forms.items.Item.{Item as SpannedItem}
 use Rattle.pv_flat.specs.Plain.{PlainEvent}
-use Rattle.pv_flat.specs.Coming.{AdvancesBy, Comes, ComesAt, ComesInside, Ending, IsIn, IsInnermost, RestComes, SameState, TakesInside, open_names, refused_as}
+use Rattle.pv_flat.specs.Coming.{AdvancesBy, EventsCome, ComesAt, ComesInside, TextEnd, IsIn, IsInnermost, RestComes, SameState, TakesInside, open_names, refused_as}
 use Rattle.pv_flat.specs.declared.state.Events.{Events}
 use Rattle.pv_flat.specs.declared.state.Stage.{Stage}
 use Rattle.pv_flat.specs.declared.state.Stage.TheVariants as stage
 use Rattle.pv_flat.proofs.Given.{given_by, names-push}
-use Rattle.pv_flat.specs.Steps.{names_behind}
+use Rattle.pv_flat.specs.Steps.{open_names_behind}
 use Rattle.pv_flat.proofs.Moving.{inside}
 use Rattle.pv_flat.proofs.Refused.{place-is, refused-inside}
 
-pub comes-by : (s : Events) (at : Stage) → s.stage ≡ at → (es : List PlainEvent) (end : Ending) → ComesAt at s es end → Comes s es end
+pub comes-by : (s : Events) (at : Stage) → s.stage ≡ at → (es : List PlainEvent) (end : TextEnd) → ComesAt at s es end → EventsCome s es end
 comes-by s at is es end c = subst (λ st. ComesAt st s es end) (sym is) c
 
-pub comes-as : (s : Events) (at : Stage) → s.stage ≡ at → (es : List PlainEvent) (end : Ending) → Comes s es end → ComesAt at s es end
+pub comes-as : (s : Events) (at : Stage) → s.stage ≡ at → (es : List PlainEvent) (end : TextEnd) → EventsCome s es end → ComesAt at s es end
 comes-as s at is es end c = subst (λ st. ComesAt st s es end) is c
 
 pub passed : (old new : Events) (i : Item) (more : List ℕ) → old.stage ≡ stage.Inside → (open_names old ≡ [] → ⊥) → TakesInside old i more →
-    new.root ≡ old.root → new.before.now ≡ old.before.now → new.rest.now ≡ more → new.count ≡ suc old.count → open_names new ≡ names_behind i (open_names old) →
-    (es : List PlainEvent) (end : Ending) → ComesInside new es end → Comes old (given_by i ++ es) end
+    new.root ≡ old.root → new.before.now ≡ old.before.now → new.rest.now ≡ more → new.count ≡ suc old.count → open_names new ≡ open_names_behind i (open_names old) →
+    (es : List PlainEvent) (end : TextEnd) → ComesInside new es end → EventsCome old (given_by i ++ es) end
 passed old new i more at some taken root before rest count names es end c =
     comes-by old stage.Inside at (given_by i ++ es) end
     (inside old.root old.before.now old.rest.now (open_names old) old.count i more some taken es end
@@ -53,10 +53,10 @@ no-more [] e = refl
 no-more (x ∷ xs) e = absurd (omega arith)
 
 pub popped-names : (old popped new : List (Bor (List ℕ))) (r : Option (Bor (List ℕ))) (name gap : List ℕ) → old ≡ popped ++ option_to_list r → new ≡ popped → (r ≡ None → length old ≡ 0) →
-    (reverse (map (λ (b : Bor (List ℕ)). b.now) old) ≡ [] → ⊥) → reverse (map (λ (b : Bor (List ℕ)). b.now) new) ≡ names_behind (end_tag name gap) (reverse (map (λ (b : Bor (List ℕ)). b.now) old))
+    (reverse (map (λ (b : Bor (List ℕ)). b.now) old) ≡ [] → ⊥) → reverse (map (λ (b : Bor (List ℕ)). b.now) new) ≡ open_names_behind (end_tag name gap) (reverse (map (λ (b : Bor (List ℕ)). b.now) old))
 popped-names old popped new None name gap is same none some = absurd (some (no-more old (none refl)))
 popped-names old popped new (Some x) name gap is same none some =
-    same-names popped new same ∙ sym (ap (names_behind (end_tag name gap)) (same-names (popped ++ x ∷ []) old is ∙ names-push popped x))
+    same-names popped new same ∙ sym (ap (open_names_behind (end_tag name gap)) (same-names (popped ++ x ∷ []) old is ∙ names-push popped x))
 
 -- the last of the elements is the innermost
 pub last-name : (items : List (Bor (List ℕ))) (x : Bor (List ℕ)) → slice_get items (length items - 1) ≡ Some x → (outer : List (List ℕ)) × (reverse (map (λ (b : Bor (List ℕ)). b.now) items) ≡ x.now ∷ outer)
@@ -113,7 +113,7 @@ pub refused-advance : (old new : Events) (e : DocError) → old.stage ≡ stage.
     SameState old new → AdvancesBy old (Err e) new
 refused-advance old new e at refused same = (λ es. by e es (refused-inside old.root old.before.now old.rest.now (open_names old) old.count e refused), same)
   where
-    by : (e : DocError) (es : List PlainEvent) → Refuses (λ o. (left : Left Mark) → IsIn old.before.now (open_names old) left → DocumentRestMeans None blank_mark old.root old.count left old.rest.now o) e → Refuses (λ o. Comes old es (refused_as o)) e
+    by : (e : DocError) (es : List PlainEvent) → Refuses (λ o. (left : Left Mark) → IsIn old.before.now (open_names old) left → DocumentRestMeans None blank_mark old.root old.count left old.rest.now o) e → Refuses (λ o. EventsCome old es (refused_as o)) e
     by (Syntax j) es r = comes-by old stage.Inside at es _ r
     by (Mismatch j) es r = comes-by old stage.Inside at es _ r
     by (Entity j) es r = comes-by old stage.Inside at es _ r
@@ -124,7 +124,7 @@ refused-advance old new e at refused same = (λ es. by e es (refused-inside old.
     by NoMemory es r = tt
 
 -- in the root, states with the same parts are the same
-pub same-inside : (old new : Events) → old.stage ≡ stage.Inside → new.stage ≡ stage.Inside → ((es : List PlainEvent) (end : Ending) → (ComesInside new es end → ComesInside old es end) × (ComesInside old es end → ComesInside new es end)) → SameState old new
+pub same-inside : (old new : Events) → old.stage ≡ stage.Inside → new.stage ≡ stage.Inside → ((es : List PlainEvent) (end : TextEnd) → (ComesInside new es end → ComesInside old es end) × (ComesInside old es end → ComesInside new es end)) → SameState old new
 same-inside old new at there same es end = (
   λ c. comes-by old stage.Inside at es end ((same es end).0 (comes-as new stage.Inside there es end c)),
   λ c. comes-by new stage.Inside there es end ((same es end).1 (comes-as old stage.Inside at es end c)),

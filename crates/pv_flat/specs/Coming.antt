@@ -34,20 +34,20 @@ flat_limits = record { depth = None; bytes = MAX_FLAT_BYTES }
 
 -- the end of a document with these bytes before and after its root; or what a text means that is
 -- refused
-pub data Ending : Type 0 where
-  ends_with : (before after : List ℕ) → Ending
-  refused_as : Outcome Mark → Ending
+pub data TextEnd : Type 0 where
+  ends_with : (before after : List ℕ) → TextEnd
+  refused_as : Outcome Mark → TextEnd
 
 -- The events of the text are these, and this is behind them. What is refused may have any events:
 -- that it is refused is known once it is read.
-abbrev pub TextComes : List ℕ → List ℕ → List PlainEvent → Ending → Type 0
+abbrev pub TextComes : List ℕ → List ℕ → List PlainEvent → TextEnd → Type 0
 TextComes root bytes es (ends_with before after) =
     (doc : PlainDoc Mark) × DocumentMeansWithin flat_limits blank_mark root bytes (is_document doc)
     × (events_of doc.root ≡ es) × (doc.before ≡ before) × (doc.after ≡ after)
 TextComes root bytes es (refused_as o) = DocumentMeansWithin flat_limits blank_mark root bytes o
 
 -- behind so many items, which leave this, these events come, and this is behind them
-abbrev pub RestComes : List ℕ → ℕ → Left Mark → List ℕ → List PlainEvent → Ending → Type 0
+abbrev pub RestComes : List ℕ → ℕ → Left Mark → List ℕ → List PlainEvent → TextEnd → Type 0
 RestComes root k left rest es (ends_with before after) =
     (doc : PlainDoc Mark) × DocumentRestMeans None blank_mark root k left rest (is_document doc)
     × (events_of doc.root ≡ events_so_far left ++ es) × (doc.before ≡ before)
@@ -67,12 +67,12 @@ IsIn before names (in_epilog behind root after) =
 abbrev pub open_names : Events → List (List ℕ)
 open_names s = reverse (map (λ b. b.now) s.elements.items)
 
-abbrev pub ComesInside : Events → List PlainEvent → Ending → Type 0
+abbrev pub ComesInside : Events → List PlainEvent → TextEnd → Type 0
 ComesInside s es end = (left : Left Mark) → IsIn s.before.now (open_names s) left →
     RestComes s.root s.count left s.rest.now es end
 
 -- From here on these events come, and this is behind them. Nothing is said where an error was told.
-abbrev pub ComesAt : Stage → Events → List PlainEvent → Ending → Type 0
+abbrev pub ComesAt : Stage → Events → List PlainEvent → TextEnd → Type 0
 ComesAt stage.Fresh s es end = TextComes s.root s.bytes.now es end
 ComesAt stage.Inside s es end = ComesInside s es end
 ComesAt stage.StopDue s es end =
@@ -80,18 +80,19 @@ ComesAt stage.StopDue s es end =
 ComesAt stage.Ended s es end = (es ≡ []) × (end ≡ ends_with s.before.now s.rest.now)
 ComesAt (stage.Failed error) s es end = Unit {0}
 
-abbrev pub Comes : Events → List PlainEvent → Ending → Type 0
-Comes s es end = ComesAt s.stage s es end
+abbrev pub EventsCome : Events → List PlainEvent → TextEnd → Type 0
+EventsCome s es end = ComesAt s.stage s es end
 
 -- what comes from the new state on comes from the old one on behind these events
 abbrev pub LeadsBy : List PlainEvent → Events → Events → Type 0
-LeadsBy given old new = (es : List PlainEvent) (end : Ending) → Comes new es end →
-    Comes old (given ++ es) end
+LeadsBy given old new = (es : List PlainEvent) (end : TextEnd) → EventsCome new es end →
+    EventsCome old (given ++ es) end
 
 -- what comes from either state on is the same
 abbrev pub SameState : Events → Events → Type 0
-SameState old new = (es : List PlainEvent) (end : Ending) →
-    (Comes new es end → Comes old es end) × (Comes old es end → Comes new es end)
+SameState old new = (es : List PlainEvent) (end : TextEnd) →
+    (EventsCome new es end → EventsCome old es end) ×
+    (EventsCome old es end → EventsCome new es end)
 
 -- the error of a fault that is kept
 abbrev pub error_of : Fault → DocError
@@ -107,7 +108,7 @@ error_of fault.NoMemory = NoMemory
 -- what the error says of what comes; want of memory says nothing
 abbrev pub RefusesRest : Events → DocError → Type 0
 RefusesRest old error =
-    (es : List PlainEvent) → Refuses (λ o. Comes old es (refused_as o)) error
+    (es : List PlainEvent) → Refuses (λ o. EventsCome old es (refused_as o)) error
 
 -- what an answer tells, where an error isn't kept yet
 abbrev pub AdvancesBy : Events → Result (Option Event) DocError → Events → Type 0
@@ -116,21 +117,21 @@ AdvancesBy old (Ok (Some e)) new = LeadsBy (plain_event e ∷ []) old new
 AdvancesBy old (Err error) new = RefusesRest old error × SameState old new
 
 -- the error is kept, to be told again; for want of memory the state is as it was
-abbrev pub IsKept : DocError → Events → Events → Type 0
-IsKept NoMemory old new = SameState old new
-IsKept (Syntax k) old new = new.stage ≡ stage.Failed (fault.Syntax k)
-IsKept (Mismatch k) old new = new.stage ≡ stage.Failed (fault.Mismatch k)
-IsKept (Entity k) old new = new.stage ≡ stage.Failed (fault.Entity k)
-IsKept Subset old new = new.stage ≡ stage.Failed fault.Subset
-IsKept DoctypeName old new = new.stage ≡ stage.Failed fault.DoctypeName
-IsKept (Deep k) old new = new.stage ≡ stage.Failed (fault.Deep k)
-IsKept Limit old new = new.stage ≡ stage.Failed fault.Limit
+abbrev pub IsErrorKept : DocError → Events → Events → Type 0
+IsErrorKept NoMemory old new = SameState old new
+IsErrorKept (Syntax k) old new = new.stage ≡ stage.Failed (fault.Syntax k)
+IsErrorKept (Mismatch k) old new = new.stage ≡ stage.Failed (fault.Mismatch k)
+IsErrorKept (Entity k) old new = new.stage ≡ stage.Failed (fault.Entity k)
+IsErrorKept Subset old new = new.stage ≡ stage.Failed fault.Subset
+IsErrorKept DoctypeName old new = new.stage ≡ stage.Failed fault.DoctypeName
+IsErrorKept (Deep k) old new = new.stage ≡ stage.Failed (fault.Deep k)
+IsErrorKept Limit old new = new.stage ≡ stage.Failed fault.Limit
 
 -- what an answer of a reader tells: an event, the end, or an error
 abbrev pub AnswersNext : Events → Result (Option Event) DocError → Events → Type 0
 AnswersNext old (Ok None) new = LeadsBy [] old new × (new.stage ≡ stage.Ended)
 AnswersNext old (Ok (Some e)) new = LeadsBy (plain_event e ∷ []) old new
-AnswersNext old (Err error) new = RefusesRest old error × IsKept error old new
+AnswersNext old (Err error) new = RefusesRest old error × IsErrorKept error old new
 
 -- This tag opens the root of a text within the limits.
 pub record IsOpening (root bytes : List ℕ) (tag : RootTag) : Type 0 where
@@ -150,7 +151,7 @@ abbrev pub IsInnermost : Events → List ℕ → Type 0
 IsInnermost s name = (outer : List (List ℕ)) × (open_names s ≡ name ∷ outer)
 
 -- an item was passed, and nothing else has changed
-pub record Passes (old : Events) (more : List ℕ) (new : Events) : Type 0 where
+pub record PassesOver (old : Events) (more : List ℕ) (new : Events) : Type 0 where
   pub root : new.root ≡ old.root
   pub bytes : new.bytes.now ≡ old.bytes.now
   pub before : new.before.now ≡ old.before.now

@@ -26,16 +26,16 @@ event_of_item (end_tag name gap) = Some end_element
 event_of_item (text_run bytes) = Some (text_here bytes)
 
 -- the names of the elements that are open behind an item, the innermost first
-abbrev pub names_behind : Item → List (List ℕ) → List (List ℕ)
-names_behind (xml_declaration bytes) names = names
-names_behind (doctype name bytes) names = names
-names_behind (comment_or_instruction bytes) names = names
-names_behind (cdata_section bytes) names = names
-names_behind (start_tag name attrs) names = name ∷ names
-names_behind (empty_tag name attrs) names = names
-names_behind (end_tag name gap) [] = []
-names_behind (end_tag name gap) (inner ∷ outer) = outer
-names_behind (text_run bytes) names = names
+abbrev pub open_names_behind : Item → List (List ℕ) → List (List ℕ)
+open_names_behind (xml_declaration bytes) names = names
+open_names_behind (doctype name bytes) names = names
+open_names_behind (comment_or_instruction bytes) names = names
+open_names_behind (cdata_section bytes) names = names
+open_names_behind (start_tag name attrs) names = name ∷ names
+open_names_behind (empty_tag name attrs) names = names
+open_names_behind (end_tag name gap) [] = []
+open_names_behind (end_tag name gap) (inner ∷ outer) = outer
+open_names_behind (text_run bytes) names = names
 
 -- where a reader stands behind the first event of an item: an empty-element tag has one more
 abbrev pub stage_behind : Item → Stage
@@ -77,7 +77,7 @@ pub record PassesItem (old : Events) (i : Item) (more : List ℕ) (e : PlainEven
   pub before : new.before.now ≡ old.before.now
   pub rest : new.rest.now ≡ more
   pub count : new.count ≡ suc old.count
-  pub names : open_names new ≡ names_behind i (open_names old)
+  pub names : open_names new ≡ open_names_behind i (open_names old)
   pub at_stage : new.stage ≡ stage_behind i
 
 -- By this event a reader moves on from a stage: it enters the root; it passes the item at the front

@@ -9,8 +9,8 @@ ghost use Rattle.pv_read.specs.Left.{Left};
 ghost use Rattle.pv_read.specs.Meaning.{DocumentMeansWithin, DocumentRestMeans};
 ghost use Rattle.pv_read.specs.PlainItems.{plain_item};
 ghost use Rattle.pv_read.specs.Places.{may_stand_in_content};
-ghost use Rattle.pv_flat.specs.Coming.{AdvancesBy, AnswersNext, IsIn, IsInnermost, IsKept};
-ghost use Rattle.pv_flat.specs.Coming.{IsOpening, LeadsBy, Passes, PassesTag};
+ghost use Rattle.pv_flat.specs.Coming.{AdvancesBy, AnswersNext, IsIn, IsInnermost, IsErrorKept};
+ghost use Rattle.pv_flat.specs.Coming.{IsOpening, LeadsBy, PassesOver, PassesTag};
 ghost use Rattle.pv_flat.specs.Coming.{SameState, TakesInside, error_of, flat_limits};
 ghost use Rattle.pv_flat.specs.Coming.{open_names};
 ghost use Rattle.pv_flat.specs.Plain.{plain_event};
@@ -147,7 +147,7 @@ impl<'a> Events<'a> {
     // Passes an item, behind which this stands.
     fn pass(&mut self, more: &'a [u8])
         requires { length more.now < length self.old.rest.now }
-        ensures { Passes self.old more.now self.new }
+        ensures { PassesOver self.old more.now self.new }
     {
         let _length = self.bytes.len();
         self.rest = more;
@@ -275,7 +275,7 @@ impl<'a> Events<'a> {
 
     // Keeps an error, to tell it again.
     fn keep(&mut self, error: &DocError)
-        ensures kept { IsKept error.now self.old self.new }
+        ensures kept { IsErrorKept error.now self.old self.new }
         ensures stands { StandsAs self.old self.new }
         ensures at_stage { error.now ≡ DocError.NoMemory → self.new.stage ≡ self.old.stage }
     {

@@ -7,7 +7,7 @@ use Rattle.pv_read.specs.Errors.{Refuses}
 use Rattle.pv_read.specs.Meaning.{DocumentMeansWithin, Outcome, is_document, items, long}
 use Rattle.pv_read.specs.declared.errors.DocError.{DocError}
 use Rattle.pv_read.specs.declared.errors.DocError.TheVariants.{Deep, DoctypeName, Entity, Limit, Mismatch, NoMemory, Subset, Syntax}
-use Rattle.pv_flat.specs.Coming.{MAX_FLAT_BYTES, Comes, ComesAt, Ending, LeadsBy, RefusesRest, TextComes, ends_with, flat_limits}
+use Rattle.pv_flat.specs.Coming.{MAX_FLAT_BYTES, EventsCome, ComesAt, TextEnd, LeadsBy, RefusesRest, TextComes, ends_with, flat_limits}
 use Rattle.pv_flat.specs.Plain.{PlainEvent}
 use Rattle.pv_flat.specs.declared.state.Events.{Events}
 use Rattle.pv_flat.specs.declared.state.Stage.TheVariants as stage
@@ -23,8 +23,8 @@ module _ (root bytes : List ℕ) (given : List PlainEvent) (old : Events) (g : H
 
   pub given-all : (new : Events) → LeadsBy [] old new → new.stage ≡ stage.Ended → TextComes root bytes given (ends_with new.before.now new.rest.now)
   given-all new leads at =
-      let end : Ending = ends_with new.before.now new.rest.now in
-      let here : Comes new [] end = subst (λ st. ComesAt st new [] end) (sym at) (refl, refl) in
+      let end : TextEnd = ends_with new.before.now new.rest.now in
+      let here : EventsCome new [] end = subst (λ st. ComesAt st new [] end) (sym at) (refl, refl) in
       subst (λ l. TextComes root bytes l end) (append-nil given) (g.comes [] end (leads [] end here))
 
   pub given-refused : (error : DocError) → RefusesRest old error → Refuses (DocumentMeansWithin flat_limits blank_mark root bytes) error

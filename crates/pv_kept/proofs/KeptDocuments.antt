@@ -7,7 +7,7 @@ use Rattle.pv_read.specs.Meaning.{is_document}
 use Rattle.pv_flat.specs.Coming.{flat_limits}
 use Rattle.pv_flat.specs.Plain.{events_of, plain_event}
 use Rattle.pv_kept.specs.Comparing.{AgreesWith, ArePartsOf, IsCompared}
-use Rattle.pv_kept.specs.Kept.{IsBodyText, IsKept}
+use Rattle.pv_kept.specs.Kept.{IsBodyText, KeepsDocument}
 use Rattle.pv_kept.specs.LeftOut.{EventsLeaveOut, LeavesEvents}
 use Rattle.pv_kept.specs.declared.comparing.Compared.{Compared}
 use Rattle.pv_kept.specs.declared.reading.Parts.{Parts}
@@ -24,14 +24,14 @@ module _ (agree : GrammarsAgree) (one : DocumentsMeanOne) (leave : EventsLeaveOu
   first-leaves : IsTrue found.leaves → LeavesEvents marks (events_of q.doc.root) (events_of p.doc.root)
   first-leaves t = subst (LeavesEvents marks (events_of q.doc.root)) (sym p.is_events) (q.leaves.0 t)
 
-  here : (AgreesWith found parts → IsKept p.doc q.doc marks) × (IsKept p.doc q.doc marks → AgreesWith found parts)
+  here : (AgreesWith found parts → KeepsDocument p.doc q.doc marks) × (KeepsDocument p.doc q.doc marks → AgreesWith found parts)
   here =
       let law = leave marks p.doc.root q.doc.root (body-texts agree root doc p.doc p.is_text) (body-texts agree root body q.doc q.is_text) in (
         λ a. record { same_before = q.is_before ∙ a.1 ∙ sym p.is_before; same_after = q.is_after ∙ a.2 ∙ sym p.is_after; tags = law.1 (first-leaves a.0) },
         λ k. (first-whole (law.0 k.tags), sym q.is_before ∙ k.same_before ∙ p.is_before, sym q.is_after ∙ k.same_after ∙ p.is_after),
       )
 
-  pub kept-is : (d b : PlainDoc Mark) → IsBodyText root doc d → IsBodyText root body b → (AgreesWith found parts → IsKept d b marks) × (IsKept d b marks → AgreesWith found parts)
+  pub kept-is : (d b : PlainDoc Mark) → IsBodyText root doc d → IsBodyText root body b → (AgreesWith found parts → KeepsDocument d b marks) × (KeepsDocument d b marks → AgreesWith found parts)
   kept-is d b is-doc is-body =
-      subst (λ x. (AgreesWith found parts → IsKept x b marks) × (IsKept x b marks → AgreesWith found parts)) (same-doc one root doc p.doc d p.is_text is-doc)
-      (subst (λ y. (AgreesWith found parts → IsKept p.doc y marks) × (IsKept p.doc y marks → AgreesWith found parts)) (same-doc one root body q.doc b q.is_text is-body) here)
+      subst (λ x. (AgreesWith found parts → KeepsDocument x b marks) × (KeepsDocument x b marks → AgreesWith found parts)) (same-doc one root doc p.doc d p.is_text is-doc)
+      (subst (λ y. (AgreesWith found parts → KeepsDocument p.doc y marks) × (KeepsDocument p.doc y marks → AgreesWith found parts)) (same-doc one root body q.doc b q.is_text is-body) here)

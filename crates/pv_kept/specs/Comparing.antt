@@ -23,7 +23,7 @@ pub record IsPast (marks : List ℕ) (other given : List PlainEvent) (c : Compar
   pub differs : c.same ≡ false → (more : List PlainEvent) → bytewise other ≢ bytewise out ++ more
 
 -- one event more of the one document
-pub record MovesBy (e : PlainEvent) (old new : Comparison) : Type 0 where
+pub record ComparesBy (e : PlainEvent) (old new : Comparison) : Type 0 where
   pub past : (marks : List ℕ) (other given : List PlainEvent) → IsPast marks other given old →
       IsPast marks other (given ++ e ∷ []) new
   pub next : new.tags.next ≤ suc old.tags.next

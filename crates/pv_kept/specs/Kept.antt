@@ -31,7 +31,7 @@ pub record AreMarks (marks : List ℕ) (body : Hedge) : Type 0 where
 -- What was kept: the body without the tags of its marked elements is the document, with its names,
 -- attribute bytes, nesting, units, CDATA sections, comments and processing instructions, and with
 -- its bytes before and after the root.
-pub record IsKept {M N : Type 0} (doc : PlainDoc M) (body : PlainDoc N) (marks : List ℕ)
+pub record KeepsDocument {M N : Type 0} (doc : PlainDoc M) (body : PlainDoc N) (marks : List ℕ)
     : Type 0 where
   pub same_before : body.before ≡ doc.before
   pub same_after : body.after ≡ doc.after

@@ -1,13 +1,13 @@
 -- What a reader of events has given so far.
 use Rattle.std.specs.Prelude.{Bool, List, [], length, ℕ, ◌++◌, ◌==◌, ◌∷◌}
-use Rattle.pv_flat.specs.Coming.{Comes, Ending, TextComes}
+use Rattle.pv_flat.specs.Coming.{EventsCome, TextEnd, TextComes}
 use Rattle.pv_flat.specs.Plain.{PlainEvent, begin_element, cdata_here, end_element, misc_here}
 use Rattle.pv_flat.specs.Plain.{text_here}
 use Rattle.pv_flat.specs.declared.state.Events.{Events}
 
 -- The reader has given these events of the text: what comes from here on comes behind them.
 pub record HasGiven (root bytes : List ℕ) (given : List PlainEvent) (s : Events) : Type 0 where
-  pub comes : (es : List PlainEvent) (end : Ending) → Comes s es end →
+  pub comes : (es : List PlainEvent) (end : TextEnd) → EventsCome s es end →
       TextComes root bytes (given ++ es) end
 
 -- of an element that begins, whether it has no attribute bytes

@@ -9,7 +9,7 @@ ghost use Rattle.pv_read.specs.Errors.{Refuses};
 ghost use Rattle.pv_read.specs.Meaning.{DocumentMeansWithin};
 ghost use Rattle.pv_flat.specs.Coming.{MAX_FLAT_BYTES, flat_limits};
 ghost use Rattle.pv_flat.specs.Plain.{plain_event};
-ghost use Rattle.pv_kept.specs.Kept.{IsBodyText, IsKept};
+ghost use Rattle.pv_kept.specs.Kept.{IsBodyText, KeepsDocument};
 ghost use Rattle.pv_kept.specs.LeftOut.{LeavesEvents};
 
 use crate::laws::events_leave_out_law;
@@ -41,7 +41,7 @@ pub struct Compared<'a> {
 }
 
 impl<'a> Comparison<'a> {
-    ghost use Rattle.pv_kept.specs.Comparing.{IsPast, MovesBy};
+    ghost use Rattle.pv_kept.specs.Comparing.{IsPast, ComparesBy};
     ghost use Rattle.std.specs.Prelude.{List, ℕ};
     ghost use Rattle.pv_flat.specs.Plain.{PlainEvent};
 
@@ -60,7 +60,7 @@ impl<'a> Comparison<'a> {
     // Takes an event of the one document.
     fn take(&mut self, event: &Event<'_>) -> Result<(), NoMemory>
         requires { self.old.tags.next < 2 ^ 63 }
-        ensures { IfOk result (λ _. MovesBy (plain_event event.now) self.old self.new) }
+        ensures { IfOk result (λ _. ComparesBy (plain_event event.now) self.old self.new) }
     {
         let stays = self.tags.pass(event)?;
         if stays && self.same {
@@ -131,7 +131,7 @@ pub fn is_kept(
 ) -> Result<bool, DocError>
     requires { length body.now ≤ MAX_FLAT_BYTES }
     ensures kept { IfOk result (λ kept. (d b : PlainDoc Mark) → IsBodyText root.now doc.now d →
-        IsBodyText root.now body.now b → IsTrue kept ↔ IsKept d b marks.now) }
+        IsBodyText root.now body.now b → IsTrue kept ↔ KeepsDocument d b marks.now) }
     ensures refused { IfErr result (λ error.
         Refuses (DocumentMeansWithin flat_limits blank_mark root.now doc.now) error ⊎
         Refuses (DocumentMeansWithin flat_limits blank_mark root.now body.now) error) }

@@ -6,12 +6,12 @@ use Rattle.std.specs.Borrow.{Bor}
 use Rattle.pv_standoff.specs.declared.building.Open.{Open}
 use Rattle.pv_standoff.specs.PlainForms.{plain_open, plain_outer, seen}
 use Rattle.pv_tree.specs.Plain.{forest_of}
-use Rattle.pv_standoff.specs.Ranges.{IsBefore, Cross, IsInside, AreInOrder, NoneCrossLater}
+use Rattle.pv_standoff.specs.Ranges.{IsRangeBefore, Cross, IsInsideText, AreSorted, NoneCrossLater}
 use Rattle.pv_standoff.specs.declared.ranges.Range.{Range}
 use Rattle.pv_standoff.specs.Stacks.{HasDeep}
 use Rattle.pv_tree.specs.Legal.{MAX_DEPTH}
 use Rattle.pv_standoff.proofs.Exists.{finish}
-use Rattle.pv_standoff.specs.Stacks.{stack_depth, PlainOpen, with_text, stack_units, write, add, tree_of, opened, IsWhole}
+use Rattle.pv_standoff.specs.Stacks.{stack_depth, PlainOpen, with_text, stack_units, write, add, tree_of, opened, HoldRanges}
 use Rattle.pv_chars.specs.Texts.{joined}
 use Rattle.pv_chars.specs.Units.{units_in}
 use Rattle.pv_standoff.specs.Texts.{SpellsUnits}
@@ -51,25 +51,25 @@ module _ (root : List ℕ) (text : List (List ℕ)) where
       let s = close_step root text done f g fs (take (f.to - at) (drop at text)) (drop f.to text) c.0 c.1 in
       record { built = s.0; is_at = s.1 }
 
-  pub open_at : (done : List Range) (f : PlainOpen) (fs : List PlainOpen) (at : ℕ) (r : Range) → IsAt done f fs at → at ≤ r.from → IsInside (length text) r → r.to ≤ f.to →
+  pub open_at : (done : List Range) (f : PlainOpen) (fs : List PlainOpen) (at : ℕ) (r : Range) → IsAt done f fs at → at ≤ r.from → IsInsideText (length text) r → r.to ≤ f.to →
       IsAt (done ++ r ∷ []) (opened r) (write f (take (r.from - at) (drop at text)) ∷ fs) r.from
   open_at done f fs at r a l i t =
       let c = cut_at done f fs at r.from a l (omega (arith, i.0, i.1)) in
       let s = open_step root text done f fs (take (r.from - at) (drop at text)) (drop r.from text) r c.0 c.1 (omega (arith, i.0)) t in
       record { built = s.0; is_at = s.1 }
 
-  pub end_at : (done : List Range) (f : PlainOpen) (at : ℕ) → IsAt done f [] at → IsWhole text done (forest_of (with_text f.kids (take (length text - at) (drop at text))))
+  pub end_at : (done : List Range) (f : PlainOpen) (at : ℕ) → IsAt done f [] at → HoldRanges text done (forest_of (with_text f.kids (take (length text - at) (drop at text))))
   end_at done f at a = rw (take_rest text at) (end_step root text done f (drop at text) a.built)
 
   -- the root alone is open only where the range ends within it
-  pub root_holds : (done : List Range) (f : PlainOpen) (at : ℕ) (r : Range) → IsAt done f [] at → IsInside (length text) r → r.from < f.to
+  pub root_holds : (done : List Range) (f : PlainOpen) (at : ℕ) (r : Range) → IsAt done f [] at → IsInsideText (length text) r → r.from < f.to
   root_holds done f at r a i = let b = (a.built).base in omega (arith, b.0, i.0, i.1)
 
 -- what the parts of a list in order say of one another
-order_front : (a b : List Range) (r : Range) → AreInOrder (a ++ r ∷ b) → (q : Range) → Among q a → IsBefore r q → ⊥
+order_front : (a b : List Range) (r : Range) → AreSorted (a ++ r ∷ b) → (q : Range) → Among q a → IsRangeBefore r q → ⊥
 order_front [] b r o q m = absurd m
 order_front (x ∷ a) b r o q m = elim m [
-  | inl e ↦ rw e (all-among (λ z. IsBefore z x → ⊥) (a ++ r ∷ b) o.0 r (among_mid r a b))
+  | inl e ↦ rw e (all-among (λ z. IsRangeBefore z x → ⊥) (a ++ r ∷ b) o.0 r (among_mid r a b))
   | inr n ↦ order_front a b r o.1 q n
 ]
   where
@@ -88,18 +88,18 @@ cross_front (x ∷ a) b r o q m = elim m [
     among_mid r [] b = inl refl
     among_mid r (y ∷ a) b = inr (among_mid r a b)
 
-pub order_back : (a b : List Range) (r : Range) → AreInOrder (a ++ r ∷ b) → AllByRecursion (λ x. r.from ≤ x.from) b
-order_back [] b r o = all-map (λ x. IsBefore x r → ⊥) (λ x. r.from ≤ x.from) b (λ x n. grind arith) o.0
+pub order_back : (a b : List Range) (r : Range) → AreSorted (a ++ r ∷ b) → AllByRecursion (λ x. r.from ≤ x.from) b
+order_back [] b r o = all-map (λ x. IsRangeBefore x r → ⊥) (λ x. r.from ≤ x.from) b (λ x n. grind arith) o.0
 order_back (x ∷ a) b r o = order_back a b r o.1
 
-pub inside_mid : (n : ℕ) (a b : List Range) (r : Range) → AllByRecursion (IsInside n) (a ++ r ∷ b) → IsInside n r
+pub inside_mid : (n : ℕ) (a b : List Range) (r : Range) → AllByRecursion (IsInsideText n) (a ++ r ∷ b) → IsInsideText n r
 inside_mid n [] b r i = i.0
 inside_mid n (x ∷ a) b r i = inside_mid n a b r i.1
 
 module _ (root : List ℕ) (text : List (List ℕ)) where
   -- the next range is opened
   pub next_at : (a b : List Range) (f : PlainOpen) (fs : List PlainOpen) (at : ℕ) (r : Range) → IsAt root text a f fs at → at ≤ r.from → r.from < f.to →
-      AllByRecursion (IsInside (length text)) (a ++ r ∷ b) → AreInOrder (a ++ r ∷ b) → NoneCrossLater (a ++ r ∷ b) →
+      AllByRecursion (IsInsideText (length text)) (a ++ r ∷ b) → AreSorted (a ++ r ∷ b) → NoneCrossLater (a ++ r ∷ b) →
       IsAt root text (a ++ r ∷ []) (opened r) (write f (take (r.from - at) (drop at text)) ∷ fs) r.from × AllByRecursion (λ x. r.from ≤ x.from) b
   next_at a b f fs at r s l h i o n =
       let j = inside_mid (length text) a b r i in
@@ -159,14 +159,14 @@ deep_stack f fs = omega arith
 
 -- where too many elements are open, the document is too deep
 pub too_deep : (root : List ℕ) (text : List (List ℕ)) (all : List Range) (i : ℕ) (f : PlainOpen) (fs : List PlainOpen) (at : ℕ) → IsAt root text (take i all) f fs at →
-    AllByRecursion (λ x. at ≤ x.from) (drop i all) → AllByRecursion (IsInside (length text)) all → AreInOrder all → NoneCrossLater all → MAX_DEPTH ≤ length fs → HasDeep text all
+    AllByRecursion (λ x. at ≤ x.from) (drop i all) → AllByRecursion (IsInsideText (length text)) all → AreSorted all → NoneCrossLater all → MAX_DEPTH ≤ length fs → HasDeep text all
 too_deep root text all i f fs at a l inside o n deep =
     let s = sym (take-append-drop i all) in
     let w = finish root text (take i all) (drop i all) f fs (drop at text) a.built (subst (λ z. AllByRecursion (λ x. z ≤ x.from) (drop i all)) (sym a.is_at) l)
-    (subst (AllByRecursion (IsInside (length text))) s inside) (subst AreInOrder s o) (subst NoneCrossLater s n) in
+    (subst (AllByRecursion (IsInsideText (length text))) s inside) (subst AreSorted s o) (subst NoneCrossLater s n) in
     let h = w.2 in
     let h' = deep_stack f fs in
-    record { kids = w.0; whole = subst (λ z. IsWhole text z w.0) (sym s) w.1; deep = omega (arith, h, h', deep) }
+    record { kids = w.0; whole = subst (λ z. HoldRanges text z w.0) (sym s) w.1; deep = omega (arith, h, h', deep) }
 
 -- ---- the bytes that are left of a text
 module _ (text : List (List ℕ)) (s : SpellsUnits (joined text) text) where

@@ -7,7 +7,7 @@ use Rattle.std.specs.List.{AllByRecursion, All}
 use Rattle.std.specs.List.Sorted.{IsSortedBy}
 use Rattle.std.proofs.lemmas.Bool.{cases_order, false_from_ne_true, true≢false}
 use Rattle.std.proofs.lemmas.List.Sorted.{sorted_far}
-use Rattle.pv_standoff.specs.Ranges.{IsBefore, AreInOrder}
+use Rattle.pv_standoff.specs.Ranges.{IsRangeBefore, AreSorted}
 use Rattle.pv_standoff.specs.declared.ranges.Range.{Range}
 use Rattle.pv_standoff.specs.Compared.{is_before}
 use Rattle.pv_standoff.proofs.Sorted.{before_once}
@@ -41,10 +41,10 @@ decides a b c a' b' c' = elim (cases_order a a') [
   ])
 ]
 
-pub before_true : (r q : Range) → is_before r q ≡ true → IsBefore r q
+pub before_true : (r q : Range) → is_before r q ≡ true → IsRangeBefore r q
 before_true r q e = elim (decides r.from r.to r.level q.from q.to q.level) [ inl d ↦ d.1 | inr d ↦ absurd (true≢false (let f = d.0 in cc)) ]
 
-pub before_false : (r q : Range) → is_before r q ≡ false → IsBefore r q → ⊥
+pub before_false : (r q : Range) → is_before r q ≡ false → IsRangeBefore r q → ⊥
 before_false r q e b = elim (decides r.from r.to r.level q.from q.to q.level) [ inl d ↦ true≢false (let f = d.0 in cc) | inr d ↦ d.1 b ]
 
 pub before_order : IsStrictWeakOrder is_before
@@ -59,10 +59,10 @@ all_of_map P f (x ∷ xs) h = (h 0 x (omega arith), all_of_map P f xs (λ k d l.
 
 -- what is sorted by the comparison of what f gives
 pub in_order-sorted : {X : Type 0} (f : X → Range) (xs : List X) → IsStrictWeakOrder (λ x y. is_before (f x) (f y)) →
-    IsSortedBy (λ x y. is_before (f x) (f y)) xs → AreInOrder (map f xs)
+    IsSortedBy (λ x y. is_before (f x) (f y)) xs → AreSorted (map f xs)
 in_order-sorted f [] o s = tt
 in_order-sorted f (x ∷ xs) o s = (
-  all_of_map (λ q. IsBefore q (f x) → ⊥) f xs (λ k d l. before_false (f _) (f x) (sorted_far _ o (x ∷ xs) s 0 (suc k) d (omega arith) (omega (arith, l)))),
+  all_of_map (λ q. IsRangeBefore q (f x) → ⊥) f xs (λ k d l. before_false (f _) (f x) (sorted_far _ o (x ∷ xs) s 0 (suc k) d (omega arith) (omega (arith, l)))),
   in_order-sorted f xs o (λ k d l h. let e : suc k + 1 ≡ suc (k + 1) = omega arith in
       subst (λ z. is_before (f (get_or (x ∷ xs) z d)) (f (get_or xs k d)) ≡ false) e (s (suc k) d (omega arith) (omega (arith, h)))),
 )

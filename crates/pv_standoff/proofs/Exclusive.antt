@@ -7,14 +7,14 @@ use Rattle.std.proofs.lemmas.List.Sorted.{Contains-permutation, IsPermutation-sy
 use Rattle.pv_tree.specs.Legal.{MAX_DEPTH}
 use Rattle.pv_tree.specs.Plain.{PlainDoc, depth_of}
 use Rattle.pv_tree.specs.declared.nodes.Mark.{Mark}
-use Rattle.pv_standoff.specs.Ranges.{IsBefore, IsInside, HaveSamePlace, AreInOrder, IsSortedFrom, NoneTwice, NoneCross, NoneCrossLater, Cross}
+use Rattle.pv_standoff.specs.Ranges.{IsRangeBefore, IsInsideText, HaveSamePlace, AreSorted, IsSortedFrom, NoneTwice, NoneCross, NoneCrossLater, Cross}
 use Rattle.pv_standoff.specs.declared.ranges.Range.{Range}
 use Rattle.pv_standoff.specs.declared.errors.NestError.{NestError}
 use Rattle.pv_standoff.specs.declared.errors.NestError.TheVariants as error
 use Rattle.pv_standoff.specs.Laws.{OneMeaning, SameForAnyOrder}
 use Rattle.pv_standoff.specs.Nested.{Nests, HasTwice, HasCrossing, Refuses}
 use Rattle.pv_standoff.specs.Refused.{IsFirstOutside, IsFirstTwice, IsFirstCrossing}
-use Rattle.pv_standoff.specs.Spans.{StandsFor}
+use Rattle.pv_standoff.specs.Spans.{StandsForRanges}
 use Rattle.pv_standoff.proofs.Lists.{cuts}
 use Rattle.pv_standoff.proofs.Sorted.{Among, all-among, all-permutation, among-contains, before_or_not, hits, hits_alike, no_hits_at, one_order, self_hits, none_twice-permutation, place_cases}
 use Rattle.pv_standoff.proofs.Opening.{among-middle}
@@ -28,14 +28,14 @@ behind : (x : Range) (a b : List Range) → Among x b → Among x (a ++ b)
 behind x [] b m = m
 behind x (y ∷ a) b m = inr (behind x a b m)
 
-pub all_full : (n : ℕ) (rs : List Range) → AllByRecursion (IsInside n) rs → All (λ r. r.from < r.to) rs
+pub all_full : (n : ℕ) (rs : List Range) → AllByRecursion (IsInsideText n) rs → All (λ r. r.from < r.to) rs
 all_full n [] i k d l = absurd (omega (arith, l))
 all_full n (r ∷ rs) i zero d l = i.0.0
 all_full n (r ∷ rs) i (suc k) d l = all_full n rs i.1 k d (omega (arith, l))
 
 -- ---- a document, or a cause
-outside_not_inside : (n k : ℕ) (ranges : List Range) → AllByRecursion (IsInside n) ranges → IsFirstOutside n ranges k → ⊥
-outside_not_inside n k ranges all o = o.outside (all-among (IsInside n) ranges all o.range (subst (Among o.range) (sym o.is_split) (among-middle o.range o.before o.after)))
+outside_not_inside : (n k : ℕ) (ranges : List Range) → AllByRecursion (IsInsideText n) ranges → IsFirstOutside n ranges k → ⊥
+outside_not_inside n k ranges all o = o.outside (all-among (IsInsideText n) ranges all o.range (subst (Among o.range) (sym o.is_split) (among-middle o.range o.before o.after)))
 
 twice_not_once : (text : List (List ℕ)) (ranges : List Range) (a b c : ℕ) → NoneTwice ranges → HasTwice text ranges a b c → ⊥
 twice_not_once text ranges a b c once t =
@@ -70,8 +70,8 @@ one_outside : (n k k' : ℕ) (ranges : List Range) → IsFirstOutside n ranges k
 one_outside n k k' ranges o p = elim (cuts o.before o.range o.after p.before p.range p.after (sym o.is_split ∙ p.is_split)) [
   | inl s ↦ o.is_number ∙ ap length s.0 ∙ sym p.is_number
   | inr f ↦ elim f [
-    | inl g ↦ absurd (o.outside (all-among (IsInside n) p.before p.inside o.range (subst (Among o.range) (sym g.1) (among-middle o.range o.before g.0))))
-    | inr g ↦ absurd (p.outside (all-among (IsInside n) o.before o.inside p.range (subst (Among p.range) (sym g.1) (among-middle p.range p.before g.0))))
+    | inl g ↦ absurd (o.outside (all-among (IsInsideText n) p.before p.inside o.range (subst (Among o.range) (sym g.1) (among-middle o.range o.before g.0))))
+    | inr g ↦ absurd (p.outside (all-among (IsInsideText n) o.before o.inside p.range (subst (Among p.range) (sym g.1) (among-middle p.range p.before g.0))))
   ]
 ]
 
@@ -124,25 +124,25 @@ some_hit r (q ∷ rs) l = elim (place_cases r q) [
   | inr d ↦ (let c = sum_by-cons (hits r) q rs in let z = no_hits_at r q d in let h = some_hit r rs (omega (arith, l, c, z)) in (h.0, inr h.1, h.2))
 ]
 
-not_before_same : (r x q : Range) → HaveSamePlace r x → (IsBefore x q → ⊥) → IsBefore r q → ⊥
+not_before_same : (r x q : Range) → HaveSamePlace r x → (IsRangeBefore x q → ⊥) → IsRangeBefore r q → ⊥
 not_before_same r x q s n b = grind arith
 
-not_before_itself : (r q : Range) → HaveSamePlace r q → IsBefore r q → ⊥
+not_before_itself : (r q : Range) → HaveSamePlace r q → IsRangeBefore r q → ⊥
 not_before_itself r q s b = grind arith
 
 -- r isn't before what is first of the others, where it has a place of theirs
-not_first : (r q : Range) (qs : List Range) → AreInOrder (q ∷ qs) → 1 ≤ sum_by (hits r) (q ∷ qs) → IsBefore r q → ⊥
+not_first : (r q : Range) (qs : List Range) → AreSorted (q ∷ qs) → 1 ≤ sum_by (hits r) (q ∷ qs) → IsRangeBefore r q → ⊥
 not_first r q qs o l b =
     let h = some_hit r (q ∷ qs) l in
     elim h.1 [
       | inl e ↦ not_before_itself r q (subst (HaveSamePlace r) e h.2) b
-      | inr m ↦ not_before_same r h.0 q h.2 (all-among (λ z. IsBefore z q → ⊥) qs o.0 h.0 m) b
+      | inr m ↦ not_before_same r h.0 q h.2 (all-among (λ z. IsRangeBefore z q → ⊥) qs o.0 h.0 m) b
     ]
 
-same_by : (r q : Range) → (IsBefore r q → ⊥) → (IsBefore q r → ⊥) → HaveSamePlace r q
+same_by : (r q : Range) → (IsRangeBefore r q → ⊥) → (IsRangeBefore q r → ⊥) → HaveSamePlace r q
 same_by r q n m = elim (place_cases r q) [ inl s ↦ s | inr d ↦ absurd (n (before_or_not r q m d)) ]
 
-same_places : (rs qs : List Range) → AreInOrder rs → AreInOrder qs → ((p : Range) → sum_by (hits p) rs ≡ sum_by (hits p) qs) → SamePlaces rs qs
+same_places : (rs qs : List Range) → AreSorted rs → AreSorted qs → ((p : Range) → sum_by (hits p) rs ≡ sum_by (hits p) qs) → SamePlaces rs qs
 same_places [] [] o o' e = tt
 same_places [] (q ∷ qs) o o' e = let c = sum_by-cons (hits q) q qs in let s = self_hits q in let h = e q in absurd (omega (arith, c, s, h))
 same_places (r ∷ rs) [] o o' e = let c = sum_by-cons (hits r) r rs in let s = self_hits r in let h = e r in absurd (omega (arith, c, s, h))
@@ -241,10 +241,10 @@ module _ (root : List ℕ) (text : List (List ℕ)) (ranges others : List Range)
   still_sorted : (s : List Range) → IsSortedFrom ranges s → IsSortedFrom others s
   still_sorted s i = record { permutation = IsPermutation-trans others ranges s (IsPermutation-sym ranges others p) i.permutation; in_order = i.in_order }
 
-  still_inside : AllByRecursion (IsInside (length text)) ranges → AllByRecursion (IsInside (length text)) others
-  still_inside a = all-permutation (IsInside (length text)) ranges others p a
+  still_inside : AllByRecursion (IsInsideText (length text)) ranges → AllByRecursion (IsInsideText (length text)) others
+  still_inside a = all-permutation (IsInsideText (length text)) ranges others p a
 
-  still_stands : (d : PlainDoc Mark) → StandsFor root text ranges d → StandsFor root text others d
+  still_stands : (d : PlainDoc Mark) → StandsForRanges root text ranges d → StandsForRanges root text others d
   still_stands d s = record {
     kids = s.kids;
     is_document = s.is_document;

@@ -15,7 +15,7 @@ use Rattle.pv_tree.specs.Prolog.{IsProlog, IsEpilog}
 use Rattle.pv_tree.specs.Units.{HasUnits, HaveUnits}
 use Rattle.pv_tree.specs.declared.nodes.Mark.{Mark}
 use Rattle.pv_standoff.specs.Ranges.{AreNamed, MAX_RANGES}
-use Rattle.pv_standoff.specs.Spans.{StandsFor, document, root_of, span_of, units_of_all, spans_of_all, AreBare, AreApart, BeginsWithText}
+use Rattle.pv_standoff.specs.Spans.{StandsForRanges, document_of_root, root_of, span_of, units_of_all, spans_of_all, AreBare, AreApart, BeginsWithText}
 use Rattle.pv_standoff.specs.declared.ranges.Range.{Range}
 use Rattle.pv_standoff.proofs.Lists.{all-left, all-right}
 use Rattle.pv_standoff.proofs.Sorted.{all-permutation}
@@ -166,7 +166,7 @@ named_spans : (rs : List Range) → AreNamed rs → AllByRecursion (λ s. is_nam
 named_spans [] h = tt
 named_spans (r ∷ rs) h = (is_name-IsName r.name h.0, named_spans rs h.1)
 
-pub keeps : (root : List ℕ) (text : List (List ℕ)) (ranges : List Range) (t : Tree Mark) → StandsFor root text ranges (document t) → IsName root → AreNamed ranges →
+pub keeps : (root : List ℕ) (text : List (List ℕ)) (ranges : List Range) (t : Tree Mark) → StandsForRanges root text ranges (document_of_root t) → IsName root → AreNamed ranges →
     length ranges ≤ MAX_RANGES → SpellsUnits (joined text) text → Keeps root t
 keeps root text ranges t s name names most spells =
     let is : t ≡ root_of root s.kids = ap (λ d. d.root) s.is_document in

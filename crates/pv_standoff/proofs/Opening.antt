@@ -3,7 +3,7 @@ use Rattle.std.proofs.Common.{◌≡◌, ◌≢◌, inl, inr, ℕ, ◌+◌, ◌-
 use Rattle.std.proofs.lemmas.List.{take-append-drop, length-take-le}
 use Rattle.std.proofs.lemmas.Bool.{cases_lt}
 use Rattle.pv_tree.specs.Plain.{forest_of}
-use Rattle.pv_standoff.specs.Ranges.{IsBefore, Cross}
+use Rattle.pv_standoff.specs.Ranges.{IsRangeBefore, Cross}
 use Rattle.pv_standoff.specs.declared.ranges.Range.{Range}
 use Rattle.pv_standoff.specs.Spans.{Span, spans_of_all, span_of}
 use Rattle.pv_standoff.proofs.Sorted.{Among}
@@ -94,7 +94,7 @@ module _ (root : List ℕ) (text : List (List ℕ)) where
 
   -- a range that isn't before the opened ones, and that none of these crosses, fits in the innermost
   pub fits : (done : List Range) (f : PlainOpen) (fs : List PlainOpen) (rest : List (List ℕ)) (r : Range) → IsBuilt root text done f fs rest → r.from < f.to → r.to ≤ length text →
-      ((q : Range) → Among q done → IsBefore r q → ⊥) → ((q : Range) → Among q done → Cross q r → ⊥) → r.to ≤ f.to
+      ((q : Range) → Among q done → IsRangeBefore r q → ⊥) → ((q : Range) → Among q done → Cross q r → ⊥) → r.to ≤ f.to
   fits done f [] rest r b h w o c = let e = b.base in omega (arith, e.0, w)
   fits done f (g ∷ fs) rest r b h w o c = elim (cases_lt f.to r.to) [
     | inr l ↦ l

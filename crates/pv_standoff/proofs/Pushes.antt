@@ -3,11 +3,11 @@ use Rattle.std.proofs.Common.{max, ◌≡◌, ℕ, ◌+◌, List, [], ◌∷◌,
 use Rattle.pv_tree.specs.Plain.{depth_of, depth_of_all, Tree, text_node, forest_of}
 use Rattle.pv_tree.specs.declared.nodes.Mark.{Mark}
 use Rattle.pv_standoff.specs.Stacks.{with_text}
-use Rattle.pv_standoff.specs.Spans.{units_of, units_of_all, spans_of, spans_of_all, IsBare, AreBare, IsText, HasApart, AreApart}
+use Rattle.pv_standoff.specs.Spans.{units_of, units_of_all, spans_of, spans_of_all, IsBare, AreBare, IsTextNode, HasApart, AreApart}
 
 abbrev pub EndsWithText : List (Tree Mark) → Type 0
 EndsWithText [] = ⊥
-EndsWithText (k ∷ []) = IsText k
+EndsWithText (k ∷ []) = IsTextNode k
 EndsWithText (k ∷ l ∷ ks) = EndsWithText (l ∷ ks)
 
 pub units-push : (ks : List (Tree Mark)) (t : Tree Mark) → units_of_all (forest_of (ks ++ t ∷ [])) ≡ units_of_all (forest_of ks) ++ units_of t
@@ -27,12 +27,12 @@ pub bare-push : (ks : List (Tree Mark)) (t : Tree Mark) → AreBare (forest_of k
 bare-push [] t b h = (h, tt)
 bare-push (k ∷ ks) t b h = (b.0, bare-push ks t b.1 h)
 
-pub apart-push : (ks : List (Tree Mark)) (t : Tree Mark) → AreApart (forest_of ks) → HasApart t → (EndsWithText ks → IsText t → ⊥) → AreApart (forest_of (ks ++ t ∷ []))
+pub apart-push : (ks : List (Tree Mark)) (t : Tree Mark) → AreApart (forest_of ks) → HasApart t → (EndsWithText ks → IsTextNode t → ⊥) → AreApart (forest_of (ks ++ t ∷ []))
 apart-push [] t a h n = (h, (λ i b. b), tt)
 apart-push (k ∷ []) t a h n = (a.0, n, (h, (λ i b. b), tt))
 apart-push (k ∷ l ∷ ks) t a h n = (a.0, a.1, apart-push (l ∷ ks) t a.2 h n)
 
-pub end-push : (ks : List (Tree Mark)) (t : Tree Mark) → EndsWithText (ks ++ t ∷ []) → IsText t
+pub end-push : (ks : List (Tree Mark)) (t : Tree Mark) → EndsWithText (ks ++ t ∷ []) → IsTextNode t
 end-push [] t e = e
 end-push (k ∷ []) t e = e
 end-push (k ∷ l ∷ ks) t e = end-push (l ∷ ks) t e

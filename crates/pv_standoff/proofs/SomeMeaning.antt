@@ -11,7 +11,7 @@ use Rattle.pv_tree.specs.declared.nodes.Mark.{Mark}
 use Rattle.pv_standoff.specs.Laws.{SomeMeaning, SomeReading}
 use Rattle.pv_standoff.specs.Lines.{RangesMean, SpellRanges, range_of}
 use Rattle.pv_standoff.specs.Nested.{Nests, NestMeans}
-use Rattle.pv_standoff.specs.Ranges.{AreInOrder, Cross, IsBefore, IsInside, IsSortedFrom, MAX_RANGES, NoneCross, NoneCrossLater, NoneTwice}
+use Rattle.pv_standoff.specs.Ranges.{AreSorted, Cross, IsRangeBefore, IsInsideText, IsSortedFrom, MAX_RANGES, NoneCross, NoneCrossLater, NoneTwice}
 use Rattle.pv_standoff.specs.Refused.{IsFirstCrossing, IsFirstOutside, IsFirstTwice}
 use Rattle.pv_standoff.specs.declared.errors.NestError.{NestError}
 use Rattle.pv_standoff.specs.declared.errors.NestError.TheVariants as error
@@ -26,13 +26,13 @@ use Rattle.pv_standoff.proofs.ReadingLemmas.{no_range, spell-length, spell-push,
 use Rattle.pv_standoff.proofs.Sorted.{Among, all-among, contains-among, none_twice-permutation, place_cases}
 
 -- ---- outside
-inside_cases : (n : ℕ) (r : Range) → IsInside n r ⊎ (IsInside n r → ⊥)
+inside_cases : (n : ℕ) (r : Range) → IsInsideText n r ⊎ (IsInsideText n r → ⊥)
 inside_cases n r = elim (cases_lt r.from r.to) [
   | inr l ↦ inr (λ i. omega (arith, l, i.0))
   | inl l ↦ elim (cases_lt n r.to) [ inl m ↦ inr (λ i. omega (arith, m, i.1)) | inr m ↦ inl (l, m) ]
 ]
 
-outside_more : (n : ℕ) (r : Range) (rs : List Range) (k : ℕ) → IsInside n r → IsFirstOutside n rs k → IsFirstOutside n (r ∷ rs) (suc k)
+outside_more : (n : ℕ) (r : Range) (rs : List Range) (k : ℕ) → IsInsideText n r → IsFirstOutside n rs k → IsFirstOutside n (r ∷ rs) (suc k)
 outside_more n r rs k i o = record {
   before = r ∷ o.before;
   range = o.range;
@@ -43,7 +43,7 @@ outside_more n r rs k i o = record {
   outside = o.outside;
 }
 
-find_outside : (n : ℕ) (rs : List Range) → AllByRecursion (IsInside n) rs ⊎ ((k : ℕ) × IsFirstOutside n rs k)
+find_outside : (n : ℕ) (rs : List Range) → AllByRecursion (IsInsideText n) rs ⊎ ((k : ℕ) × IsFirstOutside n rs k)
 find_outside n [] = inl tt
 find_outside n (r ∷ rs) = elim (inside_cases n r) [
   | inr o ↦ inr (0, record { before = []; range = r; after = rs; is_split = refl; is_number = refl; inside = tt; outside = o })
@@ -54,7 +54,7 @@ find_outside n (r ∷ rs) = elim (inside_cases n r) [
 twice_at : (s t : List Range) → s ≡ t → NoneTwice s ⊎ ((r : Range) × IsFirstTwice s r) → NoneTwice t ⊎ ((r : Range) × IsFirstTwice t r)
 twice_at s t e f = subst (λ z. NoneTwice z ⊎ ((r : Range) × IsFirstTwice z r)) e f
 
-find_twice : (a : List Range) (p : Range) (rest : List Range) → AreInOrder (a ++ p ∷ rest) → NoneTwice (a ++ p ∷ []) →
+find_twice : (a : List Range) (p : Range) (rest : List Range) → AreSorted (a ++ p ∷ rest) → NoneTwice (a ++ p ∷ []) →
     NoneTwice (a ++ p ∷ rest) ⊎ ((r : Range) × IsFirstTwice (a ++ p ∷ rest) r)
 find_twice a p [] o n = inl n
 find_twice a p (r ∷ e) o n = elim (place_cases p r) [
@@ -62,10 +62,10 @@ find_twice a p (r ∷ e) o n = elim (place_cases p r) [
   | inr d ↦ (let g = append_assoc a (p ∷ []) (r ∷ e) in
       let g' = append_assoc a (p ∷ []) (r ∷ []) in
       twice_at ((a ++ p ∷ []) ++ r ∷ e) (a ++ p ∷ r ∷ e) g
-      (find_twice (a ++ p ∷ []) r e (subst AreInOrder (sym g) o) (subst NoneTwice (sym g') (once_push a p r e o n d))))
+      (find_twice (a ++ p ∷ []) r e (subst AreSorted (sym g) o) (subst NoneTwice (sym g') (once_push a p r e o n d))))
 ]
 
-some_twice : (s : List Range) → AreInOrder s → NoneTwice s ⊎ ((r : Range) × IsFirstTwice s r)
+some_twice : (s : List Range) → AreSorted s → NoneTwice s ⊎ ((r : Range) × IsFirstTwice s r)
 some_twice [] o = inl tt
 some_twice (p ∷ rest) o = find_twice [] p rest o (tt, tt)
 
@@ -138,12 +138,12 @@ find_crossing front (q ∷ rest) n = elim (last_crossing front q) [
 ]
 
 -- ---- what a text and ranges mean
-ends_within : (n : ℕ) (rs : List Range) → AllByRecursion (IsInside n) rs → All (λ r. r.to ≤ n) rs
+ends_within : (n : ℕ) (rs : List Range) → AllByRecursion (IsInsideText n) rs → All (λ r. r.to ≤ n) rs
 ends_within n [] i k d l = absurd (omega (arith, l))
 ends_within n (r ∷ rs) i zero d l = i.0.1
 ends_within n (r ∷ rs) i (suc k) d l = ends_within n rs i.1 k d (omega (arith, l))
 
-cross_later : (s : List Range) → AreInOrder s → NoneCrossLater s → (r q : Range) → Among r s → Among q s → Cross r q → ⊥
+cross_later : (s : List Range) → AreSorted s → NoneCrossLater s → (r q : Range) → Among r s → Among q s → Cross r q → ⊥
 cross_later [] o n r q a b c = a
 cross_later (x ∷ xs) o n r q a b c = elim a [
   | inl e ↦ elim b [
@@ -151,7 +151,7 @@ cross_later (x ∷ xs) o n r q a b c = elim a [
     | inr b' ↦ all-among (λ z. Cross x z → ⊥) xs n.0 q b' (subst (λ z. Cross z q) e c)
   ]
   | inr a' ↦ elim b [
-    | inl e' ↦ all-among (λ z. IsBefore z x → ⊥) xs o.0 r a' (let f' = ap (λ z. z.from) e' in inl (omega (arith, f', c.0)))
+    | inl e' ↦ all-among (λ z. IsRangeBefore z x → ⊥) xs o.0 r a' (let f' = ap (λ z. z.from) e' in inl (omega (arith, f', c.0)))
     | inr b' ↦ cross_later xs o.1 n.1 r q a' b' c
   ]
 ]
@@ -161,7 +161,7 @@ none_cross_sorted ranges s i n r q a b c =
     cross_later s i.in_order n r q (contains-among r s (Contains-permutation ranges s r i.permutation a)) (contains-among q s (Contains-permutation ranges s q i.permutation b)) c
 
 -- of ranges that are inside, none twice, in this sorted order
-nested : (root : List ℕ) (text : List (List ℕ)) (ranges s : List Range) → IsSortedFrom ranges s → AllByRecursion (IsInside (length text)) ranges → NoneTwice ranges → NoneCross ranges →
+nested : (root : List ℕ) (text : List (List ℕ)) (ranges s : List Range) → IsSortedFrom ranges s → AllByRecursion (IsInsideText (length text)) ranges → NoneTwice ranges → NoneCross ranges →
     (o : Result (PlainDoc Mark) NestError) × NestMeans root text ranges o
 nested root text ranges s i inside once none =
     let d = has_one root text ranges (all_full (length text) ranges inside) (ends_within (length text) ranges inside) none in

@@ -6,7 +6,7 @@ use Rattle.std.specs.List.{AllByRecursion, All, Contains, sum_by}
 use Rattle.std.proofs.lemmas.Bool.{cases_eq}
 use Rattle.std.proofs.lemmas.List.Sums.{sum_by-cons}
 use Rattle.std.proofs.lemmas.List.Sorted.{sum_by-IsPermutation, Contains-permutation, IsPermutation-sym, IsPermutation-trans}
-use Rattle.pv_standoff.specs.Ranges.{IsBefore, HaveSamePlace, AreInOrder, IsSortedFrom, NoneTwice}
+use Rattle.pv_standoff.specs.Ranges.{IsRangeBefore, HaveSamePlace, AreSorted, IsSortedFrom, NoneTwice}
 use Rattle.pv_standoff.specs.declared.ranges.Range.{Range}
 
 -- x is an element of the list
@@ -113,16 +113,16 @@ none_twice-permutation rs qs p n = most_hits qs (λ r. let e = sum_by-IsPermutat
 -- each range is before those after it
 abbrev pub AreRising : List Range → Type 0
 AreRising [] = Unit {0}
-AreRising (r ∷ rs) = AllByRecursion (IsBefore r) rs × AreRising rs
+AreRising (r ∷ rs) = AllByRecursion (IsRangeBefore r) rs × AreRising rs
 
-pub before_or_not : (r q : Range) → (IsBefore q r → ⊥) → (HaveSamePlace r q → ⊥) → IsBefore r q
+pub before_or_not : (r q : Range) → (IsRangeBefore q r → ⊥) → (HaveSamePlace r q → ⊥) → IsRangeBefore r q
 before_or_not r q n s = grind arith
 
-pub rising : (rs : List Range) → AreInOrder rs → NoneTwice rs → AreRising rs
+pub rising : (rs : List Range) → AreSorted rs → NoneTwice rs → AreRising rs
 rising [] o n = tt
-rising (r ∷ rs) o n = (among-all (IsBefore r) rs (λ q a. before_or_not r q (all-among _ rs o.0 q a) (all-among _ rs n.0 q a)), rising rs o.1 n.1)
+rising (r ∷ rs) o n = (among-all (IsRangeBefore r) rs (λ q a. before_or_not r q (all-among _ rs o.0 q a) (all-among _ rs n.0 q a)), rising rs o.1 n.1)
 
-pub before_once : (r q : Range) → IsBefore r q → IsBefore q r → ⊥
+pub before_once : (r q : Range) → IsRangeBefore r q → IsRangeBefore q r → ⊥
 before_once r q a b = grind arith
 
 same_first : (r q : Range) (rs qs : List Range) → AreRising (r ∷ rs) → AreRising (q ∷ qs) → Among r (q ∷ qs) → Among q (r ∷ rs) → r ≡ q
@@ -131,9 +131,9 @@ same_first r q rs qs a b i j = elim i [
   | inr i' ↦ elim j [ inl e ↦ sym e | inr j' ↦ absurd (before_once r q (all-among _ rs a.0 q j') (all-among _ qs b.0 r i')) ]
 ]
 
-later : (r x : Range) (rs qs : List Range) → AllByRecursion (IsBefore r) rs → Among x rs → Among x (r ∷ qs) → Among x qs
+later : (r x : Range) (rs qs : List Range) → AllByRecursion (IsRangeBefore r) rs → Among x rs → Among x (r ∷ qs) → Among x qs
 later r x rs qs a i j = elim j [
-  | inl e ↦ (let h : IsBefore r r = rw e at (all-among _ rs a x i) in absurd (before_once r r h h))
+  | inl e ↦ (let h : IsRangeBefore r r = rw e at (all-among _ rs a x i) in absurd (before_once r r h h))
   | inr k ↦ k
 ]
 

@@ -5,7 +5,7 @@ use Rattle.std.proofs.lemmas.List.{map-append}
 use Rattle.pv_tree.specs.Plain.{depth_of_all, forest_of}
 use Rattle.pv_standoff.specs.declared.ranges.Range.{Range}
 use Rattle.pv_standoff.specs.Spans.{Span, spans_of, spans_of_all, AreBare, AreApart, span_of}
-use Rattle.pv_standoff.specs.Stacks.{stack_depth, PlainOpen, with_text, open_units, open_span, open_spans, stack_units, stack_spans, write, tree_of, add, opened, IsWhole}
+use Rattle.pv_standoff.specs.Stacks.{stack_depth, PlainOpen, with_text, open_units, open_span, open_spans, stack_units, stack_spans, write, tree_of, add, opened, HoldRanges}
 use Rattle.pv_standoff.proofs.Lists.{all-map}
 use Rattle.pv_standoff.proofs.Pushes.{depth-push, depth-with_text, EndsWithText, units-push, spans-push, bare-push, apart-push, end-push, units-with_text, spans-with_text, bare-with_text, apart-with_text}
 
@@ -130,7 +130,7 @@ module _ (root : List ℕ) (text : List (List ℕ)) where
       at_from' = ap length grown ∙ length-append (stack_units (f ∷ fs)) u ∙ e
 
   -- the root alone is open, and gets what is left of the text
-  pub end_step : (done : List Range) (f : PlainOpen) (rest : List (List ℕ)) → IsBuilt done f [] rest → IsWhole text done (forest_of (with_text f.kids rest))
+  pub end_step : (done : List Range) (f : PlainOpen) (rest : List (List ℕ)) → IsBuilt done f [] rest → HoldRanges text done (forest_of (with_text f.kids rest))
   end_step done f rest b = record {
     bare = bare-with_text f.kids rest o.1;
     apart = apart-with_text f.kids rest o.2 b.no_text;

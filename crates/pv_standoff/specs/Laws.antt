@@ -9,7 +9,7 @@ use Rattle.pv_tree.specs.declared.nodes.Mark.{Mark}
 use Rattle.pv_standoff.specs.Lines.{RangesMean}
 use Rattle.pv_standoff.specs.Nested.{NestMeans}
 use Rattle.pv_standoff.specs.Ranges.{NoneTwice, NoneCross}
-use Rattle.pv_standoff.specs.Spans.{StandsFor}
+use Rattle.pv_standoff.specs.Spans.{StandsForRanges}
 use Rattle.pv_standoff.specs.declared.errors.NestError.{NestError}
 use Rattle.pv_standoff.specs.declared.errors.NestError.TheVariants.{Outside}
 use Rattle.pv_standoff.specs.declared.errors.RangesError.{RangesError}
@@ -19,13 +19,13 @@ use Rattle.pv_standoff.specs.declared.ranges.Range.{Range}
 abbrev pub OneDocument : Type 0
 OneDocument = (root : List ℕ) (text : List (List ℕ)) (ranges : List Range)
     (d e : PlainDoc Mark) → All (λ r. r.from < r.to) ranges → NoneTwice ranges →
-    StandsFor root text ranges d → StandsFor root text ranges e → d ≡ e
+    StandsForRanges root text ranges d → StandsForRanges root text ranges e → d ≡ e
 
 -- there is one exactly where each range ends within the text and none cross
 abbrev pub HasDocument : Type 0
 HasDocument = (root : List ℕ) (text : List (List ℕ)) (ranges : List Range) →
     All (λ r. r.from < r.to) ranges →
-    ((d : PlainDoc Mark) × StandsFor root text ranges d)
+    ((d : PlainDoc Mark) × StandsForRanges root text ranges d)
     ↔ (All (λ r. r.to ≤ length text) ranges × NoneCross ranges)
 
 -- a text and ranges mean at most one thing

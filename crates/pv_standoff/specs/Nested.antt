@@ -4,8 +4,8 @@ use Rattle.std.specs.List.{AllByRecursion}
 use Rattle.pv_tree.specs.Legal.{MAX_DEPTH}
 use Rattle.pv_tree.specs.Plain.{PlainDoc, depth_of}
 use Rattle.pv_tree.specs.declared.nodes.Mark.{Mark}
-use Rattle.pv_standoff.specs.Ranges.{IsInside, NoneTwice, NoneCross, IsSortedFrom}
-use Rattle.pv_standoff.specs.Spans.{StandsFor}
+use Rattle.pv_standoff.specs.Ranges.{IsInsideText, NoneTwice, NoneCross, IsSortedFrom}
+use Rattle.pv_standoff.specs.Spans.{StandsForRanges}
 use Rattle.pv_standoff.specs.Refused.{IsFirstOutside, IsFirstTwice, IsFirstCrossing}
 use Rattle.pv_standoff.specs.declared.ranges.Range.{Range}
 use Rattle.pv_standoff.specs.declared.errors.NestError.{NestError}
@@ -14,14 +14,14 @@ use Rattle.pv_standoff.specs.declared.errors.NestError.TheVariants as error
 -- No range is outside, none twice, none cross, and this document stands for them.
 pub record Nests (root : List ℕ) (text : List (List ℕ)) (ranges : List Range) (d : PlainDoc Mark)
     : Type 0 where
-  pub inside : AllByRecursion (IsInside (length text)) ranges
+  pub inside : AllByRecursion (IsInsideText (length text)) ranges
   pub once : NoneTwice ranges
   pub none_cross : NoneCross ranges
-  pub stands : StandsFor root text ranges d
+  pub stands : StandsForRanges root text ranges d
 
 -- None is outside, and this is the first place in sorted order that two have.
 pub record HasTwice (text : List (List ℕ)) (ranges : List Range) (from to level : ℕ) : Type 0 where
-  pub inside : AllByRecursion (IsInside (length text)) ranges
+  pub inside : AllByRecursion (IsInsideText (length text)) ranges
   pub sorted : List Range
   pub is_sorted : IsSortedFrom ranges sorted
   pub first : Range
@@ -31,7 +31,7 @@ pub record HasTwice (text : List (List ℕ)) (ranges : List Range) (from to leve
 -- None is outside, none twice, and these are the first two in sorted order that cross.
 pub record HasCrossing (text : List (List ℕ)) (ranges : List Range)
     (from to next_from next_to : ℕ) : Type 0 where
-  pub inside : AllByRecursion (IsInside (length text)) ranges
+  pub inside : AllByRecursion (IsInsideText (length text)) ranges
   pub once : NoneTwice ranges
   pub sorted : List Range
   pub is_sorted : IsSortedFrom ranges sorted

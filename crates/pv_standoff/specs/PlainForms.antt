@@ -5,7 +5,7 @@ use Rattle.pv_tree.specs.Plain.{Tree, Forest}
 use Rattle.pv_tree.specs.PlainForms.{plain_all}
 use Rattle.pv_tree.specs.declared.nodes.Mark.{Mark}
 use Rattle.pv_standoff.specs.Spans.{root_of}
-use Rattle.pv_standoff.specs.Stacks.{PlainOpen, IsWhole}
+use Rattle.pv_standoff.specs.Stacks.{PlainOpen, HoldRanges}
 use Rattle.pv_standoff.specs.declared.building.Open.{Open}
 use Rattle.pv_standoff.specs.declared.ranges.Range.{Range}
 
@@ -30,4 +30,4 @@ pub record IsRootOver (root : List ℕ) (text : List (List ℕ)) (sorted : List 
     : Type 0 where
   pub kids : Forest Mark
   pub is_root : t ≡ root_of root kids
-  pub whole : IsWhole text sorted kids
+  pub whole : HoldRanges text sorted kids

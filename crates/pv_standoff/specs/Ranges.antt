@@ -9,8 +9,8 @@ abbrev pub MAX_RANGES : ℕ
 MAX_RANGES = 1048576
 
 -- r stands before q in sorted order: by `from` rising, then `to` falling, then `level` rising
-abbrev pub IsBefore : Range → Range → Type 0
-IsBefore r q = (r.from < q.from) ⊎ (r.from ≡ q.from) × (q.to < r.to) ⊎
+abbrev pub IsRangeBefore : Range → Range → Type 0
+IsRangeBefore r q = (r.from < q.from) ⊎ (r.from ≡ q.from) × (q.to < r.to) ⊎
     (r.from ≡ q.from) × (q.to ≡ r.to) × (r.level < q.level)
 
 -- two ranges have the same `from`, `to` and `level`
@@ -18,14 +18,14 @@ abbrev pub HaveSamePlace : Range → Range → Type 0
 HaveSamePlace r q = (r.from ≡ q.from) × (r.to ≡ q.to) × (r.level ≡ q.level)
 
 -- no later range stands before an earlier one in sorted order
-abbrev pub AreInOrder : List Range → Type 0
-AreInOrder [] = Unit {0}
-AreInOrder (r ∷ rs) = AllByRecursion (λ q. IsBefore q r → ⊥) rs × AreInOrder rs
+abbrev pub AreSorted : List Range → Type 0
+AreSorted [] = Unit {0}
+AreSorted (r ∷ rs) = AllByRecursion (λ q. IsRangeBefore q r → ⊥) rs × AreSorted rs
 
 -- The same ranges, each as often, in sorted order.
 pub record IsSortedFrom (ranges sorted : List Range) : Type 0 where
   pub permutation : IsPermutation ranges sorted
-  pub in_order : AreInOrder sorted
+  pub in_order : AreSorted sorted
 
 -- no two ranges have the same `from`, `to` and `level`
 abbrev pub NoneTwice : List Range → Type 0
@@ -46,8 +46,8 @@ NoneCrossLater [] = Unit {0}
 NoneCrossLater (r ∷ rs) = AllByRecursion (λ q. Cross r q → ⊥) rs × NoneCrossLater rs
 
 -- a range holds a unit, and ends within a text of n units
-abbrev pub IsInside : ℕ → Range → Type 0
-IsInside n r = (r.from < r.to) × (r.to ≤ n)
+abbrev pub IsInsideText : ℕ → Range → Type 0
+IsInsideText n r = (r.from < r.to) × (r.to ≤ n)
 
 -- the name of each range is a Name (XML 1.0, 2.3)
 abbrev pub AreNamed : List Range → Type 0

@@ -1,7 +1,7 @@
 -- Which ranges no document stands for: the first outside, the first twice, the first crossing.
 use Rattle.std.specs.Prelude.{◌≡◌, ℕ, List, [], ◌∷◌, ◌++◌, length}
 use Rattle.std.specs.List.{AllByRecursion}
-use Rattle.pv_standoff.specs.Ranges.{IsInside, HaveSamePlace, NoneTwice, Cross, NoneCrossLater}
+use Rattle.pv_standoff.specs.Ranges.{IsInsideText, HaveSamePlace, NoneTwice, Cross, NoneCrossLater}
 use Rattle.pv_standoff.specs.declared.ranges.Range.{Range}
 
 -- Range number k from 0 is the first that is empty or doesn't end within a text of n units.
@@ -11,8 +11,8 @@ pub record IsFirstOutside (n : ℕ) (ranges : List Range) (k : ℕ) : Type 0 whe
   pub after : List Range
   pub is_split : ranges ≡ before ++ range ∷ after
   pub is_number : k ≡ length before
-  pub inside : AllByRecursion (IsInside n) before
-  pub outside : IsInside n range → ⊥
+  pub inside : AllByRecursion (IsInsideText n) before
+  pub outside : IsInsideText n range → ⊥
 
 -- In sorted order, r has the same place as the range behind it, and is the first that has.
 pub record IsFirstTwice (sorted : List Range) (r : Range) : Type 0 where

@@ -54,16 +54,16 @@ abbrev mutual
   AreBare (tree t rest) = IsBare t × AreBare rest
 
 -- the tree is a text
-abbrev pub IsText : Tree Mark → Type 0
-IsText (element x attrs ending kids mark) = ⊥
-IsText (text_node units) = Unit {0}
-IsText (cdata_node bytes) = ⊥
-IsText (misc_node bytes) = ⊥
+abbrev pub IsTextNode : Tree Mark → Type 0
+IsTextNode (element x attrs ending kids mark) = ⊥
+IsTextNode (text_node units) = Unit {0}
+IsTextNode (cdata_node bytes) = ⊥
+IsTextNode (misc_node bytes) = ⊥
 
 -- the first of some trees is a text
 abbrev pub BeginsWithText : Forest Mark → Type 0
 BeginsWithText no_trees = ⊥
-BeginsWithText (tree t rest) = IsText t
+BeginsWithText (tree t rest) = IsTextNode t
 
 -- no two texts are adjacent, at all depths
 abbrev mutual
@@ -75,7 +75,7 @@ abbrev mutual
 
   pub AreApart : Forest Mark → Type 0
   AreApart no_trees = Unit {0}
-  AreApart (tree t rest) = HasApart t × (IsText t → BeginsWithText rest → ⊥) × AreApart rest
+  AreApart (tree t rest) = HasApart t × (IsTextNode t → BeginsWithText rest → ⊥) × AreApart rest
 
 -- a range without its level
 abbrev pub span_of : Range → Span
@@ -86,17 +86,17 @@ abbrev pub root_of : List ℕ → Forest Mark → Tree Mark
 root_of root kids = element root [] (tagged []) kids blank_mark
 
 -- the document with this root, and nothing before and after it
-abbrev pub document : Tree Mark → PlainDoc Mark
-document t = record { before = []; root = t; after = []; mark = blank_mark }
+abbrev pub document_of_root : Tree Mark → PlainDoc Mark
+document_of_root t = record { before = []; root = t; after = []; mark = blank_mark }
 
 -- A document stands for a text and ranges: its root has the root name, its units in order are the
 -- text's, there is nothing in it but elements and texts, no two texts are adjacent, nothing stands
 -- before and after the root, and the spans of the elements in the root are the ranges in sorted
 -- order without their levels.
-pub record StandsFor (root : List ℕ) (text : List (List ℕ)) (ranges : List Range)
+pub record StandsForRanges (root : List ℕ) (text : List (List ℕ)) (ranges : List Range)
     (doc : PlainDoc Mark) : Type 0 where
   pub kids : Forest Mark
-  pub is_document : doc ≡ document (root_of root kids)
+  pub is_document : doc ≡ document_of_root (root_of root kids)
   pub bare : AreBare kids
   pub apart : AreApart kids
   pub units : units_of_all kids ≡ text

@@ -54,7 +54,7 @@ abbrev pub opened : Range → PlainOpen
 opened r = record { from = r.from; to = r.to; name = r.name; kids = [] }
 
 -- These kids hold the text, and their spans are those of the ranges.
-pub record IsWhole (text : List (List ℕ)) (done : List Range) (kids : Forest Mark) : Type 0 where
+pub record HoldRanges (text : List (List ℕ)) (done : List Range) (kids : Forest Mark) : Type 0 where
   pub bare : AreBare kids
   pub apart : AreApart kids
   pub units : units_of_all kids ≡ text
@@ -69,7 +69,7 @@ stack_depth (f ∷ fs) = max (stack_depth fs) (length (f ∷ fs) + depth_of_all 
 -- them.
 pub record HasDeep (text : List (List ℕ)) (sorted : List Range) : Type 0 where
   pub kids : Forest Mark
-  pub whole : IsWhole text sorted kids
+  pub whole : HoldRanges text sorted kids
   pub deep : MAX_DEPTH < suc (depth_of_all kids)
 
 -- what building refuses
@@ -82,9 +82,9 @@ BuildRefuses text sorted error.NoMemory = Unit {0}
 
 -- these are the ranges, the innermost first, that don't end up to unit number b; each ends within
 -- those after it
-abbrev pub Covers : ℕ → List Range → List Range → Type 0
-Covers b done [] = AllByRecursion (λ q. q.to ≤ b) done
-Covers b done (t ∷ ts) =
+abbrev pub AreStillOpen : ℕ → List Range → List Range → Type 0
+AreStillOpen b done [] = AllByRecursion (λ q. q.to ≤ b) done
+AreStillOpen b done (t ∷ ts) =
     (before : List Range) × (between : List Range) × (done ≡ before ++ t ∷ between) ×
     AllByRecursion (λ q. q.to ≤ b) between × AllByRecursion (λ g. t.to ≤ g.to) ts ×
-    Covers b before ts
+    AreStillOpen b before ts

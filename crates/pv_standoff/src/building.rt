@@ -7,7 +7,7 @@ ghost use Rattle.pv_chars.specs.Units.{AllUnits, units_in};
 ghost use Rattle.pv_tree.specs.Legal.{MAX_DEPTH};
 ghost use Rattle.pv_tree.specs.Plain.{depth_of};
 ghost use Rattle.pv_tree.specs.PlainForms.{plain};
-ghost use Rattle.pv_standoff.specs.Ranges.{AreInOrder, NoneCrossLater, IsInside};
+ghost use Rattle.pv_standoff.specs.Ranges.{AreSorted, NoneCrossLater, IsInsideText};
 ghost use Rattle.pv_standoff.specs.Stacks.{write, add, tree_of, BuildRefuses};
 ghost use Rattle.pv_standoff.specs.Texts.{SpellsUnits};
 ghost use Rattle.pv_standoff.specs.PlainForms.{plain_open, seen, IsRootOver};
@@ -102,8 +102,8 @@ pub(crate) fn build(
     text: &Units,
     sorted: &[&Range],
 ) -> Result<Node, NestError>
-    requires inside { AllByRecursion (IsInside (length text.now)) (seen sorted.now) }
-    requires in_order { AreInOrder (seen sorted.now) }
+    requires inside { AllByRecursion (IsInsideText (length text.now)) (seen sorted.now) }
+    requires in_order { AreSorted (seen sorted.now) }
     requires none_cross { NoneCrossLater (seen sorted.now) }
     requires no_close_mark { holds_close_mark text.now ≡ false }
     ensures built { IfOk result (λ node.

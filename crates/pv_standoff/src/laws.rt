@@ -1,7 +1,8 @@
 //! Laws of ranges, each the contract of a function that does nothing.
 
 ghost use Rattle.pv_standoff.specs.Laws.{OneDocument, HasDocument, OneMeaning, SameForAnyOrder};
-ghost use Rattle.pv_standoff.specs.Laws.{OneReading, SomeMeaning, SomeReading, TextsHaveNoCloseMark};
+ghost use Rattle.pv_standoff.specs.Laws.{OneReading, SomeMeaning, SomeReading};
+ghost use Rattle.pv_standoff.specs.Laws.{TextsHaveNoCloseMark};
 
 /// At most one document stands for a text and ranges, of which none is empty and none twice.
 pub fn one_document_law()

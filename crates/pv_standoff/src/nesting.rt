@@ -7,7 +7,7 @@ ghost use Rattle.pv_chars.specs.Units.{AllUnits};
 ghost use Rattle.pv_tree.specs.PlainDocs.{plain_doc};
 ghost use Rattle.pv_standoff.specs.Ranges.{AreNamed, MAX_RANGES as MOST_RANGES};
 ghost use Rattle.pv_standoff.specs.Nested.{NestMeans};
-ghost use Rattle.pv_standoff.specs.Spans.{document};
+ghost use Rattle.pv_standoff.specs.Spans.{document_of_root};
 ghost use Rattle.pv_tree.specs.PlainForms.{plain};
 
 use crate::building::build;
@@ -23,7 +23,7 @@ use std::alloc::Global;
 fn root_of(alloc: Global, root: Bytes, text: &Units, ranges: &[Range]) -> Result<Node, NestError>
     requires no_close_mark { holds_close_mark text.now ≡ false }
     ensures means { MatchResult result
-        (λ node. NestMeans root text.now ranges.now (Ok (document (plain node))))
+        (λ node. NestMeans root text.now ranges.now (Ok (document_of_root (plain node))))
         (λ e. (e ≡ NestError.NoMemory) ⊎ NestMeans root text.now ranges.now (Err e)) }
     ensures units { IfOk result (λ _. AllUnits text.now) }
 {

@@ -2,11 +2,11 @@
 
 ghost use Rattle.std.specs.Prelude.{◌≡◌, ◌<◌, ◌↔◌, List, [], ◌∷◌, IsTrue, IfOk, MatchOption};
 ghost use Rattle.std.specs.List.{AllByRecursion};
-ghost use Rattle.pv_standoff.specs.Ranges.{IsInside, HaveSamePlace, AreInOrder, NoneTwice};
+ghost use Rattle.pv_standoff.specs.Ranges.{IsInsideText, HaveSamePlace, AreSorted, NoneTwice};
 ghost use Rattle.pv_standoff.specs.Ranges.{NoneCrossLater};
 ghost use Rattle.pv_standoff.specs.PlainForms.{seen, innermost_first};
 ghost use Rattle.pv_standoff.specs.Refused.{IsFirstOutside, IsFirstTwice, IsFirstCrossing};
-ghost use Rattle.pv_standoff.specs.Stacks.{Covers};
+ghost use Rattle.pv_standoff.specs.Stacks.{AreStillOpen};
 ghost use Rattle.pv_standoff.specs.declared.ranges.Range.{Range};
 
 use crate::ranges::Range;
@@ -15,7 +15,7 @@ use std::alloc::Global;
 
 // Whether a range holds a unit and ends within a text of so many.
 fn is_inside(range: &Range, len: usize) -> bool
-    ensures { IsTrue result ↔ IsInside len range.now }
+    ensures { IsTrue result ↔ IsInsideText len range.now }
 {
     range.from < range.to && range.to as usize <= len
 }
@@ -29,7 +29,7 @@ fn have_same_place(a: &Range, b: &Range) -> bool
 
 /// The number of the first range that is empty or doesn't end within a text of so many units.
 pub(crate) fn first_outside(len: usize, ranges: &[Range]) -> Option<usize>
-    ensures { MatchOption result (AllByRecursion (IsInside len) ranges.now)
+    ensures { MatchOption result (AllByRecursion (IsInsideText len) ranges.now)
         (IsFirstOutside len ranges.now) }
 {
     for (k, range) in ranges.iter().enumerate() {
@@ -42,7 +42,7 @@ pub(crate) fn first_outside(len: usize, ranges: &[Range]) -> Option<usize>
 
 /// The first of the ranges in sorted order that has the place of the one behind it.
 pub(crate) fn first_twice<'a>(sorted: &[&'a Range]) -> Option<&'a Range>
-    requires { AreInOrder (seen sorted.now) }
+    requires { AreSorted (seen sorted.now) }
     ensures { MatchOption result (NoneTwice (seen sorted.now))
         (λ r. IsFirstTwice (seen sorted.now) r.now) }
 {
@@ -56,11 +56,11 @@ pub(crate) fn first_twice<'a>(sorted: &[&'a Range]) -> Option<&'a Range>
 
 // The innermost range that doesn't end up to unit number `from`, with those further in dropped.
 fn innermost<'a>(stack: &mut Vec<&'a Range>, from: u32) -> Option<&'a Range>
-    ensures { (done : List Range) → Covers from done (innermost_first stack.old.items) →
+    ensures { (done : List Range) → AreStillOpen from done (innermost_first stack.old.items) →
         MatchOption result
-        ((innermost_first stack.new.items ≡ []) × Covers from done [])
+        ((innermost_first stack.new.items ≡ []) × AreStillOpen from done [])
         (λ top. (from < top.now.to)
-        × Covers from done (top.now ∷ innermost_first stack.new.items)) }
+        × AreStillOpen from done (top.now ∷ innermost_first stack.new.items)) }
 {
     'ended: while let Some(top) = stack.pop() {
         if top.to > from {
@@ -76,7 +76,7 @@ pub(crate) fn first_crossing<'a>(
     alloc: Global,
     sorted: &[&'a Range],
 ) -> Result<Option<(&'a Range, &'a Range)>, NoMemory>
-    requires { AreInOrder (seen sorted.now) }
+    requires { AreSorted (seen sorted.now) }
     ensures { IfOk result (λ o. MatchOption o (NoneCrossLater (seen sorted.now))
         (λ p. IsFirstCrossing (seen sorted.now) p.0.now p.1.now)) }
 {

@@ -20,7 +20,7 @@ use Rattle.pv_tables.specs.TableLaws.{OneListAtPath}
 use Rattle.pv_tables.specs.Values.{HasWholeValue, HaveTotal, listed_value}
 use Rattle.pv_tables.specs.declared.tables.Table.{Table}
 use Rattle.pv_closed.specs.ClosedTables.{AreClosedTables, IsClosedTable}
-use Rattle.pv_kept.specs.Kept.{IsKept}
+use Rattle.pv_kept.specs.Kept.{KeepsDocument}
 use Rattle.pv_verify.specs.Laws.{AcceptedIsLeast}
 use Rattle.pv_verify.specs.Tests.{HasTotals}
 use Rattle.pv_verify.specs.declared.answers.Why.TheVariants as why
@@ -93,7 +93,7 @@ pub accepted_is_least : (M : Type 0) → SomeBounds M → TagsExtend → ClosedI
 accepted_is_least M some_bounds tags_extend closed_is_bound one_list g root doc pack proper proper_doc a =
     record { body = a.body; is_body = a.passes why.Body; completes = completes; least = record { completes = completion; least = least } }
   where
-    kept : IsKept doc a.body pack.marks
+    kept : KeepsDocument doc a.body pack.marks
     kept = a.passes why.Kept
 
     totals : HasTotals g root (lists_of doc) pack

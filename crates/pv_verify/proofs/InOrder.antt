@@ -4,7 +4,7 @@ use Rattle.pv_dtd.specs.Plain.{PlainDtd}
 use Rattle.pv_tree.specs.Plain.{PlainDoc}
 use Rattle.pv_tree.specs.declared.nodes.Mark.{Mark}
 use Rattle.pv_cert.specs.declared.packs.Pack.{Pack}
-use Rattle.pv_verify.specs.Tests.{FailsFirst, IsAccepted, Passes, rank}
+use Rattle.pv_verify.specs.Tests.{FailsFirst, PassesAllTests, PassesTest, rank}
 use Rattle.pv_verify.specs.declared.answers.Why.{Why}
 use Rattle.pv_verify.specs.declared.answers.Why.TheVariants as why
 
@@ -14,7 +14,7 @@ not-so is not = cc
 
 module _ {M : Type 0} (g : PlainDtd) (root : List ℕ) (doc : PlainDoc M) (pack : Pack) (body : PlainDoc Mark) where
   abbrev P : Why → Type 0
-  P test = Passes g root doc pack body test
+  P test = PassesTest g root doc pack body test
 
   abbrev Before : Why → Type 0
   Before test = (earlier : Why) → rank earlier < rank test → P earlier
@@ -82,5 +82,5 @@ module _ {M : Type 0} (g : PlainDtd) (root : List ℕ) (doc : PlainDoc M) (pack 
   pub at-totals : P why.Body → P why.Marks → P why.Kept → P why.Validity → P why.Closure → (P why.Totals → ⊥) → FailsFirst g root doc pack why.Totals
   at-totals a b k v s not-so = record { body = body; is_body = a; before = before-totals a b k v s; fails = not-so }
 
-  pub accepted : P why.Body → P why.Marks → P why.Kept → P why.Validity → P why.Closure → P why.Totals → IsAccepted g root doc pack
+  pub accepted : P why.Body → P why.Marks → P why.Kept → P why.Validity → P why.Closure → P why.Totals → PassesAllTests g root doc pack
   accepted a b k v s t = record { body = body; passes = all-pass a b k v s t }

@@ -18,7 +18,7 @@ use Rattle.pv_closed.specs.ClosedTables.{IsClosedTable}
 use Rattle.pv_closed.specs.Laws.{TablesAreClosed}
 use Rattle.pv_verify.specs.Laws.{MadeIsAccepted}
 use Rattle.pv_kept.specs.Kept.{AreMarks, attributes_of}
-use Rattle.pv_verify.specs.Tests.{HasTotals, Passes}
+use Rattle.pv_verify.specs.Tests.{HasTotals, PassesTest}
 use Rattle.pv_verify.specs.declared.answers.Why.{Why}
 use Rattle.pv_verify.specs.declared.answers.Why.TheVariants as why
 use Rattle.pv_verify.proofs.Certified.{first_before, others_ascend}
@@ -124,7 +124,7 @@ module _ {M : Type 0} (g : PlainDtd) (root : List ℕ) (lists : List (Listed M))
 pub made_is_accepted : (M : Type 0) → TablesAreClosed M → TablesAddUp M → MadeIsAccepted M
 made_is_accepted M closed add_up g root doc pack body vs proper proper_doc are is_body completes least light tables = record { body = body; passes = passes }
   where
-    all_closed : Passes g root doc pack body why.Closure
+    all_closed : PassesTest g root doc pack body why.Closure
     all_closed = closed g root doc pack.tables proper tables
 
     valid : IsPotentiallyValid g root (view doc.root)
@@ -144,7 +144,7 @@ made_is_accepted M closed add_up g root doc pack body vs proper proper_doc are i
     totals : HasTotals g root (lists_of doc) pack
     totals = record { as_many = completes.counted; adds_up = subst (HaveTotal g root (lists_of doc) pack.tables) same total.1 }
 
-    passes : (test : Why) → Passes g root doc pack body test
+    passes : (test : Why) → PassesTest g root doc pack body test
     passes why.Body = is_body
     passes why.Marks = are_marks (elements (view body.root)) pack.marks (view doc.root) (view body.root) completes.tags
     passes why.Kept = record { same_before = completes.same_before; same_after = completes.same_after; tags = completes.tags }

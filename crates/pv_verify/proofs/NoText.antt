@@ -5,7 +5,7 @@ use Rattle.pv_tree.specs.Plain.{PlainDoc}
 use Rattle.pv_tree.specs.declared.nodes.Mark.{Mark}
 use Rattle.pv_read.specs.DocumentLaws.{DocumentsMeanOne, MeansSameWithinWider}
 use Rattle.pv_read.specs.Errors.{Refuses}
-use Rattle.pv_read.specs.Meaning.{DocumentMeans, DocumentMeansWithin, document_limits, faulty, is_document, too_long}
+use Rattle.pv_read.specs.Meaning.{DocumentMeans, DocumentMeansWithin, document_limits, is_document}
 use Rattle.pv_read.specs.declared.errors.DocError.{DocError}
 use Rattle.pv_read.specs.declared.errors.DocError.TheVariants.{Deep, DoctypeName, Entity, Limit, Mismatch, NoMemory, Subset, Syntax}
 use Rattle.pv_flat.specs.Coming.{flat_limits}

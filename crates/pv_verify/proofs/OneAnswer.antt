@@ -10,7 +10,7 @@ use Rattle.pv_flat.specs.Coming.{flat_limits}
 use Rattle.pv_kept.specs.Kept.{IsBodyText}
 use Rattle.pv_cert.specs.declared.packs.Pack.{Pack}
 use Rattle.pv_verify.specs.Laws.{OneAnswer}
-use Rattle.pv_verify.specs.Tests.{FailsFirst, IsAccepted, IsRejected, Passes, rank}
+use Rattle.pv_verify.specs.Tests.{FailsFirst, PassesAllTests, IsRejected, PassesTest, rank}
 use Rattle.pv_verify.specs.declared.answers.Why.{Why}
 use Rattle.pv_verify.specs.declared.answers.Why.TheVariants as why
 
@@ -42,7 +42,7 @@ module _ {M : Type 0} (g : PlainDtd) (root : List ℕ) (doc : PlainDoc M) (pack 
   module _ (one : DocumentsMeanOne) where
     -- no test fails first that another first failure's tests pass
     not_before : (a b : Why) (f : FailsFirst g root doc pack a) (h : FailsFirst g root doc pack b) → rank a < rank b → ⊥
-    not_before a b f h lt = f.fails (subst (λ (body : PlainDoc Mark). Passes g root doc pack body a) (same_body one root pack.body h.body f.body h.is_body f.is_body) (h.before a lt))
+    not_before a b f h lt = f.fails (subst (λ (body : PlainDoc Mark). PassesTest g root doc pack body a) (same_body one root pack.body h.body f.body h.is_body f.is_body) (h.before a lt))
 
     pub one_first : (a b : Why) → IsRejected g root doc pack a → IsRejected g root doc pack b → a ≡ b
     one_first a b r s = by_case (rejected_cases a r) (rejected_cases b s)
@@ -58,12 +58,12 @@ module _ {M : Type 0} (g : PlainDtd) (root : List ℕ) (doc : PlainDoc M) (pack 
             by_order (inr more) (inl less) = absurd (not_before b a h f less)
             by_order (inr more) (inr less) = same_test a b (omega arith)
 
-    pub not_both : (test : Why) → IsRejected g root doc pack test → IsAccepted g root doc pack → ⊥
+    pub not_both : (test : Why) → IsRejected g root doc pack test → PassesAllTests g root doc pack → ⊥
     not_both test r acc = by_case (rejected_cases test r)
       where
         by_case : ((test ≡ why.Body) × IsNoText) ⊎ FailsFirst g root doc pack test → ⊥
         by_case (inl (e, none)) = none acc.body (acc.passes why.Body)
-        by_case (inr f) = f.fails (subst (λ (body : PlainDoc Mark). Passes g root doc pack body test) (same_body one root pack.body acc.body f.body (acc.passes why.Body) f.is_body) (acc.passes test))
+        by_case (inr f) = f.fails (subst (λ (body : PlainDoc Mark). PassesTest g root doc pack body test) (same_body one root pack.body acc.body f.body (acc.passes why.Body) f.is_body) (acc.passes test))
 
 pub one_answer : (M : Type 0) → DocumentsMeanOne → OneAnswer M
 one_answer M one g root doc pack = record { one_first = one_first g root doc pack one; not_both = not_both g root doc pack one }

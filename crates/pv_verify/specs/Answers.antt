@@ -12,7 +12,7 @@ use Rattle.pv_read.specs.declared.errors.DocError.TheVariants as document
 use Rattle.pv_closed.specs.ClosedTables.{AreNarrowTables, IsFirstWideTable}
 use Rattle.pv_cert.specs.declared.packs.Pack.{Pack}
 use Rattle.pv_verify.specs.Laws.{IsLeastPack}
-use Rattle.pv_verify.specs.Tests.{IsAccepted, IsRejected}
+use Rattle.pv_verify.specs.Tests.{PassesAllTests, IsRejected}
 use Rattle.pv_verify.specs.declared.answers.Answer.{Answer}
 use Rattle.pv_verify.specs.declared.answers.Answer.TheVariants as answer
 use Rattle.pv_verify.specs.declared.answers.Why.{Why}
@@ -25,7 +25,7 @@ pub record IsAcceptedAs {M : Type 0} (g : PlainDtd) (root : List ℕ) (doc : Pla
     (total : ℕ) : Type 0 where
   pub total_is : total ≡ pack.total
   pub narrow : AreNarrowTables g (lists_of doc) pack.tables
-  pub passes : IsAccepted g root doc pack
+  pub passes : PassesAllTests g root doc pack
   pub least : IsLeastPack g root doc pack
 
 -- This is the first test that the pack fails. No table is that of a list which is too wide.
@@ -49,19 +49,19 @@ pub record IsTooWideAt (g : PlainDtd) (root bytes : List ℕ) (pack : Pack) (pat
 
 -- why there is no answer: the bytes aren't a document, or a table is that of a list which is too
 -- wide; want of memory says nothing
-abbrev pub IsRefusal : PlainDtd → List ℕ → List ℕ → Pack → VerifyError → Type 0
-IsRefusal g root bytes pack (error.Document e) =
+abbrev pub RefusesToVerify : PlainDtd → List ℕ → List ℕ → Pack → VerifyError → Type 0
+RefusesToVerify g root bytes pack (error.Document e) =
     Refuses (DocumentMeans blank_mark root bytes) e × (e ≢ document.NoMemory)
-IsRefusal g root bytes pack (error.TooWide path) = IsTooWideAt g root bytes pack path
-IsRefusal g root bytes pack error.NoMemory = Unit {0}
+RefusesToVerify g root bytes pack (error.TooWide path) = IsTooWideAt g root bytes pack path
+RefusesToVerify g root bytes pack error.NoMemory = Unit {0}
 
 -- the refusal where a document isn't read for this reason
-abbrev pub refusal_of : DocError → VerifyError → Type 0
-refusal_of document.NoMemory v = v ≡ error.NoMemory
-refusal_of (document.Syntax k) v = v ≡ error.Document (document.Syntax k)
-refusal_of (document.Mismatch k) v = v ≡ error.Document (document.Mismatch k)
-refusal_of (document.Entity k) v = v ≡ error.Document (document.Entity k)
-refusal_of document.Subset v = v ≡ error.Document document.Subset
-refusal_of document.DoctypeName v = v ≡ error.Document document.DoctypeName
-refusal_of (document.Deep k) v = v ≡ error.Document (document.Deep k)
-refusal_of document.Limit v = v ≡ error.Document document.Limit
+abbrev pub RefusesUnread : DocError → VerifyError → Type 0
+RefusesUnread document.NoMemory v = v ≡ error.NoMemory
+RefusesUnread (document.Syntax k) v = v ≡ error.Document (document.Syntax k)
+RefusesUnread (document.Mismatch k) v = v ≡ error.Document (document.Mismatch k)
+RefusesUnread (document.Entity k) v = v ≡ error.Document (document.Entity k)
+RefusesUnread document.Subset v = v ≡ error.Document document.Subset
+RefusesUnread document.DoctypeName v = v ≡ error.Document document.DoctypeName
+RefusesUnread (document.Deep k) v = v ≡ error.Document (document.Deep k)
+RefusesUnread document.Limit v = v ≡ error.Document document.Limit

@@ -14,7 +14,7 @@ use Rattle.pv_missing.specs.Verdicts.{AreVerdicts}
 use Rattle.pv_tables.specs.Tables.{AreTables}
 use Rattle.pv_kept.specs.Kept.{IsBodyText}
 use Rattle.pv_cert.specs.declared.packs.Pack.{Pack}
-use Rattle.pv_verify.specs.Tests.{IsAccepted, IsRejected}
+use Rattle.pv_verify.specs.Tests.{PassesAllTests, IsRejected}
 use Rattle.pv_verify.specs.declared.answers.Why.{Why}
 
 -- The body is the text of a completion of the document, by as many elements as the total says, and
@@ -29,14 +29,14 @@ pub record IsLeastPack {M : Type 0} (g : PlainDtd) (root : List ℕ) (doc : Plai
 -- what passes all tests is a least completion, whoever made it
 abbrev pub AcceptedIsLeast : (M : Type 0) → Type 0
 AcceptedIsLeast M = (g : PlainDtd) (root : List ℕ) (doc : PlainDoc M) (pack : Pack) →
-    IsProperDtd g → IsProperDoc doc → IsAccepted g root doc pack → IsLeastPack g root doc pack
+    IsProperDtd g → IsProperDoc doc → PassesAllTests g root doc pack → IsLeastPack g root doc pack
 
 -- a pack fails at most one test first, and is accepted only where it fails none
 pub record HasOneAnswer {M : Type 0} (g : PlainDtd) (root : List ℕ) (doc : PlainDoc M) (pack : Pack)
     : Type 0 where
   pub one_first : (test other : Why) → IsRejected g root doc pack test →
       IsRejected g root doc pack other → test ≡ other
-  pub not_both : (test : Why) → IsRejected g root doc pack test → IsAccepted g root doc pack → ⊥
+  pub not_both : (test : Why) → IsRejected g root doc pack test → PassesAllTests g root doc pack → ⊥
 
 abbrev pub OneAnswer : (M : Type 0) → Type 0
 OneAnswer M = (g : PlainDtd) (root : List ℕ) (doc : PlainDoc M) (pack : Pack) →
@@ -50,4 +50,4 @@ MadeIsAccepted M = (g : PlainDtd) (root : List ℕ) (doc : PlainDoc M) (pack : P
     AreVerdicts g root (lists_of doc) vs → IsBodyText root pack.body body →
     Completes g root doc body pack.marks pack.total → IsLeast g root pack.total (view doc.root) →
     pack.total < heaviest → AreTables g root (lists_of doc) pack.tables →
-    IsAccepted g root doc pack
+    PassesAllTests g root doc pack

@@ -15,6 +15,6 @@ pub record IsBodyRead (root bytes : List ℕ) (plain : List Bool) : Type 0 where
   pub are : plain ≡ are_plain (attributes_of (view body.root))
 
 -- The bytes are the text of a document.
-pub record IsText (root bytes : List ℕ) : Type 0 where
+pub record IsSomeBodyText (root bytes : List ℕ) : Type 0 where
   pub body : PlainDoc Mark
   pub is_text : IsBodyText root bytes body

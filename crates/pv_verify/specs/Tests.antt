@@ -8,7 +8,7 @@ use Rattle.pv_tree.specs.View.{view}
 use Rattle.pv_tree.specs.declared.nodes.Mark.{Mark}
 use Rattle.pv_tables.specs.Values.{HaveTotal}
 use Rattle.pv_closed.specs.ClosedTables.{AreClosedTables}
-use Rattle.pv_kept.specs.Kept.{AreMarks, IsBodyText, IsKept}
+use Rattle.pv_kept.specs.Kept.{AreMarks, IsBodyText, KeepsDocument}
 use Rattle.pv_cert.specs.declared.packs.Pack.{Pack}
 use Rattle.pv_verify.specs.declared.answers.Why.{Why}
 use Rattle.pv_verify.specs.declared.answers.Why.TheVariants as why
@@ -21,14 +21,14 @@ pub record HasTotals {M : Type 0} (g : PlainDtd) (root : List ℕ) (lists : List
   pub adds_up : HaveTotal g root lists pack.tables pack.total
 
 -- a pack whose body is the text of this document passes a test
-abbrev pub Passes : {M : Type 0} → PlainDtd → List ℕ → PlainDoc M → Pack → PlainDoc Mark → Why →
+abbrev pub PassesTest : {M : Type 0} → PlainDtd → List ℕ → PlainDoc M → Pack → PlainDoc Mark → Why →
     Type 0
-Passes g root doc pack body why.Body = IsBodyText root pack.body body
-Passes g root doc pack body why.Marks = AreMarks pack.marks (view body.root)
-Passes g root doc pack body why.Kept = IsKept doc body pack.marks
-Passes g root doc pack body why.Validity = IsValid g root (view body.root)
-Passes g root doc pack body why.Closure = AreClosedTables g root (lists_of doc) pack.tables
-Passes g root doc pack body why.Totals = HasTotals g root (lists_of doc) pack
+PassesTest g root doc pack body why.Body = IsBodyText root pack.body body
+PassesTest g root doc pack body why.Marks = AreMarks pack.marks (view body.root)
+PassesTest g root doc pack body why.Kept = KeepsDocument doc body pack.marks
+PassesTest g root doc pack body why.Validity = IsValid g root (view body.root)
+PassesTest g root doc pack body why.Closure = AreClosedTables g root (lists_of doc) pack.tables
+PassesTest g root doc pack body why.Totals = HasTotals g root (lists_of doc) pack
 
 -- the place of a test in their order
 abbrev pub rank : Why → ℕ
@@ -40,18 +40,18 @@ rank why.Closure = 4
 rank why.Totals = 5
 
 -- the pack passes all tests
-pub record IsAccepted {M : Type 0} (g : PlainDtd) (root : List ℕ) (doc : PlainDoc M) (pack : Pack)
-    : Type 0 where
+pub record PassesAllTests {M : Type 0} (g : PlainDtd) (root : List ℕ) (doc : PlainDoc M)
+    (pack : Pack) : Type 0 where
   pub body : PlainDoc Mark
-  pub passes : (test : Why) → Passes g root doc pack body test
+  pub passes : (test : Why) → PassesTest g root doc pack body test
 
 -- it passes all tests before this one, and not this one
 pub record FailsFirst {M : Type 0} (g : PlainDtd) (root : List ℕ) (doc : PlainDoc M) (pack : Pack)
     (test : Why) : Type 0 where
   pub body : PlainDoc Mark
   pub is_body : IsBodyText root pack.body body
-  pub before : (earlier : Why) → rank earlier < rank test → Passes g root doc pack body earlier
-  pub fails : Passes g root doc pack body test → ⊥
+  pub before : (earlier : Why) → rank earlier < rank test → PassesTest g root doc pack body earlier
+  pub fails : PassesTest g root doc pack body test → ⊥
 
 -- this is the first test that the pack fails: its body is no text of a document, or it fails
 -- another first

@@ -1,7 +1,7 @@
 //! Why a pack isn't verified.
 
 ghost use Rattle.std.specs.Prelude.{◌≡◌};
-ghost use Rattle.pv_verify.specs.Answers.{refusal_of};
+ghost use Rattle.pv_verify.specs.Answers.{RefusesUnread};
 ghost use Rattle.pv_verify.specs.declared.errors.VerifyError.TheVariants.{NoMemory as no_memory};
 
 use pv_read::DocError;
@@ -31,7 +31,7 @@ impl From<pv_chars::NoMemory> for VerifyError {
 }
 
 impl From<DocError> for VerifyError {
-    ghost from_gives = { refusal_of };
+    ghost from_gives = { RefusesUnread };
 
     fn from(error: DocError) -> VerifyError {
         match error {

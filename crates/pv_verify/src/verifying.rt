@@ -10,10 +10,10 @@ ghost use Rattle.pv_tree.specs.View.{view};
 ghost use Rattle.pv_tree.specs.declared.nodes.Mark.{Mark};
 ghost use Rattle.pv_read.specs.Meaning.{DocumentMeans, is_document};
 ghost use Rattle.pv_flat.specs.Coming.{MAX_FLAT_BYTES};
-ghost use Rattle.pv_kept.specs.Kept.{AreMarks, IsBodyText, IsKept};
-ghost use Rattle.pv_verify.specs.Answers.{IsAnswer, IsRefusal};
-ghost use Rattle.pv_verify.specs.Tests.{IsAccepted, IsRejected};
-ghost use Rattle.pv_verify.specs.Reading.{IsBodyRead, IsText};
+ghost use Rattle.pv_kept.specs.Kept.{AreMarks, IsBodyText, KeepsDocument};
+ghost use Rattle.pv_verify.specs.Answers.{IsAnswer, RefusesToVerify};
+ghost use Rattle.pv_verify.specs.Tests.{PassesAllTests, IsRejected};
+ghost use Rattle.pv_verify.specs.Reading.{IsBodyRead, IsSomeBodyText};
 
 use crate::answers::{Answer, Why};
 use crate::errors::VerifyError;
@@ -58,10 +58,10 @@ fn keeps(
     marks: &[u32],
 ) -> Result<bool, NoMemory>
     requires few { length body.now ≤ MAX_FLAT_BYTES }
-    requires is_doc { IsText root.now doc.now }
-    requires is_body { IsText root.now body.now }
+    requires is_doc { IsSomeBodyText root.now doc.now }
+    requires is_body { IsSomeBodyText root.now body.now }
     ensures { IfOk result (λ kept. (d b : PlainDoc Mark) → IsBodyText root.now doc.now d →
-        IsBodyText root.now body.now b → IsTrue kept ↔ IsKept d b marks.now) }
+        IsBodyText root.now body.now b → IsTrue kept ↔ KeepsDocument d b marks.now) }
 {
     one_meaning_law();
     match is_kept(alloc, root, doc, body, marks) {
@@ -73,7 +73,7 @@ fn keeps(
 
 // Whether the body is valid.
 fn is_valid(alloc: Global, dtd: &Dtd, root: &[u8], body: &[u8]) -> Result<bool, NoMemory>
-    requires { IsText root.now body.now }
+    requires { IsSomeBodyText root.now body.now }
     ensures { IfOk result (λ valid. (doc : PlainDoc Mark) → IsBodyText root.now body.now doc →
         IsTrue valid ↔ IsValid (plain_dtd dtd.now) root.now (view doc.root)) }
 {
@@ -96,7 +96,7 @@ fn first_failed(
 ) -> Result<Option<Why>, NoMemory>
     requires { DocumentMeans blank_mark root.now bytes.now (is_document (plain_doc doc.now)) }
     ensures { IfOk result (λ failed. MatchOption failed
-        (IsAccepted (plain_dtd dtd.now) root.now (plain_doc doc.now) pack.now)
+        (PassesAllTests (plain_dtd dtd.now) root.now (plain_doc doc.now) pack.now)
         (IsRejected (plain_dtd dtd.now) root.now (plain_doc doc.now) pack.now)) }
 {
     let body = pack.body.as_slice();
@@ -140,7 +140,7 @@ pub fn verify(
         DocumentMeans blank_mark root.now doc.now (is_document d) ×
         IsAnswer (plain_dtd dtd.now) root.now d pack.now answer) }
     ensures refused { IfErr result (λ error.
-        IsRefusal (plain_dtd dtd.now) root.now doc.now pack.now error) }
+        RefusesToVerify (plain_dtd dtd.now) root.now doc.now pack.now error) }
 {
     let document = read_doc(alloc, doc, root)?;
     let wide = first_wide_table(alloc, dtd, &document, pack.tables.as_slice())?;

@@ -69,7 +69,8 @@ pub const NESTED: &str = "<!ELEMENT x ((x, y)?)><!ELEMENT y EMPTY>";
 /// Any content, and an element that needs another of its kind.
 pub const ENDLESS_IN_ANY: &str = "<!ELEMENT a ANY><!ELEMENT c (c)>";
 
-/// The content of `a` leads back to itself with a `c` behind it; that of `d` does so through several names.
+/// The content of `a` leads back to itself with a `c` behind it; that of `d` does so through
+/// several names.
 pub const LEADING_BACK: &str = "<!ELEMENT a (b, c?)><!ELEMENT b (a?)><!ELEMENT c EMPTY>\
     <!ELEMENT d (e, c?)><!ELEMENT e (f|c)><!ELEMENT f (g?, c?)><!ELEMENT g (d+)>";
 
@@ -87,4 +88,9 @@ pub const GREEK: &str = "<!ELEMENT λόγος (#PCDATA)>";
 
 /// Types each of which needs two of the next.
 pub const DOUBLING: &str =
-    "<!ELEMENT t0 (t1,t1)><!ELEMENT t1 (t2,t2)><!ELEMENT t2 (t3,t3)><!ELEMENT t3 (t4,t4)><!ELEMENT t4 (t5,t5)><!ELEMENT t5 (t6,t6)><!ELEMENT t6 (t7,t7)><!ELEMENT t7 (t8,t8)><!ELEMENT t8 (t9,t9)><!ELEMENT t9 (t10,t10)><!ELEMENT t10 (t11,t11)><!ELEMENT t11 (t12,t12)><!ELEMENT t12 (t13,t13)><!ELEMENT t13 (t14,t14)><!ELEMENT t14 (t15,t15)><!ELEMENT t15 (t16,t16)><!ELEMENT t16 (t17,t17)><!ELEMENT t17 (t18,t18)><!ELEMENT t18 (t19,t19)><!ELEMENT t19 (t20,t20)><!ELEMENT t20 EMPTY>";
+    "<!ELEMENT t0 (t1,t1)><!ELEMENT t1 (t2,t2)><!ELEMENT t2 (t3,t3)><!ELEMENT t3 (t4,t4)>\
+     <!ELEMENT t4 (t5,t5)><!ELEMENT t5 (t6,t6)><!ELEMENT t6 (t7,t7)><!ELEMENT t7 (t8,t8)>\
+     <!ELEMENT t8 (t9,t9)><!ELEMENT t9 (t10,t10)><!ELEMENT t10 (t11,t11)><!ELEMENT t11 (t12,t12)>\
+     <!ELEMENT t12 (t13,t13)><!ELEMENT t13 (t14,t14)><!ELEMENT t14 (t15,t15)>\
+     <!ELEMENT t15 (t16,t16)><!ELEMENT t16 (t17,t17)><!ELEMENT t17 (t18,t18)>\
+     <!ELEMENT t18 (t19,t19)><!ELEMENT t19 (t20,t20)><!ELEMENT t20 EMPTY>";

@@ -1,4 +1,4 @@
-use Rattle.std.proofs.Common.{List, Some, [], ap, arith, length, slice_get, subst, sym, ℕ, ◌+◌, ◌∷◌, ◌≡◌}
+use Rattle.std.proofs.Common.{List, Some, [], ap, arith, length, slice_get, subst, sym, ℕ, ◌∷◌, ◌≡◌}
 use Rattle.std.proofs.lemmas.List.{length-append}
 use Rattle.pv_productive.specs.PlainForms.{dtd_of}
 use Rattle.pv_denial.specs.RowForms.{IsMost}

@@ -1,4 +1,3 @@
-use Rattle.std.proofs.Common.{ap}
 use Rattle.std.proofs.lemmas.Result.{err_from_is_err_and}
 use Rattle.pv_denial_text.proofs.Heads.{denial-read, rows-refused}
 use Rattle.pv_denial_text.proofs.reading.read_within.Goals as goal

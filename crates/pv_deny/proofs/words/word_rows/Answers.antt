@@ -8,7 +8,7 @@ use Rattle.pv_tree.specs.Words.{word_of}
 use Rattle.pv_missing.specs.LiveWords.{IsLiveWord}
 use Rattle.pv_denial.specs.Rows.{most_values}
 use Rattle.pv_denial.specs.declared.denials.Row.{Row}
-use Rattle.pv_deny.specs.Told.{AreRowsOf, HasRows}
+use Rattle.pv_deny.specs.Told.{AreToldRows, HasRows}
 use Rattle.pv_deny.proofs.WordRows.{each_told, has_rows, many_values, past}
 use Rattle.pv_deny.proofs.words.word_rows.Goals as goal
 
@@ -37,7 +37,7 @@ returns c =
     let L : List Token → Type 0 = λ v. IsLiveWord g w (map plain_token v) in
     let P : ℕ → Type 0 = λ v. v * suc (length word) ≤ most_values in
     let n : c.len.result ≡ length c.in_ok-sites.sites.items = omega (arith, c.len.ensures) in
-    let S : List Site → Type 0 = λ v. AreRowsOf c.in_ok-reaches.reaches (length word) v c.in_ok-rows.rows.items in
+    let S : List Site → Type 0 = λ v. AreToldRows c.in_ok-reaches.reaches (length word) v c.in_ok-rows.rows.items in
     let R : List Row → Type 0 = λ v. HasRows g w v in
     subst R (sym c.of.ensures)
     (has_rows c.spans_within_law.ensures c.live_follows_law.ensures g _ c.dtd.ensures c.proper_dtd_law.ensures w word (subst L (sym c.as_slice-word.ensures) c.in_ok-live.ensures) c.in_ok-reaches.reaches c.in_ok-reaches.ensures

@@ -8,7 +8,7 @@ use Rattle.pv_tree.specs.Marks.{blank_mark}
 use Rattle.pv_tree.specs.Plain.{Tree, depth_of, tagged, element, forest_of}
 use Rattle.pv_tree.specs.PlainForms.{plain_all}
 use Rattle.pv_tree.specs.declared.nodes.Mark.{Mark}
-use Rattle.pv_standoff.specs.Ranges.{AreInOrder, NoneCrossLater, IsInside}
+use Rattle.pv_standoff.specs.Ranges.{AreSorted, NoneCrossLater, IsInsideText}
 use Rattle.pv_standoff.specs.declared.ranges.Range.{Range}
 use Rattle.pv_standoff.proofs.Stacks.{close_depth, end_depth}
 use Rattle.pv_standoff.specs.Stacks.{PlainOpen, stack_depth, add, write, tree_of, opened, with_text}
@@ -69,7 +69,7 @@ write-requires-clause-within c =
     let i = c.each.range-index in
     let d = split_next c.args.sorted.now i c.range-item.result c.each-test.true c.range-item.is in
     let h = inside_mid (length c.args.text.now) (take i (seen c.args.sorted.now)) (drop (i + 1) (seen c.args.sorted.now)) c.range-item.result.now
-    (subst (λ z. AllByRecursion (IsInside (length c.args.text.now)) z) d c.requires.inside) in
+    (subst (λ z. AllByRecursion (IsInsideText (length c.args.text.now)) z) d c.requires.inside) in
     rest_within c.args.text.now (spells c.args.text.now c.bytes-rest.ensures.legal c.requires.no_close_mark) c.ended.at c.range-item.result.now.from c.ended.rest.now c.ended.invariant.3 (omega (arith, h.0, h.1))
 
 pub each-preserved : goal.each-preserved
@@ -99,7 +99,7 @@ each-preserved c = record {
       | then-ended-test+in_default w ↦ (let z = nil_from_length c.ended.outer.items (let n = w.in_default.ensures.cases in let k = c.ended.outer.ok in omega (arith, n.0, k)) in
           let a = subst (λ x. IsAt c.args.root c.args.text.now (take c.each.range-index (seen c.args.sorted.now)) (plain_open c.ended.top) (plain_outer x) c.ended.at) z c.ended.invariant.0 in
           let h = root_holds c.args.root c.args.text.now (take c.each.range-index (seen c.args.sorted.now)) (plain_open c.ended.top) c.ended.at c.range-item.result.now a
-          (inside_mid (length c.args.text.now) _ _ c.range-item.result.now (subst (λ z. AllByRecursion (IsInside (length c.args.text.now)) z) split c.requires.inside)) in
+          (inside_mid (length c.args.text.now) _ _ c.range-item.result.now (subst (λ z. AllByRecursion (IsInsideText (length c.args.text.now)) z) split c.requires.inside)) in
           absurd (omega (arith, h, w.ended-test.true)))
     ]
 
@@ -115,7 +115,7 @@ each-preserved c = record {
 
     step : IsAt c.args.root c.args.text.now (take c.each.range-index (seen c.args.sorted.now) ++ c.range-item.result.now ∷ []) (opened c.range-item.result.now) (write (plain_open c.ended.top) (take (c.range-item.result.now.from - c.ended.at) (drop c.ended.at c.args.text.now)) ∷ plain_outer c.ended.outer.items) c.range-item.result.now.from × AllByRecursion (λ x. c.range-item.result.now.from ≤ x.from) (drop (c.each.range-index + 1) (seen c.args.sorted.now))
     step = next_at c.args.root c.args.text.now (take c.each.range-index (seen c.args.sorted.now)) (drop (c.each.range-index + 1) (seen c.args.sorted.now)) (plain_open c.ended.top) (plain_outer c.ended.outer.items) c.ended.at c.range-item.result.now c.ended.invariant.0 c.ended.invariant.1 ended.0
-        (subst (λ z. AllByRecursion (IsInside (length c.args.text.now)) z) split c.requires.inside) (subst AreInOrder split c.requires.in_order) (subst NoneCrossLater split c.requires.none_cross)
+        (subst (λ z. AllByRecursion (IsInsideText (length c.args.text.now)) z) split c.requires.inside) (subst AreSorted split c.requires.in_order) (subst NoneCrossLater split c.requires.none_cross)
 
 pub close-requires-in-Some-pop-clause-units : goal.close-requires-in-Some-pop-clause-units
 close-requires-in-Some-pop-clause-units c = rest_spells c.args.text.now (spells c.args.text.now c.bytes-rest.ensures.legal c.requires.no_close_mark) c.left.at c.left.rest.now c.left.invariant.2

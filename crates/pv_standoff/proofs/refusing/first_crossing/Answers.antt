@@ -1,8 +1,8 @@
 use Rattle.std.proofs.Common.{◌≡◌, ◌≤◌, ◌+◌, [], ◌∷◌, ◌++◌, take, drop, sym, ◌∙◌, ap, subst, arith}
 use Rattle.std.specs.List.{AllByRecursion}
-use Rattle.pv_standoff.specs.Ranges.{AreInOrder, NoneCrossLater}
+use Rattle.pv_standoff.specs.Ranges.{AreSorted, NoneCrossLater}
 use Rattle.pv_standoff.specs.PlainForms.{seen}
-use Rattle.pv_standoff.specs.Stacks.{Covers}
+use Rattle.pv_standoff.specs.Stacks.{AreStillOpen}
 use Rattle.pv_standoff.specs.PlainForms.{innermost_first}
 use Rattle.pv_standoff.proofs.Built.{drop_next, take_next, split_next, order_back}
 use Rattle.pv_standoff.proofs.Crossing.{covers_later, covers_push, covers_none, none_cross_push, round_all, stack_push, first_crossing}
@@ -25,35 +25,35 @@ each-preserved c = (
   c.range-item.result.now.from,
   subst NoneCrossLater (sym more) (none_cross_push (take c.each.range-index (seen c.args.sorted.now)) c.range-item.result.now c.each.invariant.1
       (covers_none c.range-item.result.now.from _ (innermost_first c.match-innermost.stack.items) c.range-item.result.now held.0 (omega arith) held.1)),
-  subst (λ z. Covers c.range-item.result.now.from z (innermost_first c.push-in-each.new.self.items)) (sym more)
-      (subst (λ z. Covers c.range-item.result.now.from (take c.each.range-index (seen c.args.sorted.now) ++ c.range-item.result.now ∷ []) z)
+  subst (λ z. AreStillOpen c.range-item.result.now.from z (innermost_first c.push-in-each.new.self.items)) (sym more)
+      (subst (λ z. AreStillOpen c.range-item.result.now.from (take c.each.range-index (seen c.args.sorted.now) ++ c.range-item.result.now ∷ []) z)
       (sym (ap innermost_first c.in_ok-push-2.ensures.items ∙ stack_push c.match-innermost.stack.items c.range-item.result))
       (covers_push c.range-item.result.now.from _ (innermost_first c.match-innermost.stack.items) c.range-item.result.now held.0 held.1)),
   order_back (take c.each.range-index (seen c.args.sorted.now)) _ c.range-item.result.now
-      (subst AreInOrder (split_next c.args.sorted.now c.each.range-index c.range-item.result c.each-test.true c.range-item.is) c.requires),
+      (subst AreSorted (split_next c.args.sorted.now c.each.range-index c.range-item.result c.each-test.true c.range-item.is) c.requires),
 )
   where
     more : take (c.each.range-index + 1) (seen c.args.sorted.now) ≡ take c.each.range-index (seen c.args.sorted.now) ++ c.range-item.result.now ∷ []
     more = take_next c.args.sorted.now c.each.range-index c.range-item.result c.each-test.true c.range-item.is
 
-    now : Covers c.range-item.result.now.from (take c.each.range-index (seen c.args.sorted.now)) (innermost_first c.each.stack.items)
+    now : AreStillOpen c.range-item.result.now.from (take c.each.range-index (seen c.args.sorted.now)) (innermost_first c.each.stack.items)
     now =
         let d = drop_next c.args.sorted.now c.each.range-index c.range-item.result c.each-test.true c.range-item.is in
         let l = subst (λ z. AllByRecursion (λ x. c.each.invariant.0 ≤ x.from) z) d c.each.invariant.3 in
         covers_later c.each.invariant.0 c.range-item.result.now.from _ (innermost_first c.each.stack.items) l.0 c.each.invariant.2
 
-    held : Covers c.range-item.result.now.from (take c.each.range-index (seen c.args.sorted.now)) (innermost_first c.match-innermost.stack.items) ×
+    held : AreStillOpen c.range-item.result.now.from (take c.each.range-index (seen c.args.sorted.now)) (innermost_first c.match-innermost.stack.items) ×
         AllByRecursion (λ g. c.range-item.result.now.to ≤ g.to) (innermost_first c.match-innermost.stack.items)
     held = elim c.match-innermost.branch [
       | in-Some+else-top-range+in_ok-push w ↦ (let e = w.in-Some.ensures (take c.each.range-index (seen c.args.sorted.now)) now in
           let o = ap (λ v. innermost_first v.items) w.stack-is ∙ ap innermost_first w.in_ok-push.ensures.items ∙ stack_push c.innermost.new.stack.items w.in-Some.top in (
-            subst (Covers c.range-item.result.now.from (take c.each.range-index (seen c.args.sorted.now))) (sym o) e.1,
+            subst (AreStillOpen c.range-item.result.now.from (take c.each.range-index (seen c.args.sorted.now))) (sym o) e.1,
             subst (AllByRecursion (λ g. c.range-item.result.now.to ≤ g.to)) (sym o)
                 (round_all c.range-item.result.now.from _ w.in-Some.top.now (innermost_first c.innermost.new.stack.items) c.range-item.result.now e.1 w.if-top-range.false),
           ))
       | in_default w ↦ (let e = w.in_default.ensures (take c.each.range-index (seen c.args.sorted.now)) now in
           let o = ap (λ v. innermost_first v.items) w.stack-is ∙ e.0 in (
-            subst (Covers c.range-item.result.now.from (take c.each.range-index (seen c.args.sorted.now))) (sym o) e.1,
+            subst (AreStillOpen c.range-item.result.now.from (take c.each.range-index (seen c.args.sorted.now))) (sym o) e.1,
             subst (AllByRecursion (λ g. c.range-item.result.now.to ≤ g.to)) (sym o) tt,
           ))
     ]

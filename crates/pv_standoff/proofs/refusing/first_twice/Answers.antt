@@ -1,7 +1,7 @@
 use Rattle.std.proofs.Common.{◌+◌, ◌-◌, take, drop, sym, ◌∙◌, subst, arith}
 use Rattle.std.proofs.lemmas.List.{get_or_default}
 use Rattle.std.proofs.lemmas.Bool.{true≢false}
-use Rattle.pv_standoff.specs.Ranges.{HaveSamePlace, AreInOrder, NoneTwice}
+use Rattle.pv_standoff.specs.Ranges.{HaveSamePlace, AreSorted, NoneTwice}
 use Rattle.pv_standoff.specs.PlainForms.{seen}
 use Rattle.pv_standoff.proofs.Built.{prev_next}
 use Rattle.pv_standoff.proofs.Crossing.{once_push}
@@ -28,7 +28,7 @@ loop-i-preserved c =
     let s = prev_next c.args.sorted.now c.loop-i.i c.index-sorted-i.result c.index-sorted-i-in-loop-i.result c.loop-i.invariant.1 c.loop-i-test.true
     c.index-sorted-i.is c.index-sorted-i-in-loop-i.is in (
       subst NoneTwice (sym s.2) (once_push (take (c.loop-i.i - 1) (seen c.args.sorted.now)) c.index-sorted-i.result.now c.index-sorted-i-in-loop-i.result.now
-          (drop (c.loop-i.i + 1) (seen c.args.sorted.now)) (subst AreInOrder s.0 c.requires) (subst NoneTwice s.1 c.loop-i.invariant.0)
+          (drop (c.loop-i.i + 1) (seen c.args.sorted.now)) (subst AreSorted s.0 c.requires) (subst NoneTwice s.1 c.loop-i.invariant.0)
           (λ h. true≢false (sym (c.have_same_place.ensures.1 h) ∙ c.if-have_same_place.false))),
       omega arith,
     )

@@ -1,11 +1,11 @@
-use Rattle.std.proofs.Common.{Bool, List, subst, sym, true, false, ℕ, ◌∙◌, ◌≡◌}
+use Rattle.std.proofs.Common.{subst, sym, ◌∙◌}
 use Rattle.pv_dtd.specs.PlainForms.{plain_dtd}
 use Rattle.pv_tree.specs.Lists.{lists_of}
 use Rattle.pv_tree.specs.PlainDocs.{plain_doc}
 use Rattle.pv_tree.specs.View.{view}
 use Rattle.pv_closed.specs.ClosedTables.{AreClosedTables}
-use Rattle.pv_kept.specs.Kept.{AreMarks, IsBodyText, IsKept}
-use Rattle.pv_verify.proofs.InOrder.{accepted, at-closure, at-kept, at-marks, at-totals, at-validity, not-so}
+use Rattle.pv_kept.specs.Kept.{AreMarks, IsBodyText, KeepsDocument}
+use Rattle.pv_verify.proofs.InOrder.{accepted, at-closure, at-kept, at-totals, at-validity, not-so}
 use Rattle.pv_verify.proofs.NoText.{wider-text}
 use Rattle.pv_verify.proofs.verifying.first_failed.Goals as goal
 
@@ -29,7 +29,7 @@ returns-then-not-branch c =
     let marked = c.are_marks.ensures (view read.body.root) (c.deref.ensures.value ∙ read.are) in
     let marks = subst (λ m. AreMarks m (view read.body.root)) c.as_slice-marks.ensures (marked.0 c.if-not-are_marks.false) in
     let keeps = c.in_ok-keeps.ensures doc read.body (wider-text c.wider_limits_law.ensures root c.args.bytes.now doc c.requires) read.is_text in
-    at-kept g root doc pack read.body text marks (λ k. not-so (keeps.1 (subst (λ m. IsKept doc read.body m) (sym c.as_slice-marks.ensures) k)) c.if-not-branch.true)
+    at-kept g root doc pack read.body text marks (λ k. not-so (keeps.1 (subst (λ m. KeepsDocument doc read.body m) (sym c.as_slice-marks.ensures) k)) c.if-not-branch.true)
 
 pub returns-then-not-branch-2 : goal.returns-then-not-branch-2
 returns-then-not-branch-2 c =
@@ -42,7 +42,7 @@ returns-then-not-branch-2 c =
     let marked = c.are_marks.ensures (view read.body.root) (c.deref.ensures.value ∙ read.are) in
     let marks = subst (λ m. AreMarks m (view read.body.root)) c.as_slice-marks.ensures (marked.0 c.if-not-are_marks.false) in
     let keeps = c.in_ok-keeps.ensures doc read.body (wider-text c.wider_limits_law.ensures root c.args.bytes.now doc c.requires) read.is_text in
-    let kept = subst (λ m. IsKept doc read.body m) c.as_slice-marks.ensures (keeps.0 c.if-not-branch.false) in
+    let kept = subst (λ m. KeepsDocument doc read.body m) c.as_slice-marks.ensures (keeps.0 c.if-not-branch.false) in
     let is-valid = c.in_ok-is_valid.ensures read.body read.is_text in
     at-validity g root doc pack read.body text marks kept (λ v. not-so (is-valid.1 v) c.if-not-branch-2.true)
 
@@ -57,7 +57,7 @@ returns-then-not-branch-3 c =
     let marked = c.are_marks.ensures (view read.body.root) (c.deref.ensures.value ∙ read.are) in
     let marks = subst (λ m. AreMarks m (view read.body.root)) c.as_slice-marks.ensures (marked.0 c.if-not-are_marks.false) in
     let keeps = c.in_ok-keeps.ensures doc read.body (wider-text c.wider_limits_law.ensures root c.args.bytes.now doc c.requires) read.is_text in
-    let kept = subst (λ m. IsKept doc read.body m) c.as_slice-marks.ensures (keeps.0 c.if-not-branch.false) in
+    let kept = subst (λ m. KeepsDocument doc read.body m) c.as_slice-marks.ensures (keeps.0 c.if-not-branch.false) in
     let is-valid = c.in_ok-is_valid.ensures read.body read.is_text in
     let valid = is-valid.0 c.if-not-branch-2.false in
     let closes = c.in_ok-tables_closed.ensures in
@@ -74,7 +74,7 @@ returns-then-not-branch-4 c =
     let marked = c.are_marks.ensures (view read.body.root) (c.deref.ensures.value ∙ read.are) in
     let marks = subst (λ m. AreMarks m (view read.body.root)) c.as_slice-marks.ensures (marked.0 c.if-not-are_marks.false) in
     let keeps = c.in_ok-keeps.ensures doc read.body (wider-text c.wider_limits_law.ensures root c.args.bytes.now doc c.requires) read.is_text in
-    let kept = subst (λ m. IsKept doc read.body m) c.as_slice-marks.ensures (keeps.0 c.if-not-branch.false) in
+    let kept = subst (λ m. KeepsDocument doc read.body m) c.as_slice-marks.ensures (keeps.0 c.if-not-branch.false) in
     let is-valid = c.in_ok-is_valid.ensures read.body read.is_text in
     let valid = is-valid.0 c.if-not-branch-2.false in
     let closes = c.in_ok-tables_closed.ensures in
@@ -93,7 +93,7 @@ returns c =
     let marked = c.are_marks.ensures (view read.body.root) (c.deref.ensures.value ∙ read.are) in
     let marks = subst (λ m. AreMarks m (view read.body.root)) c.as_slice-marks.ensures (marked.0 c.if-not-are_marks.false) in
     let keeps = c.in_ok-keeps.ensures doc read.body (wider-text c.wider_limits_law.ensures root c.args.bytes.now doc c.requires) read.is_text in
-    let kept = subst (λ m. IsKept doc read.body m) c.as_slice-marks.ensures (keeps.0 c.if-not-branch.false) in
+    let kept = subst (λ m. KeepsDocument doc read.body m) c.as_slice-marks.ensures (keeps.0 c.if-not-branch.false) in
     let is-valid = c.in_ok-is_valid.ensures read.body read.is_text in
     let valid = is-valid.0 c.if-not-branch-2.false in
     let closes = c.in_ok-tables_closed.ensures in

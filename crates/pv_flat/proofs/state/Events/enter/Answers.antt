@@ -1,5 +1,5 @@
 use Rattle.std.proofs.Common.{◌∙◌, ◌∷◌, [], ap, sym, subst}
-use Rattle.pv_flat.specs.Coming.{Comes}
+use Rattle.pv_flat.specs.Coming.{EventsCome}
 use Rattle.pv_flat.specs.Plain.{begin_element}
 use Rattle.pv_flat.proofs.Entered.{entered, entered-short}
 use Rattle.pv_flat.specs.declared.state.Stage.TheVariants as stage
@@ -11,7 +11,7 @@ returns-then-opening-clause-leads c = λ es end given.
     let p = c.pass_tag.ensures in
     let tag = c.args.opening.now in
     let comes = comes-as c.pass_tag.new.self stage.StopDue p.at_stage es end given in
-    subst (λ l. Comes c.args.self.now (begin_element tag.tag.name.now tag.tag.attrs.now ∷ l) end) (sym comes.1)
+    subst (λ l. EventsCome c.args.self.now (begin_element tag.tag.name.now tag.tag.attrs.now ∷ l) end) (sym comes.1)
     (entered-short c.args.self.now c.pass_tag.new.self tag c.requires.opens c.requires.fresh p.root p.before p.rest p.count comes.0 end comes.2 c.if-opening.true
     (same-names [] c.pass_tag.new.self.elements.items (p.open_elements ∙ (c.args.self.now.none_open c.requires.fresh))))
 

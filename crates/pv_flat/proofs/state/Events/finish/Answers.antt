@@ -1,6 +1,6 @@
 use Rattle.std.proofs.Common.{◌≡◌, [], sym, subst, refl}
 use Rattle.std.proofs.lemmas.Result.{err_from_is_err_and}
-use Rattle.pv_flat.specs.Coming.{Comes, IsIn, ends_with, open_names}
+use Rattle.pv_flat.specs.Coming.{EventsCome, IsIn, ends_with, open_names}
 use Rattle.pv_flat.specs.declared.state.Stage.TheVariants as stage
 use Rattle.pv_flat.proofs.Refused.{ends-behind, refused-behind}
 use Rattle.pv_flat.proofs.States.{comes-by, refused-advance, same-inside, same-names}
@@ -20,7 +20,7 @@ returns-clause-advances c =
     let s = c.args.self.now in
     let none : open_names s ≡ [] = same-names [] s.elements.items c.requires.none in (
       λ es end comes.
-          subst (λ l. Comes s l end) (sym comes.0) (subst (λ x. Comes s [] x) (sym comes.1)
+          subst (λ l. EventsCome s l end) (sym comes.0) (subst (λ x. EventsCome s [] x) (sym comes.1)
           (comes-by s stage.Inside c.requires.inside [] (ends_with s.before.now s.rest.now)
           (λ left h. ends-behind s.root s.before.now s.rest.now s.count (rw c.as_slice.ensures at c.in_ok-read_epilog.ensures.ends) left (subst (λ ns. IsIn s.before.now ns left) none h)))),
       refl,

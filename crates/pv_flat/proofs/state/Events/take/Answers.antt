@@ -1,6 +1,6 @@
 use Rattle.std.proofs.Common.{◌∙◌, sym, subst, ◌∷◌, arith}
 use Rattle.pv_read.specs.Items.{comment_or_instruction, cdata_section, start_tag, empty_tag, end_tag, text_run}
-use Rattle.pv_flat.specs.Coming.{Comes}
+use Rattle.pv_flat.specs.Coming.{EventsCome}
 use Rattle.pv_flat.specs.Plain.{begin_element}
 use Rattle.pv_flat.specs.declared.state.Stage.TheVariants as stage
 use Rattle.pv_flat.proofs.States.{comes-as, passed, popped-names, pushed-names, same-names}
@@ -36,7 +36,7 @@ returns-in-EmptyTag-clause-leads c = λ es end comes.
     let p = c.pass-in-EmptyTag.ensures in
     let name = c.in-EmptyTag.tag.name.now in
     let attrs = c.in-EmptyTag.tag.attrs.now in
-    subst (λ l. Comes c.args.self.now (begin_element name attrs ∷ l) end) (sym comes.1)
+    subst (λ l. EventsCome c.args.self.now (begin_element name attrs ∷ l) end) (sym comes.1)
     (passed c.args.self.now c.pass-in-EmptyTag.new.self (empty_tag name attrs) c.args.more.now c.requires.inside c.requires.some (rw c.in-EmptyTag.is at c.requires.taken)
     p.root p.before p.rest p.count (same-names _ _ p.open_elements) comes.0 end comes.2)
 
