@@ -12,7 +12,7 @@ use Rattle.pv_cli.specs.Drill.{CountsReplies, counts_with, no_counts}
 use Rattle.pv_cli.specs.Session.{RepliesTo, done_of, reply_to}
 use Rattle.pv_cli.specs.declared.commands.drill.Counts.{Counts}
 use Rattle.pv_dtd.specs.Plain.{PlainDtd}
-use Rattle.pv_drill.specs.Drill.{drill_lines, line_text, section_lines}
+use Rattle.pv_drill.specs.Drill.{drill_lines, section_line, section_lines}
 use Rattle.pv_edit.specs.declared.answers.Done.{Done as WhatWasDone}
 use Rattle.pv_missing.proofs.VerdictLists.{one_list_of_verdicts}
 use Rattle.pv_missing.specs.Verdicts.{AreVerdicts, HavePossible, possible_in}
@@ -25,7 +25,7 @@ use Rattle.pv_tree.specs.Lists.{Listed, lists_of}
 use Rattle.pv_tree.specs.declared.nodes.Verdict.{Verdict}
 use Rattle.pv_tree.specs.Plain.{PlainDoc, Tree}
 use Rattle.law_drill_tree.proofs.Verdicts.{all_judged, all_possible}
-use Rattle.law_drill_tree.specs.Sections.{ahead, all_verdicts, bare_section, drill_doc, trees, with_around, wrap_of}
+use Rattle.law_drill_tree.specs.Sections.{ahead, all_verdicts, bare_section, drill_doc, trees, with_around, section_wrap}
 use Rattle.law_drill_counts.proofs.Answered.{behind, length_ahead, length_behind, open_behind, state, state_next}
 use Rattle.law_drill_counts.proofs.Lines.{replies_undo, replies_wrap_br, replies_wrap_p}
 use Rattle.law_drill_counts.proofs.Steps.{At, Made, br_refused, p_made, undone_at}
@@ -63,41 +63,41 @@ module _ (one : OneCommand) (j m : ℕ) (most : j + suc m ≤ 20000) where
   abbrev there : List (Tree Unit)
   there = with_around (codes "p") (behind j) (suc j) (ahead (suc j) m)
 
-  br_line : (s next : PlainSession) (told : Reply) → At here s → RepliesTo s (line_text (suc j) 0) told next → (next ≡ s) × (done_of told ≡ None)
+  br_line : (s next : PlainSession) (told : Reply) → At here s → RepliesTo s (section_line (suc j) 0) told next → (next ≡ s) × (done_of told ≡ None)
   br_line s next told h r =
       let step = replies_wrap_br one s next (suc j) told (omega arith) r in
       let refused = br_refused (behind j) (ahead (suc j) m) (suc j) j (length_behind j) few s h next step.0 step.1 in
       (refused.0, ap done_of step.2 ∙ refused.1)
 
-  p_line : (s next : PlainSession) (told : Reply) → At here s → RepliesTo s (line_text (suc j) 1) told next →
-      (answer : PlainAnswer) × (left : ℕ) × (bad : ℕ) × Made there (wrap_of (suc j) (codes "p")) s next answer × (done_of told ≡ Some (checks 2 left bad))
+  p_line : (s next : PlainSession) (told : Reply) → At here s → RepliesTo s (section_line (suc j) 1) told next →
+      (answer : PlainAnswer) × (left : ℕ) × (bad : ℕ) × Made there (section_wrap (suc j) (codes "p")) s next answer × (done_of told ≡ Some (checks 2 left bad))
   p_line s next told h r =
       let step = replies_wrap_p one s next (suc j) told (omega arith) r in
       let made = p_made (behind j) (ahead (suc j) m) (suc j) j (length_behind j) few s h next step.0 step.1 in
       (step.0, made.left, made.bad, made, ap done_of step.2 ∙ ap (λ a. done_of (reply_to a)) made.is_answer)
 
-  undo_line : (s w next : PlainSession) (told : Reply) (answer : PlainAnswer) → At here s → Made there (wrap_of (suc j) (codes "p")) s w answer → RepliesTo w (line_text (suc j) 2) told next →
+  undo_line : (s w next : PlainSession) (told : Reply) (answer : PlainAnswer) → At here s → Made there (section_wrap (suc j) (codes "p")) s w answer → RepliesTo w (section_line (suc j) 2) told next →
       (left : ℕ) × (bad : ℕ) × At here next × (done_of told ≡ Some (checks 1 left bad))
   undo_line s w next told answer h made r =
       let step = replies_undo one w next (suc j) told r in
-      let back = undone_at here there (wrap_of (suc j) (codes "p")) s w next step.0 answer refl h made step.1 in
+      let back = undone_at here there (section_wrap (suc j) (codes "p")) s w next step.0 answer refl h made step.1 in
       (back.1.0, back.1.1, back.0, ap done_of step.2 ∙ ap (λ a. done_of (reply_to a)) back.1.2)
 
   -- two lines, and a third where it is a third section
-  two_lines : (s after : PlainSession) (now : Counts) → (suc j % 3 == 0) ≡ false → At here s → CountsReplies s (drill_counts j) (line_text (suc j) 0 ∷ line_text (suc j) 1 ∷ []) after now →
+  two_lines : (s after : PlainSession) (now : Counts) → (suc j % 3 == 0) ≡ false → At here s → CountsReplies s (drill_counts j) (section_line (suc j) 0 ∷ section_line (suc j) 1 ∷ []) after now →
       At (state (suc j) m) after × (now ≡ drill_counts (suc j))
   two_lines s after now e h (told, next, r, (also, last, q, (is, counted))) =
       let br = br_line s next told h r in
-      let p = p_line s last also h (subst (λ (x : PlainSession). RepliesTo x (line_text (suc j) 1) also last) br.0 q) in (
+      let p = p_line s last also h (subst (λ (x : PlainSession). RepliesTo x (section_line (suc j) 1) also last) br.0 q) in (
         subst (λ (x : PlainSession). At (state (suc j) m) x) (sym is) (rw (state_next j m false e) p.3.at),
         counted ∙ ap (λ d. counts_with (counts_with (drill_counts j) d) (done_of also)) br.1 ∙ ap (λ d. counts_with (counts_with (drill_counts j) None) d) p.4 ∙ two_counted j p.1 p.2 e,
       )
 
-  three_lines : (s after : PlainSession) (now : Counts) → (suc j % 3 == 0) ≡ true → At here s → CountsReplies s (drill_counts j) (line_text (suc j) 0 ∷ line_text (suc j) 1 ∷ line_text (suc j) 2 ∷ []) after now →
+  three_lines : (s after : PlainSession) (now : Counts) → (suc j % 3 == 0) ≡ true → At here s → CountsReplies s (drill_counts j) (section_line (suc j) 0 ∷ section_line (suc j) 1 ∷ section_line (suc j) 2 ∷ []) after now →
       At (state (suc j) m) after × (now ≡ drill_counts (suc j))
   three_lines s after now e h (told, next, r, (also, last, q, (third_told, end, u, (is, counted)))) =
       let br = br_line s next told h r in
-      let p = p_line s last also h (subst (λ (x : PlainSession). RepliesTo x (line_text (suc j) 1) also last) br.0 q) in
+      let p = p_line s last also h (subst (λ (x : PlainSession). RepliesTo x (section_line (suc j) 1) also last) br.0 q) in
       let back = undo_line s last end third_told p.0 h p.3 u in (
         subst (λ (x : PlainSession). At (state (suc j) m) x) (sym is) (rw (state_next j m true e) back.2),
         counted ∙ ap (λ d. counts_with (counts_with (counts_with (drill_counts j) d) (done_of also)) (done_of third_told)) br.1
@@ -106,7 +106,7 @@ module _ (one : OneCommand) (j m : ℕ) (most : j + suc m ≤ 20000) where
       )
 
   by_third : (s after : PlainSession) (now : Counts) (third : Bool) → (suc j % 3 == 0) ≡ third → At here s →
-      CountsReplies s (drill_counts j) (if third then line_text (suc j) 0 ∷ line_text (suc j) 1 ∷ line_text (suc j) 2 ∷ [] else line_text (suc j) 0 ∷ line_text (suc j) 1 ∷ []) after now →
+      CountsReplies s (drill_counts j) (if third then section_line (suc j) 0 ∷ section_line (suc j) 1 ∷ section_line (suc j) 2 ∷ [] else section_line (suc j) 0 ∷ section_line (suc j) 1 ∷ []) after now →
       At (state (suc j) m) after × (now ≡ drill_counts (suc j))
   by_third s after now true e h r = three_lines s after now e h r
   by_third s after now false e h r = two_lines s after now e h r

@@ -1,6 +1,7 @@
 -- The session that the document of a drill begins.
 use Rattle.std.specs.Prelude.{codes}
 use Rattle.std.proofs.Common.{List, [], ap, arith, refl, subst, ℕ, ◌∙◌, ◌≡◌}
+use Rattle.std.specs.List.{AllByRecursion}
 use Rattle.std.proofs.lemmas.List.{length-map}
 use Rattle.pv_cache.proofs.Alike.{twice}
 use Rattle.pv_cache.proofs.ListMarks.{all_narrow_to}
@@ -9,14 +10,15 @@ use Rattle.pv_cli.proofs.OneOpening.{ReadsOne}
 use Rattle.pv_cli.specs.CommandLine.{IsDrillSize}
 use Rattle.pv_cli.specs.Documents.{PlainOpened}
 use Rattle.pv_cli.specs.Drill.{drill_stage, reading_stage}
-use Rattle.pv_cli.specs.Possibility.{AreNarrow}
 use Rattle.pv_cli.specs.Response.{PlainResponse}
 use Rattle.pv_cli.specs.Session.{guarding_stage}
 use Rattle.pv_drill.specs.Drill.{drill_text}
 use Rattle.pv_dtd.specs.Laws.{OneMeaning}
 use Rattle.law_missing.specs.Dtds.{sections_dtd}
+use Rattle.pv_missing.specs.Widths.{IsListForVerdict}
 use Rattle.pv_session.proofs.Stamped.{begun_unmarked, unmarked_bare}
 use Rattle.pv_session.specs.Sessions.{PlainSession, session_on}
+use Rattle.pv_tree.specs.Lists.{lists_of}
 use Rattle.pv_tree.specs.Marks.{blank_mark, unmarked_doc}
 use Rattle.pv_tree.specs.Plain.{Tree}
 use Rattle.pv_tree.specs.declared.nodes.Mark.{Mark}
@@ -53,7 +55,7 @@ begun_at n =
 abbrev drill_opened : ℕ → PlainOpened
 drill_opened n = record { dtd = sections_dtd; bytes = drill_text n; doc = marked_doc (trees (ahead 0 n)) }
 
-narrow : (n : ℕ) → IsDrillSize n → AreNarrow sections_dtd (marked_doc (trees (ahead 0 n)))
+narrow : (n : ℕ) → IsDrillSize n → AllByRecursion (IsListForVerdict sections_dtd) (lists_of (marked_doc (trees (ahead 0 n))))
 narrow n size =
     let few = length_ahead 0 n in
     let sections = length-map (ahead 0 n) section_tree in

@@ -4,7 +4,7 @@ use Rattle.std.specs.Io.KnownBytes.{Appends}
 use Rattle.pv_cli.specs.CommandLine.{IsDrillSize, drill}
 use Rattle.pv_cli.specs.Drill.{counts_text}
 use Rattle.pv_cli.specs.Headline.{HadNoMemory}
-use Rattle.pv_cli.specs.Laws.{Answered, IsComplete}
+use Rattle.pv_cli.specs.Laws.{Answered, AnswersWithoutFault}
 use Rattle.pv_cli.specs.Devices.{Devices}
 use Rattle.pv_cli.specs.Program.{Runs}
 use Rattle.pv_cli.specs.Response.{PlainResponse, with_line}
@@ -22,6 +22,6 @@ module _ (S : Type 0) (responds_so : RespondsByFormula) (n : ℕ) (before after 
       let same = responds_so n run.course told.response size run.is_defined told.is_response in
       inr (told.is_status ∙ ap (λ (r : PlainResponse). r.status) same, subst (λ (r : PlainResponse). Appends before.output.written after.output.written r.output) same told.written)
 
-pub prints_formula : (S : Type 0) → RespondsByFormula → IsComplete S → PrintsFormula S
+pub prints_formula : (S : Type 0) → RespondsByFormula → AnswersWithoutFault S → PrintsFormula S
 prints_formula S responds_so complete n before after status size run shelf input output =
     printed S responds_so n before after status size run (complete (Some (drill n)) before after status run shelf input output)

@@ -37,7 +37,7 @@ use Rattle.law_drill_tree.proofs.DtdText.{br_named, p_named}
 use Rattle.law_drill_tree.proofs.Sections.{trees-join}
 use Rattle.law_drill_tree.proofs.Verdicts.{br_impossible, br_proper, doc_possible, proper_doc}
 use Rattle.law_drill_tree.proofs.Wrapping.{nodes_around, wrap_made}
-use Rattle.law_drill_tree.specs.Sections.{Section, bare, bare_section, drill_doc, root_tree, trees, with_around, wrap_of, wrapped}
+use Rattle.law_drill_tree.specs.Sections.{Section, bare, bare_section, drill_doc, root_tree, trees, with_around, section_wrap, wrapped}
 use Rattle.law_drill_counts.proofs.Limits.{within_limits}
 
 -- a session on the document of a drill with these sections
@@ -84,11 +84,11 @@ pub record Made (ts : List (Tree Unit)) (edit : Edit) (s after : PlainSession) (
 module _ (front back : List Section) (k i : ℕ) (place : length front ≡ i) (few : length front + length back ≤ 20000) (s : PlainSession)
     (h : At (trees front ++ bare_section k ∷ trees back) s) where
   -- the document with the text of the section in an element, which is made
-  made_around : (name : List ℕ) → is_name name ≡ true → applied tt (drill_doc (trees front ++ bare_section k ∷ trees back)) (wrap_of (suc i) name) ≡ gives (drill_doc (with_around name front k back))
+  made_around : (name : List ℕ) → is_name name ≡ true → applied tt (drill_doc (trees front ++ bare_section k ∷ trees back)) (section_wrap (suc i) name) ≡ gives (drill_doc (with_around name front k back))
   made_around name named = wrap_made name front back k i place named
 
-  is_around : (name : List ℕ) → is_name name ≡ true → (edited : PlainDoc ℕ) → applied 0 s.doc (wrap_of (suc i) name) ≡ gives edited → unmarked_doc edited ≡ drill_doc (with_around name front k back)
-  is_around name named edited given = made_same s.doc edited (wrap_of (suc i) name) _ _ h.is_doc (made_around name named) given
+  is_around : (name : List ℕ) → is_name name ≡ true → (edited : PlainDoc ℕ) → applied 0 s.doc (section_wrap (suc i) name) ≡ gives edited → unmarked_doc edited ≡ drill_doc (with_around name front k back)
+  is_around name named edited given = made_same s.doc edited (section_wrap (suc i) name) _ _ h.is_doc (made_around name named) given
 
   around_within : (name : List ℕ) (edited : PlainDoc ℕ) → unmarked_doc edited ≡ drill_doc (with_around name front k back) → (paths : List (List ℕ)) → IsWithinLimits s.dtd edited paths
   around_within name edited is paths =
@@ -110,12 +110,12 @@ module _ (front back : List Section) (k i : ℕ) (place : length front ≡ i) (f
       let none = (no_bad s.doc _ h.is_doc here_proper m had).0 here_possible in
       br_impossible front k back ((no_bad edited _ is (br_proper front k back) n has).1 (omega arith))
 
-  pub br_refused : (after : PlainSession) (answer : PlainAnswer) → IsEditStep s (wrap_of (suc i) (codes "br")) answer after → (after ≡ s) × (done_of (reply_to answer) ≡ None)
+  pub br_refused : (after : PlainSession) (answer : PlainAnswer) → IsEditStep s (section_wrap (suc i) (codes "br")) answer after → (after ≡ s) × (done_of (reply_to answer) ≡ None)
   br_refused after answer (accepted edited left bad acc is has also ans) =
       let here = is_around (codes "br") (is_name-IsName (codes "br") br_named) edited acc.is_edited in
       absurd (∥∥₁_elim acc.no_worse (λ a b. absurd a) (br_worse edited here))
   br_refused after answer (refused (refusal.Shape reason) given told is) =
-      absurd (not_refused s.doc (wrap_of (suc i) (codes "br")) _ _ reason h.is_doc (made_around (codes "br") (is_name-IsName (codes "br") br_named)) given)
+      absurd (not_refused s.doc (section_wrap (suc i) (codes "br")) _ _ reason h.is_doc (made_around (codes "br") (is_name-IsName (codes "br") br_named)) given)
   br_refused after answer (refused refusal.Limit (edited, given, beyond) told is) =
       absurd (beyond (around_within (codes "br") edited (is_around (codes "br") (is_name-IsName (codes "br") br_named) edited given) _))
   br_refused after answer (refused (refusal.Impossible path) h told is) =
@@ -134,10 +134,10 @@ module _ (front back : List Section) (k i : ℕ) (place : length front ≡ i) (f
       let none = (no_bad edited _ is p_proper n has).0 p_possible in
       absurd (omega arith)
 
-  pub p_made : (after : PlainSession) (answer : PlainAnswer) → IsEditStep s (wrap_of (suc i) (codes "p")) answer after →
-      Made (with_around (codes "p") front k back) (wrap_of (suc i) (codes "p")) s after answer
+  pub p_made : (after : PlainSession) (answer : PlainAnswer) → IsEditStep s (section_wrap (suc i) (codes "p")) answer after →
+      Made (with_around (codes "p") front k back) (section_wrap (suc i) (codes "p")) s after answer
   p_made after answer (accepted edited left bad acc is has also ans) =
-      let edit = wrap_of (suc i) (codes "p") in
+      let edit = section_wrap (suc i) (codes "p") in
       let same = is_around (codes "p") (is_name-IsName (codes "p") p_named) edited acc.is_edited in
       let stamped = ap (λ (t : PlainSession). unmarked_doc t.doc) is ∙ stamped_same (next_move s.moves) (changed_lists (makes edit)) edited in
       let made : applied tt (unmarked_doc s.doc) edit ≡ gives (drill_doc (with_around (codes "p") front k back)) = ap (λ x. applied tt x edit) h.is_doc ∙ made_around (codes "p") (is_name-IsName (codes "p") p_named) in
@@ -158,7 +158,7 @@ module _ (front back : List Section) (k i : ℕ) (place : length front ≡ i) (f
         is_answer = ans;
       }
   p_made after answer (refused (refusal.Shape reason) given told is) =
-      absurd (not_refused s.doc (wrap_of (suc i) (codes "p")) _ _ reason h.is_doc (made_around (codes "p") (is_name-IsName (codes "p") p_named)) given)
+      absurd (not_refused s.doc (section_wrap (suc i) (codes "p")) _ _ reason h.is_doc (made_around (codes "p") (is_name-IsName (codes "p") p_named)) given)
   p_made after answer (refused refusal.Limit (edited, given, beyond) told is) =
       absurd (beyond (around_within (codes "p") edited (is_around (codes "p") (is_name-IsName (codes "p") p_named) edited given) _))
   p_made after answer (refused (refusal.Impossible path) (edited, given, within, worse, first) told is) =

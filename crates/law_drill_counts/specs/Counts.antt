@@ -36,7 +36,8 @@ DrillsBegin = (n : ℕ) → IsDrillSize n → (session : PlainSession) ×
 abbrev pub CountsByFormula : Type 0
 CountsByFormula = (n fetches : ℕ) (session after : PlainSession) (counts : Counts)
     (open_lists : ℕ) → IsDrillSize n →
-    (drill_stage n).Opens session fetches → CountsReplies session no_counts (drill_lines n) after counts →
+    (drill_stage n).Opens session fetches →
+    CountsReplies session no_counts (drill_lines n) after counts →
     HasOpen (stamped_document after) open_lists →
     (counts ≡ drill_counts n) × (open_lists ≡ n / 3)
 

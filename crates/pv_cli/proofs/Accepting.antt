@@ -10,7 +10,7 @@ use Rattle.pv_cli.specs.Documents.{PlainOpened}
 use Rattle.pv_cli.specs.Laws.{AcceptsLeast, ShowsLeast}
 use Rattle.pv_cli.specs.Opening.{Files, opening_stage}
 use Rattle.pv_cli.specs.PackFiles.{pack_file_stage}
-use Rattle.pv_cli.specs.Program.{Writes, cut_off, wrote}
+use Rattle.pv_cli.specs.Program.{WritesEnding, cut_off, wrote}
 use Rattle.pv_cli.specs.Response.{PlainResponse}
 use Rattle.pv_cli.specs.Stage.{Responds}
 use Rattle.pv_cli.specs.Verify.{IsVerifyCourse, TellsAcceptance, TellsOfPack, is_accepted, is_rejected, names_wide}
@@ -28,7 +28,7 @@ pub record WroteAll (ending : RunEnding) (old new : Option (List ℕ)) : Type 0 
   pub is_done : response.status ≡ Done
   pub written : Appends old new response.output
 
-pub wrote_all : (ending : RunEnding) (old new : Option (List ℕ)) (before after : ℕ) → Writes ending old new before after Done → WroteAll ending old new
+pub wrote_all : (ending : RunEnding) (old new : Option (List ℕ)) (before after : ℕ) → WritesEnding ending old new before after Done → WroteAll ending old new
 wrote_all (responds r) old new before after (wrote whole is written stays) = record { response = r; is_ending = refl; is_done = sym is; written = written }
 wrote_all shelf_fault old new before after (wrote whole is written stays) = let never : Done ≡ ReadFault = is in cc
 wrote_all (input_fault out) old new before after (wrote whole is written stays) = let never : Done ≡ ReadFault = is in cc

@@ -16,7 +16,7 @@ use Rattle.pv_cli.specs.Course.{Course, without_input}
 use Rattle.pv_cli.specs.Devices.{ShelfNow}
 use Rattle.pv_cli.specs.Opening.{Files, IsFile, dtd_file_stage}
 use Rattle.pv_cli.specs.Program.{CountsShelf}
-use Rattle.pv_cli.specs.Returns.{Finds, FindsResponse, ReturnsOver, ending_of}
+use Rattle.pv_cli.specs.Returns.{TakesCourse, FindsResponse, ReturnsOver, ending_of}
 use Rattle.pv_cli.specs.Stage.{Behind, Stage, beside, followed_by}
 use Rattle.pv_cli.specs.Standoff.{CountsDocument, IsShownCourse, annotation_stage, nested_stage, nesting_stage, none_nested, ranges_file_stage, some_nested, text_file_stage}
 use Rattle.pv_cli.proofs.Stages.{behind_second, finds_goes, finds_stays, stays_from, stop_counts, stop_ends, stopped_first}
@@ -60,7 +60,7 @@ module _ (dtd root text ranges : List ℕ) (before after : ShelfNow) where
   -- it found this behind them
   pub annotation_found : (checked checked_now : ℕ) (given : (Dtd × List (List ℕ)) × List Range) (result : Result Response Stop) →
       ReturnsOver (AreThree before.files dtd text ranges) plain_given three_stage before after (Ok given) →
-      Finds (Behind (beside (plain_dtd given.0.0) (nesting_stage root given.0.1 given.1)) (λ nested. IsShownCourse root nested.0 nested.1)) result →
+      TakesCourse (Behind (beside (plain_dtd given.0.0) (nesting_stage root given.0.1 given.1)) (λ nested. IsShownCourse root nested.0 nested.1)) result →
       CountsDocument root given.0.1 given.1 checked checked_now → FindsResponse line before after checked checked_now result
   annotation_found checked checked_now given result over finds counts =
       let files = files_of over.files in

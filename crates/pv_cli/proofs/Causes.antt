@@ -8,7 +8,7 @@ use Rattle.pv_cli.specs.Certificates.{certificate_stage}
 use Rattle.pv_cli.specs.Check.{TellsPossibility}
 use Rattle.pv_cli.specs.Complete.{TellsPack}
 use Rattle.pv_cli.specs.CommandLine.{PlainCommandLine, drill, files_named, on_certificate, on_document, on_dtd, on_ranges}
-use Rattle.pv_cli.specs.Commands.{Tells, impossibility, possibility}
+use Rattle.pv_cli.specs.Commands.{VerbTells, impossibility, possibility}
 use Rattle.pv_cli.specs.Course.{Course, RunEnding, input_fault, no_memory, output_fault, responds, shelf_fault}
 use Rattle.pv_cli.specs.DenialFiles.{denial_file_stage}
 use Rattle.pv_cli.specs.Deny.{TellsJudgement}
@@ -20,7 +20,7 @@ use Rattle.pv_cli.specs.Laws.{ComesByCause, RaisesOneAtMost}
 use Rattle.pv_cli.specs.Opening.{Files, dtd_file_stage, file_at, opening_stage}
 use Rattle.pv_cli.specs.PackFiles.{pack_file_stage}
 use Rattle.pv_cli.specs.Possibility.{possibility_stage, width_stage}
-use Rattle.pv_cli.specs.Program.{CountsInput, CountsShelf, IsDefined, Writes, cut_off, wrote}
+use Rattle.pv_cli.specs.Program.{CountsInput, CountsShelf, IsDefined, WritesEnding, cut_off, wrote}
 use Rattle.pv_cli.specs.Response.{PlainResponse}
 use Rattle.pv_cli.specs.Session.{Converses, guarding_stage}
 use Rattle.pv_cli.specs.Stage.{Stage, Behind, Responds, opened, refused, responded, short_of_memory, short_of_memory as out_of_memory, stopped}
@@ -40,7 +40,7 @@ use Rattle.pv_cli.proofs.ResponseCauses.{behind_by, by_status, document_refused,
 
 -- a line for each verb
 verb_by : (verb : Verb) (dtd root doc : List ℕ) (files : Files) (o : PlainOpened) (course : Course) (r : PlainResponse) → ReadsBoth (Some (on_document verb dtd root doc)) files root o.dtd o.doc →
-    Tells verb root o course → course.ending ≡ responds r → RespondsBy (Some (on_document verb dtd root doc)) files course.taken r.status
+    VerbTells verb root o course → course.ending ≡ responds r → RespondsBy (Some (on_document verb dtd root doc)) files course.taken r.status
 verb_by Valid dtd root doc files o course r both tells at =
     validity_told (Some (on_document Valid dtd root doc)) files course.taken root o.dtd o.doc both r refl (responds_by (TellsValidity root o.dtd o.doc) course r tells at)
 verb_by Check dtd root doc files o course r both tells at =
@@ -86,7 +86,7 @@ responds_caused (Some (on_dtd dtd)) files course r defined at =
     (λ s k denies. file_refused (Some (on_dtd dtd)) files course.taken (λ bytes is. is) s k denies)
     (λ g k rest opens told same ends. by_status (Some (on_dtd dtd)) files course.taken Done r _ (responds_by (TellsDtd g) rest r told ends).is_response refl tt) defined at
 responds_caused (Some (on_document verb dtd root doc)) files course r defined at =
-    behind_by (opening_stage root files) (Tells verb root) (λ s. RespondsBy (Some (on_document verb dtd root doc)) files course.taken s.status) course r
+    behind_by (opening_stage root files) (VerbTells verb root) (λ s. RespondsBy (Some (on_document verb dtd root doc)) files course.taken s.status) course r
     (λ s k denies. opening_refused (Some (on_document verb dtd root doc)) root files (λ text is. is) (λ bytes is. (refl, is)) course.taken s k denies)
     (λ o k rest opens told same ends. subst (λ (t : Option (List ℕ)). RespondsBy (Some (on_document verb dtd root doc)) files t r.status) same
     (verb_by verb dtd root doc files o rest r (opening_reads (Some (on_document verb dtd root doc)) root files (λ text is. is) (λ bytes is. (refl, is)) o k opens) told ends)) defined at
@@ -149,7 +149,7 @@ names_files (Some (drill n)) files course defined at none =
     behind_shelf (drill_stage n) (λ s. Responds (TellsCounts n s)) course (drill_stands n) (λ s rest told. told_by_shelf (TellsCounts n s) rest told) defined at
 
 -- what ends at a fault of the input reads a script, by verb
-verb_reads : (verb : Verb) (dtd root doc : List ℕ) (o : PlainOpened) (course : Course) (out : List ℕ) → Tells verb root o course → course.ending ≡ input_fault out → ReadsScript (Some (on_document verb dtd root doc))
+verb_reads : (verb : Verb) (dtd root doc : List ℕ) (o : PlainOpened) (course : Course) (out : List ℕ) → VerbTells verb root o course → course.ending ≡ input_fault out → ReadsScript (Some (on_document verb dtd root doc))
 verb_reads Valid dtd root doc o course out tells at = absurd (told_by_input (TellsValidity root o.dtd o.doc) course out tells at)
 verb_reads Check dtd root doc o course out tells at =
     absurd (behind_input (width_stage o.dtd o.doc) (λ _. Responds (TellsPossibility root o.dtd o.doc)) course out (λ u rest told. told_by_input (TellsPossibility root o.dtd o.doc) rest out told) tells at)
@@ -159,7 +159,7 @@ verb_reads Complete dtd root doc o course out tells at =
 verb_reads Why dtd root doc o course out tells at =
     absurd (behind_input (width_stage o.dtd o.doc) (λ _. Responds (TellsWhy root o.dtd o.doc)) course out (λ u rest told. told_by_input (TellsWhy root o.dtd o.doc) rest out told) tells at)
 
-document_reads : (verb : Verb) (dtd root doc : List ℕ) (files : Files) (course : Course) (out : List ℕ) → Behind (opening_stage root files) (Tells verb root) course → course.ending ≡ input_fault out →
+document_reads : (verb : Verb) (dtd root doc : List ℕ) (files : Files) (course : Course) (out : List ℕ) → Behind (opening_stage root files) (VerbTells verb root) course → course.ending ≡ input_fault out →
     ReadsScript (Some (on_document verb dtd root doc))
 document_reads verb dtd root doc files course out (opened o k rest opens tells is) at = verb_reads verb dtd root doc o rest out tells (sym (ap (λ (c : Course). c.ending) is) ∙ at)
 document_reads verb dtd root doc files course out (refused s k denies is) at = let here = ap (λ (c : Course). c.ending) is in cc
@@ -197,7 +197,7 @@ no_device line files taken before after BadPack cause = cause
 
 module _ {S : Type 0} (line : Option PlainCommandLine) (files : Files) (course : Course) (before after : Devices S) (status : Status) where
   cause_at : (ending : RunEnding) → course.ending ≡ ending → IsDefined line files course → CountsShelf ending before.shelf.faults after.shelf.faults → CountsInput ending before.input.faults after.input.faults →
-      Writes ending before.output.written after.output.written before.output.faults after.output.faults status → HasCause line files course.taken before after status
+      WritesEnding ending before.output.written after.output.written before.output.faults after.output.faults status → HasCause line files course.taken before after status
   cause_at ending at defined shelf input (cut_off out cuts is front rose) = subst (HasCause line files course.taken before after) (sym is) rose
   cause_at (responds r) at defined shelf input (wrote whole is written stays) =
       subst (HasCause line files course.taken before after) (sym is) (no_device line files course.taken before after r.status (responds_caused line files course r defined at))
@@ -211,7 +211,7 @@ comes_by_cause S line before after status run =
     cause_at line run.files run.course before after status run.course.ending refl run.is_defined run.shelf.faults run.streams.input run.streams.output
 
 one_rises : {S : Type 0} (before after : Devices S) (ending : RunEnding) (status : Status) → CountsShelf ending before.shelf.faults after.shelf.faults → CountsInput ending before.input.faults after.input.faults →
-    Writes ending before.output.written after.output.written before.output.faults after.output.faults status → OneRoseAtMost before after
+    WritesEnding ending before.output.written after.output.written before.output.faults after.output.faults status → OneRoseAtMost before after
 one_rises before after (responds r) status shelf input writes = record { shelf_or_input = inl shelf; shelf_or_output = inl shelf; input_or_output = inl input }
 one_rises before after shelf_fault status shelf input (wrote whole is written stays) = record { shelf_or_input = inr input; shelf_or_output = inr stays; input_or_output = inl input }
 one_rises before after shelf_fault status shelf input (cut_off out cuts is front rose) = absurd cuts

@@ -7,9 +7,9 @@ use Rattle.pv_cli.specs.declared.status.Status.TheVariants.{ReadFault, WriteFaul
 use Rattle.pv_cli.specs.CommandLine.{PlainCommandLine}
 use Rattle.pv_cli.specs.Course.{RunEnding, responds, shelf_fault, input_fault, output_fault, no_memory}
 use Rattle.pv_cli.specs.Headline.{HadNoMemory}
-use Rattle.pv_cli.specs.Laws.{IsComplete, Answered, FaultsShow}
+use Rattle.pv_cli.specs.Laws.{AnswersWithoutFault, Answered, FaultsShow}
 use Rattle.pv_cli.specs.Devices.{Devices}
-use Rattle.pv_cli.specs.Program.{CountsShelf, CountsInput, Writes, wrote, cut_off, Runs}
+use Rattle.pv_cli.specs.Program.{CountsShelf, CountsInput, WritesEnding, wrote, cut_off, Runs}
 use Rattle.pv_cli.specs.Response.{PlainResponse}
 
 -- the parts of `HadNoMemory` that speak of the output alone
@@ -21,7 +21,7 @@ abbrev pub EndsWell : RunEnding → Option (List ℕ) → Option (List ℕ) → 
 EndsWell ending old new status = (r : PlainResponse) × (ending ≡ responds r) × (status ≡ r.status) × Appends old new r.output
 
 ends_well : (ending : RunEnding) (shelf_old shelf_new input_old input_new old_count new_count : ℕ) (old new : Option (List ℕ)) (status : Status) →
-    CountsShelf ending shelf_old shelf_new → CountsInput ending input_old input_new → Writes ending old new old_count new_count status →
+    CountsShelf ending shelf_old shelf_new → CountsInput ending input_old input_new → WritesEnding ending old new old_count new_count status →
     (Rose shelf_old shelf_new → ⊥) → (Rose input_old input_new → ⊥) → (Rose old_count new_count → ⊥) → EndsUnwritten old new status ⊎ EndsWell ending old new status
 ends_well ending so sn io in_ oc nc old new status shelf input (cut_off out cuts fault front rose) no_shelf no_input no_output = absurd (no_output rose)
 ends_well (responds r) so sn io in_ oc nc old new status shelf input (wrote whole is written stays) no_shelf no_input no_output = inr (r, refl, is, written)
@@ -35,18 +35,18 @@ answered : {S : Type 0} (line : Option PlainCommandLine) (before after : Devices
 answered line before after status run (inl none) = inl (record { is_status = none.0; unwritten = none.1 })
 answered line before after status run (inr ends) = inr (record { response = ends.0; is_response = ends.1; is_status = ends.2; written = ends.3 })
 
-pub complete : (S : Type 0) → IsComplete S
+pub complete : (S : Type 0) → AnswersWithoutFault S
 complete S line before after status run no_shelf no_input no_output =
     answered line before after status run
     (ends_well run.course.ending _ _ _ _ _ _ _ _ status run.shelf.faults run.streams.input run.streams.output no_shelf no_input no_output)
 
 -- a count that rose shows in the status
-output_stays : (ending : RunEnding) (old new : Option (List ℕ)) (before after : ℕ) (status : Status) → Writes ending old new before after status →
+output_stays : (ending : RunEnding) (old new : Option (List ℕ)) (before after : ℕ) (status : Status) → WritesEnding ending old new before after status →
     (status ≡ WriteFault → ⊥) → CountStays before after
 output_stays ending old new before after status (wrote whole is written stays) not = stays
 output_stays ending old new before after status (cut_off out cuts fault front rose) not = absurd (not fault)
 
-shelf_stays : (ending : RunEnding) (old new : Option (List ℕ)) (first last before after : ℕ) (status : Status) → Writes ending old new first last status →
+shelf_stays : (ending : RunEnding) (old new : Option (List ℕ)) (first last before after : ℕ) (status : Status) → WritesEnding ending old new first last status →
     CountsShelf ending before after → (status ≡ ReadFault → ⊥) → CountStays before after
 shelf_stays (responds r) old new first last before after status writes counts not = counts
 shelf_stays shelf_fault old new first last before after status (wrote whole is written stays) counts not = absurd (not is)
@@ -55,7 +55,7 @@ shelf_stays (input_fault out) old new first last before after status writes coun
 shelf_stays (output_fault out) old new first last before after status writes counts not = counts
 shelf_stays no_memory old new first last before after status writes counts not = counts
 
-input_stays : (ending : RunEnding) (old new : Option (List ℕ)) (first last before after : ℕ) (status : Status) → Writes ending old new first last status →
+input_stays : (ending : RunEnding) (old new : Option (List ℕ)) (first last before after : ℕ) (status : Status) → WritesEnding ending old new first last status →
     CountsInput ending before after → (status ≡ ReadFault → ⊥) → CountStays before after
 input_stays (responds r) old new first last before after status writes counts not = counts
 input_stays shelf_fault old new first last before after status writes counts not = counts

@@ -11,7 +11,7 @@ use Rattle.pv_cli.specs.declared.status.Status.TheVariants.{NoMemory}
 use Rattle.pv_cli.specs.Conversation.{Talked}
 use Rattle.pv_cli.specs.Course.{RunEnding, no_memory, without_input}
 use Rattle.pv_cli.specs.Devices.{InputNow, OutputNow}
-use Rattle.pv_cli.specs.Program.{AskedAtMost, CountsInput, CountsShelf, MadeAtMost, Writes, wrote}
+use Rattle.pv_cli.specs.Program.{AskedAtMost, CountsInput, CountsShelf, MadeAtMost, WritesEnding, wrote}
 use Rattle.pv_cli.specs.Session.{EndsSession, ended_over, without_room}
 use Rattle.pv_cli.proofs.Replies.{appends_none}
 
@@ -30,7 +30,7 @@ no_room session input output checked = record {
 -- a session ended over the bytes that were taken
 pub has_course : {S : Type 0} (session : PlainSession) (script silent : List ℕ) (at_end : Bool) (ending : RunEnding) (input input_now : InputNow S) (old new : OutputNow) (checked checked_now : ℕ) (status : Status) →
     EndsSession session script silent at_end ending → Consumes input.left input_now.left script → AskedAtMost (length script + 1) 1 input.calls input_now.calls → (at_end ≡ true → IsAtEnd input_now.left) →
-    ((n : ℕ) → CountsShelf ending n n) → CountsInput ending input.faults input_now.faults → Writes ending old.written new.written old.faults new.faults status →
+    ((n : ℕ) → CountsShelf ending n n) → CountsInput ending input.faults input_now.faults → WritesEnding ending old.written new.written old.faults new.faults status →
     checked_now ≤ checked + 2 * length (lines_of script) → Talked session input input_now old new checked checked_now status
 has_course session script silent at_end ending input input_now old new checked checked_now status ends taken asked whole shelf_stays counts writes few = record {
   talk = record {
@@ -96,6 +96,6 @@ pub not_at_end : (left : Option (List ℕ)) → false ≡ true → IsAtEnd left
 not_at_end left is = absurd (false_is_no_true is)
 
 -- writing over a count that stayed
-pub writes_from : (ending : RunEnding) (old new : Option (List ℕ)) (first before after : ℕ) (status : Status) → CountStays first before → Writes ending old new before after status →
-    Writes ending old new first after status
-writes_from ending old new first before after status stays writes = subst (λ (n : ℕ). Writes ending old new n after status) stays writes
+pub writes_from : (ending : RunEnding) (old new : Option (List ℕ)) (first before after : ℕ) (status : Status) → CountStays first before → WritesEnding ending old new before after status →
+    WritesEnding ending old new first after status
+writes_from ending old new first before after status stays writes = subst (λ (n : ℕ). WritesEnding ending old new n after status) stays writes

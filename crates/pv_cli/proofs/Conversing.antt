@@ -9,7 +9,7 @@ use Rattle.pv_script.specs.Lines.{FEED, HasNoFeed, lines_of, raw_lines_of, with_
 use Rattle.pv_script.specs.Taking.{HeldLine, MAX_LINE_BYTES, nothing_held, begun_line, TakesAll, TakesLine, IsTooLong}
 use Rattle.pv_script.specs.declared.commands.Command.TheVariants.{Quit}
 use Rattle.pv_session.specs.Sessions.{PlainSession}
-use Rattle.pv_cli.specs.Conversation.{Conversed, EndedWith, IsLine, IsReplyText}
+use Rattle.pv_cli.specs.Conversation.{Conversed, EndedWith, IsScriptLine, IsReplyText}
 use Rattle.pv_cli.specs.Course.{RunEnding, input_fault, output_fault}
 use Rattle.pv_cli.specs.Script.{MAX_SCRIPT_BYTES, lines_within}
 use Rattle.pv_cli.specs.Session.{EndsSession, Place, Replies, finished, quitted, past_line, past_script, input_failed, output_failed, no_lines, at_line, at_quit, all_told, limited}
@@ -102,7 +102,7 @@ takes_all W first script current held new number piece so_far takes =
 -- the line that a piece ends
 record IsNextLine (script : List ℕ) (lines : List (List ℕ)) (held new : HeldLine) (front : List ℕ) : Type 0 where
   bytes : new.bytes ≡ held.bytes ++ front
-  is_line : IsLine (held.bytes ++ front)
+  is_line : IsScriptLine (held.bytes ++ front)
   read : IsReadAs (script ++ (front ++ FEED ∷ [])) (lines ++ (held.bytes ++ front) ∷ []) []
   answered : map without_returns (lines ++ (held.bytes ++ front) ∷ []) ≡ map without_returns lines ++ without_returns new.bytes ∷ []
 
@@ -114,7 +114,7 @@ next_line W first script current held new number piece eaten so_far takes =
     let front = takes.front in
     let line = held.bytes ++ front in
     let bytes : new.bytes ≡ line = ap (λ (h : HeldLine). h.bytes) takes.held ∙ ap (λ (h : List ℕ). h ++ front) begun in
-    let is_line : IsLine line = (Free-append 10 held.bytes front so_far.is_begun.0 takes.no_feed, rw begun at takes.within) in
+    let is_line : IsScriptLine line = (Free-append 10 held.bytes front so_far.is_begun.0 takes.no_feed, rw begun at takes.within) in
     record {
       bytes = bytes;
       is_line = is_line;

@@ -3,7 +3,7 @@ use Rattle.std.proofs.Common.{◌≡◌, ◌⊎◌, inl, inr, ◌∙◌, ◌≤�
 use Rattle.std.proofs.lemmas.Bool.{cases_lt}
 use Rattle.std.proofs.lemmas.List.{length-append, length-map, take-append-drop}
 use Rattle.pv_dtd.specs.Plain.{PlainDtd}
-use Rattle.pv_drill.specs.Drill.{drill_lines, drill_text, line_text, section_lines}
+use Rattle.pv_drill.specs.Drill.{drill_lines, drill_text, section_line, section_lines}
 use Rattle.pv_read.specs.Grammar.{IsDocumentText}
 use Rattle.pv_script.proofs.RawLines.{ended_raw_lines-line}
 use Rattle.pv_script.specs.Lines.{FEED, ended_lines, ended_raw_lines, lines_of, raw_lines_of, with_byte_in_first, with_first_byte, without_returns}
@@ -155,7 +155,7 @@ sections_within k (suc n) within = by (cases_lt n k) (λ less. sections_within k
 pub two_lines : (k : ℕ) → 2 ≤ length (section_lines k)
 two_lines k = by (k % 3 == 0)
   where
-    by : (third : Bool) → 2 ≤ length (if third then line_text k 0 ∷ line_text k 1 ∷ line_text k 2 ∷ [] else line_text k 0 ∷ line_text k 1 ∷ [])
+    by : (third : Bool) → 2 ≤ length (if third then section_line k 0 ∷ section_line k 1 ∷ section_line k 2 ∷ [] else section_line k 0 ∷ section_line k 1 ∷ [])
     by true = omega arith
     by false = omega arith
 

@@ -2,7 +2,7 @@
 use Rattle.std.proofs.Common.{◌≡◌, ℕ, zero, suc, ◌+◌, ◌%◌, List, [], ◌∷◌, ◌++◌, get_or, Result, Ok, Err, IfOk, ap, refl, sym, arith}
 use Rattle.pv_script.specs.Commands.{SpellsCommand}
 use Rattle.pv_script.specs.declared.commands.Command.TheVariants.{Quit}
-use Rattle.pv_drill.specs.Drill.{drill_lines, line_text, section_lines}
+use Rattle.pv_drill.specs.Drill.{drill_lines, section_line, section_lines}
 use Rattle.pv_session.specs.Sessions.{PlainSession}
 use Rattle.pv_cli.specs.declared.commands.drill.Counts.{Counts}
 use Rattle.pv_cli.specs.Drill.{CountsLine, CountsReplies, counts_with, no_counts}
@@ -12,7 +12,7 @@ first_byte : (xs ys : List ℕ) → xs ≡ ys → get_or xs 0 0 ≡ get_or ys 0 
 first_byte xs ys is = ap (λ (h : List ℕ). get_or h 0 0) is
 
 -- no line of a drill is `quit`
-pub goes_on : (k which : ℕ) → SpellsCommand (line_text k which) Quit → ⊥
+pub goes_on : (k which : ℕ) → SpellsCommand (section_line k which) Quit → ⊥
 goes_on k zero spells = let same : 119 ≡ 113 = first_byte _ _ spells.text in omega (arith, same)
 goes_on k (suc zero) spells = let same : 119 ≡ 113 = first_byte _ _ spells.text in omega (arith, same)
 goes_on k (suc (suc which)) spells = let same : 117 ≡ 113 = first_byte _ _ spells.text in omega (arith, same)
@@ -38,10 +38,10 @@ counts_section session middle after k counts now here there =
 
 -- the lines for a third section
 pub counts_third : {E : Type 0} (session one two three : PlainSession) (k : ℕ) (counts first second : Counts) (result : Result Counts E) → k % 3 ≡ 0 →
-    CountsLine session counts (line_text k 0) one first → CountsLine one first (line_text k 1) two second → IfOk result (CountsLine two second (line_text k 2) three) →
+    CountsLine session counts (section_line k 0) one first → CountsLine one first (section_line k 1) two second → IfOk result (CountsLine two second (section_line k 2) three) →
     IfOk result (CountsReplies session counts (section_lines k) three)
 counts_third session one two three k counts first second (Ok third) is a b c = rw is
-    (counts_on session counts (line_text k 0 ∷ line_text k 1 ∷ []) (line_text k 2 ∷ []) two three second third
-    (counts_on session counts (line_text k 0 ∷ []) (line_text k 1 ∷ []) one two first second (counts_one session counts (line_text k 0) one first a) (counts_one one first (line_text k 1) two second b))
-    (counts_one two second (line_text k 2) three third c))
+    (counts_on session counts (section_line k 0 ∷ section_line k 1 ∷ []) (section_line k 2 ∷ []) two three second third
+    (counts_on session counts (section_line k 0 ∷ []) (section_line k 1 ∷ []) one two first second (counts_one session counts (section_line k 0) one first a) (counts_one one first (section_line k 1) two second b))
+    (counts_one two second (section_line k 2) three third c))
 counts_third session one two three k counts first second (Err e) is a b c = tt

@@ -11,7 +11,7 @@ use Rattle.pv_io.specs.Files.{FetchTells, FetchGives, HoldsMore, file_named}
 use Rattle.pv_cli.specs.declared.opening.Fetched.{Fetched}
 use Rattle.pv_cli.specs.declared.status.Status.TheVariants.{Limit}
 use Rattle.pv_cli.specs.Devices.{ShelfNow}
-use Rattle.pv_cli.specs.Opening.{AreFiles, IsFile, IsGiven, IsFileTooLong, document_fetch_stage, dtd_file_stage, fetch_stage, fetching_stage, file_at}
+use Rattle.pv_cli.specs.Opening.{AreFiles, IsFile, IsFetched, IsFileTooLong, document_fetch_stage, dtd_file_stage, fetch_stage, fetching_stage, file_at}
 use Rattle.pv_cli.specs.Response.{PlainResponse, with_line, plain_response}
 use Rattle.pv_cli.specs.Returns.{RefusesWith, Returns, ReturnsOver, ShelfCounts, StopCounts, StopsBy, plain_fetched}
 use Rattle.pv_cli.specs.Stage.{Stage, beside, followed_by}
@@ -26,7 +26,7 @@ fetch_file None name most (Err TooLong) bound tells = (Some (replicate (most + 1
 fetch_file None name most (Err NoMemory) bound tells = (None, tt, tt)
 fetch_file (Some files) name most result bound tells = (file_named name files, refl, tells)
 
-pub file_given : (file : Option (List ℕ)) (most : ℕ) (v : Vec ℕ Global) → FetchGives file most (Ok v) → IsGiven file most v.items
+pub file_given : (file : Option (List ℕ)) (most : ℕ) (v : Vec ℕ Global) → FetchGives file most (Ok v) → IsFetched file most v.items
 file_given None most v gives = absurd gives
 file_given (Some bytes) most v gives = record { is_file = ap Some (sym gives.0); within = omega (arith, ap length gives.0, gives.1) }
 

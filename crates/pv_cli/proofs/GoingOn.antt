@@ -8,7 +8,7 @@ use Rattle.std.specs.List.{list_any}
 use Rattle.pv_script.proofs.RawLines.{BeginsRawLines, cut_of, ended_raw_lines-front, ended_raw_lines-lines, raw_lines_of-front, raw_lines_of-lines, raw_lines_of-part}
 use Rattle.pv_script.specs.Lines.{ended_raw_lines, lines_of, raw_lines_of, without_returns, HasNoFeed, with_feeds}
 use Rattle.pv_cli.specs.Laws.{MoreChangesNothing}
-use Rattle.pv_cli.specs.Script.{MAX_SCRIPT_BYTES, IsWithin, before_too_long, has_long_line, is_too_long, lines_within}
+use Rattle.pv_cli.specs.Script.{MAX_SCRIPT_BYTES, IsWithin, before_too_long, has_long_line, is_line_too_long, lines_within}
 use Rattle.pv_cli.specs.Session.{finished, quitted, past_line, past_script, input_failed, output_failed}
 use Rattle.pv_cli.proofs.Limits.{cut_stays, goes_on, goes_on_long}
 use Rattle.pv_cli.proofs.Replies.{ends_at_quit}
@@ -26,9 +26,9 @@ pieces_on bytes more = let cut = cut_of bytes in
 
 -- what is answered of bytes is answered first of bytes that go on
 before_on : (ps qs : List (List ℕ)) → (more : List (List ℕ)) × (before_too_long (ps ++ qs) ≡ before_too_long ps ++ more)
-before_on ps qs = by (list_any is_too_long ps) refl
+before_on ps qs = by (list_any is_line_too_long ps) refl
   where
-    by : (b : Bool) → list_any is_too_long ps ≡ b → (more : List (List ℕ)) × (before_too_long (ps ++ qs) ≡ before_too_long ps ++ more)
+    by : (b : Bool) → list_any is_line_too_long ps ≡ b → (more : List (List ℕ)) × (before_too_long (ps ++ qs) ≡ before_too_long ps ++ more)
     by true is = ([], cut_stays ps qs is ∙ sym (append-nil (before_too_long ps)))
     by false is =
         let all : before_too_long ps ≡ ps = ap before_too_long (sym (append-nil ps)) ∙ goes_on ps [] is ∙ append-nil ps in
@@ -37,7 +37,7 @@ before_on ps qs = by (list_any is_too_long ps) refl
 -- Where a piece is too long, nothing more is answered.
 record StaysLong (bytes : List ℕ) : Type 0 where
   pub same : (more : List ℕ) → before_too_long (ended_raw_lines (bytes ++ more)) ≡ before_too_long (ended_raw_lines bytes)
-  pub long : (more : List ℕ) → list_any is_too_long (raw_lines_of (bytes ++ more)) ≡ true
+  pub long : (more : List ℕ) → list_any is_line_too_long (raw_lines_of (bytes ++ more)) ≡ true
 
 or_true : (b : Bool) → (b || true) ≡ true
 or_true true = refl
@@ -48,53 +48,53 @@ or_none : (c : Bool) → (c || false) ≡ c
 or_none true = refl
 or_none false = refl
 
-cut_at_first : (p : List ℕ) (ps : List (List ℕ)) → is_too_long p ≡ true → before_too_long (p ∷ ps) ≡ []
+cut_at_first : (p : List ℕ) (ps : List (List ℕ)) → is_line_too_long p ≡ true → before_too_long (p ∷ ps) ≡ []
 cut_at_first p ps is = rw is refl
 
-ended_long : (part more : List ℕ) → is_too_long part ≡ true → (ended_raw_lines (part ++ more) ≡ []) ⊎ BeginsRawLines part (ended_raw_lines (part ++ more)) → before_too_long (ended_raw_lines (part ++ more)) ≡ []
+ended_long : (part more : List ℕ) → is_line_too_long part ≡ true → (ended_raw_lines (part ++ more) ≡ []) ⊎ BeginsRawLines part (ended_raw_lines (part ++ more)) → before_too_long (ended_raw_lines (part ++ more)) ≡ []
 ended_long part more is (inl none) = ap before_too_long none
 ended_long part more is (inr begins) = ap before_too_long begins.are ∙ cut_at_first (part ++ begins.behind) begins.others (goes_on_long part begins.behind is)
 
-pieces_long : (part more : List ℕ) → is_too_long part ≡ true → BeginsRawLines part (raw_lines_of (part ++ more)) → list_any is_too_long (raw_lines_of (part ++ more)) ≡ true
+pieces_long : (part more : List ℕ) → is_line_too_long part ≡ true → BeginsRawLines part (raw_lines_of (part ++ more)) → list_any is_line_too_long (raw_lines_of (part ++ more)) ≡ true
 pieces_long part more is begins =
-    ap (list_any is_too_long) begins.are ∙ ap (λ c. c || list_any is_too_long begins.others) (goes_on_long part begins.behind is)
+    ap (list_any is_line_too_long) begins.are ∙ ap (λ c. c || list_any is_line_too_long begins.others) (goes_on_long part begins.behind is)
 
-long_part : (part : List ℕ) → HasNoFeed part → list_any is_too_long (raw_lines_of part) ≡ true → (more : List ℕ) →
-    (before_too_long (ended_raw_lines (part ++ more)) ≡ []) × (list_any is_too_long (raw_lines_of (part ++ more)) ≡ true)
+long_part : (part : List ℕ) → HasNoFeed part → list_any is_line_too_long (raw_lines_of part) ≡ true → (more : List ℕ) →
+    (before_too_long (ended_raw_lines (part ++ more)) ≡ []) × (list_any is_line_too_long (raw_lines_of (part ++ more)) ≡ true)
 long_part [] free any more = cc
 long_part (b ∷ bs) free any more =
-    let is : is_too_long (b ∷ bs) ≡ true = sym (or_none (is_too_long (b ∷ bs))) ∙ ap (list_any is_too_long) (sym (raw_lines_of-part b bs free)) ∙ any in
+    let is : is_line_too_long (b ∷ bs) ≡ true = sym (or_none (is_line_too_long (b ∷ bs))) ∙ ap (list_any is_line_too_long) (sym (raw_lines_of-part b bs free)) ∙ any in
     (ended_long (b ∷ bs) more is (ended_raw_lines-front (b ∷ bs) more free), pieces_long (b ∷ bs) more is (raw_lines_of-front b bs more free))
 
-any_in_parts : (bytes : List ℕ) → (list_any is_too_long (ended_raw_lines bytes) || list_any is_too_long (raw_lines_of (cut_of bytes).part)) ≡ list_any is_too_long (raw_lines_of bytes)
+any_in_parts : (bytes : List ℕ) → (list_any is_line_too_long (ended_raw_lines bytes) || list_any is_line_too_long (raw_lines_of (cut_of bytes).part)) ≡ list_any is_line_too_long (raw_lines_of bytes)
 any_in_parts bytes =
-    sym (list_any-append is_too_long (ended_raw_lines bytes) (raw_lines_of (cut_of bytes).part))
-    ∙ ap (list_any is_too_long) (ap (λ (h : List ℕ). ended_raw_lines bytes ++ raw_lines_of h) (sym (append-nil (cut_of bytes).part)) ∙ sym (pieces_on bytes []) ∙ ap raw_lines_of (append-nil bytes))
+    sym (list_any-append is_line_too_long (ended_raw_lines bytes) (raw_lines_of (cut_of bytes).part))
+    ∙ ap (list_any is_line_too_long) (ap (λ (h : List ℕ). ended_raw_lines bytes ++ raw_lines_of h) (sym (append-nil (cut_of bytes).part)) ∙ sym (pieces_on bytes []) ∙ ap raw_lines_of (append-nil bytes))
 
-none_cut : (ps : List (List ℕ)) → list_any is_too_long ps ≡ false → before_too_long ps ≡ ps
+none_cut : (ps : List (List ℕ)) → list_any is_line_too_long ps ≡ false → before_too_long ps ≡ ps
 none_cut ps none = ap before_too_long (sym (append-nil ps)) ∙ goes_on ps [] none ∙ append-nil ps
 
-stays_by : (bytes : List ℕ) (b : Bool) → list_any is_too_long (ended_raw_lines bytes) ≡ b → list_any is_too_long (raw_lines_of bytes) ≡ true → StaysLong bytes
+stays_by : (bytes : List ℕ) (b : Bool) → list_any is_line_too_long (ended_raw_lines bytes) ≡ b → list_any is_line_too_long (raw_lines_of bytes) ≡ true → StaysLong bytes
 stays_by bytes true is any =
     let part = (cut_of bytes).part in
     record {
       same = λ more. ap before_too_long (ended_on bytes more) ∙ cut_stays (ended_raw_lines bytes) (ended_raw_lines (part ++ more)) is;
-      long = λ more. ap (list_any is_too_long) (pieces_on bytes more) ∙ list_any-append is_too_long (ended_raw_lines bytes) (raw_lines_of (part ++ more))
-          ∙ ap (λ c. c || list_any is_too_long (raw_lines_of (part ++ more))) is;
+      long = λ more. ap (list_any is_line_too_long) (pieces_on bytes more) ∙ list_any-append is_line_too_long (ended_raw_lines bytes) (raw_lines_of (part ++ more))
+          ∙ ap (λ c. c || list_any is_line_too_long (raw_lines_of (part ++ more))) is;
     }
 stays_by bytes false is any =
     let cut = cut_of bytes in
-    let in_part : list_any is_too_long (raw_lines_of cut.part) ≡ true = sym (ap (λ c. c || list_any is_too_long (raw_lines_of cut.part)) is) ∙ any_in_parts bytes ∙ any in
+    let in_part : list_any is_line_too_long (raw_lines_of cut.part) ≡ true = sym (ap (λ c. c || list_any is_line_too_long (raw_lines_of cut.part)) is) ∙ any_in_parts bytes ∙ any in
     let part = long_part cut.part cut.part_free in_part in
     record {
       same = λ more. ap before_too_long (ended_on bytes more) ∙ goes_on (ended_raw_lines bytes) (ended_raw_lines (cut.part ++ more)) is
           ∙ ap (λ (l : List (List ℕ)). ended_raw_lines bytes ++ l) (part more).0 ∙ append-nil (ended_raw_lines bytes) ∙ sym (none_cut (ended_raw_lines bytes) is);
-      long = λ more. ap (list_any is_too_long) (pieces_on bytes more) ∙ list_any-append is_too_long (ended_raw_lines bytes) (raw_lines_of (cut.part ++ more))
-          ∙ ap (λ c. list_any is_too_long (ended_raw_lines bytes) || c) (part more).1 ∙ or_true (list_any is_too_long (ended_raw_lines bytes));
+      long = λ more. ap (list_any is_line_too_long) (pieces_on bytes more) ∙ list_any-append is_line_too_long (ended_raw_lines bytes) (raw_lines_of (cut.part ++ more))
+          ∙ ap (λ c. list_any is_line_too_long (ended_raw_lines bytes) || c) (part more).1 ∙ or_true (list_any is_line_too_long (ended_raw_lines bytes));
     }
 
-stays_long : (bytes : List ℕ) → list_any is_too_long (raw_lines_of bytes) ≡ true → StaysLong bytes
-stays_long bytes any = stays_by bytes (list_any is_too_long (ended_raw_lines bytes)) refl any
+stays_long : (bytes : List ℕ) → list_any is_line_too_long (raw_lines_of bytes) ≡ true → StaysLong bytes
+stays_long bytes any = stays_by bytes (list_any is_line_too_long (ended_raw_lines bytes)) refl any
 
 -- a front of bytes that go on
 take_on : (n : ℕ) (bytes more : List ℕ) → length bytes ≤ n → take n (bytes ++ more) ≡ bytes ++ take (n - length bytes) more
@@ -127,7 +127,7 @@ pub record KeepsLimit (script more : List ℕ) : Type 0 where
 pub past_on : (script more : List ℕ) → MAX_SCRIPT_BYTES < length script → KeepsLimit script more
 past_on script more beyond = record {
   lines = ap (λ (h : List ℕ). map without_returns (before_too_long (ended_raw_lines h))) (take-append-le MAX_SCRIPT_BYTES script more (omega (arith, beyond)));
-  long = ap (λ (h : List ℕ). list_any is_too_long (raw_lines_of h)) (take-append-le (suc MAX_SCRIPT_BYTES) script more (omega (arith, beyond)));
+  long = ap (λ (h : List ℕ). list_any is_line_too_long (raw_lines_of h)) (take-append-le (suc MAX_SCRIPT_BYTES) script more (omega (arith, beyond)));
 }
 
 -- and so does the first byte of a line that is too long
@@ -137,14 +137,14 @@ long_on script more is = by (cases_lt (length script) (suc MAX_SCRIPT_BYTES))
     by : (length script < suc MAX_SCRIPT_BYTES) ⊎ (suc MAX_SCRIPT_BYTES ≤ length script) → KeepsLimit script more
     by (inr beyond) = past_on script more (omega (arith, beyond))
     by (inl less) =
-        let any : list_any is_too_long (raw_lines_of script) ≡ true =
-        ap (λ (h : List ℕ). list_any is_too_long (raw_lines_of h)) (sym (take_all (suc MAX_SCRIPT_BYTES) script (omega (arith, less)))) ∙ is in
+        let any : list_any is_line_too_long (raw_lines_of script) ≡ true =
+        ap (λ (h : List ℕ). list_any is_line_too_long (raw_lines_of h)) (sym (take_all (suc MAX_SCRIPT_BYTES) script (omega (arith, less)))) ∙ is in
         let stays = stays_long script any in
         record {
           lines = ap (λ (h : List ℕ). map without_returns (before_too_long (ended_raw_lines h))) (take_on MAX_SCRIPT_BYTES script more (omega (arith, less)))
               ∙ ap (map without_returns) (stays.same (take (MAX_SCRIPT_BYTES - length script) more))
               ∙ ap (λ (h : List ℕ). map without_returns (before_too_long (ended_raw_lines h))) (sym (take_all MAX_SCRIPT_BYTES script (omega (arith, less))));
-          long = ap (λ (h : List ℕ). list_any is_too_long (raw_lines_of h)) (take_on (suc MAX_SCRIPT_BYTES) script more (omega (arith, less)))
+          long = ap (λ (h : List ℕ). list_any is_line_too_long (raw_lines_of h)) (take_on (suc MAX_SCRIPT_BYTES) script more (omega (arith, less)))
               ∙ stays.long (take (suc MAX_SCRIPT_BYTES - length script) more) ∙ sym is;
         }
 
@@ -156,9 +156,9 @@ first_false false c is = refl
 pub lines_and_last : (script : List ℕ) → IsWithin script → lines_of script ≡ lines_within script ++ lines_of (cut_of script).part
 lines_and_last script within =
     let part = (cut_of script).part in
-    let none : (list_any is_too_long (ended_raw_lines script) || list_any is_too_long (raw_lines_of part)) ≡ false =
+    let none : (list_any is_line_too_long (ended_raw_lines script) || list_any is_line_too_long (raw_lines_of part)) ≡ false =
     any_in_parts script
-    ∙ ap (λ (h : List ℕ). list_any is_too_long (raw_lines_of h)) (sym (take_all (suc MAX_SCRIPT_BYTES) script (omega (arith, within.whole)))) ∙ within.lines in
+    ∙ ap (λ (h : List ℕ). list_any is_line_too_long (raw_lines_of h)) (sym (take_all (suc MAX_SCRIPT_BYTES) script (omega (arith, within.whole)))) ∙ within.lines in
     let here : lines_within script ≡ map without_returns (ended_raw_lines script) =
     ap (λ (h : List ℕ). map without_returns (before_too_long (ended_raw_lines h))) (take_all MAX_SCRIPT_BYTES script within.whole)
     ∙ ap (map without_returns) (none_cut (ended_raw_lines script) (first_false _ _ none)) in

@@ -10,14 +10,14 @@ use Rattle.pv_session.specs.Sessions.{PlainSession, session_on}
 use Rattle.pv_tree.specs.Marks.{unmarked_doc}
 use Rattle.pv_tree.specs.Plain.{PlainDoc}
 use Rattle.pv_tree.specs.declared.nodes.Mark.{Mark}
+use Rattle.pv_complete.specs.Needing.{AreListsForVerdicts}
 use Rattle.pv_cli.specs.CommandLine.{PlainCommandLine, on_document}
 use Rattle.pv_cli.specs.Course.{Course, RunEnding, input_fault, responds}
 use Rattle.pv_cli.specs.Devices.{Devices}
 use Rattle.pv_cli.specs.Documents.{PlainOpened}
 use Rattle.pv_cli.specs.Headline.{AnswersScript, HadNoMemory, HoldsDocument, HoldsDtd}
-use Rattle.pv_cli.specs.Laws.{Answered, IsComplete, SessionsAreGuarded}
+use Rattle.pv_cli.specs.Laws.{Answered, AnswersWithoutFault, SessionsAreGuarded}
 use Rattle.pv_cli.specs.Opening.{AreFiles, Files, file_at, opening_stage}
-use Rattle.pv_cli.specs.Possibility.{AreNarrow}
 use Rattle.pv_cli.specs.Program.{ReadsAll, Runs, TakesInput}
 use Rattle.pv_cli.specs.Response.{PlainResponse}
 use Rattle.pv_cli.specs.Script.{IsWithin}
@@ -95,7 +95,7 @@ opens means told dtd root name files g doc are d e =
     )
 
 -- behind the opened files
-behind_files : ReadsOne → (root : List ℕ) (x y : PlainOpened) (course : Course) (r : PlainResponse) → AreSameOpened x y → AreNarrow y.dtd y.doc → course.ending ≡ responds r →
+behind_files : ReadsOne → (root : List ℕ) (x y : PlainOpened) (course : Course) (r : PlainResponse) → AreSameOpened x y → AreListsForVerdicts y.dtd y.doc → course.ending ≡ responds r →
     IsSessionCourse root x course → GoesWith (guarding_stage root x.dtd x.doc) (λ s rest. Converses s rest × (s ≡ session_on y.dtd root (unmarked_doc y.doc))) course
 behind_files one root x y course r same narrow at goes =
     by (went_on (guarding_stage root x.dtd x.doc) Converses course r goes at)
@@ -117,7 +117,7 @@ behind_files one root x y course r same narrow at goes =
 
 module _ (S : Type 0) (dtds : ReadsOneDtd) (means : MeansDtd) (one : ReadsOne) (told : List (List ℕ × List ℕ)) (dtd root name script : List ℕ) (g : PlainDtd) (doc : PlainDoc Mark) (before after : Devices S) (status : Status)
     (run : Runs (Some (on_document Session dtd root name)) before after status) (is_told : before.shelf.files ≡ Some told) (is_left : before.input.left ≡ Some script) (d : HoldsDtd told dtd g) (e : HoldsDocument told name root doc)
-    (narrow : AreNarrow g doc) (within : IsWithin script) where
+    (narrow : AreListsForVerdicts g doc) (within : IsWithin script) where
   abbrev held : PlainOpened
   held = record { dtd = g; bytes = e.bytes; doc = doc }
 
@@ -155,7 +155,7 @@ module _ (S : Type 0) (dtds : ReadsOneDtd) (means : MeansDtd) (one : ReadsOne) (
   guarded (inl none) = inl none
   guarded (inr told_by) = inr (answered told_by (went_on (opening_stage root run.files) (IsSessionCourse root) run.course told_by.response run.is_defined told_by.is_response))
 
-pub guards_session : (S : Type 0) → ReadsOneDtd → MeansDtd → ReadsOne → IsComplete S → SessionsAreGuarded S
+pub guards_session : (S : Type 0) → ReadsOneDtd → MeansDtd → ReadsOne → AnswersWithoutFault S → SessionsAreGuarded S
 guards_session S dtds means one complete line before after status run told dtd root name script g doc is is_told is_left quiet d e narrow within =
     let this = subst (λ (l : Option PlainCommandLine). Runs l before after status) is run in
     guarded S dtds means one told dtd root name script g doc before after status this is_told is_left d e narrow within

@@ -41,6 +41,7 @@ pub mod OneResponse
 pub mod OneSession
 pub mod OneVerdict
 pub mod OneVerification
+pub mod OpenedSessions
 pub mod PackLines
 pub mod Packing
 pub mod Piecewise

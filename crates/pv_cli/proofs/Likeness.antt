@@ -2,14 +2,14 @@
 use Rattle.std.proofs.Common.{◌≡◌, ◌++◌, ◌∙◌, List, ap, append_assoc, refl, sym, ℕ}
 use Rattle.pv_script.specs.Replies.{reply_bytes}
 use Rattle.pv_script.specs.declared.replies.Reply.{Reply}
-use Rattle.pv_cli.specs.Alike.{AreAlike, OutputsAlike, ResponsesAlike, are_completions, are_one, begins_alike, ends_alike}
+use Rattle.pv_cli.specs.Alike.{RepliesAlike, OutputsAlike, ResponsesAlike, are_completions, are_one, begins_alike, ends_alike}
 use Rattle.pv_cli.specs.Course.{RunEnding, responds}
 use Rattle.pv_cli.specs.Response.{PlainResponse}
 use Rattle.pv_cli.specs.Session.{done_of}
 use Rattle.pv_cli.specs.declared.status.Status.{Status}
 
 -- replies that are alike tell the same of what was done
-pub done_alike : (told also : Reply) → AreAlike told also → done_of told ≡ done_of also
+pub done_alike : (told also : Reply) → RepliesAlike told also → done_of told ≡ done_of also
 done_alike told also (are_one e) = ap done_of e
 done_alike told also (are_completions k body other e f) = ap done_of e ∙ sym (ap done_of f)
 

@@ -9,62 +9,62 @@ use Rattle.pv_script.proofs.Words.{Free-append}
 use Rattle.pv_script.specs.Lines.{FEED, ended_raw_lines, lines_of, raw_lines_of, without_returns, HasNoFeed, with_feeds}
 use Rattle.pv_script.specs.Words.{with_feed}
 use Rattle.pv_script.specs.Taking.{MAX_LINE_BYTES}
-use Rattle.pv_cli.specs.Conversation.{IsLine}
-use Rattle.pv_cli.specs.Script.{MAX_SCRIPT_BYTES, IsWithin, before_too_long, has_long_line, is_too_long, lines_within}
+use Rattle.pv_cli.specs.Conversation.{IsScriptLine}
+use Rattle.pv_cli.specs.Script.{MAX_SCRIPT_BYTES, IsWithin, before_too_long, has_long_line, is_line_too_long, lines_within}
 
-short : (line : List ℕ) → length line ≤ MAX_LINE_BYTES → is_too_long line ≡ false
+short : (line : List ℕ) → length line ≤ MAX_LINE_BYTES → is_line_too_long line ≡ false
 short line within = grind (arith, within)
 
-long : (line : List ℕ) → MAX_LINE_BYTES < length line → is_too_long line ≡ true
+long : (line : List ℕ) → MAX_LINE_BYTES < length line → is_line_too_long line ≡ true
 long line beyond = grind (arith, beyond)
 
-beyond_of : (line : List ℕ) → is_too_long line ≡ true → MAX_LINE_BYTES < length line
+beyond_of : (line : List ℕ) → is_line_too_long line ≡ true → MAX_LINE_BYTES < length line
 beyond_of line is = grind (arith, is)
 
 -- what goes on from a line that is too long is too long
-pub goes_on_long : (line more : List ℕ) → is_too_long line ≡ true → is_too_long (line ++ more) ≡ true
+pub goes_on_long : (line more : List ℕ) → is_line_too_long line ≡ true → is_line_too_long (line ++ more) ≡ true
 goes_on_long line more is = long (line ++ more) (omega (arith, beyond_of line is, length-append line more))
 
 -- what is cut off at a piece that is too long stays cut off
-cut_first : (p : List ℕ) (ps qs : List (List ℕ)) (b : Bool) → is_too_long p ≡ b → list_any is_too_long (p ∷ ps) ≡ true →
-    (list_any is_too_long ps ≡ true → before_too_long (ps ++ qs) ≡ before_too_long ps) → before_too_long ((p ∷ ps) ++ qs) ≡ before_too_long (p ∷ ps)
+cut_first : (p : List ℕ) (ps qs : List (List ℕ)) (b : Bool) → is_line_too_long p ≡ b → list_any is_line_too_long (p ∷ ps) ≡ true →
+    (list_any is_line_too_long ps ≡ true → before_too_long (ps ++ qs) ≡ before_too_long ps) → before_too_long ((p ∷ ps) ++ qs) ≡ before_too_long (p ∷ ps)
 cut_first p ps qs true is any below = rw is refl
 cut_first p ps qs false is any below = rw is (ap (λ (l : List (List ℕ)). p ∷ l) (below (rw is at any)))
 
-pub cut_stays : (ps qs : List (List ℕ)) → list_any is_too_long ps ≡ true → before_too_long (ps ++ qs) ≡ before_too_long ps
+pub cut_stays : (ps qs : List (List ℕ)) → list_any is_line_too_long ps ≡ true → before_too_long (ps ++ qs) ≡ before_too_long ps
 cut_stays [] qs any = cc
-cut_stays (p ∷ ps) qs any = cut_first p ps qs (is_too_long p) refl any (cut_stays ps qs)
+cut_stays (p ∷ ps) qs any = cut_first p ps qs (is_line_too_long p) refl any (cut_stays ps qs)
 
 -- and what is not cut off goes on
 true_is_no_false : true ≡ false → ⊥
 true_is_no_false is = cc
 
-go_first : (p : List ℕ) (ps qs : List (List ℕ)) (b : Bool) → is_too_long p ≡ b → list_any is_too_long (p ∷ ps) ≡ false →
-    (list_any is_too_long ps ≡ false → before_too_long (ps ++ qs) ≡ ps ++ before_too_long qs) → before_too_long ((p ∷ ps) ++ qs) ≡ (p ∷ ps) ++ before_too_long qs
+go_first : (p : List ℕ) (ps qs : List (List ℕ)) (b : Bool) → is_line_too_long p ≡ b → list_any is_line_too_long (p ∷ ps) ≡ false →
+    (list_any is_line_too_long ps ≡ false → before_too_long (ps ++ qs) ≡ ps ++ before_too_long qs) → before_too_long ((p ∷ ps) ++ qs) ≡ (p ∷ ps) ++ before_too_long qs
 go_first p ps qs true is none below = absurd (true_is_no_false (rw is at none))
 go_first p ps qs false is none below = rw is (ap (λ (l : List (List ℕ)). p ∷ l) (below (rw is at none)))
 
-pub goes_on : (ps qs : List (List ℕ)) → list_any is_too_long ps ≡ false → before_too_long (ps ++ qs) ≡ ps ++ before_too_long qs
+pub goes_on : (ps qs : List (List ℕ)) → list_any is_line_too_long ps ≡ false → before_too_long (ps ++ qs) ≡ ps ++ before_too_long qs
 goes_on [] qs none = refl
-goes_on (p ∷ ps) qs none = go_first p ps qs (is_too_long p) refl none (goes_on ps qs)
+goes_on (p ∷ ps) qs none = go_first p ps qs (is_line_too_long p) refl none (goes_on ps qs)
 
 -- lines are free of LF, and none of them is too long
-lines_free : (lines : List (List ℕ)) → AllByRecursion IsLine lines → AllByRecursion HasNoFeed lines
+lines_free : (lines : List (List ℕ)) → AllByRecursion IsScriptLine lines → AllByRecursion HasNoFeed lines
 lines_free [] are = tt
 lines_free (l ∷ ls) are = (are.0.0, lines_free ls are.1)
 
-none_long : (lines : List (List ℕ)) → AllByRecursion IsLine lines → list_any is_too_long lines ≡ false
+none_long : (lines : List (List ℕ)) → AllByRecursion IsScriptLine lines → list_any is_line_too_long lines ≡ false
 none_long [] are = refl
 none_long (l ∷ ls) are = rw (short l are.0.1) (none_long ls are.1)
 
-all_within : (lines : List (List ℕ)) → AllByRecursion IsLine lines → before_too_long lines ≡ lines
+all_within : (lines : List (List ℕ)) → AllByRecursion IsScriptLine lines → before_too_long lines ≡ lines
 all_within lines are =
     ap before_too_long (sym (append-nil lines)) ∙ goes_on lines [] (none_long lines are) ∙ append-nil lines
 
 -- the pieces of a part of a line
-part_any : (part : List ℕ) → HasNoFeed part → list_any is_too_long (raw_lines_of part) ≡ is_too_long part
+part_any : (part : List ℕ) → HasNoFeed part → list_any is_line_too_long (raw_lines_of part) ≡ is_line_too_long part
 part_any [] free = refl
-part_any (b ∷ bs) free = ap (list_any is_too_long) (raw_lines_of-part b bs free) ∙ or_none (is_too_long (b ∷ bs))
+part_any (b ∷ bs) free = ap (list_any is_line_too_long) (raw_lines_of-part b bs free) ∙ or_none (is_line_too_long (b ∷ bs))
   where
     or_none : (c : Bool) → (c || false) ≡ c
     or_none true = refl
@@ -73,7 +73,7 @@ part_any (b ∷ bs) free = ap (list_any is_too_long) (raw_lines_of-part b bs fre
 -- whole lines, and a part of one behind them
 pub record IsReadAs (script : List ℕ) (lines : List (List ℕ)) (part : List ℕ) : Type 0 where
   pub is_cut : script ≡ with_feeds lines ++ part
-  pub are_lines : AllByRecursion IsLine lines
+  pub are_lines : AllByRecursion IsScriptLine lines
   pub is_part : HasNoFeed part
 
 pub read_ended : (script : List ℕ) (lines : List (List ℕ)) (part : List ℕ) → IsReadAs script lines part → ended_raw_lines script ≡ lines
@@ -81,12 +81,12 @@ read_ended script lines part read =
     ap ended_raw_lines read.is_cut ∙ ended_raw_lines-lines lines part (lines_free lines read.are_lines)
     ∙ ap (λ (ps : List (List ℕ)). lines ++ ps) (ended_raw_lines-part part read.is_part) ∙ append-nil lines
 
-read_any : (script : List ℕ) (lines : List (List ℕ)) (part : List ℕ) → IsReadAs script lines part → list_any is_too_long (raw_lines_of script) ≡ is_too_long part
+read_any : (script : List ℕ) (lines : List (List ℕ)) (part : List ℕ) → IsReadAs script lines part → list_any is_line_too_long (raw_lines_of script) ≡ is_line_too_long part
 read_any script lines part read =
-    ap (λ (h : List ℕ). list_any is_too_long (raw_lines_of h)) read.is_cut
-    ∙ ap (list_any is_too_long) (raw_lines_of-lines lines part (lines_free lines read.are_lines))
-    ∙ list_any-append is_too_long lines (raw_lines_of part)
-    ∙ ap (λ b. b || list_any is_too_long (raw_lines_of part)) (none_long lines read.are_lines)
+    ap (λ (h : List ℕ). list_any is_line_too_long (raw_lines_of h)) read.is_cut
+    ∙ ap (list_any is_line_too_long) (raw_lines_of-lines lines part (lines_free lines read.are_lines))
+    ∙ list_any-append is_line_too_long lines (raw_lines_of part)
+    ∙ ap (λ b. b || list_any is_line_too_long (raw_lines_of part)) (none_long lines read.are_lines)
     ∙ part_any part read.is_part
 
 -- within the limit on the script, those lines are answered, and only the part can be too long
@@ -98,9 +98,9 @@ read_lines script lines part read within =
     ∙ ap (map without_returns) (all_within lines read.are_lines)
 
 pub read_long : (script : List ℕ) (lines : List (List ℕ)) (part : List ℕ) → IsReadAs script lines part → length script ≤ suc MAX_SCRIPT_BYTES →
-    has_long_line script ≡ is_too_long part
+    has_long_line script ≡ is_line_too_long part
 read_long script lines part read within =
-    ap (λ (h : List ℕ). list_any is_too_long (raw_lines_of h)) (take_all (suc MAX_SCRIPT_BYTES) script within) ∙ read_any script lines part read
+    ap (λ (h : List ℕ). list_any is_line_too_long (raw_lines_of h)) (take_all (suc MAX_SCRIPT_BYTES) script within) ∙ read_any script lines part read
 
 pub read_within : (script : List ℕ) (lines : List (List ℕ)) (part : List ℕ) → IsReadAs script lines part → length part ≤ MAX_LINE_BYTES → length script ≤ MAX_SCRIPT_BYTES →
     IsWithin script
@@ -118,7 +118,7 @@ pub feeds_more : (lines : List (List ℕ)) (line : List ℕ) → with_feeds line
 feeds_more [] line = sym (append-nil (with_feed line))
 feeds_more (l ∷ ls) line = append_assoc (with_feed l) (with_feeds ls) (line ++ FEED ∷ []) ∙ ap (λ (h : List ℕ). with_feed l ++ h) (feeds_more ls line)
 
-pub lines_more_are : (lines : List (List ℕ)) (line : List ℕ) → AllByRecursion IsLine lines → IsLine line → AllByRecursion IsLine (lines ++ line ∷ [])
+pub lines_more_are : (lines : List (List ℕ)) (line : List ℕ) → AllByRecursion IsScriptLine lines → IsScriptLine line → AllByRecursion IsScriptLine (lines ++ line ∷ [])
 lines_more_are [] line are is = (is, tt)
 lines_more_are (l ∷ ls) line are is = (are.0, lines_more_are ls line are.1 is)
 

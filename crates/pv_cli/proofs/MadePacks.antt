@@ -35,9 +35,9 @@ use Rattle.pv_complete.proofs.FewMarks.{few_marks}
 use Rattle.pv_script.specs.Edits.{AreNumbers}
 use Rattle.pv_cert.specs.declared.packs.Pack.{Pack}
 use Rattle.pv_verify.specs.Laws.{MadeIsAccepted}
-use Rattle.pv_verify.specs.Tests.{IsAccepted}
+use Rattle.pv_verify.specs.Tests.{PassesAllTests}
 use Rattle.pv_verify.specs.declared.answers.Why.TheVariants as why
-use Rattle.pv_cli.specs.Complete.{IsLeastPack, IsVerifiable}
+use Rattle.pv_cli.specs.Complete.{IsPackOfCompletion, IsVerifiable}
 use Rattle.pv_cli.proofs.PackLines.{pack_lines}
 
 -- ---- the width of the lists that the tables name
@@ -58,7 +58,7 @@ numbers [] all = tt
 numbers (m ∷ ms) all = ((let k = All-head (λ k. k < 2 ^ 32) m ms all in omega arith), numbers ms (All-tail (λ k. k < 2 ^ 32) m ms all))
 
 module _ (meant : MeansWhatItSpells) (written : WritesWhatIsSpelled) (one : OneListAtPath Mark) (made : MadeIsAccepted Mark) (g : PlainDtd) (root bytes : List ℕ) (doc : PlainDoc Mark) (pack : Pack) (vs : List Verdict)
-    (dtd : IsProperDtd g) (proper : IsProperDoc doc) (small : nodes_in doc.root ≤ MAX_NODES) (text : IsDocumentText root bytes doc) (are : AreVerdicts g root (lists_of doc) vs) (least : IsLeastPack root g doc pack)
+    (dtd : IsProperDtd g) (proper : IsProperDoc doc) (small : nodes_in doc.root ≤ MAX_NODES) (text : IsDocumentText root bytes doc) (are : AreVerdicts g root (lists_of doc) vs) (least : IsPackOfCompletion root g doc pack)
     (bounded : IsBounded doc pack.total pack.body) where
   abbrev new : PlainDoc Mark
   new = record doc { root = least.completion.tree }
@@ -92,7 +92,7 @@ module _ (meant : MeansWhatItSpells) (written : WritesWhatIsSpelled) (one : OneL
         tags = subst (λ (h : Hedge). LeavesOut 0 (elements h) pack.marks (view doc.root) h) same_view c.tags;
       }
 
-  accepted : IsAccepted g root doc pack
+  accepted : PassesAllTests g root doc pack
   accepted = made g root doc pack body vs dtd proper are is_body completes least.completion.needs.least least.completion.needs.light least.tables.are_tables
 
   narrow : AreNarrowTables g (lists_of doc) pack.tables

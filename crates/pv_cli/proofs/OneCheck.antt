@@ -18,10 +18,11 @@ use Rattle.pv_missing.specs.Completing.{IsPotentiallyValid}
 use Rattle.pv_missing.specs.Verdicts.{HavePossible, IsLive, is_possible as is_possible_verdict}
 use Rattle.pv_missing.specs.Widths.{FitsVerdict, IsFirstTooWide, IsListForVerdict}
 use Rattle.pv_read.specs.DocumentLaws.{SpellsOneDocument}
+use Rattle.pv_complete.specs.Needing.{AreListsForVerdicts}
 use Rattle.pv_cli.specs.Check.{IsCheckCourse, TellsPossibility, is_no_more, is_possible, possible_text}
 use Rattle.pv_cli.specs.Course.{Course}
 use Rattle.pv_cli.specs.Documents.{PlainOpened}
-use Rattle.pv_cli.specs.Possibility.{AreNarrow, RefusesImpossible, RefusesWidth, is_impossible, is_too_wide, possibility_stage, verdict_stage, width_stage}
+use Rattle.pv_cli.specs.Possibility.{RefusesImpossible, RefusesWidth, is_impossible, is_too_wide, possibility_stage, verdict_stage, width_stage}
 use Rattle.pv_cli.specs.Stage.{Behind, Responds}
 use Rattle.pv_script.specs.Paths.{path_text}
 use Rattle.pv_cli.specs.Response.{PlainResponse, with_line}
@@ -65,10 +66,10 @@ not_wide g doc same path e all f =
 -- one test of width, whatever the marks are
 pub width_sure : (g : PlainDtd) (doc same : PlainDoc Mark) → unmarked_doc doc ≡ unmarked_doc same → AreSure (width_stage g doc) (width_stage g same) IsEqual
 width_sure g doc same e =
-    reading_sure (λ _. AreNarrow g doc) (λ _. AreNarrow g same) (RefusesWidth g doc) (RefusesWidth g same) IsEqual
+    reading_sure (λ _. AreListsForVerdicts g doc) (λ _. AreListsForVerdicts g same) (RefusesWidth g doc) (RefusesWidth g same) IsEqual
     (λ x r narrow wide. wide_or doc same r e narrow wide) (λ x r wide narrow. wide_or same doc r (sym e) narrow wide) one_width (λ x y narrow too. refl)
   where
-    wide_or : (d s : PlainDoc Mark) (r : PlainResponse) → unmarked_doc d ≡ unmarked_doc s → AreNarrow g d → RefusesWidth g s r → ⊥
+    wide_or : (d s : PlainDoc Mark) (r : PlainResponse) → unmarked_doc d ≡ unmarked_doc s → AreListsForVerdicts g d → RefusesWidth g s r → ⊥
     wide_or d s r f narrow (is_too_wide path first is) = not_wide g d s path f narrow first
 
     one_width : (r also : PlainResponse) → RefusesWidth g doc r → RefusesWidth g same also → r ≡ also

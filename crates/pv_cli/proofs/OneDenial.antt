@@ -4,8 +4,8 @@ use Rattle.std.specs.List.{Contains}
 use Rattle.pv_cache.specs.Stamps.{doc_as}
 use Rattle.pv_cache.proofs.ListMarks.{all_narrow_to, first_to, list_as, lists_as}
 use Rattle.pv_cache.proofs.OtherMarks.{heads_as, view_as, word_as}
-use Rattle.pv_denial.specs.Causes.{HasKidsInEmpty, Holds, IsCause}
-use Rattle.pv_denial.specs.Judging.{FailsAt, IsAbout, IsJudged, IsNarrowFor, IsReached, IsRightCause, IsRightTable, IsTooWideFor, JudgesAt}
+use Rattle.pv_denial.specs.Causes.{HasKidsInEmpty, HoldsOfList, IsCause}
+use Rattle.pv_denial.specs.Judging.{FailsAt, IsAbout, IsDenialJudged, IsNarrowFor, IsReached, IsRightCause, IsRightTable, IsTooWideFor, JudgesAt}
 use Rattle.pv_denial.specs.Laws.{OneJudged}
 use Rattle.pv_denial.specs.declared.denials.Cause.{Cause}
 use Rattle.pv_denial.specs.declared.denials.Cause.TheVariants as cause
@@ -15,7 +15,7 @@ use Rattle.pv_denial.specs.declared.denials.Judged.{Judged}
 use Rattle.pv_denial.specs.declared.denials.Judged.TheVariants as judged
 use Rattle.pv_denial_text.specs.Laws.{OneMeaning}
 use Rattle.pv_denial_text.specs.Meaning.{DenialMeans, MAX_DENIAL_BYTES, is_denial, is_fault, is_past_limit}
-use Rattle.pv_denial_text.specs.Texts.{lines_of, lines_text}
+use Rattle.pv_denial_text.specs.Texts.{lines_of_denial, lines_text}
 use Rattle.pv_deny.specs.Denying.{HasTooMany, IsDenialOf}
 use Rattle.pv_deny.specs.Laws.{OneDenial}
 use Rattle.pv_dtd.specs.Plain.{PlainDtd}
@@ -61,13 +61,13 @@ module _ {M N : Type 0} (f : M → N) (g : PlainDtd) (root : List ℕ) where
   empty_from (an_element name) kids (x, is, model, some) = (x, is, model, λ none. some (ap (map_marks_all f) none))
 
   module _ (list : Listed M) where
-    holds_to : (c : Cause) → Holds g root list c → Holds g root (list_as f list) c
+    holds_to : (c : Cause) → HoldsOfList g root list c → HoldsOfList g root (list_as f list) c
     holds_to cause.Undeclared h = h
     holds_to cause.Unproductive h = h
     holds_to cause.Empty h = empty_to list.owner list.kids h
     holds_to cause.Word h = h
 
-    holds_from : (c : Cause) → Holds g root (list_as f list) c → Holds g root list c
+    holds_from : (c : Cause) → HoldsOfList g root (list_as f list) c → HoldsOfList g root list c
     holds_from cause.Undeclared h = h
     holds_from cause.Unproductive h = h
     holds_from cause.Empty h = empty_from list.owner list.kids h
@@ -140,7 +140,7 @@ module _ {M N : Type 0} (f : M → N) (g : PlainDtd) (root : List ℕ) where
     about_to : (d : Denial) (list : Listed M) → IsAbout doc d list → IsAbout (doc_as f doc) d (list_as f list)
     about_to d list about = record { is_listed = listed_to list about.is_listed; is_path = about.is_path }
 
-    judged_to : (d : Denial) (j : Judged) → IsJudged g root doc d j → IsJudged g root (doc_as f doc) d j
+    judged_to : (d : Denial) (j : Judged) → IsDenialJudged g root doc d j → IsDenialJudged g root (doc_as f doc) d j
     judged_to d j (inl (none, is)) = inl (λ other about. no_list other about, is)
       where
         no_list : (other : Listed N) → IsAbout (doc_as f doc) d other → ⊥
@@ -215,7 +215,7 @@ module _ {M : Type 0} (root : List ℕ) (g : PlainDtd) (doc : PlainDoc M) where
 
   one_explanation : OneDenial M → (r also : PlainResponse) → TellsWhy root g doc r → TellsWhy root g doc also → r ≡ also
   one_explanation one r also (is_explained d never here is) (is_explained e not there are) =
-      is ∙ ap (λ (x : Denial). record { status = Done; output = lines_text (lines_of x) }) ((one g root doc).0 d e here there) ∙ sym are
+      is ∙ ap (λ (x : Denial). record { status = Done; output = lines_text (lines_of_denial x) }) ((one g root doc).0 d e here there) ∙ sym are
   one_explanation one r also (is_explained d never here is) (has_too_many not many are) = absurd ((one g root doc).1 d here many)
   one_explanation one r also (is_explained d never here is) (is_possible can are) = absurd (never can)
   one_explanation one r also (has_too_many never many is) (is_explained d not here are) = absurd ((one g root doc).1 d here many)

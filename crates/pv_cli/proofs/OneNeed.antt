@@ -11,7 +11,7 @@ use Rattle.pv_script.specs.declared.replies.Reply.TheVariants as reply
 use Rattle.pv_session.specs.Sessions.{PlainSession}
 use Rattle.pv_tree.specs.Lists.{lists_of}
 use Rattle.pv_tree.proofs.Firsts.{one_first}
-use Rattle.pv_cli.specs.Alike.{AreAlike, are_completions, are_one}
+use Rattle.pv_cli.specs.Alike.{RepliesAlike, are_completions, are_one}
 use Rattle.pv_cli.specs.Missing.{TellsCompletion, TellsNeed, Withholds, is_completed, is_heavy, is_impossible, is_needed, is_not_completed, is_wide, is_withheld}
 use Rattle.pv_cli.proofs.OneCheck.{none_first}
 
@@ -73,7 +73,7 @@ module _ (s : PlainSession) where
   needs_of : (k : ℕ) (marks body : List ℕ) → ∥ IsLeastCompletion s.dtd s.root s.doc k marks body ∥₁ → ∥ Needs s.dtd s.root s.doc k ∥₁
   needs_of k marks body c = ∥∥₁_map c (λ c. c.needs)
 
-  pub one_completion : (told also : Reply) → TellsCompletion s told → TellsCompletion s also → AreAlike told also
+  pub one_completion : (told also : Reply) → TellsCompletion s told → TellsCompletion s also → RepliesAlike told also
   one_completion told also (is_completed k marks body c here is) (is_completed n others text d there are) =
       are_completions k body text is (are ∙ ap (λ (i : ℕ). reply.Completed i text) (sym (one_need k n (needs_of k marks body c) (needs_of n others text d))))
   one_completion told also (is_completed k marks body c here is) (is_not_completed w) = absurd (told_or_withheld k also (needs_of k marks body c) w)

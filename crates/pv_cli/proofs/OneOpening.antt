@@ -14,7 +14,7 @@ use Rattle.pv_read.specs.DocumentLaws.{DocumentsMeanOne, MeansWhatItSpells, Spel
 use Rattle.pv_read.proofs.DocumentFacts.{keeps}
 use Rattle.pv_cli.specs.Documents.{OpensDocument, PlainOpened, document_refusal, RefusesDocument, no_document, too_many_bytes, document_stage}
 use Rattle.pv_cli.specs.Course.{responds, Course, after_fetches}
-use Rattle.pv_cli.specs.Opening.{Files, IsGiven, IsFileTooLong, file_at, fetch_stage, RefusesDtd, no_dtd, dtd_refusal, dtd_stage, expanded_dtd_stage, dtd_file_stage, document_fetch_stage, fetching_stage, opening_stage}
+use Rattle.pv_cli.specs.Opening.{Files, IsFetched, IsFileTooLong, file_at, fetch_stage, RefusesDtd, no_dtd, dtd_refusal, dtd_stage, expanded_dtd_stage, dtd_file_stage, document_fetch_stage, fetching_stage, opening_stage}
 use Rattle.pv_cli.specs.Response.{PlainResponse}
 use Rattle.pv_cli.specs.Parameters.{RefusesParameters, not_expanded, parameters_refusal, expansion_stage}
 use Rattle.pv_params.specs.Laws.{AtMostOne}
@@ -89,7 +89,7 @@ reading_sure Opens Others Refuses Denies Same opens_or refuses_or one same = rec
 one_file : (file : Option (List ℕ)) (bytes other : List ℕ) → file ≡ Some bytes → file ≡ Some other → bytes ≡ other
 one_file file bytes other is are = let same : Some bytes ≡ Some other = sym is ∙ are in cc
 
-fetch_not_both : (file : Option (List ℕ)) (most : ℕ) (passed bytes : List ℕ) (r : PlainResponse) → IsGiven file most bytes → IsFileTooLong file most passed r → ⊥
+fetch_not_both : (file : Option (List ℕ)) (most : ℕ) (passed bytes : List ℕ) (r : PlainResponse) → IsFetched file most bytes → IsFileTooLong file most passed r → ⊥
 fetch_not_both file most passed bytes r is are =
     let same = ap length (one_file file are.bytes bytes are.is_file is.is_file) in
     let beyond = are.beyond in

@@ -3,7 +3,7 @@ use Rattle.std.proofs.Common.{◌≡◌, ◌≤◌, ◌+◌, ◌⊎◌, inl, inr
 use Rattle.std.specs.List.{AllPairs, Contains}
 use Rattle.std.proofs.lemmas.List.{map-append}
 use Rattle.std.proofs.lemmas.List.Elements.{All-contains}
-use Rattle.pv_cert.specs.Packs.{lines_of, lines_text}
+use Rattle.pv_cert.specs.Packs.{lines_of_pack, lines_text}
 use Rattle.pv_cert.specs.declared.packs.Pack.{Pack}
 use Rattle.pv_cache.specs.Stamps.{doc_as}
 use Rattle.pv_cache.proofs.ListMarks.{list_as, lists_as}
@@ -31,7 +31,7 @@ use Rattle.pv_tree.specs.Words.{word_of}
 use Rattle.pv_tree.specs.declared.nodes.Mark.{Mark}
 use Rattle.pv_tree.specs.declared.nodes.Verdict.TheVariants as verdict
 use Rattle.pv_missing.specs.LiveWords.{IsLiveWord}
-use Rattle.pv_cli.specs.Complete.{IsCompleteCourse, IsLeastPack, PacksAlike, TellsPack, are_one, are_packs, has_too_many, is_heavy, is_pack, is_wide}
+use Rattle.pv_cli.specs.Complete.{IsCompleteCourse, IsPackOfCompletion, PacksAlike, TellsPack, are_one, are_packs, has_too_many, is_heavy, is_pack, is_wide}
 use Rattle.pv_cli.specs.Course.{Course}
 use Rattle.pv_cli.specs.Documents.{PlainOpened}
 use Rattle.pv_cli.specs.Possibility.{possibility_stage}
@@ -114,7 +114,7 @@ module _ (word : OneLiveWord) (g : PlainDtd) (root : List ℕ) {M : Type 0} wher
 
 -- what is told, but for the tests of a pack
 data TellsLess {M : Type 0} (root : List ℕ) (g : PlainDtd) (doc : PlainDoc M) (r : PlainResponse) : Type 0 where
-  some_pack : (pack : Pack) → IsLeastPack root g doc pack → r ≡ record { status = Done; output = lines_text (lines_of pack) } → TellsLess root g doc r
+  some_pack : (pack : Pack) → IsPackOfCompletion root g doc pack → r ≡ record { status = Done; output = lines_text (lines_of_pack pack) } → TellsLess root g doc r
   first_wide : (path : List ℕ) → StopsAtWide g root doc path → r ≡ with_line Limit (codes "limit width " ++ path_text path) → TellsLess root g doc r
   too_heavy : IsHeavy g root doc → r ≡ with_line Limit (codes "limit weight") → TellsLess root g doc r
   too_many : HasTooMany g root doc → r ≡ with_line Limit (codes "limit tables") → TellsLess root g doc r

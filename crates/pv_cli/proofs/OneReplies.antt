@@ -12,7 +12,7 @@ use Rattle.pv_session.specs.Laws.{StepsHaveOneAnswer}
 use Rattle.pv_session.specs.Sessions.{PlainSession, stamped_document}
 use Rattle.pv_session.specs.Steps.{PlainAnswer, IsEditStep, IsUndoStep, IsRedoStep}
 use Rattle.pv_cli.specs.Session.{RepliesBy, RepliesByStep, RepliesTo, unknown, known, reply_to, Replies, no_lines, without_memory, answered, ended}
-use Rattle.pv_cli.specs.Alike.{AreAlike, are_one, begins_alike, ends_alike}
+use Rattle.pv_cli.specs.Alike.{RepliesAlike, are_one, begins_alike, ends_alike}
 use Rattle.pv_cli.specs.Laws.{HasOneReply, HasOneOutput}
 use Rattle.pv_cli.proofs.OneNeed.{one_completion, one_told}
 use Rattle.pv_cli.proofs.OneOffer.{OffersOnce, one_told_offer}
@@ -25,13 +25,13 @@ pub record AnswersOnce : Type 0 where
 
 by_step : (IsStep : PlainAnswer → PlainSession → Type 0) → ((s t : PlainSession) (a b : PlainAnswer) → IsStep a s → IsStep b t → (a ≡ b) × (s ≡ t)) →
     (told also : Reply) (after later : PlainSession) → RepliesByStep IsStep told after → RepliesByStep IsStep also later →
-    AreAlike told also × (after ≡ later)
+    RepliesAlike told also × (after ≡ later)
 by_step IsStep one told also after later here there =
     let same = one after later here.0 there.0 here.1 there.1 in
     (are_one (here.2 ∙ ap reply_to same.0 ∙ sym there.2), same.1)
 
 one_by : AnswersOnce → (session : PlainSession) (command : Command) (told also : Reply) (after later : PlainSession) →
-    RepliesBy session command told after → RepliesBy session command also later → AreAlike told also × (after ≡ later)
+    RepliesBy session command told after → RepliesBy session command also later → RepliesAlike told also × (after ≡ later)
 one_by once session (Edit e) told also after later here there =
     by_step (λ answer later. IsEditStep session e answer later) (once.steps.edit e session) told also after later here there
 one_by once session Undo told also after later here there =

@@ -8,7 +8,7 @@ use Rattle.pv_cli.specs.Alike.{VerbRespondsAlike}
 use Rattle.pv_cli.specs.Complete.{are_one}
 use Rattle.pv_cli.specs.Certificates.{certificate_stage}
 use Rattle.pv_cli.specs.CommandLine.{drill, on_certificate, on_document, on_dtd, on_ranges}
-use Rattle.pv_cli.specs.Commands.{Tells}
+use Rattle.pv_cli.specs.Commands.{VerbTells}
 use Rattle.pv_cli.specs.Course.{Course}
 use Rattle.pv_cli.specs.DenialFiles.{denial_file_stage}
 use Rattle.pv_cli.specs.Deny.{TellsJudgement}
@@ -57,7 +57,7 @@ record KnowsOne : Type 0 where
 
 -- a line for each verb
 verb_once : KnowsOne → (verb : Verb) (root : List ℕ) (x y : PlainOpened) (course other : Course) (r also : PlainResponse) → AreSameOpened x y → RunsAs course other r also →
-    Tells verb root x course → Tells verb root y other → VerbRespondsAlike verb r also
+    VerbTells verb root x course → VerbTells verb root y other → VerbRespondsAlike verb r also
 verb_once known Valid = valid_once known.documents.spells_one known.by_lists
 verb_once known Check = check_once known.documents.spells_one
 verb_once known Session = session_once known.once known.documents.spells_one
@@ -81,7 +81,7 @@ one_response dtds documents by_lists once lists packs nests denials (Some (on_dt
     course other (record { taken = taken; silent = silent; ends = at; ends_too = on }) is are
 one_response dtds documents by_lists once lists packs nests denials (Some (on_document verb dtd root doc)) files course other r also is are taken silent at on =
     let stage = opening_stage root files in
-    one_like stage stage AreSameOpened (Tells verb root) (Tells verb root) r also (VerbRespondsAlike verb r also) (equal_alike verb r also) (opening_sure dtds documents root files)
+    one_like stage stage AreSameOpened (VerbTells verb root) (VerbTells verb root) r also (VerbRespondsAlike verb r also) (equal_alike verb r also) (opening_sure dtds documents root files)
     (λ x y rest more same both goes others. verb_once (record { documents = documents; by_lists = by_lists; once = once; lists = lists; denials = denials }) verb root x y rest more r also same both goes others)
     course other (record { taken = taken; silent = silent; ends = at; ends_too = on }) is are
 one_response dtds documents by_lists once lists packs nests denials (Some (on_certificate Verify dtd root doc file)) files course other r also is are taken silent at on =

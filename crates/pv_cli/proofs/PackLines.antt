@@ -23,7 +23,7 @@ use Rattle.pv_closed.specs.ClosedEntries.{IsEntryOver}
 use Rattle.pv_closed.specs.ClosedTables.{AreClosedTables, AreNarrowTables, IsClosedTable, IsNarrowTable}
 use Rattle.pv_script.specs.Edits.{AreNumbers, MAX_NUMBER}
 use Rattle.pv_cert.specs.Lines.{IsEntryInRange, PackLine, body_line, end_line, entry_line, list_line, mark_line, total_line}
-use Rattle.pv_cert.specs.Packs.{AreLines, IsMarkOrBody, MayFollow, lines_of, table_lines}
+use Rattle.pv_cert.specs.Packs.{AreLines, IsMarkOrBody, MayFollow, lines_of_pack, table_lines}
 use Rattle.pv_cert.specs.declared.packs.Pack.{Pack}
 
 -- ---- one line behind another
@@ -71,7 +71,7 @@ marks_follow : (ms : List ℕ) (before : PackLine) (body : List ℕ) (rest : Lis
 marks_follow [] before body rest waits fit more = (waits (body_line body) tt, tt, more)
 marks_follow (m ∷ ms) before body rest waits fit more = (waits (mark_line m) tt, fit.0, marks_follow ms (mark_line m) body rest (λ line is. is) fit.1 more)
 
-lines_follow : (pack : Pack) → pack.total ≤ most_missing → AreNumbers pack.marks → AllByRecursion IsWritable pack.tables → AreLines None (lines_of pack)
+lines_follow : (pack : Pack) → pack.total ≤ most_missing → AreNumbers pack.marks → AllByRecursion IsWritable pack.tables → AreLines None (lines_of_pack pack)
 lines_follow pack few marks tables = (
   tt,
   tt,
@@ -184,5 +184,5 @@ module _ {M : Type 0} (g : PlainDtd) (root : List ℕ) (doc : PlainDoc M) (few :
   )
 
   -- the lines of a pack of closed tables, none of a list that is too wide
-  pub pack_lines : (pack : Pack) → pack.total < heaviest → AreNumbers pack.marks → AreClosedTables g root (lists_of doc) pack.tables → AreNarrowTables g (lists_of doc) pack.tables → AreLines None (lines_of pack)
+  pub pack_lines : (pack : Pack) → pack.total < heaviest → AreNumbers pack.marks → AreClosedTables g root (lists_of doc) pack.tables → AreNarrowTables g (lists_of doc) pack.tables → AreLines None (lines_of_pack pack)
   pack_lines pack light marks closed narrow = lines_follow pack (omega (arith, light)) marks (are_writable pack.tables closed.each narrow)

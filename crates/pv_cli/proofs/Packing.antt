@@ -1,6 +1,6 @@
 -- The pack of a document is found, or what has none is refused.
 use Rattle.std.proofs.Common.{◌≡◌, inl, inr, Err, List, Result, ap, refl, subst, sym, ℕ}
-use Rattle.pv_cert.specs.Packs.{lines_of, lines_text}
+use Rattle.pv_cert.specs.Packs.{lines_of_pack, lines_text}
 use Rattle.pv_cert.specs.declared.packs.Pack.{Pack}
 use Rattle.pv_complete.specs.Needing.{CanNeed, HasCause}
 use Rattle.pv_complete.specs.Tables.{HasTablesCause}
@@ -14,12 +14,12 @@ use Rattle.pv_missing.specs.Verdicts.{IsLive}
 use Rattle.pv_tree.specs.Lists.{lists_of}
 use Rattle.pv_tree.specs.Plain.{PlainDoc}
 use Rattle.pv_tree.specs.declared.nodes.Mark.{Mark}
-use Rattle.pv_cli.specs.Complete.{IsLeastPack, IsVerifiable, TellsPack, has_too_many, is_heavy, is_pack, is_wide}
+use Rattle.pv_cli.specs.Complete.{IsPackOfCompletion, IsVerifiable, TellsPack, has_too_many, is_heavy, is_pack, is_wide}
 use Rattle.pv_cli.specs.Course.{Course, responds, without_input}
 use Rattle.pv_cli.specs.Packing.{IsRefusalFor}
 use Rattle.pv_cli.specs.Possibility.{is_impossible, is_too_wide, possibility_stage}
 use Rattle.pv_cli.specs.Response.{PlainResponse, plain_response}
-use Rattle.pv_cli.specs.Returns.{Finds, RefusesWith}
+use Rattle.pv_cli.specs.Returns.{TakesCourse, RefusesWith}
 use Rattle.pv_cli.specs.Stage.{Behind, Responds, opened, refused, responded, short_of_memory}
 use Rattle.pv_cli.specs.declared.response.Response.{Response}
 use Rattle.pv_cli.specs.declared.status.Status.TheVariants.{Done}
@@ -45,7 +45,7 @@ module _ (root : List ℕ) (g : PlainDtd) (doc : PlainDoc Mark) where
   told_behind : (r : PlainResponse) → CanNeed g root doc → TellsPack root g doc r → IsPackCourse (without_input 0 (responds r))
   told_behind r can told = opened tt 0 _ (passes can) (responded r told refl) refl
 
-  refused_by : (e : NeedError) (r : Response) → IsProperDtd g → IsProperDoc doc → HasTablesCause g root doc e → IsRefusalFor e (plain_response r) → Finds IsPackCourse (Err (Refused r))
+  refused_by : (e : NeedError) (r : Response) → IsProperDtd g → IsProperDoc doc → HasTablesCause g root doc e → IsRefusalFor e (plain_response r) → TakesCourse IsPackCourse (Err (Refused r))
   refused_by (error.Impossible path) r dtd proper stops told =
       let by_lists = live_locality Mark g root doc dtd proper in
       refused (plain_response r) 0
@@ -58,18 +58,18 @@ module _ (root : List ℕ) (g : PlainDtd) (doc : PlainDoc Mark) where
   refused_by error.NoMemory r dtd proper cause told = absurd told
 
   -- what has no pack is refused
-  pub found_refused : (e : NeedError) (stop : Stop) → IsProperDtd g → IsProperDoc doc → HasTablesCause g root doc e → RefusesWith (IsRefusalFor e) stop → Finds IsPackCourse (Err stop)
+  pub found_refused : (e : NeedError) (stop : Stop) → IsProperDtd g → IsProperDoc doc → HasTablesCause g root doc e → RefusesWith (IsRefusalFor e) stop → TakesCourse IsPackCourse (Err stop)
   found_refused e (Refused r) dtd proper cause told = refused_by e r dtd proper cause told
   found_refused e ShelfFault dtd proper cause told = absurd told
   found_refused e NoMemory dtd proper cause told = short_of_memory 0 (inl refl) refl
 
 -- the same, of the opened files
-pub packs_as : (root : List ℕ) (g d : PlainDtd) (doc same : PlainDoc Mark) (result : Result Response Stop) → d ≡ g → same ≡ doc → Finds (IsPackCourse root g doc) result → Finds (IsPackCourse root d same) result
+pub packs_as : (root : List ℕ) (g d : PlainDtd) (doc same : PlainDoc Mark) (result : Result Response Stop) → d ≡ g → same ≡ doc → TakesCourse (IsPackCourse root g doc) result → TakesCourse (IsPackCourse root d same) result
 packs_as root g d doc same result is are finds =
-    subst (λ (h : PlainDtd). Finds (IsPackCourse root h same) result) (sym is) (subst (λ (s : PlainDoc Mark). Finds (IsPackCourse root g s) result) (sym are) finds)
+    subst (λ (h : PlainDtd). TakesCourse (IsPackCourse root h same) result) (sym is) (subst (λ (s : PlainDoc Mark). TakesCourse (IsPackCourse root g s) result) (sym are) finds)
 
 -- the pack of the opened files is told
-pub packs_told : (root : List ℕ) (g d : PlainDtd) (doc same : PlainDoc Mark) (pack : Pack) (output : List ℕ) → d ≡ g → same ≡ doc → IsLeastPack root g doc pack → IsVerifiable root g doc pack → output ≡ lines_text (lines_of pack) →
+pub packs_told : (root : List ℕ) (g d : PlainDtd) (doc same : PlainDoc Mark) (pack : Pack) (output : List ℕ) → d ≡ g → same ≡ doc → IsPackOfCompletion root g doc pack → IsVerifiable root g doc pack → output ≡ lines_text (lines_of_pack pack) →
     IsPackCourse root d same (without_input 0 (responds (record { status = Done; output = output })))
 packs_told root g d doc same pack output is are least verifiable spelled =
     let r : PlainResponse = record { status = Done; output = output } in

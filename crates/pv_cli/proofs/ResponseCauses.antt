@@ -12,7 +12,7 @@ use Rattle.pv_tree.specs.declared.nodes.Mark.{Mark}
 use Rattle.pv_session.specs.Sessions.{PlainSession}
 use Rattle.pv_params.specs.Meaning.{conditional, external, undeclared, recursive, limit as params_limit, syntax as params_syntax}
 use Rattle.pv_cli.specs.Parameters.{RefusesParameters, not_expanded}
-use Rattle.pv_cli.specs.Causes.{HoldsText, MakesTables, ReadsScript, TestsFor, parameters, ReadsBoth, ReadsDocument, ReadsDtd, RespondsBy, is_document_limit, dtd_file, document_file, in_dtd, in_document, document_bytes, list_width, not_possible, not_valid, script_line, whole_script, missing_elements, table_entries, weights_width}
+use Rattle.pv_cli.specs.Causes.{HoldsText, NeedsTables, ReadsScript, TestsFor, parameters, ReadsBoth, ReadsDocument, ReadsDtd, RespondsBy, is_document_limit, dtd_file, document_file, in_dtd, in_document, document_bytes, list_width, not_possible, not_valid, script_line, whole_script, missing_elements, table_entries, weights_width}
 use Rattle.pv_cli.specs.Check.{TellsPossibility, is_no_more, is_possible}
 use Rattle.pv_cli.specs.Complete.{TellsPack, has_too_many, is_heavy, is_pack, is_wide}
 use Rattle.pv_cli.specs.CommandLine.{PlainCommandLine}
@@ -78,7 +78,7 @@ module _ (line : Option PlainCommandLine) (files : Files) (taken : Option (List 
     possibility_told tests (is_possible n can have is) = by_status line files taken Done r _ is refl tt
     possibility_told tests (is_no_more denies) = impossible_refused tests denies
 
-    pub pack_told : TestsFor line possibility → MakesTables line → TellsPack root g doc r → RespondsBy line files taken r.status
+    pub pack_told : TestsFor line possibility → NeedsTables line → TellsPack root g doc r → RespondsBy line files taken r.status
     pack_told tests makes (is_pack pack least verifiable is) = by_status line files taken Done r _ is refl tt
     pack_told tests makes (is_wide path stops is) = by_status line files taken Limit r _ is refl (weights_width root g doc path makes both stops)
     pack_told tests makes (is_heavy heavy is) = by_status line files taken Limit r _ is refl (missing_elements root g doc makes both heavy)

@@ -13,16 +13,16 @@ use Rattle.pv_cli.specs.declared.verb.Verb.TheVariants.{Session}
 use Rattle.pv_session.specs.Sessions.{PlainSession}
 use Rattle.pv_cli.specs.Checking.{CountsLists, lines_taken, none_checked}
 use Rattle.pv_cli.specs.CommandLine.{PlainCommandLine, files_named, on_document, on_dtd}
-use Rattle.pv_cli.specs.Commands.{GoesOn, IsDocumentCourse, Tells, lines_checked}
+use Rattle.pv_cli.specs.Commands.{GoesOn, IsDocumentCourse, VerbTells, lines_checked}
 use Rattle.pv_cli.specs.Conversation.{Talked}
 use Rattle.pv_cli.specs.Course.{Course, after_fetches, responds, without_input}
 use Rattle.pv_cli.specs.Devices.{InputNow, OutputNow, ShelfNow, devices}
 use Rattle.pv_cli.specs.Documents.{PlainOpened, document_stage}
 use Rattle.pv_cli.specs.Dtd.{TellsDtd}
 use Rattle.pv_cli.specs.Opening.{AreFiles, Files, IsFile, dtd_file_stage, fetching_stage, file_at, opening_stage}
-use Rattle.pv_cli.specs.Program.{ChecksLists, CountsInput, CountsShelf, IsDefined, Runs, ShowsShelf, ShowsStreams, Writes}
+use Rattle.pv_cli.specs.Program.{ChecksLists, CountsInput, CountsShelf, IsDefined, Runs, ShowsShelf, ShowsStreams, WritesEnding}
 use Rattle.pv_cli.specs.Response.{plain_response}
-use Rattle.pv_cli.specs.Returns.{DoesRest, Finds, FindsResponse, ReturnsOver, StopsBy, TellsBy, ending_of, plain_fetched, session_stage}
+use Rattle.pv_cli.specs.Returns.{DoesRest, TakesCourse, FindsResponse, ReturnsOver, StopsBy, TellsBy, ending_of, plain_fetched, session_stage}
 use Rattle.pv_cli.specs.Session.{guarding_stage}
 use Rattle.pv_cli.specs.Stage.{Responds, opened, refused, short_of_memory}
 use Rattle.pv_cli.proofs.Counting.{session_counts}
@@ -37,7 +37,7 @@ input_stays (Err NoMemory) count = refl
 
 -- the streams of a run that leaves the input alone, once its response is written
 quiet_streams : {S : Type 0} (n : ℕ) (result : Result Response Stop) (input : InputNow S) (old new : OutputNow) (status : Status) →
-    Writes (ending_of result) old.written new.written old.faults new.faults status → ShowsStreams (without_input n (ending_of result)) input input old new status
+    WritesEnding (ending_of result) old.written new.written old.faults new.faults status → ShowsStreams (without_input n (ending_of result)) input input old new status
 quiet_streams n result input old new status writes = record {
   input = input_stays result input.faults;
   taken = refl;
@@ -47,7 +47,7 @@ quiet_streams n result input old new status writes = record {
 }
 
 pub found_runs : {S : Type 0} (line : Option PlainCommandLine) (before after : ShelfNow) (input : InputNow S) (old new : OutputNow) (checked checked_now : ℕ) (result : Result Response Stop) (status : Status) →
-    FindsResponse line before after checked checked_now result → Writes (ending_of result) old.written new.written old.faults new.faults status →
+    FindsResponse line before after checked checked_now result → WritesEnding (ending_of result) old.written new.written old.faults new.faults status →
     Runs line (devices before input old checked) (devices after input new checked_now) status
 found_runs line before after input old new checked checked_now result status finds writes = record {
   files = finds.files;
@@ -61,7 +61,7 @@ found_runs line before after input old new checked checked_now result status fin
 
 -- a command line that asks no shelf
 pub found_alone : (line : Option PlainCommandLine) (shelf : ShelfNow) (checked checked_now : ℕ) (result : Result Response Stop) → AreFiles shelf.files (files_named line) [] →
-    Finds (IsDefined line []) result → ChecksLists line [] None checked checked_now → FindsResponse line shelf shelf checked checked_now result
+    TakesCourse (IsDefined line []) result → ChecksLists line [] None checked checked_now → FindsResponse line shelf shelf checked checked_now result
 found_alone line shelf checked checked_now result none finds checks = record {
   files = [];
   are_files = none;
@@ -100,7 +100,7 @@ dtd_told name before after checked dtd result over tells =
 
 -- what a verb found, once it is written
 pub found_rest : {S : Type 0} (verb : Verb) (root : List ℕ) (fetched : PlainDtd × List ℕ) (input : InputNow S) (old new : OutputNow) (checked checked_now : ℕ) (result : Result Response Stop) (status : Status) →
-    Finds (GoesOn verb root fetched) result → CountsLists root (Some fetched.1) (lines_checked verb None) checked checked_now → Writes (ending_of result) old.written new.written old.faults new.faults status →
+    TakesCourse (GoesOn verb root fetched) result → CountsLists root (Some fetched.1) (lines_checked verb None) checked checked_now → WritesEnding (ending_of result) old.written new.written old.faults new.faults status →
     DoesRest verb root fetched input input old new checked checked_now status
 found_rest verb root fetched input old new checked checked_now result status finds checks writes = record {
   talk = record {
@@ -121,7 +121,7 @@ files_stopped verb dtd root doc before after checked stop over = record {
   files = over.files;
   are_files = over.are_such;
   fetches = over.fetches;
-  is_defined = stop_ends (opening_stage root over.files) (Tells verb root) over.fetches stop
+  is_defined = stop_ends (opening_stage root over.files) (VerbTells verb root) over.fetches stop
       (stopped_first (fetching_stage over.files) (λ both. document_stage root both.0 both.1) over.fetches stop over.returns);
   shelf = record { calls = over.calls; faults = stop_counts before.faults after.faults stop over.faults };
   checks = none_checked refl;
@@ -151,7 +151,7 @@ rest_runs verb dtd root doc before after fetched input input_now old new checked
       files = over.files;
       are_files = over.are_such;
       course = after_fetches over.fetches rest;
-      is_defined = behind_second (fetching_stage over.files) (λ b. document_stage root b.0 b.1) (Tells verb root) both over.fetches rest over.returns does.talk.goes;
+      is_defined = behind_second (fetching_stage over.files) (λ b. document_stage root b.0 b.1) (VerbTells verb root) both over.fetches rest over.returns does.talk.goes;
       shelf = record {
         calls = omega (arith, over.calls, no_fetch);
         faults = stays_from (CountsShelf rest.ending) before.faults after.faults over.faults does.talk.no_fault;
@@ -166,7 +166,7 @@ guarding_quiet root o m (inl never) = never
 guarding_quiet root o m (inr (u, v, w, narrow, never, f)) = never
 
 -- the stages of a session stopped
-pub session_stopped : (root : List ℕ) (fetched : PlainDtd × List ℕ) (stop : Stop) → StopsBy (session_stage root fetched) 0 stop → Finds (GoesOn Session root fetched) (Err stop)
+pub session_stopped : (root : List ℕ) (fetched : PlainDtd × List ℕ) (stop : Stop) → StopsBy (session_stage root fetched) 0 stop → TakesCourse (GoesOn Session root fetched) (Err stop)
 session_stopped root fetched (Refused r) (inl refuses) = refused (plain_response r) 0 refuses refl
 session_stopped root fetched (Refused r) (inr (o, k, m, opens, refuses, e)) =
     let none : m ≡ 0 = omega (arith, e) in

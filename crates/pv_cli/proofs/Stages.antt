@@ -9,7 +9,7 @@ use Rattle.pv_cli.specs.Course.{Course, after_fetches, without_input}
 use Rattle.pv_cli.specs.Opening.{IsFile}
 use Rattle.pv_cli.specs.Program.{CountsShelf}
 use Rattle.pv_cli.specs.Response.{PlainResponse, plain_response}
-use Rattle.pv_cli.specs.Returns.{Finds, RefusesWith, Returns, StopCounts, StopsBy, TellsBy, ending_of}
+use Rattle.pv_cli.specs.Returns.{TakesCourse, RefusesWith, Returns, StopCounts, StopsBy, TellsBy, ending_of}
 use Rattle.pv_cli.specs.Stage.{Stage, without_fetch, followed_by, beside, Behind, opened, refused, stopped, short_of_memory, Responds, responded, short_of_memory as out_of_memory}
 
 -- the file of a name that isn't asked for
@@ -73,33 +73,33 @@ behind_second first second Goes x k rest opens (stopped m faults is) = stopped (
 behind_second first second Goes x k rest opens (short_of_memory m lacks is) = short_of_memory (k + m) (inr (x, k, m, opens, lacks, refl)) (ap (after_fetches k) is)
 
 -- what was found is the course that it ends in, and asks no shelf
-pub finds_goes : (Goes : Course → Type 0) (result : Result Response Stop) → Finds Goes result → Goes (without_input 0 (ending_of result))
+pub finds_goes : (Goes : Course → Type 0) (result : Result Response Stop) → TakesCourse Goes result → Goes (without_input 0 (ending_of result))
 finds_goes Goes (Ok r) finds = finds
 finds_goes Goes (Err (Refused r)) finds = finds
 finds_goes Goes (Err ShelfFault) finds = absurd finds
 finds_goes Goes (Err NoMemory) finds = finds
 
-pub finds_stays : (Goes : Course → Type 0) (result : Result Response Stop) → Finds Goes result → (count : ℕ) → CountsShelf (ending_of result) count count
+pub finds_stays : (Goes : Course → Type 0) (result : Result Response Stop) → TakesCourse Goes result → (count : ℕ) → CountsShelf (ending_of result) count count
 finds_stays Goes (Ok r) finds count = refl
 finds_stays Goes (Err (Refused r)) finds count = refl
 finds_stays Goes (Err ShelfFault) finds count = absurd finds
 finds_stays Goes (Err NoMemory) finds count = refl
 
 -- what the end of the order of work told was found
-pub tells_found : (P : PlainResponse → Type 0) (result : Result Response Stop) → TellsBy P result → Finds (Responds P) result
+pub tells_found : (P : PlainResponse → Type 0) (result : Result Response Stop) → TellsBy P result → TakesCourse (Responds P) result
 tells_found P (Ok r) tells = responded _ tells refl
 tells_found P (Err (Refused r)) tells = responded _ tells refl
 tells_found P (Err ShelfFault) tells = tells
 tells_found P (Err NoMemory) tells = out_of_memory refl
 
 -- a stop of a stage that can't fail
-pub stop_found : {X : Type 0} (stage : Stage X) (Goes : X → Course → Type 0) (stop : Stop) → (stage.Faults 0 → ⊥) → StopsBy stage 0 stop → Finds (Behind stage Goes) (Err stop)
+pub stop_found : {X : Type 0} (stage : Stage X) (Goes : X → Course → Type 0) (stop : Stop) → (stage.Faults 0 → ⊥) → StopsBy stage 0 stop → TakesCourse (Behind stage Goes) (Err stop)
 stop_found stage Goes (Refused r) never stops = refused (plain_response r) 0 stops refl
 stop_found stage Goes ShelfFault never stops = never stops
 stop_found stage Goes NoMemory never stops = short_of_memory 0 stops refl
 
 -- what was found behind what a stage opened
-pub found_behind : {X : Type 0} (stage : Stage X) (Goes : X → Course → Type 0) (x : X) (result : Result Response Stop) → stage.Opens x 0 → Finds (Goes x) result → Finds (Behind stage Goes) result
+pub found_behind : {X : Type 0} (stage : Stage X) (Goes : X → Course → Type 0) (x : X) (result : Result Response Stop) → stage.Opens x 0 → TakesCourse (Goes x) result → TakesCourse (Behind stage Goes) result
 found_behind stage Goes x (Ok r) opens finds = opened x 0 _ opens finds refl
 found_behind stage Goes x (Err (Refused r)) opens finds = opened x 0 _ opens finds refl
 found_behind stage Goes x (Err ShelfFault) opens finds = finds

@@ -30,7 +30,7 @@ use Rattle.pv_cli.specs.Causes.{script_line, whole_script}
 use Rattle.pv_cli.specs.CommandLine.{PlainCommandLine}
 use Rattle.pv_cli.specs.Devices.{Devices}
 use Rattle.pv_cli.specs.Headline.{HadNoMemory}
-use Rattle.pv_cli.specs.Laws.{Answered, IsComplete}
+use Rattle.pv_cli.specs.Laws.{Answered, AnswersWithoutFault}
 use Rattle.pv_cli.specs.Opening.{Files}
 use Rattle.pv_cli.specs.Program.{Runs}
 use Rattle.pv_cli.specs.Within.{AnswersWithin, IsAnswered, IsWithin, PassesLimitOfLists}
@@ -196,7 +196,7 @@ answered once line before after status run within (inr told) =
     inr (subst (IsAnswered line run.files run.course.taken) (sym told.is_status)
     (answer once line run.files run.course.taken within told.response.status cause))
 
-pub answers_within : (S : Type 0) → MeanOnce → IsComplete S → AnswersWithin S
+pub answers_within : (S : Type 0) → MeanOnce → AnswersWithoutFault S → AnswersWithin S
 answers_within S once complete line before after status run no_shelf no_input no_output within =
     answered once line before after status run within
     (complete line before after status run no_shelf no_input no_output)

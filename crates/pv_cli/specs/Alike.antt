@@ -11,17 +11,17 @@ use Rattle.pv_cli.specs.declared.verb.Verb.{Verb}
 use Rattle.pv_cli.specs.declared.verb.Verb.TheVariants.{Session, Complete}
 
 -- One reply, or two that show a completion, with the same number of inserted elements.
-pub data AreAlike (told also : Reply) : Type 0 where
-  are_one : told ≡ also → AreAlike told also
+pub data RepliesAlike (told also : Reply) : Type 0 where
+  are_one : told ≡ also → RepliesAlike told also
   are_completions : (k : ℕ) (body other : List ℕ) → told ≡ reply.Completed k body →
-      also ≡ reply.Completed k other → AreAlike told also
+      also ≡ reply.Completed k other → RepliesAlike told also
 
 -- The bytes of replies, each like the one in its place among the other bytes, and the same bytes
 -- behind them.
 pub data OutputsAlike : List ℕ → List ℕ → Type 0 where
   ends_alike : {out also : List ℕ} → out ≡ also → OutputsAlike out also
   begins_alike : {out also : List ℕ} (told other : Reply) (rest more : List ℕ) →
-      AreAlike told other → OutputsAlike rest more →
+      RepliesAlike told other → OutputsAlike rest more →
       out ≡ reply_bytes told ++ rest → also ≡ reply_bytes other ++ more → OutputsAlike out also
 
 pub record ResponsesAlike (r also : PlainResponse) : Type 0 where

@@ -8,7 +8,7 @@ use Rattle.pv_cert.specs.declared.packs.Pack.{Pack}
 use Rattle.pv_closed.specs.ClosedTables.{IsFirstWideTable}
 use Rattle.pv_complete.specs.Needing.{IsHeavy, StopsAtWide}
 use Rattle.pv_complete.specs.Tables.{HasTooMany}
-use Rattle.pv_denial.specs.Judging.{IsJudged, IsTooWideFor}
+use Rattle.pv_denial.specs.Judging.{IsDenialJudged, IsTooWideFor}
 use Rattle.pv_denial.specs.declared.denials.Denial.{Denial}
 use Rattle.pv_denial.specs.declared.denials.Flaw.{Flaw}
 use Rattle.pv_denial.specs.declared.denials.Judged.TheVariants as judged
@@ -180,13 +180,13 @@ ReadsScript (Some (on_ranges dtd root text ranges)) = ⊥
 ReadsScript (Some (drill n)) = ⊥
 
 -- a command line makes tables of weights, by its verb
-abbrev pub MakesTables : Option PlainCommandLine → Type 0
-MakesTables None = ⊥
-MakesTables (Some (on_dtd dtd)) = ⊥
-MakesTables (Some (on_document verb dtd root doc)) = makes_tables verb ≡ true
-MakesTables (Some (on_certificate checker dtd root doc file)) = ⊥
-MakesTables (Some (on_ranges dtd root text ranges)) = ⊥
-MakesTables (Some (drill n)) = ⊥
+abbrev pub NeedsTables : Option PlainCommandLine → Type 0
+NeedsTables None = ⊥
+NeedsTables (Some (on_dtd dtd)) = ⊥
+NeedsTables (Some (on_document verb dtd root doc)) = makes_tables verb ≡ true
+NeedsTables (Some (on_certificate checker dtd root doc file)) = ⊥
+NeedsTables (Some (on_ranges dtd root text ranges)) = ⊥
+NeedsTables (Some (drill n)) = ⊥
 
 -- whether a first fault is a limit that is passed
 abbrev pub is_dtd_limit : DtdKind → Bool
@@ -291,13 +291,13 @@ pub data PassesLimit (line : Option PlainCommandLine) (files : Files) (taken : O
       TestsFor line test → tests_width test ≡ true → ReadsBoth line files root g doc →
       IsFirstTooWide g (lists_of doc) path → PassesLimit line files taken
   weights_width : (root : List ℕ) (g : PlainDtd) (doc : PlainDoc Mark) (path : List ℕ) →
-      MakesTables line → ReadsBoth line files root g doc → StopsAtWide g root doc path →
+      NeedsTables line → ReadsBoth line files root g doc → StopsAtWide g root doc path →
       PassesLimit line files taken
   missing_elements : (root : List ℕ) (g : PlainDtd) (doc : PlainDoc Mark) →
-      MakesTables line → ReadsBoth line files root g doc → IsHeavy g root doc →
+      NeedsTables line → ReadsBoth line files root g doc → IsHeavy g root doc →
       PassesLimit line files taken
   table_entries : (root : List ℕ) (g : PlainDtd) (doc : PlainDoc Mark) →
-      MakesTables line → ReadsBoth line files root g doc → HasTooMany g root doc →
+      NeedsTables line → ReadsBoth line files root g doc → HasTooMany g root doc →
       PassesLimit line files taken
   denial_values : (root : List ℕ) (g : PlainDtd) (doc : PlainDoc Mark) →
       TestsFor line impossibility → ReadsBoth line files root g doc →
@@ -354,7 +354,7 @@ pub data IsNegative (line : Option PlainCommandLine) (files : Files) : Type 0 wh
       IsNegative line files
   not_denied : (root : List ℕ) (g : PlainDtd) (doc : PlainDoc Mark) (denial : Denial)
       (flaw : Flaw) → ReadsDenial line files root g doc denial →
-      IsJudged g root doc denial (judged.Rejected flaw) → IsNegative line files
+      IsDenialJudged g root doc denial (judged.Rejected flaw) → IsNegative line files
 
 -- status 3: the shelf failed, which a command line asks only where it names files; or the input
 -- failed, which it asks only where it reads a script

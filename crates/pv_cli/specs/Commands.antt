@@ -20,12 +20,12 @@ use Rattle.pv_cli.specs.declared.verb.Verb.{Verb}
 use Rattle.pv_cli.specs.declared.verb.Verb.TheVariants.{Valid, Check, Session, Complete, Why}
 
 -- what each verb does behind the opened files
-abbrev pub Tells : Verb → List ℕ → PlainOpened → Course → Type 0
-Tells Valid root opened = IsValidCourse root opened
-Tells Check root opened = IsCheckCourse root opened
-Tells Session root opened = IsSessionCourse root opened
-Tells Complete root opened = IsCompleteCourse root opened
-Tells Why root opened = IsWhyCourse root opened
+abbrev pub VerbTells : Verb → List ℕ → PlainOpened → Course → Type 0
+VerbTells Valid root opened = IsValidCourse root opened
+VerbTells Check root opened = IsCheckCourse root opened
+VerbTells Session root opened = IsSessionCourse root opened
+VerbTells Complete root opened = IsCompleteCourse root opened
+VerbTells Why root opened = IsWhyCourse root opened
 
 -- what a verb tests of its document: that it is valid; that no list is too wide; or that, and that
 -- inserting elements can make it valid, or can't
@@ -70,11 +70,11 @@ lines_checked other taken = None
 
 -- a command on a document: its files are opened, and then it does what its verb does
 abbrev pub IsDocumentCourse : Verb → List ℕ → Files → Course → Type 0
-IsDocumentCourse verb root files = Behind (opening_stage root files) (Tells verb root)
+IsDocumentCourse verb root files = Behind (opening_stage root files) (VerbTells verb root)
 
 -- the same, once the DTD is opened and the document's bytes are fetched
 abbrev pub GoesOn : Verb → List ℕ → PlainDtd × List ℕ → Course → Type 0
-GoesOn verb root fetched = Behind (document_stage root fetched.0 fetched.1) (Tells verb root)
+GoesOn verb root fetched = Behind (document_stage root fetched.0 fetched.1) (VerbTells verb root)
 
 -- a command on a certificate, over its files
 abbrev pub IsCheckerCourse : Checker → List ℕ → Files → Course → Type 0

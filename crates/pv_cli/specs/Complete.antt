@@ -1,6 +1,6 @@
 -- What `complete DTD ROOT DOC` responds.
 use Rattle.std.specs.Prelude.{◌≡◌, ℕ, List, ◌++◌, codes}
-use Rattle.pv_cert.specs.Packs.{IsPackText, lines_of, lines_text}
+use Rattle.pv_cert.specs.Packs.{IsPackText, lines_of_pack, lines_text}
 use Rattle.pv_cert.specs.declared.packs.Pack.{Pack}
 use Rattle.pv_closed.specs.ClosedTables.{AreNarrowTables}
 use Rattle.pv_complete.specs.Completing.{IsLeastCompletion}
@@ -11,7 +11,7 @@ use Rattle.pv_dtd.specs.Plain.{PlainDtd}
 use Rattle.pv_script.specs.Paths.{path_text}
 use Rattle.pv_tree.specs.Lists.{lists_of}
 use Rattle.pv_tree.specs.Plain.{PlainDoc}
-use Rattle.pv_verify.specs.Tests.{IsAccepted}
+use Rattle.pv_verify.specs.Tests.{PassesAllTests}
 use Rattle.pv_cli.specs.declared.status.Status.TheVariants.{Done, Limit}
 use Rattle.pv_cli.specs.Course.{Course}
 use Rattle.pv_cli.specs.Documents.{PlainOpened}
@@ -22,7 +22,7 @@ use Rattle.pv_cli.specs.Stage.{Behind, Responds}
 -- The pack of a least completion: its body is a text of the document with `total` elements
 -- inserted, which makes it valid, and no fewer can; all else is written as it was; the marks are
 -- the numbers of the new elements in the body; and the tables are those of the document's lists.
-pub record IsLeastPack {M : Type 0} (root : List ℕ) (g : PlainDtd) (doc : PlainDoc M)
+pub record IsPackOfCompletion {M : Type 0} (root : List ℕ) (g : PlainDtd) (doc : PlainDoc M)
     (pack : Pack) : Type 0 where
   pub completion : IsLeastCompletion g root doc pack.total pack.marks pack.body
   pub grown : IsGrownText doc pack.body
@@ -32,9 +32,9 @@ pub record IsLeastPack {M : Type 0} (root : List ℕ) (g : PlainDtd) (doc : Plai
 -- names a list that is too wide for weights, and it passes all tests.
 pub record IsVerifiable {M : Type 0} (root : List ℕ) (g : PlainDtd) (doc : PlainDoc M)
     (pack : Pack) : Type 0 where
-  pub text : IsPackText (lines_text (lines_of pack)) pack
+  pub text : IsPackText (lines_text (lines_of_pack pack)) pack
   pub narrow : AreNarrowTables g (lists_of doc) pack.tables
-  pub accepted : IsAccepted g root doc pack
+  pub accepted : PassesAllTests g root doc pack
 
 -- The text of such a pack is printed, of several any, and it is accepted. Or none is: the list at a
 -- path is the first Possible one that is too wide for weights; or there is none, and more than
@@ -42,8 +42,9 @@ pub record IsVerifiable {M : Type 0} (root : List ℕ) (g : PlainDtd) (doc : Pla
 -- entries.
 pub data TellsPack {M : Type 0} (root : List ℕ) (g : PlainDtd) (doc : PlainDoc M)
     (r : PlainResponse) : Type 0 where
-  is_pack : (pack : Pack) → IsLeastPack root g doc pack → IsVerifiable root g doc pack →
-      r ≡ record { status = Done; output = lines_text (lines_of pack) } → TellsPack root g doc r
+  is_pack : (pack : Pack) → IsPackOfCompletion root g doc pack → IsVerifiable root g doc pack →
+      r ≡ record { status = Done; output = lines_text (lines_of_pack pack) } →
+      TellsPack root g doc r
   is_wide : (path : List ℕ) → StopsAtWide g root doc path →
       r ≡ with_line Limit (codes "limit width " ++ path_text path) → TellsPack root g doc r
   is_heavy : IsHeavy g root doc → r ≡ with_line Limit (codes "limit weight") →
@@ -61,5 +62,5 @@ IsCompleteCourse root opened = Behind (possibility_stage root opened.dtd opened.
 pub data PacksAlike (r also : PlainResponse) : Type 0 where
   are_one : r ≡ also → PacksAlike r also
   are_packs : (pack other : Pack) → pack.total ≡ other.total → pack.tables ≡ other.tables →
-      r ≡ record { status = Done; output = lines_text (lines_of pack) } →
-      also ≡ record { status = Done; output = lines_text (lines_of other) } → PacksAlike r also
+      r ≡ record { status = Done; output = lines_text (lines_of_pack pack) } →
+      also ≡ record { status = Done; output = lines_text (lines_of_pack other) } → PacksAlike r also

@@ -1,5 +1,6 @@
 -- What the parts of a conversation return.
-use Rattle.std.specs.Prelude.{◌≡◌, ◌≢◌, ◌⊎◌, ◌≤◌, ◌<◌, ◌+◌, ◌*◌, ℕ, suc, Bool, true, false, List, [], ◌++◌}
+use Rattle.std.specs.Prelude.{◌≡◌, ◌≢◌, ◌⊎◌, ◌≤◌, ◌<◌, ◌+◌, ◌*◌, ℕ, suc, Bool, true, false, List}
+use Rattle.std.specs.Prelude.{[], ◌++◌}
 use Rattle.std.specs.Prelude.{length, map, codes, decimal, Option, Result, Ok, Err}
 use Rattle.std.specs.List.{AllByRecursion}
 use Rattle.std.specs.Io.KnownBytes.{Appends}
@@ -21,7 +22,8 @@ use Rattle.pv_cli.specs.Checking.{lines_taken}
 use Rattle.pv_cli.specs.Course.{RunEnding, output_fault}
 use Rattle.pv_cli.specs.Devices.{InputNow, OutputNow}
 use Rattle.pv_cli.specs.Returns.{GoesThrough}
-use Rattle.pv_cli.specs.Session.{Converses, RepliesTo, EndsSession, Replies, at_line, all_told, limited}
+use Rattle.pv_cli.specs.Session.{Converses, RepliesTo, EndsSession, Replies, at_line, all_told}
+use Rattle.pv_cli.specs.Session.{limited}
 
 -- the text of the reply to a line, or that there was no memory for it, which changes nothing
 pub data IsReplyText (before : PlainSession) (line : List ℕ) (after : PlainSession)
@@ -41,8 +43,8 @@ AnswersLine before line after AreWritten true = RepliesWith before line after Ar
 AnswersLine before line after AreWritten false = SpellsCommand line Quit × AreWritten []
 
 -- a line without an LF in it, and not too long
-abbrev pub IsLine : List ℕ → Type 0
-IsLine line = HasNoFeed line × (length line ≤ MAX_LINE_BYTES)
+abbrev pub IsScriptLine : List ℕ → Type 0
+IsScriptLine line = HasNoFeed line × (length line ≤ MAX_LINE_BYTES)
 
 -- all of these numbers are below this one
 abbrev pub AllBelow : ℕ → List ℕ → Type 0
@@ -54,8 +56,8 @@ pub record Conversed (AreWritten : List ℕ → Type 0) (first : PlainSession) (
     (current : PlainSession) (held : HeldLine) (number : ℕ) : Type 0 where
   pub lines : List (List ℕ)
   pub is_cut : script ≡ with_feeds lines ++ held.bytes
-  pub are_lines : AllByRecursion IsLine lines
-  pub is_begun : IsLine held.bytes
+  pub are_lines : AllByRecursion IsScriptLine lines
+  pub is_begun : IsScriptLine held.bytes
   pub goes_on : held.whole ≡ false
   pub counted : number ≤ suc (length script)
   pub silent : List ℕ

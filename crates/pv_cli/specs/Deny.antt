@@ -1,6 +1,6 @@
 -- What `deny DTD ROOT DOC TABLE` responds.
 use Rattle.std.specs.Prelude.{◌≡◌, ℕ, List, ◌++◌, codes}
-use Rattle.pv_denial.specs.Judging.{IsJudged, IsTooWideFor}
+use Rattle.pv_denial.specs.Judging.{IsDenialJudged, IsTooWideFor}
 use Rattle.pv_denial.specs.declared.denials.Denial.{Denial}
 use Rattle.pv_denial.specs.declared.denials.Flaw.{Flaw}
 use Rattle.pv_denial.specs.declared.denials.Flaw.TheVariants as flaw
@@ -30,11 +30,11 @@ flaw_text flaw.Reached = codes "reached"
 -- judged.
 pub data TellsJudgement {M : Type 0} (root : List ℕ) (g : PlainDtd) (doc : PlainDoc M)
     (denial : Denial) (r : PlainResponse) : Type 0 where
-  is_denied : IsJudged g root doc denial judged.Denied →
+  is_denied : IsDenialJudged g root doc denial judged.Denied →
       ¬ IsPotentiallyValid g root (view doc.root) →
       r ≡ with_line Done (codes "denied " ++ path_text denial.path) →
       TellsJudgement root g doc denial r
-  is_rejected : (f : Flaw) → IsJudged g root doc denial (judged.Rejected f) →
+  is_rejected : (f : Flaw) → IsDenialJudged g root doc denial (judged.Rejected f) →
       r ≡ with_line Negative (codes "rejected " ++ flaw_text f) →
       TellsJudgement root g doc denial r
   is_too_wide : IsTooWideFor g doc denial →

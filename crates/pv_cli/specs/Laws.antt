@@ -24,7 +24,7 @@ use Rattle.pv_verify.specs.Laws.{IsLeastPack}
 use Rattle.pv_cli.specs.declared.checker.Checker.TheVariants.{Deny, Verify}
 use Rattle.pv_cli.specs.declared.status.Status.{Status}
 use Rattle.pv_cli.specs.declared.status.Status.TheVariants.{Done, ReadFault, WriteFault}
-use Rattle.pv_cli.specs.Alike.{AreAlike, OutputsAlike, RespondsAlike}
+use Rattle.pv_cli.specs.Alike.{RepliesAlike, OutputsAlike, RespondsAlike}
 use Rattle.pv_cli.specs.Causes.{HasCause, OneRoseAtMost, ReadsDenial, ReadsPack}
 use Rattle.pv_cli.specs.CommandLine.{PlainCommandLine, on_certificate}
 use Rattle.pv_cli.specs.Course.{Course, RunEnding, responds, input_fault}
@@ -56,8 +56,8 @@ EndsAtQuit = (silent : List ℕ) (number : ℕ) (session : PlainSession) (lines 
 abbrev pub HasOneReply : Type 0
 HasOneReply = (session : PlainSession) (line : List ℕ) (reply also : Reply)
     (after later : PlainSession) →
-    RepliesTo session line reply after → RepliesTo session line also later → AreAlike reply also ×
-    (after ≡ later)
+    RepliesTo session line reply after → RepliesTo session line also later →
+    RepliesAlike reply also × (after ≡ later)
 
 -- What `offer` told is kept when the edit is tried with a name: one of those it told is made, and
 -- another declared name is refused, since more lists would be impossible.
@@ -102,9 +102,9 @@ pub record Answered {S : Type 0} {line : Option PlainCommandLine} {before after 
 
 -- where no count of faults rose, a defined response was written, or there was no memory and nothing
 -- was written
-abbrev pub IsComplete : Type 0 → Type 0
-IsComplete S = (line : Option PlainCommandLine) (before after : Devices S) (status : Status)
-    (run : Runs line before after status) →
+abbrev pub AnswersWithoutFault : Type 0 → Type 0
+AnswersWithoutFault S = (line : Option PlainCommandLine) (before after : Devices S)
+    (status : Status) (run : Runs line before after status) →
     (Rose before.shelf.faults after.shelf.faults → ⊥) →
     (Rose before.input.faults after.input.faults → ⊥) →
     (Rose before.output.faults after.output.faults → ⊥) →

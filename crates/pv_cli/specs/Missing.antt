@@ -1,5 +1,6 @@
 -- What `need` and `complete` reply in a session. That a list is Possible or impossible, and that a
--- document has a completion, is said in whichever way (`∥ ∥₁` says that there is one, and not which).
+-- document has a completion, is said in whichever way (`∥ ∥₁` says that there is one, and not
+-- which).
 use Rattle.std.specs.Prelude.{◌≡◌, ℕ, List}
 use Rattle.pv_script.specs.declared.replies.Reply.{Reply}
 use Rattle.pv_script.specs.declared.replies.Reply.TheVariants as reply
@@ -10,8 +11,8 @@ use Rattle.pv_complete.specs.Needing.{IsHeavy, Needs, StopsAtWide}
 use Rattle.pv_fresh.specs.Answers.{IsImpossibleAt}
 
 -- How many elements are missing isn't told: no insertions can make the document valid, and the list
--- at a path is the first impossible one; or some can, and the list is the first Possible one that is
--- too wide for weights; or there is none, and more than 1,000,000 elements are missing.
+-- at a path is the first impossible one; or some can, and the list is the first Possible one that
+-- is too wide for weights; or there is none, and more than 1,000,000 elements are missing.
 pub data Withholds (s : PlainSession) (told : Reply) : Type 0 where
   is_impossible : (path : List ℕ) → ∥ IsImpossibleAt s.root s.dtd s.doc path ∥₁ →
       told ≡ reply.Impossible path → Withholds s told

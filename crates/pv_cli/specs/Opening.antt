@@ -37,7 +37,7 @@ AreFiles told (name ∷ names) [] = ⊥
 AreFiles told (name ∷ names) (file ∷ files) = IsFile told name file × AreFiles told names files
 
 -- the file holds these bytes, and no more than so many
-pub record IsGiven (file : Option (List ℕ)) (most : ℕ) (bytes : List ℕ) : Type 0 where
+pub record IsFetched (file : Option (List ℕ)) (most : ℕ) (bytes : List ℕ) : Type 0 where
   pub is_file : file ≡ Some bytes
   pub within : length bytes ≤ most
 
@@ -53,7 +53,7 @@ pub record IsFileTooLong (file : Option (List ℕ)) (most : ℕ) (passed : List 
 -- `passed` where it has more, and then it is no fault of the shelf.
 abbrev pub fetch_stage : Option (List ℕ) → ℕ → List ℕ → Stage (List ℕ)
 fetch_stage file most passed = record {
-  Opens = λ bytes n. IsGiven file most bytes × (n ≡ 1);
+  Opens = λ bytes n. IsFetched file most bytes × (n ≡ 1);
   Refuses = λ r n. IsFileTooLong file most passed r × (n ≡ 1);
   Faults = λ n. (HoldsMore file most → ⊥) × (n ≡ 1);
   Lacks = λ n. n ≡ 1;

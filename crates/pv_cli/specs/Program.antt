@@ -118,14 +118,14 @@ is_output_fault (output_fault out) = true
 is_output_fault no_memory = false
 
 -- The status of an ending, and what is written then. Where writing fails, a front of it is written.
-pub data Writes (ending : RunEnding) (old new : Option (List ℕ)) (before after : ℕ)
+pub data WritesEnding (ending : RunEnding) (old new : Option (List ℕ)) (before after : ℕ)
     (status : Status) : Type 0 where
   wrote : is_output_fault ending ≡ false → status ≡ status_of ending →
       Appends old new (output_of ending) → CountStays before after →
-      Writes ending old new before after status
+      WritesEnding ending old new before after status
   cut_off : (out : List ℕ) → IsCutOff ending out → status ≡ WriteFault → AppendsFront old new out →
       Rose before after →
-      Writes ending old new before after status
+      WritesEnding ending old new before after status
 
 -- the shelf shows this course: it was asked for so many files, and failed where the course ends so
 pub record ShowsShelf (course : Course) (before after : ShelfNow) : Type 0 where
@@ -140,7 +140,7 @@ pub record ShowsStreams {S : Type 0} (course : Course) (before after : InputNow 
   pub taken : TakesInput course.taken before after
   pub asked : AsksInput course.taken before.calls after.calls
   pub at_end : course.at_end ≡ true → ReadsAll course.taken after.left
-  pub output : Writes course.ending old.written new.written old.faults new.faults status
+  pub output : WritesEnding course.ending old.written new.written old.faults new.faults status
 
 -- What a run does: there are files, those that the shelf tells where it tells them, and a course
 -- that is defined for the command line over these files, which the devices and the status show; and

@@ -85,12 +85,12 @@ TellsBy IsResponse (Ok response) = IsResponse (plain_response response)
 TellsBy IsResponse (Err stop) = RefusesWith IsResponse stop
 
 -- what returned takes such a course that leaves the shelf and the input alone
-abbrev pub Finds : (Course → Type 0) → Result Response Stop → Type 0
-Finds Goes (Ok response) = Goes (without_input 0 (responds (plain_response response)))
-Finds Goes (Err (Refused response)) =
+abbrev pub TakesCourse : (Course → Type 0) → Result Response Stop → Type 0
+TakesCourse Goes (Ok response) = Goes (without_input 0 (responds (plain_response response)))
+TakesCourse Goes (Err (Refused response)) =
     Goes (without_input 0 (responds (plain_response response)))
-Finds Goes (Err ShelfFault) = ⊥
-Finds Goes (Err NoMemory) = Goes (without_input 0 no_memory)
+TakesCourse Goes (Err ShelfFault) = ⊥
+TakesCourse Goes (Err NoMemory) = Goes (without_input 0 no_memory)
 
 -- how what leaves the input alone ended
 abbrev pub ending_of : Result Response Stop → RunEnding

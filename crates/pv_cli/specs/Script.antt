@@ -8,13 +8,14 @@ use Rattle.pv_script.specs.Taking.{MAX_LINE_BYTES}
 abbrev pub MAX_SCRIPT_BYTES : ℕ
 MAX_SCRIPT_BYTES = 268435456
 
-abbrev pub is_too_long : List ℕ → Bool
-is_too_long piece = nat_lt MAX_LINE_BYTES (length piece)
+abbrev pub is_line_too_long : List ℕ → Bool
+is_line_too_long piece = nat_lt MAX_LINE_BYTES (length piece)
 
 -- the pieces before the first that is too long
 abbrev pub before_too_long : List (List ℕ) → List (List ℕ)
 before_too_long [] = []
-before_too_long (piece ∷ pieces) = if is_too_long piece then [] else piece ∷ before_too_long pieces
+before_too_long (piece ∷ pieces) =
+    if is_line_too_long piece then [] else piece ∷ before_too_long pieces
 
 -- the lines that an LF ends before a limit is passed
 abbrev pub lines_within : List ℕ → List (List ℕ)
@@ -23,7 +24,7 @@ lines_within script = map without_returns
 
 -- a line is too long, at the first byte past the limit on the script at the latest
 abbrev pub has_long_line : List ℕ → Bool
-has_long_line script = list_any is_too_long (raw_lines_of (take (suc MAX_SCRIPT_BYTES) script))
+has_long_line script = list_any is_line_too_long (raw_lines_of (take (suc MAX_SCRIPT_BYTES) script))
 
 -- no limit is passed
 pub record IsWithin (script : List ℕ) : Type 0 where

@@ -11,20 +11,21 @@ use Rattle.pv_cli.specs.declared.conversation.answers.ReplyText.{ReplyText}
 use Rattle.pv_cli.specs.declared.conversation.answers.ReplyText.TheVariants.{Made, Fixed}
 use Rattle.pv_cli.specs.Session.{RepliesBy, RepliesTo, done_of}
 
-abbrev pub text_of : ReplyText → List ℕ
-text_of (Made text) = text.items
-text_of (Fixed text) = text.now
+abbrev pub text_of_reply : ReplyText → List ℕ
+text_of_reply (Made text) = text.items
+text_of_reply (Fixed text) = text.now
 
-abbrev pub IsAnswer : Reply → Answer → Type 0
-IsAnswer told answer = (text_of answer.text ≡ reply_bytes told) × (answer.done ≡ done_of told)
+abbrev pub IsAnswerOf : Reply → Answer → Type 0
+IsAnswerOf told answer =
+    (text_of_reply answer.text ≡ reply_bytes told) × (answer.done ≡ done_of told)
 
 -- the reply to a line and the session behind it, or the end, which leaves the session
 abbrev pub IsTurn : PlainSession → List ℕ → PlainSession → Option Answer → Type 0
 IsTurn before line after None = SpellsCommand line command.Quit × (after ≡ before)
 IsTurn before line after (Some answer) =
-    (told : Reply) × RepliesTo before line told after × IsAnswer told answer
+    (told : Reply) × RepliesTo before line told after × IsAnswerOf told answer
 
 -- the reply to a command
 abbrev pub IsReplyBy : PlainSession → Command → PlainSession → Answer → Type 0
 IsReplyBy before command after answer =
-    (told : Reply) × RepliesBy before command told after × IsAnswer told answer
+    (told : Reply) × RepliesBy before command told after × IsAnswerOf told answer

@@ -10,7 +10,7 @@ use Rattle.pv_cli.specs.Stage.{Stage, without_fetch}
 use Rattle.pv_cli.specs.Valid.{TellsValidity}
 
 -- such a response, of the document that the bytes are
-pub record TellsOf (root : List ℕ) (g : PlainDtd) (bytes : List ℕ) (r : PlainResponse) :
+pub record TellsValidityOf (root : List ℕ) (g : PlainDtd) (bytes : List ℕ) (r : PlainResponse) :
     Type 0 where
   pub doc : PlainDoc Mark
   pub is_text : IsDocumentText root bytes doc
@@ -18,4 +18,5 @@ pub record TellsOf (root : List ℕ) (g : PlainDtd) (bytes : List ℕ) (r : Plai
 
 -- reading a document and telling whether it is valid, at once
 abbrev pub validity_stage : List ℕ → PlainDtd → List ℕ → Stage PlainResponse
-validity_stage root g bytes = without_fetch (TellsOf root g bytes) (RefusesDocument root bytes)
+validity_stage root g bytes =
+    without_fetch (TellsValidityOf root g bytes) (RefusesDocument root bytes)

@@ -10,7 +10,7 @@ use Rattle.pv_tree.specs.Marks.{blank_mark}
 use Rattle.pv_tree.specs.Plain.{PlainDoc}
 use Rattle.pv_tree.specs.declared.nodes.Mark.{Mark}
 use Rattle.pv_verify.specs.Laws.{IsLeastPack}
-use Rattle.pv_verify.specs.Tests.{IsAccepted, IsRejected}
+use Rattle.pv_verify.specs.Tests.{PassesAllTests, IsRejected}
 use Rattle.pv_verify.specs.declared.answers.Why.{Why}
 use Rattle.pv_verify.specs.declared.answers.Why.TheVariants as why
 use Rattle.pv_cli.specs.declared.status.Status.TheVariants.{Done, Limit, Negative}
@@ -36,7 +36,7 @@ test_text why.Totals = codes "totals"
 -- path of its tables that names such a list.
 pub data TellsAcceptance (root : List ℕ) (g : PlainDtd) (doc : PlainDoc Mark) (pack : Pack)
     (r : PlainResponse) : Type 0 where
-  is_accepted : AreNarrowTables g (lists_of doc) pack.tables → IsAccepted g root doc pack →
+  is_accepted : AreNarrowTables g (lists_of doc) pack.tables → PassesAllTests g root doc pack →
       IsLeastPack g root doc pack → r ≡ with_line Done (codes "accepted " ++ decimal pack.total) →
       TellsAcceptance root g doc pack r
   is_rejected : (test : Why) → AreNarrowTables g (lists_of doc) pack.tables →

@@ -1,7 +1,7 @@
 -- What `why DTD ROOT DOC` responds.
 use Rattle.std.specs.Prelude.{◌≡◌, ℕ, List, codes}
 use Rattle.pv_denial.specs.declared.denials.Denial.{Denial}
-use Rattle.pv_denial_text.specs.Texts.{lines_of, lines_text}
+use Rattle.pv_denial_text.specs.Texts.{lines_of_denial, lines_text}
 use Rattle.pv_deny.specs.Denying.{HasTooMany, IsDenialOf}
 use Rattle.pv_dtd.specs.Plain.{PlainDtd}
 use Rattle.pv_missing.specs.Completing.{IsPotentiallyValid}
@@ -21,7 +21,8 @@ pub data TellsWhy {M : Type 0} (root : List ℕ) (g : PlainDtd) (doc : PlainDoc 
     (r : PlainResponse) : Type 0 where
   is_denied : (denial : Denial) → ¬ IsPotentiallyValid g root (view doc.root) →
       IsDenialOf g root doc denial →
-      r ≡ record { status = Done; output = lines_text (lines_of denial) } → TellsWhy root g doc r
+      r ≡ record { status = Done; output = lines_text (lines_of_denial denial) } →
+      TellsWhy root g doc r
   has_too_many : ¬ IsPotentiallyValid g root (view doc.root) → HasTooMany g root doc →
       r ≡ with_line Limit (codes "limit tables") → TellsWhy root g doc r
   is_possible : IsPotentiallyValid g root (view doc.root) →

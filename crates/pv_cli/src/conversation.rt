@@ -3,6 +3,7 @@
 pub mod answers;
 mod missing;
 mod offers;
+pub mod opened_session;
 mod reply_buffer;
 pub mod talk;
 pub mod turns;

@@ -1,6 +1,6 @@
 //! Laws on what the program does. Their functions do nothing.
 
-ghost use Rattle.pv_cli.specs.Laws.{HasOneResponse, IsComplete, FaultsShow, HasOneReply};
+ghost use Rattle.pv_cli.specs.Laws.{HasOneResponse, AnswersWithoutFault, FaultsShow, HasOneReply};
 ghost use Rattle.pv_cli.specs.Laws.{HasOneOutput, JoinsReplies, EndsAtQuit, MoreChangesNothing};
 ghost use Rattle.pv_cli.specs.Laws.{AcceptsLeast, ComesByCause, DeniesImpossible, OffersAreKept};
 ghost use Rattle.pv_cli.specs.Laws.{RaisesOneAtMost, SessionsAreGuarded};
@@ -57,7 +57,7 @@ pub fn one_response_law()
 /// Where no device failed, the defined response was written, or there was no memory and nothing was
 /// written.
 pub fn complete_law<S: Source>()
-    ensures { IsComplete S }
+    ensures { AnswersWithoutFault S }
 {}
 
 /// A fault that a device counted shows in the status.
@@ -88,20 +88,21 @@ pub fn within_law<S: Source>()
     complete_law::<S>();
 }
 
-/// Whatever run of `verify` ends with status 0 has written `accepted K`, where K is the least number
-/// of missing elements and the pack's body completes the document by so many, whoever made the pack.
-pub fn accepted_law<S: Source>()
+/// Whatever run of `verify` ends with status 0 has written `accepted K`, where K is the least
+/// number of missing elements and the pack's body completes the document by so many, whoever made
+/// the pack.
+pub fn verify_law<S: Source>()
     ensures { AcceptsLeast S }
 {}
 
 /// Whatever run of `deny` ends with status 0 has written `denied PATH`, and no insertions make the
 /// document valid, whoever made the denial.
-pub fn denied_law<S: Source>()
+pub fn deny_law<S: Source>()
     ensures { DeniesImpossible S }
 {}
 
-/// Over files that hold a DTD and a document none of whose lists is too wide, and devices that don't
-/// fail, a session answers its whole script, or there was no memory and it wrote nothing.
+/// Over files that hold a DTD and a document none of whose lists is too wide, and devices that
+/// don't fail, a session answers its whole script, or there was no memory and it wrote nothing.
 pub fn guarded_session_law<S: Source>()
     ensures { SessionsAreGuarded S }
 {

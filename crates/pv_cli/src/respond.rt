@@ -1,7 +1,7 @@
 //! Writes a response.
 
 ghost use Rattle.pv_cli.specs.Course.{responds};
-ghost use Rattle.pv_cli.specs.Program.{Writes};
+ghost use Rattle.pv_cli.specs.Program.{WritesEnding};
 ghost use Rattle.pv_cli.specs.Response.{plain_response};
 ghost use Rattle.pv_cli.specs.Returns.{ending_of};
 
@@ -11,7 +11,7 @@ use crate::stop::Stop;
 use pv_io::{Sink, write_all};
 
 fn write<K: Sink>(out: &mut K, response: &Response) -> Status
-    ensures { Writes (responds (plain_response response.now)) (K.written out.old)
+    ensures { WritesEnding (responds (plain_response response.now)) (K.written out.old)
         (K.written out.new)
         (K.faults out.old) (K.faults out.new) result }
 {
@@ -23,7 +23,7 @@ fn write<K: Sink>(out: &mut K, response: &Response) -> Status
 
 /// Writes the response, where there is one, and tells the status.
 pub fn respond<K: Sink>(out: &mut K, answer: Result<Response, Stop>) -> Status
-    ensures { Writes (ending_of answer) (K.written out.old) (K.written out.new)
+    ensures { WritesEnding (ending_of answer) (K.written out.old) (K.written out.new)
         (K.faults out.old) (K.faults out.new) result }
 {
     match answer {

@@ -6,6 +6,7 @@ use pv_io::{
 };
 use std::alloc::{AllocError, Global};
 use std::io::{Read, Write};
+use std::process::Abort;
 use std::test::Fail;
 use std::{fs, io};
 
@@ -21,46 +22,110 @@ fn texts_of(alloc: Global, words: &[&str]) -> Result<Vec<String>, AllocError> {
     Ok(texts)
 }
 
-#[test]
-fn memory_sources(rt: HostRuntime) -> Result<(), Fail> {
-    let alloc = rt.alloc();
-    let mut source = MemSource::new(alloc, b"abcde", 2, &[1]).map_err(|_| "no memory")?;
+// The next call, with room for so many bytes, gives this, and leaves this in the buffer.
+fn fills(
+    rt: &impl Abort,
+    source: &mut MemSource,
+    room: usize,
+    wanted: Result<usize, Failed>,
+    left: &[u8],
+) -> Result<(), Fail> {
     let mut buf = [b'-'; 4];
-    assert_eq!(rt; source.fill(&mut buf), Ok(2));
-    assert_eq!(rt; buf, *b"ab--");
-    assert_eq!(rt; source.fill(&mut buf), Err(Failed));
-    assert_eq!(rt; source.fill(&mut buf[..1]), Ok(1));
-    assert_eq!(rt; source.fill(&mut buf), Ok(2));
-    assert_eq!(rt; buf, *b"de--");
-    assert_eq!(rt; source.fill(&mut buf), Ok(0));
+    if room > 4 {
+        return Err(Fail::new("too much room"));
+    }
+    let found = source.fill(&mut buf[..room]);
+    assert_eq!(rt; found, wanted);
+    assert_eq!(rt; buf.as_slice(), left);
     Ok(())
 }
 
+/// Calls of a source of `abcde` that gives two bytes at a time and fails at its second call.
+const FILLS: [(usize, Result<usize, Failed>, &[u8]); 5] = [
+    (4, Ok(2), b"ab--"),
+    (4, Err(Failed), b"----"),
+    (1, Ok(1), b"c---"),
+    (4, Ok(2), b"de--"),
+    (4, Ok(0), b"----"),
+];
+
+#[test]
+fn memory_sources(rt: HostRuntime) -> Result<(), Fail> {
+    let mut source = MemSource::new(rt.alloc(), b"abcde", 2, &[1])?;
+    for (room, wanted, left) in &FILLS {
+        fills(&rt, &mut source, *room, *wanted, *left)?;
+    }
+    Ok(())
+}
+
+// The bytes are written with this result, and the sink then holds this.
+fn writes(
+    rt: &impl Abort,
+    sink: &mut MemSink,
+    bytes: &[u8],
+    wanted: Result<(), Failed>,
+    written: &[u8],
+) {
+    let found = write_all(sink, bytes);
+    assert_eq!(rt; found, wanted);
+    assert_eq!(rt; sink.written(), written);
+}
+
+/// Writes to a sink with room for five bytes that takes two at a time and fails at its second
+/// call.
+const WRITES: [(&[u8], Result<(), Failed>, &[u8]); 3] = [
+    (b"abc", Err(Failed), b"ab"),
+    (b"cd", Ok(()), b"abcd"),
+    (b"ef", Err(Failed), b"abcde"),
+];
+
 #[test]
 fn memory_sinks(rt: HostRuntime) -> Result<(), Fail> {
-    let mut sink = MemSink::new(rt.alloc(), 5, 2, &[1]).map_err(|_| "no memory")?;
-    assert_eq!(rt; write_all(&mut sink, b"abc"), Err(Failed));
-    assert_eq!(rt; sink.written(), b"ab".as_slice());
-    assert_eq!(rt; write_all(&mut sink, b"cd"), Ok(()));
-    assert_eq!(rt; write_all(&mut sink, b"ef"), Err(Failed));
+    let mut sink = MemSink::new(rt.alloc(), 5, 2, &[1])?;
+    for (bytes, wanted, written) in &WRITES {
+        writes(&rt, &mut sink, *bytes, *wanted, *written);
+    }
     assert_eq!(rt; sink.put(b""), Ok(0));
     assert_eq!(rt; sink.written(), b"abcde".as_slice());
     Ok(())
 }
 
-#[test]
-fn memory_shelves(rt: HostRuntime) -> Result<(), Fail> {
-    let alloc = rt.alloc();
+// A shelf of two files of one name, which fails at its fetches of these numbers.
+fn shelf_of(alloc: Global) -> Result<MemShelf, Fail> {
     let names = texts_of(alloc, &["a", "b"])?;
     let mut files = Vec::new(alloc);
     files.push((String::from_str(alloc, "a")?, b"abc".to_vec(alloc)?))?;
     files.push((String::from_str(alloc, "a")?, b"other".to_vec(alloc)?))?;
-    let mut shelf = MemShelf::new(alloc, &names, &files, &[2, 3]).map_err(|_| "no memory")?;
-    let first = shelf.fetch(alloc, "a", 3).map_err(|_| "no file")?;
+    Ok(MemShelf::new(alloc, &names, &files, &[2, 3])?)
+}
+
+// The file isn't fetched, for this reason.
+fn isnt_fetched(
+    rt: &impl Abort,
+    alloc: Global,
+    shelf: &mut MemShelf,
+    name: &str,
+    most: usize,
+    wanted: FetchError,
+) {
+    match shelf.fetch(alloc, name, most) {
+        Ok(_) => assert!(rt; false),
+        Err(error) => assert_eq!(rt; error, wanted),
+    }
+}
+
+#[test]
+fn memory_shelves(rt: HostRuntime) -> Result<(), Fail> {
+    let mut shelf = shelf_of(rt.alloc())?;
+    let first = shelf.fetch(rt.alloc(), "a", 3)?;
     assert_eq!(rt; first.as_slice(), b"abc".as_slice());
-    assert!(rt; matches!(shelf.fetch(alloc, "b", 3), Err(FetchError::Failed)));
-    assert!(rt; matches!(shelf.fetch(alloc, "a", 2), Err(FetchError::TooLong)));
-    assert!(rt; matches!(shelf.fetch(alloc, "a", 3), Err(FetchError::Failed)));
+    for (name, most, wanted) in [
+        ("b", 3, FetchError::Failed),
+        ("a", 2, FetchError::TooLong),
+        ("a", 3, FetchError::Failed),
+    ] {
+        isnt_fetched(&rt, rt.alloc(), &mut shelf, name, most, wanted);
+    }
     Ok(())
 }
 
@@ -132,23 +197,26 @@ fn writers(rt: HostRuntime) {
     assert_eq!(rt; write_all(&mut sink, b"bc"), Ok(()));
 }
 
-#[test]
-fn files_by_their_paths(rt: HostRuntime) -> Result<(), Fail> {
-    let alloc = rt.alloc();
+// Makes a folder with one file.
+fn make_folder(rt: HostRuntime) -> Result<(), Fail> {
     let _ = fs::remove_dir_all(&rt, FOLDER);
     fs::create_dir(&rt, FOLDER)?;
     fs::write(&rt, FILE, b"<doc/>".as_slice())?;
-    let words = texts_of(alloc, &["valid", FILE, "doc", "test_base_folder/b.xml"])?;
+    Ok(())
+}
+
+#[test]
+fn files_by_their_paths(rt: HostRuntime) -> Result<(), Fail> {
+    make_folder(rt)?;
+    let words = ["valid", FILE, "doc", "test_base_folder/b.xml"];
+    let words = texts_of(rt.alloc(), &words)?;
     let mut shelf = FolderShelf::new(&rt, &words);
-    let whole = shelf.fetch(alloc, FILE, 6).map_err(|_| "no file")?;
+    let whole = shelf.fetch(rt.alloc(), FILE, 6)?;
     assert_eq!(rt; whole.as_slice(), b"<doc/>".as_slice());
-    assert!(rt; matches!(shelf.fetch(alloc, FILE, 5), Err(FetchError::TooLong)));
-    assert!(rt;
-        matches!(
-            shelf.fetch(alloc, "test_base_folder/b.xml", 6),
-            Err(FetchError::Failed)
-        )
-    );
+    let longer = shelf.fetch(rt.alloc(), FILE, 5);
+    assert!(rt; matches!(longer, Err(FetchError::TooLong)));
+    let missing = shelf.fetch(rt.alloc(), "test_base_folder/b.xml", 6);
+    assert!(rt; matches!(missing, Err(FetchError::Failed)));
     fs::remove_dir_all(&rt, FOLDER)?;
     Ok(())
 }

@@ -66,8 +66,20 @@ fn children(alloc: Global, part: Part) -> Result<ContentModel, NoMemory> {
     Ok(ContentModel::Children(Box::new(alloc, part)?))
 }
 
+// The words that a model of this part allows and refuses.
+fn expect_part(
+    rt: &impl Abort,
+    alloc: Global,
+    part: Part,
+    allowed: &[&str],
+    refused: &[&str],
+) -> Result<(), Fail> {
+    let model = children(alloc, part)?;
+    expect_words(rt, alloc, &model, allowed, refused)
+}
+
 #[test]
-fn models_without_particles(rt: HostRuntime) -> Result<(), Fail> {
+fn empty_and_any(rt: HostRuntime) -> Result<(), Fail> {
     let alloc = rt.alloc();
     expect_words(&rt, alloc, &ContentModel::Empty, &[""], &["a", "#", "?"])?;
     expect_words(
@@ -76,86 +88,107 @@ fn models_without_particles(rt: HostRuntime) -> Result<(), Fail> {
         &ContentModel::Any,
         &["", "a", "#", "c#a"],
         &["d", "?", "a#d", "a?"],
-    )?;
-    let mut listed = Vec::new(alloc);
-    listed.push(NameId(97))?;
-    listed.push(NameId(99))?;
-    let names = Names::of(listed);
+    )
+}
+
+#[test]
+fn mixed(rt: HostRuntime) -> Result<(), Fail> {
+    let alloc = rt.alloc();
+    let names = Names::of(vec![in alloc; NameId(97), NameId(99)]?);
     assert_eq!(rt; names.as_slice().len(), 2);
-    let mixed = ContentModel::Mixed(names);
     expect_words(
         &rt,
         alloc,
-        &mixed,
+        &ContentModel::Mixed(names),
         &["", "#", "a", "c", "##ca#"],
         &["b", "?", "#b", "a?"],
     )
 }
 
 #[test]
-fn each_operator(rt: HostRuntime) -> Result<(), Fail> {
+fn one_name(rt: HostRuntime) -> Result<(), Fail> {
     let alloc = rt.alloc();
-    let one = children(alloc, name(b'a'))?;
-    expect_words(&rt, alloc, &one, &["a"], &["", "b", "aa", "#", "?", "a#"])?;
-    let seq = children(alloc, Part::Seq(names(alloc, b"abc")?))?;
-    expect_words(
-        &rt,
-        alloc,
-        &seq,
-        &["abc"],
-        &["", "ab", "bc", "acb", "abcc", "a#bc"],
-    )?;
-    let choice = children(alloc, Part::Choice(names(alloc, b"abc")?))?;
-    expect_words(&rt, alloc, &choice, &["a", "b", "c"], &["", "ab", "d"])?;
-    let some = children(alloc, opt(alloc, name(b'a'))?)?;
-    expect_words(&rt, alloc, &some, &["", "a"], &["b", "aa"])?;
-    let any = children(alloc, star(alloc, name(b'a'))?)?;
-    expect_words(&rt, alloc, &any, &["", "a", "aaa"], &["b", "aab", "aba"])?;
-    let more = children(alloc, plus(alloc, name(b'a'))?)?;
-    expect_words(&rt, alloc, &more, &["a", "aaa"], &["", "b", "aab", "ba"])
+    let refused = ["", "b", "aa", "#", "?", "a#"];
+    expect_part(&rt, alloc, name(b'a'), &["a"], &refused)
 }
 
 #[test]
-fn nested_particles(rt: HostRuntime) -> Result<(), Fail> {
+fn sequence(rt: HostRuntime) -> Result<(), Fail> {
     let alloc = rt.alloc();
-    // ((a, b) | (a, c)) is not deterministic.
+    let part = Part::Seq(names(alloc, b"abc")?);
+    let refused = ["", "ab", "bc", "acb", "abcc", "a#bc"];
+    expect_part(&rt, alloc, part, &["abc"], &refused)
+}
+
+#[test]
+fn choice(rt: HostRuntime) -> Result<(), Fail> {
+    let alloc = rt.alloc();
+    let part = Part::Choice(names(alloc, b"abc")?);
+    expect_part(&rt, alloc, part, &["a", "b", "c"], &["", "ab", "d"])
+}
+
+#[test]
+fn each_operator(rt: HostRuntime) -> Result<(), Fail> {
+    let alloc = rt.alloc();
+    let some = opt(alloc, name(b'a'))?;
+    expect_part(&rt, alloc, some, &["", "a"], &["b", "aa"])?;
+    let any = star(alloc, name(b'a'))?;
+    expect_part(&rt, alloc, any, &["", "a", "aaa"], &["b", "aab", "aba"])?;
+    let more = plus(alloc, name(b'a'))?;
+    expect_part(&rt, alloc, more, &["a", "aaa"], &["", "b", "aab", "ba"])
+}
+
+/// ((a, b) | (a, c)) is not deterministic.
+#[test]
+fn either_of_two(rt: HostRuntime) -> Result<(), Fail> {
+    let alloc = rt.alloc();
     let mut either = Vec::new(alloc);
     either.push(Part::Seq(names(alloc, b"ab")?))?;
     either.push(Part::Seq(names(alloc, b"ac")?))?;
-    let choice = children(alloc, Part::Choice(either))?;
-    expect_words(&rt, alloc, &choice, &["ab", "ac"], &["", "a", "abc", "aac"])?;
-    // ((a*)*, b?, (a | b)+)
+    let refused = ["", "a", "abc", "aac"];
+    expect_part(&rt, alloc, Part::Choice(either), &["ab", "ac"], &refused)
+}
+
+// The parts of ((a*)*, b?, (a | b)+).
+fn three_parts(alloc: Global) -> Result<Parts, NoMemory> {
     let mut parts = Vec::new(alloc);
     parts.push(star(alloc, star(alloc, name(b'a'))?)?)?;
     parts.push(opt(alloc, name(b'b'))?)?;
     parts.push(plus(alloc, Part::Choice(names(alloc, b"ab")?))?)?;
-    let seq = children(alloc, Part::Seq(parts))?;
-    expect_words(
-        &rt,
-        alloc,
-        &seq,
-        &["a", "b", "bb", "aaba", "abab"],
-        &["", "c", "abc"],
-    )
+    Ok(parts)
+}
+
+#[test]
+fn nested_particles(rt: HostRuntime) -> Result<(), Fail> {
+    let part = Part::Seq(three_parts(rt.alloc())?);
+    let allowed = ["a", "b", "bb", "aaba", "abab"];
+    expect_part(&rt, rt.alloc(), part, &allowed, &["", "c", "abc"])
+}
+
+// So many options of one name.
+fn same_options(alloc: Global, count: u32, letter: u8) -> Result<Parts, NoMemory> {
+    let mut parts = Vec::new(alloc);
+    for _ in 0..count {
+        parts.push(opt(alloc, name(letter))?)?;
+    }
+    Ok(parts)
 }
 
 /// Thirty optional names on thirty tokens: a walk by trial takes a step for each of their subsets.
 #[test]
 fn many_ways(rt: HostRuntime) -> Result<(), Fail> {
-    let alloc = rt.alloc();
-    let mut parts = Vec::new(alloc);
-    for _ in 0..30 {
-        parts.push(opt(alloc, name(b'a'))?)?;
-    }
-    let model = children(alloc, Part::Seq(parts))?;
+    let part = Part::Seq(same_options(rt.alloc(), 30, b'a')?);
     let most = "aaaaaaaaaaaaaaaaaaaaaaaaaaaaaa";
-    expect_words(
-        &rt,
-        alloc,
-        &model,
-        &["", "a", most],
-        &["b", "aaaaaaaaaaaaaaaaaaaaaaaaaaaaaaa"],
-    )
+    let more = "aaaaaaaaaaaaaaaaaaaaaaaaaaaaaaa";
+    expect_part(&rt, rt.alloc(), part, &["", "a", most], &["b", more])
+}
+
+// So many tokens of one kind, after those that stand.
+fn push_all(word: &mut Vec<Token>, token: Token, count: u32) -> Result<(), NoMemory> {
+    for _ in 0..count {
+        word.push(token)?;
+    }
+    Ok(())
 }
 
 #[test]
@@ -164,48 +197,84 @@ fn long_word(rt: HostRuntime) -> Result<(), Fail> {
     let stars = star(alloc, star(alloc, star(alloc, name(b'a'))?)?)?;
     let model = children(alloc, stars)?;
     let mut word = Vec::new(alloc);
-    for _ in 0..1000000 {
-        word.push(Token::Name(NameId(97)))?;
-    }
+    push_all(&mut word, Token::Name(NameId(97)), 1000000)?;
     assert!(rt; matches(alloc, &model, 100, &word)?);
     word.push(Token::Name(NameId(98)))?;
     assert!(rt; !matches(alloc, &model, 100, &word)?);
     Ok(())
 }
 
-/// Words for which large models are laid out: (n0?, n1?, .., n299?) and (n0 | n1 | .. | n299)+,
-/// and a mixed list of these.
-#[test]
-fn large_models(rt: HostRuntime) -> Result<(), Fail> {
-    let alloc = rt.alloc();
-    let mut options = Vec::new(alloc);
-    let mut choices = Vec::new(alloc);
-    let mut listed = Vec::new(alloc);
-    let mut even = Vec::new(alloc);
+// The names n0, n2, .., n298.
+fn even_names(alloc: Global) -> Result<Vec<Token>, NoMemory> {
+    let mut word = Vec::new(alloc);
+    for n in 0..150 {
+        word.push(Token::Name(NameId(2 * n)))?;
+    }
+    Ok(word)
+}
+
+// The parts n0?, n1?, .., n299?.
+fn all_options(alloc: Global) -> Result<Parts, NoMemory> {
+    let mut parts = Vec::new(alloc);
     for n in 0..300 {
-        options.push(opt(alloc, Part::Name(NameId(n)))?)?;
-        choices.push(Part::Name(NameId(n)))?;
+        parts.push(opt(alloc, Part::Name(NameId(n)))?)?;
+    }
+    Ok(parts)
+}
+
+/// Words for which a large model is laid out: (n0?, n1?, .., n299?).
+#[test]
+fn large_sequence(rt: HostRuntime) -> Result<(), Fail> {
+    let alloc = rt.alloc();
+    let model = children(alloc, Part::Seq(all_options(alloc)?))?;
+    let mut word = even_names(alloc)?;
+    assert!(rt; matches(alloc, &model, 400, &word)?);
+    word.push(Token::Name(NameId(0)))?;
+    assert!(rt; !matches(alloc, &model, 400, &word)?);
+    Ok(())
+}
+
+// The model (n0 | n1 | .. | n299)+.
+fn rounds(alloc: Global) -> Result<ContentModel, NoMemory> {
+    let mut parts = Vec::new(alloc);
+    for n in 0..300 {
+        parts.push(Part::Name(NameId(n)))?;
+    }
+    children(alloc, plus(alloc, Part::Choice(parts))?)
+}
+
+#[test]
+fn large_choice(rt: HostRuntime) -> Result<(), Fail> {
+    let alloc = rt.alloc();
+    let model = rounds(alloc)?;
+    let mut word = even_names(alloc)?;
+    assert!(rt; matches(alloc, &model, 400, &word)?);
+    word.push(Token::Name(NameId(0)))?;
+    assert!(rt; matches(alloc, &model, 400, &word)?);
+    word.push(Token::Text)?;
+    assert!(rt; !matches(alloc, &model, 400, &word)?);
+    Ok(())
+}
+
+// A mixed list of n0, n1, .., n299.
+fn large_list(alloc: Global) -> Result<ContentModel, NoMemory> {
+    let mut listed = Vec::new(alloc);
+    for n in 0..300 {
         listed.push(NameId(n))?;
-        if n % 2 == 0 {
-            even.push(Token::Name(NameId(n)))?;
-        }
     }
-    let in_order = children(alloc, Part::Seq(options))?;
-    let rounds = children(alloc, plus(alloc, Part::Choice(choices))?)?;
-    let mixed = ContentModel::Mixed(Names::of(listed));
-    for model in [&in_order, &rounds, &mixed] {
-        assert!(rt; matches(alloc, model, 400, &even)?);
-    }
-    even.push(Token::Name(NameId(0)))?;
-    assert!(rt; !matches(alloc, &in_order, 400, &even)?);
-    assert!(rt; matches(alloc, &rounds, 400, &even)?);
-    even.push(Token::Text)?;
-    assert!(rt; !matches(alloc, &rounds, 400, &even)?);
-    for _ in 0..1000 {
-        even.push(Token::Text)?;
-    }
-    assert!(rt; matches(alloc, &mixed, 400, &even)?);
-    even.push(Token::Name(NameId(300)))?;
-    assert!(rt; !matches(alloc, &mixed, 400, &even)?);
+    Ok(ContentModel::Mixed(Names::of(listed)))
+}
+
+#[test]
+fn large_mixed(rt: HostRuntime) -> Result<(), Fail> {
+    let alloc = rt.alloc();
+    let model = large_list(alloc)?;
+    let mut word = even_names(alloc)?;
+    assert!(rt; matches(alloc, &model, 400, &word)?);
+    word.push(Token::Name(NameId(0)))?;
+    push_all(&mut word, Token::Text, 1001)?;
+    assert!(rt; matches(alloc, &model, 400, &word)?);
+    word.push(Token::Name(NameId(300)))?;
+    assert!(rt; !matches(alloc, &model, 400, &word)?);
     Ok(())
 }

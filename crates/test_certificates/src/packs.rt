@@ -90,7 +90,8 @@ static REJECTED: [(Parts<'static>, &str); 10] = [
     ),
     (
         Parts {
-            entries: "c 0 0 0 1\nc 1 0 0 0\nn 0 0 0 2\nn 1 0 0 2\np 0 0 0 1\np 1 0 0 1\ns 1 0 0 1\n",
+            entries: "c 0 0 0 1\nc 1 0 0 0\nn 0 0 0 2\nn 1 0 0 2\np 0 0 0 1\np 1 0 0 1\n\
+                s 1 0 0 1\n",
             ..WHOLE
         },
         "rejected closure\n",
@@ -104,7 +105,8 @@ static REJECTED: [(Parts<'static>, &str); 10] = [
     ),
     (
         Parts {
-            entries: "c 0 0 0 0\nc 1 0 0 0\nn 0 0 0 0\nn 1 0 0 0\np 0 0 0 0\np 1 0 0 0\ns 1 0 0 0\n",
+            entries: "c 0 0 0 0\nc 1 0 0 0\nn 0 0 0 0\nn 1 0 0 0\np 0 0 0 0\np 1 0 0 0\n\
+                s 1 0 0 0\n",
             ..WHOLE
         },
         "rejected totals\n",
@@ -139,7 +141,8 @@ static REJECTED: [(Parts<'static>, &str); 10] = [
     ),
     (
         Parts {
-            entries: "c 0 0 0 1\nc 1 0 0 0\nn 0 0 0 2\nn 1 0 0 1\np 0 0 0 1\np 1 0 0 1\np 99 0 0 0\ns 1 0 0 1\n",
+            entries: "c 0 0 0 1\nc 1 0 0 0\nn 0 0 0 2\nn 1 0 0 1\np 0 0 0 1\np 1 0 0 1\n\
+                p 99 0 0 0\ns 1 0 0 1\n",
             ..WHOLE
         },
         "rejected closure\n",

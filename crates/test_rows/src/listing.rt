@@ -29,12 +29,18 @@ static LISTED: [Row; 12] = [
     (
         ARTICLE,
         DONE,
-        "doc children 3\nhead mixed 1\nsec children 1\ntitle mixed 1\np mixed 1\nem mixed 1\nbr empty 1\nlist children 5\nitem children 2\ntypes 9 parts 21 undeclared 0\n",
+        "doc children 3\nhead mixed 1\nsec children 1\ntitle mixed 1\np mixed 1\nem mixed 1\n\
+         br empty 1\nlist children 5\nitem children 2\ntypes 9 parts 21 undeclared 0\n",
     ),
     (
         DOUBLING,
         DONE,
-        "t0 children over\nt1 children over\nt2 children 524287\nt3 children 262143\nt4 children 131071\nt5 children 65535\nt6 children 32767\nt7 children 16383\nt8 children 8191\nt9 children 4095\nt10 children 2047\nt11 children 1023\nt12 children 511\nt13 children 255\nt14 children 127\nt15 children 63\nt16 children 31\nt17 children 15\nt18 children 7\nt19 children 3\nt20 empty 1\ntypes 21 parts 60 undeclared 0\n",
+        "t0 children over\nt1 children over\nt2 children 524287\nt3 children 262143\n\
+         t4 children 131071\nt5 children 65535\nt6 children 32767\nt7 children 16383\n\
+         t8 children 8191\nt9 children 4095\nt10 children 2047\nt11 children 1023\n\
+         t12 children 511\nt13 children 255\nt14 children 127\nt15 children 63\nt16 children 31\n\
+         t17 children 15\nt18 children 7\nt19 children 3\nt20 empty 1\n\
+         types 21 parts 60 undeclared 0\n",
     ),
     ("", DONE, "types 0 parts 0 undeclared 0\n"),
     (
@@ -78,7 +84,8 @@ static LISTED: [Row; 12] = [
         "λόγος mixed 1\n名 empty 1\ntypes 2 parts 1 undeclared 0\n",
     ),
     (
-        "\u{feff}<?xml encoding='utf-8'?><!-- a --><?p q?><!ATTLIST a b CDATA '%'><!ELEMENT a EMPTY>\n",
+        "\u{feff}<?xml encoding='utf-8'?><!-- a --><?p q?><!ATTLIST a b CDATA '%'>\
+         <!ELEMENT a EMPTY>\n",
         DONE,
         "a empty 1\ntypes 1 parts 0 undeclared 0\n",
     ),

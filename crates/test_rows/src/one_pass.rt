@@ -12,7 +12,8 @@ const DTD: &str = "<!ELEMENT doc (head, (p | e)*)>
 <!ELEMENT p (#PCDATA | head)*>
 <!ELEMENT e EMPTY>";
 
-/// A document, and what is told of it: the places of the first list that isn't valid by itself, or the fault.
+/// A document, and what is told of it: the places of the first list that isn't valid by itself, or
+/// the fault.
 type Row<'a> = (&'a str, &'a str);
 
 static ROWS: [Row<'static>; 13] = [

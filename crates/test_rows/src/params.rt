@@ -45,7 +45,8 @@ static PUT_IN_PLACE: [Row; 5] = [
 <!ELEMENT item (p+)>
 ",
         DONE,
-        "doc children 3\nhead mixed 1\nsec children 1\ntitle mixed 1\np mixed 1\nem mixed 1\nbr empty 1\nlist children 5\nitem children 2\ntypes 9 parts 21 undeclared 0\n",
+        "doc children 3\nhead mixed 1\nsec children 1\ntitle mixed 1\np mixed 1\nem mixed 1\n\
+         br empty 1\nlist children 5\nitem children 2\ntypes 9 parts 21 undeclared 0\n",
     ),
 ];
 

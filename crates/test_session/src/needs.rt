@@ -64,14 +64,16 @@ static NEEDS: [Row<'static>; 12] = [
         "doc",
         "<doc>Hello</doc>",
         "need\nneed 2\nneeds\nwrap 0 0 1 head\nneed\nundo\nneed\nhistory\nverdicts\n",
-        "need 2\nno command\nno command\nok 2 1 0\nneed 1\nok 1 1 0\nneed 2\nhistory 0\nverdicts 2\n. valid 0\n0 possible 2\n",
+        "need 2\nno command\nno command\nok 2 1 0\nneed 1\nok 1 1 0\nneed 2\nhistory 0\n\
+         verdicts 2\n. valid 0\n0 possible 2\n",
     ),
     (
         ARTICLE,
         "doc",
         "<doc>Hello</doc>",
         "split 0.0 2\nwrap 0 0 1 head\nshow\nneed\nhistory\nverdicts\n",
-        "ok 1 1 0\nok 2 1 0\nshow 29\n<doc><head>He</head>llo</doc>\nneed 2\nhistory 2\nsplit 0.0 2\nwrap 0 0 1 head\nverdicts 3\n. valid 0\n0 possible 2\n0.0 valid 2\n",
+        "ok 1 1 0\nok 2 1 0\nshow 29\n<doc><head>He</head>llo</doc>\nneed 2\nhistory 2\n\
+         split 0.0 2\nwrap 0 0 1 head\nverdicts 3\n. valid 0\n0 possible 2\n0.0 valid 2\n",
     ),
 ];
 
@@ -104,16 +106,19 @@ static COMPLETIONS: [Row<'static>; 5] = [
         "doc",
         "<doc>Hello</doc>",
         "complete\nwrap 0 0 1 head\nneed\nundo\nhistory\nverdicts\n",
-        "completed 2 40\n<doc><head>Hello</head><sec></sec></doc>\nok 2 1 0\nneed 1\nok 1 1 0\nhistory 0\nverdicts 2\n. valid 0\n0 possible 2\n",
+        "completed 2 40\n<doc><head>Hello</head><sec></sec></doc>\nok 2 1 0\nneed 1\nok 1 1 0\n\
+         history 0\nverdicts 2\n. valid 0\n0 possible 2\n",
     ),
     (DOUBLING, "t0", "<t0/>", "complete\n", "no heavy\n"),
 ];
 
 const MARKING_UP: &str =
-    "need\nwrap 0.3 0 3 p\nwrap 0.3 1 4 p\ninsert 0.3 0 title\naddtext 0.3.0 0 Opening\nrename 0.3.2 list\nundo\nwrap 0.3 1 2 head\nunwrap 0.3.1.1\nneed\nshow\n";
+    "need\nwrap 0.3 0 3 p\nwrap 0.3 1 4 p\ninsert 0.3 0 title\naddtext 0.3.0 0 Opening\n\
+     rename 0.3.2 list\nundo\nwrap 0.3 1 2 head\nunwrap 0.3.1.1\nneed\nshow\n";
 
 const MARKED_UP: &str =
-    "need 1\nok 2 1 0\nok 2 0 0\nok 2 0 0\nok 1 0 0\nok 2 1 0\nok 2 0 0\nno impossible 0.3\nno shape not-element\nneed 0\nshow 288
+    "need 1\nok 2 1 0\nok 2 0 0\nok 2 0 0\nok 1 0 0\nok 2 1 0\nok 2 0 0\nno impossible 0.3\n\
+     no shape not-element\nneed 0\nshow 288
 <?xml version=\"1.0\" encoding=\"UTF-8\"?>
 <!DOCTYPE doc SYSTEM \"a.dtd\">
 <!-- draft -->
@@ -162,8 +167,8 @@ fn completions(rt: HostRuntime) -> Result<(), Fail> {
     Ok(())
 }
 
-// The first list that is too wide for weights is told where it isn't valid, and before that too many
-// elements are missing.
+// The first list that is too wide for weights is told where it isn't valid, and before that too
+// many elements are missing.
 #[test]
 fn wide_lists(rt: HostRuntime) -> Result<(), Fail> {
     let alloc = rt.alloc();

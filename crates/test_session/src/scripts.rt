@@ -104,7 +104,8 @@ static SCRIPTS: [Row; 15] = [
     ),
     (
         HELLO,
-        "addtext 0 1 , you\njoin 0.0\ntext 0.0 Hi &amp; bye\ntext 0.0 a&nbsp;\ndeltext 0.0\nshow\nundo\nshow\n",
+        "addtext 0 1 , you\njoin 0.0\ntext 0.0 Hi &amp; bye\ntext 0.0 a&nbsp;\ndeltext 0.0\nshow\n\
+         undo\nshow\n",
         "ok 1 1 0\nok 1 1 0\nok 1 1 0\nno shape bad-text\nok 1 1 0\nshow 11\n<doc></doc>\n\
          ok 1 1 0\nshow 23\n<doc>Hi &amp; bye</doc>\n",
     ),

@@ -6,7 +6,7 @@ ghost use Rattle.pv_cli.specs.Checking.{CountsLists};
 ghost use Rattle.pv_cli.specs.Commands.{GoesOn, lines_checked};
 ghost use Rattle.pv_cli.specs.Documents.{PlainOpened};
 ghost use Rattle.pv_cli.specs.Response.{plain_response, with_line};
-ghost use Rattle.pv_cli.specs.Returns.{Finds, plain_fetched};
+ghost use Rattle.pv_cli.specs.Returns.{TakesCourse, plain_fetched};
 ghost use Rattle.pv_cli.specs.declared.status.Status.TheVariants.{Done};
 ghost use Rattle.pv_cli.specs.declared.verb.Verb.TheVariants.{Check};
 ghost use Rattle.pv_productive.specs.PlainForms.{dtd_of};
@@ -22,6 +22,7 @@ use pv_productive::{Grammar, build};
 use pv_steps::Steps;
 use pv_tree::Doc;
 use std::alloc::{AllocError, Global};
+use std::mem::forget;
 use std::sync::ledger::Ledger;
 use std::thread::Threads;
 
@@ -46,14 +47,14 @@ fn tell<L: Ledger>(
     steps: &mut Steps<L>,
 ) -> Result<Response, Stop>
     ensures tells { (opened : PlainOpened) → opened.dtd ≡ dtd_of grammar.now →
-        opened.doc ≡ plain_doc doc.now → Finds (IsCheckCourse root.now opened) result }
+        opened.doc ≡ plain_doc doc.now → TakesCourse (IsCheckCourse root.now opened) result }
     ensures steps { steps.new ≤ steps.old + length (lists_of (plain_doc doc.now)) }
 {
     let verdicts = verdicts_or_stop(rt, alloc, grammar, doc, root, steps)?;
     Ok(possible(alloc, verdicts.left())?)
 }
 
-/// Whether inserting elements can make a document valid for a DTD.
+/// Whether inserting elements can make a document valid for a DTD. The document is never freed.
 pub fn check<L: Ledger>(
     rt: &(impl Threads + Sync),
     alloc: Global,
@@ -61,11 +62,13 @@ pub fn check<L: Ledger>(
     root: &[u8],
     steps: &mut Steps<L>,
 ) -> Result<Response, Stop>
-    ensures finds { Finds (GoesOn Check root.now (plain_fetched fetched)) result }
+    ensures finds { TakesCourse (GoesOn Check root.now (plain_fetched fetched)) result }
     ensures checks { CountsLists root.now (Some fetched.bytes.items) (lines_checked Check None)
         steps.old steps.new }
 {
     let Opened { dtd, doc, .. } = open_document(alloc, fetched, root)?;
     let grammar = build(alloc, dtd)?;
-    tell(rt, alloc, &grammar, &doc, root, steps)
+    let response = tell(rt, alloc, &grammar, &doc, root, steps);
+    forget(doc);
+    response
 }

@@ -2,10 +2,10 @@
 
 ghost use Rattle.std.specs.Prelude.{◌≡◌, IfErr, IfOk};
 ghost use Rattle.pv_cli.specs.Commands.{GoesOn};
-ghost use Rattle.pv_cli.specs.Complete.{IsCompleteCourse, IsLeastPack, IsVerifiable};
+ghost use Rattle.pv_cli.specs.Complete.{IsCompleteCourse, IsPackOfCompletion, IsVerifiable};
 ghost use Rattle.pv_cli.specs.Documents.{HasText, PlainOpened};
 ghost use Rattle.pv_cli.specs.Packing.{IsRefusalFor};
-ghost use Rattle.pv_cli.specs.Returns.{Finds, RefusesWith, plain_fetched};
+ghost use Rattle.pv_cli.specs.Returns.{TakesCourse, RefusesWith, plain_fetched};
 ghost use Rattle.pv_cli.specs.declared.verb.Verb.TheVariants.{Complete};
 ghost use Rattle.pv_complete.specs.Tables.{HasTablesCause};
 ghost use Rattle.pv_productive.specs.PlainForms.{dtd_of};
@@ -26,11 +26,13 @@ use pv_tree::{Doc, Mark};
 use pv_verify::laws::made_pack_law;
 use pv_write::laws::spelled_is_written_law;
 use std::alloc::Global;
+use std::mem::forget;
 
 // The pack of a least completion of a document, which `verify` accepts.
 fn pack_of(alloc: Global, grammar: &Grammar, doc: &Doc, root: &[u8]) -> Result<Pack, NeedError>
     requires { HasText root.now (plain_doc doc.now) }
-    ensures least { IfOk result (IsLeastPack root.now (dtd_of grammar.now) (plain_doc doc.now)) }
+    ensures least { IfOk result
+        (IsPackOfCompletion root.now (dtd_of grammar.now) (plain_doc doc.now)) }
     ensures verifiable { IfOk result (IsVerifiable root.now (dtd_of grammar.now)
         (plain_doc doc.now)) }
     ensures refused { IfErr result (HasTablesCause (dtd_of grammar.now)
@@ -73,7 +75,7 @@ fn refuse_pack(alloc: Global, error: NeedError) -> Stop
 fn tell(alloc: Global, grammar: &Grammar, doc: &Doc, root: &[u8]) -> Result<Response, Stop>
     requires { HasText root.now (plain_doc doc.now) }
     ensures { (opened : PlainOpened) → opened.dtd ≡ dtd_of grammar.now →
-        opened.doc ≡ plain_doc doc.now → Finds (IsCompleteCourse root.now opened) result }
+        opened.doc ≡ plain_doc doc.now → TakesCourse (IsCompleteCourse root.now opened) result }
 {
     proper_dtd_law(grammar.dtd());
     proper_doc_law(doc);
@@ -86,11 +88,13 @@ fn tell(alloc: Global, grammar: &Grammar, doc: &Doc, root: &[u8]) -> Result<Resp
     }
 }
 
-/// The pack of a least completion of a document, for a DTD.
+/// The pack of a least completion of a document, for a DTD. The document is never freed.
 pub fn complete(alloc: Global, fetched: Fetched, root: &[u8]) -> Result<Response, Stop>
-    ensures { Finds (GoesOn Complete root.now (plain_fetched fetched)) result }
+    ensures { TakesCourse (GoesOn Complete root.now (plain_fetched fetched)) result }
 {
     let Opened { dtd, doc, .. } = open_document(alloc, fetched, root)?;
     let grammar = build(alloc, dtd)?;
-    tell(alloc, &grammar, &doc, root)
+    let response = tell(alloc, &grammar, &doc, root);
+    forget(doc);
+    response
 }

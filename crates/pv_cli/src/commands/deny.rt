@@ -27,6 +27,7 @@ use pv_missing::laws::proper::proper_doc_law;
 use pv_productive::build;
 use pv_tree::{Doc, Mark};
 use std::alloc::Global;
+use std::mem::forget;
 
 // The denial that the bytes are the text of.
 fn denial_of(alloc: Global, bytes: &[u8]) -> Result<Denial, Stop>
@@ -100,7 +101,7 @@ fn tell(alloc: Global, dtd: Dtd, doc: &Doc, root: &[u8], denial: &Denial) -> Res
 }
 
 /// Whether a denial shows that no insertions can make a document valid for a DTD, whoever made the
-/// denial. The document is read before the denial is fetched.
+/// denial. The document is read before the denial is fetched. Neither is ever freed.
 pub fn deny<H: Shelf>(
     alloc: Global,
     shelf: &mut H,
@@ -120,5 +121,8 @@ pub fn deny<H: Shelf>(
 {
     let Opened { dtd, doc, .. } = open_files(alloc, shelf, named)?;
     let denial = open_denial(alloc, shelf, name)?;
-    tell(alloc, dtd, &doc, named.root, &denial)
+    let response = tell(alloc, dtd, &doc, named.root, &denial);
+    forget(doc);
+    forget(denial);
+    response
 }

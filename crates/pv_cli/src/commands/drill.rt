@@ -8,13 +8,14 @@ ghost use Rattle.pv_cli.specs.Drill.{CountsLine, CountsReplies, DRILL_ROOT, IsCo
 ghost use Rattle.pv_cli.specs.Drill.{IsDrillCourse, TellsCounts, counts_text, counts_with};
 ghost use Rattle.pv_cli.specs.Drill.{drill_stage, no_counts};
 ghost use Rattle.pv_cli.specs.Response.{plain_response, with_line};
-ghost use Rattle.pv_cli.specs.Returns.{Finds, Returns, TellsBy};
+ghost use Rattle.pv_cli.specs.Returns.{TakesCourse, Returns, TellsBy};
 ghost use Rattle.pv_cli.specs.declared.status.Status.TheVariants.{Done as AllDone};
-ghost use Rattle.pv_drill.specs.Drill.{drill_lines, drill_text, line_text, section_lines};
+ghost use Rattle.pv_drill.specs.Drill.{drill_lines, drill_text, section_line, section_lines};
 ghost use Rattle.pv_script.specs.Commands.{SpellsCommand};
 ghost use Rattle.pv_script.specs.declared.commands.Command.TheVariants.{Quit};
 
 use crate::commands::session::begin;
+use crate::conversation::opened_session::OpenedSession;
 use crate::conversation::turns::turn;
 use crate::opening::{Fetched, dtd_of, open_document};
 use crate::response::Response;
@@ -24,9 +25,9 @@ use pv_chars::NoMemory;
 use pv_drill::{drill_doc, drill_dtd, drill_line};
 use pv_edit::Done;
 use pv_script::push_number;
-use pv_session::Session;
 use pv_steps::Steps;
 use std::alloc::{AllocError, Global};
+use std::mem::forget;
 use std::sync::ledger::Ledger;
 use std::thread::Threads;
 
@@ -70,7 +71,7 @@ fn counted(counts: Counts, done: Option<Done>) -> Counts
 fn count_line<L: Ledger>(
     rt: &(impl Threads + Sync),
     alloc: Global,
-    session: &mut Session,
+    session: &mut OpenedSession,
     line: &[u8],
     counts: Counts,
     steps: &mut Steps<L>,
@@ -92,7 +93,7 @@ fn count_line<L: Ledger>(
 fn count_drill_line<L: Ledger>(
     rt: &(impl Threads + Sync),
     alloc: Global,
-    session: &mut Session,
+    session: &mut OpenedSession,
     k: u32,
     which: u32,
     counts: Counts,
@@ -104,7 +105,8 @@ fn count_drill_line<L: Ledger>(
     requires third { which ≡ 2 → k % 3 ≡ 0 }
     requires few { counts.lines < 60000 }
     requires bounded { IsCountOf counts.lines counts }
-    ensures counted { IfOk result (CountsLine session.old counts (line_text k which) session.new) }
+    ensures counted { IfOk result
+        (CountsLine session.old counts (section_line k which) session.new) }
     ensures bounded { IfOk result (IsCountOf (counts.lines + 1)) }
     ensures steps { steps.new ≤ steps.old + 2 }
 {
@@ -116,7 +118,7 @@ fn count_drill_line<L: Ledger>(
 fn count_section<L: Ledger>(
     rt: &(impl Threads + Sync),
     alloc: Global,
-    session: &mut Session,
+    session: &mut OpenedSession,
     k: u32,
     counts: Counts,
     steps: &mut Steps<L>,
@@ -142,7 +144,7 @@ fn count_section<L: Ledger>(
 fn count_drill<L: Ledger>(
     rt: &(impl Threads + Sync),
     alloc: Global,
-    session: &mut Session,
+    session: &mut OpenedSession,
     n: u32,
     steps: &mut Steps<L>,
 ) -> Result<Counts, NoMemory>
@@ -193,7 +195,7 @@ fn begin_drill<L: Ledger>(
     alloc: Global,
     n: u32,
     steps: &mut Steps<L>,
-) -> Result<Session, Stop>
+) -> Result<OpenedSession, Stop>
     requires { IsDrillSize n }
     ensures returns { Returns (λ s. s) (drill_stage n) 0 result }
     ensures checks { CountsLists DRILL_ROOT (Some (drill_text n)) (Some 0) steps.old steps.new }
@@ -208,7 +210,7 @@ fn begin_drill<L: Ledger>(
 fn answer_drill<L: Ledger>(
     rt: &(impl Threads + Sync),
     alloc: Global,
-    session: &mut Session,
+    session: &mut OpenedSession,
     n: u32,
     steps: &mut Steps<L>,
 ) -> Result<Response, Stop>
@@ -217,10 +219,11 @@ fn answer_drill<L: Ledger>(
     ensures steps { steps.new ≤ steps.old + 2 * length (drill_lines n) }
 {
     let counts = count_drill(rt, alloc, session, n, steps)?;
-    Ok(tell(alloc, n, counts, session.open_count())?)
+    Ok(tell(alloc, n, counts, session.session().open_count())?)
 }
 
-/// Answers the script of the drill in a session on its document, and counts the replies.
+/// Answers the script of the drill in a session on its document, and counts the replies. The
+/// session is never freed.
 pub fn drill<L: Ledger>(
     rt: &(impl Threads + Sync),
     alloc: Global,
@@ -228,10 +231,12 @@ pub fn drill<L: Ledger>(
     steps: &mut Steps<L>,
 ) -> Result<Response, Stop>
     requires { IsDrillSize n }
-    ensures finds { Finds (IsDrillCourse n) result }
+    ensures finds { TakesCourse (IsDrillCourse n) result }
     ensures checks { CountsLists DRILL_ROOT (Some (drill_text n)) (Some (length (drill_lines n)))
         steps.old steps.new }
 {
     let mut session = begin_drill(rt, alloc, n, steps)?;
-    answer_drill(rt, alloc, &mut session, n, steps)
+    let response = answer_drill(rt, alloc, &mut session, n, steps);
+    forget(session);
+    response
 }

@@ -13,29 +13,33 @@ ghost use Rattle.pv_tree.specs.Plain.{nodes_in};
 ghost use Rattle.pv_tree.specs.PlainDocs.{plain_doc};
 ghost use Rattle.pv_tree.specs.Prolog.{IsProlog};
 
+use crate::conversation::opened_session::OpenedSession;
 use crate::conversation::talk::converse;
 use crate::opening::{Fetched, Opened, open_document};
-use crate::possibility::narrow_verdicts;
+use crate::possibility::narrow_verdicts_by;
 use crate::respond::respond;
 use crate::status::Status;
 use crate::stop::Stop;
+use pv_cache::PlannedGrammar;
 use pv_chars::bytes_of;
 use pv_io::{Sink, Source};
 use pv_productive::build;
 use pv_session::Session;
 use pv_steps::Steps;
 use std::alloc::Global;
+use std::mem::forget;
 use std::sync::ledger::Ledger;
 use std::thread::Threads;
 
-/// Begins a session on these files, whatever the verdicts of the document's lists are.
+/// Begins a session on these files, whatever the verdicts of the document's lists are. The rules of
+/// the grammar are laid out once, for these and for those of edits.
 pub fn begin<L: Ledger>(
     rt: &(impl Threads + Sync),
     alloc: Global,
     opened: Opened,
     root: &[u8],
     steps: &mut Steps<L>,
-) -> Result<Session, Stop>
+) -> Result<OpenedSession, Stop>
     requires few { nodes_in (plain_doc opened.doc).root ≤ MAX_EDITED_NODES }
     requires prolog { IsProlog root.now (plain_doc opened.doc).before }
     ensures returns { Returns (λ s. s) (guarding_stage root.now (plain_dtd opened.dtd)
@@ -43,10 +47,12 @@ pub fn begin<L: Ledger>(
     ensures steps { steps.new ≤ steps.old + length (lists_of (plain_doc opened.doc)) }
 {
     let Opened { dtd, doc, .. } = opened;
-    let grammar = build(alloc, dtd)?;
-    let verdicts = narrow_verdicts(rt, alloc, &grammar, &doc, root, steps)?;
+    let built = build(alloc, dtd)?;
+    let grammar = PlannedGrammar::of(alloc, built)?;
+    let verdicts = narrow_verdicts_by(rt, alloc, &grammar, &doc, root, steps)?;
     let root = bytes_of(alloc, root)?;
-    Ok(Session::begin(alloc, grammar, root, doc, verdicts)?)
+    let session = Session::begin_by(alloc, grammar, root, doc, verdicts);
+    Ok(OpenedSession::of(session))
 }
 
 // Reads the document, and begins a session on it.
@@ -56,7 +62,7 @@ fn open_session<L: Ledger>(
     fetched: Fetched,
     root: &[u8],
     steps: &mut Steps<L>,
-) -> Result<Session, Stop>
+) -> Result<OpenedSession, Stop>
     ensures returns { Returns (λ s. s) (session_stage root.now (plain_fetched fetched)) 0 result }
     ensures checks { CountsLists root.now (Some fetched.bytes.items) (Some 0) steps.old steps.new }
 {
@@ -64,7 +70,7 @@ fn open_session<L: Ledger>(
     begin(rt, alloc, opened, root, steps)
 }
 
-/// Reads the document, begins a session, and answers the script.
+/// Reads the document, begins a session, and answers the script. The session is never freed.
 pub fn session<S: Source, K: Sink, L: Ledger>(
     rt: &(impl Threads + Sync),
     alloc: Global,
@@ -84,5 +90,7 @@ pub fn session<S: Source, K: Sink, L: Ledger>(
         Ok(session) => session,
         Err(stop) => return respond(out, Err(stop)),
     };
-    converse(rt, alloc, &mut session, input, out, steps)
+    let status = converse(rt, alloc, &mut session, input, out, steps);
+    forget(session);
+    status
 }

@@ -8,9 +8,10 @@ ghost use Rattle.pv_cli.specs.Check.{TellsPossibility};
 ghost use Rattle.pv_cli.specs.CommandLine.{on_ranges};
 ghost use Rattle.pv_cli.specs.Devices.{shelf_at};
 ghost use Rattle.pv_cli.specs.Opening.{IsFile};
-ghost use Rattle.pv_cli.specs.Possibility.{HasVerdicts};
+ghost use Rattle.pv_cli.specs.Possibility.{AreVerdictsOf};
 ghost use Rattle.pv_cli.specs.Response.{plain_response};
-ghost use Rattle.pv_cli.specs.Returns.{Finds, FindsResponse, RefusesWith, Returns, ReturnsOver};
+ghost use Rattle.pv_cli.specs.Returns.{TakesCourse, FindsResponse, RefusesWith, Returns};
+ghost use Rattle.pv_cli.specs.Returns.{ReturnsOver};
 ghost use Rattle.pv_cli.specs.Stage.{Behind, beside};
 ghost use Rattle.pv_cli.specs.Annotations.{AreTwo, plain_two, two_stage};
 ghost use Rattle.pv_cli.specs.Standoff.{CountsDocument, IsNestRefusal, IsRangesRefusal};
@@ -46,6 +47,7 @@ use pv_steps::Steps;
 use pv_tree::Doc;
 use pv_write::doc_bytes;
 use std::alloc::{AllocError, Global};
+use std::mem::forget;
 use std::sync::ledger::Ledger;
 use std::thread::Threads;
 
@@ -173,7 +175,7 @@ fn nested(alloc: Global, root: &[u8], text: &Units, ranges: &Ranges) -> Result<D
 // What `check` tells of a document by its verdicts.
 fn check_line(alloc: Global, verdicts: &Verdicts) -> Result<Response, AllocError>
     ensures { (root : List ℕ) (g : PlainDtd) (doc : PlainDoc Mark) →
-        HasVerdicts root g doc verdicts.now →
+        AreVerdictsOf root g doc verdicts.now →
         IfOk result (λ r. TellsPossibility root g doc (plain_response r)) }
 {
     match verdicts.first_impossible() {
@@ -210,7 +212,7 @@ fn show<L: Ledger>(
     steps: &mut Steps<L>,
 ) -> Result<Response, Stop>
     ensures tells { (g : PlainDtd) → g ≡ dtd_of grammar.now →
-        Finds (IsShownCourse root.now g (plain_doc doc.now)) result }
+        TakesCourse (IsShownCourse root.now g (plain_doc doc.now)) result }
     ensures steps { steps.new ≤ steps.old + length (lists_of (plain_doc doc.now)) }
 {
     let verdicts = narrow_verdicts(rt, alloc, grammar, doc, root, steps)?;
@@ -218,7 +220,7 @@ fn show<L: Ledger>(
     Ok(with_document(alloc, line, doc)?)
 }
 
-// The document that stands for a text and ranges, with what `check` tells of it.
+// The document that stands for a text and ranges, with what `check` tells of it. It is never freed.
 fn tell<L: Ledger>(
     rt: &(impl Threads + Sync),
     alloc: Global,
@@ -232,14 +234,16 @@ fn tell<L: Ledger>(
     requires named { AreNamed ranges.now }
     requires few { length ranges.now ≤ MAX_RANGES }
     requires no_close_mark { holds_close_mark text.now ≡ false }
-    ensures finds { Finds (Behind
+    ensures finds { TakesCourse (Behind
         (beside (plain_dtd dtd) (nesting_stage root.now text.now ranges.now))
         (λ nested. IsShownCourse root.now nested.0 nested.1)) result }
     ensures counts { CountsDocument root.now text.now ranges.now steps.old steps.new }
 {
     let doc = nested(alloc, root, text, ranges)?;
     let grammar = build(alloc, dtd)?;
-    show(rt, alloc, &grammar, &doc, root, steps)
+    let response = show(rt, alloc, &grammar, &doc, root, steps);
+    forget(doc);
+    response
 }
 
 // The DTD and the text in the files of these names.

@@ -2,7 +2,7 @@
 
 ghost use Rattle.pv_cli.specs.Commands.{GoesOn};
 ghost use Rattle.pv_cli.specs.Response.{plain_response};
-ghost use Rattle.pv_cli.specs.Returns.{Finds, Returns, plain_fetched};
+ghost use Rattle.pv_cli.specs.Returns.{TakesCourse, Returns, plain_fetched};
 ghost use Rattle.pv_cli.specs.Validity.{validity_stage};
 ghost use Rattle.pv_cli.specs.declared.verb.Verb.TheVariants.{Valid};
 ghost use Rattle.pv_dtd.specs.PlainForms.{plain_dtd};
@@ -32,7 +32,7 @@ fn tell(alloc: Global, dtd: &Dtd, root: &[u8], bytes: &[u8]) -> Result<Response,
 
 /// Whether a document is valid for a DTD.
 pub fn valid(alloc: Global, fetched: &Fetched, root: &[u8]) -> Result<Response, Stop>
-    ensures { Finds (GoesOn Valid root.now (plain_fetched fetched.now)) result }
+    ensures { TakesCourse (GoesOn Valid root.now (plain_fetched fetched.now)) result }
 {
     tell(alloc, &fetched.dtd, root, &fetched.bytes)
 }

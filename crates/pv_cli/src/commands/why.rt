@@ -4,7 +4,7 @@ ghost use Rattle.std.specs.Prelude.{◌≡◌, ◌≤◌, ◌+◌, Some, None, l
 ghost use Rattle.pv_cli.specs.Checking.{CountsLists};
 ghost use Rattle.pv_cli.specs.Commands.{GoesOn, lines_checked};
 ghost use Rattle.pv_cli.specs.Documents.{PlainOpened};
-ghost use Rattle.pv_cli.specs.Returns.{Finds, TellsBy, plain_fetched};
+ghost use Rattle.pv_cli.specs.Returns.{TakesCourse, TellsBy, plain_fetched};
 ghost use Rattle.pv_cli.specs.Why.{IsWhyCourse, TellsWhy};
 ghost use Rattle.pv_cli.specs.declared.verb.Verb.TheVariants.{Why};
 ghost use Rattle.pv_fresh.specs.Answers.{IsImpossibleAt};
@@ -23,6 +23,7 @@ use pv_productive::{Grammar, build};
 use pv_steps::Steps;
 use pv_tree::{Doc, Path};
 use std::alloc::Global;
+use std::mem::forget;
 use std::sync::ledger::Ledger;
 use std::thread::Threads;
 
@@ -60,7 +61,7 @@ fn tell<L: Ledger>(
     steps: &mut Steps<L>,
 ) -> Result<Response, Stop>
     ensures tells { (opened : PlainOpened) → opened.dtd ≡ dtd_of grammar.now →
-        opened.doc ≡ plain_doc doc.now → Finds (IsWhyCourse root.now opened) result }
+        opened.doc ≡ plain_doc doc.now → TakesCourse (IsWhyCourse root.now opened) result }
     ensures steps { steps.new ≤ steps.old + length (lists_of (plain_doc doc.now)) }
 {
     let verdicts = narrow_verdicts(rt, alloc, grammar, doc, root, steps)?;
@@ -71,7 +72,7 @@ fn tell<L: Ledger>(
 }
 
 /// Why no insertions can make a document valid for a DTD: its first impossible list, the cause, and
-/// where that is its word a table that shows it.
+/// where that is its word a table that shows it. The document is never freed.
 pub fn why<L: Ledger>(
     rt: &(impl Threads + Sync),
     alloc: Global,
@@ -79,11 +80,13 @@ pub fn why<L: Ledger>(
     root: &[u8],
     steps: &mut Steps<L>,
 ) -> Result<Response, Stop>
-    ensures finds { Finds (GoesOn Why root.now (plain_fetched fetched)) result }
+    ensures finds { TakesCourse (GoesOn Why root.now (plain_fetched fetched)) result }
     ensures checks { CountsLists root.now (Some fetched.bytes.items) (lines_checked Why None)
         steps.old steps.new }
 {
     let Opened { dtd, doc, .. } = open_document(alloc, fetched, root)?;
     let grammar = build(alloc, dtd)?;
-    tell(rt, alloc, &grammar, &doc, root, steps)
+    let response = tell(rt, alloc, &grammar, &doc, root, steps);
+    forget(doc);
+    response
 }

@@ -2,7 +2,7 @@
 
 ghost use Rattle.std.specs.Prelude.{◌≡◌, ◌≤◌, IfOk, None, vec_len};
 ghost use Rattle.pv_cli.specs.Session.{done_of};
-ghost use Rattle.pv_cli.specs.Turns.{IsAnswer, text_of};
+ghost use Rattle.pv_cli.specs.Turns.{IsAnswerOf, text_of_reply};
 
 use pv_chars::NoMemory;
 use pv_edit::Done;
@@ -21,7 +21,7 @@ pub enum ReplyText {
 impl ReplyText {
     /// Its bytes.
     pub fn bytes(&self) -> &[u8]
-        ensures { result.now ≡ text_of self.now }
+        ensures { result.now ≡ text_of_reply self.now }
     {
         match self {
             ReplyText::Made(text) => text,
@@ -50,7 +50,7 @@ pub fn take_room(alloc: Global) -> Result<Vec<u8>, AllocError>
 /// The reply to a move that was made, in the room that was taken for it.
 pub fn okay(done: Done, mut room: Vec<u8>) -> Answer
     requires { 64 ≤ vec_len room }
-    ensures { IsAnswer (Reply.Okay done) result }
+    ensures { IsAnswerOf (Reply.Okay done) result }
 {
     let count = okay_text(&done, &mut room);
     room.truncate(count);
@@ -63,7 +63,7 @@ pub fn okay(done: Done, mut room: Vec<u8>) -> Answer
 /// Any other reply.
 pub fn other(alloc: Global, reply: &Reply) -> Result<Answer, NoMemory>
     requires { done_of reply.now ≡ None }
-    ensures { IfOk result (IsAnswer reply.now) }
+    ensures { IfOk result (IsAnswerOf reply.now) }
 {
     Ok(Answer {
         text: ReplyText::Made(reply_text(alloc, reply)?),
@@ -73,7 +73,7 @@ pub fn other(alloc: Global, reply: &Reply) -> Result<Answer, NoMemory>
 
 /// The reply to a line that is no command, which takes no memory.
 pub fn no_command() -> Answer
-    ensures { IsAnswer Reply.NoCommand result }
+    ensures { IsAnswerOf Reply.NoCommand result }
 {
     Answer {
         text: ReplyText::Fixed(no_command_text()),

@@ -8,8 +8,10 @@ ghost use Rattle.pv_cli.specs.Session.{done_of};
 ghost use Rattle.pv_cli.specs.Turns.{IsReplyBy};
 ghost use Rattle.pv_complete.specs.Needing.{HasCause};
 ghost use Rattle.pv_session.specs.Sessions.{stamped_document};
+ghost use Rattle.pv_tree.specs.Prolog.{IsProlog};
 
 use super::answers::{Answer, other};
+use super::opened_session::OpenedSession;
 use pv_chars::NoMemory;
 use pv_complete::{Completion, NeedError, complete_by, need_by};
 use pv_dtd::laws::proper_dtd_law;
@@ -39,8 +41,8 @@ fn impossible(
     }
 }
 
-// The reply where the number isn't told, though no list is impossible. In a session none is too wide
-// for a verdict.
+// The reply where the number isn't told, though no list is impossible. In a session none is too
+// wide for a verdict.
 fn withheld(session: &Session, error: NeedError) -> Result<Reply, NoMemory>
     requires { ∥ HasCause session.now.dtd session.now.root session.now.doc error ∥₁ }
     ensures withholds { IfOk result (Withholds session.now) }
@@ -100,6 +102,7 @@ pub fn need(alloc: Global, session: &Session) -> Result<Answer, NoMemory>
 
 // The document with the missing elements, or why it isn't told; no list is impossible.
 fn completed_by(alloc: Global, session: &Session, verdicts: &Verdicts) -> Result<Reply, NoMemory>
+    requires prolog { IsProlog session.now.root session.now.doc.before }
     requires verdicts { TellVerdicts (stamped_document session.now) verdicts.now }
     requires possible { verdicts.now.first ≡ None }
     ensures tells { IfOk result (TellsCompletion session.now) }
@@ -120,10 +123,11 @@ fn completed_by(alloc: Global, session: &Session, verdicts: &Verdicts) -> Result
 }
 
 // The document with the missing elements, or why it isn't told.
-fn completed(alloc: Global, session: &Session) -> Result<Reply, NoMemory>
-    ensures tells { IfOk result (TellsCompletion session.now) }
+fn completed(alloc: Global, opened: &OpenedSession) -> Result<Reply, NoMemory>
+    ensures tells { IfOk result (TellsCompletion opened.now) }
     ensures not_done { IfOk result (λ told. done_of told ≡ None) }
 {
+    let session = opened.session();
     let verdicts = session.verdicts()?;
     match impossible(alloc, session, &verdicts)? {
         Some(reply) => Ok(reply),
@@ -132,7 +136,7 @@ fn completed(alloc: Global, session: &Session) -> Result<Reply, NoMemory>
 }
 
 /// The reply to `complete`. The session's document stays as it is.
-pub fn complete(alloc: Global, session: &Session) -> Result<Answer, NoMemory>
+pub fn complete(alloc: Global, session: &OpenedSession) -> Result<Answer, NoMemory>
     ensures { IfOk result (IsReplyBy session.now Command.Complete session.now) }
 {
     let reply = completed(alloc, session)?;

@@ -7,7 +7,7 @@ ghost use Rattle.pv_cli.specs.Conversation.{AnswersLine, RepliesWith, Conversed,
 ghost use Rattle.pv_cli.specs.Conversation.{Finishes, IsWithinScript, IsBeyond, IsNext, Talked};
 ghost use Rattle.pv_cli.specs.Course.{responds};
 ghost use Rattle.pv_cli.specs.Devices.{input_at, output_at};
-ghost use Rattle.pv_cli.specs.Program.{Writes};
+ghost use Rattle.pv_cli.specs.Program.{WritesEnding};
 ghost use Rattle.pv_cli.specs.ReplyBuffer.{HoldsReplies};
 ghost use Rattle.pv_cli.specs.Script.{MAX_SCRIPT_BYTES as MOST_BYTES};
 ghost use Rattle.pv_cli.specs.Session.{limited};
@@ -15,13 +15,13 @@ ghost use Rattle.pv_io.specs.Causes.{CountsFault, AppendsFront};
 ghost use Rattle.pv_script.specs.Lines.{ended_lines, lines_of};
 ghost use Rattle.pv_session.specs.Sessions.{PlainSession};
 
+use super::opened_session::OpenedSession;
 use super::reply_buffer::ReplyBuffer;
 use super::turns::turn;
 use crate::status::Status;
 use pv_chars::NoMemory;
 use pv_io::{Failed, Sink, Source, write_all};
 use pv_script::{Lines, MAX_LINE_BYTES, Took, limit_line_text, no_memory_text};
-use pv_session::Session;
 use pv_steps::Steps;
 use std::alloc::{AllocError, Global};
 use std::sync::ledger::Ledger;
@@ -58,7 +58,7 @@ pub enum Next {
 fn answer_line<K: Sink, L: Ledger>(
     rt: &(impl Threads + Sync),
     alloc: Global,
-    session: &mut Session,
+    session: &mut OpenedSession,
     line: &[u8],
     buffer: &mut ReplyBuffer,
     out: &mut K,
@@ -84,7 +84,7 @@ fn answer_line<K: Sink, L: Ledger>(
 fn answer_lines<K: Sink, L: Ledger>(
     rt: &(impl Threads + Sync),
     alloc: Global,
-    session: &mut Session,
+    session: &mut OpenedSession,
     reading: &mut Reading,
     piece: &[u8],
     buffer: &mut ReplyBuffer,
@@ -147,7 +147,7 @@ fn beyond(next: Next, lines: &Lines, byte: u8) -> Next
 fn answer_within<K: Sink, L: Ledger>(
     rt: &(impl Threads + Sync),
     alloc: Global,
-    session: &mut Session,
+    session: &mut OpenedSession,
     reading: &mut Reading,
     piece: &[u8],
     left: usize,
@@ -188,7 +188,7 @@ fn answer_within<K: Sink, L: Ledger>(
 fn answer_piece<K: Sink, L: Ledger>(
     rt: &(impl Threads + Sync),
     alloc: Global,
-    session: &mut Session,
+    session: &mut OpenedSession,
     reading: &mut Reading,
     piece: &[u8],
     left: usize,
@@ -218,7 +218,7 @@ fn answer_piece<K: Sink, L: Ledger>(
 fn finish<K: Sink, L: Ledger>(
     rt: &(impl Threads + Sync),
     alloc: Global,
-    session: &mut Session,
+    session: &mut OpenedSession,
     reading: &Reading,
     buffer: &mut ReplyBuffer,
     out: &mut K,
@@ -244,7 +244,7 @@ fn finish<K: Sink, L: Ledger>(
 fn announce<K: Sink>(text: &[u8], out: &mut K) -> Status
     ensures { (old : Option (List ℕ)) → (replies : List ℕ) →
         Appends old (K.written out.old) replies →
-        Writes (responds (record { status = Status.Limit; output = replies ++ text.now }))
+        WritesEnding (responds (record { status = Status.Limit; output = replies ++ text.now }))
         old (K.written out.new) (K.faults out.old) (K.faults out.new) result }
 {
     match write_all(out, text) {
@@ -257,7 +257,7 @@ fn announce<K: Sink>(text: &[u8], out: &mut K) -> Status
 fn announce_line<K: Sink>(number: u64, out: &mut K) -> Status
     ensures { (old : Option (List ℕ)) → (replies : List ℕ) →
         Appends old (K.written out.old) replies →
-        Writes (limited replies (codes "limit line " ++ decimal number))
+        WritesEnding (limited replies (codes "limit line " ++ decimal number))
         old (K.written out.new) (K.faults out.old) (K.faults out.new) result }
 {
     let mut room = [0u8; 64];
@@ -276,7 +276,7 @@ fn zeros(alloc: Global, count: usize) -> Result<Vec<u8>, AllocError>
 pub fn converse<S: Source, K: Sink, L: Ledger>(
     rt: &(impl Threads + Sync),
     alloc: Global,
-    session: &mut Session,
+    session: &mut OpenedSession,
     input: &mut S,
     out: &mut K,
     steps: &mut Steps<L>,

@@ -6,6 +6,7 @@ ghost use Rattle.pv_cli.specs.Turns.{IsReplyBy, IsTurn};
 use super::answers::{Answer, no_command, okay, other, take_room};
 use super::missing::{complete, need};
 use super::offers::offer;
+use super::opened_session::OpenedSession;
 use pv_chars::{Bytes, NoMemory};
 use pv_edit::{Edit, EditAnswer, Edits};
 use pv_script::{Command, CommandError, Reply, read_command};
@@ -19,7 +20,7 @@ use std::thread::Threads;
 // The reply to an edit. Nothing behind the edit takes memory where it was made.
 fn edit<L: Ledger>(
     alloc: Global,
-    session: &mut Session,
+    session: &mut OpenedSession,
     edit: &Edit,
     steps: &mut Steps<L>,
 ) -> Result<Answer, NoMemory>
@@ -40,7 +41,7 @@ fn edit<L: Ledger>(
 // The reply to an undo.
 fn undo<L: Ledger>(
     alloc: Global,
-    session: &mut Session,
+    session: &mut OpenedSession,
     steps: &mut Steps<L>,
 ) -> Result<Answer, NoMemory>
     ensures replied { IfOk result (IsReplyBy session.old Command.Undo session.new) }
@@ -58,7 +59,7 @@ fn undo<L: Ledger>(
 // The reply to a redo.
 fn redo<L: Ledger>(
     alloc: Global,
-    session: &mut Session,
+    session: &mut OpenedSession,
     steps: &mut Steps<L>,
 ) -> Result<Answer, NoMemory>
     ensures replied { IfOk result (IsReplyBy session.old Command.Redo session.new) }
@@ -105,7 +106,7 @@ fn verdicts(alloc: Global, session: &Session) -> Result<Answer, NoMemory>
 pub fn turn<L: Ledger>(
     rt: &(impl Threads + Sync),
     alloc: Global,
-    session: &mut Session,
+    session: &mut OpenedSession,
     line: &[u8],
     steps: &mut Steps<L>,
 ) -> Result<Option<Answer>, NoMemory>
@@ -117,12 +118,12 @@ pub fn turn<L: Ledger>(
         Ok(Command::Edit(change)) => Ok(Some(edit(alloc, session, &change, steps)?)),
         Ok(Command::Undo) => Ok(Some(undo(alloc, session, steps)?)),
         Ok(Command::Redo) => Ok(Some(redo(alloc, session, steps)?)),
-        Ok(Command::History) => Ok(Some(history(alloc, session)?)),
-        Ok(Command::Show) => Ok(Some(show(alloc, session)?)),
-        Ok(Command::Verdicts) => Ok(Some(verdicts(alloc, session)?)),
-        Ok(Command::Need) => Ok(Some(need(alloc, session)?)),
+        Ok(Command::History) => Ok(Some(history(alloc, session.session())?)),
+        Ok(Command::Show) => Ok(Some(show(alloc, session.session())?)),
+        Ok(Command::Verdicts) => Ok(Some(verdicts(alloc, session.session())?)),
+        Ok(Command::Need) => Ok(Some(need(alloc, session.session())?)),
         Ok(Command::Complete) => Ok(Some(complete(alloc, session)?)),
-        Ok(Command::Offer(ask)) => Ok(Some(offer(rt, alloc, session, &ask)?)),
+        Ok(Command::Offer(ask)) => Ok(Some(offer(rt, alloc, session.session(), &ask)?)),
         Ok(Command::Quit) => Ok(None),
         Err(CommandError::Unknown) => Ok(Some(no_command())),
         Err(CommandError::NoMemory) => Err(NoMemory),

@@ -29,7 +29,7 @@ returns-clause-finds g c =
     let root = c.args.root.now in
     let both = plain_opened c.in_ok-dtd.field-0 in
     let stage = document_stage root (plain_dtd c.args.fetched.dtd) c.args.fetched.bytes.items in
-    found_behind stage (IsCheckCourse root) both c.tell.result c.in_ok-dtd.ensures (c.tell.ensures.tells both (sym c.in_ok-grammar.ensures) refl)
+    found_behind stage (IsCheckCourse root) both c.tell-response.result c.in_ok-dtd.ensures (c.tell-response.ensures.tells both (sym c.in_ok-grammar.ensures) refl)
 
 pub returns-in_err-dtd-clause-checks : goal.returns-in_err-dtd-clause-checks
 returns-in_err-dtd-clause-checks g c = none_checked refl
@@ -38,20 +38,4 @@ pub returns-in_err-grammar-clause-checks : goal.returns-in_err-grammar-clause-ch
 returns-in_err-grammar-clause-checks g c = none_checked refl
 
 pub returns-clause-checks : goal.returns-clause-checks
-returns-clause-checks g c = some_checked c.args.fetched.bytes.items _ 0 refl c.in_ok-dtd.ensures.0.is_text refl (omega (arith, c.tell.ensures.steps))
-
-pub invariant_of-doc-2 : goal.invariant_of-doc-2
-invariant_of-doc-2 g c =
-    let doc = c.in_ok-dtd.field-0.doc in
-    record {
-      rooted = doc.rooted;
-      formed = doc.formed;
-      shallow = doc.shallow;
-      small = doc.small;
-      named = doc.named;
-      units = doc.units;
-      legal = doc.legal;
-      no_close_mark = doc.no_close_mark;
-      prolog = doc.prolog;
-      epilog = doc.epilog;
-    }
+returns-clause-checks g c = some_checked c.args.fetched.bytes.items _ 0 refl c.in_ok-dtd.ensures.0.is_text refl (omega (arith, c.tell-response.ensures.steps))

@@ -6,9 +6,9 @@ use Rattle.pv_tree.specs.Plain.{PlainDoc}
 use Rattle.pv_tree.specs.PlainDocs.{plain_doc}
 use Rattle.pv_tree.specs.declared.nodes.Mark.{Mark}
 use Rattle.pv_cli.specs.Check.{TellsPossibility, is_no_more, is_possible}
-use Rattle.pv_cli.specs.Possibility.{AreNarrow, possibility_stage, width_stage}
+use Rattle.pv_cli.specs.Possibility.{possibility_stage, width_stage}
 use Rattle.pv_cli.specs.Response.{plain_response}
-use Rattle.pv_cli.specs.Returns.{Finds, StopsBy, TellsBy}
+use Rattle.pv_cli.specs.Returns.{TakesCourse, StopsBy, TellsBy}
 use Rattle.pv_cli.specs.Stage.{Behind, Responds, opened, refused, short_of_memory, responded}
 use Rattle.pv_cli.specs.declared.response.Response.{Response}
 use Rattle.pv_cli.specs.declared.stop.Stop.{Stop}
@@ -17,7 +17,7 @@ use Rattle.pv_cli.proofs.Stages.{found_behind, tells_found}
 use Rattle.pv_cli.proofs.commands.check.tell.Goals as goal
 
 abbrev Checks : List ℕ → PlainDtd → PlainDoc Mark → Result Response Stop → Type 0
-Checks root g doc = Finds (Behind (width_stage g doc) (λ _. Responds (TellsPossibility root g doc)))
+Checks root g doc = TakesCourse (Behind (width_stage g doc) (λ _. Responds (TellsPossibility root g doc)))
 
 -- the same, of the opened files
 checks_as : (root : List ℕ) (g d : PlainDtd) (doc same : PlainDoc Mark) (result : Result Response Stop) → d ≡ g → same ≡ doc → Checks root g doc result → Checks root d same result

@@ -10,8 +10,8 @@ use Rattle.pv_cli.specs.declared.stop.Stop.TheVariants.{NoMemory}
 use Rattle.pv_cli.proofs.Stages.{found_behind, stop_found}
 use Rattle.pv_cli.proofs.commands.complete.complete.Goals as goal
 
-pub tell-requires : goal.tell-requires
-tell-requires c = record { bytes = _; is_text = c.in_ok-dtd.ensures.0.is_text }
+pub tell-response-requires : goal.tell-response-requires
+tell-response-requires c = record { bytes = _; is_text = c.in_ok-dtd.ensures.0.is_text }
 
 pub returns-in_err-dtd : goal.returns-in_err-dtd
 returns-in_err-dtd c =
@@ -30,20 +30,4 @@ returns c =
     let root = c.args.root.now in
     let both = plain_opened c.in_ok-dtd.field-0 in
     let stage = document_stage root (plain_dtd c.args.fetched.dtd) c.args.fetched.bytes.items in
-    found_behind stage (IsCompleteCourse root) both c.tell.result c.in_ok-dtd.ensures (c.tell.ensures both (sym c.in_ok-grammar.ensures) refl)
-
-pub invariant_of-doc-2 : goal.invariant_of-doc-2
-invariant_of-doc-2 c =
-    let doc = c.in_ok-dtd.field-0.doc in
-    record {
-      rooted = doc.rooted;
-      formed = doc.formed;
-      shallow = doc.shallow;
-      small = doc.small;
-      named = doc.named;
-      units = doc.units;
-      legal = doc.legal;
-      no_close_mark = doc.no_close_mark;
-      prolog = doc.prolog;
-      epilog = doc.epilog;
-    }
+    found_behind stage (IsCompleteCourse root) both c.tell-response.result c.in_ok-dtd.ensures (c.tell-response.ensures both (sym c.in_ok-grammar.ensures) refl)

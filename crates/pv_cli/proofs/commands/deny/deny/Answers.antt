@@ -33,7 +33,7 @@ pub returns-clause-finds : goal.returns-clause-finds
 returns-clause-finds g c = λ checked.
     let named = c.args.named.now in
     certificate_told Deny named.dtd.now named.root.now named.doc.now c.args.name.now (λ (denial : Denial). denial) denial_file_stage (Told named.root.now) (λ files course goes. goes) _ checked _ _
-    c.in_ok-dtd.field-0 c.in_ok-dtd.ensures.over c.in_ok-denial.denial c.tell.result c.in_ok-denial.ensures.over c.tell.ensures
+    c.in_ok-dtd.field-0 c.in_ok-dtd.ensures.over c.in_ok-denial.denial c.tell-response.result c.in_ok-denial.ensures.over c.tell-response.ensures
 
 pub returns-in_err-dtd-clause-files : goal.returns-in_err-dtd-clause-files
 returns-in_err-dtd-clause-files g c = c.in_err-dtd.ensures.over.same

@@ -16,28 +16,11 @@ pub returns-clause-finds : goal.returns-clause-finds
 returns-clause-finds g c =
     let n = c.args.n in
     let session = c.in_ok-session.session in
-    found_behind (drill_stage n) (λ s. Responds (TellsCounts n s)) session c.answer_drill.result c.in_ok-session.ensures.returns
-    (tells_found (TellsCounts n session) c.answer_drill.result c.answer_drill.ensures.tells)
+    found_behind (drill_stage n) (λ s. Responds (TellsCounts n s)) session c.answer_drill-response.result c.in_ok-session.ensures.returns
+    (tells_found (TellsCounts n session) c.answer_drill-response.result c.answer_drill-response.ensures.tells)
 
 pub returns-in_err-session-clause-checks : goal.returns-in_err-session-clause-checks
 returns-in_err-session-clause-checks g c = counts_more _ _ _ _ _ c.in_err-session.ensures.checks
 
 pub returns-clause-checks : goal.returns-clause-checks
-returns-clause-checks g c = drill_counts c.args.n c.in_ok-session.session _ _ _ _ c.in_ok-session.ensures.returns c.in_ok-session.ensures.checks c.answer_drill.ensures.steps
-
--- the document of the session keeps what it kept
-pub invariant_of-session-inside : goal.invariant_of-session-inside
-invariant_of-session-inside g c =
-    let doc = c.drop.inside.document.doc in
-    record {
-      rooted = doc.rooted;
-      formed = doc.formed;
-      shallow = doc.shallow;
-      small = doc.small;
-      named = doc.named;
-      units = doc.units;
-      legal = doc.legal;
-      no_close_mark = doc.no_close_mark;
-      prolog = doc.prolog;
-      epilog = doc.epilog;
-    }
+returns-clause-checks g c = drill_counts c.args.n c.in_ok-session.session _ _ _ _ c.in_ok-session.ensures.returns c.in_ok-session.ensures.checks c.answer_drill-response.ensures.steps

@@ -17,21 +17,4 @@ pub returns : goal.returns
 returns g c =
     let root = c.args.root.now in
     let fetched = plain_fetched c.args.fetched in
-    talked_rest root fetched c.in-Ok.session _ _ _ _ _ _ _ _ c.in-Ok.ensures.returns c.in-Ok.ensures.checks c.converse.ensures
-
--- the document of the session keeps what it kept
-pub invariant_of-session-inside : goal.invariant_of-session-inside
-invariant_of-session-inside g c =
-    let doc = c.drop.inside.document.doc in
-    record {
-      rooted = doc.rooted;
-      formed = doc.formed;
-      shallow = doc.shallow;
-      small = doc.small;
-      named = doc.named;
-      units = doc.units;
-      legal = doc.legal;
-      no_close_mark = doc.no_close_mark;
-      prolog = doc.prolog;
-      epilog = doc.epilog;
-    }
+    talked_rest root fetched c.in-Ok.session _ _ _ _ _ _ _ _ c.in-Ok.ensures.returns c.in-Ok.ensures.checks c.converse-status.ensures

@@ -8,13 +8,13 @@ use Rattle.pv_tree.specs.Lists.{lists_of}
 use Rattle.pv_tree.specs.Plain.{PlainDoc}
 use Rattle.pv_tree.specs.declared.nodes.Mark.{Mark}
 use Rattle.pv_cli.specs.Check.{TellsPossibility, is_no_more, is_possible, possible_text}
-use Rattle.pv_cli.specs.Possibility.{HasVerdicts, is_impossible}
+use Rattle.pv_cli.specs.Possibility.{AreVerdictsOf, is_impossible}
 use Rattle.pv_cli.specs.Response.{PlainResponse, plain_response, with_line}
 use Rattle.pv_cli.specs.declared.response.Response.{Response}
 use Rattle.pv_cli.specs.declared.status.Status.TheVariants.{Done, Negative}
 use Rattle.pv_cli.proofs.commands.standoff.check_line.Goals as goal
 
-module _ (root : List ℕ) (g : PlainDtd) (doc : PlainDoc Mark) (vs : PlainVerdicts) (has : HasVerdicts root g doc vs) where
+module _ (root : List ℕ) (g : PlainDtd) (doc : PlainDoc Mark) (vs : PlainVerdicts) (has : AreVerdictsOf root g doc vs) where
   impossible_told : (path : List ℕ) (r : PlainResponse) → vs.first ≡ Some path → r ≡ with_line Negative (codes "impossible " ++ path_text path) → TellsPossibility root g doc r
   impossible_told path r is told =
       let first : IsFirstImpossible g root (lists_of doc) path = rw is at has.verdicts.is_first in

@@ -7,7 +7,7 @@ use Rattle.pv_tree.specs.PlainDocs.{plain_doc}
 use Rattle.pv_tree.specs.declared.nodes.Mark.{Mark}
 use Rattle.pv_cli.specs.Possibility.{width_stage}
 use Rattle.pv_cli.specs.Response.{plain_response}
-use Rattle.pv_cli.specs.Returns.{Finds}
+use Rattle.pv_cli.specs.Returns.{TakesCourse}
 use Rattle.pv_cli.specs.Stage.{Responds, short_of_memory}
 use Rattle.pv_cli.specs.Standoff.{IsShownCourse, TellsNested}
 use Rattle.pv_cli.specs.declared.response.Response.{Response}
@@ -16,8 +16,8 @@ use Rattle.pv_cli.proofs.Stages.{found_behind, stop_found, tells_found}
 use Rattle.pv_cli.proofs.commands.standoff.show.Goals as goal
 
 -- the same, of the opened DTD
-shows_as : (root : List ℕ) (g d : PlainDtd) (doc : PlainDoc Mark) (result : Result Response Stop) → d ≡ g → Finds (IsShownCourse root g doc) result → Finds (IsShownCourse root d doc) result
-shows_as root g d doc result is finds = subst (λ (h : PlainDtd). Finds (IsShownCourse root h doc) result) (sym is) finds
+shows_as : (root : List ℕ) (g d : PlainDtd) (doc : PlainDoc Mark) (result : Result Response Stop) → d ≡ g → TakesCourse (IsShownCourse root g doc) result → TakesCourse (IsShownCourse root d doc) result
+shows_as root g d doc result is finds = subst (λ (h : PlainDtd). TakesCourse (IsShownCourse root h doc) result) (sym is) finds
 
 pub returns-in_err-verdicts-clause-tells : goal.returns-in_err-verdicts-clause-tells
 returns-in_err-verdicts-clause-tells g c = λ d is.

@@ -31,7 +31,7 @@ pub returns-clause-finds : goal.returns-clause-finds
 returns-clause-finds g c =
     let dtd = plain_dtd c.args.dtd in
     let stage = nesting_stage c.args.root.now c.args.text.now c.args.ranges.now in
-    found_behind (beside dtd stage) (Shows c.args.root.now) (dtd, plain_doc c.in_ok-doc.doc) c.show.result (refl, c.in_ok-doc.ensures) (c.show.ensures.tells dtd (sym c.in_ok-grammar.ensures))
+    found_behind (beside dtd stage) (Shows c.args.root.now) (dtd, plain_doc c.in_ok-doc.doc) c.show-response.result (refl, c.in_ok-doc.ensures) (c.show-response.ensures.tells dtd (sym c.in_ok-grammar.ensures))
 
 pub returns-in_err-doc-clause-counts : goal.returns-in_err-doc-clause-counts
 returns-in_err-doc-clause-counts g c = none_checked refl
@@ -40,4 +40,4 @@ pub returns-in_err-grammar-clause-counts : goal.returns-in_err-grammar-clause-co
 returns-in_err-grammar-clause-counts g c = none_checked refl
 
 pub returns-clause-counts : goal.returns-clause-counts
-returns-clause-counts g c = some_checked (plain_doc c.in_ok-doc.doc) c.in_ok-doc.ensures.0 c.show.ensures.steps
+returns-clause-counts g c = some_checked (plain_doc c.in_ok-doc.doc) c.in_ok-doc.ensures.0 c.show-response.ensures.steps

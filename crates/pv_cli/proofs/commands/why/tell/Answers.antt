@@ -10,9 +10,9 @@ use Rattle.pv_tree.specs.Lists.{lists_of}
 use Rattle.pv_tree.specs.Plain.{PlainDoc}
 use Rattle.pv_tree.specs.PlainDocs.{plain_doc}
 use Rattle.pv_tree.specs.declared.nodes.Mark.{Mark}
-use Rattle.pv_cli.specs.Possibility.{HasVerdicts, width_stage}
+use Rattle.pv_cli.specs.Possibility.{AreVerdictsOf, width_stage}
 use Rattle.pv_cli.specs.Response.{plain_response}
-use Rattle.pv_cli.specs.Returns.{Finds, TellsBy}
+use Rattle.pv_cli.specs.Returns.{TakesCourse, TellsBy}
 use Rattle.pv_cli.specs.Stage.{Behind, Responds, short_of_memory}
 use Rattle.pv_cli.specs.Why.{TellsWhy, is_possible}
 use Rattle.pv_cli.specs.declared.response.Response.{Response}
@@ -22,14 +22,14 @@ use Rattle.pv_cli.proofs.Stages.{found_behind, stop_found, tells_found}
 use Rattle.pv_cli.proofs.commands.why.tell.Goals as goal
 
 abbrev Explains : List ℕ → PlainDtd → PlainDoc Mark → Result Response Stop → Type 0
-Explains root g doc = Finds (Behind (width_stage g doc) (λ _. Responds (TellsWhy root g doc)))
+Explains root g doc = TakesCourse (Behind (width_stage g doc) (λ _. Responds (TellsWhy root g doc)))
 
 -- the same, of the opened files
 explains_as : (root : List ℕ) (g d : PlainDtd) (doc same : PlainDoc Mark) (result : Result Response Stop) → d ≡ g → same ≡ doc → Explains root g doc result → Explains root d same result
 explains_as root g d doc same result is are explains = subst (λ (h : PlainDtd). Explains root h same result) (sym is) (subst (λ (s : PlainDoc Mark). Explains root g s result) (sym are) explains)
 
 -- what was told behind the test of the width
-told_behind : (root : List ℕ) (g : PlainDtd) (doc : PlainDoc Mark) (vs : PlainVerdicts) (result : Result Response Stop) → HasVerdicts root g doc vs → TellsBy (TellsWhy root g doc) result → Explains root g doc result
+told_behind : (root : List ℕ) (g : PlainDtd) (doc : PlainDoc Mark) (vs : PlainVerdicts) (result : Result Response Stop) → AreVerdictsOf root g doc vs → TellsBy (TellsWhy root g doc) result → Explains root g doc result
 told_behind root g doc vs result has tells = found_behind (width_stage g doc) (λ _. Responds (TellsWhy root g doc)) tt result (has.narrow, refl) (tells_found (TellsWhy root g doc) result tells)
 
 pub returns-in_err-verdicts-clause-tells : goal.returns-in_err-verdicts-clause-tells

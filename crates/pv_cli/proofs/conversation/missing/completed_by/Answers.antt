@@ -9,7 +9,7 @@ use Rattle.pv_cli.proofs.MissingElements.{cause_told, live_verdicts}
 use Rattle.pv_cli.proofs.conversation.missing.completed_by.Goals as goal
 
 pub complete_by-requires-clause-names : goal.complete_by-requires-clause-names
-complete_by-requires-clause-names c = rw c.root.ensures (subst (λ (d : PlainDoc ℕ). IsProlog c.args.session.now.root d.before) (sym c.doc.ensures.doc) c.session_law.ensures.prolog)
+complete_by-requires-clause-names c = rw c.root.ensures (subst (λ (d : PlainDoc ℕ). IsProlog c.args.session.now.root d.before) (sym c.doc.ensures.doc) c.requires.prolog)
 
 pub complete_by-requires-clause-verdicts : goal.complete_by-requires-clause-verdicts
 complete_by-requires-clause-verdicts c =

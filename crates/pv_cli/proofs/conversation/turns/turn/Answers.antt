@@ -24,13 +24,13 @@ returns-in_ok-redo-in-Ok-Redo-clause-turned g c =
 
 pub returns-in_ok-history-in-Ok-History-clause-turned : goal.returns-in_ok-history-in-Ok-History-clause-turned
 returns-in_ok-history-in-Ok-History-clause-turned g c =
-    let by = c.in_ok-history-in-Ok-History.ensures in
+    let by = rw c.session.ensures.same at c.in_ok-history-in-Ok-History.ensures in
     let spells = rw c.in-Ok-History.field-0-is at c.in-Ok-History.ensures.read in
     (by.0, known History spells by.1, by.2)
 
 pub returns-in_ok-show-in-Ok-Show-clause-turned : goal.returns-in_ok-show-in-Ok-Show-clause-turned
 returns-in_ok-show-in-Ok-Show-clause-turned g c =
-    let by = c.in_ok-show-in-Ok-Show.ensures in
+    let by = rw c.session-in-Ok-Show.ensures.same at c.in_ok-show-in-Ok-Show.ensures in
     let spells = rw c.in-Ok-Show.field-0-is at c.in-Ok-Show.ensures.read in
     (by.0, known Show spells by.1, by.2)
 
@@ -41,13 +41,13 @@ returns-in-Err-Unknown-clause-turned g c =
 
 pub returns-in_ok-verdicts-in-Ok-Verdicts-clause-turned : goal.returns-in_ok-verdicts-in-Ok-Verdicts-clause-turned
 returns-in_ok-verdicts-in-Ok-Verdicts-clause-turned g c =
-    let by = c.in_ok-verdicts-in-Ok-Verdicts.ensures in
+    let by = rw c.session-in-Ok-Verdicts.ensures.same at c.in_ok-verdicts-in-Ok-Verdicts.ensures in
     let spells = rw c.in-Ok-Verdicts.field-0-is at c.in-Ok-Verdicts.ensures.read in
     (by.0, known Verdicts spells by.1, by.2)
 
 pub returns-in_ok-need-in-Ok-Need-clause-turned : goal.returns-in_ok-need-in-Ok-Need-clause-turned
 returns-in_ok-need-in-Ok-Need-clause-turned g c =
-    let by = c.in_ok-need-in-Ok-Need.ensures in
+    let by = rw c.session-in-Ok-Need.ensures.same at c.in_ok-need-in-Ok-Need.ensures in
     let spells = rw c.in-Ok-Need.field-0-is at c.in-Ok-Need.ensures.read in
     (by.0, known Need spells by.1, by.2)
 
@@ -59,6 +59,6 @@ returns-in_ok-complete-in-Ok-Complete-clause-turned g c =
 
 pub returns-in_ok-offer-in-Ok-Offer-clause-turned : goal.returns-in_ok-offer-in-Ok-Offer-clause-turned
 returns-in_ok-offer-in-Ok-Offer-clause-turned g c =
-    let by = c.in_ok-offer-in-Ok-Offer.ensures in
+    let by = rw c.session-in-Ok-Offer.ensures.same at c.in_ok-offer-in-Ok-Offer.ensures in
     let spells = rw c.in-Ok-Offer.field-0-is at c.in-Ok-Offer.ensures.read in
     (by.0, known (Offer c.in-Ok-Offer.ask) spells by.1, by.2)
