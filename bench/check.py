@@ -14,7 +14,7 @@ import sys
 import tempfile
 import time
 
-from valid import run
+from timing import made, program_of, run, written
 
 LEFT = "<!ELEMENT a (b, c?)><!ELEMENT b (a?)><!ELEMENT c EMPTY>"
 LONG_LEFT = "<!ELEMENT a (b, c?)><!ELEMENT b (d)><!ELEMENT d (e)><!ELEMENT e (a?)><!ELEMENT c EMPTY>"
@@ -60,10 +60,7 @@ def row(kid, count, root="a"):
 # Title, DTD, root, document, and whether xmllint is told beside it.
 def cases(top, folder):
     article = open(f"{top}/examples/article.dtd").read()
-    plain = f"{folder}/plain.xml"
-    with open(plain, "w") as file:
-        subprocess.run([sys.executable, f"{top}/bench/document.py", "nodes", "18000000"], stdout=file, check=True)
-    text = open(plain).read()
+    text = open(made("nodes", 18_000_000, f"{folder}/plain.xml")).read()
     yield "18 MB, valid", article, "doc", text, True
     yield "18 MB, without every tenth pair of tags", article, "doc", without_tags(text), False
     for count in (20_000, 200_000):
@@ -107,13 +104,14 @@ def verdict_times(program, files, often, rounds):
 
 def tell_verdicts(top, folder, rounds):
     program = f"{top}/crates/bench_check/out/bench_check"
+    if not os.path.exists(program):
+        print("skipped: the verdicts alone (bench_check isn't built)")
+        return
     article = open(f"{top}/examples/article.dtd").read()
     tagless = without_tags(open(f"{folder}/plain.xml").read())
     for title, dtd, root, doc, often in verdict_cases(article, tagless):
-        for name, text in (("a.dtd", dtd), ("d.xml", doc)):
-            with open(f"{folder}/{name}", "w") as file:
-                file.write(text)
-        found = verdict_times(program, [f"{folder}/a.dtd", root, f"{folder}/d.xml"], often, rounds)
+        files = [written(f"{folder}/a.dtd", dtd), root, written(f"{folder}/d.xml", doc)]
+        found = verdict_times(program, files, often, rounds)
         print(f"verdicts of {title}")
         for (name, count), seconds in found.items():
             print(f"  {name:8} on {count}: {1_000_000 * seconds:11,.1f} us  {found['one', 1] / seconds:5.2f}")
@@ -121,21 +119,17 @@ def tell_verdicts(top, folder, rounds):
 
 def main():
     top, rounds = sys.argv[1], int(sys.argv[2])
-    program = f"{top}/crates/pvtag/out/pvtag"
+    program = program_of(top)
     with tempfile.TemporaryDirectory() as folder:
         for title, dtd, root, doc, is_compared in cases(top, folder):
-            with open(f"{folder}/a.dtd", "w") as file:
-                file.write(dtd)
-            with open(f"{folder}/d.xml", "w") as file:
-                file.write(doc)
-            files = [f"{folder}/a.dtd", root, f"{folder}/d.xml"]
+            files = [written(f"{folder}/a.dtd", dtd), root, written(f"{folder}/d.xml", doc)]
             programs = {"check": [program, "check", *files], "valid": [program, "valid", *files]}
             if is_compared and shutil.which("xmllint"):
                 programs["xmllint"] = ["xmllint", "--noout", "--dtdvalid", files[0], files[2]]
             best = {name: (float("inf"), float("inf"), 0) for name in programs}
             for _ in range(rounds):
                 for name, words in programs.items():
-                    seconds, memory, status = run(words, f"{folder}/memory")
+                    seconds, memory, status = run(words)[:3]
                     best[name] = (min(best[name][0], seconds), min(best[name][1], memory), status)
             print(f"{title}, {os.path.getsize(files[2]):,} bytes")
             for name, (seconds, memory, status) in best.items():

@@ -7,6 +7,6 @@ command -v python3 >/dev/null || {
     echo "skipped: no python3"
     exit 0
 }
-"$top/pvtag" check "$top/examples/article.dtd" doc "$top/examples/article.xml" >/dev/null
-(cd "$top/crates/bench_check" && rt run -- several 2 data/a.dtd doc data/d.xml) >/dev/null 2>&1 </dev/null
+[ -n "${PVTAG:-}" ] || "$top/pvtag" check "$top/examples/article.dtd" doc "$top/examples/article.xml" >/dev/null
+[ -n "${PVTAG:-}" ] || (cd "$top/crates/bench_check" && rt run -- several 2 data/a.dtd doc data/d.xml) >/dev/null 2>&1 </dev/null
 exec python3 "$top/bench/check.py" "$top" "${1:-5}"

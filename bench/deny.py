@@ -9,40 +9,42 @@ import subprocess
 import sys
 import tempfile
 
-from valid import run
+from timing import made, program_of, run, written
 
 # 211 sites, and as many kids as there may be in a denial of 8,388,608 values.
 MANY = "<!ELEMENT r (a, b)><!ELEMENT a EMPTY><!ELEMENT b EMPTY>" + "".join(f"<!ELEMENT e{number} EMPTY>" for number in range(100))
 MOST_KIDS = 8_388_608 // 211 - 1
 
 
-def cases(top):
+def behind_all(text):
+    """A document of sections with a head behind them all: its root's list is impossible."""
+    return text.rstrip().removesuffix("</doc>") + "<head/></doc>"
+
+
+def cases(top, folder):
     """Title, DTD, root and document."""
     with open(f"{top}/examples/article.dtd", encoding="utf-8") as file:
         article = file.read()
-    made = subprocess.run([sys.executable, f"{top}/bench/document.py", "nodes", "18000000"], stdout=subprocess.PIPE, check=True)
-    text = made.stdout.decode().rstrip()
-    yield "18 MB, a head behind all sections", article, "doc", text.removesuffix("</doc>") + "<head/></doc>"
+    with open(made("nodes", 18_000_000, f"{folder}/plain.xml"), encoding="utf-8") as file:
+        text = file.read().rstrip()
+    yield "18 MB, a head behind all sections", article, "doc", behind_all(text)
     yield "18 MB, a blank in an EMPTY element at the end", article, "doc", text.removesuffix("</doc>") + "<sec><p><br> </br></p></sec></doc>"
     yield "the most values", MANY, "r", f"<r>{'<a/>' * MOST_KIDS}</r>"
 
 
 def main():
     top, rounds = sys.argv[1], int(sys.argv[2])
-    program = f"{top}/crates/pvtag/out/pvtag"
+    program = program_of(top)
     with tempfile.TemporaryDirectory() as folder:
-        for title, dtd, root, doc in cases(top):
-            files = [f"{folder}/a.dtd", root, f"{folder}/d.xml"]
-            for name, text in zip(files[::2], (dtd, doc)):
-                with open(name, "w", encoding="utf-8") as file:
-                    file.write(text)
+        for title, dtd, root, doc in cases(top, folder):
+            files = [written(f"{folder}/a.dtd", dtd), root, written(f"{folder}/d.xml", doc)]
             with open(f"{folder}/t.den", "wb") as file:
                 subprocess.run([program, "why", *files], stdout=file, check=True)
             words = {"check": ["check", *files], "why": ["why", *files], "deny": ["deny", *files, f"{folder}/t.den"]}
             best = {name: (float("inf"), float("inf"), 0) for name in words}
             for _ in range(rounds):
                 for name in words:
-                    seconds, memory, status = run([program, *words[name]], f"{folder}/memory")
+                    seconds, memory, status = run([program, *words[name]])[:3]
                     best[name] = min(best[name][0], seconds), min(best[name][1], memory), status
             print(title)
             for name, (seconds, memory, status) in best.items():

@@ -7,6 +7,8 @@ import subprocess
 import sys
 import tempfile
 
+from timing import program_of
+
 # The limits of a DTD.
 TYPES = 4_096
 PARTS = 65_536
@@ -19,8 +21,8 @@ def wide():
 
 
 # Types each of which needs the next, the first declared first: each size rests on all that come behind it.
-def chain():
-    return "".join(f"<!ELEMENT e{number} (e{number + 1})>\n" for number in range(TYPES - 1)) + f"<!ELEMENT e{TYPES - 1} EMPTY>\n"
+def chain(count=TYPES):
+    return "".join(f"<!ELEMENT e{number} (e{number + 1})>\n" for number in range(count - 1)) + f"<!ELEMENT e{count - 1} EMPTY>\n"
 
 
 # The same, declared the other way round.
@@ -73,7 +75,7 @@ def run(words):
 
 
 def main():
-    program, rounds = f"{sys.argv[1]}/crates/pvtag/out/pvtag", int(sys.argv[2])
+    program, rounds = program_of(sys.argv[1]), int(sys.argv[2])
     with tempfile.TemporaryDirectory() as folder:
         best = {}
         for made in (wide, chain, backwards, mixed, doubling, references, plain, nested, twice, placed):
@@ -87,4 +89,5 @@ def main():
             print(f"{name:14} {os.path.getsize(f'{folder}/{name}'):>9,} bytes {1000 * seconds:7.0f} ms   {told}")
 
 
-main()
+if __name__ == "__main__":
+    main()

@@ -1,27 +1,67 @@
-"""Times `check`, edits and `need` under large DTDs. Words: the repository's folder, and how many runs of each.
+"""Times `check`, edits and `need` under large DTDs, and prints a table for each DTD.
 
-The DTDs are a made one in the shape of DocBook, of 400 names and some 15,000 parts, DocBook itself where it is installed with lxml, and the
-largest within the limits, of 4,096 names and 65,536 parts. Under each: an opened document of one element, for the DTD's reading and laying
-out; a document of 18 MB whose lists are within the limit of their width, valid and without every tenth pair of tags (of 8 MB under the
-largest DTD, where more is too wide); an edit in a list of 20 and of 2,000 kids (900 under the largest DTD), by an owner whose content is free and by one whose content isn't;
-and `need` of a draft of 300 kB. The runs are interleaved; the best of each is told, in milliseconds of processor time and megabytes at the
-peak, and of an edit in microseconds, without the opening.
+Words: the repository's folder, how many rounds, and `--write`, which puts the tables into docs/SPEED.md. The DTDs are a made one in the shape
+of DocBook, of 400 names and some 15,000 parts, DocBook itself where it is installed with lxml, and the largest within the limits, of 4,096
+names and 65,536 parts. Under each: a document of some twenty paragraphs that is checked, and one of 10 KB that a session opens, for the DTD's
+reading and laying out; a document of 18 MB whose lists are within the limit of their width, valid and without every tenth pair of tags (of
+8 MB under the largest DTD, where more is too wide); an edit in a list of 20 and of 2,000 kids (900 under the largest DTD), by an owner
+whose content is free and by one whose content isn't; `need` of a draft of 300 kB with short lists, and of one list of 40 tokens (20 under
+the largest), whose kids' lists are valid. The runs are interleaved; told are the least processor time of each, without the opening for an edit and for the one
+list, the memory at the peak, and the time that is aimed at under DocBook. PVTAG names another build of the program.
 """
+import math
 import os
 import random
-import subprocess
 import sys
 import tempfile
+from typing import NamedTuple
 
 sys.path.insert(0, os.path.join(os.path.dirname(os.path.dirname(os.path.abspath(__file__))), "tests"))
 import published as tests  # noqa: E402
 from check import without_tags  # noqa: E402
+from page import put  # noqa: E402
+from timing import program_of, run, told_time  # noqa: E402
 
 EDITS = 2_000
-# Of the documents of a DTD their begin and end, the names of blocks, paragraphs and inline elements; an owner whose content isn't free, a
-# kid of it, and the name of an element that may be inserted before all kids.
-BOOK = ["<book><title>t</title><b0>", "</b0></book>", "b2", "b4", "para", "i1", "book", "<b0/>", "b0"]
-SECTION = ["<section><title>t</title>", "</section>", "blockquote", "blockquote", "para", "emphasis", "refentry", "<refsect1/>", "refnamediv"]
+
+
+class Form(NamedTuple):
+    """The documents under a DTD: the root's name, their begin and end; the names of blocks, one in another, of paragraphs and of inline
+    elements; an owner whose content isn't free, a kid of it, and the name of an element that may be inserted before all kids; the owner and
+    the kids, in turn, of the list that is weighed, and how many; the kids of the longer list of an edit, and the megabytes of the large
+    document."""
+    root: str
+    begin: str
+    end: str
+    outer: str
+    block: str
+    para: str
+    inline: str
+    owner: str
+    kid: str
+    insert: str
+    weighed: str
+    kids: tuple
+    width: int
+    most: int
+    size: int
+
+
+class Case(NamedTuple):
+    """A measure: its words and its script, of so many lines, or 0 where the whole run is told; the seconds that are aimed at, if any."""
+    title: str
+    words: list
+    script: str = ""
+    lines: int = 0
+    aim: float = None
+
+
+BOOK = ("book", "<book><title>t</title><b0>", "</b0></book>", "b2", "b4", "para", "i1", "book", "<b0/>", "b0", "book", ("b4", "para", "i1"))
+SHAPED, LARGEST = Form(*BOOK, 40, 2_000, 18), Form(*BOOK, 20, 900, 8)
+DOCBOOK = Form(
+    "section", "<section><title>t</title>", "</section>", "blockquote", "blockquote", "para", "emphasis", "refentry", "<refsect1/>",
+    "refnamediv", "book", ("title", "para", "emphasis", "xref"), 40, 2_000, 18,
+)
 
 
 # Names in four layers: blocks hold blocks and paragraphs in any order, most with a title in front, and paragraphs hold inline names.
@@ -41,12 +81,23 @@ def shaped(inlines, blocks, most):
 
 
 # So many paragraphs in blocks, which stand in further ones, each paragraph with inline elements.
-def text_of(book, outer, block, para, inline, count):
-    paras = f"<{para}>one <{inline}>two</{inline}> three <{inline}>four</{inline}></{para}>"
+def text_of(form, bytes):
+    para = f"<{form.para}>one <{form.inline}>two</{form.inline}> three <{form.inline}>four</{form.inline}></{form.para}>"
     per, blocks = 20, 100
-    text = f"<{block}>{paras * per}</{block}>"
-    whole, rest = divmod(count // per, blocks)
-    return book + f"<{outer}>{text * blocks}</{outer}>" * whole + f"<{outer}>{text * rest}</{outer}>"
+    text = f"<{form.block}>{para * per}</{form.block}>"
+    whole, rest = divmod(bytes // 80 // per, blocks)
+    outer = [f"<{form.outer}>{text * count}</{form.outer}>" for count in [blocks] * whole + [rest]]
+    return form.begin + "".join(outer) + form.end
+
+
+# The same with short lists: four paragraphs in a block, and four blocks in each further one.
+def short_lists(form, bytes):
+    per = 4
+    para = f"<{form.para}>one <{form.inline}>two</{form.inline}> three <{form.inline}>four</{form.inline}></{form.para}>"
+    blocks = [f"<{form.block}>{para * per}</{form.block}>"] * (bytes // 80 // per)
+    while len(blocks) > per:
+        blocks = [f"<{form.outer}>{''.join(blocks[at:at + per])}</{form.outer}>" for at in range(0, len(blocks), per)]
+    return form.begin + "".join(blocks) + form.end
 
 
 # Writes a document that a process of its own makes: the peak of a process counts from that of the one which starts it.
@@ -59,73 +110,92 @@ def document(name, make):
     return name
 
 
-def seconds(words, given=""):
-    ran = subprocess.Popen(words, stdin=subprocess.PIPE, stdout=subprocess.DEVNULL, text=True)
-    try:
-        ran.stdin.write(given)
-        ran.stdin.close()
-    except BrokenPipeError:
-        pass
-    _, status, usage = os.wait4(ran.pid, 0)
-    return usage.ru_utime + usage.ru_stime, usage.ru_maxrss / 1024, os.waitstatus_to_exitcode(status)
-
-
-# Words, script and edits of each case of a DTD whose documents begin and end so, by title.
-def cases(program, dtd, root, begin, end, outer, block, para, inline, owner, kid, insert, most, size):
-    def words(command, name, root=root):
+def cases(program, dtd, form):
+    """The measures under a DTD."""
+    def words(command, name, root=form.root):
         return [program, command, dtd, root, name]
 
-    def whole(bytes):
-        return text_of(begin, outer, block, para, inline, bytes // 80) + end
+    def file(name, make):
+        return document(f"{dtd}.{name}", make)
 
-    yield "a small document opened", words("check", document(f"{dtd}.one.xml", lambda: whole(1_600))), "", 0
-    yield f"{size} MB, valid", words("check", document(f"{dtd}.whole.xml", lambda: whole(size * 1_000_000))), "", 0
-    name = document(f"{dtd}.tags.xml", lambda: without_tags(whole(size * 1_000_000)))
-    yield f"{size} MB, without every tenth pair of tags", words("check", name), "", 0
-    for count in (20, most):
-        kids = f"<{block}>" + f"<{para}>a</{para}>" * count + f"</{block}>"
-        name = document(f"{dtd}.{count}.xml", lambda: begin + kids + end)
-        path = f"0.{begin.count('</')}"
-        yield f"{count:,} kids", words("session", name), f"wrap {path} 0 1 {block}\nundo\n" * (EDITS // 2), EDITS
-    for count in (20, most):
-        name = document(f"{dtd}.{count}.owner.xml", lambda: f"<{owner}>" + kid * count + f"</{owner}>")
-        yield f"{count:,} kids, not free", words("session", name, owner), f"insert 0 0 {insert}\nundo\n" * (EDITS // 20), EDITS // 10
-    name = document(f"{dtd}.draft.xml", lambda: without_tags(whole(300_000)))
-    yield "a draft of 300 kB", words("session", name), "need\n", 0
+    yield Case("a document of 1.6 kB checked", words("check", file("one", lambda: text_of(form, 1_600))))
+    yield Case("a document of 10 kB opened", words("session", file("ten", lambda: text_of(form, 10_000))), aim=0.04)
+    bytes = form.size * 1_000_000
+    yield Case(f"{form.size} MB checked, valid", words("check", file("whole", lambda: text_of(form, bytes))))
+    tagless = file("tagless", lambda: without_tags(text_of(form, bytes)))
+    yield Case(f"{form.size} MB checked, without every tenth pair of tags", words("check", tagless))
+    yield from edits(form, words, file)
+    draft = file("draft", lambda: without_tags(short_lists(form, 300_000)))
+    yield Case("a draft of 300 kB of short lists, `need`", words("session", draft), "need\n", aim=1)
+    kids = "".join(f"<{form.kids[at % len(form.kids)]}/>" for at in range(form.width))
+    weighed = file("weighed", lambda: f"<{form.weighed}>{kids}</{form.weighed}>")
+    yield Case(f"one list of {form.width} tokens weighed", words("session", weighed, form.weighed), "need\n", 1, 0.2)
+
+
+def edits(form, words, file):
+    """An edit and its undo in a short and in a long list, by an owner whose content is free and by one whose content isn't."""
+    path = f"0.{form.begin.count('</')}"
+    for count, aim in ((20, 20e-6), (form.most, 1e-3)):
+        kids = f"<{form.block}>" + f"<{form.para}>a</{form.para}>" * count + f"</{form.block}>"
+        name = file(count, lambda: form.begin + kids + form.end)
+        script = f"wrap {path} 0 1 {form.block}\nundo\n" * (EDITS // 2)
+        yield Case(f"an edit, {count:,} kids", words("session", name), script, EDITS, aim)
+        name = file(f"{count}.owner", lambda: f"<{form.owner}>" + form.kid * count + f"</{form.owner}>")
+        script = f"insert 0 0 {form.insert}\nundo\n" * (EDITS // 20)
+        yield Case(f"an edit, {count:,} kids, not free", words("session", name, form.owner), script, EDITS // 10, aim)
 
 
 def dtds(python):
+    """The title, the file and the form of each DTD."""
     tests.write("shaped.dtd", shaped(200, 196, 40))
-    yield "in the shape of DocBook", "shaped.dtd", "book", *BOOK, 2_000, 18
+    yield "a DTD in the shape of DocBook", "shaped.dtd", SHAPED
     if python and os.path.exists(tests.MANUALS):
         tests.write("docbook.dtd", tests.run(python, tests.TOOL, tests.MANUALS).stdout)
-        yield "DocBook 4.5", "docbook.dtd", "section", *SECTION, 2_000, 18
+        yield "DocBook 4.5", "docbook.dtd", DOCBOOK
     tests.write("largest.dtd", shaped(2_048, 2_044, 16))
-    yield "the largest", "largest.dtd", "book", *BOOK, 900, 8
+    yield "the largest DTD", "largest.dtd", LARGEST
+
+
+def measured(rows, rounds):
+    """Of each case the least seconds, those without its lines, the memory, and the status and the output of the last run."""
+    best = {row: (math.inf, math.inf, math.inf, None) for row in rows}
+    for _ in range(rounds):
+        for at in rows:
+            seconds, bare, memory, _ = best[at]
+            ran = run(rows[at].words, rows[at].script.encode(), keep=True)
+            if rows[at].lines:
+                bare = min(bare, run(rows[at].words).seconds)
+            best[at] = min(seconds, ran.seconds), bare, min(memory, ran.memory), ran
+    return best
+
+
+def table(rows, best):
+    yield from ("| Measure | Took | Memory | Aim, under DocBook |", "|---|---|---|---|")
+    for at, row in rows.items():
+        seconds, bare, memory, ran = best[at]
+        took = max(seconds - bare, 1e-9) / row.lines if row.lines else seconds
+        wrong = "" if ran.status in (0, 1) else f", status {ran.status}"
+        wrong += f", {ran.output.decode().strip()}" if ran.output.startswith(b"no ") else ""
+        yield f"| {row.title} | {told_time(took)}{wrong} | {memory / 1024:.0f} MB | {told_time(row.aim) if row.aim else ''} |"
 
 
 def main():
-    top, runs = os.path.abspath(sys.argv[1]), int(sys.argv[2])
-    program = os.environ.get("PVTAG", f"{top}/crates/pvtag/out/pvtag")
+    words = [it for it in sys.argv[1:] if it != "--write"]
+    top, rounds = os.path.abspath(words[0]), int(words[1])
+    program, lines = program_of(top), []
     random.seed(1)
     with tempfile.TemporaryDirectory() as folder:
         os.chdir(folder)
-        for title, dtd, *form in dtds(tests.python_with_lxml()):
-            print(title)
-            rows = list(cases(program, dtd, *form))
-            best = {row[0]: (float("inf"), float("inf"), None) for row in rows}
-            bare = dict.fromkeys(best, float("inf"))
-            for _ in range(runs):
-                for name, words, script, edits in rows:
-                    time, memory, status = seconds(words, script)
-                    best[name] = (min(best[name][0], time), min(best[name][1], memory), status)
-                    if edits:
-                        bare[name] = min(bare[name], seconds(words)[0])
-            for name, words, script, edits in rows:
-                time, memory, status = best[name]
-                told = f"{(time - bare[name]) / edits * 1e6:10,.1f} us an edit" if edits else f"{1000 * time:10,.1f} ms        "
-                print(f"  {name:40} {told} {memory:8,.1f} MB  status {status}", flush=True)
+        for title, dtd, form in dtds(tests.python_with_lxml()):
+            rows = dict(enumerate(cases(program, dtd, form)))
+            load = os.getloadavg()[0]
+            best = measured(rows, rounds)
+            lines += ["", f"Under {title}, the best of {rounds} rounds, on {os.cpu_count()} processors under a load of {load:.0f}:", ""]
+            lines += table(rows, best)
         os.chdir("/")
+    print(*lines[1:], sep="\n")
+    if "--write" in sys.argv:
+        put(top, "bench/large.sh", lines[1:])
 
 
 if __name__ == "__main__":

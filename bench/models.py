@@ -8,6 +8,8 @@ import subprocess
 import sys
 import tempfile
 
+from timing import program_of
+
 # The limits of a DTD: 65,536 parts and 4,096 types.
 WIDE = 65_000
 DECLARED = 4_000
@@ -53,7 +55,7 @@ def seconds(words):
 
 def main():
     top, runs = sys.argv[1], int(sys.argv[2])
-    program = f"{top}/crates/pvtag/out/pvtag"
+    program = program_of(top)
     with tempfile.TemporaryDirectory() as folder:
         told = []
         for number, (name, model, count, content) in enumerate(cases()):

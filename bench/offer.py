@@ -91,4 +91,5 @@ def main():
     return 1 if worst > MOST else 0
 
 
-sys.exit(main())
+if __name__ == "__main__":
+    sys.exit(main())

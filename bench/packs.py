@@ -10,17 +10,16 @@ import sys
 import tempfile
 
 from need import cases
-from valid import run
+from timing import program_of, run, written
 
 
 def main():
     top, rounds = sys.argv[1], int(sys.argv[2])
-    pvtag, dtd = f"{top}/pvtag", f"{top}/examples/article.dtd"
+    pvtag, dtd = program_of(top), f"{top}/examples/article.dtd"
     with tempfile.TemporaryDirectory() as folder:
-        doc, pack, told = (os.path.join(folder, name) for name in ("d.xml", "d.pack", "told"))
+        doc, pack = (os.path.join(folder, name) for name in ("d.xml", "d.pack"))
         for title, text in cases():
-            with open(doc, "w") as file:
-                file.write(text)
+            written(doc, text)
             with open(pack, "wb") as file:
                 made = subprocess.run([pvtag, "complete", dtd, "doc", doc], stdout=file)
             if made.returncode != 0:
@@ -31,7 +30,7 @@ def main():
             best = {name: (float("inf"), float("inf")) for name in programs}
             for _ in range(rounds):
                 for name, words in programs.items():
-                    seconds, memory, status = run(words, told)
+                    seconds, memory, status = run(words)[:3]
                     if status != 0:
                         sys.exit(f"{title}: {name}: status {status}")
                     best[name] = (min(best[name][0], seconds), min(best[name][1], memory))

@@ -9,22 +9,23 @@ import subprocess
 import sys
 import tempfile
 
-from valid import run
+from timing import program_of, run, written
 
 DTD = "<!ELEMENT doc ANY><!ELEMENT p ANY><!ELEMENT person ANY><!ELEMENT place ANY><!ELEMENT date ANY>"
 PIECES = ["abcdefghij ", "the letter from Delft ", "x&amp;y ", "caf\u00e9 "]
 
 
-def material(source, folder):
+def material(source, folder, groups):
+    """A text of 80 bytes for each group of four ranges, and the ranges, sorted and shuffled."""
     pieces, size, units = [], 0, 0
-    while size < 20_000_000:
+    while size < 80 * groups:
         piece = source.choice(PIECES)
         pieces.append(piece)
         size += len(piece.encode())
         units += len(piece.replace("&amp;", "&"))
-    step = units // 250_000
+    step = units // groups
     lines = []
-    for begin in range(0, 250_000 * step, step):
+    for begin in range(0, groups * step, step):
         third = begin + step // 3
         lines += [(begin, begin + step, 0, "p"), (begin + 1, third, 0, "person"), (third + 2, begin + step - 2, 0, "place"),
                   (third + 2, begin + step - 2, 1, "date")]
@@ -32,25 +33,31 @@ def material(source, folder):
     source.shuffle(lines)
     files["shuffled"] = "".join("%d %d %d %s\n" % line for line in lines)
     for name, text in files.items():
-        with open(os.path.join(folder, name), "w") as out:
-            out.write(text)
+        written(os.path.join(folder, name), text)
+
+
+def nested(program, folder):
+    """Writes the document that the ranges make to a file, and gives its path."""
+    dtd, text, ranges = (os.path.join(folder, name) for name in ("dtd", "text", "sorted"))
+    shown = subprocess.run([program, "standoff", dtd, "doc", text, ranges], capture_output=True, check=True).stdout
+    document = os.path.join(folder, "document")
+    with open(document, "wb") as out:
+        out.write(shown.split(b"\n", 2)[2][:-1])
+    return document
 
 
 def main():
-    pvtag, rounds = os.path.join(sys.argv[1], "pvtag"), int(sys.argv[2])
+    pvtag, rounds = program_of(sys.argv[1]), int(sys.argv[2])
     with tempfile.TemporaryDirectory() as folder:
-        dtd, text, document, told = (os.path.join(folder, name) for name in ("dtd", "text", "document", "told"))
-        material(random.Random(1), folder)
-        shown = subprocess.run([pvtag, "standoff", dtd, "doc", text, os.path.join(folder, "sorted")], capture_output=True, check=True).stdout
-        with open(document, "wb") as out:
-            out.write(shown.split(b"\n", 2)[2][:-1])
-        programs = {"check": [pvtag, "check", dtd, "doc", document]}
+        dtd, text = (os.path.join(folder, name) for name in ("dtd", "text"))
+        material(random.Random(1), folder, 250_000)
+        programs = {"check": [pvtag, "check", dtd, "doc", nested(pvtag, folder)]}
         for order in ("sorted", "shuffled"):
             programs[order] = [pvtag, "standoff", dtd, "doc", text, os.path.join(folder, order)]
         best = {name: (float("inf"), float("inf")) for name in programs}
         for _ in range(rounds):
             for name, words in programs.items():
-                seconds, memory, status = run(words, told)
+                seconds, memory, status = run(words)[:3]
                 if status != 0:
                     sys.exit(f"{name}: status {status}")
                 best[name] = (min(best[name][0], seconds), min(best[name][1], memory))

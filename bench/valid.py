@@ -5,11 +5,11 @@ of processor time and in kilobytes of memory at the peak, and as a ratio to that
 """
 import os
 import shutil
-import subprocess
 import sys
 import tempfile
 
 from document import ATTRIBUTES
+from timing import made, program_of, run
 
 DOCUMENTS = [
     ("many small nodes", "nodes", 18_000_000),
@@ -23,10 +23,11 @@ DOCUMENTS = [
 
 # The programs that are installed, each with its words for a DTD and a document; `inner` is the document with a DOCTYPE.
 def validators(top):
-    found = {"pvtag": lambda dtd, doc, inner: [f"{top}/crates/pvtag/out/pvtag", "valid", dtd, "doc", doc]}
+    found = {"pvtag": lambda dtd, doc, inner: [program_of(top), "valid", dtd, "doc", doc]}
     others = {
         "xmllint --noout --dtdvalid": ("xmllint", lambda dtd, doc, inner: ["xmllint", "--noout", "--dtdvalid", dtd, doc]),
         "xmllint --stream --valid": ("xmllint", lambda dtd, doc, inner: ["xmllint", "--noout", "--stream", "--valid", inner]),
+        "xmlwf, without a DTD": ("xmlwf", lambda dtd, doc, inner: ["xmlwf", doc]),
         "rxp -V -s": ("rxp", lambda dtd, doc, inner: ["rxp", "-V", "-s", inner]),
     }
     for name, (tool, words) in others.items():
@@ -37,23 +38,12 @@ def validators(top):
     return found
 
 
-# Processor seconds, kilobytes at the peak, and status of one run. A process begins with the memory of the one that starts it, so the
-# small program `time`, where it is installed, stands between.
-def run(words, told):
-    small = ["/usr/bin/time", "-f", "%M", "-o", told] if os.path.exists("/usr/bin/time") else []
-    child = subprocess.Popen(small + words, stdout=subprocess.DEVNULL, stderr=subprocess.DEVNULL)
-    _, status, used = os.wait4(child.pid, 0)
-    child.returncode = os.waitstatus_to_exitcode(status)
-    memory = int(open(told).read().split()[-1]) if small else used.ru_maxrss
-    return used.ru_utime + used.ru_stime, memory, child.returncode
-
-
 # A program that refuses the document is left out: libxml2 stops at 256 elements one inside another.
 def compare(programs, dtd, doc, inner, rounds):
     best = {name: (float("inf"), float("inf")) for name in programs}
     for _ in range(rounds):
         for name in list(best):
-            seconds, memory, status = run(programs[name](dtd, doc, inner), f"{dtd}.memory")
+            seconds, memory, status = run(programs[name](dtd, doc, inner))[:3]
             if status != 0:
                 print(f"{name}: status {status}")
                 del best[name]
@@ -71,8 +61,7 @@ def main():
             file.write(ATTRIBUTES)
         for title, kind, size in DOCUMENTS:
             doc, inner = f"{folder}/{kind}.xml", f"{folder}/{kind}-inner.xml"
-            with open(doc, "w") as file:
-                subprocess.run([sys.executable, f"{top}/bench/document.py", kind, str(size)], stdout=file, check=True)
+            made(kind, size, doc)
             with open(doc) as plain, open(inner, "w") as file:
                 file.write(f'<!DOCTYPE doc SYSTEM "{dtd}">\n')
                 shutil.copyfileobj(plain, file)

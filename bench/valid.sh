@@ -6,5 +6,5 @@ command -v python3 >/dev/null || {
     echo "skipped: no python3"
     exit 0
 }
-"$top/pvtag" valid "$top/examples/article.dtd" doc "$top/examples/article.xml" >/dev/null
+[ -n "${PVTAG:-}" ] || "$top/pvtag" valid "$top/examples/article.dtd" doc "$top/examples/article.xml" >/dev/null
 exec python3 "$top/bench/valid.py" "$top" "${1:-25}"
