@@ -80,6 +80,7 @@ check 900 tests/program.sh
 skip "edits without memory" cc || check 300 tests/edits_without_memory.sh
 skip "the comparison with insertions" python3 || check 300 python3 tests/against_insertions.py crates/pvtag/out/pvtag 850 1
 skip "the comparison with derivations by spans" python3 || check 300 python3 tests/possible_lists.py crates/pvtag/out/pvtag 120 1
+skip "the comparison of weights" python3 || check 300 python3 tests/weights.py crates/pvtag/out/pvtag 200 1 100
 skip "the comparison of least numbers" python3 || check 300 python3 tests/least_numbers.py crates/pvtag/out/pvtag 850 1
 skip "the comparison of completions" python3 || check 300 python3 tests/completions.py crates/pvtag/out/pvtag 400 1 60
 skip "the packs" python3 || check 300 python3 tests/packs.py crates/pvtag/out/pvtag 300 1

@@ -62,7 +62,7 @@ def imports(text):
 
 def uncommented(text):
     """A source of the program without comments, strings and characters."""
-    return re.sub(r"//[^\n]*|\"(?:\\.|[^\"\\])*\"|'(?:\\[^']+|[^'\\])'", " ", text)
+    return re.sub(r"//[^\n]*|\"(?:\\[\s\S]|[^\"\\])*\"|'(?:\\[^']+|[^'\\])'", " ", text)
 
 
 def read_definitions(crate, path, file):

@@ -1,12 +1,15 @@
 """Takes pairs of tags away from documents that `xmllint` finds valid: what is left is always `valid` or `possible`.
 
-Words: PROGRAM ROUNDS SEED, and the most seconds, where less is wanted. Needs xmllint. A round is a DTD and five documents, each tried at
-three shares of pairs that are taken away. The DTDs are made at random, in the shape of large published ones: some hundred names, many with mixed or starred
-models of some dozen names that lead back to one another, and some with sequences. Where lxml and packages of DTDs are installed, the
-published ones are tried too. Prints each difference, and how many cases passed; ends with 1 where one failed.
+Words: PROGRAM ROUNDS SEED, and the most seconds, where less is wanted. Needs xmllint. A round is a DTD and five made documents, each tried
+at three shares of pairs that are taken away. The DTDs are made at random, in the shape of large published ones: some hundred names, many
+with mixed or starred models of some dozen names that lead back to one another, and some with sequences. Where lxml and packages of DTDs are
+installed, the published ones are tried first, and with them documents of this machine: pages of XHTML, pictures, catalogs, and pages of the
+manual that doclifter makes DocBook of. Prints each difference, and how many cases passed; ends with 1 where one failed.
 """
+import itertools
 import os
 import random
+import shutil
 import re
 import sys
 import tempfile
@@ -45,25 +48,42 @@ def made_dtd():
     return "".join(f"<!ELEMENT {name} {content(names, at)}>\n" for at, name in enumerate(names))
 
 
-def try_documents(program, dtd, flat, text):
+def made_documents(text):
+    """Five documents by a DTD."""
     models = tests.models_of(text)
     least = tests.least_of(models)
     able = [name for name in models if least[name] < 1000]
-    for number in range(5):
+    for _ in range(5):
         tree = tests.element(models, least, random.choice(able[: max(1, len(able) // 3)]), [random.choice([10, 60, 300])])
-        tests.write("whole.xml", tests.document(tree))
+        yield tests.document(tree)
+
+
+def real_documents(dtd):
+    """At most five documents of this machine by a published DTD."""
+    kinds = {tests.SVG: tests.pictures, tests.CATALOG: tests.catalogs}
+    if shutil.which("doclifter"):
+        kinds[tests.MANUALS] = tests.manuals
+    found = (tests.plain(path) for it, path in kinds.get(dtd, tests.pages)() if it == dtd)
+    return itertools.islice(filter(None, found), 5)
+
+
+def try_documents(program, dtd, documents, kind):
+    """Takes pairs of tags away from documents that are valid by a plain DTD."""
+    for text in documents:
+        tests.write("whole.xml", text)
         if tests.xmllint(dtd, ["whole.xml"])["whole.xml"] is not True:
             tests.tell("not valid for xmllint")
             continue
         for share in (0.05, 0.3, 0.8):
-            damaged, _ = tests.without_tags(tests.document(tree), share)
+            damaged, _ = tests.without_tags(text, share)
             tests.write("draft.xml", damaged)
-            ran = tests.run(program, "check", flat, tree[0], "draft.xml")
+            ran = tests.run(program, "check", dtd, tests.root_of(text), "draft.xml")
             if ran.returncode == 8:
                 tests.tell("too wide for check")
                 continue
-            tests.tell("drafts")
-            tests.case(ran.returncode == 0 and re.fullmatch(r"valid\n|possible \d+\n", ran.stdout), dtd, tree[0], ran, damaged[:2000])
+            tests.tell(f"drafts of {kind} documents")
+            is_right = ran.returncode == 0 and re.fullmatch(r"valid\n|possible \d+\n", ran.stdout)
+            tests.case(is_right, dtd, ran, damaged[:2000])
 
 
 def main():
@@ -71,6 +91,7 @@ def main():
     rounds, seed = map(int, sys.argv[2:4])
     end = time.monotonic() + int(sys.argv[4]) if len(sys.argv) > 4 else tests.NEVER
     random.seed(seed)
+    os.environ["XML_CATALOG_FILES"] = tests.CATALOGS
     python = tests.python_with_lxml()
     with tempfile.TemporaryDirectory() as folder:
         os.chdir(folder)
@@ -78,12 +99,11 @@ def main():
         for at in range(rounds):
             if time.monotonic() >= end:
                 break
+            text = tests.run(python, tests.TOOL, published[at]).stdout if at < len(published) else made_dtd()
+            tests.write("flat.dtd", text)
+            try_documents(program, "flat.dtd", made_documents(text), "made")
             if at < len(published):
-                tests.write("flat.dtd", tests.run(python, tests.TOOL, published[at]).stdout)
-            else:
-                tests.write("flat.dtd", made_dtd())
-            with open("flat.dtd", encoding="utf-8") as file:
-                try_documents(program, "flat.dtd", "flat.dtd", file.read())
+                try_documents(program, "flat.dtd", real_documents(published[at]), "real")
     print(", ".join(f"{count} {what}" for what, count in sorted(tests.told.items())))
     print(f"{tests.counts['passed']} passed, {tests.counts['failed']} failed")
     return tests.counts["failed"] > 0

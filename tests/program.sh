@@ -252,6 +252,7 @@ completes() {
 }
 for document in article draft outline report; do completes article.dtd doc "$document.xml"; done
 for document in letter letter-draft; do completes letter.dtd letter "$document.xml"; done
+completes page.dtd html page.xhtml
 for k in $(seq 0 19); do echo "<!ELEMENT t$k (t$((k + 1)),t$((k + 1)))>"; done >doubling.dtd
 echo '<!ELEMENT t20 EMPTY>' >>doubling.dtd
 session "need past a million" "$(lines 'no heavy' 'no heavy')" doubling.dtd t0 '<t0/>' need complete
@@ -362,6 +363,7 @@ page() {
         esac
     done
 }
+expect "README's size" 0 "" awk 'length > 120 || FNR > 120' "$top/README.md"
 page <"$top/README.md"
 page <"$top/docs/COMMANDS.md"
 expect "the first of the two commands" 0 "valid$lf" bash -c "cd page && $(sed -n 's/^- `\(\.\/pvtag [^`]*\)`.*/\1/p' "$top/README.md")"
@@ -372,6 +374,12 @@ if command -v groff >/dev/null; then
     expect "the manual page" 0 "" groff -ww -mdoc -Tutf8 -z "$top/docs/pvtag.1"
 else
     echo "skipped: the manual page (no groff)"
+fi
+if command -v mandoc >/dev/null; then
+    # Whether the manual that it refers to is installed is the machine's business.
+    expect "the manual page, by mandoc" 0 "" bash -c 'mandoc -Tlint "$0" 2>&1 | grep -v ": outdated mandoc.db\|STYLE: referenced manual not found" || true' "$top/docs/pvtag.1"
+else
+    echo "skipped: the manual page, by mandoc (no mandoc)"
 fi
 echo "program: $passed passed, $failed failed"
 [ "$failed" -eq 0 ]

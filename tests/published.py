@@ -393,6 +393,11 @@ def xmllint(dtd, paths):
     return verdicts
 
 
+# The name of the root of a document.
+def root_of(text):
+    return re.search(r"<([^\s/>!?]+)", re.sub(r"<!--.*?-->|<\?.*?\?>|<!.*?>", "", text, flags=re.DOTALL))[1]
+
+
 # The document without some pairs of tags, and how many; the root's stay.
 def without_tags(text, share):
     marks = re.compile(r"<!--.*?-->|<\?.*?\?>|<!\[CDATA\[.*?\]\]>|<!DOCTYPE[^>]*>|<(/?)([^\s/>]+)(?:[^<>\"']|\"[^\"]*\"|'[^']*')*?(/?)>", re.DOTALL)
@@ -418,7 +423,7 @@ def judge(program, dtd, flat, documents, kind):
     for path, text in documents.items():
         write(path, text)
     for path, theirs in xmllint(dtd, list(documents)).items():
-        root = re.search(r"<([^\s/>!?]+)", re.sub(r"<!--.*?-->|<\?.*?\?>|<!.*?>", "", documents[path], flags=re.DOTALL))[1]
+        root = root_of(documents[path])
         ran = run(program, "valid", flat, root, path)
         ours = {0: True, 1: False}.get(ran.returncode, ran.stdout)
         tell(f"{kind} valid" if ours is True else f"{kind} invalid" if ours is False else f"{kind} else")
