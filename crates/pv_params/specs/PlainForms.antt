@@ -8,8 +8,8 @@ use Rattle.pv_params.specs.Items.{Item, Mode}
 use Rattle.pv_params.specs.declared.items.SpelledItem.{SpelledItem}
 use Rattle.pv_params.specs.declared.items.SpelledItem.TheVariants.{Byte, Text, Character, Reference}
 use Rattle.pv_params.specs.declared.items.SpelledItem.TheVariants.{Parameter, Declaration}
-use Rattle.pv_params.specs.declared.items.TextMode.{TextMode}
-use Rattle.pv_params.specs.declared.items.TextMode.TheVariants.{File, Between, Inside, Value}
+use Rattle.pv_params.specs.declared.text_mode.TextMode.{TextMode}
+use Rattle.pv_params.specs.declared.text_mode.TextMode.TheVariants.{File, Between, Inside, Value}
 
 abbrev pub plain_item : SpelledItem → Item
 plain_item (Byte b) = puts (b ∷ [])

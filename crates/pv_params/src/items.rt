@@ -15,23 +15,11 @@ ghost use Rattle.pv_params.specs.PlainForms.{plain_item, plain_mode, plain_found
 
 use crate::fronts::{after_named, before};
 use crate::plain_bytes::behind_run;
+use crate::text_mode::TextMode;
 use pv_chars::char_reading::{comment_at, instruction_at, is_chars, is_one_of, name_at, quoted_at};
 use pv_chars::is_char;
 use pv_chars::references::digits_at;
 use pv_chars::scan::{after_blank, after_bytes, after_space, is_space};
-
-/// How a text is read.
-#[derive(Clone, Copy, Debug)]
-pub enum TextMode {
-    /// The file, read as Between; whether a parameter declaration stands in it before the rest.
-    File(bool),
-    /// Between declarations.
-    Between,
-    /// Inside another declaration.
-    Inside,
-    /// As the value of an entity.
-    Value,
-}
 
 /// An item, as parts of its text.
 #[derive(Clone, Copy, Debug)]

@@ -17,6 +17,7 @@ mod open_texts;
 mod plain_bytes;
 mod reading;
 mod state;
+mod text_mode;
 
 pub use errors::ParamError;
 pub use expansion::expand;

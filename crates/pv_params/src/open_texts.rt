@@ -15,9 +15,10 @@ ghost use Rattle.pv_params.specs.Answers.{Tells};
 ghost use Rattle.pv_params.specs.OpenTexts.{mode_behind, Handles, OpensAt, StopsAt};
 
 use crate::errors::ParamError;
-use crate::items::{SpelledItem, TextMode, external_at, is_inside};
+use crate::items::{SpelledItem, external_at, is_inside};
 use crate::names::NamesBeingRead;
 use crate::state::{State, TextEnding};
+use crate::text_mode::TextMode;
 use pv_chars::NoMemory;
 use pv_chars::scan::after_bytes;
 use std::alloc::Global;

@@ -5,7 +5,7 @@ ghost use Rattle.std.specs.List.{list_all};
 ghost use Rattle.pv_params.specs.PlainBytes.{is_plain, IsBehindRun};
 ghost use Rattle.pv_params.specs.PlainForms.{plain_mode};
 
-use crate::items::TextMode;
+use crate::text_mode::TextMode;
 use pv_chars::scan::is_space;
 
 // Whether a byte is an item of the mode by itself, and is copied.

@@ -7,7 +7,7 @@ ghost use Rattle.pv_params.specs.PlainForms.{plain_mode};
 ghost use Rattle.pv_params.specs.OpenTexts.{plain_so_far, plain_ending};
 
 use crate::entities::Entities;
-use crate::items::TextMode;
+use crate::text_mode::TextMode;
 use pv_chars::NoMemory;
 use std::alloc::Global;
 use std::mem;
