@@ -11,6 +11,7 @@
 
 mod document;
 pub mod laws;
+mod names;
 mod nodes;
 mod paths;
 mod places;
@@ -18,8 +19,9 @@ mod validity;
 mod words;
 
 pub use document::Doc;
+pub use names::name_token;
 pub use nodes::{End, Mark, Node, Nodes, Verdict};
 pub use paths::Path;
 pub use places::Found;
 pub use validity::first_invalid;
-pub use words::{Tokens, name_token, word};
+pub use words::{Tokens, word};
