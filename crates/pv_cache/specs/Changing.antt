@@ -86,7 +86,8 @@ pub record IsReady (g : PlainDtd) (root : List ℕ) (doc : PlainDoc Mark) (edit 
   pub given : reason_of blank_mark doc.root edit ≡ None
   pub prepared : IsPreparation doc.root edit (record { task = ready.task; inverse = ready.inverse })
   pub task : IsTaskFor doc ready.task
-  pub judged : AreJudged g root (owner_at ready.task.list doc.root) (kids_at ready.task.list doc.root)
-      (plain_task ready.task) ready.verdicts.outer ready.verdicts.inner
+  pub judged : AreJudged g root (owner_at ready.task.list doc.root)
+      (kids_at ready.task.list doc.root) (plain_task ready.task)
+      ready.verdicts.outer ready.verdicts.inner
   pub no_more : bad_gained ready.verdicts.outer ready.verdicts.inner ≤
       bad_lost (plain_task ready.task) doc

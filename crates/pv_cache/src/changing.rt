@@ -91,7 +91,8 @@ impl WellMarked {
 
     // One, where the list at a path is Impossible.
     fn own_at(&self, list: &Path) -> u64
-        ensures { result ≡ own_at self.now.doc.mark (spot_at list.now (plain_doc self.now.doc).root) }
+        ensures { result ≡ own_at self.now.doc.mark
+            (spot_at list.now (plain_doc self.now.doc).root) }
     {
         match self.doc.node_at(list) {
             None => 0,

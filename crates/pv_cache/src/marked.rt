@@ -58,8 +58,8 @@ impl Model for Marked {
 }
 
 impl Marked {
-    /// Marks a document by the verdicts of its lists. It isn't copied, and all stamps are 0. The call
-    /// lays out the rules of the grammar; who has them laid out calls `build_by`.
+    /// Marks a document by the verdicts of its lists. It isn't copied, and all stamps are 0. The
+    /// call lays out the rules of the grammar; who has them laid out calls `build_by`.
     pub fn build(
         alloc: Global,
         grammar: Grammar,

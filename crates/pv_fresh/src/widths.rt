@@ -73,8 +73,8 @@ fn has_too_wide_kid(dtd: &Dtd, kids: &[Node], places: &mut Vec<u32>) -> Result<b
     Ok(false)
 }
 
-// Whether the list of these kids isn't too wide. Its tokens are counted only where there are as many
-// kids as are too many tokens.
+// Whether the list of these kids isn't too wide. Its tokens are counted only where there are as
+// many kids as are too many tokens.
 fn is_list_narrow(dtd: &Dtd, kids: &[Node]) -> bool
     requires { length kids.now ≤ MAX_NODES }
     ensures { IsTrue result ↔ FitsVerdict (plain_dtd dtd.now)

@@ -1,7 +1,7 @@
 //! Lists judged by threads, and their verdicts in order.
 
-ghost use Rattle.std.specs.Prelude.{◌≡◌, ◌≢◌, ◌<◌, ◌+◌, ◌∷◌, [], ℕ, IfErr, IfOk, IfSome, List, OnOk, Ok};
-ghost use Rattle.std.specs.Prelude.{Err, Vec, length};
+ghost use Rattle.std.specs.Prelude.{◌≡◌, ◌≢◌, ◌<◌, ◌+◌, ◌∷◌, [], ℕ, IfErr, IfOk, IfSome, List};
+ghost use Rattle.std.specs.Prelude.{Err, Ok, OnOk, Vec, length};
 ghost use Rattle.std.specs.List.{AllByRecursion, AllZip};
 ghost use Rattle.std.specs.declared.alloc.Global.{Global};
 ghost use Rattle.pv_productive.specs.PlainForms.{dtd_of};

@@ -1,6 +1,6 @@
 //! Guarded sessions: edits of a document, each refused exactly where it could not be made, would be
-//! past a limit, or would leave more impossible lists than before. A document has none exactly where
-//! inserting elements can make it valid.
+//! past a limit, or would leave more impossible lists than before. A document has none exactly
+//! where inserting elements can make it valid.
 //!
 //! What a session is at is a `PlainSession` (specs/Sessions.antt): the document that was opened,
 //! the edits since, those that were undone, and the document now with a stamp beside each list.

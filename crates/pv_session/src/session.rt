@@ -65,8 +65,8 @@ impl Model for Session {
 
 impl Session {
     /// The session on a document as it was opened. The verdicts are those of its lists; the
-    /// document isn't copied. The call lays out the rules of the grammar; who has them laid out calls
-    /// `begin_by`.
+    /// document isn't copied. The call lays out the rules of the grammar; who has them laid out
+    /// calls `begin_by`.
     pub fn begin(
         alloc: Global,
         grammar: Grammar,

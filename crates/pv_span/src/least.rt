@@ -8,7 +8,8 @@ ghost use Rattle.pv_productive.specs.Tables.{no_size};
 ghost use Rattle.pv_span.specs.Charts.{value_of};
 ghost use Rattle.pv_span.specs.ColumnRules.{cell};
 ghost use Rattle.pv_span.specs.FormForms.{plain_all};
-ghost use Rattle.pv_span.specs.Forms.{PlainForm, form_at, of_element, of_opt, of_plus, of_star, of_two};
+ghost use Rattle.pv_span.specs.Forms.{PlainForm, form_at, of_element, of_opt, of_plus, of_star};
+ghost use Rattle.pv_span.specs.Forms.{of_two};
 ghost use Rattle.pv_span.specs.Least.{IsLeastAt, IsLeastMember, IsTextValue};
 ghost use Rattle.pv_span.specs.PlainForms.{plain_chart};
 

@@ -10,7 +10,7 @@ use pv_dtd::Dtd;
 use pv_model::{ContentModel, Token};
 use std::alloc::Global;
 
-/// How many places there are: one for each byte.
+/// How many places there are: one for each value of a byte.
 const PLACES: usize = 256;
 
 /// What the DTD says of elements of a name.

@@ -10,7 +10,8 @@ use std::alloc::Global;
 use std::sync::ledger::Ledger;
 use std::test::Fail;
 
-// The numbers of Possible and of Impossible lists, and the first of these, are those of a fresh check.
+// The numbers of Possible and of Impossible lists, and the first of these, are those of a fresh
+// check.
 fn expect_counts(session: &Session, fresh: &Verdicts) -> Result<(), Fail> {
     let mut bad: u64 = 0;
     for k in 0..fresh.len() {

@@ -15,8 +15,8 @@ use std::sync::ledger::{Blank, Ledger};
 use std::test::Fail;
 use test_fixture::dtds::{ANY_OR_ENDLESS, ARTICLE, MIXED, NESTED, REALISTIC};
 
-// Makes a move, and compares: what was done; none where it was refused. So many were made before. An
-// edit leaves no more impossible lists than there were.
+// Makes a move, and compares: what was done; none where it was refused. So many were made before.
+// An edit leaves no more impossible lists than there were.
 fn turn<L: Ledger>(
     alloc: Global,
     session: &mut Session,

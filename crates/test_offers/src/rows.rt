@@ -53,7 +53,8 @@ static OFFERS: [Row; 9] = [
         HELLO,
         "offer 0 0 1\nwrap 0 0 1 br\nwrap 0 0 1 doc\nwrap 0 0 1 head\nhistory\nundo\noffer 0 0 1\n\
          verdicts\nredo\n",
-        "offer 7\nhead\nsec\ntitle\np\nem\nlist\nitem\nno impossible 0.0\nno impossible 0\nok 2 1 0\n\
+        "offer 7\nhead\nsec\ntitle\np\nem\nlist\nitem\n\
+         no impossible 0.0\nno impossible 0\nok 2 1 0\n\
          history 1\nwrap 0 0 1 head\nok 1 1 0\noffer 7\nhead\nsec\ntitle\np\nem\nlist\nitem\n\
          verdicts 2\n. valid 0\n0 possible 2\nok 2 1 0\n",
     ),

@@ -30,7 +30,8 @@ const MAX_NODES: u64 = 33_554_432;
 // A DTD, a root and a document.
 type Texts = (&'static str, &'static str, &'static str);
 
-// What is asked of a document, the line of an edit but for its name, and how many names are offered.
+// What is asked of a document, the line of an edit but for its name, and how many names are
+// offered.
 type Row = (Texts, &'static str, &'static str, usize);
 
 const SWAPPED: Texts = (ARTICLE, "doc", "<doc><sec/><head/></doc>");

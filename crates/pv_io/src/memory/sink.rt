@@ -35,7 +35,8 @@ impl Model for MemSink {
       calls = s.calls;
     } };
 
-    ghost invariant = { λ s. (vec_len s.bytes ≤ s.room) × (s.room ≤ vec_capacity s.bytes) × (0 < s.most) };
+    ghost invariant = { λ s. (vec_len s.bytes ≤ s.room) × (s.room ≤ vec_capacity s.bytes) ×
+        (0 < s.most) };
 }
 
 impl MemSink {
