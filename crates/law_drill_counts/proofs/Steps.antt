@@ -13,7 +13,7 @@ use Rattle.pv_edit.proofs.Leading.{given-doc}
 use Rattle.pv_edit.proofs.RemarkedReasons.{marks-dont-count}
 use Rattle.pv_edit.specs.ChangedLists.{changed_lists, makes, undoes}
 use Rattle.pv_edit.specs.Laws.{unmarked_outcome}
-use Rattle.pv_edit.specs.Reasons.{applied, gives, refuses}
+use Rattle.pv_edit.specs.Reasons.{edit_outcome, gives, refuses}
 use Rattle.pv_edit.specs.declared.answers.EditAnswer.TheVariants as refusal
 use Rattle.pv_edit.specs.declared.edits.Edit.{Edit}
 use Rattle.pv_edit.specs.declared.reasons.Reason.{Reason}
@@ -51,13 +51,13 @@ moved_replays : (a other : PlainDoc Unit) (b more : List Edit) (c last : PlainDo
 moved_replays a other b more c last e f h r = rw (e, f, h) r
 
 -- an edit of a document with stamps
-unmarked_made : (doc : PlainDoc ℕ) (edit : Edit) (d e : PlainDoc Unit) → unmarked_doc doc ≡ d → applied tt d edit ≡ gives e → unmarked_outcome (applied 0 doc edit) ≡ gives e
-unmarked_made doc edit d e is made = sym (marks-dont-count ℕ 0 doc edit).0 ∙ ap (λ x. applied tt x edit) is ∙ made
+unmarked_made : (doc : PlainDoc ℕ) (edit : Edit) (d e : PlainDoc Unit) → unmarked_doc doc ≡ d → edit_outcome tt d edit ≡ gives e → unmarked_outcome (edit_outcome 0 doc edit) ≡ gives e
+unmarked_made doc edit d e is made = sym (marks-dont-count ℕ 0 doc edit).0 ∙ ap (λ x. edit_outcome tt x edit) is ∙ made
 
-made_same : (doc edited : PlainDoc ℕ) (edit : Edit) (d e : PlainDoc Unit) → unmarked_doc doc ≡ d → applied tt d edit ≡ gives e → applied 0 doc edit ≡ gives edited → unmarked_doc edited ≡ e
+made_same : (doc edited : PlainDoc ℕ) (edit : Edit) (d e : PlainDoc Unit) → unmarked_doc doc ≡ d → edit_outcome tt d edit ≡ gives e → edit_outcome 0 doc edit ≡ gives edited → unmarked_doc edited ≡ e
 made_same doc edited edit d e is made given = given-doc None (unmarked_doc edited) e (ap unmarked_outcome (sym given) ∙ unmarked_made doc edit d e is made)
 
-not_refused : (doc : PlainDoc ℕ) (edit : Edit) (d e : PlainDoc Unit) (reason : Reason) → unmarked_doc doc ≡ d → applied tt d edit ≡ gives e → applied 0 doc edit ≡ refuses reason → ⊥
+not_refused : (doc : PlainDoc ℕ) (edit : Edit) (d e : PlainDoc Unit) (reason : Reason) → unmarked_doc doc ≡ d → edit_outcome tt d edit ≡ gives e → edit_outcome 0 doc edit ≡ refuses reason → ⊥
 not_refused doc edit d e reason is made given =
     let both : refuses reason ≡ gives e = ap unmarked_outcome (sym given) ∙ unmarked_made doc edit d e is made in cc
 
@@ -84,10 +84,10 @@ pub record Made (ts : List (Tree Unit)) (edit : Edit) (s after : PlainSession) (
 module _ (front back : List Section) (k i : ℕ) (place : length front ≡ i) (few : length front + length back ≤ 20000) (s : PlainSession)
     (h : At (trees front ++ bare_section k ∷ trees back) s) where
   -- the document with the text of the section in an element, which is made
-  made_around : (name : List ℕ) → is_name name ≡ true → applied tt (drill_doc (trees front ++ bare_section k ∷ trees back)) (section_wrap (suc i) name) ≡ gives (drill_doc (with_around name front k back))
+  made_around : (name : List ℕ) → is_name name ≡ true → edit_outcome tt (drill_doc (trees front ++ bare_section k ∷ trees back)) (section_wrap (suc i) name) ≡ gives (drill_doc (with_around name front k back))
   made_around name named = wrap_made name front back k i place named
 
-  is_around : (name : List ℕ) → is_name name ≡ true → (edited : PlainDoc ℕ) → applied 0 s.doc (section_wrap (suc i) name) ≡ gives edited → unmarked_doc edited ≡ drill_doc (with_around name front k back)
+  is_around : (name : List ℕ) → is_name name ≡ true → (edited : PlainDoc ℕ) → edit_outcome 0 s.doc (section_wrap (suc i) name) ≡ gives edited → unmarked_doc edited ≡ drill_doc (with_around name front k back)
   is_around name named edited given = made_same s.doc edited (section_wrap (suc i) name) _ _ h.is_doc (made_around name named) given
 
   around_within : (name : List ℕ) (edited : PlainDoc ℕ) → unmarked_doc edited ≡ drill_doc (with_around name front k back) → (paths : List (List ℕ)) → IsWithinLimits s.dtd edited paths
@@ -140,7 +140,7 @@ module _ (front back : List Section) (k i : ℕ) (place : length front ≡ i) (f
       let edit = section_wrap (suc i) (codes "p") in
       let same = is_around (codes "p") (is_name-IsName (codes "p") p_named) edited acc.is_edited in
       let stamped = ap (λ (t : PlainSession). unmarked_doc t.doc) is ∙ stamped_same (next_move s.moves) (changed_lists (makes edit)) edited in
-      let made : applied tt (unmarked_doc s.doc) edit ≡ gives (drill_doc (with_around (codes "p") front k back)) = ap (λ x. applied tt x edit) h.is_doc ∙ made_around (codes "p") (is_name-IsName (codes "p") p_named) in
+      let made : edit_outcome tt (unmarked_doc s.doc) edit ≡ gives (drill_doc (with_around (codes "p") front k back)) = ap (λ x. edit_outcome tt x edit) h.is_doc ∙ made_around (codes "p") (is_name-IsName (codes "p") p_named) in
       let opened = ap (λ (t : PlainSession). t.opened) is in
       let past = ap (λ (t : PlainSession). t.past) is in
       record {

@@ -7,7 +7,7 @@ use Rattle.pv_chars.specs.Characters.{is_name_char, is_name_start}
 use Rattle.pv_chars.specs.Names.{IsName}
 use Rattle.pv_chars.specs.Spaces.{IsSpace, is_space}
 use Rattle.pv_dtd.specs.DtdTexts.{IsDtdText, KeepsLimits, SpellsDeclarations, plain}
-use Rattle.pv_dtd.specs.Items.{Item, NamedModel, children, choice, element, empty, mixed, name, no_parts, opt, part, plus, seq, star}
+use Rattle.pv_dtd.specs.Items.{DtdItem, NamedModel, children, choice, element, empty, mixed, name, no_parts, opt, part, plus, seq, star}
 use Rattle.pv_chars.specs.ByteOrderMark.{BYTE_ORDER_MARK, unmarked}
 use Rattle.pv_dtd.specs.Plain.{parts_in_models}
 use Rattle.pv_dtd.specs.Spelling.{SpellsElement, SpellsModel}
@@ -143,7 +143,7 @@ em_spelled = inl (record { before = []; listed = codes "|em"; after = []; space_
 
 -- declarations, and the text that they are
 record Declarations : Type 0 where
-  items : List Item
+  items : List DtdItem
   text : List ℕ
   spelled : SpellsDeclarations items text
 
@@ -159,7 +159,7 @@ declared_first space x spec model blank named is more = record {
   spelled = (space, declaration x spec, more.text, blank, tt, declares x spec model named is, more.spelled, refl);
 }
 
-abbrev drill_items : List Item
+abbrev drill_items : List DtdItem
 drill_items =
     element (codes "doc") doc_named_model ∷ element (codes "head") (mixed []) ∷ element (codes "sec") sec_named_model ∷ element (codes "title") (mixed [])
     ∷ element (codes "p") (mixed (codes "em" ∷ codes "br" ∷ [])) ∷ element (codes "em") (mixed (codes "em" ∷ [])) ∷ element (codes "br") empty

@@ -4,7 +4,7 @@ use Rattle.std.proofs.Common.{List, Some, [], ap, append-nil, arith, cond, false
 use Rattle.std.proofs.lemmas.List.Sums.{sum_by-cons}
 use Rattle.std.specs.List.{AllByRecursion}
 use Rattle.pv_chars.specs.Texts.{has_data}
-use Rattle.pv_chars.specs.Units.{cut, units_in}
+use Rattle.pv_chars.specs.Units.{cut_units, units_in}
 use Rattle.pv_model.specs.Models.{Allows, Rounds, round, no_round}
 use Rattle.pv_model.specs.Plain.{empty, named, text}
 use Rattle.pv_dtd.specs.Plain.{model_of}
@@ -34,7 +34,7 @@ letter_has (b ∷ bs) units = refl
 
 number_data : (bytes : List ℕ) → has_data (units_in (116 ∷ bytes)) ≡ true
 unfolding units_in
-number_data bytes = letter_has (cut false bytes).0 (cut false bytes).1
+number_data bytes = letter_has (cut_units false bytes).0 (cut_units false bytes).1
 
 pub number_units : (bytes : List ℕ) → units_in (116 ∷ bytes) ≢ []
 unfolding units_in

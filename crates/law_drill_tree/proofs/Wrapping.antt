@@ -6,7 +6,7 @@ use Rattle.std.specs.Prelude.{nat_lt}
 use Rattle.pv_chars.specs.Names.{is_name}
 use Rattle.pv_edit.specs.Changes.{change_below, change_kid, doc_after, owner_after, root_after}
 use Rattle.pv_edit.specs.Effects.{change_of}
-use Rattle.pv_edit.specs.Reasons.{applied, gives, goes_too_deep, is_given, items_of, lacks_list, lacks_node, outcome, reason_of, unless}
+use Rattle.pv_edit.specs.Reasons.{edit_outcome, gives, goes_too_deep, is_given, items_of, lacks_list, lacks_node, outcome, reason_of, unless}
 use Rattle.pv_edit.specs.declared.reasons.Reason.TheVariants.{BadName, Deep, NoNode, NotElement, Range, RootShape}
 use Rattle.law_missing.specs.Documents.{doc_of}
 use Rattle.pv_tree.specs.Legal.{MAX_DEPTH}
@@ -86,7 +86,7 @@ module _ (name : List ℕ) (front back : List Section) (k i : ℕ) (place : leng
       (ap (λ o. not (is_given o)) spot_there) (ap (λ o. not (is_given o)) list_there) (ap (λ o. nat_lt 1 0 || nat_lt (length (items_of o)) 1) list_there)
       (ap not named) refl not_deep
 
-  pub wrap_made : is_name name ≡ true → applied tt (drill_doc (trees front ++ bare_section k ∷ trees back)) (section_wrap (suc i) name) ≡ gives (drill_doc (with_around name front k back))
+  pub wrap_made : is_name name ≡ true → edit_outcome tt (drill_doc (trees front ++ bare_section k ∷ trees back)) (section_wrap (suc i) name) ≡ gives (drill_doc (with_around name front k back))
   wrap_made named =
       ap (λ r. outcome r (doc_after (change_of tt before (section_wrap (suc i) name)) (doc_of before))) (no_reason named)
       ∙ ap (λ t. gives (doc_of t)) changed

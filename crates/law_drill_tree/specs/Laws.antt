@@ -3,7 +3,7 @@ use Rattle.std.specs.Prelude.{IsTrue, List, codes, length, suc, ℕ, ◌++◌, �
 use Rattle.pv_chars.specs.Names.{is_name}
 use Rattle.pv_dtd.specs.Meaning.{DtdTextMeans, is_dtd}
 use Rattle.pv_drill.specs.Drill.{DRILL_DTD, drill_text}
-use Rattle.pv_edit.specs.Reasons.{applied, gives}
+use Rattle.pv_edit.specs.Reasons.{edit_outcome, gives}
 use Rattle.pv_missing.specs.Completing.{IsPotentiallyValid}
 use Rattle.pv_missing.specs.Verdicts.{AreVerdicts, possible_in}
 use Rattle.law_missing.specs.Dtds.{sections_dtd}
@@ -43,5 +43,5 @@ BrCannotStand = (front back : List Section) (k : ℕ) →
 -- The text of the section behind so many others and the head can be put into an element.
 abbrev pub TextsCanBeWrapped : Type 0
 TextsCanBeWrapped = (name : List ℕ) (front back : List Section) (k : ℕ) → IsTrue (is_name name) →
-    applied tt (drill_doc (trees front ++ bare_section k ∷ trees back))
+    edit_outcome tt (drill_doc (trees front ++ bare_section k ∷ trees back))
     (section_wrap (suc (length front)) name) ≡ gives (drill_doc (with_around name front k back))

@@ -7,13 +7,13 @@ abbrev pub tag : List ℕ → List (Tree Unit) → Tree Unit
 tag x kids = element x [] (tagged []) (forest_of kids) tt
 
 -- literal characters of ASCII, each a unit
-abbrev pub units_of : List ℕ → List (List ℕ)
-units_of [] = []
-units_of (b ∷ bs) = (b ∷ []) ∷ units_of bs
+abbrev pub literal_units : List ℕ → List (List ℕ)
+literal_units [] = []
+literal_units (b ∷ bs) = (b ∷ []) ∷ literal_units bs
 
 -- a text of literal characters
 abbrev pub chars : List ℕ → Tree Unit
-chars bytes = text_node (units_of bytes)
+chars bytes = text_node (literal_units bytes)
 
 -- a document of this root alone
 abbrev pub doc_of : Tree Unit → PlainDoc Unit
@@ -97,16 +97,16 @@ attribute quote x value = 32 ∷ (x ++ 61 ∷ quote ∷ value ++ quote ∷ [])
 -- </doc>
 abbrev pub letter_head : Tree Unit
 letter_head = tag (codes "head") (
-    text_node (units_of (codes "On caf") ++ codes "&#233;" ∷ units_of (codes "s")) ∷ [])
+    text_node (literal_units (codes "On caf") ++ codes "&#233;" ∷ literal_units (codes "s")) ∷ [])
 
 -- the sec of the letter
 abbrev pub letter_sec : Tree Unit
 letter_sec = element (codes "sec") (attribute 39 (codes "class") (codes "intro")) (tagged [])
     (forest_of (
-    text_node ((10 ∷ []) ∷ units_of (codes "Caf") ++ (195 ∷ 169 ∷ []) ∷
-    units_of (codes "s opened early. See ")) ∷
+    text_node ((10 ∷ []) ∷ literal_units (codes "Caf") ++ (195 ∷ 169 ∷ []) ∷
+    literal_units (codes "s opened early. See ")) ∷
     cdata_node (codes "<![CDATA[<menu>]]>") ∷
-    text_node (units_of (codes " below.") ++ (10 ∷ []) ∷ []) ∷
+    text_node (literal_units (codes " below.") ++ (10 ∷ []) ∷ []) ∷
     tag (codes "em") (chars (codes "Tea") ∷ []) ∷
     chars (codes " came later.") ∷
     element (codes "br") (32 ∷ []) short no_trees tt ∷
@@ -126,10 +126,10 @@ letter = element (codes "doc") (attribute 34 (codes "id") (codes "d1")) (tagged 
 -- </sec>
 abbrev pub first_p : Tree Unit
 first_p = tag (codes "p") (
-    text_node ((10 ∷ []) ∷ units_of (codes "Caf") ++ (195 ∷ 169 ∷ []) ∷
-    units_of (codes "s opened early. See ")) ∷
+    text_node ((10 ∷ []) ∷ literal_units (codes "Caf") ++ (195 ∷ 169 ∷ []) ∷
+    literal_units (codes "s opened early. See ")) ∷
     cdata_node (codes "<![CDATA[<menu>]]>") ∷
-    text_node (units_of (codes " below.") ++ (10 ∷ []) ∷ []) ∷ [])
+    text_node (literal_units (codes " below.") ++ (10 ∷ []) ∷ []) ∷ [])
 
 -- and with this second p
 abbrev pub second_p : Tree Unit

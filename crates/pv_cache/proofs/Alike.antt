@@ -8,7 +8,7 @@ use Rattle.pv_edit.specs.ChangedLists.{changed_lists, makes}
 use Rattle.pv_edit.specs.Changes.{Change, doc_after}
 use Rattle.pv_edit.specs.Effects.{change_of, next_of}
 use Rattle.pv_edit.specs.Inverses.{change_back, doc_back}
-use Rattle.pv_edit.specs.Reasons.{Outcome, applied, gives, outcome, reason_of, refuses}
+use Rattle.pv_edit.specs.Reasons.{Outcome, edit_outcome, gives, outcome, reason_of, refuses}
 use Rattle.pv_edit.specs.declared.answers.EditAnswer.{EditAnswer}
 use Rattle.pv_edit.specs.declared.answers.EditAnswer.TheVariants.{Impossible, Limit, NoMemory, Shape}
 use Rattle.pv_edit.specs.declared.edits.Edit.{Edit}
@@ -30,7 +30,7 @@ use Rattle.pv_tree.specs.Places.{Spot, at_document, at_node, list_at, list_of, n
 use Rattle.pv_tree.specs.Words.{word_of}
 use Rattle.pv_tree.specs.declared.nodes.Verdict.{Verdict}
 use Rattle.pv_cache.specs.Accepting.{GetsNoWorse, GetsWorse, HaveBoth, IsAccepted, IsHoldable, IsNarrowAt, IsWithinLimits}
-use Rattle.pv_cache.specs.Changed.{IsFirstImpossibleAt, IsLiveAt, owner_at}
+use Rattle.pv_cache.specs.Changed.{IsFirstImpossibleAt, IsLiveListAt, owner_at}
 use Rattle.pv_cache.specs.Moves.{HasGround}
 use Rattle.pv_cache.specs.Stamps.{doc_as}
 use Rattle.pv_cache.proofs.ListMarks.{all_narrow_from, all_narrow_to}
@@ -83,14 +83,14 @@ module _ {M N : Type 0} (f : M → N) where
   outcome_is (Some reason) doc = refl
 
   -- an edit does the same
-  pub applied_as : (blank : M) (doc : PlainDoc M) (edit : Edit) → applied (f blank) (doc_as f doc) edit ≡ outcome_as f (applied blank doc edit)
+  pub applied_as : (blank : M) (doc : PlainDoc M) (edit : Edit) → edit_outcome (f blank) (doc_as f doc) edit ≡ outcome_as f (edit_outcome blank doc edit)
   applied_as blank doc edit =
       ap (λ (o : Option Reason). outcome o (doc_after (change_of (f blank) (map_marks f doc.root) edit) (doc_as f doc))) (reason-as f blank doc.root edit)
       ∙ ap (λ (c : Change N). outcome (reason_of blank doc.root edit) (doc_after c (doc_as f doc))) (sym (change_of_as blank doc.root edit))
       ∙ ap (outcome (reason_of blank doc.root edit)) (after_as (change_of blank doc.root edit) doc)
       ∙ outcome_is (reason_of blank doc.root edit) (doc_after (change_of blank doc.root edit) doc)
 
-  pub gives_as : (blank : M) (doc edited : PlainDoc M) (edit : Edit) → applied blank doc edit ≡ gives edited → applied (f blank) (doc_as f doc) edit ≡ gives (doc_as f edited)
+  pub gives_as : (blank : M) (doc edited : PlainDoc M) (edit : Edit) → edit_outcome blank doc edit ≡ gives edited → edit_outcome (f blank) (doc_as f doc) edit ≡ gives (doc_as f edited)
   gives_as blank doc edited edit e = applied_as blank doc edit ∙ ap (outcome_as f) e
 
   -- and so does an inverse
@@ -167,7 +167,7 @@ module _ {M N : Type 0} (f : M → N) where
       heads_all : (ts : List (Tree M)) → heads_of (forest_of (map (map_marks f) ts)) ≡ heads_of (forest_of ts)
       heads_all ts = ap heads_of (forest-as f ts) ∙ heads_as f (forest_of ts)
 
-      live_path_to : (path : List ℕ) → IsLiveAt g root doc path → IsLiveAt g root (doc_as f doc) path
+      live_path_to : (path : List ℕ) → IsLiveListAt g root doc path → IsLiveListAt g root (doc_as f doc) path
       live_path_to path h kids e = by (list_at path doc.root) refl (sym (list_at_as path) ∙ e)
         where
           by : (o : Option (List (Tree M))) → list_at path doc.root ≡ o → option_map (map (map_marks f)) o ≡ Some kids → IsLiveBy g root (owner_at path (map_marks f doc.root)) (forest_of kids)
@@ -178,17 +178,17 @@ module _ {M N : Type 0} (f : M → N) where
               subst (λ (ks : List (Tree N)). IsLiveBy g root (owner_at path (map_marks f doc.root)) (forest_of ks)) is
               (subst (λ (o : Owner). IsLiveBy g root o (forest_of (map (map_marks f) ts))) (sym (owner_as path)) live)
 
-      live_path_from : (path : List ℕ) → IsLiveAt g root (doc_as f doc) path → IsLiveAt g root doc path
+      live_path_from : (path : List ℕ) → IsLiveListAt g root (doc_as f doc) path → IsLiveListAt g root doc path
       live_path_from path h kids e =
           let live = h (map (map_marks f) kids) (list_at_as path ∙ ap (option_map (map (map_marks f))) e) in
           live_alike g root (owner_at path doc.root) (forest_of (map (map_marks f) kids)) (forest_of kids) (heads_all kids)
           (subst (λ (o : Owner). IsLiveBy g root o (forest_of (map (map_marks f) kids))) (owner_as path) live)
 
-      live_paths_to : (paths : List (List ℕ)) → AllByRecursion (IsLiveAt g root doc) paths → AllByRecursion (IsLiveAt g root (doc_as f doc)) paths
+      live_paths_to : (paths : List (List ℕ)) → AllByRecursion (IsLiveListAt g root doc) paths → AllByRecursion (IsLiveListAt g root (doc_as f doc)) paths
       live_paths_to [] h = tt
       live_paths_to (path ∷ paths) h = (live_path_to path h.0, live_paths_to paths h.1)
 
-      live_paths_from : (paths : List (List ℕ)) → AllByRecursion (IsLiveAt g root (doc_as f doc)) paths → AllByRecursion (IsLiveAt g root doc) paths
+      live_paths_from : (paths : List (List ℕ)) → AllByRecursion (IsLiveListAt g root (doc_as f doc)) paths → AllByRecursion (IsLiveListAt g root doc) paths
       live_paths_from [] h = tt
       live_paths_from (path ∷ paths) h = (live_path_from path h.0, live_paths_from paths h.1)
 

@@ -1,7 +1,7 @@
 -- The first Impossible one of the lists that a change changes.
 use Rattle.std.proofs.Common.{Bool, List, Option, Some, [], ap, false, refl, subst, suc, sym, true, zero, ℕ, ◌++◌, ◌∙◌, ◌∷◌, ◌≡◌}
 use Rattle.std.specs.List.{AllByRecursion, between}
-use Rattle.pv_cache.specs.Changed.{AreJudged, IsFirstAmong, IsFirstImpossibleAt, IsInnerJudged, IsLiveAt, inner_first, outer_first, owner_at}
+use Rattle.pv_cache.specs.Changed.{AreJudged, IsFirstAmong, IsFirstImpossibleAt, IsInnerJudged, IsLiveListAt, inner_first, outer_first, owner_at}
 use Rattle.pv_cache.specs.Laws.{FirstIsFirstAmong}
 use Rattle.pv_cache.specs.declared.mending.InnerVerdict.{InnerVerdict}
 use Rattle.pv_cache.proofs.Docs.{in-root, owner-list, root-name}
@@ -32,7 +32,7 @@ one_place P (z ∷ b) a [] d p q e x y n m = let s : z ≡ q = cc in absurd (m (
 one_place P (z ∷ b) a (w ∷ c) d p q e x y n m = let rest : b ++ p ∷ a ≡ c ++ q ∷ d = cc in one_place P b a c d p q rest x.1 y.1 n m
 
 pub one_first_at : {M : Type 0} (g : PlainDtd) (root : List ℕ) (doc : PlainDoc M) (paths : List (List ℕ)) (p q : List ℕ) → IsFirstImpossibleAt g root doc paths p → IsFirstImpossibleAt g root doc paths q → p ≡ q
-one_first_at g root doc paths p q x y = one_place (IsLiveAt g root doc) x.before x.after y.before y.after p q (sym x.is_split ∙ y.is_split) x.all_before y.all_before x.is_not y.is_not
+one_first_at g root doc paths p q x y = one_place (IsLiveListAt g root doc) x.before x.after y.before y.after p q (sym x.is_split ∙ y.is_split) x.all_before y.all_before x.is_not y.is_not
 
 -- ---- owners after a change
 pub owner_stays : (m : Mark) (list : List ℕ) (c : Change Mark) (root : Tree Mark) (ts : List (Tree Mark)) → Made m list c root ts → owner_at list (root_after list c root) ≡ owner_at list root
@@ -55,10 +55,10 @@ module _ (g : PlainDtd) (root : List ℕ) (doc : PlainDoc Mark) (c : Change Mark
   abbrev Here : Type 0
   Here = IsLiveBy g root (owner_at c.list doc.root) (forest_of (list_after c ts))
 
-  to_here : IsLiveAt g root after c.list → Here
+  to_here : IsLiveListAt g root after c.list → Here
   to_here l = subst (λ (o : Owner). IsLiveBy g root o (forest_of (list_after c ts))) (owner_stays doc.mark c.list c doc.root ts d) (l (list_after c ts) (list_stands doc.mark c.list c doc.root ts d))
 
-  from_here : Here → IsLiveAt g root after c.list
+  from_here : Here → IsLiveListAt g root after c.list
   from_here h kids e =
       let s = list_stands doc.mark c.list c doc.root ts d in
       let same : list_after c ts ≡ kids = cc in
@@ -66,7 +66,7 @@ module _ (g : PlainDtd) (root : List ℕ) (doc : PlainDoc Mark) (c : Change Mark
       subst (λ (k : List (Tree Mark)). IsLiveBy g root (owner_at c.list after.root) (forest_of k)) same at
 
   -- the list of an element that came
-  to_inner : (x attrs : List ℕ) (e : Ending) (kids : Forest Mark) (m : Mark) → in_place_of c.filling (between c.from c.to ts) ≡ element x attrs e kids m ∷ [] → IsLiveAt g root after (c.list ++ c.from ∷ []) → IsLiveBy g root (an_element x) kids
+  to_inner : (x attrs : List ℕ) (e : Ending) (kids : Forest Mark) (m : Mark) → in_place_of c.filling (between c.from c.to ts) ≡ element x attrs e kids m ∷ [] → IsLiveListAt g root after (c.list ++ c.from ∷ []) → IsLiveBy g root (an_element x) kids
   to_inner x attrs e kids m is l =
       let spot = came_stands doc.mark c.list c doc.root ts d x attrs e kids m is in
       let stands = inner_stands doc.mark c.list c doc.root ts d x attrs e kids m is in
@@ -80,7 +80,7 @@ module _ (g : PlainDtd) (root : List ℕ) (doc : PlainDoc Mark) (c : Change Mark
   outer_is false path p n = rw p (record { before = []; after = []; is_split = refl; all_before = tt; is_not = λ l. n (to_here l) })
 
   -- where it isn't, and the list of the element that came is
-  inner_is : (path : List ℕ) → path ≡ c.list ++ c.from ∷ [] → Here → (IsLiveAt g root after (c.list ++ c.from ∷ []) → ⊥) → IsFirstImpossibleAt g root after (lists_by c true) path
+  inner_is : (path : List ℕ) → path ≡ c.list ++ c.from ∷ [] → Here → (IsLiveListAt g root after (c.list ++ c.from ∷ []) → ⊥) → IsFirstImpossibleAt g root after (lists_by c true) path
   inner_is path p h n = rw p (record { before = c.list ∷ []; after = []; is_split = refl; all_before = (from_here h, tt); is_not = n })
 
   module _ (v : Verdict) (inner : Option InnerVerdict) (j : AreJudged g root (owner_at c.list doc.root) ts c v inner) where
@@ -93,7 +93,7 @@ module _ (g : PlainDtd) (root : List ℕ) (doc : PlainDoc Mark) (c : Change Mark
     not_here : v ≡ verdict.Impossible → Here → ⊥
     not_here e = rw e at j.outer.judged
 
-    not_inner : (i : InnerVerdict) → (k : Inner (Some i)) → i.verdict ≡ verdict.Impossible → IsLiveAt g root after (c.list ++ c.from ∷ []) → ⊥
+    not_inner : (i : InnerVerdict) → (k : Inner (Some i)) → i.verdict ≡ verdict.Impossible → IsLiveListAt g root after (c.list ++ c.from ∷ []) → ⊥
     not_inner i (b, p, o) e l =
         let not : IsLiveBy g root (an_element o.name) o.kids → ⊥ = rw e at o.list.judged in
         not (to_inner o.name o.attrs o.ending o.kids o.mark o.is_one l)

@@ -8,7 +8,7 @@ use Rattle.pv_edit.specs.ChangedLists.{changed_lists, makes}
 use Rattle.pv_edit.specs.Changes.{Change, doc_after}
 use Rattle.pv_edit.specs.Effects.{change_of}
 use Rattle.pv_edit.specs.Fitting.{CanChange}
-use Rattle.pv_edit.specs.Reasons.{applied, gives, is_top, kids_at, outcome, reason_of}
+use Rattle.pv_edit.specs.Reasons.{edit_outcome, gives, is_top, kids_at, outcome, reason_of}
 use Rattle.pv_edit.specs.declared.answers.EditAnswer.{EditAnswer}
 use Rattle.pv_edit.specs.declared.answers.EditAnswer.TheVariants.{Impossible, Limit, NoMemory, Shape}
 use Rattle.pv_edit.specs.declared.edits.Edit.{Edit}
@@ -78,7 +78,7 @@ module _ (g : PlainDtd) (root : List ℕ) where
     abbrev c : Change Mark
     c = change_of blank_mark doc.root edit
 
-    pub is_given : applied blank_mark doc edit ≡ gives (doc_after c doc)
+    pub is_given : edit_outcome blank_mark doc edit ≡ gives (doc_after c doc)
     is_given = ap (λ (o : Option Reason). outcome o (doc_after c doc)) given
 
     module _ (lists : lists_changed c ≡ changed_lists (makes edit)) where

@@ -17,7 +17,7 @@ use Rattle.pv_edit.specs.Effects.{change_of}
 use Rattle.pv_edit.specs.Fitting.{CanChange}
 use Rattle.pv_edit.specs.Inverses.{IsKept, LeadsBack, change_back, doc_back, inverse_of}
 use Rattle.pv_edit.specs.Laws.{EditsChangeLists, InversesChangeLists, LeadsToOne, NodesAreCounted}
-use Rattle.pv_edit.specs.Reasons.{applied, gives, is_top, kids_at, reason_of}
+use Rattle.pv_edit.specs.Reasons.{edit_outcome, gives, is_top, kids_at, reason_of}
 use Rattle.pv_edit.specs.Refusals.{IsRefused, refusal_of}
 use Rattle.pv_edit.specs.declared.answers.EditAnswer.{EditAnswer}
 use Rattle.pv_edit.specs.declared.answers.EditAnswer.TheVariants.{Limit, Shape}
@@ -182,14 +182,14 @@ module _ (g : PlainDtd) (root : List ℕ) where
       }
 
   -- ---- an edit that can't be made
-  pub not_shaped : (old : PlainDoc Mark) (edit : Edit) (e : EditError) → IsRefused (applied blank_mark old edit) e → (r : Result JudgedEdit EditAnswer) → IsErr r × IsErrAnd r (λ a. a ≡ refusal_of e) → IfErr r (HasGround 0 g root (stamps_of old) edit)
+  pub not_shaped : (old : PlainDoc Mark) (edit : Edit) (e : EditError) → IsRefused (edit_outcome blank_mark old edit) e → (r : Result JudgedEdit EditAnswer) → IsErr r × IsErrAnd r (λ a. a ≡ refusal_of e) → IfErr r (HasGround 0 g root (stamps_of old) edit)
   not_shaped old edit e h r s = by e h r (err_from_is_err_and r s.1)
     where
-      ground : (e : EditError) → IsRefused (applied blank_mark old edit) e → HasGround 0 g root (stamps_of old) edit (refusal_of e)
+      ground : (e : EditError) → IsRefused (edit_outcome blank_mark old edit) e → HasGround 0 g root (stamps_of old) edit (refusal_of e)
       ground (error.Shape reason) h = ground_as stamp_of blank_mark g root old edit (Shape reason) h
       ground error.NoMemory h = tt
 
-      by : (e : EditError) → IsRefused (applied blank_mark old edit) e → (r : Result JudgedEdit EditAnswer) → (a : EditAnswer) × (r ≡ Err a) × (a ≡ refusal_of e) → IfErr r (HasGround 0 g root (stamps_of old) edit)
+      by : (e : EditError) → IsRefused (edit_outcome blank_mark old edit) e → (r : Result JudgedEdit EditAnswer) → (a : EditAnswer) × (r ≡ Err a) × (a ≡ refusal_of e) → IfErr r (HasGround 0 g root (stamps_of old) edit)
       by e h r (a, is, same) = rw (is, same) (ground e h)
 
 -- an inverse leads back from a document whatever its marks are

@@ -10,7 +10,7 @@ use Rattle.pv_cache.proofs.Alike.{accepted_as, ground_as}
 use Rattle.pv_cache.proofs.FirstChanged.{one_first_at}
 use Rattle.pv_dtd.specs.Plain.{PlainDtd}
 use Rattle.pv_edit.specs.ChangedLists.{changed_lists, makes}
-use Rattle.pv_edit.specs.Reasons.{Outcome, applied, gives, refuses}
+use Rattle.pv_edit.specs.Reasons.{Outcome, edit_outcome, gives, refuses}
 use Rattle.pv_edit.specs.declared.answers.EditAnswer.{EditAnswer}
 use Rattle.pv_edit.specs.declared.answers.EditAnswer.TheVariants.{Impossible, Limit, NoMemory, Shape}
 use Rattle.pv_edit.specs.declared.edits.Edit.{Edit}
@@ -45,7 +45,7 @@ module _ {M : Type 0} where
 
   module _ (blank : M) (g : PlainDtd) (root : List ℕ) (doc : PlainDoc M) (edit : Edit) where
     abbrev Given : PlainDoc M → Type 0
-    Given d = applied blank doc edit ≡ gives d
+    Given d = edit_outcome blank doc edit ≡ gives d
 
     abbrev Within : PlainDoc M → Type 0
     Within d = IsWithinLimits g d (changed_lists (makes edit))

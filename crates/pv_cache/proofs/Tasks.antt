@@ -6,7 +6,7 @@ use Rattle.std.proofs.lemmas.List.{length-map}
 use Rattle.pv_dtd.specs.Plain.{PlainDtd}
 use Rattle.pv_edit.specs.Brought.{brings_element}
 use Rattle.pv_edit.specs.Changes.{Change, in_place_of, list_after}
-use Rattle.pv_edit.specs.Fitting.{CanChange, Suits}
+use Rattle.pv_edit.specs.Fitting.{CanChange, SuitsChange}
 use Rattle.pv_edit.specs.Reasons.{is_given, is_top, kids_at, lacks_list}
 use Rattle.pv_edit.proofs.KeptBack.{can-made}
 use Rattle.pv_edit.proofs.Levels.{forest-trees}
@@ -68,8 +68,8 @@ module _ (root : Tree Mark) (c : Change Mark) (can : CanChange c.list c root) (u
   their-kids : kids_at c.list root ≡ made.0
   their-kids = owner-kids made.1.owner
 
-  pub task-suits : Suits c (kids_at c.list root)
-  task-suits = subst (Suits c) (sym their-kids) (record { order = made.1.order; within = made.1.within; fits = made.1.fits })
+  pub task-suits : SuitsChange c (kids_at c.list root)
+  task-suits = subst (SuitsChange c) (sym their-kids) (record { order = made.1.order; within = made.1.within; fits = made.1.fits })
 
   pub task-one : HoldsOne (owner_at c.list root) (forest_of (list_after c (kids_at c.list root)))
   task-one = by c.list refl

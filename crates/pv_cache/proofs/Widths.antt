@@ -5,7 +5,7 @@ use Rattle.pv_dtd.specs.Plain.{PlainDtd}
 use Rattle.pv_edit.specs.ChangedLists.{changed_lists, makes}
 use Rattle.pv_edit.specs.Inverses.{IsKept}
 use Rattle.pv_edit.specs.Origins.{IsNone}
-use Rattle.pv_edit.specs.Reasons.{applied, gives}
+use Rattle.pv_edit.specs.Reasons.{edit_outcome, gives}
 use Rattle.pv_edit.specs.declared.edits.Edit.{Edit}
 use Rattle.pv_edit.proofs.KeptLists.{keeps-lists}
 use Rattle.pv_edit.proofs.Levels.{forest-trees}
@@ -47,7 +47,7 @@ module _ {M : Type 0} (g : PlainDtd) where
       rw (forest-trees list.kids) at h
 
   -- a list that the edit didn't change is as wide as it was
-  kept_narrow : (blank : M) (before edited : PlainDoc M) (edit : Edit) → IsKept before.root → applied blank before edit ≡ gives edited →
+  kept_narrow : (blank : M) (before edited : PlainDoc M) (edit : Edit) → IsKept before.root → edit_outcome blank before edit ≡ gives edited →
       AllByRecursion (IsListForVerdict g) (lists_of before) → (path : List ℕ) → IsNone path (changed_lists (makes edit)) → IsNarrowAt g edited path
   kept_narrow blank before edited edit k a h path none kids l =
       let kept = keeps-lists blank before edited edit k.rooted a path kids l none in
@@ -58,7 +58,7 @@ module _ {M : Type 0} (g : PlainDtd) where
       rw w at n
 
   -- An edited document in which a list is too wide is past a limit.
-  pub too_wide : (blank : M) (before edited : PlainDoc M) (edit : Edit) (path : List ℕ) → IsHoldable g before → IsKept before.root → applied blank before edit ≡ gives edited →
+  pub too_wide : (blank : M) (before edited : PlainDoc M) (edit : Edit) (path : List ℕ) → IsHoldable g before → IsKept before.root → edit_outcome blank before edit ≡ gives edited →
       IsFirstTooWide g (lists_of edited) path → IsWithinLimits g edited (changed_lists (makes edit)) → ⊥
   too_wide blank before edited edit path holdable k a f w =
       let all : AllByRecursion (Stands edited.root) (f.before ++ f.list ∷ f.after) = subst (AllByRecursion (Stands edited.root)) f.is_split (all_stand edited) in

@@ -9,7 +9,7 @@ use Rattle.pv_edit.specs.ChangedLists.{changed_lists, makes}
 use Rattle.pv_edit.specs.Changes.{Change, doc_after, in_place_of, list_after}
 use Rattle.pv_edit.specs.Effects.{change_of}
 use Rattle.pv_edit.specs.Laws.{EditsAreChanges, EditsChangeLists, IsMadeBy}
-use Rattle.pv_edit.specs.Reasons.{Outcome, applied, gives, is_top, kids_at, refuses}
+use Rattle.pv_edit.specs.Reasons.{Outcome, edit_outcome, gives, is_top, kids_at, refuses}
 use Rattle.pv_edit.specs.declared.answers.EditAnswer.{EditAnswer}
 use Rattle.pv_edit.specs.declared.answers.EditAnswer.TheVariants.{Impossible, Limit, NoMemory}
 use Rattle.pv_edit.specs.declared.edits.Edit.{Edit}
@@ -159,7 +159,7 @@ given_from (gives x) d e = (x, refl, cc)
 given_from (refuses reason) d e = absurd cc
 
 module _ {M : Type 0} (g : PlainDtd) (root : List ℕ) (doc edited : PlainDoc M) (blank : M) (edit : Edit) (before after : ℕ) (changes : EditsAreChanges Mark) (lists : EditsChangeLists Mark) (elem : IsTrue (is_element doc.root)) (holdable : IsHoldable g doc)
-    (given : applied blank doc edit ≡ gives edited) (within : IsWithinLimits g edited (changed_lists (makes edit))) (both : HaveBoth g root doc edited before after) (more : before < after) where
+    (given : edit_outcome blank doc edit ≡ gives edited) (within : IsWithinLimits g edited (changed_lists (makes edit))) (both : HaveBoth g root doc edited before after) (more : before < after) where
   abbrev with_blanks : PlainDoc Mark
   with_blanks = doc_as (λ _. blank_mark) doc
 
@@ -172,10 +172,10 @@ module _ {M : Type 0} (g : PlainDtd) (root : List ℕ) (doc edited : PlainDoc M)
   marked : IsWellMarked g root laid
   marked = doc_marked g root both.had.verdicts with_blanks (same_verdicts M Mark g root doc with_blanks both.had.verdicts (sym (unmarked_as (λ _. blank_mark) doc)) both.had.are_verdicts) (all_narrow_to (λ _. blank_mark) doc g holdable.narrow)
 
-  laid_given : (x : PlainDoc Mark) × (applied blank_mark laid edit ≡ gives x) × (unmarked_doc x ≡ unmarked_doc edited)
+  laid_given : (x : PlainDoc Mark) × (edit_outcome blank_mark laid edit ≡ gives x) × (unmarked_doc x ≡ unmarked_doc edited)
   laid_given =
-      given_from (applied blank_mark laid edit) (unmarked_doc edited)
-      (sym (applied_as (λ _. tt) blank_mark laid edit) ∙ ap (λ (d : PlainDoc Unit). applied tt d edit) same ∙ applied_as (λ _. tt) blank doc edit ∙ ap (outcome_as (λ _. tt)) given)
+      given_from (edit_outcome blank_mark laid edit) (unmarked_doc edited)
+      (sym (applied_as (λ _. tt) blank_mark laid edit) ∙ ap (λ (d : PlainDoc Unit). edit_outcome tt d edit) same ∙ applied_as (λ _. tt) blank doc edit ∙ ap (outcome_as (λ _. tt)) given)
 
   abbrev c : Change Mark
   c = change_of blank_mark laid.root edit
@@ -232,7 +232,7 @@ module _ {M : Type 0} (g : PlainDtd) (root : List ℕ) (doc edited : PlainDoc M)
       )
 
 module _ {M : Type 0} (changes : EditsAreChanges Mark) (lists : EditsChangeLists Mark) (blank : M) (g : PlainDtd) (root : List ℕ) (doc edited : PlainDoc M) (edit : Edit) (before after : ℕ) (elem : IsTrue (is_element doc.root)) (holdable : IsHoldable g doc)
-    (both : ∥ HaveBoth g root doc edited before after ∥₁) (given : applied blank doc edit ≡ gives edited) (none : (answer : EditAnswer) → HasGround blank g root doc edit answer → answer ≡ NoMemory) where
+    (both : ∥ HaveBoth g root doc edited before after ∥₁) (given : edit_outcome blank doc edit ≡ gives edited) (none : (answer : EditAnswer) → HasGround blank g root doc edit answer → answer ≡ NoMemory) where
   abbrev Changed : List (List ℕ)
   Changed = changed_lists (makes edit)
 

@@ -3,7 +3,7 @@ use Rattle.std.specs.Prelude.{◌≡◌, ◌<◌, ◌≤◌, List, Some, length,
 use Rattle.std.specs.List.{AllByRecursion}
 use Rattle.pv_dtd.specs.Plain.{PlainDtd}
 use Rattle.pv_edit.specs.ChangedLists.{changed_lists, makes}
-use Rattle.pv_edit.specs.Reasons.{applied, gives}
+use Rattle.pv_edit.specs.Reasons.{edit_outcome, gives}
 use Rattle.pv_edit.specs.declared.edits.Edit.{Edit}
 use Rattle.pv_missing.specs.Completing.{IsPotentiallyValid}
 use Rattle.pv_missing.specs.Verdicts.{HaveImpossible}
@@ -51,7 +51,7 @@ GetsWorse g root doc edited =
 -- show them). New elements are marked with `blank`.
 pub record IsAccepted {M : Type 0} (blank : M) (g : PlainDtd) (root : List ℕ) (doc : PlainDoc M)
     (edit : Edit) (edited : PlainDoc M) : Type 0 where
-  pub is_edited : applied blank doc edit ≡ gives edited
+  pub is_edited : edit_outcome blank doc edit ≡ gives edited
   pub within : IsWithinLimits g edited (changed_lists (makes edit))
   pub no_worse : ∥ GetsNoWorse g root doc edited ∥₁
 
@@ -59,7 +59,7 @@ pub record IsAccepted {M : Type 0} (blank : M) (g : PlainDtd) (root : List ℕ) 
 -- it valid, in whichever way.
 pub record KeepsPossible {M : Type 0} (blank : M) (g : PlainDtd) (root : List ℕ) (doc : PlainDoc M)
     (edit : Edit) (edited : PlainDoc M) : Type 0 where
-  pub is_edited : applied blank doc edit ≡ gives edited
+  pub is_edited : edit_outcome blank doc edit ≡ gives edited
   pub within : IsWithinLimits g edited (changed_lists (makes edit))
   pub possible : ∥ IsPotentiallyValid g root (view edited.root) ∥₁
 

@@ -22,8 +22,8 @@ owner_at [] root = the_document
 owner_at (i ∷ path) root = an_element (name_on (spot_at (i ∷ path) root))
 
 -- the list at this path isn't Impossible
-abbrev pub IsLiveAt : {M : Type 0} → PlainDtd → List ℕ → PlainDoc M → List ℕ → Type 0
-IsLiveAt {M} g root doc path = (kids : List (Tree M)) → list_at path doc.root ≡ Some kids →
+abbrev pub IsLiveListAt : {M : Type 0} → PlainDtd → List ℕ → PlainDoc M → List ℕ → Type 0
+IsLiveListAt {M} g root doc path = (kids : List (Tree M)) → list_at path doc.root ≡ Some kids →
     IsLiveBy g root (owner_at path doc.root) (forest_of kids)
 
 -- This is the first of these paths at which an Impossible list stands.
@@ -32,8 +32,8 @@ pub record IsFirstImpossibleAt {M : Type 0} (g : PlainDtd) (root : List ℕ) (do
   pub before : List (List ℕ)
   pub after : List (List ℕ)
   pub is_split : paths ≡ before ++ path ∷ after
-  pub all_before : AllByRecursion (IsLiveAt g root doc) before
-  pub is_not : IsLiveAt g root doc path → ⊥
+  pub all_before : AllByRecursion (IsLiveListAt g root doc) before
+  pub is_not : IsLiveListAt g root doc path → ⊥
 
 -- The list has this verdict, and isn't too wide for one.
 pub record IsJudged {M : Type 0} (g : PlainDtd) (root : List ℕ) (owner : Owner) (kids : Forest M)

@@ -4,7 +4,7 @@ use Rattle.pv_cache.specs.Accepting.{HaveBoth, IsAccepted, IsHoldable, KeepsPoss
 use Rattle.pv_cache.specs.Moves.{HasGround}
 use Rattle.pv_dtd.specs.Plain.{PlainDtd}
 use Rattle.pv_dtd.specs.Proper.{IsProperDtd}
-use Rattle.pv_edit.specs.Reasons.{applied, gives}
+use Rattle.pv_edit.specs.Reasons.{edit_outcome, gives}
 use Rattle.pv_edit.specs.declared.answers.EditAnswer.{EditAnswer}
 use Rattle.pv_edit.specs.declared.answers.EditAnswer.TheVariants.{NoMemory}
 use Rattle.pv_edit.specs.declared.edits.Edit.{Edit}
@@ -29,7 +29,7 @@ abbrev pub AcceptedExactlyWithoutGround : Type 0 → Type 0
 AcceptedExactlyWithoutGround M = (blank : M) (g : PlainDtd) (root : List ℕ)
     (doc edited : PlainDoc M) (edit : Edit) (before after : ℕ) → IsTrue (is_element doc.root) →
     IsHoldable g doc → ∥ HaveBoth g root doc edited before after ∥₁ →
-    applied blank doc edit ≡ gives edited →
+    edit_outcome blank doc edit ≡ gives edited →
     IsAccepted blank g root doc edit edited ↔
     ((answer : EditAnswer) → HasGround blank g root doc edit answer → answer ≡ NoMemory)
 

@@ -59,17 +59,17 @@ count_again before after mark = record mark {
 }
 
 -- an element, one of whose kids tells other numbers than before
-abbrev pub with_kid : (Tree Mark → Tree Mark) → ℕ → Tree Mark → Tree Mark
-with_kid f i (element x attrs ending kids mark) =
+abbrev pub with_kid_changed : (Tree Mark → Tree Mark) → ℕ → Tree Mark → Tree Mark
+with_kid_changed f i (element x attrs ending kids mark) =
     element x attrs ending (change_kid f i kids) (count_again kids (change_kid f i kids) mark)
-with_kid f i (text_node units) = text_node units
-with_kid f i (cdata_node bytes) = cdata_node bytes
-with_kid f i (misc_node bytes) = misc_node bytes
+with_kid_changed f i (text_node units) = text_node units
+with_kid_changed f i (cdata_node bytes) = cdata_node bytes
+with_kid_changed f i (misc_node bytes) = misc_node bytes
 
 -- a tree, mended at a path and above
 abbrev pub mend_below : List ℕ → (Tree Mark → Tree Mark) → Tree Mark → Tree Mark
 mend_below [] f t = f t
-mend_below (i ∷ path) f t = with_kid (mend_below path f) i t
+mend_below (i ∷ path) f t = with_kid_changed (mend_below path f) i t
 
 -- the root, where its own list has changed
 abbrev pub mend_root : Option InnerVerdict → ℕ → Tree Mark → Tree Mark

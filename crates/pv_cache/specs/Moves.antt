@@ -6,7 +6,7 @@ use Rattle.pv_cache.specs.Stamps.{StampedDoc, stamp_lists}
 use Rattle.pv_dtd.specs.Plain.{PlainDtd}
 use Rattle.pv_edit.specs.ChangedLists.{changed_lists, makes, undoes}
 use Rattle.pv_edit.specs.Inverses.{inverse_of, doc_back}
-use Rattle.pv_edit.specs.Reasons.{applied, gives, refuses}
+use Rattle.pv_edit.specs.Reasons.{edit_outcome, gives, refuses}
 use Rattle.pv_edit.specs.declared.answers.Done.{Done}
 use Rattle.pv_edit.specs.declared.answers.EditAnswer.{EditAnswer}
 use Rattle.pv_edit.specs.declared.answers.EditAnswer.TheVariants.{Impossible, Limit, NoMemory}
@@ -58,12 +58,12 @@ pub record IsReverted (edited : StampedDoc) (inverse : Inverse) (edit : Edit)
 -- and the path is that of the first among the lists that the edit changes.
 abbrev pub HasGround : {M : Type 0} → M → PlainDtd → List ℕ → PlainDoc M → Edit → EditAnswer →
     Type 0
-HasGround blank g root doc edit (Shape reason) = applied blank doc edit ≡ refuses reason
+HasGround blank g root doc edit (Shape reason) = edit_outcome blank doc edit ≡ refuses reason
 HasGround {M} blank g root doc edit Limit =
-    (edited : PlainDoc M) × (applied blank doc edit ≡ gives edited) ×
+    (edited : PlainDoc M) × (edit_outcome blank doc edit ≡ gives edited) ×
     (IsWithinLimits g edited (changed_lists (makes edit)) → ⊥)
 HasGround {M} blank g root doc edit (Impossible path) =
-    (edited : PlainDoc M) × (applied blank doc edit ≡ gives edited) ×
+    (edited : PlainDoc M) × (edit_outcome blank doc edit ≡ gives edited) ×
     IsWithinLimits g edited (changed_lists (makes edit)) ×
     ∥ GetsWorse g root doc edited ∥₁ ×
     ∥ IsFirstImpossibleAt g root edited (changed_lists (makes edit)) path ∥₁

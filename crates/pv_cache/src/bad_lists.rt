@@ -4,7 +4,7 @@ ghost use Rattle.std.specs.Prelude.{◌≡◌, ◌≤◌, [], IsTrue};
 ghost use Rattle.std.specs.List.{between};
 ghost use Rattle.pv_cache.specs.BadLists.{bad_gone, own_in, own_inner, own_of};
 ghost use Rattle.pv_cache.specs.WellMarked.{bad_in, bad_in_all, own_bad, told_bad};
-ghost use Rattle.pv_edit.specs.Fitting.{CanFill, Suits, plain_change, plain_filling};
+ghost use Rattle.pv_edit.specs.Fitting.{CanFill, SuitsChange, plain_change, plain_filling};
 ghost use Rattle.pv_edit.specs.Reasons.{is_one_element};
 ghost use Rattle.pv_tree.specs.Legal.{MAX_NODES};
 ghost use Rattle.pv_tree.specs.Plain.{nodes_in, nodes_in_all};
@@ -109,7 +109,7 @@ fn bad_gone(filling: &Filling, old: &[Node]) -> u64
 
 /// How many lists go that are Impossible, where a change of these nodes is made.
 pub(crate) fn bad_taken(kids: &[Node], change: &Change) -> u64
-    requires suits { Suits (plain_change [] change.now) (plain_all kids.now) }
+    requires suits { SuitsChange (plain_change [] change.now) (plain_all kids.now) }
     requires small { nodes_in_all (forest kids.now) ≤ MAX_NODES }
     ensures { result ≡ bad_gone (plain_filling change.now.filling)
         (between change.now.from change.now.to (plain_all kids.now)) }

@@ -8,7 +8,7 @@ ghost use Rattle.pv_cache.specs.Judging.{IsWordOf};
 ghost use Rattle.pv_dtd.specs.PlainForms.{plain_dtd};
 ghost use Rattle.pv_edit.specs.Brought.{BringsBare, brings_element};
 ghost use Rattle.pv_edit.specs.Changes.{in_place_of, list_after, others};
-ghost use Rattle.pv_edit.specs.Fitting.{CanFill, Suits, plain_change, plain_filling};
+ghost use Rattle.pv_edit.specs.Fitting.{CanFill, SuitsChange, plain_change, plain_filling};
 ghost use Rattle.pv_edit.specs.Reasons.{is_one_element};
 ghost use Rattle.pv_missing.specs.WordVerdicts.{has_no_trees};
 ghost use Rattle.pv_model.specs.PlainForms.{plain_token};
@@ -113,7 +113,7 @@ pub(crate) fn word_after(
     kids: &[Node],
     change: &Change,
 ) -> Result<ListWord, NoMemory>
-    requires { Suits (plain_change [] change.now) (plain_all kids.now) }
+    requires { SuitsChange (plain_change [] change.now) (plain_all kids.now) }
     ensures { IfOk result (IsWordOf (plain_dtd dtd.now)
         (forest_of (list_after (plain_change [] change.now) (plain_all kids.now)))) }
 {
@@ -236,7 +236,7 @@ pub(crate) fn words_after<'a>(
     kids: &'a [Node],
     change: &'a Change,
 ) -> Result<Words<'a>, NoMemory>
-    requires suits { Suits (plain_change [] change.now) (plain_all kids.now) }
+    requires suits { SuitsChange (plain_change [] change.now) (plain_all kids.now) }
     requires bare { BringsBare (plain_filling change.now.filling) }
     ensures { IfOk result (AreWords (plain_dtd dtd.now) (plain_change [] change.now)
         (plain_all kids.now)) }

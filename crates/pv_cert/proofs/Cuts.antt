@@ -5,9 +5,9 @@ use Rattle.std.proofs.lemmas.Bool.Decides.{nat_tests}
 use Rattle.std.proofs.lemmas.List.{append_cancel_left, length-append}
 use Rattle.pv_chars.specs.Fronts.{ContainsBytes, EndsAt}
 use Rattle.pv_script.specs.Edits.{MAX_NUMBER}
-use Rattle.pv_script.specs.Reading.{number_of}
+use Rattle.pv_script.specs.Reading.{number_spelled}
 use Rattle.pv_script.specs.Words.{with_feed}
-use Rattle.pv_script.proofs.Numbers.{decimal-free, number_of-decimal}
+use Rattle.pv_script.proofs.Numbers.{decimal-free, number_spelled-decimal}
 use Rattle.pv_script.proofs.Words.{Free, Free-append, ends-free}
 use Rattle.pv_cert.specs.Fronts.{IsLineOf, IsNumberLine, has_no_feed}
 
@@ -75,21 +75,21 @@ one-line-of word bytes args rest more behind test one other =
     record { fronts = append_cancel_left word args more same.fronts; rests = same.rests }
 
 -- the digits aren't those of a number
-pub no-number-line : (word : List ℕ) (most : ℕ) (bytes digits rest : List ℕ) → has_no_feed word ≡ true → most ≤ MAX_NUMBER → IsLineOf word bytes digits rest → number_of digits ≡ None →
+pub no-number-line : (word : List ℕ) (most : ℕ) (bytes digits rest : List ℕ) → has_no_feed word ≡ true → most ≤ MAX_NUMBER → IsLineOf word bytes digits rest → number_spelled digits ≡ None →
     (n : ℕ) (behind : List ℕ) → IsNumberLine word most bytes n behind → ⊥
 no-number-line word most bytes digits rest test small line none n behind l =
     let same = one-line-of word bytes digits rest (decimal n) behind test line (number-is-line word most bytes n behind small l) in
-    let read = number_of-decimal n (omega (arith, l.within)) in
-    let these = ap number_of same.fronts in
+    let read = number_spelled-decimal n (omega (arith, l.within)) in
+    let these = ap number_spelled same.fronts in
     cc
 
 -- the number is past the most
-pub past-number-line : (word : List ℕ) (most : ℕ) (bytes digits rest : List ℕ) (m : ℕ) → has_no_feed word ≡ true → most ≤ MAX_NUMBER → IsLineOf word bytes digits rest → number_of digits ≡ Some m → most < m →
+pub past-number-line : (word : List ℕ) (most : ℕ) (bytes digits rest : List ℕ) (m : ℕ) → has_no_feed word ≡ true → most ≤ MAX_NUMBER → IsLineOf word bytes digits rest → number_spelled digits ≡ Some m → most < m →
     (n : ℕ) (behind : List ℕ) → IsNumberLine word most bytes n behind → ⊥
 past-number-line word most bytes digits rest m test small line is past n behind l =
     let same = one-line-of word bytes digits rest (decimal n) behind test line (number-is-line word most bytes n behind small l) in
-    let read = number_of-decimal n (omega (arith, l.within)) in
-    let these = ap number_of same.fronts in
+    let read = number_spelled-decimal n (omega (arith, l.within)) in
+    let these = ap number_spelled same.fronts in
     let equal : m ≡ n = cc in
     omega (arith, l.within, equal)
 

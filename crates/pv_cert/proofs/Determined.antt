@@ -11,9 +11,9 @@ use Rattle.pv_rules.specs.declared.sites.Site.{Site}
 use Rattle.pv_rules.specs.declared.sites.Site.TheVariants as site
 use Rattle.pv_script.specs.Edits.{MAX_NUMBER}
 use Rattle.pv_script.specs.Paths.{path_text}
-use Rattle.pv_script.specs.Reading.{path_of}
+use Rattle.pv_script.specs.Reading.{path_spelled}
 use Rattle.pv_script.specs.Words.{with_feed, words}
-use Rattle.pv_script.proofs.PathWords.{path-free, path_of-path_text}
+use Rattle.pv_script.proofs.PathWords.{path-free, path_spelled-path_text}
 use Rattle.pv_tables.specs.Tables.{site_number}
 use Rattle.pv_tables.specs.declared.tables.Entry.{Entry}
 use Rattle.pv_cert.specs.Fronts.{Begins, IsEntryText, IsKind, IsLineOf, IsNumberLine}
@@ -86,9 +86,9 @@ same-list p q x y r s e =
     let one : IsLineOf (codes "list ") bytes (path_text p) x = record { no_feed = path-free 10 p (omega arith) r; whole = refl } in
     let other : IsLineOf (codes "list ") bytes (path_text q) y = record { no_feed = path-free 10 q (omega arith) s; whole = e } in
     let same = one-line-of (codes "list ") bytes (path_text p) x (path_text q) y refl one other in
-    let first = path_of-path_text p r in
-    let second = path_of-path_text q s in
-    let these = ap path_of same.fronts in
+    let first = path_spelled-path_text p r in
+    let second = path_spelled-path_text q s in
+    let these = ap path_spelled same.fronts in
     let paths : p ≡ q = cc in
     record { lines = ap list_line paths; rests = same.rests }
 

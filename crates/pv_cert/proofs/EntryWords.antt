@@ -6,9 +6,9 @@ use Rattle.pv_rules.specs.PlainForms.{plain_site}
 use Rattle.pv_rules.specs.Sites.{PlainSite, content_site, name_site, part_site, rest_site}
 use Rattle.pv_rules.specs.declared.sites.Site.{Site}
 use Rattle.pv_script.specs.Edits.{MAX_NUMBER}
-use Rattle.pv_script.specs.Reading.{number_of}
+use Rattle.pv_script.specs.Reading.{number_spelled}
 use Rattle.pv_script.specs.Words.{with_feed, words}
-use Rattle.pv_script.proofs.Numbers.{decimal-free, number_of-decimal}
+use Rattle.pv_script.proofs.Numbers.{decimal-free, number_spelled-decimal}
 use Rattle.pv_script.proofs.Words.{Free, Free-append}
 use Rattle.pv_tables.specs.Tables.{site_number}
 use Rattle.pv_tables.specs.declared.tables.Entry.{Entry}
@@ -19,11 +19,11 @@ use Rattle.pv_cert.proofs.Cuts.{cut-once, ends-once, feed-behind, holds-none}
 pub no-number-before : (bytes : List ℕ) → (ContainsBytes bytes (32 ∷ []) → ⊥) → (n : ℕ) (rest : List ℕ) → IsNumberBefore bytes n rest → ⊥
 no-number-before bytes none n rest b = holds-none 32 bytes (decimal n) rest none b.whole
 
-pub other-number-before : (bytes word after : List ℕ) → EndsAt (32 ∷ []) bytes word after → number_of word ≡ None → (n : ℕ) (rest : List ℕ) → IsNumberBefore bytes n rest → ⊥
+pub other-number-before : (bytes word after : List ℕ) → EndsAt (32 ∷ []) bytes word after → number_spelled word ≡ None → (n : ℕ) (rest : List ℕ) → IsNumberBefore bytes n rest → ⊥
 other-number-before bytes word after at none n rest b =
     let same = ends-once 32 bytes word after (decimal n) rest at (decimal-free 32 n (omega arith) b.within) b.whole in
-    let read = number_of-decimal n b.within in
-    let these = ap number_of same.fronts in
+    let read = number_spelled-decimal n b.within in
+    let these = ap number_spelled same.fronts in
     cc
 
 -- numbers before a blank are the same
@@ -33,9 +33,9 @@ pub record SameNumber (n m : ℕ) (x y : List ℕ) : Type 0 where
 
 pub same-decimal : (n m : ℕ) → n ≤ MAX_NUMBER → m ≤ MAX_NUMBER → decimal n ≡ decimal m → n ≡ m
 same-decimal n m small tiny is =
-    let one = number_of-decimal n small in
-    let other = number_of-decimal m tiny in
-    let these = ap number_of is in
+    let one = number_spelled-decimal n small in
+    let other = number_spelled-decimal m tiny in
+    let these = ap number_spelled is in
     cc
 
 pub one-number-before : (bytes : List ℕ) (n m : ℕ) (x y : List ℕ) → IsNumberBefore bytes n x → IsNumberBefore bytes m y → SameNumber n m x y
@@ -56,13 +56,13 @@ no-to bytes n rest before none from to value s =
     let same = one-number-before bytes n from rest (decimal to ++ (32 ∷ decimal value)) before (from-before bytes from to value s) in
     none to (decimal value) record { within = s.is_to; whole = same.rests }
 
-pub no-value : (bytes : List ℕ) (n : ℕ) (rest : List ℕ) (m : ℕ) (behind : List ℕ) → IsNumberBefore bytes n rest → IsNumberBefore rest m behind → number_of behind ≡ None →
+pub no-value : (bytes : List ℕ) (n : ℕ) (rest : List ℕ) (m : ℕ) (behind : List ℕ) → IsNumberBefore bytes n rest → IsNumberBefore rest m behind → number_spelled behind ≡ None →
     (from to value : ℕ) → AreSpanAndValue bytes from to value → ⊥
 no-value bytes n rest m behind before next none from to value s =
     let same = one-number-before bytes n from rest (decimal to ++ (32 ∷ decimal value)) before (from-before bytes from to value s) in
     let later = one-number-before rest m to behind (decimal value) next record { within = s.is_to; whole = same.rests } in
-    let read = number_of-decimal value s.is_value in
-    let these = ap number_of later.rests in
+    let read = number_spelled-decimal value s.is_value in
+    let these = ap number_spelled later.rests in
     cc
 
 pub span-and-value : (bytes : List ℕ) (n : ℕ) (rest : List ℕ) (m : ℕ) (behind : List ℕ) (v : ℕ) → IsNumberBefore bytes n rest → IsNumberBefore rest m behind → behind ≡ decimal v → v ≤ MAX_NUMBER →

@@ -4,9 +4,9 @@ use Rattle.std.proofs.lemmas.List.{length-append, take-append-drop, length-take}
 use Rattle.std.proofs.Math.Seq.{drop-append_seam}
 use Rattle.pv_script.specs.Edits.{MAX_NUMBER}
 use Rattle.pv_script.specs.Paths.{path_text}
-use Rattle.pv_script.specs.Reading.{path_of}
+use Rattle.pv_script.specs.Reading.{path_spelled}
 use Rattle.pv_script.specs.Words.{with_feed}
-use Rattle.pv_script.proofs.PathWords.{path-free, path-word, path_of-path_text}
+use Rattle.pv_script.proofs.PathWords.{path-free, path-word, path_spelled-path_text}
 use Rattle.pv_cert.specs.Fronts.{Begins, BeginsNone, IsLineOf, IsNumberLine, has_no_feed}
 use Rattle.pv_cert.specs.Lines.{body_line, list_line}
 use Rattle.pv_cert.specs.Meaning.{MAX_PACK_BYTES}
@@ -67,14 +67,14 @@ list-front bytes path rest begins = record { no_feed = path-free 10 path (omega 
 pub no-list : (bytes : List ℕ) → ((args rest : List ℕ) → IsLineOf (codes "list ") bytes args rest → ⊥) → BeginsNone list_line bytes
 no-list bytes none path rest begins = none (path_text path) rest (list-front bytes path rest begins)
 
-pub other-list : (bytes word after : List ℕ) → IsLineOf (codes "list ") bytes word after → path_of word ≡ None → BeginsNone list_line bytes
+pub other-list : (bytes word after : List ℕ) → IsLineOf (codes "list ") bytes word after → path_spelled word ≡ None → BeginsNone list_line bytes
 other-list bytes word after line none path rest begins =
     let same = one-line-of (codes "list ") bytes word after (path_text path) rest refl line (list-front bytes path rest begins) in
-    let read = path_of-path_text path begins.in_range in
-    let these = ap path_of same.fronts in
+    let read = path_spelled-path_text path begins.in_range in
+    let these = ap path_spelled same.fronts in
     cc
 
-pub begins-list : (bytes word after path : List ℕ) → IsLineOf (codes "list ") bytes word after → path_of word ≡ Some path → Begins bytes (list_line path) after
+pub begins-list : (bytes word after path : List ℕ) → IsLineOf (codes "list ") bytes word after → path_spelled word ≡ Some path → Begins bytes (list_line path) after
 begins-list bytes word after path line is =
     let p = path-word word path is in
     record { in_range = p.within; whole = line.whole ∙ ap (λ l. with_feed (codes "list " ++ l) ++ after) p.text }

@@ -8,7 +8,7 @@ use Rattle.pv_cert.specs.Fronts.{Begins, BeginsNone, BeginsNot}
 use Rattle.pv_cert.specs.Lines.{PackLine, version_line, total_line, mark_line, body_line, list_line, entry_line, end_line}
 use Rattle.pv_cert.specs.Meaning.{Stand, Stands, StandsNone, entries_among}
 use Rattle.pv_cert.specs.Packs.{IsOfTables, MayFollow, last_line, lines_of_table, table_lines}
-use Rattle.pv_cert.specs.Steps.{EndsWithTables, Follows, HasMoreEntries, HasTooManyBehind, IsFaultyBehind, RefusesEntries, RefusesTables, StandsNoEntry, TakesEntries, line_before}
+use Rattle.pv_cert.specs.Steps.{EndsWithTables, Follows, HasEntryBeyond, HasTooManyBehind, IsFaultyBehind, RefusesEntries, RefusesTables, StandsNoEntry, TakesEntries, line_before}
 use Rattle.pv_cert.specs.declared.errors.PackError.{PackError}
 use Rattle.pv_cert.specs.declared.errors.PackError.TheVariants.{Limit, NoMemory, Syntax}
 use Rattle.pv_cert.proofs.Stands.{entries-append, entries-of, last-append, stand-append, stand-more, stand-none}
@@ -77,7 +77,7 @@ entry-read bytes es last rest e more h s = record {
 }
 
 pub entries-full : (bytes : List ℕ) (es : List Entry) (last : Option Entry) (rest : List ℕ) (e : Entry) (more : List ℕ) (most : ℕ) → HaveRead bytes es last rest →
-    ((path : List ℕ) → Stands (line_before path last) rest (entry_line e) more) → length es ≡ most → HasMoreEntries bytes most
+    ((path : List ℕ) → Stands (line_before path last) rest (entry_line e) more) → length es ≡ most → HasEntryBeyond bytes most
 entries-full bytes es last rest e more most h s full = record { es = es; e = e; rest = more; stand = more-stand bytes es last rest e more h s; full = full }
 
 pub entries-taken : (bytes : List ℕ) (es : List Entry) (last : Option Entry) (rest : List ℕ) → HaveRead bytes es last rest → ((path : List ℕ) → StandsNoEntry (line_before path last) rest) → TakesEntries bytes es rest
@@ -133,7 +133,7 @@ table-read bytes ts rest after t more h l e = record {
   none = λ b. rw (lines-more ts t, last-append (Some (body_line b)) (table_lines ts) (lines_of_table t)) (e.none t.path);
 }
 
-pub too-many : (bytes : List ℕ) (ts : List Table) (rest : List ℕ) (path : List ℕ) (after : List ℕ) (most : ℕ) → TablesRead bytes ts rest → Begins rest (list_line path) after → HasMoreEntries after most → most + entries_in ts ≡ most_entries →
+pub too-many : (bytes : List ℕ) (ts : List Table) (rest : List ℕ) (path : List ℕ) (after : List ℕ) (most : ℕ) → TablesRead bytes ts rest → Begins rest (list_line path) after → HasEntryBeyond after most → most + entries_in ts ≡ most_entries →
     (b : List ℕ) → HasTooManyBehind (Some (body_line b)) bytes
 too-many bytes ts rest path after most h l m all b = record {
   lines = table_lines ts ++ list_line path ∷ map entry_line m.es;

@@ -35,7 +35,7 @@ pub record TakesEntries (bytes : List ℕ) (es : List Entry) (rest : List ℕ) :
       StandsNoEntry (last_line (Some (list_line path)) (map entry_line es)) rest
 
 -- One entry more than so many stands at the front behind the head of a table.
-pub record HasMoreEntries (bytes : List ℕ) (most : ℕ) : Type 0 where
+pub record HasEntryBeyond (bytes : List ℕ) (most : ℕ) : Type 0 where
   pub es : List Entry
   pub e : Entry
   pub rest : List ℕ
@@ -46,7 +46,7 @@ pub record HasMoreEntries (bytes : List ℕ) (most : ℕ) : Type 0 where
 -- what the error tells of the entries behind the head of a table, which may be so many
 abbrev pub RefusesEntries : List ℕ → ℕ → PackError → Type 0
 RefusesEntries bytes most (Syntax k) = ⊥
-RefusesEntries bytes most Limit = HasMoreEntries bytes most
+RefusesEntries bytes most Limit = HasEntryBeyond bytes most
 RefusesEntries bytes most NoMemory = Unit {0}
 
 -- Behind this line, where so many stand before it, the fault is behind so many.

@@ -5,7 +5,7 @@ use Rattle.std.specs.Char.{to_ascii_lowercase}
 use Rattle.std.proofs.lemmas.Bool.{and_parts}
 use Rattle.std.proofs.lemmas.Slice.Eq.{bytes_eq-Decides}
 use Rattle.pv_chars.specs.Spaces.{is_space, IsOptionalSpace}
-use Rattle.pv_chars.specs.Characters.{is_char, IsChars, TakesAll}
+use Rattle.pv_chars.specs.Characters.{is_char, IsChars, TakesChars}
 use Rattle.pv_chars.specs.Names.{TakesName}
 use Rattle.pv_chars.specs.Fronts.{Begins, BeginsNone, ContainsBytes, EndsAt}
 use Rattle.pv_chars.specs.Markup.{IsComment, IsInstruction, IsBehindTarget}
@@ -23,7 +23,7 @@ use Rattle.pv_chars.proofs.NameBytes.{behind_all_takes, name_at_takes, no_name}
 chars_are_scalars : PassScalars is_char
 chars_are_scalars = char_is_scalar
 
-chars_by : (bytes rest : List ℕ) → TakesAll is_char bytes rest → is_nothing rest ≡ true → IsChars bytes
+chars_by : (bytes rest : List ℕ) → TakesChars is_char bytes rest → is_nothing rest ≡ true → IsChars bytes
 chars_by bytes [] takes e = subst IsChars (sym (takes.whole ∙ append-nil takes.front)) takes.are_all
 chars_by bytes (b ∷ bs) takes e = cc
 
@@ -31,7 +31,7 @@ pub chars_are : (bytes : List ℕ) → is_chars bytes ≡ true → IsChars bytes
 unfolding is_chars
 chars_are bytes e = chars_by bytes (behind_all is_char (length bytes) bytes) (behind_all_takes is_char chars_are_scalars (length bytes) bytes (omega arith)) e
 
-chars_end : (bytes rest : List ℕ) → TakesAll is_char bytes rest → IsChars bytes → is_nothing rest ≡ true
+chars_end : (bytes rest : List ℕ) → TakesChars is_char bytes rest → IsChars bytes → is_nothing rest ≡ true
 chars_end bytes rest takes is =
     let same = same_all is_char takes.front bytes rest [] takes.are_all is takes.ends (nothing_begins is_char) (sym takes.whole ∙ sym (append-nil bytes)) in
     ap is_nothing same.1
@@ -94,15 +94,15 @@ closes_comment bytes inside text end e ends true c (Some rest) is = comment_by b
 
 pub tells_comment : (bytes : List ℕ) → TellsComment bytes (comment_at bytes)
 unfolding comment_at
-tells_comment bytes = opens (after_bytes (codes "<!--") bytes) refl
+tells_comment bytes = unit_opens (after_bytes (codes "<!--") bytes) refl
   where
     ends_by : (inside : List ℕ) → bytes ≡ codes "<!--" ++ inside → (o : Option (List ℕ × List ℕ)) → Finds (codes "--") inside o → TellsComment bytes (o >>= λ ends. cond (is_chars ends.0) (after_bytes (codes ">") ends.1) None)
     ends_by inside e None f = no_comment_end bytes inside e f
     ends_by inside e (Some r) f = closes_comment bytes inside r.0 r.1 e f (is_chars r.0) refl (after_bytes (codes ">") r.1) refl
 
-    opens : (o : Option (List ℕ)) → after_bytes (codes "<!--") bytes ≡ o → TellsComment bytes (o >>= λ inside. up_to (codes "--") inside >>= λ ends. cond (is_chars ends.0) (after_bytes (codes ">") ends.1) None)
-    opens None is = no_comment_start bytes (no_start (codes "<!--") bytes is)
-    opens (Some inside) is = ends_by inside (after_bytes_takes (codes "<!--") bytes inside is) (up_to (codes "--") inside) (finds 45 (45 ∷ []) inside)
+    unit_opens : (o : Option (List ℕ)) → after_bytes (codes "<!--") bytes ≡ o → TellsComment bytes (o >>= λ inside. up_to (codes "--") inside >>= λ ends. cond (is_chars ends.0) (after_bytes (codes ">") ends.1) None)
+    unit_opens None is = no_comment_start bytes (no_start (codes "<!--") bytes is)
+    unit_opens (Some inside) is = ends_by inside (after_bytes_takes (codes "<!--") bytes inside is) (up_to (codes "--") inside) (finds 45 (45 ∷ []) inside)
 
 -- processing instructions
 abbrev pub TellsInstruction : List ℕ → Option (List ℕ) → Type 0
@@ -127,7 +127,7 @@ closed target ends = cond (not (is_xml target) && may_follow_target ends.0) (Som
 
 pub tells_instruction : (bytes : List ℕ) → TellsInstruction bytes (instruction_at bytes)
 unfolding instruction_at
-tells_instruction bytes = opens (after_bytes (codes "<?") bytes) refl
+tells_instruction bytes = unit_opens (after_bytes (codes "<?") bytes) refl
   where
     ends_by : (start target after : List ℕ) → bytes ≡ codes "<?" ++ start → TakesName start target after → (o : Option (List ℕ × List ℕ)) → Finds (codes "?>") after o → TellsInstruction bytes (o >>= closed target)
     ends_by start target after e named None f = no_instruction_end bytes start target after e named f
@@ -137,9 +137,9 @@ tells_instruction bytes = opens (after_bytes (codes "<?") bytes) refl
     named_by start e None is = no_instruction_name bytes start e (no_name start is)
     named_by start e (Some t) is = ends_by start t.0 t.1 e (name_at_takes start t.0 t.1 is) (up_to (codes "?>") t.1) (finds 63 (62 ∷ []) t.1)
 
-    opens : (o : Option (List ℕ)) → after_bytes (codes "<?") bytes ≡ o → TellsInstruction bytes (o >>= λ start. name_at start >>= λ target. up_to (codes "?>") target.1 >>= closed target.0)
-    opens None is = no_instruction_start bytes (no_start (codes "<?") bytes is)
-    opens (Some start) is = named_by start (after_bytes_takes (codes "<?") bytes start is) (name_at start) refl
+    unit_opens : (o : Option (List ℕ)) → after_bytes (codes "<?") bytes ≡ o → TellsInstruction bytes (o >>= λ start. name_at start >>= λ target. up_to (codes "?>") target.1 >>= closed target.0)
+    unit_opens None is = no_instruction_start bytes (no_start (codes "<?") bytes is)
+    unit_opens (Some start) is = named_by start (after_bytes_takes (codes "<?") bytes start is) (name_at start) refl
 
 pub comment_takes : (bytes rest : List ℕ) → comment_at bytes ≡ Some rest → Begins IsComment bytes rest
 comment_takes = found IsComment comment_at tells_comment one_comment
@@ -161,5 +161,5 @@ instruction_opens text is = (is.target ++ (is.behind ++ codes "?>"), is.whole)
 
 -- an item that opens with some bytes takes some
 pub item_shorter : {A : Type 0} (IsItem : List ℕ → Type 0) (b : ℕ) (front : List ℕ) → ((text : List ℕ) → IsItem text → (inside : List ℕ) × (text ≡ (b ∷ front) ++ inside)) → (f : A → List ℕ) (bytes : List ℕ) (o : Option A) → MatchOption o (BeginsNone IsItem bytes) (λ r. Begins IsItem bytes (f r)) → IfSome o (λ r. length (f r) < length bytes)
-item_shorter IsItem b front opens f bytes None m = tt
-item_shorter IsItem b front opens f bytes (Some r) m = let is = opens m.item m.is_item in omega (arith, ap length m.whole, length-append m.item (f r), ap length is.1, length-append (b ∷ front) is.0)
+item_shorter IsItem b front unit_opens f bytes None m = tt
+item_shorter IsItem b front unit_opens f bytes (Some r) m = let is = unit_opens m.item m.is_item in omega (arith, ap length m.whole, length-append m.item (f r), ap length is.1, length-append (b ∷ front) is.0)

@@ -8,7 +8,7 @@ use Rattle.std.proofs.lemmas.Str.{encode_same, encode_ascii, encodes-append, len
 use Rattle.std.specs.List.{list_all}
 use Rattle.std.specs.Char.{IsScalar}
 use lib.Utf8.{encode, encodes}
-use Rattle.pv_chars.specs.Characters.{is_char, is_ascii_char, BeginsWith, BeginsWithNone, BeginsNo, AreAll, TakesAll}
+use Rattle.pv_chars.specs.Characters.{is_char, is_ascii_char, BeginsWith, BeginsWithNone, BeginsNo, AreAll, TakesChars}
 
 pub none_in_nothing : (test : ℕ → Bool) → AreAll test []
 none_in_nothing test = record { codes = []; pass = refl; spelled = refl }
@@ -74,7 +74,7 @@ cut_at bytes front rest whole =
     (rw (count, whole) (take_at front rest (length front) refl), rw (count, whole) (drop_at front rest (length front) refl))
 
 -- As many as pass stand at the front and this after them: all pass exactly where this is empty.
-pub all_where_empty : (test : ℕ → Bool) (bytes rest : List ℕ) (empty : Bool) → TakesAll test bytes rest → empty ≡ (length rest == 0) → (IsTrue empty → AreAll test bytes) × (AreAll test bytes → IsTrue empty)
+pub all_where_empty : (test : ℕ → Bool) (bytes rest : List ℕ) (empty : Bool) → TakesChars test bytes rest → empty ≡ (length rest == 0) → (IsTrue empty → AreAll test bytes) × (AreAll test bytes → IsTrue empty)
 all_where_empty test bytes [] empty taken e = ((λ t. rw (taken.whole, append-nil taken.front) taken.are_all), (λ all. e))
 all_where_empty test bytes (b ∷ bs) empty taken e =
     let full : (length (b ∷ bs) == 0) ≡ false = ne_eqb (length (b ∷ bs)) 0 (λ none. omega arith) in

@@ -58,10 +58,10 @@ byte_nowhere byte bytes none holds = none (length holds.before) (omega arith) (o
 pub byte_ends : (byte : ℕ) (bytes before found after : List ℕ) (k : ℕ) → Passes (is_byte byte) bytes k → NoneBefore (Passes (is_byte byte) bytes) 0 (length bytes) k → before ≡ take k bytes → found ≡ drop k bytes → after ≡ drop 1 found → EndsAt (byte ∷ []) bytes before after
 byte_ends byte bytes before found after k passes none front back behind =
     let at : get_or bytes k 0 ≡ byte = eqb-true _ _ passes in
-    let cut : bytes ≡ take k bytes ++ (get_or bytes k 0 ∷ drop (suc k) bytes) = split_at bytes k 0 none.high in
+    let cut_units : bytes ≡ take k bytes ++ (get_or bytes k 0 ∷ drop (suc k) bytes) = split_at bytes k 0 none.high in
     let rest : after ≡ drop (suc k) bytes = behind ∙ ap (drop 1) back ∙ drop-drop 1 k bytes ∙ ap (λ n. drop n bytes) (add-one k) in
     record {
-      whole = cut ∙ ap (λ b. take k bytes ++ (b ∷ drop (suc k) bytes)) at ∙ ap (λ l. l ++ (byte ∷ drop (suc k) bytes)) (sym front) ∙ ap (λ l. before ++ (byte ∷ l)) (sym rest);
+      whole = cut_units ∙ ap (λ b. take k bytes ++ (b ∷ drop (suc k) bytes)) at ∙ ap (λ l. l ++ (byte ∷ drop (suc k) bytes)) (sym front) ∙ ap (λ l. before ++ (byte ∷ l)) (sym rest);
       first = λ other more whole.
           let least = not_less k (length other) (λ less. none.before (length other) (omega arith) less (byte_behind byte bytes other more whole)) in
           omega (arith, ap length front, length-take k bytes);

@@ -196,8 +196,8 @@ pub AllUnits-append : (us vs : List (List ℕ)) → AllUnits us → AllUnits vs 
 AllUnits-append [] vs a b = b
 AllUnits-append (u ∷ us) vs a b = (a.0, AllUnits-append us vs a.1 b)
 
-pub cut-append : (bytes other both : List ℕ) (count more : ℕ) → IsCut bytes count → IsCut other more → both ≡ bytes ++ other → IsCut both (count + more)
-cut-append bytes other both count more a b e = record {
+pub cut_units-append : (bytes other both : List ℕ) (count more : ℕ) → IsCut bytes count → IsCut other more → both ≡ bytes ++ other → IsCut both (count + more)
+cut_units-append bytes other both count more a b e = record {
   units = a.units ++ b.units;
   are_units = AllUnits-append a.units b.units a.are_units b.are_units;
   some = λ none. a.some (nil_from_length a.units (omega (arith, ap length none, length-append a.units b.units)));
@@ -206,9 +206,9 @@ cut-append bytes other both count more a b e = record {
 }
 
 pub units_in-append : (bytes other both : List ℕ) (count more : ℕ) → (a : IsCut bytes count) → (b : IsCut other more) → both ≡ bytes ++ other → units_in both ≡ units_in bytes ++ units_in other
-unfolding cut-append
+unfolding cut_units-append
 units_in-append bytes other both count more a b e =
-    cut_is both (count + more) (cut-append bytes other both count more a b e) ∙ (λ i. sym (cut_is bytes count a) i ++ sym (cut_is other more b) i)
+    cut_is both (count + more) (cut_units-append bytes other both count more a b e) ∙ (λ i. sym (cut_is bytes count a) i ++ sym (cut_is other more b) i)
 
 AllUnits-take : (n : ℕ) (us : List (List ℕ)) → AllUnits us → AllUnits (take n us)
 AllUnits-take zero us a = tt

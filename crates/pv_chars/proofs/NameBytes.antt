@@ -8,7 +8,7 @@ use Rattle.std.proofs.lemmas.List.Folds.{list_all-append}
 use Rattle.std.proofs.lemmas.Str.{len_utf8_bounds, length-encode}
 use lib.Utf8.{encode, encodes, next}
 use Rattle.pv_chars.specs.Spaces.{is_space, IsOptionalSpace}
-use Rattle.pv_chars.specs.Characters.{is_name_start, is_name_char, BeginsWith, BeginsNo, TakesAll}
+use Rattle.pv_chars.specs.Characters.{is_name_start, is_name_char, BeginsWith, BeginsNo, TakesChars}
 use Rattle.pv_chars.specs.Names.{IsName, TakesName, BeginsNoName}
 use Rattle.pv_chars.specs.Scan.{after_bytes}
 use Rattle.pv_chars.specs.Utf8.{char_at}
@@ -126,14 +126,14 @@ no_name_char rest ends c more pass whole = by (encode c) refl (char_bytes c pass
         cc
 
 -- what stands behind all characters that pass
-behind_by : (test : ℕ → Bool) → PassScalars test → (bytes : List ℕ) (more : List ℕ → List ℕ) (o : Option (ℕ × List ℕ)) → char_at bytes ≡ o → ((c : ℕ) (rest : List ℕ) → length rest < length bytes → TakesAll test rest (more rest)) → TakesAll test bytes (behind_char test more bytes o)
+behind_by : (test : ℕ → Bool) → PassScalars test → (bytes : List ℕ) (more : List ℕ → List ℕ) (o : Option (ℕ × List ℕ)) → char_at bytes ≡ o → ((c : ℕ) (rest : List ℕ) → length rest < length bytes → TakesChars test rest (more rest)) → TakesChars test bytes (behind_char test more bytes o)
 behind_by test scalars bytes more None is below = record { front = []; are_all = none_in_nothing test; whole = refl; ends = ends_at_none test bytes scalars (λ c rest b. let some = char_at-encode c rest b.scalar in let at = ap char_at b.whole in cc) }
 behind_by test scalars bytes more (Some x) is below = passes (test x.0) refl
   where
     begun : BeginsWith bytes x.0 x.1
     begun = char_at_takes bytes x.0 x.1 is
 
-    passes : (pass : Bool) → test x.0 ≡ pass → TakesAll test bytes (cond pass (more x.1) bytes)
+    passes : (pass : Bool) → test x.0 ≡ pass → TakesChars test bytes (cond pass (more x.1) bytes)
     passes true p =
         let others = below x.0 x.1 (begins_shorter bytes x.0 x.1 begun) in
         record {
@@ -144,7 +144,7 @@ behind_by test scalars bytes more (Some x) is below = passes (test x.0) refl
         }
     passes false p = record { front = []; are_all = none_in_nothing test; whole = refl; ends = ends_at_other test bytes x.1 x.0 begun p }
 
-pub behind_all_takes : (test : ℕ → Bool) → PassScalars test → (steps : ℕ) (bytes : List ℕ) → length bytes ≤ steps → TakesAll test bytes (behind_all test steps bytes)
+pub behind_all_takes : (test : ℕ → Bool) → PassScalars test → (steps : ℕ) (bytes : List ℕ) → length bytes ≤ steps → TakesChars test bytes (behind_all test steps bytes)
 unfolding behind_all
 behind_all_takes test scalars zero [] few = record { front = []; are_all = none_in_nothing test; whole = refl; ends = nothing_begins test }
 behind_all_takes test scalars zero (b ∷ bs) few = absurd (omega arith)

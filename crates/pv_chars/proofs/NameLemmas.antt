@@ -9,7 +9,7 @@ use Rattle.std.proofs.lemmas.Bool.{and_parts, and_from}
 use Rattle.std.specs.List.{list_all}
 use Rattle.std.specs.Str.{chars, is_utf8}
 use lib.Utf8.{encode, encodes, scalar, scalars}
-use Rattle.pv_chars.specs.Characters.{BeginsWith, BeginsWithNone, AreAll, TakesAll, is_name_start, is_name_char}
+use Rattle.pv_chars.specs.Characters.{BeginsWith, BeginsWithNone, AreAll, TakesChars, is_name_start, is_name_char}
 use Rattle.pv_chars.specs.Names.{IsName, TakesName, BeginsNoName, are_name_codes, is_name}
 use Rattle.pv_chars.proofs.CharacterLemmas.{PassScalars, nothing_begins, same_all, cut_at}
 use Rattle.pv_chars.proofs.Ranges.{char_is_scalar, name_char_is_char, name_start_is_name_char}
@@ -18,12 +18,12 @@ pub name_chars_are_scalars : PassScalars is_name_char
 name_chars_are_scalars c e = char_is_scalar c (name_char_is_char c e)
 
 -- a Name is its first character and the others, and it ends where they end
-pub name_by : (bytes others rest : List ℕ) (c : ℕ) → BeginsWith bytes c others → is_name_start c ≡ true → TakesAll is_name_char others rest → TakesName bytes (take (length bytes - length rest) bytes) (drop (length bytes - length rest) bytes)
+pub name_by : (bytes others rest : List ℕ) (c : ℕ) → BeginsWith bytes c others → is_name_start c ≡ true → TakesChars is_name_char others rest → TakesName bytes (take (length bytes - length rest) bytes) (drop (length bytes - length rest) bytes)
 name_by bytes others rest c begins start taken =
     let name : IsName (encode c ++ taken.front) = record { first = c; others = taken.front; is_start = start; are_name_chars = taken.are_all; whole = refl } in
     let whole : bytes ≡ (encode c ++ taken.front) ++ rest = begins.whole ∙ ap (λ l. encode c ++ l) taken.whole ∙ sym (append_assoc (encode c) taken.front rest) in
-    let cut = cut_at bytes (encode c ++ taken.front) rest whole in
-    rw (cut.0, cut.1) record { is_name = name; whole = whole; ends = taken.ends }
+    let cut_units = cut_at bytes (encode c ++ taken.front) rest whole in
+    rw (cut_units.0, cut_units.1) record { is_name = name; whole = whole; ends = taken.ends }
 
 pub no_name_by_start : (bytes others : List ℕ) (c : ℕ) → BeginsWith bytes c others → is_name_start c ≡ false → BeginsNoName bytes
 no_name_by_start bytes others c begins other name rest is whole =
@@ -53,7 +53,7 @@ pub whole_is_name : (bytes name : List ℕ) → TakesName bytes name [] → IsNa
 whole_is_name bytes name taken = rw (taken.whole, append-nil name) taken.is_name
 
 -- where the bytes are cut as a slice is
-pub name_cut : (bytes others rest name more : List ℕ) (c : ℕ) → BeginsWith bytes c others → is_name_start c ≡ true → TakesAll is_name_char others rest → name ≡ take (length bytes - length rest) bytes → more ≡ drop (length bytes - length rest) bytes → TakesName bytes name more
+pub name_cut : (bytes others rest name more : List ℕ) (c : ℕ) → BeginsWith bytes c others → is_name_start c ≡ true → TakesChars is_name_char others rest → name ≡ take (length bytes - length rest) bytes → more ≡ drop (length bytes - length rest) bytes → TakesName bytes name more
 name_cut bytes others rest name more c begins start taken front back = rw (front, back) (name_by bytes others rest c begins start taken)
 
 -- a Name stands at the front and this after it: the bytes are a Name exactly where this is empty

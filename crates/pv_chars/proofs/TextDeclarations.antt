@@ -22,7 +22,7 @@ use Rattle.pv_chars.proofs.DeclarationLemmas.{Passes, PassesParts, text_decl_by,
 use Rattle.pv_chars.proofs.SpaceLemmas.{space_ends_name}
 use Rattle.pv_chars.proofs.NameLemmas.{same_name}
 use Rattle.pv_chars.proofs.InstructionLemmas.{instruction_ends}
-use Rattle.pv_chars.specs.CharReading.{is_nothing, up_to, quoted_at, part_at, valued_at, version_by, is_version_num, is_enc_name, is_yes_or_no, passed, ended_at, text_declaration_at}
+use Rattle.pv_chars.specs.CharReading.{is_nothing, up_to, quoted_at, declaration_part_at, valued_at, version_by, is_version_num, is_enc_name, is_yes_or_no, passed, ended_at, text_declaration_at}
 use Rattle.pv_chars.proofs.NameBytes.{one_byte}
 use Rattle.pv_chars.proofs.OneFront.{found, begun_is_read}
 use Rattle.pv_chars.proofs.CharFacts.{Finds, finds, no_start}
@@ -77,8 +77,8 @@ module _ (word : List ℕ) (some : word ≢ []) (black : begins is_space word �
     at_blank None is = no_part_blank word bytes some black is
     at_blank (Some start) is = at_word start is (after_bytes word start) refl
 
-    tells_part : TellsPart (part_at word bytes)
-    unfolding part_at
+    tells_part : TellsPart (declaration_part_at word bytes)
+    unfolding declaration_part_at
     tells_part = at_blank (after_blank bytes) refl
 
   module _ (IsValue : List ℕ → Type 0) (test : List ℕ → Bool) (yes : (value : List ℕ) → test value ≡ true → IsValue value) (must : (value : List ℕ) → IsValue value → test value ≡ true) (bytes : List ℕ) where
@@ -92,7 +92,7 @@ module _ (word : List ℕ) (some : word ≢ []) (black : begins is_space word �
 
     tells_valued : MatchOption (valued_at word test bytes) (BeginsNone (IsPartOf word IsValue) bytes) (Begins (IsPartOf word IsValue) bytes)
     unfolding valued_at
-    tells_valued = valued_by (part_at word bytes) (tells_part bytes)
+    tells_valued = valued_by (declaration_part_at word bytes) (tells_part bytes)
 
     passes_by : (o : Option (List ℕ)) → MatchOption o (BeginsNone (IsPartOf word IsValue) bytes) (Begins (IsPartOf word IsValue) bytes) → Passes (IsPartOf word IsValue) bytes (unwrap_or o bytes)
     passes_by None m = inr (m, refl)
@@ -137,7 +137,7 @@ either_must a b x y (inr e) = or_right (bytes_eq a x) (bytes_eq b y) ((bytes_eq-
 abbrev pub TellsDeclaration : List ℕ → Option (List ℕ) → Type 0
 TellsDeclaration bytes o = MatchOption o (BeginsNone IsTextDecl bytes) (Begins IsTextDecl bytes)
 
-module _ (bytes start : List ℕ) (opens : bytes ≡ codes "<?xml" ++ start) where
+module _ (bytes start : List ℕ) (unit_opens : bytes ≡ codes "<?xml" ++ start) where
   abbrev version : List ℕ
   version = passed (codes "version") is_version_num start
 
@@ -155,10 +155,10 @@ module _ (bytes start : List ℕ) (opens : bytes ≡ codes "<?xml" ++ start) whe
   }
 
   ended : (none : Bool) → nat_eq (length end) (length start) ≡ none → (o : Option (List ℕ)) → after_bytes (codes "?>") (after_space end) ≡ o → TellsDeclaration bytes (cond none None o)
-  ended true e o is = no_text_decl_parts bytes start version encoding end opens parts ((Decides-eqb (length end) (length start)).0 e)
-  ended false e None is = no_text_decl_end bytes start version encoding end opens parts (no_start (codes "?>") (after_space end) is)
+  ended true e o is = no_text_decl_parts bytes start version encoding end unit_opens parts ((Decides-eqb (length end) (length start)).0 e)
+  ended false e None is = no_text_decl_end bytes start version encoding end unit_opens parts (no_start (codes "?>") (after_space end) is)
   ended false e (Some rest) is =
-      text_decl_by bytes start version encoding end rest opens record { first = parts.first; second = parts.second; third = parts.third; closes = after_bytes_takes (codes "?>") (after_space end) rest is }
+      text_decl_by bytes start version encoding end rest unit_opens record { first = parts.first; second = parts.second; third = parts.third; closes = after_bytes_takes (codes "?>") (after_space end) rest is }
       (λ same. let yes = (Decides-eqb (length end) (length start)).1 same in cc)
 
   tells_ended : TellsDeclaration bytes (ended_at start end)

@@ -77,8 +77,8 @@ quoted_at [] = None
 quoted_at (b ∷ bs) = if is_quote b then up_to (b ∷ []) bs else None
 
 -- the value of the part of a declaration with this word, and what stands after it
-unfoldable pub part_at : List ℕ → List ℕ → Option (List ℕ × List ℕ)
-part_at word bytes = do
+unfoldable pub declaration_part_at : List ℕ → List ℕ → Option (List ℕ × List ℕ)
+declaration_part_at word bytes = do
   start ← after_blank bytes
   named ← after_bytes word start
   valued ← after_bytes (codes "=") (after_space named)
@@ -87,7 +87,7 @@ part_at word bytes = do
 -- what stands after such a part whose value passes the test
 unfoldable pub valued_at : List ℕ → (List ℕ → Bool) → List ℕ → Option (List ℕ)
 valued_at word is_value bytes = do
-  found ← part_at word bytes
+  found ← declaration_part_at word bytes
   if is_value found.0 then Some found.1 else None
 
 abbrev pub version_by : Option (List ℕ) → Bool

@@ -81,7 +81,7 @@ abbrev pub IsChars : List ℕ → Type 0
 IsChars bytes = AreAll is_char bytes
 
 -- As many code points as pass the test stand at the front, and this stands after them.
-pub record TakesAll (test : ℕ → Bool) (bytes rest : List ℕ) : Type 0 where
+pub record TakesChars (test : ℕ → Bool) (bytes rest : List ℕ) : Type 0 where
   pub front : List ℕ
   pub are_all : AreAll test front
   pub whole : bytes ≡ front ++ rest

@@ -110,19 +110,20 @@ AllUnits (u ∷ us) = IsUnit u × AllUnits us
 abbrev pub goes_on : ℕ → List ℕ × List (List ℕ) → List ℕ × List (List ℕ)
 goes_on b r = (b ∷ r.0, r.1)
 
-abbrev pub opens : ℕ → List ℕ × List (List ℕ) → List ℕ × List (List ℕ)
-opens b r = ([], (b ∷ r.0) ∷ r.1)
+abbrev pub unit_opens : ℕ → List ℕ × List (List ℕ) → List ℕ × List (List ℕ)
+unit_opens b r = ([], (b ∷ r.0) ∷ r.1)
 
 -- What the bytes of a text add to the unit before them, which may be an open reference, and the
 -- units behind it: a reference goes on to its `;`, and a character as long as bytes continue it.
-abbrev pub cut : Bool → List ℕ → List ℕ × List (List ℕ)
-cut in_reference [] = ([], [])
-cut true (b ∷ bs) = goes_on b (cut (not (b == 59)) bs)
-cut false (b ∷ bs) = if continues b then goes_on b (cut false bs) else opens b (cut (b == 38) bs)
+abbrev pub cut_units : Bool → List ℕ → List ℕ × List (List ℕ)
+cut_units in_reference [] = ([], [])
+cut_units true (b ∷ bs) = goes_on b (cut_units (not (b == 59)) bs)
+cut_units false (b ∷ bs) =
+    if continues b then goes_on b (cut_units false bs) else unit_opens b (cut_units (b == 38) bs)
 
 -- the units of a text
 unfoldable pub units_in : List ℕ → List (List ℕ)
-units_in bytes = (cut false bytes).1
+units_in bytes = (cut_units false bytes).1
 
 -- These bytes are so many units, and at least one.
 pub record IsCut (bytes : List ℕ) (count : ℕ) : Type 0 where

@@ -3,7 +3,7 @@
 ghost use Rattle.std.specs.Prelude.{◌≡◌, ◌↔◌, IsTrue};
 ghost use Rattle.std.specs.List.{list_all};
 ghost use Rattle.pv_chars.specs.Characters.{is_char, is_ascii_char, is_name_start, is_name_char};
-ghost use Rattle.pv_chars.specs.Characters.{IsChars, TakesAll};
+ghost use Rattle.pv_chars.specs.Characters.{IsChars, TakesChars};
 
 use crate::utf8::char_at;
 
@@ -37,7 +37,7 @@ pub fn is_name_char(c: u32) -> bool
 
 /// What stands after the Chars at the front.
 fn after_chars(bytes: &[u8]) -> &[u8]
-    ensures { TakesAll is_char bytes.now result.now }
+    ensures { TakesChars is_char bytes.now result.now }
 {
     let mut rest = bytes;
     'chars: while let Some((c, more)) = char_at(rest) {

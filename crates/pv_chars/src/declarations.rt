@@ -31,7 +31,7 @@ pub fn quoted_at(bytes: &[u8]) -> Option<(&[u8], &[u8])>
 }
 
 /// The value of the part with this word at the front, and what stands after it.
-pub fn part_at<'a>(word: &[u8], bytes: &'a [u8]) -> Option<(&'a [u8], &'a [u8])>
+pub fn declaration_part_at<'a>(word: &[u8], bytes: &'a [u8]) -> Option<(&'a [u8], &'a [u8])>
     requires some { word.now ≢ [] }
     requires black { begins is_space word.now ≡ false }
     ensures { MatchOption result (BeginsNoPart word.now bytes.now)
@@ -77,7 +77,7 @@ pub fn after_version(bytes: &[u8]) -> Option<&[u8]>
     ensures { MatchOption result (BeginsNone IsVersionInfo bytes.now)
         (λ r. Begins IsVersionInfo bytes.now r.now) }
 {
-    let (value, rest) = part_at(b"version", bytes)?;
+    let (value, rest) = declaration_part_at(b"version", bytes)?;
     if !is_version_num(value) {
         return None;
     }
@@ -89,7 +89,7 @@ pub fn after_encoding(bytes: &[u8]) -> Option<&[u8]>
     ensures { MatchOption result (BeginsNone IsEncodingDecl bytes.now)
         (λ r. Begins IsEncodingDecl bytes.now r.now) }
 {
-    let (value, rest) = part_at(b"encoding", bytes)?;
+    let (value, rest) = declaration_part_at(b"encoding", bytes)?;
     if !is_enc_name(value) {
         return None;
     }
@@ -101,7 +101,7 @@ pub fn after_standalone(bytes: &[u8]) -> Option<&[u8]>
     ensures { MatchOption result (BeginsNone IsStandaloneDecl bytes.now)
         (λ r. Begins IsStandaloneDecl bytes.now r.now) }
 {
-    let (value, rest) = part_at(b"standalone", bytes)?;
+    let (value, rest) = declaration_part_at(b"standalone", bytes)?;
     if !is_yes_or_no(value) {
         return None;
     }

@@ -1,7 +1,7 @@
 //! Names.
 
 ghost use Rattle.std.specs.Prelude.{◌≡◌, ◌<◌, ◌≤◌, ◌↔◌, length, IfSome, IsTrue, MatchOption};
-ghost use Rattle.pv_chars.specs.Characters.{is_name_char, TakesAll};
+ghost use Rattle.pv_chars.specs.Characters.{is_name_char, TakesChars};
 ghost use Rattle.pv_chars.specs.Names.{IsName, TakesName, BeginsNoName, is_name};
 
 use crate::characters::{is_name_char, is_name_start};
@@ -9,7 +9,7 @@ use crate::utf8::char_at;
 
 /// What stands after the NameChars at the front.
 fn after_name_chars(bytes: &[u8]) -> &[u8]
-    ensures taken { TakesAll is_name_char bytes.now result.now }
+    ensures taken { TakesChars is_name_char bytes.now result.now }
     ensures within { length result.now ≤ length bytes.now }
 {
     let mut rest = bytes;

@@ -212,7 +212,7 @@ impl Units {
     }
 
     /// The units of both, this text's first.
-    pub fn joined(&self, alloc: Global, other: &Units) -> Result<Units, NoMemory>
+    pub fn join(&self, alloc: Global, other: &Units) -> Result<Units, NoMemory>
         ensures { IfOk result (λ u. u ≡ self.now ++ other.now) }
     {
         let mut bytes = Vec::with_capacity(alloc, self.bytes.len() + other.bytes.len())?;

@@ -7,7 +7,7 @@ use Rattle.pv_cache.proofs.Alike.{unmarked_as}
 use Rattle.pv_cache.proofs.OtherMarks.{view_as}
 use Rattle.pv_complete.specs.Completing.{IsLeastCompletion}
 use Rattle.pv_complete.specs.Needing.{AreLiveVerdicts}
-use Rattle.pv_complete.specs.Growing.{Grows, IsGrownText, KeepsEnding, beside, grows_kept, grows_leaf, grows_new, grows_none}
+use Rattle.pv_complete.specs.Growing.{Grows, IsGrownText, KeepsEnding, trees_and, grows_kept, grows_leaf, grows_new, grows_none}
 use Rattle.pv_dtd.specs.Plain.{PlainDtd}
 use Rattle.pv_dtd.specs.Proper.{IsProperDtd}
 use Rattle.pv_missing.specs.Completing.{Completes}
@@ -88,7 +88,7 @@ module _ {M N : Type 0} (f : M → N) where
     completes = completes_as g root doc (record doc { root = c.tree }) marks count c.completes;
   }
 
-  beside_as : (a b : Forest M) → map_marks_all f (beside a b) ≡ beside (map_marks_all f a) (map_marks_all f b)
+  beside_as : (a b : Forest M) → map_marks_all f (trees_and a b) ≡ trees_and (map_marks_all f a) (map_marks_all f b)
   beside_as no_trees b = refl
   beside_as (tree t a) b = ap (λ rest. tree (map_marks f t) rest) (beside_as a b)
 

@@ -6,7 +6,7 @@ use Rattle.pv_script.proofs.RawLines.{raw_lines_of-part}
 use Rattle.pv_script.proofs.Words.{Free-append}
 use Rattle.pv_script.specs.Commands.{SpellsCommand}
 use Rattle.pv_script.specs.Lines.{FEED, HasNoFeed, lines_of, raw_lines_of, with_feeds, without_returns}
-use Rattle.pv_script.specs.Taking.{HeldLine, MAX_LINE_BYTES, nothing_held, begun_line, TakesAll, TakesLine, IsTooLong}
+use Rattle.pv_script.specs.Taking.{HeldLine, MAX_LINE_BYTES, nothing_held, begun_line, TakesWhole, TakesLine, IsTooLong}
 use Rattle.pv_script.specs.declared.commands.Command.TheVariants.{Quit}
 use Rattle.pv_session.specs.Sessions.{PlainSession}
 use Rattle.pv_cli.specs.Conversation.{Conversed, EndedWith, IsScriptLine, IsReplyText}
@@ -81,7 +81,7 @@ ended_as W V first script at_end ending writes so =
 
 -- a piece without an LF
 pub takes_all : (W : List ℕ → Type 0) (first : PlainSession) (script : List ℕ) (current : PlainSession) (held new : HeldLine) (number : ℕ) (piece : List ℕ) →
-    Conversed W first script current held number → TakesAll held piece new → Conversed W first (script ++ piece) current new number
+    Conversed W first script current held number → TakesWhole held piece new → Conversed W first (script ++ piece) current new number
 takes_all W first script current held new number piece so_far takes =
     let begun = begun_is held so_far.goes_on in
     let bytes : new.bytes ≡ held.bytes ++ piece = ap (λ (h : HeldLine). h.bytes) takes.held ∙ ap (λ (h : List ℕ). h ++ piece) begun in

@@ -11,7 +11,7 @@ use Rattle.pv_script.specs.Taking.{HeldLine, TakesLine}
 use Rattle.pv_session.specs.Sessions.{PlainSession}
 use Rattle.pv_tree.specs.Plain.{PlainDoc}
 use Rattle.pv_tree.specs.declared.nodes.Mark.{Mark}
-use Rattle.pv_cli.specs.Checking.{CountsLists, none_checked, some_checked}
+use Rattle.pv_cli.specs.Checking.{CountsChecked, none_checked, some_checked}
 use Rattle.pv_cli.specs.Drill.{DRILL_ROOT, drill_stage}
 use Rattle.pv_cli.specs.Returns.{session_stage}
 use Rattle.pv_cli.proofs.Limits.{IsReadAs, read_all, read_ended}
@@ -121,24 +121,24 @@ one_number n m is = cc
 
 -- what was checked behind the opening of a document
 pub counts_on : (root : List ℕ) (file : Option (List ℕ)) (lines before middle after : ℕ) (bytes : List ℕ) (doc : PlainDoc Mark) → file ≡ Some bytes → IsDocumentText root bytes doc →
-    CountsLists root file (Some 0) before middle → after ≤ middle + 2 * lines → CountsLists root file (Some lines) before after
+    CountsChecked root file (Some 0) before middle → after ≤ middle + 2 * lines → CountsChecked root file (Some lines) before after
 counts_on root file lines before middle after bytes doc is text (none_checked same) more = some_checked bytes doc lines is text refl (omega (arith, same, more))
 counts_on root file lines before middle after bytes doc is text (some_checked b d count are means none within) more =
     let zero_lines : 0 ≡ count = one_number 0 count none in some_checked b d lines are means refl (omega (arith, within, more, zero_lines))
 
 -- more lines allow more lists
-pub counts_more : (root : List ℕ) (file : Option (List ℕ)) (lines before after : ℕ) → CountsLists root file (Some 0) before after → CountsLists root file (Some lines) before after
+pub counts_more : (root : List ℕ) (file : Option (List ℕ)) (lines before after : ℕ) → CountsChecked root file (Some 0) before after → CountsChecked root file (Some lines) before after
 counts_more root file lines before after (none_checked same) = none_checked same
 counts_more root file lines before after (some_checked bytes doc count is text none within) =
     let zero_lines : 0 ≡ count = one_number 0 count none in some_checked bytes doc lines is text refl (omega (arith, within, zero_lines))
 
 pub session_counts : (root : List ℕ) (fetched : PlainDtd × List ℕ) (session : PlainSession) (lines before middle after : ℕ) → (session_stage root fetched).Opens session 0 →
-    CountsLists root (Some fetched.1) (Some 0) before middle → after ≤ middle + 2 * lines → CountsLists root (Some fetched.1) (Some lines) before after
+    CountsChecked root (Some fetched.1) (Some 0) before middle → after ≤ middle + 2 * lines → CountsChecked root (Some fetched.1) (Some lines) before after
 session_counts root fetched session lines before middle after opens counts more =
     counts_on root (Some fetched.1) lines before middle after fetched.1 opens.0.doc refl opens.3.0.is_text counts more
 
 pub drill_counts : (n : ℕ) (session : PlainSession) (lines before middle after : ℕ) → (drill_stage n).Opens session 0 →
-    CountsLists DRILL_ROOT (Some (drill_text n)) (Some 0) before middle → after ≤ middle + 2 * lines → CountsLists DRILL_ROOT (Some (drill_text n)) (Some lines) before after
+    CountsChecked DRILL_ROOT (Some (drill_text n)) (Some 0) before middle → after ≤ middle + 2 * lines → CountsChecked DRILL_ROOT (Some (drill_text n)) (Some lines) before after
 drill_counts n session lines before middle after opens counts more =
     counts_on DRILL_ROOT (Some (drill_text n)) lines before middle after (drill_text n) opens.0.doc refl opens.3.4.0.is_text counts more
 

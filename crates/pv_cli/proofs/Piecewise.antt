@@ -5,7 +5,7 @@ use Rattle.std.specs.Io.KnownBytes.{Appends, Consumes}
 use Rattle.pv_io.specs.Causes.{AppendsFront, Asked, CountStays}
 use Rattle.pv_script.specs.Commands.{SpellsCommand}
 use Rattle.pv_script.specs.Lines.{FEED, ended_lines, without_returns}
-use Rattle.pv_script.specs.Taking.{HeldLine, MAX_LINE_BYTES, nothing_held, TakesAll, TakesLine, IsTooLong}
+use Rattle.pv_script.specs.Taking.{HeldLine, MAX_LINE_BYTES, nothing_held, TakesWhole, TakesLine, IsTooLong}
 use Rattle.pv_script.specs.declared.commands.Command.TheVariants.{Quit}
 use Rattle.pv_session.specs.Sessions.{PlainSession}
 use Rattle.pv_cli.specs.declared.conversation.talk.Next.{Next}
@@ -48,7 +48,7 @@ all_bytes script piece eaten rest is = ap (λ (h : List ℕ). script ++ h) is �
 
 -- what is left has no LF
 pub goes_all : (before now : Option (List ℕ)) (replies : List ℕ) (session current : PlainSession) (held kept new : HeldLine) (number next : ℕ) (piece rest : List ℕ) →
-    GoesTo before now replies session current held kept number next piece rest → TakesAll kept rest new →
+    GoesTo before now replies session current held kept number next piece rest → TakesWhole kept rest new →
     (old : Option (List ℕ)) (script : List ℕ) (first : PlainSession) → Conversed (Appends old before) first script session held number →
     Conversed (HoldsReplies old now replies) first (script ++ piece) current new next
 goes_all before now replies session current held kept new number next piece rest so takes old script first so_far =

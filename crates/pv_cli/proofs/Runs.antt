@@ -11,7 +11,7 @@ use Rattle.pv_cli.specs.declared.stop.Stop.TheVariants.{Refused, ShelfFault, NoM
 use Rattle.pv_cli.specs.declared.verb.Verb.{Verb}
 use Rattle.pv_cli.specs.declared.verb.Verb.TheVariants.{Session}
 use Rattle.pv_session.specs.Sessions.{PlainSession}
-use Rattle.pv_cli.specs.Checking.{CountsLists, lines_taken, none_checked}
+use Rattle.pv_cli.specs.Checking.{CountsChecked, lines_taken, none_checked}
 use Rattle.pv_cli.specs.CommandLine.{PlainCommandLine, files_named, on_document, on_dtd}
 use Rattle.pv_cli.specs.Commands.{GoesOn, IsDocumentCourse, VerbTells, lines_checked}
 use Rattle.pv_cli.specs.Conversation.{Talked}
@@ -100,7 +100,7 @@ dtd_told name before after checked dtd result over tells =
 
 -- what a verb found, once it is written
 pub found_rest : {S : Type 0} (verb : Verb) (root : List ℕ) (fetched : PlainDtd × List ℕ) (input : InputNow S) (old new : OutputNow) (checked checked_now : ℕ) (result : Result Response Stop) (status : Status) →
-    TakesCourse (GoesOn verb root fetched) result → CountsLists root (Some fetched.1) (lines_checked verb None) checked checked_now → WritesEnding (ending_of result) old.written new.written old.faults new.faults status →
+    TakesCourse (GoesOn verb root fetched) result → CountsChecked root (Some fetched.1) (lines_checked verb None) checked checked_now → WritesEnding (ending_of result) old.written new.written old.faults new.faults status →
     DoesRest verb root fetched input input old new checked checked_now status
 found_rest verb root fetched input old new checked checked_now result status finds checks writes = record {
   talk = record {
@@ -157,7 +157,7 @@ rest_runs verb dtd root doc before after fetched input input_now old new checked
         faults = stays_from (CountsShelf rest.ending) before.faults after.faults over.faults does.talk.no_fault;
       };
       streams = streams_after over.fetches rest input input_now old new status does.talk.streams;
-      checks = subst (λ (file : Option (List ℕ)). CountsLists root file (lines_checked verb rest.taken) checked checked_now) (sym is_file) does.checks;
+      checks = subst (λ (file : Option (List ℕ)). CountsChecked root file (lines_checked verb rest.taken) checked checked_now) (sym is_file) does.checks;
     }
 
 -- beginning a session asks no shelf
@@ -177,7 +177,7 @@ session_stopped root fetched NoMemory stops = short_of_memory 0 refl refl
 
 -- a session that was begun, and its conversation
 pub talked_rest : {S : Type 0} (root : List ℕ) (fetched : PlainDtd × List ℕ) (session : PlainSession) (input input_now : InputNow S) (old new : OutputNow) (before middle after : ℕ) (status : Status) →
-    (session_stage root fetched).Opens session 0 → CountsLists root (Some fetched.1) (Some 0) before middle → Talked session input input_now old new middle after status →
+    (session_stage root fetched).Opens session 0 → CountsChecked root (Some fetched.1) (Some 0) before middle → Talked session input input_now old new middle after status →
     DoesRest Session root fetched input input_now old new before after status
 talked_rest root fetched session input input_now old new before middle after status opens counts talked =
     let rest = talked.talk.course in

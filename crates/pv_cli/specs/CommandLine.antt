@@ -3,7 +3,7 @@ use Rattle.std.specs.Prelude.{◌≤◌, ◌&&◌, nat_le, option_and_then, opti
 use Rattle.std.specs.Prelude.{codes, if◌then◌else◌, Option, Some, None}
 use Rattle.std.specs.Str.{bytes_eq}
 use Rattle.pv_chars.specs.Names.{IsName, is_name}
-use Rattle.pv_script.specs.Reading.{number_of}
+use Rattle.pv_script.specs.Reading.{number_spelled}
 use Rattle.pv_cli.specs.declared.checker.Checker.{Checker}
 use Rattle.pv_cli.specs.declared.checker.Checker.TheVariants.{Deny, Verify}
 use Rattle.pv_cli.specs.declared.command_line.CommandLine.{CommandLine}
@@ -46,7 +46,7 @@ IsDrillSize n = (1 ≤ n) × (n ≤ 20000)
 -- the size of a drill that a word is: its decimal digits
 abbrev pub drill_size : List ℕ → Option ℕ
 drill_size word = option_and_then (λ n. if nat_le 1 n && nat_le n 20000 then Some n else None)
-    (number_of word)
+    (number_spelled word)
 
 -- a command with one word behind it
 abbrev pub with_one_word : List ℕ → List ℕ → Option PlainCommandLine

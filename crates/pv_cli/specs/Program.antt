@@ -7,7 +7,7 @@ use Rattle.pv_io.specs.Causes.{AppendsFront, Asked, CountStays, MadeCalls, Rose}
 use Rattle.pv_cli.specs.declared.status.Status.{Status}
 use Rattle.pv_cli.specs.declared.status.Status.TheVariants.{Usage, ReadFault, WriteFault}
 use Rattle.pv_cli.specs.declared.status.Status.TheVariants.{NoMemory as OutOfMemory}
-use Rattle.pv_cli.specs.Checking.{CountsLists}
+use Rattle.pv_cli.specs.Checking.{CountsChecked}
 use Rattle.pv_cli.specs.CommandLine.{PlainCommandLine, drill, files_named, on_certificate}
 use Rattle.pv_cli.specs.CommandLine.{on_document, on_dtd, on_ranges}
 use Rattle.pv_cli.specs.Commands.{IsCheckerCourse, IsDocumentCourse, lines_checked}
@@ -40,13 +40,13 @@ abbrev pub ChecksLists : Option PlainCommandLine → Files → Option (List ℕ)
 ChecksLists None files taken before after = after ≡ before
 ChecksLists (Some (on_dtd dtd)) files taken before after = after ≡ before
 ChecksLists (Some (on_document verb dtd root doc)) files taken before after =
-    CountsLists root (file_at 1 files) (lines_checked verb taken) before after
+    CountsChecked root (file_at 1 files) (lines_checked verb taken) before after
 ChecksLists (Some (on_certificate checker dtd root doc file)) files taken before after =
     after ≡ before
 ChecksLists (Some (on_ranges dtd root text ranges)) files taken before after =
     CountsNested root files before after
 ChecksLists (Some (drill n)) files taken before after =
-    CountsLists DRILL_ROOT (Some (drill_text n)) (Some (length (drill_lines n))) before after
+    CountsChecked DRILL_ROOT (Some (drill_text n)) (Some (length (drill_lines n))) before after
 
 -- the count of a device rose where the run ended at a fault of it, and else it stayed
 abbrev pub CountsShelf : RunEnding → ℕ → ℕ → Type 0

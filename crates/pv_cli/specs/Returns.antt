@@ -6,7 +6,7 @@ use Rattle.pv_io.specs.Causes.{CountStays, MadeCalls, Rose}
 use Rattle.pv_session.specs.Sessions.{PlainSession}
 use Rattle.pv_tree.specs.PlainDocs.{plain_doc}
 use Rattle.pv_cli.specs.Commands.{GoesOn, lines_checked}
-use Rattle.pv_cli.specs.Checking.{CountsLists}
+use Rattle.pv_cli.specs.Checking.{CountsChecked}
 use Rattle.pv_cli.specs.CommandLine.{PlainCommandLine, files_named}
 use Rattle.pv_cli.specs.Course.{Course, RunEnding, responds, shelf_fault, no_memory, without_input}
 use Rattle.pv_cli.specs.Devices.{InputNow, OutputNow, ShelfNow}
@@ -124,5 +124,5 @@ pub record DoesRest {S : Type 0} (verb : Verb) (root : List ℕ) (fetched : Plai
     (input input_now : InputNow S) (output output_now : OutputNow) (checked checked_now : ℕ)
     (status : Status) : Type 0 where
   pub talk : GoesThrough (GoesOn verb root fetched) input input_now output output_now status
-  pub checks : CountsLists root (Some fetched.1) (lines_checked verb talk.course.taken) checked
+  pub checks : CountsChecked root (Some fetched.1) (lines_checked verb talk.course.taken) checked
       checked_now

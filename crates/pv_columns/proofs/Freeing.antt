@@ -10,7 +10,7 @@ use Rattle.pv_columns.specs.Bits.{HasIn}
 use Rattle.pv_columns.specs.Frees.{AreFree, AreRepeats, RepeatBefore}
 use Rattle.pv_columns.specs.Rows.{IsLayer}
 use Rattle.pv_columns.specs.Sets.{AreLayers, AreTokensBelow, TakesAll}
-use Rattle.pv_columns.specs.Tokens.{number_of}
+use Rattle.pv_columns.specs.Tokens.{token_number}
 use Rattle.pv_columns.specs.declared.sets.Layer.{Layer}
 
 pub layer_at : (xs : List Layer) (m : ℕ) → m < length xs → Layer
@@ -20,17 +20,17 @@ layer_at (x ∷ xs) (suc m) l = layer_at xs m (omega arith)
 
 module _ (rules : List ColumnRule) (live : List Bool) where
   -- a token that is taken is that of a rule
-  pub token_below : (count : ℕ) → AreTokensBelow count rules → (t : Token) (c : ℕ) → Takes rules live t c → number_of t / 64 < count
+  pub token_below : (count : ℕ) → AreTokensBelow count rules → (t : Token) (c : ℕ) → Takes rules live t c → token_number t / 64 < count
   token_below count below t c (takes_token _ r con e a s) = below r t con s
   token_below count below t c (takes_column _ d r con e a s i v) = token_below count below t d v
 
   pub all_taken : (layers : List Layer) (big small : ℕ) → AreLayers rules live layers → AreTokensBelow (length layers) rules →
       ((m : ℕ) (d : Layer) → m < length layers → (k : ℕ) → HasIn (get_or layers m d).words.items small k → HasIn (get_or layers m d).words.items big k) → TakesAll rules live big small
   all_taken layers big small are below within t v =
-      let m = number_of t / 64 in
+      let m = token_number t / 64 in
       let l = token_below (length layers) below t small v in
       let d = layer_at layers m l in
-      ((are m d l) big t refl).0 (within m d l (number_of t % 64) (((are m d l) small t refl).1 v))
+      ((are m d l) big t refl).0 (within m d l (token_number t % 64) (((are m d l) small t refl).1 v))
 
   pub none_before : (frees : List Bool) → frees ≡ live → RepeatBefore rules live 0 frees
   none_before frees e c m = ((let P : List Bool → Type 0 = λ v. IsMarked v c in subst P e m), (λ t l v. absurd (omega arith)))
@@ -40,9 +40,9 @@ module _ (rules : List ColumnRule) (live : List Bool) where
   one_layer m layer repeats old new is are kept before c marked =
       let k = kept c marked in let b = before c k.0 in (
         b.0,
-        (λ t l v. elim (cases_lt (number_of t / 64) m) [
+        (λ t l v. elim (cases_lt (token_number t / 64) m) [
           | inl x ↦ b.1 t x v
-          | inr x ↦ (let e : number_of t / 64 ≡ m = omega arith in are c t e (k.1 (number_of t % 64) ((is c t e).1 v)))
+          | inr x ↦ (let e : token_number t / 64 ≡ m = omega arith in are c t e (k.1 (token_number t % 64) ((is c t e).1 v)))
         ]),
       )
 

@@ -3,13 +3,13 @@ use Rattle.std.proofs.Common.{Bool, Contains, List, None, Option, Some, [], arit
 use Rattle.std.proofs.lemmas.Bool.{cases_lt}
 use Rattle.std.proofs.lemmas.List.{get_or_default}
 use Rattle.pv_model.specs.declared.models.Token.{Token}
-use Rattle.pv_columns.specs.ColumnRules.{ReadThrough, Reads, TokensMayBeMissing, by_rule, done}
+use Rattle.pv_columns.specs.ColumnRules.{ReadThrough, ReadsToken, TokensMayBeMissing, by_rule, done}
 use Rattle.pv_columns.specs.Laws.{ClosedMarksAreLive}
-use Rattle.pv_columns.specs.Marks.{AreBare, AreClosedMarks, AreLiveMarks, AreMarked, HoldsMark, IsMarked, unmarked}
+use Rattle.pv_columns.specs.Marks.{AreNullable, AreClosedMarks, AreLiveMarks, AreMarked, HoldsMark, IsMarked, unmarked}
 use Rattle.pv_columns.specs.declared.rules.ColumnRule.{ColumnRule}
 use Rattle.pv_columns.proofs.Spans.{ends_are_intervals, join, reaches_on, reads_on}
 
-nothing_read : (word : List Token) (o : Option Token) (i m : ℕ) → Reads word o i m → m ≤ i → o ≡ None
+nothing_read : (word : List Token) (o : Option Token) (i m : ℕ) → ReadsToken word o i m → m ≤ i → o ≡ None
 nothing_read word None i m e l = refl
 nothing_read word (Some t) i m (g, e) l = absurd (omega arith)
 
@@ -29,7 +29,7 @@ closed_marks_are_live rules word marks sound closed emptied = record {
 }
 
 -- marks that are closed are complete where tokens may be missing
-pub live_marks : (rules : List ColumnRule) (word : List Token) (marks : List Bool) → AreBare rules marks → AreClosedMarks rules marks → TokensMayBeMissing rules word → AreLiveMarks rules word marks
+pub live_marks : (rules : List ColumnRule) (word : List Token) (marks : List Bool) → AreNullable rules marks → AreClosedMarks rules marks → TokensMayBeMissing rules word → AreLiveMarks rules word marks
 live_marks rules word marks bare closed missing =
     closed_marks_are_live rules word marks (λ c p m. bare.bare c m word p) closed
     (λ c i j d. ends_are_intervals rules word missing (c ∷ []) i j i i d (omega arith) (inl refl))
@@ -41,14 +41,14 @@ marked_at marks (c ∷ cs) a zero l = a.0
 marked_at marks (c ∷ cs) a (suc k) l = marked_at marks cs a.1 k (omega arith)
 
 -- one column more is marked
-bare_all : (rules : List ColumnRule) (marks : List Bool) → AreBare rules marks → (cs : List ℕ) → AreMarked marks cs → (word : List Token) (p : ℕ) → ReadThrough rules word cs p p
+bare_all : (rules : List ColumnRule) (marks : List Bool) → AreNullable rules marks → (cs : List ℕ) → AreMarked marks cs → (word : List Token) (p : ℕ) → ReadThrough rules word cs p p
 bare_all rules marks bare [] a word p = done p p refl
 bare_all rules marks bare (c ∷ cs) a word p = join rules word c cs p p p (bare.bare c a.0 word p) (bare_all rules marks bare cs a.1 word p)
 
 pub same_or_not : (k i : ℕ) → (k ≡ i) ⊎ (k ≢ i)
 same_or_not k i = elim (cases_lt k i) [ inl lt ↦ inr (omega arith) | inr le ↦ elim (cases_lt i k) [ inl lt ↦ inr (omega arith) | inr ge ↦ inl (omega arith) ] ]
 
-pub bare_more : (rules : List ColumnRule) (marks : List Bool) (r : ColumnRule) → Contains rules r → r.token ≡ None → AreMarked marks r.columns.items → AreBare rules marks → AreBare rules (set marks r.left true)
+pub bare_more : (rules : List ColumnRule) (marks : List Bool) (r : ColumnRule) → Contains rules r → r.token ≡ None → AreMarked marks r.columns.items → AreNullable rules marks → AreNullable rules (set marks r.left true)
 bare_more rules marks r con none a bare = record {
   bare = λ c m word p. elim (same_or_not c r.left) [
     | inl e ↦ by_rule c [] r p p p p con e (rw none refl) (bare_all rules marks bare r.columns.items a word p) (done p p refl)

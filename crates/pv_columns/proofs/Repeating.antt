@@ -7,7 +7,7 @@ use Rattle.pv_columns.specs.declared.rules.ColumnRule.{ColumnRule}
 use Rattle.pv_columns.specs.Bits.{HasIn, bit}
 use Rattle.pv_columns.specs.Frees.{AreRepeats, IsRepeatOf}
 use Rattle.pv_columns.specs.Rows.{IsLayer}
-use Rattle.pv_columns.specs.Tokens.{number_of}
+use Rattle.pv_columns.specs.Tokens.{token_number}
 use Rattle.pv_columns.proofs.Bits.{of_or, or_right}
 use Rattle.pv_columns.proofs.Marking.{same_or_not}
 use Rattle.pv_columns.proofs.Seeding.{by_parts}
@@ -30,7 +30,7 @@ pub within : (small big both k : ℕ) → both ≡ bit_or big small → both ≡
 within small big both k e z h = let P : ℕ → Type 0 = λ x. bit x k ≡ 1 in subst P (sym e ∙ z) (or_right big small k h)
 
 module _ (rules : List ColumnRule) (live : List Bool) (m : ℕ) (layer : List ℕ) (is : IsLayer rules live m layer) where
-  one : (c k : ℕ) (t : Token) (r : ColumnRule) → Contains rules r → k ≡ number_of t % 64 → number_of t / 64 ≡ m → IsRepeatOf m layer r c k → Repeats rules live t c
+  one : (c k : ℕ) (t : Token) (r : ColumnRule) → Contains rules r → k ≡ token_number t % 64 → token_number t / 64 ≡ m → IsRepeatOf m layer r c k → Repeats rules live t c
   one c k t r con z a (e, inl (u, s, y, b, d)) =
       let q : u ≡ t = by_parts u t m k b d a (sym z) in
       repeats_token r con e (s ∙ ap Some q) (y ∙ ap (λ (x : ℕ). x ∷ []) (sym e))
@@ -39,4 +39,4 @@ module _ (rules : List ColumnRule) (live : List Bool) (m : ℕ) (layer : List �
       repeats_column d r con e s (y ∙ ap (λ (x : ℕ). d ∷ x ∷ []) (sym e)) ((is d t a).0 (subst P z h))
 
   pub are_repeats : (repeats : List ℕ) → ((c k : ℕ) → HasIn repeats c k → (r : ColumnRule) × Contains rules r × IsRepeatOf m layer r c k) → AreRepeats rules live m repeats
-  are_repeats repeats sound c t a h = let s = sound c (number_of t % 64) h in one c (number_of t % 64) t s.0 s.1 refl a s.2
+  are_repeats repeats sound c t a h = let s = sound c (token_number t % 64) h in one c (token_number t % 64) t s.0 s.1 refl a s.2

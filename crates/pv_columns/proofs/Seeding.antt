@@ -14,7 +14,7 @@ use Rattle.pv_columns.specs.Bits.{HasIn, bit}
 use Rattle.pv_columns.specs.Flowing.{Flows, Grow, EdgesInRange, flows_along, flows_seed}
 use Rattle.pv_columns.specs.ColumnRules.{InRange}
 use Rattle.pv_columns.specs.Rows.{AddsEdges, AreEdges, AreSeeds, HasEdges, HasSeed, IsEdgeOf, IsLayer, edge}
-use Rattle.pv_columns.specs.Tokens.{number_of}
+use Rattle.pv_columns.specs.Tokens.{token_number}
 use Rattle.pv_columns.specs.declared.layers.Edge.{Edge}
 use Rattle.pv_columns.proofs.Bits.{of_or, or_left, or_right}
 use Rattle.pv_columns.proofs.Marking.{same_or_not}
@@ -111,7 +111,7 @@ module _ (old : List ℕ) (column n : ℕ) (lt : column < length old) where
   put_has = rw here (or_right (get_or old column 0) (2 ^ n) n (power_has n))
 
 -- a token by its number
-same_token : (t u : Token) → number_of t ≡ number_of u → t ≡ u
+same_token : (t u : Token) → token_number t ≡ token_number u → t ≡ u
 same_token Other Other e = refl
 same_token Other Text e = absurd (omega arith)
 same_token Other (Name id) e = absurd (omega arith)
@@ -122,12 +122,12 @@ same_token (Name id) Other e = absurd (omega arith)
 same_token (Name id) Text e = absurd (omega arith)
 same_token (Name a) (Name b) e = let z : a.0 ≡ b.0 = omega arith in ap (λ (v : ℕ). Name (record { 0 = v })) z
 
-pub by_parts : (t u : Token) (m k : ℕ) → number_of t / 64 ≡ m → number_of t % 64 ≡ k → number_of u / 64 ≡ m → number_of u % 64 ≡ k → t ≡ u
-by_parts t u m k a b c d = same_token t u (let p = shr_split (number_of t) 6 in let q = shr_split (number_of u) 6 in omega arith)
+pub by_parts : (t u : Token) (m k : ℕ) → token_number t / 64 ≡ m → token_number t % 64 ≡ k → token_number u / 64 ≡ m → token_number u % 64 ≡ k → t ≡ u
+by_parts t u m k a b c d = same_token t u (let p = shr_split (token_number t) 6 in let q = shr_split (token_number u) 6 in omega arith)
 
 -- what flows is taken, and the other way
 module _ (rules : List ColumnRule) (live : List Bool) (edges : List Edge) (seeds : List ℕ) (m : ℕ) (are : AreEdges rules live edges) (seeded : AreSeeds rules live m seeds) where
-  flows_taken : (t : Token) → number_of t / 64 ≡ m → (c k : ℕ) → k ≡ number_of t % 64 → Flows edges seeds c k → Takes rules live t c
+  flows_taken : (t : Token) → token_number t / 64 ≡ m → (c k : ℕ) → k ≡ token_number t % 64 → Flows edges seeds c k → Takes rules live t c
   flows_taken t a c k z (flows_seed _ _ h) =
       let s = seeded.sound c k h in let r = s.0 in let i = s.2 in
       let e : i.0 ≡ t = by_parts i.0 t m k i.4 i.5 a (sym z) in
@@ -136,18 +136,18 @@ module _ (rules : List ColumnRule) (live : List Bool) (edges : List Edge) (seeds
       let s = are.sound e con in let r = s.0 in let i = s.2 in
       takes_column c e.to r s.1 (y ∙ i.2) i.1 i.0 i.3 (flows_taken t a e.to k z f)
 
-  taken_flows : (t : Token) → number_of t / 64 ≡ m → (c : ℕ) → Takes rules live t c → Flows edges seeds c (number_of t % 64)
+  taken_flows : (t : Token) → token_number t / 64 ≡ m → (c : ℕ) → Takes rules live t c → Flows edges seeds c (token_number t % 64)
   taken_flows t a c (takes_token _ r con e s y) =
-      let P : ℕ → Type 0 = λ v. HasIn seeds v (number_of t % 64) in flows_seed c (number_of t % 64) (subst P (sym e) (seeded.complete r con t y s a))
+      let P : ℕ → Type 0 = λ v. HasIn seeds v (token_number t % 64) in flows_seed c (token_number t % 64) (subst P (sym e) (seeded.complete r con t y s a))
   taken_flows t a c (takes_column _ d r con e s y i v) =
       let p = at_among d r.columns.items i in
-      let P : ℕ → Type 0 = λ x. Flows edges seeds x (number_of t % 64) in
-      flows_along c (number_of t % 64) (edge r.left (get_or r.columns.items p.0 0)) (are.complete r con y s p.0 p.1) e (subst P p.2 (taken_flows t a d v))
+      let P : ℕ → Type 0 = λ x. Flows edges seeds x (token_number t % 64) in
+      flows_along c (token_number t % 64) (edge r.left (get_or r.columns.items p.0 0)) (are.complete r con y s p.0 p.1) e (subst P p.2 (taken_flows t a d v))
 
   pub is_layer : (layer : List ℕ) → ((c k : ℕ) → (HasIn layer c k → Flows edges seeds c k) × (Flows edges seeds c k → HasIn layer c k)) → IsLayer rules live m layer
   is_layer layer exact c t a = (
-    (λ h. flows_taken t a c (number_of t % 64) refl ((exact c (number_of t % 64)).0 h)),
-    (λ v. (exact c (number_of t % 64)).1 (taken_flows t a c v)),
+    (λ h. flows_taken t a c (token_number t % 64) refl ((exact c (token_number t % 64)).0 h)),
+    (λ v. (exact c (token_number t % 64)).1 (taken_flows t a c v)),
   )
 
 -- the edges of one rule are added
@@ -165,7 +165,7 @@ pub edges_grow : (live : List Bool) (old new : List Edge) → ((e : Edge) → Co
 edges_grow live old new grow r h s a k l = grow (edge r.left (get_or r.columns.items k 0)) (h s a k l)
 
 pub seed_grow : (live : List Bool) (m : ℕ) (old new : List ℕ) → Grow old new → (r : ColumnRule) → HasSeed live m old r → HasSeed live m new r
-seed_grow live m old new grow r h t s a e = grow r.left (number_of t % 64) (h t s a e)
+seed_grow live m old new grow r h t s a e = grow r.left (token_number t % 64) (h t s a e)
 
 -- edges of rules in range are in range
 pub in_range : (width : ℕ) (rules : List ColumnRule) (live : List Bool) (edges : List Edge) → InRange width rules → AreEdges rules live edges → EdgesInRange width edges

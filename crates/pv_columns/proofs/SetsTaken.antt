@@ -6,10 +6,10 @@ use Rattle.pv_model.specs.declared.models.Token.{Token}
 use Rattle.pv_columns.specs.Bits.{bit}
 use Rattle.pv_columns.specs.ColumnRules.{ReadThrough, TokensMayBeMissing}
 use Rattle.pv_columns.specs.FreeSets.{AreFreeSets, AreInRow, IsFreeOver, IsRowOf, IsSetAt, KeepSets}
-use Rattle.pv_columns.specs.Marks.{AreBare, AreClosedMarks, ReadAlone}
+use Rattle.pv_columns.specs.Marks.{AreNullable, AreClosedMarks, ReadAlone}
 use Rattle.pv_columns.specs.Sets.{AreLayers, AreTokensBelow}
 use Rattle.pv_columns.specs.Takes.{IsFree, Takes}
-use Rattle.pv_columns.specs.Tokens.{IsInRow, IsRun, number_of}
+use Rattle.pv_columns.specs.Tokens.{IsInRow, IsRun, token_number}
 use Rattle.pv_columns.specs.declared.free_sets.FreeSets.{FreeSets}
 use Rattle.pv_columns.specs.declared.free_sets.TokenSet.{TokenSet}
 use Rattle.pv_columns.specs.declared.rules.ColumnRule.{ColumnRule}
@@ -25,24 +25,24 @@ no_bit row m k l e = grind (arith, common_steps)
 module _ (rules : List ColumnRule) (live : List Bool) (layers : List Layer) (are : AreLayers rules live layers) (below : AreTokensBelow (length layers) rules) (c : ℕ) (row : List ℕ) (is : IsRowOf layers c row) where
   in_set : (t : Token) → Takes rules live t c → IsInRow row t
   in_set t v =
-      let m = number_of t / 64 in
+      let m = token_number t / 64 in
       let l = token_below rules live (length layers) below t c v in
       let d = layer_at layers m l in
       let e = is.1 m d l in
-      let P : ℕ → Type 0 = λ x. bit x (number_of t % 64) ≡ 1 in
+      let P : ℕ → Type 0 = λ x. bit x (token_number t % 64) ≡ 1 in
       subst P (sym e) (((are m d l) c t refl).1 v)
 
   from_set : (t : Token) → IsInRow row t → Takes rules live t c
-  from_set t h = elim (cases_lt (number_of t / 64) (length layers)) [
-    | inr b ↦ absurd (no_bit row (number_of t / 64) (number_of t % 64) (let z = is.0 in omega arith) h)
+  from_set t h = elim (cases_lt (token_number t / 64) (length layers)) [
+    | inr b ↦ absurd (no_bit row (token_number t / 64) (token_number t % 64) (let z = is.0 in omega arith) h)
     | inl l ↦
-        let m = number_of t / 64 in
+        let m = token_number t / 64 in
         let d = layer_at layers m l in
-        let P : ℕ → Type 0 = λ x. bit x (number_of t % 64) ≡ 1 in
+        let P : ℕ → Type 0 = λ x. bit x (token_number t % 64) ≡ 1 in
         ((are m d l) c t refl).0 (subst P (is.1 m d l) h)
   ]
 
-  pub free_over : AreBare rules live → AreClosedMarks rules live → ReadAlone rules → IsFree rules live c → IsFreeOver rules row c
+  pub free_over : AreNullable rules live → AreClosedMarks rules live → ReadAlone rules → IsFree rules live c → IsFreeOver rules row c
   free_over bare closed alone free word missing i j le short =
       let law = free_reaches_taken rules word live (live_marks rules word live bare closed missing) alone c i j free le short in (
         (λ d k t a b f. in_set t (law.0 d k t a b f)),
@@ -96,7 +96,7 @@ module _ (rules : List ColumnRule) (columns : List ℕ) where
   keep_same sets k d l = (l, refl)
 
 module _ (rules : List ColumnRule) (live : List Bool) (layers : List Layer) (are : AreLayers rules live layers) (below : AreTokensBelow (length layers) rules) where
-  pub placed : (c place : ℕ) (sets : List TokenSet) → IsSetAt layers c sets place → AreBare rules live → AreClosedMarks rules live → ReadAlone rules → IsFree rules live c →
+  pub placed : (c place : ℕ) (sets : List TokenSet) → IsSetAt layers c sets place → AreNullable rules live → AreClosedMarks rules live → ReadAlone rules → IsFree rules live c →
       (k : ℕ) (d : TokenSet) → Some place ≡ Some k → (k < length sets) × IsFreeOver rules (get_or sets k d).words.items c
   placed c place sets at bare closed alone free k d e =
       let z : place ≡ k = cc in

@@ -4,13 +4,13 @@ use Rattle.std.proofs.lemmas.Bool.{cases_lt}
 use Rattle.std.proofs.lemmas.Option.{slice_get_within}
 use Rattle.pv_model.specs.declared.models.Token.{Token}
 use Rattle.pv_columns.specs.declared.rules.ColumnRule.{ColumnRule}
-use Rattle.pv_columns.specs.ColumnRules.{Reads, ReadThrough, done, by_rule, TokensMayBeMissing, EndsAreIntervals}
+use Rattle.pv_columns.specs.ColumnRules.{ReadsToken, ReadThrough, done, by_rule, TokensMayBeMissing, EndsAreIntervals}
 
-pub reads_on : (word : List Token) (o : Option Token) (i m : ℕ) → Reads word o i m → i ≤ m
+pub reads_on : (word : List Token) (o : Option Token) (i m : ℕ) → ReadsToken word o i m → i ≤ m
 reads_on word None i m e = omega arith
 reads_on word (Some t) i m (g, e) = omega arith
 
-pub reads_within : (word : List Token) (o : Option Token) (i m : ℕ) → Reads word o i m → i ≤ length word → m ≤ length word
+pub reads_within : (word : List Token) (o : Option Token) (i m : ℕ) → ReadsToken word o i m → i ≤ length word → m ≤ length word
 reads_within word None i m e le = omega arith
 reads_within word (Some t) i m (g, e) le = let h = slice_get_within word i t g in omega arith
 
@@ -33,11 +33,11 @@ module _ (rules : List ColumnRule) (word : List Token) (missing : TokensMayBeMis
   abbrev Within : List ℕ → ℕ → ℕ → Type 0
   Within cs i j = (a b : ℕ) → a ≤ b → (a ≡ b) ⊎ ((i ≤ a) × (b ≤ j)) → ReadThrough rules word cs a b
 
-  one_rule : (r : ColumnRule) (i m j : ℕ) → Contains rules r → Reads word r.token i m → ReadThrough rules word r.columns.items m j → ReadThrough rules word (r.left ∷ []) i j
+  one_rule : (r : ColumnRule) (i m j : ℕ) → Contains rules r → ReadsToken word r.token i m → ReadThrough rules word r.columns.items m j → ReadThrough rules word (r.left ∷ []) i j
   one_rule r i m j con reads d = by_rule r.left [] r i m j j con refl reads d (done j j refl)
 
   -- of one column, by a rule
-  head : (r : ColumnRule) (o : Option Token) (i m k : ℕ) → Contains rules r → r.token ≡ o → Reads word o i m → Within r.columns.items m k → Within (r.left ∷ []) i k
+  head : (r : ColumnRule) (o : Option Token) (i m k : ℕ) → Contains rules r → r.token ≡ o → ReadsToken word o i m → Within r.columns.items m k → Within (r.left ∷ []) i k
   head r None i m k con e reads w a b le h =
       one_rule r a a b con (rw e refl) (w a b le (elim h [ inl q ↦ inl q | inr q ↦ inr (omega (arith, reads, q.0), q.1) ]))
   head r (Some t) i m k con e (g, q) w a b le h = elim (cases_lt a b) [

@@ -2,7 +2,7 @@
 use Rattle.std.proofs.Common.{Bool, Contains, List, None, Option, Some, [], arith, inl, inr, refl, slice_get, subst, suc, sym, ℕ, ◌<◌, ◌∷◌, ◌≡◌, ◌≤◌}
 use Rattle.std.proofs.lemmas.Bool.{cases_lt}
 use Rattle.pv_model.specs.declared.models.Token.{Token}
-use Rattle.pv_columns.specs.ColumnRules.{ReadThrough, Reads, by_rule, done}
+use Rattle.pv_columns.specs.ColumnRules.{ReadThrough, ReadsToken, by_rule, done}
 use Rattle.pv_columns.specs.Laws.{TakesReachesOne}
 use Rattle.pv_columns.specs.Marks.{AreLiveMarks, AreMarked, IsAmong, ReadAlone}
 use Rattle.pv_columns.specs.Takes.{Takes, TakesEach, takes_column, takes_token}
@@ -58,7 +58,7 @@ module _ (rules : List ColumnRule) (word : List Token) (live : List Bool) (marks
         go (inr z) = absurd z
 
     -- by one rule
-    head : (c : ℕ) (r : ColumnRule) (o : Option Token) (i m k : ℕ) → Contains rules r → c ≡ r.left → r.token ≡ o → Reads word o i m → AreMarked live r.columns.items →
+    head : (c : ℕ) (r : ColumnRule) (o : Option Token) (i m k : ℕ) → Contains rules r → c ≡ r.left → r.token ≡ o → ReadsToken word o i m → AreMarked live r.columns.items →
         TakenIn r.columns.items m k → (p : ℕ) (t : Token) → i ≤ p → p < k → slice_get word p ≡ Some t → Takes rules live t c
     head c r None i m k con e s reads a sub p t l h f =
         let q = sub p t (omega arith) h f in takes_column c q.0 r con e a s q.1 q.2

@@ -5,15 +5,15 @@ use Rattle.pv_model.specs.declared.models.Token.{Token}
 use Rattle.pv_columns.specs.declared.rules.ColumnRule.{ColumnRule}
 
 -- reading the token at place i leads to place m; reading nothing stays
-abbrev pub Reads : List Token → Option Token → ℕ → ℕ → Type 0
-Reads word None i m = m ≡ i
-Reads word (Some t) i m = (slice_get word i ≡ Some t) × (m ≡ suc i)
+abbrev pub ReadsToken : List Token → Option Token → ℕ → ℕ → Type 0
+ReadsToken word None i m = m ≡ i
+ReadsToken word (Some t) i m = (slice_get word i ≡ Some t) × (m ≡ suc i)
 
 -- the columns, one after another, derive the tokens from place i up to place j
 pub data ReadThrough (rules : List ColumnRule) (word : List Token) : List ℕ → ℕ → ℕ → Type 0 where
   done : (i j : ℕ) → i ≡ j → ReadThrough rules word [] i j
   by_rule : (c : ℕ) (rest : List ℕ) (r : ColumnRule) (i m k j : ℕ) → Contains rules r → c ≡ r.left →
-      Reads word r.token i m →
+      ReadsToken word r.token i m →
       ReadThrough rules word r.columns.items m k → ReadThrough rules word rest k j →
       ReadThrough rules word (c ∷ rest) i j
 

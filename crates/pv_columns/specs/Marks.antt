@@ -14,7 +14,7 @@ abbrev pub AreMarked : List Bool → List ℕ → Type 0
 AreMarked marks cs = AllByRecursion (IsMarked marks) cs
 
 -- a marked column reaches over no tokens, at every place
-pub record AreBare (rules : List ColumnRule) (marks : List Bool) : Type 0 where
+pub record AreNullable (rules : List ColumnRule) (marks : List Bool) : Type 0 where
   pub bare : (c : ℕ) → IsMarked marks c → (word : List Token) (p : ℕ) → ReadThrough rules word
       (c ∷ []) p p
 

@@ -6,7 +6,7 @@ use Rattle.pv_columns.specs.Marks.{AreMarked, IsAmong}
 use Rattle.pv_columns.specs.Takes.{Takes}
 use Rattle.pv_columns.specs.declared.rules.ColumnRule.{ColumnRule}
 use Rattle.pv_columns.specs.Bits.{HasIn}
-use Rattle.pv_columns.specs.Tokens.{number_of}
+use Rattle.pv_columns.specs.Tokens.{token_number}
 use Rattle.pv_columns.specs.declared.layers.Edge.{Edge}
 
 abbrev pub edge : ℕ → ℕ → Edge
@@ -38,12 +38,12 @@ pub record AddsEdges (left : ℕ) (columns : List ℕ) (end : ℕ) (old new : Li
 abbrev pub IsSeedOf : List Bool → ℕ → ColumnRule → ℕ → ℕ → Type 0
 IsSeedOf live m r c k =
     (t : Token) × (r.token ≡ Some t) × AreMarked live r.columns.items × (c ≡ r.left) ×
-    (number_of t / 64 ≡ m) × (number_of t % 64 ≡ k)
+    (token_number t / 64 ≡ m) × (token_number t % 64 ≡ k)
 
 abbrev pub HasSeed : List Bool → ℕ → List ℕ → ColumnRule → Type 0
 HasSeed live m layer r = (t : Token) → r.token ≡ Some t → AreMarked live r.columns.items →
-    number_of t / 64 ≡ m →
-    HasIn layer r.left (number_of t % 64)
+    token_number t / 64 ≡ m →
+    HasIn layer r.left (token_number t % 64)
 
 pub record AreSeeds (rules : List ColumnRule) (live : List Bool) (m : ℕ) (layer : List ℕ)
     : Type 0 where
@@ -53,5 +53,5 @@ pub record AreSeeds (rules : List ColumnRule) (live : List Bool) (m : ℕ) (laye
 
 -- layer m has of each column exactly the tokens that it takes
 abbrev pub IsLayer : List ColumnRule → List Bool → ℕ → List ℕ → Type 0
-IsLayer rules live m layer = (c : ℕ) (t : Token) → number_of t / 64 ≡ m → HasIn layer c
-    (number_of t % 64) ↔ Takes rules live t c
+IsLayer rules live m layer = (c : ℕ) (t : Token) → token_number t / 64 ≡ m → HasIn layer c
+    (token_number t % 64) ↔ Takes rules live t c

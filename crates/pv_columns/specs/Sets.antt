@@ -4,7 +4,7 @@ use Rattle.pv_model.specs.declared.models.Token.{Token}
 use Rattle.pv_columns.specs.Takes.{Takes}
 use Rattle.pv_columns.specs.declared.rules.ColumnRule.{ColumnRule}
 use Rattle.pv_columns.specs.Rows.{IsLayer}
-use Rattle.pv_columns.specs.Tokens.{number_of}
+use Rattle.pv_columns.specs.Tokens.{token_number}
 use Rattle.pv_columns.specs.declared.sets.Layer.{Layer}
 
 abbrev pub AreLayers : List ColumnRule → List Bool → List Layer → Type 0
@@ -14,7 +14,7 @@ AreLayers rules live layers = (m : ℕ) (d : Layer) → m < length layers → Is
 -- the tokens of the rules have numbers below those of so many layers
 abbrev pub AreTokensBelow : ℕ → List ColumnRule → Type 0
 AreTokensBelow count rules = (r : ColumnRule) (t : Token) → Contains rules r → r.token ≡ Some t →
-    number_of t / 64 < count
+    token_number t / 64 < count
 
 -- what the second column takes, the first takes
 abbrev pub TakesAll : List ColumnRule → List Bool → ℕ → ℕ → Type 0

@@ -5,14 +5,14 @@ use Rattle.pv_model.specs.declared.models.Token.{Token}
 use Rattle.pv_model.specs.declared.models.Token.TheVariants.{Name, Other, Text}
 use Rattle.pv_columns.specs.Bits.{bit}
 
-abbrev pub number_of : Token → ℕ
-number_of Other = 0
-number_of Text = 1
-number_of (Name id) = id.0 + 2
+abbrev pub token_number : Token → ℕ
+token_number Other = 0
+token_number Text = 1
+token_number (Name id) = id.0 + 2
 
 -- the token is in the set
 abbrev pub IsInRow : List ℕ → Token → Type 0
-IsInRow row t = bit (slice_index row (number_of t / 64)) (number_of t % 64) ≡ 1
+IsInRow row t = bit (slice_index row (token_number t / 64)) (token_number t % 64) ≡ 1
 
 -- j is the first place from i on whose token isn't in the set, or the end of the word
 pub record IsRun (row : List ℕ) (word : List Token) (i j : ℕ) : Type 0 where

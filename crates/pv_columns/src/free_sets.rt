@@ -6,7 +6,7 @@ ghost use Rattle.pv_columns.specs.ColumnRules.{InRange, ReadThrough, TokensMayBe
 ghost use Rattle.pv_columns.specs.FreeSets.{AreFreeSets, AreInRow, IsRowOf, IsSetAt};
 ghost use Rattle.pv_columns.specs.FreeSets.{IsFreeOver, KeepSets};
 ghost use Rattle.pv_columns.specs.Frees.{AreFree};
-ghost use Rattle.pv_columns.specs.Marks.{AreBare, AreClosedMarks, ReadAlone};
+ghost use Rattle.pv_columns.specs.Marks.{AreNullable, AreClosedMarks, ReadAlone};
 ghost use Rattle.pv_columns.specs.Sets.{AreLayers, AreTokensBelow};
 ghost use Rattle.pv_columns.specs.declared.rules.ColumnRule.{ColumnRule as PlainRule};
 ghost use Rattle.pv_columns.specs.declared.free_sets.TokenSet.{TokenSet as PlainSet};
@@ -102,7 +102,7 @@ fn sets_of(
     frees: &[bool],
     columns: &[usize],
 ) -> Result<FreeSets, AllocError>
-    requires bare { AreBare rules.now live.now }
+    requires bare { AreNullable rules.now live.now }
     requires closed { AreClosedMarks rules.now live.now }
     requires alone { ReadAlone rules.now }
     requires layers { AreLayers rules.now live.now layers.now }
@@ -148,7 +148,7 @@ impl FreeSets {
         width: usize,
     ) -> Result<FreeSets, AllocError>
         requires in_range { InRange width rules.now }
-        requires bare { AreBare rules.now live.now }
+        requires bare { AreNullable rules.now live.now }
         requires closed { AreClosedMarks rules.now live.now }
         requires alone { ReadAlone rules.now }
         ensures { IfOk result (λ free. AreFreeSets rules.now columns.now free) }

@@ -11,7 +11,7 @@ ghost use Rattle.pv_columns.specs.Rows.{IsLayer};
 use crate::layers::union;
 use crate::rows::put;
 use crate::rules::ColumnRule;
-use crate::tokens::number_of;
+use crate::tokens::token_number;
 use std::alloc::{AllocError, Global};
 
 /// Whether these are this column alone.
@@ -53,7 +53,7 @@ fn add_repeat(rule: &ColumnRule, layer_number: u64, layer: &[u64], repeats: &mut
     match rule.token {
         Some(token) => {
             if is_one(rule.columns.as_slice(), rule.left) {
-                put(rule.left, number_of(token), layer_number, repeats);
+                put(rule.left, token_number(token), layer_number, repeats);
             }
         }
         None => {

@@ -3,7 +3,8 @@
 ghost use Rattle.std.specs.Prelude.{◌≡◌, ◌<◌, ℕ, Contains, List, None, false, length};
 ghost use Rattle.std.specs.Prelude.{slice_index_or, true};
 ghost use Rattle.pv_columns.specs.ColumnRules.{InRange};
-ghost use Rattle.pv_columns.specs.Marks.{AreBare, AreClosedMarks, AreMarked, HoldsMark, unmarked};
+ghost use Rattle.pv_columns.specs.Marks.{AreNullable, AreClosedMarks, AreMarked, HoldsMark};
+ghost use Rattle.pv_columns.specs.Marks.{unmarked};
 ghost use Rattle.pv_columns.specs.declared.rules.ColumnRule.{ColumnRule as PlainRule};
 
 use crate::rules::ColumnRule;
@@ -46,8 +47,9 @@ pub fn is_open(rule: &ColumnRule, marks: &[bool]) -> bool
 fn mark_by(rule: &ColumnRule, marks: &mut [bool]) -> bool
     requires { rule.now.left < length marks.old }
     ensures long { length marks.new ≡ length marks.old }
-    ensures bare { (rules : List PlainRule) → Contains rules rule.now → AreBare rules marks.old →
-        AreBare rules marks.new }
+    ensures bare { (rules : List PlainRule) → Contains rules rule.now →
+        AreNullable rules marks.old →
+        AreNullable rules marks.new }
     ensures same { result ≡ false → marks.new ≡ marks.old }
     ensures holds { result ≡ false → HoldsMark marks.old rule.now }
     ensures fewer { result ≡ true → unmarked marks.new < unmarked marks.old }
@@ -63,7 +65,7 @@ fn mark_by(rule: &ColumnRule, marks: &mut [bool]) -> bool
 fn mark_more(rules: &[ColumnRule], marks: &mut [bool]) -> bool
     requires { InRange (length marks.old) rules.now }
     ensures long { length marks.new ≡ length marks.old }
-    ensures bare { AreBare rules.now marks.old → AreBare rules.now marks.new }
+    ensures bare { AreNullable rules.now marks.old → AreNullable rules.now marks.new }
     ensures closed { result ≡ false → AreClosedMarks rules.now marks.new }
     ensures fewer { result ≡ true → unmarked marks.new < unmarked marks.old }
 {
@@ -80,7 +82,7 @@ fn mark_more(rules: &[ColumnRule], marks: &mut [bool]) -> bool
 pub fn close_marks(rules: &[ColumnRule], marks: &mut [bool])
     requires { InRange (length marks.old) rules.now }
     ensures long { length marks.new ≡ length marks.old }
-    ensures bare { AreBare rules.now marks.old → AreBare rules.now marks.new }
+    ensures bare { AreNullable rules.now marks.old → AreNullable rules.now marks.new }
     ensures closed { AreClosedMarks rules.now marks.new }
 {
     while mark_more(rules, marks) {}

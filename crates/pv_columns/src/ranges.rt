@@ -3,20 +3,20 @@
 ghost use Rattle.std.specs.Prelude.{◌≡◌, ◌<◌, ◌/◌, ◌^◌, Some};
 ghost use Rattle.pv_model.specs.declared.models.Token.{Token as PlainToken};
 ghost use Rattle.pv_columns.specs.Sets.{AreTokensBelow};
-ghost use Rattle.pv_columns.specs.Tokens.{number_of};
+ghost use Rattle.pv_columns.specs.Tokens.{token_number};
 
 use crate::rules::ColumnRule;
-use crate::tokens::number_of;
+use crate::tokens::token_number;
 use pv_model::Token;
 
 /// How many layers have a token, if there is one.
 fn layers_for(token: Option<Token>) -> u64
-    ensures below { (t : PlainToken) → token ≡ Some t → number_of t / 64 < result }
+    ensures below { (t : PlainToken) → token ≡ Some t → token_number t / 64 < result }
     ensures few { result < 2 ^ 32 }
 {
     match token {
         None => 0,
-        Some(token) => number_of(token) / 64 + 1,
+        Some(token) => token_number(token) / 64 + 1,
     }
 }
 

@@ -13,7 +13,7 @@ ghost use Rattle.pv_columns.specs.declared.layers.Edge.{Edge as PlainEdge};
 use crate::layers::{Edge, close, union};
 use crate::marks::{are_marked, is_open};
 use crate::rules::ColumnRule;
-use crate::tokens::number_of;
+use crate::tokens::token_number;
 use std::alloc::{AllocError, Global};
 
 fn push_edges(left: usize, columns: &[usize], edges: &mut Vec<Edge>) -> Result<(), AllocError>
@@ -88,7 +88,7 @@ fn add_seed(rule: &ColumnRule, live: &[bool], layer_number: u64, layer: &mut [u6
 {
     if let Some(token) = rule.token {
         if are_marked(live, rule.columns.as_slice()) {
-            put(rule.left, number_of(token), layer_number, layer);
+            put(rule.left, token_number(token), layer_number, layer);
         }
     }
 }

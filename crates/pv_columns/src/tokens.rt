@@ -1,13 +1,13 @@
 //! Sets of tokens as rows of words, and how far a word stays in one.
 
 ghost use Rattle.std.specs.Prelude.{◌≡◌, ◌≤◌, ◌<◌, ◌+◌, ◌^◌, ◌↔◌, IsTrue, length};
-ghost use Rattle.pv_columns.specs.Tokens.{IsInRow, IsRun, number_of};
+ghost use Rattle.pv_columns.specs.Tokens.{IsInRow, IsRun, token_number};
 
 use pv_model::Token;
 
 /// The number of a token.
-pub fn number_of(token: Token) -> u64
-    ensures number { result ≡ number_of token }
+pub fn token_number(token: Token) -> u64
+    ensures number { result ≡ token_number token }
     ensures small { result < 2 ^ 33 }
 {
     match token {
@@ -21,7 +21,7 @@ pub fn number_of(token: Token) -> u64
 pub fn has(row: &[u64], token: Token) -> bool
     ensures { IsTrue result ↔ IsInRow row.now token }
 {
-    let number = number_of(token);
+    let number = token_number(token);
     let index = (number / 64) as usize;
     if index < row.len() {
         (row[index] >> (number % 64)) & 1 == 1

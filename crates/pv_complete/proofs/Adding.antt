@@ -26,7 +26,7 @@ use Rattle.pv_missing.specs.Weighing.{site_of, whole}
 use Rattle.pv_missing.specs.Widths.{IsListForWeights}
 use Rattle.pv_missing.proofs.Verdict.{one_verdict}
 use Rattle.pv_tables.specs.WeightLaws.{LiveWeighs, PossibleWeigh, PossibleWeightsAddUp}
-use Rattle.pv_complete.specs.Loads.{Adds, AddsUp, PlainLoad, StopsAt, UsesVerdict}
+use Rattle.pv_complete.specs.Loads.{LoadsMore, AddsUp, PlainLoad, StopsAtList, UsesVerdict}
 use Rattle.pv_complete.specs.Needing.{AreListsForVerdicts, CanWeigh, IsHeavy, Needs, WeighsIn}
 
 -- the verdict that is next, and those behind it
@@ -64,10 +64,10 @@ module _ (g : PlainDtd) (root : List ℕ) (vs : List Verdict) where
     weighed = all_joined (CanWeigh g root) lists others a.weighed b.weighed;
   }
     where
-      a : Adds g root lists (others ++ more) vs old middle
+      a : LoadsMore g root lists (others ++ more) vs old middle
       a = f (others ++ more) (rw append_assoc at are)
 
-      b : Adds g root others more vs middle new
+      b : LoadsMore g root others more vs middle new
       b = h more a.left
 
   -- a list that isn't Possible
@@ -119,7 +119,7 @@ module _ (g : PlainDtd) (root : List ℕ) (vs : List Verdict) where
   adds_no_owner list old new next none more (u, rest, e, is, others) =
       let head : u ≡ verdict.Possible = cc (e, next) in let p : IsVerdict g root list verdict.Possible = rw head at is in absurd (live_site list p.0 none)
 
-  pub stops_here : (list : Listed Mark) (rest : List Verdict) (old : PlainLoad) → drop old.used vs ≡ verdict.Possible ∷ rest → (IsListForWeights g list → ⊥) → StopsAt g root (list ∷ []) vs old list.path
+  pub stops_here : (list : Listed Mark) (rest : List Verdict) (old : PlainLoad) → drop old.used vs ≡ verdict.Possible ∷ rest → (IsListForWeights g list → ⊥) → StopsAtList g root (list ∷ []) vs old list.path
   stops_here list rest old next wide more (u, others, e, is, are) = record {
     before = [];
     list = list;
@@ -130,11 +130,11 @@ module _ (g : PlainDtd) (root : List ℕ) (vs : List Verdict) where
     is_path = refl;
   }
 
-  pub stops_before : (lists others : List (Listed Mark)) (old : PlainLoad) (path : List ℕ) → StopsAt g root lists vs old path → StopsAt g root (lists ++ others) vs old path
+  pub stops_before : (lists others : List (Listed Mark)) (old : PlainLoad) (path : List ℕ) → StopsAtList g root lists vs old path → StopsAtList g root (lists ++ others) vs old path
   stops_before lists others old path f more are = first_before (CanWeigh g root) lists others path (f (others ++ more) (rw append_assoc at are))
 
-  pub stops_behind : (lists others : List (Listed Mark)) (old middle : PlainLoad) (path : List ℕ) → AddsUp g root lists vs old middle → StopsAt g root others vs middle path →
-      StopsAt g root (lists ++ others) vs old path
+  pub stops_behind : (lists others : List (Listed Mark)) (old middle : PlainLoad) (path : List ℕ) → AddsUp g root lists vs old middle → StopsAtList g root others vs middle path →
+      StopsAtList g root (lists ++ others) vs old path
   stops_behind lists others old middle path f h more are =
       let a = f (others ++ more) (rw append_assoc at are) in
       first_behind (CanWeigh g root) lists others path a.weighed (h more a.left)
@@ -147,7 +147,7 @@ module _ (g : PlainDtd) (root : List ℕ) where
   in_all lists vs old s none w = rw (append-nil lists, none) at w
 
   -- where a walk over all lists stops
-  pub stops_in : (lists : List (Listed Mark)) (vs : List Verdict) (old : PlainLoad) (path : List ℕ) → old.used ≡ 0 → AreVerdicts g root lists vs → StopsAt g root lists vs old path → IsFirstNot (CanWeigh g root) lists path
+  pub stops_in : (lists : List (Listed Mark)) (vs : List Verdict) (old : PlainLoad) (path : List ℕ) → old.used ≡ 0 → AreVerdicts g root lists vs → StopsAtList g root lists vs old path → IsFirstNot (CanWeigh g root) lists path
   stops_in lists vs old path none are f = f [] (at_start lists vs old none are)
 
   -- what a walk over all lists has added is the least number, cut
@@ -161,7 +161,7 @@ module _ (g : PlainDtd) (root : List ℕ) where
     least = law g root doc vs a.sum proper proper_doc are possible w;
   }
     where
-      a : Adds g root (lists_of doc) [] vs old new
+      a : LoadsMore g root (lists_of doc) [] vs old new
       a = f [] (at_start (lists_of doc) vs old none are)
 
       w : PossibleWeigh g root (lists_of doc) vs a.sum

@@ -16,11 +16,11 @@ use Rattle.pv_complete.specs.Merging.{IsCompletedList}
 use Rattle.pv_complete.specs.MergingLaws.{BareIsCompleted, ElementIsCompleted, LeafIsCompleted, MergedIsCompleted}
 use Rattle.pv_complete.specs.Pieces.{PlainPiece, Writes, WritesContent, write_kept, write_new, write_none, write_text}
 use Rattle.pv_complete.specs.Growing.{KeepsEnding, gap_of}
-use Rattle.pv_complete.specs.Writable.{Keeps}
+use Rattle.pv_complete.specs.Writable.{KeepsWritable}
 use Rattle.pv_chars.specs.Spaces.{IsOptionalSpace}
 use Rattle.pv_tree.specs.Legal.{IsLegalEnding}
 use Rattle.pv_complete.proofs.Keeping.{keeps_element, keeps_none, keeps_tree, none_grown}
-use Rattle.pv_complete.proofs.Merging.{beside-done, beside-none, events-join, marks-join, merged, opens-join}
+use Rattle.pv_complete.proofs.Merging.{trees_and-done, trees_and-none, events-join, marks-join, merged, opens-join}
 
 -- the text of an element, cut at its content
 tag_text : (lt x attrs gt k lt2 gap : List ℕ) → lt ++ x ++ attrs ++ gt ++ k ++ lt2 ++ x ++ gap ++ gt ≡ (lt ++ x ++ attrs ++ gt) ++ (k ++ ((lt2 ++ x ++ gap ++ gt) ++ []))
@@ -93,7 +93,7 @@ element_completed M blank g x attrs gap y n k ending kids mark ps es proper name
             let z : m + suc (opens (es ++ old_bytes (codes "</" ++ x ++ gap ++ codes ">") ∷ [])) ≡ suc m + opens es = omega (arith, opens-join es (old_bytes (codes "</" ++ x ++ gap ++ codes ">") ∷ [])) in
             out_kept m (suc m + opens es) e (marks_from (suc m) (es ++ old_bytes (codes "</" ++ x ++ gap ++ codes ">") ∷ []) ++ more) (marks_from (suc m) es) more x attrs (view_all kids) (view_all r.0) h h'
             (rw (marks-join (suc m) es (old_bytes (codes "</" ++ x ++ gap ++ codes ">") ∷ []), append-nil) refl)
-            (rw (append-nil, beside-done kids, beside-done r.0) at (l.tags (suc m) (suc m + opens es) [] done done (out_done (suc m + opens es) (suc m + opens es) refl)))
+            (rw (append-nil, trees_and-done kids, trees_and-done r.0) at (l.tags (suc m) (suc m + opens es) [] done done (out_done (suc m + opens es) (suc m + opens es) refl)))
             (rw z at o);
         valid = (own_valid g x y n k kids r.0 ps es is none c l, l.valid);
         head = λ u. refl;
@@ -101,8 +101,8 @@ element_completed M blank g x attrs gap y n k ending kids mark ps es proper name
       },
     )
   where
-    inner : (new : Forest M) → IsCompletedList g kids new c.whole es n k → Keeps kids new
-    inner new l = rw (beside-none kids, beside-none new) at (l.keeps no_trees no_trees keeps_none)
+    inner : (new : Forest M) → IsCompletedList g kids new c.whole es n k → KeepsWritable kids new
+    inner new l = rw (trees_and-none kids, trees_and-none new) at (l.keeps no_trees no_trees keeps_none)
 
     kids_none : (new : Forest M) → IsCompletedList g kids new c.whole es n k → new ≡ no_trees → kids ≡ no_trees
     kids_none new l e = let i = inner new l in none_grown kids new i.grows e

@@ -6,7 +6,7 @@ use Rattle.std.proofs.lemmas.Bool.{and_from, and_parts}
 use Rattle.std.specs.List.{list_all}
 use Rattle.pv_chars.specs.Names.{is_name}
 use Rattle.pv_chars.proofs.NameLemmas.{is_name-IsName}
-use Rattle.pv_dtd.specs.Facts.{AreLegal, are_distinct, is_short}
+use Rattle.pv_dtd.specs.Facts.{AreLegalNames, are_distinct, is_short_name}
 use Rattle.pv_dtd.specs.PlainForms.{plain_dtd}
 use Rattle.pv_dtd.specs.declared.dtd.Dtd.{Dtd}
 use Rattle.pv_tree.specs.Legal.{has_names, has_no_close_mark, is_formed, starts_no_close_mark}
@@ -23,11 +23,11 @@ use Rattle.pv_complete.specs.declared.words.pieces.Piece.{Piece}
 use Rattle.pv_complete.specs.Growing.{HasShortNames}
 use Rattle.pv_complete.specs.Writable.{AreWritable, HasNames}
 
-all_names : (xs : List (List ℕ)) → AreLegal xs → list_all is_name xs ≡ true
+all_names : (xs : List (List ℕ)) → AreLegalNames xs → list_all is_name xs ≡ true
 all_names [] a = refl
 all_names (x ∷ xs) a = and_from (is_name x) (list_all is_name xs) (is_name-IsName x a.0) (all_names xs a.1)
 
-names_are : (xs : List (List ℕ)) → ∥ AreLegal xs ∥₁ → (b : Bool) → list_all is_name xs ≡ b → list_all is_name xs ≡ true
+names_are : (xs : List (List ℕ)) → ∥ AreLegalNames xs ∥₁ → (b : Bool) → list_all is_name xs ≡ b → list_all is_name xs ≡ true
 names_are xs h true e = e
 names_are xs h false e = absurd (∥∥₁_elim h (λ x. absurd x) (λ a. let t = all_names xs a in cc))
 
@@ -35,7 +35,7 @@ pub dtd_names : (d : Dtd) → HasNames (plain_dtd d)
 dtd_names d = names_are (plain_dtd d).names d.legal (list_all is_name (plain_dtd d).names) refl
 
 pub short_names : (d : Dtd) → HasShortNames (plain_dtd d)
-short_names d = (and_parts (list_all is_short (plain_dtd d).names) (are_distinct (plain_dtd d).names) d.distinct).0
+short_names d = (and_parts (list_all is_short_name (plain_dtd d).names) (are_distinct (plain_dtd d).names) d.distinct).0
 
 starts_alone : (t : Tree Mark) → IsTrue (is_element t) → IsTrue (starts_no_close_mark t no_trees)
 starts_alone (element x a e k m) is = refl

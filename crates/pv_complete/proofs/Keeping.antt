@@ -14,8 +14,8 @@ use Rattle.pv_tree.specs.Attributes.{IsAttributes, IsKnownReference}
 use Rattle.pv_tree.specs.Legal.{IsLegal, IsLegalEnding, are_formed, fits_kids, front_units, has_names, has_no_close_mark, have_names, have_no_close_mark, is_formed, is_open, starts_no_close_mark}
 use Rattle.pv_tree.specs.Plain.{Ending, Forest, Tree, cdata_node, element, misc_node, no_trees, tagged, text_node, tree}
 use Rattle.pv_tree.specs.Units.{HasUnits}
-use Rattle.pv_complete.specs.Growing.{Grows, KeepsEnding, beside, grows_kept, grows_leaf, grows_new, grows_none}
-use Rattle.pv_complete.specs.Writable.{AreElements, AreInFront, AreWritable, HasNames, Keeps}
+use Rattle.pv_complete.specs.Growing.{Grows, KeepsEnding, trees_and, grows_kept, grows_leaf, grows_new, grows_none}
+use Rattle.pv_complete.specs.Writable.{AreElements, AreInFront, AreWritable, HasNames, KeepsWritable}
 
 -- what doesn't begin `]]>` with more units behind, doesn't without them
 begins_less : (us vs : List (List ℕ)) → not (begins_close_mark (us ++ vs)) ≡ true → not (begins_close_mark us) ≡ true
@@ -83,7 +83,7 @@ module _ {M : Type 0} where
   front_alike (cdata_node b) f f' i = ([], refl)
   front_alike (misc_node b) f f' i = ([], refl)
 
-  pub keeps_none : Keeps {M = M} no_trees no_trees
+  pub keeps_none : KeepsWritable {M = M} no_trees no_trees
   keeps_none = record { writable = λ w. w; front = ([], refl); elements = λ e. e; grows = grows_none }
 
   mutual
@@ -104,7 +104,7 @@ module _ {M : Type 0} where
   none_grown a b (grows_new x all k l c d m i h j) e = absurd cc
 
   -- a tree as it is
-  pub keeps_tree : (t : Tree M) (f f' : Forest M) → Keeps f f' → Keeps (tree t f) (tree t f')
+  pub keeps_tree : (t : Tree M) (f f' : Forest M) → KeepsWritable f f' → KeepsWritable (tree t f) (tree t f')
   keeps_tree t f f' k = record {
     writable = λ w. let c = cut t f w in uncut t f' c.first (starts_less t f f' k.front c.starts) (k.writable c.rest);
     front = front_alike t f f' k.front;
@@ -130,8 +130,8 @@ module _ {M : Type 0} where
         no_close_mark = r.no_close_mark;
       }
 
-  pub keeps_element : (x attrs gap : List ℕ) (e : Ending) (kids new f f' : Forest M) (m n : M) → (IsLegalEnding e → IsOptionalSpace gap) → KeepsEnding e new (tagged gap) → Keeps kids new → Keeps f f' →
-      Keeps (tree (element x attrs e kids m) f) (tree (element x attrs (tagged gap) new n) f')
+  pub keeps_element : (x attrs gap : List ℕ) (e : Ending) (kids new f f' : Forest M) (m n : M) → (IsLegalEnding e → IsOptionalSpace gap) → KeepsEnding e new (tagged gap) → KeepsWritable kids new → KeepsWritable f f' →
+      KeepsWritable (tree (element x attrs e kids m) f) (tree (element x attrs (tagged gap) new n) f')
   keeps_element x attrs gap e kids new f f' m n end same k h = record {
     writable = λ w. let c = cut (element x attrs e kids m) f w in
         uncut (element x attrs (tagged gap) new n) f' (element_kept x attrs gap e kids new m n end k.writable c.first) refl (h.writable c.rest);
@@ -140,24 +140,24 @@ module _ {M : Type 0} where
     grows = grows_kept x attrs e (tagged gap) kids new f f' m n same k.grows h.grows;
   }
 
-  front_beside : (a b : Forest M) → AreInFront (front_units a) (front_units (beside a b))
+  front_beside : (a b : Forest M) → AreInFront (front_units a) (front_units (trees_and a b))
   front_beside no_trees b = (front_units b, refl)
-  front_beside (tree t a) b = front_alike t (beside a b) a (front_beside a b)
+  front_beside (tree t a) b = front_alike t (trees_and a b) a (front_beside a b)
 
-  writable_parts : (a b : Forest M) → AreWritable (beside a b) → AreWritable a × AreWritable b
+  writable_parts : (a b : Forest M) → AreWritable (trees_and a b) → AreWritable a × AreWritable b
   writable_parts no_trees b w = (record { named = refl; formed = refl; units = tt; legal = tt; no_close_mark = refl }, w)
   writable_parts (tree t a) b w =
-      let c = cut t (beside a b) w in
+      let c = cut t (trees_and a b) w in
       let p = writable_parts a b c.rest in
-      (uncut t a c.first (starts_less t (beside a b) a (front_beside a b) c.starts) p.0, p.1)
+      (uncut t a c.first (starts_less t (trees_and a b) a (front_beside a b) c.starts) p.0, p.1)
 
-  element_parts : (a b : Forest M) → AreElements (beside a b) → AreElements a × AreElements b
+  element_parts : (a b : Forest M) → AreElements (trees_and a b) → AreElements a × AreElements b
   element_parts no_trees b e = (tt, e)
   element_parts (tree t a) b e = let p = element_parts a b e.1 in ((e.0, p.0), p.1)
 
   -- a new element round some trees
-  pub keeps_new : (x : List ℕ) (kids new f f' : Forest M) (m : M) → IsTrue (is_name x) → IsAttributes IsKnownReference [] → Keeps kids new → Keeps f f' →
-      Keeps (beside kids f) (tree (element x [] (tagged []) new m) f')
+  pub keeps_new : (x : List ℕ) (kids new f f' : Forest M) (m : M) → IsTrue (is_name x) → IsAttributes IsKnownReference [] → KeepsWritable kids new → KeepsWritable f f' →
+      KeepsWritable (trees_and kids f) (tree (element x [] (tagged []) new m) f')
   keeps_new x kids new f f' m name none k h = record {
     writable = λ w.
         let p = writable_parts kids f w in
@@ -169,9 +169,9 @@ module _ {M : Type 0} where
           legal = (none, refl, r.legal);
           no_close_mark = r.no_close_mark;
         }) refl (h.writable p.1);
-    front = (front_units (beside kids f), refl);
+    front = (front_units (trees_and kids f), refl);
     elements = λ i. (refl, h.elements (element_parts kids f i).1);
-    grows = grows_new x (beside kids f) kids new f f' m refl k.grows h.grows;
+    grows = grows_new x (trees_and kids f) kids new f f' m refl k.grows h.grows;
   }
 
 pub no-attributes : IsAttributes IsKnownReference []

@@ -8,7 +8,7 @@ use Rattle.pv_rules.specs.Numbering.{Numbered, listed_name, numbered_choices, nu
 use Rattle.pv_rules.specs.Sites.{HasSite, PlainSite, content_site, name_site, part_site, rest_site}
 use Rattle.pv_rules.proofs.Facts.{parts_by_number}
 use Rattle.pv_rules.proofs.FlatKinds.{IsNoRest}
-use Rattle.pv_complete.specs.Kinds.{count_of, rank_of}
+use Rattle.pv_complete.specs.Kinds.{count_of, rank_of_kind}
 use Rattle.pv_tables.specs.Tables.{kind_rank, site_number}
 use Rattle.pv_complete.specs.declared.listings.kinds.SiteKind.{SiteKind}
 use Rattle.pv_complete.specs.declared.listings.kinds.SiteKind.TheVariants as kind
@@ -91,7 +91,7 @@ module _ (g : PlainDtd) where
   rest_part_case q (Some (part p ps)) e s = small g q (let h = (parts_by_number g).member q p ps e in rw h refl)
 
   -- from the count on there is no site of the kind
-  pub past_end : (k : SiteKind) (s : PlainSite) → kind_rank s ≡ rank_of k → count_of g k ≤ site_number s → HasSite g s → ⊥
+  pub past_end : (k : SiteKind) (s : PlainSite) → kind_rank s ≡ rank_of_kind k → count_of g k ≤ site_number s → HasSite g s → ⊥
   past_end kind.Content (content_site x) e l h = omega arith
   past_end kind.Content (name_site x) e l h = omega arith
   past_end kind.Content (part_site q) e l h = omega arith

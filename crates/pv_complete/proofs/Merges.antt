@@ -17,7 +17,7 @@ use Rattle.pv_complete.specs.Events.{Event, new_end, new_start, news}
 use Rattle.pv_complete.specs.Merging.{IsCompletedTree, Merges, merge_along, merge_end, merge_finish, merge_kept, merge_left, merge_start}
 use Rattle.pv_complete.specs.PieceForms.{plain_piece, plain_pieces}
 use Rattle.pv_complete.specs.Pieces.{PlainPiece, finish, kept, start}
-use Rattle.pv_complete.specs.Written.{Appends, AwaitsNode, HasToken, Passes, PlainWriting, Suits, WritesFront, WritesList, WritesSome, WritesTags, WritesTree, is_token}
+use Rattle.pv_complete.specs.Written.{Appends, AwaitsNode, HasToken, Passes, PlainWriting, SuitsWord, WritesFront, WritesList, WritesSome, WritesTags, WritesTree, is_token}
 use Rattle.pv_complete.specs.declared.words.pieces.Piece.{Piece}
 use Rattle.pv_complete.proofs.Walks.{appends_join, appends_none, passes_join, passes_none, passes_used}
 
@@ -54,23 +54,23 @@ IsNext false next after = after ≡ next
 
 module _ (g : PlainDtd) where
   -- no piece is next in front of a token
-  pub kept_next : (t : Tree Mark) (rest : Forest Mark) (ps : List PlainPiece) → HasToken true t → AwaitsNode ps → Suits g ps (word_of g (tree t rest)) → (qs : List PlainPiece) × (ps ≡ kept ∷ qs) × Suits g qs (word_of g rest)
+  pub kept_next : (t : Tree Mark) (rest : Forest Mark) (ps : List PlainPiece) → HasToken true t → AwaitsNode ps → SuitsWord g ps (word_of g (tree t rest)) → (qs : List PlainPiece) × (ps ≡ kept ∷ qs) × SuitsWord g qs (word_of g rest)
   kept_next t rest [] h a s = absurd (let i = h g in let e = i.1 (word_of g rest) in cc)
   kept_next t rest (kept ∷ qs) h a (token, w, e, s) = (qs, refl, (let i = h g in let f = i.1 (word_of g rest) in let same : w ≡ word_of g rest = cc in rw same at s))
   kept_next t rest (start y ∷ qs) h a s = absurd a
   kept_next t rest (finish y ∷ qs) h a s = absurd a
 
-  pub same_suits : (t : Tree Mark) (rest : Forest Mark) (ps : List PlainPiece) → HasToken false t → Suits g ps (word_of g (tree t rest)) → Suits g ps (word_of g rest)
+  pub same_suits : (t : Tree Mark) (rest : Forest Mark) (ps : List PlainPiece) → HasToken false t → SuitsWord g ps (word_of g (tree t rest)) → SuitsWord g ps (word_of g rest)
   same_suits t rest ps h s = let e = h g (word_of g rest) in rw e at s
 
   -- behind a node
   pub record After (pieces : List Piece) (next after : ℕ) (b : Bool) (rest : Forest Mark) : Type 0 where
     pub within : after ≤ length pieces
-    pub suits : Suits g (plain_pieces (drop after pieces)) (word_of g rest)
+    pub suits : SuitsWord g (plain_pieces (drop after pieces)) (word_of g rest)
     pub behind : IsBehind b (plain_pieces (drop next pieces)) (plain_pieces (drop after pieces))
 
   pub after_node : (pieces : List Piece) (next after : ℕ) (b : Bool) (t : Tree Mark) (rest : Forest Mark) → next ≤ length pieces → AwaitsNode (plain_pieces (drop next pieces)) → HasToken b t →
-      Suits g (plain_pieces (drop next pieces)) (word_of g (tree t rest)) → IsNext b next after → After pieces next after b rest
+      SuitsWord g (plain_pieces (drop next pieces)) (word_of g (tree t rest)) → IsNext b next after → After pieces next after b rest
   after_node pieces next after true t rest l a h s n =
       let q = kept_next t rest (plain_pieces (drop next pieces)) h a s in
       let r = after_first pieces next kept q.0 q.1 in
@@ -133,13 +133,13 @@ module _ (g : PlainDtd) (root path : List ℕ) (ps : List PlainPiece) (kids : Fo
       n : WritesTree g root (path ++ place ∷ []) t (lists_from path (suc place) rest ++ more) vs a new
       n = f before.left
 
-  no_pieces : (qs : List PlainPiece) → AwaitsNode qs → Suits g qs [] → qs ≡ []
+  no_pieces : (qs : List PlainPiece) → AwaitsNode qs → SuitsWord g qs [] → qs ≡ []
   no_pieces [] a s = refl
   no_pieces (kept ∷ qs) a (t, w, e, s) = absurd cc
   no_pieces (start y ∷ qs) a s = absurd a
   no_pieces (finish y ∷ qs) a s = absurd a
 
-  pub some_all : (place : ℕ) (os qs : List PlainPiece) (rest : Forest Mark) (middle new : PlainWriting) → rest ≡ no_trees → Suits g os (word_of g rest) →
+  pub some_all : (place : ℕ) (os qs : List PlainPiece) (rest : Forest Mark) (middle new : PlainWriting) → rest ≡ no_trees → SuitsWord g os (word_of g rest) →
       WritesSome g root path place ps os kids rest more vs old middle → WritesTags g os qs middle new → WritesList g root path ps kids more vs old new
   some_all place os qs rest middle new none suits s i = record {
     events = s.events ++ i.front.events;
@@ -189,8 +189,8 @@ module _ (g : PlainDtd) where
     suits = λ w s. s.1;
   }
 
-  pub known_start : (y : ℕ) (qs : List PlainPiece) → (w : List PlainToken) × Suits g (start y ∷ qs) w → y < length g.names
+  pub known_start : (y : ℕ) (qs : List PlainPiece) → (w : List PlainToken) × SuitsWord g (start y ∷ qs) w → y < length g.names
   known_start y qs s = s.1.0
 
-  pub known_finish : (y : ℕ) (qs : List PlainPiece) → (w : List PlainToken) × Suits g (finish y ∷ qs) w → y < length g.names
+  pub known_finish : (y : ℕ) (qs : List PlainPiece) → (w : List PlainToken) × SuitsWord g (finish y ∷ qs) w → y < length g.names
   known_finish y qs s = s.1.0

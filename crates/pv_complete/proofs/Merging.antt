@@ -17,10 +17,10 @@ use Rattle.pv_missing.specs.Completing.{LeavesOut, out_done, out_new}
 use Rattle.pv_missing.specs.Extending.{join}
 use Rattle.pv_missing.proofs.Growing.{allows-empty, empty_join}
 use Rattle.pv_complete.specs.Events.{Event, events_text, marks_from, new_end, new_start, news, old_bytes, old_start, opens}
-use Rattle.pv_complete.specs.Growing.{beside}
+use Rattle.pv_complete.specs.Growing.{trees_and}
 use Rattle.pv_complete.specs.Merging.{AreValidTrees, IsCompletedList, IsCompletedTree, Merges, merge_along, merge_end, merge_finish, merge_kept, merge_left, merge_start, view_beside}
 use Rattle.pv_complete.specs.Pieces.{PlainPiece, Writes, finish, kept, start, write_kept, write_new, write_none, write_text}
-use Rattle.pv_complete.specs.Writable.{HasNames, Keeps}
+use Rattle.pv_complete.specs.Writable.{HasNames, KeepsWritable}
 use Rattle.pv_complete.proofs.Keeping.{keeps_new, keeps_none, name_of_number, no-attributes}
 
 pub events-join : (a b : List Event) → events_text (a ++ b) ≡ events_text a ++ events_text b
@@ -63,19 +63,19 @@ text_join true a c = refl
 text_join false a c = refl
 
 module _ {M : Type 0} where
-  text-beside : (a b : Forest M) → forest_text (beside a b) ≡ forest_text a ++ forest_text b
-  text-beside no_trees b = refl
-  text-beside (tree t a) b = ap (λ x. tree_text t ++ x) (text-beside a b) ∙ sym (append_assoc (tree_text t) (forest_text a) (forest_text b))
+  text-trees_and : (a b : Forest M) → forest_text (trees_and a b) ≡ forest_text a ++ forest_text b
+  text-trees_and no_trees b = refl
+  text-trees_and (tree t a) b = ap (λ x. tree_text t ++ x) (text-trees_and a b) ∙ sym (append_assoc (tree_text t) (forest_text a) (forest_text b))
 
-  view-beside : (a b : Forest M) (h : Hedge) → view_beside (beside a b) h ≡ view_beside a (view_beside b h)
-  view-beside no_trees b h = refl
-  view-beside (tree t a) b h = ap (λ x. view_before t x) (view-beside a b h)
+  view-trees_and : (a b : Forest M) (h : Hedge) → view_beside (trees_and a b) h ≡ view_beside a (view_beside b h)
+  view-trees_and no_trees b h = refl
+  view-trees_and (tree t a) b h = ap (λ x. view_before t x) (view-trees_and a b h)
 
-  beside-assoc : (a b c : Forest M) → beside a (beside b c) ≡ beside (beside a b) c
-  beside-assoc no_trees b c = refl
-  beside-assoc (tree t a) b c = ap (tree t) (beside-assoc a b c)
+  trees_and-assoc : (a b c : Forest M) → trees_and a (trees_and b c) ≡ trees_and (trees_and a b) c
+  trees_and-assoc no_trees b c = refl
+  trees_and-assoc (tree t a) b c = ap (tree t) (trees_and-assoc a b c)
 
-  beside_none : (a b : Forest M) → no_trees ≡ beside a b → no_trees ≡ b
+  beside_none : (a b : Forest M) → no_trees ≡ trees_and a b → no_trees ≡ b
   beside_none no_trees b e = e
   beside_none (tree t a) b e = absurd cc
 
@@ -85,22 +85,22 @@ module _ {M : Type 0} where
   before-join (cdata_node c) h b = refl
   before-join (misc_node c) h b = refl
 
-  beside-join : (a : Forest M) (h : Hedge) → view_beside a h ≡ join (view_all a) h
-  beside-join no_trees h = refl
-  beside-join (tree t a) h = ap (λ x. view_before t x) (beside-join a h) ∙ before-join t (view_all a) h
+  trees_and-join : (a : Forest M) (h : Hedge) → view_beside a h ≡ join (view_all a) h
+  trees_and-join no_trees h = refl
+  trees_and-join (tree t a) h = ap (λ x. view_before t x) (trees_and-join a h) ∙ before-join t (view_all a) h
 
-  pub beside-none : (a : Forest M) → beside a no_trees ≡ a
-  beside-none no_trees = refl
-  beside-none (tree t a) = ap (tree t) (beside-none a)
+  pub trees_and-none : (a : Forest M) → trees_and a no_trees ≡ a
+  trees_and-none no_trees = refl
+  trees_and-none (tree t a) = ap (tree t) (trees_and-none a)
 
-  pub beside-done : (a : Forest M) → view_beside a done ≡ view_all a
-  beside-done no_trees = refl
-  beside-done (tree t a) = ap (λ x. view_before t x) (beside-done a)
+  pub trees_and-done : (a : Forest M) → view_beside a done ≡ view_all a
+  trees_and-done no_trees = refl
+  trees_and-done (tree t a) = ap (λ x. view_before t x) (trees_and-done a)
 
 module _ {M : Type 0} (g : PlainDtd) where
-  valid-beside : (a b : Forest M) → AreValidTrees g a → AreValidTrees g b → AreValidTrees g (beside a b)
-  valid-beside no_trees b p q = q
-  valid-beside (tree t a) b p q = (p.0, valid-beside a b p.1 q)
+  valid-trees_and : (a b : Forest M) → AreValidTrees g a → AreValidTrees g b → AreValidTrees g (trees_and a b)
+  valid-trees_and no_trees b p q = q
+  valid-trees_and (tree t a) b p q = (p.0, valid-trees_and a b p.1 q)
 
   word-before : (t : Tree M) (a b : List PlainToken) → node_before g t (a ++ b) ≡ node_before g t a ++ b
   word-before (element x s e k m) a b = refl
@@ -108,9 +108,9 @@ module _ {M : Type 0} (g : PlainDtd) where
   word-before (cdata_node c) a b = refl
   word-before (misc_node c) a b = refl
 
-  word-beside : (a b : Forest M) → word_of g (beside a b) ≡ word_of g a ++ word_of g b
-  word-beside no_trees b = refl
-  word-beside (tree t a) b = ap (λ x. node_before g t x) (word-beside a b) ∙ word-before t (word_of g a) (word_of g b)
+  word-trees_and : (a b : Forest M) → word_of g (trees_and a b) ≡ word_of g a ++ word_of g b
+  word-trees_and no_trees b = refl
+  word-trees_and (tree t a) b = ap (λ x. node_before g t x) (word-trees_and a b) ∙ word-before t (word_of g a) (word_of g b)
 
 module _ {M : Type 0} (blank : M) (g : PlainDtd) (proper : IsProperDtd g) (names : HasNames g) where
   -- some kids completed, so that their word is u
@@ -122,7 +122,7 @@ module _ {M : Type 0} (blank : M) (g : PlainDtd) (proper : IsProperDtd g) (names
     pub word : word_of g new ≡ u
     pub count : news es ≡ n + k
     pub none : u ≡ [] → new ≡ no_trees
-    pub keeps : (f f' : Forest M) → Keeps f f' → Keeps (beside kids f) (beside new f')
+    pub keeps : (f f' : Forest M) → KeepsWritable f f' → KeepsWritable (trees_and kids f) (trees_and new f')
 
   part_none : (n k : ℕ) → n ≡ 0 → k ≡ 0 → Part no_trees [] [] n k
   part_none n k e f = record {
@@ -161,22 +161,22 @@ module _ {M : Type 0} (blank : M) (g : PlainDtd) (proper : IsProperDtd g) (names
     word = c.head (word_of g p.new) ∙ is (word_of g p.new) ∙ p.word;
     count = let q = p.count in omega (arith, news-join one two);
     none = λ e. absurd (some e);
-    keeps = λ f f' h. c.keeps (beside kids f) (beside p.new f') (p.keeps f f' h);
+    keeps = λ f f' h. c.keeps (trees_and kids f) (trees_and p.new f') (p.keeps f f' h);
   }
 
-  part_join : (a b : Forest M) (u v : List PlainToken) (one two : List Event) (n1 n2 k1 k2 : ℕ) → Part a u one n1 k1 → Part b v two n2 k2 → Part (beside a b) (u ++ v) (one ++ two) (n1 + n2) (k1 + k2)
+  part_join : (a b : Forest M) (u v : List PlainToken) (one two : List Event) (n1 n2 k1 k2 : ℕ) → Part a u one n1 k1 → Part b v two n2 k2 → Part (trees_and a b) (u ++ v) (one ++ two) (n1 + n2) (k1 + k2)
   part_join a b u v one two n1 n2 k1 k2 p q = record {
-    new = beside p.new q.new;
-    text = text-beside p.new q.new ∙ (let c = p.text in let d = q.text in rw (events-join one two, c, d) refl);
+    new = trees_and p.new q.new;
+    text = text-trees_and p.new q.new ∙ (let c = p.text in let d = q.text in rw (events-join one two, c, d) refl);
     tags = λ m e more h h' l.
         let z : m + opens (one ++ two) ≡ m + opens one + opens two = omega (arith, opens-join one two) in
-        rw (marks-join m one two, append_assoc (marks_from m one) (marks_from (m + opens one) two) more, view-beside a b h, view-beside p.new q.new h')
+        rw (marks-join m one two, append_assoc (marks_from m one) (marks_from (m + opens one) two) more, view-trees_and a b h, view-trees_and p.new q.new h')
         (p.tags m e (marks_from (m + opens one) two ++ more) (view_beside b h) (view_beside q.new h') (q.tags (m + opens one) e more h h' (rw z at l)));
-    valid = valid-beside g p.new q.new p.valid q.valid;
-    word = word-beside g p.new q.new ∙ (let c = p.word in let d = q.word in rw (c, d) refl);
+    valid = valid-trees_and g p.new q.new p.valid q.valid;
+    word = word-trees_and g p.new q.new ∙ (let c = p.word in let d = q.word in rw (c, d) refl);
     count = let c = p.count in let d = q.count in omega (arith, news-join one two);
     none = λ e. let s = empty_join u v (sym e) in let c = p.none s.0 in let d = q.none s.1 in rw (c, d) refl;
-    keeps = λ f f' h. rw (← beside-assoc a b f, ← beside-assoc p.new q.new f') (p.keeps (beside b f) (beside q.new f') (q.keeps f f' h));
+    keeps = λ f f' h. rw (← trees_and-assoc a b f, ← trees_and-assoc p.new q.new f') (p.keeps (trees_and b f) (trees_and q.new f') (q.keeps f f' h));
   }
 
   part_new : (kids : Forest M) (y n a k : ℕ) (m : PlainModel) (v : List PlainToken) (es : List Event) → n ≡ suc a → model_of g y ≡ Some m → Allows (declared g) m v → Part kids v es a k →
@@ -187,12 +187,12 @@ module _ {M : Type 0} (blank : M) (g : PlainDtd) (proper : IsProperDtd g) (names
     tags = λ i e more h h' l.
         let z : i + suc (opens (es ++ new_end x ∷ [])) ≡ suc i + opens es = omega (arith, opens-join es (new_end x ∷ [])) in
         out_new i (suc i + opens es) e (i ∷ (marks_from (suc i) (es ++ new_end x ∷ []) ++ more)) (marks_from (suc i) es) more x (view_beside kids h) (view_all kids) h (view_all p.new) h'
-        (rw (marks-join (suc i) es (new_end x ∷ []), append-nil) refl) (beside-join kids h) (inner i) (rw z at l);
+        (rw (marks-join (suc i) es (new_end x ∷ []), append-nil) refl) (trees_and-join kids h) (inner i) (rw z at l);
     valid = ((own, p.valid), tt);
     word = let s = spelled g proper y m is in rw s refl;
     count = let c = p.count in omega (arith, news-join es (new_end x ∷ []));
     none = λ e. absurd cc;
-    keeps = λ f f' h. keeps_new x kids p.new f f' blank named no-attributes (rw (beside-none kids, beside-none p.new) at (p.keeps no_trees no_trees keeps_none)) h;
+    keeps = λ f f' h. keeps_new x kids p.new f f' blank named no-attributes (rw (trees_and-none kids, trees_and-none p.new) at (p.keeps no_trees no_trees keeps_none)) h;
   }
     where
       x : List ℕ
@@ -202,7 +202,7 @@ module _ {M : Type 0} (blank : M) (g : PlainDtd) (proper : IsProperDtd g) (names
       named = name_of_number g proper names y m is
 
       inner : (i : ℕ) → LeavesOut (suc i) (suc i + opens es) (marks_from (suc i) es) (view_all kids) (view_all p.new)
-      inner i = rw (append-nil, beside-done kids, beside-done p.new) at (p.tags (suc i) (suc i + opens es) [] done done (out_done (suc i + opens es) (suc i + opens es) refl))
+      inner i = rw (append-nil, trees_and-done kids, trees_and-done p.new) at (p.tags (suc i) (suc i + opens es) [] done done (out_done (suc i + opens es) (suc i + opens es) refl))
 
       own : IsOwnValid g (number_of g x) p.new
       own = record {
@@ -222,23 +222,23 @@ module _ {M : Type 0} (blank : M) (g : PlainDtd) (proper : IsProperDtd g) (names
     pub two : List Event
     pub k1 : ℕ
     pub k2 : ℕ
-    pub is_forest : kids ≡ beside front back
+    pub is_forest : kids ≡ trees_and front back
     pub is_events : es ≡ one ++ two
     pub is_count : k ≡ k1 + k2
     pub part : Part front u one n k1
     pub rest : Merges g qs back two k2
     pub rest_word : word_of g back ≡ w
 
-  taken_join : (qs : List PlainPiece) (kids a b : Forest M) (es one two : List Event) (k k1 k2 : ℕ) (u v w : List PlainToken) (n n1 n2 : ℕ) → kids ≡ beside a b → es ≡ one ++ two → k ≡ k1 + k2 → n ≡ n1 + n2 →
+  taken_join : (qs : List PlainPiece) (kids a b : Forest M) (es one two : List Event) (k k1 k2 : ℕ) (u v w : List PlainToken) (n n1 n2 : ℕ) → kids ≡ trees_and a b → es ≡ one ++ two → k ≡ k1 + k2 → n ≡ n1 + n2 →
       Part a u one n1 k1 → Taken qs b two k2 v w n2 → Taken qs kids es k (u ++ v) w n
   taken_join qs kids a b es one two k k1 k2 u v w n n1 n2 f s c z p t = record {
-    front = beside a t.front;
+    front = trees_and a t.front;
     back = t.back;
     one = one ++ t.one;
     two = t.two;
     k1 = k1 + t.k1;
     k2 = t.k2;
-    is_forest = f ∙ (let i = t.is_forest in ap (λ x. beside a x) i) ∙ beside-assoc a t.front t.back;
+    is_forest = f ∙ (let i = t.is_forest in ap (λ x. trees_and a x) i) ∙ trees_and-assoc a t.front t.back;
     is_events = s ∙ (let i = t.is_events in ap (λ x. one ++ x) i) ∙ sym (append_assoc one t.one t.two);
     is_count = let i = t.is_count in omega arith;
     part = rw z (part_join a t.front u v one t.one n1 n2 k1 t.k1 p t.part);
@@ -343,7 +343,7 @@ module _ {M : Type 0} (blank : M) (g : PlainDtd) (proper : IsProperDtd g) (names
     pub word : word_of g new ≡ word_of g kids
     pub count : news es ≡ k
     pub none : no_trees ≡ kids → new ≡ no_trees
-    pub keeps : (f f' : Forest M) → Keeps f f' → Keeps (beside kids f) (beside new f')
+    pub keeps : (f f' : Forest M) → KeepsWritable f f' → KeepsWritable (trees_and kids f) (trees_and new f')
 
   left_over : (ps : List PlainPiece) (kids : Forest M) (es : List Event) (k : ℕ) → ps ≡ [] → Merges g ps kids es k → Left kids es k
   left_over ps kids es k e (merge_end _ z) = record {
@@ -368,28 +368,28 @@ module _ {M : Type 0} (blank : M) (g : PlainDtd) (proper : IsProperDtd g) (names
         word = c.head (word_of g o.new) ∙ (let q = o.word in ap (λ x. node_before g t x) q);
         count = let q = o.count in omega (arith, news-join one two);
         none = λ f. absurd cc;
-        keeps = λ f f' h. c.keeps (beside rest f) (beside o.new f') (o.keeps f f' h);
+        keeps = λ f f' h. c.keeps (trees_and rest f) (trees_and o.new f') (o.keeps f f' h);
       })
   left_over ps kids es k e (merge_along t new rest qs one two _ _ a i j c is d) = absurd cc
   left_over ps kids es k e (merge_kept t new rest qs one two _ token2 _ a i j c is d) = absurd cc
   left_over ps kids es k e (merge_start z _ _ qs ts _ i d) = absurd cc
   left_over ps kids es k e (merge_finish z _ _ qs ts _ i d) = absurd cc
 
-  both_parts : (kids front back : Forest M) (es one two : List Event) (n k k1 k2 : ℕ) (u : List PlainToken) → kids ≡ beside front back → es ≡ one ++ two → k ≡ k1 + k2 → Part front u one n k1 → Left back two k2 → word_of g back ≡ [] →
+  both_parts : (kids front back : Forest M) (es one two : List Event) (n k k1 k2 : ℕ) (u : List PlainToken) → kids ≡ trees_and front back → es ≡ one ++ two → k ≡ k1 + k2 → Part front u one n k1 → Left back two k2 → word_of g back ≡ [] →
       (new : Forest M) × IsCompletedList g kids new u es n k
   both_parts kids front back es one two n k k1 k2 u f q c p o r = (
-    beside p.new o.new,
+    trees_and p.new o.new,
     record {
-      text = text-beside p.new o.new ∙ (let a = p.text in let b = o.text in rw (q, events-join one two, a, b) refl);
+      text = text-trees_and p.new o.new ∙ (let a = p.text in let b = o.text in rw (q, events-join one two, a, b) refl);
       tags = λ m e more h h' l.
           let z : m + opens es ≡ m + opens one + opens two = rw q (omega (arith, opens-join one two)) in
-          rw (q, f, marks-join m one two, append_assoc (marks_from m one) (marks_from (m + opens one) two) more, view-beside front back h, view-beside p.new o.new h')
+          rw (q, f, marks-join m one two, append_assoc (marks_from m one) (marks_from (m + opens one) two) more, view-trees_and front back h, view-trees_and p.new o.new h')
           (p.tags m e (marks_from (m + opens one) two ++ more) (view_beside back h) (view_beside o.new h') (o.tags (m + opens one) e more h h' (rw z at l)));
-      valid = valid-beside g p.new o.new p.valid o.valid;
-      word = word-beside g p.new o.new ∙ (let a = p.word in let b = o.word in rw (a, b, r) (append-nil u));
+      valid = valid-trees_and g p.new o.new p.valid o.valid;
+      word = word-trees_and g p.new o.new ∙ (let a = p.word in let b = o.word in rw (a, b, r) (append-nil u));
       count = let a = p.count in let b = o.count in rw q (omega (arith, news-join one two));
       none = λ e z. let a = p.none z in let b = o.none (beside_none front back (sym e ∙ f)) in rw (a, b) refl;
-      keeps = λ s s' h. rw (f, ← beside-assoc front back s, ← beside-assoc p.new o.new s') (p.keeps (beside back s) (beside o.new s') (o.keeps s s' h));
+      keeps = λ s s' h. rw (f, ← trees_and-assoc front back s, ← trees_and-assoc p.new o.new s') (p.keeps (trees_and back s) (trees_and o.new s') (o.keeps s s' h));
     },
   )
 

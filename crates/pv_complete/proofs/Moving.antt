@@ -4,7 +4,7 @@ use Rattle.std.proofs.Common.{List, Some, arith, get_or, inl, inr, length, refl,
 use Rattle.std.proofs.lemmas.Option.{slice_get-get_or}
 use Rattle.pv_model.specs.Plain.{PlainPart, PlainParts, PlainToken, any, children, choice, empty, mixed, name, named, no_parts, opt, part, plus, seq, star, text}
 use Rattle.pv_model.specs.declared.models.NameId.{NameId}
-use Rattle.pv_dtd.specs.Facts.{are_known, is_formed}
+use Rattle.pv_dtd.specs.Facts.{are_known, is_formed_part}
 use Rattle.pv_dtd.specs.Plain.{PlainDtd, declared, model_of, parts_in}
 use Rattle.pv_rules.specs.Derivations.{heaviest}
 use Rattle.pv_rules.specs.Numbering.{IsMemberAt, first_part, part_at, rest_at}
@@ -95,7 +95,7 @@ module _ (g : PlainDtd) (w : List PlainToken) (t : Goal → ℕ) (are : ∥ AreW
       part_seq_weight g w t are known some_names i j span q has few p ps e,
     )
 
-    pub moves_formed : (ps : PlainParts) (r : ℕ) → IsTrue (is_formed (seq ps)) → part_at g q ≡ Some (seq ps) → r ≡ suc q → IsMove g w t (part_site q) i j (move.One (site.Rest r))
+    pub moves_formed : (ps : PlainParts) (r : ℕ) → IsTrue (is_formed_part (seq ps)) → part_at g q ≡ Some (seq ps) → r ≡ suc q → IsMove g w t (part_site q) i j (move.One (site.Rest r))
     moves_formed no_parts r f e n = absurd cc
     moves_formed (part p ps) r f e n = moves_seq p ps r e n
 

@@ -9,7 +9,7 @@ use Rattle.pv_rules.specs.Rules.{Goal, over}
 use Rattle.pv_rules.specs.Sites.{PlainSite, content_site, name_site, part_site, rest_site}
 use Rattle.pv_rules.specs.declared.sites.Site.{Site}
 use Rattle.pv_rules.specs.declared.sites.Site.TheVariants as site
-use Rattle.pv_complete.specs.Moves.{IsMove, rank}
+use Rattle.pv_complete.specs.Moves.{IsMove, site_rank}
 use Rattle.pv_complete.specs.Works.{CanSpellAll, IsNearer, CanSpell, distance, goal_work, moves_left, power}
 use Rattle.pv_complete.specs.declared.words.pieces.Move.TheVariants as move
 use Rattle.pv_complete.specs.declared.words.pieces.Work.{Work}
@@ -62,7 +62,7 @@ module _ (g : PlainDtd) (w : List PlainToken) (t : Goal → ℕ) where
   ready_join [] x a b = (b, tt)
   ready_join (y ∷ xs) x a b = (a.0, ready_join xs x a.1 b)
 
-  low_rank : (s : PlainSite) → rank g s < 4 + 2 * parts_in_models g.models
+  low_rank : (s : PlainSite) → site_rank g s < 4 + 2 * parts_in_models g.models
   low_rank (name_site x) = omega arith
   low_rank (part_site q) = omega arith
   low_rank (rest_site q) = omega arith
@@ -98,14 +98,14 @@ module _ (g : PlainDtd) (w : List PlainToken) (t : Goal → ℕ) where
     pub nearer_one : (r : Site) → IsMove g w t (plain_site s) i j (move.One r) → IsNearer g w t (works ++ goal_work s i j ∷ []) (works ++ goal_work r i j ∷ [])
     nearer_one r (m, has, lt, e) = one_nearer (goal_work r i j) (λ a. (
       (has, a.1, (let z = a.2 in omega arith)),
-      (let d = near (4 + 2 * parts_in_models g.models) (suc (length w)) (t (over (plain_site r) i j)) (t (over (plain_site s) i j)) (j - i) (j - i) (rank g (plain_site r)) (rank g (plain_site s))
+      (let d = near (4 + 2 * parts_in_models g.models) (suc (length w)) (t (over (plain_site r) i j)) (t (over (plain_site s) i j)) (j - i) (j - i) (site_rank g (plain_site r)) (site_rank g (plain_site s))
           (omega arith) (omega arith) (low_rank (plain_site r)) (inr lt) in omega arith),
     ))
 
     pub nearer_text : (n : ℕ) → n ≡ suc i → IsMove g w t (plain_site s) i j move.Text → IsNearer g w t (works ++ goal_work s i j ∷ []) (works ++ goal_work s n j ∷ [])
     nearer_text n next (x, is, holds, lt, f, e) = rw next (one_nearer (goal_work s (suc i) j) (λ a. (
       (a.0, (let q = a.1 in (omega arith, q.1)), (let z = a.2 in omega arith)),
-      (let d = near (4 + 2 * parts_in_models g.models) (suc (length w)) (t (over (plain_site s) (suc i) j)) (t (over (plain_site s) i j)) (j - suc i) (j - i) (rank g (plain_site s)) (rank g (plain_site s))
+      (let d = near (4 + 2 * parts_in_models g.models) (suc (length w)) (t (over (plain_site s) (suc i) j)) (t (over (plain_site s) i j)) (j - suc i) (j - i) (site_rank g (plain_site s)) (site_rank g (plain_site s))
           (omega arith) (omega arith) (low_rank (plain_site s)) (inl (omega arith)) in omega arith),
     )))
 
@@ -115,7 +115,7 @@ module _ (g : PlainDtd) (w : List PlainToken) (t : Goal → ℕ) where
       (has, a.1, (let z = a.2 in omega arith)),
       omega arith,
       (let q = a.1 in let l = q.0 in let n = q.1 in
-          let d = lighter (4 + 2 * parts_in_models g.models) (suc (length w)) (t (over (content_site id.0) i j)) (t (over (plain_site s) i j)) (j - i) (j - i) (rank g (content_site id.0)) (rank g (plain_site s))
+          let d = lighter (4 + 2 * parts_in_models g.models) (suc (length w)) (t (over (content_site id.0) i j)) (t (over (plain_site s) i j)) (j - i) (j - i) (site_rank g (content_site id.0)) (site_rank g (plain_site s))
           (omega arith) (omega arith) (low_rank (content_site id.0)) in omega arith),
     ))
 
@@ -124,12 +124,12 @@ module _ (g : PlainDtd) (w : List PlainToken) (t : Goal → ℕ) where
         let span = a.1 in let few = a.2 in let within = span.1 in (
           (hq, (lt, within), omega arith),
           (hr, (le, omega arith), omega arith),
-          (let d = near (4 + 2 * parts_in_models g.models) (suc (length w)) (t (over (plain_site q) k j)) (t (over (plain_site s) i j)) (j - k) (j - i) (rank g (plain_site q)) (rank g (plain_site s))
+          (let d = near (4 + 2 * parts_in_models g.models) (suc (length w)) (t (over (plain_site q) k j)) (t (over (plain_site s) i j)) (j - k) (j - i) (site_rank g (plain_site q)) (site_rank g (plain_site s))
               (omega arith) (omega arith) (low_rank (plain_site q)) (shorter less) in omega arith),
-          (let d = near (4 + 2 * parts_in_models g.models) (suc (length w)) (t (over (plain_site r) i k)) (t (over (plain_site s) i j)) (k - i) (j - i) (rank g (plain_site r)) (rank g (plain_site s))
+          (let d = near (4 + 2 * parts_in_models g.models) (suc (length w)) (t (over (plain_site r) i k)) (t (over (plain_site s) i j)) (k - i) (j - i) (site_rank g (plain_site r)) (site_rank g (plain_site s))
               (omega arith) (omega arith) (low_rank (plain_site r)) (inr low) in omega arith),
         ))
       where
-        shorter : (i < k) ⊎ (rank g (plain_site q) < rank g (plain_site s)) → (j - k < j - i) ⊎ (rank g (plain_site q) < rank g (plain_site s))
+        shorter : (i < k) ⊎ (site_rank g (plain_site q) < site_rank g (plain_site s)) → (j - k < j - i) ⊎ (site_rank g (plain_site q) < site_rank g (plain_site s))
         shorter (inl l) = inl (omega arith)
         shorter (inr l) = inr l

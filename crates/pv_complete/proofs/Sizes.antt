@@ -4,7 +4,7 @@ use Rattle.std.specs.List.{list_all}
 use Rattle.std.specs.Prelude.{slice_get, zero}
 use Rattle.std.proofs.lemmas.Bool.{and_from, and_parts, leb-true}
 use Rattle.std.proofs.lemmas.List.{length-append}
-use Rattle.pv_dtd.specs.Facts.{MAX_NAME_BYTES, is_short}
+use Rattle.pv_dtd.specs.Facts.{MAX_NAME_BYTES, is_short_name}
 use Rattle.pv_dtd.specs.Hedge.{AreGood, Hedge, done, elements}
 use Rattle.pv_dtd.specs.Plain.{PlainDtd, number_of}
 use Rattle.pv_dtd.proofs.Naming.{get-place}
@@ -12,15 +12,15 @@ use Rattle.pv_tree.specs.Legal.{are_formed, fits_kids, is_formed}
 use Rattle.pv_tree.specs.Plain.{Ending, Forest, Tree, cdata_node, element, misc_node, no_trees, short, tagged, text_node, tree}
 use Rattle.pv_tree.specs.View.{spread, view_all, view_before}
 use Rattle.pv_write.specs.Text.{forest_text, tree_text}
-use Rattle.pv_complete.specs.Growing.{Grows, KeepsEnding, beside, grows_kept, grows_leaf, grows_new, grows_none}
+use Rattle.pv_complete.specs.Growing.{Grows, KeepsEnding, trees_and, grows_kept, grows_leaf, grows_new, grows_none}
 use Rattle.pv_complete.specs.Growing.{HasShortNames, most_tag_bytes}
 use Rattle.pv_complete.proofs.FewMarks.{elements_spread}
 
 -- ---- names
-short_at : (names : List (List ℕ)) (x : List ℕ) (y : ℕ) → IsTrue (list_all is_short names) → slice_get names y ≡ Some x → length x ≤ MAX_NAME_BYTES
+short_at : (names : List (List ℕ)) (x : List ℕ) (y : ℕ) → IsTrue (list_all is_short_name names) → slice_get names y ≡ Some x → length x ≤ MAX_NAME_BYTES
 short_at [] x y s e = absurd cc
-short_at (n ∷ ns) x zero s e = let p = (and_parts (is_short n) (list_all is_short ns) s).0 in let f : n ≡ x = cc in let q : length n ≤ MAX_NAME_BYTES = leb-true (length n) MAX_NAME_BYTES p in subst (λ z. length z ≤ MAX_NAME_BYTES) f q
-short_at (n ∷ ns) x (suc y) s e = short_at ns x y (and_parts (is_short n) (list_all is_short ns) s).1 e
+short_at (n ∷ ns) x zero s e = let p = (and_parts (is_short_name n) (list_all is_short_name ns) s).0 in let f : n ≡ x = cc in let q : length n ≤ MAX_NAME_BYTES = leb-true (length n) MAX_NAME_BYTES p in subst (λ z. length z ≤ MAX_NAME_BYTES) f q
+short_at (n ∷ ns) x (suc y) s e = short_at ns x y (and_parts (is_short_name n) (list_all is_short_name ns) s).1 e
 
 short_name : (g : PlainDtd) (x : List ℕ) (y : ℕ) → HasShortNames g → number_of g x ≡ Some y → length x ≤ MAX_NAME_BYTES
 short_name g x y s e = short_at g.names x y s (get-place g.names x y e)
@@ -60,19 +60,19 @@ good_behind g (cdata_node b) h a = a
 good_behind g (misc_node b) h a = a
 
 -- ---- trees side by side
-beside_formed : {M : Type 0} (k a : Forest M) → IsTrue (are_formed (beside k a)) → IsTrue (are_formed k) × IsTrue (are_formed a)
+beside_formed : {M : Type 0} (k a : Forest M) → IsTrue (are_formed (trees_and k a)) → IsTrue (are_formed k) × IsTrue (are_formed a)
 beside_formed no_trees a f = (refl, f)
 beside_formed (tree t k) a f =
-    let p = and_parts (is_formed t) (are_formed (beside k a)) f in
+    let p = and_parts (is_formed t) (are_formed (trees_and k a)) f in
     let q = beside_formed k a p.1 in (and_from (is_formed t) (are_formed k) p.0 q.0, q.1)
 
-beside_text : {M : Type 0} (k a : Forest M) → length (forest_text (beside k a)) ≡ length (forest_text k) + length (forest_text a)
+beside_text : {M : Type 0} (k a : Forest M) → length (forest_text (trees_and k a)) ≡ length (forest_text k) + length (forest_text a)
 beside_text no_trees a = omega arith
-beside_text (tree t k) a = omega (arith, beside_text k a, length-append (tree_text t) (forest_text (beside k a)), length-append (tree_text t) (forest_text k))
+beside_text (tree t k) a = omega (arith, beside_text k a, length-append (tree_text t) (forest_text (trees_and k a)), length-append (tree_text t) (forest_text k))
 
-beside_elements : {M : Type 0} (k a : Forest M) → elements (view_all (beside k a)) ≡ elements (view_all k) + elements (view_all a)
+beside_elements : {M : Type 0} (k a : Forest M) → elements (view_all (trees_and k a)) ≡ elements (view_all k) + elements (view_all a)
 beside_elements no_trees a = omega arith
-beside_elements (tree t k) a = omega (arith, beside_elements k a, elements_before t (view_all (beside k a)), elements_before t (view_all k))
+beside_elements (tree t k) a = omega (arith, beside_elements k a, elements_before t (view_all (trees_and k a)), elements_before t (view_all k))
 
 -- an element that keeps its tags, or gets an end tag
 kept_size : {M : Type 0} (x attrs : List ℕ) (e f : Ending) (k l : Forest M) (m n : M) → KeepsEnding e l f → IsTrue (fits_kids e k) →

@@ -17,7 +17,7 @@ use Rattle.pv_missing.specs.PlainForms.{plain_of}
 use Rattle.pv_missing.specs.declared.owners.Of.{Of}
 use Rattle.pv_missing.specs.declared.owners.Of.TheVariants as of
 use Rattle.pv_complete.specs.Pieces.{PlainPiece, Writes, WritesAt, WritesContent, finish, kept, start, write_kept, write_new, write_none, write_text}
-use Rattle.pv_complete.specs.Spelling.{HoldsData, MayBeNothing, MayBeOne, MayBeTwo, Spells, any_two, children_one, choice_one, data_nothing, empty_nothing, last_one, mixed_two, name_one, opt_nothing, opt_one, plus_one, plus_two, rest_two, seq_one, spell_kept, spell_new, spell_none, spell_one, spell_text, spell_two, star_nothing, star_two}
+use Rattle.pv_complete.specs.Spelling.{HoldsData, MayBeNothing, MayBeOne, MayBeTwo, SpellsSpan, any_two, children_one, choice_one, data_nothing, empty_nothing, last_one, mixed_two, name_one, opt_nothing, opt_one, plus_one, plus_two, rest_two, seq_one, spell_kept, spell_new, spell_none, spell_one, spell_text, spell_two, star_nothing, star_two}
 
 module _ (g : PlainDtd) where
   -- pieces for one word and then those for the next
@@ -149,7 +149,7 @@ module _ (g : PlainDtd) where
       (h p ((parts_by_number g).member o p (part t ts) e)) (i (part t ts) ((parts_by_number g).next o p t ts e)))
 
 module _ (g : PlainDtd) (w : List PlainToken) where
-  pub spelled : (n : ℕ) (s : PlainSite) (i j : ℕ) (ps : List PlainPiece) (v : List PlainToken) → Stands w i j v → Spells g w n (over s i j) ps → WritesSite g n s v ps
+  pub spelled : (n : ℕ) (s : PlainSite) (i j : ℕ) (ps : List PlainPiece) (v : List PlainToken) → Stands w i j v → SpellsSpan g w n (over s i j) ps → WritesSite g n s v ps
   spelled n s i j ps v st (spell_kept _ x _ z f) = rw (one_token w i j x v st refl f) (write_kept n x [] [] [] (write_none n z))
   spelled n s i j ps v st (spell_new _ a x _ _ os _ z e d) = new_name g n a x v os ps z e (spelled a (content_site x) i j os v st d)
   spelled n s i j ps v st (spell_text _ x _ _ os lt f h d) =
@@ -170,6 +170,6 @@ spelled_writes g x n w ps = (
 )
 
 -- what stands at the site of an owner
-pub writes_at : (g : PlainDtd) (owner : Of) (n : ℕ) (w : List PlainToken) (ps : List PlainPiece) → Spells g w n (over (plain_of owner) 0 (length w)) ps → WritesAt g (plain_of owner) n w ps
+pub writes_at : (g : PlainDtd) (owner : Of) (n : ℕ) (w : List PlainToken) (ps : List PlainPiece) → SpellsSpan g w n (over (plain_of owner) 0 (length w)) ps → WritesAt g (plain_of owner) n w ps
 writes_at g (of.Root id) n w ps d = (spelled_writes g id.0 n w ps).1 d
 writes_at g (of.Elem id) n w ps d = (spelled_writes g id.0 n w ps).0 d

@@ -13,7 +13,7 @@ use Rattle.pv_complete.specs.Moves.{IsMove}
 use Rattle.pv_complete.specs.PieceForms.{plain_piece, plain_pieces}
 use Rattle.pv_complete.specs.declared.words.pieces.Piece.{Piece}
 use Rattle.pv_complete.specs.Pieces.{PlainPiece, finish, kept, start}
-use Rattle.pv_complete.specs.Spelling.{Spells, spell_kept, spell_new, spell_none, spell_one, spell_text, spell_two}
+use Rattle.pv_complete.specs.Spelling.{SpellsSpan, spell_kept, spell_new, spell_none, spell_one, spell_text, spell_two}
 use Rattle.pv_complete.specs.Works.{Goes, Wants, WantsAll, goal_work, wants_none, wants_top}
 use Rattle.pv_complete.specs.declared.words.pieces.Move.TheVariants as move
 use Rattle.pv_complete.specs.declared.words.pieces.Work.{Work}
@@ -48,7 +48,7 @@ module _ (g : PlainDtd) (w : List PlainToken) (t : Goal → ℕ) where
   nothing_case all qs e (wants_top (x ∷ works) _ o ps rs _ f j want below) = absurd cc
 
   -- a stack of one goal wants its pieces
-  pub one_goal : (s : Site) (i j : ℕ) (ps : List PlainPiece) → WantsAll g w t (goal_work s i j ∷ []) ps → Spells g w (t (over (plain_site s) i j)) (over (plain_site s) i j) ps
+  pub one_goal : (s : Site) (i j : ℕ) (ps : List PlainPiece) → WantsAll g w t (goal_work s i j ∷ []) ps → SpellsSpan g w (t (over (plain_site s) i j)) (over (plain_site s) i j) ps
   one_goal s i j ps h =
       let o = top_of [] (goal_work s i j) ps h in
       let z = nothing_case [] o.others refl o.below in
@@ -66,7 +66,7 @@ module _ (g : PlainDtd) (w : List PlainToken) (t : Goal → ℕ) where
       kept ∷ ps,
       rw e (append_assoc before (kept ∷ []) ps),
       on_top works (goal_work s i j) (kept ∷ []) ps
-          (let d : Spells g w (t (over (name_site x) i (suc i))) (over (name_site x) i (suc i)) (kept ∷ []) = spell_kept (t (over (name_site x) i (suc i))) x i (rw (is, f) at z) at in
+          (let d : SpellsSpan g w (t (over (name_site x) i (suc i))) (over (name_site x) i (suc i)) (kept ∷ []) = spell_kept (t (over (name_site x) i (suc i))) x i (rw (is, f) at z) at in
           rw (is, f) d) h,
     )
 
@@ -75,7 +75,7 @@ module _ (g : PlainDtd) (w : List PlainToken) (t : Goal → ℕ) where
       ps,
       refl,
       on_top works (goal_work s i j) [] ps
-          (let d : Spells g w (t (over (plain_site s) i i)) (over (plain_site s) i i) [] = spell_none (t (over (plain_site s) i i)) i (plain_site s) (rw (← f) at z) m in rw (← f) d) h,
+          (let d : SpellsSpan g w (t (over (plain_site s) i i)) (over (plain_site s) i i) [] = spell_none (t (over (plain_site s) i i)) i (plain_site s) (rw (← f) at z) m in rw (← f) d) h,
     )
 
     pub goes_one : (r : Site) → IsMove g w t (plain_site s) i j (move.One r) → Goes g w t (works ++ goal_work s i j ∷ []) before (works ++ goal_work r i j ∷ []) before

@@ -24,12 +24,12 @@ use Rattle.pv_tables.proofs.Summing.{same_word}
 use Rattle.pv_complete.specs.Loads.{UsesVerdict}
 use Rattle.pv_complete.specs.Pieces.{PlainPiece, Writes, WritesAt, WritesContent, finish, kept, start, write_kept, write_new, write_none, write_text}
 use Rattle.pv_complete.specs.PieceForms.{plain_piece, plain_pieces}
-use Rattle.pv_complete.specs.Written.{AreListPieces, AreNotImpossible, Suits, kept_for, kept_times}
+use Rattle.pv_complete.specs.Written.{AreListPieces, AreNotImpossible, SuitsWord, kept_for, kept_times}
 use Rattle.pv_complete.specs.declared.words.pieces.Piece.{Piece}
 use Rattle.pv_complete.specs.declared.words.pieces.Piece.TheVariants as piece
 
 -- ---- pieces suit a word
-pub suits_length : (g : PlainDtd) (ps : List PlainPiece) (w v : List PlainToken) → length v ≡ length w → Suits g ps w → Suits g ps v
+pub suits_length : (g : PlainDtd) (ps : List PlainPiece) (w v : List PlainToken) → length v ≡ length w → SuitsWord g ps w → SuitsWord g ps v
 suits_length g [] w [] e s = refl
 suits_length g [] w (t ∷ v) e s = absurd (let z : w ≡ [] = s in let l = ap length z in omega arith)
 suits_length g (kept ∷ ps) w [] e (t, r, f, s) = absurd (let l = ap length f in omega arith)
@@ -37,7 +37,7 @@ suits_length g (kept ∷ ps) w (u ∷ v) e (t, r, f, s) = (u, v, refl, suits_len
 suits_length g (start y ∷ ps) w v e s = (s.0, suits_length g ps w v e s.1)
 suits_length g (finish y ∷ ps) w v e s = (s.0, suits_length g ps w v e s.1)
 
-pub suits_kept : (g : PlainDtd) (w : List PlainToken) → Suits g (kept_for w) w
+pub suits_kept : (g : PlainDtd) (w : List PlainToken) → SuitsWord g (kept_for w) w
 suits_kept g [] = refl
 suits_kept g (t ∷ w) = (t, w, refl, suits_kept g w)
 
@@ -61,7 +61,7 @@ module _ (g : PlainDtd) (proper : IsProperDtd g) where
   known : (y : ℕ) (m : PlainModel) → model_of g y ≡ Some m → y < length g.names
   known y m is = let d = slice_get_within g.models y m is in let n = proper.named in omega arith
 
-  suits_writes : (n : ℕ) (u w : List PlainToken) (ps : List PlainPiece) → Writes g n u w ps → (qs : List PlainPiece) (v : List PlainToken) → Suits g qs v → Suits g (ps ++ qs) (w ++ v)
+  suits_writes : (n : ℕ) (u w : List PlainToken) (ps : List PlainPiece) → Writes g n u w ps → (qs : List PlainPiece) (v : List PlainToken) → SuitsWord g qs v → SuitsWord g (ps ++ qs) (w ++ v)
   suits_writes n u w ps (write_none _ z) qs v s = s
   suits_writes n u w ps (write_text _ u2 w2 os c) qs v s = (text, w2 ++ v, refl, suits_writes n u2 w2 os c qs v s)
   suits_writes n u w ps (write_kept _ y u2 w2 os c) qs v s = (named y, w2 ++ v, refl, suits_writes n u2 w2 os c qs v s)
@@ -70,10 +70,10 @@ module _ (g : PlainDtd) (proper : IsProperDtd g) where
       let q : w ++ v ≡ w1 ++ (w2 ++ v) = ap (λ x. x ++ v) j ∙ append_assoc w1 w2 v in
       rw (p, q) (known y m is, suits_writes a z w1 one c1 (finish y ∷ (two ++ qs)) (w2 ++ v) (known y m is, suits_writes b u2 w2 two c2 qs v s))
 
-  all_suits : (n : ℕ) (u w : List PlainToken) (ps : List PlainPiece) → Writes g n u w ps → Suits g ps w
+  all_suits : (n : ℕ) (u w : List PlainToken) (ps : List PlainPiece) → Writes g n u w ps → SuitsWord g ps w
   all_suits n u w ps c = rw (append-nil ps, append-nil w) at (suits_writes n u w ps c [] [] refl)
 
-  pub suits_at : (s : PlainSite) (n : ℕ) (w : List PlainToken) (ps : List PlainPiece) → WritesAt g s n w ps → Suits g ps w
+  pub suits_at : (s : PlainSite) (n : ℕ) (w : List PlainToken) (ps : List PlainPiece) → WritesAt g s n w ps → SuitsWord g ps w
   suits_at (name_site x) n w ps c = all_suits n (named x ∷ []) w ps c
   suits_at (content_site x) n w ps c = all_suits n c.whole w ps c.writes
   suits_at (part_site q) n w ps c = absurd c

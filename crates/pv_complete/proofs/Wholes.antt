@@ -35,11 +35,11 @@ use Rattle.pv_complete.specs.Events.{Event, events_text, marks_from, new_end, ne
 use Rattle.pv_complete.specs.Merging.{AreValidTrees, IsCompletedList, IsValidTree}
 use Rattle.pv_complete.specs.Needing.{Needs}
 use Rattle.pv_complete.specs.Pieces.{Writes, WritesAt}
-use Rattle.pv_complete.specs.Writable.{AreElements, AreWritable, HasNames, Keeps}
+use Rattle.pv_complete.specs.Writable.{AreElements, AreWritable, HasNames, KeepsWritable}
 use Rattle.pv_complete.specs.Written.{AreListPieces, Passes, WritesDoc}
 use Rattle.pv_complete.proofs.Completed.{merged_completed}
 use Rattle.pv_complete.proofs.Keeping.{keeps_none}
-use Rattle.pv_complete.proofs.Merging.{beside-none}
+use Rattle.pv_complete.proofs.Merging.{trees_and-none}
 use Rattle.pv_complete.proofs.Sizes.{tree_sizes}
 use Rattle.pv_complete.proofs.Walks.{passes_join}
 
@@ -126,8 +126,8 @@ root_of_list g root y old before after mark new es n k is rooted writable c = re
   grows = let q = keeps.grows in rw one at q;
 }
   where
-    keeps : Keeps (tree old no_trees) new
-    keeps = rw (beside-none new) at (c.keeps no_trees no_trees keeps_none)
+    keeps : KeepsWritable (tree old no_trees) new
+    keeps = rw (trees_and-none new) at (c.keeps no_trees no_trees keeps_none)
 
     o : IsOne g y new
     o = one_tree g y new (keeps.elements (rooted, tt)) c.word

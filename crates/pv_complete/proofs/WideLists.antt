@@ -18,7 +18,7 @@ use Rattle.pv_missing.specs.Widths.{FitsWeights, IsListForWeights, columns_of}
 use Rattle.pv_tree.specs.declared.nodes.Verdict.TheVariants as verdict
 use Rattle.pv_complete.specs.Loads.{UsesVerdict}
 use Rattle.pv_complete.specs.Needing.{CanWeigh}
-use Rattle.pv_complete.specs.WideLists.{FindsWide, PassesBy, PassesLists, StopsList}
+use Rattle.pv_complete.specs.WideLists.{FindsWide, PassesNarrowLists, PassesLists, StopsList}
 use Rattle.pv_complete.proofs.Adding.{adds_other, stops_here}
 
 -- fewer tokens are no wider

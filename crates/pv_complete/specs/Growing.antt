@@ -1,16 +1,16 @@
 -- Trees with new elements put in, as they are written.
 use Rattle.std.specs.Prelude.{IsTrue, List, [], false, length, ℕ, ◌*◌, ◌+◌, ◌≡◌, ◌≢◌, ◌≤◌, ◌⊎◌}
 use Rattle.std.specs.List.{list_all}
-use Rattle.pv_dtd.specs.Facts.{is_short}
+use Rattle.pv_dtd.specs.Facts.{is_short_name}
 use Rattle.pv_dtd.specs.Plain.{PlainDtd}
 use Rattle.pv_tree.specs.Plain.{Ending, Forest, PlainDoc, Tree, element, is_element, no_trees}
 use Rattle.pv_tree.specs.Plain.{short, tagged, tree}
 use Rattle.pv_write.specs.Text.{doc_text}
 
 -- the trees of one forest and then those of another
-abbrev pub beside : {M : Type 0} → Forest M → Forest M → Forest M
-beside no_trees b = b
-beside (tree t a) b = tree t (beside a b)
+abbrev pub trees_and : {M : Type 0} → Forest M → Forest M → Forest M
+trees_and no_trees b = b
+trees_and (tree t a) b = tree t (trees_and a b)
 
 -- the bytes between the name of an end tag and its `>`; a new one has none
 abbrev pub gap_of : Ending → List ℕ
@@ -30,7 +30,7 @@ pub data Grows {M : Type 0} : Forest M → Forest M → Type 0 where
   grows_kept : (x attrs : List ℕ) (e f : Ending) (k l a b : Forest M) (m n : M) →
       KeepsEnding e l f → Grows k l → Grows a b →
       Grows (tree (element x attrs e k m) a) (tree (element x attrs f l n) b)
-  grows_new : (x : List ℕ) (all k l a b : Forest M) (m : M) → all ≡ beside k a → Grows k l →
+  grows_new : (x : List ℕ) (all k l a b : Forest M) (m : M) → all ≡ trees_and k a → Grows k l →
       Grows a b → Grows all (tree (element x [] (tagged []) l m) b)
 
 -- The body is what the document is written as with new elements in it.
@@ -41,7 +41,7 @@ pub record IsGrownText {M : Type 0} (doc : PlainDoc M) (body : List ℕ) : Type 
 
 -- each name of the DTD has at most 256 bytes
 abbrev pub HasShortNames : PlainDtd → Type 0
-HasShortNames g = IsTrue (list_all is_short g.names)
+HasShortNames g = IsTrue (list_all is_short_name g.names)
 
 -- the most bytes of both tags of a new element: `<`, `>`, `</` and `>`, and its name twice
 abbrev pub most_tag_bytes : ℕ

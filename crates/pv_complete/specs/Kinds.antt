@@ -4,11 +4,11 @@ use Rattle.pv_dtd.specs.Plain.{PlainDtd, parts_in_models}
 use Rattle.pv_complete.specs.declared.listings.kinds.SiteKind.{SiteKind}
 use Rattle.pv_complete.specs.declared.listings.kinds.SiteKind.TheVariants as kind
 
-abbrev pub rank_of : SiteKind → ℕ
-rank_of kind.Content = 0
-rank_of kind.Name = 1
-rank_of kind.Part = 2
-rank_of kind.Rest = 3
+abbrev pub rank_of_kind : SiteKind → ℕ
+rank_of_kind kind.Content = 0
+rank_of_kind kind.Name = 1
+rank_of_kind kind.Part = 2
+rank_of_kind kind.Rest = 3
 
 -- how many numbers there are of a kind; not every part is a member of a sequence
 abbrev pub count_of : PlainDtd → SiteKind → ℕ

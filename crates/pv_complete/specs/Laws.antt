@@ -5,11 +5,11 @@ use Rattle.pv_dtd.specs.Plain.{PlainDtd}
 use Rattle.pv_rules.specs.Sites.{content_site, name_site}
 use Rattle.pv_missing.specs.Weighing.{whole}
 use Rattle.pv_complete.specs.Pieces.{PlainPiece, Writes, WritesContent}
-use Rattle.pv_complete.specs.Spelling.{Spells}
+use Rattle.pv_complete.specs.Spelling.{SpellsSpan}
 
 -- The pieces that are spelled over a whole word make it into what the content of an element allows,
 -- or into one element.
 abbrev pub SpelledWrites : Type 0
 SpelledWrites = (g : PlainDtd) (x n : ℕ) (w : List PlainToken) (ps : List PlainPiece) →
-    (Spells g w n (whole (content_site x) w) ps → WritesContent g x n w ps) ×
-    (Spells g w n (whole (name_site x) w) ps → Writes g n (named x ∷ []) w ps)
+    (SpellsSpan g w n (whole (content_site x) w) ps → WritesContent g x n w ps) ×
+    (SpellsSpan g w n (whole (name_site x) w) ps → Writes g n (named x ∷ []) w ps)

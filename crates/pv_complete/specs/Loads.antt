@@ -25,7 +25,8 @@ UsesVerdict vs old new false = (drop old vs ≡ []) ⊎
 
 -- The lists come first among those whose verdicts aren't used yet. Their Possible ones can be
 -- weighed, and their weights add up to a.
-pub record Adds (g : PlainDtd) (root : List ℕ) (lists more : List (Listed Mark)) (vs : List Verdict)
+pub record LoadsMore (g : PlainDtd) (root : List ℕ) (lists more : List (Listed Mark))
+    (vs : List Verdict)
     (old new : PlainLoad) : Type 0 where
   pub left : AreVerdicts g root more (drop new.used vs)
   pub sum : ℕ
@@ -39,11 +40,12 @@ abbrev pub AddsUp : PlainDtd → List ℕ → List (Listed Mark) → List Verdic
     Type 0
 AddsUp g root lists vs old new =
     (more : List (Listed Mark)) → AreVerdicts g root (lists ++ more) (drop old.used vs) →
-    Adds g root lists more vs old new
+    LoadsMore g root lists more vs old new
 
 -- then the list at this path is the first of these that can't be weighed
-abbrev pub StopsAt : PlainDtd → List ℕ → List (Listed Mark) → List Verdict → PlainLoad → List ℕ →
+abbrev pub StopsAtList : PlainDtd → List ℕ → List (Listed Mark) → List Verdict → PlainLoad →
+    List ℕ →
     Type 0
-StopsAt g root lists vs old path =
+StopsAtList g root lists vs old path =
     (more : List (Listed Mark)) → AreVerdicts g root (lists ++ more) (drop old.used vs) →
     IsFirstNot (CanWeigh g root) lists path

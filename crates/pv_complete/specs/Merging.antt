@@ -12,9 +12,9 @@ use Rattle.pv_write.specs.Text.{forest_text, tree_text}
 use Rattle.pv_missing.specs.Completing.{LeavesOut}
 use Rattle.pv_complete.specs.Events.{Event, events_text, marks_from, new_end, new_start, news}
 use Rattle.pv_complete.specs.Events.{opens}
-use Rattle.pv_complete.specs.Growing.{beside}
+use Rattle.pv_complete.specs.Growing.{trees_and}
 use Rattle.pv_complete.specs.Pieces.{PlainPiece, finish, kept, start}
-use Rattle.pv_complete.specs.Writable.{Keeps}
+use Rattle.pv_complete.specs.Writable.{KeepsWritable}
 
 -- the hedge that a forest shows, before another
 abbrev pub view_beside : {M : Type 0} → Forest M → Hedge → Hedge
@@ -43,7 +43,7 @@ pub record IsCompletedTree {M : Type 0} (g : PlainDtd) (t new : Tree M) (es : Li
       LeavesOut m e (marks_from m es ++ more) (view_before t h) (view_before new h')
   pub valid : IsValidTree g new
   pub head : (u : List PlainToken) → node_before g new u ≡ node_before g t u
-  pub keeps : (f f' : Forest M) → Keeps f f' → Keeps (tree t f) (tree new f')
+  pub keeps : (f f' : Forest M) → KeepsWritable f f' → KeepsWritable (tree t f) (tree new f')
 
 -- The events of a list, by its pieces and by those of its nodes, of which k elements are new within
 -- the nodes. Nodes that are no token go before the next token, or stay at the end.
@@ -80,4 +80,5 @@ pub record IsCompletedList {M : Type 0} (g : PlainDtd) (kids new : Forest M) (u 
   pub word : word_of g new ≡ u
   pub count : news es ≡ n + k
   pub none : kids ≡ no_trees → u ≡ [] → new ≡ no_trees
-  pub keeps : (f f' : Forest M) → Keeps f f' → Keeps (beside kids f) (beside new f')
+  pub keeps : (f f' : Forest M) → KeepsWritable f f' →
+      KeepsWritable (trees_and kids f) (trees_and new f')

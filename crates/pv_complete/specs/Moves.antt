@@ -17,11 +17,11 @@ AreWeightsBy g w t = (s : PlainSite) (i j : ℕ) → HasSite g s → IsSpan w i 
 
 -- By what is put together over one span, a site leads only to sites of a lower rank, but for a new
 -- element's content, which weighs less.
-abbrev pub rank : PlainDtd → PlainSite → ℕ
-rank g (name_site x) = 0
-rank g (part_site q) = suc (2 * (parts_in_models g.models - q))
-rank g (rest_site q) = suc (suc (2 * (parts_in_models g.models - q)))
-rank g (content_site x) = 3 + 2 * parts_in_models g.models
+abbrev pub site_rank : PlainDtd → PlainSite → ℕ
+site_rank g (name_site x) = 0
+site_rank g (part_site q) = suc (2 * (parts_in_models g.models - q))
+site_rank g (rest_site q) = suc (suc (2 * (parts_in_models g.models - q)))
+site_rank g (content_site x) = 3 + 2 * parts_in_models g.models
 
 -- a move of a site over a span, whose weight is that of what it leads to, and of the element that
 -- is new
@@ -34,10 +34,11 @@ IsMove g w t s i j move.Text = (x : ℕ) × (s ≡ content_site x) × HoldsData 
     (slice_get w i ≡ Some text) × (t (over s i j) ≡ t (over s (suc i) j))
 IsMove g w t s i j move.Nothing = (i ≡ j) × MayBeNothing g s × (t (over s i j) ≡ 0)
 IsMove g w t s i j (move.One r) = MayBeOne g s (plain_site r) × HasSite g (plain_site r) ×
-    (rank g (plain_site r) < rank g s) × (t (over s i j) ≡ t (over (plain_site r) i j))
+    (site_rank g (plain_site r) < site_rank g s) × (t (over s i j) ≡ t (over (plain_site r) i j))
 IsMove g w t s i j (move.Two r k q) = MayBeTwo g s (plain_site r) (plain_site q) ×
     HasSite g (plain_site r) × HasSite g (plain_site q) × (i ≤ k) × (k ≤ j) ×
-    (rank g (plain_site r) < rank g s) × ((i < k) ⊎ (rank g (plain_site q) < rank g s)) ×
+    (site_rank g (plain_site r) < site_rank g s) ×
+    ((i < k) ⊎ (site_rank g (plain_site q) < site_rank g s)) ×
     (t (over s i j) ≡ t (over (plain_site r) i k) + t (over (plain_site q) k j))
 
 -- the move leads to one of the sites of these numbers, end left out, and the content of name x

@@ -51,19 +51,21 @@ pub data MayBeTwo (g : PlainDtd) : PlainSite → PlainSite → PlainSite → Typ
       MayBeTwo g (rest_site q) (part_site q) (rest_site (q + parts_in p))
 
 -- the pieces, with n new elements, are what stands at a site over a span of the word
-pub data Spells (g : PlainDtd) (w : List PlainToken) : ℕ → Goal → List PlainPiece → Type 0 where
+pub data SpellsSpan (g : PlainDtd) (w : List PlainToken) : ℕ → Goal → List PlainPiece → Type 0 where
   spell_kept : (n x i : ℕ) → n ≡ 0 → slice_get w i ≡ Some (named x) →
-      Spells g w n (over (name_site x) i (suc i)) (kept ∷ [])
+      SpellsSpan g w n (over (name_site x) i (suc i)) (kept ∷ [])
   spell_new : (n a x i j : ℕ) (ps qs : List PlainPiece) → n ≡ suc a →
       qs ≡ start x ∷ (ps ++ finish x ∷ []) →
-      Spells g w a (over (content_site x) i j) ps → Spells g w n (over (name_site x) i j) qs
+      SpellsSpan g w a (over (content_site x) i j) ps → SpellsSpan g w n (over (name_site x) i j) qs
   spell_text : (n x i j : ℕ) (ps : List PlainPiece) → i < j → slice_get w i ≡ Some text →
       HoldsData g x →
-      Spells g w n (over (content_site x) (suc i) j) ps →
-      Spells g w n (over (content_site x) i j) (kept ∷ ps)
-  spell_none : (n i : ℕ) (s : PlainSite) → n ≡ 0 → MayBeNothing g s → Spells g w n (over s i i) []
+      SpellsSpan g w n (over (content_site x) (suc i) j) ps →
+      SpellsSpan g w n (over (content_site x) i j) (kept ∷ ps)
+  spell_none : (n i : ℕ) (s : PlainSite) → n ≡ 0 → MayBeNothing g s →
+      SpellsSpan g w n (over s i i) []
   spell_one : (n i j : ℕ) (s r : PlainSite) (ps : List PlainPiece) → MayBeOne g s r →
-      Spells g w n (over r i j) ps → Spells g w n (over s i j) ps
+      SpellsSpan g w n (over r i j) ps → SpellsSpan g w n (over s i j) ps
   spell_two : (n a b i k j : ℕ) (s r q : PlainSite) (ps qs rs : List PlainPiece) → n ≡ a + b →
       rs ≡ ps ++ qs → i ≤ k → k ≤ j → MayBeTwo g s r q →
-      Spells g w a (over r i k) ps → Spells g w b (over q k j) qs → Spells g w n (over s i j) rs
+      SpellsSpan g w a (over r i k) ps → SpellsSpan g w b (over q k j) qs →
+      SpellsSpan g w n (over s i j) rs

@@ -10,7 +10,7 @@ use Rattle.pv_complete.specs.Needing.{CanWeigh}
 
 -- The verdicts from this number on are those of more lists, and no Possible one of these is too
 -- wide.
-pub record PassesBy (g : PlainDtd) (root : List ℕ) (lists more : List (Listed Mark))
+pub record PassesNarrowLists (g : PlainDtd) (root : List ℕ) (lists more : List (Listed Mark))
     (vs : List Verdict) (new : ℕ) : Type 0 where
   pub left : AreVerdicts g root more (drop new vs)
   pub narrow : AllByRecursion (CanWeigh g root) lists
@@ -19,7 +19,7 @@ pub record PassesBy (g : PlainDtd) (root : List ℕ) (lists more : List (Listed 
 abbrev pub PassesLists : PlainDtd → List ℕ → List (Listed Mark) → List Verdict → ℕ → ℕ → Type 0
 PassesLists g root lists vs old new =
     (more : List (Listed Mark)) → AreVerdicts g root (lists ++ more) (drop old vs) →
-    PassesBy g root lists more vs new
+    PassesNarrowLists g root lists more vs new
 
 -- then the list at this path is the first Possible one of these that is too wide
 abbrev pub StopsList : PlainDtd → List ℕ → List (Listed Mark) → List Verdict → ℕ → List ℕ → Type 0

@@ -8,9 +8,9 @@ use Rattle.pv_rules.specs.PlainForms.{plain_site}
 use Rattle.pv_rules.specs.Rules.{Goal, IsSpan, over}
 use Rattle.pv_rules.specs.Sites.{HasSite}
 use Rattle.pv_rules.specs.declared.sites.Site.{Site}
-use Rattle.pv_complete.specs.Moves.{rank}
+use Rattle.pv_complete.specs.Moves.{site_rank}
 use Rattle.pv_complete.specs.Pieces.{PlainPiece, finish}
-use Rattle.pv_complete.specs.Spelling.{Spells}
+use Rattle.pv_complete.specs.Spelling.{SpellsSpan}
 use Rattle.pv_complete.specs.declared.words.pieces.Work.{Work}
 use Rattle.pv_complete.specs.declared.words.pieces.Work.TheVariants as work
 
@@ -20,7 +20,7 @@ goal_work s i j = work.Goal s i j
 -- the pieces of one work: those of the site over the span, with as many new elements as it weighs,
 -- or the end tag
 abbrev pub Wants : PlainDtd → List PlainToken → (Goal → ℕ) → Work → List PlainPiece → Type 0
-Wants g w t (work.Goal s i j) ps = Spells g w (t (over (plain_site s) i j))
+Wants g w t (work.Goal s i j) ps = SpellsSpan g w (t (over (plain_site s) i j))
     (over (plain_site s) i j) ps
 Wants g w t (work.End id) ps = ps ≡ finish id.0 ∷ []
 
@@ -51,7 +51,7 @@ CanSpell g w t (work.End id) = Unit {0}
 abbrev pub distance : PlainDtd → List PlainToken → (Goal → ℕ) → Work → ℕ
 distance g w t (work.Goal s i j) =
     suc ((4 + 2 * parts_in_models g.models) *
-    (suc (length w) * t (over (plain_site s) i j) + (j - i)) + rank g (plain_site s))
+    (suc (length w) * t (over (plain_site s) i j) + (j - i)) + site_rank g (plain_site s))
 distance g w t (work.End id) = 0
 
 -- a power of 3

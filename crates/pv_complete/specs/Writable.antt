@@ -28,7 +28,7 @@ AreElements (tree t rest) = IsTrue (is_element t) × AreElements rest
 
 -- The second forest can be written where the first can, no more units stand at its front, it is of
 -- elements where the first is, and it is the first with new elements.
-pub record Keeps {M : Type 0} (kids new : Forest M) : Type 0 where
+pub record KeepsWritable {M : Type 0} (kids new : Forest M) : Type 0 where
   pub writable : AreWritable kids → AreWritable new
   pub front : AreInFront (front_units new) (front_units kids)
   pub elements : AreElements kids → AreElements new

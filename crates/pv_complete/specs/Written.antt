@@ -61,12 +61,12 @@ kept_for [] = []
 kept_for (token ∷ w) = kept ∷ kept_for w
 
 -- each token of the word is kept by a piece, and new elements have names of the DTD
-abbrev pub Suits : PlainDtd → List PlainPiece → List PlainToken → Type 0
-Suits g [] w = w ≡ []
-Suits g (kept ∷ ps) w = (token : PlainToken) × (rest : List PlainToken) × (w ≡ token ∷ rest) ×
-    Suits g ps rest
-Suits g (start y ∷ ps) w = (y < length g.names) × Suits g ps w
-Suits g (finish y ∷ ps) w = (y < length g.names) × Suits g ps w
+abbrev pub SuitsWord : PlainDtd → List PlainPiece → List PlainToken → Type 0
+SuitsWord g [] w = w ≡ []
+SuitsWord g (kept ∷ ps) w = (token : PlainToken) × (rest : List PlainToken) × (w ≡ token ∷ rest) ×
+    SuitsWord g ps rest
+SuitsWord g (start y ∷ ps) w = (y < length g.names) × SuitsWord g ps w
+SuitsWord g (finish y ∷ ps) w = (y < length g.names) × SuitsWord g ps w
 
 -- no tag comes next
 abbrev pub AwaitsNode : List PlainPiece → Type 0
@@ -161,7 +161,7 @@ pub record WritesFront (g : PlainDtd) (ps qs : List PlainPiece) (old new : Plain
       Merges g ps kids (events ++ es) k
   pub appends : Appends old new events
   pub used : new.used ≡ old.used
-  pub suits : (w : List PlainToken) → Suits g ps w → Suits g qs w
+  pub suits : (w : List PlainToken) → SuitsWord g ps w → SuitsWord g qs w
 
 -- all of them are
 pub record WritesTags (g : PlainDtd) (ps qs : List PlainPiece) (old new : PlainWriting) :

@@ -7,20 +7,20 @@ use Rattle.pv_tree.specs.Plain.{PlainDoc, Tree}
 use Rattle.pv_tree.specs.PlainForms.{forest, plain_all}
 use Rattle.pv_tree.specs.declared.nodes.Mark.{Mark}
 use Rattle.pv_denial.specs.Causes.{owner_name}
-use Rattle.pv_denial.specs.declared.places.Place.{Place}
+use Rattle.pv_denial.specs.declared.places.OwnedList.{OwnedList}
 
 abbrev pub owner_by : Bool → List ℕ → Owner
 owner_by true x = the_document
 owner_by false x = an_element x
 
 -- the owner and the kids of a list
-pub record IsPlaceOf (root : List ℕ) (list : Listed Mark) (p : Place) : Type 0 where
+pub record IsPlaceOf (root : List ℕ) (list : Listed Mark) (p : OwnedList) : Type 0 where
   pub owner : list.owner ≡ owner_by p.of_document p.name.now
   pub name : owner_name root list.owner ≡ p.name.now
   pub kids : list.kids ≡ forest p.kids.now
 
 -- the list at a path of a document has this owner and these kids
-pub record IsPlaceAt (root : List ℕ) (doc : PlainDoc Mark) (path : List ℕ) (p : Place) : Type 0
+pub record IsPlaceAt (root : List ℕ) (doc : PlainDoc Mark) (path : List ℕ) (p : OwnedList) : Type 0
   where
     pub list : Listed Mark
     pub is_listed : Contains (lists_of doc) list
@@ -28,7 +28,7 @@ pub record IsPlaceAt (root : List ℕ) (doc : PlainDoc Mark) (path : List ℕ) (
     pub is_place : IsPlaceOf root list p
 
 -- the node is an element with this name and these kids
-pub record IsPlaceOfNode (t : Tree Mark) (p : Place) : Type 0 where
+pub record IsPlaceOfNode (t : Tree Mark) (p : OwnedList) : Type 0 where
   pub of_document : p.of_document ≡ false
   pub owner : owner_of (at_node t) ≡ Some (an_element p.name.now)
   pub kids : list_of t ≡ Some (plain_all p.kids.now)

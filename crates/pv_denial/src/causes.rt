@@ -13,12 +13,12 @@ ghost use Rattle.pv_denial.specs.Places.{IsPlaceOf};
 ghost use Rattle.pv_denial.specs.declared.denials.Cause.TheVariants as cause;
 
 use crate::denials::Cause;
-use crate::places::Place;
+use crate::places::OwnedList;
 use pv_model::{ContentModel, NameId};
 use pv_productive::Grammar;
 
 /// The number of the name of the list's owner, where the DTD has it.
-fn owner_id(grammar: &Grammar, place: &Place<'_>) -> Option<NameId>
+fn owner_id(grammar: &Grammar, place: &OwnedList<'_>) -> Option<NameId>
     ensures named { option_map (λ (id : PlainId). id.0) result ≡
         number_of (dtd_of grammar.now) place.now.name.now }
     ensures known { IfSome result (λ id. id.0 < length (dtd_of grammar.now).names) }
@@ -39,7 +39,7 @@ fn is_empty(grammar: &Grammar, id: NameId) -> bool
 }
 
 /// Whether the owner of the list has a name of the DTD that isn't productive.
-fn is_unproductive(grammar: &Grammar, place: &Place<'_>) -> bool
+fn is_unproductive(grammar: &Grammar, place: &OwnedList<'_>) -> bool
     ensures { (root : List ℕ) (list : Listed PlainMark) → IsPlaceOf root list place.now →
         IsTrue result ↔ IsUnproductive (dtd_of grammar.now) root list.owner }
 {
@@ -50,7 +50,7 @@ fn is_unproductive(grammar: &Grammar, place: &Place<'_>) -> bool
 }
 
 /// Whether the list has kids in an element that is declared EMPTY.
-fn has_kids_in_empty(grammar: &Grammar, place: &Place<'_>) -> bool
+fn has_kids_in_empty(grammar: &Grammar, place: &OwnedList<'_>) -> bool
     ensures { (root : List ℕ) (list : Listed PlainMark) → IsPlaceOf root list place.now →
         IsTrue result ↔ HasKidsInEmpty (dtd_of grammar.now) list.owner list.kids }
 {
@@ -67,7 +67,7 @@ fn has_kids_in_empty(grammar: &Grammar, place: &Place<'_>) -> bool
 }
 
 /// Whether the DTD has the name of the list's owner.
-fn has_name(grammar: &Grammar, place: &Place<'_>) -> bool
+fn has_name(grammar: &Grammar, place: &OwnedList<'_>) -> bool
     ensures { (root : List ℕ) (list : Listed PlainMark) → IsPlaceOf root list place.now →
         IsTrue result ↔ HoldsOfList (dtd_of grammar.now) root list cause.Word }
 {
@@ -79,7 +79,7 @@ fn has_name(grammar: &Grammar, place: &Place<'_>) -> bool
 
 /// Whether a cause holds of the list at a place; that of the word, where the DTD has the owner's
 /// name.
-pub fn holds(grammar: &Grammar, place: &Place<'_>, cause: Cause) -> bool
+pub fn holds(grammar: &Grammar, place: &OwnedList<'_>, cause: Cause) -> bool
     ensures { (root : List ℕ) (list : Listed PlainMark) → IsPlaceOf root list place.now →
         IsTrue result ↔ HoldsOfList (dtd_of grammar.now) root list cause }
 {
@@ -92,7 +92,7 @@ pub fn holds(grammar: &Grammar, place: &Place<'_>, cause: Cause) -> bool
 }
 
 /// The first cause that fits an impossible list.
-pub fn cause_of(grammar: &Grammar, place: &Place<'_>) -> Cause
+pub fn cause_of(grammar: &Grammar, place: &OwnedList<'_>) -> Cause
     ensures { (root : List ℕ) (list : Listed PlainMark) → IsPlaceOf root list place.now →
         IsCause (dtd_of grammar.now) root list result }
 {

@@ -22,7 +22,7 @@ use crate::denials::{Cause, Denial, Flaw, Judged, Row};
 use crate::errors::JudgeError;
 use crate::listing::barrier_of;
 use crate::names::most_of_names;
-use crate::places::{Place, place_at};
+use crate::places::{OwnedList, place_at};
 use crate::rules::all_hold;
 use pv_missing::laws::lists::known_word_law;
 use pv_missing::laws::words::{live_follows_law, one_live_word_law};
@@ -34,7 +34,7 @@ use pv_tree::{Doc, Mark};
 use std::alloc::{AllocError, Global};
 
 /// The owner of the list at a place, where the DTD has its name.
-fn owner_of(grammar: &Grammar, place: &Place<'_>) -> Option<Of>
+fn owner_of(grammar: &Grammar, place: &OwnedList<'_>) -> Option<Of>
     ensures { (root : List ℕ) (list : Listed PlainMark) → IsPlaceOf root list place.now →
         site_of (dtd_of grammar.now) root list.owner ≡ option_map plain_of result }
 {
@@ -85,7 +85,7 @@ fn judge_rows(
 fn judge_word(
     alloc: Global,
     grammar: &Grammar,
-    place: &Place<'_>,
+    place: &OwnedList<'_>,
     denial: &Denial,
 ) -> Result<Judged, JudgeError>
     requires { denial.now.cause ≡ cause.Word }
@@ -110,7 +110,7 @@ fn judge_word(
 }
 
 /// Judges a denial that has another cause.
-fn judge_cause(grammar: &Grammar, place: &Place<'_>, denial: &Denial) -> Judged
+fn judge_cause(grammar: &Grammar, place: &OwnedList<'_>, denial: &Denial) -> Judged
     requires { denial.now.cause ≢ cause.Word }
     ensures { (root : List ℕ) (list : Listed PlainMark) → IsPlaceOf root list place.now →
         JudgesAt (dtd_of grammar.now) root denial.now list result }

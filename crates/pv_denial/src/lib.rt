@@ -26,4 +26,4 @@ pub use causes::cause_of;
 pub use denials::{Cause, Denial, Flaw, Judged, MOST_VALUES, Row, Rows};
 pub use errors::JudgeError;
 pub use judging::judge;
-pub use places::{Place, place_at};
+pub use places::{OwnedList, place_at};

@@ -14,7 +14,7 @@ use pv_tree::{Doc, Found, Mark, Node, Path};
 
 /// The owner of a list, by its name, and the list's kids.
 #[derive(Clone, Copy, Debug)]
-pub struct Place<'a> {
+pub struct OwnedList<'a> {
     /// Whether the owner is the document node; its name is the root's then.
     pub of_document: bool,
     pub name: &'a [u8],
@@ -22,12 +22,12 @@ pub struct Place<'a> {
 }
 
 /// The list of a node, where it is an element.
-fn element_place(node: &Node) -> Option<Place<'_>>
+fn element_place(node: &Node) -> Option<OwnedList<'_>>
     ensures { MatchOption result (owner_of (at_node (plain node.now)) ≡ None)
         (IsPlaceOfNode (plain node.now)) }
 {
     match node {
-        Node::Elem { name, kids, .. } => Some(Place {
+        Node::Elem { name, kids, .. } => Some(OwnedList {
             of_document: false,
             name: name.as_slice(),
             kids,
@@ -39,7 +39,7 @@ fn element_place(node: &Node) -> Option<Place<'_>>
 }
 
 /// The list at a path, where there is one.
-pub fn place_at<'a>(root: &'a [u8], doc: &'a Doc, path: &Path) -> Option<Place<'a>>
+pub fn place_at<'a>(root: &'a [u8], doc: &'a Doc, path: &Path) -> Option<OwnedList<'a>>
     ensures { MatchOption result
         ((list : Listed PlainMark) → Contains (lists_of (plain_doc doc.now)) list →
         ¬ (list.path ≡ path.now))
@@ -48,7 +48,7 @@ pub fn place_at<'a>(root: &'a [u8], doc: &'a Doc, path: &Path) -> Option<Place<'
     list_at_law::<Mark>();
     match doc.node_at(path) {
         None => None,
-        Some(Found::Document) => Some(Place {
+        Some(Found::Document) => Some(OwnedList {
             of_document: true,
             name: root,
             kids: std::slice::from_ref(&doc.root),

@@ -5,9 +5,9 @@ use Rattle.std.proofs.lemmas.List.{append_cancel_left}
 use Rattle.pv_rules.specs.PlainForms.{plain_site}
 use Rattle.pv_rules.specs.Sites.{PlainSite, content_site, name_site, part_site, rest_site}
 use Rattle.pv_script.specs.Paths.{path_text}
-use Rattle.pv_script.specs.Reading.{path_of}
+use Rattle.pv_script.specs.Reading.{path_spelled}
 use Rattle.pv_script.specs.Words.{words}
-use Rattle.pv_script.proofs.PathWords.{path-free, path_of-path_text}
+use Rattle.pv_script.proofs.PathWords.{path-free, path_spelled-path_text}
 use Rattle.pv_cert.specs.Fronts.{IsLineOf}
 use Rattle.pv_cert.specs.Lines.{kind_word}
 use Rattle.pv_cert.proofs.Cuts.{feed-behind, free-by-test, one-line-of}
@@ -56,9 +56,9 @@ same-list p q x y r s e =
     let one : IsLineOf (codes "list ") bytes (path_text p) x = record { no_feed = path-free 10 p (omega arith) r; whole = refl } in
     let other : IsLineOf (codes "list ") bytes (path_text q) y = record { no_feed = path-free 10 q (omega arith) s; whole = e } in
     let same = one-line-of (codes "list ") bytes (path_text p) x (path_text q) y refl one other in
-    let first = path_of-path_text p r in
-    let second = path_of-path_text q s in
-    let these = ap path_of same.fronts in
+    let first = path_spelled-path_text p r in
+    let second = path_spelled-path_text q s in
+    let these = ap path_spelled same.fronts in
     let paths : p ≡ q = cc in
     record { lines = ap list_line paths; rests = same.rests }
 

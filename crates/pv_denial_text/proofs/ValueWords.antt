@@ -1,9 +1,9 @@
 -- The values of a row, read one by one.
 use Rattle.std.proofs.Common.{◌≡◌, ◌<◌, ◌≤◌, ℕ, List, [], ◌∷◌, ◌++◌, map, refl, sym, ap, ◌∙◌, append_assoc, arith, decimal, subst, None}
 use Rattle.pv_script.specs.Edits.{AreNumbers, MAX_NUMBER}
-use Rattle.pv_script.specs.Reading.{number_of}
+use Rattle.pv_script.specs.Reading.{number_spelled}
 use Rattle.pv_script.specs.Words.{words}
-use Rattle.pv_script.proofs.Numbers.{decimal-free, number_of-decimal}
+use Rattle.pv_script.proofs.Numbers.{decimal-free, number_spelled-decimal}
 use Rattle.pv_script.proofs.Words.{Free, Free-append}
 use Rattle.pv_cert.specs.Fronts.{IsNumberBefore}
 use Rattle.pv_cert.proofs.EntryWords.{one-number-before, same-decimal}
@@ -67,15 +67,15 @@ pub values-read : (bytes values rest : List ℕ) (v : ℕ) → HaveRead bytes va
 values-read bytes values rest v h small is = h.forth (v ∷ []) (last-value rest v small is)
 
 -- neither a number before a blank nor one alone is left
-no-last : (rest : List ℕ) (all : List ℕ) → ((n : ℕ) (behind : List ℕ) → IsNumberBefore rest n behind → ⊥) → number_of rest ≡ None → AreValueWords rest all → ⊥
+no-last : (rest : List ℕ) (all : List ℕ) → ((n : ℕ) (behind : List ℕ) → IsNumberBefore rest n behind → ⊥) → number_spelled rest ≡ None → AreValueWords rest all → ⊥
 no-last rest [] none other a = a.some refl
 no-last rest (u ∷ []) none other a =
-    let read = number_of-decimal u a.in_range.0 in
-    let these = ap number_of a.whole in
+    let read = number_spelled-decimal u a.in_range.0 in
+    let these = ap number_spelled a.whole in
     cc
 no-last rest (u ∷ w ∷ ws) none other a = none u (words (map decimal (w ∷ ws))) record { within = a.in_range.0; whole = a.whole }
 
-pub no-values : (bytes values rest : List ℕ) → HaveRead bytes values rest → ((n : ℕ) (behind : List ℕ) → IsNumberBefore rest n behind → ⊥) → number_of rest ≡ None → (all : List ℕ) → AreValueWords bytes all → ⊥
+pub no-values : (bytes values rest : List ℕ) → HaveRead bytes values rest → ((n : ℕ) (behind : List ℕ) → IsNumberBefore rest n behind → ⊥) → number_spelled rest ≡ None → (all : List ℕ) → AreValueWords bytes all → ⊥
 no-values bytes values rest h none other all a = let x = h.back all a in no-last rest x.0 none other x.2
 
 -- bytes are one list of values at most

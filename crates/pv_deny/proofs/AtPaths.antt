@@ -22,7 +22,7 @@ use Rattle.pv_denial.specs.declared.denials.Cause.{Cause}
 use Rattle.pv_denial.specs.declared.denials.Cause.TheVariants as cause
 use Rattle.pv_denial.specs.declared.denials.Denial.{Denial}
 use Rattle.pv_denial.specs.declared.denials.Row.{Row}
-use Rattle.pv_denial.specs.declared.places.Place.{Place}
+use Rattle.pv_denial.specs.declared.places.OwnedList.{OwnedList}
 use Rattle.pv_deny.specs.Denying.{Answers, HasOutcome, HasTooMany, IsDenialOf, HasOutcomeBy, Outcome, is_denial, is_possible, is_too_many, is_too_wide}
 use Rattle.pv_deny.specs.Laws.{OneOutcome}
 use Rattle.pv_deny.specs.Told.{HasManyValues, HasRowsBy}
@@ -41,7 +41,7 @@ is_word cause.Empty = inr (λ e. cc)
 is_word cause.Word = inl refl
 
 -- the kids at a place
-module _ (g : PlainDtd) (root : List ℕ) (doc : PlainDoc Mark) (path : List ℕ) (p : Place) (at : IsPlaceAt root doc path p) where
+module _ (g : PlainDtd) (root : List ℕ) (doc : PlainDoc Mark) (path : List ℕ) (p : OwnedList) (at : IsPlaceAt root doc path p) where
   pub fits : AllByRecursion (IsListForVerdict g) (lists_of doc) → FitsVerdict g (length (word_of g (forest p.kids.now)))
   fits narrow =
       let P : Forest Mark → Type 0 = λ ks. FitsVerdict g (length (word_of g ks)) in

@@ -12,7 +12,7 @@ use Rattle.pv_rules.specs.Sites.{HasSite, PlainSite, content_site, name_site, pa
 use Rattle.pv_rules.specs.declared.sites.Site.{Site}
 use Rattle.pv_missing.specs.LiveWords.{AreProductiveTokens}
 use Rattle.pv_tables.specs.Tables.{kind_rank}
-use Rattle.pv_reach.specs.Ending.{AreReaches, IsGreatestEnd, end_of}
+use Rattle.pv_reach.specs.Ending.{AreReaches, IsGreatestEnd, end_told}
 use Rattle.pv_reach.specs.Laws.{SpansWithin}
 use Rattle.pv_reach.specs.declared.reaches.Reaches.{Reaches}
 use Rattle.pv_denial.specs.Rows.{EachRow, IsSiteBefore, most_values, values_in}
@@ -41,19 +41,19 @@ some_told None h = cc
 some_told (Some j) h = (j, refl)
 
 module _ (spans : SpansWithin) (g : PlainDtd) (w : List PlainToken) (r : Reaches) (proper : IsProperDtd g) (productive : AreProductiveTokens g w) (are : AreReaches g w r) where
-  greatest : (s : PlainSite) (i j : ℕ) → HasSite g s → i ≤ length w → end_of r s i ≡ Some j → IsGreatestEnd g w s i (Some j)
+  greatest : (s : PlainSite) (i j : ℕ) → HasSite g s → i ≤ length w → end_told r s i ≡ Some j → IsGreatestEnd g w s i (Some j)
   greatest s i j has le e = subst (IsGreatestEnd g w s i) e (are.ends s i has le)
 
   pub derives_told : (s : PlainSite) → IsTold g r s → DerivesSome g w s
-  derives_told s told = let j = some_told (end_of r s 0) told.1 in (0, j.0, (greatest s 0 j.0 told.0 (omega arith) j.1).0)
+  derives_told s told = let j = some_told (end_told r s 0) told.1 in (0, j.0, (greatest s 0 j.0 told.0 (omega arith) j.1).0)
 
   some_end : (s : PlainSite) (i : ℕ) (o : Option ℕ) → IsGreatestEnd g w s i o → DerivesAt g w s i i → IsSome o
   some_end s i None none d = absurd (none i d)
   some_end s i (Some j) h d = refl
 
   -- what derives something derives no tokens at each place
-  pub told_everywhere : (s : PlainSite) (i : ℕ) → HasSite g s → DerivesSome g w s → i ≤ length w → IsSome (end_of r s i)
-  told_everywhere s i has (a, b, d) le = some_end s i (end_of r s i) (are.ends s i has le) (spans g w proper productive s a b i i d (omega arith) le (inl refl))
+  pub told_everywhere : (s : PlainSite) (i : ℕ) → HasSite g s → DerivesSome g w s → i ≤ length w → IsSome (end_told r s i)
+  told_everywhere s i has (a, b, d) le = some_end s i (end_told r s i) (are.ends s i has le) (spans g w proper productive s a b i i d (omega arith) le (inl refl))
 
   pub told_derives : (s : PlainSite) → HasSite g s → DerivesSome g w s → IsTold g r s
   told_derives s has d = (has, told_everywhere s 0 has d (omega arith))
@@ -62,7 +62,7 @@ module _ (spans : SpansWithin) (g : PlainDtd) (w : List PlainToken) (r : Reaches
     is_below : (s : PlainSite) → IsBelow 4 0 s
     is_below s = inl (small_rank s)
 
-    pub told_each : (k i : ℕ) (s : Site) → slice_get sites k ≡ Some s → i ≤ length w → IsSome (end_of r (plain_site s) i)
+    pub told_each : (k i : ℕ) (s : Site) → slice_get sites k ≡ Some s → i ≤ length w → IsSome (end_told r (plain_site s) i)
     told_each k i s e le = let o = (all.each k s e).0 in told_everywhere (plain_site s) i o.0 (derives_told (plain_site s) o) le
 
     -- the sites by themselves

@@ -12,7 +12,7 @@ use Rattle.pv_rules.specs.PlainForms.{plain_site}
 use Rattle.pv_rules.specs.declared.sites.Site.{Site}
 use Rattle.pv_missing.specs.LiveWords.{IsLiveWord}
 use Rattle.pv_missing.specs.WordLaws.{LiveFollows}
-use Rattle.pv_reach.specs.Ending.{AreReaches, end_of}
+use Rattle.pv_reach.specs.Ending.{AreReaches, end_told}
 use Rattle.pv_reach.specs.Laws.{SpansWithin}
 use Rattle.pv_reach.specs.declared.reaches.Reaches.{Reaches}
 use Rattle.pv_denial.specs.Rows.{most_values}
@@ -38,7 +38,7 @@ module _ (spans : SpansWithin) (follows : LiveFollows) (g : PlainDtd) (plain : P
         subst P (sym n) (subst Q (sym size) many);
   }
 
-  pub each_told : (k i : ℕ) (s : Site) → slice_get sites k ≡ Some s → i ≤ length word → IsSome (end_of r (plain_site s) i)
+  pub each_told : (k i : ℕ) (s : Site) → slice_get sites k ≡ Some s → i ≤ length word → IsSome (end_told r (plain_site s) i)
   each_told k i s e le = told_each spans g (map plain_token word) r (subst IsProperDtd is_plain proper) (follows g w (map plain_token word) live).names are sites all k i s e (let n = size in omega arith)
 
   pub has_rows : (rows : List Row) → AreToldRows r (length word) sites rows → length sites * suc (length word) ≤ most_values → HasRows g w rows

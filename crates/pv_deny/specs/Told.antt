@@ -8,7 +8,7 @@ use Rattle.pv_rules.specs.Sites.{HasSite, PlainSite, content_site, name_site, pa
 use Rattle.pv_rules.specs.declared.sites.Site.{Site}
 use Rattle.pv_missing.specs.LiveWords.{IsLiveWord}
 use Rattle.pv_tables.specs.Tables.{kind_rank, site_number}
-use Rattle.pv_reach.specs.Ending.{end_of}
+use Rattle.pv_reach.specs.Ending.{end_told}
 use Rattle.pv_reach.specs.declared.reaches.Reaches.{Reaches}
 use Rattle.pv_denial.specs.Rows.{IsSiteBefore, most_values, values_in}
 use Rattle.pv_denial.specs.declared.denials.Cause.{Cause}
@@ -34,7 +34,7 @@ rank_of kind.Rests = 3
 
 -- the DTD has the site, and furthest places tell that it derives something from the first place
 abbrev pub IsTold : PlainDtd → Reaches → PlainSite → Type 0
-IsTold g r s = HasSite g s × IsSome (end_of r s 0)
+IsTold g r s = HasSite g s × IsSome (end_told r s 0)
 
 -- the site stands before those of a kind from a number on
 abbrev pub IsBelow : ℕ → ℕ → PlainSite → Type 0
@@ -54,7 +54,7 @@ pub record AreToldSites (g : PlainDtd) (r : Reaches) (rank number : ℕ) (sites 
 pub record IsToldRow (r : Reaches) (n : ℕ) (s : Site) (row : Row) : Type 0 where
   pub is_site : row.site ≡ s
   pub long : length row.values ≡ suc n
-  pub told : (i v : ℕ) → slice_get row.values i ≡ Some v → end_of r (plain_site s) i ≡ Some v
+  pub told : (i v : ℕ) → slice_get row.values i ≡ Some v → end_told r (plain_site s) i ≡ Some v
 
 -- the rows of sites, in their order
 pub record AreToldRows (r : Reaches) (n : ℕ) (sites : List Site) (rows : List Row) : Type 0 where

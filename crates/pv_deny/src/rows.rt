@@ -4,7 +4,7 @@ ghost use Rattle.std.specs.Prelude.{◌≡◌, ◌≤◌, ◌<◌, ◌*◌, ◌�
 ghost use Rattle.std.specs.Prelude.{length, slice_get, suc};
 ghost use Rattle.pv_rules.specs.PlainForms.{plain_site};
 ghost use Rattle.pv_rules.specs.declared.sites.Site.{Site as PlainSiteOf};
-ghost use Rattle.pv_reach.specs.Ending.{end_of};
+ghost use Rattle.pv_reach.specs.Ending.{end_told};
 ghost use Rattle.pv_denial.specs.Rows.{most_values};
 ghost use Rattle.pv_deny.specs.Told.{AreToldRows, IsToldRow};
 
@@ -25,7 +25,7 @@ pub fn are_few(sites: u64, tokens: u64) -> bool
 /// The row of a site, for a word of so many tokens.
 fn row_of(alloc: Global, reaches: &Reaches, site: Site, tokens: usize) -> Result<Row, AllocError>
     requires few { tokens < most_values }
-    requires told { (i : ℕ) → i ≤ tokens → IsSome (end_of reaches.now (plain_site site) i) }
+    requires told { (i : ℕ) → i ≤ tokens → IsSome (end_told reaches.now (plain_site site) i) }
     ensures { IfOk result (IsToldRow reaches.now tokens site) }
 {
     let mut values = Vec::with_capacity(alloc, tokens + 1)?;
@@ -50,7 +50,7 @@ pub fn rows_of(
 ) -> Result<Vec<Row>, AllocError>
     requires few { length sites.now * suc tokens ≤ most_values }
     requires told { (k i : ℕ) (s : PlainSiteOf) → slice_get sites.now k ≡ Some s → i ≤ tokens →
-        IsSome (end_of reaches.now (plain_site s) i) }
+        IsSome (end_told reaches.now (plain_site s) i) }
     ensures { IfOk result (λ rows. AreToldRows reaches.now tokens sites.now rows.items) }
 {
     let mut rows = Vec::with_capacity(alloc, sites.len())?;

@@ -7,7 +7,7 @@ use Rattle.std.proofs.lemmas.List.Folds.{list_any-append}
 use Rattle.pv_chars.specs.Scan.{after_bytes}
 use Rattle.pv_chars.proofs.Scanning.{after_bytes-append}
 use Rattle.pv_dtd.specs.Facts.{MAX_NESTING}
-use Rattle.pv_dtd.specs.Items.{NamedPart, name, seq, choice, opt, star, plus, NamedParts, no_parts, part, NamedModel, empty, any, mixed, children, Item, text_declaration, element, skipped, comment, instruction}
+use Rattle.pv_dtd.specs.Items.{NamedPart, name, seq, choice, opt, star, plus, NamedParts, no_parts, part, NamedModel, empty, any, mixed, children, DtdItem, text_declaration, element, skipped, comment, instruction}
 use Rattle.pv_dtd.specs.Spelling.{StandsAt, SpellsPart, SpellsGroup, SpellsOthers, SpellsMixed, SpellsModel, SpellsElement, IsSkippedWord, nesting_of, nesting_of_all}
 use Rattle.pv_chars.specs.Declarations.{is_one_of}
 use Rattle.pv_dtd.specs.Kinds.{IsTooDeep, how_many}
@@ -189,7 +189,7 @@ not_element place none deep =
     cc
 
 -- where groups stand no deeper than the limit, no place is too deep
-pub begins_not_deep : (front : Bool) (place : List ℕ) (i : Item) (rest : List ℕ) → StandsAt front place i rest → IsShallowItem i → IsTooDeep place → ⊥
+pub begins_not_deep : (front : Bool) (place : List ℕ) (i : DtdItem) (rest : List ℕ) → StandsAt front place i rest → IsShallowItem i → IsTooDeep place → ⊥
 begins_not_deep front place (element n model) rest b shallow deep = element_not_deep n model place b.text rest b.whole b.spelled shallow deep
 begins_not_deep front place text_declaration rest b shallow deep = not_element place (rw (b.whole, b.spelled.whole) refl) deep
 begins_not_deep front place skipped rest b shallow deep = not_element place (by b.spelled.word b.spelled.is_word b.spelled.whole) deep

@@ -7,7 +7,7 @@ use Rattle.std.specs.List.{list_any}
 use Rattle.std.specs.Str.{bytes_eq}
 use Rattle.pv_dtd.specs.Plain.{place_of}
 use Rattle.pv_dtd.specs.Facts.{are_distinct, MAX_TYPES, MAX_PARTS}
-use Rattle.pv_dtd.specs.Items.{NamedModel, Item, element, declared_by, mentioned_by, parts_by, listed_by, listed_in_model}
+use Rattle.pv_dtd.specs.Items.{NamedModel, DtdItem, element, declared_by, mentioned_by, parts_by, listed_by, listed_in_model}
 use Rattle.pv_dtd.specs.Kinds.{twice, mixed_twice, limit, declares_again, lists_twice, is_too_long, passes_limit}
 use Rattle.pv_dtd.specs.ItemReading.{broken_rule}
 use Rattle.pv_dtd.proofs.Places.{is_some-place}
@@ -27,14 +27,14 @@ few_hold : (declared : List (List ℕ)) → length declared ≤ MAX_TYPES → na
 few_hold declared few = le-leb (length (declared ++ [])) MAX_TYPES (omega (arith, few, length-append declared []))
 
 -- an item that declares nothing breaks none
-pub silent_keeps : (declared : List (List ℕ)) (parts : ℕ) → length declared ≤ MAX_TYPES → parts ≤ MAX_PARTS → (i : Item) → declared_by i ≡ [] → mentioned_by i ≡ [] → listed_by i ≡ [] → parts_by i ≡ 0 → None ≡ broken_rule declared parts i
+pub silent_keeps : (declared : List (List ℕ)) (parts : ℕ) → length declared ≤ MAX_TYPES → parts ≤ MAX_PARTS → (i : DtdItem) → declared_by i ≡ [] → mentioned_by i ≡ [] → listed_by i ≡ [] → parts_by i ≡ 0 → None ≡ broken_rule declared parts i
 unfolding broken_rule
 silent_keeps declared parts few few_parts i a b c d =
     let within : nat_le (parts + 0) MAX_PARTS ≡ true = le-leb (parts + 0) MAX_PARTS (omega arith) in
     rw (a, b, c, d, few_hold declared few, within) refl
 
 -- where an item breaks no rule
-pub record Keeps (declared : List (List ℕ)) (parts : ℕ) (i : Item) : Type 0 where
+pub record Keeps (declared : List (List ℕ)) (parts : ℕ) (i : DtdItem) : Type 0 where
   pub new : declares_again declared i ≡ false
   pub differ : are_distinct (listed_by i) ≡ true
   pub short : list_any is_too_long (declared_by i ++ mentioned_by i) ≡ false
@@ -51,7 +51,7 @@ parts_false false false true e = cc
 parts_false false true c e = cc
 parts_false true b c e = cc
 
-pub kept_by : (declared : List (List ℕ)) (parts : ℕ) (i : Item) (t m l : Bool) → declares_again declared i ≡ t → lists_twice i ≡ m → passes_limit declared parts i ≡ l → None ≡ cond t (Some twice) (cond m (Some mixed_twice) (cond l (Some limit) None)) → Keeps declared parts i
+pub kept_by : (declared : List (List ℕ)) (parts : ℕ) (i : DtdItem) (t m l : Bool) → declares_again declared i ≡ t → lists_twice i ≡ m → passes_limit declared parts i ≡ l → None ≡ cond t (Some twice) (cond m (Some mixed_twice) (cond l (Some limit) None)) → Keeps declared parts i
 kept_by declared parts i true m l a b c e = cc
 kept_by declared parts i false true l a b c e = cc
 kept_by declared parts i false false true a b c e = cc
@@ -59,6 +59,6 @@ kept_by declared parts i false false false a b c e =
     let three = parts_false (list_any is_too_long (declared_by i ++ mentioned_by i)) (not (nat_le (length (declared ++ declared_by i)) MAX_TYPES)) (not (nat_le (parts + parts_by i) MAX_PARTS)) c in
     record { new = a; differ = not_false (are_distinct (listed_by i)) b; short = three.0; few_types = leb-true _ _ (not_false _ three.1); few_parts = leb-true _ _ (not_false _ three.2) }
 
-pub kept : (declared : List (List ℕ)) (parts : ℕ) (i : Item) → None ≡ broken_rule declared parts i → Keeps declared parts i
+pub kept : (declared : List (List ℕ)) (parts : ℕ) (i : DtdItem) → None ≡ broken_rule declared parts i → Keeps declared parts i
 unfolding broken_rule
 kept declared parts i e = kept_by declared parts i (declares_again declared i) (lists_twice i) (passes_limit declared parts i) refl refl refl e

@@ -6,23 +6,23 @@ use Rattle.pv_model.specs.Plain.{PlainPart, PlainParts, PlainModel, parts_of}
 use Rattle.pv_model.specs.Plain as plain
 use Rattle.pv_dtd.specs.Items.{NamedPart, named_parts_of, NamedModel, spelled_in, spelled_in_all, spelled_in_model, mentioned_in}
 use Rattle.pv_dtd.specs.Numbering.{number_among, with_numbers, all_with_numbers, model_with_numbers}
-use Rattle.pv_dtd.specs.Naming.{with_name, number_in, AreFirstIn, with_names, NumbersNames, NumbersPart, NumbersParts, NumbersModel, NumbersModels}
-use Rattle.pv_dtd.proofs.Naming.{goes_on_then, with_name_goes_on, grown_goes_on, with_names-append, place_goes_on, place-with_name}
+use Rattle.pv_dtd.specs.Naming.{names_with, number_in, AreFirstIn, with_names, NumbersNames, NumbersPart, NumbersParts, NumbersModel, NumbersModels}
+use Rattle.pv_dtd.proofs.Naming.{goes_on_then, with_name_goes_on, grown_goes_on, with_names-append, place_goes_on, place-names_with}
 
 -- a name's number, however the names go on
-pub number_stays : (names : List (List ℕ)) (x : List ℕ) (more : List (List ℕ)) → AreFirstIn (with_name names x) more → number_among more x ≡ number_in names x
-number_stays names x more g = ap (λ o. unwrap_or o 0) (place_goes_on (with_name names x) more g x (number_in names x) (place-with_name names x))
+pub number_stays : (names : List (List ℕ)) (x : List ℕ) (more : List (List ℕ)) → AreFirstIn (names_with names x) more → number_among more x ≡ number_in names x
+number_stays names x more g = ap (λ o. unwrap_or o 0) (place_goes_on (names_with names x) more g x (number_in names x) (place-names_with names x))
 
 pub numbers_step : {X : Type 0} (f : X → List ℕ) (first names after : List (List ℕ)) (xs more : List X) (x : X) (ys all : List ℕ) (y : ℕ) →
-    more ≡ xs ++ x ∷ [] → after ≡ with_name names (f x) → y ≡ number_in names (f x) → all ≡ ys ++ y ∷ [] → names ≡ with_names first (map f xs) → NumbersNames names (map f xs) ys →
+    more ≡ xs ++ x ∷ [] → after ≡ names_with names (f x) → y ≡ number_in names (f x) → all ≡ ys ++ y ∷ [] → names ≡ with_names first (map f xs) → NumbersNames names (map f xs) ys →
     (after ≡ with_names first (map f more)) × NumbersNames after (map f more) all
 numbers_step f first names after xs more x ys all y is_more is_after is_y is_all grew placed =
     let mapped : map f more ≡ map f xs ++ f x ∷ [] = ap (map f) is_more ∙ map-append f xs (x ∷ []) in
-    let grows : with_names first (map f xs ++ f x ∷ []) ≡ with_name names (f x) = with_names-append first (map f xs) (f x ∷ []) ∙ ap (λ ns. with_name ns (f x)) (sym grew) in (
+    let grows : with_names first (map f xs ++ f x ∷ []) ≡ names_with names (f x) = with_names-append first (map f xs) (f x ∷ []) ∙ ap (λ ns. names_with ns (f x)) (sym grew) in (
       is_after ∙ sym grows ∙ ap (with_names first) (sym mapped),
       λ final g.
-          let on : AreFirstIn (with_name names (f x)) final = subst (λ ns. AreFirstIn ns final) is_after g in
-          let front = placed final (goes_on_then names (with_name names (f x)) final (with_name_goes_on names (f x)) on) in
+          let on : AreFirstIn (names_with names (f x)) final = subst (λ ns. AreFirstIn ns final) is_after g in
+          let front = placed final (goes_on_then names (names_with names (f x)) final (with_name_goes_on names (f x)) on) in
           ap (map (number_among final)) mapped ∙ map-append (number_among final) (map f xs) (f x ∷ []) ∙ ap (λ l. l ++ number_among final (f x) ∷ []) front ∙ ap (λ n. ys ++ n ∷ []) (number_stays names (f x) final on ∙ sym is_y) ∙ sym is_all,
     )
 

@@ -9,7 +9,7 @@ use Rattle.pv_chars.specs.Scan.{after_space, after_blank, after_bytes}
 use Rattle.pv_chars.proofs.Scanning.{after_space_takes, after_space-append, after_blank_takes, after_blank-append, after_bytes_takes, after_bytes-append, chosen}
 use Rattle.pv_chars.proofs.Beginnings.{begins_in_space, begins_behind}
 use Rattle.pv_chars.specs.CharReading.{name_at, is_chars, comment_at, instruction_at, text_declaration_at}
-use Rattle.pv_dtd.specs.Items.{NamedModel, Item, text_declaration, element, skipped, comment, instruction}
+use Rattle.pv_dtd.specs.Items.{NamedModel, DtdItem, text_declaration, element, skipped, comment, instruction}
 use Rattle.pv_chars.specs.Declarations.{is_quote}
 use Rattle.pv_dtd.specs.Spelling.{StandsAt, Spells, SpellsElement, SpellsSkipped, MayStand, IsSkippedWord, may_not_be_skipped}
 use Rattle.pv_chars.specs.Declarations.{is_one_of}
@@ -24,7 +24,7 @@ use Rattle.pv_dtd.proofs.ModelsRead.{model_reads}
 use Rattle.pv_dtd.proofs.ModelsSpelled.{model_is_read, model_begins}
 use Rattle.pv_dtd.proofs.Quoted.{Stops, stops_takes, stop_at-append, plain_before}
 
-pub record Begun (front : Bool) (bytes : List ℕ) (x : Item × List ℕ) : Type 0 where
+pub record Begun (front : Bool) (bytes : List ℕ) (x : DtdItem × List ℕ) : Type 0 where
   pub begun : StandsAt front bytes x.0 x.1
   pub shallow : IsShallowItem x.0
 
@@ -46,7 +46,7 @@ element_joined : (bytes blank before start name after_name between spec model be
     bytes ≡ (codes "<!ELEMENT" ++ before ++ name ++ between ++ model ++ after ++ codes ">") ++ rest
 element_joined bytes blank before start name after_name between spec model behind after place rest a b c d e f g = rw (a, b, c, d, e, f, g) (simp append_assoc)
 
-element_read : (front : Bool) (bytes : List ℕ) (x : Item × List ℕ) → element_at bytes ≡ Some x → Begun front bytes x
+element_read : (front : Bool) (bytes : List ℕ) (x : DtdItem × List ℕ) → element_at bytes ≡ Some x → Begun front bytes x
 unfolding element_at
 element_read front bytes x e =
     let blank = bound (after_bytes (codes "<!ELEMENT") bytes) _ x e in
@@ -198,7 +198,7 @@ skipped_is_read text rest s = by s.before s.space_before s.whole
         rw (grouped, word_is_taken s.word (b ∷ ((bs ++ s.inside) ++ 62 ∷ rest)) s.is_word, here.0, stops, chars) refl
 
 -- an item that is read as the rest of a text
-read_by : (front : Bool) (bytes : List ℕ) (i : Item) (x : Item × List ℕ) (o : Option (List ℕ)) → ((rest : List ℕ) → o ≡ Some rest → Begun front bytes (i, rest)) → read_as i o ≡ Some x → Begun front bytes x
+read_by : (front : Bool) (bytes : List ℕ) (i : DtdItem) (x : DtdItem × List ℕ) (o : Option (List ℕ)) → ((rest : List ℕ) → o ≡ Some rest → Begun front bytes (i, rest)) → read_as i o ≡ Some x → Begun front bytes x
 unfolding read_as
 read_by front bytes i x None reads f = cc
 read_by front bytes i x (Some rest) reads f = subst (Begun front bytes) (same_some _ _ f) (reads rest refl)
@@ -216,7 +216,7 @@ comment_read front bytes rest e = let takes = comment_takes bytes rest e in reco
 instruction_read : (front : Bool) (bytes rest : List ℕ) → instruction_at bytes ≡ Some rest → Begun front bytes (instruction, rest)
 instruction_read front bytes rest e = let takes = instruction_takes bytes rest e in record { begun = record { text = takes.item; spelled = takes.is_item; may_stand = tt; whole = takes.whole }; shallow = tt }
 
-pub item_read : (front : Bool) (bytes : List ℕ) (x : Item × List ℕ) → item_at front bytes ≡ Some x → Begun front bytes x
+pub item_read : (front : Bool) (bytes : List ℕ) (x : DtdItem × List ℕ) → item_at front bytes ≡ Some x → Begun front bytes x
 unfolding item_at
 item_read front bytes x e =
     either_read (Begun front bytes) _ _ x e (read_by front bytes text_declaration x (front_at front bytes) (front_read front bytes)) (λ f.
@@ -263,7 +263,7 @@ no_instruction_by bytes (Some rest) is none =
 no_instruction : (bytes : List ℕ) → after_bytes (codes "<?") bytes ≡ None → instruction_at bytes ≡ None
 no_instruction bytes none = no_instruction_by bytes (instruction_at bytes) refl none
 
-pub spelled_is_read : (front : Bool) (i : Item) (text rest : List ℕ) → Spells i text → MayStand front i → IsShallowItem i → item_at front (text ++ rest) ≡ Some (i, rest)
+pub spelled_is_read : (front : Bool) (i : DtdItem) (text rest : List ℕ) → Spells i text → MayStand front i → IsShallowItem i → item_at front (text ++ rest) ≡ Some (i, rest)
 unfolding item_at skipped_at skipped_word read_as or_else front_at
 spelled_is_read front text_declaration text rest s may shallow = rw (may, text_declaration_at-append text rest s) refl
 spelled_is_read front skipped text rest s may shallow =
@@ -290,5 +290,5 @@ spelled_is_read front (element n model) text rest s may shallow =
     let no_skipped : skipped_at (text ++ rest) ≡ None = rw s.whole refl in
     rw (no_front front (text ++ rest) (not_declared (text ++ rest) none), no_skipped, no_comment (text ++ rest) none_too, no_instruction (text ++ rest) none) (element_is_read n model text rest s shallow)
 
-pub item_is_read : (front : Bool) (place : List ℕ) (i : Item) (rest : List ℕ) → StandsAt front place i rest → IsShallowItem i → item_at front place ≡ Some (i, rest)
+pub item_is_read : (front : Bool) (place : List ℕ) (i : DtdItem) (rest : List ℕ) → StandsAt front place i rest → IsShallowItem i → item_at front place ≡ Some (i, rest)
 item_is_read front place i rest b shallow = ap (item_at front) b.whole ∙ spelled_is_read front i b.text rest b.spelled b.may_stand shallow

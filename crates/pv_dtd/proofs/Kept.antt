@@ -10,12 +10,12 @@ use Rattle.std.specs.Str.{bytes_eq}
 use Rattle.pv_model.specs.declared.models.ContentModel.{ContentModel}
 use Rattle.pv_model.specs.PlainForms.{plain_model}
 use Rattle.pv_dtd.specs.Plain.{PlainDtd, place_of, parts_in_models, mentions}
-use Rattle.pv_dtd.specs.Facts.{dtd_of, are_names, AreLegal, is_short, are_distinct, are_known, are_mentioned, nesting, is_formed_model, MAX_TYPES, MAX_PARTS, MAX_NESTING}
-use Rattle.pv_dtd.specs.Items.{NamedPart, name, seq, choice, opt, star, plus, NamedParts, no_parts, part, NamedModel, empty, any, mixed, children, Item, text_declaration, element, skipped, comment, instruction, spelled_in, spelled_in_all, spelled_in_model, mentioned_by, declared_by, declared_in, model_in, models_in, mentioned_in, particles_in, particles_in_all, parts_of_model, parts_of_models}
+use Rattle.pv_dtd.specs.Facts.{as_dtd, are_names, AreLegalNames, is_short_name, are_distinct, are_known, are_mentioned, nesting, is_formed_model, MAX_TYPES, MAX_PARTS, MAX_NESTING}
+use Rattle.pv_dtd.specs.Items.{NamedPart, name, seq, choice, opt, star, plus, NamedParts, no_parts, part, NamedModel, empty, any, mixed, children, DtdItem, text_declaration, element, skipped, comment, instruction, spelled_in, spelled_in_all, spelled_in_model, mentioned_by, declared_by, declared_in, model_in, models_in, mentioned_in, particles_in, particles_in_all, parts_of_model, parts_of_models}
 use Rattle.pv_dtd.specs.Numbering.{with_numbers, model_with_numbers, number_among, each_once, names_of, dtd_of_items}
 use Rattle.pv_dtd.proofs.Once.{distinct-once, once_all, once_one_of, once_fewer, once-distinct, with_names-once}
 use Rattle.pv_dtd.proofs.Apart.{apart_from_distinct}
-use Rattle.pv_dtd.specs.SoFar.{IsSound, AreSound, AreRuled, IsOfItems}
+use Rattle.pv_dtd.specs.SoFar.{IsSoundItem, AreSoundItems, AreRuled, IsOfItems}
 use Rattle.pv_dtd.proofs.Numbered.{mentions_numbered, nesting_numbered, part_formed, parts_numbered}
 use Rattle.pv_dtd.proofs.Among.{AreAmong, among-left, among-right, among_by, any_number, distinct_numbered, known_all, once_has}
 use Rattle.pv_dtd.proofs.NamesKept.{both_short, declared_legal, declared_short, legal-append, mentioned_legal, mentioned_more, mentioned_short, once_legal}
@@ -32,7 +32,7 @@ all_in_range p (suc n) a each =
 
 -- models that are formed
 module _ (names : List (List ℕ)) where
-  model_formed : (n : List ℕ) (m : NamedModel) → IsSound (element n m) → AreAmong (spelled_in_model m) names → is_formed_model (model_with_numbers (number_among names) m) ≡ true
+  model_formed : (n : List ℕ) (m : NamedModel) → IsSoundItem (element n m) → AreAmong (spelled_in_model m) names → is_formed_model (model_with_numbers (number_among names) m) ≡ true
   model_formed n empty s a = refl
   model_formed n any s a = refl
   model_formed n (mixed xs) s a = distinct_numbered names xs a s.differ
@@ -40,14 +40,14 @@ module _ (names : List (List ℕ)) where
       let deep : nesting (with_numbers (number_among names) p) ≤ MAX_NESTING = rw (nesting_numbered (number_among names) p) s.shallow in
       rw (part_formed (number_among names) p s.spelled.spec s.spelled.is_spec.1, le-leb (nesting (with_numbers (number_among names) p)) MAX_NESTING deep) refl
 
-  item_formed : (i : Item) → IsSound i → AreAmong (mentioned_by i) names → list_all is_formed_model (map (model_with_numbers (number_among names)) (model_in i)) ≡ true
+  item_formed : (i : DtdItem) → IsSoundItem i → AreAmong (mentioned_by i) names → list_all is_formed_model (map (model_with_numbers (number_among names)) (model_in i)) ≡ true
   item_formed text_declaration s a = refl
   item_formed (element n m) s a = rw (model_formed n m s a) refl
   item_formed skipped s a = refl
   item_formed comment s a = refl
   item_formed instruction s a = refl
 
-  items_formed : (items : List Item) → AreSound items → AreAmong (mentioned_in (models_in items)) names → list_all is_formed_model (map (model_with_numbers (number_among names)) (models_in items)) ≡ true
+  items_formed : (items : List DtdItem) → AreSoundItems items → AreAmong (mentioned_in (models_in items)) names → list_all is_formed_model (map (model_with_numbers (number_among names)) (models_in items)) ≡ true
   items_formed [] s a = refl
   items_formed (i ∷ items) s a =
       let all : AreAmong (mentioned_by i ++ mentioned_in (models_in items)) names = rw (mentioned_more i items) at a in
@@ -55,14 +55,14 @@ module _ (names : List (List ℕ)) where
       ∙ list_all-append is_formed_model (map (model_with_numbers (number_among names)) (model_in i)) (map (model_with_numbers (number_among names)) (models_in items))
       ∙ rw (item_formed i s.0 (among-left (mentioned_by i) _ names all), items_formed items s.1 (among-right (mentioned_by i) _ names all)) refl
 
-one_each : (i : Item) → length (model_in i) ≡ length (declared_by i)
+one_each : (i : DtdItem) → length (model_in i) ≡ length (declared_by i)
 one_each text_declaration = refl
 one_each (element n model) = refl
 one_each skipped = refl
 one_each comment = refl
 one_each instruction = refl
 
-pub as_many : (items : List Item) → length (models_in items) ≡ length (declared_in items)
+pub as_many : (items : List DtdItem) → length (models_in items) ≡ length (declared_in items)
 as_many [] = refl
 as_many (i ∷ items) = omega (arith, one_each i, as_many items, length-append (model_in i) (models_in items), length-append (declared_by i) (declared_in items))
 
@@ -90,7 +90,7 @@ fewer_mentions : (models : List NamedModel) → length (mentioned_in models) ≤
 fewer_mentions [] = omega arith
 fewer_mentions (m ∷ ms) = omega (arith, length-append (spelled_in_model m) (mentioned_in ms), fewer_in_model m, fewer_mentions ms)
 
-module _ (items : List Item) (r : AreRuled items) where
+module _ (items : List DtdItem) (r : AreRuled items) where
   abbrev mentioned : List (List ℕ)
   mentioned = mentioned_in (models_in items)
 
@@ -103,10 +103,10 @@ module _ (items : List Item) (r : AreRuled items) where
   pub distinct_kept : are_distinct names ≡ true
   distinct_kept = distinct-once (declared_in items ++ mentioned)
 
-  pub short_kept : list_all is_short names ≡ true
-  short_kept = once_all is_short (declared_in items ++ mentioned) [] (both_short (declared_in items) mentioned (declared_short items r.sound) (mentioned_short items r.sound))
+  pub short_kept : list_all is_short_name names ≡ true
+  short_kept = once_all is_short_name (declared_in items ++ mentioned) [] (both_short (declared_in items) mentioned (declared_short items r.sound) (mentioned_short items r.sound))
 
-  pub legal_kept : AreLegal names
+  pub legal_kept : AreLegalNames names
   legal_kept = once_legal (declared_in items ++ mentioned) [] (legal-append (declared_in items) mentioned (declared_legal items r.sound) (mentioned_legal items r.sound))
 
   pub known_kept : IsTrue (are_known (dtd_of_items items))
@@ -147,17 +147,17 @@ module _ (items : List Item) (r : AreRuled items) where
   mentioned_kept = all_in_range (λ y. list_any (nat_eq y) (mentions (dtd_of_items items).models)) (length names - length (dtd_of_items items).models) (length (dtd_of_items items).models) mentioned_at
 
 -- The same of the names and models that a DTD holds.
-module _ (keys : List (Vec ℕ Global)) (models : List ContentModel) (of : IsOfItems (dtd_of keys models)) where
-  keys_count : length (dtd_of keys models).names ≡ length keys
+module _ (keys : List (Vec ℕ Global)) (models : List ContentModel) (of : IsOfItems (as_dtd keys models)) where
+  keys_count : length (as_dtd keys models).names ≡ length keys
   keys_count = length-map keys (λ (v : Vec ℕ Global). v.items)
 
-  held_count : length (dtd_of keys models).models ≡ length models
+  held_count : length (as_dtd keys models).models ≡ length models
   held_count = length-map models plain_model
 
-  names_are : (dtd_of keys models).names ≡ names_of of.0
+  names_are : (as_dtd keys models).names ≡ names_of of.0
   names_are = ap (λ (g : PlainDtd). g.names) of.2
 
-  models_are : (dtd_of keys models).models ≡ (dtd_of_items of.0).models
+  models_are : (as_dtd keys models).models ≡ (dtd_of_items of.0).models
   models_are = ap (λ (g : PlainDtd). g.models) of.2
 
   pub held_named : length models ≤ length keys
@@ -169,23 +169,23 @@ module _ (keys : List (Vec ℕ Global)) (models : List ContentModel) (of : IsOfI
   pub held_few : length keys ≤ MAX_TYPES + MAX_PARTS
   held_few = omega (arith, few_kept of.0 of.1, keys_count, ap length names_are)
 
-  pub held_names : IsTrue (are_names (dtd_of keys models).names)
+  pub held_names : IsTrue (are_names (as_dtd keys models).names)
   held_names = rw names_are (rw (short_kept of.0 of.1, distinct_kept of.0 of.1) refl)
 
-  pub held_legal : AreLegal (dtd_of keys models).names
+  pub held_legal : AreLegalNames (as_dtd keys models).names
   held_legal = rw names_are (legal_kept of.0 of.1)
 
-  pub held_known : IsTrue (are_known (dtd_of keys models))
+  pub held_known : IsTrue (are_known (as_dtd keys models))
   held_known = subst (λ (g : PlainDtd). IsTrue (are_known g)) (sym of.2) (known_kept of.0 of.1)
 
-  pub held_mentioned : IsTrue (are_mentioned (dtd_of keys models))
+  pub held_mentioned : IsTrue (are_mentioned (as_dtd keys models))
   held_mentioned = subst (λ (g : PlainDtd). IsTrue (are_mentioned g)) (sym of.2) (mentioned_kept of.0 of.1)
 
-  pub held_formed : IsTrue (list_all is_formed_model (dtd_of keys models).models)
+  pub held_formed : IsTrue (list_all is_formed_model (as_dtd keys models).models)
   held_formed = rw models_are (formed_kept of.0 of.1)
 
-  pub held_parts : parts_in_models (dtd_of keys models).models ≤ MAX_PARTS
+  pub held_parts : parts_in_models (as_dtd keys models).models ≤ MAX_PARTS
   held_parts = omega (arith, ap parts_in_models models_are, parts_numbered (number_among (names_of of.0)) (models_in of.0), of.1.few_parts)
 
-pub items_held : (keys : List (Vec ℕ Global)) (models : List ContentModel) (names : List (List ℕ)) → map (λ v. v.items) keys ≡ names → IsOfItems (record { names = names; models = map plain_model models }) → IsOfItems (dtd_of keys models)
+pub items_held : (keys : List (Vec ℕ Global)) (models : List ContentModel) (names : List (List ℕ)) → map (λ v. v.items) keys ≡ names → IsOfItems (record { names = names; models = map plain_model models }) → IsOfItems (as_dtd keys models)
 items_held keys models names seen of = rw seen of

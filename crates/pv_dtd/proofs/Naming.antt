@@ -6,7 +6,7 @@ use Rattle.std.specs.List.{slice_get}
 use Rattle.std.specs.Option.{option_map}
 use Rattle.std.specs.Str.{bytes_eq}
 use Rattle.pv_dtd.specs.Plain.{place_of}
-use Rattle.pv_dtd.specs.Naming.{with_name, number_in, AreFirstIn, with_names}
+use Rattle.pv_dtd.specs.Naming.{names_with, number_in, AreFirstIn, with_names}
 
 pub goes_on_self : (names : List (List ℕ)) → AreFirstIn names names
 goes_on_self names = record { added = []; whole = sym (append-nil names) }
@@ -18,16 +18,16 @@ with_name_goes_on_by : (names : List (List ℕ)) (x : List ℕ) (there : Bool) �
 with_name_goes_on_by names x true = goes_on_self names
 with_name_goes_on_by names x false = record { added = x ∷ []; whole = refl }
 
-pub with_name_goes_on : (names : List (List ℕ)) (x : List ℕ) → AreFirstIn names (with_name names x)
+pub with_name_goes_on : (names : List (List ℕ)) (x : List ℕ) → AreFirstIn names (names_with names x)
 with_name_goes_on names x = with_name_goes_on_by names x (is_some (place_of names x))
 
 pub grown_goes_on : (names xs : List (List ℕ)) → AreFirstIn names (with_names names xs)
 grown_goes_on names [] = goes_on_self names
-grown_goes_on names (x ∷ xs) = goes_on_then names (with_name names x) _ (with_name_goes_on names x) (grown_goes_on (with_name names x) xs)
+grown_goes_on names (x ∷ xs) = goes_on_then names (names_with names x) _ (with_name_goes_on names x) (grown_goes_on (names_with names x) xs)
 
 pub with_names-append : (names xs ys : List (List ℕ)) → with_names names (xs ++ ys) ≡ with_names (with_names names xs) ys
 with_names-append names [] ys = refl
-with_names-append names (x ∷ xs) ys = with_names-append (with_name names x) xs ys
+with_names-append names (x ∷ xs) ys = with_names-append (names_with names x) xs ys
 
 get_front : (names added : List (List ℕ)) (y : ℕ) (x : List ℕ) → slice_get names y ≡ Some x → slice_get (names ++ added) y ≡ Some x
 get_front [] added y x e = cc
@@ -88,12 +88,12 @@ place_end : (names : List (List ℕ)) (x : List ℕ) → place_of names x ≡ No
 place_end [] x e = rw ((bytes_eq-Decides x x).1 refl) refl
 place_end (n ∷ ns) x e = place_end_by n ns x (bytes_eq x n) (place_end ns x) (place_of ns x) refl e
 
-place_with_by : (names : List (List ℕ)) (x : List ℕ) (o : Option ℕ) → place_of names x ≡ o → place_of (with_name names x) x ≡ Some (number_in names x)
+place_with_by : (names : List (List ℕ)) (x : List ℕ) (o : Option ℕ) → place_of names x ≡ o → place_of (names_with names x) x ≡ Some (number_in names x)
 place_with_by names x None e = rw e (place_end names x e)
 place_with_by names x (Some y) e = rw e e
 
-pub place-with_name : (names : List (List ℕ)) (x : List ℕ) → place_of (with_name names x) x ≡ Some (number_in names x)
-place-with_name names x = place_with_by names x (place_of names x) refl
+pub place-names_with : (names : List (List ℕ)) (x : List ℕ) → place_of (names_with names x) x ≡ Some (number_in names x)
+place-names_with names x = place_with_by names x (place_of names x) refl
 
-pub get-with_name : (names : List (List ℕ)) (x : List ℕ) → slice_get (with_name names x) (number_in names x) ≡ Some x
-get-with_name names x = get-place (with_name names x) x (number_in names x) (place-with_name names x)
+pub get-names_with : (names : List (List ℕ)) (x : List ℕ) → slice_get (names_with names x) (number_in names x) ≡ Some x
+get-names_with names x = get-place (names_with names x) x (number_in names x) (place-names_with names x)

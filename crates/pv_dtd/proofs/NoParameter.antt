@@ -6,7 +6,7 @@ use Rattle.std.proofs.lemmas.Bool.Decides.{Decides-eqb}
 use Rattle.pv_chars.specs.Spaces.{IsOptionalSpace}
 use Rattle.pv_chars.specs.Names.{IsName}
 use Rattle.pv_chars.specs.Declarations.{is_quote}
-use Rattle.pv_dtd.specs.Items.{NamedModel, Item, text_declaration, element, skipped, comment, instruction}
+use Rattle.pv_dtd.specs.Items.{NamedModel, DtdItem, text_declaration, element, skipped, comment, instruction}
 use Rattle.pv_dtd.specs.Spelling.{StandsAt, SpellsElement, SpellsSkipped, IsSkippedWord, IsQuotedText, nothing, ends_or_refers, may_not_be_skipped}
 use Rattle.pv_dtd.specs.Kinds.{HasParameter}
 use Rattle.pv_dtd.specs.ItemReading.{or_else, skipped_word, where_it_is, declaration_word, inner_parameter_at, parameter_at}
@@ -77,7 +77,7 @@ skipped_refers_not place text rest whole s =
 none_refers : (place : List ℕ) → parameter_at place ≡ None → HasParameter place → ⊥
 none_refers place none h = let some = parameter_is_read h in let at = ap is_some none in cc
 
-pub begins_no_parameter : (front : Bool) (place : List ℕ) (i : Item) (rest : List ℕ) → StandsAt front place i rest → HasParameter place → ⊥
+pub begins_no_parameter : (front : Bool) (place : List ℕ) (i : DtdItem) (rest : List ℕ) → StandsAt front place i rest → HasParameter place → ⊥
 unfolding parameter_at inner_parameter_at declaration_word skipped_word or_else
 begins_no_parameter front place (element n m) rest b h = none_refers place (element_refers_not n m place b.text rest b.whole b.spelled) h
 begins_no_parameter front place skipped rest b h = none_refers place (skipped_refers_not place b.text rest b.whole b.spelled) h

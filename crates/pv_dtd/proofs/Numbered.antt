@@ -3,9 +3,9 @@ use Rattle.std.proofs.Common.{◌≡◌, ◌≤◌, ℕ, suc, List, [], ◌∷�
 use Rattle.std.proofs.lemmas.Bool.{le-leb}
 use Rattle.std.proofs.lemmas.List.{length-map, map-append}
 use Rattle.pv_dtd.specs.Plain.{parts_in, parts_in_all, parts_in_model, parts_in_models, names_in, names_in_all, names_in_model, mentions}
-use Rattle.pv_dtd.specs.Facts.{has_operator, members, is_formed, are_formed, nesting, nesting_all}
+use Rattle.pv_dtd.specs.Facts.{has_operator, members, is_formed_part, are_formed_parts, nesting, nesting_all}
 use Rattle.pv_dtd.specs.Items.{NamedPart, name, seq, choice, opt, star, plus, NamedParts, no_parts, part, NamedModel, empty, any, mixed, children, spelled_in, spelled_in_all, spelled_in_model, mentioned_in, particles_in, particles_in_all, parts_of_model, parts_of_models}
-use Rattle.pv_dtd.specs.Spelling.{IsBare, member_count, nesting_of, nesting_of_all, SpellsPart, SpellsGroup, SpellsOthers}
+use Rattle.pv_dtd.specs.Spelling.{IsUnrepeated, member_count, nesting_of, nesting_of_all, SpellsPart, SpellsGroup, SpellsOthers}
 use Rattle.pv_dtd.specs.Numbering.{with_numbers, all_with_numbers, model_with_numbers}
 
 -- numbers for names leave the number of parts
@@ -61,7 +61,7 @@ members_numbered : (f : List ℕ → ℕ) (ps : NamedParts) → members (all_wit
 members_numbered f no_parts = refl
 members_numbered f (part p ps) = ap suc (members_numbered f ps)
 
-bare_numbered : (f : List ℕ → ℕ) (p : NamedPart) → IsBare p → has_operator (with_numbers f p) ≡ false
+bare_numbered : (f : List ℕ → ℕ) (p : NamedPart) → IsUnrepeated p → has_operator (with_numbers f p) ≡ false
 bare_numbered f (name n) b = refl
 bare_numbered f (seq ps) b = refl
 bare_numbered f (choice ps) b = refl
@@ -84,7 +84,7 @@ mutual
 
 module _ (f : List ℕ → ℕ) where
   mutual
-    pub part_formed : (p : NamedPart) (text : List ℕ) → SpellsPart p text → is_formed (with_numbers f p) ≡ true
+    pub part_formed : (p : NamedPart) (text : List ℕ) → SpellsPart p text → is_formed_part (with_numbers f p) ≡ true
     part_formed (name n) text s = refl
     part_formed (seq ps) text s = let g = group_formed _ ps text s in rw (members_numbered f ps, le-leb 1 (member_count ps) g.0, g.1) refl
     part_formed (choice ps) text s = let g = group_formed _ ps text s.1 in rw (members_numbered f ps, le-leb 2 (member_count ps) s.0, g.1) refl
@@ -92,10 +92,10 @@ module _ (f : List ℕ → ℕ) where
     part_formed (star p) text s = rw (bare_numbered f p s.1, part_formed p s.0 s.2) refl
     part_formed (plus p) text s = rw (bare_numbered f p s.1, part_formed p s.0 s.2) refl
 
-    group_formed : (separator : List ℕ) (ps : NamedParts) (text : List ℕ) → SpellsGroup separator ps text → (1 ≤ member_count ps) × (are_formed (all_with_numbers f ps) ≡ true)
+    group_formed : (separator : List ℕ) (ps : NamedParts) (text : List ℕ) → SpellsGroup separator ps text → (1 ≤ member_count ps) × (are_formed_parts (all_with_numbers f ps) ≡ true)
     group_formed separator no_parts text s = absurd s
     group_formed separator (part p ps) text s = (omega arith, rw (part_formed p s.1 s.5, others_formed separator ps s.2 s.6) refl)
 
-    others_formed : (separator : List ℕ) (ps : NamedParts) (text : List ℕ) → SpellsOthers separator ps text → are_formed (all_with_numbers f ps) ≡ true
+    others_formed : (separator : List ℕ) (ps : NamedParts) (text : List ℕ) → SpellsOthers separator ps text → are_formed_parts (all_with_numbers f ps) ≡ true
     others_formed separator no_parts text s = refl
     others_formed separator (part p ps) text s = rw (part_formed p s.2 s.6, others_formed separator ps s.3 s.7) refl

@@ -8,7 +8,7 @@ use Rattle.std.proofs.lemmas.Bool.{and_parts}
 use Rattle.std.specs.Str.{bytes_eq}
 use Rattle.pv_dtd.specs.Facts.{are_distinct}
 use Rattle.pv_dtd.specs.Numbering.{each_once}
-use Rattle.pv_dtd.specs.Naming.{with_name, with_names}
+use Rattle.pv_dtd.specs.Naming.{names_with, with_names}
 use Rattle.pv_chars.proofs.Binding.{same_some}
 use Rattle.pv_dtd.proofs.Places.{is_some-place}
 use Rattle.pv_dtd.proofs.Distinct.{are_new, new-distinct}
@@ -28,11 +28,11 @@ same_with : (names seen : List (List ℕ)) (n : List ℕ) → HaveSame names see
 same_with names seen n same x =
     list_any-append (bytes_eq x) names (n ∷ []) ∙ ap (λ b. list_any (bytes_eq x) names || b) (or-false (bytes_eq x n)) ∙ swap_or (list_any (bytes_eq x) names) (bytes_eq x n) ∙ ap (λ b. bytes_eq x n || b) (same x)
 
-with_name_if : (names : List (List ℕ)) (x : List ℕ) (there : Bool) → list_any (bytes_eq x) names ≡ there → with_name names x ≡ cond there names (names ++ x ∷ [])
+with_name_if : (names : List (List ℕ)) (x : List ℕ) (there : Bool) → list_any (bytes_eq x) names ≡ there → names_with names x ≡ cond there names (names ++ x ∷ [])
 with_name_if names x there is = ap (λ b. cond b names (names ++ x ∷ [])) (is_some-place x names ∙ is)
 
 grown_once_by : (names seen : List (List ℕ)) → HaveSame names seen → (x : List ℕ) (xs : List (List ℕ)) (there : Bool) → list_any (bytes_eq x) seen ≡ there → ((names seen : List (List ℕ)) → HaveSame names seen → with_names names xs ≡ names ++ each_once seen xs) →
-    with_names (with_name names x) xs ≡ names ++ cond there (each_once seen xs) (x ∷ each_once (x ∷ seen) xs)
+    with_names (names_with names x) xs ≡ names ++ cond there (each_once seen xs) (x ∷ each_once (x ∷ seen) xs)
 grown_once_by names seen same x xs true is below = ap (λ ns. with_names ns xs) (with_name_if names x true (same x ∙ is)) ∙ below names seen same
 grown_once_by names seen same x xs false is below =
     ap (λ ns. with_names ns xs) (with_name_if names x false (same x ∙ is)) ∙ below (names ++ x ∷ []) (x ∷ seen) (same_with names seen x same) ∙ append_assoc names (x ∷ []) (each_once (x ∷ seen) xs)
@@ -54,7 +54,7 @@ pub distinct-once : (xs : List (List ℕ)) → are_distinct (each_once [] xs) �
 distinct-once xs = sym (new-distinct (each_once [] xs)) ∙ new-once xs [] [] (λ x. refl)
 
 -- names that are new all go behind
-grown_new_by : (names : List (List ℕ)) (x : List ℕ) (xs : List (List ℕ)) (there : Bool) → list_any (bytes_eq x) names ≡ there → (not there && are_new bytes_eq (names ++ x ∷ []) xs) ≡ true → (are_new bytes_eq (names ++ x ∷ []) xs ≡ true → with_names (names ++ x ∷ []) xs ≡ (names ++ x ∷ []) ++ xs) → with_names (with_name names x) xs ≡ names ++ x ∷ xs
+grown_new_by : (names : List (List ℕ)) (x : List ℕ) (xs : List (List ℕ)) (there : Bool) → list_any (bytes_eq x) names ≡ there → (not there && are_new bytes_eq (names ++ x ∷ []) xs) ≡ true → (are_new bytes_eq (names ++ x ∷ []) xs ≡ true → with_names (names ++ x ∷ []) xs ≡ (names ++ x ∷ []) ++ xs) → with_names (names_with names x) xs ≡ names ++ x ∷ xs
 grown_new_by names x xs true is new below = cc
 grown_new_by names x xs false is new below = ap (λ ns. with_names ns xs) (with_name_if names x false is) ∙ below new ∙ append_assoc names (x ∷ []) xs
 

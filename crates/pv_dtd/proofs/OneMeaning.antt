@@ -4,7 +4,7 @@ use Rattle.std.proofs.lemmas.Bool.{cases_order}
 use Rattle.pv_chars.specs.Spaces.{is_space, IsOptionalSpace}
 use Rattle.pv_chars.specs.Scan.{after_space}
 use Rattle.pv_chars.proofs.Scanning.{begins, after_space_takes, after_space-append}
-use Rattle.pv_dtd.specs.Items.{Item, text_declaration, element, skipped, comment, instruction, declared_in, models_in, parts_of_models}
+use Rattle.pv_dtd.specs.Items.{DtdItem, text_declaration, element, skipped, comment, instruction, declared_in, models_in, parts_of_models}
 use Rattle.pv_dtd.specs.Spelling.{StandsAt, Spells, IsSkippedWord}
 use Rattle.pv_dtd.specs.Kinds.{Kind, parameter, nesting, syntax, twice, mixed_twice, limit, HasParameter, IsTooDeep, HasFault, IsFirstFault, Breaks, rank, declares_again, lists_twice, passes_limit}
 use Rattle.pv_dtd.specs.Meaning.{is_place, HasPlace, is_front, Outcome, is_dtd, faulty, DtdRestMeans, ends, item, fault}
@@ -53,14 +53,14 @@ all_space rest e =
     subst IsOptionalSpace (sym all) run.optional
 
 -- At most one item begins a place that isn't too deep.
-pub same_item : {front : Bool} {place : List ℕ} {i j : Item} {more others : List ℕ} → (IsTooDeep place → ⊥) → StandsAt front place i more → StandsAt front place j others → (i ≡ j) × (more ≡ others)
+pub same_item : {front : Bool} {place : List ℕ} {i j : DtdItem} {more others : List ℕ} → (IsTooDeep place → ⊥) → StandsAt front place i more → StandsAt front place j others → (i ≡ j) × (more ≡ others)
 same_item {front} {place} {i} {j} {more} {others} shallow a b =
     let found : Some (i, more) ≡ Some (j, others) = sym (item_is_read front place i more a (begins_shallow front place i more a shallow)) ∙ item_is_read front place j others b (begins_shallow front place j others b shallow) in
     let pair : (i, more) ≡ (j, others) = same_some _ _ found in
-    (ap (λ (x : Item × List ℕ). x.0) pair, ap (λ (x : Item × List ℕ). x.1) pair)
+    (ap (λ (x : DtdItem × List ℕ). x.0) pair, ap (λ (x : DtdItem × List ℕ). x.1) pair)
 
 -- Faults that are found before an item is read.
-module _ (before : List Item) (front : Bool) (place : List ℕ) where
+module _ (before : List DtdItem) (front : Bool) (place : List ℕ) where
   early_by : (o : Option (List ℕ)) (deep : Bool) → parameter_at place ≡ o → is_too_deep place ≡ deep → (kind : Kind) → cond (is_some o) (Some parameter) (cond deep (Some nesting) None) ≡ Some kind → IsFirstFault before front place kind
   early_by (Some rest) deep p d kind e = subst (IsFirstFault before front place) (same_some _ _ e) record { holds = parameter_read place rest p; first = λ earlier less h. absurd (omega arith) }
   early_by None true p d kind e = subst (IsFirstFault before front place) (same_some _ _ e) record { holds = too_deep_read place d; first = first }
@@ -88,33 +88,33 @@ unfolding early_kind
 no_early place e = no_early_by place (parameter_at place) (is_too_deep place) refl refl e
 
 -- Where there is no such fault, and an item begins: a rule is broken exactly where this item breaks it.
-module _ (before : List Item) (front : Bool) (place : List ℕ) (early : early_kind place ≡ None) where
+module _ (before : List DtdItem) (front : Bool) (place : List ℕ) (early : early_kind place ≡ None) where
   no_parameter : HasParameter place → ⊥
   no_parameter = (no_early place early).0
 
   pub not_too_deep : IsTooDeep place → ⊥
   not_too_deep = (no_early place early).1
 
-  module _ (i : Item) (rest : List ℕ) (at : item_at front place ≡ Some (i, rest)) where
+  module _ (i : DtdItem) (rest : List ℕ) (at : item_at front place ≡ Some (i, rest)) where
     pub item_begins : StandsAt front place i rest
     item_begins = (item_read front place (i, rest) at).begun
 
     some_item : HasFault before front place syntax → ⊥
     some_item none = none i rest item_begins
 
-    breaks_is : (rule : Item → Bool) → Breaks front place rule → rule i ≡ true
+    breaks_is : (rule : DtdItem → Bool) → Breaks front place rule → rule i ≡ true
     breaks_is rule b = ap rule (same_item not_too_deep item_begins b.2).0 ∙ b.3
 
-    breaks : (rule : Item → Bool) → rule i ≡ true → Breaks front place rule
+    breaks : (rule : DtdItem → Bool) → rule i ≡ true → Breaks front place rule
     breaks rule is = (i, rest, item_begins, is)
 
-    keeps : (rule : Item → Bool) → rule i ≡ false → Breaks front place rule → ⊥
+    keeps : (rule : DtdItem → Bool) → rule i ≡ false → Breaks front place rule → ⊥
     keeps rule is b = let broken = breaks_is rule b in cc
 
-    abbrev again : Item → Bool
+    abbrev again : DtdItem → Bool
     again = declares_again (declared_in before)
 
-    abbrev past_limit : Item → Bool
+    abbrev past_limit : DtdItem → Bool
     past_limit = passes_limit (declared_in before) (parts_of_models (models_in before))
 
     first_by : (t m l : Bool) → again i ≡ t → lists_twice i ≡ m → past_limit i ≡ l → (kind : Kind) → cond t (Some twice) (cond m (Some mixed_twice) (cond l (Some limit) None)) ≡ Some kind → IsFirstFault before front place kind
@@ -170,7 +170,7 @@ module _ (before : List Item) (front : Bool) (place : List ℕ) (early : early_k
   pub no_item : item_at front place ≡ None → IsFirstFault before front place syntax
   no_item none = record { holds = nothing_begins; first = first }
     where
-      nothing_begins : (i : Item) (rest : List ℕ) → StandsAt front place i rest → ⊥
+      nothing_begins : (i : DtdItem) (rest : List ℕ) → StandsAt front place i rest → ⊥
       nothing_begins i rest b = let some = item_is_read front place i rest b (begins_shallow front place i rest b not_too_deep) in cc
 
       first : (earlier : Kind) → rank earlier < 2 → HasFault before front place earlier → ⊥
@@ -182,16 +182,16 @@ module _ (before : List Item) (front : Bool) (place : List ℕ) (early : early_k
       first limit less h = absurd (omega arith)
 
 -- One kind of fault is the first.
-kind_of : ℕ → Kind
-kind_of zero = parameter
-kind_of (suc zero) = nesting
-kind_of (suc (suc zero)) = syntax
-kind_of (suc (suc (suc zero))) = twice
-kind_of (suc (suc (suc (suc zero)))) = mixed_twice
-kind_of (suc (suc (suc (suc (suc n))))) = limit
+kind_of_rule : ℕ → Kind
+kind_of_rule zero = parameter
+kind_of_rule (suc zero) = nesting
+kind_of_rule (suc (suc zero)) = syntax
+kind_of_rule (suc (suc (suc zero))) = twice
+kind_of_rule (suc (suc (suc (suc zero)))) = mixed_twice
+kind_of_rule (suc (suc (suc (suc (suc n))))) = limit
 
-kind_of_rank : (kind : Kind) → kind_of (rank kind) ≡ kind
-unfolding kind_of
+kind_of_rank : (kind : Kind) → kind_of_rule (rank kind) ≡ kind
+unfolding kind_of_rule
 kind_of_rank parameter = refl
 kind_of_rank nesting = refl
 kind_of_rank syntax = refl
@@ -199,16 +199,16 @@ kind_of_rank twice = refl
 kind_of_rank mixed_twice = refl
 kind_of_rank limit = refl
 
-pub same_kind : {before : List Item} {front : Bool} {place : List ℕ} {k j : Kind} → IsFirstFault before front place k → IsFirstFault before front place j → k ≡ j
+pub same_kind : {before : List DtdItem} {front : Bool} {place : List ℕ} {k j : Kind} → IsFirstFault before front place k → IsFirstFault before front place j → k ≡ j
 same_kind {before} {front} {place} {k} {j} a b =
     elim (cases_order (rank k) (rank j)) [
-      | inl same ↦ sym (kind_of_rank k) ∙ ap kind_of same ∙ kind_of_rank j
+      | inl same ↦ sym (kind_of_rank k) ∙ ap kind_of_rule same ∙ kind_of_rank j
       | inr (inl less) ↦ absurd (b.first k less a.holds)
       | inr (inr less) ↦ absurd (a.first j less b.holds)
     ]
 
 -- behind these items, the rest has one meaning
-pub same_meaning : {before : List Item} {rest : List ℕ} {o p : Outcome} → DtdRestMeans before rest o → DtdRestMeans before rest p → o ≡ p
+pub same_meaning : {before : List DtdItem} {rest : List ℕ} {o p : Outcome} → DtdRestMeans before rest o → DtdRestMeans before rest p → o ≡ p
 same_meaning (ends a) (ends b) = refl
 same_meaning (ends a) (item g i n m) = no_place a g
 same_meaning (ends a) (fault g f) = no_place a g
@@ -223,11 +223,11 @@ same_meaning {before} {rest} (fault {kind} g f) (item h i n m) = absurd (n kind 
 same_meaning {before} {rest} (fault {kind} g f) (fault h e) = let kind_is = same_kind (subst (λ place. IsFirstFault before (is_front before rest) place kind) (same_place g h) f) e in ap (λ k. faulty k (length before)) kind_is
 
 -- And it has some meaning.
-pub record Meant (before : List Item) (rest : List ℕ) : Type 0 where
+pub record Meant (before : List DtdItem) (rest : List ℕ) : Type 0 where
   pub outcome : Outcome
   pub means : DtdRestMeans before rest outcome
 
-text_some : (i : Item) (text : List ℕ) → Spells i text → text ≢ []
+text_some : (i : DtdItem) (text : List ℕ) → Spells i text → text ≢ []
 text_some text_declaration text s e = let is = s.whole in cc
 text_some (element n model) text s e = let is = s.whole in cc
 text_some skipped text s e = by s.word s.is_word s.whole
@@ -243,21 +243,21 @@ some_length : (text : List ℕ) → text ≢ [] → 0 < length text
 some_length [] some = absurd (some refl)
 some_length (b ∷ bs) some = omega arith
 
-pub shorter : (front : Bool) (place : List ℕ) (i : Item) (rest : List ℕ) → StandsAt front place i rest → length rest < length place
+pub shorter : (front : Bool) (place : List ℕ) (i : DtdItem) (rest : List ℕ) → StandsAt front place i rest → length rest < length place
 shorter front place i rest b = let longer = some_length b.text (text_some i b.text b.spelled) in omega (arith, longer, ap length b.whole, length-append b.text rest)
 
 goes_shorter : (rest place : List ℕ) → HasPlace rest place → (n : ℕ) → length rest < suc n → length place < suc n
 goes_shorter rest place g n less = omega (arith, ap length g.whole, length-append g.space place)
 
-module _ (n : ℕ) (below : (before : List Item) (rest : List ℕ) → length rest < n → Meant before rest) (before : List Item) (rest : List ℕ) where
-  meant_item : (place : List ℕ) → HasPlace rest place → length place < suc n → early_kind place ≡ None → (i : Item) (more : List ℕ) → item_at (is_front before rest) place ≡ Some (i, more) → (o : Option Kind) → broken_rule (declared_in before) (parts_of_models (models_in before)) i ≡ o → Meant before rest
+module _ (n : ℕ) (below : (before : List DtdItem) (rest : List ℕ) → length rest < n → Meant before rest) (before : List DtdItem) (rest : List ℕ) where
+  meant_item : (place : List ℕ) → HasPlace rest place → length place < suc n → early_kind place ≡ None → (i : DtdItem) (more : List ℕ) → item_at (is_front before rest) place ≡ Some (i, more) → (o : Option Kind) → broken_rule (declared_in before) (parts_of_models (models_in before)) i ≡ o → Meant before rest
   meant_item place g less early i more is (Some kind) broken = record { outcome = faulty kind (length before); means = fault g (rule_broken before (is_front before rest) place early i more is kind broken) }
   meant_item place g less early i more is None kept =
       let begins = item_begins before (is_front before rest) place early i more is in
       let behind = below (before ++ i ∷ []) more (omega (arith, less, shorter (is_front before rest) place i more begins)) in
       record { outcome = behind.outcome; means = item g begins (no_rule_broken before (is_front before rest) place early i more is kept) behind.means }
 
-  meant_by : (place : List ℕ) → HasPlace rest place → length place < suc n → early_kind place ≡ None → (o : Option (Item × List ℕ)) → item_at (is_front before rest) place ≡ o → Meant before rest
+  meant_by : (place : List ℕ) → HasPlace rest place → length place < suc n → early_kind place ≡ None → (o : Option (DtdItem × List ℕ)) → item_at (is_front before rest) place ≡ o → Meant before rest
   meant_by place g less early None is = record { outcome = faulty syntax (length before); means = fault g (no_item before (is_front before rest) place early is) }
   meant_by place g less early (Some x) is = meant_item place g less early x.0 x.1 is (broken_rule (declared_in before) (parts_of_models (models_in before)) x.0) refl
 
@@ -269,6 +269,6 @@ module _ (n : ℕ) (below : (before : List Item) (rest : List ℕ) → length re
   meant_at less [] at = record { outcome = is_dtd _; means = ends (all_space rest (sym at)) }
   meant_at less (b ∷ bs) at = let g = goes_to rest (b ∷ bs) at (λ none. cc) in meant_place (b ∷ bs) g (goes_shorter rest (b ∷ bs) g n less) (early_kind (b ∷ bs)) refl
 
-pub meant : (n : ℕ) (before : List Item) (rest : List ℕ) → length rest < n → Meant before rest
+pub meant : (n : ℕ) (before : List DtdItem) (rest : List ℕ) → length rest < n → Meant before rest
 meant zero before rest less = absurd (omega arith)
 meant (suc n) before rest less = meant_at n (meant n) before rest less (after_space rest) refl

@@ -6,7 +6,7 @@ use Rattle.pv_chars.specs.Scan.{after_space, after_bytes}
 use Rattle.pv_chars.proofs.Scanning.{after_space_takes, after_space-append, after_bytes_takes}
 use Rattle.pv_chars.specs.CharReading.{name_at}
 use Rattle.pv_dtd.specs.Items.{NamedPart, name, seq, choice, opt, star, plus, NamedParts, no_parts, part}
-use Rattle.pv_dtd.specs.Spelling.{SpellsPart, SpellsGroup, SpellsOthers, IsBare, member_count, nesting_of, nesting_of_all}
+use Rattle.pv_dtd.specs.Spelling.{SpellsPart, SpellsGroup, SpellsOthers, IsUnrepeated, member_count, nesting_of, nesting_of_all}
 use Rattle.pv_dtd.specs.PartReading.{Reader, word_at, with_operator, more_at, others_by, others_at, separator_at, group_of, group_at, bare_by, too_deep, particle_from, bare_at, particle_at}
 use Rattle.pv_chars.proofs.Binding.{bound, same_some}
 use Rattle.pv_chars.proofs.NameBytes.{name_at_takes}
@@ -22,7 +22,7 @@ abbrev pub SpellsWithin : ℕ → NamedPart → List ℕ → Type 0
 SpellsWithin depth p text = SpellsPart p text × (nesting_of p ≤ depth)
 
 abbrev pub SpellsBare : ℕ → NamedPart → List ℕ → Type 0
-SpellsBare depth p text = SpellsPart p text × (nesting_of p ≤ depth) × IsBare p
+SpellsBare depth p text = SpellsPart p text × (nesting_of p ≤ depth) × IsUnrepeated p
 
 word_reads : (bytes : List ℕ) (f : NamedPart × List ℕ) → word_at bytes ≡ Some f → (depth : ℕ) → Reads (SpellsBare depth) bytes f
 unfolding word_at

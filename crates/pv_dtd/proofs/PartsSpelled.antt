@@ -7,7 +7,7 @@ use Rattle.pv_chars.proofs.Scanning.{begins, after_space-append}
 use Rattle.pv_chars.proofs.Beginnings.{HasNoSpace, begins_behind}
 use Rattle.pv_chars.specs.Names.{IsName}
 use Rattle.pv_dtd.specs.Items.{NamedPart, name, seq, choice, opt, star, plus, NamedParts, no_parts, part}
-use Rattle.pv_dtd.specs.Spelling.{SpellsPart, SpellsGroup, SpellsOthers, IsBare, member_count, nesting_of, nesting_of_all}
+use Rattle.pv_dtd.specs.Spelling.{SpellsPart, SpellsGroup, SpellsOthers, IsUnrepeated, member_count, nesting_of, nesting_of_all}
 use Rattle.pv_dtd.specs.PartReading.{Reader, word_at, with_operator, more_at, others_at, separator_at, group_of, group_at, bare_from, too_deep, particle_from, bare_at, particle_at}
 use Rattle.pv_chars.proofs.NameBytes.{is_name_byte, name_at-append, name_begins, name_not_after}
 
@@ -168,7 +168,7 @@ mutual
   part_is_read (star p) text s = operated_is_part p (star p) text s.0 42 refl refl (λ rest. refl) s.3 (bare_is_read p s.0 s.1 s.2)
   part_is_read (plus p) text s = operated_is_part p (plus p) text s.0 43 refl refl (λ rest. refl) s.3 (bare_is_read p s.0 s.1 s.2)
 
-  bare_is_read : (p : NamedPart) (text : List ℕ) → IsBare p → SpellsPart p text → BareIsRead p text
+  bare_is_read : (p : NamedPart) (text : List ℕ) → IsUnrepeated p → SpellsPart p text → BareIsRead p text
   bare_is_read (name n) text bare s = name_is_read n text s.0 s.1
   bare_is_read (seq ps) text bare s = seq_is_read ps text s
   bare_is_read (choice ps) text bare s = choice_is_read ps text s.0 s.1

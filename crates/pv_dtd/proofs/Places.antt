@@ -7,7 +7,7 @@ use Rattle.std.specs.List.{prefix_len, list_any}
 use Rattle.std.specs.Option.{option_map}
 use Rattle.std.specs.Str.{bytes_eq}
 use Rattle.pv_dtd.specs.Plain.{place_of}
-use Rattle.pv_dtd.specs.Naming.{with_name, number_in}
+use Rattle.pv_dtd.specs.Naming.{names_with, number_in}
 
 prefix-map : {A B : Type 0} (f : A → B) (p : B → Bool) (xs : List A) → prefix_len p (map f xs) ≡ prefix_len (λ x. p (f x)) xs
 prefix-map f p [] = refl
@@ -32,10 +32,10 @@ pub place-seen : (x : List ℕ) (keys : List (Vec ℕ Global)) (names : List (Li
 place-seen x keys names seen place is = is ∙ sym (place-keys x keys) ∙ ap (λ ns. place_of ns x) seen
 
 -- a name that is there keeps its number, and a new one has the next
-pub known_name : (names : List (List ℕ)) (x : List ℕ) (y : ℕ) → Some y ≡ place_of names x → (y ≡ number_in names x) × (names ≡ with_name names x)
+pub known_name : (names : List (List ℕ)) (x : List ℕ) (y : ℕ) → Some y ≡ place_of names x → (y ≡ number_in names x) × (names ≡ names_with names x)
 known_name names x y is = rw (← is) (refl, refl)
 
-pub new_name : (names : List (List ℕ)) (x : List ℕ) → None ≡ place_of names x → (length names ≡ number_in names x) × (names ++ x ∷ [] ≡ with_name names x)
+pub new_name : (names : List (List ℕ)) (x : List ℕ) → None ≡ place_of names x → (length names ≡ number_in names x) × (names ++ x ∷ [] ≡ names_with names x)
 new_name names x is = rw (← is) (refl, refl)
 
 is_some-suc : (o : Option ℕ) → is_some (option_map suc o) ≡ is_some o
@@ -63,7 +63,7 @@ pub holds_name : (x : List ℕ) (keys : List (Vec ℕ Global)) (names : List (Li
 holds_name x keys names seen = sym (list_any-map (λ v. v.items) (bytes_eq x) keys) ∙ ap (list_any (bytes_eq x)) seen ∙ sym (is_some-place x names)
 
 -- a new name goes behind the keys
-pub name_inserted : (keys after : List (Vec ℕ Global)) (v : Vec ℕ Global) (x : List ℕ) (names : List (List ℕ)) → map (λ v. v.items) keys ≡ names → v.items ≡ x → None ≡ place_of names x → after ≡ cond (list_any (λ k. bytes_eq v.items k.items) keys) keys (keys ++ v ∷ []) → map (λ v. v.items) after ≡ with_name names x
+pub name_inserted : (keys after : List (Vec ℕ Global)) (v : Vec ℕ Global) (x : List ℕ) (names : List (List ℕ)) → map (λ v. v.items) keys ≡ names → v.items ≡ x → None ≡ place_of names x → after ≡ cond (list_any (λ k. bytes_eq v.items k.items) keys) keys (keys ++ v ∷ []) → map (λ v. v.items) after ≡ names_with names x
 name_inserted keys after v x names seen is new inserted =
     let any : list_any (λ k. bytes_eq v.items k.items) keys ≡ false = rw is (holds_name x keys names seen ∙ ap is_some (sym new)) in
     let put : after ≡ keys ++ v ∷ [] = inserted ∙ ap (λ b. cond b keys (keys ++ v ∷ [])) any in

@@ -8,7 +8,7 @@ use Rattle.std.proofs.lemmas.Bool.Decides.{Decides-eqb}
 use Rattle.pv_chars.specs.Spaces.{IsOptionalSpace}
 use Rattle.pv_chars.specs.Names.{IsName}
 use Rattle.pv_dtd.specs.Facts.{MAX_NESTING}
-use Rattle.pv_dtd.specs.Items.{NamedPart, name, seq, choice, opt, star, plus, NamedParts, no_parts, part, NamedModel, empty, any, mixed, children, Item, text_declaration, element, skipped, comment, instruction}
+use Rattle.pv_dtd.specs.Items.{NamedPart, name, seq, choice, opt, star, plus, NamedParts, no_parts, part, NamedModel, empty, any, mixed, children, DtdItem, text_declaration, element, skipped, comment, instruction}
 use Rattle.pv_dtd.specs.Spelling.{StandsAt, SpellsPart, SpellsGroup, SpellsOthers, SpellsElement, nesting_of, nesting_of_all}
 use Rattle.pv_chars.specs.Declarations.{is_one_of}
 use Rattle.pv_dtd.specs.Kinds.{IsTooDeep, how_many}
@@ -199,7 +199,7 @@ shallow_model n (children p) place text rest whole s shallow =
       | inr (inr more) ↦ absurd (shallow (deep_by n p place text rest whole s more))
     ]
 
-pub begins_shallow : (front : Bool) (place : List ℕ) (i : Item) (rest : List ℕ) → StandsAt front place i rest → (IsTooDeep place → ⊥) → IsShallowItem i
+pub begins_shallow : (front : Bool) (place : List ℕ) (i : DtdItem) (rest : List ℕ) → StandsAt front place i rest → (IsTooDeep place → ⊥) → IsShallowItem i
 begins_shallow front place text_declaration rest b shallow = tt
 begins_shallow front place (element n model) rest b shallow = shallow_model n model place b.text rest b.whole b.spelled shallow
 begins_shallow front place skipped rest b shallow = tt

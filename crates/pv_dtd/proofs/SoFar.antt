@@ -10,14 +10,14 @@ use Rattle.std.specs.Str.{bytes_eq}
 use Rattle.std.specs.List.{flat_map, list_any}
 use Rattle.pv_chars.specs.Scan.{after_space}
 use Rattle.pv_dtd.specs.Facts.{are_distinct, MAX_TYPES, MAX_PARTS}
-use Rattle.pv_dtd.specs.Items.{NamedModel, Item, text_declaration, element, skipped, comment, instruction, declared_by, declared_in, model_in, models_in, mentioned_by, parts_by, parts_of_models}
+use Rattle.pv_dtd.specs.Items.{NamedModel, DtdItem, text_declaration, element, skipped, comment, instruction, declared_by, declared_in, model_in, models_in, mentioned_by, parts_by, parts_of_models}
 use Rattle.pv_dtd.specs.Kinds.{Kind, parameter, nesting, syntax, declares_again, is_too_long}
 use Rattle.pv_dtd.specs.Meaning.{is_place, is_front, Outcome, is_dtd, faulty, DtdRestMeans, ends, item, fault}
 use Rattle.pv_dtd.specs.Spelling.{StandsAt}
 use Rattle.pv_dtd.specs.Numbering.{dtd_of_items}
 use Rattle.pv_dtd.specs.Naming.{with_names}
 use Rattle.pv_dtd.specs.ItemReading.{item_at, parameter_at, is_too_deep, early_kind, broken_rule}
-use Rattle.pv_dtd.specs.SoFar.{IsShallowItem, IsSound, AreSound, AreRuled, Declares}
+use Rattle.pv_dtd.specs.SoFar.{IsShallowItem, IsSoundItem, AreSoundItems, AreRuled, Declares}
 use Rattle.pv_dtd.specs.Plain.{place_of}
 use Rattle.pv_dtd.proofs.Places.{is_some-place}
 use Rattle.pv_dtd.proofs.Distinct.{bytes_eq-swap}
@@ -27,7 +27,7 @@ use Rattle.pv_dtd.proofs.OneMeaning.{goes_to, all_space, no_item, rule_broken, n
 
 -- Behind so many items, which declare these names, models and parts, the rest means what the text means.
 pub record AreSoFar (bytes : List ℕ) (count : ℕ) (names : List (List ℕ)) (models : List NamedModel) (parts : ℕ) (rest : List ℕ) : Type 0 where
-  pub before : List Item
+  pub before : List DtdItem
   pub counted : count ≡ length before
   pub declares : Declares names models parts before
   pub within : count + length rest ≤ length bytes
@@ -43,7 +43,7 @@ so_far_none bytes = record {
 }
 
 -- the front, by the number of items
-front_is : (before : List Item) (rest : List ℕ) (count : ℕ) → count ≡ length before → (nat_eq count 0 && is_place rest) ≡ is_front before rest
+front_is : (before : List DtdItem) (rest : List ℕ) (count : ℕ) → count ≡ length before → (nat_eq count 0 && is_place rest) ≡ is_front before rest
 front_is [] rest count e = rw e refl
 front_is (i ∷ is) rest count e = ap (λ b. b && is_place rest) (by (nat_eq count 0) refl)
   where
@@ -51,7 +51,7 @@ front_is (i ∷ is) rest count e = ap (λ b. b && is_place rest) (by (nat_eq cou
     by true is = let zero = (Decides-eqb count 0).0 is in absurd (omega (arith, zero, e))
     by false is = refl
 
-sound-append : (items : List Item) (i : Item) → AreSound items → IsSound i → AreSound (items ++ i ∷ [])
+sound-append : (items : List DtdItem) (i : DtdItem) → AreSoundItems items → IsSoundItem i → AreSoundItems (items ++ i ∷ [])
 sound-append [] i s is = (is, tt)
 sound-append (j ∷ js) i s is = (s.0, sound-append js i s.1 is)
 
@@ -59,7 +59,7 @@ pub parts-append : (ms ns : List NamedModel) → parts_of_models (ms ++ ns) ≡ 
 parts-append [] ns = omega arith
 parts-append (m ∷ ms) ns = omega (arith, parts-append ms ns)
 
-pub parts_of_item : (i : Item) → parts_of_models (model_in i) ≡ parts_by i
+pub parts_of_item : (i : DtdItem) → parts_of_models (model_in i) ≡ parts_by i
 parts_of_item text_declaration = refl
 parts_of_item (element n model) = omega arith
 parts_of_item skipped = refl
@@ -75,7 +75,7 @@ differ-push (m ∷ ns) n d new =
     rw (other, two.0, differ-push ns n two.1 apart.1) refl
 
 -- a new name goes behind
-declared_behind : (names : List (List ℕ)) (i : Item) → declares_again names i ≡ false → with_names names (declared_by i) ≡ names ++ declared_by i
+declared_behind : (names : List (List ℕ)) (i : DtdItem) → declares_again names i ≡ false → with_names names (declared_by i) ≡ names ++ declared_by i
 declared_behind names (element n model) new =
     let none : is_some (place_of names n) ≡ false = is_some-place n names ∙ sym (or-false (list_any (bytes_eq n) names)) ∙ new in
     rw none refl
@@ -84,18 +84,18 @@ declared_behind names skipped new = sym (append-nil names)
 declared_behind names comment new = sym (append-nil names)
 declared_behind names instruction new = sym (append-nil names)
 
-differ_behind : (names : List (List ℕ)) (i : Item) → are_distinct names ≡ true → declares_again names i ≡ false → are_distinct (names ++ declared_by i) ≡ true
+differ_behind : (names : List (List ℕ)) (i : DtdItem) → are_distinct names ≡ true → declares_again names i ≡ false → are_distinct (names ++ declared_by i) ≡ true
 differ_behind names (element n model) d new = differ-push names n d (sym (or-false (list_any (bytes_eq n) names)) ∙ new)
 differ_behind names text_declaration d new = ap are_distinct (append-nil names) ∙ d
 differ_behind names skipped d new = ap are_distinct (append-nil names) ∙ d
 differ_behind names comment d new = ap are_distinct (append-nil names) ∙ d
 differ_behind names instruction d new = ap are_distinct (append-nil names) ∙ d
 
-pub joined : {A : Type 0} (f : Item → List A) (before : List Item) (i : Item) → flat_map f (before ++ i ∷ []) ≡ flat_map f before ++ f i
+pub joined : {A : Type 0} (f : DtdItem → List A) (before : List DtdItem) (i : DtdItem) → flat_map f (before ++ i ∷ []) ≡ flat_map f before ++ f i
 joined f before i = flat_map-append f before (i ∷ []) ∙ ap (λ xs. flat_map f before ++ xs) (append-nil (f i))
 
 -- ruled items, and behind them one that keeps the rules
-pub ruled_more : (before : List Item) (i : Item) → AreRuled before → {front : Bool} {place rest : List ℕ} → StandsAt front place i rest → IsShallowItem i → Keeps (declared_in before) (parts_of_models (models_in before)) i → AreRuled (before ++ i ∷ [])
+pub ruled_more : (before : List DtdItem) (i : DtdItem) → AreRuled before → {front : Bool} {place rest : List ℕ} → StandsAt front place i rest → IsShallowItem i → Keeps (declared_in before) (parts_of_models (models_in before)) i → AreRuled (before ++ i ∷ [])
 ruled_more before i r b shallow k =
     let long = or_parts (list_any is_too_long (declared_by i)) (list_any is_too_long (mentioned_by i)) (sym (list_any-append is_too_long (declared_by i) (mentioned_by i)) ∙ k.short) in
     record {
@@ -106,7 +106,7 @@ ruled_more before i r b shallow k =
     }
 
 module _ (bytes : List ℕ) (count : ℕ) (names : List (List ℕ)) (models : List NamedModel) (parts : ℕ) (rest : List ℕ) (s : AreSoFar bytes count names models parts rest) (place : List ℕ) (at : place ≡ after_space rest) where
-  pub all_read : place ≡ [] → (items : List Item) × DtdRestMeans [] bytes (is_dtd (dtd_of_items items)) × Declares names models parts items
+  pub all_read : place ≡ [] → (items : List DtdItem) × DtdRestMeans [] bytes (is_dtd (dtd_of_items items)) × Declares names models parts items
   all_read none = (s.before, s.behind (is_dtd (dtd_of_items s.before)) (ends (all_space rest (sym at ∙ none))), s.declares)
 
   few_names : length names ≤ MAX_TYPES
@@ -138,7 +138,7 @@ module _ (bytes : List ℕ) (count : ℕ) (names : List (List ℕ)) (models : Li
       pub no_item_stands : None ≡ item_at (nat_eq count 0 && is_place rest) place → DtdRestMeans [] bytes (faulty syntax count)
       no_item_stands none = faulty_is syntax (fault (goes_to rest place at some) (no_item s.before front place neither (ap (λ f. item_at f place) (sym (front_is s.before rest count s.counted)) ∙ sym none)))
 
-      module _ (i : Item) (more : List ℕ) (read : Some (i, more) ≡ item_at (nat_eq count 0 && is_place rest) place) where
+      module _ (i : DtdItem) (more : List ℕ) (read : Some (i, more) ≡ item_at (nat_eq count 0 && is_place rest) place) where
         is_read : item_at front place ≡ Some (i, more)
         is_read = ap (λ f. item_at f place) (sym (front_is s.before rest count s.counted)) ∙ sym read
 

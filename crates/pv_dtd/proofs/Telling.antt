@@ -5,12 +5,12 @@ use Rattle.pv_chars.specs.ByteOrderMark.{IsBehindByteOrderMark}
 use Rattle.pv_model.specs.Plain.{PlainModel}
 use Rattle.pv_dtd.specs.Plain.{PlainDtd}
 use Rattle.pv_dtd.specs.Facts.{MAX_DTD_BYTES}
-use Rattle.pv_dtd.specs.Items.{NamedModel, Item, declared_in, models_in, mentioned_in}
+use Rattle.pv_dtd.specs.Items.{NamedModel, DtdItem, declared_in, models_in, mentioned_in}
 use Rattle.pv_dtd.specs.Meaning.{Outcome, is_dtd, faulty, DtdRestMeans, DtdTextMeans, items}
 use Rattle.pv_dtd.specs.Numbering.{dtd_of_items, names_of, number_among, model_with_numbers}
 use Rattle.pv_dtd.specs.Naming.{with_names, NumbersModels}
 use Rattle.pv_dtd.specs.PlainForms.{plain_dtd, refusal, Refuses, Answers}
-use Rattle.pv_dtd.specs.RuleKinds.{kind_of}
+use Rattle.pv_dtd.specs.RuleKinds.{kind_of_rule}
 use Rattle.pv_dtd.specs.SoFar.{Tells, TellsFault, Declares}
 use Rattle.pv_dtd.specs.declared.dtd.Dtd.{Dtd}
 use Rattle.pv_dtd.specs.declared.errors.DtdError.{DtdError}
@@ -21,13 +21,13 @@ use Rattle.pv_dtd.proofs.Naming.{goes_on_self}
 use Rattle.pv_dtd.proofs.Once.{once-distinct}
 use Rattle.pv_dtd.proofs.TextMeaning.{same_text_meaning}
 
-pub tells_rule : (rest : List ℕ) (rule : Rule) (k : ℕ) (e : DtdError) → e ≡ refusal (kind_of rule) k → DtdRestMeans [] rest (faulty (kind_of rule) k) → TellsFault rest e
+pub tells_rule : (rest : List ℕ) (rule : Rule) (k : ℕ) (e : DtdError) → e ≡ refusal (kind_of_rule rule) k → DtdRestMeans [] rest (faulty (kind_of_rule rule) k) → TellsFault rest e
 tells_rule rest TwiceRule k e is m = rw is m
 tells_rule rest MixedTwiceRule k e is m = rw is m
 tells_rule rest LimitRule k e is m = rw is (inr m)
 
 -- all names and models, with numbers for names
-pub numbered_are : (read : List Item) (names : List (List ℕ)) (models : List NamedModel) (parts : ℕ) → Declares names models parts read → (all : List (List ℕ)) (numbers : List PlainModel) → all ≡ with_names names (mentioned_in models) → NumbersModels all models numbers → (record { names = all; models = numbers }) ≡ dtd_of_items read
+pub numbered_are : (read : List DtdItem) (names : List (List ℕ)) (models : List NamedModel) (parts : ℕ) → Declares names models parts read → (all : List (List ℕ)) (numbers : List PlainModel) → all ≡ with_names names (mentioned_in models) → NumbersModels all models numbers → (record { names = all; models = numbers }) ≡ dtd_of_items read
 numbered_are read names models parts d all numbers is_all placed =
     let whole : all ≡ names_of read = is_all ∙ ap (λ ms. with_names names (mentioned_in ms)) d.models_are ∙ ap (λ ns. with_names ns (mentioned_in (models_in read))) d.names_are ∙ sym (once-distinct (declared_in read) (mentioned_in (models_in read)) d.ruled.once) in
     let is_models : numbers ≡ map (model_with_numbers (number_among (names_of read))) (models_in read) =
@@ -37,7 +37,7 @@ numbered_are read names models parts d all numbers is_all placed =
     pair_of : (a b : List (List ℕ)) (ms ns : List PlainModel) → a ≡ b → ms ≡ ns → (let g : PlainDtd = record { names = a; models = ms } in g) ≡ (let g : PlainDtd = record { names = b; models = ns } in g)
     pair_of a b ms ns e f = cc
 
-abbrev pub HoldsItems : Dtd → List Item → Type 0
+abbrev pub HoldsItems : Dtd → List DtdItem → Type 0
 HoldsItems d read = plain_dtd d ≡ dtd_of_items read
 
 module _ (bytes rest : List ℕ) (short : length bytes ≤ MAX_DTD_BYTES) (mark : IsBehindByteOrderMark bytes rest) where

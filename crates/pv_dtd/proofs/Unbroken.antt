@@ -8,9 +8,9 @@ use Rattle.std.proofs.lemmas.List.Folds.{list_any-append}
 use Rattle.std.specs.List.{list_any}
 use Rattle.std.specs.Str.{bytes_eq}
 use Rattle.pv_dtd.specs.Facts.{are_distinct, MAX_TYPES, MAX_PARTS}
-use Rattle.pv_dtd.specs.Items.{Item, text_declaration, element, skipped, comment, instruction, declared_by, declared_in, model_in, models_in, mentioned_by, parts_by, parts_of_models}
+use Rattle.pv_dtd.specs.Items.{DtdItem, text_declaration, element, skipped, comment, instruction, declared_by, declared_in, model_in, models_in, mentioned_by, parts_by, parts_of_models}
 use Rattle.pv_dtd.specs.Kinds.{Kind, parameter, nesting, syntax, twice, mixed_twice, limit, HasFault, Breaks, declares_again, lists_twice, is_too_long, passes_limit}
-use Rattle.pv_dtd.specs.SoFar.{IsShallowItem, IsSound, AreSound, AreRuled}
+use Rattle.pv_dtd.specs.SoFar.{IsShallowItem, IsSoundItem, AreSoundItems, AreRuled}
 use Rattle.pv_dtd.specs.Spelling.{StandsAt}
 use Rattle.pv_dtd.proofs.Bounded.{begins_not_deep}
 use Rattle.pv_dtd.proofs.Breaking.{Keeps, kept_by}
@@ -20,8 +20,8 @@ use Rattle.pv_dtd.proofs.OneMeaning.{same_item}
 use Rattle.pv_dtd.proofs.SoFar.{joined, parts-append, parts_of_item}
 
 -- an item of which no kind of fault holds keeps the rules
-module _ (before : List Item) (front : Bool) (place : List ℕ) (i : Item) (rest : List ℕ) (begins : StandsAt front place i rest) (none : (kind : Kind) → HasFault before front place kind → ⊥) where
-  kept_rule : (rule : Item → Bool) → (Breaks front place rule → ⊥) → rule i ≡ false
+module _ (before : List DtdItem) (front : Bool) (place : List ℕ) (i : DtdItem) (rest : List ℕ) (begins : StandsAt front place i rest) (none : (kind : Kind) → HasFault before front place kind → ⊥) where
+  kept_rule : (rule : DtdItem → Bool) → (Breaks front place rule → ⊥) → rule i ≡ false
   kept_rule rule unbroken = by (rule i) refl
     where
       by : (broken : Bool) → rule i ≡ broken → broken ≡ false
@@ -49,15 +49,15 @@ distinct_new (x ∷ xs) n d =
     let apart = (or_parts (bytes_eq x n) false none.1).0 in
     rw (bytes_eq-swap n x, apart, distinct_new xs n two.1) refl
 
-sound-left : (a b : List Item) → AreSound (a ++ b) → AreSound a
+sound-left : (a b : List DtdItem) → AreSoundItems (a ++ b) → AreSoundItems a
 sound-left [] b s = tt
 sound-left (i ∷ is) b s = (s.0, sound-left is b s.1)
 
-sound_last : (before : List Item) (i : Item) → AreSound (before ++ i ∷ []) → IsSound i
+sound_last : (before : List DtdItem) (i : DtdItem) → AreSoundItems (before ++ i ∷ []) → IsSoundItem i
 sound_last [] i s = s.0
 sound_last (j ∷ js) i s = sound_last js i s.1
 
-pub ruled-left : (a b : List Item) → AreRuled (a ++ b) → AreRuled a
+pub ruled-left : (a b : List DtdItem) → AreRuled (a ++ b) → AreRuled a
 ruled-left a b r = record {
   sound = sound-left a b r.sound;
   once = distinct-left (declared_in a) (declared_in b) (ap are_distinct (sym (flat_map-append declared_by a b)) ∙ r.once);
@@ -66,8 +66,8 @@ ruled-left a b r = record {
 }
 
 -- the last of ruled items breaks no rule
-module _ (before : List Item) (i : Item) (r : AreRuled (before ++ i ∷ [])) where
-  last : IsSound i
+module _ (before : List DtdItem) (i : DtdItem) (r : AreRuled (before ++ i ∷ [])) where
+  last : IsSoundItem i
   last = sound_last before i r.sound
 
   pub last_shallow : IsShallowItem i
@@ -79,7 +79,7 @@ module _ (before : List Item) (i : Item) (r : AreRuled (before ++ i ∷ [])) whe
   not_again : declares_again (declared_in before) i ≡ false
   not_again = by i once
     where
-      by : (j : Item) → are_distinct (declared_in before ++ declared_by j) ≡ true → declares_again (declared_in before) j ≡ false
+      by : (j : DtdItem) → are_distinct (declared_in before ++ declared_by j) ≡ true → declares_again (declared_in before) j ≡ false
       by (element n m) d = or-false (list_any (bytes_eq n) (declared_in before)) ∙ distinct_new (declared_in before) n d
       by text_declaration d = refl
       by skipped d = refl
@@ -97,7 +97,7 @@ module _ (before : List Item) (i : Item) (r : AreRuled (before ++ i ∷ [])) whe
       rw (long, types, parts) refl
 
   module _ (front : Bool) (place rest : List ℕ) (begins : StandsAt front place i rest) where
-    unbroken : (rule : Item → Bool) → rule i ≡ false → Breaks front place rule → ⊥
+    unbroken : (rule : DtdItem → Bool) → rule i ≡ false → Breaks front place rule → ⊥
     unbroken rule e b =
         let same = (same_item (begins_not_deep front place i rest begins last_shallow) begins b.2).0 in
         let broken : rule i ≡ true = ap rule same ∙ b.3 in

@@ -7,16 +7,16 @@ use Rattle.pv_chars.specs.Declarations.{IsTextDecl}
 use Rattle.pv_chars.specs.ByteOrderMark.{IsBehindByteOrderMark}
 use Rattle.pv_model.specs.Plain.{PlainModel, empty, any, mixed, children}
 use Rattle.pv_dtd.specs.Plain.{PlainDtd, declared, parts_in_models}
-use Rattle.pv_dtd.specs.Facts.{are_distinct, is_short, nesting, MAX_DTD_BYTES, MAX_TYPES}
+use Rattle.pv_dtd.specs.Facts.{are_distinct, is_short_name, nesting, MAX_DTD_BYTES, MAX_TYPES}
 use Rattle.pv_dtd.specs.Facts.{MAX_PARTS, MAX_NESTING}
-use Rattle.pv_dtd.specs.Items.{Item, text_declaration, declared_in, listed_by}
+use Rattle.pv_dtd.specs.Items.{DtdItem, text_declaration, declared_in, listed_by}
 use Rattle.pv_dtd.specs.Spelling.{Spells, MayStand}
 use Rattle.pv_dtd.specs.Numbering.{dtd_of_items}
 
 -- (markupdecl | S)*: items other than a text declaration, with S? before each and behind the last;
 -- no conditional section and no reference of a parameter entity is part of a DTD here (XML 1.0,
 -- 2.8, extSubsetDecl)
-abbrev pub SpellsDeclarations : List Item → List ℕ → Type 0
+abbrev pub SpellsDeclarations : List DtdItem → List ℕ → Type 0
 SpellsDeclarations [] text = IsOptionalSpace text
 SpellsDeclarations (i ∷ items) text =
     (space : List ℕ) × (first : List ℕ) × (others : List ℕ) ×
@@ -24,20 +24,20 @@ SpellsDeclarations (i ∷ items) text =
     (text ≡ space ++ first ++ others)
 
 -- extSubset: TextDecl? (markupdecl | S)* (XML 1.0, 2.8, extSubset)
-pub data SpellsSubset (items : List Item) (text : List ℕ) : Type 0 where
+pub data SpellsSubset (items : List DtdItem) (text : List ℕ) : Type 0 where
   plain : SpellsDeclarations items text → SpellsSubset items text
-  behind_declaration : (first others : List ℕ) (more : List Item) →
+  behind_declaration : (first others : List ℕ) (more : List DtdItem) →
       items ≡ text_declaration ∷ more → IsTextDecl first → SpellsDeclarations more others →
       text ≡ first ++ others → SpellsSubset items text
 
 -- no mixed model lists a name twice (XML 1.0, 3.2.2, No Duplicate Types)
-abbrev pub ListNoneTwice : List Item → Type 0
+abbrev pub ListNoneTwice : List DtdItem → Type 0
 ListNoneTwice items = AllByRecursion (λ i. IsTrue (are_distinct (listed_by i))) items
 
 -- A text is this DTD: a byte order mark or none, and then items, of which no two declare the same
 -- name and none lists a name twice (XML 1.0, 2.8).
 pub record IsDtdText (bytes : List ℕ) (g : PlainDtd) : Type 0 where
-  pub items : List Item
+  pub items : List DtdItem
   pub rest : List ℕ
   pub behind_mark : IsBehindByteOrderMark bytes rest
   pub spelled : SpellsSubset items rest
@@ -57,5 +57,5 @@ pub record KeepsLimits (bytes : List ℕ) (g : PlainDtd) : Type 0 where
   pub few_bytes : length bytes ≤ MAX_DTD_BYTES
   pub few_types : declared g ≤ MAX_TYPES
   pub few_parts : parts_in_models g.models ≤ MAX_PARTS
-  pub short_names : IsTrue (list_all is_short g.names)
+  pub short_names : IsTrue (list_all is_short_name g.names)
   pub shallow : AllByRecursion (λ m. nesting_in m ≤ MAX_NESTING) g.models

@@ -16,8 +16,8 @@ abbrev pub MAX_NAME_BYTES : ℕ
 MAX_NAME_BYTES = 256
 
 -- what the names and models that a DTD holds are seen as
-abbrev pub dtd_of : List (Vec ℕ Global) → List ContentModel → PlainDtd
-dtd_of names models = record { names = map (λ v. v.items) names; models = map plain_model models }
+abbrev pub as_dtd : List (Vec ℕ Global) → List ContentModel → PlainDtd
+as_dtd names models = record { names = map (λ v. v.items) names; models = map plain_model models }
 
 -- no two of the names are the same
 abbrev pub are_distinct : List (List ℕ) → Bool
@@ -29,17 +29,17 @@ are_distinct_numbers [] = true
 are_distinct_numbers (n ∷ ns) = not (list_any (nat_eq n) ns) && are_distinct_numbers ns
 
 -- a name of at most 256 bytes
-abbrev pub is_short : List ℕ → Bool
-is_short n = nat_le (length n) MAX_NAME_BYTES
+abbrev pub is_short_name : List ℕ → Bool
+is_short_name n = nat_le (length n) MAX_NAME_BYTES
 
 -- the names are short, and differ
 abbrev pub are_names : List (List ℕ) → Bool
-are_names names = list_all is_short names && are_distinct names
+are_names names = list_all is_short_name names && are_distinct names
 
 -- each name is a Name (XML 1.0, 2.3)
-abbrev pub AreLegal : List (List ℕ) → Type 0
-AreLegal [] = Unit {0}
-AreLegal (n ∷ ns) = IsName n × AreLegal ns
+abbrev pub AreLegalNames : List (List ℕ) → Type 0
+AreLegalNames [] = Unit {0}
+AreLegalNames (n ∷ ns) = IsName n × AreLegalNames ns
 
 -- each number that stands in a model is that of a name of the DTD
 abbrev pub are_known : PlainDtd → Bool
@@ -65,17 +65,17 @@ members (part p ps) = suc (members ps)
 -- each sequence has a member, each choice two, and no `?`, `*` or `+` stands directly in another
 -- (XML 1.0, 3.2.1)
 abbrev mutual
-  pub is_formed : PlainPart → Bool
-  is_formed (name y) = true
-  is_formed (seq ps) = nat_le 1 (members ps) && are_formed ps
-  is_formed (choice ps) = nat_le 2 (members ps) && are_formed ps
-  is_formed (opt p) = not (has_operator p) && is_formed p
-  is_formed (star p) = not (has_operator p) && is_formed p
-  is_formed (plus p) = not (has_operator p) && is_formed p
+  pub is_formed_part : PlainPart → Bool
+  is_formed_part (name y) = true
+  is_formed_part (seq ps) = nat_le 1 (members ps) && are_formed_parts ps
+  is_formed_part (choice ps) = nat_le 2 (members ps) && are_formed_parts ps
+  is_formed_part (opt p) = not (has_operator p) && is_formed_part p
+  is_formed_part (star p) = not (has_operator p) && is_formed_part p
+  is_formed_part (plus p) = not (has_operator p) && is_formed_part p
 
-  pub are_formed : PlainParts → Bool
-  are_formed no_parts = true
-  are_formed (part p ps) = is_formed p && are_formed ps
+  pub are_formed_parts : PlainParts → Bool
+  are_formed_parts no_parts = true
+  are_formed_parts (part p ps) = is_formed_part p && are_formed_parts ps
 
 -- how many sequences and choices stand one inside another
 abbrev mutual
@@ -100,7 +100,7 @@ abbrev pub is_formed_model : PlainModel → Bool
 is_formed_model empty = true
 is_formed_model any = true
 is_formed_model (mixed ys) = are_distinct_numbers ys
-is_formed_model (children p) = is_formed p && nat_le (nesting p) MAX_NESTING
+is_formed_model (children p) = is_formed_part p && nat_le (nesting p) MAX_NESTING
 
 -- the most declared types
 abbrev pub MAX_TYPES : ℕ

@@ -7,7 +7,7 @@ use Rattle.pv_chars.specs.Scan.{◌>>=◌, after_space, after_blank, after_bytes
 use Rattle.pv_chars.specs.CharReading.{name_at, comment_at, instruction_at, text_declaration_at}
 use Rattle.pv_chars.specs.CharReading.{is_chars}
 use Rattle.pv_dtd.specs.Facts.{MAX_NESTING}
-use Rattle.pv_dtd.specs.Items.{NamedModel, empty, any, mixed, children, Item, text_declaration}
+use Rattle.pv_dtd.specs.Items.{NamedModel, empty, any, mixed, children, DtdItem, text_declaration}
 use Rattle.pv_dtd.specs.Items.{element, skipped, comment, instruction}
 use Rattle.pv_chars.specs.Declarations.{is_quote}
 use Rattle.pv_chars.specs.Declarations.{is_one_of}
@@ -75,7 +75,7 @@ unfoldable pub model_at : Reader NamedModel
 model_at bytes =
     model_by bytes (after_bytes (codes "EMPTY") bytes) (after_bytes (codes "ANY") bytes)
 
-unfoldable pub element_at : Reader Item
+unfoldable pub element_at : Reader DtdItem
 element_at bytes = do
   blank ← after_bytes (codes "<!ELEMENT") bytes
   start ← after_blank blank
@@ -126,7 +126,7 @@ skipped_at bytes = do
   behind_chars inside rest
 
 -- an item and what stands behind it
-unfoldable pub read_as : Item → Option (List ℕ) → Option (Item × List ℕ)
+unfoldable pub read_as : DtdItem → Option (List ℕ) → Option (DtdItem × List ℕ)
 read_as i (Some rest) = Some (i, rest)
 read_as i None = None
 
@@ -135,7 +135,7 @@ unfoldable pub front_at : Bool → List ℕ → Option (List ℕ)
 front_at front bytes = if front then text_declaration_at bytes else None
 
 -- the item in front, and what stands behind it
-unfoldable pub item_at : Bool → List ℕ → Option (Item × List ℕ)
+unfoldable pub item_at : Bool → List ℕ → Option (DtdItem × List ℕ)
 item_at front bytes =
     or_else (read_as text_declaration (front_at front bytes))
     (or_else (read_as skipped (skipped_at bytes))
@@ -181,7 +181,7 @@ early_kind place =
     else None
 
 -- the first rule that an item breaks where these names are declared, with so many parts
-unfoldable pub broken_rule : List (List ℕ) → ℕ → Item → Option Kind
+unfoldable pub broken_rule : List (List ℕ) → ℕ → DtdItem → Option Kind
 broken_rule declared parts i =
     if declares_again declared i then Some twice
     else if lists_twice i then Some mixed_twice

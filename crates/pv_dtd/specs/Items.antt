@@ -22,12 +22,12 @@ pub data NamedModel : Type 0 where
   mixed : List (List ℕ) → NamedModel
   children : NamedPart → NamedModel
 
-pub data Item : Type 0 where
-  text_declaration : Item
-  element : (name : List ℕ) → (model : NamedModel) → Item
-  skipped : Item
-  comment : Item
-  instruction : Item
+pub data DtdItem : Type 0 where
+  text_declaration : DtdItem
+  element : (name : List ℕ) → (model : NamedModel) → DtdItem
+  skipped : DtdItem
+  comment : DtdItem
+  instruction : DtdItem
 
 abbrev pub named_parts_of : List NamedPart → NamedParts
 named_parts_of [] = no_parts
@@ -61,7 +61,7 @@ listed_in_model (mixed names) = names
 listed_in_model (children p) = []
 
 -- the name that an item declares
-abbrev pub declared_by : Item → List (List ℕ)
+abbrev pub declared_by : DtdItem → List (List ℕ)
 declared_by text_declaration = []
 declared_by (element n model) = n ∷ []
 declared_by skipped = []
@@ -69,7 +69,7 @@ declared_by comment = []
 declared_by instruction = []
 
 -- the model that it declares
-abbrev pub model_in : Item → List NamedModel
+abbrev pub model_in : DtdItem → List NamedModel
 model_in text_declaration = []
 model_in (element n model) = model ∷ []
 model_in skipped = []
@@ -77,7 +77,7 @@ model_in comment = []
 model_in instruction = []
 
 -- the names that an item mentions
-abbrev pub mentioned_by : Item → List (List ℕ)
+abbrev pub mentioned_by : DtdItem → List (List ℕ)
 mentioned_by text_declaration = []
 mentioned_by (element n model) = spelled_in_model model
 mentioned_by skipped = []
@@ -85,7 +85,7 @@ mentioned_by comment = []
 mentioned_by instruction = []
 
 -- the names that it lists in a mixed model
-abbrev pub listed_by : Item → List (List ℕ)
+abbrev pub listed_by : DtdItem → List (List ℕ)
 listed_by text_declaration = []
 listed_by (element n model) = listed_in_model model
 listed_by skipped = []
@@ -93,11 +93,11 @@ listed_by comment = []
 listed_by instruction = []
 
 -- the names that items declare, in order
-abbrev pub declared_in : List Item → List (List ℕ)
+abbrev pub declared_in : List DtdItem → List (List ℕ)
 declared_in items = flat_map declared_by items
 
 -- the models that items declare, in order
-abbrev pub models_in : List Item → List NamedModel
+abbrev pub models_in : List DtdItem → List NamedModel
 models_in items = flat_map model_in items
 
 -- the names that models mention, in order
@@ -131,7 +131,7 @@ parts_of_models [] = 0
 parts_of_models (m ∷ ms) = parts_of_model m + parts_of_models ms
 
 -- the parts of the model that an item declares
-abbrev pub parts_by : Item → ℕ
+abbrev pub parts_by : DtdItem → ℕ
 parts_by text_declaration = 0
 parts_by (element n model) = parts_of_model model
 parts_by skipped = 0

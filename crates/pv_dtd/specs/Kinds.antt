@@ -3,8 +3,9 @@ use Rattle.std.specs.Prelude.{◌≡◌, ◌<◌, ◌+◌, ℕ, ◌⊎◌, ◌||
 use Rattle.std.specs.Prelude.{length, codes, suc, ◌==◌, if◌then◌else◌, IsTrue}
 use Rattle.std.specs.List.{list_any}
 use Rattle.std.specs.Str.{bytes_eq}
-use Rattle.pv_dtd.specs.Facts.{are_distinct, MAX_TYPES, MAX_PARTS, MAX_NESTING, is_short}
-use Rattle.pv_dtd.specs.Items.{Item, declared_by, declared_in, models_in, listed_by, mentioned_by}
+use Rattle.pv_dtd.specs.Facts.{are_distinct, MAX_TYPES, MAX_PARTS, MAX_NESTING, is_short_name}
+use Rattle.pv_dtd.specs.Items.{DtdItem, declared_by, declared_in, models_in, listed_by}
+use Rattle.pv_dtd.specs.Items.{mentioned_by}
 use Rattle.pv_dtd.specs.Items.{parts_by, parts_of_models}
 use Rattle.pv_dtd.specs.Spelling.{StandsAt, IsQuotedText, IsSkippedWord, ends_or_refers}
 use Rattle.pv_chars.specs.Declarations.{is_one_of}
@@ -40,35 +41,35 @@ pub record IsTooDeep (place : List ℕ) : Type 0 where
   pub deep : MAX_NESTING + how_many 41 before < how_many 40 before
 
 -- the item that stands at the place breaks this rule
-abbrev pub Breaks : Bool → List ℕ → (Item → Bool) → Type 0
+abbrev pub Breaks : Bool → List ℕ → (DtdItem → Bool) → Type 0
 Breaks front place rule =
-    (i : Item) × (rest : List ℕ) × StandsAt front place i rest × IsTrue (rule i)
+    (i : DtdItem) × (rest : List ℕ) × StandsAt front place i rest × IsTrue (rule i)
 
 -- the item declares one of the names that were declared (XML 1.0, 3.2, Unique Element Type
 -- Declaration)
-abbrev pub declares_again : List (List ℕ) → Item → Bool
+abbrev pub declares_again : List (List ℕ) → DtdItem → Bool
 declares_again declared i = list_any (λ n. list_any (bytes_eq n) declared) (declared_by i)
 
 -- the item lists a name twice in a mixed model (XML 1.0, 3.2.2, No Duplicate Types)
-abbrev pub lists_twice : Item → Bool
+abbrev pub lists_twice : DtdItem → Bool
 lists_twice i = not (are_distinct (listed_by i))
 
 abbrev pub is_too_long : List ℕ → Bool
-is_too_long name = not (is_short name)
+is_too_long name = not (is_short_name name)
 
 -- One of the item's names is too long, or with it there are too many declared names or too many
 -- parts; so many were there before.
-abbrev pub passes_limit : List (List ℕ) → ℕ → Item → Bool
+abbrev pub passes_limit : List (List ℕ) → ℕ → DtdItem → Bool
 passes_limit declared parts i =
     list_any is_too_long (declared_by i ++ mentioned_by i) ||
     not (nat_le (length (declared ++ declared_by i)) MAX_TYPES)
     || not (nat_le (parts + parts_by i) MAX_PARTS)
 
 -- a fault of this kind stands at the place, behind these items
-abbrev pub HasFault : List Item → Bool → List ℕ → Kind → Type 0
+abbrev pub HasFault : List DtdItem → Bool → List ℕ → Kind → Type 0
 HasFault before front place parameter = HasParameter place
 HasFault before front place nesting = IsTooDeep place
-HasFault before front place syntax = (i : Item) (rest : List ℕ) → StandsAt front place i rest → ⊥
+HasFault before front place syntax = (i : DtdItem) (rest : List ℕ) → StandsAt front place i rest → ⊥
 HasFault before front place twice = Breaks front place (declares_again (declared_in before))
 HasFault before front place mixed_twice = Breaks front place lists_twice
 HasFault before front place limit =
@@ -84,7 +85,7 @@ rank mixed_twice = 4
 rank limit = 5
 
 -- the first kind of fault that stands at the place
-pub record IsFirstFault (before : List Item) (front : Bool) (place : List ℕ)
+pub record IsFirstFault (before : List DtdItem) (front : Bool) (place : List ℕ)
     (kind : Kind) : Type 0 where
   pub holds : HasFault before front place kind
   pub first : (earlier : Kind) → rank earlier < rank kind → HasFault before front place earlier → ⊥

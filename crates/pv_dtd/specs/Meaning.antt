@@ -5,7 +5,7 @@ use Rattle.pv_chars.specs.Spaces.{is_space, IsOptionalSpace}
 use Rattle.pv_chars.specs.ByteOrderMark.{IsBehindByteOrderMark}
 use Rattle.pv_dtd.specs.Plain.{PlainDtd}
 use Rattle.pv_dtd.specs.Facts.{MAX_DTD_BYTES}
-use Rattle.pv_dtd.specs.Items.{Item}
+use Rattle.pv_dtd.specs.Items.{DtdItem}
 use Rattle.pv_dtd.specs.Numbering.{dtd_of_items}
 use Rattle.pv_dtd.specs.Spelling.{StandsAt}
 use Rattle.pv_dtd.specs.Kinds.{Kind, limit, HasFault, IsFirstFault}
@@ -23,7 +23,7 @@ pub record HasPlace (rest place : List ℕ) : Type 0 where
   pub is_place : IsTrue (is_place place)
 
 -- the place of this rest is the front of the text: no item and no white space stands before it
-abbrev pub is_front : List Item → List ℕ → Bool
+abbrev pub is_front : List DtdItem → List ℕ → Bool
 is_front [] rest = is_place rest
 is_front (i ∷ before) rest = false
 
@@ -33,14 +33,14 @@ pub data Outcome : Type 0 where
   faulty : Kind → ℕ → Outcome
 
 -- behind these items, the rest means this
-pub data DtdRestMeans : List Item → List ℕ → Outcome → Type 0 where
-  ends : {before : List Item} {rest : List ℕ} → IsOptionalSpace rest →
+pub data DtdRestMeans : List DtdItem → List ℕ → Outcome → Type 0 where
+  ends : {before : List DtdItem} {rest : List ℕ} → IsOptionalSpace rest →
       DtdRestMeans before rest (is_dtd (dtd_of_items before))
-  item : {before : List Item} {rest place more : List ℕ} {i : Item} {o : Outcome} →
+  item : {before : List DtdItem} {rest place more : List ℕ} {i : DtdItem} {o : Outcome} →
       HasPlace rest place → StandsAt (is_front before rest) place i more →
       ((kind : Kind) → HasFault before (is_front before rest) place kind → ⊥) →
       DtdRestMeans (before ++ i ∷ []) more o → DtdRestMeans before rest o
-  fault : {before : List Item} {rest place : List ℕ} {kind : Kind} →
+  fault : {before : List DtdItem} {rest place : List ℕ} {kind : Kind} →
       HasPlace rest place → IsFirstFault before (is_front before rest) place kind →
       DtdRestMeans before rest (faulty kind (length before))
 

@@ -1,7 +1,7 @@
 -- What the items that are read are seen as.
 use Rattle.std.specs.Prelude.{List, map}
 use Rattle.pv_dtd.specs.Items.{NamedPart, name, seq, choice, opt, star, plus, NamedParts}
-use Rattle.pv_dtd.specs.Items.{named_parts_of, NamedModel, empty, any, mixed, children, Item}
+use Rattle.pv_dtd.specs.Items.{named_parts_of, NamedModel, empty, any, mixed, children, DtdItem}
 use Rattle.pv_dtd.specs.Items.{text_declaration, element, skipped, comment, instruction}
 use Rattle.pv_dtd.specs.declared.items.SpelledPart.{SpelledPart, fold-SpelledPart}
 use Rattle.pv_dtd.specs.declared.items.SpelledPart.TheOpen.{SpelledPart-F}
@@ -31,7 +31,7 @@ named_model model.Any = any
 named_model (model.Mixed names) = mixed (map (λ n. n.now) names.items)
 named_model (model.Children p) = children (named_part p.value)
 
-abbrev pub named_item : SpelledItem → Item
+abbrev pub named_item : SpelledItem → DtdItem
 named_item item.TextDeclaration = text_declaration
 named_item (item.Element n m) = element n.now (named_model m)
 named_item item.Skipped = skipped

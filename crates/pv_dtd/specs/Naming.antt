@@ -8,8 +8,8 @@ use Rattle.pv_dtd.specs.Numbering.{number_among, with_numbers, all_with_numbers}
 use Rattle.pv_dtd.specs.Numbering.{model_with_numbers}
 
 -- the names, and behind them this one where it is new
-abbrev pub with_name : List (List ℕ) → List ℕ → List (List ℕ)
-with_name names x = if is_some (place_of names x) then names else names ++ x ∷ []
+abbrev pub names_with : List (List ℕ) → List ℕ → List (List ℕ)
+names_with names x = if is_some (place_of names x) then names else names ++ x ∷ []
 
 -- the number that this name has then
 abbrev pub number_in : List (List ℕ) → List ℕ → ℕ
@@ -23,7 +23,7 @@ pub record AreFirstIn (names more : List (List ℕ)) : Type 0 where
 -- the names, and behind them the new ones of these
 abbrev pub with_names : List (List ℕ) → List (List ℕ) → List (List ℕ)
 with_names names [] = names
-with_names names (x ∷ xs) = with_names (with_name names x) xs
+with_names names (x ∷ xs) = with_names (names_with names x) xs
 
 -- These are the numbers of names, however the names go on; and so for particles and models.
 abbrev pub NumbersNames : List (List ℕ) → List (List ℕ) → List ℕ → Type 0

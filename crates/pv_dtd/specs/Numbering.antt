@@ -6,7 +6,7 @@ use Rattle.pv_model.specs.Plain as plain
 use Rattle.pv_model.specs.Plain.{PlainPart, PlainParts, PlainModel}
 use Rattle.pv_dtd.specs.Plain.{PlainDtd, place_of}
 use Rattle.pv_dtd.specs.Items.{NamedPart, name, seq, choice, opt, star, plus, NamedParts, no_parts}
-use Rattle.pv_dtd.specs.Items.{part, NamedModel, empty, any, mixed, children, Item, declared_in}
+use Rattle.pv_dtd.specs.Items.{part, NamedModel, empty, any, mixed, children, DtdItem, declared_in}
 use Rattle.pv_dtd.specs.Items.{models_in, mentioned_in}
 
 -- a content particle with numbers for names
@@ -41,11 +41,11 @@ each_once seen (n ∷ ns) =
 
 -- the names that items declare, in order of declaration, and then those that they only mention, in
 -- order of first mention
-abbrev pub names_of : List Item → List (List ℕ)
+abbrev pub names_of : List DtdItem → List (List ℕ)
 names_of items = each_once [] (declared_in items ++ mentioned_in (models_in items))
 
 -- the DTD that items are
-abbrev pub dtd_of_items : List Item → PlainDtd
+abbrev pub dtd_of_items : List DtdItem → PlainDtd
 dtd_of_items items = record {
   names = names_of items;
   models = map (model_with_numbers (number_among (names_of items))) (models_in items);

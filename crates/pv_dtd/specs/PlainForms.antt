@@ -1,7 +1,7 @@
 -- The plain form of a DTD, and what its answers say of a text.
 use Rattle.std.specs.Prelude.{◌≡◌, ◌⊎◌, ℕ, List, Result, Ok, Err}
 use Rattle.pv_dtd.specs.Plain.{PlainDtd}
-use Rattle.pv_dtd.specs.Facts.{dtd_of}
+use Rattle.pv_dtd.specs.Facts.{as_dtd}
 use Rattle.pv_dtd.specs.Kinds.{Kind, parameter, nesting, syntax, twice, mixed_twice, limit}
 use Rattle.pv_dtd.specs.Meaning.{Outcome, is_dtd, faulty, DtdTextMeans}
 use Rattle.pv_dtd.specs.declared.dtd.Dtd.{Dtd}
@@ -11,7 +11,7 @@ use Rattle.pv_dtd.specs.declared.errors.DtdError.TheVariants.{Limit, NoMemory}
 
 -- the plain form of a DTD
 abbrev pub plain_dtd : Dtd → PlainDtd
-plain_dtd d = dtd_of d.names.keys d.models.items
+plain_dtd d = as_dtd d.names.keys d.models.items
 
 -- the refusal of a text whose first fault is of this kind, behind so many items
 abbrev pub refusal : Kind → ℕ → DtdError

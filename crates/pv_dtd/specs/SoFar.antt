@@ -4,7 +4,7 @@ use Rattle.std.specs.Prelude.{Err}
 use Rattle.std.specs.List.{list_any}
 use Rattle.pv_dtd.specs.Plain.{PlainDtd}
 use Rattle.pv_dtd.specs.Facts.{are_distinct, MAX_TYPES, MAX_PARTS, MAX_NESTING}
-use Rattle.pv_dtd.specs.Items.{NamedModel, empty, any, mixed, children, Item, text_declaration}
+use Rattle.pv_dtd.specs.Items.{NamedModel, empty, any, mixed, children, DtdItem, text_declaration}
 use Rattle.pv_dtd.specs.Items.{element, skipped, comment, instruction, declared_by, declared_in}
 use Rattle.pv_dtd.specs.Items.{models_in, mentioned_by, listed_by, parts_of_models}
 use Rattle.pv_dtd.specs.Spelling.{Spells, nesting_of}
@@ -22,7 +22,7 @@ IsShallow any = Unit {0}
 IsShallow (mixed names) = Unit {0}
 IsShallow (children p) = nesting_of p ≤ MAX_NESTING
 
-abbrev pub IsShallowItem : Item → Type 0
+abbrev pub IsShallowItem : DtdItem → Type 0
 IsShallowItem text_declaration = Unit {0}
 IsShallowItem (element n model) = IsShallow model
 IsShallowItem skipped = Unit {0}
@@ -30,7 +30,7 @@ IsShallowItem comment = Unit {0}
 IsShallowItem instruction = Unit {0}
 
 -- an item that is spelled somewhere, and keeps its own rules
-pub record IsSound (i : Item) : Type 0 where
+pub record IsSoundItem (i : DtdItem) : Type 0 where
   pub text : List ℕ
   pub spelled : Spells i text
   pub shallow : IsShallowItem i
@@ -38,20 +38,20 @@ pub record IsSound (i : Item) : Type 0 where
   pub short : list_any is_too_long (declared_by i) ≡ false
   pub mentions_short : list_any is_too_long (mentioned_by i) ≡ false
 
-abbrev pub AreSound : List Item → Type 0
-AreSound [] = Unit {0}
-AreSound (i ∷ items) = IsSound i × AreSound items
+abbrev pub AreSoundItems : List DtdItem → Type 0
+AreSoundItems [] = Unit {0}
+AreSoundItems (i ∷ items) = IsSoundItem i × AreSoundItems items
 
 -- items that keep the rules and limits together
-pub record AreRuled (items : List Item) : Type 0 where
-  pub sound : AreSound items
+pub record AreRuled (items : List DtdItem) : Type 0 where
+  pub sound : AreSoundItems items
   pub once : are_distinct (declared_in items) ≡ true
   pub few_types : length (declared_in items) ≤ MAX_TYPES
   pub few_parts : parts_of_models (models_in items) ≤ MAX_PARTS
 
 -- These are the names, the models and the number of parts that items declare.
 pub record Declares (names : List (List ℕ)) (models : List NamedModel) (parts : ℕ)
-    (items : List Item) : Type 0 where
+    (items : List DtdItem) : Type 0 where
   pub ruled : AreRuled items
   pub names_are : names ≡ declared_in items
   pub models_are : models ≡ models_in items
@@ -59,7 +59,7 @@ pub record Declares (names : List (List ℕ)) (models : List NamedModel) (parts 
 
 -- a DTD of ruled items
 abbrev pub IsOfItems : PlainDtd → Type 0
-IsOfItems g = (items : List Item) × AreRuled items × (g ≡ dtd_of_items items)
+IsOfItems g = (items : List DtdItem) × AreRuled items × (g ≡ dtd_of_items items)
 
 -- what a refusal other than want of memory says of the rest
 abbrev pub TellsFault : List ℕ → DtdError → Type 0
@@ -73,7 +73,7 @@ TellsFault rest NoMemory = Unit {0}
 
 -- What a reader answers is what the rest means, unless memory ran out: where it is a DTD, what was
 -- read holds its items.
-abbrev pub Tells : {X : Type 0} → (X → List Item → Type 0) → List ℕ → Result X DtdError → Type 0
+abbrev pub Tells : {X : Type 0} → (X → List DtdItem → Type 0) → List ℕ → Result X DtdError → Type 0
 Tells Holds rest (Ok x) =
-    (items : List Item) × DtdRestMeans [] rest (is_dtd (dtd_of_items items)) × Holds x items
+    (items : List DtdItem) × DtdRestMeans [] rest (is_dtd (dtd_of_items items)) × Holds x items
 Tells Holds rest (Err e) = TellsFault rest e

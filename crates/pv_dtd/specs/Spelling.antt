@@ -9,17 +9,17 @@ use Rattle.pv_chars.specs.Names.{IsName}
 use Rattle.pv_chars.specs.Markup.{IsComment, IsInstruction}
 use Rattle.pv_chars.specs.Declarations.{is_quote, is_one_of, IsTextDecl}
 use Rattle.pv_dtd.specs.Items.{NamedPart, name, seq, choice, opt, star, plus, NamedParts, no_parts}
-use Rattle.pv_dtd.specs.Items.{part, NamedModel, empty, any, mixed, children, Item}
+use Rattle.pv_dtd.specs.Items.{part, NamedModel, empty, any, mixed, children, DtdItem}
 use Rattle.pv_dtd.specs.Items.{text_declaration, element, skipped, comment, instruction}
 
 -- a particle that may carry `?`, `*` or `+`: a name, a choice or a sequence
-abbrev pub IsBare : NamedPart → Type 0
-IsBare (name n) = Unit {0}
-IsBare (seq ps) = Unit {0}
-IsBare (choice ps) = Unit {0}
-IsBare (opt p) = ⊥
-IsBare (star p) = ⊥
-IsBare (plus p) = ⊥
+abbrev pub IsUnrepeated : NamedPart → Type 0
+IsUnrepeated (name n) = Unit {0}
+IsUnrepeated (seq ps) = Unit {0}
+IsUnrepeated (choice ps) = Unit {0}
+IsUnrepeated (opt p) = ⊥
+IsUnrepeated (star p) = ⊥
+IsUnrepeated (plus p) = ⊥
 
 abbrev pub member_count : NamedParts → ℕ
 member_count no_parts = 0
@@ -46,11 +46,11 @@ abbrev mutual
   SpellsPart (seq ps) text = SpellsGroup (codes ",") ps text
   SpellsPart (choice ps) text = (2 ≤ member_count ps) × SpellsGroup (codes "|") ps text
   SpellsPart (opt p) text =
-      (inner : List ℕ) × IsBare p × SpellsPart p inner × (text ≡ inner ++ codes "?")
+      (inner : List ℕ) × IsUnrepeated p × SpellsPart p inner × (text ≡ inner ++ codes "?")
   SpellsPart (star p) text =
-      (inner : List ℕ) × IsBare p × SpellsPart p inner × (text ≡ inner ++ codes "*")
+      (inner : List ℕ) × IsUnrepeated p × SpellsPart p inner × (text ≡ inner ++ codes "*")
   SpellsPart (plus p) text =
-      (inner : List ℕ) × IsBare p × SpellsPart p inner × (text ≡ inner ++ codes "+")
+      (inner : List ℕ) × IsUnrepeated p × SpellsPart p inner × (text ≡ inner ++ codes "+")
 
   -- '(' S? cp (S? separator S? cp)* S? ')' (XML 1.0, 3.2.1)
   pub SpellsGroup : List ℕ → NamedParts → List ℕ → Type 0
@@ -155,7 +155,7 @@ pub record SpellsSkipped (text : List ℕ) : Type 0 where
   pub whole : text ≡ word ++ before ++ inside ++ codes ">"
 
 -- how an item is written (XML 1.0, 2.5, 2.6, 3.2, 4.3.1)
-abbrev pub Spells : Item → List ℕ → Type 0
+abbrev pub Spells : DtdItem → List ℕ → Type 0
 Spells text_declaration text = IsTextDecl text
 Spells (element n model) text = SpellsElement n model text
 Spells skipped text = SpellsSkipped text
@@ -163,7 +163,7 @@ Spells comment text = IsComment text
 Spells instruction text = IsInstruction text
 
 -- a text declaration stands at the front of a text alone
-abbrev pub MayStand : Bool → Item → Type 0
+abbrev pub MayStand : Bool → DtdItem → Type 0
 MayStand front text_declaration = IsTrue front
 MayStand front (element n model) = Unit {0}
 MayStand front skipped = Unit {0}
@@ -171,7 +171,7 @@ MayStand front comment = Unit {0}
 MayStand front instruction = Unit {0}
 
 -- an item stands at a place, which is the front of the text or not, and this behind it
-pub record StandsAt (front : Bool) (place : List ℕ) (i : Item) (rest : List ℕ) : Type 0 where
+pub record StandsAt (front : Bool) (place : List ℕ) (i : DtdItem) (rest : List ℕ) : Type 0 where
   pub text : List ℕ
   pub spelled : Spells i text
   pub may_stand : MayStand front i

@@ -3,7 +3,7 @@
 ghost use Rattle.std.specs.Prelude.{◌≡◌, ◌≤◌, ◌+◌, IsTrue, length};
 ghost use Rattle.std.specs.List.{list_all};
 ghost use Rattle.pv_dtd.specs.Plain.{parts_in_models};
-ghost use Rattle.pv_dtd.specs.Facts.{dtd_of, are_names, AreLegal, are_known, are_mentioned};
+ghost use Rattle.pv_dtd.specs.Facts.{as_dtd, are_names, AreLegalNames, are_known, are_mentioned};
 ghost use Rattle.pv_dtd.specs.Facts.{is_formed_model, MAX_TYPES, MAX_PARTS};
 
 use crate::names::NameTable;
@@ -18,12 +18,12 @@ pub struct Dtd {
     models: Vec<ContentModel>,
     parts: u32,
     pub ghost named: { length models.items ≤ length names.keys },
-    pub ghost legal: { ∥ AreLegal (dtd_of names.keys models.items).names ∥₁ },
-    pub ghost distinct: { IsTrue (are_names (dtd_of names.keys models.items).names) },
-    pub ghost known: { IsTrue (are_known (dtd_of names.keys models.items)) },
-    pub ghost mentioned: { IsTrue (are_mentioned (dtd_of names.keys models.items)) },
-    pub ghost formed: { IsTrue (list_all is_formed_model (dtd_of names.keys models.items).models) },
-    pub ghost counted: { parts ≡ parts_in_models (dtd_of names.keys models.items).models },
+    pub ghost legal: { ∥ AreLegalNames (as_dtd names.keys models.items).names ∥₁ },
+    pub ghost distinct: { IsTrue (are_names (as_dtd names.keys models.items).names) },
+    pub ghost known: { IsTrue (are_known (as_dtd names.keys models.items)) },
+    pub ghost mentioned: { IsTrue (are_mentioned (as_dtd names.keys models.items)) },
+    pub ghost formed: { IsTrue (list_all is_formed_model (as_dtd names.keys models.items).models) },
+    pub ghost counted: { parts ≡ parts_in_models (as_dtd names.keys models.items).models },
     pub ghost few_types: { length models.items ≤ MAX_TYPES },
     pub ghost few_parts: { parts ≤ MAX_PARTS },
     pub ghost few_names: { length names.keys ≤ MAX_TYPES + MAX_PARTS },

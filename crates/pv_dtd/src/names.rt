@@ -2,7 +2,7 @@
 
 ghost use Rattle.std.specs.Prelude.{◌≡◌, [], ◌<◌, length, map, is_some, IfOk, OnOk};
 ghost use Rattle.pv_dtd.specs.Plain.{place_of};
-ghost use Rattle.pv_dtd.specs.Naming.{with_name, number_in};
+ghost use Rattle.pv_dtd.specs.Naming.{names_with, number_in};
 
 use indexmap::IndexSet;
 use pv_chars::NoMemory;
@@ -60,7 +60,7 @@ impl NameTable {
     /// names than numbers.
     pub fn number(&mut self, alloc: Global, name: &[u8]) -> Result<NameId, NoMemory>
         ensures number { IfOk result (λ id. id.0 ≡ number_in self.old name.now) }
-        ensures names { OnOk result (self.new ≡ with_name self.old name.now) }
+        ensures names { OnOk result (self.new ≡ names_with self.old name.now) }
     {
         if let Some(place) = self.set.get_index_of(name) {
             return Ok(NameId(place as u32));

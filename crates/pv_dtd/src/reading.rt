@@ -8,7 +8,7 @@ ghost use Rattle.pv_dtd.specs.Meaning.{Outcome, is_dtd, DtdTextMeans, is_place};
 ghost use Rattle.pv_dtd.specs.NamedForms.{named_model, named_item};
 ghost use Rattle.pv_dtd.specs.Naming.{with_names};
 ghost use Rattle.pv_dtd.specs.PlainForms.{plain_dtd, Refuses, Answers, refusal};
-ghost use Rattle.pv_dtd.specs.RuleKinds.{kind_of};
+ghost use Rattle.pv_dtd.specs.RuleKinds.{kind_of_rule};
 ghost use Rattle.pv_dtd.specs.SoFar.{Tells, Declares};
 ghost use Rattle.pv_dtd.specs.Numbering.{dtd_of_items};
 
@@ -40,7 +40,7 @@ fn is_front(count: u64, rest: &[u8]) -> bool
 
 // The refusal of an item that breaks a rule, behind so many items.
 fn refusal(rule: Rule, count: u64) -> DtdError
-    ensures { result ≡ refusal (kind_of rule) count }
+    ensures { result ≡ refusal (kind_of_rule rule) count }
 {
     match rule {
         Rule::Twice => DtdError::Twice(count),

@@ -8,7 +8,7 @@ ghost use Rattle.pv_dtd.specs.Items.{element, listed_in_model, spelled_in, spell
 ghost use Rattle.pv_dtd.specs.Items.{spelled_in_model};
 ghost use Rattle.pv_dtd.specs.Kinds.{is_too_long, passes_limit};
 ghost use Rattle.pv_dtd.specs.ItemReading.{broken_rule};
-ghost use Rattle.pv_dtd.specs.RuleKinds.{kind_of};
+ghost use Rattle.pv_dtd.specs.RuleKinds.{kind_of_rule};
 ghost use Rattle.pv_dtd.specs.NamedForms.{named_part, named_parts, named_model, named_item};
 
 use crate::items::{SpelledItem, SpelledModel, SpelledPart};
@@ -137,7 +137,7 @@ fn broken_by_element(
     requires types { length declared.now ≤ MAX_TYPES }
     requires parts { parts ≤ MAX_PARTS }
     ensures { IfOk result
-        (λ rule. option_map kind_of rule ≡
+        (λ rule. option_map kind_of_rule rule ≡
         broken_rule declared.now parts (element name.now (named_model model.now))) }
 {
     if declared.contains(name) {
@@ -162,7 +162,8 @@ pub fn broken_rule(
     requires types { length declared.now ≤ MAX_TYPES }
     requires parts { parts ≤ MAX_PARTS }
     ensures { IfOk result
-        (λ rule. option_map kind_of rule ≡ broken_rule declared.now parts (named_item item.now)) }
+        (λ rule. option_map kind_of_rule rule ≡
+        broken_rule declared.now parts (named_item item.now)) }
 {
     match item {
         SpelledItem::Element(name, model) => broken_by_element(alloc, declared, parts, name, model),

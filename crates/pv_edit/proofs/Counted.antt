@@ -5,8 +5,8 @@ use Rattle.std.proofs.lemmas.List.{append-nil}
 use Rattle.pv_tree.specs.Plain.{Ending, Tree, element, Forest, forest_of, trees_of, is_element, nodes_in, nodes_in_all, PlainDoc}
 use Rattle.pv_edit.specs.Changes.{all_kids, with_name, root_after}
 use Rattle.pv_edit.specs.Counts.{nodes_made, nodes_taken}
-use Rattle.pv_edit.specs.Effects.{change_of, parent_of, place_of, next_of}
-use Rattle.pv_edit.specs.Reasons.{applied, gives, kids_at, reason_of}
+use Rattle.pv_edit.specs.Effects.{change_of, parent_of, kid_place, next_of}
+use Rattle.pv_edit.specs.Reasons.{edit_outcome, gives, kids_at, reason_of}
 use Rattle.pv_edit.specs.declared.edits.Edit.{Edit}
 use Rattle.pv_edit.specs.declared.edits.Edit.TheVariants.{Wrap, Insert, Unwrap, Rename, Split, Join, SetText, AddText, DelText}
 use Rattle.pv_edit.proofs.Cutting.{between-kid, between-kids, between-none}
@@ -43,31 +43,31 @@ edit-count blank root (Unwrap path) r h =
     let ts = kids_at (parent_of path) root in
     let e = element-at path root (unwrap-passes blank root path h).elem in
     let n = nodes-after (parent_of path) (change_of blank root (Unwrap path)) root ts (unwrap-made blank blank root path h) in
-    let k = inner-count (between (place_of path) (place_of path + 1) ts) e.name e.attrs e.ending e.kids e.mark (between-kid ts (place_of path) _ e.kid) in
+    let k = inner-count (between (kid_place path) (kid_place path + 1) ts) e.name e.attrs e.ending e.kids e.mark (between-kid ts (kid_place path) _ e.kid) in
     omega (arith, n, k)
 edit-count blank root (Rename path name) r h =
     let ts = kids_at (parent_of path) root in
     let e = element-at path root (rename-passes blank root path name h).elem in
     let n = nodes-after (parent_of path) (change_of blank root (Rename path name)) root ts (rename-made blank blank root path name h) in
-    let k = named-count name (between (place_of path) (place_of path + 1) ts) e.name e.attrs e.ending e.kids e.mark (between-kid ts (place_of path) _ e.kid) in
+    let k = named-count name (between (kid_place path) (kid_place path + 1) ts) e.name e.attrs e.ending e.kids e.mark (between-kid ts (kid_place path) _ e.kid) in
     omega (arith, n, k)
 edit-count blank root (Split path at) r h =
     let ts = kids_at (parent_of path) root in
     let e = text-at path root (split-passes blank root path at h).text in
     let n = nodes-after (parent_of path) (change_of blank root (Split path at)) root ts (split-made blank blank root path at r h) in
-    omega (arith, n, list-count _ _ (between-kid ts (place_of path) _ e.kid))
+    omega (arith, n, list-count _ _ (between-kid ts (kid_place path) _ e.kid))
 edit-count blank root (Join path) r h =
     let ts = kids_at (parent_of path) root in
     let p = join-passes blank root path h in
     let e = text-at path root p.text in
     let g = text-at (next_of path) root p.next in
     let n = nodes-after (parent_of path) (change_of blank root (Join path)) root ts (join-made blank blank root path r h) in
-    omega (arith, n, list-count _ _ (between-kids ts (place_of path) _ _ e.kid (next-kid path root g)))
+    omega (arith, n, list-count _ _ (between-kids ts (kid_place path) _ _ e.kid (next-kid path root g)))
 edit-count blank root (SetText path text) r h =
     let ts = kids_at (parent_of path) root in
     let e = text-at path root (set-passes blank root path text h).text in
     let n = nodes-after (parent_of path) (change_of blank root (SetText path text)) root ts (set-made blank blank root path text r h) in
-    omega (arith, n, list-count _ _ (between-kid ts (place_of path) _ e.kid))
+    omega (arith, n, list-count _ _ (between-kid ts (kid_place path) _ e.kid))
 edit-count blank root (AddText path at text) r h =
     let n = nodes-after path (change_of blank root (AddText path at text)) root (kids_at path root) (add-made blank blank root path at text h) in
     omega (arith, n, list-count _ _ (between-none (kids_at path root) at))
@@ -75,9 +75,9 @@ edit-count blank root (DelText path) r h =
     let ts = kids_at (parent_of path) root in
     let e = text-at path root (del-passes blank root path h).text in
     let n = nodes-after (parent_of path) (change_of blank root (DelText path)) root ts (del-made blank blank root path r h) in
-    omega (arith, n, list-count _ _ (between-kid ts (place_of path) _ e.kid))
+    omega (arith, n, list-count _ _ (between-kid ts (kid_place path) _ e.kid))
 
-pub counted : {M : Type 0} (blank : M) (doc made : PlainDoc M) (edit : Edit) → is_element doc.root ≡ true → applied blank doc edit ≡ gives made
+pub counted : {M : Type 0} (blank : M) (doc made : PlainDoc M) (edit : Edit) → is_element doc.root ≡ true → edit_outcome blank doc edit ≡ gives made
     → nodes_in made.root + nodes_taken edit ≡ nodes_in doc.root + nodes_made edit
 counted {M = M} blank doc made edit r h =
     let e = given-doc (reason_of blank doc.root edit) _ made h in

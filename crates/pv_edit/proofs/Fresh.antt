@@ -11,7 +11,7 @@ use Rattle.pv_chars.proofs.MeansLemmas.{AllUnits-append}
 use Rattle.pv_tree.specs.Plain.{Ending, short, tagged, Tree, element, text_node, cdata_node, misc_node, Forest, no_trees, forest_of, trees_of, is_element, nodes_in_all, depth_of_all}
 use Rattle.pv_tree.specs.Places.{kids_of}
 use Rattle.pv_edit.specs.Changes.{Change, in_place_of, all_kids, with_name, list_after}
-use Rattle.pv_edit.specs.Effects.{change_of, parent_of, place_of, next_of, units_at}
+use Rattle.pv_edit.specs.Effects.{change_of, parent_of, kid_place, next_of, units_at}
 use Rattle.pv_edit.specs.Given.{is_line_end, is_character_data, is_unit, is_new_text, new_units}
 use Rattle.pv_edit.specs.Reasons.{is_top, is_one_element, kids_at, lacks_element, spells_close_mark, reason_of}
 use Rattle.pv_edit.specs.declared.edits.Edit.TheVariants.{Wrap, Insert, Unwrap, Rename, Split, Join, SetText, AddText, DelText}
@@ -110,7 +110,7 @@ unwrap-fresh blank root path h =
     let p = unwrap-passes blank root path h in
     let e = element-at path root p.elem in
     let ts = kids_at (parent_of path) root in
-    let i = place_of path in
+    let i = kid_place path in
     let old = between-kid ts i _ e.kid in
     record {
       keeps_end = refl;
@@ -148,7 +148,7 @@ rename-fresh blank root path name h =
     let p = rename-passes blank root path name h in
     let e = element-at path root p.elem in
     let ts = kids_at (parent_of path) root in
-    let i = place_of path in
+    let i = kid_place path in
     let mid = between i (i + 1) ts in
     let old = between-kid ts i _ e.kid in
     let new : map (with_name name) mid ≡ element name e.attrs e.ending e.kids e.mark ∷ [] = ap (map (with_name name)) old in
@@ -196,7 +196,7 @@ split-fresh blank root path at r h =
     let p = split-passes blank root path at h in
     let e = text-at path root p.text in
     let ts = kids_at (parent_of path) root in
-    let i = place_of path in
+    let i = kid_place path in
     let u = units_at path root in
     let mid = between i (i + 1) ts in
     let old : mid ≡ text_node u ∷ [] = between-kid ts i _ e.kid ∙ ap (λ (l : List (List ℕ)). text_node l ∷ []) (sym e.are) in
@@ -221,7 +221,7 @@ join-fresh blank root path r h =
     let e = text-at path root p.text in
     let g = text-at (next_of path) root p.next in
     let ts = kids_at (parent_of path) root in
-    let i = place_of path in
+    let i = kid_place path in
     let u = units_at path root in
     let v = units_at (next_of path) root in
     let mid = between i (i + 2) ts in

@@ -10,7 +10,7 @@ use Rattle.pv_tree.specs.Plain.{Tree, element, no_trees, tree, forest_of, is_ele
 use Rattle.pv_tree.specs.Legal.{fits_kids, is_formed, has_names, IsLegalEnding, IsLegal, has_no_close_mark, MAX_DEPTH}
 use Rattle.pv_tree.specs.Units.{HasUnits}
 use Rattle.pv_edit.specs.Changes.{Change, in_place_of, list_after, ending_after, owner_after, first_tree, root_after}
-use Rattle.pv_edit.specs.Effects.{change_of, parent_of, place_of}
+use Rattle.pv_edit.specs.Effects.{change_of, parent_of, kid_place}
 use Rattle.pv_edit.specs.Fitting.{CanChange}
 use Rattle.pv_edit.specs.Inverses.{IsKept}
 use Rattle.pv_edit.specs.Reasons.{is_top, is_one_element, kids_at, spells_close_mark, reason_of}
@@ -104,13 +104,13 @@ edit-kept m blank root (Unwrap path) k n h =
     let d = unwrap-made m blank root path h in
     let e = element-at path root (unwrap-passes blank root path h).elem in
     let ts = kids_at (parent_of path) root in
-    let deep = depth-after (parent_of path) (change_of blank root (Unwrap path)) root ts d (kids-depth (between (place_of path) (place_of path + 1) ts) e.name e.attrs e.ending e.kids e.mark (between-kid ts (place_of path) _ e.kid)) in
+    let deep = depth-after (parent_of path) (change_of blank root (Unwrap path)) root ts d (kids-depth (between (kid_place path) (kid_place path + 1) ts) e.name e.attrs e.ending e.kids e.mark (between-kid ts (kid_place path) _ e.kid)) in
     kept-after m (parent_of path) _ root _ d (unwrap-fresh blank root path h) k n (omega (arith, deep, k.shallow))
 edit-kept m blank root (Rename path name) k n h =
     let d = rename-made m blank root path name h in
     let e = element-at path root (rename-passes blank root path name h).elem in
     let ts = kids_at (parent_of path) root in
-    let deep = depth-after (parent_of path) (change_of blank root (Rename path name)) root ts d (named-depth name (between (place_of path) (place_of path + 1) ts) e.name e.attrs e.ending e.kids e.mark (between-kid ts (place_of path) _ e.kid)) in
+    let deep = depth-after (parent_of path) (change_of blank root (Rename path name)) root ts d (named-depth name (between (kid_place path) (kid_place path + 1) ts) e.name e.attrs e.ending e.kids e.mark (between-kid ts (kid_place path) _ e.kid)) in
     kept-after m (parent_of path) _ root _ d (rename-fresh blank root path name h) k n (omega (arith, deep, k.shallow))
 edit-kept m blank root (Split path at) k n h =
     let d = split-made m blank root path at k.rooted h in

@@ -9,8 +9,8 @@ use Rattle.pv_tree.specs.Plain.{Tree, element, text_node, cdata_node, misc_node,
 use Rattle.pv_tree.specs.Places.{list_at, node_below}
 use Rattle.pv_edit.specs.ChangedLists.{changed_lists, undoes}
 use Rattle.pv_edit.specs.Changes.{Change, with_name, in_place_of}
-use Rattle.pv_edit.specs.Effects.{parent_of, place_of, next_of, units_at}
-use Rattle.pv_edit.specs.Fitting.{CanChange, Takes}
+use Rattle.pv_edit.specs.Effects.{parent_of, kid_place, next_of, units_at}
+use Rattle.pv_edit.specs.Fitting.{CanChange, TakesChange}
 use Rattle.pv_edit.specs.Inverses.{LeadsBack, change_back, inverse_of, put_back, end_of, doc_back}
 use Rattle.pv_edit.specs.Origins.{IsKeptList, IsNone}
 use Rattle.pv_edit.specs.Reasons.{is_top, reason_of}
@@ -30,7 +30,7 @@ use Rattle.pv_edit.proofs.Unchanged.{change-keeps}
 use Rattle.pv_edit.proofs.Whole.{owner-of, Made}
 
 -- a change that can be made
-inside-made : {M : Type 0} (m : M) (path : List ℕ) (c : Change M) (root : Tree M) (o : Option (Tree M)) → node_below path root ≡ o → IsSomeAnd o (Takes c) → (ts : List (Tree M)) × Made m (zero ∷ path) c root ts
+inside-made : {M : Type 0} (m : M) (path : List ℕ) (c : Change M) (root : Tree M) (o : Option (Tree M)) → node_below path root ≡ o → IsSomeAnd o (TakesChange c) → (ts : List (Tree M)) × Made m (zero ∷ path) c root ts
 inside-made m path c root None n h = absurd h
 inside-made m path c root (Some (element x attrs e kids k)) n h =
     (trees_of kids, record { owner = owner-of m (inside (node_at path root (element x attrs e kids k) n)); order = h.suits.order; within = h.suits.within; fits = h.suits.fits; one = λ t. absurd cc; unshort = λ t. absurd cc })
@@ -75,15 +75,15 @@ undo-keeps blank doc before (Insert list at name) h b path kids l none = back-ke
 undo-keeps {M = M} blank doc before (Unwrap node) h b path kids l none =
     let q = (unwrap-passes tt before node h).elem in
     let e = element-at node before q in
-    let i = PutBack (parent_of node) (place_of node) (place_of node + length (trees_of e.kids)) e.name e.attrs (end_of e.ending) in
-    let same : inverse_of before (Unwrap node) ≡ i = ap (put_back (parent_of node) (place_of node)) e.there in
+    let i = PutBack (parent_of node) (kid_place node) (kid_place node + length (trees_of e.kids)) e.name e.attrs (end_of e.ending) in
+    let same : inverse_of before (Unwrap node) ≡ i = ap (put_back (parent_of node) (kid_place node)) e.there in
     let c : Backs blank doc.root i before = subst (λ (j : Inverse). Backs blank doc.root j before) same b in
     subst (λ (j : Inverse). IsKeptList (change_back blank doc.root j) doc (doc_back blank doc j) path) (sym same)
     (back-keeps blank doc i c.can c.unshort path kids (subst (λ (j : Inverse). list_at path (doc_back blank doc j).root ≡ Some kids) same l) none.0
-    (λ ts d k v br p s t. none.1.0 (first-path path (parent_of node) (place_of node) k p (get-one _ v k s).0 ∙ sym (path-parts node (not-top node before q)))))
+    (λ ts d k v br p s t. none.1.0 (first-path path (parent_of node) (kid_place node) k p (get-one _ v k s).0 ∙ sym (path-parts node (not-top node before q)))))
 undo-keeps blank doc before (Rename node name) h b path kids l none =
     back-keeps blank doc (inverse_of before (Rename node name)) b.can b.unshort path kids l none.0
-    (λ ts d k v br p s t. none.1.0 (first-path path (parent_of node) (place_of node) k p (one-named _ ts (place_of node) k v d.within s) ∙ sym (path-parts node (not-top node before (rename-passes tt before node name h).elem))))
+    (λ ts d k v br p s t. none.1.0 (first-path path (parent_of node) (kid_place node) k p (one-named _ ts (kid_place node) k v d.within s) ∙ sym (path-parts node (not-top node before (rename-passes tt before node name h).elem))))
 undo-keeps blank doc before (Split node at) h b path kids l none =
     back-keeps blank doc (inverse_of before (Split node at)) b.can b.unshort path kids l none.0 (λ ts d k v br p s t. text-alone (units_at node doc.root ++ units_at (next_of node) doc.root) k v s t)
 undo-keeps blank doc before (Join node) h b path kids l none =

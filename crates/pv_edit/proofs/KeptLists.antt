@@ -4,10 +4,10 @@ use Rattle.pv_tree.specs.Plain.{Tree, text_node, is_element, PlainDoc}
 use Rattle.pv_tree.specs.Places.{list_at}
 use Rattle.pv_edit.specs.ChangedLists.{changed_lists, makes}
 use Rattle.pv_edit.specs.Changes.{with_name, root_after, doc_after}
-use Rattle.pv_edit.specs.Effects.{change_of, parent_of, place_of, next_of, units_at}
+use Rattle.pv_edit.specs.Effects.{change_of, parent_of, kid_place, next_of, units_at}
 use Rattle.pv_edit.specs.Given.{new_units}
 use Rattle.pv_edit.specs.Origins.{IsKeptList, IsNone}
-use Rattle.pv_edit.specs.Reasons.{is_top, kids_at, lacks_element, reason_of, applied, gives}
+use Rattle.pv_edit.specs.Reasons.{is_top, kids_at, lacks_element, reason_of, edit_outcome, gives}
 use Rattle.pv_edit.specs.declared.edits.Edit.{Edit}
 use Rattle.pv_edit.specs.declared.edits.Edit.TheVariants.{Wrap, Insert, Unwrap, Rename, Split, Join, SetText, AddText, DelText}
 use Rattle.pv_edit.proofs.Cutting.{between-kid}
@@ -45,9 +45,9 @@ edit-keeps blank doc (Unwrap node) r h path kids l none =
 edit-keeps blank doc (Rename node name) r h path kids l none =
     let q = (rename-passes blank doc.root node name h).elem in
     let e = element-at node doc.root q in
-    let old = between-kid (kids_at (parent_of node) doc.root) (place_of node) _ e.kid in
+    let old = between-kid (kids_at (parent_of node) doc.root) (kid_place node) _ e.kid in
     change-keeps (change_of blank doc.root (Rename node name)) doc (kids_at (parent_of node) doc.root) (rename-made doc.mark blank doc.root node name h) tt path kids l none.0
-    (λ k v b p s t. none.1.0 (first-path path (parent_of node) (place_of node) k p (get-one _ v k (ap (λ ts. slice_get (map (with_name name) ts) k) (sym old) ∙ s)).0 ∙ sym (path-parts node (not-top node doc.root q))))
+    (λ k v b p s t. none.1.0 (first-path path (parent_of node) (kid_place node) k p (get-one _ v k (ap (λ ts. slice_get (map (with_name name) ts) k) (sym old) ∙ s)).0 ∙ sym (path-parts node (not-top node doc.root q))))
 edit-keeps blank doc (Split node at) r h path kids l none =
     change-keeps (change_of blank doc.root (Split node at)) doc (kids_at (parent_of node) doc.root) (split-made doc.mark blank doc.root node at r h) (refl, (refl, tt)) path kids l none.0
     (λ k v b p s e. text-either (take at (units_at node doc.root)) (drop at (units_at node doc.root)) k v s e)
@@ -63,7 +63,7 @@ edit-keeps blank doc (AddText list at text) r h path kids l none =
 edit-keeps blank doc (DelText node) r h path kids l none =
     change-keeps (change_of blank doc.root (DelText node)) doc (kids_at (parent_of node) doc.root) (del-made doc.mark blank doc.root node r h) tt path kids l none.0 (λ k v b p s e. cc)
 
-pub keeps-lists : {M : Type 0} (blank : M) (doc made : PlainDoc M) (edit : Edit) → is_element doc.root ≡ true → applied blank doc edit ≡ gives made → (path : List ℕ) (kids : List (Tree M)) → list_at path made.root ≡ Some kids → IsNone path (changed_lists (makes edit))
+pub keeps-lists : {M : Type 0} (blank : M) (doc made : PlainDoc M) (edit : Edit) → is_element doc.root ≡ true → edit_outcome blank doc edit ≡ gives made → (path : List ℕ) (kids : List (Tree M)) → list_at path made.root ≡ Some kids → IsNone path (changed_lists (makes edit))
     → IsKeptList (change_of blank doc.root edit) doc made path
 keeps-lists {M = M} blank doc made edit r h path kids l none =
     let same = given-doc (reason_of blank doc.root edit) _ made h in

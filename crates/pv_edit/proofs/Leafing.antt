@@ -5,9 +5,9 @@ use Rattle.std.proofs.lemmas.List.{append-nil}
 use Rattle.std.proofs.lemmas.List.Edits.{split_between}
 use Rattle.pv_tree.specs.Plain.{Ending, Tree, element, Forest, forest_of, trees_of, PlainDoc}
 use Rattle.pv_edit.specs.Changes.{Change, in_place_of, all_kids, list_after, owner_after, change_kid, change_below, root_after}
-use Rattle.pv_edit.specs.Effects.{change_of, parent_of, place_of}
+use Rattle.pv_edit.specs.Effects.{change_of, parent_of, kid_place}
 use Rattle.pv_edit.specs.Leaves.{leaves_in, leaves_in_all, IsOfTags}
-use Rattle.pv_edit.specs.Reasons.{kids_at, reason_of, applied, gives}
+use Rattle.pv_edit.specs.Reasons.{kids_at, reason_of, edit_outcome, gives}
 use Rattle.pv_edit.specs.declared.edits.Edit.{Edit}
 use Rattle.pv_edit.specs.declared.edits.Edit.TheVariants.{Wrap, Insert, Unwrap, Rename, Split, Join, SetText, AddText, DelText}
 use Rattle.pv_edit.proofs.Cutting.{between-kid, between-none}
@@ -61,17 +61,17 @@ edit-leaves blank root (Unwrap path) t h =
     let e = element-at path root (unwrap-passes blank root path h).elem in
     let ts = kids_at (parent_of path) root in
     root-leaves blank (parent_of path) _ root _ (unwrap-made blank blank root path h)
-    (kids-leaves (between (place_of path) (place_of path + 1) ts) e.name e.attrs e.ending e.kids e.mark (between-kid ts (place_of path) _ e.kid))
+    (kids-leaves (between (kid_place path) (kid_place path + 1) ts) e.name e.attrs e.ending e.kids e.mark (between-kid ts (kid_place path) _ e.kid))
 edit-leaves blank root (Rename path name) t h =
     let e = element-at path root (rename-passes blank root path name h).elem in
     let ts = kids_at (parent_of path) root in
-    root-leaves blank (parent_of path) _ root _ (rename-made blank blank root path name h) (rw (between-kid ts (place_of path) _ e.kid) refl)
+    root-leaves blank (parent_of path) _ root _ (rename-made blank blank root path name h) (rw (between-kid ts (kid_place path) _ e.kid) refl)
 edit-leaves blank root (Split path at) t h = absurd t
 edit-leaves blank root (Join path) t h = absurd t
 edit-leaves blank root (SetText path text) t h = absurd t
 edit-leaves blank root (AddText path at text) t h = absurd t
 edit-leaves blank root (DelText path) t h = absurd t
 
-pub keeps-leaves : {M : Type 0} (blank : M) (doc made : PlainDoc M) (edit : Edit) → IsOfTags edit → applied blank doc edit ≡ gives made → leaves_in made.root ≡ leaves_in doc.root
+pub keeps-leaves : {M : Type 0} (blank : M) (doc made : PlainDoc M) (edit : Edit) → IsOfTags edit → edit_outcome blank doc edit ≡ gives made → leaves_in made.root ≡ leaves_in doc.root
 keeps-leaves blank doc made edit t h =
     subst (λ (d : PlainDoc _). leaves_in d.root ≡ leaves_in doc.root) (given-doc (reason_of blank doc.root edit) _ made h) (edit-leaves blank doc.root edit t (given-reason (reason_of blank doc.root edit) _ made h))

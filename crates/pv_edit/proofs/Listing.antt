@@ -5,7 +5,7 @@ use Rattle.pv_tree.specs.Plain.{Ending, Tree, element, text_node, cdata_node, mi
 use Rattle.pv_tree.specs.Places.{kids_of, node_below, list_of, list_at, spot_at}
 use Rattle.pv_tree.specs.Places.{at_node as at_spot}
 use Rattle.pv_edit.specs.Reasons.{is_given, is_top, items_of, kids_at, lacks_list}
-use Rattle.pv_edit.specs.Effects.{parent_of, place_of}
+use Rattle.pv_edit.specs.Effects.{parent_of, kid_place}
 use Rattle.pv_edit.proofs.Paths.{path-parts}
 use Rattle.pv_edit.proofs.Standing.{NodeAt, node_at, at_node}
 
@@ -62,13 +62,13 @@ spot-kid [] (suc i) root = refl
 spot-kid (zero ∷ path) i root = ap (option_map at_spot) (node-below-kid path i root ∙ kid-in i (node_below path root))
 spot-kid (suc j ∷ path) i root = refl
 
-pub spot-parent : {M : Type 0} (path : List ℕ) (root : Tree M) → is_top path ≡ false → spot_at path root ≡ option_map at_spot (slice_get (kids_at (parent_of path) root) (place_of path))
-spot-parent path root h = ap (λ p. spot_at p root) (path-parts path h) ∙ spot-kid (parent_of path) (place_of path) root
+pub spot-parent : {M : Type 0} (path : List ℕ) (root : Tree M) → is_top path ≡ false → spot_at path root ≡ option_map at_spot (slice_get (kids_at (parent_of path) root) (kid_place path))
+spot-parent path root h = ap (λ p. spot_at p root) (path-parts path h) ∙ spot-kid (parent_of path) (kid_place path) root
 
 -- a node of the tree, as a kid of its parent's list
 pub record HasParent {M : Type 0} (path : List ℕ) (root t : Tree M) : Type 0 where
   pub list : ListAt (parent_of path) root (kids_at (parent_of path) root)
-  pub kid : slice_get (kids_at (parent_of path) root) (place_of path) ≡ Some t
+  pub kid : slice_get (kids_at (parent_of path) root) (kid_place path) ≡ Some t
 
 some_list : {M : Type 0} (path : List ℕ) (i : ℕ) (root t : Tree M) (o : Option (List (Tree M))) → list_at path root ≡ o → slice_get (items_of o) i ≡ Some t → ListAt path root (items_of o)
 some_list path i root t None l k = absurd cc
@@ -81,5 +81,5 @@ kid_spot t (Some u) h = cc
 pub has_parent : {M : Type 0} (path : List ℕ) (root t : Tree M) → spot_at path root ≡ Some (at_spot t) → HasParent path root t
 has_parent [] root t h = absurd cc
 has_parent (i ∷ path) root t h =
-    let kid = kid_spot t (slice_get (kids_at (parent_of (i ∷ path)) root) (place_of (i ∷ path))) (sym (spot-parent (i ∷ path) root refl) ∙ h) in
-    record { list = some_list (parent_of (i ∷ path)) (place_of (i ∷ path)) root t (list_at (parent_of (i ∷ path)) root) refl kid; kid = kid }
+    let kid = kid_spot t (slice_get (kids_at (parent_of (i ∷ path)) root) (kid_place (i ∷ path))) (sym (spot-parent (i ∷ path) root refl) ∙ h) in
+    record { list = some_list (parent_of (i ∷ path)) (kid_place (i ∷ path)) root t (list_at (parent_of (i ∷ path)) root) refl kid; kid = kid }

@@ -6,7 +6,7 @@ use Rattle.std.proofs.lemmas.Option.{slice_get_within}
 use Rattle.pv_tree.specs.Plain.{Tree, element, text_node, cdata_node, misc_node, is_element, trees_of}
 use Rattle.pv_tree.specs.Places.{kids_of}
 use Rattle.pv_edit.specs.Changes.{list_after}
-use Rattle.pv_edit.specs.Effects.{change_of, parent_of, place_of}
+use Rattle.pv_edit.specs.Effects.{change_of, parent_of, kid_place}
 use Rattle.pv_edit.specs.Reasons.{is_top, is_one_element, kids_at, reason_of, lacks_element}
 use Rattle.pv_edit.specs.declared.edits.Edit.TheVariants.{Wrap, Insert, Unwrap, Rename, Split, Join, SetText, AddText, DelText}
 use Rattle.pv_edit.proofs.Listing.{listed}
@@ -53,8 +53,8 @@ pub unwrap-made : {M : Type 0} (m blank : M) (root : Tree M) (path : List ℕ) �
 unwrap-made m blank root path h =
     let p = unwrap-passes blank root path h in
     let e = element-at path root p.elem in
-    let w = slice_get_within (kids_at (parent_of path) root) (place_of path) _ e.kid in
-    record { owner = owner-of m e.list; order = omega arith; within = omega arith; fits = ap is_one_element (between-kid (kids_at (parent_of path) root) (place_of path) _ e.kid); one = unwrap-one blank root path p; unshort = λ _. refl }
+    let w = slice_get_within (kids_at (parent_of path) root) (kid_place path) _ e.kid in
+    record { owner = owner-of m e.list; order = omega arith; within = omega arith; fits = ap is_one_element (between-kid (kids_at (parent_of path) root) (kid_place path) _ e.kid); one = unwrap-one blank root path p; unshort = λ _. refl }
 
 rename-one : {M : Type 0} (blank : M) (root : Tree M) (path name : List ℕ) → lacks_element path root ≡ false → is_top (parent_of path) ≡ true → length (list_after (change_of blank root (Rename path name)) (kids_at (parent_of path) root)) ≡ 1
 rename-one blank root [] name h t = absurd cc
@@ -66,14 +66,14 @@ pub rename-made : {M : Type 0} (m blank : M) (root : Tree M) (path name : List �
 rename-made m blank root path name h =
     let p = rename-passes blank root path name h in
     let e = element-at path root p.elem in
-    let w = slice_get_within (kids_at (parent_of path) root) (place_of path) _ e.kid in
-    record { owner = owner-of m e.list; order = omega arith; within = omega arith; fits = ap is_one_element (between-kid (kids_at (parent_of path) root) (place_of path) _ e.kid); one = rename-one blank root path name p.elem; unshort = λ _. refl }
+    let w = slice_get_within (kids_at (parent_of path) root) (kid_place path) _ e.kid in
+    record { owner = owner-of m e.list; order = omega arith; within = omega arith; fits = ap is_one_element (between-kid (kids_at (parent_of path) root) (kid_place path) _ e.kid); one = rename-one blank root path name p.elem; unshort = λ _. refl }
 
 pub split-made : {M : Type 0} (m blank : M) (root : Tree M) (path : List ℕ) (at : ℕ) → is_element root ≡ true → reason_of blank root (Split path at) ≡ None → Made m (parent_of path) (change_of blank root (Split path at)) root (kids_at (parent_of path) root)
 split-made m blank root path at r h =
     let p = split-passes blank root path at h in
     let e = text-at path root p.text in
-    let w = slice_get_within (kids_at (parent_of path) root) (place_of path) _ e.kid in
+    let w = slice_get_within (kids_at (parent_of path) root) (kid_place path) _ e.kid in
     record { owner = owner-of m e.list; order = omega arith; within = omega arith; fits = tt; one = λ t. never (parent_of path) (text-inside path root r p.text) t; unshort = λ _. refl }
 
 pub join-made : {M : Type 0} (m blank : M) (root : Tree M) (path : List ℕ) → is_element root ≡ true → reason_of blank root (Join path) ≡ None → Made m (parent_of path) (change_of blank root (Join path)) root (kids_at (parent_of path) root)
@@ -81,14 +81,14 @@ join-made m blank root path r h =
     let p = join-passes blank root path h in
     let e = text-at path root p.text in
     let f = text-at _ root p.next in
-    let w = slice_get_within (kids_at (parent_of path) root) (place_of path + 1) _ (next-kid path root f) in
+    let w = slice_get_within (kids_at (parent_of path) root) (kid_place path + 1) _ (next-kid path root f) in
     record { owner = owner-of m e.list; order = omega arith; within = omega arith; fits = tt; one = λ t. never (parent_of path) (text-inside path root r p.text) t; unshort = λ _. refl }
 
 pub set-made : {M : Type 0} (m blank : M) (root : Tree M) (path text : List ℕ) → is_element root ≡ true → reason_of blank root (SetText path text) ≡ None → Made m (parent_of path) (change_of blank root (SetText path text)) root (kids_at (parent_of path) root)
 set-made m blank root path text r h =
     let p = set-passes blank root path text h in
     let e = text-at path root p.text in
-    let w = slice_get_within (kids_at (parent_of path) root) (place_of path) _ e.kid in
+    let w = slice_get_within (kids_at (parent_of path) root) (kid_place path) _ e.kid in
     record { owner = owner-of m e.list; order = omega arith; within = omega arith; fits = tt; one = λ t. never (parent_of path) (text-inside path root r p.text) t; unshort = λ _. refl }
 
 pub add-made : {M : Type 0} (m blank : M) (root : Tree M) (path : List ℕ) (at : ℕ) (text : List ℕ) → reason_of blank root (AddText path at text) ≡ None → Made m path (change_of blank root (AddText path at text)) root (kids_at path root)
@@ -100,5 +100,5 @@ pub del-made : {M : Type 0} (m blank : M) (root : Tree M) (path : List ℕ) → 
 del-made m blank root path r h =
     let p = del-passes blank root path h in
     let e = text-at path root p.text in
-    let w = slice_get_within (kids_at (parent_of path) root) (place_of path) _ e.kid in
+    let w = slice_get_within (kids_at (parent_of path) root) (kid_place path) _ e.kid in
     record { owner = owner-of m e.list; order = omega arith; within = omega arith; fits = tt; one = λ t. never (parent_of path) (text-inside path root r p.text) t; unshort = λ _. refl }

@@ -12,7 +12,7 @@ use Rattle.pv_tree.specs.PlainForms.{plain, plain_all}
 use Rattle.pv_tree.specs.declared.nodes.Mark.{Mark}
 use Rattle.pv_tree.specs.declared.nodes.Node.{Node}
 use Rattle.pv_edit.specs.Changes.{all_kids}
-use Rattle.pv_edit.specs.Effects.{parent_of, place_of, next_of}
+use Rattle.pv_edit.specs.Effects.{parent_of, kid_place, next_of}
 use Rattle.pv_edit.specs.Reasons.{is_spot, is_text, kids_at, lacks_text, lacks_element}
 use Rattle.pv_edit.specs.Places.{IsInner, IsParted, first_spot}
 use Rattle.pv_edit.proofs.Listing.{has_parent, spot-kid}
@@ -61,11 +61,11 @@ first_is [] = refl
 first_is (t ∷ ts) = refl
 
 -- what stands behind a node
-pub next_is : {M : Type 0} (path : List ℕ) (root : Tree M) (front : List (Tree M)) (node : Tree M) (back : List (Tree M)) → IsParted (kids_at (parent_of path) root) (place_of path) front node back → spot_at (next_of path) root ≡ first_spot back
-next_is path root front node back p = spot-kid (parent_of path) (place_of path + 1) root ∙ ap (option_map at_spot) (parted-next p) ∙ first_is back
+pub next_is : {M : Type 0} (path : List ℕ) (root : Tree M) (front : List (Tree M)) (node : Tree M) (back : List (Tree M)) → IsParted (kids_at (parent_of path) root) (kid_place path) front node back → spot_at (next_of path) root ≡ first_spot back
+next_is path root front node back p = spot-kid (parent_of path) (kid_place path + 1) root ∙ ap (option_map at_spot) (parted-next p) ∙ first_is back
 
-pub place_within : {M : Type 0} (path : List ℕ) (root : Tree M) → IsInner path root → place_of path < length (kids_at (parent_of path) root)
-place_within path root i = let h = has_parent path root i.node i.there in slice_get_within (kids_at (parent_of path) root) (place_of path) i.node h.kid
+pub place_within : {M : Type 0} (path : List ℕ) (root : Tree M) → IsInner path root → kid_place path < length (kids_at (parent_of path) root)
+place_within path root i = let h = has_parent path root i.node i.there in slice_get_within (kids_at (parent_of path) root) (kid_place path) i.node h.kid
 
 -- where an element or a text isn't lacking
 inner_of : {M : Type 0} (test : Tree M → Bool) (path : List ℕ) (root : Tree M) (o : Option (Spot M)) → spot_at path root ≡ o → not (is_spot test o) ≡ false → IsInner path root
@@ -80,7 +80,7 @@ pub inner_text : {M : Type 0} (path : List ℕ) (root : Tree M) → lacks_text p
 inner_text path root h = inner_of is_text path root (spot_at path root) refl h
 
 -- the place of a node is one of the kids
-pub node_within : (kids : List Node) (place : ℕ) (path : List ℕ) (root : Tree Mark) → plain_all kids ≡ kids_at (parent_of path) root → place ≡ place_of path → IsInner path root → place < length kids
+pub node_within : (kids : List Node) (place : ℕ) (path : List ℕ) (root : Tree Mark) → plain_all kids ≡ kids_at (parent_of path) root → place ≡ kid_place path → IsInner path root → place < length kids
 node_within kids place path root e p i = omega (arith, p, ap length e, length-map kids plain, place_within path root i)
 
 pub unwrapped-list : {M : Type 0} {ts : List (Tree M)} {place : ℕ} {front : List (Tree M)} {node : Tree M} {back : List (Tree M)} → IsParted ts place front node back → splice ts place (place + 1) (all_kids (between place (place + 1) ts)) ≡ front ++ (kids_of node ++ back)

@@ -5,7 +5,7 @@ use Rattle.std.proofs.lemmas.Bool.{or_parts, ltb-false, leb-false, eqb-false, no
 use Rattle.pv_tree.specs.Plain.{Ending, Tree, element, text_node, cdata_node, misc_node, Forest, is_element}
 use Rattle.pv_tree.specs.Places.{spot_at}
 use Rattle.pv_tree.specs.Places.{at_node as at_spot}
-use Rattle.pv_edit.specs.Effects.{change_of, parent_of, place_of, next_of, units_on, units_at}
+use Rattle.pv_edit.specs.Effects.{change_of, parent_of, kid_place, next_of, units_on, units_at}
 use Rattle.pv_edit.specs.Given.{is_new_name, is_new_text}
 use Rattle.pv_edit.specs.Reasons.{is_spot, is_text, is_top, is_root, is_one_element, kids_at, lacks_list, lacks_text, lacks_element, goes_too_deep, makes_close_mark, unless, reason_of}
 use Rattle.pv_edit.specs.declared.reasons.Reason.{Reason}
@@ -24,7 +24,7 @@ pub record TextAt {M : Type 0} (path : List ℕ) (root : Tree M) : Type 0 where
   pub units : List (List ℕ)
   pub are : units_at path root ≡ units
   pub list : ListAt (parent_of path) root (kids_at (parent_of path) root)
-  pub kid : slice_get (kids_at (parent_of path) root) (place_of path) ≡ Some (text_node units)
+  pub kid : slice_get (kids_at (parent_of path) root) (kid_place path) ≡ Some (text_node units)
 
 text-node : {M : Type 0} (path : List ℕ) (root t : Tree M) → spot_at path root ≡ Some (at_spot t) → not (is_text t) ≡ false → TextAt path root
 text-node path root (text_node units) s h = let p = has_parent path root (text_node units) s in record { units = units; are = ap units_on s; list = p.list; kid = p.kid }
@@ -44,7 +44,7 @@ pub record ElementAt {M : Type 0} (path : List ℕ) (root : Tree M) : Type 0 whe
   pub mark : M
   pub there : spot_at path root ≡ Some (at_spot (element name attrs ending kids mark))
   pub list : ListAt (parent_of path) root (kids_at (parent_of path) root)
-  pub kid : slice_get (kids_at (parent_of path) root) (place_of path) ≡ Some (element name attrs ending kids mark)
+  pub kid : slice_get (kids_at (parent_of path) root) (kid_place path) ≡ Some (element name attrs ending kids mark)
 
 element-node : {M : Type 0} (path : List ℕ) (root t : Tree M) → spot_at path root ≡ Some (at_spot t) → not (is_element t) ≡ false → ElementAt path root
 element-node path root (element x attrs e kids m) s h =
@@ -58,11 +58,11 @@ pub element-at : {M : Type 0} (path : List ℕ) (root : Tree M) → lacks_elemen
 element-at path root h = let i = inner_element path root h in element-node path root i.node i.there (subst (λ o. not (is_spot is_element o) ≡ false) i.there h)
 
 -- the kid behind a node
-pub next-kid : {M : Type 0} (path : List ℕ) (root : Tree M) (t : TextAt (next_of path) root) → slice_get (kids_at (parent_of path) root) (place_of path + 1) ≡ Some (text_node t.units)
+pub next-kid : {M : Type 0} (path : List ℕ) (root : Tree M) (t : TextAt (next_of path) root) → slice_get (kids_at (parent_of path) root) (kid_place path + 1) ≡ Some (text_node t.units)
 next-kid path root t =
-    let p = parent-kid (parent_of path) (place_of path + 1) in
-    let i = place-kid (parent_of path) (place_of path + 1) in
-    ap (λ (q : List ℕ). slice_get (kids_at q root) (place_of path + 1)) (sym p) ∙ ap (λ (k : ℕ). slice_get (kids_at (parent_of (next_of path)) root) k) (sym i) ∙ t.kid
+    let p = parent-kid (parent_of path) (kid_place path + 1) in
+    let i = place-kid (parent_of path) (kid_place path + 1) in
+    ap (λ (q : List ℕ). slice_get (kids_at q root) (kid_place path + 1)) (sym p) ∙ ap (λ (k : ℕ). slice_get (kids_at (parent_of (next_of path)) root) k) (sym i) ∙ t.kid
 
 no-text : {M : Type 0} (t : Tree M) → is_element t ≡ true → not (is_text t) ≡ false → ⊥
 no-text (element x attrs e kids m) h k = cc

@@ -13,7 +13,7 @@ use Rattle.pv_edit.specs.Effects.{change_of}
 use Rattle.pv_edit.specs.Fitting.{CanChange, plain_change, plain_filling}
 use Rattle.pv_edit.specs.Inverses.{IsKept, LeadsBack, change_back, inverse_of}
 use Rattle.pv_edit.specs.Preparations.{IsPreparation, IsTask}
-use Rattle.pv_edit.specs.Reasons.{applied, gives, is_top, outcome, reason_of}
+use Rattle.pv_edit.specs.Reasons.{edit_outcome, gives, is_top, outcome, reason_of}
 use Rattle.pv_edit.specs.declared.edits.Edit.{Edit}
 use Rattle.pv_edit.specs.declared.edits.Edit.TheVariants.{Wrap, Insert, Unwrap, Rename, Split, Join, SetText, AddText, DelText}
 use Rattle.pv_edit.specs.declared.inverses.Inverse.{Inverse}
@@ -95,7 +95,7 @@ pub prepared-leads : (doc : Doc) (edit : Edit) (ready : Preparation) → IsPrepa
 prepared-leads doc edit ready p reason made h =
     let old = plain_doc doc in
     let c = change_of blank_mark (plain doc.root) edit in
-    let given : applied blank_mark old edit ≡ gives (doc_after c old) = ap (λ (r : Option Reason). outcome r (doc_after c old)) reason in
+    let given : edit_outcome blank_mark old edit ≡ gives (doc_after c old) = ap (λ (r : Option Reason). outcome r (doc_after c old)) reason in
     let same : unmarked_doc made ≡ unmarked_doc (doc_after c old) = h ∙ ap (λ (d : Change Mark). unmarked_doc (doc_after d old)) p.change in
     subst (λ (i : Inverse). LeadsBack i made (unmarked_doc old)) (sym p.inverse)
     (leads-on (inverse_of (plain doc.root) edit) (doc_after c old) made (unmarked_doc old) same (made-leads blank_mark old (doc_after c old) edit (doc-kept doc) given))

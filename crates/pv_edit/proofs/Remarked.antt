@@ -10,7 +10,7 @@ use Rattle.pv_tree.specs.Places.{Spot, at_document, kids_of, node_below, spot_at
 use Rattle.pv_tree.specs.Places.{at_node as at_spot}
 use Rattle.pv_edit.specs.Changes.{Change, Filling, others, around, inner, named, with_name, all_kids, in_place_of, list_after, ending_after, with_list, owner_after, change_kid, change_below, first_tree, root_after}
 use Rattle.pv_edit.specs.Effects.{next_of, units_on, units_at}
-use Rattle.pv_edit.specs.Fitting.{CanFill, Suits, Takes, CanChange}
+use Rattle.pv_edit.specs.Fitting.{CanFill, SuitsChange, TakesChange, CanChange}
 use Rattle.pv_edit.specs.Inverses.{change_back}
 use Rattle.pv_edit.specs.Reasons.{is_one_element, is_spot, is_text, lacks_text}
 use Rattle.pv_edit.specs.declared.inverses.Inverse.{Inverse}
@@ -168,16 +168,16 @@ fits-as f (around name attrs ending mark) ts h = tt
 fits-as f inner ts h = sym (one-as f ts) ∙ h
 fits-as f (named name) ts h = sym (one-as f ts) ∙ h
 
-suits-as : {M N : Type 0} (f : M → N) (c : Change M) (ts : List (Tree M)) → Suits (change_as f c) (map (map_marks f) ts) → Suits c ts
+suits-as : {M N : Type 0} (f : M → N) (c : Change M) (ts : List (Tree M)) → SuitsChange (change_as f c) (map (map_marks f) ts) → SuitsChange c ts
 suits-as f c ts s = record { order = s.order; within = subst (λ n. c.to ≤ n) (length-map ts (map_marks f)) s.within; fits = fits-as f c.filling (between c.from c.to ts) (subst (λ l. CanFill (filling_as f c.filling) l) (between-as f c.from c.to ts) s.fits) }
 
-takes-as : {M N : Type 0} (f : M → N) (c : Change M) (o : Option (Tree M)) → IsSomeAnd (option_map (map_marks f) o) (Takes (change_as f c)) → IsSomeAnd o (Takes c)
+takes-as : {M N : Type 0} (f : M → N) (c : Change M) (o : Option (Tree M)) → IsSomeAnd (option_map (map_marks f) o) (TakesChange (change_as f c)) → IsSomeAnd o (TakesChange c)
 takes-as f c None h = h
-takes-as f c (Some t) h = record { elem = sym (element-as f t) ∙ h.elem; suits = suits-as f c (kids_of t) (subst (λ l. Suits (change_as f c) l) (kids-as f t) h.suits) }
+takes-as f c (Some t) h = record { elem = sym (element-as f t) ∙ h.elem; suits = suits-as f c (kids_of t) (subst (λ l. SuitsChange (change_as f c) l) (kids-as f t) h.suits) }
 
 pub can-as : {M N : Type 0} (f : M → N) (path : List ℕ) (c : Change M) (root : Tree M) → CanChange path (change_as f c) (map_marks f root) → CanChange path c root
 can-as f [] c root h = record { suits = suits-as f c (root ∷ []) h.suits; one = sym (length-map (list_after c (root ∷ [])) (map_marks f)) ∙ ap length (sym (list-as f c (root ∷ []))) ∙ h.one }
-can-as f (zero ∷ path) c root h = takes-as f c (node_below path root) (subst (λ o. IsSomeAnd o (Takes (change_as f c))) (node-as f path root) h)
+can-as f (zero ∷ path) c root h = takes-as f c (node_below path root) (subst (λ o. IsSomeAnd o (TakesChange (change_as f c))) (node-as f path root) h)
 can-as f (suc i ∷ path) c root h = h
 
 -- ---- the change of an inverse

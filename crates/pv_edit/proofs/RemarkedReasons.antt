@@ -9,11 +9,11 @@ use Rattle.pv_tree.specs.Places.{at_node as at_spot}
 use Rattle.pv_tree.specs.Legal.{MAX_DEPTH}
 use Rattle.pv_tree.specs.Marks.{unmarked_doc}
 use Rattle.pv_edit.specs.Changes.{Change, list_after, root_after, doc_after}
-use Rattle.pv_edit.specs.Effects.{change_of, next_of, parent_of, place_of}
+use Rattle.pv_edit.specs.Effects.{change_of, next_of, parent_of, kid_place}
 use Rattle.pv_edit.specs.Given.{is_new_name}
 use Rattle.pv_edit.specs.Laws.{MarksDontCount, unmarked_outcome}
 use Rattle.pv_edit.specs.Inverses.{IsKept, LeadsBack, ends_short, name_on, end_of, put_back, inverse_of}
-use Rattle.pv_edit.specs.Reasons.{is_given, is_spot, is_root, is_one_element, items_of, kids_at, lacks_node, lacks_list, lacks_element, lacks_text, goes_too_deep, makes_close_mark, spells_close_mark, unless, reason_of, applied, outcome, gives}
+use Rattle.pv_edit.specs.Reasons.{is_given, is_spot, is_root, is_one_element, items_of, kids_at, lacks_node, lacks_list, lacks_element, lacks_text, goes_too_deep, makes_close_mark, spells_close_mark, unless, reason_of, edit_outcome, outcome, gives}
 use Rattle.pv_edit.specs.declared.reasons.Reason.{Reason}
 use Rattle.pv_edit.specs.declared.reasons.Reason.TheVariants.{NoNode, NotElement, NotText, Range, BadName, BadText, RootShape, Deep, CloseMark}
 use Rattle.pv_edit.specs.declared.edits.Edit.{Edit}
@@ -142,7 +142,7 @@ put-as f list i (Some (at_spot (misc_node bytes))) = refl
 pub inverse-as : {M N : Type 0} (f : M → N) (root : Tree M) (edit : Edit) → inverse_of (map_marks f root) edit ≡ inverse_of root edit
 inverse-as f root (Wrap path from to name) = ap (TakeOut (path ++ from ∷ [])) (short-as f path root)
 inverse-as f root (Insert path at name) = ap (TakeOut (path ++ at ∷ [])) (short-as f path root)
-inverse-as f root (Unwrap path) = ap (put_back (parent_of path) (place_of path)) (spot-as f path root) ∙ put-as f (parent_of path) (place_of path) (spot_at path root)
+inverse-as f root (Unwrap path) = ap (put_back (parent_of path) (kid_place path)) (spot-as f path root) ∙ put-as f (parent_of path) (kid_place path) (spot_at path root)
 inverse-as f root (Rename path name) = ap (Name path) (ap name_on (spot-as f path root) ∙ name-on-as f (spot_at path root))
 inverse-as f root (Split path at) = refl
 inverse-as f root (Join path) = ap (λ (us : List (List ℕ)). Divide path (length us)) (units-as f path root)
@@ -156,7 +156,7 @@ root-edited {N = N} f blank root edit =
     ap (λ (d : Change N). root_after d.list d (map_marks f root)) (sym (change-of-as f blank root edit)) ∙ root-as f c.list c root
 
 -- the inverse of an edit leads back
-pub made-leads : {M : Type 0} (blank : M) (doc made : PlainDoc M) (edit : Edit) → IsKept doc.root → applied blank doc edit ≡ gives made → LeadsBack (inverse_of doc.root edit) made (unmarked_doc doc)
+pub made-leads : {M : Type 0} (blank : M) (doc made : PlainDoc M) (edit : Edit) → IsKept doc.root → edit_outcome blank doc edit ≡ gives made → LeadsBack (inverse_of doc.root edit) made (unmarked_doc doc)
 made-leads {M = M} blank doc made edit k h =
     let f : M → Unit = λ _. tt in
     let reason = given-reason (reason_of blank doc.root edit) _ made h in

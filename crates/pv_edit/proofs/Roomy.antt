@@ -5,23 +5,23 @@ use Rattle.std.specs.Option.{option_and_then}
 use Rattle.pv_tree.specs.Plain.{Tree}
 use Rattle.pv_tree.specs.Places.{node_below, list_of}
 use Rattle.pv_edit.specs.Changes.{Change}
-use Rattle.pv_edit.specs.Fitting.{CanChange, Suits, Takes}
+use Rattle.pv_edit.specs.Fitting.{CanChange, SuitsChange, TakesChange}
 use Rattle.pv_edit.specs.Reasons.{items_of, kids_at}
 use Rattle.pv_edit.specs.Rooms.{HasRoom, HasRoomAt, TakesIn, had_at}
 use Rattle.pv_edit.specs.declared.rooms.Room.{Room}
 use Rattle.pv_edit.proofs.Listing.{kids-items}
 
-suits-in : {M : Type 0} (c : Change M) (o : Option (Tree M)) → IsSomeAnd o (Takes c) → Suits c (items_of (option_and_then list_of o))
+suits-in : {M : Type 0} (c : Change M) (o : Option (Tree M)) → IsSomeAnd o (TakesChange c) → SuitsChange c (items_of (option_and_then list_of o))
 suits-in c None h = absurd h
-suits-in c (Some t) h = subst (λ ks. Suits c ks) (kids-items t) h.suits
+suits-in c (Some t) h = subst (λ ks. SuitsChange c ks) (kids-items t) h.suits
 
 -- the list that can be changed
-pub suits-at : {M : Type 0} (list : List ℕ) (c : Change M) (root : Tree M) → CanChange list c root → Suits c (kids_at list root)
+pub suits-at : {M : Type 0} (list : List ℕ) (c : Change M) (root : Tree M) → CanChange list c root → SuitsChange c (kids_at list root)
 suits-at [] c root h = h.suits
 suits-at (zero ∷ path) c root h = suits-in c (node_below path root) h
 suits-at (suc i ∷ path) c root h = absurd h
 
-room-in : {M : Type 0} (room : Room) (c : Change M) (o : Option (Tree M)) → IsSomeAnd o (Takes c) → HasRoom room (length (items_of (option_and_then list_of o))) c (items_of (option_and_then list_of o)) → IsSomeAnd o (TakesIn room c)
+room-in : {M : Type 0} (room : Room) (c : Change M) (o : Option (Tree M)) → IsSomeAnd o (TakesChange c) → HasRoom room (length (items_of (option_and_then list_of o))) c (items_of (option_and_then list_of o)) → IsSomeAnd o (TakesIn room c)
 room-in room c None h r = absurd h
 room-in room c (Some t) h r = record { takes = h; enough = subst (λ ks. HasRoom room (length ks) c ks) (sym (kids-items t)) r }
 

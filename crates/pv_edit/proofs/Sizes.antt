@@ -7,7 +7,7 @@ use Rattle.std.proofs.lemmas.Option.{slice_get_within}
 use Rattle.pv_tree.specs.Places.{kids_of, spot_at}
 use Rattle.pv_tree.specs.Places.{at_node as at_spot}
 use Rattle.pv_tree.proofs.Levels.{trees-forest}
-use Rattle.pv_edit.specs.Effects.{parent_of, place_of}
+use Rattle.pv_edit.specs.Effects.{parent_of, kid_place}
 use Rattle.pv_edit.specs.Reasons.{kids_at}
 use Rattle.pv_edit.proofs.Listing.{has_parent}
 use Rattle.pv_edit.specs.Changes.{Change, in_place_of, list_after, owner_after, change_kid, change_below, root_after}
@@ -96,8 +96,8 @@ list-within o =
     omega (arith, k, nodes-within o.node)
 
 -- the numbers of the kids of an element, in its place
-pub places-fit : {M : Type 0} (m : M) (path : List ℕ) (root t : Tree M) → spot_at path root ≡ Some (at_spot t) → place_of path + length (kids_of t) ≤ nodes_in root + nodes_in root
+pub places-fit : {M : Type 0} (m : M) (path : List ℕ) (root t : Tree M) → spot_at path root ≡ Some (at_spot t) → kid_place path + length (kids_of t) ≤ nodes_in root + nodes_in root
 places-fit m path root t s =
     let p = has_parent path root t s in
-    let k = kid-within (kids_at (parent_of path) root) (place_of path) t p.kid in
+    let k = kid-within (kids_at (parent_of path) root) (kid_place path) t p.kid in
     omega (arith, k.0, k.1, kids-within t, list-within (owner-of m p.list))

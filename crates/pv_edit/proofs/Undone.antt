@@ -16,7 +16,7 @@ use Rattle.pv_edit.proofs.Kept.{United, units-each}
 use Rattle.pv_tree.specs.PlainForms.{plain_end}
 use Rattle.pv_tree.proofs.Levels.{trees-forest}
 use Rattle.pv_edit.specs.Changes.{list_after, root_after}
-use Rattle.pv_edit.specs.Effects.{change_of, parent_of, place_of, next_of, units_on, units_at, one_text}
+use Rattle.pv_edit.specs.Effects.{change_of, parent_of, kid_place, next_of, units_on, units_at, one_text}
 use Rattle.pv_edit.specs.Inverses.{end_of, put_back, inverse_of, change_back}
 use Rattle.pv_edit.specs.Reasons.{is_spot, is_text, is_top, kids_at, lacks_text, reason_of}
 use Rattle.pv_edit.specs.declared.edits.Edit.{Edit}
@@ -109,7 +109,7 @@ around-same x attrs e kids m =
 unwrap-returns : (root : Tree Unit) (path : List ℕ) → is_formed root ≡ true → reason_of tt root (Unwrap path) ≡ None → Returns root (Unwrap path) (inverse_of root (Unwrap path))
 unwrap-returns root path f h =
     let list = parent_of path in
-    let at = place_of path in
+    let at = kid_place path in
     let ts = kids_at list root in
     let made = unwrap-made tt tt root path h in
     let c = change_of tt root (Unwrap path) in
@@ -130,7 +130,7 @@ unwrap-returns root path f h =
 rename-returns : (root : Tree Unit) (path name : List ℕ) → is_formed root ≡ true → reason_of tt root (Rename path name) ≡ None → Returns root (Rename path name) (inverse_of root (Rename path name))
 rename-returns root path name f h =
     let list = parent_of path in
-    let at = place_of path in
+    let at = kid_place path in
     let ts = kids_at list root in
     let made = rename-made tt tt root path name h in
     let c = change_of tt root (Rename path name) in
@@ -154,14 +154,14 @@ not-top [] root h = absurd cc
 not-top (i ∷ path) root h = refl
 
 -- a text of the changed list, and the one behind it
-spot-first : (path : List ℕ) (root : Tree Unit) (front back : List (Tree Unit)) (u : List (List ℕ)) → is_top path ≡ false → kids_at (parent_of path) root ≡ front ++ text_node u ∷ back → length front ≡ place_of path → spot_at path root ≡ Some (at_spot (text_node u))
+spot-first : (path : List ℕ) (root : Tree Unit) (front back : List (Tree Unit)) (u : List (List ℕ)) → is_top path ≡ false → kids_at (parent_of path) root ≡ front ++ text_node u ∷ back → length front ≡ kid_place path → spot_at path root ≡ Some (at_spot (text_node u))
 spot-first path root front back u t k n =
-    spot-parent path root t ∙ ap (λ l. option_map at_spot (slice_get l (place_of path))) k ∙ ap (λ i. option_map at_spot (slice_get (front ++ text_node u ∷ back) i)) (sym n)
+    spot-parent path root t ∙ ap (λ l. option_map at_spot (slice_get l (kid_place path))) k ∙ ap (λ i. option_map at_spot (slice_get (front ++ text_node u ∷ back) i)) (sym n)
     ∙ ap (option_map at_spot) (get-front front back (text_node u))
 
-spot-next : (path : List ℕ) (root : Tree Unit) (front back : List (Tree Unit)) (u v : List (List ℕ)) → kids_at (parent_of path) root ≡ front ++ text_node u ∷ text_node v ∷ back → length front ≡ place_of path → spot_at (next_of path) root ≡ Some (at_spot (text_node v))
+spot-next : (path : List ℕ) (root : Tree Unit) (front back : List (Tree Unit)) (u v : List (List ℕ)) → kids_at (parent_of path) root ≡ front ++ text_node u ∷ text_node v ∷ back → length front ≡ kid_place path → spot_at (next_of path) root ≡ Some (at_spot (text_node v))
 spot-next path root front back u v k n =
-    spot-kid (parent_of path) (place_of path + 1) root ∙ ap (λ l. option_map at_spot (slice_get l (place_of path + 1))) k
+    spot-kid (parent_of path) (kid_place path + 1) root ∙ ap (λ l. option_map at_spot (slice_get l (kid_place path + 1))) k
     ∙ ap (λ i. option_map at_spot (slice_get (front ++ text_node u ∷ text_node v ∷ back) (i + 1))) (sym n)
     ∙ ap (option_map at_spot) (get-more front (text_node v ∷ back) (text_node u))
 
@@ -175,7 +175,7 @@ some-length (u ∷ us) h = omega arith
 split-returns : (root : Tree Unit) (path : List ℕ) (at : ℕ) → is_element root ≡ true → is_formed root ≡ true → reason_of tt root (Split path at) ≡ None → Returns root (Split path at) (inverse_of root (Split path at))
 split-returns root path at r f h =
     let list = parent_of path in
-    let i = place_of path in
+    let i = kid_place path in
     let ts = kids_at list root in
     let made = split-made tt tt root path at r h in
     let c = change_of tt root (Split path at) in
@@ -204,7 +204,7 @@ split-returns root path at r f h =
 join-returns : (root : Tree Unit) (path : List ℕ) → is_element root ≡ true → is_formed root ≡ true → HasUnits root → reason_of tt root (Join path) ≡ None → Returns root (Join path) (inverse_of root (Join path))
 join-returns root path r f units h =
     let list = parent_of path in
-    let i = place_of path in
+    let i = kid_place path in
     let ts = kids_at list root in
     let made = join-made tt tt root path r h in
     let c = change_of tt root (Join path) in
@@ -237,7 +237,7 @@ join-returns root path r f units h =
 set-returns : (root : Tree Unit) (path text : List ℕ) → is_element root ≡ true → is_formed root ≡ true → reason_of tt root (SetText path text) ≡ None → Returns root (SetText path text) (inverse_of root (SetText path text))
 set-returns root path text r f h =
     let list = parent_of path in
-    let i = place_of path in
+    let i = kid_place path in
     let ts = kids_at list root in
     let made = set-made tt tt root path text r h in
     let c = change_of tt root (SetText path text) in
@@ -258,7 +258,7 @@ set-returns root path text r f h =
 del-returns : (root : Tree Unit) (path : List ℕ) → is_element root ≡ true → is_formed root ≡ true → reason_of tt root (DelText path) ≡ None → Returns root (DelText path) (inverse_of root (DelText path))
 del-returns root path r f h =
     let list = parent_of path in
-    let i = place_of path in
+    let i = kid_place path in
     let ts = kids_at list root in
     let made = del-made tt tt root path r h in
     let c = change_of tt root (DelText path) in

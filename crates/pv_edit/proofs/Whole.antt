@@ -6,7 +6,7 @@ use Rattle.pv_tree.specs.Plain.{Ending, tagged, Tree, element, Forest, no_trees,
 use Rattle.pv_tree.specs.Places.{node_below, list_of, list_at, spot_at}
 use Rattle.pv_tree.specs.Places.{at_node as at_spot}
 use Rattle.pv_edit.specs.Changes.{Change, list_after, ending_after, owner_after, change_below, first_tree, root_after}
-use Rattle.pv_edit.specs.Fitting.{CanFill, Suits, CanChange}
+use Rattle.pv_edit.specs.Fitting.{CanFill, SuitsChange, CanChange}
 use Rattle.pv_edit.specs.Reasons.{is_top, items_of, kids_at}
 use Rattle.pv_edit.proofs.Standing.{NodeAt, here, down, at_node, first}
 use Rattle.pv_edit.proofs.Listing.{ListAt, top, inside}
@@ -75,8 +75,8 @@ after-whole (suc i ∷ path) c root ts d = let h = at_node d.owner.node in absur
 pub can-change : {M : Type 0} {m : M} (list : List ℕ) (c : Change M) (root : Tree M) (ts : List (Tree M)) → Made m list c root ts → CanChange list c root
 can-change [] c root ts d =
     let k = top-kids d.owner in
-    record { suits = subst (Suits c) k (record { order = d.order; within = d.within; fits = d.fits }); one = ap (λ l. length (list_after c l)) (sym k) ∙ d.one refl }
+    record { suits = subst (SuitsChange c) k (record { order = d.order; within = d.within; fits = d.fits }); one = ap (λ l. length (list_after c l)) (sym k) ∙ d.one refl }
 can-change (zero ∷ path) c root ts d =
     let e : node_below path root ≡ Some (element d.owner.name d.owner.attrs d.owner.ending d.owner.kids d.owner.mark) = at_node d.owner.node in
-    rw e (record { elem = refl; suits = subst (Suits c) (sym d.owner.are) (record { order = d.order; within = d.within; fits = d.fits }) })
+    rw e (record { elem = refl; suits = subst (SuitsChange c) (sym d.owner.are) (record { order = d.order; within = d.within; fits = d.fits }) })
 can-change (suc i ∷ path) c root ts d = let h = at_node d.owner.node in absurd cc

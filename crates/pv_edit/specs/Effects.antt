@@ -16,14 +16,14 @@ parent_of (i ∷ []) = []
 parent_of (i ∷ j ∷ path) = i ∷ parent_of (j ∷ path)
 
 -- which of its kids that is
-abbrev pub place_of : List ℕ → ℕ
-place_of [] = 0
-place_of (i ∷ []) = i
-place_of (i ∷ j ∷ path) = place_of (j ∷ path)
+abbrev pub kid_place : List ℕ → ℕ
+kid_place [] = 0
+kid_place (i ∷ []) = i
+kid_place (i ∷ j ∷ path) = kid_place (j ∷ path)
 
 -- the path of the next sibling
 abbrev pub next_of : List ℕ → List ℕ
-next_of path = parent_of path ++ (place_of path + 1) ∷ []
+next_of path = parent_of path ++ (kid_place path + 1) ∷ []
 
 -- the units of a text
 abbrev pub node_units : {M : Type 0} → Tree M → List (List ℕ)
@@ -55,11 +55,11 @@ fill list from to filling =
 
 -- in place of the node at a path
 abbrev pub fill_node : {M : Type 0} → List ℕ → Filling M → Change M
-fill_node path filling = fill (parent_of path) (place_of path) (place_of path + 1) filling
+fill_node path filling = fill (parent_of path) (kid_place path) (kid_place path + 1) filling
 
 -- in place of it and its next sibling
 abbrev pub fill_two : {M : Type 0} → List ℕ → Filling M → Change M
-fill_two path filling = fill (parent_of path) (place_of path) (place_of path + 2) filling
+fill_two path filling = fill (parent_of path) (kid_place path) (kid_place path + 2) filling
 
 -- The change that an edit makes. New elements have a blank mark.
 abbrev pub change_of : {M : Type 0} → M → Tree M → Edit → Change M

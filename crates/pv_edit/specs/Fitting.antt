@@ -56,23 +56,23 @@ with_kids ts (cdata_node bytes) = cdata_node bytes
 with_kids ts (misc_node bytes) = misc_node bytes
 
 -- a list in which a change can be made
-pub record Suits {M : Type 0} (c : plain_changes.Change M) (ts : List (Tree M)) : Type 0 where
+pub record SuitsChange {M : Type 0} (c : plain_changes.Change M) (ts : List (Tree M)) : Type 0 where
   pub order : c.from ≤ c.to
   pub within : c.to ≤ length ts
   pub fits : CanFill c.filling (between c.from c.to ts)
 
 -- an element whose list can be changed
-pub record Takes {M : Type 0} (c : plain_changes.Change M) (t : Tree M) : Type 0 where
+pub record TakesChange {M : Type 0} (c : plain_changes.Change M) (t : Tree M) : Type 0 where
   pub elem : IsTrue (is_element t)
-  pub suits : Suits c (kids_of t)
+  pub suits : SuitsChange c (kids_of t)
 
 -- the list of the document node can be changed: it holds one tree afterwards too
 pub record TakesTop {M : Type 0} (c : plain_changes.Change M) (root : Tree M) : Type 0 where
-  pub suits : Suits c (root ∷ [])
+  pub suits : SuitsChange c (root ∷ [])
   pub one : length (list_after c (root ∷ [])) ≡ 1
 
 -- the list at a path can be changed
 abbrev pub CanChange : {M : Type 0} → List ℕ → plain_changes.Change M → Tree M → Type 0
 CanChange [] c root = TakesTop c root
-CanChange (zero ∷ path) c root = IsSomeAnd (node_below path root) (Takes c)
+CanChange (zero ∷ path) c root = IsSomeAnd (node_below path root) (TakesChange c)
 CanChange (suc i ∷ path) c root = ⊥

@@ -11,9 +11,10 @@ use Rattle.pv_tree.specs.PlainForms.{plain_end}
 use Rattle.pv_tree.specs.declared.nodes.End.{End}
 use Rattle.pv_tree.specs.declared.nodes.End.TheVariants as end
 use Rattle.pv_edit.specs.Changes.{Change, others, around, inner, named, doc_after}
-use Rattle.pv_edit.specs.Effects.{parent_of, place_of, next_of, units_at, two_texts, one_text, fill}
+use Rattle.pv_edit.specs.Effects.{parent_of, kid_place, next_of, units_at, two_texts, one_text}
+use Rattle.pv_edit.specs.Effects.{fill}
 use Rattle.pv_edit.specs.Effects.{fill_node, fill_two}
-use Rattle.pv_edit.specs.Reasons.{applied, gives}
+use Rattle.pv_edit.specs.Reasons.{edit_outcome, gives}
 use Rattle.pv_tree.specs.Marks.{unmarked_doc}
 use Rattle.pv_edit.specs.declared.edits.Edit.{Edit}
 use Rattle.pv_edit.specs.declared.edits.Edit.TheVariants.{Wrap, Insert, Unwrap, Rename, Split, Join}
@@ -62,7 +63,7 @@ abbrev pub inverse_of : {M : Type 0} → Tree M → Edit → Inverse
 inverse_of root (Wrap path from to name) =
     TakeOut (path ++ from ∷ []) (ends_short (spot_at path root))
 inverse_of root (Insert path at name) = TakeOut (path ++ at ∷ []) (ends_short (spot_at path root))
-inverse_of root (Unwrap path) = put_back (parent_of path) (place_of path) (spot_at path root)
+inverse_of root (Unwrap path) = put_back (parent_of path) (kid_place path) (spot_at path root)
 inverse_of root (Rename path name) = Name path (name_on (spot_at path root))
 inverse_of root (Split path at) = Merge path
 inverse_of root (Join path) = Divide path (length (units_at path root))
@@ -84,7 +85,7 @@ change_back blank root (Text path units) = fill_node path (others (one_text unit
 change_back blank root (Discard path shorten) =
     record (fill_node path (others [])) { shorten = shorten }
 change_back blank root (Restore path units) =
-    fill (parent_of path) (place_of path) (place_of path) (others (one_text units))
+    fill (parent_of path) (kid_place path) (kid_place path) (others (one_text units))
 
 -- the document that an inverse makes of an edited one
 abbrev pub doc_back : {M : Type 0} → M → PlainDoc M → Inverse → PlainDoc M
@@ -107,5 +108,5 @@ pub record LeadsBack {M : Type 0} (inverse : Inverse) (edited : PlainDoc M)
     (before : PlainDoc Unit) : Type 0 where
   pub edit : Edit
   pub kept : IsKept before.root
-  pub is_edited : applied tt before edit ≡ gives (unmarked_doc edited)
+  pub is_edited : edit_outcome tt before edit ≡ gives (unmarked_doc edited)
   pub is_inverse : inverse_of before.root edit ≡ inverse

@@ -16,7 +16,7 @@ use Rattle.pv_tree.specs.Marks.{unmarked_doc}
 use Rattle.pv_edit.specs.Given.{is_line_end, is_new_text, new_units}
 use Rattle.pv_edit.specs.Inverses.{IsKept, LeadsBack, change_back, inverse_of, doc_back}
 use Rattle.pv_edit.specs.Leaves.{IsOfTags, leaves_in}
-use Rattle.pv_edit.specs.Reasons.{Outcome, applied, gives, refuses}
+use Rattle.pv_edit.specs.Reasons.{Outcome, edit_outcome, gives, refuses}
 use Rattle.pv_edit.specs.declared.edits.Edit.{Edit}
 use Rattle.pv_edit.specs.declared.inverses.Inverse.{Inverse}
 
@@ -37,26 +37,26 @@ NewTextsMeanUnits = (bytes : List ℕ) →
 -- The inverse of an edit leads from the edited document back to the one before it.
 abbrev pub InversesLeadBack : Type 0 → Type 0
 InversesLeadBack M = (blank : M) (doc made : PlainDoc M) (edit : Edit) → IsKept doc.root →
-    applied blank doc edit ≡ gives made →
+    edit_outcome blank doc edit ≡ gives made →
     LeadsBack (inverse_of doc.root edit) made (unmarked_doc doc)
 
 -- What a document keeps of its tree holds after an edit.
 abbrev pub EditsKeep : Type 0 → Type 0
 EditsKeep M = (blank : M) (doc made : PlainDoc M) (edit : Edit) → IsKept doc.root →
     nodes_in doc.root < MAX_NODES →
-    applied blank doc edit ≡ gives made → IsKept made.root
+    edit_outcome blank doc edit ≡ gives made → IsKept made.root
 
 -- An edit of tags keeps every leaf of the document in its order.
 abbrev pub TagsKeepLeaves : Type 0 → Type 0
 TagsKeepLeaves M = (blank : M) (doc made : PlainDoc M) (edit : Edit) → IsOfTags edit →
-    applied blank doc edit ≡ gives made →
+    edit_outcome blank doc edit ≡ gives made →
     leaves_in made.root ≡ leaves_in doc.root
 
 -- A list of the edited document that the edit doesn't change stood in the document before, with the
 -- same owner and the same heads of kids.
 abbrev pub OtherListsStay : Type 0 → Type 0
 OtherListsStay M = (blank : M) (doc made : PlainDoc M) (edit : Edit) →
-    IsTrue (is_element doc.root) → applied blank doc edit ≡ gives made →
+    IsTrue (is_element doc.root) → edit_outcome blank doc edit ≡ gives made →
     (path : List ℕ) (kids : List (Tree M)) → list_at path made.root ≡ Some kids →
     IsNone path (changed_lists (makes edit)) →
     IsKeptList (change_of blank doc.root edit) doc made path
@@ -81,19 +81,19 @@ pub record IsMadeBy {M : Type 0} (c : Change M) (doc made : PlainDoc M) : Type 0
 -- What an edit makes of a document is made by its change.
 abbrev pub EditsAreChanges : Type 0 → Type 0
 EditsAreChanges M = (blank : M) (doc made : PlainDoc M) (edit : Edit) →
-    IsTrue (is_element doc.root) → applied blank doc edit ≡ gives made →
+    IsTrue (is_element doc.root) → edit_outcome blank doc edit ≡ gives made →
     IsMadeBy (change_of blank doc.root edit) doc made
 
 -- The lists that an edit changes are those that its change changes.
 abbrev pub EditsChangeLists : Type 0 → Type 0
-EditsChangeLists M = (blank : M) (doc made : PlainDoc M) (edit : Edit) → applied blank doc edit
+EditsChangeLists M = (blank : M) (doc made : PlainDoc M) (edit : Edit) → edit_outcome blank doc edit
     ≡ gives made →
     lists_changed (change_of blank doc.root edit) ≡ changed_lists (makes edit)
 
 -- The same of its inverse, whatever the root is on which that is made.
 abbrev pub InversesChangeLists : Type 0 → Type 0
 InversesChangeLists M = (blank : M) (root : Tree M) (before edited : PlainDoc Unit) (edit : Edit) →
-    applied tt before edit ≡ gives edited →
+    edit_outcome tt before edit ≡ gives edited →
     lists_changed (change_back blank root (inverse_of before.root edit))
     ≡ changed_lists (undoes edit)
 
@@ -101,7 +101,7 @@ InversesChangeLists M = (blank : M) (root : Tree M) (before edited : PlainDoc Un
 -- away.
 abbrev pub NodesAreCounted : Type 0 → Type 0
 NodesAreCounted M = (blank : M) (doc made : PlainDoc M) (edit : Edit) →
-    IsTrue (is_element doc.root) → applied blank doc edit ≡ gives made →
+    IsTrue (is_element doc.root) → edit_outcome blank doc edit ≡ gives made →
     nodes_in made.root + nodes_taken edit ≡ nodes_in doc.root + nodes_made edit
 
 -- the outcome without the marks of its document
@@ -112,5 +112,5 @@ unmarked_outcome (refuses reason) = refuses reason
 -- An edit does the same whatever the marks of the document are, and has the same inverse.
 abbrev pub MarksDontCount : Type 0 → Type 0
 MarksDontCount M = (blank : M) (doc : PlainDoc M) (edit : Edit) →
-    (applied tt (unmarked_doc doc) edit ≡ unmarked_outcome (applied blank doc edit)) ×
+    (edit_outcome tt (unmarked_doc doc) edit ≡ unmarked_outcome (edit_outcome blank doc edit)) ×
     (inverse_of (unmarked_doc doc).root edit ≡ inverse_of doc.root edit)

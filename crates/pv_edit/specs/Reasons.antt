@@ -148,6 +148,6 @@ outcome (Some reason) doc = refuses reason
 outcome None doc = gives doc
 
 -- the document after an edit, or the first reason to refuse it
-abbrev pub applied : {M : Type 0} → M → PlainDoc M → Edit → Outcome M
-applied blank doc edit = outcome (reason_of blank doc.root edit)
+abbrev pub edit_outcome : {M : Type 0} → M → PlainDoc M → Edit → Outcome M
+edit_outcome blank doc edit = outcome (reason_of blank doc.root edit)
     (doc_after (change_of blank doc.root edit) doc)

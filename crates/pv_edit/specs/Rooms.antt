@@ -3,7 +3,7 @@ use Rattle.std.specs.Prelude.{◌≡◌, ◌≤◌, ℕ, ◌-◌, List, [], ◌�
 use Rattle.pv_tree.specs.Plain.{Tree}
 use Rattle.pv_tree.specs.Places.{kids_of, node_below}
 use Rattle.pv_edit.specs.Changes.{Change, list_after}
-use Rattle.pv_edit.specs.Fitting.{Takes}
+use Rattle.pv_edit.specs.Fitting.{TakesChange}
 use Rattle.pv_edit.specs.declared.rooms.Room.{Room}
 
 -- empty vectors, for a list whose vector has room for so many before the change
@@ -17,7 +17,7 @@ pub record HasRoom {M : Type 0} (room : Room) (had : ℕ) (c : Change M) (ts : L
 
 -- an element whose list can be changed in this room
 pub record TakesIn {M : Type 0} (room : Room) (c : Change M) (t : Tree M) : Type 0 where
-  pub takes : Takes c t
+  pub takes : TakesChange c t
   pub enough : HasRoom room (length (kids_of t)) c (kids_of t)
 
 -- the room that the vector of the list at a path has for sure; the document node has no vector

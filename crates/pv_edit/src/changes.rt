@@ -10,7 +10,7 @@ ghost use Rattle.pv_edit.specs.Brought.{BringsBare};
 ghost use Rattle.pv_edit.specs.Changes.{doc_after, root_after};
 ghost use Rattle.pv_edit.specs.Fitting.{CanChange, plain_task, plain_filling};
 ghost use Rattle.pv_edit.specs.Inverses.{IsKept, LeadsBack, inverse_of, doc_back};
-ghost use Rattle.pv_edit.specs.Reasons.{applied, gives, is_top, reason_of};
+ghost use Rattle.pv_edit.specs.Reasons.{edit_outcome, gives, is_top, reason_of};
 ghost use Rattle.pv_edit.specs.Preparations.{IsPreparation, IsTask};
 ghost use Rattle.pv_edit.specs.Refusals.{IsRefused};
 
@@ -45,7 +45,8 @@ pub fn prepare(alloc: Global, doc: &Doc, edit: &Edit) -> Result<Preparation, Edi
     ensures leads_back { IfOk result (λ ready. (made : PlainDoc Mark) →
         unmarked_doc made ≡ unmarked_doc (doc_after (plain_task ready.task) (plain_doc doc.now)) →
         LeadsBack ready.inverse made (unmarked_doc (plain_doc doc.now))) }
-    ensures refused { IfErr result (IsRefused (applied blank_mark (plain_doc doc.now) edit.now)) }
+    ensures refused { IfErr result (IsRefused
+        (edit_outcome blank_mark (plain_doc doc.now) edit.now)) }
 {
     first_reason(alloc, doc, edit)?;
     Ok(preparation_of(alloc, doc, edit)?)
@@ -76,13 +77,14 @@ pub fn prepare_back(alloc: Global, doc: &Doc, inverse: &Inverse) -> Result<Task,
 /// New elements have blank marks, and all other marks stay.
 pub fn apply(alloc: Global, doc: &mut Doc, edit: &Edit) -> Result<Inverse, EditError>
     requires { nodes_in (plain_doc doc.old).root < MAX_NODES }
-    ensures made { OnOk result (applied blank_mark (plain_doc doc.old) edit.now
+    ensures made { OnOk result (edit_outcome blank_mark (plain_doc doc.old) edit.now
         ≡ gives (plain_doc doc.new)) }
     ensures inverse { IfOk result (λ inverse. inverse
         ≡ inverse_of (plain_doc doc.old).root edit.now) }
     ensures leads_back { IfOk result (λ inverse. LeadsBack inverse (plain_doc doc.new)
         (unmarked_doc (plain_doc doc.old))) }
-    ensures refused { IfErr result (IsRefused (applied blank_mark (plain_doc doc.old) edit.now)) }
+    ensures refused { IfErr result (IsRefused
+        (edit_outcome blank_mark (plain_doc doc.old) edit.now)) }
     ensures unchanged { OnErr result (plain_doc doc.new ≡ plain_doc doc.old) }
 {
     let Preparation { task, inverse } = prepare(alloc, doc, edit)?;

@@ -125,7 +125,7 @@ fn put_in_place(kids: &mut Vec<Node>, mut middle: Vec<Node>, filling: Filling)
             move_behind(kids, &mut parts.kids);
         }
         Filling::Named(name) => {
-            let Parts {
+            let ElementParts {
                 attrs,
                 end,
                 kids: inner,
@@ -145,7 +145,7 @@ fn put_in_place(kids: &mut Vec<Node>, mut middle: Vec<Node>, filling: Filling)
 
 // An element, taken apart.
 #[derive(Drop)]
-struct Parts {
+struct ElementParts {
     name: Bytes,
     attrs: Bytes,
     end: End,
@@ -154,7 +154,7 @@ struct Parts {
 }
 
 // The parts of the only node, an element.
-fn element_parts(mut nodes: Vec<Node>) -> Parts
+fn element_parts(mut nodes: Vec<Node>) -> ElementParts
     requires { IsTrue (is_one_element (plain_all nodes.items)) }
     ensures { plain_all nodes.items ≡ element result.name result.attrs (plain_end result.end)
         (forest result.kids.items) result.mark ∷ [] }
@@ -171,7 +171,7 @@ fn element_parts(mut nodes: Vec<Node>) -> Parts
     else {
         unreachable!()
     };
-    Parts {
+    ElementParts {
         name,
         attrs,
         end,

@@ -4,7 +4,7 @@ ghost use Rattle.std.specs.Prelude.{◌≡◌, not, is_none, IfOk, IfSome};
 ghost use Rattle.pv_tree.specs.PlainDocs.{plain_doc};
 ghost use Rattle.pv_tree.specs.Places.{kids_of};
 ghost use Rattle.pv_tree.specs.PlainForms.{plain, plain_all};
-ghost use Rattle.pv_edit.specs.Effects.{next_of, parent_of, place_of, units_at, units_on};
+ghost use Rattle.pv_edit.specs.Effects.{next_of, parent_of, kid_place, units_at, units_on};
 ghost use Rattle.pv_edit.specs.Reasons.{is_spot, is_text, kids_at, lacks_element, lacks_list};
 ghost use Rattle.pv_edit.specs.Reasons.{lacks_node, lacks_text};
 ghost use Rattle.pv_edit.specs.Places.{IsInner, IsParted, first_spot};
@@ -56,7 +56,7 @@ pub(crate) fn text_at<'a>(doc: &'a Doc, path: &Path) -> Option<&'a Units>
 /// The path of the node whose kid stands at a path, and which of its kids that is.
 pub(crate) fn path_parts(path: &[u32]) -> (&[u32], usize)
     ensures parent { result.0.now ≡ parent_of path.now }
-    ensures place { result.1 ≡ place_of path.now }
+    ensures place { result.1 ≡ kid_place path.now }
 {
     match path {
         [list @ .., place] => (list, *place as usize),
@@ -91,7 +91,7 @@ pub(crate) fn part_at<'a>(
 ) -> (&'a [Node], &'a Node, &'a [Node])
     requires parent { parent.now ≡ parent_of path.now }
     requires there { IsInner path.now (plain_doc doc.now).root }
-    ensures { IsParted (kids_at (parent_of path.now) (plain_doc doc.now).root) (place_of path.now)
+    ensures { IsParted (kids_at (parent_of path.now) (plain_doc doc.now).root) (kid_place path.now)
         (plain_all result.0.now) (plain result.1.now) (plain_all result.2.now) }
 {
     let (front, rest) = kids_at(doc, parent).split_at(path_parts(path.places()).1);

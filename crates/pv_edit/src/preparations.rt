@@ -6,7 +6,7 @@ ghost use Rattle.pv_tree.specs.Places.{at_node, kids_of, spot_at};
 ghost use Rattle.pv_tree.specs.PlainDocs.{plain_doc};
 ghost use Rattle.pv_tree.specs.PlainForms.{plain};
 ghost use Rattle.pv_tree.specs.Marks.{blank_mark};
-ghost use Rattle.pv_edit.specs.Effects.{parent_of, place_of};
+ghost use Rattle.pv_edit.specs.Effects.{parent_of, kid_place};
 ghost use Rattle.pv_edit.specs.Inverses.{put_back};
 ghost use Rattle.pv_edit.specs.Reasons.{lacks_element, reason_of};
 ghost use Rattle.pv_edit.specs.Preparations.{IsPreparation};
@@ -123,7 +123,7 @@ fn prepare_unwrap(alloc: Global, doc: &Doc, path: &Path) -> Result<Preparation, 
 // What puts the kids of the element at a path back into it.
 fn put_back(alloc: Global, doc: &Doc, path: &Path) -> Result<Inverse, NoMemory>
     requires { lacks_element path.now (plain_doc doc.now).root ≡ false }
-    ensures { IfOk result (λ i. i ≡ put_back (parent_of path.now) (place_of path.now)
+    ensures { IfOk result (λ i. i ≡ put_back (parent_of path.now) (kid_place path.now)
         (spot_at path.now (plain_doc doc.now).root)) }
 {
     match doc.node_at(path) {
@@ -135,8 +135,8 @@ fn put_back(alloc: Global, doc: &Doc, path: &Path) -> Result<Inverse, NoMemory>
 // What puts an element's kids back into it, where it stood at this path.
 fn put_into(alloc: Global, path: &Path, node: &Node) -> Result<Inverse, NoMemory>
     requires elem { IsTrue (is_element (plain node.now)) }
-    requires fits { place_of path.now + length (kids_of (plain node.now)) < 4294967296 }
-    ensures { IfOk result (λ i. i ≡ put_back (parent_of path.now) (place_of path.now)
+    requires fits { kid_place path.now + length (kids_of (plain node.now)) < 4294967296 }
+    ensures { IfOk result (λ i. i ≡ put_back (parent_of path.now) (kid_place path.now)
         (Some (at_node (plain node.now)))) }
 {
     let from = last_place(path.places());

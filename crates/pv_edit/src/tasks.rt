@@ -5,7 +5,7 @@ ghost use Rattle.pv_tree.specs.Places.{spot_at};
 ghost use Rattle.pv_tree.specs.PlainDocs.{plain_doc};
 ghost use Rattle.pv_tree.specs.PlainForms.{plain, plain_end};
 ghost use Rattle.pv_edit.specs.Changes.{others};
-ghost use Rattle.pv_edit.specs.Effects.{fill, parent_of, place_of};
+ghost use Rattle.pv_edit.specs.Effects.{fill, parent_of, kid_place};
 ghost use Rattle.pv_edit.specs.Fitting.{plain_task, plain_filling};
 ghost use Rattle.pv_edit.specs.Inverses.{ends_short, is_short};
 
@@ -62,7 +62,7 @@ pub(crate) fn node_task(
 ) -> Result<Task, NoMemory>
     requires { count ≤ 2 }
     ensures { IfOk result (λ task. plain_task task ≡
-        fill (parent_of path.now) (place_of path.now) (place_of path.now + count)
+        fill (parent_of path.now) (kid_place path.now) (kid_place path.now + count)
         (plain_filling filling)) }
 {
     let from = last_place(path.places()) as usize;
@@ -80,7 +80,7 @@ pub(crate) fn node_task(
 
 /// Which of its parent's kids the node at a path is.
 pub(crate) fn last_place(path: &[u32]) -> u32
-    ensures { result ≡ place_of path.now }
+    ensures { result ≡ kid_place path.now }
 {
     match path {
         [.., place] => *place,

@@ -5,7 +5,7 @@ ghost use Rattle.pv_tree.specs.PlainDocs.{plain_doc};
 ghost use Rattle.pv_tree.specs.PlainForms.{plain_end};
 ghost use Rattle.pv_tree.specs.Marks.{blank_mark};
 ghost use Rattle.pv_edit.specs.Changes.{around, others};
-ghost use Rattle.pv_edit.specs.Effects.{fill, fill_node, one_text, parent_of, place_of};
+ghost use Rattle.pv_edit.specs.Effects.{fill, fill_node, one_text, parent_of, kid_place};
 ghost use Rattle.pv_edit.specs.Fitting.{plain_task, plain_filling};
 ghost use Rattle.pv_edit.specs.Preparations.{HasTexts, IsTask};
 
@@ -86,7 +86,7 @@ fn text_again(alloc: Global, text: &Units) -> Result<Filling, NoMemory>
 // A text that comes back before the kid at its place.
 fn restore_task(alloc: Global, path: &Path, text: &Units) -> Result<Task, NoMemory>
     ensures { IfOk result (λ task. plain_task task ≡
-        fill (parent_of path.now) (place_of path.now) (place_of path.now)
+        fill (parent_of path.now) (kid_place path.now) (kid_place path.now)
         (others (one_text text.now))) }
 {
     let place = last_place(path.places());

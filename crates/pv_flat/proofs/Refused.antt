@@ -10,7 +10,7 @@ use Rattle.pv_read.specs.Items.{Item, xml_declaration, doctype, comment_or_instr
 use Rattle.pv_read.specs.Kinds.{HasFault, IsOtherDoctype, doctype_name, may_stand_doctype, subset}
 use Rattle.pv_read.specs.Left.{Left, Open, in_content, in_epilog, in_prolog, joined_to, left_by}
 use Rattle.pv_read.specs.Meaning.{DocumentRestMeans, Outcome, ends, fault, faulty, is_document, item}
-use Rattle.pv_read.specs.Places.{content, place_of}
+use Rattle.pv_read.specs.Places.{content, place_reached}
 use Rattle.pv_read.specs.declared.errors.DocError.{DocError}
 use Rattle.pv_read.specs.declared.errors.DocError.TheVariants.{Deep, DoctypeName, Entity, Limit, Mismatch, NoMemory, Subset, Syntax}
 use Rattle.pv_read.proofs.Prologs.{by_test, same_some}
@@ -112,7 +112,7 @@ ends-behind root before rest k e (in_epilog b t after) h =
     (document b t rest, subst (λ l. DocumentRestMeans None blank_mark root k (in_epilog b t l) rest (is_document (document b t rest))) (sym h.2) (e b t), sym (append-nil (events_of t)), h.0, refl)
 
 -- where an item is to stand
-pub place-is : (before name : List ℕ) (names outer : List (List ℕ)) (many : ℕ) → names ≡ name ∷ outer → many ≡ length names → (left : Left Mark) → IsIn before names left → place_of left ≡ content name many
+pub place-is : (before name : List ℕ) (names outer : List (List ℕ)) (many : ℕ) → names ≡ name ∷ outer → many ≡ length names → (left : Left Mark) → IsIn before names left → place_reached left ≡ content name many
 place-is before name names outer many is count (in_prolog stage b) h = absurd h
 place-is before name names outer many is count (in_epilog b t after) h = let none = h.1 in absurd (cc)
 place-is before name names outer many is count (in_content b inner o) h =

@@ -10,7 +10,7 @@ use Rattle.pv_read.specs.Items.{Item, xml_declaration, doctype, comment_or_instr
 use Rattle.pv_read.specs.Left.{Left, Open, in_content, left_by}
 use Rattle.pv_read.specs.Meaning.{DocumentRestMeans}
 use Rattle.pv_read.specs.PlainItems.{plain_item}
-use Rattle.pv_read.specs.Places.{content, may_stand_in_content, place_of}
+use Rattle.pv_read.specs.Places.{content, may_stand_in_content, place_reached}
 use Rattle.pv_read.specs.Steps.{TakesItem}
 use Rattle.pv_read.specs.declared.errors.DocError.{DocError}
 use Rattle.pv_read.specs.declared.errors.DocError.TheVariants.{Deep, DoctypeName, Entity, Limit, Mismatch, NoMemory, Subset, Syntax}
@@ -98,12 +98,12 @@ stands-inside s name i more n taken =
 
 -- what is read in the innermost element
 pub read-inside : (s : Events) (name : List ℕ) (many : ℕ) (r : Result (SpannedItem × Bor (List ℕ)) DocError) → IsInnermost s name → many ≡ length (open_names s) →
-    IfOk r (λ x. (left : Left Mark) → place_of left ≡ content name many → TakesItem None blank_mark s.root left s.rest.now (plain_item x.0) x.1.now) → IfOk r (λ x. TakesInside s (plain_item x.0) x.1.now)
+    IfOk r (λ x. (left : Left Mark) → place_reached left ≡ content name many → TakesItem None blank_mark s.root left s.rest.now (plain_item x.0) x.1.now) → IfOk r (λ x. TakesInside s (plain_item x.0) x.1.now)
 read-inside s name many (Ok x) n count taken = λ left h. taken left (place-is s.before.now name (open_names s) n.0 many n.1 count left h)
 read-inside s name many (Err e) n count taken = tt
 
 pub refused-in-place : (s : Events) (name : List ℕ) (many : ℕ) (r : Result (SpannedItem × Bor (List ℕ)) DocError) → IsInnermost s name → many ≡ length (open_names s) →
-    IfErr r (λ e. (left : Left Mark) → place_of left ≡ content name many → Refuses (DocumentRestMeans None blank_mark s.root s.count left s.rest.now) e) →
+    IfErr r (λ e. (left : Left Mark) → place_reached left ≡ content name many → Refuses (DocumentRestMeans None blank_mark s.root s.count left s.rest.now) e) →
     IfErr r (λ e. (left : Left Mark) → IsIn s.before.now (open_names s) left → Refuses (DocumentRestMeans None blank_mark s.root s.count left s.rest.now) e)
 refused-in-place s name many (Ok x) n count refused = tt
 refused-in-place s name many (Err e) n count refused = λ left h. refused left (place-is s.before.now name (open_names s) n.0 many n.1 count left h)

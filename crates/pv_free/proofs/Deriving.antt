@@ -10,7 +10,7 @@ use Rattle.pv_rules.specs.Sites.{PlainSite, content_site, name_site, part_site, 
 use Rattle.pv_rules.proofs.Derived.{held}
 use Rattle.pv_rules.specs.Deriving.{DerivesAt}
 use Rattle.pv_free.specs.Laws.{LiveDerivesNothing}
-use Rattle.pv_free.specs.Live.{AreLive, IsLive, IsLiveToken, live_any, live_children, live_choice, live_empty, live_last, live_mixed, live_name, live_opt, live_part, live_plus, live_rest, live_seq, live_star}
+use Rattle.pv_free.specs.Live.{AreLive, IsLiveSite, IsLiveToken, live_any, live_children, live_choice, live_empty, live_last, live_mixed, live_name, live_opt, live_part, live_plus, live_rest, live_seq, live_star}
 use Rattle.pv_free.specs.Takes.{Takes, takes_any_name, takes_any_text, takes_children, takes_choice, takes_first, takes_kept, takes_last, takes_later, takes_missing, takes_mixed_name, takes_mixed_text, takes_opt, takes_part, takes_plus, takes_seq, takes_star}
 
 pub all_at : {A : Type 0} (P : A → Type 0) (xs : List A) (i : ℕ) (x : A) → AllByRecursion P xs → slice_get xs i ≡ Some x → P x
@@ -33,7 +33,7 @@ module _ (g : PlainDtd) (w : List PlainToken) where
         (one_more (n + m) n m (over a i k) (over b k j ∷ []) refl d (one_more m m 0 (over b k j) [] (omega arith) f (none_left 0 refl))),
   )
 
-  pub live_derives : (s : PlainSite) (i : ℕ) → i ≤ length w → IsLive g s → DerivesAt g w s i i
+  pub live_derives : (s : PlainSite) (i : ℕ) → i ≤ length w → IsLiveSite g s → DerivesAt g w s i i
   live_derives s i l (live_name x v) = one (name_site x) (content_site x) i i i i 1 (missing x i i (omega arith, l)) (live_derives (content_site x) i l v)
   live_derives s i l (live_empty x m) = none (content_site x) i i 0 (empty_none x i l m)
   live_derives s i l (live_mixed x ys m) = none (content_site x) i i 0 (mixed_none x i ys l m)
@@ -52,7 +52,7 @@ module _ (g : PlainDtd) (w : List PlainToken) where
       (live_derives (rest_site (q + parts_in p)) i l u)
 
   module _ (live : AreLive g w) where
-    pub live_closed : (x : Goal) (c : ℕ) (xs : List Goal) → Rule g w x c xs → AllByRecursion (λ (y : Goal). IsLive g y.site) xs → IsLive g x.site
+    pub live_closed : (x : Goal) (c : ℕ) (xs : List Goal) → Rule g w x c xs → AllByRecursion (λ (y : Goal). IsLiveSite g y.site) xs → IsLiveSite g x.site
     live_closed x c xs (kept y i f) a = all_at (IsLiveToken g) w i (named y) live f
     live_closed x c xs (missing y i j l) a = live_name y a.0
     live_closed x c xs (empty_none y i l m) a = live_empty y m
@@ -75,8 +75,8 @@ module _ (g : PlainDtd) (w : List PlainToken) where
     live_closed x c xs (rest_last q i j p l e) a = live_last q p e a.0
     live_closed x c xs (rest_then q i k j p r ps l h n e) a = live_rest q p r ps e a.0 a.1.0
 
-    pub derives_live : (s : PlainSite) (i j : ℕ) → DerivesAt g w s i j → IsLive g s
-    derives_live s i j (n, d) = held (Rule g w) (λ (y : Goal). IsLive g y.site) live_closed n (over s i j) d
+    pub derives_live : (s : PlainSite) (i j : ℕ) → DerivesAt g w s i j → IsLiveSite g s
+    derives_live s i j (n, d) = held (Rule g w) (λ (y : Goal). IsLiveSite g y.site) live_closed n (over s i j) d
 
   -- a taken token is derived
   pub takes_derives : (i : ℕ) (t : PlainToken) → slice_get w i ≡ Some t → suc i ≤ length w → (s : PlainSite) → Takes g t s → DerivesAt g w s i (suc i)

@@ -5,7 +5,7 @@ use Rattle.pv_model.specs.Plain.{named, no_parts, opt, part, plus, seq, star}
 use Rattle.pv_dtd.specs.Plain.{PlainDtd, model_of, parts_in}
 use Rattle.pv_rules.specs.Numbering.{IsMemberAt, first_part, part_at, rest_at}
 use Rattle.pv_rules.specs.Sites.{PlainSite, content_site, name_site, part_site, rest_site}
-use Rattle.pv_free.specs.Live.{IsLive}
+use Rattle.pv_free.specs.Live.{IsLiveSite}
 use Rattle.pv_free.specs.Takes.{Takes, TakesAll}
 
 -- What repeats is free. A sequence is free by one free member that takes all that the whole takes,
@@ -29,15 +29,16 @@ pub data IsFree (g : PlainDtd) : PlainSite → Type 0 where
   free_opt : (q : ℕ) (p : PlainPart) → part_at g q ≡ Some (opt p) → IsFree g (part_site (suc q)) →
       IsFree g (part_site q)
   free_star : (q : ℕ) (p : PlainPart) → part_at g q ≡ Some (star p) → IsFree g (part_site q)
-  free_plus : (q : ℕ) (p : PlainPart) → part_at g q ≡ Some (plus p) → IsLive g (part_site (suc q)) →
+  free_plus : (q : ℕ) (p : PlainPart) → part_at g q ≡ Some (plus p) →
+      IsLiveSite g (part_site (suc q)) →
       IsFree g (part_site q)
   free_last : (q : ℕ) (p : PlainPart) → rest_at g q ≡ Some (part p no_parts) →
       IsFree g (part_site q) → IsFree g (rest_site q)
   free_first : (q : ℕ) (p r : PlainPart) (ps : PlainParts) →
       rest_at g q ≡ Some (part p (part r ps)) →
-      IsFree g (part_site q) → IsLive g (rest_site (q + parts_in p)) →
+      IsFree g (part_site q) → IsLiveSite g (rest_site (q + parts_in p)) →
       TakesAll g (rest_site q) (part_site q) → IsFree g (rest_site q)
   free_later : (q : ℕ) (p r : PlainPart) (ps : PlainParts) →
       rest_at g q ≡ Some (part p (part r ps)) →
-      IsLive g (part_site q) → IsFree g (rest_site (q + parts_in p)) →
+      IsLiveSite g (part_site q) → IsFree g (rest_site (q + parts_in p)) →
       TakesAll g (rest_site q) (rest_site (q + parts_in p)) → IsFree g (rest_site q)

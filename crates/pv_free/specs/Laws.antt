@@ -7,19 +7,19 @@ use Rattle.pv_dtd.specs.Proper.{IsProperDtd}
 use Rattle.pv_rules.specs.Sites.{PlainSite, content_site, name_site}
 use Rattle.pv_rules.specs.Deriving.{DerivesAt}
 use Rattle.pv_free.specs.Free.{IsFree}
-use Rattle.pv_free.specs.Live.{AreLive, IsLive}
+use Rattle.pv_free.specs.Live.{AreLive, IsLiveSite}
 use Rattle.pv_free.specs.Runs.{IsFirstNotTaken, IsFurthestEnd}
 use Rattle.pv_free.specs.Takes.{Takes, TakesEach}
 
 -- a site is live exactly where it derives the empty span, at any place of any word of live names
 abbrev pub LiveDerivesNothing : Type 0
 LiveDerivesNothing = (g : PlainDtd) (w : List PlainToken) → AreLive g w → (s : PlainSite) (i : ℕ) →
-    i ≤ length w → DerivesAt g w s i i ↔ IsLive g s
+    i ≤ length w → DerivesAt g w s i i ↔ IsLiveSite g s
 
 -- a site that derives anything is live, and takes each token of what it derives
 abbrev pub DerivedAreTaken : Type 0
 DerivedAreTaken = (g : PlainDtd) (w : List PlainToken) → AreLive g w → (s : PlainSite) (i j : ℕ) →
-    DerivesAt g w s i j → IsLive g s × TakesEach g w s i j
+    DerivesAt g w s i j → IsLiveSite g s × TakesEach g w s i j
 
 -- a site takes a token exactly where it derives that one
 abbrev pub TakesDerivesOne : Type 0
@@ -39,4 +39,5 @@ FreeFurthest = (g : PlainDtd) (w : List PlainToken) → AreLive g w → (s : Pla
 -- a name and its content are live exactly where the name is productive
 abbrev pub LiveIsProductive : Type 0
 LiveIsProductive = (g : PlainDtd) (y : ℕ) → IsProperDtd g →
-    (IsProductive g y ↔ IsLive g (name_site y)) × (IsProductive g y ↔ IsLive g (content_site y))
+    (IsProductive g y ↔ IsLiveSite g (name_site y)) ×
+    (IsProductive g y ↔ IsLiveSite g (content_site y))

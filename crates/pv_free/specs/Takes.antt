@@ -5,7 +5,7 @@ use Rattle.pv_model.specs.Plain.{name, named, no_parts, opt, part, plus, seq, st
 use Rattle.pv_dtd.specs.Plain.{IsDeclared, PlainDtd, model_of, parts_in}
 use Rattle.pv_rules.specs.Numbering.{IsMemberAt, first_part, part_at, rest_at}
 use Rattle.pv_rules.specs.Sites.{PlainSite, content_site, name_site, part_site, rest_site}
-use Rattle.pv_free.specs.Live.{IsLive}
+use Rattle.pv_free.specs.Live.{IsLiveSite}
 
 -- A name takes itself, and what its content takes. A site takes what one within it takes, where
 -- those beside that are live.
@@ -37,10 +37,10 @@ pub data Takes (g : PlainDtd) (t : PlainToken) : PlainSite → Type 0 where
       Takes g t (part_site q) → Takes g t (rest_site q)
   takes_first : (q : ℕ) (p r : PlainPart) (ps : PlainParts) →
       rest_at g q ≡ Some (part p (part r ps)) →
-      Takes g t (part_site q) → IsLive g (rest_site (q + parts_in p)) → Takes g t (rest_site q)
+      Takes g t (part_site q) → IsLiveSite g (rest_site (q + parts_in p)) → Takes g t (rest_site q)
   takes_later : (q : ℕ) (p r : PlainPart) (ps : PlainParts) →
       rest_at g q ≡ Some (part p (part r ps)) →
-      IsLive g (part_site q) → Takes g t (rest_site (q + parts_in p)) → Takes g t (rest_site q)
+      IsLiveSite g (part_site q) → Takes g t (rest_site (q + parts_in p)) → Takes g t (rest_site q)
 
 -- the site takes each token of the span
 abbrev pub TakesEach : PlainDtd → List PlainToken → PlainSite → ℕ → ℕ → Type 0

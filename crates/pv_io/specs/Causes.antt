@@ -4,8 +4,8 @@ use Rattle.std.specs.Prelude.{Result, Ok, Err, MatchResult, Option}
 use Rattle.std.specs.Io.KnownBytes.{Appends}
 
 -- a count after one more, which stops at its last value
-abbrev pub one_more : ℕ → ℕ
-one_more count = min (count + 1) (2 ^ 64 - 1)
+abbrev pub next_count : ℕ → ℕ
+next_count count = min (count + 1) (2 ^ 64 - 1)
 
 -- a count stays
 abbrev pub CountStays : ℕ → ℕ → Type 0
@@ -13,7 +13,7 @@ CountStays before now = now ≡ before
 
 -- a count rose, or stands at its last value
 abbrev pub Rose : ℕ → ℕ → Type 0
-Rose before now = (before ≤ now) × (one_more before ≤ now)
+Rose before now = (before ≤ now) × (next_count before ≤ now)
 
 -- So many calls were made, by two counts of calls that are compared up to the last value that a
 -- count can have.

@@ -1,7 +1,7 @@
 -- Devices in memory, as their callers see them.
 use Rattle.std.specs.Prelude.{ℕ, ◌≤◌, List, length, Contains, Bool, if◌then◌else◌, Option, Some}
 use Rattle.std.specs.Prelude.{None}
-use Rattle.pv_io.specs.Causes.{one_more}
+use Rattle.pv_io.specs.Causes.{next_count}
 
 -- the numbers, from 0, of the calls that fail, how many calls were made, and how many faults were
 -- counted
@@ -18,8 +18,8 @@ no_calls failing = record { failing = failing; made = 0; faults = 0 }
 abbrev pub after_call : Bool → CallCount → CallCount
 after_call failed calls = record {
   failing = calls.failing;
-  made = one_more calls.made;
-  faults = if failed then one_more calls.faults else calls.faults;
+  made = next_count calls.made;
+  faults = if failed then next_count calls.faults else calls.faults;
 }
 
 -- a source in memory: the bytes that are left, the most bytes of a call, and how many calls gave no

@@ -4,7 +4,7 @@ ghost use Rattle.std.specs.Prelude.{◌≡◌, ◌≤◌, if◌then◌else◌, i
 ghost use Rattle.std.specs.Io.{ReadsAtMost};
 ghost use Rattle.std.specs.Io.KnownBytes.{ReadConsumes, WriteAppends};
 ghost use Rattle.pv_io.specs.Causes.{CountsFault, MadeCalls, TakesSome, WasAsked, empty_in};
-ghost use Rattle.pv_io.specs.Causes.{never_asked, one_more};
+ghost use Rattle.pv_io.specs.Causes.{never_asked, next_count};
 ghost use Rattle.pv_io.specs.Files.{fetch_names, FetchCountsFault, is_fault};
 
 use crate::shelf::{FetchError, Shelf};
@@ -58,7 +58,7 @@ impl<R: Read> Source for ReadSource<R> {
             (record { calls = self.old.calls; empty = self.old.empty })
             (record { calls = self.new.calls; empty = self.new.empty }) }
 
-        ensures counted { self.new.faults ≡ (if is_err result then one_more self.old.faults
+        ensures counted { self.new.faults ≡ (if is_err result then next_count self.old.faults
             else self.old.faults) }
     {
         self.calls = self.calls.saturating_add(1);
@@ -105,7 +105,7 @@ impl<W: Write> Sink for WriteSink<W> {
             result piece.now }
         ensures cause { CountsFault self.old.faults self.new.faults result }
 
-        ensures counted { self.new.faults ≡ (if is_err result then one_more self.old.faults
+        ensures counted { self.new.faults ≡ (if is_err result then next_count self.old.faults
             else self.old.faults) }
     {
         match self.writer.write(piece) {
@@ -185,7 +185,7 @@ impl<'a, R: Files> Shelf for FolderShelf<'a, R> {
         ensures calls { MadeCalls 1 self.old.calls self.new.calls }
         ensures names { self.new.names ≡ self.old.names }
 
-        ensures counted { self.new.faults ≡ (if is_fault result then one_more self.old.faults
+        ensures counted { self.new.faults ≡ (if is_fault result then next_count self.old.faults
             else self.old.faults) }
     {
         self.calls = self.calls.saturating_add(1);

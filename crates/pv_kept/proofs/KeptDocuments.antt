@@ -10,13 +10,13 @@ use Rattle.pv_kept.specs.Comparing.{AgreesWith, ArePartsOf, IsCompared}
 use Rattle.pv_kept.specs.Kept.{IsBodyText, KeepsDocument}
 use Rattle.pv_kept.specs.LeftOut.{EventsLeaveOut, LeavesEvents}
 use Rattle.pv_kept.specs.declared.comparing.Compared.{Compared}
-use Rattle.pv_kept.specs.declared.reading.Parts.{Parts}
+use Rattle.pv_kept.specs.declared.reading.EventParts.{EventParts}
 use Rattle.pv_kept.proofs.UnitTexts.{body-texts}
 
 same-doc : DocumentsMeanOne → (root bytes : List ℕ) (a b : PlainDoc Mark) → IsBodyText root bytes a → IsBodyText root bytes b → a ≡ b
 same-doc one root bytes a b p q = let e : is_document a ≡ is_document b = one flat_limits root bytes (is_document a) (is_document b) p q in cc
 
-module _ (agree : GrammarsAgree) (one : DocumentsMeanOne) (leave : EventsLeaveOut) (root doc body marks : List ℕ) (parts : Parts) (found : Compared) (p : ArePartsOf root doc parts)
+module _ (agree : GrammarsAgree) (one : DocumentsMeanOne) (leave : EventsLeaveOut) (root doc body marks : List ℕ) (parts : EventParts) (found : Compared) (p : ArePartsOf root doc parts)
     (q : IsCompared root body marks (map plain_event parts.events.items) found) where
   first-whole : LeavesEvents marks (events_of q.doc.root) (events_of p.doc.root) → IsTrue found.leaves
   first-whole l = q.leaves.1 (subst (LeavesEvents marks (events_of q.doc.root)) p.is_events l)

@@ -9,7 +9,7 @@ use Rattle.pv_kept.specs.LeftOut.{LeavesEvents, bytewise, kept_events, marks_lef
 use Rattle.pv_kept.specs.Walking.{kept_from, left_from}
 use Rattle.pv_kept.specs.Wanting.{wanted_events}
 use Rattle.pv_kept.specs.declared.comparing.Comparison.{Comparison}
-use Rattle.pv_kept.specs.declared.reading.Parts.{Parts}
+use Rattle.pv_kept.specs.declared.reading.EventParts.{EventParts}
 use Rattle.pv_kept.specs.declared.comparing.Compared.{Compared}
 
 -- Behind these events of the one document, with these marks, what stays of them was compared with
@@ -29,7 +29,7 @@ pub record ComparesBy (e : PlainEvent) (old new : Comparison) : Type 0 where
   pub next : new.tags.next ≤ suc old.tags.next
 
 -- These are the parts of the document that the bytes are, by its events.
-pub record ArePartsOf (root bytes : List ℕ) (parts : Parts) : Type 0 where
+pub record ArePartsOf (root bytes : List ℕ) (parts : EventParts) : Type 0 where
   pub doc : PlainDoc Mark
   pub is_text : IsBodyText root bytes doc
   pub is_before : doc.before ≡ parts.before.now
@@ -46,7 +46,7 @@ pub record IsCompared (root bytes marks : List ℕ) (other : List PlainEvent) (f
   pub leaves : IsTrue found.leaves ↔ LeavesEvents marks (events_of doc.root) other
 
 -- what is left of the one document is the other, and the same stands around their roots
-abbrev pub AgreesWith : Compared → Parts → Type 0
+abbrev pub AgreesWith : Compared → EventParts → Type 0
 AgreesWith found parts =
     IsTrue found.leaves × (found.before.now ≡ parts.before.now) ×
     (found.after.now ≡ parts.after.now)

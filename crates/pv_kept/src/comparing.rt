@@ -13,7 +13,7 @@ ghost use Rattle.pv_kept.specs.Kept.{IsBodyText, KeepsDocument};
 ghost use Rattle.pv_kept.specs.LeftOut.{LeavesEvents};
 
 use crate::laws::events_leave_out_law;
-use crate::reading::Parts;
+use crate::reading::EventParts;
 use crate::tags::Tags;
 use crate::wanted::Wanted;
 use pv_chars::NoMemory;
@@ -110,7 +110,7 @@ impl<'a> Compared<'a> {
     }
 
     // Whether the other document, by its parts, is what is left of this one.
-    fn agrees(&self, parts: &Parts<'_>) -> bool
+    fn agrees(&self, parts: &EventParts<'_>) -> bool
         ensures { IsTrue result ↔ AgreesWith self.now parts.now }
     {
         self.leaves && self.before == parts.before && self.after == parts.after
@@ -136,7 +136,7 @@ pub fn is_kept(
         Refuses (DocumentMeansWithin flat_limits blank_mark root.now doc.now) error ⊎
         Refuses (DocumentMeansWithin flat_limits blank_mark root.now body.now) error) }
 {
-    let parts = Parts::of(alloc, root, doc)?;
+    let parts = EventParts::of(alloc, root, doc)?;
     let found = Compared::of(alloc, root, body, marks, &parts.events)?;
     agreement_law();
     one_meaning_law();

@@ -53,17 +53,17 @@ pub fn plain_elements(alloc: Global, root: &[u8], bytes: &[u8]) -> Result<Vec<bo
 
 /// A document by its events: the bytes before its root, the events, and the bytes behind it.
 #[derive(Drop)]
-pub struct Parts<'a> {
+pub struct EventParts<'a> {
     pub before: &'a [u8],
     pub events: Vec<Event<'a>>,
     pub after: &'a [u8],
 }
 
-impl<'a> Parts<'a> {
+impl<'a> EventParts<'a> {
     ghost use Rattle.pv_kept.specs.Comparing.{ArePartsOf};
 
     /// Those of the document that the bytes are.
-    pub fn of(alloc: Global, root: &[u8], bytes: &'a [u8]) -> Result<Parts<'a>, DocError>
+    pub fn of(alloc: Global, root: &[u8], bytes: &'a [u8]) -> Result<EventParts<'a>, DocError>
         ensures read { IfOk result (λ parts. ArePartsOf root.now bytes.now parts) }
         ensures refused { IfErr result (λ error.
             Refuses (DocumentMeansWithin flat_limits blank_mark root.now bytes.now) error) }
@@ -73,7 +73,7 @@ impl<'a> Parts<'a> {
         'events: while let Some(event) = events.next()? {
             found.push(event)?;
         }
-        Ok(Parts {
+        Ok(EventParts {
             before: events.before(),
             events: found,
             after: events.rest(),

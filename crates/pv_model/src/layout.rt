@@ -17,7 +17,7 @@ use std::alloc::Global;
 ///
 /// The places of a pair's second member begin at its middle.
 #[derive(Debug, Drop)]
-pub enum Layout {
+pub enum ModelLayout {
     Nothing,
     Blank,
     Name {
@@ -28,52 +28,52 @@ pub enum Layout {
         middle: usize,
         first_may_be_empty: bool,
         second_may_be_empty: bool,
-        first: Box<Layout>,
-        second: Box<Layout>,
+        first: Box<ModelLayout>,
+        second: Box<ModelLayout>,
     },
     Either {
         middle: usize,
-        first: Box<Layout>,
-        second: Box<Layout>,
+        first: Box<ModelLayout>,
+        second: Box<ModelLayout>,
     },
-    Opt(Box<Layout>),
+    Opt(Box<ModelLayout>),
     Plus {
         place: usize,
-        member: Box<Layout>,
+        member: Box<ModelLayout>,
     },
 }
 
-impl Layout {
+impl ModelLayout {
     /// Whether the empty word is a word of the particle.
     pub fn may_be_empty(&self) -> bool
         ensures { result ≡ has_empty_word (plain_layout self.now) }
     {
         match self {
-            Layout::Nothing => false,
-            Layout::Blank => true,
-            Layout::Name { .. } => false,
-            Layout::InOrder {
+            ModelLayout::Nothing => false,
+            ModelLayout::Blank => true,
+            ModelLayout::Name { .. } => false,
+            ModelLayout::InOrder {
                 first_may_be_empty,
                 second_may_be_empty,
                 ..
             } => *first_may_be_empty && *second_may_be_empty,
-            Layout::Either { first, second, .. } => {
+            ModelLayout::Either { first, second, .. } => {
                 first.may_be_empty() || second.may_be_empty()
             }
-            Layout::Opt(_) => true,
-            Layout::Plus { member, .. } => member.may_be_empty(),
+            ModelLayout::Opt(_) => true,
+            ModelLayout::Plus { member, .. } => member.may_be_empty(),
         }
     }
 }
 
 /// Lays the part out, and adds its places.
 #[cycle(lay_out)]
-pub fn lay_out(alloc: Global, part: &Part, places: &mut Places) -> Result<Layout, NoMemory>
+pub fn lay_out(alloc: Global, part: &Part, places: &mut Places) -> Result<ModelLayout, NoMemory>
     ensures { IfOk result
         (λ l. IsLaidOut (plain_part part.now) (plain_layout l) places.old places.new) }
 {
     match part {
-        Part::Name(name) => Ok(Layout::Name {
+        Part::Name(name) => Ok(ModelLayout::Name {
             place: places.add_name(alloc, name.0)?,
             name: name.0,
         }),
@@ -81,43 +81,47 @@ pub fn lay_out(alloc: Global, part: &Part, places: &mut Places) -> Result<Layout
         Part::Choice(parts) => lay_out_choice(alloc, parts, places),
         Part::Opt(inner) => {
             let member = lay_out(alloc, inner, places)?;
-            Ok(Layout::Opt(Box::new(alloc, member)?))
+            Ok(ModelLayout::Opt(Box::new(alloc, member)?))
         }
         Part::Star(inner) => {
             let rounds = lay_out_rounds(alloc, inner, places)?;
-            Ok(Layout::Opt(Box::new(alloc, rounds)?))
+            Ok(ModelLayout::Opt(Box::new(alloc, rounds)?))
         }
         Part::Plus(inner) => lay_out_rounds(alloc, inner, places),
     }
 }
 
 #[cycle(lay_out)]
-fn lay_out_rounds(alloc: Global, inner: &Part, places: &mut Places) -> Result<Layout, NoMemory>
+fn lay_out_rounds(alloc: Global, inner: &Part, places: &mut Places) -> Result<ModelLayout, NoMemory>
     ensures { IfOk result (λ l.
         IsLaidOut (plus (plain_part inner.now)) (plain_layout l) places.old places.new) }
 {
     let member = lay_out(alloc, inner, places)?;
     let place = places.add()?;
-    Ok(Layout::Plus {
+    Ok(ModelLayout::Plus {
         place,
         member: Box::new(alloc, member)?,
     })
 }
 
 #[cycle(lay_out)]
-fn lay_out_in_order(alloc: Global, parts: &[Part], places: &mut Places) -> Result<Layout, NoMemory>
+fn lay_out_in_order(
+    alloc: Global,
+    parts: &[Part],
+    places: &mut Places,
+) -> Result<ModelLayout, NoMemory>
     ensures { IfOk result (λ l.
         IsLaidOut (seq (plain_parts parts.now)) (plain_layout l) places.old places.new) }
 {
     match parts {
-        [] => Ok(Layout::Blank),
+        [] => Ok(ModelLayout::Blank),
         [only] => lay_out(alloc, only, places),
         _ => {
             let (front, back) = parts.split_at(parts.len() / 2);
             let first = lay_out_in_order(alloc, front, places)?;
             let middle = places.count();
             let second = lay_out_in_order(alloc, back, places)?;
-            Ok(Layout::InOrder {
+            Ok(ModelLayout::InOrder {
                 middle,
                 first_may_be_empty: first.may_be_empty(),
                 second_may_be_empty: second.may_be_empty(),
@@ -129,19 +133,23 @@ fn lay_out_in_order(alloc: Global, parts: &[Part], places: &mut Places) -> Resul
 }
 
 #[cycle(lay_out)]
-fn lay_out_choice(alloc: Global, parts: &[Part], places: &mut Places) -> Result<Layout, NoMemory>
+fn lay_out_choice(
+    alloc: Global,
+    parts: &[Part],
+    places: &mut Places,
+) -> Result<ModelLayout, NoMemory>
     ensures { IfOk result (λ l.
         IsLaidOut (choice (plain_parts parts.now)) (plain_layout l) places.old places.new) }
 {
     match parts {
-        [] => Ok(Layout::Nothing),
+        [] => Ok(ModelLayout::Nothing),
         [only] => lay_out(alloc, only, places),
         _ => {
             let (front, back) = parts.split_at(parts.len() / 2);
             let first = lay_out_choice(alloc, front, places)?;
             let middle = places.count();
             let second = lay_out_choice(alloc, back, places)?;
-            Ok(Layout::Either {
+            Ok(ModelLayout::Either {
                 middle,
                 first: Box::new(alloc, first)?,
                 second: Box::new(alloc, second)?,

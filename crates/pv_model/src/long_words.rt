@@ -5,7 +5,7 @@ ghost use Rattle.pv_model.specs.Models.{IsOfChildren};
 ghost use Rattle.pv_model.specs.PlainForms.{plain_layout, plain_part, plain_token};
 ghost use Rattle.pv_model.specs.LaidOut.{HasPlaces, HasTokens};
 
-use crate::layout::{Layout, lay_out};
+use crate::layout::{ModelLayout, lay_out};
 use crate::models::{NoMemory, Part, Token};
 use crate::places::Places;
 use crate::reach::advance;
@@ -25,7 +25,7 @@ pub fn has_long_word(alloc: Global, part: &Part, word: &[Token]) -> Result<bool,
 /// Whether the particle that is laid out has the word.
 fn has_tokens(
     alloc: Global,
-    layout: &Layout,
+    layout: &ModelLayout,
     places: &Places,
     word: &[Token],
 ) -> Result<bool, NoMemory>

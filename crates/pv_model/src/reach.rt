@@ -5,7 +5,7 @@ ghost use Rattle.std.specs.Prelude.{false};
 ghost use Rattle.pv_model.specs.PlainForms.{plain_layout};
 ghost use Rattle.pv_model.specs.Layouts.{AdvancesFrom, IsSplit, repeated};
 
-use crate::layout::Layout;
+use crate::layout::ModelLayout;
 use crate::models::NoMemory;
 
 /// Whether the names before one more name were a word of a particle, and whether they are one with
@@ -66,7 +66,7 @@ impl Ends {
 /// the name. So the steps are those from the top to the places that are given.
 #[cycle(advance)]
 pub fn advance(
-    layout: &Layout,
+    layout: &ModelLayout,
     entered: bool,
     name: u32,
     reached: &[usize],
@@ -81,14 +81,14 @@ pub fn advance(
         return Ok(Ends::none());
     }
     match layout {
-        Layout::Nothing => Ok(Ends::none()),
-        Layout::Blank => Ok(Ends::none()),
-        Layout::Name { place, name: own } => {
+        ModelLayout::Nothing => Ok(Ends::none()),
+        ModelLayout::Blank => Ok(Ends::none()),
+        ModelLayout::Name { place, name: own } => {
             let is_end = entered && *own == name;
             let ends = end_at(*place, !reached.is_empty(), is_end, next)?;
             Ok(ends)
         }
-        Layout::InOrder {
+        ModelLayout::InOrder {
             middle,
             first_may_be_empty,
             second_may_be_empty,
@@ -102,7 +102,7 @@ pub fn advance(
             let back = advance(second, enters, name, reached_second, called_second, next)?;
             Ok(front.followed_by(back, *second_may_be_empty))
         }
-        Layout::Either {
+        ModelLayout::Either {
             middle,
             first,
             second,
@@ -113,11 +113,11 @@ pub fn advance(
             let back = advance(second, entered, name, reached_second, called_second, next)?;
             Ok(front.or(back))
         }
-        Layout::Opt(member) => {
+        ModelLayout::Opt(member) => {
             let ends = advance(member, entered, name, reached, called, next)?;
             Ok(ends)
         }
-        Layout::Plus { place, member } => {
+        ModelLayout::Plus { place, member } => {
             let (inner, own) = split(reached, *place);
             let was_end = !own.is_empty();
             let round = advance(member, entered || was_end, name, inner, called, next)?;

@@ -16,7 +16,7 @@ use Rattle.pv_edit.specs.ChangedLists.{changed_lists, makes}
 use Rattle.pv_edit.specs.Changes.{doc_after, in_place_of, list_after, root_after, with_name}
 use Rattle.pv_edit.specs.Effects.{change_of}
 use Rattle.pv_edit.specs.Given.{is_new_name}
-use Rattle.pv_edit.specs.Reasons.{Outcome, applied, gives, goes_too_deep, is_top, kids_at, lacks_element, lacks_list, lacks_node, outcome, reason_of, refuses, unless}
+use Rattle.pv_edit.specs.Reasons.{Outcome, edit_outcome, gives, goes_too_deep, is_top, kids_at, lacks_element, lacks_list, lacks_node, outcome, reason_of, refuses, unless}
 use Rattle.pv_edit.specs.declared.answers.EditAnswer.TheVariants as answer
 use Rattle.pv_edit.specs.declared.asks.Ask.{Ask}
 use Rattle.pv_edit.specs.declared.asks.Ask.TheVariants.{Rename, Wrap}
@@ -132,7 +132,7 @@ module _ {M : Type 0} where
 
   -- an edit that is refused, or not, with one Name is so with each
   pub refused_alike : (blank : M) (doc : PlainDoc M) (ask : Ask) (x y : List ℕ) (reason : Reason) → is_new_name x ≡ true → is_new_name y ≡ true →
-      applied blank doc (edit_with ask x) ≡ refuses reason → applied blank doc (edit_with ask y) ≡ refuses reason
+      edit_outcome blank doc (edit_with ask x) ≡ refuses reason → edit_outcome blank doc (edit_with ask y) ≡ refuses reason
   refused_alike blank doc ask x y reason nx ny h =
       let r : reason_of blank doc.root (edit_with ask x) ≡ Some reason = out_refuses (reason_of blank doc.root (edit_with ask x)) (doc_after (change_of blank doc.root (edit_with ask x)) doc) reason h in
       ap (λ o. outcome o (doc_after (change_of blank doc.root (edit_with ask y)) doc)) (sym (reason_alike blank doc.root ask x y nx ny) ∙ r)
@@ -142,7 +142,7 @@ module _ {M : Type 0} where
   none_of_gives (Some s) d e h = absurd cc
 
   pub given_alike : (blank : M) (doc edited : PlainDoc M) (ask : Ask) (x y : List ℕ) → is_new_name x ≡ true → is_new_name y ≡ true →
-      applied blank doc (edit_with ask x) ≡ gives edited → applied blank doc (edit_with ask y) ≡ gives (doc_after (change_of blank doc.root (edit_with ask y)) doc)
+      edit_outcome blank doc (edit_with ask x) ≡ gives edited → edit_outcome blank doc (edit_with ask y) ≡ gives (doc_after (change_of blank doc.root (edit_with ask y)) doc)
   given_alike blank doc edited ask x y nx ny h =
       let r : reason_of blank doc.root (edit_with ask x) ≡ None = none_of_gives (reason_of blank doc.root (edit_with ask x)) (doc_after (change_of blank doc.root (edit_with ask x)) doc) edited h in
       ap (λ o. outcome o (doc_after (change_of blank doc.root (edit_with ask y)) doc)) (sym (reason_alike blank doc.root ask x y nx ny) ∙ r)
@@ -179,20 +179,20 @@ never_both o x r a b = absurd cc
 pub no_ground : AskedHasNoGround
 no_ground s ask (Shape reason) can h =
     let (d, e, w) = can (codes "a") a_name in
-    absurd (never_both (applied 0 s.doc (edit_with ask (codes "a"))) d reason e (h (codes "a") a_name))
+    absurd (never_both (edit_outcome 0 s.doc (edit_with ask (codes "a"))) d reason e (h (codes "a") a_name))
 no_ground s ask Limit can (w, h) =
     let (x, y, z) = can (codes "a") a_name in
     let (d, e, n) = h (codes "a") a_name in
-    absurd (n (subst (λ (x : PlainDoc ℕ). IsWithinLimits s.dtd x (changed_lists (makes (edit_with ask (codes "a"))))) (given_once (applied 0 s.doc (edit_with ask (codes "a"))) x d y e) z))
+    absurd (n (subst (λ (x : PlainDoc ℕ). IsWithinLimits s.dtd x (changed_lists (makes (edit_with ask (codes "a"))))) (given_once (edit_outcome 0 s.doc (edit_with ask (codes "a"))) x d y e) z))
 no_ground s ask NoMemory can h = refl
 
 pub tried_as_offered : TriedAsOffered
 tried_as_offered s ask x (answer.Shape reason) can nx h n =
     let (d, e, w) = can x nx in
-    absurd (never_both (applied 0 s.doc (edit_with ask x)) d reason e h)
+    absurd (never_both (edit_outcome 0 s.doc (edit_with ask x)) d reason e h)
 tried_as_offered s ask x answer.Limit can nx (d, e, w) n =
     let (y, f, z) = can x nx in
-    absurd (w (subst (λ (u : PlainDoc ℕ). IsWithinLimits s.dtd u (changed_lists (makes (edit_with ask x)))) (given_once (applied 0 s.doc (edit_with ask x)) y d f e) z))
+    absurd (w (subst (λ (u : PlainDoc ℕ). IsWithinLimits s.dtd u (changed_lists (makes (edit_with ask x)))) (given_once (edit_outcome 0 s.doc (edit_with ask x)) y d f e) z))
 tried_as_offered s ask x (answer.Impossible path) can nx h n =
     ((λ (d, a). n (no_ground_of_accepted ℕ ℕ 0 0 s.dtd s.root s.doc s.doc (edit_with ask x) d (answer.Impossible path) refl a h)), (path, refl))
 tried_as_offered s ask x answer.NoMemory can nx h n = absurd (n refl)
@@ -202,27 +202,27 @@ refused_once o r q a b = cc
 
 pub one_offer_ground : HasOneOfferGround
 one_offer_ground s ask (Shape reason) (Shape other) h k here there =
-    ap Shape (refused_once (applied 0 s.doc (edit_with ask (codes "a"))) reason other (h (codes "a") a_name) (k (codes "a") a_name))
+    ap Shape (refused_once (edit_outcome 0 s.doc (edit_with ask (codes "a"))) reason other (h (codes "a") a_name) (k (codes "a") a_name))
 one_offer_ground s ask (Shape reason) Limit h (w, k) here there =
     let (d, e, n) = k (codes "a") a_name in
-    absurd (never_both (applied 0 s.doc (edit_with ask (codes "a"))) d reason e (h (codes "a") a_name))
+    absurd (never_both (edit_outcome 0 s.doc (edit_with ask (codes "a"))) d reason e (h (codes "a") a_name))
 one_offer_ground s ask (Shape reason) NoMemory h k here there = absurd (there refl)
 one_offer_ground s ask Limit (Shape reason) (w, h) k here there =
     let (d, e, n) = h (codes "a") a_name in
-    absurd (never_both (applied 0 s.doc (edit_with ask (codes "a"))) d reason e (k (codes "a") a_name))
+    absurd (never_both (edit_outcome 0 s.doc (edit_with ask (codes "a"))) d reason e (k (codes "a") a_name))
 one_offer_ground s ask Limit Limit h k here there = refl
 one_offer_ground s ask Limit NoMemory h k here there = absurd (there refl)
 one_offer_ground s ask NoMemory other h k here there = absurd (here refl)
 
 -- ---- what one name shows
 module _ (s : StampedDoc) (ask : Ask) where
-  pub asked_by : (edited : PlainDoc ℕ) → applied 0 s.doc (edit_with ask (codes "a")) ≡ gives edited → IsWithinLimits s.dtd edited (changed_lists (makes (edit_with ask (codes "a")))) → CanBeAsked s ask
+  pub asked_by : (edited : PlainDoc ℕ) → edit_outcome 0 s.doc (edit_with ask (codes "a")) ≡ gives edited → IsWithinLimits s.dtd edited (changed_lists (makes (edit_with ask (codes "a")))) → CanBeAsked s ask
   asked_by edited e w x nx =
       let other = doc_after (change_of 0 s.doc.root (edit_with ask x)) s.doc in
       let given = given_alike 0 s.doc edited ask (codes "a") x a_name nx e in
       (other, given, limits_alike ℕ 0 s.dtd s.doc edited other ask (codes "a") x e given w)
 
-  pub shape_by : (reason : Reason) → applied 0 s.doc (edit_with ask (codes "a")) ≡ refuses reason → HasOfferGround s ask (Shape reason)
+  pub shape_by : (reason : Reason) → edit_outcome 0 s.doc (edit_with ask (codes "a")) ≡ refuses reason → HasOfferGround s ask (Shape reason)
   shape_by reason h x nx = refused_alike 0 s.doc ask (codes "a") x reason a_name nx h
 
 limit_for : (s : StampedDoc) (ask : Ask) → HasGround 0 s.dtd s.root s.doc (edit_with ask (codes "a")) answer.Limit → IsRefusedBy s ask answer.Limit

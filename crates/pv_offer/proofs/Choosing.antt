@@ -4,7 +4,7 @@ use Rattle.std.specs.List.{AllZip, Contains}
 use Rattle.pv_cache.specs.Stamps.{StampedDoc}
 use Rattle.pv_edit.specs.declared.asks.Ask.{Ask}
 use Rattle.pv_offer.specs.Laws.{OffersExactly}
-use Rattle.pv_offer.specs.Offers.{IsOffered, Picks, Tells, added, ends, leaves, takes}
+use Rattle.pv_offer.specs.Offers.{IsOffered, Picks, TellsOffered, added, ends, leaves, takes}
 use Rattle.pv_tree.proofs.Every.{contains_cases, contains_first, contains_later}
 
 module _ {P : List ℕ → Type 0} where
@@ -51,7 +51,7 @@ pub offers_exactly : OffersExactly
 offers_exactly s ask names x are = ((λ h. picked_holds x are h), (λ h none p. none_left_out x are h none p))
 
 -- one more name, by what is told of it
-pub more_picked : (s : StampedDoc) (ask : Ask) (xs ys : List (List ℕ)) (x : List ℕ) (told : Bool) → Picks (IsOffered s ask) xs ys → Tells s ask x told → Picks (IsOffered s ask) (xs ++ x ∷ []) (added told x ys)
+pub more_picked : (s : StampedDoc) (ask : Ask) (xs ys : List (List ℕ)) (x : List ℕ) (told : Bool) → Picks (IsOffered s ask) xs ys → TellsOffered s ask x told → Picks (IsOffered s ask) (xs ++ x ∷ []) (added told x ys)
 more_picked s ask xs ys x true h p = takes_last x h p
 more_picked s ask xs ys x false h p = leaves_last x h p
 

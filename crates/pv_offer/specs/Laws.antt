@@ -6,7 +6,7 @@ use Rattle.pv_cache.specs.Stamps.{StampedDoc}
 use Rattle.pv_dtd.specs.Plain.{PlainDtd}
 use Rattle.pv_edit.specs.ChangedLists.{changed_lists, makes}
 use Rattle.pv_edit.specs.Given.{is_new_name}
-use Rattle.pv_edit.specs.Reasons.{applied, gives, refuses}
+use Rattle.pv_edit.specs.Reasons.{edit_outcome, gives, refuses}
 use Rattle.pv_edit.specs.declared.answers.EditAnswer.{EditAnswer}
 use Rattle.pv_edit.specs.declared.answers.EditAnswer.TheVariants as answer_of
 use Rattle.pv_edit.specs.declared.asks.Ask.{Ask}
@@ -22,14 +22,14 @@ use Rattle.pv_tree.specs.Plain.{PlainDoc}
 abbrev pub ReasonsDontTellNames : Type 0 → Type 0
 ReasonsDontTellNames M = (blank : M) (doc : PlainDoc M) (ask : Ask) (x y : List ℕ)
     (reason : Reason) → IsTrue (is_new_name x) → IsTrue (is_new_name y) →
-    applied blank doc (edit_with ask x) ≡ refuses reason →
-    applied blank doc (edit_with ask y) ≡ refuses reason
+    edit_outcome blank doc (edit_with ask x) ≡ refuses reason →
+    edit_outcome blank doc (edit_with ask y) ≡ refuses reason
 
 -- Whether the edited document is within the limits doesn't depend on which name is given.
 abbrev pub LimitsDontTellNames : Type 0 → Type 0
 LimitsDontTellNames M = (blank : M) (g : PlainDtd) (doc edited other : PlainDoc M) (ask : Ask)
-    (x y : List ℕ) → applied blank doc (edit_with ask x) ≡ gives edited →
-    applied blank doc (edit_with ask y) ≡ gives other →
+    (x y : List ℕ) → edit_outcome blank doc (edit_with ask x) ≡ gives edited →
+    edit_outcome blank doc (edit_with ask y) ≡ gives other →
     IsWithinLimits g edited (changed_lists (makes (edit_with ask x))) →
     IsWithinLimits g other (changed_lists (makes (edit_with ask y)))
 
@@ -37,7 +37,7 @@ LimitsDontTellNames M = (blank : M) (g : PlainDtd) (doc edited other : PlainDoc 
 abbrev pub RenamesAreWithin : Type 0 → Type 0
 RenamesAreWithin M = (blank : M) (g : PlainDtd) (doc edited : PlainDoc M) (path : List ℕ)
     (x : List ℕ) → IsHoldable g doc →
-    applied blank doc (edit_with (Rename path) x) ≡ gives edited →
+    edit_outcome blank doc (edit_with (Rename path) x) ≡ gives edited →
     IsWithinLimits g edited (changed_lists (makes (edit_with (Rename path) x)))
 
 -- There is one list of offered names.

@@ -8,7 +8,7 @@ use Rattle.pv_chars.specs.declared.memory.NoMemory.{NoMemory as WantOfMemory}
 use Rattle.pv_dtd.specs.Plain.{PlainDtd, declared}
 use Rattle.pv_edit.specs.ChangedLists.{changed_lists, makes}
 use Rattle.pv_edit.specs.Given.{is_new_name}
-use Rattle.pv_edit.specs.Reasons.{applied, gives}
+use Rattle.pv_edit.specs.Reasons.{edit_outcome, gives}
 use Rattle.pv_edit.specs.declared.answers.EditAnswer.{EditAnswer}
 use Rattle.pv_edit.specs.declared.answers.EditAnswer.TheVariants as answer
 use Rattle.pv_edit.specs.declared.asks.Ask.{Ask}
@@ -53,7 +53,7 @@ AreOffered s ask names = Picks (IsOffered s ask) (declared_names s.dtd) names
 -- With each Name the edit can be made, and the edited document is within the limits.
 abbrev pub CanBeAsked : StampedDoc → Ask → Type 0
 CanBeAsked s ask = (x : List ℕ) → IsTrue (is_new_name x) →
-    (edited : PlainDoc ℕ) × (applied 0 s.doc (edit_with ask x) ≡ gives edited) ×
+    (edited : PlainDoc ℕ) × (edit_outcome 0 s.doc (edit_with ask x) ≡ gives edited) ×
     IsWithinLimits s.dtd edited (changed_lists (makes (edit_with ask x)))
 
 -- with each Name the edit is refused on this ground
@@ -70,13 +70,13 @@ HasOfferGround s ask Limit = IsWrap ask × IsRefusedBy s ask answer.Limit
 HasOfferGround s ask NoMemory = Unit {0}
 
 -- it is told of a name whether it may be put there
-abbrev pub Tells : StampedDoc → Ask → List ℕ → Bool → Type 0
-Tells s ask x true = IsOffered s ask x
-Tells s ask x false = IsOffered s ask x → ⊥
+abbrev pub TellsOffered : StampedDoc → Ask → List ℕ → Bool → Type 0
+TellsOffered s ask x true = IsOffered s ask x
+TellsOffered s ask x false = IsOffered s ask x → ⊥
 
 -- the same, unless there was too little memory
 abbrev pub TellsOf : StampedDoc → Ask → List ℕ → Result Bool WantOfMemory → Type 0
-TellsOf s ask x tried = IfOk tried (Tells s ask x)
+TellsOf s ask x tried = IfOk tried (TellsOffered s ask x)
 
 -- the names, with this one more where it is told to be offered
 abbrev pub added : Bool → List ℕ → List (List ℕ) → List (List ℕ)

@@ -35,7 +35,7 @@ pub fn offer(
     ask_first(alloc, marked, ask)?;
     let names = names_of(alloc, marked.grammar().dtd())?;
     let tried = try_names(rt, alloc, marked, ask, &names)?;
-    Ok(picked(alloc, marked, ask, &names, &tried)?)
+    Ok(pick(alloc, marked, ask, &names, &tried)?)
 }
 
 // Whether the edit can be made, within the limits, found out by a Name, whichever.
@@ -67,7 +67,7 @@ fn names_of(alloc: Global, dtd: &Dtd) -> Result<Vec<Bytes>, NoMemory>
 }
 
 // Those of the names that may be put there.
-fn picked(
+fn pick(
     alloc: Global,
     _marked: &Marked,
     _ask: &Ask,

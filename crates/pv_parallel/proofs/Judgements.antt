@@ -16,12 +16,12 @@ use Rattle.pv_missing.specs.Widths.{IsListForVerdict}
 use Rattle.pv_reach.specs.declared.errors.ReachError.{ReachError}
 use Rattle.pv_reach.specs.declared.errors.ReachError.TheVariants.{TooWide}
 use Rattle.pv_fresh.proofs.Walking.{verdicts_more}
-use Rattle.pv_parallel.specs.Jobs.{AreJobs, AreJoined, IsRunOf, Judges, JudgesJob}
+use Rattle.pv_parallel.specs.Jobs.{AreJobs, AreJoined, IsRunOf, JudgesBehind, JudgesJob}
 use Rattle.pv_parallel.specs.Numbers.{IsFirstPath}
 use Rattle.pv_parallel.specs.declared.jobs.Job.{Job}
 
 module _ (g : PlainDtd) (root : List ℕ) (entered : ℕ → Type 0) where
-  pub judges_none : (first : ℕ) (vs : List Verdict) → Judges g root entered first [] vs vs
+  pub judges_none : (first : ℕ) (vs : List Verdict) → JudgesBehind g root entered first [] vs vs
   judges_none first vs = record {
     verdicts = λ past are. rw append-nil are;
     as_many = omega arith;
@@ -30,7 +30,7 @@ module _ (g : PlainDtd) (root : List ℕ) (entered : ℕ → Type 0) where
 
   -- one list, whose number was told
   pub judges_one : (first n : ℕ) (list : Listed Mark) (before after : List Verdict) (v : Verdict) → after ≡ before ++ v ∷ [] → IsVerdict g root list v → n ≡ (first + length before) % 2 ^ 64 → entered n →
-      Judges g root entered first (list ∷ []) before after
+      JudgesBehind g root entered first (list ∷ []) before after
   judges_one first n list before after v whole is number told = record {
     verdicts = λ past are. rw whole (verdicts_more g root past before list v are is);
     as_many = ap length whole ∙ length-append before (v ∷ []);
@@ -52,8 +52,8 @@ module _ (g : PlainDtd) (root : List ℕ) (entered : ℕ → Type 0) where
   cases zero (suc n) = inl (omega arith)
   cases (suc k) (suc n) = elim (cases k n) as (λ e. (suc k < suc n) ⊎ (suc n ≤ suc k)) [ inl h ↦ inl (omega arith) | inr h ↦ inr (omega arith) ]
 
-  pub judges_both : (first : ℕ) (xs ys : List (Listed Mark)) (before middle after : List Verdict) → Judges g root entered first xs before middle → Judges g root entered first ys middle after →
-      Judges g root entered first (xs ++ ys) before after
+  pub judges_both : (first : ℕ) (xs ys : List (Listed Mark)) (before middle after : List Verdict) → JudgesBehind g root entered first xs before middle → JudgesBehind g root entered first ys middle after →
+      JudgesBehind g root entered first (xs ++ ys) before after
   judges_both first xs ys before middle after a b = record {
     verdicts = λ past are. rw (sym (append_assoc past xs ys)) (b.verdicts (past ++ xs) (a.verdicts past are));
     as_many = let n = length-append xs ys in let l = a.as_many in let m = b.as_many in omega arith;
@@ -77,7 +77,7 @@ module _ (g : PlainDtd) (root : List ℕ) (entered : ℕ → Type 0) where
       let place : m + j ≡ k + i = omega arith in
       subst entered place (b j (omega arith) (omega arith) (omega arith))
 
-  judges_behind : (k m : ℕ) (xs ys : List (Listed Mark)) (vs ws : List Verdict) → m ≡ k + length xs → Judges g root entered k xs [] vs → Judges g root entered m ys [] ws → Judges g root entered k (xs ++ ys) [] (vs ++ ws)
+  judges_behind : (k m : ℕ) (xs ys : List (Listed Mark)) (vs ws : List Verdict) → m ≡ k + length xs → JudgesBehind g root entered k xs [] vs → JudgesBehind g root entered m ys [] ws → JudgesBehind g root entered k (xs ++ ys) [] (vs ++ ws)
   judges_behind k m xs ys vs ws e a b =
       let n : length vs ≡ length xs = let l = a.as_many in omega arith in
       let both = length-append vs ws in
@@ -89,12 +89,12 @@ module _ (g : PlainDtd) (root : List ℕ) (entered : ℕ → Type 0) where
 
   -- what came of all jobs, where it is verdicts, are those of all lists
   pub jobs_judged : (k : ℕ) (lists : List (Listed Mark)) (jobs : List Job) (judged : List (Result (Vec Verdict Global) ReachError)) (vs : List Verdict) → AreJobs k lists jobs → AllZip (JudgesJob g root entered) jobs judged → AreJoined judged vs →
-      Judges g root entered k lists [] vs
+      JudgesBehind g root entered k lists [] vs
   jobs_judged k lists [] [] vs a z j = let none : lists ≡ [] = a in let nothing : vs ≡ [] = j in rw (none, nothing) (judges_none k [])
   jobs_judged k lists [] (one ∷ judged) vs a z j = absurd z
   jobs_judged k lists (job ∷ jobs) [] vs a z j = absurd z
   jobs_judged k lists (job ∷ jobs) (Ok here ∷ judged) vs a z j =
-      let own = subst (λ n. Judges g root entered n a.0 [] here.items) a.3 (z.0.verdicts a.0 a.4) in
+      let own = subst (λ n. JudgesBehind g root entered n a.0 [] here.items) a.3 (z.0.verdicts a.0 a.4) in
       let others = jobs_judged (k + length a.0) a.1 jobs judged j.0 a.5 z.1 j.2 in
       rw (a.2, j.1) (judges_behind k (k + length a.0) a.0 a.1 here.items j.0 refl own others)
   jobs_judged k lists (job ∷ jobs) (Err e ∷ judged) vs a z j = absurd j

@@ -17,20 +17,20 @@ use Rattle.pv_reach.specs.declared.errors.ReachError.TheVariants.{TooWide}
 use Rattle.pv_parallel.specs.Sizes.{HasFewTokens}
 use Rattle.pv_parallel.specs.declared.gathering.Gathering.{Gathering}
 use Rattle.pv_parallel.specs.declared.jobs.Job.{Job}
-use Rattle.pv_parallel.specs.declared.jobs.ListOwner.{ListOwner}
-use Rattle.pv_parallel.specs.declared.jobs.ListOwner.TheVariants as list_of
+use Rattle.pv_parallel.specs.declared.jobs.OwnerName.{OwnerName}
+use Rattle.pv_parallel.specs.declared.jobs.OwnerName.TheVariants as list_of
 use Rattle.pv_parallel.specs.declared.jobs.Run.{Run}
 use Rattle.pv_parallel.specs.declared.jobs.Run.TheVariants as run_of
 use Rattle.std.specs.declared.alloc.Global.{Global}
 
-abbrev pub owner_of : ListOwner → Owner
-owner_of list_of.Document = the_document
-owner_of (list_of.Element name) = an_element name.now
+abbrev pub plain_owner : OwnerName → Owner
+plain_owner list_of.Document = the_document
+plain_owner (list_of.Element name) = an_element name.now
 
 -- the list of these kids alone, or all lists in these subtrees, wherever they stand
 abbrev pub IsRunOf : List (Listed Mark) → Run → Type 0
 IsRunOf lists (run_of.List owner kids) = (list : Listed Mark) × (lists ≡ list ∷ []) ×
-    (list.owner ≡ owner_of owner) × (list.kids ≡ forest kids.now) × HoldsOne list.owner list.kids
+    (list.owner ≡ plain_owner owner) × (list.kids ≡ forest kids.now) × HoldsOne list.owner list.kids
 IsRunOf lists (run_of.Subtrees nodes) = (path : List ℕ) × (i : ℕ) ×
     (lists ≡ lists_from path i (forest nodes.now))
 
@@ -64,7 +64,7 @@ pub record TakesFront (nodes rest : List Node) (before after : Gathering) : Type
 
 -- These lists were judged behind those before them, each when its number was told; the first of all
 -- has the number `first`.
-pub record Judges (g : PlainDtd) (root : List ℕ) (entered : ℕ → Type 0) (first : ℕ)
+pub record JudgesBehind (g : PlainDtd) (root : List ℕ) (entered : ℕ → Type 0) (first : ℕ)
     (lists : List (Listed Mark)) (before after : List Verdict) : Type 0 where
   pub verdicts : (past : List (Listed Mark)) → AreVerdicts g root past before →
       AreVerdicts g root (past ++ lists) after
@@ -76,7 +76,7 @@ pub record Judges (g : PlainDtd) (root : List ℕ) (entered : ℕ → Type 0) (f
 pub record JudgesJob (g : PlainDtd) (root : List ℕ) (entered : ℕ → Type 0) (job : Job)
     (judged : Result (Vec Verdict Global) ReachError) : Type 0 where
   pub verdicts : IfOk judged (λ vs. (lists : List (Listed Mark)) → IsRunOf lists job.run →
-      Judges g root entered job.first lists [] vs.items)
+      JudgesBehind g root entered job.first lists [] vs.items)
   pub wide : IfErr judged (λ e. e ≡ TooWide → (lists : List (Listed Mark)) →
       IsRunOf lists job.run → ¬ AllByRecursion (IsListForVerdict g) lists)
 

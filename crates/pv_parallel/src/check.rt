@@ -14,7 +14,7 @@ ghost use Rattle.pv_parallel.specs.Sizes.{HasFewTokens};
 
 use crate::gate::Gate;
 use crate::gathering::jobs_of;
-use crate::judging::{count_lists, joined, judge_jobs};
+use crate::judging::{count_lists, join_judged, judge_jobs};
 use crate::numbers::first_path;
 use pv_chars::NoMemory;
 use pv_dtd::Dtd;
@@ -111,7 +111,7 @@ fn judge_lists<G: Gate + Sync, L: Ledger>(
         return Err(FreshError::TooWide(path));
     }
     let judged = judge_jobs(rt, judge, root, &jobs, gate)?;
-    let verdicts = joined(alloc, &judged)?;
+    let verdicts = join_judged(alloc, &judged)?;
     count_lists(&verdicts, steps);
     Ok(verdicts)
 }

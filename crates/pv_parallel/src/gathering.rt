@@ -10,7 +10,7 @@ ghost use Rattle.pv_tree.specs.declared.nodes.Mark.{Mark};
 ghost use Rattle.pv_parallel.specs.Jobs.{Adds, AreJobs, HasGathered, IsRunOf, TakesFront};
 ghost use Rattle.pv_parallel.specs.Sizes.{HasFewTokens};
 
-use crate::jobs::{Job, ListOwner, Run};
+use crate::jobs::{Job, OwnerName, Run};
 use crate::sizes::small_front;
 use pv_chars::NoMemory;
 use pv_tree::{Doc, Node};
@@ -101,7 +101,7 @@ fn add_large<'a>(node: &'a Node, gathering: &mut Gathering<'a>) -> Result<(), No
     let Node::Elem { name, kids, .. } = node else {
         return Ok(());
     };
-    let owner = ListOwner::Element(name.as_slice());
+    let owner = OwnerName::Element(name.as_slice());
     gathering.add(Run::List(owner, kids), 1, kids.len())?;
     add_nodes(kids, gathering)
 }
@@ -115,7 +115,7 @@ pub fn jobs_of<'a>(alloc: Global, doc: &'a Doc) -> Result<(Vec<Job<'a>>, usize),
 {
     let root = std::slice::from_ref(&doc.root);
     let mut gathering = Gathering::new(alloc);
-    gathering.add(Run::List(ListOwner::Document, root), 1, 1)?;
+    gathering.add(Run::List(OwnerName::Document, root), 1, 1)?;
     add_nodes(root, &mut gathering)?;
     Ok((gathering.jobs, gathering.longest))
 }

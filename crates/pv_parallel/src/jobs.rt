@@ -4,7 +4,7 @@ use pv_tree::Node;
 
 /// Whose list it is.
 #[derive(Clone, Copy)]
-pub enum ListOwner<'a> {
+pub enum OwnerName<'a> {
     /// That of the document node.
     Document,
     /// That of an element of this name.
@@ -15,7 +15,7 @@ pub enum ListOwner<'a> {
 #[derive(Clone, Copy)]
 pub enum Run<'a> {
     /// The list of these kids alone.
-    List(ListOwner<'a>, &'a [Node]),
+    List(OwnerName<'a>, &'a [Node]),
     /// All lists in these subtrees, which stand side by side.
     Subtrees(&'a [Node]),
 }

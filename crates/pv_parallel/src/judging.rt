@@ -17,10 +17,10 @@ ghost use Rattle.pv_missing.specs.Verdicts.{IsVerdict};
 ghost use Rattle.pv_missing.specs.Widths.{FitsVerdict, IsListForVerdict};
 ghost use Rattle.pv_missing.specs.WordVerdicts.{HoldsOne};
 ghost use Rattle.pv_reach.specs.declared.errors.ReachError.TheVariants.{TooWide as too_wide};
-ghost use Rattle.pv_parallel.specs.Jobs.{AreJoined, IsRunOf, Judges, JudgesJob, owner_of};
+ghost use Rattle.pv_parallel.specs.Jobs.{AreJoined, IsRunOf, JudgesBehind, JudgesJob, plain_owner};
 
 use crate::gate::Gate;
-use crate::jobs::{Job, ListOwner, Run};
+use crate::jobs::{Job, OwnerName, Run};
 use pv_chars::NoMemory;
 use pv_missing::{Of, element_owner, root_owner};
 use pv_reach::{Judge, ReachError, list_verdict_by};
@@ -75,7 +75,7 @@ fn judge_list<G: Gate>(
     ensures judged { OnOk result ((root : List ℕ) (list : Listed Mark) →
         list.kids ≡ forest kids.now → IsOwner (dtd_of judge.now) root list owner →
         HoldsOne list.owner list.kids →
-        Judges (dtd_of judge.now) root (G.entered gate.now) first (list ∷ [])
+        JudgesBehind (dtd_of judge.now) root (G.entered gate.now) first (list ∷ [])
         verdicts.old.items verdicts.new.items) }
     ensures wide { IfErr result (λ e. e ≡ too_wide → ¬ FitsVerdict (dtd_of judge.now)
         (length (word_of (dtd_of judge.now) (forest kids.now)))) }
@@ -96,8 +96,8 @@ fn judge_node<G: Gate>(
     verdicts: &mut Vec<Verdict>,
 ) -> Result<(), ReachError>
     ensures judged { OnOk result ((root path : List ℕ) →
-        Judges (dtd_of judge.now) root (G.entered gate.now) first (lists_at path (plain node.now))
-        verdicts.old.items verdicts.new.items) }
+        JudgesBehind (dtd_of judge.now) root (G.entered gate.now) first
+        (lists_at path (plain node.now)) verdicts.old.items verdicts.new.items) }
     ensures wide { IfErr result (λ e. e ≡ too_wide → (path : List ℕ) →
         ¬ AllByRecursion (IsListForVerdict (dtd_of judge.now)) (lists_at path (plain node.now))) }
 {
@@ -119,7 +119,7 @@ fn judge_nodes<G: Gate>(
     verdicts: &mut Vec<Verdict>,
 ) -> Result<(), ReachError>
     ensures judged { OnOk result ((root path : List ℕ) (i : ℕ) →
-        Judges (dtd_of judge.now) root (G.entered gate.now) first
+        JudgesBehind (dtd_of judge.now) root (G.entered gate.now) first
         (lists_from path i (forest nodes.now)) verdicts.old.items verdicts.new.items) }
     ensures wide { IfErr result (λ e. e ≡ too_wide → (path : List ℕ) (i : ℕ) →
         ¬ AllByRecursion (IsListForVerdict (dtd_of judge.now))
@@ -132,15 +132,15 @@ fn judge_nodes<G: Gate>(
 }
 
 // Whose list it is, as the grammar knows it.
-fn owner_in(judge: &Judge<'_>, root: &[u8], owner: ListOwner<'_>) -> Option<Of>
+fn owner_in(judge: &Judge<'_>, root: &[u8], owner: OwnerName<'_>) -> Option<Of>
     ensures known { IfSome result (λ of. HasSite (dtd_of judge.now) (plain_of of)) }
-    ensures owner { (list : Listed Mark) → list.owner ≡ owner_of owner.entry →
+    ensures owner { (list : Listed Mark) → list.owner ≡ plain_owner owner.entry →
         IsOwner (dtd_of judge.now) root.now list result }
 {
     let dtd = judge.grammar().dtd();
     match owner {
-        ListOwner::Document => root_owner(dtd, root),
-        ListOwner::Element(name) => element_owner(dtd, name),
+        OwnerName::Document => root_owner(dtd, root),
+        OwnerName::Element(name) => element_owner(dtd, name),
     }
 }
 
@@ -219,7 +219,7 @@ fn verdicts_in(judged: &Judged) -> Result<&[Verdict], NoMemory>
 }
 
 /// The verdicts of all jobs, none of whose lists is too wide.
-pub fn joined(alloc: Global, judged: &[Judged]) -> Result<Vec<Verdict>, NoMemory>
+pub fn join_judged(alloc: Global, judged: &[Judged]) -> Result<Vec<Verdict>, NoMemory>
     requires { AllByRecursion (λ one. one ≢ Err too_wide) judged.now }
     ensures { IfOk result (λ vs. AreJoined judged.now vs.items) }
 {

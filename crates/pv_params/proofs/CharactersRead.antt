@@ -6,7 +6,7 @@ use Rattle.pv_chars.specs.Characters.{is_char}
 use Rattle.pv_chars.specs.References.{number, TakesDigits, PAST_CHARS}
 use Rattle.pv_chars.specs.Scan.{after_bytes}
 use Rattle.pv_chars.proofs.ReferenceLemmas.{same_digits_by, no_char_past}
-use Rattle.pv_params.specs.Items.{Item, puts}
+use Rattle.pv_params.specs.Items.{TextItem, puts}
 use Rattle.pv_chars.specs.CharReading.{is_nothing}
 use Rattle.pv_params.specs.ItemReading.{digits_at, ended_by, character_at}
 use Rattle.pv_params.proofs.ValuesRead.{digits_taken}
@@ -23,7 +23,7 @@ neither : {A : Type 0} (test : Bool) → cond {A = Option A} test None None ≡ 
 neither true = refl
 neither false = refl
 
-never_both : (test : Bool) (o : Option (Item × List ℕ)) → cond (test && false) o None ≡ None
+never_both : (test : Bool) (o : Option (TextItem × List ℕ)) → cond (test && false) o None ≡ None
 never_both true o = refl
 never_both false o = refl
 

@@ -11,7 +11,7 @@ use Rattle.pv_chars.specs.Declarations.{IsQuoted, BeginsNoQuoted}
 use Rattle.pv_chars.specs.Scan.{after_space, after_blank, after_bytes}
 use Rattle.pv_chars.proofs.Scanning.{begins, after_bytes_takes, after_space_takes, after_space-append, after_blank_takes, after_blank-append, chosen}
 use Rattle.pv_chars.proofs.Beginnings.{HasNoSpace, no_space, begins_in_space}
-use Rattle.pv_params.specs.Items.{Item, puts, parameter, declaration}
+use Rattle.pv_params.specs.Items.{TextItem, puts, parameter, declaration}
 use Rattle.pv_params.specs.Spelling.{SpellsInside, SpellsValue, AreItems, nothing, item, IsInside, IsEntityValue, IsPEDecl, IsWord, IsDeclaration, SpellsBetween}
 use Rattle.pv_chars.specs.Declarations.{is_one_of}
 use Rattle.pv_chars.proofs.Binding.{bound, same_some}
@@ -19,7 +19,7 @@ use Rattle.pv_chars.specs.CharReading.{name_at, quoted_at, is_chars}
 use Rattle.pv_chars.proofs.CharFacts.{chars_are, are_chars}
 use Rattle.pv_chars.proofs.NameBytes.{is_name_byte, names_have_no_space, name_at_takes, name_at-append, name_begins}
 use Rattle.pv_chars.proofs.TextDeclarations.{tells_quoted}
-use Rattle.pv_params.specs.ItemReading.{or_else, behind_items, front_of, copied, byte_at, named_at, reference_at, literal_at, inside_at, are_items, is_inside, is_value, parameter_named, parameter_given, parameter_at, with_word, word_at, held_by, held_at, declaration_at}
+use Rattle.pv_params.specs.ItemReading.{or_else, behind_items, front_of, copy_up_to, byte_at, named_at, reference_at, literal_at, inside_at, are_items, is_inside, is_value, parameter_named, parameter_given, parameter_at, with_word, keyword_at, held_by, held_at, declaration_at}
 use Rattle.pv_params.proofs.Runs.{Front, front_is, run_takes, run_is, items_are, are_items_read}
 use Rattle.pv_params.proofs.ItemsRead.{either, inside_reads}
 use Rattle.pv_chars.proofs.TextDeclarations.{quoted_is}
@@ -54,16 +54,16 @@ worded word bytes x is e = by (after_bytes word bytes) refl e
     by None f g = cc
     by (Some rest) f g = subst (TakesWord bytes) (same_some _ _ g) record { is_word = is; whole = after_bytes_takes word bytes rest f }
 
-word_takes : (bytes : List ℕ) (x : List ℕ × List ℕ) → word_at bytes ≡ Some x → TakesWord bytes x
-unfolding word_at
+word_takes : (bytes : List ℕ) (x : List ℕ × List ℕ) → keyword_at bytes ≡ Some x → TakesWord bytes x
+unfolding keyword_at
 word_takes bytes x e =
     either (TakesWord bytes) _ _ x e (worded (codes "<!ELEMENT") bytes x (inl refl))
     (λ f. either (TakesWord bytes) _ _ x f (worded (codes "<!ATTLIST") bytes x (inr (inl refl)))
     (λ g. either (TakesWord bytes) _ _ x g (worded (codes "<!ENTITY") bytes x (inr (inr (inl refl))))
     (worded (codes "<!NOTATION") bytes x (inr (inr (inr refl))))))
 
-word_is : (word rest : List ℕ) → IsWord word → word_at (word ++ rest) ≡ Some (word, rest)
-unfolding word_at or_else
+word_is : (word rest : List ℕ) → IsWord word → keyword_at (word ++ rest) ≡ Some (word, rest)
+unfolding keyword_at or_else
 word_is word rest (inl is) = rw is refl
 word_is word rest (inr (inl is)) = rw is refl
 word_is word rest (inr (inr (inl is))) = rw is refl
@@ -89,7 +89,7 @@ held_takes bytes x e =
     subst (Holds bytes) (same_some _ _ b.others) record { white = two.0; is_inside = record { are_chars = chars_are held two.1; are_items = subst (AreItems SpellsInside) (sym held_is) takes.are_items }; whole = text }
 
 no_inside_end : (rest : List ℕ) → inside_at (62 ∷ rest) ≡ None
-unfolding inside_at byte_at or_else copied literal_at quoted_at reference_at named_at
+unfolding inside_at byte_at or_else copy_up_to literal_at quoted_at reference_at named_at
 no_inside_end rest = refl
 
 held_is_read : (held rest : List ℕ) → begins is_space held ≡ true → IsInside held → held_at ((held ++ codes ">") ++ rest) ≡ Some (held, rest)
@@ -99,15 +99,15 @@ held_is_read held rest white is =
     let end = run_is SpellsInside inside_at inside_reads held (codes ">" ++ rest) is.are_items (no_inside_end rest) in
     rw (cut, end, front_is held (codes ">" ++ rest), white, are_chars held is.are_chars) refl
 
-pub declaration_read : (bytes : List ℕ) (x : Item × List ℕ) → declaration_at bytes ≡ Some x → Front SpellsBetween bytes x.0 x.1
+pub declaration_read : (bytes : List ℕ) (x : TextItem × List ℕ) → declaration_at bytes ≡ Some x → Front SpellsBetween bytes x.0 x.1
 unfolding declaration_at
 declaration_read bytes x e =
-    let word = bound (word_at bytes) _ x e in
+    let word = bound (keyword_at bytes) _ x e in
     let held = bound (held_at word.value.1) _ x word.others in
     let w = word_takes bytes word.value word.first in
     let h = held_takes word.value.1 held.value held.first in
     let text = word.value.0 ++ (held.value.0 ++ codes ">") in
-    let P : Item × List ℕ → Type 0 = λ y. Front SpellsBetween bytes y.0 y.1 in
+    let P : TextItem × List ℕ → Type 0 = λ y. Front SpellsBetween bytes y.0 y.1 in
     subst P (same_some _ _ held.others) record {
       text = text;
       spelled = record { is_word = w.is_word; begins_white = h.white; is_inside = h.is_inside; whole = refl };
@@ -207,14 +207,14 @@ given_is given quoted end rest q is space = rw (quoted_is given quoted (end ++ (
 pub regrouped : (before after name behind quoted end rest : List ℕ) → (codes "<!ENTITY" ++ (before ++ (codes "%" ++ (after ++ (name ++ (behind ++ (quoted ++ (end ++ codes ">")))))))) ++ rest ≡ codes "<!ENTITY" ++ (before ++ (codes "%" ++ (after ++ (name ++ (behind ++ (quoted ++ (end ++ (codes ">" ++ rest))))))))
 regrouped before after name behind quoted end rest = simp append_assoc refl
 
-pub parameter_read : (bytes : List ℕ) (x : Item × List ℕ) → parameter_at bytes ≡ Some x → Front SpellsBetween bytes x.0 x.1
+pub parameter_read : (bytes : List ℕ) (x : TextItem × List ℕ) → parameter_at bytes ≡ Some x → Front SpellsBetween bytes x.0 x.1
 unfolding parameter_at
 parameter_read bytes x e =
     let named = bound (parameter_named bytes) _ x e in
     let given = bound (parameter_given named.value.1) _ x named.others in
     let n = named_read bytes named.value named.first in
     let g = given_read named.value.1 given.value given.first in
-    let P : Item × List ℕ → Type 0 = λ y. Front SpellsBetween bytes y.0 y.1 in
+    let P : TextItem × List ℕ → Type 0 = λ y. Front SpellsBetween bytes y.0 y.1 in
     subst P (same_some _ _ given.others) record {
       text = codes "<!ENTITY" ++ (n.before ++ (codes "%" ++ (n.after ++ (named.value.0 ++ (n.behind ++ (g.quoted ++ (g.end ++ codes ">")))))));
       spelled = record { before = n.before; after = n.after; behind = n.behind; quoted = g.quoted; end = g.end; space_before = n.space_before; space_after = n.space_after; is_name = n.is_name; space_behind = n.space_behind; is_quoted = g.is_quoted; is_value = g.is_value; space_at_end = g.space_at_end; whole = refl };
@@ -258,7 +258,7 @@ no_reference_white b bs white is so = by (name_at (b ∷ bs)) refl
         let both : true ≡ false = sym (is ∙ so) ∙ first in cc
 
 no_inside_percent : (after rest : List ℕ) → IsSpace after → inside_at (37 ∷ (after ++ rest)) ≡ None
-unfolding inside_at byte_at copied literal_at quoted_at or_else
+unfolding inside_at byte_at copy_up_to literal_at quoted_at or_else
 no_inside_percent [] rest s = absurd (s.some refl)
 no_inside_percent (b ∷ bs) rest s = let here = and_parts (is_space b) (list_all is_space bs) s.space in no_reference_white b (bs ++ rest) (is_space b) refl here.0
 

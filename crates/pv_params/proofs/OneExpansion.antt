@@ -2,10 +2,10 @@
 use Rattle.std.proofs.Common.{◌≡◌, ◌≢◌, ◌⊎◌, inl, inr, ℕ, List, [], ◌∷◌, ◌++◌, get_or, codes, Bool, false, Some, None, refl, sym, ap, ◌∙◌, subst, arith}
 use Rattle.std.proofs.lemmas.List.{append_cancel_right}
 use Rattle.pv_chars.proofs.DeclarationLemmas.{one_text_decl}
-use Rattle.pv_params.specs.Items.{Mode, file, between, inside, value, Item, puts, reference, parameter, declaration}
+use Rattle.pv_params.specs.Items.{Mode, file, between, inside, value, TextItem, puts, reference, parameter, declaration}
 use Rattle.pv_params.specs.Spelling.{Spells, StandsAt, IsInside, IsConditional, IsExternal, IsBehindTextDecl, HasHead}
 use Rattle.pv_chars.proofs.ByteOrderMarkLemmas.{same_byte_order_mark}
-use Rattle.pv_params.specs.Meaning.{Fault, SoFar, text_of, Refuses, no_entity, being_read, past_limit, not_inside, Enters, Within, Opens, of_reference, of_parameter, of_declaration, Outcome, gives, meets, IsBetween, IsOfEntity, Stops, ends, refused, of_section, of_external, no_item, unread, Reads, stops, copies, meets_within, goes_on, Expansion, expansion_of, Expands}
+use Rattle.pv_params.specs.Meaning.{Fault, SoFar, text_of, RefusesReference, no_entity, being_read, past_limit, not_inside, Enters, Within, Opens, of_reference, of_parameter, of_declaration, Outcome, gives, meets, IsBetween, IsOfEntity, Stops, ends, refused, of_section, of_external, no_item, unread, Reads, stops, copies, meets_within, goes_on, Expansion, expansion_of, Expands}
 use Rattle.pv_params.specs.Meaning.{put, finish, blank_before, behind_head}
 use Rattle.pv_chars.proofs.Binding.{same_some}
 use Rattle.pv_params.specs.ItemReading.{item_at}
@@ -23,20 +23,20 @@ mode_reads between = between_reads
 mode_reads inside = inside_reads
 mode_reads value = value_reads
 
-pub front : {mode : Mode} {rest more : List ℕ} {i : Item} → StandsAt mode rest i more → Front (Spells mode) rest i more
+pub front : {mode : Mode} {rest more : List ℕ} {i : TextItem} → StandsAt mode rest i more → Front (Spells mode) rest i more
 front s = record { text = s.text; spelled = s.spelled; whole = s.whole }
 
-pub stands : {mode : Mode} {rest more : List ℕ} {i : Item} → Front (Spells mode) rest i more → StandsAt mode rest i more
+pub stands : {mode : Mode} {rest more : List ℕ} {i : TextItem} → Front (Spells mode) rest i more → StandsAt mode rest i more
 stands f = record { text = f.text; spelled = f.spelled; whole = f.whole }
 
-pub item_found : (mode : Mode) (rest more : List ℕ) (i : Item) → StandsAt mode rest i more → item_at mode rest ≡ Some (i, more)
+pub item_found : (mode : Mode) (rest more : List ℕ) (i : TextItem) → StandsAt mode rest i more → item_at mode rest ≡ Some (i, more)
 item_found mode rest more i s = let r = mode_reads mode in ap (item_at mode) s.whole ∙ r.is_read i s.text more s.spelled
 
-pub same_standing : {mode : Mode} {rest more other : List ℕ} {i j : Item} → StandsAt mode rest i more → StandsAt mode rest j other → (i ≡ j) × (more ≡ other)
+pub same_standing : {mode : Mode} {rest more other : List ℕ} {i j : TextItem} → StandsAt mode rest i more → StandsAt mode rest j other → (i ≡ j) × (more ≡ other)
 same_standing {mode} {rest} {more} {other} {i} {j} a b = same_item (Spells mode) (item_at mode) (mode_reads mode) rest i j more other (front a) (front b)
 
 -- ---- what shuts out what
-pub end_item : {mode : Mode} {rest more : List ℕ} {i : Item} → rest ≡ [] → StandsAt mode rest i more → ⊥
+pub end_item : {mode : Mode} {rest more : List ℕ} {i : TextItem} → rest ≡ [] → StandsAt mode rest i more → ⊥
 end_item {mode} {rest} {more} {i} e s = let r = mode_reads mode in nothing s.text (r.some i s.text s.spelled) (sym s.whole ∙ e)
   where
     nothing : (text : List ℕ) → text ≢ [] → text ++ more ≡ [] → ⊥
@@ -67,10 +67,10 @@ no_item_between between rest is (inr x) = no_item_in_external rest x
 no_item_between inside rest is o = absurd is
 no_item_between value rest is o = absurd is
 
-section_item : {mode : Mode} {rest more : List ℕ} {i : Item} → IsBetween mode → IsConditional rest → StandsAt mode rest i more → ⊥
+section_item : {mode : Mode} {rest more : List ℕ} {i : TextItem} → IsBetween mode → IsConditional rest → StandsAt mode rest i more → ⊥
 section_item {mode} {rest} {more} {i} b s at = let some = item_found mode rest more i at in let none = no_item_between mode rest b (inl s) in cc
 
-external_item : {mode : Mode} {rest more : List ℕ} {i : Item} → IsBetween mode → IsExternal rest → StandsAt mode rest i more → ⊥
+external_item : {mode : Mode} {rest more : List ℕ} {i : TextItem} → IsBetween mode → IsExternal rest → StandsAt mode rest i more → ⊥
 external_item {mode} {rest} {more} {i} b x at = let some = item_found mode rest more i at in let none = no_item_between mode rest b (inr x) in cc
 
 file_entity : {mode : Mode} {after : Bool} → IsOfEntity mode → mode ≡ file after → ⊥
@@ -86,13 +86,13 @@ file_entity {mode} {after} is e = by mode is e
 same_name : {name other : List ℕ} → reference name ≡ reference other → name ≡ other
 same_name e = cc
 
-no_refusal : {mode : Mode} {reading : List (List ℕ)} {before : SoFar} {name text : List ℕ} {fault : Fault} → Refuses mode reading before name fault → Enters mode reading before name text → ⊥
+no_refusal : {mode : Mode} {reading : List (List ℕ)} {before : SoFar} {name text : List ℕ} {fault : Fault} → RefusesReference mode reading before name fault → Enters mode reading before name text → ⊥
 no_refusal (no_entity e) n = let is = n.is_text in cc
 no_refusal (being_read t e) n = let is = n.not_read in cc
 no_refusal (past_limit t r e) n = let same = same_some _ _ (sym t ∙ n.is_text) in let is = n.within in let past = rw same at e in cc
 no_refusal (not_inside t r l m no_form) n = let same = same_some _ _ (sym t ∙ n.is_text) in no_form (subst IsInside (sym same) (n.judged m))
 
-same_refusal : {mode : Mode} {reading : List (List ℕ)} {before : SoFar} {name : List ℕ} {f g : Fault} → Refuses mode reading before name f → Refuses mode reading before name g → f ≡ g
+same_refusal : {mode : Mode} {reading : List (List ℕ)} {before : SoFar} {name : List ℕ} {f g : Fault} → RefusesReference mode reading before name f → RefusesReference mode reading before name g → f ≡ g
 same_refusal (no_entity e) (no_entity f) = refl
 same_refusal (no_entity e) (being_read u f) = cc
 same_refusal (no_entity e) (past_limit {text = y} u q f) = cc
@@ -122,7 +122,7 @@ same_stop (ends e) (of_external c y) = absurd (end_external e y)
 same_stop (ends e) (no_item k h) = absurd (h.some e)
 same_stop (ends e) (unread l h) = absurd (h.some e)
 same_stop (refused s r) (ends f) = absurd (end_item f s)
-same_stop {mode} {reading} {before} (refused {name = x} {fault = f} s r) (refused {name = y} t q) = let e : x ≡ y = same_name (same_standing s t).0 in ap meets (same_refusal (subst (λ n. Refuses mode reading before n f) e r) q)
+same_stop {mode} {reading} {before} (refused {name = x} {fault = f} s r) (refused {name = y} t q) = let e : x ≡ y = same_name (same_standing s t).0 in ap meets (same_refusal (subst (λ n. RefusesReference mode reading before n f) e r) q)
 same_stop (refused s r) (of_section c t) = absurd (section_item c t s)
 same_stop (refused s r) (of_external c y) = absurd (external_item c y s)
 same_stop (refused s r) (no_item k h) = absurd (h.no_item _ _ s)
@@ -163,7 +163,7 @@ stop_copies (unread m g) at = g.no_item _ _ at
 
 -- the item whose text is read within
 record Opened (mode : Mode) (reading : List (List ℕ)) (before : SoFar) (rest : List ℕ) : Type 0 where
-  item : Item
+  item : TextItem
   more : List ℕ
   stands : StandsAt mode rest item more
   not_put : (bytes : List ℕ) → item ≡ puts bytes → ⊥

@@ -7,7 +7,7 @@ use Rattle.pv_params.specs.Spelling.{Spells, SpellsInside, SpellsValue}
 use Rattle.pv_params.specs.Meaning.{SoFar, put, Outcome, Reads, copies, MAX_REFERENCES, MAX_PLACED}
 use Rattle.pv_params.specs.ItemReading.{behind_items, inside_at, value_at, front_of}
 use Rattle.pv_params.specs.PlainBytes.{is_plain, IsBehindRun}
-use Rattle.pv_params.specs.OpenTexts.{PlainOpenText, LeadsTo, room_of, weight_of}
+use Rattle.pv_params.specs.OpenTexts.{PlainOpenText, LeadToOutcome, room_of, work_left}
 use Rattle.pv_params.proofs.Runs.{front_is, next_items}
 use Rattle.pv_params.proofs.ItemsRead.{inside_reads}
 use Rattle.pv_params.proofs.ValuesRead.{value_reads}
@@ -27,17 +27,17 @@ run_reads mode reading o (b ∷ bs) rest before all r =
     copies record { text = b ∷ []; spelled = plain_spelled mode b two.0; whole = refl } (run_reads mode reading o bs rest (put (b ∷ []) before) two.1 moved)
 
 pub run_leads : (p q : PlainOpenText) (ps : List PlainOpenText) (reading : List (List ℕ)) (before after : SoFar) (more : List ℕ) (b : IsBehindRun p.mode p.rest more) → after ≡ put b.run before →
-    q ≡ record { mode = p.mode; of_entity = p.of_entity; rest = more; ending = p.ending } → (o : Outcome) → LeadsTo (q ∷ ps) reading after o → LeadsTo (p ∷ ps) reading before o
+    q ≡ record { mode = p.mode; of_entity = p.of_entity; rest = more; ending = p.ending } → (o : Outcome) → LeadToOutcome (q ∷ ps) reading after o → LeadToOutcome (p ∷ ps) reading before o
 run_leads p q ps reading before after more b a e o l =
-    let moved = subst (λ s. LeadsTo (record { mode = p.mode; of_entity = p.of_entity; rest = more; ending = p.ending } ∷ ps) reading s o) a (subst (λ t. LeadsTo (t ∷ ps) reading after o) e l) in
+    let moved = subst (λ s. LeadToOutcome (record { mode = p.mode; of_entity = p.of_entity; rest = more; ending = p.ending } ∷ ps) reading s o) a (subst (λ t. LeadToOutcome (t ∷ ps) reading after o) e l) in
     (moved.0, subst (λ t. Reads p.mode reading before t moved.0) (sym b.whole) (run_reads p.mode reading moved.0 b.run more before b.are_plain moved.1), moved.2)
 
 pub run_less : (p q : PlainOpenText) (ps : List PlainOpenText) (before after : SoFar) (more run : List ℕ) → length more < length p.rest → after ≡ put run before →
-    q ≡ record { mode = p.mode; of_entity = p.of_entity; rest = more; ending = p.ending } → weight_of (q ∷ ps) after < weight_of (p ∷ ps) before
+    q ≡ record { mode = p.mode; of_entity = p.of_entity; rest = more; ending = p.ending } → work_left (q ∷ ps) after < work_left (p ∷ ps) before
 run_less p q ps before after more run less a e =
     let counted : after.references ≡ before.references = ap (λ (s : SoFar). s.references) a in
     let left : q.rest ≡ more = ap (λ (t : PlainOpenText). t.rest) e in
-    let same : weight_of (q ∷ ps) after ≡ (MAX_REFERENCES - before.references) * (MAX_PLACED + 2) + (suc (length more) + room_of ps) = ap (λ n. (MAX_REFERENCES - n) * (MAX_PLACED + 2) + (suc (length q.rest) + room_of ps)) counted ∙ ap (λ r. (MAX_REFERENCES - before.references) * (MAX_PLACED + 2) + (suc (length r) + room_of ps)) left in
+    let same : work_left (q ∷ ps) after ≡ (MAX_REFERENCES - before.references) * (MAX_PLACED + 2) + (suc (length more) + room_of ps) = ap (λ n. (MAX_REFERENCES - n) * (MAX_PLACED + 2) + (suc (length q.rest) + room_of ps)) counted ∙ ap (λ r. (MAX_REFERENCES - before.references) * (MAX_PLACED + 2) + (suc (length r) + room_of ps)) left in
     omega (arith, same, less)
 
 -- what is left of a text, where so many bytes are

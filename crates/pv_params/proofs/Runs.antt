@@ -1,19 +1,19 @@
 -- Items one after the other: all at the front are read, in one way.
 use Rattle.std.proofs.Common.{◌≡◌, ◌≢◌, ◌<◌, ℕ, zero, suc, ◌-◌, List, [], ◌∷◌, ◌++◌, length, true, Option, Some, None, refl, sym, ap, ◌∙◌, append_assoc, append-nil, length-append, arith, subst}
 use Rattle.std.proofs.lemmas.List.{append_cancel_right, take_at}
-use Rattle.pv_params.specs.Items.{Item}
+use Rattle.pv_params.specs.Items.{TextItem}
 use Rattle.pv_params.specs.Spelling.{AreItems, nothing, item}
 use Rattle.pv_chars.specs.CharReading.{is_nothing}
-use Rattle.pv_params.specs.ItemReading.{Reader, behind_by, behind_items, are_items, front_of}
+use Rattle.pv_params.specs.ItemReading.{ItemReader, behind_by, behind_items, are_items, front_of}
 
 -- an item stands at the front
-pub record Front (Spells : Item → List ℕ → Type 0) (bytes : List ℕ) (i : Item) (rest : List ℕ) : Type 0 where
+pub record Front (Spells : TextItem → List ℕ → Type 0) (bytes : List ℕ) (i : TextItem) (rest : List ℕ) : Type 0 where
   pub text : List ℕ
   pub spelled : Spells i text
   pub whole : bytes ≡ text ++ rest
 
 -- all items that stand at the front
-pub record TakesItems (Spells : Item → List ℕ → Type 0) (at : Reader) (bytes rest : List ℕ) : Type 0 where
+pub record TakesItems (Spells : TextItem → List ℕ → Type 0) (at : ItemReader) (bytes rest : List ℕ) : Type 0 where
   pub front : List ℕ
   pub are_items : AreItems Spells front
   pub whole : bytes ≡ front ++ rest
@@ -27,37 +27,37 @@ pub front_is : (text rest : List ℕ) → front_of (text ++ rest) rest ≡ text
 front_is text rest = take_at text rest (length (text ++ rest) - length rest) (omega (arith, length-append text rest))
 
 -- a reader that reads such items, and each of them
-pub record Reads (Spells : Item → List ℕ → Type 0) (at : Reader) : Type 0 where
-  pub read : (bytes : List ℕ) (i : Item) (rest : List ℕ) → at bytes ≡ Some (i, rest) → Front Spells bytes i rest
-  pub is_read : (i : Item) (text rest : List ℕ) → Spells i text → at (text ++ rest) ≡ Some (i, rest)
-  pub some : (i : Item) (text : List ℕ) → Spells i text → text ≢ []
+pub record Reads (Spells : TextItem → List ℕ → Type 0) (at : ItemReader) : Type 0 where
+  pub read : (bytes : List ℕ) (i : TextItem) (rest : List ℕ) → at bytes ≡ Some (i, rest) → Front Spells bytes i rest
+  pub is_read : (i : TextItem) (text rest : List ℕ) → Spells i text → at (text ++ rest) ≡ Some (i, rest)
+  pub some : (i : TextItem) (text : List ℕ) → Spells i text → text ≢ []
 
-module _ (Spells : Item → List ℕ → Type 0) (at : Reader) (reads : Reads Spells at) where
-  pub shorter : (bytes : List ℕ) (i : Item) (rest : List ℕ) → Front Spells bytes i rest → length rest < length bytes
+module _ (Spells : TextItem → List ℕ → Type 0) (at : ItemReader) (reads : Reads Spells at) where
+  pub shorter : (bytes : List ℕ) (i : TextItem) (rest : List ℕ) → Front Spells bytes i rest → length rest < length bytes
   shorter bytes i rest f = let long = some_length f.text (reads.some i f.text f.spelled) in omega (arith, ap length f.whole, length-append f.text rest)
 
-  pub read_shorter : (bytes : List ℕ) (i : Item) (rest : List ℕ) → at bytes ≡ Some (i, rest) → length rest < length bytes
+  pub read_shorter : (bytes : List ℕ) (i : TextItem) (rest : List ℕ) → at bytes ≡ Some (i, rest) → length rest < length bytes
   read_shorter bytes i rest e = shorter bytes i rest (reads.read bytes i rest e)
 
   pub nothing_at_end : at [] ≡ None
   nothing_at_end = by (at []) refl
     where
-      by : (o : Option (Item × List ℕ)) → at [] ≡ o → o ≡ None
+      by : (o : Option (TextItem × List ℕ)) → at [] ≡ o → o ≡ None
       by None e = refl
       by (Some x) e = let long = shorter [] x.0 x.1 (reads.read [] x.0 x.1 e) in absurd (omega arith)
 
-  pub same_item : (bytes : List ℕ) (i j : Item) (rest more : List ℕ) → Front Spells bytes i rest → Front Spells bytes j more → (i ≡ j) × (rest ≡ more)
+  pub same_item : (bytes : List ℕ) (i j : TextItem) (rest more : List ℕ) → Front Spells bytes i rest → Front Spells bytes j more → (i ≡ j) × (rest ≡ more)
   same_item bytes i j rest more f g =
       let first : at bytes ≡ Some (i, rest) = ap at f.whole ∙ reads.is_read i f.text rest f.spelled in
       let second : at bytes ≡ Some (j, more) = ap at g.whole ∙ reads.is_read j g.text more g.spelled in
       let same : Some (i, rest) ≡ Some (j, more) = sym first ∙ second in
       let pair = same_some _ _ same in
-      (ap (λ (x : Item × List ℕ). x.0) pair, ap (λ (x : Item × List ℕ). x.1) pair)
+      (ap (λ (x : TextItem × List ℕ). x.0) pair, ap (λ (x : TextItem × List ℕ). x.1) pair)
     where
       same_some : {A : Type 0} (x y : A) → Some x ≡ Some y → x ≡ y
       same_some x y e = cc
 
-  behind_takes : (steps : ℕ) (bytes : List ℕ) (o : Option (Item × List ℕ)) → at bytes ≡ o → length bytes < suc (suc steps) →
+  behind_takes : (steps : ℕ) (bytes : List ℕ) (o : Option (TextItem × List ℕ)) → at bytes ≡ o → length bytes < suc (suc steps) →
       ((more : List ℕ) → length more < suc steps → TakesItems Spells at more (behind_items at steps more)) → TakesItems Spells at bytes (behind_by (behind_items at steps) bytes o)
   behind_takes steps bytes None e few below = record { front = []; are_items = nothing refl; whole = refl; ends = e }
   behind_takes steps bytes (Some x) e few below =
@@ -106,7 +106,7 @@ module _ (Spells : Item → List ℕ → Type 0) (at : Reader) (reads : Reads Sp
       ap is_nothing (sym same.1)
 
   -- where an item is read, all behind it are
-  pub next_items : (bytes : List ℕ) (i : Item) (rest : List ℕ) → at bytes ≡ Some (i, rest) → behind_items at (length rest) rest ≡ behind_items at (length bytes) bytes
+  pub next_items : (bytes : List ℕ) (i : TextItem) (rest : List ℕ) → at bytes ≡ Some (i, rest) → behind_items at (length rest) rest ≡ behind_items at (length bytes) bytes
   next_items bytes i rest e =
       let f = reads.read bytes i rest e in
       let here = run_takes (length bytes) bytes (omega arith) in

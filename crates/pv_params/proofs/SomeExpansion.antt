@@ -6,12 +6,12 @@ use Rattle.pv_chars.specs.Fronts.{Begins, BeginsNone}
 use Rattle.pv_chars.specs.Declarations.{IsTextDecl}
 use Rattle.pv_chars.specs.Scan.{after_bytes}
 use Rattle.pv_chars.proofs.Scanning.{after_bytes_takes}
-use Rattle.pv_params.specs.Items.{Mode, file, between, inside, value, Item, puts, reference, parameter, declaration}
+use Rattle.pv_params.specs.Items.{Mode, file, between, inside, value, TextItem, puts, reference, parameter, declaration}
 use Rattle.pv_params.specs.Spelling.{Spells, StandsAt, IsPEDecl, IsWord, IsDeclaration, IsConditional, IsExternal, HasHead}
 use Rattle.pv_chars.specs.ByteOrderMark.{IsBehindByteOrderMark}
 use Rattle.pv_chars.proofs.ByteOrderMarkLemmas.{some_behind}
 use Rattle.pv_params.proofs.Heads.{mark_is_front}
-use Rattle.pv_params.specs.Meaning.{Fault, SoFar, text_of, is_being_read, passes_limit, MAX_REFERENCES, no_entity, being_read, past_limit, not_inside, Enters, Ending, closes, declares, finish, Within, Opens, of_reference, of_parameter, of_declaration, Outcome, gives, meets, IsBetween, BeginsNothing, IsOfEntity, Stops, ends, refused, of_section, of_external, no_item, unread, Reads, stops, copies, meets_within, goes_on, Expansion, expansion_of, Expands, behind_head, put, with_no_result}
+use Rattle.pv_params.specs.Meaning.{Fault, SoFar, text_of, is_being_read, passes_limit, MAX_REFERENCES, no_entity, being_read, past_limit, not_inside, Enters, EndOfText, closes, declares, finish, Within, Opens, of_reference, of_parameter, of_declaration, Outcome, gives, meets, IsBetween, BeginsNothing, IsOfEntity, Stops, ends, refused, of_section, of_external, no_item, unread, Reads, stops, copies, meets_within, goes_on, Expansion, expansion_of, Expands, behind_head, put, with_no_result}
 use Rattle.pv_chars.proofs.CharFacts.{no_start}
 use Rattle.pv_chars.specs.CharReading.{text_declaration_at}
 use Rattle.pv_chars.proofs.TextDeclarations.{tells_declaration}
@@ -27,7 +27,7 @@ pub record Comes (mode : Mode) (reading : List (List ℕ)) (before : SoFar) (res
   pub reads : Reads mode reading before rest outcome
   pub grows : (after : SoFar) → outcome ≡ gives after → before.references ≤ after.references
 
-pub finish_counts : (e : Ending) (after : SoFar) → (finish e after).references ≡ after.references
+pub finish_counts : (e : EndOfText) (after : SoFar) → (finish e after).references ≡ after.references
 finish_counts (closes bytes) after = refl
 finish_counts (declares name result) after = refl
 
@@ -138,7 +138,7 @@ All n = (mode : Mode) (reading : List (List ℕ)) (before : SoFar) (rest : List 
 module _ (n : ℕ) (lower : (k : ℕ) → n ≡ suc k → All k) (m : ℕ)
     (below : (mode : Mode) (reading : List (List ℕ)) (before : SoFar) (rest : List ℕ) → length rest < m → MAX_REFERENCES ≤ before.references + n → Comes mode reading before rest)
     (mode : Mode) (reading : List (List ℕ)) (before : SoFar) (rest : List ℕ) (few : length rest < suc m) (left : MAX_REFERENCES ≤ before.references + n) where
-  goes_behind : (i : Item) (more : List ℕ) → StandsAt mode rest i more → (mode_behind : Mode) (after : SoFar) → before.references ≤ after.references → Comes mode_behind reading after more
+  goes_behind : (i : TextItem) (more : List ℕ) → StandsAt mode rest i more → (mode_behind : Mode) (after : SoFar) → before.references ≤ after.references → Comes mode_behind reading after more
   goes_behind i more s mode_behind after grown =
       let less = shorter (Spells mode) (item_at mode) (mode_reads mode) rest i more (front s) in
       below mode_behind reading after more (omega arith) (omega arith)
@@ -186,7 +186,7 @@ module _ (n : ℕ) (lower : (k : ℕ) → n ≡ suc k → All k) (m : ℕ)
       by inside p = absurd p
       by value p = absurd p
 
-  with_item : (i : Item) (more : List ℕ) → StandsAt mode rest i more → Comes mode reading before rest
+  with_item : (i : TextItem) (more : List ℕ) → StandsAt mode rest i more → Comes mode reading before rest
   with_item (puts bytes) more s =
       let others = goes_behind (puts bytes) more s mode (put bytes before) (omega arith) in
       record { outcome = others.outcome; reads = copies s others.reads; grows = others.grows }
@@ -201,7 +201,7 @@ module _ (n : ℕ) (lower : (k : ℕ) → n ≡ suc k → All k) (m : ℕ)
       (λ after grown. goes_behind (declaration word held) more s mode (finish (closes (codes ">")) after) grown)
 
   -- no item begins
-  no_item_at : item_at mode rest ≡ None → (i : Item) (more : List ℕ) → StandsAt mode rest i more → ⊥
+  no_item_at : item_at mode rest ≡ None → (i : TextItem) (more : List ℕ) → StandsAt mode rest i more → ⊥
   no_item_at e i more s = let some = item_found mode rest more i s in cc
 
   without_item : rest ≢ [] → item_at mode rest ≡ None → Comes mode reading before rest
@@ -223,7 +223,7 @@ module _ (n : ℕ) (lower : (k : ℕ) → n ≡ suc k → All k) (m : ℕ)
       in_mode inside e = stopped mode reading before rest _ (no_item (subst IsOfEntity (sym e) tt) (nothing_begins (λ is s. subst IsBetween e is) (λ is s. subst IsBetween e is)))
       in_mode value e = stopped mode reading before rest _ (no_item (subst IsOfEntity (sym e) tt) (nothing_begins (λ is s. subst IsBetween e is) (λ is s. subst IsBetween e is)))
 
-  found : rest ≢ [] → (o : Option (Item × List ℕ)) → item_at mode rest ≡ o → Comes mode reading before rest
+  found : rest ≢ [] → (o : Option (TextItem × List ℕ)) → item_at mode rest ≡ o → Comes mode reading before rest
   found some None e = without_item some e
   found some (Some x) e = let r = mode_reads mode in with_item x.0 x.1 (stands (r.read rest x.0 x.1 e))
 

@@ -5,11 +5,11 @@ use Rattle.std.proofs.lemmas.Bool.Decides.{Decides-eqb}
 use Rattle.std.proofs.lemmas.List.{drop_at}
 use Rattle.pv_chars.specs.Scan.{after_bytes}
 use Rattle.pv_chars.proofs.Scanning.{after_bytes_takes}
-use Rattle.pv_params.specs.Items.{Mode, file, between, inside, value, Item, puts, reference, parameter, declaration}
+use Rattle.pv_params.specs.Items.{Mode, file, between, inside, value, TextItem, puts, reference, parameter, declaration}
 use Rattle.pv_params.specs.Spelling.{Spells, StandsAt, IsConditional, IsExternal, HasHead}
-use Rattle.pv_params.specs.Meaning.{Fault, conditional, external, undeclared, recursive, limit, syntax, SoFar, MAX_REFERENCES, MAX_PLACED, Enters, Ending, closes, declares, finish, put, entered, with_no_result, blank, blank_before, mode_of_text, Within, Opens, of_reference, of_parameter, of_declaration, Outcome, gives, meets, IsBetween, IsOfEntity, BeginsNothing, Stops, ends, refused, of_section, of_external, no_item, unread, Reads, stops, copies, meets_within, goes_on, expanded, faulty, expansion_of, Expands, behind_head}
+use Rattle.pv_params.specs.Meaning.{Fault, conditional, external, undeclared, recursive, limit, syntax, SoFar, MAX_REFERENCES, MAX_PLACED, Enters, EndOfText, closes, declares, finish, put, entered, with_no_result, blank, blank_before, mode_of_text, Within, Opens, of_reference, of_parameter, of_declaration, Outcome, gives, meets, IsBetween, IsOfEntity, BeginsNothing, Stops, ends, refused, of_section, of_external, no_item, unread, Reads, stops, copies, meets_within, goes_on, expanded, faulty, expansion_of, Expands, behind_head}
 use Rattle.pv_params.specs.ItemReading.{item_at, external_at}
-use Rattle.pv_params.specs.OpenTexts.{Leads, PlainOpenText, names_behind, Comes, LeadsTo, room_of, weight_of, mode_behind, OpensAt, Handles}
+use Rattle.pv_params.specs.OpenTexts.{LeadToExpansion, PlainOpenText, names_behind, Comes, LeadToOutcome, room_of, work_left, mode_behind, OpensAt, Handles}
 use Rattle.pv_params.specs.Answers.{Tells}
 use Rattle.pv_params.specs.declared.errors.ParamError.{ParamError}
 use Rattle.pv_params.specs.declared.errors.ParamError.TheVariants.{Conditional, External, Undeclared, Recursive, Limit, Syntax, NoMemory}
@@ -30,7 +30,7 @@ tells_also f Syntax t = f syntax t
 tells_also f NoMemory t = tt
 
 -- ---- texts that are read within
-pub opens_reference : (mode : Mode) (reading names : List (List ℕ)) (before after : SoFar) (name text n : List ℕ) (m : Mode) (e : Ending) (p : PlainOpenText) →
+pub opens_reference : (mode : Mode) (reading names : List (List ℕ)) (before after : SoFar) (name text n : List ℕ) (m : Mode) (e : EndOfText) (p : PlainOpenText) →
     p ≡ record { mode = m; of_entity = true; rest = text; ending = e } → m ≡ mode_of_text mode → names ≡ n ∷ reading → n ≡ name → e ≡ closes (blank mode) → after ≡ entered mode text before → Enters mode reading before name text →
     OpensAt mode reading before (reference name) p names after
 opens_reference mode reading names before after name text n m e p p_is m_is names_are n_is e_is after_is enters = rw (p_is, m_is, names_are, n_is, e_is, after_is) record { opens = λ rest more s. of_reference s enters; names = refl }
@@ -96,7 +96,7 @@ behind_is text front more k e =
     let whole : text ≡ (take k text ++ front) ++ more = sym (take-append-drop k text) ∙ ap (λ l. take k text ++ l) e ∙ sym (append_assoc (take k text) front more) in
     ap (λ l. drop (length l - length more) l) whole ∙ drop_at (take k text ++ front) more (length ((take k text ++ front) ++ more) - length more) (omega (arith, length-append (take k text ++ front) more))
 
-pub item_left : (mode : Mode) (text : List ℕ) (k : ℕ) (i : Item) (more : List ℕ) → item_at mode (drop k text) ≡ Some (i, more) → drop (length text - length more) text ≡ more
+pub item_left : (mode : Mode) (text : List ℕ) (k : ℕ) (i : TextItem) (more : List ℕ) → item_at mode (drop k text) ≡ Some (i, more) → drop (length text - length more) text ≡ more
 item_left mode text k i more e = let r = mode_reads mode in let f = r.read (drop k text) i more e in behind_is text f.text more k f.whole
 
 -- ---- what a step leads to
@@ -104,53 +104,53 @@ pub nothing_left : (l : List ℕ) → true ≡ (length l == 0) → l ≡ []
 nothing_left [] e = refl
 nothing_left (b ∷ bs) e = let none = (Decides-eqb (length (b ∷ bs)) 0).0 (sym e) in absurd (omega (arith, none))
 
-abbrev pub behind_of : PlainOpenText → Item → List ℕ → PlainOpenText
+abbrev pub behind_of : PlainOpenText → TextItem → List ℕ → PlainOpenText
 behind_of p i more = record { mode = mode_behind i p.mode; of_entity = p.of_entity; rest = more; ending = p.ending }
 
-pub behind_place : (p q : PlainOpenText) (i : Item) (more rest : List ℕ) (m : Mode) → q ≡ record { mode = m; of_entity = p.of_entity; rest = rest; ending = p.ending } → m ≡ mode_behind i p.mode → rest ≡ more → q ≡ behind_of p i more
+pub behind_place : (p q : PlainOpenText) (i : TextItem) (more rest : List ℕ) (m : Mode) → q ≡ record { mode = m; of_entity = p.of_entity; rest = rest; ending = p.ending } → m ≡ mode_behind i p.mode → rest ≡ more → q ≡ behind_of p i more
 behind_place p q i more rest m q_is m_is rest_is = rw (q_is, m_is, rest_is) refl
 
 pub end_leads : (p : PlainOpenText) (ps : List PlainOpenText) (reading names : List (List ℕ)) (before after new : SoFar) → Stops p.mode reading before p.rest (gives after) → names ≡ names_behind p.of_entity reading → new ≡ finish p.ending after →
-    (o : Outcome) → LeadsTo ps names new o → LeadsTo (p ∷ ps) reading before o
-end_leads p ps reading names before after new s n e o l = (gives after, stops s, subst (λ x. LeadsTo ps (names_behind p.of_entity reading) x o) e (subst (λ x. LeadsTo ps x new o) n l))
+    (o : Outcome) → LeadToOutcome ps names new o → LeadToOutcome (p ∷ ps) reading before o
+end_leads p ps reading names before after new s n e o l = (gives after, stops s, subst (λ x. LeadToOutcome ps (names_behind p.of_entity reading) x o) e (subst (λ x. LeadToOutcome ps x new o) n l))
 
-pub fault_leads : (p : PlainOpenText) (ps : List PlainOpenText) (reading : List (List ℕ)) (before : SoFar) (f : Fault) → Stops p.mode reading before p.rest (meets f) → LeadsTo (p ∷ ps) reading before (meets f)
+pub fault_leads : (p : PlainOpenText) (ps : List PlainOpenText) (reading : List (List ℕ)) (before : SoFar) (f : Fault) → Stops p.mode reading before p.rest (meets f) → LeadToOutcome (p ∷ ps) reading before (meets f)
 fault_leads p ps reading before f s = (meets f, stops s, refl)
 
-pub stands_where : (mode : Mode) (rest : List ℕ) (i : Item) (more : List ℕ) → item_at mode rest ≡ Some (i, more) → StandsAt mode rest i more
+pub stands_where : (mode : Mode) (rest : List ℕ) (i : TextItem) (more : List ℕ) → item_at mode rest ≡ Some (i, more) → StandsAt mode rest i more
 stands_where mode rest i more e = let r = mode_reads mode in stands (r.read rest i more e)
 
-pub put_leads : (p : PlainOpenText) (ps : List PlainOpenText) (reading names : List (List ℕ)) (before after : SoFar) (i : Item) (more : List ℕ) → item_at p.mode p.rest ≡ Some (i, more) → Handles p.mode reading before i None names after →
-    (o : Outcome) → LeadsTo (behind_of p i more ∷ ps) names after o → LeadsTo (p ∷ ps) reading before o
+pub put_leads : (p : PlainOpenText) (ps : List PlainOpenText) (reading names : List (List ℕ)) (before after : SoFar) (i : TextItem) (more : List ℕ) → item_at p.mode p.rest ≡ Some (i, more) → Handles p.mode reading before i None names after →
+    (o : Outcome) → LeadToOutcome (behind_of p i more ∷ ps) names after o → LeadToOutcome (p ∷ ps) reading before o
 put_leads p ps reading names before after (puts bytes) more e h o l =
-    let m = subst (λ x. LeadsTo (behind_of p (puts bytes) more ∷ ps) x after o) h.1 l in
+    let m = subst (λ x. LeadToOutcome (behind_of p (puts bytes) more ∷ ps) x after o) h.1 l in
     let P : SoFar → Type 0 = λ n. Reads p.mode reading n more m.0 in
     (m.0, copies (stands_where p.mode p.rest (puts bytes) more e) (subst P h.0 m.1), m.2)
 put_leads p ps reading names before after (reference name) more e h o l = absurd h
 put_leads p ps reading names before after (parameter name given) more e h o l = absurd h
 put_leads p ps reading names before after (declaration word held) more e h o l = absurd h
 
-abbrev pub Inner : PlainOpenText → PlainOpenText → List (List ℕ) → List (List ℕ) → SoFar → SoFar → Item → List ℕ → Type 0
+abbrev pub Inner : PlainOpenText → PlainOpenText → List (List ℕ) → List (List ℕ) → SoFar → SoFar → TextItem → List ℕ → Type 0
 Inner p q reading names before after i more = Opens p.mode reading before p.rest record { mode = q.mode; reading = names; before = after; text = q.rest; ending = q.ending; mode_behind = mode_behind i p.mode; behind = more } × (names_behind q.of_entity names ≡ reading)
 
-inner_goes_on : (p q : PlainOpenText) (ps : List PlainOpenText) (reading names : List (List ℕ)) (before after : SoFar) (i : Item) (more : List ℕ) → Inner p q reading names before after i more →
-    (o : Outcome) → LeadsTo (q ∷ behind_of p i more ∷ ps) names after o → LeadsTo (p ∷ ps) reading before o
+inner_goes_on : (p q : PlainOpenText) (ps : List PlainOpenText) (reading names : List (List ℕ)) (before after : SoFar) (i : TextItem) (more : List ℕ) → Inner p q reading names before after i more →
+    (o : Outcome) → LeadToOutcome (q ∷ behind_of p i more ∷ ps) names after o → LeadToOutcome (p ∷ ps) reading before o
 inner_goes_on p q ps reading names before after i more opens o l = by l.0 l.1 l.2
   where
-    by : (x : Outcome) → Reads q.mode names after q.rest x → Comes q.ending (λ n. LeadsTo (behind_of p i more ∷ ps) (names_behind q.of_entity names) n o) x o → LeadsTo (p ∷ ps) reading before o
+    by : (x : Outcome) → Reads q.mode names after q.rest x → Comes q.ending (λ n. LeadToOutcome (behind_of p i more ∷ ps) (names_behind q.of_entity names) n o) x o → LeadToOutcome (p ∷ ps) reading before o
     by (meets f) r c = (meets f, meets_within opens.0 r, c)
     by (gives n) r c =
-        let d = subst (λ x. LeadsTo (behind_of p i more ∷ ps) x (finish q.ending n) o) opens.1 c in
+        let d = subst (λ x. LeadToOutcome (behind_of p i more ∷ ps) x (finish q.ending n) o) opens.1 c in
         (d.0, goes_on opens.0 r d.1, d.2)
 
-handled_opens : (p q : PlainOpenText) (reading names : List (List ℕ)) (before after : SoFar) (i : Item) (more : List ℕ) → item_at p.mode p.rest ≡ Some (i, more) → Handles p.mode reading before i (Some q) names after → Inner p q reading names before after i more
+handled_opens : (p q : PlainOpenText) (reading names : List (List ℕ)) (before after : SoFar) (i : TextItem) (more : List ℕ) → item_at p.mode p.rest ≡ Some (i, more) → Handles p.mode reading before i (Some q) names after → Inner p q reading names before after i more
 handled_opens p q reading names before after (puts bytes) more e h = absurd h
 handled_opens p q reading names before after (reference name) more e h = (h.opens p.rest more (stands_where p.mode p.rest _ more e), h.names)
 handled_opens p q reading names before after (parameter name given) more e h = (h.opens p.rest more (stands_where p.mode p.rest _ more e), h.names)
 handled_opens p q reading names before after (declaration word held) more e h = (h.opens p.rest more (stands_where p.mode p.rest _ more e), h.names)
 
-pub inner_leads : (p q : PlainOpenText) (ps : List PlainOpenText) (reading names : List (List ℕ)) (before after : SoFar) (i : Item) (more : List ℕ) → item_at p.mode p.rest ≡ Some (i, more) → Handles p.mode reading before i (Some q) names after →
-    (o : Outcome) → LeadsTo (q ∷ behind_of p i more ∷ ps) names after o → LeadsTo (p ∷ ps) reading before o
+pub inner_leads : (p q : PlainOpenText) (ps : List PlainOpenText) (reading names : List (List ℕ)) (before after : SoFar) (i : TextItem) (more : List ℕ) → item_at p.mode p.rest ≡ Some (i, more) → Handles p.mode reading before i (Some q) names after →
+    (o : Outcome) → LeadToOutcome (q ∷ behind_of p i more ∷ ps) names after o → LeadToOutcome (p ∷ ps) reading before o
 inner_leads p q ps reading names before after i more e h = inner_goes_on p q ps reading names before after i more (handled_opens p q reading names before after i more e h)
 
 -- ---- less is left
@@ -168,18 +168,18 @@ kept_by (unread e b) after same = let is = same_gives same in ap (λ (s : SoFar)
     same_gives : {a b : SoFar} → gives a ≡ gives b → a ≡ b
     same_gives e = cc
 
-pub end_less : (p : PlainOpenText) (ps : List PlainOpenText) (reading : List (List ℕ)) (before after new : SoFar) → Stops p.mode reading before p.rest (gives after) → new ≡ finish p.ending after → weight_of ps new < weight_of (p ∷ ps) before
+pub end_less : (p : PlainOpenText) (ps : List PlainOpenText) (reading : List (List ℕ)) (before after new : SoFar) → Stops p.mode reading before p.rest (gives after) → new ≡ finish p.ending after → work_left ps new < work_left (p ∷ ps) before
 end_less p ps reading before after new s e =
     let first = kept_by s after refl in
     let second : new.references ≡ before.references = ap (λ (n : SoFar). n.references) e ∙ finish_counts p.ending after ∙ first in
-    let same : weight_of ps new ≡ weight_of ps before = ap (λ n. (MAX_REFERENCES - n) * (MAX_PLACED + 2) + room_of ps) second in
+    let same : work_left ps new ≡ work_left ps before = ap (λ n. (MAX_REFERENCES - n) * (MAX_PLACED + 2) + room_of ps) second in
     omega (arith, same)
 
-pub put_less : (p : PlainOpenText) (ps : List PlainOpenText) (reading names : List (List ℕ)) (before after : SoFar) (i : Item) (more : List ℕ) → item_at p.mode p.rest ≡ Some (i, more) → Handles p.mode reading before i None names after →
-    weight_of (behind_of p i more ∷ ps) after < weight_of (p ∷ ps) before
+pub put_less : (p : PlainOpenText) (ps : List PlainOpenText) (reading names : List (List ℕ)) (before after : SoFar) (i : TextItem) (more : List ℕ) → item_at p.mode p.rest ≡ Some (i, more) → Handles p.mode reading before i None names after →
+    work_left (behind_of p i more ∷ ps) after < work_left (p ∷ ps) before
 put_less p ps reading names before after (puts bytes) more e h =
     let less = shorter (Spells p.mode) (item_at p.mode) (mode_reads p.mode) p.rest (puts bytes) more (front (stands_where p.mode p.rest (puts bytes) more e)) in
-    let same : weight_of (behind_of p (puts bytes) more ∷ ps) after ≡ weight_of (behind_of p (puts bytes) more ∷ ps) before = ap (λ (n : SoFar). (MAX_REFERENCES - n.references) * (MAX_PLACED + 2) + (suc (length more) + room_of ps)) h.0 in
+    let same : work_left (behind_of p (puts bytes) more ∷ ps) after ≡ work_left (behind_of p (puts bytes) more ∷ ps) before = ap (λ (n : SoFar). (MAX_REFERENCES - n.references) * (MAX_PLACED + 2) + (suc (length more) + room_of ps)) h.0 in
     omega (arith, same, less)
 put_less p ps reading names before after (reference name) more e h = absurd h
 put_less p ps reading names before after (parameter name given) more e h = absurd h
@@ -193,7 +193,7 @@ or_false_right : (a b : Bool) → (a || b) ≡ false → b ≡ false
 or_false_right true b e = cc
 or_false_right false b e = e
 
-spelled_short : {mode : Mode} {rest more : List ℕ} {i : Item} → StandsAt mode rest i more → length more < length rest
+spelled_short : {mode : Mode} {rest more : List ℕ} {i : TextItem} → StandsAt mode rest i more → length more < length rest
 spelled_short {mode} {rest} {more} {i} s = shorter (Spells mode) (item_at mode) (mode_reads mode) rest i more (front s)
 
 -- the room for the text within and for what is behind it
@@ -207,22 +207,22 @@ opened_less {before} {rest} (of_reference {text} {more} s n) room =
 opened_less {mode} {before} {rest} (of_parameter {name} {text} {more} s) room = let less = value_room mode rest name text more s in omega (arith, less)
 opened_less {mode} {before} {rest} (of_declaration {word} {text} {more} s) room = let less = held_room mode rest word text more s in omega (arith, less)
 
-pub inner_less : (p q : PlainOpenText) (ps : List PlainOpenText) (reading names : List (List ℕ)) (before after : SoFar) (i : Item) (more : List ℕ) → item_at p.mode p.rest ≡ Some (i, more) → Handles p.mode reading before i (Some q) names after →
-    weight_of (q ∷ behind_of p i more ∷ ps) after < weight_of (p ∷ ps) before
+pub inner_less : (p q : PlainOpenText) (ps : List PlainOpenText) (reading names : List (List ℕ)) (before after : SoFar) (i : TextItem) (more : List ℕ) → item_at p.mode p.rest ≡ Some (i, more) → Handles p.mode reading before i (Some q) names after →
+    work_left (q ∷ behind_of p i more ∷ ps) after < work_left (p ∷ ps) before
 inner_less p q ps reading names before after i more e h = opened_less (handled_opens p q reading names before after i more e h).0 (room_of ps)
 
 -- ---- the whole file
 -- where no text is being read, the result is the file's expansion
-pub all_read : (bytes : List ℕ) (ps qs : List PlainOpenText) (reading names : List (List ℕ)) (before after : SoFar) → Leads bytes ps reading before → ((o : Outcome) → LeadsTo qs names after o → LeadsTo ps reading before o) → qs ≡ [] → Expands bytes (expanded after.result)
-all_read bytes ps qs reading names before after leads step e = leads (gives after) (step (gives after) (subst (λ l. LeadsTo l names after (gives after)) (sym e) refl))
+pub all_read : (bytes : List ℕ) (ps qs : List PlainOpenText) (reading names : List (List ℕ)) (before after : SoFar) → LeadToExpansion bytes ps reading before → ((o : Outcome) → LeadToOutcome qs names after o → LeadToOutcome ps reading before o) → qs ≡ [] → Expands bytes (expanded after.result)
+all_read bytes ps qs reading names before after leads step e = leads (gives after) (step (gives after) (subst (λ l. LeadToOutcome l names after (gives after)) (sym e) refl))
 
-pub leads_on : (bytes : List ℕ) (ps qs : List PlainOpenText) (reading names : List (List ℕ)) (before after : SoFar) → Leads bytes ps reading before → ((o : Outcome) → LeadsTo qs names after o → LeadsTo ps reading before o) → Leads bytes qs names after
+pub leads_on : (bytes : List ℕ) (ps qs : List PlainOpenText) (reading names : List (List ℕ)) (before after : SoFar) → LeadToExpansion bytes ps reading before → ((o : Outcome) → LeadToOutcome qs names after o → LeadToOutcome ps reading before o) → LeadToExpansion bytes qs names after
 leads_on bytes ps qs reading names before after leads step = λ o l. leads o (step o l)
 
-pub all_faulty : (bytes : List ℕ) (ps : List PlainOpenText) (reading : List (List ℕ)) (before : SoFar) → Leads bytes ps reading before → (f : Fault) → LeadsTo ps reading before (meets f) → Expands bytes (faulty f)
+pub all_faulty : (bytes : List ℕ) (ps : List PlainOpenText) (reading : List (List ℕ)) (before : SoFar) → LeadToExpansion bytes ps reading before → (f : Fault) → LeadToOutcome ps reading before (meets f) → Expands bytes (faulty f)
 all_faulty bytes ps reading before leads f l = leads (meets f) l
 
 -- the file alone is being read
-pub file_leads : (bytes head rest : List ℕ) → HasHead bytes head rest → Leads bytes (record { mode = file false; of_entity = false; rest = rest; ending = closes [] } ∷ []) [] (behind_head head)
+pub file_leads : (bytes head rest : List ℕ) → HasHead bytes head rest → LeadToExpansion bytes (record { mode = file false; of_entity = false; rest = rest; ending = closes [] } ∷ []) [] (behind_head head)
 file_leads bytes head rest is o (gives after, r, e) = record { head = head; rest = rest; outcome = gives after; has_head = is; reads = r; is_expansion = ap expansion_of e ∙ ap expanded (append-nil after.result) }
 file_leads bytes head rest is o (meets f, r, e) = record { head = head; rest = rest; outcome = meets f; has_head = is; reads = r; is_expansion = ap expansion_of e }

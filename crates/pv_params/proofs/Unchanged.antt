@@ -1,7 +1,7 @@
 -- A file without `%` and without `<![` comes back as it is.
 use Rattle.std.proofs.Common.{◌≡◌, ◌≢◌, ℕ, List, [], ◌∷◌, ◌++◌, codes, Bool, true, false, refl, sym, ap, ◌∙◌, subst, append_assoc, append-nil}
 use Rattle.pv_chars.specs.Fronts.{ContainsBytes}
-use Rattle.pv_params.specs.Items.{Mode, file, between, inside, value, Item, puts, reference, parameter, declaration}
+use Rattle.pv_params.specs.Items.{Mode, file, between, inside, value, TextItem, puts, reference, parameter, declaration}
 use Rattle.pv_params.specs.Spelling.{StandsAt, AreItems, nothing, item, SpellsInside, IsExternal}
 use Rattle.pv_params.specs.Meaning.{SoFar, put, of_reference, of_parameter, of_declaration, Outcome, gives, Stops, ends, refused, of_section, of_external, no_item, unread, Reads, stops, copies, meets_within, goes_on, expanded, Expands, expansion_of, behind_head, blank_before}
 use Rattle.pv_params.specs.Laws.{HasNothingToExpand}
@@ -64,11 +64,11 @@ no_external rest p x =
     let whole : rest ≡ (codes "<!ENTITY" ++ x.before) ++ 37 ∷ tail = x.whole ∙ sym (append_assoc (codes "<!ENTITY") x.before (37 ∷ tail)) in
     no_percent_there (codes "<!ENTITY" ++ x.before) tail (subst HasNothingToExpand whole p)
 
-some_item : (rest : List ℕ) → AreItems SpellsInside rest → rest ≢ [] → ((i : Item) (more : List ℕ) → StandsAt inside rest i more → ⊥) → ⊥
+some_item : (rest : List ℕ) → AreItems SpellsInside rest → rest ≢ [] → ((i : TextItem) (more : List ℕ) → StandsAt inside rest i more → ⊥) → ⊥
 some_item rest (nothing e) some none = some e
 some_item rest (item i front behind s below e) some none = none i behind record { text = front; spelled = s; whole = e }
 
-items_behind : (rest : List ℕ) (i : Item) (more : List ℕ) → AreItems SpellsInside rest → StandsAt inside rest i more → AreItems SpellsInside more
+items_behind : (rest : List ℕ) (i : TextItem) (more : List ℕ) → AreItems SpellsInside rest → StandsAt inside rest i more → AreItems SpellsInside more
 items_behind rest i more (nothing e) s = absurd (end_item e s)
 items_behind rest i more (item j front behind z below e) s = subst (AreItems SpellsInside) (sym (same_standing s record { text = front; spelled = z; whole = e }).1) below
 
@@ -98,7 +98,7 @@ put_as_it_is between rest bytes more f s = absurd f
 put_as_it_is inside rest bytes more f s = s.whole ∙ ap (λ l. l ++ more) (sym s.spelled.0)
 put_as_it_is value rest bytes more f s = absurd f
 
-fits_behind : (mode : Mode) (rest : List ℕ) (i : Item) (more : List ℕ) → Fits mode rest → StandsAt mode rest i more → Fits mode more
+fits_behind : (mode : Mode) (rest : List ℕ) (i : TextItem) (more : List ℕ) → Fits mode rest → StandsAt mode rest i more → Fits mode more
 fits_behind (file true) rest i more f s = f
 fits_behind (file false) rest i more f s = tt
 fits_behind between rest i more f s = f
@@ -122,31 +122,31 @@ joined before word held more result e = rw e (simp append_assoc refl)
 same_after : {a b : SoFar} → gives a ≡ gives b → a ≡ b
 same_after e = cc
 
-copied : {mode : Mode} {reading : List (List ℕ)} {before : SoFar} {rest : List ℕ} {o : Outcome} → Reads mode reading before rest o → Fits mode rest → HasNothingToExpand rest → Copied o before rest
-copied {mode} {reading} {before} {rest} (stops s) f p = stopped mode reading before rest f p s
-copied {mode} {reading} {before} {rest} (copies {bytes} {more} s r) f p =
+copy_up_to : {mode : Mode} {reading : List (List ℕ)} {before : SoFar} {rest : List ℕ} {o : Outcome} → Reads mode reading before rest o → Fits mode rest → HasNothingToExpand rest → Copied o before rest
+copy_up_to {mode} {reading} {before} {rest} (stops s) f p = stopped mode reading before rest f p s
+copy_up_to {mode} {reading} {before} {rest} (copies {bytes} {more} s r) f p =
     let whole = put_as_it_is mode rest bytes more f s in
-    let others = copied r (fits_behind mode rest (puts bytes) more f s) (plain_behind bytes more (subst HasNothingToExpand whole p)) in
+    let others = copy_up_to r (fits_behind mode rest (puts bytes) more f s) (plain_behind bytes more (subst HasNothingToExpand whole p)) in
     record { after = others.after; is = others.is; result = others.result ∙ append_assoc before.result bytes more ∙ ap (λ l. before.result ++ l) (sym whole) }
-copied {mode} {reading} {before} {rest} (meets_within (of_reference {name} {text} {more} s n) r) f p = absurd (no_reference mode rest name more f p s)
-copied {mode} {reading} {before} {rest} (meets_within (of_parameter {name} {text} {more} s) r) f p = absurd (no_parameter mode rest name text more f p s)
-copied {mode} {reading} {before} {rest} (meets_within (of_declaration {word} {text} {more} s) r) f p =
+copy_up_to {mode} {reading} {before} {rest} (meets_within (of_reference {name} {text} {more} s n) r) f p = absurd (no_reference mode rest name more f p s)
+copy_up_to {mode} {reading} {before} {rest} (meets_within (of_parameter {name} {text} {more} s) r) f p = absurd (no_parameter mode rest name text more f p s)
+copy_up_to {mode} {reading} {before} {rest} (meets_within (of_declaration {word} {text} {more} s) r) f p =
     let d = declared mode rest word text more f s in
-    let inner = copied r d.are_items (plain_front text (codes ">" ++ more) (plain_behind word (text ++ (codes ">" ++ more)) (subst HasNothingToExpand d.whole p))) in
+    let inner = copy_up_to r d.are_items (plain_front text (codes ">" ++ more) (plain_behind word (text ++ (codes ">" ++ more)) (subst HasNothingToExpand d.whole p))) in
     let never = inner.is in cc
-copied {mode} {reading} {before} {rest} (goes_on (of_reference {name} {text} {more} s n) r k) f p = absurd (no_reference mode rest name more f p s)
-copied {mode} {reading} {before} {rest} (goes_on (of_parameter {name} {text} {more} s) r k) f p = absurd (no_parameter mode rest name text more f p s)
-copied {mode} {reading} {before} {rest} (goes_on {after} (of_declaration {word} {text} {more} s) r k) f p =
+copy_up_to {mode} {reading} {before} {rest} (goes_on (of_reference {name} {text} {more} s n) r k) f p = absurd (no_reference mode rest name more f p s)
+copy_up_to {mode} {reading} {before} {rest} (goes_on (of_parameter {name} {text} {more} s) r k) f p = absurd (no_parameter mode rest name text more f p s)
+copy_up_to {mode} {reading} {before} {rest} (goes_on {after} (of_declaration {word} {text} {more} s) r k) f p =
     let d = declared mode rest word text more f s in
     let behind_word = plain_behind word (text ++ (codes ">" ++ more)) (subst HasNothingToExpand d.whole p) in
-    let inner = copied r d.are_items (plain_front text (codes ">" ++ more) behind_word) in
+    let inner = copy_up_to r d.are_items (plain_front text (codes ">" ++ more) behind_word) in
     let is : after.result ≡ (before.result ++ word) ++ text = ap (λ (n : SoFar). n.result) (same_after inner.is) ∙ inner.result in
-    let others = copied k (fits_behind mode rest (declaration word text) more f s) (plain_behind (codes ">") more (plain_behind text (codes ">" ++ more) behind_word)) in
+    let others = copy_up_to k (fits_behind mode rest (declaration word text) more f s) (plain_behind (codes ">") more (plain_behind text (codes ">" ++ more) behind_word)) in
     record { after = others.after; is = others.is; result = others.result ∙ joined before.result word text more after.result is ∙ ap (λ l. before.result ++ l) (sym d.whole) }
 
 pub unchanged : (bytes : List ℕ) → HasNothingToExpand bytes → Expands bytes (expanded bytes)
 unchanged bytes plain =
     let h = headed bytes in
     let c = comes (file false) [] (behind_head h.head) h.rest in
-    let all = copied c.reads tt (plain_behind h.head h.rest (subst HasNothingToExpand h.has_head.whole plain)) in
+    let all = copy_up_to c.reads tt (plain_behind h.head h.rest (subst HasNothingToExpand h.has_head.whole plain)) in
     record { head = h.head; rest = h.rest; outcome = c.outcome; has_head = h.has_head; reads = c.reads; is_expansion = ap expanded (h.has_head.whole ∙ sym all.result) ∙ ap expansion_of (sym all.is) }

@@ -11,7 +11,7 @@ use Rattle.pv_chars.specs.Scan.{after_bytes}
 use Rattle.pv_chars.specs.Utf8.{char_at}
 use Rattle.pv_chars.proofs.Scanning.{after_bytes_takes, after_bytes-append, chosen}
 use Rattle.pv_chars.proofs.ReferenceLemmas.{semicolon_ends, same_digits_by}
-use Rattle.pv_params.specs.Items.{Item, puts, reference, parameter, declaration}
+use Rattle.pv_params.specs.Items.{TextItem, puts, reference, parameter, declaration}
 use Rattle.pv_params.specs.Spelling.{IsCharacterIn, IsCharacter, IsGeneral, SpellsValue}
 use Rattle.pv_chars.proofs.Binding.{bound, same_some}
 use Rattle.pv_chars.specs.CharReading.{name_at, is_nothing}
@@ -61,7 +61,7 @@ not_true : (b : Bool) → not b ≡ true → b ≡ false
 not_true true e = cc
 not_true false e = refl
 
-pub character_read : (base : ℕ) (front bytes : List ℕ) (x : Item × List ℕ) → character_at base front bytes ≡ Some x → (result : List ℕ) × (text : List ℕ) × (x.0 ≡ puts result) × IsCharacterIn base front result text × (bytes ≡ text ++ x.1)
+pub character_read : (base : ℕ) (front bytes : List ℕ) (x : TextItem × List ℕ) → character_at base front bytes ≡ Some x → (result : List ℕ) × (text : List ℕ) × (x.0 ≡ puts result) × IsCharacterIn base front result text × (bytes ≡ text ++ x.1)
 unfolding character_at ended_by
 character_read base front bytes x e =
     let start = bound (after_bytes front bytes) _ x e in
@@ -76,9 +76,9 @@ character_read base front bytes x e =
     after_bytes_takes front bytes start.value start.first ∙ ap (λ l. front ++ l) (t.whole ∙ ap (λ l. ds.0 ++ l) (after_bytes_takes (codes ";") ds.1 end.value end.first) ∙ sym (append_assoc ds.0 (codes ";") end.value)) ∙ sym (append_assoc front (ds.0 ++ codes ";") end.value) in (
       encode_utf8 (number base ds.0),
       text,
-      sym (ap (λ (y : Item × List ℕ). y.0) pair),
+      sym (ap (λ (y : TextItem × List ℕ). y.0) pair),
       record { is_ref = record { digits = ds.0; some = some_digits ds.0 (not_true _ two.0); are_digits = t.are_digits; is_char = two.1; whole = refl }; gives = refl },
-      whole ∙ ap (λ (y : Item × List ℕ). text ++ y.1) pair,
+      whole ∙ ap (λ (y : TextItem × List ℕ). text ++ y.1) pair,
     )
 
 nothing_is : (l : List ℕ) → l ≢ [] → is_nothing l ≡ false
@@ -92,7 +92,7 @@ character_is base front result text rest known is =
     let cut : text ++ rest ≡ front ++ (r.digits ++ (codes ";" ++ rest)) = ap (λ l. l ++ rest) r.whole ∙ append_assoc front (r.digits ++ codes ";") rest ∙ ap (λ l. front ++ l) (append_assoc r.digits (codes ";") rest) in
     rw (cut, after_bytes-append front (r.digits ++ (codes ";" ++ rest)), digits_are base r.digits rest known r.are_digits, nothing_is r.digits r.some, r.is_char, is.gives) refl
 
-front_character : (base : ℕ) (front bytes : List ℕ) (x : Item × List ℕ) → ((result text : List ℕ) → IsCharacterIn base front result text → IsCharacter result text) → character_at base front bytes ≡ Some x → Front SpellsValue bytes x.0 x.1
+front_character : (base : ℕ) (front bytes : List ℕ) (x : TextItem × List ℕ) → ((result text : List ℕ) → IsCharacterIn base front result text → IsCharacter result text) → character_at base front bytes ≡ Some x → Front SpellsValue bytes x.0 x.1
 front_character base front bytes x is e =
     let r = character_read base front bytes x e in
     subst (λ i. Front SpellsValue bytes i x.1) (sym r.2) record { text = r.1; spelled = inr (is r.0 r.1 r.3); whole = r.4 }
@@ -115,17 +115,17 @@ unfolding character_at
 no_character_percent base front rest = refl
 
 -- ---- mode Value
-value_read : (bytes : List ℕ) (i : Item) (rest : List ℕ) → value_at bytes ≡ Some (i, rest) → Front SpellsValue bytes i rest
+value_read : (bytes : List ℕ) (i : TextItem) (rest : List ℕ) → value_at bytes ≡ Some (i, rest) → Front SpellsValue bytes i rest
 unfolding value_at
 value_read bytes i rest e =
-    let P : Item × List ℕ → Type 0 = λ x. Front SpellsValue bytes x.0 x.1 in
+    let P : TextItem × List ℕ → Type 0 = λ x. Front SpellsValue bytes x.0 x.1 in
     either P _ _ (i, rest) e (front_byte SpellsValue (codes "%&") bytes (i, rest) (λ text is. inl (refl, inl is)))
     (λ f. either P _ _ (i, rest) f (front_copied SpellsValue bytes (general_at bytes) (i, rest) IsGeneral (general_begins bytes) (λ text is. inl (refl, inr is)))
     (λ g. either P _ _ (i, rest) g (front_character 10 (codes "&#") bytes (i, rest) (λ result text is. inl is))
     (λ h. either P _ _ (i, rest) h (front_character 16 (codes "&#x") bytes (i, rest) (λ result text is. inr is))
     (front_reference SpellsValue bytes (i, rest) (λ name text is. is)))))
 
-value_is_read : (i : Item) (text rest : List ℕ) → SpellsValue i text → value_at (text ++ rest) ≡ Some (i, rest)
+value_is_read : (i : TextItem) (text rest : List ℕ) → SpellsValue i text → value_at (text ++ rest) ≡ Some (i, rest)
 unfolding value_at
 value_is_read (puts result) text rest (inl (same, inl is)) = subst (λ r. value_at (text ++ rest) ≡ Some (puts r, rest)) (sym same) (first_is _ _ (puts text, rest) (byte_is (codes "%&") text rest is))
 value_is_read (puts result) text rest (inl (same, inr is)) =
@@ -155,7 +155,7 @@ value_is_read (reference name) text rest s =
 value_is_read (parameter name given) text rest s = absurd s
 value_is_read (declaration word held) text rest s = absurd s
 
-value_some : (i : Item) (text : List ℕ) → SpellsValue i text → text ≢ []
+value_some : (i : TextItem) (text : List ℕ) → SpellsValue i text → text ≢ []
 value_some (puts result) text (inl (same, inl is)) e = let w = is.whole in cc
 value_some (puts result) text (inl (same, inr is)) e = let w = is.1.whole in cc
 value_some (puts result) text (inr (inl is)) e = let w = is.is_ref.whole in cc

@@ -12,8 +12,8 @@ pub data Mode : Type 0 where
 -- What an item asks for: these bytes are put into the result; the text of the entity of this name
 -- is read; an entity of this name is declared, with this value in its quotes;
 -- a declaration with this word is copied, what it holds behind the word is read (XML 1.0, 4.4).
-pub data Item : Type 0 where
-  puts : (bytes : List ℕ) → Item
-  reference : (name : List ℕ) → Item
-  parameter : (name : List ℕ) → (given : List ℕ) → Item
-  declaration : (word : List ℕ) → (held : List ℕ) → Item
+pub data TextItem : Type 0 where
+  puts : (bytes : List ℕ) → TextItem
+  reference : (name : List ℕ) → TextItem
+  parameter : (name : List ℕ) → (given : List ℕ) → TextItem
+  declaration : (word : List ℕ) → (held : List ℕ) → TextItem

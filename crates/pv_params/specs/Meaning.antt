@@ -3,7 +3,7 @@ use Rattle.std.specs.Prelude.{◌≡◌, ◌≢◌, ℕ, suc, ◌+◌, ◌||◌,
 use Rattle.std.specs.Prelude.{◌++◌, length, codes, if◌then◌else◌, is_some, Option, Some, None}
 use Rattle.std.specs.List.{list_any}
 use Rattle.std.specs.Str.{bytes_eq}
-use Rattle.pv_params.specs.Items.{Mode, file, between, inside, value, Item, puts, reference}
+use Rattle.pv_params.specs.Items.{Mode, file, between, inside, value, TextItem, puts, reference}
 use Rattle.pv_params.specs.Items.{parameter, declaration}
 use Rattle.pv_params.specs.Spelling.{StandsAt, IsInside, IsConditional, IsExternal, HasHead}
 
@@ -66,17 +66,19 @@ put bytes before = record {
 
 -- ---- a reference that is read
 -- the first fault of a reference that is read (XML 1.0, 4.1, No Recursion, Entity Declared)
-pub data Refuses (mode : Mode) (reading : List (List ℕ)) (before : SoFar) (name : List ℕ) : Fault →
+pub data RefusesReference (mode : Mode) (reading : List (List ℕ)) (before : SoFar) (name : List ℕ) :
+    Fault →
     Type 0 where
-  no_entity : text_of name before.declared ≡ None → Refuses mode reading before name undeclared
+  no_entity : text_of name before.declared ≡ None →
+      RefusesReference mode reading before name undeclared
   being_read : {text : List ℕ} → text_of name before.declared ≡ Some text →
-      is_being_read name reading ≡ true → Refuses mode reading before name recursive
+      is_being_read name reading ≡ true → RefusesReference mode reading before name recursive
   past_limit : {text : List ℕ} → text_of name before.declared ≡ Some text →
       is_being_read name reading ≡ false → passes_limit before text ≡ true →
-      Refuses mode reading before name limit
+      RefusesReference mode reading before name limit
   not_inside : {text : List ℕ} → text_of name before.declared ≡ Some text →
       is_being_read name reading ≡ false → passes_limit before text ≡ false →
-      mode ≡ inside → (IsInside text → ⊥) → Refuses mode reading before name syntax
+      mode ≡ inside → (IsInside text → ⊥) → RefusesReference mode reading before name syntax
 
 -- a reference that is read has no fault, and this is its text
 pub record Enters (mode : Mode) (reading : List (List ℕ)) (before : SoFar) (name text : List ℕ) :
@@ -89,11 +91,11 @@ pub record Enters (mode : Mode) (reading : List (List ℕ)) (before : SoFar) (na
 -- ---- texts that are read within others
 -- what is done behind such a text: these bytes are put, or what it gave is declared, and the result
 -- is again what it was
-pub data Ending : Type 0 where
-  closes : (bytes : List ℕ) → Ending
-  declares : (name : List ℕ) → (result : List ℕ) → Ending
+pub data EndOfText : Type 0 where
+  closes : (bytes : List ℕ) → EndOfText
+  declares : (name : List ℕ) → (result : List ℕ) → EndOfText
 
-abbrev pub finish : Ending → SoFar → SoFar
+abbrev pub finish : EndOfText → SoFar → SoFar
 finish (closes bytes) after = put bytes after
 finish (declares name result) after = record {
   declared = with_entity name after.result after.declared;
@@ -110,7 +112,7 @@ pub record Within : Type 0 where
   pub reading : List (List ℕ)
   pub before : SoFar
   pub text : List ℕ
-  pub ending : Ending
+  pub ending : EndOfText
   pub mode_behind : Mode
   pub behind : List ℕ
 
@@ -208,7 +210,7 @@ IsBetween value = ⊥
 -- its front
 pub record BeginsNothing (mode : Mode) (rest : List ℕ) : Type 0 where
   pub some : rest ≢ []
-  pub no_item : (i : Item) (more : List ℕ) → StandsAt mode rest i more → ⊥
+  pub no_item : (i : TextItem) (more : List ℕ) → StandsAt mode rest i more → ⊥
   pub not_conditional : IsBetween mode → IsConditional rest → ⊥
   pub not_external : IsBetween mode → IsExternal rest → ⊥
 
@@ -229,7 +231,7 @@ pub data Stops (mode : Mode) (reading : List (List ℕ)) (before : SoFar) (rest 
     Type 0 where
   ends : rest ≡ [] → Stops mode reading before rest (gives before)
   refused : {name more : List ℕ} {fault : Fault} → StandsAt mode rest (reference name) more →
-      Refuses mode reading before name fault →
+      RefusesReference mode reading before name fault →
       Stops mode reading before rest (meets fault)
   of_section : IsBetween mode → IsConditional rest → Stops mode reading before rest (meets
       conditional)

@@ -1,10 +1,10 @@
 -- Texts that are being read one within another, as the program keeps them, and what they lead to.
 use Rattle.std.specs.Prelude.{◌≡◌, ℕ, suc, ◌+◌, ◌-◌, ◌*◌, Bool, true, false, List, [], ◌∷◌}
 use Rattle.std.specs.Prelude.{length, drop, codes, Option, Some, None}
-use Rattle.pv_params.specs.Items.{Mode, Item, puts, reference, parameter, declaration}
+use Rattle.pv_params.specs.Items.{Mode, TextItem, puts, reference, parameter, declaration}
 use Rattle.pv_params.specs.Spelling.{StandsAt}
 use Rattle.pv_params.specs.Meaning.{Fault}
-use Rattle.pv_params.specs.Meaning.{SoFar, MAX_REFERENCES, MAX_PLACED, Ending, closes}
+use Rattle.pv_params.specs.Meaning.{SoFar, MAX_REFERENCES, MAX_PLACED, EndOfText, closes}
 use Rattle.pv_params.specs.Meaning.{declares, finish, Opens, Outcome, gives, meets, Stops}
 use Rattle.pv_params.specs.Meaning.{Reads, put, behind_parameter}
 use Rattle.pv_params.specs.Meaning.{expansion_of, Expands}
@@ -20,7 +20,7 @@ pub record PlainOpenText : Type 0 where
   pub mode : Mode
   pub of_entity : Bool
   pub rest : List ℕ
-  pub ending : Ending
+  pub ending : EndOfText
 
 -- the names of the texts that are being read, the innermost first, behind the end of the innermost
 -- text
@@ -31,25 +31,25 @@ names_behind false names = names
 
 -- What a text within came to: behind one that was read to its end the others lead on, and else its
 -- fault is all.
-abbrev pub Comes : Ending → (SoFar → Type 0) → Outcome → Outcome → Type 0
+abbrev pub Comes : EndOfText → (SoFar → Type 0) → Outcome → Outcome → Type 0
 Comes ending LeadsOn (gives after) o = LeadsOn (finish ending after)
 Comes ending LeadsOn (meets fault) o = o ≡ meets fault
 
 -- Where the innermost of these texts is read on within the texts of these names behind what was
 -- read so far, the outermost comes to this.
-abbrev pub LeadsTo : List PlainOpenText → List (List ℕ) → SoFar → Outcome → Type 0
-LeadsTo [] reading before o = o ≡ gives before
-LeadsTo (p ∷ ps) reading before o =
+abbrev pub LeadToOutcome : List PlainOpenText → List (List ℕ) → SoFar → Outcome → Type 0
+LeadToOutcome [] reading before o = o ≡ gives before
+LeadToOutcome (p ∷ ps) reading before o =
     (q : Outcome) × Reads p.mode reading before p.rest q ×
-    Comes p.ending (λ after. LeadsTo ps (names_behind p.of_entity reading) after o) q o
+    Comes p.ending (λ after. LeadToOutcome ps (names_behind p.of_entity reading) after o) q o
 
 -- how much may still be read
 abbrev pub room_of : List PlainOpenText → ℕ
 room_of [] = 0
 room_of (p ∷ ps) = suc (length p.rest) + room_of ps
 
-abbrev pub weight_of : List PlainOpenText → SoFar → ℕ
-weight_of ps before = (MAX_REFERENCES - before.references) * (MAX_PLACED + 2) + room_of ps
+abbrev pub work_left : List PlainOpenText → SoFar → ℕ
+work_left ps before = (MAX_REFERENCES - before.references) * (MAX_PLACED + 2) + room_of ps
 
 -- ---- the program's values
 abbrev pub plain_so_far : State → SoFar
@@ -60,7 +60,7 @@ plain_so_far s = record {
   result = s.result.items;
 }
 
-abbrev pub plain_ending : TextEnding → Ending
+abbrev pub plain_ending : TextEnding → EndOfText
 plain_ending Nothing = closes []
 plain_ending Space = closes (codes " ")
 plain_ending Bracket = closes (codes ">")
@@ -82,7 +82,7 @@ stacked_on (p ∷ ps) others = stacked_on ps (plain_open_text p ∷ others)
 abbrev pub stacked : List OpenText → List PlainOpenText
 stacked ps = stacked_on ps []
 
-abbrev pub mode_behind : Item → Mode → Mode
+abbrev pub mode_behind : TextItem → Mode → Mode
 mode_behind (puts bytes) mode = mode
 mode_behind (reference name) mode = mode
 mode_behind (parameter name given) mode = behind_parameter mode
@@ -90,7 +90,7 @@ mode_behind (declaration word held) mode = mode
 
 -- This text is read within, wherever the item stands, and behind its end the names are those that
 -- they were.
-pub record OpensAt (mode : Mode) (reading : List (List ℕ)) (before : SoFar) (i : Item)
+pub record OpensAt (mode : Mode) (reading : List (List ℕ)) (before : SoFar) (i : TextItem)
     (p : PlainOpenText) (reading_within : List (List ℕ)) (after : SoFar) : Type 0 where
   pub opens : (rest more : List ℕ) → StandsAt mode rest i more →
       Opens mode reading before rest record {
@@ -105,7 +105,8 @@ pub record OpensAt (mode : Mode) (reading : List (List ℕ)) (before : SoFar) (i
   pub names : names_behind p.of_entity reading_within ≡ reading
 
 -- What is done with an item: bytes are put, or a text is read within.
-abbrev pub Handles : Mode → List (List ℕ) → SoFar → Item → Option PlainOpenText → List (List ℕ) →
+abbrev pub Handles : Mode → List (List ℕ) → SoFar → TextItem → Option PlainOpenText →
+    List (List ℕ) →
     SoFar → Type 0
 Handles mode reading before (puts bytes) None names after =
     (after ≡ put bytes before) × (names ≡ reading)
@@ -114,11 +115,11 @@ Handles mode reading before i None names after = ⊥
 Handles mode reading before i (Some p) names after = OpensAt mode reading before i p names after
 
 -- where an item stands, reading stops with this fault
-abbrev pub StopsAt : Mode → List (List ℕ) → SoFar → Item → Fault → Type 0
+abbrev pub StopsAt : Mode → List (List ℕ) → SoFar → TextItem → Fault → Type 0
 StopsAt mode reading before i fault = (rest more : List ℕ) → StandsAt mode rest i more →
     Stops mode reading before rest (meets fault)
 
 -- whatever these texts lead to, the file has that expansion
-abbrev pub Leads : List ℕ → List PlainOpenText → List (List ℕ) → SoFar → Type 0
-Leads bytes ps reading before =
-    (o : Outcome) → LeadsTo ps reading before o → Expands bytes (expansion_of o)
+abbrev pub LeadToExpansion : List ℕ → List PlainOpenText → List (List ℕ) → SoFar → Type 0
+LeadToExpansion bytes ps reading before =
+    (o : Outcome) → LeadToOutcome ps reading before o → Expands bytes (expansion_of o)

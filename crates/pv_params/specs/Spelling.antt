@@ -9,7 +9,7 @@ use Rattle.pv_chars.specs.Markup.{IsComment, IsInstruction}
 use Rattle.pv_chars.specs.Declarations.{is_one_of, IsQuoted, IsTextDecl}
 use Rattle.pv_chars.specs.ByteOrderMark.{IsBehindByteOrderMark}
 use Rattle.pv_chars.specs.References.{number, IsCharRefIn, IsEntityRef}
-use Rattle.pv_params.specs.Items.{Mode, file, between, inside, value, Item, puts, reference}
+use Rattle.pv_params.specs.Items.{Mode, file, between, inside, value, TextItem, puts, reference}
 use Rattle.pv_params.specs.Items.{parameter, declaration}
 
 -- PEReference: `%`, this Name, `;` (XML 1.0, 4.1)
@@ -30,13 +30,13 @@ pub record IsWhite (bytes : List ℕ) : Type 0 where
   pub whole : bytes ≡ byte ∷ []
 
 -- a literal, with its quotes
-abbrev pub IsLiteral : List ℕ → Type 0
-IsLiteral bytes = (text : List ℕ) × IsQuoted text bytes
+abbrev pub IsQuotedLiteral : List ℕ → Type 0
+IsQuotedLiteral bytes = (text : List ℕ) × IsQuoted text bytes
 
 -- ---- mode Inside: bytes other than `<`, `>`, `%` and the quotes, literals, references
-abbrev pub SpellsInside : Item → List ℕ → Type 0
+abbrev pub SpellsInside : TextItem → List ℕ → Type 0
 SpellsInside (puts result) text =
-    (result ≡ text) × (IsByteBut (codes "<>%'\"") text ⊎ IsLiteral text)
+    (result ≡ text) × (IsByteBut (codes "<>%'\"") text ⊎ IsQuotedLiteral text)
 SpellsInside (reference name) text = IsPEReference name text
 SpellsInside (parameter name given) text = ⊥
 SpellsInside (declaration word held) text = ⊥
@@ -55,7 +55,7 @@ IsCharacter result bytes = IsCharacterIn 10 (codes "&#") result bytes ⊎
 abbrev pub IsGeneral : List ℕ → Type 0
 IsGeneral bytes = (name : List ℕ) × IsEntityRef name bytes
 
-abbrev pub SpellsValue : Item → List ℕ → Type 0
+abbrev pub SpellsValue : TextItem → List ℕ → Type 0
 SpellsValue (puts result) text = ((result ≡ text) × (IsByteBut (codes "%&") text ⊎
     IsGeneral text)) ⊎ IsCharacter result text
 SpellsValue (reference name) text = IsPEReference name text
@@ -63,9 +63,10 @@ SpellsValue (parameter name given) text = ⊥
 SpellsValue (declaration word held) text = ⊥
 
 -- such items, one after the other, and nothing else
-pub data AreItems (Spells : Item → List ℕ → Type 0) : List ℕ → Type 0 where
+pub data AreItems (Spells : TextItem → List ℕ → Type 0) : List ℕ → Type 0 where
   nothing : {text : List ℕ} → text ≡ [] → AreItems Spells text
-  item : {text : List ℕ} (i : Item) (front rest : List ℕ) → Spells i front → AreItems Spells rest →
+  item : {text : List ℕ} (i : TextItem) (front rest : List ℕ) → Spells i front →
+      AreItems Spells rest →
       text ≡ front ++ rest → AreItems Spells text
 
 -- the whole text is of the form of mode Inside
@@ -110,7 +111,7 @@ pub record IsDeclaration (word held bytes : List ℕ) : Type 0 where
   pub is_inside : IsInside held
   pub whole : bytes ≡ word ++ (held ++ codes ">")
 
-abbrev pub SpellsBetween : Item → List ℕ → Type 0
+abbrev pub SpellsBetween : TextItem → List ℕ → Type 0
 SpellsBetween (puts result) text = (result ≡ text) × (IsWhite text ⊎ (IsComment text ⊎
     IsInstruction text))
 SpellsBetween (reference name) text = IsPEReference name text
@@ -118,14 +119,14 @@ SpellsBetween (parameter name given) text = IsPEDecl name given text
 SpellsBetween (declaration word held) text = IsDeclaration word held text
 
 -- ---- all modes
-abbrev pub Spells : Mode → Item → List ℕ → Type 0
+abbrev pub Spells : Mode → TextItem → List ℕ → Type 0
 Spells (file after_parameter) = SpellsBetween
 Spells between = SpellsBetween
 Spells inside = SpellsInside
 Spells value = SpellsValue
 
 -- this item stands at the front of the rest of a text that is read in this mode, and this behind it
-pub record StandsAt (mode : Mode) (rest : List ℕ) (i : Item) (more : List ℕ) : Type 0 where
+pub record StandsAt (mode : Mode) (rest : List ℕ) (i : TextItem) (more : List ℕ) : Type 0 where
   pub text : List ℕ
   pub spelled : Spells mode i text
   pub whole : rest ≡ text ++ more

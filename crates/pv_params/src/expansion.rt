@@ -12,7 +12,7 @@ use crate::errors::ParamError;
 use crate::fronts::before;
 use crate::names::NamesBeingRead;
 use crate::open_texts::OpenText;
-use crate::reading::Reading;
+use crate::reading::TextStack;
 use crate::state::{State, TextEnding};
 use crate::text_mode::TextMode;
 use pv_chars::declarations::after_text_decl;
@@ -51,7 +51,7 @@ fn expanded_file(alloc: Global, bytes: &[u8]) -> Result<Vec<u8>, ParamError>
     };
     let mut texts = Vec::new(alloc);
     texts.push(file)?;
-    let mut reading = Reading {
+    let mut reading = TextStack {
         texts,
         names: NamesBeingRead::new(alloc),
         so_far: State {
@@ -62,7 +62,7 @@ fn expanded_file(alloc: Global, bytes: &[u8]) -> Result<Vec<u8>, ParamError>
         },
     };
     'steps: while reading.step(alloc)? {}
-    let Reading {
+    let TextStack {
         texts: _,
         names: _,
         so_far,

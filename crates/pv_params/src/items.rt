@@ -6,12 +6,13 @@ ghost use Rattle.pv_chars.specs.Spaces.{is_space, begins};
 ghost use Rattle.pv_chars.specs.CharReading.{quoted_at, is_chars};
 ghost use Rattle.pv_params.specs.ItemReading.{front_of, byte_at, white_at, literal_at, general_at};
 ghost use Rattle.pv_params.specs.ItemReading.{named_at, reference_at, inside_at, character_at};
-ghost use Rattle.pv_params.specs.ItemReading.{value_at, copied, are_items, behind_items, is_inside};
+ghost use Rattle.pv_params.specs.ItemReading.{value_at, copy_up_to, are_items, behind_items};
+ghost use Rattle.pv_params.specs.ItemReading.{is_inside};
 ghost use Rattle.pv_params.specs.ItemReading.{is_value, parameter_named, parameter_given};
-ghost use Rattle.pv_params.specs.ItemReading.{parameter_at, word_at, held_at, held_by};
+ghost use Rattle.pv_params.specs.ItemReading.{parameter_at, keyword_at, held_at, held_by};
 ghost use Rattle.pv_params.specs.ItemReading.{declaration_at, between_at, item_at, external_word};
 ghost use Rattle.pv_params.specs.ItemReading.{external_at, digits_at};
-ghost use Rattle.pv_params.specs.PlainForms.{plain_item, plain_mode, plain_found};
+ghost use Rattle.pv_params.specs.PlainForms.{plain_item, plain_mode, plain_item_found};
 
 use crate::fronts::{after_named, before};
 use crate::plain_bytes::behind_run;
@@ -40,7 +41,7 @@ pub enum SpelledItem<'a> {
 
 #[tactic(auto, unfolding(crate::specs::ItemReading::byte_at))]
 fn byte_at<'a>(others: &[u8], bytes: &'a [u8]) -> Option<(SpelledItem<'a>, &'a [u8])>
-    ensures { option_map plain_found result ≡ byte_at others.now bytes.now }
+    ensures { option_map plain_item_found result ≡ byte_at others.now bytes.now }
 {
     match bytes {
         [b, rest @ ..] if !is_one_of(others, *b) => Some((SpelledItem::Byte(*b), rest)),
@@ -50,7 +51,7 @@ fn byte_at<'a>(others: &[u8], bytes: &'a [u8]) -> Option<(SpelledItem<'a>, &'a [
 
 #[tactic(auto, unfolding(crate::specs::ItemReading::white_at))]
 fn white_at(bytes: &[u8]) -> Option<(SpelledItem<'_>, &[u8])>
-    ensures { option_map plain_found result ≡ white_at bytes.now }
+    ensures { option_map plain_item_found result ≡ white_at bytes.now }
 {
     match bytes {
         [b, rest @ ..] if is_space(*b) => Some((SpelledItem::Byte(*b), rest)),
@@ -59,10 +60,10 @@ fn white_at(bytes: &[u8]) -> Option<(SpelledItem<'_>, &[u8])>
 }
 
 // What is copied, where this stands behind it.
-#[tactic(auto, unfolding(crate::specs::ItemReading::copied))]
-fn copied<'a>(bytes: &'a [u8], rest: Option<&'a [u8]>) -> Option<(SpelledItem<'a>, &'a [u8])>
-    ensures { option_map plain_found result ≡
-        copied bytes.now (option_map (λ r. r.now) rest.entry) }
+#[tactic(auto, unfolding(crate::specs::ItemReading::copy_up_to))]
+fn copy_up_to<'a>(bytes: &'a [u8], rest: Option<&'a [u8]>) -> Option<(SpelledItem<'a>, &'a [u8])>
+    ensures { option_map plain_item_found result ≡
+        copy_up_to bytes.now (option_map (λ r. r.now) rest.entry) }
 {
     match rest {
         Some(rest) => Some((SpelledItem::Text(before(bytes, rest)), rest)),
@@ -90,7 +91,7 @@ fn general_at(bytes: &[u8]) -> Option<&[u8]>
 
 #[tactic(auto, unfolding(crate::specs::ItemReading::reference_at))]
 fn reference_at(bytes: &[u8]) -> Option<(SpelledItem<'_>, &[u8])>
-    ensures { option_map plain_found result ≡ reference_at bytes.now }
+    ensures { option_map plain_item_found result ≡ reference_at bytes.now }
 {
     let (name, rest) = after_named(b'%', bytes)?;
     Some((SpelledItem::Reference(name), rest))
@@ -98,12 +99,12 @@ fn reference_at(bytes: &[u8]) -> Option<(SpelledItem<'_>, &[u8])>
 
 #[tactic(auto, unfolding(crate::specs::ItemReading::inside_at, crate::specs::ItemReading::or_else))]
 fn inside_at(bytes: &[u8]) -> Option<(SpelledItem<'_>, &[u8])>
-    ensures { option_map plain_found result ≡ inside_at bytes.now }
+    ensures { option_map plain_item_found result ≡ inside_at bytes.now }
 {
     if let Some(found) = byte_at(b"<>%'\"", bytes) {
         return Some(found);
     }
-    if let Some(found) = copied(bytes, literal_at(bytes)) {
+    if let Some(found) = copy_up_to(bytes, literal_at(bytes)) {
         return Some(found);
     }
     reference_at(bytes)
@@ -114,7 +115,7 @@ fn inside_at(bytes: &[u8]) -> Option<(SpelledItem<'_>, &[u8])>
 fn character_at<'a>(base: u32, front: &[u8], bytes: &'a [u8]) -> Option<(SpelledItem<'a>, &'a [u8])>
     requires some { 2 ≤ base }
     requires known { base ≤ 36 }
-    ensures { option_map plain_found result ≡ character_at base front.now bytes.now }
+    ensures { option_map plain_item_found result ≡ character_at base front.now bytes.now }
 {
     let start = after_bytes(front, bytes)?;
     let (value, end) = digits_at(base, start);
@@ -128,12 +129,12 @@ fn character_at<'a>(base: u32, front: &[u8], bytes: &'a [u8]) -> Option<(Spelled
 
 #[tactic(auto, unfolding(crate::specs::ItemReading::value_at, crate::specs::ItemReading::or_else))]
 fn value_at(bytes: &[u8]) -> Option<(SpelledItem<'_>, &[u8])>
-    ensures { option_map plain_found result ≡ value_at bytes.now }
+    ensures { option_map plain_item_found result ≡ value_at bytes.now }
 {
     if let Some(found) = byte_at(b"%&", bytes) {
         return Some(found);
     }
-    if let Some(found) = copied(bytes, general_at(bytes)) {
+    if let Some(found) = copy_up_to(bytes, general_at(bytes)) {
         return Some(found);
     }
     if let Some(found) = character_at(10, b"&#", bytes) {
@@ -212,7 +213,7 @@ fn parameter_given(bytes: &[u8]) -> Option<(&[u8], &[u8])>
 
 #[tactic(auto, unfolding(crate::specs::ItemReading::parameter_at))]
 fn parameter_at(bytes: &[u8]) -> Option<(SpelledItem<'_>, &[u8])>
-    ensures { option_map plain_found result ≡ parameter_at bytes.now }
+    ensures { option_map plain_item_found result ≡ parameter_at bytes.now }
 {
     let (name, behind) = parameter_named(bytes)?;
     let (given, rest) = parameter_given(behind)?;
@@ -220,9 +221,9 @@ fn parameter_at(bytes: &[u8]) -> Option<(SpelledItem<'_>, &[u8])>
 }
 
 // The word of another declaration at the front, and what stands behind it.
-#[tactic(auto, unfolding(crate::specs::ItemReading::word_at, crate::specs::ItemReading::or_else))]
-fn word_at(bytes: &[u8]) -> Option<(&'static [u8], &[u8])>
-    ensures { option_map (λ r. (r.0.now, r.1.now)) result ≡ word_at bytes.now }
+#[tactic(auto, unfolding(crate::specs::ItemReading::keyword_at, crate::specs::ItemReading::or_else))]
+fn keyword_at(bytes: &[u8]) -> Option<(&'static [u8], &[u8])>
+    ensures { option_map (λ r. (r.0.now, r.1.now)) result ≡ keyword_at bytes.now }
 {
     if let Some(rest) = after_bytes(b"<!ELEMENT", bytes) {
         return Some((b"<!ELEMENT", rest));
@@ -263,24 +264,24 @@ fn held_at(bytes: &[u8]) -> Option<(&[u8], &[u8])>
 
 #[tactic(auto, unfolding(crate::specs::ItemReading::declaration_at))]
 fn declaration_at(bytes: &[u8]) -> Option<(SpelledItem<'_>, &[u8])>
-    ensures { option_map plain_found result ≡ declaration_at bytes.now }
+    ensures { option_map plain_item_found result ≡ declaration_at bytes.now }
 {
-    let (word, behind) = word_at(bytes)?;
+    let (word, behind) = keyword_at(bytes)?;
     let (held, rest) = held_at(behind)?;
     Some((SpelledItem::Declaration(word, held), rest))
 }
 
 #[tactic(auto, unfolding(crate::specs::ItemReading::between_at, crate::specs::ItemReading::or_else))]
 fn between_at(bytes: &[u8]) -> Option<(SpelledItem<'_>, &[u8])>
-    ensures { option_map plain_found result ≡ between_at bytes.now }
+    ensures { option_map plain_item_found result ≡ between_at bytes.now }
 {
     if let Some(found) = white_at(bytes) {
         return Some(found);
     }
-    if let Some(found) = copied(bytes, comment_at(bytes)) {
+    if let Some(found) = copy_up_to(bytes, comment_at(bytes)) {
         return Some(found);
     }
-    if let Some(found) = copied(bytes, instruction_at(bytes)) {
+    if let Some(found) = copy_up_to(bytes, instruction_at(bytes)) {
         return Some(found);
     }
     if let Some(found) = reference_at(bytes) {
@@ -296,7 +297,7 @@ fn between_at(bytes: &[u8]) -> Option<(SpelledItem<'_>, &[u8])>
 /// it.
 #[tactic(auto, unfolding(crate::specs::ItemReading::item_at))]
 pub fn item_at(mode: TextMode, bytes: &[u8]) -> Option<(SpelledItem<'_>, &[u8])>
-    ensures { option_map plain_found result ≡ item_at (plain_mode mode) bytes.now }
+    ensures { option_map plain_item_found result ≡ item_at (plain_mode mode) bytes.now }
 {
     match mode {
         TextMode::File(_) => between_at(bytes),

@@ -120,7 +120,7 @@ fn text_within(
 }
 
 // The text of the entity of this name, to be read within a text of this mode.
-fn referred(
+fn open_entity(
     alloc: Global,
     so_far: &mut State,
     names: &mut NamesBeingRead,
@@ -153,7 +153,7 @@ fn referred(
 
 /// Does what an item of a text of this mode asks for: the text that is read within, where there is
 /// one.
-pub fn handled(
+pub fn handle(
     alloc: Global,
     so_far: &mut State,
     names: &mut NamesBeingRead,
@@ -179,7 +179,7 @@ pub fn handled(
             so_far.put_character(c)?;
             Ok(None)
         }
-        SpelledItem::Reference(name) => match referred(alloc, so_far, names, mode, name) {
+        SpelledItem::Reference(name) => match open_entity(alloc, so_far, names, mode, name) {
             Ok(inner) => Ok(Some(inner)),
             Err(error) => Err(error),
         },

@@ -6,12 +6,12 @@ ghost use Rattle.pv_params.specs.Meaning.{Outcome, meets};
 ghost use Rattle.pv_params.specs.PlainBytes.{IsBehindRun};
 ghost use Rattle.pv_params.specs.OpenTexts.{plain_so_far, plain_open_text, stacked};
 ghost use Rattle.pv_params.specs.Answers.{Tells};
-ghost use Rattle.pv_params.specs.OpenTexts.{LeadsTo, weight_of};
+ghost use Rattle.pv_params.specs.OpenTexts.{LeadToOutcome, work_left};
 
 use crate::errors::ParamError;
 use crate::items::item_at;
 use crate::names::NamesBeingRead;
-use crate::open_texts::{OpenText, handled, mode_behind, unread};
+use crate::open_texts::{OpenText, handle, mode_behind, unread};
 use crate::plain_bytes::behind_run;
 use crate::state::State;
 use std::alloc::Global;
@@ -19,24 +19,24 @@ use std::alloc::Global;
 /// The texts that are being read, the innermost last, the names of those that are entities', and
 /// what was read so far.
 #[derive(Drop)]
-pub struct Reading {
+pub struct TextStack {
     pub texts: Vec<OpenText>,
     pub names: NamesBeingRead,
     pub so_far: State,
 }
 
-impl Reading {
+impl TextStack {
     // Reads the item at the front of the rest of this text.
     fn read(&mut self, alloc: Global, top: OpenText) -> Result<(), ParamError>
         requires { (plain_open_text top).rest ≢ [] }
-        ensures leads { OnOk result ((o : Outcome) → LeadsTo (stacked self.new.texts.items)
+        ensures leads { OnOk result ((o : Outcome) → LeadToOutcome (stacked self.new.texts.items)
             self.new.names (plain_so_far self.new.so_far) o →
-            LeadsTo (plain_open_text top ∷ stacked self.old.texts.items) self.old.names
+            LeadToOutcome (plain_open_text top ∷ stacked self.old.texts.items) self.old.names
             (plain_so_far self.old.so_far) o) }
-        ensures stops { IfErr result (Tells (λ fault. LeadsTo (plain_open_text top ∷ stacked
+        ensures stops { IfErr result (Tells (λ fault. LeadToOutcome (plain_open_text top ∷ stacked
             self.old.texts.items) self.old.names (plain_so_far self.old.so_far) (meets fault))) }
-        ensures less { OnOk result (weight_of (stacked self.new.texts.items) (plain_so_far
-            self.new.so_far) < weight_of (plain_open_text top ∷ stacked self.old.texts.items)
+        ensures less { OnOk result (work_left (stacked self.new.texts.items) (plain_so_far
+            self.new.so_far) < work_left (plain_open_text top ∷ stacked self.old.texts.items)
             (plain_so_far self.old.so_far)) }
     {
         let Some((item, more)) = item_at(top.mode, top.rest()) else {
@@ -51,7 +51,7 @@ impl Reading {
         };
         let left = more.len();
         let behind = mode_behind(&item, top.mode);
-        match handled(alloc, &mut self.so_far, &mut self.names, top.mode, item) {
+        match handle(alloc, &mut self.so_far, &mut self.names, top.mode, item) {
             Ok(None) => {
                 self.texts.push(top.behind(behind, left))?;
                 Ok(())
@@ -71,14 +71,14 @@ impl Reading {
         requires run { IsBehindRun (plain_open_text top).mode (plain_open_text top).rest
             (drop (length top.text.items - left) top.text.items) }
         requires some { left < length (plain_open_text top).rest }
-        ensures leads { OnOk result ((o : Outcome) → LeadsTo (stacked self.new.texts.items)
+        ensures leads { OnOk result ((o : Outcome) → LeadToOutcome (stacked self.new.texts.items)
             self.new.names (plain_so_far self.new.so_far) o →
-            LeadsTo (plain_open_text top ∷ stacked self.old.texts.items) self.old.names
+            LeadToOutcome (plain_open_text top ∷ stacked self.old.texts.items) self.old.names
             (plain_so_far self.old.so_far) o) }
-        ensures stops { IfErr result (Tells (λ fault. LeadsTo (plain_open_text top ∷ stacked
+        ensures stops { IfErr result (Tells (λ fault. LeadToOutcome (plain_open_text top ∷ stacked
             self.old.texts.items) self.old.names (plain_so_far self.old.so_far) (meets fault))) }
-        ensures less { OnOk result (weight_of (stacked self.new.texts.items) (plain_so_far
-            self.new.so_far) < weight_of (plain_open_text top ∷ stacked self.old.texts.items)
+        ensures less { OnOk result (work_left (stacked self.new.texts.items) (plain_so_far
+            self.new.so_far) < work_left (plain_open_text top ∷ stacked self.old.texts.items)
             (plain_so_far self.old.so_far)) }
     {
         let rest = top.rest();
@@ -91,14 +91,14 @@ impl Reading {
     // Reads on in this text.
     fn go_on(&mut self, alloc: Global, top: OpenText) -> Result<(), ParamError>
         requires { (plain_open_text top).rest ≢ [] }
-        ensures leads { OnOk result ((o : Outcome) → LeadsTo (stacked self.new.texts.items)
+        ensures leads { OnOk result ((o : Outcome) → LeadToOutcome (stacked self.new.texts.items)
             self.new.names (plain_so_far self.new.so_far) o →
-            LeadsTo (plain_open_text top ∷ stacked self.old.texts.items) self.old.names
+            LeadToOutcome (plain_open_text top ∷ stacked self.old.texts.items) self.old.names
             (plain_so_far self.old.so_far) o) }
-        ensures stops { IfErr result (Tells (λ fault. LeadsTo (plain_open_text top ∷ stacked
+        ensures stops { IfErr result (Tells (λ fault. LeadToOutcome (plain_open_text top ∷ stacked
             self.old.texts.items) self.old.names (plain_so_far self.old.so_far) (meets fault))) }
-        ensures less { OnOk result (weight_of (stacked self.new.texts.items) (plain_so_far
-            self.new.so_far) < weight_of (plain_open_text top ∷ stacked self.old.texts.items)
+        ensures less { OnOk result (work_left (stacked self.new.texts.items) (plain_so_far
+            self.new.so_far) < work_left (plain_open_text top ∷ stacked self.old.texts.items)
             (plain_so_far self.old.so_far)) }
     {
         let left = behind_run(top.mode, top.rest()).len();
@@ -112,13 +112,14 @@ impl Reading {
     /// One step, where a text is being read; whether one was.
     pub fn step(&mut self, alloc: Global) -> Result<bool, ParamError>
         ensures leads { IfOk result (λ more. (o : Outcome) →
-            LeadsTo (stacked self.new.texts.items) self.new.names (plain_so_far self.new.so_far) o →
-            LeadsTo (stacked self.old.texts.items) self.old.names
+            LeadToOutcome (stacked self.new.texts.items) self.new.names
+            (plain_so_far self.new.so_far) o →
+            LeadToOutcome (stacked self.old.texts.items) self.old.names
             (plain_so_far self.old.so_far) o) }
-        ensures stops { IfErr result (Tells (λ fault. LeadsTo (stacked self.old.texts.items)
+        ensures stops { IfErr result (Tells (λ fault. LeadToOutcome (stacked self.old.texts.items)
             self.old.names (plain_so_far self.old.so_far) (meets fault))) }
         ensures less { IfOk result (λ more. IsTrue more →
-            weight_of (stacked self.new.texts.items) (plain_so_far self.new.so_far) < weight_of
+            work_left (stacked self.new.texts.items) (plain_so_far self.new.so_far) < work_left
             (stacked self.old.texts.items) (plain_so_far self.old.so_far)) }
         ensures ended { IfOk result (λ more. more ≡ false → self.new.texts.items ≡ []) }
     {

@@ -1,7 +1,7 @@
 -- The least sum that the rules give a site over no tokens, by what stands there.
 use Rattle.std.proofs.Common.{List, None, Option, Some, [], ap, arith, refl, slice_get, subst, suc, sym, true, ℕ, ◌+◌, ◌∙◌, ◌∷◌, ◌≡◌, ◌≤◌}
 use Rattle.pv_model.specs.Plain.{PlainModel, PlainPart, PlainParts, any, children, choice, empty, mixed, name, no_parts, opt, part, plus, seq, star}
-use Rattle.pv_dtd.specs.Facts.{is_formed}
+use Rattle.pv_dtd.specs.Facts.{is_formed_part}
 use Rattle.pv_dtd.specs.Plain.{PlainDtd, parts_in}
 use Rattle.pv_rules.specs.Flat.{content_kind_of, flat_contents}
 use Rattle.pv_rules.specs.Kinds.{OfPart}
@@ -57,7 +57,7 @@ module _ (g : PlainDtd) (t : Table) where
   part_name_sum q y k e z =
       through 0 k (part_site q) (name_site y) (part_name q y 0 0 (none_span g) e) (λ j xs r. let h = part_rules g q (Some (name y)) e j xs r in (h.1, h.2)) (omega arith)
 
-  pub seq_sum : (q k : ℕ) (ps : PlainParts) → is_formed (seq ps) ≡ true → part_at g q ≡ Some (seq ps) → k ≡ size_at t.rests (suc q) → IsLeastSum g t (part_site q) k
+  pub seq_sum : (q k : ℕ) (ps : PlainParts) → is_formed_part (seq ps) ≡ true → part_at g q ≡ Some (seq ps) → k ≡ size_at t.rests (suc q) → IsLeastSum g t (part_site q) k
   seq_sum q k no_parts f e z = absurd cc
   seq_sum q k (part p ps) f e z =
       through 0 k (part_site q) (rest_site (suc q)) (part_seq q 0 0 p ps (none_span g) e)

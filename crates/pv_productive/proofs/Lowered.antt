@@ -17,7 +17,7 @@ use Rattle.pv_rules.proofs.ByKind.{by_kind}
 use Rattle.pv_rules.proofs.Facts.{parts_by_number}
 use Rattle.pv_rules.proofs.Members.{some_part}
 use Rattle.pv_rules.proofs.Spans.{over_spans}
-use Rattle.pv_productive.specs.Tables.{AreNamesSettled, ArePartsSettled, HasSize, IsAttained, IsLeastSum, IsLowered, IsLowering, IsSettled, IsSettledAt, Table, cut, no_size, size_at, size_in, size_of, sum_in, total}
+use Rattle.pv_productive.specs.Tables.{AreNamesSettled, ArePartsSettled, HasSize, IsAttained, IsLeastSum, IsLowered, IsLowering, IsSettled, IsSettledAt, Table, capped, no_size, size_at, size_in, size_of, sum_in, total}
 use Rattle.pv_productive.proofs.Cutting.{cut_below, cut_few, cut_least, cut_many, cut_mono}
 use Rattle.pv_productive.proofs.Paid.{by_none, by_one, none_span}
 use Rattle.pv_productive.proofs.Weighing.{content_rules, name_rules, part_rules, rest_rules}
@@ -57,7 +57,7 @@ module _ (g : PlainDtd) (t : Table) (a : IsAttained g t) where
       let h : Derives (Rule g []) d.0 (over x.site x.from x.to) = rw (i, j) d.1 in
       (d.0 + r.0, one_more (d.0 + r.0) d.0 r.0 x xs refl h r.1, let y = d.2 in let z = r.2 in omega arith)
 
-  pub sum_attained : (s : PlainSite) (k : ℕ) → IsLeastSum g t s k → HasSize g s (cut k)
+  pub sum_attained : (s : PlainSite) (k : ℕ) → IsLeastSum g t s k → HasSize g s (capped k)
   sum_attained s k l = (
     cut_least k,
     λ f.
@@ -68,7 +68,7 @@ module _ (g : PlainDtd) (t : Table) (a : IsAttained g t) where
         (b.0 + r.0, by_rule (b.0 + r.0) b.0 r.0 (over s 0 0) b.1 refl b.2 r.1, let e = cut_few k few in let y = r.2 in omega arith),
   )
 
-  pub sum_settled : (s : PlainSite) (k : ℕ) → IsLeastSum g t s k → size_of g t s ≤ cut k → IsSettledAt g t s
+  pub sum_settled : (s : PlainSite) (k : ℕ) → IsLeastSum g t s k → size_of g t s ≤ capped k → IsSettledAt g t s
   sum_settled s k l e c xs r = let m = cut_mono k (c + total g t xs) (l.below c xs r) in omega arith
 
 same_or_not : (k i : ℕ) → (k ≡ i) ⊎ (k ≢ i)
@@ -96,7 +96,7 @@ module _ (g : PlainDtd) where
   changed P old new a l = record { attained = a; same = λ f. absurd cc; settled = λ f. absurd cc; less = λ _. l }
 
   pub lowered_part : (old : Table) (cells : List ℕ) (q k : ℕ) (b : Bool) → IsAttained g old → q < parts_in_models g.models → IsLeastSum g old (part_site q) k →
-      IsLowered old.parts cells q (cut k) b → IsLowering g (At (part_site q)) old (record { names = old.names; parts = cells; rests = old.rests }) b
+      IsLowered old.parts cells q (capped k) b → IsLowering g (At (part_site q)) old (record { names = old.names; parts = cells; rests = old.rests }) b
   lowered_part old cells q k true a lt l w =
       let d = w.lowered refl in let long : q < length old.parts = let z = a.all_parts in omega arith in
       changed (At (part_site q)) old (record { names = old.names; parts = cells; rests = old.rests })
@@ -105,16 +105,16 @@ module _ (g : PlainDtd) where
         all_parts = let z = a.all_parts in rw d.1 (simp length-set z);
         all_rests = a.all_rests;
         names = a.names;
-        parts = rw d.1 (lowered_each (λ m x. HasSize g (part_site m) x) old.parts q (cut k) long (sum_attained g old a (part_site q) k l) a.parts);
+        parts = rw d.1 (lowered_each (λ m x. HasSize g (part_site m) x) old.parts q (capped k) long (sum_attained g old a (part_site q) k l) a.parts);
         rests = a.rests;
       })
-      (let s = lowered_sum old.parts q (cut k) long d.0 in rw d.1 (omega arith))
+      (let s = lowered_sum old.parts q (capped k) long d.0 in rw d.1 (omega arith))
   lowered_part old cells q k false a lt l w =
       let d = w.kept refl in
       kept (At (part_site q)) old (record { names = old.names; parts = cells; rests = old.rests }) a (ap (λ x. let t : Table = record { names = old.names; parts = x; rests = old.rests } in t) d.1) (sum_settled g old a (part_site q) k l d.0)
 
   pub lowered_rest : (old : Table) (cells : List ℕ) (q k : ℕ) (b : Bool) → IsAttained g old → q < parts_in_models g.models → IsLeastSum g old (rest_site q) k →
-      IsLowered old.rests cells q (cut k) b → IsLowering g (At (rest_site q)) old (record { names = old.names; parts = old.parts; rests = cells }) b
+      IsLowered old.rests cells q (capped k) b → IsLowering g (At (rest_site q)) old (record { names = old.names; parts = old.parts; rests = cells }) b
   lowered_rest old cells q k true a lt l w =
       let d = w.lowered refl in let long : q < length old.rests = let z = a.all_rests in omega arith in
       changed (At (rest_site q)) old (record { names = old.names; parts = old.parts; rests = cells })
@@ -124,15 +124,15 @@ module _ (g : PlainDtd) where
         all_rests = let z = a.all_rests in rw d.1 (simp length-set z);
         names = a.names;
         parts = a.parts;
-        rests = rw d.1 (lowered_each (λ m x. HasSize g (rest_site m) x) old.rests q (cut k) long (sum_attained g old a (rest_site q) k l) a.rests);
+        rests = rw d.1 (lowered_each (λ m x. HasSize g (rest_site m) x) old.rests q (capped k) long (sum_attained g old a (rest_site q) k l) a.rests);
       })
-      (let s = lowered_sum old.rests q (cut k) long d.0 in rw d.1 (omega arith))
+      (let s = lowered_sum old.rests q (capped k) long d.0 in rw d.1 (omega arith))
   lowered_rest old cells q k false a lt l w =
       let d = w.kept refl in
       kept (At (rest_site q)) old (record { names = old.names; parts = old.parts; rests = cells }) a (ap (λ x. let t : Table = record { names = old.names; parts = old.parts; rests = x } in t) d.1) (sum_settled g old a (rest_site q) k l d.0)
 
   pub lowered_name : (old : Table) (cells : List ℕ) (q k : ℕ) (b : Bool) → IsAttained g old → q < length g.names → IsLeastSum g old (name_site q) k →
-      IsLowered old.names cells q (cut k) b → IsLowering g (At (name_site q)) old (record { names = cells; parts = old.parts; rests = old.rests }) b
+      IsLowered old.names cells q (capped k) b → IsLowering g (At (name_site q)) old (record { names = cells; parts = old.parts; rests = old.rests }) b
   lowered_name old cells q k true a lt l w =
       let d = w.lowered refl in let long : q < length old.names = let z = a.all_names in omega arith in
       changed (At (name_site q)) old (record { names = cells; parts = old.parts; rests = old.rests })
@@ -140,11 +140,11 @@ module _ (g : PlainDtd) where
         all_names = let z = a.all_names in rw d.1 (simp length-set z);
         all_parts = a.all_parts;
         all_rests = a.all_rests;
-        names = rw d.1 (lowered_each (λ m x. HasSize g (name_site m) x) old.names q (cut k) long (sum_attained g old a (name_site q) k l) a.names);
+        names = rw d.1 (lowered_each (λ m x. HasSize g (name_site m) x) old.names q (capped k) long (sum_attained g old a (name_site q) k l) a.names);
         parts = a.parts;
         rests = a.rests;
       })
-      (let s = lowered_sum old.names q (cut k) long d.0 in rw d.1 (omega arith))
+      (let s = lowered_sum old.names q (capped k) long d.0 in rw d.1 (omega arith))
   lowered_name old cells q k false a lt l w =
       let d = w.kept refl in
       kept (At (name_site q)) old (record { names = cells; parts = old.parts; rests = old.rests }) a (ap (λ x. let t : Table = record { names = x; parts = old.parts; rests = old.rests } in t) d.1) (sum_settled g old a (name_site q) k l d.0)
@@ -218,14 +218,14 @@ module _ (g : PlainDtd) where
   past_rest_case t q (Some (part p ps)) e ge c xs r =
       absurd (let m = (parts_by_number g).member q p ps e in let n = no_part q (part_at g q) refl ge in cc)
 
-  settled_size : (k : ℕ) (s : PlainSite) → HasSize g s k → k ≤ cut (0 + (k + 0))
+  settled_size : (k : ℕ) (s : PlainSite) → HasSize g s k → k ≤ capped (0 + (k + 0))
   settled_size k s h = elim (cases_lt k no_size) [
     | inl lt ↦ (let d = h.1 lt in let z = d.2 in let e = cut_few (0 + (k + 0)) (omega arith) in omega arith)
     | inr ge ↦ (let l = h.0 in let e = cut_many (0 + (k + 0)) (omega arith) in omega arith)
   ]
 
   settled_content : (t : Table) (x : ℕ) (m : Option PlainModel) → IsAttained g t → model_of g x ≡ m → (c : ℕ) (xs : List Goal) →
-      Rule g [] (over (content_site x) 0 0) c xs → size_in t (first_part g x) m ≤ cut (c + total g t xs)
+      Rule g [] (over (content_site x) 0 0) c xs → size_in t (first_part g x) m ≤ capped (c + total g t xs)
   settled_content t x None a e c xs r = absurd (content_rules g x None e c xs r)
   settled_content t x (Some empty) a e c xs r = omega arith
   settled_content t x (Some any) a e c xs r = omega arith

@@ -15,7 +15,7 @@ use Rattle.pv_rules.proofs.Derived.{closed_below, held}
 use Rattle.pv_rules.proofs.Spans.{over_spans, small_rules}
 use Rattle.pv_dtd.specs.Proper.{IsProperDtd}
 use Rattle.pv_productive.specs.Sizes.{IsCutSize}
-use Rattle.pv_productive.specs.Tables.{AreSizes, IsAttained, IsSettled, Table, cut, no_size, size_at, size_of, total}
+use Rattle.pv_productive.specs.Tables.{AreSizes, IsAttained, IsSettled, Table, capped, no_size, size_at, size_of, total}
 use Rattle.pv_productive.proofs.Cutting.{cut_few}
 use Rattle.pv_productive.proofs.Grown.{grown}
 use Rattle.pv_productive.proofs.Paid.{Nothing, by_one, derived, none_span}
@@ -23,7 +23,7 @@ use Rattle.pv_productive.proofs.Weighing.{derivation, weigh}
 
 module _ (g : PlainDtd) (t : Table) (settled : IsSettled g t) where
   -- a rule over no tokens
-  lowers_nothing : (s : PlainSite) (i j c : ℕ) (xs : List Goal) → Rule g [] (over s i j) c xs → size_of g t s ≤ cut (c + total g t xs)
+  lowers_nothing : (s : PlainSite) (i j c : ℕ) (xs : List Goal) → Rule g [] (over s i j) c xs → size_of g t s ≤ capped (c + total g t xs)
   lowers_nothing s i j c xs r =
       let p = (over_spans g [] s i j c xs r).0 in
       let a : i ≡ 0 = let x = p.0 in let y = p.1 in omega arith in

@@ -16,8 +16,8 @@ use Rattle.pv_rules.specs.Sites.{PlainSite, content_site, name_site, part_site, 
 abbrev pub no_size : ℕ
 no_size = 4000000
 
-abbrev pub cut : ℕ → ℕ
-cut n = if nat_le no_size n then no_size else min heaviest n
+abbrev pub capped : ℕ → ℕ
+capped n = if nat_le no_size n then no_size else min heaviest n
 
 -- the sizes found so far of elements of each name, of each part, and of the members of a sequence
 -- from each on
@@ -81,7 +81,7 @@ pub record IsAttained (g : PlainDtd) (t : Table) : Type 0 where
 -- the rules of this site lower nothing in the table
 abbrev pub IsSettledAt : PlainDtd → Table → PlainSite → Type 0
 IsSettledAt g t s = (c : ℕ) (xs : List Goal) → Rule g [] (over s 0 0) c xs →
-    size_of g t s ≤ cut (c + total g t xs)
+    size_of g t s ≤ capped (c + total g t xs)
 
 abbrev pub IsSettled : PlainDtd → Table → Type 0
 IsSettled g t = (s : PlainSite) → IsSettledAt g t s

@@ -1,7 +1,7 @@
 //! Sizes of elements, of parts, and of the members of sequences, as found so far.
 
 ghost use Rattle.std.specs.Prelude.{◌≡◌, ◌<◌, length};
-ghost use Rattle.pv_productive.specs.Tables.{IsLowered, cut, size_at};
+ghost use Rattle.pv_productive.specs.Tables.{IsLowered, capped, size_at};
 
 use crate::layout::Layout;
 use pv_chars::NoMemory;
@@ -23,7 +23,7 @@ pub struct Sizes {
 
 /// A sum of sizes, cut.
 pub fn cut(sum: u64) -> u32
-    ensures { result ≡ cut sum }
+    ensures { result ≡ capped sum }
 {
     if sum >= u64::from(NO_SIZE) {
         NO_SIZE

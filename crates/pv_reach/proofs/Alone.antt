@@ -6,7 +6,7 @@ use Rattle.pv_columns.specs.Marks.{ReadAlone}
 use Rattle.pv_columns.specs.declared.rules.ColumnRule.{ColumnRule}
 use Rattle.pv_dtd.specs.Plain.{PlainDtd}
 use Rattle.pv_reach.specs.Columns.{AreRules, Has, IsAnyRule, IsContentRule, IsPartRule, IsRule, any_column, of_any, of_content, of_part}
-use Rattle.pv_reach.specs.Merging.{AreMerged, IsFurtherRule, behind, head_of, heads_of, none, one}
+use Rattle.pv_reach.specs.Merging.{AreMerged, IsFurtherRule, behind, column_head, column_heads, none, one}
 use Rattle.pv_reach.specs.declared.merging.Merging.{Merging}
 use Rattle.pv_reach.proofs.Replacing.{its_own}
 
@@ -55,9 +55,9 @@ module _ (g : PlainDtd) where
         let Q : List ℕ → Type 0 = λ v. IsAlone l v in
         subst Q h.are_columns (subst P h.is_left a)
 
-    over_heads : (l c : ℕ) (cs ds : List ℕ) → l ≡ head_of m.heads.items c → cs ≡ heads_of m.heads.items ds → IsAlone c ds → IsAlone l cs
-    over_heads l c cs ds e f (inl z) = inl (f ∙ ap (λ v. heads_of m.heads.items v) z)
-    over_heads l c cs ds e f (inr z) = inr (f ∙ ap (λ v. heads_of m.heads.items v) z ∙ ap (λ v. v ∷ []) (sym e))
+    over_heads : (l c : ℕ) (cs ds : List ℕ) → l ≡ column_head m.heads.items c → cs ≡ column_heads m.heads.items ds → IsAlone c ds → IsAlone l cs
+    over_heads l c cs ds e f (inl z) = inl (f ∙ ap (λ v. column_heads m.heads.items v) z)
+    over_heads l c cs ds e f (inr z) = inr (f ∙ ap (λ v. column_heads m.heads.items v) z ∙ ap (λ v. v ∷ []) (sym e))
 
     further_none : (l : ℕ) (o : Option Token) (cs : List ℕ) (width : ℕ) (led : List ℕ) → IsFurtherRule rules width led l o cs → o ≡ None
     further_none l o cs width led (none k lt e n f) = n

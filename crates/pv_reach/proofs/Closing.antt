@@ -3,8 +3,8 @@ use Rattle.std.proofs.Common.{◌≡◌, ◌≤◌, ◌<◌, ◌⊎◌, ℕ, zer
 use Rattle.std.proofs.lemmas.Bool.{cases_lt}
 use Rattle.pv_model.specs.declared.models.Token.{Token}
 use Rattle.pv_columns.specs.declared.rules.ColumnRule.{ColumnRule}
-use Rattle.pv_columns.specs.ColumnRules.{Reads, ReadThrough, done, by_rule, TokensMayBeMissing, InRange}
-use Rattle.pv_reach.specs.Tables.{cell, past, onward, IsTable, IsAttained, IsClosedAt, IsComplete}
+use Rattle.pv_columns.specs.ColumnRules.{ReadsToken, ReadThrough, done, by_rule, TokensMayBeMissing, InRange}
+use Rattle.pv_reach.specs.Tables.{cell_at, past, onward, IsTable, IsReachedTable, IsClosedAt, IsComplete}
 use Rattle.pv_columns.proofs.Spans.{join, within, reads_within, reaches_on, reaches_within}
 
 -- a rule's columns are in range
@@ -35,23 +35,23 @@ alone width c lt (suc k) d h = absurd (omega arith)
 
 module _ (rules : List ColumnRule) (word : List Token) (width : ℕ) (table : List ℕ) (is : IsTable word width table) where
   -- one column, and then what is derived from where it leads
-  reaches_step : (c : ℕ) (cs : List ℕ) (i j v : ℕ) → cell width table c i ≡ v → onward v (past width table cs) ≡ suc j →
-      ((k : ℕ) → cell width table c i ≡ suc k → ReadThrough rules word (c ∷ []) i k) → ((k : ℕ) → k ≤ length word → past width table cs k ≡ suc j → ReadThrough rules word cs k j) →
+  reaches_step : (c : ℕ) (cs : List ℕ) (i j v : ℕ) → cell_at width table c i ≡ v → onward v (past width table cs) ≡ suc j →
+      ((k : ℕ) → cell_at width table c i ≡ suc k → ReadThrough rules word (c ∷ []) i k) → ((k : ℕ) → k ≤ length word → past width table cs k ≡ suc j → ReadThrough rules word cs k j) →
       ReadThrough rules word (c ∷ cs) i j
   reaches_step c cs i j zero q e one rest = absurd (omega arith)
   reaches_step c cs i j (suc k) q e one rest =
       join rules word c cs i k j (one k q) (rest k (let b = is.bounded (i * width + c) in omega arith) e)
 
   -- what the columns lead to is derived
-  pub past_reaches : IsAttained rules word width table → (cs : List ℕ) → All (λ x. x < width) cs → (i j : ℕ) → i ≤ length word → past width table cs i ≡ suc j → ReadThrough rules word cs i j
+  pub past_reaches : IsReachedTable rules word width table → (cs : List ℕ) → All (λ x. x < width) cs → (i j : ℕ) → i ≤ length word → past width table cs i ≡ suc j → ReadThrough rules word cs i j
   past_reaches att [] range i j le e = done i j (omega arith)
   past_reaches att (c ∷ cs) range i j le e =
-      reaches_step c cs i j (cell width table c i) refl e (λ k q. att.reaches c i k (all_first width c cs range) le q)
+      reaches_step c cs i j (cell_at width table c i) refl e (λ k q. att.reaches c i k (all_first width c cs range) le q)
       (λ k lt q. past_reaches att cs (all_rest width c cs range) k j lt q)
 
   module _ (missing : TokensMayBeMissing rules word) where
     -- a column that reaches k or beyond, and then what is derived from k
-    beyond_step : (c : ℕ) (cs : List ℕ) (i k j : ℕ) → ReadThrough rules word cs k j → Above (cell width table c i) k → j < past width table cs k →
+    beyond_step : (c : ℕ) (cs : List ℕ) (i k j : ℕ) → ReadThrough rules word cs k j → Above (cell_at width table c i) k → j < past width table cs k →
         ((p l : ℕ) → k < p → p ≤ length word → ReadThrough rules word cs p l → l < past width table cs p) → j < past width table (c ∷ cs) i
     beyond_step c cs i k j f a here later = rw a.is (from_last (cases_lt k a.last))
       where
@@ -72,15 +72,15 @@ module _ (rules : List ColumnRule) (word : List Token) (width : ℕ) (table : Li
         let one : ReadThrough rules word (c ∷ []) i k = by_rule c [] r i m k k con e reads d (done k k refl) in
         let on : i ≤ k = reaches_on rules word (c ∷ []) i k one in
         beyond_step c cs i k j f
-        (above (cell width table c i) k (full.beyond c i k (all_first width c cs range) le lt one))
+        (above (cell_at width table c i) k (full.beyond c i k (all_first width c cs range) le lt one))
         (past_beyond from full cs (all_rest width c cs range) k j (omega arith) (reaches_within rules word (c ∷ []) i k one lt) f)
         (λ p l kp short g. past_beyond from full cs (all_rest width c cs range) p l (omega arith) short g)
 
     -- a place that is closed is complete if those behind it are
     module _ (place : ℕ) (range : InRange width rules) (closed : IsClosedAt rules word width table place) (full : IsComplete rules word width table (suc place)) (short : place ≤ length word) where
       -- what a rule reaches is no further than its cell
-      offer : (r : ColumnRule) (o : Option Token) (m k : ℕ) → Contains rules r → r.token ≡ o → Reads word o place m →
-          ReadThrough rules word r.columns.items m k → (m ≡ place → k < past width table r.columns.items m) → k < cell width table r.left place
+      offer : (r : ColumnRule) (o : Option Token) (m k : ℕ) → Contains rules r → r.token ≡ o → ReadsToken word o place m →
+          ReadThrough rules word r.columns.items m k → (m ≡ place → k < past width table r.columns.items m) → k < cell_at width table r.left place
       offer r None m k con e reads d here =
           let h = closed.holds r con m (rw e reads) in
           let q = here reads in omega arith
@@ -97,11 +97,11 @@ module _ (rules : List ColumnRule) (word : List Token) (width : ℕ) (table : Li
       reached (c ∷ cs) cols i j e (by_rule _ _ r _ m k _ con q reads d f) =
           let one : ReadThrough rules word (c ∷ []) i k = by_rule c [] r i m k k con q reads d (done k k refl) in
           let on : i ≤ k = reaches_on rules word (c ∷ []) i k one in
-          let less : k < cell width table r.left place =
-          offer r r.token m k con refl (let R : ℕ → Type 0 = λ x. Reads word r.token x m in subst R e reads) d
+          let less : k < cell_at width table r.left place =
+          offer r r.token m k con refl (let R : ℕ → Type 0 = λ x. ReadsToken word r.token x m in subst R e reads) d
           (λ s. reached r.columns.items (columns_in_range width rules r range con).1 m k s d) in
           beyond_step c cs i k j f
-          (above (cell width table c i) k (rw (q, e) less))
+          (above (cell_at width table c i) k (rw (q, e) less))
           (from_here cs (all_rest width c cs cols) k j (omega arith) (reaches_within rules word (c ∷ []) i k one (omega arith)) f (λ s. reached cs (all_rest width c cs cols) k j s f))
           (λ p l kp lt g. past_beyond (suc place) full cs (all_rest width c cs cols) p l (omega arith) lt g)
 
@@ -113,8 +113,8 @@ pub closed_complete : (rules : List ColumnRule) (word : List Token) (width : ℕ
     IsClosedAt rules word width table place → IsComplete rules word width table (suc place) → place ≤ length word → IsComplete rules word width table place
 closed_complete rules word width table place is missing range closed full short = record { beyond = beyond }
   where
-    beyond : (c i j : ℕ) → c < width → place ≤ i → i ≤ length word → ReadThrough rules word (c ∷ []) i j → j < cell width table c i
+    beyond : (c i j : ℕ) → c < width → place ≤ i → i ≤ length word → ReadThrough rules word (c ∷ []) i j → j < cell_at width table c i
     beyond c i j lt le within d = elim (cases_lt place i) [
       | inl behind ↦ full.beyond c i j lt behind within d
-      | inr here ↦ one_cell width table j (cell width table c i) (reached rules word width table is missing place range closed full short (c ∷ []) (alone width c lt) i j (omega arith) d)
+      | inr here ↦ one_cell width table j (cell_at width table c i) (reached rules word width table is missing place range closed full short (c ∷ []) (alone width c lt) i j (omega arith) d)
     ]

@@ -17,7 +17,7 @@ use Rattle.pv_rules.proofs.Members.{some_part}
 use Rattle.pv_rules.proofs.Deriving.{any_more, mixed_more, plus_again, spanned, star_again, to_none, to_one, to_two}
 use Rattle.pv_reach.proofs.FormedDtds.{IsFormedDtd}
 use Rattle.pv_columns.specs.declared.rules.ColumnRule.{ColumnRule}
-use Rattle.pv_columns.specs.ColumnRules.{ReadThrough, Reads}
+use Rattle.pv_columns.specs.ColumnRules.{ReadThrough, ReadsToken}
 use Rattle.pv_rules.specs.Deriving.{DerivesAt}
 use Rattle.pv_columns.specs.ColumnRules as Columns
 use Rattle.pv_reach.specs.Columns.{AreRules, IsAnyRule, IsContentRule, IsPartRule, IsRule, any_column, member_columns, of_any, of_content, of_part, part_column, token_of}
@@ -93,19 +93,19 @@ module _ (g : PlainDtd) (rules : List ColumnRule) (word : List Token) (are : Are
       let u = spanned g w (part_site q) i k d in let v = spanned g w (rest_site (q + parts_in p)) k j f in
       to_two g w (rest_site q) (part_site q) (rest_site (q + parts_in p)) i k j (rest_then q i k j p r rs (omega arith) (omega arith) (omega arith) e) d f
 
-  as_read : (o u : Option Token) (cs ds : List ℕ) (i m j : ℕ) → o ≡ u → cs ≡ ds → Reads word o i m → AllDerive cs m j → Reads word u i m × AllDerive ds m j
+  as_read : (o u : Option Token) (cs ds : List ℕ) (i m j : ℕ) → o ≡ u → cs ≡ ds → ReadsToken word o i m → AllDerive cs m j → ReadsToken word u i m × AllDerive ds m j
   as_read o u cs ds i m j e f r a =
-      let P : Option Token → Type 0 = λ v. Reads word v i m in let Q : List ℕ → Type 0 = λ v. AllDerive v m j in (subst P e r, subst Q f a)
+      let P : Option Token → Type 0 = λ v. ReadsToken word v i m in let Q : List ℕ → Type 0 = λ v. AllDerive v m j in (subst P e r, subst Q f a)
 
   -- nothing is read
-  unread : (o : Option Token) (cs ds : List ℕ) (i m j : ℕ) → o ≡ None → cs ≡ ds → Reads word o i m → AllDerive cs m j → AllDerive ds i j
+  unread : (o : Option Token) (cs ds : List ℕ) (i m j : ℕ) → o ≡ None → cs ≡ ds → ReadsToken word o i m → AllDerive cs m j → AllDerive ds i j
   unread o cs ds i m j e f r a =
       let b = as_read o None cs ds i m j e f r a in let Q : ℕ → Type 0 = λ v. AllDerive ds v j in subst Q b.0 b.1
 
   same : (s : PlainSite) (i j : ℕ) → DerivesAt g w s i i → i ≡ j → DerivesAt g w s i j
   same s i j d e = let P : ℕ → Type 0 = λ v. DerivesAt g w s i v in subst P e d
 
-  content_means : (x i m j : ℕ) (n : PlainModel) (o : Option Token) (cs : List ℕ) → model_of g x ≡ Some n → i ≤ length w → IsContentRule g x n o cs → Reads word o i m → AllDerive cs m j →
+  content_means : (x i m j : ℕ) (n : PlainModel) (o : Option Token) (cs : List ℕ) → model_of g x ≡ Some n → i ≤ length w → IsContentRule g x n o cs → ReadsToken word o i m → AllDerive cs m j →
       DerivesAt g w (content_site x) i j
   content_means x i m j empty o cs h l (e, f) r a = same (content_site x) i j (to_none g w (content_site x) i (empty_none x i l h)) (unread o cs [] i m j e f r a)
   content_means x i m j any o cs h l (e, f) r a = only_any x i j h (unread o cs (any_column g ∷ []) i m j e f r a)
@@ -125,7 +125,7 @@ module _ (g : PlainDtd) (rules : List ColumnRule) (word : List Token) (are : Are
       let d = only_part (first_part g x) i j p ((parts_by_number g).outermost x p h) (unread o cs (part_column g (first_part g x) ∷ []) i m j e f r a) in
       to_one g w 0 (content_site x) (part_site (first_part g x)) i j i j (children_part x i j p (spanned g w (part_site (first_part g x)) i j d) h) d
 
-  part_means : (q i m j : ℕ) (p : PlainPart) (o : Option Token) (cs : List ℕ) → part_at g q ≡ Some p → i ≤ length w → IsPartRule g q p o cs → Reads word o i m → AllDerive cs m j →
+  part_means : (q i m j : ℕ) (p : PlainPart) (o : Option Token) (cs : List ℕ) → part_at g q ≡ Some p → i ≤ length w → IsPartRule g q p o cs → ReadsToken word o i m → AllDerive cs m j →
       DerivesAt g w (part_site q) i j
   part_means q i m j (name y) o cs h l (inl (e, f)) r a =
       let b = as_read o (Some (token_of y)) cs [] i m j e f r a in let z : suc i ≡ j = sym b.0.1 ∙ b.1 in
@@ -160,7 +160,7 @@ module _ (g : PlainDtd) (rules : List ColumnRule) (word : List Token) (are : Are
       go : AllDerive (part_column g (suc q) ∷ part_column g q ∷ []) i j → DerivesAt g w (part_site q) i j
       go (k, u, v) = plus_again g w q i k j p h (u.part (suc q) p ((parts_by_number g).in_plus q p h) refl) (only_part q k j (plus p) h v)
 
-  any_means : (x i m j : ℕ) (o : Option Token) (cs : List ℕ) → model_of g x ≡ Some any → i ≤ length w → IsAnyRule g o cs → Reads word o i m → AllDerive cs m j → DerivesAt g w (content_site x) i j
+  any_means : (x i m j : ℕ) (o : Option Token) (cs : List ℕ) → model_of g x ≡ Some any → i ≤ length w → IsAnyRule g o cs → ReadsToken word o i m → AllDerive cs m j → DerivesAt g w (content_site x) i j
   any_means x i m j o cs h l (inl (e, f)) r a = same (content_site x) i j (to_none g w (content_site x) i (any_none x i l h)) (unread o cs [] i m j e f r a)
   any_means x i m j o cs h l (inr (inl (e, f))) r a =
       let b = as_read o (Some Text) cs (any_column g ∷ []) i m j e f r a in
@@ -180,7 +180,7 @@ module _ (g : PlainDtd) (rules : List ColumnRule) (word : List Token) (are : Are
           let d = u.content y c refl in
           any_more g w x y i k j h c (to_one g w 1 (name_site y) (content_site y) i k i k (missing y i k (spanned g w (content_site y) i k d)) d) (only_any x k j h v)
 
-  rule_means : (l : ℕ) (o : Option Token) (cs : List ℕ) (i m j : ℕ) → IsRule g l o cs → i ≤ length w → Reads word o i m → AllDerive cs m j → ColumnDerives l i j
+  rule_means : (l : ℕ) (o : Option Token) (cs : List ℕ) (i m j : ℕ) → IsRule g l o cs → i ≤ length w → ReadsToken word o i m → AllDerive cs m j → ColumnDerives l i j
   rule_means l o cs i m j (of_content x n h e rule) le r a = means_content x l i j (declared_model x n h) e (content_means x i m j n o cs h le rule r a)
   rule_means l o cs i m j (of_part q p h e rule) le r a = means_part q l i j p h e (part_means q i m j p o cs h le rule r a)
   rule_means l o cs i m j (of_any _ _ e rule) le r a = means_any l i j e (λ x h. any_means x i m j o cs h le rule r a)

@@ -12,13 +12,13 @@ use Rattle.pv_productive.proofs.SizeLaws.{productive_derives}
 use Rattle.pv_missing.specs.LiveWords.{AreProductiveTokens, IsProductiveToken}
 use Rattle.pv_missing.proofs.Spanned.{all_at}
 use Rattle.pv_columns.specs.declared.rules.ColumnRule.{ColumnRule}
-use Rattle.pv_columns.specs.ColumnRules.{ReadThrough, Reads, TokensMayBeMissing, by_rule, done}
+use Rattle.pv_columns.specs.ColumnRules.{ReadThrough, ReadsToken, TokensMayBeMissing, by_rule, done}
 use Rattle.pv_reach.specs.Columns.{AreRules, IsAnyRule, IsContentRule, IsPartRule, IsRule, any_column, of_any, of_content, of_part, part_column, token_of}
 use Rattle.pv_reach.proofs.ColumnsDerive.{get_plain}
 use Rattle.pv_reach.proofs.SitesReach.{by, sites_reach}
 use Rattle.pv_columns.proofs.Spans.{reaches_on, reads_on}
 
-still : (u word : List Token) (o : Option Token) (i m p : ℕ) → Reads u o i m → m ≡ i → Reads word o p p
+still : (u word : List Token) (o : Option Token) (i m p : ℕ) → ReadsToken u o i m → m ≡ i → ReadsToken word o p p
 still u word None i m p r e = refl
 still u word (Some t) i m p (f, g) e = absurd (omega arith)
 

@@ -6,7 +6,7 @@ use Rattle.pv_model.specs.declared.models.Token.{Token}
 use Rattle.pv_dtd.specs.Plain.{PlainDtd, declared, parts_in, parts_in_all}
 use Rattle.pv_rules.specs.Numbering.{IsMemberAt, part_at}
 use Rattle.pv_rules.proofs.Members.{first_at, member_within, members_apart, next_at, some_part}
-use Rattle.pv_reach.specs.Adding.{Adds, AreSound, Grow, IsRuleOfPart, LaysOut}
+use Rattle.pv_reach.specs.Adding.{AddsRule, AreSoundRules, RulesGrow, IsRuleOfPart, LaysOut}
 use Rattle.pv_reach.specs.Columns.{Has, IsPartRule, RightSide, member_columns, of_part, part_column, token_of}
 use Rattle.pv_columns.specs.declared.rules.ColumnRule.{ColumnRule}
 use Rattle.pv_reach.proofs.Pushing.{adds_as, grow_none, grow_twice, has_as, sound_more}
@@ -23,23 +23,23 @@ module _ (g : PlainDtd) (q c : ℕ) (is : c ≡ part_column g q) (p : PlainPart)
   its : (o : Option Token) (cs : List ℕ) → S o cs → IsPartRule g q p o cs
   its o cs (n, e, rule) = let z : n ≡ p = cc in let P : PlainPart → Type 0 = λ v. IsPartRule g q v o cs in subst P z rule
 
-  pub laid_one : (old new : List ColumnRule) (o : Option Token) (cs : List ℕ) → IsPartRule g q p o cs → Adds old new c o cs →
+  pub laid_one : (old new : List ColumnRule) (o : Option Token) (cs : List ℕ) → IsPartRule g q p o cs → AddsRule old new c o cs →
       ((u : Option Token) (ds : List ℕ) → IsPartRule g q p u ds → (u ≡ o) × (ds ≡ cs)) → LaysOut g old new (part_column g q) S
   laid_one old new o cs rule adds only = go (adds_as old new c (part_column g q) o cs cs is refl adds)
     where
-      go : Adds old new (part_column g q) o cs → LaysOut g old new (part_column g q) S
+      go : AddsRule old new (part_column g q) o cs → LaysOut g old new (part_column g q) S
       go a = record {
         sound = sound_more g old new (part_column g q) o cs (of_part q p at refl rule) a;
         grow = a.grow;
         complete = λ u ds s. let r = only u ds (its u ds s) in has_as new (part_column g q) (part_column g q) u o ds cs refl r.0 r.1 a.has;
       }
 
-  pub laid_two : (old mid new : List ColumnRule) (o u : Option Token) (cs ds : List ℕ) → IsPartRule g q p o cs → IsPartRule g q p u ds → Adds old mid c o cs → Adds mid new c u ds →
+  pub laid_two : (old mid new : List ColumnRule) (o u : Option Token) (cs ds : List ℕ) → IsPartRule g q p o cs → IsPartRule g q p u ds → AddsRule old mid c o cs → AddsRule mid new c u ds →
       ((v : Option Token) (es : List ℕ) → IsPartRule g q p v es → ((v ≡ o) × (es ≡ cs)) ⊎ ((v ≡ u) × (es ≡ ds))) → LaysOut g old new (part_column g q) S
   laid_two old mid new o u cs ds one two a b only =
       go (adds_as old mid c (part_column g q) o cs cs is refl a) (adds_as mid new c (part_column g q) u ds ds is refl b)
     where
-      go : Adds old mid (part_column g q) o cs → Adds mid new (part_column g q) u ds → LaysOut g old new (part_column g q) S
+      go : AddsRule old mid (part_column g q) o cs → AddsRule mid new (part_column g q) u ds → LaysOut g old new (part_column g q) S
       go a b = record {
         sound = λ s. sound_more g mid new (part_column g q) u ds (of_part q p at refl two) b (sound_more g old mid (part_column g q) o cs (of_part q p at refl one) a s);
         grow = grow_twice old mid new a.grow b.grow;
@@ -50,19 +50,19 @@ module _ (g : PlainDtd) (q c : ℕ) (is : c ≡ part_column g q) (p : PlainPart)
       }
 
 module _ (g : PlainDtd) (q c : ℕ) (is : c ≡ part_column g q) where
-  pub name_two : (y n : ℕ) (old mid new : List ColumnRule) → part_at g q ≡ Some (name y) → n ≡ declared g → y < n → Adds old mid c (Some (token_of y)) [] → Adds mid new c None (y ∷ []) →
+  pub name_two : (y n : ℕ) (old mid new : List ColumnRule) → part_at g q ≡ Some (name y) → n ≡ declared g → y < n → AddsRule old mid c (Some (token_of y)) [] → AddsRule mid new c None (y ∷ []) →
       LaysOut g old new (part_column g q) (IsRuleOfPart g q)
   name_two y n old mid new at e lt a b =
       laid_two g q c is (name y) at old mid new (Some (token_of y)) None [] (y ∷ []) (inl (refl, refl)) (inr (omega arith, refl, refl)) a b
       (λ v es rule. elim rule [ inl r ↦ inl r | inr r ↦ inr (r.1, r.2) ])
 
-  pub name_one : (y n : ℕ) (old new : List ColumnRule) → part_at g q ≡ Some (name y) → n ≡ declared g → n ≤ y → Adds old new c (Some (token_of y)) [] →
+  pub name_one : (y n : ℕ) (old new : List ColumnRule) → part_at g q ≡ Some (name y) → n ≡ declared g → n ≤ y → AddsRule old new c (Some (token_of y)) [] →
       LaysOut g old new (part_column g q) (IsRuleOfPart g q)
   name_one y n old new at e le a =
       laid_one g q c is (name y) at old new (Some (token_of y)) [] (inl (refl, refl)) a
       (λ v es rule. elim rule [ inl r ↦ r | inr r ↦ absurd (let l = r.0 in omega arith) ])
 
-  pub seq_laid : (old new : List ColumnRule) (ps : PlainParts) (cs : List ℕ) → part_at g q ≡ Some (seq ps) → cs ≡ member_columns g (suc q) ps → Adds old new c None cs →
+  pub seq_laid : (old new : List ColumnRule) (ps : PlainParts) (cs : List ℕ) → part_at g q ≡ Some (seq ps) → cs ≡ member_columns g (suc q) ps → AddsRule old new c None cs →
       LaysOut g old new (part_column g q) (IsRuleOfPart g q)
   seq_laid old new ps cs at e a = laid_one g q c is (seq ps) at old new None cs (refl, e) a (λ v es rule. (rule.0, rule.1 ∙ sym e))
 
@@ -72,21 +72,21 @@ module _ (g : PlainDtd) (q c : ℕ) (is : c ≡ part_column g q) where
   two_columns : (d b : ℕ) → d ≡ c + 1 → b ≡ c → d ∷ b ∷ [] ≡ part_column g (suc q) ∷ part_column g q ∷ []
   two_columns d b e f = let x : d ≡ part_column g (suc q) = omega arith in let y : b ≡ part_column g q = omega arith in cc
 
-  pub opt_laid : (old mid new : List ColumnRule) (p : PlainPart) → part_at g q ≡ Some (opt p) → Adds old mid c None [] → Adds mid new c None ((c + 1) ∷ []) →
+  pub opt_laid : (old mid new : List ColumnRule) (p : PlainPart) → part_at g q ≡ Some (opt p) → AddsRule old mid c None [] → AddsRule mid new c None ((c + 1) ∷ []) →
       LaysOut g old new (part_column g q) (IsRuleOfPart g q)
   opt_laid old mid new p at a b =
       let z : c + 1 ≡ part_column g (suc q) = omega arith in
       laid_two g q c is (opt p) at old mid new None None [] ((c + 1) ∷ []) (refl, inl refl) (refl, inr (ap (λ v. v ∷ []) z)) a b
       (λ v es rule. elim rule.1 [ inl r ↦ inl (rule.0, r) | inr r ↦ inr (rule.0, r ∙ sym (ap (λ v. v ∷ []) z)) ])
 
-  pub star_laid : (old mid new : List ColumnRule) (p : PlainPart) → part_at g q ≡ Some (star p) → Adds old mid c None [] → Adds mid new c None ((c + 1) ∷ c ∷ []) →
+  pub star_laid : (old mid new : List ColumnRule) (p : PlainPart) → part_at g q ≡ Some (star p) → AddsRule old mid c None [] → AddsRule mid new c None ((c + 1) ∷ c ∷ []) →
       LaysOut g old new (part_column g q) (IsRuleOfPart g q)
   star_laid old mid new p at a b =
       let z = two_columns (c + 1) c refl refl in
       laid_two g q c is (star p) at old mid new None None [] ((c + 1) ∷ c ∷ []) (refl, inl refl) (refl, inr z) a b
       (λ v es rule. elim rule.1 [ inl r ↦ inl (rule.0, r) | inr r ↦ inr (rule.0, r ∙ sym z) ])
 
-  pub plus_laid : (old mid new : List ColumnRule) (p : PlainPart) → part_at g q ≡ Some (plus p) → Adds old mid c None ((c + 1) ∷ []) → Adds mid new c None ((c + 1) ∷ c ∷ []) →
+  pub plus_laid : (old mid new : List ColumnRule) (p : PlainPart) → part_at g q ≡ Some (plus p) → AddsRule old mid c None ((c + 1) ∷ []) → AddsRule mid new c None ((c + 1) ∷ c ∷ []) →
       LaysOut g old new (part_column g q) (IsRuleOfPart g q)
   plus_laid old mid new p at a b =
       let y : c + 1 ≡ part_column g (suc q) = omega arith in
@@ -97,8 +97,8 @@ module _ (g : PlainDtd) (q c : ℕ) (is : c ≡ part_column g q) where
 
 -- the members of choice number q before number m have their rules, and one stands there if any is left
 pub record IsPassed (g : PlainDtd) (q : ℕ) (ps : PlainParts) (old now : List ColumnRule) (m : ℕ) : Type 0 where
-  pub sound : AreSound g old → AreSound g now
-  pub grow : Grow old now
+  pub sound : AreSoundRules g old → AreSoundRules g now
+  pub grow : RulesGrow old now
   pub next : m < suc q + parts_in_all ps → (p : PlainPart) × IsMemberAt p m (suc q) ps
   pub passed : (p : PlainPart) (r : ℕ) → IsMemberAt p r (suc q) ps → r < m → Has now (part_column g q) None (part_column g r ∷ [])
 
@@ -113,17 +113,17 @@ passed_none g q ps old m e = record {
 module _ (g : PlainDtd) (q : ℕ) (ps : PlainParts) (old now new : List ColumnRule) (m c d : ℕ) (is : c ≡ part_column g q) (its : d ≡ part_column g m) (at : part_at g q ≡ Some (choice ps))
     (l : IsPassed g q ps old now m) (p : PlainPart) (a : IsMemberAt p m (suc q) ps) where
   -- one member more
-  pub passed_more : (n : ℕ) → n ≡ m + parts_in p → Adds now new c None (d ∷ []) → IsPassed g q ps old new n
+  pub passed_more : (n : ℕ) → n ≡ m + parts_in p → AddsRule now new c None (d ∷ []) → IsPassed g q ps old new n
   passed_more n e adds = go (adds_as now new c (part_column g q) None (d ∷ []) (part_column g m ∷ []) is (ap (λ v. v ∷ []) its) adds)
     where
-      passed_case : Adds now new (part_column g q) None (part_column g m ∷ []) → (o : PlainPart) (r : ℕ) → IsMemberAt o r (suc q) ps → r < m + parts_in p → (suc r ≤ m) ⊎ (m ≤ r) →
+      passed_case : AddsRule now new (part_column g q) None (part_column g m ∷ []) → (o : PlainPart) (r : ℕ) → IsMemberAt o r (suc q) ps → r < m + parts_in p → (suc r ≤ m) ⊎ (m ≤ r) →
           Has new (part_column g q) None (part_column g r ∷ [])
       passed_case b o r h lt (inl x) = b.grow.keeps (part_column g q) None (part_column g r ∷ []) (l.passed o r h x)
       passed_case b o r h lt (inr x) =
           let z : m ≡ r = members_apart p o m r (suc q) ps a h x lt in
           let P : ℕ → Type 0 = λ v. Has new (part_column g q) None (part_column g v ∷ []) in subst P z b.has
 
-      go : Adds now new (part_column g q) None (part_column g m ∷ []) → IsPassed g q ps old new n
+      go : AddsRule now new (part_column g q) None (part_column g m ∷ []) → IsPassed g q ps old new n
       go b = record {
         sound = λ s. sound_more g now new (part_column g q) None (part_column g m ∷ []) (of_part q (choice ps) at refl (p, m, a, refl, refl)) b (l.sound s);
         grow = grow_twice old now new l.grow b.grow;

@@ -5,8 +5,8 @@ use Rattle.pv_dtd.specs.Productive.{IsProductive}
 use Rattle.pv_dtd.specs.Plain.{PlainDtd}
 use Rattle.pv_columns.specs.ColumnRules.{ReadThrough, by_rule, done}
 use Rattle.pv_reach.specs.Columns.{AreRules}
-use Rattle.pv_columns.specs.Marks.{AreBare}
-use Rattle.pv_reach.specs.Leading.{AreAlike, AreEdges, AreLed, IsEdgeOf, IsHead, Leads, MayFollow, ReadsWhatever, Turned, along, here}
+use Rattle.pv_columns.specs.Marks.{AreNullable}
+use Rattle.pv_reach.specs.Leading.{AreAlike, AreRightEdges, AreLed, IsRightEdgeOf, IsHead, Leads, LeadsOnTo, ReadsWhatever, Turned, along, here}
 use Rattle.pv_reach.specs.declared.edges.Edge.{Edge}
 use Rattle.pv_columns.specs.declared.rules.ColumnRule.{ColumnRule}
 use Rattle.pv_reach.proofs.Emptied.{nothing_reached}
@@ -52,16 +52,16 @@ module _ (rules : List ColumnRule) where
     pub leads : (k : ℕ) → k < length r.columns.items → ReadsWhatever rules r.left (get_or r.columns.items k 0)
     leads k lt word i j d = by_columns r con e word i j (one_reaches r.columns.items k bare lt word i j d)
 
-    pub follows : (a k m : ℕ) → ReadsWhatever rules a r.left → ReadsWhatever rules (get_or r.columns.items k 0) a → k < m → m < length r.columns.items → MayFollow rules a (get_or r.columns.items m 0)
+    pub follows : (a k m : ℕ) → ReadsWhatever rules a r.left → ReadsWhatever rules (get_or r.columns.items k 0) a → k < m → m < length r.columns.items → LeadsOnTo rules a (get_or r.columns.items m 0)
     follows a k m below above less lt word h i j d q =
         below word h j (by_columns r con e word h j (two_reach r.columns.items k m bare less lt word h i j (above word h i d) q))
 
-  pub all_bare : (flags : List Bool) (cs : List ℕ) → AreBare rules flags → ((k : ℕ) → k < length cs → get_or flags (get_or cs k 0) false ≡ true) → AllBare cs
+  pub all_bare : (flags : List Bool) (cs : List ℕ) → AreNullable rules flags → ((k : ℕ) → k < length cs → get_or flags (get_or cs k 0) false ≡ true) → AllBare cs
   all_bare flags cs are some k lt = are.bare (get_or cs k 0) (some k lt)
 
   -- one more column that reaches over no tokens
-  pub bare_more : (old new : List Bool) (r : ColumnRule) → Contains rules r → r.token ≡ None → ((k : ℕ) → k < length r.columns.items → get_or old (get_or r.columns.items k 0) false ≡ true) → AreBare rules old →
-      ((x : ℕ) → get_or new x false ≡ true → (x ≡ r.left) ⊎ (get_or old x false ≡ true)) → AreBare rules new
+  pub bare_more : (old new : List Bool) (r : ColumnRule) → Contains rules r → r.token ≡ None → ((k : ℕ) → k < length r.columns.items → get_or old (get_or r.columns.items k 0) false ≡ true) → AreNullable rules old →
+      ((x : ℕ) → get_or new x false ≡ true → (x ≡ r.left) ⊎ (get_or old x false ≡ true)) → AreNullable rules new
   bare_more old new r con e some are flags = record {
     bare = λ x m word p. elim (flags x m) [
       | inr k ↦ are.bare x k word p
@@ -71,8 +71,8 @@ module _ (rules : List ColumnRule) where
   }
 
   -- the edges of one more rule
-  pub edges_more : (flags : List Bool) (old new : List Edge) (r : ColumnRule) → Contains rules r → r.token ≡ None → ((k : ℕ) → k < length r.columns.items → get_or flags (get_or r.columns.items k 0) false ≡ true) → AreBare rules flags →
-      AreEdges rules old → ((e : Edge) → Contains new e → Contains old e ⊎ IsEdgeOf r e) → AreEdges rules new
+  pub edges_more : (flags : List Bool) (old new : List Edge) (r : ColumnRule) → Contains rules r → r.token ≡ None → ((k : ℕ) → k < length r.columns.items → get_or flags (get_or r.columns.items k 0) false ≡ true) → AreNullable rules flags →
+      AreRightEdges rules old → ((e : Edge) → Contains new e → Contains old e ⊎ IsRightEdgeOf r e) → AreRightEdges rules new
   edges_more flags old new r con e some are before either = record {
     leads = λ x c. elim (either x c) [
       | inl o ↦ before.leads x o
@@ -82,14 +82,14 @@ module _ (rules : List ColumnRule) where
     ];
   }
 
-  leads_all : (edges : List Edge) → AreEdges rules edges → (c d : ℕ) → Leads edges c d → ReadsWhatever rules c d
+  leads_all : (edges : List Edge) → AreRightEdges rules edges → (c d : ℕ) → Leads edges c d → ReadsWhatever rules c d
   leads_all edges are c d (here _ _ e) = λ word i j r. let P : ℕ → Type 0 = λ v. ReadThrough rules word (v ∷ []) i j in subst P (sym e) r
   leads_all edges are c d (along _ _ x con e l) = λ word i j r.
       let P : ℕ → Type 0 = λ v. ReadThrough rules word (v ∷ []) i j in
       subst P (sym e) (are.leads x con word i j (leads_all edges are x.to d l word i j r))
 
   -- a column that leads to one, and is led to by it, reaches the same
-  pub alike : (edges turned : List Edge) (above below heads : List ℕ) (n : ℕ) → AreEdges rules edges → Turned edges turned → length heads ≡ n → length above ≡ n → length below ≡ n → AreLed edges above → AreLed turned below →
+  pub alike : (edges turned : List Edge) (above below heads : List ℕ) (n : ℕ) → AreRightEdges rules edges → Turned edges turned → length heads ≡ n → length above ≡ n → length below ≡ n → AreLed edges above → AreLed turned below →
       ((c : ℕ) → c < n → IsHead above below c (get_or heads c 0)) → AreAlike rules heads
   alike edges turned above below heads n are back long la lb up down is = record { alike = λ c lt. go c lt (is c (omega arith)) }
     where
@@ -115,7 +115,7 @@ module _ (rules : List ColumnRule) where
 
 -- the contents of productive names reach over no tokens
 pub bare_names : (g : PlainDtd) (rules : List ColumnRule) (none flags : List Bool) (n : ℕ) → AreRules g rules → IsFormedDtd g → none ≡ replicate n false →
-    ((x : ℕ) → get_or flags x false ≡ true → IsProductive g x ⊎ (get_or none x false ≡ true)) → AreBare rules flags
+    ((x : ℕ) → get_or flags x false ≡ true → IsProductive g x ⊎ (get_or none x false ≡ true)) → AreNullable rules flags
 bare_names g rules none flags n are formed e is = record {
   bare = λ c m word p. elim (is c m) [
     | inl q ↦ (nothing_reached g rules word are formed c p q).1
@@ -123,5 +123,5 @@ bare_names g rules none flags n are formed e is = record {
   ];
 }
 
-pub edges_none : (rules : List ColumnRule) (edges : List Edge) → edges ≡ [] → AreEdges rules edges
+pub edges_none : (rules : List ColumnRule) (edges : List Edge) → edges ≡ [] → AreRightEdges rules edges
 edges_none rules edges e = record { leads = λ x c. absurd (let P : List Edge → Type 0 = λ v. Contains v x in let l = (subst P e c).1 in omega arith) }

@@ -2,7 +2,7 @@
 use Rattle.std.proofs.Common.{All, Bool, Contains, List, [], ap, arith, false, get_or, inl, inr, length, replicate, subst, sym, true, ℕ, ◌+◌, ◌<◌, ◌^◌, ◌∙◌, ◌∷◌, ◌≡◌, ◌≤◌, ◌⊎◌}
 use Rattle.pv_model.specs.declared.models.Token.{Token}
 use Rattle.pv_columns.specs.ColumnRules.{InRange, ReadThrough}
-use Rattle.pv_columns.specs.Marks.{AreBare}
+use Rattle.pv_columns.specs.Marks.{AreNullable}
 use Rattle.pv_columns.specs.declared.rules.ColumnRule.{ColumnRule}
 use Rattle.pv_dtd.specs.Plain.{PlainDtd}
 use Rattle.pv_reach.specs.Columns.{AreRules, width_of}
@@ -14,12 +14,12 @@ use Rattle.pv_reach.proofs.Placing.{unset}
 use Rattle.pv_reach.proofs.Ranging.{rules_in_range}
 use Rattle.pv_reach.proofs.Replacing.{has_all, is_merging, replaces}
 
-pub none_bare : (rules : List ColumnRule) (flags : List Bool) (n : ℕ) → flags ≡ replicate n false → AreBare rules flags
+pub none_bare : (rules : List ColumnRule) (flags : List Bool) (n : ℕ) → flags ≡ replicate n false → AreNullable rules flags
 none_bare rules flags n e = record { bare = λ c m word p. absurd (let z = unset n c in let y = ap (λ v. get_or v c false) e in cc) }
 
 -- one more that stands for a column that reaches over none
-pub head_more : (rules : List ColumnRule) (old new : List Bool) (number head : ℕ) → number ≡ head → ((word : List Token) (p : ℕ) → ReadThrough rules word (head ∷ []) p p) → AreBare rules old →
-    ((x : ℕ) → get_or new x false ≡ true → (x ≡ number) ⊎ (get_or old x false ≡ true)) → AreBare rules new
+pub head_more : (rules : List ColumnRule) (old new : List Bool) (number head : ℕ) → number ≡ head → ((word : List Token) (p : ℕ) → ReadThrough rules word (head ∷ []) p p) → AreNullable rules old →
+    ((x : ℕ) → get_or new x false ≡ true → (x ≡ number) ⊎ (get_or old x false ≡ true)) → AreNullable rules new
 head_more rules old new number head e reached are flags = record {
   bare = λ x m word p. elim (flags x m) [
     | inr k ↦ are.bare x k word p
@@ -36,7 +36,7 @@ pub record IsPlanned (g : PlainDtd) (rules : List ColumnRule) (m : Merging) (mer
   pub heads : AreHeadsBare merged m.bare.items m.heads.items
 
 module _ (g : PlainDtd) (formed : IsFormedDtd g) (rules : List ColumnRule) (m : Merging) (bare : List Bool) (heads order : List ℕ) (merged : List ColumnRule) (n led : ℕ) (are : AreRules g rules)
-    (same : (m.bare.items ≡ bare) × (m.heads.items ≡ heads)) (are_bare : AreBare rules bare) (alike : (length heads ≡ n) × AreAlike rules heads) (width : n ≡ width_of g) (narrow : n < 2 ^ 25)
+    (same : (m.bare.items ≡ bare) × (m.heads.items ≡ heads)) (are_bare : AreNullable rules bare) (alike : (length heads ≡ n) × AreAlike rules heads) (width : n ≡ width_of g) (narrow : n < 2 ^ 25)
     (below : All (λ a. a < length heads) m.led.items) (few : length m.led.items ≤ length heads) where
   pub merging_is : IsMerging rules m
   merging_is = let R : ℕ → Type 0 = λ v. InRange v rules in is_merging rules m bare heads n same alike.0 narrow few below are_bare alike.1 (subst R (sym width) (rules_in_range g formed rules are))

@@ -10,7 +10,7 @@ use Rattle.pv_model.specs.declared.models.Token.TheVariants.{Text}
 use Rattle.pv_dtd.specs.Plain.{IsDeclared, PlainDtd, declared, model_of, parts_in_model, parts_in_models}
 use Rattle.pv_rules.specs.Numbering.{first_part, parts_before}
 use Rattle.pv_reach.proofs.FormedDtds.{IsFormedDtd}
-use Rattle.pv_reach.specs.Adding.{Adds, AddsDeclared, AreSound, IsDeclaredRule, IsRuleOfAny, IsRuleOfContent, IsRuleOfPart, IsWithinWidth, LaysOut, LaysOutNames, LaysOutParts}
+use Rattle.pv_reach.specs.Adding.{AddsRule, AddsDeclared, AreSoundRules, IsDeclaredRule, IsRuleOfAny, IsRuleOfContent, IsRuleOfPart, IsWithinWidth, LaysOut, LaysOutNames, LaysOutParts}
 use Rattle.pv_reach.specs.Columns.{AreRules, Has, IsAnyRule, IsRule, any_column, of_any, of_content, of_part, part_column, token_of}
 use Rattle.pv_columns.specs.declared.rules.ColumnRule.{ColumnRule}
 use Rattle.pv_reach.proofs.Pushing.{adds_as, grow_none, grow_twice, has_as, sound_more}
@@ -72,12 +72,12 @@ module _ (g : PlainDtd) (old now mid new : List ColumnRule) (n c : ℕ) (is : c 
   wider : (l : ℕ) (o : Option Token) (cs : List ℕ) → IsDeclaredRule g n l o cs → IsDeclaredRule g (n + 1) l o cs
   wider l o cs (y, a, b, d) = (y, omega arith, b, d)
 
-  pub declared_more : Adds now mid c (Some (token_of n)) (c ∷ []) → Adds mid new c None (n ∷ c ∷ []) → AddsDeclared g old new (n + 1)
+  pub declared_more : AddsRule now mid c (Some (token_of n)) (c ∷ []) → AddsRule mid new c None (n ∷ c ∷ []) → AddsDeclared g old new (n + 1)
   declared_more a b =
       go (adds_as now mid c (any_column g) (Some (token_of n)) (c ∷ []) (any_column g ∷ []) is (ap (λ v. v ∷ []) is) a)
       (adds_as mid new c (any_column g) None (n ∷ c ∷ []) (n ∷ any_column g ∷ []) is (ap (λ v. n ∷ v ∷ []) is) b)
     where
-      go : Adds now mid (any_column g) (Some (token_of n)) (any_column g ∷ []) → Adds mid new (any_column g) None (n ∷ any_column g ∷ []) → AddsDeclared g old new (n + 1)
+      go : AddsRule now mid (any_column g) (Some (token_of n)) (any_column g ∷ []) → AddsRule mid new (any_column g) None (n ∷ any_column g ∷ []) → AddsDeclared g old new (n + 1)
       go a b = record {
         grow = grow_twice old mid new (grow_twice old now mid before.grow a.grow) b.grow;
         only = λ l o cs h. elim (b.only l o cs h) [
@@ -101,21 +101,21 @@ module _ (g : PlainDtd) (old now mid new : List ColumnRule) (n c : ℕ) (is : c 
       }
 
 module _ (g : PlainDtd) (x : ℕ) (at : model_of g x ≡ Some any) (one two new : List ColumnRule) (l : AddsDeclared g two new (declared g)) where
-  declared_sound : AreSound g two → AreSound g new
+  declared_sound : AreSoundRules g two → AreSoundRules g new
   declared_sound s = record { holds = λ k o cs h. elim (l.only k o cs h) [ inl u ↦ s.holds k o cs u | inr u ↦ of_any x at u.2 (inr (inr (u.0, u.1, u.3))) ] }
 
-  any_complete : (old : List ColumnRule) → Adds old one (any_column g) None [] → Adds one two (any_column g) (Some Text) (any_column g ∷ []) → (o : Option Token) (cs : List ℕ) → IsAnyRule g o cs → Has new (any_column g) o cs
+  any_complete : (old : List ColumnRule) → AddsRule old one (any_column g) None [] → AddsRule one two (any_column g) (Some Text) (any_column g ∷ []) → (o : Option Token) (cs : List ℕ) → IsAnyRule g o cs → Has new (any_column g) o cs
   any_complete old a b o cs (inl (c, d)) = has_as new (any_column g) (any_column g) o None cs [] refl c d (l.grow.keeps (any_column g) None [] (b.grow.keeps (any_column g) None [] a.has))
   any_complete old a b o cs (inr (inl (c, d))) =
       has_as new (any_column g) (any_column g) o (Some Text) cs (any_column g ∷ []) refl c d (l.grow.keeps (any_column g) (Some Text) (any_column g ∷ []) b.has)
   any_complete old a b o cs (inr (inr (y, k, inl (c, d)))) = has_as new (any_column g) (any_column g) o (Some (token_of y)) cs (any_column g ∷ []) refl c d (l.kept y k)
   any_complete old a b o cs (inr (inr (y, k, inr (c, d)))) = has_as new (any_column g) (any_column g) o None cs (y ∷ any_column g ∷ []) refl c d (l.missing y k)
 
-  pub any_laid : (old : List ColumnRule) (c : ℕ) → c ≡ any_column g → Adds old one c None [] → Adds one two c (Some Text) (c ∷ []) → LaysOut g old new (any_column g) (IsRuleOfAny g)
+  pub any_laid : (old : List ColumnRule) (c : ℕ) → c ≡ any_column g → AddsRule old one c None [] → AddsRule one two c (Some Text) (c ∷ []) → LaysOut g old new (any_column g) (IsRuleOfAny g)
   any_laid old c is a b =
       go (adds_as old one c (any_column g) None [] [] is refl a) (adds_as one two c (any_column g) (Some Text) (c ∷ []) (any_column g ∷ []) is (ap (λ v. v ∷ []) is) b)
     where
-      go : Adds old one (any_column g) None [] → Adds one two (any_column g) (Some Text) (any_column g ∷ []) → LaysOut g old new (any_column g) (IsRuleOfAny g)
+      go : AddsRule old one (any_column g) None [] → AddsRule one two (any_column g) (Some Text) (any_column g ∷ []) → LaysOut g old new (any_column g) (IsRuleOfAny g)
       go a b = record {
         sound = λ s. declared_sound
             (sound_more g one two (any_column g) (Some Text) (any_column g ∷ []) (of_any x at refl (inr (inl (refl, refl)))) b
@@ -133,7 +133,7 @@ in_models (m ∷ ms) q lt = elim (cases_lt q (parts_in_model m)) [
 ]
 
 -- all declared names, and any content where some name has it
-pub all_laid : (g : PlainDtd) (rules : List ColumnRule) → IsFormedDtd g → AreSound g rules → ((x : ℕ) → IsDeclared g x → (o : Option Token) (cs : List ℕ) → IsRuleOfContent g x o cs → Has rules x o cs) →
+pub all_laid : (g : PlainDtd) (rules : List ColumnRule) → IsFormedDtd g → AreSoundRules g rules → ((x : ℕ) → IsDeclared g x → (o : Option Token) (cs : List ℕ) → IsRuleOfContent g x o cs → Has rules x o cs) →
     ((x q : ℕ) → IsDeclared g x → IsWithinWidth g x q → (o : Option Token) (cs : List ℕ) → IsRuleOfPart g q o cs → Has rules (part_column g q) o cs) →
     ((o : Option Token) (cs : List ℕ) → IsRuleOfAny g o cs → Has rules (any_column g) o cs) → AreRules g rules
 all_laid g rules formed sound contents parts anys = record {

@@ -7,8 +7,8 @@ use Rattle.std.proofs.lemmas.List.Sums.{sum_by-set}
 use Rattle.std.proofs.lemmas.Bool.{cases_lt}
 use Rattle.pv_model.specs.declared.models.Token.{Token}
 use Rattle.pv_columns.specs.declared.rules.ColumnRule.{ColumnRule}
-use Rattle.pv_columns.specs.ColumnRules.{Reads, ReadThrough, done, by_rule, InRange}
-use Rattle.pv_reach.specs.Tables.{past, IsTable, IsAttained, IsClosedAt, RaisesNothing, IsComplete, room}
+use Rattle.pv_columns.specs.ColumnRules.{ReadsToken, ReadThrough, done, by_rule, InRange}
+use Rattle.pv_reach.specs.Tables.{past, IsTable, IsReachedTable, IsClosedAt, RaisesNothing, IsComplete, room}
 use Rattle.pv_columns.proofs.Spans.{reads_within, reaches_within}
 use Rattle.pv_reach.proofs.Cells.{cell_within}
 use Rattle.pv_reach.proofs.Closing.{columns_in_range, past_reaches}
@@ -45,16 +45,16 @@ set_table word width table i v is lt le = record {
 }
 
 -- what a rule offers is derived
-offer_reaches : (rules : List ColumnRule) (word : List Token) (width : ℕ) (table : List ℕ) (place : ℕ) (r : ColumnRule) (v : ℕ) → IsTable word width table → IsAttained rules word width table → InRange width rules →
-    place ≤ length word → Contains rules r → (m : ℕ) × Reads word r.token place m × (v ≡ past width table r.columns.items m) → (j : ℕ) → v ≡ suc j → ReadThrough rules word (r.left ∷ []) place j
+offer_reaches : (rules : List ColumnRule) (word : List Token) (width : ℕ) (table : List ℕ) (place : ℕ) (r : ColumnRule) (v : ℕ) → IsTable word width table → IsReachedTable rules word width table → InRange width rules →
+    place ≤ length word → Contains rules r → (m : ℕ) × ReadsToken word r.token place m × (v ≡ past width table r.columns.items m) → (j : ℕ) → v ≡ suc j → ReadThrough rules word (r.left ∷ []) place j
 offer_reaches rules word width table place r v is att range short con (m, reads, e) j q =
     by_rule r.left [] r place m j j con refl reads
     (past_reaches rules word width table is att r.columns.items (columns_in_range width rules r range con).1 m j (reads_within word r.token place m reads short) (sym e ∙ q))
     (done j j refl)
 
-set_attained : (rules : List ColumnRule) (word : List Token) (width : ℕ) (table : List ℕ) (place : ℕ) (r : ColumnRule) (v : ℕ) → IsTable word width table → IsAttained rules word width table → InRange width rules →
-    place ≤ length word → Contains rules r → place * width + r.left < length table → (m : ℕ) × Reads word r.token place m × (v ≡ past width table r.columns.items m) →
-    IsAttained rules word width (set table (place * width + r.left) v)
+set_attained : (rules : List ColumnRule) (word : List Token) (width : ℕ) (table : List ℕ) (place : ℕ) (r : ColumnRule) (v : ℕ) → IsTable word width table → IsReachedTable rules word width table → InRange width rules →
+    place ≤ length word → Contains rules r → place * width + r.left < length table → (m : ℕ) × ReadsToken word r.token place m × (v ≡ past width table r.columns.items m) →
+    IsReachedTable rules word width (set table (place * width + r.left) v)
 set_attained rules word width table place r v is att range short con at offer = record { reaches = reaches }
   where
     reaches : (c i j : ℕ) → c < width → i ≤ length word → get_or (set table (place * width + r.left) v) (i * width + c) 0 ≡ suc j → ReadThrough rules word (c ∷ []) i j
@@ -67,7 +67,7 @@ set_attained rules word width table place r v is att range short con at offer = 
 -- a cell that is raised to what a rule offers
 pub record Raised (rules : List ColumnRule) (word : List Token) (width : ℕ) (old new : List ℕ) : Type 0 where
   pub table : IsTable word width new
-  pub attained : IsAttained rules word width new
+  pub attained : IsReachedTable rules word width new
   pub rises : (k : ℕ) → get_or old k 0 ≤ get_or new k 0
   pub less : room (suc (length word)) new < room (suc (length word)) old
 
@@ -75,8 +75,8 @@ at_most : (n v : ℕ) → ((j : ℕ) → v ≡ suc j → j ≤ n) → v ≤ suc 
 at_most n zero f = omega arith
 at_most n (suc j) f = let h = f j refl in omega arith
 
-pub raised : (rules : List ColumnRule) (word : List Token) (width : ℕ) (table : List ℕ) (place : ℕ) (r : ColumnRule) (v : ℕ) → IsTable word width table → IsAttained rules word width table → InRange width rules →
-    place ≤ length word → Contains rules r → get_or table (place * width + r.left) 0 < v → (0 < v → (m : ℕ) × Reads word r.token place m × (v ≡ past width table r.columns.items m)) →
+pub raised : (rules : List ColumnRule) (word : List Token) (width : ℕ) (table : List ℕ) (place : ℕ) (r : ColumnRule) (v : ℕ) → IsTable word width table → IsReachedTable rules word width table → InRange width rules →
+    place ≤ length word → Contains rules r → get_or table (place * width + r.left) 0 < v → (0 < v → (m : ℕ) × ReadsToken word r.token place m × (v ≡ past width table r.columns.items m)) →
     Raised rules word width table (set table (place * width + r.left) v)
 raised rules word width table place r v is att range short con less offers = record {
   table = set_table word width table (place * width + r.left) v is at most;

@@ -8,10 +8,10 @@ use Rattle.std.proofs.lemmas.List.Elements.{Contains-append_cases, Contains-appe
 use Rattle.pv_model.specs.declared.models.Token.{Token}
 use Rattle.pv_columns.specs.declared.rules.ColumnRule.{ColumnRule}
 use Rattle.pv_columns.proofs.Marking.{same_or_not}
-use Rattle.pv_reach.specs.Adding.{Adds, Grow}
-use Rattle.pv_reach.specs.Cuts.{AddsCut, AreCutRules, AreNumbers, AreRanges, HasCut, HasNumbered, IsCutRule, by_rules, by_set}
-use Rattle.pv_reach.specs.Merging.{head_of}
-use Rattle.pv_reach.specs.declared.ranges.Ranges.{Ranges}
+use Rattle.pv_reach.specs.Adding.{AddsRule, RulesGrow}
+use Rattle.pv_reach.specs.Cuts.{AddsCut, AreCutRules, AreColumnNumbers, AreRanges, HasCut, HasNumbered, IsCutRule, by_rules, by_set}
+use Rattle.pv_reach.specs.Merging.{column_head}
+use Rattle.pv_reach.specs.declared.ranges.RuleRanges.{RuleRanges}
 use Rattle.pv_reach.proofs.Pushing.{grow_none, grow_twice}
 
 module _ (rules : List ColumnRule) (old new : List ℕ) (n place : ℕ) (is : (d : ColumnRule) → (get_or rules n d).left ≡ place) (others : (x : ℕ) → x ≢ place → get_or new x 0 ≡ get_or old x 0) where
@@ -73,7 +73,7 @@ adds_none rules names a = record { grow = grow_none a; cut = λ s. s }
 pub adds_twice : (rules : List ColumnRule) (names : List ℕ) (a b c : List ColumnRule) → AddsCut rules names a b → AddsCut rules names b c → AddsCut rules names a c
 adds_twice rules names a b c x y = record { grow = grow_twice a b c x.grow y.grow; cut = λ s. y.cut (x.cut s) }
 
-pub adds_rule : (rules : List ColumnRule) (names : List ℕ) (old new : List ColumnRule) (l : ℕ) (o : Option Token) (ls : List ℕ) → Adds old new l o ls → IsCutRule rules names l o ls → l < length names → AreNumbers names ls →
+pub adds_rule : (rules : List ColumnRule) (names : List ℕ) (old new : List ColumnRule) (l : ℕ) (o : Option Token) (ls : List ℕ) → AddsRule old new l o ls → IsCutRule rules names l o ls → l < length names → AreColumnNumbers names ls →
     AddsCut rules names old new
 adds_rule rules names old new l o ls adds rule lt range = record {
   grow = adds.grow;
@@ -88,26 +88,26 @@ adds_rule rules names old new l o ls adds rule lt range = record {
 pub no_rules : (rules : List ColumnRule) (names : List ℕ) (few : List ColumnRule) → few ≡ [] → AreCutRules rules names few
 no_rules rules names few e = record { only = λ l o ls h. absurd (let c = h.is_in in let z : length few ≡ 0 = ap length e in let y = c.1 in omega arith) }
 
-pub numbered_still : (names : List ℕ) (old new : List ColumnRule) (l : ℕ) (r : ColumnRule) → Grow old new → HasNumbered names old l r → HasNumbered names new l r
+pub numbered_still : (names : List ℕ) (old new : List ColumnRule) (l : ℕ) (r : ColumnRule) → RulesGrow old new → HasNumbered names old l r → HasNumbered names new l r
 numbered_still names old new l r grow h = record { numbers = h.numbers; has = grow.keeps l r.token h.numbers h.has; are = h.are; within = h.within }
 
 -- a column that has its rules has them still
-pub has_still : (rules : List ColumnRule) (names : List ℕ) (tokens : List Token) (old new : List ColumnRule) (l : ℕ) → Grow old new → HasCut rules names old tokens l → HasCut rules names new tokens l
+pub has_still : (rules : List ColumnRule) (names : List ℕ) (tokens : List Token) (old new : List ColumnRule) (l : ℕ) → RulesGrow old new → HasCut rules names old tokens l → HasCut rules names new tokens l
 has_still rules names tokens old new l grow (by_set row free none each) =
     by_set row free (grow.keeps l None [] none) (λ t c i. grow.keeps l (Some t) (l ∷ []) (each t c i))
 has_still rules names tokens old new l grow (by_rules all) = by_rules (λ r con e. numbered_still names old new l r grow (all r con e))
 
-pub one_number : (names : List ℕ) (l : ℕ) → l < length names → AreNumbers names (l ∷ [])
+pub one_number : (names : List ℕ) (l : ℕ) → l < length names → AreColumnNumbers names (l ∷ [])
 one_number names l lt zero d k = lt
 one_number names l lt (suc k) d h = absurd (omega arith)
 
-pub no_numbers : (names : List ℕ) → AreNumbers names []
+pub no_numbers : (names : List ℕ) → AreColumnNumbers names []
 no_numbers names k d lt = absurd (omega arith)
 
 -- a column has all its rules, where those in its range are there
-pub by_range : (rules those : List ColumnRule) (names : List ℕ) (new : List ColumnRule) (tokens : List Token) (l column first end : ℕ) (ranges : Ranges) → AreRanges rules ranges → those ≡ rules → head_of names l ≡ column →
+pub by_range : (rules those : List ColumnRule) (names : List ℕ) (new : List ColumnRule) (tokens : List Token) (l column first end : ℕ) (ranges : RuleRanges) → AreRanges rules ranges → those ≡ rules → column_head names l ≡ column →
     first ≡ get_or ranges.first.items column 0 → end ≡ get_or ranges.end.items column 0 →
-    ((k : ℕ) (r : ColumnRule) → first ≤ k → k < end → k < length those → r ≡ get_or those k r → r.left ≡ head_of names l → HasNumbered names new l r) → HasCut rules names new tokens l
+    ((k : ℕ) (r : ColumnRule) → first ≤ k → k < end → k < length those → r ≡ get_or those k r → r.left ≡ column_head names l → HasNumbered names new l r) → HasCut rules names new tokens l
 by_range rules those names new tokens l column first end ranges are same is f e has = by_rules (λ r con z.
     let k = con.0 in
     let at : (get_or rules k r).left ≡ column = ap (λ (v : ColumnRule). v.left) con.2 ∙ z ∙ is in

@@ -25,8 +25,8 @@ use Rattle.pv_columns.specs.declared.rules.ColumnRule.{ColumnRule}
 use Rattle.pv_columns.proofs.Spans.{join}
 use Rattle.pv_reach.specs.Columns.{AreRules, IsRule, member_columns, of_any, of_content, of_part, part_column, token_of, width_of}
 use Rattle.pv_reach.specs.Ending.{AreReaches, IsGreatestEnd, past_of, place_told}
-use Rattle.pv_reach.specs.Merging.{Replaces, head_of, heads_of}
-use Rattle.pv_reach.specs.Reached.{AreRests, is_name, kept_past, past_column, past_members, past_rest}
+use Rattle.pv_reach.specs.Merging.{Replaces, column_head, column_heads}
+use Rattle.pv_reach.specs.Reached.{AreRests, is_of_name, kept_past, past_column, past_members, past_rest}
 use Rattle.pv_reach.specs.Tables.{IsFurthest, onward, past}
 use Rattle.pv_reach.specs.declared.ends.Ends.{Ends}
 use Rattle.pv_reach.specs.declared.reaches.Reaches.{Reaches}
@@ -58,13 +58,13 @@ rest_full g q e = full_case (slice_get (flat_parts g) q) refl
         let m = made g q f h in
         outside g q f h (ap (λ (x : FlatPart). x.membership) m.is_flat ∙ ap membership_at e) (rw e refl)
 
-is_name_of : (o : Option Token) (x : ℕ) → is_name o x ≡ true → o ≡ Some (token_of x)
+is_name_of : (o : Option Token) (x : ℕ) → is_of_name o x ≡ true → o ≡ Some (token_of x)
 is_name_of None x e = absurd cc
 is_name_of (Some (Name id)) x e = let i : id.0 ≡ x = eqb-true id.0 x e in ap (λ v. Some (token_of v)) i
 is_name_of (Some Text) x e = absurd cc
 is_name_of (Some Other) x e = absurd cc
 
-name_is : (x : ℕ) → is_name (Some (token_of x)) x ≡ true
+name_is : (x : ℕ) → is_of_name (Some (token_of x)) x ≡ true
 name_is x = eq-eqb x x refl
 
 module _ (g : PlainDtd) (rules merged : List ColumnRule) (e : Ends) (are : AreRules g rules) (formed : IsFormedDtd g) (rep : Replaces rules merged (width_of g) e.width e.heads.items)
@@ -76,7 +76,7 @@ module _ (g : PlainDtd) (rules merged : List ColumnRule) (e : Ends) (are : AreRu
   w = map plain_token e.word.items
 
   abbrev heads : List ℕ → List ℕ
-  heads cs = heads_of e.heads.items cs
+  heads cs = column_heads e.heads.items cs
 
   abbrev Within : List ℕ → Type 0
   Within cs = All (λ c. c < width_of g) cs
@@ -99,14 +99,14 @@ module _ (g : PlainDtd) (rules merged : List ColumnRule) (e : Ends) (are : AreRu
   from_heads : (cs : List ℕ) (i j : ℕ) → Within cs → ReadThrough merged word (heads cs) i j → ReadThrough rules word cs i j
   from_heads [] i j all (done _ _ z) = done i j z
   from_heads (c ∷ cs) i j all (by_rule _ _ r _ n k _ con z reads d f) =
-      let one : ReadThrough merged word (head_of e.heads.items c ∷ []) i k = by_rule (head_of e.heads.items c) [] r i n k k con z reads d (done k k refl) in
+      let one : ReadThrough merged word (column_head e.heads.items c ∷ []) i k = by_rule (column_head e.heads.items c) [] r i n k k con z reads d (done k k refl) in
       join rules word c cs i k j ((rep.same word c i k (first_within c cs all)).0 one) (from_heads cs k j (rest_within c cs all) f)
 
   to_heads : (cs : List ℕ) (i j : ℕ) → Within cs → ReadThrough rules word cs i j → ReadThrough merged word (heads cs) i j
   to_heads [] i j all (done _ _ z) = done i j z
   to_heads (c ∷ cs) i j all (by_rule _ _ r _ n k _ con z reads d f) =
       let one : ReadThrough rules word (c ∷ []) i k = by_rule c [] r i n k k con z reads d (done k k refl) in
-      join merged word (head_of e.heads.items c) (heads cs) i k j ((rep.same word c i k (first_within c cs all)).1 one) (to_heads cs k j (rest_within c cs all) f)
+      join merged word (column_head e.heads.items c) (heads cs) i k j ((rep.same word c i k (first_within c cs all)).1 one) (to_heads cs k j (rest_within c cs all) f)
 
   -- columns one after another
   many_past : (cs : List ℕ) (i : ℕ) → Within cs → i ≤ length word → IsPast (λ j. ReadThrough rules word cs i j) (past e.width e.table.items (heads cs) i)
@@ -166,7 +166,7 @@ module _ (g : PlainDtd) (rules merged : List ColumnRule) (e : Ends) (are : AreRu
   missing_derives x i j d = to_one g w 1 (name_site x) (content_site x) i j i j (missing x i j (spanned g w (content_site x) i j d)) d
 
   -- an element that is there, or one that is missing round its content
-  name_case : (x i : ℕ) (b : Bool) → x < length g.names → i ≤ length word → is_name (slice_get word i) x ≡ b → IsPast (λ j. DerivesAt g w (name_site x) i j) (max (cond b (suc (suc i)) 0) (past_column e x i))
+  name_case : (x i : ℕ) (b : Bool) → x < length g.names → i ≤ length word → is_of_name (slice_get word i) x ≡ b → IsPast (λ j. DerivesAt g w (name_site x) i j) (max (cond b (suc (suc i)) 0) (past_column e x i))
   name_case x i true lt le is = record {
     attained = λ j z. elim (cases_lt (suc (suc i)) (past_column e x i)) [
       | inl less ↦ missing_derives x i j ((content_past x i lt le).attained j (omega arith))
@@ -185,7 +185,7 @@ module _ (g : PlainDtd) (rules merged : List ColumnRule) (e : Ends) (are : AreRu
   }
     where
       not_kept : slice_get word i ≡ Some (token_of x) → ⊥
-      not_kept t = let y = ap (λ v. is_name v x) t in let z = name_is x in cc
+      not_kept t = let y = ap (λ v. is_of_name v x) t in let z = name_is x in cc
 
       beyond_case : (j : ℕ) → ((slice_get word i ≡ Some (token_of x)) × (j ≡ suc i)) ⊎ ((x < declared g) × ReadThrough rules word (x ∷ []) i j) → j < max 0 (past_column e x i)
       beyond_case j (inl k) = absurd (not_kept k.0)
@@ -213,7 +213,7 @@ module _ (g : PlainDtd) (rules merged : List ColumnRule) (e : Ends) (are : AreRu
     some_rest q i (Some ps) h s le = rest_case q i ps h le
 
     site_past : (s : PlainSite) (i : ℕ) → HasSite g s → i ≤ length word → IsPast (λ j. DerivesAt g w s i j) (past_by s i)
-    site_past (name_site x) i has le = name_case x i (is_name (slice_get word i) x) has le refl
+    site_past (name_site x) i has le = name_case x i (is_of_name (slice_get word i) x) has le refl
     site_past (content_site x) i has le = content_past x i has le
     site_past (part_site q) i has le = some_part q i (part_at g q) refl has le
     site_past (rest_site q) i has le = some_rest q i (rest_at g q) refl has le
@@ -241,7 +241,7 @@ past_end (x ∷ xs) zero le = absurd (omega arith)
 past_end (x ∷ xs) (suc c) le = past_end xs c (omega arith)
 
 -- whatever is asked, a column of the table stands for it
-pub all_headed : (g : PlainDtd) (heads : List ℕ) (width : ℕ) → length heads ≡ width_of g → ((c : ℕ) → c < width_of g → head_of heads c < width) → (c : ℕ) → head_of heads c < width
+pub all_headed : (g : PlainDtd) (heads : List ℕ) (width : ℕ) → length heads ≡ width_of g → ((c : ℕ) → c < width_of g → column_head heads c < width) → (c : ℕ) → column_head heads c < width
 all_headed g heads width long columns c = elim (cases_lt c (length heads)) [
   | inl lt ↦ columns c (omega arith)
   | inr ge ↦ (let z = past_end heads c ge in let a = columns 0 (omega arith) in omega arith)

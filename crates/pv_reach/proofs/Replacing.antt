@@ -4,12 +4,12 @@ use Rattle.std.proofs.Common.{Err, Ok, Result}
 use Rattle.std.specs.Prelude.{IfOk, OnOk}
 use Rattle.std.proofs.lemmas.List.{get_or_default}
 use Rattle.pv_model.specs.declared.models.Token.{Token}
-use Rattle.pv_reach.specs.Adding.{Adds, Grow}
-use Rattle.pv_columns.specs.ColumnRules.{InRange, ReadThrough, Reads, TokensMayBeMissing, by_rule, done}
+use Rattle.pv_reach.specs.Adding.{AddsRule, RulesGrow}
+use Rattle.pv_columns.specs.ColumnRules.{InRange, ReadThrough, ReadsToken, TokensMayBeMissing, by_rule, done}
 use Rattle.pv_reach.specs.Columns.{Has}
-use Rattle.pv_columns.specs.Marks.{AreBare}
-use Rattle.pv_reach.specs.Leading.{AreAlike, MayFollow, ReadsWhatever}
-use Rattle.pv_reach.specs.Merging.{AddsMerged, AreMerged, HasMerged, IsFurtherRule, IsMergedRule, IsMerging, MayStandBehind, Replaces, behind, head_of, heads_of, none, one}
+use Rattle.pv_columns.specs.Marks.{AreNullable}
+use Rattle.pv_reach.specs.Leading.{AreAlike, LeadsOnTo, ReadsWhatever}
+use Rattle.pv_reach.specs.Merging.{AddsMerged, AreMerged, HasMerged, IsFurtherRule, IsMergedRule, IsMerging, MayStandBehind, Replaces, behind, column_head, column_heads, none, one}
 use Rattle.pv_reach.specs.declared.merging.Merging.{Merging}
 use Rattle.pv_columns.specs.declared.rules.ColumnRule.{ColumnRule}
 use Rattle.pv_reach.proofs.Closing.{columns_in_range}
@@ -19,7 +19,7 @@ use Rattle.pv_reach.proofs.Pushing.{grow_none, grow_twice, has_as}
 use Rattle.pv_columns.proofs.Spans.{join}
 
 -- a rule that is told by its parts
-pub by_has : (rules : List ColumnRule) (word : List Token) (l : ℕ) (o : Option Token) (cs : List ℕ) (i m j : ℕ) → Has rules l o cs → Reads word o i m → ReadThrough rules word cs m j → ReadThrough rules word (l ∷ []) i j
+pub by_has : (rules : List ColumnRule) (word : List Token) (l : ℕ) (o : Option Token) (cs : List ℕ) (i m j : ℕ) → Has rules l o cs → ReadsToken word o i m → ReadThrough rules word cs m j → ReadThrough rules word (l ∷ []) i j
 by_has rules word l o cs i m j h reads d =
     by_rule l [] h.rule i m j j h.is_in (sym h.is_left) (rw h.is_token reads) (let P : List ℕ → Type 0 = λ x. ReadThrough rules word x m j in subst P (sym h.are_columns) d) (done j j refl)
 
@@ -33,7 +33,7 @@ has_in_range width rules l o cs range h =
     (subst P h.is_left q.0, subst Q h.are_columns q.1)
 
 module _ (rules new : List ColumnRule) (m : Merging) (is : IsMerging rules m) (merged : AreMerged rules m new)
-    (has : (r : ColumnRule) → Contains rules r → Has new (head_of m.heads.items r.left) r.token (heads_of m.heads.items r.columns.items)) where
+    (has : (r : ColumnRule) → Contains rules r → Has new (column_head m.heads.items r.left) r.token (column_heads m.heads.items r.columns.items)) where
   abbrev width : ℕ
   width = length m.heads.items
 
@@ -41,10 +41,10 @@ module _ (rules new : List ColumnRule) (m : Merging) (is : IsMerging rules m) (m
   led = m.led.items
 
   abbrev head : ℕ → ℕ
-  head c = head_of m.heads.items c
+  head c = column_head m.heads.items c
 
   abbrev heads : List ℕ → List ℕ
-  heads cs = heads_of m.heads.items cs
+  heads cs = column_heads m.heads.items cs
 
   heads_range : (cs : List ℕ) → All (λ c. c < width) cs → All (λ c. c < width) (heads cs)
   heads_range [] all k d lt = absurd (omega arith)
@@ -83,15 +83,15 @@ module _ (rules new : List ColumnRule) (m : Merging) (is : IsMerging rules m) (m
         let first : ReadThrough rules word (head c ∷ []) i k = by_rule (head c) [] r i n k k con e reads d (done k k refl) in
         join rules word c cs i k j ((is.alike.alike c (all 0 0 (omega arith))).1 word i k first) (from_heads cs k j (λ x y lt. all (suc x) y (omega arith)) f)
 
-    as_list : (o : Option Token) (cs ds : List ℕ) (i n j : ℕ) → o ≡ None → cs ≡ ds → Reads word o i n → AreAsOld cs n j → AreAsOld ds i j
+    as_list : (o : Option Token) (cs ds : List ℕ) (i n j : ℕ) → o ≡ None → cs ≡ ds → ReadsToken word o i n → AreAsOld cs n j → AreAsOld ds i j
     as_list o cs ds i n j e f r all =
-        let R : Option Token → Type 0 = λ v. Reads word v i n in let s : n ≡ i = subst R e r in
+        let R : Option Token → Type 0 = λ v. ReadsToken word v i n in let s : n ≡ i = subst R e r in
         let P : List ℕ → Type 0 = λ v. AreAsOld v n j in let Q : ℕ → Type 0 = λ v. AreAsOld ds v j in subst Q s (subst P f all)
 
     ends : (a h i j : ℕ) → i ≡ j → ReadThrough rules word (a ∷ []) h i → ReadThrough rules word (a ∷ []) h j
     ends a h i j e d = let P : ℕ → Type 0 = λ v. ReadThrough rules word (a ∷ []) h v in subst P e d
 
-    further_means : (l : ℕ) (o : Option Token) (cs : List ℕ) (i n j : ℕ) → IsFurtherRule rules width led l o cs → Reads word o i n → AreAsOld cs n j → IsAsOld l i j
+    further_means : (l : ℕ) (o : Option Token) (cs : List ℕ) (i n j : ℕ) → IsFurtherRule rules width led l o cs → ReadsToken word o i n → AreAsOld cs n j → IsAsOld l i j
     further_means l o cs i n j (none k lt e t u) reads all = inl (k, lt, e, (λ h d. ends (get_or led k 0) h i j (as_list o cs [] i n j t u reads all) d))
     further_means l o cs i n j (one k q lt less may e t u) reads all = go (as_list o cs (q ∷ (width + k) ∷ []) i n j t u reads all)
       where
@@ -106,7 +106,7 @@ module _ (rules new : List ColumnRule) (m : Merging) (is : IsMerging rules m) (m
             let P : ℕ → Type 0 = λ c. (c < width) × ReadThrough rules word (c ∷ []) i j in
             inr (subst P (sym e) (less, d))
 
-    rule_means : (l : ℕ) (o : Option Token) (cs : List ℕ) (i n j : ℕ) → IsMergedRule rules m.heads.items l o cs ⊎ IsFurtherRule rules width led l o cs → Reads word o i n → AreAsOld cs n j → IsAsOld l i j
+    rule_means : (l : ℕ) (o : Option Token) (cs : List ℕ) (i n j : ℕ) → IsMergedRule rules m.heads.items l o cs ⊎ IsFurtherRule rules width led l o cs → ReadsToken word o i n → AreAsOld cs n j → IsAsOld l i j
     rule_means l o cs i n j (inl h) reads all =
         let in_range = has_in_range width rules h.left o h.columns is.range h.has in
         let P : List ℕ → Type 0 = λ v. AreAsOld v n j in
@@ -192,7 +192,7 @@ module _ (rules : List ColumnRule) (m : Merging) where
   pub adds_twice : (old mid new : List ColumnRule) → AddsMerged rules m old mid → AddsMerged rules m mid new → AddsMerged rules m old new
   adds_twice old mid new x y = record { grow = grow_twice old mid new x.grow y.grow; merged = λ a. y.merged (x.merged a) }
 
-  pub adds_one : (old new : List ColumnRule) (l : ℕ) (o : Option Token) (cs : List ℕ) → IsMergedRule rules m.heads.items l o cs ⊎ IsFurtherRule rules (length m.heads.items) m.led.items l o cs → Adds old new l o cs →
+  pub adds_one : (old new : List ColumnRule) (l : ℕ) (o : Option Token) (cs : List ℕ) → IsMergedRule rules m.heads.items l o cs ⊎ IsFurtherRule rules (length m.heads.items) m.led.items l o cs → AddsRule old new l o cs →
       AddsMerged rules m old new
   adds_one old new l o cs rule adds = record {
     grow = adds.grow;
@@ -210,43 +210,43 @@ module _ (rules : List ColumnRule) (m : Merging) (i : ℕ) (lt : i < length rule
   is_in : Contains rules r
   is_in = (i, lt, sym at)
 
-  pub merged_rule : (l : ℕ) (cs : List ℕ) → l ≡ head_of m.heads.items r.left → cs ≡ heads_of m.heads.items r.columns.items → IsMergedRule rules m.heads.items l r.token cs
+  pub merged_rule : (l : ℕ) (cs : List ℕ) → l ≡ column_head m.heads.items r.left → cs ≡ column_heads m.heads.items r.columns.items → IsMergedRule rules m.heads.items l r.token cs
   merged_rule l cs e f = record { left = r.left; columns = r.columns.items; has = its_own rules r is_in; is_left = e; are_columns = f }
 
-  pub has_merged : (new : List ColumnRule) (l : ℕ) (cs : List ℕ) → l ≡ head_of m.heads.items r.left → cs ≡ heads_of m.heads.items r.columns.items → Has new l r.token cs → HasMerged rules m new i
+  pub has_merged : (new : List ColumnRule) (l : ℕ) (cs : List ℕ) → l ≡ column_head m.heads.items r.left → cs ≡ column_heads m.heads.items r.columns.items → Has new l r.token cs → HasMerged rules m new i
   has_merged new l cs e f h s also =
       let z = numbered rules i s r lt also at in
-      let P : ColumnRule → Type 0 = λ v. Has new (head_of m.heads.items v.left) v.token (heads_of m.heads.items v.columns.items) in
-      subst P (sym z) (has_as new (head_of m.heads.items r.left) l r.token r.token (heads_of m.heads.items r.columns.items) cs (sym e) refl (sym f) h)
+      let P : ColumnRule → Type 0 = λ v. Has new (column_head m.heads.items v.left) v.token (column_heads m.heads.items v.columns.items) in
+      subst P (sym z) (has_as new (column_head m.heads.items r.left) l r.token r.token (column_heads m.heads.items r.columns.items) cs (sym e) refl (sym f) h)
 
   -- what stands behind its own place may follow
   pub behind_own : IsMerging rules m → (place further : ℕ) → r.token ≡ None → ((k : ℕ) → k < length r.columns.items → get_or m.bare.items (get_or r.columns.items k 0) false ≡ true) → place < length r.columns.items →
-      head_of m.heads.items (get_or r.columns.items place 0) ≡ head_of m.heads.items r.left → (n : ℕ) → n < length m.led.items → further ≡ length m.heads.items + n → get_or m.led.items n 0 ≡ head_of m.heads.items r.left →
+      column_head m.heads.items (get_or r.columns.items place 0) ≡ column_head m.heads.items r.left → (n : ℕ) → n < length m.led.items → further ≡ length m.heads.items + n → get_or m.led.items n 0 ≡ column_head m.heads.items r.left →
       MayStandBehind rules m i (place + 1) further
   behind_own is place further unread bare within own n less f led s also k from short =
       let z = numbered rules i r s lt at also in
-      let P : ColumnRule → Type 0 = λ v. (k < length v.columns.items) → IsFurtherRule rules (length m.heads.items) m.led.items further None (head_of m.heads.items (get_or v.columns.items k 0) ∷ further ∷ []) in
+      let P : ColumnRule → Type 0 = λ v. (k < length v.columns.items) → IsFurtherRule rules (length m.heads.items) m.led.items further None (column_head m.heads.items (get_or v.columns.items k 0) ∷ further ∷ []) in
       subst P z go short
     where
       heads : List ℕ
       heads = m.heads.items
 
-      go : k < length r.columns.items → IsFurtherRule rules (length heads) m.led.items further None (head_of heads (get_or r.columns.items k 0) ∷ further ∷ [])
+      go : k < length r.columns.items → IsFurtherRule rules (length heads) m.led.items further None (column_head heads (get_or r.columns.items k 0) ∷ further ∷ [])
       go short =
           let range = columns_in_range (length heads) rules r is.range is_in in
           let left = is.alike.alike r.left range.0 in
           let mine = is.alike.alike (get_or r.columns.items place 0) (range.1 place 0 within) in
           let other = is.alike.alike (get_or r.columns.items k 0) (range.1 k 0 short) in
           let A : ℕ → Type 0 = λ v. ReadsWhatever rules (get_or r.columns.items place 0) v in
-          let may = follows rules r is_in unread (all_bare rules m.bare.items r.columns.items is.bare bare) (head_of heads r.left) place k left.2 (subst A own mine.1) (omega arith) short in
-          let M : ℕ → Type 0 = λ v. MayFollow rules v (head_of heads (get_or r.columns.items k 0)) in
-          let C : ℕ → Type 0 = λ v. head_of heads (get_or r.columns.items k 0) ∷ further ∷ [] ≡ head_of heads (get_or r.columns.items k 0) ∷ v ∷ [] in
-          one n (head_of heads (get_or r.columns.items k 0)) less other.0 (subst M (sym led) (λ word h x j d q. may word h x j d (other.1 word x j q))) f refl (subst C f refl)
+          let may = follows rules r is_in unread (all_bare rules m.bare.items r.columns.items is.bare bare) (column_head heads r.left) place k left.2 (subst A own mine.1) (omega arith) short in
+          let M : ℕ → Type 0 = λ v. LeadsOnTo rules v (column_head heads (get_or r.columns.items k 0)) in
+          let C : ℕ → Type 0 = λ v. column_head heads (get_or r.columns.items k 0) ∷ further ∷ [] ≡ column_head heads (get_or r.columns.items k 0) ∷ v ∷ [] in
+          one n (column_head heads (get_or r.columns.items k 0)) less other.0 (subst M (sym led) (λ word h x j d q. may word h x j d (other.1 word x j q))) f refl (subst C f refl)
 
-pub rule_more : (rules : List ColumnRule) (m : Merging) (order : List ℕ) (n : ℕ) (old new : List ColumnRule) → n < length order → Grow old new → HasMerged rules m new (get_or order n 0) →
+pub rule_more : (rules : List ColumnRule) (m : Merging) (order : List ℕ) (n : ℕ) (old new : List ColumnRule) → n < length order → RulesGrow old new → HasMerged rules m new (get_or order n 0) →
     ((i : ℕ) → Contains (take n order) i → i < length rules → HasMerged rules m old i) → (i : ℕ) → Contains (take (n + 1) order) i → i < length rules → HasMerged rules m new i
 rule_more rules m order n old new lt grow here before i con less r at = elim (either_name order n lt i con) [
-  | inl c ↦ grow.keeps (head_of m.heads.items r.left) r.token (heads_of m.heads.items r.columns.items) (before i c less r at)
+  | inl c ↦ grow.keeps (column_head m.heads.items r.left) r.token (column_heads m.heads.items r.columns.items) (before i c less r at)
   | inr z ↦ (let P : ℕ → Type 0 = λ v. r ≡ get_or rules v r in here r (subst P z at))
 ]
 
@@ -259,7 +259,7 @@ rule_passed rules m order n new lt ge before i con less = elim (either_name orde
 
 -- where the order has all numbers of rules, all rules are there
 pub has_all : (rules : List ColumnRule) (m : Merging) (order : List ℕ) (new : List ColumnRule) → ((i : ℕ) → i < length rules → Contains order i) →
-    ((i : ℕ) → Contains order i → i < length rules → HasMerged rules m new i) → (r : ColumnRule) → Contains rules r → Has new (head_of m.heads.items r.left) r.token (heads_of m.heads.items r.columns.items)
+    ((i : ℕ) → Contains order i → i < length rules → HasMerged rules m new i) → (r : ColumnRule) → Contains rules r → Has new (column_head m.heads.items r.left) r.token (column_heads m.heads.items r.columns.items)
 has_all rules m order new all has r con = has con.0 (all con.0 con.1) con.1 r (sym con.2)
 
 pub ok_then : {E : Type 0} (r : Result (Unit {0}) E) (P Q : Type 0) → (P → Q) → IfOk r (λ _. P) → OnOk r Q
@@ -270,9 +270,9 @@ pub two_as : (a b c d : ℕ) → a ≡ b → c ≡ d → a ∷ c ∷ [] ≡ b �
 two_as a b c d e f = cc
 
 pub is_merging : (rules : List ColumnRule) (m : Merging) (bare : List Bool) (heads : List ℕ) (n : ℕ) → (m.bare.items ≡ bare) × (m.heads.items ≡ heads) → length heads ≡ n → n < 2 ^ 25 → length m.led.items ≤ length heads →
-    All (λ a. a < length heads) m.led.items → AreBare rules bare → AreAlike rules heads → InRange n rules → IsMerging rules m
+    All (λ a. a < length heads) m.led.items → AreNullable rules bare → AreAlike rules heads → InRange n rules → IsMerging rules m
 is_merging rules m bare heads n same long narrow few below are_bare alike range =
-    let B : List Bool → Type 0 = λ v. AreBare rules v in
+    let B : List Bool → Type 0 = λ v. AreNullable rules v in
     let A : List ℕ → Type 0 = λ v. AreAlike rules v in
     let R : ℕ → Type 0 = λ v. InRange v rules in
     let L : List ℕ → Type 0 = λ v. All (λ a. a < length v) m.led.items in

@@ -10,7 +10,7 @@ use Rattle.pv_rules.proofs.Facts.{parts_by_number}
 use Rattle.pv_rules.proofs.Members.{some_part}
 use Rattle.pv_reach.specs.Columns.{part_column}
 use Rattle.pv_reach.specs.Reached.{AreRests, past_column, past_members, past_rest}
-use Rattle.pv_reach.specs.Merging.{head_of}
+use Rattle.pv_reach.specs.Merging.{column_head}
 use Rattle.pv_reach.specs.Tables.{IsTable, onward, past}
 use Rattle.pv_reach.specs.declared.ends.Ends.{Ends}
 use Rattle.pv_reach.proofs.Reaching.{rest_full}
@@ -102,6 +102,6 @@ module _ (g : PlainDtd) (e : Ends) where
         let z : part p (part r rs) ≡ ps = cc in
         let P : PlainParts → Type 0 = λ v. past_rest e rests (q + parts_in p) k ≡ past_members g e q v i in
         let y : past_column e (part_column g q) i ≡ suc k = (let Q : ℕ → Type 0 = λ m. past_column e (m + q) i ≡ suc k in subst Q named n) in
-        let b = table.bounded (i * e.width + head_of e.heads.items (part_column g q)) in
+        let b = table.bounded (i * e.width + column_head e.heads.items (part_column g q)) in
         let l = some_part p in
         subst P z (rw y (are.holds (q + parts_in p) k (part r rs) (omega arith) ((parts_by_number g).next q p r rs h) (omega arith)))

@@ -14,7 +14,7 @@ use Rattle.pv_rules.proofs.Derived.{held}
 use Rattle.pv_rules.proofs.Facts.{parts_by_number}
 use Rattle.std.proofs.lemmas.Option.{slice_get_within}
 use Rattle.pv_columns.specs.declared.rules.ColumnRule.{ColumnRule}
-use Rattle.pv_columns.specs.ColumnRules.{ReadThrough, Reads, by_rule, done}
+use Rattle.pv_columns.specs.ColumnRules.{ReadThrough, ReadsToken, by_rule, done}
 use Rattle.pv_reach.specs.Columns.{AreRules, Has, IsRule, any_column, member_columns, of_any, of_content, of_part, part_column, token_of}
 use Rattle.pv_columns.proofs.Spans.{join}
 
@@ -41,7 +41,7 @@ pub text_get : (word : List Token) (i : ℕ) → slice_get (map plain_token word
 text_get word i e = let t = plain_get word i text e in let z = text_case t.0 t.2 in rw (← z) t.1
 
 module _ (g : PlainDtd) (rules : List ColumnRule) (word : List Token) (are : AreRules g rules) where
-  pub by : (l : ℕ) (o : Option Token) (cs : List ℕ) (i m j : ℕ) → IsRule g l o cs → Reads word o i m → ReadThrough rules word cs m j → ReadThrough rules word (l ∷ []) i j
+  pub by : (l : ℕ) (o : Option Token) (cs : List ℕ) (i m j : ℕ) → IsRule g l o cs → ReadsToken word o i m → ReadThrough rules word cs m j → ReadThrough rules word (l ∷ []) i j
   by l o cs i m j rule reads d = go (are.complete l o cs rule)
     where
       go : Has rules l o cs → ReadThrough rules word (l ∷ []) i j
@@ -59,11 +59,11 @@ module _ (g : PlainDtd) (rules : List ColumnRule) (word : List Token) (are : Are
   declared_model : (x : ℕ) (m : PlainModel) → model_of g x ≡ Some m → IsDeclared g x
   declared_model x m e = slice_get_within g.models x m e
 
-  content : (x i m j : ℕ) (n : PlainModel) (o : Option Token) (cs : List ℕ) → model_of g x ≡ Some n → (n ≡ any → ⊥) → IsRule g x o cs → Reads word o i m → ReadThrough rules word cs m j →
+  content : (x i m j : ℕ) (n : PlainModel) (o : Option Token) (cs : List ℕ) → model_of g x ≡ Some n → (n ≡ any → ⊥) → IsRule g x o cs → ReadsToken word o i m → ReadThrough rules word cs m j →
       ByColumns (content_site x) i j
   content x i m j n o cs e not rule reads d = (declared_model x n e, by x o cs i m j rule reads d, (λ f. absurd (not cc)))
 
-  any_content : (x i m j : ℕ) (o : Option Token) (cs : List ℕ) → model_of g x ≡ Some any → IsRule g (any_column g) o cs → Reads word o i m → ReadThrough rules word cs m j →
+  any_content : (x i m j : ℕ) (o : Option Token) (cs : List ℕ) → model_of g x ≡ Some any → IsRule g (any_column g) o cs → ReadsToken word o i m → ReadThrough rules word cs m j →
       ByColumns (content_site x) i j
   any_content x i m j o cs e rule reads d =
       let here = by (any_column g) o cs i m j rule reads d in

@@ -5,7 +5,7 @@ use Rattle.std.proofs.lemmas.Bool.{cases_lt}
 use Rattle.std.proofs.lemmas.List.{get_or_append_left}
 use Rattle.std.proofs.Math.Seq.{get_or-append_seam}
 use Rattle.std.proofs.lemmas.List.Elements.{Contains-append_cases}
-use Rattle.pv_reach.specs.Leading.{AreLed, IsEdgeOf, IsHead, Leads, Turned, along, here}
+use Rattle.pv_reach.specs.Leading.{AreLed, IsRightEdgeOf, IsHead, Leads, Turned, along, here}
 use Rattle.pv_reach.specs.declared.edges.Edge.{Edge}
 use Rattle.pv_columns.specs.declared.rules.ColumnRule.{ColumnRule}
 use Rattle.pv_reach.proofs.Raising.{set_at}
@@ -57,10 +57,10 @@ pushed_edge old new e f h con = go (Contains-append_cases old (e ∷ []) f (let 
 
 -- one more edge of a rule
 pub edge_more : (start old new : List Edge) (r : ColumnRule) (e : Edge) (k : ℕ) → new ≡ old ++ (e ∷ []) → k < length r.columns.items → e.from ≡ r.left → e.to ≡ get_or r.columns.items k 0 →
-    ((f : Edge) → Contains old f → Contains start f ⊎ IsEdgeOf r f) → (f : Edge) → Contains new f → Contains start f ⊎ IsEdgeOf r f
+    ((f : Edge) → Contains old f → Contains start f ⊎ IsRightEdgeOf r f) → (f : Edge) → Contains new f → Contains start f ⊎ IsRightEdgeOf r f
 edge_more start old new r e k h lt from to before f con = elim (pushed_edge old new e f h con) [
   | inl c ↦ before f c
-  | inr z ↦ (let P : Edge → Type 0 = λ v. IsEdgeOf r v in inr (subst P z (k, lt, from, to)))
+  | inr z ↦ (let P : Edge → Type 0 = λ v. IsRightEdgeOf r v in inr (subst P z (k, lt, from, to)))
 ]
 
 pub turned_none : (edges turned : List Edge) → turned ≡ [] → Turned edges turned

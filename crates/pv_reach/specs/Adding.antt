@@ -18,25 +18,25 @@ IsRuleOfContent g x o cs = (m : PlainModel) × (model_of g x ≡ Some m) × IsCo
 abbrev pub IsRuleOfAny : PlainDtd → RightSide
 IsRuleOfAny g o cs = (x : ℕ) × (model_of g x ≡ Some any) × IsAnyRule g o cs
 
-pub record AreSound (g : PlainDtd) (rules : List ColumnRule) : Type 0 where
+pub record AreSoundRules (g : PlainDtd) (rules : List ColumnRule) : Type 0 where
   pub holds : (l : ℕ) (o : Option Token) (cs : List ℕ) → Has rules l o cs → IsRule g l o cs
 
-pub record Grow (old new : List ColumnRule) : Type 0 where
+pub record RulesGrow (old new : List ColumnRule) : Type 0 where
   pub keeps : (l : ℕ) (o : Option Token) (cs : List ℕ) → Has old l o cs → Has new l o cs
 
 -- the list has this rule too now, and no other is new
-pub record Adds (old new : List ColumnRule) (left : ℕ) (token : Option Token) (columns : List ℕ)
+pub record AddsRule (old new : List ColumnRule) (left : ℕ) (token : Option Token) (columns : List ℕ)
     : Type 0 where
   pub has : Has new left token columns
-  pub grow : Grow old new
+  pub grow : RulesGrow old new
   pub only : (l : ℕ) (o : Option Token) (cs : List ℕ) → Has new l o cs →
       Has old l o cs ⊎ ((l ≡ left) × (o ≡ token) × (cs ≡ columns))
 
 -- the list has all these rules of this column now, and no rule is new that isn't the DTD's
 pub record LaysOut (g : PlainDtd) (old new : List ColumnRule) (column : ℕ) (S : RightSide)
     : Type 0 where
-  pub sound : AreSound g old → AreSound g new
-  pub grow : Grow old new
+  pub sound : AreSoundRules g old → AreSoundRules g new
+  pub grow : RulesGrow old new
   pub complete : (o : Option Token) (cs : List ℕ) → S o cs → Has new column o cs
 
 abbrev pub IsListedRule : PlainDtd → ℕ → ℕ → ℕ → ℕ → Option Token → List ℕ → Type 0
@@ -46,7 +46,7 @@ IsListedRule g name first end l o cs =
 -- mixed content of this name has a rule for each part from one number up to another now, and no
 -- other rule is new
 pub record AddsListed (g : PlainDtd) (old new : List ColumnRule) (name first end : ℕ) : Type 0 where
-  pub grow : Grow old new
+  pub grow : RulesGrow old new
   pub only : (l : ℕ) (o : Option Token) (cs : List ℕ) → Has new l o cs → Has old l o cs ⊎
       IsListedRule g name first end l o cs
   pub listed : (q : ℕ) → first ≤ q → q < end → Has new name None (part_column g q ∷ name ∷ [])
@@ -59,8 +59,8 @@ IsWithinWidth g x q = (m : PlainModel) × (model_of g x ≡ Some m) × (first_pa
 -- the list has all rules of the parts from one number up to another now, and no rule is new that
 -- isn't the DTD's
 pub record LaysOutParts (g : PlainDtd) (old new : List ColumnRule) (first end : ℕ) : Type 0 where
-  pub sound : AreSound g old → AreSound g new
-  pub grow : Grow old new
+  pub sound : AreSoundRules g old → AreSoundRules g new
+  pub grow : RulesGrow old new
   pub parts : (q : ℕ) → first ≤ q → q < end → (o : Option Token) (cs : List ℕ) →
       IsRuleOfPart g q o cs → Has new (part_column g q) o cs
 
@@ -68,8 +68,8 @@ pub record LaysOutParts (g : PlainDtd) (old new : List ColumnRule) (first end : 
 -- new that isn't the DTD's
 pub record LaysOutNames (g : PlainDtd) (old new : List ColumnRule) (These : ℕ → Type 0)
     : Type 0 where
-  pub sound : AreSound g old → AreSound g new
-  pub grow : Grow old new
+  pub sound : AreSoundRules g old → AreSoundRules g new
+  pub grow : RulesGrow old new
   pub contents : (x : ℕ) → These x → (o : Option Token) (cs : List ℕ) → IsRuleOfContent g x o cs →
       Has new x o cs
   pub parts : (x q : ℕ) → These x → IsWithinWidth g x q → (o : Option Token) (cs : List ℕ) →
@@ -82,7 +82,7 @@ IsDeclaredRule g end l o cs =
 
 -- any content has the rules of the names below a number now, and no other rule is new
 pub record AddsDeclared (g : PlainDtd) (old new : List ColumnRule) (end : ℕ) : Type 0 where
-  pub grow : Grow old new
+  pub grow : RulesGrow old new
   pub only : (l : ℕ) (o : Option Token) (cs : List ℕ) → Has new l o cs → Has old l o cs ⊎
       IsDeclaredRule g end l o cs
   pub kept : (y : ℕ) → y < end → Has new (any_column g) (Some (token_of y)) (any_column g ∷ [])

@@ -7,10 +7,10 @@ use Rattle.pv_columns.specs.FreeSets.{AreFreeSets, IsFreeOver}
 use Rattle.pv_columns.specs.Tokens.{IsInRow}
 use Rattle.pv_columns.specs.declared.free_sets.FreeSets.{FreeSets}
 use Rattle.pv_columns.specs.declared.rules.ColumnRule.{ColumnRule}
-use Rattle.pv_reach.specs.Adding.{Grow}
+use Rattle.pv_reach.specs.Adding.{RulesGrow}
 use Rattle.pv_reach.specs.Columns.{Has}
-use Rattle.pv_reach.specs.Merging.{head_of, heads_of}
-use Rattle.pv_reach.specs.declared.ranges.Ranges.{Ranges}
+use Rattle.pv_reach.specs.Merging.{column_head, column_heads}
+use Rattle.pv_reach.specs.declared.ranges.RuleRanges.{RuleRanges}
 
 -- the sets of columns below a number, each at the column's own place
 pub record AreOwnSets (rules : List ColumnRule) (width : ℕ) (free : FreeSets) : Type 0 where
@@ -19,55 +19,56 @@ pub record AreOwnSets (rules : List ColumnRule) (width : ℕ) (free : FreeSets) 
   pub sets : AreFreeSets rules columns free
 
 -- a rule stands in the range of its column
-abbrev pub AreRanges : List ColumnRule → Ranges → Type 0
+abbrev pub AreRanges : List ColumnRule → RuleRanges → Type 0
 AreRanges rules ranges = (k : ℕ) (d : ColumnRule) → k < length rules →
     (get_or ranges.first.items (get_or rules k d).left 0 ≤ k) ×
     (k < get_or ranges.end.items (get_or rules k d).left 0)
 
-abbrev pub AreNumbers : List ℕ → List ℕ → Type 0
-AreNumbers names ls = All (λ l. l < length names) ls
+abbrev pub AreColumnNumbers : List ℕ → List ℕ → Type 0
+AreColumnNumbers names ls = All (λ l. l < length names) ls
 
 -- The number of a column that isn't free has the column's rules, over numbers of columns. That of
 -- a free one reaches no tokens, and each token of the column's set in front of itself.
 pub data IsCutRule (rules : List ColumnRule) (names : List ℕ) (l : ℕ) (o : Option Token)
     (ls : List ℕ) : Type 0 where
-  of_rule : (r : ColumnRule) → Contains rules r → head_of names l ≡ r.left → o ≡ r.token →
-      heads_of names ls ≡ r.columns.items → IsCutRule rules names l o ls
-  of_none : (row : List ℕ) → IsFreeOver rules row (head_of names l) → o ≡ None → ls ≡ [] →
+  of_rule : (r : ColumnRule) → Contains rules r → column_head names l ≡ r.left → o ≡ r.token →
+      column_heads names ls ≡ r.columns.items → IsCutRule rules names l o ls
+  of_none : (row : List ℕ) → IsFreeOver rules row (column_head names l) → o ≡ None → ls ≡ [] →
       IsCutRule rules names l o ls
-  of_token : (row : List ℕ) (t : Token) → IsFreeOver rules row (head_of names l) → IsInRow row t →
+  of_token : (row : List ℕ) (t : Token) → IsFreeOver rules row (column_head names l) →
+      IsInRow row t →
       o ≡ Some t → ls ≡ l ∷ [] → IsCutRule rules names l o ls
 
 -- there are no other rules, and these are over numbers of columns
 pub record AreCutRules (rules : List ColumnRule) (names : List ℕ) (few : List ColumnRule)
     : Type 0 where
   pub only : (l : ℕ) (o : Option Token) (ls : List ℕ) → Has few l o ls →
-      IsCutRule rules names l o ls × (l < length names) × AreNumbers names ls
+      IsCutRule rules names l o ls × (l < length names) × AreColumnNumbers names ls
 
 pub record HasNumbered (names : List ℕ) (few : List ColumnRule) (l : ℕ) (r : ColumnRule)
     : Type 0 where
   pub numbers : List ℕ
   pub has : Has few l r.token numbers
-  pub are : heads_of names numbers ≡ r.columns.items
-  pub within : AreNumbers names numbers
+  pub are : column_heads names numbers ≡ r.columns.items
+  pub within : AreColumnNumbers names numbers
 
 -- the number of a column has all its rules, for words of these tokens
 pub data HasCut (rules : List ColumnRule) (names : List ℕ) (few : List ColumnRule)
     (tokens : List Token) (l : ℕ) : Type 0 where
-  by_set : (row : List ℕ) → IsFreeOver rules row (head_of names l) → Has few l None [] →
+  by_set : (row : List ℕ) → IsFreeOver rules row (column_head names l) → Has few l None [] →
       ((t : Token) → Contains tokens t → IsInRow row t → Has few l (Some t) (l ∷ [])) →
       HasCut rules names few tokens l
-  by_rules : ((r : ColumnRule) → Contains rules r → r.left ≡ head_of names l →
+  by_rules : ((r : ColumnRule) → Contains rules r → r.left ≡ column_head names l →
       HasNumbered names few l r) → HasCut rules names few tokens l
 
 -- rules were added to a list
 pub record AddsCut (rules : List ColumnRule) (names : List ℕ) (old new : List ColumnRule)
     : Type 0 where
-  pub grow : Grow old new
+  pub grow : RulesGrow old new
   pub cut : AreCutRules rules names old → AreCutRules rules names new
 
 -- each column that has a number has its rules, and there are no others
-pub record IsCut (rules : List ColumnRule) (names : List ℕ) (tokens : List Token)
+pub record AreRulesCut (rules : List ColumnRule) (names : List ℕ) (tokens : List Token)
     (few : List ColumnRule) : Type 0 where
   pub cut : AreCutRules rules names few
   pub has : (l : ℕ) → l < length names → HasCut rules names few tokens l

@@ -1,5 +1,6 @@
 -- The furthest ends of sites, by derivations alone.
-use Rattle.std.specs.Prelude.{List, None, Option, Some, length, max, slice_get, suc, zero, ℕ, ◌+◌, ◌≤◌}
+use Rattle.std.specs.Prelude.{List, None, Option, Some, length, max, slice_get, suc, zero, ℕ, ◌+◌}
+use Rattle.std.specs.Prelude.{◌≤◌}
 use Rattle.pv_model.specs.Plain.{PlainToken}
 use Rattle.pv_dtd.specs.Plain.{PlainDtd}
 use Rattle.pv_rules.specs.Deriving.{DerivesAt}
@@ -26,10 +27,10 @@ past_of r (part_site q) i = past_column r.ends (r.ends.names + q) i
 past_of r (rest_site q) i = past_rest r.ends r.rests.items q i
 
 -- what is told of a site and a place
-abbrev pub end_of : Reaches → PlainSite → ℕ → Option ℕ
-end_of r s i = place_told (past_of r s i)
+abbrev pub end_told : Reaches → PlainSite → ℕ → Option ℕ
+end_told r s i = place_told (past_of r s i)
 
 -- For each site of the DTD and each place of a word, the furthest end is told.
 pub record AreReaches (g : PlainDtd) (w : List PlainToken) (r : Reaches) : Type 0 where
   pub ends : (s : PlainSite) (i : ℕ) → HasSite g s → i ≤ length w →
-      IsGreatestEnd g w s i (end_of r s i)
+      IsGreatestEnd g w s i (end_told r s i)

@@ -12,16 +12,16 @@ ReadsWhatever rules c d = (word : List Token) (i j : ℕ) → ReadThrough rules 
     ReadThrough rules word (c ∷ []) i j
 
 -- what column a reaches, it reaches with what q reaches behind it
-abbrev pub MayFollow : List ColumnRule → ℕ → ℕ → Type 0
-MayFollow rules a q = (word : List Token) (h i j : ℕ) → ReadThrough rules word (a ∷ []) h i →
+abbrev pub LeadsOnTo : List ColumnRule → ℕ → ℕ → Type 0
+LeadsOnTo rules a q = (word : List Token) (h i j : ℕ) → ReadThrough rules word (a ∷ []) h i →
     ReadThrough rules word (q ∷ []) i j → ReadThrough rules word (a ∷ []) h j
 
 -- the edge leads from the rule's column to one on its right
-abbrev pub IsEdgeOf : ColumnRule → Edge → Type 0
-IsEdgeOf r e = (k : ℕ) × (k < length r.columns.items) × (e.from ≡ r.left) ×
+abbrev pub IsRightEdgeOf : ColumnRule → Edge → Type 0
+IsRightEdgeOf r e = (k : ℕ) × (k < length r.columns.items) × (e.from ≡ r.left) ×
     (e.to ≡ get_or r.columns.items k 0)
 
-pub record AreEdges (rules : List ColumnRule) (edges : List Edge) : Type 0 where
+pub record AreRightEdges (rules : List ColumnRule) (edges : List Edge) : Type 0 where
   pub leads : (e : Edge) → Contains edges e → ReadsWhatever rules e.from e.to
 
 -- each of the second edges is one of the first the other way

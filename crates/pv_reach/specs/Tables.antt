@@ -4,11 +4,11 @@ use Rattle.std.specs.Prelude.{◌≡◌, ◌≤◌, ◌<◌, ℕ, zero, suc, ◌
 use Rattle.std.specs.Prelude.{slice_index, length, sum_by}
 use Rattle.pv_model.specs.declared.models.Token.{Token}
 use Rattle.pv_columns.specs.declared.rules.ColumnRule.{ColumnRule}
-use Rattle.pv_columns.specs.ColumnRules.{Reads, ReadThrough}
+use Rattle.pv_columns.specs.ColumnRules.{ReadsToken, ReadThrough}
 
 -- what the table has for a column at a place
-abbrev pub cell : ℕ → List ℕ → ℕ → ℕ → ℕ
-cell width table c i = slice_index table (i * width + c)
+abbrev pub cell_at : ℕ → List ℕ → ℕ → ℕ → ℕ
+cell_at width table c i = slice_index table (i * width + c)
 
 abbrev pub onward : ℕ → (ℕ → ℕ) → ℕ
 onward zero f = 0
@@ -17,22 +17,22 @@ onward (suc k) f = f k
 -- one past where the columns lead, each from the furthest place of the one before it
 abbrev pub past : ℕ → List ℕ → List ℕ → ℕ → ℕ
 past width table [] i = suc i
-past width table (c ∷ cs) i = onward (cell width table c i) (past width table cs)
+past width table (c ∷ cs) i = onward (cell_at width table c i) (past width table cs)
 
 pub record IsTable (word : List Token) (width : ℕ) (table : List ℕ) : Type 0 where
   pub long : length table ≡ suc (length word) * width
   pub bounded : (k : ℕ) → slice_index table k ≤ suc (length word)
 
 -- each cell is reached
-pub record IsAttained (rules : List ColumnRule) (word : List Token) (width : ℕ) (table : List ℕ)
+pub record IsReachedTable (rules : List ColumnRule) (word : List Token) (width : ℕ) (table : List ℕ)
     : Type 0 where
-  pub reaches : (c i j : ℕ) → c < width → i ≤ length word → cell width table c i ≡ suc j →
+  pub reaches : (c i j : ℕ) → c < width → i ≤ length word → cell_at width table c i ≡ suc j →
       ReadThrough rules word (c ∷ []) i j
 
 -- from this place the rule offers no more than its cell has
 abbrev pub RaisesNothing : List Token → ℕ → List ℕ → ℕ → ColumnRule → Type 0
-RaisesNothing word width table i r = (m : ℕ) → Reads word r.token i m →
-    past width table r.columns.items m ≤ cell width table r.left i
+RaisesNothing word width table i r = (m : ℕ) → ReadsToken word r.token i m →
+    past width table r.columns.items m ≤ cell_at width table r.left i
 
 pub record IsClosedAt (rules : List ColumnRule) (word : List Token) (width : ℕ) (table : List ℕ)
     (i : ℕ) : Type 0 where
@@ -42,13 +42,13 @@ pub record IsClosedAt (rules : List ColumnRule) (word : List Token) (width : ℕ
 pub record IsComplete (rules : List ColumnRule) (word : List Token) (width : ℕ) (table : List ℕ)
     (from : ℕ) : Type 0 where
   pub beyond : (c i j : ℕ) → c < width → from ≤ i → i ≤ length word →
-      ReadThrough rules word (c ∷ []) i j → j < cell width table c i
+      ReadThrough rules word (c ∷ []) i j → j < cell_at width table c i
 
 -- each cell holds the furthest place: it is attained, and nothing goes beyond it
 pub record IsFurthest (rules : List ColumnRule) (word : List Token) (width : ℕ) (table : List ℕ)
     : Type 0 where
   pub sized : IsTable word width table
-  pub attained : IsAttained rules word width table
+  pub attained : IsReachedTable rules word width table
   pub complete : IsComplete rules word width table 0
 
 -- how far the cells can still rise

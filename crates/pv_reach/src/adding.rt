@@ -2,7 +2,7 @@
 
 ghost use Rattle.std.specs.Prelude.{◌≡◌, IfOk};
 ghost use Rattle.pv_productive.specs.PlainForms.{dtd_of};
-ghost use Rattle.pv_reach.specs.Adding.{Adds};
+ghost use Rattle.pv_reach.specs.Adding.{AddsRule};
 ghost use Rattle.pv_reach.specs.Columns.{any_column, part_column};
 
 use pv_columns::ColumnRule;
@@ -32,7 +32,7 @@ pub fn add(
     token: Option<Token>,
     columns: &[usize],
 ) -> Result<(), AllocError>
-    ensures { IfOk result (λ _. Adds rules.old.items rules.new.items left token columns.now) }
+    ensures { IfOk result (λ _. AddsRule rules.old.items rules.new.items left token columns.now) }
 {
     let columns = Vec::from_slice(alloc, columns)?;
     rules.push(ColumnRule {

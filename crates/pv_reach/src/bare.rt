@@ -4,7 +4,7 @@ ghost use Rattle.std.specs.Prelude.{◌≡◌, ◌<◌, ◌⊎◌, ℕ, IfOk, fa
 ghost use Rattle.pv_dtd.specs.Productive.{IsProductive};
 ghost use Rattle.pv_productive.specs.PlainForms.{dtd_of};
 ghost use Rattle.pv_reach.specs.Columns.{AreRules};
-ghost use Rattle.pv_columns.specs.Marks.{AreBare};
+ghost use Rattle.pv_columns.specs.Marks.{AreNullable};
 
 use crate::flags::set_flag;
 use pv_columns::{ColumnRule, is_open};
@@ -42,7 +42,7 @@ pub fn bare_columns(
     width: usize,
 ) -> Result<Vec<bool>, AllocError>
     requires { AreRules (dtd_of grammar.now) rules.now }
-    ensures { IfOk result (λ flags. AreBare rules.now flags.items) }
+    ensures { IfOk result (λ flags. AreNullable rules.now flags.items) }
 {
     let mut flags = vec![in alloc; false; width]?;
     set_names(grammar, &mut flags);

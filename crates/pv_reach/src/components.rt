@@ -1,7 +1,7 @@
 //! Columns that lead to one another at one place: they reach the same.
 
 ghost use Rattle.std.specs.Prelude.{◌≡◌, ◌<◌, ℕ, IfOk, get_or, length};
-ghost use Rattle.pv_columns.specs.Marks.{AreBare};
+ghost use Rattle.pv_columns.specs.Marks.{AreNullable};
 ghost use Rattle.pv_reach.specs.Leading.{AreAlike, IsHead};
 
 use crate::chains::Chains;
@@ -58,7 +58,7 @@ pub fn components_of(
     bare: &[bool],
     width: usize,
 ) -> Result<Components, AllocError>
-    requires { AreBare rules.now bare.now }
+    requires { AreNullable rules.now bare.now }
     ensures { IfOk result (λ c. (length c.heads.items ≡ width) × AreAlike rules.now c.heads.items) }
 {
     let edges = edges_of(alloc, rules, bare)?;

@@ -10,14 +10,15 @@ ghost use Rattle.pv_columns.specs.ColumnRules.{InRange, ReadThrough, TokensMayBe
 ghost use Rattle.pv_columns.specs.FreeSets.{IsFreeOver};
 ghost use Rattle.pv_columns.specs.Tokens.{IsInRow};
 ghost use Rattle.pv_columns.specs.declared.rules.ColumnRule.{ColumnRule as PlainRule};
-ghost use Rattle.pv_reach.specs.Adding.{Grow};
+ghost use Rattle.pv_reach.specs.Adding.{RulesGrow};
 ghost use Rattle.pv_reach.specs.Columns.{Has};
-ghost use Rattle.pv_reach.specs.Cuts.{AddsCut, AreNumbers, AreOwnSets, AreRanges, AreTokensOf};
-ghost use Rattle.pv_reach.specs.Cuts.{HasCut, HasNumbered, IsCut};
-ghost use Rattle.pv_reach.specs.Merging.{head_of, heads_of};
+ghost use Rattle.pv_reach.specs.Cuts.{AddsCut, AreColumnNumbers, AreOwnSets, AreRanges};
+ghost use Rattle.pv_reach.specs.Cuts.{AreTokensOf};
+ghost use Rattle.pv_reach.specs.Cuts.{HasCut, HasNumbered, AreRulesCut};
+ghost use Rattle.pv_reach.specs.Merging.{column_head, column_heads};
 
 use crate::adding::add;
-use crate::found::{Found, Uncut, needed_columns};
+use crate::found::{FoundColumns, Uncut, needed_columns};
 use crate::plan::Plan;
 use crate::table::reaches_end;
 use pv_columns::{ColumnRule, has};
@@ -60,10 +61,10 @@ fn tokens_of(alloc: Global, word: &[Token]) -> Result<Vec<Token>, AllocError>
 }
 
 /// The numbers of columns.
-fn numbers_of(alloc: Global, found: &Found, columns: &[usize]) -> Result<Vec<usize>, Uncut>
+fn numbers_of(alloc: Global, found: &FoundColumns, columns: &[usize]) -> Result<Vec<usize>, Uncut>
     ensures are { IfOk result (λ numbers.
-        heads_of found.now.names.items numbers.items ≡ columns.now) }
-    ensures within { IfOk result (λ numbers. AreNumbers found.now.names.items numbers.items) }
+        column_heads found.now.names.items numbers.items ≡ columns.now) }
+    ensures within { IfOk result (λ numbers. AreColumnNumbers found.now.names.items numbers.items) }
 {
     let mut numbers = Vec::new(alloc);
     for column in columns {
@@ -77,7 +78,7 @@ fn add_numbered(
     alloc: Global,
     rules: &[ColumnRule],
     number: usize,
-    found: &Found,
+    found: &FoundColumns,
     left: usize,
     few: &mut Vec<ColumnRule>,
 ) -> Result<(), Uncut>
@@ -85,7 +86,7 @@ fn add_numbered(
     ensures adds { OnOk result (AddsCut rules.now found.now.names.items few.old.items
         few.new.items) }
     ensures has { OnOk result ((r : PlainRule) → number < length rules.now →
-        r ≡ get_or rules.now number r → r.left ≡ head_of found.now.names.items left →
+        r ≡ get_or rules.now number r → r.left ≡ column_head found.now.names.items left →
         HasNumbered found.now.names.items few.new.items left r) }
 {
     if number >= rules.len() {
@@ -106,7 +107,7 @@ fn add_rules(
     rules: &[ColumnRule],
     first: usize,
     end: usize,
-    found: &Found,
+    found: &FoundColumns,
     left: usize,
     few: &mut Vec<ColumnRule>,
 ) -> Result<(), Uncut>
@@ -115,7 +116,7 @@ fn add_rules(
         few.new.items) }
     ensures has { OnOk result ((k : ℕ) (r : PlainRule) → first ≤ k → k < end →
         k < length rules.now → r ≡ get_or rules.now k r →
-        r.left ≡ head_of found.now.names.items left →
+        r.left ≡ column_head found.now.names.items left →
         HasNumbered found.now.names.items few.new.items left r) }
 {
     for number in first..end {
@@ -132,9 +133,9 @@ fn add_token(
     left: usize,
     few: &mut Vec<ColumnRule>,
 ) -> Result<(), AllocError>
-    ensures grow { OnOk result (Grow few.old.items few.new.items) }
+    ensures grow { OnOk result (RulesGrow few.old.items few.new.items) }
     ensures adds { OnOk result ((rules : List PlainRule) (names : List ℕ) →
-        IsFreeOver rules row.now (head_of names left) → left < length names →
+        IsFreeOver rules row.now (column_head names left) → left < length names →
         AddsCut rules names few.old.items few.new.items) }
     ensures has { OnOk result (IsInRow row.now token →
         Has few.new.items left (Some token) (left ∷ [])) }
@@ -155,10 +156,10 @@ fn add_free(
     few: &mut Vec<ColumnRule>,
 ) -> Result<(), AllocError>
     ensures adds { OnOk result ((rules : List PlainRule) (names : List ℕ) →
-        IsFreeOver rules row.now (head_of names left) → left < length names →
+        IsFreeOver rules row.now (column_head names left) → left < length names →
         AddsCut rules names few.old.items few.new.items) }
     ensures has { OnOk result ((rules : List PlainRule) (names : List ℕ) →
-        IsFreeOver rules row.now (head_of names left) →
+        IsFreeOver rules row.now (column_head names left) →
         HasCut rules names few.new.items tokens.now left) }
 {
     add(alloc, few, left, None, &[])?;
@@ -172,7 +173,7 @@ fn add_free(
 fn add_column(
     alloc: Global,
     plan: &Plan,
-    found: &Found,
+    found: &FoundColumns,
     tokens: &[Token],
     left: usize,
     few: &mut Vec<ColumnRule>,
@@ -203,12 +204,12 @@ fn add_column(
 fn cut_rules(
     alloc: Global,
     plan: &Plan,
-    found: &Found,
+    found: &FoundColumns,
     tokens: &[Token],
 ) -> Result<Vec<ColumnRule>, Uncut>
     requires sets { AreOwnSets plan.now.rules.items plan.now.width plan.now.free }
     requires ranges { AreRanges plan.now.rules.items plan.now.ranges }
-    ensures { IfOk result (λ few. IsCut plan.now.rules.items found.now.names.items tokens.now
+    ensures { IfOk result (λ few. AreRulesCut plan.now.rules.items found.now.names.items tokens.now
         few.items) }
 {
     let mut few = Vec::new(alloc);
@@ -223,9 +224,9 @@ fn cut_of(alloc: Global, plan: &Plan, tokens: &[Token], column: usize) -> Result
     requires sets { AreOwnSets plan.now.rules.items plan.now.width plan.now.free }
     requires ranges { AreRanges plan.now.rules.items plan.now.ranges }
     ensures number { IfOk result (λ cut. cut.number < length cut.names.items) }
-    ensures column { IfOk result (λ cut. head_of cut.names.items cut.number ≡ column) }
+    ensures column { IfOk result (λ cut. column_head cut.names.items cut.number ≡ column) }
     ensures narrow { IfOk result (λ cut. length cut.names.items ≤ plan.now.width) }
-    ensures cut { IfOk result (λ cut. IsCut plan.now.rules.items cut.names.items tokens.now
+    ensures cut { IfOk result (λ cut. AreRulesCut plan.now.rules.items cut.names.items tokens.now
         cut.rules.items) }
 {
     let found = needed_columns(alloc, plan, column)?;

@@ -4,8 +4,8 @@
 //! reach over no tokens: it reaches whatever they reach.
 
 ghost use Rattle.std.specs.Prelude.{◌≡◌, ◌⊎◌, ℕ, Contains, IfOk};
-ghost use Rattle.pv_columns.specs.Marks.{AreBare};
-ghost use Rattle.pv_reach.specs.Leading.{AreEdges, IsEdgeOf, Turned};
+ghost use Rattle.pv_columns.specs.Marks.{AreNullable};
+ghost use Rattle.pv_reach.specs.Leading.{AreRightEdges, IsRightEdgeOf, Turned};
 
 use pv_columns::{ColumnRule, is_open};
 use std::alloc::{AllocError, Global};
@@ -20,7 +20,7 @@ pub struct Edge {
 /// Appends the edges of a rule.
 fn push_edges(rule: &ColumnRule, edges: &mut Vec<Edge>) -> Result<(), AllocError>
     ensures { IfOk result (λ _. (e : Edge) → Contains edges.new.items e →
-        Contains edges.old.items e ⊎ IsEdgeOf rule.now e) }
+        Contains edges.old.items e ⊎ IsRightEdgeOf rule.now e) }
 {
     for column in &rule.columns {
         edges.push(Edge {
@@ -33,8 +33,8 @@ fn push_edges(rule: &ColumnRule, edges: &mut Vec<Edge>) -> Result<(), AllocError
 
 /// The edges of the rules, where these columns reach over no tokens.
 pub fn edges_of(alloc: Global, rules: &[ColumnRule], bare: &[bool]) -> Result<Vec<Edge>, AllocError>
-    requires { AreBare rules.now bare.now }
-    ensures { IfOk result (λ edges. AreEdges rules.now edges.items) }
+    requires { AreNullable rules.now bare.now }
+    ensures { IfOk result (λ edges. AreRightEdges rules.now edges.items) }
 {
     let mut edges = Vec::new(alloc);
     for rule in rules {

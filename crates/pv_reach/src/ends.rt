@@ -1,9 +1,9 @@
 //! The furthest places over a word, as a table of columns tells them.
 
 ghost use Rattle.std.specs.Prelude.{◌≡◌, ◌<◌, ◌^◌, ℕ, length};
-ghost use Rattle.pv_reach.specs.Merging.{head_of};
+ghost use Rattle.pv_reach.specs.Merging.{column_head};
 
-use crate::merging::head_of;
+use crate::merging::column_head;
 use pv_model::{NameId, Token};
 
 /// A word, and for each column and place of it one past the furthest place that the column reaches
@@ -19,7 +19,7 @@ pub struct Ends {
     pub names: u32,
     pub ghost short: { length word.items < 2 ^ 26 },
     pub ghost narrow: { width < 2 ^ 26 },
-    pub ghost headed: { (c : ℕ) → head_of heads.items c < width },
+    pub ghost headed: { (c : ℕ) → column_head heads.items c < width },
 }
 
 impl Ends {
@@ -30,7 +30,7 @@ impl Ends {
     fn column_past(&self, column: usize, from: u32) -> u32
         ensures { result ≡ past_column self.now column from }
     {
-        let at = from as usize * self.width + head_of(&self.heads, column);
+        let at = from as usize * self.width + column_head(&self.heads, column);
         self.table.get(at).copied().unwrap_or(0)
     }
 

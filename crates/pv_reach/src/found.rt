@@ -1,7 +1,7 @@
 //! A search for the columns that a column needs before it comes to free ones.
 
 ghost use Rattle.std.specs.Prelude.{◌≡◌, ◌<◌, IfOk, length};
-ghost use Rattle.pv_reach.specs.Merging.{head_of};
+ghost use Rattle.pv_reach.specs.Merging.{column_head};
 
 use crate::plan::Plan;
 use std::alloc::{AllocError, AllocFailed, Global};
@@ -29,18 +29,18 @@ impl<T: Drop> From<AllocFailed<T>> for Uncut {
 
 /// The columns that a search has found.
 #[derive(Debug, Drop)]
-pub struct Found {
+pub struct FoundColumns {
     /// The columns, in the order in which they were found: that of their numbers.
     pub names: Vec<usize>,
     /// For each column its number, where it was found.
     numbers: Vec<usize>,
 }
 
-impl Found {
+impl FoundColumns {
     /// The number of a column.
     pub fn number_of(&self, column: usize) -> Result<usize, Uncut>
         ensures { IfOk result (λ l. (l < length self.now.names.items)
-            × (head_of self.now.names.items l ≡ column)) }
+            × (column_head self.now.names.items l ≡ column)) }
     {
         let number = self.numbers.get(column).copied().unwrap_or(0);
         if number < self.names.len() && self.names[number] == column {
@@ -80,8 +80,12 @@ impl Found {
 
 /// The columns that a column of a plan needs: itself, and whatever stands in the rules of those
 /// that aren't free.
-pub fn needed_columns(alloc: Global, plan: &Plan, column: usize) -> Result<Found, AllocError> {
-    let mut found = Found {
+pub fn needed_columns(
+    alloc: Global,
+    plan: &Plan,
+    column: usize,
+) -> Result<FoundColumns, AllocError> {
+    let mut found = FoundColumns {
         names: Vec::new(alloc),
         numbers: vec![in alloc; 0usize; plan.width]?,
     };

@@ -2,12 +2,12 @@
 
 ghost use Rattle.std.specs.Prelude.{IfOk};
 ghost use Rattle.pv_columns.specs.ColumnRules.{InRange};
-ghost use Rattle.pv_columns.specs.Marks.{AreBare, AreClosedMarks, ReadAlone};
+ghost use Rattle.pv_columns.specs.Marks.{AreNullable, AreClosedMarks, ReadAlone};
 ghost use Rattle.pv_reach.specs.Cuts.{AreOwnSets};
 ghost use Rattle.pv_reach.specs.Merging.{AreHeadsBare};
 
 use crate::flags::set_flag;
-use crate::merging::{Merging, head_of};
+use crate::merging::{Merging, column_head};
 use crate::sweep::numbers_below;
 use pv_columns::{ColumnRule, FreeSets, close_marks, is_marked};
 use std::alloc::{AllocError, Global};
@@ -21,13 +21,13 @@ fn live_columns(
 ) -> Result<Vec<bool>, AllocError>
     requires in_range { InRange wider merged.now }
     requires heads { AreHeadsBare merged.now merging.now.bare.items merging.now.heads.items }
-    ensures bare { IfOk result (λ live. AreBare merged.now live.items) }
+    ensures bare { IfOk result (λ live. AreNullable merged.now live.items) }
     ensures closed { IfOk result (λ live. AreClosedMarks merged.now live.items) }
 {
     let mut live = vec![in alloc; false; wider]?;
     for column in 0..merging.heads.len() {
         if is_marked(&merging.bare, column) {
-            set_flag(&mut live, head_of(&merging.heads, column));
+            set_flag(&mut live, column_head(&merging.heads, column));
         }
     }
     close_marks(merged, &mut live);

@@ -3,19 +3,19 @@
 ghost use Rattle.std.specs.Prelude.{◌≡◌, ◌<◌, ◌≤◌, All, IfOk, length};
 
 use crate::flags::set_flag;
-use crate::merging::{Merging, head_of, own_place};
+use crate::merging::{Merging, column_head, own_place};
 use pv_columns::{ColumnRule, is_marked, is_open};
 use std::alloc::{AllocError, Global};
 
 /// For what stands behind its own place in a rule, flags the rule's column among those that stand
 /// behind themselves, or among the others.
 fn set_behind(heads: &[usize], rule: &ColumnRule, own: &mut Vec<bool>, others: &mut Vec<bool>) {
-    let head = head_of(heads, rule.left);
+    let head = column_head(heads, rule.left);
     let Some(place) = own_place(heads, rule) else {
         return;
     };
     for (i, column) in rule.columns.iter().enumerate() {
-        if i > place && head_of(heads, *column) == head {
+        if i > place && column_head(heads, *column) == head {
             set_flag(own, head);
         } else if i > place {
             set_flag(others, head);

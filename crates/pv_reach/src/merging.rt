@@ -9,9 +9,9 @@
 
 ghost use Rattle.std.specs.Prelude.{◌≡◌, ◌+◌, ◌<◌, ◌^◌, ℕ, Contains, IfOk, IfSome, OnOk, get_or};
 ghost use Rattle.std.specs.Prelude.{length, map, slice_get};
-ghost use Rattle.pv_reach.specs.Adding.{Adds};
+ghost use Rattle.pv_reach.specs.Adding.{AddsRule};
 ghost use Rattle.pv_reach.specs.Merging.{AddsMerged, AreMerged, HasMerged, IsMerging};
-ghost use Rattle.pv_reach.specs.Merging.{MayStandBehind, head_of, heads_of};
+ghost use Rattle.pv_reach.specs.Merging.{MayStandBehind, column_head, column_heads};
 
 use crate::adding::add;
 use pv_columns::{ColumnRule, is_open};
@@ -31,18 +31,18 @@ pub struct Merging {
 }
 
 /// The column that stands for another.
-pub fn head_of(heads: &[usize], column: usize) -> usize
-    ensures { result ≡ head_of heads.now column }
+pub fn column_head(heads: &[usize], column: usize) -> usize
+    ensures { result ≡ column_head heads.now column }
 {
     heads.get(column).copied().unwrap_or(0)
 }
 
-fn heads_of(alloc: Global, heads: &[usize], columns: &[usize]) -> Result<Vec<usize>, AllocError>
-    ensures { IfOk result (λ found. found.items ≡ heads_of heads.now columns.now) }
+fn column_heads(alloc: Global, heads: &[usize], columns: &[usize]) -> Result<Vec<usize>, AllocError>
+    ensures { IfOk result (λ found. found.items ≡ column_heads heads.now columns.now) }
 {
     let mut found = Vec::new(alloc);
     for column in columns {
-        found.push(head_of(heads, *column))?;
+        found.push(column_head(heads, *column))?;
     }
     Ok(found)
 }
@@ -65,12 +65,12 @@ fn further_of(merging: &Merging, head: usize) -> Option<usize>
 /// is led to by it.
 pub fn own_place(heads: &[usize], rule: &ColumnRule) -> Option<usize>
     ensures { IfSome result (λ k. (k < length rule.now.columns.items)
-        × (head_of heads.now (get_or rule.now.columns.items k 0)
-        ≡ head_of heads.now rule.now.left)) }
+        × (column_head heads.now (get_or rule.now.columns.items k 0)
+        ≡ column_head heads.now rule.now.left)) }
 {
-    let head = head_of(heads, rule.left);
+    let head = column_head(heads, rule.left);
     for (place, column) in rule.columns.iter().enumerate() {
-        if head_of(heads, *column) == head {
+        if column_head(heads, *column) == head {
             return Some(place);
         }
     }
@@ -90,11 +90,11 @@ fn add_merged(
     ensures has { OnOk result (HasMerged rules.now merging.now new.new.items number) }
 {
     let rule = &rules[number];
-    let columns = heads_of(alloc, &merging.heads, &rule.columns)?;
+    let columns = column_heads(alloc, &merging.heads, &rule.columns)?;
     add(
         alloc,
         new,
-        head_of(&merging.heads, rule.left),
+        column_head(&merging.heads, rule.left),
         rule.token,
         &columns,
     )
@@ -116,7 +116,7 @@ fn add_behind(
 {
     let rule = &rules[number];
     for i in first..rule.columns.len() {
-        let follower = head_of(&merging.heads, rule.columns[i]);
+        let follower = column_head(&merging.heads, rule.columns[i]);
         add(alloc, new, further, None, &[follower, further])?;
     }
     Ok(())
@@ -135,7 +135,7 @@ fn add_followers(
     ensures { OnOk result (AddsMerged rules.now merging.now new.old.items new.new.items) }
 {
     let rule = &rules[number];
-    let Some(further) = further_of(merging, head_of(&merging.heads, rule.left)) else {
+    let Some(further) = further_of(merging, column_head(&merging.heads, rule.left)) else {
         return Ok(());
     };
     let Some(place) = own_place(&merging.heads, rule) else {
@@ -172,7 +172,7 @@ fn is_last(rules: &[ColumnRule], heads: &[usize], order: &[usize], place: usize)
     let head_at = |place: usize| {
         let number = order.get(place).copied()?;
         let rule = rules.get(number)?;
-        Some(head_of(heads, rule.left))
+        Some(column_head(heads, rule.left))
     };
     head_at(place) != head_at(place.saturating_add(1))
 }
@@ -199,7 +199,7 @@ fn add_rule(
             alloc,
             rules,
             merging,
-            head_of(&merging.heads, rules[number].left),
+            column_head(&merging.heads, rules[number].left),
             new,
         )?;
     }

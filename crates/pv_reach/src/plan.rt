@@ -13,7 +13,7 @@ use crate::layout::rules_of;
 use crate::led::merging_of;
 use crate::merging::merge;
 use crate::order::rule_order;
-use crate::ranges::Ranges;
+use crate::ranges::RuleRanges;
 use pv_chars::NoMemory;
 use pv_columns::{ColumnRule, FreeSets};
 use pv_productive::Grammar;
@@ -30,7 +30,7 @@ pub struct Plan {
     /// The sets of the columns that are free.
     pub(crate) free: FreeSets,
     /// Where the rules of each column stand.
-    pub(crate) ranges: Ranges,
+    pub(crate) ranges: RuleRanges,
 }
 
 impl Plan {
@@ -65,7 +65,7 @@ fn plan_over(alloc: Global, grammar: &Grammar, rules: &[ColumnRule]) -> Result<P
     let merged = merge(alloc, rules, &merging, &order)?;
     let wider = width + merging.led.len();
     let free = free_sets(alloc, &merged, &merging, wider)?;
-    let ranges = Ranges::of(alloc, &merged, wider)?;
+    let ranges = RuleRanges::of(alloc, &merged, wider)?;
     Ok(Plan {
         rules: merged,
         heads: merging.heads,

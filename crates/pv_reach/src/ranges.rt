@@ -11,7 +11,7 @@ use std::alloc::{AllocError, Global};
 /// For each column the numbers of rules among which its own stand: those from the first of them up
 /// to behind the last one.
 #[derive(Debug, Drop)]
-pub struct Ranges {
+pub struct RuleRanges {
     first: Vec<usize>,
     end: Vec<usize>,
 }
@@ -53,15 +53,15 @@ fn ends_of(alloc: Global, rules: &[ColumnRule], width: usize) -> Result<Vec<usiz
     Ok(ends)
 }
 
-impl Ranges {
+impl RuleRanges {
     /// The ranges of the rules of columns below `width`.
-    pub fn of(alloc: Global, rules: &[ColumnRule], width: usize) -> Result<Ranges, AllocError>
+    pub fn of(alloc: Global, rules: &[ColumnRule], width: usize) -> Result<RuleRanges, AllocError>
         requires { InRange width rules.now }
         ensures { IfOk result (λ ranges. AreRanges rules.now ranges) }
     {
         let first = firsts_of(alloc, rules, width)?;
         let end = ends_of(alloc, rules, width)?;
-        Ok(Ranges { first, end })
+        Ok(RuleRanges { first, end })
     }
 
     /// Where the rules of a column begin.

@@ -33,7 +33,7 @@ pub struct Reaches {
 impl Reaches {
     ghost use Rattle.std.specs.Prelude.{◌≡◌};
     ghost use Rattle.pv_rules.specs.PlainForms.{plain_site};
-    ghost use Rattle.pv_reach.specs.Ending.{end_of, past_of};
+    ghost use Rattle.pv_reach.specs.Ending.{end_told, past_of};
 
     /// One past the furthest place of a site, or 0.
     fn past(&self, site: Site, from: u32) -> u32
@@ -54,7 +54,7 @@ impl Reaches {
     ///
     /// The site is one of the grammar, and the place at most the number of tokens.
     pub fn at(&self, site: Site, from: u32) -> Option<u32>
-        ensures { result ≡ end_of self.now (plain_site site) from }
+        ensures { result ≡ end_told self.now (plain_site site) from }
     {
         match self.past(site, from) {
             0 => None,

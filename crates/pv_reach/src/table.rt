@@ -8,9 +8,10 @@
 ghost use Rattle.std.specs.Prelude.{◌↔◌, IsTrue, [], ◌∷◌, ◌≡◌, ◌≤◌, ◌<◌, ℕ, suc, ◌+◌, ◌*◌, ◌^◌};
 ghost use Rattle.std.specs.Prelude.{IfOk, IfSome, IsNone, All, Contains, slice_index, length};
 ghost use Rattle.std.specs.Prelude.{false, true};
-ghost use Rattle.pv_columns.specs.ColumnRules.{Reads, ReadThrough, TokensMayBeMissing};
+ghost use Rattle.pv_columns.specs.ColumnRules.{ReadsToken, ReadThrough, TokensMayBeMissing};
 ghost use Rattle.pv_columns.specs.ColumnRules.{EndsAreIntervals, InRange};
-ghost use Rattle.pv_reach.specs.Tables.{cell, past, IsTable, IsAttained, IsClosedAt, IsComplete};
+ghost use Rattle.pv_reach.specs.Tables.{cell_at, past, IsTable, IsReachedTable, IsClosedAt};
+ghost use Rattle.pv_reach.specs.Tables.{IsComplete};
 ghost use Rattle.pv_reach.specs.Tables.{IsFurthest, room};
 
 use pv_columns::ColumnRule;
@@ -42,9 +43,9 @@ fn past_rule(rule: &ColumnRule, start: usize, word: &[Token], width: usize, tabl
     requires short { length word.now < 2 ^ 26 }
     requires in_range { All (λ c. c < width) rule.now.columns.items }
     requires table { IsTable word.now width table.now }
-    ensures offered { 0 < result → (m : ℕ) × Reads word.now rule.now.token start m ×
+    ensures offered { 0 < result → (m : ℕ) × ReadsToken word.now rule.now.token start m ×
         (result ≡ past width table.now rule.now.columns.items m) }
-    ensures most { (m : ℕ) → Reads word.now rule.now.token start m →
+    ensures most { (m : ℕ) → ReadsToken word.now rule.now.token start m →
         past width table.now rule.now.columns.items m ≤ result }
 {
     match rule.token {
@@ -71,9 +72,9 @@ fn raise(
     requires short { length word.now < 2 ^ 26 }
     requires in_range { InRange width rules.now }
     requires table { IsTable word.now width table.old }
-    requires attained { IsAttained rules.now word.now width table.old }
+    requires attained { IsReachedTable rules.now word.now width table.old }
     ensures table { IsTable word.now width table.new }
-    ensures attained { IsAttained rules.now word.now width table.new }
+    ensures attained { IsReachedTable rules.now word.now width table.new }
     ensures rises { (k : ℕ) → slice_index table.old k ≤ slice_index table.new k }
     ensures closed { result ≡ false → IsClosedAt rules.now word.now width table.new place }
     ensures less { result ≡ true → room (suc (length word.now)) table.new

@@ -15,7 +15,7 @@ ghost use Rattle.pv_reach.specs.declared.errors.ReachError.TheVariants.{TooWide 
 use crate::cut::column_reaches;
 use crate::errors::ReachError;
 use crate::judge::Judge;
-use crate::merging::head_of;
+use crate::merging::column_head;
 use crate::plan::Plan;
 use pv_missing::{Of, is_narrow};
 use pv_model::{NameId, Token};
@@ -41,7 +41,7 @@ pub(crate) fn content_derives(
         return Ok(false);
     }
     let plan = judge.plan();
-    let column = head_of(&plan.heads, id.0 as usize);
+    let column = column_head(&plan.heads, id.0 as usize);
     if let Some(covers) = plan.free.covers(column, word) {
         return Ok(covers);
     }

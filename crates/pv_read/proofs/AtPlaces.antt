@@ -6,14 +6,14 @@ use Rattle.pv_read.specs.Limits.{IsDeepest}
 use Rattle.pv_read.specs.Items.{Item, xml_declaration, doctype, comment_or_instruction, cdata_section, start_tag, empty_tag, end_tag, text_run}
 use Rattle.pv_read.specs.Left.{Left, in_prolog, in_content, in_epilog, left_by, takes_doctype, is_at_front, open_elements, IsWholeAt}
 use Rattle.pv_read.specs.Kinds.{may_stand_doctype, BeginsSubset, IsMismatch, opens_element, IsTooDeep, HasFault, subset}
-use Rattle.pv_read.specs.Places.{PlainPlace, place_of, takes_doctype_at, open_at, may_stand, IsMismatchAt, AsksForItem}
+use Rattle.pv_read.specs.Places.{PlainPlace, place_reached, takes_doctype_at, open_at, may_stand, IsMismatchAt, AsksForItem}
 
-doctype_there : {M : Type 0} (left : Left M) → may_stand_doctype left ≡ takes_doctype_at (place_of left)
+doctype_there : {M : Type 0} (left : Left M) → may_stand_doctype left ≡ takes_doctype_at (place_reached left)
 doctype_there (in_prolog stage before) = refl
 doctype_there (in_content before inner outer) = refl
 doctype_there (in_epilog before root after) = refl
 
-open_there : {M : Type 0} (left : Left M) → open_elements left ≡ open_at (place_of left)
+open_there : {M : Type 0} (left : Left M) → open_elements left ≡ open_at (place_reached left)
 open_there (in_prolog stage before) = refl
 open_there (in_content before inner outer) = refl
 open_there (in_epilog before root after) = refl
@@ -29,7 +29,7 @@ by_test b x e = rw e refl
 none_by_test : {A : Type 0} (b : Bool) (x : A) → b ≡ false → cond b (Some x) None ≡ None
 none_by_test b x e = rw e refl
 
-stands : {M : Type 0} (m : M) (left : Left M) (i : Item) → may_stand (place_of left) i ≡ true → MayStand m left i
+stands : {M : Type 0} (m : M) (left : Left M) (i : Item) → may_stand (place_reached left) i ≡ true → MayStand m left i
 stands m (in_prolog stage before) (xml_declaration bytes) e = record { next = _; is = by_test (is_at_front stage) _ e }
 stands m (in_prolog stage before) (doctype name bytes) e = record { next = _; is = by_test (takes_doctype stage) _ e }
 stands m (in_prolog stage before) (comment_or_instruction bytes) e = record { next = _; is = refl }
@@ -55,7 +55,7 @@ stands m (in_epilog before root after) (empty_tag name attrs) e = cc
 stands m (in_epilog before root after) (end_tag name gap) e = cc
 stands m (in_epilog before root after) (text_run bytes) e = record { next = _; is = by_test (list_all is_space bytes) _ e }
 
-stands_not : {M : Type 0} (m : M) (left : Left M) (i : Item) → may_stand (place_of left) i ≡ false → left_by m left i ≡ None
+stands_not : {M : Type 0} (m : M) (left : Left M) (i : Item) → may_stand (place_reached left) i ≡ false → left_by m left i ≡ None
 stands_not m (in_prolog stage before) (xml_declaration bytes) e = none_by_test (is_at_front stage) _ e
 stands_not m (in_prolog stage before) (doctype name bytes) e = none_by_test (takes_doctype stage) _ e
 stands_not m (in_prolog stage before) (comment_or_instruction bytes) e = cc
@@ -81,7 +81,7 @@ stands_not m (in_epilog before root after) (empty_tag name attrs) e = refl
 stands_not m (in_epilog before root after) (end_tag name gap) e = refl
 stands_not m (in_epilog before root after) (text_run bytes) e = none_by_test (list_all is_space bytes) _ e
 
-same_mismatch : {M : Type 0} (left : Left M) (i : Item) → IsMismatchAt (place_of left) i ≡ IsMismatch left i
+same_mismatch : {M : Type 0} (left : Left M) (i : Item) → IsMismatchAt (place_reached left) i ≡ IsMismatch left i
 same_mismatch (in_prolog stage before) (xml_declaration bytes) = refl
 same_mismatch (in_prolog stage before) (doctype name bytes) = refl
 same_mismatch (in_prolog stage before) (comment_or_instruction bytes) = refl
@@ -108,15 +108,15 @@ same_mismatch (in_epilog before root after) (end_tag name gap) = refl
 same_mismatch (in_epilog before root after) (text_run bytes) = refl
 
 -- where an item is to stand the document isn't whole
-pub not_whole_at : {M : Type 0} (left : Left M) (place : PlainPlace) (rest : List ℕ) → place_of left ≡ place → AsksForItem place rest → IsWholeAt left rest → ⊥
+pub not_whole_at : {M : Type 0} (left : Left M) (place : PlainPlace) (rest : List ℕ) → place_reached left ≡ place → AsksForItem place rest → IsWholeAt left rest → ⊥
 not_whole_at left place rest at asks whole = by left (subst (λ p. AsksForItem p rest) (sym at) asks) whole
   where
-    by : {M : Type 0} (left : Left M) → AsksForItem (place_of left) rest → IsWholeAt left rest → ⊥
+    by : {M : Type 0} (left : Left M) → AsksForItem (place_reached left) rest → IsWholeAt left rest → ⊥
     by (in_prolog stage before) asks whole = whole
     by (in_content before inner outer) asks whole = whole
     by (in_epilog before root after) asks whole = asks whole
 
-module _ {M : Type 0} (most : Option ℕ) (m : M) (root rest : List ℕ) (left : Left M) (place : PlainPlace) (at : place_of left ≡ place) where
+module _ {M : Type 0} (most : Option ℕ) (m : M) (root rest : List ℕ) (left : Left M) (place : PlainPlace) (at : place_reached left ≡ place) where
   takes_is : may_stand_doctype left ≡ takes_doctype_at place
   takes_is = doctype_there left ∙ ap takes_doctype_at at
 

@@ -13,7 +13,7 @@ use Rattle.pv_read.specs.Kinds.{entity}
 use Rattle.pv_read.specs.Meaning.{DocumentRestMeans}
 use Rattle.pv_read.specs.Errors.{Refuses}
 use Rattle.pv_read.specs.ItemLaws.{ItemsAreDetermined}
-use Rattle.pv_read.specs.Places.{PlainPlace, place_of}
+use Rattle.pv_read.specs.Places.{PlainPlace, place_reached}
 use Rattle.pv_read.specs.Steps.{TakesItem}
 use Rattle.pv_read.specs.TextRuns.{BeginsText, BeginsNoText}
 use Rattle.pv_read.specs.OpenElements.{plain_open, opens_of, left_in, left_after, is_markup}
@@ -47,8 +47,8 @@ text_step one_item most root old new rest more units t inner_is outer_is before 
     ∙ ap (λ items. in_content before (with_kid (plain_open old.inner) (text_node (units_in t.run))) (opens_of items)) outer_is in
     takes_leads count taken o (subst (λ l. DocumentRestMeans most blank_mark root (suc count) l more o) (left_is ∙ same_some taken.stands) means)
 
-module _ (most : Option ℕ) (root : List ℕ) (old : OpenElements) (rest : List ℕ) (place : PlainPlace) (at : (before : List ℕ) → place_of (left_in before old) ≡ place) (i : Item) (more : List ℕ)
-    (taken : (left : Left Mark) → place_of left ≡ place → TakesItem most blank_mark root left rest i more) where
+module _ (most : Option ℕ) (root : List ℕ) (old : OpenElements) (rest : List ℕ) (place : PlainPlace) (at : (before : List ℕ) → place_reached (left_in before old) ≡ place) (i : Item) (more : List ℕ)
+    (taken : (left : Left Mark) → place_reached left ≡ place → TakesItem most blank_mark root left rest i more) where
   pub taken_in : (before : List ℕ) → TakesItem most blank_mark root (left_in before old) rest i more
   taken_in before = taken (left_in before old) (at before)
 
@@ -69,8 +69,8 @@ markup_taken most root inner outer rest (end_tag name gap) more no_text t = refl
 markup_taken most root inner outer rest (text_run bytes) more no_text t =
     absurd (t.no_fault entity record { item = text_run bytes; more = more; next = t.next; begins = t.begins; may_stand = t.stands; has_property = no_text bytes more t.begins })
 
-pub refused_at : (most : Option ℕ) (root : List ℕ) (old : OpenElements) (rest : List ℕ) (place : PlainPlace) (at : (before : List ℕ) → place_of (left_in before old) ≡ place) (count : ℕ) (e : DocError)
-    → ((left : Left Mark) → place_of left ≡ place → Refuses (DocumentRestMeans most blank_mark root count left rest) e)
+pub refused_at : (most : Option ℕ) (root : List ℕ) (old : OpenElements) (rest : List ℕ) (place : PlainPlace) (at : (before : List ℕ) → place_reached (left_in before old) ≡ place) (count : ℕ) (e : DocError)
+    → ((left : Left Mark) → place_reached left ≡ place → Refuses (DocumentRestMeans most blank_mark root count left rest) e)
     → (before : List ℕ) → Refuses (DocumentRestMeans most blank_mark root count (left_in before old) rest) e
 refused_at most root old rest place at count e refuses before = refuses (left_in before old) (at before)
 

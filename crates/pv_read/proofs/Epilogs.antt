@@ -9,7 +9,7 @@ use Rattle.pv_read.specs.Items.{Item, xml_declaration, doctype, comment_or_instr
 use Rattle.pv_read.specs.Left.{Left, in_epilog, left_by}
 use Rattle.pv_read.specs.Meaning.{is_document, DocumentRestMeans, ends}
 use Rattle.pv_read.specs.Errors.{Refuses}
-use Rattle.pv_read.specs.Places.{place_of, epilog}
+use Rattle.pv_read.specs.Places.{place_reached, epilog}
 use Rattle.pv_read.specs.Steps.{TakesItem}
 use Rattle.pv_read.specs.Epilogs.{ReadsEpilog, document, EndsDocument}
 use Rattle.pv_read.specs.declared.errors.DocError.{DocError}
@@ -31,7 +31,7 @@ pub no_items_behind : (most : Option ℕ) (root end : List ℕ) (first : ℕ) �
 no_items_behind most root end first = record { after = []; whole = refl; few = omega arith; leads = λ before t o means. means }
 
 module _ {most : Option ℕ} {root end rest : List ℕ} {first count : ℕ} (r : ReadsEpilog most root end first rest count) where
-  pub one_more_behind : (i : Item) (more : List ℕ) → ((left : Left Mark) → place_of left ≡ epilog → TakesItem most blank_mark root left rest i more)
+  pub one_more_behind : (i : Item) (more : List ℕ) → ((left : Left Mark) → place_reached left ≡ epilog → TakesItem most blank_mark root left rest i more)
       → length more < length rest → (next : ℕ) → next ≡ count + 1 → ReadsEpilog most root end first more next
   one_more_behind i more taken less next is_next =
       let begins = (taken (in_epilog [] (misc_node []) []) refl).begins in
@@ -51,6 +51,6 @@ module _ {most : Option ℕ} {root end rest : List ℕ} {first count : ℕ} (r :
       let after_is : end ≡ r.after = r.whole ∙ ap (λ b. r.after ++ b) none ∙ append-nil r.after in
       subst (λ e. DocumentRestMeans most blank_mark root first (in_epilog before t []) end (is_document (document before t e))) (sym after_is) (r.leads before t (is_document (document before t r.after)) (ends none))
 
-  pub refused_behind : (e : DocError) → ((left : Left Mark) → place_of left ≡ epilog → Refuses (DocumentRestMeans most blank_mark root count left rest) e)
+  pub refused_behind : (e : DocError) → ((left : Left Mark) → place_reached left ≡ epilog → Refuses (DocumentRestMeans most blank_mark root count left rest) e)
       → (before : List ℕ) (t : Tree Mark) → Refuses (DocumentRestMeans most blank_mark root first (in_epilog before t []) end) e
   refused_behind e refuses before t = Refuses-weaker _ _ (r.leads before t) e (refuses (in_epilog before t r.after) refl)

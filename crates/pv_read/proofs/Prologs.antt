@@ -9,7 +9,7 @@ use Rattle.pv_read.specs.Left.{Left, PlainStage, at_front, in_prolog, left_by, t
 use Rattle.pv_read.specs.Kinds.{opens_element}
 use Rattle.pv_read.specs.Meaning.{Outcome, DocumentRestMeans, item}
 use Rattle.pv_read.specs.Errors.{Refuses}
-use Rattle.pv_read.specs.Places.{stage_behind, place_of, prolog}
+use Rattle.pv_read.specs.Places.{stage_behind, place_reached, prolog}
 use Rattle.pv_read.specs.Steps.{TakesItem}
 use Rattle.pv_read.specs.declared.errors.DocError.{DocError}
 use Rattle.pv_read.specs.Prologs.{ReadsProlog, behind_tag}
@@ -41,7 +41,7 @@ pub no_items : (most : Option ℕ) (root text : List ℕ) → ReadsProlog most r
 no_items most root text = record { before = []; whole = refl; few = omega arith; leads = λ mark o means. rw append-nil at means }
 
 module _ {most : Option ℕ} {root text rest : List ℕ} {stage : PlainStage} {count : ℕ} (r : ReadsProlog most root text stage rest count) (i : Item) (more : List ℕ)
-    (taken : (left : Left Mark) → place_of left ≡ prolog stage → TakesItem most blank_mark root left rest i more) (less : length more < length rest) where
+    (taken : (left : Left Mark) → place_reached left ≡ prolog stage → TakesItem most blank_mark root left rest i more) (less : length more < length rest) where
   pub one_more : (behind : PlainStage) (next : ℕ) → opens_element i ≡ false → behind ≡ stage_behind stage i → next ≡ count + 1 → ReadsProlog most root text behind more next
   one_more behind next closed is_behind is_next =
       let begins = (taken (in_prolog stage []) refl).begins in
@@ -65,6 +65,6 @@ module _ {most : Option ℕ} {root text rest : List ℕ} {stage : PlainStage} {c
       r.leads mark o (takes_leads count t o (subst (λ l. DocumentRestMeans most blank_mark root (suc count) l more o) next_is means))
 
 module _ {most : Option ℕ} {root text rest : List ℕ} {stage : PlainStage} {count : ℕ} (r : ReadsProlog most root text stage rest count) (e : DocError) where
-  pub refused_in : ((left : Left Mark) → place_of left ≡ prolog stage → Refuses (DocumentRestMeans most blank_mark root count left rest) e)
+  pub refused_in : ((left : Left Mark) → place_reached left ≡ prolog stage → Refuses (DocumentRestMeans most blank_mark root count left rest) e)
       → (mark : List ℕ) → Refuses (DocumentRestMeans most blank_mark root 0 (in_prolog at_front mark) text) e
   refused_in refuses mark = Refuses-weaker _ _ (r.leads mark) e (refuses (in_prolog stage (mark ++ r.before)) refl)

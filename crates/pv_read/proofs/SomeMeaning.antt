@@ -10,7 +10,7 @@ use Rattle.pv_read.specs.Left.{Left, at_front, in_prolog, in_content, in_epilog,
 use Rattle.pv_read.specs.Kinds.{Kind, subset, syntax, entity, mismatch, doctype_name, deep, BeginsSubset, may_stand_doctype, IsMismatch, IsOtherDoctype, opens_element, IsTooDeep, HasFault, IsFirstFault}
 use Rattle.pv_read.specs.Meaning.{Outcome, is_document, faulty, too_long, DocumentRestMeans, ends, item, fault, DocumentMeansWithin, long, items}
 use Rattle.pv_chars.specs.ByteOrderMark.{TakesByteOrderMark}
-use Rattle.pv_read.specs.Places.{place_of, may_stand}
+use Rattle.pv_read.specs.Places.{place_reached, may_stand}
 use Rattle.pv_read.specs.PlainItems.{BeginsNoItem}
 use Rattle.pv_read.specs.Steps.{MeansSomething}
 use Rattle.pv_read.proofs.AtPlaces.{stands_at, none_at}
@@ -117,9 +117,9 @@ module _ (most : Option ℕ) (root rest : List ℕ) (k : ℕ) where
       by_references (inl known) = by_name known (mismatch_decided left i)
       by_references (inr other) = faulty_here left entity (other_reference one_item most blank_mark root left rest none i more begins next stands other)
 
-    by_place : (b : Bool) → may_stand (place_of left) i ≡ b → (o : Outcome Mark) × DocumentRestMeans most blank_mark root k left rest o
-    by_place true e = let there = stands_at most blank_mark root rest left (place_of left) refl i e in by_references there.next there.is (known_is_decided i begins.has_form)
-    by_place false e = faulty_here left syntax (may_not_stand one_item most blank_mark root left rest none i more begins (none_at most blank_mark root rest left (place_of left) refl i e))
+    by_place : (b : Bool) → may_stand (place_reached left) i ≡ b → (o : Outcome Mark) × DocumentRestMeans most blank_mark root k left rest o
+    by_place true e = let there = stands_at most blank_mark root rest left (place_reached left) refl i e in by_references there.next there.is (known_is_decided i begins.has_form)
+    by_place false e = faulty_here left syntax (may_not_stand one_item most blank_mark root left rest none i more begins (none_at most blank_mark root rest left (place_reached left) refl i e))
 
   by_subset : (left : Left Mark) → Decided (HasFault most blank_mark root left rest subset)
       → ((HasFault most blank_mark root left rest subset → ⊥) → (o : Outcome Mark) × DocumentRestMeans most blank_mark root k left rest o) → (o : Outcome Mark) × DocumentRestMeans most blank_mark root k left rest o
@@ -132,7 +132,7 @@ none_means root rest is no_item most k left = by_subset most root rest k left (s
 
 pub one_means : (root rest : List ℕ) → Decided (BeginsSubset rest) → (i : Item) (more : List ℕ) → BeginsItem i rest more → MeansSomething root more → MeansSomething root rest
 one_means root rest is i more begins behind most k left =
-    by_subset most root rest k left (subset_decided most root rest left is) (λ none. by_place most root rest k left none i more begins behind (may_stand (place_of left) i) refl)
+    by_subset most root rest k left (subset_decided most root rest left is) (λ none. by_place most root rest k left none i more begins behind (may_stand (place_reached left) i) refl)
 
 -- what a test of bytes tells
 pub tested : (b : Bool) {P : Type 0} → (IsTrue b ↔ P) → Decided P

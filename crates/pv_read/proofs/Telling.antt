@@ -14,7 +14,7 @@ use Rattle.pv_read.specs.Errors.{Refuses}
 use Rattle.pv_read.specs.ItemLaws.{ItemsAreDetermined}
 use Rattle.pv_read.specs.Kinds.{Kind, subset, syntax, entity, mismatch, doctype_name, deep}
 use Rattle.pv_read.specs.PlainForms.{Answers, refusal}
-use Rattle.pv_read.specs.Steps.{Leads}
+use Rattle.pv_read.specs.Steps.{LeadsBehind}
 use Rattle.pv_read.specs.Prologs.{behind_tag, OpensRoot}
 use Rattle.pv_read.specs.Epilogs.{document, EndsDocument}
 use Rattle.pv_read.specs.declared.errors.DocError.{DocError}
@@ -37,7 +37,7 @@ module _ (limits : TextLimits) (root bytes mark text : List ℕ) (few : length b
     refused_root e refuses = Refuses-weaker (DocumentRestMeans limits.depth blank_mark root (suc tag.count) (behind_tag (mark ++ opens.before) tag.is_short tag.tag.name.now tag.tag.attrs.now) tag.rest.now) (DocumentMeansWithin limits blank_mark root bytes) (λ o means. items few front (opens.leads mark o means)) e (refuses (mark ++ opens.before))
 
     module _ (count : ℕ) (t : Tree Mark) (after : List ℕ)
-        (leads : (before : List ℕ) → Leads limits.depth blank_mark root (suc tag.count) (behind_tag before tag.is_short tag.tag.name.now tag.tag.attrs.now) tag.rest.now count (in_epilog before t []) after) where
+        (leads : (before : List ℕ) → LeadsBehind limits.depth blank_mark root (suc tag.count) (behind_tag before tag.is_short tag.tag.name.now tag.tag.attrs.now) tag.rest.now count (in_epilog before t []) after) where
       pub refused_end : (e : DocError) → ((before : List ℕ) (u : Tree Mark) → Refuses (DocumentRestMeans limits.depth blank_mark root count (in_epilog before u []) after) e) → Refuses (DocumentMeansWithin limits blank_mark root bytes) e
       refused_end e refuses = Refuses-weaker (DocumentRestMeans limits.depth blank_mark root count (in_epilog (mark ++ opens.before) t []) after) (DocumentMeansWithin limits blank_mark root bytes) (λ o means. items few front (opens.leads mark o (leads (mark ++ opens.before) o means))) e (refuses (mark ++ opens.before) t)
 

@@ -5,7 +5,7 @@ use Rattle.pv_tree.specs.Marks.{blank_mark}
 use Rattle.pv_tree.specs.declared.nodes.Mark.{Mark}
 use Rattle.pv_read.specs.Left.{in_epilog}
 use Rattle.pv_read.specs.Meaning.{is_document, DocumentRestMeans}
-use Rattle.pv_read.specs.Steps.{Leads}
+use Rattle.pv_read.specs.Steps.{LeadsBehind}
 
 -- Items behind the root, which so many items end, up to this rest.
 pub record ReadsEpilog (most : Option ℕ) (root end : List ℕ) (first : ℕ) (rest : List ℕ)
@@ -14,7 +14,7 @@ pub record ReadsEpilog (most : Option ℕ) (root end : List ℕ) (first : ℕ) (
   pub whole : end ≡ after ++ rest
   pub few : count + length rest ≤ first + length end
   pub leads : (before : List ℕ) (t : Tree Mark) →
-      Leads most blank_mark root first (in_epilog before t []) end
+      LeadsBehind most blank_mark root first (in_epilog before t []) end
       count (in_epilog before t after) rest
 
 abbrev pub document : List ℕ → Tree Mark → List ℕ → PlainDoc Mark

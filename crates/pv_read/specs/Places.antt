@@ -14,10 +14,10 @@ pub data PlainPlace : Type 0 where
   epilog : PlainPlace
 
 -- the place that the items so far lead to
-abbrev pub place_of : {M : Type 0} → Left M → PlainPlace
-place_of (in_prolog stage before) = prolog stage
-place_of (in_content before inner outer) = content inner.name (suc (length outer))
-place_of (in_epilog before root after) = epilog
+abbrev pub place_reached : {M : Type 0} → Left M → PlainPlace
+place_reached (in_prolog stage before) = prolog stage
+place_reached (in_content before inner outer) = content inner.name (suc (length outer))
+place_reached (in_epilog before root after) = epilog
 
 -- a document type declaration may stand here
 abbrev pub takes_doctype_at : PlainPlace → Bool

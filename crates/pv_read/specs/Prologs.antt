@@ -5,7 +5,7 @@ use Rattle.pv_tree.specs.Marks.{blank_mark}
 use Rattle.pv_tree.specs.declared.nodes.Mark.{Mark}
 use Rattle.pv_read.specs.Left.{Left, PlainStage, at_front, in_prolog, in_content, in_epilog}
 use Rattle.pv_read.specs.Left.{just_opened, empty_element}
-use Rattle.pv_read.specs.Steps.{Leads}
+use Rattle.pv_read.specs.Steps.{LeadsBehind}
 use Rattle.pv_read.specs.declared.prolog.RootTag.{RootTag}
 
 -- Items in the prolog, from its front to this rest at this stage.
@@ -15,7 +15,7 @@ pub record ReadsProlog (most : Option ℕ) (root text : List ℕ) (stage : Plain
   pub whole : text ≡ before ++ rest
   pub few : count + length rest ≤ length text
   pub leads : (mark : List ℕ) →
-      Leads most blank_mark root 0 (in_prolog at_front mark) text
+      LeadsBehind most blank_mark root 0 (in_prolog at_front mark) text
       count (in_prolog stage (mark ++ before)) rest
 
 -- what is left behind the tag that opens the root
@@ -29,5 +29,5 @@ pub record OpensRoot (most : Option ℕ) (root text : List ℕ) (tag : RootTag) 
   pub whole : text ≡ before ++ tag.from_tag.now
   pub few : suc tag.count + length tag.rest.now ≤ length text
   pub leads : (mark : List ℕ) →
-      Leads most blank_mark root 0 (in_prolog at_front mark) text (suc tag.count)
+      LeadsBehind most blank_mark root 0 (in_prolog at_front mark) text (suc tag.count)
       (behind_tag (mark ++ before) tag.is_short tag.tag.name.now tag.tag.attrs.now) tag.rest.now

@@ -16,9 +16,9 @@ pub record TakesItem {M : Type 0} (most : Option ℕ) (m : M) (root : List ℕ) 
   pub no_fault : (kind : Kind) → HasFault most m root left rest kind → ⊥
 
 -- the rest means whatever is meant behind further items
-abbrev pub Leads : {M : Type 0} → Option ℕ → M → List ℕ → ℕ → Left M → List ℕ → ℕ → Left M →
+abbrev pub LeadsBehind : {M : Type 0} → Option ℕ → M → List ℕ → ℕ → Left M → List ℕ → ℕ → Left M →
     List ℕ → Type 0
-Leads {M} most m root k left rest j next more =
+LeadsBehind {M} most m root k left rest j next more =
     (o : Outcome M) → DocumentRestMeans most m root j next more o →
     DocumentRestMeans most m root k left rest o
 

@@ -6,7 +6,7 @@ ghost use Rattle.pv_tree.specs.Marks.{blank_mark};
 ghost use Rattle.pv_read.specs.Left.{in_content, in_epilog, just_opened};
 ghost use Rattle.pv_read.specs.Meaning.{DocumentRestMeans};
 ghost use Rattle.pv_read.specs.Errors.{Refuses};
-ghost use Rattle.pv_read.specs.Steps.{Leads};
+ghost use Rattle.pv_read.specs.Steps.{LeadsBehind};
 ghost use Rattle.pv_read.specs.OpenElements.{left_in};
 ghost use Rattle.pv_read.specs.Contents.{IsStep};
 
@@ -55,7 +55,7 @@ pub fn read_content<'a>(
 ) -> Result<(Node, &'a [u8], u64), DocError>
     requires { first + length bytes.now < 2 ^ 64 }
     ensures read { IfOk result (λ r. (before : List ℕ) →
-        Leads most_depth blank_mark root.now first
+        LeadsBehind most_depth blank_mark root.now first
         (in_content before (just_opened tag.now.name.now tag.now.attrs.now) []) bytes.now
         r.2 (in_epilog before (plain r.0) []) r.1.now) }
     ensures refused { IfErr result (λ e. (before : List ℕ) →

@@ -10,7 +10,7 @@ ghost use Rattle.pv_read.specs.Meaning.{DocumentRestMeans};
 ghost use Rattle.pv_read.specs.Errors.{Refuses};
 ghost use Rattle.pv_read.specs.PlainItems.{plain_item};
 ghost use Rattle.pv_read.specs.PlainPlaces.{plain_place};
-ghost use Rattle.pv_read.specs.Places.{AsksForItem, place_of, takes_doctype_at, open_at};
+ghost use Rattle.pv_read.specs.Places.{AsksForItem, place_reached, takes_doctype_at, open_at};
 ghost use Rattle.pv_read.specs.Steps.{TakesItem};
 
 use crate::errors::DocError;
@@ -54,10 +54,11 @@ pub fn next_item<'a>(
     count: u64,
 ) -> Result<(Item<'a>, &'a [u8]), DocError>
     requires { AsksForItem (plain_place place.now) rest.now }
-    ensures taken { IfOk result (λ r. (left : Left Mark) → place_of left ≡ plain_place place.now →
+    ensures taken { IfOk result (λ r. (left : Left Mark) →
+        place_reached left ≡ plain_place place.now →
         TakesItem most_depth blank_mark root.now left rest.now (plain_item r.0) r.1.now) }
     ensures refused { IfErr result (λ e. (left : Left Mark) →
-        place_of left ≡ plain_place place.now →
+        place_reached left ≡ plain_place place.now →
         Refuses (DocumentRestMeans most_depth blank_mark root.now count left rest.now) e) }
     ensures no_want { IfErr result (λ e. e ≢ DocError.NoMemory) }
     ensures within { IfOk result (λ r. length r.1.now < length rest.now) }

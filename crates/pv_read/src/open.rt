@@ -8,7 +8,7 @@ ghost use Rattle.pv_read.specs.Left.{left_by, just_opened, with_kid, empty_eleme
 ghost use Rattle.pv_read.specs.Left.{closed_element, joined_to};
 ghost use Rattle.pv_read.specs.PlainItems.{plain_item};
 ghost use Rattle.pv_read.specs.PlainPlaces.{plain_place};
-ghost use Rattle.pv_read.specs.Places.{place_of};
+ghost use Rattle.pv_read.specs.Places.{place_reached};
 ghost use Rattle.pv_read.specs.OpenElements.{plain_open, opens_of, left_in, left_after, is_markup};
 
 use crate::forms::{Item, Tag};
@@ -128,7 +128,7 @@ impl<'a> OpenElements<'a> {
 
     /// Where the next item stands.
     pub fn place(&self) -> Place<'a>
-        ensures { (before : List ℕ) → place_of (left_in before self.now) ≡ plain_place result }
+        ensures { (before : List ℕ) → place_reached (left_in before self.now) ≡ plain_place result }
     {
         Place::Content(self.inner.name, self.outer.len() + 1)
     }

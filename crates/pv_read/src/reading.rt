@@ -14,7 +14,7 @@ ghost use Rattle.pv_read.specs.Meaning.{MAX_DOC_BYTES as MOST_BYTES, Outcome, is
 ghost use Rattle.pv_read.specs.Meaning.{DocumentRestMeans, DocumentMeans};
 ghost use Rattle.pv_read.specs.Errors.{Refuses};
 ghost use Rattle.pv_read.specs.PlainForms.{Answers};
-ghost use Rattle.pv_read.specs.Steps.{Leads};
+ghost use Rattle.pv_read.specs.Steps.{LeadsBehind};
 ghost use Rattle.pv_read.specs.Prologs.{behind_tag};
 ghost use Rattle.pv_read.specs.Epilogs.{document};
 
@@ -43,7 +43,7 @@ fn root_at<'a>(
 ) -> Result<(Node, &'a [u8], u64), DocError>
     requires { suc opening.now.count + length opening.now.rest.now < 2 ^ 64 }
     ensures read { IfOk result (λ r. (before : List ℕ) →
-        Leads most_depth blank_mark root.now (suc opening.now.count)
+        LeadsBehind most_depth blank_mark root.now (suc opening.now.count)
         (behind_tag before opening.now.is_short opening.now.tag.name.now opening.now.tag.attrs.now)
         opening.now.rest.now
         r.2 (in_epilog before (plain r.0) []) r.1.now) }
@@ -63,14 +63,14 @@ fn root_at<'a>(
 
 // A document by its parts: the root, and what stands before and after it.
 #[derive(Drop)]
-struct Parts<'a> {
+struct DocumentParts<'a> {
     before: &'a [u8],
     root: Node,
     after: &'a [u8],
 }
 
 // The parts of the document that the bytes are.
-fn parts_of<'a>(alloc: Global, bytes: &'a [u8], root: &[u8]) -> Result<Parts<'a>, DocError>
+fn parts_of<'a>(alloc: Global, bytes: &'a [u8], root: &[u8]) -> Result<DocumentParts<'a>, DocError>
     requires { length bytes.now ≤ MOST_BYTES }
     ensures read { IfOk result (λ p. DocumentMeans blank_mark root.now bytes.now
         (is_document (document p.before.now (plain p.root) p.after.now))) }
@@ -80,7 +80,7 @@ fn parts_of<'a>(alloc: Global, bytes: &'a [u8], root: &[u8]) -> Result<Parts<'a>
     let opening = root_tag(most_depth, root, after_byte_order_mark(bytes))?;
     let (element, after, count) = root_at(alloc, most_depth, root, &opening)?;
     read_epilog(most_depth, root, after, count)?;
-    Ok(Parts {
+    Ok(DocumentParts {
         before: bytes.split_at(bytes.len() - opening.from_tag.len()).0,
         root: element,
         after,

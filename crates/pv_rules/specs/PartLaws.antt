@@ -4,7 +4,7 @@ use Rattle.std.specs.Prelude.{◌+◌, ◌≡◌, ◌≤◌}
 use Rattle.pv_model.specs.Plain.{PlainModel, PlainPart, PlainParts, children, choice, mixed, name}
 use Rattle.pv_model.specs.Plain.{no_parts, opt, part, plus, seq, star}
 use Rattle.std.specs.List.{list_all}
-use Rattle.pv_dtd.specs.Facts.{is_formed, is_formed_model}
+use Rattle.pv_dtd.specs.Facts.{is_formed_part, is_formed_model}
 use Rattle.pv_dtd.specs.Plain.{PlainDtd, model_of, parts_in, parts_in_model, parts_in_models}
 use Rattle.pv_rules.specs.Flat.{are_some, flat_contents, flat_parts, one_content, one_part}
 use Rattle.pv_rules.specs.Flat.{membership_of}
@@ -45,7 +45,7 @@ pub record PartsByNumber (g : PlainDtd) : Type 0 where
 -- choice two
 abbrev pub PartsAreFormed : PlainDtd → Type 0
 PartsAreFormed g = IsTrue (list_all is_formed_model g.models) → (q : ℕ) (p : PlainPart) →
-    part_at g q ≡ Some p → IsTrue (is_formed p)
+    part_at g q ≡ Some p → IsTrue (is_formed_part p)
 
 -- of a part whose sequence has these members from it on
 abbrev pub membership_at : Option PlainParts → Membership

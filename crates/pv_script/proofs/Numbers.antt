@@ -8,7 +8,7 @@ use Rattle.std.specs.Prelude.{nat_le}
 use Rattle.std.specs.Str.{bytes_eq}
 use Rattle.std.specs.Str.Parse.{AllDigits, digits_value}
 use Rattle.pv_script.specs.Edits.{MAX_NUMBER}
-use Rattle.pv_script.specs.Reading.{number_of}
+use Rattle.pv_script.specs.Reading.{number_spelled}
 use Rattle.pv_script.proofs.Words.{Free}
 
 digits-free : (d : ℕ) (ds : List ℕ) → d < 48 → AllDigits 10 ds → Free d ds
@@ -20,8 +20,8 @@ digits-free d (c ∷ cs) low all =
 pub decimal-free : (d n : ℕ) → d < 48 → n ≤ MAX_NUMBER → Free d (decimal n)
 decimal-free d n low within = digits-free d (decimal n) low (decimal_is_IsNumeral n (omega arith)).0.1
 
-pub number_of-decimal : (n : ℕ) → n ≤ MAX_NUMBER → number_of (decimal n) ≡ Some n
-number_of-decimal n within =
+pub number_spelled-decimal : (n : ℕ) → n ≤ MAX_NUMBER → number_spelled (decimal n) ≡ Some n
+number_spelled-decimal n within =
     let value : digits_value 10 (decimal n) ≡ n = (decimal_is_IsNumeral n (omega arith)).1 in
     let same : bytes_eq (decimal n) (decimal n) ≡ true = (bytes_eq-Decides (decimal n) (decimal n)).1 refl in
     let small : nat_le n MAX_NUMBER ≡ true = grind (arith, nat_tests) in
@@ -33,7 +33,7 @@ pub record IsNumberWord (word : List ℕ) (n : ℕ) : Type 0 where
   pub within : n ≤ MAX_NUMBER
 
 number-by : (word : List ℕ) (n m : ℕ) (same small : Bool) → bytes_eq (decimal m) word ≡ same → nat_le m MAX_NUMBER ≡ small → m ≡ digits_value 10 word →
-    number_of word ≡ Some n → IsNumberWord word n
+    number_spelled word ≡ Some n → IsNumberWord word n
 number-by word n m true true is fits value found =
     let these = rw (sym value, is, fits) at found in
     let number : m ≡ n = cc in
@@ -41,7 +41,7 @@ number-by word n m true true is fits value found =
 number-by word n m true false is fits value found = let these = rw (sym value, is, fits) at found in cc
 number-by word n m false small is fits value found = let these = rw (sym value, is) at found in cc
 
-pub number-word : (word : List ℕ) (n : ℕ) → number_of word ≡ Some n → IsNumberWord word n
+pub number-word : (word : List ℕ) (n : ℕ) → number_spelled word ≡ Some n → IsNumberWord word n
 number-word word n found =
     number-by word n (digits_value 10 word) (bytes_eq (decimal (digits_value 10 word)) word) (nat_le (digits_value 10 word) MAX_NUMBER) refl refl refl found
 
@@ -49,9 +49,9 @@ pub decimal-some : (n : ℕ) → n ≤ MAX_NUMBER → decimal n ≡ [] → ⊥
 decimal-some n within none = let long = (decimal_is_IsNumeral n (omega arith)).0.0 in let short = ap length none in omega arith
 
 -- a word that isn't the digits of a number is none
-pub no-number : (word : List ℕ) → ((n : ℕ) → n ≤ MAX_NUMBER → word ≡ decimal n → ⊥) → number_of word ≡ None
+pub no-number : (word : List ℕ) → ((n : ℕ) → n ≤ MAX_NUMBER → word ≡ decimal n → ⊥) → number_spelled word ≡ None
 no-number word none =
-    elim (number_of word) as (λ o. number_of word ≡ o → number_of word ≡ None) [
+    elim (number_spelled word) as (λ o. number_spelled word ≡ o → number_spelled word ≡ None) [
       | None ↦ λ is. is
       | Some n ↦ λ is. let read = number-word word n is in absurd (none n read.within read.digits)
     ] refl

@@ -13,12 +13,12 @@ use Rattle.pv_script.specs.Commands.{command_text, command_numbers, SpellsComman
 use Rattle.pv_script.specs.Edits.{AreNumbers, edit_text, numbers_in}
 use Rattle.pv_script.specs.Laws.{OneCommand, CommandOrNone}
 use Rattle.pv_script.specs.Paths.{path_text}
-use Rattle.pv_script.specs.Reading.{first_word, number_of, path_of, on_number, wrap_of, insert_of, rename_of, split_of, set_text_of, add_text_of, edit_of, wrap_asked_of, ask_by, ask_of, command_in, command_of}
+use Rattle.pv_script.specs.Reading.{first_word, number_spelled, path_spelled, on_number, wrap_of, insert_of, rename_of, split_of, set_text_of, add_text_of, edit_of, wrap_asked_of, ask_by, ask_of, command_in, command_of}
 use Rattle.pv_script.specs.declared.commands.Command.{Command}
 use Rattle.pv_script.specs.declared.commands.Command.TheVariants as commands
 use Rattle.pv_script.proofs.ArgumentWords.{on_path-written, on_number-written, on-path, on-number}
-use Rattle.pv_script.proofs.Numbers.{number_of-decimal, number-word}
-use Rattle.pv_script.proofs.PathWords.{path-free, path_of-path_text, path-word}
+use Rattle.pv_script.proofs.Numbers.{number_spelled-decimal, number-word}
+use Rattle.pv_script.proofs.PathWords.{path-free, path_spelled-path_text, path-word}
 use Rattle.pv_script.proofs.Words.{first_word-free, first_word-none, first_word-whole}
 
 -- the edit that a line spells
@@ -36,7 +36,7 @@ abbrev rename_on : List ℕ → List ℕ → Option Edit
 rename_on path name = Some (Rename path name)
 
 abbrev split_on : List ℕ → List ℕ → Option Edit
-split_on path rest = option_map (Split path) (number_of rest)
+split_on path rest = option_map (Split path) (number_spelled rest)
 
 abbrev set_text_on : List ℕ → List ℕ → Option Edit
 set_text_on path text = Some (SetText path text)
@@ -53,19 +53,19 @@ edit-read (Wrap path from to name) all =
 edit-read (Insert path at name) all =
     on_path-written insert_on path (decimal at ++ (32 ∷ name)) all.1
     ∙ on_number-written (λ (i : ℕ) (x : List ℕ). Some (Insert path i x)) at name all.0
-edit-read (Unwrap path) all = ap (option_map Unwrap) (path_of-path_text path all)
+edit-read (Unwrap path) all = ap (option_map Unwrap) (path_spelled-path_text path all)
 edit-read (Rename path name) all = on_path-written rename_on path name all
-edit-read (Split path at) all = on_path-written split_on path (decimal at) all.1 ∙ ap (option_map (Split path)) (number_of-decimal at all.0)
-edit-read (Join path) all = ap (option_map Join) (path_of-path_text path all)
+edit-read (Split path at) all = on_path-written split_on path (decimal at) all.1 ∙ ap (option_map (Split path)) (number_spelled-decimal at all.0)
+edit-read (Join path) all = ap (option_map Join) (path_spelled-path_text path all)
 edit-read (SetText path text) all = on_path-written set_text_on path text all
 edit-read (AddText path at text) all =
     on_path-written add_text_on path (decimal at ++ (32 ∷ text)) all.1
     ∙ on_number-written (λ (i : ℕ) (x : List ℕ). Some (AddText path i x)) at text all.0
-edit-read (DelText path) all = ap (option_map DelText) (path_of-path_text path all)
+edit-read (DelText path) all = ap (option_map DelText) (path_spelled-path_text path all)
 
 -- what follows the path of a new element that is asked of
 abbrev asked_on : List ℕ → List ℕ → Option Ask
-asked_on path = on_number (λ from rest. option_map (asks.Wrap path from) (number_of rest))
+asked_on path = on_number (λ from rest. option_map (asks.Wrap path from) (number_spelled rest))
 
 -- what stands behind `offer`
 abbrev asked_text : Ask → List ℕ
@@ -76,10 +76,10 @@ ask-read : (ask : Ask) → AreNumbers (numbers_asked ask) → ask_of (asked_text
 ask-read (asks.Wrap path from to) all =
     ap (ask_by (asked_text (asks.Wrap path from to))) (first_word-free (path_text path) (decimal from ++ (32 ∷ decimal to)) (path-free 32 path (omega arith) all.1.1))
     ∙ on_path-written asked_on path (decimal from ++ (32 ∷ decimal to)) all.1.1
-    ∙ on_number-written (λ (i : ℕ) (rest : List ℕ). option_map (asks.Wrap path i) (number_of rest)) from (decimal to) all.0
-    ∙ ap (option_map (asks.Wrap path from)) (number_of-decimal to all.1.0)
+    ∙ on_number-written (λ (i : ℕ) (rest : List ℕ). option_map (asks.Wrap path i) (number_spelled rest)) from (decimal to) all.0
+    ∙ ap (option_map (asks.Wrap path from)) (number_spelled-decimal to all.1.0)
 ask-read (asks.Rename path) all =
-    ap (ask_by (path_text path)) (first_word-none (path_text path) (path-free 32 path (omega arith) all)) ∙ ap (option_map asks.Rename) (path_of-path_text path all)
+    ap (ask_by (path_text path)) (first_word-none (path_text path) (path-free 32 path (omega arith) all)) ∙ ap (option_map asks.Rename) (path_spelled-path_text path all)
 
 pub command-read : (command : Command) → AreNumbers (command_numbers command) → command_of (command_text command) ≡ Some command
 command-read (commands.Edit (Wrap path from to name)) all = ap (option_map commands.Edit) (edit-read (Wrap path from to name) all)
@@ -155,7 +155,7 @@ set-text-spelled bytes edit found =
     let is : SetText p.path p.rest ≡ edit = cc in
     rw (← is) record { text = ap (λ b. codes "text" ++ (32 ∷ b)) p.whole; within = p.within }
 
-split-by : (bytes path rest : List ℕ) (edit : Edit) (o : Option ℕ) → number_of rest ≡ o → option_map (Split path) o ≡ Some edit → bytes ≡ path_text path ++ (32 ∷ rest) → AreNumbers path →
+split-by : (bytes path rest : List ℕ) (edit : Edit) (o : Option ℕ) → number_spelled rest ≡ o → option_map (Split path) o ≡ Some edit → bytes ≡ path_text path ++ (32 ∷ rest) → AreNumbers path →
     IsSpelled (codes "split") bytes edit
 split-by bytes path rest edit None is makes whole within = cc
 split-by bytes path rest edit (Some n) is makes whole within =
@@ -166,23 +166,23 @@ split-by bytes path rest edit (Some n) is makes whole within =
 split-spelled : (bytes : List ℕ) (edit : Edit) → split_of bytes ≡ Some edit → IsSpelled (codes "split") bytes edit
 split-spelled bytes edit found =
     let p = on-path split_on bytes edit found in
-    split-by bytes p.path p.rest edit (number_of p.rest) refl p.makes p.whole p.within
+    split-by bytes p.path p.rest edit (number_spelled p.rest) refl p.makes p.whole p.within
 
-unwrap-by : (bytes : List ℕ) (edit : Edit) (o : Option (List ℕ)) → path_of bytes ≡ o → option_map Unwrap o ≡ Some edit → IsSpelled (codes "unwrap") bytes edit
+unwrap-by : (bytes : List ℕ) (edit : Edit) (o : Option (List ℕ)) → path_spelled bytes ≡ o → option_map Unwrap o ≡ Some edit → IsSpelled (codes "unwrap") bytes edit
 unwrap-by bytes edit None is makes = cc
 unwrap-by bytes edit (Some path) is makes =
     let read = path-word bytes path is in
     let this : Unwrap path ≡ edit = cc in
     rw (← this) record { text = ap (λ b. codes "unwrap" ++ (32 ∷ b)) read.text; within = read.within }
 
-join-by : (bytes : List ℕ) (edit : Edit) (o : Option (List ℕ)) → path_of bytes ≡ o → option_map Join o ≡ Some edit → IsSpelled (codes "join") bytes edit
+join-by : (bytes : List ℕ) (edit : Edit) (o : Option (List ℕ)) → path_spelled bytes ≡ o → option_map Join o ≡ Some edit → IsSpelled (codes "join") bytes edit
 join-by bytes edit None is makes = cc
 join-by bytes edit (Some path) is makes =
     let read = path-word bytes path is in
     let this : Join path ≡ edit = cc in
     rw (← this) record { text = ap (λ b. codes "join" ++ (32 ∷ b)) read.text; within = read.within }
 
-del-text-by : (bytes : List ℕ) (edit : Edit) (o : Option (List ℕ)) → path_of bytes ≡ o → option_map DelText o ≡ Some edit → IsSpelled (codes "deltext") bytes edit
+del-text-by : (bytes : List ℕ) (edit : Edit) (o : Option (List ℕ)) → path_spelled bytes ≡ o → option_map DelText o ≡ Some edit → IsSpelled (codes "deltext") bytes edit
 del-text-by bytes edit None is makes = cc
 del-text-by bytes edit (Some path) is makes =
     let read = path-word bytes path is in
@@ -199,13 +199,13 @@ edit-spelled : (word bytes : List ℕ) (edit : Edit) → edit_of word bytes ≡ 
 edit-spelled word bytes edit =
     on-word word (codes "wrap") bytes edit _ _ (bytes_eq word (codes "wrap")) refl (wrap-spelled bytes edit)
     (on-word word (codes "insert") bytes edit _ _ (bytes_eq word (codes "insert")) refl (insert-spelled bytes edit)
-    (on-word word (codes "unwrap") bytes edit _ _ (bytes_eq word (codes "unwrap")) refl (unwrap-by bytes edit (path_of bytes) refl)
+    (on-word word (codes "unwrap") bytes edit _ _ (bytes_eq word (codes "unwrap")) refl (unwrap-by bytes edit (path_spelled bytes) refl)
     (on-word word (codes "rename") bytes edit _ _ (bytes_eq word (codes "rename")) refl (rename-spelled bytes edit)
     (on-word word (codes "split") bytes edit _ _ (bytes_eq word (codes "split")) refl (split-spelled bytes edit)
-    (on-word word (codes "join") bytes edit _ _ (bytes_eq word (codes "join")) refl (join-by bytes edit (path_of bytes) refl)
+    (on-word word (codes "join") bytes edit _ _ (bytes_eq word (codes "join")) refl (join-by bytes edit (path_spelled bytes) refl)
     (on-word word (codes "text") bytes edit _ _ (bytes_eq word (codes "text")) refl (set-text-spelled bytes edit)
     (on-word word (codes "addtext") bytes edit _ _ (bytes_eq word (codes "addtext")) refl (add-text-spelled bytes edit)
-    (on-word word (codes "deltext") bytes edit _ _ (bytes_eq word (codes "deltext")) refl (del-text-by bytes edit (path_of bytes) refl)
+    (on-word word (codes "deltext") bytes edit _ _ (bytes_eq word (codes "deltext")) refl (del-text-by bytes edit (path_spelled bytes) refl)
     (λ never. cc)))))))))
 
 -- these arguments of `offer` spell what is asked
@@ -213,7 +213,7 @@ record IsAskSpelled (bytes : List ℕ) (ask : Ask) : Type 0 where
   text : codes "offer" ++ (32 ∷ bytes) ≡ ask_text ask
   within : AreNumbers (numbers_asked ask)
 
-wrap-asked-by : (bytes path rest places : List ℕ) (from : ℕ) (ask : Ask) (o : Option ℕ) → number_of places ≡ o → option_map (asks.Wrap path from) o ≡ Some ask → bytes ≡ path_text path ++ (32 ∷ rest) →
+wrap-asked-by : (bytes path rest places : List ℕ) (from : ℕ) (ask : Ask) (o : Option ℕ) → number_spelled places ≡ o → option_map (asks.Wrap path from) o ≡ Some ask → bytes ≡ path_text path ++ (32 ∷ rest) →
     rest ≡ decimal from ++ (32 ∷ places) → AreNumbers (from ∷ path) → IsAskSpelled bytes ask
 wrap-asked-by bytes path rest places from ask None is makes whole more within = cc
 wrap-asked-by bytes path rest places from ask (Some to) is makes whole more within =
@@ -227,10 +227,10 @@ wrap-asked-by bytes path rest places from ask (Some to) is makes whole more with
 wrap-asked : (bytes : List ℕ) (ask : Ask) → wrap_asked_of bytes ≡ Some ask → IsAskSpelled bytes ask
 wrap-asked bytes ask found =
     let p = on-path asked_on bytes ask found in
-    let q = on-number (λ (i : ℕ) (rest : List ℕ). option_map (asks.Wrap p.path i) (number_of rest)) p.rest ask p.makes in
-    wrap-asked-by bytes p.path p.rest q.rest q.number ask (number_of q.rest) refl q.makes p.whole q.whole (q.within, p.within)
+    let q = on-number (λ (i : ℕ) (rest : List ℕ). option_map (asks.Wrap p.path i) (number_spelled rest)) p.rest ask p.makes in
+    wrap-asked-by bytes p.path p.rest q.rest q.number ask (number_spelled q.rest) refl q.makes p.whole q.whole (q.within, p.within)
 
-rename-asked-by : (bytes : List ℕ) (ask : Ask) (o : Option (List ℕ)) → path_of bytes ≡ o → option_map asks.Rename o ≡ Some ask → IsAskSpelled bytes ask
+rename-asked-by : (bytes : List ℕ) (ask : Ask) (o : Option (List ℕ)) → path_spelled bytes ≡ o → option_map asks.Rename o ≡ Some ask → IsAskSpelled bytes ask
 rename-asked-by bytes ask None is makes = cc
 rename-asked-by bytes ask (Some path) is makes =
     let read = path-word bytes path is in
@@ -238,7 +238,7 @@ rename-asked-by bytes ask (Some path) is makes =
     rw (← this) record { text = ap (λ b. codes "offer" ++ (32 ∷ b)) read.text; within = read.within }
 
 ask-spelled : (bytes : List ℕ) (ask : Ask) (o : Option (List ℕ × List ℕ)) → ask_by bytes o ≡ Some ask → IsAskSpelled bytes ask
-ask-spelled bytes ask None found = rename-asked-by bytes ask (path_of bytes) refl found
+ask-spelled bytes ask None found = rename-asked-by bytes ask (path_spelled bytes) refl found
 ask-spelled bytes ask (Some cut) found = wrap-asked bytes ask found
 
 -- the command of a question, or of an edit, is spelled by its word and arguments

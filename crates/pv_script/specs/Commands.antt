@@ -44,7 +44,7 @@ IsNoCommand line = (command : Command) → SpellsCommand line command → ⊥
 
 -- What a reader made of what it was given: a value, that there is none, or no answer for want of
 -- memory.
-abbrev pub Reads : {A : Type 0} → Option A → Result A CommandError → Type 0
-Reads o (Ok x) = o ≡ Some x
-Reads o (Err Unknown) = o ≡ None
-Reads o (Err NoMemory) = Unit {0}
+abbrev pub ReadsAs : {A : Type 0} → Option A → Result A CommandError → Type 0
+ReadsAs o (Ok x) = o ≡ Some x
+ReadsAs o (Err Unknown) = o ≡ None
+ReadsAs o (Err NoMemory) = Unit {0}

@@ -1,7 +1,7 @@
 -- What holds of lines and commands.
 use Rattle.std.specs.Prelude.{◌≡◌, ℕ, List, ◌∷◌, ◌++◌, ◌⊎◌}
 use Rattle.pv_tree.specs.Plain.{PlainDoc}
-use Rattle.pv_edit.specs.Reasons.{applied, gives}
+use Rattle.pv_edit.specs.Reasons.{edit_outcome, gives}
 use Rattle.pv_edit.specs.declared.edits.Edit.{Edit}
 use Rattle.pv_script.specs.Commands.{SpellsCommand, IsNoCommand}
 use Rattle.pv_script.specs.Edits.{edit_text, numbers_in, AreNumbers}
@@ -25,7 +25,7 @@ CommandOrNone =
 -- follows it, and spells that edit.
 abbrev pub EditsAreReadAgain : Type 0 → Type 0
 EditsAreReadAgain M =
-    (blank : M) (doc made : PlainDoc M) (edit : Edit) → applied blank doc edit ≡ gives made →
+    (blank : M) (doc made : PlainDoc M) (edit : Edit) → edit_outcome blank doc edit ≡ gives made →
     AreNumbers (numbers_in edit) → (more : List ℕ) →
     (lines_of (with_feed (edit_text edit) ++ more) ≡ edit_text edit ∷ lines_of more)
     × SpellsCommand (edit_text edit) (command.Edit edit)

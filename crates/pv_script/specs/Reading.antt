@@ -24,8 +24,8 @@ first_word (b ∷ bs) =
     if b == 32 then Some ([], bs) else option_map (with_byte_in_front b) (first_word bs)
 
 -- the number that is written so
-abbrev pub number_of : List ℕ → Option ℕ
-number_of word =
+abbrev pub number_spelled : List ℕ → Option ℕ
+number_spelled word =
     if bytes_eq (decimal (digits_value 10 word)) word && nat_le (digits_value 10 word) MAX_NUMBER
     then Some (digits_value 10 word) else None
 
@@ -35,24 +35,26 @@ between_dots [] = [] ∷ []
 between_dots (b ∷ bs) =
     if b == 46 then [] ∷ between_dots bs else with_first_byte b (between_dots bs)
 
-abbrev pub numbers_of : List (List ℕ) → Option (List ℕ)
-numbers_of [] = Some []
-numbers_of (word ∷ others) =
-    option_and_then (λ n. option_map (λ ns. n ∷ ns) (numbers_of others)) (number_of word)
+abbrev pub numbers_spelled : List (List ℕ) → Option (List ℕ)
+numbers_spelled [] = Some []
+numbers_spelled (word ∷ others) =
+    option_and_then (λ n. option_map (λ ns. n ∷ ns) (numbers_spelled others)) (number_spelled word)
 
 -- the path that is written so
-abbrev pub path_of : List ℕ → Option (List ℕ)
-path_of word = if bytes_eq word (codes ".") then Some [] else numbers_of (between_dots word)
+abbrev pub path_spelled : List ℕ → Option (List ℕ)
+path_spelled word =
+    if bytes_eq word (codes ".") then Some [] else numbers_spelled (between_dots word)
 
 -- what is made of a first word that is a path, or a number, and of the words behind it
 abbrev pub on_path : {A : Type 0} → (List ℕ → List ℕ → Option A) → List ℕ → Option A
 on_path f bytes =
-    option_and_then (λ cut. option_and_then (λ path. f path cut.1) (path_of cut.0))
+    option_and_then (λ cut. option_and_then (λ path. f path cut.1) (path_spelled cut.0))
     (first_word bytes)
 
 abbrev pub on_number : {A : Type 0} → (ℕ → List ℕ → Option A) → List ℕ → Option A
 on_number f bytes =
-    option_and_then (λ cut. option_and_then (λ n. f n cut.1) (number_of cut.0)) (first_word bytes)
+    option_and_then (λ cut. option_and_then (λ n. f n cut.1) (number_spelled cut.0))
+    (first_word bytes)
 
 -- the edit of this word with these arguments
 abbrev pub wrap_of : List ℕ → Option Edit
@@ -63,16 +65,16 @@ abbrev pub insert_of : List ℕ → Option Edit
 insert_of bytes = on_path (λ path. on_number (λ at name. Some (Insert path at name))) bytes
 
 abbrev pub unwrap_of : List ℕ → Option Edit
-unwrap_of bytes = option_map Unwrap (path_of bytes)
+unwrap_of bytes = option_map Unwrap (path_spelled bytes)
 
 abbrev pub rename_of : List ℕ → Option Edit
 rename_of bytes = on_path (λ path name. Some (Rename path name)) bytes
 
 abbrev pub split_of : List ℕ → Option Edit
-split_of bytes = on_path (λ path rest. option_map (Split path) (number_of rest)) bytes
+split_of bytes = on_path (λ path rest. option_map (Split path) (number_spelled rest)) bytes
 
 abbrev pub join_of : List ℕ → Option Edit
-join_of bytes = option_map Join (path_of bytes)
+join_of bytes = option_map Join (path_spelled bytes)
 
 abbrev pub set_text_of : List ℕ → Option Edit
 set_text_of bytes = on_path (λ path text. Some (SetText path text)) bytes
@@ -81,7 +83,7 @@ abbrev pub add_text_of : List ℕ → Option Edit
 add_text_of bytes = on_path (λ path. on_number (λ at text. Some (AddText path at text))) bytes
 
 abbrev pub del_text_of : List ℕ → Option Edit
-del_text_of bytes = option_map DelText (path_of bytes)
+del_text_of bytes = option_map DelText (path_spelled bytes)
 
 abbrev pub edit_of : List ℕ → List ℕ → Option Edit
 edit_of word bytes =
@@ -99,11 +101,11 @@ edit_of word bytes =
 -- what is asked with these arguments of `offer`: of a new element where a blank stands among them
 abbrev pub wrap_asked_of : List ℕ → Option Ask
 wrap_asked_of bytes =
-    on_path (λ path. on_number (λ from rest. option_map (ask.Wrap path from) (number_of rest)))
+    on_path (λ path. on_number (λ from rest. option_map (ask.Wrap path from) (number_spelled rest)))
     bytes
 
 abbrev pub rename_asked_of : List ℕ → Option Ask
-rename_asked_of bytes = option_map ask.Rename (path_of bytes)
+rename_asked_of bytes = option_map ask.Rename (path_spelled bytes)
 
 abbrev pub ask_by : List ℕ → Option (List ℕ × List ℕ) → Option Ask
 ask_by bytes None = rename_asked_of bytes

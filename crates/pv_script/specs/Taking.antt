@@ -23,7 +23,7 @@ abbrev pub begun_line : HeldLine → List ℕ
 begun_line held = if held.whole then [] else held.bytes
 
 -- the piece has no LF, and the line goes on with all of it
-pub record TakesAll (old : HeldLine) (piece : List ℕ) (new : HeldLine) : Type 0 where
+pub record TakesWhole (old : HeldLine) (piece : List ℕ) (new : HeldLine) : Type 0 where
   pub no_feed : HasNoFeed piece
   pub within : length (begun_line old ++ piece) ≤ MAX_LINE_BYTES
   pub held : new ≡ record { bytes = begun_line old ++ piece; whole = false }
@@ -49,6 +49,6 @@ pub record IsTooLong (old : HeldLine) (piece : List ℕ) (new : HeldLine) : Type
 
 -- what taking a piece gives
 abbrev pub TakesPiece : HeldLine → List ℕ → HeldLine → Took → Type 0
-TakesPiece old piece new More = TakesAll old piece new
+TakesPiece old piece new More = TakesWhole old piece new
 TakesPiece old piece new (Line eaten) = TakesLine old piece eaten new
 TakesPiece old piece new TooLong = IsTooLong old piece new

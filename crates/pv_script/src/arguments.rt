@@ -2,7 +2,7 @@
 
 ghost use Rattle.std.specs.Prelude.{◌≡◌, Some, None, MatchResult};
 ghost use Rattle.std.specs.Str.{bytes_eq};
-ghost use Rattle.pv_script.specs.Commands.{Reads};
+ghost use Rattle.pv_script.specs.Commands.{ReadsAs};
 ghost use Rattle.pv_script.specs.Reading.{first_word, wrap_of, insert_of, unwrap_of, rename_of};
 ghost use Rattle.pv_script.specs.Reading.{split_of, join_of, set_text_of, add_text_of};
 ghost use Rattle.pv_script.specs.Reading.{del_text_of, edit_of};
@@ -31,7 +31,7 @@ pub(crate) fn is_word(word: &[u8], name: &[u8]) -> bool
 
 // The arguments of `wrap`.
 fn read_wrap(alloc: Global, bytes: &[u8]) -> Result<Edit, CommandError>
-    ensures { Reads (wrap_of bytes.now) result }
+    ensures { ReadsAs (wrap_of bytes.now) result }
 {
     let (word, rest) = first_word(bytes)?;
     let path = read_path(alloc, word)?;
@@ -50,7 +50,7 @@ fn read_wrap(alloc: Global, bytes: &[u8]) -> Result<Edit, CommandError>
 
 // The arguments of `insert`.
 fn read_insert(alloc: Global, bytes: &[u8]) -> Result<Edit, CommandError>
-    ensures { Reads (insert_of bytes.now) result }
+    ensures { ReadsAs (insert_of bytes.now) result }
 {
     let (word, rest) = first_word(bytes)?;
     let path = read_path(alloc, word)?;
@@ -62,7 +62,7 @@ fn read_insert(alloc: Global, bytes: &[u8]) -> Result<Edit, CommandError>
 
 // The argument of `unwrap`.
 fn read_unwrap(alloc: Global, bytes: &[u8]) -> Result<Edit, CommandError>
-    ensures { Reads (unwrap_of bytes.now) result }
+    ensures { ReadsAs (unwrap_of bytes.now) result }
 {
     let path = read_path(alloc, bytes)?;
     Ok(Edit::Unwrap { path })
@@ -70,7 +70,7 @@ fn read_unwrap(alloc: Global, bytes: &[u8]) -> Result<Edit, CommandError>
 
 // The arguments of `rename`.
 fn read_rename(alloc: Global, bytes: &[u8]) -> Result<Edit, CommandError>
-    ensures { Reads (rename_of bytes.now) result }
+    ensures { ReadsAs (rename_of bytes.now) result }
 {
     let (word, rest) = first_word(bytes)?;
     let path = read_path(alloc, word)?;
@@ -80,7 +80,7 @@ fn read_rename(alloc: Global, bytes: &[u8]) -> Result<Edit, CommandError>
 
 // The arguments of `split`.
 fn read_split(alloc: Global, bytes: &[u8]) -> Result<Edit, CommandError>
-    ensures { Reads (split_of bytes.now) result }
+    ensures { ReadsAs (split_of bytes.now) result }
 {
     let (word, rest) = first_word(bytes)?;
     let path = read_path(alloc, word)?;
@@ -90,7 +90,7 @@ fn read_split(alloc: Global, bytes: &[u8]) -> Result<Edit, CommandError>
 
 // The argument of `join`.
 fn read_join(alloc: Global, bytes: &[u8]) -> Result<Edit, CommandError>
-    ensures { Reads (join_of bytes.now) result }
+    ensures { ReadsAs (join_of bytes.now) result }
 {
     let path = read_path(alloc, bytes)?;
     Ok(Edit::Join { path })
@@ -98,7 +98,7 @@ fn read_join(alloc: Global, bytes: &[u8]) -> Result<Edit, CommandError>
 
 // The arguments of `text`.
 fn read_set_text(alloc: Global, bytes: &[u8]) -> Result<Edit, CommandError>
-    ensures { Reads (set_text_of bytes.now) result }
+    ensures { ReadsAs (set_text_of bytes.now) result }
 {
     let (word, rest) = first_word(bytes)?;
     let path = read_path(alloc, word)?;
@@ -108,7 +108,7 @@ fn read_set_text(alloc: Global, bytes: &[u8]) -> Result<Edit, CommandError>
 
 // The arguments of `addtext`.
 fn read_add_text(alloc: Global, bytes: &[u8]) -> Result<Edit, CommandError>
-    ensures { Reads (add_text_of bytes.now) result }
+    ensures { ReadsAs (add_text_of bytes.now) result }
 {
     let (word, rest) = first_word(bytes)?;
     let path = read_path(alloc, word)?;
@@ -120,7 +120,7 @@ fn read_add_text(alloc: Global, bytes: &[u8]) -> Result<Edit, CommandError>
 
 // The argument of `deltext`.
 fn read_del_text(alloc: Global, bytes: &[u8]) -> Result<Edit, CommandError>
-    ensures { Reads (del_text_of bytes.now) result }
+    ensures { ReadsAs (del_text_of bytes.now) result }
 {
     let path = read_path(alloc, bytes)?;
     Ok(Edit::DelText { path })
@@ -128,7 +128,7 @@ fn read_del_text(alloc: Global, bytes: &[u8]) -> Result<Edit, CommandError>
 
 /// The edit of this word with these arguments.
 pub(crate) fn read_edit(alloc: Global, word: &[u8], bytes: &[u8]) -> Result<Edit, CommandError>
-    ensures { Reads (edit_of word.now bytes.now) result }
+    ensures { ReadsAs (edit_of word.now bytes.now) result }
 {
     if is_word(word, b"wrap") {
         read_wrap(alloc, bytes)

@@ -1,6 +1,6 @@
 //! Questions of which names may be put somewhere, read from their words.
 
-ghost use Rattle.pv_script.specs.Commands.{Reads};
+ghost use Rattle.pv_script.specs.Commands.{ReadsAs};
 ghost use Rattle.pv_script.specs.Reading.{ask_of, rename_asked_of, wrap_asked_of};
 
 use crate::arguments::first_word;
@@ -11,7 +11,7 @@ use std::alloc::Global;
 
 // The arguments of `offer` where a new element is asked of.
 fn read_wrap(alloc: Global, bytes: &[u8]) -> Result<Ask, CommandError>
-    ensures { Reads (wrap_asked_of bytes.now) result }
+    ensures { ReadsAs (wrap_asked_of bytes.now) result }
 {
     let (word, rest) = first_word(bytes)?;
     let path = read_path(alloc, word)?;
@@ -23,7 +23,7 @@ fn read_wrap(alloc: Global, bytes: &[u8]) -> Result<Ask, CommandError>
 
 // The argument of `offer` where an element's own name is asked of.
 fn read_rename(alloc: Global, bytes: &[u8]) -> Result<Ask, CommandError>
-    ensures { Reads (rename_asked_of bytes.now) result }
+    ensures { ReadsAs (rename_asked_of bytes.now) result }
 {
     let path = read_path(alloc, bytes)?;
     Ok(Ask::Rename { path })
@@ -31,7 +31,7 @@ fn read_rename(alloc: Global, bytes: &[u8]) -> Result<Ask, CommandError>
 
 /// What is asked with these arguments of `offer`.
 pub(crate) fn read_ask(alloc: Global, bytes: &[u8]) -> Result<Ask, CommandError>
-    ensures { Reads (ask_of bytes.now) result }
+    ensures { ReadsAs (ask_of bytes.now) result }
 {
     match first_word(bytes) {
         Ok(_) => read_wrap(alloc, bytes),

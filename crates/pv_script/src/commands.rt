@@ -1,7 +1,7 @@
 //! The commands of a script.
 
 ghost use Rattle.std.specs.Prelude.{◌≡◌, Some, None, Err, IfOk};
-ghost use Rattle.pv_script.specs.Commands.{SpellsCommand, IsNoCommand, Reads};
+ghost use Rattle.pv_script.specs.Commands.{SpellsCommand, IsNoCommand, ReadsAs};
 ghost use Rattle.pv_script.specs.Reading.{command_of, command_with};
 
 use crate::arguments::{first_word, is_word, read_edit};
@@ -38,7 +38,7 @@ pub enum Command {
 
 // The command of this word with these arguments.
 fn command_with(alloc: Global, word: &[u8], bytes: &[u8]) -> Result<Command, CommandError>
-    ensures { Reads (command_with word.now bytes.now) result }
+    ensures { ReadsAs (command_with word.now bytes.now) result }
 {
     if is_word(word, b"offer") {
         Ok(Command::Offer(read_ask(alloc, bytes)?))
@@ -49,7 +49,7 @@ fn command_with(alloc: Global, word: &[u8], bytes: &[u8]) -> Result<Command, Com
 
 // The command that a line is, read from the left.
 fn command_of(alloc: Global, line: &[u8]) -> Result<Command, CommandError>
-    ensures { Reads (command_of line.now) result }
+    ensures { ReadsAs (command_of line.now) result }
 {
     if is_word(line, b"undo") {
         Ok(Command::Undo)

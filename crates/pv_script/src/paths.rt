@@ -1,9 +1,9 @@
 //! Numbers and paths as text.
 
 ghost use Rattle.std.specs.Prelude.{◌≡◌, ◌++◌, IfOk, OnOk, decimal};
-ghost use Rattle.pv_script.specs.Commands.{Reads};
+ghost use Rattle.pv_script.specs.Commands.{ReadsAs};
 ghost use Rattle.pv_script.specs.Paths.{path_text, places_text};
-ghost use Rattle.pv_script.specs.Reading.{number_of, path_of};
+ghost use Rattle.pv_script.specs.Reading.{number_spelled, path_spelled};
 
 use crate::errors::CommandError;
 use itoa::Buffer;
@@ -50,7 +50,7 @@ pub fn push_path(text: &mut Vec<u8>, places: &[u32]) -> Result<(), AllocError>
 
 /// The number that a word is: its decimal digits, at most 4294967295.
 pub fn written_number(word: &[u8]) -> Option<u32>
-    ensures { number_of word.now ≡ result }
+    ensures { number_spelled word.now ≡ result }
 {
     let Ok(digits) = str::from_utf8(word) else {
         return None;
@@ -66,7 +66,7 @@ pub fn written_number(word: &[u8]) -> Option<u32>
 
 /// The number that a word of a line is.
 pub(crate) fn read_number(word: &[u8]) -> Result<u32, CommandError>
-    ensures { Reads (number_of word.now) result }
+    ensures { ReadsAs (number_spelled word.now) result }
 {
     match written_number(word) {
         Some(number) => Ok(number),
@@ -76,7 +76,7 @@ pub(crate) fn read_number(word: &[u8]) -> Result<u32, CommandError>
 
 /// The path that a word is: `.`, or the numbers of its places with dots between.
 pub fn written_path(alloc: Global, word: &[u8]) -> Result<Option<Path>, NoMemory>
-    ensures { IfOk result (λ path. path_of word.now ≡ path) }
+    ensures { IfOk result (λ path. path_spelled word.now ≡ path) }
 {
     if word == b".".as_slice() {
         return Ok(Some(Path::new(alloc, &[])?));
@@ -99,7 +99,7 @@ pub fn written_path(alloc: Global, word: &[u8]) -> Result<Option<Path>, NoMemory
 
 /// The path that a word of a line is.
 pub(crate) fn read_path(alloc: Global, word: &[u8]) -> Result<Path, CommandError>
-    ensures { Reads (path_of word.now) result }
+    ensures { ReadsAs (path_spelled word.now) result }
 {
     match written_path(alloc, word)? {
         Some(path) => Ok(path),

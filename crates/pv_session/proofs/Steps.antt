@@ -3,7 +3,7 @@ use Rattle.std.proofs.Common.{List, None, Some, [], ap, length, refl, subst, sym
 use Rattle.std.proofs.lemmas.List.{same_from_push}
 use Rattle.pv_edit.specs.ChangedLists.{changed_lists, makes, undoes}
 use Rattle.pv_edit.specs.Inverses.{inverse_of, doc_back}
-use Rattle.pv_edit.specs.Reasons.{Outcome, applied, gives}
+use Rattle.pv_edit.specs.Reasons.{Outcome, edit_outcome, gives}
 use Rattle.pv_edit.specs.declared.answers.EditAnswer.{EditAnswer}
 use Rattle.pv_edit.specs.declared.answers.EditAnswer.TheVariants as refusal
 use Rattle.pv_edit.specs.declared.edits.Edit.{Edit}
@@ -96,7 +96,7 @@ undo_one one_open one_bad before s t a b (no_past e w f) (no_past e' w' f') = sa
 redo_one : HasOneOpen → HasOneBad → HasOneAnswer IsRedoStep
 redo_one one_open one_bad before s t a b (redone x rest d m o e r c f h u w) (redone y rest' d' n l e' r' c' f' k v w') =
     let same = same_last rest rest' before.undone x y e e' in
-    let given : applied 0 before.doc y ≡ gives d = subst (λ (y : Edit). applied 0 before.doc y ≡ gives d) same.1 r in
+    let given : edit_outcome 0 before.doc y ≡ gives d = subst (λ (y : Edit). edit_outcome 0 before.doc y ≡ gives d) same.1 r in
     let docs : d ≡ d' = same_given _ d d' given r' in
     let z : s ≡ t =
     f

@@ -2,7 +2,7 @@
 use Rattle.std.specs.Prelude.{◌≡◌, List, [], min, suc, ℕ, ◌∷◌}
 use Rattle.pv_cache.specs.Stamps.{StampedDoc, doc_as}
 use Rattle.pv_dtd.specs.Plain.{PlainDtd}
-use Rattle.pv_edit.specs.Reasons.{applied, gives}
+use Rattle.pv_edit.specs.Reasons.{edit_outcome, gives}
 use Rattle.pv_edit.specs.declared.edits.Edit.{Edit}
 use Rattle.pv_tree.specs.Plain.{PlainDoc}
 
@@ -28,7 +28,7 @@ stamped_document s = record { dtd = s.dtd; root = s.root; doc = s.doc }
 abbrev pub Replays : PlainDoc Unit → List Edit → PlainDoc Unit → Type 0
 Replays doc [] after = after ≡ doc
 Replays doc (edit ∷ edits) after =
-    (next : PlainDoc Unit) × (applied tt doc edit ≡ gives next) × Replays next edits after
+    (next : PlainDoc Unit) × (edit_outcome tt doc edit ≡ gives next) × Replays next edits after
 
 -- the number of the next move; the greatest number that can be told stays
 abbrev pub next_move : ℕ → ℕ

@@ -6,7 +6,7 @@ use Rattle.pv_cache.specs.Moves.{HasBad, HasGround, HasOpen}
 use Rattle.pv_cache.specs.Stamps.{stamp_lists}
 use Rattle.pv_edit.specs.ChangedLists.{changed_lists, makes, undoes}
 use Rattle.pv_edit.specs.Inverses.{inverse_of, doc_back}
-use Rattle.pv_edit.specs.Reasons.{applied, gives}
+use Rattle.pv_edit.specs.Reasons.{edit_outcome, gives}
 use Rattle.pv_edit.specs.declared.answers.EditAnswer.{EditAnswer}
 use Rattle.pv_edit.specs.declared.answers.EditAnswer.TheVariants as refusal
 use Rattle.pv_edit.specs.declared.edits.Edit.{Edit}
@@ -80,7 +80,7 @@ pub data IsUndoStep (before : PlainSession) (answer : PlainAnswer) (after : Plai
 pub data IsRedoStep (before : PlainSession) (answer : PlainAnswer) (after : PlainSession) :
     Type 0 where
   redone : (edit : Edit) (undone : List Edit) (edited : PlainDoc ℕ) (left bad : ℕ) →
-      before.undone ≡ undone ++ edit ∷ [] → applied 0 before.doc edit ≡ gives edited →
+      before.undone ≡ undone ++ edit ∷ [] → edit_outcome 0 before.doc edit ≡ gives edited →
       Replays before.opened (before.past ++ edit ∷ []) (unmarked_doc after.doc) →
       after ≡ record before {
         past = before.past ++ edit ∷ [];

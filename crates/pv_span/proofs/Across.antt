@@ -10,9 +10,9 @@ use Rattle.std.proofs.lemmas.Nat.{rows, same_from_place}
 use Rattle.pv_productive.specs.Tables.{no_size, size_at}
 use Rattle.pv_span.specs.Charts.{AreFew, span_number}
 use Rattle.pv_span.specs.ColumnRules.{cell}
-use Rattle.pv_span.specs.Done.{cells_across, row_of, rows_of}
+use Rattle.pv_span.specs.DoneSpans.{cells_across, row_of, rows_done}
 use Rattle.pv_span.specs.Lines.{done_value}
-use Rattle.pv_span.specs.declared.done.Done.{Done}
+use Rattle.pv_span.specs.declared.done.DoneSpans.{DoneSpans}
 use Rattle.pv_span.proofs.Putting.{each_cell}
 
 module _ (cells : List ℕ) (columns spans k : ℕ) where
@@ -77,26 +77,26 @@ rows_more f h n row same e =
     rw (m, s, e) refl
 
 -- the values over one span more
-pub rows_put : (d : Done) (cells row : List ℕ) → ((k : ℕ) → k < d.count → cells_across cells d.columns d.spans k ≡ row_of d k) → cells_across cells d.columns d.spans d.count ≡ row →
-    map (λ k. cells_across cells d.columns d.spans k) (range_with_len 0 (d.count + 1)) ≡ rows_of d ++ (row ∷ [])
+pub rows_put : (d : DoneSpans) (cells row : List ℕ) → ((k : ℕ) → k < d.count → cells_across cells d.columns d.spans k ≡ row_of d k) → cells_across cells d.columns d.spans d.count ≡ row →
+    map (λ k. cells_across cells d.columns d.spans k) (range_with_len 0 (d.count + 1)) ≡ rows_done d ++ (row ∷ [])
 rows_put d cells row same put = rows_more (row_of d) (λ k. cells_across cells d.columns d.spans k) d.count row same put
 
-module _ (d : Done) where
-  pub rows_count : length (rows_of d) ≡ d.count
+module _ (d : DoneSpans) where
+  pub rows_count : length (rows_done d) ≡ d.count
   rows_count = length-map-range_with_len (row_of d) 0 d.count
 
   -- the row of a span that is done, and of one that isn't
-  pub row_at_done : (k : ℕ) (other : List ℕ) → k < d.count → slice_index_or (rows_of d) k other ≡ row_of d k
+  pub row_at_done : (k : ℕ) (other : List ℕ) → k < d.count → slice_index_or (rows_done d) k other ≡ row_of d k
   row_at_done k other l = get_or-map-range_with_len (row_of d) 0 d.count k k other l (omega arith)
 
-  pub row_past_done : (k : ℕ) (other : List ℕ) → d.count ≤ k → slice_index_or (rows_of d) k other ≡ other
-  row_past_done k other l = get_or-eq_default (rows_of d) other (let n = rows_count in omega arith)
+  pub row_past_done : (k : ℕ) (other : List ℕ) → d.count ≤ k → slice_index_or (rows_done d) k other ≡ other
+  row_past_done k other l = get_or-eq_default (rows_done d) other (let n = rows_count in omega arith)
 
   module _ (n s i j : ℕ) where
-    pub done_at : span_number n i j < d.count → done_value n (rows_of d) (cell s i j) ≡ size_at (row_of d (span_number n i j)) s
+    pub done_at : span_number n i j < d.count → done_value n (rows_done d) (cell s i j) ≡ size_at (row_of d (span_number n i j)) s
     done_at l = ap (λ r. size_at r s) (row_at_done (span_number n i j) [] l)
 
-    pub done_past : d.count ≤ span_number n i j → done_value n (rows_of d) (cell s i j) ≡ no_size
+    pub done_past : d.count ≤ span_number n i j → done_value n (rows_done d) (cell s i j) ≡ no_size
     done_past l = ap (λ r. size_at r s) (row_past_done (span_number n i j) [] l)
 
   -- what is lowered to the sums with a column's values, for each last place
@@ -106,7 +106,7 @@ module _ (d : Done) where
       (kept : (p : ℕ) → place + length behind ≤ p → size_at new p ≡ size_at old p)
       (few : (p : ℕ) → place ≤ p → p ≤ n → p < length old → size_at old p ≤ no_size) where
     pub each_lowered : (p : ℕ) → place < p → p ≤ n → p < length old →
-        size_at new p ≡ min (size_at old p) (before + done_value n (rows_of d) (cell s place p))
+        size_at new p ≡ min (size_at old p) (before + done_value n (rows_done d) (cell s place p))
     each_lowered p a b c =
         let z : span_number n place place + (p - place) ≡ span_number n place p = omega arith in
         let u : size_at behind (p - place) ≡ size_at (row_of d (span_number n place p)) s = let v = each (p - place) (omega arith) in rw z at v in

@@ -4,14 +4,14 @@ use Rattle.std.proofs.Common.{List, Some, arith, get_or, inl, inr, length, refl,
 use Rattle.std.proofs.lemmas.Bool.{cases_lt}
 use Rattle.std.proofs.lemmas.Option.{slice_get-get_or, slice_get_within}
 use Rattle.pv_productive.specs.Tables.{no_size}
-use Rattle.pv_span.specs.ColumnRules.{Cell, IsAmong, cell}
+use Rattle.pv_span.specs.ColumnRules.{Cell, IsOneOf, cell}
 use Rattle.pv_span.specs.Least.{IsLeastMember}
 
 -- k is the least value of the first n columns
 pub record HavePassed (t : Cell → ℕ) (ds : List ℕ) (i j n k : ℕ) : Type 0 where
   pub within : n ≤ length ds
   pub below : (m d : ℕ) → m < n → slice_get ds m ≡ Some d → k ≤ t (cell d i j)
-  pub attained : k < no_size → (d : ℕ) × IsAmong d ds × (k ≡ t (cell d i j))
+  pub attained : k < no_size → (d : ℕ) × IsOneOf d ds × (k ≡ t (cell d i j))
 
 pub none_passed : (t : Cell → ℕ) (ds : List ℕ) (i j k : ℕ) → no_size ≤ k → HavePassed t ds i j 0 k
 none_passed t ds i j k l = record { within = omega arith; below = λ m d a e. absurd (omega arith); attained = λ few. absurd (omega arith) }

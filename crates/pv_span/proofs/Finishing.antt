@@ -10,9 +10,9 @@ use Rattle.pv_model.specs.Plain.{PlainToken}
 use Rattle.pv_rules.specs.Derivations.{Derives, IsClosed, IsClosedSet, IsWeight, heaviest, sum_of}
 use Rattle.pv_rules.specs.Rules.{IsSpan}
 use Rattle.pv_rules.proofs.Derived.{closed_below, held}
-use Rattle.pv_productive.specs.Tables.{cut, no_size, size_at}
+use Rattle.pv_productive.specs.Tables.{capped, no_size, size_at}
 use Rattle.pv_productive.proofs.Cutting.{cut_few, cut_many}
-use Rattle.pv_span.specs.Charts.{AreSettled, HasValue, IsAttained, IsDone, IsFilled, IsSettling, HasDone, IsSettledAt, IsSound, PlainChart, row_at, span_number, spans_before, value_of}
+use Rattle.pv_span.specs.Charts.{AreSettled, HasValue, IsAttainedChart, IsDone, IsFilled, IsSettling, HasDone, IsSettledAt, IsSoundChart, PlainChart, row_of_span, span_number, spans_before, value_of}
 use Rattle.pv_span.specs.ColumnRules.{Cell, ColumnRule, cell}
 use Rattle.pv_span.specs.Forms.{PlainForm, form_at, of_none}
 use Rattle.pv_span.proofs.ColumnFacts.{column_spans, small_columns}
@@ -29,7 +29,7 @@ one_span n i j a b p q r s e = elim (cases_lt a i) [
   ]
 ]
 
-module _ (g : List PlainForm) (w : List PlainToken) (i j : ℕ) (t : PlainChart) (a : IsAttained g w i j t) where
+module _ (g : List PlainForm) (w : List PlainToken) (i j : ℕ) (t : PlainChart) (a : IsAttainedChart g w i j t) where
   -- where there is no column there is no rule
   pub all_settled : AreSettled g w i j (length g) t → (s : ℕ) → IsSettledAt g w t (cell s i j)
   all_settled p s = elim (cases_lt s (length g)) [
@@ -39,14 +39,14 @@ module _ (g : List PlainForm) (w : List PlainToken) (i j : ℕ) (t : PlainChart)
 
   -- the span at hand is put with those that are done
   module _ (settled : (s : ℕ) → IsSettledAt g w t (cell s i j)) (row : List ℕ) where
-    same_row : (k : ℕ) → k < length (t.rows ++ (t.row ∷ [])) → row_at (record { tokens = t.tokens; rows = t.rows ++ (t.row ∷ []); row = row }) k ≡ row_at t k
+    same_row : (k : ℕ) → k < length (t.rows ++ (t.row ∷ [])) → row_of_span (record { tokens = t.tokens; rows = t.rows ++ (t.row ∷ []); row = row }) k ≡ row_of_span t k
     same_row k l = elim (cases_lt k (length t.rows)) [
       | inl lt ↦ get_or-append t.rows (t.row ∷ []) row k lt ∙ get_or_default t.rows k row t.row lt
       | inr ge ↦ (
           let m = simp length-append at l in
           let e : k ≡ length t.rows = omega arith in
           let u = get_or-append_seam t.rows t.row [] row in
-          let v : row_at t (length t.rows) ≡ t.row = get_or-eq_default t.rows t.row (omega arith) in
+          let v : row_of_span t (length t.rows) ≡ t.row = get_or-eq_default t.rows t.row (omega arith) in
           rw e (rw v u)
           )
     ]
@@ -63,16 +63,16 @@ module _ (g : List PlainForm) (w : List PlainToken) (i j : ℕ) (t : PlainChart)
           )
     ]
 
-    pub done_more : IsSound g w (record { tokens = t.tokens; rows = t.rows ++ (t.row ∷ []); row = row })
+    pub done_more : IsSoundChart g w (record { tokens = t.tokens; rows = t.rows ++ (t.row ∷ []); row = row })
     done_more = resound g w t (t.rows ++ (t.row ∷ [])) row a.sound.long same_row done_both
 
 -- before any span is done
-pub none_done : (g : List PlainForm) (w : List PlainToken) (row : List ℕ) → IsSound g w (record { tokens = length w; rows = []; row = row })
+pub none_done : (g : List PlainForm) (w : List PlainToken) (row : List ℕ) → IsSoundChart g w (record { tokens = length w; rows = []; row = row })
 none_done g w row = record { long = refl; attained = λ s i j d. absurd (let l = d.1 in omega arith); settled = λ s i j d. absurd (let l = d.1 in omega arith) }
 
 -- a row of which nothing is known, for the next span
-pub begun : (g : List PlainForm) (w : List PlainToken) (i j : ℕ) (t : PlainChart) → IsSound g w t → IsSpan w i j → span_number t.tokens i j ≡ length t.rows →
-    length t.row ≡ length g → ((s : ℕ) → size_at t.row s ≡ no_size) → IsAttained g w i j t
+pub begun : (g : List PlainForm) (w : List PlainToken) (i j : ℕ) (t : PlainChart) → IsSoundChart g w t → IsSpan w i j → span_number t.tokens i j ≡ length t.rows →
+    length t.row ≡ length g → ((s : ℕ) → size_at t.row s ≡ no_size) → IsAttainedChart g w i j t
 begun g w i j t sound span next sized blank = record {
   sound = sound;
   span = span;
@@ -82,8 +82,8 @@ begun g w i j t sound span next sized blank = record {
 }
 
 -- all spans are done
-module _ (g : List PlainForm) (w : List PlainToken) (t : PlainChart) (sound : IsSound g w t) (all : (i j : ℕ) → IsSpan w i j → span_number t.tokens i j < length t.rows) where
-  lowers_nothing : (s i j c : ℕ) (xs : List Cell) → ColumnRule g w (cell s i j) c xs → value_of t (cell s i j) ≤ cut (c + sum_of (value_of t) xs)
+module _ (g : List PlainForm) (w : List PlainToken) (t : PlainChart) (sound : IsSoundChart g w t) (all : (i j : ℕ) → IsSpan w i j → span_number t.tokens i j < length t.rows) where
+  lowers_nothing : (s i j c : ℕ) (xs : List Cell) → ColumnRule g w (cell s i j) c xs → value_of t (cell s i j) ≤ capped (c + sum_of (value_of t) xs)
   lowers_nothing s i j c xs r = let p = (column_spans g w s i j c xs r).0 in sound.settled s i j (p, all i j p) c xs r
 
   abbrev IsFew : Cell → Type 0
@@ -140,18 +140,18 @@ module _ (g : List PlainForm) (w : List PlainToken) (t : PlainChart) (sound : Is
   )
 
 -- the span at hand can be begun
-pub ready_begun : (g : List PlainForm) (w : List PlainToken) (i j k : ℕ) (t : PlainChart) → HasDone g w k t → span_number t.tokens i j ≡ length t.rows → i ≤ j → j ≤ t.tokens → IsAttained g w i j t
+pub ready_begun : (g : List PlainForm) (w : List PlainToken) (i j k : ℕ) (t : PlainChart) → HasDone g w k t → span_number t.tokens i j ≡ length t.rows → i ≤ j → j ≤ t.tokens → IsAttainedChart g w i j t
 ready_begun g w i j k t r e a b = begun g w i j t r.sound (a, let l = r.sound.long in omega arith) e r.is_row r.blank
 
 -- there is room for the row at hand
-pub room_left : (g : List PlainForm) (w : List PlainToken) (i j : ℕ) (t : PlainChart) → IsAttained g w i j t → length t.rows < spans_before (suc t.tokens)
+pub room_left : (g : List PlainForm) (w : List PlainToken) (i j : ℕ) (t : PlainChart) → IsAttainedChart g w i j t → length t.rows < spans_before (suc t.tokens)
 room_left g w i j t a =
     let e = a.next in let l = a.sound.long in let p = a.span.1 in
     let z : t.tokens - 0 ≡ t.tokens = omega arith in
     let h = within t.tokens 0 t.tokens i j (omega arith) (a.span.0) (omega arith) (omega arith) in let k = rw z at h in omega arith
 
 -- the row at hand is put with the others
-pub put_next : (g : List PlainForm) (w : List PlainToken) (i j k : ℕ) (t new : PlainChart) (row : List ℕ) → IsAttained g w i j t → AreSettled g w i j (length g) t →
+pub put_next : (g : List PlainForm) (w : List PlainToken) (i j k : ℕ) (t new : PlainChart) (row : List ℕ) → IsAttainedChart g w i j t → AreSettled g w i j (length g) t →
     length row ≡ length t.row → ((s : ℕ) → size_at row s ≡ no_size) → new ≡ record { tokens = t.tokens; rows = t.rows ++ (t.row ∷ []); row = row } → k ≡ length new.rows → HasDone g w k new
 put_next g w i j k t new row a settled sized blank h e = rw h (record {
   sound = done_more g w i j t a (all_settled g w i j t a settled) row;

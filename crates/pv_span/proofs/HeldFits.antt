@@ -10,12 +10,12 @@ use Rattle.pv_rules.specs.Numbering.{IsMemberAt, first_part, here, later, part_a
 use Rattle.pv_rules.proofs.Members.{member_within, some_part}
 use Rattle.pv_rules.specs.Sites.{HasSite, PlainSite, content_site, name_site, part_site, rest_site}
 use Rattle.pv_productive.specs.PlainForms.{dtd_of}
-use Rattle.pv_span.specs.ColumnRules.{IsAmong}
+use Rattle.pv_span.specs.ColumnRules.{IsOneOf}
 use Rattle.pv_span.specs.Columns.{AreColumns, AreFit, FitsContent, FitsPart, FitsRest, FitsSite, HoldsMixed, IsMember, PlainSites, column_at, column_of}
 use Rattle.pv_span.specs.FormForms.{plain_all}
 use Rattle.pv_span.specs.Forms.{PlainForm, form_at, of_element, of_none, of_nothing, of_one, of_opt, of_plus, of_star, of_two}
 use Rattle.pv_span.specs.PlainForms.{plain_sites}
-use Rattle.pv_span.specs.declared.layout.Layout.{Layout}
+use Rattle.pv_span.specs.declared.layout.ColumnLayout.{ColumnLayout}
 use Rattle.pv_span.proofs.Putting.{same_or_not}
 
 number_held : (x y : ℕ) → ∥ x ≡ y ∥₁ → x ≡ y
@@ -48,12 +48,12 @@ form_held (of_two x d) (of_two y e) h =
 form_held p q h = absurd (nothing_held h (λ r. cc))
 
 -- a column is looked up among others
-behind : (d x : ℕ) (ds : List ℕ) → x ≢ d → IsAmong d (x ∷ ds) → IsAmong d ds
+behind : (d x : ℕ) (ds : List ℕ) → x ≢ d → IsOneOf d (x ∷ ds) → IsOneOf d ds
 behind d x ds ne (zero, e) = absurd (ne cc)
 behind d x ds ne (suc k, e) = (k, e)
 
-among_held : (d : ℕ) (ds : List ℕ) → ∥ IsAmong d ds ∥₁ → IsAmong d ds
-among_held d [] h = absurd (nothing_held h (λ (a : IsAmong d []). let z = slice_get_within [] a.0 d a.1 in omega arith))
+among_held : (d : ℕ) (ds : List ℕ) → ∥ IsOneOf d ds ∥₁ → IsOneOf d ds
+among_held d [] h = absurd (nothing_held h (λ (a : IsOneOf d []). let z = slice_get_within [] a.0 d a.1 in omega arith))
 among_held d (x ∷ ds) h = elim (same_or_not x d) [
   | inl e ↦ (0, ap Some e)
   | inr ne ↦ (let r = among_held d ds (∥∥₁_map h (behind d x ds ne)) in (suc r.0, r.1))
@@ -189,5 +189,5 @@ module _ (g : PlainDtd) (m : PlainSites) (f : List PlainForm) where
   fits_held h (rest_site q) has = rest_held (column_of m (rest_site q)) q (rest_at g q) (∥∥₁_map h (λ (a : AreFit g m f). a (rest_site q) has))
 
 -- the columns of a grammar that is laid out fit it
-pub layout_fits : (l : Layout) → AreFit (dtd_of l.grammar.now) (plain_sites l.sites) (plain_all l.forms.items)
+pub layout_fits : (l : ColumnLayout) → AreFit (dtd_of l.grammar.now) (plain_sites l.sites) (plain_all l.forms.items)
 layout_fits l = fits_held (dtd_of l.grammar.now) (plain_sites l.sites) (plain_all l.forms.items) l.fit

@@ -9,7 +9,7 @@ use Rattle.std.proofs.lemmas.List.{length-map}
 use Rattle.std.proofs.lemmas.List.FromFn.{get_or-map-range_with_len, length-map-range_with_len, map-range_with_len_more}
 use Rattle.std.proofs.lemmas.Option.{slice_get-get_or, slice_get_past}
 use Rattle.pv_model.specs.Plain.{PlainModel, PlainPart, PlainParts, any, children, choice, empty, mixed, name, no_parts, opt, part, plus, seq, star}
-use Rattle.pv_dtd.specs.Facts.{is_formed}
+use Rattle.pv_dtd.specs.Facts.{is_formed_part}
 use Rattle.pv_dtd.specs.Plain.{PlainDtd, model_of, parts_in, parts_in_models}
 use Rattle.pv_rules.specs.Numbering.{Numbered, first_part, numbered_models, part_at, rest_at}
 use Rattle.pv_rules.specs.Sites.{HasSite, PlainSite, content_site, name_site, part_site, rest_site}
@@ -19,7 +19,7 @@ use Rattle.pv_rules.proofs.Members.{member_within, some_part}
 use Rattle.pv_span.specs.Columns.{AreColumns, AreFit, FitsContent, FitsPart, FitsRest, FitsSite, PlainSites, column_at, column_of, no_column}
 use Rattle.pv_span.specs.FormForms.{plain_all, plain_form}
 use Rattle.pv_span.specs.Forms.{PlainForm, form_at, of_element, of_none, of_nothing, of_one, of_opt, of_plus, of_star, of_two}
-use Rattle.pv_span.specs.Making.{AreBlankSites, AreLaid, IsMade, Keeps, elements}
+use Rattle.pv_span.specs.Making.{AreBlankSites, AreLaid, IsMade, KeepsForms, element_forms}
 use Rattle.pv_span.specs.declared.forms.Form.{Form}
 use Rattle.pv_span.proofs.Putting.{same_or_not}
 
@@ -98,9 +98,9 @@ module _ (g : PlainDtd) (m : PlainSites) (n : ℕ) (old made new : List PlainFor
   above : (r k : ℕ) → q ≤ r → r < k → (column_at m.parts k ≡ column_at (set m.parts q c) k) × (column_at m.rests k ≡ column_at (set m.rests q d) k)
   above r k l h = (other_part k (omega arith), other_rest k (omega arith))
 
-  module _ (before : Keeps n old made) (after : Keeps n made new) (fits : FitsPart g m (IsMade n made) c q (part_at g q))
+  module _ (before : KeepsForms n old made) (after : KeepsForms n made new) (fits : FitsPart g m (IsMade n made) c q (part_at g q))
       (rest : FitsRest g with_part (IsMade n new) d q (rest_at g q)) where
-    both : Keeps n old new
+    both : KeepsForms n old new
     both x f h = after x f (before x f h)
 
     laid_part : (r : ℕ) → q ≤ r → HasSite g (part_site r) → (r ≡ q) ⊎ (r ≢ q) → FitsPart g with_both (IsMade n new) (column_at (set m.parts q c) r) r (part_at g r)
@@ -131,7 +131,7 @@ module _ (g : PlainDtd) (m : PlainSites) (n : ℕ) (old made new : List PlainFor
     }
 
 -- one content more
-module _ (g : PlainDtd) (m : PlainSites) (n : ℕ) (old new : List PlainForm) (x c : ℕ) (laid : AreLaid g m n old 0 x) (kept : Keeps n old new) (fits : FitsContent g m (IsMade n new) c x (model_of g x)) where
+module _ (g : PlainDtd) (m : PlainSites) (n : ℕ) (old new : List PlainForm) (x c : ℕ) (laid : AreLaid g m n old 0 x) (kept : KeepsForms n old new) (fits : FitsContent g m (IsMade n new) c x (model_of g x)) where
   abbrev with_content : PlainSites
   with_content = record { names = m.names; contents = m.contents ++ (c ∷ []); parts = m.parts; rests = m.rests }
 
@@ -159,20 +159,20 @@ module _ (g : PlainDtd) (m : PlainSites) (n : ℕ) (old new : List PlainForm) (x
 -- all columns, those of the names first
 module _ (g : PlainDtd) (m : PlainSites) (n : ℕ) (made : List PlainForm) (laid : AreLaid g m n made 0 (length g.models)) (few : n + length made ≤ no_column) where
   abbrev forms : List PlainForm
-  forms = elements m.contents n ++ made
+  forms = element_forms m.contents n ++ made
 
-  count : length (elements m.contents n) ≡ n
+  count : length (element_forms m.contents n) ≡ n
   count = length-map-range_with_len (λ x. of_element x (column_at m.contents x)) 0 n
 
   stands : (c : ℕ) (f : PlainForm) → IsMade n made c f → form_at forms c ≡ f
-  stands c f (a, b, e) = let k = count in let z = get_or-append_right (elements m.contents n) made c of_none (omega arith) in let y = rw k at z in y ∙ e
+  stands c f (a, b, e) = let k = count in let z = get_or-append_right (element_forms m.contents n) made c of_none (omega arith) in let y = rw k at z in y ∙ e
 
   fits_site : (s : PlainSite) → HasSite g s → FitsSite g m (λ c f. form_at forms c ≡ f) (column_of m s) s
   fits_site (name_site x) has =
       let a = laid.named in
       let e = laid.names x (omega arith) in
       let k = count in
-      rw e (get_or-append (elements m.contents n) made of_none x (omega arith) ∙ get_or-map-range_with_len (λ y. of_element y (column_at m.contents y)) 0 n x x of_none (omega arith) (omega arith))
+      rw e (get_or-append (element_forms m.contents n) made of_none x (omega arith) ∙ get_or-map-range_with_len (λ y. of_element y (column_at m.contents y)) 0 n x x of_none (omega arith) (omega arith))
   fits_site (content_site x) has = elim (cases_lt x (length g.models)) [
     | inl lt ↦ content_kept g m m (IsMade n made) (λ c f. form_at forms c ≡ f) stands (λ y. refl) (column_at m.contents x) x (λ y. refl) (model_of g x) (laid.contents x lt)
     | inr ge ↦ (
@@ -194,7 +194,7 @@ no_rest_fits g m H c q (Some no_parts) n h = h
 no_rest_fits g m H c q (Some (part p ps)) n h = absurd n
 
 -- a sequence has members
-pub seq_fits : (g : PlainDtd) (m : PlainSites) (H : ℕ → PlainForm → Type 0) (c q : ℕ) (ps : PlainParts) → is_formed (seq ps) ≡ true → c ≡ column_of m (rest_site (suc q)) → FitsPart g m H c q (Some (seq ps))
+pub seq_fits : (g : PlainDtd) (m : PlainSites) (H : ℕ → PlainForm → Type 0) (c q : ℕ) (ps : PlainParts) → is_formed_part (seq ps) ≡ true → c ≡ column_of m (rest_site (suc q)) → FitsPart g m H c q (Some (seq ps))
 seq_fits g m H c q no_parts f e = absurd cc
 seq_fits g m H c q (part p ps) f e = e
 
@@ -239,8 +239,8 @@ module _ (g : PlainDtd) where
       let z = ap (λ o. option_map (λ (p : Numbered). p.self) o) s in absurd cc
 
 -- the forms of all columns, those of the names first
-pub elements_more : (contents : List ℕ) (n : ℕ) (forms : List Form) (f : Form) → plain_all forms ≡ elements contents n → plain_form f ≡ of_element n (column_at contents n) →
-    plain_all (forms ++ (f ∷ [])) ≡ elements contents (n + 1)
+pub elements_more : (contents : List ℕ) (n : ℕ) (forms : List Form) (f : Form) → plain_all forms ≡ element_forms contents n → plain_form f ≡ of_element n (column_at contents n) →
+    plain_all (forms ++ (f ∷ [])) ≡ element_forms contents (n + 1)
 elements_more contents n forms f e z =
     let m = map-range_with_len_more (λ x. of_element x (column_at contents x)) 0 n n (omega arith) in
     all_more forms f ∙ (rw (e, z) (sym m))
@@ -249,7 +249,7 @@ elements_more contents n forms f e z =
     all_more [] f = refl
     all_more (x ∷ forms) f = ap (λ xs. plain_form x ∷ xs) (all_more forms f)
 
-pub few_forms : (contents : List ℕ) (n : ℕ) (forms made : List Form) → plain_all forms ≡ elements contents n ++ plain_all made → n + length made ≤ no_column → length forms ≤ no_column
+pub few_forms : (contents : List ℕ) (n : ℕ) (forms made : List Form) → plain_all forms ≡ element_forms contents n ++ plain_all made → n + length made ≤ no_column → length forms ≤ no_column
 few_forms contents n forms made e l =
     let a : length (plain_all forms) ≡ length forms = simp length-map in
     let b : length (plain_all made) ≡ length made = simp length-map in

@@ -8,7 +8,7 @@ use Rattle.pv_productive.specs.Tables.{no_size, size_at}
 use Rattle.pv_span.specs.Charts.{PlainChart, span_number, value_of}
 use Rattle.pv_span.specs.ColumnRules.{Cell, cell}
 use Rattle.pv_span.specs.Least.{IsLeastCut}
-use Rattle.pv_span.specs.Lines.{IsBlank, IsLine, done_value, least_cut}
+use Rattle.pv_span.specs.Lines.{IsBlankLine, IsLine, done_value, least_cut}
 use Rattle.pv_span.specs.declared.lines.Line.{Line}
 use Rattle.pv_span.proofs.CutSums.{cut_more}
 use Rattle.pv_span.proofs.Numbering.{later_spans, strictly_within}
@@ -115,7 +115,7 @@ module _ (n : ℕ) (rows : List (List ℕ)) (i j : ℕ) where
         ))
 
 -- lines of which nothing is known
-pub blank_line : (n : ℕ) (rows : List (List ℕ)) (i : ℕ) (l : Line) → IsBlank l → IsLine n rows i i l
+pub blank_line : (n : ℕ) (rows : List (List ℕ)) (i : ℕ) (l : Line) → IsBlankLine l → IsLine n rows i i l
 blank_line n rows i l b p a c d = let x : i - suc i ≡ 0 = omega arith in rw x (b p d)
 
 -- what a line tells of the span at hand

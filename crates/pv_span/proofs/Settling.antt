@@ -7,9 +7,9 @@ use Rattle.std.proofs.lemmas.Bool.{cases_lt, or_parts}
 use Rattle.std.proofs.lemmas.List.{get_or_default}
 use Rattle.pv_model.specs.Plain.{PlainToken}
 use Rattle.pv_rules.specs.Derivations.{DeriveAll, by_rule, heaviest, none_left, one_more, sum_of}
-use Rattle.pv_productive.specs.Tables.{IsLowered, cut, no_size, size_at}
+use Rattle.pv_productive.specs.Tables.{IsLowered, capped, no_size, size_at}
 use Rattle.pv_productive.proofs.Cutting.{cut_below, cut_few, cut_least, cut_mono}
-use Rattle.pv_span.specs.Charts.{AreSettled, AreSettledFrom, HasValue, IsAttained, IsDone, IsSettling, IsSettledAt, IsSound, PlainChart, row_at, span_number, value_of}
+use Rattle.pv_span.specs.Charts.{AreSettled, AreSettledFrom, HasValue, IsAttainedChart, IsDone, IsSettling, IsSettledAt, IsSoundChart, PlainChart, row_of_span, span_number, value_of}
 use Rattle.pv_span.specs.ColumnRules.{Cell, ColumnRule, cell}
 use Rattle.pv_span.specs.Forms.{PlainForm}
 use Rattle.pv_span.specs.Least.{IsLeastAt}
@@ -24,7 +24,7 @@ module _ (g : List PlainForm) (w : List PlainToken) where
     other = record { tokens = t.tokens; rows = rows; row = row }
 
     abbrev pub IsSame : Type 0
-    IsSame = (k : ℕ) → k < length rows → row_at other k ≡ row_at t k
+    IsSame = (k : ℕ) → k < length rows → row_of_span other k ≡ row_of_span t k
 
     same_sum : IsSame → (i j : ℕ) → IsDone w other i j → (xs : List Cell) → AllByRecursion (λ (x : Cell). (i ≤ x.from) × (x.from ≤ x.to) × (x.to ≤ j)) xs →
         sum_of (value_of other) xs ≡ sum_of (value_of t) xs
@@ -37,7 +37,7 @@ module _ (g : List PlainForm) (w : List PlainToken) where
         let e = ap (λ r. size_at r x.column) (same (span_number t.tokens x.from x.to) (omega arith)) in
         let f = same_sum same i j d xs a.1 in omega arith
 
-    pub resound : IsSame → ((s i j : ℕ) → IsDone w other i j → HasValue g w (cell s i j) (value_of t (cell s i j)) × IsSettledAt g w t (cell s i j)) → IsSound g w other
+    pub resound : IsSame → ((s i j : ℕ) → IsDone w other i j → HasValue g w (cell s i j) (value_of t (cell s i j)) × IsSettledAt g w t (cell s i j)) → IsSoundChart g w other
     resound same all = record {
       long = long;
       attained = λ s i j d. let e = ap (λ r. size_at r s) (same (span_number t.tokens i j) d.1) in rw e (all s i j d).0;
@@ -48,7 +48,7 @@ module _ (g : List PlainForm) (w : List PlainToken) where
     }
 
 module _ (g : List PlainForm) (w : List PlainToken) (i j : ℕ) where
-  module _ (t : PlainChart) (a : IsAttained g w i j t) where
+  module _ (t : PlainChart) (a : IsAttainedChart g w i j t) where
     -- the row at hand is that of the span
     pub at_hand : (s : ℕ) → value_of t (cell s i j) ≡ size_at t.row s
     at_hand s = ap (λ r. size_at r s) (get_or-eq_default t.rows t.row (let e = a.next in omega arith))
@@ -79,7 +79,7 @@ module _ (g : List PlainForm) (w : List PlainToken) (i j : ℕ) where
         let r = all_attained xs n.1 (omega arith) in
         (d.0 + r.0, one_more (d.0 + r.0) d.0 r.0 x xs refl d.1 r.1, let y = d.2 in let z = r.2 in omega arith)
 
-    pub sum_attained : (s k : ℕ) → IsLeastAt g w (value_of t) (cell s i j) k → HasValue g w (cell s i j) (cut k)
+    pub sum_attained : (s k : ℕ) → IsLeastAt g w (value_of t) (cell s i j) k → HasValue g w (cell s i j) (capped k)
     sum_attained s k l = (
       cut_least k,
       λ f.
@@ -90,23 +90,23 @@ module _ (g : List PlainForm) (w : List PlainToken) (i j : ℕ) where
           (b.0 + r.0, by_rule (b.0 + r.0) b.0 r.0 (cell s i j) b.1 refl b.2 r.1, let e = cut_few k few in let y = r.2 in omega arith),
     )
 
-    pub sum_settled : (s k : ℕ) → IsLeastAt g w (value_of t) (cell s i j) k → size_at t.row s ≤ cut k → IsSettledAt g w t (cell s i j)
+    pub sum_settled : (s k : ℕ) → IsLeastAt g w (value_of t) (cell s i j) k → size_at t.row s ≤ capped k → IsSettledAt g w t (cell s i j)
     sum_settled s k l e c xs r = let h = at_hand s in let m = cut_mono k (c + sum_of (value_of t) xs) (l.below c xs r) in omega arith
 
   abbrev pub At : ℕ → PlainChart → Type 0
   At s t = IsSettledAt g w t (cell s i j)
 
   -- nothing changed
-  kept : (P : PlainChart → Type 0) (old new : PlainChart) → IsAttained g w i j old → new ≡ old → P old → IsSettling g w i j P old new false
+  kept : (P : PlainChart → Type 0) (old new : PlainChart) → IsAttainedChart g w i j old → new ≡ old → P old → IsSettling g w i j P old new false
   kept P old new a e p = record { attained = rw e a; same = λ _. e; settled = λ _. p; less = λ f. absurd cc }
 
-  changed : (P : PlainChart → Type 0) (old new : PlainChart) → IsAttained g w i j new → sum new.row < sum old.row → IsSettling g w i j P old new true
+  changed : (P : PlainChart → Type 0) (old new : PlainChart) → IsAttainedChart g w i j new → sum new.row < sum old.row → IsSettling g w i j P old new true
   changed P old new a l = record { attained = a; same = λ f. absurd cc; settled = λ f. absurd cc; less = λ _. l }
 
   abbrev with_row : PlainChart → List ℕ → PlainChart
   with_row t r = record { tokens = t.tokens; rows = t.rows; row = r }
 
-  put_attained : (t : PlainChart) (s k : ℕ) → IsAttained g w i j t → s < length t.row → HasValue g w (cell s i j) k → IsAttained g w i j (with_row t (set t.row s k))
+  put_attained : (t : PlainChart) (s k : ℕ) → IsAttainedChart g w i j t → s < length t.row → HasValue g w (cell s i j) k → IsAttainedChart g w i j (with_row t (set t.row s k))
   put_attained t s k a lt h = record {
     sound = resound g w t t.rows (set t.row s k) a.sound.long (λ m l. get_or_default t.rows m (set t.row s k) t.row l)
         (λ o m n d. (a.sound.attained o m n d, a.sound.settled o m n d));
@@ -116,17 +116,17 @@ module _ (g : List PlainForm) (w : List PlainToken) (i j : ℕ) where
     attained = each_cell (λ o v. HasValue g w (cell o i j) v) t.row s k lt h a.attained;
   }
 
-  pub one_settling : (old : PlainChart) (row : List ℕ) (s k : ℕ) (b : Bool) → IsAttained g w i j old → s < length old.row → IsLeastAt g w (value_of old) (cell s i j) k →
-      IsLowered old.row row s (cut k) b → IsSettling g w i j (At s) old (with_row old row) b
+  pub one_settling : (old : PlainChart) (row : List ℕ) (s k : ℕ) (b : Bool) → IsAttainedChart g w i j old → s < length old.row → IsLeastAt g w (value_of old) (cell s i j) k →
+      IsLowered old.row row s (capped k) b → IsSettling g w i j (At s) old (with_row old row) b
   one_settling old row s k true a lt l f =
       let d = f.lowered refl in
       let e = ap (λ r. with_row old r) d.1 in
-      changed (At s) old (with_row old row) (rw e (put_attained old s (cut k) a lt (sum_attained old a s k l)))
-      (let z = cell_sum old.row s (cut k) lt d.0 in rw d.1 z)
+      changed (At s) old (with_row old row) (rw e (put_attained old s (capped k) a lt (sum_attained old a s k l)))
+      (let z = cell_sum old.row s (capped k) lt d.0 in rw d.1 z)
   one_settling old row s k false a lt l f =
       let d = f.kept refl in kept (At s) old (with_row old row) a (ap (λ r. with_row old r) d.1) (sum_settled old a s k l d.0)
 
-  pub settling_none : (t : PlainChart) (P : PlainChart → Type 0) → IsAttained g w i j t → P t → IsSettling g w i j P t t false
+  pub settling_none : (t : PlainChart) (P : PlainChart → Type 0) → IsAttainedChart g w i j t → P t → IsSettling g w i j P t t false
   settling_none t P a p = kept P t t a refl p
 
   -- values don't grow

@@ -14,7 +14,7 @@ use Rattle.pv_rules.proofs.Derived.{HaveAll, passed}
 use Rattle.pv_rules.proofs.Facts.{parts_by_number}
 use Rattle.pv_rules.proofs.SitesKept.{name_below}
 use Rattle.pv_span.specs.Columns.{AreFit, FitsContent, FitsPart, FitsRest, PlainSites, column_of}
-use Rattle.pv_span.specs.ColumnRules.{Cell, ColumnRule, FormRule, IsAmong, cell}
+use Rattle.pv_span.specs.ColumnRules.{Cell, ColumnRule, FormRule, IsOneOf, cell}
 use Rattle.pv_span.specs.Forms.{PlainForm, form_at, of_element, of_nothing, of_one, of_opt, of_plus, of_star, of_two}
 use Rattle.pv_span.proofs.Building.{made_none, made_one, made_two, none_have, one_have, two_have}
 use Rattle.pv_span.proofs.Sited.{first_has, listed_has, part_has, rest_has}
@@ -64,7 +64,7 @@ module _ (g : PlainDtd) (w : List PlainToken) (m : PlainSites) (f : List PlainFo
         (made (column_of m s) i j 0 (at_site o i n ∷ at_site r n j ∷ []) p e u) (d.3 one) (d.4 two)
 
     -- one of the columns of a mixed model, and the content behind it
-    item_case : (s o : PlainSite) (d n : ℕ) (ds : List ℕ) → form_at f (column_of m s) ≡ of_star d true → form_at f d ≡ of_one ds → IsAmong (column_of m o) ds →
+    item_case : (s o : PlainSite) (d n : ℕ) (ds : List ℕ) → form_at f (column_of m s) ≡ of_star d true → form_at f d ≡ of_one ds → IsOneOf (column_of m o) ds →
         HasSite g o → HasSite g s → i < n → ToTwo g w i j c xs o s n → Derives C (c + k) (at_site s i j)
     item_case s o d n ds e u among one two lt (a, l, z, q) =
         let y = two_have Has k xs h (over o i n) (over s n j) q in

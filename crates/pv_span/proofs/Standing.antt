@@ -13,7 +13,7 @@ use Rattle.pv_rules.proofs.Facts.{parts_by_number}
 use Rattle.pv_rules.proofs.Members.{some_part}
 use Rattle.pv_rules.proofs.SitesKept.{name_below}
 use Rattle.pv_span.specs.Columns.{AreFit, FitsContent, FitsPart, FitsRest, PlainSites, column_of}
-use Rattle.pv_span.specs.ColumnRules.{Cell, ColumnRule, FormRule, IsAmong, ToTwo, cell}
+use Rattle.pv_span.specs.ColumnRules.{Cell, ColumnRule, FormRule, IsOneOf, ToTwo, cell}
 use Rattle.pv_span.specs.Forms.{PlainForm, form_at, of_element, of_none, of_nothing, of_one, of_opt, of_plus, of_star, of_two}
 use Rattle.pv_span.proofs.Building.{made_none, made_one, made_two, none_have, one_have, two_have}
 use Rattle.pv_span.proofs.ColumnFacts.{column_spans}
@@ -30,7 +30,7 @@ module _ (g : PlainDtd) (w : List PlainToken) (m : PlainSites) (f : List PlainFo
   record Stands (n : ℕ) (x : Cell) : Type 0 where
     pub sites : (s : PlainSite) → HasSite g s → column_of m s ≡ x.column → D n s x.from x.to
     pub members : (ds : List ℕ) → form_at f x.column ≡ of_one ds →
-        (d : ℕ) × IsAmong d ds × ((s : PlainSite) → HasSite g s → column_of m s ≡ d → D n s x.from x.to)
+        (d : ℕ) × IsOneOf d ds × ((s : PlainSite) → HasSite g s → column_of m s ≡ d → D n s x.from x.to)
 
   -- how far a site is from one that has a column of its own
   abbrev far : PlainSite → ℕ

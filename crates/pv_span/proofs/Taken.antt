@@ -7,7 +7,7 @@ use Rattle.pv_model.specs.Plain.{PlainPart, PlainParts}
 use Rattle.pv_dtd.specs.Plain.{parts_in, parts_in_all}
 use Rattle.pv_rules.specs.Numbering.{IsMemberAt}
 use Rattle.pv_rules.proofs.Members.{first_at, member_within, members_apart, next_at, some_part}
-use Rattle.pv_span.specs.ColumnRules.{IsAmong}
+use Rattle.pv_span.specs.ColumnRules.{IsOneOf}
 use Rattle.pv_span.specs.Columns.{AreColumns, IsMember, column_at, no_column}
 
 -- one element more at the end of a list
@@ -20,10 +20,10 @@ last : (ds : List ℕ) (e : ℕ) → slice_get (ds ++ (e ∷ [])) (length ds) �
 last [] e = refl
 last (x ∷ ds) e = last ds e
 
-pub among_more : (ds : List ℕ) (e d : ℕ) → IsAmong d ds → IsAmong d (ds ++ (e ∷ []))
+pub among_more : (ds : List ℕ) (e d : ℕ) → IsOneOf d ds → IsOneOf d (ds ++ (e ∷ []))
 among_more ds e d i = (i.0, earlier ds e i.0 d i.1)
 
-pub among_last : (ds : List ℕ) (e : ℕ) → IsAmong e (ds ++ (e ∷ []))
+pub among_last : (ds : List ℕ) (e : ℕ) → IsOneOf e (ds ++ (e ∷ []))
 among_last ds e = (length ds, last ds e)
 
 pub one_of_both : (ds : List ℕ) (e k d : ℕ) → slice_get (ds ++ (e ∷ [])) k ≡ Some d → (slice_get ds k ≡ Some d) ⊎ (d ≡ e)
@@ -36,7 +36,7 @@ one_of_both (x ∷ ds) e (suc k) d h = one_of_both ds e k d h
 pub record HaveTaken (column : ℕ → ℕ) (q : ℕ) (ps : PlainParts) (m : ℕ) (ds : List ℕ) : Type 0 where
   pub within : m ≤ suc q + parts_in_all ps
   pub next : m < suc q + parts_in_all ps → (p : PlainPart) × IsMemberAt p m (suc q) ps
-  pub each : (p : PlainPart) (r : ℕ) → IsMemberAt p r (suc q) ps → r < m → IsAmong (column r) ds
+  pub each : (p : PlainPart) (r : ℕ) → IsMemberAt p r (suc q) ps → r < m → IsOneOf (column r) ds
   pub only : (n d : ℕ) → slice_get ds n ≡ Some d → (k : ℕ) × IsMember q ps k × (d ≡ column k)
 
 pub taken_none : (column : ℕ → ℕ) (q : ℕ) (ps : PlainParts) (m : ℕ) → m ≡ suc q → HaveTaken column q ps m []
@@ -48,7 +48,7 @@ taken_none column q ps m e = record {
 }
 
 module _ (column : ℕ → ℕ) (q : ℕ) (ps : PlainParts) (m : ℕ) (ds : List ℕ) (l : HaveTaken column q ps m ds) (p : PlainPart) (a : IsMemberAt p m (suc q) ps) (v : ℕ) (same : v ≡ column m) where
-  each_case : (o : PlainPart) (r : ℕ) → IsMemberAt o r (suc q) ps → r < m + parts_in p → (suc r ≤ m) ⊎ (m ≤ r) → IsAmong (column r) (ds ++ (v ∷ []))
+  each_case : (o : PlainPart) (r : ℕ) → IsMemberAt o r (suc q) ps → r < m + parts_in p → (suc r ≤ m) ⊎ (m ≤ r) → IsOneOf (column r) (ds ++ (v ∷ []))
   each_case o r d lt (inl x) = among_more ds v (column r) (l.each o r d x)
   each_case o r d lt (inr x) = let z : m ≡ r = members_apart p o m r (suc q) ps a d x lt in rw (← z, ← same) (among_last ds v)
 
@@ -73,7 +73,7 @@ taken_all column q ps m ds l e = record {
 
 -- so many numbers from one on
 module _ (column : ℕ → ℕ) (first n : ℕ) (ds : List ℕ) (v : ℕ) (le : first ≤ n) (same : v ≡ column n) (are : AreColumns (λ e. first + e < n) (λ e. column (first + e)) ds) where
-  number_case : (e : ℕ) → first + e < suc n → (first + e < n) ⊎ (n ≤ first + e) → IsAmong (column (first + e)) (ds ++ (v ∷ []))
+  number_case : (e : ℕ) → first + e < suc n → (first + e < n) ⊎ (n ≤ first + e) → IsOneOf (column (first + e)) (ds ++ (v ∷ []))
   number_case e lt (inl l) = among_more ds v (column (first + e)) (are.each e l)
   number_case e lt (inr l) = let z : first + e ≡ n = omega arith in rw (z, ← same) (among_last ds v)
 

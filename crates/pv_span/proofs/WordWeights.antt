@@ -11,13 +11,13 @@ use Rattle.pv_span.specs.FormForms.{plain_all}
 use Rattle.pv_span.specs.PlainForms.{plain_chart, plain_columns, plain_sites}
 use Rattle.pv_span.specs.Weights.{AreValues, AreWeights}
 use Rattle.pv_span.specs.declared.charts.Chart.{Chart}
-use Rattle.pv_span.specs.declared.layout.Layout.{Layout}
+use Rattle.pv_span.specs.declared.layout.ColumnLayout.{ColumnLayout}
 use Rattle.pv_span.specs.declared.sites.SiteColumns.{SiteColumns}
 use Rattle.pv_span.proofs.HeldFits.{layout_fits}
 use Rattle.pv_span.proofs.Known.{some_columns}
 use Rattle.pv_span.proofs.SiteWeights.{is_short, site_derives_something, site_weight}
 
-module _ (l : Layout) (word : List Token) (chart : Chart) (sites : SiteColumns) (s : plain_columns sites ≡ plain_sites l.sites) (fits : FitsWeights (dtd_of l.grammar.now) (length word))
+module _ (l : ColumnLayout) (word : List Token) (chart : Chart) (sites : SiteColumns) (s : plain_columns sites ≡ plain_sites l.sites) (fits : FitsWeights (dtd_of l.grammar.now) (length word))
     (filled : length word < 8192 → IsFilled (plain_all l.forms.items) (map plain_token word) (plain_chart chart)) where
   all_filled : (o : PlainSite) → HasSite (dtd_of l.grammar.now) o → IsFilled (plain_all l.forms.items) (map plain_token word) (plain_chart chart)
   all_filled o has = filled (is_short (dtd_of l.grammar.now) (length word) fits (some_columns (dtd_of l.grammar.now) o has))

@@ -7,7 +7,7 @@ use Rattle.std.specs.Prelude.{ℕ, ◌+◌, ◌-◌, ◌<◌, ◌≡◌, ◌≤�
 use Rattle.pv_model.specs.Plain.{PlainToken}
 use Rattle.pv_rules.specs.Derivations.{Derives, heaviest, sum_of}
 use Rattle.pv_rules.specs.Rules.{IsSpan}
-use Rattle.pv_productive.specs.Tables.{cut, no_size, size_at}
+use Rattle.pv_productive.specs.Tables.{capped, no_size, size_at}
 use Rattle.pv_span.specs.ColumnRules.{Cell, ColumnRule, cell}
 use Rattle.pv_span.specs.Forms.{PlainForm}
 
@@ -27,12 +27,12 @@ abbrev pub span_number : ℕ → ℕ → ℕ → ℕ
 span_number n i j = spans_before (n - i) + (j - i)
 
 -- the row of span number k: one that is done, or the one at hand
-abbrev pub row_at : PlainChart → ℕ → List ℕ
-row_at t k = slice_index_or t.rows k t.row
+abbrev pub row_of_span : PlainChart → ℕ → List ℕ
+row_of_span t k = slice_index_or t.rows k t.row
 
 -- the value of a column over a span
 abbrev pub value_of : PlainChart → Cell → ℕ
-value_of t x = size_at (row_at t (span_number t.tokens x.from x.to)) x.column
+value_of t x = size_at (row_of_span t (span_number t.tokens x.from x.to)) x.column
 
 -- no value is more than that of no derivation
 abbrev pub AreFew : List ℕ → Type 0
@@ -46,22 +46,22 @@ HasValue f w x k = (k ≤ no_size) × (k < no_size →
 -- the rules of this cell lower nothing
 abbrev pub IsSettledAt : List PlainForm → List PlainToken → PlainChart → Cell → Type 0
 IsSettledAt f w t x = (c : ℕ) (xs : List Cell) → ColumnRule f w x c xs →
-    value_of t x ≤ cut (c + sum_of (value_of t) xs)
+    value_of t x ≤ capped (c + sum_of (value_of t) xs)
 
 -- the span is done
 abbrev pub IsDone : List PlainToken → PlainChart → ℕ → ℕ → Type 0
 IsDone w t i j = IsSpan w i j × (span_number t.tokens i j < length t.rows)
 
 -- the values over the spans that are done are attained, and the rules lower none
-pub record IsSound (f : List PlainForm) (w : List PlainToken) (t : PlainChart) : Type 0 where
+pub record IsSoundChart (f : List PlainForm) (w : List PlainToken) (t : PlainChart) : Type 0 where
   pub long : t.tokens ≡ length w
   pub attained : (s i j : ℕ) → IsDone w t i j → HasValue f w (cell s i j) (value_of t (cell s i j))
   pub settled : (s i j : ℕ) → IsDone w t i j → IsSettledAt f w t (cell s i j)
 
 -- besides, the span at hand is the next one, and its values so far are attained
-pub record IsAttained (f : List PlainForm) (w : List PlainToken) (i j : ℕ) (t : PlainChart) :
+pub record IsAttainedChart (f : List PlainForm) (w : List PlainToken) (i j : ℕ) (t : PlainChart) :
     Type 0 where
-  pub sound : IsSound f w t
+  pub sound : IsSoundChart f w t
   pub span : IsSpan w i j
   pub next : span_number t.tokens i j ≡ length t.rows
   pub is_row : length t.row ≡ length f
@@ -71,7 +71,7 @@ pub record IsAttained (f : List PlainForm) (w : List PlainToken) (i j : ℕ) (t 
 -- old one, of which P holds, and else the values of the row are less in all.
 pub record IsSettling (f : List PlainForm) (w : List PlainToken) (i j : ℕ)
     (P : PlainChart → Type 0) (old new : PlainChart) (changed : Bool) : Type 0 where
-  pub attained : IsAttained f w i j new
+  pub attained : IsAttainedChart f w i j new
   pub same : changed ≡ false → new ≡ old
   pub settled : changed ≡ false → P old
   pub less : changed ≡ true → sum new.row < sum old.row
@@ -87,12 +87,12 @@ AreSettledFrom f w i j first end t = (s : ℕ) → first ≤ s → s < end → I
 -- k spans are done, and nothing is known of the next one
 pub record HasDone (f : List PlainForm) (w : List PlainToken) (k : ℕ) (t : PlainChart) :
     Type 0 where
-  pub sound : IsSound f w t
+  pub sound : IsSoundChart f w t
   pub count : length t.rows ≡ k
   pub is_row : length t.row ≡ length f
   pub blank : (s : ℕ) → size_at t.row s ≡ no_size
 
 -- all spans are done
 pub record IsFilled (f : List PlainForm) (w : List PlainToken) (t : PlainChart) : Type 0 where
-  pub sound : IsSound f w t
+  pub sound : IsSoundChart f w t
   pub all : (i j : ℕ) → IsSpan w i j → span_number t.tokens i j < length t.rows

@@ -17,8 +17,8 @@ abbrev pub cell : ℕ → ℕ → ℕ → Cell
 cell c i j = record { column = c; from = i; to = j }
 
 -- the column is among these
-abbrev pub IsAmong : ℕ → List ℕ → Type 0
-IsAmong d ds = (k : ℕ) × (slice_get ds k ≡ Some d)
+abbrev pub IsOneOf : ℕ → List ℕ → Type 0
+IsOneOf d ds = (k : ℕ) × (slice_get ds k ≡ Some d)
 
 module _ (w : List PlainToken) (c i j n : ℕ) (xs : List Cell) where
   -- nothing on the right
@@ -45,7 +45,7 @@ module _ (w : List PlainToken) (c i j n : ℕ) (xs : List Cell) where
       ((slice_get w i ≡ Some (named x)) × (j ≡ suc i) × (n ≡ 0) × (xs ≡ [])) ⊎
       (IsSpan w i j × (n ≡ 1) × (xs ≡ cell d i j ∷ []))
   FormRule of_nothing = ToNone
-  FormRule (of_one ds) = (d : ℕ) × IsAmong d ds × ToOne d
+  FormRule (of_one ds) = (d : ℕ) × IsOneOf d ds × ToOne d
   FormRule (of_opt d) = ToNone ⊎ ToOne d
   FormRule (of_star d false) = ToNone ⊎ ((k : ℕ) × (i < k) × ToTwo d c k)
   FormRule (of_star d true) = ToNone ⊎ (ToText ⊎ ((k : ℕ) × (i < k) × ToTwo d c k))

@@ -6,7 +6,7 @@ use Rattle.pv_model.specs.Plain.{mixed, name, no_parts, opt, part, plus, seq, st
 use Rattle.pv_dtd.specs.Plain.{IsDeclared, PlainDtd, model_of, parts_in}
 use Rattle.pv_rules.specs.Numbering.{IsMemberAt, first_part, part_at, rest_at}
 use Rattle.pv_rules.specs.Sites.{HasSite, PlainSite, content_site, name_site, part_site, rest_site}
-use Rattle.pv_span.specs.ColumnRules.{IsAmong}
+use Rattle.pv_span.specs.ColumnRules.{IsOneOf}
 use Rattle.pv_span.specs.Forms.{PlainForm, form_at, of_element, of_none, of_nothing, of_one, of_opt}
 use Rattle.pv_span.specs.Forms.{of_plus, of_star, of_two}
 
@@ -35,7 +35,7 @@ column_of m (rest_site q) = column_at m.rests q
 
 -- ds are the columns that the numbers of which P holds have
 pub record AreColumns (P : ℕ → Type 0) (column : ℕ → ℕ) (ds : List ℕ) : Type 0 where
-  pub each : (k : ℕ) → P k → IsAmong (column k) ds
+  pub each : (k : ℕ) → P k → IsOneOf (column k) ds
   pub only : (n d : ℕ) → slice_get ds n ≡ Some d → (k : ℕ) × P k × (d ≡ column k)
 
 -- the members of choice number q

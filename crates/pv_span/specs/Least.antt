@@ -3,7 +3,7 @@ use Rattle.std.specs.Prelude.{Bool, List, Some, slice_get, suc, true, ℕ, ◌+�
 use Rattle.pv_model.specs.Plain.{PlainToken, text}
 use Rattle.pv_rules.specs.Derivations.{sum_of}
 use Rattle.pv_productive.specs.Tables.{no_size}
-use Rattle.pv_span.specs.ColumnRules.{Cell, ColumnRule, IsAmong, cell}
+use Rattle.pv_span.specs.ColumnRules.{Cell, ColumnRule, IsOneOf, cell}
 use Rattle.pv_span.specs.Forms.{PlainForm}
 
 -- k is the least sum of cost and right sides, over the rules of a cell
@@ -22,8 +22,8 @@ pub record IsLeastCut (t : Cell → ℕ) (one two i j low high k : ℕ) : Type 0
 
 -- k is the least value of these columns over a span
 pub record IsLeastMember (t : Cell → ℕ) (ds : List ℕ) (i j k : ℕ) : Type 0 where
-  pub below : (d : ℕ) → IsAmong d ds → k ≤ t (cell d i j)
-  pub attained : k < no_size → (d : ℕ) × IsAmong d ds × (k ≡ t (cell d i j))
+  pub below : (d : ℕ) → IsOneOf d ds → k ≤ t (cell d i j)
+  pub attained : k < no_size → (d : ℕ) × IsOneOf d ds × (k ≡ t (cell d i j))
 
 -- s is the value of a column behind a text, where texts may stand there
 pub record IsTextValue (w : List PlainToken) (t : Cell → ℕ) (c : ℕ) (texts : Bool) (i j s : ℕ) :

@@ -5,7 +5,7 @@ pub mod Making
 pub mod Charts
 pub mod Least
 pub mod Lines
-pub mod Done
+pub mod DoneSpans
 pub mod FormForms
 pub mod SiteForms
 pub mod PlainForms

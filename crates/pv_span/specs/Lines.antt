@@ -23,12 +23,13 @@ abbrev pub IsLine : ℕ → List (List ℕ) → ℕ → ℕ → Line → Type 0
 IsLine n rows i j l = (p : ℕ) → j ≤ p → p ≤ n → p < length l.least.items →
     size_at l.least.items p ≡ least_cut (done_value n rows) l.one l.two i p (j - suc i)
 
-abbrev pub AreLines : ℕ → List (List ℕ) → ℕ → ℕ → List Line → Type 0
-AreLines n rows i j lines = (k : ℕ) (l : Line) → slice_get lines k ≡ Some l → IsLine n rows i j l
+abbrev pub AreSpanLines : ℕ → List (List ℕ) → ℕ → ℕ → List Line → Type 0
+AreSpanLines n rows i j lines = (k : ℕ) (l : Line) → slice_get lines k ≡ Some l →
+    IsLine n rows i j l
 
 -- nothing is known on the line
-abbrev pub IsBlank : Line → Type 0
-IsBlank l = (p : ℕ) → p < length l.least.items → size_at l.least.items p ≡ no_size
+abbrev pub IsBlankLine : Line → Type 0
+IsBlankLine l = (p : ℕ) → p < length l.least.items → size_at l.least.items p ≡ no_size
 
 abbrev pub AreBlank : List Line → Type 0
-AreBlank lines = (k : ℕ) (l : Line) → slice_get lines k ≡ Some l → IsBlank l
+AreBlank lines = (k : ℕ) (l : Line) → slice_get lines k ≡ Some l → IsBlankLine l

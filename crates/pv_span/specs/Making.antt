@@ -13,8 +13,8 @@ abbrev pub IsMade : ℕ → List PlainForm → ℕ → PlainForm → Type 0
 IsMade n forms c f = (n ≤ c) × (c < n + length forms) × (form_at forms (c - n) ≡ f)
 
 -- nothing that was made is lost
-abbrev pub Keeps : ℕ → List PlainForm → List PlainForm → Type 0
-Keeps n old new = (c : ℕ) (f : PlainForm) → IsMade n old c f → IsMade n new c f
+abbrev pub KeepsForms : ℕ → List PlainForm → List PlainForm → Type 0
+KeepsForms n old new = (c : ℕ) (f : PlainForm) → IsMade n old c f → IsMade n new c f
 
 -- the parts of numbers from q on, and the first k contents, have their columns
 pub record AreLaid (g : PlainDtd) (m : PlainSites) (n : ℕ) (forms : List PlainForm) (q k : ℕ) :
@@ -33,8 +33,8 @@ pub record AreLaid (g : PlainDtd) (m : PlainSites) (n : ℕ) (forms : List Plain
       FitsContent g m (IsMade n forms) (column_at m.contents x) x (model_of g x)
 
 -- elements of so many names, round these contents
-abbrev pub elements : List ℕ → ℕ → List PlainForm
-elements contents n = map (λ x. of_element x (column_at contents x)) (range_with_len 0 n)
+abbrev pub element_forms : List ℕ → ℕ → List PlainForm
+element_forms contents n = map (λ x. of_element x (column_at contents x)) (range_with_len 0 n)
 
 -- n names have the columns of their numbers, and nothing else has one
 pub record AreBlankSites (m : PlainSites) (n p : ℕ) : Type 0 where

@@ -2,12 +2,12 @@
 use Rattle.std.specs.Prelude.{◌≡◌}
 pub use Rattle.pv_span.specs.SiteForms.{plain_columns, plain_sites}
 use Rattle.pv_span.specs.Charts.{PlainChart}
-use Rattle.pv_span.specs.Done.{rows_of}
+use Rattle.pv_span.specs.DoneSpans.{rows_done}
 use Rattle.pv_span.specs.declared.charts.Chart.{Chart}
 
 -- the plain form of a chart
 abbrev pub plain_chart : Chart → PlainChart
-plain_chart t = record { tokens = t.tokens; rows = rows_of t.done; row = t.row.items }
+plain_chart t = record { tokens = t.tokens; rows = rows_done t.done; row = t.row.items }
 
 -- only the row at hand may differ
 abbrev pub DiffersInRow : Chart → Chart → Type 0

@@ -2,10 +2,10 @@
 
 ghost use Rattle.std.specs.Prelude.{◌≡◌, ◌<◌, ◌≤◌, ◌^◌, length, suc};
 ghost use Rattle.pv_span.specs.Charts.{span_number, spans_before};
-ghost use Rattle.pv_span.specs.Done.{rows_of};
-ghost use Rattle.pv_span.specs.Lines.{AreLines};
+ghost use Rattle.pv_span.specs.DoneSpans.{rows_done};
+ghost use Rattle.pv_span.specs.Lines.{AreSpanLines};
 
-use crate::done::Done;
+use crate::done::DoneSpans;
 use crate::lines::{Finished, Line, extend_lines, forget_lines};
 use crate::spans::span_number;
 use crate::values::{forget, value_at};
@@ -19,7 +19,7 @@ use std::alloc::Global;
 #[derive(Debug, Drop)]
 pub struct Chart {
     tokens: u32,
-    done: Done,
+    done: DoneSpans,
     pub row: Vec<u32>,
     pub from: u32,
     pub to: u32,
@@ -29,7 +29,7 @@ pub struct Chart {
     pub ghost next: { done.count < done.spans → span_number tokens from to ≡ done.count },
     pub ghost spans: { done.spans ≡ spans_before (suc tokens) },
     pub ghost sized: { length row.items ≡ done.columns },
-    pub ghost lined: { ∥ AreLines tokens (rows_of done) from to lines.items ∥₁ },
+    pub ghost lined: { ∥ AreSpanLines tokens (rows_done done) from to lines.items ∥₁ },
 }
 
 impl Chart {
@@ -57,7 +57,7 @@ impl Chart {
         let mut lines = lines;
         forget_lines(&mut lines);
         let spans = span_number(tokens, 0, tokens) + 1;
-        let done = Done::new(alloc, columns, spans)?;
+        let done = DoneSpans::new(alloc, columns, spans)?;
         let row = vec![in alloc; NO_SIZE; columns as usize]?;
         Ok(Chart {
             tokens,

@@ -12,7 +12,7 @@ use std::alloc::Global;
 /// The values of so many columns over so many spans, of which so many are done from the first one
 /// on.
 #[derive(Debug, Drop)]
-pub struct Done {
+pub struct DoneSpans {
     cells: Vec<u32>,
     columns: u32,
     pub spans: usize,
@@ -39,22 +39,22 @@ fn put_values(cells: &mut [u32], spans: usize, number: usize, values: &[u32])
     }
 }
 
-impl Done {
+impl DoneSpans {
     ghost use Rattle.std.specs.Prelude.{◌≡◌, ◌<◌, ◌≤◌, ◌+◌, ◌^◌, ℕ, IfOk, [], List, ◌++◌, ◌∷◌};
     ghost use Rattle.std.specs.Prelude.{length};
     ghost use Rattle.pv_productive.specs.Tables.{size_at};
     ghost use Rattle.pv_span.specs.Charts.{AreFew};
-    ghost use Rattle.pv_span.specs.Done.{row_of, rows_of};
+    ghost use Rattle.pv_span.specs.DoneSpans.{row_of, rows_done};
 
     /// No span is done, of so many.
-    pub fn new(alloc: Global, columns: u32, spans: usize) -> Result<Done, NoMemory>
+    pub fn new(alloc: Global, columns: u32, spans: usize) -> Result<DoneSpans, NoMemory>
         requires { spans < 2 ^ 27 }
         ensures count { IfOk result (λ done. done.count ≡ 0) }
         ensures spans { IfOk result (λ done. done.spans ≡ spans) }
         ensures columns { IfOk result (λ done. done.columns ≡ columns) }
     {
         let cells = vec![in alloc; NO_SIZE; columns as usize * spans]?;
-        Ok(Done {
+        Ok(DoneSpans {
             cells,
             columns,
             spans,
@@ -92,7 +92,7 @@ impl Done {
         requires room { self.old.count < self.old.spans }
         requires sized { length values.now ≡ self.old.columns }
         requires few { AreFew values.now }
-        ensures rows { rows_of self.new ≡ rows_of self.old ++ (values.now ∷ []) }
+        ensures rows { rows_done self.new ≡ rows_done self.old ++ (values.now ∷ []) }
         ensures count { self.new.count ≡ self.old.count + 1 }
         ensures spans { self.new.spans ≡ self.old.spans }
         ensures columns { self.new.columns ≡ self.old.columns }

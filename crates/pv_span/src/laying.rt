@@ -12,7 +12,7 @@ ghost use Rattle.pv_span.specs.Columns.{AreColumns, FitsContent, FitsPart, FitsR
 ghost use Rattle.pv_span.specs.Columns.{column_at};
 ghost use Rattle.pv_span.specs.FormForms.{plain_all};
 ghost use Rattle.pv_span.specs.Forms.{of_one, of_star};
-ghost use Rattle.pv_span.specs.Making.{AreBlankSites, AreLaid, IsMade, Keeps};
+ghost use Rattle.pv_span.specs.Making.{AreBlankSites, AreLaid, IsMade, KeepsForms};
 ghost use Rattle.pv_span.specs.SiteForms.{plain_sites};
 
 use crate::forms::Form;
@@ -76,7 +76,7 @@ fn column_of_part(
     ensures fits { IfOk result (λ c. FitsPart (dtd_of grammar.now) (plain_sites sites.now)
         (IsMade making.new.names (plain_all making.new.forms.items)) c number
         (part_at (dtd_of grammar.now) number)) }
-    ensures kept { OnOk result (Keeps making.old.names (plain_all making.old.forms.items)
+    ensures kept { OnOk result (KeepsForms making.old.names (plain_all making.old.forms.items)
         (plain_all making.new.forms.items)) }
     ensures names { making.new.names ≡ making.old.names }
 {
@@ -107,7 +107,7 @@ fn column_of_rest(
     ensures fits { IfOk result (λ c. FitsRest (dtd_of grammar.now) (plain_sites sites.now)
         (IsMade making.new.names (plain_all making.new.forms.items)) c number
         (rest_at (dtd_of grammar.now) number)) }
-    ensures kept { OnOk result (Keeps making.old.names (plain_all making.old.forms.items)
+    ensures kept { OnOk result (KeepsForms making.old.names (plain_all making.old.forms.items)
         (plain_all making.new.forms.items)) }
     ensures names { making.new.names ≡ making.old.names }
 {
@@ -152,7 +152,7 @@ fn column_of_mixed(members: Vec<u32>, making: &mut Making) -> Result<u32, NoMemo
     ensures made { IfOk result (λ c. (d : ℕ) ×
         IsMade making.new.names (plain_all making.new.forms.items) c (of_star d true) ×
         IsMade making.new.names (plain_all making.new.forms.items) d (of_one members.items)) }
-    ensures kept { OnOk result (Keeps making.old.names (plain_all making.old.forms.items)
+    ensures kept { OnOk result (KeepsForms making.old.names (plain_all making.old.forms.items)
         (plain_all making.new.forms.items)) }
     ensures names { making.new.names ≡ making.old.names }
 {
@@ -175,7 +175,7 @@ fn column_of_content(
     ensures fits { IfOk result (λ c. FitsContent (dtd_of grammar.now) (plain_sites sites.now)
         (IsMade making.new.names (plain_all making.new.forms.items)) c id.0
         (model_of (dtd_of grammar.now) id.0)) }
-    ensures kept { OnOk result (Keeps making.old.names (plain_all making.old.forms.items)
+    ensures kept { OnOk result (KeepsForms making.old.names (plain_all making.old.forms.items)
         (plain_all making.new.forms.items)) }
     ensures names { making.new.names ≡ making.old.names }
 {

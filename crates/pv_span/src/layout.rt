@@ -5,7 +5,7 @@ ghost use Rattle.pv_dtd.specs.Plain.{parts_in_models};
 ghost use Rattle.pv_productive.specs.PlainForms.{dtd_of};
 ghost use Rattle.pv_span.specs.Columns.{AreFit, no_column};
 ghost use Rattle.pv_span.specs.FormForms.{plain_all};
-ghost use Rattle.pv_span.specs.Making.{AreLaid, elements};
+ghost use Rattle.pv_span.specs.Making.{AreLaid, element_forms};
 ghost use Rattle.pv_span.specs.SiteForms.{plain_sites};
 
 use crate::forms::Form;
@@ -20,7 +20,7 @@ use std::alloc::Global;
 /// A grammar with its columns, laid out once for all words: which one each site has, and what
 /// stands in each.
 #[derive(Debug, Drop)]
-pub struct Layout<'a> {
+pub struct ColumnLayout<'a> {
     /// The grammar.
     pub grammar: &'a Grammar,
     pub(crate) sites: Sites,
@@ -75,7 +75,7 @@ fn all_forms(
     made: Vec<Form>,
 ) -> Result<Vec<Form>, NoMemory>
     ensures { IfOk result (λ forms. plain_all forms.items ≡
-        elements contents.now names ++ plain_all made.items) }
+        element_forms contents.now names ++ plain_all made.items) }
 {
     let mut made = made;
     let mut forms = Vec::new(alloc);
@@ -88,7 +88,7 @@ fn all_forms(
 }
 
 /// A grammar with its columns. Sites that stand for the same words get one.
-pub fn lay_out(alloc: Global, grammar: &Grammar) -> Result<Layout<'_>, NoMemory>
+pub fn lay_out(alloc: Global, grammar: &Grammar) -> Result<ColumnLayout<'_>, NoMemory>
     ensures { IfOk result (λ layout. layout.grammar.now ≡ grammar.now) }
 {
     let (names, parts) = (grammar.dtd().names(), grammar.dtd().parts());
@@ -97,7 +97,7 @@ pub fn lay_out(alloc: Global, grammar: &Grammar) -> Result<Layout<'_>, NoMemory>
     lay_parts(alloc, grammar, &mut sites, &mut making)?;
     lay_contents(alloc, grammar, &mut sites, &mut making)?;
     let forms = all_forms(alloc, names, &sites.contents, making.forms)?;
-    Ok(Layout {
+    Ok(ColumnLayout {
         grammar,
         sites,
         forms,

@@ -33,7 +33,7 @@ mod verdict;
 mod weighing;
 
 pub use errors::SpanError;
-pub use layout::{Layout, lay_out};
+pub use layout::{ColumnLayout, lay_out};
 pub use membership::member;
 pub use owners::ListOwner;
 pub use pv_tables::{Entries, Entry, Table, Tables};

@@ -5,10 +5,10 @@ ghost use Rattle.std.specs.Prelude.{◌≡◌, ◌≤◌, ◌<◌, ◌+◌, ◌-
 ghost use Rattle.pv_productive.specs.Tables.{no_size, size_at};
 ghost use Rattle.pv_span.specs.Charts.{AreFew, span_number};
 ghost use Rattle.pv_span.specs.ColumnRules.{cell};
-ghost use Rattle.pv_span.specs.Done.{rows_of};
-ghost use Rattle.pv_span.specs.Lines.{AreBlank, AreLines, IsBlank, IsLine, done_value};
+ghost use Rattle.pv_span.specs.DoneSpans.{rows_done};
+ghost use Rattle.pv_span.specs.Lines.{AreBlank, AreSpanLines, IsBlankLine, IsLine, done_value};
 
-use crate::done::Done;
+use crate::done::DoneSpans;
 use crate::spans::span_number;
 use pv_productive::NO_SIZE;
 
@@ -24,7 +24,7 @@ pub struct Line {
 /// The values over the spans that are done, one of which goes from `from` up to `to`.
 #[derive(Clone, Copy)]
 pub struct Finished<'a> {
-    pub done: &'a Done,
+    pub done: &'a DoneSpans,
     pub tokens: u32,
     pub from: u32,
     pub to: u32,
@@ -36,12 +36,12 @@ pub struct Finished<'a> {
 impl Finished<'_> {
     ghost use Rattle.std.specs.Prelude.{◌≡◌};
     ghost use Rattle.pv_span.specs.ColumnRules.{cell};
-    ghost use Rattle.pv_span.specs.Done.{rows_of};
+    ghost use Rattle.pv_span.specs.DoneSpans.{rows_done};
     ghost use Rattle.pv_span.specs.Lines.{done_value};
 
     /// The value of a column over this span.
     fn value(&self, column: u32) -> u32
-        ensures { result ≡ done_value self.now.tokens (rows_of self.now.done.now)
+        ensures { result ≡ done_value self.now.tokens (rows_done self.now.done.now)
             (cell column self.now.from self.now.to) }
     {
         self.done
@@ -77,7 +77,7 @@ fn add_cut(last: &Finished<'_>, line: &mut Line, before: u32)
     ensures each { (p : ℕ) → last.now.to < p → p ≤ last.now.tokens →
         p < length line.old.least.items → size_at line.new.least.items p ≡
         min (size_at line.old.least.items p) (before + done_value last.now.tokens
-        (rows_of last.now.done.now) (cell line.old.two last.now.to p)) }
+        (rows_done last.now.done.now) (cell line.old.two last.now.to p)) }
 {
     let first = last.to as usize;
     let end = line.least.len().min(last.tokens as usize + 1);
@@ -90,9 +90,9 @@ fn add_cut(last: &Finished<'_>, line: &mut Line, before: u32)
 
 /// Takes in the cut at the last place of a span that is done, as all spans behind it are.
 fn extend_line(last: &Finished<'_>, line: &mut Line)
-    requires { IsLine last.now.tokens (rows_of last.now.done.now) last.now.from last.now.to
+    requires { IsLine last.now.tokens (rows_done last.now.done.now) last.now.from last.now.to
         line.old }
-    ensures { IsLine last.now.tokens (rows_of last.now.done.now) last.now.from (suc last.now.to)
+    ensures { IsLine last.now.tokens (rows_done last.now.done.now) last.now.from (suc last.now.to)
         line.new }
 {
     if last.from >= last.to || last.to as usize >= line.least.len() {
@@ -106,9 +106,9 @@ fn extend_line(last: &Finished<'_>, line: &mut Line)
 
 /// The same on all lines.
 pub fn extend_lines(last: &Finished<'_>, lines: &mut [Line])
-    requires { AreLines last.now.tokens (rows_of last.now.done.now) last.now.from last.now.to
+    requires { AreSpanLines last.now.tokens (rows_done last.now.done.now) last.now.from last.now.to
         lines.old }
-    ensures { AreLines last.now.tokens (rows_of last.now.done.now) last.now.from
+    ensures { AreSpanLines last.now.tokens (rows_done last.now.done.now) last.now.from
         (suc last.now.to) lines.new }
 {
     for number in 0..lines.len() {
@@ -118,7 +118,7 @@ pub fn extend_lines(last: &Finished<'_>, lines: &mut [Line])
 
 /// Forgets what is known on a line.
 fn forget_line(line: &mut Line)
-    ensures { IsBlank line.new }
+    ensures { IsBlankLine line.new }
 {
     for place in 0..line.least.len() {
         line.least[place] = NO_SIZE;

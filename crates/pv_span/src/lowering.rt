@@ -2,8 +2,8 @@
 
 ghost use Rattle.std.specs.Prelude.{◌≡◌, ◌≤◌, ◌<◌, length, map};
 ghost use Rattle.pv_model.specs.PlainForms.{plain_token};
-ghost use Rattle.pv_productive.specs.Tables.{cut};
-ghost use Rattle.pv_span.specs.Charts.{AreSettled, AreSettledFrom, IsAttained, IsSettling};
+ghost use Rattle.pv_productive.specs.Tables.{capped};
+ghost use Rattle.pv_span.specs.Charts.{AreSettled, AreSettledFrom, IsAttainedChart, IsSettling};
 ghost use Rattle.pv_span.specs.Charts.{IsSettledAt};
 ghost use Rattle.pv_span.specs.ColumnRules.{cell};
 ghost use Rattle.pv_span.specs.FormForms.{plain_all};
@@ -19,7 +19,7 @@ use pv_rules::HEAVIEST;
 
 /// A sum of values, cut.
 fn cut(sum: u64) -> u32
-    ensures { result ≡ cut sum }
+    ensures { result ≡ capped sum }
 {
     if sum < u64::from(HEAVIEST) {
         sum as u32
@@ -33,7 +33,8 @@ fn cut(sum: u64) -> u32
 /// Lowers the value of a column where the rules give less, and tells whether they do.
 #[inline(always)]
 fn lower_column(forms: &[Form], word: &[Token], number: u32, chart: &mut Chart) -> bool
-    requires attained { IsAttained (plain_all forms.now) (map plain_token word.now) chart.old.from
+    requires attained { IsAttainedChart (plain_all forms.now) (map plain_token word.now)
+        chart.old.from
         chart.old.to (plain_chart chart.old) }
     requires number { number < length forms.now }
     ensures settling { IsSettling (plain_all forms.now) (map plain_token word.now) chart.old.from
@@ -48,7 +49,8 @@ fn lower_column(forms: &[Form], word: &[Token], number: u32, chart: &mut Chart) 
 
 /// The same for the columns of numbers from `first` up to `end`, each once.
 fn lower_some(forms: &[Form], word: &[Token], first: usize, end: usize, chart: &mut Chart) -> bool
-    requires attained { IsAttained (plain_all forms.now) (map plain_token word.now) chart.old.from
+    requires attained { IsAttainedChart (plain_all forms.now) (map plain_token word.now)
+        chart.old.from
         chart.old.to (plain_chart chart.old) }
     requires end { end ≤ length forms.now }
     ensures settling { IsSettling (plain_all forms.now) (map plain_token word.now) chart.old.from
@@ -68,7 +70,7 @@ fn lower_some(forms: &[Form], word: &[Token], first: usize, end: usize, chart: &
 /// The same for all columns. The first ones, of names, come last: what stands in the others, and
 /// within them, was made before them, so that few rounds are needed.
 fn lower_all(forms: &[Form], names: u32, word: &[Token], chart: &mut Chart) -> bool
-    requires { IsAttained (plain_all forms.now) (map plain_token word.now) chart.old.from
+    requires { IsAttainedChart (plain_all forms.now) (map plain_token word.now) chart.old.from
         chart.old.to (plain_chart chart.old) }
     ensures settling { IsSettling (plain_all forms.now) (map plain_token word.now) chart.old.from
         chart.old.to (AreSettled (plain_all forms.now) (map plain_token word.now) chart.old.from
@@ -85,9 +87,10 @@ fn lower_all(forms: &[Form], names: u32, word: &[Token], chart: &mut Chart) -> b
 /// Lowers the values over the span at hand until the rules lower none. So many columns, the first
 /// ones, are of names.
 pub fn settle(forms: &[Form], names: u32, word: &[Token], chart: &mut Chart)
-    requires { IsAttained (plain_all forms.now) (map plain_token word.now) chart.old.from
+    requires { IsAttainedChart (plain_all forms.now) (map plain_token word.now) chart.old.from
         chart.old.to (plain_chart chart.old) }
-    ensures attained { IsAttained (plain_all forms.now) (map plain_token word.now) chart.new.from
+    ensures attained { IsAttainedChart (plain_all forms.now) (map plain_token word.now)
+        chart.new.from
         chart.new.to (plain_chart chart.new) }
     ensures settled { AreSettled (plain_all forms.now) (map plain_token word.now) chart.new.from
         chart.new.to (length forms.now) (plain_chart chart.new) }

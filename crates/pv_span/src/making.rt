@@ -21,7 +21,7 @@ pub struct Making {
     pub ghost few: { names + length forms.items ≤ 4294967295 },
 }
 
-fn mixed(hash: u32, number: u32) -> u32 {
+fn mix_in(hash: u32, number: u32) -> u32 {
     hash.wrapping_mul(40_503)
         .wrapping_add(number.wrapping_mul(9_973))
 }
@@ -29,7 +29,7 @@ fn mixed(hash: u32, number: u32) -> u32 {
 fn hash_of_all(columns: &[u32]) -> u32 {
     let mut hash = 1;
     for column in columns.iter() {
-        hash = mixed(hash, *column);
+        hash = mix_in(hash, *column);
     }
     hash
 }
@@ -38,13 +38,13 @@ fn hash_of_all(columns: &[u32]) -> u32 {
 fn hash_of(form: &Form) -> u32 {
     match form {
         Form::Never => 0,
-        Form::Element(id, column) => mixed(id.0, *column),
+        Form::Element(id, column) => mix_in(id.0, *column),
         Form::Nothing => 2,
         Form::OneOf(columns) => hash_of_all(columns),
-        Form::Opt(column) => mixed(3, *column),
-        Form::Star(column, texts) => mixed(if *texts { 4 } else { 5 }, *column),
-        Form::Plus(column) => mixed(6, *column),
-        Form::Then(one, two) => mixed(mixed(7, *one), *two),
+        Form::Opt(column) => mix_in(3, *column),
+        Form::Star(column, texts) => mix_in(if *texts { 4 } else { 5 }, *column),
+        Form::Plus(column) => mix_in(6, *column),
+        Form::Then(one, two) => mix_in(mix_in(7, *one), *two),
     }
 }
 
@@ -64,7 +64,7 @@ fn is_same(form: &Form, other: &Form) -> bool
 impl Making {
     ghost use Rattle.std.specs.Prelude.{◌≡◌, IfOk, IfSome, OnOk, [], length};
     ghost use Rattle.pv_span.specs.FormForms.{plain_all, plain_form};
-    ghost use Rattle.pv_span.specs.Making.{IsMade, Keeps};
+    ghost use Rattle.pv_span.specs.Making.{IsMade, KeepsForms};
 
     /// No column but those of so many names.
     pub fn new(alloc: Global, names: u32) -> Result<Making, NoMemory>
@@ -99,7 +99,7 @@ impl Making {
     pub fn column(&mut self, form: Form) -> Result<u32, NoMemory>
         ensures made { IfOk result (λ c. IsMade self.new.names (plain_all self.new.forms.items) c
             (plain_form form)) }
-        ensures kept { OnOk result (Keeps self.old.names (plain_all self.old.forms.items)
+        ensures kept { OnOk result (KeepsForms self.old.names (plain_all self.old.forms.items)
             (plain_all self.new.forms.items)) }
         ensures names { self.new.names ≡ self.old.names }
     {

@@ -4,7 +4,7 @@ ghost use Rattle.pv_rules.specs.Sites.{HasSite};
 ghost use Rattle.pv_productive.specs.PlainForms.{dtd_of};
 ghost use Rattle.pv_missing.specs.PlainForms.{plain_of};
 
-use crate::layout::Layout;
+use crate::layout::ColumnLayout;
 use pv_missing::Of;
 use pv_rules::Site;
 
@@ -12,7 +12,7 @@ use pv_rules::Site;
 #[derive(Clone, Copy)]
 pub struct ListOwner<'a> {
     /// The grammar, laid out.
-    pub layout: &'a Layout<'a>,
+    pub layout: &'a ColumnLayout<'a>,
     /// The owner.
     pub of: Of,
     pub ghost has: { ∥ HasSite (dtd_of layout.now.grammar.now) (plain_of of) ∥₁ },

@@ -13,7 +13,7 @@ ghost use Rattle.pv_span.specs.declared.errors.SpanError.TheVariants.{TooWide as
 use crate::charts::Chart;
 use crate::errors::SpanError;
 use crate::fill::chart_of;
-use crate::layout::{Layout, lay_out};
+use crate::layout::{ColumnLayout, lay_out};
 use crate::sites::SiteColumns;
 use pv_chars::NoMemory;
 use pv_missing::is_narrow_for_weights;
@@ -59,7 +59,7 @@ pub(crate) fn is_narrow(grammar: &Grammar, tokens: usize) -> bool
 /// lets a word have 8,192 tokens.
 pub(crate) fn spans_by<'a>(
     alloc: Global,
-    layout: &'a Layout<'_>,
+    layout: &'a ColumnLayout<'_>,
     word: &[Token],
 ) -> Result<Spans<'a>, NoMemory>
     requires fits { FitsWeights (dtd_of layout.now.grammar.now) (length word.now) }
@@ -82,7 +82,7 @@ pub(crate) fn spans_by<'a>(
 /// each span of the word; sites that stand for the same words share a column.
 pub fn weights_by<'a>(
     alloc: Global,
-    layout: &'a Layout<'_>,
+    layout: &'a ColumnLayout<'_>,
     word: &[Token],
 ) -> Result<Spans<'a>, SpanError>
     requires productive { AreProductiveTokens (dtd_of layout.now.grammar.now)

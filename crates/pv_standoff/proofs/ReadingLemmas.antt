@@ -7,8 +7,8 @@ use Rattle.pv_chars.specs.Names.{is_name}
 use Rattle.pv_chars.proofs.NameLemmas.{is_name-IsName, IsName-is_name}
 use Rattle.pv_script.specs.Edits.{MAX_NUMBER}
 use Rattle.pv_script.specs.Lines.{HasNoFeed, lines_of, without_returns}
-use Rattle.pv_script.specs.Reading.{first_word, number_of}
-use Rattle.pv_script.proofs.Numbers.{decimal-free, number_of-decimal, number-word}
+use Rattle.pv_script.specs.Reading.{first_word, number_spelled}
+use Rattle.pv_script.proofs.Numbers.{decimal-free, number_spelled-decimal, number-word}
 use Rattle.pv_script.proofs.Words.{Free, ends-free, none-free, first_word-free, first_word-none, first_word-whole}
 use Rattle.pv_script.proofs.RawLines.{ends_line, raw_lines_of-part}
 use Rattle.pv_standoff.specs.Laws.{OneReading}
@@ -37,14 +37,14 @@ no_word bytes none = rw (first_word-none bytes (none-free 32 bytes none)) refl
 word_found : (bytes word rest : List ℕ) → EndsAt (32 ∷ []) bytes word rest → first_word bytes ≡ Some (word, rest)
 word_found bytes word rest e = ap first_word e.whole ∙ first_word-free word rest (ends-free 32 word rest bytes e)
 
-pub no_number : (bytes word rest : List ℕ) → EndsAt (32 ∷ []) bytes word rest → number_of word ≡ None → number_at bytes ≡ None
+pub no_number : (bytes word rest : List ℕ) → EndsAt (32 ∷ []) bytes word rest → number_spelled word ≡ None → number_at bytes ≡ None
 no_number bytes word rest e n = rw (word_found bytes word rest e, n) refl
 
-pub number_found : (bytes word rest : List ℕ) (n : ℕ) → EndsAt (32 ∷ []) bytes word rest → number_of word ≡ Some n → number_at bytes ≡ Some (n, rest)
+pub number_found : (bytes word rest : List ℕ) (n : ℕ) → EndsAt (32 ∷ []) bytes word rest → number_spelled word ≡ Some n → number_at bytes ≡ Some (n, rest)
 number_found bytes word rest n e k = rw (word_found bytes word rest e, k) refl
 
 pub number_at-written : (n : ℕ) (rest : List ℕ) → n ≤ MAX_NUMBER → number_at (decimal n ++ (32 ∷ rest)) ≡ Some (n, rest)
-number_at-written n rest within = rw (first_word-free (decimal n) rest (decimal-free 32 n (omega arith) within), number_of-decimal n within) refl
+number_at-written n rest within = rw (first_word-free (decimal n) rest (decimal-free 32 n (omega arith) within), number_spelled-decimal n within) refl
 
 -- the bytes are a number, a blank and what stands behind it
 pub record IsNumberAt (bytes : List ℕ) (n : ℕ) (rest : List ℕ) : Type 0 where
@@ -61,8 +61,8 @@ map_some (Some a) f b e = (a, refl, cc)
 
 pub number_at-read : (bytes : List ℕ) (n : ℕ) (rest : List ℕ) → number_at bytes ≡ Some (n, rest) → IsNumberAt bytes n rest
 number_at-read bytes n rest e =
-    let s = on_some (first_word bytes) (λ cut. option_map (λ m. (m, cut.1)) (number_of cut.0)) (n, rest) e in
-    let m = map_some (number_of (s.0).0) (λ k. (k, (s.0).1)) (n, rest) s.2 in
+    let s = on_some (first_word bytes) (λ cut. option_map (λ m. (m, cut.1)) (number_spelled cut.0)) (n, rest) e in
+    let m = map_some (number_spelled (s.0).0) (λ k. (k, (s.0).1)) (n, rest) s.2 in
     let w = first_word-whole bytes (s.0).0 (s.0).1 s.1 in
     let d = number-word (s.0).0 m.0 m.1 in
     let k : m.0 ≡ n = ap (λ (p : ℕ × List ℕ). p.0) m.2 in

@@ -4,7 +4,7 @@ use Rattle.std.specs.Prelude.{codes}
 use Rattle.std.proofs.lemmas.Bool.{true≢false, false_from_ne_true}
 use Rattle.std.proofs.lemmas.List.{take-append-drop, take_at, length-take-le}
 use Rattle.pv_chars.specs.Texts.{joined, begins_close_mark, holds_close_mark}
-use Rattle.pv_chars.specs.Units.{AllUnits, BeginsUnit, TextMeans, TextRestMeans, ends, unit, fault, cut, units_in}
+use Rattle.pv_chars.specs.Units.{AllUnits, BeginsUnit, TextMeans, TextRestMeans, ends, unit, fault, cut_units, units_in}
 use Rattle.pv_chars.specs.Utf8.{continues}
 use Rattle.pv_chars.specs.declared.errors.TextError.{TextError}
 use Rattle.pv_chars.proofs.CloseMarks.{held_by_units, held_by_bytes, begins_bytes, units_some}
@@ -15,12 +15,12 @@ use Rattle.pv_standoff.specs.Texts.{SpellsUnits}
 
 -- ---- where units begin
 abbrev is_cut_so : Bool → List ℕ → Type 0
-is_cut_so s bytes = (cut s bytes).0 ++ joined (cut s bytes).1 ≡ bytes
+is_cut_so s bytes = (cut_units s bytes).0 ++ joined (cut_units s bytes).1 ≡ bytes
 
-joined-cut : (s : Bool) (bytes : List ℕ) → is_cut_so s bytes
-joined-cut s [] = refl
-joined-cut true (b ∷ bs) = ap (λ l. b ∷ l) (joined-cut (not (b == 59)) bs)
-joined-cut false (b ∷ bs) = by (continues b) refl (joined-cut false bs) (joined-cut (b == 38) bs)
+joined-cut_units : (s : Bool) (bytes : List ℕ) → is_cut_so s bytes
+joined-cut_units s [] = refl
+joined-cut_units true (b ∷ bs) = ap (λ l. b ∷ l) (joined-cut_units (not (b == 59)) bs)
+joined-cut_units false (b ∷ bs) = by (continues b) refl (joined-cut_units false bs) (joined-cut_units (b == 38) bs)
   where
     by : (c : Bool) → continues b ≡ c → is_cut_so false bs → is_cut_so (b == 38) bs → is_cut_so false (b ∷ bs)
     by true e on anew = rw e (ap (λ l. b ∷ l) on)
@@ -28,7 +28,7 @@ joined-cut false (b ∷ bs) = by (continues b) refl (joined-cut false bs) (joine
 
 -- behind so many units the reader stands, in a reference or not
 abbrev pub IsBehind : List ℕ → Bool → List ℕ → ℕ → Type 0
-IsBehind bytes s rest n = (cut s rest).1 ≡ drop n (units_in bytes)
+IsBehind bytes s rest n = (cut_units s rest).1 ≡ drop n (units_in bytes)
 
 pub behind-start : (bytes : List ℕ) → IsBehind bytes false bytes 0
 unfolding units_in
@@ -47,12 +47,12 @@ drop-next (u ∷ us) vs v zero e = let t : vs ≡ us = cc in t
 drop-next (u ∷ us) vs v (suc n) e = let below = drop-next us vs v n e in let k : suc (n + 1) ≡ suc n + 1 = omega arith in below ∙ ap (λ m. drop m (u ∷ us)) k
 
 pub behind-begun : (bytes bs : List ℕ) (b n : ℕ) → continues b ≡ false → IsBehind bytes false (b ∷ bs) n → IsBehind bytes (b == 38) bs (n + 1)
-behind-begun bytes bs b n c h = let h' = rw c at h in drop-next (units_in bytes) (cut (b == 38) bs).1 (b ∷ (cut (b == 38) bs).0) n h'
+behind-begun bytes bs b n c h = let h' = rw c at h in drop-next (units_in bytes) (cut_units (b == 38) bs).1 (b ∷ (cut_units (b == 38) bs).0) n h'
 
 -- a unit begins here
 pub behind-here : (bytes bs : List ℕ) (b n : ℕ) → continues b ≡ false → IsBehind bytes false (b ∷ bs) n → b ∷ bs ≡ joined (drop n (units_in bytes))
 behind-here bytes bs b n c h =
-    let w = joined-cut false (b ∷ bs) in
+    let w = joined-cut_units false (b ∷ bs) in
     let front = rw c at w in
     let h' = rw c at h in
     sym front ∙ ap joined h'

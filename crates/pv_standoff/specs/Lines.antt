@@ -4,7 +4,7 @@ use Rattle.std.specs.Prelude.{None, Result, Ok, Err, option_and_then, option_map
 use Rattle.pv_chars.specs.Names.{IsName, is_name}
 use Rattle.pv_script.specs.Edits.{AreNumbers}
 use Rattle.pv_script.specs.Lines.{lines_of}
-use Rattle.pv_script.specs.Reading.{first_word, number_of}
+use Rattle.pv_script.specs.Reading.{first_word, number_spelled}
 use Rattle.pv_script.specs.Words.{words}
 use Rattle.pv_standoff.specs.Ranges.{MAX_RANGES}
 use Rattle.pv_standoff.specs.declared.errors.RangesError.{RangesError}
@@ -62,7 +62,7 @@ RangesMean bytes (Err NoMemory) = ⊥
 -- a line read from the left: the number before the first blank, and what stands behind the blank
 abbrev pub number_at : List ℕ → Option (ℕ × List ℕ)
 number_at bytes =
-    option_and_then (λ cut. option_map (λ n. (n, cut.1)) (number_of cut.0)) (first_word bytes)
+    option_and_then (λ cut. option_map (λ n. (n, cut.1)) (number_spelled cut.0)) (first_word bytes)
 
 -- the range of these numbers, if this is a Name
 abbrev pub range_with : ℕ → ℕ → ℕ → List ℕ → Option Range

@@ -7,7 +7,7 @@ use Rattle.pv_tree.specs.declared.nodes.Mark.{Mark}
 use Rattle.pv_read.specs.Items.{start_tag, end_tag, BeginsItem}
 use Rattle.pv_read.specs.Left.{Left, in_prolog, in_content, in_epilog, joined_to, just_opened, closed_element}
 use Rattle.pv_read.specs.Limits.{IsDeepest}
-use Rattle.pv_read.specs.Places.{place_of, content, open_at}
+use Rattle.pv_read.specs.Places.{place_reached, content, open_at}
 use Rattle.pv_read.specs.Steps.{TakesItem}
 use Rattle.pv_read.proofs.NextItems.{takes}
 use Rattle.pv_read.proofs.OneItem.{one_item}
@@ -22,7 +22,7 @@ end_tag_begins name rest more named whole = record {
   ends_well = tt;
 }
 
-pub end_tag_taken : (most : Option ℕ) (root rest more name : List ℕ) (many : ℕ) (left : Left Mark) → place_of left ≡ content name many → IsName name → rest ≡ codes "</" ++ (name ++ (codes ">" ++ more))
+pub end_tag_taken : (most : Option ℕ) (root rest more name : List ℕ) (many : ℕ) (left : Left Mark) → place_reached left ≡ content name many → IsName name → rest ≡ codes "</" ++ (name ++ (codes ">" ++ more))
     → TakesItem most blank_mark root left rest (end_tag name []) more
 end_tag_taken most root rest more name many (in_prolog stage before) at named whole = absurd cc
 end_tag_taken most root rest more name many (in_content before inner outer) at named whole =
@@ -41,7 +41,7 @@ start_tag_begins name rest more named whole = record {
   ends_well = tt;
 }
 
-pub start_tag_taken : (most : Option ℕ) (root rest more around name : List ℕ) (many : ℕ) (left : Left Mark) → place_of left ≡ content around many → IsName name → (IsDeepest most many → ⊥)
+pub start_tag_taken : (most : Option ℕ) (root rest more around name : List ℕ) (many : ℕ) (left : Left Mark) → place_reached left ≡ content around many → IsName name → (IsDeepest most many → ⊥)
     → rest ≡ codes "<" ++ (name ++ (codes ">" ++ more)) → TakesItem most blank_mark root left rest (start_tag name []) more
 start_tag_taken most root rest more around name many (in_prolog stage before) at named shallow whole = absurd cc
 start_tag_taken most root rest more around name many (in_content before inner outer) at named shallow whole =

@@ -8,7 +8,7 @@ use Rattle.pv_tree.specs.Plain.{text_node}
 use Rattle.pv_tree.specs.declared.nodes.Mark.{Mark}
 use Rattle.pv_read.specs.Items.{text_run, IsRunEnd, BeginsItem}
 use Rattle.pv_read.specs.Left.{Left, in_prolog, in_content, in_epilog, with_kid}
-use Rattle.pv_read.specs.Places.{place_of, content}
+use Rattle.pv_read.specs.Places.{place_reached, content}
 use Rattle.pv_read.specs.Steps.{TakesItem}
 use Rattle.pv_read.proofs.NextItems.{takes}
 use Rattle.pv_read.proofs.OneItem.{one_item}
@@ -27,7 +27,7 @@ simple_begins bytes run rest whole end some simple =
 no_empty : false ≡ true → ⊥
 no_empty e = cc
 
-pub run_taken : (most : Option ℕ) (root rest run more name : List ℕ) (many : ℕ) (left : Left Mark) → place_of left ≡ content name many → BeginsKnownRun rest run more → TakesItem most blank_mark root left rest (text_run run) more
+pub run_taken : (most : Option ℕ) (root rest run more name : List ℕ) (many : ℕ) (left : Left Mark) → place_reached left ≡ content name many → BeginsKnownRun rest run more → TakesItem most blank_mark root left rest (text_run run) more
 run_taken most root rest run more name many (in_prolog stage before) at r = absurd cc
 run_taken most root rest run more name many (in_content before inner outer) at r =
     takes one_item most blank_mark root (in_content before inner outer) rest (λ h. no_empty h.0) (text_run run) more r.begins

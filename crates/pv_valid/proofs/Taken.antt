@@ -7,20 +7,20 @@ use Rattle.pv_read.specs.Errors.{Refuses}
 use Rattle.pv_read.specs.Items.{Item}
 use Rattle.pv_read.specs.Left.{Open, in_content, in_epilog, just_opened}
 use Rattle.pv_read.specs.Meaning.{DocumentRestMeans}
-use Rattle.pv_read.specs.Places.{content, place_of, may_stand_in_content}
+use Rattle.pv_read.specs.Places.{content, place_reached, may_stand_in_content}
 use Rattle.pv_read.specs.Steps.{TakesItem}
 use Rattle.pv_read.specs.declared.errors.DocError.{DocError}
 use Rattle.pv_read.proofs.Prologs.{same_some, takes_leads}
 use Rattle.pv_read.proofs.Refusing.{Refuses-weaker}
-use Rattle.pv_valid.specs.OpenLists.{HasRead, HasRoom, MOST_KIDS}
-use Rattle.pv_valid.specs.Contents.{TakesInto, ReadsContent, ReadsRoot}
+use Rattle.pv_valid.specs.OpenLists.{HasRead, MayGrow, MOST_KIDS}
+use Rattle.pv_valid.specs.Contents.{TakesInto, ReadsJudgedContent, ReadsRoot}
 use Rattle.pv_valid.specs.declared.open.OpenLists.{OpenLists}
 use Rattle.pv_valid.proofs.Stack.{inner_name, outer_length, has_room}
 use Rattle.pv_valid.proofs.Behind.{may_stand}
 
 -- where the next item stands
 pub place_is : (g : PlainDtd) (root : List ℕ) (lists : OpenLists) (inner : Open Mark) (outer : List (Open Mark)) → HasRead g root lists inner outer → (before : List ℕ) (many : ℕ) → many ≡ suc (length lists.outer.items)
-    → place_of (in_content before inner outer) ≡ content lists.inner.name.now many
+    → place_reached (in_content before inner outer) ≡ content lists.inner.name.now many
 place_is g root lists inner outer r before many is =
     let name : inner.name ≡ lists.inner.name.now = sym (inner_name g root lists inner outer r) in
     let count : suc (length outer) ≡ many = sym (is ∙ ap suc (outer_length g root lists inner outer r)) in
@@ -29,8 +29,8 @@ place_is g root lists inner outer r before many is =
 pub item_stands : {most : Option ℕ} {root rest more before : List ℕ} {inner : Open Mark} {outer : List (Open Mark)} {i : Item} → TakesItem most blank_mark root (in_content before inner outer) rest i more → may_stand_in_content i ≡ true
 item_stands {before = before} {inner = inner} {outer = outer} {i = i} t = may_stand before inner outer i t.next t.stands
 
-module _ {most : Option ℕ} {g : PlainDtd} {root name attrs bytes : List ℕ} {first : ℕ} {lists : OpenLists} {rest : List ℕ} {count : ℕ} (r : ReadsContent most g root name attrs bytes first lists rest count) where
-  pub room : first + length bytes < MOST_KIDS → HasRoom lists
+module _ {most : Option ℕ} {g : PlainDtd} {root name attrs bytes : List ℕ} {first : ℕ} {lists : OpenLists} {rest : List ℕ} {count : ℕ} (r : ReadsJudgedContent most g root name attrs bytes first lists rest count) where
+  pub room : first + length bytes < MOST_KIDS → MayGrow lists
   room less = has_room g root lists r.inner r.outer r.has_read (omega (arith, r.few, r.few_kids))
 
   pub refused_at : (e : DocError) → ((before : List ℕ) (inner : Open Mark) (outer : List (Open Mark)) → HasRead g root lists inner outer → Refuses (DocumentRestMeans most blank_mark root count (in_content before inner outer) rest) e)
@@ -38,7 +38,7 @@ module _ {most : Option ℕ} {g : PlainDtd} {root name attrs bytes : List ℕ} {
   refused_at e refuses before = Refuses-weaker _ _ (r.leads before) e (refuses before r.inner r.outer r.has_read)
 
   module _ (new : OpenLists) (more : List ℕ) (less : length more < length rest) (next : ℕ) (next_is : next ≡ count + 1) where
-    pub one_more : TakesInto most g root new false r.inner r.outer rest more → ReadsContent most g root name attrs bytes first new more next
+    pub one_more : TakesInto most g root new false r.inner r.outer rest more → ReadsJudgedContent most g root name attrs bytes first new more next
     one_more t =
         let count_is : next ≡ suc count = omega arith in
         record {
@@ -66,5 +66,5 @@ module _ {most : Option ℕ} {g : PlainDtd} {root name attrs bytes : List ℕ} {
               r.leads before o (takes_leads count taken o (subst (λ l. DocumentRestMeans most blank_mark root (suc count) l more o) left_is (subst (λ k. DocumentRestMeans most blank_mark root k (in_epilog before t.is_behind.tree []) more o) count_is means)));
         }
 
-pub none_read : (most : Option ℕ) (g : PlainDtd) (root name attrs bytes : List ℕ) (first : ℕ) (lists : OpenLists) → HasRead g root lists (just_opened name attrs) [] → ReadsContent most g root name attrs bytes first lists bytes first
+pub none_read : (most : Option ℕ) (g : PlainDtd) (root name attrs bytes : List ℕ) (first : ℕ) (lists : OpenLists) → HasRead g root lists (just_opened name attrs) [] → ReadsJudgedContent most g root name attrs bytes first lists bytes first
 none_read most g root name attrs bytes first lists r = record { inner = just_opened name attrs; outer = []; has_read = r; few_kids = omega arith; few = omega arith; leads = λ before o means. means }

@@ -9,7 +9,7 @@ use Rattle.pv_read.specs.Items.{Item}
 use Rattle.pv_read.specs.Limits.{TextLimits}
 use Rattle.pv_read.specs.Left.{Open, in_content, in_epilog, just_opened, left_by}
 use Rattle.pv_read.specs.Prologs.{behind_tag}
-use Rattle.pv_read.specs.Steps.{Leads, TakesItem}
+use Rattle.pv_read.specs.Steps.{LeadsBehind, TakesItem}
 use Rattle.pv_valid.specs.WholeLists.{kids_in}
 use Rattle.pv_valid.specs.OpenLists.{HasRead, HasRoot}
 use Rattle.pv_valid.specs.declared.open.OpenLists.{OpenLists}
@@ -48,7 +48,7 @@ pub record TakesInto (most : Option ℕ) (g : PlainDtd) (root : List ℕ) (lists
   pub is_behind : IsBehind g root lists whole inner outer item
 
 -- Items in the root, which this tag opens behind so many items, up to this rest.
-pub record ReadsContent (most : Option ℕ) (g : PlainDtd) (root name attrs bytes : List ℕ)
+pub record ReadsJudgedContent (most : Option ℕ) (g : PlainDtd) (root name attrs bytes : List ℕ)
     (first : ℕ) (lists : OpenLists) (rest : List ℕ) (count : ℕ) : Type 0 where
   pub inner : Open Mark
   pub outer : List (Open Mark)
@@ -56,7 +56,7 @@ pub record ReadsContent (most : Option ℕ) (g : PlainDtd) (root name attrs byte
   pub few_kids : kids_in (inner ∷ outer) ≤ count
   pub few : count + length rest ≤ first + length bytes
   pub leads : (before : List ℕ) →
-      Leads most blank_mark root first
+      LeadsBehind most blank_mark root first
       (in_content before (just_opened name attrs) []) bytes count
       (in_content before inner outer) rest
 
@@ -68,7 +68,7 @@ pub record ReadsRoot (most : Option ℕ) (g : PlainDtd) (root : List ℕ) (short
   pub has_root : HasRoot g root lists tree
   pub few : count + length rest ≤ first + length bytes
   pub leads : (before : List ℕ) →
-      Leads most blank_mark root first (behind_tag before short name attrs) bytes
+      LeadsBehind most blank_mark root first (behind_tag before short name attrs) bytes
       count (in_epilog before tree []) rest
 
 -- a limit on depth, or none, and one on bytes, as the limits of a text

@@ -72,7 +72,7 @@ HasEnded g root lists false [] t = ⊥
 HasEnded g root lists false (o ∷ os) t = HasRead g root lists (with_kid o t) os
 
 -- each open element can have one more kid, and the word of the innermost begins within the tokens
-pub record HasRoom (lists : OpenLists) : Type 0 where
+pub record MayGrow (lists : OpenLists) : Type 0 where
   pub few : AllByRecursion (λ (l : OpenList). l.kids < MOST_KIDS)
       (lists.inner ∷ reverse lists.outer.items)
   pub within : lists.inner.start ≤ length lists.tokens.items

@@ -19,8 +19,9 @@ pub record IsTypeOf (g : PlainDtd) (name : List ℕ) (t : ElementType) : Type 0 
       ≡ option_and_then (model_of g) (number_of g name)
 
 -- each type that was found is of a Name where it is known to be of one
-abbrev pub AreNamed : FoundTypes → Type 0
-AreNamed found = All (λ (t : ElementType). IsTrue t.is_name → IsName t.name.now) found.types.items
+abbrev pub AreTypesNamed : FoundTypes → Type 0
+AreTypesNamed found = All (λ (t : ElementType). IsTrue t.is_name → IsName t.name.now)
+    found.types.items
 
 -- each type that was found is that of its name
 abbrev pub AreTypes : PlainDtd → FoundTypes → Type 0

@@ -10,7 +10,7 @@ ghost use Rattle.pv_read.specs.Left.{Open, in_content, just_opened};
 ghost use Rattle.pv_read.specs.Meaning.{DocumentRestMeans};
 ghost use Rattle.pv_valid.specs.Contents.{TakesInto, ReadsRoot};
 ghost use Rattle.pv_valid.specs.Types.{AreTypes};
-ghost use Rattle.pv_valid.specs.OpenLists.{HasRead, HasRoom, MOST_KIDS};
+ghost use Rattle.pv_valid.specs.OpenLists.{HasRead, MayGrow, MOST_KIDS};
 
 use crate::items::item_in;
 use crate::open::OpenLists;
@@ -29,7 +29,7 @@ fn read_item<'a>(
     rest: &'a [u8],
     count: u64,
 ) -> Result<(bool, &'a [u8]), DocError>
-    requires room { HasRoom lists.old }
+    requires room { MayGrow lists.old }
     requires read { (inner : Open Mark) × (outer : List (Open Mark)) ×
         HasRead (plain_dtd dtd.now) root.now lists.old inner outer }
     requires types { AreTypes (plain_dtd dtd.now) lists.old.types }

@@ -10,10 +10,10 @@ ghost use Rattle.pv_read.specs.Left.{Left};
 ghost use Rattle.pv_read.specs.Limits.{IsDeepest};
 ghost use Rattle.pv_read.specs.Meaning.{DocumentRestMeans};
 ghost use Rattle.pv_read.specs.PlainItems.{plain_item};
-ghost use Rattle.pv_read.specs.Places.{place_of, content};
+ghost use Rattle.pv_read.specs.Places.{place_reached, content};
 ghost use Rattle.pv_read.specs.Steps.{TakesItem};
 ghost use Rattle.pv_valid.specs.Runs.{BeginsKnownRun};
-ghost use Rattle.pv_valid.specs.Types.{AreNamed};
+ghost use Rattle.pv_valid.specs.Types.{AreTypesNamed};
 
 use crate::open::OpenList;
 use crate::types::FoundTypes;
@@ -55,7 +55,7 @@ fn after_end_tag<'a>(name: &[u8], bytes: &'a [u8]) -> Option<&'a [u8]>
 // The name of the start tag at the front, where it was found lately and no attribute stands in the
 // tag, and what stands after the tag.
 fn start_tag_at<'a>(types: &FoundTypes<'_>, bytes: &'a [u8]) -> Option<(&'a [u8], &'a [u8])>
-    requires { AreNamed types.now }
+    requires { AreTypesNamed types.now }
     ensures named { IfSome result (λ r. IsName r.0.now) }
     ensures whole { IfSome result (λ r.
         bytes.now ≡ codes "<" ++ (r.0.now ++ (codes ">" ++ r.1.now))) }
@@ -94,13 +94,13 @@ pub fn item_in<'a>(
 ) -> Result<(Item<'a>, &'a [u8]), DocError>
     requires open { 0 < open_elements }
     requires named { IsTrue element.now.is_name → IsName element.now.name.now }
-    requires types { AreNamed types.now }
+    requires types { AreTypesNamed types.now }
     ensures taken { IfOk result (λ r. (left : Left Mark) →
-        place_of left ≡ content element.now.name.now open_elements →
+        place_reached left ≡ content element.now.name.now open_elements →
         TakesItem most_depth blank_mark root.now left rest.now (plain_item r.0)
         r.1.now) }
     ensures refused { IfErr result (λ e. (left : Left Mark) →
-        place_of left ≡ content element.now.name.now open_elements →
+        place_reached left ≡ content element.now.name.now open_elements →
         Refuses (DocumentRestMeans most_depth blank_mark root.now count left rest.now)
         e) }
     ensures within { IfOk result (λ r. length r.1.now < length rest.now) }

@@ -17,7 +17,7 @@ ghost use Rattle.pv_read.specs.Left.{Open, just_opened};
 ghost use Rattle.pv_read.specs.PlainItems.{plain_item};
 ghost use Rattle.pv_read.specs.Places.{may_stand_in_content};
 ghost use Rattle.pv_valid.specs.Contents.{IsBehind};
-ghost use Rattle.pv_valid.specs.OpenLists.{HasRead, HasRoom, HasEnded, ended_element, MOST_KIDS};
+ghost use Rattle.pv_valid.specs.OpenLists.{HasRead, MayGrow, HasEnded, ended_element, MOST_KIDS};
 ghost use Rattle.pv_valid.specs.Types.{AreTypes};
 ghost use Rattle.pv_valid.specs.WholeLists.{next_path, whole_lists, TellsFirst};
 ghost use Rattle.pv_valid.specs.declared.open.OpenList.{OpenList};
@@ -102,7 +102,7 @@ impl<'a> OpenLists<'a> {
     pub fn of(alloc: Global, dtd: &'a Dtd, name: &'a [u8]) -> Result<OpenLists<'a>, NoMemory>
         ensures read { (root attrs : List ℕ) → IfOk result (λ lists.
             HasRead (plain_dtd dtd.now) root lists (just_opened name.now attrs) []) }
-        ensures room { IfOk result (λ lists. HasRoom lists) }
+        ensures room { IfOk result (λ lists. MayGrow lists) }
         ensures types { IfOk result (λ lists. AreTypes (plain_dtd dtd.now) lists.types) }
     {
         let mut types = FoundTypes::of(alloc, dtd, name)?;
@@ -123,7 +123,7 @@ impl<'a> OpenLists<'a> {
             HasRead (plain_dtd dtd.now) root self.old inner outer →
             OnOk result (HasRead (plain_dtd dtd.now) root self.new (just_opened name.now attrs)
             (inner ∷ outer)) }
-        ensures room { HasRoom self.old → OnOk result (HasRoom self.new) }
+        ensures room { MayGrow self.old → OnOk result (MayGrow self.new) }
         ensures types { OnOk result (AreTypes (plain_dtd dtd.now) self.new.types) }
     {
         self.outer.push(self.inner)?;
@@ -204,7 +204,7 @@ impl<'a> OpenLists<'a> {
     /// The innermost open element ends: it is a kid of the one around it, or the root, and then
     /// this says true.
     pub fn close(&mut self, alloc: Global, dtd: &Dtd) -> Result<bool, NoMemory>
-        requires { HasRoom self.old }
+        requires { MayGrow self.old }
         ensures ended { (root attrs : List ℕ) (inner : Open Mark) (outer : List (Open Mark))
             (ending : Ending) (mark : Mark) →
             HasRead (plain_dtd dtd.now) root self.old inner outer →
@@ -225,7 +225,7 @@ impl<'a> OpenLists<'a> {
 
     /// One more item in the root, and whether it makes the root whole.
     pub fn add(&mut self, alloc: Global, dtd: &'a Dtd, item: &Item<'a>) -> Result<bool, NoMemory>
-        requires room { HasRoom self.old }
+        requires room { MayGrow self.old }
         requires stands { may_stand_in_content (plain_item item.now) ≡ true }
         requires known { HasKnownReferences (plain_item item.now) }
         requires types { AreTypes (plain_dtd dtd.now) self.old.types }

@@ -3,7 +3,7 @@
 ghost use Rattle.std.specs.Prelude.{◌≡◌, IfOk, IsTrue};
 ghost use Rattle.pv_chars.specs.Names.{IsName};
 ghost use Rattle.pv_dtd.specs.PlainForms.{plain_dtd};
-ghost use Rattle.pv_valid.specs.Types.{IsTypeOf, AreNamed, AreTypes};
+ghost use Rattle.pv_valid.specs.Types.{IsTypeOf, AreTypesNamed, AreTypes};
 
 use pv_chars::{NoMemory, is_name};
 use pv_dtd::Dtd;
@@ -65,7 +65,7 @@ impl<'a> FoundTypes<'a> {
 
     /// Whether the bytes are a Name that was found lately.
     pub fn holds_name(&self, bytes: &[u8]) -> bool
-        requires { AreNamed self.now }
+        requires { AreTypesNamed self.now }
         ensures { IsTrue result → IsName bytes.now }
     {
         let place = place_of(bytes);

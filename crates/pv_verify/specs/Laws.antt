@@ -32,7 +32,8 @@ AcceptedIsLeast M = (g : PlainDtd) (root : List ℕ) (doc : PlainDoc M) (pack : 
     IsProperDtd g → IsProperDoc doc → PassesAllTests g root doc pack → IsLeastPack g root doc pack
 
 -- a pack fails at most one test first, and is accepted only where it fails none
-pub record HasOneAnswer {M : Type 0} (g : PlainDtd) (root : List ℕ) (doc : PlainDoc M) (pack : Pack)
+pub record HasOneOutcome {M : Type 0} (g : PlainDtd) (root : List ℕ) (doc : PlainDoc M)
+    (pack : Pack)
     : Type 0 where
   pub one_first : (test other : Why) → IsRejected g root doc pack test →
       IsRejected g root doc pack other → test ≡ other
@@ -40,7 +41,7 @@ pub record HasOneAnswer {M : Type 0} (g : PlainDtd) (root : List ℕ) (doc : Pla
 
 abbrev pub OneAnswer : (M : Type 0) → Type 0
 OneAnswer M = (g : PlainDtd) (root : List ℕ) (doc : PlainDoc M) (pack : Pack) →
-    HasOneAnswer g root doc pack
+    HasOneOutcome g root doc pack
 
 -- The pack of a least completion of a document, by at most 1,000,000 elements, and of the tables of
 -- its Possible lists passes all tests.

@@ -247,7 +247,7 @@ fn part_of_text(rt: HostRuntime) -> Result<(), Fail> {
 fn joined_texts(rt: HostRuntime) -> Result<(), Fail> {
     let part = text_units(rt.alloc(), b" &#32;")?;
     let units = text_units(rt.alloc(), "a &#32;é".as_bytes())?;
-    let both = part.joined(rt.alloc(), &units)?;
+    let both = part.join(rt.alloc(), &units)?;
     assert!(rt; both.bytes() == " &#32;a &#32;é".as_bytes());
     is_copied(&rt, rt.alloc(), &both)
 }

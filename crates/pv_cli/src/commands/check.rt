@@ -2,7 +2,7 @@
 
 ghost use Rattle.std.specs.Prelude.{◌≡◌, ◌≤◌, ◌+◌, IfOk, Some, None, length};
 ghost use Rattle.pv_cli.specs.Check.{IsCheckCourse, possible_text};
-ghost use Rattle.pv_cli.specs.Checking.{CountsLists};
+ghost use Rattle.pv_cli.specs.Checking.{CountsChecked};
 ghost use Rattle.pv_cli.specs.Commands.{GoesOn, lines_checked};
 ghost use Rattle.pv_cli.specs.Documents.{PlainOpened};
 ghost use Rattle.pv_cli.specs.Response.{plain_response, with_line};
@@ -63,7 +63,7 @@ pub fn check<L: Ledger>(
     steps: &mut Steps<L>,
 ) -> Result<Response, Stop>
     ensures finds { TakesCourse (GoesOn Check root.now (plain_fetched fetched)) result }
-    ensures checks { CountsLists root.now (Some fetched.bytes.items) (lines_checked Check None)
+    ensures checks { CountsChecked root.now (Some fetched.bytes.items) (lines_checked Check None)
         steps.old steps.new }
 {
     let Opened { dtd, doc, .. } = open_document(alloc, fetched, root)?;

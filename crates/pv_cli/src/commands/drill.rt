@@ -2,7 +2,7 @@
 
 ghost use Rattle.std.specs.Prelude.{◌≡◌, ◌≤◌, ◌<◌, ◌+◌, ◌*◌, ◌++◌, ◌%◌, IfOk};
 ghost use Rattle.std.specs.Prelude.{OnOk, Some, decimal, length};
-ghost use Rattle.pv_cli.specs.Checking.{CountsLists};
+ghost use Rattle.pv_cli.specs.Checking.{CountsChecked};
 ghost use Rattle.pv_cli.specs.CommandLine.{IsDrillSize};
 ghost use Rattle.pv_cli.specs.Drill.{CountsLine, CountsReplies, DRILL_ROOT, IsCountOf};
 ghost use Rattle.pv_cli.specs.Drill.{IsDrillCourse, TellsCounts, counts_text, counts_with};
@@ -45,7 +45,7 @@ pub struct Counts {
 }
 
 // The counts with one more reply, by what was done where it is `ok`.
-fn counted(counts: Counts, done: Option<Done>) -> Counts
+fn count_move(counts: Counts, done: Option<Done>) -> Counts
     requires few { counts.lines < 60000 }
     requires bounded { IsCountOf counts.lines counts }
     ensures counted { result ≡ counts_with counts done }
@@ -86,7 +86,7 @@ fn count_line<L: Ledger>(
     let Some(answer) = turn(rt, alloc, session, line, steps)? else {
         unreachable!();
     };
-    Ok(counted(counts, answer.done))
+    Ok(count_move(counts, answer.done))
 }
 
 // Answers a line of the drill, and counts the reply.
@@ -198,7 +198,7 @@ fn begin_drill<L: Ledger>(
 ) -> Result<OpenedSession, Stop>
     requires { IsDrillSize n }
     ensures returns { Returns (λ s. s) (drill_stage n) 0 result }
-    ensures checks { CountsLists DRILL_ROOT (Some (drill_text n)) (Some 0) steps.old steps.new }
+    ensures checks { CountsChecked DRILL_ROOT (Some (drill_text n)) (Some 0) steps.old steps.new }
 {
     let dtd = dtd_of(alloc, drill_dtd())?;
     let bytes = drill_doc(alloc, n)?;
@@ -232,7 +232,7 @@ pub fn drill<L: Ledger>(
 ) -> Result<Response, Stop>
     requires { IsDrillSize n }
     ensures finds { TakesCourse (IsDrillCourse n) result }
-    ensures checks { CountsLists DRILL_ROOT (Some (drill_text n)) (Some (length (drill_lines n)))
+    ensures checks { CountsChecked DRILL_ROOT (Some (drill_text n)) (Some (length (drill_lines n)))
         steps.old steps.new }
 {
     let mut session = begin_drill(rt, alloc, n, steps)?;

@@ -1,7 +1,7 @@
 //! The command `session`.
 
 ghost use Rattle.std.specs.Prelude.{◌≡◌, ◌≤◌, ◌+◌, Some, length};
-ghost use Rattle.pv_cli.specs.Checking.{CountsLists};
+ghost use Rattle.pv_cli.specs.Checking.{CountsChecked};
 ghost use Rattle.pv_cli.specs.Devices.{input_at, output_at};
 ghost use Rattle.pv_cli.specs.Returns.{DoesRest, Returns, plain_fetched, session_stage};
 ghost use Rattle.pv_cli.specs.Session.{guarding_stage};
@@ -64,7 +64,8 @@ fn open_session<L: Ledger>(
     steps: &mut Steps<L>,
 ) -> Result<OpenedSession, Stop>
     ensures returns { Returns (λ s. s) (session_stage root.now (plain_fetched fetched)) 0 result }
-    ensures checks { CountsLists root.now (Some fetched.bytes.items) (Some 0) steps.old steps.new }
+    ensures checks { CountsChecked root.now (Some fetched.bytes.items) (Some 0)
+        steps.old steps.new }
 {
     let opened = open_document(alloc, fetched, root)?;
     begin(rt, alloc, opened, root, steps)

@@ -159,7 +159,7 @@ fn refuse_nesting(alloc: Global, error: NestError) -> Stop
 }
 
 // The document that stands for a text and ranges.
-fn nested(alloc: Global, root: &[u8], text: &Units, ranges: &Ranges) -> Result<Doc, Stop>
+fn nest_ranges(alloc: Global, root: &[u8], text: &Units, ranges: &Ranges) -> Result<Doc, Stop>
     requires root { IsName root.now }
     requires named { AreNamed ranges.now }
     requires few { length ranges.now ≤ MAX_RANGES }
@@ -239,7 +239,7 @@ fn tell<L: Ledger>(
         (λ nested. IsShownCourse root.now nested.0 nested.1)) result }
     ensures counts { CountsDocument root.now text.now ranges.now steps.old steps.new }
 {
-    let doc = nested(alloc, root, text, ranges)?;
+    let doc = nest_ranges(alloc, root, text, ranges)?;
     let grammar = build(alloc, dtd)?;
     let response = show(rt, alloc, &grammar, &doc, root, steps);
     forget(doc);

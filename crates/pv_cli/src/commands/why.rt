@@ -1,7 +1,7 @@
 //! The command `why`.
 
 ghost use Rattle.std.specs.Prelude.{◌≡◌, ◌≤◌, ◌+◌, Some, None, length};
-ghost use Rattle.pv_cli.specs.Checking.{CountsLists};
+ghost use Rattle.pv_cli.specs.Checking.{CountsChecked};
 ghost use Rattle.pv_cli.specs.Commands.{GoesOn, lines_checked};
 ghost use Rattle.pv_cli.specs.Documents.{PlainOpened};
 ghost use Rattle.pv_cli.specs.Returns.{TakesCourse, TellsBy, plain_fetched};
@@ -81,7 +81,7 @@ pub fn why<L: Ledger>(
     steps: &mut Steps<L>,
 ) -> Result<Response, Stop>
     ensures finds { TakesCourse (GoesOn Why root.now (plain_fetched fetched)) result }
-    ensures checks { CountsLists root.now (Some fetched.bytes.items) (lines_checked Why None)
+    ensures checks { CountsChecked root.now (Some fetched.bytes.items) (lines_checked Why None)
         steps.old steps.new }
 {
     let Opened { dtd, doc, .. } = open_document(alloc, fetched, root)?;

@@ -60,7 +60,7 @@ fn withheld(session: &Session, error: NeedError) -> Result<Reply, NoMemory>
 }
 
 // The least number of missing elements, or why it isn't told; no list is impossible.
-fn needed_by(alloc: Global, session: &Session, verdicts: &Verdicts) -> Result<Reply, NoMemory>
+fn need_reply_by(alloc: Global, session: &Session, verdicts: &Verdicts) -> Result<Reply, NoMemory>
     requires verdicts { TellVerdicts (stamped_document session.now) verdicts.now }
     requires possible { verdicts.now.first ≡ None }
     ensures tells { IfOk result (TellsNeed session.now) }
@@ -81,14 +81,14 @@ fn needed_by(alloc: Global, session: &Session, verdicts: &Verdicts) -> Result<Re
 }
 
 // The least number of missing elements, or why it isn't told.
-fn needed(alloc: Global, session: &Session) -> Result<Reply, NoMemory>
+fn need_reply(alloc: Global, session: &Session) -> Result<Reply, NoMemory>
     ensures tells { IfOk result (TellsNeed session.now) }
     ensures not_done { IfOk result (λ told. done_of told ≡ None) }
 {
     let verdicts = session.verdicts()?;
     match impossible(alloc, session, &verdicts)? {
         Some(reply) => Ok(reply),
-        None => needed_by(alloc, session, &verdicts),
+        None => need_reply_by(alloc, session, &verdicts),
     }
 }
 
@@ -96,12 +96,16 @@ fn needed(alloc: Global, session: &Session) -> Result<Reply, NoMemory>
 pub fn need(alloc: Global, session: &Session) -> Result<Answer, NoMemory>
     ensures { IfOk result (IsReplyBy session.now Command.Need session.now) }
 {
-    let reply = needed(alloc, session)?;
+    let reply = need_reply(alloc, session)?;
     other(alloc, &reply)
 }
 
 // The document with the missing elements, or why it isn't told; no list is impossible.
-fn completed_by(alloc: Global, session: &Session, verdicts: &Verdicts) -> Result<Reply, NoMemory>
+fn completion_reply_by(
+    alloc: Global,
+    session: &Session,
+    verdicts: &Verdicts,
+) -> Result<Reply, NoMemory>
     requires prolog { IsProlog session.now.root session.now.doc.before }
     requires verdicts { TellVerdicts (stamped_document session.now) verdicts.now }
     requires possible { verdicts.now.first ≡ None }
@@ -123,7 +127,7 @@ fn completed_by(alloc: Global, session: &Session, verdicts: &Verdicts) -> Result
 }
 
 // The document with the missing elements, or why it isn't told.
-fn completed(alloc: Global, opened: &OpenedSession) -> Result<Reply, NoMemory>
+fn completion_reply(alloc: Global, opened: &OpenedSession) -> Result<Reply, NoMemory>
     ensures tells { IfOk result (TellsCompletion opened.now) }
     ensures not_done { IfOk result (λ told. done_of told ≡ None) }
 {
@@ -131,7 +135,7 @@ fn completed(alloc: Global, opened: &OpenedSession) -> Result<Reply, NoMemory>
     let verdicts = session.verdicts()?;
     match impossible(alloc, session, &verdicts)? {
         Some(reply) => Ok(reply),
-        None => completed_by(alloc, session, &verdicts),
+        None => completion_reply_by(alloc, session, &verdicts),
     }
 }
 
@@ -139,6 +143,6 @@ fn completed(alloc: Global, opened: &OpenedSession) -> Result<Reply, NoMemory>
 pub fn complete(alloc: Global, session: &OpenedSession) -> Result<Answer, NoMemory>
     ensures { IfOk result (IsReplyBy session.now Command.Complete session.now) }
 {
-    let reply = completed(alloc, session)?;
+    let reply = completion_reply(alloc, session)?;
     other(alloc, &reply)
 }

@@ -6,7 +6,7 @@ ghost use Rattle.pv_productive.specs.PlainForms.{dtd_of};
 ghost use Rattle.pv_rules.specs.PlainForms.{plain_site};
 ghost use Rattle.pv_rules.specs.Sites.{HasSite, PlainSite};
 ghost use Rattle.pv_span.specs.Weights.{tokens_of, weight_of};
-ghost use Rattle.pv_complete.specs.Kinds.{count_of, rank_of};
+ghost use Rattle.pv_complete.specs.Kinds.{count_of, rank_of_kind};
 ghost use Rattle.pv_complete.specs.Listings.{IsListedTo, StopsListing, key};
 ghost use Rattle.pv_tables.specs.Tables.{kind_rank, site_number};
 
@@ -127,11 +127,11 @@ fn list_number(
     requires tokens { (tokens ≡ tokens_of spans.now) × (tokens < 2 ^ 13) }
     requires few { length entries.old.items ≤ room }
     requires listed { IsListedTo (dtd_of grammar.now) (tokens_of spans.now) (weight_of spans.now)
-        (key (rank_of kind) number 0 0) entries.old.items }
+        (key (rank_of_kind kind) number 0 0) entries.old.items }
     ensures few { OnOk result (length entries.new.items ≤ room) }
     ensures listed { OnOk result (IsListedTo (dtd_of grammar.now) (tokens_of spans.now)
         (weight_of spans.now)
-        (key (rank_of kind) (suc number) 0 0) entries.new.items) }
+        (key (rank_of_kind kind) (suc number) 0 0) entries.new.items) }
     ensures refused { IfErr result (StopsListing (dtd_of grammar.now) (tokens_of spans.now)
         (weight_of spans.now) room) }
 {
@@ -161,11 +161,11 @@ fn list_kind(
     requires tokens { (tokens ≡ tokens_of spans.now) × (tokens < 2 ^ 13) }
     requires few { length entries.old.items ≤ room }
     requires listed { IsListedTo (dtd_of grammar.now) (tokens_of spans.now) (weight_of spans.now)
-        (key (rank_of kind) 0 0 0) entries.old.items }
+        (key (rank_of_kind kind) 0 0 0) entries.old.items }
     ensures few { OnOk result (length entries.new.items ≤ room) }
     ensures listed { OnOk result (IsListedTo (dtd_of grammar.now) (tokens_of spans.now)
         (weight_of spans.now)
-        (key (suc (rank_of kind)) 0 0 0) entries.new.items) }
+        (key (suc (rank_of_kind kind)) 0 0 0) entries.new.items) }
     ensures refused { IfErr result (StopsListing (dtd_of grammar.now) (tokens_of spans.now)
         (weight_of spans.now) room) }
 {

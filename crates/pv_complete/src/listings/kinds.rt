@@ -4,7 +4,7 @@ ghost use Rattle.std.specs.Prelude.{◌≡◌, ◌<◌, IfSome, IfNone};
 ghost use Rattle.pv_rules.specs.PlainForms.{plain_site};
 ghost use Rattle.pv_rules.specs.Sites.{HasSite, PlainSite};
 ghost use Rattle.pv_productive.specs.PlainForms.{dtd_of};
-ghost use Rattle.pv_complete.specs.Kinds.{count_of, rank_of};
+ghost use Rattle.pv_complete.specs.Kinds.{count_of, rank_of_kind};
 ghost use Rattle.pv_tables.specs.Tables.{kind_rank, site_number};
 
 use pv_model::NameId;
@@ -51,10 +51,10 @@ fn rest_of(grammar: &Grammar, number: u32) -> Option<Site>
 /// The site of a kind that has a number, where there is one.
 pub fn site_at(grammar: &Grammar, kind: SiteKind, number: u32) -> Option<Site>
     requires { number < count_of (dtd_of grammar.now) kind }
-    ensures is { IfSome result (λ site. (kind_rank (plain_site site) ≡ rank_of kind) ×
+    ensures is { IfSome result (λ site. (kind_rank (plain_site site) ≡ rank_of_kind kind) ×
         (site_number (plain_site site) ≡ number) ×
         HasSite (dtd_of grammar.now) (plain_site site)) }
-    ensures none { IfNone result ((s : PlainSite) → kind_rank s ≡ rank_of kind →
+    ensures none { IfNone result ((s : PlainSite) → kind_rank s ≡ rank_of_kind kind →
         site_number s ≡ number → HasSite (dtd_of grammar.now) s → ⊥) }
 {
     match kind {

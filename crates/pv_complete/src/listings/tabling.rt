@@ -26,7 +26,7 @@ use crate::listings::entries::entries_of;
 use crate::listings::made::Made;
 use pv_missing::{Of, Verdicts, element_owner, live_word, root_owner};
 use pv_model::Token;
-use pv_span::{Entry, Layout, ListOwner, SpanError, weights_by};
+use pv_span::{ColumnLayout, Entry, ListOwner, SpanError, weights_by};
 use pv_tree::{Doc, Node, Path};
 use std::alloc::Global;
 
@@ -79,7 +79,7 @@ fn kids_entries(
 /// Adds the table of the list of these kids where it is Possible.
 fn table_list(
     alloc: Global,
-    layout: &Layout<'_>,
+    layout: &ColumnLayout<'_>,
     owner: Option<Of>,
     kids: &[Node],
     verdicts: &Verdicts,
@@ -114,7 +114,7 @@ fn table_list(
 #[cycle(table)]
 fn table_node(
     alloc: Global,
-    layout: &Layout<'_>,
+    layout: &ColumnLayout<'_>,
     node: &Node,
     verdicts: &Verdicts,
     made: &mut Made,
@@ -145,7 +145,7 @@ fn table_node(
 #[cycle(table)]
 fn table_kids(
     alloc: Global,
-    layout: &Layout<'_>,
+    layout: &ColumnLayout<'_>,
     kids: &[Node],
     verdicts: &Verdicts,
     made: &mut Made,
@@ -172,7 +172,7 @@ fn table_kids(
 /// Adds the tables of the Possible lists of a document to nothing.
 pub fn table_doc(
     alloc: Global,
-    layout: &Layout<'_>,
+    layout: &ColumnLayout<'_>,
     root: &[u8],
     doc: &Doc,
     verdicts: &Verdicts,

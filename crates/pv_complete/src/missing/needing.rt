@@ -17,7 +17,7 @@ use pv_missing::Verdicts;
 use pv_missing::laws::proper::proper_doc_law;
 use pv_productive::Grammar;
 use pv_rules::HEAVIEST;
-use pv_span::{Layout, SpanError, lay_out};
+use pv_span::{ColumnLayout, SpanError, lay_out};
 use pv_steps::Steps;
 use pv_tables::laws::possible_weights_law;
 use pv_tree::{Doc, Mark, Path};
@@ -53,7 +53,7 @@ pub(crate) fn uncounted_verdicts<L: Ledger>(
 /// Impossible, added up and cut. No table is made where a list is too wide for one.
 fn total_weight(
     alloc: Global,
-    layout: &Layout<'_>,
+    layout: &ColumnLayout<'_>,
     root: &[u8],
     doc: &Doc,
     verdicts: &Verdicts,
@@ -85,7 +85,7 @@ fn total_weight(
 /// A list that is Valid takes no table of weights. Tables are made one at a time, and let go.
 pub(crate) fn need_under(
     alloc: Global,
-    layout: &Layout<'_>,
+    layout: &ColumnLayout<'_>,
     root: &[u8],
     doc: &Doc,
     verdicts: &Verdicts,
@@ -130,7 +130,7 @@ pub fn need_by(
 /// The verdicts of the lists of a document that misses at most 1,000,000 elements.
 pub fn light_verdicts(
     alloc: Global,
-    layout: &Layout<'_>,
+    layout: &ColumnLayout<'_>,
     root: &[u8],
     doc: &Doc,
 ) -> Result<Verdicts, NeedError>

@@ -11,21 +11,21 @@ ghost use Rattle.pv_tree.specs.PlainForms.{plain, forest};
 ghost use Rattle.pv_tree.specs.declared.nodes.Mark.{Mark};
 ghost use Rattle.pv_missing.specs.PlainForms.{plain_of};
 ghost use Rattle.pv_missing.specs.Owners.{IsOwner};
-ghost use Rattle.pv_complete.specs.Loads.{AddsUp, StopsAt};
+ghost use Rattle.pv_complete.specs.Loads.{AddsUp, StopsAtList};
 ghost use Rattle.pv_complete.specs.PlainForms.{load_of};
 ghost use Rattle.pv_span.specs.declared.errors.SpanError.TheVariants.{TooWide as too_wide};
 
 use crate::missing::lists::weight_of;
 use crate::missing::load::Load;
 use pv_missing::{Of, Verdicts, element_owner, root_owner};
-use pv_span::{Layout, ListOwner, SpanError};
+use pv_span::{ColumnLayout, ListOwner, SpanError};
 use pv_tree::{Doc, Node};
 use std::alloc::Global;
 
 /// Adds the weight of the list of these kids where it is Possible.
 fn weigh_list(
     alloc: Global,
-    layout: &Layout<'_>,
+    layout: &ColumnLayout<'_>,
     owner: Option<Of>,
     kids: &[Node],
     verdicts: &Verdicts,
@@ -39,7 +39,7 @@ fn weigh_list(
         (load_of load.old) (load_of load.new)) }
     ensures wide { IfErr result (λ e. e ≡ too_wide → (root : List ℕ) (list : Listed Mark) →
         list.kids ≡ forest kids.now → IsOwner (dtd_of layout.now.grammar.now) root list owner →
-        StopsAt (dtd_of layout.now.grammar.now) root (list ∷ []) verdicts.now.verdicts
+        StopsAtList (dtd_of layout.now.grammar.now) root (list ∷ []) verdicts.now.verdicts
         (load_of load.old) list.path) }
     ensures places { load.new.places ≡ load.old.places }
 {
@@ -63,7 +63,7 @@ fn weigh_list(
 #[cycle(weigh)]
 fn weigh_node(
     alloc: Global,
-    layout: &Layout<'_>,
+    layout: &ColumnLayout<'_>,
     node: &Node,
     verdicts: &Verdicts,
     load: &mut Load,
@@ -73,7 +73,7 @@ fn weigh_node(
         (lists_at load.old.places.items (plain node.now)) verdicts.now.verdicts (load_of load.old)
         (load_of load.new)) }
     ensures wide { IfErr result (λ e. e ≡ too_wide → (root : List ℕ) →
-        StopsAt (dtd_of layout.now.grammar.now) root
+        StopsAtList (dtd_of layout.now.grammar.now) root
         (lists_at load.old.places.items (plain node.now)) verdicts.now.verdicts (load_of load.old)
         load.new.places.items) }
     ensures places { OnOk result (load.new.places.items ≡ load.old.places.items) }
@@ -90,7 +90,7 @@ fn weigh_node(
 #[cycle(weigh)]
 fn weigh_kids(
     alloc: Global,
-    layout: &Layout<'_>,
+    layout: &ColumnLayout<'_>,
     kids: &[Node],
     verdicts: &Verdicts,
     load: &mut Load,
@@ -101,7 +101,7 @@ fn weigh_kids(
         verdicts.now.verdicts
         (load_of load.old) (load_of load.new)) }
     ensures wide { IfErr result (λ e. e ≡ too_wide → (root : List ℕ) →
-        StopsAt (dtd_of layout.now.grammar.now) root
+        StopsAtList (dtd_of layout.now.grammar.now) root
         (lists_from load.old.places.items 0 (forest kids.now))
         verdicts.now.verdicts (load_of load.old) load.new.places.items) }
     ensures places { OnOk result (load.new.places.items ≡ load.old.places.items) }
@@ -118,7 +118,7 @@ fn weigh_kids(
 /// places are those of the first such list.
 pub fn weigh_doc(
     alloc: Global,
-    layout: &Layout<'_>,
+    layout: &ColumnLayout<'_>,
     root: &[u8],
     doc: &Doc,
     verdicts: &Verdicts,
@@ -128,7 +128,7 @@ pub fn weigh_doc(
     ensures weighed { OnOk result (AddsUp (dtd_of layout.now.grammar.now) root.now
         (lists_of (plain_doc doc.now)) verdicts.now.verdicts
         (load_of load.old) (load_of load.new)) }
-    ensures wide { IfErr result (λ e. e ≡ too_wide → StopsAt (dtd_of layout.now.grammar.now)
+    ensures wide { IfErr result (λ e. e ≡ too_wide → StopsAtList (dtd_of layout.now.grammar.now)
         root.now (lists_of (plain_doc doc.now)) verdicts.now.verdicts (load_of load.old)
         load.new.places.items) }
 {

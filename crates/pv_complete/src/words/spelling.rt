@@ -10,7 +10,7 @@ ghost use Rattle.pv_productive.specs.PlainForms.{dtd_of};
 ghost use Rattle.pv_span.specs.Weights.{weight_of};
 ghost use Rattle.pv_complete.specs.Moves.{IsMove};
 ghost use Rattle.pv_complete.specs.PieceForms.{plain_pieces};
-ghost use Rattle.pv_complete.specs.Spelling.{Spells};
+ghost use Rattle.pv_complete.specs.Spelling.{SpellsSpan};
 ghost use Rattle.pv_complete.specs.Works.{Goes, IsNearer, CanSpell, goal_work};
 
 use crate::words::moves::move_of;
@@ -112,7 +112,7 @@ fn take(
 /// Works stand on a stack of its own, so that new elements may stand in one another to any depth.
 pub fn pieces_of(alloc: Global, spot: &Spot<'_>) -> Result<Vec<Piece>, NoMemory>
     requires { length spot.now.weights.word.now < 4294967295 }
-    ensures { IfOk result (λ pieces. Spells (dtd_of spot.now.weights.grammar.now)
+    ensures { IfOk result (λ pieces. SpellsSpan (dtd_of spot.now.weights.grammar.now)
         (map plain_token spot.now.weights.word.now)
         spot.now.weight (over (plain_site spot.now.site) spot.now.from spot.now.to)
         (plain_pieces pieces.items)) }

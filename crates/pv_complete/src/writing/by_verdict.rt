@@ -19,7 +19,7 @@ ghost use Rattle.pv_missing.specs.Owners.{IsOwner};
 ghost use Rattle.pv_complete.specs.PieceForms.{plain_pieces};
 ghost use Rattle.pv_complete.specs.Pieces.{WritesAt};
 ghost use Rattle.pv_complete.specs.Written.{AreListPieces, AreNotImpossible, HasNextList};
-ghost use Rattle.pv_complete.specs.Written.{Suits, kept_times};
+ghost use Rattle.pv_complete.specs.Written.{SuitsWord, kept_times};
 
 use crate::words::completing::list_pieces;
 use crate::words::pieces::Piece;
@@ -27,7 +27,7 @@ use crate::writing::text::Writing;
 use pv_chars::NoMemory;
 use pv_missing::{Of, Verdicts, live_word};
 use pv_model::Token;
-use pv_span::{Layout, ListOwner, SpanError};
+use pv_span::{ColumnLayout, ListOwner, SpanError};
 use pv_tree::Node;
 use std::alloc::Global;
 
@@ -72,7 +72,7 @@ fn least_pieces(
 /// and a kept one for each token where it is Valid.
 pub fn take_pieces(
     alloc: Global,
-    layout: &Layout<'_>,
+    layout: &ColumnLayout<'_>,
     owner: Option<Of>,
     kids: &[Node],
     verdicts: &Verdicts,
@@ -88,7 +88,7 @@ pub fn take_pieces(
         (drop out.old.used verdicts.now.verdicts) →
         AreListPieces (dtd_of layout.now.grammar.now) root list more verdicts.now.verdicts
         out.old.used out.new.used (plain_pieces pieces.items)) }
-    ensures suits { IfOk result (λ pieces. Suits (dtd_of layout.now.grammar.now)
+    ensures suits { IfOk result (λ pieces. SuitsWord (dtd_of layout.now.grammar.now)
         (plain_pieces pieces.items) (word_of (dtd_of layout.now.grammar.now) (forest kids.now))) }
     ensures body { out.new.body ≡ out.old.body }
     ensures marks { out.new.marks ≡ out.old.marks }

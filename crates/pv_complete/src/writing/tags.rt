@@ -7,7 +7,7 @@ ghost use Rattle.pv_tree.specs.Plain.{no_trees, short};
 ghost use Rattle.pv_tree.specs.PlainForms.{forest, plain, plain_end};
 ghost use Rattle.pv_complete.specs.Growing.{gap_of};
 ghost use Rattle.pv_complete.specs.PieceForms.{plain_pieces};
-ghost use Rattle.pv_complete.specs.Written.{Suits, WritesTags, is_token};
+ghost use Rattle.pv_complete.specs.Written.{SuitsWord, WritesTags, is_token};
 ghost use Rattle.pv_complete.specs.WritingForms.{writing_of};
 
 use crate::words::pieces::Piece;
@@ -25,7 +25,7 @@ pub fn write_tags(
     out: &mut Writing,
 ) -> Result<usize, NoMemory>
     requires within { from ≤ length pieces.now }
-    requires suits { (w : List PlainToken) × Suits (dtd_of grammar.now)
+    requires suits { (w : List PlainToken) × SuitsWord (dtd_of grammar.now)
         (plain_pieces (drop from pieces.now)) w }
     ensures within { IfOk result (λ to. to ≤ length pieces.now) }
     ensures written { IfOk result (λ to. WritesTags (dtd_of grammar.now)

@@ -10,7 +10,7 @@ ghost use Rattle.pv_tree.specs.declared.nodes.Mark.{Mark};
 ghost use Rattle.pv_missing.specs.Verdicts.{AreVerdicts};
 ghost use Rattle.pv_complete.specs.PieceForms.{plain_pieces};
 ghost use Rattle.pv_complete.specs.Written.{AreLightVerdicts, AreNotImpossible, HasNextKids};
-ghost use Rattle.pv_complete.specs.Written.{HasNextTree, Suits};
+ghost use Rattle.pv_complete.specs.Written.{HasNextTree, SuitsWord};
 ghost use Rattle.pv_complete.specs.Written.{WritesDoc, WritesList, WritesTree};
 ghost use Rattle.pv_complete.specs.WritingForms.{writing_of};
 
@@ -20,7 +20,7 @@ use crate::writing::tags::{gap_of, has_token, is_bare, write_tags};
 use crate::writing::text::Writing;
 use pv_chars::NoMemory;
 use pv_missing::{Verdicts, element_owner, root_owner};
-use pv_span::Layout;
+use pv_span::ColumnLayout;
 use pv_tree::{Doc, Node};
 use std::alloc::Global;
 
@@ -28,7 +28,7 @@ use std::alloc::Global;
 #[cycle(merge)]
 fn write_node(
     alloc: Global,
-    layout: &Layout<'_>,
+    layout: &ColumnLayout<'_>,
     node: &Node,
     verdicts: &Verdicts,
     out: &mut Writing,
@@ -69,7 +69,7 @@ fn write_node(
 #[cycle(merge)]
 pub fn write_list(
     alloc: Global,
-    layout: &Layout<'_>,
+    layout: &ColumnLayout<'_>,
     pieces: &[Piece],
     kids: &[Node],
     verdicts: &Verdicts,
@@ -78,7 +78,7 @@ pub fn write_list(
     requires possible { AreNotImpossible verdicts.now.verdicts }
     requires next { ∥ HasNextKids (dtd_of layout.now.grammar.now) (forest kids.now)
         verdicts.now.verdicts out.old.used ∥₁ }
-    requires suits { Suits (dtd_of layout.now.grammar.now) (plain_pieces pieces.now)
+    requires suits { SuitsWord (dtd_of layout.now.grammar.now) (plain_pieces pieces.now)
         (word_of (dtd_of layout.now.grammar.now) (forest kids.now)) }
     ensures { OnOk result ((root path : List ℕ) (more : List (Listed Mark)) →
         AreVerdicts (dtd_of layout.now.grammar.now) root
@@ -102,7 +102,7 @@ pub fn write_list(
 /// Writes a document with the missing elements.
 pub fn write_doc(
     alloc: Global,
-    layout: &Layout<'_>,
+    layout: &ColumnLayout<'_>,
     root: &[u8],
     doc: &Doc,
     verdicts: &Verdicts,

@@ -1,7 +1,7 @@
 //! The calls of a device in memory: which fail, how many there were, and how many faults.
 
 ghost use Rattle.std.specs.Prelude.{◌≡◌, ◌≤◌, ◌↔◌, IsTrue, IfOk};
-ghost use Rattle.pv_io.specs.Causes.{one_more};
+ghost use Rattle.pv_io.specs.Causes.{next_count};
 ghost use Rattle.pv_io.specs.Memory.{no_calls, FailsNow};
 
 use pv_chars::NoMemory;
@@ -37,7 +37,7 @@ impl Calls {
     /// Counts a call, and answers whether it is one that fails.
     pub(super) fn begin(&mut self) -> bool
         ensures fails { IsTrue result ↔ FailsNow self.old }
-        ensures counted { self.new ≡ record self.old { made = one_more self.old.made } }
+        ensures counted { self.new ≡ record self.old { made = next_count self.old.made } }
     {
         let call = self.made;
         self.made = self.made.saturating_add(1);
@@ -46,7 +46,7 @@ impl Calls {
 
     /// Counts a fault.
     pub(super) fn fail(&mut self)
-        ensures counted { self.new ≡ record self.old { faults = one_more self.old.faults } }
+        ensures counted { self.new ≡ record self.old { faults = next_count self.old.faults } }
         ensures later { self.old.faults ≤ self.new.faults }
     {
         self.faults = self.faults.saturating_add(1);

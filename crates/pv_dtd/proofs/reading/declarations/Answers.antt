@@ -2,7 +2,7 @@ use Rattle.std.proofs.Common.{◌≡◌, ◌<◌, [], length, Some, None, sym, a
 use Rattle.std.proofs.lemmas.Grind.{common_steps}
 use Rattle.pv_dtd.specs.ItemReading.{item_at, broken_rule}
 use Rattle.pv_dtd.specs.NamedForms.{named_item}
-use Rattle.pv_dtd.specs.RuleKinds.{kind_of}
+use Rattle.pv_dtd.specs.RuleKinds.{kind_of_rule}
 use Rattle.pv_dtd.proofs.SoFar.{so_far_none, all_read, refers, too_deep, no_item_stands, item_breaks, few_more, one_more}
 use Rattle.pv_dtd.proofs.Telling.{tells_rule}
 use Rattle.pv_dtd.proofs.reading.declarations.Goals as goal
@@ -36,7 +36,7 @@ pub returns-in-Some-2 : goal.returns-in-Some-2
 returns-in-Some-2 c =
     let some : c.after_space-place.result.now ≡ [] → ⊥ = λ e. grind (arith, common_steps) in
     let read : Some (named_item c.in-Some.item, c.in-Some.more.now) ≡ item_at c.is_front.result c.after_space-place.result.now = rw c.in-Some.is at c.in_ok-item.ensures.read in
-    let broken : Some (kind_of c.in-Some-2.rule) ≡ broken_rule c.items.names c.items.declared.parts (named_item c.in-Some.item) = rw c.in-Some-2.is at c.in_ok-rule.ensures in
+    let broken : Some (kind_of_rule c.in-Some-2.rule) ≡ broken_rule c.items.names c.items.declared.parts (named_item c.in-Some.item) = rw c.in-Some-2.is at c.in_ok-rule.ensures in
     tells_rule c.args.bytes.now c.in-Some-2.rule c.items.count _ c.refusal.ensures
     (item_breaks _ _ _ _ _ _ c.items.invariant _ c.after_space-place.ensures.after some (sym c.has_parameter.ensures ∙ c.if-has_parameter.false) (sym c.is_too_deep.ensures ∙ c.if-is_too_deep.false)
     _ _ (read ∙ ap (λ f. item_at f c.after_space-place.result.now) c.is_front.ensures) _ broken)

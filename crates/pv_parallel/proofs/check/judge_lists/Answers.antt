@@ -10,8 +10,8 @@ use Rattle.pv_parallel.specs.Jobs.{AreJoined, JudgesJob}
 use Rattle.pv_parallel.proofs.Judgements.{jobs_judged, none_too_wide}
 use Rattle.pv_parallel.proofs.check.judge_lists.Goals as goal
 
-pub joined-requires : goal.joined-requires
-joined-requires g c =
+pub join_judged-requires : goal.joined-requires
+join_judged-requires g c =
     let d = dtd_of c.args.judge.now in
     let entered = g.G.Gate.entered c.args.gate.now in
     let zip : AllZip (JudgesJob d c.args.root.now entered) c.in_ok-jobs.jobs.items c.in_ok-judged.judged.items = rw c.deref.ensures.value at c.in_ok-judged.ensures in

@@ -6,14 +6,14 @@ use Rattle.pv_tree.specs.Plain.{nodes_in, nodes_in_all}
 use Rattle.pv_tree.specs.PlainForms.{forest, plain}
 use Rattle.pv_tree.specs.declared.nodes.Verdict.{Verdict}
 use Rattle.pv_missing.specs.Widths.{IsListForVerdict}
-use Rattle.pv_parallel.specs.Jobs.{Judges}
+use Rattle.pv_parallel.specs.Jobs.{JudgesBehind}
 use Rattle.pv_parallel.proofs.judging.+judging.Given as goal
 
 -- what judges the rest behind those so far, judges all
 abbrev pub invariant-judge_nodes-loop-node : goal.invariant-judge_nodes-loop-node
 invariant-judge_nodes-loop-node g l = record {
-  judges : (root path : List ℕ) (i : ℕ) (last : List Verdict) → Judges (dtd_of l.judge) root (g.G.Gate.entered l.gate) l.first (lists_from path (i + l.node-index) (forest (drop l.node-index l.nodes))) l.verdicts.items last →
-      Judges (dtd_of l.judge) root (g.G.Gate.entered l.gate) l.first (lists_from path i (forest l.nodes)) l.fn.verdicts.items last;
+  judges : (root path : List ℕ) (i : ℕ) (last : List Verdict) → JudgesBehind (dtd_of l.judge) root (g.G.Gate.entered l.gate) l.first (lists_from path (i + l.node-index) (forest (drop l.node-index l.nodes))) l.verdicts.items last →
+      JudgesBehind (dtd_of l.judge) root (g.G.Gate.entered l.gate) l.first (lists_from path i (forest l.nodes)) l.fn.verdicts.items last;
   fits : (path : List ℕ) (i : ℕ) → AllByRecursion (IsListForVerdict (dtd_of l.judge)) (lists_from path i (forest l.nodes)) →
       AllByRecursion (IsListForVerdict (dtd_of l.judge)) (lists_from path (i + l.node-index) (forest (drop l.node-index l.nodes)));
 }

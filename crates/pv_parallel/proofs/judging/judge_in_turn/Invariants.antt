@@ -9,7 +9,7 @@ use Rattle.pv_parallel.proofs.judging.judge_in_turn.Given as goal
 
 abbrev pub invariant-loop-job : goal.invariant-loop-job
 invariant-loop-job g l =
-    let Judges = JudgesJob (dtd_of l.judge) l.root (g.G.Gate.entered l.gate) in
+    let JudgesBehind = JudgesJob (dtd_of l.judge) l.root (g.G.Gate.entered l.gate) in
     (more : List (Result (Vec Verdict Global) ReachError)) →
-    AllZip Judges (drop l.job-index l.jobs) more →
-    AllZip Judges l.jobs (l.judged.items ++ more)
+    AllZip JudgesBehind (drop l.job-index l.jobs) more →
+    AllZip JudgesBehind l.jobs (l.judged.items ++ more)

@@ -2,7 +2,7 @@ use Rattle.std.proofs.Common.{Bool, List, ap, arith, false, length, replicate, s
 use Rattle.std.proofs.lemmas.Grind.{common_steps}
 use Rattle.pv_columns.specs.ColumnRules.{InRange}
 use Rattle.pv_columns.specs.Marks.{IsMarked}
-use Rattle.pv_reach.specs.Merging.{head_of}
+use Rattle.pv_reach.specs.Merging.{column_head}
 use Rattle.pv_reach.proofs.Live.{head_more, none_bare}
 use Rattle.pv_reach.proofs.free.live_columns.Goals.{then-is_marked, else-is_marked}
 use Rattle.pv_reach.proofs.free.live_columns.Goals as goal
@@ -23,10 +23,10 @@ loop-column-preserved c =
           let lt : x < length m.heads.items = omega (arith, c.loop-column-test.true, c.len-column-end.ensures, m.heads.ok.0) in
           let P : List Bool → Type 0 = λ v. IsMarked v x in
           let marked : IsMarked m.bare.items x = subst P c.deref.ensures.value (sym c.is_marked.ensures ∙ w.if-is_marked.true) in
-          let e : w.head_of.result ≡ head_of m.heads.items x = w.head_of.ensures ∙ ap (λ v. head_of v x) w.deref-then-is_marked.ensures.value in
+          let e : w.column_head.result ≡ column_head m.heads.items x = w.column_head.ensures ∙ ap (λ v. column_head v x) w.deref-then-is_marked.ensures.value in
           rw w.live-is record {
             long = w.set_flag.ensures.long ∙ before.long;
-            bare = head_more c.args.merged.now c.loop-column.live.items w.set_flag.new.flags.items w.head_of.result (head_of m.heads.items x) e (c.requires.heads x marked lt) before.bare w.set_flag.ensures.set;
+            bare = head_more c.args.merged.now c.loop-column.live.items w.set_flag.new.flags.items w.column_head.result (column_head m.heads.items x) e (c.requires.heads x marked lt) before.bare w.set_flag.ensures.set;
           }
       | else-is_marked w ↦ rw w.live-is before
     ]

@@ -1,4 +1,4 @@
-use Rattle.pv_reach.specs.Merging.{head_of, heads_of}
+use Rattle.pv_reach.specs.Merging.{column_head, column_heads}
 use Rattle.pv_reach.proofs.Replacing.{adds_twice}
 use Rattle.pv_reach.proofs.merging.add_rule.Goals as goal
 
@@ -11,7 +11,7 @@ returns-in_ok-add_further-clause-added c =
 pub returns-in_ok-add_further-clause-has : goal.returns-in_ok-add_further-clause-has
 returns-in_ok-add_further-clause-has c = λ r at.
     let heads = c.args.merging.now.heads.items in
-    c.in_ok-add_further.ensures.grow.keeps (head_of heads r.left) r.token (heads_of heads r.columns.items) (c.in_ok-add_merged.ensures.has r at)
+    c.in_ok-add_further.ensures.grow.keeps (column_head heads r.left) r.token (column_heads heads r.columns.items) (c.in_ok-add_merged.ensures.has r at)
 
 pub returns-else-is_last-clause-added : goal.returns-else-is_last-clause-added
 returns-else-is_last-clause-added c =

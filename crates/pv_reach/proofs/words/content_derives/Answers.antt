@@ -2,7 +2,7 @@ use Rattle.std.proofs.Common.{IsTrue, [], ap, arith, length, subst, sym, ℕ, �
 use Rattle.pv_dtd.specs.Plain.{declared}
 use Rattle.pv_productive.specs.PlainForms.{dtd_of}
 use Rattle.pv_columns.specs.ColumnRules.{ReadThrough}
-use Rattle.pv_reach.specs.Merging.{head_of}
+use Rattle.pv_reach.specs.Merging.{column_head}
 use Rattle.pv_reach.proofs.Emptied.{tokens_may_be_missing}
 use Rattle.pv_reach.proofs.FormedDtds.{formed_dtd}
 use Rattle.pv_reach.proofs.Listing.{if_ok_as}
@@ -23,7 +23,7 @@ column_reaches-requires-clause-column c =
     let n = c.count.ensures ∙ ap declared (c.dtd.ensures ∙ ap dtd_of c.grammar-grammar.ensures) in
     let l = c.if-id-count.false in
     let many = (formed_dtd c.args.judge.now).is_proper.named in
-    let e = c.head_of-column.ensures ∙ ap (λ v. head_of v c.args.id.0) c.deref.ensures.value in
+    let e = c.column_head-column.ensures ∙ ap (λ v. column_head v c.args.id.0) c.deref.ensures.value in
     let P : ℕ → Type 0 = λ v. v < c.plan-plan.result.now.width in
     subst P (sym e) (c.plan-plan.ensures.replaces.columns c.args.id.0 (omega arith))
 
@@ -44,9 +44,9 @@ returns-in-Some c =
     let many = (formed_dtd c.args.judge.now).is_proper.named in
     let missing = is.replaces.missing word (tokens_may_be_missing g is.rules word is.are_rules (formed_dtd c.args.judge.now) c.requires.productive) in
     let s = is.replaces.same word c.args.id.0 0 (length word) (omega arith) in
-    let e : c.head_of-column.result ≡ head_of plan.heads.items c.args.id.0 = c.head_of-column.ensures ∙ ap (λ v. head_of v c.args.id.0) c.deref.ensures.value in
+    let e : c.column_head-column.result ≡ column_head plan.heads.items c.args.id.0 = c.column_head-column.ensures ∙ ap (λ v. column_head v c.args.id.0) c.deref.ensures.value in
     let W : ℕ → Type 0 = λ v. v < plan.width in
-    let own = is.free.own c.head_of-column.result (subst W (sym e) (is.replaces.columns c.args.id.0 (omega arith))) in
+    let own = is.free.own c.column_head-column.result (subst W (sym e) (is.replaces.columns c.args.id.0 (omega arith))) in
     let P : ℕ → Type 0 = λ v. IsTrue c.in-Some.covers ↔ ReadThrough plan.rules.items word (v ∷ []) 0 (length word) in
     let r = subst P (own ∙ e) (c.in-Some.ensures plan.rules.items is.free.columns is.free.sets missing) in
     content_reaches g is.rules word c.args.id.0 c.in-Some.covers is.are_rules (formed_dtd c.args.judge.now) lt ((λ t. s.0 (r.0 t)), (λ d. r.1 (s.1 d)))
@@ -59,7 +59,7 @@ returns c =
     let lt : c.args.id.0 < declared g = omega arith in
     let many = (formed_dtd c.args.judge.now).is_proper.named in
     let s = c.plan-plan.ensures.replaces.same word c.args.id.0 0 (length word) (omega arith) in
-    let e = c.head_of-column.ensures ∙ ap (λ v. head_of v c.args.id.0) c.deref.ensures.value in
+    let e = c.column_head-column.ensures ∙ ap (λ v. column_head v c.args.id.0) c.deref.ensures.value in
     let Q : ℕ → Type 0 = λ v. ReadThrough c.plan-plan.result.now.rules.items word (v ∷ []) 0 (length word) in
     if_ok_as c.column_reaches.result _ _
     (λ b iff. content_reaches g c.plan-plan.ensures.rules word c.args.id.0 b c.plan-plan.ensures.are_rules (formed_dtd c.args.judge.now) lt

@@ -2,7 +2,7 @@ use Rattle.std.proofs.Common.{◌≡◌, ℕ, ◌^◌, ◌<◌, true, false, not
 use Rattle.std.proofs.lemmas.Fmt.{parse-decimal, IsAscii-decimal}
 use Rattle.std.proofs.lemmas.Str.{IsUtf8-from_ascii}
 use Rattle.std.proofs.lemmas.Slice.Eq.{bytes_eq-Decides}
-use Rattle.pv_script.proofs.Numbers.{no-number, number_of-decimal}
+use Rattle.pv_script.proofs.Numbers.{no-number, number_spelled-decimal}
 use Rattle.pv_script.proofs.paths.written_number.Goals as goal
 
 pub returns-in_default : goal.returns-in_default
@@ -32,4 +32,4 @@ returns c =
     let equal = (bytes_eq-Decides c.format.result.now c.in-Ok.digits.now).0 (not-false _ c.if-ne.ensures) in
     let digits : c.args.word.now ≡ decimal c.in-Ok-parse.number = sym c.in-Ok.ensures.cases.0 ∙ sym equal ∙ c.format.ensures.text in
     let value = c.in-Ok-parse.ensures.value.0 in
-    rw digits (number_of-decimal c.in-Ok-parse.number (omega (arith, value.0.1, value.1)))
+    rw digits (number_spelled-decimal c.in-Ok-parse.number (omega (arith, value.0.1, value.1)))

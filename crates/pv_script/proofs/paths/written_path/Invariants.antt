@@ -1,11 +1,11 @@
 use Rattle.std.proofs.Common.{◌≡◌, ◌++◌, length}
 use Rattle.std.specs.Option.{option_map}
-use Rattle.pv_script.specs.Reading.{numbers_of, between_dots}
+use Rattle.pv_script.specs.Reading.{numbers_spelled, between_dots}
 use Rattle.pv_script.proofs.paths.written_path.Given as goal
 
 -- the places read so far stand before those that are left
 abbrev pub invariant-places : goal.invariant-places
-invariant-places l = numbers_of (between_dots l.initial.rest) ≡ option_map (λ ns. l.places.items ++ ns) (numbers_of (between_dots l.rest))
+invariant-places l = numbers_spelled (between_dots l.initial.rest) ≡ option_map (λ ns. l.places.items ++ ns) (numbers_spelled (between_dots l.rest))
 
 abbrev pub decreases-places : goal.decreases-places
 decreases-places l = length l.rest

@@ -3,7 +3,7 @@ use Rattle.std.proofs.lemmas.List.{length-map}
 use Rattle.std.proofs.lemmas.Bool.{cases_lt}
 use Rattle.pv_model.specs.PlainForms.{plain_token}
 use Rattle.pv_span.specs.Charts.{AreSettled, spans_before}
-use Rattle.pv_span.specs.Done.{rows_of}
+use Rattle.pv_span.specs.DoneSpans.{rows_done}
 use Rattle.pv_span.specs.FormForms.{plain_all}
 use Rattle.pv_span.specs.PlainForms.{plain_chart}
 use Rattle.pv_span.proofs.Across.{rows_count}
@@ -18,7 +18,7 @@ settle-requires c =
       | inl lt ↦ lt
       | inr ge ↦ absurd (let k = c.is_full.ensures.1 (omega arith) in let q = c.loop-chart-test.true in cc)
     ] in
-    ready_begun (plain_all c.args.forms.now) (map plain_token c.args.word.now) t.from t.to (length (rows_of t.done)) (plain_chart t) c.loop-chart.invariant
+    ready_begun (plain_all c.args.forms.now) (map plain_token c.args.word.now) t.from t.to (length (rows_done t.done)) (plain_chart t) c.loop-chart.invariant
     (let q = t.next room in omega arith) t.place.0 t.place.1
 
 pub next-requires-clause-room : goal.next-requires-clause-room
@@ -43,12 +43,12 @@ pub loop-chart-preserved : goal.loop-chart-preserved
 loop-chart-preserved c =
     let t = c.settle.new.chart in
     let n : length (plain_all c.args.forms.now) ≡ length c.args.forms.now = simp length-map in
-    put_next (plain_all c.args.forms.now) (map plain_token c.args.word.now) t.from t.to (length (rows_of c.next.new.self.done)) (plain_chart t) (plain_chart c.next.new.self)
+    put_next (plain_all c.args.forms.now) (map plain_token c.args.word.now) t.from t.to (length (rows_done c.next.new.self.done)) (plain_chart t) (plain_chart c.next.new.self)
     c.next.new.self.row.items c.settle.ensures.attained
     (subst (λ z. AreSettled (plain_all c.args.forms.now) (map plain_token c.args.word.now) t.from t.to z (plain_chart t)) (sym n) c.settle.ensures.settled) c.next.ensures.sized c.next.ensures.blank c.next.ensures.next refl
 
 pub returns : goal.returns
 returns c =
     let t = c.loop-chart.chart in
-    filled (plain_all c.args.forms.now) (map plain_token c.args.word.now) (length (rows_of t.done)) (plain_chart t) c.loop-chart.invariant
+    filled (plain_all c.args.forms.now) (map plain_token c.args.word.now) (length (rows_done t.done)) (plain_chart t) c.loop-chart.invariant
     (let q = c.loop-chart-test.false in c.is_full.ensures.0 cc)

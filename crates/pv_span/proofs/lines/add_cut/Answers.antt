@@ -2,7 +2,7 @@ use Rattle.std.specs.Vec.{with_items}
 use Rattle.std.proofs.Common.{ap, arith, ◌+◌, ◌∙◌, ◌≡◌}
 use Rattle.std.proofs.lemmas.List.{with_items_is}
 use Rattle.pv_productive.specs.Tables.{size_at}
-use Rattle.pv_span.specs.Done.{row_of}
+use Rattle.pv_span.specs.DoneSpans.{row_of}
 use Rattle.pv_span.proofs.Across.{each_lowered}
 use Rattle.pv_span.proofs.Numbering.{later_before}
 use Rattle.pv_span.proofs.lines.add_cut.Goals as goal

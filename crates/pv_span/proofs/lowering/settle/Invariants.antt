@@ -1,14 +1,14 @@
 use Rattle.std.specs.Prelude.{sum}
 use Rattle.std.proofs.Common.{map}
 use Rattle.pv_model.specs.PlainForms.{plain_token}
-use Rattle.pv_span.specs.Charts.{IsAttained}
+use Rattle.pv_span.specs.Charts.{IsAttainedChart}
 use Rattle.pv_span.specs.FormForms.{plain_all}
 use Rattle.pv_span.specs.PlainForms.{DiffersInRow, plain_chart}
 use Rattle.pv_span.proofs.lowering.settle.Given as goal
 
 abbrev pub invariant-loop : goal.invariant-loop
 invariant-loop l = record {
-  attained : IsAttained (plain_all l.forms) (map plain_token l.word) l.chart.from l.chart.to (plain_chart l.chart);
+  attained : IsAttainedChart (plain_all l.forms) (map plain_token l.word) l.chart.from l.chart.to (plain_chart l.chart);
   same : DiffersInRow l.fn.chart l.chart;
 }
 

@@ -1,6 +1,6 @@
 use Rattle.std.proofs.Common.{List, ap, arith, subst, sym, ◌≡◌, ◌∙◌}
 use Rattle.std.specs.List.{between}
-use Rattle.pv_edit.specs.Fitting.{Suits, plain_task}
+use Rattle.pv_edit.specs.Fitting.{SuitsChange, plain_task}
 use Rattle.pv_edit.specs.Reasons.{items_of, kids_at}
 use Rattle.pv_tree.specs.Places.{spot_at}
 use Rattle.pv_tree.specs.Plain.{Tree, forest_of, nodes_in_all}
@@ -18,7 +18,7 @@ bad_taken-requires-clause-suits c =
     let ch = plain_task t in
     let doc = plain_doc c.args.self.now.doc in
     let kids : plain_all c.in-Some.kids.now ≡ kids_at t.list doc.root = ap items_of c.in-Some.ensures in
-    let s = subst (Suits ch) (sym kids) (task-suits doc.root ch c.requires.can c.requires.unshort doc.mark) in
+    let s = subst (SuitsChange ch) (sym kids) (task-suits doc.root ch c.requires.can c.requires.unshort doc.mark) in
     record { order = s.order; within = s.within; fits = s.fits }
 
 pub bad_taken-requires-clause-small : goal.bad_taken-requires-clause-small

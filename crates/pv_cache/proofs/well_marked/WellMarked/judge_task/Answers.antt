@@ -2,7 +2,7 @@ use Rattle.std.proofs.Common.{◌≡◌, ap, List, subst, sym}
 use Rattle.std.specs.Option.{option_map}
 use Rattle.pv_dtd.specs.Plain.{PlainDtd}
 use Rattle.pv_dtd.specs.PlainForms.{plain_dtd}
-use Rattle.pv_edit.specs.Fitting.{Suits, plain_task}
+use Rattle.pv_edit.specs.Fitting.{SuitsChange, plain_task}
 use Rattle.pv_edit.specs.Reasons.{items_of, kids_at}
 use Rattle.pv_missing.specs.PlainForms.{plain_of}
 use Rattle.pv_tree.specs.Plain.{Tree}
@@ -19,7 +19,7 @@ words_after-requires-clause-suits g c =
     let ch = plain_task t in
     let doc = plain_doc c.args.self.now.doc in
     let kids : plain_all c.in-Some.kids.now ≡ kids_at t.list doc.root = ap items_of c.in-Some.ensures in
-    let s = subst (Suits ch) (sym kids) (task-suits doc.root ch c.requires.can c.requires.unshort doc.mark) in
+    let s = subst (SuitsChange ch) (sym kids) (task-suits doc.root ch c.requires.can c.requires.unshort doc.mark) in
     record { order = s.order; within = s.within; fits = s.fits }
 
 pub returns-clause-judged : goal.returns-clause-judged

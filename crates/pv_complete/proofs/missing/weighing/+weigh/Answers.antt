@@ -13,7 +13,7 @@ use Rattle.pv_missing.specs.PlainForms.{plain_of}
 use Rattle.pv_missing.specs.Weighing.{site_of}
 use Rattle.pv_missing.proofs.Walking.{element_site, from_first}
 use Rattle.pv_span.specs.declared.errors.SpanError.TheVariants.{TooWide as too_wide}
-use Rattle.pv_complete.specs.Loads.{AddsUp, StopsAt}
+use Rattle.pv_complete.specs.Loads.{AddsUp, StopsAtList}
 use Rattle.pv_complete.specs.PlainForms.{load_of}
 use Rattle.pv_complete.proofs.Adding.{adds_nothing, adds_on, stops_before, stops_behind}
 use Rattle.pv_complete.proofs.missing.weighing.+weigh.Goals as goal
@@ -40,7 +40,7 @@ weigh_kids-returns-in_err-weigh_node-clause-wide t c =
     rw p.1 (λ e root.
     let q = p.2 in
     let wide : c.in_err-weigh_node.field-0.0 ≡ too_wide = cc in
-    let here : StopsAt d root (lists_at (path ++ c.loop-i.i ∷ []) (plain kid)) c.args.verdicts.now.verdicts (load_of c.loop-i.load) c.weigh_node.new.load.places.items =
+    let here : StopsAtList d root (lists_at (path ++ c.loop-i.i ∷ []) (plain kid)) c.args.verdicts.now.verdicts (load_of c.loop-i.load) c.weigh_node.new.load.places.items =
     rw (c.in_ok-enter.ensures.places, c.enter.ensures.used) at (c.in_err-weigh_node.ensures.wide wide root) in
     rw c.loop-i.invariant.same_places at (c.loop-i.invariant.stops root c.weigh_node.new.load.places.items (rw whole
     (stops_before d root c.args.verdicts.now.verdicts (lists_at (path ++ c.loop-i.i ∷ []) (plain kid)) (lists_from path (c.loop-i.i + 1) rest) (load_of c.loop-i.load) c.weigh_node.new.load.places.items here))))
@@ -86,7 +86,7 @@ weigh_node-returns-in_err-weigh_list-clause-wide t c =
     rw p.1 (λ e root.
     let q = p.2 in
     let wide : c.in_err-weigh_list.field-0.0 ≡ too_wide = cc in
-    let here : StopsAt d root (list ∷ []) c.args.verdicts.now.verdicts (load_of c.args.load.now) path = c.in_err-weigh_list.ensures.wide wide root list (rw c.deref.ensures.value refl) owner in
+    let here : StopsAtList d root (list ∷ []) c.args.verdicts.now.verdicts (load_of c.args.load.now) path = c.in_err-weigh_list.ensures.wide wide root list (rw c.deref.ensures.value refl) owner in
     rw (c.in-Elem.is, plain-Elem, c.weigh_list.ensures.places) (stops_before d root c.args.verdicts.now.verdicts (list ∷ []) (lists_from path 0 kids) (load_of c.args.load.now) path here))
 
 pub weigh_node-returns-clause-weighed : goal.weigh_node-returns-clause-weighed

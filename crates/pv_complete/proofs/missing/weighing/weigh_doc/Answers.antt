@@ -10,7 +10,7 @@ use Rattle.pv_missing.specs.PlainForms.{plain_of}
 use Rattle.pv_missing.specs.Weighing.{site_of}
 use Rattle.pv_missing.proofs.Walking.{places_of_root, root_site}
 use Rattle.pv_span.specs.declared.errors.SpanError.TheVariants.{TooWide as too_wide}
-use Rattle.pv_complete.specs.Loads.{AddsUp, StopsAt}
+use Rattle.pv_complete.specs.Loads.{AddsUp, StopsAtList}
 use Rattle.pv_complete.specs.PlainForms.{load_of}
 use Rattle.pv_complete.proofs.Adding.{adds_on, stops_before, stops_behind}
 use Rattle.pv_complete.proofs.missing.weighing.weigh_doc.Goals as goal
@@ -25,7 +25,7 @@ returns-in_err-weigh_list-clause-wide c =
     rw p.1 (λ e.
     let q = p.2 in
     let wide : c.in_err-weigh_list.field-0.0 ≡ too_wide = cc in
-    let here : StopsAt d root (list ∷ []) c.args.verdicts.now.verdicts (load_of c.args.load.now) [] = c.in_err-weigh_list.ensures.wide wide root list (rw c.from_ref.ensures.value refl) owner in
+    let here : StopsAtList d root (list ∷ []) c.args.verdicts.now.verdicts (load_of c.args.load.now) [] = c.in_err-weigh_list.ensures.wide wide root list (rw c.from_ref.ensures.value refl) owner in
     rw (c.weigh_list.ensures.places, c.requires) (stops_before d root c.args.verdicts.now.verdicts (list ∷ []) (lists_at (0 ∷ []) (plain c.args.doc.now.root)) (load_of c.args.load.now) [] here))
 
 pub returns-clause-weighed : goal.returns-clause-weighed

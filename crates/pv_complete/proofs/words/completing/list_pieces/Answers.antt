@@ -9,7 +9,7 @@ use Rattle.pv_missing.specs.PlainForms.{plain_of}
 use Rattle.pv_span.proofs.KnownSites.{owner_has}
 use Rattle.pv_span.specs.Weights.{weight_of}
 use Rattle.pv_complete.specs.PieceForms.{plain_pieces}
-use Rattle.pv_complete.specs.Spelling.{Spells}
+use Rattle.pv_complete.specs.Spelling.{SpellsSpan}
 use Rattle.pv_complete.proofs.SpelledWrites.{writes_at}
 use Rattle.pv_complete.proofs.words.completing.list_pieces.Goals as goal
 
@@ -55,5 +55,5 @@ returns-clause-pieces c =
     let i : IsWeight (Rule d w) (over (plain_of c.args.owner.now.of) 0 (length w)) k = c.in-Ok.ensures.weights.weights (plain_of c.args.owner.now.of) 0 (length w) (owner_has c.args.owner.now) (omega arith, omega arith) in
     let n : length c.args.word.now ≡ length w = simp length-map in
     let e = rw (c.site-site.ensures, n) at c.at-weight.ensures in
-    let s : Spells d w k (over (plain_of c.args.owner.now.of) 0 (length w)) (plain_pieces c.in_ok-pieces.pieces.items) = rw (c.site-site.ensures, n, e) at c.in_ok-pieces.ensures in
+    let s : SpellsSpan d w k (over (plain_of c.args.owner.now.of) 0 (length w)) (plain_pieces c.in_ok-pieces.pieces.items) = rw (c.site-site.ensures, n, e) at c.in_ok-pieces.ensures in
     (k, i, writes_at d c.args.owner.now.of k w (plain_pieces c.in_ok-pieces.pieces.items) s)

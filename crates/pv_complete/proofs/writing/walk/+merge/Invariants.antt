@@ -7,7 +7,7 @@ use Rattle.pv_tree.specs.Words.{word_of}
 use Rattle.pv_tree.specs.declared.nodes.Mark.{Mark}
 use Rattle.pv_missing.specs.Verdicts.{AreVerdicts}
 use Rattle.pv_complete.specs.PieceForms.{plain_pieces}
-use Rattle.pv_complete.specs.Written.{Suits, WritesSome}
+use Rattle.pv_complete.specs.Written.{SuitsWord, WritesSome}
 use Rattle.pv_complete.specs.WritingForms.{writing_of}
 use Rattle.pv_complete.proofs.writing.walk.+merge.Given as goal
 
@@ -16,7 +16,7 @@ abbrev pub invariant-write_list-loop-kid : goal.invariant-write_list-loop-kid
 invariant-write_list-loop-kid l = record {
   within : l.next ≤ length l.pieces;
   few : nodes_in_all (forest (drop l.kid-index l.kids)) ≤ nodes_in_all (forest l.kids);
-  suits : Suits (dtd_of l.layout.grammar.now) (plain_pieces (drop l.next l.pieces)) (word_of (dtd_of l.layout.grammar.now) (forest (drop l.kid-index l.kids)));
+  suits : SuitsWord (dtd_of l.layout.grammar.now) (plain_pieces (drop l.next l.pieces)) (word_of (dtd_of l.layout.grammar.now) (forest (drop l.kid-index l.kids)));
   some : (root path : List ℕ) (more : List (Listed Mark)) → AreVerdicts (dtd_of l.layout.grammar.now) root (lists_from path 0 (forest l.kids) ++ more) (drop l.fn.out.used l.verdicts.verdicts) →
       WritesSome (dtd_of l.layout.grammar.now) root path l.kid-index (plain_pieces l.pieces) (plain_pieces (drop l.next l.pieces)) (forest l.kids) (forest (drop l.kid-index l.kids)) more l.verdicts.verdicts
       (writing_of l.fn.out) (writing_of l.out);

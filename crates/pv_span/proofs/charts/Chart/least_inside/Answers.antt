@@ -4,7 +4,7 @@ use Rattle.std.proofs.lemmas.List.{get_or_default}
 use Rattle.std.proofs.lemmas.Option.{slice_get_read}
 use Rattle.pv_productive.specs.Tables.{no_size}
 use Rattle.pv_span.specs.Charts.{span_number, spans_before}
-use Rattle.pv_span.specs.Done.{rows_of}
+use Rattle.pv_span.specs.DoneSpans.{rows_done}
 use Rattle.pv_span.specs.PlainForms.{plain_chart}
 use Rattle.pv_span.proofs.Across.{rows_count}
 use Rattle.pv_span.proofs.Lined.{told_of}
@@ -15,7 +15,7 @@ returns c =
     let s = c.args.self.now in
     let room : s.done.count < s.done.spans = let k = rw c.if-is_full.false at c.is_full.ensures in let n = rows_count s.done in let e = s.spans in
     elim (cases_lt s.done.count s.done.spans) [ inl lt ↦ lt | inr ge ↦ absurd (let z = k.1 (omega arith) in cc) ] in
-    let q : span_number s.tokens s.from s.to ≡ length (rows_of s.done) = let d = s.next room in let b = rows_count s.done in omega arith in
+    let q : span_number s.tokens s.from s.to ≡ length (rows_done s.done) = let d = s.next room in let b = rows_count s.done in omega arith in
     let l = c.in_ok-line.ensures.lookup in
     let k = slice_get_read c.deref.result.now (length c.deref.result.now) c.args.number c.in_ok-line.line.now refl l.3.0 l.1 in
     let d : s.to < length c.in_ok-line.line.now.least.items = let u = c.len.ensures in let v = c.if-self-len.false in omega arith in

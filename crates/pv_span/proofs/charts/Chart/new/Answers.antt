@@ -1,7 +1,7 @@
 use Rattle.std.specs.Vec.{with_items}
 use Rattle.std.proofs.Common.{arith, ◌-◌, ◌≡◌}
 use Rattle.std.proofs.lemmas.List.{with_items_is}
-use Rattle.pv_span.specs.Done.{rows_of}
+use Rattle.pv_span.specs.DoneSpans.{rows_done}
 use Rattle.pv_span.proofs.Lined.{forgotten}
 use Rattle.pv_span.proofs.Numbering.{few_in_all}
 use Rattle.pv_span.proofs.charts.Chart.new.Goals as goal
@@ -23,4 +23,4 @@ pub invariant_of-result-clause-lined : goal.invariant_of-result-clause-lined
 invariant_of-result-clause-lined c =
     let e : (with_items c.args.lines c.forget_lines.new.lines).items ≡ c.forget_lines.new.lines =
     with_items_is c.args.lines _ (let l = c.forget_lines.auto.lines in let m = c.deref_mut.ensures.len in omega arith) in
-    ∣ rw e (forgotten c.args.tokens c.args.tokens (rows_of c.in_ok-done.done) c.forget_lines.new.lines c.forget_lines.ensures) ∣₁
+    ∣ rw e (forgotten c.args.tokens c.args.tokens (rows_done c.in_ok-done.done) c.forget_lines.new.lines c.forget_lines.ensures) ∣₁

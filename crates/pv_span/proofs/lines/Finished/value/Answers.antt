@@ -1,6 +1,6 @@
 use Rattle.std.proofs.Common.{ap, arith, sym, ◌∙◌}
 use Rattle.pv_productive.specs.Tables.{size_at}
-use Rattle.pv_span.specs.Done.{row_of}
+use Rattle.pv_span.specs.DoneSpans.{row_of}
 use Rattle.pv_span.proofs.Across.{done_at}
 use Rattle.pv_span.proofs.lines.Finished.value.Goals as goal
 
