@@ -15,6 +15,7 @@ use Rattle.pv_dtd.specs.Plain.{PlainDtd}
 use Rattle.pv_drill.specs.Drill.{drill_lines, section_line, section_lines}
 use Rattle.pv_edit.specs.declared.answers.Done.{Done as WhatWasDone}
 use Rattle.pv_missing.proofs.VerdictLists.{one_list_of_verdicts}
+use Rattle.pv_missing.specs.VerdictLaws.{NoneImpossible}
 use Rattle.pv_missing.specs.Verdicts.{AreVerdicts, HavePossible, possible_in}
 use Rattle.law_missing.specs.Dtds.{sections_dtd}
 use Rattle.pv_script.specs.Laws.{OneCommand}
@@ -52,8 +53,13 @@ three_counted j left bad last worst e =
     let none = eqb-true (suc j % 3) 0 e in
     counts_same _ _ _ _ _ _ _ _ (omega (arith, none)) (omega (arith, none)) (omega arith) (omega (arith, none))
 
+-- what is known of lines and of verdicts
+pub record LineLaws : Type 0 where
+  pub one : OneCommand
+  pub none : NoneImpossible Unit
+
 -- the lines for a section in their order
-module _ (one : OneCommand) (j m : ℕ) (most : j + suc m ≤ 20000) where
+module _ (known : LineLaws) (j m : ℕ) (most : j + suc m ≤ 20000) where
   few : length (behind j) + length (ahead (suc j) m) ≤ 20000
   few = omega (arith, length_behind j, length_ahead (suc j) m)
 
@@ -65,21 +71,21 @@ module _ (one : OneCommand) (j m : ℕ) (most : j + suc m ≤ 20000) where
 
   br_line : (s next : PlainSession) (told : Reply) → At here s → RepliesTo s (section_line (suc j) 0) told next → (next ≡ s) × (done_of told ≡ None)
   br_line s next told h r =
-      let step = replies_wrap_br one s next (suc j) told (omega arith) r in
-      let refused = br_refused (behind j) (ahead (suc j) m) (suc j) j (length_behind j) few s h next step.0 step.1 in
+      let step = replies_wrap_br known.one s next (suc j) told (omega arith) r in
+      let refused = br_refused known.none (behind j) (ahead (suc j) m) (suc j) j (length_behind j) few s h next step.0 step.1 in
       (refused.0, ap done_of step.2 ∙ refused.1)
 
   p_line : (s next : PlainSession) (told : Reply) → At here s → RepliesTo s (section_line (suc j) 1) told next →
       (answer : PlainAnswer) × (left : ℕ) × (bad : ℕ) × Made there (section_wrap (suc j) (codes "p")) s next answer × (done_of told ≡ Some (checks 2 left bad))
   p_line s next told h r =
-      let step = replies_wrap_p one s next (suc j) told (omega arith) r in
-      let made = p_made (behind j) (ahead (suc j) m) (suc j) j (length_behind j) few s h next step.0 step.1 in
+      let step = replies_wrap_p known.one s next (suc j) told (omega arith) r in
+      let made = p_made known.none (behind j) (ahead (suc j) m) (suc j) j (length_behind j) few s h next step.0 step.1 in
       (step.0, made.left, made.bad, made, ap done_of step.2 ∙ ap (λ a. done_of (reply_to a)) made.is_answer)
 
   undo_line : (s w next : PlainSession) (told : Reply) (answer : PlainAnswer) → At here s → Made there (section_wrap (suc j) (codes "p")) s w answer → RepliesTo w (section_line (suc j) 2) told next →
       (left : ℕ) × (bad : ℕ) × At here next × (done_of told ≡ Some (checks 1 left bad))
   undo_line s w next told answer h made r =
-      let step = replies_undo one w next (suc j) told r in
+      let step = replies_undo known.one w next (suc j) told r in
       let back = undone_at here there (section_wrap (suc j) (codes "p")) s w next step.0 answer refl h made step.1 in
       (back.1.0, back.1.1, back.0, ap done_of step.2 ∙ ap (λ a. done_of (reply_to a)) back.1.2)
 
@@ -124,15 +130,15 @@ counts_split s before (line ∷ lines) more after now (told, next, is, r) =
     (parts.0, parts.1, (told, next, is, parts.2), parts.3)
 
 -- the lines of the first j sections
-pub lines_counted : OneCommand → (j m n : ℕ) → j + m ≡ n → n ≤ 20000 → (s after : PlainSession) (now : Counts) → At (state 0 n) s → CountsReplies s no_counts (drill_lines j) after now →
+pub lines_counted : LineLaws → (j m n : ℕ) → j + m ≡ n → n ≤ 20000 → (s after : PlainSession) (now : Counts) → At (state 0 n) s → CountsReplies s no_counts (drill_lines j) after now →
     At (state j m) after × (now ≡ drill_counts j)
-lines_counted one zero m n e most s after now h r =
+lines_counted known zero m n e most s after now h r =
     let same : n ≡ m = omega arith in
     (subst (λ (x : PlainSession). At (state 0 m) x) (sym r.0) (rw same at h), r.1)
-lines_counted one (suc j) m n e most s after now h r =
+lines_counted known (suc j) m n e most s after now h r =
     let parts = counts_split s no_counts (drill_lines j) (section_lines (suc j)) after now r in
-    let before = lines_counted one j (suc m) n (omega arith) most s parts.0 parts.1 h parts.2 in
-    section_counted one j m (omega arith) parts.0 after now before.0 (subst (λ (c : Counts). CountsReplies parts.0 c (section_lines (suc j)) after now) before.1 parts.3)
+    let before = lines_counted known j (suc m) n (omega arith) most s parts.0 parts.1 h parts.2 in
+    section_counted known j m (omega arith) parts.0 after now before.0 (subst (λ (c : Counts). CountsReplies parts.0 c (section_lines (suc j)) after now) before.1 parts.3)
 
 -- verdicts for a DTD and a root under other names
 verdicts_for : (g h : PlainDtd) (r s : List ℕ) (lists : List (Listed ℕ)) (vs : List Verdict) → g ≡ h → r ≡ s → AreVerdicts g r lists vs → AreVerdicts h s lists vs

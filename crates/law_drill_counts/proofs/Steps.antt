@@ -19,9 +19,9 @@ use Rattle.pv_edit.specs.declared.edits.Edit.{Edit}
 use Rattle.pv_edit.specs.declared.reasons.Reason.{Reason}
 use Rattle.pv_missing.specs.Completing.{IsPotentiallyValid}
 use Rattle.pv_missing.specs.Proper.{IsProperDoc}
+use Rattle.pv_missing.specs.VerdictLaws.{NoneImpossible}
 use Rattle.pv_missing.specs.Verdicts.{HaveImpossible, is_impossible as impossible_verdict}
 use Rattle.pv_missing.proofs.Counts.{same_counts}
-use Rattle.pv_missing.proofs.NoneImpossible.{none_impossible}
 use Rattle.law_missing.proofs.Sections.{proper_sections}
 use Rattle.law_missing.specs.Dtds.{sections_dtd}
 use Rattle.pv_session.proofs.Stamped.{stamped_same, unmarked_bare}
@@ -62,11 +62,11 @@ not_refused doc edit d e reason is made given =
     let both : refuses reason ≡ gives e = ap unmarked_outcome (sym given) ∙ unmarked_made doc edit d e is made in cc
 
 -- no list of a document that can be made valid is Impossible, and where none is, it can
-no_bad : (doc : PlainDoc ℕ) (ts : List (Tree Unit)) → unmarked_doc doc ≡ drill_doc ts → IsProperDoc (drill_doc ts) → (n : ℕ) → HaveImpossible sections_dtd (codes "doc") (lists_of doc) n →
+no_bad : NoneImpossible Unit → (doc : PlainDoc ℕ) (ts : List (Tree Unit)) → unmarked_doc doc ≡ drill_doc ts → IsProperDoc (drill_doc ts) → (n : ℕ) → HaveImpossible sections_dtd (codes "doc") (lists_of doc) n →
     IsPotentiallyValid sections_dtd (codes "doc") (view (root_tree ts)) ↔ (n ≡ 0)
-no_bad doc ts is proper n h =
+no_bad none doc ts is proper n h =
     let bare = same_counts ℕ Unit impossible_verdict sections_dtd (codes "doc") doc (drill_doc ts) n (is ∙ sym (unmarked_bare (drill_doc ts))) h in
-    let by = none_impossible Unit sections_dtd (codes "doc") (drill_doc ts) bare.verdicts proper_sections proper bare.are_verdicts in
+    let by = none sections_dtd (codes "doc") (drill_doc ts) bare.verdicts proper_sections proper bare.are_verdicts in
     ((λ v. bare.count ∙ by.0 v), (λ z. by.1 (sym bare.count ∙ z)))
 
 same_nodes : (doc : PlainDoc ℕ) (d : PlainDoc Unit) → unmarked_doc doc ≡ d → nodes_in doc.root ≡ nodes_in d.root
@@ -81,7 +81,7 @@ pub record Made (ts : List (Tree Unit)) (edit : Edit) (s after : PlainSession) (
   pub bad : ℕ
   pub is_answer : answer ≡ is_done 2 left bad
 
-module _ (front back : List Section) (k i : ℕ) (place : length front ≡ i) (few : length front + length back ≤ 20000) (s : PlainSession)
+module _ (none : NoneImpossible Unit) (front back : List Section) (k i : ℕ) (place : length front ≡ i) (few : length front + length back ≤ 20000) (s : PlainSession)
     (h : At (trees front ++ bare_section k ∷ trees back) s) where
   -- the document with the text of the section in an element, which is made
   made_around : (name : List ℕ) → is_name name ≡ true → edit_outcome tt (drill_doc (trees front ++ bare_section k ∷ trees back)) (section_wrap (suc i) name) ≡ gives (drill_doc (with_around name front k back))
@@ -107,8 +107,8 @@ module _ (front back : List Section) (k i : ℕ) (place : length front ≡ i) (f
   br_worse edited is (m, n, both, le) =
       let had : HaveImpossible sections_dtd (codes "doc") (lists_of s.doc) m = rw (h.is_dtd, h.is_root) at both.had in
       let has : HaveImpossible sections_dtd (codes "doc") (lists_of edited) n = rw (h.is_dtd, h.is_root) at both.has in
-      let none = (no_bad s.doc _ h.is_doc here_proper m had).0 here_possible in
-      br_impossible front k back ((no_bad edited _ is (br_proper front k back) n has).1 (omega arith))
+      let no_bad_before = (no_bad none s.doc _ h.is_doc here_proper m had).0 here_possible in
+      br_impossible front k back ((no_bad none edited _ is (br_proper front k back) n has).1 (omega arith))
 
   pub br_refused : (after : PlainSession) (answer : PlainAnswer) → IsEditStep s (section_wrap (suc i) (codes "br")) answer after → (after ≡ s) × (done_of (reply_to answer) ≡ None)
   br_refused after answer (accepted edited left bad acc is has also ans) =
@@ -131,7 +131,7 @@ module _ (front back : List Section) (k i : ℕ) (place : length front ≡ i) (f
   p_no_worse : (edited : PlainDoc ℕ) → unmarked_doc edited ≡ drill_doc (with_around (codes "p") front k back) → GetsWorse s.dtd s.root s.doc edited → ⊥
   p_no_worse edited is (m, n, both, lt) =
       let has : HaveImpossible sections_dtd (codes "doc") (lists_of edited) n = rw (h.is_dtd, h.is_root) at both.has in
-      let none = (no_bad edited _ is p_proper n has).0 p_possible in
+      let no_bad_after = (no_bad none edited _ is p_proper n has).0 p_possible in
       absurd (omega arith)
 
   pub p_made : (after : PlainSession) (answer : PlainAnswer) → IsEditStep s (section_wrap (suc i) (codes "p")) answer after →

@@ -7,6 +7,7 @@ use law_drill_tree::laws::{document_law, dtd_law};
 use pv_cli::laws::complete_law;
 use pv_dtd::laws::one_meaning_law;
 use pv_io::Source;
+use pv_missing::laws::verdicts::none_impossible_law;
 use pv_read::laws::{meant_law, one_document_law, one_meaning_law as one_document_meaning_law};
 use pv_script::laws::one_command_law;
 
@@ -22,6 +23,7 @@ pub fn drill_counts_law()
     meant_law();
     one_document_law();
     one_command_law();
+    none_impossible_law::<()>();
     dtd_law();
     document_law();
 }

@@ -1,16 +1,15 @@
 -- What an edit does that doesn't depend on which name it gives.
-use Rattle.std.proofs.Common.{Bool, List, None, Option, Some, [], ap, arith, drop, length, map, nat_lt, not, refl, subst, sym, take, true, ℕ, ◌&&◌, ◌++◌, ◌==◌, ◌||◌, ◌∙◌, ◌∷◌, ◌≡◌, ◌≤◌, codes}
+use Rattle.std.proofs.Common.{Bool, List, None, Option, Some, [], ap, arith, drop, inl, inr, length, map, nat_lt, not, refl, subst, suc, sym, take, true, zero, ℕ, ◌&&◌, ◌++◌, ◌==◌, ◌||◌, ◌∙◌, ◌∷◌, ◌≡◌, ◌≤◌, codes}
 use Rattle.std.proofs.lemmas.List.{map-append}
 use Rattle.std.proofs.lemmas.List.Edits.{split_between}
-use Rattle.std.specs.List.{AllByRecursion, between}
-use Rattle.std.specs.Option.{option_map}
+use Rattle.std.specs.List.{AllByRecursion, Contains, between}
+use Rattle.std.specs.Option.{option_and_then, option_map}
 use Rattle.std.specs.Str.{chars, is_utf8}
 use lib.Utf8.{encode}
 use Rattle.pv_cache.specs.Accepting.{IsHoldable, IsNarrowAt, IsWithinLimits}
 use Rattle.pv_cache.specs.Moves.{HasGround}
 use Rattle.pv_cache.specs.Stamps.{StampedDoc}
-use Rattle.pv_cache.proofs.ListPlaces.{had_at}
-use Rattle.pv_cache.proofs.OneGround.{no_ground_of_accepted}
+use Rattle.pv_cache.specs.GroundLaws.{AcceptedHasNoGround}
 use Rattle.pv_dtd.specs.Plain.{PlainDtd}
 use Rattle.pv_edit.specs.ChangedLists.{changed_lists, makes}
 use Rattle.pv_edit.specs.Changes.{doc_after, in_place_of, list_after, root_after, with_name}
@@ -27,15 +26,25 @@ use Rattle.pv_offer.specs.Laws.{AskedHasNoGround, HasOneOfferGround, LimitsDontT
 use Rattle.pv_offer.specs.Offers.{CanBeAsked, HasOfferGround, IsRefusedBy, edit_with}
 use Rattle.pv_offer.specs.declared.errors.OfferError.TheVariants.{Limit, NoMemory, Shape}
 use Rattle.pv_offer.proofs.Outlines.{depth_outline, list_outline, nodes_outline, outline, outlines, root_alike, root_kept, words_long}
-use Rattle.pv_tree.specs.Lists.{lists_of}
+use Rattle.pv_tree.specs.Laws.{ListsStandAtPaths}
+use Rattle.pv_tree.specs.Lists.{Listed, Owner, an_element, lists_of, the_document}
 use Rattle.pv_tree.specs.Legal.{MAX_DEPTH}
-use Rattle.pv_tree.specs.Places.{list_at}
+use Rattle.pv_tree.specs.Places.{IsListAt, at_node, list_at, list_of, node_below, owner_of, spot_at}
 use Rattle.pv_tree.specs.Plain.{PlainDoc, Tree, cdata_node, depth_of, element, forest_of, misc_node, nodes_in, text_node}
 use Rattle.pv_tree.specs.Words.{word_of}
+use Rattle.pv_tree.proofs.Every.{contains_cases}
+use Rattle.pv_tree.proofs.Levels.{trees-forest}
 
 lists_alike : (ask : Ask) (x y : List ℕ) → changed_lists (makes (edit_with ask x)) ≡ changed_lists (makes (edit_with ask y))
 lists_alike (Wrap path from to) x y = refl
 lists_alike (Rename path) x y = refl
+
+every : {A : Type 0} (P : A → Type 0) (xs : List A) (x : A) → AllByRecursion P xs → Contains xs x → P x
+every P [] x all (k, lt, e) = absurd (omega arith)
+every P (y ∷ ys) x all has = elim (contains_cases y ys x has) [
+  | inl same ↦ subst P same all.0
+  | inr later ↦ every P ys x all.1 later
+]
 
 module _ {M : Type 0} where
   out_refuses : (o : Option Reason) (d : PlainDoc M) (r : Reason) → outcome o d ≡ refuses r → o ≡ Some r
@@ -66,9 +75,30 @@ module _ {M : Type 0} where
       let nodes : nodes_in other.root ≡ nodes_in doc.root = sym (nodes_outline other.root) ∙ ap nodes_in (sym same) ∙ nodes_outline doc.root in
       record { few = rw nodes w.few; narrow = all_narrow g doc other same paths w.narrow }
 
-  held_narrow : (g : PlainDtd) (doc : PlainDoc M) → AllByRecursion (IsListForVerdict g) (lists_of doc) → (paths : List (List ℕ)) → AllByRecursion (IsNarrowAt g doc) paths
-  held_narrow g doc h [] = tt
-  held_narrow g doc h (path ∷ paths) = ((λ kids e. had_at (IsListForVerdict g) doc path kids e h), held_narrow g doc h paths)
+  -- the owner of the list at a path
+  owner_there : (path : List ℕ) (root : Tree M) (kids : List (Tree M)) → list_at path root ≡ Some kids → (owner : Owner) × (option_and_then owner_of (spot_at path root) ≡ Some owner)
+  owner_there [] root kids l = (the_document, refl)
+  owner_there (zero ∷ path) root kids l = by (node_below path root) l
+    where
+      by : (o : Option (Tree M)) → option_and_then list_of o ≡ Some kids → (owner : Owner) × (option_and_then owner_of (option_map at_node o) ≡ Some owner)
+      by None l = absurd cc
+      by (Some (element x a e ks m)) l = (an_element x, refl)
+      by (Some (text_node us)) l = absurd cc
+      by (Some (cdata_node b)) l = absurd cc
+      by (Some (misc_node b)) l = absurd cc
+  owner_there (suc i ∷ path) root kids l = absurd cc
+
+  -- where no list is too wide, none at a path is
+  held_at : ListsStandAtPaths M → (g : PlainDtd) (doc : PlainDoc M) → AllByRecursion (IsListForVerdict g) (lists_of doc) → (path : List ℕ) → IsNarrowAt g doc path
+  held_at stand g doc h path kids l =
+      let (owner, is_owner) = owner_there path doc.root kids l in
+      let list : Listed M = record { path = path; owner = owner; kids = forest_of kids } in
+      let there : IsListAt doc.root list = record { has_owner = is_owner; has_kids = l ∙ ap Some (sym (trees-forest kids)) } in
+      every (IsListForVerdict g) (lists_of doc) list h ((stand doc list).1 there)
+
+  held_narrow : ListsStandAtPaths M → (g : PlainDtd) (doc : PlainDoc M) → AllByRecursion (IsListForVerdict g) (lists_of doc) → (paths : List (List ℕ)) → AllByRecursion (IsNarrowAt g doc) paths
+  held_narrow stand g doc h [] = tt
+  held_narrow stand g doc h (path ∷ paths) = (held_at stand g doc h path, held_narrow stand g doc h paths)
 
   -- ---- changes by names
   wrapped_lists : (blank : M) (root : Tree M) (path : List ℕ) (from to : ℕ) (x y : List ℕ) (ts : List (Tree M)) →
@@ -157,12 +187,12 @@ limits_alike M blank g doc edited other ask x y gx gy w =
     let same : outline edited.root ≡ outline other.root = ap (λ (d : PlainDoc M). outline d.root) (sym ex) ∙ doc_alike blank doc ask x y ∙ ap (λ (d : PlainDoc M). outline d.root) ey in
     subst (IsWithinLimits g other) (lists_alike ask x y) (within_alike g edited other same (changed_lists (makes (edit_with ask x))) w)
 
-pub renames_within : (M : Type 0) → RenamesAreWithin M
-renames_within M blank g doc edited path x held h =
+pub renames_within : (M : Type 0) → ListsStandAtPaths M → RenamesAreWithin M
+renames_within M stand blank g doc edited path x held h =
     let e : doc_after (change_of blank doc.root (edit_with (Rename path) x)) doc ≡ edited = out_gives (reason_of blank doc.root (edit_with (Rename path) x)) (doc_after (change_of blank doc.root (edit_with (Rename path) x)) doc) edited h in
     let same : outline doc.root ≡ outline edited.root = sym (renamed_alike blank doc.root path x) ∙ ap (λ (d : PlainDoc M). outline d.root) e in
     let paths = changed_lists (makes (edit_with (Rename path) x)) in
-    within_alike g doc edited same paths (record { few = held.few; narrow = held_narrow g doc held.narrow paths })
+    within_alike g doc edited same paths (record { few = held.few; narrow = held_narrow stand g doc held.narrow paths })
 
 -- ---- grounds
 -- a Name
@@ -186,16 +216,16 @@ no_ground s ask Limit can (w, h) =
     absurd (n (subst (λ (x : PlainDoc ℕ). IsWithinLimits s.dtd x (changed_lists (makes (edit_with ask (codes "a"))))) (given_once (edit_outcome 0 s.doc (edit_with ask (codes "a"))) x d y e) z))
 no_ground s ask NoMemory can h = refl
 
-pub tried_as_offered : TriedAsOffered
-tried_as_offered s ask x (answer.Shape reason) can nx h n =
+pub tried_as_offered : AcceptedHasNoGround ℕ ℕ → TriedAsOffered
+tried_as_offered none s ask x (answer.Shape reason) can nx h n =
     let (d, e, w) = can x nx in
     absurd (never_both (edit_outcome 0 s.doc (edit_with ask x)) d reason e h)
-tried_as_offered s ask x answer.Limit can nx (d, e, w) n =
+tried_as_offered none s ask x answer.Limit can nx (d, e, w) n =
     let (y, f, z) = can x nx in
     absurd (w (subst (λ (u : PlainDoc ℕ). IsWithinLimits s.dtd u (changed_lists (makes (edit_with ask x)))) (given_once (edit_outcome 0 s.doc (edit_with ask x)) y d f e) z))
-tried_as_offered s ask x (answer.Impossible path) can nx h n =
-    ((λ (d, a). n (no_ground_of_accepted ℕ ℕ 0 0 s.dtd s.root s.doc s.doc (edit_with ask x) d (answer.Impossible path) refl a h)), (path, refl))
-tried_as_offered s ask x answer.NoMemory can nx h n = absurd (n refl)
+tried_as_offered none s ask x (answer.Impossible path) can nx h n =
+    ((λ (d, a). n (none 0 0 s.dtd s.root s.doc s.doc (edit_with ask x) d (answer.Impossible path) refl a h)), (path, refl))
+tried_as_offered none s ask x answer.NoMemory can nx h n = absurd (n refl)
 
 refused_once : {M : Type 0} (o : Outcome M) (r q : Reason) → o ≡ refuses r → o ≡ refuses q → r ≡ q
 refused_once o r q a b = cc
@@ -231,6 +261,6 @@ limit_for s ask (d, e, n) x nx =
     let given = given_alike 0 s.doc d ask (codes "a") x a_name nx e in
     (other, given, λ w. n (limits_alike ℕ 0 s.dtd s.doc other d ask x (codes "a") given e w))
 
-pub limit_by : (s : StampedDoc) (ask : Ask) → IsHoldable s.dtd s.doc → HasGround 0 s.dtd s.root s.doc (edit_with ask (codes "a")) answer.Limit → HasOfferGround s ask Limit
-limit_by s (Wrap path from to) held h = (tt, limit_for s (Wrap path from to) h)
-limit_by s (Rename path) held (d, e, n) = absurd (n (renames_within ℕ 0 s.dtd s.doc d path (codes "a") held e))
+pub limit_by : RenamesAreWithin ℕ → (s : StampedDoc) (ask : Ask) → IsHoldable s.dtd s.doc → HasGround 0 s.dtd s.root s.doc (edit_with ask (codes "a")) answer.Limit → HasOfferGround s ask Limit
+limit_by within s (Wrap path from to) held h = (tt, limit_for s (Wrap path from to) h)
+limit_by within s (Rename path) held (d, e, n) = absurd (n (within 0 s.dtd s.doc d path (codes "a") held e))

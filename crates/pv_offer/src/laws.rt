@@ -4,6 +4,9 @@ ghost use Rattle.pv_offer.specs.Laws.{AskedHasNoGround, HasOneOffer, HasOneOffer
 ghost use Rattle.pv_offer.specs.Laws.{LimitsDontTellNames, OffersExactly, ReasonsDontTellNames};
 ghost use Rattle.pv_offer.specs.Laws.{RenamesAreWithin, TriedAsOffered};
 
+use pv_cache::laws::accepted_law;
+use pv_tree::laws::list_at_law;
+
 /// Why an edit can't be made doesn't depend on which Name is given.
 pub fn reasons_law<M>()
     ensures { ReasonsDontTellNames M }
@@ -17,7 +20,9 @@ pub fn limits_law<M>()
 /// A rename leaves a document within the limits.
 pub fn renames_law<M>()
     ensures { RenamesAreWithin M }
-{}
+{
+    list_at_law::<M>();
+}
 
 /// There is one list of offered names.
 pub fn one_offer_law()
@@ -43,4 +48,6 @@ pub fn no_ground_law()
 /// then for Impossible lists alone; want of memory aside.
 pub fn tried_law()
     ensures { TriedAsOffered }
-{}
+{
+    accepted_law::<u64, u64>();
+}

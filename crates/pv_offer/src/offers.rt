@@ -7,6 +7,7 @@ ghost use Rattle.pv_offer.specs.Offers.{AreOffered, CanBeAsked, HasOfferGround, 
 ghost use Rattle.pv_offer.specs.Offers.{TellsOf, added, declared_names};
 
 use crate::errors::OfferError;
+use crate::laws::renames_law;
 use crate::trying::{Tried, edit_of, judge_alone, try_names};
 use pv_cache::Marked;
 use pv_chars::{Bytes, Labels, NoMemory, bytes_of};
@@ -44,6 +45,7 @@ fn ask_first(alloc: Global, marked: &Marked, ask: &Ask) -> Result<(), OfferError
     ensures refused { IfErr result (HasOfferGround marked.now ask.now) }
 {
     marked.holdable_law();
+    renames_law::<u64>();
     let edit = edit_of(alloc, ask, b"a")?;
     match judge_alone(marked, &edit) {
         Ok(()) => Ok(()),

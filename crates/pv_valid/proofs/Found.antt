@@ -1,10 +1,13 @@
 -- Element types that were found, where one more is put among them, or an element of one begins.
-use Rattle.std.proofs.Common.{◌≡◌, ℕ, List, slice_set, IsTrue, sym, ap, ◌∙◌, subst}
+use Rattle.std.proofs.Common.{◌≡◌, ℕ, List, Option, IfSome, slice_set, IsTrue, sym, ap, ◌∙◌, subst}
 use Rattle.std.specs.List.{All}
 use Rattle.std.specs.Option.{option_copied, option_map}
 use Rattle.std.proofs.lemmas.List.Elements.{All-set}
+use Rattle.std.proofs.lemmas.Option.{IfSome_then}
 use Rattle.pv_model.specs.PlainForms.{plain_model, plain_token}
 use Rattle.pv_dtd.specs.Plain.{PlainDtd}
+use Rattle.pv_read.specs.Items.{Item, start_tag}
+use Rattle.pv_valid.specs.Tags.{IsTypeOfTag}
 use Rattle.pv_valid.specs.Types.{IsTypeOf}
 use Rattle.pv_valid.specs.declared.open.OpenList.{OpenList}
 use Rattle.pv_valid.specs.declared.types.ElementType.{ElementType}
@@ -23,3 +26,10 @@ begins_of g list t name is same_name same_known same_model same_token none = rec
   is_token = ap plain_token same_token ∙ is.is_token;
   no_kids = none;
 }
+
+same_tag : (x y a b : List ℕ) → start_tag x a ≡ start_tag y b → x ≡ y
+same_tag x y a b e = cc
+
+-- the type of a start tag is that of its name
+pub type_of_tag : (g : PlainDtd) (item : Item) (name attrs : List ℕ) (kind : Option ElementType) → item ≡ start_tag name attrs → IfSome kind (IsTypeOfTag g item) → IfSome kind (IsTypeOf g name)
+type_of_tag g item name attrs kind is h = IfSome_then kind h (λ t w. subst (λ (n : List ℕ). IsTypeOf g n t) (same_tag t.name.now name _ attrs (sym w.is_tag ∙ is)) w.is_type)

@@ -3,3 +3,4 @@ pub mod Types
 pub mod OpenLists
 pub mod Contents
 pub mod Runs
+pub mod Tags

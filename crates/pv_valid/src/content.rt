@@ -46,7 +46,7 @@ fn read_item<'a>(
     ensures types { OnOk result (AreTypes (plain_dtd dtd.now) lists.new.types) }
 {
     let open_elements = lists.outer.len() + 1;
-    let (item, more) = item_in(
+    let (item, more, kind) = item_in(
         most_depth,
         &lists.inner,
         &lists.types,
@@ -55,7 +55,7 @@ fn read_item<'a>(
         rest,
         count,
     )?;
-    let whole = lists.add(alloc, dtd, &item)?;
+    let whole = lists.add(alloc, dtd, &item, kind)?;
     Ok((whole, more))
 }
 

@@ -1,7 +1,7 @@
 //! The lists of the open elements, as far as they were read.
 
 ghost use Rattle.std.specs.Prelude.{◌≡◌, ◌≤◌, ◌<◌, ◌+◌, ◌↔◌, ℕ, List, [], ◌∷◌, ◌++◌, length, map};
-ghost use Rattle.std.specs.Prelude.{true, not, IsTrue, OnOk, IfOk};
+ghost use Rattle.std.specs.Prelude.{true, not, IsTrue, OnOk, IfOk, IfSome};
 ghost use Rattle.std.specs.List.{list_any};
 ghost use Rattle.std.specs.Option.{option_copied, option_map, option_and_then, option_to_list};
 ghost use Rattle.pv_chars.specs.Spaces.{is_space};
@@ -18,7 +18,8 @@ ghost use Rattle.pv_read.specs.PlainItems.{plain_item};
 ghost use Rattle.pv_read.specs.Places.{may_stand_in_content};
 ghost use Rattle.pv_valid.specs.Contents.{IsBehind};
 ghost use Rattle.pv_valid.specs.OpenLists.{HasRead, MayGrow, HasEnded, ended_element, MOST_KIDS};
-ghost use Rattle.pv_valid.specs.Types.{AreTypes};
+ghost use Rattle.pv_valid.specs.Tags.{IsTypeOfTag};
+ghost use Rattle.pv_valid.specs.Types.{AreTypes, IsTypeOf};
 ghost use Rattle.pv_valid.specs.WholeLists.{next_path, whole_lists, TellsFirst};
 ghost use Rattle.pv_valid.specs.declared.open.OpenList.{OpenList};
 
@@ -116,9 +117,15 @@ impl<'a> OpenLists<'a> {
         })
     }
 
-    // One more open element, the innermost.
-    fn open(&mut self, dtd: &'a Dtd, name: &'a [u8]) -> Result<(), NoMemory>
-        requires { AreTypes (plain_dtd dtd.now) self.old.types }
+    // One more open element, the innermost, of a type that may be at hand.
+    fn open(
+        &mut self,
+        dtd: &'a Dtd,
+        name: &'a [u8],
+        kind: Option<ElementType<'a>>,
+    ) -> Result<(), NoMemory>
+        requires types { AreTypes (plain_dtd dtd.now) self.old.types }
+        requires typed { IfSome kind (IsTypeOf (plain_dtd dtd.now) name.now) }
         ensures read { (root attrs : List ℕ) (inner : Open Mark) (outer : List (Open Mark)) →
             HasRead (plain_dtd dtd.now) root self.old inner outer →
             OnOk result (HasRead (plain_dtd dtd.now) root self.new (just_opened name.now attrs)
@@ -127,7 +134,7 @@ impl<'a> OpenLists<'a> {
         ensures types { OnOk result (AreTypes (plain_dtd dtd.now) self.new.types) }
     {
         self.outer.push(self.inner)?;
-        let kind = self.types.find(dtd, name);
+        let kind = self.types.or_find(dtd, name, kind);
         self.inner = OpenList::of(kind, self.tokens.len(), self.found.is_some());
         Ok(())
     }
@@ -223,12 +230,20 @@ impl<'a> OpenLists<'a> {
         Ok(false)
     }
 
-    /// One more item in the root, and whether it makes the root whole.
-    pub fn add(&mut self, alloc: Global, dtd: &'a Dtd, item: &Item<'a>) -> Result<bool, NoMemory>
+    /// One more item in the root, and whether it makes the root whole. The type of a start tag may
+    /// be at hand.
+    pub fn add(
+        &mut self,
+        alloc: Global,
+        dtd: &'a Dtd,
+        item: &Item<'a>,
+        kind: Option<ElementType<'a>>,
+    ) -> Result<bool, NoMemory>
         requires room { MayGrow self.old }
         requires stands { may_stand_in_content (plain_item item.now) ≡ true }
         requires known { HasKnownReferences (plain_item item.now) }
         requires types { AreTypes (plain_dtd dtd.now) self.old.types }
+        requires typed { IfSome kind (IsTypeOfTag (plain_dtd dtd.now) (plain_item item.now)) }
         ensures behind { (root : List ℕ) (inner : Open Mark) (outer : List (Open Mark)) →
             HasRead (plain_dtd dtd.now) root self.old inner outer →
             IfOk result (λ whole. IsBehind (plain_dtd dtd.now) root self.new whole inner outer
@@ -237,11 +252,11 @@ impl<'a> OpenLists<'a> {
     {
         match item {
             Item::StartTag(tag) => {
-                self.open(dtd, tag.name)?;
+                self.open(dtd, tag.name, kind)?;
                 Ok(false)
             }
             Item::EmptyTag(tag) => {
-                self.open(dtd, tag.name)?;
+                self.open(dtd, tag.name, None)?;
                 let whole = self.close(alloc, dtd)?;
                 Ok(whole)
             }

@@ -1,7 +1,8 @@
 //! Element types by their names.
 
-ghost use Rattle.std.specs.Prelude.{◌≡◌, IfOk, IsTrue};
+ghost use Rattle.std.specs.Prelude.{◌≡◌, IfOk, IfSome};
 ghost use Rattle.pv_chars.specs.Names.{IsName};
+ghost use Rattle.pv_dtd.specs.Plain.{PlainDtd};
 ghost use Rattle.pv_dtd.specs.PlainForms.{plain_dtd};
 ghost use Rattle.pv_valid.specs.Types.{IsTypeOf, AreTypesNamed, AreTypes};
 
@@ -63,17 +64,24 @@ impl<'a> FoundTypes<'a> {
         Ok(FoundTypes { types })
     }
 
-    /// Whether the bytes are a Name that was found lately.
-    pub fn holds_name(&self, bytes: &[u8]) -> bool
+    /// The type of these bytes, where they are a Name that was found lately.
+    pub fn known(&self, bytes: &[u8]) -> Option<ElementType<'a>>
         requires { AreTypesNamed self.now }
-        ensures { IsTrue result → IsName bytes.now }
+        ensures bytes { IfSome result (λ kind. kind.name.now ≡ bytes.now) }
+        ensures named { IfSome result (λ kind. IsName kind.name.now) }
+        ensures typed { (g : PlainDtd) → AreTypes g self.now →
+            IfSome result (λ kind. IsTypeOf g kind.name.now kind) }
     {
         let place = place_of(bytes);
         if place >= self.types.len() {
-            return false;
+            return None;
         }
         let found = self.types[place];
-        found.is_name && found.name == bytes
+        if found.is_name && found.name == bytes {
+            Some(found)
+        } else {
+            None
+        }
     }
 
     /// The type of this name. One that wasn't found lately is found in the DTD.
@@ -93,6 +101,24 @@ impl<'a> FoundTypes<'a> {
         let found = ElementType::of(dtd, name);
         self.types[place] = found;
         found
+    }
+
+    /// The same, where the type may be at hand.
+    pub fn or_find(
+        &mut self,
+        dtd: &'a Dtd,
+        name: &'a [u8],
+        kind: Option<ElementType<'a>>,
+    ) -> ElementType<'a>
+        requires types { AreTypes (plain_dtd dtd.now) self.old }
+        requires typed { IfSome kind (IsTypeOf (plain_dtd dtd.now) name.now) }
+        ensures found { IsTypeOf (plain_dtd dtd.now) name.now result }
+        ensures kept { AreTypes (plain_dtd dtd.now) self.new }
+    {
+        match kind {
+            Some(kind) => kind,
+            None => self.find(dtd, name),
+        }
     }
 }
 

@@ -1,3 +1,4 @@
+use Rattle.law_drill_counts.proofs.Counting.{LineLaws}
 use Rattle.law_drill_counts.proofs.Formula.{counts_by_formula, responds_by_formula}
 use Rattle.law_drill_counts.proofs.Opening.{Reading, drills_begin}
 use Rattle.law_drill_counts.proofs.laws.drill_counts_law.Goals as goal
@@ -10,4 +11,5 @@ returns c =
       drill_dtd = c.dtd_law.ensures;
       drill_document = c.document_law.ensures;
     } in
-    record { begins = drills_begin known; counts = counts_by_formula known c.one_command_law.ensures.one; response = responds_by_formula known c.one_command_law.ensures.one }
+    let lines : LineLaws = record { one = c.one_command_law.ensures.one; none = c.none_impossible_law.ensures } in
+    record { begins = drills_begin known; counts = counts_by_formula known lines; response = responds_by_formula known lines }

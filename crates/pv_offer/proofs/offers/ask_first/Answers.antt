@@ -33,4 +33,4 @@ pub returns-in-Err-Limit-clause-refused : goal.returns-in-Err-Limit-clause-refus
 returns-in-Err-Limit-clause-refused c =
     let s = c.args.marked.now in
     let by = subst (λ (a : EditAnswer). HasGround 0 s.dtd s.root s.doc c.in_ok-edit.edit a) c.in-Err-Limit.field-0-is c.in-Err-Limit.ensures.refused in
-    limit_by s c.args.ask.now c.holdable_law.ensures.holdable (subst (λ (ed : Edit). HasGround 0 s.dtd s.root s.doc ed answer.Limit) c.in_ok-edit.ensures by)
+    limit_by c.renames_law.ensures s c.args.ask.now c.holdable_law.ensures.holdable (subst (λ (ed : Edit). HasGround 0 s.dtd s.root s.doc ed answer.Limit) c.in_ok-edit.ensures by)

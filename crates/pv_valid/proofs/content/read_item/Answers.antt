@@ -43,3 +43,6 @@ item_in-requires-clause-named c =
 
 pub item_in-requires-clause-types : goal.item_in-requires-clause-types
 item_in-requires-clause-types c = λ k d less. (c.requires.types k d less).is_name
+
+pub add-requires-clause-typed : goal.add-requires-clause-typed
+add-requires-clause-typed c = c.in_ok-item.ensures.typed (plain_dtd c.args.dtd.now) c.requires.types

@@ -13,4 +13,4 @@ returns-clause-taken c = λ left at.
 pub returns-2-clause-taken : goal.returns-2-clause-taken
 returns-2-clause-taken c = λ left at.
     let tag = c.in-Some-start_tag_at in
-    start_tag_taken c.args.most_depth c.args.root.now c.args.rest.now tag.more.now c.args.element.now.name.now tag.name.now c.args.open_elements left at tag.ensures.named (c.may_open.ensures c.if-may_open.true) tag.ensures.whole
+    start_tag_taken c.args.most_depth c.args.root.now c.args.rest.now tag.more.now c.args.element.now.name.now tag.kind.name.now c.args.open_elements left at tag.ensures.named (c.may_open.ensures c.if-may_open.true) tag.ensures.whole

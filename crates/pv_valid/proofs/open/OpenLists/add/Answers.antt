@@ -6,7 +6,12 @@ use Rattle.pv_tree.specs.Plain.{short, tagged}
 use Rattle.pv_read.specs.Left.{just_opened}
 use Rattle.pv_read.specs.PlainItems.{plain_item}
 use Rattle.pv_valid.proofs.Behind.{behind_start, behind_end, behind_empty, behind_misc, behind_cdata, behind_text}
+use Rattle.pv_valid.proofs.Found.{type_of_tag}
 use Rattle.pv_valid.proofs.open.OpenLists.add.Goals as goal
+
+pub open-requires-clause-typed : goal.open-requires-clause-typed
+open-requires-clause-typed c =
+    type_of_tag (plain_dtd c.args.dtd.now) (plain_item c.args.item.now) c.in-StartTag.tag.name.now c.in-StartTag.tag.attrs.now c.args.kind (ap plain_item c.in-StartTag.is) c.requires.typed
 
 pub returns-in_ok-open-in-StartTag-clause-behind : goal.returns-in_ok-open-in-StartTag-clause-behind
 returns-in_ok-open-in-StartTag-clause-behind c = λ root inner outer r.

@@ -9,7 +9,7 @@ returns-clause-read c = λ root attrs inner outer r.
     let w = c.of-self.ensures in
     let old = c.args.self.now in
     let start : c.of-self.result.start ≡ length old.tokens.items = w.start ∙ c.len.ensures ∙ omega arith in
-    element_begun (plain_dtd c.args.dtd.now) root old (record { inner = c.of-self.result; outer = c.push.new.self; tokens = old.tokens; found = old.found; types = c.find-kind.new.self }) inner outer
+    element_begun (plain_dtd c.args.dtd.now) root old (record { inner = c.of-self.result; outer = c.push.new.self; tokens = old.tokens; found = old.found; types = c.or_find-kind.new.self }) inner outer
     c.args.name.now attrs r
-    (begins_of (plain_dtd c.args.dtd.now) c.of-self.result c.find-kind.result c.args.name.now c.find-kind.ensures.found w.name w.is_name w.model w.token w.kids)
+    (begins_of (plain_dtd c.args.dtd.now) c.of-self.result c.or_find-kind.result c.args.name.now c.or_find-kind.ensures.found w.name w.is_name w.model w.token w.kids)
     start (w.is_behind ∙ c.is_some.ensures) c.in_ok-push.ensures.items refl refl
