@@ -18,6 +18,7 @@ import sys
 
 TOP = os.path.dirname(os.path.dirname(os.path.abspath(__file__)))
 PAGE = os.path.join(TOP, "docs", "DEFINITIONS.md")
+DEVELOPING = os.path.join(TOP, "docs", "DEVELOPING.md")
 WORD = r"[A-Za-z_][A-Za-z0-9_']*(?:-[A-Za-z0-9_']+)*"
 OPENS = re.compile(r"^ *(?:abbrev |unfoldable |pub )*(?:mutual|module .* where)$")
 BEGINS = re.compile(rf"^( *)((?:abbrev |unfoldable )?(?:pub )?(?:data |record )?)(?!pub\b)({WORD})(?=[ :]|$)")
@@ -352,6 +353,19 @@ class Page:
             return "\n".join([f"<!-- derived {found[1]} -->"] + self.section(found[1]) + ["", "<!-- end -->"])
         return re.sub(r"<!-- derived (\w+) -->\n.*?<!-- end -->", derived, old, flags=re.S)
 
+    def look_at_shared_names(self):
+        """The names that two crates define are those which docs/DEVELOPING.md tells."""
+        crates = {}
+        for it in self.book.all():
+            if it.crate.startswith("pv_"):
+                crates.setdefault(it.name, set()).add(it.crate)
+        shared = {name for name, of in crates.items() if len(of) > 1}
+        with open(DEVELOPING, encoding="utf-8") as opened:
+            table = opened.read().split("<!-- shared names -->")[1]
+        told = set(re.findall(rf"`({WORD})`", table))
+        self.failures += [f"docs/DEVELOPING.md: {name} is defined by two crates, and isn't told of" for name in shared - told]
+        self.failures += [f"docs/DEVELOPING.md: no two crates define {name}" for name in told - shared]
+
     def look_at_headline(self, text):
         """The names in the table of the headline are of what its clause cites."""
         below = {it.name for it in closed([it for it in self.book.all() if it.name in ("GuardsSession", "command_line_of")])}
@@ -386,6 +400,7 @@ def main():
         old = opened.read()
     new = page.written(old)
     page.look_at_headline(new)
+    page.look_at_shared_names()
     if sys.argv[1:] != ["--check"]:
         with open(PAGE, "w", encoding="utf-8") as opened:
             opened.write(new)

@@ -15,7 +15,7 @@ use Rattle.pv_edit.specs.declared.answers.EditAnswer.{EditAnswer}
 use Rattle.pv_edit.specs.declared.edits.Edit.{Edit}
 use Rattle.pv_edit.specs.declared.inverses.Inverse.{Inverse}
 use Rattle.pv_session.specs.Answers.{edit_answer}
-use Rattle.pv_session.specs.Keeping.{IsMadeBy, IsSession, KeepsWays, LeadsOn, LeadsTo, opened_doc}
+use Rattle.pv_session.specs.Keeping.{IsEditMade, IsSession, KeepsWays, LeadsOn, LeadsTo, opened_doc}
 use Rattle.pv_session.specs.Sessions.{PlainSession, session_on, next_move, stamped_document}
 use Rattle.pv_session.specs.Steps.{IsEditStep, IsRedoStep, IsUndoStep, PlainAnswer, accepted, behind_move, is_done, lacks_history, no_past, redone, refusal_of, refused, undone}
 use Rattle.pv_session.proofs.LastItems.{HasLast, has_some}
@@ -68,7 +68,7 @@ module _ (one : LeadsToOne Unit) (marks : HoldsByOtherMarks ℕ Unit) (m : Stamp
     is_later : later ≡ unmarked_doc e.edited
     is_later = ap unmarked_doc is_doc ∙ stamped_same n (changed_lists (makes edit)) e.edited
 
-    made : IsMadeBy s.dtd s.root now edit way later
+    made : IsEditMade s.dtd s.root now edit way later
     made = record {
       kept = kept_now;
       accepted = subst (IsAccepted tt s.dtd s.root now edit) (sym is_later) (marks.accepted (λ _. tt) 0 s.dtd s.root m.doc e.edited edit e.accepted);

@@ -6,12 +6,12 @@ use Rattle.pv_edit.specs.Laws.{LeadsToOne}
 use Rattle.pv_edit.specs.Reasons.{gives}
 use Rattle.pv_edit.specs.declared.edits.Edit.{Edit}
 use Rattle.pv_edit.specs.declared.inverses.Inverse.{Inverse}
-use Rattle.pv_session.specs.Keeping.{IsMadeBy, LeadsTo, opened_doc}
+use Rattle.pv_session.specs.Keeping.{IsEditMade, LeadsTo, opened_doc}
 use Rattle.pv_session.proofs.Stamped.{unmarked_bare}
 use Rattle.pv_tree.specs.Plain.{PlainDoc}
 
 -- an inverse makes the document before an edit of that after it
-undoes_made : LeadsToOne Unit → (g : PlainDtd) (root : List ℕ) (doc : PlainDoc Unit) (edit : Edit) (way : Inverse) (next : PlainDoc Unit) → IsMadeBy g root doc edit way next → doc_back tt next way ≡ doc
+undoes_made : LeadsToOne Unit → (g : PlainDtd) (root : List ℕ) (doc : PlainDoc Unit) (edit : Edit) (way : Inverse) (next : PlainDoc Unit) → IsEditMade g root doc edit way next → doc_back tt next way ≡ doc
 undoes_made one g root doc edit way next made =
     let l : LeadsBack way next doc = record { edit = edit; kept = made.kept; is_edited = made.accepted.is_edited ∙ ap gives (sym (unmarked_bare next)); is_inverse = made.is_inverse } in
     ap (λ (d : PlainDoc Unit). doc_back tt d way) (sym (unmarked_bare next)) ∙ one way next doc l

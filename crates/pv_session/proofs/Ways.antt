@@ -9,7 +9,7 @@ use Rattle.pv_edit.specs.declared.edits.Edit.{Edit}
 use Rattle.pv_edit.specs.declared.inverses.Inverse.{Inverse}
 use Rattle.pv_edit.specs.declared.reasons.Reason.{Reason}
 use Rattle.pv_cache.specs.Accepting.{IsAccepted, IsHoldable}
-use Rattle.pv_session.specs.Keeping.{IsMadeBy, LeadsOn, LeadsTo}
+use Rattle.pv_session.specs.Keeping.{IsEditMade, LeadsOn, LeadsTo}
 use Rattle.pv_session.specs.Sessions.{Replays}
 use Rattle.pv_tree.specs.Marks.{unmarked_doc}
 use Rattle.pv_tree.specs.Plain.{PlainDoc}
@@ -45,10 +45,10 @@ module _ (g : PlainDtd) (root : List ℕ) where
 
   -- ---- the past
   -- one more edit
-  pub leads_more : (doc last after : PlainDoc Unit) (edits : List Edit) (ways : List Inverse) (edit : Edit) (way : Inverse) → LeadsTo g root doc edits ways last → IsHoldable g last → IsMadeBy g root last edit way after →
+  pub leads_more : (doc last after : PlainDoc Unit) (edits : List Edit) (ways : List Inverse) (edit : Edit) (way : Inverse) → LeadsTo g root doc edits ways last → IsHoldable g last → IsEditMade g root last edit way after →
       LeadsTo g root doc (edits ++ edit ∷ []) (ways ++ way ∷ []) after
   leads_more doc last after [] [] edit way l holdable made =
-      (after, subst (IsHoldable g) l holdable, subst (λ (d : PlainDoc Unit). IsMadeBy g root d edit way after) l made, refl)
+      (after, subst (IsHoldable g) l holdable, subst (λ (d : PlainDoc Unit). IsEditMade g root d edit way after) l made, refl)
   leads_more doc last after [] (w ∷ ways) edit way l holdable made = absurd l
   leads_more doc last after (e ∷ edits) [] edit way l holdable made = absurd l
   leads_more doc last after (e ∷ edits) (w ∷ ways) edit way (next, g1, m, l) holdable made = (next, g1, m, leads_more next last after edits ways edit way l holdable made)
@@ -58,10 +58,10 @@ module _ (g : PlainDtd) (root : List ℕ) where
     pub before : PlainDoc Unit
     pub led : LeadsTo g root doc edits ways before
     pub holdable : IsHoldable g before
-    pub made : IsMadeBy g root before edit way after
+    pub made : IsEditMade g root before edit way after
 
   pub last_edit : (doc after : PlainDoc Unit) (edits : List Edit) (ways : List Inverse) (edit : Edit) (way : Inverse) → LeadsTo g root doc (edits ++ edit ∷ []) (ways ++ way ∷ []) after → IsLast doc edits ways edit way after
-  last_edit doc after [] [] edit way (next, holdable, made, l) = record { before = doc; led = refl; holdable = holdable; made = subst (IsMadeBy g root doc edit way) (sym l) made }
+  last_edit doc after [] [] edit way (next, holdable, made, l) = record { before = doc; led = refl; holdable = holdable; made = subst (IsEditMade g root doc edit way) (sym l) made }
   last_edit doc after [] (w ∷ []) edit way (next, holdable, made, l) = absurd l
   last_edit doc after [] (w ∷ v ∷ ways) edit way (next, holdable, made, l) = absurd l
   last_edit doc after (e ∷ []) [] edit way (next, holdable, made, l) = absurd l
@@ -82,7 +82,7 @@ module _ (g : PlainDtd) (root : List ℕ) where
   empty_both doc after (edit ∷ edits) (way ∷ ways) l e = absurd cc
 
   -- the way back leads back from a document whatever its marks are
-  abbrev pub goes_back : {M : Type 0} (before : PlainDoc Unit) (edit : Edit) (way : Inverse) (edited : PlainDoc M) → IsMadeBy g root before edit way (unmarked_doc edited) → LeadsBack way edited before
+  abbrev pub goes_back : {M : Type 0} (before : PlainDoc Unit) (edit : Edit) (way : Inverse) (edited : PlainDoc M) → IsEditMade g root before edit way (unmarked_doc edited) → LeadsBack way edited before
   goes_back before edit way edited made = record { edit = edit; kept = made.kept; is_edited = made.accepted.is_edited; is_inverse = made.is_inverse }
 
   -- ---- undone edits

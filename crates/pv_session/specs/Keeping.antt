@@ -18,7 +18,7 @@ pub record IsSession (s : PlainSession) : Type 0 where
   pub same_before : s.doc.before ≡ s.opened.before
 
 -- an edit is accepted and makes one document of another, and this is its inverse
-pub record IsMadeBy (g : PlainDtd) (root : List ℕ) (before : PlainDoc Unit) (edit : Edit)
+pub record IsEditMade (g : PlainDtd) (root : List ℕ) (before : PlainDoc Unit) (edit : Edit)
     (way_back : Inverse) (after : PlainDoc Unit) : Type 0 where
   pub kept : IsKept before.root
   pub accepted : IsAccepted tt g root before edit after
@@ -31,7 +31,7 @@ LeadsTo g root doc [] [] after = after ≡ doc
 LeadsTo g root doc [] (way_back ∷ ways_back) after = ⊥
 LeadsTo g root doc (edit ∷ edits) [] after = ⊥
 LeadsTo g root doc (edit ∷ edits) (way_back ∷ ways_back) after =
-    (next : PlainDoc Unit) × IsHoldable g doc × IsMadeBy g root doc edit way_back next ×
+    (next : PlainDoc Unit) × IsHoldable g doc × IsEditMade g root doc edit way_back next ×
     LeadsTo g root next edits ways_back after
 
 -- Undone edits, the last of them first, lead on from one document to another: each of them is
