@@ -77,6 +77,7 @@ done
 
 skip "the page of definitions" python3 || check 60 python3 tests/definitions.py --check
 check 900 tests/program.sh
+skip "a first look" rt || check 600 tests/look.sh
 skip "edits without memory" cc || check 300 tests/edits_without_memory.sh
 skip "the comparison with insertions" python3 || check 300 python3 tests/against_insertions.py crates/pvtag/out/pvtag 850 1
 skip "the comparison with derivations by spans" python3 || check 300 python3 tests/possible_lists.py crates/pvtag/out/pvtag 120 1
