@@ -1,11 +1,10 @@
 //! The verdicts of the lists that a change changes, found beside the tree.
 
-ghost use Rattle.std.specs.Prelude.{◌≡◌, ◌≤◌, ◌+◌, IfErr, IfOk, IfSome};
+ghost use Rattle.std.specs.Prelude.{◌≡◌, ◌≤◌, ◌+◌, IfErr, IfOk};
 ghost use Rattle.std.specs.Option.{option_map};
 ghost use Rattle.pv_cache.specs.Judging.{AreFound, AreNarrow, IsInnerFound};
 ghost use Rattle.pv_missing.specs.PlainForms.{plain_of};
 ghost use Rattle.pv_reach.specs.declared.errors.ReachError.TheVariants.{TooWide as too_wide};
-ghost use Rattle.pv_rules.specs.Sites.{HasSite};
 
 use crate::mending::{ChangedVerdicts, InnerVerdict};
 use crate::planned::PlannedGrammar;
@@ -26,7 +25,6 @@ pub(crate) fn judge_words<L: Ledger>(
     from: usize,
     steps: &mut Steps<L>,
 ) -> Result<ChangedVerdicts, ReachError>
-    requires known { IfSome owner (λ of. HasSite grammar.now (plain_of of)) }
     ensures found { IfOk result (AreFound grammar.now
         (option_map plain_of owner) from words.now) }
     ensures wide { IfErr result (λ e. e ≡ too_wide → ¬ AreNarrow grammar.now words.now) }

@@ -1,6 +1,6 @@
 //! A grammar with its plan, by which lists are judged.
 
-ghost use Rattle.std.specs.Prelude.{◌≡◌, ◌+◌, IfErr, IfOk, IfSome, length};
+ghost use Rattle.std.specs.Prelude.{◌≡◌, ◌+◌, IfErr, IfOk, length};
 ghost use Rattle.std.specs.Option.{option_map};
 ghost use Rattle.pv_cache.specs.Judging.{IsFoundList};
 ghost use Rattle.pv_dtd.specs.PlainForms.{plain_dtd};
@@ -8,7 +8,6 @@ ghost use Rattle.pv_missing.specs.PlainForms.{plain_of};
 ghost use Rattle.pv_missing.specs.Widths.{FitsVerdict};
 ghost use Rattle.pv_productive.specs.PlainForms.{dtd_of};
 ghost use Rattle.pv_reach.specs.declared.errors.ReachError.TheVariants.{TooWide as too_wide};
-ghost use Rattle.pv_rules.specs.Sites.{HasSite};
 
 use crate::words::ListWord;
 use pv_chars::NoMemory;
@@ -82,7 +81,6 @@ impl PlannedGrammar {
         word: &ListWord,
         steps: &mut Steps<L>,
     ) -> Result<Verdict, ReachError>
-        requires known { IfSome owner (λ of. HasSite self.now (plain_of of)) }
         ensures found { IfOk result (IsFoundList self.now (option_map plain_of owner) word.now) }
         ensures wide { IfErr result (λ e. e ≡ too_wide →
             ¬ FitsVerdict self.now (length word.now.tokens.items)) }

@@ -1,17 +1,15 @@
 //! The verdicts of lists, in document order.
 
-ghost use Rattle.std.specs.Prelude.{◌≡◌, ◌≤◌, ◌+◌, ◌∷◌, [], List, ℕ, IfOk, IfSome, MatchResult};
-ghost use Rattle.std.specs.Prelude.{OnOk, length};
+ghost use Rattle.std.specs.Prelude.{◌≡◌, ◌≤◌, ◌+◌, ◌∷◌, [], List, ℕ, IfOk, MatchResult, OnOk};
+ghost use Rattle.std.specs.Prelude.{length};
 ghost use Rattle.std.specs.List.{AllByRecursion};
 ghost use Rattle.pv_productive.specs.PlainForms.{dtd_of};
-ghost use Rattle.pv_rules.specs.Sites.{HasSite};
 ghost use Rattle.pv_tree.specs.Legal.{MAX_NODES};
 ghost use Rattle.pv_tree.specs.Lists.{Listed, lists_at, lists_from};
 ghost use Rattle.pv_tree.specs.Plain.{nodes_in, nodes_in_all};
 ghost use Rattle.pv_tree.specs.PlainForms.{plain, forest};
 ghost use Rattle.pv_tree.specs.Words.{word_of};
 ghost use Rattle.pv_tree.specs.declared.nodes.Mark.{Mark};
-ghost use Rattle.pv_missing.specs.PlainForms.{plain_of};
 ghost use Rattle.pv_missing.specs.Verdicts.{IsVerdict};
 ghost use Rattle.pv_missing.specs.Widths.{FitsVerdict, IsListForVerdict};
 ghost use Rattle.pv_missing.specs.WordVerdicts.{HoldsOne};
@@ -33,7 +31,6 @@ fn verdict_of<L: Ledger>(
     kids: &[Node],
     steps: &mut Steps<L>,
 ) -> Result<Verdict, NoMemory>
-    requires known { IfSome owner (λ of. HasSite (dtd_of judge.now) (plain_of of)) }
     requires fits { FitsVerdict (dtd_of judge.now)
         (length (word_of (dtd_of judge.now) (forest kids.now))) }
     ensures verdict { IfOk result (λ verdict. (root : List ℕ) (list : Listed Mark) →
@@ -56,7 +53,6 @@ pub fn judge_list<L: Ledger>(
     walk: &mut Walk,
     steps: &mut Steps<L>,
 ) -> Result<(), NoMemory>
-    requires known { IfSome owner (λ of. HasSite (dtd_of judge.now) (plain_of of)) }
     requires fits { FitsVerdict (dtd_of judge.now)
         (length (word_of (dtd_of judge.now) (forest kids.now))) }
     ensures judged { OnOk result ((root : List ℕ) (list : Listed Mark) →

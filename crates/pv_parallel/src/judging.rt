@@ -51,7 +51,6 @@ fn verdict_on<L: Ledger>(
     requires name { blank.name ≡ L.name }
     requires parts { blank.parts ≡ L.parts }
     requires some { 0 < L.parts }
-    requires known { IfSome owner (λ of. HasSite (dtd_of judge.now) (plain_of of)) }
     ensures verdict { IfOk result (λ verdict. (root : List ℕ) (list : Listed Mark) →
         list.kids ≡ forest kids.now → IsOwner (dtd_of judge.now) root list owner →
         HoldsOne list.owner list.kids → IsVerdict (dtd_of judge.now) root list verdict) }
@@ -71,7 +70,6 @@ fn judge_list<G: Gate>(
     gate: &G,
     verdicts: &mut Vec<Verdict>,
 ) -> Result<(), ReachError>
-    requires known { IfSome owner (λ of. HasSite (dtd_of judge.now) (plain_of of)) }
     ensures judged { OnOk result ((root : List ℕ) (list : Listed Mark) →
         list.kids ≡ forest kids.now → IsOwner (dtd_of judge.now) root list owner →
         HoldsOne list.owner list.kids →

@@ -8,7 +8,7 @@ use Rattle.pv_dtd.specs.Plain.{PlainDtd}
 use Rattle.pv_reach.specs.Columns.{AreRules, width_of}
 use Rattle.pv_reach.specs.Leading.{AreAlike}
 use Rattle.pv_reach.specs.Merging.{AreHeadsBare, AreMerged, HasMerged, IsMerging, Replaces}
-use Rattle.pv_reach.specs.declared.merging.Merging.{Merging}
+use Rattle.pv_reach.specs.declared.columns.merging.Merging.{Merging}
 use Rattle.pv_reach.proofs.FormedDtds.{IsFormedDtd}
 use Rattle.pv_reach.proofs.Placing.{unset}
 use Rattle.pv_reach.proofs.Ranging.{rules_in_range}

@@ -11,7 +11,7 @@ use Rattle.pv_columns.proofs.Marking.{same_or_not}
 use Rattle.pv_reach.specs.Adding.{AddsRule, RulesGrow}
 use Rattle.pv_reach.specs.Cuts.{AddsCut, AreCutRules, AreColumnNumbers, AreRanges, HasCut, HasNumbered, IsCutRule, by_rules, by_set}
 use Rattle.pv_reach.specs.Merging.{column_head}
-use Rattle.pv_reach.specs.declared.ranges.RuleRanges.{RuleRanges}
+use Rattle.pv_reach.specs.declared.columns.ranges.RuleRanges.{RuleRanges}
 use Rattle.pv_reach.proofs.Pushing.{grow_none, grow_twice}
 
 module _ (rules : List ColumnRule) (old new : List ℕ) (n place : ℕ) (is : (d : ColumnRule) → (get_or rules n d).left ≡ place) (others : (x : ℕ) → x ≢ place → get_or new x 0 ≡ get_or old x 0) where

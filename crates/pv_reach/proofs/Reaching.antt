@@ -11,15 +11,11 @@ use Rattle.pv_model.specs.declared.models.Token.TheVariants.{Name, Other, Text}
 use Rattle.pv_dtd.specs.Plain.{PlainDtd, declared}
 use Rattle.pv_rules.specs.Derivations.{by_rule as by_rule_of, none_left}
 use Rattle.pv_rules.specs.Deriving.{DerivesAt}
-use Rattle.pv_rules.specs.Flat.{flat_parts}
 use Rattle.pv_rules.specs.Numbering.{part_at, rest_at}
-use Rattle.pv_rules.specs.PartLaws.{membership_at}
 use Rattle.pv_rules.specs.Rules.{kept, missing, over}
 use Rattle.pv_rules.specs.Sites.{HasSite, PlainSite, content_site, name_site, part_site, rest_site}
-use Rattle.pv_rules.specs.declared.flat.FlatPart.{FlatPart}
+use Rattle.pv_rules.proofs.ByKind.{by_kind}
 use Rattle.pv_rules.proofs.Deriving.{spanned, to_one}
-use Rattle.pv_rules.proofs.FlatKinds.{made}
-use Rattle.pv_rules.proofs.Rests.{no_flat, outside}
 use Rattle.pv_columns.specs.ColumnRules.{ReadThrough, TokensMayBeMissing, by_rule, done}
 use Rattle.pv_columns.specs.declared.rules.ColumnRule.{ColumnRule}
 use Rattle.pv_columns.proofs.Spans.{join}
@@ -28,7 +24,7 @@ use Rattle.pv_reach.specs.Ending.{AreReaches, IsGreatestEnd, past_of, place_told
 use Rattle.pv_reach.specs.Merging.{Replaces, column_head, column_heads}
 use Rattle.pv_reach.specs.Reached.{AreRests, is_of_name, kept_past, past_column, past_members, past_rest}
 use Rattle.pv_reach.specs.Tables.{IsFurthest, onward, past}
-use Rattle.pv_reach.specs.declared.ends.Ends.{Ends}
+use Rattle.pv_reach.specs.declared.tables.ends.Ends.{Ends}
 use Rattle.pv_reach.specs.declared.reaches.Reaches.{Reaches}
 use Rattle.pv_reach.proofs.Closing.{past_beyond, past_reaches}
 use Rattle.pv_reach.proofs.ColumnsDerive.{content_derives, get_plain, part_derives, rest_derives}
@@ -48,15 +44,9 @@ furthest_end : (g : PlainDtd) (w : List PlainToken) (s : PlainSite) (i v : ℕ) 
 furthest_end g w s i zero p = λ j d. absurd (let x = p.beyond j d in omega arith)
 furthest_end g w s i (suc v) p = (p.attained v refl, λ k d. let x = p.beyond k d in omega arith)
 
--- a member of a sequence has itself among the members from it on
-pub rest_full : (g : PlainDtd) (q : ℕ) → rest_at g q ≡ Some no_parts → ⊥
-rest_full g q e = full_case (slice_get (flat_parts g) q) refl
-  where
-    full_case : (o : Option FlatPart) → slice_get (flat_parts g) q ≡ o → ⊥
-    full_case None h = no_flat g q h (rw e refl)
-    full_case (Some f) h =
-        let m = made g q f h in
-        outside g q f h (ap (λ (x : FlatPart). x.membership) m.is_flat ∙ ap membership_at e) (rw e refl)
+-- no members derive nothing
+none_derive : (g : PlainDtd) (w : List PlainToken) (q i j : ℕ) → rest_at g q ≡ Some no_parts → DerivesAt g w (rest_site q) i j → ⊥
+none_derive g w q i j h (n, by_rule_of _ c m _ xs e rule ds) = let k = by_kind g w (rest_site q) i j c xs rule in rw h at k
 
 is_name_of : (o : Option Token) (x : ℕ) → is_of_name o x ≡ true → o ≡ Some (token_of x)
 is_name_of None x e = absurd cc
@@ -193,7 +183,9 @@ module _ (g : PlainDtd) (rules merged : List ColumnRule) (e : Ends) (are : AreRu
 
   module _ (r : Reaches) (is : r.ends ≡ e) (rests : AreRests g e r.rests.items 0) where
     rest_case : (q i : ℕ) (ps : PlainParts) → rest_at g q ≡ Some ps → i ≤ length word → IsPast (λ j. DerivesAt g w (rest_site q) i j) (past_rest e r.rests.items q i)
-    rest_case q i no_parts h le = absurd (rest_full g q h)
+    rest_case q i no_parts h le =
+        let P : ℕ → Type 0 = λ v. IsPast (λ j. DerivesAt g w (rest_site q) i j) v in
+        subst P (sym (rests.holds q i no_parts (omega arith) h le)) (record { attained = λ j z. absurd cc; beyond = λ j d. absurd (none_derive g w q i j h d) })
     rest_case q i (part p ps) h le =
         let P : ℕ → Type 0 = λ v. IsPast (λ j. DerivesAt g w (rest_site q) i j) v in
         subst P (sym (rests.holds q i (part p ps) (omega arith) h le)) (members_past q i p ps h le)

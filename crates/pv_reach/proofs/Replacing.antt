@@ -10,7 +10,7 @@ use Rattle.pv_reach.specs.Columns.{Has}
 use Rattle.pv_columns.specs.Marks.{AreNullable}
 use Rattle.pv_reach.specs.Leading.{AreAlike, LeadsOnTo, ReadsWhatever}
 use Rattle.pv_reach.specs.Merging.{AddsMerged, AreMerged, HasMerged, IsFurtherRule, IsMergedRule, IsMerging, MayStandBehind, Replaces, behind, column_head, column_heads, none, one}
-use Rattle.pv_reach.specs.declared.merging.Merging.{Merging}
+use Rattle.pv_reach.specs.declared.columns.merging.Merging.{Merging}
 use Rattle.pv_columns.specs.declared.rules.ColumnRule.{ColumnRule}
 use Rattle.pv_reach.proofs.Closing.{columns_in_range}
 use Rattle.pv_reach.proofs.Leading.{all_bare, follows}

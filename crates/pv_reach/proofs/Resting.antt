@@ -1,27 +1,32 @@
 -- Rows for the members of sequences are filled, from the last part on.
-use Rattle.std.proofs.Common.{List, Some, [], arith, get_or-set_other, get_or-set_same, inl, inr, length, refl, set, subst, suc, zero, ℕ, ◌*◌, ◌+◌, ◌<◌, ◌≡◌, ◌≢◌, ◌≤◌, ◌⊎◌}
+use Rattle.std.specs.Prelude.{option_and_then}
+use Rattle.std.proofs.Common.{List, None, Option, Some, [], arith, get_or-set_other, get_or-set_same, inl, inr, length, refl, set, slice_get, subst, suc, zero, ℕ, ◌*◌, ◌+◌, ◌<◌, ◌≡◌, ◌≢◌, ◌≤◌, ◌⊎◌}
 use Rattle.std.proofs.Math.Nat.{mul-le-mul_right}
 use Rattle.std.proofs.lemmas.Bool.{cases_lt}
 use Rattle.std.proofs.lemmas.List.{length-set}
+use Rattle.std.proofs.lemmas.Option.{slice_get_within}
 use Rattle.pv_model.specs.Plain.{PlainPart, PlainParts, no_parts, part}
 use Rattle.pv_dtd.specs.Plain.{PlainDtd, parts_in, parts_in_models}
-use Rattle.pv_rules.specs.Numbering.{rest_at}
+use Rattle.pv_rules.specs.Numbering.{Numbered, numbered_models, rest_at}
 use Rattle.pv_rules.proofs.Facts.{parts_by_number}
+use Rattle.pv_rules.proofs.FlatKinds.{IsNoRest}
 use Rattle.pv_rules.proofs.Members.{some_part}
 use Rattle.pv_reach.specs.Columns.{part_column}
 use Rattle.pv_reach.specs.Reached.{AreRests, past_column, past_members, past_rest}
 use Rattle.pv_reach.specs.Merging.{column_head}
 use Rattle.pv_reach.specs.Tables.{IsTable, onward, past}
-use Rattle.pv_reach.specs.declared.ends.Ends.{Ends}
-use Rattle.pv_reach.proofs.Reaching.{rest_full}
+use Rattle.pv_reach.specs.declared.tables.ends.Ends.{Ends}
 
 module _ (g : PlainDtd) (e : Ends) where
   abbrev places : ℕ
   places = suc (length e.word.items)
 
   rest_number : (q : ℕ) (ps : PlainParts) → rest_at g q ≡ Some ps → q < parts_in_models g.models
-  rest_number q no_parts h = absurd (rest_full g q h)
-  rest_number q (part p ps) h = let a = (parts_by_number g).within q p ((parts_by_number g).member q p ps h) in let b = some_part p in omega arith
+  rest_number q ps h = let a = number_case (slice_get (numbered_models g.models) q) refl h in let b = (parts_by_number g).counted in omega arith
+    where
+      number_case : (o : Option Numbered) → slice_get (numbered_models g.models) q ≡ o → option_and_then (λ (n : Numbered). n.rest) o ≡ Some ps → q < length (numbered_models g.models)
+      number_case None e f = absurd cc
+      number_case (Some n) e f = slice_get_within (numbered_models g.models) q n e
 
   pub rests_none : (rests : List ℕ) (n : ℕ) → n ≡ parts_in_models g.models → length rests ≡ n * places → AreRests g e rests n
   rests_none rests n z long = record {
@@ -76,6 +81,11 @@ module _ (g : PlainDtd) (e : Ends) where
           let y : n ≡ q = omega arith in
           let P : ℕ → Type 0 = λ m. rest_at g m ≡ Some ps → past_rest e rests m i ≡ past_members g e m ps i in
           subst P y (λ s. is.row i ps (omega arith) s) h
+
+  -- no members lead nowhere
+  pub past_outside : (q i : ℕ) (ps : PlainParts) → IsNoRest (rest_at g q) → rest_at g q ≡ Some ps → 0 ≡ past_members g e q ps i
+  past_outside q i no_parts n h = refl
+  past_outside q i (part p ps) n h = absurd (rw h at n)
 
   -- the members from one on lead where the last of them does, or where those behind it lead from there
   module _ (q i : ℕ) (named : e.names ≡ length g.names) where

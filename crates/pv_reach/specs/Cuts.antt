@@ -10,7 +10,7 @@ use Rattle.pv_columns.specs.declared.rules.ColumnRule.{ColumnRule}
 use Rattle.pv_reach.specs.Adding.{RulesGrow}
 use Rattle.pv_reach.specs.Columns.{Has}
 use Rattle.pv_reach.specs.Merging.{column_head, column_heads}
-use Rattle.pv_reach.specs.declared.ranges.RuleRanges.{RuleRanges}
+use Rattle.pv_reach.specs.declared.columns.ranges.RuleRanges.{RuleRanges}
 
 -- the sets of columns below a number, each at the column's own place
 pub record AreOwnSets (rules : List ColumnRule) (width : ℕ) (free : FreeSets) : Type 0 where

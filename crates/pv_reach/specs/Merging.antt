@@ -8,7 +8,7 @@ use Rattle.pv_columns.specs.ColumnRules.{InRange, ReadThrough, TokensMayBeMissin
 use Rattle.pv_reach.specs.Columns.{Has}
 use Rattle.pv_columns.specs.Marks.{AreNullable, IsMarked}
 use Rattle.pv_reach.specs.Leading.{AreAlike, LeadsOnTo}
-use Rattle.pv_reach.specs.declared.merging.Merging.{Merging}
+use Rattle.pv_reach.specs.declared.columns.merging.Merging.{Merging}
 use Rattle.pv_columns.specs.declared.rules.ColumnRule.{ColumnRule}
 
 -- the column that stands for another

@@ -2,7 +2,7 @@
 use Rattle.std.specs.Prelude.{Bool, List, None, Option, Some, cond, false, get_or, length, nat_eq}
 use Rattle.std.specs.Prelude.{suc}
 use Rattle.std.specs.Prelude.{ℕ, ◌*◌, ◌+◌, ◌≡◌, ◌≤◌}
-use Rattle.pv_model.specs.Plain.{PlainParts}
+use Rattle.pv_model.specs.Plain.{PlainParts, no_parts, part}
 use Rattle.pv_model.specs.declared.models.Token.{Token}
 use Rattle.pv_model.specs.declared.models.Token.TheVariants.{Name, Other, Text}
 use Rattle.pv_dtd.specs.Plain.{PlainDtd, parts_in_models}
@@ -10,7 +10,7 @@ use Rattle.pv_rules.specs.Numbering.{rest_at}
 use Rattle.pv_reach.specs.Columns.{member_columns}
 use Rattle.pv_reach.specs.Merging.{column_head, column_heads}
 use Rattle.pv_reach.specs.Tables.{cell_at, past}
-use Rattle.pv_reach.specs.declared.ends.Ends.{Ends}
+use Rattle.pv_reach.specs.declared.tables.ends.Ends.{Ends}
 
 -- one past the furthest place of a column, by the one that stands for it; 0 where it reaches none
 abbrev pub past_column : Ends → ℕ → ℕ → ℕ
@@ -31,10 +31,11 @@ kept_past t x i = cond (is_of_name t x) (suc (suc i)) 0
 abbrev pub past_rest : Ends → List ℕ → ℕ → ℕ → ℕ
 past_rest e rests q i = get_or rests (q * suc (length e.word.items) + i) 0
 
--- where the members of a sequence lead, one after another
+-- where the members of a sequence lead, one after another; nowhere if there are none
 abbrev pub past_members : PlainDtd → Ends → ℕ → PlainParts → ℕ → ℕ
-past_members g e q ps i =
-    past e.width e.table.items (column_heads e.heads.items (member_columns g q ps)) i
+past_members g e q no_parts i = 0
+past_members g e q (part p ps) i =
+    past e.width e.table.items (column_heads e.heads.items (member_columns g q (part p ps))) i
 
 -- a row for each part; those from a number on have, for members of sequences, where that member and
 -- those behind it lead

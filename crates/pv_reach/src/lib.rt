@@ -15,33 +15,15 @@
 //! many verdicts are found.
 #![tactic(auto)]
 
-mod adding;
-mod any;
-mod bare;
-mod chains;
-mod components;
-mod contents;
-mod cut;
-mod edges;
-mod ends;
+mod columns;
 mod errors;
-mod flags;
-mod found;
-mod free;
+mod graph;
 mod judge;
 pub mod laws;
-mod layout;
-mod leaving;
-mod led;
-mod merging;
-mod order;
-mod parts;
 mod plan;
-mod ranges;
 mod reaches;
-mod rests;
-mod sweep;
-mod table;
+mod rules;
+mod tables;
 mod verdict;
 mod words;
 

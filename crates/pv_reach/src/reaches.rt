@@ -9,11 +9,11 @@ ghost use Rattle.pv_reach.specs.Ending.{AreReaches};
 ghost use Rattle.pv_reach.specs.Plans.{IsPlan};
 ghost use Rattle.pv_reach.specs.declared.errors.ReachError.TheVariants.{TooWide as too_wide};
 
-use crate::ends::Ends;
 use crate::errors::ReachError;
 use crate::plan::Plan;
-use crate::rests::{rest_past, rests_of};
-use crate::table::fill;
+use crate::tables::ends::Ends;
+use crate::tables::rests::{rest_past, rests_of};
+use crate::tables::table::fill;
 use pv_missing::is_narrow;
 use pv_model::Token;
 use pv_productive::Grammar;

@@ -1,13 +1,14 @@
 //! The verdict of a list.
 
 ghost use Rattle.std.specs.Prelude.{◌≡◌, ◌↔◌, ◌+◌, ◌<◌, ◌^◌, ℕ, Bool, IsTrue, List, IfErr, IfOk};
-ghost use Rattle.std.specs.Prelude.{IfSome, Some, length, map};
-ghost use Rattle.std.specs.Option.{option_map};
+ghost use Rattle.std.specs.Prelude.{MatchOption, Some, length, map};
+ghost use Rattle.std.specs.Option.{option_copied, option_map};
 ghost use Rattle.pv_model.specs.Models.{Allows};
 ghost use Rattle.pv_model.specs.Plain.{empty};
 ghost use Rattle.pv_model.specs.PlainForms.{plain_model, plain_token};
-ghost use Rattle.pv_dtd.specs.Plain.{declared};
-ghost use Rattle.pv_rules.specs.Sites.{HasSite, content_site, name_site};
+ghost use Rattle.pv_dtd.specs.Plain.{declared, model_of};
+ghost use Rattle.pv_dtd.specs.Productive.{IsProductive};
+ghost use Rattle.pv_rules.specs.Sites.{content_site, name_site};
 ghost use Rattle.pv_productive.specs.PlainForms.{dtd_of};
 ghost use Rattle.pv_tree.specs.Lists.{Listed};
 ghost use Rattle.pv_tree.specs.PlainForms.{forest};
@@ -52,6 +53,18 @@ fn judge_root(judge: &Judge<'_>, id: NameId, word: &[Token]) -> Result<Verdict, 
     }
 }
 
+/// The content model of a name that is productive.
+fn productive_model(grammar: &Grammar, id: NameId) -> Option<&ContentModel>
+    ensures { MatchOption (option_copied result) (¬ IsProductive (dtd_of grammar.now) id.0)
+        (λ model. IsProductive (dtd_of grammar.now) id.0 ×
+        (model_of (dtd_of grammar.now) id.0 ≡ Some (plain_model model))) }
+{
+    if id.0 >= grammar.dtd().names() || !grammar.is_productive(id) {
+        return None;
+    }
+    grammar.dtd().model_of(id)
+}
+
 /// The verdict of an element's list by its word; a word that the content model allows needs no
 /// table.
 fn judge_content(
@@ -60,18 +73,12 @@ fn judge_content(
     word: &[Token],
     is_bare: bool,
 ) -> Result<Verdict, NoMemory>
-    requires known { HasSite (dtd_of judge.now) (content_site id.0) }
     requires fits { FitsVerdict (dtd_of judge.now) (length word.now) }
     requires productive { AreProductiveTokens (dtd_of judge.now) (map plain_token word.now) }
     ensures { IfOk result (λ verdict. IsVerdictByWord (dtd_of judge.now) (Some (content_site id.0))
         (map plain_token word.now) is_bare verdict) }
 {
-    let grammar = judge.grammar();
-    let has_elements = grammar.is_productive(id);
-    if !has_elements {
-        return Ok(Verdict::Impossible);
-    }
-    let Some(model) = grammar.dtd().model_of(id) else {
+    let Some(model) = productive_model(judge.grammar(), id) else {
         return Ok(Verdict::Impossible);
     };
     if !may_have_kids(model, is_bare) {
@@ -114,7 +121,6 @@ fn judge_owned(
     word: &[Token],
     is_bare: bool,
 ) -> Result<Verdict, NoMemory>
-    requires known { HasSite (dtd_of judge.now) (plain_of of) }
     requires fits { FitsVerdict (dtd_of judge.now) (length word.now) }
     ensures { IfOk result (λ verdict. IsVerdictByWord (dtd_of judge.now) (Some (plain_of of))
         (map plain_token word.now) is_bare verdict) }
@@ -135,7 +141,6 @@ fn judge_word(
     word: &[Token],
     is_bare: bool,
 ) -> Result<Verdict, ReachError>
-    requires known { IfSome owner (λ of. HasSite (dtd_of judge.now) (plain_of of)) }
     ensures verdict { IfOk result (λ verdict. IsVerdictByWord (dtd_of judge.now)
         (option_map plain_of owner) (map plain_token word.now) is_bare verdict) }
     ensures fits { IfOk result (λ _. FitsVerdict (dtd_of judge.now) (length word.now)) }
@@ -154,7 +159,6 @@ fn judge_word(
 
 /// The verdict of the list of these kids, where it isn't too wide.
 fn judge_kids(judge: &Judge<'_>, owner: Option<Of>, kids: &[Node]) -> Result<Verdict, ReachError>
-    requires known { IfSome owner (λ of. HasSite (dtd_of judge.now) (plain_of of)) }
     ensures verdict { IfOk result (λ verdict. (root : List ℕ) (list : Listed Mark) →
         list.kids ≡ forest kids.now → IsOwner (dtd_of judge.now) root list owner →
         HoldsOne list.owner list.kids → IsVerdict (dtd_of judge.now) root list verdict) }
@@ -177,7 +181,6 @@ pub fn word_verdict<L: Ledger>(
     is_bare: bool,
     steps: &mut Steps<L>,
 ) -> Result<Verdict, ReachError>
-    requires known { IfSome owner (λ of. HasSite (dtd_of judge.now) (plain_of of)) }
     ensures verdict { IfOk result (λ verdict. IsVerdictByWord (dtd_of judge.now)
         (option_map plain_of owner) (map plain_token word.now) is_bare verdict) }
     ensures fits { IfOk result (λ _. FitsVerdict (dtd_of judge.now) (length word.now)) }
@@ -196,7 +199,6 @@ pub fn list_verdict_by<L: Ledger>(
     kids: &[Node],
     steps: &mut Steps<L>,
 ) -> Result<Verdict, ReachError>
-    requires known { IfSome owner (λ of. HasSite (dtd_of judge.now) (plain_of of)) }
     ensures verdict { IfOk result (λ verdict. (root : List ℕ) (list : Listed Mark) →
         list.kids ≡ forest kids.now → IsOwner (dtd_of judge.now) root list owner →
         HoldsOne list.owner list.kids → IsVerdict (dtd_of judge.now) root list verdict) }
@@ -224,7 +226,6 @@ pub fn list_verdict<L: Ledger>(
     kids: &[Node],
     steps: &mut Steps<L>,
 ) -> Result<Verdict, ReachError>
-    requires { IfSome owner (λ of. HasSite (dtd_of grammar.now) (plain_of of)) }
     ensures verdict { IfOk result (λ verdict. (root : List ℕ) (list : Listed Mark) →
         list.kids ≡ forest kids.now → IsOwner (dtd_of grammar.now) root list owner →
         HoldsOne list.owner list.kids → IsVerdict (dtd_of grammar.now) root list verdict) }

@@ -3,7 +3,7 @@
 ghost use Rattle.std.specs.Prelude.{◌≡◌, ◌↔◌, ◌∷◌, ◌+◌, [], IfErr, IfOk, IsTrue, length, map};
 ghost use Rattle.pv_model.specs.PlainForms.{plain_token};
 ghost use Rattle.pv_model.specs.Plain.{named};
-ghost use Rattle.pv_rules.specs.Sites.{HasSite, content_site};
+ghost use Rattle.pv_rules.specs.Sites.{content_site};
 ghost use Rattle.pv_productive.specs.PlainForms.{dtd_of};
 ghost use Rattle.pv_missing.specs.LiveWords.{AreProductiveTokens};
 ghost use Rattle.pv_missing.specs.PlainForms.{plain_of};
@@ -12,11 +12,11 @@ ghost use Rattle.pv_missing.specs.WordVerdicts.{IsPossibleAt};
 ghost use Rattle.pv_rules.specs.Deriving.{DerivesAt};
 ghost use Rattle.pv_reach.specs.declared.errors.ReachError.TheVariants.{TooWide as too_wide};
 
-use crate::cut::column_reaches;
+use crate::columns::merging::column_head;
 use crate::errors::ReachError;
 use crate::judge::Judge;
-use crate::merging::column_head;
 use crate::plan::Plan;
+use crate::tables::cut::column_reaches;
 use pv_missing::{Of, is_narrow};
 use pv_model::{NameId, Token};
 use pv_productive::Grammar;
@@ -81,7 +81,6 @@ pub fn possible<L: Ledger>(
     word: &[Token],
     steps: &mut Steps<L>,
 ) -> Result<bool, ReachError>
-    requires site { HasSite (dtd_of grammar.now) (plain_of of) }
     requires productive { AreProductiveTokens (dtd_of grammar.now) (map plain_token word.now) }
     ensures possible { IfOk result (λ b. IsTrue b ↔
         IsPossibleAt (dtd_of grammar.now) (plain_of of) (map plain_token word.now)) }

@@ -35,7 +35,7 @@ mod weighing;
 pub use errors::SpanError;
 pub use layout::{ColumnLayout, lay_out};
 pub use membership::member;
-pub use owners::ListOwner;
+pub use owners::{ListOwner, is_known_owner};
 pub use pv_tables::{Entries, Entry, Table, Tables};
 pub use verdict::list_verdict;
 pub use weighing::{Spans, weights, weights_by};

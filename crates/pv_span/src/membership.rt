@@ -2,7 +2,6 @@
 
 ghost use Rattle.std.specs.Prelude.{◌≡◌, ◌↔◌, ◌+◌, IfErr, IfOk, IsTrue, length, map};
 ghost use Rattle.pv_model.specs.PlainForms.{plain_token};
-ghost use Rattle.pv_rules.specs.Sites.{HasSite};
 ghost use Rattle.pv_productive.specs.PlainForms.{dtd_of};
 ghost use Rattle.pv_missing.specs.LiveWords.{AreProductiveTokens};
 ghost use Rattle.pv_missing.specs.PlainForms.{plain_of};
@@ -12,7 +11,7 @@ ghost use Rattle.pv_span.specs.declared.errors.SpanError.TheVariants.{TooWide as
 
 use crate::errors::SpanError;
 use crate::layout::lay_out;
-use crate::owners::ListOwner;
+use crate::owners::{ListOwner, is_known_owner};
 use crate::weighing::{is_narrow, spans_by};
 use pv_chars::NoMemory;
 use pv_missing::Of;
@@ -50,7 +49,6 @@ pub fn member<L: Ledger>(
     word: &[Token],
     steps: &mut Steps<L>,
 ) -> Result<bool, SpanError>
-    requires site { HasSite (dtd_of grammar.now) (plain_of of) }
     requires productive { AreProductiveTokens (dtd_of grammar.now) (map plain_token word.now) }
     ensures possible { IfOk result (λ b. IsTrue b ↔
         IsPossibleAt (dtd_of grammar.now) (plain_of of) (map plain_token word.now)) }
@@ -62,6 +60,9 @@ pub fn member<L: Ledger>(
     steps.tick();
     if !is_narrow(grammar, word.len()) {
         return Err(SpanError::TooWide);
+    }
+    if !is_known_owner(grammar, of) {
+        return Ok(false);
     }
     let layout = lay_out(alloc, grammar)?;
     let owner = ListOwner {

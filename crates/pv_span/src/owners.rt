@@ -1,12 +1,23 @@
 //! The owners of lists, under a grammar that is laid out.
 
+ghost use Rattle.std.specs.Prelude.{◌↔◌, IsTrue};
 ghost use Rattle.pv_rules.specs.Sites.{HasSite};
 ghost use Rattle.pv_productive.specs.PlainForms.{dtd_of};
 ghost use Rattle.pv_missing.specs.PlainForms.{plain_of};
 
 use crate::layout::ColumnLayout;
 use pv_missing::Of;
+use pv_productive::Grammar;
 use pv_rules::Site;
+
+/// Whether the grammar has the owner's name.
+pub fn is_known_owner(grammar: &Grammar, of: Of) -> bool
+    ensures { IsTrue result ↔ HasSite (dtd_of grammar.now) (plain_of of) }
+{
+    match of {
+        Of::Root(id) | Of::Elem(id) => id.0 < grammar.dtd().names(),
+    }
+}
 
 /// The owner of a list, whose name the grammar has.
 #[derive(Clone, Copy)]

@@ -1,11 +1,13 @@
 //! The verdict of a list, by a chart of its live word.
 
-ghost use Rattle.std.specs.Prelude.{◌≡◌, ◌↔◌, ◌+◌, ◌<◌, ◌^◌, ℕ, IfErr, IfOk, IfSome, IsTrue, List};
-ghost use Rattle.std.specs.Prelude.{Some, length, map};
+ghost use Rattle.std.specs.Prelude.{◌≡◌, ◌↔◌, ◌+◌, ◌<◌, ◌^◌, ℕ, IfErr, IfOk, IsTrue, List, Some};
+ghost use Rattle.std.specs.Prelude.{length, map};
+ghost use Rattle.std.specs.Option.{option_copied, option_map};
 ghost use Rattle.pv_model.specs.Plain.{empty};
-ghost use Rattle.pv_model.specs.PlainForms.{plain_token};
+ghost use Rattle.pv_model.specs.PlainForms.{plain_model, plain_token};
 ghost use Rattle.pv_dtd.specs.Plain.{model_of};
-ghost use Rattle.pv_rules.specs.Sites.{HasSite, content_site};
+ghost use Rattle.pv_dtd.specs.Productive.{IsProductive};
+ghost use Rattle.pv_rules.specs.Sites.{content_site};
 ghost use Rattle.pv_productive.specs.PlainForms.{dtd_of};
 ghost use Rattle.pv_tree.specs.Lists.{Listed};
 ghost use Rattle.pv_tree.specs.PlainForms.{forest};
@@ -22,7 +24,7 @@ ghost use Rattle.pv_span.specs.declared.errors.SpanError.TheVariants.{TooWide as
 use crate::errors::SpanError;
 use crate::layout::lay_out;
 use crate::membership::derives;
-use crate::owners::ListOwner;
+use crate::owners::{ListOwner, is_known_owner};
 use crate::weighing::is_narrow;
 use pv_chars::NoMemory;
 use pv_missing::{Of, live_word};
@@ -33,12 +35,28 @@ use pv_tree::{Node, Verdict, word};
 use std::alloc::Global;
 use std::sync::ledger::Ledger;
 
+/// The content model of a name, where it is declared.
+fn model_in(grammar: &Grammar, id: NameId) -> Option<&ContentModel>
+    ensures { option_map plain_model (option_copied result) ≡ model_of (dtd_of grammar.now) id.0 }
+{
+    if id.0 >= grammar.dtd().names() {
+        return None;
+    }
+    grammar.dtd().model_of(id)
+}
+
+/// Whether a name is productive.
+fn is_productive(grammar: &Grammar, id: NameId) -> bool
+    ensures { IsTrue result ↔ IsProductive (dtd_of grammar.now) id.0 }
+{
+    id.0 < grammar.dtd().names() && grammar.is_productive(id)
+}
+
 /// Whether elements of a name are declared EMPTY.
 fn is_empty_element(grammar: &Grammar, id: NameId) -> bool
-    requires { HasSite (dtd_of grammar.now) (content_site id.0) }
     ensures { IsTrue result ↔ (model_of (dtd_of grammar.now) id.0 ≡ Some empty) }
 {
-    let Some(model) = grammar.dtd().model_of(id) else {
+    let Some(model) = model_in(grammar, id) else {
         return false;
     };
     match model {
@@ -51,14 +69,12 @@ fn is_empty_element(grammar: &Grammar, id: NameId) -> bool
 
 /// Whether a list of this owner may have kids, or has none of any kind.
 fn may_have_kids(grammar: &Grammar, of: Of, is_bare: bool) -> bool
-    requires { HasSite (dtd_of grammar.now) (plain_of of) }
     ensures { IsTrue result ↔ MayHaveKids (dtd_of grammar.now) (plain_of of) is_bare }
 {
     match of {
         Of::Root(_) => true,
         Of::Elem(id) => {
-            let is_productive = grammar.is_productive(id);
-            is_productive && (is_bare || !is_empty_element(grammar, id))
+            is_productive(grammar, id) && (is_bare || !is_empty_element(grammar, id))
         }
     }
 }
@@ -72,12 +88,11 @@ fn fits_element(
     word: &[Token],
     is_bare: bool,
 ) -> Result<bool, NoMemory>
-    requires known { HasSite (dtd_of grammar.now) (content_site id.0) }
     requires kids { model_of (dtd_of grammar.now) id.0 ≡ Some empty → IsTrue is_bare }
     ensures { IfOk result (λ b. IsTrue b ↔ IsValidAt (dtd_of grammar.now) (content_site id.0)
         (map plain_token word.now) is_bare) }
 {
-    let Some(model) = grammar.dtd().model_of(id) else {
+    let Some(model) = model_in(grammar, id) else {
         return Ok(false);
     };
     matches(alloc, model, grammar.dtd().count(), word).map_err(|_| NoMemory)
@@ -92,7 +107,6 @@ fn is_valid(
     word: &[Token],
     is_bare: bool,
 ) -> Result<bool, NoMemory>
-    requires known { HasSite (dtd_of grammar.now) (plain_of of) }
     requires kids { MayHaveKids (dtd_of grammar.now) (plain_of of) is_bare }
     ensures { IfOk result (λ b. IsTrue b ↔ IsValidAt (dtd_of grammar.now) (plain_of of)
         (map plain_token word.now) is_bare) }
@@ -113,13 +127,15 @@ fn judge(
     live: &[Token],
     is_bare: bool,
 ) -> Result<Verdict, NoMemory>
-    requires known { HasSite (dtd_of grammar.now) (plain_of of) }
     requires live { IsLiveWord (dtd_of grammar.now) (map plain_token word.now)
         (map plain_token live.now) }
     requires fits { FitsWeights (dtd_of grammar.now) (length live.now) }
     ensures { IfOk result (λ verdict. IsVerdictByWord (dtd_of grammar.now) (Some (plain_of of))
         (map plain_token word.now) is_bare verdict) }
 {
+    if !is_known_owner(grammar, of) {
+        return Ok(Verdict::Impossible);
+    }
     if !may_have_kids(grammar, of, is_bare) {
         return Ok(Verdict::Impossible);
     }
@@ -150,7 +166,6 @@ pub fn list_verdict<L: Ledger>(
     kids: &[Node],
     steps: &mut Steps<L>,
 ) -> Result<Verdict, SpanError>
-    requires { IfSome owner (λ of. HasSite (dtd_of grammar.now) (plain_of of)) }
     ensures verdict { IfOk result (λ verdict. (root : List ℕ) (list : Listed Mark) →
         list.kids ≡ forest kids.now → IsOwner (dtd_of grammar.now) root list owner →
         HoldsOne list.owner list.kids → IsVerdict (dtd_of grammar.now) root list verdict) }

@@ -1,10 +1,9 @@
 //! The tables of all Possible lists, in document order.
 
-ghost use Rattle.std.specs.Prelude.{◌≡◌, ◌≤◌, ◌<◌, ◌∷◌, [], List, ℕ, IfErr, IfOk, IfSome, OnOk};
+ghost use Rattle.std.specs.Prelude.{◌≡◌, ◌≤◌, ◌<◌, ◌∷◌, [], List, ℕ, IfErr, IfOk, OnOk};
 ghost use Rattle.std.specs.Prelude.{length, map};
 ghost use Rattle.pv_model.specs.PlainForms.{plain_token};
 ghost use Rattle.pv_productive.specs.PlainForms.{dtd_of};
-ghost use Rattle.pv_rules.specs.Sites.{HasSite};
 ghost use Rattle.pv_tree.specs.Legal.{MAX_NODES};
 ghost use Rattle.pv_tree.specs.Lists.{Listed, lists_at, lists_from, lists_of};
 ghost use Rattle.pv_tree.specs.Plain.{nodes_in, nodes_in_all};
@@ -13,7 +12,6 @@ ghost use Rattle.pv_tree.specs.PlainForms.{plain, forest};
 ghost use Rattle.pv_tree.specs.Words.{word_of};
 ghost use Rattle.pv_tree.specs.declared.nodes.Mark.{Mark};
 ghost use Rattle.pv_missing.specs.LiveWords.{AreProductiveTokens};
-ghost use Rattle.pv_missing.specs.PlainForms.{plain_of};
 ghost use Rattle.pv_missing.specs.Widths.{FitsWeights};
 ghost use Rattle.pv_missing.specs.Owners.{IsOwner};
 ghost use Rattle.pv_complete.specs.PlainForms.{made_of};
@@ -26,7 +24,7 @@ use crate::listings::entries::entries_of;
 use crate::listings::made::Made;
 use pv_missing::{Of, Verdicts, element_owner, live_word, root_owner};
 use pv_model::Token;
-use pv_span::{ColumnLayout, Entry, ListOwner, SpanError, weights_by};
+use pv_span::{ColumnLayout, Entry, ListOwner, SpanError, is_known_owner, weights_by};
 use pv_tree::{Doc, Node, Path};
 use std::alloc::Global;
 
@@ -85,7 +83,6 @@ fn table_list(
     verdicts: &Verdicts,
     made: &mut Made,
 ) -> Result<(), NeedError>
-    requires { IfSome owner (λ of. HasSite (dtd_of layout.now.grammar.now) (plain_of of)) }
     ensures tabled { OnOk result ((root : List ℕ) (list : Listed Mark) →
         list.kids ≡ forest kids.now →
         list.path ≡ made.old.load.places.items → IsOwner (dtd_of layout.now.grammar.now) root list
@@ -104,6 +101,9 @@ fn table_list(
     let Some(of) = owner else {
         return Ok(());
     };
+    if !is_known_owner(layout.grammar, of) {
+        return Ok(());
+    }
     let owner = ListOwner { layout, of };
     let entries = kids_entries(alloc, &owner, kids, &made.load.places, made.room)?;
     made.add(alloc, entries)?;

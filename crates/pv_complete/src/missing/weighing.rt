@@ -1,15 +1,13 @@
 //! The weights of all Possible lists, in document order.
 
-ghost use Rattle.std.specs.Prelude.{◌≡◌, ◌≤◌, ◌∷◌, [], List, ℕ, IfErr, IfSome, MatchResult, OnOk};
+ghost use Rattle.std.specs.Prelude.{◌≡◌, ◌≤◌, ◌∷◌, [], List, ℕ, IfErr, MatchResult, OnOk};
 ghost use Rattle.pv_productive.specs.PlainForms.{dtd_of};
-ghost use Rattle.pv_rules.specs.Sites.{HasSite};
 ghost use Rattle.pv_tree.specs.Legal.{MAX_NODES};
 ghost use Rattle.pv_tree.specs.Lists.{Listed, lists_at, lists_from, lists_of};
 ghost use Rattle.pv_tree.specs.Plain.{nodes_in, nodes_in_all};
 ghost use Rattle.pv_tree.specs.PlainDocs.{plain_doc};
 ghost use Rattle.pv_tree.specs.PlainForms.{plain, forest};
 ghost use Rattle.pv_tree.specs.declared.nodes.Mark.{Mark};
-ghost use Rattle.pv_missing.specs.PlainForms.{plain_of};
 ghost use Rattle.pv_missing.specs.Owners.{IsOwner};
 ghost use Rattle.pv_complete.specs.Loads.{AddsUp, StopsAtList};
 ghost use Rattle.pv_complete.specs.PlainForms.{load_of};
@@ -18,7 +16,7 @@ ghost use Rattle.pv_span.specs.declared.errors.SpanError.TheVariants.{TooWide as
 use crate::missing::lists::weight_of;
 use crate::missing::load::Load;
 use pv_missing::{Of, Verdicts, element_owner, root_owner};
-use pv_span::{ColumnLayout, ListOwner, SpanError};
+use pv_span::{ColumnLayout, ListOwner, SpanError, is_known_owner};
 use pv_tree::{Doc, Node};
 use std::alloc::Global;
 
@@ -31,7 +29,6 @@ fn weigh_list(
     verdicts: &Verdicts,
     load: &mut Load,
 ) -> Result<(), SpanError>
-    requires { IfSome owner (λ of. HasSite (dtd_of layout.now.grammar.now) (plain_of of)) }
     ensures weighed { OnOk result ((root : List ℕ) (list : Listed Mark) →
         list.kids ≡ forest kids.now →
         IsOwner (dtd_of layout.now.grammar.now) root list owner →
@@ -49,6 +46,9 @@ fn weigh_list(
     let Some(of) = owner else {
         return Ok(());
     };
+    if !is_known_owner(layout.grammar, of) {
+        return Ok(());
+    }
     match weight_of(alloc, &ListOwner { layout, of }, kids) {
         Ok(weight) => {
             load.add(weight);

@@ -10,7 +10,7 @@ use Rattle.pv_parallel.specs.Jobs.{AreJoined, JudgesJob}
 use Rattle.pv_parallel.proofs.Judgements.{jobs_judged, none_too_wide}
 use Rattle.pv_parallel.proofs.check.judge_lists.Goals as goal
 
-pub join_judged-requires : goal.joined-requires
+pub join_judged-requires : goal.join_judged-requires
 join_judged-requires g c =
     let d = dtd_of c.args.judge.now in
     let entered = g.G.Gate.entered c.args.gate.now in

@@ -1,11 +1,13 @@
-use Rattle.std.proofs.Common.{ap, refl, subst, sym, ◌∙◌, ◌≡◌}
+use Rattle.std.proofs.Common.{ap, refl, subst, sym, true≢false, ◌∙◌, ◌≡◌}
 use Rattle.std.proofs.lemmas.Result.{err_from_is_err_and}
 use Rattle.pv_productive.specs.PlainForms.{dtd_of}
 use Rattle.pv_tree.specs.PlainForms.{forest}
+use Rattle.pv_missing.specs.PlainForms.{plain_of}
 use Rattle.pv_complete.specs.PlainForms.{made_of}
 use Rattle.pv_complete.specs.Tabling.{StopsKids}
 use Rattle.pv_complete.specs.declared.errors.NeedError.{NeedError}
 use Rattle.pv_complete.proofs.MadeTables.{makes_no_owner, makes_other, makes_table, tables_stop}
+use Rattle.pv_complete.proofs.OwnerSites.{owner_site}
 use Rattle.pv_complete.proofs.listings.tabling.table_list.Goals as goal
 
 pub returns-then-not-takes_possible-clause-tabled : goal.returns-then-not-takes_possible-clause-tabled
@@ -15,6 +17,10 @@ returns-then-not-takes_possible-clause-tabled c = λ root list kids path owner.
 pub returns-in_default-clause-tabled : goal.returns-in_default-clause-tabled
 returns-in_default-clause-tabled c = λ root list kids path owner.
     makes_no_owner (dtd_of c.args.layout.now.grammar.now) root c.args.verdicts.now.verdicts list (made_of c.args.made.now) _ c.if-not-takes_possible.ensures.taken (rw c.in_default.is at owner)
+
+pub returns-then-not-is_known_owner-clause-tabled : goal.returns-then-not-is_known_owner-clause-tabled
+returns-then-not-is_known_owner-clause-tabled c = λ root list kids path owner.
+    absurd (true≢false (sym (c.is_known_owner.ensures.1 (owner_site (dtd_of c.args.layout.now.grammar.now) root list.owner (plain_of c.in-Some.of) (rw c.in-Some.is at owner))) ∙ c.if-not-is_known_owner.true))
 
 pub returns-in_err-entries-clause-refused : goal.returns-in_err-entries-clause-refused
 returns-in_err-entries-clause-refused c =

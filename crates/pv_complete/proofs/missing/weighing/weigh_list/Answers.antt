@@ -1,8 +1,10 @@
+use Rattle.std.proofs.Common.{sym, true≢false, ◌∙◌}
 use Rattle.pv_productive.specs.PlainForms.{dtd_of}
 use Rattle.pv_tree.specs.PlainForms.{forest}
 use Rattle.pv_missing.specs.PlainForms.{plain_of}
 use Rattle.pv_complete.specs.PlainForms.{load_of}
 use Rattle.pv_complete.proofs.Adding.{adds_no_owner, adds_other, adds_weight, stops_here, weighs_by}
+use Rattle.pv_complete.proofs.OwnerSites.{owner_site}
 use Rattle.pv_complete.proofs.missing.weighing.weigh_list.Goals as goal
 
 pub returns-then-not-takes_possible-clause-weighed : goal.returns-then-not-takes_possible-clause-weighed
@@ -14,6 +16,10 @@ pub returns-in_default-clause-weighed : goal.returns-in_default-clause-weighed
 returns-in_default-clause-weighed c = λ root list kids owner.
     adds_no_owner (dtd_of c.args.layout.now.grammar.now) root c.args.verdicts.now.verdicts list (load_of c.args.load.now) (load_of c.takes_possible.new.self)
     c.if-not-takes_possible.ensures.taken (rw c.in_default.is at owner)
+
+pub returns-then-not-is_known_owner-clause-weighed : goal.returns-then-not-is_known_owner-clause-weighed
+returns-then-not-is_known_owner-clause-weighed c = λ root list kids owner.
+    absurd (true≢false (sym (c.is_known_owner.ensures.1 (owner_site (dtd_of c.args.layout.now.grammar.now) root list.owner (plain_of c.in-Some.of) (rw c.in-Some.is at owner))) ∙ c.if-not-is_known_owner.true))
 
 pub returns-in-Ok-clause-weighed : goal.returns-in-Ok-clause-weighed
 returns-in-Ok-clause-weighed c = λ root list kids owner.

@@ -1,5 +1,0 @@
-use Rattle.pv_reach.specs.Leading.{AreRightEdges}
-use Rattle.pv_reach.proofs.edges.edges_of.Given as goal
-
-abbrev pub invariant-loop-rule : goal.invariant-loop-rule
-invariant-loop-rule l = AreRightEdges l.rules l.edges.items

@@ -1,5 +1,0 @@
-use Rattle.pv_reach.specs.Leading.{Turned}
-use Rattle.pv_reach.proofs.edges.turned_edges.Given as goal
-
-abbrev pub invariant-loop-edge : goal.invariant-loop-edge
-invariant-loop-edge l = Turned l.edges l.turned.items

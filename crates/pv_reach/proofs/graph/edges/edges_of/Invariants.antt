@@ -1,0 +1,5 @@
+use Rattle.pv_reach.specs.Leading.{AreRightEdges}
+use Rattle.pv_reach.proofs.graph.edges.edges_of.Given as goal
+
+abbrev pub invariant-loop-rule : goal.invariant-loop-rule
+invariant-loop-rule l = AreRightEdges l.rules l.edges.items

@@ -1,4 +1,0 @@
-use Rattle.pv_reach.proofs.merging.own_place.Given as goal
-
-abbrev pub invariant-loop-place : goal.invariant-loop-place
-invariant-loop-place l = Unit {0}

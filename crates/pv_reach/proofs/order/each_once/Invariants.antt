@@ -1,5 +1,0 @@
-use Rattle.pv_reach.proofs.Placing.{ArePlaced}
-use Rattle.pv_reach.proofs.order.each_once.Given as goal
-
-abbrev pub invariant-loop-number : goal.invariant-loop-number
-invariant-loop-number l = ArePlaced l.numbers l.once.items l.flags.items l.number-index

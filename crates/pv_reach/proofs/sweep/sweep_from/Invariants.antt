@@ -1,9 +1,0 @@
-use Rattle.std.proofs.Common.{length, ◌≡◌}
-use Rattle.pv_reach.specs.Leading.{AreLed}
-use Rattle.pv_reach.proofs.sweep.sweep_from.Given as goal
-
-abbrev pub invariant-loop-column : goal.invariant-loop-column
-invariant-loop-column l = record {
-  long : length l.sweep.table.items ≡ l.width;
-  led : AreLed l.edges l.sweep.table.items;
-}
