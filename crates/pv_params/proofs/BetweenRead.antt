@@ -3,23 +3,23 @@ use Rattle.std.proofs.Common.{◌≡◌, ◌≢◌, ◌⊎◌, inl, inr, ℕ, Li
 use Rattle.pv_chars.specs.Spaces.{is_space}
 use Rattle.pv_chars.specs.Markup.{IsComment, IsInstruction}
 use Rattle.pv_chars.proofs.Scanning.{begins, after_bytes_takes, chosen}
-use Rattle.pv_params.specs.Items.{Item, puts, reference, parameter, declaration}
+use Rattle.pv_params.specs.Items.{TextItem, puts, reference, parameter, declaration}
 use Rattle.pv_params.specs.Spelling.{IsPEReference, IsWhite, IsWord, SpellsBetween, IsConditional, IsExternal}
 use Rattle.pv_chars.proofs.Binding.{bound, same_some}
 use Rattle.pv_chars.specs.CharReading.{comment_at, instruction_at, quoted_at}
 use Rattle.pv_chars.proofs.CharFacts.{comment_takes, comment_at-append, instruction_takes, instruction_at-append}
-use Rattle.pv_params.specs.ItemReading.{or_else, named_at, reference_at, parameter_named, parameter_given, parameter_at, word_at, declaration_at, white_at, between_at, external_word, external_at}
+use Rattle.pv_params.specs.ItemReading.{or_else, named_at, reference_at, parameter_named, parameter_given, parameter_at, keyword_at, declaration_at, white_at, between_at, external_word, external_at}
 use Rattle.pv_params.proofs.Runs.{Front, Reads}
 use Rattle.pv_params.proofs.ItemsRead.{either, first_is, second_is, neither_is, copied_is, copied_none, front_copied, front_reference, reference_is}
 use Rattle.pv_params.proofs.DeclarationsRead.{declaration_read, declaration_is, named_read, named_is, regrouped, parameter_read, parameter_is, no_declaration}
 
 -- ---- white space
-front_white : (bytes : List ℕ) (x : Item × List ℕ) → white_at bytes ≡ Some x → Front SpellsBetween bytes x.0 x.1
+front_white : (bytes : List ℕ) (x : TextItem × List ℕ) → white_at bytes ≡ Some x → Front SpellsBetween bytes x.0 x.1
 unfolding white_at
 front_white [] x e = cc
 front_white (b ∷ bs) x e =
     let c = chosen (is_space b) _ x e in
-    let P : Item × List ℕ → Type 0 = λ y. Front SpellsBetween (b ∷ bs) y.0 y.1 in
+    let P : TextItem × List ℕ → Type 0 = λ y. Front SpellsBetween (b ∷ bs) y.0 y.1 in
     subst P (same_some _ _ c.1) record { text = b ∷ []; spelled = (refl, inl record { byte = b; is_white = c.0; whole = refl }); whole = refl }
 
 white_is : (text rest : List ℕ) → IsWhite text → white_at (text ++ rest) ≡ Some (puts text, rest)
@@ -65,10 +65,10 @@ no_other_word word rest (inr (inr (inl is))) = rw is (no_other 69 (codes "NTITY"
 no_other_word word rest (inr (inr (inr is))) = rw is (no_other 78 (codes "OTATION" ++ rest) refl)
 
 -- ---- mode Between
-abbrev Reading : List ℕ → Item × List ℕ → Type 0
+abbrev Reading : List ℕ → TextItem × List ℕ → Type 0
 Reading bytes x = Front SpellsBetween bytes x.0 x.1
 
-between_read : (bytes : List ℕ) (i : Item) (rest : List ℕ) → between_at bytes ≡ Some (i, rest) → Front SpellsBetween bytes i rest
+between_read : (bytes : List ℕ) (i : TextItem) (rest : List ℕ) → between_at bytes ≡ Some (i, rest) → Front SpellsBetween bytes i rest
 unfolding between_at
 between_read bytes i rest e =
     either (Reading bytes) _ _ (i, rest) e (front_white bytes (i, rest))
@@ -77,7 +77,7 @@ between_read bytes i rest e =
     (λ h. either (Reading bytes) _ _ (i, rest) h (front_reference SpellsBetween bytes (i, rest) (λ name text is. is))
     (λ k. either (Reading bytes) _ _ (i, rest) k (declaration_read bytes (i, rest)) (parameter_read bytes (i, rest))))))
 
-behind_others : (bytes : List ℕ) (x : Item × List ℕ) → NoOther bytes → or_else (declaration_at bytes) (parameter_at bytes) ≡ Some x → between_at bytes ≡ Some x
+behind_others : (bytes : List ℕ) (x : TextItem × List ℕ) → NoOther bytes → or_else (declaration_at bytes) (parameter_at bytes) ≡ Some x → between_at bytes ≡ Some x
 unfolding between_at
 behind_others bytes x others e = second_is _ _ x others.white (second_is _ _ x (copied_none bytes _ others.comment) (second_is _ _ x (copied_none bytes _ others.instruction) (second_is _ _ x others.reference e)))
 
@@ -112,7 +112,7 @@ reference_is_read name text rest is =
     let instruction : instruction_at (text ++ rest) ≡ None = rw is.whole (no_instruction_at 37 more refl) in
     second_is _ _ (reference name, rest) white (second_is _ _ (reference name, rest) (copied_none (text ++ rest) _ comment) (second_is _ _ (reference name, rest) (copied_none (text ++ rest) _ instruction) (first_is _ _ (reference name, rest) (reference_is name text rest is))))
 
-between_is_read : (i : Item) (text rest : List ℕ) → SpellsBetween i text → between_at (text ++ rest) ≡ Some (i, rest)
+between_is_read : (i : TextItem) (text rest : List ℕ) → SpellsBetween i text → between_at (text ++ rest) ≡ Some (i, rest)
 between_is_read (puts result) text rest (same, inl is) = subst (λ r. between_at (text ++ rest) ≡ Some (puts r, rest)) (sym same) (white_is_read text rest is)
 between_is_read (puts result) text rest (same, inr (inl is)) = subst (λ r. between_at (text ++ rest) ≡ Some (puts r, rest)) (sym same) (comment_is_read text rest is)
 between_is_read (puts result) text rest (same, inr (inr is)) = subst (λ r. between_at (text ++ rest) ≡ Some (puts r, rest)) (sym same) (instruction_is_read text rest is)
@@ -127,7 +127,7 @@ between_is_read (declaration word held) text rest s =
     let others : NoOther (text ++ rest) = subst NoOther (sym cut) (no_other_word word _ s.is_word) in
     behind_others (text ++ rest) (declaration word held, rest) others (first_is _ _ (declaration word held, rest) (declaration_is word held text rest s))
 
-between_some : (i : Item) (text : List ℕ) → SpellsBetween i text → text ≢ []
+between_some : (i : TextItem) (text : List ℕ) → SpellsBetween i text → text ≢ []
 between_some (puts result) text (same, inl is) e = let w = is.whole in cc
 between_some (puts result) text (same, inr (inl is)) e = let w = is.whole in cc
 between_some (puts result) text (same, inr (inr is)) e = let w = is.whole in cc
@@ -146,7 +146,7 @@ between_reads = record { read = between_read; is_read = between_is_read; some = 
 
 -- ---- what is refused by its front
 no_section_item : (more : List ℕ) → (declaration_at (codes "<![" ++ more) ≡ None) × (parameter_at (codes "<![" ++ more) ≡ None)
-unfolding declaration_at word_at or_else parameter_at parameter_named
+unfolding declaration_at keyword_at or_else parameter_at parameter_named
 no_section_item more = (refl, refl)
 
 pub no_item_in_section : (rest : List ℕ) → IsConditional rest → between_at rest ≡ None

@@ -8,7 +8,7 @@ ghost use Rattle.pv_read.specs.Takes.{TakesPieces, TakesAttributes};
 
 use crate::forms::references::References;
 use crate::forms::values::are_pieces;
-use pv_chars::declarations::part_at;
+use pv_chars::declarations::declaration_part_at;
 use pv_chars::name_at;
 use pv_chars::scan::{after_blank, after_space};
 
@@ -19,7 +19,7 @@ fn after_attribute(references: References, bytes: &[u8]) -> Option<&[u8]>
 {
     let start = after_blank(bytes)?;
     let (name, _) = name_at(start)?;
-    let (value, rest) = part_at(name, bytes)?;
+    let (value, rest) = declaration_part_at(name, bytes)?;
     if !are_pieces(references, value) {
         return None;
     }

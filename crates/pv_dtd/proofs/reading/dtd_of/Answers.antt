@@ -6,7 +6,7 @@ use Rattle.pv_dtd.specs.NamedForms.{named_model}
 use Rattle.pv_dtd.specs.Naming.{with_names, NumbersModels}
 use Rattle.pv_dtd.proofs.Telling.{numbered_are}
 use Rattle.pv_dtd.proofs.Numbered.{parts_numbered}
-use Rattle.pv_dtd.proofs.reading.as_dtd.Goals as goal
+use Rattle.pv_dtd.proofs.reading.dtd_of.Goals as goal
 
 pub of-requires-clause-items : goal.of-requires-clause-items
 of-requires-clause-items c =

@@ -13,14 +13,14 @@ returns-then-bytes-gt-MAX_DTD_BYTES-clause-exactly c = exactly c.args.bytes.now 
 pub returns-clause-read : goal.returns-clause-read
 returns-clause-read c =
     let short : length c.args.bytes.now ≤ MAX_DTD_BYTES = omega arith in
-    read_by c.args.bytes.now c.after_byte_order_mark.result.now short c.after_byte_order_mark.ensures.behind _ c.as_dtd.ensures
+    read_by c.args.bytes.now c.after_byte_order_mark.result.now short c.after_byte_order_mark.ensures.behind _ c.dtd_of.ensures
 
 pub returns-clause-refused : goal.returns-clause-refused
 returns-clause-refused c =
     let short : length c.args.bytes.now ≤ MAX_DTD_BYTES = omega arith in
-    refused_by c.args.bytes.now c.after_byte_order_mark.result.now short c.after_byte_order_mark.ensures.behind _ c.as_dtd.ensures
+    refused_by c.args.bytes.now c.after_byte_order_mark.result.now short c.after_byte_order_mark.ensures.behind _ c.dtd_of.ensures
 
 pub returns-clause-exactly : goal.returns-clause-exactly
 returns-clause-exactly c =
     let short : length c.args.bytes.now ≤ MAX_DTD_BYTES = omega arith in
-    exactly c.args.bytes.now _ (read_by c.args.bytes.now c.after_byte_order_mark.result.now short c.after_byte_order_mark.ensures.behind _ c.as_dtd.ensures) (refused_by c.args.bytes.now c.after_byte_order_mark.result.now short c.after_byte_order_mark.ensures.behind _ c.as_dtd.ensures)
+    exactly c.args.bytes.now _ (read_by c.args.bytes.now c.after_byte_order_mark.result.now short c.after_byte_order_mark.ensures.behind _ c.dtd_of.ensures) (refused_by c.args.bytes.now c.after_byte_order_mark.result.now short c.after_byte_order_mark.ensures.behind _ c.dtd_of.ensures)

@@ -7,6 +7,6 @@ use Rattle.pv_productive.proofs.lowering.lower_part.Goals as goal
 
 pub returns : goal.returns
 returns c =
-    let e : c.capped-size.result ≡ capped c.size_of_part.result = c.capped-size.ensures ∙ ap capped c.from.ensures in
+    let e : c.cut-size.result ≡ capped c.size_of_part.result = c.cut-size.ensures ∙ ap capped c.from.ensures in
     lowered_part (plain_dtd c.args.layout.now.dtd) (table_of c.args.sizes.now) c.lower.new.sizes.items c.args.number c.size_of_part.result c.lower.result c.requires.attained
     c.requires.within c.size_of_part.ensures (subst (λ x. IsLowered c.args.sizes.now.parts.items c.lower.new.sizes.items c.args.number x c.lower.result) e c.lower.ensures)

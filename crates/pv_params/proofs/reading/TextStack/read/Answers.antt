@@ -61,4 +61,4 @@ pub returns-in-Err-handle-clause-stops : goal.returns-in-Err-handle-clause-stops
 returns-in-Err-handle-clause-stops c =
     let found : item_at (plain_mode c.args.top.mode) (plain_open_text c.args.top).rest ≡ Some (plain_item c.in-Some.item, c.in-Some.more.now) = sym (c.in-Some.ensures ∙ ap (item_at (plain_mode c.args.top.mode)) c.rest.ensures) in
     tells_also {P = StopsAt (plain_mode c.args.top.mode) c.args.self.now.names (plain_so_far c.args.self.now.so_far) (plain_item c.in-Some.item)}
-    (λ f s. fault_leads (plain_open_text c.args.top) (stacked c.args.self.now.texts.items) c.args.self.now.names (plain_so_far c.args.self.now.so_far) f (s (plain_open_text c.args.top).rest c.in-Some.more.now (stands_where _ _ _ _ found))) c.in-Err-handled.error c.in-Err-handled.ensures.stopped
+    (λ f s. fault_leads (plain_open_text c.args.top) (stacked c.args.self.now.texts.items) c.args.self.now.names (plain_so_far c.args.self.now.so_far) f (s (plain_open_text c.args.top).rest c.in-Some.more.now (stands_where _ _ _ _ found))) c.in-Err-handle.error c.in-Err-handle.ensures.stopped

@@ -8,8 +8,8 @@ use Rattle.pv_read.proofs.KnownReferences.{are_references}
 use Rattle.pv_read.proofs.AttributeLemmas.{name_some, name_alone_black, by_part, none_by_blank, none_by_name, none_by_part, none_by_value}
 use Rattle.pv_read.proofs.forms.attributes.after_attribute.Goals as goal
 
-pub part_at-requires : goal.part_at-requires
-part_at-requires c = record { some = name_some c.in_ok-name.name.now c.in_ok-name.ensures.found.is_name; black = name_alone_black c.in_ok-name.name.now c.in_ok-name.ensures.found.is_name }
+pub declaration_part_at-requires : goal.declaration_part_at-requires
+declaration_part_at-requires c = record { some = name_some c.in_ok-name.name.now c.in_ok-name.ensures.found.is_name; black = name_alone_black c.in_ok-name.name.now c.in_ok-name.ensures.found.is_name }
 
 pub returns-in_err-start : goal.returns-in_err-start
 returns-in_err-start c =
