@@ -1,5 +1,6 @@
 //! Characters, names, markup, references and texts at the front of some bytes.
 
+use crate::rows::expect;
 use crate::tables::{CHARS, NAME_CHARS, NAME_STARTS, NO_CHARS, NO_NAME_CHARS, NO_NAME_STARTS};
 use pv_chars::declarations::{after_text_decl, after_xml_decl, quoted_at};
 use pv_chars::markup::{after_cdata, after_comment, after_instruction};
@@ -14,50 +15,45 @@ use std::alloc::Global;
 use std::process::Abort;
 use std::test::Fail;
 
-#[test]
-fn chars(rt: HostRuntime) {
-    for code in &CHARS {
-        assert!(rt; is_char(*code));
+/// A set of characters.
+#[derive(Clone, Copy)]
+enum Set {
+    Chars,
+    NameStarts,
+    NameChars,
+}
+
+impl Set {
+    fn has(self, code: u32) -> bool {
+        match self {
+            Set::Chars => is_char(code),
+            Set::NameStarts => is_name_start(code),
+            Set::NameChars => is_name_char(code),
+        }
     }
 }
 
-#[test]
-fn no_chars(rt: HostRuntime) {
-    for code in &NO_CHARS {
-        assert!(rt; !is_char(*code));
-    }
-}
+/// Sets, each with code points, and whether it has them.
+const SETS: [(Set, &[u32], bool); 6] = [
+    (Set::Chars, &CHARS, true),
+    (Set::Chars, &NO_CHARS, false),
+    (Set::NameStarts, &NAME_STARTS, true),
+    (Set::NameStarts, &NO_NAME_STARTS, false),
+    (Set::NameChars, &NAME_CHARS, true),
+    (Set::NameChars, &NO_NAME_CHARS, false),
+];
 
 #[test]
-fn name_starts(rt: HostRuntime) {
-    for code in &NAME_STARTS {
-        assert!(rt; is_name_start(*code));
-    }
-}
-
-#[test]
-fn no_name_starts(rt: HostRuntime) {
-    for code in &NO_NAME_STARTS {
-        assert!(rt; !is_name_start(*code));
-    }
-}
-
-#[test]
-fn name_chars(rt: HostRuntime) {
-    for code in &NAME_CHARS {
-        assert!(rt; is_name_char(*code));
-    }
-}
-
-#[test]
-fn no_name_chars(rt: HostRuntime) {
-    for code in &NO_NAME_CHARS {
-        assert!(rt; !is_name_char(*code));
+fn sets(rt: HostRuntime) {
+    for (set, codes, is_in) in &SETS {
+        for code in *codes {
+            expect(&rt, set.has(*code) == *is_in, code);
+        }
     }
 }
 
 /// Bytes, each with the character at their front and the bytes after it.
-const FORMS: [(&[u8], Option<(u32, &[u8])>); 25] = [
+static FORMS: [(&[u8], Option<(u32, &[u8])>); 25] = [
     (b"A", Some((0x41, b""))),
     (b"\xC2\x80", Some((0x80, b""))),
     (b"\xDF\xBFx", Some((0x7FF, b"x"))),
@@ -88,12 +84,12 @@ const FORMS: [(&[u8], Option<(u32, &[u8])>); 25] = [
 #[test]
 fn shortest_forms(rt: HostRuntime) {
     for (bytes, code) in &FORMS {
-        assert!(rt; char_at(*bytes) == *code);
+        expect(&rt, char_at(*bytes) == *code, bytes);
     }
 }
 
 /// Bytes, each with whether they are a name.
-const NAMES: [(&[u8], bool); 11] = [
+static NAMES: [(&[u8], bool); 11] = [
     (b"_a.1-B", true),
     (b"a:b", true),
     (b"\xD0\x98\xD0\xBC\xD1\x8F", true),
@@ -110,180 +106,177 @@ const NAMES: [(&[u8], bool); 11] = [
 #[test]
 fn names(rt: HostRuntime) {
     for (bytes, is) in &NAMES {
-        assert!(rt; is_name(*bytes) == *is);
+        expect(&rt, is_name(*bytes) == *is, bytes);
     }
 }
 
-/// Bytes, each with those after the comment at their front.
-const COMMENTS: [(&[u8], Option<&[u8]>); 5] = [
-    (b"<!--a-b-->c", Some(b"c")),
-    (b"<!--a--b-->", None),
-    (b"<!--a--->", None),
-    (b"<!-->", None),
-    (b"<!--\xFF-->", None),
-];
+/// What may stand at the front of some bytes.
+#[derive(Clone, Copy)]
+enum Front {
+    Blank,
+    ByteOrderMark,
+    Comment,
+    Instruction,
+    Cdata,
+    XmlDecl,
+    TextDecl,
+    CharRef,
+}
 
-#[test]
-fn comments(rt: HostRuntime) {
-    for (bytes, rest) in &COMMENTS {
-        assert!(rt; after_comment(*bytes) == *rest);
+impl Front {
+    // The bytes after it.
+    fn after(self, bytes: &[u8]) -> Option<&[u8]> {
+        match self {
+            Front::Blank => after_blank(bytes),
+            Front::ByteOrderMark => Some(after_byte_order_mark(bytes)),
+            Front::Comment => after_comment(bytes),
+            Front::Instruction => after_instruction(bytes),
+            Front::Cdata => after_cdata(bytes),
+            Front::XmlDecl => after_xml_decl(bytes),
+            Front::TextDecl => after_text_decl(bytes),
+            Front::CharRef => after_char_ref(bytes),
+        }
     }
 }
 
-/// Bytes, each with those after the processing instruction at their front.
-const INSTRUCTIONS: [(&[u8], Option<&[u8]>); 5] = [
-    (b"<?a?>c", Some(b"c")),
-    (b"<?xml-s  ?b? ?>", Some(b"")),
-    (b"<?XmL?>", None),
-    (b"<?a>?>", None),
-    (b"<?a?b?>", None),
-];
-
-#[test]
-fn instructions(rt: HostRuntime) {
-    for (bytes, rest) in &INSTRUCTIONS {
-        assert!(rt; after_instruction(*bytes) == *rest);
-    }
-}
-
-#[test]
-fn cdata(rt: HostRuntime) {
-    assert!(rt; after_cdata(b"<![CDATA[a]]]>c") == Some(b"c".as_slice()));
-}
-
-/// Bytes, each with those after the XML declaration and after the text declaration at their front.
-const DECLARATIONS: [(&[u8], Option<&[u8]>, Option<&[u8]>); 8] = [
-    (b"<?xml version='1.10'?>c", Some(b"c"), Some(b"c")),
+/// Bytes, each with what may stand at their front, and those after it.
+static FRONTS: [(Front, &[u8], Option<&[u8]>); 38] = [
+    (Front::Blank, b" x", Some(b"x")),
+    // only one mark is taken
     (
+        Front::ByteOrderMark,
+        b"\xEF\xBB\xBF\xEF\xBB\xBFa",
+        Some(b"\xEF\xBB\xBFa"),
+    ),
+    (Front::ByteOrderMark, b"\xEF\xBBa", Some(b"\xEF\xBBa")),
+    (Front::Comment, b"<!--a-b-->c", Some(b"c")),
+    (Front::Comment, b"<!--a--b-->", None),
+    (Front::Comment, b"<!--a--->", None),
+    (Front::Comment, b"<!-->", None),
+    (Front::Comment, b"<!--\xFF-->", None),
+    (Front::Instruction, b"<?a?>c", Some(b"c")),
+    (Front::Instruction, b"<?xml-s  ?b? ?>", Some(b"")),
+    (Front::Instruction, b"<?XmL?>", None),
+    (Front::Instruction, b"<?a>?>", None),
+    (Front::Instruction, b"<?a?b?>", None),
+    (Front::Cdata, b"<![CDATA[a]]]>c", Some(b"c")),
+    (Front::CharRef, b"&#00065;c", Some(b"c")),
+    (Front::CharRef, b"&#x10fffF;", Some(b"")),
+    (Front::CharRef, b"&#;", None),
+    (Front::CharRef, b"&#0;", None),
+    (Front::CharRef, b"&#xFFFF;", None),
+    (Front::CharRef, b"&#x110000;", None),
+    (Front::CharRef, b"&#1a;", None),
+    (Front::CharRef, b"&#65", None),
+    (Front::XmlDecl, b"<?xml version='1.10'?>c", Some(b"c")),
+    (
+        Front::XmlDecl,
         b"<?xml version='1.0' encoding=\"utf-8\" standalone='no' ?>",
         Some(b""),
+    ),
+    (Front::XmlDecl, b"<?xml encoding = 'us-ASCII'?>", None),
+    (Front::XmlDecl, b"<?xml?>", None),
+    (Front::XmlDecl, b"<?xml version='1.'?>", None),
+    (Front::XmlDecl, b"<?xml version='1.0\"?>", None),
+    (
+        Front::XmlDecl,
+        b"<?xml standalone='yes' version='1.0'?>",
+        None,
+    ),
+    (
+        Front::XmlDecl,
+        b"<?xml version='1.0' encoding='latin1'?>",
+        None,
+    ),
+    (Front::TextDecl, b"<?xml version='1.10'?>c", Some(b"c")),
+    (
+        Front::TextDecl,
+        b"<?xml version='1.0' encoding=\"utf-8\" standalone='no' ?>",
         Some(b""),
     ),
-    (b"<?xml encoding = 'us-ASCII'?>", None, Some(b"")),
-    (b"<?xml?>", None, None),
-    (b"<?xml version='1.'?>", None, None),
-    (b"<?xml version='1.0\"?>", None, None),
-    (b"<?xml standalone='yes' version='1.0'?>", None, None),
-    (b"<?xml version='1.0' encoding='latin1'?>", None, None),
+    (Front::TextDecl, b"<?xml encoding = 'us-ASCII'?>", Some(b"")),
+    (Front::TextDecl, b"<?xml?>", None),
+    (Front::TextDecl, b"<?xml version='1.'?>", None),
+    (Front::TextDecl, b"<?xml version='1.0\"?>", None),
+    (
+        Front::TextDecl,
+        b"<?xml standalone='yes' version='1.0'?>",
+        None,
+    ),
+    (
+        Front::TextDecl,
+        b"<?xml version='1.0' encoding='latin1'?>",
+        None,
+    ),
 ];
 
 #[test]
-fn declarations(rt: HostRuntime) {
-    for (bytes, rest, as_text) in &DECLARATIONS {
-        assert!(rt; after_xml_decl(*bytes) == *rest);
-        assert!(rt; after_text_decl(*bytes) == *as_text);
+fn fronts(rt: HostRuntime) {
+    for (front, bytes, rest) in &FRONTS {
+        expect(&rt, front.after(*bytes) == *rest, bytes);
     }
 }
 
 #[test]
-fn quoted(rt: HostRuntime) {
+fn fronts_with_parts(rt: HostRuntime) {
     assert!(rt; quoted_at(b"'a\"b'c") == Some((b"a\"b".as_slice(), b"c".as_slice())));
-}
-
-/// Bytes, each with those after the character reference at their front.
-const REFERENCES: [(&[u8], Option<&[u8]>); 8] = [
-    (b"&#00065;c", Some(b"c")),
-    (b"&#x10fffF;", Some(b"")),
-    (b"&#;", None),
-    (b"&#0;", None),
-    (b"&#xFFFF;", None),
-    (b"&#x110000;", None),
-    (b"&#1a;", None),
-    (b"&#65", None),
-];
-
-#[test]
-fn references(rt: HostRuntime) {
-    for (bytes, rest) in &REFERENCES {
-        assert!(rt; after_char_ref(*bytes) == *rest);
-    }
-}
-
-#[test]
-fn entity_reference(rt: HostRuntime) {
     assert!(rt; entity_ref_at(b"&lt;c") == Some((b"lt".as_slice(), b"c".as_slice())));
 }
 
-// The bytes are a text of so many units, with data or without.
-fn is_text(
-    rt: &impl Abort,
-    alloc: Global,
-    bytes: &[u8],
-    count: usize,
-    has_data: bool,
-) -> Result<(), Fail> {
-    let units = text_units(alloc, bytes)?;
-    assert!(rt; units.len() == count && units.has_data() == has_data);
-    assert!(rt; units.bytes() == bytes);
-    Ok(())
+#[test]
+fn scans(rt: HostRuntime) {
+    assert!(rt; space_length(b" \t\r\nx ") == 4);
+    assert!(rt; are_chars("текст €\t".as_bytes()));
+    assert!(rt; !are_chars(b"a\x00"));
 }
 
-/// Texts, each with the number of its units, and whether it has data.
-const TEXTS: [(&[u8], usize, bool); 4] = [
-    (b"a &#32;\xC3\xA9", 4, true),
-    (b" \t\r\n", 4, false),
-    (b"&#32;", 1, true),
-    (b"plain", 5, true),
+/// Bytes, each with the number of units of the text that they are, and whether it has data, or with
+/// why they are none.
+static TEXTS: [(&[u8], Result<(usize, bool), TextError>); 12] = [
+    (b"a &#32;\xC3\xA9", Ok((4, true))),
+    (b" \t\r\n", Ok((4, false))),
+    (b"&#32;", Ok((1, true))),
+    (b"plain", Ok((5, true))),
+    (b"", Err(TextError::Empty)),
+    (b"a<b", Err(TextError::BadChar(1))),
+    (b"a\xC3", Err(TextError::BadChar(1))),
+    (b"a&b", Err(TextError::BadReference(1))),
+    (b"&#xFFFF;", Err(TextError::BadReference(0))),
+    (b"&lt;&nbsp;", Err(TextError::Entity(4))),
+    (b"a]]>b", Err(TextError::CloseMark(1))),
+    (b"]]&gt;<", Err(TextError::BadChar(6))),
 ];
 
+// The number of units of the text, and whether it has data, or why the bytes are none.
+fn told(rt: &impl Abort, alloc: Global, bytes: &[u8]) -> Result<(usize, bool), TextError> {
+    let units = text_units(alloc, bytes)?;
+    expect(rt, units.bytes() == bytes, &bytes);
+    Ok((units.len(), units.has_data()))
+}
+
 #[test]
-fn texts(rt: HostRuntime) -> Result<(), Fail> {
-    for (bytes, count, has_data) in &TEXTS {
-        is_text(&rt, rt.alloc(), *bytes, *count, *has_data)?;
+fn texts(rt: HostRuntime) {
+    for (bytes, wanted) in &TEXTS {
+        expect(&rt, told(&rt, rt.alloc(), *bytes) == *wanted, bytes);
     }
-    Ok(())
 }
 
-#[test]
-fn part_of_text(rt: HostRuntime) -> Result<(), Fail> {
-    let units = text_units(rt.alloc(), "a &#32;é".as_bytes())?;
-    assert!(rt; units.len() == 4);
-    let part = units.part(rt.alloc(), 1, 3)?;
-    assert!(rt; part.bytes() == b" &#32;".as_slice());
-    Ok(())
-}
-
-#[test]
-fn joined_texts(rt: HostRuntime) -> Result<(), Fail> {
-    let part = text_units(rt.alloc(), b" &#32;")?;
-    let units = text_units(rt.alloc(), "a &#32;é".as_bytes())?;
-    let both = part.join(rt.alloc(), &units)?;
-    assert!(rt; both.bytes() == " &#32;a &#32;é".as_bytes());
-    is_copied(&rt, rt.alloc(), &both)
-}
-
-// A copy of the text has its six units and its bytes.
-fn is_copied(rt: &impl Abort, alloc: Global, both: &Units) -> Result<(), Fail> {
+// Both texts one behind the other, and their copy, are of six units.
+fn are_joined(rt: &impl Abort, alloc: Global, part: &Units, units: &Units) -> Result<(), Fail> {
+    let both = part.join(alloc, units)?;
     let copy = both.copy(alloc)?;
+    assert!(rt; both.bytes() == " &#32;a &#32;é".as_bytes());
     assert!(rt; copy.len() == 6 && copy.bytes() == both.bytes());
     Ok(())
 }
 
-/// Bytes that are no text, each with why.
-const FAULTS: [(&[u8], TextError); 8] = [
-    (b"", TextError::Empty),
-    (b"a<b", TextError::BadChar(1)),
-    (b"a\xC3", TextError::BadChar(1)),
-    (b"a&b", TextError::BadReference(1)),
-    (b"&#xFFFF;", TextError::BadReference(0)),
-    (b"&lt;&nbsp;", TextError::Entity(4)),
-    (b"a]]>b", TextError::CloseMark(1)),
-    (b"]]&gt;<", TextError::BadChar(6)),
-];
-
-// The bytes are no text, for this reason.
-fn is_no_text(rt: &impl Abort, alloc: Global, bytes: &[u8], fault: TextError) {
-    match text_units(alloc, bytes) {
-        Ok(_) => assert!(rt; false),
-        Err(e) => assert!(rt; e == fault),
-    }
-}
-
 #[test]
-fn faults_of_texts(rt: HostRuntime) {
-    for (bytes, fault) in &FAULTS {
-        is_no_text(&rt, rt.alloc(), *bytes, *fault);
-    }
+fn parts_of_texts(rt: HostRuntime) -> Result<(), Fail> {
+    let units = text_units(rt.alloc(), "a &#32;é".as_bytes())?;
+    assert!(rt; units.len() == 4);
+    let part = units.part(rt.alloc(), 1, 3)?;
+    assert!(rt; part.bytes() == b" &#32;".as_slice());
+    are_joined(&rt, rt.alloc(), &part, &units)
 }
 
 #[test]
@@ -300,22 +293,4 @@ fn labels(rt: HostRuntime) -> Result<(), Fail> {
     let labels = Labels::of(vec![in rt.alloc(); bytes_of(rt.alloc(), b"em")?]?);
     assert!(rt; labels.as_slice()[0].as_slice() == b"em".as_slice());
     Ok(())
-}
-
-#[test]
-fn space(rt: HostRuntime) {
-    assert!(rt; space_length(b" \t\r\nx ") == 4);
-    assert!(rt; after_blank(b" x") == Some(b"x".as_slice()));
-}
-
-#[test]
-fn only_chars(rt: HostRuntime) {
-    assert!(rt; are_chars("текст €\t".as_bytes()));
-    assert!(rt; !are_chars(b"a\x00"));
-}
-
-#[test]
-fn byte_order_marks(rt: HostRuntime) {
-    assert!(rt; after_byte_order_mark("\u{FEFF}\u{FEFF}a".as_bytes()) == "\u{FEFF}a".as_bytes());
-    assert!(rt; after_byte_order_mark(b"\xEF\xBBa") == b"\xEF\xBBa".as_slice());
 }

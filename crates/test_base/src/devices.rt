@@ -1,18 +1,20 @@
 //! Sources, sinks and shelves, in memory and over the machine.
 
+use crate::rows::expect;
 use pv_io::{
     Failed, FetchError, FolderShelf, MemShelf, MemSink, MemSource, ReadSource, Shelf, Sink, Source,
     WriteSink, write_all,
 };
 use std::alloc::{AllocError, Global};
 use std::io::{Read, Write};
-use std::process::Abort;
 use std::test::Fail;
 use std::{fs, io};
 
 const FOLDER: &str = "test_base_folder";
 
 const FILE: &str = "test_base_folder/a.xml";
+
+const NO_FILE: &str = "test_base_folder/b.xml";
 
 fn texts_of(alloc: Global, words: &[&str]) -> Result<Vec<String>, AllocError> {
     let mut texts = Vec::new(alloc);
@@ -22,26 +24,14 @@ fn texts_of(alloc: Global, words: &[&str]) -> Result<Vec<String>, AllocError> {
     Ok(texts)
 }
 
-// The next call, with room for so many bytes, gives this, and leaves this in the buffer.
-fn fills(
-    rt: &impl Abort,
-    source: &mut MemSource,
-    room: usize,
-    wanted: Result<usize, Failed>,
-    left: &[u8],
-) -> Result<(), Fail> {
+// Whether the next call, with room for so many bytes, gives this, and leaves this in the buffer.
+fn fills(source: &mut MemSource, room: usize, wanted: Result<usize, Failed>, left: &[u8]) -> bool {
     let mut buf = [b'-'; 4];
-    if room > 4 {
-        return Err(Fail::new("too much room"));
-    }
-    let found = source.fill(&mut buf[..room]);
-    assert_eq!(rt; found, wanted);
-    assert_eq!(rt; buf.as_slice(), left);
-    Ok(())
+    source.fill(&mut buf[..room.min(4)]) == wanted && buf.as_slice() == left
 }
 
 /// Calls of a source of `abcde` that gives two bytes at a time and fails at its second call.
-const FILLS: [(usize, Result<usize, Failed>, &[u8]); 5] = [
+static FILLS: [(usize, Result<usize, Failed>, &[u8]); 5] = [
     (4, Ok(2), b"ab--"),
     (4, Err(Failed), b"----"),
     (1, Ok(1), b"c---"),
@@ -53,27 +43,19 @@ const FILLS: [(usize, Result<usize, Failed>, &[u8]); 5] = [
 fn memory_sources(rt: HostRuntime) -> Result<(), Fail> {
     let mut source = MemSource::new(rt.alloc(), b"abcde", 2, &[1])?;
     for (room, wanted, left) in &FILLS {
-        fills(&rt, &mut source, *room, *wanted, *left)?;
+        expect(&rt, fills(&mut source, *room, *wanted, *left), left);
     }
     Ok(())
 }
 
-// The bytes are written with this result, and the sink then holds this.
-fn writes(
-    rt: &impl Abort,
-    sink: &mut MemSink,
-    bytes: &[u8],
-    wanted: Result<(), Failed>,
-    written: &[u8],
-) {
-    let found = write_all(sink, bytes);
-    assert_eq!(rt; found, wanted);
-    assert_eq!(rt; sink.written(), written);
+// Whether the bytes are written with this result, and the sink then holds this.
+fn writes(sink: &mut MemSink, bytes: &[u8], wanted: Result<(), Failed>, written: &[u8]) -> bool {
+    write_all(sink, bytes) == wanted && sink.written() == written
 }
 
 /// Writes to a sink with room for five bytes that takes two at a time and fails at its second
 /// call.
-const WRITES: [(&[u8], Result<(), Failed>, &[u8]); 3] = [
+static WRITES: [(&[u8], Result<(), Failed>, &[u8]); 3] = [
     (b"abc", Err(Failed), b"ab"),
     (b"cd", Ok(()), b"abcd"),
     (b"ef", Err(Failed), b"abcde"),
@@ -83,10 +65,10 @@ const WRITES: [(&[u8], Result<(), Failed>, &[u8]); 3] = [
 fn memory_sinks(rt: HostRuntime) -> Result<(), Fail> {
     let mut sink = MemSink::new(rt.alloc(), 5, 2, &[1])?;
     for (bytes, wanted, written) in &WRITES {
-        writes(&rt, &mut sink, *bytes, *wanted, *written);
+        expect(&rt, writes(&mut sink, *bytes, *wanted, *written), bytes);
     }
-    assert_eq!(rt; sink.put(b""), Ok(0));
-    assert_eq!(rt; sink.written(), b"abcde".as_slice());
+    assert!(rt; sink.put(b"") == Ok(0));
+    assert!(rt; sink.written() == b"abcde".as_slice());
     Ok(())
 }
 
@@ -99,32 +81,31 @@ fn shelf_of(alloc: Global) -> Result<MemShelf, Fail> {
     Ok(MemShelf::new(alloc, &names, &files, &[2, 3])?)
 }
 
-// The file isn't fetched, for this reason.
-fn isnt_fetched(
-    rt: &impl Abort,
-    alloc: Global,
-    shelf: &mut MemShelf,
-    name: &str,
-    most: usize,
-    wanted: FetchError,
-) {
-    match shelf.fetch(alloc, name, most) {
-        Ok(_) => assert!(rt; false),
-        Err(error) => assert_eq!(rt; error, wanted),
+/// A file's name, the most bytes that are wanted, and the file or why there is none.
+type Fetch = (&'static str, usize, Result<&'static [u8], FetchError>);
+
+// Whether the file, or why there is none, is this.
+fn is_fetched(found: Result<Vec<u8>, FetchError>, wanted: Result<&[u8], FetchError>) -> bool {
+    match found {
+        Ok(file) => wanted == Ok(file.as_slice()),
+        Err(error) => wanted == Err(error),
     }
 }
+
+/// Fetches from a shelf that fails at the second and at the fourth.
+static FETCHES: [Fetch; 4] = [
+    ("a", 3, Ok(b"abc")),
+    ("b", 3, Err(FetchError::Failed)),
+    ("a", 2, Err(FetchError::TooLong)),
+    ("a", 3, Err(FetchError::Failed)),
+];
 
 #[test]
 fn memory_shelves(rt: HostRuntime) -> Result<(), Fail> {
     let mut shelf = shelf_of(rt.alloc())?;
-    let first = shelf.fetch(rt.alloc(), "a", 3)?;
-    assert_eq!(rt; first.as_slice(), b"abc".as_slice());
-    for (name, most, wanted) in [
-        ("b", 3, FetchError::Failed),
-        ("a", 2, FetchError::TooLong),
-        ("a", 3, FetchError::Failed),
-    ] {
-        isnt_fetched(&rt, rt.alloc(), &mut shelf, name, most, wanted);
+    for (name, most, wanted) in &FETCHES {
+        let found = shelf.fetch(rt.alloc(), *name, *most);
+        expect(&rt, is_fetched(found, *wanted), wanted);
     }
     Ok(())
 }
@@ -181,20 +162,27 @@ impl Stutter {
 fn readers(rt: HostRuntime) {
     let mut source = ReadSource::new(Stutter::new(rt.alloc()));
     let mut buf = [b'-'; 2];
-    assert_eq!(rt; source.fill(&mut buf), Ok(1));
-    assert_eq!(rt; source.fill(&mut buf), Err(Failed));
-    assert_eq!(rt; source.fill(&mut buf), Ok(1));
-    assert_eq!(rt; buf, *b"x-");
+    assert!(rt; source.fill(&mut buf) == Ok(1));
+    assert!(rt; source.fill(&mut buf) == Err(Failed));
+    assert!(rt; source.fill(&mut buf) == Ok(1));
+    assert!(rt; buf.as_slice() == b"x-".as_slice());
 }
+
+/// Bytes that are put into a stream, each with the answer.
+static PUTS: [(&[u8], Result<usize, Failed>); 4] = [
+    (b"ab", Ok(1)),
+    (b"b", Err(Failed)),
+    (b"", Ok(0)),
+    (b"b", Err(Failed)),
+];
 
 #[test]
 fn writers(rt: HostRuntime) {
     let mut sink = WriteSink::new(Stutter::new(rt.alloc()));
-    assert_eq!(rt; sink.put(b"ab"), Ok(1));
-    assert_eq!(rt; sink.put(b"b"), Err(Failed));
-    assert_eq!(rt; sink.put(b""), Ok(0));
-    assert_eq!(rt; sink.put(b"b"), Err(Failed));
-    assert_eq!(rt; write_all(&mut sink, b"bc"), Ok(()));
+    for (bytes, wanted) in &PUTS {
+        expect(&rt, sink.put(*bytes) == *wanted, bytes);
+    }
+    assert!(rt; write_all(&mut sink, b"bc") == Ok(()));
 }
 
 // Makes a folder with one file.
@@ -205,18 +193,22 @@ fn make_folder(rt: HostRuntime) -> Result<(), Fail> {
     Ok(())
 }
 
+/// Fetches from a folder.
+static FILES: [Fetch; 3] = [
+    (FILE, 6, Ok(b"<doc/>")),
+    (FILE, 5, Err(FetchError::TooLong)),
+    (NO_FILE, 6, Err(FetchError::Failed)),
+];
+
 #[test]
 fn files_by_their_paths(rt: HostRuntime) -> Result<(), Fail> {
     make_folder(rt)?;
-    let words = ["valid", FILE, "doc", "test_base_folder/b.xml"];
-    let words = texts_of(rt.alloc(), &words)?;
+    let words = texts_of(rt.alloc(), &["valid", FILE, "doc", NO_FILE])?;
     let mut shelf = FolderShelf::new(&rt, &words);
-    let whole = shelf.fetch(rt.alloc(), FILE, 6)?;
-    assert_eq!(rt; whole.as_slice(), b"<doc/>".as_slice());
-    let longer = shelf.fetch(rt.alloc(), FILE, 5);
-    assert!(rt; matches!(longer, Err(FetchError::TooLong)));
-    let missing = shelf.fetch(rt.alloc(), "test_base_folder/b.xml", 6);
-    assert!(rt; matches!(missing, Err(FetchError::Failed)));
+    for (name, most, wanted) in &FILES {
+        let found = shelf.fetch(rt.alloc(), *name, *most);
+        expect(&rt, is_fetched(found, *wanted), wanted);
+    }
     fs::remove_dir_all(&rt, FOLDER)?;
     Ok(())
 }

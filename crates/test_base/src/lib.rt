@@ -1,4 +1,4 @@
-//! Tests of the base: characters, names and texts, content models, and devices.
+//! Tests of the base: characters, names and texts, and devices.
 #![tactic(auto)]
 
 #[cfg(test)]
@@ -6,6 +6,6 @@ mod characters;
 #[cfg(test)]
 mod devices;
 #[cfg(test)]
-mod models;
+mod rows;
 #[cfg(test)]
 mod tables;

@@ -44,14 +44,19 @@ static ROWS: [(u32, &str, Verdict); 7] = [
     (0, "<x><!----><sec/><p/><q/></x>", Verdict::Impossible),
 ];
 
+fn verdict_of(alloc: Global, owner: u32, text: &str) -> Result<Verdict, Fail> {
+    let grammar = build(alloc, dtd_of(alloc, ARTICLE)?)?;
+    let doc = document_of(alloc, text, "x")?;
+    Ok(verdict::<Brand>(alloc, &grammar, owner, kids_of(&doc)?, Blank::new(1))?)
+}
+
 #[test]
 fn verdicts_of_lists(rt: HostRuntime) -> Result<(), Fail> {
-    let alloc = rt.alloc();
-    let grammar = build(alloc, dtd_of(alloc, ARTICLE)?)?;
     for (owner, text, wanted) in &ROWS {
-        let doc = document_of(alloc, *text, "x")?;
-        let found = verdict::<Brand>(alloc, &grammar, *owner, kids_of(&doc)?, Blank::new(1))?;
-        assert_eq!(rt; found, *wanted, "{text} in {owner}");
+        assert!(rt;
+            verdict_of(rt.alloc(), *owner, *text)? == *wanted,
+            "{text} in {owner}"
+        );
     }
     Ok(())
 }

@@ -9,15 +9,10 @@ use pv_reach::{ReachError, possible};
 use pv_steps::Steps;
 use std::alloc::Global;
 use std::marker::Brand;
-use std::process::Abort;
 use std::sync::ledger::{Blank, Ledger};
 use std::test::Fail;
 use test_fixture::documents::dtd_of;
 use test_fixture::dtds::{ANY_OR_OPTIONAL, ARTICLE, ENDLESS, LEADING_BACK, NESTED};
-
-fn name(id: u32) -> Token {
-    Token::Name(NameId(id))
-}
 
 /// What `possible` answers, where its names are productive and the DTD has the owner's.
 fn answer<L: Ledger>(
@@ -42,64 +37,66 @@ fn answer<L: Ledger>(
     Ok(Some(possible(alloc, grammar, of, word, &mut steps)?))
 }
 
-fn check(
-    rt: &impl Abort,
-    alloc: Global,
-    dtd: &str,
-    rows: &[(Of, &[Token], bool)],
-) -> Result<(), Fail> {
+// A DTD, the owner of a list, the word of its kids, and whether it is possible.
+type Row = (&'static str, Of, &'static [Token], bool);
+
+const DOC: Of = Of::Elem(NameId(0));
+
+// The content of `br` by the article's DTD.
+const BR: Of = Of::Elem(NameId(6));
+
+const HEAD: Token = Token::Name(NameId(1));
+
+const SEC: Token = Token::Name(NameId(2));
+
+const TITLE: Token = Token::Name(NameId(3));
+
+const P: Token = Token::Name(NameId(4));
+
+// The name of number 1.
+const SECOND: Token = Token::Name(NameId(1));
+
+static WORDS: [Row; 9] = [
+    (ARTICLE, DOC, &[Token::Text], true),
+    (ARTICLE, DOC, &[P, TITLE], true),
+    (ARTICLE, DOC, &[SEC, HEAD], false),
+    (ARTICLE, Of::Root(NameId(0)), &[P], true),
+    (ARTICLE, BR, &[], true),
+    (ARTICLE, BR, &[Token::Text], false),
+    (NESTED, Of::Elem(NameId(0)), &[SECOND, SECOND, SECOND], true),
+    (ENDLESS, Of::Root(NameId(0)), &[], false),
+    (
+        ANY_OR_OPTIONAL,
+        Of::Elem(NameId(0)),
+        &[SECOND, Token::Other],
+        false,
+    ),
+];
+
+fn answer_by(alloc: Global, dtd: &str, of: Of, word: &[Token]) -> Result<Option<bool>, Fail> {
     let grammar = build(alloc, dtd_of(alloc, dtd)?)?;
-    for (of, word, is_possible) in rows {
-        let answered = answer::<Brand>(alloc, &grammar, *of, *word, Blank::new(1))?;
-        assert_eq!(rt; answered, Some(*is_possible), "{word:?} in {of:?} by {dtd}");
-    }
-    Ok(())
+    Ok(answer::<Brand>(alloc, &grammar, of, word, Blank::new(1))?)
 }
 
 #[test]
 fn possible_words(rt: HostRuntime) -> Result<(), Fail> {
-    let alloc = rt.alloc();
-    let (doc, head, sec, title, p, br) = (0, 1, 2, 3, 4, 6);
-    let elem = |id: u32| Of::Elem(NameId(id));
-    check(
-        &rt,
-        alloc,
-        ARTICLE,
-        &[
-            (elem(doc), &[Token::Text], true),
-            (elem(doc), &[name(p), name(title)], true),
-            (elem(doc), &[name(sec), name(head)], false),
-            (Of::Root(NameId(doc)), &[name(p)], true),
-            (elem(br), &[], true),
-            (elem(br), &[Token::Text], false),
-        ],
-    )?;
-    check(
-        &rt,
-        alloc,
-        NESTED,
-        &[(elem(0), &[name(1), name(1), name(1)], true)],
-    )?;
-    check(&rt, alloc, ENDLESS, &[(Of::Root(NameId(0)), &[], false)])?;
-    check(
-        &rt,
-        alloc,
-        ANY_OR_OPTIONAL,
-        &[(elem(0), &[name(1), Token::Other], false)],
-    )?;
+    for (dtd, of, word, wanted) in &WORDS {
+        let answered = answer_by(rt.alloc(), *dtd, *of, *word)?;
+        assert!(rt; answered == Some(*wanted), "{word:?} in {of:?} by {dtd}");
+    }
     Ok(())
 }
 
-// Elements that lead back to themselves with others behind them.
+// Whether a word of so many names is possible: elements that lead back to themselves with others
+// behind them.
+fn is_long_possible(alloc: Global, of: Of) -> Result<bool, Fail> {
+    let word = vec![in alloc; Token::Name(NameId(2)); 20_000]?;
+    Ok(answer_by(alloc, LEADING_BACK, of, &word)? == Some(true))
+}
+
 #[test]
 fn long_words(rt: HostRuntime) -> Result<(), Fail> {
-    let alloc = rt.alloc();
-    let word = vec![in alloc; name(2); 20_000]?;
-    let (a, d) = (Of::Elem(NameId(0)), Of::Elem(NameId(3)));
-    check(
-        &rt,
-        alloc,
-        LEADING_BACK,
-        &[(a, &word, true), (d, &word, true)],
-    )
+    assert!(rt; is_long_possible(rt.alloc(), Of::Elem(NameId(0)))?, "a");
+    assert!(rt; is_long_possible(rt.alloc(), Of::Elem(NameId(3)))?, "d");
+    Ok(())
 }

@@ -1,24 +1,19 @@
 //! Denials that are judged.
 
+use crate::calls::{PAIR, judged};
 use pv_chars::{List, NoMemory};
-use pv_denial::{Cause, Denial, Flaw, Judged, Row, judge};
+use pv_denial::{Cause, Denial, Flaw, Judged, Row, Rows};
 use pv_model::NameId;
-use pv_productive::build;
 use pv_rules::Site;
 use pv_tree::Path;
 use std::alloc::Global;
-use std::process::Abort;
 use std::test::Fail;
-use test_fixture::documents::{document_of, dtd_of};
 
-/// A pair of two elements in a row.
-const PAIR: &str = "<!ELEMENT r (a, b)><!ELEMENT a EMPTY><!ELEMENT b EMPTY>";
+/// A site, and its three values.
+type Line = (Site, [u32; 3]);
 
-/// The pair the wrong way round.
-const TURNED: &str = "<r><b/><a/></r>";
-
-/// The rows that show it, each with its three values.
-const ROWS: [(Site, [u32; 3]); 11] = [
+/// The rows that show that the pair is impossible the wrong way round.
+const ROWS: &[Line] = &[
     (Site::Content(NameId(0)), [1, 2, 2]),
     (Site::Content(NameId(1)), [0, 1, 2]),
     (Site::Content(NameId(2)), [0, 1, 2]),
@@ -32,8 +27,22 @@ const ROWS: [(Site, [u32; 3]); 11] = [
     (Site::Rest(2), [1, 1, 2]),
 ];
 
+/// The same rows but the first.
+const ONE_LEFT_OUT: &[Line] = &[
+    (Site::Content(NameId(1)), [0, 1, 2]),
+    (Site::Content(NameId(2)), [0, 1, 2]),
+    (Site::Name(NameId(0)), [1, 2, 2]),
+    (Site::Name(NameId(1)), [0, 2, 2]),
+    (Site::Name(NameId(2)), [1, 1, 2]),
+    (Site::Part(0), [1, 2, 2]),
+    (Site::Part(1), [0, 2, 2]),
+    (Site::Part(2), [1, 1, 2]),
+    (Site::Rest(1), [1, 2, 2]),
+    (Site::Rest(2), [1, 1, 2]),
+];
+
 /// Rows that lead from each place to the end.
-const FAR_ROWS: [(Site, [u32; 3]); 11] = [
+const FAR_ROWS: &[Line] = &[
     (Site::Content(NameId(0)), [2, 2, 2]),
     (Site::Content(NameId(1)), [2, 2, 2]),
     (Site::Content(NameId(2)), [2, 2, 2]),
@@ -47,100 +56,130 @@ const FAR_ROWS: [(Site, [u32; 3]); 11] = [
     (Site::Rest(2), [2, 2, 2]),
 ];
 
-fn denial_of(
-    alloc: Global,
-    path: &[u32],
+const TURNED: &str = "<r><b/><a/></r>";
+
+/// A denial of a document of the pair, and what the judge says of it.
+struct Case {
+    about: &'static str,
+    doc: &'static str,
+    path: &'static [u32],
     cause: Cause,
-    rows: &[(Site, [u32; 3])],
-) -> Result<Denial, NoMemory> {
-    let mut listed = Vec::new(alloc);
-    for (site, values) in rows {
-        listed.push(Row {
+    rows: &'static [Line],
+    judged: Judged,
+}
+
+static CASES: [Case; 10] = [
+    Case {
+        about: "the rows that show it",
+        doc: TURNED,
+        path: &[0],
+        cause: Cause::Word,
+        rows: ROWS,
+        judged: Judged::Denied,
+    },
+    Case {
+        about: "a valid pair",
+        doc: "<r><a/><b/></r>",
+        path: &[0],
+        cause: Cause::Word,
+        rows: ROWS,
+        judged: Judged::Rejected(Flaw::Table),
+    },
+    Case {
+        about: "rows that reach the end",
+        doc: TURNED,
+        path: &[0],
+        cause: Cause::Word,
+        rows: FAR_ROWS,
+        judged: Judged::Rejected(Flaw::Reached),
+    },
+    Case {
+        about: "a row left out",
+        doc: TURNED,
+        path: &[0],
+        cause: Cause::Word,
+        rows: ONE_LEFT_OUT,
+        judged: Judged::Rejected(Flaw::Table),
+    },
+    Case {
+        about: "another cause",
+        doc: TURNED,
+        path: &[0],
+        cause: Cause::Empty,
+        rows: ROWS,
+        judged: Judged::Rejected(Flaw::Cause),
+    },
+    Case {
+        about: "another list",
+        doc: TURNED,
+        path: &[5],
+        cause: Cause::Word,
+        rows: ROWS,
+        judged: Judged::Rejected(Flaw::List),
+    },
+    Case {
+        about: "kids in an empty element",
+        doc: "<r><a>x</a></r>",
+        path: &[0, 0],
+        cause: Cause::Empty,
+        rows: &[],
+        judged: Judged::Denied,
+    },
+    Case {
+        about: "an empty element without kids",
+        doc: "<r><a/></r>",
+        path: &[0, 0],
+        cause: Cause::Empty,
+        rows: &[],
+        judged: Judged::Rejected(Flaw::Cause),
+    },
+    Case {
+        about: "a name that isn't declared",
+        doc: "<r><z/></r>",
+        path: &[0, 0],
+        cause: Cause::Undeclared,
+        rows: &[],
+        judged: Judged::Denied,
+    },
+    Case {
+        about: "a name that is declared",
+        doc: "<r><a/></r>",
+        path: &[0, 0],
+        cause: Cause::Undeclared,
+        rows: &[],
+        judged: Judged::Rejected(Flaw::Cause),
+    },
+];
+
+fn rows_of(alloc: Global, lines: &[Line]) -> Result<Rows, NoMemory> {
+    let mut rows = Vec::new(alloc);
+    for (site, values) in lines {
+        rows.push(Row {
             site: *site,
             values: List::of(values.to_vec(alloc)?),
         })?;
     }
+    Ok(List::of(rows))
+}
+
+fn denial_of(alloc: Global, case: &Case) -> Result<Denial, NoMemory> {
     Ok(Denial {
-        path: Path::new(alloc, path)?,
-        cause,
-        rows: List::of(listed),
+        path: Path::new(alloc, case.path)?,
+        cause: case.cause,
+        rows: rows_of(alloc, case.rows)?,
     })
 }
 
-fn check(
-    rt: &impl Abort,
-    alloc: Global,
-    doc: &str,
-    denial: &Denial,
-    judged: Judged,
-) -> Result<(), Fail> {
-    let grammar = build(alloc, dtd_of(alloc, PAIR)?)?;
-    let doc = document_of(alloc, doc, "r")?;
-    assert_eq!(rt; judge(alloc, &grammar, b"r", &doc, denial)?, judged);
+/// What the judge says of a case's denial.
+fn said_of(alloc: Global, case: &Case) -> Result<Judged, Fail> {
+    let denial = denial_of(alloc, case)?;
+    judged(alloc, (PAIR, "r", case.doc), &denial)
+}
+
+#[test]
+fn denials_that_are_judged(rt: HostRuntime) -> Result<(), Fail> {
+    for case in &CASES {
+        assert_eq!(rt; said_of(rt.alloc(), case)?, case.judged, "{}", case.about);
+    }
     Ok(())
-}
-
-#[test]
-fn rows_of_a_pair(rt: HostRuntime) -> Result<(), Fail> {
-    let alloc = rt.alloc();
-    let denial = denial_of(alloc, &[0], Cause::Word, &ROWS)?;
-    check(&rt, alloc, TURNED, &denial, Judged::Denied)?;
-    check(
-        &rt,
-        alloc,
-        "<r><a/><b/></r>",
-        &denial,
-        Judged::Rejected(Flaw::Table),
-    )
-}
-
-#[test]
-fn rows_that_reach_the_end(rt: HostRuntime) -> Result<(), Fail> {
-    let alloc = rt.alloc();
-    let denial = denial_of(alloc, &[0], Cause::Word, &FAR_ROWS)?;
-    check(&rt, alloc, TURNED, &denial, Judged::Rejected(Flaw::Reached))
-}
-
-#[test]
-fn row_left_out(rt: HostRuntime) -> Result<(), Fail> {
-    let alloc = rt.alloc();
-    let denial = denial_of(alloc, &[0], Cause::Word, &ROWS[1..])?;
-    check(&rt, alloc, TURNED, &denial, Judged::Rejected(Flaw::Table))
-}
-
-#[test]
-fn other_cause_or_list(rt: HostRuntime) -> Result<(), Fail> {
-    let alloc = rt.alloc();
-    let denial = denial_of(alloc, &[0], Cause::Empty, &ROWS)?;
-    check(&rt, alloc, TURNED, &denial, Judged::Rejected(Flaw::Cause))?;
-    let denial = denial_of(alloc, &[5], Cause::Word, &ROWS)?;
-    check(&rt, alloc, TURNED, &denial, Judged::Rejected(Flaw::List))
-}
-
-#[test]
-fn kids_in_empty(rt: HostRuntime) -> Result<(), Fail> {
-    let alloc = rt.alloc();
-    let denial = denial_of(alloc, &[0, 0], Cause::Empty, &[])?;
-    check(&rt, alloc, "<r><a>x</a></r>", &denial, Judged::Denied)?;
-    check(
-        &rt,
-        alloc,
-        "<r><a/></r>",
-        &denial,
-        Judged::Rejected(Flaw::Cause),
-    )
-}
-
-#[test]
-fn undeclared_name(rt: HostRuntime) -> Result<(), Fail> {
-    let alloc = rt.alloc();
-    let denial = denial_of(alloc, &[0, 0], Cause::Undeclared, &[])?;
-    check(&rt, alloc, "<r><z/></r>", &denial, Judged::Denied)?;
-    check(
-        &rt,
-        alloc,
-        "<r><a/></r>",
-        &denial,
-        Judged::Rejected(Flaw::Cause),
-    )
 }

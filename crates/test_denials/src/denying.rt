@@ -2,19 +2,19 @@
 
 ghost use Rattle.std.specs.Prelude.{◌≡◌, ◌<◌};
 
-use pv_denial::{Denial, Judged, judge};
+use crate::calls::{PAIR, TURNED, Texts, grammar_of, judged};
+use pv_denial::{Denial, Judged};
 use pv_denial_text::write_denial;
 use pv_deny::{DenyError, denial_at, deny};
 use pv_fresh::{PossibleError, possible_verdicts};
-use pv_productive::{Grammar, build};
+use pv_productive::Grammar;
 use pv_steps::Steps;
 use pv_tree::Doc;
 use std::alloc::Global;
 use std::marker::Brand;
-use std::process::Abort;
 use std::sync::ledger::{Blank, Ledger};
 use std::test::Fail;
-use test_fixture::documents::{document_of, dtd_of};
+use test_fixture::documents::document_of;
 
 /// The DTD of articles.
 const ARTICLE: &str = "<!ELEMENT doc (head, sec+)>\n<!ELEMENT head (#PCDATA)>\n\
@@ -22,94 +22,90 @@ const ARTICLE: &str = "<!ELEMENT doc (head, sec+)>\n<!ELEMENT head (#PCDATA)>\n\
     <!ELEMENT p (#PCDATA|em|br)*>\n<!ELEMENT em (#PCDATA|em)*>\n<!ELEMENT br EMPTY>\n\
     <!ELEMENT list (item, item+)>\n<!ELEMENT item (p+)>\n";
 
-/// A pair of two elements in a row.
-const PAIR: &str = "<!ELEMENT r (a, b)><!ELEMENT a EMPTY><!ELEMENT b EMPTY>";
-
 /// What denies the pair the wrong way round.
-const PAIR_TEXT: &str = "pvdeny 1\nlist 0\ncause word\nc 0 1 2 2\nc 1 0 1 2\nc 2 0 1 2\n\
+const TURNED_TEXT: &str = "pvdeny 1\nlist 0\ncause word\nc 0 1 2 2\nc 1 0 1 2\nc 2 0 1 2\n\
     n 0 1 2 2\nn 1 0 2 2\nn 2 1 1 2\np 0 1 2 2\np 1 0 2 2\np 2 1 1 2\ns 1 1 2 2\ns 2 1 1 2\nend\n";
 
-/// What is written of the denial of a document is this, and the judge accepts it.
-fn check_why(
-    rt: &impl Abort,
-    alloc: Global,
-    dtd: &str,
-    root: &str,
-    doc: &str,
-    text: &str,
-) -> Result<(), Fail> {
-    let grammar = build(alloc, dtd_of(alloc, dtd)?)?;
-    let doc = document_of(alloc, doc, root)?;
-    let denial = deny(alloc, &grammar, root.as_bytes(), &doc)?;
-    let written = write_denial(alloc, &denial)?;
-    assert_eq!(rt; written.as_slice(), text.as_bytes());
-    let judged = judge(alloc, &grammar, root.as_bytes(), &doc, &denial)?;
-    assert_eq!(rt; judged, Judged::Denied);
+/// What denies documents: a blank and a comment in an empty element, a root that isn't productive,
+/// and one that isn't declared.
+static DENIED: [(Texts, &str); 5] = [
+    (TURNED, TURNED_TEXT),
+    (
+        (
+            ARTICLE,
+            "doc",
+            "<doc><head/><sec><p><br> </br></p></sec></doc>",
+        ),
+        "pvdeny 1\nlist 0.1.0.0\ncause empty\nend\n",
+    ),
+    (
+        (PAIR, "r", "<r><a><!--c--></a><b/></r>"),
+        "pvdeny 1\nlist 0.0\ncause empty\nend\n",
+    ),
+    (
+        ("<!ELEMENT a (a)>", "a", "<a><a/></a>"),
+        "pvdeny 1\nlist .\ncause unproductive\nend\n",
+    ),
+    (
+        (PAIR, "z", "<z/>"),
+        "pvdeny 1\nlist .\ncause undeclared\nend\n",
+    ),
+];
+
+fn denial_of(alloc: Global, texts: Texts) -> Result<Denial, Fail> {
+    let (dtd, root, text) = texts;
+    let grammar = grammar_of(alloc, dtd)?;
+    let doc = document_of(alloc, text, root)?;
+    Ok(deny(alloc, &grammar, root.as_bytes(), &doc)?)
+}
+
+/// Whether this is written of a denial.
+fn is_text(alloc: Global, denial: &Denial, text: &str) -> Result<bool, Fail> {
+    Ok(write_denial(alloc, denial)?.as_slice() == text.as_bytes())
+}
+
+/// Whether this is written of a document's denial, and the judge accepts it.
+fn is_denied_by(alloc: Global, texts: Texts, text: &str) -> Result<bool, Fail> {
+    let denial = denial_of(alloc, texts)?;
+    Ok(judged(alloc, texts, &denial)? == Judged::Denied && is_text(alloc, &denial, text)?)
+}
+
+#[test]
+fn denied_documents(rt: HostRuntime) -> Result<(), Fail> {
+    for (texts, text) in &DENIED {
+        assert!(rt; is_denied_by(rt.alloc(), *texts, *text)?, "{text}");
+    }
     Ok(())
 }
 
-#[test]
-fn pair_is_denied(rt: HostRuntime) -> Result<(), Fail> {
-    check_why(&rt, rt.alloc(), PAIR, "r", "<r><b/><a/></r>", PAIR_TEXT)
-}
-
-#[test]
-fn blank_in_empty(rt: HostRuntime) -> Result<(), Fail> {
-    let doc = "<doc><head/><sec><p><br> </br></p></sec></doc>";
-    let text = "pvdeny 1\nlist 0.1.0.0\ncause empty\nend\n";
-    check_why(&rt, rt.alloc(), ARTICLE, "doc", doc, text)
-}
-
-#[test]
-fn comment_in_empty(rt: HostRuntime) -> Result<(), Fail> {
-    let text = "pvdeny 1\nlist 0.0\ncause empty\nend\n";
-    let doc = "<r><a><!--c--></a><b/></r>";
-    check_why(&rt, rt.alloc(), PAIR, "r", doc, text)
-}
-
-#[test]
-fn unproductive_root(rt: HostRuntime) -> Result<(), Fail> {
-    let text = "pvdeny 1\nlist .\ncause unproductive\nend\n";
-    check_why(
-        &rt,
-        rt.alloc(),
-        "<!ELEMENT a (a)>",
-        "a",
-        "<a><a/></a>",
-        text,
-    )
-}
-
-#[test]
-fn undeclared_name(rt: HostRuntime) -> Result<(), Fail> {
-    let text = "pvdeny 1\nlist .\ncause undeclared\nend\n";
-    check_why(&rt, rt.alloc(), PAIR, "z", "<z/>", text)
-}
-
-/// What denies a document, or why nothing does: its path, or a word.
-fn refusal(alloc: Global, dtd: &str, root: &str, doc: &str) -> Result<&'static str, Fail> {
-    let grammar = build(alloc, dtd_of(alloc, dtd)?)?;
-    let doc = document_of(alloc, doc, root)?;
-    match deny(alloc, &grammar, root.as_bytes(), &doc) {
-        Ok(_denial) => Ok("denied"),
-        Err(DenyError::TooWide(_path)) => Ok("too wide"),
-        Err(DenyError::Possible) => Ok("possible"),
-        Err(DenyError::TooMany) => Ok("too many"),
-        Err(DenyError::NoMemory) => Err(Fail::new("no memory")),
+/// A word for what comes of a document.
+fn word_of(denied: Result<Denial, DenyError>) -> &'static str {
+    match denied {
+        Ok(_denial) => "denied",
+        Err(DenyError::TooWide(_path)) => "too wide",
+        Err(DenyError::Possible) => "possible",
+        Err(DenyError::TooMany) => "too many",
+        Err(DenyError::NoMemory) => "no memory",
     }
 }
 
+fn outcome_of(alloc: Global, text: &str) -> Result<&'static str, Fail> {
+    let grammar = grammar_of(alloc, ARTICLE)?;
+    let doc = document_of(alloc, text, "doc")?;
+    Ok(word_of(deny(alloc, &grammar, b"doc", &doc)))
+}
+
+/// Articles, and what comes of them.
+static OUTCOMES: [(&str, &str); 2] = [
+    ("<doc>Hello</doc>", "possible"),
+    ("<doc><sec/><head/></doc>", "denied"),
+];
+
 #[test]
-fn possible_document(rt: HostRuntime) -> Result<(), Fail> {
-    let alloc = rt.alloc();
-    assert_eq!(rt;
-        refusal(alloc, ARTICLE, "doc", "<doc>Hello</doc>")?,
-        "possible"
-    );
-    assert_eq!(rt;
-        refusal(alloc, ARTICLE, "doc", "<doc><sec/><head/></doc>")?,
-        "denied"
-    );
+fn outcomes(rt: HostRuntime) -> Result<(), Fail> {
+    for (text, word) in &OUTCOMES {
+        assert_eq!(rt; outcome_of(rt.alloc(), *text)?, *word, "{text}");
+    }
     Ok(())
 }
 
@@ -134,13 +130,17 @@ fn denied_behind<L: Ledger>(
     }
 }
 
+fn is_denied_behind(alloc: Global, texts: Texts, text: &str) -> Result<bool, Fail> {
+    let (dtd, root, doc) = texts;
+    let grammar = grammar_of(alloc, dtd)?;
+    let doc = document_of(alloc, doc, root)?;
+    let root = root.as_bytes();
+    let denial = denied_behind::<Brand>(alloc, &grammar, root, &doc, Blank::new(1))?;
+    is_text(alloc, &denial, text)
+}
+
 #[test]
 fn denied_behind_a_check(rt: HostRuntime) -> Result<(), Fail> {
-    let alloc = rt.alloc();
-    let grammar = build(alloc, dtd_of(alloc, PAIR)?)?;
-    let doc = document_of(alloc, "<r><b/><a/></r>", "r")?;
-    let denial = denied_behind::<Brand>(alloc, &grammar, b"r", &doc, Blank::new(1))?;
-    let written = write_denial(alloc, &denial)?;
-    assert_eq!(rt; written.as_slice(), PAIR_TEXT.as_bytes());
+    assert!(rt; is_denied_behind(rt.alloc(), TURNED, TURNED_TEXT)?);
     Ok(())
 }

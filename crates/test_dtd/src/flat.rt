@@ -1,8 +1,13 @@
 //! Parts of a DTD laid out flat, and its sites.
 
-use pv_dtd::read_dtd;
+ghost use Rattle.pv_dtd.specs.PlainForms.{plain_dtd};
+ghost use Rattle.pv_rules.specs.PlainForms.{IsFlat};
+
+use crate::rows::expect;
+use pv_dtd::{Dtd, read_dtd};
 use pv_model::NameId;
-use pv_rules::{ContentKind, FlatDtd, Kind, Membership, Site, has_site};
+use pv_rules::{ContentKind, FlatContent, FlatDtd, FlatPart, Kind, Membership, Site, has_site};
+use std::process::Abort;
 use std::test::Fail;
 
 /// The model `(b, (c | d*)+)`, one of mixed content, and two without parts.
@@ -13,7 +18,7 @@ const TEXT: &str = "<!ELEMENT a (b, (c | d*)+)>
 ";
 
 /// The parts: of each its kind, its end, and its membership.
-const PARTS: [(Kind, u32, Membership); 8] = [
+static PARTS: [(Kind, u32, Membership); 8] = [
     (Kind::Seq, 7, Membership::Outside),
     (Kind::Name(NameId(1)), 2, Membership::Followed),
     (Kind::Plus, 7, Membership::Last),
@@ -24,40 +29,32 @@ const PARTS: [(Kind, u32, Membership); 8] = [
     (Kind::Name(NameId(2)), 8, Membership::Outside),
 ];
 
-#[test]
-fn parts_by_number(rt: HostRuntime) -> Result<(), Fail> {
-    let dtd = read_dtd(rt.alloc(), TEXT.as_bytes())?;
-    let flat = FlatDtd::of(rt.alloc(), &dtd)?;
-    assert_eq!(rt; flat.parts().len(), PARTS.len());
-    for (part, (kind, end, membership)) in flat.parts().iter().zip(&PARTS) {
-        assert!(rt; part.kind == *kind);
-        assert!(rt; part.end == *end && part.membership == *membership);
+fn are_parts(rt: &impl Abort, parts: &[FlatPart]) {
+    assert!(rt; parts.len() == PARTS.len());
+    for (part, (kind, end, membership)) in parts.iter().zip(&PARTS) {
+        let holds = part.kind == *kind && part.end == *end && part.membership == *membership;
+        expect(rt, holds, end);
     }
-    Ok(())
 }
 
 /// The contents of the names: of each its kind, its first part, and the part behind its last.
-const CONTENTS: [(ContentKind, u32, u32); 4] = [
+static CONTENTS: [(ContentKind, u32, u32); 4] = [
     (ContentKind::Children, 0, 7),
     (ContentKind::Mixed, 7, 8),
     (ContentKind::Empty, 8, 8),
     (ContentKind::Any, 8, 8),
 ];
 
-#[test]
-fn contents_by_name(rt: HostRuntime) -> Result<(), Fail> {
-    let dtd = read_dtd(rt.alloc(), TEXT.as_bytes())?;
-    let flat = FlatDtd::of(rt.alloc(), &dtd)?;
-    assert_eq!(rt; flat.contents().len(), CONTENTS.len());
-    for (content, (kind, first, end)) in flat.contents().iter().zip(&CONTENTS) {
-        assert!(rt; content.kind == *kind);
-        assert!(rt; content.first == *first && content.end == *end);
+fn are_contents(rt: &impl Abort, contents: &[FlatContent]) {
+    assert!(rt; contents.len() == CONTENTS.len());
+    for (content, (kind, first, end)) in contents.iter().zip(&CONTENTS) {
+        let holds = content.kind == *kind && content.first == *first && content.end == *end;
+        expect(rt, holds, first);
     }
-    Ok(())
 }
 
 /// Sites, each with whether the DTD has it.
-const SITES: [(Site, bool); 8] = [
+static SITES: [(Site, bool); 8] = [
     (Site::Name(NameId(3)), true),
     (Site::Content(NameId(4)), false),
     (Site::Part(7), true),
@@ -68,12 +65,20 @@ const SITES: [(Site, bool); 8] = [
     (Site::Rest(3), false),
 ];
 
+fn are_sites(rt: &impl Abort, dtd: &Dtd, flat: &FlatDtd)
+    requires { IsFlat (plain_dtd dtd.now) flat.now }
+{
+    for (site, wanted) in &SITES {
+        expect(rt, has_site(dtd, flat, *site) == *wanted, site);
+    }
+}
+
 #[test]
-fn sites(rt: HostRuntime) -> Result<(), Fail> {
+fn laid_out_flat(rt: HostRuntime) -> Result<(), Fail> {
     let dtd = read_dtd(rt.alloc(), TEXT.as_bytes())?;
     let flat = FlatDtd::of(rt.alloc(), &dtd)?;
-    for (site, wanted) in &SITES {
-        assert!(rt; has_site(&dtd, &flat, *site) == *wanted);
-    }
+    are_parts(&rt, flat.parts());
+    are_contents(&rt, flat.contents());
+    are_sites(&rt, &dtd, &flat);
     Ok(())
 }

@@ -1,38 +1,36 @@
 //! Productive names and their least sizes.
 
+use crate::rows::expect;
 use pv_dtd::read_dtd;
 use pv_model::NameId;
-use pv_productive::build;
+use pv_productive::{Grammar, build};
 use std::alloc::Global;
 use std::process::Abort;
 use std::test::Fail;
 
-/// The sizes of all names of a DTD, in the order of their numbers, are these.
-fn are_sizes(
-    rt: &impl Abort,
-    alloc: Global,
-    text: &str,
-    wanted: &[Option<u64>],
-) -> Result<(), Fail> {
-    let grammar = build(alloc, read_dtd(alloc, text.as_bytes())?)?;
-    assert_eq!(rt; grammar.dtd().names() as usize, wanted.len(), "{text}");
-    assert_eq!(rt;
-        grammar.flat().parts().len(),
-        grammar.dtd().parts() as usize,
-        "{text}"
-    );
-    for (name, size) in wanted.iter().enumerate() {
-        if name < grammar.dtd().names() as usize {
-            let id = NameId(name as u32);
-            assert_eq!(rt; grammar.least_tree(id), *size, "{text}");
-            assert_eq!(rt; grammar.is_productive(id), size.is_some(), "{text}");
-        }
+fn grammar_of(alloc: Global, text: &str) -> Result<Grammar, Fail> {
+    let dtd = read_dtd(alloc, text.as_bytes())?;
+    Ok(build(alloc, dtd)?)
+}
+
+// Whether the least tree of the name has this size; none where it isn't productive.
+fn is_size(grammar: &Grammar, name: usize, size: Option<u64>) -> bool {
+    if name >= grammar.dtd().names() as usize {
+        return false;
     }
-    Ok(())
+    let id = NameId(name as u32);
+    grammar.least_tree(id) == size && grammar.is_productive(id) == size.is_some()
+}
+
+// The first names have these sizes.
+fn are_sizes(rt: &impl Abort, grammar: &Grammar, wanted: &[Option<u64>], text: &str) {
+    for (name, size) in wanted.iter().enumerate() {
+        expect(rt, is_size(grammar, name, *size), &text);
+    }
 }
 
 /// DTDs, each with the sizes of its names.
-const SIZES: [(&str, &[Option<u64>]); 7] = [
+static SIZES: [(&str, &[Option<u64>]); 7] = [
     // Recursion: through a name, a plus, an option and a star.
     ("<!ELEMENT a (a)>", &[None]),
     ("<!ELEMENT a (b+)><!ELEMENT b (a)>", &[None, None]),
@@ -60,7 +58,14 @@ const SIZES: [(&str, &[Option<u64>]); 7] = [
 #[test]
 fn least_trees(rt: HostRuntime) -> Result<(), Fail> {
     for (text, wanted) in &SIZES {
-        are_sizes(&rt, rt.alloc(), *text, *wanted)?;
+        let grammar = grammar_of(rt.alloc(), *text)?;
+        expect(&rt, grammar.dtd().names() as usize == wanted.len(), text);
+        expect(
+            &rt,
+            grammar.flat().parts().len() == grammar.dtd().parts() as usize,
+            text,
+        );
+        are_sizes(&rt, &grammar, *wanted, *text);
     }
     Ok(())
 }
@@ -69,20 +74,21 @@ fn least_trees(rt: HostRuntime) -> Result<(), Fail> {
 fn doubling(alloc: Global) -> Result<String, Fail> {
     let mut text = String::new(alloc);
     for k in 0..20u32 {
-        text.push_str(format!(in alloc; "<!ELEMENT e{k} (e{}, e{})>", k + 1, k + 1)?.as_str())?;
+        let line = format!(in alloc; "<!ELEMENT e{k} (e{}, e{})>", k + 1, k + 1)?;
+        text.push_str(line.as_str())?;
     }
     text.push_str("<!ELEMENT e20 EMPTY>")?;
     Ok(text)
 }
 
 /// 2^21 - 1 and 2^20 - 1 elements are more than 1,000,000, and 2^19 - 1 are not.
+static MANY: [Option<u64>; 3] = [Some(1_000_001), Some(1_000_001), Some(524_287)];
+
 #[test]
 fn more_than_are_counted(rt: HostRuntime) -> Result<(), Fail> {
     let text = doubling(rt.alloc())?;
-    let grammar = build(rt.alloc(), read_dtd(rt.alloc(), text.as_bytes())?)?;
-    assert_eq!(rt; grammar.dtd().names(), 21);
-    assert_eq!(rt; grammar.least_tree(NameId(0)), Some(1_000_001));
-    assert_eq!(rt; grammar.least_tree(NameId(1)), Some(1_000_001));
-    assert_eq!(rt; grammar.least_tree(NameId(2)), Some(524_287));
+    let grammar = grammar_of(rt.alloc(), text.as_str())?;
+    assert!(rt; grammar.dtd().names() == 21);
+    are_sizes(&rt, &grammar, &MANY, "doubling");
     Ok(())
 }

@@ -4,8 +4,7 @@ ghost use Rattle.std.specs.Prelude.{◌≡◌, OnOk};
 ghost use Rattle.pv_tree.specs.Marks.{unmarked_doc};
 ghost use Rattle.pv_tree.specs.PlainDocs.{plain_doc};
 
-use crate::edits::{HELLO, IN_ORDER, MAX_NODES, expect};
-use crate::lines::edit_of;
+use crate::edits::{HELLO, IN_ORDER, MAX_NODES, edit_of, expect};
 use pv_edit::{Edit, Preparation, apply, make, prepare, prepare_back, revert};
 use pv_tree::Doc;
 use std::alloc::Global;

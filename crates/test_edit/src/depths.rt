@@ -2,6 +2,7 @@
 
 use crate::reasons::refusal;
 use pv_edit::Reason;
+use std::alloc::Global;
 use std::test::Fail;
 use test_fixture::documents::{document_of, nested};
 
@@ -17,16 +18,25 @@ static DEEP: [(usize, &str, &str, Option<Reason>); 7] = [
     (512, "wrap ", " 0 0 1x", Some(Reason::BadName)),
 ];
 
+// The line of an edit with the path of the innermost element of so many.
+fn deep_line(alloc: Global, depth: usize, before: &str, behind: &str) -> Result<String, Fail> {
+    let path = nested(alloc, depth.saturating_sub(1), "0.", "0", "")?;
+    Ok(format!(in alloc; "{before}{path}{behind}")?)
+}
+
+// The first reason to refuse the edit of a document of so many elements one inside another.
+fn deep_refusal(alloc: Global, depth: usize, line: &str) -> Result<Option<Reason>, Fail> {
+    let text = nested(alloc, depth, "<doc>", "", "</doc>")?;
+    let doc = document_of(alloc, text.as_str(), "doc")?;
+    refusal(alloc, &doc, line)
+}
+
 #[test]
 fn the_greatest_depth(rt: HostRuntime) -> Result<(), Fail> {
-    let alloc = rt.alloc();
     for (depth, before, behind, reason) in &DEEP {
-        let text = nested(alloc, *depth, "<doc>", "", "</doc>")?;
-        let doc = document_of(alloc, &text, "doc")?;
-        let mut line = String::from_str(alloc, before)?;
-        line.push_str(&nested(alloc, depth.saturating_sub(1), "0.", "0", "")?)?;
-        line.push_str(behind)?;
-        assert_eq!(rt; refusal(alloc, &doc, &line)?, *reason);
+        let line = deep_line(rt.alloc(), *depth, *before, *behind)?;
+        let found = deep_refusal(rt.alloc(), *depth, line.as_str())?;
+        assert!(rt; found == *reason, "{depth}: {before}{behind}");
     }
     Ok(())
 }
@@ -41,11 +51,9 @@ static DEEP_ROOTS: [(usize, &str, Option<Reason>); 4] = [
 
 #[test]
 fn the_greatest_depth_around(rt: HostRuntime) -> Result<(), Fail> {
-    let alloc = rt.alloc();
     for (depth, line, reason) in &DEEP_ROOTS {
-        let text = nested(alloc, *depth, "<doc>", "", "</doc>")?;
-        let doc = document_of(alloc, &text, "doc")?;
-        assert_eq!(rt; refusal(alloc, &doc, *line)?, *reason);
+        let found = deep_refusal(rt.alloc(), *depth, *line)?;
+        assert!(rt; found == *reason, "{depth}: {line}");
     }
     Ok(())
 }

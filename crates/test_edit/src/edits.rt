@@ -1,7 +1,7 @@
 //! What edits make of a document, and that they are taken back.
 
-use crate::lines::edit_of;
 use pv_edit::{Edit, apply, revert};
+use pv_script::{Command, read_command};
 use pv_tree::Doc;
 use pv_write::doc_bytes;
 use std::alloc::Global;
@@ -11,52 +11,48 @@ use test_fixture::documents::document_of;
 /// The greatest number of nodes of a document that may still grow.
 pub const MAX_NODES: u64 = 33_554_432;
 
-/// The document is this text.
-pub fn expect(alloc: Global, doc: &Doc, text: &str) -> Result<(), Fail> {
-    let written = doc_bytes(alloc, doc)?;
-    if written.as_slice() != text.as_bytes() {
-        return Err(Fail::new(format_args!("the document isn't {text}")));
+/// The edit that the line of a script is.
+pub fn edit_of(alloc: Global, line: &str) -> Result<Edit, Fail> {
+    match read_command(alloc, line.as_bytes()) {
+        Ok(Command::Edit(edit)) => Ok(edit),
+        _ => Err(Fail::new("no edit")),
     }
-    Ok(())
 }
 
-// Makes an edit on a document of this text, and takes it back. Where there is an answer other than
-// Ok, the document stays.
-fn there_and_back(
-    alloc: Global,
-    doc: &mut Doc,
-    before: &str,
-    edit: &Edit,
-    after: &str,
-) -> Result<(), Fail> {
+fn is_document(alloc: Global, doc: &Doc, text: &str) -> bool {
+    match doc_bytes(alloc, doc) {
+        Ok(written) => written.as_slice() == text.as_bytes(),
+        Err(_) => false,
+    }
+}
+
+/// The document is this text.
+pub fn expect(alloc: Global, doc: &Doc, text: &str) -> Result<(), Fail> {
+    if is_document(alloc, doc, text) {
+        Ok(())
+    } else {
+        Err(Fail::new(format_args!("the document isn't {text}")))
+    }
+}
+
+// Whether an edit on a document of this text makes the other text of it, and is taken back.
+fn is_there_and_back(alloc: Global, doc: &mut Doc, edit: &Edit, before: &str, after: &str) -> bool {
     if doc.nodes() > MAX_NODES {
-        return Err(Fail::new("too many nodes"));
+        return false;
     }
     match apply(alloc, doc, edit) {
         Ok(inverse) => {
-            expect(alloc, doc, after)?;
-            if revert(alloc, doc, &inverse).is_err() {
-                expect(alloc, doc, after)?;
-                return Err(Fail::new("the edit isn't taken back"));
-            }
-            expect(alloc, doc, before)
+            is_document(alloc, doc, after)
+                && revert(alloc, doc, &inverse).is_ok()
+                && is_document(alloc, doc, before)
         }
-        Err(_) => {
-            expect(alloc, doc, before)?;
-            Err(Fail::new("the edit isn't made"))
-        }
+        Err(_) => false,
     }
 }
 
-/// Makes an edit that can be made.
-pub fn make(alloc: Global, doc: &mut Doc, edit: &Edit) -> Result<(), Fail> {
-    if doc.nodes() > MAX_NODES {
-        return Err(Fail::new("too many nodes"));
-    }
-    match apply(alloc, doc, edit) {
-        Ok(_) => Ok(()),
-        Err(_) => Err(Fail::new("the edit isn't made")),
-    }
+/// Makes an edit; whether it can be made.
+pub fn make(alloc: Global, doc: &mut Doc, edit: &Edit) -> bool {
+    doc.nodes() <= MAX_NODES && apply(alloc, doc, edit).is_ok()
 }
 
 /// A document with one text.
@@ -99,13 +95,19 @@ static EDITS: [(&str, &str, &str); 19] = [
     (HELLO, "deltext 0.0", "<doc></doc>"),
 ];
 
+fn is_made_alone(alloc: Global, before: &str, line: &str, after: &str) -> Result<bool, Fail> {
+    let edit = edit_of(alloc, line)?;
+    let mut doc = document_of(alloc, before, "doc")?;
+    Ok(is_there_and_back(alloc, &mut doc, &edit, before, after))
+}
+
 #[test]
 fn edits_alone(rt: HostRuntime) -> Result<(), Fail> {
-    let alloc = rt.alloc();
     for (before, line, after) in &EDITS {
-        let mut doc = document_of(alloc, before, "doc")?;
-        let edit = edit_of(alloc, line)?;
-        there_and_back(alloc, &mut doc, before, &edit, after)?;
+        assert!(rt;
+            is_made_alone(rt.alloc(), *before, *line, *after)?,
+            "{line}"
+        );
     }
     Ok(())
 }
@@ -130,17 +132,28 @@ pub static IN_ORDER: [(&str, &str); 10] = [
     ("rename 0.0 名", "<doc><名></名>Hi &amp; bye</doc>"),
 ];
 
-// Each is taken back and made again.
+// Makes the edit of a line, takes it back and makes it again.
+fn is_made_twice(
+    alloc: Global,
+    doc: &mut Doc,
+    line: &str,
+    before: &str,
+    after: &str,
+) -> Result<bool, Fail> {
+    let edit = edit_of(alloc, line)?;
+    Ok(is_there_and_back(alloc, doc, &edit, before, after) && make(alloc, doc, &edit))
+}
+
 #[test]
 fn edits_in_order(rt: HostRuntime) -> Result<(), Fail> {
-    let alloc = rt.alloc();
-    let mut doc = document_of(alloc, HELLO, "doc")?;
+    let mut doc = document_of(rt.alloc(), HELLO, "doc")?;
     let mut before = HELLO;
     for (line, after) in &IN_ORDER {
-        let edit = edit_of(alloc, line)?;
-        there_and_back(alloc, &mut doc, before, &edit, after)?;
-        make(alloc, &mut doc, &edit)?;
+        assert!(rt;
+            is_made_twice(rt.alloc(), &mut doc, *line, before, *after)?,
+            "{line}"
+        );
         before = *after;
     }
-    expect(alloc, &doc, before)
+    expect(rt.alloc(), &doc, before)
 }

@@ -9,6 +9,4 @@ mod depths;
 #[cfg(test)]
 mod edits;
 #[cfg(test)]
-mod lines;
-#[cfg(test)]
 mod reasons;

@@ -1,7 +1,6 @@
 //! The first reason to refuse an edit, and none where it can be made.
 
-use crate::edits::make;
-use crate::lines::edit_of;
+use crate::edits::{edit_of, make};
 use pv_edit::{EditError, Reason, shape};
 use pv_tree::Doc;
 use std::alloc::Global;
@@ -13,8 +12,9 @@ type Row = (&'static str, Option<Reason>);
 
 /// The first reason to refuse the edit.
 pub fn refusal(alloc: Global, doc: &Doc, line: &str) -> Result<Option<Reason>, Fail> {
-    let edit = edit_of(alloc, line)?.copy(alloc)?;
-    match shape(alloc, doc, &edit) {
+    let edit = edit_of(alloc, line)?;
+    let copy = edit.copy(alloc)?;
+    match shape(alloc, doc, &copy) {
         Ok(()) => Ok(None),
         Err(EditError::Shape(reason)) => Ok(Some(reason)),
         Err(EditError::NoMemory) => Err(Fail::new("no memory")),
@@ -112,13 +112,18 @@ static TEXTS: [Row; 35] = [
     ("deltext 0.1", Some(Reason::CloseMark)),
 ];
 
+fn make_line(alloc: Global, doc: &mut Doc, line: &str) -> Result<bool, Fail> {
+    let edit = edit_of(alloc, line)?;
+    Ok(make(alloc, doc, &edit))
+}
+
 #[test]
 fn reasons_at_texts(rt: HostRuntime) -> Result<(), Fail> {
-    let alloc = rt.alloc();
-    let mut doc = document_of(alloc, "<doc>]]x><em/></doc>", "doc")?;
-    make(alloc, &mut doc, &edit_of(alloc, "split 0.0 2")?)?;
-    make(alloc, &mut doc, &edit_of(alloc, "split 0.1 1")?)?;
-    check(alloc, &doc, &TEXTS)
+    let mut doc = document_of(rt.alloc(), "<doc>]]x><em/></doc>", "doc")?;
+    for line in ["split 0.0 2", "split 0.1 1"] {
+        assert!(rt; make_line(rt.alloc(), &mut doc, line)?, "{line}");
+    }
+    check(rt.alloc(), &doc, &TEXTS)
 }
 
 // A CDATA section, a comment and a processing instruction are no elements and no texts.
@@ -139,7 +144,7 @@ static OTHERS: [Row; 12] = [
 
 #[test]
 fn reasons_at_other_nodes(rt: HostRuntime) -> Result<(), Fail> {
-    let alloc = rt.alloc();
     let text = "<doc><![CDATA[ab]]><!--c--><?d?>e<!--f--></doc>";
-    check(alloc, &document_of(alloc, text, "doc")?, &OTHERS)
+    let doc = document_of(rt.alloc(), text, "doc")?;
+    check(rt.alloc(), &doc, &OTHERS)
 }

@@ -2,35 +2,30 @@
 
 ghost use Rattle.std.specs.Prelude.{◌≡◌, ◌<◌};
 
-use pv_chars::bytes_of;
+use crate::calls::grammar_of;
+use pv_chars::{NoMemory, bytes_of};
 use pv_missing::{Of, live_word};
 use pv_model::NameId;
-use pv_productive::{Grammar, build};
+use pv_productive::Grammar;
 use pv_rules::Site;
 use pv_span::{Entries, Entry, SpanError, Tables, list_verdict, member, weights};
 use pv_steps::Steps;
 use pv_tree::{End, Mark, Node, Verdict};
 use std::alloc::Global;
 use std::marker::Brand;
-use std::process::Abort;
 use std::sync::ledger::{Blank, Ledger};
 use std::test::Fail;
-use test_fixture::documents::dtd_of;
-use test_fixture::dtds::{ARTICLE, NESTED};
-
-const ENDLESS: &str = "<!ELEMENT a (a)>";
+use test_fixture::dtds::{ARTICLE, DOUBLING, ENDLESS, NESTED};
 
 const ANYTHING: &str = "<!ELEMENT r ANY><!ELEMENT s (t, t)><!ELEMENT t EMPTY>";
 
 const DATA: &str = "a CDATA section";
 
+const COMMENT: &str = "a comment";
+
 const DOC: Of = Of::Elem(NameId(0));
 
-/// An element of a name, or a section of data.
-fn node(alloc: Global, name: &str) -> Result<Node, Fail> {
-    if name == DATA {
-        return Ok(Node::Cdata(bytes_of(alloc, b"<![CDATA[x]]>")?));
-    }
+fn element(alloc: Global, name: &str) -> Result<Node, NoMemory> {
     Ok(Node::Elem {
         name: bytes_of(alloc, name.as_bytes())?,
         attrs: bytes_of(alloc, b"")?,
@@ -40,7 +35,18 @@ fn node(alloc: Global, name: &str) -> Result<Node, Fail> {
     })
 }
 
-fn nodes(alloc: Global, names: &[&str]) -> Result<Vec<Node>, Fail> {
+/// An element of a name, a section of data or a comment.
+fn node(alloc: Global, name: &str) -> Result<Node, NoMemory> {
+    if name == DATA {
+        return Ok(Node::Cdata(bytes_of(alloc, b"<![CDATA[x]]>")?));
+    }
+    if name == COMMENT {
+        return Ok(Node::Misc(bytes_of(alloc, b"<!---->")?));
+    }
+    element(alloc, name)
+}
+
+fn nodes(alloc: Global, names: &[&str]) -> Result<Vec<Node>, NoMemory> {
     let mut nodes = Vec::new(alloc);
     for name in names {
         nodes.push(node(alloc, *name)?)?;
@@ -130,82 +136,64 @@ fn verdict<L: Ledger>(
     list_verdict(alloc, grammar, of, kids, &mut steps)
 }
 
-/// A word is possible or it isn't, and weighs so much.
-fn check(
-    rt: &impl Abort,
-    alloc: Global,
-    dtd: &str,
-    rows: &[(Of, &[&str], bool, u32)],
-) -> Result<(), Fail> {
-    let grammar = build(alloc, dtd_of(alloc, dtd)?)?;
-    for (of, names, is_possible, wanted) in rows {
-        let kids = nodes(alloc, *names)?;
-        let answer = is_member::<Brand>(alloc, &grammar, *of, &kids, Blank::new(1))?;
-        assert_eq!(rt; answer, *is_possible, "{names:?} in {of:?} by {dtd}");
-        let found = weight(alloc, &grammar, *of, &kids)?;
-        assert_eq!(rt; found, *wanted, "{names:?} in {of:?} by {dtd}");
+/// A DTD, the owner of a list and its kids, whether their word is possible, and its weight.
+type Row = (&'static str, Of, &'static [&'static str], bool, u32);
+
+/// The content of `br` by the article's DTD.
+const BR: Of = Of::Elem(NameId(6));
+
+/// Words, the last three of types each of which needs two of the next one: 2^21 - 1 elements are
+/// more than 1,000,000, and 2^19 - 1 are not.
+static WORDS: [Row; 16] = [
+    (ARTICLE, DOC, &[DATA], true, 2),
+    (ARTICLE, DOC, &["p", "title"], true, 3),
+    (ARTICLE, DOC, &["sec", "head"], false, 1_000_001),
+    (ARTICLE, Of::Root(NameId(0)), &["p"], true, 3),
+    (ARTICLE, BR, &[], true, 0),
+    (ARTICLE, BR, &[DATA], false, 1_000_001),
+    (ARTICLE, DOC, &["head", "sec"], true, 0),
+    (NESTED, DOC, &["y", "y", "y"], true, 3),
+    (ENDLESS, Of::Root(NameId(0)), &[], false, 1_000_001),
+    (ANYTHING, DOC, &[DATA, "s", "t", DATA], true, 0),
+    (ANYTHING, DOC, &["r", "q"], false, 1_000_001),
+    (ANYTHING, Of::Elem(NameId(1)), &["t"], true, 1),
+    (ANYTHING, Of::Root(NameId(0)), &["s", "t"], true, 1),
+    (DOUBLING, Of::Root(NameId(0)), &[], true, 1_000_001),
+    (DOUBLING, Of::Root(NameId(2)), &[], true, 524_287),
+    (DOUBLING, Of::Root(NameId(2)), &["t3"], true, 262_144),
+];
+
+/// Whether a row's word is possible.
+fn is_possible(alloc: Global, row: &Row) -> Result<bool, Fail> {
+    let grammar = grammar_of(alloc, row.0)?;
+    let kids = nodes(alloc, row.2)?;
+    Ok(is_member::<Brand>(alloc, &grammar, row.1, &kids, Blank::new(1))?)
+}
+
+/// The weight of a row's word.
+fn weight_of(alloc: Global, row: &Row) -> Result<u32, Fail> {
+    let grammar = grammar_of(alloc, row.0)?;
+    let kids = nodes(alloc, row.2)?;
+    Ok(weight(alloc, &grammar, row.1, &kids)?)
+}
+
+#[test]
+fn words(rt: HostRuntime) -> Result<(), Fail> {
+    let alloc = rt.alloc();
+    for row in &WORDS {
+        let (dtd, of, names, possible, wanted) = *row;
+        assert_eq!(rt;
+            is_possible(alloc, row)?,
+            possible,
+            "{names:?} in {of:?} by {dtd}"
+        );
+        assert_eq!(rt;
+            weight_of(alloc, row)?,
+            wanted,
+            "{names:?} in {of:?} by {dtd}"
+        );
     }
     Ok(())
-}
-
-#[test]
-fn members(rt: HostRuntime) -> Result<(), Fail> {
-    let alloc = rt.alloc();
-    let br = Of::Elem(NameId(6));
-    check(
-        &rt,
-        alloc,
-        ARTICLE,
-        &[
-            (DOC, &[DATA], true, 2),
-            (DOC, &["p", "title"], true, 3),
-            (DOC, &["sec", "head"], false, 1_000_001),
-            (Of::Root(NameId(0)), &["p"], true, 3),
-            (br, &[], true, 0),
-            (br, &[DATA], false, 1_000_001),
-            (DOC, &["head", "sec"], true, 0),
-        ],
-    )?;
-    check(&rt, alloc, NESTED, &[(DOC, &["y", "y", "y"], true, 3)])?;
-    check(
-        &rt,
-        alloc,
-        ENDLESS,
-        &[(Of::Root(NameId(0)), &[], false, 1_000_001)],
-    )?;
-    check(
-        &rt,
-        alloc,
-        ANYTHING,
-        &[
-            (DOC, &[DATA, "s", "t", DATA], true, 0),
-            (DOC, &["r", "q"], false, 1_000_001),
-            (Of::Elem(NameId(1)), &["t"], true, 1),
-            (Of::Root(NameId(0)), &["s", "t"], true, 1),
-        ],
-    )
-}
-
-/// Each type needs two of the next one: 2^21 - 1 elements are more than 1,000,000, and 2^19 - 1 are
-/// not.
-#[test]
-fn heavy_words(rt: HostRuntime) -> Result<(), Fail> {
-    let alloc = rt.alloc();
-    let mut text = String::new(alloc);
-    for k in 0..20u32 {
-        text.push_str(format!(in alloc; "<!ELEMENT e{k} (e{}, e{})>", k + 1, k + 1)?.as_str())?;
-    }
-    text.push_str("<!ELEMENT e20 EMPTY>")?;
-    check(
-        &rt,
-        alloc,
-        text.as_str(),
-        &[
-            (Of::Root(NameId(0)), &[], true, 1_000_001),
-            (Of::Root(NameId(2)), &[], true, 524_287),
-            (Of::Root(NameId(2)), &["e3"], true, 262_144),
-        ],
-    )
 }
 
 const DOC_NAME: NameId = NameId(0);
@@ -230,87 +218,101 @@ static SITES: [(Site, u32, u32, u32); 11] = [
     (Site::Rest(0), 0, 2, 1_000_001),
 ];
 
+fn weight_of_site(alloc: Global, site: Site, from: u32, to: u32) -> Result<u32, Fail> {
+    let grammar = grammar_of(alloc, ARTICLE)?;
+    let kids = nodes(alloc, &["p", "title"])?;
+    Ok(weight_over(alloc, &grammar, &kids, site, from, to)?)
+}
+
 #[test]
 fn sites_over_spans(rt: HostRuntime) -> Result<(), Fail> {
-    let alloc = rt.alloc();
-    let grammar = build(alloc, dtd_of(alloc, ARTICLE)?)?;
-    let kids = nodes(alloc, &["p", "title"])?;
     for (site, from, to, wanted) in &SITES {
-        let found = weight_over(alloc, &grammar, &kids, *site, *from, *to)?;
+        let found = weight_of_site(rt.alloc(), *site, *from, *to)?;
         assert_eq!(rt; found, *wanted, "{site:?} from {from} up to {to}");
     }
     Ok(())
 }
 
+/// Many sections.
+fn sections(alloc: Global, count: u32) -> Result<Vec<Node>, NoMemory> {
+    let mut kids = Vec::new(alloc);
+    for _ in 0..count {
+        kids.push(element(alloc, "sec")?)?;
+    }
+    Ok(kids)
+}
+
+/// Whether a list is too wide to tell whether its word is possible, its weight, and its verdict.
+fn are_too_wide(alloc: Global, grammar: &Grammar, kids: &[Node]) -> [bool; 3] {
+    [
+        matches!(
+            is_member::<Brand>(alloc, grammar, DOC, kids, Blank::new(1)),
+            Err(SpanError::TooWide)
+        ),
+        matches!(weight(alloc, grammar, DOC, kids), Err(SpanError::TooWide)),
+        matches!(
+            verdict::<Brand>(alloc, grammar, 0, kids, Blank::new(1)),
+            Err(SpanError::TooWide)
+        ),
+    ]
+}
+
 /// The article's DTD has 30 parts and names: 1,058 * 1,059 / 2 spans of it are too many.
+fn are_sections_too_wide(alloc: Global) -> Result<[bool; 3], Fail> {
+    let grammar = grammar_of(alloc, ARTICLE)?;
+    let kids = sections(alloc, 1_057)?;
+    Ok(are_too_wide(alloc, &grammar, &kids))
+}
+
 #[test]
 fn wide_lists(rt: HostRuntime) -> Result<(), Fail> {
-    let alloc = rt.alloc();
-    let grammar = build(alloc, dtd_of(alloc, ARTICLE)?)?;
-    let mut kids = Vec::new(alloc);
-    for _ in 0..1_057 {
-        kids.push(node(alloc, "sec")?)?;
-    }
-    assert!(rt; matches!(weight(alloc, &grammar, DOC, &kids), Err(SpanError::TooWide)));
-    assert!(rt;
-        matches!(
-            is_member::<Brand>(alloc, &grammar, DOC, &kids, Blank::new(1)),
-            Err(SpanError::TooWide)
-        )
-    );
-    assert!(rt;
-        matches!(
-            verdict::<Brand>(alloc, &grammar, 0, &kids, Blank::new(1)),
-            Err(SpanError::TooWide)
-        )
-    );
+    assert_eq!(rt; are_sections_too_wide(rt.alloc())?, [true, true, true]);
     Ok(())
 }
 
-fn check_list(
-    rt: &impl Abort,
-    alloc: Global,
-    grammar: &Grammar,
-    owner: u32,
-    kids: &[Node],
-    wanted: Verdict,
-) -> Result<(), Fail> {
-    let found = verdict::<Brand>(alloc, grammar, owner, kids, Blank::new(1))?;
-    assert_eq!(rt; found, wanted, "{kids:?} in {owner}");
-    Ok(())
+/// The number of an owner by the article's DTD, which has nine names, its kids, and their verdict.
+static LISTS: [(u32, &[&str], Verdict); 7] = [
+    (6, &[], Verdict::Valid),
+    (9, &[], Verdict::Impossible),
+    (6, &[COMMENT], Verdict::Impossible),
+    (2, &[COMMENT], Verdict::Valid),
+    (0, &[COMMENT, "sec", "p"], Verdict::Possible),
+    (2, &[COMMENT, "sec", "p"], Verdict::Impossible),
+    (0, &[COMMENT, "sec", "p", "q"], Verdict::Impossible),
+];
+
+fn verdict_of(alloc: Global, owner: u32, names: &[&str]) -> Result<Verdict, Fail> {
+    let grammar = grammar_of(alloc, ARTICLE)?;
+    let kids = nodes(alloc, names)?;
+    Ok(verdict::<Brand>(alloc, &grammar, owner, &kids, Blank::new(1))?)
 }
 
 #[test]
 fn verdicts(rt: HostRuntime) -> Result<(), Fail> {
-    let alloc = rt.alloc();
-    let grammar = build(alloc, dtd_of(alloc, ARTICLE)?)?;
-    let (doc, sec, br) = (0, 2, 6);
-    let mut kids = Vec::new(alloc);
-    check_list(&rt, alloc, &grammar, br, &kids, Verdict::Valid)?;
-    check_list(&rt, alloc, &grammar, 9, &kids, Verdict::Impossible)?;
-    kids.push(Node::Misc(bytes_of(alloc, b"<!---->")?))?;
-    check_list(&rt, alloc, &grammar, br, &kids, Verdict::Impossible)?;
-    check_list(&rt, alloc, &grammar, sec, &kids, Verdict::Valid)?;
-    kids.push(node(alloc, "sec")?)?;
-    kids.push(node(alloc, "p")?)?;
-    check_list(&rt, alloc, &grammar, doc, &kids, Verdict::Possible)?;
-    check_list(&rt, alloc, &grammar, sec, &kids, Verdict::Impossible)?;
-    kids.push(node(alloc, "q")?)?;
-    check_list(&rt, alloc, &grammar, doc, &kids, Verdict::Impossible)
+    for (owner, names, wanted) in &LISTS {
+        let found = verdict_of(rt.alloc(), *owner, *names)?;
+        assert_eq!(rt; found, *wanted, "{names:?} in {owner}");
+    }
+    Ok(())
 }
 
-#[test]
-fn tables(rt: HostRuntime) -> Result<(), Fail> {
-    let alloc = rt.alloc();
+fn one_entry(alloc: Global) -> Result<usize, Fail> {
     let entry = Entry {
         site: Site::Part(3),
         from: 0,
         to: 2,
         value: 5,
     };
-    let entries = Entries::of(vec![in alloc; entry; 1]?);
-    assert_eq!(rt; entries.as_slice().len(), 1);
-    let tables = Tables::of(Vec::new(alloc));
-    assert_eq!(rt; tables.as_slice().len(), 0);
+    Ok(Entries::of(vec![in alloc; entry; 1]?).as_slice().len())
+}
+
+fn no_tables(alloc: Global) -> usize {
+    Tables::of(Vec::new(alloc)).as_slice().len()
+}
+
+#[test]
+fn lists_of_tables(rt: HostRuntime) -> Result<(), Fail> {
+    assert_eq!(rt; one_entry(rt.alloc())?, 1);
+    assert_eq!(rt; no_tables(rt.alloc()), 0);
     Ok(())
 }

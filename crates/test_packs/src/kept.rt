@@ -6,63 +6,90 @@ use pv_read::DocError;
 use std::alloc::Global;
 use std::test::Fail;
 
-// Whether a body without the tags of its marked elements is a document.
-fn keeps(alloc: Global, doc: &[u8], body: &[u8], marks: &[u32]) -> Result<bool, Fail> {
-    if body.len() > MAX_FLAT_BYTES {
-        return Err(Fail::new("too long a body"));
-    }
-    Ok(is_kept(alloc, b"a", doc, body, marks)?)
+// Whether each element of a document has no attributes.
+fn has_plain(alloc: Global, text: &[u8], plain: &[bool]) -> Result<bool, DocError> {
+    Ok(plain_elements(alloc, b"a", text)?.as_slice() == plain)
+}
+
+fn is_mismatch(alloc: Global, text: &[u8]) -> bool {
+    matches!(
+        plain_elements(alloc, b"a", text),
+        Err(DocError::Mismatch(2))
+    )
 }
 
 #[test]
 fn elements_without_attributes(rt: HostRuntime) -> Result<(), Fail> {
-    let alloc = rt.alloc();
-    let plain = plain_elements(alloc, b"a", b"<a><b x='1'/><c ><d></d></c></a>")?;
-    assert!(rt; plain.as_slice() == [true, false, false, true].as_slice());
-    let refused = plain_elements(alloc, b"a", b"<a><b></a>");
-    assert!(rt; matches!(refused, Err(DocError::Mismatch(2))));
+    let text = b"<a><b x='1'/><c ><d></d></c></a>";
+    assert!(rt; has_plain(rt.alloc(), text, &[true, false, false, true])?);
+    assert!(rt; is_mismatch(rt.alloc(), b"<a><b></a>"));
     Ok(())
 }
 
-#[test]
-fn marks_in_order(rt: HostRuntime) -> Result<(), Fail> {
-    let plain = [true, false, true, true];
-    assert!(rt; are_marks(&[], &plain));
-    assert!(rt; are_marks(&[0, 2, 3], &plain));
-    assert!(rt; !are_marks(&[1], &plain));
-    assert!(rt; !are_marks(&[4], &plain));
-    assert!(rt; !are_marks(&[2, 2], &plain));
-    assert!(rt; !are_marks(&[3, 2], &plain));
-    Ok(())
+// Whether elements have no attributes.
+static PLAIN: [bool; 4] = [true, false, true, true];
+
+// Numbers, and whether they are marks of these elements.
+static MARKS: [(&[u32], bool); 6] = [
+    (&[], true),
+    (&[0, 2, 3], true),
+    (&[1], false),
+    (&[4], false),
+    (&[2, 2], false),
+    (&[3, 2], false),
+];
+
+fn are_marks_of_plain(marks: &[u32]) -> bool {
+    are_marks(marks, &PLAIN)
 }
+
+#[test]
+fn marks_in_order(rt: HostRuntime) {
+    for (marks, wanted) in &MARKS {
+        assert_eq!(rt; are_marks_of_plain(*marks), *wanted, "{marks:?}");
+    }
+}
+
+// Whether a body without the tags of its marked elements is a document.
+fn keeps(alloc: Global, doc: &str, body: &str, marks: &[u32]) -> Result<bool, Fail> {
+    if body.len() > MAX_FLAT_BYTES {
+        return Err(Fail::new("too long a body"));
+    }
+    Ok(is_kept(alloc, b"a", doc.as_bytes(), body.as_bytes(), marks)?)
+}
+
+const LETTER: &str = "<!--c--><a>x&amp;y<b u='1'/><![CDATA[d]]><?p?></a>\n";
+
+const SPLIT: &str = "<!--c--><a><b>x</b>&amp;<b>y<b u='1'></b></b><![CDATA[d]]><?p?></a>\n";
+
+const NOTE: &str = "<a><b u='1'>x</b><!--c--></a>";
+
+// A document, a body and its marks, and whether it keeps the document.
+static ROWS: [(&str, &str, &[u32], bool); 16] = [
+    (LETTER, LETTER, &[], true),
+    (LETTER, SPLIT, &[1, 2], true),
+    (LETTER, SPLIT, &[1], false),
+    (LETTER, SPLIT, &[1, 2, 3], false),
+    (LETTER, LETTER, &[1], false),
+    ("<a>x</a>", "<a><a></a>x<a/></a>", &[1, 2], true),
+    ("<b/>", "<a><b></b></a>", &[0], true),
+    // What is compared.
+    (NOTE, "<a><c u='1'>x</c><!--c--></a>", &[], false),
+    (NOTE, "<a><b u='2'>x</b><!--c--></a>", &[], false),
+    (NOTE, "<a><b u='1'>y</b><!--c--></a>", &[], false),
+    (NOTE, "<a><b u='1'>&#120;</b><!--c--></a>", &[], false),
+    (NOTE, "<a><b u='1'/>x<!--c--></a>", &[], false),
+    (NOTE, "<a><b u='1'>x</b></a>", &[], false),
+    (NOTE, "<a><b u='1'>x</b><!--c--><!--d--></a>", &[], false),
+    (NOTE, "<a><b u='1'>x</b><!--c--></a>\n", &[], false),
+    (NOTE, "<?p?><a><b u='1'>x</b><!--c--></a>", &[], false),
+];
 
 #[test]
 fn tags_put_in(rt: HostRuntime) -> Result<(), Fail> {
-    let alloc = rt.alloc();
-    let letter = b"<!--c--><a>x&amp;y<b u='1'/><![CDATA[d]]><?p?></a>\n";
-    assert!(rt; keeps(alloc, letter, letter, &[])?);
-    let split = b"<!--c--><a><b>x</b>&amp;<b>y<b u='1'></b></b><![CDATA[d]]><?p?></a>\n";
-    assert!(rt; keeps(alloc, letter, split, &[1, 2])?);
-    assert!(rt; !keeps(alloc, letter, split, &[1])?);
-    assert!(rt; !keeps(alloc, letter, split, &[1, 2, 3])?);
-    assert!(rt; !keeps(alloc, letter, letter, &[1])?);
-    assert!(rt; keeps(alloc, b"<a>x</a>", b"<a><a></a>x<a/></a>", &[1, 2])?);
-    assert!(rt; keeps(alloc, b"<b/>", b"<a><b></b></a>", &[0])?);
-    Ok(())
-}
-
-#[test]
-fn what_is_compared(rt: HostRuntime) -> Result<(), Fail> {
-    let alloc = rt.alloc();
-    let doc = b"<a><b u='1'>x</b><!--c--></a>";
-    assert!(rt; !keeps(alloc, doc, b"<a><c u='1'>x</c><!--c--></a>", &[])?);
-    assert!(rt; !keeps(alloc, doc, b"<a><b u='2'>x</b><!--c--></a>", &[])?);
-    assert!(rt; !keeps(alloc, doc, b"<a><b u='1'>y</b><!--c--></a>", &[])?);
-    assert!(rt; !keeps(alloc, doc, b"<a><b u='1'>&#120;</b><!--c--></a>", &[])?);
-    assert!(rt; !keeps(alloc, doc, b"<a><b u='1'/>x<!--c--></a>", &[])?);
-    assert!(rt; !keeps(alloc, doc, b"<a><b u='1'>x</b></a>", &[])?);
-    assert!(rt; !keeps(alloc, doc, b"<a><b u='1'>x</b><!--c--><!--d--></a>", &[])?);
-    assert!(rt; !keeps(alloc, doc, b"<a><b u='1'>x</b><!--c--></a>\n", &[])?);
-    assert!(rt; !keeps(alloc, doc, b"<?p?><a><b u='1'>x</b><!--c--></a>", &[])?);
+    for (doc, body, marks, wanted) in &ROWS {
+        let found = keeps(rt.alloc(), *doc, *body, *marks)?;
+        assert_eq!(rt; found, *wanted, "{body} with marks {marks:?}");
+    }
     Ok(())
 }

@@ -6,10 +6,10 @@ use pv_dtd::{Dtd, read_dtd};
 use pv_read::read_doc;
 use pv_tables::Tables;
 use pv_tree::Doc;
-use std::alloc::Global;
+use std::alloc::{AllocError, Global};
 use std::test::Fail;
 
-const PAIR: &str = "<!ELEMENT a (b)> <!ELEMENT b EMPTY>";
+const PAIR: &[u8] = b"<!ELEMENT a (b)> <!ELEMENT b EMPTY>";
 
 // The table of the root of `<a/>`.
 const TABLE: &str = "list 0
@@ -22,7 +22,7 @@ p 1 0 0 1
 s 1 0 0 1
 ";
 
-// A DTD, a document under it, and tables.
+// The DTD, `<a/>`, and tables.
 #[derive(Drop)]
 struct Case {
     dtd: Dtd,
@@ -30,69 +30,99 @@ struct Case {
     tables: Tables,
 }
 
-// What these texts are, the tables as the lines of a pack.
-fn case_of(alloc: Global, dtd: &str, doc: &str, tables: &str) -> Result<Case, Fail> {
-    let pack = format!(in alloc; "pvpack 1\ntotal 0\nbody 0\n\n{tables}end\n")?;
-    Ok(Case {
-        dtd: read_dtd(alloc, dtd.as_bytes())?,
-        doc: read_doc(alloc, doc.as_bytes(), b"a")?,
-        tables: read_pack(alloc, pack.as_bytes())?.tables,
-    })
+// The tables that these lines are in a pack.
+fn tables_of(alloc: Global, lines: &str) -> Result<Tables, Fail> {
+    let pack = format!(in alloc; "pvpack 1\ntotal 0\nbody 0\n\n{lines}end\n")?;
+    Ok(read_pack(alloc, pack.as_bytes())?.tables)
 }
 
-// Whether tables are closed ones of lists of `<a/>`.
+fn case_of(alloc: Global, tables: &str) -> Result<Case, Fail> {
+    let tables = tables_of(alloc, tables)?;
+    let dtd = read_dtd(alloc, PAIR)?;
+    let doc = read_doc(alloc, b"<a/>", b"a")?;
+    Ok(Case { dtd, doc, tables })
+}
+
 fn are_closed(alloc: Global, tables: &str) -> Result<bool, Fail> {
-    let case = case_of(alloc, PAIR, "<a/>", tables)?;
+    let case = case_of(alloc, tables)?;
     Ok(tables_closed(alloc, &case.dtd, b"a", &case.doc, case.tables.as_slice())?)
 }
 
-// Tables of lists of `<a/>`, and whether they are closed: that of the root; without the entry of a
-// site to which a rule leads, of the one that stands for nothing, and of the one whose value is
-// asked for; a value that is too great; values that are all less; a site that isn't there; a span
-// past the word; no list; one list twice; the document node's behind the root's; none.
+// What is changed in the table of the root and what stands behind it, and whether these are closed
+// tables of lists of `<a/>`.
+static CLOSED: [(&str, &str, &str, bool); 12] = [
+    ("list 0", "list 0", "", true),
+    // No table.
+    (TABLE, "", "", true),
+    // Without the entry of a site to which a rule leads, of the one that stands for nothing, and of
+    // the one whose value is asked for.
+    ("n 1 0 0 1\n", "", "", false),
+    ("c 1 0 0 0\n", "", "", false),
+    ("c 0 0 0 1\n", "", "", false),
+    // A value that is too great, a site that isn't there, and a span past the word.
+    ("n 1 0 0 1", "n 1 0 0 2", "", false),
+    ("s 1 0 0 1", "s 0 0 0 1", "", false),
+    ("s 1 0 0 1", "s 1 0 0 1\ns 1 0 1 1", "", false),
+    // No list, one list twice, and the document node's behind the root's.
+    ("list 0", "list 7", "", false),
+    ("list 0", "list 0.0", "", false),
+    ("list 0", "list 0", TABLE, false),
+    ("list 0", "list 0", "list .\n", false),
+];
+
+fn changed(alloc: Global, old: &str, new: &str, behind: &str) -> Result<String, AllocError> {
+    let mut tables = TABLE.replace(alloc, old, new)?;
+    tables.push_str(behind)?;
+    Ok(tables)
+}
+
+fn is_closed(alloc: Global, old: &str, new: &str, behind: &str) -> Result<bool, Fail> {
+    let tables = changed(alloc, old, new, behind)?;
+    are_closed(alloc, tables.as_str())
+}
+
 #[test]
 fn closed(rt: HostRuntime) -> Result<(), Fail> {
-    let alloc = rt.alloc();
-    assert!(rt; are_closed(alloc, TABLE)? && are_closed(alloc, "")?);
-    for (old, new) in [
-        ("n 1 0 0 1\n", ""),
-        ("c 1 0 0 0\n", ""),
-        ("c 0 0 0 1\n", ""),
-        ("n 1 0 0 1", "n 1 0 0 2"),
-        ("s 1 0 0 1", "s 0 0 0 1"),
-        ("s 1 0 0 1", "s 1 0 0 1\ns 1 0 1 1"),
-        ("list 0", "list 7"),
-        ("list 0", "list 0.0"),
-    ] {
-        assert!(rt; !are_closed(alloc, TABLE.replace(alloc, old, new)?.as_str())?);
-    }
-    for twice in [(TABLE, TABLE), (TABLE, "list .\n")] {
-        let (one, other) = twice;
-        let tables = format!(in alloc; "{one}{other}")?;
-        assert!(rt; !are_closed(alloc, tables.as_str())?);
+    for (old, new, behind, wanted) in &CLOSED {
+        let found = is_closed(rt.alloc(), *old, *new, *behind)?;
+        assert_eq!(rt;
+            found,
+            *wanted,
+            "{new} in place of {old}, behind it {behind}"
+        );
     }
     Ok(())
+}
+
+fn adds_up(alloc: Global, total: u64) -> Result<bool, Fail> {
+    let case = case_of(alloc, TABLE)?;
+    Ok(tables_add_up(
+        alloc,
+        &case.dtd,
+        b"a",
+        &case.doc,
+        case.tables.as_slice(),
+        total,
+    )?)
 }
 
 // The value of the table for the whole list is what it adds.
 #[test]
 fn added_up(rt: HostRuntime) -> Result<(), Fail> {
-    let alloc = rt.alloc();
-    let case = case_of(alloc, PAIR, "<a/>", TABLE)?;
-    for (total, agree) in [(0, false), (1, true), (2, false)] {
-        let tables = case.tables.as_slice();
-        let added = tables_add_up(alloc, &case.dtd, b"a", &case.doc, tables, total)?;
-        assert!(rt; added == agree);
-    }
+    assert!(rt; !adds_up(rt.alloc(), 0)?, "0");
+    assert!(rt; adds_up(rt.alloc(), 1)?, "1");
+    assert!(rt; !adds_up(rt.alloc(), 2)?, "2");
     Ok(())
+}
+
+fn are_narrow(alloc: Global) -> Result<bool, Fail> {
+    let case = case_of(alloc, TABLE)?;
+    Ok(first_wide_table(alloc, &case.dtd, &case.doc, case.tables.as_slice())?.is_none())
 }
 
 // No table of a small list is of one that is too wide.
 #[test]
 fn narrow(rt: HostRuntime) -> Result<(), Fail> {
-    let alloc = rt.alloc();
-    let case = case_of(alloc, PAIR, "<a/>", TABLE)?;
-    let wide = first_wide_table(alloc, &case.dtd, &case.doc, case.tables.as_slice())?;
-    assert!(rt; wide.is_none());
+    assert!(rt; are_narrow(rt.alloc())?);
     Ok(())
 }

@@ -6,6 +6,7 @@ use pv_read::DocError;
 use pv_verify::{Answer, VerifyError, Why, verify};
 use std::alloc::Global;
 use std::test::Fail;
+use test_fixture::documents::nested;
 
 // A DTD with two names.
 const PAIR: &[u8] = b"<!ELEMENT a (b)><!ELEMENT b EMPTY>";
@@ -19,27 +20,19 @@ const BODY: &str = "body 14\n<a><b></b></a>\n";
 const TABLE: &str =
     "list 0\nc 0 0 0 1\nc 1 0 0 0\nn 0 0 0 2\nn 1 0 0 1\np 0 0 0 1\np 1 0 0 1\ns 1 0 0 1\n";
 
-// The pack of these parts.
 fn pack_of(alloc: Global, head: &str, body: &str, tables: &str) -> Result<Pack, Fail> {
     let text = format!(in alloc; "{head}{body}{tables}end\n")?;
     Ok(read_pack(alloc, text.as_bytes())?)
 }
 
-// What a pack of these parts is answered against `<a/>`.
-fn answer_to(alloc: Global, head: &str, body: &str, tables: &str) -> Result<Answer, Fail> {
-    let dtd = read_dtd(alloc, PAIR)?;
-    let pack = pack_of(alloc, head, body, tables)?;
-    Ok(verify(alloc, &dtd, b"a", b"<a/>", &pack)?)
-}
+// A DTD, a root and a document.
+type Texts = (&'static [u8], &'static [u8], &'static [u8]);
 
-#[test]
-fn accepted(rt: HostRuntime) -> Result<(), Fail> {
-    let alloc = rt.alloc();
-    assert!(rt; answer_to(alloc, HEAD, BODY, TABLE)? == Answer::Accepted(1));
-    let dtd = read_dtd(alloc, PAIR)?;
-    let pack = pack_of(alloc, "pvpack 1\ntotal 0\n", "body 11\n<a><b/></a>\n", "")?;
-    assert!(rt; verify(alloc, &dtd, b"a", b"<a><b/></a>", &pack)? == Answer::Accepted(0));
-    Ok(())
+// What a pack is answered against a document.
+fn answer_to(alloc: Global, texts: Texts, pack: &Pack) -> Result<Answer, Fail> {
+    let (dtd, root, doc) = texts;
+    let dtd = read_dtd(alloc, dtd)?;
+    Ok(verify(alloc, &dtd, root, doc, pack)?)
 }
 
 // The table with values that are all 0, with a value too small, with an entry left out, at a path
@@ -58,57 +51,92 @@ const ELSEWHERE: &str =
 const NO_PART: &str =
     "list 0\nc 0 0 0 1\nc 1 0 0 0\nn 0 0 0 2\nn 1 0 0 1\np 0 0 0 1\np 1 0 0 1\np 99 0 0 0\n";
 
+// What stands before the body of a pack of `<a/>`, its body and its tables, and the answer.
+static ROWS: [(&str, &str, &str, Answer); 11] = [
+    (HEAD, BODY, TABLE, Answer::Accepted(1)),
+    (
+        HEAD,
+        "body 14\n<a><b></a></b>\n",
+        TABLE,
+        Answer::Rejected(Why::Body),
+    ),
+    (
+        "pvpack 1\ntotal 1\nmark 5\n",
+        BODY,
+        TABLE,
+        Answer::Rejected(Why::Marks),
+    ),
+    (
+        "pvpack 1\ntotal 1\n",
+        BODY,
+        TABLE,
+        Answer::Rejected(Why::Kept),
+    ),
+    (
+        HEAD,
+        "body 14\n<a><a></a></a>\n",
+        TABLE,
+        Answer::Rejected(Why::Validity),
+    ),
+    (HEAD, BODY, TOO_MUCH, Answer::Rejected(Why::Closure)),
+    (HEAD, BODY, LEFT_OUT, Answer::Rejected(Why::Closure)),
+    (HEAD, BODY, ELSEWHERE, Answer::Rejected(Why::Closure)),
+    (HEAD, BODY, NO_PART, Answer::Rejected(Why::Closure)),
+    (HEAD, BODY, ZEROS, Answer::Rejected(Why::Totals)),
+    (
+        "pvpack 1\ntotal 2\nmark 1\n",
+        BODY,
+        TABLE,
+        Answer::Rejected(Why::Totals),
+    ),
+];
+
+fn answer_to_parts(alloc: Global, head: &str, body: &str, tables: &str) -> Result<Answer, Fail> {
+    let pack = pack_of(alloc, head, body, tables)?;
+    answer_to(alloc, (PAIR, b"a", b"<a/>"), &pack)
+}
+
 #[test]
-fn rejected(rt: HostRuntime) -> Result<(), Fail> {
-    let alloc = rt.alloc();
-    let rows = [
-        (HEAD, "body 14\n<a><b></a></b>\n", TABLE, Why::Body),
-        ("pvpack 1\ntotal 1\nmark 5\n", BODY, TABLE, Why::Marks),
-        ("pvpack 1\ntotal 1\n", BODY, TABLE, Why::Kept),
-        (HEAD, "body 14\n<a><a></a></a>\n", TABLE, Why::Validity),
-        (HEAD, BODY, TOO_MUCH, Why::Closure),
-        (HEAD, BODY, LEFT_OUT, Why::Closure),
-        (HEAD, BODY, ELSEWHERE, Why::Closure),
-        (HEAD, BODY, NO_PART, Why::Closure),
-        (HEAD, BODY, ZEROS, Why::Totals),
-        ("pvpack 1\ntotal 2\nmark 1\n", BODY, TABLE, Why::Totals),
-    ];
-    for (head, body, tables, why) in &rows {
-        assert!(rt; answer_to(alloc, head, body, tables)? == Answer::Rejected(*why));
+fn answered(rt: HostRuntime) -> Result<(), Fail> {
+    for (head, body, tables, answer) in &ROWS {
+        let found = answer_to_parts(rt.alloc(), *head, *body, *tables)?;
+        assert_eq!(rt; found, *answer, "{head}{body}{tables}");
     }
     Ok(())
+}
+
+fn is_valid_accepted(alloc: Global) -> Result<bool, Fail> {
+    let pack = pack_of(alloc, "pvpack 1\ntotal 0\n", "body 11\n<a><b/></a>\n", "")?;
+    Ok(answer_to(alloc, (PAIR, b"a", b"<a><b/></a>"), &pack)? == Answer::Accepted(0))
 }
 
 // A pack without marks and tables, with a body of so many elements, each in the one before it.
 fn nested_pack(alloc: Global, depth: usize) -> Result<Pack, Fail> {
-    let mut body = String::new(alloc);
-    for _ in 0..depth {
-        body.push_str("<em>")?;
-    }
-    for _ in 0..depth {
-        body.push_str("</em>")?;
-    }
+    let body = nested(alloc, depth, "<em>", "", "</em>")?;
     let length = body.len();
-    let text = format!(in alloc; "pvpack 1\ntotal 0\nbody {length}\n{body}\nend\n")?;
-    Ok(read_pack(alloc, text.as_bytes())?)
+    let body = format!(in alloc; "body {length}\n{body}\n")?;
+    pack_of(alloc, "pvpack 1\ntotal 0\n", body.as_str(), "")
 }
 
-#[test]
-fn deep_body(rt: HostRuntime) -> Result<(), Fail> {
-    let alloc = rt.alloc();
-    let dtd = read_dtd(alloc, b"<!ELEMENT em (#PCDATA|em)*>")?;
+fn is_deep_rejected(alloc: Global) -> Result<bool, Fail> {
     let pack = nested_pack(alloc, 100_000)?;
-    let answer = verify(alloc, &dtd, b"em", b"<em/>", &pack)?;
-    assert!(rt; answer == Answer::Rejected(Why::Kept));
-    Ok(())
+    let texts: Texts = (b"<!ELEMENT em (#PCDATA|em)*>", b"em", b"<em/>");
+    Ok(answer_to(alloc, texts, &pack)? == Answer::Rejected(Why::Kept))
 }
 
-#[test]
-fn refused(rt: HostRuntime) -> Result<(), Fail> {
-    let alloc = rt.alloc();
+fn is_document_refused(alloc: Global) -> Result<bool, Fail> {
     let dtd = read_dtd(alloc, PAIR)?;
     let pack = pack_of(alloc, HEAD, BODY, TABLE)?;
-    let refusal = verify(alloc, &dtd, b"a", b"<a>", &pack);
-    assert!(rt; matches!(refusal, Err(VerifyError::Document(DocError::Syntax(1)))));
+    Ok(matches!(
+        verify(alloc, &dtd, b"a", b"<a>", &pack),
+        Err(VerifyError::Document(DocError::Syntax(1)))
+    ))
+}
+
+#[test]
+fn other_documents(rt: HostRuntime) -> Result<(), Fail> {
+    assert!(rt; is_valid_accepted(rt.alloc())?, "a valid document");
+    assert!(rt; is_deep_rejected(rt.alloc())?, "a deep body");
+    assert!(rt; is_document_refused(rt.alloc())?, "no document");
     Ok(())
 }

@@ -1,12 +1,11 @@
 //! Rows of documents: what is read, and the first item in fault of what isn't.
 
 use pv_cli::Status;
-use pv_write::doc_bytes;
 use std::alloc::{AllocError, Global};
 use std::test::Fail;
 use std::thread::Threads;
-use test_fixture::documents::{document_of, nested};
-use test_fixture::dtds::{ANY, ARTICLE, REALISTIC};
+use test_fixture::documents::nested;
+use test_fixture::dtds::{ANY, ARTICLE};
 use test_runs::rows::{Row, check_rows, check_run};
 use test_runs::runs::Given;
 
@@ -169,9 +168,9 @@ fn check_shown<R: AllocGlobal + Threads + Sync>(rt: &R, doc: &'static str) -> Re
 
 #[test]
 fn documents(rt: HostRuntime) -> Result<(), Fail> {
-    for doc in READ {
-        check_rows(&rt, "valid", &[(ANY, "a", doc, DONE, "valid\n")])?;
-        check_shown(&rt, doc)?;
+    for doc in &READ {
+        check_rows(&rt, "valid", &[(ANY, "a", *doc, DONE, "valid\n")])?;
+        check_shown(&rt, *doc)?;
     }
     check_refused(&rt, &REFUSED)?;
     check_refused(&rt, &TOLD)
@@ -245,14 +244,5 @@ fn long_references(rt: HostRuntime) -> Result<(), Fail> {
         let doc = with_digits(rt.alloc(), first, digit, last)?;
         check_rows(&rt, "valid", &[(ANY, "a", doc.as_str(), *status, *line)])?;
     }
-    Ok(())
-}
-
-#[test]
-fn a_copy(rt: HostRuntime) -> Result<(), Fail> {
-    let alloc = rt.alloc();
-    let doc = document_of(alloc, REALISTIC, "doc")?;
-    let written = doc_bytes(alloc, &doc.copy(alloc)?)?;
-    assert_eq!(rt; written.as_slice(), REALISTIC.as_bytes());
     Ok(())
 }

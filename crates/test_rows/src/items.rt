@@ -4,7 +4,6 @@ use pv_read::DocError;
 use pv_read::faults::next_item;
 use pv_read::forms::{Item, begins_subset, has_known_references, item_at, run_at};
 use pv_read::places::Place;
-use std::test::Fail;
 
 fn sort(item: &Item<'_>) -> &'static str {
     match item {
@@ -19,128 +18,170 @@ fn sort(item: &Item<'_>) -> &'static str {
     }
 }
 
-#[test]
-fn reads_each_form(rt: HostRuntime) -> Result<(), Fail> {
-    let forms: [(&[u8], &str); 21] = [
-        (b"<?xml version='1.0'?>", "declaration"),
-        (
-            b"<?xml version = \"1.1\" encoding='us-ascii' standalone='no' ?>",
-            "declaration",
-        ),
-        (b"<!DOCTYPE a>", "doctype"),
-        (b"<!DOCTYPE a SYSTEM 'b.dtd' >", "doctype"),
-        (b"<!DOCTYPE a PUBLIC \"-//x's//\" '\"'>", "doctype"),
-        (b"<!---->", "comment or instruction"),
-        (b"<!-- <a> & -->", "comment or instruction"),
-        (b"<?xml-stylesheet href='a'?>", "comment or instruction"),
-        (b"<?a?>", "comment or instruction"),
-        (b"<![CDATA[]]>", "section"),
-        (b"<![CDATA[<&]] >]]>", "section"),
-        (b"<a>", "start tag"),
-        (b"<a >", "start tag"),
-        (b"<a\nb = '\"&#38;&lt;>' b\t=\"'&x;\" >", "start tag"),
-        (b"<a/>", "empty tag"),
-        (b"<a b=''/>", "empty tag"),
-        (b"</a\n>", "end tag"),
-        (b"\xC3\xA9 ]] > &x; &#x0000041;", "text run"),
-        (b"]]&gt;", "text run"),
-        (b" ", "text run"),
-        (b"<\xC3\xA9:a.b-c/>", "empty tag"),
-    ];
-    for (bytes, name) in forms {
-        let (item, rest) = item_at(bytes).ok_or("an item")?;
-        assert_eq!(rt; sort(&item), name);
-        assert!(rt; rest.is_empty());
+// Whether an item of this sort stands at the front, and these bytes behind it.
+fn begins_with(bytes: &[u8], name: &str, rest: &[u8]) -> bool {
+    match item_at(bytes) {
+        Some((item, found)) => sort(&item) == name && found == rest,
+        None => false,
     }
-    Ok(())
+}
+
+static FORMS: [(&str, &str); 21] = [
+    ("<?xml version='1.0'?>", "declaration"),
+    (
+        "<?xml version = \"1.1\" encoding='us-ascii' standalone='no' ?>",
+        "declaration",
+    ),
+    ("<!DOCTYPE a>", "doctype"),
+    ("<!DOCTYPE a SYSTEM 'b.dtd' >", "doctype"),
+    ("<!DOCTYPE a PUBLIC \"-//x's//\" '\"'>", "doctype"),
+    ("<!---->", "comment or instruction"),
+    ("<!-- <a> & -->", "comment or instruction"),
+    ("<?xml-stylesheet href='a'?>", "comment or instruction"),
+    ("<?a?>", "comment or instruction"),
+    ("<![CDATA[]]>", "section"),
+    ("<![CDATA[<&]] >]]>", "section"),
+    ("<a>", "start tag"),
+    ("<a >", "start tag"),
+    ("<a\nb = '\"&#38;&lt;>' b\t=\"'&x;\" >", "start tag"),
+    ("<a/>", "empty tag"),
+    ("<a b=''/>", "empty tag"),
+    ("</a\n>", "end tag"),
+    ("\u{E9} ]] > &x; &#x0000041;", "text run"),
+    ("]]&gt;", "text run"),
+    (" ", "text run"),
+    ("<\u{E9}:a.b-c/>", "empty tag"),
+];
+
+#[test]
+fn reads_each_form(rt: HostRuntime) {
+    for (text, name) in &FORMS {
+        assert!(rt; begins_with(text.as_bytes(), *name, b""), "{text}");
+    }
+}
+
+static NO_ITEMS: [&str; 33] = [
+    "",
+    "<",
+    "<a",
+    "< a>",
+    "<a/ >",
+    "<a b>",
+    "<a b=c>",
+    "<a b='c>",
+    "<a b='<'>",
+    "<a b='&'>",
+    "<a b='&c'>",
+    "<a b='1'c='2'>",
+    "</a b=''>",
+    "</ a>",
+    "<!--a--->",
+    "<!-- -- -->",
+    "<?xml?>",
+    "<?XML a?>",
+    "<?a",
+    "<?xml version='1.0' standalone='no' encoding='utf-8'?>",
+    "<![CDATA[]]",
+    "<![cdata[]]>",
+    "<!DOCTYPE>",
+    "<!DOCTYPE a [",
+    "<!DOCTYPE a SYSTEM b>",
+    "<!DOCTYPE a PUBLIC 'b'>",
+    "<!DOCTYPE a PUBLIC 'b\"' 'c'>",
+    "<!DOCTYPE aSYSTEM 'b' c>",
+    "a]]>",
+    "a & b",
+    "&a",
+    "&#xFFFF;",
+    "&#;",
+];
+
+fn is_no_item(bytes: &[u8]) -> bool {
+    item_at(bytes).is_none()
 }
 
 #[test]
 fn refuses_what_is_no_item(rt: HostRuntime) {
-    let texts: [&[u8]; 34] = [
-        b"",
-        b"<",
-        b"<a",
-        b"< a>",
-        b"<a/ >",
-        b"<a b>",
-        b"<a b=c>",
-        b"<a b='c>",
-        b"<a b='<'>",
-        b"<a b='&'>",
-        b"<a b='&c'>",
-        b"<a b='1'c='2'>",
-        b"</a b=''>",
-        b"</ a>",
-        b"<!--a--->",
-        b"<!-- -- -->",
-        b"<?xml?>",
-        b"<?XML a?>",
-        b"<?a",
-        b"<?xml version='1.0' standalone='no' encoding='utf-8'?>",
-        b"<![CDATA[]]",
-        b"<![cdata[]]>",
-        b"<!DOCTYPE>",
-        b"<!DOCTYPE a [",
-        b"<!DOCTYPE a SYSTEM b>",
-        b"<!DOCTYPE a PUBLIC 'b'>",
-        b"<!DOCTYPE a PUBLIC 'b\"' 'c'>",
-        b"<!DOCTYPE aSYSTEM 'b' c>",
-        b"a]]>",
-        b"a & b",
-        b"&a",
-        b"&#xFFFF;",
-        b"&#;",
-        b"\x80",
-    ];
-    for text in texts {
-        assert!(rt; item_at(text).is_none());
+    for text in &NO_ITEMS {
+        assert!(rt; is_no_item(text.as_bytes()), "{text}");
     }
+    assert!(rt; is_no_item(b"\x80"), "a byte that is no character");
+}
+
+fn is_run(bytes: &[u8], run: &[u8], rest: &[u8]) -> bool {
+    let (found, left) = run_at(bytes);
+    found == run && left == rest
 }
 
 #[test]
-fn ends_a_text_run_at_the_next_tag(rt: HostRuntime) -> Result<(), Fail> {
-    let (run, rest) = run_at(b"a &lt; b<c/>");
-    assert_eq!(rt; run, b"a &lt; b".as_slice());
-    assert_eq!(rt; rest, b"<c/>".as_slice());
-    let (item, rest) = item_at(b"a &lt; b<c/>").ok_or("an item")?;
-    assert_eq!(rt; sort(&item), "text run");
-    assert_eq!(rt; rest, b"<c/>".as_slice());
-    Ok(())
+fn ends_a_text_run_at_the_next_tag(rt: HostRuntime) {
+    let text = b"a &lt; b<c/>";
+    assert!(rt; is_run(text, b"a &lt; b", b"<c/>"));
+    assert!(rt; begins_with(text, "text run", b"<c/>"));
+}
+
+// Texts that begin with an item, and whether its references need no declaration.
+static KNOWN: [(&str, bool); 6] = [
+    ("&lt;&#65;&apos;", true),
+    ("&lt;&nbsp;", false),
+    ("<a b='&amp;' c='&quot;'>", true),
+    ("<a b='&amp;' c='&d;'/>", false),
+    ("<a>", true),
+    ("<![CDATA[&b;]]>", true),
+];
+
+fn are_known(bytes: &[u8]) -> Option<bool> {
+    let (item, _) = item_at(bytes)?;
+    Some(has_known_references(&item))
 }
 
 #[test]
-fn knows_which_references_need_a_declaration(rt: HostRuntime) -> Result<(), Fail> {
-    let texts: [(&[u8], bool); 6] = [
-        (b"&lt;&#65;&apos;", true),
-        (b"&lt;&nbsp;", false),
-        (b"<a b='&amp;' c='&quot;'>", true),
-        (b"<a b='&amp;' c='&d;'/>", false),
-        (b"<a>", true),
-        (b"<![CDATA[&b;]]>", true),
-    ];
-    for (text, is_known) in texts {
-        let (item, _) = item_at(text).ok_or("an item")?;
-        assert_eq!(rt; has_known_references(&item), is_known);
+fn knows_which_references_need_a_declaration(rt: HostRuntime) {
+    for (text, wanted) in &KNOWN {
+        assert!(rt; are_known(text.as_bytes()) == Some(*wanted), "{text}");
     }
-    Ok(())
+}
+
+// Texts, and whether a declaration up to an internal subset stands at the front.
+static SUBSETS: [(&str, bool); 4] = [
+    ("<!DOCTYPE a[]>", true),
+    ("<!DOCTYPE a PUBLIC 'b' 'c' [", true),
+    ("<!DOCTYPE a SYSTEM 'b'>", false),
+    ("<!DOCTYPE [", false),
+];
+
+fn has_subset(bytes: &[u8]) -> bool {
+    begins_subset(bytes)
 }
 
 #[test]
 fn tells_where_an_internal_subset_begins(rt: HostRuntime) {
-    assert!(rt; begins_subset(b"<!DOCTYPE a[]>"));
-    assert!(rt; begins_subset(b"<!DOCTYPE a PUBLIC 'b' 'c' ["));
-    assert!(rt; !begins_subset(b"<!DOCTYPE a SYSTEM 'b'>"));
-    assert!(rt; !begins_subset(b"<!DOCTYPE ["));
+    for (text, wanted) in &SUBSETS {
+        assert!(rt; has_subset(text.as_bytes()) == *wanted, "{text}");
+    }
+}
+
+// Whether item 7, a start tag inside 512 elements, is taken where so many may be open.
+fn is_taken(most_depth: Option<usize>) -> bool {
+    let place = Place::Content(b"a", 512);
+    matches!(
+        next_item(most_depth, &place, b"a", b"<b>", 7),
+        Ok((Item::StartTag(_), _))
+    )
+}
+
+// Whether it is told to be too deep.
+fn is_too_deep(most_depth: Option<usize>) -> bool {
+    let place = Place::Content(b"a", 512);
+    matches!(
+        next_item(most_depth, &place, b"a", b"<b>", 7),
+        Err(DocError::Deep(7))
+    )
 }
 
 #[test]
 fn keeps_to_the_most_depth(rt: HostRuntime) {
-    let place = Place::Content(b"a", 512);
-    let within = next_item(Some(513), &place, b"a", b"<b>", 7);
-    assert!(rt; matches!(within, Ok((Item::StartTag(_), _))));
-    let too_deep = next_item(Some(512), &place, b"a", b"<b>", 7);
-    assert!(rt; matches!(too_deep, Err(DocError::Deep(7))));
-    let at_any_depth = next_item(None, &place, b"a", b"<b>", 7);
-    assert!(rt; matches!(at_any_depth, Ok((Item::StartTag(_), _))));
+    assert!(rt; is_taken(Some(513)));
+    assert!(rt; is_too_deep(Some(512)));
+    assert!(rt; is_taken(None));
 }

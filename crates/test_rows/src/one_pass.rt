@@ -1,11 +1,12 @@
 //! Validity in one pass over the bytes, and by the tree: the same answer, for each document.
 
-use pv_dtd::{Dtd, read_dtd};
+use pv_dtd::Dtd;
 use pv_read::{DocError, read_doc};
 use pv_tree::{Path, first_invalid};
 use pv_valid::first_invalid_in;
 use std::alloc::{AllocError, Global};
 use std::test::Fail;
+use test_fixture::documents::dtd_of;
 
 const DTD: &str = "<!ELEMENT doc (head, (p | e)*)>
 <!ELEMENT head (#PCDATA)>
@@ -68,16 +69,25 @@ fn told(alloc: Global, answer: Result<Option<Path>, DocError>) -> Result<String,
     }
 }
 
+fn in_pass(alloc: Global, dtd: &Dtd, doc: &str) -> Result<String, AllocError> {
+    told(alloc, first_invalid_in(alloc, dtd, b"doc", doc.as_bytes()))
+}
+
+fn in_tree(alloc: Global, dtd: &Dtd, doc: &str) -> Result<String, AllocError> {
+    told(alloc, by_tree(alloc, dtd, doc.as_bytes()))
+}
+
+// Whether this is told of a document, in one pass and by the tree.
+fn is_told(alloc: Global, dtd: &Dtd, doc: &str, wanted: &str) -> Result<bool, AllocError> {
+    Ok(in_pass(alloc, dtd, doc)?.as_str() == wanted && in_tree(alloc, dtd, doc)?.as_str() == wanted)
+}
+
 #[test]
 fn one_pass_and_tree(rt: HostRuntime) -> Result<(), Fail> {
     let alloc = rt.alloc();
-    let dtd = read_dtd(alloc, DTD.as_bytes()).map_err(|_| "no DTD")?;
-    for (doc, expected) in &ROWS {
-        let bytes = doc.as_bytes();
-        let in_pass = told(alloc, first_invalid_in(alloc, &dtd, b"doc", bytes))?;
-        assert_eq!(rt; in_pass.as_str(), *expected, "in one pass: {doc}");
-        let tree = told(alloc, by_tree(alloc, &dtd, bytes))?;
-        assert_eq!(rt; tree.as_str(), *expected, "by the tree: {doc}");
+    let dtd = dtd_of(alloc, DTD)?;
+    for (doc, wanted) in &ROWS {
+        assert!(rt; is_told(alloc, &dtd, *doc, *wanted)?, "{doc}");
     }
     Ok(())
 }
@@ -102,16 +112,23 @@ fn short_document(alloc: Global, number: u32) -> Result<String, AllocError> {
     Ok(text)
 }
 
-// All sequences of five pieces: what is told of each in one pass is what is told by the tree.
+// Whether the same is told of the document of a number in one pass and by the tree.
+fn is_told_alike(alloc: Global, dtd: &Dtd, number: u32) -> Result<bool, AllocError> {
+    let doc = short_document(alloc, number)?;
+    let tree = in_tree(alloc, dtd, doc.as_str())?;
+    Ok(in_pass(alloc, dtd, doc.as_str())?.as_str() == tree.as_str())
+}
+
+// All sequences of five pieces.
 #[test]
 fn short_documents(rt: HostRuntime) -> Result<(), Fail> {
     let alloc = rt.alloc();
-    let dtd = read_dtd(alloc, SHORT_DTD.as_bytes()).map_err(|_| "no DTD")?;
+    let dtd = dtd_of(alloc, SHORT_DTD)?;
     for number in 0..59_049 {
-        let doc = short_document(alloc, number)?;
-        let in_pass = told(alloc, first_invalid_in(alloc, &dtd, b"doc", doc.as_bytes()))?;
-        let tree = told(alloc, by_tree(alloc, &dtd, doc.as_bytes()))?;
-        assert_eq!(rt; in_pass.as_str(), tree.as_str(), "{doc}");
+        assert!(rt;
+            is_told_alike(alloc, &dtd, number)?,
+            "the document of number {number}"
+        );
     }
     Ok(())
 }

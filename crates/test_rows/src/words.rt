@@ -2,6 +2,7 @@
 
 use pv_model::{NameId, Token};
 use pv_tree::{first_invalid, word};
+use std::alloc::Global;
 use std::test::Fail;
 use test_fixture::documents::{document_of, dtd_of, kids_of};
 
@@ -11,24 +12,24 @@ const DOC: &str = "<a> <b/>x<c/></a>";
 
 static WORD: [Token; 3] = [Token::Name(NameId(1)), Token::Text, Token::Other];
 
-#[test]
-fn a_word(rt: HostRuntime) -> Result<(), Fail> {
-    let alloc = rt.alloc();
+fn has_word(alloc: Global, tokens: &[Token]) -> Result<bool, Fail> {
     let dtd = dtd_of(alloc, DTD)?;
     let doc = document_of(alloc, DOC, "a")?;
-    let tokens = word(alloc, &dtd, kids_of(&doc)?)?;
-    assert_eq!(rt; tokens.as_slice(), WORD.as_slice());
-    Ok(())
+    Ok(word(alloc, &dtd, kids_of(&doc)?)?.as_slice() == tokens)
+}
+
+fn is_invalid_at(alloc: Global, places: &[u32]) -> Result<bool, Fail> {
+    let dtd = dtd_of(alloc, DTD)?;
+    let doc = document_of(alloc, DOC, "a")?;
+    match first_invalid(alloc, &dtd, b"a", &doc)? {
+        Some(path) => Ok(path.places() == places),
+        None => Ok(false),
+    }
 }
 
 #[test]
-fn an_invalid_list(rt: HostRuntime) -> Result<(), Fail> {
-    let alloc = rt.alloc();
-    let dtd = dtd_of(alloc, DTD)?;
-    let doc = document_of(alloc, DOC, "a")?;
-    let Some(path) = first_invalid(alloc, &dtd, b"a", &doc)? else {
-        return Err(Fail::new("no list"));
-    };
-    assert_eq!(rt; path.places(), [0].as_slice());
+fn a_word_and_an_invalid_list(rt: HostRuntime) -> Result<(), Fail> {
+    assert!(rt; has_word(rt.alloc(), &WORD)?);
+    assert!(rt; is_invalid_at(rt.alloc(), &[0])?);
     Ok(())
 }

@@ -1,29 +1,38 @@
 //! The document and the lines of a drill.
 
+use crate::rows::expect;
 use pv_drill::{drill_doc, drill_line};
+use std::alloc::Global;
 use std::test::Fail;
 
 #[test]
 fn two_sections(rt: HostRuntime) -> Result<(), Fail> {
     let doc = drill_doc(rt.alloc(), 2)?;
     let text = b"<doc><head>drill</head><sec>t1</sec><sec>t2</sec></doc>";
-    assert_eq!(rt; doc.as_slice(), text.as_slice());
+    assert!(rt; doc.as_slice() == text.as_slice());
     Ok(())
 }
 
+/// The lines at a section, one behind the other.
+static LINES: [(u32, &[u8]); 3] = [
+    (0, b"wrap 0.12 0 1 br"),
+    (1, b"wrap 0.12 0 1 p"),
+    (2, b"undo"),
+];
+
+fn is_line(alloc: Global, number: u32, line: &[u8]) -> bool {
+    if number > 2 {
+        return false;
+    }
+    match drill_line(alloc, 12, number) {
+        Ok(found) => found.as_slice() == line,
+        Err(_) => false,
+    }
+}
+
 #[test]
-fn lines(rt: HostRuntime) -> Result<(), Fail> {
-    assert_eq!(rt;
-        drill_line(rt.alloc(), 12, 0)?.as_slice(),
-        b"wrap 0.12 0 1 br".as_slice()
-    );
-    assert_eq!(rt;
-        drill_line(rt.alloc(), 12, 1)?.as_slice(),
-        b"wrap 0.12 0 1 p".as_slice()
-    );
-    assert_eq!(rt;
-        drill_line(rt.alloc(), 12, 2)?.as_slice(),
-        b"undo".as_slice()
-    );
-    Ok(())
+fn lines(rt: HostRuntime) {
+    for (number, line) in &LINES {
+        expect(&rt, is_line(rt.alloc(), *number, *line), number);
+    }
 }

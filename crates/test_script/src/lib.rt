@@ -4,4 +4,8 @@
 #[cfg(test)]
 mod drills;
 #[cfg(test)]
+mod replies;
+#[cfg(test)]
+mod rows;
+#[cfg(test)]
 mod scripts;

@@ -1,242 +1,198 @@
-//! Lines, commands, and replies as they are written.
+//! Lines and commands.
 
-use pv_chars::{List, bytes_of};
-use pv_edit::{Ask, Done, Edit, Reason, VerdictRow};
-use pv_script::{
-    Command, CommandError, Lines, Reply, Took, edit_line, okay_text, read_command, reply_text,
-};
-use pv_tree::{Path, Verdict};
+use crate::rows::expect;
+use pv_edit::{Ask, Edit};
+use pv_script::{Command, CommandError, Lines, Took, edit_line, read_command};
 use std::alloc::Global;
-use std::process::Abort;
 use std::test::Fail;
+
+/// Pieces of a script, one behind the other, each with what is told of it, and the line that is
+/// held then.
+static PIECES: [(&[u8], Took, &[u8]); 4] = [
+    (b"sh", Took::More, b"sh"),
+    (b"ow\r\nundo\n", Took::Line(4), b"show"),
+    (b"undo\n", Took::Line(5), b"undo"),
+    (b"\r\r", Took::More, b""),
+];
 
 #[test]
 fn lines(rt: HostRuntime) -> Result<(), Fail> {
     let mut lines = Lines::new(rt.alloc())?;
-    assert_eq!(rt; lines.take(b"sh"), Took::More);
-    assert_eq!(rt; lines.take(b"ow\r\nundo\n"), Took::Line(4));
-    assert_eq!(rt; lines.line(), b"show".as_slice());
-    assert_eq!(rt; lines.take(b"undo\n"), Took::Line(5));
-    assert_eq!(rt; lines.line(), b"undo".as_slice());
-    assert_eq!(rt; lines.take(b"\r\r"), Took::More);
-    assert_eq!(rt; lines.held(), 2);
-    assert_eq!(rt; lines.line(), b"".as_slice());
+    for (piece, took, line) in &PIECES {
+        let told = lines.take(*piece);
+        expect(&rt, told == *took && lines.line() == *line, piece);
+    }
+    assert!(rt; lines.held() == 2);
     lines.clear();
-    assert_eq!(rt; lines.held(), 0);
+    assert!(rt; lines.held() == 0);
     Ok(())
 }
 
-#[test]
-fn commands(rt: HostRuntime) -> Result<(), Fail> {
-    let alloc = rt.alloc();
-    assert!(rt; matches!(read_command(alloc, b"undo"), Ok(Command::Undo)));
-    assert!(rt; matches!(read_command(alloc, b"redo"), Ok(Command::Redo)));
-    assert!(rt; matches!(read_command(alloc, b"history"), Ok(Command::History)));
-    assert!(rt; matches!(read_command(alloc, b"show"), Ok(Command::Show)));
-    assert!(rt; matches!(read_command(alloc, b"verdicts"), Ok(Command::Verdicts)));
-    assert!(rt; matches!(read_command(alloc, b"need"), Ok(Command::Need)));
-    assert!(rt; matches!(read_command(alloc, b"complete"), Ok(Command::Complete)));
-    assert!(rt; matches!(read_command(alloc, b"quit"), Ok(Command::Quit)));
-    Ok(())
-}
-
-// What is asked by lines of `offer`, and lines that ask nothing.
-#[test]
-fn asks(rt: HostRuntime) -> Result<(), Fail> {
-    let alloc = rt.alloc();
-    let Command::Offer(Ask::Wrap { path, from, to }) = read_command(alloc, b"offer 0.1 2 30")?
-    else {
-        return Err("no question of a wrap")?;
-    };
-    assert_eq!(rt; path.places(), [0, 1].as_slice());
-    assert_eq!(rt; (from, to), (2, 30));
-    let Command::Offer(Ask::Rename { path }) = read_command(alloc, b"offer .")? else {
-        return Err("no question of a rename")?;
-    };
-    assert!(rt; path.places().is_empty());
-    for line in [
-        "offer",
-        "offer ",
-        "offer 0 ",
-        "offer 0 1",
-        "offer 0 1 2 p",
-        "offer 0 01 2",
-    ] {
-        let read = read_command(alloc, line.as_bytes());
-        assert!(rt; matches!(read, Err(CommandError::Unknown)));
+// The word of the command that was read.
+fn word(read: &Result<Command, CommandError>) -> &'static str {
+    match read {
+        Ok(Command::Edit(_)) => "an edit",
+        Ok(Command::Undo) => "undo",
+        Ok(Command::Redo) => "redo",
+        Ok(Command::History) => "history",
+        Ok(Command::Show) => "show",
+        Ok(Command::Verdicts) => "verdicts",
+        Ok(Command::Need) => "need",
+        Ok(Command::Complete) => "complete",
+        Ok(Command::Offer(_)) => "offer",
+        Ok(Command::Quit) => "quit",
+        Err(CommandError::Unknown) => "unknown",
+        Err(CommandError::NoMemory) => "no memory",
     }
-    Ok(())
 }
 
-// The line is read as an edit, which is written as this line.
-fn is_read_again(rt: &impl Abort, alloc: Global, line: &str) -> Result<(), Fail> {
-    let Ok(Command::Edit(edit)) = read_command(alloc, line.as_bytes()) else {
-        return Err("no edit")?;
-    };
-    let written = edit_line(alloc, &edit)?;
-    assert_eq!(rt; written.as_slice(), line.as_bytes());
-    Ok(())
+// The word of the command that the line is.
+fn word_of(alloc: Global, line: &str) -> &'static str {
+    let read = read_command(alloc, line.as_bytes());
+    word(&read)
 }
+
+/// Commands that are one word.
+static WORDS: [&str; 8] = [
+    "undo", "redo", "history", "show", "verdicts", "need", "complete", "quit",
+];
+
+/// Lines that are no command.
+static NO_COMMANDS: [&str; 54] = [
+    "offer",
+    "offer ",
+    "offer 0 ",
+    "offer 0 1",
+    "offer 0 1 2 p",
+    "offer 0 01 2",
+    "",
+    " ",
+    "show ",
+    " show",
+    "Show",
+    "need ",
+    "need 1",
+    "needs",
+    "complete ",
+    "complete 1",
+    "completed",
+    "undo 1",
+    "wrap",
+    "wrap ",
+    "wrap 0 0 1",
+    "wrap  0 0 1 p",
+    "wrap 0  0 1 p",
+    "wrap 0 0 1p",
+    "insert 0 x p",
+    "insert 0 01 p",
+    "insert 0 +1 p",
+    "insert 0 -1 p",
+    "insert 0 4294967296 p",
+    "insert 0  p",
+    "insert 0 0",
+    "unwrap",
+    "unwrap ",
+    "unwrap 0 ",
+    "unwrap 0..1",
+    "unwrap .0",
+    "unwrap 0.",
+    "unwrap ..",
+    "unwrap 00",
+    "unwrap 0.01",
+    "unwrap 4294967296",
+    "rename 0",
+    "split 0",
+    "split 0 1 ",
+    "split 0 0x1",
+    "join",
+    "join 0 0",
+    "text 0.0",
+    "text",
+    "addtext 0 0",
+    "addtext 0 x",
+    "deltext",
+    "deltext 0\u{e9}",
+    "quit\r",
+];
 
 #[test]
-fn edits(rt: HostRuntime) -> Result<(), Fail> {
-    let lines = [
-        "wrap 0.12 0 4294967295 p",
-        "insert . 0 title",
-        "unwrap 0.1.2",
-        "rename 0 a b ",
-        "rename 0 ",
-        "split 4294967295 10",
-        "join 0.0",
-        "text 0.0 ",
-        "text 0.0  two  words ",
-        "addtext . 7 x",
-        "deltext .",
-    ];
-    for line in lines {
-        is_read_again(&rt, rt.alloc(), line)?;
+fn commands(rt: HostRuntime) {
+    for word in &WORDS {
+        expect(&rt, word_of(rt.alloc(), *word) == *word, word);
     }
-    Ok(())
-}
-
-#[test]
-fn no_commands(rt: HostRuntime) -> Result<(), Fail> {
-    let lines = [
-        "",
-        " ",
-        "show ",
-        " show",
-        "Show",
-        "need ",
-        "need 1",
-        "needs",
-        "complete ",
-        "complete 1",
-        "completed",
-        "undo 1",
-        "wrap",
-        "wrap ",
-        "wrap 0 0 1",
-        "wrap  0 0 1 p",
-        "wrap 0  0 1 p",
-        "wrap 0 0 1p",
-        "insert 0 x p",
-        "insert 0 01 p",
-        "insert 0 +1 p",
-        "insert 0 -1 p",
-        "insert 0 4294967296 p",
-        "insert 0  p",
-        "insert 0 0",
-        "unwrap",
-        "unwrap ",
-        "unwrap 0 ",
-        "unwrap 0..1",
-        "unwrap .0",
-        "unwrap 0.",
-        "unwrap ..",
-        "unwrap 00",
-        "unwrap 0.01",
-        "unwrap 4294967296",
-        "rename 0",
-        "split 0",
-        "split 0 1 ",
-        "split 0 0x1",
-        "join",
-        "join 0 0",
-        "text 0.0",
-        "text",
-        "addtext 0 0",
-        "addtext 0 x",
-        "deltext",
-        "deltext 0\u{e9}",
-        "quit\r",
-    ];
-    for line in lines {
-        let unknown = matches!(
-            read_command(rt.alloc(), line.as_bytes()),
-            Err(CommandError::Unknown)
-        );
-        assert!(rt; unknown);
+    for line in &NO_COMMANDS {
+        expect(&rt, word_of(rt.alloc(), *line) == "unknown", line);
     }
-    Ok(())
 }
 
-// The reply is written so.
-fn is_written(rt: &impl Abort, alloc: Global, reply: Reply, expected: &str) -> Result<(), Fail> {
-    let text = reply_text(alloc, &reply)?;
-    assert_eq!(rt; text.as_slice(), expected.as_bytes());
-    Ok(())
+/// Questions, each with its path, and the numbers of a wrap, or none of a rename.
+static ASKS: [(&str, &[u32], Option<(u32, u32)>); 2] = [
+    ("offer 0.1 2 30", &[0, 1], Some((2, 30))),
+    ("offer .", &[], None),
+];
+
+// Whether what was read asks this.
+fn asks_this(
+    read: &Result<Command, CommandError>,
+    places: &[u32],
+    numbers: Option<(u32, u32)>,
+) -> bool {
+    match read {
+        Ok(Command::Offer(Ask::Wrap { path, from, to })) => {
+            path.places() == places && numbers == Some((*from, *to))
+        }
+        Ok(Command::Offer(Ask::Rename { path })) => path.places() == places && numbers.is_none(),
+        _ => false,
+    }
 }
 
-#[test]
-fn short_replies(rt: HostRuntime) -> Result<(), Fail> {
-    let alloc = rt.alloc();
-    is_written(
-        &rt,
-        alloc,
-        Reply::Shape(Reason::CloseMark),
-        "no shape close-mark\n",
-    )?;
-    is_written(&rt, alloc, Reply::NoHistory, "no history\n")?;
-    is_written(&rt, alloc, Reply::Limit, "no limit\n")?;
-    is_written(&rt, alloc, Reply::NoMemory, "no memory\n")?;
-    is_written(&rt, alloc, Reply::NoCommand, "no command\n")?;
-    is_written(&rt, alloc, Reply::Need(7), "need 7\n")?;
-    is_written(&rt, alloc, Reply::Heavy, "no heavy\n")
-}
-
-#[test]
-fn replies_with_paths(rt: HostRuntime) -> Result<(), Fail> {
-    let alloc = rt.alloc();
-    let path = Path::new(alloc, &[0, 3])?;
-    is_written(&rt, alloc, Reply::Impossible(path), "no impossible 0.3\n")?;
-    let path = Path::new(alloc, &[])?;
-    is_written(&rt, alloc, Reply::Wide(path), "no wide .\n")?;
-    let row = VerdictRow {
-        path: Path::new(alloc, &[0])?,
-        verdict: Verdict::Possible,
-        stamp: 12,
-    };
-    let rows = List::of(vec![in alloc; row]?);
-    is_written(
-        &rt,
-        alloc,
-        Reply::Verdicts(rows),
-        "verdicts 1\n0 possible 12\n",
-    )
+fn is_ask(alloc: Global, line: &str, places: &[u32], numbers: Option<(u32, u32)>) -> bool {
+    let read = read_command(alloc, line.as_bytes());
+    asks_this(&read, places, numbers)
 }
 
 #[test]
-fn replies_with_bytes(rt: HostRuntime) -> Result<(), Fail> {
-    let alloc = rt.alloc();
-    let body = bytes_of(alloc, b"<doc>Hello</doc>")?;
-    is_written(&rt, alloc, Reply::Show(body), "show 16\n<doc>Hello</doc>\n")?;
-    let body = bytes_of(alloc, b"<a/>")?;
-    is_written(
-        &rt,
-        alloc,
-        Reply::Completed(2, body),
-        "completed 2 4\n<a/>\n",
-    )?;
-    let edit = Edit::Unwrap {
-        path: Path::new(alloc, &[0, 1])?,
-    };
-    let edits = List::of(vec![in alloc; edit]?);
-    is_written(&rt, alloc, Reply::History(edits), "history 1\nunwrap 0.1\n")?;
-    let names = List::of(vec![in alloc; bytes_of(alloc, b"p")?, bytes_of(alloc, b"em")?]?);
-    is_written(&rt, alloc, Reply::Offer(names), "offer 2\np\nem\n")
+fn asks(rt: HostRuntime) {
+    for (line, places, numbers) in &ASKS {
+        expect(&rt, is_ask(rt.alloc(), *line, *places, *numbers), line);
+    }
+}
+
+/// Lines of edits.
+static EDITS: [&str; 11] = [
+    "wrap 0.12 0 4294967295 p",
+    "insert . 0 title",
+    "unwrap 0.1.2",
+    "rename 0 a b ",
+    "rename 0 ",
+    "split 4294967295 10",
+    "join 0.0",
+    "text 0.0 ",
+    "text 0.0  two  words ",
+    "addtext . 7 x",
+    "deltext .",
+];
+
+// Whether the edit is written as this line.
+fn is_written(alloc: Global, edit: &Edit, line: &str) -> bool {
+    match edit_line(alloc, edit) {
+        Ok(written) => written.as_slice() == line.as_bytes(),
+        Err(_) => false,
+    }
+}
+
+// Whether the line is read as an edit that is written as this line.
+fn is_read_again(alloc: Global, line: &str) -> bool {
+    let read = read_command(alloc, line.as_bytes());
+    match &read {
+        Ok(Command::Edit(edit)) => is_written(alloc, edit, line),
+        _ => false,
+    }
 }
 
 #[test]
-fn okay(rt: HostRuntime) -> Result<(), Fail> {
-    let done = Done {
-        checked: 4_294_967_295,
-        left: 18_446_744_073_709_551_615,
-        bad: 18_446_744_073_709_551_614,
-    };
-    let expected = "ok 4294967295 18446744073709551615 18446744073709551614\n";
-    let mut room = [0; 64];
-    let end = okay_text(&done, &mut room);
-    assert_eq!(rt; &room[..end], expected.as_bytes());
-    is_written(&rt, rt.alloc(), Reply::Okay(done), expected)
+fn edits(rt: HostRuntime) {
+    for line in &EDITS {
+        expect(&rt, is_read_again(rt.alloc(), *line), line);
+    }
 }

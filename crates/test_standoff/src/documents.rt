@@ -4,10 +4,10 @@ use pv_chars::{TextError, is_name, text_units};
 use pv_standoff::laws::text_law;
 use pv_standoff::{NestError, RangesError, nest, read_ranges};
 use pv_write::doc_bytes;
-use std::alloc::Global;
+use std::alloc::{AllocError, Global};
 
 /// What comes of a text and lines of ranges.
-#[derive(Debug, Drop)]
+#[derive(Drop)]
 pub enum Ending {
     /// A document of these bytes.
     Nested(Vec<u8>),
@@ -43,4 +43,13 @@ pub fn ending_of(alloc: Global, root: &str, text: &str, lines: &str) -> Ending {
         Ok(bytes) => Ending::Nested(bytes),
         Err(_) => Ending::Other,
     }
+}
+
+/// So many lines of ranges over the first unit, each of another level.
+pub fn levels(alloc: Global, count: u32) -> Result<String, AllocError> {
+    let mut lines = String::new(alloc);
+    for level in 0..count {
+        lines.push_str(format!(in alloc; "0 1 {level} e\n")?.as_str())?;
+    }
+    Ok(lines)
 }

@@ -1,12 +1,12 @@
 //! Ranges that nest.
 
-use crate::documents::{Ending, ending_of};
-use std::alloc::Global;
+use crate::documents::{Ending, ending_of, levels};
+use std::alloc::{AllocError, Global};
 use std::test::Fail;
 use test_fixture::documents::nested;
 
 // A text, lines of ranges over it, and the document that they become, with the root `doc`.
-const ROWS: [(&str, &str, &str); 17] = [
+static ROWS: [(&str, &str, &str); 17] = [
     (
         "Tea time",
         "0 8 0 p\n0 3 0 em\n",
@@ -88,42 +88,32 @@ const ROWS: [(&str, &str, &str); 17] = [
     ),
 ];
 
-#[test]
-fn rows(rt: HostRuntime) -> Result<(), Fail> {
-    let alloc = rt.alloc();
-    for (text, lines, document) in ROWS {
-        match ending_of(alloc, "doc", text, lines) {
-            Ending::Nested(bytes) => assert!(rt; bytes.as_slice() == document.as_bytes()),
-            _ => return Err(Fail::new("no document")),
-        }
+// Whether a text and lines of ranges become this document.
+fn becomes(alloc: Global, root: &str, text: &str, lines: &str, document: &str) -> bool {
+    match ending_of(alloc, root, text, lines) {
+        Ending::Nested(bytes) => bytes.as_slice() == document.as_bytes(),
+        _ => false,
     }
-    Ok(())
 }
 
-// So many lines of one range, each of another level.
-fn levels(alloc: Global, count: u32) -> Result<String, Fail> {
-    let mut lines = String::new(alloc);
-    for level in 0..count {
-        let line = format!(in alloc; "0 1 {level} e\n")?;
-        lines.push_str(line.as_str())?;
+#[test]
+fn rows(rt: HostRuntime) {
+    for (text, lines, document) in &ROWS {
+        assert!(rt;
+            becomes(rt.alloc(), "doc", *text, *lines, *document),
+            "{document}"
+        );
     }
-    Ok(lines)
+}
+
+fn is_deep_nested(alloc: Global) -> Result<bool, AllocError> {
+    let lines = levels(alloc, 511)?;
+    let document = nested(alloc, 512, "<e>", "x", "</e>")?;
+    Ok(becomes(alloc, "e", "x", lines.as_str(), document.as_str()))
 }
 
 #[test]
 fn as_deep_as_may_be(rt: HostRuntime) -> Result<(), Fail> {
-    let alloc = rt.alloc();
-    let lines = levels(alloc, 511)?;
-    let document = nested(alloc, 511, "<e>", "x", "</e>")?;
-    match ending_of(alloc, "e", "x", lines.as_str()) {
-        Ending::Nested(bytes) => {
-            let inner = bytes
-                .as_slice()
-                .strip_prefix(b"<e>")
-                .and_then(|b| b.strip_suffix(b"</e>"));
-            assert!(rt; inner == Some(document.as_bytes()));
-        }
-        _ => return Err(Fail::new("no document")),
-    }
+    assert!(rt; is_deep_nested(rt.alloc())?);
     Ok(())
 }

@@ -1,12 +1,13 @@
 //! Ranges that no document is given for.
 
-use crate::documents::{Ending, ending_of};
+use crate::documents::{Ending, ending_of, levels};
 use pv_chars::TextError;
 use pv_standoff::NestError;
+use std::alloc::{AllocError, Global};
 use std::test::Fail;
 
 // Lines of ranges over `Tea time`, and why there is no document.
-const ROWS: [(&str, NestError); 12] = [
+static ROWS: [(&str, NestError); 12] = [
     (
         "3 8 0 em\n0 5 0 em\n",
         NestError::Crossing {
@@ -77,47 +78,49 @@ const ROWS: [(&str, NestError); 12] = [
     ),
 ];
 
-#[test]
-fn rows(rt: HostRuntime) -> Result<(), Fail> {
-    let alloc = rt.alloc();
-    for (lines, why) in ROWS {
-        match ending_of(alloc, "doc", "Tea time", lines) {
-            Ending::Refused(error) => assert!(rt; error == why),
-            _ => return Err(Fail::new("another ending")),
-        }
+fn is_refused(alloc: Global, text: &str, lines: &str, why: NestError) -> bool {
+    match ending_of(alloc, "doc", text, lines) {
+        Ending::Refused(error) => error == why,
+        _ => false,
     }
-    Ok(())
+}
+
+#[test]
+fn rows(rt: HostRuntime) {
+    for (lines, why) in &ROWS {
+        assert!(rt; is_refused(rt.alloc(), "Tea time", *lines, *why), "{lines}");
+    }
+}
+
+fn is_too_deep(alloc: Global) -> Result<bool, AllocError> {
+    let lines = levels(alloc, 512)?;
+    Ok(is_refused(alloc, "x", lines.as_str(), NestError::Deep))
 }
 
 #[test]
 fn too_deep(rt: HostRuntime) -> Result<(), Fail> {
-    let alloc = rt.alloc();
-    let mut lines = String::new(alloc);
-    for level in 0..512 {
-        let line = format!(in alloc; "0 1 {level} e\n")?;
-        lines.push_str(line.as_str())?;
-    }
-    match ending_of(alloc, "doc", "x", lines.as_str()) {
-        Ending::Refused(error) => assert!(rt; error == NestError::Deep),
-        _ => return Err(Fail::new("another ending")),
-    }
+    assert!(rt; is_too_deep(rt.alloc())?);
     Ok(())
 }
 
-#[test]
-fn no_texts(rt: HostRuntime) -> Result<(), Fail> {
-    let alloc = rt.alloc();
-    let rows = [
-        ("a<b", TextError::BadChar(1)),
-        ("a&nbsp;", TextError::Entity(1)),
-        ("a]]>b", TextError::CloseMark(1)),
-        ("", TextError::Empty),
-    ];
-    for (text, why) in rows {
-        match ending_of(alloc, "doc", text, "") {
-            Ending::Text(error) => assert!(rt; error == why),
-            _ => return Err(Fail::new("another ending")),
-        }
+// What is no text, and why.
+static NO_TEXTS: [(&str, TextError); 4] = [
+    ("a<b", TextError::BadChar(1)),
+    ("a&nbsp;", TextError::Entity(1)),
+    ("a]]>b", TextError::CloseMark(1)),
+    ("", TextError::Empty),
+];
+
+fn is_no_text(alloc: Global, text: &str, why: TextError) -> bool {
+    match ending_of(alloc, "doc", text, "") {
+        Ending::Text(error) => error == why,
+        _ => false,
     }
-    Ok(())
+}
+
+#[test]
+fn no_texts(rt: HostRuntime) {
+    for (text, why) in &NO_TEXTS {
+        assert!(rt; is_no_text(rt.alloc(), *text, *why), "{text}");
+    }
 }

@@ -7,8 +7,11 @@ use Rattle.pv_missing.specs.LiveWords.{AreProductiveTokens}
 use Rattle.pv_missing.proofs.LiveFacts.{live_follows}
 use Rattle.test_need.proofs.spans.is_member.Goals as goal
 
-pub member-requires-clause-productive : goal.member-requires-clause-productive
-member-requires-clause-productive g c =
+pub member-requires : goal.member-requires
+member-requires g c =
     let d = dtd_of c.args.grammar.now in
-    subst (λ v. AreProductiveTokens d (map plain_token v)) (sym c.as_slice.ensures)
-    (live_follows d (word_of d (forest c.args.kids.now)) (map plain_token c.in_ok-live.live) c.in_ok-live.ensures).names
+    record {
+      productive =
+          subst (λ v. AreProductiveTokens d (map plain_token v)) (sym c.as_slice.ensures)
+          (live_follows d (word_of d (forest c.args.kids.now)) (map plain_token c.in_ok-live.live) c.in_ok-live.ensures).names;
+    }
