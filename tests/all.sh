@@ -1,10 +1,10 @@
 #!/usr/bin/env bash
 # All tests: `rt ci` proves every crate, tries the must-fail edits and runs the crates' tests and programs; then
-# docs/DEFINITIONS.md is compared with the comments that its tables are written from, where Python is installed; the built program is tried
-# on the machine's files, and on hostile ones, with little memory and outputs that fail; edits and sessions are tried with each allocation
-# failing in turn, where a C compiler is installed; and the program is compared with a search that inserts elements, with a model of a
-# session and with xmllint, also with published DTDs, its packs and denials are tried with checkers, and the page over a session in a
-# browser, where Python, xmllint and Chromium are installed. The last line tells how many passed.
+# docs/DEFINITIONS.md is compared with the comments that its tables are written from, where Python is installed; a first look is compared
+# with README; the built program is tried on the machine's files, and on hostile ones, with little memory and outputs that fail; edits and
+# sessions are tried with each allocation failing in turn, where a C compiler is installed; and the program is compared with a search that
+# inserts elements, with a model of a session and with xmllint, also with published DTDs, its packs and denials are tried with checkers, and
+# the page over a session in a browser, where Python, xmllint and Chromium are installed. The last line tells how many passed.
 set -u
 cd "$(dirname "$0")/.." || exit 1
 log=$(mktemp)
