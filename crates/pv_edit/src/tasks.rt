@@ -78,7 +78,7 @@ pub(crate) fn node_task(
     })
 }
 
-/// Which of its parent's kids the node at a path is.
+/// Which kid of its list the node at a path is.
 pub(crate) fn last_place(path: &[u32]) -> u32
     ensures { result ≡ kid_place path.now }
 {

@@ -51,7 +51,7 @@ pub(crate) fn task_back(alloc: Global, doc: &Doc, inverse: &Inverse) -> Result<T
     }
 }
 
-// Something in place of a node, whose parent may end by `/>` again.
+// Something in place of a node, above which an element may end by `/>` again.
 fn removal_task(alloc: Global, path: &Path, filling: Filling, short: bool) -> Result<Task, NoMemory>
     ensures { IfOk result (λ task. plain_task task ≡
         record (fill_node path.now (plain_filling filling)) { shorten = short }) }

@@ -113,7 +113,7 @@ impl Moved {
     }
 
     /// The same of a repetition of the part, of which a round could end before the name or not.
-    fn repeated(self, was_end: bool) -> Moved
+    fn repetition(self, was_end: bool) -> Moved
         ensures next { result.next ≡ self.next }
         ensures was_end { result.was_end ≡ was_end }
         ensures is_end { result.is_end ≡ self.is_end }
@@ -249,7 +249,7 @@ fn advance_rounds(
     let entering = entered || was_end;
     let round = advance(inner, entering, name, positions, at + 1);
     positions[at] = round.is_end;
-    round.repeated(was_end)
+    round.repetition(was_end)
 }
 
 #[cycle(advance)]

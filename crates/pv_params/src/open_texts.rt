@@ -228,7 +228,7 @@ fn blank_before(after_parameter: bool) -> &'static [u8]
 }
 
 /// Where no item begins: the rest of the file is copied unread.
-pub fn unread(so_far: &mut State, mode: TextMode, rest: &[u8]) -> Result<(), ParamError>
+pub fn copy_unread(so_far: &mut State, mode: TextMode, rest: &[u8]) -> Result<(), ParamError>
     requires some { rest.now ≢ [] }
     requires none { item_at (plain_mode mode) rest.now ≡ None }
     ensures stopped { (reading : List (List ℕ)) → OnOk result

@@ -11,7 +11,7 @@ ghost use Rattle.pv_params.specs.OpenTexts.{LeadToOutcome, work_left};
 use crate::errors::ParamError;
 use crate::items::item_at;
 use crate::names::NamesBeingRead;
-use crate::open_texts::{OpenText, handle, mode_behind, unread};
+use crate::open_texts::{OpenText, copy_unread, handle, mode_behind};
 use crate::plain_bytes::behind_run;
 use crate::state::State;
 use std::alloc::Global;
@@ -40,7 +40,7 @@ impl TextStack {
             (plain_so_far self.old.so_far)) }
     {
         let Some((item, more)) = item_at(top.mode, top.rest()) else {
-            return match unread(&mut self.so_far, top.mode, top.rest()) {
+            return match copy_unread(&mut self.so_far, top.mode, top.rest()) {
                 Ok(()) => {
                     self.names.leave(top.of_entity);
                     self.so_far.finish(top.ending)?;

@@ -25,5 +25,5 @@ pub fn one_answer_law()
 pub fn session_law(_session: &Session)
     ensures { IsSession _session.now }
 {
-    _session.kept();
+    _session.invariant_law();
 }

@@ -274,7 +274,7 @@ impl Session {
     }
 
     // What it keeps.
-    pub(crate) fn kept(&self)
+    pub(crate) fn invariant_law(&self)
         ensures { IsSession self.now }
     {
         leads_back_law::<()>();

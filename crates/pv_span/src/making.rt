@@ -79,7 +79,7 @@ impl Making {
     }
 
     /// The column in which a form stands, where its slot tells it.
-    fn found(&self, form: &Form, slot: usize) -> Option<u32>
+    fn find(&self, form: &Form, slot: usize) -> Option<u32>
         ensures { IfSome result (λ c. IsMade self.now.names (plain_all self.now.forms.items) c
             (plain_form form.now)) }
     {
@@ -104,7 +104,7 @@ impl Making {
         ensures names { self.new.names ≡ self.old.names }
     {
         let slot = hash_of(&form) as usize % SLOTS;
-        if let Some(column) = self.found(&form, slot) {
+        if let Some(column) = self.find(&form, slot) {
             return Ok(column);
         }
         let column = self.names as usize + self.forms.len();

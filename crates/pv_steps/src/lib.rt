@@ -13,7 +13,7 @@ use std::sync::ledger::{Blank, Book, Ledger, Share};
 
 /// How many steps were taken, as a ghost. Only `tick` changes it.
 ///
-/// A step is one check of a child list.
+/// A step is one check of a list.
 #[derive(Drop)]
 pub struct Steps<L: Ledger> {
     book: Book<L>,

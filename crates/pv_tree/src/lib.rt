@@ -4,14 +4,13 @@
 //! plain form, which contracts speak of, is a `Tree` (specs/Plain.antt). A `Doc` keeps what
 //! specs/Legal.antt and Units.antt say of its tree, and that a prolog and an epilog stand around
 //! it (specs/Prolog.antt; specs/Attributes.antt has attributes and character data). `Path`s name
-//! nodes and child lists (specs/Places.antt), `word` is the word of a list (specs/Words.antt), and
+//! nodes and lists (specs/Places.antt), `word` is the word of a list (specs/Words.antt), and
 //! `first_invalid` tells the first list that isn't valid by itself (specs/Lists.antt): there is
 //! none exactly where the hedge that the document shows is valid (specs/View.antt, and pv_dtd).
 #![tactic(auto)]
 
 mod document;
 pub mod laws;
-mod names;
 mod nodes;
 mod paths;
 mod places;
@@ -19,9 +18,8 @@ mod validity;
 mod words;
 
 pub use document::Doc;
-pub use names::name_token;
 pub use nodes::{End, Mark, Node, Nodes, Verdict};
 pub use paths::Path;
 pub use places::Found;
 pub use validity::first_invalid;
-pub use words::{Tokens, word};
+pub use words::{Tokens, name_token, word};

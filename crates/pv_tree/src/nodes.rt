@@ -10,7 +10,7 @@ ghost use Rattle.pv_tree.specs.PlainForms.{plain, plain_all, plain_end};
 use pv_chars::{Bytes, NoMemory, Units, bytes_of};
 use std::alloc::Global;
 
-/// What is known of a child list. `Impossible` is asked first: a list may be valid by itself and
+/// What is known of a list. `Impossible` is asked first: a list may be valid by itself and
 /// be no part of any valid document, as that of an element whose name isn't productive.
 #[derive(Clone, Copy, Debug, PartialEq, Eq)]
 pub enum Verdict {

@@ -10,7 +10,6 @@ ghost use Rattle.pv_tree.specs.Words.{node_before, word_of};
 ghost use Rattle.pv_tree.specs.Tokens.{token_before};
 ghost use Rattle.pv_tree.specs.PlainForms.{plain, forest};
 
-use crate::names::LookUps;
 use crate::nodes::Node;
 use pv_chars::{List, NoMemory};
 use pv_dtd::Dtd;
@@ -36,9 +35,8 @@ pub(crate) fn append_word(dtd: &Dtd, kids: &[Node], tokens: &mut Vec<Token>) -> 
     ensures { OnOk result (map plain_token tokens.new.items
         ≡ map plain_token tokens.old.items ++ word_of (plain_dtd dtd.now) (forest kids.now)) }
 {
-    let mut names = LookUps::new(dtd);
     for kid in kids {
-        if let Some(token) = token_of(&mut names, kid) {
+        if let Some(token) = token_of(dtd, kid) {
             tokens.push(token)?;
         }
     }
@@ -46,15 +44,24 @@ pub(crate) fn append_word(dtd: &Dtd, kids: &[Node], tokens: &mut Vec<Token>) -> 
 }
 
 // The token of a node, where it has one.
-fn token_of<'a>(names: &mut LookUps<'a>, node: &'a Node) -> Option<Token>
-    ensures told { (rest : List PlainToken) →
-        node_before (plain_dtd names.old.dtd.now) (plain node.now) rest ≡ token_before result rest }
-    ensures same { names.new.dtd.now ≡ names.old.dtd.now }
+fn token_of(dtd: &Dtd, node: &Node) -> Option<Token>
+    ensures { (rest : List PlainToken) →
+        node_before (plain_dtd dtd.now) (plain node.now) rest ≡ token_before result rest }
 {
     match node {
-        Node::Elem { name, .. } => Some(names.token(name.as_slice())),
+        Node::Elem { name, .. } => Some(name_token(dtd, name.as_slice())),
         Node::Text(units) => units.has_data().then_some(Token::Text),
         Node::Cdata(_) => Some(Token::Text),
         Node::Misc(_) => None,
+    }
+}
+
+/// The token of an element of this name.
+pub fn name_token(dtd: &Dtd, name: &[u8]) -> Token
+    ensures { plain_token result ≡ token (number_of (plain_dtd dtd.now) name.now) }
+{
+    match dtd.name_id(name) {
+        Some(id) => Token::Name(id),
+        None => Token::Other,
     }
 }

@@ -43,7 +43,7 @@ fn impossible(
 
 // The reply where the number isn't told, though no list is impossible. In a session none is too
 // wide for a verdict.
-fn withheld(session: &Session, error: NeedError) -> Result<Reply, NoMemory>
+fn refusal_reply(session: &Session, error: NeedError) -> Result<Reply, NoMemory>
     requires { ∥ HasCause session.now.dtd session.now.root session.now.doc error ∥₁ }
     ensures withholds { IfOk result (Withholds session.now) }
     ensures not_done { IfOk result (λ told. done_of told ≡ None) }
@@ -76,7 +76,7 @@ fn need_reply_by(alloc: Global, session: &Session, verdicts: &Verdicts) -> Resul
         verdicts,
     ) {
         Ok(number) => Ok(Reply::Need(number)),
-        Err(error) => withheld(session, error),
+        Err(error) => refusal_reply(session, error),
     }
 }
 
@@ -122,7 +122,7 @@ fn completion_reply_by(
         verdicts,
     ) {
         Ok(Completion { count, body, .. }) => Ok(Reply::Completed(count, body)),
-        Err(error) => withheld(session, error),
+        Err(error) => refusal_reply(session, error),
     }
 }
 

@@ -31,6 +31,6 @@ pub advance_rounds-returns : goal.advance_rounds-returns
 advance_rounds-returns t c =
     let round = c.advance-round in
     let entering : c.if-entered.entering ≡ (c.args.entered || get_or (drop c.args.at c.args.positions.now) 0 false) = grind (arith, common_steps) in
-    let found = c.repeated.ensures in
-    Moves-rounds (plain_part c.args.inner.now) c.args.entered c.args.name.0 c.args.at c.args.positions.now round.new.positions round.result c.repeated.result c.if-entered.entering
+    let found = c.repetition.ensures in
+    Moves-rounds (plain_part c.args.inner.now) c.args.entered c.args.name.0 c.args.at c.args.positions.now round.new.positions round.result c.repetition.result c.if-entered.entering
     c.requires entering round.ensures found.next (found.was_end ∙ grind (arith, common_steps)) found.is_end found.is_reached found.may_be_empty

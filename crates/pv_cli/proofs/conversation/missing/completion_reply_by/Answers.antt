@@ -24,10 +24,10 @@ returns-in-Ok-clause-tells c =
     found.body c.in-Ok.ensures.written in
     is_completed found.count found.marks found.body least shown refl
 
-pub withheld-requires : goal.withheld-requires
-withheld-requires c =
+pub refusal_reply-requires : goal.refusal_reply-requires
+refusal_reply-requires c =
     cause_told c.args.session.now (dtd_of c.grammar-2.result.now) c.root.result.now (plain_doc c.doc.result.now) c.args.verdicts.now c.grammar-2.ensures c.root.ensures c.doc.ensures.doc c.session_law.ensures (rw (c.dtd.ensures, c.grammar.ensures) at c.proper_dtd_law.ensures) c.requires.verdicts c.requires.possible
     c.in-Err.error c.in-Err.ensures.refused
 
 pub returns-clause-tells : goal.returns-clause-tells
-returns-clause-tells c = not_completed c.args.session.now c.withheld.result c.withheld.ensures.withholds
+returns-clause-tells c = not_completed c.args.session.now c.refusal_reply.result c.refusal_reply.ensures.withholds

@@ -6,8 +6,8 @@ use Rattle.pv_cli.proofs.Completions.{not_needed}
 use Rattle.pv_cli.proofs.MissingElements.{cause_told, needs_told}
 use Rattle.pv_cli.proofs.conversation.missing.need_reply_by.Goals as goal
 
-pub withheld-requires : goal.withheld-requires
-withheld-requires c =
+pub refusal_reply-requires : goal.refusal_reply-requires
+refusal_reply-requires c =
     cause_told c.args.session.now (dtd_of c.grammar-2.result.now) c.root.result.now (plain_doc c.doc.result.now) c.args.verdicts.now c.grammar-2.ensures c.root.ensures c.doc.ensures.doc c.session_law.ensures (rw (c.dtd.ensures, c.grammar.ensures) at c.proper_dtd_law.ensures) c.requires.verdicts c.requires.possible
     c.in-Err.error c.in-Err.ensures.refused
 
@@ -19,4 +19,4 @@ returns-in-Ok-clause-tells c =
     is_needed number told refl
 
 pub returns-in-Err-clause-tells : goal.returns-in-Err-clause-tells
-returns-in-Err-clause-tells c = not_needed c.args.session.now c.withheld.result c.withheld.ensures.withholds
+returns-in-Err-clause-tells c = not_needed c.args.session.now c.refusal_reply.result c.refusal_reply.ensures.withholds

@@ -2,7 +2,7 @@ use Rattle.std.proofs.Common.{sym, ap, subst}
 use Rattle.pv_params.specs.Meaning.{IsBetween}
 use Rattle.pv_params.specs.PlainForms.{plain_mode}
 use Rattle.pv_params.proofs.Steps.{syntax_inside, syntax_value, section_stops, external_stops, syntax_between, rest_unread}
-use Rattle.pv_params.proofs.open_texts.unread.Goals as goal
+use Rattle.pv_params.proofs.open_texts.copy_unread.Goals as goal
 
 pub returns-then-begins_section-clause-faulty : goal.returns-then-begins_section-clause-faulty
 returns-then-begins_section-clause-faulty c = λ reading. section_stops _ _ _ _ (subst IsBetween (sym (ap plain_mode c.in-Between.is)) tt) c.if-begins_section.ensures

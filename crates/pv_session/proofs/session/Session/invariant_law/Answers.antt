@@ -1,7 +1,7 @@
 use Rattle.std.proofs.Common.{subst}
 use Rattle.pv_session.specs.Keeping.{IsSession}
 use Rattle.pv_session.proofs.Moves.{is_session}
-use Rattle.pv_session.proofs.session.Session.kept.Goals as goal
+use Rattle.pv_session.proofs.session.Session.invariant_law.Goals as goal
 
 pub returns : goal.returns
 returns c =

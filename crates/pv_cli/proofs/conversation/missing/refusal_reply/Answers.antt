@@ -2,7 +2,7 @@ use Rattle.std.proofs.Common.{refl}
 use Rattle.std.proofs.Math.Logic.{∥∥₁_elim}
 use Rattle.pv_cli.specs.Missing.{is_impossible, is_wide}
 use Rattle.pv_cli.proofs.MissingElements.{impossible_told, wide_for_weights}
-use Rattle.pv_cli.proofs.conversation.missing.withheld.Goals as goal
+use Rattle.pv_cli.proofs.conversation.missing.refusal_reply.Goals as goal
 
 pub returns-in-Impossible-clause-withholds : goal.returns-in-Impossible-clause-withholds
 returns-in-Impossible-clause-withholds c =
