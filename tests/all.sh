@@ -1,10 +1,10 @@
 #!/usr/bin/env bash
 # All tests: `rt ci` proves every crate, tries the must-fail edits and runs the crates' tests and programs; then
 # docs/DEFINITIONS.md is compared with the comments that its tables are written from, where Python is installed; a first look is compared
-# with README; the built program is tried on the machine's files, and on hostile ones, with little memory and outputs that fail; edits and
-# sessions are tried with each allocation failing in turn, where a C compiler is installed; and the program is compared with a search that
-# inserts elements, with a model of a session and with xmllint, also with published DTDs, its packs and denials are tried with checkers, and
-# the page over a session in a browser, where Python, xmllint and Chromium are installed. The last line tells how many passed.
+# with README; the built program is tried on the machine's files, and on hostile ones, with little memory and outputs that fail; sessions and
+# the other commands are tried with each allocation failing in turn, where a C compiler is installed; and the program is compared with a
+# search that inserts elements, with a model of a session and with xmllint, also with published DTDs, its packs and denials are tried with
+# checkers, and the page over a session in a browser, where Python, xmllint and Chromium are installed. The last line tells how many passed.
 set -u
 cd "$(dirname "$0")/.." || exit 1
 log=$(mktemp)
@@ -70,15 +70,12 @@ count "$log"
     finish
 }
 
-# What `rt ci` has just proved and built are the programs: they need not be built once more.
-for program in crates/pvtag/out/pvtag crates/bench_edit/out/bench_edit; do
-    [ ! -x "$program" ] || touch "$program.built"
-done
+# What `rt ci` has just proved and built is the program: it need not be built once more.
+[ ! -x crates/pvtag/out/pvtag ] || touch crates/pvtag/out/pvtag.built
 
 skip "the page of definitions" python3 || check 60 python3 tests/definitions.py --check
 check 900 tests/program.sh
 skip "a first look" rt || check 600 tests/look.sh
-skip "edits without memory" cc || check 300 tests/edits_without_memory.sh
 skip "the comparison with insertions" python3 || check 300 python3 tests/against_insertions.py crates/pvtag/out/pvtag 850 1
 skip "the comparison with derivations by spans" python3 || check 300 python3 tests/possible_lists.py crates/pvtag/out/pvtag 120 1
 skip "the comparison of weights" python3 || check 300 python3 tests/weights.py crates/pvtag/out/pvtag 200 1 100

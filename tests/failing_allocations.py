@@ -3,14 +3,16 @@
 Words: PROGRAM MOST. A C compiler makes a library that is loaded before the C library and lets allocation number N give nothing; N goes up
 until a run asks for fewer, or up to MOST. Where a run ends with status 5, or with 10 for want of words, it must have written nothing. Else
 one line at most answers `no memory`, and the replies to the other lines must be those to the script without this line: each edit of the
-script, `need`, `complete` and `offer` stand between `show` and `history`, which tell whether anything changed. The other commands must end with
-status 5 and write nothing, or answer as with ample memory; of the allocations of `check` before the verdicts one in FEW is tried. Prints each
-difference, and how many runs passed; ends with 1 where one failed.
+script, `undo`, `redo`, `need`, `complete` and `offer` stand between `show` and `history`, which tell whether anything changed. An edit of each
+kind is made, undone and made again; each line that does so must have been without memory in two runs at least, since its reply and its change
+take some each. The other commands must end with status 5 and write nothing, or answer as with ample memory; of the allocations of `check`
+before the verdicts one in FEW is tried. Prints each difference, and how many runs passed; ends with 1 where one failed.
 """
 import os
 import subprocess
 import sys
 import tempfile
+from collections import Counter
 
 LIBRARY = r"""
 #include <errno.h>
@@ -49,10 +51,13 @@ DTD = """<!ELEMENT doc (head, sec+)>
 """
 DOCUMENT = '<?xml version="1.0"?>\n<doc lang="en">Hello, you&amp;me<em/></doc>\n'
 
-MOVES = ["wrap 0 0 1 br", "need", "complete", "offer 0 0 1", "split 0.0 5", "wrap 0 0 1 head", "undo", "redo", "undo", "wrap 0 0 1 head", "text 0.1 a&nbsp;", "text 0.1 you",
-         "addtext 0 2 !", "join 0.1", "deltext 0.0.0", "undo", "wrap 0 1 3 p", "wrap 0 1 2 sec", "rename 0.1 title", "rename 0.1 sec",
-         "offer 0.1", "offer 0.9", "unwrap 0.1.0.1", "undo", "insert 0.1.0 1 br", "unwrap 0.9", "nothing", "undo", "undo",
-         "wrap 0 0 1 br", "redo", "undo", "addtext 0 9 x", "redo"]
+MOVES = ["wrap 0 0 1 br", "need", "complete", "offer 0 0 1", "split 0.0 5", "undo", "redo", "wrap 0 0 1 head", "undo", "redo",
+         "text 0.1 a&nbsp;", "text 0.1 you", "undo", "redo", "addtext 0 2 !", "undo", "redo", "join 0.1", "undo", "redo",
+         "deltext 0.0.0", "undo", "redo", "undo", "wrap 0 1 3 p", "wrap 0 1 2 sec", "rename 0.1 title", "rename 0.0 title", "undo", "redo",
+         "offer 0.1", "offer 0.9", "unwrap 0.1.0.1", "undo", "redo", "undo", "insert 0.1.0 1 br", "undo", "redo", "unwrap 0.9", "nothing",
+         "undo", "undo", "wrap 0 0 1 br", "redo", "undo", "addtext 0 9 x", "redo"]
+# What a line begins with that makes an edit, undoes one, or makes one again.
+MAKING = ["wrap", "insert", "unwrap", "rename", "split", "join", "text", "addtext", "deltext", "undo", "redo"]
 
 
 def script_of():
@@ -91,7 +96,9 @@ class Trial:
     def __init__(self, program, library):
         self.program, self.library, self.script = program, library, script_of()
         self.without = {}
-        self.passed = self.failed = self.silent = self.reached = 0
+        self.passed = self.failed = self.reached = 0
+        # By the number of a line, how many runs had no memory for it.
+        self.silent = Counter()
 
     def output_without(self, number):
         """The replies to the script without this line; all of it where there is none."""
@@ -112,7 +119,7 @@ class Trial:
         silent = [at for at, reply in enumerate(replies) if reply == b"no memory"]
         if rest or len(silent) > 1:
             return "more than one line without memory, or bytes behind the replies"
-        self.silent += len(silent)
+        self.silent.update(silent)
         kept = b"".join(reply + b"\n" for reply in replies if reply != b"no memory")
         if kept != self.output_without(silent[0] if silent else None):
             return f"the line {self.script[silent[0]]!r} changed something" if silent else "other replies, and no line without memory"
@@ -129,6 +136,15 @@ class Trial:
             if fault:
                 print(f"allocation {number}: {fault}, status {status}, output {output!r}")
         return reached
+
+    def untried(self):
+        """What isn't made in the script; and the lines that make something and were without memory in less than two runs."""
+        replies, _ = replies_of(self.output_without(None), self.script)
+        making = [at for at, reply in enumerate(replies) if reply.startswith(b"ok ")]
+        made = {self.script[at].split()[0] for at in making}
+        yield from (f"no {word} was made" for word in MAKING if word not in made)
+        seldom = [at for at in making if self.silent[at] < 2]
+        yield from (f"line {at}, {self.script[at]!r}: without memory in {self.silent[at]} runs" for at in seldom)
 
 
 # Lists that are judged by a table, and long enough that two threads judge them.
@@ -212,16 +228,17 @@ def main():
         number = 1
         while number <= most and trial.failed < 20 and trial.try_at(number):
             number += 1
+        gaps = list(trial.untried())
         answers = list(answers_of(program, library))
         for answer in answers:
             answer.try_all()
         os.chdir("/")
-    print(f"allocations {trial.reached}, lines without memory {trial.silent}")
+    print(f"allocations {trial.reached}, lines without memory {sum(trial.silent.values())}")
     if number > most:
         print(f"more than {most} allocations: the rest is untried")
         trial.failed += 1
-    if trial.silent == 0:
-        print("no line was without memory")
+    for gap in gaps:
+        print(gap)
         trial.failed += 1
     passed = trial.passed + sum(answer.passed for answer in answers)
     failed = trial.failed + sum(answer.failed for answer in answers)
