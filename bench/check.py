@@ -2,9 +2,12 @@
 
 On a valid document of 18 MB, and on the same without every tenth pair of tags, beside `valid` and `xmllint --noout --dtdvalid`; on long
 lists, each beside one of a tenth of its kids; and on the widest list within the limit. The runs of one document are interleaved; the best
-of each is told, in milliseconds of processor time and in kilobytes of memory at the peak, with the status of the last. Then the verdicts
-alone, by one thread and by several on 1, 2 and 4 processors: the best time that passes, without that of reading, and how many times as fast
-that is as by one thread.
+of each is told, in milliseconds of processor time and in kilobytes of memory at the peak, with the status of the last.
+
+Then the time that passes while the whole `check` runs on 1, 2 and 4 processors, the best of the runs, and how many times as fast that is as
+on one. The program asks on how many it may run, and cuts the lists of a document with some 16,000 nodes or more into two pieces for each,
+which threads judge side by side; all else, the reading of the document above all, one thread does. So on one processor there are two
+threads, and a small document has one on any number. Where other work takes the processors, these times tell nothing.
 """
 import os
 import re
@@ -74,13 +77,13 @@ def cases(top, folder):
     yield "the widest list", WIDE, "a", row("b", 8_388_607), False
 
 
-# Title, DTD, root, document, and how often a run finds its verdicts.
-def verdict_cases(article, tagless):
-    yield "18 MB of small lists", article, "doc", tagless, 5
-    yield "2,000 lists of 400 kids, every other one missing", FREE_LISTS, "r", "<r>" + row("b", 400) * 2_000 + "</r>", 5
-    yield "2,000 such lists by left recursion", TABLE_LISTS, "r", "<r>" + row("c", 400) * 2_000 + "</r>", 3
-    yield "20 lists", FREE_LISTS, "r", "<r>" + row("b", 2) * 6 + "</r>", 20_000
-    yield "<a/>", "<!ELEMENT a EMPTY>", "a", "<a/>", 50_000
+# Title, DTD, root, document, and how many times as often it is checked as told: a short run strays more.
+def cases_on_processors(article, tagless):
+    yield "18 MB of small lists", article, "doc", tagless, 1
+    yield "2,000 lists of 400 kids, every other one missing", FREE_LISTS, "r", "<r>" + row("b", 400) * 2_000 + "</r>", 1
+    yield "2,000 such lists by left recursion", TABLE_LISTS, "r", "<r>" + row("c", 400) * 2_000 + "</r>", 1
+    yield "20 lists", FREE_LISTS, "r", "<r>" + row("b", 2) * 6 + "</r>", 40
+    yield "<a/>", "<!ELEMENT a EMPTY>", "a", "<a/>", 40
 
 
 # The seconds that pass while a program runs on so many processors.
@@ -91,30 +94,24 @@ def passed(words, processors):
     return time.monotonic() - before
 
 
-# The seconds of one finding of the verdicts, by one thread and by several on so many processors.
-def verdict_times(program, files, often, rounds):
-    ways = [("one", 1)] + [("several", count) for count in (1, 2, 4) if count <= len(os.sched_getaffinity(0))]
-    best = {(way, times): float("inf") for way in ways for times in (0, often)}
-    for _ in range(rounds):
-        for way, times in best:
-            seconds = passed([program, way[0], str(times), *files], way[1])
-            best[way, times] = min(best[way, times], seconds)
-    return {way: (best[way, often] - best[way, 0]) / often for way in ways}
+# The least seconds of so many runs on each number of processors.
+def times_on_processors(words, runs):
+    best = {count: float("inf") for count in (1, 2, 4) if count <= len(os.sched_getaffinity(0))}
+    for _ in range(runs):
+        for count in best:
+            best[count] = min(best[count], passed(words, count))
+    return best
 
 
-def tell_verdicts(top, folder, rounds):
-    program = f"{top}/crates/bench_check/out/bench_check"
-    if not os.path.exists(program):
-        print("skipped: the verdicts alone (bench_check isn't built)")
-        return
+def tell_processors(top, folder, rounds):
     article = open(f"{top}/examples/article.dtd").read()
     tagless = without_tags(open(f"{folder}/plain.xml").read())
-    for title, dtd, root, doc, often in verdict_cases(article, tagless):
+    for title, dtd, root, doc, often in cases_on_processors(article, tagless):
         files = [written(f"{folder}/a.dtd", dtd), root, written(f"{folder}/d.xml", doc)]
-        found = verdict_times(program, files, often, rounds)
-        print(f"verdicts of {title}")
-        for (name, count), seconds in found.items():
-            print(f"  {name:8} on {count}: {1_000_000 * seconds:11,.1f} us  {found['one', 1] / seconds:5.2f}")
+        found = times_on_processors([program_of(top), "check", *files], rounds * often)
+        print(f"{title}, by the time that passes")
+        for count, seconds in found.items():
+            print(f"  on {count} {1000 * seconds:10.2f} ms  {found[1] / seconds:5.2f}")
 
 
 def main():
@@ -134,7 +131,7 @@ def main():
             print(f"{title}, {os.path.getsize(files[2]):,} bytes")
             for name, (seconds, memory, status) in best.items():
                 print(f"  {name:8} {1000 * seconds:8.0f} ms  {memory:9,} kB  status {status}")
-        tell_verdicts(top, folder, rounds)
+        tell_processors(top, folder, rounds)
 
 
 if __name__ == "__main__":

@@ -1,6 +1,6 @@
 #!/usr/bin/env bash
-# Times `check`, beside `valid` and xmllint where it is installed, and the verdicts alone, by one thread and by several. Words: how many runs
-# of each, 5 where none are given.
+# Times `check`, beside `valid` and xmllint where it is installed, and by the time that passes on one processor, on two and on four. Words: how
+# many runs of each, 5 where none are given.
 set -eu
 top=$(cd "$(dirname "$0")/.." && pwd)
 command -v python3 >/dev/null || {
@@ -8,5 +8,4 @@ command -v python3 >/dev/null || {
     exit 0
 }
 [ -n "${PVTAG:-}" ] || "$top/pvtag" check "$top/examples/article.dtd" doc "$top/examples/article.xml" >/dev/null
-[ -n "${PVTAG:-}" ] || (cd "$top/crates/bench_check" && rt run -- several 2 data/a.dtd doc data/d.xml) >/dev/null 2>&1 </dev/null
 exec python3 "$top/bench/check.py" "$top" "${1:-5}"

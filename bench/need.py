@@ -1,7 +1,9 @@
 """Times a session that tells `need` once. Words: the repository's folder, and how many runs of each.
 
-On one list of 250, 500 and 1,000 tokens that misses an element, and on 20,000 short lists, of which each does, beside `check`. The best of
-each is told, in milliseconds of processor time and in kilobytes of memory at the peak, with what was printed.
+On one list of 250, 500 and 1,000 tokens: sections that miss their head, blocks of which each title misses a section and each text a
+paragraph, and paragraphs that miss one section, so that most spans have a weight; and on 20,000 short lists, each of which misses an
+element. The runs of `check` stand beside. The best of each is told, in milliseconds of processor time and in kilobytes of memory at the peak,
+with what was printed.
 """
 import sys
 import tempfile
@@ -14,14 +16,26 @@ def one_list(count):
     return "<doc>" + "<sec/>" * count + "</doc>"
 
 
+def blocks(count):
+    """A list of a title, a paragraph, a text and a list, in turn."""
+    kids = ("<title/>", "<p/>", "x", "<list><item><p/></item><item><p/></item></list>")
+    return "<doc>" + "".join(kids[at % len(kids)] for at in range(count)) + "</doc>"
+
+
+def paragraphs(count):
+    """A list of paragraphs."""
+    return "<doc>" + "<p/>" * count + "</doc>"
+
+
 def short_lists(count):
     """Sections each of which misses a paragraph."""
     return "<doc><head/>" + "<sec>t</sec>" * count + "</doc>"
 
 
 def cases():
-    for count in (250, 500, 1000):
-        yield f"one list of {count}", one_list(count)
+    for name, make in (("sections", one_list), ("blocks", blocks), ("paragraphs", paragraphs)):
+        for count in (250, 500, 1000):
+            yield f"one list of {count} {name}", make(count)
     yield "20,000 short lists", short_lists(20000)
 
 
