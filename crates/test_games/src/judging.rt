@@ -5,7 +5,7 @@ ghost use Rattle.pv_cache.specs.Accepting.{MAX_EDITED_NODES};
 ghost use Rattle.pv_tree.specs.Plain.{nodes_in};
 ghost use Rattle.pv_tree.specs.PlainDocs.{plain_doc};
 
-use pv_cache::Marked;
+use pv_cache::{Marked, PlannedGrammar};
 use pv_chars::bytes_of;
 use pv_edit::{Edit, EditAnswer, Reason};
 use pv_fresh::check_doc;
@@ -24,29 +24,39 @@ use test_fixture::dtds::ARTICLE;
 /// The greatest number of nodes of a document that is edited.
 const MAX_NODES: u64 = 33_554_432;
 
-// A document with its verdicts.
+// A document with its verdicts, by a plan that is laid out before or with them.
 fn marked_on<L: Ledger>(
     alloc: Global,
     grammar: Grammar,
     root: &[u8],
     doc: Doc,
+    is_planned: bool,
     steps: &mut Steps<L>,
 ) -> Result<Marked, Fail>
     requires { nodes_in (plain_doc doc).root ≤ MAX_EDITED_NODES }
 {
     let verdicts = check_doc(alloc, &grammar, root, &doc, steps)?;
     let root = bytes_of(alloc, root)?;
+    if is_planned {
+        let grammar = PlannedGrammar::of(alloc, grammar)?;
+        return Ok(Marked::build_by(alloc, grammar, root, doc, verdicts));
+    }
     Ok(Marked::build(alloc, grammar, root, doc, verdicts)?)
 }
 
 // The same of the text of a document, for the root doc.
-fn marked<L: Ledger>(alloc: Global, text: &str, steps: &mut Steps<L>) -> Result<Marked, Fail> {
+fn marked<L: Ledger>(
+    alloc: Global,
+    text: &str,
+    is_planned: bool,
+    steps: &mut Steps<L>,
+) -> Result<Marked, Fail> {
     let grammar = build(alloc, dtd_of(alloc, ARTICLE)?)?;
     let doc = read_doc(alloc, text.as_bytes(), b"doc")?;
     if doc.nodes() > MAX_NODES {
         return Err(Fail::new("too many nodes"));
     }
-    marked_on(alloc, grammar, b"doc", doc, steps)
+    marked_on(alloc, grammar, b"doc", doc, is_planned, steps)
 }
 
 // What an answer says: an impossible list's path, or a reason.
@@ -171,11 +181,12 @@ fn judge_line<L: Ledger>(
 fn judge_text<L: Ledger>(
     alloc: Global,
     text: &str,
+    is_planned: bool,
     line: &str,
     wanted: &Wanted,
     steps: &mut Steps<L>,
 ) -> Result<(), Fail> {
-    let mut document = marked(alloc, text, steps)?;
+    let mut document = marked(alloc, text, is_planned, steps)?;
     judge_line(alloc, &mut document, line, wanted, steps)
 }
 
@@ -186,7 +197,9 @@ fn judge_all<L: Ledger>(alloc: Global, blank: Blank) -> Result<(), Fail>
 {
     let mut steps = Steps::<L>::start(blank);
     for (text, line, wanted) in &JUDGED {
-        judge_text(alloc, text, line, wanted, &mut steps)?;
+        for is_planned in [false, true] {
+            judge_text(alloc, text, is_planned, line, wanted, &mut steps)?;
+        }
     }
     Ok(())
 }

@@ -8,7 +8,10 @@ use pv_missing::{Of, live_word};
 use pv_model::NameId;
 use pv_productive::Grammar;
 use pv_rules::Site;
-use pv_span::{Entries, Entry, SpanError, Tables, list_verdict, member, weights};
+use pv_span::{
+    Entries, Entry, SpanError, Tables, is_known_owner, lay_out, list_verdict, member, weights,
+    weights_by,
+};
 use pv_steps::Steps;
 use pv_tree::{End, Mark, Node, Verdict};
 use std::alloc::Global;
@@ -75,11 +78,7 @@ fn is_member<L: Ledger>(
     requires some { 0 < L.parts }
 {
     let mut steps = Steps::<L>::start(blank);
-    let id = match of {
-        Of::Root(id) => id,
-        Of::Elem(id) => id,
-    };
-    if id.0 >= grammar.dtd().names() {
+    if !is_known_owner(grammar, of) {
         return Ok(false);
     }
     let live = live_word(alloc, grammar, kids)?;
@@ -88,16 +87,13 @@ fn is_member<L: Ledger>(
 
 /// The weight of the live word of kids at their owner's site, where the DTD has the owner's name.
 fn weight(alloc: Global, grammar: &Grammar, of: Of, kids: &[Node]) -> Result<u32, SpanError> {
-    let id = match of {
-        Of::Root(id) => id,
-        Of::Elem(id) => id,
-    };
-    if id.0 >= grammar.dtd().names() {
+    if !is_known_owner(grammar, of) {
         return Ok(0);
     }
     let live = live_word(alloc, grammar, kids)?;
     let tokens = live.as_slice();
-    let spans = weights(alloc, grammar, tokens)?;
+    let layout = lay_out(alloc, grammar)?;
+    let spans = weights_by(alloc, &layout, tokens)?;
     Ok(spans.at(site_of(of), 0, tokens.len() as u32))
 }
 

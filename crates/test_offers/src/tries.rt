@@ -5,6 +5,7 @@ ghost use Rattle.pv_cache.specs.Accepting.{MAX_EDITED_NODES};
 ghost use Rattle.pv_tree.specs.Plain.{nodes_in};
 ghost use Rattle.pv_tree.specs.PlainDocs.{plain_doc};
 
+use pv_cache::PlannedGrammar;
 use pv_chars::{Bytes, bytes_of};
 use pv_edit::{Ask, Edit};
 use pv_fresh::check_doc;
@@ -108,7 +109,8 @@ fn begin_on<L: Ledger>(
 {
     let verdicts = check_doc(alloc, &grammar, root, &doc, steps)?;
     let root = bytes_of(alloc, root)?;
-    Ok(Session::begin(alloc, grammar, root, doc, verdicts)?)
+    let grammar = PlannedGrammar::of(alloc, grammar)?;
+    Ok(Session::begin_by(alloc, grammar, root, doc, verdicts))
 }
 
 // A session on the document of these texts.

@@ -6,8 +6,9 @@ use pv_drill::{drill_doc, drill_dtd};
 use pv_dtd::read_dtd;
 use pv_fresh::check_doc;
 use pv_missing::Verdicts;
-use pv_parallel::{Gate, check_doc_par};
+use pv_parallel::{Gate, check_doc_par, check_doc_par_by};
 use pv_productive::{Grammar, build};
+use pv_reach::{Judge, Plan};
 use pv_read::read_doc;
 use pv_steps::Steps;
 use pv_tree::Doc;
@@ -93,6 +94,22 @@ pub fn by_threads<G: Gate + Sync, L: Ledger>(
     Ok(check_doc_par(rt, alloc, grammar, b"doc", doc, gate, &mut steps)?)
 }
 
+// The same by a plan that was laid out before.
+fn by_plan<G: Gate + Sync, L: Ledger>(
+    rt: &(impl Threads + Sync),
+    judge: &Judge<'_>,
+    doc: &Doc,
+    gate: &G,
+    blank: Blank,
+) -> Result<Verdicts, Fail>
+    requires name { blank.name ≡ L.name }
+    requires parts { blank.parts ≡ L.parts }
+    requires some { 0 < L.parts }
+{
+    let mut steps = Steps::<L>::start(blank);
+    Ok(check_doc_par_by(rt, judge, b"doc", doc, gate, &mut steps)?)
+}
+
 /// The first number of a list whose verdicts differ.
 pub fn first_difference(verdicts: &Verdicts, others: &Verdicts) -> Option<u64> {
     (0..verdicts.len()).find(|k| verdicts.at(*k) != others.at(*k))
@@ -148,7 +165,9 @@ fn a_second_thread_enters(rt: HostRuntime) -> Result<(), Fail> {
         entered: AtomicU64::new(0),
         met: AtomicU64::new(0),
     };
-    let found = by_threads::<Second, Brand>(&rt, alloc, &grammar, &doc, &gate, Blank::new(1))?;
+    let plan = Plan::of(alloc, &grammar)?;
+    let judge = Judge::new(alloc, &grammar, &plan);
+    let found = by_plan::<Second, Brand>(&rt, &judge, &doc, &gate, Blank::new(1))?;
     assert_eq!(rt; found.left(), 20_000);
     assert_eq!(rt; gate.entered.load(Ordering::SeqCst), 20_003);
     assert_eq!(rt; gate.met.load(Ordering::SeqCst), 1);
