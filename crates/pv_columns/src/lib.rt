@@ -24,6 +24,7 @@ mod sets;
 mod tokens;
 
 pub use free_sets::FreeSets;
+pub use layers::Edge;
 pub use marks::{are_marked, close_marks, is_marked, is_open};
 pub use rules::ColumnRule;
 pub use tokens::has;

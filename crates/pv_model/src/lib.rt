@@ -7,6 +7,7 @@
 //! specs/PlainForms.antt reads them off the program's values. A short word is walked through the
 //! particle by its positions (specs/Positions.antt); for a long one a large particle is laid out
 //! in pairs (specs/Layouts.antt), so that a name costs the steps to its places alone.
+//! `is_text_at` and `is_element_over` tell what stands in a word.
 #![tactic(auto)]
 
 mod children;
@@ -18,6 +19,8 @@ mod models;
 mod places;
 mod positions;
 mod reach;
+mod spans;
 
 pub use matching::matches;
 pub use models::{ContentModel, NameId, Names, NoMemory, Part, Parts, Token};
+pub use spans::{is_element_over, is_text_at};

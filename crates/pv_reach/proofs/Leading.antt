@@ -7,7 +7,7 @@ use Rattle.pv_columns.specs.ColumnRules.{ReadThrough, by_rule, done}
 use Rattle.pv_reach.specs.Columns.{AreRules}
 use Rattle.pv_columns.specs.Marks.{AreNullable}
 use Rattle.pv_reach.specs.Leading.{AreAlike, AreRightEdges, AreLed, IsRightEdgeOf, IsHead, Leads, LeadsOnTo, ReadsWhatever, Turned, along, here}
-use Rattle.pv_reach.specs.declared.graph.edges.Edge.{Edge}
+use Rattle.pv_columns.specs.declared.layers.Edge.{Edge}
 use Rattle.pv_columns.specs.declared.rules.ColumnRule.{ColumnRule}
 use Rattle.pv_reach.proofs.Emptied.{nothing_reached}
 use Rattle.pv_reach.proofs.FormedDtds.{IsFormedDtd}

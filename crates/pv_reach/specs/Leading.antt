@@ -3,7 +3,7 @@ use Rattle.std.specs.Prelude.{Contains, List, [], get_or, length, ℕ, ◌<◌, 
 use Rattle.std.specs.Prelude.{◌≡◌, ◌⊎◌}
 use Rattle.pv_model.specs.declared.models.Token.{Token}
 use Rattle.pv_columns.specs.ColumnRules.{ReadThrough}
-use Rattle.pv_reach.specs.declared.graph.edges.Edge.{Edge}
+use Rattle.pv_columns.specs.declared.layers.Edge.{Edge}
 use Rattle.pv_columns.specs.declared.rules.ColumnRule.{ColumnRule}
 
 -- column c reaches whatever column d reaches

@@ -1,8 +1,7 @@
 //! The least value that the rules of a column give it over the span at hand.
 
-ghost use Rattle.std.specs.Prelude.{◌≡◌, ◌≤◌, ◌<◌, ◌↔◌, IsTrue, List, Some, length, map, slice_get};
-ghost use Rattle.std.specs.Prelude.{suc};
-ghost use Rattle.pv_model.specs.Plain.{PlainToken, named, text};
+ghost use Rattle.std.specs.Prelude.{◌≡◌, ◌≤◌, ◌<◌, List, length, map};
+ghost use Rattle.pv_model.specs.Plain.{PlainToken};
 ghost use Rattle.pv_model.specs.PlainForms.{plain_token};
 ghost use Rattle.pv_productive.specs.Tables.{no_size};
 ghost use Rattle.pv_span.specs.Charts.{value_of};
@@ -16,25 +15,8 @@ ghost use Rattle.pv_span.specs.PlainForms.{plain_chart};
 use crate::charts::Chart;
 use crate::cuts::{least_behind, least_of_all, least_within};
 use crate::forms::Form;
-use pv_model::{NameId, Token};
+use pv_model::{NameId, Token, is_element_over, is_text_at};
 use pv_productive::NO_SIZE;
-
-/// Whether a text stands at a place.
-fn is_text_at(word: &[Token], place: u32) -> bool
-    requires { place < length word.now }
-    ensures { IsTrue result ↔ (slice_get (map plain_token word.now) place ≡ Some text) }
-{
-    word[place as usize] == Token::Text
-}
-
-/// Whether the tokens of a span are one element of a name.
-fn is_element_over(word: &[Token], id: NameId, from: u32, to: u32) -> bool
-    requires { (from ≤ to) × (to ≤ length word.now) }
-    ensures { IsTrue result ↔ ((slice_get (map plain_token word.now) from ≡ Some (named id.0)) ×
-        (to ≡ suc from)) }
-{
-    to - from == 1 && word[from as usize] == Token::Name(id)
-}
 
 /// An element of a name: it is there, or it is missing round what a column stands for.
 fn least_of_element(word: &[Token], chart: &Chart, number: u32, id: NameId, content: u32) -> u64

@@ -1,8 +1,8 @@
 //! How the pieces of an element of a name, and of its content, are put together.
 
-ghost use Rattle.std.specs.Prelude.{◌≡◌, ◌≤◌, ◌<◌, ◌+◌, ◌↔◌, ℕ, IsTrue, List, Some, length, map};
+ghost use Rattle.std.specs.Prelude.{◌≡◌, ◌<◌, ◌+◌, ◌↔◌, ℕ, IsTrue, List, Some, length, map};
 ghost use Rattle.std.specs.Prelude.{slice_get, suc};
-ghost use Rattle.pv_model.specs.Plain.{any, mixed, named, text};
+ghost use Rattle.pv_model.specs.Plain.{any, mixed, text};
 ghost use Rattle.pv_model.specs.PlainForms.{plain_token};
 ghost use Rattle.pv_dtd.specs.Plain.{model_of};
 ghost use Rattle.pv_rules.specs.Numbering.{first_part};
@@ -16,25 +16,8 @@ ghost use Rattle.pv_complete.specs.Moves.{IsMove};
 use crate::words::items::{declared_move, listed_move};
 use crate::words::pieces::Move;
 use crate::words::spot::Spot;
-use pv_model::{NameId, Token};
+use pv_model::{NameId, is_element_over, is_text_at};
 use pv_rules::{ContentKind, FlatContent, Site};
-
-/// Whether a text stands at a place.
-fn is_text_at(word: &[Token], place: u32) -> bool
-    requires { place < length word.now }
-    ensures { IsTrue result ↔ (slice_get (map plain_token word.now) place ≡ Some text) }
-{
-    word[place as usize] == Token::Text
-}
-
-/// Whether the tokens of a span are one element of a name.
-fn is_element_over(word: &[Token], id: NameId, from: u32, to: u32) -> bool
-    requires { (from ≤ to) × (to ≤ length word.now) }
-    ensures { IsTrue result ↔ ((slice_get (map plain_token word.now) from ≡ Some (named id.0)) ×
-        (to ≡ suc from)) }
-{
-    to - from == 1 && word[from as usize] == Token::Name(id)
-}
 
 /// Whether a text stands in front of the span, and the site weighs as much behind it.
 fn is_text_move(spot: &Spot<'_>) -> bool

@@ -5,10 +5,10 @@ ghost use Rattle.pv_columns.specs.Marks.{AreNullable};
 ghost use Rattle.pv_reach.specs.Leading.{AreAlike, IsHead};
 
 use crate::graph::chains::Chains;
-use crate::graph::edges::{Edge, edges_of, turned_edges};
+use crate::graph::edges::{edges_of, turned_edges};
 use crate::graph::leaving::leaving_order;
 use crate::graph::sweep::sweep_from;
-use pv_columns::ColumnRule;
+use pv_columns::{ColumnRule, Edge};
 use std::alloc::{AllocError, Global};
 
 /// The columns of a grammar in components: those that lead to one another at one place.

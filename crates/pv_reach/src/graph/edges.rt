@@ -7,15 +7,8 @@ ghost use Rattle.std.specs.Prelude.{◌≡◌, ◌⊎◌, ℕ, Contains, IfOk};
 ghost use Rattle.pv_columns.specs.Marks.{AreNullable};
 ghost use Rattle.pv_reach.specs.Leading.{AreRightEdges, IsRightEdgeOf, Turned};
 
-use pv_columns::{ColumnRule, is_open};
+use pv_columns::{ColumnRule, Edge, is_open};
 use std::alloc::{AllocError, Global};
-
-/// A column, and one that it leads to.
-#[derive(Clone, Copy, Debug)]
-pub struct Edge {
-    pub from: usize,
-    pub to: usize,
-}
 
 /// Appends the edges of a rule.
 fn push_edges(rule: &ColumnRule, edges: &mut Vec<Edge>) -> Result<(), AllocError>

@@ -1,9 +1,8 @@
 //! The order in which a search along edges leaves columns.
 
 use crate::graph::chains::Chains;
-use crate::graph::edges::Edge;
 use crate::graph::flags::set_flag;
-use pv_columns::is_marked;
+use pv_columns::{Edge, is_marked};
 use std::alloc::{AllocError, Global};
 
 /// A column whose edges are gone through, and the number of the next one.

@@ -1,13 +1,12 @@
 //! A sweep against the edges: for each column, one that it leads to.
 
 ghost use Rattle.std.specs.Prelude.{◌≡◌, ◌<◌, ℕ, List, IfOk, OnOk, get_or, length};
+ghost use Rattle.pv_columns.specs.declared.layers.Edge.{Edge as PlainEdge};
 ghost use Rattle.pv_reach.specs.Leading.{AreLed};
-ghost use Rattle.pv_reach.specs.declared.graph.edges.Edge.{Edge as PlainEdge};
 
 use crate::graph::chains::Chains;
-use crate::graph::edges::Edge;
 use crate::graph::flags::set_flag;
-use pv_columns::is_marked;
+use pv_columns::{Edge, is_marked};
 use std::alloc::{AllocError, Global};
 
 /// What a sweep has come to: for each column one that it leads to, at first itself; which columns

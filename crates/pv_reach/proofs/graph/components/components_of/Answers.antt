@@ -1,6 +1,6 @@
 use Rattle.std.proofs.Common.{List, arith, get_or, length, subst, ℕ, ◌<◌, ◌∙◌, ◌≡◌}
 use Rattle.pv_reach.specs.Leading.{AreLed, IsHead, Turned}
-use Rattle.pv_reach.specs.declared.graph.edges.Edge.{Edge}
+use Rattle.pv_columns.specs.declared.layers.Edge.{Edge}
 use Rattle.pv_reach.proofs.Leading.{alike}
 use Rattle.pv_reach.proofs.graph.components.components_of.Goals as goal
 

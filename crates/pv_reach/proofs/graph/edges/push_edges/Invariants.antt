@@ -1,6 +1,6 @@
 use Rattle.std.proofs.Common.{Contains, ◌⊎◌}
 use Rattle.pv_reach.specs.Leading.{IsRightEdgeOf}
-use Rattle.pv_reach.specs.declared.graph.edges.Edge.{Edge}
+use Rattle.pv_columns.specs.declared.layers.Edge.{Edge}
 use Rattle.pv_reach.proofs.graph.edges.push_edges.Given as goal
 
 abbrev pub invariant-loop-column : goal.invariant-loop-column

@@ -2,7 +2,7 @@ use Rattle.std.proofs.Common.{Contains, arith, get_or, length, refl, set, subst,
 use Rattle.std.proofs.Math.ListN.{length-set}
 use Rattle.std.proofs.lemmas.List.{get_or_default}
 use Rattle.pv_reach.specs.Leading.{AreLed}
-use Rattle.pv_reach.specs.declared.graph.edges.Edge.{Edge}
+use Rattle.pv_columns.specs.declared.layers.Edge.{Edge}
 use Rattle.pv_reach.proofs.Sweeping.{lead_more}
 use Rattle.pv_reach.proofs.graph.sweep.lead.Goals as goal
 
