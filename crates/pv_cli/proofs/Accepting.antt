@@ -1,5 +1,5 @@
 -- What a run of `verify` that did all has shown.
-use Rattle.std.proofs.Common.{◌≡◌, ◌++◌, ◌∙◌, ◌⊎◌, inl, inr, ℕ, List, Option, Some, ap, codes, decimal, refl, subst, sym}
+use Rattle.std.proofs.Common.{◌≡◌, ◌∙◌, ◌⊎◌, inl, inr, ℕ, List, Option, Some, ap, refl, subst, sym}
 use Rattle.std.specs.Io.KnownBytes.{Appends}
 use Rattle.pv_cert.specs.declared.packs.Pack.{Pack}
 use Rattle.pv_cli.specs.Certificates.{certificate_stage}
@@ -8,14 +8,13 @@ use Rattle.pv_cli.specs.Course.{Course, RunEnding, input_fault, no_memory, outpu
 use Rattle.pv_cli.specs.Devices.{Devices}
 use Rattle.pv_cli.specs.Documents.{PlainOpened}
 use Rattle.pv_cli.specs.Laws.{AcceptsLeast, ShowsLeast}
-use Rattle.pv_cli.specs.Opening.{Files, opening_stage}
+use Rattle.pv_cli.specs.Opening.{Files}
 use Rattle.pv_cli.specs.PackFiles.{pack_file_stage}
 use Rattle.pv_cli.specs.Program.{WritesEnding, cut_off, wrote}
 use Rattle.pv_cli.specs.Response.{PlainResponse}
 use Rattle.pv_cli.specs.Stage.{Responds}
-use Rattle.pv_cli.specs.Verify.{IsVerifyCourse, TellsAcceptance, TellsOfPack, is_accepted, is_rejected, names_wide}
+use Rattle.pv_cli.specs.Verify.{TellsAcceptance, TellsOfPack, is_accepted, is_rejected, names_wide}
 use Rattle.pv_cli.specs.declared.checker.Checker.TheVariants.{Verify}
-use Rattle.pv_cli.specs.declared.status.Status.{Status}
 use Rattle.pv_cli.specs.declared.status.Status.TheVariants.{Done, Limit, Negative, NoMemory, ReadFault, WriteFault}
 use Rattle.pv_cli.proofs.CertificateCauses.{pack_reads}
 use Rattle.pv_cli.proofs.OneOpening.{GoesWith, told, went_on}

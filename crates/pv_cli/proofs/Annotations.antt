@@ -12,7 +12,7 @@ use Rattle.pv_standoff.specs.declared.ranges.Range.{Range}
 use Rattle.pv_cli.specs.declared.response.Response.{Response}
 use Rattle.pv_cli.specs.declared.stop.Stop.{Stop}
 use Rattle.pv_cli.specs.CommandLine.{PlainCommandLine, on_ranges}
-use Rattle.pv_cli.specs.Course.{Course, without_input}
+use Rattle.pv_cli.specs.Course.{without_input}
 use Rattle.pv_cli.specs.Devices.{ShelfNow}
 use Rattle.pv_cli.specs.Opening.{Files, IsFile, dtd_file_stage}
 use Rattle.pv_cli.specs.Program.{CountsShelf}

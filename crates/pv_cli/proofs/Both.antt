@@ -1,5 +1,5 @@
 -- Two stages over files, one behind another, that hand on what both open.
-use Rattle.std.proofs.Common.{◌≡◌, ℕ, ◌+◌, List, Option, Result, Ok, Err, refl, subst, ◌∙◌, arith}
+use Rattle.std.proofs.Common.{ℕ, ◌+◌, List, Option, Ok, Err, refl, subst, ◌∙◌, arith}
 use Rattle.pv_cli.specs.Devices.{ShelfNow}
 use Rattle.pv_cli.specs.Returns.{ReturnsOver, StopCounts}
 use Rattle.pv_cli.specs.Stage.{Stage, beside, followed_by}

@@ -1,5 +1,5 @@
 -- What a command on a certificate did, as a response that is defined for it.
-use Rattle.std.proofs.Common.{◌≡◌, ℕ, ◌+◌, List, [], ◌∷◌, Option, Some, Result, Ok, Err, refl, subst, sym, ◌∙◌, arith}
+use Rattle.std.proofs.Common.{ℕ, ◌+◌, List, [], ◌∷◌, Option, Some, Result, Ok, Err, refl, subst, sym, ◌∙◌, arith}
 use Rattle.pv_cli.specs.declared.checker.Checker.{Checker}
 use Rattle.pv_cli.specs.declared.opening.Opened.{Opened}
 use Rattle.pv_cli.specs.declared.response.Response.{Response}

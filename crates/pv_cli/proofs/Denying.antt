@@ -1,5 +1,5 @@
 -- What a run of `deny` that did all has shown.
-use Rattle.std.proofs.Common.{◌≡◌, ◌++◌, ◌∙◌, ◌⊎◌, inl, inr, ℕ, List, Option, Some, ap, codes, refl, subst, sym}
+use Rattle.std.proofs.Common.{◌≡◌, ◌∙◌, ◌⊎◌, inl, inr, ℕ, List, Option, Some, ap, refl, subst, sym}
 use Rattle.std.specs.Io.KnownBytes.{Appends}
 use Rattle.pv_denial.specs.declared.denials.Denial.{Denial}
 use Rattle.pv_cli.specs.Certificates.{certificate_stage}

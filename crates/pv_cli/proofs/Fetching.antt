@@ -1,7 +1,6 @@
 -- What a fetch tells of the file, also where the shelf doesn't tell its files; and one fetch behind another.
 use Rattle.std.proofs.Common.{◌≡◌, ℕ, ◌+◌, ◌≤◌, List, [], ◌∷◌, length, replicate, Option, Some, None, Result, Ok, Err, Vec, Global, vec_len, IfOk, sym, ap, ◌∙◌, subst, refl, arith}
 use Rattle.std.proofs.lemmas.Grind.{common_steps}
-use Rattle.pv_dtd.specs.Plain.{PlainDtd}
 use Rattle.pv_dtd.specs.PlainForms.{plain_dtd}
 use Rattle.pv_dtd.specs.declared.dtd.Dtd.{Dtd}
 use Rattle.pv_io.specs.declared.shelf.FetchError.{FetchError}
@@ -11,7 +10,7 @@ use Rattle.pv_io.specs.Files.{FetchTells, FetchGives, HoldsMore, file_named}
 use Rattle.pv_cli.specs.declared.opening.Fetched.{Fetched}
 use Rattle.pv_cli.specs.declared.status.Status.TheVariants.{Limit}
 use Rattle.pv_cli.specs.Devices.{ShelfNow}
-use Rattle.pv_cli.specs.Opening.{AreFiles, IsFile, IsFetched, IsFileTooLong, document_fetch_stage, dtd_file_stage, fetch_stage, fetching_stage, file_at}
+use Rattle.pv_cli.specs.Opening.{AreFiles, IsFile, IsFetched, IsFileTooLong, document_fetch_stage, dtd_file_stage, fetch_stage, fetching_stage}
 use Rattle.pv_cli.specs.Response.{PlainResponse, with_line, plain_response}
 use Rattle.pv_cli.specs.Returns.{RefusesWith, Returns, ReturnsOver, ShelfCounts, StopCounts, StopsBy, plain_fetched}
 use Rattle.pv_cli.specs.Stage.{Stage, beside, followed_by}

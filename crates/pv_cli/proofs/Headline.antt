@@ -1,5 +1,5 @@
 -- A session that was begun answers its whole script.
-use Rattle.std.proofs.Common.{◌≡◌, ◌≤◌, ◌⊎◌, inl, inr, ℕ, Bool, true, false, List, [], ◌∷◌, ◌++◌, length, Option, Some, None, ap, refl, sym, ◌∙◌, subst, arith}
+use Rattle.std.proofs.Common.{◌≡◌, ◌⊎◌, inl, inr, ℕ, Bool, true, false, List, [], ◌∷◌, ◌++◌, Option, Some, None, ap, refl, sym, ◌∙◌, subst}
 use Rattle.std.proofs.lemmas.List.{append-nil}
 use Rattle.std.specs.Io.KnownBytes.{Appends, Consumes, IsAtEnd}
 use Rattle.pv_dtd.specs.Laws.{MeansDtd}
@@ -22,7 +22,6 @@ use Rattle.pv_cli.specs.Program.{ReadsAll, Runs, TakesInput}
 use Rattle.pv_cli.specs.Response.{PlainResponse}
 use Rattle.pv_cli.specs.Script.{IsWithin}
 use Rattle.pv_cli.specs.Session.{Converses, EndsSession, IsSessionCourse, Place, Replies, at_quit, ended_over, finished, guarding_stage, input_failed, output_failed, past_line, past_script, quitted, without_room}
-use Rattle.pv_cli.specs.Stage.{Behind}
 use Rattle.pv_cli.specs.declared.status.Status.{Status}
 use Rattle.pv_cli.specs.declared.status.Status.TheVariants.{Done}
 use Rattle.pv_cli.specs.declared.verb.Verb.TheVariants.{Session}

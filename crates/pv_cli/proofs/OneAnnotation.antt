@@ -1,5 +1,5 @@
 -- Over given files `standoff` has one response.
-use Rattle.std.proofs.Common.{◌≡◌, ◌∙◌, ℕ, List, Option, Result, Ok, Err, ap, codes, refl, subst, sym}
+use Rattle.std.proofs.Common.{◌≡◌, ◌∙◌, ℕ, List, Option, Ok, Err, ap, codes, refl, subst, sym}
 use Rattle.pv_chars.specs.Laws.{TextsMeanOne}
 use Rattle.pv_chars.specs.Units.{TextMeans}
 use Rattle.pv_chars.specs.declared.errors.TextError.{TextError}

@@ -1,15 +1,12 @@
 -- A document has one answer to `check`, whatever its marks are.
-use Rattle.std.proofs.Common.{◌≡◌, ℕ, List, [], ◌∷◌, ◌++◌, codes, length, map, refl, sym, ap, ◌∙◌, subst}
+use Rattle.std.proofs.Common.{◌≡◌, ℕ, List, ◌∷◌, ◌++◌, codes, length, refl, sym, ap, ◌∙◌, subst}
 use Rattle.std.specs.List.{AllByRecursion}
 use Rattle.pv_dtd.specs.Plain.{PlainDtd}
-use Rattle.pv_tree.specs.Heads.{heads_of}
 use Rattle.pv_tree.specs.Lists.{Listed, IsFirstNot, lists_of}
 use Rattle.pv_tree.specs.Marks.{unmarked_doc}
-use Rattle.pv_tree.specs.Plain.{Forest, no_trees, tree, Tree, element, text_node, cdata_node, misc_node, PlainDoc, without_marks}
-use Rattle.pv_tree.specs.Heads.{head_of}
+use Rattle.pv_tree.specs.Plain.{PlainDoc}
 use Rattle.pv_tree.specs.View.{view}
 use Rattle.pv_tree.specs.declared.nodes.Mark.{Mark}
-use Rattle.pv_tree.specs.declared.nodes.Verdict.{Verdict}
 use Rattle.pv_tree.proofs.Every.{all_right}
 use Rattle.pv_tree.proofs.Firsts.{one_first}
 use Rattle.pv_missing.proofs.VerdictHeads.{live_alike}

@@ -1,11 +1,11 @@
 -- A document has one response to `why`, and a denial of it one to `deny`, whatever the document's marks are.
-use Rattle.std.proofs.Common.{◌≡◌, ◌⊎◌, inl, inr, List, [], ◌∷◌, ◌++◌, Option, ap, arith, codes, decimal, map, refl, subst, sym, ℕ, ◌∙◌}
+use Rattle.std.proofs.Common.{◌≡◌, inl, inr, List, [], ◌∷◌, ◌++◌, Option, ap, arith, codes, decimal, map, refl, subst, sym, ℕ, ◌∙◌}
 use Rattle.std.specs.List.{Contains}
 use Rattle.pv_cache.specs.Stamps.{doc_as}
 use Rattle.pv_cache.proofs.ListMarks.{all_narrow_to, first_to, list_as, lists_as}
 use Rattle.pv_cache.proofs.OtherMarks.{heads_as, view_as, word_as}
 use Rattle.pv_denial.specs.Causes.{HasKidsInEmpty, HoldsOfList, IsCause}
-use Rattle.pv_denial.specs.Judging.{FailsAt, IsAbout, IsDenialJudged, IsNarrowFor, IsReached, IsRightCause, IsRightTable, IsTooWideFor, JudgesAt}
+use Rattle.pv_denial.specs.Judging.{IsAbout, IsDenialJudged, IsNarrowFor, IsReached, IsRightCause, IsRightTable, IsTooWideFor, JudgesAt}
 use Rattle.pv_denial.specs.Laws.{OneJudged}
 use Rattle.pv_denial.specs.declared.denials.Cause.{Cause}
 use Rattle.pv_denial.specs.declared.denials.Cause.TheVariants as cause
@@ -39,8 +39,7 @@ use Rattle.pv_cli.specs.Possibility.{width_stage}
 use Rattle.pv_cli.specs.Response.{PlainResponse, with_line}
 use Rattle.pv_cli.specs.Stage.{Behind, Responds}
 use Rattle.pv_cli.specs.Why.{IsWhyCourse, TellsWhy, has_too_many, is_denied as is_explained, is_possible}
-use Rattle.pv_cli.specs.declared.status.Status.{Status}
-use Rattle.pv_cli.specs.declared.status.Status.TheVariants.{BadPack, Done, Limit, Negative}
+use Rattle.pv_cli.specs.declared.status.Status.TheVariants.{BadPack, Done, Negative}
 use Rattle.pv_cli.proofs.OneCheck.{width_sure}
 use Rattle.pv_cli.proofs.OneOpening.{AreSameOpened, IsEqual, IsSure, RunsAs, fetch_sure, followed_sure, one_like, reading_sure, sure_at, told, unmarked_same}
 use Rattle.pv_cli.proofs.OneVerification.{AreSameFiles}

@@ -1,5 +1,5 @@
 -- Over given files a session begins in one state, and over a given script and silent lines it has one response, but for the documents of completions.
-use Rattle.std.proofs.Common.{◌≡◌, inl, inr, ℕ, ◌<◌, ◌++◌, Bool, List, codes, decimal, length, sym, ap, ◌∙◌, subst, arith}
+use Rattle.std.proofs.Common.{◌≡◌, ℕ, ◌<◌, ◌++◌, Bool, List, codes, decimal, length, sym, ap, ◌∙◌, subst, arith}
 use Rattle.pv_dtd.specs.Plain.{PlainDtd}
 use Rattle.pv_tree.specs.Marks.{unmarked_doc}
 use Rattle.pv_read.specs.DocumentLaws.{SpellsOneDocument}

@@ -3,12 +3,12 @@ use Rattle.std.proofs.Common.{◌≡◌, [], ◌∷◌, ◌++◌, ◌∙◌, ℕ
 use Rattle.std.proofs.lemmas.List.Elements.{All-contains}
 use Rattle.std.specs.List.{Contains}
 use Rattle.pv_cert.specs.Laws.{OneMeaning}
-use Rattle.pv_cert.specs.Meaning.{MAX_PACK_BYTES, Outcome, PackMeans, is_fault, is_pack, is_past_limit}
+use Rattle.pv_cert.specs.Meaning.{MAX_PACK_BYTES, PackMeans, is_fault, is_pack, is_past_limit}
 use Rattle.pv_cert.specs.declared.packs.Pack.{Pack}
 use Rattle.pv_closed.specs.ClosedTables.{AreNarrowTables, IsFirstWideTable, IsNarrowTable}
 use Rattle.pv_dtd.specs.Plain.{PlainDtd}
 use Rattle.pv_read.specs.DocumentLaws.{DocumentsMeanOne}
-use Rattle.pv_read.specs.Meaning.{DocumentMeans, document_limits, is_document}
+use Rattle.pv_read.specs.Meaning.{document_limits, is_document}
 use Rattle.pv_script.specs.Paths.{path_text}
 use Rattle.pv_tables.specs.declared.tables.Table.{Table}
 use Rattle.pv_tree.specs.Lists.{Listed, lists_of}

@@ -6,7 +6,7 @@ use Rattle.pv_read.specs.Kinds.{subset, syntax as bad_syntax, entity, mismatch, 
 use Rattle.pv_cli.specs.DenialFiles.{denial_file_stage, no_denial, too_large as too_large_denial}
 use Rattle.pv_cli.specs.Documents.{RefusesDocument, no_document, too_many_bytes}
 use Rattle.pv_cli.specs.Opening.{Files, IsFileTooLong, RefusesDtd, dtd_file_stage, no_dtd, opening_stage}
-use Rattle.pv_cli.specs.PackFiles.{RefusesPack, no_pack, pack_file_stage, too_large}
+use Rattle.pv_cli.specs.PackFiles.{no_pack, pack_file_stage, too_large}
 use Rattle.pv_cli.specs.Parameters.{RefusesParameters, not_expanded}
 use Rattle.pv_cli.specs.Response.{PlainResponse}
 use Rattle.pv_cli.specs.declared.status.Status.{Status}

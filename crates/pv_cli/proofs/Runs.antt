@@ -13,14 +13,14 @@ use Rattle.pv_cli.specs.declared.verb.Verb.TheVariants.{Session}
 use Rattle.pv_session.specs.Sessions.{PlainSession}
 use Rattle.pv_cli.specs.Checking.{CountsChecked, lines_taken, none_checked}
 use Rattle.pv_cli.specs.CommandLine.{PlainCommandLine, files_named, on_document, on_dtd}
-use Rattle.pv_cli.specs.Commands.{GoesOn, IsDocumentCourse, VerbTells, lines_checked}
+use Rattle.pv_cli.specs.Commands.{GoesOn, VerbTells, lines_checked}
 use Rattle.pv_cli.specs.Conversation.{Talked}
 use Rattle.pv_cli.specs.Course.{Course, after_fetches, responds, without_input}
 use Rattle.pv_cli.specs.Devices.{InputNow, OutputNow, ShelfNow, devices}
 use Rattle.pv_cli.specs.Documents.{PlainOpened, document_stage}
 use Rattle.pv_cli.specs.Dtd.{TellsDtd}
-use Rattle.pv_cli.specs.Opening.{AreFiles, Files, IsFile, dtd_file_stage, fetching_stage, file_at, opening_stage}
-use Rattle.pv_cli.specs.Program.{ChecksLists, CountsInput, CountsShelf, IsDefined, Runs, ShowsShelf, ShowsStreams, WritesEnding}
+use Rattle.pv_cli.specs.Opening.{AreFiles, IsFile, dtd_file_stage, fetching_stage, opening_stage}
+use Rattle.pv_cli.specs.Program.{ChecksLists, CountsInput, CountsShelf, IsDefined, Runs, ShowsStreams, WritesEnding}
 use Rattle.pv_cli.specs.Response.{plain_response}
 use Rattle.pv_cli.specs.Returns.{DoesRest, TakesCourse, FindsResponse, ReturnsOver, StopsBy, TellsBy, ending_of, plain_fetched, session_stage}
 use Rattle.pv_cli.specs.Session.{guarding_stage}

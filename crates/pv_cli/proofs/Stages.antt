@@ -1,5 +1,5 @@
 -- Stages, one behind another, with the files that they fetch, up to where a run stops.
-use Rattle.std.proofs.Common.{◌≡◌, inl, inr, ℕ, ◌+◌, List, [], ◌∷◌, Option, Some, None, Result, Ok, Err, ap, refl, sym, subst, arith}
+use Rattle.std.proofs.Common.{◌≡◌, inl, inr, ℕ, ◌+◌, List, Option, Some, None, Result, Ok, Err, ap, refl, sym, subst, arith}
 use Rattle.pv_io.specs.Causes.{CountStays}
 use Rattle.pv_io.specs.Files.{file_named}
 use Rattle.pv_cli.specs.declared.response.Response.{Response}

@@ -1,16 +1,15 @@
 -- Where the words are a command, and its files and its script are within their grammars and limits,
 -- there is an answer.
-use Rattle.std.proofs.Common.{◌≡◌, ◌⊎◌, ◌≤◌, ◌<◌, inl, inr, ℕ, Bool, true, false, List, length}
-use Rattle.std.proofs.Common.{Option, Result, Ok, Err, refl, sym, subst, arith}
+use Rattle.std.proofs.Common.{◌⊎◌, ◌≤◌, ◌<◌, inl, inr, ℕ, List}
+use Rattle.std.proofs.Common.{Option, Ok, Err, refl, sym, subst, arith}
 use Rattle.pv_cert.specs.Laws.{OneMeaning as PacksMeanOne}
-use Rattle.pv_cert.specs.Meaning.{PackMeans, is_fault, is_pack, is_past_limit}
+use Rattle.pv_cert.specs.Meaning.{is_fault, is_pack, is_past_limit}
 use Rattle.pv_chars.specs.Laws.{TextsMeanOne}
 use Rattle.pv_denial_text.specs.Laws.{OneMeaning as DenialsMeanOne}
 use Rattle.pv_denial_text.specs.Meaning.{is_denial, is_fault as is_table_fault}
 use Rattle.pv_denial_text.specs.Meaning.{is_past_limit as is_past_table_limit}
 use Rattle.pv_dtd.specs.Laws.{OneMeaning as DtdsMeanOne}
 use Rattle.pv_dtd.specs.Meaning.{is_dtd, faulty as faulty_dtd}
-use Rattle.pv_io.specs.Causes.{Rose}
 use Rattle.pv_params.specs.Laws.{AtMostOne}
 use Rattle.pv_params.specs.Meaning.{expanded, faulty as faulty_parameters}
 use Rattle.pv_read.specs.DocumentLaws.{DocumentsMeanOne}

@@ -1,6 +1,6 @@
 -- What `standoff DTD ROOT TEXT RANGES` responds.
 use Rattle.std.specs.Prelude.{◌≡◌, ◌≤◌, ◌+◌, ℕ, List, [], ◌∷◌, ◌++◌, length, codes, decimal}
-use Rattle.std.specs.Prelude.{Option, Result, Ok, Err}
+use Rattle.std.specs.Prelude.{Option, Ok, Err}
 use Rattle.pv_chars.specs.Units.{TextMeans}
 use Rattle.pv_chars.specs.declared.errors.TextError.{TextError}
 use Rattle.pv_chars.specs.declared.errors.TextError.TheVariants as fault

@@ -4,7 +4,7 @@ use Rattle.std.specs.List.{AllByRecursion}
 use Rattle.std.proofs.Common.{List, None, Option, Some, [], arith, length, map, refl, suc, zero, ℕ, ◌++◌, ◌<◌, ◌∷◌, ◌≡◌, ◌≤◌}
 use Rattle.pv_model.specs.Plain.{PlainModel, PlainPart, PlainParts, any, children, choice, empty, mixed, name, no_parts, opt, part, plus, seq, star}
 use Rattle.pv_dtd.specs.Plain.{PlainDtd, parts_in_models}
-use Rattle.pv_rules.specs.Numbering.{Numbered, listed_name, numbered_choices, numbered_members, numbered_model, numbered_models, numbered_particle, part_at, rest_at}
+use Rattle.pv_rules.specs.Numbering.{Numbered, listed_name, numbered_choices, numbered_members, numbered_model, numbered_models, numbered_particle, rest_at}
 use Rattle.pv_rules.specs.Sites.{HasSite, PlainSite, content_site, name_site, part_site, rest_site}
 use Rattle.pv_rules.proofs.Facts.{parts_by_number}
 use Rattle.pv_rules.proofs.FlatKinds.{IsNoRest}

@@ -1,6 +1,6 @@
 -- The Possible lists of a document that misses at most 1,000,000 elements are light, and which list comes next in a walk.
 use Rattle.std.specs.Option.{option_map}
-use Rattle.std.proofs.Common.{List, None, Option, Some, [], append_assoc, arith, drop, inl, inr, refl, subst, suc, sym, true, length, ℕ, ◌++◌, ◌+◌, ◌<◌, ◌∙◌, ◌∷◌, ◌≡◌, ◌≢◌}
+use Rattle.std.proofs.Common.{List, None, Option, Some, [], append_assoc, arith, drop, refl, subst, suc, sym, true, length, ℕ, ◌++◌, ◌<◌, ◌∙◌, ◌∷◌, ◌≡◌, ◌≢◌}
 use Rattle.std.proofs.Math.Logic.{∥∥₁_elim, ∥∥₁_map}
 use Rattle.std.specs.List.{AllByRecursion}
 use Rattle.pv_dtd.specs.Plain.{PlainDtd}
@@ -23,7 +23,7 @@ use Rattle.pv_missing.specs.PlainForms.{plain_of}
 use Rattle.pv_missing.specs.Proper.{IsProperDoc}
 use Rattle.pv_missing.specs.Verdicts.{AreVerdicts, IsLive, IsVerdict}
 use Rattle.pv_missing.specs.Weighing.{BoundInAll, IsBound, site_of, whole}
-use Rattle.pv_missing.specs.Widths.{FitsWeights, IsListForWeights}
+use Rattle.pv_missing.specs.Widths.{FitsWeights}
 use Rattle.pv_missing.specs.declared.owners.Of.{Of}
 use Rattle.pv_tables.specs.WeightLaws.{LiveWeighs, LiveWeight}
 use Rattle.pv_complete.specs.Loads.{UsesVerdict}

@@ -1,8 +1,8 @@
 -- Walks that make tables, part by part.
-use Rattle.std.proofs.Common.{List, [], append-nil, append_assoc, ap, arith, drop, length, refl, sym, ℕ, ◌+◌, ◌++◌, ◌<◌, ◌∙◌, ◌≤◌, ◌∷◌, ◌≡◌, false, inl, inr, true}
+use Rattle.std.proofs.Common.{List, [], append-nil, append_assoc, ap, arith, drop, length, refl, sym, ℕ, ◌+◌, ◌++◌, ◌∙◌, ◌∷◌, ◌≡◌, false, inl, inr}
 use Rattle.pv_dtd.specs.Plain.{PlainDtd}
 use Rattle.pv_model.specs.Plain.{PlainToken}
-use Rattle.pv_tree.specs.Lists.{IsFirstNot, Listed, lists_of}
+use Rattle.pv_tree.specs.Lists.{Listed, lists_of}
 use Rattle.pv_tree.specs.Plain.{Forest, PlainDoc}
 use Rattle.pv_tree.specs.Words.{word_of}
 use Rattle.pv_tree.proofs.Every.{all_joined}
@@ -19,10 +19,10 @@ use Rattle.std.specs.Prelude.{None}
 use Rattle.pv_tables.specs.declared.tables.Entry.{Entry}
 use Rattle.pv_tables.specs.declared.tables.Table.{Table}
 use Rattle.pv_complete.specs.Loads.{UsesVerdict}
-use Rattle.pv_complete.specs.Needing.{CanWeigh, HasCause, Needs, StopsAtWide}
-use Rattle.pv_tables.specs.Tables.{AreAllEntries, AreTables, IsTableOf, entries_in, no_list, other_list, possible_list}
-use Rattle.pv_complete.specs.Tables.{HasMore, HasTables, HasTablesCause, most_entries}
-use Rattle.pv_complete.specs.Tabling.{AreListEntries, HasMoreEntries, Makes, MakesTables, PlainMade, StopsKids, StopsLists, StopsTables, StopsWord}
+use Rattle.pv_complete.specs.Needing.{CanWeigh, HasCause, Needs}
+use Rattle.pv_tables.specs.Tables.{AreTables, IsTableOf, entries_in, no_list, other_list, possible_list}
+use Rattle.pv_complete.specs.Tables.{HasTables, HasTablesCause, most_entries}
+use Rattle.pv_complete.specs.Tabling.{AreListEntries, Makes, MakesTables, PlainMade, StopsKids, StopsLists, StopsTables, StopsWord}
 use Rattle.pv_complete.specs.declared.errors.NeedError.{NeedError}
 use Rattle.pv_complete.specs.declared.errors.NeedError.TheVariants.{Impossible, NoMemory, TooHeavy, TooMany, TooWide}
 use Rattle.pv_complete.proofs.Adding.{live_site}

@@ -1,6 +1,6 @@
 -- A document has one answer to how many elements are missing in it.
 use Rattle.std.specs.Prelude.{Err, IfErr, Ok, Result}
-use Rattle.std.proofs.Common.{List, ap, arith, inl, inr, refl, subst, ℕ, ◌++◌, ◌<◌, ◌∷◌, ◌≡◌, ◌⊎◌}
+use Rattle.std.proofs.Common.{List, ap, arith, inl, inr, refl, subst, ℕ, ◌++◌, ◌∷◌, ◌≡◌, ◌⊎◌}
 use Rattle.std.specs.List.{AllByRecursion}
 use Rattle.pv_dtd.specs.Plain.{PlainDtd}
 use Rattle.pv_dtd.specs.Proper.{IsProperDtd}

@@ -1,16 +1,10 @@
 -- What a site over a span, which weighs at most 1,000,000, tells of the site that it is.
-use Rattle.std.proofs.Common.{Bool, None, Option, Some, ap, arith, false, length, map, refl, true, ℕ, ◌<◌, ◌∙◌, ◌≡◌}
-use Rattle.std.specs.Prelude.{IsSome, IsTrue, nat_lt}
-use Rattle.std.proofs.Math.Logic.{∥∥₁_elim}
-use Rattle.std.proofs.lemmas.Bool.{lt-ltb, ltb-true}
-use Rattle.std.specs.Coded.{Coded-set, coded_ℕ}
+use Rattle.std.proofs.Common.{ap, arith, map, ◌<◌, ◌∙◌, ◌≡◌}
 use Rattle.pv_model.specs.PlainForms.{plain_token}
-use Rattle.pv_dtd.specs.Plain.{PlainDtd}
 use Rattle.pv_rules.specs.Derivations.{heaviest}
-use Rattle.pv_rules.specs.Numbering.{part_at, rest_at}
 use Rattle.pv_rules.specs.PlainForms.{plain_site}
 use Rattle.pv_rules.specs.Rules.{IsSpan, over}
-use Rattle.pv_rules.specs.Sites.{HasSite, PlainSite, content_site, name_site, part_site, rest_site}
+use Rattle.pv_rules.specs.Sites.{HasSite, PlainSite}
 use Rattle.pv_productive.specs.PlainForms.{dtd_of}
 use Rattle.pv_span.proofs.KnownSites.{known_site}
 use Rattle.pv_span.specs.Weights.{weight_of}

@@ -1,5 +1,5 @@
 -- The entries that a walk over sites and spans has listed are those of the word.
-use Rattle.std.proofs.Common.{List, arith, get_or, length, sym, ℕ, ◌<◌, ◌≡◌, ◌≤◌}
+use Rattle.std.proofs.Common.{List, arith, get_or, length, ℕ, ◌<◌, ◌≤◌}
 use Rattle.std.specs.List.{All, AllPairs}
 use Rattle.pv_model.specs.Plain.{PlainToken}
 use Rattle.pv_dtd.specs.Plain.{PlainDtd}
@@ -12,7 +12,7 @@ use Rattle.pv_span.specs.Weights.{AreWeights, tokens_of, weight_of}
 use Rattle.pv_tables.specs.declared.tables.Entry.{Entry}
 use Rattle.pv_span.specs.declared.weighing.Spans.{Spans}
 use Rattle.pv_complete.specs.Listings.{HasMoreLight, IsLight, IsListedTo, StopsListing, key}
-use Rattle.pv_tables.specs.Tables.{AreAllEntries, AreEntries, IsEntry, Precedes, kind_rank, key_of, site_number}
+use Rattle.pv_tables.specs.Tables.{AreAllEntries, AreEntries, IsEntry, Precedes, kind_rank, site_number}
 use Rattle.pv_complete.specs.Tabling.{HasMoreEntries, StopsWord}
 use Rattle.pv_complete.specs.declared.errors.NeedError.{NeedError}
 use Rattle.pv_complete.specs.declared.errors.NeedError.TheVariants.{Impossible, NoMemory, TooHeavy, TooMany, TooWide}

@@ -1,7 +1,7 @@
 -- A search for a Possible list that is too wide for weights, part by part.
 use Rattle.std.specs.Prelude.{not}
 use Rattle.std.proofs.lemmas.List.{length-map}
-use Rattle.std.proofs.Common.{ap, map, sym, ◌∙◌, Bool, List, [], ◌*◌, ◌/◌, append-nil, append_assoc, arith, drop, false, length, refl, suc, true, ℕ, ◌+◌, ◌++◌, ◌≤◌, ◌∷◌, ◌≡◌}
+use Rattle.std.proofs.Common.{ap, map, sym, ◌∙◌, Bool, List, [], ◌*◌, ◌/◌, append-nil, append_assoc, arith, drop, false, length, refl, suc, true, ℕ, ◌++◌, ◌≤◌, ◌∷◌, ◌≡◌}
 use Rattle.std.proofs.Math.Nat.{mul-le-mul, mul-le-mul_right}
 use Rattle.std.specs.List.{AllByRecursion}
 use Rattle.pv_model.specs.Plain.{PlainToken}
@@ -15,10 +15,9 @@ use Rattle.pv_tree.specs.declared.nodes.Mark.{Mark}
 use Rattle.pv_tree.specs.declared.nodes.Verdict.{Verdict}
 use Rattle.pv_missing.specs.Verdicts.{AreVerdicts}
 use Rattle.pv_missing.specs.Widths.{FitsWeights, IsListForWeights, columns_of}
-use Rattle.pv_tree.specs.declared.nodes.Verdict.TheVariants as verdict
 use Rattle.pv_complete.specs.Loads.{UsesVerdict}
 use Rattle.pv_complete.specs.Needing.{CanWeigh}
-use Rattle.pv_complete.specs.WideLists.{FindsWide, PassesNarrowLists, PassesLists, StopsList}
+use Rattle.pv_complete.specs.WideLists.{FindsWide, PassesLists, StopsList}
 use Rattle.pv_complete.proofs.Adding.{adds_other, stops_here}
 
 -- fewer tokens are no wider

@@ -1,14 +1,13 @@
 -- Entries that are listed one after another, as the walk over sites and spans carries the proof.
 use Rattle.std.specs.Prelude.{List, [], length, ℕ, ◌<◌, ◌∷◌, ◌≡◌, ◌≤◌}
 use Rattle.std.specs.List.{All, AllPairs, Contains}
-use Rattle.pv_model.specs.Plain.{PlainToken}
 use Rattle.pv_dtd.specs.Plain.{PlainDtd}
 use Rattle.pv_rules.specs.Derivations.{heaviest}
 use Rattle.pv_rules.specs.PlainForms.{plain_site}
 use Rattle.pv_rules.specs.Rules.{Goal, over}
 use Rattle.pv_rules.specs.Sites.{HasSite}
 use Rattle.pv_tables.specs.declared.tables.Entry.{Entry}
-use Rattle.pv_tables.specs.Tables.{AreEntries, IsBefore, Precedes, key_of}
+use Rattle.pv_tables.specs.Tables.{IsBefore, Precedes, key_of}
 use Rattle.pv_complete.specs.declared.errors.NeedError.{NeedError}
 use Rattle.pv_complete.specs.declared.errors.NeedError.TheVariants.{Impossible, NoMemory, TooHeavy}
 use Rattle.pv_complete.specs.declared.errors.NeedError.TheVariants.{TooMany, TooWide}

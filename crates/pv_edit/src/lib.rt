@@ -1,5 +1,5 @@
 //! Edits of a document. `shape` tells whether an edit can be made, and else its first reason
-//! (`reason_of`); `apply` makes it (`applied`), by one change of one list (`change_of`,
+//! (`reason_of`); `apply` makes it (`edit_outcome`), by one change of one list (`change_of`,
 //! `doc_after`), and gives its inverse (`inverse_of`); `revert` makes the change of an inverse
 //! (`change_back`, `doc_back`), which leads back to the document before the edit (`LeadsBack`). An
 //! error leaves the document as it was. `prepare` and `prepare_back` make ready what each is going

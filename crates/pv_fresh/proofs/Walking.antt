@@ -1,10 +1,10 @@
 -- Walks over lists, part by part.
-use Rattle.std.proofs.Common.{Err, List, None, Ok, Option, Result, Some, [], add-one, append-nil, append_assoc, arith, length, length-append, refl, subst, sym, ℕ, ◌+◌, ◌++◌, ◌≤◌, ◌∷◌, ◌≡◌}
+use Rattle.std.proofs.Common.{Err, List, None, Ok, Option, Result, Some, [], append-nil, append_assoc, arith, length, length-append, refl, subst, sym, ℕ, ◌+◌, ◌++◌, ◌≤◌, ◌∷◌, ◌≡◌}
 use Rattle.std.specs.Prelude.{IsNone, MatchOption, MatchResult, OnOk, ◌↔◌}
 use Rattle.std.specs.List.{AllByRecursion}
 use Rattle.pv_dtd.specs.Plain.{PlainDtd}
-use Rattle.pv_tree.specs.Lists.{IsFirstNot, Listed, an_element, lists_at, lists_from, lists_of, the_document}
-use Rattle.pv_tree.specs.Plain.{Forest, PlainDoc, Tree, no_trees, tree}
+use Rattle.pv_tree.specs.Lists.{IsFirstNot, Listed, lists_at, lists_of, the_document}
+use Rattle.pv_tree.specs.Plain.{PlainDoc, no_trees, tree}
 use Rattle.pv_tree.specs.View.{view}
 use Rattle.pv_tree.proofs.Every.{all_joined, all_right}
 use Rattle.pv_tree.proofs.Firsts.{first_before, first_behind}

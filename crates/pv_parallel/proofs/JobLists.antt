@@ -1,8 +1,8 @@
 -- The lists of nodes, and jobs in the order of their lists.
-use Rattle.std.proofs.Common.{List, [], add-zero, add_assoc, ap, append-nil, append_assoc, arith, drop, get_or, length, length-append, max, refl, subst, suc, sym, take, ℕ, ◌+◌, ◌++◌, ◌<◌, ◌∙◌, ◌∷◌, ◌≡◌, ◌≤◌}
+use Rattle.std.proofs.Common.{List, [], add-zero, ap, append-nil, append_assoc, arith, drop, get_or, length, length-append, max, refl, subst, suc, sym, take, ℕ, ◌+◌, ◌++◌, ◌<◌, ◌∙◌, ◌∷◌, ◌≡◌, ◌≤◌}
 use Rattle.std.proofs.lemmas.List.{length-drop, length-take-le, take-append-drop, take_more}
 use Rattle.std.specs.List.{AllByRecursion}
-use Rattle.pv_tree.specs.Lists.{Listed, an_element, lists_at, lists_from, lists_of, the_document}
+use Rattle.pv_tree.specs.Lists.{Listed, lists_at, lists_from, lists_of, the_document}
 use Rattle.pv_tree.specs.Plain.{Forest, PlainDoc, Tree, cdata_node, element, misc_node, no_trees, nodes_in, nodes_in_all, text_node, tree}
 use Rattle.pv_tree.specs.PlainForms.{forest, plain}
 use Rattle.pv_tree.specs.declared.nodes.Mark.{Mark}

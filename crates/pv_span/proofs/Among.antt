@@ -1,6 +1,6 @@
 -- The least value of the columns that a loop has passed.
 use Rattle.std.specs.Prelude.{min}
-use Rattle.std.proofs.Common.{List, Some, arith, get_or, inl, inr, length, refl, slice_get, ℕ, ◌+◌, ◌<◌, ◌≡◌, ◌≤◌, ◌⊎◌}
+use Rattle.std.proofs.Common.{List, Some, arith, get_or, inl, inr, length, slice_get, ℕ, ◌+◌, ◌<◌, ◌≡◌, ◌≤◌, ◌⊎◌}
 use Rattle.std.proofs.lemmas.Bool.{cases_lt}
 use Rattle.std.proofs.lemmas.Option.{slice_get-get_or, slice_get_within}
 use Rattle.pv_productive.specs.Tables.{no_size}

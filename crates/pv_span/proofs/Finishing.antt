@@ -1,7 +1,7 @@
 -- Spans that are done, one after another, and the chart of all spans.
 use Rattle.std.specs.Prelude.{min}
 use Rattle.std.specs.List.{AllByRecursion}
-use Rattle.std.proofs.Common.{Bool, List, [], arith, inl, inr, length, length-append, refl, suc, ℕ, ◌++◌, ◌+◌, ◌<◌, ◌-◌, ◌∙◌, ◌∷◌, ◌≡◌, ◌≤◌, ◌↔◌}
+use Rattle.std.proofs.Common.{List, [], arith, inl, inr, length, length-append, refl, suc, ℕ, ◌++◌, ◌+◌, ◌<◌, ◌-◌, ◌∙◌, ◌∷◌, ◌≡◌, ◌≤◌, ◌↔◌}
 use Rattle.std.proofs.Math.ListN.{get_or-append, get_or-eq_default}
 use Rattle.std.proofs.Math.Seq.{get_or-append_seam}
 use Rattle.std.proofs.lemmas.Bool.{cases_lt}
@@ -11,12 +11,12 @@ use Rattle.pv_rules.specs.Derivations.{Derives, IsClosed, IsClosedSet, IsWeight,
 use Rattle.pv_rules.specs.Rules.{IsSpan}
 use Rattle.pv_rules.proofs.Derived.{closed_below, held}
 use Rattle.pv_productive.specs.Tables.{capped, no_size, size_at}
-use Rattle.pv_productive.proofs.Cutting.{cut_few, cut_many}
-use Rattle.pv_span.specs.Charts.{AreSettled, HasValue, IsAttainedChart, IsDone, IsFilled, IsSettling, HasDone, IsSettledAt, IsSoundChart, PlainChart, row_of_span, span_number, spans_before, value_of}
+use Rattle.pv_productive.proofs.Cutting.{cut_few}
+use Rattle.pv_span.specs.Charts.{AreSettled, HasValue, IsAttainedChart, IsDone, IsFilled, HasDone, IsSettledAt, IsSoundChart, PlainChart, row_of_span, span_number, spans_before, value_of}
 use Rattle.pv_span.specs.ColumnRules.{Cell, ColumnRule, cell}
 use Rattle.pv_span.specs.Forms.{PlainForm, form_at, of_none}
 use Rattle.pv_span.proofs.ColumnFacts.{column_spans, small_columns}
-use Rattle.pv_span.proofs.Numbering.{later_spans, next_number, within}
+use Rattle.pv_span.proofs.Numbering.{later_spans, within}
 use Rattle.pv_span.proofs.Settling.{at_hand, resound}
 
 -- spans of one number are one span

@@ -1,6 +1,6 @@
 -- What stands in columns can be looked up: that it fits is known where it is known that there is a proof of it.
 use Rattle.std.specs.Coded.{Coded-set, coded_bool, coded_list, coded_ℕ}
-use Rattle.std.proofs.Common.{Bool, List, None, Option, Some, [], ap, arith, false, inl, inr, length, refl, slice_get, suc, sym, true, zero, ℕ, ◌+◌, ◌<◌, ◌∙◌, ◌∷◌, ◌≡◌, ◌≢◌}
+use Rattle.std.proofs.Common.{Bool, List, None, Option, Some, [], ap, arith, false, inl, inr, length, refl, suc, sym, true, zero, ℕ, ◌+◌, ◌<◌, ◌∙◌, ◌∷◌, ◌≡◌, ◌≢◌}
 use Rattle.std.proofs.Math.Logic.{∥∥₁_elim, ∥∥₁_map}
 use Rattle.std.proofs.lemmas.Bool.{cases_lt}
 use Rattle.std.proofs.lemmas.Option.{slice_get_within}
@@ -8,10 +8,10 @@ use Rattle.pv_model.specs.Plain.{PlainModel, PlainPart, PlainParts, any, childre
 use Rattle.pv_dtd.specs.Plain.{IsDeclared, PlainDtd, declared, model_of, parts_in}
 use Rattle.pv_rules.specs.Numbering.{IsMemberAt, first_part, here, later, part_at, rest_at}
 use Rattle.pv_rules.proofs.Members.{member_within, some_part}
-use Rattle.pv_rules.specs.Sites.{HasSite, PlainSite, content_site, name_site, part_site, rest_site}
+use Rattle.pv_rules.specs.Sites.{content_site, name_site, part_site, rest_site}
 use Rattle.pv_productive.specs.PlainForms.{dtd_of}
 use Rattle.pv_span.specs.ColumnRules.{IsOneOf}
-use Rattle.pv_span.specs.Columns.{AreColumns, AreFit, FitsContent, FitsPart, FitsRest, FitsSite, HoldsMixed, IsMember, PlainSites, column_at, column_of}
+use Rattle.pv_span.specs.Columns.{AreColumns, AreFit, FitsContent, FitsPart, FitsRest, HoldsMixed, IsMember, PlainSites, column_at, column_of}
 use Rattle.pv_span.specs.FormForms.{plain_all}
 use Rattle.pv_span.specs.Forms.{PlainForm, form_at, of_element, of_none, of_nothing, of_one, of_opt, of_plus, of_star, of_two}
 use Rattle.pv_span.specs.PlainForms.{plain_sites}

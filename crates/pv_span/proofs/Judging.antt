@@ -1,5 +1,5 @@
 -- The verdict of a list by its live word.
-use Rattle.std.proofs.Common.{Bool, List, Some, subst, ◌≡◌}
+use Rattle.std.proofs.Common.{Bool, List, Some, subst}
 use Rattle.pv_model.specs.Plain.{PlainToken}
 use Rattle.pv_dtd.specs.Plain.{PlainDtd}
 use Rattle.pv_rules.specs.Sites.{PlainSite}

@@ -1,6 +1,6 @@
 -- A DTD that has a site has columns.
 use Rattle.std.specs.Prelude.{IsSome, option_and_then, option_map}
-use Rattle.std.proofs.Common.{List, None, Option, Some, arith, length, slice_get, ℕ, ◌<◌, ◌≡◌, ◌≤◌, refl}
+use Rattle.std.proofs.Common.{None, Option, Some, arith, slice_get, ℕ, ◌<◌, ◌≡◌, refl}
 use Rattle.std.proofs.lemmas.Option.{slice_get_within}
 use Rattle.pv_dtd.specs.Plain.{PlainDtd}
 use Rattle.pv_rules.specs.Numbering.{Numbered, numbered_models}

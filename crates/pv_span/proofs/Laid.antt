@@ -1,7 +1,6 @@
 -- Columns that are laid, a part or a content after another.
 use Rattle.std.specs.Prelude.{IsSome, option_map}
-use Rattle.std.specs.List.{range_with_len}
-use Rattle.std.proofs.Common.{List, None, Option, Some, [], ap, arith, false, true, get_or-set_other, get_or-set_same, inl, inr, length, length-append, map, refl, set, slice_get, subst, suc, sym, ℕ, ◌++◌, ◌+◌, ◌-◌, ◌<◌, ◌∙◌, ◌∷◌, ◌≡◌, ◌≢◌, ◌≤◌, ◌⊎◌}
+use Rattle.std.proofs.Common.{List, None, Option, Some, [], ap, arith, false, true, get_or-set_other, get_or-set_same, inl, inr, length, length-append, refl, set, slice_get, subst, suc, sym, ℕ, ◌++◌, ◌+◌, ◌<◌, ◌∙◌, ◌∷◌, ◌≡◌, ◌≢◌, ◌≤◌, ◌⊎◌}
 use Rattle.std.proofs.Math.ListN.{get_or-append, get_or-eq_default, length-set}
 use Rattle.std.proofs.Math.Seq.{get_or-append_right, get_or-append_seam}
 use Rattle.std.proofs.lemmas.Bool.{cases_lt}

@@ -1,12 +1,12 @@
 -- The least value that the rules give a column over a span, by what stands there.
 use Rattle.std.specs.Prelude.{min}
-use Rattle.std.proofs.Common.{Bool, List, Some, [], arith, false, inl, inr, refl, slice_get, suc, true, ℕ, ◌+◌, ◌<◌, ◌∷◌, ◌≡◌, ◌≤◌, ◌⊎◌}
+use Rattle.std.proofs.Common.{Bool, List, Some, [], arith, false, inl, inr, refl, slice_get, suc, true, ℕ, ◌+◌, ◌<◌, ◌∷◌, ◌≡◌, ◌≤◌}
 use Rattle.std.proofs.lemmas.Bool.{cases_lt}
 use Rattle.pv_model.specs.Plain.{PlainToken, named, text}
 use Rattle.pv_rules.specs.Derivations.{sum_of}
 use Rattle.pv_rules.specs.Rules.{IsSpan}
 use Rattle.pv_productive.specs.Tables.{no_size}
-use Rattle.pv_span.specs.ColumnRules.{Cell, ColumnRule, FormRule, IsOneOf, ToOne, ToText, ToTwo, cell}
+use Rattle.pv_span.specs.ColumnRules.{Cell, ColumnRule, FormRule, ToOne, ToText, ToTwo, cell}
 use Rattle.pv_span.specs.Forms.{PlainForm, form_at, of_element, of_none, of_nothing, of_one, of_opt, of_plus, of_star, of_two}
 use Rattle.pv_span.specs.Least.{IsLeastAt, IsLeastCut, IsLeastMember, IsTextValue}
 

@@ -1,13 +1,13 @@
 -- Sites derive what their columns do.
 use Rattle.std.specs.Prelude.{IsTrue}
-use Rattle.std.proofs.Common.{List, None, length, Option, Some, [], ap, arith, false, inl, inr, refl, slice_get, suc, sym, true, zero, ℕ, ◌*◌, ◌+◌, ◌-◌, ◌<◌, ◌∷◌, ◌∙◌, ◌≡◌, ◌≤◌, ◌⊎◌}
-use Rattle.pv_model.specs.Plain.{PlainModel, PlainPart, PlainParts, PlainToken, any, children, choice, empty, mixed, name, named, no_parts, opt, part, plus, seq, star}
+use Rattle.std.proofs.Common.{List, None, length, Option, Some, [], arith, false, inl, inr, refl, suc, true, ℕ, ◌+◌, ◌<◌, ◌∷◌, ◌≡◌, ◌≤◌}
+use Rattle.pv_model.specs.Plain.{PlainModel, PlainPart, PlainParts, PlainToken, any, children, choice, empty, mixed, name, no_parts, opt, part, plus, seq, star}
 use Rattle.pv_dtd.specs.Facts.{are_known}
 use Rattle.pv_dtd.specs.Plain.{PlainDtd, declared, model_of, parts_in}
 use Rattle.pv_rules.specs.Derivations.{Derives}
-use Rattle.pv_rules.specs.Kinds.{OfContent, OfName, OfPart, OfRest, ToNone, ToOne, ToText, ToTwo}
+use Rattle.pv_rules.specs.Kinds.{OfContent, OfName, OfPart, OfRest, ToOne, ToTwo}
 use Rattle.pv_rules.specs.Numbering.{first_part, part_at, rest_at}
-use Rattle.pv_rules.specs.Rules.{Goal, IsSpan, Rule, over}
+use Rattle.pv_rules.specs.Rules.{Goal, Rule, over}
 use Rattle.pv_rules.specs.Sites.{HasSite, PlainSite, content_site, name_site, part_site, rest_site}
 use Rattle.pv_rules.proofs.ByKind.{by_kind}
 use Rattle.pv_rules.proofs.Derived.{HaveAll, passed}

@@ -1,12 +1,9 @@
 -- The weights of sites, by the chart of their columns.
 use Rattle.std.specs.Prelude.{IsTrue, min}
-use Rattle.std.proofs.Common.{List, arith, inl, inr, length, map, ℕ, suc, ◌*◌, ◌/◌, ◌<◌, ◌↔◌, ◌≡◌, ◌≤◌}
+use Rattle.std.proofs.Common.{List, arith, inl, inr, length, ℕ, suc, ◌*◌, ◌/◌, ◌<◌, ◌↔◌, ◌≤◌}
 use Rattle.std.proofs.Math.Nat.{mul-le-mul}
 use Rattle.std.proofs.lemmas.Bool.{cases_lt}
-use Rattle.std.proofs.lemmas.List.{length-map}
 use Rattle.pv_model.specs.Plain.{PlainToken}
-use Rattle.pv_model.specs.PlainForms.{plain_token}
-use Rattle.pv_model.specs.declared.models.Token.{Token}
 use Rattle.pv_dtd.specs.Facts.{are_known}
 use Rattle.pv_dtd.specs.Plain.{PlainDtd, declared}
 use Rattle.pv_rules.specs.Derivations.{Derives, IsWeight, heaviest}

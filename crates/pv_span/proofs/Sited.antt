@@ -1,6 +1,5 @@
 -- What is within and behind a site is a site of the DTD.
-use Rattle.std.specs.Prelude.{IsSome}
-use Rattle.std.proofs.Common.{List, Some, arith, get_or, refl, ℕ, ◌+◌, ◌<◌, ◌≡◌, length}
+use Rattle.std.proofs.Common.{List, Some, get_or, refl, ℕ, ◌+◌, ◌<◌, ◌≡◌, length}
 use Rattle.std.proofs.lemmas.Option.{slice_get-get_or}
 use Rattle.pv_model.specs.Plain.{PlainPart, PlainParts, children, mixed, name}
 use Rattle.pv_dtd.specs.Plain.{PlainDtd, model_of}

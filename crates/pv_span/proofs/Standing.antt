@@ -1,19 +1,19 @@
 -- Columns derive nothing that the sites that share them don't.
 use Rattle.std.specs.Prelude.{IsTrue}
-use Rattle.std.proofs.Common.{List, None, length, Option, Some, [], arith, false, inl, inr, refl, slice_get, suc, sym, true, zero, ℕ, ◌*◌, ◌+◌, ◌-◌, ◌<◌, ◌∷◌, ◌∙◌, ◌≡◌, ◌≤◌, ◌⊎◌}
+use Rattle.std.proofs.Common.{List, None, length, Option, Some, [], arith, false, inl, inr, refl, slice_get, suc, sym, true, zero, ℕ, ◌*◌, ◌+◌, ◌-◌, ◌<◌, ◌∷◌, ◌∙◌, ◌≡◌, ◌≤◌}
 use Rattle.pv_model.specs.Plain.{PlainModel, PlainPart, PlainParts, PlainToken, any, children, choice, empty, mixed, name, no_parts, opt, part, plus, seq, star}
 use Rattle.pv_dtd.specs.Facts.{are_known}
 use Rattle.pv_dtd.specs.Plain.{PlainDtd, declared, model_of, parts_in, parts_in_models}
 use Rattle.pv_rules.specs.Derivations.{Derives}
 use Rattle.pv_rules.specs.Numbering.{first_part, part_at, rest_at}
-use Rattle.pv_rules.specs.Rules.{Goal, Rule, any_name, any_none, any_text, children_part, empty_none, kept, missing, mixed_name, mixed_none, mixed_text, opt_none, opt_one, over, part_choice, part_name, part_seq, plus_more, plus_one, rest_last, rest_then, star_more, star_none}
+use Rattle.pv_rules.specs.Rules.{Rule, any_name, any_none, any_text, children_part, empty_none, kept, missing, mixed_name, mixed_none, mixed_text, opt_none, opt_one, over, part_choice, part_name, part_seq, plus_more, plus_one, rest_last, rest_then, star_more, star_none}
 use Rattle.pv_rules.specs.Sites.{HasSite, PlainSite, content_site, name_site, part_site, rest_site}
 use Rattle.pv_rules.proofs.Derived.{HaveAll, passed}
 use Rattle.pv_rules.proofs.Facts.{parts_by_number}
 use Rattle.pv_rules.proofs.Members.{some_part}
 use Rattle.pv_rules.proofs.SitesKept.{name_below}
 use Rattle.pv_span.specs.Columns.{AreFit, FitsContent, FitsPart, FitsRest, PlainSites, column_of}
-use Rattle.pv_span.specs.ColumnRules.{Cell, ColumnRule, FormRule, IsOneOf, ToTwo, cell}
+use Rattle.pv_span.specs.ColumnRules.{Cell, ColumnRule, FormRule, IsOneOf, cell}
 use Rattle.pv_span.specs.Forms.{PlainForm, form_at, of_element, of_none, of_nothing, of_one, of_opt, of_plus, of_star, of_two}
 use Rattle.pv_span.proofs.Building.{made_none, made_one, made_two, none_have, one_have, two_have}
 use Rattle.pv_span.proofs.ColumnFacts.{column_spans}

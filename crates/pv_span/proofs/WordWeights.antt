@@ -1,5 +1,5 @@
 -- A filled chart tells the weights of all sites over the spans of a word.
-use Rattle.std.proofs.Common.{List, arith, length, map, refl, ◌<◌, ◌≡◌}
+use Rattle.std.proofs.Common.{List, length, map, ◌<◌, ◌≡◌}
 use Rattle.pv_model.specs.PlainForms.{plain_token}
 use Rattle.pv_model.specs.declared.models.Token.{Token}
 use Rattle.pv_dtd.proofs.Proper.{proper}

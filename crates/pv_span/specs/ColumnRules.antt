@@ -1,5 +1,5 @@
 -- The rules of columns: from what each may be put together over a span of a word, and at what cost.
-use Rattle.std.specs.Prelude.{List, Some, [], false, length, slice_get, suc, true, ℕ, ◌+◌, ◌<◌}
+use Rattle.std.specs.Prelude.{List, Some, [], false, length, slice_get, suc, true, ℕ, ◌<◌}
 use Rattle.std.specs.Prelude.{◌≡◌, ◌≤◌, ◌⊎◌, ◌∷◌}
 use Rattle.pv_model.specs.Plain.{PlainToken, named, text}
 use Rattle.pv_rules.specs.Rules.{IsSpan}

@@ -1,12 +1,12 @@
 -- The lists of a document, and what stands at their paths.
-use Rattle.std.proofs.Common.{◌≡◌, ◌↔◌, ◌⊎◌, inl, inr, ℕ, ◌+◌, zero, suc, List, [], ◌∷◌, ◌++◌, length, Option, Some, None, slice_get, refl, sym, ap, ◌∙◌, subst, append_assoc, arith}
+use Rattle.std.proofs.Common.{◌≡◌, ◌↔◌, ◌⊎◌, inl, inr, ℕ, ◌+◌, zero, suc, List, [], ◌∷◌, ◌++◌, Option, Some, None, slice_get, refl, sym, ap, ◌∙◌, subst, append_assoc, arith}
 use Rattle.std.proofs.lemmas.List.{append-nil}
 use Rattle.std.proofs.lemmas.List.Elements.{All-append, All-cons, All-contains, All-nil, All-weaker, Contains-append_left, Contains-append_right}
 use Rattle.std.specs.List.{All, Contains}
 use Rattle.std.specs.Option.{option_and_then, option_map}
 use Rattle.pv_tree.specs.Plain.{Tree, element, text_node, cdata_node, misc_node, Forest, no_trees, tree, forest_of, trees_of, PlainDoc, Ending}
 use Rattle.pv_tree.specs.Lists.{Listed, Owner, an_element, the_document, lists_at, lists_from, lists_of}
-use Rattle.pv_tree.specs.Places.{at_node, IsListAt, kids_of, list_at, list_of, node_below, owner_of, spot_at}
+use Rattle.pv_tree.specs.Places.{at_node, IsListAt, list_at, list_of, node_below, owner_of, spot_at}
 use Rattle.pv_tree.proofs.Levels.{forest-trees}
 use Rattle.pv_tree.proofs.Every.{contains_cases, contains_first, contains_later}
 

@@ -1,4 +1,3 @@
-use Rattle.std.proofs.Common.{[], ◌∷◌}
 use Rattle.std.proofs.lemmas.Result.{err_from_is_err_and}
 use Rattle.pv_cli.specs.Documents.{document_stage}
 use Rattle.pv_cli.specs.Opening.{fetching_stage}

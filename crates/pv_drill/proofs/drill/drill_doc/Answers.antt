@@ -1,4 +1,4 @@
-use Rattle.std.proofs.Common.{◌≡◌, ◌+◌, ◌++◌, suc, codes, refl, ap, ◌∙◌, append_assoc, arith}
+use Rattle.std.proofs.Common.{◌≡◌, ◌+◌, ◌++◌, suc, codes, ap, ◌∙◌, append_assoc, arith}
 use Rattle.pv_drill.specs.Drill.{section_text, sections}
 use Rattle.pv_drill.proofs.drill.drill_doc.Goals as goal
 

@@ -1,8 +1,8 @@
-use Rattle.std.proofs.Common.{List, [], ap, arith, length, refl, subst, sym, ℕ, ◌∷◌, ◌≡◌}
+use Rattle.std.proofs.Common.{List, [], ap, arith, refl, subst, sym, ℕ, ◌∷◌, ◌≡◌}
 use Rattle.std.proofs.lemmas.Grind.{common_steps}
 use Rattle.std.proofs.lemmas.Result.{on_ok_weaker}
-use Rattle.pv_tree.specs.Lists.{Listed, an_element, lists_at, lists_from}
-use Rattle.pv_tree.specs.PlainForms.{forest, plain}
+use Rattle.pv_tree.specs.Lists.{Listed, an_element, lists_from}
+use Rattle.pv_tree.specs.PlainForms.{forest}
 use Rattle.pv_tree.specs.declared.nodes.Mark.{Mark}
 use Rattle.pv_tree.specs.declared.nodes.Node.{Node}
 use Rattle.pv_tree.proofs.Levels.{plain-Elem}

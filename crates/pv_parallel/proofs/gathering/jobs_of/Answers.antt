@@ -1,11 +1,11 @@
-use Rattle.std.proofs.Common.{List, [], arith, refl, ◌++◌, ◌∷◌}
-use Rattle.pv_tree.specs.Lists.{Listed, lists_at, lists_of, the_document}
+use Rattle.std.proofs.Common.{[], arith, refl, ◌++◌, ◌∷◌}
+use Rattle.pv_tree.specs.Lists.{Listed, lists_at, the_document}
 use Rattle.pv_tree.specs.Plain.{no_trees, tree}
 use Rattle.pv_tree.specs.PlainDocs.{plain_doc}
 use Rattle.pv_tree.specs.PlainForms.{plain}
 use Rattle.pv_tree.specs.declared.nodes.Mark.{Mark}
 use Rattle.pv_fresh.proofs.Narrow.{few_tokens}
-use Rattle.pv_parallel.specs.Jobs.{Adds, HasGathered}
+use Rattle.pv_parallel.specs.Jobs.{Adds}
 use Rattle.pv_parallel.proofs.JobLists.{whole_gathered}
 use Rattle.pv_parallel.proofs.gathering.jobs_of.Goals as goal
 

@@ -1,4 +1,4 @@
-use Rattle.std.proofs.Common.{List, [], ap, arith, drop, length, refl, ℕ, ◌+◌, ◌++◌, ◌∷◌, ◌≡◌, ◌∙◌}
+use Rattle.std.proofs.Common.{List, [], ap, arith, drop, refl, ℕ, ◌+◌, ◌++◌, ◌∷◌, ◌≡◌, ◌∙◌}
 use Rattle.std.proofs.lemmas.Result.{IfErr-weaker, err_from_is_err_and, on_ok_weaker}
 use Rattle.std.specs.Option.{option_map}
 use Rattle.pv_productive.specs.PlainForms.{dtd_of}

@@ -1,9 +1,8 @@
-use Rattle.std.proofs.Common.{List, drop, ℕ, ◌*◌, ◌+◌}
+use Rattle.std.proofs.Common.{List, drop, ℕ, ◌+◌}
 use Rattle.std.specs.List.{AllByRecursion}
 use Rattle.pv_productive.specs.PlainForms.{dtd_of}
 use Rattle.pv_tree.specs.Lists.{lists_from}
-use Rattle.pv_tree.specs.Plain.{nodes_in, nodes_in_all}
-use Rattle.pv_tree.specs.PlainForms.{forest, plain}
+use Rattle.pv_tree.specs.PlainForms.{forest}
 use Rattle.pv_tree.specs.declared.nodes.Verdict.{Verdict}
 use Rattle.pv_missing.specs.Widths.{IsListForVerdict}
 use Rattle.pv_parallel.specs.Jobs.{JudgesBehind}

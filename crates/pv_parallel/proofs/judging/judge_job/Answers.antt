@@ -1,6 +1,5 @@
 use Rattle.std.proofs.Common.{◌≡◌}
 use Rattle.std.proofs.lemmas.Result.{err_from_is_err_and}
-use Rattle.pv_productive.specs.PlainForms.{dtd_of}
 use Rattle.pv_reach.specs.declared.errors.ReachError.TheVariants.{TooWide as too_wide}
 use Rattle.pv_parallel.proofs.judging.judge_job.Goals as goal
 

@@ -1,4 +1,4 @@
-use Rattle.std.proofs.Common.{List, [], arith, drop, refl, ℕ, ◌+◌, ◌++◌, ◌∷◌}
+use Rattle.std.proofs.Common.{[], arith, drop, refl, ◌+◌, ◌++◌, ◌∷◌}
 use Rattle.pv_tree.specs.Lists.{Listed, an_element, lists_at, lists_from}
 use Rattle.pv_tree.specs.PlainForms.{forest, plain}
 use Rattle.pv_tree.specs.declared.nodes.Mark.{Mark}

@@ -1,4 +1,4 @@
-use Rattle.std.proofs.Common.{List, arith, refl, subst, sym, take, ℕ}
+use Rattle.std.proofs.Common.{arith, refl, subst, sym, take, ℕ}
 use Rattle.pv_tree.specs.Lists.{lists_from}
 use Rattle.pv_tree.specs.PlainForms.{forest}
 use Rattle.pv_parallel.specs.Sizes.{Measures}

@@ -1,4 +1,4 @@
-use Rattle.std.proofs.Common.{arith, suc, ◌<◌, ◌≡◌}
+use Rattle.std.proofs.Common.{arith, suc}
 use Rattle.pv_span.specs.Charts.{value_of}
 use Rattle.pv_span.specs.PlainForms.{plain_chart}
 use Rattle.pv_span.proofs.CutSums.{cut_alone}

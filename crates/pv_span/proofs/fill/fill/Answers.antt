@@ -1,8 +1,8 @@
-use Rattle.std.proofs.Common.{ap, arith, inl, inr, length, length-append, map, refl, subst, suc, sym, ◌+◌, ◌<◌, ◌≡◌}
+use Rattle.std.proofs.Common.{ap, arith, inl, inr, length, length-append, map, refl, subst, sym, ◌<◌, ◌≡◌}
 use Rattle.std.proofs.lemmas.List.{length-map}
 use Rattle.std.proofs.lemmas.Bool.{cases_lt}
 use Rattle.pv_model.specs.PlainForms.{plain_token}
-use Rattle.pv_span.specs.Charts.{AreSettled, spans_before}
+use Rattle.pv_span.specs.Charts.{AreSettled}
 use Rattle.pv_span.specs.DoneSpans.{rows_done}
 use Rattle.pv_span.specs.FormForms.{plain_all}
 use Rattle.pv_span.specs.PlainForms.{plain_chart}

@@ -1,6 +1,6 @@
-use Rattle.std.proofs.Common.{Some, ap, arith, length, subst, sym, ◌+◌, ◌<◌, ◌∙◌, ◌≡◌, ℕ}
+use Rattle.std.proofs.Common.{ap, arith, length, ◌+◌, ◌<◌, ◌∙◌, ◌≡◌}
 use Rattle.std.proofs.lemmas.Result.{IfOk-weaker}
-use Rattle.pv_dtd.specs.Plain.{PlainDtd, declared}
+use Rattle.pv_dtd.specs.Plain.{declared}
 use Rattle.pv_rules.specs.Numbering.{first_part}
 use Rattle.pv_rules.proofs.FlatContents.{any_at, children_at, empty_at, mixed_at}
 use Rattle.pv_productive.specs.PlainForms.{dtd_of}

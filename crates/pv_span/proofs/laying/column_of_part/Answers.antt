@@ -1,8 +1,8 @@
-use Rattle.std.proofs.Common.{ap, arith, false, length, map, refl, subst, suc, sym, ◌+◌, ◌∙◌, ◌≡◌}
+use Rattle.std.proofs.Common.{ap, arith, false, subst, suc, ◌+◌, ◌∙◌, ◌≡◌}
 use Rattle.std.proofs.lemmas.Result.{IfOk-weaker}
 use Rattle.pv_productive.specs.PlainForms.{dtd_of}
 use Rattle.pv_span.specs.Columns.{column_at}
-use Rattle.pv_model.specs.Plain.{PlainParts, seq}
+use Rattle.pv_model.specs.Plain.{seq}
 use Rattle.pv_rules.proofs.FlatKinds.{choice_at, name_at, opt_at, plus_at, seq_at, star_at}
 use Rattle.pv_rules.proofs.Formed.{parts_formed}
 use Rattle.pv_span.specs.FormForms.{plain_all}

@@ -1,4 +1,4 @@
-use Rattle.std.proofs.Common.{ap, arith, length, map, refl, subst, suc, sym, ◌+◌, ◌∙◌, ◌≡◌}
+use Rattle.std.proofs.Common.{ap, ◌∙◌}
 use Rattle.std.proofs.lemmas.Result.{IfOk-weaker}
 use Rattle.pv_productive.specs.PlainForms.{dtd_of}
 use Rattle.pv_span.specs.Columns.{column_at}

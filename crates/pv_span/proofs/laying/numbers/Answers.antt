@@ -1,4 +1,4 @@
-use Rattle.std.proofs.Common.{arith, length, length-append, ◌+◌, ◌≡◌}
+use Rattle.std.proofs.Common.{arith, length-append}
 use Rattle.pv_span.proofs.Taken.{count_more}
 use Rattle.pv_span.proofs.laying.numbers.Goals as goal
 

@@ -1,4 +1,4 @@
-use Rattle.std.proofs.Common.{ap, ◌+◌}
+use Rattle.std.proofs.Common.{ap}
 use Rattle.pv_span.specs.Forms.{of_element}
 use Rattle.pv_span.specs.declared.forms.Form.TheVariants as form
 use Rattle.pv_span.proofs.Laid.{elements_more}

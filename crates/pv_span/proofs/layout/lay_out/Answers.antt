@@ -1,8 +1,7 @@
-use Rattle.std.proofs.Common.{ap, arith, length, sym, ◌+◌, ◌∙◌, ◌≡◌, ◌≤◌}
+use Rattle.std.proofs.Common.{ap, length, sym, ◌∙◌, ◌≡◌}
 use Rattle.std.proofs.lemmas.List.{length-map}
 use Rattle.pv_dtd.specs.Plain.{PlainDtd, parts_in_models}
 use Rattle.pv_productive.specs.PlainForms.{dtd_of}
-use Rattle.pv_span.specs.Columns.{no_column}
 use Rattle.pv_span.specs.FormForms.{plain_all}
 use Rattle.pv_span.specs.SiteForms.{plain_sites}
 use Rattle.pv_span.proofs.Laid.{all_fit, few_forms, none_laid}

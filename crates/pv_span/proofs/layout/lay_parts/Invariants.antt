@@ -1,4 +1,3 @@
-use Rattle.std.proofs.Common.{◌≡◌}
 use Rattle.pv_productive.specs.PlainForms.{dtd_of}
 use Rattle.pv_span.specs.FormForms.{plain_all}
 use Rattle.pv_span.specs.Making.{AreLaid}

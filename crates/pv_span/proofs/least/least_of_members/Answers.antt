@@ -1,4 +1,4 @@
-use Rattle.std.proofs.Common.{arith, ◌+◌}
+use Rattle.std.proofs.Common.{arith}
 use Rattle.pv_productive.specs.Tables.{no_size}
 use Rattle.pv_span.specs.Charts.{value_of}
 use Rattle.pv_span.specs.PlainForms.{plain_chart}

@@ -1,5 +1,5 @@
 use Rattle.std.specs.Vec.{with_items}
-use Rattle.std.proofs.Common.{arith, map, subst, sym, ◌<◌, ◌≡◌, length}
+use Rattle.std.proofs.Common.{arith, map, subst, sym, ◌≡◌}
 use Rattle.std.proofs.lemmas.List.{length-map, with_items_is}
 use Rattle.pv_model.specs.PlainForms.{plain_token}
 use Rattle.pv_productive.specs.Tables.{IsLowered, capped}

@@ -1,4 +1,4 @@
-use Rattle.std.proofs.Common.{arith, length, map, ◌+◌, ◌∙◌, ◌≡◌}
+use Rattle.std.proofs.Common.{arith, map, ◌∙◌}
 use Rattle.std.proofs.lemmas.List.{length-map}
 use Rattle.pv_model.specs.PlainForms.{plain_token}
 use Rattle.pv_span.specs.FormForms.{plain_all}

@@ -1,4 +1,4 @@
-use Rattle.std.proofs.Common.{length, map, ◌≡◌}
+use Rattle.std.proofs.Common.{map}
 use Rattle.pv_model.specs.PlainForms.{plain_token}
 use Rattle.pv_span.specs.Charts.{AreSettledFrom, IsSettling}
 use Rattle.pv_span.specs.FormForms.{plain_all}

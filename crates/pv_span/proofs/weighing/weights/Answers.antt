@@ -1,5 +1,4 @@
-use Rattle.std.proofs.Common.{map, refl}
-use Rattle.pv_model.specs.PlainForms.{plain_token}
+use Rattle.std.proofs.Common.{refl}
 use Rattle.pv_span.specs.declared.sites.SiteColumns.TheVariants.{Own}
 use Rattle.pv_span.proofs.WordWeights.{chart_weighs}
 use Rattle.pv_span.proofs.weighing.weights.Goals as goal

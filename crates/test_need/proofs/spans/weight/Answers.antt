@@ -13,8 +13,8 @@ pub weights_by-requires : goal.weights_by-requires
 weights_by-requires c =
     let d = dtd_of c.args.grammar.now in
     let productive = subst (λ v. AreProductiveTokens d (map plain_token v)) (sym c.as_slice-tokens.ensures)
-          (live_follows d (word_of d (forest c.args.kids.now)) (map plain_token c.in_ok-live.live) c.in_ok-live.ensures).names in
-    record { productive = subst (λ g. AreProductiveTokens (dtd_of g) (map plain_token c.as_slice-tokens.result.now)) (sym c.in_ok-layout.ensures) productive; }
+    (live_follows d (word_of d (forest c.args.kids.now)) (map plain_token c.in_ok-live.live) c.in_ok-live.ensures).names in
+    record { productive = subst (λ g. AreProductiveTokens (dtd_of g) (map plain_token c.as_slice-tokens.result.now)) (sym c.in_ok-layout.ensures) productive }
 
 pub at-requires : goal.at-requires
 at-requires c =

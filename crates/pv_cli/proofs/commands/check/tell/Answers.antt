@@ -1,4 +1,4 @@
-use Rattle.std.proofs.Common.{◌≡◌, ◌⊎◌, inl, inr, ℕ, List, Result, Ok, Err, refl, sym, subst}
+use Rattle.std.proofs.Common.{◌≡◌, inl, inr, ℕ, List, Result, Ok, Err, refl, sym, subst}
 use Rattle.std.proofs.lemmas.Result.{err_from_is_err_and}
 use Rattle.pv_dtd.specs.Plain.{PlainDtd}
 use Rattle.pv_productive.specs.PlainForms.{dtd_of}
@@ -8,7 +8,7 @@ use Rattle.pv_tree.specs.declared.nodes.Mark.{Mark}
 use Rattle.pv_cli.specs.Check.{TellsPossibility, is_no_more, is_possible}
 use Rattle.pv_cli.specs.Possibility.{possibility_stage, width_stage}
 use Rattle.pv_cli.specs.Response.{plain_response}
-use Rattle.pv_cli.specs.Returns.{TakesCourse, StopsBy, TellsBy}
+use Rattle.pv_cli.specs.Returns.{TakesCourse, StopsBy}
 use Rattle.pv_cli.specs.Stage.{Behind, Responds, opened, refused, short_of_memory, responded}
 use Rattle.pv_cli.specs.declared.response.Response.{Response}
 use Rattle.pv_cli.specs.declared.stop.Stop.{Stop}

@@ -2,7 +2,6 @@ use Rattle.std.proofs.Common.{◌≡◌, ◌⊎◌, inl, inr, ℕ, List, Ok, Err
 use Rattle.pv_standoff.specs.Lines.{RangesMean}
 use Rattle.pv_standoff.specs.declared.errors.RangesError.{RangesError}
 use Rattle.pv_standoff.specs.declared.errors.RangesError.TheVariants.{NoMemory}
-use Rattle.pv_cli.specs.Response.{PlainResponse}
 use Rattle.pv_cli.specs.Returns.{RefusesWith, StopsBy}
 use Rattle.pv_cli.specs.Standoff.{IsRangesRefusal, RefusesRanges, no_ranges, ranges_stage}
 use Rattle.pv_cli.specs.declared.stop.Stop.{Stop}

@@ -1,4 +1,4 @@
-use Rattle.std.proofs.Common.{◌≡◌, ◌∙◌, ℕ, List, Option}
+use Rattle.std.proofs.Common.{◌∙◌, ℕ, List, Option}
 use Rattle.std.proofs.lemmas.Result.{err_from_is_err_and}
 use Rattle.pv_standoff.specs.declared.ranges.Range.{Range}
 use Rattle.pv_cli.specs.Annotations.{AreTwo, plain_two, two_stage}

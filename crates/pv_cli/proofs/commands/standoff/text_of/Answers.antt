@@ -2,7 +2,6 @@ use Rattle.std.proofs.Common.{◌≡◌, ◌⊎◌, inl, inr, ℕ, List, Ok, Err
 use Rattle.pv_chars.specs.Units.{TextMeans}
 use Rattle.pv_chars.specs.declared.errors.TextError.{TextError}
 use Rattle.pv_chars.specs.declared.errors.TextError.TheVariants.{NoMemory}
-use Rattle.pv_cli.specs.Response.{PlainResponse}
 use Rattle.pv_cli.specs.Returns.{RefusesWith, StopsBy}
 use Rattle.pv_cli.specs.Standoff.{IsTextRefusal, RefusesText, no_text, text_stage}
 use Rattle.pv_cli.specs.declared.stop.Stop.{Stop}

@@ -3,7 +3,7 @@ use Rattle.pv_dtd.specs.PlainForms.{plain_dtd}
 use Rattle.pv_script.specs.Paths.{path_text}
 use Rattle.pv_cli.specs.Documents.{RefusesDocument}
 use Rattle.pv_cli.specs.Response.{with_line}
-use Rattle.pv_cli.specs.Verify.{TellsOfPack, is_accepted, is_rejected, names_wide, test_text}
+use Rattle.pv_cli.specs.Verify.{TellsOfPack, is_accepted, is_rejected, names_wide}
 use Rattle.pv_cli.specs.declared.status.Status.TheVariants.{Done, Limit, Negative}
 use Rattle.pv_cli.proofs.OneOpening.{ReadsOne, document_not_both}
 use Rattle.pv_cli.proofs.Stages.{stops_as}

@@ -1,9 +1,7 @@
-use Rattle.std.proofs.Common.{◌≡◌, ◌∙◌, ℕ, List}
+use Rattle.std.proofs.Common.{◌∙◌, ℕ, List}
 use Rattle.std.proofs.lemmas.Result.{err_from_is_err_and}
 use Rattle.pv_cert.specs.declared.packs.Pack.{Pack}
-use Rattle.pv_cli.specs.Course.{Course}
 use Rattle.pv_cli.specs.Documents.{PlainOpened}
-use Rattle.pv_cli.specs.Opening.{Files}
 use Rattle.pv_cli.specs.PackFiles.{pack_file_stage}
 use Rattle.pv_cli.specs.Response.{PlainResponse}
 use Rattle.pv_cli.specs.Verify.{TellsOfPack}

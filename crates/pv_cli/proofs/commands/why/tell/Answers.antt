@@ -3,15 +3,12 @@ use Rattle.std.proofs.lemmas.Result.{err_from_is_err_and}
 use Rattle.std.specs.Option.{option_copied}
 use Rattle.std.specs.Prelude.{IsNone}
 use Rattle.pv_dtd.specs.Plain.{PlainDtd}
-use Rattle.pv_fresh.specs.Answers.{IsImpossibleAt}
-use Rattle.pv_missing.specs.Verdicts.{IsFirstImpossible, PlainVerdicts}
+use Rattle.pv_missing.specs.Verdicts.{PlainVerdicts}
 use Rattle.pv_productive.specs.PlainForms.{dtd_of}
-use Rattle.pv_tree.specs.Lists.{lists_of}
 use Rattle.pv_tree.specs.Plain.{PlainDoc}
 use Rattle.pv_tree.specs.PlainDocs.{plain_doc}
 use Rattle.pv_tree.specs.declared.nodes.Mark.{Mark}
 use Rattle.pv_cli.specs.Possibility.{AreVerdictsOf, width_stage}
-use Rattle.pv_cli.specs.Response.{plain_response}
 use Rattle.pv_cli.specs.Returns.{TakesCourse, TellsBy}
 use Rattle.pv_cli.specs.Stage.{Behind, Responds, short_of_memory}
 use Rattle.pv_cli.specs.Why.{TellsWhy, is_possible}

@@ -1,4 +1,4 @@
-use Rattle.std.proofs.Common.{[], arith, length, ◌++◌, ◌<◌, ◌∷◌}
+use Rattle.std.proofs.Common.{[], arith, ◌++◌, ◌<◌, ◌∷◌}
 use Rattle.std.proofs.lemmas.List.{length-append}
 use Rattle.pv_productive.specs.PlainForms.{dtd_of}
 use Rattle.pv_rules.specs.Derivations.{heaviest}

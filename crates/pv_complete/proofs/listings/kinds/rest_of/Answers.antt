@@ -1,4 +1,4 @@
-use Rattle.std.proofs.Common.{None, ap, refl, sym, ◌∙◌, ◌≡◌}
+use Rattle.std.proofs.Common.{refl, sym}
 use Rattle.pv_model.specs.Plain.{no_parts, part}
 use Rattle.pv_productive.specs.PlainForms.{dtd_of}
 use Rattle.pv_rules.proofs.FlatKinds.{followed_at, last_at, no_rest, outside_at}

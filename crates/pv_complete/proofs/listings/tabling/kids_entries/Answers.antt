@@ -1,4 +1,4 @@
-use Rattle.std.proofs.Common.{ap, length, map, subst, sym, ◌∙◌, ◌≡◌}
+use Rattle.std.proofs.Common.{length, map, subst, sym, ◌≡◌}
 use Rattle.std.proofs.lemmas.List.{length-map}
 use Rattle.std.proofs.lemmas.Result.{IfErr-weaker, IfOk-weaker}
 use Rattle.pv_model.specs.PlainForms.{plain_token}

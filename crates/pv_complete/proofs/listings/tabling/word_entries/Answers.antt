@@ -1,11 +1,10 @@
-use Rattle.std.proofs.Common.{arith, length, map, ◌<◌, ◌≡◌}
+use Rattle.std.proofs.Common.{arith, map}
 use Rattle.std.proofs.lemmas.List.{length-map}
 use Rattle.std.proofs.lemmas.Result.{IfErr-weaker, IfOk-weaker}
 use Rattle.pv_model.specs.PlainForms.{plain_token}
 use Rattle.pv_productive.specs.PlainForms.{dtd_of}
 use Rattle.pv_missing.specs.PlainForms.{plain_of}
 use Rattle.pv_span.proofs.KnownSites.{owner_has}
-use Rattle.pv_span.specs.Weights.{tokens_of}
 use Rattle.pv_complete.proofs.TableEntries.{all_entries, stops_word}
 use Rattle.pv_complete.proofs.listings.tabling.word_entries.Goals as goal
 

@@ -1,6 +1,5 @@
 use Rattle.std.proofs.Common.{◌≡◌, ◌≤◌, ◌*◌, ◌+◌, ℕ, Bool, List, drop}
 use Rattle.pv_dtd.specs.PlainForms.{plain_dtd}
-use Rattle.pv_tree.specs.Legal.{MAX_NODES}
 use Rattle.pv_tree.specs.Plain.{nodes_in, nodes_in_all}
 use Rattle.pv_tree.specs.Lists.{lists_from}
 use Rattle.pv_tree.specs.PlainForms.{forest, plain}

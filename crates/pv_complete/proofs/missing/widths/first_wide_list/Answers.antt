@@ -1,9 +1,7 @@
-use Rattle.std.proofs.Common.{List, [], false, refl, true, ◌∷◌, ◌≡◌, ℕ}
-use Rattle.std.specs.List.{AllByRecursion}
+use Rattle.std.proofs.Common.{[], false, refl, true, ◌∷◌}
 use Rattle.pv_dtd.specs.PlainForms.{plain_dtd}
 use Rattle.pv_tree.specs.Lists.{Listed, lists_at, the_document}
 use Rattle.pv_tree.specs.Plain.{no_trees, tree}
-use Rattle.pv_tree.specs.PlainDocs.{plain_doc}
 use Rattle.pv_tree.specs.PlainForms.{plain}
 use Rattle.pv_tree.specs.declared.nodes.Mark.{Mark}
 use Rattle.pv_missing.proofs.Walking.{places_of_root}

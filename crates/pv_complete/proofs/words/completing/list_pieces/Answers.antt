@@ -2,7 +2,6 @@ use Rattle.std.proofs.Common.{arith, length, map, subst, ℕ, ◌≡◌}
 use Rattle.std.proofs.lemmas.List.{length-map}
 use Rattle.pv_model.specs.PlainForms.{plain_token}
 use Rattle.pv_rules.specs.Derivations.{IsWeight, heaviest}
-use Rattle.pv_rules.specs.PlainForms.{plain_site}
 use Rattle.pv_rules.specs.Rules.{Rule, over}
 use Rattle.pv_productive.specs.PlainForms.{dtd_of}
 use Rattle.pv_missing.specs.PlainForms.{plain_of}

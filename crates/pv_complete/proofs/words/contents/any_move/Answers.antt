@@ -1,11 +1,8 @@
-use Rattle.std.proofs.Common.{arith, ap, inr, length, map, refl, subst, sym, ℕ, ◌∙◌}
-use Rattle.std.proofs.lemmas.List.{length-map}
+use Rattle.std.proofs.Common.{arith, ap, inr, map, refl, subst, sym, ℕ, ◌∙◌}
 use Rattle.pv_model.specs.PlainForms.{plain_token}
 use Rattle.pv_dtd.proofs.Proper.{proper}
 use Rattle.pv_dtd.specs.Plain.{declared}
 use Rattle.pv_rules.specs.Sites.{content_site, name_site}
-use Rattle.pv_rules.specs.PlainForms.{plain_site}
-use Rattle.pv_rules.specs.Rules.{over}
 use Rattle.pv_productive.specs.PlainForms.{dtd_of}
 use Rattle.pv_span.specs.Weights.{weight_of}
 use Rattle.pv_complete.specs.Moves.{IsItem, IsNoItem}

@@ -1,10 +1,7 @@
-use Rattle.std.proofs.Common.{arith, inl, length, map, refl, sym, ◌∙◌}
-use Rattle.std.proofs.lemmas.List.{length-map}
+use Rattle.std.proofs.Common.{arith, inl, map, refl, sym, ◌∙◌}
 use Rattle.pv_model.specs.PlainForms.{plain_token}
 use Rattle.pv_dtd.proofs.Proper.{proper}
 use Rattle.pv_rules.specs.Sites.{content_site}
-use Rattle.pv_rules.specs.PlainForms.{plain_site}
-use Rattle.pv_rules.specs.Rules.{over}
 use Rattle.pv_productive.specs.PlainForms.{dtd_of}
 use Rattle.pv_span.specs.Weights.{weight_of}
 use Rattle.pv_complete.proofs.Moving.{moves_listed, moves_mixed_none, moves_text}

@@ -1,5 +1,3 @@
-use Rattle.pv_rules.specs.PlainForms.{plain_site}
-use Rattle.pv_rules.specs.Rules.{over}
 use Rattle.pv_rules.specs.Sites.{name_site}
 use Rattle.pv_span.specs.Weights.{weight_of}
 use Rattle.pv_complete.specs.Moves.{IsNoItem}

@@ -1,4 +1,4 @@
-use Rattle.std.proofs.Common.{length, map, refl, sym}
+use Rattle.std.proofs.Common.{map, refl, sym}
 use Rattle.pv_model.specs.PlainForms.{plain_token}
 use Rattle.pv_dtd.proofs.Proper.{proper}
 use Rattle.pv_rules.specs.Sites.{rest_site}

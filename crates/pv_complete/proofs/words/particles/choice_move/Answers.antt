@@ -1,5 +1,4 @@
-use Rattle.std.proofs.Common.{Some, arith, length, map, refl, suc, sym, ◌+◌, ◌∙◌, ◌≡◌}
-use Rattle.std.proofs.lemmas.List.{length-map}
+use Rattle.std.proofs.Common.{Some, arith, map, refl, suc, sym, ◌+◌, ◌≡◌}
 use Rattle.pv_model.specs.Plain.{PlainPart, PlainParts, choice}
 use Rattle.pv_model.specs.PlainForms.{plain_token}
 use Rattle.pv_dtd.specs.Plain.{parts_in}
@@ -9,8 +8,6 @@ use Rattle.pv_rules.specs.Sites.{part_site}
 use Rattle.pv_rules.proofs.Facts.{parts_by_number}
 use Rattle.pv_rules.proofs.FlatKinds.{end_of, some_flat}
 use Rattle.pv_rules.proofs.Members.{some_part}
-use Rattle.pv_rules.specs.PlainForms.{plain_site}
-use Rattle.pv_rules.specs.Rules.{over}
 use Rattle.pv_productive.specs.PlainForms.{dtd_of}
 use Rattle.pv_span.specs.Weights.{weight_of}
 use Rattle.pv_complete.proofs.Moving.{moves_member, moves_no_member}

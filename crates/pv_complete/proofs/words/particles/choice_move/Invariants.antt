@@ -1,8 +1,6 @@
 use Rattle.std.proofs.Common.{Some, ◌-◌, ◌≡◌}
 use Rattle.pv_model.specs.Plain.{PlainParts, choice}
 use Rattle.pv_rules.specs.Numbering.{part_at}
-use Rattle.pv_rules.specs.PlainForms.{plain_site}
-use Rattle.pv_rules.specs.Rules.{over}
 use Rattle.pv_productive.specs.PlainForms.{dtd_of}
 use Rattle.pv_span.specs.Weights.{weight_of}
 use Rattle.pv_complete.proofs.Passing.{HasPassed}

@@ -1,4 +1,4 @@
-use Rattle.std.proofs.Common.{arith, length, map, refl, sym, ◌+◌}
+use Rattle.std.proofs.Common.{arith, map, sym, ◌+◌}
 use Rattle.pv_model.specs.PlainForms.{plain_token}
 use Rattle.pv_dtd.proofs.Proper.{proper}
 use Rattle.pv_rules.specs.Sites.{part_site}

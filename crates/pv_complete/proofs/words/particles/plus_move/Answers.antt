@@ -1,5 +1,4 @@
-use Rattle.std.proofs.Common.{arith, length, map, refl, suc, sym, ◌+◌, ◌≡◌, ◌∙◌}
-use Rattle.std.proofs.lemmas.List.{length-map}
+use Rattle.std.proofs.Common.{arith, map, refl, suc, sym, ◌+◌, ◌≡◌, ◌∙◌}
 use Rattle.pv_model.specs.PlainForms.{plain_token}
 use Rattle.pv_dtd.proofs.Proper.{proper}
 use Rattle.pv_rules.specs.Sites.{part_site}

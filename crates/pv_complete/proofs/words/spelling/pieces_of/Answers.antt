@@ -1,5 +1,5 @@
-use Rattle.std.proofs.Common.{[], append-nil, arith, length, map, ◌++◌, ◌∷◌, ◌≡◌}
-use Rattle.std.proofs.lemmas.List.{length-map, nil_from_length}
+use Rattle.std.proofs.Common.{[], append-nil, arith, map, ◌++◌, ◌∷◌, ◌≡◌}
+use Rattle.std.proofs.lemmas.List.{nil_from_length}
 use Rattle.pv_model.specs.PlainForms.{plain_token}
 use Rattle.pv_productive.specs.PlainForms.{dtd_of}
 use Rattle.pv_span.specs.Weights.{weight_of}

@@ -1,4 +1,4 @@
-use Rattle.std.proofs.Common.{arith, refl, subst, suc, sym, ℕ, ◌+◌, ◌-◌, ◌∙◌, ◌≡◌}
+use Rattle.std.proofs.Common.{arith, subst, suc, sym, ℕ, ◌+◌, ◌-◌, ◌∙◌, ◌≡◌}
 use Rattle.pv_rules.proofs.FlatKinds.{followed_at, last_at, no_rest, outside_at}
 use Rattle.pv_productive.specs.PlainForms.{dtd_of}
 use Rattle.pv_reach.specs.Reached.{past_column, past_rest}

@@ -3,7 +3,7 @@ use Rattle.std.proofs.lemmas.Bool.{cases_lt}
 use Rattle.std.proofs.lemmas.List.{get_or_default}
 use Rattle.std.proofs.lemmas.Option.{slice_get_read}
 use Rattle.pv_productive.specs.Tables.{no_size}
-use Rattle.pv_span.specs.Charts.{span_number, spans_before}
+use Rattle.pv_span.specs.Charts.{span_number}
 use Rattle.pv_span.specs.DoneSpans.{rows_done}
 use Rattle.pv_span.specs.PlainForms.{plain_chart}
 use Rattle.pv_span.proofs.Across.{rows_count}

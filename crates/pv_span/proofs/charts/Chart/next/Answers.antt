@@ -1,11 +1,11 @@
 use Rattle.std.specs.Vec.{with_items}
-use Rattle.std.proofs.Common.{arith, length, suc, ◌+◌, ◌-◌, ◌<◌, ◌∙◌, ◌≡◌}
+use Rattle.std.proofs.Common.{arith, length, suc, ◌+◌, ◌≡◌}
 use Rattle.std.proofs.lemmas.List.{with_items_is}
 use Rattle.pv_span.specs.Charts.{span_number}
 use Rattle.pv_span.specs.DoneSpans.{rows_done}
 use Rattle.pv_span.proofs.Across.{rows_count}
-use Rattle.pv_span.proofs.Lined.{forgotten, moved, pushed}
-use Rattle.pv_span.proofs.Numbering.{first_number, next_number}
+use Rattle.pv_span.proofs.Lined.{moved, pushed}
+use Rattle.pv_span.proofs.Numbering.{next_number}
 use Rattle.pv_span.proofs.charts.Chart.next.Goals as goal
 
 pub put-requires-clause-room : goal.put-requires-clause-room

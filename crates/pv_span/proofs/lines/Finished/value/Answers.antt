@@ -1,4 +1,4 @@
-use Rattle.std.proofs.Common.{ap, arith, sym, ◌∙◌}
+use Rattle.std.proofs.Common.{ap, sym, ◌∙◌}
 use Rattle.pv_productive.specs.Tables.{size_at}
 use Rattle.pv_span.specs.DoneSpans.{row_of}
 use Rattle.pv_span.proofs.Across.{done_at}
