@@ -5,8 +5,8 @@ use Rattle.pv_model.specs.Plain.{named, no_parts, opt, part, plus, seq, star}
 use Rattle.pv_dtd.specs.Plain.{PlainDtd, model_of, parts_in}
 use Rattle.pv_rules.specs.Numbering.{IsMemberAt, first_part, part_at, rest_at}
 use Rattle.pv_rules.specs.Sites.{PlainSite, content_site, name_site, part_site, rest_site}
-use Rattle.pv_free.specs.Live.{IsLiveSite}
-use Rattle.pv_free.specs.Takes.{Takes, TakesAll}
+use Rattle.law_free.specs.Live.{IsLiveSite}
+use Rattle.law_free.specs.Takes.{Takes, TakesAll}
 
 -- What repeats is free. A sequence is free by one free member that takes all that the whole takes,
 -- the others being live; so is a choice. A name is free by its content, where that takes the name

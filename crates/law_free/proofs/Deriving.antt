@@ -9,9 +9,9 @@ use Rattle.pv_rules.specs.Rules.{Goal, Rule, any_name, any_none, any_text, child
 use Rattle.pv_rules.specs.Sites.{PlainSite, content_site, name_site, part_site, rest_site}
 use Rattle.pv_rules.proofs.Derived.{held}
 use Rattle.pv_rules.specs.Deriving.{DerivesAt}
-use Rattle.pv_free.specs.Laws.{LiveDerivesNothing}
-use Rattle.pv_free.specs.Live.{AreLive, IsLiveSite, IsLiveToken, live_any, live_children, live_choice, live_empty, live_last, live_mixed, live_name, live_opt, live_part, live_plus, live_rest, live_seq, live_star}
-use Rattle.pv_free.specs.Takes.{Takes, takes_any_name, takes_any_text, takes_children, takes_choice, takes_first, takes_kept, takes_last, takes_later, takes_missing, takes_mixed_name, takes_mixed_text, takes_opt, takes_part, takes_plus, takes_seq, takes_star}
+use Rattle.law_free.specs.Laws.{LiveDerivesNothing}
+use Rattle.law_free.specs.Live.{AreLive, IsLiveSite, IsLiveToken, live_any, live_children, live_choice, live_empty, live_last, live_mixed, live_name, live_opt, live_part, live_plus, live_rest, live_seq, live_star}
+use Rattle.law_free.specs.Takes.{Takes, takes_any_name, takes_any_text, takes_children, takes_choice, takes_first, takes_kept, takes_last, takes_later, takes_missing, takes_mixed_name, takes_mixed_text, takes_opt, takes_part, takes_plus, takes_seq, takes_star}
 
 pub all_at : {A : Type 0} (P : A → Type 0) (xs : List A) (i : ℕ) (x : A) → AllByRecursion P xs → slice_get xs i ≡ Some x → P x
 all_at P [] i x a e = absurd cc

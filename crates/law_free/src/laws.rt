@@ -1,7 +1,7 @@
 //! The laws of live, taking and free sites, each the contract of a function that does nothing.
 
-ghost use Rattle.pv_free.specs.Laws.{DerivedAreTaken, FreeDerivesTaken, FreeFurthest};
-ghost use Rattle.pv_free.specs.Laws.{LiveDerivesNothing, LiveIsProductive, TakesDerivesOne};
+ghost use Rattle.law_free.specs.Laws.{DerivedAreTaken, FreeDerivesTaken, FreeFurthest};
+ghost use Rattle.law_free.specs.Laws.{LiveDerivesNothing, LiveIsProductive, TakesDerivesOne};
 
 /// A site is live exactly where it derives the empty span.
 pub fn live_law()

@@ -6,10 +6,10 @@ use Rattle.pv_dtd.specs.Productive.{IsProductive}
 use Rattle.pv_dtd.specs.Proper.{IsProperDtd}
 use Rattle.pv_rules.specs.Sites.{PlainSite, content_site, name_site}
 use Rattle.pv_rules.specs.Deriving.{DerivesAt}
-use Rattle.pv_free.specs.Free.{IsFree}
-use Rattle.pv_free.specs.Live.{AreLive, IsLiveSite}
-use Rattle.pv_free.specs.Runs.{IsFirstNotTaken, IsFurthestEnd}
-use Rattle.pv_free.specs.Takes.{Takes, TakesEach}
+use Rattle.law_free.specs.Free.{IsFree}
+use Rattle.law_free.specs.Live.{AreLive, IsLiveSite}
+use Rattle.law_free.specs.Runs.{IsFirstNotTaken, IsFurthestEnd}
+use Rattle.law_free.specs.Takes.{Takes, TakesEach}
 
 -- a site is live exactly where it derives the empty span, at any place of any word of live names
 abbrev pub LiveDerivesNothing : Type 0

@@ -5,7 +5,7 @@ use Rattle.pv_model.specs.Plain.{name, named, no_parts, opt, part, plus, seq, st
 use Rattle.pv_dtd.specs.Plain.{IsDeclared, PlainDtd, model_of, parts_in}
 use Rattle.pv_rules.specs.Numbering.{IsMemberAt, first_part, part_at, rest_at}
 use Rattle.pv_rules.specs.Sites.{PlainSite, content_site, name_site, part_site, rest_site}
-use Rattle.pv_free.specs.Live.{IsLiveSite}
+use Rattle.law_free.specs.Live.{IsLiveSite}
 
 -- A name takes itself, and what its content takes. A site takes what one within it takes, where
 -- those beside that are live.

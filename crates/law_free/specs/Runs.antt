@@ -4,7 +4,7 @@ use Rattle.pv_model.specs.Plain.{PlainToken}
 use Rattle.pv_dtd.specs.Plain.{PlainDtd}
 use Rattle.pv_rules.specs.Sites.{PlainSite}
 use Rattle.pv_rules.specs.Deriving.{DerivesAt}
-use Rattle.pv_free.specs.Takes.{Takes, TakesEach}
+use Rattle.law_free.specs.Takes.{Takes, TakesEach}
 
 -- j is the furthest end that the site derives from i
 pub record IsFurthestEnd (g : PlainDtd) (w : List PlainToken) (s : PlainSite) (i j : ℕ)

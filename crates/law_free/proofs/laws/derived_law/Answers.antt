@@ -1,0 +1,5 @@
+use Rattle.law_free.proofs.Taken.{derived_are_taken}
+use Rattle.law_free.proofs.laws.derived_law.Goals as goal
+
+pub returns : goal.returns
+returns c = derived_are_taken

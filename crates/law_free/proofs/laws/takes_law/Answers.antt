@@ -1,0 +1,5 @@
+use Rattle.law_free.proofs.Taken.{takes_derives_one}
+use Rattle.law_free.proofs.laws.takes_law.Goals as goal
+
+pub returns : goal.returns
+returns c = takes_derives_one
