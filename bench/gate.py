@@ -1,14 +1,17 @@
-"""Measures the gate, crate by crate. Words: the repository's folder, then words for `rt ci`; without these it proves all from nothing.
+"""Measures the gate, crate by crate. Words: the repository's folder, and words for `rt ci`; without these it proves all from nothing. With
+`--write` in their place it does so too, and puts the table into docs/DEVELOPING.md.
 
 It runs `rt ci`, with `--anew` where the kit keeps what passed, looks at its processes four times a second, and tells how many minutes of
-processor time each crate took: its proof, its tests' proofs, and its must-fail edits; then what tests and programs took to be built and
-run, the whole, the time on the clock, and the longest chain of crates that stand on one another. What a process does between the last look
+processor time each crate took: its proof, its tests' proofs, and its must-fail edits; then what the tests and the program took to be built
+and run, the whole, the time on the clock, and the longest chain of crates that stand on one another. What a process does between the last look
 at it and its end isn't counted.
 """
 import os
 import subprocess
 import sys
 import time
+
+from page import put
 
 PHASES = ("proof", "tests", "edits", "run")
 TICKS = os.sysconf("SC_CLK_TCK")
@@ -106,17 +109,35 @@ class Watch:
         return told
 
 
-def tell(watch, needs):
-    told = watch.minutes()
-    rows = {name: [told.get((name, phase), 0) for phase in PHASES[:3]] for name in needs}
-    print(f"{'crate':20}{'proof':>8}{'tests':>8}{'edits':>8}{'all':>8}")
-    for name, row in sorted(rows.items(), key=lambda it: -sum(it[1])):
-        print(f"{name:20}" + "".join(f"{minutes:8.1f}" for minutes in [*row, sum(row)]))
-    sums = [sum(row[at] for row in rows.values()) for at in range(3)]
-    print(f"{'together':20}" + "".join(f"{minutes:8.1f}" for minutes in [*sums, sum(sums)]))
-    rest = sum(minutes for (name, phase), minutes in told.items() if not name or phase == "run")
-    print(f"tests and programs, built and run, and all else: {rest:.1f}")
-    print(f"the longest chain, of {len(longest_chain(needs))}: {' '.join(longest_chain(needs))}")
+class Told:
+    """Minutes by crate, the dearest first: of its proof, its tests' proofs, its edits, and all; then those of all crates, and of all else."""
+
+    def __init__(self, watch, needs):
+        told = watch.minutes()
+        rows = {name: [told.get((name, phase), 0) for phase in PHASES[:3]] for name in needs}
+        self.rows = [(name, [*row, sum(row)]) for name, row in sorted(rows.items(), key=lambda it: -sum(it[1]))]
+        self.sums = [sum(row[at] for _, row in self.rows) for at in range(4)]
+        self.rest = sum(minutes for (name, phase), minutes in told.items() if not name or phase == "run")
+
+    def print(self, needs):
+        print(f"{'crate':20}{'proof':>8}{'tests':>8}{'edits':>8}{'all':>8}")
+        for name, row in [*self.rows, ("together", self.sums)]:
+            print(f"{name:20}" + "".join(f"{minutes:8.1f}" for minutes in row))
+        print(f"the tests and the program, built and run, and all else: {self.rest:.1f}")
+        print(f"the longest chain, of {len(longest_chain(needs))}: {' '.join(longest_chain(needs))}")
+
+    def lines(self, load, clock):
+        """The lines of a page."""
+        rows = [("all crates", self.sums), *((f"`{name}`", row) for name, row in self.rows)]
+        where = f"{os.cpu_count()} processors that had a load of {load:.1f} when it began"
+        return [
+            f"{self.sums[3] + self.rest:.0f} processor minutes, and {clock:.0f} minutes on the clock, on {where}. What isn't in the table, as the",
+            f"runs of the tests and of the program, took {self.rest:.1f} of them.",
+            "",
+            "| Crate | Proof | Tests' proofs | Edits | All |",
+            "|---|---|---|---|---|",
+            *(f"| {name} | " + " | ".join(f"{minutes:.1f}" for minutes in row) + " |" for name, row in rows),
+        ]
 
 
 def from_nothing():
@@ -127,14 +148,20 @@ def from_nothing():
 
 def main():
     top, words = sys.argv[1], sys.argv[2:]
+    is_written = words == ["--write"]
+    if "--write" in words and not is_written:
+        sys.exit("--write stands alone, since the page has the whole gate")
     needs = crates_of(top)
-    watch, began = Watch(needs), time.time()
-    gate = subprocess.Popen(["rt", "ci", *(words or from_nothing())], cwd=top)
+    watch, began, load = Watch(needs), time.time(), os.getloadavg()[0]
+    gate = subprocess.Popen(["rt", "ci", *(from_nothing() if is_written or not words else words)], cwd=top)
     while gate.poll() is None:
         watch.look({gate.pid})
         time.sleep(0.25)
-    tell(watch, needs)
-    print(f"on the clock: {(time.time() - began) / 60:.1f}")
+    told, clock = Told(watch, needs), (time.time() - began) / 60
+    told.print(needs)
+    print(f"on the clock: {clock:.1f}")
+    if is_written and not gate.returncode:
+        put(top, "bench/gate.sh", told.lines(load, clock), "DEVELOPING.md")
     sys.exit(gate.returncode)
 
 

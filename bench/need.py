@@ -1,7 +1,7 @@
 """Times a session that tells `need` once. Words: the repository's folder, and how many runs of each.
 
 On one list of 250, 500 and 1,000 tokens: sections that miss their head, blocks of which each title misses a section and each text a
-paragraph, and paragraphs that miss one section, so that most spans have a weight; and on 20,000 short lists, each of which misses an
+paragraph, and paragraphs that miss one section, so that most spans have a weight, both without a head too; and on 20,000 short lists, each of which misses an
 element. The runs of `check` stand beside. The best of each is told, in milliseconds of processor time and in kilobytes of memory at the peak,
 with what was printed.
 """
