@@ -1,8 +1,8 @@
 #!/usr/bin/env bash
-# All tests: `rt ci` proves every crate, tries the must-fail edits and runs the crates' tests and programs; then
+# All tests: `rt ci` proves every crate, tries the must-fail edits and runs the crates' tests and the program; then
 # docs/DEFINITIONS.md is compared with the comments that its tables are written from, where Python is installed; a first look is compared
 # with README; the built program is tried on the machine's files, and on hostile ones, with little memory and outputs that fail; sessions and
-# the other commands are tried with each allocation failing in turn, where a C compiler is installed; and the program is compared with a
+# the other commands are tried with an allocation failing, one after another, where a C compiler is installed; and the program is compared with a
 # search that inserts elements, with a model of a session and with xmllint, also with published DTDs, its packs and denials are tried with
 # checkers, and the page over a session in a browser, where Python, xmllint and Chromium are installed. The last line tells how many passed.
 set -u

@@ -357,7 +357,7 @@ class Page:
         """The names that two crates define are those which docs/DEVELOPING.md tells."""
         crates = {}
         for it in self.book.all():
-            if it.crate.startswith("pv_"):
+            if not it.crate.startswith("test_"):
                 crates.setdefault(it.name, set()).add(it.crate)
         shared = {name for name, of in crates.items() if len(of) > 1}
         with open(DEVELOPING, encoding="utf-8") as opened:
@@ -375,6 +375,8 @@ class Page:
             for name in re.findall(rf"`({WORD})`", names):
                 if name in known and name not in below:
                     self.failures.append(f"docs/DEFINITIONS.md: the clause of GuardsSession doesn't cite {name}")
+                if name not in known and "std:" not in where:
+                    self.failures.append(f"docs/DEFINITIONS.md: {name} is no definition of a crate of its row")
 
 
 def cell(text):
