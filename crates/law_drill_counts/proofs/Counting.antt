@@ -9,7 +9,7 @@ use Rattle.std.specs.Coded.{Coded-set, coded_ℕ}
 use Rattle.pv_cache.proofs.ListMarks.{verdicts_from}
 use Rattle.pv_cache.specs.Moves.{HasOpen}
 use Rattle.pv_cli.specs.Drill.{CountsReplies, counts_with, no_counts}
-use Rattle.pv_cli.specs.Session.{RepliesTo, done_of, reply_to}
+use Rattle.pv_conversation.specs.Session.{RepliesTo, done_of, reply_to}
 use Rattle.pv_cli.specs.declared.commands.drill.Counts.{Counts}
 use Rattle.pv_dtd.specs.Plain.{PlainDtd}
 use Rattle.pv_drill.specs.Drill.{drill_lines, section_line, section_lines}

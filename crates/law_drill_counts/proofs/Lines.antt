@@ -10,7 +10,7 @@ use Rattle.pv_script.specs.declared.commands.Command.{Command}
 use Rattle.pv_script.specs.declared.commands.Command.TheVariants as command
 use Rattle.pv_script.specs.declared.replies.Reply.{Reply}
 use Rattle.pv_session.specs.Sessions.{PlainSession}
-use Rattle.pv_cli.specs.Session.{RepliesBy, RepliesTo, known, unknown}
+use Rattle.pv_conversation.specs.Session.{RepliesBy, RepliesTo, known, unknown}
 
 wrap_text : (k : ℕ) (name : List ℕ) → codes "wrap 0." ++ (decimal k ++ (codes " 0 1 " ++ name)) ≡ command_text (command.Edit (section_wrap k name))
 wrap_text k name =

@@ -6,12 +6,12 @@ use Rattle.std.proofs.lemmas.List.{length-map}
 use Rattle.pv_cache.proofs.Alike.{twice}
 use Rattle.pv_cache.proofs.ListMarks.{all_narrow_to}
 use Rattle.pv_cli.proofs.OneDrill.{drill_sure}
-use Rattle.pv_cli.proofs.OneOpening.{ReadsOne}
+use Rattle.pv_stages.proofs.OneOpening.{ReadsOne}
 use Rattle.pv_cli.specs.CommandLine.{IsDrillSize}
-use Rattle.pv_cli.specs.Documents.{PlainOpened}
+use Rattle.pv_stages.specs.Documents.{PlainOpened}
 use Rattle.pv_cli.specs.Drill.{drill_stage, reading_stage}
-use Rattle.pv_cli.specs.Response.{PlainResponse}
-use Rattle.pv_cli.specs.Session.{guarding_stage}
+use Rattle.pv_stages.specs.Response.{PlainResponse}
+use Rattle.pv_conversation.specs.Session.{guarding_stage}
 use Rattle.pv_drill.specs.Drill.{drill_text}
 use Rattle.pv_dtd.specs.Laws.{OneMeaning}
 use Rattle.law_missing.specs.Dtds.{sections_dtd}

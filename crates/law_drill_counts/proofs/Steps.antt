@@ -8,7 +8,7 @@ use Rattle.pv_cache.proofs.OtherMarks.{nodes_unmarked}
 use Rattle.pv_cache.specs.Accepting.{GetsNoWorse, GetsWorse, IsWithinLimits}
 use Rattle.pv_chars.specs.Names.{is_name}
 use Rattle.pv_chars.proofs.NameLemmas.{is_name-IsName}
-use Rattle.pv_cli.specs.Session.{done_of, reply_to}
+use Rattle.pv_conversation.specs.Session.{done_of, reply_to}
 use Rattle.pv_edit.proofs.Leading.{given-doc}
 use Rattle.pv_edit.proofs.RemarkedReasons.{marks-dont-count}
 use Rattle.pv_edit.specs.ChangedLists.{changed_lists, makes, undoes}

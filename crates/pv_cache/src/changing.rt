@@ -73,6 +73,7 @@ impl WellMarked {
             ¬ AreNarrowAfter self.now.grammar (plain_task task.now)
             (kids_at task.now.list (plain_doc self.now.doc).root)) }
         ensures steps { steps.new ≤ steps.old + 2 }
+        ensures later { steps.old ≤ steps.new }
     {
         let Some(kids) = self.doc.kids_at(&task.list) else {
             unreachable!()

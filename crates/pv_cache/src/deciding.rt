@@ -74,6 +74,7 @@ impl WellMarked {
         ensures refused { IfErr result (IsUnaccepted self.now.grammar self.now.root
             (plain_doc self.now.doc) (plain_task task.now)) }
         ensures steps { steps.new ≤ steps.old + 2 }
+        ensures later { steps.old ≤ steps.new }
     {
         let verdicts = match self.judge_task(task, steps) {
             Ok(verdicts) => verdicts,

@@ -29,6 +29,7 @@ pub(crate) fn judge_words<L: Ledger>(
         (option_map plain_of owner) from words.now) }
     ensures wide { IfErr result (λ e. e ≡ too_wide → ¬ AreNarrow grammar.now words.now) }
     ensures steps { steps.new ≤ steps.old + 2 }
+    ensures later { steps.old ≤ steps.new }
 {
     let outer = grammar.verdict_of(alloc, owner, &words.outer, steps)?;
     let inner = judge_inner(alloc, grammar, words, from, steps)?;
@@ -46,6 +47,7 @@ fn judge_inner<L: Ledger>(
     ensures found { IfOk result (IsInnerFound grammar.now from words.now.inner) }
     ensures wide { IfErr result (λ e. e ≡ too_wide → ¬ AreNarrow grammar.now words.now) }
     ensures steps { steps.new ≤ steps.old + 1 }
+    ensures later { steps.old ≤ steps.new }
 {
     let Some(inner) = &words.inner else {
         return Ok(None);

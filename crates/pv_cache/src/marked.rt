@@ -114,6 +114,7 @@ impl Marked {
         ensures refused { IfErr result (HasGround 0 self.now.dtd self.now.root self.now.doc
             edit.now) }
         ensures steps { steps.new ≤ steps.old + 2 }
+        ensures later { steps.old ≤ steps.new }
     {
         let _judged = self.document.judge(edit, steps)?;
         Ok(())
@@ -135,6 +136,7 @@ impl Marked {
             edit.now) }
         ensures unchanged { OnErr result (self.new ≡ self.old) }
         ensures steps { steps.new ≤ steps.old + 2 }
+        ensures later { steps.old ≤ steps.new }
     {
         self.document.edit(edit, stamp, steps)
     }
@@ -157,6 +159,7 @@ impl Marked {
             self.new) }
         ensures unchanged { OnErr result (self.new ≡ self.old) }
         ensures steps { steps.new ≤ steps.old + 2 }
+        ensures later { steps.old ≤ steps.new }
     {
         self.document.revert(inverse, stamp, steps)
     }

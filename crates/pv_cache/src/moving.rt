@@ -22,7 +22,7 @@ use pv_tree::Mark;
 use std::sync::ledger::Ledger;
 
 // The nodes that an edited document may have below its document node.
-const NODE_LIMIT: u64 = 33_554_432;
+const MAX_NODES: u64 = 33_554_432;
 
 // Whether an edit would give a document of so many nodes too many.
 fn gives_too_many(edit: &Edit, nodes: u64) -> bool
@@ -30,7 +30,7 @@ fn gives_too_many(edit: &Edit, nodes: u64) -> bool
     ensures { result ≡ nat_lt (MAX_EDITED_NODES + nodes_taken edit.now)
         (nodes + nodes_made edit.now) }
 {
-    NODE_LIMIT + edit.nodes_taken() < nodes + edit.nodes_made()
+    MAX_NODES + edit.nodes_taken() < nodes + edit.nodes_made()
 }
 
 /// An edit that is accepted: what it does, what undoes it, and the verdicts of the lists that it
@@ -57,6 +57,7 @@ impl WellMarked {
         ensures refused { IfErr result (HasGround 0 self.now.grammar self.now.root
             (stamps_of (plain_doc self.now.doc)) edit.now) }
         ensures steps { steps.new ≤ steps.old + 2 }
+        ensures later { steps.old ≤ steps.new }
     {
         changed_lists_law::<Mark>();
         nodes_law::<Mark>();
@@ -87,6 +88,7 @@ impl WellMarked {
             (stamps_of (plain_doc self.old.doc)) edit.now) }
         ensures unchanged { OnErr result (stamped_doc self.new ≡ stamped_doc self.old) }
         ensures steps { steps.new ≤ steps.old + 2 }
+        ensures later { steps.old ≤ steps.new }
     {
         changed_lists_law::<Mark>();
         let judged = self.judge(edit, steps)?;
@@ -118,6 +120,7 @@ impl WellMarked {
             stamp done (stamped_doc self.new)) }
         ensures unchanged { OnErr result (stamped_doc self.new ≡ stamped_doc self.old) }
         ensures steps { steps.new ≤ steps.old + 2 }
+        ensures later { steps.old ≤ steps.new }
     {
         leads_back_law::<Mark>();
         changed_lists_law::<Mark>();

@@ -11,7 +11,7 @@ ghost use Rattle.pv_cert.specs.Lines.{entry_line};
 
 use pv_chars::delimiters::up_to_byte;
 use pv_model::NameId;
-use pv_rules::{MOST_MISSING, Site};
+use pv_rules::{MAX_MISSING, Site};
 use pv_script::written_number;
 use pv_tables::Entry;
 
@@ -73,7 +73,7 @@ fn entry_in(line: &[u8]) -> Option<Entry>
     let (number, behind_number) = next_number(behind_kind)?;
     let site = site_of(letter, number)?;
     let (from, to, value) = span_and_value(behind_number)?;
-    if MOST_MISSING < value {
+    if MAX_MISSING < value {
         return None;
     }
     Some(Entry {

@@ -5,12 +5,12 @@ ghost use Rattle.pv_cert.specs.Fronts.{Begins, BeginsNone, BeginsNot, IsLineOf, 
 ghost use Rattle.pv_cert.specs.Fronts.{has_no_feed};
 ghost use Rattle.pv_cert.specs.Lines.{version_line, total_line, mark_line, body_line, list_line};
 ghost use Rattle.pv_cert.specs.Lines.{end_line};
-ghost use Rattle.pv_cert.specs.Meaning.{MAX_PACK_BYTES as MOST_BYTES};
+ghost use Rattle.pv_cert.specs.Meaning.{MAX_PACK_BYTES as MAX_BYTES};
 
 use pv_chars::NoMemory;
 use pv_chars::delimiters::up_to_byte;
 use pv_chars::scan::after_bytes;
-use pv_rules::MOST_MISSING;
+use pv_rules::MAX_MISSING;
 use pv_script::{written_number, written_path};
 use pv_tree::Path;
 use std::alloc::Global;
@@ -58,7 +58,7 @@ pub fn total_at(bytes: &[u8]) -> Option<(u32, &[u8])>
     ensures { MatchOption result (BeginsNone total_line bytes.now)
         (λ r. Begins bytes.now (total_line r.0) r.1.now) }
 {
-    number_line_at(b"total ", MOST_MISSING, bytes)
+    number_line_at(b"total ", MAX_MISSING, bytes)
 }
 
 /// The mark at the front, and what stands behind it.
@@ -72,7 +72,7 @@ pub fn mark_at(bytes: &[u8]) -> Option<(u32, &[u8])>
 
 /// The body at the front, and what stands behind it.
 pub fn body_at(bytes: &[u8]) -> Option<(&[u8], &[u8])>
-    requires { length bytes.now ≤ MOST_BYTES }
+    requires { length bytes.now ≤ MAX_BYTES }
     ensures { MatchOption result (BeginsNone body_line bytes.now)
         (λ r. Begins bytes.now (body_line r.0.now) r.1.now) }
 {

@@ -2,7 +2,7 @@
 
 ghost use Rattle.std.specs.Prelude.{◌≡◌, ◌≤◌, ◌+◌, ℕ, List, [], ◌∷◌, length, IfOk, IfErr, None};
 ghost use Rattle.pv_cert.specs.Lines.{version_line, total_line};
-ghost use Rattle.pv_cert.specs.Meaning.{Answers, MAX_PACK_BYTES as MOST_BYTES, Outcome, PackMeans};
+ghost use Rattle.pv_cert.specs.Meaning.{Answers, MAX_PACK_BYTES as MAX_BYTES, Outcome, PackMeans};
 ghost use Rattle.pv_cert.specs.Meaning.{Refuses, Stand, is_pack};
 ghost use Rattle.pv_cert.specs.Steps.{RefusesHead, TakesMarks, head_lines};
 
@@ -54,7 +54,7 @@ struct Head<'a> {
 
 // The lines of a pack up to its body.
 fn read_head(alloc: Global, bytes: &[u8]) -> Result<Head<'_>, PackError>
-    requires { length bytes.now ≤ MOST_BYTES }
+    requires { length bytes.now ≤ MAX_BYTES }
     ensures read { IfOk result (λ head. Stand None bytes.now
         (head_lines head.total head.marks.items head.body.now) head.rest.now) }
     ensures refused { IfErr result (λ error. RefusesHead bytes.now error) }
@@ -76,7 +76,7 @@ fn read_head(alloc: Global, bytes: &[u8]) -> Result<Head<'_>, PackError>
 
 // The pack that bytes within the limit are the text of.
 fn read_within(alloc: Global, bytes: &[u8]) -> Result<Pack, PackError>
-    requires { length bytes.now ≤ MOST_BYTES }
+    requires { length bytes.now ≤ MAX_BYTES }
     ensures read { IfOk result (λ pack. PackMeans bytes.now (is_pack pack)) }
     ensures refused { IfErr result (λ error. Refuses bytes.now error) }
 {

@@ -12,7 +12,7 @@ use crate::entries::entry_at;
 use crate::errors::PackError;
 use crate::lines::{end_at, list_at};
 use pv_chars::List;
-use pv_tables::{Entry, MOST_ENTRIES, Table, precedes};
+use pv_tables::{Entry, MAX_ENTRIES, Table, precedes};
 use std::alloc::Global;
 
 // Whether an entry may stand behind the last one of its table, or at its head.
@@ -68,7 +68,7 @@ pub fn read_tables(alloc: Global, bytes: &[u8], first: u64) -> Result<Vec<Table>
     ensures refused { IfErr result (λ error. RefusesTables first bytes.now error) }
 {
     let mut tables = Vec::new(alloc);
-    let mut room = MOST_ENTRIES as usize;
+    let mut room = MAX_ENTRIES as usize;
     let mut rest = bytes;
     let mut lines = first;
     'tables: while let Some((path, after)) = list_at(alloc, rest)? {

@@ -20,17 +20,17 @@ no_semicolon bytes = list_all (λ b. not (b == 59)) bytes
 step_in_reference : (b : ℕ) (bs : List ℕ) → not (b == 59) ≡ true → cut_units true (b ∷ bs) ≡ goes_on b (cut_units true bs)
 step_in_reference b bs e = rw e refl
 
-cut_reference : (inner rest : List ℕ) → no_semicolon inner ≡ true → cut_units true (inner ++ (59 ∷ rest)) ≡ (inner ++ (59 ∷ (cut_units false rest).0), (cut_units false rest).1)
+pub cut_reference : (inner rest : List ℕ) → no_semicolon inner ≡ true → cut_units true (inner ++ (59 ∷ rest)) ≡ (inner ++ (59 ∷ (cut_units false rest).0), (cut_units false rest).1)
 cut_reference [] rest e = refl
 cut_reference (b ∷ bs) rest e =
     let parts = and_parts (not (b == 59)) (no_semicolon bs) e in
     step_in_reference b (bs ++ (59 ∷ rest)) parts.0 ∙ ap (goes_on b) (cut_reference bs rest parts.1)
 
 -- ---- a literal character
-begins_anew : (b : ℕ) (bs : List ℕ) → continues b ≡ false → cut_units false (b ∷ bs) ≡ unit_opens b (cut_units (b == 38) bs)
+pub begins_anew : (b : ℕ) (bs : List ℕ) → continues b ≡ false → cut_units false (b ∷ bs) ≡ unit_opens b (cut_units (b == 38) bs)
 begins_anew b bs e = rw e refl
 
-stays_open : (b : ℕ) (bs : List ℕ) → continues b ≡ true → cut_units false (b ∷ bs) ≡ goes_on b (cut_units false bs)
+pub stays_open : (b : ℕ) (bs : List ℕ) → continues b ≡ true → cut_units false (b ∷ bs) ≡ goes_on b (cut_units false bs)
 stays_open b bs e = rw e refl
 
 low_begins : (b : ℕ) → b < 128 → continues b ≡ false
@@ -64,7 +64,7 @@ literal_cut c rest is = by (cases_lt c 128) (cases_lt c 2048) (cases_lt c 65536)
         rw (four_bytes c l) (high_lead a (next (c / 4096) ∷ next (c / 64) ∷ next c ∷ rest) (omega arith) ∙ ap (unit_opens a) (stays_open (next (c / 4096)) (next (c / 64) ∷ next c ∷ rest) (next_continues (c / 4096)) ∙ ap (goes_on (next (c / 4096))) (stays_open (next (c / 64)) (next c ∷ rest) (next_continues (c / 64)) ∙ ap (goes_on (next (c / 64))) (stays_open (next c) rest (next_continues c)))))
 
 -- ---- a reference
-reference_cut : (inner rest : List ℕ) → no_semicolon inner ≡ true → cut_units false (38 ∷ (inner ++ (59 ∷ rest))) ≡ ([], (38 ∷ (inner ++ (59 ∷ (cut_units false rest).0))) ∷ (cut_units false rest).1)
+pub reference_cut : (inner rest : List ℕ) → no_semicolon inner ≡ true → cut_units false (38 ∷ (inner ++ (59 ∷ rest))) ≡ ([], (38 ∷ (inner ++ (59 ∷ (cut_units false rest).0))) ∷ (cut_units false rest).1)
 reference_cut inner rest e = ap (unit_opens 38) (cut_reference inner rest e)
 
 digits_hold_none : (base : ℕ) (digits : List ℕ) → base ≤ 36 → list_all (λ d. is_digit d base) digits ≡ true → no_semicolon digits ≡ true

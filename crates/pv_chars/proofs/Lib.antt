@@ -20,6 +20,7 @@ pub mod UnitReading
 pub mod CutLemmas
 pub mod MeansLemmas
 pub mod CloseMarks
+pub mod UnitPlaceLemmas
 pub mod Binding
 pub mod OneFront
 pub mod NameBytes

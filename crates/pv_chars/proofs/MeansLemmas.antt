@@ -1,6 +1,6 @@
 -- What a text means: one thing only, and what a loop over units has found.
-use Rattle.std.proofs.Common.{◌≡◌, ◌≢◌, ℕ, zero, suc, ◌+◌, ◌<◌, ◌≤◌, ◌-◌, ◌⊎◌, inl, inr, List, [], ◌∷◌, ◌++◌, Bool, true, false, ◌&&◌, ◌==◌, not, length, take, drop, add-one, Result, Ok, Err, refl, sym, ap, subst, ◌∙◌, arith, append_assoc, length-append}
-use Rattle.std.proofs.lemmas.List.{append-nil, nil_from_length, take-append-drop, drop-drop, length-take, length-drop}
+use Rattle.std.proofs.Common.{◌≡◌, ◌≢◌, ℕ, zero, suc, ◌+◌, ◌<◌, ◌≤◌, ◌-◌, ◌⊎◌, inl, inr, List, [], ◌∷◌, ◌++◌, Bool, true, false, ◌&&◌, ◌==◌, not, length, take, drop, Result, Ok, Err, refl, sym, ap, subst, ◌∙◌, arith, append_assoc, length-append}
+use Rattle.std.proofs.lemmas.List.{append-nil, nil_from_length, take-append-drop, length-take, length-drop}
 use Rattle.std.proofs.lemmas.Bool.{and_parts, ltb-true, eqb-true, eqb-false, not-true}
 use Rattle.std.proofs.lemmas.Str.{encode_ascii}
 use Rattle.std.specs.Prelude.{codes, nat_lt}
@@ -17,12 +17,12 @@ use Rattle.pv_chars.specs.Texts.{is_data, has_data}
 use Rattle.pv_chars.specs.References.{IsPredefined}
 use Rattle.pv_chars.proofs.Utf8Lemmas.{one_byte, two_bytes, three_bytes, four_bytes}
 use Rattle.pv_chars.specs.Texts.{joined}
-use Rattle.pv_chars.specs.Units.{is_literal, is_simple, is_lone, IsUnit, AllUnits, BeginsCloseMark, BeginsUnit, HasTextFault, TextRestMeans, ends, unit, fault, TextMeans, MeansUnits, IsCut, AreUnits, units_in, HasUnitFault, BeginsAnyUnit, BeginsSomeUnit}
+use Rattle.pv_chars.specs.Units.{is_literal, is_simple, is_lone, IsUnit, AllUnits, BeginsCloseMark, BeginsUnit, HasTextFault, TextRestMeans, ends, unit, fault, TextMeans, MeansUnits, IsCut, units_in, HasUnitFault, BeginsAnyUnit, BeginsSomeUnit}
 use Rattle.pv_chars.specs.declared.errors.TextError.{TextError}
 use Rattle.pv_chars.specs.declared.errors.TextError.TheVariants.{Empty, BadChar, BadReference, Entity, CloseMark, NoMemory}
 use Rattle.pv_chars.proofs.CharacterLemmas.{cut_at}
 use Rattle.pv_chars.proofs.CutLemmas.{units_in-joined}
-use Rattle.pv_chars.proofs.UnitReading.{same_unit, same_rest, unit_or_unit_fault, unit_or_fault, same_fault, nothing_is_no_fault, nothing_is_no_unit}
+use Rattle.pv_chars.proofs.UnitReading.{same_unit, unit_or_fault, same_fault, nothing_is_no_fault, nothing_is_no_unit}
 
 pub joined-append : (us vs : List (List ℕ)) → joined (us ++ vs) ≡ joined us ++ joined vs
 joined-append [] vs = refl
@@ -179,15 +179,15 @@ pub is_nothing : (bytes : List ℕ) (empty : Bool) → empty ≡ (length bytes =
 is_nothing bytes empty e f = nil_from_length bytes (eqb-true (length bytes) 0 (sym e ∙ f))
 
 -- ---- parts of a text
-units_bytes : (units : List (List ℕ)) → AllUnits units → length units ≤ length (joined units)
+pub unit_some : (u : List ℕ) → IsUnit u → 0 < length u
+unit_some [] is = absurd (nothing_is_no_unit [] [] [] refl record { is_unit = is; whole = refl; no_close_mark = λ c. let e = c.1 in cc })
+unit_some (x ∷ xs) is = omega arith
+
+pub units_bytes : (units : List (List ℕ)) → AllUnits units → length units ≤ length (joined units)
 units_bytes [] all = omega arith
 units_bytes (u ∷ us) all =
     let below = units_bytes us all.1 in
     let some = unit_some u all.0 in omega (arith, length-append u (joined us))
-  where
-    unit_some : (v : List ℕ) → IsUnit v → 0 < length v
-    unit_some [] is = absurd (nothing_is_no_unit [] [] [] refl record { is_unit = is; whole = refl; no_close_mark = λ c. let e = c.1 in cc })
-    unit_some (x ∷ xs) is = omega arith
 
 pub count_fits : (bytes : List ℕ) (count : ℕ) → IsCut bytes count → count ≤ length bytes
 count_fits bytes count c = let h = units_bytes c.units c.are_units in omega (arith, c.count_is, ap length c.whole)
@@ -220,40 +220,6 @@ AllUnits-drop zero us a = a
 AllUnits-drop (suc n) [] a = tt
 AllUnits-drop (suc n) (u ∷ us) a = AllUnits-drop n us a.1
 
-pub are_units_of : (bytes : List ℕ) (count : ℕ) → IsCut bytes count → AreUnits bytes
-are_units_of bytes count c = record { are_units = subst AllUnits (sym (cut_is bytes count c)) c.are_units; whole = c.whole ∙ ap joined (sym (cut_is bytes count c)) }
-
--- what stands behind so many units
-abbrev pub LeavesUnits : List ℕ → ℕ → List ℕ → Type 0
-LeavesUnits bytes n rest = rest ≡ joined (drop n (units_in bytes))
-
-record NextUnit (us : List (List ℕ)) (n : ℕ) : Type 0 where
-  pub u : List ℕ
-  pub is_unit : IsUnit u
-  pub next : drop n us ≡ u ∷ drop (suc n) us
-
-next_unit : (us : List (List ℕ)) (n : ℕ) → n < length us → AllUnits us → NextUnit us n
-next_unit [] n less all = absurd (omega arith)
-next_unit (u ∷ us) zero less all = record { u = u; is_unit = all.0; next = refl }
-next_unit (u ∷ us) (suc n) less all = let below = next_unit us n (omega arith) all.1 in record { u = below.u; is_unit = below.is_unit; next = below.next }
-
--- a unit stands where one is left, so a reader of units has no fault there and leaves one less
-module _ (bytes rest : List ℕ) (n : ℕ) (are : AreUnits bytes) (less : n < length (units_in bytes)) (left : LeavesUnits bytes n rest) where
-  one : NextUnit (units_in bytes) n
-  one = next_unit (units_in bytes) n less are.are_units
-
-  begins : rest ≡ one.u ++ joined (drop (suc n) (units_in bytes))
-  begins = left ∙ ap joined one.next
-
-  pub leaves_some : rest ≢ []
-  leaves_some none = nothing_is_no_unit rest one.u _ none record { is_unit = one.is_unit; whole = begins; no_close_mark = λ c. let e = c.1 in cc }
-
-  pub leaves_less : (more : List ℕ) → BeginsAnyUnit rest more → LeavesUnits bytes (n + 1) more
-  leaves_less more b = same_rest rest b.item one.u more (joined (drop (suc n) (units_in bytes))) b.is_item one.is_unit b.whole begins ∙ ap (λ k. joined (drop k (units_in bytes))) (sym (add-one n))
-
-  pub leaves_no_fault : (at : ℕ) (e : TextError) → HasUnitFault e at rest → ⊥
-  leaves_no_fault at e f = unit_or_unit_fault rest one.u (joined (drop (suc n) (units_in bytes))) at e one.is_unit begins f
-
 -- ---- data
 unit_data : (u : List ℕ) → IsUnit u → is_data u ≡ list_any (λ b. not (is_space b)) u
 unit_data u (inl is) = rw is.whole (by (cases_lt is.code 128) (cases_lt is.code 2048) (cases_lt is.code 65536))
@@ -285,39 +251,65 @@ pub cut_data : (bytes : List ℕ) (count : ℕ) → IsCut bytes count → has_da
 cut_data bytes count c = ap has_data (cut_is bytes count c) ∙ units_data c.units c.are_units ∙ ap (list_any (λ b. not (is_space b))) (sym c.whole)
 
 -- ---- a part of a text
-part_units : (us : List (List ℕ)) (from to : ℕ) → from < to → drop from us ≡ take (to - from) (drop from us) ++ drop to us
-part_units us from to less =
-    let k = to - from in
-    sym (take-append-drop k (drop from us)) ∙ ap (λ l. take k (drop from us) ++ l) (drop-drop k from us ∙ ap (λ n. drop n us) (omega arith))
-
-pub part_is : (bytes start end : List ℕ) (from to : ℕ) → from < to → start ≡ joined (drop from (units_in bytes)) → end ≡ joined (drop to (units_in bytes)) → start ≡ joined (take (to - from) (drop from (units_in bytes))) ++ end
-part_is bytes start end from to less s e =
-    let us = units_in bytes in
-    s ∙ ap joined (part_units us from to less) ∙ joined-append (take (to - from) (drop from us)) (drop to us) ∙ ap (λ l. joined (take (to - from) (drop from us)) ++ l) (sym e)
-
-pub part_shorter : (bytes start end : List ℕ) (from to : ℕ) → from < to → start ≡ joined (drop from (units_in bytes)) → end ≡ joined (drop to (units_in bytes)) → length end ≤ length start
-part_shorter bytes start end from to less s e = omega (arith, ap length (part_is bytes start end from to less s e), length-append (joined (take (to - from) (drop from (units_in bytes)))) end)
-
-pub part_cut : (bytes start end part items : List ℕ) (from to : ℕ) → AreUnits bytes → from < to → to ≤ length (units_in bytes) → start ≡ joined (drop from (units_in bytes)) → end ≡ joined (drop to (units_in bytes)) → part ≡ take (length start - length end) start → items ≡ part → IsCut items (to - from)
-part_cut bytes start end part items from to are less within s e p i =
-    let us = units_in bytes in
-    let mid = take (to - from) (drop from us) in
-    let count : to - from ≡ length mid = omega (arith, length-take (to - from) (drop from us), length-drop from us) in
-    record {
-      units = mid;
-      are_units = AllUnits-take (to - from) (drop from us) (AllUnits-drop from us are.are_units);
-      some = λ none. omega (arith, ap length none, count);
-      whole = i ∙ p ∙ (cut_at start (joined mid) end (part_is bytes start end from to less s e)).0;
-      count_is = count;
-    }
-
-pub part_view : (bytes start end part items : List ℕ) (from to : ℕ) → AreUnits bytes → from < to → to ≤ length (units_in bytes) → start ≡ joined (drop from (units_in bytes)) → end ≡ joined (drop to (units_in bytes)) → part ≡ take (length start - length end) start → items ≡ part → units_in items ≡ take (to - from) (drop from (units_in bytes))
-unfolding part_cut
-part_view bytes start end part items from to are less within s e p i = cut_is items (to - from) (part_cut bytes start end part items from to are less within s e p i)
-
 -- the same text under another name of its bytes
-pub are_units_at : (bytes items : List ℕ) (count : ℕ) → IsCut items count → bytes ≡ items → AreUnits bytes
-are_units_at bytes items count c e = subst AreUnits (sym e) (are_units_of items count c)
+pub cut_named : (bytes items : List ℕ) (count : ℕ) → IsCut items count → bytes ≡ items → IsCut bytes count
+cut_named bytes items count c e = subst (λ (l : List ℕ). IsCut l count) (sym e) c
+
+pub count_is : (bytes : List ℕ) (count : ℕ) → IsCut bytes count → count ≡ length (units_in bytes)
+count_is bytes count c = c.count_is ∙ ap length (sym (cut_is bytes count c))
+
+pub cut_units : (bytes : List ℕ) (count : ℕ) → IsCut bytes count → AllUnits (units_in bytes)
+cut_units bytes count c = subst AllUnits (sym (cut_is bytes count c)) c.are_units
+
+pub cut_whole : (bytes : List ℕ) (count : ℕ) → IsCut bytes count → bytes ≡ joined (units_in bytes)
+cut_whole bytes count c = c.whole ∙ ap joined (sym (cut_is bytes count c))
+
+module _ (bytes rest : List ℕ) (all n : ℕ) (is : IsCut bytes all) (behind : rest ≡ joined (drop n (units_in bytes))) where
+  pub behind_view : units_in rest ≡ drop n (units_in bytes)
+  behind_view = ap units_in behind ∙ units_in-joined (drop n (units_in bytes)) (AllUnits-drop n (units_in bytes) (cut_units bytes all is))
+
+  front_and_rest : bytes ≡ joined (take n (units_in bytes)) ++ rest
+  front_and_rest =
+      let us = units_in bytes in
+      cut_whole bytes all is ∙ ap joined (sym (take-append-drop n us)) ∙ joined-append (take n us) (drop n us) ∙ ap (λ l. joined (take n us) ++ l) (sym behind)
+
+  pub behind_shorter : length rest ≤ length bytes
+  behind_shorter = omega (arith, ap length front_and_rest, length-append (joined (take n (units_in bytes))) rest)
+
+  -- the bytes before them
+  module _ (front items : List ℕ) (some : 0 < n) (within : n ≤ all) (cut : front ≡ take (length bytes - length rest) bytes) (same : items ≡ front) where
+    pub front_cut : IsCut items n
+    front_cut =
+        let us = units_in bytes in
+        let count : n ≡ length (take n us) = omega (arith, length-take n us, count_is bytes all is) in
+        record {
+          units = take n us;
+          are_units = AllUnits-take n us (cut_units bytes all is);
+          some = λ none. omega (arith, ap length none, count);
+          whole = same ∙ cut ∙ (cut_at bytes (joined (take n us)) rest front_and_rest).0;
+          count_is = count;
+        }
+
+    pub front_view : units_in items ≡ take n (units_in bytes)
+    unfolding front_cut
+    front_view = cut_is items n front_cut
+
+  -- these bytes
+  module _ (items : List ℕ) (some : n < all) (same : items ≡ rest) where
+    pub back_cut : IsCut items (all - n)
+    back_cut =
+        let us = units_in bytes in
+        let count : all - n ≡ length (drop n us) = omega (arith, length-drop n us, count_is bytes all is) in
+        record {
+          units = drop n us;
+          are_units = AllUnits-drop n us (cut_units bytes all is);
+          some = λ none. omega (arith, ap length none, count);
+          whole = same ∙ behind;
+          count_is = count;
+        }
+
+    pub back_view : units_in items ≡ drop n (units_in bytes)
+    back_view = ap units_in same ∙ behind_view
 
 -- ---- a byte that is a unit whatever stands behind it
 pub lone_unit : (bytes rest : List ℕ) (b : ℕ) → bytes ≡ b ∷ rest → is_lone b ≡ true → BeginsSomeUnit bytes rest

@@ -7,6 +7,7 @@ pub mod Declarations
 pub mod References
 pub mod Texts
 pub mod Units
+pub mod UnitPlaces
 pub mod Scan
 pub mod ByteOrderMark
 pub mod Utf8

@@ -133,11 +133,6 @@ pub record IsCut (bytes : List ℕ) (count : ℕ) : Type 0 where
   pub whole : bytes ≡ joined units
   pub count_is : count ≡ length units
 
--- These bytes are units, which are told by the bytes.
-pub record AreUnits (bytes : List ℕ) : Type 0 where
-  pub are_units : AllUnits (units_in bytes)
-  pub whole : bytes ≡ joined (units_in bytes)
-
 -- So many units are what a text means.
 pub record MeansUnits (bytes : List ℕ) (count : ℕ) : Type 0 where
   pub units : List (List ℕ)

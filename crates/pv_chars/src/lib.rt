@@ -21,6 +21,7 @@ mod memory;
 mod names;
 pub mod references;
 pub mod scan;
+mod unit_places;
 mod unit_text;
 pub mod utf8;
 

@@ -9,11 +9,12 @@ ghost use Rattle.pv_chars.specs.declared.errors.TextError.{TextError};
 ghost use Rattle.pv_chars.specs.References.{IsPredefined};
 ghost use Rattle.pv_chars.specs.Units.{HasTextFault, HasUnitFault, BeginsAnyUnit, BeginsSomeUnit};
 ghost use Rattle.pv_chars.specs.Units.{BeginsAmpersand, TextRestMeans, MeansUnits, TextMeans};
-ghost use Rattle.pv_chars.specs.Units.{is_simple, is_lone, units_in, AllUnits, AreUnits};
+ghost use Rattle.pv_chars.specs.Units.{is_simple, is_lone, units_in, AllUnits, IsCut};
 
 use crate::characters::is_char;
 use crate::references::{after_char_ref, entity_ref_at};
 use crate::scan::{after_bytes, is_space};
+use crate::unit_places::behind_units;
 use crate::utf8::char_at;
 use crate::{NoMemory, TextError};
 use std::alloc::Global;
@@ -202,13 +203,29 @@ impl Units {
         ensures { IfOk result (λ u. u ≡ take (to - from) (drop from self.now)) }
     {
         let bytes = self.bytes.as_slice();
-        let start = behind_units(bytes, from);
-        let end = behind_units(bytes, to);
-        let part = start.split_at(start.len() - end.len()).0;
-        Ok(Units {
-            bytes: Vec::from_slice(alloc, part)?,
-            count: to - from,
-        })
+        let start = behind_units(bytes, self.count, from);
+        first_units(alloc, start, self.count - from, to - from)
+    }
+
+    /// The units before number `at`, and the others.
+    pub fn cut(&self, alloc: Global, at: usize) -> Result<(Units, Units), NoMemory>
+        requires some { 0 < at }
+        requires within { at < length self.now }
+        ensures front { IfOk result (λ parts. parts.0 ≡ take at self.now) }
+        ensures back { IfOk result (λ parts. parts.1 ≡ drop at self.now) }
+    {
+        let bytes = self.bytes.as_slice();
+        let rest = behind_units(bytes, self.count, at);
+        let front = bytes.split_at(bytes.len() - rest.len()).0;
+        let before = Units {
+            bytes: Vec::from_slice(alloc, front)?,
+            count: at,
+        };
+        let behind = Units {
+            bytes: Vec::from_slice(alloc, rest)?,
+            count: self.count - at,
+        };
+        Ok((before, behind))
     }
 
     /// The units of both, this text's first.
@@ -232,20 +249,19 @@ fn has_black(bytes: &[u8]) -> bool
     bytes.iter().any(|b| !is_space(*b))
 }
 
-// What stands behind so many units.
-fn behind_units(bytes: &[u8], count: usize) -> &[u8]
-    requires units { AreUnits bytes.now }
-    requires within { count ≤ length (units_in bytes.now) }
-    ensures { result.now ≡ joined (drop count (units_in bytes.now)) }
+// So many units at the front of a text that has `all`.
+fn first_units(alloc: Global, bytes: &[u8], all: usize, count: usize) -> Result<Units, NoMemory>
+    requires units { IsCut bytes.now all }
+    requires some { 0 < count }
+    requires within { count ≤ all }
+    ensures { IfOk result (λ u. u ≡ take count (units_in bytes.now)) }
 {
-    let mut rest = bytes;
-    'units: for _ in 0..count {
-        match after_any_unit(rest, 0) {
-            Ok(more) => rest = more,
-            Err(_) => unreachable!(),
-        }
-    }
-    rest
+    let rest = behind_units(bytes, all, count);
+    let front = bytes.split_at(bytes.len() - rest.len()).0;
+    Ok(Units {
+        bytes: Vec::from_slice(alloc, front)?,
+        count,
+    })
 }
 
 // How many units a text has, or its first fault.

@@ -15,7 +15,8 @@ const LEADS_FOUR: u8 = 0xF0;
 /// What a byte that continues a code point has beside its six bits.
 const CONTINUES: u8 = 0x80;
 
-fn continues(b: u8) -> bool
+/// Whether it continues a code point.
+pub(crate) fn continues(b: u8) -> bool
     ensures { result ≡ continues b }
 {
     b >= CONTINUES && b < LEADS_TWO

@@ -4,20 +4,20 @@ use Rattle.std.specs.Io.KnownBytes.{Appends}
 use Rattle.pv_cert.specs.declared.packs.Pack.{Pack}
 use Rattle.pv_cli.specs.Certificates.{certificate_stage}
 use Rattle.pv_cli.specs.CommandLine.{PlainCommandLine, on_certificate}
-use Rattle.pv_cli.specs.Course.{Course, RunEnding, input_fault, no_memory, output_fault, responds, shelf_fault}
-use Rattle.pv_cli.specs.Devices.{Devices}
-use Rattle.pv_cli.specs.Documents.{PlainOpened}
+use Rattle.pv_stages.specs.Course.{Course, RunEnding, input_fault, no_memory, output_fault, responds, shelf_fault}
+use Rattle.pv_stages.specs.Devices.{Devices}
+use Rattle.pv_stages.specs.Documents.{PlainOpened}
 use Rattle.pv_cli.specs.Laws.{AcceptsLeast, ShowsLeast}
-use Rattle.pv_cli.specs.Opening.{Files}
+use Rattle.pv_stages.specs.Opening.{Files}
 use Rattle.pv_cli.specs.PackFiles.{pack_file_stage}
-use Rattle.pv_cli.specs.Program.{WritesEnding, cut_off, wrote}
-use Rattle.pv_cli.specs.Response.{PlainResponse}
-use Rattle.pv_cli.specs.Stage.{Responds}
+use Rattle.pv_stages.specs.Showing.{WritesEnding, cut_off, wrote}
+use Rattle.pv_stages.specs.Response.{PlainResponse}
+use Rattle.pv_stages.specs.Stage.{Responds}
 use Rattle.pv_cli.specs.Verify.{TellsAcceptance, TellsOfPack, is_accepted, is_rejected, names_wide}
 use Rattle.pv_cli.specs.declared.checker.Checker.TheVariants.{Verify}
-use Rattle.pv_cli.specs.declared.status.Status.TheVariants.{Done, Limit, Negative, NoMemory, ReadFault, WriteFault}
+use Rattle.pv_stages.specs.declared.status.Status.TheVariants.{Done, Limit, Negative, NoMemory, ReadFault, WriteFault}
 use Rattle.pv_cli.proofs.CertificateCauses.{pack_reads}
-use Rattle.pv_cli.proofs.OneOpening.{GoesWith, told, went_on}
+use Rattle.pv_stages.proofs.OneOpening.{GoesWith, told, went_on}
 use Rattle.pv_cli.proofs.Refusals.{IsUndone, opening_undone, pack_file_undone, undone}
 
 -- a run that did all wrote its response

@@ -9,17 +9,18 @@ use Rattle.pv_standoff.specs.Laws.{TextsHaveNoCloseMark}
 use Rattle.pv_standoff.specs.Lines.{SpellRanges}
 use Rattle.pv_standoff.specs.Ranges.{AreNamed, MAX_RANGES}
 use Rattle.pv_standoff.specs.declared.ranges.Range.{Range}
-use Rattle.pv_cli.specs.declared.response.Response.{Response}
-use Rattle.pv_cli.specs.declared.stop.Stop.{Stop}
+use Rattle.pv_stages.specs.declared.response.Response.{Response}
+use Rattle.pv_stages.specs.declared.stop.Stop.{Stop}
 use Rattle.pv_cli.specs.CommandLine.{PlainCommandLine, on_ranges}
-use Rattle.pv_cli.specs.Course.{without_input}
-use Rattle.pv_cli.specs.Devices.{ShelfNow}
-use Rattle.pv_cli.specs.Opening.{Files, IsFile, dtd_file_stage}
-use Rattle.pv_cli.specs.Program.{CountsShelf}
-use Rattle.pv_cli.specs.Returns.{TakesCourse, FindsResponse, ReturnsOver, ending_of}
-use Rattle.pv_cli.specs.Stage.{Behind, Stage, beside, followed_by}
+use Rattle.pv_stages.specs.Course.{without_input}
+use Rattle.pv_stages.specs.Devices.{ShelfNow}
+use Rattle.pv_stages.specs.Opening.{Files, IsFile, dtd_file_stage}
+use Rattle.pv_stages.specs.Showing.{CountsShelf}
+use Rattle.pv_stages.specs.Returns.{TakesCourse, ReturnsOver, ending_of}
+use Rattle.pv_cli.specs.Returns.{FindsResponse}
+use Rattle.pv_stages.specs.Stage.{Behind, Stage, beside, followed_by}
 use Rattle.pv_cli.specs.Standoff.{CountsDocument, IsShownCourse, annotation_stage, nested_stage, nesting_stage, none_nested, ranges_file_stage, some_nested, text_file_stage}
-use Rattle.pv_cli.proofs.Stages.{behind_second, finds_goes, finds_stays, stays_from, stop_counts, stop_ends, stopped_first}
+use Rattle.pv_stages.proofs.Stages.{behind_second, finds_goes, finds_stays, stays_from, stop_counts, stop_ends, stopped_first}
 
 -- the files of a DTD and a text, and of ranges
 abbrev pub ThreeFiles : Type 0

@@ -9,28 +9,29 @@ use Rattle.pv_cli.specs.Check.{TellsPossibility}
 use Rattle.pv_cli.specs.Complete.{TellsPack}
 use Rattle.pv_cli.specs.CommandLine.{PlainCommandLine, drill, files_named, on_certificate, on_document, on_dtd, on_ranges}
 use Rattle.pv_cli.specs.Commands.{VerbTells, impossibility, possibility}
-use Rattle.pv_cli.specs.Course.{Course, RunEnding, input_fault, no_memory, output_fault, responds, shelf_fault}
+use Rattle.pv_stages.specs.Course.{Course, RunEnding, input_fault, no_memory, output_fault, responds, shelf_fault}
 use Rattle.pv_cli.specs.DenialFiles.{denial_file_stage}
 use Rattle.pv_cli.specs.Deny.{TellsJudgement}
-use Rattle.pv_cli.specs.Devices.{Devices}
-use Rattle.pv_cli.specs.Documents.{PlainOpened}
+use Rattle.pv_stages.specs.Devices.{Devices}
+use Rattle.pv_stages.specs.Documents.{PlainOpened}
 use Rattle.pv_cli.specs.Drill.{DRILL_ROOT, TellsCounts, drill_stage}
 use Rattle.pv_cli.specs.Dtd.{TellsDtd}
 use Rattle.pv_cli.specs.Laws.{ComesByCause, RaisesOneAtMost}
-use Rattle.pv_cli.specs.Opening.{Files, dtd_file_stage, file_at, opening_stage}
+use Rattle.pv_stages.specs.Opening.{Files, dtd_file_stage, file_at, opening_stage}
 use Rattle.pv_cli.specs.PackFiles.{pack_file_stage}
-use Rattle.pv_cli.specs.Possibility.{possibility_stage, width_stage}
-use Rattle.pv_cli.specs.Program.{CountsInput, CountsShelf, IsDefined, WritesEnding, cut_off, wrote}
-use Rattle.pv_cli.specs.Response.{PlainResponse}
-use Rattle.pv_cli.specs.Session.{Converses, guarding_stage}
-use Rattle.pv_cli.specs.Stage.{Stage, Behind, Responds, opened, refused, responded, short_of_memory, short_of_memory as out_of_memory, stopped}
+use Rattle.pv_stages.specs.Possibility.{possibility_stage, width_stage}
+use Rattle.pv_stages.specs.Showing.{CountsInput, CountsShelf, WritesEnding, cut_off, wrote}
+use Rattle.pv_cli.specs.Program.{IsDefined}
+use Rattle.pv_stages.specs.Response.{PlainResponse}
+use Rattle.pv_conversation.specs.Session.{Converses, guarding_stage}
+use Rattle.pv_stages.specs.Stage.{Stage, Behind, Responds, opened, refused, responded, short_of_memory, short_of_memory as out_of_memory, stopped}
 use Rattle.pv_cli.specs.Standoff.{IsShownCourse, TellsNested, nested_stage}
 use Rattle.pv_cli.specs.Valid.{TellsValidity}
 use Rattle.pv_cli.specs.Verify.{TellsOfPack}
 use Rattle.pv_cli.specs.Why.{TellsWhy}
 use Rattle.pv_cli.specs.declared.checker.Checker.TheVariants.{Deny, Verify}
-use Rattle.pv_cli.specs.declared.status.Status.{Status}
-use Rattle.pv_cli.specs.declared.status.Status.TheVariants.{Done, Negative, Usage, ReadFault, WriteFault, NoMemory, BadDtd, BadDocument, BadPack, Limit}
+use Rattle.pv_stages.specs.declared.status.Status.{Status}
+use Rattle.pv_stages.specs.declared.status.Status.TheVariants.{Done, Negative, Usage, ReadFault, WriteFault, NoMemory, BadDtd, BadDocument, BadPack, Limit}
 use Rattle.pv_cli.specs.declared.verb.Verb.{Verb}
 use Rattle.pv_cli.specs.declared.verb.Verb.TheVariants.{Valid, Check, Session, Complete, Why}
 use Rattle.pv_cli.proofs.AnnotationCauses.{nested_refused, shown_told}

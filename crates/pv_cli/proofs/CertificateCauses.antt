@@ -10,13 +10,13 @@ use Rattle.pv_tree.specs.declared.nodes.Mark.{Mark}
 use Rattle.pv_cli.specs.Causes.{ReadsCertificate, ReadsPack, in_pack, not_accepted, pack_file, pack_width, RespondsBy}
 use Rattle.pv_cli.specs.Certificates.{certificate_stage}
 use Rattle.pv_cli.specs.CommandLine.{PlainCommandLine, on_certificate}
-use Rattle.pv_cli.specs.Documents.{PlainOpened}
-use Rattle.pv_cli.specs.Opening.{Files, opening_stage}
+use Rattle.pv_stages.specs.Documents.{PlainOpened}
+use Rattle.pv_stages.specs.Opening.{Files, opening_stage}
 use Rattle.pv_cli.specs.PackFiles.{RefusesPack, no_pack, pack_file_stage, too_large}
-use Rattle.pv_cli.specs.Response.{PlainResponse}
+use Rattle.pv_stages.specs.Response.{PlainResponse}
 use Rattle.pv_cli.specs.Verify.{TellsAcceptance, TellsOfPack, is_accepted, is_rejected, names_wide}
 use Rattle.pv_cli.specs.declared.checker.Checker.TheVariants.{Verify}
-use Rattle.pv_cli.specs.declared.status.Status.TheVariants.{Done, Negative, BadPack, Limit}
+use Rattle.pv_stages.specs.declared.status.Status.TheVariants.{Done, Negative, BadPack, Limit}
 use Rattle.pv_cli.proofs.ResponseCauses.{by_status, opening_reads_as, opening_refused}
 
 -- a pack, and the tests of it

@@ -1,21 +1,23 @@
 -- What a command on a certificate did, as a response that is defined for it.
 use Rattle.std.proofs.Common.{ℕ, ◌+◌, List, [], ◌∷◌, Option, Some, Result, Ok, Err, refl, subst, sym, ◌∙◌, arith}
 use Rattle.pv_cli.specs.declared.checker.Checker.{Checker}
-use Rattle.pv_cli.specs.declared.opening.Opened.{Opened}
-use Rattle.pv_cli.specs.declared.response.Response.{Response}
-use Rattle.pv_cli.specs.declared.stop.Stop.{Stop}
+use Rattle.pv_stages.specs.declared.opening.Opened.{Opened}
+use Rattle.pv_stages.specs.declared.response.Response.{Response}
+use Rattle.pv_stages.specs.declared.stop.Stop.{Stop}
 use Rattle.pv_cli.specs.Certificates.{certificate_stage}
 use Rattle.pv_cli.specs.CommandLine.{PlainCommandLine, on_certificate}
-use Rattle.pv_cli.specs.Course.{Course, without_input}
-use Rattle.pv_cli.specs.Devices.{ShelfNow}
+use Rattle.pv_stages.specs.Course.{Course, without_input}
+use Rattle.pv_stages.specs.Devices.{ShelfNow}
 use Rattle.pv_read.specs.Grammar.{IsDocumentText}
-use Rattle.pv_cli.specs.Documents.{PlainOpened, SpellsSome}
-use Rattle.pv_cli.specs.Opening.{AreFiles, Files, IsFile, file_at, opening_stage}
-use Rattle.pv_cli.specs.Program.{CountsShelf, IsDefined}
-use Rattle.pv_cli.specs.Response.{PlainResponse}
-use Rattle.pv_cli.specs.Returns.{FindsResponse, ReturnsOver, StopCounts, TellsBy, ending_of, plain_opened}
-use Rattle.pv_cli.specs.Stage.{Behind, Responds, Stage, beside, opened}
-use Rattle.pv_cli.proofs.Stages.{finds_goes, finds_stays, some_file, stays_from, stop_counts, stop_ends, stopped_beside, stopped_first, stopped_second, tells_found}
+use Rattle.pv_stages.specs.Documents.{PlainOpened, SpellsSome}
+use Rattle.pv_stages.specs.Opening.{AreFiles, Files, IsFile, file_at, opening_stage}
+use Rattle.pv_stages.specs.Showing.{CountsShelf}
+use Rattle.pv_cli.specs.Program.{IsDefined}
+use Rattle.pv_stages.specs.Response.{PlainResponse}
+use Rattle.pv_cli.specs.Returns.{FindsResponse}
+use Rattle.pv_stages.specs.Returns.{ReturnsOver, StopCounts, TellsBy, ending_of, plain_opened}
+use Rattle.pv_stages.specs.Stage.{Behind, Responds, Stage, beside, opened}
+use Rattle.pv_stages.proofs.Stages.{finds_goes, finds_stays, some_file, stays_from, stop_counts, stop_ends, stopped_beside, stopped_first, stopped_second, tells_found}
 
 -- what was opened has the bytes of a document
 pub opening_spells : (root : List ℕ) (files : Files) (o : PlainOpened) (k : ℕ) → (opening_stage root files).Opens o k → SpellsSome root o.bytes

@@ -2,15 +2,16 @@
 use Rattle.std.proofs.Common.{◌≡◌, ◌⊎◌, inl, inr, ℕ, Option, List, [], refl}
 use Rattle.std.specs.Io.KnownBytes.{Appends}
 use Rattle.pv_io.specs.Causes.{CountStays, Rose}
-use Rattle.pv_cli.specs.declared.status.Status.{Status}
-use Rattle.pv_cli.specs.declared.status.Status.TheVariants.{ReadFault, WriteFault, NoMemory}
+use Rattle.pv_stages.specs.declared.status.Status.{Status}
+use Rattle.pv_stages.specs.declared.status.Status.TheVariants.{ReadFault, WriteFault, NoMemory}
 use Rattle.pv_cli.specs.CommandLine.{PlainCommandLine}
-use Rattle.pv_cli.specs.Course.{RunEnding, responds, shelf_fault, input_fault, output_fault, no_memory}
+use Rattle.pv_stages.specs.Course.{RunEnding, responds, shelf_fault, input_fault, output_fault, no_memory}
 use Rattle.pv_cli.specs.Headline.{HadNoMemory}
 use Rattle.pv_cli.specs.Laws.{AnswersWithoutFault, Answered, FaultsShow}
-use Rattle.pv_cli.specs.Devices.{Devices}
-use Rattle.pv_cli.specs.Program.{CountsShelf, CountsInput, WritesEnding, wrote, cut_off, Runs}
-use Rattle.pv_cli.specs.Response.{PlainResponse}
+use Rattle.pv_stages.specs.Devices.{Devices}
+use Rattle.pv_stages.specs.Showing.{CountsShelf, CountsInput, WritesEnding, wrote, cut_off}
+use Rattle.pv_cli.specs.Program.{Runs}
+use Rattle.pv_stages.specs.Response.{PlainResponse}
 
 -- the parts of `HadNoMemory` that speak of the output alone
 abbrev pub EndsUnwritten : Option (List ℕ) → Option (List ℕ) → Status → Type 0

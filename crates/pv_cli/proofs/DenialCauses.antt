@@ -10,12 +10,12 @@ use Rattle.pv_cli.specs.CommandLine.{PlainCommandLine, on_certificate}
 use Rattle.pv_cli.specs.Commands.{impossibility}
 use Rattle.pv_cli.specs.DenialFiles.{RefusesDenial, denial_file_stage, no_denial, too_large}
 use Rattle.pv_cli.specs.Deny.{TellsJudgement, is_denied, is_rejected, is_too_wide}
-use Rattle.pv_cli.specs.Documents.{PlainOpened}
-use Rattle.pv_cli.specs.Opening.{Files, opening_stage}
-use Rattle.pv_cli.specs.Response.{PlainResponse}
+use Rattle.pv_stages.specs.Documents.{PlainOpened}
+use Rattle.pv_stages.specs.Opening.{Files, opening_stage}
+use Rattle.pv_stages.specs.Response.{PlainResponse}
 use Rattle.pv_cli.specs.Why.{TellsWhy, has_too_many, is_denied as is_explained, is_possible}
 use Rattle.pv_cli.specs.declared.checker.Checker.TheVariants.{Deny}
-use Rattle.pv_cli.specs.declared.status.Status.TheVariants.{Done, Negative, BadPack, Limit}
+use Rattle.pv_stages.specs.declared.status.Status.TheVariants.{Done, Negative, BadPack, Limit}
 use Rattle.pv_cli.proofs.ResponseCauses.{by_status, opening_reads, opening_refused}
 
 -- why a document is impossible

@@ -6,7 +6,7 @@ use Rattle.pv_drill.specs.Drill.{drill_lines, section_line, section_lines}
 use Rattle.pv_session.specs.Sessions.{PlainSession}
 use Rattle.pv_cli.specs.declared.commands.drill.Counts.{Counts}
 use Rattle.pv_cli.specs.Drill.{CountsLine, CountsReplies, counts_with, no_counts}
-use Rattle.pv_cli.specs.Session.{done_of}
+use Rattle.pv_conversation.specs.Session.{done_of}
 
 first_byte : (xs ys : List ℕ) → xs ≡ ys → get_or xs 0 0 ≡ get_or ys 0 0
 first_byte xs ys is = ap (λ (h : List ℕ). get_or h 0 0) is

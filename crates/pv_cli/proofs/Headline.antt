@@ -12,23 +12,24 @@ use Rattle.pv_tree.specs.Plain.{PlainDoc}
 use Rattle.pv_tree.specs.declared.nodes.Mark.{Mark}
 use Rattle.pv_complete.specs.Needing.{AreListsForVerdicts}
 use Rattle.pv_cli.specs.CommandLine.{PlainCommandLine, on_document}
-use Rattle.pv_cli.specs.Course.{Course, RunEnding, input_fault, responds}
-use Rattle.pv_cli.specs.Devices.{Devices}
-use Rattle.pv_cli.specs.Documents.{PlainOpened}
+use Rattle.pv_stages.specs.Course.{Course, RunEnding, input_fault, responds}
+use Rattle.pv_stages.specs.Devices.{Devices}
+use Rattle.pv_stages.specs.Documents.{PlainOpened}
 use Rattle.pv_cli.specs.Headline.{AnswersScript, HadNoMemory, HoldsDocument, HoldsDtd}
 use Rattle.pv_cli.specs.Laws.{Answered, AnswersWithoutFault, SessionsAreGuarded}
-use Rattle.pv_cli.specs.Opening.{AreFiles, Files, file_at, opening_stage}
-use Rattle.pv_cli.specs.Program.{ReadsAll, Runs, TakesInput}
-use Rattle.pv_cli.specs.Response.{PlainResponse}
-use Rattle.pv_cli.specs.Script.{IsWithin}
-use Rattle.pv_cli.specs.Session.{Converses, EndsSession, IsSessionCourse, Place, Replies, at_quit, ended_over, finished, guarding_stage, input_failed, output_failed, past_line, past_script, quitted, without_room}
-use Rattle.pv_cli.specs.declared.status.Status.{Status}
-use Rattle.pv_cli.specs.declared.status.Status.TheVariants.{Done}
+use Rattle.pv_stages.specs.Opening.{AreFiles, Files, file_at, opening_stage}
+use Rattle.pv_stages.specs.Showing.{ReadsAll, TakesInput}
+use Rattle.pv_cli.specs.Program.{Runs}
+use Rattle.pv_stages.specs.Response.{PlainResponse}
+use Rattle.pv_conversation.specs.Script.{IsWithin}
+use Rattle.pv_conversation.specs.Session.{Converses, EndsSession, IsSessionCourse, Place, Replies, at_quit, ended_over, finished, guarding_stage, input_failed, output_failed, past_line, past_script, quitted, without_room}
+use Rattle.pv_stages.specs.declared.status.Status.{Status}
+use Rattle.pv_stages.specs.declared.status.Status.TheVariants.{Done}
 use Rattle.pv_cli.specs.declared.verb.Verb.TheVariants.{Session}
-use Rattle.pv_cli.proofs.Beginning.{session_begins}
-use Rattle.pv_cli.proofs.GoingOn.{more_changes_nothing}
-use Rattle.pv_cli.proofs.OneOpening.{AreSameOpened, GoesWith, ReadsOne, ReadsOneDtd, opening_sure, went_on}
-use Rattle.pv_cli.proofs.OneSession.{guarding_sure, quit_on, within_or_past}
+use Rattle.pv_conversation.proofs.Beginnings.{session_begins}
+use Rattle.pv_conversation.proofs.GoingOn.{more_changes_nothing}
+use Rattle.pv_stages.proofs.OneOpening.{AreSameOpened, GoesWith, ReadsOne, ReadsOneDtd, opening_sure, went_on}
+use Rattle.pv_conversation.proofs.OneSession.{guarding_sure, quit_on, within_or_past}
 
 -- the replies to a whole script, and that they are the response
 record Ends (session : PlainSession) (script : List ℕ) (r : PlainResponse) : Type 0 where

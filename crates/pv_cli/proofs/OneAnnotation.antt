@@ -15,14 +15,15 @@ use Rattle.pv_standoff.specs.declared.errors.RangesError.TheVariants as bad_line
 use Rattle.pv_standoff.specs.declared.ranges.Range.{Range}
 use Rattle.pv_tree.specs.Plain.{PlainDoc}
 use Rattle.pv_tree.specs.declared.nodes.Mark.{Mark}
-use Rattle.pv_cli.specs.Course.{Course}
-use Rattle.pv_cli.specs.Opening.{Files, dtd_file_stage, fetch_stage, file_at}
-use Rattle.pv_cli.specs.Possibility.{width_stage}
-use Rattle.pv_cli.specs.Response.{PlainResponse}
-use Rattle.pv_cli.specs.Stage.{Responds, Stage, beside, followed_by}
+use Rattle.pv_stages.specs.Course.{Course}
+use Rattle.pv_stages.specs.Opening.{Files, dtd_file_stage, fetch_stage, file_at}
+use Rattle.pv_stages.specs.Possibility.{width_stage}
+use Rattle.pv_stages.specs.Response.{PlainResponse}
+use Rattle.pv_stages.specs.Stage.{Responds, Stage, beside, followed_by}
 use Rattle.pv_cli.specs.Standoff.{IsNestRefusal, IsRangesRefusal, IsShownCourse, IsTextRefusal, MAX_RANGES_BYTES, MAX_TEXT_BYTES, RefusesNesting, RefusesRanges, RefusesText, TellsNested, annotation_stage, nested_stage, nesting_stage, no_document, no_ranges, no_text, ranges_file_stage, ranges_stage, text_file_stage, text_stage, with_shown}
-use Rattle.pv_cli.proofs.OneCheck.{one_possibility, width_sure}
-use Rattle.pv_cli.proofs.OneOpening.{AreSure, IsEqual, IsSamePair, IsSure, ReadsOneDtd, RunsAs, beside_sure, dtd_file_sure, fetch_sure, followed_sure, one_like, reading_sure, sure_at, told}
+use Rattle.pv_cli.proofs.OneCheck.{one_possibility}
+use Rattle.pv_stages.proofs.OnePossibility.{width_sure}
+use Rattle.pv_stages.proofs.OneOpening.{AreSure, IsEqual, IsSamePair, IsSure, ReadsOneDtd, RunsAs, beside_sure, dtd_file_sure, fetch_sure, followed_sure, one_like, reading_sure, sure_at, told}
 use Rattle.pv_cli.proofs.OneVerification.{beside_same}
 
 same_text_refusal : (e : TextError) (r also : PlainResponse) → IsTextRefusal e r → IsTextRefusal e also → r ≡ also

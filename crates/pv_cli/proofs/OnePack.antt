@@ -32,16 +32,16 @@ use Rattle.pv_tree.specs.declared.nodes.Mark.{Mark}
 use Rattle.pv_tree.specs.declared.nodes.Verdict.TheVariants as verdict
 use Rattle.pv_missing.specs.LiveWords.{IsLiveWord}
 use Rattle.pv_cli.specs.Complete.{IsCompleteCourse, IsPackOfCompletion, PacksAlike, TellsPack, are_one, are_packs, has_too_many, is_heavy, is_pack, is_wide}
-use Rattle.pv_cli.specs.Course.{Course}
-use Rattle.pv_cli.specs.Documents.{PlainOpened}
-use Rattle.pv_cli.specs.Possibility.{possibility_stage}
-use Rattle.pv_cli.specs.Response.{PlainResponse, with_line}
-use Rattle.pv_cli.specs.Stage.{Behind, Responds}
-use Rattle.pv_cli.specs.declared.status.Status.TheVariants.{Done, Limit}
-use Rattle.pv_cli.proofs.Completions.{completion_as, grown_as}
-use Rattle.pv_cli.proofs.MissingElements.{cause_as, needs_as, wide_as}
-use Rattle.pv_cli.proofs.OneCheck.{none_first, possibility_sure}
-use Rattle.pv_cli.proofs.OneOpening.{AreSameOpened, IsEqual, RunsAs, one_like, told, unmarked_same}
+use Rattle.pv_stages.specs.Course.{Course}
+use Rattle.pv_stages.specs.Documents.{PlainOpened}
+use Rattle.pv_stages.specs.Possibility.{possibility_stage}
+use Rattle.pv_stages.specs.Response.{PlainResponse, with_line}
+use Rattle.pv_stages.specs.Stage.{Behind, Responds}
+use Rattle.pv_stages.specs.declared.status.Status.TheVariants.{Done, Limit}
+use Rattle.pv_conversation.proofs.Completions.{completion_as, grown_as}
+use Rattle.pv_conversation.proofs.MissingElements.{cause_as, needs_as, wide_as}
+use Rattle.pv_stages.proofs.OnePossibility.{none_first, possibility_sure}
+use Rattle.pv_stages.proofs.OneOpening.{AreSameOpened, IsEqual, RunsAs, one_like, told, unmarked_same}
 
 -- no two keys are each before the other
 before_once : (hs ks : List ℕ) → IsBefore hs ks → IsBefore ks hs → ⊥

@@ -9,16 +9,16 @@ use Rattle.pv_cli.specs.Complete.{are_one}
 use Rattle.pv_cli.specs.Certificates.{certificate_stage}
 use Rattle.pv_cli.specs.CommandLine.{drill, on_certificate, on_document, on_dtd, on_ranges}
 use Rattle.pv_cli.specs.Commands.{VerbTells}
-use Rattle.pv_cli.specs.Course.{Course}
+use Rattle.pv_stages.specs.Course.{Course}
 use Rattle.pv_cli.specs.DenialFiles.{denial_file_stage}
 use Rattle.pv_cli.specs.Deny.{TellsJudgement}
-use Rattle.pv_cli.specs.Documents.{PlainOpened}
+use Rattle.pv_stages.specs.Documents.{PlainOpened}
 use Rattle.pv_cli.specs.Drill.{TellsCounts, drill_stage}
 use Rattle.pv_cli.specs.Dtd.{TellsDtd}
 use Rattle.pv_cli.specs.Laws.{HasOneResponse}
-use Rattle.pv_cli.specs.Opening.{dtd_file_stage, file_at, opening_stage}
-use Rattle.pv_cli.specs.Response.{PlainResponse}
-use Rattle.pv_cli.specs.Stage.{Responds}
+use Rattle.pv_stages.specs.Opening.{dtd_file_stage, file_at, opening_stage}
+use Rattle.pv_stages.specs.Response.{PlainResponse}
+use Rattle.pv_stages.specs.Stage.{Responds}
 use Rattle.pv_cli.specs.Standoff.{IsShownCourse, nested_stage}
 use Rattle.pv_cli.specs.Valid.{IsValidCourse, TellsValidity}
 use Rattle.pv_cli.specs.PackFiles.{pack_file_stage}
@@ -26,16 +26,16 @@ use Rattle.pv_cli.specs.Verify.{TellsOfPack}
 use Rattle.pv_cli.specs.declared.checker.Checker.TheVariants.{Deny, Verify}
 use Rattle.pv_cli.specs.declared.verb.Verb.{Verb}
 use Rattle.pv_cli.specs.declared.verb.Verb.TheVariants.{Valid, Check, Session, Complete, Why}
-use Rattle.pv_cli.proofs.Likeness.{one_response_alike}
+use Rattle.pv_conversation.proofs.Likeness.{one_response_alike}
 use Rattle.pv_cli.proofs.OneAnnotation.{NestsOnce, nested_sure, one_annotation}
 use Rattle.pv_cli.proofs.OneCheck.{check_once}
 use Rattle.pv_cli.proofs.OneDenial.{DeniesOnce, denial_file_sure, one_denial, why_once}
 use Rattle.pv_cli.proofs.OneDrill.{drill_sure, one_drill}
 use Rattle.pv_cli.proofs.OneDtd.{one_dtd}
-use Rattle.pv_cli.proofs.OneOpening.{AreSameOpened, IsEqual, IsSamePair, ReadsOne, ReadsOneDtd, RunsAs, dtd_file_sure, has_units, one_like, opening_sure, told, unmarked_same}
+use Rattle.pv_stages.proofs.OneOpening.{AreSameOpened, IsEqual, IsSamePair, ReadsOne, ReadsOneDtd, RunsAs, dtd_file_sure, has_units, one_like, opening_sure, told, unmarked_same}
 use Rattle.pv_cli.proofs.OnePack.{ListsOnce, complete_once}
-use Rattle.pv_cli.proofs.OneReplies.{AnswersOnce}
-use Rattle.pv_cli.proofs.OneSession.{session_once}
+use Rattle.pv_conversation.proofs.OneReplies.{AnswersOnce}
+use Rattle.pv_conversation.proofs.OneSession.{session_once}
 use Rattle.pv_cli.proofs.OneVerdict.{one_verdict}
 use Rattle.pv_cli.proofs.OneVerification.{AreSameFiles, VerifiesOnce, certificate_sure, one_verification, pack_file_sure}
 

@@ -2,7 +2,7 @@
 use Rattle.std.proofs.Common.{◌≡◌, ℕ, List, ◌∷◌, ◌++◌, codes, sym, ap, ◌∙◌, subst}
 use Rattle.std.specs.List.{AllByRecursion}
 use Rattle.pv_dtd.specs.Plain.{PlainDtd}
-use Rattle.pv_dtd.specs.Hedge.{done, IsValid}
+use Rattle.pv_dtd.specs.Hedge.{IsValid}
 use Rattle.pv_tree.specs.Laws.{IsValidByLists}
 use Rattle.pv_tree.specs.Lists.{lists_of, IsValidList, IsFirstNot}
 use Rattle.pv_tree.specs.Plain.{PlainDoc}
@@ -12,11 +12,12 @@ use Rattle.pv_tree.specs.declared.nodes.Mark.{Mark}
 use Rattle.pv_tree.proofs.Every.{all_right}
 use Rattle.pv_tree.proofs.Firsts.{one_first}
 use Rattle.pv_tree.specs.Marks.{unmarked_doc}
-use Rattle.pv_cli.specs.Response.{PlainResponse, with_line}
+use Rattle.pv_stages.specs.Response.{PlainResponse, with_line}
 use Rattle.pv_script.specs.Paths.{path_text}
 use Rattle.pv_cli.specs.Valid.{TellsValidity, is_valid, is_invalid}
-use Rattle.pv_cli.specs.declared.status.Status.TheVariants.{Negative}
-use Rattle.pv_tree.proofs.Marks.{view-without_marks, first_invalid-without_marks}
+use Rattle.pv_stages.specs.declared.status.Status.TheVariants.{Negative}
+use Rattle.pv_tree.proofs.Marks.{first_invalid-without_marks}
+use Rattle.pv_stages.proofs.OnePossibility.{same_view}
 
 -- one of two documents without marks is the other
 pub one_invalid_path : {M : Type 0} (g : PlainDtd) (root : List ℕ) (doc same : PlainDoc M) (path other : List ℕ) → unmarked_doc doc ≡ unmarked_doc same →
@@ -31,10 +32,6 @@ not_both : (by_lists : IsValidByLists Mark) (g : PlainDtd) (root path : List ℕ
 not_both by_lists g root path doc texts valid f =
     let all = subst (AllByRecursion (IsValidList g root)) f.is_split ((by_lists g root doc texts).1 valid) in
     f.is_not (all_right (IsValidList g root) f.before (f.list ∷ f.after) all).0
-
-pub same_view : {M : Type 0} (doc same : PlainDoc M) → unmarked_doc doc ≡ unmarked_doc same → view doc.root ≡ view same.root
-same_view doc same e =
-    sym (view-without_marks doc.root done) ∙ ap (λ (d : PlainDoc Unit). view d.root) e ∙ view-without_marks same.root done
 
 pub one_verdict : (by_lists : IsValidByLists Mark) (root : List ℕ) (g : PlainDtd) (doc same : PlainDoc Mark) (a b : PlainResponse) → HasUnits doc.root → HasUnits same.root →
     unmarked_doc doc ≡ unmarked_doc same → TellsValidity root g doc a → TellsValidity root g same b → a ≡ b

@@ -17,14 +17,14 @@ use Rattle.pv_tree.specs.declared.nodes.Mark.{Mark}
 use Rattle.pv_tree.proofs.Every.{contains_first, contains_later}
 use Rattle.pv_verify.specs.Laws.{OneAnswer}
 use Rattle.pv_cli.specs.Certificates.{certificate_stage}
-use Rattle.pv_cli.specs.Documents.{PlainOpened}
-use Rattle.pv_cli.specs.Opening.{Files, fetch_stage, file_at, opening_stage}
+use Rattle.pv_stages.specs.Documents.{PlainOpened}
+use Rattle.pv_stages.specs.Opening.{Files, fetch_stage, file_at, opening_stage}
 use Rattle.pv_cli.specs.PackFiles.{RefusesPack, no_pack, pack_file_stage, pack_stage, too_large}
-use Rattle.pv_cli.specs.Response.{PlainResponse, with_line}
-use Rattle.pv_cli.specs.Stage.{Stage, beside}
+use Rattle.pv_stages.specs.Response.{PlainResponse, with_line}
+use Rattle.pv_stages.specs.Stage.{Stage, beside}
 use Rattle.pv_cli.specs.Verify.{TellsAcceptance, TellsOfPack, is_accepted, is_rejected, names_wide, test_text}
-use Rattle.pv_cli.specs.declared.status.Status.TheVariants.{BadPack, Limit, Negative}
-use Rattle.pv_cli.proofs.OneOpening.{AreSameOpened, AreSure, IsEqual, IsSure, ReadsOne, ReadsOneDtd, fetch_sure, followed_sure, opening_sure, reading_sure, sure_at}
+use Rattle.pv_stages.specs.declared.status.Status.TheVariants.{BadPack, Limit, Negative}
+use Rattle.pv_stages.proofs.OneOpening.{AreSameOpened, AreSure, IsEqual, IsSure, ReadsOne, ReadsOneDtd, fetch_sure, followed_sure, opening_sure, reading_sure, sure_at}
 
 -- the same DTD, document and certificate
 abbrev pub AreSameFiles : {Z : Type 0} → PlainOpened × Z → PlainOpened × Z → Type 0

@@ -3,30 +3,33 @@ use Rattle.std.proofs.Common.{◌≡◌, inl, inr, ℕ, ◌+◌, List, [], ◌�
 use Rattle.pv_dtd.specs.Plain.{PlainDtd}
 use Rattle.pv_dtd.specs.PlainForms.{plain_dtd}
 use Rattle.pv_dtd.specs.declared.dtd.Dtd.{Dtd}
-use Rattle.pv_cli.specs.declared.opening.Fetched.{Fetched}
-use Rattle.pv_cli.specs.declared.response.Response.{Response}
-use Rattle.pv_cli.specs.declared.status.Status.{Status}
-use Rattle.pv_cli.specs.declared.stop.Stop.{Stop}
-use Rattle.pv_cli.specs.declared.stop.Stop.TheVariants.{Refused, ShelfFault, NoMemory}
+use Rattle.pv_stages.specs.declared.opening.Fetched.{Fetched}
+use Rattle.pv_stages.specs.declared.response.Response.{Response}
+use Rattle.pv_stages.specs.declared.status.Status.{Status}
+use Rattle.pv_stages.specs.declared.stop.Stop.{Stop}
+use Rattle.pv_stages.specs.declared.stop.Stop.TheVariants.{Refused, ShelfFault, NoMemory}
 use Rattle.pv_cli.specs.declared.verb.Verb.{Verb}
 use Rattle.pv_cli.specs.declared.verb.Verb.TheVariants.{Session}
 use Rattle.pv_session.specs.Sessions.{PlainSession}
-use Rattle.pv_cli.specs.Checking.{CountsChecked, lines_taken, none_checked}
+use Rattle.pv_cli.specs.Checking.{CountsChecked, none_checked}
+use Rattle.pv_conversation.specs.Script.{lines_taken}
 use Rattle.pv_cli.specs.CommandLine.{PlainCommandLine, files_named, on_document, on_dtd}
 use Rattle.pv_cli.specs.Commands.{GoesOn, VerbTells, lines_checked}
-use Rattle.pv_cli.specs.Conversation.{Talked}
-use Rattle.pv_cli.specs.Course.{Course, after_fetches, responds, without_input}
-use Rattle.pv_cli.specs.Devices.{InputNow, OutputNow, ShelfNow, devices}
-use Rattle.pv_cli.specs.Documents.{PlainOpened, document_stage}
+use Rattle.pv_conversation.specs.Conversation.{Talked}
+use Rattle.pv_stages.specs.Course.{Course, after_fetches, responds, without_input}
+use Rattle.pv_stages.specs.Devices.{InputNow, OutputNow, ShelfNow, devices}
+use Rattle.pv_stages.specs.Documents.{PlainOpened, document_stage}
 use Rattle.pv_cli.specs.Dtd.{TellsDtd}
-use Rattle.pv_cli.specs.Opening.{AreFiles, IsFile, dtd_file_stage, fetching_stage, opening_stage}
-use Rattle.pv_cli.specs.Program.{ChecksLists, CountsInput, CountsShelf, IsDefined, Runs, ShowsStreams, WritesEnding}
-use Rattle.pv_cli.specs.Response.{plain_response}
-use Rattle.pv_cli.specs.Returns.{DoesRest, TakesCourse, FindsResponse, ReturnsOver, StopsBy, TellsBy, ending_of, plain_fetched, session_stage}
-use Rattle.pv_cli.specs.Session.{guarding_stage}
-use Rattle.pv_cli.specs.Stage.{Responds, opened, refused, short_of_memory}
+use Rattle.pv_stages.specs.Opening.{AreFiles, IsFile, dtd_file_stage, fetching_stage, opening_stage}
+use Rattle.pv_cli.specs.Program.{ChecksLists, IsDefined, Runs}
+use Rattle.pv_stages.specs.Showing.{CountsInput, CountsShelf, ShowsStreams, WritesEnding}
+use Rattle.pv_stages.specs.Response.{plain_response}
+use Rattle.pv_cli.specs.Returns.{DoesRest, FindsResponse, session_stage}
+use Rattle.pv_stages.specs.Returns.{TakesCourse, ReturnsOver, StopsBy, TellsBy, ending_of, plain_fetched}
+use Rattle.pv_conversation.specs.Session.{guarding_stage}
+use Rattle.pv_stages.specs.Stage.{Responds, opened, refused, short_of_memory}
 use Rattle.pv_cli.proofs.Counting.{session_counts}
-use Rattle.pv_cli.proofs.Stages.{behind_second, finds_goes, finds_stays, stays_from, stop_counts, stop_ends, stopped_first, tells_found}
+use Rattle.pv_stages.proofs.Stages.{behind_second, finds_goes, finds_stays, stays_from, stop_counts, stop_ends, stopped_first, tells_found}
 
 -- what didn't ask the input left its count
 input_stays : (result : Result Response Stop) (count : ℕ) → CountsInput (ending_of result) count count

@@ -2,13 +2,13 @@
 use Rattle.std.proofs.Common.{ℕ, List, Result, Ok, Err, refl}
 use Rattle.pv_dtd.specs.Plain.{PlainDtd}
 use Rattle.pv_cli.specs.Commands.{GoesOn}
-use Rattle.pv_cli.specs.Response.{plain_response}
-use Rattle.pv_cli.specs.Returns.{TakesCourse, Returns}
-use Rattle.pv_cli.specs.Stage.{opened, refused, short_of_memory, responded}
+use Rattle.pv_stages.specs.Response.{plain_response}
+use Rattle.pv_stages.specs.Returns.{TakesCourse, Returns}
+use Rattle.pv_stages.specs.Stage.{opened, refused, short_of_memory, responded}
 use Rattle.pv_cli.specs.Validity.{validity_stage}
-use Rattle.pv_cli.specs.declared.response.Response.{Response}
-use Rattle.pv_cli.specs.declared.stop.Stop.{Stop}
-use Rattle.pv_cli.specs.declared.stop.Stop.TheVariants.{Refused, ShelfFault, NoMemory}
+use Rattle.pv_stages.specs.declared.response.Response.{Response}
+use Rattle.pv_stages.specs.declared.stop.Stop.{Stop}
+use Rattle.pv_stages.specs.declared.stop.Stop.TheVariants.{Refused, ShelfFault, NoMemory}
 use Rattle.pv_cli.specs.declared.verb.Verb.TheVariants.{Valid}
 
 pub told_found : (root : List ℕ) (g : PlainDtd) (bytes : List ℕ) (result : Result Response Stop) → Returns plain_response (validity_stage root g bytes) 0 result → TakesCourse (GoesOn Valid root (g, bytes)) result

@@ -27,16 +27,16 @@ use Rattle.pv_cli.specs.Causes.{table_entries, pack_file, in_pack, pack_width, t
 use Rattle.pv_cli.specs.Causes.{ranges_file, range_lines, nested_depth, nested_width}
 use Rattle.pv_cli.specs.Causes.{script_line, whole_script}
 use Rattle.pv_cli.specs.CommandLine.{PlainCommandLine}
-use Rattle.pv_cli.specs.Devices.{Devices}
+use Rattle.pv_stages.specs.Devices.{Devices}
 use Rattle.pv_cli.specs.Headline.{HadNoMemory}
 use Rattle.pv_cli.specs.Laws.{Answered, AnswersWithoutFault}
-use Rattle.pv_cli.specs.Opening.{Files}
+use Rattle.pv_stages.specs.Opening.{Files}
 use Rattle.pv_cli.specs.Program.{Runs}
-use Rattle.pv_cli.specs.Within.{AnswersWithin, IsAnswered, IsWithin, PassesLimitOfLists}
-use Rattle.pv_cli.specs.declared.status.Status.{Status}
-use Rattle.pv_cli.specs.declared.status.Status.TheVariants.{Done, Negative, Usage, ReadFault}
-use Rattle.pv_cli.specs.declared.status.Status.TheVariants.{WriteFault, NoMemory, BadDtd}
-use Rattle.pv_cli.specs.declared.status.Status.TheVariants.{BadDocument, BadPack, Limit}
+use Rattle.pv_cli.specs.Within.{AnswersWithin, IsAllWithin, IsAnswered, PassesLimitOfLists}
+use Rattle.pv_stages.specs.declared.status.Status.{Status}
+use Rattle.pv_stages.specs.declared.status.Status.TheVariants.{Done, Negative, Usage, ReadFault}
+use Rattle.pv_stages.specs.declared.status.Status.TheVariants.{WriteFault, NoMemory, BadDtd}
+use Rattle.pv_stages.specs.declared.status.Status.TheVariants.{BadDocument, BadPack, Limit}
 use Rattle.pv_cli.proofs.Causes.{responds_caused}
 
 -- what the laws say that the proof stands on
@@ -54,7 +54,7 @@ no_more : (most n : ℕ) → n ≤ most → most < n → ⊥
 no_more most n within past = omega arith
 
 module _ (once : MeanOnce) (line : Option PlainCommandLine) (files : Files)
-    (taken : Option (List ℕ)) (within : IsWithin line files taken) where
+    (taken : Option (List ℕ)) (within : IsAllWithin line files taken) where
   limited : PassesLimit line files taken → PassesLimitOfLists line files taken
   limited (dtd_file bytes is past) = absurd (no_more _ _ (within.dtd_file bytes is).short past)
   limited (document_file bytes is past) = absurd (no_more _ _ (within.second_file bytes is) past)
@@ -186,7 +186,7 @@ module _ (once : MeanOnce) (line : Option PlainCommandLine) (files : Files)
 
 answered : {S : Type 0} (once : MeanOnce) (line : Option PlainCommandLine)
     (before after : Devices S) (status : Status) (run : Runs line before after status) →
-    IsWithin line run.files run.course.taken → HadNoMemory before after status ⊎ Answered run →
+    IsAllWithin line run.files run.course.taken → HadNoMemory before after status ⊎ Answered run →
     HadNoMemory before after status ⊎ IsAnswered line run.files run.course.taken status
 answered once line before after status run within (inl none) = inl none
 answered once line before after status run within (inr told) =

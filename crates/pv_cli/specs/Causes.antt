@@ -45,18 +45,18 @@ use Rattle.pv_cli.specs.CommandLine.{PlainCommandLine, drill, files_named, on_ce
 use Rattle.pv_cli.specs.CommandLine.{on_document, on_dtd, on_ranges}
 use Rattle.pv_cli.specs.Commands.{Test, validity, width, possibility, impossibility, test_of}
 use Rattle.pv_cli.specs.Commands.{makes_tables, reads_script, tests_width}
-use Rattle.pv_cli.specs.Devices.{Devices}
+use Rattle.pv_stages.specs.Devices.{Devices}
 use Rattle.pv_cli.specs.Drill.{DRILL_ROOT}
-use Rattle.pv_cli.specs.Opening.{Files, file_at}
-use Rattle.pv_cli.specs.Parameters.{is_parameters_limit}
-use Rattle.pv_cli.specs.Script.{MAX_SCRIPT_BYTES, has_long_line}
+use Rattle.pv_stages.specs.Opening.{Files, file_at}
+use Rattle.pv_stages.specs.Parameters.{is_parameters_limit}
+use Rattle.pv_conversation.specs.Script.{MAX_SCRIPT_BYTES, has_long_line}
 use Rattle.pv_cli.specs.Standoff.{MAX_RANGES_BYTES, MAX_TEXT_BYTES}
 use Rattle.pv_cli.specs.declared.checker.Checker.{Checker}
 use Rattle.pv_cli.specs.declared.checker.Checker.TheVariants.{Deny, Verify}
-use Rattle.pv_cli.specs.declared.status.Status.{Status}
-use Rattle.pv_cli.specs.declared.status.Status.TheVariants.{Done, Negative, Usage, ReadFault}
-use Rattle.pv_cli.specs.declared.status.Status.TheVariants.{WriteFault, NoMemory, BadDtd}
-use Rattle.pv_cli.specs.declared.status.Status.TheVariants.{BadDocument, BadPack, Limit}
+use Rattle.pv_stages.specs.declared.status.Status.{Status}
+use Rattle.pv_stages.specs.declared.status.Status.TheVariants.{Done, Negative, Usage, ReadFault}
+use Rattle.pv_stages.specs.declared.status.Status.TheVariants.{WriteFault, NoMemory, BadDtd}
+use Rattle.pv_stages.specs.declared.status.Status.TheVariants.{BadDocument, BadPack, Limit}
 
 -- a file is this text, with its parameter entities put in place
 pub record HoldsText (file : Option (List ℕ)) (text : List ℕ) : Type 0 where

@@ -1,15 +1,9 @@
 -- How many lists a run checks, as the counter of the call counts them.
-use Rattle.std.specs.Prelude.{◌≡◌, ◌≤◌, ◌+◌, ◌*◌, ℕ, List, length, Option, Some, None}
+use Rattle.std.specs.Prelude.{◌≡◌, ◌≤◌, ◌+◌, ◌*◌, ℕ, List, length, Option, Some}
 use Rattle.pv_tree.specs.Lists.{lists_of}
 use Rattle.pv_tree.specs.Plain.{PlainDoc}
 use Rattle.pv_tree.specs.declared.nodes.Mark.{Mark}
 use Rattle.pv_read.specs.Grammar.{IsDocumentText}
-use Rattle.pv_script.specs.Lines.{lines_of}
-
--- how many lines the bytes have that were taken from an input, none where it wasn't asked
-abbrev pub lines_taken : Option (List ℕ) → ℕ
-lines_taken None = 0
-lines_taken (Some script) = length (lines_of script)
 
 -- The counter before and behind a run: no list was checked; or the file holds this document, and no
 -- more lists were checked than those of the document, and two for each of so many lines. Without a

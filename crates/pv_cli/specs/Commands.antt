@@ -3,14 +3,14 @@
 use Rattle.std.specs.Prelude.{ℕ, Bool, true, false, List, Option, Some, None}
 use Rattle.pv_dtd.specs.Plain.{PlainDtd}
 use Rattle.pv_cli.specs.Check.{IsCheckCourse}
-use Rattle.pv_cli.specs.Checking.{lines_taken}
+use Rattle.pv_conversation.specs.Script.{lines_taken}
 use Rattle.pv_cli.specs.Complete.{IsCompleteCourse}
-use Rattle.pv_cli.specs.Course.{Course}
+use Rattle.pv_stages.specs.Course.{Course}
 use Rattle.pv_cli.specs.Deny.{IsDenyCourse}
-use Rattle.pv_cli.specs.Documents.{PlainOpened, document_stage}
-use Rattle.pv_cli.specs.Opening.{Files, opening_stage}
-use Rattle.pv_cli.specs.Session.{IsSessionCourse}
-use Rattle.pv_cli.specs.Stage.{Behind}
+use Rattle.pv_stages.specs.Documents.{PlainOpened, document_stage}
+use Rattle.pv_stages.specs.Opening.{Files, opening_stage}
+use Rattle.pv_conversation.specs.Session.{IsSessionCourse}
+use Rattle.pv_stages.specs.Stage.{Behind}
 use Rattle.pv_cli.specs.Valid.{IsValidCourse}
 use Rattle.pv_cli.specs.Verify.{IsVerifyCourse}
 use Rattle.pv_cli.specs.Why.{IsWhyCourse}

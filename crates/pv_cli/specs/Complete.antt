@@ -12,12 +12,12 @@ use Rattle.pv_script.specs.Paths.{path_text}
 use Rattle.pv_tree.specs.Lists.{lists_of}
 use Rattle.pv_tree.specs.Plain.{PlainDoc}
 use Rattle.pv_verify.specs.Tests.{PassesAllTests}
-use Rattle.pv_cli.specs.declared.status.Status.TheVariants.{Done, Limit}
-use Rattle.pv_cli.specs.Course.{Course}
-use Rattle.pv_cli.specs.Documents.{PlainOpened}
-use Rattle.pv_cli.specs.Possibility.{possibility_stage}
-use Rattle.pv_cli.specs.Response.{PlainResponse, with_line}
-use Rattle.pv_cli.specs.Stage.{Behind, Responds}
+use Rattle.pv_stages.specs.declared.status.Status.TheVariants.{Done, Limit}
+use Rattle.pv_stages.specs.Course.{Course}
+use Rattle.pv_stages.specs.Documents.{PlainOpened}
+use Rattle.pv_stages.specs.Possibility.{possibility_stage}
+use Rattle.pv_stages.specs.Response.{PlainResponse, with_line}
+use Rattle.pv_stages.specs.Stage.{Behind, Responds}
 
 -- The pack of a least completion: its body is a text of the document with `total` elements
 -- inserted, which makes it valid, and no fewer can; all else is written as it was; the marks are

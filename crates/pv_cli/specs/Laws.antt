@@ -1,87 +1,29 @@
 -- Laws on what the program does.
-use Rattle.std.specs.Prelude.{◌≡◌, ◌⊎◌, Contains, IsTrue, ℕ, false, List, ◌++◌, codes, decimal}
+use Rattle.std.specs.Prelude.{◌≡◌, ◌⊎◌, ℕ, List, ◌++◌, codes, decimal}
 use Rattle.std.specs.Prelude.{Option, Some}
 use Rattle.std.specs.Io.KnownBytes.{Appends}
 use Rattle.pv_cert.specs.declared.packs.Pack.{Pack}
 use Rattle.pv_denial.specs.declared.denials.Denial.{Denial}
 use Rattle.pv_dtd.specs.Plain.{PlainDtd}
-use Rattle.pv_edit.specs.Given.{is_new_name}
-use Rattle.pv_edit.specs.declared.answers.Done.{Done as WhatWasDone}
-use Rattle.pv_edit.specs.declared.asks.Ask.{Ask}
 use Rattle.pv_io.specs.Causes.{CountStays, Rose}
-use Rattle.pv_offer.specs.Offers.{declared_names, edit_with}
-use Rattle.pv_script.specs.Commands.{SpellsCommand}
-use Rattle.pv_script.specs.declared.commands.Command.TheVariants as command
 use Rattle.pv_missing.specs.Completing.{IsPotentiallyValid}
 use Rattle.pv_script.specs.Paths.{path_text}
-use Rattle.pv_script.specs.declared.replies.Reply.{Reply}
-use Rattle.pv_script.specs.declared.replies.Reply.TheVariants as reply
-use Rattle.pv_session.specs.Sessions.{PlainSession}
 use Rattle.pv_tree.specs.Plain.{PlainDoc}
 use Rattle.pv_tree.specs.View.{view}
 use Rattle.pv_tree.specs.declared.nodes.Mark.{Mark}
 use Rattle.pv_verify.specs.Laws.{IsLeastPack}
 use Rattle.pv_cli.specs.declared.checker.Checker.TheVariants.{Deny, Verify}
-use Rattle.pv_cli.specs.declared.status.Status.{Status}
-use Rattle.pv_cli.specs.declared.status.Status.TheVariants.{Done, ReadFault, WriteFault}
-use Rattle.pv_cli.specs.Alike.{RepliesAlike, OutputsAlike, RespondsAlike}
+use Rattle.pv_stages.specs.declared.status.Status.{Status}
+use Rattle.pv_stages.specs.declared.status.Status.TheVariants.{Done, ReadFault, WriteFault}
+use Rattle.pv_cli.specs.Alike.{RespondsAlike}
 use Rattle.pv_cli.specs.Causes.{HasCause, OneRoseAtMost, ReadsDenial, ReadsPack}
 use Rattle.pv_cli.specs.CommandLine.{PlainCommandLine, on_certificate}
-use Rattle.pv_cli.specs.Course.{Course, RunEnding, responds, input_fault}
+use Rattle.pv_stages.specs.Course.{Course, responds}
 use Rattle.pv_cli.specs.Headline.{GuardsSession, HadNoMemory}
-use Rattle.pv_cli.specs.Opening.{Files}
-use Rattle.pv_cli.specs.Devices.{Devices}
+use Rattle.pv_stages.specs.Opening.{Files}
+use Rattle.pv_stages.specs.Devices.{Devices}
 use Rattle.pv_cli.specs.Program.{IsDefined, Runs}
-use Rattle.pv_cli.specs.Response.{PlainResponse}
-use Rattle.pv_cli.specs.Session.{EndsSession, Place, at_line, at_quit, Replies, RepliesTo}
-
--- the replies to a piece of a script, and then those to the lines behind it, are the replies to
--- both
-abbrev pub JoinsReplies : Type 0
-JoinsReplies = (silent : List ℕ) (number next : ℕ) (session middle : PlainSession)
-    (lines more : List (List ℕ)) (out rest : List ℕ) (place : Place) →
-    Replies silent number session lines out (at_line next middle) →
-    Replies silent next middle more rest place →
-    Replies silent number session (lines ++ more) (out ++ rest) place
-
--- lines behind a `quit` have no reply
-abbrev pub EndsAtQuit : Type 0
-EndsAtQuit = (silent : List ℕ) (number : ℕ) (session : PlainSession) (lines more : List (List ℕ))
-    (out : List ℕ) →
-    Replies silent number session lines out at_quit →
-    Replies silent number session (lines ++ more) out at_quit
-
--- a line has one reply in a session, but for the document of a completion, and one session behind
--- it
-abbrev pub HasOneReply : Type 0
-HasOneReply = (session : PlainSession) (line : List ℕ) (reply also : Reply)
-    (after later : PlainSession) →
-    RepliesTo session line reply after → RepliesTo session line also later →
-    RepliesAlike reply also × (after ≡ later)
-
--- What `offer` told is kept when the edit is tried with a name: one of those it told is made, and
--- another declared name is refused, since more lists would be impossible.
-pub record IsKeptFor (names : List (List ℕ)) (x : List ℕ) (told : Reply) : Type 0 where
-  pub made : Contains names x → (done : WhatWasDone) × (told ≡ reply.Okay done)
-  pub refused : (Contains names x → ⊥) → (path : List ℕ) × (told ≡ reply.Impossible path)
-
--- A line that spells `offer` is answered by names, and the next line spells the edit that it asked
--- of, with a declared name, which is a Name; no line is answered for want of memory.
-abbrev pub OffersAreKept : Type 0
-OffersAreKept = (session behind after : PlainSession) (line next : List ℕ) (ask : Ask)
-    (names : List (List ℕ)) (x : List ℕ) (told : Reply) →
-    SpellsCommand line (command.Offer ask) → RepliesTo session line (reply.Offer names) behind →
-    Contains (declared_names session.dtd) x → IsTrue (is_new_name x) →
-    SpellsCommand next (command.Edit (edit_with ask x)) → RepliesTo behind next told after →
-    IsKeptFor names x told
-
--- lines have one output, but for the documents of completions, and lead to one place, counted from
--- any number and begun in any session, where there was no memory for the same of them
-abbrev pub HasOneOutput : Type 0
-HasOneOutput = (silent : List ℕ) (number : ℕ) (session : PlainSession) (lines : List (List ℕ))
-    (out also : List ℕ) (place spot : Place) →
-    Replies silent number session lines out place → Replies silent number session lines also spot →
-    OutputsAlike out also × (place ≡ spot)
+use Rattle.pv_stages.specs.Response.{PlainResponse}
 
 -- over given files, and where what was taken from the input and the lines that there was no memory
 -- for are given, a command has one response, but for the documents of completions in a session
@@ -136,14 +78,6 @@ RaisesOneAtMost S = (line : Option PlainCommandLine) (before after : Devices S) 
 abbrev pub SessionsAreGuarded : Type 0 → Type 0
 SessionsAreGuarded S = (line : Option PlainCommandLine) (before after : Devices S) (status : Status)
     → Runs line before after status → GuardsSession line before after status
-
--- Where a session ends before the end of its script was reached, and its input didn't fail, bytes
--- that come behind change nothing: so it ends in one way in whatever pieces the script comes.
-abbrev pub MoreChangesNothing : Type 0
-MoreChangesNothing = (session : PlainSession) (script more silent : List ℕ) (ending : RunEnding) →
-    ((out : List ℕ) → ending ≡ input_fault out → ⊥) →
-    EndsSession session script silent false ending →
-    EndsSession session (script ++ more) silent false ending
 
 -- A run read a DTD, a document and a pack, and wrote `accepted K`: K is the least number of
 -- elements whose insertion makes the document valid, and the pack's body is the text of a

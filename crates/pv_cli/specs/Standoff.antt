@@ -18,13 +18,13 @@ use Rattle.pv_tree.specs.Lists.{lists_of}
 use Rattle.pv_tree.specs.Plain.{PlainDoc}
 use Rattle.pv_write.specs.Text.{doc_text}
 use Rattle.pv_tree.specs.declared.nodes.Mark.{Mark}
-use Rattle.pv_cli.specs.declared.status.Status.TheVariants.{BadDocument, BadPack, Limit}
+use Rattle.pv_stages.specs.declared.status.Status.TheVariants.{BadDocument, BadPack, Limit}
 use Rattle.pv_cli.specs.Check.{TellsPossibility}
-use Rattle.pv_cli.specs.Course.{Course}
-use Rattle.pv_cli.specs.Opening.{Files, dtd_file_stage, file_at, file_stage}
-use Rattle.pv_cli.specs.Possibility.{width_stage}
-use Rattle.pv_cli.specs.Response.{PlainResponse, numbers_text, with_line}
-use Rattle.pv_cli.specs.Stage.{Behind, Responds, Stage, beside, followed_by, without_fetch}
+use Rattle.pv_stages.specs.Course.{Course}
+use Rattle.pv_stages.specs.Opening.{Files, dtd_file_stage, file_at, file_stage}
+use Rattle.pv_stages.specs.Possibility.{width_stage}
+use Rattle.pv_stages.specs.Response.{PlainResponse, numbers_text, with_line}
+use Rattle.pv_stages.specs.Stage.{Behind, Responds, Stage, beside, followed_by, without_fetch}
 
 -- the most bytes of the file of a text, and of the file of ranges
 abbrev pub MAX_TEXT_BYTES : ℕ

@@ -13,13 +13,13 @@ use Rattle.pv_verify.specs.Laws.{IsLeastPack}
 use Rattle.pv_verify.specs.Tests.{PassesAllTests, IsRejected}
 use Rattle.pv_verify.specs.declared.answers.Why.{Why}
 use Rattle.pv_verify.specs.declared.answers.Why.TheVariants as why
-use Rattle.pv_cli.specs.declared.status.Status.TheVariants.{Done, Limit, Negative}
+use Rattle.pv_stages.specs.declared.status.Status.TheVariants.{Done, Limit, Negative}
 use Rattle.pv_cli.specs.Certificates.{certificate_stage}
-use Rattle.pv_cli.specs.Course.{Course}
-use Rattle.pv_cli.specs.Opening.{Files}
+use Rattle.pv_stages.specs.Course.{Course}
+use Rattle.pv_stages.specs.Opening.{Files}
 use Rattle.pv_cli.specs.PackFiles.{pack_file_stage}
-use Rattle.pv_cli.specs.Response.{PlainResponse, with_line}
-use Rattle.pv_cli.specs.Stage.{Behind, Responds}
+use Rattle.pv_stages.specs.Response.{PlainResponse, with_line}
+use Rattle.pv_stages.specs.Stage.{Behind, Responds}
 
 -- the word of a test
 abbrev pub test_text : Why → List ℕ

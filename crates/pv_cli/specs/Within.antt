@@ -24,15 +24,15 @@ use Rattle.pv_cli.specs.Causes.{ReadsDocument, ReadsDtd, ReadsRanges, ReadsScrip
 use Rattle.pv_cli.specs.Causes.{list_width, weights_width, missing_elements, table_entries}
 use Rattle.pv_cli.specs.Causes.{denial_values, pack_width, denial_width, nested_width}
 use Rattle.pv_cli.specs.CommandLine.{PlainCommandLine}
-use Rattle.pv_cli.specs.Devices.{Devices}
+use Rattle.pv_stages.specs.Devices.{Devices}
 use Rattle.pv_cli.specs.Headline.{HadNoMemory}
-use Rattle.pv_cli.specs.Opening.{Files, file_at}
+use Rattle.pv_stages.specs.Opening.{Files, file_at}
 use Rattle.pv_cli.specs.Program.{Runs}
-use Rattle.pv_cli.specs.Script.{MAX_SCRIPT_BYTES, has_long_line}
+use Rattle.pv_conversation.specs.Script.{IsWithin}
 use Rattle.pv_cli.specs.Standoff.{MAX_RANGES_BYTES, MAX_TEXT_BYTES}
 use Rattle.pv_cli.specs.declared.checker.Checker.TheVariants.{Deny, Verify}
-use Rattle.pv_cli.specs.declared.status.Status.{Status}
-use Rattle.pv_cli.specs.declared.status.Status.TheVariants.{Done, Limit, Negative}
+use Rattle.pv_stages.specs.declared.status.Status.{Status}
+use Rattle.pv_stages.specs.declared.status.Status.TheVariants.{Done, Limit, Negative}
 
 -- the DTD's file is short enough, and its parameter entities can be put in place
 pub record CanBeExpanded (bytes : List ℕ) : Type 0 where
@@ -77,13 +77,8 @@ pub record CanBeNested (root : List ℕ) (text : List (List ℕ)) (ranges : List
   pub doc : PlainDoc Mark
   pub nests : NestMeans root text ranges (Ok doc)
 
--- no line of a script is too long, nor is the whole
-pub record IsSomeScript (script : List ℕ) : Type 0 where
-  pub lines : has_long_line script ≡ false
-  pub whole : length script ≤ MAX_SCRIPT_BYTES
-
 -- the words are a command, and whatever it reads is within its grammar and its limits
-pub record IsWithin (line : Option PlainCommandLine) (files : Files) (taken : Option (List ℕ)) :
+pub record IsAllWithin (line : Option PlainCommandLine) (files : Files) (taken : Option (List ℕ)) :
     Type 0 where
   pub command : line ≡ None → ⊥
   pub dtd_file : (bytes : List ℕ) → file_at 0 files ≡ Some bytes → CanBeExpanded bytes
@@ -98,7 +93,7 @@ pub record IsWithin (line : Option PlainCommandLine) (files : Files) (taken : Op
   pub ranges : (bytes : List ℕ) → ReadsRanges line files bytes → AreSomeRanges bytes
   pub nested : (root : List ℕ) (g : PlainDtd) (text : List (List ℕ)) (ranges : List Range) →
       ReadsAnnotation line files root g text ranges → CanBeNested root text ranges
-  pub script : (bytes : List ℕ) → ReadsScript line → taken ≡ Some bytes → IsSomeScript bytes
+  pub script : (bytes : List ℕ) → ReadsScript line → taken ≡ Some bytes → IsWithin bytes
 
 -- whether a limit is passed by a list, by the missing elements, or by the entries of tables or the
 -- values of a denial that are made
@@ -133,5 +128,5 @@ AnswersWithin S = (line : Option PlainCommandLine) (before after : Devices S) (s
     (Rose before.shelf.faults after.shelf.faults → ⊥) →
     (Rose before.input.faults after.input.faults → ⊥) →
     (Rose before.output.faults after.output.faults → ⊥) →
-    IsWithin line run.files run.course.taken →
+    IsAllWithin line run.files run.course.taken →
     HadNoMemory before after status ⊎ IsAnswered line run.files run.course.taken status

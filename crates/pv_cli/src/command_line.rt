@@ -11,14 +11,7 @@ use crate::checker::{Checker, checker_of};
 use crate::verb::{Verb, verb_of};
 use pv_chars::is_name;
 use pv_script::written_number;
-
-/// A root name, and the names of a DTD and a document.
-#[derive(Clone, Copy)]
-pub struct Named<'a> {
-    pub dtd: &'a str,
-    pub root: &'a [u8],
-    pub doc: &'a str,
-}
+use pv_stages::Named;
 
 /// A root name, and the names of a DTD, a text and ranges.
 #[derive(Clone, Copy)]

@@ -1,13 +1,13 @@
 //! Command lines by form: what each opens, and the command behind it.
 
-ghost use Rattle.std.specs.Prelude.{◌≡◌, ℕ, List, Some, Contains};
+ghost use Rattle.std.specs.Prelude.{◌≡◌, ℕ, Some, Contains};
 ghost use Rattle.pv_cli.specs.CommandLine.{on_certificate, on_document, on_dtd};
-ghost use Rattle.pv_cli.specs.Devices.{devices, input_at, output_at, shelf_at};
+ghost use Rattle.pv_stages.specs.Devices.{devices, input_at, output_at, shelf_at};
 ghost use Rattle.pv_cli.specs.Program.{Runs};
-ghost use Rattle.pv_cli.specs.Returns.{DoesRest, FindsResponse, plain_fetched};
+ghost use Rattle.pv_cli.specs.Returns.{DoesRest, FindsResponse};
+ghost use Rattle.pv_stages.specs.Returns.{plain_fetched};
 
 use crate::checker::Checker;
-use crate::command_line::Named;
 use crate::commands::check::check;
 use crate::commands::complete::complete;
 use crate::commands::deny::deny;
@@ -16,13 +16,9 @@ use crate::commands::session::session;
 use crate::commands::valid::valid;
 use crate::commands::verify::verify;
 use crate::commands::why::why;
-use crate::opening::{Fetched, fetch_files, open_dtd};
-use crate::respond::respond;
-use crate::response::Response;
-use crate::status::Status;
-use crate::stop::Stop;
 use crate::verb::Verb;
 use pv_io::{Shelf, Sink, Source};
+use pv_stages::{Fetched, Named, Response, Status, Stop, fetch_files, open_dtd, respond};
 use pv_steps::Steps;
 use std::alloc::Global;
 use std::sync::ledger::Ledger;

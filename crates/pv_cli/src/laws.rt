@@ -1,8 +1,7 @@
 //! Laws on what the program does. Their functions do nothing.
 
-ghost use Rattle.pv_cli.specs.Laws.{HasOneResponse, AnswersWithoutFault, FaultsShow, HasOneReply};
-ghost use Rattle.pv_cli.specs.Laws.{HasOneOutput, JoinsReplies, EndsAtQuit, MoreChangesNothing};
-ghost use Rattle.pv_cli.specs.Laws.{AcceptsLeast, ComesByCause, DeniesImpossible, OffersAreKept};
+ghost use Rattle.pv_cli.specs.Laws.{AcceptsLeast, AnswersWithoutFault, ComesByCause};
+ghost use Rattle.pv_cli.specs.Laws.{DeniesImpossible, FaultsShow, HasOneResponse};
 ghost use Rattle.pv_cli.specs.Laws.{RaisesOneAtMost, SessionsAreGuarded};
 ghost use Rattle.pv_cli.specs.Within.{AnswersWithin};
 
@@ -14,7 +13,7 @@ use pv_deny::laws::one_denial_law;
 use pv_dtd::laws::{dtd_text_law, one_meaning_law};
 use pv_io::Source;
 use pv_missing::laws::words::one_live_word_law;
-use pv_offer::laws::{no_ground_law, offered_law, one_ground_law, one_offer_law, tried_law};
+use pv_offer::laws::{no_ground_law, one_ground_law, one_offer_law};
 use pv_params::laws::one_expansion_law;
 use pv_read::laws::{meant_law, one_document_law, one_meaning_law as one_document_meaning_law};
 use pv_script::laws::one_command_law;
@@ -114,33 +113,3 @@ pub fn guarded_session_law<S: Source>()
     one_document_law();
     complete_law::<S>();
 }
-
-/// The replies to a script are determined, line by line, but for the documents of completions, and
-/// are those to its pieces.
-pub fn replies_law()
-    ensures reply { HasOneReply }
-    ensures one { HasOneOutput }
-    ensures joined { JoinsReplies }
-    ensures ended { EndsAtQuit }
-{
-    one_command_law();
-    one_answer_law();
-    one_offer_law();
-    one_ground_law();
-    no_ground_law();
-}
-
-/// Where `offer` told names in a session, the edit with one of them, tried next, answers `ok`, and
-/// that with another declared name `no impossible`.
-pub fn offers_law()
-    ensures { OffersAreKept }
-{
-    one_command_law();
-    offered_law();
-    tried_law();
-}
-
-/// A session that a `quit` or a limit ended ends so whatever else its script has.
-pub fn whatever_follows_law()
-    ensures { MoreChangesNothing }
-{}

@@ -3,11 +3,11 @@
 ghost use Rattle.std.specs.Prelude.{◌≡◌, [], codes};
 ghost use Rattle.pv_cli.specs.CommandLine.{command_line_of, files_named};
 ghost use Rattle.pv_cli.specs.Headline.{GuardsSession};
-ghost use Rattle.pv_cli.specs.Devices.{devices, input_at, output_at, shelf_at};
+ghost use Rattle.pv_stages.specs.Devices.{devices, input_at, output_at, shelf_at};
 ghost use Rattle.pv_cli.specs.Program.{Runs};
-ghost use Rattle.pv_cli.specs.Response.{with_line};
-ghost use Rattle.pv_cli.specs.Returns.{TellsBy};
-ghost use Rattle.pv_cli.specs.declared.status.Status.TheVariants.{Usage};
+ghost use Rattle.pv_stages.specs.Response.{with_line};
+ghost use Rattle.pv_stages.specs.Returns.{TellsBy};
+ghost use Rattle.pv_stages.specs.declared.status.Status.TheVariants.{Usage};
 ghost use Rattle.pv_io.specs.Files.{byte_lists, fetch_names};
 
 use crate::command_line::{CommandLine, command_line_of};
@@ -15,11 +15,8 @@ use crate::commands::drill::drill;
 use crate::commands::standoff::standoff;
 use crate::forms::{run_on_certificate, run_on_document, run_on_dtd};
 use crate::laws::guarded_session_law;
-use crate::respond::respond;
-use crate::response::Response;
-use crate::status::Status;
-use crate::stop::Stop;
 use pv_io::{Shelf, Sink, Source};
+use pv_stages::{Response, Status, Stop, respond};
 use pv_steps::Steps;
 use std::alloc::Global;
 use std::sync::ledger::Ledger;

@@ -5,7 +5,7 @@ use pv_rules::Site;
 use pv_tree::Path;
 
 /// How many values all rows of a denial may have.
-pub const MOST_VALUES: u32 = 8_388_608;
+pub const MAX_VALUES: u32 = 8_388_608;
 
 /// Why a list is impossible: the first of these that fits.
 #[derive(Clone, Copy, Debug, PartialEq, Eq)]

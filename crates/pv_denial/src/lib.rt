@@ -23,7 +23,7 @@ mod places;
 mod rules;
 
 pub use causes::cause_of;
-pub use denials::{Cause, Denial, Flaw, Judged, MOST_VALUES, Row, Rows};
+pub use denials::{Cause, Denial, Flaw, Judged, MAX_VALUES, Row, Rows};
 pub use errors::JudgeError;
 pub use judging::judge;
 pub use places::{OwnedList, place_at};

@@ -2,7 +2,7 @@
 
 ghost use Rattle.std.specs.Prelude.{◌≡◌, ◌≤◌, IfOk, IfErr, None, length};
 ghost use Rattle.pv_denial_text.specs.Meaning.{Answers, DenialMeans};
-ghost use Rattle.pv_denial_text.specs.Meaning.{MAX_DENIAL_BYTES as MOST_BYTES};
+ghost use Rattle.pv_denial_text.specs.Meaning.{MAX_DENIAL_BYTES as MAX_BYTES};
 ghost use Rattle.pv_denial_text.specs.Meaning.{Outcome, Refuses, Stand, is_denial};
 ghost use Rattle.pv_denial_text.specs.Steps.{RefusesHead, head_lines};
 
@@ -46,7 +46,7 @@ fn read_head(alloc: Global, bytes: &[u8]) -> Result<Head<'_>, TableError>
 
 // The denial that bytes within the limit are the text of.
 fn read_within(alloc: Global, bytes: &[u8]) -> Result<Denial, TableError>
-    requires { length bytes.now ≤ MOST_BYTES }
+    requires { length bytes.now ≤ MAX_BYTES }
     ensures read { IfOk result (λ denial. DenialMeans bytes.now (is_denial denial)) }
     ensures refused { IfErr result (λ error. Refuses bytes.now error) }
 {

@@ -9,7 +9,7 @@ ghost use Rattle.pv_denial.specs.Rows.{IsSiteBefore};
 ghost use Rattle.pv_denial.specs.declared.denials.Row.{Row as PlainRow};
 ghost use Rattle.pv_denial_text.specs.Fronts.{Begins, BeginsNone, IsRowText, IsSiteBehind};
 ghost use Rattle.pv_denial_text.specs.Lines.{row_line};
-ghost use Rattle.pv_denial_text.specs.Meaning.{MAX_DENIAL_BYTES as MOST_BYTES};
+ghost use Rattle.pv_denial_text.specs.Meaning.{MAX_DENIAL_BYTES as MAX_BYTES};
 ghost use Rattle.pv_denial_text.specs.Steps.{EndsWithRows, Follows, RefusesRows, StandsNoRowBehind};
 ghost use Rattle.pv_denial_text.specs.Steps.{StandsRow};
 
@@ -19,7 +19,7 @@ use crate::values::values_of;
 use pv_cert::{letter_at, next_number, site_of};
 use pv_chars::delimiters::up_to_byte;
 use pv_chars::{List, NoMemory};
-use pv_denial::{MOST_VALUES, Row};
+use pv_denial::{MAX_VALUES, Row};
 use pv_rules::Site;
 use pv_tables::site_number;
 use std::alloc::Global;
@@ -119,12 +119,12 @@ fn next_row(
 
 /// The rows behind the cause of a denial, up to its end.
 pub fn read_rows(alloc: Global, bytes: &[u8]) -> Result<Vec<Row>, TableError>
-    requires { length bytes.now ≤ MOST_BYTES }
+    requires { length bytes.now ≤ MAX_BYTES }
     ensures read { IfOk result (λ rows. EndsWithRows bytes.now rows.items) }
     ensures refused { IfErr result (λ error. RefusesRows bytes.now error) }
 {
     let mut rows = Vec::new(alloc);
-    let mut room = MOST_VALUES as usize;
+    let mut room = MAX_VALUES as usize;
     let mut last = None;
     let mut rest = bytes;
     'rows: while let Some((row, after)) = next_row(alloc, last, rest)? {

@@ -5,17 +5,17 @@ ghost use Rattle.pv_denial_text.specs.Fronts.{AreValueWords};
 
 use pv_cert::next_number;
 use pv_chars::NoMemory;
-use pv_denial::MOST_VALUES;
+use pv_denial::MAX_VALUES;
 use pv_script::written_number;
 use std::alloc::Global;
 
 // At most how many values some bytes are.
 fn room_for(bytes: &[u8]) -> usize {
     let blanks = bytes.iter().filter(|byte| **byte == b' ').count();
-    if blanks < MOST_VALUES as usize {
+    if blanks < MAX_VALUES as usize {
         blanks + 1
     } else {
-        MOST_VALUES as usize
+        MAX_VALUES as usize
     }
 }
 

@@ -4,7 +4,7 @@ ghost use Rattle.std.specs.Prelude.{◌≡◌, ◌≢◌, ◌≤◌, ◌++◌, [
 ghost use Rattle.pv_script.specs.Edits.{AreNumbers};
 ghost use Rattle.pv_denial.specs.Rows.{AreInOrder, EachRow};
 ghost use Rattle.pv_denial_text.specs.Lines.{IsRowInRange, line_text, row_line};
-ghost use Rattle.pv_denial_text.specs.Meaning.{DenialMeans, MAX_DENIAL_BYTES as MOST_BYTES};
+ghost use Rattle.pv_denial_text.specs.Meaning.{DenialMeans, MAX_DENIAL_BYTES as MAX_BYTES};
 ghost use Rattle.pv_denial_text.specs.Meaning.{is_denial};
 ghost use Rattle.pv_denial_text.specs.Steps.{head_lines};
 ghost use Rattle.pv_denial_text.specs.Texts.{AreLines, IsDenialText, lines_of_denial, lines_text};
@@ -79,7 +79,7 @@ fn push_head(text: &mut Vec<u8>, denial: &Denial) -> Result<(), AllocError>
 pub fn write_denial(alloc: Global, denial: &Denial) -> Result<Vec<u8>, NoMemory>
     ensures spelled { IfOk result (λ text. text.items ≡ lines_text (lines_of_denial denial.now)) }
     ensures again { AreInOrder denial.now.rows → IfOk result (λ text.
-        length text.items ≤ MOST_BYTES → DenialMeans text.items (is_denial denial.now)) }
+        length text.items ≤ MAX_BYTES → DenialMeans text.items (is_denial denial.now)) }
     ensures is_text { AreLines None (lines_of_denial denial.now) →
         IfOk result (λ text. IsDenialText text.items denial.now) }
 {

@@ -9,7 +9,7 @@ ghost use Rattle.pv_denial.specs.Rows.{most_values};
 ghost use Rattle.pv_deny.specs.Told.{AreToldRows, IsToldRow};
 
 use pv_chars::List;
-use pv_denial::{MOST_VALUES, Row};
+use pv_denial::{MAX_VALUES, Row};
 use pv_reach::Reaches;
 use pv_rules::Site;
 use std::alloc::{AllocError, Global};
@@ -19,7 +19,7 @@ use std::alloc::{AllocError, Global};
 pub fn are_few(sites: u64, tokens: u64) -> bool
     ensures { IsTrue result ↔ (sites * suc tokens ≤ most_values) }
 {
-    u128::from(sites) * (u128::from(tokens) + 1) <= u128::from(MOST_VALUES)
+    u128::from(sites) * (u128::from(tokens) + 1) <= u128::from(MAX_VALUES)
 }
 
 /// The row of a site, for a word of so many tokens.

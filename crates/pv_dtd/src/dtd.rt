@@ -8,14 +8,14 @@ ghost use Rattle.pv_dtd.specs.Facts.{is_formed_model, MAX_TYPES, MAX_PARTS};
 
 use crate::names::NameTable;
 use indexmap::IndexSet;
-use pv_model::{ContentModel, NameId};
+use pv_model::{ContentModel, LaidModel, NameId};
 
-/// Names and content models. The declared names come first, in order of declaration, and then
-/// those that are only mentioned.
+/// Names and content models, each laid out once. The declared names come first, in order of
+/// declaration, and then those that are only mentioned.
 #[derive(Debug, Drop)]
 pub struct Dtd {
     names: IndexSet<Vec<u8>>,
-    models: Vec<ContentModel>,
+    models: Vec<LaidModel>,
     parts: u32,
     pub ghost named: { length models.items ≤ length names.keys },
     pub ghost legal: { ∥ AreLegalNames (as_dtd names.keys models.items).names ∥₁ },
@@ -38,7 +38,7 @@ impl Dtd {
     ghost use Rattle.pv_dtd.specs.PlainForms.{plain_dtd};
 
     // The DTD of these names and models, with so many parts.
-    pub(crate) fn of(names: NameTable, models: Vec<ContentModel>, parts: u32) -> Dtd
+    pub(crate) fn of(names: NameTable, models: Vec<LaidModel>, parts: u32) -> Dtd
         requires items { IsOfItems (record {
           names = names;
           models = map plain_model models.items;
@@ -108,6 +108,18 @@ impl Dtd {
 
     /// The content model of a name, where it is declared.
     pub fn model_of(&self, id: NameId) -> Option<&ContentModel>
+        requires { id.0 < length (plain_dtd self.now).names }
+        ensures { option_map plain_model (option_copied result) ≡
+            model_of (plain_dtd self.now) id.0 }
+    {
+        match self.laid_model_of(id) {
+            Some(laid) => Some(laid.model()),
+            None => None,
+        }
+    }
+
+    /// The same, laid out for words that are matched against it.
+    pub fn laid_model_of(&self, id: NameId) -> Option<&LaidModel>
         requires { id.0 < length (plain_dtd self.now).names }
         ensures { option_map plain_model (option_copied result) ≡
             model_of (plain_dtd self.now) id.0 }

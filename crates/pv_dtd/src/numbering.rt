@@ -10,7 +10,7 @@ ghost use Rattle.pv_dtd.specs.Naming.{NumbersModel, NumbersModels};
 use crate::items::{SpelledModel, SpelledPart};
 use crate::names::NameTable;
 use pv_chars::NoMemory;
-use pv_model::{ContentModel, NameId, Names, Part, Parts};
+use pv_model::{ContentModel, LaidModel, NameId, Names, Part, Parts};
 use std::alloc::Global;
 
 // The numbers of names, which are added where they are new.
@@ -92,21 +92,28 @@ fn model_of(
     }
 }
 
-/// The models with numbers for names. Names that are new are added in the order in which the
-/// models mention them.
+fn laid_out(alloc: Global, model: ContentModel) -> Result<LaidModel, NoMemory>
+    ensures { IfOk result (λ laid. laid ≡ model) }
+{
+    LaidModel::of(alloc, model).map_err(|_| NoMemory)
+}
+
+/// The models with numbers for names, laid out. Names that are new are added in the order in which
+/// the models mention them.
 pub fn models_of(
     alloc: Global,
     names: &mut NameTable,
     spelled: &[SpelledModel],
-) -> Result<Vec<ContentModel>, NoMemory>
+) -> Result<Vec<LaidModel>, NoMemory>
     ensures names { OnOk result
         (names.new ≡ with_names names.old (mentioned_in (map named_model spelled.now))) }
     ensures numbers { IfOk result
         (λ v. NumbersModels names.new (map named_model spelled.now) (map plain_model v.items)) }
 {
-    let mut models: Vec<ContentModel> = Vec::new(alloc);
+    let mut models: Vec<LaidModel> = Vec::new(alloc);
     for model in spelled {
-        models.push(model_of(alloc, names, model)?)?;
+        let model = model_of(alloc, names, model)?;
+        models.push(laid_out(alloc, model)?)?;
     }
     Ok(models)
 }

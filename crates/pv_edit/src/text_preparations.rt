@@ -52,8 +52,7 @@ pub(crate) fn cut_task(alloc: Global, doc: &Doc, path: &Path, at: usize) -> Resu
     let Some(units) = text_at(doc, path) else {
         unreachable!()
     };
-    let first = units.part(alloc, 0, at)?;
-    let second = units.part(alloc, at, units.len())?;
+    let (first, second) = units.cut(alloc, at)?;
     let filling = two_nodes(alloc, Node::Text(first), Node::Text(second))?;
     node_task(alloc, path, 1, filling)
 }

@@ -6,11 +6,17 @@ ghost use Rattle.pv_missing.specs.Widths.{FitsVerdict, FitsWeights};
 
 use pv_dtd::Dtd;
 
+/// The most numbers, one for each column and each place of a word, that a verdict may take.
+const MAX_VERDICT_NUMBERS: u128 = 67_108_864;
+
+/// The most, one for each column and each span of a word, that weights may take.
+const MAX_WEIGHT_NUMBERS: u64 = 16_777_216;
+
 /// Whether a word of so many tokens isn't too wide for a verdict.
 pub fn is_narrow(dtd: &Dtd, tokens: u64) -> bool
     ensures { IsTrue result ↔ FitsVerdict (plain_dtd dtd.now) tokens }
 {
-    (u128::from(tokens) + 1) * u128::from(dtd.columns()) <= 67_108_864
+    (u128::from(tokens) + 1) * u128::from(dtd.columns()) <= MAX_VERDICT_NUMBERS
 }
 
 /// Whether a word of so many tokens isn't too wide for weights.
@@ -25,5 +31,5 @@ pub fn is_narrow_for_weights(dtd: &Dtd, tokens: u64) -> bool
         return false;
     }
     let places = tokens + 1;
-    places * (places + 1) / 2 * columns <= 16_777_216
+    places * (places + 1) / 2 * columns <= MAX_WEIGHT_NUMBERS
 }

@@ -1,3 +1,4 @@
+pub mod Forms
 pub mod LaidOut
 pub mod Layouts
 pub mod Members

@@ -8,6 +8,7 @@ ghost use Rattle.pv_model.specs.PlainForms.{plain_part, plain_token};
 use crate::long_words::has_long_word;
 use crate::models::{NoMemory, Part, Token};
 use crate::positions::{advance, may_be_empty, push_positions};
+use crate::reach::Stop;
 use std::alloc::Global;
 
 /// Room for the positions of most particles, taken at once.
@@ -18,7 +19,7 @@ const POSITIONS_AT_ONCE: usize = 64;
 const LONG_WORD: usize = 64;
 
 /// A large particle has at least so many positions.
-const LARGE_PART: usize = 64;
+pub const LARGE_PART: usize = 64;
 
 /// Whether each token is an element, and their names are a word of the part.
 pub fn has_children(alloc: Global, part: &Part, word: &[Token]) -> Result<bool, NoMemory>
@@ -30,10 +31,24 @@ pub fn has_children(alloc: Global, part: &Part, word: &[Token]) -> Result<bool, 
     }
     let mut positions = Vec::with_capacity(alloc, POSITIONS_AT_ONCE)?;
     push_positions(part, &mut positions)?;
-    if positions.len() < LARGE_PART || word.len() < LONG_WORD {
-        return Ok(walk(part, &mut positions, word));
+    if positions.len() >= LARGE_PART && word.len() >= LONG_WORD {
+        match has_long_word(alloc, part, word) {
+            Ok(is_word) => return Ok(is_word),
+            Err(Stop::NoMemory) => return Err(NoMemory),
+            Err(Stop::TooMany) => {}
+        }
     }
-    has_long_word(alloc, part, word)
+    Ok(walk(part, &mut positions, word))
+}
+
+/// The same by a walk of the part for each token, whatever its size.
+pub fn has_children_by_walk(alloc: Global, part: &Part, word: &[Token]) -> Result<bool, NoMemory>
+    ensures { IfOk result
+        (λ b. IsTrue b ↔ IsOfChildren (plain_part part.now) (map plain_token word.now)) }
+{
+    let mut positions = Vec::new(alloc);
+    push_positions(part, &mut positions)?;
+    Ok(walk(part, &mut positions, word))
 }
 
 /// The same, by a walk of the part for each token. The positions are those before the first name.

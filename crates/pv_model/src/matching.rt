@@ -21,11 +21,12 @@ use std::alloc::Global;
 /// names.
 ///
 /// In a deterministic particle the time grows with the word and the model together, and not with
-/// their product. A word of a particle that is laid out takes, for each token, the steps from the
-/// top of the pairs to the places that the names so far can end with and to those where the
-/// token's name may follow: in a deterministic particle one place, and as many levels as the
-/// logarithm of its size and its depth ask; in another perhaps all places. Matching ends at the
-/// first token that no allowed word has there.
+/// their product; `LaidModel` spares the time for the model. A word of a particle that is laid out
+/// takes, for each token, the steps from the top of the pairs to the places that the names so far
+/// can end with and to those where the token's name may follow: in a deterministic particle one
+/// place, and as many levels as the logarithm of its size and its depth ask. In another these may
+/// be all places; where they are, over the tokens so far, more than a sixteenth, the particle is
+/// walked for each token instead. Matching ends at the first token that no allowed word has there.
 pub fn matches(
     alloc: Global,
     model: &ContentModel,

@@ -16,7 +16,7 @@ use std::collections::HashSet;
 const LONG_WORD: usize = 1024;
 
 /// A long list has at least so many names.
-const LONG_LIST: usize = 256;
+pub const LONG_LIST: usize = 256;
 
 /// Whether each token is data or an element of a listed name.
 pub fn has_mixed(alloc: Global, names: &[NameId], word: &[Token]) -> Result<bool, NoMemory>
@@ -53,7 +53,7 @@ fn is_listed(names: &[NameId], token: Token) -> bool
 }
 
 /// The numbers of the names.
-fn set_of(alloc: Global, names: &[NameId]) -> Result<HashSet<u32>, NoMemory>
+pub fn set_of(alloc: Global, names: &[NameId]) -> Result<HashSet<u32>, NoMemory>
     ensures { IfOk result (λ s. (y : ℕ) →
         IsTrue (contains nat_eq s y) ↔ Contains (numbers_of names.now) y) }
 {
@@ -65,7 +65,7 @@ fn set_of(alloc: Global, names: &[NameId]) -> Result<HashSet<u32>, NoMemory>
 }
 
 /// Whether each token is data or an element of a name whose number is in the set.
-fn are_members(numbers: &HashSet<u32>, word: &[Token]) -> bool
+pub fn are_members(numbers: &HashSet<u32>, word: &[Token]) -> bool
     ensures { IsTrue result ↔ AllByRecursion (IsOfSet numbers.now) (map plain_token word.now) }
 {
     for token in word {

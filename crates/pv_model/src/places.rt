@@ -5,7 +5,7 @@ use std::alloc::Global;
 use std::collections::HashMap;
 
 /// How many places there are so far, and those of each name, in order.
-#[derive(Drop)]
+#[derive(Debug, Drop)]
 pub struct Places {
     by_name: HashMap<u32, Vec<usize>>,
     count: usize,

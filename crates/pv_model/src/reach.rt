@@ -7,6 +7,28 @@ ghost use Rattle.pv_model.specs.Layouts.{AdvancesFrom, IsSplit, repeated};
 
 use crate::layout::ModelLayout;
 use crate::models::NoMemory;
+use std::alloc::AllocFailed;
+
+/// Why a word wasn't gone over to its end.
+#[derive(Clone, Copy, Debug, PartialEq, Eq)]
+pub enum Stop {
+    /// There was no memory.
+    NoMemory,
+    /// A name reaches more places than were allowed for.
+    TooMany,
+}
+
+impl From<NoMemory> for Stop {
+    fn from(_: NoMemory) -> Stop {
+        Stop::NoMemory
+    }
+}
+
+impl<T: Drop> From<AllocFailed<T>> for Stop {
+    fn from(_: AllocFailed<T>) -> Stop {
+        Stop::NoMemory
+    }
+}
 
 /// Whether the names before one more name were a word of a particle, and whether they are one with
 /// it.
@@ -60,7 +82,8 @@ impl Ends {
 }
 
 /// Appends to `next` the places that one more name reaches, from those reached before it and the
-/// places that have the name. The particle may begin with the name if it is entered.
+/// places that have the name. The particle may begin with the name if it is entered. It is
+/// `TooMany` where `next` would have more than `most`.
 ///
 /// A member is passed over where nothing in it is reached, and it isn't entered or doesn't have
 /// the name. So the steps are those from the top to the places that are given.
@@ -72,7 +95,8 @@ pub fn advance(
     reached: &[usize],
     called: &[usize],
     next: &mut Vec<usize>,
-) -> Result<Ends, NoMemory>
+    most: usize,
+) -> Result<Ends, Stop>
     ensures { IfOk result
         (λ e. AdvancesFrom (plain_layout layout.now) entered name reached.now called.now
         next.old.items next.new.items e.was_end e.is_end) }
@@ -85,7 +109,7 @@ pub fn advance(
         ModelLayout::Blank => Ok(Ends::none()),
         ModelLayout::Name { place, name: own } => {
             let is_end = entered && *own == name;
-            let ends = end_at(*place, !reached.is_empty(), is_end, next)?;
+            let ends = end_at(*place, !reached.is_empty(), is_end, next, most)?;
             Ok(ends)
         }
         ModelLayout::InOrder {
@@ -97,9 +121,25 @@ pub fn advance(
         } => {
             let (reached_first, reached_second) = split(reached, *middle);
             let (called_first, called_second) = split(called, *middle);
-            let front = advance(first, entered, name, reached_first, called_first, next)?;
+            let front = advance(
+                first,
+                entered,
+                name,
+                reached_first,
+                called_first,
+                next,
+                most,
+            )?;
             let enters = front.enters_next(entered, *first_may_be_empty);
-            let back = advance(second, enters, name, reached_second, called_second, next)?;
+            let back = advance(
+                second,
+                enters,
+                name,
+                reached_second,
+                called_second,
+                next,
+                most,
+            )?;
             Ok(front.followed_by(back, *second_may_be_empty))
         }
         ModelLayout::Either {
@@ -109,19 +149,35 @@ pub fn advance(
         } => {
             let (reached_first, reached_second) = split(reached, *middle);
             let (called_first, called_second) = split(called, *middle);
-            let front = advance(first, entered, name, reached_first, called_first, next)?;
-            let back = advance(second, entered, name, reached_second, called_second, next)?;
+            let front = advance(
+                first,
+                entered,
+                name,
+                reached_first,
+                called_first,
+                next,
+                most,
+            )?;
+            let back = advance(
+                second,
+                entered,
+                name,
+                reached_second,
+                called_second,
+                next,
+                most,
+            )?;
             Ok(front.or(back))
         }
         ModelLayout::Opt(member) => {
-            let ends = advance(member, entered, name, reached, called, next)?;
+            let ends = advance(member, entered, name, reached, called, next, most)?;
             Ok(ends)
         }
         ModelLayout::Plus { place, member } => {
             let (inner, own) = split(reached, *place);
             let was_end = !own.is_empty();
-            let round = advance(member, entered || was_end, name, inner, called, next)?;
-            let ends = end_at(*place, was_end, round.is_end, next)?;
+            let round = advance(member, entered || was_end, name, inner, called, next, most)?;
+            let ends = end_at(*place, was_end, round.is_end, next, most)?;
             Ok(ends)
         }
     }
@@ -133,12 +189,16 @@ fn end_at(
     was_end: bool,
     is_end: bool,
     next: &mut Vec<usize>,
-) -> Result<Ends, NoMemory>
+    most: usize,
+) -> Result<Ends, Stop>
     ensures ends { IfOk result (λ e. (e.was_end ≡ was_end) × (e.is_end ≡ is_end)) }
     ensures next { OnOk result (next.new.items ≡
         next.old.items ++ (if is_end then place ∷ [] else [])) }
 {
     if is_end {
+        if next.len() >= most {
+            return Err(Stop::TooMany);
+        }
         next.push(place)?;
     }
     Ok(Ends { was_end, is_end })

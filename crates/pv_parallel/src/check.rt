@@ -1,6 +1,6 @@
 //! The check of a whole document by several threads.
 
-ghost use Rattle.std.specs.Prelude.{◌≡◌, ◌≤◌, ◌<◌, ◌+◌, ℕ, IfErr, IfOk, MatchOption, OnOk, length};
+ghost use Rattle.std.specs.Prelude.{◌≡◌, ◌<◌, ℕ, IfErr, IfOk, MatchOption, OnErr, OnOk, length};
 ghost use Rattle.std.specs.List.{AllByRecursion};
 ghost use Rattle.pv_dtd.specs.PlainForms.{plain_dtd};
 ghost use Rattle.pv_productive.specs.PlainForms.{dtd_of};
@@ -33,8 +33,9 @@ use std::sync::ledger::Ledger;
 use std::thread::Threads;
 
 /// What `check_doc` answers, found by as many threads as there are processors. Of several wants of
-/// memory any may come. The gate is told the number of each list. The call lays out a plan of the
-/// grammar; who has one asks `check_doc_par_by`.
+/// memory any may come. Where there are no verdicts, no list is counted. The gate is told the
+/// number of each list. The call lays out a plan of the grammar; who has one asks
+/// `check_doc_par_by`.
 pub fn check_doc_par<G: Gate + Sync, L: Ledger>(
     rt: &(impl Threads + Sync),
     alloc: Global,
@@ -50,6 +51,7 @@ pub fn check_doc_par<G: Gate + Sync, L: Ledger>(
     ensures refused { FindsCause (dtd_of grammar.now) (plain_doc doc.now) result }
     ensures steps { CountsLists (plain_doc doc.now) steps.old steps.new result }
     ensures few_steps { CountsFewLists (plain_doc doc.now) steps.old steps.new }
+    ensures uncounted { OnErr result (steps.new ≡ steps.old) }
     ensures entered { OnOk result ((k : ℕ) → k < length (lists_of (plain_doc doc.now)) →
         G.entered gate.now k) }
 {
@@ -73,6 +75,7 @@ pub fn check_doc_par_by<G: Gate + Sync, L: Ledger>(
     ensures refused { FindsCause (dtd_of judge.now) (plain_doc doc.now) result }
     ensures steps { CountsLists (plain_doc doc.now) steps.old steps.new result }
     ensures few_steps { CountsFewLists (plain_doc doc.now) steps.old steps.new }
+    ensures uncounted { OnErr result (steps.new ≡ steps.old) }
     ensures entered { OnOk result ((k : ℕ) → k < length (lists_of (plain_doc doc.now)) →
         G.entered gate.now k) }
 {
@@ -80,19 +83,19 @@ pub fn check_doc_par_by<G: Gate + Sync, L: Ledger>(
     first_impossible_at_law::<Mark>();
     proper_dtd_law(judge.grammar().dtd());
     proper_doc_law(doc);
-    let verdicts = judge_lists(rt, judge, root, doc, gate, steps)?;
+    let verdicts = judge_lists(rt, judge, root, doc, gate)?;
     let first = first_path(judge.alloc(), doc, &verdicts)?;
+    count_lists(&verdicts, steps);
     Ok(Verdicts::of(verdicts, first))
 }
 
 // The verdicts of all lists, none of which is too wide.
-fn judge_lists<G: Gate + Sync, L: Ledger>(
+fn judge_lists<G: Gate + Sync>(
     rt: &(impl Threads + Sync),
     judge: &Judge<'_>,
     root: &[u8],
     doc: &Doc,
     gate: &G,
-    steps: &mut Steps<L>,
 ) -> Result<Vec<Verdict>, FreshError>
     ensures verdicts { IfOk result (λ vs. AreVerdicts (dtd_of judge.now) root.now
         (lists_of (plain_doc doc.now)) vs.items) }
@@ -100,8 +103,6 @@ fn judge_lists<G: Gate + Sync, L: Ledger>(
     ensures narrow { OnOk result (AllByRecursion (IsListForVerdict (dtd_of judge.now))
         (lists_of (plain_doc doc.now))) }
     ensures refused { IfErr result (HasCause (dtd_of judge.now) (plain_doc doc.now)) }
-    ensures steps { OnOk result (steps.new ≡ steps.old + length (lists_of (plain_doc doc.now))) }
-    ensures few_steps { steps.new ≤ steps.old + length (lists_of (plain_doc doc.now)) }
     ensures entered { OnOk result ((k : ℕ) → k < length (lists_of (plain_doc doc.now)) →
         G.entered gate.now k) }
 {
@@ -112,7 +113,6 @@ fn judge_lists<G: Gate + Sync, L: Ledger>(
     }
     let judged = judge_jobs(rt, judge, root, &jobs, gate)?;
     let verdicts = join_judged(alloc, &judged)?;
-    count_lists(&verdicts, steps);
     Ok(verdicts)
 }
 

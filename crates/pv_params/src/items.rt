@@ -29,7 +29,7 @@ pub enum SpelledItem<'a> {
     Byte(u8),
     /// A text that is copied.
     Text(&'a [u8]),
-    /// A character that is put.
+    /// A character that a reference in a value tells by its number, and that stands in its place.
     Character(char),
     /// A reference to the entity of this name.
     Reference(&'a [u8]),

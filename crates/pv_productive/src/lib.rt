@@ -10,11 +10,13 @@
 mod grammar;
 pub mod laws;
 mod layout;
+mod links;
 mod lowering;
 mod settle;
 mod sizes;
 mod spread;
 mod sums;
+mod waiting;
 
 pub use grammar::Grammar;
 pub use settle::build;

@@ -1,16 +1,17 @@
 //! Lowering the sizes found so far by the rules, until the rules lower none.
 
-ghost use Rattle.std.specs.Prelude.{ℕ, ◌≡◌, ◌≤◌, ◌+◌, ◌<◌, ◌^◌, length};
+ghost use Rattle.std.specs.Prelude.{ℕ, ◌≡◌, ◌≤◌, ◌+◌, ◌<◌, ◌^◌, IsTrue, length};
 ghost use Rattle.pv_dtd.specs.Plain.{parts_in_models};
 ghost use Rattle.pv_dtd.specs.PlainForms.{plain_dtd};
 ghost use Rattle.pv_rules.specs.Sites.{name_site, part_site, rest_site};
 ghost use Rattle.pv_productive.specs.PlainForms.{table_of};
 ghost use Rattle.pv_productive.specs.Tables.{AreNamesSettled, ArePartsSettled, IsAttained};
-ghost use Rattle.pv_productive.specs.Tables.{IsLowering, IsSettled, IsSettledAt};
+ghost use Rattle.pv_productive.specs.Tables.{IsLowering, IsSettled, IsSettledAt, sum_in};
 
 use crate::layout::Layout;
 use crate::sizes::{Sizes, cut, lower};
 use crate::sums::{size_of_part, sum_of_name, sum_of_rest};
+use pv_rules::Site;
 
 /// Lowers the size of a part, where the rules give less, and tells whether they do.
 fn lower_part(layout: &Layout, number: u32, sizes: &mut Sizes) -> bool
@@ -92,15 +93,16 @@ pub fn lower_all(layout: &Layout, sizes: &mut Sizes) -> bool
     parts | names
 }
 
-/// The same for a name and the parts of its content; it tells whether the size of the name was
-/// lowered.
-pub fn lower_content(layout: &Layout, name: u32, sizes: &mut Sizes) -> bool
+/// The same for one site. A content has no size of its own, and a site that the DTD hasn't has none.
+pub fn lower_site(layout: &Layout, site: Site, sizes: &mut Sizes) -> bool
     requires { IsAttained (plain_dtd layout.now.dtd) (table_of sizes.old) }
-    ensures { IsAttained (plain_dtd layout.now.dtd) (table_of sizes.new) }
+    ensures attained { IsAttained (plain_dtd layout.now.dtd) (table_of sizes.new) }
+    ensures less { IsTrue result → sum_in (table_of sizes.new) < sum_in (table_of sizes.old) }
 {
-    let Some(content) = layout.content(name) else {
-        return false;
-    };
-    lower_parts(layout, content.first, content.end, sizes);
-    lower_name(layout, name, sizes)
+    match site {
+        Site::Name(id) if id.0 < layout.dtd().names() => lower_name(layout, id.0, sizes),
+        Site::Part(number) if number < layout.dtd().parts() => lower_part(layout, number, sizes),
+        Site::Rest(number) if number < layout.dtd().parts() => lower_rest(layout, number, sizes),
+        Site::Name(_) | Site::Content(_) | Site::Part(_) | Site::Rest(_) => false,
+    }
 }

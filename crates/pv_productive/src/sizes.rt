@@ -5,7 +5,7 @@ ghost use Rattle.pv_productive.specs.Tables.{IsLowered, capped, size_at};
 
 use crate::layout::Layout;
 use pv_chars::NoMemory;
-use pv_rules::HEAVIEST;
+use pv_rules::{HEAVIEST, Site};
 use std::alloc::Global;
 
 /// The size of what has no good element, as far as is known; more than a rule adds up from sizes
@@ -71,6 +71,16 @@ impl Sizes {
         ensures { result ≡ size_at self.now.rests.items number }
     {
         size_at(self.rests.as_slice(), number)
+    }
+
+    /// The size of a site; that of a content stands nowhere.
+    pub fn of_site(&self, site: Site) -> u32 {
+        match site {
+            Site::Name(id) => self.of_name(id.0),
+            Site::Content(_) => NO_SIZE,
+            Site::Part(number) => self.of_part(number),
+            Site::Rest(number) => self.of_rest(number),
+        }
     }
 }
 

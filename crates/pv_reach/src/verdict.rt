@@ -28,7 +28,7 @@ use crate::plan::Plan;
 use crate::words::{content_derives, is_element};
 use pv_chars::NoMemory;
 use pv_missing::{Of, are_productive, is_narrow};
-use pv_model::{ContentModel, NameId, Token, matches};
+use pv_model::{ContentModel, LaidModel, NameId, Token};
 use pv_productive::Grammar;
 use pv_steps::Steps;
 use pv_tree::{Node, Verdict, word};
@@ -54,7 +54,7 @@ fn judge_root(judge: &Judge<'_>, id: NameId, word: &[Token]) -> Result<Verdict, 
 }
 
 /// The content model of a name that is productive.
-fn productive_model(grammar: &Grammar, id: NameId) -> Option<&ContentModel>
+fn productive_model(grammar: &Grammar, id: NameId) -> Option<&LaidModel>
     ensures { MatchOption (option_copied result) (¬ IsProductive (dtd_of grammar.now) id.0)
         (λ model. IsProductive (dtd_of grammar.now) id.0 ×
         (model_of (dtd_of grammar.now) id.0 ≡ Some (plain_model model))) }
@@ -62,7 +62,7 @@ fn productive_model(grammar: &Grammar, id: NameId) -> Option<&ContentModel>
     if id.0 >= grammar.dtd().names() || !grammar.is_productive(id) {
         return None;
     }
-    grammar.dtd().model_of(id)
+    grammar.dtd().laid_model_of(id)
 }
 
 /// The verdict of an element's list by its word; a word that the content model allows needs no
@@ -95,18 +95,20 @@ fn judge_content(
 }
 
 /// Whether a content model allows a word.
-fn is_allowed(judge: &Judge<'_>, model: &ContentModel, word: &[Token]) -> Result<bool, NoMemory>
+fn is_allowed(judge: &Judge<'_>, model: &LaidModel, word: &[Token]) -> Result<bool, NoMemory>
     ensures { IfOk result (λ is. IsTrue is ↔ Allows (declared (dtd_of judge.now))
         (plain_model model.now) (map plain_token word.now)) }
 {
-    matches(judge.alloc(), model, judge.grammar().dtd().count(), word).map_err(|_| NoMemory)
+    model
+        .allows(judge.alloc(), judge.grammar().dtd().count(), word)
+        .map_err(|_| NoMemory)
 }
 
 /// Whether an element of this model may have kids, or has none of any kind.
-fn may_have_kids(model: &ContentModel, is_bare: bool) -> bool
+fn may_have_kids(model: &LaidModel, is_bare: bool) -> bool
     ensures { IsTrue result ↔ (plain_model model.now ≡ empty → IsTrue is_bare) }
 {
-    match model {
+    match model.model() {
         ContentModel::Empty => is_bare,
         ContentModel::Any => true,
         ContentModel::Mixed(_) => true,

@@ -10,7 +10,7 @@ ghost use Rattle.pv_tree.specs.Marks.{HasMarks, blank_mark};
 ghost use Rattle.pv_tree.specs.declared.nodes.Mark.{Mark};
 ghost use Rattle.pv_read.specs.Grammar.{IsDocumentText};
 ghost use Rattle.pv_read.specs.Left.{in_epilog};
-ghost use Rattle.pv_read.specs.Meaning.{MAX_DOC_BYTES as MOST_BYTES, Outcome, is_document};
+ghost use Rattle.pv_read.specs.Meaning.{MAX_DOC_BYTES as MAX_BYTES, Outcome, is_document};
 ghost use Rattle.pv_read.specs.Meaning.{DocumentRestMeans, DocumentMeans};
 ghost use Rattle.pv_read.specs.Errors.{Refuses};
 ghost use Rattle.pv_read.specs.PlainForms.{Answers};
@@ -71,7 +71,7 @@ struct DocumentParts<'a> {
 
 // The parts of the document that the bytes are.
 fn parts_of<'a>(alloc: Global, bytes: &'a [u8], root: &[u8]) -> Result<DocumentParts<'a>, DocError>
-    requires { length bytes.now ≤ MOST_BYTES }
+    requires { length bytes.now ≤ MAX_BYTES }
     ensures read { IfOk result (λ p. DocumentMeans blank_mark root.now bytes.now
         (is_document (document p.before.now (plain p.root) p.after.now))) }
     ensures refused { IfErr result (λ e. Refuses (DocumentMeans blank_mark root.now bytes.now) e) }

@@ -21,5 +21,5 @@ mod sites;
 
 pub use flat::{ContentKind, FlatContent, FlatPart, Kind, Membership};
 pub use flat_dtd::FlatDtd;
-pub use limits::{HEAVIEST, MOST_MISSING};
+pub use limits::{HEAVIEST, MAX_MISSING};
 pub use sites::{Site, has_site};

@@ -2,7 +2,7 @@
 
 ghost use Rattle.std.specs.Prelude.{◌≡◌, ◌++◌, IfOk, length, nat_le, false, if◌then◌else◌};
 ghost use Rattle.pv_script.specs.Lines.{without_returns};
-ghost use Rattle.pv_script.specs.Taking.{TakesPiece, MAX_LINE_BYTES as MOST_BYTES, nothing_held};
+ghost use Rattle.pv_script.specs.Taking.{TakesPiece, MAX_LINE_BYTES as MAX_BYTES, nothing_held};
 ghost use Rattle.pv_script.specs.Taking.{begun_line};
 
 use memchr::memchr;
@@ -44,13 +44,13 @@ pub struct Lines {
 
 impl Model for Lines {
     ghost use Rattle.std.specs.Prelude.{◌≤◌, vec_len, vec_capacity};
-    ghost use Rattle.pv_script.specs.Taking.{HeldLine, MAX_LINE_BYTES as MOST_BYTES};
+    ghost use Rattle.pv_script.specs.Taking.{HeldLine, MAX_LINE_BYTES as MAX_BYTES};
 
     ghost Value = { HeldLine };
 
     ghost view = { λ l. record { bytes = l.bytes.items; whole = l.whole } };
 
-    ghost invariant = { λ l. (vec_len l.bytes ≤ MOST_BYTES) × (MOST_BYTES ≤ vec_capacity l.bytes) };
+    ghost invariant = { λ l. (vec_len l.bytes ≤ MAX_BYTES) × (MAX_BYTES ≤ vec_capacity l.bytes) };
 }
 
 impl Lines {
@@ -66,7 +66,7 @@ impl Lines {
 
     // Adds bytes, and tells whether they fit.
     fn add(&mut self, bytes: &[u8]) -> bool
-        ensures fits { result ≡ nat_le (length (self.old.bytes ++ bytes.now)) MOST_BYTES }
+        ensures fits { result ≡ nat_le (length (self.old.bytes ++ bytes.now)) MAX_BYTES }
         ensures added { self.new ≡ record {
           bytes = if result then self.old.bytes ++ bytes.now else self.old.bytes;
           whole = self.old.whole;

@@ -117,6 +117,7 @@ impl Session {
         ensures stepped { MatchOption (edit_answer result) (self.new ≡ self.old)
             (λ answer. IsEditStep self.old edit.now answer self.new) }
         ensures steps { steps.new ≤ steps.old + 2 }
+        ensures later { steps.old ≤ steps.new }
     {
         leads_back_law::<()>();
         other_marks_law::<u64, ()>();
@@ -142,6 +143,7 @@ impl Session {
         ensures stepped { MatchOption (back_answer result) (self.new ≡ self.old)
             (λ answer. IsUndoStep self.old answer self.new) }
         ensures steps { steps.new ≤ steps.old + 2 }
+        ensures later { steps.old ≤ steps.new }
     {
         leads_back_law::<()>();
         other_marks_law::<u64, ()>();
@@ -170,6 +172,7 @@ impl Session {
         ensures stepped { MatchOption (back_answer result) (self.new ≡ self.old)
             (λ answer. IsRedoStep self.old answer self.new) }
         ensures steps { steps.new ≤ steps.old + 2 }
+        ensures later { steps.old ≤ steps.new }
     {
         leads_back_law::<()>();
         other_marks_law::<u64, ()>();

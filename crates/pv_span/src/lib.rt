@@ -7,8 +7,7 @@
 //! ones is laid out once for a grammar (`lay_out`) by whoever weighs many words (`weights_by`). All
 //! calls fill a chart (`specs/Charts.antt`): a value for each column over each span, lowered by the
 //! rules of columns until none lowers a value, span after span, those within a span before it.
-//! The crate also has the type in which weights are handed out to whoever wants to check a number
-//! (`Tables`).
+//! Whoever wants to check a number is handed the weights in tables, which are those of pv_tables.
 #![tactic(auto)]
 
 mod charts;

@@ -28,7 +28,7 @@ use crate::owners::{ListOwner, is_known_owner};
 use crate::weighing::is_narrow;
 use pv_chars::NoMemory;
 use pv_missing::{Of, live_word};
-use pv_model::{ContentModel, NameId, Token, matches};
+use pv_model::{ContentModel, LaidModel, NameId, Token};
 use pv_productive::Grammar;
 use pv_steps::Steps;
 use pv_tree::{Node, Verdict, word};
@@ -36,13 +36,13 @@ use std::alloc::Global;
 use std::sync::ledger::Ledger;
 
 /// The content model of a name, where it is declared.
-fn model_in(grammar: &Grammar, id: NameId) -> Option<&ContentModel>
+fn model_in(grammar: &Grammar, id: NameId) -> Option<&LaidModel>
     ensures { option_map plain_model (option_copied result) ≡ model_of (dtd_of grammar.now) id.0 }
 {
     if id.0 >= grammar.dtd().names() {
         return None;
     }
-    grammar.dtd().model_of(id)
+    grammar.dtd().laid_model_of(id)
 }
 
 /// Whether a name is productive.
@@ -59,7 +59,7 @@ fn is_empty_element(grammar: &Grammar, id: NameId) -> bool
     let Some(model) = model_in(grammar, id) else {
         return false;
     };
-    match model {
+    match model.model() {
         ContentModel::Empty => true,
         ContentModel::Any => false,
         ContentModel::Mixed(_) => false,
@@ -95,7 +95,9 @@ fn fits_element(
     let Some(model) = model_in(grammar, id) else {
         return Ok(false);
     };
-    matches(alloc, model, grammar.dtd().count(), word).map_err(|_| NoMemory)
+    model
+        .allows(alloc, grammar.dtd().count(), word)
+        .map_err(|_| NoMemory)
 }
 
 /// Whether a list of this owner and this word, which may have the kids that it has, is valid by

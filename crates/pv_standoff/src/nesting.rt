@@ -5,7 +5,7 @@ ghost use Rattle.pv_chars.specs.Names.{IsName};
 ghost use Rattle.pv_chars.specs.Texts.{holds_close_mark};
 ghost use Rattle.pv_chars.specs.Units.{AllUnits};
 ghost use Rattle.pv_tree.specs.PlainDocs.{plain_doc};
-ghost use Rattle.pv_standoff.specs.Ranges.{AreNamed, MAX_RANGES as MOST_RANGES};
+ghost use Rattle.pv_standoff.specs.Ranges.{AreNamed, MAX_RANGES as MAX_RANGE_COUNT};
 ghost use Rattle.pv_standoff.specs.Nested.{NestMeans};
 ghost use Rattle.pv_standoff.specs.Spans.{document_of_root};
 ghost use Rattle.pv_tree.specs.PlainForms.{plain};
@@ -53,7 +53,7 @@ fn root_of(alloc: Global, root: Bytes, text: &Units, ranges: &[Range]) -> Result
 pub fn nest(alloc: Global, root: &[u8], text: &Units, ranges: &Ranges) -> Result<Doc, NestError>
     requires root { IsName root.now }
     requires named { AreNamed ranges.now }
-    requires few { length ranges.now ≤ MOST_RANGES }
+    requires few { length ranges.now ≤ MAX_RANGE_COUNT }
     requires no_close_mark { holds_close_mark text.now ≡ false }
     ensures { MatchResult result
         (λ doc. NestMeans root.now text.now ranges.now (Ok (plain_doc doc)))

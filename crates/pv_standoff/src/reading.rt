@@ -4,7 +4,7 @@ ghost use Rattle.std.specs.Prelude.{◌≡◌, ◌≤◌, ◌<◌, [], ◌∷◌
 ghost use Rattle.std.specs.Prelude.{IfSome, MatchOption, MatchResult};
 ghost use Rattle.pv_script.specs.Lines.{lines_of};
 ghost use Rattle.pv_standoff.specs.Lines.{RangesMean, number_at, range_of};
-ghost use Rattle.pv_standoff.specs.Ranges.{AreNamed, MAX_RANGES as MOST_RANGES};
+ghost use Rattle.pv_standoff.specs.Ranges.{AreNamed, MAX_RANGES as MAX_RANGE_COUNT};
 
 use crate::errors::RangesError;
 use crate::ranges::{Range, Ranges};
@@ -73,7 +73,7 @@ pub fn read_ranges(alloc: Global, bytes: &[u8]) -> Result<Ranges, RangesError>
     ensures read { MatchResult result (λ ranges. RangesMean bytes.now (Ok ranges))
         (λ e. (e ≡ RangesError.NoMemory) ⊎ RangesMean bytes.now (Err e)) }
     ensures named { IfOk result (λ ranges. AreNamed ranges) }
-    ensures few { IfOk result (λ ranges. length ranges ≤ MOST_RANGES) }
+    ensures few { IfOk result (λ ranges. length ranges ≤ MAX_RANGE_COUNT) }
 {
     let mut ranges: Vec<Range> = Vec::new(alloc);
     let mut rest = bytes;

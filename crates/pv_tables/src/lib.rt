@@ -11,4 +11,4 @@ mod order;
 mod tables;
 
 pub use order::{is_same_site, precedes, site_number};
-pub use tables::{Entries, Entry, MOST_ENTRIES, Table, Tables};
+pub use tables::{Entries, Entry, MAX_ENTRIES, Table, Tables};

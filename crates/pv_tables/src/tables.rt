@@ -5,7 +5,7 @@ use pv_rules::Site;
 use pv_tree::Path;
 
 /// How many entries all tables of a document may have.
-pub const MOST_ENTRIES: u32 = 8_388_608;
+pub const MAX_ENTRIES: u32 = 8_388_608;
 
 /// The weight of a site over the tokens from number `from` up to number `to`, which is left out.
 #[derive(Clone, Copy, Debug, PartialEq, Eq)]

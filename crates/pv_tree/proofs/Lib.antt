@@ -6,6 +6,7 @@ pub mod Forests
 pub mod Owners
 pub mod PathOrder
 pub mod Finding
+pub mod Searching
 pub mod Marks
 pub mod ValidLists
 pub mod FirstInvalid

@@ -14,6 +14,7 @@ pub mod laws;
 mod nodes;
 mod paths;
 mod places;
+mod search;
 mod validity;
 mod words;
 
@@ -21,5 +22,6 @@ pub use document::Doc;
 pub use nodes::{End, Mark, Node, Nodes, Verdict};
 pub use paths::Path;
 pub use places::Found;
+pub use search::{ListTest, first_list};
 pub use validity::first_invalid;
 pub use words::{Tokens, name_token, word};

@@ -17,7 +17,7 @@ use Rattle.pv_tree.specs.Words.{node_before, word_of}
 use Rattle.pv_tree.specs.declared.nodes.Mark.{Mark}
 use Rattle.pv_read.specs.Left.{Open, just_opened, with_kid}
 use Rattle.pv_valid.specs.WholeLists.{next_path, whole_lists, kids_in, TellsFirst, TellsWhether}
-use Rattle.pv_valid.specs.OpenLists.{IsOpen, AreOpen, HasRead, HasEnded, MayGrow, MOST_KIDS, ended_element}
+use Rattle.pv_valid.specs.OpenLists.{IsOpen, AreOpen, HasRead, HasEnded, MayGrow, MAX_KIDS, ended_element}
 use Rattle.pv_valid.specs.declared.open.OpenList.{OpenList}
 use Rattle.pv_valid.specs.declared.open.OpenLists.{OpenLists}
 use Rattle.pv_valid.proofs.Growing.{whole_lists-with_kid, word_of-behind}
@@ -192,13 +192,13 @@ module _ (g : PlainDtd) (root : List ℕ) where
   pub outer_length : (lists : OpenLists) (inner : Open Mark) (outer : List (Open Mark)) → HasRead g root lists inner outer → length lists.outer.items ≡ length outer
   outer_length lists inner outer r = sym (length-reverse lists.outer.items) ∙ same_length (reverse lists.outer.items) outer r.are_open.0 r.are_open.2
 
-  few_of : (ls : List OpenList) (os : List (Open Mark)) (tokens : List PlainToken) → AreOpen g root ls os tokens → kids_in os < MOST_KIDS → AllByRecursion (λ (l : OpenList). l.kids < MOST_KIDS) ls
+  few_of : (ls : List OpenList) (os : List (Open Mark)) (tokens : List PlainToken) → AreOpen g root ls os tokens → kids_in os < MAX_KIDS → AllByRecursion (λ (l : OpenList). l.kids < MAX_KIDS) ls
   few_of [] [] tokens h less = tt
   few_of [] (o ∷ os) tokens h less = absurd h
   few_of (l ∷ ls) [] tokens h less = absurd h
   few_of (l ∷ ls) (o ∷ os) tokens h less = let count : l.kids ≡ length o.kids = h.1.is_count in (omega arith, few_of ls os h.0 h.2 (omega arith))
 
-  pub has_room : (lists : OpenLists) (inner : Open Mark) (outer : List (Open Mark)) → HasRead g root lists inner outer → kids_in (inner ∷ outer) < MOST_KIDS → MayGrow lists
+  pub has_room : (lists : OpenLists) (inner : Open Mark) (outer : List (Open Mark)) → HasRead g root lists inner outer → kids_in (inner ∷ outer) < MAX_KIDS → MayGrow lists
   has_room lists inner outer r less = record {
     few = few_of (lists.inner ∷ reverse lists.outer.items) (inner ∷ outer) (map plain_token lists.tokens.items) r.are_open less;
     within = inner_within lists inner outer r;

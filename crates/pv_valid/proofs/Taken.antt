@@ -12,7 +12,7 @@ use Rattle.pv_read.specs.Steps.{TakesItem}
 use Rattle.pv_read.specs.declared.errors.DocError.{DocError}
 use Rattle.pv_read.proofs.Prologs.{same_some, takes_leads}
 use Rattle.pv_read.proofs.Refusing.{Refuses-weaker}
-use Rattle.pv_valid.specs.OpenLists.{HasRead, MayGrow, MOST_KIDS}
+use Rattle.pv_valid.specs.OpenLists.{HasRead, MayGrow, MAX_KIDS}
 use Rattle.pv_valid.specs.Contents.{TakesInto, ReadsJudgedContent, ReadsRoot}
 use Rattle.pv_valid.specs.declared.open.OpenLists.{OpenLists}
 use Rattle.pv_valid.proofs.Stack.{inner_name, outer_length, has_room}
@@ -30,7 +30,7 @@ pub item_stands : {most : Option ℕ} {root rest more before : List ℕ} {inner 
 item_stands {before = before} {inner = inner} {outer = outer} {i = i} t = may_stand before inner outer i t.next t.stands
 
 module _ {most : Option ℕ} {g : PlainDtd} {root name attrs bytes : List ℕ} {first : ℕ} {lists : OpenLists} {rest : List ℕ} {count : ℕ} (r : ReadsJudgedContent most g root name attrs bytes first lists rest count) where
-  pub room : first + length bytes < MOST_KIDS → MayGrow lists
+  pub room : first + length bytes < MAX_KIDS → MayGrow lists
   room less = has_room g root lists r.inner r.outer r.has_read (omega (arith, r.few, r.few_kids))
 
   pub refused_at : (e : DocError) → ((before : List ℕ) (inner : Open Mark) (outer : List (Open Mark)) → HasRead g root lists inner outer → Refuses (DocumentRestMeans most blank_mark root count (in_content before inner outer) rest) e)

@@ -18,8 +18,8 @@ use Rattle.pv_valid.specs.declared.open.OpenList.{OpenList}
 use Rattle.pv_valid.specs.declared.open.OpenLists.{OpenLists}
 
 -- the most kids of an element
-abbrev pub MOST_KIDS : ℕ
-MOST_KIDS = 4294967295
+abbrev pub MAX_KIDS : ℕ
+MAX_KIDS = 4294967295
 
 -- This is known of an open element in others: its name, which may be known to be a Name, with its
 -- model and token, how many kids it has so far, and which tokens, behind those of the others, are
@@ -73,6 +73,6 @@ HasEnded g root lists false (o ∷ os) t = HasRead g root lists (with_kid o t) o
 
 -- each open element can have one more kid, and the word of the innermost begins within the tokens
 pub record MayGrow (lists : OpenLists) : Type 0 where
-  pub few : AllByRecursion (λ (l : OpenList). l.kids < MOST_KIDS)
+  pub few : AllByRecursion (λ (l : OpenList). l.kids < MAX_KIDS)
       (lists.inner ∷ reverse lists.outer.items)
   pub within : lists.inner.start ≤ length lists.tokens.items

@@ -10,7 +10,7 @@ ghost use Rattle.pv_read.specs.Left.{Open, in_content, just_opened};
 ghost use Rattle.pv_read.specs.Meaning.{DocumentRestMeans};
 ghost use Rattle.pv_valid.specs.Contents.{TakesInto, ReadsRoot};
 ghost use Rattle.pv_valid.specs.Types.{AreTypes};
-ghost use Rattle.pv_valid.specs.OpenLists.{HasRead, MayGrow, MOST_KIDS};
+ghost use Rattle.pv_valid.specs.OpenLists.{HasRead, MayGrow, MAX_KIDS};
 
 use crate::items::item_in;
 use crate::open::OpenLists;
@@ -70,7 +70,7 @@ pub fn read_content<'a>(
     bytes: &'a [u8],
     first: u64,
 ) -> Result<(OpenLists<'a>, &'a [u8], u64), DocError>
-    requires { first + length bytes.now < MOST_KIDS }
+    requires { first + length bytes.now < MAX_KIDS }
     ensures read { IfOk result (λ r. ReadsRoot most_depth (plain_dtd dtd.now) root.now false
         tag.now.name.now tag.now.attrs.now bytes.now
         first r.0 r.1.now r.2) }

@@ -12,14 +12,14 @@ ghost use Rattle.pv_tree.specs.declared.nodes.Mark.{Mark};
 
 use pv_chars::NoMemory;
 use pv_dtd::Dtd;
-use pv_model::{ContentModel, Token, matches};
+use pv_model::{ContentModel, LaidModel, Token};
 use std::alloc::Global;
 
 /// Whether kids of this word fit an element of this content model by themselves, where it has one.
 pub fn fits(
     alloc: Global,
     dtd: &Dtd,
-    model: Option<&ContentModel>,
+    model: Option<&LaidModel>,
     has_kids: bool,
     word: &[Token],
 ) -> Result<bool, NoMemory>
@@ -33,8 +33,8 @@ pub fn fits(
     let Some(model) = model else {
         return Ok(false);
     };
-    if let ContentModel::Empty = model {
+    if let ContentModel::Empty = model.model() {
         return Ok(!has_kids);
     }
-    matches(alloc, model, dtd.count(), word).map_err(|_| NoMemory)
+    model.allows(alloc, dtd.count(), word).map_err(|_| NoMemory)
 }

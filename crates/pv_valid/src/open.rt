@@ -17,7 +17,7 @@ ghost use Rattle.pv_read.specs.Left.{Open, just_opened};
 ghost use Rattle.pv_read.specs.PlainItems.{plain_item};
 ghost use Rattle.pv_read.specs.Places.{may_stand_in_content};
 ghost use Rattle.pv_valid.specs.Contents.{IsBehind};
-ghost use Rattle.pv_valid.specs.OpenLists.{HasRead, MayGrow, HasEnded, ended_element, MOST_KIDS};
+ghost use Rattle.pv_valid.specs.OpenLists.{HasRead, MayGrow, HasEnded, ended_element, MAX_KIDS};
 ghost use Rattle.pv_valid.specs.Tags.{IsTypeOfTag};
 ghost use Rattle.pv_valid.specs.Types.{AreTypes, IsTypeOf};
 ghost use Rattle.pv_valid.specs.WholeLists.{next_path, whole_lists, TellsFirst};
@@ -28,7 +28,7 @@ use crate::types::{ElementType, FoundTypes};
 use pv_chars::NoMemory;
 use pv_chars::scan::is_space;
 use pv_dtd::Dtd;
-use pv_model::{ContentModel, Token};
+use pv_model::{LaidModel, Token};
 use pv_read::forms::Item;
 use pv_tree::Path;
 use std::alloc::Global;
@@ -39,7 +39,7 @@ pub struct OpenList<'a> {
     pub name: &'a [u8],
     /// Whether the name is known to be a Name.
     pub is_name: bool,
-    pub model: Option<&'a ContentModel>,
+    pub model: Option<&'a LaidModel>,
     pub token: Token,
     /// The number of the kids so far.
     pub kids: u32,
@@ -141,7 +141,7 @@ impl<'a> OpenLists<'a> {
 
     // One more kid of the innermost open element, with the token that it has.
     fn add_kid(&mut self, token: Option<Token>) -> Result<(), NoMemory>
-        requires { self.old.inner.kids < MOST_KIDS }
+        requires { self.old.inner.kids < MAX_KIDS }
         ensures inner { OnOk result (self.new.inner
             ≡ record self.old.inner { kids = self.old.inner.kids + 1 }) }
         ensures outer { self.new.outer ≡ self.old.outer }

@@ -15,7 +15,7 @@ ghost use Rattle.pv_read.specs.Meaning.{Outcome, is_document};
 ghost use Rattle.pv_read.specs.PlainForms.{Answers};
 ghost use Rattle.pv_read.specs.Prologs.{behind_tag};
 ghost use Rattle.pv_valid.specs.Contents.{ReadsRoot, limits_of};
-ghost use Rattle.pv_valid.specs.OpenLists.{MOST_KIDS};
+ghost use Rattle.pv_valid.specs.OpenLists.{MAX_KIDS};
 
 use crate::content::read_content;
 use crate::open::OpenLists;
@@ -36,7 +36,7 @@ fn read_root<'a>(
     root: &[u8],
     opening: &RootTag<'a>,
 ) -> Result<(OpenLists<'a>, &'a [u8], u64), DocError>
-    requires { suc opening.now.count + length opening.now.rest.now < MOST_KIDS }
+    requires { suc opening.now.count + length opening.now.rest.now < MAX_KIDS }
     ensures read { IfOk result (λ r. ReadsRoot most_depth (plain_dtd dtd.now) root.now
         opening.now.is_short opening.now.tag.name.now opening.now.tag.attrs.now opening.now.rest.now
         (suc opening.now.count) r.0 r.1.now r.2) }
@@ -83,7 +83,7 @@ pub fn first_invalid_within(
     root: &[u8],
     bytes: &[u8],
 ) -> Result<Option<Path>, DocError>
-    requires { most_bytes < MOST_KIDS }
+    requires { most_bytes < MAX_KIDS }
     ensures read { IfOk result (λ _. (doc : PlainDoc Mark) ×
         DocumentMeansWithin (limits_of most_depth most_bytes) blank_mark root.now bytes.now
         (is_document doc)) }

@@ -8,7 +8,7 @@ ghost use Rattle.pv_valid.specs.Types.{IsTypeOf, AreTypesNamed, AreTypes};
 
 use pv_chars::{NoMemory, is_name};
 use pv_dtd::Dtd;
-use pv_model::{ContentModel, Token};
+use pv_model::{LaidModel, Token};
 use std::alloc::Global;
 
 /// How many places there are: one for each value of a byte.
@@ -23,7 +23,7 @@ pub struct ElementType<'a> {
     /// What such an element is in the word of the list that it stands in.
     pub token: Token,
     /// What such an element may have in it, where the DTD declares the name.
-    pub model: Option<&'a ContentModel>,
+    pub model: Option<&'a LaidModel>,
 }
 
 impl<'a> ElementType<'a> {
@@ -36,7 +36,7 @@ impl<'a> ElementType<'a> {
                 name,
                 is_name: is_name(name),
                 token: Token::Name(id),
-                model: dtd.model_of(id),
+                model: dtd.laid_model_of(id),
             },
             None => ElementType {
                 name,

@@ -1,6 +1,6 @@
 //! Characters, names, markup, references and texts at the front of some bytes.
 
-use crate::rows::expect;
+use crate::expectations::expect;
 use crate::tables::{CHARS, NAME_CHARS, NAME_STARTS, NO_CHARS, NO_NAME_CHARS, NO_NAME_STARTS};
 use pv_chars::declarations::{after_text_decl, after_xml_decl, quoted_at};
 use pv_chars::markup::{after_cdata, after_comment, after_instruction};
@@ -277,6 +277,16 @@ fn parts_of_texts(rt: HostRuntime) -> Result<(), Fail> {
     let part = units.part(rt.alloc(), 1, 3)?;
     assert!(rt; part.bytes() == b" &#32;".as_slice());
     are_joined(&rt, rt.alloc(), &part, &units)
+}
+
+#[test]
+fn halves_of_texts(rt: HostRuntime) -> Result<(), Fail> {
+    let units = text_units(rt.alloc(), "a &#32;é".as_bytes())?;
+    assert!(rt; units.len() == 4);
+    let (front, back) = units.cut(rt.alloc(), 3)?;
+    assert!(rt; front.len() == 3 && front.bytes() == b"a &#32;".as_slice());
+    assert!(rt; back.len() == 1 && back.bytes() == "é".as_bytes());
+    Ok(())
 }
 
 #[test]

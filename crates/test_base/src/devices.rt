@@ -1,6 +1,6 @@
 //! Sources, sinks and shelves, in memory and over the machine.
 
-use crate::rows::expect;
+use crate::expectations::expect;
 use pv_io::{
     Failed, FetchError, FolderShelf, MemShelf, MemSink, MemSource, ReadSource, Shelf, Sink, Source,
     WriteSink, write_all,

@@ -6,6 +6,6 @@ mod characters;
 #[cfg(test)]
 mod devices;
 #[cfg(test)]
-mod rows;
+mod expectations;
 #[cfg(test)]
 mod tables;

@@ -3,7 +3,7 @@
 ghost use Rattle.pv_dtd.specs.PlainForms.{plain_dtd};
 ghost use Rattle.pv_rules.specs.PlainForms.{IsFlat};
 
-use crate::rows::expect;
+use crate::expectations::expect;
 use pv_dtd::{Dtd, read_dtd};
 use pv_model::NameId;
 use pv_rules::{ContentKind, FlatContent, FlatDtd, FlatPart, Kind, Membership, Site, has_site};

@@ -3,6 +3,8 @@
 #![tactic(auto)]
 
 #[cfg(test)]
+mod expectations;
+#[cfg(test)]
 mod flat;
 #[cfg(test)]
 mod models;
@@ -10,7 +12,5 @@ mod models;
 mod params;
 #[cfg(test)]
 mod productive;
-#[cfg(test)]
-mod rows;
 #[cfg(test)]
 mod texts;

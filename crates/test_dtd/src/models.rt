@@ -1,6 +1,6 @@
 //! Content models, and the words that they allow.
 
-use crate::rows::expect;
+use crate::expectations::expect;
 use pv_dtd::{Dtd, read_dtd};
 use pv_model::{NameId, Names, NoMemory, Token, matches};
 use std::alloc::Global;
@@ -10,13 +10,16 @@ use std::test::Fail;
 /// The number of the name whose model is tried.
 const M: NameId = NameId(0);
 
-/// Whether the model of `m` allows the word.
-fn allows(alloc: Global, dtd: &Dtd, word: &[Token]) -> Result<bool, NoMemory> {
+/// Whether the model of `m` allows the word, or doesn't, both as it is laid out and by itself.
+fn agrees(alloc: Global, dtd: &Dtd, word: &[Token], allowed: bool) -> Result<bool, NoMemory> {
     if dtd.names() == 0 {
         return Ok(false);
     }
-    match dtd.model_of(M) {
-        Some(model) => matches(alloc, model, dtd.count(), word),
+    match dtd.laid_model_of(M) {
+        Some(laid) => {
+            let alone = matches(alloc, laid.model(), dtd.count(), word)?;
+            Ok(alone == allowed && laid.allows(alloc, dtd.count(), word)? == allowed)
+        }
         None => Ok(false),
     }
 }
@@ -86,8 +89,8 @@ fn check_words(
 ) -> Result<(), NoMemory> {
     for text in words {
         let word = tokens(alloc, *text)?;
-        let found = allows(alloc, dtd, &word)?;
-        expect(rt, found == allowed, text);
+        let agrees = agrees(alloc, dtd, &word, allowed)?;
+        expect(rt, agrees, text);
     }
     Ok(())
 }
@@ -128,8 +131,8 @@ fn check_steps(
 ) -> Result<(), NoMemory> {
     for (token, count, allowed) in steps {
         word.resize(word.len().saturating_add(*count), *token)?;
-        let found = allows(alloc, dtd, word)?;
-        expect(rt, found == *allowed, token);
+        let agrees = agrees(alloc, dtd, word, *allowed)?;
+        expect(rt, agrees, token);
     }
     Ok(())
 }
@@ -142,6 +145,26 @@ fn long_word(rt: HostRuntime) -> Result<(), Fail> {
     let dtd = with_model(rt.alloc(), "(((a*)*)*)")?;
     let mut word = Vec::new(rt.alloc());
     Ok(check_steps(&rt, rt.alloc(), &dtd, &mut word, &LONG)?)
+}
+
+/// Words of a model of 300 times `a?`, of which each name may be at many places.
+static OPTIONAL: [Step; 4] = [
+    (N0, 1, true),
+    (N0, 99, true),
+    (N0, 200, true),
+    (N0, 1, false),
+];
+
+#[test]
+fn optional_names(rt: HostRuntime) -> Result<(), Fail> {
+    let mut model = format!(in rt.alloc(); "(a?")?;
+    for _ in 1..300 {
+        model.push_str(",a?")?;
+    }
+    model.push_str(")")?;
+    let dtd = with_model(rt.alloc(), model.as_str())?;
+    let mut word = Vec::new(rt.alloc());
+    Ok(check_steps(&rt, rt.alloc(), &dtd, &mut word, &OPTIONAL)?)
 }
 
 /// Models of n0, n1, .., n299: what stands before the first number, between two, and behind the

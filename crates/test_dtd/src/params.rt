@@ -1,6 +1,6 @@
 //! What parameter entities of a DTD are put in place as, or the first fault.
 
-use crate::rows::expect;
+use crate::expectations::expect;
 use pv_params::{ParamError, expand};
 use std::alloc::Global;
 use std::test::Fail;

@@ -1,6 +1,6 @@
 //! Productive names and their least sizes.
 
-use crate::rows::expect;
+use crate::expectations::expect;
 use pv_dtd::read_dtd;
 use pv_model::NameId;
 use pv_productive::{Grammar, build};

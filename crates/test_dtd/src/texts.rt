@@ -1,6 +1,6 @@
 //! What texts of DTDs mean: a DTD, or the first item in fault.
 
-use crate::rows::expect;
+use crate::expectations::expect;
 use pv_dtd::{Dtd, DtdError, read_dtd};
 use pv_model::{ContentModel, NameId};
 use std::alloc::Global;

@@ -1,6 +1,6 @@
 //! The document and the lines of a drill.
 
-use crate::rows::expect;
+use crate::expectations::expect;
 use pv_drill::{drill_doc, drill_line};
 use std::alloc::Global;
 use std::test::Fail;

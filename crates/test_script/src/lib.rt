@@ -4,8 +4,8 @@
 #[cfg(test)]
 mod drills;
 #[cfg(test)]
-mod replies;
+mod expectations;
 #[cfg(test)]
-mod rows;
+mod replies;
 #[cfg(test)]
 mod scripts;

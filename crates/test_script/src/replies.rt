@@ -1,6 +1,6 @@
 //! Replies as they are written.
 
-use crate::rows::expect;
+use crate::expectations::expect;
 use pv_chars::{List, bytes_of};
 use pv_edit::{Done, Edit, Reason, VerdictRow};
 use pv_script::{Reply, okay_text, reply_text};

@@ -1,6 +1,6 @@
 //! Lines and commands.
 
-use crate::rows::expect;
+use crate::expectations::expect;
 use pv_edit::{Ask, Edit};
 use pv_script::{Command, CommandError, Lines, Took, edit_line, read_command};
 use std::alloc::Global;

@@ -4,21 +4,17 @@ ghost use Rattle.std.specs.Prelude.{◌≡◌, ◌≤◌, ◌+◌, IfOk, Some, N
 ghost use Rattle.pv_cli.specs.Check.{IsCheckCourse, possible_text};
 ghost use Rattle.pv_cli.specs.Checking.{CountsChecked};
 ghost use Rattle.pv_cli.specs.Commands.{GoesOn, lines_checked};
-ghost use Rattle.pv_cli.specs.Documents.{PlainOpened};
-ghost use Rattle.pv_cli.specs.Response.{plain_response, with_line};
-ghost use Rattle.pv_cli.specs.Returns.{TakesCourse, plain_fetched};
-ghost use Rattle.pv_cli.specs.declared.status.Status.TheVariants.{Done};
+ghost use Rattle.pv_stages.specs.Documents.{PlainOpened};
+ghost use Rattle.pv_stages.specs.Response.{plain_response, with_line};
+ghost use Rattle.pv_stages.specs.Returns.{TakesCourse, plain_fetched};
+ghost use Rattle.pv_stages.specs.declared.status.Status.TheVariants.{Done};
 ghost use Rattle.pv_cli.specs.declared.verb.Verb.TheVariants.{Check};
 ghost use Rattle.pv_productive.specs.PlainForms.{dtd_of};
 ghost use Rattle.pv_tree.specs.Lists.{lists_of};
 ghost use Rattle.pv_tree.specs.PlainDocs.{plain_doc};
 
-use crate::opening::{Fetched, Opened, open_document};
-use crate::possibility::verdicts_or_stop;
-use crate::response::Response;
-use crate::status::Status;
-use crate::stop::Stop;
 use pv_productive::{Grammar, build};
+use pv_stages::{Fetched, Opened, Response, Status, Stop, open_document, verdicts_or_stop};
 use pv_steps::Steps;
 use pv_tree::Doc;
 use std::alloc::{AllocError, Global};

@@ -5,18 +5,14 @@ ghost use Rattle.pv_denial.specs.declared.denials.Denial.{Denial as PlainDenial}
 ghost use Rattle.pv_cli.specs.CommandLine.{on_certificate};
 ghost use Rattle.pv_cli.specs.DenialFiles.{denial_file_stage, denial_stage};
 ghost use Rattle.pv_cli.specs.Deny.{TellsJudgement, flaw_text};
-ghost use Rattle.pv_cli.specs.Devices.{shelf_at};
-ghost use Rattle.pv_cli.specs.Opening.{IsFile};
-ghost use Rattle.pv_cli.specs.Returns.{FindsResponse, Returns, ReturnsOver, TellsBy};
+ghost use Rattle.pv_stages.specs.Devices.{shelf_at};
+ghost use Rattle.pv_stages.specs.Opening.{IsFile};
+ghost use Rattle.pv_cli.specs.Returns.{FindsResponse};
+ghost use Rattle.pv_stages.specs.Returns.{Returns, ReturnsOver, TellsBy};
 ghost use Rattle.pv_cli.specs.declared.checker.Checker.TheVariants.{Deny};
 ghost use Rattle.pv_dtd.specs.PlainForms.{plain_dtd};
 ghost use Rattle.pv_tree.specs.PlainDocs.{plain_doc};
 
-use crate::command_line::Named;
-use crate::opening::{Opened, fetch, open_files, refuse, refuse_item, refuse_path};
-use crate::response::Response;
-use crate::status::Status;
-use crate::stop::Stop;
 use pv_denial::laws::denied_law;
 use pv_denial::{Denial, Flaw, JudgeError, Judged, judge};
 use pv_denial_text::{MAX_DENIAL_BYTES, TableError, read_denial};
@@ -25,6 +21,9 @@ use pv_dtd::laws::proper_dtd_law;
 use pv_io::Shelf;
 use pv_missing::laws::proper::proper_doc_law;
 use pv_productive::build;
+use pv_stages::{
+    Named, Opened, Response, Status, Stop, fetch, open_files, refuse, refuse_item, refuse_path,
+};
 use pv_tree::{Doc, Mark};
 use std::alloc::Global;
 use std::mem::forget;

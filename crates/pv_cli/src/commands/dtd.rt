@@ -4,21 +4,19 @@ ghost use Rattle.std.specs.Prelude.{◌≡◌, ◌++◌, ◌<◌, OnOk, IfOk, So
 ghost use Rattle.std.specs.Prelude.{List, ℕ};
 ghost use Rattle.pv_cli.specs.Dtd.{AreNameLines, IsNameLine, IsTreeText, TellsDtd, model_text};
 ghost use Rattle.pv_cli.specs.Dtd.{totals};
-ghost use Rattle.pv_cli.specs.Returns.{TellsBy};
+ghost use Rattle.pv_stages.specs.Returns.{TellsBy};
 ghost use Rattle.pv_dtd.specs.Plain.{declared, model_of};
 ghost use Rattle.pv_dtd.specs.PlainForms.{plain_dtd};
 ghost use Rattle.pv_model.specs.PlainForms.{plain_model};
 ghost use Rattle.pv_productive.specs.PlainForms.{dtd_of};
 ghost use Rattle.pv_model.specs.Plain.{PlainModel};
 
-use crate::response::Response;
-use crate::status::Status;
-use crate::stop::Stop;
 use pv_dtd::Dtd;
 use pv_model::{ContentModel, NameId};
 use pv_productive::{Grammar, build};
 use pv_rules::HEAVIEST;
 use pv_script::push_number;
+use pv_stages::{Response, Status, Stop};
 use std::alloc::{AllocError, Global};
 
 // The word for what a content model is.

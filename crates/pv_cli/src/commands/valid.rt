@@ -1,17 +1,14 @@
 //! The command `valid`.
 
 ghost use Rattle.pv_cli.specs.Commands.{GoesOn};
-ghost use Rattle.pv_cli.specs.Response.{plain_response};
-ghost use Rattle.pv_cli.specs.Returns.{TakesCourse, Returns, plain_fetched};
+ghost use Rattle.pv_stages.specs.Response.{plain_response};
+ghost use Rattle.pv_stages.specs.Returns.{TakesCourse, Returns, plain_fetched};
 ghost use Rattle.pv_cli.specs.Validity.{validity_stage};
 ghost use Rattle.pv_cli.specs.declared.verb.Verb.TheVariants.{Valid};
 ghost use Rattle.pv_dtd.specs.PlainForms.{plain_dtd};
 
-use crate::opening::{Fetched, refuse_document};
-use crate::response::Response;
-use crate::status::Status;
-use crate::stop::Stop;
 use pv_dtd::Dtd;
+use pv_stages::{Fetched, Response, Status, Stop, refuse_document};
 use pv_valid::first_invalid_in;
 use std::alloc::Global;
 

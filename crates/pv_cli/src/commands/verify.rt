@@ -3,26 +3,24 @@
 ghost use Rattle.std.specs.Prelude.{◌≡◌, ℕ, Some, Contains};
 ghost use Rattle.pv_cert.specs.declared.packs.Pack.{Pack as PlainPack};
 ghost use Rattle.pv_cli.specs.CommandLine.{on_certificate};
-ghost use Rattle.pv_cli.specs.Devices.{shelf_at};
-ghost use Rattle.pv_cli.specs.Documents.{SpellsSome};
-ghost use Rattle.pv_cli.specs.Opening.{IsFile};
+ghost use Rattle.pv_stages.specs.Devices.{shelf_at};
+ghost use Rattle.pv_stages.specs.Documents.{SpellsSome};
+ghost use Rattle.pv_stages.specs.Opening.{IsFile};
 ghost use Rattle.pv_cli.specs.PackFiles.{pack_file_stage, pack_stage};
-ghost use Rattle.pv_cli.specs.Returns.{FindsResponse, Returns, ReturnsOver, TellsBy};
+ghost use Rattle.pv_cli.specs.Returns.{FindsResponse};
+ghost use Rattle.pv_stages.specs.Returns.{Returns, ReturnsOver, TellsBy};
 ghost use Rattle.pv_cli.specs.Verify.{TellsOfPack, test_text};
 ghost use Rattle.pv_cli.specs.declared.checker.Checker.TheVariants.{Verify};
 ghost use Rattle.pv_dtd.specs.PlainForms.{plain_dtd};
 
-use crate::command_line::Named;
-use crate::opening::{
-    Opened, fetch, open_files, refuse, refuse_document, refuse_item, refuse_path,
-};
-use crate::response::Response;
-use crate::status::Status;
-use crate::stop::Stop;
 use pv_cert::{MAX_PACK_BYTES, Pack, PackError, read_pack};
 use pv_dtd::Dtd;
 use pv_io::Shelf;
 use pv_read::laws::{meant_law, one_document_law, one_meaning_law};
+use pv_stages::{
+    Named, Opened, Response, Status, Stop, fetch, open_files, refuse, refuse_document, refuse_item,
+    refuse_path,
+};
 use pv_verify::{Answer, VerifyError, Why};
 use std::alloc::Global;
 

@@ -3,8 +3,8 @@
 ghost use Rattle.std.specs.Prelude.{◌≡◌, ◌≤◌, ◌+◌, Some, None, length};
 ghost use Rattle.pv_cli.specs.Checking.{CountsChecked};
 ghost use Rattle.pv_cli.specs.Commands.{GoesOn, lines_checked};
-ghost use Rattle.pv_cli.specs.Documents.{PlainOpened};
-ghost use Rattle.pv_cli.specs.Returns.{TakesCourse, TellsBy, plain_fetched};
+ghost use Rattle.pv_stages.specs.Documents.{PlainOpened};
+ghost use Rattle.pv_stages.specs.Returns.{TakesCourse, TellsBy, plain_fetched};
 ghost use Rattle.pv_cli.specs.Why.{IsWhyCourse, TellsWhy};
 ghost use Rattle.pv_cli.specs.declared.verb.Verb.TheVariants.{Why};
 ghost use Rattle.pv_fresh.specs.Answers.{IsImpossibleAt};
@@ -12,14 +12,10 @@ ghost use Rattle.pv_productive.specs.PlainForms.{dtd_of};
 ghost use Rattle.pv_tree.specs.Lists.{lists_of};
 ghost use Rattle.pv_tree.specs.PlainDocs.{plain_doc};
 
-use crate::opening::{Fetched, Opened, open_document, refuse};
-use crate::possibility::narrow_verdicts;
-use crate::response::Response;
-use crate::status::Status;
-use crate::stop::Stop;
 use pv_denial_text::write_denial;
 use pv_deny::{DenyError, denial_at};
 use pv_productive::{Grammar, build};
+use pv_stages::{Fetched, Opened, Response, Status, Stop, narrow_verdicts, open_document, refuse};
 use pv_steps::Steps;
 use pv_tree::{Doc, Path};
 use std::alloc::Global;

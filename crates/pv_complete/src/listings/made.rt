@@ -3,7 +3,7 @@
 use crate::missing::load::Load;
 use pv_chars::{List, NoMemory};
 use pv_span::{Entry, Table};
-use pv_tables::MOST_ENTRIES;
+use pv_tables::MAX_ENTRIES;
 use pv_tree::Path;
 use std::alloc::Global;
 
@@ -29,7 +29,7 @@ impl Made {
         Made {
             load: Load::new(alloc),
             tables: Vec::new(alloc),
-            room: MOST_ENTRIES,
+            room: MAX_ENTRIES,
         }
     }
 

@@ -27,6 +27,6 @@ returns-in_err-from c =
     match_none _ ((e : Entry) → IsEntryText line e → ⊥) (λ e. IsEntryText line e) c.from_residual-in_err-from.ensures
     (rw c.in_ok-letter.ensures (no-span c.in_ok-letter.letter c.in_ok-letter.behind_kind.now c.in_ok-number.number c.in_ok-number.behind_number.now c.in_ok-number.ensures c.in_err-from.ensures))
 
-pub returns-then-value-gt-MOST_MISSING : goal.returns-then-value-gt-MOST_MISSING
-returns-then-value-gt-MOST_MISSING c =
-    rw c.in_ok-letter.ensures (value-past c.in_ok-letter.letter c.in_ok-letter.behind_kind.now c.in_ok-number.number c.in_ok-number.behind_number.now c.in_ok-from.from c.in_ok-from.to c.in_ok-from.value c.in_ok-number.ensures c.in_ok-from.ensures c.if-value-gt-MOST_MISSING.true)
+pub returns-then-value-gt-MAX_MISSING : goal.returns-then-value-gt-MAX_MISSING
+returns-then-value-gt-MAX_MISSING c =
+    rw c.in_ok-letter.ensures (value-past c.in_ok-letter.letter c.in_ok-letter.behind_kind.now c.in_ok-number.number c.in_ok-number.behind_number.now c.in_ok-from.from c.in_ok-from.to c.in_ok-from.value c.in_ok-number.ensures c.in_ok-from.ensures c.if-value-gt-MAX_MISSING.true)

@@ -9,7 +9,8 @@ use Rattle.pv_dtd.proofs.numbering.models_of.Goals as goal
 pub loop-model-preserved : goal.loop-model-preserved
 loop-model-preserved c =
     let more = take_more c.args.spelled.now c.loop-model.model-index c.model-item.result (omega arith) ∙ ap (λ m. take c.loop-model.model-index c.args.spelled.now ++ m ∷ []) (sym c.model-item.is) in
-    let step = models_step named_model plain_model _ _ _ _ _ _ _ _ _ more c.in_ok-model_of.ensures.names c.in_ok-model_of.ensures.numbers c.in_ok-push.ensures.items c.loop-model.invariant.names c.loop-model.invariant.numbers in
+    let pushed = c.in_ok-push.ensures.items ∙ ap (λ m. c.loop-model.models.items ++ m ∷ []) c.in_ok-laid_out.ensures in
+    let step = models_step named_model plain_model _ _ _ _ _ _ _ _ _ more c.in_ok-model.ensures.names c.in_ok-model.ensures.numbers pushed c.loop-model.invariant.names c.loop-model.invariant.numbers in
     record { names = step.0; numbers = step.1 }
 
 pub returns-clause-numbers : goal.returns-clause-numbers

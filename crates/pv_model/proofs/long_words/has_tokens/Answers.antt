@@ -7,7 +7,7 @@ use Rattle.pv_model.proofs.long_words.has_tokens.Goals as goal
 
 pub loop-token-init : goal.loop-token-init
 loop-token-init c = record {
-  at = IsAt-start _ _ _ c.requires.numbers _ _ _ c.may_be_empty-is_end.ensures c.new-reached.ensures.items;
+  at = IsAt-start _ _ _ c.requires.places.numbers _ _ _ c.requires.empty_word c.new-reached.ensures.items;
   none = c.new-next.ensures.items;
 }
 
@@ -18,9 +18,9 @@ loop-token-preserved c =
     let name = c.in-Name.name in
     let left : drop i tokens ≡ token.Name name ∷ drop (i + 1) tokens = drop_more tokens i _ c.loop-token-test.true ∙ ap (λ t. t ∷ drop (i + 1) tokens) c.in-Name.is in
     let at = rw left at c.loop-token.invariant.at in
-    let step = c.in_ok-ends.ensures.from 0 _ at.reach c.requires.numbers (c.deref.ensures.value ∙ at.places_are) (c.of-called.ensures ∙ c.requires.places name.0) in
+    let step = c.in_ok-ends.ensures.from 0 _ at.reach c.requires.places.numbers (c.deref.ensures.value ∙ at.places_are) (c.of-called.ensures ∙ c.requires.places.places name.0) in
     record {
-      at = rw c.swap.ensures.x_after (IsAt-more _ 0 _ c.requires.numbers _ _ _ _ name.0 _ at _ _ _ _ c.loop-token.invariant.none step);
+      at = rw c.swap.ensures.x_after (IsAt-more _ 0 _ c.requires.places.numbers _ _ _ _ name.0 _ at _ _ _ _ c.loop-token.invariant.none step);
       none = ap (λ v. v.items) c.swap.ensures.y_after ∙ c.clear.ensures.items;
     }
 
@@ -44,8 +44,8 @@ returns-then-is_empty c =
     let name = c.in-Name.name in
     let left : drop i tokens ≡ token.Name name ∷ drop (i + 1) tokens = drop_more tokens i _ c.loop-token-test.true ∙ ap (λ t. t ∷ drop (i + 1) tokens) c.in-Name.is in
     let at = rw left at c.loop-token.invariant.at in
-    let step = c.in_ok-ends.ensures.from 0 _ at.reach c.requires.numbers (c.deref.ensures.value ∙ at.places_are) (c.of-called.ensures ∙ c.requires.places name.0) in
+    let step = c.in_ok-ends.ensures.from 0 _ at.reach c.requires.places.numbers (c.deref.ensures.value ∙ at.places_are) (c.of-called.ensures ∙ c.requires.places.places name.0) in
     let next = c.advance.new.next in
     let zero : vec_len next ≡ 0 = eqb-true _ _ (sym c.is_empty.ensures ∙ c.if-is_empty.true) in
     let nowhere : next.items ≡ [] = no_elements next.items (omega (arith, zero, next.ok.0)) in
-    answer_never _ _ (IsAt-nowhere _ 0 _ c.requires.numbers _ _ _ _ name.0 _ at _ _ _ _ c.loop-token.invariant.none nowhere step)
+    answer_never _ _ (IsAt-nowhere _ 0 _ c.requires.places.numbers _ _ _ _ name.0 _ at _ _ _ _ c.loop-token.invariant.none nowhere step)

@@ -1,3 +1,4 @@
+use Rattle.std.proofs.Common.{ap, arith, length, ◌≡◌}
 use Rattle.pv_productive.specs.PlainForms.{dtd_of}
 use Rattle.pv_tree.specs.Lists.{lists_of}
 use Rattle.pv_tree.specs.PlainDocs.{plain_doc}
@@ -18,3 +19,13 @@ returns-clause-verdicts g c =
 pub returns-clause-possible : goal.returns-clause-possible
 returns-clause-possible g c =
     none_is_possible c.live_lists_law.ensures (dtd_of c.args.judge.now) c.args.root.now (plain_doc c.args.doc.now) _ (rw (c.dtd.ensures, c.grammar.ensures) at c.proper_dtd_law.ensures) c.proper_doc_law.ensures (returns-clause-verdicts g c).is_first
+
+pub returns-clause-steps : goal.returns-clause-steps
+returns-clause-steps g c =
+    let n : length c.in_ok-verdicts.verdicts.items ≡ length (lists_of (plain_doc c.args.doc.now)) = c.in_ok-verdicts.ensures.as_many in
+    let m = ap length c.deref-2.ensures.value in
+    let k = c.count_lists.ensures in
+    omega arith
+
+pub returns-clause-few_steps : goal.returns-clause-few_steps
+returns-clause-few_steps g c = let k = returns-clause-steps g c in omega arith

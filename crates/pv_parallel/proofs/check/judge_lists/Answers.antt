@@ -1,4 +1,4 @@
-use Rattle.std.proofs.Common.{[], ap, arith, length, refl, subst, ◌+◌, ◌∙◌, ◌≡◌}
+use Rattle.std.proofs.Common.{[], ap, arith, refl, subst, ◌+◌, ◌∙◌, ◌≡◌}
 use Rattle.std.specs.List.{AllByRecursion, AllZip}
 use Rattle.pv_dtd.specs.Plain.{PlainDtd}
 use Rattle.pv_dtd.specs.PlainForms.{plain_dtd}
@@ -37,16 +37,6 @@ returns-clause-as_many g c =
     let all = jobs_judged d c.args.root.now entered 0 (lists_of (plain_doc c.args.doc.now)) c.in_ok-jobs.jobs.items c.in_ok-judged.judged.items c.in_ok-verdicts.verdicts.items c.in_ok-jobs.ensures.jobs zip joined in
     let n = all.as_many in
     omega arith
-
-pub returns-clause-steps : goal.returns-clause-steps
-returns-clause-steps g c =
-    let n : length c.in_ok-verdicts.verdicts.items ≡ length (lists_of (plain_doc c.args.doc.now)) = returns-clause-as_many g c in
-    let m = ap length c.deref-3.ensures.value in
-    let k = c.count_lists.ensures in
-    omega arith
-
-pub returns-clause-few_steps : goal.returns-clause-few_steps
-returns-clause-few_steps g c = let k = returns-clause-steps g c in omega arith
 
 pub returns-clause-entered : goal.returns-clause-entered
 returns-clause-entered g c = λ k lt.

@@ -2,5 +2,5 @@ use Rattle.std.proofs.Common.{sym}
 use Rattle.pv_tree.proofs.Owners.{place_of-below}
 use Rattle.pv_tree.proofs.validity.model_named.Goals as goal
 
-pub model_of-requires : goal.model_of-requires
-model_of-requires c = place_of-below _ c.args.name.now c.in_ok-id.id.0 (sym c.in_ok-id.ensures)
+pub laid_model_of-requires : goal.laid_model_of-requires
+laid_model_of-requires c = place_of-below _ c.args.name.now c.in_ok-id.id.0 (sym c.in_ok-id.ensures)

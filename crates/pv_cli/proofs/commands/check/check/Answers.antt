@@ -4,11 +4,11 @@ use Rattle.std.proofs.lemmas.Result.{err_from_is_err_and}
 use Rattle.pv_dtd.specs.PlainForms.{plain_dtd}
 use Rattle.pv_cli.specs.Check.{IsCheckCourse}
 use Rattle.pv_cli.specs.Checking.{none_checked, some_checked}
-use Rattle.pv_cli.specs.Documents.{document_stage}
-use Rattle.pv_cli.specs.Returns.{plain_opened}
-use Rattle.pv_cli.specs.Stage.{short_of_memory}
-use Rattle.pv_cli.specs.declared.stop.Stop.TheVariants.{NoMemory}
-use Rattle.pv_cli.proofs.Stages.{found_behind, stop_found}
+use Rattle.pv_stages.specs.Documents.{document_stage}
+use Rattle.pv_stages.specs.Returns.{plain_opened}
+use Rattle.pv_stages.specs.Stage.{short_of_memory}
+use Rattle.pv_stages.specs.declared.stop.Stop.TheVariants.{NoMemory}
+use Rattle.pv_stages.proofs.Stages.{found_behind, stop_found}
 use Rattle.pv_cli.proofs.commands.check.check.Goals as goal
 
 pub returns-in_err-dtd-clause-finds : goal.returns-in_err-dtd-clause-finds

@@ -6,14 +6,14 @@ use Rattle.pv_tree.specs.Plain.{PlainDoc}
 use Rattle.pv_tree.specs.PlainDocs.{plain_doc}
 use Rattle.pv_tree.specs.declared.nodes.Mark.{Mark}
 use Rattle.pv_cli.specs.Check.{TellsPossibility, is_no_more, is_possible}
-use Rattle.pv_cli.specs.Possibility.{possibility_stage, width_stage}
-use Rattle.pv_cli.specs.Response.{plain_response}
-use Rattle.pv_cli.specs.Returns.{TakesCourse, StopsBy}
-use Rattle.pv_cli.specs.Stage.{Behind, Responds, opened, refused, short_of_memory, responded}
-use Rattle.pv_cli.specs.declared.response.Response.{Response}
-use Rattle.pv_cli.specs.declared.stop.Stop.{Stop}
-use Rattle.pv_cli.specs.declared.stop.Stop.TheVariants.{Refused, ShelfFault, NoMemory}
-use Rattle.pv_cli.proofs.Stages.{found_behind, tells_found}
+use Rattle.pv_stages.specs.Possibility.{possibility_stage, width_stage}
+use Rattle.pv_stages.specs.Response.{plain_response}
+use Rattle.pv_stages.specs.Returns.{TakesCourse, StopsBy}
+use Rattle.pv_stages.specs.Stage.{Behind, Responds, opened, refused, short_of_memory, responded}
+use Rattle.pv_stages.specs.declared.response.Response.{Response}
+use Rattle.pv_stages.specs.declared.stop.Stop.{Stop}
+use Rattle.pv_stages.specs.declared.stop.Stop.TheVariants.{Refused, ShelfFault, NoMemory}
+use Rattle.pv_stages.proofs.Stages.{found_behind, tells_found}
 use Rattle.pv_cli.proofs.commands.check.tell.Goals as goal
 
 abbrev Checks : List ℕ → PlainDtd → PlainDoc Mark → Result Response Stop → Type 0

@@ -4,12 +4,12 @@ use Rattle.pv_dtd.specs.PlainForms.{plain_dtd}
 use Rattle.pv_drill.specs.Drill.{DRILL_DTD, drill_text}
 use Rattle.pv_read.proofs.DocumentFacts.{few_nodes}
 use Rattle.pv_cli.specs.Checking.{none_checked, some_checked}
-use Rattle.pv_cli.specs.Documents.{document_stage}
+use Rattle.pv_stages.specs.Documents.{document_stage}
 use Rattle.pv_cli.specs.Drill.{DRILL_ROOT, reading_stage}
-use Rattle.pv_cli.specs.Opening.{dtd_stage}
-use Rattle.pv_cli.specs.Returns.{plain_opened}
-use Rattle.pv_cli.specs.Session.{guarding_stage}
-use Rattle.pv_cli.proofs.Stages.{returned_second, stopped_first, stopped_second}
+use Rattle.pv_stages.specs.Opening.{dtd_stage}
+use Rattle.pv_stages.specs.Returns.{plain_opened}
+use Rattle.pv_conversation.specs.Session.{guarding_stage}
+use Rattle.pv_stages.proofs.Stages.{returned_second, stopped_first, stopped_second}
 use Rattle.pv_cli.proofs.commands.drill.begin_drill.Goals as goal
 
 pub returns-in_err-dtd-clause-returns : goal.returns-in_err-dtd-clause-returns

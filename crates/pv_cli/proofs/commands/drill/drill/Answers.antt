@@ -1,9 +1,9 @@
 use Rattle.std.proofs.lemmas.Result.{err_from_is_err_and}
 use Rattle.pv_cli.specs.Drill.{TellsCounts, drill_stage}
-use Rattle.pv_cli.specs.Stage.{Responds}
+use Rattle.pv_stages.specs.Stage.{Responds}
 use Rattle.pv_cli.proofs.Counting.{counts_more, drill_counts}
 use Rattle.pv_cli.proofs.OneDrill.{asks_none}
-use Rattle.pv_cli.proofs.Stages.{found_behind, stop_found, tells_found}
+use Rattle.pv_stages.proofs.Stages.{found_behind, stop_found, tells_found}
 use Rattle.pv_cli.proofs.commands.drill.drill.Goals as goal
 
 pub returns-in_err-session-clause-finds : goal.returns-in_err-session-clause-finds

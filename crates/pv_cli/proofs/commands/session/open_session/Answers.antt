@@ -3,10 +3,10 @@ use Rattle.std.proofs.lemmas.Result.{err_from_is_err_and}
 use Rattle.pv_dtd.specs.PlainForms.{plain_dtd}
 use Rattle.pv_read.proofs.DocumentFacts.{few_nodes}
 use Rattle.pv_cli.specs.Checking.{none_checked, some_checked}
-use Rattle.pv_cli.specs.Documents.{document_stage}
-use Rattle.pv_cli.specs.Returns.{plain_opened}
-use Rattle.pv_cli.specs.Session.{guarding_stage}
-use Rattle.pv_cli.proofs.Stages.{returned_second, stopped_first}
+use Rattle.pv_stages.specs.Documents.{document_stage}
+use Rattle.pv_stages.specs.Returns.{plain_opened}
+use Rattle.pv_conversation.specs.Session.{guarding_stage}
+use Rattle.pv_stages.proofs.Stages.{returned_second, stopped_first}
 use Rattle.pv_cli.proofs.commands.session.open_session.Goals as goal
 
 pub begin-requires-clause-few : goal.begin-requires-clause-few

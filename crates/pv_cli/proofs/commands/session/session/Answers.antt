@@ -1,6 +1,6 @@
 use Rattle.std.proofs.Common.{Err, None}
-use Rattle.pv_cli.specs.Checking.{lines_taken}
-use Rattle.pv_cli.specs.Returns.{plain_fetched}
+use Rattle.pv_conversation.specs.Script.{lines_taken}
+use Rattle.pv_stages.specs.Returns.{plain_fetched}
 use Rattle.pv_cli.specs.declared.verb.Verb.TheVariants.{Session}
 use Rattle.pv_cli.proofs.Counting.{counts_more}
 use Rattle.pv_cli.proofs.Runs.{found_rest, session_stopped, talked_rest}

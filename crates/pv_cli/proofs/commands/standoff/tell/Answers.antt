@@ -5,10 +5,10 @@ use Rattle.pv_dtd.specs.PlainForms.{plain_dtd}
 use Rattle.pv_tree.specs.Plain.{PlainDoc}
 use Rattle.pv_tree.specs.PlainDocs.{plain_doc}
 use Rattle.pv_tree.specs.declared.nodes.Mark.{Mark}
-use Rattle.pv_cli.specs.Course.{Course}
-use Rattle.pv_cli.specs.Stage.{beside, short_of_memory}
+use Rattle.pv_stages.specs.Course.{Course}
+use Rattle.pv_stages.specs.Stage.{beside, short_of_memory}
 use Rattle.pv_cli.specs.Standoff.{IsShownCourse, nesting_stage, none_checked, some_checked}
-use Rattle.pv_cli.proofs.Stages.{found_behind, stop_found, stopped_beside}
+use Rattle.pv_stages.proofs.Stages.{found_behind, stop_found, stopped_beside}
 use Rattle.pv_cli.proofs.commands.standoff.tell.Goals as goal
 
 abbrev Shows : List ℕ → PlainDtd × PlainDoc Mark → Course → Type 0

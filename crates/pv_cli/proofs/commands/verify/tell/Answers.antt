@@ -1,12 +1,12 @@
 use Rattle.std.proofs.Common.{◌≡◌, ◌++◌, ◌∙◌, ap, codes, decimal}
 use Rattle.pv_dtd.specs.PlainForms.{plain_dtd}
 use Rattle.pv_script.specs.Paths.{path_text}
-use Rattle.pv_cli.specs.Documents.{RefusesDocument}
-use Rattle.pv_cli.specs.Response.{with_line}
+use Rattle.pv_stages.specs.Documents.{RefusesDocument}
+use Rattle.pv_stages.specs.Response.{with_line}
 use Rattle.pv_cli.specs.Verify.{TellsOfPack, is_accepted, is_rejected, names_wide}
-use Rattle.pv_cli.specs.declared.status.Status.TheVariants.{Done, Limit, Negative}
-use Rattle.pv_cli.proofs.OneOpening.{ReadsOne, document_not_both}
-use Rattle.pv_cli.proofs.Stages.{stops_as}
+use Rattle.pv_stages.specs.declared.status.Status.TheVariants.{Done, Limit, Negative}
+use Rattle.pv_stages.proofs.OneOpening.{ReadsOne, document_not_both}
+use Rattle.pv_stages.proofs.Stages.{stops_as}
 use Rattle.pv_cli.proofs.commands.verify.tell.Goals as goal
 
 pub returns-in_ok-with_number-in-Ok-Accepted : goal.returns-in_ok-with_number-in-Ok-Accepted

@@ -1,9 +1,9 @@
 use Rattle.std.proofs.Common.{◌∙◌, ℕ, List}
 use Rattle.std.proofs.lemmas.Result.{err_from_is_err_and}
 use Rattle.pv_cert.specs.declared.packs.Pack.{Pack}
-use Rattle.pv_cli.specs.Documents.{PlainOpened}
+use Rattle.pv_stages.specs.Documents.{PlainOpened}
 use Rattle.pv_cli.specs.PackFiles.{pack_file_stage}
-use Rattle.pv_cli.specs.Response.{PlainResponse}
+use Rattle.pv_stages.specs.Response.{PlainResponse}
 use Rattle.pv_cli.specs.Verify.{TellsOfPack}
 use Rattle.pv_cli.specs.declared.checker.Checker.TheVariants.{Verify}
 use Rattle.pv_cli.proofs.Certificates.{certificate_stopped, certificate_told, opening_spells, opening_stopped}

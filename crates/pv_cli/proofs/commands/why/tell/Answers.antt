@@ -8,14 +8,14 @@ use Rattle.pv_productive.specs.PlainForms.{dtd_of}
 use Rattle.pv_tree.specs.Plain.{PlainDoc}
 use Rattle.pv_tree.specs.PlainDocs.{plain_doc}
 use Rattle.pv_tree.specs.declared.nodes.Mark.{Mark}
-use Rattle.pv_cli.specs.Possibility.{AreVerdictsOf, width_stage}
-use Rattle.pv_cli.specs.Returns.{TakesCourse, TellsBy}
-use Rattle.pv_cli.specs.Stage.{Behind, Responds, short_of_memory}
+use Rattle.pv_stages.specs.Possibility.{AreVerdictsOf, width_stage}
+use Rattle.pv_stages.specs.Returns.{TakesCourse, TellsBy}
+use Rattle.pv_stages.specs.Stage.{Behind, Responds, short_of_memory}
 use Rattle.pv_cli.specs.Why.{TellsWhy, is_possible}
-use Rattle.pv_cli.specs.declared.response.Response.{Response}
-use Rattle.pv_cli.specs.declared.stop.Stop.{Stop}
-use Rattle.pv_cli.proofs.Possibilities.{impossible_at}
-use Rattle.pv_cli.proofs.Stages.{found_behind, stop_found, tells_found}
+use Rattle.pv_stages.specs.declared.response.Response.{Response}
+use Rattle.pv_stages.specs.declared.stop.Stop.{Stop}
+use Rattle.pv_stages.proofs.Possibilities.{impossible_at}
+use Rattle.pv_stages.proofs.Stages.{found_behind, stop_found, tells_found}
 use Rattle.pv_cli.proofs.commands.why.tell.Goals as goal
 
 abbrev Explains : List ℕ → PlainDtd → PlainDoc Mark → Result Response Stop → Type 0

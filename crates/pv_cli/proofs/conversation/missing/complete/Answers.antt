@@ -1,9 +1,0 @@
-use Rattle.std.proofs.Common.{refl}
-use Rattle.pv_script.specs.declared.commands.Command.TheVariants as command
-use Rattle.pv_cli.proofs.ReplyTexts.{replies_by}
-use Rattle.pv_cli.proofs.conversation.missing.complete.Goals as goal
-
-pub returns : goal.returns
-returns c =
-    let now = c.args.session.now in
-    replies_by now now command.Complete c.in_ok-reply.reply c.other.result (c.in_ok-reply.ensures.tells, refl) c.other.ensures

@@ -1,9 +1,0 @@
-use Rattle.pv_session.specs.Answers.{back_answer}
-use Rattle.pv_cli.proofs.OpenedSessions.{undone_names}
-use Rattle.pv_cli.proofs.conversation.opened_session.OpenedSession.undo.Goals as goal
-
-pub invariant_of-self : goal.invariant_of-self
-invariant_of-self g c =
-    let s = c.self.inside.session in
-    let t = c.undo.new.self in
-    undone_names s t (back_answer c.undo.result) c.undo.ensures.stepped c.self.invariant

@@ -1,5 +1,0 @@
-use Rattle.pv_cli.proofs.GoingOn.{more_changes_nothing}
-use Rattle.pv_cli.proofs.laws.whatever_follows_law.Goals as goal
-
-pub returns : goal.returns
-returns c = more_changes_nothing

@@ -1,0 +1,23 @@
+-- for other crates:
+pub mod Beginnings
+pub mod Completions
+pub mod GoingOn
+pub mod Likeness
+pub mod MissingElements
+pub mod OneReplies
+pub mod OneSession
+-- of this crate:
+pub mod Conversations
+pub mod Conversing
+pub mod Counting
+pub mod Holding
+pub mod KeptOffers
+pub mod Limits
+pub mod OneNeed
+pub mod OneOffer
+pub mod OpenedSessions
+pub mod Piecewise
+pub mod Replies
+pub mod ReplyTexts
+pub mod Scripts
+pub mod Texts

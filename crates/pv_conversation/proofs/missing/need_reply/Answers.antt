@@ -1,0 +1,8 @@
+use Rattle.pv_conversation.specs.Missing.{is_withheld}
+use Rattle.pv_conversation.proofs.missing.need_reply.Goals as goal
+
+pub returns-in-Some-clause-tells : goal.returns-in-Some-clause-tells
+returns-in-Some-clause-tells c = is_withheld (rw c.in-Some.is at c.in_ok-reply.ensures.withholds)
+
+pub need_reply_by-requires-clause-possible : goal.need_reply_by-requires-clause-possible
+need_reply_by-requires-clause-possible c = rw c.in-None.is at c.in_ok-reply.ensures.withholds

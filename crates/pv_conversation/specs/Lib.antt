@@ -1,0 +1,9 @@
+pub mod Alike
+pub mod Conversation
+pub mod Laws
+pub mod Missing
+pub mod Offers
+pub mod ReplyBuffer
+pub mod Script
+pub mod Session
+pub mod Turns

@@ -1,0 +1,148 @@
+//! The replies to `need` and `complete`: how many elements are missing in a session's document, and
+//! the document with them.
+
+ghost use Rattle.std.specs.Prelude.{◌≡◌, IfOk, IfSome, MatchOption, None};
+ghost use Rattle.pv_cache.specs.Rows.{TellVerdicts};
+ghost use Rattle.pv_conversation.specs.Missing.{TellsCompletion, TellsNeed, Withholds};
+ghost use Rattle.pv_conversation.specs.Session.{done_of};
+ghost use Rattle.pv_conversation.specs.Turns.{IsReplyBy};
+ghost use Rattle.pv_complete.specs.Needing.{HasCause};
+ghost use Rattle.pv_session.specs.Sessions.{stamped_document};
+ghost use Rattle.pv_tree.specs.Prolog.{IsProlog};
+
+use crate::answers::{Answer, other};
+use crate::opened_session::OpenedSession;
+use pv_chars::NoMemory;
+use pv_complete::{Completion, NeedError, complete_by, need_by};
+use pv_dtd::laws::proper_dtd_law;
+use pv_missing::Verdicts;
+use pv_script::{Command, Reply};
+use pv_session::Session;
+use pv_session::laws::session_law;
+use pv_tree::Path;
+use std::alloc::Global;
+
+// The reply where a list is impossible, if one is.
+fn impossible(
+    alloc: Global,
+    session: &Session,
+    verdicts: &Verdicts,
+) -> Result<Option<Reply>, NoMemory>
+    requires { TellVerdicts (stamped_document session.now) verdicts.now }
+    ensures withholds { IfOk result (λ told. MatchOption told (verdicts.now.first ≡ None)
+        (Withholds session.now)) }
+    ensures not_done { IfOk result (λ told. IfSome told (λ told. done_of told ≡ None)) }
+{
+    session_law(session);
+    proper_dtd_law(session.grammar().dtd());
+    match verdicts.first_impossible() {
+        None => Ok(None),
+        Some(path) => Ok(Some(Reply::Impossible(Path::new(alloc, path.places())?))),
+    }
+}
+
+// The reply where the number isn't told, though no list is impossible. In a session none is too
+// wide for a verdict.
+fn refusal_reply(session: &Session, error: NeedError) -> Result<Reply, NoMemory>
+    requires { ∥ HasCause session.now.dtd session.now.root session.now.doc error ∥₁ }
+    ensures withholds { IfOk result (Withholds session.now) }
+    ensures not_done { IfOk result (λ told. done_of told ≡ None) }
+{
+    session_law(session);
+    proper_dtd_law(session.grammar().dtd());
+    match error {
+        NeedError::TooWide(path) => Ok(Reply::Wide(path)),
+        NeedError::TooHeavy => Ok(Reply::Heavy),
+        NeedError::NoMemory => Err(NoMemory),
+        NeedError::Impossible(path) => Ok(Reply::Impossible(path)),
+        NeedError::TooMany => unreachable!(),
+    }
+}
+
+// The least number of missing elements, or why it isn't told; no list is impossible.
+fn need_reply_by(alloc: Global, session: &Session, verdicts: &Verdicts) -> Result<Reply, NoMemory>
+    requires verdicts { TellVerdicts (stamped_document session.now) verdicts.now }
+    requires possible { verdicts.now.first ≡ None }
+    ensures tells { IfOk result (TellsNeed session.now) }
+    ensures not_done { IfOk result (λ told. done_of told ≡ None) }
+{
+    session_law(session);
+    proper_dtd_law(session.grammar().dtd());
+    match need_by(
+        alloc,
+        session.grammar(),
+        session.root(),
+        session.doc(),
+        verdicts,
+    ) {
+        Ok(number) => Ok(Reply::Need(number)),
+        Err(error) => refusal_reply(session, error),
+    }
+}
+
+// The least number of missing elements, or why it isn't told.
+fn need_reply(alloc: Global, session: &Session) -> Result<Reply, NoMemory>
+    ensures tells { IfOk result (TellsNeed session.now) }
+    ensures not_done { IfOk result (λ told. done_of told ≡ None) }
+{
+    let verdicts = session.verdicts()?;
+    match impossible(alloc, session, &verdicts)? {
+        Some(reply) => Ok(reply),
+        None => need_reply_by(alloc, session, &verdicts),
+    }
+}
+
+/// The reply to `need`.
+pub fn need(alloc: Global, session: &Session) -> Result<Answer, NoMemory>
+    ensures { IfOk result (IsReplyBy session.now Command.Need session.now) }
+{
+    let reply = need_reply(alloc, session)?;
+    other(alloc, &reply)
+}
+
+// The document with the missing elements, or why it isn't told; no list is impossible.
+fn completion_reply_by(
+    alloc: Global,
+    session: &Session,
+    verdicts: &Verdicts,
+) -> Result<Reply, NoMemory>
+    requires prolog { IsProlog session.now.root session.now.doc.before }
+    requires verdicts { TellVerdicts (stamped_document session.now) verdicts.now }
+    requires possible { verdicts.now.first ≡ None }
+    ensures tells { IfOk result (TellsCompletion session.now) }
+    ensures not_done { IfOk result (λ told. done_of told ≡ None) }
+{
+    session_law(session);
+    proper_dtd_law(session.grammar().dtd());
+    match complete_by(
+        alloc,
+        session.grammar(),
+        session.root(),
+        session.doc(),
+        verdicts,
+    ) {
+        Ok(Completion { count, body, .. }) => Ok(Reply::Completed(count, body)),
+        Err(error) => refusal_reply(session, error),
+    }
+}
+
+// The document with the missing elements, or why it isn't told.
+fn completion_reply(alloc: Global, opened: &OpenedSession) -> Result<Reply, NoMemory>
+    ensures tells { IfOk result (TellsCompletion opened.now) }
+    ensures not_done { IfOk result (λ told. done_of told ≡ None) }
+{
+    let session = opened.session();
+    let verdicts = session.verdicts()?;
+    match impossible(alloc, session, &verdicts)? {
+        Some(reply) => Ok(reply),
+        None => completion_reply_by(alloc, session, &verdicts),
+    }
+}
+
+/// The reply to `complete`. The session's document stays as it is.
+pub fn complete(alloc: Global, session: &OpenedSession) -> Result<Answer, NoMemory>
+    ensures { IfOk result (IsReplyBy session.now Command.Complete session.now) }
+{
+    let reply = completion_reply(alloc, session)?;
+    other(alloc, &reply)
+}

@@ -1,0 +1,330 @@
+//! The conversation of a session: each line is answered before more of the script is asked for.
+
+ghost use Rattle.std.specs.Prelude.{◌≡◌, ◌≤◌, ◌<◌, ◌+◌, ◌*◌, ◌^◌, ◌++◌, List, [], ℕ, Option};
+ghost use Rattle.std.specs.Prelude.{IfOk, OnErr, length, vec_len, codes, decimal};
+ghost use Rattle.std.specs.Io.KnownBytes.{Appends};
+ghost use Rattle.pv_conversation.specs.Conversation.{AnswersLine, ComesOrFails, Conversed};
+ghost use Rattle.pv_conversation.specs.Conversation.{Finishes, IsBeyond, IsNext, IsWithinScript};
+ghost use Rattle.pv_conversation.specs.Conversation.{RepliesWith, Talked};
+ghost use Rattle.pv_stages.specs.Course.{responds};
+ghost use Rattle.pv_stages.specs.Devices.{input_at, output_at};
+ghost use Rattle.pv_stages.specs.Showing.{WritesEnding};
+ghost use Rattle.pv_conversation.specs.ReplyBuffer.{HoldsReplies};
+ghost use Rattle.pv_conversation.specs.Script.{MAX_SCRIPT_BYTES as MAX_BYTES};
+ghost use Rattle.pv_conversation.specs.Session.{limited};
+ghost use Rattle.pv_io.specs.Causes.{CountsFault, AppendsFront};
+ghost use Rattle.pv_script.specs.Lines.{ended_lines, lines_of};
+ghost use Rattle.pv_session.specs.Sessions.{PlainSession};
+
+use crate::opened_session::OpenedSession;
+use crate::reply_buffer::ReplyBuffer;
+use crate::turns::turn;
+use pv_chars::NoMemory;
+use pv_io::{Failed, Sink, Source, write_all};
+use pv_script::{Lines, MAX_LINE_BYTES, Took, limit_line_text, no_memory_text};
+use pv_stages::Status;
+use pv_steps::Steps;
+use std::alloc::{AllocError, Global};
+use std::sync::ledger::Ledger;
+use std::thread::Threads;
+
+/// The most bytes of a script.
+const MAX_SCRIPT_BYTES: usize = 268_435_456;
+
+/// The bytes that one `fill` is asked for.
+const PIECE: usize = 65_536;
+
+/// How far a script was read: the line that is being taken, and its number, counted from 1.
+#[derive(Drop)]
+pub struct Reading {
+    pub lines: Lines,
+    pub number: u64,
+}
+
+/// What comes behind a piece of a script.
+#[derive(Clone, Copy)]
+pub enum Next {
+    /// More of the script is asked for.
+    More,
+    /// A line ended the session.
+    Quit,
+    /// A line is too long.
+    LineLimit,
+    /// The script is too long.
+    ScriptLimit,
+}
+
+// Answers a line, its reply held or written, and tells whether the session goes on. A line that
+// there is no memory for answers so, and changes nothing.
+fn answer_line<K: Sink, L: Ledger>(
+    rt: &(impl Threads + Sync),
+    alloc: Global,
+    session: &mut OpenedSession,
+    line: &[u8],
+    buffer: &mut ReplyBuffer,
+    out: &mut K,
+    steps: &mut Steps<L>,
+) -> Result<bool, Failed>
+    ensures ok { IfOk result (AnswersLine session.old line.now session.new
+        (λ text. HoldsReplies (K.written out.old) (K.written out.new) buffer.new
+        (buffer.old ++ text))) }
+    ensures err { OnErr result (RepliesWith session.old line.now session.new
+        (λ text. AppendsFront (K.written out.old) (K.written out.new) (buffer.old ++ text))) }
+    ensures cause { CountsFault (K.faults out.old) (K.faults out.new) result }
+    ensures steps { steps.new ≤ steps.old + 2 }
+{
+    match turn(rt, alloc, session, line, steps) {
+        Ok(Some(answer)) => buffer.push(out, answer.text.bytes())?,
+        Ok(None) => return Ok(false),
+        Err(NoMemory) => buffer.push(out, no_memory_text())?,
+    }
+    Ok(true)
+}
+
+// Answers the lines that the piece ends.
+fn answer_lines<K: Sink, L: Ledger>(
+    rt: &(impl Threads + Sync),
+    alloc: Global,
+    session: &mut OpenedSession,
+    reading: &mut Reading,
+    piece: &[u8],
+    buffer: &mut ReplyBuffer,
+    out: &mut K,
+    steps: &mut Steps<L>,
+) -> Result<Next, Failed>
+    requires few { reading.old.number + length piece.now < 2 ^ 64 }
+    requires none { buffer.old ≡ [] }
+    ensures next { (old : Option (List ℕ)) → (script : List ℕ) → (first : PlainSession) →
+        length script + length piece.now ≤ MAX_BYTES →
+        Conversed (Appends old (K.written out.old)) first script
+        session.old reading.old.lines reading.old.number →
+        ComesOrFails (HoldsReplies old (K.written out.new) buffer.new)
+        (AppendsFront old (K.written out.new))
+        first (script ++ piece.now) session.new reading.new result }
+    ensures cause { CountsFault (K.faults out.old) (K.faults out.new) result }
+    ensures steps { steps.new ≤ steps.old + 2 * length (ended_lines piece.now) }
+{
+    let mut rest = piece;
+    'lines: loop {
+        match reading.lines.take(rest) {
+            Took::More => return Ok(Next::More),
+            Took::TooLong => return Ok(Next::LineLimit),
+            Took::Line(eaten) => {
+                if !answer_line(rt, alloc, session, reading.lines.line(), buffer, out, steps)? {
+                    return Ok(Next::Quit);
+                }
+                reading.lines.clear();
+                reading.number += 1;
+                rest = &rest[eaten..];
+            }
+        }
+    }
+}
+
+// The limit that a byte passes behind the longest script.
+fn limit_at(lines: &Lines, byte: u8) -> Next
+    ensures { IsNext lines.now byte result }
+{
+    if byte != b'\n' && lines.held() == MAX_LINE_BYTES {
+        Next::LineLimit
+    } else {
+        Next::ScriptLimit
+    }
+}
+
+// What comes where a byte stands behind the longest script, which this came behind.
+fn beyond(next: Next, lines: &Lines, byte: u8) -> Next
+    ensures { IsBeyond lines.now byte next result }
+{
+    match next {
+        Next::More => limit_at(lines, byte),
+        Next::Quit => Next::Quit,
+        Next::LineLimit => Next::LineLimit,
+        Next::ScriptLimit => Next::ScriptLimit,
+    }
+}
+
+// Answers the lines that the piece ends, up to the limit on the script, which so many bytes pass.
+fn answer_within<K: Sink, L: Ledger>(
+    rt: &(impl Threads + Sync),
+    alloc: Global,
+    session: &mut OpenedSession,
+    reading: &mut Reading,
+    piece: &[u8],
+    left: usize,
+    buffer: &mut ReplyBuffer,
+    out: &mut K,
+    steps: &mut Steps<L>,
+) -> Result<Next, Failed>
+    requires few { reading.old.number + length piece.now < 2 ^ 64 }
+    requires none { buffer.old ≡ [] }
+    ensures next { (old : Option (List ℕ)) → (script : List ℕ) → (first : PlainSession) →
+        length script + left ≡ MAX_BYTES →
+        Conversed (Appends old (K.written out.old)) first script
+        session.old reading.old.lines reading.old.number →
+        ComesOrFails (HoldsReplies old (K.written out.new) buffer.new)
+        (AppendsFront old (K.written out.new))
+        first (script ++ piece.now) session.new reading.new result }
+    ensures fits { IfOk result (IsWithinScript (length piece.now) left) }
+    ensures cause { CountsFault (K.faults out.old) (K.faults out.new) result }
+    ensures steps { steps.new ≤ steps.old + 2 * length (ended_lines piece.now) }
+{
+    if piece.len() <= left {
+        return answer_lines(rt, alloc, session, reading, piece, buffer, out, steps);
+    }
+    let next = answer_lines(
+        rt,
+        alloc,
+        session,
+        reading,
+        &piece[..left],
+        buffer,
+        out,
+        steps,
+    )?;
+    Ok(beyond(next, &reading.lines, piece[left]))
+}
+
+// The same, and writes what is held.
+fn answer_piece<K: Sink, L: Ledger>(
+    rt: &(impl Threads + Sync),
+    alloc: Global,
+    session: &mut OpenedSession,
+    reading: &mut Reading,
+    piece: &[u8],
+    left: usize,
+    buffer: &mut ReplyBuffer,
+    out: &mut K,
+    steps: &mut Steps<L>,
+) -> Result<Next, Failed>
+    requires few { reading.old.number + length piece.now < 2 ^ 64 }
+    requires none { buffer.old ≡ [] }
+    ensures next { (old : Option (List ℕ)) → (script : List ℕ) → (first : PlainSession) →
+        length script + left ≡ MAX_BYTES →
+        Conversed (Appends old (K.written out.old)) first script
+        session.old reading.old.lines reading.old.number →
+        ComesOrFails (Appends old (K.written out.new)) (AppendsFront old (K.written out.new))
+        first (script ++ piece.now) session.new reading.new result }
+    ensures fits { IfOk result (IsWithinScript (length piece.now) left) }
+    ensures none { IfOk result (λ _. buffer.new ≡ []) }
+    ensures cause { CountsFault (K.faults out.old) (K.faults out.new) result }
+    ensures steps { steps.new ≤ steps.old + 2 * length (ended_lines piece.now) }
+{
+    let next = answer_within(rt, alloc, session, reading, piece, left, buffer, out, steps)?;
+    buffer.flush(out)?;
+    Ok(next)
+}
+
+// Answers a last line, which no LF ends.
+fn finish<K: Sink, L: Ledger>(
+    rt: &(impl Threads + Sync),
+    alloc: Global,
+    session: &mut OpenedSession,
+    reading: &Reading,
+    buffer: &mut ReplyBuffer,
+    out: &mut K,
+    steps: &mut Steps<L>,
+) -> Result<(), Failed>
+    requires { buffer.old ≡ [] }
+    ensures finished { (old : Option (List ℕ)) → (script : List ℕ) → (first : PlainSession) →
+        length script ≤ MAX_BYTES →
+        Conversed (Appends old (K.written out.old)) first script
+        session.old reading.now.lines reading.now.number →
+        Finishes old first script (K.written out.new) result }
+    ensures cause { CountsFault (K.faults out.old) (K.faults out.new) result }
+    ensures steps { steps.new ≤ steps.old + 2 * length (lines_of reading.now.lines.bytes) }
+{
+    if reading.lines.held() > 0 {
+        answer_line(rt, alloc, session, reading.lines.line(), buffer, out, steps)?;
+        buffer.flush(out)?;
+    }
+    Ok(())
+}
+
+// Writes the line of a limit behind the replies; the status.
+fn announce<K: Sink>(text: &[u8], out: &mut K) -> Status
+    ensures { (old : Option (List ℕ)) → (replies : List ℕ) →
+        Appends old (K.written out.old) replies →
+        WritesEnding (responds (record { status = Status.Limit; output = replies ++ text.now }))
+        old (K.written out.new) (K.faults out.old) (K.faults out.new) result }
+{
+    match write_all(out, text) {
+        Ok(()) => Status::Limit,
+        Err(_) => Status::WriteFault,
+    }
+}
+
+// Writes, behind the replies, that the line of this number is too long; the status.
+fn announce_line<K: Sink>(number: u64, out: &mut K) -> Status
+    ensures { (old : Option (List ℕ)) → (replies : List ℕ) →
+        Appends old (K.written out.old) replies →
+        WritesEnding (limited replies (codes "limit line " ++ decimal number))
+        old (K.written out.new) (K.faults out.old) (K.faults out.new) result }
+{
+    let mut room = [0u8; 64];
+    let end = limit_line_text(number, &mut room);
+    announce(&room[..end], out)
+}
+
+// So many zeros.
+fn zeros(alloc: Global, count: usize) -> Result<Vec<u8>, AllocError>
+    ensures { IfOk result (λ v. vec_len v ≡ count) }
+{
+    vec![in alloc; 0u8; count]
+}
+
+/// Answers the lines of the input, each before more of it is asked for.
+pub fn converse<S: Source, K: Sink, L: Ledger>(
+    rt: &(impl Threads + Sync),
+    alloc: Global,
+    session: &mut OpenedSession,
+    input: &mut S,
+    out: &mut K,
+    steps: &mut Steps<L>,
+) -> Status
+    ensures { Talked session.old
+        (input_at input.old (S.left input.old) (S.calls input.old) (S.faults input.old))
+        (input_at input.new (S.left input.new) (S.calls input.new) (S.faults input.new))
+        (output_at (K.written out.old) (K.faults out.old))
+        (output_at (K.written out.new) (K.faults out.new)) steps.old steps.new result }
+{
+    let Ok(lines) = Lines::new(alloc) else {
+        return Status::NoMemory;
+    };
+    let Ok(mut piece) = zeros(alloc, PIECE) else {
+        return Status::NoMemory;
+    };
+    let Ok(mut buffer) = ReplyBuffer::new(alloc) else {
+        return Status::NoMemory;
+    };
+    let mut reading = Reading { lines, number: 1 };
+    let mut left = MAX_SCRIPT_BYTES;
+    'pieces: loop {
+        let Ok(count) = input.fill(&mut piece) else {
+            return Status::ReadFault;
+        };
+        if count == 0 {
+            return match finish(rt, alloc, session, &reading, &mut buffer, out, steps) {
+                Ok(()) => Status::Done,
+                Err(_) => Status::WriteFault,
+            };
+        }
+        match answer_piece(
+            rt,
+            alloc,
+            session,
+            &mut reading,
+            &piece[..count],
+            left,
+            &mut buffer,
+            out,
+            steps,
+        ) {
+            Ok(Next::More) => left -= count,
+            Ok(Next::Quit) => return Status::Done,
+            Ok(Next::LineLimit) => return announce_line(reading.number, out),
+            Ok(Next::ScriptLimit) => return announce(b"limit script\n", out),
+            Err(_) => return Status::WriteFault,
+        }
+    }
+}

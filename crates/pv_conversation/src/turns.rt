@@ -1,0 +1,131 @@
+//! The reply to a line of a session's script.
+
+ghost use Rattle.std.specs.Prelude.{◌≡◌, ◌≤◌, ◌+◌, IfOk, OnErr};
+ghost use Rattle.pv_conversation.specs.Turns.{IsReplyBy, IsTurn};
+
+use crate::answers::{Answer, no_command, okay, other, take_room};
+use crate::missing::{complete, need};
+use crate::offers::offer;
+use crate::opened_session::OpenedSession;
+use pv_chars::{Bytes, NoMemory};
+use pv_edit::{Edit, EditAnswer, Edits};
+use pv_script::{Command, CommandError, Reply, read_command};
+use pv_session::{BackAnswer, Session};
+use pv_steps::Steps;
+use pv_write::doc_bytes;
+use std::alloc::Global;
+use std::sync::ledger::Ledger;
+use std::thread::Threads;
+
+// The reply to an edit. Nothing behind the edit takes memory where it was made.
+fn edit<L: Ledger>(
+    alloc: Global,
+    session: &mut OpenedSession,
+    edit: &Edit,
+    steps: &mut Steps<L>,
+) -> Result<Answer, NoMemory>
+    ensures replied { IfOk result (IsReplyBy session.old (Command.Edit edit.now) session.new) }
+    ensures stays { OnErr result (session.new ≡ session.old) }
+    ensures steps { steps.new ≤ steps.old + 2 }
+{
+    let room = take_room(alloc)?;
+    match session.edit(edit, steps) {
+        Ok(done) => Ok(okay(done, room)),
+        Err(EditAnswer::Shape(reason)) => other(alloc, &Reply::Shape(reason)),
+        Err(EditAnswer::Impossible(path)) => other(alloc, &Reply::Impossible(path)),
+        Err(EditAnswer::Limit) => other(alloc, &Reply::Limit),
+        Err(EditAnswer::NoMemory) => Err(NoMemory),
+    }
+}
+
+// The reply to an undo.
+fn undo<L: Ledger>(
+    alloc: Global,
+    session: &mut OpenedSession,
+    steps: &mut Steps<L>,
+) -> Result<Answer, NoMemory>
+    ensures replied { IfOk result (IsReplyBy session.old Command.Undo session.new) }
+    ensures stays { OnErr result (session.new ≡ session.old) }
+    ensures steps { steps.new ≤ steps.old + 2 }
+{
+    let room = take_room(alloc)?;
+    match session.undo(steps) {
+        Ok(done) => Ok(okay(done, room)),
+        Err(BackAnswer::NoHistory) => other(alloc, &Reply::NoHistory),
+        Err(BackAnswer::NoMemory) => Err(NoMemory),
+    }
+}
+
+// The reply to a redo.
+fn redo<L: Ledger>(
+    alloc: Global,
+    session: &mut OpenedSession,
+    steps: &mut Steps<L>,
+) -> Result<Answer, NoMemory>
+    ensures replied { IfOk result (IsReplyBy session.old Command.Redo session.new) }
+    ensures stays { OnErr result (session.new ≡ session.old) }
+    ensures steps { steps.new ≤ steps.old + 2 }
+{
+    let room = take_room(alloc)?;
+    match session.redo(steps) {
+        Ok(done) => Ok(okay(done, room)),
+        Err(BackAnswer::NoHistory) => other(alloc, &Reply::NoHistory),
+        Err(BackAnswer::NoMemory) => Err(NoMemory),
+    }
+}
+
+// The reply to `history`.
+fn history(alloc: Global, session: &Session) -> Result<Answer, NoMemory>
+    ensures { IfOk result (IsReplyBy session.now Command.History session.now) }
+{
+    let past = session.history();
+    let mut edits = Vec::new(alloc);
+    for edit in past {
+        edits.push(edit.copy(alloc)?)?;
+    }
+    other(alloc, &Reply::History(Edits::of(edits)))
+}
+
+// The reply to `show`.
+fn show(alloc: Global, session: &Session) -> Result<Answer, NoMemory>
+    ensures { IfOk result (IsReplyBy session.now Command.Show session.now) }
+{
+    let bytes = doc_bytes(alloc, session.doc())?;
+    other(alloc, &Reply::Show(Bytes::of(bytes)))
+}
+
+// The reply to `verdicts`.
+fn verdicts(alloc: Global, session: &Session) -> Result<Answer, NoMemory>
+    ensures { IfOk result (IsReplyBy session.now Command.Verdicts session.now) }
+{
+    let rows = session.verdict_rows()?;
+    other(alloc, &Reply::Verdicts(rows))
+}
+
+/// The reply to a line, or none where it ends the session.
+pub fn turn<L: Ledger>(
+    rt: &(impl Threads + Sync),
+    alloc: Global,
+    session: &mut OpenedSession,
+    line: &[u8],
+    steps: &mut Steps<L>,
+) -> Result<Option<Answer>, NoMemory>
+    ensures turned { IfOk result (IsTurn session.old line.now session.new) }
+    ensures stays { OnErr result (session.new ≡ session.old) }
+    ensures steps { steps.new ≤ steps.old + 2 }
+{
+    match read_command(alloc, line) {
+        Ok(Command::Edit(change)) => Ok(Some(edit(alloc, session, &change, steps)?)),
+        Ok(Command::Undo) => Ok(Some(undo(alloc, session, steps)?)),
+        Ok(Command::Redo) => Ok(Some(redo(alloc, session, steps)?)),
+        Ok(Command::History) => Ok(Some(history(alloc, session.session())?)),
+        Ok(Command::Show) => Ok(Some(show(alloc, session.session())?)),
+        Ok(Command::Verdicts) => Ok(Some(verdicts(alloc, session.session())?)),
+        Ok(Command::Need) => Ok(Some(need(alloc, session.session())?)),
+        Ok(Command::Complete) => Ok(Some(complete(alloc, session)?)),
+        Ok(Command::Offer(ask)) => Ok(Some(offer(rt, alloc, session.session(), &ask)?)),
+        Ok(Command::Quit) => Ok(None),
+        Err(CommandError::Unknown) => Ok(Some(no_command())),
+        Err(CommandError::NoMemory) => Err(NoMemory),
+    }
+}

@@ -1,0 +1,9 @@
+-- for other crates:
+pub mod Both
+pub mod Fetching
+pub mod OneOpening
+pub mod OnePossibility
+pub mod Possibilities
+pub mod Stages
+
+-- of this crate:

@@ -1,0 +1,11 @@
+pub mod Course
+pub mod Devices
+pub mod Documents
+pub mod Opening
+pub mod Parameters
+pub mod Possibility
+pub mod Response
+pub mod Returns
+pub mod Showing
+pub mod Stage
+pub mod Status

@@ -1,0 +1,22 @@
+-- What a command writes.
+use Rattle.std.specs.Prelude.{ℕ, List, [], ◌∷◌, ◌++◌, codes, decimal}
+use Rattle.pv_stages.specs.declared.status.Status.{Status}
+use Rattle.pv_stages.specs.declared.response.Response.{Response}
+
+-- a status, and the bytes
+pub record PlainResponse : Type 0 where
+  pub status : Status
+  pub output : List ℕ
+
+-- one line, with its LF
+abbrev pub with_line : Status → List ℕ → PlainResponse
+with_line status text = record { status = status; output = text ++ codes "\n" }
+
+-- numbers in decimal digits, each behind a blank
+abbrev pub numbers_text : List ℕ → List ℕ
+numbers_text [] = []
+numbers_text (n ∷ ns) = codes " " ++ decimal n ++ numbers_text ns
+
+-- a response, seen as plain data
+abbrev pub plain_response : Response → PlainResponse
+plain_response r = record { status = r.status; output = r.output.items }
