@@ -23,6 +23,7 @@ from typing import NamedTuple
 import cached
 import deny
 import dtds
+import models
 import need
 import offer
 import standoff
@@ -198,11 +199,28 @@ def offers(at):
     yield Row("`offer`, by the names", "10, 100 names", (taken(10, 20, 5_000), taken(100, 20, 500)), {}, LINEAR)
 
 
+def of_models(at):
+    """`valid` under large content models: many short lists, beside the same in ANY elements, and a list whose kids may stand anywhere."""
+    free = at.file("models.any.dtd", models.dtd_of_lists("ANY", models.DECLARED))
+    for number, shape in enumerate(models.short_lists()):
+        dtd = at.file(f"models.{number}.dtd", models.dtd_of_lists(shape.model, shape.declared))
+        sizes = (shape.count, 10 * shape.count)
+        docs = both(lambda count: at.file(f"models.{number}.{count}", models.lists(shape.kids, count)), *sizes)
+        taken = both(lambda doc: at.run("valid", dtd, "doc", doc), *docs)
+        beside = {"ANY": (at.run("valid", free, "doc", docs[1]), 2 if shape.count == models.LENGTH else None)}
+        yield Row(f"`valid`, {shape.title}", "{:,}, {:,} lists".format(*sizes), taken, beside, LINEAR)
+    dtd = at.file("models.wide.dtd", models.dtd_of_lists(models.optional("a0", models.OPTIONAL), 1))
+    docs = both(lambda kids: at.file(f"models.wide.{kids}", models.lists("<a0/>" * kids, 1)), 100, 1_000)
+    taken = both(lambda doc: at.run("valid", dtd, "doc", doc), *docs)
+    yield Row("`valid`, one list, a0? 32,701 times", "100, 1,000 kids", taken, {}, LINEAR)
+
+
 def of_others(at):
     """A drill, and the reading of a DTD."""
     yield Row("`drill`", "2,000, 20,000", both(lambda size: Taken(Work((at.program, "drill", str(size)))), 2_000, 20_000), {}, LINEAR)
-    files = both(lambda count: at.file(f"chain.{count}.dtd", dtds.chain(count)), 400, dtds.TYPES)
-    yield Row("`dtd`, a chain", "400, 4,096 names", both(lambda path: Taken(Work((at.program, "dtd", path))), *files), {}, LINEAR)
+    for title, form in ("a chain", dtds.chain), ("a choice of a chain", dtds.chosen):
+        files = both(lambda count, form=form: at.file(f"{form.__name__}.{count}.dtd", form(count)), 400, dtds.TYPES)
+        yield Row(f"`dtd`, {title}", "400, 4,096 names", both(lambda path: Taken(Work((at.program, "dtd", path))), *files), {}, LINEAR)
 
 
 def measured(runs, rounds, late):
@@ -250,7 +268,7 @@ def main():
     with tempfile.TemporaryDirectory() as folder:
         article = written(f"{folder}/article.dtd", open(f"{top}/examples/article.dtd").read() + ATTRIBUTES)
         at = Made(program, folder, article)
-        rows = [row for part in (of_documents, of_missing, of_ranges, of_edits, of_others) for row in part(at)]
+        rows = [row for part in (of_documents, of_missing, of_ranges, of_edits, of_models, of_others) for row in part(at)]
         if other:
             for row in rows:
                 row.beside["before"] = row.taken[1].by(program, os.path.abspath(other)), None
@@ -264,7 +282,7 @@ def main():
     lines = [f"The best of {max(done, 1)} rounds, on {machine}.", "", *table(rows, best, failed)]
     print(*lines, sep="\n")
     if "--write" in sys.argv:
-        put(top, "bench/all.sh", lines)
+        put(top, "bench/run all", lines)
 
 
 if __name__ == "__main__":

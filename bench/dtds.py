@@ -30,6 +30,13 @@ def backwards():
     return "\n".join(reversed(chain().splitlines())) + "\n"
 
 
+# Types each of which needs the one before it, and one type that is a choice of all of them: its size could change with each of theirs.
+def chosen(count=TYPES):
+    names = [f"e{number}" for number in range(count - 1)]
+    needs = "".join(f"<!ELEMENT {name} ({before})>\n" for before, name in zip(names, names[1:]))
+    return f"<!ELEMENT all ({'|'.join(reversed(names))})>\n<!ELEMENT e0 EMPTY>\n{needs}"
+
+
 # One mixed model of 65,000 names.
 def mixed():
     return f"<!ELEMENT a (#PCDATA|{'|'.join(f'n{number}' for number in range(65_000))})*>\n"
@@ -78,7 +85,7 @@ def main():
     program, rounds = program_of(sys.argv[1]), int(sys.argv[2])
     with tempfile.TemporaryDirectory() as folder:
         best = {}
-        for made in (wide, chain, backwards, mixed, doubling, references, plain, nested, twice, placed):
+        for made in (wide, chain, backwards, chosen, mixed, doubling, references, plain, nested, twice, placed):
             with open(f"{folder}/{made.__name__}.dtd", "w") as file:
                 file.write(made())
         for _ in range(rounds):

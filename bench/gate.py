@@ -1,5 +1,6 @@
 """Measures the gate, crate by crate. Words: the repository's folder, and words for `rt ci`; without these it proves all from nothing. With
-`--write` in their place it does so too, and puts the table into docs/DEVELOPING.md.
+`--write` in their place it does so too, and puts the table into docs/DEVELOPING.md; with `--costs` it measures nothing, and tells there anew
+what a change of each crate costs, by the minutes in the table and what stands on what.
 
 It runs `rt ci`, with `--anew` where the kit keeps what passed, looks at its processes four times a second, and tells how many minutes of
 processor time each crate took: its proof, its tests' proofs, and its must-fail edits; then what the tests and the program took to be built
@@ -13,6 +14,7 @@ import time
 
 from page import put
 
+NAME = "bench/run gate"
 PHASES = ("proof", "tests", "edits", "run")
 TICKS = os.sysconf("SC_CLK_TCK")
 
@@ -35,6 +37,15 @@ def longest_chain(needs):
         return chains[name]
 
     return max((chain_to(name) for name in needs), key=len)
+
+
+def standing_on(needs):
+    """Of each crate those that stand on it, itself among them: what a change of it has proved again."""
+    found = {name: {name} for name in needs}
+    for name in reversed(needs):
+        for below in needs[name]:
+            found[below] |= found[name]
+    return found
 
 
 def read(path):
@@ -126,18 +137,41 @@ class Told:
         print(f"the tests and the program, built and run, and all else: {self.rest:.1f}")
         print(f"the longest chain, of {len(longest_chain(needs))}: {' '.join(longest_chain(needs))}")
 
-    def lines(self, load, clock):
+    def lines(self, needs, load, clock):
         """The lines of a page."""
-        rows = [("all crates", self.sums), *((f"`{name}`", row) for name, row in self.rows)]
         where = f"{os.cpu_count()} processors that had a load of {load:.1f} when it began"
         return [
-            f"{self.sums[3] + self.rest:.0f} processor minutes, and {clock:.0f} minutes on the clock, on {where}. What isn't in the table, as the",
-            f"runs of the tests and of the program, took {self.rest:.1f} of them.",
+            f"{self.sums[3] + self.rest:.0f} processor minutes, and {clock:.0f} minutes on the clock, on {where}. "
+            f"What isn't in the table, as the runs of the tests and of the program, took {self.rest:.1f} of them.",
             "",
-            "| Crate | Proof | Tests' proofs | Edits | All |",
-            "|---|---|---|---|---|",
-            *(f"| {name} | " + " | ".join(f"{minutes:.1f}" for minutes in row) + " |" for name, row in rows),
+            *table(self.rows, self.sums, needs),
         ]
+
+
+def table(rows, sums, needs):
+    """The table of a page: what each crate takes, and what a change of it costs, with all crates that stand on it."""
+    taken, above = {name: row[3] for name, row in rows}, standing_on(needs)
+    costs = {name: sum(taken.get(it, 0) for it in above[name]) for name, _ in rows if name in needs}
+    whole = " | ".join(f"{minutes:.1f}" for minutes in sums)
+    return [
+        "| Crate | Proof | Tests' proofs | Edits | All | A change of it | Crates above it |",
+        "|---|---|---|---|---|---|---|",
+        f"| all crates | {whole} | | |",
+        *(
+            f"| `{name}` | " + " | ".join(f"{minutes:.1f}" for minutes in row) + f" | {costs[name]:.0f} | {len(above[name]) - 1} |"
+            for name, row in rows if name in needs
+        ),
+    ]
+
+
+def told_anew(top):
+    """The lines of the page with what each change costs, by the minutes that stand there."""
+    needs, page = crates_of(top), read(f"{top}/docs/DEVELOPING.md").decode()
+    lines = page.partition(f"<!-- {NAME} -->\n")[2].partition(f"<!-- end of {NAME} -->\n")[0].splitlines()
+    head = " ".join(line for line in lines if line and not line.startswith("|"))
+    cells = [[cell.strip(" `") for cell in line.split("|")[1:-1]] for line in lines if line.startswith("|")]
+    rows = [(name, [float(minutes) for minutes in row[:4]]) for name, *row in cells[2:]]
+    return [head, "", *table(rows[1:], rows[0][1], needs)]
 
 
 def from_nothing():
@@ -149,8 +183,11 @@ def from_nothing():
 def main():
     top, words = sys.argv[1], sys.argv[2:]
     is_written = words == ["--write"]
-    if "--write" in words and not is_written:
-        sys.exit("--write stands alone, since the page has the whole gate")
+    if {"--write", "--costs"} & {*words} and len(words) > 1:
+        sys.exit("--write and --costs stand alone, since the page has the whole gate")
+    if words == ["--costs"]:
+        put(top, NAME, told_anew(top), "DEVELOPING.md")
+        return
     needs = crates_of(top)
     watch, began, load = Watch(needs), time.time(), os.getloadavg()[0]
     gate = subprocess.Popen(["rt", "ci", *(from_nothing() if is_written or not words else words)], cwd=top)
@@ -161,7 +198,7 @@ def main():
     told.print(needs)
     print(f"on the clock: {clock:.1f}")
     if is_written and not gate.returncode:
-        put(top, "bench/gate.sh", told.lines(load, clock), "DEVELOPING.md")
+        put(top, NAME, told.lines(needs, load, clock), "DEVELOPING.md")
     sys.exit(gate.returncode)
 
 

@@ -5,9 +5,10 @@ of DocBook, of 400 names and some 15,000 parts, DocBook itself where it is insta
 names and 65,536 parts. Under each: a document of some twenty paragraphs that is checked, and one of 10 KB that a session opens, for the DTD's
 reading and laying out; a document of 18 MB whose lists are within the limit of their width, valid and without every tenth pair of tags (of
 8 MB under the largest DTD, where more is too wide); an edit in a list of 20 and of 2,000 kids (900 under the largest DTD), by an owner
-whose content is free and by one whose content isn't; `need` of a draft of 300 kB with short lists, and of one list of 40 tokens (20 under
-the largest), whose kids' lists are valid. The runs are interleaved; told are the least processor time of each, without the opening for an edit and for the one
-list, the memory at the peak, and the time that is aimed at under DocBook. PVTAG names another build of the program.
+whose content is free and by one whose content isn't; `need` of a draft of 300 kB with short lists, at first and behind an edit, of one of 3 MB
+behind an edit, and of one list of 40 tokens (20 under the largest), whose kids' lists are valid. The runs are interleaved; told are the
+least processor time of each, without the opening for an edit and for `need`, the memory at the peak, and the time that is aimed at under
+DocBook. PVTAG names another build of the program.
 """
 import math
 import os
@@ -48,12 +49,14 @@ class Form(NamedTuple):
 
 
 class Case(NamedTuple):
-    """A measure: its words and its script, of so many lines, or 0 where the whole run is told; the seconds that are aimed at, if any."""
+    """A measure: its words and its script, of so many lines, or 0 where the whole run is told; the seconds that are aimed at, if any; and
+    the lines before the script, whose time is taken off."""
     title: str
     words: list
     script: str = ""
     lines: int = 0
     aim: float = None
+    before: str = ""
 
 
 BOOK = ("book", "<book><title>t</title><b0>", "</b0></book>", "b2", "b4", "para", "i1", "book", "<b0/>", "b0", "book", ("b4", "para", "i1"))
@@ -126,10 +129,14 @@ def cases(program, dtd, form):
     yield Case(f"{form.size} MB checked, without every tenth pair of tags", words("check", tagless))
     yield from edits(form, words, file)
     draft = file("draft", lambda: without_tags(short_lists(form, 300_000)))
-    yield Case("a draft of 300 kB of short lists, `need`", words("session", draft), "need\n", aim=1)
+    yield Case("a draft of 300 kB of short lists, `need`", words("session", draft), "need\n", 1, 0.35)
+    move = f"wrap 0.{form.begin.count('</')} 0 1 {form.block}\n"
+    yield Case("the same draft, `need` behind an edit", words("session", draft), f"{move}need\n", 1, 0.005, "need\n")
+    large = file("large", lambda: without_tags(short_lists(form, 3_000_000)))
+    yield Case("a draft of 3 MB of short lists, `need` behind an edit", words("session", large), f"{move}need\n", 1, 0.03, "need\n")
     kids = "".join(f"<{form.kids[at % len(form.kids)]}/>" for at in range(form.width))
     weighed = file("weighed", lambda: f"<{form.weighed}>{kids}</{form.weighed}>")
-    yield Case(f"one list of {form.width} tokens weighed", words("session", weighed, form.weighed), "need\n", 1, 0.2)
+    yield Case(f"one list of {form.width} tokens weighed", words("session", weighed, form.weighed), "need\n", 1, 0.045)
 
 
 def edits(form, words, file):
@@ -157,14 +164,15 @@ def dtds(python):
 
 
 def measured(rows, rounds):
-    """Of each case the least seconds, those without its lines, the memory, and the status and the output of the last run."""
+    """Of each case the least seconds, those without its script, the memory, and the status and the output of the last run."""
     best = {row: (math.inf, math.inf, math.inf, None) for row in rows}
     for _ in range(rounds):
         for at in rows:
             seconds, bare, memory, _ = best[at]
-            ran = run(rows[at].words, rows[at].script.encode(), keep=True)
+            before = rows[at].before
+            ran = run(rows[at].words, (before + rows[at].script).encode(), keep=True)
             if rows[at].lines:
-                bare = min(bare, run(rows[at].words).seconds)
+                bare = min(bare, run(rows[at].words, before.encode()).seconds)
             best[at] = min(seconds, ran.seconds), bare, min(memory, ran.memory), ran
     return best
 
@@ -195,7 +203,7 @@ def main():
         os.chdir("/")
     print(*lines[1:], sep="\n")
     if "--write" in sys.argv:
-        put(top, "bench/large.sh", lines[1:])
+        put(top, "bench/run large", lines[1:])
 
 
 if __name__ == "__main__":

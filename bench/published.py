@@ -100,7 +100,7 @@ def row(program, python, title, dtd, root, path, runs):
 
 def main():
     top, runs = os.path.abspath(sys.argv[1]), int(sys.argv[2])
-    program = os.environ.get("PVTAG", f"{top}/crates/pvtag/out/pvtag")
+    program = os.environ.get("PVTAG", f"{top}/build/pvtag")
     os.environ["XML_CATALOG_FILES"] = tests.CATALOGS
     python = tests.python_with_lxml()
     with tempfile.TemporaryDirectory() as folder:

@@ -1,12 +1,12 @@
 #!/usr/bin/env bash
 # What a session costs: a script of 200 MB of lines that are no commands against `cat` into the same pipe, and the memory for scripts of
-# 2 MB and of 200 MB.
+# 2 MB and of 200 MB. Word: the program.
 set -eu
 top=$(cd "$(dirname "$0")/.." && pwd)
+pvtag=$(readlink -f "${1:-$top/build/pvtag}")
 work=$(mktemp -d)
 trap 'rm -rf "$work"' EXIT
 cd "$work"
-pvtag=$top/crates/pvtag/out/pvtag
 [ -x "$pvtag" ] || { echo "build it first" >&2; exit 1; }
 cp "$top/examples/article.dtd" a.dtd
 printf '<doc>Hello</doc>' >hello.xml

@@ -18,7 +18,7 @@ HERE = os.path.dirname(os.path.abspath(__file__))
 
 def program_of(top):
     """The built program of the repository, or the one that the variable PVTAG names."""
-    return os.path.abspath(os.environ.get("PVTAG", f"{top}/crates/pvtag/out/pvtag"))
+    return os.path.abspath(os.environ.get("PVTAG", f"{top}/build/pvtag"))
 
 
 class Ran(NamedTuple):

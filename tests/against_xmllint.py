@@ -15,6 +15,8 @@ import sys
 import tempfile
 import time
 
+from lib.grammar import SIGNS, has_word, specification
+
 NAMES = ["a", "b", "c", "d", "e"]
 # Names that stand in DTDs alone: Latin with accents, Greek, Cyrillic, Hebrew, Devanagari, Chinese, and beyond the first 65,536 characters.
 OTHER_NAMES = ["été", "λόγος", "имя-1", "שם", "नाम", "名前", "e\u0301·2", "𐀀_x"]
@@ -30,96 +32,56 @@ def gap():
     return random.choice([" ", " ", "\n", "\t \r\n"])
 
 
-# Content particles: a name, or an operator with its members.
 def particle(depth):
     form = random.choice(["name"] * 4 + ["seq", "choice", "?", "*", "+"])
     if depth == 0 or form == "name":
         return ("name", random.choice(NAMES * 6 + OTHER_NAMES))
-    if form in ("?", "*", "+"):
+    if form in SIGNS:
         inner = particle(depth - 1)
-        return inner if inner[0] in ("?", "*", "+") else (form, inner)
+        return inner if inner[0] in SIGNS else (form, inner)
     least = 1 if form == "seq" else 2
-    return (form, [particle(depth - 1) for _ in range(random.randint(least, 3))])
+    return (form, *(particle(depth - 1) for _ in range(random.randint(least, 3))))
 
 
 def group(depth):
     while True:
         found = particle(depth)
-        inner = found[1] if found[0] in ("?", "*", "+") else found
+        inner = found[1] if found[0] in SIGNS else found
         if inner[0] in ("seq", "choice"):
             return found
-
-
-def spelled(part):
-    form, inner = part
-    if form == "name":
-        return inner
-    if form in ("?", "*", "+"):
-        return spelled(inner) + form
-    mark = "," if form == "seq" else "|"
-    return "(" + space() + (space() + mark + space()).join(spelled(member) for member in inner) + space() + ")"
 
 
 def model():
     form = random.choice(["empty", "any", "mixed", "children", "children", "children"])
     if form == "mixed":
         return (form, random.sample(NAMES, random.randint(0, 3)) + random.sample(OTHER_NAMES, random.choice([0, 0, 0, 1, 2])))
-    return (form, group(3) if form == "children" else None)
-
-
-def specification(content):
-    form, inner = content
-    if form == "mixed":
-        names = "".join(space() + "|" + space() + name for name in inner)
-        return "(" + space() + "#PCDATA" + names + space() + ")" + ("*" if inner or random.random() < 0.3 else "")
-    return {"empty": "EMPTY", "any": "ANY"}.get(form) or spelled(inner)
-
-
-# The positions at which a match of the particle that begins at one of these ends.
-def ends(part, word, begins):
-    form, inner = part
-    if form == "name":
-        return {at + 1 for at in begins if word[at:at + 1] == [inner]}
-    if form == "seq":
-        for member in inner:
-            begins = ends(member, word, begins)
-        return begins
-    if form == "choice":
-        return set().union(*(ends(member, word, begins) for member in inner))
-    if form == "?":
-        return begins | ends(inner, word, begins)
-    found = begins if form == "*" else ends(inner, word, begins)
-    while True:
-        more = found | ends(inner, word, found)
-        if more == found:
-            return found
-        found = more
+    return (form, group(3)) if form == "children" else (form,)
 
 
 # A word of the particle; names that no document has are left out of it by who takes it.
 def sample(part):
-    form, inner = part
+    form, *members = part
     if form == "name":
-        return [inner]
+        return members
     if form == "seq":
-        return sum((sample(member) for member in inner), [])
+        return sum((sample(member) for member in members), [])
     if form == "choice":
-        return sample(random.choice(inner))
+        return sample(random.choice(members))
     count = {"?": random.randint(0, 1), "*": random.randint(0, 2), "+": random.randint(1, 2)}[form]
-    return sum((sample(inner) for _ in range(count)), [])
+    return sum((sample(members[0]) for _ in range(count)), [])
 
 
 # Elements are (name, kids), texts are strings.
 def element(models, name, depth):
-    content = models.get(name, ("any", None))
-    form, inner = content
+    content = models.get(name, ("any",))
+    form = content[0]
     kids = []
     if depth > 0 and form == "children":
-        kids = sample(inner)
+        kids = sample(content[1])
     elif depth > 0 and form == "any":
         kids = random.choices(sorted(models) + ["#"], k=random.randint(0, 3)) if models else []
     elif depth > 0 and form == "mixed":
-        kids = random.choices(inner + ["#"], k=random.randint(0, 3))
+        kids = random.choices(content[1] + ["#"], k=random.randint(0, 3))
     made = []
     for kid in filter(str.isascii, kids):
         made.append("x" if kid == "#" else element(models, kid, depth - 1))
@@ -176,7 +138,7 @@ def is_list_valid(models, tree):
     name, kids = tree
     if name not in models:
         return False
-    form, inner = models[name]
+    form, *inner = models[name]
     names = [kid[0] for kid in kids if not isinstance(kid, str)]
     has_data = any(isinstance(kid, str) and kid.strip(" \t\r\n") for kid in kids)
     if form == "empty":
@@ -184,8 +146,8 @@ def is_list_valid(models, tree):
     if form == "any":
         return all(kid in models for kid in names)
     if form == "mixed":
-        return all(kid in inner for kid in names)
-    return not has_data and len(names) in ends(inner, names, {0})
+        return all(kid in inner[0] for kid in names)
+    return not has_data and has_word(inner[0], names)
 
 
 def first_invalid(models, tree, path):
@@ -384,7 +346,7 @@ def xmllint(path):
 def round_of(program, counts):
     declared = random.sample(NAMES, random.randint(1, len(NAMES)))
     models = {name: model() for name in declared + random.sample(OTHER_NAMES, random.choice([0, 0, 1, 2]))}
-    spelled_models = [(name, specification(content)) for name, content in models.items()]
+    spelled_models = [(name, specification(content, space, random.random() < 0.3)) for name, content in models.items()]
     declarations = [f"<!ELEMENT{gap()}{name}{gap()}{content}{space()}>" for name, content in spelled_models]
     written = declarations
     if random.random() < 0.5:

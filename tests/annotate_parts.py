@@ -13,12 +13,15 @@ sys.dont_write_bytecode = True
 
 from annotate_fixture import DRAFT, EXAMPLES, FOLDER, LETTER, Fault, fault_of, need, run_cases, same  # noqa: E402
 
-sys.path.insert(0, FOLDER)
+sys.path[:0] = [FOLDER, os.path.dirname(FOLDER)]
 
-from document import TEXT, Document  # noqa: E402
+from costs import Costs  # noqa: E402
+from declared import declared_by  # noqa: E402
 from editor import Editor, Stale  # noqa: E402
-from script import Script, Trouble  # noqa: E402
-from session import Ended, Made, Refused, Session  # noqa: E402
+from pvtag.document import ELEMENT, TEXT, Document  # noqa: E402
+from pvtag.program import Trouble  # noqa: E402
+from pvtag.session import Ended, Made, Refused, Session  # noqa: E402
+from script import Script  # noqa: E402
 
 
 # Sessions.
@@ -84,7 +87,7 @@ def random_edit(document):
     if node.kind == TEXT:
         size = len(node.units)
         return random.choice([f"split {path} {random.randint(1, max(1, size - 1))}", f"join {path}", f"text {path} a&lt;b𐀀", f"deltext {path}"])
-    if node.kids is None:
+    if node.kind != ELEMENT:
         return f"join {path}"
     start = random.randint(0, len(node.kids))
     end = random.randint(start, len(node.kids))
@@ -172,7 +175,8 @@ def put(path, text):
 
 
 def keeps_moves(program):
-    """What was made, taken back and made again is there at the next start, in the same moves; a refusal changes nothing."""
+    """What was made, taken back and made again is there at the next start, in the same moves; a refusal changes
+    nothing."""
     with tempfile.TemporaryDirectory() as folder:
         editor = editor_on(program, folder, DRAFT)
         need("changes" in wrap(editor, "person", "Mr Adams"), "a wrap")
@@ -184,7 +188,9 @@ def keeps_moves(program):
         same((answer["no"], answer["new"], answer["list"]), ("impossible", False, place_of(editor, "Mr")["list"]), "a list that can't hold the element")
         same(state(editor), before, "what stands behind a refusal")
         editor.undo({"version": editor.version})
-        editor.offer(place_of(editor, "met"))
+        costs = Costs(editor, declared_by([program], LETTER))
+        same(costs.offer(place_of(editor, "met"))["names"], ["place", "date", "person"], "an offer")
+        costs.close()
         same(len(editor.undone), 1, "an offer leaves what was undone")
         before = state(editor)
         editor.close()
@@ -212,7 +218,8 @@ def wrap_in_gone(editor):
 
 
 def saves(program):
-    """Save writes the document, moves can be taken back behind it, also at the next start, and nothing that changed is written over."""
+    """Save writes the document, moves can be taken back behind it, also at the next start, and nothing that changed is
+    written over."""
     with tempfile.TemporaryDirectory() as folder:
         path = os.path.join(folder, "doc.xml")
         editor = editor_on(program, folder, DRAFT)

@@ -6,13 +6,14 @@ import functools
 import json
 import os
 import signal
+import socket
 import subprocess
 import sys
 import time
 
 sys.dont_write_bytecode = True
 
-from annotate_fixture import DRAFT, Server, need, run_cases, same, soon  # noqa: E402
+from annotate_fixture import DRAFT, LETTER, Server, need, run_cases, same, soon  # noqa: E402
 
 
 def refuses_others(program):
@@ -77,8 +78,71 @@ def makes_documents(program):
         os.unlink(server.doc)
         server.write("\x01", "plain.txt")
         ran = subprocess.run([*server.words, "--from", server.path("plain.txt")], capture_output=True, text=True)
-        need(ran.returncode == 1 and "document syntax" in ran.stderr, f"{ran.stderr!r}")
+        need(ran.returncode == 1 and ran.stderr.endswith("doc.xml:1:9: this is no character of XML, or isn't UTF-8\n"), f"{ran.stderr!r}")
         same(server.files(), ["plain.txt"], "a document that can't be opened")
+
+
+def says_what_is_wrong(program):
+    """A file that can't be used is named, with the place of its fault, before anything is made."""
+    with Server(program, DRAFT) as server:
+        def said(*words):
+            ran = subprocess.run([*server.words[:2], "--program", program, *words], capture_output=True, text=True, timeout=60)
+            same((ran.returncode, ran.stdout), (1, ""), f"{words}")
+            return ran.stderr.removeprefix("annotate: ").replace(server.folder + "/", "").strip()
+
+        server.stop()
+        with open(server.path("latin.txt"), "wb") as file:
+            file.write(b"Leiden\nCaf\xe9\n")
+        with open(server.path("latin.xml"), "wb") as file:
+            file.write(b"<letter>\nCaf\xe9</letter>")
+        server.write("<!ELEMENT a (b", "bad.dtd")
+        new, latin, doc = server.path("new.xml"), server.path("latin.xml"), server.doc
+        need(said(LETTER, "letter", new, "--from", server.path("latin.txt")).startswith("latin.txt isn't UTF-8: the byte 0xe9 in line 2"), "a text")
+        need(said(LETTER, "letter", latin).startswith("latin.xml:2:4: "), "a document")
+        need(said(server.path("bad.dtd"), "a", doc).startswith("bad.dtd:1:1: "), "a DTD")
+        need(said(server.path("no.dtd"), "letter", doc).startswith("no.dtd: "), "a DTD that isn't there")
+        need(said(LETTER, "letter", new).startswith("there is no file new.xml; --from"), "a document that isn't there")
+        need("leave out --from to go on" in said(LETTER, "letter", doc, "--from", server.path("latin.txt")), "a document that is there")
+        need("declares no element lettre; it declares letter, opener," in said(LETTER, "lettre", doc), "a root that isn't declared")
+        need("can't be run" in said(LETTER, "letter", doc, "--program", "/nowhere/pvtag"), "a program that isn't there")
+        same(said(LETTER, "letter", server.path("no/new.xml"), "--from", LETTER), "no/new.xml: No such file or directory", "a folder that isn't there")
+        same(said(LETTER, "letter", server.folder), f"{server.folder}: Is a directory", "a folder")
+        server.write("a\x01b", "odd.txt")
+        need(said(LETTER, "letter", new, "--from", server.path("odd.txt")).startswith("no document can be made of odd.txt: "), "a character")
+        os.unlink(server.path("odd.txt"))
+        with socket.create_server(("127.0.0.1", 0)) as taken:
+            port = taken.getsockname()[1]
+            need(f"the port {port} of 127.0.0.1: " in said(LETTER, "letter", doc, "--port", str(port)), "a port that is taken")
+        same(server.files(), ["bad.dtd", "doc.xml", "latin.txt", "latin.xml"], "nothing was made")
+
+
+def makes_moves_again(program):
+    """Where another program has changed the document, the moves are made again on it as far as they go."""
+    with Server(program, DRAFT) as server:
+        def move(kind, words, name):
+            state = server.ask("state")
+            text = next(row for row in state["tree"] if words in row.get("text", ""))
+            at = text["text"].index(words)
+            owner = next(row for row in reversed(state["tree"][:state["tree"].index(text)]) if row["depth"] == text["depth"] - 1)
+            place = {"list": owner["id"], "from": [text["id"], at], "to": [text["id"], at + len(words)]}
+            return server.ask("move", {"version": state["version"], "kind": kind, "place": place, "name": name})
+
+        for words, name in (("Dear brother,", "salute"), ("Mr Adams", "person"), ("Delft", "place")):
+            need("changes" in move("wrap", words, name), f"{name} round {words}")
+        server.stop()
+        server.write(DRAFT.replace("in Delft", "at Delft, too"))
+        ran = subprocess.run(server.words, capture_output=True, text=True, timeout=60)
+        need(ran.returncode == 1 and "--again" in ran.stderr, f"it doesn't begin, and says how: {ran.stderr}")
+        server.start("--again")
+        note = server.ask("hello", {"window": "1"})["note"]
+        need("3 of 3 moves were made again" in note, note)
+        need("place" in [row.get("name") for row in server.ask("state")["tree"]], "they are there")
+        server.stop()
+        server.write(DRAFT.replace("Mr Adams", "Mrs Adams"))
+        server.start("--again")
+        note = server.ask("hello", {"window": "1"})["note"]
+        need("1 of 3 moves were made again" in note, f"up to the first that is about another text: {note}")
+        same(server.files(), ["doc.xml", "doc.xml.pvtag", "doc.xml.pvtag.base", "doc.xml.pvtag.old"], "the script before is kept")
 
 
 def loses_nothing(program):
@@ -95,7 +159,7 @@ def loses_nothing(program):
         place = {"list": node("opener"), "from": [text["id"], 0], "to": [text["id"], 13]}
         need("changes" in server.ask("move", {"version": 1, "kind": "wrap", "place": place, "name": "salute"}), "a wrap")
         same(server.stop(signal.SIGKILL)[0], -signal.SIGKILL, "a kill")
-        server.start()
+        server.start("--stay", "2")
         need("salute" in [row.get("name") for row in server.ask("state")["tree"]], "it is there at the next start")
         with open(f"/proc/{server.process.pid}/task/{server.process.pid}/children", encoding="ascii") as file:
             for process in file.read().split():
@@ -107,17 +171,17 @@ def loses_nothing(program):
         server.ask("hello", {"window": "1"})
         server.ask("hello", {"window": "2"})
         server.ask("bye", {"window": "1"})
-        time.sleep(6)
+        time.sleep(3)
         need(server.process.poll() is None, "a window is open still")
         server.ask("bye", {"window": "2"})
         server.ask("hello", {"window": "2"})
-        time.sleep(6)
+        time.sleep(3)
         need(server.process.poll() is None, "a window that was loaded again")
         server.ask("bye", {"window": "2"})
         same(server.wait()[0], 0, "the last window was closed")
 
 
-CASES = [refuses_others, refuses_nonsense, makes_documents, loses_nothing]
+CASES = [refuses_others, refuses_nonsense, makes_documents, says_what_is_wrong, makes_moves_again, loses_nothing]
 
 
 def main():

@@ -9,7 +9,7 @@ import sys
 
 sys.dont_write_bytecode = True
 
-from expansions import CHAR, COMMENT, Fault, INSTRUCTION, LITERAL, NAME, S, TEXT_DECLARATION, Reading
+from lib.entities import CHAR, COMMENT, Fault, INSTRUCTION, LITERAL, NAME, S, TEXT_DECLARATION, Reading
 
 HEAVIEST = 1000001
 KINDS = "cnps"

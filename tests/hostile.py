@@ -20,8 +20,8 @@ import time
 
 sys.dont_write_bytecode = True
 
-from hostile_files import DOC_MOST, KB, MB, NONE, hostile_documents, hostile_dtds, hostile_scripts, largest_document, listing, long_name
-from hostile_runs import ANSWERS, DENIAL, GUIDE, LINES, MEMORY, PACK, RANGES, SWAPPED, TEXT, Trial, closed_late, follows, least, read_once, read_slowly, runs_of
+from lib.hostile_files import DOC_MOST, KB, MB, NONE, hostile_documents, hostile_dtds, hostile_scripts, largest_document, listing, long_name
+from lib.hostile_runs import ANSWERS, DENIAL, GUIDE, LINES, MEMORY, PACK, RANGES, SWAPPED, TEXT, Trial, closed_late, follows, least, read_once, read_slowly, runs_of
 
 NOBODY = 65534
 

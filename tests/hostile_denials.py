@@ -17,13 +17,14 @@ import time
 
 sys.dont_write_bytecode = True
 
-import against_a_model
-from against_a_model import document_of, lists_below
-from against_insertions import declaration, write
 from check_denial import CAUSES, MOST_BYTES, MOST_VALUES, Denial, dotted, holds, judge, live_word_of, rules_of, sites_of
 from check_pack import Document, Dtd, Fault
-from completions import MOST, grammar, items_of
-from packs import Trial as Counting, need, output
+from lib.counting import Counting, need, output
+from lib.editing import document_of
+from lib.grammar import declaration
+from lib.kept import productive_grammar
+from lib.search import MOST, write
+from lib.trees import is_live, items_of, lists_below
 
 STATUSES = {"denied": 0, "rejected": 1, "limit": 8, "table": 9}
 # How many changed values of one denial are tried at most.
@@ -117,7 +118,7 @@ class Searched(Case):
         self.is_least = None
 
     def is_mended(self, path):
-        return against_a_model.is_live(self.search, *self.kids[path], self.root)
+        return is_live(self.search, *self.kids[path], self.root)
 
     def first_impossible(self):
         return next((path for path in sorted(self.kids) if not self.is_mended(path)), None)
@@ -248,17 +249,6 @@ def repeated(count):
 
 
 class Trial(Counting):
-    def row(self, case, denial, wanted):
-        def judged():
-            answer = case.answer(denial)
-            need(answer == wanted, f"{answer}, and not {wanted}")
-
-        self.tell(f"{denial[:200]!r}", judged)
-
-    def count(self, name, judged):
-        answer = re.sub(" [0-9.]*$", "", self.tell(name, judged) or "failed")
-        self.answers[answer] = self.answers.get(answer, 0) + 1
-
     def case(self, name, case, others):
         """What `why` tells of a document, and hostile denials of it; true where it has a denial."""
         self.tell(name, case.check_own)
@@ -307,7 +297,7 @@ def rounds(program, trial, count, end):
     """So many denials of random documents, and hostile ones."""
     made = 0
     while made < count and time.monotonic() < end:
-        models, search = grammar()
+        models, search = productive_grammar()
         dtd = "".join(declaration(x, models[x]) for x in models)
         denied = {}
         for _ in range(12):

@@ -1,6 +1,6 @@
 """Tries `verify` on packs that `complete` prints, and on hostile ones, beside the checker of `check_pack.py`.
 
-Words: PROGRAM COUNT SEED. So many packs are taken of random small documents, made and changed as in `packs.py`: a number changed, lines
+Words: PROGRAM COUNT SEED. So many packs are taken of random small documents, made and changed as for `packs.py`: a number changed, lines
 swapped, dropped or doubled, entries dropped or doubled, a byte of the body changed, the pack of another document. On each the program must
 tell what the checker tells, with the status of that answer; and what it accepts must be least, as a search with insertions tells it and as
 `need` does. Then large packs: bodies of deep elements, numbers at 2^32 - 1, a total that no sum reaches, as many entries as a pack may have
@@ -14,11 +14,14 @@ import tempfile
 
 sys.dont_write_bytecode = True
 
-import packs
-from against_a_model import document_of
-from against_insertions import declaration, write
-from completions import grammar, kind_of
-from packs import need, output, written
+from lib import pack_cases
+from lib.counting import need, output
+from lib.editing import document_of
+from lib.grammar import declaration
+from lib.kept import kind_of, productive_grammar
+from lib.pack_cases import written
+from lib.pack_trial import PACK, SMALL, PackTrial, examples, rows
+from lib.search import write
 
 MOST_ENTRIES = 8388608
 STATUSES = {"accepted": 0, "rejected": 1, "limit": 8, "pack": 9}
@@ -36,7 +39,7 @@ def told(program, dtd, root, text, pack):
     return answer[:-1]
 
 
-class Case(packs.Case):
+class Case(pack_cases.Case):
     """A document whose packs are tried by the program and by the checker."""
 
     def answer(self, pack):
@@ -53,19 +56,19 @@ def entries_of(count):
 
 def large(program):
     """Each what it is, a DTD, a root, a document, a pack and its answer."""
-    small, deep = packs.SMALL, "<!ELEMENT a (a?)>"
+    small, deep = SMALL, "<!ELEMENT a (a?)>"
     nested = b"<a>" * 100000 + b"</a>" * 100000
     yield "a deep body", deep, "a", "<a/>", written(99999, range(1, 100000), nested, []), "rejected totals"
     yield "a deep body that is no document", deep, "a", "<a/>", written(99999, range(1, 100000), nested[:-4], []), "rejected body"
     yield "a deep body without marks", deep, "a", "<a/>", written(0, [], nested, []), "rejected kept"
     yield "an empty file", small, "a", "<a/>", b"", "pack line 0"
     top = 2**32 - 1
-    yield "a mark at the last number", small, "a", "<a/>", packs.PACK.replace(b"mark 1", b"mark %d" % top), "rejected marks"
+    yield "a mark at the last number", small, "a", "<a/>", PACK.replace(b"mark 1", b"mark %d" % top), "rejected marks"
     for entry in b"n %d 0 0 1" % top, b"n 1 0 %d 1" % top, b"n 1 %d %d 1" % (top, top), b"s %d 0 0 1" % top:
         old = b"s 1 0 0 1" if entry.startswith(b"s") else b"p 0 0 0 1"
         new = entry if entry.startswith(b"s") else entry + b"\np 0 0 0 1"
-        yield f"{entry.decode()}", small, "a", "<a/>", packs.PACK.replace(old, new), "rejected closure"
-    yield "a total past the sum", small, "a", "<a/>", packs.PACK.replace(b"total 1", b"total 1000000"), "rejected totals"
+        yield f"{entry.decode()}", small, "a", "<a/>", PACK.replace(old, new), "rejected closure"
+    yield "a total past the sum", small, "a", "<a/>", PACK.replace(b"total 1", b"total 1000000"), "rejected totals"
     head = b"pvpack 1\ntotal 0\nbody 11\n<a><b/></a>\n"
     yield "a table without entries", small, "a", "<a><b/></a>", head + b"list 0\nend\n", "rejected closure"
     yield "no table", small, "a", "<a><b/></a>", head + b"end\n", "accepted 0"
@@ -75,31 +78,7 @@ def large(program):
     yield "one line too many that is no entry", small, "a", "<a><b/></a>", most + b"p 0 0 0\nend\n", f"pack line {5 + MOST_ENTRIES - 1}"
 
 
-class Trial(packs.Trial):
-    def row(self, case, pack, wanted):
-        def judged():
-            answer = case.answer(pack)
-            need(answer == wanted, f"{answer}, and not {wanted}")
-
-        self.tell(f"{pack[:120]!r}", judged)
-
-    def case(self, name, dtd, root, text, others):
-        made = []
-
-        def own():
-            case = Case(self.program, dtd, root, text)
-            if case.pack:
-                case.check_own()
-                made.append(case)
-
-        self.tell(name, own)
-        for case in made:
-            for change in packs.CHANGES * packs.TURNS:
-                self.hostile(f"{change.__name__}, {name}", case, change(case))
-            for other in others[-2:]:
-                self.hostile(f"another's pack, {name}", case, other.pack)
-            others.append(case)
-
+class Trial(PackTrial):
     def large(self, name, dtd, root, text, pack, wanted):
         def judged():
             answer = told(self.program, dtd, root, text, pack)
@@ -111,17 +90,16 @@ class Trial(packs.Trial):
 def main():
     program, count, seed = os.path.abspath(sys.argv[1]), int(sys.argv[2]), int(sys.argv[3])
     random.seed(seed)
-    trial = Trial(program)
-    packs.Case = Case
+    trial = Trial(program, Case)
     made = 0
     with tempfile.TemporaryDirectory() as folder:
         os.chdir(folder)
-        for case, pack, answer in packs.rows(program):
+        for case, pack, answer in rows(program, Case):
             trial.row(case, pack, answer)
-        for dtd, root, text in packs.examples():
+        for dtd, root, text in examples():
             trial.case(f"root {root}\n{text}", dtd, root, text, [])
         while made < count:
-            models, search = grammar()
+            models, search = productive_grammar()
             dtd = "".join(declaration(x, models[x]) for x in models)
             others = {}
             for _ in range(12):

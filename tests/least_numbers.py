@@ -11,7 +11,8 @@ import subprocess
 import sys
 import tempfile
 
-from against_insertions import LEAVES, MOST, NAMES, Search, declaration, document, model, write, written
+from lib.grammar import declaration
+from lib.search import LEAVES, MOST, NAMES, Search, document, grammar, write, written
 
 
 def answer(program, root):
@@ -30,8 +31,7 @@ def kind_of(least, got):
 
 
 def round_of(program, counts):
-    declared = random.sample(NAMES, random.randint(2, 4))
-    models = {x: model(declared * 6 + NAMES) for x in declared}
+    declared, models = grammar()
     write("a.dtd", "".join(declaration(x, models[x]) for x in declared))
     search = Search(models)
     for _ in range(12):

@@ -3,7 +3,7 @@
 set -u
 cd "$(dirname "$0")/.." || exit 1
 line=$(sed -n 's/^\$ \.\/pvtag \(session .*\)/\1/p' README.md | head -n 1)
-shown=$(awk -v line="\$ ./pvtag $line" '$0 == "```" { inside = 0 } inside { print } $0 == line { inside = 1 }' README.md)
+shown=$(awk -v line="\$ ./pvtag $line" '$0 == "```" || /^\$ / { inside = 0 } inside { print } $0 == line { inside = 1 }' README.md)
 said=$(bash -c "tools/look $line" 2>/dev/null)
 if [ -n "$shown" ] && [ "$said" = "$shown" ]; then
     echo "1 passed, 0 failed"

@@ -11,47 +11,10 @@ import subprocess
 import sys
 import tempfile
 
+from lib.grammar import declaration
+from lib.mixed_models import model
+
 NAMES = [f"n{number}" for number in range(10)]
-
-# Content models are ("empty",), ("any",), ("mixed", names) and ("children", particle); particles are ("name", x), ("seq", ..),
-# ("choice", ..), ("?", p), ("*", p) and ("+", p).
-
-
-def particle(depth, names):
-    form = random.choice(["name"] * 3 + ["seq", "seq", "choice", "choice", "?", "*", "*", "+"])
-    if depth == 0 or form == "name":
-        return ("name", random.choice(names))
-    if form in ("?", "*", "+"):
-        return (form, particle(depth - 1, names))
-    return (form, *(particle(depth - 1, names) for _ in range(random.randint(2, 4))))
-
-
-def model(names):
-    form = random.choice(["empty", "any"] + ["mixed"] * 3 + ["children"] * 8)
-    if form == "mixed":
-        return (form, random.sample(names, random.randint(0, min(4, len(names)))))
-    return (form, particle(3, names)) if form == "children" else (form,)
-
-
-def spelled(p):
-    form = p[0]
-    if form == "name":
-        return p[1]
-    if form in ("?", "*", "+"):
-        return (f"({spelled(p[1])})" if p[1][0] in ("?", "*", "+") else spelled(p[1])) + form
-    return "(" + ("," if form == "seq" else "|").join(map(spelled, p[1:])) + ")"
-
-
-def declaration(x, content):
-    form = content[0]
-    if form == "mixed":
-        text = "(" + "|".join(["#PCDATA", *content[1]]) + ")" + ("*" if content[1] else "")
-    elif form == "children":
-        text = spelled(content[1])
-        text = text if text.startswith("(") and content[1][0] in ("seq", "choice") else f"({text})"
-    else:
-        text = form.upper()
-    return f"<!ELEMENT {x} {text}>\n"
 
 
 class Spans:
@@ -154,7 +117,7 @@ def main():
             if not models:
                 continue
             with open("a.dtd", "w") as file:
-                file.write("".join(declaration(x, content) for x, content in models.items()))
+                file.write("".join(declaration(x, content, is_starred=False) for x, content in models.items()))
             for _ in range(25):
                 owner = random.choice(list(models))
                 word = word_of(models, owner)

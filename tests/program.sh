@@ -138,11 +138,11 @@ dtd "a name of 257 bytes" 8 "limit dtd 1"
 printf '<!ELEMENT a EMPTY><!ATTLIST a b CDATA "\xc3\xa9\xf0\x90\x80\x80">' >one.dtd
 dtd "characters of two and four bytes" 0 valid
 for bytes in '\xff' '\xed\xa0\x80' '\xc0\xaf' '\xe0\x80\xaf' '\xf4\x90\x80\x80' '\xc3' '\x00' '\xef\xbf\xbf'; do
-    printf "<!ELEMENT a EMPTY><!ELEMENT n$bytes EMPTY>" >one.dtd
+    printf '%b' "<!ELEMENT a EMPTY><!ELEMENT n$bytes EMPTY>" >one.dtd
     dtd "$bytes in a name" 6 "dtd syntax 1"
-    printf "<!ELEMENT a EMPTY><!--$bytes-->" >one.dtd
+    printf '%b' "<!ELEMENT a EMPTY><!--$bytes-->" >one.dtd
     dtd "$bytes in a comment" 6 "dtd syntax 1"
-    printf "<!ELEMENT a EMPTY><!ATTLIST a b CDATA '$bytes'>" >one.dtd
+    printf '%b' "<!ELEMENT a EMPTY><!ATTLIST a b CDATA '$bytes'>" >one.dtd
     dtd "$bytes in a literal" 6 "dtd syntax 1"
 done
 
@@ -330,12 +330,12 @@ session "an edit past the width" "$(lines 'no limit' 'history 0' 'verdicts 2' '.
     'addtext 0 0 y' history verdicts
 
 # The pages. shows COMMAND OUTPUT: it prints this, in which a line of three dots is any lines
-mkdir page && ln -s "$pvtag" "$top/examples" page/ || exit 1
+mkdir page && ln -s "$pvtag" "$top/examples" "$top/clients" page/ || exit 1
 where=page
 shows() {
     local got
     case $1 in
-    python3*) command -v python3 >/dev/null || { echo "skipped: $1 (no python3)"; return; } ;;
+    python3* | clients/* | *' clients/'*) command -v python3 >/dev/null || { echo "skipped: $1 (no python3)"; return; } ;;
     esac
     got=$(cd "$where" && PATH=$top:$PATH bash -c "$1" </dev/null 2>&1; echo .)
     got=${got%.}
@@ -366,6 +366,9 @@ page() {
 expect "README's size" 0 "" awk 'length > 120 || FNR > 120' "$top/README.md"
 page <"$top/README.md"
 page <"$top/docs/COMMANDS.md"
+page <"$top/docs/ARCHIVES.md"
+page <"$top/docs/HOWTO.md"
+page <"$top/docs/CLIENTS.md"
 expect "the first of the two commands" 0 "valid$lf" bash -c "cd page && $(sed -n 's/^- `\(\.\/pvtag [^`]*\)`.*/\1/p' "$top/README.md")"
 # The manual shows commands among the examples, a long one over two lines.
 where=page/examples

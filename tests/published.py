@@ -20,6 +20,8 @@ import sys
 import tempfile
 import time
 
+from lib.grammar import NEVER, SIGNS, cost, has_word, least_of, read_model, spelled
+
 TOP = os.path.dirname(os.path.dirname(os.path.abspath(__file__)))
 TOOL = os.path.join(TOP, "tools", "flatten")
 DOCBOOK = "/usr/share/xml/docbook/schema/dtd/"
@@ -42,7 +44,6 @@ CONTENT = re.compile(
     r"content does not follow the DTD|is not declared in \S+ list of possible children|was declared (EMPTY|#PCDATA) |^No declaration for element"
 )
 ASIDE = re.compile(r"attribute|namespace name|IDREF|^ID |^xml:id|notation", re.IGNORECASE)
-NEVER = float("inf")
 
 counts = {"passed": 0, "failed": 0}
 told = {}
@@ -194,79 +195,24 @@ def small(python):
 
 # ---- content models, and what a DTD declares ----
 
-# A particle of the form that `flatten` writes: ("name", it), or an operator with its members.
-def particle(tokens):
-    if tokens[0] != "(":
-        found = ("name", tokens.pop(0))
-    else:
-        tokens.pop(0)
-        members, mark = [particle(tokens)], ","
-        while tokens[0] != ")":
-            mark = tokens.pop(0)
-            members.append(particle(tokens))
-        tokens.pop(0)
-        found = ("," if len(members) == 1 else mark, members)
-    while tokens and tokens[0] in "?*+":
-        found = (tokens.pop(0), found)
-    return found
-
-
-# The content of each declared name: ("EMPTY", nothing), ("ANY", nothing), ("mixed", names) or ("children", particle).
 def models_of(text):
-    models = {}
-    for line in text.splitlines():
-        name, content = re.fullmatch(r"<!ELEMENT (\S+) (.*)>", line).groups()
-        if content in ("EMPTY", "ANY"):
-            models[name] = (content, None)
-        elif "#PCDATA" in content:
-            models[name] = ("mixed", re.findall(r"[^\s()|*]+", content)[1:])
-        else:
-            models[name] = ("children", particle(re.findall(r"[()|,?*+]|[^\s()|,?*+]+", content)))
-    return models
-
-
-# The positions at which a match of the particle that begins at one of these ends.
-def ends(part, word, begins):
-    form, inner = part
-    if form == "name":
-        return {at + 1 for at in begins if word[at:at + 1] == [inner]}
-    if form == ",":
-        for member in inner:
-            begins = ends(member, word, begins)
-        return begins
-    if form == "|":
-        return set().union(*(ends(member, word, begins) for member in inner))
-    found = set(begins) if form in "?*" else ends(inner, word, begins)
-    while form != "?":
-        more = found | ends(inner, word, found)
-        if more == found:
-            return found
-        found = more
-    return found | ends(inner, word, begins)
+    """The content model of each name that a DTD, of the form that `flatten` writes, declares."""
+    return {name: read_model(content) for name, content in re.findall(r"^<!ELEMENT (\S+) (.*)>$", text, re.MULTILINE)}
 
 
 def any_particle(depth):
-    form = random.choice(["name", "name", ",", "|", "?", "*", "+"])
+    form = random.choice(["name", "name", "seq", "choice", "?", "*", "+"])
     if depth == 0 or form == "name":
         return ("name", random.choice("abcd"))
-    if form in "?*+":
+    if form in SIGNS:
         return (form, any_particle(depth - 1))
-    return (form, [any_particle(depth - 1) for _ in range(random.randint(1 if form == "," else 2, 3))])
-
-
-def text_of(part):
-    form, inner = part
-    if form == "name":
-        return inner
-    if form in "?*+":
-        return (f"({text_of(inner)})" if inner[0] in "?*+" else text_of(inner)) + form
-    return "(" + form.join(map(text_of, inner)) + ")"
+    return (form, *(any_particle(depth - 1) for _ in range(random.randint(1 if form == "seq" else 2, 3))))
 
 
 # Random models have the same words when they are flattened.
 def random_models(python, number):
-    models = {f"m{at}": (",", [any_particle(5)]) for at in range(number)}
-    write("random.dtd", "".join(f"<!ELEMENT {name} {text_of(part)}>\n" for name, part in models.items()))
+    models = {f"m{at}": ("seq", any_particle(5)) for at in range(number)}
+    write("random.dtd", "".join(f"<!ELEMENT {name} {spelled(part)}>\n" for name, part in models.items()))
     found = models_of(run(python, TOOL, "random.dtd").stdout)
     least = dict.fromkeys("abcd", 1)
     case(list(found) == list(models), "the names of random models", list(found))
@@ -274,64 +220,41 @@ def random_models(python, number):
         ours, theirs = models[name], found[name][1]
         words = [random.choices("abcd", k=random.randint(0, 6)) for _ in range(20)]
         words += [sample(part, least, True) for part in (ours, theirs) for _ in range(5)]
-        case(all((len(word) in ends(ours, word, {0})) == (len(word) in ends(theirs, word, {0})) for word in words), text_of(ours), theirs)
-
-
-# The fewest elements of a word of the particle with what stands below them.
-def cost(part, least):
-    form, inner = part
-    if form == "name":
-        return least.get(inner, NEVER)
-    if form in "?*":
-        return 0
-    if form == "+":
-        return cost(inner, least)
-    return (sum if form == "," else min)(cost(member, least) for member in inner)
-
-
-# The fewest elements of a valid element of each name.
-def least_of(models):
-    least = {name: 1 if form != "children" else NEVER for name, (form, _) in models.items()}
-    while True:
-        more = {name: 1 + cost(inner, least) if form == "children" else 1 for name, (form, inner) in models.items()}
-        if more == least:
-            return least
-        least = more
+        case(all(has_word(ours, word) == has_word(theirs, word) for word in words), spelled(ours), theirs)
 
 
 # The lines that `dtd` prints, but for the totals.
 def dtd_lines(models, least):
-    kinds = {"EMPTY": "empty", "ANY": "any"}
     sizes = {name: "unproductive" if size == NEVER else "over" if size > 1000000 else size for name, size in least.items()}
-    return [f"{name} {kinds.get(form, form)} {sizes[name]}" for name, (form, _) in models.items()]
+    return [f"{name} {content[0]} {sizes[name]}" for name, content in models.items()]
 
 
 # ---- made documents: elements are [name, kids], texts are strings ----
 
 # A word of the particle, short where room is scarce.
 def sample(part, least, is_free):
-    form, inner = part
+    form, *members = part
     if form == "name":
-        return [inner]
-    if form == ",":
-        return [name for member in inner for name in sample(member, least, is_free)]
-    if form == "|":
-        able = [member for member in inner if cost(member, least) < NEVER]
+        return members
+    if form == "seq":
+        return [name for member in members for name in sample(member, least, is_free)]
+    if form == "choice":
+        able = [member for member in members if cost(member, least) < NEVER]
         return sample(random.choice(able) if is_free else min(able, key=lambda member: cost(member, least)), least, is_free)
-    most = random.choice([0, 1, 1, 2, 5]) if is_free and cost(inner, least) < NEVER else 0
+    most = random.choice([0, 1, 1, 2, 5]) if is_free and cost(members[0], least) < NEVER else 0
     count = max(form == "+", min(most, 1) if form == "?" else most)
-    return [name for _ in range(count) for name in sample(inner, least, is_free)]
+    return [name for _ in range(count) for name in sample(members[0], least, is_free)]
 
 
 def element(models, least, name, room, depth=0):
-    form, inner = models[name]
+    form, *inner = models[name]
     room[0] -= 1
     kids = []
     is_free = room[0] > 0 and depth < 12
     if form == "children":
-        kids = sample(inner, least, is_free)
-    elif form != "EMPTY" and is_free:
-        able = [each for each in (inner if form == "mixed" else models) if least.get(each, NEVER) < NEVER]
+        kids = sample(inner[0], least, is_free)
+    elif form != "empty" and is_free:
+        able = [each for each in (inner[0] if form == "mixed" else models) if least.get(each, NEVER) < NEVER]
         kids = [random.choice(able) if able and random.random() < 0.6 else "#" for _ in range(random.randint(0, 4))]
     made = []
     for kid in kids:
@@ -363,16 +286,16 @@ def change(tree, names):
         kids[0], kids[-1] = kids[-1], kids[0]
 
 
-def spelled(tree, more=""):
+def tagged(tree, more=""):
     name, kids = tree
-    inner = "".join(kid if isinstance(kid, str) else spelled(kid) for kid in kids)
+    inner = "".join(kid if isinstance(kid, str) else tagged(kid) for kid in kids)
     return f"<{name}{more}>{inner}</{name}>" if kids or random.random() < 0.5 else f"<{name}{more}/>"
 
 
 # The document's text, where each prefix is bound.
 def document(tree):
     prefixes = {each[0].split(":")[0] for each in elements(tree) if ":" in each[0]}
-    return spelled(tree, "".join(f' xmlns:{prefix}="urn:{prefix}"' for prefix in sorted(prefixes)))
+    return tagged(tree, "".join(f' xmlns:{prefix}="urn:{prefix}"' for prefix in sorted(prefixes)))
 
 
 # ---- judging ----

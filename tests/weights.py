@@ -17,10 +17,9 @@ import tempfile
 import time
 from typing import NamedTuple
 
-sys.path.insert(0, os.path.dirname(os.path.abspath(__file__)))
-from possible_lists import declaration, model, particle  # noqa: E402
+from lib.grammar import NEVER, declaration
+from lib.mixed_models import model, particle
 
-NEVER = float("inf")
 TEXTS = ["t", "<![CDATA[]]>", "&#32;", "<![CDATA[ ]]>", "a &amp; b"]
 ASIDE = ["<!---->", "<?p?>", " "]
 

@@ -5,7 +5,7 @@ import subprocess
 import threading
 import time
 
-from hostile_files import KB, MB, NONE
+from lib.hostile_files import KB, MB, NONE
 
 SECONDS = 60
 # The most memory of a run, in MB: what `docs/COMMANDS.md` tells under "Time and memory", and some 80 MB that this test takes itself, with room.

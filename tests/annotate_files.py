@@ -1,0 +1,71 @@
+"""The page of `clients/annotate`: its files, and what a window says of them. Cases of `annotate.py`."""
+from annotate_browser import Page
+from annotate_fixture import Server, need, same, soon
+from selenium.webdriver.common.keys import Keys
+
+LETTER = "<letter><opener><salute>Dear brother,</salute></opener>\n<body><p>I have met Mr Adams in Delft.</p></body></letter>\n"
+
+
+def saves_beside(driver, program):
+    """A document that another program has changed isn't written over; what is marked up goes to another file."""
+    with Server(program, LETTER) as server:
+        page = Page(driver, server.url)
+        page.wrap("place", "Delft")
+        server.write("<letter/>")
+        page.keys(Keys.CONTROL, "s")
+        soon(lambda: page.find("#beside").is_displayed(), True, "it is offered to save as another file")
+        need("changed by another program" in page.tell(), "it is told why")
+        same(page.find("#beside input").get_attribute("value"), "doc-marked.xml", "a name is proposed")
+        page.keys("mine.xml", Keys.ENTER)
+        soon(page.tell, lambda text: text.startswith("Written to "), "it is written")
+        need("in <place>Delft</place>." in server.text("mine.xml"), "the document")
+        same(server.text(), "<letter/>", "the other one")
+        page.keys(Keys.CONTROL, "s")
+        soon(lambda: page.find("#beside").is_displayed(), True, "once more")
+        page.keys("../x.xml", Keys.ENTER)
+        soon(page.tell, lambda text: "without a path" in text, "a path isn't followed")
+        page.keys(Keys.CONTROL, "s")
+        soon(lambda: page.find("#beside").is_displayed(), True, "and again")
+        page.keys("mine.xml", Keys.ENTER)
+        soon(page.tell, "mine.xml is there already", "nothing is written over")
+
+
+def asks_before_it_closes(driver, program):
+    with Server(program, LETTER) as server:
+        page = Page(driver, server.url)
+        leaves = "const event = new Event('beforeunload', { cancelable: true }); dispatchEvent(event); return !event.defaultPrevented"
+        same(page.js(leaves), True, "a document as it was is left")
+        page.wrap("place", "Delft")
+        same(page.js(leaves), False, "one with moves that aren't saved asks")
+        page.keys(Keys.CONTROL, "s")
+        soon(lambda: page.find("#save").text, "Saved", "saved")
+        same(page.js(leaves), True, "one that is saved is left")
+
+
+def goes_on_behind_dialogs(driver, program):
+    """Behind a preview, and behind help, the keys are the document's again."""
+    with Server(program, LETTER) as server:
+        page = Page(driver, server.url)
+        for button, dialog in (("#preview", "#completed"), ("#help", "#keys")):
+            page.find(button).click()
+            soon(lambda: page.find(dialog).is_displayed(), True, dialog)
+            page.keys(Keys.ENTER)
+            soon(lambda: page.find(dialog).is_displayed(), False, f"{dialog} is closed")
+            page.keys(Keys.CONTROL, "a")
+            page.keys(Keys.ENTER)
+            page.open_menu()
+            page.keys(Keys.ESCAPE)
+
+
+def names_wide_lists(driver, program):
+    """The head names the element that holds too much to count what is missing."""
+    with Server(program, "<letter><opener><salute>Dear</salute></opener>" + "<p>one</p>" * 1100 + "</letter>") as server:
+        page = Page(driver, server.url)
+        soon(page.status, lambda text: "⟨letter⟩ holds too much" in text, "the head")
+        page.keys(Keys.F8)
+        soon(lambda: page.find("#reason").text, lambda text: "too wide to tell" in text, "at the tag")
+        page.find("#preview").click()
+        soon(lambda: page.find("#completed .view").text, lambda text: "⟨letter⟩ holds too much" in text, "the preview")
+
+
+CASES = [saves_beside, asks_before_it_closes, goes_on_behind_dialogs, names_wide_lists]

@@ -1,0 +1,272 @@
+"""The page of `clients/annotate`: a letter is finished in it, from a plain text to a valid, saved file, by mouse and
+keyboard. Case of `annotate.py`."""
+import subprocess
+
+from annotate_browser import Page
+from annotate_fixture import ARTICLE, Server, need, same, soon
+from selenium.webdriver.common.keys import Keys
+
+# So many steps of a user it takes at least.
+STEPS = 60
+DTD = """<!ELEMENT TEI (teiHeader, text)>
+<!ELEMENT teiHeader (title, author)>
+<!ELEMENT title (#PCDATA)>
+<!ELEMENT author (#PCDATA)>
+<!ELEMENT text (opener, p+, list?, p*, closer, postscript?)>
+<!ELEMENT opener (dateline, salute)>
+<!ELEMENT dateline (#PCDATA|placeName|date)*>
+<!ELEMENT salute (#PCDATA|persName)*>
+<!ELEMENT p (#PCDATA|persName|placeName|date|lb|hi)*>
+<!ELEMENT list (item, item+)>
+<!ELEMENT item (#PCDATA|persName|placeName|hi)*>
+<!ELEMENT closer (#PCDATA|persName|lb)*>
+<!ELEMENT postscript (p+)>
+<!ELEMENT persName (#PCDATA)>
+<!ELEMENT placeName (#PCDATA)>
+<!ELEMENT date (#PCDATA)>
+<!ELEMENT hi (#PCDATA)>
+<!ELEMENT lb EMPTY>
+<!ATTLIST persName key CDATA #IMPLIED>
+<!ATTLIST date when CDATA #IMPLIED>
+"""
+PLAIN = """Letter to Pieter
+Leiden, 3 May 1764
+Dear brother,
+I have met Mr Adams in Delft. Mr Adams sends regards to Anna.
+We saw: the Old Church; the New Church; the market.
+From Delft he goes to Leiden, and from Leiden to London on 12 May.
+Yours, Jan
+PS Greet Anna. Anna will know why.
+"""
+WHOLE = """<TEI><teiHeader><title>Letter to his brother Pieter</title><author>Jan</author></teiHeader>
+<text><opener><dateline><placeName>Leiden</placeName>, <date when="1764-05-03">3 May 1764</date></dateline>
+<salute>Dear brother,</salute></opener>
+<p>I have met <persName key="adams">Mr Adams</persName> in <placeName>Delft</placeName>. <persName>Mr Adams</persName> sends his regards to \
+<persName key="anna">Anna</persName>.</p>
+<p>We saw:</p> <list><item>the <hi>Old</hi> Church</item> <item>the <hi>New</hi> Church</item> <item>the market.</item></list>
+<p>From <placeName>Delft</placeName> he goes to <placeName>Leiden</placeName>, and from <placeName>Leiden</placeName> to \
+<placeName>London</placeName> on <date when="1764-05-12">12 May</date>.</p>
+<closer>Yours, <lb/><persName key="jan">Jan</persName></closer>
+<postscript><p>PS Greet <persName>Anna</persName>. <persName>Anna</persName> will know &#10;why.</p></postscript></text>
+</TEI>
+""".replace("\\\n", "")
+
+
+class User:
+    """Counts what is done in the page; each step waits until it is made."""
+
+    def __init__(self, page):
+        self.page, self.steps = page, 0
+
+    def done(self, moves):
+        self.steps += 1
+        soon(self.page.moves, moves, f"step {self.steps}")
+
+    def wrap(self, name, words, until=None, **which):
+        moves = self.page.moves()
+        self.page.select(words, until, **which)
+        self.page.take(name)
+        self.done(moves + 1)
+
+    def again(self, words, **which):
+        """The last tag again round these words, by its key."""
+        moves = self.page.moves()
+        self.page.select(words, **which)
+        self.page.open_menu()
+        self.page.keys(Keys.ESCAPE)
+        self.page.keys(Keys.F4)
+        self.done(moves + 1)
+
+    def refused(self, name, words, until, reason):
+        """A tag that is refused, and why."""
+        moves = self.page.moves()
+        self.page.select(words, until)
+        self.page.open_menu()
+        self.page.keys(name, Keys.ENTER)
+        soon(lambda: self.page.find("#menu .refusal").text, lambda text: reason in text, f"why {name} is refused")
+        self.page.keys(Keys.ESCAPE)
+        self.page.keys(Keys.ESCAPE)
+        self.done(moves)
+
+    def type(self, before, text):
+        """Types before these words."""
+        self.page.click_text(before)
+        self.page.type(text)
+        self.steps += 1
+
+    def everywhere(self, count):
+        """The last tag on all places of its text."""
+        moves = self.page.moves()
+        self.page.keys(Keys.SHIFT, Keys.F4)
+        soon(lambda: self.page.find("#everywhere").is_displayed(), True, "the places")
+        same(len(self.page.texts("#everywhere li")), count, "so many places")
+        self.page.find("#everywhere .tag-all").click()
+        self.done(moves + 1)
+
+    def missing(self, name):
+        """Goes to the places that aren't finished up to this one, and takes over what is missing there."""
+        moves = self.page.moves()
+        for _ in range(8):
+            self.page.keys(Keys.F8)
+            self.steps += 1
+            soon(lambda: self.page.find("#reason .take").is_displayed(), True, "what is missing is told")
+            if self.page.texts(".chosen > .tag:not(.end)") == [name]:
+                break
+        self.page.find("#reason .take").click()
+        self.done(moves + 1)
+
+    def attribute(self, tag, nth, name, value):
+        moves = self.page.moves()
+        self.page.click_tag(tag, nth)
+        self.page.open_menu()
+        self.page.keys("attributes", Keys.ENTER)
+        soon(lambda: self.page.find("#attributes").is_displayed(), True, "the form")
+        self.page.keys(name, Keys.TAB, value)
+        self.page.find("#attributes .set").click()
+        self.done(moves + 1)
+
+    def key(self, moves, *keys):
+        self.page.keys(*keys)
+        self.done(moves)
+
+    def find(self, words):
+        """Finds words, and goes back to the document with them selected."""
+        self.page.keys(Keys.CONTROL, "f")
+        self.page.js("document.querySelector('#finder input').select()")
+        self.page.keys(words)
+        soon(lambda: self.page.find("#finder output").text, lambda text: text.startswith("1 of"), f"{words} is found")
+        self.page.keys(Keys.ESCAPE)
+        self.steps += 1
+
+    def around(self, tag, name):
+        """An element round another one, by its menu."""
+        moves = self.page.moves()
+        self.page.click_tag(tag)
+        self.page.choose("wrap", name)
+        self.done(moves + 1)
+
+    def erase(self, words, **which):
+        """Takes a text away."""
+        moves = self.page.moves()
+        self.page.select(words, **which)
+        self.page.open_menu()
+        self.page.keys(Keys.ESCAPE)
+        self.page.keys(Keys.DELETE)
+        self.done(moves + 1)
+
+    def action(self, tag, nth, action, name=None):
+        """An action of an element's menu."""
+        moves = self.page.moves()
+        self.page.click_tag(tag, nth)
+        if name:
+            self.page.choose(action, name)
+        else:
+            self.page.take(action)
+        self.done(moves + 1)
+
+    def preview(self, title):
+        """A look at what is missing in all."""
+        self.page.find("#preview").click()
+        soon(lambda: self.page.find("#completed h2").text, lambda text: text.startswith(title), "the preview")
+        self.steps += 1
+        self.page.find("#completed .close").click()
+        self.done(self.page.moves())
+
+    def insert(self, before, name):
+        """An element without content before these words."""
+        moves = self.page.moves()
+        self.page.click_text(before)
+        self.page.keys(Keys.CONTROL, Keys.ENTER)
+        self.page.take(name)
+        self.done(moves + 1)
+
+
+def tag_the_frame(user):
+    user.wrap("title", "Letter to Pieter")
+    user.around("title", "teiHeader")
+    user.wrap("text", "Leiden", "know why.")
+    user.wrap("opener", "Leiden", "Dear brother,")
+    user.wrap("dateline", "Leiden", "1764")
+    user.wrap("placeName", "Leiden")
+    user.wrap("date", "3 May 1764")
+    user.wrap("salute", "Dear brother,")
+    user.refused("opener", "I have", "Anna.", "opener")
+    user.wrap("p", "I have", "to Anna.")
+    user.wrap("p", "We saw:")
+    user.wrap("list", "the Old Church", "the market.")
+    user.wrap("item", "the Old Church")
+    user.again("the New Church")
+    user.again("the market.")
+    user.erase("; ")
+    user.erase("; ")
+    user.wrap("p", "From Delft", "12 May.")
+    user.wrap("closer", "Yours, Jan")
+    user.refused("closer", "PS Greet", "know why.", "closer")
+    user.wrap("postscript", "PS Greet", "know why.")
+    user.missing("postscript")
+
+
+def tag_the_names(user):
+    user.wrap("persName", "Mr Adams")
+    user.everywhere(1)
+    user.wrap("placeName", "Delft")
+    user.everywhere(1)
+    user.wrap("persName", "Anna")
+    user.everywhere(2)
+    user.wrap("placeName", "Leiden", nth=1)
+    user.everywhere(1)
+    user.again("London")
+    user.wrap("date", "12 May")
+    user.insert("Jan", "lb")
+    user.wrap("persName", "Jan")
+    user.wrap("hi", "Old")
+    user.again("New")
+    user.refused("list", "New", None, "hi can't hold list")
+    user.wrap("hi", "market")
+    user.key(user.page.moves() - 1, Keys.CONTROL, "z")
+    user.key(user.page.moves() + 1, Keys.CONTROL, "y")
+    user.key(user.page.moves() - 1, Keys.CONTROL, "z")
+    user.wrap("hi", "regards")
+    user.action("hi", 0, "rename", "date")
+    user.action("date", 1, "unwrap")
+
+
+def finish(user):
+    page = user.page
+    user.attribute("date", 0, "when", "1764-05-03")
+    user.attribute("date", 1, "when", "1764-05-12")
+    user.attribute("persName", 0, "key", "adams")
+    user.attribute("persName", 2, "key", "anna")
+    user.attribute("persName", 3, "key", "jan")
+    user.type("regards", "his ")
+    user.type("Pieter", "his brother ")
+    user.preview("Valid with 1 new element")
+    user.find("know why")
+    user.type("why.", Keys.ENTER)
+    user.missing("teiHeader")
+    page.find("#document .list.nothing").click()
+    page.type("Jan")
+    user.steps += 1
+
+
+def finishes_a_letter(driver, program):
+    with Server(program, None, ARTICLE, "TEI") as server:
+        server.write(DTD, "letter.dtd")
+        server.write(PLAIN, "plain.txt")
+        server.words[2] = server.path("letter.dtd")
+        server.start("--from", server.path("plain.txt"))
+        user = User(Page(driver, server.url))
+        tag_the_frame(user)
+        tag_the_names(user)
+        finish(user)
+        soon(user.page.status, "Valid", "the letter is valid")
+        user.page.keys(Keys.CONTROL, "s")
+        soon(lambda: user.page.find("#save").text, "Saved", "it is saved")
+        user.steps += 1
+        same(server.text(), WHOLE, "the letter")
+        ran = subprocess.run([program, "valid", server.words[2], "TEI", server.doc], capture_output=True, text=True)
+        same(ran.stdout, "valid\n", "what the program says of it")
+        need(user.steps >= STEPS, f"steps: {user.steps}")
+
+
+CASES = [finishes_a_letter]

@@ -1,0 +1,171 @@
+"""Tries `./pvtag` and tools/build with a stand-in for the kit's `rt`, in a copy of what they read. The last line tells how many passed."""
+import os
+import signal
+import shutil
+import subprocess
+import sys
+import tempfile
+import time
+from pathlib import Path
+
+from lib.counting import Expecting
+
+TOP = Path(__file__).resolve().parent.parent
+# It proves nothing: it tells what a run tells, and makes a program that prints the sum of a source.
+RT = """#!/bin/sh
+[ "$1" = ci ] || exit 9
+echo run >>"$RUNS"
+echo "rt: pv_steps proved"
+echo "rt: pv_chars is kept: an earlier run proved it"
+if [ -n "$SLOW" ]; then sleep "$SLOW" & echo $! >"$RUNS.asleep"; wait; fi
+if [ -n "$DIES" ]; then sleep 4321 & echo $! >"$RUNS.asleep"; kill -9 $$; fi
+if [ -n "$WRONG" ]; then
+    printf '== pv_model\\nan open goal\\nrt: pv_model NOT PROVED\\n== pv_dtd\\nrt: pv_dtd NOT PROVED\\n0 passed, 2 failed\\n'
+    exit 1
+fi
+mkdir -p crates/pvtag/out
+{ echo '#!/bin/sh'; echo "echo built of $(cksum <crates/pv_steps/src/lib.rt), \\"\\$@\\""; } >crates/pvtag/out/pvtag
+chmod +x crates/pvtag/out/pvtag
+[ ! -e crates/pv_steps/must-fail ] || exit 8
+echo "38 passed, 0 failed"
+"""
+
+
+class Trial(Expecting):
+    """A copy of what a build reads, and a stand-in on the path."""
+
+    def __init__(self, folder: Path) -> None:
+        super().__init__()
+        self.top = folder / "pvtag"
+        shutil.copytree(TOP / "crates", self.top / "crates", ignore=shutil.ignore_patterns("out", "proofs", "specs"))
+        (self.top / "docs").mkdir()
+        (self.top / "tools").mkdir()
+        for name in ("crates.txt", "HANDLES", "pvtag", "tools/build", "tools/processes.py", "docs/DEVELOPING.md"):
+            shutil.copy(TOP / name, self.top / name)
+        self.bin, self.runs = folder / "bin", folder / "runs"
+        self.bin.mkdir()
+        (self.bin / "rt").write_text(RT)
+        (self.bin / "rt").chmod(0o755)
+        self.runs.write_text("")
+
+    def start(self, *words: str, **more: str) -> subprocess.Popen[str]:
+        self.runs.with_name("runs.asleep").unlink(missing_ok=True)
+        variables = {**os.environ, "PATH": f"{self.bin}:{os.environ['PATH']}", "RUNS": str(self.runs), **more}
+        return subprocess.Popen([words[0] if words[0] == "sh" else str(self.top / words[0]), *words[1:]], env=variables, text=True, stdout=subprocess.PIPE,
+                                stderr=subprocess.PIPE, start_new_session=True)
+
+    def run(self, *words: str, **more: str) -> tuple[int, str, str]:
+        run = self.start(*words, **more)
+        said, errors = run.communicate(timeout=60)
+        return run.returncode, said, errors
+
+    def asleep(self) -> int:
+        """The process that a stand-in has begun, once it has."""
+        told = self.runs.with_name("runs.asleep")
+        while not told.exists() or not told.read_text().endswith("\n"):
+            time.sleep(0.05)
+        number = int(told.read_text())
+        told.unlink()
+        return number
+
+    def has_ended(self, number: int) -> bool:
+        return not Path(f"/proc/{number}").exists() or b") Z " in Path(f"/proc/{number}/stat").read_bytes()
+
+    def count(self) -> int:
+        return len(self.runs.read_text().splitlines())
+
+
+def try_failures(trial: Trial) -> None:
+    """A build that fails, is ended, or finds no kit: it says so, and leaves no program."""
+    told = trial.run("pvtag", "a", WRONG="1")
+    trial.expect("a failed build", told[0] == 10 and told[1] == "" and "pv_model couldn't be built:\n== pv_model\nan open goal" in told[2], told)
+    for number in (signal.SIGINT, signal.SIGTERM, signal.SIGHUP):
+        run = trial.start("pvtag", "a", SLOW="4321")
+        asleep = trial.asleep()
+        os.killpg(run.pid, number)
+        run.communicate(timeout=20)
+        trial.expect("an interrupted build ends", run.returncode != 0 and trial.has_ended(asleep), (number, run.returncode))
+    told = trial.run("pvtag", "a", DIES="1")
+    trial.expect("a killed run of the kit", told[0] == 10 and "ended by signal 9" in told[2] and trial.has_ended(trial.asleep()), told)
+    told = trial.run("sh", "-c", f"ulimit -f 8; {trial.top}/pvtag a")
+    trial.expect("no room to write", told[0] == 10 and len(told[2].splitlines()) == 3 and "couldn't be built: [Errno" in told[2], told)
+    told = trial.run("sh", "-c", f"{trial.top}/pvtag a 2>&-", WRONG="1")
+    trial.expect("no standard error", told == (10, "", ""), told)
+    # The folders of the system alone, in which the kit isn't.
+    told = trial.run("pvtag", "a", PATH=str(Path(sys.executable).parent) + ":/usr/bin:/bin")
+    if not shutil.which("rt", path=f"{Path(sys.executable).parent}:/usr/bin:/bin"):
+        trial.expect("no kit", told[0] == 10 and "no `rt` on the path" in told[2], told)
+    trial.expect("no program is left", not (trial.top / "build" / "pvtag").exists())
+
+
+def try_builds(trial: Trial) -> None:
+    """Builds: one for two calls at once, none while nothing changes or is asked for, one by a word of its own."""
+    before = trial.count()
+    both = [trial.start("pvtag", "a", "b c", SLOW="1") for _ in range(2)]
+    told = [(*run.communicate(timeout=60), run.returncode) for run in both]
+    trial.expect("two calls at once", all(status == 0 and said.startswith("built of ") and said.endswith(", a b c\n") for said, _, status in told), told)
+    trial.expect("one build for both", trial.count() == before + 1, trial.count())
+    trial.expect("one waits", sum("waiting for a build" in errors for _, errors, _ in told) == 1, told)
+    trial.expect("it is of its sources", trial.run("tools/build", "--check")[0] == 0)
+    first = told[0][0]
+    with (trial.top / "crates/pv_steps/src/lib.rt").open("a") as source:
+        source.write("// changed\n")
+    trial.expect("it is older than its sources", trial.run("tools/build", "--check")[0] == 1)
+    trial.expect("a call takes what is built", trial.run("pvtag", "a", "b c")[1] == first and trial.count() == before + 1)
+    trial.expect("a build by its word", trial.run("tools/build")[0] == 0 and trial.run("pvtag", "a", "b c")[1] != first)
+    trial.expect("nothing is built twice", trial.run("tools/build")[0] == 0 and trial.count() == before + 2, trial.count())
+
+
+def try_changes(trial: Trial) -> None:
+    """The sum beside the program is that of what it was built of, whatever changes meanwhile."""
+    source = trial.top / "crates/pv_steps/src/lib.rt"
+    before = source.read_bytes()
+    source.write_bytes(before + b"// for a while\n")
+    run = trial.start("tools/build", SLOW="2")
+    trial.asleep()
+    source.write_bytes(before)
+    run.communicate(timeout=60)
+    trial.expect("sources that change during a build", run.returncode == 0 and trial.run("tools/build", "--check")[0] == 1)
+    told = trial.run("tools/build", "--sum")[1].strip()
+    source.write_bytes(before + b"// later\n")
+    trial.run("tools/build", "--put", str(trial.top / "build/pvtag"), told)
+    trial.expect("a sum that is told", trial.run("tools/build", "--check")[0] == 1)
+    source.write_bytes(before)
+    trial.expect("the sum of those sources", trial.run("tools/build", "--check")[0] == 0)
+    told = trial.run("tools/build", "--put", str(trial.top / "nothing"))
+    trial.expect("nothing to put", told[0] == 1 and len(told[2].splitlines()) == 1 and trial.run("tools/build", "--check")[0] == 0, told)
+
+
+def try_placing(trial: Trial) -> None:
+    """A program that a run over these sources made is put in place; a link to the script works; other words are refused."""
+    other = trial.top / "other"
+    other.write_text("#!/bin/sh\necho other\n")
+    other.chmod(0o755)
+    told = trial.run("tools/build", "--put", str(other))
+    trial.expect("what was built elsewhere", told[0] == 0 and trial.run("pvtag")[1] == "other\n", told)
+    trial.expect("it counts as built of the sources", trial.run("tools/build", "--check")[0] == 0)
+    (trial.top / "link").symlink_to("pvtag")
+    trial.expect("by a link", trial.run("link")[1] == "other\n")
+    odd = trial.top / "-a folder"
+    odd.mkdir()
+    (odd / "link").symlink_to("../pvtag")
+    for command in ("sh pvtag", "sh ./pvtag", "sh -- '-a folder/link'", "cd '-a folder' 2>/dev/null || cd './-a folder'; ./link"):
+        told = trial.run("sh", "-c", f"cd '{trial.top}' && {command}")
+        trial.expect(f"by {command}", told == (0, "other\n", ""), told)
+    trial.expect("other words", trial.run("tools/build", "now")[0] == 2)
+    left = sorted(it.name for it in (trial.top / "build").iterdir())
+    trial.expect("nothing else is left", left == ["lock", "pvtag", "pvtag.sum"], left)
+
+
+def main() -> int:
+    with tempfile.TemporaryDirectory(prefix="pvtag-trial-") as folder:
+        trial = Trial(Path(folder))
+        try_failures(trial)
+        try_builds(trial)
+        try_changes(trial)
+        try_placing(trial)
+    return trial.ended()
+
+
+if __name__ == "__main__":
+    sys.exit(main())

@@ -1,0 +1,307 @@
+"""Tries what clients say of files that the program refuses, and the commands `why`, `complete` and `ranges` on files.
+
+Words: PROGRAM ROUNDS SEED. Whatever bytes of random files are changed, what is refused is told with the file's name
+and a place in it; a row of known faults is told in known words, and each line of packs, denials and ranges by its
+place. Commands name the file that they can't use. A document goes through `ranges` and `standoff` and comes back.
+Prints each difference, and how many cases passed; ends with 1 where one failed.
+"""
+import functools
+import os
+import random
+import subprocess
+import sys
+import tempfile
+
+sys.dont_write_bytecode = True
+
+from annotate_fixture import EXAMPLES, need, run_cases, same  # noqa: E402
+from random_files import ANY, CLIENTS, NAMES, document, dtd, text, write  # noqa: E402
+
+from pvtag.faults import fault_of  # noqa: E402
+from pvtag.places import Source  # noqa: E402
+from pvtag.program import file_of, run  # noqa: E402
+
+
+# ---- faults ----
+
+
+def tells_faults(program, rounds):
+    """Whatever bytes are changed, what is refused is told with the file's name, a sentence, and a place in the file."""
+    with tempfile.TemporaryDirectory() as folder:
+        flat, path = os.path.join(folder, "a.dtd"), os.path.join(folder, "a.xml")
+        refused = 0
+        for _ in range(rounds):
+            data, root = document()
+            declared = ANY.encode() if random.random() < 0.7 else dtd(True)
+            for _ in range(random.randint(0, 2)):
+                data, declared = (hurt(each) if random.random() < 0.5 else each for each in (data, declared))
+            write(flat, declared)
+            write(path, data)
+            ran = run([program], "valid", flat, root, path)
+            if ran.status < 2:
+                continue
+            refused += 1
+            files = {"dtd": Source("a.dtd", declared), "document": Source("a.xml", data)}
+            fault = fault_of(ran.status, ran.line, files)
+            name, size = ("a.dtd", len(declared)) if ran.status == 6 else ("a.xml", len(data))
+            same(fault.file, name, f"the file of {ran.line}")
+            need(
+                fault.span is None or 0 <= fault.span.start <= fault.span.end <= size,
+                f"the span {fault.span} of {ran.line}",
+            )
+            need(
+                fault.span is not None or "dtd param" in ran.line or declared != ANY.encode(),
+                f"a place for {ran.line} in {data!r}",
+            )
+            need(str(fault).startswith(name) and len(fault.sentence) > 10, f"a sentence: {fault}")
+        need(refused > rounds // 4, f"too few files were refused: {refused}")
+
+
+def hurt(data):
+    at = random.randint(0, len(data))
+    return (
+        data[:at]
+        + random.choice([b"<", b">", b"&", b"&x;", b"\xff", b"\0", b"</a>", b"]]>", b"%x;", b"<!", b"'", b""])
+        + data[at + random.randint(0, 3) :]
+    )
+
+
+KNOWN = [
+    ("<doc><p>a</doc>", "1:10: `</doc>` stands where `p` (line 1) is still open"),
+    ("<doc>\n<p>", "2:4: the file ends before `p` (line 2) has ended"),
+    ("<doc/></doc>", "1:7: `</doc>` closes nothing"),
+    ("<doc>a & b</doc>", "1:8: `&` begins no reference"),
+    ("<doc>é ]]> b</doc>", "1:8: `]]>` stands in a text"),
+    ("<doc>&eacute;</doc>", "1:6: `&eacute;` refers to an entity; `lt`, `gt`, `amp`, `apos` and `quot` alone are read"),
+    ("<doc/>late", "1:7: text stands outside of the root"),
+    ("<doc/><doc/>", "1:7: a second element stands behind the root"),
+    ("<doc><p a=b/></doc>", "1:6: a tag is `<`, a name, attributes with values in quotes, and `>` or `/>`"),
+    ("<doc a='&'/>", "1:9: `&` begins no reference"),
+    ("<!DOCTYPE doc [<!ELEMENT doc ANY>]><doc/>", "1:1: declarations in the document's type declaration aren't read"),
+    ("", "1:1: there is no root element"),
+]
+
+
+KNOWN_DTDS = [
+    ("<!ELEMENT a EMPTY>\n<!ELEMENT a ANY>", "2:1: `a` is declared a second time"),
+    ("<!--c-->\n <!ELEMENT a (#PCDATA|b|b)*>", "2:2: a mixed model names an element type twice"),
+    ("<!ELEMENT a (b,>", "1:1: this element declaration isn't of its form"),
+    (
+        "<!ELEMENT a EMPTY>\né",
+        "2:1: no declaration, comment or instruction of a DTD stands here, or one that isn't of its form",
+    ),
+    ("<!ELEMENT a (%b;)>", "1:14: a parameter entity is referred to that isn't declared before"),
+    (
+        "<!ENTITY % x '(b)'>\n<!ELEMENT a %x;>\n<!ELEMENT b %y;>",
+        "3:13: a parameter entity is referred to that isn't declared before",
+    ),
+    ("<!ENTITY % a '&#37;a;'>\n%a;", "2:1: a parameter entity refers to itself"),
+    ("<!ENTITY % x 'y'>\n%x;", "2:1: a parameter entity's text can't stand where it is referred to"),
+    (" <![INCLUDE[]]>", "1:2: a conditional section isn't read; tools/flatten makes a plain DTD of one in modules"),
+    (
+        "<!ENTITY % m SYSTEM 'm'>",
+        "1:1: a parameter entity in another file isn't read; tools/flatten makes a plain DTD of one in modules",
+    ),
+    ("<!ELEMENT a ANY>\n%", "2:1: a parameter entity or a conditional section stands where none is read"),
+    ("<!ENTITY % d '<!ELEMENT a ANY> <!ELEMENT a ANY>'>\n%d;", "2:1: an element type is declared a second time"),
+    (
+        "<!ELEMENT a " + 65 * "(" + "b" + 65 * ")" + ">",
+        "1:1: a limit is passed: of nesting, names, their length or the parts of content models",
+    ),
+]
+
+
+def tells_known_faults(program):
+    for made, sentence in KNOWN_DTDS:
+        with file_of(made.encode(), ".dtd") as flat:
+            ran = run([program], "dtd", flat)
+        same(
+            str(fault_of(ran.status, ran.line, {"dtd": Source("f", made.encode())})),
+            f"f:{sentence}",
+            f"what is told of {made}: {ran.line}",
+        )
+    deep = b"<doc>\n" * 513
+    with file_of(b"<!ELEMENT doc ANY>", ".dtd") as flat, file_of(deep) as path:
+        ran = run([program], "valid", flat, "doc", path)
+    same(fault_of(ran.status, ran.line, {"document": Source("f", deep)}).place, (513, 1), f"the place of {ran.line}")
+    with file_of(b"<!ELEMENT doc ANY><!ELEMENT p ANY>", ".dtd") as flat:
+        for made, sentence in KNOWN:
+            with file_of(made.encode()) as path:
+                ran = run([program], "valid", flat, "doc", path)
+            same(
+                str(fault_of(ran.status, ran.line, {"document": Source("f", made.encode())})),
+                f"f:{sentence}",
+                f"what is told of {made}",
+            )
+
+
+def tells_lines(program):
+    """Whatever line of a pack, a denial or ranges is no such line, its place is told."""
+    letter, draft, swapped = (
+        os.path.join(EXAMPLES, name) for name in ("letter.dtd", "letter-draft.xml", "letter-swapped.xml")
+    )
+    words = os.path.join(EXAMPLES, "letter-text.txt")
+    pack, table = (
+        run([program], "complete", letter, "letter", draft).output,
+        run([program], "why", letter, "letter", swapped).output,
+    )
+    with open(os.path.join(EXAMPLES, "letter-ranges.txt"), "rb") as file:
+        ranges = file.read()
+    for word, data, *command in (
+        ("pack", pack, "verify", letter, "letter", draft),
+        ("table", table, "deny", letter, "letter", swapped),
+        ("ranges", ranges, "standoff", letter, "letter", words),
+    ):
+        body = data.find(b"<letter>"), data.find(b"</letter>")
+        at = 0
+        for line in data.splitlines(keepends=True):
+            if word != "pack" or not body[0] <= at <= body[1] + 20:
+                broken = data[:at] + b"?" + data[at:]
+                with file_of(broken) as path:
+                    ran = run([program], *command, path)
+                need(ran.status == 9 and ran.line.startswith(f"{word} line "), f"a line that is none: {ran}")
+                fault = fault_of(ran.status, ran.line, {word: Source("f", broken)})
+                same(fault.span.start, at, f"the place of {ran.line} in {broken!r}")
+            at += len(line)
+    with file_of(b"0 1 0 a\n5 5 0 b\n") as path:
+        ran = run([program], "standoff", letter, "letter", words, path)
+        same(
+            str(fault_of(ran.status, ran.line, {"ranges": Source("f", b"0 1 0 a\n5 5 0 b\n")})),
+            "f:2:1: the range is empty, or ends behind the text",
+            "a range",
+        )
+
+
+# ---- commands ----
+
+
+def command(name, *words):
+    ran = subprocess.run([sys.executable, os.path.join(CLIENTS, name), *words], capture_output=True)
+    return ran.returncode, ran.stdout, ran.stderr.decode()
+
+
+def refuses_bad_files(program):
+    """Each command names the file that it can't use."""
+    letter, draft = os.path.join(EXAMPLES, "letter.dtd"), os.path.join(EXAMPLES, "letter-draft.xml")
+    with tempfile.TemporaryDirectory() as folder:
+        odd = os.path.join(folder, "none\n\udcff.xml")
+        bad = os.path.join(folder, "bad.xml")
+        write(bad, b"<letter>\n<a></b>")
+        for name in ("why", "complete"):
+            for dtd_path, doc, status, word in (
+                (letter, odd, 3, "none"),
+                (letter, folder, 3, os.path.basename(folder)),
+                (odd, draft, 3, "none"),
+                (letter, bad, 7, "bad.xml:2:4: "),
+                (bad, draft, 6, "bad.xml:1:1: "),
+            ):
+                got, out, said = command(name, dtd_path, "letter", doc, "--program", program)
+                same((got, out), (status, b""), f"{name} {doc!r}: {said}")
+                need(word in said and "Traceback" not in said, f"{name} names {word}: {said}")
+            got, out, said = command(name, letter, "no name", draft, "--program", program)
+            same((got, out), (2, b""), f"{name} with a ROOT that is no name: {said}")
+            got, out, said = command(name, letter, "letter", draft, "--program", os.path.join(folder, "no-program"))
+            need(got == 3 and "no-program" in said and "Traceback" not in said, f"{name} without a program: {said}")
+        got, out, said = command("why", letter, "letter", draft, "--program", "/bin/true")
+        same((got, out), (3, b""), f"a program that gives no verdict: {said}")
+        got, out, said = command("why", letter, "letter", draft, "--all", "--program", program)
+        same((got, out), (1, b"possible\n"), "why --all of a draft")
+        for doc, status in ((odd, 3), (bad, 7)):
+            got, out, said = command("ranges", doc, "--program", program)
+            need(
+                got == status and not out and "Traceback" not in said and os.path.basename(doc)[:3] in said,
+                f"ranges {doc!r}: {said}",
+            )
+
+
+def reads_and_writes_pipes(program):
+    """A pipe is read once; an output that fails is told by the status."""
+    letter, swapped = os.path.join(EXAMPLES, "letter.dtd"), os.path.join(EXAMPLES, "letter-swapped.xml")
+    words = [sys.executable, os.path.join(CLIENTS, "why"), letter, "letter", "/dev/stdin", "--program", program]
+    with open(swapped, "rb") as file:
+        ran = subprocess.run(words, input=file.read(), capture_output=True)
+    same((ran.returncode, ran.stdout[:20]), (0, b"/dev/stdin:3:1: `clo"), f"why by a pipe: {ran.stderr}")
+    for name, doc in (("why", swapped), ("complete", os.path.join(EXAMPLES, "letter-draft.xml"))):
+        words = [sys.executable, os.path.join(CLIENTS, name), letter, "letter", doc, "--program", program]
+        with open("/dev/full", "wb") as full:
+            ran = subprocess.run(words, stdout=full, stderr=subprocess.PIPE)
+        same((ran.returncode, b"Traceback" in ran.stderr), (4, False), f"{name} on a full device: {ran.stderr}")
+        reader, writer = os.pipe()
+        os.close(reader)
+        ran = subprocess.run(words, stdout=writer, stderr=subprocess.PIPE)
+        os.close(writer)
+        same((ran.returncode, ran.stderr), (4, b""), f"{name} on a closed pipe")
+
+
+def completes(program):
+    letter, draft = os.path.join(EXAMPLES, "letter.dtd"), os.path.join(EXAMPLES, "letter-draft.xml")
+    got, out, said = command("complete", letter, "letter", draft, "--program", program)
+    same((got, said, b"<salute>" in out), (0, "", True), "a completion")
+    with file_of(out) as path:
+        same(run([program], "valid", letter, "letter", path).line, "valid", "the completed letter")
+    got, out, said = command(
+        "complete", letter, "letter", os.path.join(EXAMPLES, "letter-swapped.xml"), "--program", program
+    )
+    same((got, out), (1, b""), "no completion")
+    need("letter-swapped.xml:3:1: `closer` (line 2)" in said and "`body`" in said, f"its reason: {said}")
+
+
+def goes_and_comes_back(program, rounds):
+    """What `standoff` makes is taken apart into the same text and ranges, and is made again."""
+    letter = os.path.join(EXAMPLES, "letter.dtd")
+    with tempfile.TemporaryDirectory() as folder:
+        text_path, ranges_path, doc = (os.path.join(folder, name) for name in ("a.txt", "a.ranges", "a.xml"))
+        for _ in range(rounds):
+            write(text_path, (random.choice(["", "\ufeff"]) + text()).encode())
+            write(ranges_path, "".join(sorted(nested(0, 8, 4))).encode())
+            ran = run([program], "standoff", letter, "letter", text_path, ranges_path)
+            if ran.status > 1:
+                continue
+            made = ran.output.split(b"\n", 2)[2][:-1]
+            write(doc, made)
+            got = command("ranges", doc, "--program", program), command("ranges", "--text", doc, "--program", program)
+            same([each[0] for each in got], [0, 0], f"statuses: {got}")
+            write(ranges_path, got[0][1])
+            write(text_path, got[1][1])
+            again = run([program], "standoff", letter, "letter", text_path, ranges_path)
+            same(again.output, ran.output, f"the way there and back of {made!r}")
+        write(doc, "\ufeff<a><!--c--><b x='1'>té<![CDATA[<]]></b><c/></a>".encode())
+        got, out, said = command("ranges", doc, "--program", program)
+        same((got, out), (1, b"0 3 0 b\n"), "what is left out of ranges")
+        for word in ("1 comments", "1 CDATA sections", "1 elements without text", "1 elements' attributes"):
+            need(word in said, f"{word}: {said}")
+        same(command("ranges", "--text", doc, "--program", program)[1].decode(), "té&lt;", "its text")
+
+
+def nested(start, end, depth):
+    """Lines of ranges, one inside another."""
+    lines, at = set(), start
+    while at < end:
+        to = random.randint(at + 1, end)
+        if random.random() < 0.7:
+            lines |= {f"{at} {to} {level} {random.choice(NAMES)}\n" for level in range(random.choice([1, 1, 2]))}
+            if depth:
+                lines |= {line for line in nested(at, to, depth - 1) if not line.startswith(f"{at} {to} ")}
+        at = to
+    return lines
+
+
+def main():
+    program, rounds, seed = os.path.abspath(sys.argv[1]), int(sys.argv[2]), int(sys.argv[3])
+    random.seed(seed)
+    cases = [
+        functools.partial(tells_faults, program, 4 * rounds),
+        functools.partial(tells_known_faults, program),
+        functools.partial(tells_lines, program),
+        functools.partial(refuses_bad_files, program),
+        functools.partial(reads_and_writes_pipes, program),
+        functools.partial(completes, program),
+        functools.partial(goes_and_comes_back, program, max(10, rounds // 5)),
+    ]
+    for case in cases:
+        case.__name__ = case.func.__name__
+    sys.exit(run_cases("the files of clients", cases))
+
+
+if __name__ == "__main__":
+    main()

@@ -1,0 +1,177 @@
+"""Tries `clients/lsp` in Neovim and in Emacs with eglot, each with its own client: diagnostics, completion, code
+actions, undo.
+
+Words: PROGRAM, and the most seconds for one step. Under the letter's DTD, and where Debian's packages w3c-sgml-lib and
+docbook-xml are, under XHTML and DocBook. An editor that is missing is skipped. Prints each difference, and how many
+cases passed; ends with 1 where one failed.
+"""
+import glob
+import json
+import os
+import shutil
+import subprocess
+import sys
+import tempfile
+
+sys.dont_write_bytecode = True
+
+from lsp_client import EXAMPLES, SERVER, TOP, Fault, need, same  # noqa: E402
+
+STRICT = "/usr/share/xml/w3c-sgml-lib/schema/dtd/REC-xhtml1-20020801/xhtml1-strict.dtd"
+PACKAGES = "/usr/share/emacs/site-lisp/elpa/"
+DOCBOOK = "/usr/share/xml/docbook/schema/dtd/4.5/docbookx.dtd"
+
+
+class Case:
+    """A draft, where a `<` is typed and what is chosen then, what is wrapped, and what is inserted at last."""
+
+    def __init__(self, name, dtd, root, draft, typed, chosen, wrapped, mended):
+        self.name, self.dtd = name, dtd
+        self.text = f'<!DOCTYPE {root} SYSTEM "{dtd}">\n' + draft
+        # A piece of the draft before which the `<` is typed; the name that is chosen, and what it is then.
+        self.typed, (self.chosen, self.tags) = typed, chosen
+        # A piece of a line, and the name that it is wrapped in.
+        self.piece, self.wrapper = wrapped
+        # The title of the last action.
+        self.mended = mended
+
+    def place(self, piece):
+        """Line, from 1, and column of a piece."""
+        before = self.text[: self.text.index(piece)]
+        return [before.count("\n") + 1, len(before) - before.rfind("\n") - 1]
+
+    def asked(self, file, program, seconds):
+        line, column = self.place(self.piece)
+        return {
+            "file": file,
+            "server": [sys.executable, SERVER, "--program", program],
+            "seconds": seconds,
+            "lines": self.text.splitlines(),
+            "type": self.place(self.typed),
+            "choose": self.chosen,
+            "wrap": [f"Wrap in <{self.wrapper}>", line, column, column + len(self.piece)],
+            "mend": self.mended,
+        }
+
+    def judge(self, told):
+        need("fault" not in told, told.get("fault"))
+        need(self.chosen in told["labels"], f"what may stand here: {told['labels']}")
+        same(told["completed"], self.text.replace(self.typed, self.tags + self.typed), "completed")
+        same(
+            told["wrapped"], self.text.replace(self.piece, f"<{self.wrapper}>{self.piece}</{self.wrapper}>"), "wrapped"
+        )
+        same(told["unwrapped"], self.text, "an undo")
+        need(told["mended"] != self.text, "nothing was inserted")
+        same(told["undone"], self.text, "an undo of all")
+        need(any("missing." in str(each) for each in told["diagnostics"]), told["diagnostics"])
+
+
+CASES = [
+    Case(
+        "letter",
+        os.path.join(EXAMPLES, "letter.dtd"),
+        "letter",
+        "<letter><opener>Dear brother,</opener>\n<body><p>I have met Mr Adams in Delft.</p></body></letter>\n",
+        " met",
+        ("person", "<person></person>"),
+        ("Mr Adams", "person"),
+        "Insert 1 missing element",
+    ),
+    Case(
+        "XHTML",
+        STRICT,
+        "html",
+        '<html><h1>Cafes in Delft</h1>\nMost open early; <a href="https://example.org/delft">the town</a> tells when.\n'
+        "<ul>Cafe Central\nby the Old Church</ul></html>\n",
+        " in Delft",
+        ("em", "<em></em>"),
+        ("open early", "em"),
+        "Insert 5 missing elements",
+    ),
+    Case(
+        "DocBook",
+        DOCBOOK,
+        "article",
+        "<article><title>Cafes in Delft</title>\n<para>Most open early.</para>"
+        "<itemizedlist>Cafe Central</itemizedlist></article>\n",
+        " open",
+        ("emphasis", "<emphasis></emphasis>"),
+        ("early", "emphasis"),
+        "Insert 2 missing elements",
+    ),
+]
+
+
+def neovim(told, asked):
+    script = os.path.join(TOP, "tests", "lsp_neovim.lua")
+    return ["nvim", "--clean", "--headless", "-n", "-c", f"luafile {script}"], {
+        "PVTAG_ASKED": asked,
+        "PVTAG_TOLD": told,
+    }
+
+
+def emacs(told, asked):
+    script = os.path.join(TOP, "tests", "lsp_emacs.el")
+    folders = [word for folder in glob.glob(PACKAGES + "*") for word in ("-L", folder)]
+    return ["emacs", "-Q", "--batch", *folders, "-l", script], {"PVTAG_ASKED": asked, "PVTAG_TOLD": told}
+
+
+def run(editor, case, program, seconds):
+    folder = tempfile.mkdtemp()
+    try:
+        file, asked, told = (os.path.join(folder, name) for name in ("draft.xml", "asked.json", "told.json"))
+        with open(file, "w", encoding="utf-8") as out:
+            out.write(case.text)
+        with open(asked, "w", encoding="utf-8") as out:
+            json.dump(case.asked(file, program, seconds), out)
+        words, more = editor(told, asked)
+        ran = subprocess.run(
+            words,
+            env=os.environ | more | {"HOME": folder},
+            capture_output=True,
+            text=True,
+            timeout=20 * seconds,
+            cwd=folder,
+            stdin=subprocess.DEVNULL,
+        )
+        if not os.path.exists(told):
+            raise Fault(f"status {ran.returncode}: {ran.stdout[-2000:]}{ran.stderr[-2000:]}")
+        with open(told, encoding="utf-8") as made:
+            case.judge(json.load(made))
+    finally:
+        shutil.rmtree(folder)
+
+
+def has_eglot():
+    return bool(
+        glob.glob(PACKAGES + "eglot-*")
+        or glob.glob("/usr/share/emacs/2[9-9]*/lisp/progmodes/eglot.el*")
+        or glob.glob("/usr/share/emacs/[3-9]*/lisp/progmodes/eglot.el*")
+    )
+
+
+def main():
+    program, seconds = os.path.abspath(sys.argv[1]), int(sys.argv[2]) if len(sys.argv) > 2 else 30
+    passed = failed = 0
+    for editor, is_there in ((neovim, shutil.which("nvim")), (emacs, shutil.which("emacs") and has_eglot())):
+        if not is_there:
+            print(f"skipped: the language server in {editor.__name__} (it isn't installed)")
+            continue
+        for case in CASES:
+            if sys.argv[3:] and f"{editor.__name__}-{case.name}" not in sys.argv[3:]:
+                continue
+            if not os.path.exists(case.dtd):
+                print(f"skipped: the language server under {case.name} (no {case.dtd})")
+                continue
+            try:
+                run(editor, case, program, seconds)
+                passed += 1
+            except Exception as fault:
+                failed += 1
+                print(f"differs: {editor.__name__}, {case.name}: {type(fault).__name__}: {fault}", flush=True)
+    print(f"{passed} passed, {failed} failed")
+    return 1 if failed else 0
+
+
+if __name__ == "__main__":
+    sys.exit(main())

@@ -1,0 +1,304 @@
+"""Tries how `clients/lsp` keeps to the protocol, by a scripted client: its life, bad messages and requests, where DTDs
+are found.
+
+Words: PROGRAM, and the names of cases where not all are wanted. Prints each difference, and how many cases passed;
+ends with 1 where one failed.
+"""
+import os
+import shutil
+import sys
+import tempfile
+import time
+
+sys.dont_write_bytecode = True
+
+from lsp_client import (  # noqa: E402
+    DRAFT,
+    EXAMPLES,
+    LETTER,
+    URI,
+    Client,
+    edits_of,
+    finished,
+    need,
+    run_cases,
+    same,
+    uri_of,
+)
+
+OUTLINE = {"textDocument": {"uri": URI}}
+
+
+# Where the DTD is.
+def finds_dtds(program):
+    folder = tempfile.mkdtemp()
+    try:
+        shutil.copy(os.path.join(EXAMPLES, "letter.dtd"), os.path.join(folder, "my letter.dtd"))
+        with open(os.path.join(folder, "part.mod"), "w", encoding="utf-8") as file:
+            file.write("<!ELEMENT a (b)>")
+        with open(os.path.join(folder, "all.dtd"), "w", encoding="utf-8") as file:
+            file.write('<!ENTITY % part SYSTEM "part.mod">\n%part;\n<!ELEMENT b EMPTY>')
+        body = "<letter><opener/></letter>"
+        has_lxml = any(
+            not os.system(f"{python} -c 'import lxml' 2>/dev/null") for python in (sys.executable, "/usr/bin/python3")
+        )
+        for text, options in (
+            ("<!DOCTYPE letter SYSTEM 'my%20letter.dtd'>" + body, None),
+            ("<!DOCTYPE letter SYSTEM 'my letter.dtd'>" + body, None),
+            (f"<!DOCTYPE letter SYSTEM 'file://{folder}/my%20letter.dtd'>" + body, None),
+            ("<?xml version='1.0'?>\n<?pvtag dtd='my letter.dtd' root=\"letter\"?>" + body, None),
+            ("<?pvtag dtd='my letter.dtd'?>" + body, None),
+            (body, {"dtd": os.path.join(EXAMPLES, "letter.dtd"), "root": "letter"}),
+            (body, {"dtd": os.path.join(EXAMPLES, "letter.dtd")}),
+            *([("<!DOCTYPE a SYSTEM 'all.dtd'><a/>", None)] if has_lxml else []),
+        ):
+            with Client(program, options=options) as client:
+                uri = uri_of("d.xml", folder)
+                client.open(uri, text)
+                need(client.diagnostics(uri, finished), text)
+    finally:
+        shutil.rmtree(folder)
+
+
+def tells_once_what_is_not_found(program):
+    with Client(program) as client:
+        for text in ("<a/>", "<!DOCTYPE a SYSTEM 'nothing.dtd'><a/>", "<!DOCTYPE a SYSTEM 'letter.xml'><a/>"):
+            client.open(URI, text)
+            message = client.wait(lambda each: each.get("method") == "window/showMessage", "a message")
+            need(message["params"]["message"].startswith("pvtag: "), message)
+            same(client.diagnostics(URI), [], "no diagnostics")
+            for count in range(3):
+                client.change(URI, len(text) - 2, len(text) - 2, " ")
+                client.diagnostics(URI)
+                same(client.labels(URI, len(text)), [], "nothing is offered")
+                same(client.ask("textDocument/hover", client.about(URI, len(text) - 2)), None, "nothing is shown")
+            same([each for each in client.aside if each.get("method") == "window/showMessage"], [], "once")
+            need(client.ask("textDocument/documentSymbol", OUTLINE), "the outline needs no DTD")
+            same(
+                len(edits_of(client.ask("textDocument/rename", client.about(URI, len(text) - 2, newName="b")))),
+                1,
+                "nor a new name",
+            )
+    with Client("/nowhere/pvtag") as client:
+        client.open(URI, DRAFT)
+        client.wait(lambda each: each.get("method") == "window/showMessage", "a message")
+
+
+# The protocol.
+def keeps_to_its_life(program):
+    with Client(program, begins=False) as client:
+        same(client.error("textDocument/hover", {}), -32002, "before the start")
+        client.tell("textDocument/didOpen", {})
+        client.ask("initialize", {"capabilities": {}})
+        same(client.error("initialize", {"capabilities": {}}), -32600, "a second start")
+        same(client.ask("shutdown", None), None, "shutdown")
+        same(client.error("textDocument/hover", {}), -32600, "behind it")
+        client.tell("exit", None)
+        same(client.process.wait(20), 0, "the status")
+    for end in ("exit", None):
+        with Client(program) as client:
+            client.tell(end, None) if end else client.process.stdin.close()
+            same(client.process.wait(20), 1, "an end without shutdown")
+
+
+def refuses_nonsense(program):
+    with Client(program) as client:
+        client.open(URI, DRAFT)
+        same(client.error("textDocument/nothing", {}), -32601, "no such request")
+        same(client.error("$/nothing", {}), -32601, "no such request")
+        client.tell("$/nothing", {})
+        client.tell("textDocument/nothing", [])
+        for method in (
+            "completion",
+            "codeAction",
+            "hover",
+            "documentSymbol",
+            "prepareRename",
+            "rename",
+            "linkedEditingRange",
+        ):
+            for params in (
+                None,
+                [],
+                5,
+                {},
+                {"textDocument": 5},
+                {"textDocument": {"uri": 5}},
+                {"textDocument": {"uri": uri_of("closed.xml")}},
+            ):
+                same(client.error(f"textDocument/{method}", params), -32602, f"{method} {params}")
+            if method != "documentSymbol":
+                for place in (
+                    None,
+                    5,
+                    {},
+                    {"line": -1, "character": 0},
+                    {"line": 0.5, "character": 0},
+                    {"line": True, "character": 0},
+                    {"line": "0", "character": 0},
+                    {"line": 10**30, "character": 0},
+                ):
+                    params = {
+                        "textDocument": {"uri": URI},
+                        "position": place,
+                        "newName": "x",
+                        "range": {"start": place, "end": place},
+                    }
+                    same(client.error(f"textDocument/{method}", params), -32602, f"{method} at {place}")
+        span = {"start": {"line": 1, "character": 5}, "end": {"line": 0, "character": 5}}
+        same(
+            client.error("textDocument/codeAction", {"textDocument": {"uri": URI}, "range": span}),
+            -32602,
+            "a range from its end",
+        )
+        for action in (
+            {},
+            {"title": "x"},
+            {"data": 5},
+            {"data": {"uri": 5}},
+            {"data": {"uri": uri_of("closed.xml"), "version": 1}},
+        ):
+            same(client.error("codeAction/resolve", action), -32602, f"an action {action}")
+        for method, params in (
+            ("didChange", {}),
+            ("didChange", {"textDocument": {"uri": uri_of("closed.xml"), "version": 1}, "contentChanges": []}),
+            ("didChange", {"textDocument": {"uri": URI}, "contentChanges": 5}),
+            ("didOpen", {}),
+            ("didOpen", {"textDocument": {"uri": "x"}}),
+            ("didChange", {"textDocument": {"uri": URI}, "contentChanges": [{"text": 5}]}),
+            ("didClose", {"textDocument": {"uri": "closed"}}),
+        ):
+            client.tell(f"textDocument/{method}", params)
+            client.wait(lambda each: each.get("method") == "window/logMessage", f"a log of {method}")
+        client.open("file://[x", "<a/>")
+        told = client.wait(lambda each: each.get("method") == "window/showMessage", "a document of no address")
+        need("no DTD is named" in told["params"]["message"], f"a document of no address: {told}")
+        need(client.ask("textDocument/documentSymbol", OUTLINE), "it goes on")
+        same(client.complaints, [], "nothing unforeseen")
+
+
+def refuses_bad_messages(program):
+    good = (
+        b'{"jsonrpc":"2.0","id":"still","method":"textDocument/documentSymbol","params":{"textDocument":{"uri":"%s"}}}'
+        % URI.encode()
+    )
+    bodies = (
+        b"",
+        b"{",
+        b"[]",
+        b"5",
+        b"null",
+        b"\xff",
+        b'{"jsonrpc":"2.0"}',
+        b'{"jsonrpc":"1.0","id":1,"method":"shutdown"}',
+        b'{"id":1,"method":"shutdown"}',
+        b'{"jsonrpc":"2.0","id":{},"method":"shutdown"}',
+        b'{"jsonrpc":"2.0","id":null,"method":"shutdown"}',
+        b'{"jsonrpc":"2.0","id":1.5,"method":"shutdown"}',
+        b'{"jsonrpc":"2.0","id":1,"method":5}',
+        b"[" * 100_000,
+        b'{"a":' * 100_000,
+        b"1" * 10_000,
+        b"[" + good + b"]",
+    )
+    framed = [b"Content-Length: %d\r\n\r\n%b" % (len(body), body) for body in bodies]
+    framed += [
+        b"Content-Length: 99999999999999\r\n\r\n{}",
+        b"Content-Length: 9" + b"9" * 100 + b"\r\n\r\n",
+        b"Content-Length: -5\r\n\r\n{}",
+        b"Content-Length: x\r\n\r\n",
+        b"\r\n\r\n",
+        b"nonsense\r\n\r\n",
+        b"\0" * 10_000,
+        b"X" * 10_000 + b"\r\n",
+        b"Content-Type: x\r\n\r\n{}",
+        b"Content-Length: 3\r\n\r\n{}{}\n",
+        b"GET / HTTP/1.1\r\n\r\n",
+    ]
+    with Client(program) as client:
+        client.open(URI, DRAFT)
+        for bad in framed:
+            client.raw(bad + b"\n" * (b"\0" in bad))
+            client.raw(
+                b"Content-Length: %d\r\nContent-Type: application/vscode-jsonrpc; charset=utf-8\r\n\r\n%b"
+                % (len(good), good)
+            )
+            error = client.wait(lambda each: each.get("id", 0) is None, f"an error for {bad[:60]!r}")
+            need(error["error"]["code"] in (-32700, -32600), error)
+            need(client.answer("still")["result"], "it goes on")
+        same(client.complaints, [], "nothing unforeseen")
+
+
+def cancels(program):
+    """Each request has one answer, cancelled or not, and what comes out of order is no matter."""
+    with Client(program) as client:
+        client.open(URI, DRAFT)
+        client.tell("$/cancelRequest", {"id": 999})
+        client.tell("$/cancelRequest", {"id": {}})
+        client.tell("$/cancelRequest", None)
+        numbers = []
+        for count in range(20):
+            numbers.append(
+                client.begin("textDocument/codeAction", client.about(URI, span=(60, 65), context={"diagnostics": []}))
+            )
+            if count % 2:
+                client.tell("$/cancelRequest", {"id": numbers[-1]})
+        answers = [client.answer(number) for number in reversed(numbers)]
+        need(any(each.get("error", {}).get("code") == -32800 for each in answers), "none was cancelled")
+        need(all("result" in each or each["error"]["code"] == -32800 for each in answers), answers)
+        client.send({"jsonrpc": "2.0", "id": 5000, "result": None})
+        client.tell("textDocument/didClose", {"textDocument": {"uri": URI}})
+        same(client.error("textDocument/hover", client.about(URI, 0)), -32602, "a closed document")
+        same(client.complaints, [], "nothing unforeseen")
+
+
+def writes_no_file(program):
+    """Not in the documents' folder, nor where temporary files are."""
+    folder = tempfile.mkdtemp()
+    try:
+        os.environ["TMPDIR"] = folder
+        with Client(program) as client:
+            for text in (DRAFT, LETTER + "<letter><body/><opener/></letter>", LETTER + "<letter", "<a/>"):
+                client.open(URI, text)
+                client.diagnostics(URI)
+                client.actions(URI, (40, 50))
+                client.labels(URI, 50)
+        same(os.listdir(folder), [], "temporary files")
+        same([name for name in os.listdir(EXAMPLES) if name.startswith("one")], [], "files beside the document")
+    finally:
+        del os.environ["TMPDIR"]
+        os.rmdir(folder)
+
+
+def withstands_hostile_texts(program):
+    """Texts that would be slow to read for a careless reader."""
+    with Client(program) as client:
+        for front in ("<!--", "<?", "<![CDATA[", "<!DOCTYPE", "<a", '<a b="', "<a>", "</a>", "&", "<a><b></a>", "<p/>"):
+            # Long lists cost the program time.
+            size = 5_000 if front.endswith(("</a>", "/>")) else 200_000
+            text = LETTER + "<letter>" + front * (size // len(front))
+            begun = time.monotonic()
+            client.open(URI, text)
+            client.ask("textDocument/documentSymbol", OUTLINE)
+            client.change(URI, len(text), len(text), "<")
+            client.labels(URI, len(text) + 1)
+            client.actions(URI, (len(text) - 10, len(text)))
+            need(time.monotonic() - begun < 30, f"{front} takes {time.monotonic() - begun:.1f} s")
+        same(client.complaints, [], "nothing unforeseen")
+
+
+CASES = [
+    finds_dtds,
+    tells_once_what_is_not_found,
+    keeps_to_its_life,
+    refuses_nonsense,
+    refuses_bad_messages,
+    cancels,
+    writes_no_file,
+    withstands_hostile_texts,
+]
+
+
+if __name__ == "__main__":
+    wanted = [case for case in CASES if case.__name__ in sys.argv[2:]] or CASES
+    sys.exit(1 if run_cases(wanted, os.path.abspath(sys.argv[1])) else 0)

@@ -1,0 +1,217 @@
+"""Tries `tools/package`: made twice it is the same, it installs into a bare root, each command runs there, and removal leaves nothing.
+
+Word: the program, which is packed. The bare root has this machine's libc and Debian's Python alone; it needs root's rights. The last line tells how
+many passed.
+"""
+import filecmp
+import gzip
+import os
+import re
+import shutil
+import subprocess
+import sys
+import tempfile
+import urllib.request
+from pathlib import Path
+
+from lib.counting import Expecting
+
+TOP = Path(__file__).resolve().parent.parent
+PYTHON = "/usr/bin/python3"
+
+
+class Trial(Expecting):
+    """A clone that has a program, and what passed."""
+
+    def __init__(self, folder: Path, program: Path) -> None:
+        super().__init__()
+        self.folder, self.clone, self.root = folder, folder / "clone", folder / "root"
+        subprocess.run(["git", "clone", "-q", str(TOP), str(self.clone)], check=True)
+        subprocess.run([self.clone / "tools/build", "--put", str(program)], check=True)
+
+    def make(self, name: str, **more: str) -> list[Path]:
+        made = subprocess.run([self.clone / "tools/package", self.folder / name], env={**os.environ, **more}, stdout=subprocess.PIPE, text=True,
+                              check=False)
+        return [Path(line) for line in made.stdout.splitlines()]
+
+    def inside(self, *words: str, given: str = "") -> subprocess.CompletedProcess[str]:
+        """Runs a command in the bare root."""
+        return subprocess.run(["chroot", self.root, *words], input=given, capture_output=True, text=True, timeout=60, check=False)
+
+
+def same_bytes(trial: Trial) -> tuple[Path, Path]:
+    """Both packages, made twice."""
+    one = trial.make("one")
+    mask = os.umask(0o077)
+    two = trial.make("two", LC_ALL="C", TZ="Asia/Tokyo")
+    os.umask(mask)
+    trial.expect("two packages", [it.suffix for it in one] == [".deb", ".gz"], one)
+    trial.expect("the same twice", len(one) == len(two) and all(map(filecmp.cmp, one, two, [False] * len(one))))
+    epoch = subprocess.run(["git", "log", "-1", "--format=%ct"], cwd=trial.clone, capture_output=True, text=True, check=True).stdout.strip()
+    told = trial.make("three", SOURCE_DATE_EPOCH=epoch)
+    trial.expect("the same by its variable", all(map(filecmp.cmp, one, told, [False] * len(one))))
+    trial.expect("no number of seconds", trial.make("four", SOURCE_DATE_EPOCH="now") == [])
+    shallow = trial.folder / "shallow"
+    subprocess.run(["git", "clone", "-q", "--depth", "1", f"file://{trial.clone}", shallow], check=True)
+    shutil.copytree(trial.clone / "build", shallow / "build")
+    made = subprocess.run([shallow / "tools/package", trial.folder / "four"], capture_output=True, text=True, check=False)
+    trial.expect("a shallow clone, which has no number of commits", made.returncode == 1 and "shallow" in made.stderr, made)
+    with (trial.clone / "README.md").open("a") as page:
+        page.write("more\n")
+    trial.expect("what isn't committed is refused", trial.make("four") == [])
+    subprocess.run(["git", "checkout", "-q", "."], cwd=trial.clone, check=True)
+    return one[0], one[1]
+
+
+def copy_file(root: Path, file: str) -> None:
+    to = root / file.lstrip("/")
+    to.parent.mkdir(parents=True, exist_ok=True)
+    shutil.copy(file, to)
+
+
+def libraries(file: str) -> list[str]:
+    """What the loader takes for a program: libraries and itself."""
+    lines = subprocess.run(["ldd", file], capture_output=True, text=True, check=False).stdout.splitlines()
+    return [word for line in lines for word in line.split() if word.startswith("/")]
+
+
+def bare_root(trial: Trial, program: Path) -> None:
+    """A root with libc, a shell and Debian's Python."""
+    for folder in ("dev", "proc", "tmp", "etc", "usr/bin", "usr/lib", "var/lib/dpkg/info", "var/lib/dpkg/updates"):
+        (trial.root / folder).mkdir(parents=True, exist_ok=True)
+    for name in ("bin", "lib", "lib64"):
+        (trial.root / "usr" / name).mkdir(exist_ok=True)
+        (trial.root / name).symlink_to(f"usr/{name}")
+    (trial.root / "var/lib/dpkg/status").touch()
+    (trial.root / "dev/null").touch()
+    version = os.path.realpath(PYTHON)
+    for file in {PYTHON, version, "/bin/sh", "/usr/bin/env", *libraries(PYTHON), *libraries("/bin/sh"), *libraries("/usr/bin/env"), *libraries(str(program))}:
+        copy_file(trial.root, file)
+    shutil.copytree(f"/usr/lib/{Path(version).name}", trial.root / "usr/lib" / Path(version).name, symlinks=True,
+                    ignore=shutil.ignore_patterns("__pycache__", "test", "idlelib", "config-*", "ensurepip"), ignore_dangling_symlinks=True)
+    for file in (trial.root / "usr/lib" / Path(version).name / "lib-dynload").glob("*.so"):
+        for needed in libraries(str(file)):
+            copy_file(trial.root, needed)
+
+
+def dpkg(trial: Trial, *words: str) -> subprocess.CompletedProcess[str]:
+    return subprocess.run(["dpkg", f"--root={trial.root}", "--force-depends", "--force-script-chrootless", *words], capture_output=True, text=True, check=False)
+
+
+def files_in(root: Path) -> set[str]:
+    return {str(it.relative_to(root)) for it in root.rglob("*") if "var/lib/dpkg" not in str(it) and "var/log" not in str(it)}
+
+
+def try_installed(trial: Trial, deb: Path) -> None:
+    """Each command on the examples, in the root."""
+    before = files_in(trial.root)
+    done = dpkg(trial, "--install", str(deb))
+    trial.expect("it installs", done.returncode == 0, done.stderr)
+    letter = ["/usr/share/doc/pvtag/examples/letter.dtd", "letter", "/usr/share/doc/pvtag/examples/letter.xml"]
+    swapped = [*letter[:2], "/usr/share/doc/pvtag/examples/letter-swapped.xml"]
+    for what, words, status, wanted in (
+        ("the program", ["pvtag", "valid", *letter], 0, "valid\n"),
+        ("an unknown word", ["pvtag", "--version"], 2, "usage\n"),
+        ("reasons", ["pvtag-why", *swapped], 0, "`closer`"),
+        ("a report", ["pvtag-report", *letter], 0, '"verdict": "valid"'),
+        ("the page's words", ["pvtag-annotate", "--help"], 0, "usage: "),
+        ("flattening without lxml", ["pvtag-flatten", letter[0]], 2, ""),
+    ):
+        if (trial.root / "usr/bin" / words[0]).is_symlink() or words[0] == "pvtag":
+            told = trial.inside(*words)
+            trial.expect(what, told.returncode == status and wanted in told.stdout, (told.returncode, told.stdout, told.stderr))
+        else:
+            trial.expect(f"{words[0]} is there", False)
+    if (trial.root / "usr/bin/pvtag-lsp").is_symlink():
+        body = '{"jsonrpc":"2.0","id":1,"method":"initialize","params":{"capabilities":{}}}'
+        told = trial.inside("pvtag-lsp", given=f"Content-Length: {len(body)}\r\n\r\n{body}")
+        trial.expect("the language server", '"capabilities"' in told.stdout, (told.returncode, told.stdout, told.stderr))
+    opens_page(trial, letter)
+    for name in ("pvtag", "pvtag-annotate", "pvtag-flatten", "pvtag-lsp", "pvtag-report", "pvtag-why"):
+        with gzip.open(trial.root / f"usr/share/man/man1/{name}.1.gz", "rt") as file:
+            manual = file.read()
+        trial.expect("what the manual tells", "rattle-kit" in manual or name != "pvtag", manual[-600:])
+        told = trial.inside(name, "--help").stdout if name not in ("pvtag", "pvtag-flatten") else ""
+        lacking = [it for it in re.findall("--([a-z-]+)", told) if it != "help" and f"Fl -{it}" not in manual]
+        trial.expect("the options of the manual", lacking == [], (name, lacking))
+        if shutil.which("mandoc"):
+            lines = subprocess.run(["mandoc", "-Tlint"], input=manual, capture_output=True, text=True, check=False).stdout.splitlines()
+            faults = [line for line in lines if "outdated mandoc.db" not in line and "referenced manual not found" not in line]
+            trial.expect("the manual, by mandoc", faults == [], faults)
+    built = (trial.root / "usr/share/doc/pvtag/built").read_text()
+    trial.expect("what it is made of", "commit: " in built and "rattle-kit" in built, built)
+    done = dpkg(trial, "--purge", "pvtag")
+    left = files_in(trial.root) - before
+    trial.expect("removal leaves nothing", done.returncode == 0 and left == set(), (done.stderr, left))
+
+
+def opens_page(trial: Trial, letter: list[str]) -> None:
+    """The page on a letter of a user, until it is ended."""
+    (trial.root / "tmp/letter.xml").write_bytes((trial.root / letter[2].lstrip("/")).read_bytes())
+    words = ["chroot", trial.root, "pvtag-annotate", *letter[:2], "/tmp/letter.xml"]
+    with subprocess.Popen(words, stdout=subprocess.PIPE, stderr=subprocess.PIPE, text=True) as server:
+        line = server.stdout.readline() if server.stdout else ""
+        try:
+            with urllib.request.urlopen(line.split()[-1] if line else "http://127.0.0.1:1/", timeout=20) as page:
+                trial.expect("the page opens", page.status == 200 and b"<title>" in page.read())
+        except OSError as fault:
+            trial.expect("the page opens", False, (line, fault))
+        server.terminate()
+        trial.expect("it ends without a fault", server.wait(timeout=20) == 0 and server.stderr is not None and server.stderr.read() == "")
+    (trial.root / "tmp/letter.xml").unlink()
+
+
+def runs_from_folder(trial: Trial, tar: Path) -> None:
+    """What the other package holds, where it was unpacked: it finds the program beside itself, by no path."""
+    root = trial.folder / "unpacked"
+    root.mkdir()
+    subprocess.run(["tar", "-xzf", tar, "-C", root], check=True)
+    swapped = [TOP / "examples/letter.dtd", "letter", TOP / "examples/letter-swapped.xml"]
+    told = subprocess.run([root / "usr/bin/pvtag-why", *swapped], capture_output=True, text=True, check=False)
+    trial.expect("reasons, from a folder", told.returncode == 0 and "`closer`" in told.stdout, told)
+
+
+def try_completion(trial: Trial) -> None:
+    """Commands, and the roots of a DTD whose name has a blank; what is typed isn't run."""
+    odd = trial.folder / "a b.dtd"
+    shutil.copy(TOP / "examples/letter.dtd", odd)
+    script = 'source "$0"; COMP_WORDS=("$@") COMP_CWORD=$(($# - 1)); _pvtag; echo "${COMPREPLY[@]}"'
+    program = str(trial.clone / "build/pvtag")
+    blank, quoted = str(odd).replace(" ", "\\ "), f"'{odd}'"
+    for words, wanted in ((["c"], "check complete"), (["check", blank, "l"], "letter lb"), (["check", quoted, "bo"], "body"),
+                          (["check", f"$(touch {trial.folder}/run)", "l"], ""), (["check", blank, "letter", "x"], ""), (["drill", ""], "")):
+        told = subprocess.run(["bash", "-c", script, TOP / "tools/completion.bash", program, *words], capture_output=True, text=True, check=False)
+        trial.expect("a completion", told.stdout == f"{wanted}\n", (words, told))
+    trial.expect("nothing typed is run", not (trial.folder / "run").exists())
+
+
+def try_lintian(trial: Trial, deb: Path) -> None:
+    if not shutil.which("lintian"):
+        print("skipped: lintian (it isn't installed)")
+        return
+    told = subprocess.run(["lintian", "--fail-on", "error", str(deb)], capture_output=True, text=True, check=False)
+    trial.expect("no error by lintian", told.returncode == 0, told.stdout)
+
+
+def main() -> int:
+    program = Path(sys.argv[1]).resolve()
+    for tool in ("git", "dpkg-deb", "dpkg", "chroot", "ldd"):
+        if not shutil.which(tool):
+            print(f"skipped: the package (no {tool})\n0 passed, 0 failed")
+            return 0
+    with tempfile.TemporaryDirectory(prefix="pvtag-package-") as folder:
+        trial = Trial(Path(folder), program)
+        try_completion(trial)
+        deb, tar = same_bytes(trial)
+        runs_from_folder(trial, tar)
+        try_lintian(trial, deb)
+        if os.geteuid() == 0 and os.path.exists(PYTHON):
+            bare_root(trial, program)
+            try_installed(trial, deb)
+        else:
+            print("skipped: the package in a bare root (it needs root's rights and Debian's Python)")
+    return trial.ended()
+
+
+if __name__ == "__main__":
+    sys.exit(main())

@@ -1,0 +1,210 @@
+"""Runs the checks behind the proofs on the built program, side by side as far as processors go. Words: names of checks, all where none are
+given; `--list` lists them. The last lines tell how long each took, and how many tests passed.
+
+A check is a command whose last line of the form `N passed, M failed`, or `NAME: N passed, M failed`, tells what it tried; it is ended after its
+seconds with all that it started, and skipped where a tool that it needs is missing. What it prints is shown once it has ended. A check that tries
+nothing, and doesn't say why, has failed.
+"""
+import os
+import re
+import shutil
+import signal
+import subprocess
+import sys
+import tempfile
+import threading
+import time
+from concurrent.futures import ThreadPoolExecutor, as_completed
+from pathlib import Path
+from typing import IO, NamedTuple
+
+TOP = Path(__file__).resolve().parent.parent
+sys.path.append(str(TOP / "tools"))
+sys.dont_write_bytecode = True
+from processes import end_all  # noqa: E402
+
+COUNT = re.compile(r"^(?:[\w' -]+: )?(\d+) passed, (\d+) failed", re.MULTILINE)
+SKIPPED = re.compile(r"^skipped: ", re.MULTILINE)
+PROGRAM = "build/pvtag"
+
+
+class Check(NamedTuple):
+    """A check: its name, what it is in a few words, the tools that it needs, the most seconds, and the command."""
+    name: str
+    what: str
+    tools: list[str]
+    seconds: int
+    words: list[str]
+
+
+def row(name: str, what: str, tools: str, seconds: int, words: str) -> Check:
+    return Check(name, what, tools.split(), seconds, words.replace("PVTAG", PROGRAM).split())
+
+
+# The longest first, so that the last to end isn't one of them.
+CHECKS = [
+    row("program", "the program as a user runs it", "", 2400, "tests/program.sh"),
+    row("published", "published DTDs against xmllint", "xmllint", 1800, "python3 tests/published.py PVTAG 1 300"),
+    row("page", "the page in a browser", "chromium chromedriver", 2400, "python3 tests/annotate.py PVTAG"),
+    row("look", "a first look without proofs, against README", "rt", 1200, "tests/look.sh"),
+    row("allocations", "commands with an allocation failing", "cc", 900, "python3 tests/failing_allocations.py PVTAG 12000"),
+    row("files", "hostile files and failing machines", "", 1200, "python3 tests/hostile.py PVTAG 200"),
+    row("packs", "packs against a checker", "", 900, "python3 tests/packs.py PVTAG 300 1"),
+    row("hostile-packs", "packs that were changed", "", 1200, "python3 tests/hostile_packs.py PVTAG 100 1"),
+    row("denials", "denials, and those that were changed", "", 1200, "python3 tests/hostile_denials.py PVTAG 150 1 240"),
+    row("xmllint", "validity against xmllint", "xmllint", 900, "python3 tests/against_xmllint.py PVTAG 200 1 120"),
+    row("drafts", "drafts against xmllint", "xmllint", 900, "python3 tests/drafts.py PVTAG 60 1 120"),
+    row("broken", "broken documents against xmllint", "xmllint", 900, "python3 tests/broken_documents.py PVTAG 2000 1"),
+    row("insertions", "verdicts against a search that inserts", "", 900, "python3 tests/against_insertions.py PVTAG 850 1"),
+    row("lists", "verdicts of lists against derivations by spans", "", 900, "python3 tests/possible_lists.py PVTAG 120 1"),
+    row("weights", "weights against derivations", "", 900, "python3 tests/weights.py PVTAG 200 1 100"),
+    row("least", "least numbers against a search", "", 900, "python3 tests/least_numbers.py PVTAG 850 1"),
+    row("completions", "completions: valid, whole, least", "", 900, "python3 tests/completions.py PVTAG 400 1 60"),
+    row("cuts", "cuts of texts against a model", "", 900, "python3 tests/cuts.py PVTAG 40 1"),
+    row("report", "reports on documents", "", 900, "python3 tests/report.py PVTAG 1 40"),
+    row("package", "the package, in a bare root", "", 900, "python3 tests/package.py PVTAG"),
+    row("model", "sessions against a model", "", 900, "python3 tests/against_a_model.py PVTAG 20000 7"),
+    row("expansions", "parameter entities against a model", "", 900, "python3 tests/expansions.py PVTAG 3000 1"),
+    row("standoff", "the nesting of ranges against a model", "", 900, "python3 tests/standoff.py PVTAG 1500 1"),
+    row("client-places", "the places that clients tell", "", 900, "python3 tests/client_places.py PVTAG 100 1"),
+    row("client-files", "what clients say of files in fault", "", 900, "python3 tests/client_files.py PVTAG 100 1"),
+    row("reasons", "the reasons of clients, by force", "", 900, "python3 tests/reasons.py PVTAG 60 1"),
+    row("drafts-reasons", "the reasons of drafts under published DTDs", "xmllint", 1200, "python3 tests/reason_drafts.py PVTAG 1 120"),
+    row("lsp", "the language server, by a scripted client", "", 1200, "python3 tests/lsp.py PVTAG"),
+    row("lsp-protocol", "the protocol of the language server", "", 900, "python3 tests/lsp_protocol.py PVTAG"),
+    row("lsp-wraps", "the actions of the language server", "", 900, "python3 tests/lsp_wraps.py PVTAG 400 1 120"),
+    row("lsp-editors", "the language server in editors", "", 1200, "python3 tests/lsp_editors.py PVTAG 30"),
+    row("page-parts", "the parts of the page", "", 900, "python3 tests/annotate_parts.py PVTAG 1"),
+    row("page-asks", "what the page asks for, behind random moves", "", 1200, "python3 tests/annotate_asks.py PVTAG 1"),
+    row("page-requests", "the requests of the page", "", 600, "python3 tests/annotate_requests.py PVTAG"),
+    row("build", "the build, with a stand-in for the kit", "", 300, "python3 tests/build.py"),
+    row("runner", "the run of these checks", "", 300, "python3 tests/runner.py"),
+    row("style", "files by pyflakes and shellcheck, pages by their width", "", 300, "python3 tests/style.py"),
+    row("definitions", "the page of definitions against its sources", "", 120, "tools/definitions --check"),
+]
+
+
+class Result(NamedTuple):
+    """What a check came to."""
+    check: Check
+    seconds: float
+    passed: int
+    failed: int
+    is_skipped: bool
+
+
+class Runs:
+    """The checks that are running. Once they are stopped, all are ended, and no other begins."""
+
+    def __init__(self) -> None:
+        self.lock, self.stopped, self.running = threading.Lock(), False, set[subprocess.Popen[bytes]]()
+
+    def begin(self, check: Check, said: IO[bytes]) -> subprocess.Popen[bytes]:
+        with self.lock:
+            if self.stopped:
+                raise InterruptedError
+            run = subprocess.Popen(check.words, cwd=TOP, stdin=subprocess.DEVNULL, stdout=said, stderr=said, start_new_session=True)
+            self.running.add(run)
+            return run
+
+    def said_by(self, check: Check) -> tuple[str, int | None]:
+        """Runs the command for at most its seconds, and gives what it printed and its status, none where it was out of time."""
+        with tempfile.TemporaryFile() as said:
+            run = self.begin(check, said)
+            try:
+                status = run.wait(check.seconds)
+            except subprocess.TimeoutExpired:
+                status = None
+            finally:
+                end_all(run, signal.SIGKILL)
+                with self.lock:
+                    self.running.discard(run)
+            said.seek(0)
+            return said.read().decode(errors="replace"), status
+
+    def result_of(self, check: Check) -> tuple[Result, str]:
+        """Runs a check, and gives what it came to and what there is to show."""
+        lacking = next((it for it in check.tools if not shutil.which(it)), None)
+        if lacking:
+            return Result(check, 0, 0, 0, True), f"skipped: {check.what} (no {lacking})\n"
+        start = time.monotonic()
+        try:
+            shown, status = self.said_by(check)
+        except OSError as fault:
+            shown, status = f"{fault}\n", 127
+        took = time.monotonic() - start
+        passed, failed = counted(shown, status)
+        if failed:
+            shown += f"{' '.join(check.words)}: {'out of time' if status is None else f'status {status}'}\n"
+        return Result(check, took, passed, failed, bool(SKIPPED.search(shown))), shown
+
+    def stop(self) -> None:
+        """Ends all that is running."""
+        with self.lock:
+            self.stopped = True
+            for run in self.running:
+                end_all(run, signal.SIGKILL)
+
+
+def counted(shown: str, status: int | None) -> tuple[int, int]:
+    """How many tests passed and failed, by what a check printed and its status. One that doesn't tell, or tells of none without saying that it was
+    skipped, has failed."""
+    counts = COUNT.findall(shown)
+    passed, failed = map(int, counts[-1]) if counts else (0, 1)
+    tried_nothing = passed == failed == 0 and not SKIPPED.search(shown)
+    return passed, failed or int(status != 0 or tried_nothing)
+
+
+def run(checks: list[Check]) -> list[Result]:
+    """Runs the checks, as many at a time as there are processors, and shows each once it has ended."""
+    results, runs = [], Runs()
+    with ThreadPoolExecutor(len(os.sched_getaffinity(0))) as pool:
+        try:
+            for done in as_completed([pool.submit(runs.result_of, it) for it in checks]):
+                result, shown = done.result()
+                results.append(result)
+                print(f"== {result.check.name}\n{shown}", end="" if shown.endswith("\n") or not shown else "\n", flush=True)
+        except BaseException:
+            pool.shutdown(wait=False, cancel_futures=True)
+            runs.stop()
+            raise
+    return results
+
+
+def interrupted(number: int, _: object) -> None:
+    """Ends the run, once: what ends then isn't to be disturbed."""
+    for other in (signal.SIGINT, signal.SIGTERM, signal.SIGHUP):
+        signal.signal(other, signal.SIG_IGN)
+    sys.exit(128 + number)
+
+
+def chosen(names: list[str]) -> list[Check]:
+    """The checks of these names, in their order."""
+    known = {it.name: it for it in CHECKS}
+    unknown = [it for it in names if it not in known]
+    if unknown:
+        sys.exit(f"tests/all.sh: there is no check {unknown[0]}: --list lists them")
+    return [known[it] for it in names] or CHECKS
+
+
+def main(words: list[str]) -> int:
+    if words == ["--list"]:
+        for it in CHECKS:
+            print(f"{it.name:15}{it.what}")
+        return 0
+    for number in (signal.SIGINT, signal.SIGTERM, signal.SIGHUP):
+        if signal.getsignal(number) is not signal.SIG_IGN:
+            signal.signal(number, interrupted)
+    for stream in (sys.stdout, sys.stderr):
+        stream.reconfigure(errors="backslashreplace")
+    results = run(chosen(words))
+    for one in sorted(results, key=lambda it: -it.seconds):
+        beside = f", {one.failed} failed" * (one.failed > 0) + ", skipped in part" * one.is_skipped
+        print(f"{one.check.name:15}{one.seconds:5.0f} s {one.passed:7} passed{beside}")
+    passed, failed, skipped = (sum(it[at] for it in results) for at in (2, 3, 4))
+    print(f"{passed} passed, {failed} failed" + f", {skipped} skipped" * (skipped > 0))
+    return 1 if failed else 0
+
+
+if __name__ == "__main__":
+    sys.exit(main(sys.argv[1:]))
