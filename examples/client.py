@@ -6,6 +6,8 @@ def ask(line):
     reply = pvtag.stdout.readline().decode()
     if reply.startswith(("show ", "completed ")):
         return pvtag.stdout.read(int(reply.split()[-1]) + 1).decode()
+    if reply.startswith(("history ", "verdicts ", "offer ")):
+        return reply + "".join(pvtag.stdout.readline().decode() for _ in range(int(reply.split()[1])))
     return reply
-for line in ("wrap 0.0 0 1 p", "wrap 0.0 0 1 salute", "show"):
+for line in ("wrap 0.0 0 1 p", "offer 0.0 0 1", "wrap 0.0 0 1 salute", "show"):
     print(line, "->", ask(line), end="")

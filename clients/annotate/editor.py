@@ -1,62 +1,64 @@
-"""A document that is marked up: a session, its tree and its script, kept together. What the page asks for is answered here.
+"""A document that is marked up: a session, its tree and its script, kept together.
 
-A move is what a user does in one go: the cuts of texts that it needs, and one edit. It is made whole or not at all, it is on the disk before
-it is told, and it is taken back whole. Whether it can be made says the session.
+A move is made whole or not at all, it is on the disk before it is told, and it is taken back whole. Whether it can be
+made says the session. Its lines for attributes alone are made in the tree only: a session keeps attributes as they are.
 """
-import subprocess
-import tempfile
 import threading
+from collections.abc import Callable, Sequence
+from typing import Any
 
-from document import TEXT, Document, dotted
-from script import Trouble, groups_of, hash_of, surviving
-from session import Ended, Made, Refused, Session
+from moves import ATTRIBUTES, Move, UNDO, groups_of, is_edit, surviving, title_of, undo_of
+from pvtag.document import ELEMENT, Document, Told
+from pvtag.program import Trouble
+from pvtag.session import Ended, Made, Refused, Session
+from runs import Stale, below, element_of, run_of
+from script import Script, hash_of
 
 # A window that was away for more moves than these gets the whole tree.
 KEPT = 1000
-
-
-# So much of an element's text is told in the history.
-EXCERPT = 40
-
-
-class Move:
-    """The lines of a move; `about` is the text of the element that it made, renamed or took the tags of, where that is known."""
-
-    def __init__(self, lines):
-        self.lines, self.about, self.backs = lines, "", []
-
-
-class Stale(Exception):
-    """The page speaks of what isn't there any more."""
+# The longest line of a session, in bytes.
+LONGEST = 1_048_576
 
 
 class Editor:
-    def __init__(self, program, dtd, root, script):
-        self.words, self.script = (program, dtd, root), script
+    def __init__(self, program: list[str], dtd: str, root: str, script: Script) -> None:
+        self.program, self.dtd, self.root, self.script = program, dtd, root, script
         self.lock = threading.RLock()
         self.made, self.undone = self.moves()
-        self.changes, self.version, self.completing = [], 0, None
+        self.changes: list[Told] = []
+        self.version, self.needed = 0, {"version": -1}
+        # What a refusal is explained by: the tree, the lines up to the one that was refused, and the path that was
+        # told.
+        self.explain: Callable[[Document, list[str], str], Told] = lambda *_: {}
+        self.failed: list[str] = []
         self.begin()
+        self.note = self.make_again() if script.earlier else ""
 
-    def moves(self):
-        """The moves of the script, and those that were taken back, the last first. A move that was written in part is taken back."""
+    needed: Told
+    saved: list[Move] | None
+    open: int
+    bad: int
+
+    def moves(self) -> tuple[list[Move], list[Move]]:
+        """The moves of the script, and those that were taken back, the last first. A move that was written in part is
+        taken back."""
         made, undone = surviving(self.script.lines)
         groups = groups_of(made)
-        part = ["undo"] * (len(made) - sum(map(len, groups)))
+        part = made[sum(map(len, groups)):]
         if part:
-            self.script.append(part)
-            made, undone = surviving(self.script.lines + part)
+            undos = [undo_of(line.text) for line in reversed(part)]
+            self.script.append(undos)
+            made, undone = surviving([*self.script.lines, *undos])
         return list(map(Move, groups)), list(map(Move, groups_of(reversed(undone))[::-1]))
 
-    def begin(self):
+    def begin(self) -> None:
         """Opens the session and makes the moves of the script."""
-        program, dtd, root = self.words
         path, source = self.script.begin
-        self.session = Session(program, dtd, root, path)
+        self.session = Session(self.program, self.dtd, self.root, path)
         try:
             if self.session.show() != source:
                 raise Trouble(f"{path} has changed while it was opened")
-            self.document, self.needed = Document(source), {}
+            self.document = Document(source)
             for move in self.made:
                 self.replay(move)
         except Exception:
@@ -66,44 +68,65 @@ class Editor:
         self.saved = self.made[:] if hash_of(self.shown()) == self.script.on_disk else None
         self.judge_all()
 
-    def replay(self, move):
+    def replay(self, move: Move) -> None:
         for line in move.lines:
-            reply = self.session.edit(line)
-            if not isinstance(reply, Made):
-                raise Trouble(f"a move of {self.script.path} can't be made any more ({line}: {' '.join(reply)}); was the DTD changed?")
+            reply = self.play(line)
+            if isinstance(reply, Refused):
+                why = f"{line}: {' '.join(reply)}"
+                raise Trouble(f"a move of {self.script.path} can't be made any more ({why}); was the DTD changed?")
         self.redraw(move)
 
-    def redraw(self, move):
+    def redraw(self, move: Move) -> list[Told]:
         """Makes a move in the tree; the changes."""
-        *cuts, line = move.lines
-        edits = [self.document.edit(cut) for cut in cuts]
-        move.about = self.document.excerpt(line, EXCERPT)
-        edits.append(self.document.edit(line))
+        last = max(at for at, line in enumerate(move.lines) if is_edit(line) or at == 0)
+        edits = []
+        for at, line in enumerate(move.lines):
+            if at == last:
+                move.title = title_of(move.lines, self.document)
+            edits.append(self.document.edit(line))
         move.backs = [back for _, back in reversed(edits)]
         return [change for change, _ in edits]
 
-    def judge_all(self):
+    def make_again(self) -> str:
+        """Makes the moves of the script that was put aside, as far as they go and are about the same texts; what came
+        of it."""
+        groups = groups_of(surviving(self.script.earlier)[0])
+        before, made = Document(self.script.earlier_base) if self.script.earlier_base else None, 0
+        for lines in groups:
+            move = Move(lines)
+            if before is not None and not is_about_the_same(lines, before, self.document):
+                break
+            if self.make(move, []) is not None:
+                break
+            made += 1
+        return (f"The document was changed by another program. {made} of {len(groups)} moves were made again on it; all "
+                f"of them are kept in {self.script.name}.pvtag.old.")
+
+    # Verdicts.
+    def judge_all(self) -> None:
         """Takes over the verdicts of all lists."""
         rows = values(self.session.verdicts())
         for node, row in zip(self.document.elements(), rows, strict=True):
             node.verdict = row.verdict
         self.open, self.bad = (sum(row.verdict == verdict for row in rows) for verdict in ("possible", "impossible"))
 
-    def judge(self, before):
+    def judge(self, before: int) -> dict[int, str]:
         """Takes over the verdicts of the lists that moves behind this number have changed, and tells them."""
+        if before == self.session.moves:
+            return {}
         told, rows = {}, self.session.changed(before)
         if isinstance(rows, Refused):
             raise Ended(None, "there is too little memory for the verdicts")
         for row in rows:
-            node = self.document.node_at(row.path)
+            node = self.document.there(row.path)
             node.verdict = told[node.id] = row.verdict
         return told
 
     # What the page is told.
-    def state(self, since=None):
+    def state(self, since: Any = None) -> Told:
         """Where things stand: the whole tree, or what changed since a version."""
         with self.lock:
-            told = {
+            told: Told = {
                 "version": self.version, "open": self.open, "bad": self.bad, "top": self.document.top.verdict,
                 "made": len(self.made), "undone": len(self.undone), "saved": self.made == self.saved,
             }
@@ -112,195 +135,174 @@ class Editor:
                 return {**told, "tree": self.document.told()}
             return {**told, "since": since, "changes": self.changes[since - first:]}
 
-    def history(self):
-        """The moves by their edits, those that were taken back last."""
+    def history(self) -> Told:
+        """The moves in words, those that were taken back last."""
         with self.lock:
-            rows = [[{"line": move.lines[-1], "about": move.about} for move in moves] for moves in (self.made, reversed(self.undone))]
-            return {"made": rows[0], "undone": rows[1]}
+            made, undone = self.made, reversed(self.undone)
+            return {"made": [move.title for move in made], "undone": [move.title for move in undone]}
 
-    def need(self):
+    def recent(self) -> list[str]:
+        """The names that were used last, the last one first."""
+        names: list[str] = []
+        for move in reversed(self.made[-60:]):
+            names += [name for name in reversed(move.names) if name not in names]
+        return names[:8]
+
+    def need(self) -> Told:
         """How many elements are missing."""
         with self.lock:
             if self.needed.get("version") != self.version:
                 reply = self.session.need()
-                self.needed = {"version": self.version, **({"need": reply} if isinstance(reply, int) else self.refusal(reply))}
+                if isinstance(reply, Refused) and reply.why == "wide":
+                    reply = self.need_of_wide(reply)
+                told = {"need": reply} if isinstance(reply, int) else self.refusal(reply)
+                self.needed = {"version": self.version, **told}
             return self.needed
 
-    def refusal(self, reply):
+    def need_of_wide(self, refused: Refused) -> int | Refused:
+        """How many elements are missing where a list is too wide for the session to tell it: the place to ask another
+        program."""
+        return refused
+
+    def refusal(self, reply: Refused) -> Told:
         """A reply of the session as the page takes it: a path becomes the number of its list, where it is there."""
-        told = {"no": reply.why, "what": reply.what}
+        told: Told = {"no": reply.why, "what": reply.what}
         if reply.why in ("impossible", "wide"):
             node = self.document.node_at(reply.what)
-            told["list"] = node.id if node is not None and node.kids is not None else None
+            told["list"] = node.id if node is not None and node.kind == ELEMENT else None
         return told
 
-    # Places. The page tells one as [list, kid, unit]: before that unit of the kid, or behind it all; without a kid, at the list's end.
-    def node(self, number):
-        node = self.document.nodes.get(number)
-        if node is None:
-            raise Stale
-        try:
-            return node, self.document.path_of(node)
-        except ValueError:
-            raise Stale from None
-
-    def place(self, owner, kid, unit):
-        """The number of a kid of the list, and a unit that its text is cut before, or none."""
-        if kid is None:
-            return len(owner.kids), None
-        node, _ = self.node(kid)
-        if node.owner is not owner:
-            raise Stale
-        at, size = owner.kids.index(node), len(node.units) if node.kind == TEXT else 1
-        if not 0 <= unit <= size:
-            raise Stale
-        return (at, None) if unit == 0 else (at + 1, None) if unit == size else (at, unit)
-
-    def run(self, place):
-        """The cuts that a run of a list needs, the list's path, and from where to where the run goes then."""
-        owner, path = self.node(place["list"])
-        if owner.kids is None:
-            raise Stale
-        start, first = self.place(owner, *place["from"])
-        end, second = self.place(owner, *place["to"])
-        if (end, second or 0) < (start, first or 0):
-            raise Stale
-        cuts = []
-        if second is not None:
-            cuts.append(f"split {below(path, end)} {second}")
-            end += 1
-        if first is not None:
-            if place["from"] != place["to"]:
-                cuts.append(f"split {below(path, start)} {first}")
-                end += 1
-            start += 1
-        return cuts, path, start, end
-
-    # What the page asks for.
-    def offer(self, place):
-        """The names that may go round a run, or that an element may have."""
-        with self.lock:
-            if "node" in place:
-                reply = self.session.offer(self.node(place["node"])[1])
-                return self.refusal(reply) if isinstance(reply, Refused) else {"names": reply}
-            cuts, path, start, end = self.run(place)
-            reply = self.tried(cuts, lambda: self.session.offer(path, start, end))
-            return self.refusal(reply) if isinstance(reply, Refused) else {"names": reply}
-
-    def tried(self, cuts, ask):
-        """What is answered behind these cuts, which are taken back."""
+    # Trying.
+    def tried(self, lines: Sequence[str], ask: Callable[[], Any]) -> Any:
+        """What is answered behind these lines, which are taken back; the refusal of one that can't be made."""
         count = 0
         try:
-            for line in cuts:
-                reply = self.session.edit(line)
-                if not isinstance(reply, Made):
+            for line in lines:
+                reply = self.play(line)
+                if isinstance(reply, Refused):
                     return reply
-                count += 1
+                count += reply is not None
             return ask()
         finally:
             self.take_back(count)
 
-    def take_back(self, count):
+    def play(self, line: str) -> Made | Refused | None:
+        """Makes an edit in the session; none where it is no edit of a session."""
+        if line.startswith(ATTRIBUTES):
+            return None
+        return self.session.edit(line) if len(line.encode()) <= LONGEST else Refused("limit")
+
+    def take_back(self, count: int) -> None:
         for _ in range(count):
             if not isinstance(self.session.undo(), Made):
                 raise Ended(None, "a move can't be taken back")
 
-    def lines_of(self, move):
+    # Moves.
+    def lines_of(self, move: Any) -> list[str]:
         """The lines of a move."""
         kind = move["kind"]
         if kind in ("wrap", "insert"):
-            cuts, path, start, end = self.run(move["place"])
+            cuts, path, start, end = run_of(self.document, move["place"])
             ends = f"{start} {end}" if kind == "wrap" else f"{start}"
             return [*cuts, f"{kind} {path} {ends} {name_of(move)}"]
-        path = self.node(move["node"])[1]
+        path = element_of(self.document, move["node"])[1]
         return [f"unwrap {path}"] if kind == "unwrap" else [f"rename {path} {name_of(move)}"]
 
-    def move(self, move):
+    def move(self, ask: Any) -> Told:
         """Makes a move; the state behind it, or a refusal."""
         with self.lock:
-            since = self.known(move)
-            lines = self.lines_of(move)
-            refusal = self.make(Move(lines), [])
-            if refusal is not None:
-                return {**self.refusal(refusal), **self.refused_at(lines, refusal)}
-            return self.state(since)
+            since = self.known(ask)
+            return self.answer(since, self.lines_of(ask))
 
-    def refused_at(self, lines, refusal):
-        """Whose list would become impossible: a node that is there, or the new element."""
-        word, path, *rest = lines[-1].split(" ")
-        if refusal.why != "impossible" or word not in ("wrap", "insert"):
-            return {}
-        owner = self.document.node_at(path)
-        return {"list": owner.id, "new": refusal.what == below(path, int(rest[0]))}
+    def answer(self, since: int, lines: list[str]) -> Told:
+        """Makes these lines one move; the state behind it, or a refusal."""
+        refusal = self.make(Move(lines), [])
+        return self.state(since) if refusal is None else self.refused(refusal)
 
-    def make(self, move, undone):
-        """Makes a move in the session, writes it down, and makes it in the tree; or changes nothing and answers why. What can be made again
-        behind it is `undone`."""
-        before, count = self.session.moves, 0
-        for line in move.lines:
-            reply = self.session.edit(line)
-            if not isinstance(reply, Made):
+    def refused(self, refusal: Refused) -> Told:
+        """Why a move was refused: whose list would become impossible, one that is there or that of the new element, and
+        which kids are in the way."""
+        told = self.refusal(refusal)
+        if refusal.why != "impossible":
+            return told
+        word, path, *rest = self.failed[-1].split(" ")
+        if word in ("wrap", "insert"):
+            told |= {"list": self.document.there(path).id, "new": refusal.what == below(path, int(rest[0]))}
+        return told | self.explain(self.document, self.failed, refusal.what)
+
+    def make(self, move: Move, undone: list[Move]) -> Refused | None:
+        """Makes a move in the session, writes it down, and makes it in the tree; or changes nothing and answers why.
+        What can be made again behind it is `undone`."""
+        before, count, last = self.session.moves, 0, None
+        for at, line in enumerate(move.lines):
+            reply = self.play(line)
+            if isinstance(reply, Refused):
                 self.take_back(count)
+                self.failed = move.lines[:at + 1]
                 return reply
-            count += 1
-        try:
-            self.script.append(move.lines)
-        except OSError as fault:
-            self.take_back(count)
-            raise Trouble(f"the move can't be written to {self.script.path}: {fault.strerror}") from None
+            count, last = count + (reply is not None), reply or last
+        self.write(move.written, lambda: self.take_back(count))
         self.made.append(move)
         self.undone = undone
-        self.tell(self.redraw(move), before, reply)
+        self.tell(self.redraw(move), before, last)
         return None
 
-    def tell(self, changes, before, reply):
+    def write(self, lines: list[str], otherwise: Callable[[], None]) -> None:
+        """Writes lines to the script; where that fails, nothing is changed."""
+        try:
+            self.script.keep_base()
+            self.script.append(lines)
+        except OSError as fault:
+            otherwise()
+            raise Trouble(f"the move can't be written to {self.script.path}: {fault.strerror}") from None
+
+    def tell(self, changes: list[Told], before: int, reply: Made | None) -> None:
         verdicts = self.judge(before)
-        self.open, self.bad = reply.open, reply.bad
+        if reply is not None:
+            self.open, self.bad = reply.open, reply.bad
         self.version += 1
         self.changes.append({"changes": changes, "verdicts": verdicts})
         del self.changes[:-KEPT]
 
-    def undo(self, ask):
+    def undo(self, ask: Any) -> Told:
         with self.lock:
             since = self.known(ask)
             if self.made:
                 self.undo_one()
             return self.state(since)
 
-    def undo_one(self):
-        before, lines = self.session.moves, self.made[-1].lines
-        for count in range(len(lines)):
+    def undo_one(self) -> None:
+        before, last, move = self.session.moves, None, self.made[-1]
+        count = move.undoing.count(UNDO)
+        for done in range(count):
             reply = self.session.undo()
-            if not isinstance(reply, Made):
-                self.redo_some(count)
+            if isinstance(reply, Refused):
+                self.redo_some(done)
                 raise Trouble("there is too little memory")
-        try:
-            self.script.append(["undo"] * len(lines))
-        except OSError as fault:
-            self.redo_some(len(lines))
-            raise Trouble(f"the move can't be written to {self.script.path}: {fault.strerror}") from None
+            last = reply
+        self.write(move.undoing, lambda: self.redo_some(count))
         self.undone.append(self.made.pop())
-        self.tell([back() for back in self.undone[-1].backs], before, reply)
+        self.tell([back() for back in move.backs], before, last)
 
-    def redo_some(self, count):
+    def redo_some(self, count: int) -> None:
         for _ in range(count):
             if not isinstance(self.session.redo(), Made):
                 raise Ended(None, "a move can't be made again")
 
-    def redo(self, ask):
+    def redo(self, ask: Any) -> Told:
         with self.lock:
             since = self.known(ask)
             if self.undone:
                 self.redo_one()
             return self.state(since)
 
-    def redo_one(self):
+    def redo_one(self) -> None:
         """Makes a move again by its lines: the session itself forgets what was undone when a cut is tried."""
         refusal = self.make(self.undone[-1], self.undone[:-1])
         if refusal is not None:
             raise Trouble(f"the move can't be made again: {' '.join(refusal)}")
 
-    def back(self, ask):
+    def back(self, ask: Any) -> Told:
         """Goes to where so many moves were made."""
         with self.lock:
             since = self.known(ask)
@@ -310,63 +312,37 @@ class Editor:
                 self.redo_one()
             return self.state(since)
 
-    def known(self, ask):
+    def known(self, ask: Any) -> int:
         """The version that the page knows, which must be the present one."""
         if ask["version"] != self.version:
             raise Stale
         return self.version
 
-    def save(self, ask):
+    # Files.
+    def save(self, ask: Any) -> Told:
         with self.lock:
             since = self.known(ask)
             self.script.save(self.shown())
             self.saved = self.made[:]
             return self.state(since)
 
-    def shown(self):
+    def save_beside(self, ask: Any) -> Told:
+        """Writes the document to another file in its folder."""
         with self.lock:
-            return values(self.session.show())
+            return {"path": self.script.save_beside(str(ask["name"]), self.shown())}
 
-    def preview(self):
-        """A least completion, its new elements told apart: the command `complete` tells by marks which they are."""
-        program, dtd, root = self.words
-        self.stop()
-        with tempfile.NamedTemporaryFile(suffix=".xml") as file:
-            file.write(self.shown())
-            file.flush()
-            words = [*program, "complete", dtd, root, file.name]
-            with subprocess.Popen(words, stdout=subprocess.PIPE, start_new_session=True) as self.completing:
-                try:
-                    return self.completed(self.completing.stdout)
-                finally:
-                    self.completing.kill()
+    def shown(self) -> bytes:
+        """The document's bytes: those of the session, with the attributes that were edited."""
+        with self.lock:
+            source: bytes = values(self.session.show())
+            if not self.document.given:
+                return source
+            if self.document.written(self.document.given).encode() != source:
+                raise Trouble("annotate has a fault: its tree isn't that of the session; attributes can't be written")
+            return self.document.written().encode()
 
-    def stop(self):
-        """Ends a preview that is being made."""
-        if self.completing is not None:
-            self.completing.kill()
-
-    def completed(self, out):
-        """The head and the body of a pack."""
-        first, marks = out.readline().decode().strip(), set()
-        if first != "pvpack 1":
-            return {"no": first}
-        size = 0
-        for line in out:
-            word, number = line.split()
-            if word == b"mark":
-                marks.add(int(number))
-            if word == b"body":
-                size = int(number)
-                break
-        document = Document(out.read(size))
-        for number, node in enumerate(document.elements()):
-            node.new = number - 1 in marks
-        return {"tree": document.told(), "new": len(marks)}
-
-    def close(self):
+    def close(self) -> None:
         """Ends it all; an answer that takes long isn't waited for."""
-        self.stop()
         if not self.lock.acquire(timeout=2):
             self.session.process.kill()
             self.lock.acquire()
@@ -374,12 +350,22 @@ class Editor:
         self.script.close()
 
 
-def below(path, at):
-    """The path of a kid."""
-    return dotted([at]) if path == "." else f"{path}.{at}"
+def is_about_the_same(lines: list[str], before: Document, now: Document) -> bool:
+    """Whether the edits of a move, which is made in the first tree, would be about the same texts in the second."""
+    backs, is_same = [], True
+    try:
+        for line in lines:
+            is_same = is_same and not (is_edit(line) and before.excerpt(line, LONGEST) != now.excerpt(line, LONGEST))
+            before.edit(line)
+            backs.append(now.edit(line)[1])
+    except (KeyError, IndexError, ValueError):
+        is_same = False
+    for back in reversed(backs):
+        back()
+    return is_same
 
 
-def name_of(move):
+def name_of(move: Any) -> str:
     """The name of a move; a line holds no line end."""
     name = move["name"]
     if not isinstance(name, str) or "\n" in name or "\r" in name:
@@ -387,7 +373,7 @@ def name_of(move):
     return name
 
 
-def values(reply):
+def values(reply: Any) -> Any:
     """A reply that isn't a refusal: only want of memory refuses these."""
     if isinstance(reply, Refused):
         raise Trouble("there is too little memory")

@@ -1,8 +1,8 @@
 """The page and its requests, on 127.0.0.1 alone.
 
-An address has a random token in front of its path. A request without it, for another host (as a page of another origin sends that has this
-machine's address under a name of its own), or from another origin is refused, and so is each path but those listed here: no file is looked up
-by a request. What comes is JSON of at most `LONGEST` bytes.
+An address has a random token in front of its path. A request without it, for another host (as a page of another origin
+sends that has this machine's address under a name of its own), or from another origin is refused, and so is each path
+but those listed here: no file is looked up by a request. What comes is JSON of at most `LONGEST` bytes.
 """
 import json
 import os
@@ -10,20 +10,32 @@ import secrets
 import sys
 import threading
 import traceback
+from collections.abc import Callable
 from http.server import BaseHTTPRequestHandler, ThreadingHTTPServer
+from typing import Any
 
-from editor import Stale
-from script import Trouble
-from session import Ended
+from attributes import Attributes
+from completions import Completions
+from costs import Costs
+from declared import Declared
+from editor import Editor
+from everywhere import Everywhere
+from explain import Explainer
+from pvtag.document import Told
+from pvtag.program import Trouble
+from pvtag.session import Ended
+from runs import Stale
+from script import Changed
+from texts import Texts
 
 FOLDER = os.path.join(os.path.dirname(os.path.abspath(__file__)), "page")
 TYPES = {".html": "text/html", ".css": "text/css", ".js": "text/javascript"}
 LONGEST = 1 << 20
-# A page that is loaded again says goodbye and comes back within this time, in seconds.
-PATIENCE = 5
+# So long it waits for a window behind the last one, in seconds: a page is loaded again, a machine sleeps.
+PATIENCE = 3600.0
 HEADERS = {
-    "Content-Security-Policy": "default-src 'none'; script-src 'self'; style-src 'self'; connect-src 'self'; img-src data:; base-uri 'none'; "
-    "form-action 'none'; frame-ancestors 'none'",
+    "Content-Security-Policy": "default-src 'none'; script-src 'self'; style-src 'self'; connect-src 'self'; "
+    "img-src data:; base-uri 'none'; form-action 'none'; frame-ancestors 'none'",
     "Cache-Control": "no-store",
     "Cross-Origin-Opener-Policy": "same-origin",
     "Cross-Origin-Resource-Policy": "same-origin",
@@ -33,7 +45,7 @@ HEADERS = {
 
 
 class Refusal(Exception):
-    def __init__(self, status, why):
+    def __init__(self, status: int, why: str) -> None:
         super().__init__(why)
         self.status, self.why = status, why
 
@@ -41,40 +53,49 @@ class Refusal(Exception):
 class Server(ThreadingHTTPServer):
     daemon_threads = True
 
-    def __init__(self, editor, port, title):
-        self.editor, self.title = editor, title
+    def __init__(self, editor: Editor, declared: dict[str, Declared], port: int, title: str,
+                 patience: float = PATIENCE) -> None:
+        self.editor, self.declared, self.title, self.patience = editor, declared, title, patience
+        self.costs, self.completions, self.texts = Costs(editor, declared), Completions(editor), Texts(editor)
+        self.attributes, self.everywhere, self.explainer = Attributes(editor), Everywhere(editor), Explainer(editor)
         self.token = secrets.token_urlsafe(24)
         self.files = {name: read_page(name) for name in os.listdir(FOLDER) if os.path.splitext(name)[1] in TYPES}
-        self.windows, self.lock = set(), threading.Lock()
-        self.over = threading.Event()
+        self.windows: set[str] = set()
+        self.lock, self.over, self.byes = threading.Lock(), threading.Event(), 0
         super().__init__(("127.0.0.1", port), Handler)
         self.hosts = {f"127.0.0.1:{self.server_port}", f"localhost:{self.server_port}"}
         self.address = f"http://127.0.0.1:{self.server_port}/{self.token}/"
 
-    def hello(self, window):
+    def hello(self, window: str) -> None:
         with self.lock:
             self.windows.add(window)
 
-    def bye(self, window):
-        """A window was closed; where it was the last, the program ends soon."""
+    def bye(self, window: str) -> None:
+        """A window was closed; where it was the last, and none comes, the program ends in a while."""
         with self.lock:
             self.windows.discard(window)
-        timer = threading.Timer(PATIENCE, self.end_if_alone)
+            self.byes += 1
+            timer = threading.Timer(self.patience, self.end_if_alone, [self.byes])
         timer.daemon = True
         timer.start()
 
-    def end_if_alone(self):
+    def end_if_alone(self, byes: int) -> None:
         with self.lock:
-            if not self.windows:
+            if not self.windows and byes == self.byes:
                 self.over.set()
 
-    def handle_error(self, request, client_address):
+    def close(self) -> None:
+        """Ends what runs beside the session."""
+        self.completions.stop()
+        self.costs.close()
+
+    def handle_error(self, request: Any, client_address: Any) -> None:
         """A browser that goes away in mid-answer is no fault."""
         if not isinstance(sys.exc_info()[1], ConnectionError | TimeoutError):
             super().handle_error(request, client_address)
 
 
-def read_page(name):
+def read_page(name: str) -> bytes:
     with open(os.path.join(FOLDER, name), "rb") as file:
         return file.read()
 
@@ -84,13 +105,15 @@ class Handler(BaseHTTPRequestHandler):
     server_version, sys_version = "annotate", ""
     timeout = 60
 
-    def do_GET(self):
+    server: Server
+
+    def do_GET(self) -> None:
         self.handle_with(self.get)
 
-    def do_POST(self):
+    def do_POST(self) -> None:
         self.handle_with(self.post)
 
-    def handle_with(self, answer):
+    def handle_with(self, answer: Callable[[str], tuple[str, bytes]]) -> None:
         try:
             status, kind, body = 200, *answer(self.checked_path())
         except Refusal as refusal:
@@ -111,7 +134,7 @@ class Handler(BaseHTTPRequestHandler):
         self.end_headers()
         self.wfile.write(body)
 
-    def checked_path(self):
+    def checked_path(self) -> str:
         """What stands behind the token, for a request that may ask."""
         if self.headers.get_all("Host") is None or set(self.headers.get_all("Host")) - self.server.hosts:
             raise Refusal(403, "another host")
@@ -125,13 +148,13 @@ class Handler(BaseHTTPRequestHandler):
             raise Refusal(403, "the address has no token, or that of another run: take it from the terminal")
         return name
 
-    def get(self, name):
+    def get(self, name: str) -> tuple[str, bytes]:
         name = name or "index.html"
         if name not in self.server.files:
             raise Refusal(404, "there is no such page")
         return TYPES[os.path.splitext(name)[1]], self.server.files[name]
 
-    def post(self, name):
+    def post(self, name: str) -> tuple[str, bytes]:
         if name not in ASKED:
             raise Refusal(404, "there is no such request")
         if self.headers.get("Origin") is None or self.headers.get_content_type() != "application/json":
@@ -145,23 +168,26 @@ class Handler(BaseHTTPRequestHandler):
             raise Refusal(400, "that is no JSON") from None
         return "application/json", json.dumps(self.answer(name, ask)).encode()
 
-    def answer(self, name, ask):
-        """What the editor answers, or `trouble`, a sentence for the user."""
-        editor = self.server.editor
+    def answer(self, name: str, ask: Any) -> Told:
+        """What is answered, or `trouble`, a sentence for the user; `changed` says that the document was changed by
+        another program."""
         try:
-            return ASKED[name](self.server, editor, ask)
+            return ASKED[name](self.server, ask)
         except Stale:
             return {"stale": True}
+        except Changed as changed:
+            return {"trouble": str(changed), "changed": True}
         except Trouble as trouble:
             return {"trouble": str(trouble)}
         except Ended as ended:
-            return self.begin_again(editor, ended)
+            return self.begin_again(ended)
         except (KeyError, TypeError, ValueError, AttributeError, IndexError):
             traceback.print_exc()
             raise Refusal(400, "that is no request") from None
 
-    def begin_again(self, editor, ended):
+    def begin_again(self, ended: Ended) -> Told:
         """The session is gone: another one makes the moves that were written down."""
+        editor = self.server.editor
         if self.server.over.is_set():
             return {"trouble": "annotate is ending"}
         try:
@@ -172,33 +198,48 @@ class Handler(BaseHTTPRequestHandler):
             return {"trouble": f"{ended}, and can't be begun again: {fault}"}
         return {"stale": True, "trouble": f"{ended}; it was begun again, with all moves that were made"}
 
-    def log_message(self, *_):
+    def log_message(self, *_: Any) -> None:
         pass
 
 
-def hello(server, editor, ask):
+def hello(server: Server, ask: Any) -> Told:
     server.hello(str(ask["window"]))
-    return {"title": server.title}
+    return {"title": server.title, "names": list(server.declared), "note": server.editor.note}
 
 
-def bye(server, editor, ask):
+def bye(server: Server, ask: Any) -> Told:
     server.bye(str(ask["window"]))
     return {}
 
 
+def stop(server: Server, _: Any) -> Told:
+    server.completions.stop()
+    return {}
+
+
 # What the page asks for.
-ASKED = {
+ASKED: dict[str, Callable[[Server, Any], Told]] = {
     "hello": hello,
     "bye": bye,
-    "state": lambda server, editor, ask: editor.state(ask.get("since")),
-    "history": lambda server, editor, ask: editor.history(),
-    "need": lambda server, editor, ask: editor.need(),
-    "offer": lambda server, editor, ask: editor.offer(ask),
-    "move": lambda server, editor, ask: editor.move(ask),
-    "undo": lambda server, editor, ask: editor.undo(ask),
-    "redo": lambda server, editor, ask: editor.redo(ask),
-    "back": lambda server, editor, ask: editor.back(ask),
-    "save": lambda server, editor, ask: editor.save(ask),
-    "preview": lambda server, editor, ask: editor.preview(),
-    "stop": lambda server, editor, ask: editor.stop(),
+    "stop": stop,
+    "state": lambda server, ask: server.editor.state(ask.get("since")),
+    "history": lambda server, _: server.editor.history(),
+    "need": lambda server, _: server.editor.need(),
+    "move": lambda server, ask: server.editor.move(ask),
+    "undo": lambda server, ask: server.editor.undo(ask),
+    "redo": lambda server, ask: server.editor.redo(ask),
+    "back": lambda server, ask: server.editor.back(ask),
+    "save": lambda server, ask: server.editor.save(ask),
+    "save-beside": lambda server, ask: server.editor.save_beside(ask),
+    "offer": lambda server, ask: server.costs.offer(ask),
+    "costs": lambda server, ask: server.costs.more(ask),
+    "preview": lambda server, _: server.completions.preview(),
+    "missing": lambda server, ask: server.completions.missing(ask),
+    "take": lambda server, ask: server.completions.take(ask),
+    "type": lambda server, ask: server.texts.type(ask),
+    "attributes": lambda server, ask: server.attributes.of(ask),
+    "set-attributes": lambda server, ask: server.attributes.change(ask),
+    "places": lambda server, ask: server.everywhere.places(ask),
+    "tag-places": lambda server, ask: server.everywhere.tag(ask),
+    "why": lambda server, ask: server.explainer.of_lists(ask),
 }

@@ -7,10 +7,13 @@ const host = document.getElementById("document")
 const note = document.getElementById("note")
 const others = new BroadcastChannel(location.pathname)
 
-// `made` is the element that the last change made or renamed, `where` the one whose list it changed.
-export const app = { tree: null, view: new View(host, host), state: null, made: null, where: null }
-// Called with the changed nodes behind each change, and with none where all is new.
+// `made` is the element that the last change made or renamed, `where` the one whose list it changed; `names` are those
+// that the DTD declares.
+export const app = { tree: null, view: new View(host, host), state: null, made: null, where: null, names: new Set() }
+// Called with whether something changed, behind each answer.
 export const listeners = []
+// Called where the document was changed by another program.
+export const onChanged = []
 
 // A sentence for the user; it stays until it is closed.
 export function tell(text) {
@@ -18,7 +21,7 @@ export function tell(text) {
   note.firstElementChild.textContent = text
 }
 note.lastElementChild.addEventListener("click", () => tell(""))
-whenGone(() => tell("The program has ended. Each move is kept: start it again in the terminal, and open the new address."))
+whenGone(() => tell("The program has ended. Each move is kept: start it again in the terminal, and open its address."))
 
 // One request at a time, in order.
 let busy = Promise.resolve()
@@ -31,20 +34,25 @@ function inTurn(work) {
   return done
 }
 
-// Asks for a move, an undo or the like; gives what it was refused for, or nothing where it was made.
-export function change(name, what = {}) {
+// Asks for a move, an undo or the like; gives what it was refused for, or nothing where it was made. `also` is called
+// with an answer that was taken.
+export function change(name, what = {}, also = () => {}) {
   return inTurn(async () => {
     const answer = await ask(name, { ...what, version: app.state.version })
     if (answer.trouble) tell(answer.trouble)
+    if (answer.changed) for (const call of onChanged) call()
     if (answer.stale) {
       take(await ask("state", { since: app.state.version }))
-      if (!answer.trouble) tell("The document was changed in another window. It is shown as it is now; nothing was done here.")
+      if (!answer.trouble) tell("The document was changed in another window. It is shown as it is; nothing was done here.")
       return { no: "stale" }
     }
     if (answer.trouble) return { no: "trouble" }
+    if ("version" in answer) {
+      take(answer)
+      others.postMessage(app.state.version)
+    }
     if (answer.no) return answer
-    take(answer)
-    others.postMessage(app.state.version)
+    also(answer)
     return null
   })
 }
@@ -83,11 +91,12 @@ function takeMove({ changes, verdicts }) {
   const changed = new Map()
   for (const each of changes) {
     const node = app.tree.apply(each)
+    const isTag = "rename" in each || "attributes" in each
     app.where = node
-    changed.set(node, changed.get(node) || "rename" in each)
+    changed.set(node, changed.get(node) || isTag)
     const made = each.kids?.find((told) => told.kind === "element")
     if (made) app.made = app.tree.nodes.get(made.id)
-    if ("rename" in each) app.made = node
+    if (isTag) app.made = node
   }
   for (const [id, verdict] of Object.entries(verdicts)) app.tree.nodes.get(Number(id)).verdict = verdict
   for (const [node, renamed] of changed) app.view.redraw(node, renamed)

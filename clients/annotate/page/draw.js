@@ -1,7 +1,8 @@
-// Draws a tree as boxes. A list is drawn in chunks, each of some hundred nodes, and a chunk is filled when it comes into sight and emptied
-// when it is far from it. So what is drawn stays small, whatever the size of the document.
+// Draws a tree as boxes. A list is drawn in chunks, each of some hundred nodes, and a chunk is filled when it comes
+// into sight and emptied when it is far from it. So what is drawn stays small, whatever the size of the document.
 //
-// A list without text is drawn as blocks, one below another. One with text is drawn as a flow, and so is what stands in it, unless that is big.
+// A list without text is drawn as blocks, one below another. One with text is drawn as a flow, and so is what stands in
+// it, unless that is big.
 import { holdsText, lengthOf, lineEndBefore, lineOf, sliceOf } from "./tree.js"
 
 // The most nodes, and the most characters, of a chunk; an element with more nodes is a block.
@@ -19,10 +20,18 @@ export function make(name, className, ...inside) {
   return made
 }
 
+// A sentence, in which names and models stand between backticks.
+export const worded = (text) => text.split("`").map((part, at) => (at % 2 ? make("code", "", part) : part))
+
+// What a list's verdict is called.
+const VERDICTS = { possible: ", not finished", impossible: ", can't be finished" }
+
 export class View {
-  constructor(host, scroller) {
+  // `prefix` begins the boxes' identifiers.
+  constructor(host, scroller, prefix = "node") {
     this.host = host
     this.scroller = scroller
+    this.prefix = prefix
     this.boxes = new Map()
     this.seen = new IntersectionObserver((entries) => this.look(entries), { root: scroller, rootMargin: `${NEAR}px` })
   }
@@ -52,7 +61,18 @@ export class View {
   // A node's verdict has changed.
   mark(node) {
     const box = this.box(node)
-    if (box) box.dataset.verdict = node.verdict ?? "valid"
+    if (box) this.judge(node, box)
+  }
+
+  // Puts a verdict on a box: its colour, what it is called, and why nothing can mend it, which `explain` fills in.
+  judge(node, box) {
+    box.dataset.verdict = node.verdict ?? "valid"
+    box.ariaLabel = [`${node.name}${VERDICTS[node.verdict] ?? ""}${node.new ? ", new" : ""}`, node.attrs].filter(Boolean).join(", ")
+    box.querySelector(":scope > .why")?.remove()
+    if (node.verdict !== "impossible" || !this.explain) return
+    const why = make("span", "why")
+    box.querySelector(":scope > .tag").after(why)
+    this.explain(node, why)
   }
 
   // Draws all that is needed to show this node, and gives its box.
@@ -148,6 +168,7 @@ export class View {
   block(node) {
     if (node.kind !== "element") return this.leaf(node, "div")
     const list = make("div", "list")
+    list.role = "group"
     const depth = lineOf(node).length
     const box = this.element(node, "div", depth > DEEP ? "block deep" : "block", this.tag(node, "start"), list)
     this.waiting.push([node, list])
@@ -163,8 +184,12 @@ export class View {
 
   element(node, name, className, ...inside) {
     const box = this.put(node, make(name, `element ${className}`, ...inside))
-    box.dataset.verdict = node.verdict ?? "valid"
+    box.id = `${this.prefix}${node.id}`
+    box.role = "treeitem"
+    box.ariaLevel = String(lineOf(node).length - 1)
+    box.ariaSelected = "false"
     if (node.new) box.classList.add("new")
+    this.judge(node, box)
     return box
   }
 
@@ -182,6 +207,7 @@ export class View {
   tag(node, form) {
     const tag = make("span", `tag ${form}`, node.name)
     tag.dataset.tag = node.id
+    tag.ariaHidden = "true"
     if (node.attrs && form !== "end") tag.append(" ", make("span", "attrs", node.attrs))
     return tag
   }

@@ -1,25 +1,55 @@
-// The menu: choices that are filtered by typing, Enter takes one. A choice has a label, and `take`, which is given the label.
+// The menu: choices that are filtered by typing, Enter takes one. A choice has a label and `take`, which is given the
+// label; it may have a note, and a group, whose name stands above its choices where nothing is typed.
+import { worded } from "./draw.js"
 
 const box = document.getElementById("menu")
-const [title, input, list, refusal] = box.children
+const [title, about, input, list, refusal] = box.children
+const isNarrow = matchMedia("(max-width: 600px)")
 
 let open = null
 let shown = []
 let at = 0
+// The label that was chosen by an arrow key: it stays chosen when choices come in.
+let wanted = null
+// What stood in the rows before choices came in, and when that was: for a moment a row is taken only for what was seen
+// there.
+const MOMENT = 250
+let seen = { labels: [], at: 0, time: -Infinity }
 
-// Opens at a box of the page, which `box` gives. `choices` are the choices; `typed`, where it is there, takes a name that isn't among them, beside
-// which `tried` is written; `hint` stands where there is no choice.
-export function openMenu({ closed, ...menu }) {
+// Opens at a box of the page, which `box` gives. `typed`, where it is there, takes a name that isn't among the choices;
+// `names` are those that are declared; `hint` stands where there is no choice, `about` above them all.
+export function openMenu({ closed, keepFocus = false, ...menu }) {
   const before = open
-  open = { closed, ...menu }
+  open = { closed, names: new Set(), ...menu }
   if (before?.closed && before.closed !== closed) before.closed()
   title.textContent = open.name
+  tellAbout(open.about)
   input.value = ""
+  wanted = null
+  seen.time = -Infinity
   refuse(null)
   box.hidden = false
   filter()
   stand()
-  input.focus({ preventScroll: true })
+  if (!keepFocus) input.focus({ preventScroll: true })
+}
+
+// Other choices, in the menu as it stands; with `about` what is chosen stays so, wherever it stands then.
+export function setChoices(choices, about = null) {
+  if (!open) return
+  open.choices = choices
+  seen = { labels: shown.map(({ label }) => label), at, time: performance.now() }
+  if (about !== null) {
+    wanted ??= shown[at]?.label ?? null
+    tellAbout(about)
+  }
+  filter()
+  stand()
+}
+
+function tellAbout(text) {
+  about.hidden = !text
+  about.replaceChildren(...worded(text ?? ""))
 }
 
 export function closeMenu() {
@@ -35,13 +65,13 @@ export const isMenuOpen = () => open !== null
 // Why nothing came of a choice.
 export function refuse(why) {
   refusal.hidden = why === null
-  refusal.textContent = why ?? ""
+  refusal.replaceChildren(...worded(why ?? ""))
   if (open) stand()
 }
 
-// Below the box, or above where there is no room.
+// Below the box, or above where there is no room. In a narrow window the style sheet says where.
 export function stand() {
-  if (!open) return
+  if (!open || isNarrow.matches) return
   const at = open.box()
   const { width, height } = box.getBoundingClientRect()
   const isBelow = at.bottom + 6 + height <= innerHeight
@@ -50,50 +80,92 @@ export function stand() {
   box.style.left = `${Math.max(6, Math.min(at.left, innerWidth - width - 6))}px`
 }
 
+// What is declared and typed whole comes first, offered or not; then what begins so, and what holds it. A name that
+// isn't declared comes last.
+function ranked(text) {
+  if (!text) return open.choices
+  const small = text.toLowerCase()
+  const others = open.choices.filter(({ label }) => label !== text && label.toLowerCase().includes(small))
+  const begins = ({ label }) => label.toLowerCase().startsWith(small)
+  const rest = [...others.filter(begins), ...others.filter((choice) => !begins(choice))]
+  const whole = open.choices.filter(({ label }) => label === text)
+  if (whole.length > 0 || !open.typed) return [...whole, ...rest]
+  const isDeclared = open.names.has(text)
+  const note = isDeclared ? "isn't offered; Enter tells why" : "the DTD has no such element"
+  const typed = { label: text, take: open.typed, isTyped: true, note }
+  return isDeclared ? [typed, ...rest] : [...rest, typed]
+}
+
 function filter() {
   const text = input.value.trim()
-  const small = text.toLowerCase()
-  // The name itself, then those that begin so, then those that hold it.
-  const rank = (label) => (label === text ? 0 : label.toLowerCase().startsWith(small) ? 1 : label.toLowerCase().includes(small) ? 2 : 3)
-  const ranked = (at) => open.choices.filter(({ label }) => rank(label) === at)
-  shown = [...ranked(0), ...ranked(1), ...ranked(2)]
-  if (open.typed && text && !open.choices.some(({ label }) => label === text)) shown.push({ label: text, typed: true, take: open.typed })
-  at = 0
-  const items = shown.map(({ label, typed }, number) => {
-    const item = document.createElement("li")
-    item.id = `choice${number}`
-    item.role = "option"
-    item.textContent = label
-    if (typed) item.dataset.tried = open.tried
-    return item
-  })
-  if (items.length === 0) items.push(document.createElement("p"))
-  if (shown.length === 0) items[0].textContent = open.hint ?? "nothing that begins so"
-  list.replaceChildren(...items)
+  shown = ranked(text)
+  const kept = shown.findIndex(({ label }) => label === wanted)
+  at = Math.max(0, kept)
+  const items = shown.map(itemOf)
+  list.replaceChildren(...(text ? items : grouped(items)))
+  if (items.length === 0) list.append(line("li", "hint", open.hint ?? "nothing that begins so"))
   show()
 }
 
-function show() {
-  for (const [number, item] of [...list.children].entries()) if (item.role === "option") item.ariaSelected = String(number === at)
-  input.setAttribute("aria-activedescendant", shown.length ? `choice${at}` : "")
-  list.children[at]?.scrollIntoView?.({ block: "nearest" })
+function itemOf({ label, note, isTyped }, number) {
+  const item = line("li", isTyped ? "typed" : "", label)
+  item.id = `choice${number}`
+  item.role = "option"
+  item.dataset.number = number
+  if (note) item.append(" ", line("span", "note", note))
+  return item
 }
 
-function take(number) {
+// With the names of groups between.
+function grouped(items) {
+  const rows = []
+  for (const [number, item] of items.entries()) {
+    const { group } = shown[number]
+    if (group && group !== shown[number - 1]?.group) rows.push(line("li", "group", group))
+    rows.push(item)
+  }
+  return rows
+}
+
+function line(name, className, text) {
+  const made = document.createElement(name)
+  made.className = className
+  made.textContent = text
+  if (name === "li") made.role = "presentation"
+  return made
+}
+
+function show() {
+  for (const item of list.querySelectorAll("[role=option]")) {
+    item.ariaSelected = String(Number(item.dataset.number) === at)
+  }
+  input.setAttribute("aria-activedescendant", shown.length ? `choice${at}` : "")
+  const chosen = document.getElementById(`choice${at}`)
+  if (at === 0) list.scrollTop = 0
+  else chosen?.scrollIntoView({ block: "nearest" })
+}
+
+function take(number, before) {
   const choice = shown[number]
-  if (choice) choice.take(choice.label)
+  const hasMoved = performance.now() - seen.time < MOMENT && choice?.label !== before
+  if (choice && !hasMoved) choice.take(choice.label)
 }
 
 input.addEventListener("input", () => {
   refuse(null)
+  wanted = null
+  seen.time = -Infinity
   filter()
 })
 input.addEventListener("keydown", (event) => {
-  const step = { ArrowDown: 1, ArrowUp: -1 }[event.key]
+  const step = { ArrowDown: 1, ArrowUp: -1, PageDown: 8, PageUp: -8 }[event.key]
   if (step && shown.length) {
-    at = (at + step + shown.length) % shown.length
+    const isOne = Math.abs(step) === 1
+    at = isOne ? (at + step + shown.length) % shown.length : Math.max(0, Math.min(shown.length - 1, at + step))
+    wanted = shown[at].label
+    seen.time = -Infinity
     show()
-  } else if (event.key === "Enter") take(at)
+  } else if (event.key === "Enter") take(at, seen.labels[seen.at])
   else if (event.key === "Escape" || event.key === "Tab") closeMenu()
   else return
   event.preventDefault()
@@ -101,6 +173,6 @@ input.addEventListener("keydown", (event) => {
 })
 list.addEventListener("mousedown", (event) => event.preventDefault())
 list.addEventListener("click", (event) => {
-  const item = event.target.closest("li")
-  if (item) take([...list.children].indexOf(item))
+  const item = event.target.closest("[role=option]")
+  if (item) take(Number(item.dataset.number), seen.labels[item.dataset.number])
 })

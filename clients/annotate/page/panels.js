@@ -1,64 +1,159 @@
-// The history beside the document, and the preview over it.
-import { change, listeners, question } from "./app.js"
+// What stands beside the document, its history and its elements by name, and the preview over it.
+import { app, change, listeners, onChanged, question, tell } from "./app.js"
 import { ask } from "./ask.js"
+import { chooseElement } from "./choose.js"
 import { make, View } from "./draw.js"
 import { Tree } from "./tree.js"
 
+const host = document.getElementById("document")
 const moves = document.getElementById("moves")
+const elements = document.getElementById("elements")
 const completed = document.getElementById("completed")
+const beside = document.getElementById("beside")
+const buttons = new Map([[moves, document.getElementById("history")], [elements, document.getElementById("list")]])
 
-// A move in words; its paths are those of then, so they aren't told.
-function words({ line, about }) {
-  const [word, ...rest] = line.split(" ")
-  const name = `⟨${rest.at(-1)}⟩`
-  const round = about ? ` round “${about}”` : ""
-  return { wrap: `${name}${round}`, insert: `new ${name}`, rename: `renamed: ${name}${round}`, unwrap: `tags away${round}` }[word] ?? line
-}
-
-export function showHistory() {
-  moves.hidden = !moves.hidden
+// Shows one of the two, or hides it.
+function toggle(panel, fill) {
+  const isHidden = !panel.hidden
+  for (const [each, button] of buttons) {
+    each.hidden = each !== panel || isHidden
+    button.setAttribute("aria-expanded", String(!each.hidden))
+  }
   fill()
 }
+for (const [panel] of buttons) {
+  panel.querySelector("header button").addEventListener("click", () => {
+    toggle(panel, () => {})
+    host.focus({ preventScroll: true })
+  })
+}
 
-async function fill() {
+export const showHistory = () => toggle(moves, fillMoves)
+export const showElements = () => toggle(elements, fillElements)
+
+async function fillMoves() {
   if (moves.hidden) return
   const answer = await question("history")
   if (!answer) return
-  const lines = ["opened", ...answer.made.map(words), ...answer.undone.map(words)]
-  const items = lines.map((text, at) => {
+  const items = ["opened", ...answer.made, ...answer.undone].map((text, at) => {
     const item = make("button", at > answer.made.length ? "undone" : at === answer.made.length ? "now" : "", text)
+    if (at === answer.made.length) item.setAttribute("aria-current", "step")
     item.addEventListener("click", () => change("back", { to: at }))
     return make("li", "", item)
   })
   moves.querySelector("ol").replaceChildren(...items)
   moves.querySelector(".now")?.scrollIntoView({ block: "nearest" })
 }
-listeners.push((changed) => changed && fill())
 
-const WHY_NOT = {
-  impossible: "A list can't be made valid by adding elements. The red ones are such lists.",
-  limit: "Too much is missing, or a list is too wide, to find the least that has to be added.",
+// The element that was gone to last, by its name.
+const visited = new Map()
+
+function fillElements() {
+  if (elements.hidden) return
+  const names = [...app.tree.names()].sort(([one], [other]) => one.localeCompare(other))
+  const items = names.map(([name, { count, open, bad }]) => {
+    const left = [open && `${open} not finished`, bad && `${bad} can't be`].filter(Boolean).join(", ")
+    const item = make("button", bad ? "bad" : open ? "open" : "")
+    item.append(make("span", "name", name), " ", make("span", "count", String(count)))
+    if (left) item.append(" ", make("span", "note", left))
+    item.addEventListener("click", () => goToNamed(name, item))
+    return make("li", "", item)
+  })
+  elements.querySelector("ol").replaceChildren(...items)
 }
+
+function goToNamed(name, item) {
+  const all = [...app.tree.all(app.tree.root)].filter((node) => node.kind === "element" && node.name === name)
+  const at = (all.indexOf(visited.get(name)) + 1) % all.length
+  visited.set(name, all[at])
+  app.view.reveal(all[at]).scrollIntoView({ block: "center" })
+  chooseElement(all[at])
+  item.querySelector(".count").textContent = `${at + 1} of ${all.length}`
+}
+listeners.push((changed) => {
+  if (!changed) return
+  fillMoves()
+  fillElements()
+})
+
+// The preview.
+const WHY_NOT = {
+  impossible: "There is a place where no added elements can make the document valid; it is red.",
+  heavy: "More than 1,000,000 elements are missing.",
+}
+const all = completed.querySelector(".all")
+const view = completed.querySelector(".view")
 
 export async function showPreview() {
   const title = completed.querySelector("h2")
-  const host = completed.querySelector(".view")
   title.textContent = "A valid document is looked for …"
-  host.replaceChildren()
-  completed.showModal()
+  view.replaceChildren()
+  all.hidden = completed.querySelector(".about").hidden = true
+  if (!completed.open) completed.showModal()
   const answer = await ask("preview")
-  if (!completed.open) return
+  if (!completed.open || answer.stale) return
   if (!answer.tree) {
     title.textContent = "There is no preview"
-    host.textContent = answer.trouble ?? WHY_NOT[answer.no.split(" ")[0]] ?? answer.no
+    view.textContent = answer.trouble ?? whyNot(answer)
     return
   }
   const count = `${answer.new} new element${answer.new === 1 ? "" : "s"}`
-  title.textContent = answer.new ? `Valid with ${count}, and no fewer. The document itself is as it was.` : "The document is valid as it is"
-  new View(host, host).draw(new Tree(answer.tree, "valid"))
-  host.querySelector(".new")?.scrollIntoView({ block: "center" })
+  const told = `Valid with ${count}, and no fewer. The document itself is as it was.`
+  title.textContent = answer.new ? told : "The document is valid as it is"
+  all.hidden = completed.querySelector(".about").hidden = answer.new === 0
+  new View(view, view, "new").draw(new Tree(answer.tree, "valid"))
+  for (const tag of view.querySelectorAll(".new > .tag:not(.end)")) makeButton(tag)
+  view.querySelector(".new")?.scrollIntoView({ block: "center" })
 }
+
+// A tag that can be taken over, also by keys.
+function makeButton(tag) {
+  Object.assign(tag, { role: "button", tabIndex: 0, ariaHidden: "false", ariaLabel: `Take over ${tag.textContent}` })
+  tag.title = "Take this element over"
+}
+
+function whyNot({ no, list }) {
+  const name = app.tree.nodes.get(list)?.name ?? "an element"
+  if (no === "wide") return `⟨${name}⟩ holds too much to find the least that has to be added.`
+  return WHY_NOT[no] ?? String(no)
+}
+
+async function take(what) {
+  const refusal = await change("take", what)
+  if (refusal?.no) tell("What was shown can't be taken over any more.")
+  return !refusal
+}
+
+all.addEventListener("click", async () => (await take({})) && completed.close())
+view.addEventListener("click", async ({ target }) => {
+  const tag = target.closest(".new > .tag")
+  if (tag && (await take({ new: Number(tag.dataset.tag) }))) showPreview()
+})
+view.addEventListener("keydown", (event) => {
+  if (event.key !== "Enter" || !event.target.closest(".new > .tag")) return
+  event.preventDefault()
+  event.target.click()
+})
 completed.addEventListener("close", () => {
-  completed.querySelector(".view").replaceChildren()
+  view.replaceChildren()
   ask("stop")
 })
+
+// Where the document was changed by another program.
+onChanged.push(() => {
+  const input = beside.querySelector("input")
+  input.value ||= document.title.replace(/(\.\w+)?$/, "-marked$1")
+  beside.returnValue = ""
+  beside.showModal()
+  input.select()
+})
+beside.addEventListener("close", async () => {
+  if (beside.returnValue !== "save") return
+  const answer = await question("save-beside", { name: beside.querySelector("input").value })
+  if (answer) tell(`Written to ${answer.path}.`)
+})
+
+// Behind a dialog the document has the focus again.
+for (const dialog of document.querySelectorAll("dialog")) {
+  dialog.addEventListener("close", () => host.focus({ preventScroll: true }))
+}

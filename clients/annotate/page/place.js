@@ -1,5 +1,6 @@
-// Where a selection is: a run of one list, told as [kid, unit] from and to. What it takes of an element in part, it takes whole.
-import { isWhite, lengthOf, lineOf, unitAt } from "./tree.js"
+// Where a selection is: a run of one list, told as [kid, unit] from and to. What it takes of an element in part, it
+// takes whole.
+import { isWhite, lengthOf, lineOf, sliceOf, unitAt } from "./tree.js"
 
 const count = (text) => [...text].length
 
@@ -149,6 +150,47 @@ function pointIn(piece, units) {
     left -= size
   }
   return [text, text.length ?? 0]
+}
+
+// All text in a node.
+export function textOf(node) {
+  if (node.kind !== "element") return node.kind === "text" ? node.text : ""
+  return node.kids.map(textOf).join("")
+}
+
+// The text of a run within the texts of one list; nothing where it holds tags.
+export function plainTextOf(run) {
+  const [first, from] = run.from
+  const [last, to] = run.to
+  const { kids } = run.owner
+  if (first === null || first.kind !== "text" || last?.kind !== "text") return ""
+  if (first === last) return sliceOf(first, from, to)
+  const between = kids.slice(kids.indexOf(first) + 1, kids.indexOf(last))
+  if (between.some((kid) => kid.kind !== "text")) return ""
+  return sliceOf(first, from, lengthOf(first)) + between.map(({ text }) => text).join("") + sliceOf(last, 0, to)
+}
+
+// A place so many units on in the texts side by side, or back, as far as they go.
+export function stepped([kid, unit], step, owner) {
+  const { kids } = owner
+  let at = kid === null ? kids.length : kids.indexOf(kid)
+  let place = unit
+  if (at === kids.length || (kids[at].kind !== "text" && step < 0 && place === 0)) {
+    if (kids[at - 1]?.kind !== "text") return [kid, unit]
+    at -= 1
+    place = lengthOf(kids[at])
+  }
+  if (kids[at].kind !== "text") return [kid, unit]
+  place += step
+  while (place < 0 && kids[at - 1]?.kind === "text") {
+    at -= 1
+    place += lengthOf(kids[at])
+  }
+  while (place > lengthOf(kids[at]) && kids[at + 1]?.kind === "text") {
+    place -= lengthOf(kids[at])
+    at += 1
+  }
+  return [kids[at], Math.max(0, Math.min(place, lengthOf(kids[at])))]
 }
 
 // What a run is, in words.

@@ -1,4 +1,5 @@
-// The page's copy of the document's tree: which nodes there are, and their order. It takes what the program tells it, and decides nothing.
+// The page's copy of the document's tree: which nodes there are, and their order. It takes what the program tells it,
+// and decides nothing.
 
 const WHITE = /^[ \t\r\n]*$/
 
@@ -47,6 +48,11 @@ export class Tree {
       node.name = change.name
       return node
     }
+    if ("attributes" in change) {
+      const node = this.nodes.get(change.attributes)
+      node.attrs = change.attrs
+      return node
+    }
     const owner = this.nodes.get(change.list)
     const nodes = change.kids.map((told) => this.given(told))
     const old = owner.kids.splice(change.from, change.to - change.from, ...nodes)
@@ -87,6 +93,20 @@ export class Tree {
       length += to - from
     }
     return refs ? { text, refs } : { text }
+  }
+
+  // The elements by name: how many there are, and how many of them aren't finished.
+  names() {
+    const names = new Map()
+    for (const node of this.all(this.root)) {
+      if (node.kind !== "element") continue
+      const row = names.get(node.name) ?? { count: 0, open: 0, bad: 0 }
+      row.count += 1
+      row.open += node.verdict === "possible"
+      row.bad += node.verdict === "impossible"
+      names.set(node.name, row)
+    }
+    return names
   }
 
   // The next list in document order that isn't valid, behind this node's, or the first where there is none.

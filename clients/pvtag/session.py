@@ -5,75 +5,100 @@
         session.offer("0.1")                    # the names that the element may have instead
         session.show()                          # the document's bytes
 
-An edit, undo or redo answers `Made` or `Refused`; what else is asked answers its value, or `Refused` where there is none. A path is text, as in
-a line: "." is the document node, "0" the root. Where the program ends, also before it began, each call raises `Ended`, which has its status and
-what it wrote last. One thread at a time may use a session.
+An edit, undo or redo answers `Made` or `Refused`; what else is asked answers its value, or `Refused` where there is
+none. A path is text, as in a line: "." is the document node, "0" the root. Where the program ends, also before it
+began, each call raises `Ended`, which has its status and what it wrote last. One thread at a time may use a session.
 """
 import re
 import subprocess
-from collections import namedtuple
+from collections.abc import Sequence
+from typing import NamedTuple, NoReturn
 
-# A move that was made: so many lists changed; so many aren't valid by themselves now, and so many can't be mended.
-Made = namedtuple("Made", "lists open bad")
-# A line that nothing came of. `why` is "shape", "impossible", "limit", "history", "command", "memory", "wide" or "heavy"; `what` the reason of
-# a shape, or the path of a list.
-Refused = namedtuple("Refused", "why what", defaults=("",))
-# A list, its verdict ("valid", "possible" or "impossible"), and the number of the move that changed it last.
-Verdict = namedtuple("Verdict", "path verdict stamp")
-# A completed document, and how many elements are new in it.
-Completed = namedtuple("Completed", "new document")
+
+class Made(NamedTuple):
+    """A move that was made: so many lists changed; so many aren't valid by themselves now but can be mended, and so
+    many can't."""
+
+    lists: int
+    open: int
+    bad: int
+
+
+class Refused(NamedTuple):
+    """A line that nothing came of. `why` is "shape", "impossible", "limit", "history", "command", "memory", "wide" or
+    "heavy"; `what` the reason of a shape, or the path of a list."""
+
+    why: str
+    what: str = ""
+
+
+class Verdict(NamedTuple):
+    """A list, its verdict ("valid", "possible" or "impossible"), and the number of the move that changed it last."""
+
+    path: str
+    verdict: str
+    stamp: int
+
+
+class Completed(NamedTuple):
+    """A completed document, and how many elements are new in it."""
+
+    new: int
+    document: bytes
 
 
 class Ended(Exception):
     """The program has ended: its status, and its last line."""
 
-    def __init__(self, status, line):
+    def __init__(self, status: int | None, line: str) -> None:
         super().__init__(f"the session has ended with status {status}: {line or 'it wrote nothing'}")
         self.status, self.line = status, line
 
 
 class Session:
-    def __init__(self, program, dtd, root, document):
+    def __init__(self, program: Sequence[str], dtd: str, root: str, document: str) -> None:
         """Begins; `program` is a list of words. A session of its own keeps the terminal's Ctrl-C from it."""
         words = [*program, "session", dtd, root, document]
         self.process = subprocess.Popen(words, stdin=subprocess.PIPE, stdout=subprocess.PIPE, start_new_session=True)
+        assert self.process.stdin is not None and self.process.stdout is not None
+        self.input, self.output = self.process.stdin, self.process.stdout
         self.moves = 0
 
     # Edits.
-    def wrap(self, path, start, end, name):
+    def wrap(self, path: str, start: int, end: int, name: str) -> Made | Refused:
         return self.edit(f"wrap {path} {start} {end} {name}")
 
-    def insert(self, path, at, name):
+    def insert(self, path: str, at: int, name: str) -> Made | Refused:
         return self.edit(f"insert {path} {at} {name}")
 
-    def unwrap(self, path):
+    def unwrap(self, path: str) -> Made | Refused:
         return self.edit(f"unwrap {path}")
 
-    def rename(self, path, name):
+    def rename(self, path: str, name: str) -> Made | Refused:
         return self.edit(f"rename {path} {name}")
 
-    def split(self, path, at):
+    def split(self, path: str, at: int) -> Made | Refused:
         return self.edit(f"split {path} {at}")
 
-    def join(self, path):
+    def join(self, path: str) -> Made | Refused:
         return self.edit(f"join {path}")
 
-    def text(self, path, text):
+    def text(self, path: str, text: str) -> Made | Refused:
         return self.edit(f"text {path} {text}")
 
-    def addtext(self, path, at, text):
+    def addtext(self, path: str, at: int, text: str) -> Made | Refused:
         return self.edit(f"addtext {path} {at} {text}")
 
-    def deltext(self, path):
+    def deltext(self, path: str) -> Made | Refused:
         return self.edit(f"deltext {path}")
 
-    def undo(self):
+    def undo(self) -> Made | Refused:
         return self.edit("undo")
 
-    def redo(self):
+    def redo(self) -> Made | Refused:
         return self.edit("redo")
 
-    def edit(self, line):
+    def edit(self, line: str) -> Made | Refused:
         """The same by a line of a script."""
         words = self.ask(line)
         if words[0] == "no":
@@ -82,20 +107,20 @@ class Session:
         return Made(*map(int, words[1:4]))
 
     # What changes nothing.
-    def history(self):
+    def history(self) -> list[str]:
         """The edits that were made and aren't undone, as lines."""
         return [self.line() for _ in range(int(self.ask("history")[1]))]
 
-    def show(self):
+    def show(self) -> bytes | Refused:
         words = self.ask("show")
-        return refused(words) if words[0] == "no" else self.bytes(words[1])
+        return refused(words) if words[0] == "no" else self.body(int(words[1]))
 
-    def verdicts(self):
+    def verdicts(self) -> list[Verdict] | Refused:
         """All lists, in document order."""
         rows = self.verdict_lines()
         return rows if isinstance(rows, Refused) else [verdict_of(row) for row in rows.splitlines()]
 
-    def changed(self, after):
+    def changed(self, after: int) -> list[Verdict] | Refused:
         """The lists that moves behind number `after` have changed, moves being counted from 1."""
         rows = self.verdict_lines()
         if isinstance(rows, Refused):
@@ -103,30 +128,30 @@ class Session:
         late = b"|".join(b"%d" % stamp for stamp in range(after + 1, self.moves + 1))
         return [verdict_of(row) for row in re.findall(rb"^.* (?:%s)$" % late, rows, re.M)] if late else []
 
-    def need(self):
+    def need(self) -> int | Refused:
         """The least number of missing elements."""
         words = self.ask("need")
         return refused(words) if words[0] == "no" else int(words[1])
 
-    def complete(self):
+    def complete(self) -> Completed | Refused:
         words = self.ask("complete")
-        return refused(words) if words[0] == "no" else Completed(int(words[1]), self.bytes(words[2]))
+        return refused(words) if words[0] == "no" else Completed(int(words[1]), self.body(int(words[2])))
 
-    def offer(self, path, start=None, end=None):
+    def offer(self, path: str, start: int | None = None, end: int | None = None) -> list[str] | Refused:
         """The names that this run of kids may be wrapped in; without a run, those that the element may have."""
         words = self.ask(f"offer {path}" if start is None else f"offer {path} {start} {end}")
         return refused(words) if words[0] == "no" else [self.line() for _ in range(int(words[1]))]
 
     # The pipes.
-    def ask(self, line):
+    def ask(self, line: str) -> list[str]:
         """The first line of the reply, as words."""
         if "\n" in line or "\r" in line:
             raise ValueError("a line holds no line end")
-        if self.process.stdout.closed:
+        if self.output.closed:
             raise Ended(self.process.returncode, "")
         try:
-            self.process.stdin.write(line.encode() + b"\n")
-            self.process.stdin.flush()
+            self.input.write(line.encode() + b"\n")
+            self.input.flush()
         except BrokenPipeError:
             pass
         first = self.line()
@@ -135,58 +160,57 @@ class Session:
             self.ended(first)
         return words
 
-    def line(self):
-        line = self.process.stdout.readline()
+    def line(self) -> str:
+        line = self.output.readline()
         if not line.endswith(b"\n"):
             self.ended(line.decode(errors="replace"))
         return line[:-1].decode()
 
-    def bytes(self, size):
+    def body(self, size: int) -> bytes:
         """So many bytes, and the LF behind them."""
-        size = int(size)
-        text = self.process.stdout.read(size + 1)
+        text = self.output.read(size + 1)
         if len(text) <= size:
             self.ended("")
         return text[:-1]
 
-    def verdict_lines(self):
+    def verdict_lines(self) -> bytes | Refused:
         """The rows of all lists, as they come."""
         words = self.ask("verdicts")
         if words[0] == "no":
             return refused(words)
-        return b"".join([self.process.stdout.readline() for _ in range(int(words[1]))])
+        return b"".join([self.output.readline() for _ in range(int(words[1]))])
 
-    def ended(self, line):
+    def ended(self, line: str) -> NoReturn:
         raise Ended(self.close(), line)
 
-    def close(self):
+    def close(self) -> int:
         """Ends the program, which a closed input asks for, and gives its status."""
         try:
-            self.process.stdin.close()
+            self.input.close()
         except BrokenPipeError:
             pass
-        self.process.stdout.close()
+        self.output.close()
         try:
             return self.process.wait(timeout=5)
         except subprocess.TimeoutExpired:
             self.process.kill()
             return self.process.wait()
 
-    def __enter__(self):
+    def __enter__(self) -> "Session":
         return self
 
-    def __exit__(self, *_):
+    def __exit__(self, *_: object) -> None:
         self.close()
 
 
 REPLIES = ("ok", "no", "show", "history", "verdicts", "need", "completed", "offer")
 
 
-def refused(words):
+def refused(words: list[str]) -> Refused:
     return Refused(*words[1:])
 
 
-def verdict_of(row):
+def verdict_of(row: bytes) -> Verdict:
     path, verdict, stamp = row.split()
     return Verdict(path.decode(), verdict.decode(), int(stamp))
 

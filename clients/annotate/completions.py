@@ -1,0 +1,236 @@
+"""What is missing, by least completions, and how it is taken over: the new elements of a completed document, as edits.
+
+A completion keeps all that is there, in its order. So its new elements have places in the lists that are there, which
+are found by walking through both side by side.
+"""
+from collections.abc import Iterator
+from typing import Any, NamedTuple
+
+from alone import bare, completed, whole
+from editor import Editor
+from moves import short
+from pvtag.document import TEXT, Node, Told, shown
+from pvtag.program import Trouble, file_of
+from pvtag.session import Completed, Ended, Refused, Session
+from runs import Spot, Stale, below, element_of, run_between
+
+
+class New(NamedTuple):
+    """A new element of a completed list, and the run of the list that it would go round. It stands in another new one,
+    or in none."""
+
+    node: Node
+    start: Spot
+    end: Spot
+    around: int | None
+
+
+class Cursor:
+    """A place in a list, that goes on by what a completed list has of it."""
+
+    def __init__(self, owner: Node) -> None:
+        self.kids, self.at, self.unit = owner.kids, 0, 0
+
+    @property
+    def spot(self) -> Spot:
+        return self.at, self.unit or None
+
+    def step(self) -> Node:
+        """Past a kid that is no text; that kid."""
+        self.at += 1
+        return self.kids[self.at - 1]
+
+    def advance(self, units: int) -> None:
+        """Past units of texts."""
+        while units:
+            left = len(self.kids[self.at].units) - self.unit
+            taken = min(left, units)
+            units, self.unit = units - taken, self.unit + taken
+            if taken == left:
+                self.at, self.unit = self.at + 1, 0
+
+
+def news_in(owner: Node, list_: Node) -> tuple[list[New], list[tuple[Node, Node]]]:
+    """The new elements of a completed list, each behind those that stand in it; and the elements that are there, each
+    with its completed one."""
+    cursor, news, pairs = Cursor(owner), [], []
+    todo: list[tuple[Node, Spot | None]] = [(kid, None) for kid in reversed(list_.kids)]
+    around: list[int] = []
+    while todo:
+        node, start = todo.pop()
+        if start is not None:
+            around.pop()
+            news.append(New(node, start, cursor.spot, around[-1] if around else None))
+        elif node.kind == TEXT:
+            cursor.advance(len(node.units))
+        elif not node.new:
+            kid = cursor.step()
+            pairs += [(kid, node)] if kid.kind == "element" else []
+        else:
+            around.append(node.id)
+            todo.append((node, cursor.spot))
+            todo.extend((kid, None) for kid in reversed(node.kids))
+    return news, pairs
+
+
+def lists_in(owner: Node, list_: Node) -> Iterator[tuple[Node, list[New]]]:
+    """The lists of a completed one that have something new, from it on down."""
+    todo = [(owner, list_)]
+    while todo:
+        there, done = todo.pop()
+        news, pairs = news_in(there, done)
+        if news:
+            yield there, news
+        todo += pairs
+
+
+def lines_for(path: str, news: list[New]) -> list[str]:
+    """The edits that make all new elements of a list: an outer one before those in it, and the last one first, so that
+    no place is moved before it is used."""
+    spots = {spot for new in news for spot in (new.start, new.end)}
+    cuts = sorted((at, unit) for at, unit in spots if unit is not None)
+    lines = [f"split {below(path, at)} {unit}" for at, unit in reversed(cuts)]
+
+    def index(spot: Spot) -> int:
+        at, unit = spot
+        return at + sum(cut < (at, unit or 0) for cut in cuts) + (unit is not None)
+
+    places: dict[int, tuple[str, int]] = {}
+    for new in reversed(news):
+        list_, first = places[new.around] if new.around is not None else (path, 0)
+        start, end = index(new.start), index(new.end)
+        lines.append(f"wrap {list_} {start - first} {end - first} {new.node.name}")
+        places[new.node.id] = below(list_, start - first), start
+    return lines
+
+
+class Completions:
+    def __init__(self, editor: Editor) -> None:
+        self.editor = editor
+        self.asked: Session | None = None
+        self.version, self.news = -1, dict[int, tuple[Node, New]]()
+        self.lists: list[tuple[Node, list[New]]] = []
+        # What was told to be missing in lists, by version and number.
+        self.told: dict[tuple[int, int], list[New]] = {}
+
+    def complete(self, source: bytes, root: str) -> Completed | Refused:
+        """A least completion, by a session of its own; `stop` ends it."""
+        self.stop()
+        try:
+            with file_of(source) as path, Session(self.editor.program, self.editor.dtd, root, path) as session:
+                self.asked = session
+                return session.complete()
+        except Ended as ended:
+            if ended.status is not None and ended.status < 0:
+                raise Stale from None
+            raise Trouble(f"what is missing can't be told: {ended}") from None
+
+    def stop(self) -> None:
+        if self.asked is not None:
+            self.asked.process.kill()
+
+    # The whole document.
+    def preview(self) -> Told:
+        """A least completion, its new elements told apart; each may be taken over then, or all of them."""
+        editor = self.editor
+        with editor.lock:
+            source, version = whole(editor.document), editor.version
+        reply = self.complete(source, editor.root)
+        if isinstance(reply, Refused):
+            return editor.refusal(reply)
+        tree = completed(reply.document)
+        with editor.lock:
+            if editor.version != version:
+                raise Stale
+            self.version = version
+            self.lists = list(lists_in(editor.document.top, tree.top))
+        self.news = {new.node.id: (owner, new) for owner, news in self.lists for new in news}
+        return {"tree": tree.told(), "new": reply.new, "version": version}
+
+    # One list.
+    def missing(self, ask: Any) -> Told:
+        """What is missing in one list."""
+        editor = self.editor
+        with editor.lock:
+            owner, _ = element_of(editor.document, ask["node"])
+            there, version = bare(owner, editor.root), editor.version
+        reply = self.complete(there.source, there.root)
+        if isinstance(reply, Refused):
+            return {"no": reply.why}
+        with editor.lock:
+            if editor.version != version:
+                raise Stale
+            news = news_of(owner, reply)
+        self.told = {key: value for key, value in self.told.items() if key[0] == version} | {(version, owner.id): news}
+        return {"missing": [told_of(owner, new) for new in sorted(news, key=order_of)]}
+
+    # Taking over.
+    def take(self, ask: Any) -> Told:
+        """Makes what is missing: one new element of the preview, all of them, or those of one list; one move."""
+        editor = self.editor
+        with editor.lock:
+            since = editor.known(ask)
+            if "node" in ask:
+                lines = self.lines_of_list(ask["node"])
+            elif self.version != since:
+                raise Stale
+            elif "new" in ask:
+                lines = self.lines_of_one(ask["new"])
+            else:
+                # The lists further on first, since the paths of those before them stay then.
+                paths = [(editor.document.path_of(owner), news) for owner, news in self.lists]
+                paths.sort(key=depth_of, reverse=True)
+                lines = [line for path, news in paths for line in lines_for(path, news)]
+            return editor.answer(since, lines) if lines else editor.state(since)
+
+    def lines_of_list(self, number: Any) -> list[str]:
+        """What was told to be missing in a list."""
+        path = element_of(self.editor.document, number)[1]
+        news = self.told.get((self.editor.version, number))
+        if news is None:
+            raise Stale
+        return lines_for(path, news)
+
+    def lines_of_one(self, number: Any) -> list[str]:
+        if number not in self.news:
+            raise Stale
+        owner, new = self.news[number]
+        path = element_of(self.editor.document, owner.id)[1]
+        cuts, path, start, end = run_between(path, new.start, new.end)
+        return [*cuts, f"wrap {path} {start} {end} {new.node.name}"]
+
+
+def news_of(owner: Node, reply: Completed) -> list[New]:
+    """The new elements of a list that was completed by itself."""
+    tree = completed(reply.document)
+    return news_in(owner, tree.top if owner.owner is None else tree.there("0"))[0]
+
+
+def depth_of(row: tuple[str, list[New]]) -> int:
+    return 0 if row[0] == "." else row[0].count(".") + 1
+
+
+def order_of(new: New) -> tuple[int, int, int, int]:
+    """In the order of the document, an outer one before those in it."""
+    return (new.start[0], new.start[1] or 0, -new.end[0], -(new.end[1] or 0))
+
+
+def told_of(owner: Node, new: New) -> Told:
+    """A new element as the page tells it: its name, and what it would go round, or stand behind."""
+    before = [kid for kid in owner.kids[:new.start[0]] if not kid.is_white]
+    behind = f"⟨{before[-1].name}⟩" if before and before[-1].name else ""
+    return {"name": new.node.name, "around": around(new.node), "behind": behind}
+
+
+def around(new: Node) -> str:
+    """What a new element would go round, in words: its texts and the elements that are there."""
+    parts: list[str] = []
+    todo = [new]
+    while todo:
+        node = todo.pop()
+        if node.kind == TEXT and not node.is_white:
+            parts.append(f"“{short(''.join(map(shown, node.units)))}”")
+        elif node.name and not node.new:
+            parts.append(f"⟨{node.name}⟩")
+        todo.extend(reversed(node.kids))
+    return " ".join(parts if len(parts) <= 4 else [*parts[:2], "…", parts[-1]])

@@ -1,0 +1,108 @@
+"""The same tag round all places of the same text: which places there are, and the move that makes those that are
+wanted."""
+from collections.abc import Iterator
+from typing import Any
+
+from editor import Editor, name_of
+from pvtag.document import Document, Node, Told, shown
+from pvtag.session import Refused
+from runs import Stale, Stretch, run_over, texts_of
+
+# So many places are listed at most, and so many characters beside each.
+MOST = 2000
+BESIDE = 40
+
+
+class Everywhere:
+    def __init__(self, editor: Editor) -> None:
+        self.editor = editor
+
+    def places(self, ask: Any) -> Told:
+        """The places of a text that don't stand in an element of this name already: each with what stands beside it,
+        whether it is part of a word, and whether the session would refuse the tag there."""
+        text, name = ask["text"], name_of(ask)
+        if not isinstance(text, str) or not text.strip():
+            raise Stale
+        rows: list[Told] = []
+        with self.editor.lock:
+            for stretch, line, owner in found(self.editor.document, text):
+                if len(rows) == MOST:
+                    return {"places": rows, "more": True}
+                if not stands_in(owner, name):
+                    rows.append({"place": list(stretch), "in": owner.name, **beside(line, stretch),
+                                 "refused": isinstance(self.wrapped(stretch, name), Refused)})
+        return {"places": rows, "more": False}
+
+    def wrapped(self, stretch: Stretch, name: str) -> Any:
+        """What the session says of the tag there; nothing is changed."""
+        *cuts, line = self.lines_for(stretch, name)
+        return self.editor.tried(cuts, lambda: self.editor.tried([line], lambda: None))
+
+    def lines_for(self, stretch: Stretch, name: str) -> list[str]:
+        cuts, path, start, end = run_over(self.editor.document, stretch)
+        return [*cuts, f"wrap {path} {start} {end} {name}"]
+
+    def tag(self, ask: Any) -> Told:
+        """Makes the tag round all these places, one move; a place where it is refused is left out, and told."""
+        name = name_of(ask)
+        with self.editor.lock:
+            since = self.editor.known(ask)
+            # The last place first: what is done there moves no path before it.
+            places = [Stretch(*map(int, place)) for place in reversed(ask["places"])]
+            lines, refused = self.tried([self.lines_for(place, name) for place in places])
+            if not lines:
+                return {**self.editor.state(since), "refused": refused}
+            return {**self.editor.answer(since, lines), "refused": refused}
+
+    def tried(self, moves: list[list[str]]) -> tuple[list[str], int]:
+        """The lines of those that the session makes, one behind another, and how many it refuses; nothing is
+        changed."""
+        made: list[str] = []
+        refused = 0
+        try:
+            for lines in moves:
+                count = 0
+                for line in lines:
+                    if isinstance(self.editor.play(line), Refused):
+                        self.editor.take_back(count)
+                        refused += 1
+                        break
+                    count += 1
+                else:
+                    made += lines
+        finally:
+            self.editor.take_back(len(made))
+        return made, refused
+
+
+def found(document: Document, text: str) -> Iterator[tuple[Stretch, str, Node]]:
+    """The places of a text, in document order, each with the whole text that it is part of and the element that holds
+    that."""
+    for owner in in_order(document):
+        for first, nodes in texts_of(owner):
+            line = "".join("".join(map(shown, node.units)) for node in nodes)
+            at = line.find(text)
+            while at >= 0:
+                yield Stretch(owner.id, first, at, at + len(text)), line, owner
+                at = line.find(text, at + len(text))
+
+
+def in_order(document: Document) -> list[Node]:
+    return [node for node in document.elements() if node.owner is not None]
+
+
+def stands_in(owner: Node, name: str) -> bool:
+    node: Node | None = owner
+    while node is not None:
+        if node.name == name:
+            return True
+        node = node.owner
+    return False
+
+
+def beside(line: str, stretch: Stretch) -> Told:
+    before, text, behind = line[:stretch.start], line[stretch.start:stretch.end], line[stretch.end:]
+    is_part = text[0].isalnum() and before[-1:].isalnum() or text[-1].isalnum() and behind[:1].isalnum()
+    front = before if len(before) <= BESIDE else "…" + before[-BESIDE:]
+    rest = behind if len(behind) <= BESIDE else behind[:BESIDE] + "…"
+    return {"before": front, "behind": rest, "part": is_part}

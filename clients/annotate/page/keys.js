@@ -1,0 +1,158 @@
+// What the mouse, a finger and the keyboard do in the document.
+import { app } from "./app.js"
+import { choose, chooseElement, choosePlaceIn, chosen, scrollTo, showCaret, takeSelection } from "./choose.js"
+import { closeMenu, isMenuOpen, stand } from "./menu.js"
+import { extendTo, openFor, setTouch } from "./offers.js"
+import { isEmpty } from "./place.js"
+import { erase, type } from "./type.js"
+
+const host = document.getElementById("document")
+
+// The mouse: a selection opens its menu, a tag that of its element.
+let isPressed = false
+let isTouch = false
+addEventListener("pointerdown", (event) => setTouch((isTouch = event.pointerType === "touch")), true)
+host.addEventListener("mousedown", (event) => {
+  if (event.target.closest("#reason")) return
+  isPressed = event.button === 0
+  closeMenu()
+})
+document.addEventListener("mouseup", (event) => {
+  if (!isPressed) return
+  isPressed = false
+  const tag = event.target.closest?.("#document .tag")
+  const node = tag && app.tree.nodes.get(Number(tag.dataset.tag))
+  if (node && getSelection().isCollapsed) {
+    if (event.shiftKey && chosen().run) return extendTo(node)
+    chooseElement(node)
+    return void openFor()
+  }
+  const empty = event.target.closest?.("#document .list.nothing")?.closest("[data-id]")
+  if (empty && getSelection().isCollapsed) return choosePlaceIn(app.tree.nodes.get(Number(empty.dataset.id)))
+  // The browser takes a selection back only behind this event.
+  setTimeout(() => {
+    if (getSelection().rangeCount === 0) putCaretAt(event)
+    takeSelection()
+    if (!getSelection().isCollapsed) openFor()
+  })
+})
+
+// A click into what is selected takes the selection away, and leaves no caret.
+function putCaretAt({ clientX, clientY }) {
+  const at = document.caretPositionFromPoint?.(clientX, clientY)
+  if (at && host.contains(at.offsetNode)) getSelection().collapse(at.offsetNode, at.offset)
+}
+host.addEventListener("contextmenu", (event) => {
+  if (event.shiftKey || isTouch) return
+  event.preventDefault()
+  const tag = event.target.closest(".tag")
+  if (tag) chooseElement(app.tree.nodes.get(Number(tag.dataset.tag)))
+  else if (getSelection().isCollapsed) {
+    putCaretAt(event)
+    takeSelection()
+  }
+  openFor()
+})
+
+// A finger selects by the browser's own handles; the menu comes when they rest.
+let resting = 0
+document.addEventListener("selectionchange", () => {
+  showCaret()
+  clearTimeout(resting)
+  if (!isTouch || getSelection().isCollapsed || !host.contains(getSelection().anchorNode)) return
+  resting = setTimeout(() => {
+    takeSelection()
+    openFor()
+  }, 400)
+})
+host.addEventListener("focus", showCaret)
+host.addEventListener("blur", showCaret)
+host.addEventListener("scroll", follow)
+addEventListener("resize", follow)
+function follow() {
+  stand()
+  showCaret()
+}
+
+// The keyboard.
+const BACKWARD = ["ArrowLeft", "ArrowUp", "Home"]
+const FORWARD = ["ArrowRight", "ArrowDown", "End"]
+const ARROWS = Object.fromEntries([...BACKWARD.map((key) => [key, "backward"]), ...FORWARD.map((key) => [key, "forward"])])
+const STEPS = { ArrowUp: "line", ArrowDown: "line", Home: "lineboundary", End: "lineboundary" }
+
+export const toStart = () => getSelection().collapse(host.querySelector(".text")?.firstChild ?? host, 0)
+
+function selectAll() {
+  getSelection().selectAllChildren(host)
+  takeSelection()
+}
+
+const keepInSight = () => scrollTo(getSelection().getRangeAt(0).getBoundingClientRect())
+
+function moveInText(event) {
+  const selection = getSelection()
+  if (selection.rangeCount === 0 || !host.contains(selection.anchorNode)) toStart()
+  const step = STEPS[event.key] ?? (event.ctrlKey ? "word" : "character")
+  selection.modify(event.shiftKey ? "extend" : "move", ARROWS[event.key], step)
+  takeSelection()
+  keepInSight()
+}
+
+// To the first or the last text of the document, which may have to be drawn first.
+function moveToEnd(event) {
+  const texts = [...app.tree.all(app.tree.root)].filter((node) => node.kind === "text" && node.text.trim())
+  const isEnd = event.key === "End"
+  const node = isEnd ? texts.at(-1) : texts[0]
+  if (!node) return
+  app.view.reveal(node)
+  host.scrollTop = isEnd ? host.scrollHeight : 0
+  const pieces = [...host.querySelectorAll(`.text[data-id="${node.id}"]`)]
+  const piece = isEnd ? pieces.at(-1) : pieces[0]
+  if (!piece) return
+  const selection = getSelection()
+  const offset = isEnd ? piece.childNodes.length : 0
+  if (event.shiftKey && selection.rangeCount) selection.extend(piece, offset)
+  else selection.collapse(piece, offset)
+  takeSelection()
+  keepInSight()
+}
+
+function moveInTree(event) {
+  const { run, element } = chosen()
+  const here = element ?? run?.owner ?? (app.view.box(app.where ?? app.tree.top) ? app.where : app.tree.root)
+  const kids = (here.owner?.kids ?? []).filter((kid) => kid.kind === "element")
+  const to = {
+    ArrowUp: element ? here.owner : here,
+    ArrowDown: here.kids?.find((kid) => kid.kind === "element"),
+    ArrowLeft: kids[kids.indexOf(here) - 1],
+    ArrowRight: kids[kids.indexOf(here) + 1],
+  }[event.key]
+  if (!to || to.id === 0) return
+  app.view.reveal(to).scrollIntoView({ block: "nearest" })
+  chooseElement(to)
+}
+
+// Enter opens the menu of what is chosen; where the caret stands in a text it breaks the line.
+function enter(event) {
+  const { run, element } = chosen()
+  if (event.ctrlKey || event.metaKey || element || !run || !isEmpty(run)) openFor()
+  else type("\n")
+}
+
+const isCharacter = ({ key, ctrlKey, metaKey, altKey }) => [...key].length === 1 && !metaKey && (ctrlKey === altKey)
+
+host.addEventListener("keydown", (event) => {
+  if (event.target !== host) return
+  const command = event.ctrlKey || event.metaKey
+  if (event.key === "Enter") enter(event)
+  else if (event.key === "Escape" && !isMenuOpen()) return void choose(null)
+  else if (event.key === "a" && command) selectAll()
+  else if (event.key in ARROWS && event.altKey) moveInTree(event)
+  else if ((event.key === "Home" || event.key === "End") && command) moveToEnd(event)
+  else if (event.key in ARROWS) moveInText(event)
+  else if (event.key === "Backspace") erase(-1)
+  else if (event.key === "Delete") erase(1)
+  else if (isCharacter(event)) type(event.key)
+  else return
+  event.preventDefault()
+})

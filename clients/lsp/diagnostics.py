@@ -1,0 +1,242 @@
+"""Diagnostics: what is wrong with a text, and what is missing in it, judged anew once typing has paused."""
+import contextlib
+import re
+import threading
+import time
+from collections.abc import Callable
+
+from documents import Client, Document, Judged
+from grammar import Finder, Grammar
+from lists import WHITE, kids_of
+from nodes import Element, Node, Tree
+from pvtag.faults import fault_of
+from pvtag.places import Source
+from pvtag.program import Trouble
+from pvtag.reasons import Reason
+from pvtag.session import Ended, Refused, Session
+from text import Json
+from wire import Writer
+from work import Cancelled, Work
+
+# So long a pause in typing, in seconds, before a text is judged, and so long until what is known by then is told.
+PAUSE, FIRST = 0.04, 0.12
+# At most so many lists are told of, and so many that nothing can mend.
+MOST, MOST_BAD = 500, 50
+ROW = re.compile(rb"^(\S+) (possible|impossible) ", re.M)
+ERROR, INFORMATION, HINT = 1, 3, 4
+
+
+class Watch:
+    """Judges the texts of one document in a thread of its own. A newer text ends the work on an older one."""
+
+    def __init__(self, writer: Writer, finder: Finder, client: Client, say: Callable[[str, str], None]) -> None:
+        self.writer, self.finder, self.client, self.say = writer, finder, client, say
+        self.changed = threading.Condition()
+        self.newest: Document | None = None
+        self.since, self.is_over, self.work = 0.0, False, Work()
+        threading.Thread(target=self.run, daemon=True).start()
+
+    def look(self, document: Document) -> None:
+        """A newer text."""
+        with self.changed:
+            self.settle()
+            self.newest, self.since = document, time.monotonic()
+            self.work.cancel()
+            self.changed.notify()
+
+    def end(self) -> None:
+        with self.changed:
+            self.settle()
+            self.is_over = True
+            self.work.cancel()
+            self.changed.notify()
+
+    def settle(self) -> None:
+        if self.newest is not None:
+            self.newest.settled.set()
+
+    def next(self) -> tuple[Document, Work] | None:
+        """The newest text, once it has stood for a while; none at the end."""
+        with self.changed:
+            while not self.is_over:
+                left = self.since + PAUSE - time.monotonic()
+                if self.newest is not None and left <= 0:
+                    document, self.newest, self.work = self.newest, None, Work()
+                    return document, self.work
+                self.changed.wait(None if self.newest is None else left)
+        return None
+
+    def run(self) -> None:
+        while (found := self.next()) is not None:
+            document, work = found
+            try:
+                Judging(document, work, self).judge()
+            except Cancelled:
+                pass
+            except Trouble as trouble:
+                self.publish(document, work, [])
+                self.say(document.uri, str(trouble))
+            except Exception as fault:
+                self.say(document.uri, f"{type(fault).__name__}: {fault}")
+            finally:
+                document.settled.set()
+
+    def publish(self, document: Document, work: Work, diagnostics: list[Json]) -> None:
+        """Tells them, but for a text that is no longer the newest."""
+        with self.changed:
+            if not work.is_over:
+                told = {"uri": document.uri, "diagnostics": diagnostics}
+                self.writer.tell(
+                    "textDocument/publishDiagnostics",
+                    told | ({"version": document.version} if document.version is not None else {}),
+                )
+
+
+class Judging:
+    """The judgement of one text."""
+
+    def __init__(self, document: Document, work: Work, watch: Watch) -> None:
+        self.document, self.work, self.watch = document, work, watch
+        self.rows: list[tuple[str, bool]] = []
+        self.order, self.is_told = threading.Lock(), False
+
+    def judge(self) -> None:
+        grammar = self.watch.finder.grammar(self.document.uri, self.document.data)
+        if not grammar.root:
+            return self.watch.publish(self.document, self.work, [])
+        try:
+            with self.work.session(grammar, grammar.root, self.document.data) as session:
+                self.listed(session, grammar)
+        except Ended as ended:
+            self.refused(ended)
+
+    def refused(self, ended: Ended) -> None:
+        """The text is no document, or passes a limit."""
+        fault = fault_of(ended.status or 0, ended.line, {"document": Source("", self.document.data)})
+        if fault.span is None and ended.status not in (7, 8):
+            raise Trouble(str(fault))
+        start, end = fault.span if fault.span is not None else (0, 0)
+        self.watch.publish(
+            self.document, self.work, [self.diagnostic(start, max(start, end), ERROR, "fault", fault.sentence)]
+        )
+
+    def listed(self, session: Session, grammar: Grammar) -> None:
+        """The text is a document: what is to be told of its lists."""
+        rows = session.verdict_lines()
+        if isinstance(rows, Refused):
+            raise Trouble(f"the verdicts can't be told: {rows.why}")
+        found = [(path.decode(), verdict == b"impossible") for path, verdict in ROW.findall(rows)]
+        self.document.judged = judged = Judged(len(found), sum(is_bad for _, is_bad in found))
+        tree = self.document.accept()
+        if not found:
+            return self.watch.publish(self.document, self.work, [])
+        bad = [path for path, is_bad in found if is_bad][:MOST_BAD]
+        lists = [(path, tree.node(path)) for path in bad]
+        self.rows = [*[(path, True) for path in bad], *[row for row in found if not row[1]][:MOST]]
+        left = self.watch.since + FIRST - time.monotonic()
+        timer = threading.Timer(max(0.0, left), lambda: self.tell(tree, grammar, len(found), None, is_last=False))
+        timer.start()
+        try:
+            wanted = [(path, node.label, kids_of(node, tree.data)) for path, node in lists if isinstance(node, Element)]
+            with contextlib.suppress(Trouble):
+                self.work.aside(lambda: grammar.find_reasons(wanted))
+            missing = session.need() if not bad else None
+        finally:
+            timer.cancel()
+        judged.missing = missing if isinstance(missing, int) else None
+        self.tell(tree, grammar, len(found), missing)
+        return None
+
+    def tell(
+        self, tree: Tree, grammar: Grammar, count: int, missing: int | Refused | None, is_last: bool = True
+    ) -> None:
+        """All diagnostics, as far as the reasons are known; nothing behind the last ones."""
+        with self.order:
+            if not self.is_told:
+                self.is_told = is_last
+                self.watch.publish(self.document, self.work, self.diagnostics(tree, grammar, count, missing))
+
+    def diagnostics(self, tree: Tree, grammar: Grammar, count: int, missing: int | Refused | None) -> list[Json]:
+        told: list[Json] = []
+        for path, is_bad in self.rows:
+            node = tree.node(path)
+            if isinstance(node, Element):
+                told += self.impossible(path, node, tree, grammar) if is_bad else [self.possible(node, tree, grammar)]
+        if len(self.rows) < count and tree.root is not None:
+            more = f"{count - len(self.rows)} more lists aren't valid; the first alone are told of."
+            told.append(self.diagnostic(tree.root.start, tree.root.inside, INFORMATION, "more", more))
+        if missing is not None and tree.root is not None:
+            told.append(
+                self.diagnostic(
+                    tree.root.start, tree.root.inside, INFORMATION, "missing", missing_sentence(missing, count)
+                )
+            )
+        return told
+
+    def possible(self, owner: Element, tree: Tree, grammar: Grammar) -> Json:
+        if owner.owner is None:
+            root = tree.root or owner
+            return self.diagnostic(
+                root.start, root.inside, HINT, "possible", f"Not valid yet: elements are missing round `{root.label}`."
+            )
+        model = grammar.model(owner.label)
+        sentence = f"Not valid yet: elements are missing in `{owner.label}`" + (
+            f", declared `{model}`." if model else "."
+        )
+        return self.diagnostic(owner.start, owner.inside, HINT, "possible", sentence)
+
+    def impossible(self, path: str, owner: Element, tree: Tree, grammar: Grammar) -> list[Json]:
+        """A diagnostic at each kid that stands in another's way, or at the element itself."""
+        reason = grammar.known_reason(path, owner.label, kids_of(owner, tree.data))
+        marked = [owner.kids[at] for at in reason.kids] if reason else []
+        sentence = (
+            sentence_of(reason, owner, self.document)
+            if reason
+            else f"Nothing that is inserted makes `{owner.label}` valid."
+        )
+        whole = owner if owner.owner is not None else tree.root or owner
+        spans = [span_of(node, tree.data) for node in marked or [whole]]
+        told = [self.diagnostic(start, end, ERROR, "impossible", sentence) for start, end in spans]
+        if self.watch.client.can("textDocument", "publishDiagnostics", "relatedInformation"):
+            for each, span in zip(told, spans, strict=True):
+                others = [(node, other) for node, other in zip(marked, spans, strict=False) if other != span]
+                each["relatedInformation"] = [self.related(node, *other) for node, other in others]
+        return told
+
+    def related(self, node: Node, start: int, end: int) -> Json:
+        name = f"`{node.label}`" if isinstance(node, Element) else "this text" if node.kind == "text" else "this"
+        return {
+            "location": {"uri": self.document.uri, "range": self.document.text.range(start, end)},
+            "message": f"{name} stands in the way",
+        }
+
+    def diagnostic(self, start: int, end: int, severity: int, code: str, message: str) -> Json:
+        return {
+            "range": self.document.text.range(start, end),
+            "severity": severity,
+            "code": code,
+            "source": "pvtag",
+            "message": message,
+        }
+
+
+def sentence_of(reason: Reason, owner: Element, document: Document) -> str:
+    """A reason's sentence, with the lines of kids."""
+    return reason.sentence(lambda at: f" (line {document.text.position(owner.kids[at].start)['line'] + 1})")
+
+
+def span_of(node: Node, data: bytes) -> tuple[int, int]:
+    """What is underlined of a node: a start tag, or a text without the blanks at its ends."""
+    if isinstance(node, Element):
+        return node.start, node.inside
+    text = data[node.start : node.end]
+    inner = text.strip(WHITE)
+    start = node.start + text.index(inner) if inner else node.start
+    return start, start + len(inner or text)
+
+
+def missing_sentence(missing: int | Refused, count: int) -> str:
+    lists = "1 list isn't valid yet" if count == 1 else f"{count} lists aren't valid yet"
+    if isinstance(missing, Refused):
+        return f"{lists}. How many elements are missing isn't known: a list is too wide, or there are too many."
+    return f"{lists}: 1 element is missing." if missing == 1 else f"{lists}: {missing} elements are missing."

@@ -1,0 +1,121 @@
+"""An open document as it is at one time."""
+import threading
+from dataclasses import dataclass
+from typing import Any
+
+from grammar import Finder, Grammar
+from nodes import Tree
+from reading import Typed, Whole
+from text import Json, Text
+from wire import INVALID_PARAMS, Error
+
+
+class Client:
+    """What the editor said of itself at the start."""
+
+    def __init__(self, params: Json) -> None:
+        self.capabilities = params.get("capabilities")
+
+    def can(self, *path: str) -> Any:
+        """A capability by its path; none where it isn't told."""
+        value = self.capabilities
+        for key in path:
+            value = value.get(key) if isinstance(value, dict) else None
+        return value
+
+
+@dataclass
+class Judged:
+    """What is known of a document: how many lists aren't valid, how many of these can't be mended, and how many
+    elements are missing."""
+
+    lists: int
+    bad: int
+    missing: int | None = None
+
+
+class Accepted:
+    """The last text of a document that the program has read, with its nodes."""
+
+    def __init__(self) -> None:
+        self.tree: Whole | None = None
+
+
+class Document:
+    """A text of a document with its version. It doesn't change; its nodes are read at the first need.
+
+    `settled` says that its judgement is over, or that a newer text has come before it.
+    """
+
+    def __init__(self, uri: str, version: int | None, text: Text, accepted: Accepted) -> None:
+        self.uri, self.version, self.text, self.accepted = uri, version, text, accepted
+        self.lock = threading.Lock()
+        self.read: Tree | None = None
+        self.judged: Judged | None = None
+        self.settled = threading.Event()
+
+    @property
+    def data(self) -> bytes:
+        return self.text.data
+
+    @property
+    def tree(self) -> Tree:
+        with self.lock:
+            if self.read is None:
+                self.read = self.tree_of(self.data)
+            return self.read
+
+    def tree_of(self, data: bytes) -> Tree:
+        """The nodes of this text or of one near it: those of the last text that the program has read, where it is the
+        same."""
+        last = self.accepted.tree
+        return last if last is not None and last.data == data else Typed(data)
+
+    def accept(self) -> Whole:
+        """Called where the program has read the text."""
+        last = self.accepted.tree
+        whole = last if last is not None and last.data == self.data else Whole(self.data)
+        with self.lock:
+            self.accepted.tree = self.read = whole
+        return whole
+
+    def edit(self, client: Client, edits: list[Json]) -> Json:
+        """Text edits of this version, as the editor takes them."""
+        if client.can("workspace", "workspaceEdit", "documentChanges"):
+            return {"documentChanges": [{"textDocument": {"uri": self.uri, "version": self.version}, "edits": edits}]}
+        return {"changes": {self.uri: edits}}
+
+    def put(self, start: int, end: int, text: str) -> Json:
+        """A text edit."""
+        return put(self.text.range(start, end), text)
+
+
+class Asked:
+    """A request about a document: the document, what was asked, the editor, and where grammars are found."""
+
+    def __init__(self, document: Document, params: Json, client: Client, finder: Finder) -> None:
+        self.document, self.params, self.client, self.finder = document, params, client, finder
+
+    @property
+    def offset(self) -> int:
+        return self.document.text.offset(self.params.get("position"))
+
+    @property
+    def span(self) -> tuple[int, int]:
+        return self.document.text.span(self.params.get("range"))
+
+    @property
+    def grammar(self) -> Grammar:
+        return self.finder.grammar(self.document.uri, self.document.data)
+
+
+def text_of(params: Json, key: str) -> str:
+    value = params.get(key)
+    if not isinstance(value, str):
+        raise Error(INVALID_PARAMS, f"{key} is no text")
+    return value
+
+
+def put(place: Json, text: str) -> Json:
+    """A text edit of a range."""
+    return {"range": place, "newText": text}

@@ -1,0 +1,28 @@
+"""Files in memory: the program reads what an editor holds, and nothing is written to a disk."""
+import contextlib
+import os
+from collections.abc import Iterator
+
+
+class MemoryFile:
+    """Bytes under a path that other processes of this user can read, until it is closed."""
+
+    def __init__(self, data: bytes) -> None:
+        self.number = os.memfd_create("pvtag")
+        self.path = f"/proc/{os.getpid()}/fd/{self.number}"
+        rest = memoryview(data)
+        while rest:
+            rest = rest[os.write(self.number, rest) :]
+
+    def close(self) -> None:
+        os.close(self.number)
+
+
+@contextlib.contextmanager
+def file_of(data: bytes, suffix: str = "") -> Iterator[str]:
+    """The path of a file with these bytes, for as long as it is wanted."""
+    file = MemoryFile(data)
+    try:
+        yield file.path
+    finally:
+        file.close()

@@ -1,0 +1,138 @@
+"""Reads the nodes of a text: of one that is being typed, and of one that the program has read."""
+import re
+from collections.abc import Iterator
+
+from nodes import END, ITEM, KINDS, LOOSE, SLASH, START, TEXT, Element, Leaf, Node, Tree
+
+# Items that are looked for up to the text's end, and how they end.
+SOUGHT = ((b"<![CDATA[", b"]]>"), (b"<?", b"?>"), (b"<!DOCTYPE", b">"))
+HIDDEN = re.compile(rb"<!--(?s:.*?)-->|<\?(?s:.*?)\?>|<!\[CDATA\[(?s:.*?)\]\]>")
+
+
+def items(data: bytes) -> Iterator[re.Match[bytes]]:
+    """The items of a text. Where many that never end would each be looked for up to its end, none of that kind is
+    looked for."""
+    is_loose = (
+        any(data.count(start, data.rfind(end) + 1) > 20 for start, end in SOUGHT) or data.count(b"<!DOCTYPE") > 20
+    )
+    return (LOOSE if is_loose else ITEM).finditer(data)
+
+
+def front(data: bytes) -> tuple[list[bytes], str]:
+    """The items before the first element, as far as they are whole, and the element's name, "" where it isn't there."""
+    found, at = list[bytes](), 0
+    while (item := ITEM.match(data, at)) and item.lastindex is not None:
+        if item.lastindex == START:
+            return found, item[1].decode(errors="replace")
+        found.append(item[0])
+        at = item.end()
+    return found, ""
+
+
+class Typed(Tree):
+    """The nodes of a text that needn't be a document. As many of its tags as there are pairs make elements: an end tag
+    closes the elements in it that have none, one that closes nothing is passed over, and so is a `<` that begins
+    nothing. Texts beside these are one.
+    """
+
+    def __init__(self, data: bytes) -> None:
+        super().__init__(data)
+        node, kids, opened = self.top, self.top.known, dict[bytes, int]()
+        for item in items(data):
+            group, (start, end) = item.lastindex, item.span()
+            if group == START:
+                made = Element(item[1], node, len(kids), start, end)
+                kids.append(made)
+                if data[end - 2] != SLASH:
+                    opened[made.name] = opened.get(made.name, 0) + 1
+                    node, kids = made, made.known
+            elif group == END:
+                if opened.get(item[2]):
+                    node = self.close(node, item[2], start, end, opened)
+                    kids = node.known
+            elif group in KINDS and node is not self.top:
+                if group == TEXT and kids and kids[-1].kind == "text":
+                    kids[-1] = Leaf("text", kids[-1].start, end)
+                else:
+                    kids.append(Leaf(KINDS[group], start, end))
+        while node.owner is not None:
+            node.closes = node.end = len(data)
+            node = node.owner
+
+    @staticmethod
+    def close(node: Element, name: bytes, start: int, end: int, opened: dict[bytes, int]) -> Element:
+        """The element that is open behind an end tag for one of those that are open."""
+        while node.name != name:
+            node.closes = node.end = start
+            opened[node.name] -= 1
+            assert node.owner is not None
+            node = node.owner
+        opened[name] -= 1
+        node.closes, node.end = start, end
+        assert node.owner is not None
+        return node.owner
+
+
+class Whole(Tree):
+    """The nodes of a document that the program has read. The kids of an element are looked for when they are wanted."""
+
+    def __init__(self, data: bytes) -> None:
+        super().__init__(data)
+        # No tag stands in what is hidden.
+        self.plain = (
+            HIDDEN.sub(lambda item: item[0][:2] + b"-" * (len(item[0]) - 3) + b">", data)
+            if HIDDEN.search(data)
+            else data
+        )
+        at = 0
+        while (item := ITEM.match(data, at)) and item.lastindex != START:
+            at = item.end()
+        self.top.known = [self.element(self.top, 0, at)]
+
+    def element(self, owner: Element, number: int, at: int) -> Element:
+        """The element whose start tag stands here."""
+        item = ITEM.match(self.data, at)
+        assert item is not None and item.lastindex == START
+        made = Element(item[1], owner, number, at, item.end())
+        if self.data[made.inside - 2] != SLASH:
+            made.closes = self.closing(made.name, made.inside)
+            made.end = self.plain.index(b">", made.closes) + 1
+            made.grown = self.kids_of
+        return made
+
+    def kids_of(self, owner: Element) -> list[Node]:
+        kids: list[Node] = []
+        at = owner.inside
+        while at < owner.closes:
+            item = ITEM.match(self.data, at)
+            assert item is not None and item.lastindex is not None
+            if item.lastindex == START:
+                kids.append(self.element(owner, len(kids), at))
+            else:
+                kids.append(Leaf(KINDS[item.lastindex], at, item.end()))
+            at = kids[-1].end
+        return kids
+
+    def closing(self, name: bytes, at: int) -> int:
+        """Where the end tag stands that closes an element of this name, whose start tag ends at `at`."""
+        plain, depth, closer, opener = self.plain, 1, b"</" + name, b"<" + name
+        while True:
+            end = plain.index(closer, at)
+            while plain[end + len(closer)] not in b"> \t\r\n":
+                end = plain.index(closer, end + 1)
+            if plain.find(opener, at, end) >= 0:
+                depth += self.opened(opener, at, end)
+            depth -= 1
+            if depth == 0:
+                return end
+            at = end + len(closer)
+
+    def opened(self, opener: bytes, at: int, end: int) -> int:
+        """How many start tags of a name stand here; tags `<a/>` aren't counted."""
+        count = 0
+        while (at := self.plain.find(opener, at, end)) >= 0:
+            item = ITEM.match(self.data, at)
+            assert item is not None
+            count += item[1] == opener[1:] and self.data[item.end() - 2] != SLASH
+            at = item.end()
+        return count

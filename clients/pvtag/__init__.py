@@ -1,0 +1,19 @@
+"""What all clients of `pvtag` stand on. Python 3.11, the standard library alone; nothing here decides what the program
+can be asked.
+
+    program   where the program is, one run of it, and the files that it is given
+    session   a session, kept open through two pipes: a method a line, replies as values
+    document  the tree of a document beside a session, kept by the edits that are made
+    places    lines and columns of a file, and back, and the items that faults are counted in
+    entities  the same items of a DTD, with its parameter entities
+    layout    where the nodes of a document stand in its bytes
+    dtd       the names of a DTD as the program tells them, and declarations as their author wrote them
+    denial    what `why` prints
+    reasons   why a list can't be mended: which kids stand in each other's way, in a sentence; it stands on
+              `tries`, which asks the program of lists, `search`, `needs` and `sentences`
+    faults    what the program says of a file that it refuses: where, and in a sentence; it stands on
+              `document_fault` and `dtd_fault`
+    command   what the commands beside this folder share
+
+Each client puts the folder above this one on its path.
+"""

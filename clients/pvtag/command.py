@@ -1,0 +1,139 @@
+"""What the commands of `clients/` share: their words, how they end, and what they say then.
+
+Statuses are those of the program: 0 and 1 with an answer, and otherwise a sentence on the error output, with the
+program's status where it refused a file, and 3 where it wasn't asked.
+"""
+import argparse
+import contextlib
+import os
+import sys
+from collections.abc import Callable, Iterator, Mapping
+from typing import NamedTuple, NoReturn
+
+from .dtd import Dtd
+from .faults import Refusal, fault_of
+from .layout import Layout, Node
+from .places import Source
+from .program import Answer, Trouble, add_option, file_of, find, read_file, shown_name
+from .reasons import Reason, Reasons
+from .session import Ended, Session
+
+DTD = ("DTD", "the file of the DTD")
+ROOT = ("ROOT", "the name of the root element")
+DOC = ("DOC", "the file of the document")
+# What the declaration says stands in a line of its own.
+BELOW = "\n  "
+
+
+class Given(NamedTuple):
+    """A file of a command: its name, and a path by which it can be read again and again."""
+
+    name: str
+    path: str
+
+    def source(self) -> Source:
+        return Source(self.name, read_file(self.path))
+
+
+class Asked(NamedTuple):
+    """What a command is about."""
+
+    program: list[str]
+    dtd: Given
+    root: str
+    doc: Given
+
+    def reasons(self) -> Reasons:
+        return Reasons(self.program, Dtd(self.program, self.dtd.path, self.dtd.name), self.root)
+
+
+def reader(description: str, *words: tuple[str, str]) -> argparse.ArgumentParser:
+    """Reads a command's words, each told by its name and what it is, and the option for the program."""
+    made = argparse.ArgumentParser(description=description, formatter_class=argparse.RawDescriptionHelpFormatter)
+    for name, meaning in words:
+        made.add_argument(name.lower(), metavar=name, help=meaning)
+    add_option(made)
+    return made
+
+
+@contextlib.contextmanager
+def given(path: str) -> Iterator[Given]:
+    """A file, of which a copy is kept where it is a pipe or the like."""
+    if os.path.isfile(path):
+        yield Given(shown_name(path), path)
+    else:
+        with file_of(read_file(path)) as copy:
+            yield Given(shown_name(path), copy)
+
+
+@contextlib.contextmanager
+def asked_of(words: argparse.Namespace) -> Iterator[Asked]:
+    """What the words DTD, ROOT and DOC of a command ask about."""
+    with given(words.dtd) as dtd, given(words.doc) as doc:
+        yield Asked(find(words.program), dtd, words.root, doc)
+
+
+def answered(answer: Answer, files: Mapping[str, Given]) -> Answer:
+    """An answer, where it is one; else what was refused, by the command's files by their word."""
+    if answer.status > 1:
+        raise Refusal(fault_of(answer.status, answer.line, {word: file.source() for word, file in files.items()}))
+    return answer
+
+
+@contextlib.contextmanager
+def session_on(asked: Asked) -> Iterator[Session]:
+    """A session; where it ends by itself, what was refused."""
+    try:
+        session = Session(asked.program, asked.dtd.path, asked.root, asked.doc.path)
+    except OSError as fault:
+        raise Trouble(f"{shown_name(asked.program[0])} can't be run: {fault.strerror}") from None
+    try:
+        with session:
+            yield session
+    except Ended as ended:
+        files = {"dtd": asked.dtd.source(), "document": asked.doc.source()}
+        raise Refusal(fault_of(ended.status or 3, ended.line, files)) from None
+
+
+def where_in(source: Source, node: Node, kids: tuple[int, ...]) -> Callable[[int], str]:
+    """Where a kid stands, for a sentence: its line, and its column too where others of these stand in the line."""
+    places = {kid: source.place(node.kids[kid].span.start) for kid in kids}
+    lines = [place.line for place in places.values()]
+
+    def where(kid: int) -> str:
+        line, column = places[kid]
+        return f" (line {line}, column {column})" if lines.count(line) > 1 else f" (line {line})"
+
+    return where
+
+
+def placed(source: Source, layout: Layout, reason: Reason) -> str:
+    """A reason in two lines: the place is that of the first kid that has no room."""
+    node = layout.node(reason.path) or layout.top
+    at = node.kids[reason.first] if reason.first is not None else node
+    sentences = reason.sentences(where_in(source, node, reason.kids))
+    return f"{source.name}:{source.place(at.span.start)}: " + BELOW.join(sentences)
+
+
+def run_command(work: Callable[[], int]) -> NoReturn:
+    """Does a command's work, which gives its status, and ends."""
+    try:
+        status = work()
+        sys.stdout.flush()
+    except Refusal as refusal:
+        status = said(str(refusal), refusal.fault.status)
+    except Trouble as trouble:
+        status = said(str(trouble), 3)
+    except OSError as fault:
+        # What is left to be written is dropped, so that the end of the process doesn't try again.
+        os.dup2(os.open(os.devnull, os.O_WRONLY), sys.stdout.fileno())
+        status = 4 if isinstance(fault, BrokenPipeError) else said(str(fault.strerror), 4)
+    except KeyboardInterrupt:
+        status = 130
+    sys.exit(status)
+
+
+def said(sentence: str, status: int) -> int:
+    """Says it on the error output; the status."""
+    print(f"{os.path.basename(sys.argv[0])}: {sentence}", file=sys.stderr)
+    return status

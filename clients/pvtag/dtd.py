@@ -1,0 +1,92 @@
+"""A DTD, for showing: its names as the program tells them, and its declarations as their author wrote them.
+
+What a declaration allows is the program's to say: nothing is read of a model here but its text.
+"""
+import difflib
+import functools
+import re
+from typing import NamedTuple
+
+from .faults import Refusal, fault_of
+from .places import Source
+from .program import read_file, run, shown_name
+
+
+class Type(NamedTuple):
+    """A declared name as `dtd` tells it: its content model is "empty", "any", "mixed" or "children", and some finite
+    element of it is valid or none."""
+
+    name: str
+    kind: str
+    is_productive: bool
+
+
+class Declaration(NamedTuple):
+    """An element declaration: its text from `<!ELEMENT` to `>`, the model alone, and its offset in the file."""
+
+    name: str
+    text: str
+    model: str
+    offset: int
+
+
+# A declaration of an element with its name and its model, and what else one may stand in.
+DECLARED = re.compile(
+    rb"""<!ELEMENT\s+([^\s<>%"']+)\s+([^<>"']*[^<>"'\s])\s*>|<!--.*?-->|<\?.*?\?>"""
+    rb"""|<![A-Z]+\s(?:[^<>"']|"[^"]*"|'[^']*')*>""",
+    re.S,
+)
+
+
+class Dtd:
+    """A DTD's file, and the name that it is told by. What `dtd` says is asked at the first need; a file that it refuses
+    raises `faults.Refusal`."""
+
+    def __init__(self, program: list[str], path: str, name: str | None = None) -> None:
+        self.program, self.path, self.name = program, path, name if name is not None else shown_name(path)
+
+    @functools.cached_property
+    def data(self) -> bytes:
+        """The file's bytes."""
+        return read_file(self.path)
+
+    @functools.cached_property
+    def source(self) -> Source:
+        """The file, with its lines."""
+        return Source(self.name, self.data)
+
+    @functools.cached_property
+    def types(self) -> dict[str, Type]:
+        """The declared names, in order of declaration."""
+        answer = run(self.program, "dtd", self.path)
+        if answer.status:
+            raise Refusal(fault_of(answer.status, answer.line, {"dtd": self.source}))
+        rows = (line.split(" ") for line in answer.output.decode().splitlines()[:-1])
+        return {name: Type(name, kind, least != "unproductive") for name, kind, least in rows}
+
+    @functools.cached_property
+    def declarations(self) -> dict[str, Declaration]:
+        """The declarations that are found in the file as they are."""
+        found = (match for match in DECLARED.finditer(self.data) if match[1])
+        made = (Declaration(match[1].decode(errors="replace"), match[0].decode(errors="replace"),
+                            match[2].decode(errors="replace"), match.start()) for match in found)
+        return {each.name: each for each in made}
+
+    def declaration(self, name: str) -> Declaration | None:
+        """The declaration of a name as it stands in the file, parameter entities as they were written; none where none
+        can be found."""
+        return self.declarations.get(name)
+
+    def model(self, name: str, longest: int = 60) -> str:
+        """The model of a name in one line, for a sentence: cut behind so many characters, "" where none is found."""
+        found = self.declaration(name)
+        text = " ".join(found.model.split()) if found else ""
+        return text if len(text) <= longest else re.split(r"[^\s|,(]*$", text[:longest])[0].rstrip() + "…"
+
+    def nearest(self, name: str, most: int = 3) -> list[str]:
+        """The declared names that look most like this one, the nearest first; none where none does."""
+        return difflib.get_close_matches(name, self.types, most)
+
+    def is_productive(self, name: str) -> bool:
+        """Whether the name is declared and some finite element of it is valid."""
+        return name in self.types and self.types[name].is_productive

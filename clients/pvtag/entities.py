@@ -1,0 +1,117 @@
+"""Where the items of a DTD stand in its file, also where parameter entities are put in place (docs/FORMATS.md).
+
+An item that stands in an entity's text is told by the reference in the file that brings it. This is for showing a place
+alone: what is at fault, and which item, the program tells.
+"""
+import re
+from collections.abc import Iterator
+
+from .places import DECLARATION, Item, Span, front_mark
+
+LITERAL = rb"""(?:"[^"]*"|'[^']*')"""
+ITEM = re.compile(
+    rb"""\s+|(?P<comment><!--.*?-->)|(?P<instruction><\?.*?\?>)|%(?P<reference>[^\s;%&<>"']+);"""
+    rb"""|<!ENTITY\s+%\s+(?P<entity>[^\s;%&<>"']+)\s+(?P<value>""" + LITERAL + rb""")\s*>"""
+    rb"""|(?P<external><!ENTITY\s+%\s+[^\s;%&<>"']+\s+(?:SYSTEM|PUBLIC))|(?P<conditional><!\[)"""
+    rb"""|(?P<element><!ELEMENT\s(?P<model>(?:[^<>"']|""" + LITERAL + rb""")*)>)"""
+    rb"""|(?P<skipped><!(?:ATTLIST|ENTITY|NOTATION)\s(?P<rest>(?:[^<>"']|""" + LITERAL + rb""")*)>)""",
+    re.S,
+)
+REFERENCE = re.compile(LITERAL + rb"""|%(?P<name>[^\s;%&<>"']+);""")
+IN_VALUE = re.compile(rb"""%([^\s;%&<>"']+);|&#([0-9]+);|&#x([0-9a-fA-F]+);""")
+# Texts of more bytes, deeper in one another, and more references are left to the program.
+MOST_BYTES, MOST_DEPTH, MOST_REFERENCES = 1 << 20, 100, 1 << 16
+
+
+class Stop(Exception):
+    """The reading stops here: the program's word for it, "" where it isn't known, and the bytes of the file."""
+
+    def __init__(self, kind: str, span: Span) -> None:
+        super().__init__(kind)
+        self.kind, self.span = kind, span
+
+
+class Reading:
+    """What of a DTD was read: its entities by their names, and the references that are being read."""
+
+    def __init__(self) -> None:
+        self.entities: dict[bytes, bytes] = {}
+        self.open: list[bytes] = []
+        self.references = 0
+
+    def between(self, text: bytes, at: int, span: Span | None) -> Iterator[Item]:
+        """The items of a text between declarations; `span` is that of the reference which brings it, if one does."""
+        while at < len(text):
+            found = ITEM.match(text, at)
+            here = span or Span(at, found.end() if found else at)
+            if found is None:
+                raise Stop("syntax" if span else "", here)
+            at = found.end()
+            kind = found.lastgroup
+            if found["reference"]:
+                yield from self.referred(found["reference"], here)
+            elif found["entity"]:
+                text_of = self.value(found["value"][1:-1], here)
+                self.entities.setdefault(found["entity"], text_of)
+            elif found["external"] or found["conditional"]:
+                raise Stop(kind or "", here)
+            elif kind is not None:
+                inside = "model" if found["element"] else "rest" if found["skipped"] else None
+                if inside:
+                    self.inside(found[inside], span or here, found.start(inside) if span is None else None)
+                yield Item("element" if found["element"] else "skipped" if found["skipped"] else kind, *here)
+
+    def entity(self, name: bytes, span: Span) -> bytes:
+        """The text of an entity that is referred to."""
+        if name not in self.entities:
+            raise Stop("undeclared", span)
+        if name in self.open:
+            raise Stop("recursive", span)
+        self.references += 1
+        if len(self.open) == MOST_DEPTH or self.references > MOST_REFERENCES:
+            raise Stop("", span)
+        return self.entities[name]
+
+    def referred(self, name: bytes, span: Span) -> Iterator[Item]:
+        text = self.entity(name, span)
+        self.open.append(name)
+        yield from self.between(text, 0, span)
+        self.open.pop()
+
+    def inside(self, text: bytes, span: Span, begin: int | None) -> None:
+        """Looks for references in a declaration; `begin` is its offset in the file, none where an entity brings it."""
+        for found in REFERENCE.finditer(text):
+            if name := found["name"]:
+                here = span if begin is None else Span(begin + found.start(), begin + found.end())
+                below = self.entity(name, here)
+                self.open.append(name)
+                self.inside(below, here, None)
+                self.open.pop()
+
+    def value(self, text: bytes, span: Span) -> bytes:
+        """The text that a value declares."""
+        parts, at = [], 0
+        for found in IN_VALUE.finditer(text):
+            parts.append(text[at:found.start()])
+            at = found.end()
+            if found[1]:
+                below = self.entity(found[1], span)
+                self.open.append(found[1])
+                parts.append(self.value(below, span))
+                self.open.pop()
+            else:
+                number = int(found[2]) if found[2] else int(found[3], 16)
+                parts.append(chr(min(number, 0x10FFFF)).encode(errors="replace"))
+        made = b"".join([*parts, text[at:]])
+        if len(made) > MOST_BYTES:
+            raise Stop("", span)
+        return made
+
+
+def dtd_items(data: bytes) -> Iterator[Item]:
+    """The items of a DTD from its start, up to the first place where none stands; then it raises `Stop`."""
+    at = front_mark(data)
+    if found := DECLARATION.match(data, at):
+        yield Item("declaration", at, found.end())
+        at = found.end()
+    yield from Reading().between(data, at, None)

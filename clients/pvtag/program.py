@@ -1,0 +1,138 @@
+"""The program `pvtag`: where it is, one run of it, and the files that it is given."""
+import argparse
+import contextlib
+import os
+import shutil
+import subprocess
+import sys
+import tempfile
+import threading
+from collections.abc import Iterator, Sequence
+from typing import NamedTuple
+
+HERE = os.path.dirname(os.path.realpath(__file__))
+TOP = os.path.dirname(os.path.dirname(HERE))
+# The status of words that are no command.
+USAGE = 2
+
+
+class Trouble(Exception):
+    """What a user has to be told, in a sentence."""
+
+
+class Stopped(Exception):
+    """All runs of the program have been ended, and no other begins."""
+
+
+class Answer(NamedTuple):
+    """How a run ended: its status, and what it wrote."""
+
+    status: int
+    output: bytes
+
+    @property
+    def line(self) -> str:
+        """The first line, without its LF."""
+        return self.output.partition(b"\n")[0].decode(errors="replace")
+
+
+def find(told: str | None = None) -> list[str]:
+    """The words that begin the program: the file that is told; else `pvtag` beside the client or the link by which it
+    was called, in the repository, or on the path. That of the repository brings itself up to date here, once."""
+    if told is not None:
+        return [told]
+    called = os.path.abspath(sys.argv[0]), os.path.realpath(sys.argv[0])
+    beside = [os.path.join(os.path.dirname(name), "pvtag") for name in called]
+    for file in (*beside, os.path.join(TOP, "pvtag"), shutil.which("pvtag")):
+        if file is not None and os.path.isfile(file) and os.access(file, os.X_OK):
+            return [built(file) if os.path.dirname(file) == TOP else file]
+    raise Trouble("the program pvtag isn't found; --program tells it")
+
+
+def built(script: str) -> str:
+    """The program that the repository's script builds where that is needed. Without words it says how it is used."""
+    if run([script]).status != USAGE:
+        raise Trouble("the program pvtag couldn't be built")
+    program = os.path.join(TOP, "build", "pvtag")
+    return program if os.access(program, os.X_OK) else script
+
+
+def add_option(reader: argparse.ArgumentParser) -> None:
+    """The option by which a user tells the program."""
+    reader.add_argument("--program", metavar="FILE", help="the program pvtag, where it isn't found by itself")
+
+
+class Running:
+    """The runs of the program that haven't ended yet, of all threads."""
+
+    def __init__(self) -> None:
+        self.lock, self.runs, self.stopped = threading.Lock(), set[subprocess.Popen[bytes]](), False
+
+    def begin(self, words: list[str], files: Sequence[int]) -> subprocess.Popen[bytes]:
+        """Begins one, unless all have been ended."""
+        with self.lock:
+            if self.stopped:
+                raise Stopped
+            try:
+                begun = subprocess.Popen(words, stdin=subprocess.PIPE, stdout=subprocess.PIPE, pass_fds=files,
+                                         start_new_session=True)
+            except OSError as fault:
+                raise Trouble(f"{words[0]} can't be run: {fault.strerror}") from None
+            self.runs.add(begun)
+            return begun
+
+    def stop(self) -> None:
+        """Ends all; no other begins."""
+        with self.lock:
+            self.stopped = True
+            for begun in self.runs:
+                begun.kill()
+
+
+RUNNING = Running()
+
+
+def run(program: list[str], *words: str, given: bytes = b"", files: Sequence[int] = (), most: float | None = None) -> Answer:
+    """Runs one command to its end, or for at most so many seconds: past them the status is -1. `given` is its input,
+    `files` are handed over open."""
+    begun = RUNNING.begin([*program, *words], files)
+    try:
+        output, _ = begun.communicate(given, timeout=most)
+    except BaseException as fault:
+        begun.kill()
+        begun.communicate()
+        if isinstance(fault, subprocess.TimeoutExpired):
+            return Answer(-1, b"")
+        raise
+    finally:
+        with RUNNING.lock:
+            RUNNING.runs.discard(begun)
+    if RUNNING.stopped:
+        raise Stopped
+    return Answer(begun.returncode, output)
+
+
+def read_file(path: str) -> bytes:
+    """A file's bytes, or a trouble that names it."""
+    try:
+        with open(path, "rb") as file:
+            return file.read()
+    except OSError as fault:
+        raise Trouble(f"{shown_name(path)}: {fault.strerror}") from None
+
+
+def shown_name(path: str) -> str:
+    """A file's name as it may be printed, also where it isn't UTF-8."""
+    return os.fsencode(path).decode(errors="replace")
+
+
+@contextlib.contextmanager
+def file_of(data: bytes, suffix: str = ".xml") -> Iterator[str]:
+    """A file with these bytes, for as long as it is wanted; its path."""
+    number, path = tempfile.mkstemp(prefix="pvtag.", suffix=suffix)
+    try:
+        with os.fdopen(number, "wb") as file:
+            file.write(data)
+        yield path
+    finally:
+        os.unlink(path)
