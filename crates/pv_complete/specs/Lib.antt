@@ -1,4 +1,6 @@
 pub mod Needing
+pub mod KnownWeights
+pub mod Remembering
 pub mod NeedLaws
 pub mod Completing
 pub mod Loads

@@ -22,6 +22,7 @@ mod writing;
 pub use errors::NeedError;
 pub use listings::making::tables;
 pub use missing::needing::{need, need_by};
+pub use missing::remembering::{Remembered, need_remembering};
 pub use words::completing::list_pieces;
 pub use words::pieces::Piece;
 pub use writing::completion::{Completion, complete, complete_by};

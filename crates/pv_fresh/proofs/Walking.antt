@@ -3,8 +3,8 @@ use Rattle.std.proofs.Common.{Err, List, None, Ok, Option, Result, Some, [], app
 use Rattle.std.specs.Prelude.{IsNone, MatchOption, MatchResult, OnOk, ◌↔◌}
 use Rattle.std.specs.List.{AllByRecursion}
 use Rattle.pv_dtd.specs.Plain.{PlainDtd}
-use Rattle.pv_tree.specs.Lists.{IsFirstNot, Listed, lists_at, lists_of, the_document}
-use Rattle.pv_tree.specs.Plain.{PlainDoc, no_trees, tree}
+use Rattle.pv_tree.specs.Lists.{Listed, lists_of}
+use Rattle.pv_tree.specs.Plain.{PlainDoc}
 use Rattle.pv_tree.specs.View.{view}
 use Rattle.pv_tree.proofs.Every.{all_joined, all_right}
 use Rattle.pv_tree.proofs.Firsts.{first_before, first_behind}
@@ -77,22 +77,6 @@ goes_match g (Err e) lists more first middle last from at to a b = breaks_off li
 pub on_ok_both : {E A B C : Type 0} (r : Result (Unit {0}) E) → (A → B → C) → OnOk r A → OnOk r B → OnOk r C
 on_ok_both (Ok u) f a b = f a b
 on_ok_both (Err e) f a b = tt
-
--- a document has no list behind that of its root but those of its elements
-pub root_first : {M : Type 0} (P : Listed M → Type 0) (doc : PlainDoc M) → (P (record { path = []; owner = the_document; kids = tree doc.root no_trees }) → ⊥) → IsFirstNot P (lists_of doc) []
-root_first P doc bad = record {
-  before = [];
-  list = record { path = []; owner = the_document; kids = tree doc.root no_trees };
-  after = lists_at (0 ∷ []) doc.root;
-  is_split = refl;
-  all_before = tt;
-  is_not = bad;
-  is_path = refl;
-}
-
-pub first_below : {M : Type 0} (P : Listed M → Type 0) (doc : PlainDoc M) (path : List ℕ) → P (record { path = []; owner = the_document; kids = tree doc.root no_trees }) → IsFirstNot P (lists_at (0 ∷ []) doc.root) path →
-    IsFirstNot P (lists_of doc) path
-first_below P doc path own f = first_behind P (record { path = []; owner = the_document; kids = tree doc.root no_trees } ∷ []) (lists_at (0 ∷ []) doc.root) path (own, tt) f
 
 -- there is no impossible list exactly where the document is potentially valid
 pub none_is_possible : {M : Type 0} (by_lists : IsPotentiallyValidByLists M) (g : PlainDtd) (root : List ℕ) (doc : PlainDoc M) (first : Option (List ℕ)) → IsProperDtd g → IsProperDoc doc →

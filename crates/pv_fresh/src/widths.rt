@@ -7,18 +7,16 @@ ghost use Rattle.pv_model.specs.Plain.{PlainToken};
 ghost use Rattle.pv_dtd.specs.Plain.{PlainDtd};
 ghost use Rattle.pv_dtd.specs.PlainForms.{plain_dtd};
 ghost use Rattle.pv_tree.specs.Legal.{MAX_NODES};
-ghost use Rattle.pv_tree.specs.Lists.{lists_at, lists_from, lists_of};
-ghost use Rattle.pv_tree.specs.Plain.{nodes_in, nodes_in_all};
+ghost use Rattle.pv_tree.specs.Lists.{lists_of};
 ghost use Rattle.pv_tree.specs.PlainDocs.{plain_doc};
 ghost use Rattle.pv_tree.specs.PlainForms.{plain, forest};
-ghost use Rattle.pv_tree.specs.Search.{Finds};
 ghost use Rattle.pv_tree.specs.Words.{node_before, word_of};
 ghost use Rattle.pv_missing.specs.Widths.{FitsVerdict, IsFirstTooWide, IsListForVerdict};
 
 use pv_chars::NoMemory;
 use pv_dtd::Dtd;
 use pv_missing::is_narrow;
-use pv_tree::{Doc, Node, Path};
+use pv_tree::{Doc, ListTest, Node, Path, first_list};
 use std::alloc::Global;
 
 /// The path of the first list that is too wide for a verdict.
@@ -27,50 +25,29 @@ pub fn first_too_wide(alloc: Global, dtd: &Dtd, doc: &Doc) -> Result<Option<Path
         (AllByRecursion (IsListForVerdict (plain_dtd dtd.now)) (lists_of (plain_doc doc.now)))
         (IsFirstTooWide (plain_dtd dtd.now) (lists_of (plain_doc doc.now)))) }
 {
-    if !is_list_narrow(dtd, std::slice::from_ref(&doc.root)) {
-        return Ok(Some(Path::new(alloc, &[])?));
-    }
-    let mut places = Vec::new(alloc);
-    places.push(0)?;
-    if has_too_wide(dtd, &doc.root, &mut places)? {
-        Ok(Some(Path::new(alloc, &places)?))
-    } else {
-        Ok(None)
-    }
+    first_list(alloc, &Widths { dtd }, doc, &mut ())
 }
 
-// Whether a list of this subtree is too wide. The places of the node become those of the first such
-// list.
-#[cycle(widths)]
-fn has_too_wide(dtd: &Dtd, node: &Node, places: &mut Vec<u32>) -> Result<bool, NoMemory>
-    requires { nodes_in (plain node.now) ≤ MAX_NODES }
-    ensures { IfOk result (Finds (IsListForVerdict (plain_dtd dtd.now))
-        (lists_at places.old.items (plain node.now)) places.old.items places.new.items) }
-{
-    let Node::Elem { kids, .. } = node else {
-        return Ok(false);
-    };
-    if !is_list_narrow(dtd, kids) {
-        return Ok(true);
-    }
-    has_too_wide_kid(dtd, kids, places)
+// Whether lists aren't too wide for a verdict.
+#[derive(Drop)]
+struct Widths<'a> {
+    dtd: &'a Dtd,
 }
 
-// The same of nodes side by side, at the places of their list.
-#[cycle(widths)]
-fn has_too_wide_kid(dtd: &Dtd, kids: &[Node], places: &mut Vec<u32>) -> Result<bool, NoMemory>
-    requires { nodes_in_all (forest kids.now) ≤ MAX_NODES }
-    ensures { IfOk result (Finds (IsListForVerdict (plain_dtd dtd.now))
-        (lists_from places.old.items 0 (forest kids.now)) places.old.items places.new.items) }
-{
-    for (i, kid) in kids.iter().enumerate() {
-        places.push(i as u32)?;
-        if has_too_wide(dtd, kid, places)? {
-            return Ok(true);
-        }
-        places.pop();
+impl ListTest for Widths<'_> {
+    type State = ();
+
+    ghost passes = { λ test _. IsListForVerdict (plain_dtd test.dtd.now) };
+
+    ghost awaits = { λ _ _ _ _. Unit {0} };
+
+    fn passes_document(&self, root: &Node, _: &mut ()) -> Result<bool, NoMemory> {
+        Ok(is_list_narrow(self.dtd, std::slice::from_ref(root)))
     }
-    Ok(false)
+
+    fn passes_element(&self, _: &[u8], kids: &[Node], _: &mut ()) -> Result<bool, NoMemory> {
+        Ok(is_list_narrow(self.dtd, kids))
+    }
 }
 
 // Whether the list of these kids isn't too wide. Its tokens are counted only where there are as

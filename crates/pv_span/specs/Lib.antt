@@ -1,6 +1,7 @@
 pub mod Forms
 pub mod ColumnRules
 pub mod Columns
+pub mod KeptColumns
 pub mod Making
 pub mod Charts
 pub mod Least

@@ -29,6 +29,42 @@ pub struct ColumnLayout<'a> {
     pub ghost few: { length forms.items ≤ no_column },
 }
 
+/// The columns of a grammar, kept without it.
+#[derive(Debug, Drop)]
+pub struct Columns {
+    sites: Sites,
+    forms: Vec<Form>,
+    pub ghost few: { length forms.items ≤ no_column },
+}
+
+impl<'a> ColumnLayout<'a> {
+    ghost use Rattle.std.specs.Prelude.{◌≡◌};
+    ghost use Rattle.pv_productive.specs.PlainForms.{dtd_of};
+    ghost use Rattle.pv_span.specs.KeptColumns.{AreColumnsOf};
+
+    /// A grammar with its columns, which were kept.
+    pub fn of(grammar: &'a Grammar, columns: Columns) -> ColumnLayout<'a>
+        requires { ∥ AreColumnsOf (dtd_of grammar.now) columns ∥₁ }
+        ensures { result.grammar.now ≡ grammar.now }
+    {
+        ColumnLayout {
+            grammar,
+            sites: columns.sites,
+            forms: columns.forms,
+        }
+    }
+
+    /// The columns alone.
+    pub fn into_columns(self) -> Columns
+        ensures { ∥ AreColumnsOf (dtd_of self.entry.grammar.now) result ∥₁ }
+    {
+        Columns {
+            sites: self.sites,
+            forms: self.forms,
+        }
+    }
+}
+
 /// Gives all parts their columns, the last part first: what is within a part has higher numbers,
 /// and so have the members behind it.
 fn lay_parts(

@@ -32,7 +32,7 @@ mod verdict;
 mod weighing;
 
 pub use errors::SpanError;
-pub use layout::{ColumnLayout, lay_out};
+pub use layout::{ColumnLayout, Columns, lay_out};
 pub use membership::member;
 pub use owners::{ListOwner, is_known_owner};
 pub use pv_tables::{Entries, Entry, Table, Tables};

@@ -5,9 +5,11 @@ ghost use Rattle.pv_productive.specs.PlainForms.{dtd_of};
 ghost use Rattle.pv_tree.specs.Lists.{lists_of};
 ghost use Rattle.pv_tree.specs.PlainDocs.{plain_doc};
 ghost use Rattle.pv_missing.specs.Verdicts.{AreVerdicts};
+ghost use Rattle.pv_complete.specs.KnownWeights.{AreKnown};
 ghost use Rattle.pv_complete.specs.Needing.{AreLiveVerdicts, HasCause, Needs, WeighsIn};
 
 use crate::errors::NeedError;
+use crate::missing::known::KnownWeights;
 use crate::missing::load::Load;
 use crate::missing::weighing::weigh_doc;
 use crate::missing::widths::first_wide_list;
@@ -57,13 +59,16 @@ fn total_weight(
     root: &[u8],
     doc: &Doc,
     verdicts: &Verdicts,
+    known: &mut KnownWeights,
 ) -> Result<u32, NeedError>
+    requires { AreKnown (dtd_of layout.now.grammar.now) known.old }
     ensures total { IfOk result (λ total. AreLiveVerdicts (dtd_of layout.now.grammar.now) root.now
         (plain_doc doc.now) verdicts.now.verdicts →
         WeighsIn (dtd_of layout.now.grammar.now) root.now (plain_doc doc.now) total) }
     ensures refused { IfErr result (λ error. AreLiveVerdicts (dtd_of layout.now.grammar.now)
         root.now (plain_doc doc.now) verdicts.now.verdicts →
         HasCause (dtd_of layout.now.grammar.now) root.now (plain_doc doc.now) error) }
+    ensures known { AreKnown (dtd_of layout.now.grammar.now) known.new }
 {
     possible_weights_law::<Mark>();
     proper_dtd_law(layout.grammar.dtd());
@@ -72,7 +77,7 @@ fn total_weight(
         return Err(NeedError::TooWide(path));
     }
     let mut load = Load::new(alloc);
-    match weigh_doc(alloc, layout, root, doc, verdicts, &mut load) {
+    match weigh_doc(alloc, layout, root, doc, verdicts, known, &mut load) {
         Ok(()) => Ok(load.total),
         Err(SpanError::TooWide) => Err(NeedError::TooWide(Path::new(alloc, &load.places)?)),
         Err(SpanError::NoMemory) => Err(NeedError::NoMemory),
@@ -82,22 +87,26 @@ fn total_weight(
 /// The least number of elements whose insertion makes a document valid, under a grammar that is
 /// laid out, by the verdicts of its lists.
 ///
-/// A list that is Valid takes no table of weights. Tables are made one at a time, and let go.
+/// A list that is Valid takes no table of weights, nor does one whose weight is known. Tables are
+/// made one at a time, and let go.
 pub(crate) fn need_under(
     alloc: Global,
     layout: &ColumnLayout<'_>,
     root: &[u8],
     doc: &Doc,
     verdicts: &Verdicts,
+    known: &mut KnownWeights,
 ) -> Result<u64, NeedError>
+    requires { AreKnown (dtd_of layout.now.grammar.now) known.old }
     ensures needs { IfOk result (λ n. AreLiveVerdicts (dtd_of layout.now.grammar.now) root.now
         (plain_doc doc.now) verdicts.now.verdicts →
         Needs (dtd_of layout.now.grammar.now) root.now (plain_doc doc.now) n) }
     ensures refused { IfErr result (λ error. AreLiveVerdicts (dtd_of layout.now.grammar.now)
         root.now (plain_doc doc.now) verdicts.now.verdicts →
         HasCause (dtd_of layout.now.grammar.now) root.now (plain_doc doc.now) error) }
+    ensures known { AreKnown (dtd_of layout.now.grammar.now) known.new }
 {
-    let total = total_weight(alloc, layout, root, doc, verdicts)?;
+    let total = total_weight(alloc, layout, root, doc, verdicts, known)?;
     if total < HEAVIEST {
         Ok(u64::from(total))
     } else {
@@ -108,7 +117,7 @@ pub(crate) fn need_under(
 /// The least number of elements whose insertion makes a document valid, by the verdicts of its
 /// lists, none of which is Impossible or too wide for one. The document stays as it is.
 ///
-/// The grammar is laid out once for all lists.
+/// The grammar is laid out once for all lists, and lists of one owner and one word are weighed once.
 pub fn need_by(
     alloc: Global,
     grammar: &Grammar,
@@ -124,7 +133,8 @@ pub fn need_by(
         HasCause (dtd_of grammar.now) root.now (plain_doc doc.now) error) }
 {
     let layout = lay_out(alloc, grammar)?;
-    need_under(alloc, &layout, root, doc, verdicts)
+    let mut known = KnownWeights::none(alloc);
+    need_under(alloc, &layout, root, doc, verdicts, &mut known)
 }
 
 /// The verdicts of the lists of a document that misses at most 1,000,000 elements.
@@ -142,7 +152,8 @@ pub fn light_verdicts(
         (plain_doc doc.now)) }
 {
     let verdicts = uncounted_verdicts::<Brand>(alloc, layout.grammar, root, doc, Blank::new(1))?;
-    need_under(alloc, layout, root, doc, &verdicts)?;
+    let mut known = KnownWeights::none(alloc);
+    need_under(alloc, layout, root, doc, &verdicts, &mut known)?;
     Ok(verdicts)
 }
 

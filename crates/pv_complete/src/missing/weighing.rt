@@ -9,10 +9,12 @@ ghost use Rattle.pv_tree.specs.PlainDocs.{plain_doc};
 ghost use Rattle.pv_tree.specs.PlainForms.{plain, forest};
 ghost use Rattle.pv_tree.specs.declared.nodes.Mark.{Mark};
 ghost use Rattle.pv_missing.specs.Owners.{IsOwner};
+ghost use Rattle.pv_complete.specs.KnownWeights.{AreKnown};
 ghost use Rattle.pv_complete.specs.Loads.{AddsUp, StopsAtList};
 ghost use Rattle.pv_complete.specs.PlainForms.{load_of};
 ghost use Rattle.pv_span.specs.declared.errors.SpanError.TheVariants.{TooWide as too_wide};
 
+use crate::missing::known::KnownWeights;
 use crate::missing::lists::weight_of;
 use crate::missing::load::Load;
 use pv_missing::{Of, Verdicts, element_owner, root_owner};
@@ -27,8 +29,10 @@ fn weigh_list(
     owner: Option<Of>,
     kids: &[Node],
     verdicts: &Verdicts,
+    known: &mut KnownWeights,
     load: &mut Load,
 ) -> Result<(), SpanError>
+    requires { AreKnown (dtd_of layout.now.grammar.now) known.old }
     ensures weighed { OnOk result ((root : List ℕ) (list : Listed Mark) →
         list.kids ≡ forest kids.now →
         IsOwner (dtd_of layout.now.grammar.now) root list owner →
@@ -39,6 +43,7 @@ fn weigh_list(
         StopsAtList (dtd_of layout.now.grammar.now) root (list ∷ []) verdicts.now.verdicts
         (load_of load.old) list.path) }
     ensures places { load.new.places ≡ load.old.places }
+    ensures known { AreKnown (dtd_of layout.now.grammar.now) known.new }
 {
     if !load.takes_possible(verdicts) {
         return Ok(());
@@ -49,7 +54,7 @@ fn weigh_list(
     if !is_known_owner(layout.grammar, of) {
         return Ok(());
     }
-    match weight_of(alloc, &ListOwner { layout, of }, kids) {
+    match weight_of(alloc, &ListOwner { layout, of }, kids, known) {
         Ok(weight) => {
             load.add(weight);
             Ok(())
@@ -66,9 +71,11 @@ fn weigh_node(
     layout: &ColumnLayout<'_>,
     node: &Node,
     verdicts: &Verdicts,
+    known: &mut KnownWeights,
     load: &mut Load,
 ) -> Result<(), SpanError>
-    requires { nodes_in (plain node.now) ≤ MAX_NODES }
+    requires few { nodes_in (plain node.now) ≤ MAX_NODES }
+    requires known { AreKnown (dtd_of layout.now.grammar.now) known.old }
     ensures weighed { OnOk result ((root : List ℕ) → AddsUp (dtd_of layout.now.grammar.now) root
         (lists_at load.old.places.items (plain node.now)) verdicts.now.verdicts (load_of load.old)
         (load_of load.new)) }
@@ -77,13 +84,14 @@ fn weigh_node(
         (lists_at load.old.places.items (plain node.now)) verdicts.now.verdicts (load_of load.old)
         load.new.places.items) }
     ensures places { OnOk result (load.new.places.items ≡ load.old.places.items) }
+    ensures known { AreKnown (dtd_of layout.now.grammar.now) known.new }
 {
     let Node::Elem { name, kids, .. } = node else {
         return Ok(());
     };
     let owner = element_owner(layout.grammar.dtd(), name.as_slice());
-    weigh_list(alloc, layout, owner, kids, verdicts, load)?;
-    weigh_kids(alloc, layout, kids, verdicts, load)
+    weigh_list(alloc, layout, owner, kids, verdicts, known, load)?;
+    weigh_kids(alloc, layout, kids, verdicts, known, load)
 }
 
 /// The same of nodes side by side, at the places of their list.
@@ -93,9 +101,11 @@ fn weigh_kids(
     layout: &ColumnLayout<'_>,
     kids: &[Node],
     verdicts: &Verdicts,
+    known: &mut KnownWeights,
     load: &mut Load,
 ) -> Result<(), SpanError>
-    requires { nodes_in_all (forest kids.now) ≤ MAX_NODES }
+    requires few { nodes_in_all (forest kids.now) ≤ MAX_NODES }
+    requires known { AreKnown (dtd_of layout.now.grammar.now) known.old }
     ensures weighed { OnOk result ((root : List ℕ) → AddsUp (dtd_of layout.now.grammar.now) root
         (lists_from load.old.places.items 0 (forest kids.now))
         verdicts.now.verdicts
@@ -105,10 +115,11 @@ fn weigh_kids(
         (lists_from load.old.places.items 0 (forest kids.now))
         verdicts.now.verdicts (load_of load.old) load.new.places.items) }
     ensures places { OnOk result (load.new.places.items ≡ load.old.places.items) }
+    ensures known { AreKnown (dtd_of layout.now.grammar.now) known.new }
 {
     for (i, kid) in kids.iter().enumerate() {
         load.enter(i as u32)?;
-        weigh_node(alloc, layout, kid, verdicts, load)?;
+        weigh_node(alloc, layout, kid, verdicts, known, load)?;
         load.places.pop();
     }
     Ok(())
@@ -122,15 +133,18 @@ pub fn weigh_doc(
     root: &[u8],
     doc: &Doc,
     verdicts: &Verdicts,
+    known: &mut KnownWeights,
     load: &mut Load,
 ) -> Result<(), SpanError>
-    requires { load.old.places.items ≡ [] }
+    requires places { load.old.places.items ≡ [] }
+    requires known { AreKnown (dtd_of layout.now.grammar.now) known.old }
     ensures weighed { OnOk result (AddsUp (dtd_of layout.now.grammar.now) root.now
         (lists_of (plain_doc doc.now)) verdicts.now.verdicts
         (load_of load.old) (load_of load.new)) }
     ensures wide { IfErr result (λ e. e ≡ too_wide → StopsAtList (dtd_of layout.now.grammar.now)
         root.now (lists_of (plain_doc doc.now)) verdicts.now.verdicts (load_of load.old)
         load.new.places.items) }
+    ensures known { AreKnown (dtd_of layout.now.grammar.now) known.new }
 {
     let owner = root_owner(layout.grammar.dtd(), root);
     weigh_list(
@@ -139,8 +153,9 @@ pub fn weigh_doc(
         owner,
         std::slice::from_ref(&doc.root),
         verdicts,
+        known,
         load,
     )?;
     load.enter(0)?;
-    weigh_node(alloc, layout, &doc.root, verdicts, load)
+    weigh_node(alloc, layout, &doc.root, verdicts, known, load)
 }

@@ -1,110 +1,26 @@
 //! The first Possible list that is too wide for weights.
 
-ghost use Rattle.std.specs.Prelude.{◌↔◌, ◌≡◌, ◌≤◌, ◌∷◌, [], List, ℕ, IfOk, IsTrue, MatchOption};
-ghost use Rattle.std.specs.Prelude.{length};
+ghost use Rattle.std.specs.Prelude.{◌↔◌, ◌≡◌, ◌∷◌, [], List, ℕ, IfOk, IsTrue, MatchOption};
+ghost use Rattle.std.specs.Prelude.{drop, length};
 ghost use Rattle.std.specs.List.{AllByRecursion};
 ghost use Rattle.pv_dtd.specs.PlainForms.{plain_dtd};
-ghost use Rattle.pv_tree.specs.Legal.{MAX_NODES};
-ghost use Rattle.pv_tree.specs.Lists.{IsFirstNot, Listed, lists_at, lists_from, lists_of};
-ghost use Rattle.pv_tree.specs.Plain.{nodes_in, nodes_in_all};
+ghost use Rattle.pv_tree.specs.Lists.{IsFirstNot, Listed, lists_of};
 ghost use Rattle.pv_tree.specs.PlainDocs.{plain_doc};
-ghost use Rattle.pv_tree.specs.PlainForms.{forest, plain};
+ghost use Rattle.pv_tree.specs.PlainForms.{forest};
+ghost use Rattle.pv_tree.specs.Search.{Tells};
 ghost use Rattle.pv_tree.specs.Words.{word_of};
 ghost use Rattle.pv_tree.specs.declared.nodes.Mark.{Mark};
 ghost use Rattle.pv_missing.specs.Verdicts.{AreVerdicts};
 ghost use Rattle.pv_missing.specs.Widths.{FitsWeights};
 ghost use Rattle.pv_complete.specs.Needing.{CanWeigh};
-ghost use Rattle.pv_complete.specs.WideLists.{FindsWide};
+ghost use Rattle.pv_complete.specs.WideLists.{HaveVerdictsFrom};
 
 use crate::missing::load::next_is_possible;
 use pv_chars::NoMemory;
 use pv_dtd::Dtd;
 use pv_missing::{Verdicts, is_narrow_for_weights};
-use pv_tree::{Doc, Node, Path, word};
+use pv_tree::{Doc, ListTest, Node, Path, first_list, word};
 use std::alloc::Global;
-
-/// Whether the list of these kids isn't too wide for weights. Its word is made only where there are
-/// as many kids as are too many tokens.
-fn is_list_narrow(alloc: Global, dtd: &Dtd, kids: &[Node]) -> Result<bool, NoMemory>
-    ensures { IfOk result (λ narrow. IsTrue narrow ↔ FitsWeights (plain_dtd dtd.now)
-        (length (word_of (plain_dtd dtd.now) (forest kids.now)))) }
-{
-    if is_narrow_for_weights(dtd, kids.len() as u64) {
-        return Ok(true);
-    }
-    let tokens = word(alloc, dtd, kids)?;
-    Ok(is_narrow_for_weights(dtd, tokens.as_slice().len() as u64))
-}
-
-/// Uses the verdict of the list of these kids, and tells whether the list is Possible and too wide
-/// for weights.
-fn is_wide(
-    alloc: Global,
-    dtd: &Dtd,
-    kids: &[Node],
-    verdicts: &Verdicts,
-    used: &mut u64,
-) -> Result<bool, NoMemory>
-    ensures { IfOk result (λ wide. (root : List ℕ) (list : Listed Mark) →
-        list.kids ≡ forest kids.now →
-        FindsWide (plain_dtd dtd.now) root (list ∷ []) verdicts.now.verdicts used.old used.new
-        list.path list.path wide) }
-{
-    if !next_is_possible(verdicts, used) {
-        return Ok(false);
-    }
-    Ok(!is_list_narrow(alloc, dtd, kids)?)
-}
-
-/// Whether a Possible list of this subtree is too wide for weights. The places of the node become
-/// those of the first such list.
-#[cycle(widths)]
-fn has_wide(
-    alloc: Global,
-    dtd: &Dtd,
-    node: &Node,
-    verdicts: &Verdicts,
-    used: &mut u64,
-    places: &mut Vec<u32>,
-) -> Result<bool, NoMemory>
-    requires { nodes_in (plain node.now) ≤ MAX_NODES }
-    ensures { IfOk result (λ found. (root : List ℕ) → FindsWide (plain_dtd dtd.now) root
-        (lists_at places.old.items (plain node.now)) verdicts.now.verdicts used.old used.new
-        places.old.items places.new.items found) }
-{
-    let Node::Elem { kids, .. } = node else {
-        return Ok(false);
-    };
-    if is_wide(alloc, dtd, kids, verdicts, used)? {
-        return Ok(true);
-    }
-    has_wide_kid(alloc, dtd, kids, verdicts, used, places)
-}
-
-/// The same of nodes side by side, at the places of their list.
-#[cycle(widths)]
-fn has_wide_kid(
-    alloc: Global,
-    dtd: &Dtd,
-    kids: &[Node],
-    verdicts: &Verdicts,
-    used: &mut u64,
-    places: &mut Vec<u32>,
-) -> Result<bool, NoMemory>
-    requires { nodes_in_all (forest kids.now) ≤ MAX_NODES }
-    ensures { IfOk result (λ found. (root : List ℕ) → FindsWide (plain_dtd dtd.now) root
-        (lists_from places.old.items 0 (forest kids.now)) verdicts.now.verdicts used.old used.new
-        places.old.items places.new.items found) }
-{
-    for (i, kid) in kids.iter().enumerate() {
-        places.push(i as u32)?;
-        if has_wide(alloc, dtd, kid, verdicts, used, places)? {
-            return Ok(true);
-        }
-        places.pop();
-    }
-    Ok(false)
-}
 
 /// The path of the first Possible list of a document that is too wide for weights, by the verdicts
 /// of its lists. No table is made.
@@ -120,21 +36,65 @@ pub fn first_wide_list(
         (AllByRecursion (CanWeigh (plain_dtd dtd.now) root) (lists_of (plain_doc doc.now)))
         (IsFirstNot (CanWeigh (plain_dtd dtd.now) root) (lists_of (plain_doc doc.now)))) }
 {
-    let mut used = 0;
-    if is_wide(
+    let widths = Widths {
         alloc,
         dtd,
-        std::slice::from_ref(&doc.root),
         verdicts,
-        &mut used,
-    )? {
-        return Ok(Some(Path::new(alloc, &[])?));
+    };
+    first_list(alloc, &widths, doc, &mut 0)
+}
+
+/// Whether lists, where they are Possible, aren't too wide for weights, by their verdicts, of which
+/// these many are used.
+#[derive(Drop)]
+struct Widths<'a> {
+    alloc: Global,
+    dtd: &'a Dtd,
+    verdicts: &'a Verdicts,
+}
+
+impl ListTest for Widths<'_> {
+    type State = u64;
+
+    ghost passes = { λ test. CanWeigh (plain_dtd test.dtd.now) };
+
+    ghost awaits = { λ test. HaveVerdictsFrom (plain_dtd test.dtd.now)
+        test.verdicts.now.verdicts };
+
+    fn passes_document(&self, root: &Node, used: &mut u64) -> Result<bool, NoMemory> {
+        self.can_weigh(std::slice::from_ref(root), used)
     }
-    let mut places = Vec::new(alloc);
-    places.push(0)?;
-    if has_wide(alloc, dtd, &doc.root, verdicts, &mut used, &mut places)? {
-        Ok(Some(Path::new(alloc, &places)?))
-    } else {
-        Ok(None)
+
+    fn passes_element(&self, _: &[u8], kids: &[Node], used: &mut u64) -> Result<bool, NoMemory> {
+        self.can_weigh(kids, used)
     }
+}
+
+impl Widths<'_> {
+    /// Uses the verdict of the list of these kids, and tells whether the list can be weighed.
+    fn can_weigh(&self, kids: &[Node], used: &mut u64) -> Result<bool, NoMemory>
+        ensures { IfOk result (λ can. (list : Listed Mark) → list.kids ≡ forest kids.now →
+            Tells (CanWeigh (plain_dtd self.now.dtd.now))
+            (HaveVerdictsFrom (plain_dtd self.now.dtd.now) self.now.verdicts.now.verdicts used.old)
+            (HaveVerdictsFrom (plain_dtd self.now.dtd.now) self.now.verdicts.now.verdicts used.new)
+            list can) }
+    {
+        if !next_is_possible(self.verdicts, used) {
+            return Ok(true);
+        }
+        is_list_narrow(self.alloc, self.dtd, kids)
+    }
+}
+
+/// Whether the list of these kids isn't too wide for weights. Its word is made only where there are
+/// as many kids as are too many tokens.
+fn is_list_narrow(alloc: Global, dtd: &Dtd, kids: &[Node]) -> Result<bool, NoMemory>
+    ensures { IfOk result (λ narrow. IsTrue narrow ↔ FitsWeights (plain_dtd dtd.now)
+        (length (word_of (plain_dtd dtd.now) (forest kids.now)))) }
+{
+    if is_narrow_for_weights(dtd, kids.len() as u64) {
+        return Ok(true);
+    }
+    let tokens = word(alloc, dtd, kids)?;
+    Ok(is_narrow_for_weights(dtd, tokens.as_slice().len() as u64))
 }

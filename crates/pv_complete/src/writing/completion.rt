@@ -10,6 +10,7 @@ ghost use Rattle.pv_complete.specs.Needing.{AreLiveVerdicts, HasCause, HasVerdic
 ghost use Rattle.pv_complete.specs.declared.errors.NeedError.TheVariants.{NoMemory as no_memory};
 
 use crate::errors::NeedError;
+use crate::missing::known::KnownWeights;
 use crate::missing::needing::{need_under, uncounted_verdicts};
 use crate::writing::text::numbers_of;
 use crate::writing::walk::write_doc;
@@ -106,7 +107,8 @@ pub fn complete_by(
     proper_dtd_law(grammar.dtd());
     proper_doc_law(doc);
     let layout = lay_out(alloc, grammar)?;
-    let count = need_under(alloc, &layout, root, doc, verdicts)?;
+    let mut known = KnownWeights::none(alloc);
+    let count = need_under(alloc, &layout, root, doc, verdicts, &mut known)?;
     let text = write_doc(alloc, &layout, root, doc, verdicts)?;
     let marks = numbers_of(alloc, text.marks.as_slice())?;
     Ok(Completion {

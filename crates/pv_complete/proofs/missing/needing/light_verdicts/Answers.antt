@@ -1,4 +1,5 @@
 use Rattle.std.proofs.lemmas.Result.{err_from_is_err_and}
+use Rattle.pv_productive.specs.PlainForms.{dtd_of}
 use Rattle.pv_complete.proofs.missing.needing.light_verdicts.Goals as goal
 
 pub returns-in_err-need_under-clause-refused : goal.returns-in_err-need_under-clause-refused
@@ -8,3 +9,6 @@ returns-in_err-need_under-clause-refused c =
 
 pub returns-clause-light : goal.returns-clause-light
 returns-clause-light c = (c.in_ok-need_under.field-0, c.in_ok-need_under.ensures.needs c.in_ok-verdicts.ensures.verdicts)
+
+pub need_under-requires : goal.need_under-requires
+need_under-requires c = c.none-known.ensures (dtd_of c.args.layout.now.grammar.now)

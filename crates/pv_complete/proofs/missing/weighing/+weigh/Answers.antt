@@ -25,7 +25,7 @@ pub weigh_kids-weigh_node-requires : goal.weigh_kids-weigh_node-requires
 weigh_kids-weigh_node-requires t c = (
   omega (arith, ap nodes_in_all (forest-drop c.args.kids.now c.loop-i.i c.index-kids-i.result (omega arith) c.index-kids-i.is), c.loop-i.invariant.few_nodes, c.decreases),
   (let step = forest-drop c.args.kids.now c.loop-i.i c.index-kids-i.result (omega arith) c.index-kids-i.is in
-      omega (arith, ap nodes_in_all step, c.loop-i.invariant.few_nodes, c.requires)),
+      (omega (arith, ap nodes_in_all step, c.loop-i.invariant.few_nodes, c.requires.few), c.loop-i.invariant.known)),
 )
 
 pub weigh_kids-returns-in_err-weigh_node-clause-wide : goal.weigh_kids-returns-in_err-weigh_node-clause-wide
@@ -61,6 +61,7 @@ weigh_kids-loop-i-preserved t c =
     λ root. rw (c.in_ok-enter.ensures.places, c.enter.ensures.used, c.enter.ensures.total) at (c.in_ok-weigh_node.ensures.weighed root) in
     record {
       same_places = back ∙ c.loop-i.invariant.same_places;
+      known = c.weigh_node.ensures.known;
       few_nodes = omega (arith, ap nodes_in_all step, c.loop-i.invariant.few_nodes);
       adds = λ root last f. rw back (c.loop-i.invariant.adds root last (rw whole (adds_on d root vs here others (load_of c.loop-i.load) (load_of c.weigh_node.new.load) last (kid_adds root) (rw back at f))));
       stops = λ root to f. rw back (c.loop-i.invariant.stops root to (rw whole (stops_behind d root vs here others (load_of c.loop-i.load) (load_of c.weigh_node.new.load) to (kid_adds root) (rw back at f))));

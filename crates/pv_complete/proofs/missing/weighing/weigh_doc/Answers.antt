@@ -26,7 +26,7 @@ returns-in_err-weigh_list-clause-wide c =
     let q = p.2 in
     let wide : c.in_err-weigh_list.field-0.0 ≡ too_wide = cc in
     let here : StopsAtList d root (list ∷ []) c.args.verdicts.now.verdicts (load_of c.args.load.now) [] = c.in_err-weigh_list.ensures.wide wide root list (rw c.from_ref.ensures.value refl) owner in
-    rw (c.weigh_list.ensures.places, c.requires) (stops_before d root c.args.verdicts.now.verdicts (list ∷ []) (lists_at (0 ∷ []) (plain c.args.doc.now.root)) (load_of c.args.load.now) [] here))
+    rw (c.weigh_list.ensures.places, c.requires.places) (stops_before d root c.args.verdicts.now.verdicts (list ∷ []) (lists_at (0 ∷ []) (plain c.args.doc.now.root)) (load_of c.args.load.now) [] here))
 
 pub returns-clause-weighed : goal.returns-clause-weighed
 returns-clause-weighed c =
@@ -36,7 +36,7 @@ returns-clause-weighed c =
     let list : Listed Mark = record { path = []; owner = the_document; kids = tree (plain c.args.doc.now.root) no_trees } in
     let owner : site_of d root the_document ≡ option_map plain_of c.root_owner-owner.result = root_site _ d root _ c.dtd.ensures c.root_owner-owner.ensures.owner in
     let one : AddsUp d root (list ∷ []) vs (load_of c.args.load.now) (load_of c.weigh_list.new.load) = c.in_ok-weigh_list.ensures.weighed root list (rw c.from_ref.ensures.value refl) owner in
-    let places : c.enter.new.self.places.items ≡ 0 ∷ [] = places_of_root _ _ c.requires (rw c.weigh_list.ensures.places at c.in_ok-enter.ensures.places) in
+    let places : c.enter.new.self.places.items ≡ 0 ∷ [] = places_of_root _ _ c.requires.places (rw c.weigh_list.ensures.places at c.in_ok-enter.ensures.places) in
     IfOk-weaker c.weigh_node.result _ _
     (λ _ f. adds_on d root vs (list ∷ []) (lists_at (0 ∷ []) (plain c.args.doc.now.root)) (load_of c.args.load.now) (load_of c.weigh_list.new.load) (load_of c.weigh_node.new.load) one (f root))
     (rw (places, c.enter.ensures.used, c.enter.ensures.total) at c.weigh_node.ensures.weighed)
@@ -49,7 +49,7 @@ returns-clause-wide c =
     let list : Listed Mark = record { path = []; owner = the_document; kids = tree (plain c.args.doc.now.root) no_trees } in
     let owner : site_of d root the_document ≡ option_map plain_of c.root_owner-owner.result = root_site _ d root _ c.dtd.ensures c.root_owner-owner.ensures.owner in
     let one : AddsUp d root (list ∷ []) vs (load_of c.args.load.now) (load_of c.weigh_list.new.load) = c.in_ok-weigh_list.ensures.weighed root list (rw c.from_ref.ensures.value refl) owner in
-    let places : c.enter.new.self.places.items ≡ 0 ∷ [] = places_of_root _ _ c.requires (rw c.weigh_list.ensures.places at c.in_ok-enter.ensures.places) in
+    let places : c.enter.new.self.places.items ≡ 0 ∷ [] = places_of_root _ _ c.requires.places (rw c.weigh_list.ensures.places at c.in_ok-enter.ensures.places) in
     IfErr-weaker c.weigh_node.result _ _
     (λ y f e. stops_behind d root vs (list ∷ []) (lists_at (0 ∷ []) (plain c.args.doc.now.root)) (load_of c.args.load.now) (load_of c.weigh_list.new.load) c.weigh_node.new.load.places.items one (f e root))
     (rw (places, c.enter.ensures.used) at c.weigh_node.ensures.wide)

@@ -67,3 +67,6 @@ returns-clause-bounded c = λ live.
     (bounded_text (dtd_of c.args.grammar.now) c.args.root.now (plain_doc c.args.doc.now) c.args.verdicts.now.verdicts c.in_ok-count.count c.in_ok-text.text.marks.items c.in_ok-text.text.body.items
     (proper dtd) (dtd_names dtd) c.every_view_is_written_law.ensures c.tags_extend_law.ensures c.possible_weights_law.ensures c.proper_doc_law.ensures (doc_writable c.args.doc.now)
     c.requires.names (doc_epilog c.args.doc.now) ((rw c.in_ok-layout.ensures at c.in_ok-count.ensures.needs) live) live.verdicts (text_under c.in_ok-layout.layout.grammar.now c.args.grammar.now c.in_ok-layout.ensures c.args.root.now (plain_doc c.args.doc.now) c.args.verdicts.now.verdicts c.in_ok-text.text.marks.items c.in_ok-text.text.body.items c.in_ok-text.ensures live.verdicts) (short_names dtd) c.args.doc.now.formed)
+
+pub need_under-requires : goal.need_under-requires
+need_under-requires c = c.none-known.ensures (dtd_of c.in_ok-layout.layout.grammar.now)

@@ -1,0 +1,45 @@
+-- Weights that are remembered, and one more.
+use Rattle.std.proofs.Common.{Bool, List, Some, [], arith, false, inl, inr, length, map, refl, slice_get, suc, true, zero, ℕ, ◌++◌, ◌<◌, ◌∷◌, ◌≡◌, ◌⊎◌}
+use Rattle.std.specs.Prelude.{if◌then◌else◌}
+use Rattle.pv_dtd.specs.Plain.{PlainDtd}
+use Rattle.pv_missing.specs.PlainForms.{plain_of}
+use Rattle.pv_model.specs.PlainForms.{plain_token}
+use Rattle.pv_complete.specs.KnownWeights.{AreKnown, IsWordWeight}
+use Rattle.pv_complete.specs.declared.missing.known.KnownWeight.{KnownWeight}
+
+-- an element of a list with one more at its end
+one_of_both : {X : Type 0} (xs : List X) (y : X) (k : ℕ) (x : X) → slice_get (xs ++ (y ∷ [])) k ≡ Some x → (slice_get xs k ≡ Some x) ⊎ (x ≡ y)
+one_of_both [] y zero x h = inr cc
+one_of_both [] y (suc k) x h = absurd cc
+one_of_both (z ∷ xs) y zero x h = inl h
+one_of_both (z ∷ xs) y (suc k) x h = one_of_both xs y k x h
+
+-- the same list, where all elements are
+pub same_elements : {X : Type 0} (xs ys : List X) → length xs ≡ length ys → ((k : ℕ) → k < length xs → slice_get xs k ≡ slice_get ys k) → xs ≡ ys
+same_elements [] [] n f = refl
+same_elements [] (y ∷ ys) n f = absurd (let e : length (y ∷ ys) ≡ suc (length ys) = refl in omega (arith, n))
+same_elements (x ∷ xs) [] n f = absurd (let e : length (x ∷ xs) ≡ suc (length xs) = refl in omega (arith, n))
+same_elements (x ∷ xs) (y ∷ ys) n f =
+    let first : Some x ≡ Some y = f 0 (omega arith) in
+    let rest : xs ≡ ys = same_elements xs ys (omega (arith, n)) (λ k l. f (suc k) (omega arith)) in
+    let e : x ≡ y = cc in
+    rw (e, rest) refl
+
+-- each of these entries is right
+abbrev pub AreRight : PlainDtd → List KnownWeight → Type 0
+AreRight g entries = (k : ℕ) (e : KnownWeight) → slice_get entries k ≡ Some e → IsWordWeight g (plain_of e.of) (map plain_token e.word) e.weight
+
+pub right_one_more : (g : PlainDtd) (old new : List KnownWeight) (e : KnownWeight) → new ≡ old ++ e ∷ [] → AreRight g old → IsWordWeight g (plain_of e.of) (map plain_token e.word) e.weight → AreRight g new
+right_one_more g old new e is all one k x h = elim (one_of_both old e k x (rw is at h)) [ inl at_old ↦ all k x at_old | inr same ↦ rw same one ]
+
+no_entry : {X : Type 0} (k : ℕ) (x : X) → slice_get [] k ≡ Some x → ⊥
+no_entry zero x h = absurd cc
+no_entry (suc k) x h = absurd cc
+
+pub right_none : (g : PlainDtd) (new : List KnownWeight) → new ≡ [] → AreRight g new
+right_none g new is k x h = absurd (no_entry k x (rw is at h))
+
+-- behind a push, which there may be no memory for
+pub right_pushed : (g : PlainDtd) (old new : List KnownWeight) (e : KnownWeight) (b : Bool) → new ≡ (if b then old ++ e ∷ [] else old) → AreRight g old → IsWordWeight g (plain_of e.of) (map plain_token e.word) e.weight → AreRight g new
+right_pushed g old new e true is all one = right_one_more g old new e is all one
+right_pushed g old new e false is all one = rw is all
