@@ -1,5 +1,6 @@
 -- of this crate:
 pub mod Tallying
+pub mod Shared
 pub mod JobLists
 pub mod Judgements
 pub mod ListNumbers

@@ -16,6 +16,7 @@ use crate::gate::Gate;
 use crate::gathering::jobs_of;
 use crate::judging::{count_lists, join_judged, judge_jobs};
 use crate::numbers::first_path;
+use crate::sizes::has_few_nodes;
 use pv_chars::NoMemory;
 use pv_dtd::Dtd;
 use pv_dtd::laws::proper_dtd_law;
@@ -27,15 +28,15 @@ use pv_missing::{Verdicts, is_narrow};
 use pv_productive::Grammar;
 use pv_reach::{Judge, Plan};
 use pv_steps::Steps;
-use pv_tree::{Doc, Mark, Path, Verdict};
+use pv_tree::{Doc, Mark, Path, Verdict, first_invalid};
 use std::alloc::Global;
 use std::sync::ledger::Ledger;
 use std::thread::Threads;
 
 /// What `check_doc` answers, found by as many threads as there are processors. Of several wants of
 /// memory any may come. Where there are no verdicts, no list is counted. The gate is told the
-/// number of each list. The call lays out a plan of the grammar; who has one asks
-/// `check_doc_par_by`.
+/// number of each list. The call lays out a plan of the grammar, but where the document is found to
+/// be valid in less time; who has one asks `check_doc_par_by`.
 pub fn check_doc_par<G: Gate + Sync, L: Ledger>(
     rt: &(impl Threads + Sync),
     alloc: Global,
@@ -55,9 +56,23 @@ pub fn check_doc_par<G: Gate + Sync, L: Ledger>(
     ensures entered { OnOk result ((k : ℕ) → k < length (lists_of (plain_doc doc.now)) →
         G.entered gate.now k) }
 {
+    if is_valid_and_small(alloc, grammar.dtd(), root, doc)? {
+        let judge = Judge::without_plan(alloc, grammar);
+        return check_doc_par_by(rt, &judge, root, doc, gate, steps);
+    }
     let plan = Plan::of(alloc, grammar)?;
     let judge = Judge::new(alloc, grammar, &plan);
     check_doc_par_by(rt, &judge, root, doc, gate, steps)
+}
+
+// Whether the document is valid, where it has no more nodes than the DTD has columns: to find that
+// takes a small part of the time that a plan takes. The verdicts of a valid document rarely need one.
+fn is_valid_and_small(alloc: Global, dtd: &Dtd, root: &[u8], doc: &Doc) -> Result<bool, NoMemory> {
+    if !has_few_nodes(&doc.root, dtd.columns()) {
+        return Ok(false);
+    }
+    let invalid = first_invalid(alloc, dtd, root, doc)?;
+    Ok(invalid.is_none())
 }
 
 /// The same by a grammar whose rules are laid out.

@@ -97,3 +97,13 @@ pub fn small_front(nodes: &[Node]) -> Front
     }
     front
 }
+
+/// Whether a subtree has no more nodes than these.
+pub fn has_few_nodes(node: &Node, most: u32) -> bool {
+    let mut tally = Tally {
+        left: most as usize,
+        lists: 0,
+        longest: 0,
+    };
+    count_node(node, &mut tally)
+}

@@ -7,6 +7,8 @@ pub mod ColumnAnswers
 pub mod ColumnsDerive
 pub mod Emptied
 pub mod FormedDtds
+pub mod Fronting
+pub mod Joining
 pub mod Laying
 pub mod Leading
 pub mod Listing

@@ -9,7 +9,7 @@ use Rattle.pv_model.specs.declared.models.Token.{Token}
 use Rattle.pv_columns.specs.declared.rules.ColumnRule.{ColumnRule}
 use Rattle.pv_columns.proofs.Marking.{same_or_not}
 use Rattle.pv_reach.specs.Adding.{AddsRule, RulesGrow}
-use Rattle.pv_reach.specs.Cuts.{AddsCut, AreCutRules, AreColumnNumbers, AreRanges, HasCut, HasNumbered, IsCutRule, by_rules, by_set}
+use Rattle.pv_reach.specs.Cuts.{AddsCut, AreCutRules, AreColumnNumbers, AreRanges, HasAllNumbered, HasCut, HasNumbered, IsCutRule, by_rules, by_set}
 use Rattle.pv_reach.specs.Merging.{column_head}
 use Rattle.pv_reach.specs.declared.columns.ranges.RuleRanges.{RuleRanges}
 use Rattle.pv_reach.proofs.Pushing.{grow_none, grow_twice}
@@ -105,17 +105,17 @@ pub no_numbers : (names : List ℕ) → AreColumnNumbers names []
 no_numbers names k d lt = absurd (omega arith)
 
 -- a column has all its rules, where those in its range are there
-pub by_range : (rules those : List ColumnRule) (names : List ℕ) (new : List ColumnRule) (tokens : List Token) (l column first end : ℕ) (ranges : RuleRanges) → AreRanges rules ranges → those ≡ rules → column_head names l ≡ column →
+pub by_range : (rules those : List ColumnRule) (names : List ℕ) (new : List ColumnRule) (l column first end : ℕ) (ranges : RuleRanges) → AreRanges rules ranges → those ≡ rules → column_head names l ≡ column →
     first ≡ get_or ranges.first.items column 0 → end ≡ get_or ranges.end.items column 0 →
-    ((k : ℕ) (r : ColumnRule) → first ≤ k → k < end → k < length those → r ≡ get_or those k r → r.left ≡ column_head names l → HasNumbered names new l r) → HasCut rules names new tokens l
-by_range rules those names new tokens l column first end ranges are same is f e has = by_rules (λ r con z.
+    ((k : ℕ) (r : ColumnRule) → first ≤ k → k < end → k < length those → r ≡ get_or those k r → r.left ≡ column_head names l → HasNumbered names new l r) → HasAllNumbered rules names new l
+by_range rules those names new l column first end ranges are same is f e has = λ r con z.
     let k = con.0 in
     let at : (get_or rules k r).left ≡ column = ap (λ (v : ColumnRule). v.left) con.2 ∙ z ∙ is in
     let P : ℕ → Type 0 = λ v. (get_or ranges.first.items v 0 ≤ k) × (k < get_or ranges.end.items v 0) in
     let b = subst P at (are k r con.1) in
     let Q : List ColumnRule → Type 0 = λ v. (k < length v) × (r ≡ get_or v k r) in
     let q = subst Q (sym same) (con.1, sym con.2) in
-    has k r (let u = b.0 in omega arith) (let u = b.1 in omega arith) q.0 q.1 z)
+    has k r (let u = b.0 in omega arith) (let u = b.1 in omega arith) q.0 q.1 z
 
 pub on_ok_as : {E : Type 0} (r : Result (Unit {0}) E) (P Q : Type 0) → (P → Q) → OnOk r P → OnOk r Q
 on_ok_as (Ok u) P Q f h = f h

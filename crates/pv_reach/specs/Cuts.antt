@@ -1,7 +1,7 @@
 -- Rules over few columns, with numbers of their own: those that a column needs before it comes to
 -- free ones.
 use Rattle.std.specs.Prelude.{All, Contains, List, None, Option, Some, [], get_or, length}
-use Rattle.std.specs.Prelude.{slice_get, ℕ, ◌<◌, ◌∷◌, ◌≡◌, ◌≤◌}
+use Rattle.std.specs.Prelude.{slice_get, ℕ, ◌<◌, ◌∷◌, ◌≡◌, ◌≤◌, ◌⊎◌}
 use Rattle.pv_model.specs.declared.models.Token.{Token}
 use Rattle.pv_columns.specs.FreeSets.{AreFreeSets, IsFreeOver}
 use Rattle.pv_columns.specs.Tokens.{IsInRow}
@@ -11,6 +11,8 @@ use Rattle.pv_reach.specs.Adding.{RulesGrow}
 use Rattle.pv_reach.specs.Columns.{Has}
 use Rattle.pv_reach.specs.Merging.{column_head, column_heads}
 use Rattle.pv_reach.specs.declared.columns.ranges.RuleRanges.{RuleRanges}
+use Rattle.pv_reach.specs.declared.tables.cut.Cut.{Cut}
+use Rattle.pv_reach.specs.declared.tables.kept.Cuts.{Cuts}
 
 -- the sets of columns below a number, each at the column's own place
 pub record AreOwnSets (rules : List ColumnRule) (width : ℕ) (free : FreeSets) : Type 0 where
@@ -60,6 +62,28 @@ pub data HasCut (rules : List ColumnRule) (names : List ℕ) (few : List ColumnR
       HasCut rules names few tokens l
   by_rules : ((r : ColumnRule) → Contains rules r → r.left ≡ column_head names l →
       HasNumbered names few l r) → HasCut rules names few tokens l
+
+-- the number of a column has all its rules, over numbers of columns
+abbrev pub HasAllNumbered : List ColumnRule → List ℕ → List ColumnRule → ℕ → Type 0
+HasAllNumbered rules names few l = (r : ColumnRule) → Contains rules r →
+    r.left ≡ column_head names l → HasNumbered names few l r
+
+-- each column that has a number has its rules, or is one of those told as free; and there are no
+-- other rules
+pub record AreRulesKept (rules : List ColumnRule) (names frees : List ℕ) (few : List ColumnRule)
+    : Type 0 where
+  pub cut : AreCutRules rules names few
+  pub has : (l : ℕ) → l < length names → Contains frees l ⊎ HasAllNumbered rules names few l
+
+-- a cut of these rules, over no more columns than they have
+pub record IsCutOf (rules : List ColumnRule) (width : ℕ) (cut : Cut) : Type 0 where
+  pub kept : AreRulesKept rules cut.names.items cut.frees.items cut.rules.items
+  pub number : cut.number < length cut.names.items
+  pub narrow : length cut.names.items ≤ width
+
+-- cuts of these rules
+pub record AreCuts (rules : List ColumnRule) (width : ℕ) (cuts : Cuts) : Type 0 where
+  pub each : (cut : Cut) → Contains cuts.cuts.items cut → IsCutOf rules width cut
 
 -- rules were added to a list
 pub record AddsCut (rules : List ColumnRule) (names : List ℕ) (old new : List ColumnRule)

@@ -15,6 +15,7 @@ use Rattle.pv_columns.specs.declared.rules.ColumnRule.{ColumnRule}
 abbrev pub column_head : List ℕ → ℕ → ℕ
 column_head heads c = get_or heads c 0
 
+-- the columns that stand for these
 abbrev pub column_heads : List ℕ → List ℕ → List ℕ
 column_heads heads cs = map (λ c. get_or heads c 0) cs
 

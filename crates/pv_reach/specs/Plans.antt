@@ -2,14 +2,15 @@
 use Rattle.std.specs.Prelude.{List, length, ◌<◌, ◌^◌, ◌≡◌}
 use Rattle.pv_dtd.specs.Plain.{PlainDtd}
 use Rattle.pv_reach.specs.Columns.{AreRules, width_of}
-use Rattle.pv_reach.specs.Cuts.{AreOwnSets, AreRanges}
+use Rattle.pv_reach.specs.Cuts.{AreCuts, AreOwnSets, AreRanges}
 use Rattle.pv_reach.specs.Merging.{Replaces}
 use Rattle.pv_reach.specs.declared.plan.Plan.{Plan}
 use Rattle.pv_columns.specs.declared.rules.ColumnRule.{ColumnRule}
 
 -- Each column of the DTD has one that stands for it. By the plan's rules the columns that stand for
 -- those of the DTD reach what these reach by the DTD's own; columns that have a set in the plan are
--- free, over that set; and the rules of each column stand in its range.
+-- free, over that set; the rules of each column stand in its range; and the cuts are cuts of the
+-- plan's rules.
 pub record IsPlan (g : PlainDtd) (plan : Plan) : Type 0 where
   pub rules : List ColumnRule
   pub are_rules : AreRules g rules
@@ -18,3 +19,4 @@ pub record IsPlan (g : PlainDtd) (plan : Plan) : Type 0 where
   pub narrow : plan.width < 2 ^ 26
   pub free : AreOwnSets plan.rules.items plan.width plan.free
   pub ranges : AreRanges plan.rules.items plan.ranges
+  pub cuts : AreCuts plan.rules.items plan.width plan.cuts

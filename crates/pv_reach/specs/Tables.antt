@@ -34,6 +34,10 @@ abbrev pub RaisesNothing : List Token → ℕ → List ℕ → ℕ → ColumnRul
 RaisesNothing word width table i r = (m : ℕ) → ReadsToken word r.token i m →
     past width table r.columns.items m ≤ cell_at width table r.left i
 
+-- the rules are among these
+abbrev pub AreAmong : List ColumnRule → List ColumnRule → Type 0
+AreAmong some all = (r : ColumnRule) → Contains some r → Contains all r
+
 pub record IsClosedAt (rules : List ColumnRule) (word : List Token) (width : ℕ) (table : List ℕ)
     (i : ℕ) : Type 0 where
   pub holds : (r : ColumnRule) → Contains rules r → RaisesNothing word width table i r

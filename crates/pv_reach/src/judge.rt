@@ -5,12 +5,12 @@ use pv_productive::Grammar;
 use std::alloc::Global;
 use std::marker::Model;
 
-/// A grammar, and the plan of its rules. Contracts see the grammar.
+/// A grammar, and the plan of its rules, where these are laid out. Contracts see the grammar.
 #[derive(Drop)]
 pub struct Judge<'a> {
     alloc: Global,
     grammar: &'a Grammar,
-    plan: &'a Plan,
+    plan: Option<&'a Plan>,
 }
 
 impl<'a> Model for Judge<'a> {
@@ -26,11 +26,13 @@ impl<'a> Model for Judge<'a> {
 
     ghost view = { λ j. j.grammar.now };
 
-    ghost invariant = { λ j. IsPlan (dtd_of j.grammar.now) j.plan.now };
+    ghost use Rattle.std.specs.Prelude.{IfSome};
+
+    ghost invariant = { λ j. IfSome j.plan (λ plan. IsPlan (dtd_of j.grammar.now) plan.now) };
 }
 
 impl<'a> Judge<'a> {
-    ghost use Rattle.std.specs.Prelude.{◌≡◌};
+    ghost use Rattle.std.specs.Prelude.{◌≡◌, IfSome};
     ghost use Rattle.pv_productive.specs.PlainForms.{dtd_of};
     ghost use Rattle.pv_reach.specs.Plans.{IsPlan};
 
@@ -42,7 +44,19 @@ impl<'a> Judge<'a> {
         Judge {
             alloc,
             grammar,
-            plan,
+            plan: Some(plan),
+        }
+    }
+
+    /// Judges by a grammar whose rules aren't laid out: they are laid out anew for each list that
+    /// isn't valid by itself. Where all lists are valid, that is no plan at all.
+    pub fn without_plan(alloc: Global, grammar: &'a Grammar) -> Judge<'a>
+        ensures { result ≡ grammar.now }
+    {
+        Judge {
+            alloc,
+            grammar,
+            plan: None,
         }
     }
 
@@ -58,8 +72,9 @@ impl<'a> Judge<'a> {
         self.grammar
     }
 
-    pub(crate) fn plan(&self) -> &'a Plan
-        ensures { IsPlan (dtd_of self.now) result.now }
+    /// The plan of the rules, where they are laid out.
+    pub(crate) fn plan(&self) -> Option<&'a Plan>
+        ensures { IfSome result (λ plan. IsPlan (dtd_of self.now) plan.now) }
     {
         self.plan
     }

@@ -14,6 +14,7 @@ use crate::columns::ranges::RuleRanges;
 use crate::graph::components::components_of;
 use crate::rules::adding::any_column;
 use crate::rules::layout::rules_of;
+use crate::tables::kept::{Cuts, cuts_of};
 use pv_chars::NoMemory;
 use pv_columns::{ColumnRule, FreeSets};
 use pv_productive::Grammar;
@@ -31,6 +32,8 @@ pub struct Plan {
     pub(crate) free: FreeSets,
     /// Where the rules of each column stand.
     pub(crate) ranges: RuleRanges,
+    /// What owners need whose contents aren't free.
+    pub(crate) cuts: Cuts,
 }
 
 impl Plan {
@@ -40,6 +43,7 @@ impl Plan {
     {
         let rules = rules_of(alloc, grammar)?;
         let plan = plan_over(alloc, grammar, &rules)?;
+        let plan = with_cuts(alloc, grammar, plan)?;
         Ok(plan)
     }
 }
@@ -52,7 +56,17 @@ fn width_of(grammar: &Grammar) -> usize
     any_column(grammar) + 1
 }
 
-/// The plan of a grammar by its rules.
+/// The plan with the cuts of the grammar's names.
+fn with_cuts(alloc: Global, grammar: &Grammar, plan: Plan) -> Result<Plan, AllocError>
+    requires { IsPlan (dtd_of grammar.now) plan }
+    ensures { IfOk result (λ new. IsPlan (dtd_of grammar.now) new) }
+{
+    let mut plan = plan;
+    plan.cuts = cuts_of(alloc, &plan, grammar.dtd().names() as usize)?;
+    Ok(plan)
+}
+
+/// The plan of a grammar by its rules, without cuts.
 fn plan_over(alloc: Global, grammar: &Grammar, rules: &[ColumnRule]) -> Result<Plan, AllocError>
     requires { AreRules (dtd_of grammar.now) rules.now }
     ensures { IfOk result (λ plan. IsPlan (dtd_of grammar.now) plan) }
@@ -72,5 +86,6 @@ fn plan_over(alloc: Global, grammar: &Grammar, rules: &[ColumnRule]) -> Result<P
         width: wider,
         free,
         ranges,
+        cuts: Cuts::none(alloc, 0),
     })
 }

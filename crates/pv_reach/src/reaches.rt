@@ -76,7 +76,7 @@ fn reaches_by(
     ensures { IfOk result (λ reaches.
         AreReaches (dtd_of grammar.now) (map plain_token word.now) reaches) }
 {
-    let table = fill(alloc, &plan.rules, word, plan.width)?;
+    let table = fill(alloc, &[], &plan.rules, word, plan.width)?;
     let ends = Ends {
         word: Vec::from_slice(alloc, word)?,
         heads: plan.heads,

@@ -1,8 +1,9 @@
 //! Whether a word is possible.
 
-ghost use Rattle.std.specs.Prelude.{◌≡◌, ◌↔◌, ◌∷◌, ◌+◌, [], IfErr, IfOk, IsTrue, length, map};
+ghost use Rattle.std.specs.Prelude.{◌≡◌, ◌↔◌, ◌∷◌, ◌+◌, ◌<◌, [], IfErr, IfOk, IsTrue, length, map};
 ghost use Rattle.pv_model.specs.PlainForms.{plain_token};
 ghost use Rattle.pv_model.specs.Plain.{named};
+ghost use Rattle.pv_dtd.specs.Plain.{declared};
 ghost use Rattle.pv_rules.specs.Sites.{content_site};
 ghost use Rattle.pv_productive.specs.PlainForms.{dtd_of};
 ghost use Rattle.pv_missing.specs.LiveWords.{AreProductiveTokens};
@@ -10,13 +11,15 @@ ghost use Rattle.pv_missing.specs.PlainForms.{plain_of};
 ghost use Rattle.pv_missing.specs.Widths.{FitsVerdict};
 ghost use Rattle.pv_missing.specs.WordVerdicts.{IsPossibleAt};
 ghost use Rattle.pv_rules.specs.Deriving.{DerivesAt};
+ghost use Rattle.pv_reach.specs.Plans.{IsPlan};
 ghost use Rattle.pv_reach.specs.declared.errors.ReachError.TheVariants.{TooWide as too_wide};
 
 use crate::columns::merging::column_head;
 use crate::errors::ReachError;
 use crate::judge::Judge;
 use crate::plan::Plan;
-use crate::tables::cut::column_reaches;
+use crate::tables::by_cut::column_reaches;
+use pv_chars::NoMemory;
 use pv_missing::{Of, is_narrow};
 use pv_model::{NameId, Token};
 use pv_productive::Grammar;
@@ -24,28 +27,49 @@ use pv_steps::Steps;
 use std::alloc::{AllocError, Global};
 use std::sync::ledger::Ledger;
 
-/// Whether the content of a name derives the whole word. Free content derives each word of tokens
-/// that it takes, so that no table is needed.
-pub(crate) fn content_derives(
+/// Whether the content of a name derives the whole word, by a plan of the grammar. Free content
+/// derives each word of tokens that it takes, so that no table is needed.
+fn derives_by(
     judge: &Judge<'_>,
+    plan: &Plan,
     id: NameId,
     word: &[Token],
 ) -> Result<bool, AllocError>
+    requires plan { IsPlan (dtd_of judge.now) plan.now }
+    requires known { id.0 < declared (dtd_of judge.now) }
     requires fits { FitsVerdict (dtd_of judge.now) (length word.now) }
     requires productive { AreProductiveTokens (dtd_of judge.now) (map plain_token word.now) }
     ensures { IfOk result (λ b. IsTrue b ↔ DerivesAt (dtd_of judge.now)
         (map plain_token word.now) (content_site id.0) 0 (length word.now)) }
 {
-    let grammar = judge.grammar();
-    if id.0 >= grammar.dtd().count() {
-        return Ok(false);
-    }
-    let plan = judge.plan();
     let column = column_head(&plan.heads, id.0 as usize);
     if let Some(covers) = plan.free.covers(column, word) {
         return Ok(covers);
     }
     column_reaches(judge.alloc(), plan, word, column)
+}
+
+/// Whether the content of a name derives the whole word. Where the rules of the grammar aren't laid
+/// out, they are laid out for this word.
+pub(crate) fn content_derives(
+    judge: &Judge<'_>,
+    id: NameId,
+    word: &[Token],
+) -> Result<bool, NoMemory>
+    requires fits { FitsVerdict (dtd_of judge.now) (length word.now) }
+    requires productive { AreProductiveTokens (dtd_of judge.now) (map plain_token word.now) }
+    ensures { IfOk result (λ b. IsTrue b ↔ DerivesAt (dtd_of judge.now)
+        (map plain_token word.now) (content_site id.0) 0 (length word.now)) }
+{
+    if id.0 >= judge.grammar().dtd().count() {
+        return Ok(false);
+    }
+    if let Some(plan) = judge.plan() {
+        return Ok(derives_by(judge, plan, id, word)?);
+    }
+    let plan = Plan::of(judge.alloc(), judge.grammar())?;
+    let derives = derives_by(judge, &plan, id, word)?;
+    Ok(derives)
 }
 
 /// Whether the word is one element of this name.
@@ -56,7 +80,7 @@ pub(crate) fn is_element(id: NameId, word: &[Token]) -> bool
 }
 
 /// Whether a word that isn't too wide is possible, by a plan of the grammar.
-fn is_possible(judge: &Judge<'_>, of: Of, word: &[Token]) -> Result<bool, AllocError>
+fn is_possible(judge: &Judge<'_>, of: Of, word: &[Token]) -> Result<bool, NoMemory>
     requires fits { FitsVerdict (dtd_of judge.now) (length word.now) }
     requires productive { AreProductiveTokens (dtd_of judge.now) (map plain_token word.now) }
     ensures { IfOk result (λ b. IsTrue b ↔

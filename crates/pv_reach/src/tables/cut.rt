@@ -1,63 +1,33 @@
 //! The rules that a column needs, over few columns with numbers of their own.
 //!
 //! A search from the column stops at free ones: these reach over exactly the spans of tokens of
-//! their sets, so that in place of their rules they have one for each such token of the word. The
-//! table of a list has then a column for each that was found, and none for the rest of the DTD.
+//! their sets, so that in place of their rules they have one for each such token of a word. The
+//! table of a list has then a column for each that was found, and none for the rest of the DTD. The
+//! rules of the others don't depend on the word, and are kept for all lists.
 
-ghost use Rattle.std.specs.Prelude.{◌↔◌, ◌≡◌, ◌<◌, ◌≤◌, ◌∷◌, [], ◌^◌, ℕ, Contains, IfOk, IsTrue};
-ghost use Rattle.std.specs.Prelude.{List, OnOk, Some, get_or, length, true};
-ghost use Rattle.pv_columns.specs.ColumnRules.{InRange, ReadThrough, TokensMayBeMissing};
-ghost use Rattle.pv_columns.specs.FreeSets.{IsFreeOver};
-ghost use Rattle.pv_columns.specs.Tokens.{IsInRow};
+ghost use Rattle.std.specs.Prelude.{◌≡◌, ◌<◌, ◌≤◌, ◌⊎◌, ℕ, Contains, IfOk, OnOk, get_or, length};
 ghost use Rattle.pv_columns.specs.declared.rules.ColumnRule.{ColumnRule as PlainRule};
-ghost use Rattle.pv_reach.specs.Adding.{RulesGrow};
-ghost use Rattle.pv_reach.specs.Columns.{Has};
-ghost use Rattle.pv_reach.specs.Cuts.{AddsCut, AreColumnNumbers, AreOwnSets, AreRanges};
-ghost use Rattle.pv_reach.specs.Cuts.{AreTokensOf};
-ghost use Rattle.pv_reach.specs.Cuts.{HasCut, HasNumbered, AreRulesCut};
+ghost use Rattle.pv_reach.specs.Cuts.{AddsCut, AreColumnNumbers, AreCutRules, AreRanges};
+ghost use Rattle.pv_reach.specs.Cuts.{AreRulesKept, HasAllNumbered, HasNumbered, IsCutOf};
 ghost use Rattle.pv_reach.specs.Merging.{column_head, column_heads};
 
 use crate::plan::Plan;
 use crate::rules::adding::add;
-use crate::tables::found::{FoundColumns, Uncut, needed_columns};
-use crate::tables::table::reaches_end;
-use pv_columns::{ColumnRule, has};
-use pv_model::Token;
+use crate::tables::found::{FoundColumns, Uncut, find_needed};
+use pv_columns::ColumnRule;
 use std::alloc::{AllocError, Global};
 
-/// Rules over few columns, by which a column reaches what it reaches by those of a plan.
+/// Rules over few columns, by which a column reaches what it reaches by those of a plan; but none of
+/// free columns.
 #[derive(Debug, Drop)]
-struct Cut {
-    rules: Vec<ColumnRule>,
+pub struct Cut {
+    pub rules: Vec<ColumnRule>,
     /// The columns of the plan that have numbers, in order.
-    names: Vec<usize>,
+    pub names: Vec<usize>,
+    /// The numbers of those that are free.
+    pub frees: Vec<usize>,
     /// The number of the column.
-    number: usize,
-}
-
-/// Whether a token is among these.
-fn is_among(tokens: &[Token], token: Token) -> bool
-    ensures { result ≡ true → Contains tokens.now token }
-{
-    for other in tokens {
-        if *other == token {
-            return true;
-        }
-    }
-    false
-}
-
-/// The tokens of a word, each once.
-fn tokens_of(alloc: Global, word: &[Token]) -> Result<Vec<Token>, AllocError>
-    ensures { IfOk result (λ tokens. AreTokensOf word.now tokens.items) }
-{
-    let mut tokens = Vec::new(alloc);
-    for token in word {
-        if !is_among(&tokens, *token) {
-            tokens.push(*token)?;
-        }
-    }
-    Ok(tokens)
+    pub number: usize,
 }
 
 /// The numbers of columns.
@@ -125,73 +95,27 @@ fn add_rules(
     Ok(())
 }
 
-/// Adds the rule by which a free column reaches a token in front of itself, where its set has that.
-fn add_token(
-    alloc: Global,
-    row: &[u64],
-    token: Token,
-    left: usize,
-    few: &mut Vec<ColumnRule>,
-) -> Result<(), AllocError>
-    ensures grow { OnOk result (RulesGrow few.old.items few.new.items) }
-    ensures adds { OnOk result ((rules : List PlainRule) (names : List ℕ) →
-        IsFreeOver rules row.now (column_head names left) → left < length names →
-        AddsCut rules names few.old.items few.new.items) }
-    ensures has { OnOk result (IsInRow row.now token →
-        Has few.new.items left (Some token) (left ∷ [])) }
-{
-    if !has(row, token) {
-        return Ok(());
-    }
-    add(alloc, few, left, Some(token), &[left])?;
-    Ok(())
-}
-
-/// Adds the rules of a free column: it reaches no tokens, and those of its set in front of itself.
-fn add_free(
-    alloc: Global,
-    row: &[u64],
-    tokens: &[Token],
-    left: usize,
-    few: &mut Vec<ColumnRule>,
-) -> Result<(), AllocError>
-    ensures adds { OnOk result ((rules : List PlainRule) (names : List ℕ) →
-        IsFreeOver rules row.now (column_head names left) → left < length names →
-        AddsCut rules names few.old.items few.new.items) }
-    ensures has { OnOk result ((rules : List PlainRule) (names : List ℕ) →
-        IsFreeOver rules row.now (column_head names left) →
-        HasCut rules names few.new.items tokens.now left) }
-{
-    add(alloc, few, left, None, &[])?;
-    for token in tokens {
-        add_token(alloc, row, *token, left, few)?;
-    }
-    Ok(())
-}
-
-/// Adds the rules of the column that has a number.
+/// Adds the rules of the column that has a number, or tells that it is free.
 fn add_column(
     alloc: Global,
     plan: &Plan,
     found: &FoundColumns,
-    tokens: &[Token],
     left: usize,
     few: &mut Vec<ColumnRule>,
+    frees: &mut Vec<usize>,
 ) -> Result<(), Uncut>
     requires left { left < length found.now.names.items }
-    requires sets { AreOwnSets plan.now.rules.items plan.now.width plan.now.free }
     requires ranges { AreRanges plan.now.rules.items plan.now.ranges }
     ensures adds { OnOk result (AddsCut plan.now.rules.items found.now.names.items few.old.items
         few.new.items) }
-    ensures has { OnOk result (HasCut plan.now.rules.items found.now.names.items few.new.items
-        tokens.now left) }
+    ensures frees { OnOk result ((l : ℕ) → Contains frees.old.items l →
+        Contains frees.new.items l) }
+    ensures has { OnOk result (Contains frees.new.items left ⊎
+        HasAllNumbered plan.now.rules.items found.now.names.items few.new.items left) }
 {
     let column = found.names[left];
-    if column >= plan.width {
-        return Err(Uncut::Unfound);
-    }
-    if let Some(row) = plan.free.set_at(column) {
-        add_free(alloc, row, tokens, left, few)?;
+    if plan.free.set_at(column).is_some() {
+        frees.push(left)?;
         return Ok(());
     }
     let first = plan.ranges.first_of(column);
@@ -199,70 +123,48 @@ fn add_column(
     add_rules(alloc, &plan.rules, first, end, found, left, few)
 }
 
-/// The rules of all columns that have numbers; those of the last one come first, so that what a
-/// column leads to mostly comes before it.
-fn cut_rules(
+/// Adds the rules of all columns that have numbers, but those of free ones, whose numbers it tells.
+/// Those of the last column come first, so that what a column leads to comes before it.
+fn add_columns(
     alloc: Global,
     plan: &Plan,
     found: &FoundColumns,
-    tokens: &[Token],
-) -> Result<Vec<ColumnRule>, Uncut>
-    requires sets { AreOwnSets plan.now.rules.items plan.now.width plan.now.free }
+    few: &mut Vec<ColumnRule>,
+    frees: &mut Vec<usize>,
+) -> Result<(), Uncut>
     requires ranges { AreRanges plan.now.rules.items plan.now.ranges }
-    ensures { IfOk result (λ few. AreRulesCut plan.now.rules.items found.now.names.items tokens.now
-        few.items) }
+    ensures { OnOk result (AreCutRules plan.now.rules.items found.now.names.items few.old.items →
+        AreRulesKept plan.now.rules.items found.now.names.items frees.new.items few.new.items) }
 {
-    let mut few = Vec::new(alloc);
     for left in (0..found.names.len()).rev() {
-        add_column(alloc, plan, found, tokens, left, &mut few)?;
+        add_column(alloc, plan, found, left, few, frees)?;
     }
-    Ok(few)
+    Ok(())
 }
 
-/// The rules that a column needs for words of these tokens.
-fn cut_of(alloc: Global, plan: &Plan, tokens: &[Token], column: usize) -> Result<Cut, Uncut>
-    requires sets { AreOwnSets plan.now.rules.items plan.now.width plan.now.free }
+/// The rules that a column needs.
+pub fn cut_of(
+    alloc: Global,
+    plan: &Plan,
+    found: &mut FoundColumns,
+    column: usize,
+) -> Result<Cut, Uncut>
     requires ranges { AreRanges plan.now.rules.items plan.now.ranges }
-    ensures number { IfOk result (λ cut. cut.number < length cut.names.items) }
+    ensures cut { IfOk result (IsCutOf plan.now.rules.items plan.now.width) }
     ensures column { IfOk result (λ cut. column_head cut.names.items cut.number ≡ column) }
-    ensures narrow { IfOk result (λ cut. length cut.names.items ≤ plan.now.width) }
-    ensures cut { IfOk result (λ cut. AreRulesCut plan.now.rules.items cut.names.items tokens.now
-        cut.rules.items) }
 {
-    let found = needed_columns(alloc, plan, column)?;
+    find_needed(plan, column, found)?;
     let number = found.number_of(column)?;
     if found.names.len() > plan.width {
         return Err(Uncut::Unfound);
     }
-    let rules = cut_rules(alloc, plan, &found, tokens)?;
+    let mut rules = Vec::new(alloc);
+    let mut frees = Vec::new(alloc);
+    add_columns(alloc, plan, found, &mut rules, &mut frees)?;
     Ok(Cut {
         rules,
-        names: found.names,
+        names: Vec::from_slice(alloc, &found.names)?,
+        frees,
         number,
     })
-}
-
-/// Whether a column of a plan reaches the end of the word from its beginning.
-pub fn column_reaches(
-    alloc: Global,
-    plan: &Plan,
-    word: &[Token],
-    column: usize,
-) -> Result<bool, AllocError>
-    requires sets { AreOwnSets plan.now.rules.items plan.now.width plan.now.free }
-    requires ranges { AreRanges plan.now.rules.items plan.now.ranges }
-    requires short { length word.now < 2 ^ 26 }
-    requires narrow { plan.now.width < 2 ^ 26 }
-    requires column { column < plan.now.width }
-    requires in_range { InRange plan.now.width plan.now.rules.items }
-    requires missing { TokensMayBeMissing plan.now.rules.items word.now }
-    ensures { IfOk result (λ b. IsTrue b ↔
-        ReadThrough plan.now.rules.items word.now (column ∷ []) 0 (length word.now)) }
-{
-    let tokens = tokens_of(alloc, word)?;
-    match cut_of(alloc, plan, &tokens, column) {
-        Ok(cut) => reaches_end(alloc, &cut.rules, word, cut.names.len(), cut.number),
-        Err(Uncut::Unfound) => reaches_end(alloc, &plan.rules, word, plan.width, column),
-        Err(Uncut::NoMemory(error)) => Err(error),
-    }
 }

@@ -30,13 +30,21 @@ impl<T: Drop> From<AllocFailed<T>> for Uncut {
 /// The columns that a search has found.
 #[derive(Debug, Drop)]
 pub struct FoundColumns {
-    /// The columns, in the order in which they were found: that of their numbers.
+    /// The columns, in the order of their numbers.
     pub names: Vec<usize>,
-    /// For each column its number, where it was found.
+    /// For each column its number, where it was found, by this search or by one before it.
     numbers: Vec<usize>,
 }
 
 impl FoundColumns {
+    /// None, for columns below `width`.
+    pub fn new(alloc: Global, width: usize) -> Result<FoundColumns, AllocError> {
+        Ok(FoundColumns {
+            names: Vec::new(alloc),
+            numbers: vec![in alloc; 0usize; width]?,
+        })
+    }
+
     /// The number of a column.
     pub fn number_of(&self, column: usize) -> Result<usize, Uncut>
         ensures { IfOk result (λ l. (l < length self.now.names.items)
@@ -76,19 +84,23 @@ impl FoundColumns {
         }
         Ok(())
     }
+
+    /// Numbers the columns in the order of their rules in the plan, those of the last rules first.
+    fn order_by(&mut self, plan: &Plan) {
+        self.names
+            .sort_unstable_by_key(|column| usize::MAX - plan.ranges.end_of(*column));
+        for (number, column) in self.names.iter().enumerate() {
+            if *column < self.numbers.len() {
+                self.numbers[*column] = number;
+            }
+        }
+    }
 }
 
-/// The columns that a column of a plan needs: itself, and whatever stands in the rules of those
-/// that aren't free.
-pub fn needed_columns(
-    alloc: Global,
-    plan: &Plan,
-    column: usize,
-) -> Result<FoundColumns, AllocError> {
-    let mut found = FoundColumns {
-        names: Vec::new(alloc),
-        numbers: vec![in alloc; 0usize; plan.width]?,
-    };
+/// Finds the columns that a column of a plan needs: itself, and whatever stands in the rules of those
+/// that aren't free. What they lead to at one place comes behind them, as in the plan.
+pub fn find_needed(plan: &Plan, column: usize, found: &mut FoundColumns) -> Result<(), AllocError> {
+    found.names.clear();
     found.find(column)?;
     for at in 0..usize::MAX {
         let Some(column) = found.names.get(at).copied() else {
@@ -98,5 +110,6 @@ pub fn needed_columns(
             found.find_from(plan, column)?;
         }
     }
-    Ok(found)
+    found.order_by(plan);
+    Ok(())
 }

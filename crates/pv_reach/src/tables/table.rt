@@ -4,15 +4,16 @@
 //! column reaches from there, and 0 where it reaches none, so raising a cell is the only change.
 //! Rows are filled from the last place to the first. At a place the rules are gone over until none
 //! raises a cell: a right side reads its token first, and then goes from each column to the next
-//! one by the furthest places, which is enough since the ends from a place are an interval.
-ghost use Rattle.std.specs.Prelude.{◌↔◌, IsTrue, [], ◌∷◌, ◌≡◌, ◌≤◌, ◌<◌, ℕ, suc, ◌+◌, ◌*◌, ◌^◌};
-ghost use Rattle.std.specs.Prelude.{IfOk, IfSome, IsNone, All, Contains, slice_index, length};
+//! one by the furthest places, which is enough since the ends from a place are an interval. The rules
+//! come as two lists, since some are made for a word, and others for all words.
+ghost use Rattle.std.specs.Prelude.{◌↔◌, IsTrue, [], ◌∷◌, ◌++◌, ◌≡◌, ◌≤◌, ◌<◌, ℕ, suc, ◌+◌, ◌*◌};
+ghost use Rattle.std.specs.Prelude.{◌^◌, IfOk, IfSome, IsNone, All, List, slice_index, length};
 ghost use Rattle.std.specs.Prelude.{false, true};
 ghost use Rattle.pv_columns.specs.ColumnRules.{ReadsToken, ReadThrough, TokensMayBeMissing};
 ghost use Rattle.pv_columns.specs.ColumnRules.{EndsAreIntervals, InRange};
-ghost use Rattle.pv_reach.specs.Tables.{cell_at, past, IsTable, IsReachedTable, IsClosedAt};
-ghost use Rattle.pv_reach.specs.Tables.{IsComplete};
-ghost use Rattle.pv_reach.specs.Tables.{IsFurthest, room};
+ghost use Rattle.pv_columns.specs.declared.rules.ColumnRule.{ColumnRule as PlainRule};
+ghost use Rattle.pv_reach.specs.Tables.{cell_at, past, AreAmong, IsTable, IsReachedTable};
+ghost use Rattle.pv_reach.specs.Tables.{IsClosedAt, IsComplete, IsFurthest, room};
 
 use pv_columns::ColumnRule;
 use pv_model::Token;
@@ -60,7 +61,8 @@ fn past_rule(rule: &ColumnRule, start: usize, word: &[Token], width: usize, tabl
     }
 }
 
-/// Raises the cells of a place by each rule once, and tells whether any changed.
+/// Raises the cells of a place by each of these rules once, and tells whether any changed. They are
+/// among those by which the cells are reached.
 fn raise(
     rules: &[ColumnRule],
     place: usize,
@@ -72,10 +74,14 @@ fn raise(
     requires short { length word.now < 2 ^ 26 }
     requires in_range { InRange width rules.now }
     requires table { IsTable word.now width table.old }
-    requires attained { IsReachedTable rules.now word.now width table.old }
+    requires attained { (all : List PlainRule) × InRange width all × AreAmong rules.now all
+        × IsReachedTable all word.now width table.old }
     ensures table { IsTable word.now width table.new }
-    ensures attained { IsReachedTable rules.now word.now width table.new }
+    ensures attained { (all : List PlainRule) → InRange width all → AreAmong rules.now all →
+        IsReachedTable all word.now width table.old →
+        IsReachedTable all word.now width table.new }
     ensures rises { (k : ℕ) → slice_index table.old k ≤ slice_index table.new k }
+    ensures same { result ≡ false → table.new ≡ table.old }
     ensures closed { result ≡ false → IsClosedAt rules.now word.now width table.new place }
     ensures less { result ≡ true → room (suc (length word.now)) table.new
         < room (suc (length word.now)) table.old }
@@ -92,28 +98,59 @@ fn raise(
     changed
 }
 
+/// Raises the cells of a place by each rule of the first list once, or by those of the second where
+/// that changes none, and tells whether any changed.
+fn raise_by_either(
+    front: &[ColumnRule],
+    rules: &[ColumnRule],
+    place: usize,
+    word: &[Token],
+    width: usize,
+    table: &mut [u32],
+) -> bool
+    requires place { place ≤ length word.now }
+    requires short { length word.now < 2 ^ 26 }
+    requires in_range { InRange width (front.now ++ rules.now) }
+    requires table { IsTable word.now width table.old }
+    requires attained { IsReachedTable (front.now ++ rules.now) word.now width table.old }
+    ensures table { IsTable word.now width table.new }
+    ensures attained { IsReachedTable (front.now ++ rules.now) word.now width table.new }
+    ensures rises { (k : ℕ) → slice_index table.old k ≤ slice_index table.new k }
+    ensures closed { result ≡ false →
+        IsClosedAt (front.now ++ rules.now) word.now width table.new place }
+    ensures less { result ≡ true → room (suc (length word.now)) table.new
+        < room (suc (length word.now)) table.old }
+{
+    if raise(front, place, word, width, table) {
+        return true;
+    }
+    raise(rules, place, word, width, table)
+}
+
 /// The table of furthest places.
 pub fn fill(
     alloc: Global,
+    front: &[ColumnRule],
     rules: &[ColumnRule],
     word: &[Token],
     width: usize,
 ) -> Result<Vec<u32>, AllocError>
     requires short { length word.now < 2 ^ 26 }
     requires narrow { width < 2 ^ 26 }
-    requires in_range { InRange width rules.now }
-    requires missing { TokensMayBeMissing rules.now word.now }
-    ensures { IfOk result (λ t. IsFurthest rules.now word.now width t.items) }
+    requires in_range { InRange width (front.now ++ rules.now) }
+    requires missing { TokensMayBeMissing (front.now ++ rules.now) word.now }
+    ensures { IfOk result (λ t. IsFurthest (front.now ++ rules.now) word.now width t.items) }
 {
     let mut table = vec![in alloc; 0u32; (word.len() + 1) * width]?;
     for place in (0..word.len() + 1).rev() {
-        while raise(rules, place, word, width, &mut table) {}
+        while raise_by_either(front, rules, place, word, width, &mut table) {}
     }
     Ok(table)
 }
 
 /// The furthest place that the columns reach from `start`, if they reach any.
-pub fn furthest_place(
+fn furthest_place(
+    front: &[ColumnRule],
     rules: &[ColumnRule],
     columns: &[usize],
     start: usize,
@@ -124,12 +161,14 @@ pub fn furthest_place(
     requires start { start ≤ length word.now }
     requires short { length word.now < 2 ^ 26 }
     requires in_range { All (λ c. c < width) columns.now }
-    requires missing { TokensMayBeMissing rules.now word.now }
-    requires table { IsFurthest rules.now word.now width table.now }
-    ensures none { IsNone result → (j : ℕ) → ¬ ReadThrough rules.now word.now columns.now start j }
-    ensures some { IfSome result (λ j. ReadThrough rules.now word.now columns.now start j) }
+    requires missing { TokensMayBeMissing (front.now ++ rules.now) word.now }
+    requires table { IsFurthest (front.now ++ rules.now) word.now width table.now }
+    ensures none { IsNone result → (j : ℕ) →
+        ¬ ReadThrough (front.now ++ rules.now) word.now columns.now start j }
+    ensures some { IfSome result (λ j.
+        ReadThrough (front.now ++ rules.now) word.now columns.now start j) }
     ensures most { IfSome result (λ j. (k : ℕ) →
-        ReadThrough rules.now word.now columns.now start k → k ≤ j) }
+        ReadThrough (front.now ++ rules.now) word.now columns.now start k → k ≤ j) }
 {
     match past_columns(columns, start, word, width, table) {
         0 => None,
@@ -140,6 +179,7 @@ pub fn furthest_place(
 /// Whether a column reaches the end of the word from its beginning.
 pub fn reaches_end(
     alloc: Global,
+    front: &[ColumnRule],
     rules: &[ColumnRule],
     word: &[Token],
     width: usize,
@@ -148,11 +188,12 @@ pub fn reaches_end(
     requires short { length word.now < 2 ^ 26 }
     requires narrow { width < 2 ^ 26 }
     requires column { column < width }
-    requires in_range { InRange width rules.now }
-    requires missing { TokensMayBeMissing rules.now word.now }
+    requires in_range { InRange width (front.now ++ rules.now) }
+    requires missing { TokensMayBeMissing (front.now ++ rules.now) word.now }
     ensures { IfOk result (λ b. IsTrue b ↔
-        ReadThrough rules.now word.now (column ∷ []) 0 (length word.now)) }
+        ReadThrough (front.now ++ rules.now) word.now (column ∷ []) 0 (length word.now)) }
 {
-    let table = fill(alloc, rules, word, width)?;
-    Ok(furthest_place(rules, &[column], 0, word, width, &table) == Some(word.len()))
+    let table = fill(alloc, front, rules, word, width)?;
+    let furthest = furthest_place(front, rules, &[column], 0, word, width, &table);
+    Ok(furthest == Some(word.len()))
 }

@@ -63,4 +63,5 @@ returns c =
       narrow = p.narrow;
       free = subst F c.deref-4.ensures.value c.in_ok-free.ensures;
       ranges = subst R c.deref-5.ensures.value c.in_ok-ranges.ensures;
+      cuts = c.none.ensures merged (w.result + c.len.result);
     }

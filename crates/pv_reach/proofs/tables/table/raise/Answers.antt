@@ -1,7 +1,8 @@
-use Rattle.std.proofs.Common.{ℕ, List, Contains, true≢false, sym, ◌∙◌, subst, arith}
+use Rattle.std.proofs.Common.{ℕ, List, Contains, true≢false, set, sym, ◌*◌, ◌+◌, ◌∙◌, subst, arith}
+use Rattle.pv_columns.specs.ColumnRules.{InRange}
 use Rattle.pv_columns.specs.declared.rules.ColumnRule.{ColumnRule}
-use Rattle.pv_reach.specs.Tables.{RaisesNothing}
-use Rattle.pv_reach.proofs.Raising.{raised, holds_more}
+use Rattle.pv_reach.specs.Tables.{AreAmong, IsReachedTable, RaisesNothing}
+use Rattle.pv_reach.proofs.Raising.{Raised, raised, holds_more}
 use Rattle.pv_reach.proofs.tables.table.raise.Goals as goal
 use Rattle.pv_reach.proofs.tables.table.raise.Goals.{then-table-at, else-table-at}
 
@@ -12,11 +13,15 @@ loop-rule-preserved c =
     let before = c.loop-rule.invariant in
     elim c.if-table-at.branch [
       | then-table-at w ↦ (
-          let up = raised c.args.rules.now c.args.word.now c.args.width c.loop-rule.table c.args.place r c.past_rule-bound.result before.table before.attained c.requires.in_range c.requires.place
-          con w.if-table-at.true c.past_rule-bound.ensures.offered in
+          let raised_by : (all : List ColumnRule) → InRange c.args.width all → AreAmong c.args.rules.now all → IsReachedTable all c.args.word.now c.args.width c.args.table.now →
+          Raised all c.args.word.now c.args.width c.loop-rule.table (set c.loop-rule.table (c.args.place * c.args.width + r.left) c.past_rule-bound.result) = λ all range among att.
+          raised all c.args.word.now c.args.width c.loop-rule.table c.args.place r c.past_rule-bound.result before.table (before.attained all range among att) range c.requires.place
+          (among r con) w.if-table-at.true c.past_rule-bound.ensures.offered in
+          let given = c.requires.attained in
+          let up = raised_by given.0 given.1 given.2 given.3 in
           record {
             table = rw w.table-is up.table;
-            attained = rw w.table-is up.attained;
+            attained = λ all range among att. rw w.table-is (raised_by all range among att).attained;
             rises = rw w.table-is (λ k. let a = before.rises k in let b = up.rises k in omega arith);
             same = λ e. absurd (true≢false (sym w.changed-is ∙ e));
             closed = λ e. absurd (true≢false (sym w.changed-is ∙ e));

@@ -3,8 +3,8 @@ use Rattle.std.proofs.lemmas.Option.{get_or_from_slice_get, slice_get_within}
 use Rattle.pv_model.specs.declared.models.Token.{Token}
 use Rattle.pv_reach.specs.Columns.{token_of}
 use Rattle.pv_reach.proofs.Ranged.{push_contains, push_keeps, token_more}
-use Rattle.pv_reach.proofs.tables.cut.tokens_of.Goals.{then-not-is_among+in_ok-push, else-not-is_among}
-use Rattle.pv_reach.proofs.tables.cut.tokens_of.Goals as goal
+use Rattle.pv_reach.proofs.tables.free_rules.tokens_of.Goals.{then-not-is_among+in_ok-push, else-not-is_among}
+use Rattle.pv_reach.proofs.tables.free_rules.tokens_of.Goals as goal
 
 pub loop-token-preserved : goal.loop-token-preserved
 loop-token-preserved c =

@@ -6,7 +6,7 @@ use Rattle.pv_columns.specs.declared.rules.ColumnRule.{ColumnRule}
 use Rattle.pv_reach.specs.Columns.{Has}
 use Rattle.pv_reach.specs.Cuts.{AddsCut}
 use Rattle.pv_reach.specs.Merging.{column_head}
-use Rattle.pv_reach.proofs.tables.cut.add_free.Given as goal
+use Rattle.pv_reach.proofs.tables.free_rules.add_free.Given as goal
 
 abbrev pub invariant-loop-token : goal.invariant-loop-token
 invariant-loop-token l = record {
