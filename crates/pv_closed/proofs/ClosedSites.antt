@@ -35,6 +35,17 @@ light_value cases es o x = by_case (cases es x)
     by_case (inl (e, m, g, v)) = let l = All-contains (λ (f : Entry). f.value < heaviest) es e o.light m in omega arith
     by_case (inr (v, none)) = omega arith
 
+-- the entries of a site, or those of them that begin at a place, give it the values that all give it
+pub same_value_by : ListedOrNot → (es : List Entry) → AllPairs Precedes es → (anywhere : Bool) (probe : Entry) (found : List Entry) → AreLike es anywhere probe found → AllPairs Precedes found → (i j : ℕ) → (anywhere ≡ false → i ≡ probe.from) → listed_value found (over (plain_site probe.site) i j) ≡ listed_value es (over (plain_site probe.site) i j)
+same_value_by cases es q anywhere probe found a p i j from = by_case (cases es (over (plain_site probe.site) i j))
+  where
+    by_case : IsListed es (over (plain_site probe.site) i j) ⊎ IsUnlisted es (over (plain_site probe.site) i j) → listed_value found (over (plain_site probe.site) i j) ≡ listed_value es (over (plain_site probe.site) i j)
+    by_case (inl (e, m, g, v)) =
+        let here = a.all e m (record { same_site = ap (λ (x : Goal). x.site) g; same_from = λ f. ap (λ (x : Goal). x.from) g ∙ from f }) in
+        let own = own_value found p cases e here in
+        ap (λ (x : Goal). listed_value found x) (sym g) ∙ own ∙ sym v
+    by_case (inr (v, none)) = absent_value cases found (over (plain_site probe.site) i j) (λ e m g. none e (a.like e m).0 g) ∙ sym v
+
 module _ (cases : ListedOrNot) (es : List Entry) (o : AreAscendingEntries es) where
   pub is_light : (x : Goal) → listed_value es x ≤ heaviest
   is_light x = light_value cases es o x
@@ -53,14 +64,7 @@ module _ (cases : ListedOrNot) (es : List Entry) (o : AreAscendingEntries es) wh
     }
 
     pub same_value : (i j : ℕ) → (anywhere ≡ false → i ≡ probe.from) → listed_value found (over (plain_site probe.site) i j) ≡ listed_value es (over (plain_site probe.site) i j)
-    same_value i j from = by_case (cases es (over (plain_site probe.site) i j))
-      where
-        by_case : IsListed es (over (plain_site probe.site) i j) ⊎ IsUnlisted es (over (plain_site probe.site) i j) → listed_value found (over (plain_site probe.site) i j) ≡ listed_value es (over (plain_site probe.site) i j)
-        by_case (inl (e, m, g, v)) =
-            let here = a.all e m (record { same_site = ap (λ (x : Goal). x.site) g; same_from = λ f. ap (λ (x : Goal). x.from) g ∙ from f }) in
-            let own = own_value found p cases e here in
-            ap (λ (x : Goal). listed_value found x) (sym g) ∙ own ∙ sym v
-        by_case (inr (v, none)) = absent_value cases found (over (plain_site probe.site) i j) (λ e m g. none e (a.like e m).0 g) ∙ sym v
+    same_value i j from = same_value_by cases es o.ascend anywhere probe found a p i j from
 
   -- what is listed of a site is among its entries, and what isn't is past the cut
   pub site_cases : (probe : Entry) (found : List Entry) → AreLike es true probe found → (i j : ℕ) →

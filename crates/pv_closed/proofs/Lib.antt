@@ -7,11 +7,14 @@ pub mod ClosedSites
 pub mod EachSite
 pub mod EntryOrder
 pub mod FirstValues
+pub mod LeastValues
 pub mod LikeEntries
+pub mod FewMembers
 pub mod MadeTables
 pub mod PassedMembers
 pub mod PathSteps
 pub mod Placed
+pub mod RowValues
 pub mod Sequences
 pub mod TableParts
 pub mod WordLengths

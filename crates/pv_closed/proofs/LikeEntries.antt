@@ -90,13 +90,24 @@ pub record IsRun (es : List Entry) (anywhere : Bool) (probe : Entry) (start end 
   pub within : end ≤ length es
   pub like : (k : ℕ) (e : Entry) → start ≤ k → k < end → slice_get es k ≡ Some e → IsLike anywhere probe e
 
-pub run_more : (es : List Entry) (anywhere : Bool) (probe : Entry) (start end : ℕ) → IsRun es anywhere probe start end → end < length es →
-    ((e : Entry) → slice_get es end ≡ Some e → IsLike anywhere probe e) → IsRun es anywhere probe start (end + 1)
-run_more es anywhere probe start end r lt h = record { rise = let l = r.rise in omega arith; within = omega arith; like = λ k e le less at. by_place k e le less at (cases_lt k end) }
+-- what stands between the first place that the probe isn't behind and an entry that is like it is like it
+pub run_up_to : SitesAreTold → (es : List Entry) (anywhere : Bool) (probe e : Entry) (start end m : ℕ) → AllPairs Precedes es → IsLeastProbe anywhere probe →
+    ((k : ℕ) (d : Entry) → start ≤ k → slice_get es k ≡ Some d → Precedes d probe → ⊥) →
+    IsRun es anywhere probe start end → end ≤ m → slice_get es m ≡ Some e → IsLike anywhere probe e → IsRun es anywhere probe start (m + 1)
+run_up_to told es anywhere probe e start end m p least behind r le at like =
+    record { rise = let l = r.rise in omega arith; within = let w = slice_get_within es m e at in omega arith; like = λ k d low less here. by_place k d low less here (cases_lt k m) }
   where
-    by_place : (k : ℕ) (e : Entry) → start ≤ k → k < end + 1 → slice_get es k ≡ Some e → (k < end) ⊎ (end ≤ k) → IsLike anywhere probe e
-    by_place k e le less at (inl x) = r.like k e le x at
-    by_place k e le less at (inr x) = let same : k ≡ end = omega arith in h e (subst (λ n. slice_get es n ≡ Some e) same at)
+    by_place : (k : ℕ) (d : Entry) → start ≤ k → k < m + 1 → slice_get es k ≡ Some d → (k < m) ⊎ (m ≤ k) → IsLike anywhere probe d
+    by_place k d low less here (inl x) = between told anywhere probe d e least (behind k d low here) (in_order es p k m d e here at x) like
+    by_place k d low less here (inr x) = let same : k ≡ m = omega arith in let same_entry : e ≡ d = cc in subst (λ (x : Entry). IsLike anywhere probe x) same_entry like
+
+-- so far as it is known which entries are like the probe: from the start up to one place they are, and
+-- at another one they aren't
+pub record IsRunWithin (es : List Entry) (anywhere : Bool) (probe : Entry) (start end high : ℕ) : Type 0 where
+  pub run : IsRun es anywhere probe start end
+  pub rise : end ≤ high
+  pub within : high ≤ length es
+  pub stop : (e : Entry) → slice_get es high ≡ Some e → IsLike anywhere probe e → ⊥
 
 -- where the run ends at an entry that isn't like the probe, or at the last one, it has all that are
 pub run_all : SitesAreTold → (es : List Entry) (anywhere : Bool) (probe : Entry) (start end : ℕ) → AllPairs Precedes es → IsLeastProbe anywhere probe →

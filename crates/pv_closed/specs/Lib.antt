@@ -1,6 +1,9 @@
 pub mod Lookup
 pub mod ClosedForms
 pub mod ClosedEntries
+pub mod Members
+pub mod Rows
+pub mod Sums
 pub mod Tested
 pub mod ClosedTables
 pub mod Laws

@@ -1,16 +1,21 @@
 //! Whether a table is closed under the rules of one form.
 
-ghost use Rattle.std.specs.Prelude.{◌≡◌, ◌<◌, ◌≤◌, ◌+◌, ◌↔◌, true, IsTrue};
+ghost use Rattle.std.specs.Prelude.{◌≡◌, ◌≤◌, ◌+◌, ◌↔◌, false, true, IsTrue};
 ghost use Rattle.std.specs.List.{AllPairs};
 ghost use Rattle.pv_rules.specs.PlainForms.{plain_site};
 ghost use Rattle.pv_rules.specs.Rules.{over};
-ghost use Rattle.pv_tables.specs.Tables.{Precedes};
+ghost use Rattle.pv_rules.specs.Sites.{PlainSite};
+ghost use Rattle.pv_tables.specs.Tables.{Precedes, kind_rank};
 ghost use Rattle.pv_tables.specs.Values.{listed_value};
-ghost use Rattle.pv_closed.specs.ClosedForms.{WeighsAsOne, WeighsAsTwo, WeighsBehind};
-ghost use Rattle.pv_closed.specs.ClosedForms.{WeighsNothing};
+ghost use Rattle.pv_closed.specs.ClosedForms.{WeighsAsOne, WeighsAsTwo, WeighsNothing};
 ghost use Rattle.pv_closed.specs.Lookup.{AreAscendingEntries};
+ghost use Rattle.pv_closed.specs.Members.{AreMembers, IsMemberSite};
+ghost use Rattle.pv_closed.specs.Tested.{CanBeTested};
 
-use crate::lookup::{entries_of, row_of, value_at, value_near};
+use crate::least::least_of;
+use crate::lookup::{entries_between, entries_of, value_at, value_near};
+use crate::sums::{Pair, sums_hold};
+use crate::tested::Tested;
 use pv_rules::Site;
 use pv_tables::Entry;
 use pv_tables::laws::listed_or_not_law;
@@ -20,8 +25,10 @@ pub fn nothing_holds(entries: &[Entry], left: Site, most: u32) -> bool
     requires { AreAscendingEntries entries.now }
     ensures { IsTrue result ↔ WeighsNothing entries.now (plain_site left) most }
 {
+    listed_or_not_law();
+    let found = entries_of(entries, left);
     for place in 0..=most {
-        if value_at(entries, left, place, place) != 0 {
+        if value_at(found, left, place, place) != 0 {
             return false;
         }
     }
@@ -55,97 +62,59 @@ pub fn one_holds(entries: &[Entry], left: Site, right: Site, cost: u32) -> bool
     true
 }
 
-// Where the entry that ends at a place stands among those of a site that begin at one, if each of
-// these ends one token behind the one before it.
-fn place_of(row: &[Entry], to: u32) -> usize {
-    let Some(first) = row.first() else {
-        return 0;
-    };
-    to.saturating_sub(first.to) as usize
-}
-
-// Whether a site, whose entries from a place on these are, weighs no more than two entries say of
-// which the second is behind the first.
-fn is_within_both(row: &[Entry], left: Site, one: &Entry, inner: bool, two: &Entry) -> bool
-    requires { AllPairs Precedes row.now }
-    ensures { IsTrue result ↔ ((inner ≡ true → one.now.to < two.now.to) →
-        listed_value row.now (over (plain_site left) one.now.from two.now.to) ≤
-        one.now.value + two.now.value) }
-{
-    if inner && two.to <= one.to {
-        return true;
-    }
-    let value = value_near(row, place_of(row, two.to), left, one.from, two.to);
-    u64::from(value) <= u64::from(one.value) + u64::from(two.value)
-}
-
-// Whether a site weighs no more than an entry says and a second site behind it, by the entries of
-// the one and of the other.
-fn behind_holds(
-    lefts: &[Entry],
-    left: Site,
-    one: &Entry,
-    seconds: &[Entry],
-    second: Site,
-    inner: bool,
-) -> bool
-    requires lefts { AreAscendingEntries lefts.now }
-    requires seconds { AreAscendingEntries seconds.now }
-    ensures { IsTrue result ↔ WeighsBehind lefts.now seconds.now (plain_site left) one.now.from
-        one.now.to one.now.value (plain_site second) inner }
-{
-    listed_or_not_law();
-    let row = row_of(lefts, left, one.from);
-    let found = row_of(seconds, second, one.to);
-    for two in found {
-        if !is_within_both(row, left, one, inner, two) {
-            return false;
-        }
-    }
-    true
-}
-
-// The same, unless the entry takes no token and has to.
-fn first_holds(
-    lefts: &[Entry],
-    left: Site,
-    outer: bool,
-    one: &Entry,
-    seconds: &[Entry],
-    second: Site,
-    inner: bool,
-) -> bool
-    requires lefts { AreAscendingEntries lefts.now }
-    requires seconds { AreAscendingEntries seconds.now }
-    ensures { IsTrue result ↔ ((outer ≡ true → one.now.from < one.now.to) →
-        WeighsBehind lefts.now seconds.now (plain_site left) one.now.from one.now.to one.now.value
-        (plain_site second) inner) }
-{
-    outer && one.to <= one.from || behind_holds(lefts, left, one, seconds, second, inner)
-}
-
 /// Whether a site weighs no more than a first one and a second one behind it; the first has to take
 /// a token where `outer` says so, and the second where `inner` does.
 pub fn two_holds(
-    entries: &[Entry],
+    tested: &Tested<'_>,
     left: Site,
     first: Site,
     outer: bool,
     second: Site,
     inner: bool,
 ) -> bool
-    requires { AreAscendingEntries entries.now }
-    ensures { IsTrue result ↔ WeighsAsTwo entries.now (plain_site left) (plain_site first)
-        (plain_site second) outer inner }
+    requires { CanBeTested tested.now }
+    ensures { IsTrue result ↔ WeighsAsTwo tested.now.entries.now (plain_site left)
+        (plain_site first) (plain_site second) outer inner }
 {
     listed_or_not_law();
-    let found = entries_of(entries, first);
-    let lefts = entries_of(entries, left);
-    let seconds = entries_of(entries, second);
-    for one in found {
-        if !first_holds(lefts, left, outer, one, seconds, second, inner) {
-            return false;
-        }
+    let pair = Pair {
+        left,
+        second,
+        outer,
+        inner,
+    };
+    sums_hold(tested, &pair, entries_of(tested.entries, first))
+}
+
+/// Whether a site weighs no more than each of some members, which have to take a token, and itself
+/// behind it; these are entries of the members, as few as tell it.
+pub fn members_hold(tested: &Tested<'_>, left: Site, low: Site, high: Site, found: &[Entry]) -> bool
+    requires sound { CanBeTested tested.now }
+    requires members { AreMembers tested.now.entries.now (plain_site low) (plain_site high)
+        found.now }
+    ensures { IsTrue result ↔ ((s : PlainSite) → IsMemberSite (plain_site low) (plain_site high) s →
+        WeighsAsTwo tested.now.entries.now (plain_site left) s (plain_site left) true false) }
+{
+    listed_or_not_law();
+    let pair = Pair {
+        left,
+        second: left,
+        outer: true,
+        inner: false,
+    };
+    sums_hold(tested, &pair, found)
+}
+
+/// The same, by entries that are found for it.
+pub fn each_member_holds(tested: &Tested<'_>, left: Site, low: Site, high: Site) -> bool
+    requires sound { CanBeTested tested.now }
+    requires kind { kind_rank (plain_site low) ≡ kind_rank (plain_site high) }
+    ensures { IsTrue result ↔ ((s : PlainSite) → IsMemberSite (plain_site low) (plain_site high) s →
+        WeighsAsTwo tested.now.entries.now (plain_site left) s (plain_site left) true false) }
+{
+    let found = entries_between(tested.entries, low, high);
+    match least_of(tested.alloc, found, tested.word.len()) {
+        Some(least) => members_hold(tested, left, low, high, &least),
+        None => members_hold(tested, left, low, high, found),
     }
-    true
 }

@@ -5,9 +5,10 @@ ghost use Rattle.std.specs.Prelude.{length, slice_get, Some};
 ghost use Rattle.std.specs.List.{AllPairs};
 ghost use Rattle.pv_rules.specs.PlainForms.{plain_site};
 ghost use Rattle.pv_rules.specs.Rules.{over};
-ghost use Rattle.pv_tables.specs.Tables.{Precedes};
+ghost use Rattle.pv_tables.specs.Tables.{Precedes, kind_rank};
 ghost use Rattle.pv_tables.specs.Values.{goal_of, listed_value};
 ghost use Rattle.pv_tables.specs.declared.tables.Entry.{Entry};
+ghost use Rattle.pv_closed.specs.Members.{AreMembers};
 ghost use Rattle.pv_closed.specs.Lookup.{AreLike, IsLeastProbe, IsLike, least_entry};
 
 use pv_rules::{HEAVIEST, Site};
@@ -133,8 +134,40 @@ pub fn entries_like<'a>(entries: &'a [Entry], probe: &Entry, anywhere: bool) -> 
     sites_law();
     let start = count_before(entries, probe);
     let mut end = start;
-    'run: while end < entries.len() && is_like_at(entries, end, probe, anywhere) {
-        end += 1;
+    let mut high = entries.len();
+    let mut step = 1_usize;
+    'halves: while end < high {
+        let ahead = step.min((high - end) / 2);
+        if is_like_at(entries, end + ahead, probe, anywhere) {
+            end = end + ahead + 1;
+            step = step.saturating_mul(2);
+        } else {
+            high = end + ahead;
+        }
+    }
+    &entries[start..end]
+}
+
+/// The entries of the sites of a kind whose numbers go from that of one up to that of another.
+pub fn entries_between<'a>(entries: &'a [Entry], low: Site, high: Site) -> &'a [Entry]
+    requires ascend { AllPairs Precedes entries.now }
+    requires kind { kind_rank (plain_site low) ≡ kind_rank (plain_site high) }
+    ensures { AreMembers entries.now (plain_site low) (plain_site high) result.now }
+{
+    let first = Entry {
+        site: low,
+        from: 0,
+        to: 0,
+        value: 0,
+    };
+    let behind = Entry {
+        site: high,
+        ..first
+    };
+    let start = count_before(entries, &first);
+    let end = count_before(entries, &behind);
+    if end <= start {
+        return &[];
     }
     &entries[start..end]
 }
@@ -167,4 +200,13 @@ pub fn row_of<'a>(entries: &'a [Entry], site: Site, from: u32) -> &'a [Entry]
         value: 0,
     };
     entries_like(entries, &probe, false)
+}
+
+/// Where the entry that ends at a place stands among those of a site that begin at one, if each of
+/// these ends one token behind the one before it.
+pub fn place_of(row: &[Entry], to: u32) -> usize {
+    let Some(first) = row.first() else {
+        return 0;
+    };
+    to.saturating_sub(first.to) as usize
 }

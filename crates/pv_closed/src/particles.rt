@@ -62,7 +62,7 @@ fn star_closed(tested: &Tested<'_>, number: u32) -> bool
         return false;
     }
     let inner = Site::Part(number + 1);
-    two_holds(tested.entries, own, inner, true, own, false)
+    two_holds(tested, own, inner, true, own, false)
 }
 
 /// One of a part, or one and more.
@@ -78,7 +78,7 @@ fn plus_closed(tested: &Tested<'_>, number: u32) -> bool
     if !one_holds(tested.entries, own, inner, 0) {
         return false;
     }
-    two_holds(tested.entries, own, inner, true, own, true)
+    two_holds(tested, own, inner, true, own, true)
 }
 
 /// Whether a table is closed at a part.
@@ -116,15 +116,6 @@ pub fn rest_closed(tested: &Tested<'_>, number: u32) -> bool
     match part.membership {
         Membership::Outside => true,
         Membership::Last => one_holds(tested.entries, rest, own, 0),
-        Membership::Followed => {
-            two_holds(
-                tested.entries,
-                rest,
-                own,
-                false,
-                Site::Rest(part.end),
-                false,
-            )
-        }
+        Membership::Followed => { two_holds(tested, rest, own, false, Site::Rest(part.end), false) }
     }
 }

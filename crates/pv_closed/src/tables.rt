@@ -28,7 +28,13 @@ use pv_tree::{Doc, Mark, word};
 use std::alloc::Global;
 
 // Whether entries are over a word, ascend strictly, and are closed.
-fn entries_closed(dtd: &Dtd, flat: &FlatDtd, word: &[Token], entries: &[Entry]) -> bool
+fn entries_closed(
+    alloc: Global,
+    dtd: &Dtd,
+    flat: &FlatDtd,
+    word: &[Token],
+    entries: &[Entry],
+) -> bool
     requires flat { IsFlat (plain_dtd dtd.now) flat.now }
     requires few { length word.now < 2 ^ 32 - 1 }
     requires known { IsKnownWord (plain_dtd dtd.now) (map plain_token word.now) }
@@ -41,6 +47,7 @@ fn entries_closed(dtd: &Dtd, flat: &FlatDtd, word: &[Token], entries: &[Entry]) 
         return false;
     }
     let tested = Tested {
+        alloc,
         dtd,
         flat,
         word,
@@ -68,7 +75,13 @@ fn table_closed(
         return Ok(false);
     };
     let tokens = word(alloc, dtd, list.kids)?;
-    Ok(entries_closed(dtd, flat, tokens.as_slice(), table.entries.as_slice()))
+    Ok(entries_closed(
+        alloc,
+        dtd,
+        flat,
+        tokens.as_slice(),
+        table.entries.as_slice(),
+    ))
 }
 
 /// Whether the paths of tables ascend in document order, and each table is a closed one of a list

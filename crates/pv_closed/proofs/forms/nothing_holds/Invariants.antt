@@ -5,4 +5,4 @@ use Rattle.pv_tables.specs.Values.{listed_value}
 use Rattle.pv_closed.proofs.forms.nothing_holds.Given as goal
 
 abbrev pub invariant-loop-place : goal.invariant-loop-place
-invariant-loop-place l = (i : ℕ) → i < l.place → listed_value l.entries (over (plain_site l.left) i i) ≡ 0
+invariant-loop-place l = (i : ℕ) → i < l.place → listed_value l.found (over (plain_site l.left) i i) ≡ 0

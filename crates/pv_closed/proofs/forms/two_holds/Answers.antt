@@ -1,41 +1,20 @@
-use Rattle.std.proofs.Common.{arith, get_or, refl, true, ℕ}
+use Rattle.std.proofs.Common.{get_or}
 use Rattle.pv_rules.specs.PlainForms.{plain_site}
 use Rattle.pv_closed.specs.Lookup.{least_entry}
-use Rattle.pv_closed.proofs.ClosedSites.{all_two, behind_as, item_contained, no_entry, own_order, same_value, two_within}
+use Rattle.pv_closed.specs.Tested.{dtd_in, word_in}
+use Rattle.pv_closed.proofs.ByForms.{in_order}
+use Rattle.pv_closed.proofs.ClosedSites.{all_two, item_contained, two_within}
 use Rattle.pv_closed.proofs.forms.two_holds.Goals as goal
 
-pub first_holds-requires-clause-lefts : goal.first_holds-requires-clause-lefts
-first_holds-requires-clause-lefts c = own_order c.listed_or_not_law.ensures c.args.entries.now c.requires true (least_entry c.args.left 0) c.entries_of-lefts.result.now c.entries_of-lefts.ensures.like c.entries_of-lefts.ensures.ascend
-
-pub first_holds-requires-clause-seconds : goal.first_holds-requires-clause-seconds
-first_holds-requires-clause-seconds c = own_order c.listed_or_not_law.ensures c.args.entries.now c.requires true (least_entry c.args.second 0) c.entries_of-seconds.result.now c.entries_of-seconds.ensures.like c.entries_of-seconds.ensures.ascend
-
-pub returns-then-not-first_holds : goal.returns-then-not-first_holds
-returns-then-not-first_holds c =
-    let es = c.args.entries.now in
-    let found = c.entries_of-found.result.now in
-    let e = get_or found c.loop-one.one-index no_entry in
-    let lefts = λ (i j : ℕ). same_value c.listed_or_not_law.ensures es c.requires true (least_entry c.args.left 0) c.entries_of-lefts.result.now c.entries_of-lefts.ensures.like c.entries_of-lefts.ensures.ascend i j (λ f. absurd cc) in
-    let seconds = λ (i j : ℕ). same_value c.listed_or_not_law.ensures es c.requires true (least_entry c.args.second 0) c.entries_of-seconds.result.now c.entries_of-seconds.ensures.like c.entries_of-seconds.ensures.ascend i j (λ f. absurd cc) in
-    let both = behind_as c.entries_of-lefts.result.now c.entries_of-seconds.result.now es (plain_site c.args.left) (plain_site c.args.second) lefts seconds e.from e.to e.value c.args.inner in (
-      λ t. absurd cc,
-      λ w.
-          let within = two_within c.listed_or_not_law.ensures es c.requires (plain_site c.args.left) (plain_site c.args.second) c.args.outer c.args.inner (least_entry c.args.first 0) found c.entries_of-found.ensures.like w e
-          (item_contained found c.loop-one.one-index no_entry c.loop-one-test.true) in
-          let t = c.first_holds.ensures.1 (λ o. both.1 (within o)) in
-          let f = c.if-not-first_holds.true in cc,
-    )
+pub sums_hold-requires-clause-firsts : goal.sums_hold-requires-clause-firsts
+sums_hold-requires-clause-firsts c = λ e m. (c.entries_of.ensures.like.like e m).0
 
 pub returns : goal.returns
 returns c =
-    let es = c.args.entries.now in
-    let found = c.entries_of-found.result.now in
-    let lefts = λ (i j : ℕ). same_value c.listed_or_not_law.ensures es c.requires true (least_entry c.args.left 0) c.entries_of-lefts.result.now c.entries_of-lefts.ensures.like c.entries_of-lefts.ensures.ascend i j (λ f. absurd cc) in
-    let seconds = λ (i j : ℕ). same_value c.listed_or_not_law.ensures es c.requires true (least_entry c.args.second 0) c.entries_of-seconds.result.now c.entries_of-seconds.ensures.like c.entries_of-seconds.ensures.ascend i j (λ f. absurd cc) in (
-      λ t. all_two c.listed_or_not_law.ensures es c.requires (plain_site c.args.left) (plain_site c.args.second) c.args.outer c.args.inner (least_entry c.args.first 0) found c.entries_of-found.ensures.like
-          (λ k d lt o.
-          let e = get_or found k d in
-          let both = behind_as c.entries_of-lefts.result.now c.entries_of-seconds.result.now es (plain_site c.args.left) (plain_site c.args.second) lefts seconds e.from e.to e.value c.args.inner in
-          both.0 (c.loop-one.invariant k d (let z = c.loop-one-test.false in omega arith) o)),
-      λ w. refl,
+    let es = c.args.tested.now.entries.now in
+    let o = in_order c.listed_or_not_law.ensures (dtd_in c.args.tested.now) (word_in c.args.tested.now) es c.requires.over in
+    let found = c.entries_of.result.now in
+    let like = c.entries_of.ensures.like in (
+      λ t. all_two c.listed_or_not_law.ensures es o (plain_site c.args.left) (plain_site c.args.second) c.args.outer c.args.inner (least_entry c.args.first 0) found like (c.sums_hold.ensures.0 t),
+      λ w. c.sums_hold.ensures.1 (λ k d lt. two_within c.listed_or_not_law.ensures es o (plain_site c.args.left) (plain_site c.args.second) c.args.outer c.args.inner (least_entry c.args.first 0) found like w (get_or found k d) (item_contained found k d lt)),
     )

@@ -1,9 +1,9 @@
-use Rattle.std.proofs.Common.{◌-◌, length}
-use Rattle.pv_closed.proofs.LikeEntries.{IsRun}
+use Rattle.std.proofs.Common.{◌-◌}
+use Rattle.pv_closed.proofs.LikeEntries.{IsRunWithin}
 use Rattle.pv_closed.proofs.lookup.entries_like.Given as goal
 
-abbrev pub invariant-run : goal.invariant-run
-invariant-run l = IsRun l.entries l.anywhere l.probe l.start l.end
+abbrev pub invariant-halves : goal.invariant-halves
+invariant-halves l = IsRunWithin l.entries l.anywhere l.probe l.start l.end l.high
 
-abbrev pub decreases-run : goal.decreases-run
-decreases-run l = length l.entries - l.end
+abbrev pub decreases-halves : goal.decreases-halves
+decreases-halves l = l.high - l.end

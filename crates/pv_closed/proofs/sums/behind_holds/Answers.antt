@@ -2,7 +2,7 @@ use Rattle.std.proofs.Common.{arith, false, get_or, refl}
 use Rattle.pv_rules.specs.PlainForms.{plain_site}
 use Rattle.pv_closed.specs.Lookup.{least_entry}
 use Rattle.pv_closed.proofs.ClosedSites.{all_behind, behind_within, item_contained, no_entry, same_value}
-use Rattle.pv_closed.proofs.forms.behind_holds.Goals as goal
+use Rattle.pv_closed.proofs.sums.behind_holds.Goals as goal
 
 pub returns-then-not-is_within_both : goal.returns-then-not-is_within_both
 returns-then-not-is_within_both c =
