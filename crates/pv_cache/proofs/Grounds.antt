@@ -45,7 +45,7 @@ module _ (g : PlainDtd) (root : List ℕ) where
   pub marked_open : (doc : PlainDoc Mark) → ∥ IsWellMarked g root doc ∥₁ → ∥ HavePossible g root (lists_of doc) doc.mark.left ∥₁
   marked_open doc w = ∥∥₁_map w (λ w. record { verdicts = verdicts_told doc; are_verdicts = doc-told g root doc w; count = doc-left g root doc w })
 
-  bad_of : (doc : PlainDoc Mark) → IsWellMarked g root doc → HaveImpossible g root (lists_of doc) (told_bad doc)
+  pub bad_of : (doc : PlainDoc Mark) → IsWellMarked g root doc → HaveImpossible g root (lists_of doc) (told_bad doc)
   bad_of doc w = record { verdicts = verdicts_told doc; are_verdicts = doc-told g root doc w; count = doc-bad doc }
 
   pub marked_bad : (doc : PlainDoc Mark) → ∥ IsWellMarked g root doc ∥₁ → ∥ HaveImpossible g root (lists_of doc) (told_bad doc) ∥₁

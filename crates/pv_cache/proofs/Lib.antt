@@ -29,4 +29,5 @@ pub mod WithoutGround
 pub mod Laid
 pub mod Moved
 pub mod LaidLevels
+pub mod NoBad
 pub mod ToldRows

@@ -20,7 +20,7 @@ is-own-bad verdict.Valid = refl
 is-own-bad verdict.Possible = refl
 is-own-bad verdict.Impossible = refl
 
-bad-first : (v : Verdict) (vs : List Verdict) → impossible_in (v ∷ vs) ≡ own_bad v + impossible_in vs
+pub bad-first : (v : Verdict) (vs : List Verdict) → impossible_in (v ∷ vs) ≡ own_bad v + impossible_in vs
 bad-first v vs = sum_by-cons (λ w. cond (is_impossible w) 1 0) v vs ∙ ap (λ n. n + impossible_in vs) (is-own-bad v)
 
 bad-joined : (vs ws : List Verdict) → impossible_in (vs ++ ws) ≡ impossible_in vs + impossible_in ws

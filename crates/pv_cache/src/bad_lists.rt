@@ -1,6 +1,6 @@
 //! How many lists are Impossible, as marks tell.
 
-ghost use Rattle.std.specs.Prelude.{◌≡◌, ◌≤◌, [], IsTrue};
+ghost use Rattle.std.specs.Prelude.{◌≡◌, ◌≤◌, [], IsTrue, None};
 ghost use Rattle.std.specs.List.{between};
 ghost use Rattle.pv_cache.specs.BadLists.{bad_gone, own_in, own_inner, own_of};
 ghost use Rattle.pv_cache.specs.WellMarked.{bad_in, bad_in_all, own_bad, told_bad};
@@ -13,6 +13,7 @@ ghost use Rattle.pv_tree.specs.PlainForms.{forest, plain, plain_all};
 
 use crate::mending::InnerVerdict;
 use pv_edit::{Change, Filling};
+use pv_missing::Verdicts;
 use pv_tree::{Doc, Node, Verdict};
 
 /// What a list of this verdict adds to the number of Impossible ones.
@@ -75,11 +76,23 @@ fn bad_in_all(kids: &[Node]) -> u64
     bad
 }
 
-/// How many lists of a document are Impossible.
-pub(crate) fn told_bad(doc: &Doc) -> u64
+// How many lists of a document are Impossible.
+fn told_bad(doc: &Doc) -> u64
     ensures { result ≡ told_bad (plain_doc doc.now) }
 {
     own_bad(doc.mark.verdict) + bad_in(&doc.root)
+}
+
+/// How many lists of a document are Impossible whose marks tell these verdicts. Where they tell no
+/// first Impossible list, as of most documents, nothing is counted.
+pub(crate) fn bad_by(doc: &Doc, verdicts: &Verdicts) -> u64
+    requires { verdicts.now.first ≡ None → told_bad (plain_doc doc.now) ≡ 0 }
+    ensures { result ≡ told_bad (plain_doc doc.now) }
+{
+    match verdicts.first_impossible() {
+        None => 0,
+        Some(_) => told_bad(doc),
+    }
 }
 
 // What the own list of the only one of these nodes, which is an element, adds to the number.

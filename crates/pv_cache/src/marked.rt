@@ -17,7 +17,7 @@ ghost use Rattle.pv_tree.specs.Places.{list_at};
 ghost use Rattle.pv_tree.specs.Plain.{PlainDoc, nodes_in};
 ghost use Rattle.pv_tree.specs.PlainDocs.{plain_doc};
 
-use crate::bad_lists::told_bad;
+use crate::bad_lists::bad_by;
 use crate::firsts::first_bad;
 use crate::laying::lay_doc;
 use crate::planned::PlannedGrammar;
@@ -94,7 +94,7 @@ impl Marked {
     {
         let mut doc = doc;
         lay_doc(alloc, &mut doc, &verdicts);
-        let bad = told_bad(&doc);
+        let bad = bad_by(&doc, &verdicts);
         let document = WellMarked {
             alloc,
             grammar,
