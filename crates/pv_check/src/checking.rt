@@ -1,0 +1,144 @@
+//! Judges the lists of a document while it is read, in one pass from left to right.
+
+ghost use Rattle.std.specs.Prelude.{◌≡◌, ◌≤◌, ◌<◌, ◌+◌, ℕ, List, IfOk, IfErr, OnErr};
+ghost use Rattle.pv_dtd.specs.Plain.{PlainDtd};
+ghost use Rattle.pv_productive.specs.PlainForms.{dtd_of};
+ghost use Rattle.pv_tree.specs.Lists.{Listed, lists_of};
+ghost use Rattle.pv_tree.specs.Marks.{blank_mark};
+ghost use Rattle.pv_tree.specs.Plain.{PlainDoc, Tree};
+ghost use Rattle.pv_tree.specs.declared.nodes.Mark.{Mark};
+ghost use Rattle.pv_read.specs.Meaning.{DocumentMeans, Outcome, is_document};
+ghost use Rattle.pv_valid.specs.OpenLists.{MAX_KIDS};
+ghost use Rattle.pv_check.specs.Answers.{AnswersText, CountsTold, RefusesBytes, Tells, TellsLists};
+ghost use Rattle.pv_check.specs.Answers.{root_lists};
+ghost use Rattle.pv_check.specs.Findings.{AreCountedTo, HasFound};
+ghost use Rattle.pv_check.specs.OpenLists.{HasRoot};
+
+use crate::content::read_root;
+use crate::errors::{ListError, TextError};
+use crate::findings::Findings;
+use crate::open::OpenLists;
+use crate::words::judge_word;
+use pv_chars::scan::after_byte_order_mark;
+use pv_dtd::laws::proper_dtd_law;
+use pv_missing::laws::documents::live_lists_law;
+use pv_missing::root_owner;
+use pv_reach::Judge;
+use pv_read::epilog::read_epilog;
+use pv_read::prolog::root_tag;
+use pv_read::{DocError, MAX_DEPTH, MAX_DOC_BYTES};
+use pv_steps::Steps;
+use pv_tree::{Mark, Path};
+use std::sync::ledger::Ledger;
+
+/// What is told of a document.
+#[derive(Debug, Drop)]
+pub enum Told {
+    /// Inserting elements can make it valid, and so many of its lists are Possible. The others are
+    /// Valid.
+    Possible(u64),
+    /// No insertions can make it valid; the list at this path is the first Impossible one.
+    Impossible(Path),
+    /// The list at this path is the first that is too wide: one more than its tokens, times the
+    /// parts and names of the DTD, is more than 67,108,864.
+    TooWide(Path),
+}
+
+// What is found with the document node's list, where the root is whole.
+fn judge_root(judge: &Judge<'_>, root: &[u8], lists: OpenLists<'_>) -> Result<Findings, ListError>
+    requires { (most : ℕ) × (most < MAX_KIDS) × AreCountedTo lists.found most }
+    ensures { (t : Tree Mark) → HasRoot (dtd_of judge.now) root.now lists.entry t →
+        IfOk result (HasFound (dtd_of judge.now) root.now (root_lists t)) }
+{
+    let owner = root_owner(judge.grammar().dtd(), root);
+    let judged = judge_word(judge, owner, &[lists.inner.token], false)?;
+    let mut found = lists.found;
+    found.add(judge.alloc(), judged, &[])?;
+    Ok(found)
+}
+
+// What is found of all lists of the document that the bytes are.
+fn read_lists(judge: &Judge<'_>, root: &[u8], bytes: &[u8]) -> Result<Findings, TextError>
+    ensures read { IfOk result (λ _. (doc : PlainDoc Mark) ×
+        DocumentMeans blank_mark root.now bytes.now (is_document doc)) }
+    ensures finds { IfOk result (λ found. (doc : PlainDoc Mark) →
+        DocumentMeans blank_mark root.now bytes.now (is_document doc) →
+        HasFound (dtd_of judge.now) root.now (lists_of doc) found) }
+    ensures refused { IfErr result (RefusesBytes (DocumentMeans blank_mark root.now bytes.now)) }
+    ensures exactly { (o : Outcome Mark) → DocumentMeans blank_mark root.now bytes.now o →
+        IfErr result (AnswersText o) }
+{
+    if bytes.len() > MAX_DOC_BYTES {
+        return Err(TextError::Document(DocError::Limit));
+    }
+    let opening = root_tag(Some(MAX_DEPTH), root, after_byte_order_mark(bytes))?;
+    let (lists, after, count) = read_root(judge, Some(MAX_DEPTH), root, &opening)?;
+    read_epilog(Some(MAX_DEPTH), root, after, count)?;
+    let found = judge_root(judge, root, lists)?;
+    Ok(found)
+}
+
+// Takes so many steps.
+fn count_lists<L: Ledger>(count: u64, steps: &mut Steps<L>)
+    ensures { steps.new ≡ steps.old + count }
+{
+    for _one in 0..count {
+        steps.tick();
+    }
+}
+
+// What these findings tell of the lists, which are counted unless one is too wide.
+fn tell<L: Ledger>(found: Findings, steps: &mut Steps<L>) -> Told
+    ensures tells { (g : PlainDtd) (root : List ℕ) (lists : List (Listed Mark)) →
+        HasFound g root lists found → TellsLists g root lists result }
+    ensures counts { (g : PlainDtd) (root : List ℕ) (lists : List (Listed Mark)) →
+        HasFound g root lists found → CountsTold lists result steps.old steps.new }
+{
+    let Findings {
+        wide,
+        first,
+        possible,
+        lists,
+    } = found;
+    match wide {
+        Some(path) => Told::TooWide(path),
+        None => {
+            count_lists(lists, steps);
+            match first {
+                Some(path) => Told::Impossible(path),
+                None => Told::Possible(possible),
+            }
+        }
+    }
+}
+
+/// What the lists of the document that the bytes are tell, where the root's name is this one: what
+/// `check_doc` of `pv_fresh` finds of it, found in one pass and without a tree.
+///
+/// What `read_doc` refuses is refused, with the same error; a fault anywhere in the bytes comes
+/// before any answer, unless long lists come before it. Each list is one step, as `check_doc`
+/// counts them, though those that begin behind an Impossible one aren't judged.
+pub fn check_text<L: Ledger>(
+    judge: &Judge<'_>,
+    root: &[u8],
+    bytes: &[u8],
+    steps: &mut Steps<L>,
+) -> Result<Told, TextError>
+    ensures read { IfOk result (λ _. (doc : PlainDoc Mark) ×
+        DocumentMeans blank_mark root.now bytes.now (is_document doc)) }
+    ensures tells { IfOk result (λ told. (doc : PlainDoc Mark) →
+        DocumentMeans blank_mark root.now bytes.now (is_document doc) →
+        Tells (dtd_of judge.now) root.now doc told) }
+    ensures counts { IfOk result (λ told. (doc : PlainDoc Mark) →
+        DocumentMeans blank_mark root.now bytes.now (is_document doc) →
+        CountsTold (lists_of doc) told steps.old steps.new) }
+    ensures refused { IfErr result (RefusesBytes (DocumentMeans blank_mark root.now bytes.now)) }
+    ensures exactly { (o : Outcome Mark) → DocumentMeans blank_mark root.now bytes.now o →
+        IfErr result (AnswersText o) }
+    ensures uncounted { OnErr result (steps.new ≡ steps.old) }
+{
+    live_lists_law::<Mark>();
+    proper_dtd_law(judge.grammar().dtd());
+    let found = read_lists(judge, root, bytes)?;
+    Ok(tell(found, steps))
+}
