@@ -12,14 +12,20 @@ use Rattle.pv_standoff.specs.declared.ranges.Range.{Range}
 use Rattle.pv_stages.specs.declared.response.Response.{Response}
 use Rattle.pv_stages.specs.declared.stop.Stop.{Stop}
 use Rattle.pv_cli.specs.CommandLine.{PlainCommandLine, on_ranges}
-use Rattle.pv_stages.specs.Course.{without_input}
+use Rattle.pv_stages.specs.Course.{RunEnding, without_input}
 use Rattle.pv_stages.specs.Devices.{ShelfNow}
+use Rattle.pv_stages.specs.Judging.{CountsJudged, CountsNoMore}
+use Rattle.pv_stages.specs.Possibility.{width_stage}
+use Rattle.pv_tree.specs.Lists.{lists_of}
+use Rattle.pv_tree.specs.Plain.{PlainDoc}
+use Rattle.pv_tree.specs.declared.nodes.Mark.{Mark}
+use Rattle.pv_stages.proofs.JudgedLists.{judged_beside, judged_second, stops_first}
 use Rattle.pv_stages.specs.Opening.{Files, IsFile, dtd_file_stage}
 use Rattle.pv_stages.specs.Showing.{CountsShelf}
 use Rattle.pv_stages.specs.Returns.{TakesCourse, ReturnsOver, ending_of}
 use Rattle.pv_cli.specs.Returns.{FindsResponse}
 use Rattle.pv_stages.specs.Stage.{Behind, Stage, beside, followed_by}
-use Rattle.pv_cli.specs.Standoff.{CountsDocument, IsShownCourse, annotation_stage, nested_stage, nesting_stage, none_nested, ranges_file_stage, some_nested, text_file_stage}
+use Rattle.pv_cli.specs.Standoff.{IsShownCourse, annotation_stage, judging_nested_stage, nested_lists, nested_stage, nesting_stage, ranges_file_stage, text_file_stage}
 use Rattle.pv_stages.proofs.Stages.{behind_second, finds_goes, finds_stays, stays_from, stop_counts, stop_ends, stopped_first}
 
 -- the files of a DTD and a text, and of ranges
@@ -55,14 +61,14 @@ module _ (dtd root text ranges : List ℕ) (before after : ShelfNow) where
         is_defined = stop_ends (nested_stage root files) (λ nested. IsShownCourse root nested.0 nested.1) over.fetches stop
             (stopped_first (annotation_stage files) (λ given. beside given.0.0 (nesting_stage root given.0.1 given.1)) over.fetches stop over.returns);
         shelf = record { calls = over.calls; faults = stop_counts before.faults after.faults stop over.faults };
-        checks = none_nested refl;
+        checks = stops_first (annotation_stage files) (λ g. judging_nested_stage root g.0.0 g.0.1 g.1) nested_lists CountsNoMore over.fetches stop checked checked over.returns refl;
       }
 
   -- it found this behind them
   pub annotation_found : (checked checked_now : ℕ) (given : (Dtd × List (List ℕ)) × List Range) (result : Result Response Stop) →
       ReturnsOver (AreThree before.files dtd text ranges) plain_given three_stage before after (Ok given) →
       TakesCourse (Behind (beside (plain_dtd given.0.0) (nesting_stage root given.0.1 given.1)) (λ nested. IsShownCourse root nested.0 nested.1)) result →
-      CountsDocument root given.0.1 given.1 checked checked_now → FindsResponse line before after checked checked_now result
+      CountsJudged (judging_nested_stage root (plain_dtd given.0.0) given.0.1 given.1) nested_lists CountsNoMore (ending_of result) checked checked_now → FindsResponse line before after checked checked_now result
   annotation_found checked checked_now given result over finds counts =
       let files = files_of over.files in
       let Goes = Behind (beside (plain_dtd given.0.0) (nesting_stage root given.0.1 given.1)) (λ nested. IsShownCourse root nested.0 nested.1) in
@@ -76,8 +82,16 @@ module _ (dtd root text ranges : List ℕ) (before after : ShelfNow) where
           calls = omega (arith, over.calls);
           faults = stays_from (CountsShelf (ending_of result)) before.faults after.faults over.faults (finds_stays Goes result finds);
         };
-        checks = some_nested (plain_given given) over.fetches over.returns counts;
+        checks = judged_second (annotation_stage files) (λ g. judging_nested_stage root g.0.0 g.0.1 g.1) nested_lists CountsNoMore (plain_given given) over.fetches (ending_of result) checked checked_now over.returns counts;
       }
+
+-- what was counted of the document that stands for a text and ranges, by a grammar of the DTD
+pub nested_counts : (root : List ℕ) (g d : PlainDtd) (text : List (List ℕ)) (ranges : List Range) (doc : PlainDoc Mark) (ending : RunEnding) (before after : ℕ) → (nesting_stage root text ranges).Opens doc 0 → d ≡ g →
+    CountsJudged (width_stage d doc) (λ _. length (lists_of doc)) CountsNoMore ending before after → CountsJudged (judging_nested_stage root g text ranges) nested_lists CountsNoMore ending before after
+nested_counts root g d text ranges doc ending before after opens same counts =
+    let here = subst (λ (h : PlainDtd). CountsJudged (width_stage h doc) (λ _. length (lists_of doc)) CountsNoMore ending before after) same counts in
+    judged_second (beside g (nesting_stage root text ranges)) (λ nested. beside nested (width_stage nested.0 nested.1)) nested_lists CountsNoMore (g, doc) 0 ending before after (refl, opens)
+    (judged_beside (g, doc) (width_stage g doc) nested_lists CountsNoMore ending before after here)
 
 -- what was read is named, few, and without `]]>`
 named : (lines : List (List ℕ)) (ranges : List Range) → SpellRanges lines ranges → AreNamed ranges

@@ -1,42 +1,72 @@
--- How many lists a command checked.
-use Rattle.std.proofs.Common.{◌≡◌, ◌⊎◌, inl, inr, ◌≤◌, ◌<◌, ◌+◌, ◌*◌, ◌%◌, ℕ, suc, zero, Bool, true, false, ◌==◌, if◌then◌else◌, List, [], ◌∷◌, length, Option, Some, refl, arith}
+-- How many lists a command judged.
+use Rattle.std.proofs.Common.{◌≡◌, ◌⊎◌, inl, inr, ◌≤◌, ◌<◌, ◌+◌, ◌*◌, ◌%◌, ℕ, suc, zero, Bool, true, false, ◌==◌, if◌then◌else◌, List, [], ◌∷◌, length, Result, Ok, Err, refl, subst, arith}
 use Rattle.std.proofs.lemmas.Bool.{cases_lt}
 use Rattle.std.proofs.lemmas.List.{length-append}
 use Rattle.pv_dtd.specs.Plain.{PlainDtd}
-use Rattle.pv_drill.specs.Drill.{drill_lines, drill_text, section_line, section_lines}
-use Rattle.pv_read.specs.Grammar.{IsDocumentText}
-use Rattle.pv_session.specs.Sessions.{PlainSession}
-use Rattle.pv_tree.specs.Plain.{PlainDoc}
-use Rattle.pv_tree.specs.declared.nodes.Mark.{Mark}
-use Rattle.pv_cli.specs.Checking.{CountsChecked, none_checked, some_checked}
-use Rattle.pv_cli.specs.Drill.{DRILL_ROOT, drill_stage}
-use Rattle.pv_cli.specs.Returns.{session_stage}
+use Rattle.pv_drill.specs.Drill.{drill_lines, section_line, section_lines}
+use Rattle.pv_tree.specs.Lists.{lists_of}
+use Rattle.pv_cli.specs.Checking.{CountsAtMost, CountsVerb, judging_files_stage}
+use Rattle.pv_cli.specs.declared.verb.Verb.{Verb}
+use Rattle.pv_cli.specs.declared.verb.Verb.TheVariants.{Valid, Check, Session, Complete, Why}
+use Rattle.pv_conversation.specs.Counting.{CountsScript}
+use Rattle.pv_stages.specs.Course.{Course, RunEnding, after_fetches, without_input}
+use Rattle.pv_stages.specs.Documents.{PlainOpened, document_stage}
+use Rattle.pv_stages.specs.Judging.{CountsJudged, CountsNoMore, CountsOpening, judges_all, judges_none, judging_stage, lists_judged}
+use Rattle.pv_stages.specs.Opening.{Files, fetching_stage}
+use Rattle.pv_stages.specs.Possibility.{width_stage}
+use Rattle.pv_stages.specs.Returns.{StopsBy, ending_of}
+use Rattle.pv_stages.specs.Stage.{Stage, beside}
+use Rattle.pv_stages.specs.declared.stop.Stop.{Stop}
+use Rattle.pv_stages.proofs.JudgedLists.{judged_beside, judged_second, opening_beside, opening_second, stops_first}
 
-one_number : (n m : ℕ) → Some n ≡ Some m → n ≡ m
-one_number n m is = cc
+-- what was counted of a document that was opened, by a grammar of its DTD
+pub judged_document : (root : List ℕ) (g d : PlainDtd) (bytes : List ℕ) (opened : PlainOpened) (ending : RunEnding) (before after : ℕ) → (document_stage root g bytes).Opens opened 0 → d ≡ opened.dtd →
+    CountsJudged (width_stage d opened.doc) (λ _. length (lists_of opened.doc)) CountsNoMore ending before after → CountsJudged (judging_stage root g bytes) lists_judged CountsNoMore ending before after
+judged_document root g d bytes opened ending before after opens same counts =
+    let here = subst (λ (h : PlainDtd). CountsJudged (width_stage h opened.doc) (λ _. length (lists_of opened.doc)) CountsNoMore ending before after) same counts in
+    judged_second (document_stage root g bytes) (λ o. beside o (width_stage o.dtd o.doc)) lists_judged CountsNoMore opened 0 ending before after opens
+    (judged_beside opened (width_stage opened.dtd opened.doc) lists_judged CountsNoMore ending before after here)
 
--- what was checked behind the opening of a document
-pub counts_on : (root : List ℕ) (file : Option (List ℕ)) (lines before middle after : ℕ) (bytes : List ℕ) (doc : PlainDoc Mark) → file ≡ Some bytes → IsDocumentText root bytes doc →
-    CountsChecked root file (Some 0) before middle → after ≤ middle + 2 * lines → CountsChecked root file (Some lines) before after
-counts_on root file lines before middle after bytes doc is text (none_checked same) more = some_checked bytes doc lines is text refl (omega (arith, same, more))
-counts_on root file lines before middle after bytes doc is text (some_checked b d count are means none within) more =
-    let zero_lines : 0 ≡ count = one_number 0 count none in some_checked b d lines are means refl (omega (arith, within, more, zero_lines))
+pub opened_document : {Z : Type 0} (root : List ℕ) (g : PlainDtd) (bytes : List ℕ) (opened : PlainOpened) (before after : ℕ) (result : Result Z Stop) → (document_stage root g bytes).Opens opened 0 →
+    CountsOpening (width_stage opened.dtd opened.doc) (λ _. length (lists_of opened.doc)) before after result → CountsOpening (judging_stage root g bytes) lists_judged before after result
+opened_document root g bytes opened before after result opens counts =
+    opening_second (document_stage root g bytes) (λ o. beside o (width_stage o.dtd o.doc)) lists_judged opened 0 before after result opens
+    (opening_beside opened (width_stage opened.dtd opened.doc) lists_judged before after result counts)
 
--- more lines allow more lists
-pub counts_more : (root : List ℕ) (file : Option (List ℕ)) (lines before after : ℕ) → CountsChecked root file (Some 0) before after → CountsChecked root file (Some lines) before after
-counts_more root file lines before after (none_checked same) = none_checked same
-counts_more root file lines before after (some_checked bytes doc count is text none within) =
-    let zero_lines : 0 ≡ count = one_number 0 count none in some_checked bytes doc lines is text refl (omega (arith, within, zero_lines))
+-- what counts no more counts at most so many
+pub drill_stopped : {X : Type 0} (judging : Stage X) (lists : X → ℕ) (most : ℕ) (ending : RunEnding) (before after : ℕ) → CountsJudged judging lists CountsNoMore ending before after →
+    CountsJudged judging lists (CountsAtMost most) ending before after
+drill_stopped judging lists most ending before after (judges_none within same) = judges_none within same
+drill_stopped judging lists most ending before after (judges_all x k opens same) = judges_all x k opens (omega (arith, same), omega (arith, same))
 
-pub session_counts : (root : List ℕ) (fetched : PlainDtd × List ℕ) (session : PlainSession) (lines before middle after : ℕ) → (session_stage root fetched).Opens session 0 →
-    CountsChecked root (Some fetched.1) (Some 0) before middle → after ≤ middle + 2 * lines → CountsChecked root (Some fetched.1) (Some lines) before after
-session_counts root fetched session lines before middle after opens counts more =
-    counts_on root (Some fetched.1) lines before middle after fetched.1 opens.0.doc refl opens.3.0.is_text counts more
+-- a session that wasn't begun took no line
+pub session_quiet : {X : Type 0} (judging : Stage X) (lists : X → ℕ) (n : ℕ) (ending other : RunEnding) (before after : ℕ) → CountsJudged judging lists CountsNoMore ending before after →
+    CountsJudged judging lists (CountsScript (without_input n other)) ending before after
+session_quiet judging lists n ending other before after (judges_none within same) = judges_none within same
+session_quiet judging lists n ending other before after (judges_all x k opens same) = judges_all x k opens same
 
-pub drill_counts : (n : ℕ) (session : PlainSession) (lines before middle after : ℕ) → (drill_stage n).Opens session 0 →
-    CountsChecked DRILL_ROOT (Some (drill_text n)) (Some 0) before middle → after ≤ middle + 2 * lines → CountsChecked DRILL_ROOT (Some (drill_text n)) (Some lines) before after
-drill_counts n session lines before middle after opens counts more =
-    counts_on DRILL_ROOT (Some (drill_text n)) lines before middle after (drill_text n) opens.0.doc refl opens.3.4.0.is_text counts more
+-- a verb whose files stopped it counts nothing
+pub verb_stopped : (verb : Verb) (root : List ℕ) (files : Files) (n : ℕ) (stop : Stop) (checked : ℕ) → StopsBy (fetching_stage files) n stop →
+    CountsVerb verb (judging_files_stage root files) (without_input n (ending_of (Err stop))) checked checked
+verb_stopped Valid root files n stop checked stops = refl
+verb_stopped Check root files n stop checked stops = stops_first (fetching_stage files) (λ both. judging_stage root both.0 both.1) lists_judged CountsNoMore n stop checked checked stops refl
+verb_stopped Session root files n stop checked stops =
+    session_quiet (judging_files_stage root files) lists_judged n (ending_of (Err stop)) (ending_of (Err stop)) checked checked
+    (stops_first (fetching_stage files) (λ both. judging_stage root both.0 both.1) lists_judged CountsNoMore n stop checked checked stops refl)
+verb_stopped Complete root files n stop checked stops = refl
+verb_stopped Why root files n stop checked stops = stops_first (fetching_stage files) (λ both. judging_stage root both.0 both.1) lists_judged CountsNoMore n stop checked checked stops refl
+
+-- what it counts behind its files is what it counts with them
+pub verb_counts : (verb : Verb) (root : List ℕ) (files : Files) (fetched : PlainDtd × List ℕ) (n : ℕ) (rest : Course) (before after : ℕ) → (fetching_stage files).Opens fetched n →
+    CountsVerb verb (judging_stage root fetched.0 fetched.1) rest before after → CountsVerb verb (judging_files_stage root files) (after_fetches n rest) before after
+verb_counts Valid root files fetched n rest before after opens counts = counts
+verb_counts Check root files fetched n rest before after opens counts =
+    judged_second (fetching_stage files) (λ both. judging_stage root both.0 both.1) lists_judged CountsNoMore fetched n rest.ending before after opens counts
+verb_counts Session root files fetched n rest before after opens counts =
+    judged_second (fetching_stage files) (λ both. judging_stage root both.0 both.1) lists_judged (CountsScript rest) fetched n rest.ending before after opens counts
+verb_counts Complete root files fetched n rest before after opens counts = counts
+verb_counts Why root files fetched n rest before after opens counts =
+    judged_second (fetching_stage files) (λ both. judging_stage root both.0 both.1) lists_judged CountsNoMore fetched n rest.ending before after opens counts
 
 -- the lines of a drill up to a section
 pub sections_within : (k n : ℕ) → k ≤ n → length (drill_lines k) ≤ length (drill_lines n)

@@ -10,7 +10,7 @@ use Rattle.pv_session.specs.Sessions.{PlainSession, session_on}
 use Rattle.pv_tree.specs.Marks.{unmarked_doc}
 use Rattle.pv_tree.specs.Plain.{PlainDoc}
 use Rattle.pv_tree.specs.declared.nodes.Mark.{Mark}
-use Rattle.pv_complete.specs.Needing.{AreListsForVerdicts}
+use Rattle.pv_stages.specs.Possibility.{AreAllNarrow}
 use Rattle.pv_cli.specs.CommandLine.{PlainCommandLine, on_document}
 use Rattle.pv_stages.specs.Course.{Course, RunEnding, input_fault, responds}
 use Rattle.pv_stages.specs.Devices.{Devices}
@@ -95,7 +95,7 @@ opens means told dtd root name files g doc are d e =
     )
 
 -- behind the opened files
-behind_files : ReadsOne → (root : List ℕ) (x y : PlainOpened) (course : Course) (r : PlainResponse) → AreSameOpened x y → AreListsForVerdicts y.dtd y.doc → course.ending ≡ responds r →
+behind_files : ReadsOne → (root : List ℕ) (x y : PlainOpened) (course : Course) (r : PlainResponse) → AreSameOpened x y → AreAllNarrow y.dtd y.doc → course.ending ≡ responds r →
     IsSessionCourse root x course → GoesWith (guarding_stage root x.dtd x.doc) (λ s rest. Converses s rest × (s ≡ session_on y.dtd root (unmarked_doc y.doc))) course
 behind_files one root x y course r same narrow at goes =
     by (went_on (guarding_stage root x.dtd x.doc) Converses course r goes at)
@@ -117,7 +117,7 @@ behind_files one root x y course r same narrow at goes =
 
 module _ (S : Type 0) (dtds : ReadsOneDtd) (means : MeansDtd) (one : ReadsOne) (told : List (List ℕ × List ℕ)) (dtd root name script : List ℕ) (g : PlainDtd) (doc : PlainDoc Mark) (before after : Devices S) (status : Status)
     (run : Runs (Some (on_document Session dtd root name)) before after status) (is_told : before.shelf.files ≡ Some told) (is_left : before.input.left ≡ Some script) (d : HoldsDtd told dtd g) (e : HoldsDocument told name root doc)
-    (narrow : AreListsForVerdicts g doc) (within : IsWithin script) where
+    (narrow : AreAllNarrow g doc) (within : IsWithin script) where
   abbrev held : PlainOpened
   held = record { dtd = g; bytes = e.bytes; doc = doc }
 

@@ -11,15 +11,16 @@ use Rattle.pv_stages.specs.declared.stop.Stop.TheVariants.{Refused, ShelfFault, 
 use Rattle.pv_cli.specs.declared.verb.Verb.{Verb}
 use Rattle.pv_cli.specs.declared.verb.Verb.TheVariants.{Session}
 use Rattle.pv_session.specs.Sessions.{PlainSession}
-use Rattle.pv_cli.specs.Checking.{CountsChecked, none_checked}
-use Rattle.pv_conversation.specs.Script.{lines_taken}
+use Rattle.pv_cli.specs.Checking.{CountsVerb}
+use Rattle.pv_conversation.specs.Counting.{CountsScript}
 use Rattle.pv_cli.specs.CommandLine.{PlainCommandLine, files_named, on_document, on_dtd}
-use Rattle.pv_cli.specs.Commands.{GoesOn, VerbTells, lines_checked}
+use Rattle.pv_cli.specs.Commands.{GoesOn, VerbTells}
 use Rattle.pv_conversation.specs.Conversation.{Talked}
 use Rattle.pv_stages.specs.Course.{Course, after_fetches, responds, without_input}
 use Rattle.pv_stages.specs.Devices.{InputNow, OutputNow, ShelfNow, devices}
 use Rattle.pv_stages.specs.Documents.{PlainOpened, document_stage}
 use Rattle.pv_cli.specs.Dtd.{TellsDtd}
+use Rattle.pv_stages.specs.Judging.{CountsOpening, judging_stage, lists_judged}
 use Rattle.pv_stages.specs.Opening.{AreFiles, IsFile, dtd_file_stage, fetching_stage, opening_stage}
 use Rattle.pv_cli.specs.Program.{ChecksLists, IsDefined, Runs}
 use Rattle.pv_stages.specs.Showing.{CountsInput, CountsShelf, ShowsStreams, WritesEnding}
@@ -28,7 +29,8 @@ use Rattle.pv_cli.specs.Returns.{DoesRest, FindsResponse, session_stage}
 use Rattle.pv_stages.specs.Returns.{TakesCourse, ReturnsOver, StopsBy, TellsBy, ending_of, plain_fetched}
 use Rattle.pv_conversation.specs.Session.{guarding_stage}
 use Rattle.pv_stages.specs.Stage.{Responds, opened, refused, short_of_memory}
-use Rattle.pv_cli.proofs.Counting.{session_counts}
+use Rattle.pv_cli.proofs.Counting.{verb_counts, verb_stopped}
+use Rattle.pv_stages.proofs.JudgedLists.{opened_goes}
 use Rattle.pv_stages.proofs.Stages.{behind_second, finds_goes, finds_stays, stays_from, stop_counts, stop_ends, stopped_first, tells_found}
 
 -- what didn't ask the input left its count
@@ -64,7 +66,7 @@ found_runs line before after input old new checked checked_now result status fin
 
 -- a command line that asks no shelf
 pub found_alone : (line : Option PlainCommandLine) (shelf : ShelfNow) (checked checked_now : ℕ) (result : Result Response Stop) → AreFiles shelf.files (files_named line) [] →
-    TakesCourse (IsDefined line []) result → ChecksLists line [] None checked checked_now → FindsResponse line shelf shelf checked checked_now result
+    TakesCourse (IsDefined line []) result → ChecksLists line [] (without_input 0 (ending_of result)) checked checked_now → FindsResponse line shelf shelf checked checked_now result
 found_alone line shelf checked checked_now result none finds checks = record {
   files = [];
   are_files = none;
@@ -103,7 +105,7 @@ dtd_told name before after checked dtd result over tells =
 
 -- what a verb found, once it is written
 pub found_rest : {S : Type 0} (verb : Verb) (root : List ℕ) (fetched : PlainDtd × List ℕ) (input : InputNow S) (old new : OutputNow) (checked checked_now : ℕ) (result : Result Response Stop) (status : Status) →
-    TakesCourse (GoesOn verb root fetched) result → CountsChecked root (Some fetched.1) (lines_checked verb None) checked checked_now → WritesEnding (ending_of result) old.written new.written old.faults new.faults status →
+    TakesCourse (GoesOn verb root fetched) result → CountsVerb verb (judging_stage root fetched.0 fetched.1) (without_input 0 (ending_of result)) checked checked_now → WritesEnding (ending_of result) old.written new.written old.faults new.faults status →
     DoesRest verb root fetched input input old new checked checked_now status
 found_rest verb root fetched input old new checked checked_now result status finds checks writes = record {
   talk = record {
@@ -127,7 +129,7 @@ files_stopped verb dtd root doc before after checked stop over = record {
   is_defined = stop_ends (opening_stage root over.files) (VerbTells verb root) over.fetches stop
       (stopped_first (fetching_stage over.files) (λ both. document_stage root both.0 both.1) over.fetches stop over.returns);
   shelf = record { calls = over.calls; faults = stop_counts before.faults after.faults stop over.faults };
-  checks = none_checked refl;
+  checks = verb_stopped verb root over.files over.fetches stop checked over.returns;
 }
 
 streams_after : {S : Type 0} (n : ℕ) (course : Course) (input input_now : InputNow S) (old new : OutputNow) (status : Status) → ShowsStreams course input input_now old new status →
@@ -149,7 +151,6 @@ rest_runs verb dtd root doc before after fetched input input_now old new checked
     let both = plain_fetched fetched in
     let rest = does.talk.course in
     let no_fetch = does.talk.no_fetch in
-    let is_file = over.returns.4.1.0.is_file in
     record {
       files = over.files;
       are_files = over.are_such;
@@ -160,7 +161,7 @@ rest_runs verb dtd root doc before after fetched input input_now old new checked
         faults = stays_from (CountsShelf rest.ending) before.faults after.faults over.faults does.talk.no_fault;
       };
       streams = streams_after over.fetches rest input input_now old new status does.talk.streams;
-      checks = subst (λ (file : Option (List ℕ)). CountsChecked root file (lines_checked verb rest.taken) checked checked_now) (sym is_file) does.checks;
+      checks = verb_counts verb root over.files both over.fetches rest checked checked_now over.returns does.checks;
     }
 
 -- beginning a session asks no shelf
@@ -180,11 +181,10 @@ session_stopped root fetched NoMemory stops = short_of_memory 0 refl refl
 
 -- a session that was begun, and its conversation
 pub talked_rest : {S : Type 0} (root : List ℕ) (fetched : PlainDtd × List ℕ) (session : PlainSession) (input input_now : InputNow S) (old new : OutputNow) (before middle after : ℕ) (status : Status) →
-    (session_stage root fetched).Opens session 0 → CountsChecked root (Some fetched.1) (Some 0) before middle → Talked session input input_now old new middle after status →
+    (session_stage root fetched).Opens session 0 → CountsOpening {Y = PlainSession} (judging_stage root fetched.0 fetched.1) lists_judged before middle (Ok session) → Talked session input input_now old new middle after status →
     DoesRest Session root fetched input input_now old new before after status
 talked_rest root fetched session input input_now old new before middle after status opens counts talked =
     let rest = talked.talk.course in
-    let few = talked.few in
     let none : opens.2 ≡ 0 = omega (arith, opens.5) in
     record {
       talk = record {
@@ -194,5 +194,5 @@ talked_rest root fetched session input input_now old new before middle after sta
         no_fault = talked.talk.no_fault;
         streams = streams_after 0 (after_fetches 0 rest) input input_now old new status (streams_after 0 rest input input_now old new status talked.talk.streams);
       };
-      checks = session_counts root fetched session (lines_taken rest.taken) before middle after opens counts few;
+      checks = opened_goes (judging_stage root fetched.0 fetched.1) lists_judged (CountsScript (after_fetches 0 (after_fetches 0 rest))) rest.ending before middle after session counts talked.counts;
     }

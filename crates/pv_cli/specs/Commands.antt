@@ -1,9 +1,8 @@
 -- The commands on a DTD and a document, a line for each verb in each table, and those that check a
 -- certificate.
-use Rattle.std.specs.Prelude.{ℕ, Bool, true, false, List, Option, Some, None}
+use Rattle.std.specs.Prelude.{ℕ, Bool, true, false, List}
 use Rattle.pv_dtd.specs.Plain.{PlainDtd}
 use Rattle.pv_cli.specs.Check.{IsCheckCourse}
-use Rattle.pv_conversation.specs.Script.{lines_taken}
 use Rattle.pv_cli.specs.Complete.{IsCompleteCourse}
 use Rattle.pv_stages.specs.Course.{Course}
 use Rattle.pv_cli.specs.Deny.{IsDenyCourse}
@@ -59,14 +58,6 @@ reads_script other = false
 abbrev pub makes_tables : Verb → Bool
 makes_tables Complete = true
 makes_tables other = false
-
--- Where a verb counts the lists that it checks: besides those of the document, two for each of so
--- many lines of what was taken from the input. Any other verb counts none.
-abbrev pub lines_checked : Verb → Option (List ℕ) → Option ℕ
-lines_checked Check taken = Some 0
-lines_checked Why taken = Some 0
-lines_checked Session taken = Some (lines_taken taken)
-lines_checked other taken = None
 
 -- a command on a document: its files are opened, and then it does what its verb does
 abbrev pub IsDocumentCourse : Verb → List ℕ → Files → Course → Type 0

@@ -15,7 +15,7 @@ use Rattle.pv_session.specs.Sessions.{PlainSession, session_on}
 use Rattle.pv_tree.specs.Marks.{unmarked_doc}
 use Rattle.pv_tree.specs.Plain.{PlainDoc}
 use Rattle.pv_tree.specs.declared.nodes.Mark.{Mark}
-use Rattle.pv_complete.specs.Needing.{AreListsForVerdicts}
+use Rattle.pv_stages.specs.Possibility.{AreAllNarrow}
 use Rattle.pv_cli.specs.CommandLine.{PlainCommandLine, on_document}
 use Rattle.pv_stages.specs.Devices.{Devices}
 use Rattle.pv_conversation.specs.Script.{IsWithin}
@@ -75,7 +75,7 @@ GuardsSession line before after status = (told : List (List ℕ × List ℕ))
     (dtd root name script : List ℕ) (g : PlainDtd) (doc : PlainDoc Mark) →
     line ≡ Some (on_document Session dtd root name) →
     before.shelf.files ≡ Some told → before.input.left ≡ Some script → NoneRose before after →
-    HoldsDtd told dtd g → HoldsDocument told name root doc → AreListsForVerdicts g doc →
+    HoldsDtd told dtd g → HoldsDocument told name root doc → AreAllNarrow g doc →
     IsWithin script →
     HadNoMemory before after status ⊎
     AnswersScript (session_on g root (unmarked_doc doc)) script before after status

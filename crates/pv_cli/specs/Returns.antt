@@ -1,13 +1,14 @@
 -- What the commands return.
-use Rattle.std.specs.Prelude.{ℕ, List, Option, Some, None, Result}
+use Rattle.std.specs.Prelude.{ℕ, List, Option, Result}
 use Rattle.pv_dtd.specs.Plain.{PlainDtd}
 use Rattle.pv_session.specs.Sessions.{PlainSession}
-use Rattle.pv_cli.specs.Commands.{GoesOn, lines_checked}
-use Rattle.pv_cli.specs.Checking.{CountsChecked}
+use Rattle.pv_cli.specs.Commands.{GoesOn}
+use Rattle.pv_cli.specs.Checking.{CountsVerb}
 use Rattle.pv_cli.specs.CommandLine.{PlainCommandLine, files_named}
 use Rattle.pv_stages.specs.Course.{without_input}
 use Rattle.pv_stages.specs.Devices.{InputNow, OutputNow, ShelfNow}
 use Rattle.pv_stages.specs.Documents.{document_stage}
+use Rattle.pv_stages.specs.Judging.{judging_stage}
 use Rattle.pv_stages.specs.Opening.{AreFiles, Files}
 use Rattle.pv_cli.specs.Program.{ChecksLists, IsDefined}
 use Rattle.pv_stages.specs.Showing.{ShowsShelf}
@@ -33,12 +34,12 @@ pub record FindsResponse (line : Option PlainCommandLine) (before after : ShelfN
   pub fetches : ℕ
   pub is_defined : IsDefined line files (without_input fetches (ending_of result))
   pub shelf : ShowsShelf (without_input fetches (ending_of result)) before after
-  pub checks : ChecksLists line files None checked checked_now
+  pub checks : ChecksLists line files (without_input fetches (ending_of result)) checked checked_now
 
 -- the same, for a verb, with the lists that were checked
 pub record DoesRest {S : Type 0} (verb : Verb) (root : List ℕ) (fetched : PlainDtd × List ℕ)
     (input input_now : InputNow S) (output output_now : OutputNow) (checked checked_now : ℕ)
     (status : Status) : Type 0 where
   pub talk : GoesThrough (GoesOn verb root fetched) input input_now output output_now status
-  pub checks : CountsChecked root (Some fetched.1) (lines_checked verb talk.course.taken) checked
+  pub checks : CountsVerb verb (judging_stage root fetched.0 fetched.1) talk.course checked
       checked_now

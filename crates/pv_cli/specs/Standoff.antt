@@ -1,5 +1,5 @@
 -- What `standoff DTD ROOT TEXT RANGES` responds.
-use Rattle.std.specs.Prelude.{◌≡◌, ◌≤◌, ◌+◌, ℕ, List, [], ◌∷◌, ◌++◌, length, codes, decimal}
+use Rattle.std.specs.Prelude.{◌≡◌, ℕ, List, [], ◌∷◌, ◌++◌, length, codes, decimal}
 use Rattle.std.specs.Prelude.{Option, Ok, Err}
 use Rattle.pv_chars.specs.Units.{TextMeans}
 use Rattle.pv_chars.specs.declared.errors.TextError.{TextError}
@@ -130,16 +130,17 @@ abbrev pub IsStandoffCourse : List ℕ → Files → Course → Type 0
 IsStandoffCourse root files = Behind (nested_stage root files)
     (λ nested. IsShownCourse root nested.0 nested.1)
 
--- no list was checked, or no more than those of the document that stands for a text and ranges
-pub data CountsDocument (root : List ℕ) (text : List (List ℕ)) (ranges : List Range)
-    (before after : ℕ) : Type 0 where
-  none_checked : after ≡ before → CountsDocument root text ranges before after
-  some_checked : (doc : PlainDoc Mark) → NestMeans root text ranges (Ok doc) →
-      after ≤ before + length (lists_of doc) → CountsDocument root text ranges before after
+-- the document that stands for a text and ranges, and testing the width of its lists
+abbrev pub judging_nested_stage : List ℕ → PlainDtd → List (List ℕ) → List Range →
+    Stage ((PlainDtd × PlainDoc Mark) × Unit {0})
+judging_nested_stage root g text ranges = followed_by (beside g (nesting_stage root text ranges))
+    (λ nested. beside nested (width_stage nested.0 nested.1))
 
--- the same, of the text and ranges of some files
-pub data CountsNested (root : List ℕ) (files : Files) (before after : ℕ) : Type 0 where
-  none_nested : after ≡ before → CountsNested root files before after
-  some_nested : (given : (PlainDtd × List (List ℕ)) × List Range) (k : ℕ) →
-      (annotation_stage files).Opens given k →
-      CountsDocument root given.0.1 given.1 before after → CountsNested root files before after
+-- the same, of the text and the ranges of some files
+abbrev pub judging_ranges_stage : List ℕ → Files → Stage ((PlainDtd × PlainDoc Mark) × Unit {0})
+judging_ranges_stage root files = followed_by (annotation_stage files)
+    (λ given. judging_nested_stage root given.0.0 given.0.1 given.1)
+
+-- how many lists that document has
+abbrev pub nested_lists : (PlainDtd × PlainDoc Mark) × Unit {0} → ℕ
+nested_lists judged = length (lists_of judged.0.1)

@@ -1,6 +1,6 @@
 //! Command lines by form: what each opens, and the command behind it.
 
-ghost use Rattle.std.specs.Prelude.{◌≡◌, ℕ, Some, Contains};
+ghost use Rattle.std.specs.Prelude.{◌≡◌, ℕ, Some, Contains, true};
 ghost use Rattle.pv_cli.specs.CommandLine.{on_certificate, on_document, on_dtd};
 ghost use Rattle.pv_stages.specs.Devices.{devices, input_at, output_at, shelf_at};
 ghost use Rattle.pv_cli.specs.Program.{Runs};
@@ -74,6 +74,7 @@ fn do_rest<S: Source, K: Sink, L: Ledger>(
     out: &mut K,
     steps: &mut Steps<L>,
 ) -> Status
+    requires { K.ready out.old ≡ true }
     ensures { DoesRest verb root.now (plain_fetched fetched)
         (input_at input.old (S.left input.old) (S.calls input.old) (S.faults input.old))
         (input_at input.new (S.left input.new) (S.calls input.new) (S.faults input.new))
@@ -100,6 +101,7 @@ pub fn run_on_document<H: Shelf, S: Source, K: Sink, L: Ledger>(
     out: &mut K,
     steps: &mut Steps<L>,
 ) -> Status
+    requires ready { K.ready out.old ≡ true }
     requires dtd_named { Contains (H.names shelf.old) named.now.dtd.now }
     requires doc_named { Contains (H.names shelf.old) named.now.doc.now }
     ensures runs { Runs (Some (on_document verb named.now.dtd.now named.now.root.now

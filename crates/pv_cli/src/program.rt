@@ -1,6 +1,6 @@
 //! All that the program does.
 
-ghost use Rattle.std.specs.Prelude.{◌≡◌, [], codes};
+ghost use Rattle.std.specs.Prelude.{◌≡◌, [], codes, true};
 ghost use Rattle.pv_cli.specs.CommandLine.{command_line_of, files_named};
 ghost use Rattle.pv_cli.specs.Headline.{GuardsSession};
 ghost use Rattle.pv_stages.specs.Devices.{devices, input_at, output_at, shelf_at};
@@ -38,7 +38,8 @@ fn run_words<H: Shelf, S: Source, K: Sink, L: Ledger>(
     out: &mut K,
     steps: &mut Steps<L>,
 ) -> Status
-    requires { H.names shelf.old ≡ fetch_names words.now }
+    requires names { H.names shelf.old ≡ fetch_names words.now }
+    requires ready { K.ready out.old ≡ true }
 
     ensures runs { Runs (command_line_of (byte_lists words.now))
         (devices (shelf_at (H.files shelf.old) (H.calls shelf.old) (H.faults shelf.old))
@@ -83,7 +84,8 @@ pub fn pvtag<H: Shelf, S: Source, K: Sink, L: Ledger>(
     out: &mut K,
     steps: &mut Steps<L>,
 ) -> Status
-    requires { H.names shelf.old ≡ fetch_names words.now }
+    requires names { H.names shelf.old ≡ fetch_names words.now }
+    requires ready { K.ready out.old ≡ true }
 
     // The status, the output, the causes of faults, and how often the devices are asked.
     ensures runs { Runs (command_line_of (byte_lists words.now))

@@ -1,14 +1,14 @@
 -- How a session that ended over its script shows in its devices.
-use Rattle.std.proofs.Common.{◌≡◌, ◌≢◌, ◌≤◌, ◌<◌, ◌+◌, ◌*◌, ℕ, zero, suc, Bool, true, false, List, ◌++◌, length, Option, Some, Result, Ok, Err, refl, subst, arith}
+use Rattle.std.proofs.Common.{◌≡◌, ◌≢◌, ◌≤◌, ◌<◌, ◌+◌, ℕ, zero, suc, Bool, true, false, List, ◌++◌, length, Option, Some, Result, Ok, Err, refl, subst, arith}
 use Rattle.std.proofs.lemmas.List.{length-append}
 use Rattle.std.specs.Io.KnownBytes.{Consumes, IsAtEnd}
 use Rattle.pv_io.specs.Causes.{Asked, CountStays, MadeCalls, WasAsked, empty_in}
 use Rattle.pv_io.specs.declared.source.Failed.{Failed}
-use Rattle.pv_script.specs.Lines.{lines_of}
 use Rattle.pv_session.specs.Sessions.{PlainSession}
 use Rattle.pv_stages.specs.declared.status.Status.{Status}
 use Rattle.pv_stages.specs.declared.status.Status.TheVariants.{NoMemory}
 use Rattle.pv_conversation.specs.Conversation.{Talked}
+use Rattle.pv_conversation.specs.Counting.{CountsFirst, lines_answered}
 use Rattle.pv_stages.specs.Course.{RunEnding, no_memory, without_input}
 use Rattle.pv_stages.specs.Devices.{InputNow, OutputNow}
 use Rattle.pv_stages.specs.Showing.{AskedAtMost, CountsInput, CountsShelf, MadeAtMost, WritesEnding, wrote}
@@ -24,15 +24,15 @@ no_room session input output checked = record {
     no_fault = λ count. refl;
     streams = record { input = refl; taken = refl; asked = refl; at_end = λ is. tt; output = wrote refl refl (appends_none output.written) refl };
   };
-  few = omega arith;
+  counts = refl;
 }
 
 -- a session ended over the bytes that were taken
 pub has_course : {S : Type 0} (session : PlainSession) (script silent : List ℕ) (at_end : Bool) (ending : RunEnding) (input input_now : InputNow S) (old new : OutputNow) (checked checked_now : ℕ) (status : Status) →
     EndsSession session script silent at_end ending → Consumes input.left input_now.left script → AskedAtMost (length script + 1) 1 input.calls input_now.calls → (at_end ≡ true → IsAtEnd input_now.left) →
     ((n : ℕ) → CountsShelf ending n n) → CountsInput ending input.faults input_now.faults → WritesEnding ending old.written new.written old.faults new.faults status →
-    checked_now ≤ checked + 2 * length (lines_of script) → Talked session input input_now old new checked checked_now status
-has_course session script silent at_end ending input input_now old new checked checked_now status ends taken asked whole shelf_stays counts writes few = record {
+    CountsFirst silent (lines_answered at_end script) checked checked_now → Talked session input input_now old new checked checked_now status
+has_course session script silent at_end ending input input_now old new checked checked_now status ends taken asked whole shelf_stays counts writes checks = record {
   talk = record {
     course = record { fetches = 0; taken = Some script; at_end = at_end; silent = silent; ending = ending };
     goes = ended_over script refl refl ends;
@@ -40,7 +40,7 @@ has_course session script silent at_end ending input input_now old new checked c
     no_fault = shelf_stays;
     streams = record { input = counts; taken = taken; asked = asked; at_end = whole; output = writes };
   };
-  few = few;
+  counts = checks;
 }
 
 -- how often an input was asked: not yet; once more, for more bytes; and once more at the end

@@ -9,11 +9,13 @@ use Rattle.pv_script.specs.Lines.{FEED, HasNoFeed, lines_of, raw_lines_of, with_
 use Rattle.pv_script.specs.Taking.{HeldLine, MAX_LINE_BYTES, nothing_held, begun_line, TakesWhole, TakesLine, IsTooLong}
 use Rattle.pv_script.specs.declared.commands.Command.TheVariants.{Quit}
 use Rattle.pv_session.specs.Sessions.{PlainSession}
+use Rattle.pv_conversation.specs.Counting.{CountedSession}
 use Rattle.pv_conversation.specs.Conversation.{Conversed, EndedWith, IsScriptLine, IsReplyText}
 use Rattle.pv_stages.specs.Course.{RunEnding, input_fault, output_fault}
 use Rattle.pv_conversation.specs.Script.{MAX_SCRIPT_BYTES, lines_within}
 use Rattle.pv_conversation.specs.Session.{EndsSession, Place, Replies, finished, quitted, past_line, past_script, input_failed, output_failed, no_lines, at_line, at_quit, all_told, limited}
-use Rattle.pv_conversation.proofs.GoingOn.{more_changes_nothing}
+use Rattle.pv_conversation.proofs.Counting.{counts_all, counts_front}
+use Rattle.pv_conversation.proofs.GoingOn.{lines_on, more_changes_nothing}
 use Rattle.pv_conversation.proofs.Limits.{IsReadAs, feeds_more, lines_more_are, past_lines, past_long, past_short, read_all, read_lines, read_long_line, read_within}
 use Rattle.pv_conversation.proofs.Replies.{appends_none, replies_more, replies_quit}
 
@@ -21,7 +23,7 @@ begun_is : (held : HeldLine) → held.whole ≡ false → begun_line held ≡ he
 begun_is held is = rw is refl
 
 -- the bytes so far are read as their lines and what is held
-pub read_of : (W : List ℕ → Type 0) (first : PlainSession) (script : List ℕ) (current : PlainSession) (held : HeldLine) (number : ℕ) →
+pub read_of : (W : List ℕ → Type 0) (first : CountedSession) (script : List ℕ) (current : CountedSession) (held : HeldLine) (number : ℕ) →
     (so_far : Conversed W first script current held number) → IsReadAs script so_far.lines held.bytes
 read_of W first script current held number so_far =
     record { is_cut = so_far.is_cut; are_lines = so_far.are_lines; is_part = so_far.is_begun.0 }
@@ -30,7 +32,7 @@ cut_more : (script lines begun front : List ℕ) → script ≡ lines ++ begun �
 cut_more script lines begun front is = ap (λ (h : List ℕ). h ++ front) is ∙ append_assoc lines begun front
 
 -- nothing was answered so far
-pub begins : (old : Option (List ℕ)) (first : PlainSession) → Conversed (Appends old old) first [] first nothing_held 1
+pub begins : (old : Option (List ℕ)) (first : CountedSession) → Conversed (Appends old old) first [] first nothing_held 1
 begins old first = record {
   lines = [];
   is_cut = refl;
@@ -42,6 +44,7 @@ begins old first = record {
   below = tt;
   out = [];
   replies = no_lines refl refl;
+  counts = refl;
   written = appends_none old;
 }
 
@@ -50,15 +53,16 @@ cut_here : (first : PlainSession) (script silent out : List ℕ) (place : Place)
     EndsSession first script silent false (output_fault out)
 cut_here first script silent out place replies = output_failed (lines_within script) [] out place (sym (append-nil (lines_within script))) replies refl
 
-pub cut_off : (W : List ℕ → Type 0) (first : PlainSession) (script : List ℕ) (current : PlainSession) (held : HeldLine) (number : ℕ) →
-    Conversed W first script current held number → length script ≤ MAX_SCRIPT_BYTES → EndedWith first script false output_fault W
+pub cut_off : (W : List ℕ → Type 0) (first : CountedSession) (script : List ℕ) (current : CountedSession) (held : HeldLine) (number : ℕ) →
+    Conversed W first script current held number → length script ≤ MAX_SCRIPT_BYTES → EndedWith first current.checked script false output_fault W
 cut_off W first script current held number so_far within =
     let lines = read_lines script so_far.lines held.bytes (read_of W first script current held number so_far) within in
-    let ends = cut_here first script so_far.silent so_far.out (at_line number current) (rw lines so_far.replies) in
-    record { silent = so_far.silent; out = so_far.out; ends = ends; fails = λ _. ends; written = so_far.written }
+    let ends = cut_here first.session script so_far.silent so_far.out (at_line number current.session) (rw lines so_far.replies) in
+    let counts = counts_all so_far.silent _ _ _ _ lines so_far.counts in
+    record { silent = so_far.silent; out = so_far.out; ends = ends; fails = λ _. ends; counts = counts; written = so_far.written }
 
 -- what was written so was written otherwise
-pub written_as : (W V : List ℕ → Type 0) (first : PlainSession) (script : List ℕ) (current : PlainSession) (held : HeldLine) (number : ℕ) →
+pub written_as : (W V : List ℕ → Type 0) (first : CountedSession) (script : List ℕ) (current : CountedSession) (held : HeldLine) (number : ℕ) →
     ((out : List ℕ) → W out → V out) → Conversed W first script current held number → Conversed V first script current held number
 written_as W V first script current held number writes so_far = record {
   lines = so_far.lines;
@@ -71,16 +75,17 @@ written_as W V first script current held number writes so_far = record {
   below = so_far.below;
   out = so_far.out;
   replies = so_far.replies;
+  counts = so_far.counts;
   written = writes so_far.out so_far.written;
 }
 
-pub ended_as : (W V : List ℕ → Type 0) (first : PlainSession) (script : List ℕ) (at_end : Bool) (ending : List ℕ → RunEnding) →
-    ((out : List ℕ) → W out → V out) → EndedWith first script at_end ending W → EndedWith first script at_end ending V
-ended_as W V first script at_end ending writes so =
-    record { silent = so.silent; out = so.out; ends = so.ends; fails = so.fails; written = writes so.out so.written }
+pub ended_as : (W V : List ℕ → Type 0) (first : CountedSession) (now : ℕ) (script : List ℕ) (at_end : Bool) (ending : List ℕ → RunEnding) →
+    ((out : List ℕ) → W out → V out) → EndedWith first now script at_end ending W → EndedWith first now script at_end ending V
+ended_as W V first now script at_end ending writes so =
+    record { silent = so.silent; out = so.out; ends = so.ends; fails = so.fails; counts = so.counts; written = writes so.out so.written }
 
 -- a piece without an LF
-pub takes_all : (W : List ℕ → Type 0) (first : PlainSession) (script : List ℕ) (current : PlainSession) (held new : HeldLine) (number : ℕ) (piece : List ℕ) →
+pub takes_all : (W : List ℕ → Type 0) (first : CountedSession) (script : List ℕ) (current : CountedSession) (held new : HeldLine) (number : ℕ) (piece : List ℕ) →
     Conversed W first script current held number → TakesWhole held piece new → Conversed W first (script ++ piece) current new number
 takes_all W first script current held new number piece so_far takes =
     let begun = begun_is held so_far.goes_on in
@@ -96,6 +101,7 @@ takes_all W first script current held new number piece so_far takes =
       below = so_far.below;
       out = so_far.out;
       replies = so_far.replies;
+      counts = so_far.counts;
       written = so_far.written;
     }
 
@@ -106,7 +112,7 @@ record IsNextLine (script : List ℕ) (lines : List (List ℕ)) (held new : Held
   read : IsReadAs (script ++ (front ++ FEED ∷ [])) (lines ++ (held.bytes ++ front) ∷ []) []
   answered : map without_returns (lines ++ (held.bytes ++ front) ∷ []) ≡ map without_returns lines ++ without_returns new.bytes ∷ []
 
-next_line : (W : List ℕ → Type 0) (first : PlainSession) (script : List ℕ) (current : PlainSession) (held new : HeldLine) (number : ℕ) (piece : List ℕ) (eaten : ℕ) →
+next_line : (W : List ℕ → Type 0) (first : CountedSession) (script : List ℕ) (current : CountedSession) (held new : HeldLine) (number : ℕ) (piece : List ℕ) (eaten : ℕ) →
     (so_far : Conversed W first script current held number) → (takes : TakesLine held piece eaten new) → IsNextLine script so_far.lines held new takes.front
 next_line W first script current held new number piece eaten so_far takes =
     let begun = begun_is held so_far.goes_on in
@@ -129,12 +135,12 @@ next_line W first script current held new number piece eaten so_far takes =
     }
 
 -- a line that was answered
-pub takes_line : (W V : List ℕ → Type 0) (first current after : PlainSession) (script : List ℕ) (held new : HeldLine) (number : ℕ) (piece text : List ℕ) (eaten : ℕ) →
+pub takes_line : (W V : List ℕ → Type 0) (first current after : CountedSession) (script : List ℕ) (held new : HeldLine) (number : ℕ) (piece text : List ℕ) (eaten : ℕ) →
     Conversed W first script current held number → (takes : TakesLine held piece eaten new) → IsReplyText current (without_returns new.bytes) after text →
     ((out : List ℕ) → W out → V (out ++ text)) → Conversed V first (script ++ (takes.front ++ FEED ∷ [])) after nothing_held (suc number)
 takes_line W V first current after script held new number piece text eaten so_far takes by writes =
     let line = next_line W first script current held new number piece eaten so_far takes in
-    let more = replies_more so_far.silent number first current (map without_returns so_far.lines) (without_returns new.bytes) so_far.out text after so_far.below so_far.replies by in
+    let more = replies_more so_far.silent number first current (map without_returns so_far.lines) (without_returns new.bytes) so_far.out text after so_far.below so_far.replies so_far.counts by in
     record {
       lines = so_far.lines ++ (held.bytes ++ takes.front) ∷ [];
       is_cut = line.read.is_cut;
@@ -146,37 +152,39 @@ takes_line W V first current after script held new number piece text eaten so_fa
       below = more.below;
       out = so_far.out ++ text;
       replies = rw line.answered more.replies;
+      counts = rw line.answered more.counts;
       written = writes so_far.out so_far.written;
     }
 
 -- a line that ends the session
-pub takes_quit : (W V : List ℕ → Type 0) (first current : PlainSession) (script : List ℕ) (held new : HeldLine) (number : ℕ) (piece : List ℕ) (eaten : ℕ) →
+pub takes_quit : (W V : List ℕ → Type 0) (first current : CountedSession) (script : List ℕ) (held new : HeldLine) (number : ℕ) (piece : List ℕ) (eaten : ℕ) →
     Conversed W first script current held number → (takes : TakesLine held piece eaten new) → SpellsCommand (without_returns new.bytes) Quit → ((out : List ℕ) → W out → V out) →
-    length (script ++ (takes.front ++ FEED ∷ [])) ≤ MAX_SCRIPT_BYTES → EndedWith first (script ++ (takes.front ++ FEED ∷ [])) false all_told V
+    length (script ++ (takes.front ++ FEED ∷ [])) ≤ MAX_SCRIPT_BYTES → EndedWith first current.checked (script ++ (takes.front ++ FEED ∷ [])) false all_told V
 takes_quit W V first current script held new number piece eaten so_far takes quits writes within =
     let line = next_line W first script current held new number piece eaten so_far takes in
     let lines = read_lines _ _ _ line.read within ∙ line.answered in
-    let replies = replies_quit so_far.silent number first current (map without_returns so_far.lines) (without_returns new.bytes) so_far.out so_far.below so_far.replies quits in
+    let replies = replies_quit so_far.silent number first.session current.session (map without_returns so_far.lines) (without_returns new.bytes) so_far.out so_far.below so_far.replies quits in
     record {
       silent = so_far.silent;
       out = so_far.out;
       ends = quitted so_far.out (rw lines replies) refl;
-      fails = λ _. cut_here first _ so_far.silent so_far.out at_quit (rw lines replies);
+      fails = λ _. cut_here first.session _ so_far.silent so_far.out at_quit (rw lines replies);
+      counts = counts_front so_far.silent _ _ _ _ _ lines so_far.counts;
       written = writes so_far.out so_far.written;
     }
 
 -- a line whose reply failed
-pub takes_failed : (W V : List ℕ → Type 0) (first current after : PlainSession) (script : List ℕ) (held new : HeldLine) (number : ℕ) (piece text : List ℕ) (eaten : ℕ) →
+pub takes_failed : (W V : List ℕ → Type 0) (first current after : CountedSession) (script : List ℕ) (held new : HeldLine) (number : ℕ) (piece text : List ℕ) (eaten : ℕ) →
     Conversed W first script current held number → (takes : TakesLine held piece eaten new) → IsReplyText current (without_returns new.bytes) after text →
     ((out : List ℕ) → W out → V (out ++ text)) → length (script ++ (takes.front ++ FEED ∷ [])) ≤ MAX_SCRIPT_BYTES →
-    EndedWith first (script ++ (takes.front ++ FEED ∷ [])) false output_fault V
+    EndedWith first after.checked (script ++ (takes.front ++ FEED ∷ [])) false output_fault V
 takes_failed W V first current after script held new number piece text eaten so_far takes by writes within =
     cut_off V first _ after nothing_held (suc number) (takes_line W V first current after script held new number piece text eaten so_far takes by writes) within
 
 -- a line that is too long
-pub takes_long : (W : List ℕ → Type 0) (first current : PlainSession) (script : List ℕ) (held new : HeldLine) (number : ℕ) (piece : List ℕ) →
+pub takes_long : (W : List ℕ → Type 0) (first current : CountedSession) (script : List ℕ) (held new : HeldLine) (number : ℕ) (piece : List ℕ) →
     Conversed W first script current held number → (long : IsTooLong held piece new) → length (script ++ long.front) ≤ MAX_SCRIPT_BYTES →
-    EndedWith first (script ++ long.front) false (λ out. limited out (codes "limit line " ++ decimal number)) W
+    EndedWith first current.checked (script ++ long.front) false (λ out. limited out (codes "limit line " ++ decimal number)) W
 takes_long W first current script held new number piece so_far long within =
     let beyond = rw (begun_is held so_far.goes_on) at long.beyond in
     let read : IsReadAs (script ++ long.front) so_far.lines (held.bytes ++ long.front) = record {
@@ -188,52 +196,56 @@ takes_long W first current script held new number piece so_far long within =
     record {
       silent = so_far.silent;
       out = so_far.out;
-      ends = past_line so_far.out number current (read_long_line _ _ _ read beyond (omega (arith, within))) (rw lines so_far.replies) refl;
-      fails = λ _. cut_here first _ so_far.silent so_far.out (at_line number current) (rw lines so_far.replies);
+      ends = past_line so_far.out number current.session (read_long_line _ _ _ read beyond (omega (arith, within))) (rw lines so_far.replies) refl;
+      fails = λ _. cut_here first.session _ so_far.silent so_far.out (at_line number current.session) (rw lines so_far.replies);
+      counts = counts_all so_far.silent _ _ _ _ lines so_far.counts;
       written = so_far.written;
     }
 
 -- the byte past the limit on the script
-pub takes_past_line : (W : List ℕ → Type 0) (first current : PlainSession) (script : List ℕ) (held : HeldLine) (number b : ℕ) →
+pub takes_past_line : (W : List ℕ → Type 0) (first current : CountedSession) (script : List ℕ) (held : HeldLine) (number b : ℕ) →
     Conversed W first script current held number → length script ≡ MAX_SCRIPT_BYTES → b ≢ FEED → length held.bytes ≡ MAX_LINE_BYTES →
-    EndedWith first (script ++ b ∷ []) false (λ out. limited out (codes "limit line " ++ decimal number)) W
+    EndedWith first current.checked (script ++ b ∷ []) false (λ out. limited out (codes "limit line " ++ decimal number)) W
 takes_past_line W first current script held number b so_far full other no_room =
     let read = read_of W first script current held number so_far in
     let lines = past_lines script b so_far.lines held.bytes read full in
     record {
       silent = so_far.silent;
       out = so_far.out;
-      ends = past_line so_far.out number current (past_long script b so_far.lines held.bytes read full other no_room) (rw lines so_far.replies) refl;
-      fails = λ _. cut_here first _ so_far.silent so_far.out (at_line number current) (rw lines so_far.replies);
+      ends = past_line so_far.out number current.session (past_long script b so_far.lines held.bytes read full other no_room) (rw lines so_far.replies) refl;
+      fails = λ _. cut_here first.session _ so_far.silent so_far.out (at_line number current.session) (rw lines so_far.replies);
+      counts = counts_all so_far.silent _ _ _ _ lines so_far.counts;
       written = so_far.written;
     }
 
-pub takes_past_script : (W : List ℕ → Type 0) (first current : PlainSession) (script : List ℕ) (held : HeldLine) (number b : ℕ) →
+pub takes_past_script : (W : List ℕ → Type 0) (first current : CountedSession) (script : List ℕ) (held : HeldLine) (number b : ℕ) →
     Conversed W first script current held number → length script ≡ MAX_SCRIPT_BYTES → (b ≡ FEED) ⊎ (length held.bytes < MAX_LINE_BYTES) →
-    EndedWith first (script ++ b ∷ []) false (λ out. limited out (codes "limit script")) W
+    EndedWith first current.checked (script ++ b ∷ []) false (λ out. limited out (codes "limit script")) W
 takes_past_script W first current script held number b so_far full room =
     let read = read_of W first script current held number so_far in
     let lines = past_lines script b so_far.lines held.bytes read full in
     record {
       silent = so_far.silent;
       out = so_far.out;
-      ends = past_script so_far.out number current (past_short script b so_far.lines held.bytes read full so_far.is_begun.1 room)
+      ends = past_script so_far.out number current.session (past_short script b so_far.lines held.bytes read full so_far.is_begun.1 room)
           (omega (arith, full, length-append script (b ∷ []))) (rw lines so_far.replies) refl;
-      fails = λ _. cut_here first _ so_far.silent so_far.out (at_line number current) (rw lines so_far.replies);
+      fails = λ _. cut_here first.session _ so_far.silent so_far.out (at_line number current.session) (rw lines so_far.replies);
+      counts = counts_all so_far.silent _ _ _ _ lines so_far.counts;
       written = so_far.written;
     }
 
 -- the input failed
-pub fails : (W : List ℕ → Type 0) (first current : PlainSession) (script : List ℕ) (held : HeldLine) (number : ℕ) →
-    Conversed W first script current held number → length script ≤ MAX_SCRIPT_BYTES → EndedWith first script false input_fault W
+pub fails : (W : List ℕ → Type 0) (first current : CountedSession) (script : List ℕ) (held : HeldLine) (number : ℕ) →
+    Conversed W first script current held number → length script ≤ MAX_SCRIPT_BYTES → EndedWith first current.checked script false input_fault W
 fails W first current script held number so_far within =
     let read = read_of W first script current held number so_far in
     let lines = read_lines script so_far.lines held.bytes read within in
     record {
       silent = so_far.silent;
       out = so_far.out;
-      ends = input_failed so_far.out number current (read_within script so_far.lines held.bytes read so_far.is_begun.1 within) (rw lines so_far.replies) refl;
-      fails = λ _. cut_here first _ so_far.silent so_far.out (at_line number current) (rw lines so_far.replies);
+      ends = input_failed so_far.out number current.session (read_within script so_far.lines held.bytes read so_far.is_begun.1 within) (rw lines so_far.replies) refl;
+      fails = λ _. cut_here first.session _ so_far.silent so_far.out (at_line number current.session) (rw lines so_far.replies);
+      counts = counts_all so_far.silent _ _ _ _ lines so_far.counts;
       written = so_far.written;
     }
 
@@ -241,13 +253,16 @@ pub output_is_no_input : (out o : List ℕ) → output_fault out ≡ input_fault
 output_is_no_input out o is = cc
 
 -- bytes behind change nothing
-pub ended_on : (first : PlainSession) (script more : List ℕ) (ending : List ℕ → RunEnding) (AreWritten : List ℕ → Type 0) →
-    ((out o : List ℕ) → ending out ≡ input_fault o → ⊥) → EndedWith first script false ending AreWritten → EndedWith first (script ++ more) false ending AreWritten
-ended_on first script more ending AreWritten no_fault so = record {
+pub ended_on : (first : CountedSession) (now : ℕ) (script more : List ℕ) (ending : List ℕ → RunEnding) (AreWritten : List ℕ → Type 0) →
+    ((out o : List ℕ) → ending out ≡ input_fault o → ⊥) → EndedWith first now script false ending AreWritten → EndedWith first now (script ++ more) false ending AreWritten
+ended_on first now script more ending AreWritten no_fault so = record {
   silent = so.silent;
   out = so.out;
-  ends = more_changes_nothing first script more so.silent (ending so.out) (no_fault so.out) so.ends;
-  fails = λ is. more_changes_nothing first script more so.silent (output_fault so.out) (output_is_no_input so.out) (so.fails is);
+  ends = more_changes_nothing first.session script more so.silent (ending so.out) (no_fault so.out) so.ends;
+  fails = λ is. more_changes_nothing first.session script more so.silent (output_fault so.out) (output_is_no_input so.out) (so.fails is);
+  counts =
+      let on = lines_on script more in
+      counts_front so.silent _ so.counts.first (so.counts.behind ++ on.0) _ _ (on.1 ∙ ap (λ (l : List (List ℕ)). l ++ on.0) so.counts.is_cut ∙ append_assoc so.counts.first so.counts.behind on.0) so.counts.counts;
   written = so.written;
 }
 
@@ -261,7 +276,7 @@ true_is_no_false : true ≡ false → ⊥
 true_is_no_false is = cc
 
 -- the last line, which no LF ends
-last_line : (W : List ℕ → Type 0) (first : PlainSession) (script : List ℕ) (current : PlainSession) (held : HeldLine) (number : ℕ) →
+last_line : (W : List ℕ → Type 0) (first : CountedSession) (script : List ℕ) (current : CountedSession) (held : HeldLine) (number : ℕ) →
     (so_far : Conversed W first script current held number) → 0 < length held.bytes → lines_of script ≡ map without_returns so_far.lines ++ without_returns held.bytes ∷ []
 last_line W first script current held number so_far some =
     read_all script so_far.lines held.bytes (read_of W first script current held number so_far)
@@ -271,44 +286,47 @@ last_line W first script current held number so_far some =
     one [] some free = absurd (omega arith)
     one (b ∷ bs) some free = raw_lines_of-part b bs free
 
-pub ends_with_all : (W : List ℕ → Type 0) (first current : PlainSession) (script : List ℕ) (held : HeldLine) (number : ℕ) →
-    Conversed W first script current held number → length script ≤ MAX_SCRIPT_BYTES → held.bytes ≡ [] → EndedWith first script true all_told W
+pub ends_with_all : (W : List ℕ → Type 0) (first current : CountedSession) (script : List ℕ) (held : HeldLine) (number : ℕ) →
+    Conversed W first script current held number → length script ≤ MAX_SCRIPT_BYTES → held.bytes ≡ [] → EndedWith first current.checked script true all_told W
 ends_with_all W first current script held number so_far within none =
     let read = read_of W first script current held number so_far in
     let lines = read_all script so_far.lines held.bytes read ∙ ap (λ (h : List ℕ). map without_returns so_far.lines ++ lines_of h) none ∙ append-nil (map without_returns so_far.lines) in
     record {
       silent = so_far.silent;
       out = so_far.out;
-      ends = finished so_far.out (at_line number current) refl (read_within script so_far.lines held.bytes read so_far.is_begun.1 within) (rw lines so_far.replies) refl;
+      ends = finished so_far.out (at_line number current.session) refl (read_within script so_far.lines held.bytes read so_far.is_begun.1 within) (rw lines so_far.replies) refl;
       fails = λ is. absurd (true_is_no_false is);
+      counts = counts_all so_far.silent _ _ _ _ lines so_far.counts;
       written = so_far.written;
     }
 
-pub ends_with_last : (W V : List ℕ → Type 0) (first current after : PlainSession) (script : List ℕ) (held : HeldLine) (number : ℕ) (text : List ℕ) →
+pub ends_with_last : (W V : List ℕ → Type 0) (first current after : CountedSession) (script : List ℕ) (held : HeldLine) (number : ℕ) (text : List ℕ) →
     Conversed W first script current held number → length script ≤ MAX_SCRIPT_BYTES → 0 < length held.bytes → IsReplyText current (without_returns held.bytes) after text →
-    ((out : List ℕ) → W out → V (out ++ text)) → EndedWith first script true all_told V
+    ((out : List ℕ) → W out → V (out ++ text)) → EndedWith first after.checked script true all_told V
 ends_with_last W V first current after script held number text so_far within some by writes =
     let read = read_of W first script current held number so_far in
-    let more = replies_more so_far.silent number first current (map without_returns so_far.lines) (without_returns held.bytes) so_far.out text after so_far.below so_far.replies by in
+    let more = replies_more so_far.silent number first current (map without_returns so_far.lines) (without_returns held.bytes) so_far.out text after so_far.below so_far.replies so_far.counts by in
     record {
       silent = more.silent;
       out = so_far.out ++ text;
-      ends = finished (so_far.out ++ text) (at_line (suc number) after) refl (read_within script so_far.lines held.bytes read so_far.is_begun.1 within)
+      ends = finished (so_far.out ++ text) (at_line (suc number) after.session) refl (read_within script so_far.lines held.bytes read so_far.is_begun.1 within)
           (rw (last_line W first script current held number so_far some) more.replies) refl;
       fails = λ is. absurd (true_is_no_false is);
+      counts = counts_all more.silent _ _ _ _ (last_line W first script current held number so_far some) more.counts;
       written = writes so_far.out so_far.written;
     }
 
-pub ends_with_quit : (W V : List ℕ → Type 0) (first current : PlainSession) (script : List ℕ) (held : HeldLine) (number : ℕ) →
+pub ends_with_quit : (W V : List ℕ → Type 0) (first current : CountedSession) (script : List ℕ) (held : HeldLine) (number : ℕ) →
     Conversed W first script current held number → length script ≤ MAX_SCRIPT_BYTES → 0 < length held.bytes → SpellsCommand (without_returns held.bytes) Quit →
-    ((out : List ℕ) → W out → V out) → EndedWith first script true all_told V
+    ((out : List ℕ) → W out → V out) → EndedWith first current.checked script true all_told V
 ends_with_quit W V first current script held number so_far within some quits writes =
     let read = read_of W first script current held number so_far in
     record {
       silent = so_far.silent;
       out = so_far.out;
       ends = finished so_far.out at_quit refl (read_within script so_far.lines held.bytes read so_far.is_begun.1 within)
-          (rw (last_line W first script current held number so_far some) (replies_quit so_far.silent number first current (map without_returns so_far.lines) (without_returns held.bytes) so_far.out so_far.below so_far.replies quits)) refl;
+          (rw (last_line W first script current held number so_far some) (replies_quit so_far.silent number first.session current.session (map without_returns so_far.lines) (without_returns held.bytes) so_far.out so_far.below so_far.replies quits)) refl;
       fails = λ is. absurd (true_is_no_false is);
+      counts = counts_front so_far.silent _ _ _ _ _ (last_line W first script current held number so_far some) so_far.counts;
       written = writes so_far.out so_far.written;
     }

@@ -1,107 +1,71 @@
--- How many lists were checked, and how many lines there are.
-use Rattle.std.proofs.Common.{◌≡◌, ◌∙◌, ◌≤◌, ◌<◌, ◌+◌, ◌*◌, ℕ, suc, Bool, true, false, ◌==◌, if◌then◌else◌, List, [], ◌∷◌, ◌++◌, map, length, take, drop, refl, ap, arith}
-use Rattle.std.proofs.lemmas.List.{length-append, length-map, take-append-drop}
-use Rattle.pv_script.proofs.RawLines.{ended_raw_lines-line}
-use Rattle.pv_script.specs.Lines.{FEED, ended_lines, ended_raw_lines, lines_of, raw_lines_of, with_byte_in_first, with_first_byte, without_returns}
-use Rattle.pv_script.specs.Taking.{HeldLine, TakesLine}
-use Rattle.pv_conversation.proofs.Limits.{IsReadAs, read_all, read_ended}
+-- What the lines of a session count.
+use Rattle.std.proofs.Common.{◌≡◌, ◌∙◌, ◌≤◌, ◌+◌, ℕ, suc, Bool, true, false, List, [], ◌∷◌, ◌++◌, length, refl, sym, subst, arith}
+use Rattle.std.proofs.lemmas.Grind.{common_steps}
+use Rattle.std.proofs.lemmas.List.{append-nil}
+use Rattle.pv_script.specs.declared.commands.Command.{Command}
+use Rattle.pv_script.specs.declared.commands.Command.TheVariants.{Edit, Undo, Redo, History, Show, Verdicts, Need, Complete, Offer, Quit}
+use Rattle.pv_script.specs.declared.replies.Reply.{Reply}
+use Rattle.pv_session.specs.Sessions.{PlainSession}
+use Rattle.pv_conversation.specs.Counting.{CountsFirst, CountsOneLine, CountsLines, GoesBehind, is_quit, no_command, no_quit, was_silent}
+use Rattle.pv_conversation.specs.Session.{Place, Replies, RepliesBy, RepliesTo, answered, at_line, ended, is_among, known, no_lines, unknown, without_memory}
 
--- how many LF bytes there are, as many as lines that they end
-abbrev feeds_in : List ℕ → ℕ
-feeds_in [] = 0
-feeds_in (b ∷ bs) = if b == FEED then suc (feeds_in bs) else feeds_in bs
+-- the number behind the lines
+pub number_behind : (silent : List ℕ) (number next : ℕ) (session middle : PlainSession) (lines : List (List ℕ)) (out : List ℕ) (here : Place) → here ≡ at_line next middle →
+    Replies silent number session lines out here → next ≡ number + length lines
+number_behind silent number next session middle [] out here at (no_lines none is) = let same : number ≡ next = cc in omega (arith, same)
+number_behind silent number next session middle (line ∷ lines) out here at (without_memory {rest = below} is by whole) =
+    let size : length (line ∷ lines) ≡ suc (length lines) = refl in
+    omega (arith, size, number_behind silent (suc number) next session middle lines below here at by)
+number_behind silent number next session middle (line ∷ lines) out here at (answered {after = after} {rest = below} is to by whole) =
+    let size : length (line ∷ lines) ≡ suc (length lines) = refl in
+    omega (arith, size, number_behind silent (suc number) next after middle lines below here at by)
+number_behind silent number next session middle (line ∷ lines) out here at (ended is quits none ends) = cc
 
-in_first : (b : ℕ) (pieces : List (List ℕ)) → length (with_byte_in_first b pieces) ≡ length pieces
-in_first b [] = refl
-in_first b (p ∷ ps) = refl
+-- one more line that there was no memory for
+more_among : (number other : ℕ) (silent : List ℕ) → is_among number silent ≡ true → is_among number (other ∷ silent) ≡ true
+more_among number other silent is = grind (arith, common_steps)
 
-ended_feeds : (bytes : List ℕ) → length (ended_raw_lines bytes) ≡ feeds_in bytes
-ended_feeds [] = refl
-ended_feeds (b ∷ bs) = by (b == FEED) (ended_feeds bs)
-  where
-    by : (is : Bool) → length (ended_raw_lines bs) ≡ feeds_in bs → length (if is then [] ∷ ended_raw_lines bs else with_byte_in_first b (ended_raw_lines bs)) ≡ (if is then suc (feeds_in bs) else feeds_in bs)
-    by true below = ap suc below
-    by false below = in_first b (ended_raw_lines bs) ∙ below
+behind_more : (number other : ℕ) (silent line : List ℕ) → GoesBehind (is_among number silent) line → GoesBehind (is_among number (other ∷ silent)) line
+behind_more number other silent line (was_silent is) = was_silent (more_among number other silent is)
+behind_more number other silent line (no_command none) = no_command none
+behind_more number other silent line (no_quit c spells is) = no_quit c spells is
 
-ended_count : (bytes : List ℕ) → length (ended_lines bytes) ≡ feeds_in bytes
-ended_count bytes = length-map (ended_raw_lines bytes) without_returns ∙ ended_feeds bytes
+pub counts_silent : (other : ℕ) (silent : List ℕ) (number : ℕ) (lines : List (List ℕ)) (before after : ℕ) → CountsLines silent number lines before after → CountsLines (other ∷ silent) number lines before after
+counts_silent other silent number [] before after same = same
+counts_silent other silent number (line ∷ lines) before after (middle, behind, here, rest) =
+    (middle, behind_more number other silent line behind, here, counts_silent other silent (suc number) lines middle after rest)
 
-feeds_both : (bytes more : List ℕ) → feeds_in (bytes ++ more) ≡ feeds_in bytes + feeds_in more
-feeds_both [] more = omega arith
-feeds_both (b ∷ bs) more = by (b == FEED) (feeds_both bs more)
-  where
-    by : (is : Bool) → feeds_in (bs ++ more) ≡ feeds_in bs + feeds_in more →
-        (if is then suc (feeds_in (bs ++ more)) else feeds_in (bs ++ more)) ≡ (if is then suc (feeds_in bs) else feeds_in bs) + feeds_in more
-    by true below = omega (arith, below)
-    by false below = below
+-- lines, and the next
+pub counts_then : (silent : List ℕ) (number next : ℕ) (lines : List (List ℕ)) (line : List ℕ) (before middle after : ℕ) → next ≡ number + length lines → CountsLines silent number lines before middle →
+    GoesBehind (is_among next silent) line → CountsOneLine line middle after → CountsLines silent number (lines ++ line ∷ []) before after
+counts_then silent number next [] line before middle after is same behind here =
+    let first : next ≡ number = omega (arith, is) in
+    (after, subst (λ (n : ℕ). GoesBehind (is_among n silent) line) first behind, subst (λ (n : ℕ). CountsOneLine line n after) same here, refl)
+counts_then silent number next (l ∷ ls) line before middle after is (between, goes, one, rest) behind here =
+    let size : length (l ∷ ls) ≡ suc (length ls) = refl in
+    let later : next ≡ suc number + length ls = omega (arith, is, size) in
+    (between, goes, one, counts_then silent (suc number) next ls line between middle after later rest behind here)
 
--- the lines that LF bytes end in two pieces, and in a front of one
-pub ended_both : (bytes more : List ℕ) → length (ended_lines (bytes ++ more)) ≡ length (ended_lines bytes) + length (ended_lines more)
-ended_both bytes more = omega (arith, ended_count (bytes ++ more), ended_count bytes, ended_count more, feeds_both bytes more)
+-- a line that has a reply doesn't end the session
+not_quit : (before : PlainSession) (c : Command) (told : Reply) (after : PlainSession) → RepliesBy before c told after → is_quit c ≡ false
+not_quit before (Edit e) told after by = refl
+not_quit before Undo told after by = refl
+not_quit before Redo told after by = refl
+not_quit before History told after by = refl
+not_quit before Show told after by = refl
+not_quit before Verdicts told after by = refl
+not_quit before Need told after by = refl
+not_quit before Complete told after by = refl
+not_quit before (Offer ask) told after by = refl
+not_quit before Quit told after by = absurd by
 
-pub ended_front : (n : ℕ) (bytes : List ℕ) → length (ended_lines (take n bytes)) ≤ length (ended_lines bytes)
-ended_front n bytes =
-    let whole = ap (λ (h : List ℕ). length (ended_lines h)) (take-append-drop n bytes) in
-    omega (arith, whole, ended_both (take n bytes) (drop n bytes))
+pub replied_goes : (before after : PlainSession) (line : List ℕ) (told : Reply) (silent : Bool) → RepliesTo before line told after → GoesBehind silent line
+replied_goes before after line told silent (unknown none is stays) = no_command none
+replied_goes before after line told silent (known c spells by) = no_quit c spells (not_quit before c told after by)
 
--- a line that was taken is one of those
-pub ended_line : (kept new : HeldLine) (rest : List ℕ) (eaten : ℕ) → (takes : TakesLine kept rest eaten new) →
-    length (ended_lines rest) ≡ suc (length (ended_lines takes.rest))
-ended_line kept new rest eaten takes =
-    ap (λ (h : List ℕ). length (ended_lines h)) takes.is_cut ∙ ap (λ (ps : List (List ℕ)). length (map without_returns ps)) (ended_raw_lines-line takes.front takes.rest takes.no_feed)
+-- lines that were all answered, and more behind them
+pub counts_all : (silent : List ℕ) (all lines : List (List ℕ)) (before after : ℕ) → all ≡ lines → CountsLines silent 1 lines before after → CountsFirst silent all before after
+counts_all silent all lines before after is counts = record { first = lines; behind = []; is_cut = is ∙ sym (append-nil lines); counts = counts }
 
-pub few_left : (kept new : HeldLine) (rest : List ℕ) (eaten : ℕ) → (takes : TakesLine kept rest eaten new) → (behind : List ℕ) (middle last bound : ℕ) →
-    middle + 2 * length (ended_lines rest) ≤ bound → last ≤ middle + 2 → behind ≡ takes.rest → last + 2 * length (ended_lines behind) ≤ bound
-few_left kept new rest eaten takes behind middle last bound few line is =
-    let same = ap (λ (h : List ℕ). length (ended_lines h)) is in
-    omega (arith, few, line, same, ended_line kept new rest eaten takes)
-
--- and those are among all lines
-first_no_less : (b : ℕ) (pieces : List (List ℕ)) → length pieces ≤ length (with_first_byte b pieces)
-first_no_less b [] = omega arith
-first_no_less b (p ∷ ps) = omega arith
-
-feeds_within : (bytes : List ℕ) → feeds_in bytes ≤ length (raw_lines_of bytes)
-feeds_within [] = omega arith
-feeds_within (b ∷ bs) = by (b == FEED) (feeds_within bs)
-  where
-    by : (is : Bool) → feeds_in bs ≤ length (raw_lines_of bs) → (if is then suc (feeds_in bs) else feeds_in bs) ≤ length (if is then [] ∷ raw_lines_of bs else with_first_byte b (raw_lines_of bs))
-    by true below = omega (arith, below)
-    by false below = omega (arith, below, first_no_less b (raw_lines_of bs))
-
-ended_within : (bytes : List ℕ) → length (ended_lines bytes) ≤ length (lines_of bytes)
-ended_within bytes = omega (arith, ended_count bytes, length-map (raw_lines_of bytes) without_returns, feeds_within bytes)
-
--- bytes have a line
-first_some : (b : ℕ) (pieces : List (List ℕ)) → 1 ≤ length (with_first_byte b pieces)
-first_some b [] = omega arith
-first_some b (p ∷ ps) = omega arith
-
-pub some_line : (bytes : List ℕ) → 0 < length bytes → 1 ≤ length (lines_of bytes)
-some_line [] some = omega (arith, some)
-some_line (b ∷ bs) some = let size = length-map (raw_lines_of (b ∷ bs)) without_returns in omega (arith, size, by (b == FEED))
-  where
-    by : (is : Bool) → 1 ≤ length (if is then [] ∷ raw_lines_of bs else with_first_byte b (raw_lines_of bs))
-    by true = omega arith
-    by false = first_some b (raw_lines_of bs)
-
--- the lines that LF bytes end, and the last
-pub ended_and_last : (script : List ℕ) (lines : List (List ℕ)) (part : List ℕ) → IsReadAs script lines part →
-    length (lines_of script) ≡ length (ended_lines script) + length (lines_of part)
-ended_and_last script lines part read =
-    let all = ap length (read_all script lines part read) ∙ length-append (map without_returns lines) (lines_of part) in
-    let ended = ap (λ (ps : List (List ℕ)). length (map without_returns ps)) (read_ended script lines part read) in
-    omega (arith, all, ended)
-
--- one more piece
-pub checked_piece : (script piece : List ℕ) (first middle last : ℕ) → middle ≤ first + 2 * length (ended_lines script) → last ≤ middle + 2 * length (ended_lines piece) →
-    last ≤ first + 2 * length (ended_lines (script ++ piece))
-checked_piece script piece first middle last before then_ = omega (arith, before, then_, ended_both script piece)
-
--- at most two lists for each line
-pub few_lines : (script : List ℕ) (before after : ℕ) → after ≤ before + 2 * length (ended_lines script) → after ≤ before + 2 * length (lines_of script)
-few_lines script before after few = let more = ended_within script in omega (arith, few, more)
-
-pub few_behind : (script : List ℕ) (lines : List (List ℕ)) (part : List ℕ) (before middle after : ℕ) → IsReadAs script lines part →
-    middle ≤ before + 2 * length (ended_lines script) → after ≤ middle + 2 * length (lines_of part) → after ≤ before + 2 * length (lines_of script)
-few_behind script lines part before middle after read few last = omega (arith, few, last, ended_and_last script lines part read)
+pub counts_front : (silent : List ℕ) (all lines more : List (List ℕ)) (before after : ℕ) → all ≡ lines ++ more → CountsLines silent 1 lines before after → CountsFirst silent all before after
+counts_front silent all lines more before after is counts = record { first = lines; behind = more; is_cut = is; counts = counts }

@@ -13,6 +13,7 @@ pub mod Counting
 pub mod Holding
 pub mod KeptOffers
 pub mod Limits
+pub mod Moves
 pub mod OneNeed
 pub mod OneOffer
 pub mod OpenedSessions

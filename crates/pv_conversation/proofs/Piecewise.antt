@@ -4,16 +4,16 @@ use Rattle.std.proofs.lemmas.List.{append-nil, length-append, length-take, take-
 use Rattle.std.specs.Io.KnownBytes.{Appends, Consumes}
 use Rattle.pv_io.specs.Causes.{AppendsFront, Asked, CountStays}
 use Rattle.pv_script.specs.Commands.{SpellsCommand}
-use Rattle.pv_script.specs.Lines.{FEED, ended_lines, without_returns}
+use Rattle.pv_script.specs.Lines.{FEED, without_returns}
 use Rattle.pv_script.specs.Taking.{HeldLine, MAX_LINE_BYTES, nothing_held, TakesWhole, TakesLine, IsTooLong}
 use Rattle.pv_script.specs.declared.commands.Command.TheVariants.{Quit}
-use Rattle.pv_session.specs.Sessions.{PlainSession}
 use Rattle.pv_conversation.specs.declared.talk.Next.{Next}
 use Rattle.pv_conversation.specs.declared.talk.Next.TheVariants.{More as more_asked, Quit as quit, LineLimit as line_limit, ScriptLimit as script_limit}
 use Rattle.pv_conversation.specs.declared.talk.Reading.{Reading}
 use Rattle.pv_conversation.specs.Conversation.{AnswersLine, ComesNext, Conversed, EndedWith, IsWithinScript, IsBeyond, IsNext, IsReplyText, RepliesWith}
 use Rattle.pv_stages.specs.Course.{RunEnding, output_fault}
 use Rattle.pv_stages.specs.Showing.{AskedAtMost}
+use Rattle.pv_conversation.specs.Counting.{CountedSession}
 use Rattle.pv_conversation.specs.ReplyBuffer.{HoldsReplies}
 use Rattle.pv_conversation.specs.Script.{MAX_SCRIPT_BYTES}
 use Rattle.pv_conversation.specs.Session.{all_told, limited}
@@ -22,13 +22,13 @@ use Rattle.pv_conversation.proofs.Holding.{holds_failed, holds_more, holds_none}
 use Rattle.pv_conversation.proofs.Replies.{front_behind}
 
 -- the first bytes of a piece were answered, their replies written or held, and these bytes are left
-pub record GoesTo (before now : Option (List ℕ)) (replies : List ℕ) (session current : PlainSession) (held new : HeldLine) (number next : ℕ) (piece rest : List ℕ) : Type 0 where
+pub record GoesTo (before now : Option (List ℕ)) (replies : List ℕ) (session current : CountedSession) (held new : HeldLine) (number next : ℕ) (piece rest : List ℕ) : Type 0 where
   pub eaten : List ℕ
   pub is_cut : piece ≡ eaten ++ rest
-  pub goes : (old : Option (List ℕ)) (script : List ℕ) (first : PlainSession) → Conversed (Appends old before) first script session held number →
+  pub goes : (old : Option (List ℕ)) (script : List ℕ) (first : CountedSession) → Conversed (Appends old before) first script session held number →
       Conversed (HoldsReplies old now replies) first (script ++ eaten) current new next
 
-pub goes_first : (before : Option (List ℕ)) (replies : List ℕ) (session : PlainSession) (held : HeldLine) (number : ℕ) (piece : List ℕ) → replies ≡ [] →
+pub goes_first : (before : Option (List ℕ)) (replies : List ℕ) (session : CountedSession) (held : HeldLine) (number : ℕ) (piece : List ℕ) → replies ≡ [] →
     GoesTo before before replies session session held held number number piece piece
 goes_first before replies session held number piece none = record {
   eaten = [];
@@ -47,9 +47,9 @@ all_bytes : (script piece eaten rest : List ℕ) → piece ≡ eaten ++ rest →
 all_bytes script piece eaten rest is = ap (λ (h : List ℕ). script ++ h) is ∙ sym (append_assoc script eaten rest)
 
 -- what is left has no LF
-pub goes_all : (before now : Option (List ℕ)) (replies : List ℕ) (session current : PlainSession) (held kept new : HeldLine) (number next : ℕ) (piece rest : List ℕ) →
+pub goes_all : (before now : Option (List ℕ)) (replies : List ℕ) (session current : CountedSession) (held kept new : HeldLine) (number next : ℕ) (piece rest : List ℕ) →
     GoesTo before now replies session current held kept number next piece rest → TakesWhole kept rest new →
-    (old : Option (List ℕ)) (script : List ℕ) (first : PlainSession) → Conversed (Appends old before) first script session held number →
+    (old : Option (List ℕ)) (script : List ℕ) (first : CountedSession) → Conversed (Appends old before) first script session held number →
     Conversed (HoldsReplies old now replies) first (script ++ piece) current new next
 goes_all before now replies session current held kept new number next piece rest so takes old script first so_far =
     rw (all_bytes script piece so.eaten rest so.is_cut)
@@ -59,7 +59,7 @@ rest_of_line : (rest front behind : List ℕ) → rest ≡ front ++ FEED ∷ beh
 rest_of_line rest front behind is = is ∙ sym (append_assoc front (FEED ∷ []) behind)
 
 -- a line of what is left was answered
-pub goes_line : (before mid now : Option (List ℕ)) (replies still : List ℕ) (session current after : PlainSession) (held kept new : HeldLine) (number next eaten : ℕ) (piece rest behind text : List ℕ) →
+pub goes_line : (before mid now : Option (List ℕ)) (replies still : List ℕ) (session current after : CountedSession) (held kept new : HeldLine) (number next eaten : ℕ) (piece rest behind text : List ℕ) →
     GoesTo before mid replies session current held kept number next piece rest → (takes : TakesLine kept rest eaten new) → behind ≡ takes.rest → IsReplyText current (without_returns new.bytes) after text →
     HoldsReplies mid now still (replies ++ text) → GoesTo before now still session after held nothing_held number (next + 1) piece behind
 goes_line before mid now replies still session current after held kept new number next eaten piece rest behind text so takes is by more =
@@ -86,40 +86,40 @@ fits_front script piece eaten rest front behind is cut within =
     omega (arith, size, fits script piece eaten rest is within, length-append (script ++ eaten) front)
 
 -- a line of what is left ended the session
-pub goes_quit : (before mid now : Option (List ℕ)) (replies still : List ℕ) (session current : PlainSession) (held kept new : HeldLine) (number next eaten : ℕ) (piece rest : List ℕ) →
-    GoesTo before mid replies session current held kept number next piece rest → TakesLine kept rest eaten new → SpellsCommand (without_returns new.bytes) Quit → HoldsReplies mid now still (replies ++ []) →
-    (old : Option (List ℕ)) (script : List ℕ) (first : PlainSession) → length script + length piece ≤ MAX_SCRIPT_BYTES → Conversed (Appends old before) first script session held number →
-    EndedWith first (script ++ piece) false all_told (HoldsReplies old now still)
-goes_quit before mid now replies still session current held kept new number next eaten piece rest so takes quits more old script first within so_far =
+pub goes_quit : (before mid now : Option (List ℕ)) (replies still : List ℕ) (session current : CountedSession) (checked : ℕ) (held kept new : HeldLine) (number next eaten : ℕ) (piece rest : List ℕ) →
+    GoesTo before mid replies session current held kept number next piece rest → TakesLine kept rest eaten new → SpellsCommand (without_returns new.bytes) Quit → checked ≡ current.checked → HoldsReplies mid now still (replies ++ []) →
+    (old : Option (List ℕ)) (script : List ℕ) (first : CountedSession) → length script + length piece ≤ MAX_SCRIPT_BYTES → Conversed (Appends old before) first script session held number →
+    EndedWith first checked (script ++ piece) false all_told (HoldsReplies old now still)
+goes_quit before mid now replies still session current checked held kept new number next eaten piece rest so takes quits same more old script first within so_far =
     let line = takes.front ++ FEED ∷ [] in
     let cut = rest_of_line rest takes.front takes.rest takes.is_cut in
-    rw (up_to script piece so.eaten rest line takes.rest so.is_cut cut)
-    (ended_on first ((script ++ so.eaten) ++ line) takes.rest all_told (HoldsReplies old now still) told_is_no_fault
+    rw (up_to script piece so.eaten rest line takes.rest so.is_cut cut, same)
+    (ended_on first current.checked ((script ++ so.eaten) ++ line) takes.rest all_told (HoldsReplies old now still) told_is_no_fault
     (takes_quit (HoldsReplies old mid replies) (HoldsReplies old now still) first current (script ++ so.eaten) kept new next rest eaten (so.goes old script first so_far) takes quits
     (λ out w. subst (λ (h : List ℕ). HoldsReplies old now still h) (append-nil out) (holds_more old mid now replies still [] out w more))
     (fits_front script piece so.eaten rest line takes.rest so.is_cut cut within)))
 
 -- the output failed at a line of what is left
-pub goes_failed : (before mid now : Option (List ℕ)) (replies : List ℕ) (session current after : PlainSession) (held kept new : HeldLine) (number next eaten : ℕ) (piece rest text : List ℕ) →
+pub goes_failed : (before mid now : Option (List ℕ)) (replies : List ℕ) (session current after : CountedSession) (held kept new : HeldLine) (number next eaten : ℕ) (piece rest text : List ℕ) →
     GoesTo before mid replies session current held kept number next piece rest → TakesLine kept rest eaten new → IsReplyText current (without_returns new.bytes) after text → AppendsFront mid now (replies ++ text) →
-    (old : Option (List ℕ)) (script : List ℕ) (first : PlainSession) → length script + length piece ≤ MAX_SCRIPT_BYTES → Conversed (Appends old before) first script session held number →
-    EndedWith first (script ++ piece) false output_fault (AppendsFront old now)
+    (old : Option (List ℕ)) (script : List ℕ) (first : CountedSession) → length script + length piece ≤ MAX_SCRIPT_BYTES → Conversed (Appends old before) first script session held number →
+    EndedWith first after.checked (script ++ piece) false output_fault (AppendsFront old now)
 goes_failed before mid now replies session current after held kept new number next eaten piece rest text so takes by front old script first within so_far =
     let line = takes.front ++ FEED ∷ [] in
     let cut = rest_of_line rest takes.front takes.rest takes.is_cut in
     rw (up_to script piece so.eaten rest line takes.rest so.is_cut cut)
-    (ended_on first ((script ++ so.eaten) ++ line) takes.rest output_fault (AppendsFront old now) output_is_no_input
+    (ended_on first after.checked ((script ++ so.eaten) ++ line) takes.rest output_fault (AppendsFront old now) output_is_no_input
     (takes_failed (HoldsReplies old mid replies) (AppendsFront old now) first current after (script ++ so.eaten) kept new next rest text eaten (so.goes old script first so_far) takes by
     (λ out w. holds_failed old mid now replies text out w front) (fits_front script piece so.eaten rest line takes.rest so.is_cut cut within)))
 
 -- what is left makes the line too long
-pub goes_long : (before now : Option (List ℕ)) (replies : List ℕ) (session current : PlainSession) (held kept new : HeldLine) (number next : ℕ) (piece rest : List ℕ) →
+pub goes_long : (before now : Option (List ℕ)) (replies : List ℕ) (session current : CountedSession) (held kept new : HeldLine) (number next : ℕ) (piece rest : List ℕ) →
     GoesTo before now replies session current held kept number next piece rest → IsTooLong kept rest new →
-    (old : Option (List ℕ)) (script : List ℕ) (first : PlainSession) → length script + length piece ≤ MAX_SCRIPT_BYTES → Conversed (Appends old before) first script session held number →
-    EndedWith first (script ++ piece) false (λ out. limited out (codes "limit line " ++ decimal next)) (HoldsReplies old now replies)
+    (old : Option (List ℕ)) (script : List ℕ) (first : CountedSession) → length script + length piece ≤ MAX_SCRIPT_BYTES → Conversed (Appends old before) first script session held number →
+    EndedWith first current.checked (script ++ piece) false (λ out. limited out (codes "limit line " ++ decimal next)) (HoldsReplies old now replies)
 goes_long before now replies session current held kept new number next piece rest so long old script first within so_far =
     rw (up_to script piece so.eaten rest long.front long.rest so.is_cut long.is_cut)
-    (ended_on first ((script ++ so.eaten) ++ long.front) long.rest (λ out. limited out (codes "limit line " ++ decimal next)) (HoldsReplies old now replies)
+    (ended_on first current.checked ((script ++ so.eaten) ++ long.front) long.rest (λ out. limited out (codes "limit line " ++ decimal next)) (HoldsReplies old now replies)
     (limit_is_no_fault (codes "limit line " ++ decimal next))
     (takes_long (HoldsReplies old now replies) first current (script ++ so.eaten) kept new next rest (so.goes old script first so_far) long
     (fits_front script piece so.eaten rest long.front long.rest so.is_cut long.is_cut within)))
@@ -142,38 +142,38 @@ line_size kept new rest eaten takes =
     omega (arith, whole, takes.is_eaten)
 
 -- what didn't ask for more isn't changed by what follows
-pub goes_on_whatever : (W : List ℕ → Type 0) (first : PlainSession) (script more : List ℕ) (current : PlainSession) (reading : Reading) (next : Next) →
+pub goes_on_whatever : (W : List ℕ → Type 0) (first : CountedSession) (script more : List ℕ) (current : CountedSession) (reading : Reading) (next : Next) →
     (next ≡ more_asked → ⊥) → ComesNext W first script current reading next → ComesNext W first (script ++ more) current reading next
 goes_on_whatever W first script more current reading more_asked asks so = absurd (asks refl)
-goes_on_whatever W first script more current reading quit asks so = ended_on first script more all_told W told_is_no_fault so
+goes_on_whatever W first script more current reading quit asks so = ended_on first current.checked script more all_told W told_is_no_fault so
 goes_on_whatever W first script more current reading line_limit asks so =
-    ended_on first script more (λ out. limited out (codes "limit line " ++ decimal reading.number)) W (limit_is_no_fault (codes "limit line " ++ decimal reading.number)) so
+    ended_on first current.checked script more (λ out. limited out (codes "limit line " ++ decimal reading.number)) W (limit_is_no_fault (codes "limit line " ++ decimal reading.number)) so
 goes_on_whatever W first script more current reading script_limit asks so =
-    ended_on first script more (λ out. limited out (codes "limit script")) W (limit_is_no_fault (codes "limit script")) so
+    ended_on first current.checked script more (λ out. limited out (codes "limit script")) W (limit_is_no_fault (codes "limit script")) so
 
 -- what was written so was written otherwise, or in part
-pub goes_on_as : (W V : List ℕ → Type 0) (first : PlainSession) (script : List ℕ) (current : PlainSession) (reading : Reading) (next : Next) →
+pub goes_on_as : (W V : List ℕ → Type 0) (first : CountedSession) (script : List ℕ) (current : CountedSession) (reading : Reading) (next : Next) →
     ((out : List ℕ) → W out → V out) → ComesNext W first script current reading next → ComesNext V first script current reading next
 goes_on_as W V first script current reading more_asked writes so = written_as W V first script current reading.lines reading.number writes so
-goes_on_as W V first script current reading quit writes so = ended_as W V first script false all_told writes so
-goes_on_as W V first script current reading line_limit writes so = ended_as W V first script false (λ out. limited out (codes "limit line " ++ decimal reading.number)) writes so
-goes_on_as W V first script current reading script_limit writes so = ended_as W V first script false (λ out. limited out (codes "limit script")) writes so
+goes_on_as W V first script current reading quit writes so = ended_as W V first current.checked script false all_told writes so
+goes_on_as W V first script current reading line_limit writes so = ended_as W V first current.checked script false (λ out. limited out (codes "limit line " ++ decimal reading.number)) writes so
+goes_on_as W V first script current reading script_limit writes so = ended_as W V first current.checked script false (λ out. limited out (codes "limit script")) writes so
 
-ended_cut : (W V : List ℕ → Type 0) (first : PlainSession) (script : List ℕ) (ending : List ℕ → RunEnding) → ((out : List ℕ) → W out → V out) →
-    EndedWith first script false ending W → EndedWith first script false output_fault V
-ended_cut W V first script ending writes so = record { silent = so.silent; out = so.out; ends = so.fails refl; fails = so.fails; written = writes so.out so.written }
+ended_cut : (W V : List ℕ → Type 0) (first : CountedSession) (now : ℕ) (script : List ℕ) (ending : List ℕ → RunEnding) → ((out : List ℕ) → W out → V out) →
+    EndedWith first now script false ending W → EndedWith first now script false output_fault V
+ended_cut W V first now script ending writes so = record { silent = so.silent; out = so.out; ends = so.fails refl; fails = so.fails; counts = so.counts; written = writes so.out so.written }
 
-pub goes_on_cut : (W V : List ℕ → Type 0) (first : PlainSession) (script : List ℕ) (current : PlainSession) (reading : Reading) (next : Next) →
+pub goes_on_cut : (W V : List ℕ → Type 0) (first : CountedSession) (script : List ℕ) (current : CountedSession) (reading : Reading) (next : Next) →
     ((out : List ℕ) → W out → V out) → (next ≡ more_asked → length script ≤ MAX_SCRIPT_BYTES) → ComesNext W first script current reading next →
-    EndedWith first script false output_fault V
+    EndedWith first current.checked script false output_fault V
 goes_on_cut W V first script current reading more_asked writes within so =
     cut_off V first script current reading.lines reading.number (written_as W V first script current reading.lines reading.number writes so) (within refl)
-goes_on_cut W V first script current reading quit writes within so = ended_cut W V first script all_told writes so
-goes_on_cut W V first script current reading line_limit writes within so = ended_cut W V first script (λ out. limited out (codes "limit line " ++ decimal reading.number)) writes so
-goes_on_cut W V first script current reading script_limit writes within so = ended_cut W V first script (λ out. limited out (codes "limit script")) writes so
+goes_on_cut W V first script current reading quit writes within so = ended_cut W V first current.checked script all_told writes so
+goes_on_cut W V first script current reading line_limit writes within so = ended_cut W V first current.checked script (λ out. limited out (codes "limit line " ++ decimal reading.number)) writes so
+goes_on_cut W V first script current reading script_limit writes within so = ended_cut W V first current.checked script (λ out. limited out (codes "limit script")) writes so
 
 -- the byte behind the longest script
-at_limit : (W : List ℕ → Type 0) (first : PlainSession) (script : List ℕ) (current : PlainSession) (reading : Reading) (b : ℕ) (next : Next) →
+at_limit : (W : List ℕ → Type 0) (first : CountedSession) (script : List ℕ) (current : CountedSession) (reading : Reading) (b : ℕ) (next : Next) →
     IsNext reading.lines b next → length script ≡ MAX_SCRIPT_BYTES → Conversed W first script current reading.lines reading.number →
     ComesNext W first (script ++ b ∷ []) current reading next
 at_limit W first script current reading b more_asked is full so_far = absurd is
@@ -194,7 +194,7 @@ limit_is_no_more held b quit is same = cc
 limit_is_no_more held b line_limit is same = cc
 limit_is_no_more held b script_limit is same = cc
 
-goes_beyond : (W : List ℕ → Type 0) (first : PlainSession) (script : List ℕ) (current : PlainSession) (reading : Reading) (b : ℕ) (more : List ℕ) (next after : Next) →
+goes_beyond : (W : List ℕ → Type 0) (first : CountedSession) (script : List ℕ) (current : CountedSession) (reading : Reading) (b : ℕ) (more : List ℕ) (next after : Next) →
     IsBeyond reading.lines b next after → length script ≡ MAX_SCRIPT_BYTES → ComesNext W first script current reading next →
     ComesNext W first (script ++ b ∷ more) current reading after
 goes_beyond W first script current reading b more more_asked after is full so =
@@ -220,7 +220,7 @@ cut_piece [] n d within = absurd (omega arith)
 cut_piece (b ∷ bs) zero d within = refl
 cut_piece (b ∷ bs) (suc n) d within = ap (λ (h : List ℕ). b ∷ h) (cut_piece bs n d (omega arith))
 
-pub piece_beyond : (W : List ℕ → Type 0) (first : PlainSession) (script : List ℕ) (current : PlainSession) (reading : Reading) (piece : List ℕ) (left d : ℕ) (next after : Next) →
+pub piece_beyond : (W : List ℕ → Type 0) (first : CountedSession) (script : List ℕ) (current : CountedSession) (reading : Reading) (piece : List ℕ) (left d : ℕ) (next after : Next) →
     IsBeyond reading.lines (get_or piece left d) next after → left < length piece → length script + left ≡ MAX_SCRIPT_BYTES →
     ComesNext W first (script ++ take left piece) current reading next → ComesNext W first (script ++ piece) current reading after
 piece_beyond W first script current reading piece left d next after is within full so =
@@ -234,13 +234,13 @@ piece_beyond W first script current reading piece left d next after is within fu
     front_size : (bytes more : List ℕ) (n : ℕ) → n < length more → length bytes + n ≡ MAX_SCRIPT_BYTES → length (bytes ++ take n more) ≡ MAX_SCRIPT_BYTES
     front_size bytes more n within full = let part = length-take n more in omega (arith, within, full, part, length-append bytes (take n more))
 
-pub piece_failed : (W : List ℕ → Type 0) (first : PlainSession) (script piece : List ℕ) (left : ℕ) →
-    EndedWith first (script ++ take left piece) false output_fault W → EndedWith first (script ++ piece) false output_fault W
-piece_failed W first script piece left so =
+pub piece_failed : (W : List ℕ → Type 0) (first : CountedSession) (now : ℕ) (script piece : List ℕ) (left : ℕ) →
+    EndedWith first now (script ++ take left piece) false output_fault W → EndedWith first now (script ++ piece) false output_fault W
+piece_failed W first now script piece left so =
     let whole : (script ++ take left piece) ++ drop left piece ≡ script ++ piece =
     append_assoc script (take left piece) (drop left piece) ∙ ap (λ (h : List ℕ). script ++ h) (take-append-drop left piece) in
-    subst (λ (h : List ℕ). EndedWith first h false output_fault W) whole
-    (ended_on first (script ++ take left piece) (drop left piece) output_fault W output_is_no_input so)
+    subst (λ (h : List ℕ). EndedWith first now h false output_fault W) whole
+    (ended_on first now (script ++ take left piece) (drop left piece) output_fault W output_is_no_input so)
 
 -- a piece behind which more is asked for lies within the limit on the script
 pub fits_within : (script piece : List ℕ) (left : ℕ) (next : Next) → IsWithinScript (length piece) left next → length script + left ≡ MAX_SCRIPT_BYTES → next ≡ more_asked →
@@ -251,27 +251,28 @@ fits_within script piece left line_limit fit full is = cc
 fits_within script piece left script_limit fit full is = cc
 
 -- the reply to the last line
-pub last_answered : (old mid now : Option (List ℕ)) (still : List ℕ) (first current after : PlainSession) (script line : List ℕ) (held : HeldLine) (number : ℕ) (goes : Bool) →
+pub last_answered : (old mid now : Option (List ℕ)) (still : List ℕ) (first current after : CountedSession) (script line : List ℕ) (held : HeldLine) (number : ℕ) (goes : Bool) →
     line ≡ without_returns held.bytes → AnswersLine current line after (λ text. HoldsReplies mid now still text) goes → 0 < length held.bytes → length script ≤ MAX_SCRIPT_BYTES →
-    Conversed (Appends old mid) first script current held number → EndedWith first script true all_told (HoldsReplies old now still)
+    Conversed (Appends old mid) first script current held number → EndedWith first after.checked script true all_told (HoldsReplies old now still)
 last_answered old mid now still first current after script line held number true is answers some within so_far =
     ends_with_last (Appends old mid) (HoldsReplies old now still) first current after script held number answers.0 so_far within some
     (subst (λ (l : List ℕ). IsReplyText current l after answers.0) is answers.1)
     (λ out w. holds_more old mid now [] still answers.0 out (holds_none old mid out w) answers.2)
 last_answered old mid now still first current after script line held number false is answers some within so_far =
-    ends_with_quit (Appends old mid) (HoldsReplies old now still) first current script held number so_far within some (subst (λ (l : List ℕ). SpellsCommand l Quit) is answers.0)
-    (λ out w. subst (λ (h : List ℕ). HoldsReplies old now still h) (append-nil out) (holds_more old mid now [] still [] out (holds_none old mid out w) answers.1))
+    let ends = ends_with_quit (Appends old mid) (HoldsReplies old now still) first current script held number so_far within some (subst (λ (l : List ℕ). SpellsCommand l Quit) is answers.0)
+    (λ out w. subst (λ (h : List ℕ). HoldsReplies old now still h) (append-nil out) (holds_more old mid now [] still [] out (holds_none old mid out w) answers.2)) in
+    subst (λ (n : ℕ). EndedWith first n script true all_told (HoldsReplies old now still)) (sym answers.1) ends
 
-pub last_failed : (old mid now : Option (List ℕ)) (first current after : PlainSession) (script line : List ℕ) (held : HeldLine) (number : ℕ) →
+pub last_failed : (old mid now : Option (List ℕ)) (first current after : CountedSession) (script line : List ℕ) (held : HeldLine) (number : ℕ) →
     line ≡ without_returns held.bytes → RepliesWith current line after (AppendsFront mid now) → 0 < length held.bytes → length script ≤ MAX_SCRIPT_BYTES →
-    Conversed (Appends old mid) first script current held number → EndedWith first script true all_told (AppendsFront old now)
+    Conversed (Appends old mid) first script current held number → EndedWith first after.checked script true all_told (AppendsFront old now)
 last_failed old mid now first current after script line held number is replies some within so_far =
     ends_with_last (Appends old mid) (AppendsFront old now) first current after script held number replies.0 so_far within some
     (subst (λ (l : List ℕ). IsReplyText current l after replies.0) is replies.1)
     (λ out w. front_behind old mid now out replies.0 w replies.2)
 
--- a conversation up to a piece: what it took, and what its devices and the counter of lists counted; no reply is held
-pub record Talks (old now : Option (List ℕ)) (first current : PlainSession) (held : HeldLine) (number : ℕ) (input_old input_now : Option (List ℕ)) (calls calls_now : Asked) (input_faults input_faults_now faults faults_now checked checked_now left room : ℕ) (replies : List ℕ) : Type 0 where
+-- a conversation up to a piece: what it took, and what its devices counted; no reply is held, and the output may be asked
+pub record Talks (old now : Option (List ℕ)) (first current : CountedSession) (held : HeldLine) (number : ℕ) (input_old input_now : Option (List ℕ)) (calls calls_now : Asked) (input_faults input_faults_now faults faults_now left room : ℕ) (replies : List ℕ) (ready : Bool) : Type 0 where
   pub script : List ℕ
   pub so_far : Conversed (Appends old now) first script current held number
   pub taken : Consumes input_old input_now script
@@ -279,6 +280,6 @@ pub record Talks (old now : Option (List ℕ)) (first current : PlainSession) (h
   pub within : length script + left ≡ MAX_SCRIPT_BYTES
   pub input_stays : CountStays input_faults input_faults_now
   pub stays : CountStays faults faults_now
-  pub few : checked_now ≤ checked + 2 * length (ended_lines script)
   pub roomy : room ≡ 65536
   pub none : replies ≡ []
+  pub is_ready : ready ≡ true

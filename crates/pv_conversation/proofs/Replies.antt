@@ -12,6 +12,8 @@ use Rattle.pv_session.specs.Sessions.{PlainSession}
 use Rattle.pv_conversation.specs.Laws.{JoinsReplies, EndsAtQuit}
 use Rattle.pv_conversation.specs.Session.{is_among, Place, at_line, at_quit, Replies, no_lines, without_memory, answered, ended}
 use Rattle.pv_conversation.specs.Conversation.{AllBelow, IsReplyText, replied, without_memory as told_nothing}
+use Rattle.pv_conversation.specs.Counting.{CountedSession, CountsLines, was_silent}
+use Rattle.pv_conversation.proofs.Counting.{counts_silent, counts_then, number_behind, replied_goes}
 
 joined : (silent : List ℕ) (number next : ℕ) (session middle : PlainSession) (lines more : List (List ℕ)) (out rest : List ℕ) (here place : Place) →
     here ≡ at_line next middle → Replies silent number session lines out here → Replies silent next middle more rest place →
@@ -101,27 +103,35 @@ pub whole : {A : Type 0} (xs : List A) → xs ++ [] ≡ xs
 whole xs = grind (arith, common_steps)
 
 -- lines and the next: its reply behind theirs
-pub record RepliesMore (number : ℕ) (first : PlainSession) (lines : List (List ℕ)) (line : List ℕ) (out text : List ℕ) (after : PlainSession) : Type 0 where
+pub record RepliesMore (number : ℕ) (first : CountedSession) (lines : List (List ℕ)) (line : List ℕ) (out text : List ℕ) (after : CountedSession) : Type 0 where
   pub silent : List ℕ
   pub below : AllBelow (suc number) silent
-  pub replies : Replies silent 1 first (lines ++ line ∷ []) (out ++ text) (at_line (suc number) after)
+  pub replies : Replies silent 1 first.session (lines ++ line ∷ []) (out ++ text) (at_line (suc number) after.session)
+  pub counts : CountsLines silent 1 (lines ++ line ∷ []) first.checked after.checked
 
-pub replies_more : (silent : List ℕ) (number : ℕ) (first current : PlainSession) (lines : List (List ℕ)) (line : List ℕ) (out text : List ℕ) (after : PlainSession) →
-    AllBelow number silent → Replies silent 1 first lines out (at_line number current) → IsReplyText current line after text →
+pub replies_more : (silent : List ℕ) (number : ℕ) (first current : CountedSession) (lines : List (List ℕ)) (line : List ℕ) (out text : List ℕ) (after : CountedSession) →
+    AllBelow number silent → Replies silent 1 first.session lines out (at_line number current.session) → CountsLines silent 1 lines first.checked current.checked → IsReplyText current line after text →
     RepliesMore number first lines line out text after
-replies_more silent number first current lines line out text after below replies (replied told by is) = record {
-  silent = silent;
-  below = all_below_next number silent below;
-  replies = joins_replies silent 1 number first current lines (line ∷ []) out text (at_line (suc number) after) replies
-      (answered (not_among number silent below) by (no_lines refl refl) (is ∙ sym (whole (reply_bytes told))));
-}
-replies_more silent number first current lines line out text after below replies (told_nothing stays is) = record {
-  silent = number ∷ silent;
-  below = (omega arith, all_below_next number silent below);
-  replies = joins_replies (number ∷ silent) 1 number first current lines (line ∷ []) out text (at_line (suc number) after)
-      (later_silent number silent 1 number first current lines out (at_line number current) (omega arith) refl replies)
-      (without_memory (among_first number silent) (no_lines refl (ap (at_line (suc number)) stays)) (is ∙ sym (whole (reply_bytes NoMemory))));
-}
+replies_more silent number first current lines line out text after below replies counts (replied told by is one) =
+    let next = number_behind silent 1 number first.session current.session lines out (at_line number current.session) refl replies in
+    record {
+      silent = silent;
+      below = all_below_next number silent below;
+      replies = joins_replies silent 1 number first.session current.session lines (line ∷ []) out text (at_line (suc number) after.session) replies
+          (answered (not_among number silent below) by (no_lines refl refl) (is ∙ sym (whole (reply_bytes told))));
+      counts = counts_then silent 1 number lines line first.checked current.checked after.checked next counts (replied_goes current.session after.session line told (is_among number silent) by) one;
+    }
+replies_more silent number first current lines line out text after below replies counts (told_nothing stays is one) =
+    let next = number_behind silent 1 number first.session current.session lines out (at_line number current.session) refl replies in
+    record {
+      silent = number ∷ silent;
+      below = (omega arith, all_below_next number silent below);
+      replies = joins_replies (number ∷ silent) 1 number first.session current.session lines (line ∷ []) out text (at_line (suc number) after.session)
+          (later_silent number silent 1 number first.session current.session lines out (at_line number current.session) (omega arith) refl replies)
+          (without_memory (among_first number silent) (no_lines refl (ap (at_line (suc number)) stays)) (is ∙ sym (whole (reply_bytes NoMemory))));
+      counts = counts_then (number ∷ silent) 1 number lines line first.checked current.checked after.checked next
+          (counts_silent number silent 1 lines first.checked current.checked counts) (was_silent (among_first number silent)) one;
+    }
 
 pub replies_quit : (silent : List ℕ) (number : ℕ) (first current : PlainSession) (lines : List (List ℕ)) (line : List ℕ) (out : List ℕ) →
     AllBelow number silent → Replies silent 1 first lines out (at_line number current) → SpellsCommand line Quit →

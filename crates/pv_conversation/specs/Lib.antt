@@ -1,8 +1,10 @@
 pub mod Alike
 pub mod Conversation
+pub mod Counting
 pub mod Laws
 pub mod Missing
 pub mod Offers
+pub mod OpenedSessions
 pub mod ReplyBuffer
 pub mod Script
 pub mod Session

@@ -1,8 +1,8 @@
 -- The lines of a script up to its limits.
 use Rattle.std.specs.Prelude.{◌≡◌, ◌≤◌, ℕ, suc, Bool, false, nat_lt, List, [], ◌∷◌, length, map}
-use Rattle.std.specs.Prelude.{take, if◌then◌else◌, Option, Some, None}
+use Rattle.std.specs.Prelude.{take, if◌then◌else◌}
 use Rattle.std.specs.List.{list_any}
-use Rattle.pv_script.specs.Lines.{lines_of, ended_raw_lines, raw_lines_of, without_returns}
+use Rattle.pv_script.specs.Lines.{ended_raw_lines, raw_lines_of, without_returns}
 use Rattle.pv_script.specs.Taking.{MAX_LINE_BYTES}
 
 abbrev pub MAX_SCRIPT_BYTES : ℕ
@@ -30,8 +30,3 @@ has_long_line script = list_any is_line_too_long (raw_lines_of (take (suc MAX_SC
 pub record IsWithin (script : List ℕ) : Type 0 where
   pub lines : has_long_line script ≡ false
   pub whole : length script ≤ MAX_SCRIPT_BYTES
-
--- how many lines the bytes have that were taken from an input, none where it wasn't asked
-abbrev pub lines_taken : Option (List ℕ) → ℕ
-lines_taken None = 0
-lines_taken (Some script) = length (lines_of script)

@@ -1,10 +1,13 @@
 -- What `session DTD ROOT DOC` responds: one reply for each line of its script.
-use Rattle.std.specs.Prelude.{◌≡◌, ◌<◌, ℕ, suc, Bool, true, false, nat_eq, List, [], ◌∷◌, ◌++◌}
+use Rattle.std.specs.Prelude.{◌≡◌, ◌<◌, ◌≤◌, ◌↔◌, ℕ, suc, Bool, true, false, nat_eq, List, []}
+use Rattle.std.specs.Prelude.{◌∷◌, ◌++◌, IfSome}
 use Rattle.std.specs.Prelude.{length, codes, decimal, Option, Some, None}
 use Rattle.std.specs.List.{list_any}
 use Rattle.pv_dtd.specs.Plain.{PlainDtd}
 use Rattle.pv_tree.specs.Marks.{unmarked_doc}
+use Rattle.pv_missing.specs.Completing.{IsPotentiallyValid}
 use Rattle.pv_tree.specs.Plain.{PlainDoc}
+use Rattle.pv_tree.specs.View.{view}
 use Rattle.pv_tree.specs.declared.nodes.Mark.{Mark}
 use Rattle.pv_write.specs.Text.{doc_text}
 use Rattle.pv_edit.specs.declared.answers.Done.{Done as WhatWasDone}
@@ -54,10 +57,18 @@ abbrev pub done_of : Reply → Option WhatWasDone
 done_of (reply.Okay done) = Some done
 done_of other = None
 
+-- What `ok` tells of a move: at most two lists are changed, and the third number is 0 exactly where
+-- inserting elements can make the document behind the move valid (`∥ ∥₁` says that they can, and
+-- not which).
+pub record TellsMove (after : PlainSession) (done : WhatWasDone) : Type 0 where
+  pub few : done.checked ≤ 2
+  pub possible : (done.bad ≡ 0) ↔ ∥ IsPotentiallyValid after.dtd after.root (view after.doc.root) ∥₁
+
 -- the reply is that to the answer of such a step
 abbrev pub RepliesByStep : (PlainAnswer → PlainSession → Type 0) → Reply → PlainSession → Type 0
 RepliesByStep IsStep told after =
-    (answer : PlainAnswer) × IsStep answer after × (told ≡ reply_to answer)
+    (answer : PlainAnswer) × IsStep answer after × (told ≡ reply_to answer) ×
+    IfSome (done_of told) (TellsMove after)
 
 -- the reply to a command, and the session behind it; `quit` has no reply
 abbrev pub RepliesBy : PlainSession → Command → Reply → PlainSession → Type 0

@@ -1,9 +1,11 @@
 //! The beginning of a session.
 
-ghost use Rattle.std.specs.Prelude.{◌≤◌, ◌+◌, length};
+ghost use Rattle.std.specs.Prelude.{◌≤◌, length};
 ghost use Rattle.pv_cache.specs.Accepting.{MAX_EDITED_NODES};
 ghost use Rattle.pv_conversation.specs.Session.{guarding_stage};
 ghost use Rattle.pv_dtd.specs.PlainForms.{plain_dtd};
+ghost use Rattle.pv_stages.specs.Judging.{CountsOpening};
+ghost use Rattle.pv_stages.specs.Possibility.{width_stage};
 ghost use Rattle.pv_stages.specs.Returns.{Returns};
 ghost use Rattle.pv_tree.specs.Lists.{lists_of};
 ghost use Rattle.pv_tree.specs.Plain.{nodes_in};
@@ -34,7 +36,8 @@ pub fn begin<L: Ledger>(
     requires prolog { IsProlog root.now (plain_doc opened.doc).before }
     ensures returns { Returns (λ s. s) (guarding_stage root.now (plain_dtd opened.dtd)
         (plain_doc opened.doc)) 0 result }
-    ensures steps { steps.new ≤ steps.old + length (lists_of (plain_doc opened.doc)) }
+    ensures checks { CountsOpening (width_stage (plain_dtd opened.dtd) (plain_doc opened.doc))
+        (λ _. length (lists_of (plain_doc opened.doc))) steps.old steps.new result }
 {
     let Opened { dtd, doc, .. } = opened;
     let built = build(alloc, dtd)?;
@@ -42,5 +45,5 @@ pub fn begin<L: Ledger>(
     let verdicts = narrow_verdicts_by(rt, alloc, &grammar, &doc, root, steps)?;
     let root = bytes_of(alloc, root)?;
     let session = Session::begin_by(alloc, grammar, root, doc, verdicts);
-    Ok(OpenedSession::of(session))
+    Ok(OpenedSession::of(alloc, session))
 }

@@ -7,13 +7,14 @@ ghost use Rattle.pv_conversation.specs.Missing.{TellsCompletion, TellsNeed, With
 ghost use Rattle.pv_conversation.specs.Session.{done_of};
 ghost use Rattle.pv_conversation.specs.Turns.{IsReplyBy};
 ghost use Rattle.pv_complete.specs.Needing.{HasCause};
+ghost use Rattle.pv_complete.specs.Remembering.{Remembers};
 ghost use Rattle.pv_session.specs.Sessions.{stamped_document};
 ghost use Rattle.pv_tree.specs.Prolog.{IsProlog};
 
 use crate::answers::{Answer, other};
 use crate::opened_session::OpenedSession;
 use pv_chars::NoMemory;
-use pv_complete::{Completion, NeedError, complete_by, need_by};
+use pv_complete::{Completion, NeedError, Remembered, complete_by, need_remembering};
 use pv_dtd::laws::proper_dtd_law;
 use pv_missing::Verdicts;
 use pv_script::{Command, Reply};
@@ -60,43 +61,58 @@ fn refusal_reply(session: &Session, error: NeedError) -> Result<Reply, NoMemory>
 }
 
 // The least number of missing elements, or why it isn't told; no list is impossible.
-fn need_reply_by(alloc: Global, session: &Session, verdicts: &Verdicts) -> Result<Reply, NoMemory>
+fn need_reply_by(
+    alloc: Global,
+    session: &Session,
+    verdicts: &Verdicts,
+    remembered: &mut Remembered,
+) -> Result<Reply, NoMemory>
+    requires remembers { Remembers session.now.dtd remembered.old }
     requires verdicts { TellVerdicts (stamped_document session.now) verdicts.now }
     requires possible { verdicts.now.first ≡ None }
     ensures tells { IfOk result (TellsNeed session.now) }
     ensures not_done { IfOk result (λ told. done_of told ≡ None) }
+    ensures remembers { Remembers session.now.dtd remembered.new }
 {
     session_law(session);
     proper_dtd_law(session.grammar().dtd());
-    match need_by(
+    match need_remembering(
         alloc,
         session.grammar(),
         session.root(),
         session.doc(),
         verdicts,
+        remembered,
     ) {
         Ok(number) => Ok(Reply::Need(number)),
         Err(error) => refusal_reply(session, error),
     }
 }
 
-// The least number of missing elements, or why it isn't told.
-fn need_reply(alloc: Global, session: &Session) -> Result<Reply, NoMemory>
+/// The least number of missing elements, or why it isn't told, by what is remembered.
+pub fn need_reply(
+    alloc: Global,
+    session: &Session,
+    remembered: &mut Remembered,
+) -> Result<Reply, NoMemory>
+    requires { Remembers session.now.dtd remembered.old }
     ensures tells { IfOk result (TellsNeed session.now) }
     ensures not_done { IfOk result (λ told. done_of told ≡ None) }
+    ensures remembers { Remembers session.now.dtd remembered.new }
 {
     let verdicts = session.verdicts()?;
     match impossible(alloc, session, &verdicts)? {
         Some(reply) => Ok(reply),
-        None => need_reply_by(alloc, session, &verdicts),
+        None => need_reply_by(alloc, session, &verdicts, remembered),
     }
 }
 
 /// The reply to `need`.
-pub fn need(alloc: Global, session: &Session) -> Result<Answer, NoMemory>
-    ensures { IfOk result (IsReplyBy session.now Command.Need session.now) }
+pub fn need(alloc: Global, session: &mut OpenedSession) -> Result<Answer, NoMemory>
+    ensures replied { IfOk result (IsReplyBy session.old Command.Need session.new) }
+    ensures same { session.new ≡ session.old }
 {
-    let reply = need_reply(alloc, session)?;
+    let reply = session.need(alloc)?;
     other(alloc, &reply)
 }
 

@@ -1,6 +1,6 @@
 //! Replies that are held before they are written.
 
-ghost use Rattle.std.specs.Prelude.{◌≡◌, ◌≤◌, ◌++◌, [], IfOk, OnOk, OnErr, length};
+ghost use Rattle.std.specs.Prelude.{◌≡◌, ◌≤◌, ◌++◌, [], IfOk, OnOk, OnErr, length, true};
 ghost use Rattle.std.specs.Io.KnownBytes.{Appends};
 ghost use Rattle.pv_conversation.specs.ReplyBuffer.{HoldsReplies};
 ghost use Rattle.pv_io.specs.Causes.{AppendsFront, CountsFault};
@@ -40,10 +40,12 @@ impl ReplyBuffer {
 
     /// Writes what is held, or a front of it where the output fails. Nothing is held then.
     pub fn flush<K: Sink>(&mut self, out: &mut K) -> Result<(), Failed>
+        requires { K.ready out.old ≡ true }
         ensures ok { OnOk result (Appends (K.written out.old) (K.written out.new) self.old) }
         ensures err { OnErr result (AppendsFront (K.written out.old) (K.written out.new) self.old) }
         ensures none { self.new ≡ [] }
         ensures cause { CountsFault (K.faults out.old) (K.faults out.new) result }
+        ensures ready { OnOk result (K.ready out.new ≡ true) }
     {
         let flushed = write_all(out, &self.held);
         self.held.clear();
@@ -64,11 +66,13 @@ impl ReplyBuffer {
     /// Holds a reply behind the others. Where there is no room left for it, they are written first;
     /// and it is written too, where it is longer than the room.
     pub fn push<K: Sink>(&mut self, out: &mut K, reply: &[u8]) -> Result<(), Failed>
+        requires { K.ready out.old ≡ true }
         ensures ok { OnOk result (HoldsReplies (K.written out.old) (K.written out.new) self.new
             (self.old ++ reply.now)) }
         ensures err { OnErr result (AppendsFront (K.written out.old) (K.written out.new)
             (self.old ++ reply.now)) }
         ensures cause { CountsFault (K.faults out.old) (K.faults out.new) result }
+        ensures ready { OnOk result (K.ready out.new ≡ true) }
     {
         if reply.len() <= ROOM - self.held.len() {
             self.hold(reply);

@@ -1,11 +1,12 @@
 //! The conversation of a session: each line is answered before more of the script is asked for.
 
-ghost use Rattle.std.specs.Prelude.{◌≡◌, ◌≤◌, ◌<◌, ◌+◌, ◌*◌, ◌^◌, ◌++◌, List, [], ℕ, Option};
-ghost use Rattle.std.specs.Prelude.{IfOk, OnErr, length, vec_len, codes, decimal};
+ghost use Rattle.std.specs.Prelude.{◌≡◌, ◌≤◌, ◌<◌, ◌+◌, ◌^◌, ◌++◌, List, [], ℕ, Option, true};
+ghost use Rattle.std.specs.Prelude.{IfOk, OnErr, OnOk, length, vec_len, codes, decimal};
 ghost use Rattle.std.specs.Io.KnownBytes.{Appends};
 ghost use Rattle.pv_conversation.specs.Conversation.{AnswersLine, ComesOrFails, Conversed};
 ghost use Rattle.pv_conversation.specs.Conversation.{Finishes, IsBeyond, IsNext, IsWithinScript};
 ghost use Rattle.pv_conversation.specs.Conversation.{RepliesWith, Talked};
+ghost use Rattle.pv_conversation.specs.Counting.{CountedSession, counted};
 ghost use Rattle.pv_stages.specs.Course.{responds};
 ghost use Rattle.pv_stages.specs.Devices.{input_at, output_at};
 ghost use Rattle.pv_stages.specs.Showing.{WritesEnding};
@@ -13,8 +14,6 @@ ghost use Rattle.pv_conversation.specs.ReplyBuffer.{HoldsReplies};
 ghost use Rattle.pv_conversation.specs.Script.{MAX_SCRIPT_BYTES as MAX_BYTES};
 ghost use Rattle.pv_conversation.specs.Session.{limited};
 ghost use Rattle.pv_io.specs.Causes.{CountsFault, AppendsFront};
-ghost use Rattle.pv_script.specs.Lines.{ended_lines, lines_of};
-ghost use Rattle.pv_session.specs.Sessions.{PlainSession};
 
 use crate::opened_session::OpenedSession;
 use crate::reply_buffer::ReplyBuffer;
@@ -65,13 +64,16 @@ fn answer_line<K: Sink, L: Ledger>(
     out: &mut K,
     steps: &mut Steps<L>,
 ) -> Result<bool, Failed>
-    ensures ok { IfOk result (AnswersLine session.old line.now session.new
+    requires { K.ready out.old ≡ true }
+    ensures ok { IfOk result (AnswersLine (counted session.old steps.old) line.now
+        (counted session.new steps.new)
         (λ text. HoldsReplies (K.written out.old) (K.written out.new) buffer.new
         (buffer.old ++ text))) }
-    ensures err { OnErr result (RepliesWith session.old line.now session.new
+    ensures err { OnErr result (RepliesWith (counted session.old steps.old) line.now
+        (counted session.new steps.new)
         (λ text. AppendsFront (K.written out.old) (K.written out.new) (buffer.old ++ text))) }
     ensures cause { CountsFault (K.faults out.old) (K.faults out.new) result }
-    ensures steps { steps.new ≤ steps.old + 2 }
+    ensures ready { OnOk result (K.ready out.new ≡ true) }
 {
     match turn(rt, alloc, session, line, steps) {
         Ok(Some(answer)) => buffer.push(out, answer.text.bytes())?,
@@ -94,15 +96,16 @@ fn answer_lines<K: Sink, L: Ledger>(
 ) -> Result<Next, Failed>
     requires few { reading.old.number + length piece.now < 2 ^ 64 }
     requires none { buffer.old ≡ [] }
-    ensures next { (old : Option (List ℕ)) → (script : List ℕ) → (first : PlainSession) →
+    requires ready { K.ready out.old ≡ true }
+    ensures next { (old : Option (List ℕ)) → (script : List ℕ) → (first : CountedSession) →
         length script + length piece.now ≤ MAX_BYTES →
         Conversed (Appends old (K.written out.old)) first script
-        session.old reading.old.lines reading.old.number →
+        (counted session.old steps.old) reading.old.lines reading.old.number →
         ComesOrFails (HoldsReplies old (K.written out.new) buffer.new)
         (AppendsFront old (K.written out.new))
-        first (script ++ piece.now) session.new reading.new result }
+        first (script ++ piece.now) (counted session.new steps.new) reading.new result }
     ensures cause { CountsFault (K.faults out.old) (K.faults out.new) result }
-    ensures steps { steps.new ≤ steps.old + 2 * length (ended_lines piece.now) }
+    ensures ready { OnOk result (K.ready out.new ≡ true) }
 {
     let mut rest = piece;
     'lines: loop {
@@ -158,16 +161,17 @@ fn answer_within<K: Sink, L: Ledger>(
 ) -> Result<Next, Failed>
     requires few { reading.old.number + length piece.now < 2 ^ 64 }
     requires none { buffer.old ≡ [] }
-    ensures next { (old : Option (List ℕ)) → (script : List ℕ) → (first : PlainSession) →
+    requires ready { K.ready out.old ≡ true }
+    ensures next { (old : Option (List ℕ)) → (script : List ℕ) → (first : CountedSession) →
         length script + left ≡ MAX_BYTES →
         Conversed (Appends old (K.written out.old)) first script
-        session.old reading.old.lines reading.old.number →
+        (counted session.old steps.old) reading.old.lines reading.old.number →
         ComesOrFails (HoldsReplies old (K.written out.new) buffer.new)
         (AppendsFront old (K.written out.new))
-        first (script ++ piece.now) session.new reading.new result }
+        first (script ++ piece.now) (counted session.new steps.new) reading.new result }
     ensures fits { IfOk result (IsWithinScript (length piece.now) left) }
     ensures cause { CountsFault (K.faults out.old) (K.faults out.new) result }
-    ensures steps { steps.new ≤ steps.old + 2 * length (ended_lines piece.now) }
+    ensures ready { OnOk result (K.ready out.new ≡ true) }
 {
     if piece.len() <= left {
         return answer_lines(rt, alloc, session, reading, piece, buffer, out, steps);
@@ -199,16 +203,17 @@ fn answer_piece<K: Sink, L: Ledger>(
 ) -> Result<Next, Failed>
     requires few { reading.old.number + length piece.now < 2 ^ 64 }
     requires none { buffer.old ≡ [] }
-    ensures next { (old : Option (List ℕ)) → (script : List ℕ) → (first : PlainSession) →
+    requires ready { K.ready out.old ≡ true }
+    ensures next { (old : Option (List ℕ)) → (script : List ℕ) → (first : CountedSession) →
         length script + left ≡ MAX_BYTES →
         Conversed (Appends old (K.written out.old)) first script
-        session.old reading.old.lines reading.old.number →
+        (counted session.old steps.old) reading.old.lines reading.old.number →
         ComesOrFails (Appends old (K.written out.new)) (AppendsFront old (K.written out.new))
-        first (script ++ piece.now) session.new reading.new result }
+        first (script ++ piece.now) (counted session.new steps.new) reading.new result }
     ensures fits { IfOk result (IsWithinScript (length piece.now) left) }
     ensures none { IfOk result (λ _. buffer.new ≡ []) }
     ensures cause { CountsFault (K.faults out.old) (K.faults out.new) result }
-    ensures steps { steps.new ≤ steps.old + 2 * length (ended_lines piece.now) }
+    ensures ready { OnOk result (K.ready out.new ≡ true) }
 {
     let next = answer_within(rt, alloc, session, reading, piece, left, buffer, out, steps)?;
     buffer.flush(out)?;
@@ -225,14 +230,15 @@ fn finish<K: Sink, L: Ledger>(
     out: &mut K,
     steps: &mut Steps<L>,
 ) -> Result<(), Failed>
-    requires { buffer.old ≡ [] }
-    ensures finished { (old : Option (List ℕ)) → (script : List ℕ) → (first : PlainSession) →
+    requires none { buffer.old ≡ [] }
+    requires ready { K.ready out.old ≡ true }
+    ensures finished { (old : Option (List ℕ)) → (script : List ℕ) → (first : CountedSession) →
         length script ≤ MAX_BYTES →
         Conversed (Appends old (K.written out.old)) first script
-        session.old reading.now.lines reading.now.number →
-        Finishes old first script (K.written out.new) result }
+        (counted session.old steps.old) reading.now.lines reading.now.number →
+        Finishes old first steps.new script (K.written out.new) result }
     ensures cause { CountsFault (K.faults out.old) (K.faults out.new) result }
-    ensures steps { steps.new ≤ steps.old + 2 * length (lines_of reading.now.lines.bytes) }
+    ensures ready { OnOk result (K.ready out.new ≡ true) }
 {
     if reading.lines.held() > 0 {
         answer_line(rt, alloc, session, reading.lines.line(), buffer, out, steps)?;
@@ -243,6 +249,7 @@ fn finish<K: Sink, L: Ledger>(
 
 // Writes the line of a limit behind the replies; the status.
 fn announce<K: Sink>(text: &[u8], out: &mut K) -> Status
+    requires { K.ready out.old ≡ true }
     ensures { (old : Option (List ℕ)) → (replies : List ℕ) →
         Appends old (K.written out.old) replies →
         WritesEnding (responds (record { status = Status.Limit; output = replies ++ text.now }))
@@ -256,6 +263,7 @@ fn announce<K: Sink>(text: &[u8], out: &mut K) -> Status
 
 // Writes, behind the replies, that the line of this number is too long; the status.
 fn announce_line<K: Sink>(number: u64, out: &mut K) -> Status
+    requires { K.ready out.old ≡ true }
     ensures { (old : Option (List ℕ)) → (replies : List ℕ) →
         Appends old (K.written out.old) replies →
         WritesEnding (limited replies (codes "limit line " ++ decimal number))
@@ -282,6 +290,7 @@ pub fn converse<S: Source, K: Sink, L: Ledger>(
     out: &mut K,
     steps: &mut Steps<L>,
 ) -> Status
+    requires { K.ready out.old ≡ true }
     ensures { Talked session.old
         (input_at input.old (S.left input.old) (S.calls input.old) (S.faults input.old))
         (input_at input.new (S.left input.new) (S.calls input.new) (S.faults input.new))

@@ -1,21 +1,41 @@
 //! The reply to a line of a session's script.
 
-ghost use Rattle.std.specs.Prelude.{◌≡◌, ◌≤◌, ◌+◌, IfOk, OnErr};
-ghost use Rattle.pv_conversation.specs.Turns.{IsReplyBy, IsTurn};
+ghost use Rattle.std.specs.Prelude.{◌≡◌, ◌≤◌, ◌+◌, IfOk, MatchOption, OnErr, vec_len};
+ghost use Rattle.pv_cache.specs.Moves.{HasBad};
+ghost use Rattle.pv_conversation.specs.Counting.{CountsOneLine};
+ghost use Rattle.pv_conversation.specs.Session.{TellsMove};
+ghost use Rattle.pv_conversation.specs.Turns.{IsAnswerOf, IsReplyBy, IsTurn};
+ghost use Rattle.pv_session.specs.Sessions.{stamped_document};
 
 use crate::answers::{Answer, no_command, okay, other, take_room};
 use crate::missing::{complete, need};
 use crate::offers::offer;
 use crate::opened_session::OpenedSession;
 use pv_chars::{Bytes, NoMemory};
-use pv_edit::{Edit, EditAnswer, Edits};
+use pv_dtd::laws::proper_dtd_law;
+use pv_edit::{Done, Edit, EditAnswer, Edits};
 use pv_script::{Command, CommandError, Reply, read_command};
+use pv_session::laws::session_law;
 use pv_session::{BackAnswer, Session};
 use pv_steps::Steps;
 use pv_write::doc_bytes;
 use std::alloc::Global;
 use std::sync::ledger::Ledger;
 use std::thread::Threads;
+
+// The reply to a move that was made.
+fn made(session: &OpenedSession, done: Done, room: Vec<u8>) -> Answer
+    requires room { 64 ≤ vec_len room }
+    requires few { done.checked ≤ 2 }
+    requires bad { HasBad (stamped_document session.now) done.bad }
+    ensures tells { TellsMove session.now done }
+    ensures answers { IsAnswerOf (Reply.Okay done) result }
+{
+    let now = session.session();
+    session_law(now);
+    proper_dtd_law(now.grammar().dtd());
+    okay(done, room)
+}
 
 // The reply to an edit. Nothing behind the edit takes memory where it was made.
 fn edit<L: Ledger>(
@@ -27,10 +47,11 @@ fn edit<L: Ledger>(
     ensures replied { IfOk result (IsReplyBy session.old (Command.Edit edit.now) session.new) }
     ensures stays { OnErr result (session.new ≡ session.old) }
     ensures steps { steps.new ≤ steps.old + 2 }
+    ensures later { steps.old ≤ steps.new }
 {
     let room = take_room(alloc)?;
     match session.edit(edit, steps) {
-        Ok(done) => Ok(okay(done, room)),
+        Ok(done) => Ok(made(session, done, room)),
         Err(EditAnswer::Shape(reason)) => other(alloc, &Reply::Shape(reason)),
         Err(EditAnswer::Impossible(path)) => other(alloc, &Reply::Impossible(path)),
         Err(EditAnswer::Limit) => other(alloc, &Reply::Limit),
@@ -47,10 +68,11 @@ fn undo<L: Ledger>(
     ensures replied { IfOk result (IsReplyBy session.old Command.Undo session.new) }
     ensures stays { OnErr result (session.new ≡ session.old) }
     ensures steps { steps.new ≤ steps.old + 2 }
+    ensures later { steps.old ≤ steps.new }
 {
     let room = take_room(alloc)?;
     match session.undo(steps) {
-        Ok(done) => Ok(okay(done, room)),
+        Ok(done) => Ok(made(session, done, room)),
         Err(BackAnswer::NoHistory) => other(alloc, &Reply::NoHistory),
         Err(BackAnswer::NoMemory) => Err(NoMemory),
     }
@@ -65,10 +87,11 @@ fn redo<L: Ledger>(
     ensures replied { IfOk result (IsReplyBy session.old Command.Redo session.new) }
     ensures stays { OnErr result (session.new ≡ session.old) }
     ensures steps { steps.new ≤ steps.old + 2 }
+    ensures later { steps.old ≤ steps.new }
 {
     let room = take_room(alloc)?;
     match session.redo(steps) {
-        Ok(done) => Ok(okay(done, room)),
+        Ok(done) => Ok(made(session, done, room)),
         Err(BackAnswer::NoHistory) => other(alloc, &Reply::NoHistory),
         Err(BackAnswer::NoMemory) => Err(NoMemory),
     }
@@ -112,7 +135,11 @@ pub fn turn<L: Ledger>(
 ) -> Result<Option<Answer>, NoMemory>
     ensures turned { IfOk result (IsTurn session.old line.now session.new) }
     ensures stays { OnErr result (session.new ≡ session.old) }
+    ensures counts { CountsOneLine line.now steps.old steps.new }
+    ensures uncounted { IfOk result (λ answer. MatchOption answer (steps.new ≡ steps.old)
+        (λ _. Unit {0})) }
     ensures steps { steps.new ≤ steps.old + 2 }
+    ensures later { steps.old ≤ steps.new }
 {
     match read_command(alloc, line) {
         Ok(Command::Edit(change)) => Ok(Some(edit(alloc, session, &change, steps)?)),
@@ -121,7 +148,7 @@ pub fn turn<L: Ledger>(
         Ok(Command::History) => Ok(Some(history(alloc, session.session())?)),
         Ok(Command::Show) => Ok(Some(show(alloc, session.session())?)),
         Ok(Command::Verdicts) => Ok(Some(verdicts(alloc, session.session())?)),
-        Ok(Command::Need) => Ok(Some(need(alloc, session.session())?)),
+        Ok(Command::Need) => Ok(Some(need(alloc, session)?)),
         Ok(Command::Complete) => Ok(Some(complete(alloc, session)?)),
         Ok(Command::Offer(ask)) => Ok(Some(offer(rt, alloc, session.session(), &ask)?)),
         Ok(Command::Quit) => Ok(None),

@@ -20,6 +20,10 @@ Rose before now = (before ≤ now) × (next_count before ≤ now)
 abbrev pub MadeCalls : ℕ → ℕ → ℕ → Type 0
 MadeCalls n before now = min now (2 ^ 64 - 1) ≡ min (before + n) (2 ^ 64 - 1)
 
+-- how many bytes each call of a source has room for
+abbrev pub FILL_BYTES : ℕ
+FILL_BYTES = 65536
+
 -- how often a source was asked, and how often it gave no byte then: at its end, or at a fault
 pub record Asked : Type 0 where
   pub calls : ℕ

@@ -1,7 +1,7 @@
 //! The outside: where bytes come from and go to, each with a count of faults. A call that answers
 //! an error counted a fault, and every other call counted none (`specs/Causes.antt`); what is asked
-//! for bytes counts its calls, too; what a device tells of its bytes is what its calls gave and
-//! took.
+//! for bytes counts its calls, too, and a sink that failed may not be asked again; what a device
+//! tells of its bytes is what its calls gave and took.
 #![tactic(auto)]
 
 mod machine;

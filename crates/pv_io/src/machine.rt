@@ -1,6 +1,6 @@
 //! Devices of the machine: readers and writers of the standard library, and files by their paths.
 
-ghost use Rattle.std.specs.Prelude.{◌≡◌, ◌≤◌, if◌then◌else◌, is_err, vec_len, IfOk};
+ghost use Rattle.std.specs.Prelude.{◌≡◌, ◌≤◌, if◌then◌else◌, is_err, true, vec_len, IfOk};
 ghost use Rattle.std.specs.Io.{ReadsAtMost};
 ghost use Rattle.std.specs.Io.KnownBytes.{ReadConsumes, WriteAppends};
 ghost use Rattle.pv_io.specs.Causes.{CountsFault, MadeCalls, TakesSome, WasAsked, empty_in};
@@ -89,15 +89,20 @@ impl<W: Write> WriteSink<W> {
     pub fn new(writer: W) -> WriteSink<W>
         ensures written { ⟦<WriteSink<W> as Sink>⟧.written result ≡ W.contents writer }
         ensures faults { ⟦<WriteSink<W> as Sink>⟧.faults result ≡ 0 }
+        ensures ready { ⟦<WriteSink<W> as Sink>⟧.ready result ≡ true }
     {
         WriteSink { writer, faults: 0 }
     }
 }
 
 impl<W: Write> Sink for WriteSink<W> {
+    ghost use Rattle.std.specs.Prelude.{true};
+
     ghost written = { λ s. W.contents s.writer };
 
     ghost faults = { λ s. s.faults };
+
+    ghost ready = { λ _. true };
 
     fn put(&mut self, piece: &[u8]) -> Result<usize, Failed>
         ensures bound { IfOk result (λ n. TakesSome n piece.now) }

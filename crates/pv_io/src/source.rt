@@ -1,9 +1,9 @@
 //! Where input comes from.
 
-ghost use Rattle.std.specs.Prelude.{List, ℕ, Option};
+ghost use Rattle.std.specs.Prelude.{◌≡◌, List, ℕ, Option, length};
 ghost use Rattle.std.specs.Io.{ReadsAtMost};
 ghost use Rattle.std.specs.Io.KnownBytes.{ReadConsumes};
-ghost use Rattle.pv_io.specs.Causes.{Asked, CountsFault, WasAsked, empty_in};
+ghost use Rattle.pv_io.specs.Causes.{Asked, CountsFault, FILL_BYTES, WasAsked, empty_in};
 
 use thiserror::Error;
 
@@ -23,9 +23,10 @@ pub trait Source {
     /// How often the source was asked, and how often it gave no byte.
     ghost calls: { Self → Asked };
 
-    /// Reads the next bytes into the front of the buffer, and answers how many. None are the end,
-    /// unless the buffer is empty.
+    /// Reads the next bytes into the front of the buffer, and answers how many. None are the end.
+    /// The buffer has one size, so that who reads a long input asks seldom.
     fn fill(&mut self, buf: &mut [u8]) -> Result<usize, Failed>
+        requires { length buf.old ≡ FILL_BYTES }
         ensures bound { ReadsAtMost result buf.new }
         ensures bytes { ReadConsumes (left self.old) (left self.new) result buf.new }
         ensures cause { CountsFault (faults self.old) (faults self.new) result }

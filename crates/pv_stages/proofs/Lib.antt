@@ -1,6 +1,7 @@
 -- for other crates:
 pub mod Both
 pub mod Fetching
+pub mod JudgedLists
 pub mod OneOpening
 pub mod OnePossibility
 pub mod Possibilities

@@ -13,8 +13,7 @@ use Rattle.pv_missing.proofs.VerdictHeads.{live_alike}
 use Rattle.pv_missing.specs.Completing.{IsPotentiallyValid}
 use Rattle.pv_missing.specs.Verdicts.{IsLive}
 use Rattle.pv_missing.specs.Widths.{FitsVerdict, IsFirstTooWide, IsListForVerdict}
-use Rattle.pv_complete.specs.Needing.{AreListsForVerdicts}
-use Rattle.pv_stages.specs.Possibility.{RefusesImpossible, RefusesWidth, is_impossible, is_too_wide, possibility_stage, verdict_stage, width_stage}
+use Rattle.pv_stages.specs.Possibility.{AreAllNarrow, RefusesImpossible, RefusesWidth, is_impossible, is_too_wide, possibility_stage, verdict_stage, width_stage}
 use Rattle.pv_script.specs.Paths.{path_text}
 use Rattle.pv_stages.specs.Response.{PlainResponse, with_line}
 use Rattle.pv_stages.specs.declared.status.Status.TheVariants.{Limit, Negative}
@@ -57,10 +56,10 @@ not_wide g doc same path e all f =
 -- one test of width, whatever the marks are
 pub width_sure : (g : PlainDtd) (doc same : PlainDoc Mark) → unmarked_doc doc ≡ unmarked_doc same → AreSure (width_stage g doc) (width_stage g same) IsEqual
 width_sure g doc same e =
-    reading_sure (λ _. AreListsForVerdicts g doc) (λ _. AreListsForVerdicts g same) (RefusesWidth g doc) (RefusesWidth g same) IsEqual
+    reading_sure (λ _. AreAllNarrow g doc) (λ _. AreAllNarrow g same) (RefusesWidth g doc) (RefusesWidth g same) IsEqual
     (λ x r narrow wide. wide_or doc same r e narrow wide) (λ x r wide narrow. wide_or same doc r (sym e) narrow wide) one_width (λ x y narrow too. refl)
   where
-    wide_or : (d s : PlainDoc Mark) (r : PlainResponse) → unmarked_doc d ≡ unmarked_doc s → AreListsForVerdicts g d → RefusesWidth g s r → ⊥
+    wide_or : (d s : PlainDoc Mark) (r : PlainResponse) → unmarked_doc d ≡ unmarked_doc s → AreAllNarrow g d → RefusesWidth g s r → ⊥
     wide_or d s r f narrow (is_too_wide path first is) = not_wide g d s path f narrow first
 
     one_width : (r also : PlainResponse) → RefusesWidth g doc r → RefusesWidth g same also → r ≡ also

@@ -1,6 +1,7 @@
 pub mod Course
 pub mod Devices
 pub mod Documents
+pub mod Judging
 pub mod Opening
 pub mod Parameters
 pub mod Possibility

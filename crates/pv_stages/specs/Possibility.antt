@@ -1,6 +1,6 @@
 -- Whether inserting elements can make a document valid: the width of its lists, and the verdict.
 use Rattle.std.specs.Prelude.{◌≡◌, ◌↔◌, ℕ, IsNone, List, ◌++◌, codes}
-use Rattle.pv_complete.specs.Needing.{AreListsForVerdicts}
+use Rattle.std.specs.List.{AllByRecursion}
 use Rattle.pv_dtd.specs.Plain.{PlainDtd}
 use Rattle.pv_tree.specs.Lists.{lists_of}
 use Rattle.pv_tree.specs.Plain.{PlainDoc}
@@ -8,17 +8,21 @@ use Rattle.pv_tree.specs.View.{view}
 use Rattle.pv_tree.specs.declared.nodes.Mark.{Mark}
 use Rattle.pv_missing.specs.Completing.{IsPotentiallyValid}
 use Rattle.pv_missing.specs.Verdicts.{HaveVerdicts, IsFirstImpossible, PlainVerdicts}
-use Rattle.pv_missing.specs.Widths.{IsFirstTooWide}
+use Rattle.pv_missing.specs.Widths.{IsFirstTooWide, IsListForVerdict}
 use Rattle.pv_script.specs.Paths.{path_text}
 use Rattle.pv_stages.specs.declared.status.Status.TheVariants.{Limit, Negative}
 use Rattle.pv_stages.specs.Response.{PlainResponse, with_line}
 use Rattle.pv_stages.specs.Stage.{Stage, followed_by, test_stage}
 
+-- no list of the document is too wide for a verdict
+abbrev pub AreAllNarrow : {M : Type 0} → PlainDtd → PlainDoc M → Type 0
+AreAllNarrow g doc = AllByRecursion (IsListForVerdict g) (lists_of doc)
+
 -- No list is too wide, and these are the verdicts of all lists; none is Impossible exactly where
 -- inserting elements can make the document valid.
 pub record AreVerdictsOf (root : List ℕ) (g : PlainDtd) (doc : PlainDoc Mark) (vs : PlainVerdicts) :
     Type 0 where
-  pub narrow : AreListsForVerdicts g doc
+  pub narrow : AreAllNarrow g doc
   pub verdicts : HaveVerdicts g root (lists_of doc) vs
   pub possible : IsNone vs.first ↔ IsPotentiallyValid g root (view doc.root)
 
@@ -29,7 +33,7 @@ pub data RefusesWidth (g : PlainDtd) (doc : PlainDoc Mark) (r : PlainResponse) :
 
 -- the test of the width of all lists
 abbrev pub width_stage : PlainDtd → PlainDoc Mark → Stage (Unit {0})
-width_stage g doc = test_stage (AreListsForVerdicts g doc) (RefusesWidth g doc)
+width_stage g doc = test_stage (AreAllNarrow g doc) (RefusesWidth g doc)
 
 -- no insertions can make the document valid, and this is the path of the first impossible list
 pub data RefusesImpossible (root : List ℕ) (g : PlainDtd) (doc : PlainDoc Mark)

@@ -1,11 +1,10 @@
-//! Whether inserting elements can make a document valid, as `check` asks, and the verdicts that the
-//! opening of a session asks for.
+//! The verdicts of a document's lists, as `check` and the opening of a session ask for them.
 
-ghost use Rattle.std.specs.Prelude.{◌≤◌, ◌+◌, IfErr, IfOk, length};
-ghost use Rattle.pv_stages.specs.Possibility.{AreVerdictsOf, possibility_stage, width_stage};
+ghost use Rattle.std.specs.Prelude.{◌≡◌, ◌+◌, IfErr, IfOk, OnErr, OnOk, length};
+ghost use Rattle.pv_stages.specs.Possibility.{AreVerdictsOf, width_stage};
 ghost use Rattle.pv_stages.specs.Returns.{StopsBy};
 ghost use Rattle.pv_dtd.specs.Plain.{PlainDtd};
-ghost use Rattle.pv_fresh.specs.Answers.{HasCause, HasPossibility};
+ghost use Rattle.pv_fresh.specs.Answers.{HasCause};
 ghost use Rattle.pv_productive.specs.PlainForms.{dtd_of};
 ghost use Rattle.pv_tree.specs.Lists.{lists_of};
 ghost use Rattle.pv_tree.specs.Plain.{PlainDoc};
@@ -39,7 +38,8 @@ fn refuse_wide(alloc: Global, error: FreshError) -> Stop
     }
 }
 
-/// The verdicts of a document's lists. It refuses where a list is too wide.
+/// The verdicts of a document's lists, in one step for each. It refuses where a list is too wide,
+/// and takes no step then.
 pub fn narrow_verdicts<L: Ledger>(
     rt: &(impl Threads + Sync),
     alloc: Global,
@@ -51,7 +51,8 @@ pub fn narrow_verdicts<L: Ledger>(
     ensures has { IfOk result (AreVerdictsOf root.now (dtd_of grammar.now) (plain_doc doc.now)) }
     ensures denied { IfErr result (StopsBy (width_stage (dtd_of grammar.now)
         (plain_doc doc.now)) 0) }
-    ensures steps { steps.new ≤ steps.old + length (lists_of (plain_doc doc.now)) }
+    ensures judged { OnOk result (steps.new ≡ steps.old + length (lists_of (plain_doc doc.now))) }
+    ensures unjudged { OnErr result (steps.new ≡ steps.old) }
 {
     match check_doc_par(rt, alloc, grammar, root, doc, &NoGate, steps) {
         Ok(verdicts) => Ok(verdicts),
@@ -70,34 +71,12 @@ pub fn narrow_verdicts_by<L: Ledger>(
 ) -> Result<Verdicts, Stop>
     ensures has { IfOk result (AreVerdictsOf root.now grammar.now (plain_doc doc.now)) }
     ensures denied { IfErr result (StopsBy (width_stage grammar.now (plain_doc doc.now)) 0) }
-    ensures steps { steps.new ≤ steps.old + length (lists_of (plain_doc doc.now)) }
+    ensures judged { OnOk result (steps.new ≡ steps.old + length (lists_of (plain_doc doc.now))) }
+    ensures unjudged { OnErr result (steps.new ≡ steps.old) }
 {
     let judge = grammar.judge(alloc);
     match check_doc_par_by(rt, &judge, root, doc, &NoGate, steps) {
         Ok(verdicts) => Ok(verdicts),
         Err(error) => Err(refuse_wide(alloc, error)),
     }
-}
-
-/// The verdicts of a document's lists. It refuses where a list is too wide, or no insertions can
-/// make the document valid.
-pub fn verdicts_or_stop<L: Ledger>(
-    rt: &(impl Threads + Sync),
-    alloc: Global,
-    grammar: &Grammar,
-    doc: &Doc,
-    root: &[u8],
-    steps: &mut Steps<L>,
-) -> Result<Verdicts, Stop>
-    ensures possible { IfOk result (HasPossibility root.now (dtd_of grammar.now)
-        (plain_doc doc.now)) }
-    ensures denied { IfErr result (StopsBy (possibility_stage root.now (dtd_of grammar.now)
-        (plain_doc doc.now)) 0) }
-    ensures steps { steps.new ≤ steps.old + length (lists_of (plain_doc doc.now)) }
-{
-    let verdicts = narrow_verdicts(rt, alloc, grammar, doc, root, steps)?;
-    if let Some(path) = verdicts.first_impossible() {
-        return Err(refuse_path(alloc, Status::Negative, b"impossible ", path.places()));
-    }
-    Ok(verdicts)
 }

@@ -1,5 +1,6 @@
 //! Writes a response.
 
+ghost use Rattle.std.specs.Prelude.{◌≡◌, true};
 ghost use Rattle.pv_stages.specs.Course.{responds};
 ghost use Rattle.pv_stages.specs.Showing.{WritesEnding};
 ghost use Rattle.pv_stages.specs.Response.{plain_response};
@@ -11,6 +12,7 @@ use crate::stop::Stop;
 use pv_io::{Sink, write_all};
 
 fn write<K: Sink>(out: &mut K, response: &Response) -> Status
+    requires { K.ready out.old ≡ true }
     ensures { WritesEnding (responds (plain_response response.now)) (K.written out.old)
         (K.written out.new)
         (K.faults out.old) (K.faults out.new) result }
@@ -23,6 +25,7 @@ fn write<K: Sink>(out: &mut K, response: &Response) -> Status
 
 /// Writes the response, where there is one, and tells the status.
 pub fn respond<K: Sink>(out: &mut K, answer: Result<Response, Stop>) -> Status
+    requires { K.ready out.old ≡ true }
     ensures { WritesEnding (ending_of answer) (K.written out.old) (K.written out.new)
         (K.faults out.old) (K.faults out.new) result }
 {

@@ -2,7 +2,7 @@
 //! `pvtag` answers, whatever the devices are.
 #![tactic(auto)]
 
-ghost use Rattle.std.specs.Prelude.{◌≡◌, ◌<◌};
+ghost use Rattle.std.specs.Prelude.{◌≡◌, ◌<◌, true};
 ghost use Rattle.std.specs.Process.{exit_status};
 ghost use Rattle.pv_cli.specs.CommandLine.{command_line_of};
 ghost use Rattle.pv_stages.specs.Devices.{devices, input_at, output_at, shelf_at};
@@ -43,7 +43,8 @@ fn run<H: Shelf, S: Source, K: Sink, L: Ledger>(
     out: &mut K,
     steps: &mut Steps<L>,
 ) -> ExitCode
-    requires { H.names shelf.old ≡ fetch_names words.now }
+    requires names { H.names shelf.old ≡ fetch_names words.now }
+    requires ready { K.ready out.old ≡ true }
     ensures { (status : Status) × (exit_status result ≡ code_of status) ×
         Runs (command_line_of (byte_lists words.now))
         (devices (shelf_at (H.files shelf.old) (H.calls shelf.old) (H.faults shelf.old))

@@ -1,16 +1,17 @@
 //! The command `drill`.
 
 ghost use Rattle.std.specs.Prelude.{◌≡◌, ◌≤◌, ◌<◌, ◌+◌, ◌*◌, ◌++◌, ◌%◌, IfOk};
-ghost use Rattle.std.specs.Prelude.{OnOk, Some, decimal, length};
-ghost use Rattle.pv_cli.specs.Checking.{CountsChecked};
+ghost use Rattle.std.specs.Prelude.{OnOk, decimal, length};
+ghost use Rattle.pv_cli.specs.Checking.{CountsDrill, judging_drill_stage};
 ghost use Rattle.pv_cli.specs.CommandLine.{IsDrillSize};
-ghost use Rattle.pv_cli.specs.Drill.{CountsLine, CountsReplies, DRILL_ROOT, IsCountOf};
+ghost use Rattle.pv_cli.specs.Drill.{CountsLine, CountsReplies, IsCountOf};
 ghost use Rattle.pv_cli.specs.Drill.{IsDrillCourse, TellsCounts, counts_text, counts_with};
 ghost use Rattle.pv_cli.specs.Drill.{drill_stage, no_counts};
 ghost use Rattle.pv_stages.specs.Response.{plain_response, with_line};
-ghost use Rattle.pv_stages.specs.Returns.{TakesCourse, Returns, TellsBy};
+ghost use Rattle.pv_stages.specs.Judging.{CountsOpening, lists_judged};
+ghost use Rattle.pv_stages.specs.Returns.{TakesCourse, Returns, TellsBy, ending_of};
 ghost use Rattle.pv_stages.specs.declared.status.Status.TheVariants.{Done as AllDone};
-ghost use Rattle.pv_drill.specs.Drill.{drill_lines, drill_text, section_line, section_lines};
+ghost use Rattle.pv_drill.specs.Drill.{drill_lines, section_line, section_lines};
 ghost use Rattle.pv_script.specs.Commands.{SpellsCommand};
 ghost use Rattle.pv_script.specs.declared.commands.Command.TheVariants.{Quit};
 
@@ -77,6 +78,7 @@ fn count_line<L: Ledger>(
     ensures counted { IfOk result (CountsLine session.old counts line.now session.new) }
     ensures bounded { IfOk result (IsCountOf (counts.lines + 1)) }
     ensures steps { steps.new ≤ steps.old + 2 }
+    ensures later { steps.old ≤ steps.new }
 {
     let Some(answer) = turn(rt, alloc, session, line, steps)? else {
         unreachable!();
@@ -104,6 +106,7 @@ fn count_drill_line<L: Ledger>(
         (CountsLine session.old counts (section_line k which) session.new) }
     ensures bounded { IfOk result (IsCountOf (counts.lines + 1)) }
     ensures steps { steps.new ≤ steps.old + 2 }
+    ensures later { steps.old ≤ steps.new }
 {
     let line = drill_line(alloc, k, which)?;
     count_line(rt, alloc, session, &line, counts, steps)
@@ -125,6 +128,7 @@ fn count_section<L: Ledger>(
     ensures counted { IfOk result (CountsReplies session.old counts (section_lines k) session.new) }
     ensures bounded { IfOk result (IsCountOf (counts.lines + 3)) }
     ensures steps { steps.new ≤ steps.old + 2 * length (section_lines k) }
+    ensures later { steps.old ≤ steps.new }
 {
     let first = count_drill_line(rt, alloc, session, k, 0, counts, steps)?;
     let second = count_drill_line(rt, alloc, session, k, 1, first, steps)?;
@@ -147,6 +151,7 @@ fn count_drill<L: Ledger>(
     ensures counted { IfOk result (CountsReplies session.old no_counts (drill_lines n)
         session.new) }
     ensures steps { steps.new ≤ steps.old + 2 * length (drill_lines n) }
+    ensures later { steps.old ≤ steps.new }
 {
     let mut counts = Counts {
         lines: 0,
@@ -193,7 +198,7 @@ fn begin_drill<L: Ledger>(
 ) -> Result<OpenedSession, Stop>
     requires { IsDrillSize n }
     ensures returns { Returns (λ s. s) (drill_stage n) 0 result }
-    ensures checks { CountsChecked DRILL_ROOT (Some (drill_text n)) (Some 0) steps.old steps.new }
+    ensures checks { CountsOpening (judging_drill_stage n) lists_judged steps.old steps.new result }
 {
     let dtd = dtd_of(alloc, drill_dtd())?;
     let bytes = drill_doc(alloc, n)?;
@@ -212,6 +217,7 @@ fn answer_drill<L: Ledger>(
     requires { n ≤ 20000 }
     ensures tells { TellsBy (TellsCounts n session.old) result }
     ensures steps { steps.new ≤ steps.old + 2 * length (drill_lines n) }
+    ensures later { steps.old ≤ steps.new }
 {
     let counts = count_drill(rt, alloc, session, n, steps)?;
     Ok(tell(alloc, n, counts, session.session().open_count())?)
@@ -227,8 +233,7 @@ pub fn drill<L: Ledger>(
 ) -> Result<Response, Stop>
     requires { IsDrillSize n }
     ensures finds { TakesCourse (IsDrillCourse n) result }
-    ensures checks { CountsChecked DRILL_ROOT (Some (drill_text n)) (Some (length (drill_lines n)))
-        steps.old steps.new }
+    ensures checks { CountsDrill n (ending_of result) steps.old steps.new }
 {
     let mut session = begin_drill(rt, alloc, n, steps)?;
     let response = answer_drill(rt, alloc, &mut session, n, steps);

@@ -1,9 +1,9 @@
 //! The command `session`.
 
-ghost use Rattle.std.specs.Prelude.{Some};
-ghost use Rattle.pv_cli.specs.Checking.{CountsChecked};
+ghost use Rattle.std.specs.Prelude.{◌≡◌, true};
 ghost use Rattle.pv_stages.specs.Devices.{input_at, output_at};
 ghost use Rattle.pv_cli.specs.Returns.{DoesRest, session_stage};
+ghost use Rattle.pv_stages.specs.Judging.{CountsOpening, judging_stage, lists_judged};
 ghost use Rattle.pv_stages.specs.Returns.{Returns, plain_fetched};
 ghost use Rattle.pv_cli.specs.declared.verb.Verb.TheVariants.{Session as session_verb};
 
@@ -25,8 +25,8 @@ fn open_session<L: Ledger>(
     steps: &mut Steps<L>,
 ) -> Result<OpenedSession, Stop>
     ensures returns { Returns (λ s. s) (session_stage root.now (plain_fetched fetched)) 0 result }
-    ensures checks { CountsChecked root.now (Some fetched.bytes.items) (Some 0)
-        steps.old steps.new }
+    ensures checks { CountsOpening (judging_stage root.now (plain_fetched fetched).0
+        (plain_fetched fetched).1) lists_judged steps.old steps.new result }
 {
     let opened = open_document(alloc, fetched, root)?;
     begin(rt, alloc, opened, root, steps)
@@ -42,6 +42,7 @@ pub fn session<S: Source, K: Sink, L: Ledger>(
     out: &mut K,
     steps: &mut Steps<L>,
 ) -> Status
+    requires { K.ready out.old ≡ true }
     ensures { DoesRest session_verb root.now (plain_fetched fetched)
         (input_at input.old (S.left input.old) (S.calls input.old) (S.faults input.old))
         (input_at input.new (S.left input.new) (S.calls input.new) (S.faults input.new))

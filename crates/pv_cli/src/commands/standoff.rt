@@ -1,22 +1,22 @@
 //! The command `standoff`.
 
-ghost use Rattle.std.specs.Prelude.{◌≡◌, ◌≤◌, ◌+◌, ℕ, List, Some, IfOk, Contains, false};
+ghost use Rattle.std.specs.Prelude.{◌≡◌, ◌≤◌, ℕ, List, Some, IfOk, Contains, false};
 ghost use Rattle.std.specs.Prelude.{length};
 ghost use Rattle.pv_chars.specs.Names.{IsName};
 ghost use Rattle.pv_chars.specs.Texts.{holds_close_mark};
-ghost use Rattle.pv_cli.specs.Check.{TellsPossibility};
 ghost use Rattle.pv_cli.specs.CommandLine.{on_ranges};
 ghost use Rattle.pv_stages.specs.Devices.{shelf_at};
 ghost use Rattle.pv_stages.specs.Opening.{IsFile};
-ghost use Rattle.pv_stages.specs.Possibility.{AreVerdictsOf};
+ghost use Rattle.pv_stages.specs.Judging.{CountsJudged, CountsNoMore};
+ghost use Rattle.pv_stages.specs.Possibility.{width_stage};
 ghost use Rattle.pv_stages.specs.Response.{plain_response};
-ghost use Rattle.pv_stages.specs.Returns.{TakesCourse, RefusesWith, Returns};
+ghost use Rattle.pv_stages.specs.Returns.{TakesCourse, RefusesWith, Returns, ending_of};
 ghost use Rattle.pv_cli.specs.Returns.{FindsResponse};
 ghost use Rattle.pv_stages.specs.Returns.{ReturnsOver};
 ghost use Rattle.pv_stages.specs.Stage.{Behind, beside};
 ghost use Rattle.pv_cli.specs.Annotations.{AreTwo, plain_two, two_stage};
-ghost use Rattle.pv_cli.specs.Standoff.{CountsDocument, IsNestRefusal, IsRangesRefusal};
-ghost use Rattle.pv_cli.specs.Standoff.{IsShownCourse, IsTextRefusal, nesting_stage};
+ghost use Rattle.pv_cli.specs.Standoff.{IsNestRefusal, IsRangesRefusal, judging_nested_stage};
+ghost use Rattle.pv_cli.specs.Standoff.{IsShownCourse, IsTextRefusal, nested_lists, nesting_stage};
 ghost use Rattle.pv_cli.specs.Standoff.{ranges_file_stage, ranges_stage, text_file_stage};
 ghost use Rattle.pv_cli.specs.Standoff.{text_stage, with_shown};
 ghost use Rattle.pv_dtd.specs.Plain.{PlainDtd};
@@ -25,16 +25,13 @@ ghost use Rattle.pv_productive.specs.PlainForms.{dtd_of};
 ghost use Rattle.pv_standoff.specs.Ranges.{AreNamed, MAX_RANGES};
 ghost use Rattle.pv_standoff.specs.declared.ranges.Range.{Range as PlainRange};
 ghost use Rattle.pv_tree.specs.Lists.{lists_of};
-ghost use Rattle.pv_tree.specs.Plain.{PlainDoc};
 ghost use Rattle.pv_tree.specs.PlainDocs.{plain_doc};
-ghost use Rattle.pv_tree.specs.declared.nodes.Mark.{Mark};
 
 use crate::command_line::Annotation;
-use crate::commands::check::possible;
+use crate::commands::check::check_line;
 use pv_chars::{Bytes, NoMemory, TextError, Units, text_units};
 use pv_dtd::Dtd;
 use pv_io::Shelf;
-use pv_missing::Verdicts;
 use pv_productive::{Grammar, build};
 use pv_script::{Reply, reply_text};
 use pv_stages::{
@@ -45,7 +42,7 @@ use pv_standoff::{NestError, Ranges, RangesError, nest, read_ranges};
 use pv_steps::Steps;
 use pv_tree::Doc;
 use pv_write::doc_bytes;
-use std::alloc::{AllocError, Global};
+use std::alloc::Global;
 use std::mem::forget;
 use std::sync::ledger::Ledger;
 use std::thread::Threads;
@@ -171,20 +168,6 @@ fn nest_ranges(alloc: Global, root: &[u8], text: &Units, ranges: &Ranges) -> Res
     }
 }
 
-// What `check` tells of a document by its verdicts.
-fn check_line(alloc: Global, verdicts: &Verdicts) -> Result<Response, AllocError>
-    ensures { (root : List ℕ) (g : PlainDtd) (doc : PlainDoc Mark) →
-        AreVerdictsOf root g doc verdicts.now →
-        IfOk result (λ r. TellsPossibility root g doc (plain_response r)) }
-{
-    match verdicts.first_impossible() {
-        Some(path) => {
-            Response::with_path(alloc, Status::Negative, b"impossible ", path.places())
-        }
-        None => possible(alloc, verdicts.left()),
-    }
-}
-
 // A response with what `show` replies of a document behind it.
 fn with_document(alloc: Global, line: Response, doc: &Doc) -> Result<Response, NoMemory>
     ensures { IfOk result (λ r. plain_response r
@@ -212,7 +195,9 @@ fn show<L: Ledger>(
 ) -> Result<Response, Stop>
     ensures tells { (g : PlainDtd) → g ≡ dtd_of grammar.now →
         TakesCourse (IsShownCourse root.now g (plain_doc doc.now)) result }
-    ensures steps { steps.new ≤ steps.old + length (lists_of (plain_doc doc.now)) }
+    ensures counts { CountsJudged (width_stage (dtd_of grammar.now) (plain_doc doc.now))
+        (λ _. length (lists_of (plain_doc doc.now))) CountsNoMore (ending_of result)
+        steps.old steps.new }
 {
     let verdicts = narrow_verdicts(rt, alloc, grammar, doc, root, steps)?;
     let line = check_line(alloc, &verdicts)?;
@@ -236,7 +221,8 @@ fn tell<L: Ledger>(
     ensures finds { TakesCourse (Behind
         (beside (plain_dtd dtd) (nesting_stage root.now text.now ranges.now))
         (λ nested. IsShownCourse root.now nested.0 nested.1)) result }
-    ensures counts { CountsDocument root.now text.now ranges.now steps.old steps.new }
+    ensures counts { CountsJudged (judging_nested_stage root.now (plain_dtd dtd) text.now
+        ranges.now) nested_lists CountsNoMore (ending_of result) steps.old steps.new }
 {
     let doc = nest_ranges(alloc, root, text, ranges)?;
     let grammar = build(alloc, dtd)?;

@@ -1,10 +1,11 @@
 //! The command `why`.
 
-ghost use Rattle.std.specs.Prelude.{◌≡◌, ◌≤◌, ◌+◌, Some, None, length};
-ghost use Rattle.pv_cli.specs.Checking.{CountsChecked};
-ghost use Rattle.pv_cli.specs.Commands.{GoesOn, lines_checked};
+ghost use Rattle.std.specs.Prelude.{◌≡◌, length};
+ghost use Rattle.pv_cli.specs.Commands.{GoesOn};
 ghost use Rattle.pv_stages.specs.Documents.{PlainOpened};
-ghost use Rattle.pv_stages.specs.Returns.{TakesCourse, TellsBy, plain_fetched};
+ghost use Rattle.pv_stages.specs.Judging.{CountsJudged, CountsNoMore, judging_stage, lists_judged};
+ghost use Rattle.pv_stages.specs.Possibility.{width_stage};
+ghost use Rattle.pv_stages.specs.Returns.{TakesCourse, TellsBy, ending_of, plain_fetched};
 ghost use Rattle.pv_cli.specs.Why.{IsWhyCourse, TellsWhy};
 ghost use Rattle.pv_cli.specs.declared.verb.Verb.TheVariants.{Why};
 ghost use Rattle.pv_fresh.specs.Answers.{IsImpossibleAt};
@@ -58,7 +59,9 @@ fn tell<L: Ledger>(
 ) -> Result<Response, Stop>
     ensures tells { (opened : PlainOpened) → opened.dtd ≡ dtd_of grammar.now →
         opened.doc ≡ plain_doc doc.now → TakesCourse (IsWhyCourse root.now opened) result }
-    ensures steps { steps.new ≤ steps.old + length (lists_of (plain_doc doc.now)) }
+    ensures counts { CountsJudged (width_stage (dtd_of grammar.now) (plain_doc doc.now))
+        (λ _. length (lists_of (plain_doc doc.now))) CountsNoMore (ending_of result)
+        steps.old steps.new }
 {
     let verdicts = narrow_verdicts(rt, alloc, grammar, doc, root, steps)?;
     match verdicts.first_impossible() {
@@ -77,7 +80,8 @@ pub fn why<L: Ledger>(
     steps: &mut Steps<L>,
 ) -> Result<Response, Stop>
     ensures finds { TakesCourse (GoesOn Why root.now (plain_fetched fetched)) result }
-    ensures checks { CountsChecked root.now (Some fetched.bytes.items) (lines_checked Why None)
+    ensures checks { CountsJudged (judging_stage root.now (plain_fetched fetched).0
+        (plain_fetched fetched).1) lists_judged CountsNoMore (ending_of result)
         steps.old steps.new }
 {
     let Opened { dtd, doc, .. } = open_document(alloc, fetched, root)?;

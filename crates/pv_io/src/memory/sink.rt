@@ -1,7 +1,7 @@
 //! A sink in memory.
 
 ghost use Rattle.std.specs.Prelude.{◌≡◌, ◌≤◌, ◌<◌, ◌-◌, ◌↔◌, ◌⊎◌, min, length, Some, IfOk, IsErr};
-ghost use Rattle.std.specs.Prelude.{is_err, []};
+ghost use Rattle.std.specs.Prelude.{is_err, true, []};
 ghost use Rattle.std.specs.Io.KnownBytes.{WriteAppends};
 ghost use Rattle.pv_io.specs.Causes.{CountsFault, TakesSome};
 ghost use Rattle.pv_io.specs.Memory.{no_calls, after_call, FailsNow};
@@ -74,6 +74,8 @@ impl Sink for MemSink {
     ghost written = { λ s. Some s.bytes };
 
     ghost faults = { λ s. s.calls.faults };
+
+    ghost ready = { λ _. true };
 
     fn put(&mut self, piece: &[u8]) -> Result<usize, Failed>
         ensures bound { IfOk result (λ n. TakesSome n piece.now) }

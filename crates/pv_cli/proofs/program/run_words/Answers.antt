@@ -49,42 +49,42 @@ returns-in-Some-Drill-clause-runs g c =
 pub run_on_document-requires-clause-dtd_named : goal.run_on_document-requires-clause-dtd_named
 run_on_document-requires-clause-dtd_named g c =
     let named = rw c.in-Some-OnDocument.field-0-is at c.in-Some-OnDocument.ensures.named in
-    rw c.requires (λ κs l. named.0)
+    rw c.requires.names (λ κs l. named.0)
 
 pub run_on_document-requires-clause-doc_named : goal.run_on_document-requires-clause-doc_named
 run_on_document-requires-clause-doc_named g c =
     let named = rw c.in-Some-OnDocument.field-0-is at c.in-Some-OnDocument.ensures.named in
-    rw c.requires (λ κs l. named.1.0)
+    rw c.requires.names (λ κs l. named.1.0)
 
 pub run_on_certificate-requires-clause-dtd_named : goal.run_on_certificate-requires-clause-dtd_named
 run_on_certificate-requires-clause-dtd_named g c =
     let named = rw c.in-Some-OnCertificate.field-0-is at c.in-Some-OnCertificate.ensures.named in
-    rw c.requires named.0
+    rw c.requires.names named.0
 
 pub run_on_certificate-requires-clause-doc_named : goal.run_on_certificate-requires-clause-doc_named
 run_on_certificate-requires-clause-doc_named g c =
     let named = rw c.in-Some-OnCertificate.field-0-is at c.in-Some-OnCertificate.ensures.named in
-    rw c.requires named.1.0
+    rw c.requires.names named.1.0
 
 pub run_on_certificate-requires-clause-file_named : goal.run_on_certificate-requires-clause-file_named
 run_on_certificate-requires-clause-file_named g c =
     let named = rw c.in-Some-OnCertificate.field-0-is at c.in-Some-OnCertificate.ensures.named in
-    rw c.requires named.1.1.0
+    rw c.requires.names named.1.1.0
 
 pub standoff-requires-clause-dtd_named : goal.standoff-requires-clause-dtd_named
 standoff-requires-clause-dtd_named g c =
     let named = rw c.in-Some-OnRanges.field-0-is at c.in-Some-OnRanges.ensures.named in
-    rw c.requires (λ κs l. named.0)
+    rw c.requires.names (λ κs l. named.0)
 
 pub standoff-requires-clause-text_named : goal.standoff-requires-clause-text_named
 standoff-requires-clause-text_named g c =
     let named = rw c.in-Some-OnRanges.field-0-is at c.in-Some-OnRanges.ensures.named in
-    rw c.requires (λ κs l. named.1.0)
+    rw c.requires.names (λ κs l. named.1.0)
 
 pub standoff-requires-clause-ranges_named : goal.standoff-requires-clause-ranges_named
 standoff-requires-clause-ranges_named g c =
     let named = rw c.in-Some-OnRanges.field-0-is at c.in-Some-OnRanges.ensures.named in
-    rw c.requires (λ κs l. named.1.1.0)
+    rw c.requires.names (λ κs l. named.1.1.0)
 
 pub standoff-requires-clause-root_named : goal.standoff-requires-clause-root_named
 standoff-requires-clause-root_named g c = λ κs l. rw c.in-Some-OnRanges.field-0-is at c.in-Some-OnRanges.ensures.sized
@@ -92,7 +92,7 @@ standoff-requires-clause-root_named g c = λ κs l. rw c.in-Some-OnRanges.field-
 pub run_on_dtd-requires : goal.run_on_dtd-requires
 run_on_dtd-requires g c =
     let named = rw c.in-Some-OnDtd.field-0-is at c.in-Some-OnDtd.ensures.named in
-    rw c.requires named.0
+    rw c.requires.names named.0
 
 no_files : (name : List ℕ) (names : List (List ℕ)) → name ∷ names ≡ [] → ⊥
 no_files name names none = cc

@@ -5,10 +5,12 @@ use Rattle.pv_dtd.specs.PlainForms.{plain_dtd}
 use Rattle.pv_session.specs.Sessions.{session_on}
 use Rattle.pv_tree.specs.Marks.{unmarked_doc}
 use Rattle.pv_tree.specs.PlainDocs.{plain_doc}
-use Rattle.pv_stages.specs.Possibility.{width_stage}
+use Rattle.pv_stages.specs.Judging.{judges_all, judges_none, without_memory}
+use Rattle.pv_stages.specs.Possibility.{AreAllNarrow, width_stage}
 use Rattle.pv_stages.specs.Returns.{StopsBy}
 use Rattle.pv_conversation.specs.Session.{beginning_stage}
 use Rattle.pv_conversation.proofs.Beginnings.{session_begins}
+use Rattle.pv_stages.proofs.JudgedLists.{stops_within}
 use Rattle.pv_stages.proofs.Stages.{stopped_first}
 use Rattle.pv_conversation.proofs.beginning.begin.Goals as goal
 
@@ -58,3 +60,35 @@ invariant_of-doc-in_err-root g c =
       prolog = doc.prolog;
       epilog = doc.epilog;
     }
+
+pub returns-in_err-built-clause-checks : goal.returns-in_err-built-clause-checks
+returns-in_err-built-clause-checks g c =
+    let p = err_from_is_err_and c.from_residual.result c.from_residual.ensures.1 in
+    rw (p.1, p.2) (judges_none (without_memory refl) refl)
+
+pub returns-in_err-grammar-clause-checks : goal.returns-in_err-grammar-clause-checks
+returns-in_err-grammar-clause-checks g c =
+    let p = err_from_is_err_and c.from_residual-in_err-grammar.result c.from_residual-in_err-grammar.ensures.1 in
+    rw (p.1, p.2) (judges_none (without_memory refl) refl)
+
+pub returns-in_err-verdicts-clause-checks : goal.returns-in_err-verdicts-clause-checks
+returns-in_err-verdicts-clause-checks g c =
+    let d = plain_dtd c.args.opened.dtd in
+    let doc = plain_doc c.args.opened.doc in
+    let stop = c.in_err-verdicts.field-0.0 in
+    let stops = subst (λ (h : PlainDtd). StopsBy (width_stage h doc) 0 stop) (c.in_ok-grammar.ensures ∙ c.in_ok-built.ensures) c.in_err-verdicts.ensures.denied in
+    let p = err_from_is_err_and c.from_residual-in_err-verdicts.result c.from_residual-in_err-verdicts.ensures.1 in
+    rw (p.1, p.2) (judges_none (stops_within (width_stage d doc) 0 stop stops) c.in_err-verdicts.ensures.unjudged)
+
+pub returns-in_err-root-clause-checks : goal.returns-in_err-root-clause-checks
+returns-in_err-root-clause-checks g c =
+    let doc = plain_doc c.args.opened.doc in
+    let narrow = subst (λ (h : PlainDtd). AreAllNarrow h doc) (c.in_ok-grammar.ensures ∙ c.in_ok-built.ensures) c.in_ok-verdicts.ensures.has.narrow in
+    let p = err_from_is_err_and c.from_residual-in_err-root.result c.from_residual-in_err-root.ensures.1 in
+    rw (p.1, p.2) (judges_all tt 0 (narrow, refl) c.in_ok-verdicts.ensures.judged)
+
+pub returns-clause-checks : goal.returns-clause-checks
+returns-clause-checks g c =
+    let doc = plain_doc c.args.opened.doc in
+    let narrow = subst (λ (h : PlainDtd). AreAllNarrow h doc) (c.in_ok-grammar.ensures ∙ c.in_ok-built.ensures) c.in_ok-verdicts.ensures.has.narrow in
+    (tt, 0, (narrow, refl), c.in_ok-verdicts.ensures.judged)

@@ -20,3 +20,12 @@ returns-in-Ok-clause-tells c =
 
 pub returns-in-Err-clause-tells : goal.returns-in-Err-clause-tells
 returns-in-Err-clause-tells c = not_needed c.args.session.now c.refusal_reply.result c.refusal_reply.ensures.withholds
+
+pub need_remembering-requires : goal.need_remembering-requires
+need_remembering-requires c = rw c.grammar-2.ensures c.requires.remembers
+
+pub returns-in-Ok-clause-remembers : goal.returns-in-Ok-clause-remembers
+returns-in-Ok-clause-remembers c = rw c.grammar-2.ensures at c.in-Ok.ensures.remembers
+
+pub returns-in-Err-clause-remembers : goal.returns-in-Err-clause-remembers
+returns-in-Err-clause-remembers c = rw c.grammar-2.ensures at c.in-Err.ensures.remembers

@@ -1,14 +1,13 @@
 use Rattle.std.proofs.Common.{◌≡◌, ◌∙◌, ap, length, false, refl, arith}
 use Rattle.std.proofs.lemmas.Result.{err_from_is_err_and}
 use Rattle.pv_conversation.proofs.Piecewise.{behind_line, goes_failed, goes_first, goes_line, goes_long, goes_quit, line_size}
-use Rattle.pv_conversation.proofs.Counting.{ended_line, few_left}
 use Rattle.pv_conversation.proofs.talk.answer_lines.Goals as goal
 
 pub lines-init : goal.lines-init
 lines-init g c = record {
   stays = refl;
   goes = goes_first _ _ _ _ _ _ c.requires.none;
-  few = omega arith;
+  is_ready = c.requires.ready;
   number = omega arith;
 }
 
@@ -27,7 +26,7 @@ pub returns-then-not-branch-clause-next : goal.returns-then-not-branch-clause-ne
 returns-then-not-branch-clause-next g c = λ old script first within so_far.
     let no : c.in_ok-answer_line-in-Line.field-0 ≡ false = grind (arith, c.if-not-branch.true) in
     let told = rw (no, c.line.ensures) at c.in_ok-answer_line-in-Line.ensures.ok in
-    goes_quit _ _ _ _ _ _ _ _ _ _ _ _ _ _ _ c.lines.invariant.goes c.in-Line.ensures told.0 told.1 old script first within so_far
+    goes_quit _ _ _ _ _ _ _ _ _ _ _ _ _ _ _ _ c.lines.invariant.goes c.in-Line.ensures told.0 told.1 told.2 old script first within so_far
 
 pub lines-preserved : goal.lines-preserved
 lines-preserved g c =
@@ -38,15 +37,6 @@ lines-preserved g c =
     record {
       stays = c.in_ok-answer_line-in-Line.ensures.cause ∙ c.lines.invariant.stays;
       goes = rw c.clear.ensures (goes_line _ _ _ _ _ _ _ _ _ _ _ _ _ _ _ _ _ told.0 c.lines.invariant.goes takes behind told.1 told.2);
-      few = few_left _ _ _ _ takes _ _ _ _ c.lines.invariant.few c.in_ok-answer_line-in-Line.ensures.steps behind;
+      is_ready = c.in_ok-answer_line-in-Line.ensures.ready;
       number = omega (arith, c.lines.invariant.number, takes.is_eaten, size, ap length behind);
     }
-
-pub returns-in_err-answer_line-in-Line-clause-steps :
-    goal.returns-in_err-answer_line-in-Line-clause-steps
-returns-in_err-answer_line-in-Line-clause-steps g c =
-    omega (arith, c.lines.invariant.few, c.in_err-answer_line-in-Line.ensures.steps, ended_line _ _ _ _ c.in-Line.ensures)
-
-pub returns-then-not-branch-clause-steps : goal.returns-then-not-branch-clause-steps
-returns-then-not-branch-clause-steps g c =
-    omega (arith, c.lines.invariant.few, c.in_ok-answer_line-in-Line.ensures.steps, ended_line _ _ _ _ c.in-Line.ensures)

@@ -3,23 +3,16 @@ use Rattle.std.proofs.lemmas.List.{length-take}
 use Rattle.std.proofs.lemmas.Result.{err_from_is_err_and}
 use Rattle.pv_conversation.specs.Script.{MAX_SCRIPT_BYTES}
 use Rattle.pv_conversation.proofs.Piecewise.{piece_beyond, piece_failed}
-use Rattle.pv_conversation.proofs.Counting.{ended_front}
 use Rattle.pv_conversation.proofs.talk.answer_within.Goals as goal
 
 pub returns-in_err-next-clause-next : goal.returns-in_err-next-clause-next
 returns-in_err-next-clause-next g c = λ old script first full so_far.
     let within : length script + length (take c.args.left c.args.piece.now) ≤ MAX_SCRIPT_BYTES = omega (arith, full, length-take c.args.left c.args.piece.now) in
     let p = err_from_is_err_and c.from_residual.result c.from_residual.ensures.1 in
-    rw p.1 (piece_failed _ _ script c.args.piece.now c.args.left (c.in_err-next.ensures.next old script first within so_far))
+    rw p.1 (piece_failed _ _ _ script c.args.piece.now c.args.left (c.in_err-next.ensures.next old script first within so_far))
 
 pub returns-clause-next : goal.returns-clause-next
 returns-clause-next g c = λ old script first full so_far.
     let within : length script + length (take c.args.left c.args.piece.now) ≤ MAX_SCRIPT_BYTES = omega (arith, full, length-take c.args.left c.args.piece.now) in
     piece_beyond _ _ script _ _ c.args.piece.now c.args.left _ _ _ c.beyond.ensures (omega (arith, c.if-piece-left.false)) full
     (c.in_ok-next.ensures.next old script first within so_far)
-
-pub returns-in_err-next-clause-steps : goal.returns-in_err-next-clause-steps
-returns-in_err-next-clause-steps g c = omega (arith, c.in_err-next.ensures.steps, ended_front c.args.left c.args.piece.now)
-
-pub returns-clause-steps : goal.returns-clause-steps
-returns-clause-steps g c = omega (arith, c.in_ok-next.ensures.steps, ended_front c.args.left c.args.piece.now)

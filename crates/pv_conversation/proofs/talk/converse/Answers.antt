@@ -6,8 +6,7 @@ use Rattle.pv_stages.specs.Showing.{cut_off, wrote}
 use Rattle.pv_conversation.specs.Script.{MAX_SCRIPT_BYTES}
 use Rattle.pv_conversation.specs.Session.{all_told, limited}
 use Rattle.pv_conversation.proofs.Conversations.{asked_more, asked_none, asked_once, asked_within, has_course, no_room, not_at_end, writes_from}
-use Rattle.pv_conversation.proofs.Conversing.{begins, fails, read_of}
-use Rattle.pv_conversation.proofs.Counting.{checked_piece, few_behind, few_lines}
+use Rattle.pv_conversation.proofs.Conversing.{begins, fails}
 use Rattle.pv_conversation.proofs.Scripts.{append_none, consumes_kept, consumes_more, consumes_none, piece_kept}
 use Rattle.pv_conversation.proofs.talk.converse.Goals as goal
 use Rattle.pv_conversation.proofs.talk.converse.Goals.{in-Ok-finish, in-Err}
@@ -30,9 +29,9 @@ pieces-init g c = record {
   within = omega arith;
   input_stays = refl;
   stays = refl;
-  few = omega arith;
   roomy = c.in-Ok-zeros.ensures;
   none = c.in-Ok-new.ensures;
+  is_ready = c.requires;
 }
 
 pub returns-in_default-fill : goal.returns-in_default-fill
@@ -42,7 +41,7 @@ returns-in_default-fill g c =
     has_course _ talk.script so.silent false (input_fault so.out) _ _ _ _ _ _ _ so.ends
     (consumes_kept _ _ _ _ talk.taken c.in_default-fill.ensures.bytes) (asked_once _ _ _ _ _ talk.asked c.fill.ensures.calls) (not_at_end _) (λ n. refl)
     (rw talk.input_stays at c.in_default-fill.ensures.cause) (wrote refl refl so.written talk.stays)
-    (few_lines talk.script _ _ talk.few)
+    so.counts
 
 pub returns-then-count-eq0 : goal.returns-then-count-eq0
 returns-then-count-eq0 g c =
@@ -52,17 +51,16 @@ returns-then-count-eq0 g c =
     let room : 0 < length c.fill.new.buf = omega (arith, talk.roomy, c.deref_mut.ensures.len, c.fill.auto.buf) in
     let taken = rw (append_none _ _ none) at (consumes_more _ _ _ _ _ talk.taken bytes.0) in
     let within : length talk.script ≤ MAX_SCRIPT_BYTES = omega (arith, talk.within) in
-    let few = few_behind talk.script _ _ _ _ _ (read_of _ _ _ _ _ _ talk.so_far) talk.few c.finish.ensures.steps in
     let counts = c.in-Ok-fill.ensures.cause ∙ talk.input_stays in
     elim c.match-finish.branch [
       | in-Ok-finish w ↦
           let so = w.in-Ok-finish.ensures.finished _ talk.script _ within talk.so_far in
           rw w.result-is (has_course _ talk.script so.silent true (all_told so.out) _ _ _ _ _ _ _ so.ends taken (asked_once _ _ _ _ _ talk.asked c.fill.ensures.calls) (λ e. bytes.1 c.if-count-eq0.true room) (λ n. refl)
-          counts (wrote refl refl so.written (w.in-Ok-finish.ensures.cause ∙ talk.stays)) few)
+          counts (wrote refl refl so.written (w.in-Ok-finish.ensures.cause ∙ talk.stays)) so.counts)
       | in-Err w ↦
           let so = w.in-Err.ensures.finished _ talk.script _ within talk.so_far in
           rw w.result-is (has_course _ talk.script so.silent true (all_told so.out) _ _ _ _ _ _ _ so.ends taken (asked_once _ _ _ _ _ talk.asked c.fill.ensures.calls) (λ e. bytes.1 c.if-count-eq0.true room) (λ n. refl)
-          counts (cut_off so.out refl refl so.written (rw talk.stays at w.in-Err.ensures.cause)) few)
+          counts (cut_off so.out refl refl so.written (rw talk.stays at w.in-Err.ensures.cause)) so.counts)
     ]
 
 pub pieces-preserved : goal.pieces-preserved
@@ -88,9 +86,9 @@ pieces-preserved g c =
       );
       input_stays = c.in-Ok-fill.ensures.cause ∙ talk.input_stays;
       stays = c.in-Ok-More.ensures.cause ∙ talk.stays;
-      few = checked_piece talk.script _ _ _ _ talk.few (rw (c.deref.ensures.value, kept) at c.answer_piece.ensures.steps);
       roomy = talk.roomy;
       none = c.in-Ok-More.ensures.none;
+      is_ready = c.in-Ok-More.ensures.ready;
     }
 
 pub returns-in-Ok-Quit : goal.returns-in-Ok-Quit
@@ -104,7 +102,7 @@ returns-in-Ok-Quit g c =
     has_course _ (talk.script ++ take c.in-Ok-fill.count c.fill.new.buf) so.silent false (all_told so.out) _ _ _ _ _ _ _ so.ends
     (consumes_more _ _ _ _ _ talk.taken c.in-Ok-fill.ensures.bytes.0) (asked_within _ _ _ (asked_more talk.script _ _ _ _ _ talk.asked c.in-Ok-fill.ensures.calls c.if-count-eq0.false some)) (not_at_end _) (λ n. refl) (c.in-Ok-fill.ensures.cause ∙ talk.input_stays)
     (wrote refl refl so.written (c.in-Ok-Quit.ensures.cause ∙ talk.stays))
-    (few_lines (talk.script ++ take c.in-Ok-fill.count c.fill.new.buf) _ _ (checked_piece talk.script _ _ _ _ talk.few (rw (c.deref.ensures.value, kept) at c.answer_piece.ensures.steps)))
+    so.counts
 
 pub returns-in-Ok-LineLimit : goal.returns-in-Ok-LineLimit
 returns-in-Ok-LineLimit g c =
@@ -117,7 +115,7 @@ returns-in-Ok-LineLimit g c =
     has_course _ (talk.script ++ take c.in-Ok-fill.count c.fill.new.buf) so.silent false (limited so.out (codes "limit line " ++ decimal c.answer_piece.new.reading.number))
     _ _ _ _ _ _ _ so.ends (consumes_more _ _ _ _ _ talk.taken c.in-Ok-fill.ensures.bytes.0) (asked_within _ _ _ (asked_more talk.script _ _ _ _ _ talk.asked c.in-Ok-fill.ensures.calls c.if-count-eq0.false some)) (not_at_end _) (λ n. refl) (c.in-Ok-fill.ensures.cause ∙ talk.input_stays)
     (writes_from _ _ _ _ _ _ _ (c.in-Ok-LineLimit.ensures.cause ∙ talk.stays) (c.announce_line.ensures _ so.out so.written))
-    (few_lines (talk.script ++ take c.in-Ok-fill.count c.fill.new.buf) _ _ (checked_piece talk.script _ _ _ _ talk.few (rw (c.deref.ensures.value, kept) at c.answer_piece.ensures.steps)))
+    so.counts
 
 pub returns-in-Ok-ScriptLimit : goal.returns-in-Ok-ScriptLimit
 returns-in-Ok-ScriptLimit g c =
@@ -130,7 +128,7 @@ returns-in-Ok-ScriptLimit g c =
     has_course _ (talk.script ++ take c.in-Ok-fill.count c.fill.new.buf) so.silent false (limited so.out (codes "limit script"))
     _ _ _ _ _ _ _ so.ends (consumes_more _ _ _ _ _ talk.taken c.in-Ok-fill.ensures.bytes.0) (asked_within _ _ _ (asked_more talk.script _ _ _ _ _ talk.asked c.in-Ok-fill.ensures.calls c.if-count-eq0.false some)) (not_at_end _) (λ n. refl) (c.in-Ok-fill.ensures.cause ∙ talk.input_stays)
     (writes_from _ _ _ _ _ _ _ (c.in-Ok-ScriptLimit.ensures.cause ∙ talk.stays) (c.announce.ensures _ so.out so.written))
-    (few_lines (talk.script ++ take c.in-Ok-fill.count c.fill.new.buf) _ _ (checked_piece talk.script _ _ _ _ talk.few (rw (c.deref.ensures.value, kept) at c.answer_piece.ensures.steps)))
+    so.counts
 
 pub returns-in-Err-answer_piece : goal.returns-in-Err-answer_piece
 returns-in-Err-answer_piece g c =
@@ -142,4 +140,7 @@ returns-in-Err-answer_piece g c =
     has_course _ (talk.script ++ take c.in-Ok-fill.count c.fill.new.buf) so.silent false (output_fault so.out) _ _ _ _ _ _ _ so.ends
     (consumes_more _ _ _ _ _ talk.taken c.in-Ok-fill.ensures.bytes.0) (asked_within _ _ _ (asked_more talk.script _ _ _ _ _ talk.asked c.in-Ok-fill.ensures.calls c.if-count-eq0.false some)) (not_at_end _) (λ n. refl) (c.in-Ok-fill.ensures.cause ∙ talk.input_stays)
     (cut_off so.out refl refl so.written (rw talk.stays at c.in-Err-answer_piece.ensures.cause))
-    (few_lines (talk.script ++ take c.in-Ok-fill.count c.fill.new.buf) _ _ (checked_piece talk.script _ _ _ _ talk.few (rw (c.deref.ensures.value, kept) at c.answer_piece.ensures.steps)))
+    so.counts
+
+pub fill-requires : goal.fill-requires
+fill-requires g c = omega (arith, c.pieces.invariant.roomy, c.deref_mut.ensures.len)

@@ -10,4 +10,5 @@ loop-at-preserved g c =
       within = omega arith;
       written = appends_rest _ _ _ c.args.bytes.now c.loop-at.at c.in_ok-at.field-0 c.loop-at.invariant.written c.in_ok-at.ensures.bytes;
       stays = c.in_ok-at.ensures.cause ∙ c.loop-at.invariant.stays;
+      is_ready = c.in_ok-at.ensures.ready;
     }

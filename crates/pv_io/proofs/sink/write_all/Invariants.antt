@@ -1,4 +1,4 @@
-use Rattle.std.proofs.Common.{length, ◌-◌, ◌≤◌, take}
+use Rattle.std.proofs.Common.{length, ◌-◌, ◌≡◌, ◌≤◌, take, true}
 use Rattle.std.specs.Io.KnownBytes.{Appends}
 use Rattle.pv_io.specs.Causes.{CountStays}
 use Rattle.pv_io.proofs.sink.write_all.Given as goal
@@ -9,6 +9,7 @@ invariant-loop-at g l = record {
   within : l.at ≤ length l.bytes;
   written : Appends (g.K.Sink.written l.initial.sink) (g.K.Sink.written l.sink) (take l.at l.bytes);
   stays : CountStays (g.K.Sink.faults l.initial.sink) (g.K.Sink.faults l.sink);
+  is_ready : g.K.Sink.ready l.sink ≡ true;
 }
 
 abbrev pub decreases-loop-at : goal.decreases-loop-at

@@ -8,6 +8,7 @@ invariant-loop-k g l = record {
   within : l.k ≤ l.n;
   counted : CountsReplies l.initial.session no_counts (drill_lines l.k) l.session l.counts;
   bounded : IsCountOf (3 * l.k) l.counts;
+  later : l.initial.steps ≤ l.steps;
   few : l.steps ≤ l.initial.steps + 2 * length (drill_lines l.k);
 }
 

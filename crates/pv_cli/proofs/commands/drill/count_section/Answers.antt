@@ -26,3 +26,13 @@ returns-then-k-eq0-clause-steps g c =
 
 pub returns-else-k-eq0-clause-steps : goal.returns-else-k-eq0-clause-steps
 returns-else-k-eq0-clause-steps g c = omega (arith, c.in_ok-first.ensures.steps, c.in_ok-second.ensures.steps, two_lines c.args.k)
+
+pub returns-in_err-second-clause-later : goal.returns-in_err-second-clause-later
+returns-in_err-second-clause-later g c = omega (arith, c.in_ok-first.ensures.later, c.in_err-second.ensures.later)
+
+pub returns-then-k-eq0-clause-later : goal.returns-then-k-eq0-clause-later
+returns-then-k-eq0-clause-later g c =
+    omega (arith, c.in_ok-first.ensures.later, c.in_ok-second.ensures.later, c.count_drill_line-then-k-eq0.ensures.later)
+
+pub returns-else-k-eq0-clause-later : goal.returns-else-k-eq0-clause-later
+returns-else-k-eq0-clause-later g c = omega (arith, c.in_ok-first.ensures.later, c.in_ok-second.ensures.later)

@@ -1,7 +1,13 @@
+use Rattle.std.proofs.Common.{◌*◌, Err, length}
 use Rattle.std.proofs.lemmas.Result.{err_from_is_err_and}
 use Rattle.pv_cli.specs.Drill.{TellsCounts, drill_stage}
 use Rattle.pv_stages.specs.Stage.{Responds}
-use Rattle.pv_cli.proofs.Counting.{counts_more, drill_counts}
+use Rattle.pv_cli.specs.Checking.{CountsAtMost, judging_drill_stage}
+use Rattle.pv_drill.specs.Drill.{drill_lines}
+use Rattle.pv_stages.specs.Judging.{lists_judged}
+use Rattle.pv_stages.specs.Returns.{ending_of}
+use Rattle.pv_cli.proofs.Counting.{drill_stopped}
+use Rattle.pv_stages.proofs.JudgedLists.{opened_goes}
 use Rattle.pv_cli.proofs.OneDrill.{asks_none}
 use Rattle.pv_stages.proofs.Stages.{found_behind, stop_found, tells_found}
 use Rattle.pv_cli.proofs.commands.drill.drill.Goals as goal
@@ -20,7 +26,14 @@ returns-clause-finds g c =
     (tells_found (TellsCounts n session) c.answer_drill-response.result c.answer_drill-response.ensures.tells)
 
 pub returns-in_err-session-clause-checks : goal.returns-in_err-session-clause-checks
-returns-in_err-session-clause-checks g c = counts_more _ _ _ _ _ c.in_err-session.ensures.checks
+returns-in_err-session-clause-checks g c =
+    let n = c.args.n in
+    let p = err_from_is_err_and c.from_residual.result c.from_residual.ensures.1 in
+    rw (p.1, p.2) (drill_stopped (judging_drill_stage n) lists_judged (2 * length (drill_lines n)) (ending_of (Err c.in_err-session.field-0.0)) _ _ c.in_err-session.ensures.checks)
 
 pub returns-clause-checks : goal.returns-clause-checks
-returns-clause-checks g c = drill_counts c.args.n c.in_ok-session.session _ _ _ _ c.in_ok-session.ensures.returns c.in_ok-session.ensures.checks c.answer_drill-response.ensures.steps
+returns-clause-checks g c =
+    let n = c.args.n in
+    let told = c.answer_drill-response in
+    opened_goes (judging_drill_stage n) lists_judged (CountsAtMost (2 * length (drill_lines n))) (ending_of told.result) _ _ _ c.in_ok-session.session c.in_ok-session.ensures.checks
+    (told.ensures.later, told.ensures.steps)

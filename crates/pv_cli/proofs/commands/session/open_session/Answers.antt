@@ -2,10 +2,15 @@ use Rattle.std.proofs.Common.{arith, refl}
 use Rattle.std.proofs.lemmas.Result.{err_from_is_err_and}
 use Rattle.pv_dtd.specs.PlainForms.{plain_dtd}
 use Rattle.pv_read.proofs.DocumentFacts.{few_nodes}
-use Rattle.pv_cli.specs.Checking.{none_checked, some_checked}
+use Rattle.pv_session.specs.Sessions.{PlainSession}
+use Rattle.pv_stages.specs.Judging.{lists_judged}
+use Rattle.pv_stages.specs.Possibility.{width_stage}
+use Rattle.pv_stages.specs.Stage.{beside}
 use Rattle.pv_stages.specs.Documents.{document_stage}
 use Rattle.pv_stages.specs.Returns.{plain_opened}
 use Rattle.pv_conversation.specs.Session.{guarding_stage}
+use Rattle.pv_cli.proofs.Counting.{opened_document}
+use Rattle.pv_stages.proofs.JudgedLists.{opening_first}
 use Rattle.pv_stages.proofs.Stages.{returned_second, stopped_first}
 use Rattle.pv_cli.proofs.commands.session.open_session.Goals as goal
 
@@ -31,7 +36,13 @@ returns-clause-returns g c =
     returned_second (λ s. s) stage (λ o. guarding_stage root o.dtd o.doc) opened 0 0 c.begin.result read c.begin.ensures.returns
 
 pub returns-in_err-opened-clause-checks : goal.returns-in_err-opened-clause-checks
-returns-in_err-opened-clause-checks g c = none_checked refl
+returns-in_err-opened-clause-checks g c =
+    let root = c.args.root.now in
+    let stage = document_stage root (plain_dtd c.args.fetched.dtd) c.args.fetched.bytes.items in
+    let stop = c.in_err-opened.field-0.0 in
+    let p = err_from_is_err_and c.from_residual.result c.from_residual.ensures.1 in
+    rw (p.1, p.2) (opening_first PlainSession stage (λ o. beside o (width_stage o.dtd o.doc)) lists_judged 0 stop _ _ c.in_err-opened.ensures refl)
 
 pub returns-clause-checks : goal.returns-clause-checks
-returns-clause-checks g c = some_checked c.args.fetched.bytes.items _ 0 refl c.in_ok-opened.ensures.0.is_text refl (omega (arith, c.begin.ensures.steps))
+returns-clause-checks g c =
+    opened_document c.args.root.now _ _ (plain_opened c.in_ok-opened.opened) _ _ c.begin.result c.in_ok-opened.ensures c.begin.ensures.checks

@@ -5,6 +5,7 @@ use Rattle.pv_productive.specs.PlainForms.{dtd_of}
 use Rattle.pv_tree.specs.Plain.{PlainDoc}
 use Rattle.pv_tree.specs.PlainDocs.{plain_doc}
 use Rattle.pv_tree.specs.declared.nodes.Mark.{Mark}
+use Rattle.pv_stages.specs.Judging.{judges_all, judges_none}
 use Rattle.pv_stages.specs.Possibility.{width_stage}
 use Rattle.pv_stages.specs.Response.{plain_response}
 use Rattle.pv_stages.specs.Returns.{TakesCourse}
@@ -12,6 +13,7 @@ use Rattle.pv_stages.specs.Stage.{Responds, short_of_memory}
 use Rattle.pv_cli.specs.Standoff.{IsShownCourse, TellsNested}
 use Rattle.pv_stages.specs.declared.response.Response.{Response}
 use Rattle.pv_stages.specs.declared.stop.Stop.{Stop}
+use Rattle.pv_stages.proofs.JudgedLists.{stops_within}
 use Rattle.pv_stages.proofs.Stages.{found_behind, stop_found, tells_found}
 use Rattle.pv_cli.proofs.commands.standoff.show.Goals as goal
 
@@ -50,3 +52,18 @@ returns-clause-tells g c = λ d is.
       is_response = c.in_ok-with_document.ensures;
     } in
     shows_as root own d doc result is (found_behind (width_stage own doc) (λ _. Responds (TellsNested root own doc)) tt result (has.narrow, refl) (tells_found (TellsNested root own doc) result told))
+
+pub returns-in_err-verdicts-clause-counts : goal.returns-in_err-verdicts-clause-counts
+returns-in_err-verdicts-clause-counts g c =
+    let stop = c.in_err-verdicts.field-0.0 in
+    let p = err_from_is_err_and c.from_residual.result c.from_residual.ensures.1 in
+    rw (p.1, p.2) (judges_none (stops_within (width_stage (dtd_of c.args.grammar.now) (plain_doc c.args.doc.now)) 0 stop c.in_err-verdicts.ensures.denied) c.in_err-verdicts.ensures.unjudged)
+
+pub returns-in_err-line-clause-counts : goal.returns-in_err-line-clause-counts
+returns-in_err-line-clause-counts g c = judges_all tt 0 (c.in_ok-verdicts.ensures.has.narrow, refl) c.in_ok-verdicts.ensures.judged
+
+pub returns-in_err-with_document-clause-counts : goal.returns-in_err-with_document-clause-counts
+returns-in_err-with_document-clause-counts g c = judges_all tt 0 (c.in_ok-verdicts.ensures.has.narrow, refl) c.in_ok-verdicts.ensures.judged
+
+pub returns-clause-counts : goal.returns-clause-counts
+returns-clause-counts g c = judges_all tt 0 (c.in_ok-verdicts.ensures.has.narrow, refl) c.in_ok-verdicts.ensures.judged

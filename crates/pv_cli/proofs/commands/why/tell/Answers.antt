@@ -8,12 +8,14 @@ use Rattle.pv_productive.specs.PlainForms.{dtd_of}
 use Rattle.pv_tree.specs.Plain.{PlainDoc}
 use Rattle.pv_tree.specs.PlainDocs.{plain_doc}
 use Rattle.pv_tree.specs.declared.nodes.Mark.{Mark}
+use Rattle.pv_stages.specs.Judging.{judges_all, judges_none}
 use Rattle.pv_stages.specs.Possibility.{AreVerdictsOf, width_stage}
 use Rattle.pv_stages.specs.Returns.{TakesCourse, TellsBy}
 use Rattle.pv_stages.specs.Stage.{Behind, Responds, short_of_memory}
 use Rattle.pv_cli.specs.Why.{TellsWhy, is_possible}
 use Rattle.pv_stages.specs.declared.response.Response.{Response}
 use Rattle.pv_stages.specs.declared.stop.Stop.{Stop}
+use Rattle.pv_stages.proofs.JudgedLists.{stops_within}
 use Rattle.pv_stages.proofs.Possibilities.{impossible_at}
 use Rattle.pv_stages.proofs.Stages.{found_behind, stop_found, tells_found}
 use Rattle.pv_cli.proofs.commands.why.tell.Goals as goal
@@ -65,3 +67,18 @@ pub returns-in_err-with_line-in-None-clause-tells : goal.returns-in_err-with_lin
 returns-in_err-with_line-in-None-clause-tells g c = λ opened is are.
     let p = err_from_is_err_and c.from_residual-in_err-with_line-in-None.result c.from_residual-in_err-with_line-in-None.ensures.1 in
     rw (p.1, p.2) (short_of_memory 0 refl refl)
+
+pub returns-in_err-verdicts-clause-counts : goal.returns-in_err-verdicts-clause-counts
+returns-in_err-verdicts-clause-counts g c =
+    let stop = c.in_err-verdicts.field-0.0 in
+    let p = err_from_is_err_and c.from_residual.result c.from_residual.ensures.1 in
+    rw (p.1, p.2) (judges_none (stops_within (width_stage (dtd_of c.args.grammar.now) (plain_doc c.args.doc.now)) 0 stop c.in_err-verdicts.ensures.denied) c.in_err-verdicts.ensures.unjudged)
+
+pub returns-in-Some-clause-counts : goal.returns-in-Some-clause-counts
+returns-in-Some-clause-counts g c = judges_all tt 0 (c.in_ok-verdicts.ensures.has.narrow, refl) c.in_ok-verdicts.ensures.judged
+
+pub returns-clause-counts : goal.returns-clause-counts
+returns-clause-counts g c = judges_all tt 0 (c.in_ok-verdicts.ensures.has.narrow, refl) c.in_ok-verdicts.ensures.judged
+
+pub returns-in_err-with_line-in-None-clause-counts : goal.returns-in_err-with_line-in-None-clause-counts
+returns-in_err-with_line-in-None-clause-counts g c = judges_all tt 0 (c.in_ok-verdicts.ensures.has.narrow, refl) c.in_ok-verdicts.ensures.judged

@@ -12,7 +12,7 @@ use Rattle.pv_stages.specs.Possibility.{AreVerdictsOf, is_impossible}
 use Rattle.pv_stages.specs.Response.{PlainResponse, plain_response, with_line}
 use Rattle.pv_stages.specs.declared.response.Response.{Response}
 use Rattle.pv_stages.specs.declared.status.Status.TheVariants.{Done, Negative}
-use Rattle.pv_cli.proofs.commands.standoff.check_line.Goals as goal
+use Rattle.pv_cli.proofs.commands.check.check_line.Goals as goal
 
 module _ (root : List ℕ) (g : PlainDtd) (doc : PlainDoc Mark) (vs : PlainVerdicts) (has : AreVerdictsOf root g doc vs) where
   impossible_told : (path : List ℕ) (r : PlainResponse) → vs.first ≡ Some path → r ≡ with_line Negative (codes "impossible " ++ path_text path) → TellsPossibility root g doc r
