@@ -1,6 +1,5 @@
 //! Characters, names, markup, references and texts at the front of some bytes.
 
-use crate::expectations::expect;
 use crate::tables::{CHARS, NAME_CHARS, NAME_STARTS, NO_CHARS, NO_NAME_CHARS, NO_NAME_STARTS};
 use pv_chars::declarations::{after_text_decl, after_xml_decl, quoted_at};
 use pv_chars::markup::{after_cdata, after_comment, after_instruction};
@@ -14,6 +13,7 @@ use pv_chars::{
 use std::alloc::Global;
 use std::process::Abort;
 use std::test::Fail;
+use test_expect::expect;
 
 /// A set of characters.
 #[derive(Clone, Copy)]
@@ -44,12 +44,13 @@ const SETS: [(Set, &[u32], bool); 6] = [
 ];
 
 #[test]
-fn sets(rt: HostRuntime) {
+fn sets(rt: HostRuntime) -> Result<(), Fail> {
     for (set, codes, is_in) in &SETS {
         for code in *codes {
-            expect(&rt, set.has(*code) == *is_in, code);
+            expect(set.has(*code) == *is_in, code)?;
         }
     }
+    Ok(())
 }
 
 /// Bytes, each with the character at their front and the bytes after it.
@@ -82,10 +83,11 @@ static FORMS: [(&[u8], Option<(u32, &[u8])>); 25] = [
 ];
 
 #[test]
-fn shortest_forms(rt: HostRuntime) {
+fn shortest_forms(rt: HostRuntime) -> Result<(), Fail> {
     for (bytes, code) in &FORMS {
-        expect(&rt, char_at(*bytes) == *code, bytes);
+        expect(char_at(*bytes) == *code, bytes)?;
     }
+    Ok(())
 }
 
 /// Bytes, each with whether they are a name.
@@ -104,10 +106,11 @@ static NAMES: [(&[u8], bool); 11] = [
 ];
 
 #[test]
-fn names(rt: HostRuntime) {
+fn names(rt: HostRuntime) -> Result<(), Fail> {
     for (bytes, is) in &NAMES {
-        expect(&rt, is_name(*bytes) == *is, bytes);
+        expect(is_name(*bytes) == *is, bytes)?;
     }
+    Ok(())
 }
 
 /// What may stand at the front of some bytes.
@@ -211,10 +214,11 @@ static FRONTS: [(Front, &[u8], Option<&[u8]>); 38] = [
 ];
 
 #[test]
-fn fronts(rt: HostRuntime) {
+fn fronts(rt: HostRuntime) -> Result<(), Fail> {
     for (front, bytes, rest) in &FRONTS {
-        expect(&rt, front.after(*bytes) == *rest, bytes);
+        expect(front.after(*bytes) == *rest, bytes)?;
     }
+    Ok(())
 }
 
 #[test]
@@ -250,15 +254,16 @@ static TEXTS: [(&[u8], Result<(usize, bool), TextError>); 12] = [
 // The number of units of the text, and whether it has data, or why the bytes are none.
 fn told(rt: &impl Abort, alloc: Global, bytes: &[u8]) -> Result<(usize, bool), TextError> {
     let units = text_units(alloc, bytes)?;
-    expect(rt, units.bytes() == bytes, &bytes);
+    assert!(rt; units.bytes() == bytes, "{bytes:?}");
     Ok((units.len(), units.has_data()))
 }
 
 #[test]
-fn texts(rt: HostRuntime) {
+fn texts(rt: HostRuntime) -> Result<(), Fail> {
     for (bytes, wanted) in &TEXTS {
-        expect(&rt, told(&rt, rt.alloc(), *bytes) == *wanted, bytes);
+        expect(told(&rt, rt.alloc(), *bytes) == *wanted, bytes)?;
     }
+    Ok(())
 }
 
 // Both texts one behind the other, and their copy, are of six units.

@@ -1,6 +1,5 @@
 //! Sources, sinks and shelves, in memory and over the machine.
 
-use crate::expectations::expect;
 use pv_io::{
     Failed, FetchError, FolderShelf, MemShelf, MemSink, MemSource, ReadSource, Shelf, Sink, Source,
     WriteSink, write_all,
@@ -9,6 +8,7 @@ use std::alloc::{AllocError, Global};
 use std::io::{Read, Write};
 use std::test::Fail;
 use std::{fs, io};
+use test_expect::expect;
 
 const FOLDER: &str = "test_base_folder";
 
@@ -43,7 +43,7 @@ static FILLS: [(usize, Result<usize, Failed>, &[u8]); 5] = [
 fn memory_sources(rt: HostRuntime) -> Result<(), Fail> {
     let mut source = MemSource::new(rt.alloc(), b"abcde", 2, &[1])?;
     for (room, wanted, left) in &FILLS {
-        expect(&rt, fills(&mut source, *room, *wanted, *left), left);
+        expect(fills(&mut source, *room, *wanted, *left), left)?;
     }
     Ok(())
 }
@@ -65,7 +65,7 @@ static WRITES: [(&[u8], Result<(), Failed>, &[u8]); 3] = [
 fn memory_sinks(rt: HostRuntime) -> Result<(), Fail> {
     let mut sink = MemSink::new(rt.alloc(), 5, 2, &[1])?;
     for (bytes, wanted, written) in &WRITES {
-        expect(&rt, writes(&mut sink, *bytes, *wanted, *written), bytes);
+        expect(writes(&mut sink, *bytes, *wanted, *written), bytes)?;
     }
     assert!(rt; sink.put(b"") == Ok(0));
     assert!(rt; sink.written() == b"abcde".as_slice());
@@ -105,7 +105,7 @@ fn memory_shelves(rt: HostRuntime) -> Result<(), Fail> {
     let mut shelf = shelf_of(rt.alloc())?;
     for (name, most, wanted) in &FETCHES {
         let found = shelf.fetch(rt.alloc(), *name, *most);
-        expect(&rt, is_fetched(found, *wanted), wanted);
+        expect(is_fetched(found, *wanted), wanted)?;
     }
     Ok(())
 }
@@ -177,12 +177,13 @@ static PUTS: [(&[u8], Result<usize, Failed>); 4] = [
 ];
 
 #[test]
-fn writers(rt: HostRuntime) {
+fn writers(rt: HostRuntime) -> Result<(), Fail> {
     let mut sink = WriteSink::new(Stutter::new(rt.alloc()));
     for (bytes, wanted) in &PUTS {
-        expect(&rt, sink.put(*bytes) == *wanted, bytes);
+        expect(sink.put(*bytes) == *wanted, bytes)?;
     }
     assert!(rt; write_all(&mut sink, b"bc") == Ok(()));
+    Ok(())
 }
 
 // Makes a folder with one file.
@@ -207,7 +208,7 @@ fn files_by_their_paths(rt: HostRuntime) -> Result<(), Fail> {
     let mut shelf = FolderShelf::new(&rt, &words);
     for (name, most, wanted) in &FILES {
         let found = shelf.fetch(rt.alloc(), *name, *most);
-        expect(&rt, is_fetched(found, *wanted), wanted);
+        expect(is_fetched(found, *wanted), wanted)?;
     }
     fs::remove_dir_all(&rt, FOLDER)?;
     Ok(())

@@ -6,6 +6,4 @@ mod characters;
 #[cfg(test)]
 mod devices;
 #[cfg(test)]
-mod expectations;
-#[cfg(test)]
 mod tables;

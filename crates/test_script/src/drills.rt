@@ -1,9 +1,9 @@
 //! The document and the lines of a drill.
 
-use crate::expectations::expect;
 use pv_drill::{drill_doc, drill_line};
 use std::alloc::Global;
 use std::test::Fail;
+use test_expect::expect;
 
 #[test]
 fn two_sections(rt: HostRuntime) -> Result<(), Fail> {
@@ -31,8 +31,9 @@ fn is_line(alloc: Global, number: u32, line: &[u8]) -> bool {
 }
 
 #[test]
-fn lines(rt: HostRuntime) {
+fn lines(rt: HostRuntime) -> Result<(), Fail> {
     for (number, line) in &LINES {
-        expect(&rt, is_line(rt.alloc(), *number, *line), number);
+        expect(is_line(rt.alloc(), *number, *line), number)?;
     }
+    Ok(())
 }

@@ -4,8 +4,6 @@
 #[cfg(test)]
 mod drills;
 #[cfg(test)]
-mod expectations;
-#[cfg(test)]
 mod replies;
 #[cfg(test)]
 mod scripts;

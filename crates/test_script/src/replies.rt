@@ -1,12 +1,12 @@
 //! Replies as they are written.
 
-use crate::expectations::expect;
 use pv_chars::{List, bytes_of};
 use pv_edit::{Done, Edit, Reason, VerdictRow};
 use pv_script::{Reply, okay_text, reply_text};
 use pv_tree::{Path, Verdict};
 use std::alloc::Global;
 use std::test::Fail;
+use test_expect::expect;
 
 // Whether the reply is written so.
 fn is_written(alloc: Global, reply: &Reply, text: &str) -> bool {
@@ -28,10 +28,11 @@ const SHORT: [(Reply, &str); 7] = [
 ];
 
 #[test]
-fn short_replies(rt: HostRuntime) {
+fn short_replies(rt: HostRuntime) -> Result<(), Fail> {
     for (reply, text) in &SHORT {
-        expect(&rt, is_written(rt.alloc(), reply, *text), text);
+        expect(is_written(rt.alloc(), reply, *text), text)?;
     }
+    Ok(())
 }
 
 #[test]

@@ -1,10 +1,10 @@
 //! Lines and commands.
 
-use crate::expectations::expect;
 use pv_edit::{Ask, Edit};
 use pv_script::{Command, CommandError, Lines, Took, edit_line, read_command};
 use std::alloc::Global;
 use std::test::Fail;
+use test_expect::expect;
 
 /// Pieces of a script, one behind the other, each with what is told of it, and the line that is
 /// held then.
@@ -20,7 +20,7 @@ fn lines(rt: HostRuntime) -> Result<(), Fail> {
     let mut lines = Lines::new(rt.alloc())?;
     for (piece, took, line) in &PIECES {
         let told = lines.take(*piece);
-        expect(&rt, told == *took && lines.line() == *line, piece);
+        expect(told == *took && lines.line() == *line, piece)?;
     }
     assert!(rt; lines.held() == 2);
     lines.clear();
@@ -116,13 +116,14 @@ static NO_COMMANDS: [&str; 54] = [
 ];
 
 #[test]
-fn commands(rt: HostRuntime) {
+fn commands(rt: HostRuntime) -> Result<(), Fail> {
     for word in &WORDS {
-        expect(&rt, word_of(rt.alloc(), *word) == *word, word);
+        expect(word_of(rt.alloc(), *word) == *word, word)?;
     }
     for line in &NO_COMMANDS {
-        expect(&rt, word_of(rt.alloc(), *line) == "unknown", line);
+        expect(word_of(rt.alloc(), *line) == "unknown", line)?;
     }
+    Ok(())
 }
 
 /// Questions, each with its path, and the numbers of a wrap, or none of a rename.
@@ -152,10 +153,11 @@ fn is_ask(alloc: Global, line: &str, places: &[u32], numbers: Option<(u32, u32)>
 }
 
 #[test]
-fn asks(rt: HostRuntime) {
+fn asks(rt: HostRuntime) -> Result<(), Fail> {
     for (line, places, numbers) in &ASKS {
-        expect(&rt, is_ask(rt.alloc(), *line, *places, *numbers), line);
+        expect(is_ask(rt.alloc(), *line, *places, *numbers), line)?;
     }
+    Ok(())
 }
 
 /// Lines of edits.
@@ -191,8 +193,9 @@ fn is_read_again(alloc: Global, line: &str) -> bool {
 }
 
 #[test]
-fn edits(rt: HostRuntime) {
+fn edits(rt: HostRuntime) -> Result<(), Fail> {
     for line in &EDITS {
-        expect(&rt, is_read_again(rt.alloc(), *line), line);
+        expect(is_read_again(rt.alloc(), *line), line)?;
     }
+    Ok(())
 }
