@@ -21,8 +21,8 @@ PYTHON = python_with_selenium()
 if PYTHON not in (None, sys.executable):
     os.execv(PYTHON, [PYTHON, *sys.argv])
 
-from annotate_browser import browser  # noqa: E402
-from annotate_fixture import ARTICLE, soon  # noqa: E402
+from lib.annotate.browser import browser  # noqa: E402
+from lib.annotate.fixture import ARTICLE, soon  # noqa: E402
 
 RUNS = 2
 SECTION = "<sec><title>Section {0}</title><p>Text of section {0}, <em>with</em> emphasis, and some more words of it.</p></sec>"

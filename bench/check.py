@@ -36,6 +36,19 @@ def chain(count):
     return f"{names}<!ELEMENT a{count} EMPTY><!ELEMENT x EMPTY>"
 
 
+# A name whose content is `x` and then a choice of names, each mentioned so many times, of which each needs the one before it.
+def choice(count, times=1):
+    names = [f"e{i}" for i in range(count)]
+    needs = "".join(f"<!ELEMENT {name} ({before})>" for before, name in zip(names, names[1:]))
+    return f"<!ELEMENT big (x, ({'|'.join(names * times)}))><!ELEMENT x EMPTY><!ELEMENT e0 EMPTY>{needs}"
+
+
+# Lists of `a`, whose content is `x` and then so many particles, each one of 4,000 names that may be left out.
+def long_model(count, names=4_000):
+    others = "".join(f", e{i % names}?" for i in range(count))
+    return f"<!ELEMENT r (a*)><!ELEMENT a (x{others})><!ELEMENT x EMPTY>" + "".join(f"<!ELEMENT e{i} EMPTY>" for i in range(names))
+
+
 # The document without the tags of every tenth element but the first.
 def without_tags(text):
     found, number = [], 0
@@ -73,6 +86,11 @@ def cases(top, folder):
     # 11,000 columns, so that 6,098 kids are the most.
     for count in (600, 6_000):
         yield f"{count:,} kids by a chain of 1,000 cycles", chain(1_000), "a0", row("x", count, "a0"), False
+    for count in (400, 4_000):
+        yield f"one list under a choice of a chain of {count:,} names", choice(count), "big", "<big/>", False
+        yield "the same, each mentioned 14 times", choice(count, 14), "big", "<big/>", False
+    for count in (1, 11, 101):
+        yield f"{count} lists through tables under a model of 32,001 particles", long_model(16_000), "r", f"<r>{'<a/>' * count}</r>", False
     # Eight columns, so that (n + 1) * 8 is the limit.
     yield "the widest list", WIDE, "a", row("b", 8_388_607), False
 

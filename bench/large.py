@@ -121,7 +121,8 @@ def cases(program, dtd, form):
     def file(name, make):
         return document(f"{dtd}.{name}", make)
 
-    yield Case("a document of 1.6 kB checked", words("check", file("one", lambda: text_of(form, 1_600))))
+    yield Case("a document of 1.6 kB checked", words("check", file("one", lambda: text_of(form, 1_600))), aim=0.009)
+    yield Case("the same, without every tenth pair of tags", words("check", file("one.tagless", lambda: without_tags(text_of(form, 1_600)))))
     yield Case("a document of 10 kB opened", words("session", file("ten", lambda: text_of(form, 10_000))), aim=0.04)
     bytes = form.size * 1_000_000
     yield Case(f"{form.size} MB checked, valid", words("check", file("whole", lambda: text_of(form, bytes))))

@@ -13,7 +13,7 @@ TOP = os.path.dirname(os.path.dirname(os.path.abspath(__file__)))
 sys.dont_write_bytecode = True
 sys.path.insert(0, os.path.join(TOP, "tests"))
 
-from lsp_client import Client, uri_of  # noqa: E402
+from lib.lsp_client import Client, uri_of  # noqa: E402
 
 DOCBOOK = "/usr/share/xml/docbook/schema/dtd/4.5/docbookx.dtd"
 WORDS = "the town keeps its market on the square by the old church and opens early in the morning".split()

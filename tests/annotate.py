@@ -13,7 +13,7 @@ import sys
 
 sys.dont_write_bytecode = True
 
-from annotate_fixture import Fault, same  # noqa: E402
+from lib.annotate.fixture import Fault, same  # noqa: E402
 
 
 def python_with_selenium():
@@ -25,21 +25,15 @@ def python_with_selenium():
 
 
 def cases():
-    import annotate_drawing
-    import annotate_files
-    import annotate_markup
-    import annotate_offers
-    import annotate_texts
-    import annotate_trial
-    import annotate_views
+    from lib.annotate import drawing, files, markup, offers, texts, trial, views
 
-    modules = (annotate_markup, annotate_offers, annotate_texts, annotate_views, annotate_files, annotate_drawing, annotate_trial)
+    modules = (markup, offers, texts, views, files, drawing, trial)
     return [case for module in modules for case in module.CASES]
 
 
 def run(case, program):
     """Runs one case in a browser of its own; whether it passed."""
-    from annotate_browser import browser
+    from lib.annotate.browser import browser
     from selenium.common.exceptions import WebDriverException
 
     driver = browser()

@@ -12,7 +12,7 @@ import tempfile
 
 sys.dont_write_bytecode = True
 
-from annotate_fixture import ARTICLE, EXAMPLES, FOLDER, LETTER, fault_of, need, run_cases, same  # noqa: E402
+from lib.annotate.fixture import ARTICLE, EXAMPLES, FOLDER, LETTER, fault_of, need, run_cases, same  # noqa: E402
 
 sys.path[:0] = [FOLDER, os.path.dirname(FOLDER)]
 
@@ -106,17 +106,30 @@ def counts_costs(program):
             if "names" not in offer:
                 continue
             _, line, _ = costs.edit(ask)
-            known, left = {name: {"more": None} for name in offer["whole"]}, 1
+            known, left = {**offer["costs"], **dict.fromkeys(offer["whole"])}, 1
             while left:
-                answer = costs.more({"task": offer["task"]})
+                answer = costs.more({"task": offer["task"], "names": random.sample(offer["names"], k=min(2, len(offer["names"]))), "all": True})
                 known, left = {**known, **answer["costs"]}, answer["left"]
             same(sorted(known), sorted(offer["names"]), "each name that is offered")
+            need("is_gone" not in answer and answer["is_quick"], f"all are told: {answer}")
+            told, wanted = {}, random.sample([name for name, cost in known.items() if cost], k=min(3, sum(map(bool, known.values()))))
+            while set(told) < set(wanted):
+                answer = costs.more({"task": offer["task"], "names": [name for name in wanted if name not in told], "all": False})
+                need(answer["names"] and not answer["costs"], f"which elements: {answer}")
+                told |= answer["names"]
             for name, cost in known.items():
                 more = editor.tried([f"{line} {name}"], editor.session.need) - before
-                need(more <= 0 if cost["more"] is None else more == cost["more"], f"{line} {name}: {cost} for {more}")
+                need(more <= 0 if cost is None else more == cost, f"{line} {name}: {cost} for {more}")
+                names = told.get(name)
+                need(names is None or "…" in names or count_of(names) >= more, f"{line} {name}: {names} for {more}")
                 counted += 1
         costs.close()
     need(counted > 50, f"too few were counted: {counted}")
+
+
+def count_of(names):
+    """How many elements these are, as they are told."""
+    return sum(int(name.partition(" ×")[2] or 1) for name in names)
 
 
 def types(program):

@@ -11,7 +11,7 @@ import tempfile
 
 sys.dont_write_bytecode = True
 
-from annotate_fixture import DRAFT, EXAMPLES, FOLDER, LETTER, Fault, fault_of, need, run_cases, same  # noqa: E402
+from lib.annotate.fixture import DRAFT, EXAMPLES, FOLDER, LETTER, Fault, fault_of, need, run_cases, same  # noqa: E402
 
 sys.path[:0] = [FOLDER, os.path.dirname(FOLDER)]
 

@@ -13,7 +13,8 @@ import time
 
 sys.dont_write_bytecode = True
 
-from annotate_fixture import DRAFT, LETTER, Server, need, run_cases, same, soon  # noqa: E402
+from lib.annotate.fixture import DRAFT, LETTER, Server, fault_of, need, run_cases, same, soon  # noqa: E402
+from lib.waiting import PATIENCE  # noqa: E402
 
 
 def refuses_others(program):
@@ -86,7 +87,7 @@ def says_what_is_wrong(program):
     """A file that can't be used is named, with the place of its fault, before anything is made."""
     with Server(program, DRAFT) as server:
         def said(*words):
-            ran = subprocess.run([*server.words[:2], "--program", program, *words], capture_output=True, text=True, timeout=60)
+            ran = subprocess.run([*server.words[:2], "--program", program, *words], capture_output=True, text=True, timeout=PATIENCE)
             same((ran.returncode, ran.stdout), (1, ""), f"{words}")
             return ran.stderr.removeprefix("annotate: ").replace(server.folder + "/", "").strip()
 
@@ -131,7 +132,7 @@ def makes_moves_again(program):
             need("changes" in move("wrap", words, name), f"{name} round {words}")
         server.stop()
         server.write(DRAFT.replace("in Delft", "at Delft, too"))
-        ran = subprocess.run(server.words, capture_output=True, text=True, timeout=60)
+        ran = subprocess.run(server.words, capture_output=True, text=True, timeout=PATIENCE)
         need(ran.returncode == 1 and "--again" in ran.stderr, f"it doesn't begin, and says how: {ran.stderr}")
         server.start("--again")
         note = server.ask("hello", {"window": "1"})["note"]
@@ -159,7 +160,7 @@ def loses_nothing(program):
         place = {"list": node("opener"), "from": [text["id"], 0], "to": [text["id"], 13]}
         need("changes" in server.ask("move", {"version": 1, "kind": "wrap", "place": place, "name": "salute"}), "a wrap")
         same(server.stop(signal.SIGKILL)[0], -signal.SIGKILL, "a kill")
-        server.start("--stay", "2")
+        server.start()
         need("salute" in [row.get("name") for row in server.ask("state")["tree"]], "it is there at the next start")
         with open(f"/proc/{server.process.pid}/task/{server.process.pid}/children", encoding="ascii") as file:
             for process in file.read().split():
@@ -168,20 +169,43 @@ def loses_nothing(program):
         need("salute" in [row.get("name") for row in server.ask("state")["tree"]], "and begun again")
         server.ask("undo", {"version": server.ask("state")["version"]})
         need("salute" not in [row.get("name") for row in server.ask("state")["tree"]], "with its moves")
+        same(server.stop()[0], 0, "Ctrl-C")
+
+
+def ends_behind_the_last_window(program):
+    """It ends in a while behind the last window, and in no while behind another, or one that is loaded again."""
+    stay = 1
+    while not stays_for_windows(program, stay):
+        # A machine so busy that a window can't be loaded again in time.
+        stay *= 2
+        need(stay < PATIENCE, "a window isn't loaded again in time")
+
+
+def stays_for_windows(program, stay):
+    """The same with so many seconds for a window to come back; whether one came back in time."""
+    with Server(program, None) as server:
+        server.write(DRAFT)
+        server.start("--stay", str(stay))
         server.ask("hello", {"window": "1"})
         server.ask("hello", {"window": "2"})
         server.ask("bye", {"window": "1"})
-        time.sleep(3)
+        time.sleep(2 * stay)
         need(server.process.poll() is None, "a window is open still")
+        left = time.monotonic()
         server.ask("bye", {"window": "2"})
-        server.ask("hello", {"window": "2"})
-        time.sleep(3)
-        need(server.process.poll() is None, "a window that was loaded again")
+        # Where the machine is too busy, the server may have ended by now.
+        loaded = fault_of(lambda: server.ask("hello", {"window": "2"}))
+        if time.monotonic() - left > stay / 2:
+            return False
+        need(loaded is None, f"a window that was loaded again: {loaded}")
+        time.sleep(2 * stay)
+        need(server.process.poll() is None, "it is open still")
         server.ask("bye", {"window": "2"})
         same(server.wait()[0], 0, "the last window was closed")
+        return True
 
 
-CASES = [refuses_others, refuses_nonsense, makes_documents, says_what_is_wrong, makes_moves_again, loses_nothing]
+CASES = [refuses_others, refuses_nonsense, makes_documents, says_what_is_wrong, makes_moves_again, loses_nothing, ends_behind_the_last_window]
 
 
 def main():

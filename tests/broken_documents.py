@@ -12,6 +12,8 @@ import sys
 import tempfile
 from xml.parsers import expat
 
+from lib.waiting import PATIENCE
+
 WHOLE = """\ufeff<?xml version="1.0" encoding='utf-8' standalone = "yes" ?>
 <!-- draft - of spring -->
 <!DOCTYPE doc PUBLIC "-//P//DTD Doc//EN" 'doc.dtd' >
@@ -88,7 +90,7 @@ def is_shown(program, folder, root, doc, data):
 
 
 def run(words, script=b""):
-    done = subprocess.run(words, input=script, capture_output=True, timeout=20)
+    done = subprocess.run(words, input=script, capture_output=True, timeout=PATIENCE)
     return done.returncode, done.stdout, done.stderr
 
 

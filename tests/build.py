@@ -1,23 +1,25 @@
 """Tries `./pvtag` and tools/build with a stand-in for the kit's `rt`, in a copy of what they read. The last line tells how many passed."""
+import contextlib
 import os
 import signal
 import shutil
 import subprocess
 import sys
 import tempfile
-import time
 from pathlib import Path
+from typing import IO
 
 from lib.counting import Expecting
+from lib.waiting import PATIENCE, until
 
 TOP = Path(__file__).resolve().parent.parent
-# It proves nothing: it tells what a run tells, and makes a program that prints the sum of a source.
+# It proves nothing: it tells what a run tells, and makes a program that prints the sum of a source. It waits for the file HELD, where one is named.
 RT = """#!/bin/sh
 [ "$1" = ci ] || exit 9
 echo run >>"$RUNS"
 echo "rt: pv_steps proved"
 echo "rt: pv_chars is kept: an earlier run proved it"
-if [ -n "$SLOW" ]; then sleep "$SLOW" & echo $! >"$RUNS.asleep"; wait; fi
+if [ -n "$HELD" ]; then { while [ ! -e "$HELD" ]; do sleep 0.1; done; } & echo $! >"$RUNS.asleep"; wait; fi
 if [ -n "$DIES" ]; then sleep 4321 & echo $! >"$RUNS.asleep"; kill -9 $$; fi
 if [ -n "$WRONG" ]; then
     printf '== pv_model\\nan open goal\\nrt: pv_model NOT PROVED\\n== pv_dtd\\nrt: pv_dtd NOT PROVED\\n0 passed, 2 failed\\n'
@@ -42,37 +44,43 @@ class Trial(Expecting):
         (self.top / "tools").mkdir()
         for name in ("crates.txt", "HANDLES", "pvtag", "tools/build", "tools/processes.py", "docs/DEVELOPING.md"):
             shutil.copy(TOP / name, self.top / name)
-        self.bin, self.runs = folder / "bin", folder / "runs"
+        self.bin, self.runs, self.never = folder / "bin", folder / "runs", folder / "never"
         self.bin.mkdir()
         (self.bin / "rt").write_text(RT)
         (self.bin / "rt").chmod(0o755)
         self.runs.write_text("")
 
-    def start(self, *words: str, **more: str) -> subprocess.Popen[str]:
+    def start(self, *words: str, errors: int | IO[str] = subprocess.PIPE, **more: str) -> subprocess.Popen[str]:
         self.runs.with_name("runs.asleep").unlink(missing_ok=True)
         variables = {**os.environ, "PATH": f"{self.bin}:{os.environ['PATH']}", "RUNS": str(self.runs), **more}
         return subprocess.Popen([words[0] if words[0] == "sh" else str(self.top / words[0]), *words[1:]], env=variables, text=True, stdout=subprocess.PIPE,
-                                stderr=subprocess.PIPE, start_new_session=True)
+                                stderr=errors, start_new_session=True)
 
     def run(self, *words: str, **more: str) -> tuple[int, str, str]:
         run = self.start(*words, **more)
-        said, errors = run.communicate(timeout=60)
+        said, errors = run.communicate(timeout=PATIENCE)
         return run.returncode, said, errors
 
     def asleep(self) -> int:
         """The process that a stand-in has begun, once it has."""
         told = self.runs.with_name("runs.asleep")
-        while not told.exists() or not told.read_text().endswith("\n"):
-            time.sleep(0.05)
+        if not until(lambda: told.exists() and told.read_text().endswith("\n")):
+            raise TimeoutError("no stand-in has begun")
         number = int(told.read_text())
         told.unlink()
         return number
 
     def has_ended(self, number: int) -> bool:
-        return not Path(f"/proc/{number}").exists() or b") Z " in Path(f"/proc/{number}/stat").read_bytes()
+        return until(lambda: not runs_still(number))
 
     def count(self) -> int:
         return len(self.runs.read_text().splitlines())
+
+
+def runs_still(number: int) -> bool:
+    with contextlib.suppress(OSError):
+        return b") Z " not in Path(f"/proc/{number}/stat").read_bytes()
+    return False
 
 
 def try_failures(trial: Trial) -> None:
@@ -80,10 +88,10 @@ def try_failures(trial: Trial) -> None:
     told = trial.run("pvtag", "a", WRONG="1")
     trial.expect("a failed build", told[0] == 10 and told[1] == "" and "pv_model couldn't be built:\n== pv_model\nan open goal" in told[2], told)
     for number in (signal.SIGINT, signal.SIGTERM, signal.SIGHUP):
-        run = trial.start("pvtag", "a", SLOW="4321")
+        run = trial.start("pvtag", "a", HELD=str(trial.never))
         asleep = trial.asleep()
         os.killpg(run.pid, number)
-        run.communicate(timeout=20)
+        run.communicate(timeout=PATIENCE)
         trial.expect("an interrupted build ends", run.returncode != 0 and trial.has_ended(asleep), (number, run.returncode))
     told = trial.run("pvtag", "a", DIES="1")
     trial.expect("a killed run of the kit", told[0] == 10 and "ended by signal 9" in told[2] and trial.has_ended(trial.asleep()), told)
@@ -101,8 +109,14 @@ def try_failures(trial: Trial) -> None:
 def try_builds(trial: Trial) -> None:
     """Builds: one for two calls at once, none while nothing changes or is asked for, one by a word of its own."""
     before = trial.count()
-    both = [trial.start("pvtag", "a", "b c", SLOW="1") for _ in range(2)]
-    told = [(*run.communicate(timeout=60), run.returncode) for run in both]
+    go, errors = trial.top / "go", [trial.top / f"errors-{at}" for at in range(2)]
+    both = []
+    for file in errors:
+        with file.open("w") as to:
+            both.append(trial.start("pvtag", "a", "b c", errors=to, HELD=str(go)))
+    until(lambda: any("waiting for a build" in file.read_text() for file in errors))
+    go.touch()
+    told = [(run.communicate(timeout=PATIENCE)[0], file.read_text(), run.returncode) for run, file in zip(both, errors)]
     trial.expect("two calls at once", all(status == 0 and said.startswith("built of ") and said.endswith(", a b c\n") for said, _, status in told), told)
     trial.expect("one build for both", trial.count() == before + 1, trial.count())
     trial.expect("one waits", sum("waiting for a build" in errors for _, errors, _ in told) == 1, told)
@@ -121,10 +135,12 @@ def try_changes(trial: Trial) -> None:
     source = trial.top / "crates/pv_steps/src/lib.rt"
     before = source.read_bytes()
     source.write_bytes(before + b"// for a while\n")
-    run = trial.start("tools/build", SLOW="2")
+    go = trial.top / "go on"
+    run = trial.start("tools/build", HELD=str(go))
     trial.asleep()
     source.write_bytes(before)
-    run.communicate(timeout=60)
+    go.touch()
+    run.communicate(timeout=PATIENCE)
     trial.expect("sources that change during a build", run.returncode == 0 and trial.run("tools/build", "--check")[0] == 1)
     told = trial.run("tools/build", "--sum")[1].strip()
     source.write_bytes(before + b"// later\n")

@@ -14,8 +14,8 @@ import tempfile
 
 sys.dont_write_bytecode = True
 
-from annotate_fixture import EXAMPLES, need, run_cases, same  # noqa: E402
-from random_files import ANY, CLIENTS, NAMES, document, dtd, text, write  # noqa: E402
+from lib.annotate.fixture import EXAMPLES, need, run_cases, same  # noqa: E402
+from lib.random_files import ANY, CLIENTS, NAMES, document, dtd, text, write  # noqa: E402
 
 from pvtag.faults import fault_of  # noqa: E402
 from pvtag.places import Source  # noqa: E402

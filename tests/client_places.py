@@ -14,8 +14,8 @@ import xml.parsers.expat
 
 sys.dont_write_bytecode = True
 
-from annotate_fixture import need, run_cases, same  # noqa: E402
-from random_files import ANY, document, dtd, write  # noqa: E402
+from lib.annotate.fixture import need, run_cases, same  # noqa: E402
+from lib.random_files import ANY, document, dtd, write  # noqa: E402
 
 from pvtag.document import Document  # noqa: E402
 from pvtag.entities import dtd_items  # noqa: E402

@@ -11,6 +11,8 @@ import subprocess
 import sys
 import tempfile
 
+from lib.waiting import PATIENCE
+
 DTD = "<!ELEMENT doc (#PCDATA|em)*><!ELEMENT em (#PCDATA)>"
 KINDS = {
     "one byte": ["a", "b", " ", "\t", "'", ";", "#", "x", "]", "\u007f"],
@@ -46,7 +48,7 @@ def play(program, dtd, folder, units, lines):
     with open(path, "wb") as file:
         file.write(f"<doc>{''.join(units)}</doc>".encode())
     given = "".join(f"{line}\n" for line in lines).encode()
-    ran = subprocess.run([program, "session", dtd, "doc", path], input=given, capture_output=True, timeout=60)
+    ran = subprocess.run([program, "session", dtd, "doc", path], input=given, capture_output=True, timeout=PATIENCE)
     return ran.returncode, ran.stdout
 
 

@@ -1,4 +1,4 @@
-"""Lets each allocation of a session fail in turn, and then those of the other commands, of `check` on lists that several threads judge.
+"""Lets each allocation of a session fail in turn, and then those of the other commands, of `check` on lists that one thread judges, and on more.
 
 Words: PROGRAM MOST. A C compiler makes a library that is loaded before the C library and lets allocation number N give nothing; N goes up
 until a run asks for fewer, or up to MOST. Where a run ends with status 5, or with 10 for want of words, it must have written nothing. Else
@@ -6,7 +6,7 @@ one line at most answers `no memory`, and the replies to the other lines must be
 script, `undo`, `redo`, `need`, `complete` and `offer` stand between `show` and `history`, which tell whether anything changed. An edit of each
 kind is made, undone and made again; each line that does so must have been without memory in two runs at least, since its reply and its change
 take some each. The other commands must end with status 5 and write nothing, or answer as with ample memory; of the allocations of `check`
-before the verdicts one in FEW is tried. Prints each difference, and how many runs passed; ends with 1 where one failed.
+before the last verdicts one in FEW is tried, or one in FEWER where the document is opened for threads. Prints each difference, and how many runs passed; ends with 1 where one failed.
 """
 import os
 import subprocess
@@ -147,18 +147,19 @@ class Trial:
         yield from (f"line {at}, {self.script[at]!r}: without memory in {self.silent[at]} runs" for at in seldom)
 
 
-# Lists that are judged by a table, and long enough that two threads judge them.
+# Lists that are judged by a table: by one thread while the text is read, or so many tokens that the document is opened for threads.
 LISTS_DTD = "<!ELEMENT r (a*)><!ELEMENT a (b, c)><!ELEMENT b (#PCDATA)><!ELEMENT c EMPTY>"
 LISTS = f"<r>{('<a>' + 400 * '<![CDATA[x]]>' + '</a>') * 24}</r>"
+MORE_LISTS = f"<r>{('<a>' + 2800 * '<![CDATA[x]]>' + '</a>') * 24}</r>"
 # Of a run with more than MANY allocations the last ones, which are more than those of the verdicts, are all tried, and one in FEW of the others.
-MANY, LAST, FEW = 1500, 800, 41
+MANY, LAST, FEW, FEWER = 1500, 800, 41, 1009
 
 
 class AnswerTrial:
     """A command that answers once, with an allocation that fails: the answer with ample memory, or want of memory."""
 
-    def __init__(self, program, library, words, begins):
-        self.words, self.name, self.library = [program, *words], words[0], library
+    def __init__(self, program, library, words, begins, few=FEW):
+        self.words, self.name, self.library, self.few = [program, *words], words[0], library, few
         self.passed = self.failed = self.silent = 0
         counted = self.run({"FAIL_AT": "0", "COUNTED": "1"})
         self.wanted, self.count = (counted.returncode, counted.stdout), int(counted.stderr)
@@ -181,7 +182,7 @@ class AnswerTrial:
 
     def try_all(self):
         for number in range(1, self.count + 1):
-            if self.failed < 20 and (self.count <= MANY or number % FEW == 0 or number > self.count - LAST):
+            if self.failed < 20 and (self.count <= MANY or number % self.few == 0 or number > self.count - LAST):
                 self.try_at(number)
         print(f"{self.name}: {self.count} allocations, {self.passed + self.failed} tried, {self.silent} without memory")
         if self.silent == 0:
@@ -195,12 +196,13 @@ RANGES = "0 6 0 head\n7 13 0 sec\n7 13 1 p\n7 10 2 em\n"
 
 
 def answers_of(program, library):
-    """The commands that answer once: `check` on lists that two threads judge; `complete` and `verify` of its pack; `why` and `deny` of its
+    """The commands that answer once: `check` on lists that one thread judges, and two; `complete` and `verify` of its pack; `why` and `deny` of its
     denial; and the others."""
     yield AnswerTrial(program, library, ["dtd", "a.dtd"], b"doc children ")
     yield AnswerTrial(program, library, ["valid", "a.dtd", "doc", "v.xml"], b"valid\n")
     yield AnswerTrial(program, library, ["drill", "3"], b"drill 3 ")
     yield AnswerTrial(program, library, ["check", "l.dtd", "r", "l.xml"], b"possible 24\n")
+    yield AnswerTrial(program, library, ["check", "l.dtd", "r", "m.xml"], b"possible 24\n", FEWER)
     complete = AnswerTrial(program, library, ["complete", "a.dtd", "doc", "d.xml"], b"pvpack 1\n")
     with open("d.pack", "wb") as file:
         file.write(complete.wanted[1])
@@ -218,8 +220,8 @@ def main():
     program, most = os.path.abspath(sys.argv[1]), int(sys.argv[2])
     with tempfile.TemporaryDirectory() as folder:
         os.chdir(folder)
-        for name, text in [("a.dtd", DTD), ("d.xml", DOCUMENT), ("v.xml", "<doc><head/><sec/></doc>"), ("i.xml", "<doc><sec/><head/></doc>"), ("l.dtd", LISTS_DTD), ("l.xml", LISTS), ("t.txt", TEXT), ("r.txt", RANGES),
-                           ("failing.c", LIBRARY)]:
+        for name, text in [("a.dtd", DTD), ("d.xml", DOCUMENT), ("v.xml", "<doc><head/><sec/></doc>"), ("i.xml", "<doc><sec/><head/></doc>"), ("l.dtd", LISTS_DTD), ("l.xml", LISTS), ("m.xml", MORE_LISTS),
+                           ("t.txt", TEXT), ("r.txt", RANGES), ("failing.c", LIBRARY)]:
             with open(name, "w", encoding="utf-8") as file:
                 file.write(text)
         library = os.path.join(folder, "failing.so")

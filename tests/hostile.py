@@ -3,9 +3,9 @@
 Words: PROGRAM [SECONDS]. Behind so many seconds, 200 where none are given, what is left isn't tried, which is said. `dtd`,
 `valid`, `check` and `session` are run on DTDs, documents and scripts made to cost much, at the limits and past them, and on files that change;
 each command on files that are no files, are endless, or may not be read; with little memory, stack and few files; and with an output that is
-full, closed, slow or refuses. What each run must answer is told by `docs/COMMANDS.md` and `docs/FORMATS.md`. A run must end within a minute, write nothing as an
-error, and take no more memory than `docs/COMMANDS.md` tells under "Time and memory". Prints each difference, the most memory that each
-command took, and how many cases passed; ends with 1 where one failed.
+full, closed, slow or refuses. What each run must answer is told by `docs/COMMANDS.md` and `docs/FORMATS.md`. A run must take less than a minute
+of processor time, write nothing as an error, and take no more memory than `docs/COMMANDS.md` tells under "Time and memory". Prints each
+difference, the most memory that each command took, and how many cases passed; ends with 1 where one failed.
 """
 import os
 import resource
@@ -22,6 +22,7 @@ sys.dont_write_bytecode = True
 
 from lib.hostile_files import DOC_MOST, KB, MB, NONE, hostile_documents, hostile_dtds, hostile_scripts, largest_document, listing, long_name
 from lib.hostile_runs import ANSWERS, DENIAL, GUIDE, LINES, MEMORY, PACK, RANGES, SWAPPED, TEXT, Trial, closed_late, follows, least, read_once, read_slowly, runs_of
+from lib.waiting import PATIENCE
 
 NOBODY = 65534
 
@@ -245,7 +246,7 @@ def try_pipes(trial):
         sender.start()
         trial.expect("a pipe", words, answer)
         # What an endless one still sends isn't for the next that reads.
-        sender.join(10)
+        sender.join(PATIENCE)
 
     expect(["dtd", "fifo"], [b"<!ELEMENT a ANY>"], (0, b"a any 1\ntypes 1 parts 0 undeclared 0\n"))
     expect(["dtd", "fifo"], [(b" ", 1 << 36)], (8, b"limit dtd-file\n"))

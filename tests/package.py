@@ -15,6 +15,7 @@ import urllib.request
 from pathlib import Path
 
 from lib.counting import Expecting
+from lib.waiting import PATIENCE
 
 TOP = Path(__file__).resolve().parent.parent
 PYTHON = "/usr/bin/python3"
@@ -36,7 +37,7 @@ class Trial(Expecting):
 
     def inside(self, *words: str, given: str = "") -> subprocess.CompletedProcess[str]:
         """Runs a command in the bare root."""
-        return subprocess.run(["chroot", self.root, *words], input=given, capture_output=True, text=True, timeout=60, check=False)
+        return subprocess.run(["chroot", self.root, *words], input=given, capture_output=True, text=True, timeout=PATIENCE, check=False)
 
 
 def same_bytes(trial: Trial) -> tuple[Path, Path]:
@@ -152,12 +153,12 @@ def opens_page(trial: Trial, letter: list[str]) -> None:
     with subprocess.Popen(words, stdout=subprocess.PIPE, stderr=subprocess.PIPE, text=True) as server:
         line = server.stdout.readline() if server.stdout else ""
         try:
-            with urllib.request.urlopen(line.split()[-1] if line else "http://127.0.0.1:1/", timeout=20) as page:
+            with urllib.request.urlopen(line.split()[-1] if line else "http://127.0.0.1:1/", timeout=PATIENCE) as page:
                 trial.expect("the page opens", page.status == 200 and b"<title>" in page.read())
         except OSError as fault:
             trial.expect("the page opens", False, (line, fault))
         server.terminate()
-        trial.expect("it ends without a fault", server.wait(timeout=20) == 0 and server.stderr is not None and server.stderr.read() == "")
+        trial.expect("it ends without a fault", server.wait(timeout=PATIENCE) == 0 and server.stderr is not None and server.stderr.read() == "")
     (trial.root / "tmp/letter.xml").unlink()
 
 

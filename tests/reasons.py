@@ -15,8 +15,8 @@ import sys
 sys.dont_write_bytecode = True
 
 import possible_lists  # noqa: E402
-from annotate_fixture import DRAFT, EXAMPLES, need, run_cases, same  # noqa: E402
-from reasons_fixture import CLIENTS, FOREIGN, Checks, check_reason, spelled  # noqa: E402
+from lib.annotate.fixture import DRAFT, EXAMPLES, need, run_cases, same  # noqa: E402
+from lib.reasons_fixture import CLIENTS, FOREIGN, Checks, check_reason, spelled  # noqa: E402
 
 from pvtag.document import Document  # noqa: E402
 from pvtag.dtd import Dtd  # noqa: E402
@@ -123,6 +123,7 @@ LONG = (
     "<!ELEMENT r ((a,a,b?)|(c,d,e)|(d,e,c)|(c,e))><!ELEMENT a EMPTY><!ELEMENT b EMPTY><!ELEMENT c EMPTY>"
     "<!ELEMENT d EMPTY><!ELEMENT e EMPTY>"
     "<!ELEMENT s ((x|y|z)*,(a,b,c,d,e)?)><!ELEMENT x EMPTY><!ELEMENT y EMPTY><!ELEMENT z EMPTY>"
+    f"<!ELEMENT q ({','.join('a' * 22)})>"
 )
 
 
@@ -149,6 +150,8 @@ def explains_long_lists(program):
             same(reason and reason.first, first, f"the first kid of {word}")
             if reason:
                 check_reason(checks, owner, kids, reason)
+        reason = reasons.of_list("0", "q", [Kid("element", "a")] * 23)
+        need(reason and "The 23rd `a` has" in reason.sentence() and "room for 22." in reason.sentence(), reason)
         words = ["".join(random.choices("abcde", k=random.randint(1, 9))) for _ in range(60)]
         words += [
             "".join(random.choices("xyz", k=40))

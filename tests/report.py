@@ -17,13 +17,23 @@ from pathlib import Path
 from typing import Any
 
 from lib.counting import Expecting
+from lib.waiting import PATIENCE, until
 
 TOP = Path(__file__).resolve().parent.parent
 REPORT = str(TOP / "clients" / "report")
 DTD = TOP / "examples" / "letter.dtd"
-# Behind what it is told, it keeps a line for each document that is checked, and waits where that is asked for.
+# It keeps a line for each document that is checked. Where a file HELD is named, all but the first documents wait for it.
+FREE = 6
 WRAPPER = """#!/bin/sh
-[ "$1" != check ] || [ "$4" = /dev/null ] || { echo "$4" >>"$LOG"; [ -z "$SLOW" ] || sleep "$SLOW"; eval "$BEFORE"; }
+[ "$1" != check ] || [ "$4" = /dev/null ] || {
+    echo "$4" >>"$LOG"
+    [ -z "$SLOW" ] || sleep "$SLOW"
+    case $4 in
+    */000[0-5].xml) ;;
+    *) while [ -n "$HELD" ] && [ ! -e "$HELD" ]; do sleep 0.1; done ;;
+    esac
+    eval "$BEFORE"
+}
 exec "$PVTAG" "$@"
 """
 KINDS = (b"valid", b"possible", b"impossible", b"refused")
@@ -55,16 +65,17 @@ class Trial(Expecting):
     def file(self, number: int) -> Path:
         return self.texts / f"{number:04}.xml"
 
-    def start(self, *words: str, slow: str = "", most: int | None = None) -> subprocess.Popen[bytes]:
+    def start(self, *words: str, slow: str = "", held: Path | str = "", most: int | None = None) -> subprocess.Popen[bytes]:
         """Begins a run, whose files have at most so many bytes."""
         self.log.write_bytes(b"")
         limit = ["prlimit", f"--fsize={most}"] if most is not None else []
-        return subprocess.Popen([*limit, sys.executable, REPORT, "--program", str(self.program), *words], env={**self.variables, "SLOW": slow},
-                                stdin=subprocess.PIPE, stdout=subprocess.PIPE, stderr=subprocess.PIPE, start_new_session=True)
+        return subprocess.Popen([*limit, sys.executable, REPORT, "--program", str(self.program), *words], bufsize=0, start_new_session=True,
+                                env={**self.variables, "SLOW": slow, "HELD": str(held)},
+                                stdin=subprocess.PIPE, stdout=subprocess.PIPE, stderr=subprocess.PIPE)
 
     def run(self, *words: str, given: bytes = b"") -> tuple[int, bytes, str]:
         run = self.start(*words)
-        said, errors = run.communicate(given, timeout=300)
+        said, errors = run.communicate(given, timeout=PATIENCE)
         return run.returncode, said, errors.decode()
 
     def over(self, *words: str, **more: bytes) -> tuple[int, bytes, str]:
@@ -156,9 +167,9 @@ def try_killed(trial: Trial, report: bytes, times: int) -> None:
         out.unlink(missing_ok=True)
         words = (str(trial.dtd), "letter", "--need", "--jobs", "3", "--output", str(out), str(trial.texts))
         run = trial.start(*words, slow="0.02")
-        end = time.monotonic() + trial.random.uniform(0.2, 1.5)
-        while run.poll() is None and time.monotonic() < end:
-            time.sleep(0.01)
+        least = trial.random.randrange(len(trial.kinds))
+        until(lambda: run.poll() is not None or trial.checked() >= least)
+        time.sleep(trial.random.uniform(0, 0.05))
         # On a quick machine it may have ended by itself.
         with contextlib.suppress(ProcessLookupError):
             os.killpg(run.pid, signal.SIGKILL)
@@ -181,17 +192,20 @@ def plain(report: bytes) -> list[dict[str, Any]]:
 def try_interrupted(trial: Trial) -> None:
     """Ctrl-C, twice, and other signals end the run at once, with what was done written and nothing left running."""
     for number in (signal.SIGINT, signal.SIGTERM, signal.SIGHUP):
-        run = trial.start(str(trial.dtd), "letter", "--jobs", "2", str(trial.texts), slow="0.3")
-        while trial.checked() < 6:
-            time.sleep(0.05)
-        start = time.monotonic()
+        run = trial.start(str(trial.dtd), "letter", "--jobs", "2", str(trial.texts), held=trial.folder / "never")
+        # The head, and the rows of the documents that don't wait.
+        first = b"".join(run.stdout.readline() for _ in range(1 + FREE)) if run.stdout else b""
         os.kill(run.pid, number)
         os.kill(run.pid, number)
-        said, errors = run.communicate(timeout=30)
-        trial.expect("it ends at once", time.monotonic() - start < 5 and run.returncode == 130 and errors == b"", (run.returncode, errors))
-        trial.expect("what was done is written", said.endswith(b"\n") and 0 < len(rows_of(said)) < len(trial.kinds), said)
-        left = [file for file in Path("/proc").glob("[0-9]*/cmdline") if str(trial.program).encode() in contents(file)]
-        trial.expect("nothing is left running", left == [], left)
+        said, errors = run.communicate(timeout=PATIENCE)
+        trial.expect("it ends at once", run.returncode == 130 and errors == b"", (run.returncode, errors))
+        trial.expect("what was done is written", said == b"" and len(rows_of(first)) == FREE, (first, said))
+        trial.expect("nothing is left running", until(lambda: not left_running(trial)), left_running(trial))
+
+
+def left_running(trial: Trial) -> list[Path]:
+    """The runs of the program."""
+    return [file for file in Path("/proc").glob("[0-9]*/cmdline") if str(trial.program).encode() in contents(file)]
 
 
 def contents(file: Path) -> bytes:
@@ -230,14 +244,17 @@ def try_outputs(trial: Trial, report: bytes) -> None:
             trial.expect("no place for a file", status == 3 and errors.count("\n") == 1 and not Path(name).is_file(), (name, status, errors))
     words = (str(trial.dtd), "letter", "--need", "--output", str(out), str(trial.texts))
     run = trial.start(*words, most=1500)
-    errors = run.communicate(timeout=300)[1]
+    errors = run.communicate(timeout=PATIENCE)[1]
     trial.expect("a full disk", run.returncode == 3 and errors.count(b"\n") == 1 and not out.exists(), (run.returncode, errors))
-    first = trial.start(*words, slow="0.5")
-    while trial.checked() < 2:
-        time.sleep(0.05)
+    # What it left would be taken up, and as many documents fewer be checked before the others wait.
+    Path(f"{out}.part").unlink()
+    go = trial.folder / "go"
+    first = trial.start(*words, held=go)
+    until(lambda: first.poll() is not None or trial.checked() > FREE)
     status, _, errors = trial.run(*words)
     trial.expect("another run", status == 3 and "another run writes" in errors, (status, errors))
-    said = first.communicate(timeout=300)
+    go.touch()
+    said = first.communicate(timeout=PATIENCE)
     trial.expect("the first isn't disturbed", first.returncode == 0 and plain(out.read_bytes()) == plain(report), (first.returncode, said))
     left = [it.name for it in trial.folder.iterdir() if "both" in it.name]
     trial.expect("nothing else is left", left == ["both.jsonl"], left)

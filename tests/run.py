@@ -5,6 +5,7 @@ A check is a command whose last line of the form `N passed, M failed`, or `NAME:
 seconds with all that it started, and skipped where a tool that it needs is missing. What it prints is shown once it has ended. A check that tries
 nothing, and doesn't say why, has failed.
 """
+import contextlib
 import os
 import re
 import shutil
@@ -41,46 +42,51 @@ def row(name: str, what: str, tools: str, seconds: int, words: str) -> Check:
     return Check(name, what, tools.split(), seconds, words.replace("PVTAG", PROGRAM).split())
 
 
-# The longest first, so that the last to end isn't one of them.
+# The longest first, so that the last to end isn't one of them. The seconds end what hangs: they are many times what the check takes on a machine that
+# is slow and busy.
 CHECKS = [
-    row("program", "the program as a user runs it", "", 2400, "tests/program.sh"),
-    row("published", "published DTDs against xmllint", "xmllint", 1800, "python3 tests/published.py PVTAG 1 300"),
-    row("page", "the page in a browser", "chromium chromedriver", 2400, "python3 tests/annotate.py PVTAG"),
-    row("look", "a first look without proofs, against README", "rt", 1200, "tests/look.sh"),
-    row("allocations", "commands with an allocation failing", "cc", 900, "python3 tests/failing_allocations.py PVTAG 12000"),
-    row("files", "hostile files and failing machines", "", 1200, "python3 tests/hostile.py PVTAG 200"),
-    row("packs", "packs against a checker", "", 900, "python3 tests/packs.py PVTAG 300 1"),
-    row("hostile-packs", "packs that were changed", "", 1200, "python3 tests/hostile_packs.py PVTAG 100 1"),
-    row("denials", "denials, and those that were changed", "", 1200, "python3 tests/hostile_denials.py PVTAG 150 1 240"),
-    row("xmllint", "validity against xmllint", "xmllint", 900, "python3 tests/against_xmllint.py PVTAG 200 1 120"),
-    row("drafts", "drafts against xmllint", "xmllint", 900, "python3 tests/drafts.py PVTAG 60 1 120"),
-    row("broken", "broken documents against xmllint", "xmllint", 900, "python3 tests/broken_documents.py PVTAG 2000 1"),
-    row("insertions", "verdicts against a search that inserts", "", 900, "python3 tests/against_insertions.py PVTAG 850 1"),
-    row("lists", "verdicts of lists against derivations by spans", "", 900, "python3 tests/possible_lists.py PVTAG 120 1"),
-    row("weights", "weights against derivations", "", 900, "python3 tests/weights.py PVTAG 200 1 100"),
-    row("least", "least numbers against a search", "", 900, "python3 tests/least_numbers.py PVTAG 850 1"),
-    row("completions", "completions: valid, whole, least", "", 900, "python3 tests/completions.py PVTAG 400 1 60"),
-    row("cuts", "cuts of texts against a model", "", 900, "python3 tests/cuts.py PVTAG 40 1"),
-    row("report", "reports on documents", "", 900, "python3 tests/report.py PVTAG 1 40"),
-    row("package", "the package, in a bare root", "", 900, "python3 tests/package.py PVTAG"),
-    row("model", "sessions against a model", "", 900, "python3 tests/against_a_model.py PVTAG 20000 7"),
-    row("expansions", "parameter entities against a model", "", 900, "python3 tests/expansions.py PVTAG 3000 1"),
-    row("standoff", "the nesting of ranges against a model", "", 900, "python3 tests/standoff.py PVTAG 1500 1"),
-    row("client-places", "the places that clients tell", "", 900, "python3 tests/client_places.py PVTAG 100 1"),
-    row("client-files", "what clients say of files in fault", "", 900, "python3 tests/client_files.py PVTAG 100 1"),
-    row("reasons", "the reasons of clients, by force", "", 900, "python3 tests/reasons.py PVTAG 60 1"),
-    row("drafts-reasons", "the reasons of drafts under published DTDs", "xmllint", 1200, "python3 tests/reason_drafts.py PVTAG 1 120"),
-    row("lsp", "the language server, by a scripted client", "", 1200, "python3 tests/lsp.py PVTAG"),
-    row("lsp-protocol", "the protocol of the language server", "", 900, "python3 tests/lsp_protocol.py PVTAG"),
-    row("lsp-wraps", "the actions of the language server", "", 900, "python3 tests/lsp_wraps.py PVTAG 400 1 120"),
-    row("lsp-editors", "the language server in editors", "", 1200, "python3 tests/lsp_editors.py PVTAG 30"),
-    row("page-parts", "the parts of the page", "", 900, "python3 tests/annotate_parts.py PVTAG 1"),
-    row("page-asks", "what the page asks for, behind random moves", "", 1200, "python3 tests/annotate_asks.py PVTAG 1"),
-    row("page-requests", "the requests of the page", "", 600, "python3 tests/annotate_requests.py PVTAG"),
-    row("build", "the build, with a stand-in for the kit", "", 300, "python3 tests/build.py"),
-    row("runner", "the run of these checks", "", 300, "python3 tests/runner.py"),
-    row("style", "files by pyflakes and shellcheck, pages by their width", "", 300, "python3 tests/style.py"),
-    row("definitions", "the page of definitions against its sources", "", 120, "tools/definitions --check"),
+    row("program", "the program as a user runs it", "", 3600, "tests/program.sh"),
+    row("published", "published DTDs against xmllint", "xmllint", 3600, "python3 tests/published.py PVTAG 1 300"),
+    row("page", "the page in a browser", "chromium chromedriver", 3600, "python3 tests/annotate.py PVTAG"),
+    row("look", "a first look without proofs, against README", "rt", 3600, "tests/look.sh"),
+    row("allocations", "commands with an allocation failing", "cc", 3600, "python3 tests/failing_allocations.py PVTAG 12000"),
+    row("worst", "worst cases: how time and memory grow", "", 3600, "python3 tests/worst.py PVTAG"),
+    row("threads", "how many threads do work", "", 3600, "python3 tests/threads.py PVTAG"),
+    row("inputs", "inputs and files: left alone, missing, named twice", "", 3600, "python3 tests/inputs.py PVTAG"),
+    row("files", "hostile files and failing machines", "", 3600, "python3 tests/hostile.py PVTAG 200"),
+    row("packs", "packs against a checker", "", 3600, "python3 tests/packs.py PVTAG 300 1"),
+    row("hostile-packs", "packs that were changed", "", 3600, "python3 tests/hostile_packs.py PVTAG 100 1"),
+    row("denials", "denials, and those that were changed", "", 3600, "python3 tests/hostile_denials.py PVTAG 150 1 240"),
+    row("xmllint", "validity against xmllint", "xmllint", 3600, "python3 tests/against_xmllint.py PVTAG 200 1 120"),
+    row("drafts", "drafts against xmllint", "xmllint", 3600, "python3 tests/drafts.py PVTAG 60 1 120"),
+    row("broken", "broken documents against xmllint", "xmllint", 3600, "python3 tests/broken_documents.py PVTAG 2000 1"),
+    row("insertions", "verdicts against a search that inserts", "", 3600, "python3 tests/against_insertions.py PVTAG 850 1"),
+    row("lists", "verdicts of lists against derivations by spans", "", 3600, "python3 tests/possible_lists.py PVTAG 120 1"),
+    row("weights", "weights against derivations", "", 3600, "python3 tests/weights.py PVTAG 200 1 100"),
+    row("least", "least numbers against a search", "", 3600, "python3 tests/least_numbers.py PVTAG 850 1"),
+    row("completions", "completions: valid, whole, least", "", 3600, "python3 tests/completions.py PVTAG 400 1 60"),
+    row("cuts", "cuts of texts against a model", "", 3600, "python3 tests/cuts.py PVTAG 40 1"),
+    row("report", "reports on documents", "", 3600, "python3 tests/report.py PVTAG 1 40"),
+    row("package", "the package, in a bare root", "", 3600, "python3 tests/package.py PVTAG"),
+    row("check-session", "check against the opening of a session", "", 3600, "python3 tests/check_by_session.py PVTAG 300 1"),
+    row("model", "sessions against a model", "", 3600, "python3 tests/against_a_model.py PVTAG 20000 7"),
+    row("expansions", "parameter entities against a model", "", 3600, "python3 tests/expansions.py PVTAG 3000 1"),
+    row("standoff", "the nesting of ranges against a model", "", 3600, "python3 tests/standoff.py PVTAG 1500 1"),
+    row("client-places", "the places that clients tell", "", 3600, "python3 tests/client_places.py PVTAG 100 1"),
+    row("client-files", "what clients say of files in fault", "", 3600, "python3 tests/client_files.py PVTAG 100 1"),
+    row("reasons", "the reasons of clients, by force", "", 3600, "python3 tests/reasons.py PVTAG 60 1"),
+    row("drafts-reasons", "the reasons of drafts under published DTDs", "xmllint", 3600, "python3 tests/reason_drafts.py PVTAG 1 120"),
+    row("lsp", "the language server, by a scripted client", "", 3600, "python3 tests/lsp.py PVTAG"),
+    row("lsp-protocol", "the protocol of the language server", "", 3600, "python3 tests/lsp_protocol.py PVTAG"),
+    row("lsp-wraps", "the actions of the language server", "", 3600, "python3 tests/lsp_wraps.py PVTAG 400 1 120"),
+    row("lsp-editors", "the language server in editors", "", 3600, "python3 tests/lsp_editors.py PVTAG 150"),
+    row("page-parts", "the parts of the page", "", 3600, "python3 tests/annotate_parts.py PVTAG 1"),
+    row("page-asks", "what the page asks for, behind random moves", "", 3600, "python3 tests/annotate_asks.py PVTAG 1"),
+    row("page-requests", "the requests of the page", "", 3600, "python3 tests/annotate_requests.py PVTAG"),
+    row("build", "the build, with a stand-in for the kit", "", 1200, "python3 tests/build.py"),
+    row("runner", "the run of these checks", "", 1200, "python3 tests/runner.py"),
+    row("style", "files by pyflakes and shellcheck, pages by their width", "", 1200, "python3 tests/style.py"),
+    row("definitions", "the page of definitions against its sources", "", 1200, "tools/definitions --check"),
 ]
 
 
@@ -91,6 +97,8 @@ class Result(NamedTuple):
     passed: int
     failed: int
     is_skipped: bool
+    # Whether it had failed beside others, and was run once more, alone.
+    is_second: bool = False
 
 
 class Runs:
@@ -155,15 +163,34 @@ def counted(shown: str, status: int | None) -> tuple[int, int]:
     return passed, failed or int(status != 0 or tried_nothing)
 
 
+def processors() -> int:
+    """The processors that these checks may use at a time: those that they may run on, and no more than the share of a container."""
+    allowed = len(os.sched_getaffinity(0))
+    with contextlib.suppress(OSError, ValueError):
+        most, period = Path("/sys/fs/cgroup/cpu.max").read_text(encoding="ascii").split()
+        allowed = max(1, min(allowed, round(int(most) / int(period))))
+    return allowed
+
+
+def show(name: str, shown: str) -> None:
+    print(f"== {name}\n{shown}", end="" if shown.endswith("\n") or not shown else "\n", flush=True)
+
+
 def run(checks: list[Check]) -> list[Result]:
-    """Runs the checks, as many at a time as there are processors, and shows each once it has ended."""
+    """Runs the checks, as many at a time as there are processors, and shows each once it has ended. One that fails beside others, and not for its
+    time, is run once more, alone, and that counts: a fault of the program is there again, and that a machine was busy isn't one."""
     results, runs = [], Runs()
-    with ThreadPoolExecutor(len(os.sched_getaffinity(0))) as pool:
+    with ThreadPoolExecutor(processors()) as pool:
         try:
             for done in as_completed([pool.submit(runs.result_of, it) for it in checks]):
                 result, shown = done.result()
                 results.append(result)
-                print(f"== {result.check.name}\n{shown}", end="" if shown.endswith("\n") or not shown else "\n", flush=True)
+                show(result.check.name, shown)
+            for at, first in enumerate(results):
+                if first.failed and first.seconds < first.check.seconds:
+                    second, shown = runs.result_of(first.check)
+                    results[at] = second._replace(is_second=True)
+                    show(f"{first.check.name}, once more, alone", shown)
         except BaseException:
             pool.shutdown(wait=False, cancel_futures=True)
             runs.stop()
@@ -199,7 +226,7 @@ def main(words: list[str]) -> int:
         stream.reconfigure(errors="backslashreplace")
     results = run(chosen(words))
     for one in sorted(results, key=lambda it: -it.seconds):
-        beside = f", {one.failed} failed" * (one.failed > 0) + ", skipped in part" * one.is_skipped
+        beside = f", {one.failed} failed" * (one.failed > 0) + ", skipped in part" * one.is_skipped + ", at the second try" * one.is_second
         print(f"{one.check.name:15}{one.seconds:5.0f} s {one.passed:7} passed{beside}")
     passed, failed, skipped = (sum(it[at] for it in results) for at in (2, 3, 4))
     print(f"{passed} passed, {failed} failed" + f", {skipped} skipped" * (skipped > 0))

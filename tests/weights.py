@@ -19,6 +19,7 @@ from typing import NamedTuple
 
 from lib.grammar import NEVER, declaration
 from lib.mixed_models import model, particle
+from lib.waiting import PATIENCE
 
 TEXTS = ["t", "<![CDATA[]]>", "&#32;", "<![CDATA[ ]]>", "a &amp; b"]
 ASIDE = ["<!---->", "<?p?>", " "]
@@ -259,7 +260,7 @@ def wanted(costs):
 
 
 def asked(program, *words, given=""):
-    ran = subprocess.run([program, *words], input=given, capture_output=True, text=True, timeout=60)
+    ran = subprocess.run([program, *words], input=given, capture_output=True, text=True, timeout=PATIENCE)
     return ran.stdout
 
 

@@ -12,6 +12,10 @@ def need(holds, what):
         raise Fault(what)
 
 
+def same(got, want, what):
+    need(got == want, f"{what}: {got!r} for {want!r}")
+
+
 def output(program, *words, script=""):
     ran = subprocess.run([program, *words], input=script.encode(), capture_output=True)
     return ran.returncode, ran.stdout

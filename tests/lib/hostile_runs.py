@@ -7,7 +7,9 @@ import time
 
 from lib.hostile_files import KB, MB, NONE
 
+# A run may take so much processor time, and is ended behind so many times as long.
 SECONDS = 60
+TIMES = 10
 # The most memory of a run, in MB: what `docs/COMMANDS.md` tells under "Time and memory", and some 80 MB that this test takes itself, with room.
 MEMORY = {"dtd": 100, "valid": 300, "check": 4200, "session": 4200, "verify": 1200, "deny": 400, "standoff": 150, "drill": 100}
 
@@ -78,7 +80,7 @@ class Trial:
         return name
 
     def run(self, words, stdin=None, stdout=None, limits=(), prepare=None, script=None, program=None):
-        """The status, the output, whether there were errors, the seconds and the memory in MB of a run in the folder.
+        """The status, the output, whether there were errors, the seconds of processor time and the memory in MB of a run in the folder.
 
         `limits` are pairs of a resource and its most, `prepare` is called before the program, `script` are pieces that come by a pipe.
         """
@@ -89,11 +91,10 @@ class Trial:
                 prepare()
 
         with open(self.path("output"), "w+b") as output, open(self.path("errors"), "w+b") as errors:
-            started = time.monotonic()
             source = subprocess.PIPE if script is not None else subprocess.DEVNULL if stdin is None else stdin
             child = subprocess.Popen([program or self.program, *words], stdin=source, stdout=output if stdout is None else stdout,
                                      stderr=errors, preexec_fn=begin, cwd=self.folder)
-            helpers = [threading.Timer(SECONDS, child.kill)]
+            helpers = [threading.Timer(TIMES * SECONDS, child.kill)]
             if script is not None:
                 helpers.append(threading.Thread(target=closed_late, args=(child.stdin, script)))
             for helper in helpers:
@@ -104,7 +105,7 @@ class Trial:
             for helper in helpers:
                 helper.join()
             output.seek(0)
-            return child.returncode, output.read(), errors.seek(0, 2), time.monotonic() - started, usage.ru_maxrss / KB
+            return child.returncode, output.read(), errors.seek(0, 2), usage.ru_utime + usage.ru_stime, usage.ru_maxrss / KB
 
     def tell(self, name, fault):
         self.passed += fault is None
@@ -124,7 +125,7 @@ class Trial:
         elif errors:
             fault = "something was written as an error"
         elif seconds >= SECONDS:
-            fault = f"{seconds:.0f} seconds"
+            fault = f"{seconds:.0f} seconds of processor time"
         elif memory > MEMORY.get(command, 100):
             fault = f"{memory:.0f} MB of memory"
         self.tell(f"{name}: {' '.join(map(str, words))[:80]!r}", fault)

@@ -3,7 +3,7 @@ import os
 import random
 import sys
 
-from annotate_fixture import TOP
+from lib.annotate.fixture import TOP
 
 CLIENTS = os.path.join(TOP, "clients")
 sys.path.insert(0, CLIENTS)

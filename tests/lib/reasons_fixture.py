@@ -4,7 +4,7 @@ import os
 import re
 import sys
 
-from annotate_fixture import TOP, need, same
+from lib.annotate.fixture import TOP, need, same
 
 CLIENTS = os.path.join(TOP, "clients")
 sys.path.insert(0, CLIENTS)

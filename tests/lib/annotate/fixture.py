@@ -10,7 +10,10 @@ import sys
 import tempfile
 import time
 
-TOP = os.path.dirname(os.path.dirname(os.path.abspath(__file__)))
+from lib.counting import Fault, need, same
+from lib.waiting import PATIENCE
+
+TOP = os.path.abspath(os.path.join(__file__, *[os.pardir] * 4))
 FOLDER = os.path.join(TOP, "clients", "annotate")
 EXAMPLES = os.path.join(TOP, "examples")
 LETTER = os.path.join(EXAMPLES, "letter.dtd")
@@ -18,20 +21,7 @@ ARTICLE = os.path.join(EXAMPLES, "article.dtd")
 DRAFT = "<letter><opener>Dear brother,</opener>\n<body><p>I have met Mr Adams in Delft.</p></body></letter>\n"
 
 
-class Fault(Exception):
-    pass
-
-
-def need(holds, what):
-    if not holds:
-        raise Fault(what)
-
-
-def same(got, want, what):
-    need(got == want, f"{what}: {got!r} for {want!r}")
-
-
-def soon(get, want, what, seconds=40):
+def soon(get, want, what, seconds=PATIENCE):
     """Waits until this is so."""
     end = time.monotonic() + seconds
     while True:
@@ -71,7 +61,7 @@ class Server:
 
     def wait(self):
         """The status, and what was written as faults."""
-        status = self.process.wait(timeout=20)
+        status = self.process.wait(timeout=PATIENCE)
         return status, self.process.stderr.read()
 
     def path(self, name="doc.xml"):
@@ -90,7 +80,7 @@ class Server:
 
     def request(self, method, path, body=None, **headers):
         """The status and the body; a header that is none isn't sent."""
-        connection = http.client.HTTPConnection("127.0.0.1", int(self.port), timeout=20)
+        connection = http.client.HTTPConnection("127.0.0.1", int(self.port), timeout=PATIENCE)
         connection.putrequest(method, path, skip_host=True, skip_accept_encoding=True)
         given = {"Host": f"127.0.0.1:{self.port}", **{name.replace("_", "-"): value for name, value in headers.items()}}
         if body is not None:

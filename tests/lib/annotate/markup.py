@@ -3,8 +3,8 @@ import os
 import re
 import subprocess
 
-from annotate_browser import Page
-from annotate_fixture import ARTICLE, EXAMPLES, LETTER as DTD, Server, need, same, soon
+from .browser import Page
+from .fixture import ARTICLE, EXAMPLES, LETTER as DTD, Server, need, same, soon
 from selenium.webdriver.common.keys import Keys
 
 PLAIN = os.path.join(EXAMPLES, "letter.txt")

@@ -1,6 +1,6 @@
 """The page of `clients/annotate`: texts and attributes, the same tag again, and finding. Cases of `annotate.py`."""
-from annotate_browser import Page
-from annotate_fixture import ARTICLE, Server, need, same, soon
+from .browser import Page
+from .fixture import ARTICLE, Server, need, same, soon
 from selenium.webdriver.common.keys import Keys
 
 BODY = "<p>I have met Mr Adams in Delft. Delft is fine; Delftware too.</p><p></p><p>He lives in Delft.</p>"
@@ -14,6 +14,8 @@ def types_text(driver, program):
     with Server(program, LETTER) as server:
         page = Page(driver, server.url)
         before = page.written()
+        # All of it is typed in one go, however slow the machine is.
+        page.js("const now = performance.now(); performance.now = () => now")
         page.click_text("have")
         page.type("now & ")
         page.type("then")
@@ -48,6 +50,100 @@ def types_text(driver, program):
         page.keys(Keys.ESCAPE)
         page.keys("x")
         soon(lambda: page.find("#reason").text, lambda text: "Refused." in text and "opener" in text, "no text may stand there")
+
+
+def compose(page, *steps):
+    """What an input method has so far, step by step; the last step is what it puts."""
+    for step in steps[:-1]:
+        page.driver.execute_cdp_cmd("Input.imeSetComposition", {"text": step, "selectionStart": len(step), "selectionEnd": len(step)})
+        soon(lambda: page.js("return document.getElementById('composed').textContent"), step, "it is shown at the caret")
+    page.driver.execute_cdp_cmd("Input.insertText", {"text": steps[-1]})
+
+
+def types_by_keyboards(driver, program):
+    """Dead keys, input methods, and what a phone's keyboard corrects."""
+    with Server(program, LETTER) as server:
+        page = Page(driver, server.url)
+        page.click_text("Adams")
+        compose(page, "´", "é")
+        soon(lambda: "met Mr éAdams" in page.written(), True, "a dead key")
+        page.type("a")
+        compose(page, "n", "ni", "nih", "你好")
+        page.type("b")
+        soon(lambda: "met Mr éa你好bAdams" in page.written(), True, "an input method, among keys")
+        same(page.js("return document.getElementById('composed').hidden"), True, "nothing more is shown")
+        same(page.moves(), 1, "it is one move")
+        version = page.version()
+        compose(page, "x", "")
+        page.type(Keys.BACKSPACE)
+        soon(lambda: "met Mr éa你好Adams" in page.written(), True, "what is given up puts nothing")
+        need(page.version() > version, "the key behind it does")
+        page.select("fine", until="fine")
+        page.open_menu()
+        page.keys(Keys.ESCAPE)
+        compose(page, "¨", "ö", "ö")
+        soon(lambda: "Delft is ö;" in page.written(), True, "what is selected is typed over")
+        # A keyboard of a phone replaces the word before the caret, and deletes by itself.
+        page.js("""
+        const field = document.activeElement
+        const end = field.selectionStart
+        field.setRangeText("Leyden was 𝒜", end - "Delft is ö".length, end, "end")
+        field.dispatchEvent(new InputEvent("input", { inputType: "insertReplacementText" }))
+        """)
+        soon(lambda: "Leyden was 𝒜; Delftware" in page.written(), True, "words that are corrected")
+        for _ in range(2):
+            page.js("document.execCommand('delete')")
+        soon(lambda: "Leyden was; Delftware" in page.written(), True, "a character is one")
+        page.keys(Keys.CONTROL, Keys.BACKSPACE)
+        soon(lambda: "Leyden ; Delftware" in page.written(), True, "a word by one key")
+        for _ in range(70):
+            page.js("document.execCommand('delete')")
+        soon(lambda: "<p>; Delftware" in page.written(), True, "as far as the text goes, not as the field does")
+        page.js("document.execCommand('insertText', false, 'So')")
+        soon(lambda: "<p>So; Delftware" in page.written(), True, "and on")
+        page.find("#document .list.nothing").click()
+        compose(page, "`", "è")
+        soon(lambda: "<p>è</p>" in page.written(), True, "in an element that was empty")
+
+
+def keeps_the_caret(driver, program):
+    """Behind a move, an undo and a menu the caret stands where it did, and keys go on from there."""
+    with Server(program, LETTER) as server:
+        page = Page(driver, server.url)
+        page.wrap("person", "Mr Adams")
+        page.type("on")
+        soon(lambda: "<person>Mr Adamson</person>" in page.written(), True, "behind what was tagged")
+        page.keys(Keys.CONTROL, "z")
+        soon(page.moves, 1, "undo")
+        page.click_text("fine")
+        page.keys(Keys.CONTROL, "z")
+        soon(page.moves, 0, "undo of what is beside it")
+        page.type("very ")
+        soon(lambda: "Delft is very fine" in page.written(), True, "it stays")
+        page.select("lives")
+        page.open_menu()
+        page.keys(Keys.ESCAPE)
+        page.keys(Keys.ESCAPE)
+        page.type("d")
+        soon(lambda: "He livesd in" in page.written(), True, "behind what was selected")
+        page.keys(Keys.ARROW_LEFT)
+        page.type("!")
+        soon(lambda: "He lives!d in" in page.written(), True, "an arrow key goes on from there")
+        page.select("too.")
+        page.open_menu()
+        page.keys(Keys.ESCAPE)
+        page.right_click_text("too.")
+        need(str(page.open_menu()) and page.find("#menu h2").text.startswith("Tags round text"), "what is chosen keeps its menu")
+        page.keys(Keys.ESCAPE)
+        page.keys(Keys.SHIFT, Keys.ARROW_LEFT)
+        soon(lambda: page.js("return import('./choose.js').then(({ chosen }) => chosen().run).then(({ from, to }) => to[1] - from[1])"), 3, "Shift goes on with the selection")
+    with Server(program, "<doc><head>H</head><sec><p>ab<em>c</em>d</p></sec></doc>", ARTICLE, "doc") as server:
+        page = Page(driver, server.url)
+        page.click_text("ab")
+        page.type(Keys.DELETE)
+        page.type(Keys.DELETE)
+        page.type("x")
+        soon(lambda: "<p>x<em>c</em>d</p>" in page.written(), True, "before an element, where the text is gone")
 
 
 def pastes_text(driver, program):
@@ -186,12 +282,16 @@ def finds(driver, program):
         page.keys("part 2998")
         soon(lambda: page.find("#finder output").text, "1 of 2", "the last")
         page.keys(Keys.ESCAPE)
-        same(page.js("return [getSelection().toString(), document.activeElement.id]"), ["Part 2998", "document"], "it is selected")
+        same(page.js("return [getSelection().toString(), document.activeElement.id]"), ["Part 2998", "typed"], "it is selected")
         page.keys(Keys.ENTER)
         page.open_menu()
         page.keys(Keys.ESCAPE)
         page.keys(Keys.CONTROL, Keys.HOME)
         soon(lambda: page.js("return document.getElementById('document').scrollTop"), 0, "the start")
+        same(page.js("return document.activeElement.id"), "document", "while arrow keys move")
+        soon(lambda: page.js("return document.activeElement.id"), "typed", "the field has the focus when they rest")
+        page.keys(Keys.PAGE_DOWN)
+        soon(lambda: page.js("return document.getElementById('document').scrollTop"), lambda top: top > 200, "a page on")
         page.keys(Keys.CONTROL, Keys.END)
         soon(lambda: " 2999, long." in page.texts("#document .text"), True, "the end is drawn")
         page.find("#list").click()
@@ -202,4 +302,4 @@ def finds(driver, program):
         same(page.texts("#elements li")[5], "title 2 of 3000", "which is told")
 
 
-CASES = [types_text, pastes_text, edits_attributes, tags_again, finds]
+CASES = [types_text, types_by_keyboards, keeps_the_caret, pastes_text, edits_attributes, tags_again, finds]

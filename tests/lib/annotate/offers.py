@@ -1,8 +1,8 @@
 """The page of `clients/annotate`: what is offered and refused, and what is missing. Cases of `annotate.py`."""
 import os
 
-from annotate_browser import Page
-from annotate_fixture import ARTICLE, EXAMPLES, LETTER as DTD, Server, need, same, soon
+from .browser import Page
+from .fixture import ARTICLE, EXAMPLES, LETTER as DTD, Server, need, same, soon
 from selenium.webdriver.common.keys import Keys
 
 PLAIN = os.path.join(EXAMPLES, "letter.txt")
@@ -94,7 +94,7 @@ def shows_what_is_impossible(driver, program):
         same(sorted(page.texts(".in-way > .tag")), ["body", "closer"], "what stands in each other's way")
         page.click_tag("lb")
         page.open_menu()
-        need("EMPTY" in page.find("#menu .about").text, "the menu of a red element tells it too")
+        soon(lambda: page.find("#menu .about").text, lambda text: "EMPTY" in text, "the menu of a red element tells it too")
         page.keys("unwrap", Keys.ENTER)
         soon(lambda: len(page.texts(".why")), 1, "a reason goes with its list")
 
@@ -107,12 +107,13 @@ def sorts_by_cost(driver, program):
         page = Page(driver, server.url)
         page.select("Soup", "served.")
         page.open_menu()
-        soon(page.notes, lambda rows: all(group != "not counted" for group, _, _ in rows), "all costs come")
+        soon(page.notes, lambda rows: all("counted" not in (group or "counted") for group, _, _ in rows), "all costs come")
         rows = page.notes()
         same(rows[0][0], "no more is missing then", "the first group")
         groups = {label: (group, note) for group, label, note in rows}
         need(groups["p"][0] == "no more is missing then", "a paragraph costs nothing")
-        same(groups["list"], ("+3: then 3 more are missing", "item ×2, p"), "a list costs two items, and a paragraph beside the one that was missing")
+        same(groups["list"][0], "+3: then 3 more are missing", "a list costs three")
+        soon(lambda: {label: note for _, label, note in page.notes()}["list"], "item ×2, p", "two items, and a paragraph beside the one that was missing")
         counts = [0 if group[0] != "+" else int(group[1:group.index(":")]) for group, _, _ in rows]
         same(counts, sorted(counts), "they stand in this order")
         page.keys("list", Keys.ENTER)
@@ -180,10 +181,12 @@ def takes_over_a_preview(driver, program):
         same(page.written(), before, "to where it began")
 
 
-# Choices come in, and Enter and a click at once, which were meant for what stood there; and both again behind a moment.
+# Choices come in, and Enter and a click at once, which were meant for what stood there; and both again behind a moment, by a clock of its own.
 MOVED = """
 const [done] = arguments
-import('./menu.js').then(async ({ openMenu, setChoices, closeMenu }) => {
+import('./menu.js').then(({ openMenu, setChoices, closeMenu }) => {
+    let now = performance.now()
+    performance.now = () => now
     const taken = []
     const named = (...labels) => labels.map((label) => ({ label, take: (label) => taken.push(label) }))
     const input = document.querySelector('#menu input')
@@ -193,7 +196,7 @@ import('./menu.js').then(async ({ openMenu, setChoices, closeMenu }) => {
     setChoices(named('b', 'a', 'c'))
     both()
     const early = taken.splice(0)
-    await new Promise((later) => setTimeout(later, 400))
+    now += 400
     both()
     setChoices(named('b', 'a', 'c'))
     both()

@@ -1,5 +1,6 @@
 """What the tests of `clients/lsp` share: a client that speaks with the server by pipes, and edits made as an editor
 makes them."""
+import contextlib
 import json
 import os
 import queue
@@ -9,7 +10,10 @@ import sys
 import threading
 import time
 
-TOP = os.path.dirname(os.path.dirname(os.path.abspath(__file__)))
+from lib.counting import Fault, need, same
+from lib.waiting import PATIENCE
+
+TOP = os.path.abspath(os.path.join(__file__, *[os.pardir] * 3))
 SERVER = os.path.join(TOP, "clients", "lsp", "pvtag-lsp")
 EXAMPLES = os.path.join(TOP, "examples")
 LETTER = '<!DOCTYPE letter SYSTEM "letter.dtd">\n'
@@ -29,19 +33,6 @@ CAPABILITIES = {
 
 
 DRAFT = LETTER + "<letter><opener>Dear brother,</opener>\n<body><p>I have met Mr Adams in Delft.</p></body></letter>\n"
-
-
-class Fault(Exception):
-    pass
-
-
-def need(holds, what):
-    if not holds:
-        raise Fault(what)
-
-
-def same(got, want, what):
-    need(got == want, f"{what}: {got!r} for {want!r}")
 
 
 def uri_of(name, folder=EXAMPLES):
@@ -107,13 +98,24 @@ def edits_of(edit):
 class Client:
     """A client of a server of its own."""
 
-    def __init__(self, program, capabilities=CAPABILITIES, options=None, begins=True, seconds=60):
-        self.seconds, self.number, self.aside, self.documents = seconds, 0, [], {}
+    def __init__(
+        self,
+        program,
+        capabilities=CAPABILITIES,
+        options=None,
+        begins=True,
+        seconds=PATIENCE,
+        server=SERVER,
+        environment=None,
+        folder=None,
+    ):
+        self.seconds, self.number, self.aside, self.documents, self.together = seconds, 0, [], {}, None
         self.process = subprocess.Popen(
-            [sys.executable, SERVER, "--program", program],
+            [sys.executable, server, *(["--program", program] if program else [])],
             stdin=subprocess.PIPE,
             stdout=subprocess.PIPE,
             stderr=subprocess.PIPE,
+            env=environment,
         )
         self.messages = queue.Queue()
         threading.Thread(target=self.read, daemon=True).start()
@@ -122,7 +124,7 @@ class Client:
         if begins:
             self.told = self.ask(
                 "initialize",
-                {"processId": None, "rootUri": None, "capabilities": capabilities, "initializationOptions": options},
+                {"processId": None, "rootUri": folder and f"file://{folder}", "capabilities": capabilities, "initializationOptions": options},
             )
             self.tell("initialized", {})
 
@@ -151,9 +153,23 @@ class Client:
         self.process.stdin.write(data)
         self.process.stdin.flush()
 
+    @contextlib.contextmanager
+    def at_once(self):
+        """All that is sent meanwhile is handed over together, so that no time passes between."""
+        self.together = []
+        try:
+            yield
+        finally:
+            together, self.together = self.together, None
+            self.raw(b"".join(together))
+
     def send(self, message):
         body = json.dumps(message).encode()
-        self.raw(b"Content-Length: %d\r\n\r\n" % len(body) + body)
+        data = b"Content-Length: %d\r\n\r\n" % len(body) + body
+        if self.together is None:
+            self.raw(data)
+        else:
+            self.together.append(data)
 
     def tell(self, method, params):
         self.send({"jsonrpc": "2.0", "method": method, "params": params})

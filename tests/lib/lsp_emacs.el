@@ -9,7 +9,10 @@
 
 (defvar asked (let ((json-object-type 'alist) (json-array-type 'list)) (json-read-file (getenv "PVTAG_ASKED"))))
 (defvar told nil)
-(setq jrpc-default-request-timeout (alist-get 'seconds asked))
+;; The clocks of the client's own are for an idle machine.
+(setq jrpc-default-request-timeout (alist-get 'seconds asked)
+      eglot-connect-timeout (alist-get 'seconds asked)
+      eglot-sync-connect t)
 
 (defun asked (key) (alist-get key asked))
 (defun tell (key value) (push (cons key value) told))
@@ -90,7 +93,7 @@
   (tell 'undone (take-back))
   (await "the diagnostics" #'are-missing)
   (set-buffer-modified-p nil)
-  (eglot-shutdown (eglot--current-server-or-lose)))
+  (eglot-shutdown (eglot--current-server-or-lose) nil (asked 'seconds)))
 
 (condition-case fault (run) (error (tell 'fault (error-message-string fault))))
 (with-temp-file (getenv "PVTAG_TOLD") (insert (json-encode told)))

@@ -1,6 +1,6 @@
 """The page of `clients/annotate`: its files, and what a window says of them. Cases of `annotate.py`."""
-from annotate_browser import Page
-from annotate_fixture import Server, need, same, soon
+from .browser import Page
+from .fixture import Server, need, same, soon
 from selenium.webdriver.common.keys import Keys
 
 LETTER = "<letter><opener><salute>Dear brother,</salute></opener>\n<body><p>I have met Mr Adams in Delft.</p></body></letter>\n"

@@ -2,10 +2,9 @@
 `annotate.py`."""
 import itertools
 import random
-import time
 
-from annotate_browser import Page
-from annotate_fixture import ARTICLE, Server, need, soon
+from .browser import Page
+from .fixture import ARTICLE, Server, need, soon
 from selenium.webdriver.common.keys import Keys
 
 # The page's tree, as the program tells one; and the boxes without what passes by.
@@ -76,19 +75,16 @@ def draws_what_changed(driver, program):
         need(page.moves() > 5, "some moves were made")
 
 
-def stays_quick(driver, program):
-    """A document of some 100,000 nodes."""
+def draws_what_is_seen(driver, program):
+    """Of a document of some 100,000 nodes; its times are told by a measure."""
     sections = "".join(f"<sec><title>Section {k}</title><p>Text of section {k}, <em>with</em> emphasis.</p></sec>" for k in range(12500))
     with Server(program, f"<doc><head>Big</head>{sections}</doc>", ARTICLE, "doc") as server:
-        started = time.monotonic()
         page = Page(driver, server.url)
-        need(time.monotonic() - started < 40, "it opens in 40 seconds, also on a busy machine")
         need(page.drawn() < 5000, f"what is seen is drawn, and not all: {page.drawn()}")
-        started = time.monotonic()
         page.wrap("em", "section 2,")
         page.keys(Keys.CONTROL, "z")
         soon(page.moves, 0, "undo")
-        need(time.monotonic() - started < 15, "a move and its undo take 15 seconds at most, also on a busy machine")
+        need(page.drawn() < 5000, f"a move and its undo draw no more: {page.drawn()}")
         page.js("const all = document.getElementById('document'); all.scrollTop = all.scrollHeight / 2")
         soon(lambda: len([text for text in page.texts("#document .text") if text.startswith("Section")]), lambda count: count > 10, "the middle is drawn")
         page.js("const all = document.getElementById('document'); all.scrollTop = all.scrollHeight")
@@ -96,4 +92,4 @@ def stays_quick(driver, program):
         need(page.drawn() < 5000, f"and what is out of sight isn't any more: {page.drawn()}")
 
 
-CASES = [draws_what_changed, stays_quick]
+CASES = [draws_what_changed, draws_what_is_seen]

@@ -2,10 +2,12 @@
 keyboard. Case of `annotate.py`."""
 import subprocess
 
-from annotate_browser import Page
-from annotate_fixture import ARTICLE, Server, need, same, soon
+from .browser import Page
+from .fixture import ARTICLE, Server, need, same, soon
 from selenium.webdriver.common.keys import Keys
 
+# Whether what is missing in the chosen element stands at its tag, and may be taken over.
+TAKES = "return document.querySelector('.chosen > #reason:not([hidden]) .take:not([hidden])') !== null"
 # So many steps of a user it takes at least.
 STEPS = 60
 DTD = """<!ELEMENT TEI (teiHeader, text)>
@@ -109,7 +111,7 @@ class User:
         for _ in range(8):
             self.page.keys(Keys.F8)
             self.steps += 1
-            soon(lambda: self.page.find("#reason .take").is_displayed(), True, "what is missing is told")
+            soon(lambda: self.page.js(TAKES), True, "what is missing is told")
             if self.page.texts(".chosen > .tag:not(.end)") == [name]:
                 break
         self.page.find("#reason .take").click()

@@ -4,12 +4,13 @@ Needs Chromium, its driver and Selenium (Debian's `chromium`, `chromium-driver`,
 """
 import shutil
 import sys
-import time
 
 sys.dont_write_bytecode = True
 
-from annotate_fixture import need, soon  # noqa: E402
+from .fixture import need, soon  # noqa: E402
+from lib.waiting import PATIENCE  # noqa: E402
 from selenium import webdriver  # noqa: E402
+from selenium.common.exceptions import WebDriverException  # noqa: E402
 from selenium.webdriver.chrome.service import Service  # noqa: E402
 from selenium.webdriver.common.action_chains import ActionChains  # noqa: E402
 from selenium.webdriver.common.actions.action_builder import ActionBuilder  # noqa: E402
@@ -52,6 +53,22 @@ def browser():
     for word in ("--headless=new", "--no-sandbox", "--disable-dev-shm-usage", "--window-size=1200,800"):
         options.add_argument(word)
     options.set_capability("goog:loggingPrefs", {"browser": "ALL"})
+    # A window that is behind another does its work too.
+    for word in ("background-timer-throttling", "backgrounding-occluded-windows", "renderer-backgrounding"):
+        options.add_argument(f"--disable-{word}")
+    driver = begun(options)
+    driver.set_page_load_timeout(PATIENCE)
+    driver.set_script_timeout(PATIENCE)
+    return driver
+
+
+def begun(options):
+    """A browser. On a busy machine it may not be there in the time that its driver gives it."""
+    for _ in range(4):
+        try:
+            return webdriver.Chrome(service=Service(shutil.which("chromedriver")), options=options)
+        except WebDriverException as fault:
+            print(f"no browser: {fault}", flush=True)
     return webdriver.Chrome(service=Service(shutil.which("chromedriver")), options=options)
 
 
@@ -62,7 +79,7 @@ class Page:
         self.driver = driver
         driver.get(url)
         self.window = driver.current_window_handle
-        soon(lambda: self.js("return document.getElementById('next').textContent"), lambda text: text != "…", "the page opens", 30)
+        soon(lambda: self.js("return document.getElementById('next').textContent"), lambda text: text != "…", "the page opens")
 
     def js(self, code, *words):
         return self.driver.execute_script(code, *words)
@@ -97,7 +114,17 @@ class Page:
         actions, pointer = self.pointer()
         pointer.move_to_location(round(x), round(y)).click()
         actions.perform()
-        time.sleep(0.1)
+        self.rest()
+
+    def rest(self):
+        """Waits for what the page does behind an event, and until all that moves has come to rest."""
+        self.driver.execute_async_script(RESTED)
+
+    def right_click_text(self, words):
+        x, y, _, _ = self.js(WHERE, words, 0)
+        actions, pointer = self.pointer()
+        pointer.move_to_location(round(x) + 2, round(y)).context_click()
+        actions.perform()
 
     def click_tag(self, name, nth=0):
         tags = [tag for tag in self.all("#document .tag:not(.end)") if tag.text.split(" ")[0] == name]
@@ -155,6 +182,8 @@ class Page:
 
     def status(self):
         """What the head says of the whole: what is missing, and in how many places."""
+        # Where counting was slow it has to be asked for.
+        self.js("document.querySelector('#missing button')?.click()")
         return f"{self.find('#next').text} {self.find('#missing').text}".strip()
 
     def notes(self):
@@ -182,6 +211,13 @@ class Page:
         return self.js("return document.querySelectorAll('*').length")
 
 
+# What was put off by events before this one is done by then, and drawn.
+RESTED = """
+const [done] = arguments
+const moves = () => document.getAnimations().some((each) => each.playState === 'running' && each.effect.getComputedTiming().endTime < Infinity)
+const look = () => (moves() ? requestAnimationFrame(look) : setTimeout(done))
+setTimeout(() => requestAnimationFrame(() => setTimeout(look)))
+"""
 SETTLED = "return import('./type.js').then(({ settled }) => settled()).then(() => true)"
 NOTES = """
 let group = null

@@ -1,9 +1,7 @@
 """The page of `clients/annotate` for everyone: what is told to those who hear it, contrasts, dark and narrow windows,
 fingers. Cases of `annotate.py`."""
-import time
-
-from annotate_browser import Page
-from annotate_fixture import Server, need, same, soon
+from .browser import Page
+from .fixture import Server, need, same, soon
 from selenium.webdriver.common.keys import Keys
 
 LETTER = "<letter><opener>Dear brother,</opener>\n<closer>Yours</closer><body n='1'><p>I have met <person>Mr Adams</person>.</p><p></p></body></letter>\n"
@@ -84,7 +82,7 @@ def has_contrast(driver, program):
             page = Page(driver, server.url)
 
             def look(where):
-                time.sleep(0.2)
+                page.rest()
                 low = [row for row in page.js(CONTRASTS) if row[2] < row[3] - 0.02]
                 same(low, [], f"contrasts in {name}, {where}")
 
@@ -143,9 +141,13 @@ def fits_a_phone(driver, program):
         tap(driver, page, "#document .tag[data-tag]")
         page.open_menu()
         same(page.js("const { left, right, bottom } = document.getElementById('menu').getBoundingClientRect(); return [left, right, bottom]"), [0, 375, 720], "the menu is at the foot")
-        need(page.js("return document.activeElement.id") != "menu" and page.js("return document.activeElement.tagName") != "INPUT", "no keyboard comes up")
+        need(page.js("return document.activeElement.tagName") not in ("INPUT", "TEXTAREA"), "no keyboard comes up")
         page.js("document.dispatchEvent(new KeyboardEvent('keydown', { key: 'Escape', bubbles: true }))")
         soon(page.menu, None, "it is closed")
+        need(page.js("return document.activeElement.tagName") not in ("INPUT", "TEXTAREA"), "nor then")
+        tap(driver, page, "#document p .text, #document .text")
+        soon(lambda: page.js("return document.activeElement.id"), "typed", "a text that is tapped has the keyboard")
+        need(page.js("const { top, left } = document.getElementById('typed').getBoundingClientRect(); return top > 0 && left > 0"), "at the caret")
         # The handles of a finger change the selection; here it is made as they do.
         page.js("const text = document.querySelector('#document .element.block p, #document .text'); getSelection().setBaseAndExtent(text.firstChild, 0, text.firstChild, 4)")
         soon(lambda: page.menu() is not None and page.find("#menu h2").text, lambda text: str(text).startswith("Tags round"), "a selection opens its menu")
