@@ -1,12 +1,16 @@
 """What each tag that is offered costs: how many more elements are missing behind it, and which.
 
 That is asked in a second session, of a document that holds the list in question and no more, so what can be undone and
-made again stays as it is. It takes some milliseconds a name, so it is told as it comes.
+made again stays as it is. Where that list stays valid with the tag it takes a millisecond, and else some ten under a
+large DTD, for each of some hundred names. So the former are told first, and of the others those that are wanted. Which
+elements are missing takes as long again.
 """
+import contextlib
 import re
 import threading
 import time
 from collections import Counter
+from collections.abc import Iterator
 from typing import Any
 
 from alone import Alone, alone
@@ -23,16 +27,41 @@ TURN = 0.12
 NEW_TAG = re.compile(r"<([^\s/>!?]+)>")
 # So many names of missing elements are told.
 NAMED = 4
+# Of so many places what is known is kept.
+KEPT = 300
+# The document of a list, the cuts that a move needs there, and its line without a name.
+Beside = tuple[Alone, list[str], str]
+
+
+class Known:
+    """What is known of one place, or of another that looks the same: how many more elements are missing behind names,
+    and which; the names with which nothing is missing in the lists that are changed, and those with which that isn't
+    quickly told."""
+
+    def __init__(self) -> None:
+        self.costs: dict[str, int | None] = {}
+        self.names: dict[str, list[str]] = {}
+        self.whole: set[str] = set()
+        self.slow: set[str] = set()
+
+    def lacking(self, names: list[str]) -> list[str]:
+        return [name for name in names if name not in self.costs and name not in self.whole]
 
 
 class Task:
     """The names for one place, and what is known of what they cost. The session is begun when that is asked for."""
 
-    def __init__(self, editor: Editor, there: Alone, cuts: list[str], line: str, names: list[str]) -> None:
-        self.editor, self.there, self.cuts, self.line, self.left = editor, there, cuts, line, names
+    def __init__(self, editor: Editor, beside: Beside, names: list[str], known: Known) -> None:
+        self.editor, self.known = editor, known
+        self.there, self.cuts, self.line = beside
+        # The names that aren't counted yet, and of these the ones whose list wasn't looked at.
+        self.left = known.lacking(names)
+        self.new = [name for name in self.left if name not in known.slow]
+        self.told = Known()
         self.lock, self.is_over = threading.Lock(), False
         self.opened: Session | None = None
-        self.before: Counter[str] | None = None
+        self.before: int | None = None
+        self.before_by_name: Counter[str] | None = None
 
     @property
     def session(self) -> Session:
@@ -43,43 +72,93 @@ class Task:
                     self.opened.process.kill()
                 for cut in self.cuts:
                     self.opened.edit(cut)
-                self.before = self.missing()
+                self.before = self.count()
         return self.opened
 
-    def undo(self) -> None:
-        if not isinstance(self.session.undo(), Made):
+    @contextlib.contextmanager
+    def moved(self, name: str) -> Iterator[bool]:
+        """Makes the move with this name, and takes it back; whether it could be made."""
+        is_made = isinstance(self.session.edit(f"{self.line} {name}"), Made)
+        yield is_made
+        if is_made and not isinstance(self.session.undo(), Made):
             raise Ended(None, "a move can't be taken back")
+
+    def count(self) -> int | None:
+        """How many elements are missing; none where that can't be told."""
+        told = self.session.need()
+        return None if isinstance(told, Refused) else told
 
     def missing(self) -> Counter[str] | None:
         """The names of the elements that are missing; none where that can't be told."""
         done = self.session.complete()
         return None if isinstance(done, Refused) else Counter(NEW_TAG.findall(done.document.decode()))
 
-    def cost(self, name: str) -> Told | None:
-        """How many more elements are missing behind the move with this name."""
-        made = self.session.edit(f"{self.line} {name}")
-        if self.before is None or not isinstance(made, Made):
-            return None
-        found = self.missing()
-        self.undo()
-        if found is None:
-            return None
+    def tell_cost(self, name: str, is_quick: bool = False) -> None:
+        """Finds how many more elements are missing behind the move with this name; quickly or not at all where that is
+        asked for."""
+        with self.moved(name) as is_made:
+            if is_quick and is_made and not self.is_list_valid():
+                self.known.slow.add(name)
+                return
+            count = self.count() if is_made else None
+        cost = None if count is None or self.before is None else count - self.before
+        self.told.costs[name] = self.known.costs[name] = cost
+        self.left.remove(name)
+
+    def is_list_valid(self) -> bool:
+        """Whether the list in question is, by itself. In a renaming that is the one that the element stands in."""
+        rows = self.session.verdicts()
+        return isinstance(rows, Refused) or any((row.path, row.verdict) == (self.there.path, "valid") for row in rows)
+
+    def tell_names(self, name: str) -> None:
+        """Finds which elements these are."""
+        if name not in self.known.names:
+            self.known.names[name] = self.names_of(name)
+        self.told.names[name] = self.known.names[name]
+
+    def names_of(self, name: str) -> list[str]:
+        if self.before_by_name is None:
+            self.before_by_name = self.missing()
+        with self.moved(name) as is_made:
+            found = self.missing() if is_made else None
+        if found is None or self.before_by_name is None:
+            return []
         # The element of the move has no blank either, but where it is renamed.
         if not self.line.startswith("rename "):
             found[name] -= 1
-        more = found - self.before
+        more = found - self.before_by_name
         names = [f"{each} ×{count}" if count > 1 else each for each, count in more.items()]
-        told = names[:NAMED] + ["…"] * (len(names) > NAMED)
-        return {"more": sum(found.values()) - self.before.total(), "names": told}
+        return names[:NAMED] + ["…"] * (len(names) > NAMED)
 
-    def more(self) -> Told:
-        """What is known by now of the names that weren't told yet; the first that are asked for take their time."""
+    def steps(self, wanted: list[str], of_all: bool) -> Iterator[None]:
+        """Finds one thing a step: what is quickly told of each name, the costs of those that are wanted, the elements
+        that are missing behind these, and the costs of all others."""
+        while self.new:
+            self.tell_cost(self.new[0], is_quick=True)
+            self.new.pop(0)
+            yield
+        for name in wanted:
+            if name in self.left:
+                self.tell_cost(name)
+                yield
+        for name in wanted:
+            if self.known.costs.get(name):
+                self.tell_names(name)
+                yield
+        while of_all and self.left:
+            self.tell_cost(self.left[0])
+            yield
+
+    def more(self, wanted: list[str], of_all: bool) -> Told:
+        """What is found in a turn and wasn't told yet, and how many names aren't counted then. One step is made in any
+        case."""
         with self.lock:
-            end, costs = time.monotonic() + TURN, dict[str, Told | None]()
-            while self.left and (not costs or time.monotonic() < end):
-                name = self.left.pop(0)
-                costs[name] = self.cost(name)
-            return {"costs": costs, "left": len(self.left)}
+            end = time.monotonic() + TURN
+            for _ in self.steps(wanted, of_all):
+                if time.monotonic() > end:
+                    break
+            told, self.told = self.told, Known()
+            return {"costs": told.costs, "names": told.names, "left": len(self.left), "is_quick": not self.new}
 
     def stop(self) -> None:
         """Ends it, also in mid-answer."""
@@ -95,10 +174,13 @@ class Costs:
         self.editor, self.declared = editor, declared
         self.lock, self.number = threading.Lock(), 0
         self.task: Task | None = None
+        # What a list misses is the same wherever it stands, and whatever its texts say.
+        self.known: dict[tuple[bytes, str, str, str], Known] = {}
 
     def offer(self, ask: Any) -> Told:
         """The names that may go round a run, or that an element may have: those used lately, those with which nothing
-        is missing in the lists that they change, and the number by which it is asked what the others cost."""
+        is missing in the lists that they change, what is known of the others, and the number by which it is asked what
+        they cost."""
         editor = self.editor
         with editor.lock:
             cuts, line, lists = self.edit(ask)
@@ -108,9 +190,22 @@ class Costs:
                 return editor.refusal(reply)
             recent = [name for name in editor.recent() if name in reply]
             names = self.ordered(reply, recent)
-            whole = editor.tried(cuts, lambda: self.whole(line, names, lists)) if names else []
-            task = self.begin(Task(editor, *self.beside(ask), [name for name in names if name not in whole]))
-        return {"names": reply, "recent": recent, "whole": whole, "task": task}
+            beside = self.beside(ask)
+            known = self.known_of(beside)
+            if names:
+                editor.tried(cuts, lambda: self.look(line, known, known.lacking(names), lists))
+            task = self.begin(Task(editor, beside, names, known))
+            return {"names": reply, "recent": recent, "whole": list(known.whole), "task": task, "costs": known.costs.copy()}
+
+    def known_of(self, beside: Beside) -> Known:
+        """What is known of this place, which is kept for the next time."""
+        there, cuts, line = beside
+        key = there.source, there.root, "\n".join(cuts), line
+        known = self.known.pop(key, None) or Known()
+        self.known[key] = known
+        if len(self.known) > KEPT:
+            self.known.pop(next(iter(self.known)))
+        return known
 
     def edit(self, ask: Any) -> tuple[list[str], str, list[Node]]:
         """The cuts that the move needs, its line without a name, and the lists that are there and are changed by it."""
@@ -121,21 +216,22 @@ class Costs:
         cuts, path, start, end = run_of(document, ask)
         return cuts, f"wrap {path} {start} {end}", [element_of(document, ask["list"])[0]]
 
-    def whole(self, line: str, names: list[str], lists: list[Node]) -> list[str]:
-        """The names with which each list that is changed is valid by itself: then no other is open but those that were.
-        As many as can be told in a turn."""
+    def look(self, line: str, known: Known, names: list[str], lists: list[Node]) -> None:
+        """Looks with which names all lists that are changed are valid by themselves, and with which none is: then as many
+        others are open as were, or two more. As many names as can be told in a turn."""
         editor, end = self.editor, time.monotonic() + TURN
         others = editor.open - sum(node.verdict == "possible" for node in lists)
         impossible = editor.bad - sum(node.verdict == "impossible" for node in lists)
-        found = []
         for name in names:
             if time.monotonic() > end:
                 break
             reply = editor.session.edit(f"{line} {name}")
             if isinstance(reply, Made):
                 editor.take_back(1)
-                found += [name] if (reply.open, reply.bad) == (others, impossible) else []
-        return found
+                if (reply.open, reply.bad) == (others, impossible):
+                    known.whole.add(name)
+                elif reply.open == others + 2:
+                    known.slow.add(name)
 
     def ordered(self, names: list[str], recent: list[str]) -> list[str]:
         """The order in which costs are asked: what was used lately first, then what needs least in itself."""
@@ -150,7 +246,7 @@ class Costs:
             self.number += 1
             return self.number
 
-    def beside(self, ask: Any) -> tuple[Alone, list[str], str]:
+    def beside(self, ask: Any) -> Beside:
         """The document of the list, the cuts that the move needs there, and its line without a name."""
         document, root = self.editor.document, self.editor.root
         if "node" in ask:
@@ -164,15 +260,16 @@ class Costs:
         return there, cuts, f"wrap {path} {first} {last}"
 
     def more(self, ask: Any) -> Told:
-        """What is known by now of the names that weren't told yet."""
-        task = self.task
+        """What more is known by now: of the names that are wanted before the others, and of all where that is asked
+        for."""
+        task, gone = self.task, {"costs": {}, "names": {}, "left": 0, "is_quick": True, "is_gone": True}
         if task is None or ask["task"] != self.number:
-            return {"costs": {}, "left": 0}
+            return gone
         try:
-            return task.more()
+            return task.more([name for name in ask["names"] if name in self.declared], ask["all"])
         except Ended:
             # Another place is asked for by now.
-            return {"costs": {}, "left": 0}
+            return gone
 
     def close(self) -> None:
         if self.task is not None:

@@ -153,16 +153,9 @@ class Editor:
         with self.lock:
             if self.needed.get("version") != self.version:
                 reply = self.session.need()
-                if isinstance(reply, Refused) and reply.why == "wide":
-                    reply = self.need_of_wide(reply)
                 told = {"need": reply} if isinstance(reply, int) else self.refusal(reply)
                 self.needed = {"version": self.version, **told}
             return self.needed
-
-    def need_of_wide(self, refused: Refused) -> int | Refused:
-        """How many elements are missing where a list is too wide for the session to tell it: the place to ask another
-        program."""
-        return refused
 
     def refusal(self, reply: Refused) -> Told:
         """A reply of the session as the page takes it: a path becomes the number of its list, where it is there."""

@@ -8,7 +8,7 @@ import threading
 import urllib.parse
 from collections.abc import Mapping, Sequence
 from dataclasses import dataclass
-from typing import Any
+from typing import Any, NamedTuple
 from xml.sax.saxutils import quoteattr
 
 import memory
@@ -65,12 +65,19 @@ class Named:
         return plain if os.path.exists(plain) else told
 
 
+class Plain(NamedTuple):
+    """The path of a plain DTD. One in memory is there for as long as this is held."""
+
+    path: str
+    held: memory.MemoryFile | None = None
+
+
 class Grammar:
     """A DTD that the program reads, and the name of the root. Reasons under it are kept."""
 
-    def __init__(self, program: list[str], path: str, root: str) -> None:
-        self.program, self.path, self.root = program, path, root
-        self.dtd = Dtd(program, path)
+    def __init__(self, program: list[str], plain: Plain, root: str) -> None:
+        self.program, self.plain, self.path, self.root = program, plain, plain.path, root
+        self.dtd = Dtd(program, plain.path)
         self.reasons, self.lock = Reasons(program, self.dtd, root), threading.Lock()
         self.kept: dict[Key, Reason | None] = {}
         self.numbers: dict[str, int] = {}
@@ -140,12 +147,11 @@ class Finder:
         self.program, self.folder = program, folder
         self.options = {key: value for key in ("dtd", "root") if isinstance(value := options.get(key), str) and value}
         self.lock = threading.Lock()
-        self.plain: dict[FileKey, str | Trouble] = {}
-        self.files: list[memory.MemoryFile] = []
+        self.plain: dict[FileKey, Plain | Trouble] = {}
         self.grammars: dict[tuple[FileKey, str], Grammar] = {}
 
     def forget(self) -> None:
-        """Looks at all files anew. What is in memory stays open for those that use it."""
+        """Looks at all files anew. What is in memory stays there for those that use it, and no longer."""
         with self.lock:
             self.plain.clear()
             self.grammars.clear()
@@ -155,9 +161,9 @@ class Finder:
         named, root = self.named(folder_of(uri), *front(data))
         with self.lock:
             key = key_of_file(named)
-            path = self.plain_path(key, named)
+            plain = self.made_plain(key, named)
             if (key, root) not in self.grammars:
-                self.grammars[key, root] = Grammar(self.program, path, root)
+                self.grammars[key, root] = Grammar(self.program, plain, root)
             return self.grammars[key, root]
 
     def named(self, folder: str, items: list[bytes], first: str) -> tuple[Named, str]:
@@ -174,7 +180,7 @@ class Finder:
             or (doctype["name"].decode(errors="replace") if doctype else first)
         )
         if "dtd" in self.options:
-            return Named(self.options["dtd"], "", self.folder or folder), root
+            return self.told(folder), root
         if "dtd" in told:
             return Named(told["dtd"], "", folder), root
         if doctype and (doctype["system"] or doctype["address"]):
@@ -184,10 +190,19 @@ class Finder:
             "or in the settings of the server"
         )
 
-    def plain_path(self, key: FileKey, named: Named) -> str:
-        """The path of a plain DTD."""
+    def told(self, folder: str) -> Named:
+        """The DTD of the settings. It counts from the folder that is open in the editor, or else from the document's:
+        some editors open the user's own folder where none is."""
+        there, beside = (Named(self.options["dtd"], "", each) for each in (self.folder or folder, folder))
+        is_there, is_beside = (each.file is not None and os.path.isfile(each.file) for each in (there, beside))
+        return beside if is_beside and not is_there else there
+
+    def made_plain(self, key: FileKey, named: Named) -> Plain:
+        """A DTD as one plain file. Of a file that has changed nothing is kept."""
         if key not in self.plain:
             file = named.file
+            self.plain = {each: plain for each, plain in self.plain.items() if each[0] != key[0]}
+            self.grammars = {each: grammar for each, grammar in self.grammars.items() if each[0][0] != key[0]}
             try:
                 is_there = file is not None and os.path.isfile(file)
                 self.plain[key] = self.read(file) if file is not None and is_there else self.by_catalog(named)
@@ -198,18 +213,18 @@ class Finder:
             raise answer
         return answer
 
-    def read(self, file: str) -> str:
+    def read(self, file: str) -> Plain:
         """A DTD's file, made plain where it needs to be."""
         answer = run(self.program, "dtd", file)
         if answer.status == 0:
-            return file
+            return Plain(file)
         if MODULES.match(answer.line):
             return self.flattened(file, file)
         with contextlib.suppress(OSError), open(file, "rb") as opened:
             raise Refusal(fault_of(answer.status, answer.line, {"dtd": Source(file, opened.read())}))
         raise Trouble(f"{file}: it can't be read")
 
-    def by_catalog(self, named: Named) -> str:
+    def by_catalog(self, named: Named) -> Plain:
         """A DTD that the catalogs of this machine know by its address or its public identifier."""
         if named.file is not None and not named.public:
             raise Trouble(f"{named.file}: there is no such DTD")
@@ -220,7 +235,7 @@ class Finder:
         with memory.file_of(f"<!ENTITY % all {identifier}>\n%all;\n".encode()) as path:
             return self.flattened(path, named.system)
 
-    def flattened(self, path: str, name: str) -> str:
+    def flattened(self, path: str, name: str) -> Plain:
         """What `tools/flatten` makes of a DTD, in memory."""
         said = ""
         for python in dict.fromkeys((sys.executable, "/usr/bin/python3")):
@@ -231,8 +246,8 @@ class Finder:
             except OSError:
                 continue
             if ran.returncode == 0:
-                self.files.append(memory.MemoryFile(ran.stdout))
-                return self.files[-1].path
+                held = memory.MemoryFile(ran.stdout)
+                return Plain(held.path, held)
             said = said if ran.returncode == 2 and said else ran.stderr.decode(errors="replace")
         lines = [line.removeprefix("flatten: ").replace(path, name) for line in said.splitlines()]
         raise Trouble(f"{name}: the DTD can't be made plain: " + "; ".join(lines[:3]))

@@ -5,7 +5,9 @@ from collections.abc import Iterator
 
 
 class MemoryFile:
-    """Bytes under a path that other processes of this user can read, until it is closed."""
+    """Bytes under a path that other processes of this user can read, until it is closed or nobody holds it any more."""
+
+    number = -1
 
     def __init__(self, data: bytes) -> None:
         self.number = os.memfd_create("pvtag")
@@ -15,7 +17,11 @@ class MemoryFile:
             rest = rest[os.write(self.number, rest) :]
 
     def close(self) -> None:
-        os.close(self.number)
+        number, self.number = self.number, -1
+        if number >= 0:
+            os.close(number)
+
+    __del__ = close
 
 
 @contextlib.contextmanager

@@ -1,5 +1,4 @@
 """The server: its life, its open documents, and which request is answered by what."""
-import os
 import queue
 import sys
 import threading
@@ -16,7 +15,7 @@ from diagnostics import Watch
 from documents import Accepted, Asked, Client, Document, text_of
 from grammar import Finder, folder_of
 from pvtag.places import Unit
-from pvtag.program import TOP, Trouble, find
+from pvtag.program import Trouble, find
 from text import Json, Text, encoded
 from wire import Error, Message, Reader, Writer
 from work import Cancelled, Work
@@ -192,7 +191,7 @@ class Server:
         options = options if isinstance(options, dict) else {}
         told = self.program or options.get("program")
         try:
-            program = built(told if isinstance(told, str) else None)
+            program = find(told if isinstance(told, str) else None, builds=False)
         except Trouble as trouble:
             program = ["pvtag"]
             self.writer.tell("window/showMessage", {"type": ERROR, "message": f"pvtag: {trouble}"})
@@ -280,18 +279,6 @@ NOTES: dict[str, Callable[[Server, Json], None]] = {
     "textDocument/didClose": Server.did_close,
     "workspace/didChangeWatchedFiles": Server.did_save,
 }
-
-
-def built(told: str | None) -> list[str]:
-    """The program: the one that is told, else what the repository has built, else one on the path. None is built
-    here."""
-    file = os.path.join(TOP, "crates", "pvtag", "out", "pvtag")
-    if told is None and os.access(file, os.X_OK):
-        return [file]
-    program = find(told)
-    if program == [os.path.join(TOP, "pvtag")] and told is None:
-        raise Trouble(f"the program isn't built: run {program[0]} once")
-    return program
 
 
 def error_of(fault: Exception) -> Error:

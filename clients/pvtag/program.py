@@ -12,6 +12,8 @@ from typing import NamedTuple
 
 HERE = os.path.dirname(os.path.realpath(__file__))
 TOP = os.path.dirname(os.path.dirname(HERE))
+# The repository's script, which builds the program where there is none, and where it is then.
+SCRIPT, BUILT = os.path.join(TOP, "pvtag"), os.path.join(TOP, "build", "pvtag")
 # The status of words that are no command.
 USAGE = 2
 
@@ -36,25 +38,30 @@ class Answer(NamedTuple):
         return self.output.partition(b"\n")[0].decode(errors="replace")
 
 
-def find(told: str | None = None) -> list[str]:
+def find(told: str | None = None, builds: bool = True) -> list[str]:
     """The words that begin the program: the file that is told; else `pvtag` beside the client or the link by which it
-    was called, in the repository, or on the path. That of the repository brings itself up to date here, once."""
+    was called, in the repository, or on the path. Where the repository has none yet, its script builds it here, unless
+    the caller can't wait for that."""
     if told is not None:
         return [told]
     called = os.path.abspath(sys.argv[0]), os.path.realpath(sys.argv[0])
     beside = [os.path.join(os.path.dirname(name), "pvtag") for name in called]
-    for file in (*beside, os.path.join(TOP, "pvtag"), shutil.which("pvtag")):
-        if file is not None and os.path.isfile(file) and os.access(file, os.X_OK):
-            return [built(file) if os.path.dirname(file) == TOP else file]
-    raise Trouble("the program pvtag isn't found; --program tells it")
+    for file in (*beside, BUILT, SCRIPT, shutil.which("pvtag")):
+        if file is None or not os.path.isfile(file) or not os.access(file, os.X_OK):
+            continue
+        if os.path.realpath(file) != SCRIPT:
+            return [file]
+        if builds:
+            return [built()]
+    hint = f"run {SCRIPT} once, which builds it" if os.path.isfile(SCRIPT) else "--program tells it"
+    raise Trouble(f"the program pvtag isn't found; {hint}")
 
 
-def built(script: str) -> str:
-    """The program that the repository's script builds where that is needed. Without words it says how it is used."""
-    if run([script]).status != USAGE:
+def built() -> str:
+    """The program, which the repository's script builds first. Without words it says how it is used."""
+    if run([SCRIPT]).status != USAGE:
         raise Trouble("the program pvtag couldn't be built")
-    program = os.path.join(TOP, "build", "pvtag")
-    return program if os.access(program, os.X_OK) else script
+    return BUILT if os.access(BUILT, os.X_OK) else SCRIPT
 
 
 def add_option(reader: argparse.ArgumentParser) -> None:

@@ -11,9 +11,9 @@ from typing import NamedTuple
 
 from .tries import Kid, Try
 
-# So many pairs of different kids are tried at once; of longer lists, so many kids in all tries of a run, and so many
-# tries.
-MOST_PAIRS, MOST_KIDS, MOST_TRIES = 2500, 20000, 15
+# So many pairs of different kids are tried at once; of longer lists, about so many kids in all tries of a run, since
+# that many take as long as a run of nothing, and at most so many tries.
+MOST_PAIRS, MOST_KIDS, MOST_TRIES = 2500, 1500, 15
 
 # A search asks for tries, is answered which are impossible, and gives what it found.
 Asking = Generator[list[Try], list[bool], "Found | None"]
@@ -34,13 +34,12 @@ def search(owner: str, kids: Sequence[Kid]) -> Asking:
     word = [kids[at] for at in places]
     chosen = yield from near(owner, word)
     end = chosen[-1] if chosen else len(word)
-    is_impossible, *is_reverse_impossible = yield [Try(owner, tuple(word[:end])), *reverse(owner, word, chosen)]
-    if not chosen and not is_impossible:
+    length = yield from least(owner, end, lambda size: word[:size], reverse(owner, word, chosen), is_sure=False)
+    if length is not None:
+        chosen = yield from far(owner, word, length)
+    if not chosen:
         return None
-    if is_impossible:
-        chosen = yield from far(owner, word, end)
-        is_reverse_impossible = yield reverse(owner, word, chosen)
-    has_order = is_reverse_impossible == [False]
+    has_order = (yield reverse(owner, word, chosen)) == [False]
     return Found(tuple(places[at] for at in chosen), places[chosen[-1]], has_order)
 
 
@@ -69,15 +68,16 @@ def near(owner: str, word: Sequence[Kid]) -> Generator[list[Try], list[bool], li
     return min(found, key=lambda at: (at[-1], len(at), -at[0]), default=[])
 
 
-def far(owner: str, word: Sequence[Kid], end: int) -> Generator[list[Try], list[bool], list[int]]:
-    """Kids of the front of this length, which is impossible, none of which can be left out: the last one of the
-    shortest impossible front, and then again and again the first one of the shortest impossible end before it."""
-    length = yield from least(owner, end, lambda size: word[:size])
+def far(owner: str, word: Sequence[Kid], length: int) -> Generator[list[Try], list[bool], list[int]]:
+    """Kids of the shortest impossible front, which has this length, none of which can be left out: its last one, and
+    then again and again the first one of the shortest impossible end before it."""
     chosen, left = [length - 1], list(range(length - 1))
     # Where kids have too many names for all pairs, one with the last kid may be enough; none is impossible alone here.
+    # What these are in the other order is kept for the sentence.
     before = {word[at]: at for at in left}
-    answers = yield [Try(owner, (kid, word[length - 1])) for kid in before]
-    enough = [at for at, is_impossible in zip(before.values(), answers, strict=True) if is_impossible]
+    pairs = [(kid, word[length - 1]) for kid in before]
+    answers = yield [Try(owner, pair) for pair in (*pairs, *(pair[::-1] for pair in pairs))]
+    enough = [at for at, is_impossible in zip(before.values(), answers) if is_impossible]
     if enough:
         return [max(enough), length - 1]
     while left:
@@ -87,23 +87,34 @@ def far(owner: str, word: Sequence[Kid], end: int) -> Generator[list[Try], list[
             return [word[at] for at in sorted([*base, *left[len(left) - size:]])]
 
         size = yield from least(owner, len(left), part)
-        if size == 0:
+        if not size:
             break
         left = left[len(left) - size:]
         chosen = sorted([*chosen, left.pop(0)])
     return chosen
 
 
-def least(owner: str, most: int, part: Callable[[int], Sequence[Kid]]) -> Generator[list[Try], list[bool], int]:
-    """The least size of which a part of a list is impossible; that of the size `most` is, each holding the smaller."""
-    low, high = -1, most
-    while high - low > 1:
-        count = max(1, min(MOST_TRIES, MOST_KIDS // (high + 1)))
-        sizes = sorted({low + max(1, (high - low) * at // (count + 1)) for at in range(1, count + 1)})
-        answers = yield [Try(owner, tuple(part(size))) for size in sizes]
-        for size, is_impossible in zip(sizes, answers, strict=True):
+def least(owner: str, most: int, part: Callable[[int], Sequence[Kid]], also: Sequence[Try] = (),
+          is_sure: bool = True) -> Generator[list[Try], list[bool], int | None]:
+    """The least size of which a part of a list is impossible, each holding the smaller. That of the size `most` is,
+    where that is sure; else there may be none. Other tries are made in the first run, to be known later."""
+    low, high = -1, most if is_sure else most + 1
+    while high - low > 1 or also:
+        sizes = sizes_between(low, high, most)
+        answers = yield [*(Try(owner, tuple(part(size))) for size in sizes), *also]
+        also = ()
+        for size, is_impossible in zip(sizes, answers):
             if is_impossible:
                 high = size
                 break
             low = size
-    return high
+    return high if high <= most else None
+
+
+def sizes_between(low: int, high: int, most: int) -> list[int]:
+    """Sizes to try in one run: where little is known, halves of halves; then even parts."""
+    if high > 4 * (low + 1) + MOST_TRIES:
+        halves = {high >> half for half in range(1, high.bit_length())}
+        return sorted(size for size in halves | ({most} if high > most else set[int]()) if size > low)
+    count = max(2, min(MOST_TRIES, MOST_KIDS // (high + 1)))
+    return sorted({low + max(1, (high - low) * at // (count + 1)) for at in range(1, count + 1)} - {high})

@@ -92,7 +92,10 @@ def counted(number: int) -> str:
 
 
 def ordinal(number: int) -> str:
-    return ORDINALS[number - 1] if number <= len(ORDINALS) else f"{number}th"
+    if number <= len(ORDINALS):
+        return ORDINALS[number - 1]
+    last = 0 if number % 100 in (11, 12, 13) else number % 10
+    return f"{number}{('th', 'st', 'nd', 'rd')[last] if last < 4 else 'th'}"
 
 
 def pair(owner: str, kids: Sequence[Kid], at: Sequence[int], has_order: bool) -> Pieces:

@@ -5,7 +5,6 @@ import { make as element } from "./draw.js"
 import { make } from "./offers.js"
 import { isEmpty, plainTextOf, textOf, told } from "./place.js"
 
-const host = document.getElementById("document")
 const dialog = document.getElementById("everywhere")
 const [title, count, list] = [dialog.querySelector("h2"), dialog.querySelector(".about"), dialog.querySelector("ol")]
 
@@ -60,7 +59,6 @@ function rowOf({ before, behind, part, in: owner }, text) {
 }
 
 async function close(name, open) {
-  host.focus({ preventScroll: true })
   if (dialog.returnValue !== "tag") return
   const boxes = [...list.querySelectorAll("input")]
   const places = open.filter((_, at) => boxes[at].checked).map(({ place }) => place)

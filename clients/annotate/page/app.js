@@ -7,9 +7,9 @@ const host = document.getElementById("document")
 const note = document.getElementById("note")
 const others = new BroadcastChannel(location.pathname)
 
-// `made` is the element that the last change made or renamed, `where` the one whose list it changed; `names` are those
-// that the DTD declares.
-export const app = { tree: null, view: new View(host, host), state: null, made: null, where: null, names: new Set() }
+// `made` is the element that the last change made or renamed, `where` the one whose list it changed, `changed` the place
+// there; `names` are those that the DTD declares.
+export const app = { tree: null, view: new View(host, host), state: null, made: null, where: null, changed: null, names: new Set() }
 // Called with whether something changed, behind each answer.
 export const listeners = []
 // Called where the document was changed by another program.
@@ -76,11 +76,14 @@ addEventListener("focus", catchUp)
 
 function take(state) {
   const isNew = "tree" in state
-  app.made = null
+  app.made = app.changed = null
   if (isNew) {
     app.tree = new Tree(state.tree, state.top)
     app.view.draw(app.tree)
-  } else keepInSight(() => state.changes.forEach(takeMove))
+  } else {
+    app.tree.pieced = []
+    keepInSight(() => state.changes.forEach(takeMove))
+  }
   app.tree.top.verdict = state.top
   host.dataset.verdict = state.top
   app.state = { ...state, tree: undefined, changes: undefined }
@@ -93,6 +96,7 @@ function takeMove({ changes, verdicts }) {
     const node = app.tree.apply(each)
     const isTag = "rename" in each || "attributes" in each
     app.where = node
+    if ("list" in each) app.changed = { owner: node, to: [node.kids[each.from] ?? null, 0] }
     changed.set(node, changed.get(node) || isTag)
     const made = each.kids?.find((told) => told.kind === "element")
     if (made) app.made = app.tree.nodes.get(made.id)

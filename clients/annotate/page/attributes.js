@@ -4,7 +4,6 @@ import { change, question, tell } from "./app.js"
 import { closeMenu } from "./menu.js"
 import { make } from "./draw.js"
 
-const host = document.getElementById("document")
 const dialog = document.getElementById("attributes")
 const rows = dialog.querySelector("tbody")
 const known = document.getElementById("declared")
@@ -81,4 +80,3 @@ dialog.querySelector(".set").addEventListener("click", async (event) => {
   refuse(document.querySelector("#note span").textContent)
   tell("")
 })
-dialog.addEventListener("close", () => host.focus({ preventScroll: true }))

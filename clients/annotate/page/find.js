@@ -1,10 +1,9 @@
 // Finding in the whole document, of which only what is near sight is drawn.
 import { app, listeners } from "./app.js"
-import { choose, scrollTo, select } from "./choose.js"
-import { rangeOf } from "./place.js"
+import { choose, chosen, rest, scrollTo } from "./choose.js"
+import { plainTextOf, rangeOf } from "./place.js"
 import { holdsText, lengthOf } from "./tree.js"
 
-const host = document.getElementById("document")
 const bar = document.getElementById("finder")
 const [input, count] = bar.querySelectorAll("input, output")
 // So many places are found at most.
@@ -22,7 +21,8 @@ listeners.push((changed) => {
 
 export function openFinder() {
   bar.hidden = false
-  const text = getSelection().toString().trim()
+  const { run } = chosen()
+  const text = run ? plainTextOf(run).trim() : ""
   if (text && !text.includes("\n")) input.value = text
   input.select()
   input.focus()
@@ -32,9 +32,9 @@ export function openFinder() {
 export function closeFinder() {
   bar.hidden = true
   CSS.highlights?.delete("found")
-  host.focus({ preventScroll: true })
   const match = found[at]
   if (match) choosePart(match)
+  rest()
 }
 
 // Texts in order; what stands in lists without text is kept apart by a line end.
@@ -107,9 +107,7 @@ function placeOf(place, isEnd) {
 function choosePart(match) {
   const [from, to] = [placeOf(match[0], 0), placeOf(match[1], 1)]
   const owner = from[0].owner
-  const run = to[0].owner === owner ? { owner, from, to } : { owner, from, to: from }
-  select(run)
-  choose(run)
+  choose(to[0].owner === owner ? { owner, from, to } : { owner, from, to: from })
 }
 
 input.addEventListener("input", () => search(true))

@@ -1,9 +1,12 @@
 // What the mouse, a finger and the keyboard do in the document.
 import { app } from "./app.js"
-import { choose, chooseElement, choosePlaceIn, chosen, scrollTo, showCaret, takeSelection } from "./choose.js"
+import {
+  caretPlace, chooseCaret, chooseElement, choosePlaceIn, chosen, leaveAt, rest, scrollTo, selectAgain, setHeld, setTouch, showCaret, takeSelection,
+} from "./choose.js"
+import { field } from "./field.js"
 import { closeMenu, isMenuOpen, stand } from "./menu.js"
-import { extendTo, openFor, setTouch } from "./offers.js"
-import { isEmpty } from "./place.js"
+import { extendTo, openFor } from "./offers.js"
+import { isEmpty, rangeOf } from "./place.js"
 import { erase, type } from "./type.js"
 
 const host = document.getElementById("document")
@@ -14,12 +17,13 @@ let isTouch = false
 addEventListener("pointerdown", (event) => setTouch((isTouch = event.pointerType === "touch")), true)
 host.addEventListener("mousedown", (event) => {
   if (event.target.closest("#reason")) return
-  isPressed = event.button === 0
+  if (event.shiftKey) selectAgain()
+  setHeld((isPressed = event.button === 0))
   closeMenu()
 })
 document.addEventListener("mouseup", (event) => {
   if (!isPressed) return
-  isPressed = false
+  setHeld((isPressed = false))
   const tag = event.target.closest?.("#document .tag")
   const node = tag && app.tree.nodes.get(Number(tag.dataset.tag))
   if (node && getSelection().isCollapsed) {
@@ -28,12 +32,16 @@ document.addEventListener("mouseup", (event) => {
     return void openFor()
   }
   const empty = event.target.closest?.("#document .list.nothing")?.closest("[data-id]")
-  if (empty && getSelection().isCollapsed) return choosePlaceIn(app.tree.nodes.get(Number(empty.dataset.id)))
+  if (empty && getSelection().isCollapsed) {
+    choosePlaceIn(app.tree.nodes.get(Number(empty.dataset.id)))
+    return rest(true)
+  }
   // The browser takes a selection back only behind this event.
   setTimeout(() => {
     if (getSelection().rangeCount === 0) putCaretAt(event)
     takeSelection()
     if (!getSelection().isCollapsed) openFor()
+    else if (host === document.activeElement) rest(true)
   })
 })
 
@@ -47,12 +55,26 @@ host.addEventListener("contextmenu", (event) => {
   event.preventDefault()
   const tag = event.target.closest(".tag")
   if (tag) chooseElement(app.tree.nodes.get(Number(tag.dataset.tag)))
-  else if (getSelection().isCollapsed) {
+  else if (getSelection().isCollapsed && !isChosenAt(event)) {
     putCaretAt(event)
     takeSelection()
   }
   openFor()
 })
+// The key for it, where the field has the focus.
+field.addEventListener("contextmenu", (event) => {
+  event.preventDefault()
+  chooseCaret()
+  openFor()
+})
+
+// Whether the text there is chosen.
+function isChosenAt({ clientX, clientY }) {
+  const { run, element } = chosen()
+  const range = run && !element && !isEmpty(run) ? rangeOf(run, app.view) : null
+  const isIn = ({ left, right, top, bottom }) => left <= clientX && clientX <= right && top <= clientY && clientY <= bottom
+  return range !== null && [...range.getClientRects()].some(isIn)
+}
 
 // A finger selects by the browser's own handles; the menu comes when they rest.
 let resting = 0
@@ -65,10 +87,16 @@ document.addEventListener("selectionchange", () => {
     openFor()
   }, 400)
 })
-host.addEventListener("focus", showCaret)
-host.addEventListener("blur", showCaret)
+for (const each of [host, field]) {
+  each.addEventListener("focus", showCaret)
+  each.addEventListener("blur", showCaret)
+}
 host.addEventListener("scroll", follow)
-addEventListener("resize", follow)
+addEventListener("resize", () => {
+  follow()
+  // A phone's keyboard that comes up takes half of the window.
+  if (document.activeElement === field) scrollTo(document.getElementById("caret").getBoundingClientRect())
+})
 function follow() {
   stand()
   showCaret()
@@ -78,6 +106,7 @@ function follow() {
 const BACKWARD = ["ArrowLeft", "ArrowUp", "Home"]
 const FORWARD = ["ArrowRight", "ArrowDown", "End"]
 const ARROWS = Object.fromEntries([...BACKWARD.map((key) => [key, "backward"]), ...FORWARD.map((key) => [key, "forward"])])
+const PAGES = { PageUp: -0.9, PageDown: 0.9 }
 const STEPS = { ArrowUp: "line", ArrowDown: "line", Home: "lineboundary", End: "lineboundary" }
 
 export const toStart = () => getSelection().collapse(host.querySelector(".text")?.firstChild ?? host, 0)
@@ -85,17 +114,29 @@ export const toStart = () => getSelection().collapse(host.querySelector(".text")
 function selectAll() {
   getSelection().selectAllChildren(host)
   takeSelection()
+  rest()
+}
+
+// The field has the focus again when the arrow keys rest: while they move, the browser knows the column to keep to.
+const REST = 250
+let arrows = 0
+function restSoon() {
+  clearTimeout(arrows)
+  arrows = setTimeout(() => document.activeElement === host && rest(), REST)
 }
 
 const keepInSight = () => scrollTo(getSelection().getRangeAt(0).getBoundingClientRect())
 
 function moveInText(event) {
   const selection = getSelection()
+  selectAgain()
   if (selection.rangeCount === 0 || !host.contains(selection.anchorNode)) toStart()
+  host.focus({ preventScroll: true })
   const step = STEPS[event.key] ?? (event.ctrlKey ? "word" : "character")
   selection.modify(event.shiftKey ? "extend" : "move", ARROWS[event.key], step)
   takeSelection()
   keepInSight()
+  restSoon()
 }
 
 // To the first or the last text of the document, which may have to be drawn first.
@@ -110,11 +151,14 @@ function moveToEnd(event) {
   const piece = isEnd ? pieces.at(-1) : pieces[0]
   if (!piece) return
   const selection = getSelection()
+  selectAgain()
+  host.focus({ preventScroll: true })
   const offset = isEnd ? piece.childNodes.length : 0
   if (event.shiftKey && selection.rangeCount) selection.extend(piece, offset)
   else selection.collapse(piece, offset)
   takeSelection()
   keepInSight()
+  restSoon()
 }
 
 function moveInTree(event) {
@@ -130,10 +174,12 @@ function moveInTree(event) {
   if (!to || to.id === 0) return
   app.view.reveal(to).scrollIntoView({ block: "nearest" })
   chooseElement(to)
+  rest()
 }
 
 // Enter opens the menu of what is chosen; where the caret stands in a text it breaks the line.
 function enter(event) {
+  if (event.ctrlKey || event.metaKey) chooseCaret()
   const { run, element } = chosen()
   if (event.ctrlKey || event.metaKey || element || !run || !isEmpty(run)) openFor()
   else type("\n")
@@ -141,18 +187,26 @@ function enter(event) {
 
 const isCharacter = ({ key, ctrlKey, metaKey, altKey }) => [...key].length === 1 && !metaKey && (ctrlKey === altKey)
 
-host.addEventListener("keydown", (event) => {
-  if (event.target !== host) return
+// What is typed in the field goes by what then stands in it; so does what an input method has in hand.
+function pressed(event) {
+  if (event.target !== event.currentTarget || event.isComposing || event.keyCode === 229) return
+  const isInField = event.target === field
   const command = event.ctrlKey || event.metaKey
   if (event.key === "Enter") enter(event)
-  else if (event.key === "Escape" && !isMenuOpen()) return void choose(null)
+  else if (event.key === "Escape" && !isMenuOpen()) {
+    leaveAt(caretPlace())
+    return rest()
+  }
   else if (event.key === "a" && command) selectAll()
   else if (event.key in ARROWS && event.altKey) moveInTree(event)
   else if ((event.key === "Home" || event.key === "End") && command) moveToEnd(event)
   else if (event.key in ARROWS) moveInText(event)
-  else if (event.key === "Backspace") erase(-1)
-  else if (event.key === "Delete") erase(1)
-  else if (isCharacter(event)) type(event.key)
+  else if (event.key in PAGES && isInField) host.scrollBy(0, PAGES[event.key] * host.clientHeight)
+  else if (event.key === "Backspace" && !(isInField && command)) erase(-1)
+  else if (event.key === "Delete" && !(isInField && command)) erase(1)
+  else if (!isInField && isCharacter(event)) type(event.key)
   else return
   event.preventDefault()
-})
+}
+for (const each of [host, field]) each.addEventListener("keydown", pressed)
+

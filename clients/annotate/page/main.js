@@ -2,7 +2,7 @@
 import { tagAgain, tagEverywhere } from "./again.js"
 import { app, catchUp, change, listeners, question, tell } from "./app.js"
 import { Gone, hello, sayBye } from "./ask.js"
-import { choose, chooseElement, takeSelection } from "./choose.js"
+import { choose, chooseElement, rest, setTouch, takeSelection } from "./choose.js"
 import { openFinder } from "./find.js"
 import { closeMenu, isMenuOpen } from "./menu.js"
 import { missingIn, missingText, takeOver } from "./offers.js"
@@ -124,7 +124,7 @@ for (const dialog of document.querySelectorAll("dialog")) {
 document.addEventListener("keydown", (event) => {
   const key = event.key.toLowerCase()
   const command = event.ctrlKey || event.metaKey
-  if (document.querySelector("dialog[open]")) return
+  if (event.isComposing || document.querySelector("dialog[open]")) return
   if (key === "f8") goToNext(event.shiftKey ? -1 : 1)
   else if (key === "f4" && event.shiftKey) tagEverywhere()
   else if (key === "f4") tagAgain()
@@ -153,6 +153,7 @@ button("title").textContent = document.title = title
 app.names = new Set(names)
 if (note) tell(note)
 await catchUp()
-host.focus()
 toStart()
 takeSelection()
+setTouch(matchMedia("(pointer: coarse)").matches)
+rest()

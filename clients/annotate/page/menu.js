@@ -16,8 +16,10 @@ let wanted = null
 const MOMENT = 250
 let seen = { labels: [], at: 0, time: -Infinity }
 
+// With `keepFocus` the menu's field doesn't take the focus: with a finger that would bring the keyboard over the page.
 // Opens at a box of the page, which `box` gives. `typed`, where it is there, takes a name that isn't among the choices;
-// `names` are those that are declared; `hint` stands where there is no choice, `about` above them all.
+// `names` are those that are declared; `hint` stands where there is no choice, `about` above them all. `inSight` is called
+// where other choices come into sight.
 export function openMenu({ closed, keepFocus = false, ...menu }) {
   const before = open
   open = { closed, names: new Set(), ...menu }
@@ -43,8 +45,19 @@ export function setChoices(choices, about = null) {
     wanted ??= shown[at]?.label ?? null
     tellAbout(about)
   }
+  const top = list.scrollTop
   filter()
   stand()
+  // What was scrolled to stays in sight, but for a row that an arrow key chose.
+  list.scrollTop = top
+  if (wanted !== null) document.getElementById(`choice${at}`)?.scrollIntoView({ block: "nearest" })
+}
+
+// The labels of the choices in sight.
+export function rowsInSight() {
+  const { top, bottom } = list.getBoundingClientRect()
+  const isSeen = (item) => item.getBoundingClientRect().bottom > top && item.getBoundingClientRect().top < bottom
+  return [...list.querySelectorAll("[role=option]")].filter(isSeen).map(({ dataset }) => shown[dataset.number].label)
 }
 
 function tellAbout(text) {
@@ -105,6 +118,7 @@ function filter() {
   list.replaceChildren(...(text ? items : grouped(items)))
   if (items.length === 0) list.append(line("li", "hint", open.hint ?? "nothing that begins so"))
   show()
+  open.inSight?.()
 }
 
 function itemOf({ label, note, isTyped }, number) {
@@ -171,6 +185,7 @@ input.addEventListener("keydown", (event) => {
   event.preventDefault()
   event.stopPropagation()
 })
+list.addEventListener("scroll", () => open?.inSight?.())
 list.addEventListener("mousedown", (event) => event.preventDefault())
 list.addEventListener("click", (event) => {
   const item = event.target.closest("[role=option]")

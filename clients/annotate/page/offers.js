@@ -2,22 +2,21 @@
 // element.
 import { app, change, listeners, question } from "./app.js"
 import { ask } from "./ask.js"
-import { boxOfChosen, choose, chosen, flash } from "./choose.js"
+import { boxOfChosen, choose, chosen, flash, isByTouch, rest } from "./choose.js"
 import { openAttributes } from "./attributes.js"
 import { openEverywhere } from "./again.js"
-import { closeMenu, isMenuOpen, openMenu, refuse, setChoices } from "./menu.js"
+import { closeMenu, isMenuOpen, openMenu, refuse, rowsInSight, setChoices } from "./menu.js"
 import { isEmpty, nameOf, runOver, textOf, told } from "./place.js"
 import { forget, isSaying, say, sentenceOf, showRefused, whyOf } from "./refusal.js"
 
-const host = document.getElementById("document")
 // So long what is missing in a list is waited for before the menu opens, in milliseconds.
 const WAIT = 250
 // And so long what names cost is waited for.
 const SCREENFUL = 120
-// Whether the menu's field takes the focus: with a finger that would bring the keyboard over the page.
-let byTouch = false
-export const setTouch = (is) => (byTouch = is)
-
+// So long the names out of sight are counted too: under a large DTD that takes long for some hundred of them.
+const ALL = 2000
+// Where names stand that aren't counted: behind those that are, and before those that can't be.
+const UNCOUNTED = 1e9
 // Opens the menu for what is chosen.
 export function openFor() {
   const { run, element } = chosen()
@@ -57,7 +56,7 @@ async function openForElement(node) {
   if (chosen().element !== node) return
   const opened = openings
   const all = [...(first?.choices ?? []), ...choices]
-  openMenu({ name, about: first?.about, box: boxOfChosen, choices: all, closed, keepFocus: byTouch })
+  openMenu({ name, about: first?.about, box: boxOfChosen, choices: all, closed, keepFocus: isByTouch() })
   if (first) return
   const late = await news
   if (late.about && isMenuOpen() && openings === opened) setChoices([...late.choices, ...choices], late.about)
@@ -98,24 +97,60 @@ export async function offerNames(name, move) {
   const now = chosen()
   if (now.run !== before.run || now.element !== before.element) return
   const take = (label) => make({ ...move, name: label })
-  const costs = Object.fromEntries((answer.whole ?? []).map((label) => [label, { more: 0, names: [] }]))
+  const costs = {}
+  takeCosts(costs, answer.costs ?? {})
+  for (const label of answer.whole ?? []) costs[label] = { more: 0 }
   const choices = () => ordered(answer, costs).map((choice) => ({ ...choice, take }))
-  const more = answer.task ? askCosts(answer.task, costs) : null
-  if (more) await Promise.race([more, new Promise((done) => setTimeout(done, SCREENFUL))])
-  const menu = { name, box: boxOfChosen, choices: choices(), typed: take, names: app.names, hint: hintOf(answer) }
-  openMenu({ ...menu, closed, keepFocus: byTouch })
+  const first = answer.task ? askCosts(answer.task, costs) : null
+  if (first) await Promise.race([first, new Promise((done) => setTimeout(done, SCREENFUL))])
+  let count = null
+  const menu = { name, box: boxOfChosen, choices: choices(), typed: take, names: app.names, hint: hintOf(answer), inSight: () => count?.() }
+  openMenu({ ...menu, closed, keepFocus: isByTouch() })
   if (answer.no) refuse(sentenceOf(answer))
+  if (!first) return
   const opened = openings
   const isOpen = () => isMenuOpen() && opened === openings
-  for (let left = await more; left > 0 && isOpen(); left = await askCosts(answer.task, costs)) setChoices(choices())
-  if (more && isOpen()) setChoices(choices())
+  count = counting({ ...answer, costs, first, isOpen, show: () => setChoices(choices()) })
+  count()
 }
 
-// Asks for more costs; how many are left then.
-async function askCosts(task, costs) {
-  const answer = await ask("costs", { task })
-  Object.assign(costs, answer.costs)
-  return answer.left
+// What counts costs as long as a menu is open: first what is quickly told, then of the rows in sight, and for a while of
+// all. It is called again where others come into sight.
+function counting({ task, names: offered, costs, first, isOpen, show }) {
+  const end = performance.now() + ALL
+  const isLacking = (name) => costs[name] === undefined || (costs[name]?.more > 0 && !costs[name].names)
+  const isWanted = (name) => offered.includes(name) && isLacking(name)
+  let isAsking = false
+  return async () => {
+    if (isAsking) return
+    isAsking = true
+    try {
+      let answer = await first
+      for (;;) {
+        if (!isOpen()) return
+        show()
+        const names = answer.is_quick ? rowsInSight().filter(isWanted) : []
+        const all = performance.now() < end
+        if (answer.is_quick && names.length === 0 && !(all && answer.left)) return
+        answer = await askCosts(task, costs, names, all)
+        // Another menu is counted now, in another window.
+        if (answer.is_gone) return
+      }
+    } finally {
+      isAsking = false
+    }
+  }
+}
+
+async function askCosts(task, costs, names = [], all = false) {
+  const answer = await ask("costs", { task, names, all })
+  takeCosts(costs, answer.costs)
+  for (const [name, more] of Object.entries(answer.names)) if (costs[name]) costs[name].names = more
+  return answer
+}
+
+function takeCosts(costs, counts) {
+  for (const [name, more] of Object.entries(counts)) costs[name] = more === null ? null : { more }
 }
 
 // How many menus were closed: what comes in for one of them isn't shown in the next.
@@ -125,7 +160,7 @@ let openings = 0
 // brings it nearer.
 function ordered({ names = [], recent = [] }, costs) {
   const lately = new Map(recent.map((name, at) => [name, at]))
-  const more = (name) => costs[name]?.more ?? Infinity
+  const more = (name) => costs[name]?.more ?? (costs[name] === undefined ? UNCOUNTED : Infinity)
   const order = (name) => [Math.max(0, more(name)), lately.get(name) ?? recent.length, more(name)]
   const sorted = names.toSorted((one, other) => compared(order(one), order(other)))
   const isCounted = names.some((name) => costs[name])
@@ -138,10 +173,11 @@ function compared(one, other) {
   return at < 0 ? 0 : one[at] < other[at] ? -1 : 1
 }
 
-const noteOf = (cost) => (cost && cost.more > 0 ? cost.names.join(", ") : "")
+const noteOf = (cost) => (cost && cost.more > 0 ? (cost.names ?? []).join(", ") : "")
 
 function groupOf(cost) {
-  if (!cost) return "not counted"
+  if (cost === undefined) return "counted when it is in sight"
+  if (cost === null) return "can't be counted"
   if (cost.more <= 0) return "no more is missing then"
   return `+${cost.more}: then ${cost.more} more ${cost.more === 1 ? "is" : "are"} missing`
 }
@@ -159,7 +195,7 @@ export async function make(move, request = "move") {
   if (!refusal) {
     closeMenu()
     if (app.made) flash(app.made)
-    host.focus({ preventScroll: true })
+    rest()
   } else if (refusal.no === "stale" || refusal.no === "trouble") closeMenu()
   else showWhyNot(refusal, move)
 }
@@ -178,7 +214,7 @@ let refused = null
 
 function closed() {
   openings += 1
-  host.focus({ preventScroll: true })
+  rest()
   if (refused && !isSaying()) say(refused.node, refused.text)
   refused = null
 }

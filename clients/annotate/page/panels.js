@@ -1,11 +1,10 @@
 // What stands beside the document, its history and its elements by name, and the preview over it.
 import { app, change, listeners, onChanged, question, tell } from "./app.js"
 import { ask } from "./ask.js"
-import { chooseElement } from "./choose.js"
+import { chooseElement, rest } from "./choose.js"
 import { make, View } from "./draw.js"
 import { Tree } from "./tree.js"
 
-const host = document.getElementById("document")
 const moves = document.getElementById("moves")
 const elements = document.getElementById("elements")
 const completed = document.getElementById("completed")
@@ -24,7 +23,7 @@ function toggle(panel, fill) {
 for (const [panel] of buttons) {
   panel.querySelector("header button").addEventListener("click", () => {
     toggle(panel, () => {})
-    host.focus({ preventScroll: true })
+    rest()
   })
 }
 
@@ -155,5 +154,5 @@ beside.addEventListener("close", async () => {
 
 // Behind a dialog the document has the focus again.
 for (const dialog of document.querySelectorAll("dialog")) {
-  dialog.addEventListener("close", () => host.focus({ preventScroll: true }))
+  dialog.addEventListener("close", () => rest())
 }

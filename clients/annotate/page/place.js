@@ -193,6 +193,13 @@ export function stepped([kid, unit], step, owner) {
   return [kids[at], Math.max(0, Math.min(place, lengthOf(kids[at])))]
 }
 
+// So many characters of the texts before a run at most, and of those behind it.
+export function stretchRound({ owner, from, to }, most) {
+  const [start, end] = [stepped(from, 0, owner), stepped(to, 0, owner)]
+  const before = plainTextOf({ owner, from: stepped(from, -most, owner), to: start })
+  return [before, plainTextOf({ owner, from: end, to: stepped(to, most, owner) })]
+}
+
 // What a run is, in words.
 export function nameOf(run) {
   const kids = run.owner.kids

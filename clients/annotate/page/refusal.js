@@ -1,6 +1,7 @@
 // Why not: a sentence at a tag, with the list and the kids that stand in the way outlined, until the next move. What is
 // missing in a list is told there too, and may be taken over.
 import { app, listeners, question } from "./app.js"
+import { rest } from "./choose.js"
 import { worded } from "./draw.js"
 
 const host = document.getElementById("document")
@@ -81,7 +82,7 @@ export const isSaying = () => told !== null
 
 close.addEventListener("click", () => {
   forget()
-  host.focus({ preventScroll: true })
+  rest()
 })
 listeners.push((changed) => changed && forget())
 

@@ -8,6 +8,8 @@ export class Tree {
   constructor(rows, verdict) {
     this.top = { id: 0, kind: "element", name: "", kids: [], owner: null, size: 1, verdict }
     this.nodes = new Map([[0, this.top]])
+    // What became of units of texts in the changes of one answer.
+    this.pieced = []
     const open = [this.top]
     for (const row of rows) {
       open.length = row.depth
@@ -65,7 +67,7 @@ export class Tree {
   // A node that is told by its number, or one that is new, round nodes that are told by theirs.
   given(told) {
     if (typeof told === "number") return this.nodes.get(told)
-    if (told.of) return this.made({ id: told.id, kind: told.kind, ...this.pieces(told.of) })
+    if (told.of) return this.made({ id: told.id, kind: told.kind, ...this.pieces(told.of, told.id) })
     const { kids, ...row } = told
     const node = this.made(row)
     for (const number of kids ?? []) {
@@ -77,8 +79,18 @@ export class Tree {
     return node
   }
 
+  // Where a place in a text is behind the changes that cut it or made it one with others.
+  follow([kid, unit]) {
+    let place = [kid, unit]
+    for (const { number, from, to, id, at } of this.pieced) {
+      const [node, here] = place
+      if (node?.id === number && here >= from && here <= to) place = [this.nodes.get(id), at + here - from]
+    }
+    return place
+  }
+
   // The text of units of other texts.
-  pieces(of) {
+  pieces(of, id) {
     let text = ""
     let refs = null
     let length = 0
@@ -89,6 +101,7 @@ export class Tree {
         const at = Number(place)
         if (at >= from && at < to) (refs ??= {})[length + at - from] = source
       }
+      this.pieced.push({ number, from, to, id, at: length })
       text += sliceOf(node, from, to)
       length += to - from
     }

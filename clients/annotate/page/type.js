@@ -1,7 +1,8 @@
-// Typing: what keys put into a text or take out of it. What comes while the program is asked waits, and goes to it in
-// one.
+// Typing: what keys and keyboards put into a text or take out of it. What comes while the program is asked waits, and
+// goes to it in one.
 import { app, change, tell } from "./app.js"
-import { choosePlace, chosen, scrollTo, showCaret } from "./choose.js"
+import { caretPlace, choosePlace, chosen, rest, scrollTo, showCaret } from "./choose.js"
+import { isIn, mirror, onTyped } from "./field.js"
 import { closeMenu } from "./menu.js"
 import { isEmpty, plainTextOf, stepped, told } from "./place.js"
 import { showWhyNot } from "./offers.js"
@@ -15,21 +16,21 @@ let working = Promise.resolve()
 // Where the last typing ended, and when.
 let last = { place: "", time: 0 }
 
-// Types a text where the caret stands, in place of what is selected.
-export function type(text) {
+// Puts a text where the caret stands, in place of so many characters before and behind it, or of what is selected.
+function replace(before, behind, text) {
   waiting ??= { text: "", before: 0, behind: 0 }
-  waiting.text += text
+  const typed = [...waiting.text]
+  const own = Math.min(before, typed.length)
+  waiting.text = typed.slice(0, typed.length - own).join("") + text
+  waiting.before += before - own
+  waiting.behind += behind
   send()
 }
+onTyped(replace, () => waiting !== null)
 
+export const type = (text) => replace(0, 0, text)
 // Takes away what is selected, or the character before the caret, or the one behind it.
-export function erase(step) {
-  waiting ??= { text: "", before: 0, behind: 0 }
-  if (step > 0) waiting.behind += 1
-  else if (waiting.text) waiting.text = [...waiting.text].slice(0, -1).join("")
-  else waiting.before += 1
-  send()
-}
+export const erase = (step) => (step > 0 ? replace(0, 1, "") : replace(1, 0, ""))
 
 // When all that was typed is made.
 export const settled = () => working
@@ -47,6 +48,7 @@ function send() {
       }
     } finally {
       isSending = false
+      if (caretPlace()) mirror(caretPlace())
     }
   })()
 }
@@ -62,9 +64,9 @@ async function make({ text, before, behind }) {
   return !refusal
 }
 
-const caretOf = () => {
-  const { run, element } = chosen()
-  return element ? { owner: element, from: [null, 0], to: [null, 0] } : run
+function caretOf() {
+  const { element } = chosen()
+  return element ? { owner: element, from: [null, 0], to: [null, 0] } : caretPlace()
 }
 
 // The run that is typed over; none where there is no place for text.
@@ -83,26 +85,27 @@ function putCaret([list, kid, unit]) {
   const owner = app.tree.nodes.get(list)
   choosePlace(owner, kid === null ? null : app.tree.nodes.get(kid), unit)
   last = { place: JSON.stringify(told(chosen().run)), time: performance.now() }
+  if (isIn(host)) rest()
   showCaret()
   scrollTo(document.getElementById("caret").getBoundingClientRect())
 }
 
 // Cutting and pasting: text alone.
 document.addEventListener("paste", (event) => {
-  if (document.activeElement !== host) return
+  if (!isIn(host)) return
   event.preventDefault()
   const text = event.clipboardData.getData("text/plain")
   if (text) type(text)
 })
 document.addEventListener("copy", (event) => {
   const { run } = chosen()
-  if (document.activeElement !== host || !run || isEmpty(run) || !plainTextOf(run)) return
+  if (!isIn(host) || !run || isEmpty(run) || !plainTextOf(run)) return
   event.preventDefault()
   event.clipboardData.setData("text/plain", plainTextOf(run))
 })
 document.addEventListener("cut", (event) => {
   const { run } = chosen()
-  if (document.activeElement !== host || !run || isEmpty(run) || !plainTextOf(run)) return
+  if (!isIn(host) || !run || isEmpty(run) || !plainTextOf(run)) return
   event.preventDefault()
   event.clipboardData.setData("text/plain", plainTextOf(run))
   erase(-1)
