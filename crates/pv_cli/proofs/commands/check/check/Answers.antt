@@ -41,10 +41,10 @@ returns-in-Ok-clause-finds g c =
     let root = c.args.root.now in
     let d = plain_dtd c.args.fetched.dtd in
     let bytes = c.args.fetched.bytes.items in
-    let read = rw c.deref.ensures.value at c.in-Ok.ensures.read in
+    let read = rw c.deref-2.ensures.value at c.in-Ok.ensures.read in
     let opened : PlainOpened = record { dtd = d; bytes = bytes; doc = read.0 } in
     let is_text = (spelled_where_meant blank_mark root bytes read.0 read.1).0 in
-    let tells = subst (λ (h : PlainDtd). Tells h root read.0 c.in-Ok.told) (ap dtd_of c.judge_by-judge.ensures ∙ c.in_ok-grammar.ensures) ((rw c.deref.ensures.value at c.in-Ok.ensures.tells) read.0 read.1) in
+    let tells = subst (λ (h : PlainDtd). Tells h root read.0 c.in-Ok.told) (ap dtd_of c.judge_by-judge.ensures ∙ c.in_ok-grammar.ensures) ((rw c.deref-2.ensures.value at c.in-Ok.ensures.tells) read.0 read.1) in
     found_behind (document_stage root d bytes) (IsCheckCourse root) opened c.respond_told.result (record { is_dtd = refl; are_bytes = refl; is_text = is_text }, refl) (c.respond_told.ensures.tells root opened tells)
 
 pub returns-in-Ok-clause-checks : goal.returns-in-Ok-clause-checks
@@ -52,12 +52,12 @@ returns-in-Ok-clause-checks g c =
     let root = c.args.root.now in
     let d = plain_dtd c.args.fetched.dtd in
     let bytes = c.args.fetched.bytes.items in
-    let read = rw c.deref.ensures.value at c.in-Ok.ensures.read in
+    let read = rw c.deref-2.ensures.value at c.in-Ok.ensures.read in
     let opened : PlainOpened = record { dtd = d; bytes = bytes; doc = read.0 } in
     let is_text = (spelled_where_meant blank_mark root bytes read.0 read.1).0 in
-    let tells = subst (λ (h : PlainDtd). Tells h root read.0 c.in-Ok.told) (ap dtd_of c.judge_by-judge.ensures ∙ c.in_ok-grammar.ensures) ((rw c.deref.ensures.value at c.in-Ok.ensures.tells) read.0 read.1) in
+    let tells = subst (λ (h : PlainDtd). Tells h root read.0 c.in-Ok.told) (ap dtd_of c.judge_by-judge.ensures ∙ c.in_ok-grammar.ensures) ((rw c.deref-2.ensures.value at c.in-Ok.ensures.tells) read.0 read.1) in
     judged_document root d d bytes opened _ _ _ (record { is_dtd = refl; are_bytes = refl; is_text = is_text }, refl) refl
-    (c.respond_told.ensures.counts root opened _ _ tells ((rw c.deref.ensures.value at c.in-Ok.ensures.counts) read.0 read.1))
+    (c.respond_told.ensures.counts root opened _ _ tells ((rw c.deref-2.ensures.value at c.in-Ok.ensures.counts) read.0 read.1))
 
 pub returns-clause-checks : goal.returns-clause-checks
 returns-clause-checks g c = rw (c.in-Err.ensures.uncounted, c.in_ok-grammar.ensures, c.deref-in-Err.ensures.value) at c.check_again.ensures.checks
