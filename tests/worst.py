@@ -40,7 +40,12 @@ ROUNDS = "the tables are raised in rounds over all rules, until none changes"
 ORDER = "weights are settled in rounds, in the order of declarations"
 LIST = "an edit costs the list in which it is made"
 CACHE = "the nodes no longer fit the processor's nearer memory"
+THREADS = "behind 65,536 tokens of long lists that aren't valid the document is opened for threads: a step in time and memory, and linear beyond"
 KNOWN: dict[str, Bound] = {
+    "`check`, left recursion": Bound(THREADS, 1.8, 1.9),
+    "`check`, right recursion": Bound(THREADS, 1.8, 1.9),
+    "`check`, recursion in the middle": Bound(THREADS, 1.8, 1.9),
+    "`check`, names that aren't declared": Bound(THREADS, 1.8, 1.9),
     "a session's `need`, one list": Bound(SPANS, 3.1, 2.1),
     "`complete`, one list": Bound(SPANS, 3.1, 2.1),
     "`verify`, one list": Bound(CUTS, 3.1, 2.1),
