@@ -52,6 +52,7 @@ CHECKS = [
     row("allocations", "commands with an allocation failing", "cc", 3600, "python3 tests/failing_allocations.py PVTAG 12000"),
     row("worst", "worst cases: how time and memory grow", "", 3600, "python3 tests/worst.py PVTAG"),
     row("threads", "how many threads do work", "", 3600, "python3 tests/threads.py PVTAG"),
+    row("limits", "limits on addresses", "", 3600, "python3 tests/limits.py PVTAG"),
     row("inputs", "inputs and files: left alone, missing, named twice", "", 3600, "python3 tests/inputs.py PVTAG"),
     row("files", "hostile files and failing machines", "", 3600, "python3 tests/hostile.py PVTAG 200"),
     row("packs", "packs against a checker", "", 3600, "python3 tests/packs.py PVTAG 300 1"),

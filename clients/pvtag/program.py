@@ -2,6 +2,7 @@
 import argparse
 import contextlib
 import os
+import resource
 import shutil
 import subprocess
 import sys
@@ -42,6 +43,9 @@ def find(told: str | None = None, builds: bool = True) -> list[str]:
     """The words that begin the program: the file that is told; else `pvtag` beside the client or the link by which it
     was called, in the repository, or on the path. Where the repository has none yet, its script builds it here, unless
     the caller can't wait for that."""
+    if resource.getrlimit(resource.RLIMIT_AS)[0] != resource.RLIM_INFINITY:
+        # As the repository's script does: threads then share what the C library would set aside for each.
+        os.environ.setdefault("MALLOC_ARENA_MAX", "1")
     if told is not None:
         return [told]
     called = os.path.abspath(sys.argv[0]), os.path.realpath(sys.argv[0])
