@@ -25,4 +25,5 @@ pub mod Sited
 pub mod Standing
 pub mod Taken
 pub mod SiteWeights
+pub mod Whole
 pub mod WordWeights

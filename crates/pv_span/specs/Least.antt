@@ -6,6 +6,12 @@ use Rattle.pv_productive.specs.Tables.{no_size}
 use Rattle.pv_span.specs.ColumnRules.{Cell, ColumnRule, IsOneOf, cell}
 use Rattle.pv_span.specs.Forms.{PlainForm}
 
+-- k is the sum of cost and right sides of a rule of a cell, where it is less than no derivation's
+pub record IsSumAt (f : List PlainForm) (w : List PlainToken) (t : Cell → ℕ) (x : Cell) (k : ℕ) :
+    Type 0 where
+  pub attained : k < no_size → (c : ℕ) × (xs : List Cell) × ColumnRule f w x c xs ×
+      (k ≡ c + sum_of t xs)
+
 -- k is the least sum of cost and right sides, over the rules of a cell
 pub record IsLeastAt (f : List PlainForm) (w : List PlainToken) (t : Cell → ℕ) (x : Cell) (k : ℕ) :
     Type 0 where

@@ -11,3 +11,4 @@ pub mod FormForms
 pub mod SiteForms
 pub mod PlainForms
 pub mod Weights
+pub mod Laws

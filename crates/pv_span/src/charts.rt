@@ -89,7 +89,11 @@ impl Chart {
         ensures { result ≡ value_of (plain_chart self.now)
             (cell column self.now.from self.now.to) }
     {
-        self.at(column, self.from, self.to)
+        if self.done.count < self.done.spans {
+            value_at(&self.row, column as usize)
+        } else {
+            self.at(column, self.from, self.to)
+        }
     }
 
     /// Whether all spans are done.

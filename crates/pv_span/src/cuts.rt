@@ -28,6 +28,40 @@ fn sum_at(chart: &Chart, one: u32, two: u32, place: u32) -> u64
     u64::from(before) + u64::from(chart.at(two, place, chart.to))
 }
 
+/// The sum where the span is cut at its first place.
+#[inline(always)]
+pub fn sum_at_first(chart: &Chart, one: u32, two: u32) -> u64
+    ensures below { result ≤
+        value_of (plain_chart chart.now) (cell one chart.now.from chart.now.from)
+        + value_of (plain_chart chart.now) (cell two chart.now.from chart.now.to) }
+    ensures attained { result < no_size → result ≡
+        value_of (plain_chart chart.now) (cell one chart.now.from chart.now.from)
+        + value_of (plain_chart chart.now) (cell two chart.now.from chart.now.to) }
+{
+    let behind = chart.here(two);
+    if behind >= NO_SIZE {
+        return u64::from(NO_SIZE);
+    }
+    u64::from(chart.at(one, chart.from, chart.from)) + u64::from(behind)
+}
+
+/// The sum where the span is cut at its last place.
+#[inline(always)]
+pub fn sum_at_last(chart: &Chart, one: u32, two: u32) -> u64
+    ensures below { result ≤
+        value_of (plain_chart chart.now) (cell one chart.now.from chart.now.to)
+        + value_of (plain_chart chart.now) (cell two chart.now.to chart.now.to) }
+    ensures attained { result < no_size → result ≡
+        value_of (plain_chart chart.now) (cell one chart.now.from chart.now.to)
+        + value_of (plain_chart chart.now) (cell two chart.now.to chart.now.to) }
+{
+    let before = chart.here(one);
+    if before >= NO_SIZE {
+        return u64::from(NO_SIZE);
+    }
+    u64::from(before) + u64::from(chart.at(two, chart.to, chart.to))
+}
+
 /// The least sum of the cuts strictly within the span, where each place is looked at.
 fn least_of_places(chart: &Chart, one: u32, two: u32) -> u64
     ensures { IsLeastCut (value_of (plain_chart chart.now)) one two chart.now.from chart.now.to
@@ -64,7 +98,7 @@ pub fn least_behind(chart: &Chart, number: u32, one: u32, two: u32) -> u64
         (suc chart.now.from) (suc chart.now.to) result }
 {
     let within = least_within(chart, number, one, two);
-    within.min(sum_at(chart, one, two, chart.to))
+    within.min(sum_at_last(chart, one, two))
 }
 
 /// The least sum of the cuts at all places of the span.
@@ -73,7 +107,7 @@ pub fn least_of_all(chart: &Chart, number: u32, one: u32, two: u32) -> u64
     ensures { IsLeastCut (value_of (plain_chart chart.now)) one two chart.now.from chart.now.to
         chart.now.from (suc chart.now.to) result }
 {
-    let first = sum_at(chart, one, two, chart.from);
+    let first = sum_at_first(chart, one, two);
     if chart.from == chart.to {
         return first;
     }

@@ -7,16 +7,25 @@ ghost use Rattle.pv_span.specs.FormForms.{plain_all};
 ghost use Rattle.pv_span.specs.PlainForms.{plain_chart};
 
 use crate::charts::Chart;
+use crate::fallen::Fallen;
 use crate::forms::Form;
 use crate::lowering::settle;
+use crate::mentions::Mentions;
 use crate::pairs::lines_of;
+use crate::spreading::spread;
 use pv_chars::NoMemory;
 use pv_model::Token;
 use std::alloc::Global;
 
-/// The values of all columns over all spans of a word. So many columns, the first ones, are of
-/// names.
-fn fill(alloc: Global, forms: &[Form], names: u32, word: &[Token]) -> Result<Chart, NoMemory>
+/// The values of all columns over all spans of a word: those over each span are found in the order
+/// of their size, and settled then. So many columns, the first ones, are of names.
+fn fill(
+    alloc: Global,
+    forms: &[Form],
+    mentions: &Mentions,
+    names: u32,
+    word: &[Token],
+) -> Result<Chart, NoMemory>
     requires short { length word.now < 2 ^ 13 }
     requires few { length forms.now < 2 ^ 32 }
     ensures { IfOk result (λ chart. IsFilled (plain_all forms.now) (map plain_token word.now)
@@ -25,7 +34,9 @@ fn fill(alloc: Global, forms: &[Form], names: u32, word: &[Token]) -> Result<Cha
     let tokens = word.len() as u32;
     let lines = lines_of(alloc, forms, tokens)?;
     let mut chart = Chart::new(alloc, tokens, forms.len() as u32, lines)?;
+    let mut fallen = Fallen::new(alloc)?;
     while !chart.is_full() {
+        spread(forms, mentions, word, &mut fallen, &mut chart)?;
         settle(forms, names, word, &mut chart);
         chart.next();
     }
@@ -36,6 +47,7 @@ fn fill(alloc: Global, forms: &[Form], names: u32, word: &[Token]) -> Result<Cha
 pub fn chart_of(
     alloc: Global,
     forms: &[Form],
+    mentions: &Mentions,
     names: u32,
     word: &[Token],
 ) -> Result<Chart, NoMemory>
@@ -44,8 +56,8 @@ pub fn chart_of(
         (map plain_token word.now) (plain_chart chart)) }
 {
     if word.len() < 8192 {
-        fill(alloc, forms, names, word)
+        fill(alloc, forms, mentions, names, word)
     } else {
-        fill(alloc, forms, names, &[])
+        fill(alloc, forms, mentions, names, &[])
     }
 }

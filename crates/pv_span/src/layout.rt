@@ -11,20 +11,23 @@ ghost use Rattle.pv_span.specs.SiteForms.{plain_sites};
 use crate::forms::Form;
 use crate::laying::{blank_sites, lay_content, lay_part};
 use crate::making::Making;
+use crate::mentions::Mentions;
 use crate::sites::{Sites, column_at};
 use pv_chars::NoMemory;
 use pv_model::NameId;
 use pv_productive::Grammar;
+use pv_rules::Site;
 use std::alloc::Global;
 
-/// A grammar with its columns, laid out once for all words: which one each site has, and what
-/// stands in each.
+/// A grammar with its columns, laid out once for all words: which one each site has, what stands in
+/// each, and which others mention it.
 #[derive(Debug, Drop)]
 pub struct ColumnLayout<'a> {
     /// The grammar.
     pub grammar: &'a Grammar,
     pub(crate) sites: Sites,
     pub(crate) forms: Vec<Form>,
+    pub(crate) mentions: Mentions,
     pub ghost fit: { ∥ AreFit (dtd_of grammar.now) (plain_sites sites) (plain_all forms.items) ∥₁ },
     pub ghost few: { length forms.items ≤ no_column },
 }
@@ -34,13 +37,17 @@ pub struct ColumnLayout<'a> {
 pub struct Columns {
     sites: Sites,
     forms: Vec<Form>,
+    mentions: Mentions,
     pub ghost few: { length forms.items ≤ no_column },
 }
 
 impl<'a> ColumnLayout<'a> {
     ghost use Rattle.std.specs.Prelude.{◌≡◌};
+    ghost use Rattle.pv_rules.specs.PlainForms.{plain_site};
     ghost use Rattle.pv_productive.specs.PlainForms.{dtd_of};
+    ghost use Rattle.pv_span.specs.Columns.{column_of};
     ghost use Rattle.pv_span.specs.KeptColumns.{AreColumnsOf};
+    ghost use Rattle.pv_span.specs.SiteForms.{plain_sites};
 
     /// A grammar with its columns, which were kept.
     pub fn of(grammar: &'a Grammar, columns: Columns) -> ColumnLayout<'a>
@@ -51,6 +58,7 @@ impl<'a> ColumnLayout<'a> {
             grammar,
             sites: columns.sites,
             forms: columns.forms,
+            mentions: columns.mentions,
         }
     }
 
@@ -61,7 +69,22 @@ impl<'a> ColumnLayout<'a> {
         Columns {
             sites: self.sites,
             forms: self.forms,
+            mentions: self.mentions,
         }
+    }
+
+    /// What stands in each column, by its number.
+    pub fn forms(&self) -> &[Form]
+        ensures { result.now ≡ self.now.forms.items }
+    {
+        self.forms.as_slice()
+    }
+
+    /// The column of a site of the grammar.
+    pub fn column(&self, site: Site) -> u32
+        ensures { result ≡ column_of (plain_sites self.now.sites) (plain_site site) }
+    {
+        self.sites.column(site)
     }
 }
 
@@ -133,9 +156,11 @@ pub fn lay_out(alloc: Global, grammar: &Grammar) -> Result<ColumnLayout<'_>, NoM
     lay_parts(alloc, grammar, &mut sites, &mut making)?;
     lay_contents(alloc, grammar, &mut sites, &mut making)?;
     let forms = all_forms(alloc, names, &sites.contents, making.forms)?;
+    let mentions = Mentions::of(alloc, &forms)?;
     Ok(ColumnLayout {
         grammar,
         sites,
         forms,
+        mentions,
     })
 }

@@ -45,7 +45,7 @@ fn least_of_nothing(chart: &Chart) -> u64
 }
 
 /// One of some columns.
-fn least_of_members(chart: &Chart, members: &[u32]) -> u64
+pub fn least_of_members(chart: &Chart, members: &[u32]) -> u64
     ensures { IsLeastMember (value_of (plain_chart chart.now)) members.now chart.now.from
         chart.now.to result }
 {

@@ -18,7 +18,7 @@ use pv_productive::NO_SIZE;
 use pv_rules::HEAVIEST;
 
 /// A sum of values, cut.
-fn cut(sum: u64) -> u32
+pub fn cut(sum: u64) -> u32
     ensures { result ≡ capped sum }
 {
     if sum < u64::from(HEAVIEST) {
@@ -32,7 +32,7 @@ fn cut(sum: u64) -> u32
 
 /// Lowers the value of a column where the rules give less, and tells whether they do.
 #[inline(always)]
-fn lower_column(forms: &[Form], word: &[Token], number: u32, chart: &mut Chart) -> bool
+pub fn lower_column(forms: &[Form], word: &[Token], number: u32, chart: &mut Chart) -> bool
     requires attained { IsAttainedChart (plain_all forms.now) (map plain_token word.now)
         chart.old.from
         chart.old.to (plain_chart chart.old) }

@@ -68,7 +68,8 @@ pub(crate) fn spans_by<'a>(
     ensures values { IfOk result (λ spans. AreValues (dtd_of layout.now.grammar.now)
         (map plain_token word.now) spans) }
 {
-    let chart = chart_of(alloc, &layout.forms, layout.grammar.dtd().names(), word)?;
+    let names = layout.grammar.dtd().names();
+    let chart = chart_of(alloc, &layout.forms, &layout.mentions, names, word)?;
     Ok(Spans {
         chart,
         sites: SiteColumns::Lent(&layout.sites),
@@ -118,7 +119,8 @@ pub fn weights(
         return Err(SpanError::TooWide);
     }
     let layout = lay_out(alloc, grammar)?;
-    let chart = chart_of(alloc, &layout.forms, layout.grammar.dtd().names(), word)?;
+    let names = layout.grammar.dtd().names();
+    let chart = chart_of(alloc, &layout.forms, &layout.mentions, names, word)?;
     Ok(Spans {
         chart,
         sites: SiteColumns::Own(layout.sites),

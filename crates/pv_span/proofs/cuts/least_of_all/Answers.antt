@@ -8,10 +8,10 @@ use Rattle.pv_span.proofs.cuts.least_of_all.Goals as goal
 pub returns-then-chart : goal.returns-then-chart
 returns-then-chart c =
     let t = c.args.chart.now in
-    cut_alone (value_of (plain_chart t)) c.args.one c.args.two t.from t.to c.sum_at-first.result c.if-chart.true c.sum_at-first.ensures.below c.sum_at-first.ensures.attained
+    cut_alone (value_of (plain_chart t)) c.args.one c.args.two t.from t.to c.sum_at_first-first.result c.if-chart.true c.sum_at_first-first.ensures.below c.sum_at_first-first.ensures.attained
 
 pub returns : goal.returns
 returns c =
     let t = c.args.chart.now in
-    cut_first (value_of (plain_chart t)) c.args.one c.args.two t.from t.to (suc t.to) c.least_behind-behind.result c.sum_at-first.result c.min.result
-    (let p = t.place.0 in omega arith) c.least_behind-behind.ensures c.sum_at-first.ensures.below c.sum_at-first.ensures.attained c.min.ensures
+    cut_first (value_of (plain_chart t)) c.args.one c.args.two t.from t.to (suc t.to) c.least_behind-behind.result c.sum_at_first-first.result c.min.result
+    (let p = t.place.0 in omega arith) c.least_behind-behind.ensures c.sum_at_first-first.ensures.below c.sum_at_first-first.ensures.attained c.min.ensures

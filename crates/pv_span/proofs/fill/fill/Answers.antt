@@ -1,4 +1,4 @@
-use Rattle.std.proofs.Common.{ap, arith, inl, inr, length, length-append, map, refl, subst, sym, ◌<◌, ◌≡◌}
+use Rattle.std.proofs.Common.{ap, arith, inl, inr, length, length-append, map, refl, subst, sym, ◌<◌, ◌∙◌, ◌≡◌}
 use Rattle.std.proofs.lemmas.List.{length-map}
 use Rattle.std.proofs.lemmas.Bool.{cases_lt}
 use Rattle.pv_model.specs.PlainForms.{plain_token}
@@ -10,15 +10,15 @@ use Rattle.pv_span.proofs.Across.{rows_count}
 use Rattle.pv_span.proofs.Finishing.{filled, put_next, ready_begun, room_left}
 use Rattle.pv_span.proofs.fill.fill.Goals as goal
 
-pub settle-requires : goal.settle-requires
-settle-requires c =
-    let t = c.loop-chart.chart in
+pub spread-requires-clause-attained : goal.spread-requires-clause-attained
+spread-requires-clause-attained c =
+    let t = c.loop-fallen.chart in
     let n = rows_count t.done in let e = t.spans in
     let room : t.done.count < t.done.spans = elim (cases_lt t.done.count t.done.spans) [
       | inl lt ↦ lt
-      | inr ge ↦ absurd (let k = c.is_full.ensures.1 (omega arith) in let q = c.loop-chart-test.true in cc)
+      | inr ge ↦ absurd (let k = c.is_full.ensures.1 (omega arith) in let q = c.loop-fallen-test.true in cc)
     ] in
-    ready_begun (plain_all c.args.forms.now) (map plain_token c.args.word.now) t.from t.to (length (rows_done t.done)) (plain_chart t) c.loop-chart.invariant
+    ready_begun (plain_all c.args.forms.now) (map plain_token c.args.word.now) t.from t.to (length (rows_done t.done)) (plain_chart t) c.loop-fallen.invariant
     (let q = t.next room in omega arith) t.place.0 t.place.1
 
 pub next-requires-clause-room : goal.next-requires-clause-room
@@ -29,18 +29,21 @@ next-requires-clause-room c =
 pub next-requires-clause-few : goal.next-requires-clause-few
 next-requires-clause-few c = λ s. (c.settle.ensures.attained.attained s).0
 
-pub loop-chart-smaller : goal.loop-chart-smaller
-loop-chart-smaller c =
+pub loop-fallen-smaller : goal.loop-fallen-smaller
+loop-fallen-smaller c =
     let t = c.settle.new.chart in
-    let same = c.settle.ensures.same in
+    let first = c.spread.ensures.same in
+    let then = c.settle.ensures.same in
+    let tokens_same = then.2 ∙ first.2 in
+    let done_same = then.3 ∙ first.3 in
     let room = room_left (plain_all c.args.forms.now) (map plain_token c.args.word.now) t.from t.to (plain_chart t) c.settle.ensures.attained in
     let rows = ap (λ x. length x.rows) c.next.ensures.next in
     let more = simp length-append at rows in
     let tokens = ap (λ x. x.tokens) c.next.ensures.next in
-    rw (← same.2, ← same.3, tokens) (omega arith)
+    rw (← tokens_same, ← done_same, tokens) (omega arith)
 
-pub loop-chart-preserved : goal.loop-chart-preserved
-loop-chart-preserved c =
+pub loop-fallen-preserved : goal.loop-fallen-preserved
+loop-fallen-preserved c =
     let t = c.settle.new.chart in
     let n : length (plain_all c.args.forms.now) ≡ length c.args.forms.now = simp length-map in
     put_next (plain_all c.args.forms.now) (map plain_token c.args.word.now) t.from t.to (length (rows_done c.next.new.self.done)) (plain_chart t) (plain_chart c.next.new.self)
@@ -49,6 +52,6 @@ loop-chart-preserved c =
 
 pub returns : goal.returns
 returns c =
-    let t = c.loop-chart.chart in
-    filled (plain_all c.args.forms.now) (map plain_token c.args.word.now) (length (rows_done t.done)) (plain_chart t) c.loop-chart.invariant
-    (let q = c.loop-chart-test.false in c.is_full.ensures.0 cc)
+    let t = c.loop-fallen.chart in
+    filled (plain_all c.args.forms.now) (map plain_token c.args.word.now) (length (rows_done t.done)) (plain_chart t) c.loop-fallen.invariant
+    (let q = c.loop-fallen-test.false in c.is_full.ensures.0 cc)

@@ -6,8 +6,8 @@ use Rattle.pv_span.specs.FormForms.{plain_all}
 use Rattle.pv_span.specs.PlainForms.{plain_chart}
 use Rattle.pv_span.proofs.fill.fill.Given as goal
 
-abbrev pub invariant-loop-chart : goal.invariant-loop-chart
-invariant-loop-chart l = HasDone (plain_all l.forms) (map plain_token l.word) (length (rows_done l.chart.done)) (plain_chart l.chart)
+abbrev pub invariant-loop-fallen : goal.invariant-loop-fallen
+invariant-loop-fallen l = HasDone (plain_all l.forms) (map plain_token l.word) (length (rows_done l.chart.done)) (plain_chart l.chart)
 
-abbrev pub decreases-loop-chart : goal.decreases-loop-chart
-decreases-loop-chart l = spans_before (suc l.chart.tokens) - length (rows_done l.chart.done)
+abbrev pub decreases-loop-fallen : goal.decreases-loop-fallen
+decreases-loop-fallen l = spans_before (suc l.chart.tokens) - length (rows_done l.chart.done)
