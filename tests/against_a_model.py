@@ -59,21 +59,30 @@ def joins(places, doc):
     return [path for path in texts if path[:-1] + (path[-1] + 1,) in texts]
 
 
-def place_for(doc):
-    """The name of an edit, and a path for it, mostly one that suits."""
+def is_near(path, near):
+    """Whether the path is of the last edit's list, of one of its kids, or of what it stands in."""
+    return path == near[:len(path)] or path[:-1] == near
+
+
+def place_for(doc, near=None):
+    """The name of an edit, and a path for it, mostly one that suits. In a run of edits of one list it is near that list, or above it."""
     places = places_of(doc)
+    if near is not None:
+        places = [(path, size) for path, size in places if is_near(path, near)]
     while True:
         name = random.choice(["wrap"] * 7 + ["insert"] * 3 + ["unwrap"] * 3 + ["rename"] * 2 + ["split", "join", "text", "deltext"] + ["addtext"] * 3)
         if random.random() < 0.08:
             return name, *random.choice(places)
         good = [(path, size) for path, size in places if path and suits(name, doc.node_at(path))]
         good += [(path, 0) for path in joins(places, doc)] if name == "join" else []
+        if near is not None and not good:
+            return place_for(doc)
         if good:
             return name, *random.choice(good)
 
 
-def edit_line(doc):
-    name, path, size = place_for(doc)
+def edit_line(doc, near=None):
+    name, path, size = place_for(doc, near)
     words = [random_word(form, size, path) for form in EDITS[name][1]]
     if name == "wrap" and random.random() < 0.9 and path:
         start = random.randint(0, size)
@@ -101,7 +110,7 @@ def offer_line(doc):
             return "offer " + rest.rsplit(" ", 1)[0]
 
 
-def script_line(doc):
+def script_line(doc, near=None):
     chance = random.random()
     if chance < 0.08:
         return "undo"
@@ -117,17 +126,20 @@ def script_line(doc):
         return "need"
     if chance < 0.40:
         return random.choice(["", "verdict", "need 1", "Show", "show\r\r", "history ", "undo 1", "wrap", "nothing", "quit ", "offer", "offer "])
-    line = offer_line(doc) if chance < 0.48 else edit_line(doc)
+    line = offer_line(doc) if chance < 0.48 else edit_line(doc, near)
     return broken(line) if random.random() < 0.08 else line
 
 
 def play(session, length):
     """A script of so many lines, and the replies to it. In some scripts `need` is asked behind each move, so that what the program
-    is asked of a session that has moved."""
+    is asked of a session that has moved. In some the edits stay with one list for a while: in it, in what it stands in, and back."""
     script, replies, asks = [], [], random.random() < 0.3
+    stays, near = random.random() < 0.5, None
     for _ in range(length):
         moved = replies and replies[-1].startswith("ok")
-        line = "need" if asks and moved else script_line(session.document)
+        if stays and (near is None or random.random() < 0.1):
+            near = random.choice([path for path, _ in places_of(session.document)])
+        line = "need" if asks and moved else script_line(session.document, near)
         if line == "need" and not session.impossible(session.document) and session.least() > MOST:
             line = "show"
         script.append(line)

@@ -62,6 +62,6 @@ module _ (g : PlainDtd) (root : List ℕ) where
   pub found-judged : (owner : Owner) (kids : List (Tree Mark)) (c : Change Mark) (words : Words) (vs : ChangedVerdicts) → HoldsOne owner (forest_of (list_after c kids)) → AreWords g c kids words → AreFound g (site_of g root owner) c.from words vs →
       AreJudged g root owner kids c vs.outer vs.inner
   found-judged owner kids c words vs h w f = record {
-    outer = found-list owner (forest_of (list_after c kids)) words.outer vs.outer h w.outer f.outer;
+    outer = found-list owner (forest_of (list_after c kids)) words.outer.word vs.outer h w.outer.word f.outer;
     within = inner-judged c (in_place_of c.filling (between c.from c.to kids)) words.inner vs.inner w.inner f.inner;
   }

@@ -1,6 +1,6 @@
 -- Words of lists of nodes, joined.
-use Rattle.std.proofs.Common.{◌≡◌, ◌∙◌, ap, sym, refl, ℕ, ◌≤◌, Bool, true, false, ◌&&◌, if◌then◌else◌, List, [], ◌∷◌, ◌++◌, length, take, drop, map, arith}
-use Rattle.std.proofs.lemmas.List.{append_assoc, drop-map, take-map}
+use Rattle.std.proofs.Common.{◌≡◌, ◌∙◌, ap, refl, ℕ, ◌≤◌, Bool, true, false, ◌&&◌, if◌then◌else◌, List, [], ◌∷◌, ◌++◌, length, take, drop, map, arith}
+use Rattle.std.proofs.lemmas.List.{drop-map, take-map}
 use Rattle.pv_chars.specs.Texts.{has_data}
 use Rattle.pv_dtd.specs.Plain.{PlainDtd}
 use Rattle.pv_edit.specs.Changes.{in_place_of, with_name}
@@ -55,17 +55,7 @@ pub not-bare : (ks : List Node) → 1 ≤ length ks → false ≡ has_no_trees (
 not-bare [] h = absurd (omega arith)
 not-bare (k ∷ ks) h = refl
 
--- the word of a list after a change, from its three parts
-pub word-after : (g : PlainDtd) (ks : List Node) (from to : ℕ) (new : List (Tree Mark)) (front middle back : List PlainToken) → front ≡ word_of g (forest_of (plain_all (take from ks))) → middle ≡ word_of g (forest_of new) → back ≡ word_of g (forest_of (plain_all (drop to ks))) →
-    (front ++ middle) ++ back ≡ word_of g (forest_of (take from (plain_all ks) ++ (new ++ drop to (plain_all ks))))
-word-after g ks from to new front middle back f m b =
-    ap (λ (u : List PlainToken). (u ++ middle) ++ back) (f ∙ ap (λ (l : List (Tree Mark)). word_of g (forest_of l)) (sym (take-map plain from ks)))
-    ∙ ap (λ (u : List PlainToken). (word_of g (forest_of (take from (plain_all ks))) ++ u) ++ back) m
-    ∙ ap (λ (u : List PlainToken). (word_of g (forest_of (take from (plain_all ks))) ++ word_of g (forest_of new)) ++ u) (b ∙ ap (λ (l : List (Tree Mark)). word_of g (forest_of l)) (sym (drop-map plain to ks)))
-    ∙ append_assoc (word_of g (forest_of (take from (plain_all ks)))) (word_of g (forest_of new)) (word_of g (forest_of (drop to (plain_all ks))))
-    ∙ ap (λ (u : List PlainToken). word_of g (forest_of (take from (plain_all ks))) ++ u) (sym (word-joined g new (drop to (plain_all ks))))
-    ∙ sym (word-joined g (take from (plain_all ks)) (new ++ drop to (plain_all ks)))
-
+-- whether a list has no kids after a change
 pub bare-after : (ks : List Node) (from to : ℕ) (new : List (Tree Mark)) →
     (has_no_trees (forest_of (plain_all (take from ks))) && (has_no_trees (forest_of new) && has_no_trees (forest_of (plain_all (drop to ks))))) ≡ has_no_trees (forest_of (take from (plain_all ks) ++ (new ++ drop to (plain_all ks))))
 bare-after ks from to new =

@@ -1,11 +1,8 @@
 -- One level of a tree whose marks are laid out.
-use Rattle.std.proofs.Common.{IsTrue, List, None, [], ap, append_assoc, append-nil, arith, drop, false, get_or, length, refl, slice_get, slice_set, suc, subst, sym, take, zero, ℕ, ◌*◌, ◌+◌, ◌++◌, ◌<◌, ◌≤◌, ◌∙◌, ◌∷◌, ◌≡◌}
+use Rattle.std.proofs.Common.{List, None, [], ap, append_assoc, append-nil, arith, drop, false, get_or, length, refl, slice_get, slice_set, suc, subst, sym, take, zero, ℕ, ◌*◌, ◌+◌, ◌++◌, ◌<◌, ◌≤◌, ◌∙◌, ◌∷◌, ◌≡◌}
 use Rattle.std.proofs.lemmas.List.{drop-drop, drop-set-lt, drop_all, length-set, take_all, take_more_set}
-use Rattle.pv_edit.specs.Fitting.{with_kids}
-use Rattle.pv_edit.proofs.Levels.{forest-trees}
 use Rattle.pv_tree.specs.Legal.{MAX_NODES}
-use Rattle.pv_tree.specs.Places.{kids_of}
-use Rattle.pv_tree.specs.Plain.{Forest, PlainDoc, Tree, cdata_node, element, forest_of, is_element, misc_node, no_trees, nodes_in, nodes_in_all, text_node, tree}
+use Rattle.pv_tree.specs.Plain.{Ending, Forest, PlainDoc, Tree, cdata_node, element, is_element, misc_node, no_trees, nodes_in, nodes_in_all, text_node, tree}
 use Rattle.pv_tree.specs.PlainForms.{forest, plain}
 use Rattle.pv_tree.proofs.Forests.{forest-drop}
 use Rattle.pv_tree.specs.declared.nodes.Mark.{Mark}
@@ -60,52 +57,9 @@ mutual
   all_laid_left vs at no_trees = omega arith
   all_laid_left vs at (tree t rest) = let h = laid_left vs at t in let k = all_laid_left vs (at + lists_in t) rest in omega arith
 
--- ---- an element and its kids
-pub elem_nodes : (t : Tree Mark) → IsTrue (is_element t) → nodes_in t ≡ 1 + nodes_in_all (forest_of (kids_of t))
-elem_nodes (element x a e ks m) h = omega (arith, ap nodes_in_all (forest-trees ks))
-elem_nodes (text_node us) h = absurd cc
-elem_nodes (cdata_node b) h = absurd cc
-elem_nodes (misc_node b) h = absurd cc
-
-pub elem_lists : (t : Tree Mark) → IsTrue (is_element t) → lists_in t ≡ 1 + lists_in_all (forest_of (kids_of t))
-elem_lists (element x a e ks m) h = omega (arith, ap lists_in_all (forest-trees ks))
-elem_lists (text_node us) h = absurd cc
-elem_lists (cdata_node b) h = absurd cc
-elem_lists (misc_node b) h = absurd cc
-
-pub still_element : (t : Tree Mark) (xs ys : List (Tree Mark)) → IsTrue (is_element t) → IsTrue (is_element (with_kids xs (with_kids ys t)))
-still_element (element x a e ks m) xs ys h = refl
-still_element (text_node us) xs ys h = absurd cc
-still_element (cdata_node b) xs ys h = absurd cc
-still_element (misc_node b) xs ys h = absurd cc
-
-module _ (vs : List Verdict) (at : ℕ) where
-  pub laid_element : (t : Tree Mark) (ts : List (Tree Mark)) → IsTrue (is_element t) → forest_of ts ≡ lay_kids vs (at + 1) (forest_of (kids_of t)) → mend_element (nth_verdict vs at) 0 (with_kids ts (with_kids [] t)) ≡ lay_node vs at t
-  laid_element (element x a e ks m) ts h f =
-      let n : at + 1 ≡ suc at = omega arith in
-      ap (λ k. mend_element (nth_verdict vs at) 0 (element x a e k m)) (f ∙ ap (λ i. lay_kids vs i (forest_of (kids_of (element x a e ks m)))) n ∙ ap (lay_kids vs (suc at)) (forest-trees ks))
-  laid_element (text_node us) ts h f = absurd cc
-  laid_element (cdata_node b) ts h f = absurd cc
-  laid_element (misc_node b) ts h f = absurd cc
-
-  pub laid_other : (t : Tree Mark) → is_element t ≡ false → t ≡ lay_node vs at t
-  laid_other (element x a e ks m) h = absurd cc
-  laid_other (text_node us) h = refl
-  laid_other (cdata_node b) h = refl
-  laid_other (misc_node b) h = refl
-
-  -- the numbers can be counted
-  pub laid_counted : (t : Tree Mark) (ts : List (Tree Mark)) → IsTrue (is_element t) → forest_of ts ≡ lay_kids vs (at + 1) (forest_of (kids_of t)) → nodes_in t ≤ 2 * MAX_NODES → IsCounted (mend_element (nth_verdict vs at) 0 (with_kids ts (with_kids [] t)))
-  laid_counted t ts h f small =
-      let l = laid_left vs at t in
-      let n = laid_nodes vs at t in
-      subst IsCounted (sym (laid_element t ts h f)) (record { left = omega arith; nodes = omega arith })
-
-pub other_lists : (t : Tree Mark) → is_element t ≡ false → lists_in t ≡ 0
-other_lists (element x a e ks m) h = absurd cc
-other_lists (text_node us) h = refl
-other_lists (cdata_node b) h = refl
-other_lists (misc_node b) h = refl
+-- they can be counted
+pub laid_counted : (vs : List Verdict) (at : ℕ) (t : Tree Mark) → nodes_in t ≤ 2 * MAX_NODES → IsCounted (lay_node vs at t)
+laid_counted vs at t small = let l = laid_left vs at t in let n = laid_nodes vs at t in record { left = omega arith; nodes = omega arith }
 
 -- ---- nodes side by side
 fewer : (i : ℕ) (nodes : List Node) → nodes_in_all (forest (drop i nodes)) ≤ nodes_in_all (forest nodes)

@@ -13,6 +13,8 @@ pub mod Docs
 pub mod Levels
 pub mod Unmarked
 pub mod Joining
+pub mod Splicing
+pub mod Kept
 pub mod Found
 pub mod Tasks
 pub mod Ready

@@ -110,7 +110,7 @@ module _ (g : PlainDtd) (root : List ℕ) where
   narrow-inner c kids (Some i) w n = narrow-back w.kids i.word w.word (n.inner w.brought i.name.now w.attrs w.ending w.kids w.mark w.is_one)
 
   narrow-words : (c : Change Mark) (kids : List (Tree Mark)) (words : Words) → AreWords g c kids words → AreNarrowAfter g c kids → AreNarrow g words
-  narrow-words c kids words w n = record { outer = narrow-back (forest_of (list_after c kids)) words.outer w.outer n.outer; inner = narrow-inner c kids words.inner w.inner n }
+  narrow-words c kids words w n = record { outer = narrow-back (forest_of (list_after c kids)) words.outer.word w.outer.word n.outer; inner = narrow-inner c kids words.inner w.inner n }
 
   -- ---- verdicts of changed lists
   judged-inside : (c : Change Mark) (new : List (Tree Mark)) (inner : Option InnerVerdict) → IsInnerJudged g root c new inner → brings_element c.filling ≡ true → (name attrs : List ℕ) (ending : Ending) (below : Forest Mark) (mark : Mark) →

@@ -4,6 +4,7 @@ use Rattle.std.specs.List.{between}
 use Rattle.pv_cache.specs.Accepting.{MAX_EDITED_NODES}
 use Rattle.pv_cache.specs.BadLists.{bad_gained, bad_lost}
 use Rattle.pv_cache.specs.Changed.{AreJudged, IsFirstAmong, owner_at}
+use Rattle.pv_cache.specs.Judging.{AreListTokens}
 use Rattle.pv_cache.specs.PlainMarked.{PlainMarked}
 use Rattle.pv_cache.specs.declared.mending.InnerVerdict.{InnerVerdict}
 use Rattle.pv_cache.specs.declared.moving.JudgedEdit.{JudgedEdit}
@@ -79,8 +80,9 @@ pub record IsChanged (before : PlainMarked) (task : Task) (stamp lists : ℕ) (a
 abbrev pub edited_doc : PlainDoc Mark → Edit → PlainDoc Mark
 edited_doc doc edit = doc_after (change_of blank_mark doc.root edit) doc
 
--- An edit is ready to be made: what it does and what undoes it, and the verdicts of the lists that
--- it changes, no more of which are Impossible than of those that it takes away or changes.
+-- An edit is ready to be made: what it does and what undoes it, the verdicts of the lists that it
+-- changes, no more of which are Impossible than of those that it takes away or changes, and the
+-- tokens of its list afterwards.
 pub record IsReady (g : PlainDtd) (root : List ℕ) (doc : PlainDoc Mark) (edit : Edit)
     (ready : JudgedEdit) : Type 0 where
   pub given : reason_of blank_mark doc.root edit ≡ None
@@ -91,3 +93,5 @@ pub record IsReady (g : PlainDtd) (root : List ℕ) (doc : PlainDoc Mark) (edit 
       ready.verdicts.outer ready.verdicts.inner
   pub no_more : bad_gained ready.verdicts.outer ready.verdicts.inner ≤
       bad_lost (plain_task ready.task) doc
+  pub tokens : AreListTokens g (forest_of (list_after (plain_task ready.task)
+      (kids_at ready.task.list doc.root))) ready.tokens

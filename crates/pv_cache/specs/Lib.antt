@@ -2,6 +2,7 @@ pub mod WellMarked
 pub mod BadLists
 pub mod Mending
 pub mod Changed
+pub mod Shown
 pub mod Judging
 pub mod Laws
 pub mod Changing

@@ -6,8 +6,10 @@ ghost use Rattle.std.specs.Option.{option_map};
 ghost use Rattle.pv_cache.specs.BadLists.{bad_gained, bad_lost, own_at};
 ghost use Rattle.pv_cache.specs.Changed.{AreJudged, owner_at};
 ghost use Rattle.pv_cache.specs.Changing.{AreNarrowAfter, IsChanged, IsTaskFor};
+ghost use Rattle.pv_cache.specs.Judging.{AreListTokens, AreWords};
 ghost use Rattle.pv_cache.specs.PlainMarked.{plain_marked};
 ghost use Rattle.pv_cache.specs.Stamps.{changed_by};
+ghost use Rattle.pv_edit.specs.Changes.{list_after};
 ghost use Rattle.pv_edit.specs.Fitting.{plain_task};
 ghost use Rattle.pv_edit.specs.Reasons.{kids_at, lacks_list};
 ghost use Rattle.pv_missing.specs.PlainForms.{plain_of};
@@ -15,13 +17,14 @@ ghost use Rattle.pv_missing.specs.Weighing.{site_of};
 ghost use Rattle.pv_reach.specs.declared.errors.ReachError.TheVariants.{TooWide as too_wide};
 ghost use Rattle.pv_rules.specs.Sites.{HasSite};
 ghost use Rattle.pv_tree.specs.Places.{spot_at};
+ghost use Rattle.pv_tree.specs.Plain.{forest_of};
 ghost use Rattle.pv_tree.specs.PlainDocs.{plain_doc};
 
 use crate::bad_lists::{bad_taken, own_bad, own_inner, own_of};
 use crate::judging::judge_words;
 use crate::mending::{ChangedVerdicts, Mend, mend_doc};
 use crate::well_marked::WellMarked;
-use crate::words::words_after;
+use crate::words::{KeptTokens, ListTokens, Words};
 use pv_chars::NoMemory;
 use pv_edit::{Task, make};
 use pv_missing::{Of, element_owner, root_owner};
@@ -58,13 +61,17 @@ impl WellMarked {
         }
     }
 
-    /// The verdicts of the lists that a task changes, found before the document is touched.
+    /// The verdicts of the lists that a task changes, found by their words before the document is
+    /// touched.
     pub(crate) fn judge_task<L: Ledger>(
         &self,
         task: &Task,
+        words: &Words<'_>,
         steps: &mut Steps<L>,
     ) -> Result<ChangedVerdicts, ReachError>
-        requires { IsTaskFor (plain_doc self.now.doc) task.now }
+        requires task { IsTaskFor (plain_doc self.now.doc) task.now }
+        requires words { AreWords self.now.grammar (plain_task task.now)
+            (kids_at task.now.list (plain_doc self.now.doc).root) words.now }
         ensures judged { IfOk result (λ verdicts. AreJudged self.now.grammar self.now.root
             (owner_at task.now.list (plain_doc self.now.doc).root)
             (kids_at task.now.list (plain_doc self.now.doc).root)
@@ -75,16 +82,12 @@ impl WellMarked {
         ensures steps { steps.new ≤ steps.old + 2 }
         ensures later { steps.old ≤ steps.new }
     {
-        let Some(kids) = self.doc.kids_at(&task.list) else {
-            unreachable!()
-        };
-        let words = words_after(self.alloc, self.grammar.dtd(), kids, &task.change)?;
         let owner = self.owner_of(&task.list);
         judge_words(
             self.alloc,
             &self.grammar,
             owner,
-            &words,
+            words,
             task.change.from,
             steps,
         )
@@ -130,11 +133,13 @@ impl WellMarked {
     /// Makes a change whose lists have these verdicts, and mends the marks. Without memory the
     /// document is left.
     ///
-    /// The changed lists get the stamp; their number is given.
+    /// The changed lists get the stamp; their number is given. The tokens are kept, which are those
+    /// of the list after the change.
     pub(crate) fn make_judged(
         &mut self,
         task: Task,
         verdicts: ChangedVerdicts,
+        tokens: ListTokens,
         stamp: u64,
     ) -> Result<u32, NoMemory>
         requires task { IsTaskFor (plain_doc self.old.doc) task }
@@ -142,6 +147,8 @@ impl WellMarked {
             (owner_at task.list (plain_doc self.old.doc).root)
             (kids_at task.list (plain_doc self.old.doc).root)
             (plain_task task) verdicts.outer verdicts.inner }
+        requires tokens { AreListTokens self.old.grammar (forest_of (list_after (plain_task task)
+            (kids_at task.list (plain_doc self.old.doc).root))) tokens }
         ensures changed { IfOk result (λ lists.
             IsChanged (plain_marked self.old) task stamp lists (plain_marked self.new)) }
         ensures unchanged { OnErr result (plain_marked self.new ≡ plain_marked self.old) }
@@ -156,6 +163,7 @@ impl WellMarked {
         make(self.alloc, &mut self.doc, task)?;
         mend_doc(self.alloc, &mut self.doc, list.places(), &mend);
         self.bad = bad;
+        self.kept = Some(KeptTokens { list, tokens });
         Ok(number_of(&mend))
     }
 }

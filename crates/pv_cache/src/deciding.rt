@@ -5,6 +5,7 @@ ghost use Rattle.std.specs.Prelude.{false, None};
 ghost use Rattle.pv_cache.specs.BadLists.{bad_gained, bad_lost};
 ghost use Rattle.pv_cache.specs.Changed.{AreJudged, IsFirstAmong, owner_at};
 ghost use Rattle.pv_cache.specs.Changing.{IsTaskFor, IsUnaccepted};
+ghost use Rattle.pv_cache.specs.Judging.{AreWords};
 ghost use Rattle.pv_cache.specs.declared.mending.InnerVerdict.{InnerVerdict};
 ghost use Rattle.pv_edit.specs.Fitting.{plain_task};
 ghost use Rattle.pv_edit.specs.Reasons.{kids_at};
@@ -13,6 +14,7 @@ ghost use Rattle.pv_tree.specs.declared.nodes.Verdict.TheVariants as verdict;
 
 use crate::mending::{ChangedVerdicts, InnerVerdict};
 use crate::well_marked::WellMarked;
+use crate::words::Words;
 use pv_chars::NoMemory;
 use pv_edit::{EditAnswer, Task, kid_path};
 use pv_reach::ReachError;
@@ -56,15 +58,19 @@ fn first_impossible(
 }
 
 impl WellMarked {
-    /// Decides on a change: the verdicts of the lists that it changes, or why it isn't accepted.
+    /// Decides on a change by its words: the verdicts of the lists that it changes, or why it isn't
+    /// accepted.
     /// Limits come before verdicts, and the outer list before the inner one. No more lists may be
     /// Impossible afterwards.
     pub(crate) fn decide<L: Ledger>(
         &self,
         task: &Task,
+        words: &Words<'_>,
         steps: &mut Steps<L>,
     ) -> Result<ChangedVerdicts, EditAnswer>
-        requires { IsTaskFor (plain_doc self.now.doc) task.now }
+        requires task { IsTaskFor (plain_doc self.now.doc) task.now }
+        requires words { AreWords self.now.grammar (plain_task task.now)
+            (kids_at task.now.list (plain_doc self.now.doc).root) words.now }
         ensures judged { IfOk result (λ verdicts. AreJudged self.now.grammar self.now.root
             (owner_at task.now.list (plain_doc self.now.doc).root)
             (kids_at task.now.list (plain_doc self.now.doc).root)
@@ -76,7 +82,7 @@ impl WellMarked {
         ensures steps { steps.new ≤ steps.old + 2 }
         ensures later { steps.old ≤ steps.new }
     {
-        let verdicts = match self.judge_task(task, steps) {
+        let verdicts = match self.judge_task(task, words, steps) {
             Ok(verdicts) => verdicts,
             Err(ReachError::TooWide) => return Err(EditAnswer::Limit),
             Err(ReachError::NoMemory) => return Err(EditAnswer::NoMemory),

@@ -31,7 +31,7 @@ pub(crate) fn judge_words<L: Ledger>(
     ensures steps { steps.new ≤ steps.old + 2 }
     ensures later { steps.old ≤ steps.new }
 {
-    let outer = grammar.verdict_of(alloc, owner, &words.outer, steps)?;
+    let outer = grammar.verdict_of(alloc, owner, &words.outer.word, steps)?;
     let inner = judge_inner(alloc, grammar, words, from, steps)?;
     Ok(ChangedVerdicts { outer, inner })
 }

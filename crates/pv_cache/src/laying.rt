@@ -9,9 +9,8 @@ ghost use Rattle.pv_tree.specs.PlainDocs.{plain_doc};
 ghost use Rattle.pv_tree.specs.PlainForms.{forest, plain};
 
 use crate::mending::{Mend, mend_doc, mend_element};
-use pv_edit::{put_kids, take_kids};
 use pv_missing::Verdicts;
-use pv_tree::{Doc, Node, Verdict};
+use pv_tree::{Doc, Node, Nodes, Verdict};
 use std::alloc::Global;
 
 // The verdict of this number; there is one for each list.
@@ -27,24 +26,22 @@ fn nth_verdict(verdicts: &Verdicts, number: u64) -> Verdict
 // Marks the lists of a subtree by the verdicts from this number on, and gives the number behind
 // them.
 #[cycle(lay)]
-fn lay_node(alloc: Global, node: &mut Node, verdicts: &Verdicts, number: u64) -> u64
+fn lay_node(node: &mut Node, verdicts: &Verdicts, number: u64) -> u64
     requires small { number + nodes_in (plain node.old) ≤ 2 * MAX_NODES }
     ensures laid { plain node.new ≡ lay_node verdicts.now.verdicts number (plain node.old) }
     ensures next { result ≡ number + lists_in (plain node.old) }
 {
-    let Node::Elem { .. } = node else {
+    let Node::Elem { kids, .. } = node else {
         return number;
     };
-    let mut kids = take_kids(alloc, node);
-    let next = lay_kids(alloc, &mut kids, verdicts, number + 1);
-    put_kids(alloc, node, kids);
+    let next = lay_kids(kids, verdicts, number + 1);
     mend_element(node, nth_verdict(verdicts, number), 0);
     next
 }
 
 // The same of nodes side by side.
 #[cycle(lay)]
-fn lay_kids(alloc: Global, kids: &mut Vec<Node>, verdicts: &Verdicts, number: u64) -> u64
+fn lay_kids(kids: &mut Nodes, verdicts: &Verdicts, number: u64) -> u64
     requires small { number + nodes_in_all (forest kids.old.items) ≤ 2 * MAX_NODES }
     ensures laid { forest kids.new.items
         ≡ lay_kids verdicts.now.verdicts number (forest kids.old.items) }
@@ -53,7 +50,7 @@ fn lay_kids(alloc: Global, kids: &mut Vec<Node>, verdicts: &Verdicts, number: u6
     let mut next = number;
     let mut i = 0;
     'kids: while i < kids.len() {
-        next = lay_node(alloc, &mut kids[i], verdicts, next);
+        next = lay_node(&mut kids[i], verdicts, next);
         i += 1;
     }
     next
@@ -63,7 +60,7 @@ fn lay_kids(alloc: Global, kids: &mut Vec<Node>, verdicts: &Verdicts, number: u6
 pub(crate) fn lay_doc(alloc: Global, doc: &mut Doc, verdicts: &Verdicts)
     ensures { plain_doc doc.new ≡ lay_doc verdicts.now.verdicts (plain_doc doc.old) }
 {
-    lay_node(alloc, &mut doc.root, verdicts, 1);
+    lay_node(&mut doc.root, verdicts, 1);
     let mend = Mend {
         verdict: nth_verdict(verdicts, 0),
         inner: None,

@@ -9,7 +9,9 @@
 //! of them is too wide, and no more of them are Impossible than of the lists that they stand for
 //! (`bad_lost`, `bad_gained` in specs/BadLists.antt), the change is made and the marks are told
 //! again, at the changed lists and above them. The changed lists get the stamp of the move, and
-//! all others keep theirs (`IsEdited`, `IsReverted` in specs/Moves.antt).
+//! all others keep theirs (`IsEdited`, `IsReverted` in specs/Moves.antt). The tokens of the list
+//! that was changed last are kept, so that the next edit in it looks up the names alone of what
+//! comes.
 #![tactic(auto)]
 
 mod bad_lists;
@@ -17,6 +19,7 @@ mod changing;
 mod deciding;
 mod firsts;
 mod judging;
+mod keeping;
 pub mod laws;
 mod laying;
 mod marked;

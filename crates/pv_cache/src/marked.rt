@@ -101,6 +101,7 @@ impl Marked {
             root,
             doc,
             bad,
+            kept: None,
         };
         Marked { document }
     }

@@ -13,6 +13,7 @@ ghost use Rattle.pv_tree.specs.PlainDocs.{plain_doc};
 
 use crate::mending::ChangedVerdicts;
 use crate::well_marked::WellMarked;
+use crate::words::ListTokens;
 use pv_chars::NoMemory;
 use pv_edit::laws::{changed_lists_law, leads_back_law, nodes_law};
 use pv_edit::{Done, Edit, EditAnswer, Inverse, Preparation, Task, prepare, prepare_back};
@@ -33,13 +34,14 @@ fn gives_too_many(edit: &Edit, nodes: u64) -> bool
     MAX_NODES + edit.nodes_taken() < nodes + edit.nodes_made()
 }
 
-/// An edit that is accepted: what it does, what undoes it, and the verdicts of the lists that it
-/// changes.
+/// An edit that is accepted: what it does, what undoes it, the verdicts of the lists that it
+/// changes, and the tokens of its list afterwards.
 #[derive(Drop)]
 pub(crate) struct JudgedEdit {
     pub task: Task,
     pub inverse: Inverse,
     pub verdicts: ChangedVerdicts,
+    pub tokens: ListTokens,
 }
 
 impl WellMarked {
@@ -66,11 +68,14 @@ impl WellMarked {
             return Err(EditAnswer::Limit);
         }
         let Preparation { task, inverse } = ready;
-        let verdicts = self.decide(&task, steps)?;
+        let words = self.words_of(&task)?;
+        let verdicts = self.decide(&task, &words, steps)?;
+        let tokens = words.into_outer();
         Ok(JudgedEdit {
             task,
             inverse,
             verdicts,
+            tokens,
         })
     }
 
@@ -96,8 +101,9 @@ impl WellMarked {
             task,
             inverse,
             verdicts,
+            tokens,
         } = judged;
-        let checked = self.make_judged(task, verdicts, stamp)?;
+        let checked = self.make_judged(task, verdicts, tokens, stamp)?;
         let left = self.doc.mark.left;
         let bad = self.bad;
         Ok((Done { checked, left, bad }, inverse))
@@ -125,12 +131,14 @@ impl WellMarked {
         leads_back_law::<Mark>();
         changed_lists_law::<Mark>();
         let task = prepare_back(self.alloc, &self.doc, inverse)?;
-        let verdicts = match self.judge_task(&task, steps) {
+        let words = self.words_of(&task)?;
+        let verdicts = match self.judge_task(&task, &words, steps) {
             Ok(verdicts) => verdicts,
             Err(ReachError::TooWide) => unreachable!(),
             Err(ReachError::NoMemory) => return Err(NoMemory),
         };
-        let checked = self.make_judged(task, verdicts, stamp)?;
+        let tokens = words.into_outer();
+        let checked = self.make_judged(task, verdicts, tokens, stamp)?;
         let left = self.doc.mark.left;
         Ok(Done {
             checked,

@@ -108,7 +108,7 @@ const GAMES: u32 = 10;
 const TURNS: u32 = 60;
 
 // Documents, and names for their elements.
-static BOARDS: [(Texts, &[&str]); 8] = [
+static BOARDS: [(Texts, &[&str]); 9] = [
     (
         (ARTICLE, "doc", REALISTIC),
         &[
@@ -129,6 +129,15 @@ static BOARDS: [(Texts, &[&str]); 8] = [
     (
         (MIXED, "a", "<a>x<b/><![CDATA[y]]></a>"),
         &["a", "b", "b", "c"],
+    ),
+    // One list, with kids that have no token among the others.
+    (
+        (
+            MIXED,
+            "a",
+            "<a>x<b/> <b/><!--c--><b/> <?p?><b/><![CDATA[y]]><b/>z<b/> </a>",
+        ),
+        &["a", "b", "b", "b", "c"],
     ),
     // Impossible documents.
     (

@@ -22,6 +22,7 @@ invariant_of-document c =
       marked = subst (λ (e : PlainDoc Mark). ∥ IsWellMarked d c.args.root e ∥₁) (sym c.lay_doc.ensures) ∣ w ∣₁;
       counted = c.bad_by-bad.ensures;
       few = subst (λ (e : PlainDoc Mark). nodes_in e.root ≤ MAX_EDITED_NODES) (sym c.lay_doc.ensures) (laid_few vs doc c.requires.few);
+      held = λ kept e. absurd cc;
     }
 
 pub returns : goal.returns

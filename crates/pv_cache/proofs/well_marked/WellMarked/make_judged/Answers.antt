@@ -1,20 +1,24 @@
-use Rattle.std.proofs.Common.{◌≡◌, ◌≤◌, ◌∙◌, ap, arith, length, refl, sym, rules, subst, List, ℕ}
+use Rattle.std.proofs.Common.{◌≡◌, ◌≤◌, ◌∙◌, ap, arith, length, refl, sym, rules, subst, List, Some, ℕ}
 use Rattle.std.specs.List.{between}
+use Rattle.std.specs.Option.{ForSome}
 use Rattle.pv_edit.specs.Brought.{lists_changed}
 use Rattle.pv_edit.specs.Changes.{doc_after, in_place_of}
 use Rattle.pv_edit.specs.Reasons.{kids_at}
 use Rattle.pv_edit.specs.Fitting.{plain_task}
 use Rattle.pv_tree.specs.Marks.{unmarked_doc}
 use Rattle.pv_dtd.specs.Plain.{PlainDtd}
-use Rattle.pv_tree.specs.Plain.{PlainDoc, nodes_in}
+use Rattle.pv_tree.specs.Plain.{PlainDoc, forest_of, nodes_in}
 use Rattle.pv_tree.specs.PlainDocs.{plain_doc}
 use Rattle.pv_tree.specs.declared.nodes.Mark.{Mark}
 use Rattle.pv_cache.specs.Accepting.{MAX_EDITED_NODES}
+use Rattle.pv_cache.specs.Judging.{AreListTokens, AreKeptTokens}
 use Rattle.pv_cache.specs.Mending.{CanMendDoc, IsDocCounted, mend_doc}
 use Rattle.pv_cache.specs.WellMarked.{IsWellMarked, told_bad}
+use Rattle.pv_cache.specs.declared.words.KeptTokens.{KeptTokens}
 use Rattle.pv_cache.specs.Stamps.{changed_by, stamp_lists, stamps_of}
 use Rattle.pv_cache.proofs.Stamping.{changed_are, same_number, stamps_mended}
 use Rattle.pv_cache.proofs.Counting.{mended-counted}
+use Rattle.pv_cache.proofs.Kept.{kept-after, kept-of}
 use Rattle.pv_cache.proofs.Ready.{ready-can, ready-counted, ready-marked}
 use Rattle.pv_cache.proofs.Unmarked.{doc-as, few-mended}
 use Rattle.pv_cache.proofs.well_marked.WellMarked.make_judged.Goals as goal
@@ -54,6 +58,7 @@ invariant_of-self c =
       marked = subst (Marked_ d root) (sym same) c.args.self.now.marked;
       counted = c.args.self.now.counted ∙ ap told_bad (sym same);
       few = subst (λ (e : PlainDoc Mark). nodes_in e.root ≤ MAX_EDITED_NODES) (sym same) c.args.self.now.few;
+      held = subst (λ (e : PlainDoc Mark). ForSome c.args.self.now.kept (AreKeptTokens d e)) (sym same) c.args.self.now.held;
     }
 
 -- and after the change
@@ -74,10 +79,15 @@ invariant_of-self-2 c =
     let after = c.bad_after-bad.ensures in
     let before = c.args.self.now.counted in
     let told = ap told_bad is in
+    let k : c.in_ok-list.list ≡ t.list = search rules in
+    let new = mend_doc t.list m.outer m.inner c.args.stamp (doc_after ch old) in
+    let kept : KeptTokens = record { list = c.in_ok-list.list; tokens = c.args.tokens } in
+    let tokens = kept-after d old ch c.requires.task.can c.requires.task.unshort m.outer m.inner c.args.stamp c.args.tokens c.requires.tokens in
     record {
       marked = subst (Marked_ d root) (sym is) r;
       counted = omega arith;
       few = subst (λ (e : PlainDoc Mark). nodes_in e.root ≤ MAX_EDITED_NODES) (sym is) (few-mended t.list m.outer m.inner c.args.stamp (doc_after ch old) c.requires.task.few);
+      held = subst (λ (e : PlainDoc Mark). ForSome (Some kept) (AreKeptTokens d e)) (sym is) (kept-of d new kept (subst (λ (q : List ℕ). AreListTokens d (forest_of (kids_at q new.root)) c.args.tokens) (sym k) tokens));
     }
 
 pub returns-clause-changed : goal.returns-clause-changed

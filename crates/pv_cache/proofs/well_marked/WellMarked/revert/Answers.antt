@@ -2,13 +2,31 @@ use Rattle.std.proofs.Common.{◌≡◌, refl, subst, sym}
 use Rattle.pv_cache.specs.Moves.{IsReverted}
 use Rattle.pv_cache.specs.Stamps.{StampedDoc, stamped_doc_of}
 use Rattle.pv_cache.specs.WellMarked.{IsWellMarked}
+use Rattle.pv_edit.specs.Changes.{list_after}
 use Rattle.pv_edit.specs.Fitting.{plain_task}
+use Rattle.pv_edit.specs.Reasons.{kids_at}
+use Rattle.pv_tree.specs.Plain.{forest_of}
 use Rattle.pv_tree.specs.PlainDocs.{plain_doc}
+use Rattle.pv_cache.specs.Judging.{AreListTokens}
 use Rattle.pv_cache.proofs.Moved.{back_few, back_made, back_narrow, same_ground, stamped_ground}
 use Rattle.pv_cache.proofs.well_marked.WellMarked.revert.Goals as goal
 
-pub judge_task-requires : goal.judge_task-requires
-judge_task-requires g c =
+pub words_of-requires : goal.words_of-requires
+words_of-requires g c =
+    let d = c.args.self.now.grammar in
+    let old = plain_doc c.args.self.now.doc in
+    let t = c.in_ok-task.task in
+    let l = c.requires in
+    record {
+      can = c.in_ok-task.ensures.can;
+      unshort = c.in_ok-task.ensures.unshort;
+      bare = c.in_ok-task.ensures.bare;
+      kept = c.in_ok-task.ensures.kept;
+      few = back_few d c.args.self.now.root old c.args.inverse.now l.0 l.1 c.leads_back_law.ensures (plain_task t) c.in_ok-task.ensures.task l.2;
+    }
+
+pub judge_task-requires-clause-task : goal.judge_task-requires-clause-task
+judge_task-requires-clause-task g c =
     let d = c.args.self.now.grammar in
     let old = plain_doc c.args.self.now.doc in
     let t = c.in_ok-task.task in
@@ -34,6 +52,13 @@ make_judged-requires-clause-task g c =
       kept = c.in_ok-task.ensures.kept;
       few = back_few d c.args.self.now.root old c.args.inverse.now l.0 l.1 c.leads_back_law.ensures (plain_task t) c.in_ok-task.ensures.task l.2;
     }
+
+pub make_judged-requires-clause-tokens : goal.make_judged-requires-clause-tokens
+make_judged-requires-clause-tokens g c =
+    let d = c.args.self.now.grammar in
+    let old = plain_doc c.args.self.now.doc in
+    let t = c.in_ok-task.task in
+    subst (AreListTokens d (forest_of (list_after (plain_task t) (kids_at t.list old.root)))) (sym c.into_outer-tokens.ensures) c.in_ok-words.ensures.outer
 
 pub unreachable-requires : goal.unreachable-requires
 unreachable-requires g c =
