@@ -1,10 +1,21 @@
--- Weights that are remembered, and one more.
-use Rattle.std.proofs.Common.{Bool, List, Some, [], arith, false, inl, inr, length, map, refl, slice_get, suc, true, zero, ℕ, ◌++◌, ◌<◌, ◌∷◌, ◌≡◌, ◌⊎◌}
+-- Weights that are remembered with pieces, and one more.
+use Rattle.std.proofs.Common.{Bool, List, Option, Some, [], arith, false, inl, inr, length, map, refl, slice_get, subst, suc, true, zero, ℕ, ◌++◌, ◌<◌, ◌∷◌, ◌≡◌, ◌⊎◌}
 use Rattle.std.specs.Prelude.{if◌then◌else◌}
 use Rattle.pv_dtd.specs.Plain.{PlainDtd}
 use Rattle.pv_missing.specs.PlainForms.{plain_of}
+use Rattle.pv_missing.specs.Weighing.{whole}
+use Rattle.pv_missing.specs.Widths.{FitsWeights}
+use Rattle.pv_model.specs.Plain.{PlainToken}
 use Rattle.pv_model.specs.PlainForms.{plain_token}
-use Rattle.pv_complete.specs.KnownWeights.{AreKnown, IsWordWeight}
+use Rattle.pv_rules.specs.Derivations.{IsWeight}
+use Rattle.pv_rules.specs.Rules.{Rule}
+use Rattle.pv_rules.specs.Sites.{PlainSite}
+use Rattle.pv_tables.specs.Tables.{AreAllEntries}
+use Rattle.pv_tables.specs.declared.tables.Entry.{Entry}
+use Rattle.pv_complete.specs.KnownWeights.{AreKnownEntries, AreKnownPieces, IsWeighedWord}
+use Rattle.pv_complete.specs.PieceForms.{plain_pieces}
+use Rattle.pv_complete.specs.Pieces.{WritesAt}
+use Rattle.pv_complete.specs.declared.words.pieces.Piece.{Piece}
 use Rattle.pv_complete.specs.declared.missing.known.KnownWeight.{KnownWeight}
 
 -- an element of a list with one more at its end
@@ -27,9 +38,9 @@ same_elements (x ∷ xs) (y ∷ ys) n f =
 
 -- each of these entries is right
 abbrev pub AreRight : PlainDtd → List KnownWeight → Type 0
-AreRight g entries = (k : ℕ) (e : KnownWeight) → slice_get entries k ≡ Some e → IsWordWeight g (plain_of e.of) (map plain_token e.word) e.weight
+AreRight g entries = (k : ℕ) (e : KnownWeight) → slice_get entries k ≡ Some e → IsWeighedWord g (plain_of e.of) (map plain_token e.word) e.weight e.pieces e.table
 
-pub right_one_more : (g : PlainDtd) (old new : List KnownWeight) (e : KnownWeight) → new ≡ old ++ e ∷ [] → AreRight g old → IsWordWeight g (plain_of e.of) (map plain_token e.word) e.weight → AreRight g new
+pub right_one_more : (g : PlainDtd) (old new : List KnownWeight) (e : KnownWeight) → new ≡ old ++ e ∷ [] → AreRight g old → IsWeighedWord g (plain_of e.of) (map plain_token e.word) e.weight e.pieces e.table → AreRight g new
 right_one_more g old new e is all one k x h = elim (one_of_both old e k x (rw is at h)) [ inl at_old ↦ all k x at_old | inr same ↦ rw same one ]
 
 no_entry : {X : Type 0} (k : ℕ) (x : X) → slice_get [] k ≡ Some x → ⊥
@@ -40,6 +51,20 @@ pub right_none : (g : PlainDtd) (new : List KnownWeight) → new ≡ [] → AreR
 right_none g new is k x h = absurd (no_entry k x (rw is at h))
 
 -- behind a push, which there may be no memory for
-pub right_pushed : (g : PlainDtd) (old new : List KnownWeight) (e : KnownWeight) (b : Bool) → new ≡ (if b then old ++ e ∷ [] else old) → AreRight g old → IsWordWeight g (plain_of e.of) (map plain_token e.word) e.weight → AreRight g new
+pub right_pushed : (g : PlainDtd) (old new : List KnownWeight) (e : KnownWeight) (b : Bool) → new ≡ (if b then old ++ e ∷ [] else old) → AreRight g old → IsWeighedWord g (plain_of e.of) (map plain_token e.word) e.weight e.pieces e.table → AreRight g new
 right_pushed g old new e true is all one = right_one_more g old new e is all one
 right_pushed g old new e false is all one = rw is all
+
+-- the pieces that are kept are of a completion with as many new elements as the word weighs
+pub told_pieces : (g : PlainDtd) (s : PlainSite) (w : List PlainToken) (k : ℕ) (pieces : Option (List Piece)) (table : Option (List Entry)) (ps : List Piece) → pieces ≡ Some ps →
+    IsWeighedWord g s w k pieces table → (n : ℕ) × IsWeight (Rule g w) (whole s w) n × WritesAt g s n w (plain_pieces ps)
+told_pieces g s w k pieces table ps same is =
+    let writes : AreKnownPieces g s w k (Some ps) = subst (AreKnownPieces g s w k) same is.writes in
+    (k, is.weighs.weight, writes)
+
+-- the entries that are kept are those of the word
+pub told_entries : (g : PlainDtd) (s : PlainSite) (w : List PlainToken) (k : ℕ) (pieces : Option (List Piece)) (table : Option (List Entry)) (es : List Entry) → table ≡ Some es →
+    IsWeighedWord g s w k pieces table → AreAllEntries g w es × FitsWeights g (length w)
+told_entries g s w k pieces table es same is =
+    let lists : AreKnownEntries g w (Some es) = subst (AreKnownEntries g w) same is.lists in
+    (lists, is.weighs.fits)

@@ -1,6 +1,6 @@
 -- Possible lists that are too wide for weights.
 use Rattle.std.proofs.lemmas.List.{length-map}
-use Rattle.std.proofs.Common.{ap, map, sym, ◌∙◌, Bool, List, [], ◌*◌, ◌/◌, arith, drop, false, length, refl, suc, true, ℕ, ◌≤◌, ◌∷◌, ◌≡◌}
+use Rattle.std.proofs.Common.{ap, map, sym, ◌∙◌, Bool, List, ◌*◌, ◌/◌, arith, drop, false, length, refl, suc, true, ℕ, ◌≤◌, ◌≡◌}
 use Rattle.std.proofs.Math.Nat.{mul-le-mul, mul-le-mul_right}
 use Rattle.pv_model.specs.Plain.{PlainToken}
 use Rattle.pv_model.specs.PlainForms.{plain_token}

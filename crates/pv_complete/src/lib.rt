@@ -9,20 +9,23 @@
 //!
 //! `complete` writes the document with the pieces of each list (`src/writing/walk.rt`).
 //! `specs/Completing.antt` and `specs/Growing.antt` say what it gives, and `specs/Written.antt` how
-//! the walk carries the proof.
+//! the walk carries the proof. `complete_with_tables` gives both, for a pack: a list's weights are
+//! found once, and what else is read off them is kept beside them (`src/missing/known.rt`).
 #![tactic(auto)]
 
 mod errors;
 pub mod laws;
 mod listings;
 mod missing;
+mod tabled;
 mod words;
 mod writing;
 
 pub use errors::NeedError;
-pub use listings::making::tables;
+pub use listings::making::{tables, tables_by};
 pub use missing::needing::{need, need_by};
 pub use missing::remembering::{Remembered, need_remembering};
+pub use tabled::{TabledCompletion, complete_with_tables};
 pub use words::completing::list_pieces;
 pub use words::pieces::Piece;
 pub use writing::completion::{Completion, complete, complete_by};

@@ -24,6 +24,7 @@ use pv_dtd::laws::proper_dtd_law;
 use pv_fresh::{PossibleError, possible_verdicts};
 use pv_missing::laws::proper::proper_doc_law;
 use pv_productive::Grammar;
+use pv_reach::Judge;
 use pv_steps::Steps;
 use pv_tables::laws::one_list_at_path_law;
 use pv_tree::{Doc, Mark, Node, Path};
@@ -31,24 +32,56 @@ use std::alloc::Global;
 use std::marker::Brand;
 use std::sync::ledger::{Blank, Ledger};
 
-/// The rows of a denial of this cause; none where they would have too many values.
+/// The rows of a denial of this cause, by a judge of this grammar; none where they would have too
+/// many values.
 fn rows_by(
     alloc: Global,
     grammar: &Grammar,
+    judge: &Judge<'_>,
     kids: &[Node],
     cause: Cause,
 ) -> Result<Option<Rows>, NoMemory>
-    requires { FitsVerdict (dtd_of grammar.now)
+    requires same { judge.now ≡ grammar.now }
+    requires narrow { FitsVerdict (dtd_of grammar.now)
         (length (word_of (dtd_of grammar.now) (forest kids.now))) }
     ensures { IfOk result (λ found. MatchOption found ((cause ≡ by_word) ×
         HasManyValues (dtd_of grammar.now) (word_of (dtd_of grammar.now) (forest kids.now)))
         (HasRowsBy (dtd_of grammar.now) (word_of (dtd_of grammar.now) (forest kids.now)) cause)) }
 {
     if cause == Cause::Word {
-        word_rows(alloc, grammar, kids)
+        word_rows(alloc, grammar, judge, kids)
     } else {
         Ok(Some(List::of(Vec::new(alloc))))
     }
+}
+
+/// What denies a document whose first impossible list is at this path, by a judge of this grammar.
+fn denial_over(
+    alloc: Global,
+    grammar: &Grammar,
+    judge: &Judge<'_>,
+    root: &[u8],
+    doc: &Doc,
+    path: Path,
+) -> Result<Denial, DenyError>
+    requires same { judge.now ≡ grammar.now }
+    requires narrow { AllByRecursion (IsListForVerdict (dtd_of grammar.now))
+        (lists_of (plain_doc doc.now)) }
+    requires first { IsFirstImpossible (dtd_of grammar.now) root.now (lists_of (plain_doc doc.now))
+        path }
+    ensures denied { IfOk result (IsDenialOf (dtd_of grammar.now) root.now (plain_doc doc.now)) }
+    ensures refused { IfErr result
+        (HasOutcomeBy (dtd_of grammar.now) root.now (plain_doc doc.now)) }
+{
+    one_list_at_path_law::<Mark>();
+    let Some(place) = place_at(root, doc, &path) else {
+        unreachable!()
+    };
+    let cause = cause_of(grammar, &place);
+    let Some(rows) = rows_by(alloc, grammar, judge, place.kids, cause)? else {
+        return Err(DenyError::TooMany);
+    };
+    Ok(Denial { path, cause, rows })
 }
 
 /// What denies a document whose first impossible list is at this path, where no list is too wide.
@@ -70,15 +103,22 @@ pub fn denial_at(
     ensures refused { IfErr result
         (HasOutcomeBy (dtd_of grammar.now) root.now (plain_doc doc.now)) }
 {
-    one_list_at_path_law::<Mark>();
-    let Some(place) = place_at(root, doc, &path) else {
-        unreachable!()
-    };
-    let cause = cause_of(grammar, &place);
-    let Some(rows) = rows_by(alloc, grammar, place.kids, cause)? else {
-        return Err(DenyError::TooMany);
-    };
-    Ok(Denial { path, cause, rows })
+    let judge = Judge::without_plan(alloc, grammar);
+    denial_over(alloc, grammar, &judge, root, doc, path)
+}
+
+/// The same by the plan of a grammar, where its rules are laid out.
+pub fn denial_by(judge: &Judge<'_>, root: &[u8], doc: &Doc, path: Path) -> Result<Denial, DenyError>
+    requires narrow { AllByRecursion (IsListForVerdict (dtd_of judge.now))
+        (lists_of (plain_doc doc.now)) }
+    requires first { IsFirstImpossible (dtd_of judge.now) root.now (lists_of (plain_doc doc.now))
+        path }
+    ensures denied { IfOk result (IsDenialOf (dtd_of judge.now) root.now (plain_doc doc.now)) }
+    ensures refused { IfErr result
+        (HasOutcomeBy (dtd_of judge.now) root.now (plain_doc doc.now)) }
+{
+    let grammar = judge.grammar();
+    denial_over(judge.alloc(), grammar, judge, root, doc, path)
 }
 
 /// The same of a document of which nothing is known, with a counter for the lists that are judged.

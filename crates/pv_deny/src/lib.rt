@@ -3,8 +3,8 @@
 //!
 //! `deny` finds a denial, or tells why there is none: each document has one such outcome
 //! (`specs/Denying.antt`). `denial_at` makes the denial where the first impossible list is known
-//! already. Rows of furthest places are a barrier, so that a denial that is found passes each test
-//! of its judge (`laws`), which stands on none of this.
+//! already, and `denial_by` the same by a plan. Rows of furthest places are a barrier, so that a
+//! denial that is found passes each test of its judge (`laws`), which stands on none of this.
 #![tactic(auto)]
 
 mod denying;
@@ -14,5 +14,5 @@ mod rows;
 mod sites;
 mod words;
 
-pub use denying::{denial_at, deny};
+pub use denying::{denial_at, denial_by, deny};
 pub use errors::DenyError;

@@ -1,6 +1,6 @@
 //! The rows of a list's word.
 
-ghost use Rattle.std.specs.Prelude.{IfOk, MatchOption, length, map};
+ghost use Rattle.std.specs.Prelude.{◌≡◌, IfOk, MatchOption, length, map};
 ghost use Rattle.pv_model.specs.PlainForms.{plain_token};
 ghost use Rattle.pv_productive.specs.PlainForms.{dtd_of};
 ghost use Rattle.pv_tree.specs.PlainForms.{forest};
@@ -20,28 +20,35 @@ use pv_missing::live_word;
 use pv_model::Token;
 use pv_productive::Grammar;
 use pv_reach::laws::spans_within_law;
-use pv_reach::{ReachError, Reaches, furthest};
+use pv_reach::{Judge, ReachError, Reaches, furthest_by};
 use pv_tree::Node;
 use std::alloc::Global;
 
-/// The furthest places over a word that isn't too wide.
-fn reaches_over(alloc: Global, grammar: &Grammar, word: &[Token]) -> Result<Reaches, NoMemory>
+/// The furthest places over a word that isn't too wide, by a judge of this grammar.
+fn reaches_over(grammar: &Grammar, judge: &Judge<'_>, word: &[Token]) -> Result<Reaches, NoMemory>
+    requires same { judge.now ≡ grammar.now }
     requires productive { AreProductiveTokens (dtd_of grammar.now) (map plain_token word.now) }
     requires narrow { FitsVerdict (dtd_of grammar.now) (length word.now) }
     ensures { IfOk result (λ reaches.
         AreReaches (dtd_of grammar.now) (map plain_token word.now) reaches) }
 {
-    match furthest(alloc, grammar, word) {
+    match furthest_by(judge, word) {
         Ok(reaches) => Ok(reaches),
         Err(ReachError::TooWide) => unreachable!(),
         Err(ReachError::NoMemory) => Err(NoMemory),
     }
 }
 
-/// The rows of furthest places over the live word of some kids, which isn't too wide; none where
-/// they would have too many values.
-pub fn word_rows(alloc: Global, grammar: &Grammar, kids: &[Node]) -> Result<Option<Rows>, NoMemory>
-    requires { FitsVerdict (dtd_of grammar.now)
+/// The rows of furthest places over the live word of some kids, which isn't too wide, by a judge of
+/// this grammar; none where they would have too many values.
+pub fn word_rows(
+    alloc: Global,
+    grammar: &Grammar,
+    judge: &Judge<'_>,
+    kids: &[Node],
+) -> Result<Option<Rows>, NoMemory>
+    requires same { judge.now ≡ grammar.now }
+    requires narrow { FitsVerdict (dtd_of grammar.now)
         (length (word_of (dtd_of grammar.now) (forest kids.now))) }
     ensures { IfOk result (λ found. MatchOption found
         (HasManyValues (dtd_of grammar.now) (word_of (dtd_of grammar.now) (forest kids.now)))
@@ -52,7 +59,7 @@ pub fn word_rows(alloc: Global, grammar: &Grammar, kids: &[Node]) -> Result<Opti
     spans_within_law();
     let live = live_word(alloc, grammar, kids)?;
     let word = live.as_slice();
-    let reaches = reaches_over(alloc, grammar, word)?;
+    let reaches = reaches_over(grammar, judge, word)?;
     let sites = told_sites(alloc, grammar, &reaches)?;
     if !are_few(sites.len() as u64, word.len() as u64) {
         return Ok(None);

@@ -30,6 +30,6 @@ mod words;
 pub use errors::ReachError;
 pub use judge::Judge;
 pub use plan::Plan;
-pub use reaches::{Reaches, furthest};
+pub use reaches::{Reaches, furthest, furthest_by};
 pub use verdict::{list_verdict, list_verdict_by, word_verdict};
 pub use words::possible;

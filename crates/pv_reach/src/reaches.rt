@@ -1,6 +1,6 @@
 //! The furthest places that the sites of a grammar reach over a word.
 
-ghost use Rattle.std.specs.Prelude.{◌≡◌, ◌<◌, ◌^◌, IfErr, IfOk, length, map};
+ghost use Rattle.std.specs.Prelude.{◌≡◌, ◌<◌, ◌^◌, IfErr, IfOk, IfSome, length, map};
 ghost use Rattle.pv_model.specs.PlainForms.{plain_token};
 ghost use Rattle.pv_productive.specs.PlainForms.{dtd_of};
 ghost use Rattle.pv_missing.specs.LiveWords.{AreProductiveTokens};
@@ -10,6 +10,7 @@ ghost use Rattle.pv_reach.specs.Plans.{IsPlan};
 ghost use Rattle.pv_reach.specs.declared.errors.ReachError.TheVariants.{TooWide as too_wide};
 
 use crate::errors::ReachError;
+use crate::judge::Judge;
 use crate::plan::Plan;
 use crate::tables::ends::Ends;
 use crate::tables::rests::{rest_past, rests_of};
@@ -67,19 +68,20 @@ impl Reaches {
 fn reaches_by(
     alloc: Global,
     grammar: &Grammar,
-    plan: Plan,
+    plan: &Plan,
     word: &[Token],
 ) -> Result<Reaches, AllocError>
     requires short { length word.now < 2 ^ 26 }
-    requires plan { IsPlan (dtd_of grammar.now) plan }
+    requires plan { IsPlan (dtd_of grammar.now) plan.now }
     requires productive { AreProductiveTokens (dtd_of grammar.now) (map plain_token word.now) }
     ensures { IfOk result (λ reaches.
         AreReaches (dtd_of grammar.now) (map plain_token word.now) reaches) }
 {
     let table = fill(alloc, &[], &plan.rules, word, plan.width)?;
+    let heads = Vec::from_slice(alloc, &plan.heads)?;
     let ends = Ends {
         word: Vec::from_slice(alloc, word)?,
-        heads: plan.heads,
+        heads,
         table,
         width: plan.width,
         names: grammar.dtd().names(),
@@ -106,6 +108,36 @@ fn no_reaches(alloc: Global, grammar: &Grammar, word: &[Token]) -> Reaches
     }
 }
 
+/// By the plan of a grammar, or by one that is made for this word.
+fn furthest_over(
+    alloc: Global,
+    grammar: &Grammar,
+    plan: Option<&Plan>,
+    word: &[Token],
+) -> Result<Reaches, ReachError>
+    requires productive { AreProductiveTokens (dtd_of grammar.now) (map plain_token word.now) }
+    requires plan { IfSome plan (λ plan. IsPlan (dtd_of grammar.now) plan.now) }
+    ensures reaches { IfOk result (λ reaches.
+        AreReaches (dtd_of grammar.now) (map plain_token word.now) reaches) }
+    ensures fits { IfOk result (λ _. FitsVerdict (dtd_of grammar.now) (length word.now)) }
+    ensures wide { IfErr result (λ e. e ≡ too_wide →
+        ¬ FitsVerdict (dtd_of grammar.now) (length word.now)) }
+{
+    if !is_narrow(grammar.dtd(), word.len() as u64) {
+        return Err(ReachError::TooWide);
+    }
+    if grammar.dtd().columns() == 0 {
+        return Ok(no_reaches(alloc, grammar, word));
+    }
+    if let Some(plan) = plan {
+        let reaches = reaches_by(alloc, grammar, plan, word)?;
+        return Ok(reaches);
+    }
+    let plan = Plan::of(alloc, grammar)?;
+    let reaches = reaches_by(alloc, grammar, &plan, word)?;
+    Ok(reaches)
+}
+
 /// For each site and each place of a word of productive names the furthest place to which the site
 /// has a derivation.
 ///
@@ -119,13 +151,17 @@ pub fn furthest(alloc: Global, grammar: &Grammar, word: &[Token]) -> Result<Reac
     ensures wide { IfErr result (λ e. e ≡ too_wide →
         ¬ FitsVerdict (dtd_of grammar.now) (length word.now)) }
 {
-    if !is_narrow(grammar.dtd(), word.len() as u64) {
-        return Err(ReachError::TooWide);
-    }
-    if grammar.dtd().columns() == 0 {
-        return Ok(no_reaches(alloc, grammar, word));
-    }
-    let plan = Plan::of(alloc, grammar)?;
-    let reaches = reaches_by(alloc, grammar, plan, word)?;
-    Ok(reaches)
+    furthest_over(alloc, grammar, None, word)
+}
+
+/// The same by the plan of a grammar, where its rules are laid out.
+pub fn furthest_by(judge: &Judge<'_>, word: &[Token]) -> Result<Reaches, ReachError>
+    requires { AreProductiveTokens (dtd_of judge.now) (map plain_token word.now) }
+    ensures reaches { IfOk result (λ reaches.
+        AreReaches (dtd_of judge.now) (map plain_token word.now) reaches) }
+    ensures fits { IfOk result (λ _. FitsVerdict (dtd_of judge.now) (length word.now)) }
+    ensures wide { IfErr result (λ e. e ≡ too_wide →
+        ¬ FitsVerdict (dtd_of judge.now) (length word.now)) }
+{
+    furthest_over(judge.alloc(), judge.grammar(), judge.plan(), word)
 }

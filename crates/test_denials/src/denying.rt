@@ -5,9 +5,10 @@ ghost use Rattle.std.specs.Prelude.{◌≡◌, ◌<◌};
 use crate::calls::{PAIR, TURNED, Texts, grammar_of, judged};
 use pv_denial::{Denial, Judged};
 use pv_denial_text::write_denial;
-use pv_deny::{DenyError, denial_at, deny};
+use pv_deny::{DenyError, denial_at, denial_by, deny};
 use pv_fresh::{PossibleError, possible_verdicts};
 use pv_productive::Grammar;
+use pv_reach::{Judge, Plan};
 use pv_steps::Steps;
 use pv_tree::Doc;
 use std::alloc::Global;
@@ -139,8 +140,44 @@ fn is_denied_behind(alloc: Global, texts: Texts, text: &str) -> Result<bool, Fai
     is_text(alloc, &denial, text)
 }
 
+/// The same by the plan of the grammar.
+fn denied_by_plan<L: Ledger>(
+    alloc: Global,
+    grammar: &Grammar,
+    root: &[u8],
+    doc: &Doc,
+    blank: Blank,
+) -> Result<Denial, Fail>
+    requires name { blank.name ≡ L.name }
+    requires parts { blank.parts ≡ L.parts }
+    requires some { 0 < L.parts }
+{
+    let plan = Plan::of(alloc, grammar)?;
+    let judge = Judge::new(alloc, grammar, &plan);
+    let mut steps = Steps::<L>::start(blank);
+    match possible_verdicts(alloc, grammar, root, doc, &mut steps) {
+        Err(PossibleError::Impossible(path)) => Ok(denial_by(&judge, root, doc, path)?),
+        Err(PossibleError::TooWide(_path)) => Err(Fail::new("too wide")),
+        Err(PossibleError::NoMemory) => Err(Fail::new("no memory")),
+        Ok(_verdicts) => Err(Fail::new("possible")),
+    }
+}
+
+fn is_denied_by_plan(alloc: Global, texts: Texts, text: &str) -> Result<bool, Fail> {
+    let (dtd, root, doc) = texts;
+    let grammar = grammar_of(alloc, dtd)?;
+    let doc = document_of(alloc, doc, root)?;
+    let root = root.as_bytes();
+    let denial = denied_by_plan::<Brand>(alloc, &grammar, root, &doc, Blank::new(1))?;
+    is_text(alloc, &denial, text)
+}
+
 #[test]
 fn denied_behind_a_check(rt: HostRuntime) -> Result<(), Fail> {
     assert!(rt; is_denied_behind(rt.alloc(), TURNED, TURNED_TEXT)?);
+    assert!(rt;
+        is_denied_by_plan(rt.alloc(), TURNED, TURNED_TEXT)?,
+        "planned"
+    );
     Ok(())
 }

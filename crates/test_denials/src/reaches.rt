@@ -4,7 +4,7 @@ use crate::calls::{PAIR, grammar_of};
 use pv_missing::are_productive;
 use pv_model::{NameId, Token};
 use pv_productive::Grammar;
-use pv_reach::{Reaches, furthest};
+use pv_reach::{Judge, Plan, Reaches, furthest, furthest_by};
 use pv_rules::Site;
 use std::alloc::Global;
 use std::test::Fail;
@@ -14,6 +14,16 @@ fn reaches_over(alloc: Global, grammar: &Grammar, word: &[Token]) -> Result<Reac
         return Err(Fail::new("a name isn't productive"));
     }
     Ok(furthest(alloc, grammar, word)?)
+}
+
+/// The same by the plan of a grammar.
+fn planned_reaches(alloc: Global, grammar: &Grammar, word: &[Token]) -> Result<Reaches, Fail> {
+    if !are_productive(grammar, word) {
+        return Err(Fail::new("a name isn't productive"));
+    }
+    let plan = Plan::of(alloc, grammar)?;
+    let judge = Judge::new(alloc, grammar, &plan);
+    Ok(furthest_by(&judge, word)?)
 }
 
 /// The furthest place of a site from a place of a word.
@@ -26,6 +36,18 @@ fn end_of(
 ) -> Result<Option<u32>, Fail> {
     let grammar = grammar_of(alloc, dtd)?;
     Ok(reaches_over(alloc, &grammar, word)?.at(site, place))
+}
+
+/// The same by the plan of the grammar.
+fn planned_end(
+    alloc: Global,
+    dtd: &str,
+    word: &[Token],
+    site: Site,
+    place: u32,
+) -> Result<Option<u32>, Fail> {
+    let grammar = grammar_of(alloc, dtd)?;
+    Ok(planned_reaches(alloc, &grammar, word)?.at(site, place))
 }
 
 /// The pair the wrong way round.
@@ -52,6 +74,8 @@ fn furthest_places(rt: HostRuntime) -> Result<(), Fail> {
         for (place, end) in ends.iter().enumerate() {
             let found = end_of(rt.alloc(), PAIR, &TURNED, *site, place as u32)?;
             assert_eq!(rt; found, Some(*end), "{site:?} from {place}");
+            let planned = planned_end(rt.alloc(), PAIR, &TURNED, *site, place as u32)?;
+            assert_eq!(rt; planned, Some(*end), "{site:?} from {place}, planned");
         }
     }
     Ok(())

@@ -10,8 +10,8 @@ use test_fixture::dtds::{ARTICLE, NESTED};
 
 const ONE: &str = "<!ELEMENT a (b)><!ELEMENT b EMPTY>";
 
-// Documents, and the bodies and marks of their completions, of which there is one each.
-static COMPLETED: [(Texts, &str, &[u32]); 7] = [
+/// Documents, and the bodies and marks of their completions, of which there is one each.
+pub static COMPLETED: [(Texts, &str, &[u32]); 7] = [
     ((ONE, "a", "<a/>"), "<a><b></b></a>", &[1]),
     (
         (NESTED, "x", "<x><y/><y/><y/></x>"),
@@ -57,8 +57,8 @@ static COMPLETED: [(Texts, &str, &[u32]); 7] = [
     ),
 ];
 
-// A least completion of a document.
-fn completion_of(
+/// A least completion of a document.
+pub fn completion_of(
     alloc: Global,
     grammar: &Grammar,
     root: &str,

@@ -14,6 +14,7 @@ ghost use Rattle.pv_tree.specs.declared.nodes.Mark.{Mark};
 ghost use Rattle.pv_missing.specs.LiveWords.{AreProductiveTokens};
 ghost use Rattle.pv_missing.specs.Widths.{FitsWeights};
 ghost use Rattle.pv_missing.specs.Owners.{IsOwner};
+ghost use Rattle.pv_complete.specs.KnownWeights.{AreKnown};
 ghost use Rattle.pv_complete.specs.PlainForms.{made_of};
 ghost use Rattle.pv_tables.specs.Tables.{AreAllEntries};
 ghost use Rattle.pv_complete.specs.Tabling.{AreListEntries, MakesTables, StopsKids, StopsTables};
@@ -22,6 +23,7 @@ ghost use Rattle.pv_complete.specs.Tabling.{StopsWord};
 use crate::errors::NeedError;
 use crate::listings::entries::entries_of;
 use crate::listings::made::Made;
+use crate::missing::known::KnownWeights;
 use pv_missing::{Of, Verdicts, element_owner, live_word, root_owner};
 use pv_model::Token;
 use pv_span::{ColumnLayout, Entry, ListOwner, SpanError, is_known_owner, weights_by};
@@ -54,14 +56,46 @@ fn word_entries(
     }
 }
 
-/// The same of the live word of these kids.
+/// The same, where the word isn't weighed again if its table is known.
+fn known_entries(
+    alloc: Global,
+    owner: &ListOwner<'_>,
+    word: &[Token],
+    known: &KnownWeights,
+    places: &[u32],
+    room: u32,
+) -> Result<Vec<Entry>, NeedError>
+    requires known { AreKnown (dtd_of owner.now.layout.now.grammar.now) known.now }
+    requires productive { AreProductiveTokens (dtd_of owner.now.layout.now.grammar.now)
+        (map plain_token word.now) }
+    ensures entries { IfOk result (λ entries. AreAllEntries
+        (dtd_of owner.now.layout.now.grammar.now) (map plain_token word.now) entries.items) }
+    ensures few { IfOk result (λ entries. length entries.items ≤ room) }
+    ensures fits { OnOk result (FitsWeights (dtd_of owner.now.layout.now.grammar.now)
+        (length word.now)) }
+    ensures refused { IfErr result (StopsWord (dtd_of owner.now.layout.now.grammar.now)
+        (map plain_token word.now) places.now room) }
+{
+    let Some(entries) = known.table(owner.of, word) else {
+        return word_entries(alloc, owner, word, places, room);
+    };
+    if entries.len() > room as usize {
+        return Err(NeedError::TooMany);
+    }
+    let copy = Vec::from_slice(alloc, entries)?;
+    Ok(copy)
+}
+
+/// The entries of the live word of these kids.
 fn kids_entries(
     alloc: Global,
     owner: &ListOwner<'_>,
     kids: &[Node],
+    known: &KnownWeights,
     places: &[u32],
     room: u32,
 ) -> Result<Vec<Entry>, NeedError>
+    requires { AreKnown (dtd_of owner.now.layout.now.grammar.now) known.now }
     ensures entries { IfOk result (λ entries. AreListEntries
         (dtd_of owner.now.layout.now.grammar.now) (forest kids.now) entries.items) }
     ensures few { IfOk result (λ entries. length entries.items ≤ room) }
@@ -71,7 +105,7 @@ fn kids_entries(
         (forest kids.now) places.now room) }
 {
     let live = live_word(alloc, owner.layout.grammar, kids)?;
-    word_entries(alloc, owner, live.as_slice(), places, room)
+    known_entries(alloc, owner, live.as_slice(), known, places, room)
 }
 
 /// Adds the table of the list of these kids where it is Possible.
@@ -81,8 +115,10 @@ fn table_list(
     owner: Option<Of>,
     kids: &[Node],
     verdicts: &Verdicts,
+    known: &KnownWeights,
     made: &mut Made,
 ) -> Result<(), NeedError>
+    requires { AreKnown (dtd_of layout.now.grammar.now) known.now }
     ensures tabled { OnOk result ((root : List ℕ) (list : Listed Mark) →
         list.kids ≡ forest kids.now →
         list.path ≡ made.old.load.places.items → IsOwner (dtd_of layout.now.grammar.now) root list
@@ -105,7 +141,7 @@ fn table_list(
         return Ok(());
     }
     let owner = ListOwner { layout, of };
-    let entries = kids_entries(alloc, &owner, kids, &made.load.places, made.room)?;
+    let entries = kids_entries(alloc, &owner, kids, known, &made.load.places, made.room)?;
     made.add(alloc, entries)?;
     Ok(())
 }
@@ -117,9 +153,11 @@ fn table_node(
     layout: &ColumnLayout<'_>,
     node: &Node,
     verdicts: &Verdicts,
+    known: &KnownWeights,
     made: &mut Made,
 ) -> Result<(), NeedError>
-    requires { nodes_in (plain node.now) ≤ MAX_NODES }
+    requires known { AreKnown (dtd_of layout.now.grammar.now) known.now }
+    requires few { nodes_in (plain node.now) ≤ MAX_NODES }
     ensures tabled { OnOk result ((root : List ℕ) → MakesTables (dtd_of layout.now.grammar.now) root
         (lists_at made.old.load.places.items (plain node.now))
         verdicts.now.verdicts
@@ -132,8 +170,8 @@ fn table_node(
     match node {
         Node::Elem { name, kids, .. } => {
             let owner = element_owner(layout.grammar.dtd(), name.as_slice());
-            table_list(alloc, layout, owner, kids, verdicts, made)?;
-            table_kids(alloc, layout, kids, verdicts, made)
+            table_list(alloc, layout, owner, kids, verdicts, known, made)?;
+            table_kids(alloc, layout, kids, verdicts, known, made)
         }
         Node::Text(_) => Ok(()),
         Node::Cdata(_) => Ok(()),
@@ -148,9 +186,11 @@ fn table_kids(
     layout: &ColumnLayout<'_>,
     kids: &[Node],
     verdicts: &Verdicts,
+    known: &KnownWeights,
     made: &mut Made,
 ) -> Result<(), NeedError>
-    requires { nodes_in_all (forest kids.now) ≤ MAX_NODES }
+    requires known { AreKnown (dtd_of layout.now.grammar.now) known.now }
+    requires few { nodes_in_all (forest kids.now) ≤ MAX_NODES }
     ensures tabled { OnOk result ((root : List ℕ) → MakesTables (dtd_of layout.now.grammar.now) root
         (lists_from made.old.load.places.items 0 (forest kids.now))
         verdicts.now.verdicts
@@ -163,22 +203,24 @@ fn table_kids(
 {
     for (i, kid) in kids.iter().enumerate() {
         made.load.enter(i as u32)?;
-        table_node(alloc, layout, kid, verdicts, made)?;
+        table_node(alloc, layout, kid, verdicts, known, made)?;
         made.load.places.pop();
     }
     Ok(())
 }
 
-/// Adds the tables of the Possible lists of a document to nothing.
+/// Adds the tables of the Possible lists of a document to nothing. Those that are known are copied.
 pub fn table_doc(
     alloc: Global,
     layout: &ColumnLayout<'_>,
     root: &[u8],
     doc: &Doc,
     verdicts: &Verdicts,
+    known: &KnownWeights,
     made: &mut Made,
 ) -> Result<(), NeedError>
-    requires { made.old.load.places.items ≡ [] }
+    requires known { AreKnown (dtd_of layout.now.grammar.now) known.now }
+    requires places { made.old.load.places.items ≡ [] }
     ensures tabled { OnOk result (MakesTables (dtd_of layout.now.grammar.now) root.now
         (lists_of (plain_doc doc.now)) verdicts.now.verdicts
         (made_of made.old) (made_of made.new)) }
@@ -187,7 +229,7 @@ pub fn table_doc(
 {
     let owner = root_owner(layout.grammar.dtd(), root);
     let kids = std::slice::from_ref(&doc.root);
-    table_list(alloc, layout, owner, kids, verdicts, made)?;
+    table_list(alloc, layout, owner, kids, verdicts, known, made)?;
     made.load.enter(0)?;
-    table_node(alloc, layout, &doc.root, verdicts, made)
+    table_node(alloc, layout, &doc.root, verdicts, known, made)
 }

@@ -1,9 +1,12 @@
-//! Weights that are remembered, by owner and word.
+//! Weights that are remembered, by owner and word, and what completions are made from beside them.
 
 ghost use Rattle.std.specs.Prelude.{◌≡◌, IsTrue};
 
+use crate::words::pieces::Piece;
+use pv_chars::List;
 use pv_missing::Of;
 use pv_model::Token;
+use pv_span::{Entries, Entry};
 use pv_tree::Tokens;
 use std::alloc::Global;
 
@@ -19,23 +22,32 @@ const LOOKS: usize = 32;
 /// The number of no entry.
 const NO_ENTRY: u32 = u32::MAX;
 
-/// The most bytes that the entries and their words take.
+/// The most bytes that entries without pieces take, with their words.
 const MOST_BYTES: usize = 16_000_000;
 
-/// The bytes that an entry takes beside its tokens: its own, as many in reserve, and what the
-/// allocator takes for its word.
-const ENTRY_BYTES: usize = 128;
+/// The most bytes that entries with pieces take, with these and their words.
+const MOST_PIECE_BYTES: usize = 64_000_000;
 
-/// The bytes of a token.
+/// The most entries of tables that are kept; each takes 20 bytes.
+const MOST_TABLE_ENTRIES: u32 = 4_194_304;
+
+/// The bytes that an entry takes beside its tokens, pieces and table: its own, as many in reserve,
+/// and what the allocator takes for its word.
+const ENTRY_BYTES: usize = 256;
+
+/// The bytes of a token, and of a piece.
 const TOKEN_BYTES: usize = 8;
 
-/// What a word weighs by its owner. The entry of the same slot that was made before is told by its
-/// number.
+/// What a word weighs by its owner, and where they are kept the pieces of a completion with as many
+/// new elements, and the entries of its table. The entry of the same slot that was made before is
+/// told by its number.
 #[derive(Drop)]
 pub struct KnownWeight {
     pub of: Of,
     pub word: Tokens,
     pub weight: u32,
+    pub pieces: Option<List<Piece>>,
+    pub table: Option<Entries>,
     next: u32,
 }
 
@@ -44,8 +56,13 @@ pub struct KnownWeight {
 #[derive(Drop)]
 pub struct KnownWeights {
     pub entries: Vec<KnownWeight>,
+    /// Whether pieces are kept beside the weights.
+    pub keeps_pieces: bool,
+    /// How many entries of tables more may be kept.
+    pub table_room: u32,
     slots: Vec<u32>,
     held: usize,
+    most: usize,
 }
 
 fn mix_in(hash: u32, number: u32) -> u32 {
@@ -100,6 +117,24 @@ fn is_same(of: Of, other: Of) -> bool
     of == other
 }
 
+/// The bytes that an entry of a word takes.
+fn bytes_for(word: &[Token], pieces: &Option<List<Piece>>) -> usize {
+    let more = match pieces {
+        Some(pieces) => pieces.as_slice().len(),
+        None => 0,
+    };
+    let count = usize::saturating_add(word.len(), more);
+    usize::saturating_add(usize::saturating_mul(count, TOKEN_BYTES), ENTRY_BYTES)
+}
+
+/// How many entries a table has, if it is kept.
+fn entries_in(table: &Option<Entries>) -> u32 {
+    match table {
+        Some(table) => u32::try_from(table.as_slice().len()).unwrap_or(u32::MAX),
+        None => 0,
+    }
+}
+
 /// The number of the last entry of a slot.
 fn first_of(slots: &[u32], slot: usize) -> u32 {
     match slots.get(slot) {
@@ -109,7 +144,7 @@ fn first_of(slots: &[u32], slot: usize) -> u32 {
 }
 
 impl KnownWeight {
-    ghost use Rattle.std.specs.Prelude.{◌≡◌, IsTrue};
+    ghost use Rattle.std.specs.Prelude.{◌≡◌, IfSome, IsTrue, Some};
 
     /// Whether this is the weight of a word by its owner.
     fn is_of(&self, of: Of, word: &[Token]) -> bool
@@ -117,24 +152,92 @@ impl KnownWeight {
     {
         is_same(self.of, of) && are_same(self.word.as_slice(), word)
     }
+
+    /// The pieces, where they are kept.
+    fn as_pieces(&self) -> Option<&[Piece]>
+        ensures { IfSome result (λ pieces. self.now.pieces ≡ Some pieces.now) }
+    {
+        match &self.pieces {
+            Some(pieces) => Some(pieces.as_slice()),
+            None => None,
+        }
+    }
+
+    /// The entries of the table, where they are kept.
+    fn as_entries(&self) -> Option<&[Entry]>
+        ensures { IfSome result (λ entries. self.now.table ≡ Some entries.now) }
+    {
+        match &self.table {
+            Some(entries) => Some(entries.as_slice()),
+            None => None,
+        }
+    }
 }
 
 impl KnownWeights {
-    ghost use Rattle.std.specs.Prelude.{IfSome, map};
+    ghost use Rattle.std.specs.Prelude.{IfSome, ℕ, length, map};
     ghost use Rattle.pv_dtd.specs.Plain.{PlainDtd};
     ghost use Rattle.pv_model.specs.PlainForms.{plain_token};
     ghost use Rattle.pv_missing.specs.PlainForms.{plain_of};
-    ghost use Rattle.pv_complete.specs.KnownWeights.{AreKnown, IsWordWeight};
+    ghost use Rattle.pv_missing.specs.Weighing.{whole};
+    ghost use Rattle.pv_missing.specs.Widths.{FitsWeights};
+    ghost use Rattle.pv_rules.specs.Derivations.{IsWeight};
+    ghost use Rattle.pv_rules.specs.Rules.{Rule};
+    ghost use Rattle.pv_tables.specs.Tables.{AreAllEntries};
+    ghost use Rattle.pv_complete.specs.KnownWeights.{AreKnown, IsWeighedWord, IsWordWeight};
+    ghost use Rattle.pv_complete.specs.PieceForms.{plain_pieces};
+    ghost use Rattle.pv_complete.specs.Pieces.{WritesAt};
 
-    /// No weight is known.
-    pub fn none(alloc: Global) -> KnownWeights
+    /// No weight is known. Of what is kept beside weights there may be so much.
+    fn keeping(alloc: Global, keeps_pieces: bool, table_room: u32, most: usize) -> KnownWeights
         ensures { (g : PlainDtd) → AreKnown g result }
     {
         KnownWeights {
             entries: Vec::new(alloc),
+            keeps_pieces,
+            table_room,
             slots: Vec::new(alloc),
             held: 0,
+            most,
         }
+    }
+
+    /// No weight is known, and nothing is kept beside those that will be.
+    pub fn none(alloc: Global) -> KnownWeights
+        ensures { (g : PlainDtd) → AreKnown g result }
+    {
+        KnownWeights::keeping(alloc, false, 0, MOST_BYTES)
+    }
+
+    /// The same, and pieces are kept.
+    pub fn with_pieces(alloc: Global) -> KnownWeights
+        ensures { (g : PlainDtd) → AreKnown g result }
+    {
+        KnownWeights::keeping(alloc, true, 0, MOST_PIECE_BYTES)
+    }
+
+    /// The same, and pieces and tables are kept.
+    pub fn with_tables(alloc: Global) -> KnownWeights
+        ensures { (g : PlainDtd) → AreKnown g result }
+    {
+        KnownWeights::keeping(alloc, true, MOST_TABLE_ENTRIES, MOST_PIECE_BYTES)
+    }
+
+    /// The entry of an owner and a word, where there is one.
+    fn entry(&self, of: Of, word: &[Token]) -> Option<&KnownWeight>
+        ensures { IfSome result (λ entry. (g : PlainDtd) → AreKnown g self.now →
+            IsWeighedWord g (plain_of of) (map plain_token word.now) entry.now.weight
+            entry.now.pieces entry.now.table) }
+    {
+        let mut at = *self.slots.get(slot_of(of, word))?;
+        for _look in 0..LOOKS {
+            let entry = self.entries.get(at as usize)?;
+            if entry.is_of(of, word) {
+                return Some(entry);
+            }
+            at = entry.next;
+        }
+        None
     }
 
     /// What a word weighs by its owner, where it is known.
@@ -142,15 +245,35 @@ impl KnownWeights {
         ensures { IfSome result (λ weight. (g : PlainDtd) → AreKnown g self.now →
             IsWordWeight g (plain_of of) (map plain_token word.now) weight) }
     {
-        let mut at = *self.slots.get(slot_of(of, word))?;
-        for _look in 0..LOOKS {
-            let entry = self.entries.get(at as usize)?;
-            if entry.is_of(of, word) {
-                return Some(entry.weight);
-            }
-            at = entry.next;
+        match self.entry(of, word) {
+            Some(entry) => Some(entry.weight),
+            None => None,
         }
-        None
+    }
+
+    /// The pieces of a completion of a word by its owner, where they are kept.
+    pub fn pieces(&self, of: Of, word: &[Token]) -> Option<&[Piece]>
+        ensures { IfSome result (λ pieces. (g : PlainDtd) → AreKnown g self.now → (n : ℕ) ×
+            IsWeight (Rule g (map plain_token word.now))
+            (whole (plain_of of) (map plain_token word.now)) n ×
+            WritesAt g (plain_of of) n (map plain_token word.now) (plain_pieces pieces.now)) }
+    {
+        match self.entry(of, word) {
+            Some(entry) => entry.as_pieces(),
+            None => None,
+        }
+    }
+
+    /// The entries of a word's table, where they are kept with its weight by this owner.
+    pub fn table(&self, of: Of, word: &[Token]) -> Option<&[Entry]>
+        ensures { IfSome result (λ entries. (g : PlainDtd) → AreKnown g self.now →
+            AreAllEntries g (map plain_token word.now) entries.now ×
+            FitsWeights g (length (map plain_token word.now))) }
+    {
+        match self.entry(of, word) {
+            Some(entry) => entry.as_entries(),
+            None => None,
+        }
     }
 
     /// Forgets all weights.
@@ -166,7 +289,7 @@ impl KnownWeights {
     fn forget_if_full(&mut self, bytes: usize)
         ensures { (g : PlainDtd) → AreKnown g self.old → AreKnown g self.new }
     {
-        if usize::saturating_add(self.held, bytes) <= MOST_BYTES {
+        if usize::saturating_add(self.held, bytes) <= self.most {
             return;
         }
         self.forget();
@@ -188,33 +311,45 @@ impl KnownWeights {
 
     /// Adds an entry, and tells whether there is memory for it.
     fn add(&mut self, entry: KnownWeight) -> bool
-        ensures { (g : PlainDtd) → AreKnown g self.old → IsWordWeight g (plain_of entry.of)
-            (map plain_token entry.word) entry.weight → AreKnown g self.new }
+        ensures { (g : PlainDtd) → AreKnown g self.old → IsWeighedWord g (plain_of entry.of)
+            (map plain_token entry.word) entry.weight entry.pieces entry.table →
+            AreKnown g self.new }
     {
         self.entries.push(entry).is_ok()
     }
 
-    /// Makes a slot lead to an entry of so many bytes.
-    fn lead(&mut self, slot: usize, number: usize, bytes: usize)
+    /// Makes a slot lead to an entry of so many bytes, with so many entries of a table.
+    fn lead(&mut self, slot: usize, number: usize, bytes: usize, taken: u32)
         ensures { self.new.entries ≡ self.old.entries }
     {
         self.held = usize::saturating_add(self.held, bytes);
+        self.table_room = u32::saturating_sub(self.table_room, taken);
         if let Some(first) = self.slots.get_mut(slot) {
             *first = u32::try_from(number).unwrap_or(NO_ENTRY);
         }
     }
 
-    /// Remembers what a word weighs by its owner, as far as there is memory for it.
-    pub fn keep(&mut self, alloc: Global, of: Of, word: Tokens, weight: u32)
+    /// Remembers what a word weighs by its owner, with these pieces and this table, as far as there
+    /// is memory for it.
+    pub fn keep(
+        &mut self,
+        alloc: Global,
+        of: Of,
+        word: Tokens,
+        weight: u32,
+        pieces: Option<List<Piece>>,
+        table: Option<Entries>,
+    )
         ensures { (g : PlainDtd) → AreKnown g self.old →
-            IsWordWeight g (plain_of of) (map plain_token word) weight → AreKnown g self.new }
+            IsWeighedWord g (plain_of of) (map plain_token word) weight pieces table →
+            AreKnown g self.new }
     {
-        let bytes = usize::saturating_mul(word.as_slice().len(), TOKEN_BYTES);
-        let bytes = usize::saturating_add(bytes, ENTRY_BYTES);
+        let bytes = bytes_for(word.as_slice(), &pieces);
         if !self.has_slots(alloc) {
             return;
         }
         self.forget_if_full(bytes);
+        let taken = entries_in(&table);
         let slot = slot_of(of, word.as_slice());
         let number = self.entries.len();
         let next = first_of(&self.slots, slot);
@@ -222,11 +357,13 @@ impl KnownWeights {
             of,
             word,
             weight,
+            pieces,
+            table,
             next,
         };
         if !self.add(entry) {
             return;
         }
-        self.lead(slot, number, bytes);
+        self.lead(slot, number, bytes, taken);
     }
 }

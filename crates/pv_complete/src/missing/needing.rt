@@ -1,10 +1,8 @@
 //! The least number of missing elements of a document.
 
-ghost use Rattle.std.specs.Prelude.{◌≡◌, ◌<◌, ℕ, IfErr, IfOk, OnOk};
+ghost use Rattle.std.specs.Prelude.{◌≡◌, ◌<◌, IfErr, IfOk};
 ghost use Rattle.pv_productive.specs.PlainForms.{dtd_of};
-ghost use Rattle.pv_tree.specs.Lists.{lists_of};
 ghost use Rattle.pv_tree.specs.PlainDocs.{plain_doc};
-ghost use Rattle.pv_missing.specs.Verdicts.{AreVerdicts};
 ghost use Rattle.pv_complete.specs.KnownWeights.{AreKnown};
 ghost use Rattle.pv_complete.specs.Needing.{AreLiveVerdicts, HasCause, Needs, WeighsIn};
 
@@ -135,26 +133,6 @@ pub fn need_by(
     let layout = lay_out(alloc, grammar)?;
     let mut known = KnownWeights::none(alloc);
     need_under(alloc, &layout, root, doc, verdicts, &mut known)
-}
-
-/// The verdicts of the lists of a document that misses at most 1,000,000 elements.
-pub fn light_verdicts(
-    alloc: Global,
-    layout: &ColumnLayout<'_>,
-    root: &[u8],
-    doc: &Doc,
-) -> Result<Verdicts, NeedError>
-    ensures verdicts { IfOk result (λ verdicts. AreVerdicts (dtd_of layout.now.grammar.now) root.now
-        (lists_of (plain_doc doc.now)) verdicts.verdicts) }
-    ensures light { OnOk result ((n : ℕ) × Needs (dtd_of layout.now.grammar.now)
-        root.now (plain_doc doc.now) n) }
-    ensures refused { IfErr result (HasCause (dtd_of layout.now.grammar.now) root.now
-        (plain_doc doc.now)) }
-{
-    let verdicts = uncounted_verdicts::<Brand>(alloc, layout.grammar, root, doc, Blank::new(1))?;
-    let mut known = KnownWeights::none(alloc);
-    need_under(alloc, layout, root, doc, &verdicts, &mut known)?;
-    Ok(verdicts)
 }
 
 /// The least number of elements whose insertion makes a document valid: finds the verdicts of its

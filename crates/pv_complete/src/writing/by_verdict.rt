@@ -16,11 +16,13 @@ ghost use Rattle.pv_missing.specs.Verdicts.{AreVerdicts};
 ghost use Rattle.pv_missing.specs.Weighing.{whole};
 ghost use Rattle.pv_missing.specs.Widths.{FitsWeights};
 ghost use Rattle.pv_missing.specs.Owners.{IsOwner};
+ghost use Rattle.pv_complete.specs.KnownWeights.{AreKnown};
 ghost use Rattle.pv_complete.specs.PieceForms.{plain_pieces};
 ghost use Rattle.pv_complete.specs.Pieces.{WritesAt};
 ghost use Rattle.pv_complete.specs.Written.{AreListPieces, AreNotImpossible, HasNextList};
 ghost use Rattle.pv_complete.specs.Written.{SuitsWord, kept_times};
 
+use crate::missing::known::KnownWeights;
 use crate::words::completing::list_pieces;
 use crate::words::pieces::Piece;
 use crate::writing::text::Writing;
@@ -42,12 +44,14 @@ fn kept_pieces(alloc: Global, count: usize) -> Result<Vec<Piece>, NoMemory>
     Ok(pieces)
 }
 
-// The pieces of a least completion of a word.
+// The pieces of a least completion of a word, put together unless they are known.
 fn least_pieces(
     alloc: Global,
     owner: &ListOwner<'_>,
     word: &[Token],
+    known: &KnownWeights,
 ) -> Result<Vec<Piece>, NoMemory>
+    requires known { AreKnown (dtd_of owner.now.layout.now.grammar.now) known.now }
     requires productive { AreProductiveTokens (dtd_of owner.now.layout.now.grammar.now)
         (map plain_token word.now) }
     requires fits { FitsWeights (dtd_of owner.now.layout.now.grammar.now) (length word.now) }
@@ -60,6 +64,9 @@ fn least_pieces(
         WritesAt (dtd_of owner.now.layout.now.grammar.now) (plain_of owner.now.of) n
         (map plain_token word.now) (plain_pieces pieces.items)) }
 {
+    if let Some(pieces) = known.pieces(owner.of, word) {
+        return Ok(Vec::from_slice(alloc, pieces)?);
+    }
     match list_pieces(alloc, owner, word) {
         Ok(Some(pieces)) => Ok(pieces),
         Ok(None) => unreachable!(),
@@ -76,8 +83,10 @@ pub fn take_pieces(
     owner: Option<Of>,
     kids: &[Node],
     verdicts: &Verdicts,
+    known: &KnownWeights,
     out: &mut Writing,
 ) -> Result<Vec<Piece>, NoMemory>
+    requires known { AreKnown (dtd_of layout.now.grammar.now) known.now }
     requires possible { AreNotImpossible verdicts.now.verdicts }
     requires next { ∥ HasNextList (dtd_of layout.now.grammar.now) owner (forest kids.now)
         verdicts.now.verdicts out.old.used ∥₁ }
@@ -100,7 +109,7 @@ pub fn take_pieces(
     };
     let live = live_word(alloc, layout.grammar, kids)?;
     if possible {
-        least_pieces(alloc, &ListOwner { layout, of }, live.as_slice())
+        least_pieces(alloc, &ListOwner { layout, of }, live.as_slice(), known)
     } else {
         kept_pieces(alloc, live.as_slice().len())
     }

@@ -6,6 +6,7 @@ ghost use Rattle.pv_tree.specs.PlainDocs.{plain_doc};
 ghost use Rattle.pv_tree.specs.Prolog.{IsProlog};
 ghost use Rattle.pv_complete.specs.Completing.{IsLeastCompletion};
 ghost use Rattle.pv_complete.specs.Growing.{IsBounded, IsGrownText};
+ghost use Rattle.pv_complete.specs.KnownWeights.{AreKnown};
 ghost use Rattle.pv_complete.specs.Needing.{AreLiveVerdicts, HasCause, HasVerdicts, Needs};
 ghost use Rattle.pv_complete.specs.declared.errors.NeedError.TheVariants.{NoMemory as no_memory};
 
@@ -14,7 +15,7 @@ use crate::missing::known::KnownWeights;
 use crate::missing::needing::{need_under, uncounted_verdicts};
 use crate::writing::text::numbers_of;
 use crate::writing::walk::write_doc;
-use pv_chars::{Bytes, Numbers};
+use pv_chars::{Bytes, NoMemory, Numbers};
 use pv_dtd::laws::proper_dtd_law;
 use pv_missing::Verdicts;
 use pv_missing::laws::documents::{
@@ -23,7 +24,7 @@ use pv_missing::laws::documents::{
 use pv_missing::laws::lists::weight_is_least_law;
 use pv_missing::laws::proper::proper_doc_law;
 use pv_productive::Grammar;
-use pv_span::lay_out;
+use pv_span::{ColumnLayout, lay_out};
 use pv_tables::laws::{live_weight_law, possible_weights_law};
 use pv_tree::{Doc, Mark};
 use pv_write::laws::every_view_is_written_law;
@@ -97,6 +98,40 @@ pub fn complete_by(
         (plain_doc doc.now) verdicts.now.verdicts →
         HasCause (dtd_of grammar.now) root.now (plain_doc doc.now) error) }
 {
+    let layout = lay_out(alloc, grammar)?;
+    let mut known = KnownWeights::with_pieces(alloc);
+    let count = need_under(alloc, &layout, root, doc, verdicts, &mut known)?;
+    let completion = completion_under(alloc, &layout, root, doc, verdicts, &known, count)?;
+    Ok(completion)
+}
+
+/// A least completion of a document that misses so many elements, under a grammar that is laid out,
+/// by the verdicts of its lists. Pieces that are known aren't put together again.
+pub(crate) fn completion_under(
+    alloc: Global,
+    layout: &ColumnLayout<'_>,
+    root: &[u8],
+    doc: &Doc,
+    verdicts: &Verdicts,
+    known: &KnownWeights,
+    count: u64,
+) -> Result<Completion, NoMemory>
+    requires known { AreKnown (dtd_of layout.now.grammar.now) known.now }
+    requires names { IsProlog root.now (plain_doc doc.now).before }
+    requires verdicts { ∥ AreLiveVerdicts (dtd_of layout.now.grammar.now) root.now
+        (plain_doc doc.now) verdicts.now.verdicts ∥₁ }
+    requires needs { AreLiveVerdicts (dtd_of layout.now.grammar.now) root.now (plain_doc doc.now)
+        verdicts.now.verdicts →
+        Needs (dtd_of layout.now.grammar.now) root.now (plain_doc doc.now) count }
+    ensures completed { IfOk result (λ c. AreLiveVerdicts (dtd_of layout.now.grammar.now) root.now
+        (plain_doc doc.now) verdicts.now.verdicts →
+        IsLeastCompletion (dtd_of layout.now.grammar.now) root.now (plain_doc doc.now) c.count
+        c.marks c.body) }
+    ensures written { IfOk result (λ c. AreLiveVerdicts (dtd_of layout.now.grammar.now) root.now
+        (plain_doc doc.now) verdicts.now.verdicts → IsGrownText (plain_doc doc.now) c.body) }
+    ensures bounded { IfOk result (λ c. AreLiveVerdicts (dtd_of layout.now.grammar.now) root.now
+        (plain_doc doc.now) verdicts.now.verdicts → IsBounded (plain_doc doc.now) c.count c.body) }
+{
     every_view_is_written_law();
     tags_extend_law();
     possible_weights_law::<Mark>();
@@ -104,12 +139,9 @@ pub fn complete_by(
     weight_is_least_law::<Mark>();
     bounds_add_up_law::<Mark>();
     locality_law::<Mark>();
-    proper_dtd_law(grammar.dtd());
+    proper_dtd_law(layout.grammar.dtd());
     proper_doc_law(doc);
-    let layout = lay_out(alloc, grammar)?;
-    let mut known = KnownWeights::none(alloc);
-    let count = need_under(alloc, &layout, root, doc, verdicts, &mut known)?;
-    let text = write_doc(alloc, &layout, root, doc, verdicts)?;
+    let text = write_doc(alloc, layout, root, doc, verdicts, known)?;
     let marks = numbers_of(alloc, text.marks.as_slice())?;
     Ok(Completion {
         count,

@@ -8,12 +8,14 @@ ghost use Rattle.pv_tree.specs.PlainForms.{forest, plain};
 ghost use Rattle.pv_tree.specs.Words.{word_of};
 ghost use Rattle.pv_tree.specs.declared.nodes.Mark.{Mark};
 ghost use Rattle.pv_missing.specs.Verdicts.{AreVerdicts};
+ghost use Rattle.pv_complete.specs.KnownWeights.{AreKnown};
 ghost use Rattle.pv_complete.specs.PieceForms.{plain_pieces};
 ghost use Rattle.pv_complete.specs.Written.{AreLightVerdicts, AreNotImpossible, HasNextKids};
 ghost use Rattle.pv_complete.specs.Written.{HasNextTree, SuitsWord};
 ghost use Rattle.pv_complete.specs.Written.{WritesDoc, WritesList, WritesTree};
 ghost use Rattle.pv_complete.specs.WritingForms.{writing_of};
 
+use crate::missing::known::KnownWeights;
 use crate::words::pieces::Piece;
 use crate::writing::by_verdict::take_pieces;
 use crate::writing::tags::{gap_of, has_token, is_bare, write_tags};
@@ -31,8 +33,10 @@ fn write_node(
     layout: &ColumnLayout<'_>,
     node: &Node,
     verdicts: &Verdicts,
+    known: &KnownWeights,
     out: &mut Writing,
 ) -> Result<(), NoMemory>
+    requires known { AreKnown (dtd_of layout.now.grammar.now) known.now }
     requires possible { AreNotImpossible verdicts.now.verdicts }
     requires next { ∥ HasNextTree (dtd_of layout.now.grammar.now) (plain node.now)
         verdicts.now.verdicts out.old.used ∥₁ }
@@ -51,12 +55,12 @@ fn write_node(
             ..
         } => {
             let owner = element_owner(layout.grammar.dtd(), name.as_slice());
-            let pieces = take_pieces(alloc, layout, owner, kids, verdicts, out)?;
+            let pieces = take_pieces(alloc, layout, owner, kids, verdicts, known, out)?;
             if is_bare(end, kids, pieces.as_slice()) {
                 return out.start_old(name.as_slice(), attrs.as_slice(), b"/>");
             }
             out.start_old(name.as_slice(), attrs.as_slice(), b">")?;
-            write_list(alloc, layout, pieces.as_slice(), kids, verdicts, out)?;
+            write_list(alloc, layout, pieces.as_slice(), kids, verdicts, known, out)?;
             out.end_old(name.as_slice(), gap_of(end))
         }
         Node::Text(units) => out.bytes(units.bytes()),
@@ -73,8 +77,10 @@ pub fn write_list(
     pieces: &[Piece],
     kids: &[Node],
     verdicts: &Verdicts,
+    known: &KnownWeights,
     out: &mut Writing,
 ) -> Result<(), NoMemory>
+    requires known { AreKnown (dtd_of layout.now.grammar.now) known.now }
     requires possible { AreNotImpossible verdicts.now.verdicts }
     requires next { ∥ HasNextKids (dtd_of layout.now.grammar.now) (forest kids.now)
         verdicts.now.verdicts out.old.used ∥₁ }
@@ -90,7 +96,7 @@ pub fn write_list(
     let mut next = 0;
     for kid in kids {
         next = write_tags(layout.grammar, pieces, next, out)?;
-        write_node(alloc, layout, kid, verdicts, out)?;
+        write_node(alloc, layout, kid, verdicts, known, out)?;
         if has_token(kid) {
             next += 1;
         }
@@ -106,7 +112,9 @@ pub fn write_doc(
     root: &[u8],
     doc: &Doc,
     verdicts: &Verdicts,
+    known: &KnownWeights,
 ) -> Result<Writing, NoMemory>
+    requires known { AreKnown (dtd_of layout.now.grammar.now) known.now }
     requires possible { AreNotImpossible verdicts.now.verdicts }
     requires verdicts { ∥ AreLightVerdicts (dtd_of layout.now.grammar.now) root.now
         (plain_doc doc.now) verdicts.now.verdicts ∥₁ }
@@ -118,9 +126,17 @@ pub fn write_doc(
     let mut out = Writing::new(alloc);
     let owner = root_owner(layout.grammar.dtd(), root);
     let kids = std::slice::from_ref(&doc.root);
-    let pieces = take_pieces(alloc, layout, owner, kids, verdicts, &mut out)?;
+    let pieces = take_pieces(alloc, layout, owner, kids, verdicts, known, &mut out)?;
     out.bytes(doc.before.as_slice())?;
-    write_list(alloc, layout, pieces.as_slice(), kids, verdicts, &mut out)?;
+    write_list(
+        alloc,
+        layout,
+        pieces.as_slice(),
+        kids,
+        verdicts,
+        known,
+        &mut out,
+    )?;
     out.bytes(doc.after.as_slice())?;
     Ok(out)
 }

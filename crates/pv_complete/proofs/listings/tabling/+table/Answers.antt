@@ -26,7 +26,7 @@ pub table_kids-table_node-requires : goal.table_kids-table_node-requires
 table_kids-table_node-requires t c = (
   omega (arith, ap nodes_in_all (forest-drop c.args.kids.now c.loop-i.i c.index-kids-i.result (omega arith) c.index-kids-i.is), c.loop-i.invariant.few_nodes, c.decreases),
   (let step = forest-drop c.args.kids.now c.loop-i.i c.index-kids-i.result (omega arith) c.index-kids-i.is in
-      omega (arith, ap nodes_in_all step, c.loop-i.invariant.few_nodes, c.requires)),
+      (c.requires.known, omega (arith, ap nodes_in_all step, c.loop-i.invariant.few_nodes, c.requires.few))),
 )
 
 pub table_kids-returns-in_err-table_node-clause-refused : goal.table_kids-returns-in_err-table_node-clause-refused

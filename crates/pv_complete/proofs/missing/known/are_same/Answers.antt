@@ -1,4 +1,4 @@
-use Rattle.std.proofs.Common.{Some, ap, arith, inl, inr, slice_get, sym, ◌<◌, ◌∙◌, ◌≡◌}
+use Rattle.std.proofs.Common.{Some, ap, arith, inl, inr, sym, ◌∙◌, ◌≡◌}
 use Rattle.std.proofs.lemmas.Bool.{cases_lt}
 use Rattle.std.proofs.lemmas.Option.{slice_get-get_or}
 use Rattle.pv_complete.proofs.KeptWeights.{same_elements}

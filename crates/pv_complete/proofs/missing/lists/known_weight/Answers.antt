@@ -15,6 +15,10 @@ pub returns-in-Ok-clause-known : goal.returns-in-Ok-clause-known
 returns-in-Ok-clause-known c =
     let n : length c.args.word ≡ length (map plain_token c.args.word) = simp length-map in
     c.keep.ensures (dtd_of c.args.owner.now.layout.now.grammar.now) c.requires.known (record {
-      weight = rw c.as_slice-2.ensures at c.in-Ok.ensures.weight;
-      fits = rw (c.as_slice-2.ensures, n) at c.in-Ok.ensures.fits;
+      weighs = record {
+        weight = rw c.as_slice-2.ensures at c.in-Ok.ensures.weight;
+        fits = rw (c.as_slice-2.ensures, n) at c.in-Ok.ensures.fits;
+      };
+      writes = rw c.as_slice-2.ensures at c.in-Ok.ensures.pieces;
+      lists = rw c.as_slice-2.ensures at c.in-Ok.ensures.table;
     })

@@ -50,7 +50,7 @@ write_node-write_list-requires t c =
     (λ root path more are. c.in_ok-pieces-in-Elem.ensures.pieces root (record { path = path; owner = an_element x; kids = kids }) (lists_from path 0 kids ++ more) (rw c.deref.ensures.value refl) owner are)) in
     let suits = rw c.deref.ensures.value at c.in_ok-pieces-in-Elem.ensures.suits in (
       rw c.deref-in-Elem-2.ensures.value (omega (arith, ap nodes_in is, c.decreases)),
-      (c.requires.possible, (rw (c.deref-in-Elem-2.ensures.value, c.start_old-in-Elem.ensures.used) next, rw (c.as_slice-in-Elem-4.ensures.value, c.deref-in-Elem-2.ensures.value) suits)),
+      (c.requires.known, (c.requires.possible, (rw (c.deref-in-Elem-2.ensures.value, c.start_old-in-Elem.ensures.used) next, rw (c.as_slice-in-Elem-4.ensures.value, c.deref-in-Elem-2.ensures.value) suits))),
     )
 
 pub write_list-write_node-requires : goal.write_list-write_node-requires
@@ -64,7 +64,7 @@ write_list-write_node-requires t c =
     next_kid d c.args.verdicts.now.verdicts (forest c.args.kids.now) (forest (drop i c.args.kids.now)) rest (plain kid) i c.write_tags.new.out.used
     (plain_pieces c.args.pieces.now) (plain_pieces (drop c.loop-kid.next c.args.pieces.now)) (writing_of c.args.out.now) (writing_of c.loop-kid.out) h step
     (let tags = c.in_ok-next.ensures.written in let front = tags.front in front.used) (c.loop-kid.invariant.some h.root h.path h.more h.verdicts)) in
-    (omega (arith, ap nodes_in_all step, c.loop-kid.invariant.few, c.decreases), (c.requires.possible, next))
+    (omega (arith, ap nodes_in_all step, c.loop-kid.invariant.few, c.decreases), (c.requires.known, (c.requires.possible, next)))
 
 pub write_list-loop-kid-init : goal.write_list-loop-kid-init
 write_list-loop-kid-init t c = record {

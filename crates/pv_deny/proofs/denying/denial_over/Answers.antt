@@ -3,13 +3,13 @@ use Rattle.pv_productive.specs.PlainForms.{dtd_of}
 use Rattle.pv_tree.specs.PlainDocs.{plain_doc}
 use Rattle.pv_denial.proofs.Answering.{matched_none, matched_some}
 use Rattle.pv_deny.proofs.AtPaths.{denial_there, fits, stands_there, too_many_there}
-use Rattle.pv_deny.proofs.denying.denial_at.Goals as goal
+use Rattle.pv_deny.proofs.denying.denial_over.Goals as goal
 
 pub unreachable-requires : goal.unreachable-requires
 unreachable-requires c = stands_there (dtd_of c.args.grammar.now) c.args.root.now (plain_doc c.args.doc.now) c.args.path c.requires.first c.in_default.ensures
 
-pub rows_by-requires : goal.rows_by-requires
-rows_by-requires c = fits (dtd_of c.args.grammar.now) c.args.root.now (plain_doc c.args.doc.now) c.args.path c.in-Some.place c.in-Some.ensures c.requires.narrow
+pub rows_by-requires-clause-narrow : goal.rows_by-requires-clause-narrow
+rows_by-requires-clause-narrow c = fits (dtd_of c.args.grammar.now) c.args.root.now (plain_doc c.args.doc.now) c.args.path c.in-Some.place c.in-Some.ensures c.requires.narrow
 
 pub returns-in_default-2-clause-refused : goal.returns-in_default-2-clause-refused
 returns-in_default-2-clause-refused c =

@@ -1,0 +1,61 @@
+use Rattle.std.proofs.Math.Bridge.{le_prop}
+use Rattle.std.proofs.Math.Logic.{∥∥₁_elim, ∥∥₁_map}
+use Rattle.pv_productive.specs.PlainForms.{dtd_of}
+use Rattle.pv_dtd.proofs.Proper.{proper}
+use Rattle.pv_tree.specs.PlainDocs.{plain_doc}
+use Rattle.pv_complete.proofs.Inside.{doc_epilog, doc_writable, dtd_names, short_names}
+use Rattle.pv_complete.proofs.Wholes.{bounded_text, grown_text, least_completion}
+use Rattle.pv_tree.specs.declared.nodes.Mark.{Mark}
+use Rattle.pv_complete.proofs.FewMarks.{few_marks}
+use Rattle.pv_complete.proofs.LightLists.{light_lists, live_verdicts}
+use Rattle.pv_complete.proofs.writing.completion.completion_under.Goals as goal
+
+pub write_doc-requires-clause-possible : goal.write_doc-requires-clause-possible
+write_doc-requires-clause-possible c =
+    live_verdicts c.args.verdicts.now.verdicts
+    (∥∥₁_map c.requires.verdicts
+    (λ live. (c.locality_law.ensures (dtd_of c.args.layout.now.grammar.now) c.args.root.now (plain_doc c.args.doc.now) c.args.verdicts.now.verdicts (proper c.args.layout.now.grammar.now.layout.dtd) c.proper_doc_law.ensures live.verdicts).0 live.possible))
+
+pub write_doc-requires-clause-verdicts : goal.write_doc-requires-clause-verdicts
+write_doc-requires-clause-verdicts c = ∥∥₁_map c.requires.verdicts (λ live.
+    record {
+      verdicts = live.verdicts;
+      light = light_lists Mark (dtd_of c.args.layout.now.grammar.now) c.args.root.now (plain_doc c.args.doc.now) c.args.count (proper c.args.layout.now.grammar.now.layout.dtd) c.proper_doc_law.ensures
+          c.live_weight_law.ensures c.weight_is_least_law.ensures c.bounds_add_up_law.ensures (c.requires.needs live);
+    })
+
+pub numbers_of-requires : goal.numbers_of-requires
+numbers_of-requires c =
+    let dtd = c.args.layout.now.grammar.now.layout.dtd in
+    let doc = plain_doc c.args.doc.now in
+    let marks = c.in_ok-text.text.marks.items in
+    let body = c.in_ok-text.text.body.items in
+    rw c.as_slice.ensures.value
+    (λ k d lt. ∥∥₁_elim c.requires.verdicts le_prop (λ live.
+    few_marks (dtd_of c.args.layout.now.grammar.now) c.args.root.now doc c.args.count marks body c.args.doc.now.small
+    (least_completion (dtd_of c.args.layout.now.grammar.now) c.args.root.now doc c.args.verdicts.now.verdicts c.args.count marks body
+    (proper dtd) (dtd_names dtd) c.every_view_is_written_law.ensures c.tags_extend_law.ensures c.possible_weights_law.ensures c.proper_doc_law.ensures (doc_writable c.args.doc.now)
+    c.requires.names (doc_epilog c.args.doc.now) (c.requires.needs live) live.verdicts (c.in_ok-text.ensures live.verdicts)) k d lt))
+
+pub returns-clause-completed : goal.returns-clause-completed
+returns-clause-completed c = λ live.
+    let dtd = c.args.layout.now.grammar.now.layout.dtd in
+    rw (c.of.ensures, c.in_ok-marks.ensures, c.as_slice.ensures.value, c.of-2.ensures)
+    (least_completion (dtd_of c.args.layout.now.grammar.now) c.args.root.now (plain_doc c.args.doc.now) c.args.verdicts.now.verdicts c.args.count c.in_ok-text.text.marks.items c.in_ok-text.text.body.items
+    (proper dtd) (dtd_names dtd) c.every_view_is_written_law.ensures c.tags_extend_law.ensures c.possible_weights_law.ensures c.proper_doc_law.ensures (doc_writable c.args.doc.now)
+    c.requires.names (doc_epilog c.args.doc.now) (c.requires.needs live) live.verdicts (c.in_ok-text.ensures live.verdicts))
+
+pub returns-clause-written : goal.returns-clause-written
+returns-clause-written c = λ live.
+    let dtd = c.args.layout.now.grammar.now.layout.dtd in
+    rw c.of-2.ensures
+    (grown_text (dtd_of c.args.layout.now.grammar.now) c.args.root.now (plain_doc c.args.doc.now) c.args.verdicts.now.verdicts c.in_ok-text.text.marks.items c.in_ok-text.text.body.items
+    (proper dtd) (dtd_names dtd) c.proper_doc_law.ensures (doc_writable c.args.doc.now) (c.in_ok-text.ensures live.verdicts))
+
+pub returns-clause-bounded : goal.returns-clause-bounded
+returns-clause-bounded c = λ live.
+    let dtd = c.args.layout.now.grammar.now.layout.dtd in
+    rw c.of-2.ensures
+    (bounded_text (dtd_of c.args.layout.now.grammar.now) c.args.root.now (plain_doc c.args.doc.now) c.args.verdicts.now.verdicts c.args.count c.in_ok-text.text.marks.items c.in_ok-text.text.body.items
+    (proper dtd) (dtd_names dtd) c.every_view_is_written_law.ensures c.tags_extend_law.ensures c.possible_weights_law.ensures c.proper_doc_law.ensures (doc_writable c.args.doc.now)
+    c.requires.names (doc_epilog c.args.doc.now) (c.requires.needs live) live.verdicts (c.in_ok-text.ensures live.verdicts) (short_names dtd) c.args.doc.now.formed)
