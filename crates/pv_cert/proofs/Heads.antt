@@ -1,17 +1,18 @@
 -- The lines of a pack up to its body, and a whole pack.
-use Rattle.std.proofs.Common.{◌≡◌, ◌≤◌, ℕ, ◌+◌, List, [], ◌∷◌, ◌++◌, map, length, refl, sym, ap, subst, ◌∙◌, append_assoc, append-nil, arith, Option, Some, None, inr, Ok, Err, Result, IfOk, IfErr}
-use Rattle.std.proofs.lemmas.List.{length-append, length-map}
+use Rattle.std.proofs.Common.{◌≡◌, ◌≤◌, ℕ, ◌+◌, List, [], ◌∷◌, ◌++◌, ◌-◌, codes, decimal, drop, map, length, take, refl, sym, ap, subst, ◌∙◌, append_assoc, append-nil, arith, Option, Some, None, inr, Ok, Err, Result, IfOk, IfErr}
+use Rattle.std.proofs.lemmas.List.{drop_at, length-append, length-map, take_at}
+use Rattle.pv_script.specs.Words.{with_feed, words}
 use Rattle.pv_tables.specs.declared.tables.Table.{Table}
 use Rattle.pv_cert.specs.Fronts.{Begins, BeginsNone, BeginsNot}
 use Rattle.pv_cert.specs.Lines.{PackLine, version_line, total_line, mark_line, body_line, entry_line, end_line}
 use Rattle.pv_cert.specs.Meaning.{Answers, HasTooMany, IsFaulty, MAX_PACK_BYTES, Outcome, PackMeans, Refuses, Stand, entries_among, is_pack, is_fault, is_past_limit}
 use Rattle.pv_cert.specs.Packs.{AreLines, last_line, lines_text, table_lines}
-use Rattle.pv_cert.specs.Steps.{EndsWithTables, HasTooManyBehind, IsFaultyBehind, RefusesHead, RefusesTables, TakesMarks, head_lines}
+use Rattle.pv_cert.specs.Steps.{EndsWithTables, HasTooManyBehind, IsFaultyBehind, RefusesHead, RefusesTables, TakesMarks, head_lines, pack_within}
 use Rattle.pv_cert.specs.declared.packs.Pack.{Pack}
 use Rattle.pv_cert.specs.declared.errors.PackError.{PackError}
 use Rattle.pv_cert.specs.declared.errors.PackError.TheVariants.{Limit, NoMemory, Syntax}
 use Rattle.pv_cert.proofs.OneMeaning.{one-meaning}
-use Rattle.pv_cert.proofs.Stands.{behind-marks, entries-append, entries-of-marks, last-append, no-mark-or-body, no-total, no-version, stand-append, stand-more, stand-none, stand-one}
+use Rattle.pv_cert.proofs.Stands.{behind-marks, entries-append, entries-of-marks, last-append, no-mark-or-body, no-total, no-version, stand-append, stand-more, stand-none, stand-one, text-append}
 
 version-stands : (bytes rest : List ℕ) → Begins bytes version_line rest → Stand None bytes (version_line ∷ []) rest
 version-stands bytes rest b = stand-one None bytes version_line rest record { may_follow = tt; begins = b }
@@ -88,6 +89,48 @@ pack-read bytes k ms b rest ts pack few s t is =
     let whole : PackMeans bytes (is_pack record { total = k; marks = ms; body = b; tables = ts }) =
     (few, record { are_lines = subst (λ l. AreLines None l) lines stand.are_lines; spelled = stand.whole ∙ append-nil (lines_text (head_lines k ms b ++ tail)) ∙ ap lines_text lines }, t.few) in
     subst (λ p. PackMeans bytes (is_pack p)) (sym is) whole
+
+-- where the body stands in the text
+pub record StandsBetween (bytes b : List ℕ) (start end : ℕ) : Type 0 where
+  pub order : start ≤ end
+  pub within : end ≤ length bytes
+  pub body : take (end - start) (drop start bytes) ≡ b
+
+rejoined : (h w b rest : List ℕ) → (h ++ ((w ++ (b ++ (10 ∷ []))) ++ [])) ++ rest ≡ (h ++ w) ++ (b ++ (10 ∷ rest))
+rejoined h w b rest = simp (append_assoc, append-nil)
+
+body-front : (bytes : List ℕ) (k : ℕ) (ms b rest : List ℕ) → Stand None bytes (head_lines k ms b) rest →
+    bytes ≡ (lines_text (version_line ∷ total_line k ∷ map mark_line ms) ++ with_feed (words (codes "body" ∷ decimal (length b) ∷ []))) ++ (b ++ (10 ∷ rest))
+body-front bytes k ms b rest s =
+    let head = version_line ∷ total_line k ∷ map mark_line ms in
+    s.whole ∙ ap (λ l. l ++ rest) (text-append head (body_line b ∷ [])) ∙ rejoined (lines_text head) (with_feed (words (codes "body" ∷ decimal (length b) ∷ []))) b rest
+
+between : (bytes front b rest : List ℕ) (start end : ℕ) → bytes ≡ front ++ (b ++ (10 ∷ rest)) → start ≡ length front → end ≡ start + length b → StandsBetween bytes b start end
+between bytes front b rest start end is at to =
+    let size = ap length is in
+    let cut : end - start ≡ length b = omega arith in
+    record {
+      order = omega arith;
+      within = omega (arith, size, length-append front (b ++ (10 ∷ rest)), length-append b (10 ∷ rest));
+      body = ap (λ l. take (end - start) (drop start l)) is ∙ ap (take (end - start)) (drop_at front (b ++ (10 ∷ rest)) start (sym at)) ∙ take_at b (10 ∷ rest) (end - start) (sym cut);
+    }
+
+pub body-between : (bytes : List ℕ) (k : ℕ) (ms b rest : List ℕ) (start end : ℕ) → Stand None bytes (head_lines k ms b) rest → end ≡ length bytes - length rest - 1 → start ≡ end - length b → StandsBetween bytes b start end
+body-between bytes k ms b rest start end s to at =
+    let front = lines_text (version_line ∷ total_line k ∷ map mark_line ms) ++ with_feed (words (codes "body" ∷ decimal (length b) ∷ [])) in
+    let is = body-front bytes k ms b rest s in
+    let size : length bytes ≡ length front + (length b + (1 + length rest)) = omega (arith, ap length is, length-append front (b ++ (10 ∷ rest)), length-append b (10 ∷ rest)) in
+    between bytes front b rest start end is (omega arith) (omega arith)
+
+pub body-fits : (bytes : List ℕ) (k : ℕ) (ms b rest : List ℕ) → Stand None bytes (head_lines k ms b) rest → length b + (1 + length rest) ≤ length bytes
+body-fits bytes k ms b rest s =
+    let front = lines_text (version_line ∷ total_line k ∷ map mark_line ms) ++ with_feed (words (codes "body" ∷ decimal (length b) ∷ [])) in
+    omega (arith, ap length (body-front bytes k ms b rest s), length-append front (b ++ (10 ∷ rest)), length-append b (10 ∷ rest))
+
+pub parts-read : (bytes : List ℕ) (k : ℕ) (ms b rest : List ℕ) (ts : List Table) (start end : ℕ) → length bytes ≤ MAX_PACK_BYTES → Stand None bytes (head_lines k ms b) rest → EndsWithTables rest ts →
+    StandsBetween bytes b start end → PackMeans bytes (is_pack (pack_within bytes k ms start end ts))
+parts-read bytes k ms b rest ts start end few s t at =
+    pack-read bytes k ms b rest ts (pack_within bytes k ms start end ts) few s t (λ i. record { total = k; marks = ms; body = at.body i; tables = ts })
 
 fault-behind : (bytes : List ℕ) (k : ℕ) (ms b rest : List ℕ) (j : ℕ) → Stand None bytes (head_lines k ms b) rest → IsFaultyBehind (Some (body_line b)) (3 + length ms) rest j → IsFaulty bytes j
 fault-behind bytes k ms b rest j s f =

@@ -3,6 +3,8 @@ pub mod Cuts
 pub mod EntryWords
 pub mod Determined
 -- of this crate:
+pub mod DigitsRead
+pub mod EntriesAt
 pub mod Fronts
 pub mod Stands
 pub mod TableLines

@@ -9,6 +9,7 @@ use Rattle.pv_script.specs.Words.{with_feed, words}
 use Rattle.pv_tables.specs.declared.tables.Entry.{Entry}
 use Rattle.pv_cert.specs.Lines.{IsEntryInRange, IsInRange, PackLine, entry_words}
 use Rattle.pv_cert.specs.Lines.{kind_word, line_text}
+use Rattle.pv_cert.specs.Numbers.{IsNumberThen}
 
 -- This line stands at the front, with this behind it, and its numbers are in range.
 pub record Begins (bytes : List ℕ) (line : PackLine) (rest : List ℕ) : Type 0 where
@@ -39,9 +40,8 @@ pub record IsNumberLine (word : List ℕ) (most : ℕ) (bytes : List ℕ) (n : �
   pub whole : bytes ≡ with_feed (word ++ decimal n) ++ rest
 
 -- a number, a blank, and this
-pub record IsNumberBefore (bytes : List ℕ) (n : ℕ) (rest : List ℕ) : Type 0 where
-  pub within : n ≤ MAX_NUMBER
-  pub whole : bytes ≡ decimal n ++ (32 ∷ rest)
+abbrev pub IsNumberBefore : List ℕ → ℕ → List ℕ → Type 0
+IsNumberBefore bytes n rest = IsNumberThen 32 bytes n rest
 
 -- a span and a value: three numbers with blanks between
 pub record AreSpanAndValue (bytes : List ℕ) (from to value : ℕ) : Type 0 where

@@ -1,6 +1,6 @@
 -- The parts of a pack, one behind the other, and what is at fault in them.
-use Rattle.std.specs.Prelude.{◌≡◌, ◌≤◌, ◌+◌, ℕ, List, [], ◌∷◌, ◌++◌, length, map, Option, Some}
-use Rattle.std.specs.Prelude.{None}
+use Rattle.std.specs.Prelude.{◌≡◌, ◌≤◌, ◌+◌, ◌-◌, ℕ, List, [], ◌∷◌, ◌++◌, drop, length, map}
+use Rattle.std.specs.Prelude.{None, Option, Some, take}
 use Rattle.pv_tables.specs.Tables.{Precedes, entries_in, most_entries}
 use Rattle.pv_tables.specs.declared.tables.Entry.{Entry}
 use Rattle.pv_tables.specs.declared.tables.Table.{Table}
@@ -10,6 +10,7 @@ use Rattle.pv_cert.specs.Lines.{total_line, version_line}
 use Rattle.pv_cert.specs.Packs.{last_line, table_lines}
 use Rattle.pv_cert.specs.Meaning.{IsFaulty, IsWhole, Stand, Stands, StandsNone}
 use Rattle.pv_cert.specs.Meaning.{entries_among}
+use Rattle.pv_cert.specs.declared.packs.Pack.{Pack}
 use Rattle.pv_cert.specs.declared.errors.PackError.{PackError}
 use Rattle.pv_cert.specs.declared.errors.PackError.TheVariants.{Limit, NoMemory, Syntax}
 
@@ -97,3 +98,12 @@ abbrev pub RefusesHead : List ℕ → PackError → Type 0
 RefusesHead bytes (Syntax k) = IsFaulty bytes k
 RefusesHead bytes Limit = ⊥
 RefusesHead bytes NoMemory = Unit {0}
+
+-- the pack of these numbers and tables whose body stands in its text from one place up to another
+abbrev pub pack_within : List ℕ → ℕ → List ℕ → ℕ → ℕ → List Table → Pack
+pack_within bytes k ms start end ts = record {
+  total = k;
+  marks = ms;
+  body = take (end - start) (drop start bytes);
+  tables = ts;
+}

@@ -11,14 +11,16 @@ mod entries;
 mod errors;
 pub mod laws;
 mod lines;
+mod numbers;
 mod packs;
 mod reading;
 mod tables;
 mod writing;
 
-pub use entries::{letter_at, next_number, site_of};
+pub use entries::{letter_at, site_of};
 pub use errors::PackError;
 pub use lines::line_of;
+pub use numbers::next_number;
 pub use packs::{MAX_PACK_BYTES, Pack};
-pub use reading::read_pack;
+pub use reading::{read_pack, take_pack};
 pub use writing::{kind_word, push_next_number, write_pack};

@@ -7,11 +7,12 @@ ghost use Rattle.pv_cert.specs.Lines.{version_line, total_line, mark_line, body_
 ghost use Rattle.pv_cert.specs.Lines.{end_line};
 ghost use Rattle.pv_cert.specs.Meaning.{MAX_PACK_BYTES as MAX_BYTES};
 
+use crate::numbers::number_in;
 use pv_chars::NoMemory;
 use pv_chars::delimiters::up_to_byte;
 use pv_chars::scan::after_bytes;
 use pv_rules::MAX_MISSING;
-use pv_script::{written_number, written_path};
+use pv_script::written_path;
 use pv_tree::Path;
 use std::alloc::Global;
 
@@ -38,7 +39,7 @@ fn number_line_at<'a>(word: &[u8], most: u32, bytes: &'a [u8]) -> Option<(u32, &
     ensures within { IfSome result (λ r. length r.1.now < length bytes.now) }
 {
     let (digits, rest) = line_of(word, bytes)?;
-    let number = written_number(digits)?;
+    let number = number_in(digits)?;
     if most < number {
         return None;
     }

@@ -1,25 +1,29 @@
 //! A document without the tags of marked elements, compared with another by their events.
 
 ghost use Rattle.std.specs.Prelude.{◌≡◌, ◌≤◌, ◌<◌, ◌^◌, ◌↔◌, [], IfOk, IfErr, IsTrue, length, map};
-ghost use Rattle.std.specs.Prelude.{true, ◌⊎◌};
+ghost use Rattle.std.specs.Prelude.{List, true, ℕ, ◌⊎◌};
 ghost use Rattle.pv_tree.specs.Marks.{blank_mark};
 ghost use Rattle.pv_tree.specs.Plain.{PlainDoc};
+ghost use Rattle.pv_tree.specs.PlainDocs.{plain_doc};
 ghost use Rattle.pv_tree.specs.declared.nodes.Mark.{Mark};
 ghost use Rattle.pv_read.specs.Errors.{Refuses};
 ghost use Rattle.pv_read.specs.Meaning.{DocumentMeansWithin};
-ghost use Rattle.pv_flat.specs.Coming.{MAX_FLAT_BYTES, flat_limits};
+ghost use Rattle.pv_flat.specs.Coming.{MAX_FLAT_BYTES as MAX_BYTES, flat_limits};
 ghost use Rattle.pv_flat.specs.Plain.{plain_event};
+ghost use Rattle.pv_kept.specs.Comparing.{IsBodyRead};
 ghost use Rattle.pv_kept.specs.Kept.{IsBodyText, KeepsDocument};
 ghost use Rattle.pv_kept.specs.LeftOut.{LeavesEvents};
 
 use crate::laws::events_leave_out_law;
-use crate::reading::EventParts;
+use crate::reading::{EventParts, note};
 use crate::tags::Tags;
+use crate::trees::parts_of;
 use crate::wanted::Wanted;
 use pv_chars::NoMemory;
-use pv_flat::{Event, Events};
+use pv_flat::{Event, Events, MAX_FLAT_BYTES};
 use pv_read::DocError;
 use pv_read::laws::{agreement_law, one_meaning_law};
+use pv_tree::Doc;
 use std::alloc::Global;
 
 /// How far events were compared: where the tags of marked elements are left out of the one
@@ -31,10 +35,12 @@ pub struct Comparison<'a> {
     pub same: bool,
 }
 
-/// Whether the events of a document without the tags of marked elements are those of another, and
-/// the bytes before its root and behind it.
-#[derive(Clone, Copy)]
+/// Of each element of a document whether it has no attribute bytes, whether the document's events
+/// without the tags of marked elements are those of another, and the bytes before its root and
+/// behind it.
+#[derive(Drop)]
 pub struct Compared<'a> {
+    pub plain: Vec<bool>,
     pub leaves: bool,
     pub before: &'a [u8],
     pub after: &'a [u8],
@@ -91,18 +97,23 @@ impl<'a> Compared<'a> {
         marks: &[u32],
         other: &[Event<'_>],
     ) -> Result<Compared<'a>, DocError>
-        requires { length bytes.now ≤ MAX_FLAT_BYTES }
         ensures compared { IfOk result (λ found.
             IsCompared root.now bytes.now marks.now (map plain_event other.now) found) }
         ensures refused { IfErr result (λ error.
             Refuses (DocumentMeansWithin flat_limits blank_mark root.now bytes.now) error) }
     {
+        if bytes.len() > MAX_FLAT_BYTES {
+            return Err(DocError::Limit);
+        }
         let mut events = Events::new(alloc, bytes, root)?;
         let mut comparison = Comparison::new(alloc, marks, other);
+        let mut plain = Vec::new(alloc);
         'events: while let Some(event) = events.next()? {
+            note(&mut plain, &event)?;
             comparison.take(&event)?;
         }
         Ok(Compared {
+            plain,
             leaves: comparison.is_whole(),
             before: events.before(),
             after: events.rest(),
@@ -129,7 +140,7 @@ pub fn is_kept(
     body: &[u8],
     marks: &[u32],
 ) -> Result<bool, DocError>
-    requires { length body.now ≤ MAX_FLAT_BYTES }
+    requires { length body.now ≤ MAX_BYTES }
     ensures kept { IfOk result (λ kept. (d b : PlainDoc Mark) → IsBodyText root.now doc.now d →
         IsBodyText root.now body.now b → IsTrue kept ↔ KeepsDocument d b marks.now) }
     ensures refused { IfErr result (λ error.
@@ -142,4 +153,43 @@ pub fn is_kept(
     one_meaning_law();
     events_leave_out_law();
     Ok(found.agrees(&parts))
+}
+
+/// What one reading of a body tells: of each of its elements, in document order, whether it has no
+/// attribute bytes, and whether it is a document with the tags of marked elements put in, and
+/// nothing else.
+#[derive(Debug, Drop)]
+pub struct BodyRead {
+    pub plain: Vec<bool>,
+    pub kept: bool,
+}
+
+/// Reads a body of any depth once, beside the tree of a document: what `plain_elements` tells of
+/// it, and what `is_kept` does where these are marks.
+///
+/// An error, but for want of memory, tells why the bytes aren't the text of a document.
+pub fn read_body(
+    alloc: Global,
+    root: &[u8],
+    doc: &Doc,
+    body: &[u8],
+    marks: &[u32],
+) -> Result<BodyRead, DocError>
+    ensures read { IfOk result (λ read. IsBodyRead root.now body.now read.plain.items) }
+    ensures kept { (bytes : List ℕ) → IsBodyText root.now bytes (plain_doc doc.now) →
+        IfOk result (λ read. (b : PlainDoc Mark) → IsBodyText root.now body.now b →
+        IsTrue read.kept ↔ KeepsDocument (plain_doc doc.now) b marks.now) }
+    ensures refused { IfErr result (λ error.
+        Refuses (DocumentMeansWithin flat_limits blank_mark root.now body.now) error) }
+{
+    let parts = parts_of(alloc, doc)?;
+    let found = Compared::of(alloc, root, body, marks, &parts.events)?;
+    agreement_law();
+    one_meaning_law();
+    events_leave_out_law();
+    let kept = found.agrees(&parts);
+    Ok(BodyRead {
+        plain: found.plain,
+        kept,
+    })
 }

@@ -5,6 +5,8 @@
 //! (`specs/LeftOut.antt`); `laws` says that this is leaving the elements out of hedges (`IsKept`,
 //! `specs/Kept.antt`). `plain_elements` tells which elements have no attribute bytes, `are_marks`
 //! whether marks ascend and are numbers of such elements, and `is_kept` compares two documents.
+//! `read_body` tells in one reading of a body, beside a document's tree, what the first and the
+//! last of these do.
 #![tactic(auto)]
 
 mod comparing;
@@ -12,8 +14,9 @@ pub mod laws;
 mod marks;
 mod reading;
 mod tags;
+mod trees;
 mod wanted;
 
-pub use comparing::is_kept;
+pub use comparing::{BodyRead, is_kept, read_body};
 pub use marks::are_marks;
 pub use reading::plain_elements;

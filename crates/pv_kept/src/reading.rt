@@ -17,8 +17,8 @@ use pv_flat::{Event, Events};
 use pv_read::DocError;
 use std::alloc::Global;
 
-// Notes of an event that begins an element whether that has no attribute bytes.
-fn note(plain: &mut Vec<bool>, event: &Event<'_>) -> Result<(), NoMemory>
+/// Notes of an event that begins an element whether that has no attribute bytes.
+pub fn note(plain: &mut Vec<bool>, event: &Event<'_>) -> Result<(), NoMemory>
     ensures { IfOk result (λ _. plain.new.items ≡
         plain.old.items ++ is_plain_start (plain_event event.now)) }
 {

@@ -55,6 +55,13 @@ RefusesToVerify g root bytes pack (error.Document e) =
 RefusesToVerify g root bytes pack (error.TooWide path) = IsTooWideAt g root bytes pack path
 RefusesToVerify g root bytes pack error.NoMemory = Unit {0}
 
+-- why there is no answer beside a document that was read: a table is that of a list which is too
+-- wide; want of memory says nothing
+abbrev pub RefusesRead : {M : Type 0} → PlainDtd → PlainDoc M → Pack → VerifyError → Type 0
+RefusesRead g doc pack (error.Document e) = ⊥
+RefusesRead g doc pack (error.TooWide path) = IsFirstWideTable g (lists_of doc) pack.tables path
+RefusesRead g doc pack error.NoMemory = Unit {0}
+
 -- the refusal where a document isn't read for this reason
 abbrev pub RefusesUnread : DocError → VerifyError → Type 0
 RefusesUnread document.NoMemory v = v ≡ error.NoMemory

@@ -19,4 +19,4 @@ mod verifying;
 pub use answers::{Answer, Why};
 pub use errors::VerifyError;
 pub use totals::totals_agree;
-pub use verifying::verify;
+pub use verifying::{verify, verify_read};

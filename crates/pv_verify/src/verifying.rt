@@ -1,6 +1,6 @@
 //! The tests of a pack, one behind another.
 
-ghost use Rattle.std.specs.Prelude.{◌≤◌, ◌↔◌, IfErr, IfOk, IsTrue, MatchOption, length};
+ghost use Rattle.std.specs.Prelude.{◌↔◌, IfErr, IfOk, IsTrue, MatchOption};
 ghost use Rattle.pv_dtd.specs.Hedge.{IsValid};
 ghost use Rattle.pv_dtd.specs.PlainForms.{plain_dtd};
 ghost use Rattle.pv_tree.specs.Marks.{blank_mark};
@@ -9,11 +9,10 @@ ghost use Rattle.pv_tree.specs.PlainDocs.{plain_doc};
 ghost use Rattle.pv_tree.specs.View.{view};
 ghost use Rattle.pv_tree.specs.declared.nodes.Mark.{Mark};
 ghost use Rattle.pv_read.specs.Meaning.{DocumentMeans, is_document};
-ghost use Rattle.pv_flat.specs.Coming.{MAX_FLAT_BYTES};
-ghost use Rattle.pv_kept.specs.Kept.{AreMarks, IsBodyText, KeepsDocument};
-ghost use Rattle.pv_verify.specs.Answers.{IsAnswer, RefusesToVerify};
+ghost use Rattle.pv_kept.specs.Kept.{AreMarks, IsBodyText};
+ghost use Rattle.pv_verify.specs.Answers.{IsAnswer, RefusesRead, RefusesToVerify};
 ghost use Rattle.pv_verify.specs.Tests.{PassesAllTests, IsRejected};
-ghost use Rattle.pv_verify.specs.Reading.{IsBodyRead, IsSomeBodyText};
+ghost use Rattle.pv_verify.specs.Reading.{IsMeant, IsReadBeside, IsSomeBodyText};
 
 use crate::answers::{Answer, Why};
 use crate::errors::VerifyError;
@@ -25,49 +24,32 @@ use pv_closed::{first_wide_table, tables_closed};
 use pv_dtd::Dtd;
 use pv_dtd::laws::proper_dtd_law;
 use pv_flat::valid_events;
-use pv_kept::{are_marks, is_kept, plain_elements};
+use pv_kept::{BodyRead, are_marks, read_body};
 use pv_missing::laws::proper::proper_doc_law;
 use pv_read::laws::{one_meaning_law, wider_limits_law};
 use pv_read::{DocError, read_doc};
 use pv_tree::{Doc, Mark};
 use std::alloc::Global;
 
-// Of each element of the body, whether it has no attribute bytes; none where the bytes aren't the
-// text of a document.
-fn read_body(alloc: Global, root: &[u8], bytes: &[u8]) -> Result<Option<Vec<bool>>, NoMemory>
+// What one reading of the body tells; none where the bytes aren't the text of a document.
+fn read_once(
+    alloc: Global,
+    root: &[u8],
+    doc: &Doc,
+    body: &[u8],
+    marks: &[u32],
+) -> Result<Option<BodyRead>, NoMemory>
     ensures { IfOk result (λ found. MatchOption found
-        ((body : PlainDoc Mark) → IsBodyText root.now bytes.now body → ⊥)
-        (λ plain. IsBodyRead root.now bytes.now plain.items)) }
+        ((b : PlainDoc Mark) → IsBodyText root.now body.now b → ⊥)
+        (λ read. IsReadBeside root.now (plain_doc doc.now) body.now marks.now read)) }
 {
-    match plain_elements(alloc, root, bytes) {
-        Ok(plain) => Ok(Some(plain)),
+    match read_body(alloc, root, doc, body, marks) {
+        Ok(read) => Ok(Some(read)),
         Err(DocError::NoMemory) => Err(NoMemory),
         Err(_) => {
             one_meaning_law();
             Ok(None)
         }
-    }
-}
-
-// Whether the body without the tags of marked elements is the document.
-fn keeps(
-    alloc: Global,
-    root: &[u8],
-    doc: &[u8],
-    body: &[u8],
-    marks: &[u32],
-) -> Result<bool, NoMemory>
-    requires few { length body.now ≤ MAX_FLAT_BYTES }
-    requires is_doc { IsSomeBodyText root.now doc.now }
-    requires is_body { IsSomeBodyText root.now body.now }
-    ensures { IfOk result (λ kept. (d b : PlainDoc Mark) → IsBodyText root.now doc.now d →
-        IsBodyText root.now body.now b → IsTrue kept ↔ KeepsDocument d b marks.now) }
-{
-    one_meaning_law();
-    match is_kept(alloc, root, doc, body, marks) {
-        Ok(kept) => Ok(kept),
-        Err(DocError::NoMemory) => Err(NoMemory),
-        Err(_) => unreachable!(),
     }
 }
 
@@ -85,16 +67,15 @@ fn is_valid(alloc: Global, dtd: &Dtd, root: &[u8], body: &[u8]) -> Result<bool, 
     }
 }
 
-// The first test that a pack fails, against the document that the bytes are.
+// The first test that a pack fails, against a document.
 fn first_failed(
     alloc: Global,
     dtd: &Dtd,
     root: &[u8],
-    bytes: &[u8],
     doc: &Doc,
     pack: &Pack,
 ) -> Result<Option<Why>, NoMemory>
-    requires { DocumentMeans blank_mark root.now bytes.now (is_document (plain_doc doc.now)) }
+    requires { IsMeant root.now (plain_doc doc.now) }
     ensures { IfOk result (λ failed. MatchOption failed
         (PassesAllTests (plain_dtd dtd.now) root.now (plain_doc doc.now) pack.now)
         (IsRejected (plain_dtd dtd.now) root.now (plain_doc doc.now) pack.now)) }
@@ -103,13 +84,13 @@ fn first_failed(
     let marks = pack.marks.as_slice();
     let tables = pack.tables.as_slice();
     wider_limits_law();
-    let Some(plain) = read_body(alloc, root, body)? else {
+    let Some(BodyRead { plain, kept }) = read_once(alloc, root, doc, body, marks)? else {
         return Ok(Some(Why::Body));
     };
     if !are_marks(marks, &plain) {
         return Ok(Some(Why::Marks));
     }
-    if !keeps(alloc, root, bytes, body, marks)? {
+    if !kept {
         return Ok(Some(Why::Kept));
     }
     if !is_valid(alloc, dtd, root, body)? {
@@ -122,6 +103,33 @@ fn first_failed(
         return Ok(Some(Why::Totals));
     }
     Ok(None)
+}
+
+/// Verifies a pack as `verify` does, against a document that was read before.
+pub fn verify_read(
+    alloc: Global,
+    dtd: &Dtd,
+    root: &[u8],
+    doc: &Doc,
+    pack: &Pack,
+) -> Result<Answer, VerifyError>
+    requires { IsMeant root.now (plain_doc doc.now) }
+    ensures answers { IfOk result (λ answer.
+        IsAnswer (plain_dtd dtd.now) root.now (plain_doc doc.now) pack.now answer) }
+    ensures refused { IfErr result (λ error.
+        RefusesRead (plain_dtd dtd.now) (plain_doc doc.now) pack.now error) }
+{
+    let wide = first_wide_table(alloc, dtd, doc, pack.tables.as_slice())?;
+    if let Some(path) = wide {
+        return Err(VerifyError::TooWide(path));
+    }
+    proper_dtd_law(dtd);
+    proper_doc_law(doc);
+    certified_law::<Mark>();
+    match first_failed(alloc, dtd, root, doc, pack)? {
+        None => Ok(Answer::Accepted(pack.total)),
+        Some(why) => Ok(Answer::Rejected(why)),
+    }
 }
 
 /// Verifies a pack against the document that the bytes are, where the root's name is this one: it
@@ -143,15 +151,5 @@ pub fn verify(
         RefusesToVerify (plain_dtd dtd.now) root.now doc.now pack.now error) }
 {
     let document = read_doc(alloc, doc, root)?;
-    let wide = first_wide_table(alloc, dtd, &document, pack.tables.as_slice())?;
-    if let Some(path) = wide {
-        return Err(VerifyError::TooWide(path));
-    }
-    proper_dtd_law(dtd);
-    proper_doc_law(&document);
-    certified_law::<Mark>();
-    match first_failed(alloc, dtd, root, doc, &document, pack)? {
-        None => Ok(Answer::Accepted(pack.total)),
-        Some(why) => Ok(Answer::Rejected(why)),
-    }
+    verify_read(alloc, dtd, root, &document, pack)
 }

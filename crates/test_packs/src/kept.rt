@@ -1,8 +1,8 @@
 //! Documents without the tags of marked elements.
 
 use pv_flat::MAX_FLAT_BYTES;
-use pv_kept::{are_marks, is_kept, plain_elements};
-use pv_read::DocError;
+use pv_kept::{are_marks, is_kept, plain_elements, read_body};
+use pv_read::{DocError, read_doc};
 use std::alloc::Global;
 use std::test::Fail;
 
@@ -58,6 +58,12 @@ fn keeps(alloc: Global, doc: &str, body: &str, marks: &[u32]) -> Result<bool, Fa
     Ok(is_kept(alloc, b"a", doc.as_bytes(), body.as_bytes(), marks)?)
 }
 
+// The same by the document's tree.
+fn keeps_tree(alloc: Global, doc: &str, body: &str, marks: &[u32]) -> Result<bool, Fail> {
+    let tree = read_doc(alloc, doc.as_bytes(), b"a")?;
+    Ok(read_body(alloc, b"a", &tree, body.as_bytes(), marks)?.kept)
+}
+
 const LETTER: &str = "<!--c--><a>x&amp;y<b u='1'/><![CDATA[d]]><?p?></a>\n";
 
 const SPLIT: &str = "<!--c--><a><b>x</b>&amp;<b>y<b u='1'></b></b><![CDATA[d]]><?p?></a>\n";
@@ -90,6 +96,12 @@ fn tags_put_in(rt: HostRuntime) -> Result<(), Fail> {
     for (doc, body, marks, wanted) in &ROWS {
         let found = keeps(rt.alloc(), *doc, *body, *marks)?;
         assert_eq!(rt; found, *wanted, "{body} with marks {marks:?}");
+        let by_tree = keeps_tree(rt.alloc(), *doc, *body, *marks)?;
+        assert_eq!(rt;
+            by_tree,
+            *wanted,
+            "{body} with marks {marks:?}, by the tree"
+        );
     }
     Ok(())
 }

@@ -1,6 +1,6 @@
 //! Packs written and read.
 
-use pv_cert::{Pack, PackError, read_pack, write_pack};
+use pv_cert::{Pack, PackError, read_pack, take_pack, write_pack};
 use pv_model::NameId;
 use pv_rules::Site;
 use pv_tables::Table;
@@ -67,9 +67,15 @@ fn is_pair_read(alloc: Global) -> Result<bool, PackError> {
     Ok(is_pair(&read_pack(alloc, PAIR.as_bytes())?))
 }
 
+fn is_pair_taken(alloc: Global) -> Result<bool, Fail> {
+    let text = PAIR.as_bytes().to_vec(alloc)?;
+    Ok(is_pair(&take_pack(alloc, text)?))
+}
+
 #[test]
 fn parts(rt: HostRuntime) -> Result<(), Fail> {
     assert!(rt; is_pair_read(rt.alloc())?);
+    assert!(rt; is_pair_taken(rt.alloc())?);
     Ok(())
 }
 

@@ -2,8 +2,8 @@
 
 use pv_cert::{Pack, read_pack};
 use pv_dtd::read_dtd;
-use pv_read::DocError;
-use pv_verify::{Answer, VerifyError, Why, verify};
+use pv_read::{DocError, read_doc};
+use pv_verify::{Answer, VerifyError, Why, verify, verify_read};
 use std::alloc::Global;
 use std::test::Fail;
 use test_fixture::documents::nested;
@@ -33,6 +33,14 @@ fn answer_to(alloc: Global, texts: Texts, pack: &Pack) -> Result<Answer, Fail> {
     let (dtd, root, doc) = texts;
     let dtd = read_dtd(alloc, dtd)?;
     Ok(verify(alloc, &dtd, root, doc, pack)?)
+}
+
+// The same against the document's tree.
+fn answer_to_read(alloc: Global, texts: Texts, pack: &Pack) -> Result<Answer, Fail> {
+    let (dtd, root, doc) = texts;
+    let dtd = read_dtd(alloc, dtd)?;
+    let doc = read_doc(alloc, doc, root)?;
+    Ok(verify_read(alloc, &dtd, root, &doc, pack)?)
 }
 
 // The table with values that are all 0, with a value too small, with an entry left out, at a path
@@ -96,11 +104,24 @@ fn answer_to_parts(alloc: Global, head: &str, body: &str, tables: &str) -> Resul
     answer_to(alloc, (PAIR, b"a", b"<a/>"), &pack)
 }
 
+// The same against the document's tree.
+fn answer_to_read_parts(
+    alloc: Global,
+    head: &str,
+    body: &str,
+    tables: &str,
+) -> Result<Answer, Fail> {
+    let pack = pack_of(alloc, head, body, tables)?;
+    answer_to_read(alloc, (PAIR, b"a", b"<a/>"), &pack)
+}
+
 #[test]
 fn answered(rt: HostRuntime) -> Result<(), Fail> {
     for (head, body, tables, answer) in &ROWS {
         let found = answer_to_parts(rt.alloc(), *head, *body, *tables)?;
         assert_eq!(rt; found, *answer, "{head}{body}{tables}");
+        let by_tree = answer_to_read_parts(rt.alloc(), *head, *body, *tables)?;
+        assert_eq!(rt; by_tree, *answer, "{head}{body}{tables}, by the tree");
     }
     Ok(())
 }

@@ -12,7 +12,7 @@ ghost use Rattle.pv_productive.specs.PlainForms.{dtd_of};
 ghost use Rattle.pv_tree.specs.PlainDocs.{plain_doc};
 
 use pv_cert::{Pack, write_pack};
-use pv_complete::{Completion, NeedError, tables};
+use pv_complete::{Completion, NeedError, TabledCompletion, complete_with_tables};
 use pv_dtd::laws::proper_dtd_law;
 use pv_missing::laws::proper::proper_doc_law;
 use pv_productive::{Grammar, build};
@@ -41,8 +41,8 @@ fn pack_of(alloc: Global, grammar: &Grammar, doc: &Doc, root: &[u8]) -> Result<P
     made_pack_law::<Mark>();
     proper_dtd_law(grammar.dtd());
     proper_doc_law(doc);
-    let tables = tables(alloc, grammar, root, doc)?;
-    let Completion { count, marks, body } = pv_complete::complete(alloc, grammar, root, doc)?;
+    let TabledCompletion { completion, tables } = complete_with_tables(alloc, grammar, root, doc)?;
+    let Completion { count, marks, body } = completion;
     Ok(Pack {
         total: count,
         marks,

@@ -19,6 +19,6 @@ returns-in_err-bytes-clause-over g c =
 pub returns-clause-over : goal.returns-clause-over
 returns-clause-over g c =
     let bytes = c.in_ok-bytes.bytes in
-    let read = rw c.deref.ensures.value at c.pack_of.ensures in
+    let read = c.pack_of.ensures in
     behind_over _ (λ (v : Vec ℕ Global). v.items) fetches (λ (pack : Pack). pack) pack_stage _ _ bytes c.pack_of.result c.in_ok-bytes.ensures.over read
     (reading_counts (λ (pack : Pack). pack) (pack_stage bytes.items) 0 _ c.pack_of.result (λ never. never) read)

@@ -21,7 +21,7 @@ pub returns-in-Ok : goal.returns-in-Ok
 returns-in-Ok c = (c.in-Ok.ensures.read, refl)
 
 pub returns-in-Err-Syntax : goal.returns-in-Err-Syntax
-returns-in-Err-Syntax c = faulty c.args.bytes.now c.in-Err-Syntax.line _ (rw c.in-Err-Syntax.field-0-is at c.in-Err-Syntax.ensures.refused) c.refuse_item.ensures
+returns-in-Err-Syntax c = faulty c.args.bytes.items c.in-Err-Syntax.line _ (rw c.in-Err-Syntax.field-0-is at c.in-Err-Syntax.ensures.refused) c.refuse_item.ensures
 
 pub returns-in-Err-Limit : goal.returns-in-Err-Limit
-returns-in-Err-Limit c = too_many c.args.bytes.now _ (rw c.in-Err-Limit.field-0-is at c.in-Err-Limit.ensures.refused) c.refuse.ensures
+returns-in-Err-Limit c = too_many c.args.bytes.items _ (rw c.in-Err-Limit.field-0-is at c.in-Err-Limit.ensures.refused) c.refuse.ensures

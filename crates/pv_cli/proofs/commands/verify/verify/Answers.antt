@@ -6,7 +6,7 @@ use Rattle.pv_cli.specs.PackFiles.{pack_file_stage}
 use Rattle.pv_stages.specs.Response.{PlainResponse}
 use Rattle.pv_cli.specs.Verify.{TellsOfPack}
 use Rattle.pv_cli.specs.declared.checker.Checker.TheVariants.{Verify}
-use Rattle.pv_cli.proofs.Certificates.{certificate_stopped, certificate_told, opening_spells, opening_stopped}
+use Rattle.pv_cli.proofs.Certificates.{certificate_stopped, certificate_told, opening_stopped}
 use Rattle.pv_cli.proofs.commands.verify.verify.Goals as goal
 
 -- what is told of the opened files and a pack
@@ -30,15 +30,10 @@ returns-in_err-pack-clause-finds g c = λ checked.
 pub returns-clause-finds : goal.returns-clause-finds
 returns-clause-finds g c = λ checked.
     let named = c.args.named.now in
-    let told = rw c.deref.ensures.value at c.tell.ensures in
+    let opened = c.in_ok-dtd.field-0 in
+    let told = c.tell-response.ensures opened.bytes.items c.in_ok-dtd.ensures.means in
     certificate_told Verify named.dtd.now named.root.now named.doc.now c.args.name.now (λ (pack : Pack). pack) pack_file_stage (Told named.root.now) (λ files course goes. goes) _ checked _ _
-    c.in_ok-dtd.field-0 c.in_ok-dtd.ensures.over c.in_ok-pack.pack c.tell.result c.in_ok-pack.ensures.over told
-
-pub tell-requires : goal.tell-requires
-tell-requires g c =
-    let named = c.args.named.now in
-    let over = c.in_ok-dtd.ensures.over in
-    rw c.deref.ensures.value (opening_spells named.root.now over.files _ over.fetches over.returns)
+    c.in_ok-dtd.field-0 c.in_ok-dtd.ensures.over c.in_ok-pack.pack c.tell-response.result c.in_ok-pack.ensures.over told
 
 pub returns-in_err-dtd-clause-files : goal.returns-in_err-dtd-clause-files
 returns-in_err-dtd-clause-files g c = c.in_err-dtd.ensures.over.same
@@ -48,3 +43,6 @@ returns-in_err-pack-clause-files g c = c.in_err-pack.ensures.over.same ∙ c.in_
 
 pub returns-clause-files : goal.returns-clause-files
 returns-clause-files g c = c.in_ok-pack.ensures.over.same ∙ c.in_ok-dtd.ensures.over.same
+
+pub tell-response-requires : goal.tell-response-requires
+tell-response-requires g c = record { bytes = c.in_ok-dtd.field-0.bytes.items; means = c.in_ok-dtd.ensures.means }

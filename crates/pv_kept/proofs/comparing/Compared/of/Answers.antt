@@ -1,8 +1,11 @@
-use Rattle.std.proofs.Common.{IsTrue, [], arith, map, subst, sym, ◌++◌, ◌∙◌, ◌∷◌, ◌↔◌}
+use Rattle.std.proofs.Common.{IsTrue, [], ap, arith, map, subst, sym, ◌++◌, ◌∙◌, ◌∷◌, ◌↔◌}
 use Rattle.std.proofs.lemmas.Result.{err_from_is_err_and}
+use Rattle.pv_read.specs.Meaning.{long}
 use Rattle.pv_flat.specs.Plain.{plain_event}
 use Rattle.pv_kept.specs.LeftOut.{LeavesEvents}
 use Rattle.pv_kept.proofs.GivenEvents.{given-all, given-more, given-refused}
+use Rattle.pv_kept.specs.Reading.{is_plain_start, plain_starts}
+use Rattle.pv_kept.proofs.PlainElements.{plain-push, plain-tree}
 use Rattle.pv_kept.proofs.comparing.Compared.of.Goals as goal
 
 pub events-preserved : goal.events-preserved
@@ -17,6 +20,7 @@ events-preserved c =
       given-more c.args.root.now c.args.bytes.now i.0 c.events.events i.1 e c.next.new.self leads,
       moves.past c.args.marks.now (map plain_event c.args.other.now) i.0 i.2,
       omega (arith, less, next, i.3),
+      c.in_ok-note.ensures ∙ ap (λ l. l ++ is_plain_start e) i.4 ∙ sym (plain-push i.0 e),
     )
 
 pub returns-in_err-event-clause-refused : goal.returns-in_err-event-clause-refused
@@ -36,4 +40,8 @@ returns-clause-compared c =
       is_before = t.3 ∙ sym c.before-2.ensures;
       is_after = t.4 ∙ sym c.rest.ensures;
       leaves = subst (λ l. IsTrue c.is_whole.result ↔ LeavesEvents c.args.marks.now l other) (sym t.2) (c.is_whole.ensures c.args.marks.now other i.0 i.2);
+      are = i.4 ∙ ap plain_starts (sym t.2) ∙ plain-tree t.0.root;
     }
+
+pub returns-then-bytes-gt-MAX_FLAT_BYTES-clause-refused : goal.returns-then-bytes-gt-MAX_FLAT_BYTES-clause-refused
+returns-then-bytes-gt-MAX_FLAT_BYTES-clause-refused c = long (omega (arith, c.if-bytes-gt-MAX_FLAT_BYTES.true))

@@ -22,4 +22,4 @@ pub returns-clause-read : goal.returns-clause-read
 returns-clause-read c =
     let ends = rw c.in_default.is at c.in_ok-event.ensures.answers in
     let t = given-all c.args.root.now c.args.bytes.now _ c.events.events c.events.invariant c.next.new.self ends.0 ends.1 in
-    record { doc = t.0; is_text = t.1; is_before = t.3 ∙ sym c.before-2.ensures; is_events = t.2; is_after = t.4 ∙ sym c.rest.ensures }
+    record { doc = t.0; is_text = t.1; are = record { is_before = t.3 ∙ sym c.before-2.ensures; is_events = t.2; is_after = t.4 ∙ sym c.rest.ensures } }
