@@ -22,3 +22,4 @@ pub mod Replies
 pub mod ReplyTexts
 pub mod Scripts
 pub mod Texts
+pub mod VerdictLines

@@ -9,3 +9,4 @@ pub mod ReplyBuffer
 pub mod Script
 pub mod Session
 pub mod Turns
+pub mod VerdictLines

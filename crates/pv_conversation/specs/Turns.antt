@@ -1,5 +1,5 @@
 -- What the parts of a session return.
-use Rattle.std.specs.Prelude.{◌≡◌, ℕ, List, Option, Some, None}
+use Rattle.std.specs.Prelude.{◌≡◌, ◌++◌, ℕ, List, Option, Some, None, codes}
 use Rattle.pv_script.specs.Commands.{SpellsCommand}
 use Rattle.pv_script.specs.Replies.{reply_bytes}
 use Rattle.pv_script.specs.declared.commands.Command.{Command}
@@ -8,13 +8,14 @@ use Rattle.pv_script.specs.declared.replies.Reply.{Reply}
 use Rattle.pv_session.specs.Sessions.{PlainSession}
 use Rattle.pv_conversation.specs.declared.answers.Answer.{Answer}
 use Rattle.pv_conversation.specs.declared.answers.ReplyText.{ReplyText}
-use Rattle.pv_conversation.specs.declared.answers.ReplyText.TheVariants.{Made, Fixed}
+use Rattle.pv_conversation.specs.declared.answers.ReplyText.TheVariants.{Made, Fixed, Shown}
 use Rattle.pv_conversation.specs.Session.{RepliesBy, RepliesTo, done_of}
 
 -- the bytes of the text of a reply
 abbrev pub text_of_reply : ReplyText → List ℕ
 text_of_reply (Made text) = text.items
 text_of_reply (Fixed text) = text.now
+text_of_reply (Shown head body) = head.items ++ (body ++ codes "\n")
 
 abbrev pub IsAnswerOf : Reply → Answer → Type 0
 IsAnswerOf told answer =

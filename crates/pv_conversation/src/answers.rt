@@ -1,12 +1,16 @@
 //! Replies as they are told: their texts, and what was done.
 
-ghost use Rattle.std.specs.Prelude.{◌≡◌, ◌≤◌, IfOk, None, vec_len};
+ghost use Rattle.std.specs.Prelude.{◌≡◌, ◌≤◌, ◌++◌, codes, true, IfOk, None, OnErr, OnOk, vec_len};
+ghost use Rattle.pv_conversation.specs.ReplyBuffer.{HoldsReplies};
 ghost use Rattle.pv_conversation.specs.Session.{done_of};
 ghost use Rattle.pv_conversation.specs.Turns.{IsAnswerOf, text_of_reply};
+ghost use Rattle.pv_io.specs.Causes.{AppendsFront, CountsFault};
 
-use pv_chars::NoMemory;
+use crate::reply_buffer::ReplyBuffer;
+use pv_chars::{Bytes, NoMemory};
 use pv_edit::Done;
-use pv_script::{Reply, no_command_text, okay_text, reply_text};
+use pv_io::{Failed, Sink};
+use pv_script::{Reply, no_command_text, okay_text, push_number, reply_text};
 use std::alloc::{AllocError, Global};
 
 /// The text of a reply.
@@ -16,16 +20,45 @@ pub enum ReplyText {
     Made(Vec<u8>),
     /// Text that is always the same.
     Fixed(&'static [u8]),
+    /// A first line, and behind it a document with an LF.
+    Shown(Vec<u8>, Bytes),
+}
+
+// Puts the first line of a reply, and the document behind it, which isn't copied.
+fn put_shown<K: Sink>(
+    head: &[u8],
+    body: &[u8],
+    buffer: &mut ReplyBuffer,
+    out: &mut K,
+) -> Result<(), Failed>
+    requires { K.ready out.old ≡ true }
+    ensures ok { OnOk result (HoldsReplies (K.written out.old) (K.written out.new) buffer.new
+        (buffer.old ++ (head.now ++ (body.now ++ codes "\n")))) }
+    ensures err { OnErr result (AppendsFront (K.written out.old) (K.written out.new)
+        (buffer.old ++ (head.now ++ (body.now ++ codes "\n")))) }
+    ensures cause { CountsFault (K.faults out.old) (K.faults out.new) result }
+    ensures ready { OnOk result (K.ready out.new ≡ true) }
+{
+    buffer.push(out, head)?;
+    buffer.push(out, body)?;
+    buffer.push(out, b"\n")
 }
 
 impl ReplyText {
-    /// Its bytes.
-    pub fn bytes(&self) -> &[u8]
-        ensures { result.now ≡ text_of_reply self.now }
+    /// Puts its bytes behind the replies that are held.
+    pub(crate) fn put<K: Sink>(&self, buffer: &mut ReplyBuffer, out: &mut K) -> Result<(), Failed>
+        requires { K.ready out.old ≡ true }
+        ensures ok { OnOk result (HoldsReplies (K.written out.old) (K.written out.new) buffer.new
+            (buffer.old ++ text_of_reply self.now)) }
+        ensures err { OnErr result (AppendsFront (K.written out.old) (K.written out.new)
+            (buffer.old ++ text_of_reply self.now)) }
+        ensures cause { CountsFault (K.faults out.old) (K.faults out.new) result }
+        ensures ready { OnOk result (K.ready out.new ≡ true) }
     {
         match self {
-            ReplyText::Made(text) => text,
-            ReplyText::Fixed(text) => text,
+            ReplyText::Made(text) => buffer.push(out, text),
+            ReplyText::Fixed(text) => buffer.push(out, text),
+            ReplyText::Shown(head, body) => put_shown(head, body.as_slice(), buffer, out),
         }
     }
 }
@@ -58,6 +91,36 @@ pub fn okay(done: Done, mut room: Vec<u8>) -> Answer
         text: ReplyText::Made(room),
         done: Some(done),
     }
+}
+
+/// The reply to `show`.
+pub fn shown(alloc: Global, body: Bytes) -> Result<Answer, NoMemory>
+    ensures { IfOk result (IsAnswerOf (Reply.Show body)) }
+{
+    let mut head = Vec::new(alloc);
+    head.extend_from_slice(b"show ")?;
+    push_number(&mut head, body.as_slice().len() as u64)?;
+    head.push(b'\n')?;
+    Ok(Answer {
+        text: ReplyText::Shown(head, body),
+        done: None,
+    })
+}
+
+/// The reply to `complete`, where so many elements are missing and this is the document with them.
+pub fn completed(alloc: Global, count: u64, body: Bytes) -> Result<Answer, NoMemory>
+    ensures { IfOk result (IsAnswerOf (Reply.Completed count body)) }
+{
+    let mut head = Vec::new(alloc);
+    head.extend_from_slice(b"completed ")?;
+    push_number(&mut head, count)?;
+    head.push(b' ')?;
+    push_number(&mut head, body.as_slice().len() as u64)?;
+    head.push(b'\n')?;
+    Ok(Answer {
+        text: ReplyText::Shown(head, body),
+        done: None,
+    })
 }
 
 /// Any other reply.

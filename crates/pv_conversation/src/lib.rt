@@ -8,12 +8,14 @@
 mod answers;
 mod beginning;
 pub mod laws;
+mod line_room;
 mod missing;
 mod offers;
 mod opened_session;
 mod reply_buffer;
 mod talk;
 mod turns;
+mod verdict_lines;
 
 pub use answers::{Answer, ReplyText};
 pub use beginning::begin;

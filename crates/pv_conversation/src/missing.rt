@@ -11,7 +11,7 @@ ghost use Rattle.pv_complete.specs.Remembering.{Remembers};
 ghost use Rattle.pv_session.specs.Sessions.{stamped_document};
 ghost use Rattle.pv_tree.specs.Prolog.{IsProlog};
 
-use crate::answers::{Answer, other};
+use crate::answers::{Answer, completed, other};
 use crate::opened_session::OpenedSession;
 use pv_chars::NoMemory;
 use pv_complete::{Completion, NeedError, Remembered, complete_by, need_remembering};
@@ -160,5 +160,8 @@ pub fn complete(alloc: Global, session: &OpenedSession) -> Result<Answer, NoMemo
     ensures { IfOk result (IsReplyBy session.now Command.Complete session.now) }
 {
     let reply = completion_reply(alloc, session)?;
-    other(alloc, &reply)
+    match reply {
+        Reply::Completed(count, body) => completed(alloc, count, body),
+        other_reply => other(alloc, &other_reply),
+    }
 }

@@ -18,6 +18,7 @@ ghost use Rattle.pv_io.specs.Causes.{CountsFault, AppendsFront};
 use crate::opened_session::OpenedSession;
 use crate::reply_buffer::ReplyBuffer;
 use crate::turns::turn;
+use crate::verdict_lines::{asks_verdicts, put_verdicts};
 use pv_chars::NoMemory;
 use pv_io::{Failed, Sink, Source, write_all};
 use pv_script::{Lines, MAX_LINE_BYTES, Took, limit_line_text, no_memory_text};
@@ -33,11 +34,14 @@ const MAX_SCRIPT_BYTES: usize = 268_435_456;
 /// The bytes that one `fill` is asked for.
 const PIECE: usize = 65_536;
 
-/// How far a script was read: the line that is being taken, and its number, counted from 1.
+/// How far a script was read and answered: the line that is being taken, its number, counted from
+/// 1, how many bytes the script may still have, and the replies that wait to be written.
 #[derive(Drop)]
 pub struct Reading {
     pub lines: Lines,
     pub number: u64,
+    pub left: usize,
+    pub buffer: ReplyBuffer,
 }
 
 /// What comes behind a piece of a script.
@@ -75,8 +79,12 @@ fn answer_line<K: Sink, L: Ledger>(
     ensures cause { CountsFault (K.faults out.old) (K.faults out.new) result }
     ensures ready { OnOk result (K.ready out.new ≡ true) }
 {
+    if asks_verdicts(line) {
+        put_verdicts(alloc, session.session(), buffer, out)?;
+        return Ok(true);
+    }
     match turn(rt, alloc, session, line, steps) {
-        Ok(Some(answer)) => buffer.push(out, answer.text.bytes())?,
+        Ok(Some(answer)) => answer.text.put(buffer, out)?,
         Ok(None) => return Ok(false),
         Err(NoMemory) => buffer.push(out, no_memory_text())?,
     }
@@ -90,20 +98,20 @@ fn answer_lines<K: Sink, L: Ledger>(
     session: &mut OpenedSession,
     reading: &mut Reading,
     piece: &[u8],
-    buffer: &mut ReplyBuffer,
     out: &mut K,
     steps: &mut Steps<L>,
 ) -> Result<Next, Failed>
     requires few { reading.old.number + length piece.now < 2 ^ 64 }
-    requires none { buffer.old ≡ [] }
+    requires none { reading.old.buffer ≡ [] }
     requires ready { K.ready out.old ≡ true }
     ensures next { (old : Option (List ℕ)) → (script : List ℕ) → (first : CountedSession) →
         length script + length piece.now ≤ MAX_BYTES →
         Conversed (Appends old (K.written out.old)) first script
         (counted session.old steps.old) reading.old.lines reading.old.number →
-        ComesOrFails (HoldsReplies old (K.written out.new) buffer.new)
+        ComesOrFails (HoldsReplies old (K.written out.new) reading.new.buffer)
         (AppendsFront old (K.written out.new))
         first (script ++ piece.now) (counted session.new steps.new) reading.new result }
+    ensures left { reading.new.left ≡ reading.old.left }
     ensures cause { CountsFault (K.faults out.old) (K.faults out.new) result }
     ensures ready { OnOk result (K.ready out.new ≡ true) }
 {
@@ -113,7 +121,8 @@ fn answer_lines<K: Sink, L: Ledger>(
             Took::More => return Ok(Next::More),
             Took::TooLong => return Ok(Next::LineLimit),
             Took::Line(eaten) => {
-                if !answer_line(rt, alloc, session, reading.lines.line(), buffer, out, steps)? {
+                let line = reading.lines.line();
+                if !answer_line(rt, alloc, session, line, &mut reading.buffer, out, steps)? {
                     return Ok(Next::Quit);
                 }
                 reading.lines.clear();
@@ -147,45 +156,36 @@ fn beyond(next: Next, lines: &Lines, byte: u8) -> Next
     }
 }
 
-// Answers the lines that the piece ends, up to the limit on the script, which so many bytes pass.
+// Answers the lines that the piece ends, up to the limit on the script.
 fn answer_within<K: Sink, L: Ledger>(
     rt: &(impl Threads + Sync),
     alloc: Global,
     session: &mut OpenedSession,
     reading: &mut Reading,
     piece: &[u8],
-    left: usize,
-    buffer: &mut ReplyBuffer,
     out: &mut K,
     steps: &mut Steps<L>,
 ) -> Result<Next, Failed>
     requires few { reading.old.number + length piece.now < 2 ^ 64 }
-    requires none { buffer.old ≡ [] }
+    requires none { reading.old.buffer ≡ [] }
     requires ready { K.ready out.old ≡ true }
     ensures next { (old : Option (List ℕ)) → (script : List ℕ) → (first : CountedSession) →
-        length script + left ≡ MAX_BYTES →
+        length script + reading.old.left ≡ MAX_BYTES →
         Conversed (Appends old (K.written out.old)) first script
         (counted session.old steps.old) reading.old.lines reading.old.number →
-        ComesOrFails (HoldsReplies old (K.written out.new) buffer.new)
+        ComesOrFails (HoldsReplies old (K.written out.new) reading.new.buffer)
         (AppendsFront old (K.written out.new))
         first (script ++ piece.now) (counted session.new steps.new) reading.new result }
-    ensures fits { IfOk result (IsWithinScript (length piece.now) left) }
+    ensures fits { IfOk result (IsWithinScript (length piece.now) reading.old.left) }
+    ensures left { reading.new.left ≡ reading.old.left }
     ensures cause { CountsFault (K.faults out.old) (K.faults out.new) result }
     ensures ready { OnOk result (K.ready out.new ≡ true) }
 {
+    let left = reading.left;
     if piece.len() <= left {
-        return answer_lines(rt, alloc, session, reading, piece, buffer, out, steps);
+        return answer_lines(rt, alloc, session, reading, piece, out, steps);
     }
-    let next = answer_lines(
-        rt,
-        alloc,
-        session,
-        reading,
-        &piece[..left],
-        buffer,
-        out,
-        steps,
-    )?;
+    let next = answer_lines(rt, alloc, session, reading, &piece[..left], out, steps)?;
     Ok(beyond(next, &reading.lines, piece[left]))
 }
 
@@ -196,27 +196,26 @@ fn answer_piece<K: Sink, L: Ledger>(
     session: &mut OpenedSession,
     reading: &mut Reading,
     piece: &[u8],
-    left: usize,
-    buffer: &mut ReplyBuffer,
     out: &mut K,
     steps: &mut Steps<L>,
 ) -> Result<Next, Failed>
     requires few { reading.old.number + length piece.now < 2 ^ 64 }
-    requires none { buffer.old ≡ [] }
+    requires none { reading.old.buffer ≡ [] }
     requires ready { K.ready out.old ≡ true }
     ensures next { (old : Option (List ℕ)) → (script : List ℕ) → (first : CountedSession) →
-        length script + left ≡ MAX_BYTES →
+        length script + reading.old.left ≡ MAX_BYTES →
         Conversed (Appends old (K.written out.old)) first script
         (counted session.old steps.old) reading.old.lines reading.old.number →
         ComesOrFails (Appends old (K.written out.new)) (AppendsFront old (K.written out.new))
         first (script ++ piece.now) (counted session.new steps.new) reading.new result }
-    ensures fits { IfOk result (IsWithinScript (length piece.now) left) }
-    ensures none { IfOk result (λ _. buffer.new ≡ []) }
+    ensures fits { IfOk result (IsWithinScript (length piece.now) reading.old.left) }
+    ensures left { reading.new.left ≡ reading.old.left }
+    ensures none { IfOk result (λ _. reading.new.buffer ≡ []) }
     ensures cause { CountsFault (K.faults out.old) (K.faults out.new) result }
     ensures ready { OnOk result (K.ready out.new ≡ true) }
 {
-    let next = answer_within(rt, alloc, session, reading, piece, left, buffer, out, steps)?;
-    buffer.flush(out)?;
+    let next = answer_within(rt, alloc, session, reading, piece, out, steps)?;
+    reading.buffer.flush(out)?;
     Ok(next)
 }
 
@@ -225,24 +224,24 @@ fn finish<K: Sink, L: Ledger>(
     rt: &(impl Threads + Sync),
     alloc: Global,
     session: &mut OpenedSession,
-    reading: &Reading,
-    buffer: &mut ReplyBuffer,
+    reading: &mut Reading,
     out: &mut K,
     steps: &mut Steps<L>,
 ) -> Result<(), Failed>
-    requires none { buffer.old ≡ [] }
+    requires none { reading.old.buffer ≡ [] }
     requires ready { K.ready out.old ≡ true }
     ensures finished { (old : Option (List ℕ)) → (script : List ℕ) → (first : CountedSession) →
         length script ≤ MAX_BYTES →
         Conversed (Appends old (K.written out.old)) first script
-        (counted session.old steps.old) reading.now.lines reading.now.number →
+        (counted session.old steps.old) reading.old.lines reading.old.number →
         Finishes old first steps.new script (K.written out.new) result }
     ensures cause { CountsFault (K.faults out.old) (K.faults out.new) result }
     ensures ready { OnOk result (K.ready out.new ≡ true) }
 {
     if reading.lines.held() > 0 {
-        answer_line(rt, alloc, session, reading.lines.line(), buffer, out, steps)?;
-        buffer.flush(out)?;
+        let line = reading.lines.line();
+        answer_line(rt, alloc, session, line, &mut reading.buffer, out, steps)?;
+        reading.buffer.flush(out)?;
     }
     Ok(())
 }
@@ -303,33 +302,28 @@ pub fn converse<S: Source, K: Sink, L: Ledger>(
     let Ok(mut piece) = zeros(alloc, PIECE) else {
         return Status::NoMemory;
     };
-    let Ok(mut buffer) = ReplyBuffer::new(alloc) else {
+    let Ok(buffer) = ReplyBuffer::new(alloc) else {
         return Status::NoMemory;
     };
-    let mut reading = Reading { lines, number: 1 };
-    let mut left = MAX_SCRIPT_BYTES;
+    let mut reading = Reading {
+        lines,
+        number: 1,
+        left: MAX_SCRIPT_BYTES,
+        buffer,
+    };
     'pieces: loop {
         let Ok(count) = input.fill(&mut piece) else {
             return Status::ReadFault;
         };
         if count == 0 {
-            return match finish(rt, alloc, session, &reading, &mut buffer, out, steps) {
+            return match finish(rt, alloc, session, &mut reading, out, steps) {
                 Ok(()) => Status::Done,
                 Err(_) => Status::WriteFault,
             };
         }
-        match answer_piece(
-            rt,
-            alloc,
-            session,
-            &mut reading,
-            &piece[..count],
-            left,
-            &mut buffer,
-            out,
-            steps,
-        ) {
-            Ok(Next::More) => left -= count,
+        let taken = &piece[..count];
+        match answer_piece(rt, alloc, session, &mut reading, taken, out, steps) {
+            Ok(Next::More) => reading.left -= count,
             Ok(Next::Quit) => return Status::Done,
             Ok(Next::LineLimit) => return announce_line(reading.number, out),
             Ok(Next::ScriptLimit) => return announce(b"limit script\n", out),

@@ -7,7 +7,7 @@ ghost use Rattle.pv_conversation.specs.Session.{TellsMove};
 ghost use Rattle.pv_conversation.specs.Turns.{IsAnswerOf, IsReplyBy, IsTurn};
 ghost use Rattle.pv_session.specs.Sessions.{stamped_document};
 
-use crate::answers::{Answer, no_command, okay, other, take_room};
+use crate::answers::{Answer, no_command, okay, other, shown, take_room};
 use crate::missing::{complete, need};
 use crate::offers::offer;
 use crate::opened_session::OpenedSession;
@@ -114,7 +114,7 @@ fn show(alloc: Global, session: &Session) -> Result<Answer, NoMemory>
     ensures { IfOk result (IsReplyBy session.now Command.Show session.now) }
 {
     let bytes = doc_bytes(alloc, session.doc())?;
-    other(alloc, &Reply::Show(Bytes::of(bytes)))
+    shown(alloc, Bytes::of(bytes))
 }
 
 // The reply to `verdicts`.

@@ -11,9 +11,9 @@ returns-in_err-next-clause-next g c = λ old script first full so_far.
 pub returns-in_err-flush-clause-next : goal.returns-in_err-flush-clause-next
 returns-in_err-flush-clause-next g c = λ old script first full so_far.
     let p = err_from_is_err_and c.from_residual-in_err-flush.result c.from_residual-in_err-flush.ensures.1 in
-    rw p.1 (goes_on_cut _ _ _ _ _ _ c.in_ok-next.next (λ out h. holds_cut _ _ _ _ out h c.in_err-flush.ensures.err)
-    (fits_within script c.args.piece.now c.args.left c.in_ok-next.next c.in_ok-next.ensures.fits full) (c.in_ok-next.ensures.next old script first full so_far))
+    rw p.1 (goes_on_cut _ _ _ _ _ c.answer_within.new.reading c.in_ok-next.next (λ out h. holds_cut _ _ _ _ out h c.in_err-flush.ensures.err)
+    (fits_within script c.args.piece.now c.args.reading.now.left c.in_ok-next.next c.in_ok-next.ensures.fits full) (c.in_ok-next.ensures.next old script first full so_far))
 
 pub returns-clause-next : goal.returns-clause-next
 returns-clause-next g c = λ old script first full so_far.
-    goes_on_as _ _ _ _ _ _ c.in_ok-next.next (λ out h. holds_written _ _ _ _ out h c.in_ok-flush.ensures.ok) (c.in_ok-next.ensures.next old script first full so_far)
+    goes_on_as _ _ _ _ _ c.answer_within.new.reading c.in_ok-next.next (λ out h. holds_written _ _ _ _ out h c.in_ok-flush.ensures.ok) (c.in_ok-next.ensures.next old script first full so_far)

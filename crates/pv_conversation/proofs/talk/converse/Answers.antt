@@ -80,6 +80,7 @@ pieces-preserved g c =
         arith,
         talk.within,
         fits,
+        c.in-Ok-More.ensures.left,
         c.in-Ok-fill.ensures.bound.1,
         length-take c.in-Ok-fill.count c.fill.new.buf,
         length-append talk.script (take c.in-Ok-fill.count c.fill.new.buf),

@@ -16,4 +16,4 @@ returns c =
     let same : c.of.result ≡ doc_text now.doc =
     c.of.ensures ∙ c.in_ok-bytes.ensures.text ∙ sym (doc_text-without_marks doc) ∙ ap (doc_text {M = Unit}) (sym (unmarked_as stamp_of doc))
     ∙ doc_text-without_marks (stamps_of doc) ∙ ap (doc_text {M = ℕ}) c.doc.ensures.doc in
-    replies_by now now shows (Show c.of.result) c.other.result (ap Show same, refl) c.other.ensures
+    replies_by now now shows (Show c.of.result) c.shown.result (ap Show same, refl) c.shown.ensures
