@@ -1,12 +1,12 @@
 #!/usr/bin/env bash
 # All tests. `rt ci` proves every crate, tries the must-fail edits and runs the crates' tests and the program. What it has proved and built is put
-# at build/pvtag, and the checks of tests/run.py are run on it. The last line tells how many passed. Words: names of checks, which are run alone,
-# on the program that is built; `--list` lists them.
+# at build/pvtag and build/pvlong, and the checks of tests/run.py are run on them. The last line tells how many passed. Words: names of checks,
+# which are run alone, on what is built; `--list` lists them.
 set -u
 cd "$(dirname "$0")/.." || exit 1
 if [ $# -gt 0 ]; then
-    [ "$1" = --list ] || tools/build --check || {
-        echo "tests/all.sh: build/pvtag is older than its sources: tools/build makes it"
+    [ "$1" = --list ] || tools/build pvtag pvlong --check || {
+        echo "tests/all.sh: what is built is older than its sources: \`tools/build pvtag pvlong\` makes it"
         exit 1
     }
     exec python3 tests/run.py "$@"
@@ -20,7 +20,8 @@ counted() {
 }
 
 # What is proved is what stands here now, whatever changes meanwhile.
-sources=$(tools/build --sum) || exit 1
+mapfile -t sources < <(tools/build pvtag pvlong --sum)
+[ "${#sources[@]}" -eq 2 ] || exit 1
 commit=$(git rev-parse HEAD 2>/dev/null)
 [ -z "$(git status --porcelain 2>/dev/null)" ] || commit+=" with changes"
 rm -f build/pvtag.gate
@@ -30,7 +31,8 @@ rt ci | tee "$log"
     exit 1
 }
 proofs=$(counted)
-{ tools/build --put crates/pvtag/out/pvtag "$sources" && tools/build --check; } || {
+{ tools/build pvtag --put crates/pvtag/out/pvtag "${sources[0]}" && tools/build pvlong --put crates/pvlong/out/pvlong "${sources[1]}" &&
+    tools/build pvtag pvlong --check; } || {
     echo "tests/all.sh: the sources have changed since they were proved"
     echo "0 passed, 1 failed"
     exit 1
@@ -42,6 +44,6 @@ checks=${checks:-0 passed, 1 failed}
 skipped=$(tail -n 1 "$log" | grep -oE ', [0-9]+ skipped')
 told="$((${proofs%% *} + ${checks%% *})) passed, $(($(cut -d' ' -f3 <<<"$proofs") + $(cut -d' ' -f3 <<<"$checks"))) failed$skipped"
 # A package tells it.
-[ "$status" -ne 0 ] || echo "$sources $told, at commit $commit" >build/pvtag.gate
+[ "$status" -ne 0 ] || echo "${sources[0]} $told, at commit $commit" >build/pvtag.gate
 echo "$told"
 exit "$status"

@@ -1,4 +1,4 @@
-"""Tries `./pvtag` and tools/build with a stand-in for the kit's `rt`, in a copy of what they read. The last line tells how many passed."""
+"""Tries `./pvtag`, `./pvlong` and tools/build with a stand-in for the kit's `rt`, in a copy of what they read. The last line tells how many passed."""
 import contextlib
 import os
 import signal
@@ -25,9 +25,12 @@ if [ -n "$WRONG" ]; then
     printf '== pv_model\\nan open goal\\nrt: pv_model NOT PROVED\\n== pv_dtd\\nrt: pv_dtd NOT PROVED\\n0 passed, 2 failed\\n'
     exit 1
 fi
-mkdir -p crates/pvtag/out
-{ echo '#!/bin/sh'; echo "echo built of $(cksum <crates/pv_steps/src/lib.rt), \\"\\$@\\""; } >crates/pvtag/out/pvtag
-chmod +x crates/pvtag/out/pvtag
+for it in pvtag pvlong; do
+    [ -d crates/$it ] || continue
+    mkdir -p crates/$it/out
+    { echo '#!/bin/sh'; echo "echo built of $(cksum <crates/pv_steps/src/lib.rt), \\"\\$@\\""; } >crates/$it/out/$it
+    chmod +x crates/$it/out/$it
+done
 [ ! -e crates/pv_steps/must-fail ] || exit 8
 echo "38 passed, 0 failed"
 """
@@ -42,7 +45,7 @@ class Trial(Expecting):
         shutil.copytree(TOP / "crates", self.top / "crates", ignore=shutil.ignore_patterns("out", "proofs", "specs"))
         (self.top / "docs").mkdir()
         (self.top / "tools").mkdir()
-        for name in ("crates.txt", "HANDLES", "pvtag", "tools/build", "tools/processes.py", "docs/DEVELOPING.md"):
+        for name in ("crates.txt", "HANDLES", "pvtag", "pvlong", "tools/build", "tools/processes.py", "docs/DEVELOPING.md"):
             shutil.copy(TOP / name, self.top / name)
         self.bin, self.runs, self.never = folder / "bin", folder / "runs", folder / "never"
         self.bin.mkdir()
@@ -173,6 +176,29 @@ def try_placing(trial: Trial) -> None:
     trial.expect("nothing else is left", left == ["lock", "pvtag", "pvtag.sum"], left)
 
 
+def try_other(trial: Trial) -> None:
+    """The other program: built where it is called, or by its name; each has sources of its own."""
+    before = trial.count()
+    told = trial.run("pvlong", "a", "b c")
+    trial.expect("a call builds it", told[0] == 0 and told[1].startswith("built of ") and told[1].endswith(", a b c\n"), told)
+    trial.expect("it alone", trial.count() == before + 1 and trial.run("pvtag")[1] == "other\n")
+    trial.expect("both are of their sources", trial.run("tools/build", "pvtag", "pvlong", "--check")[0] == 0)
+    with (trial.top / "crates/pvlong/src/main.rt").open("a") as source:
+        source.write("// changed\n")
+    states = [trial.run("tools/build", *names, "--check")[0] for names in (["pvtag"], ["pvlong"], ["pvtag", "pvlong"])]
+    trial.expect("one is older than its sources", states == [0, 1, 1], states)
+    told = trial.run("tools/build", "pvtag", "pvlong")
+    trial.expect("what is older is built", told[0] == 0 and trial.count() == before + 2 and trial.run("tools/build", "pvlong", "--check")[0] == 0, told)
+    sums = trial.run("tools/build", "pvtag", "pvlong", "--sum")[1].split()
+    trial.expect("a sum of each", len(set(sums)) == 2 and sums[1] == (trial.top / "build/pvlong.sum").read_text().strip(), sums)
+    told = trial.run("tools/build", "pvlong", "--put", str(trial.top / "other"))
+    trial.expect("what was built elsewhere, of it", told[0] == 0 and trial.run("pvlong")[1] == "other\n", told)
+    trial.expect("one is put at a time", trial.run("tools/build", "pvtag", "pvlong", "--put", str(trial.top / "other"))[0] == 2)
+    (trial.top / "build/pvlong").unlink()
+    told = trial.run("pvlong", "a", WRONG="1")
+    trial.expect("a failed build of it", told[0] == 10 and told[1] == "" and "pvlong: pv_model couldn't be built:" in told[2], told)
+
+
 def main() -> int:
     with tempfile.TemporaryDirectory(prefix="pvtag-trial-") as folder:
         trial = Trial(Path(folder))
@@ -180,6 +206,7 @@ def main() -> int:
         try_builds(trial)
         try_changes(trial)
         try_placing(trial)
+        try_other(trial)
     return trial.ended()
 
 

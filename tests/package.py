@@ -1,6 +1,6 @@
 """Tries `tools/package`: made twice it is the same, it installs into a bare root, each command runs there, and removal leaves nothing.
 
-Word: the program, which is packed. The bare root has this machine's libc and Debian's Python alone; it needs root's rights. The last line tells how
+Words: PVTAG PVLONG, the programs, which are packed. The bare root has this machine's libc and Debian's Python alone; it needs root's rights. The last line tells how
 many passed.
 """
 import filecmp
@@ -22,13 +22,14 @@ PYTHON = "/usr/bin/python3"
 
 
 class Trial(Expecting):
-    """A clone that has a program, and what passed."""
+    """A clone that has the programs, and what passed."""
 
-    def __init__(self, folder: Path, program: Path) -> None:
+    def __init__(self, folder: Path, programs: list[Path]) -> None:
         super().__init__()
         self.folder, self.clone, self.root = folder, folder / "clone", folder / "root"
         subprocess.run(["git", "clone", "-q", str(TOP), str(self.clone)], check=True)
-        subprocess.run([self.clone / "tools/build", "--put", str(program)], check=True)
+        for name, program in zip(("pvtag", "pvlong"), programs):
+            subprocess.run([self.clone / "tools/build", name, "--put", str(program)], check=True)
 
     def make(self, name: str, **more: str) -> list[Path]:
         made = subprocess.run([self.clone / "tools/package", self.folder / name], env={**os.environ, **more}, stdout=subprocess.PIPE, text=True,
@@ -76,7 +77,7 @@ def libraries(file: str) -> list[str]:
     return [word for line in lines for word in line.split() if word.startswith("/")]
 
 
-def bare_root(trial: Trial, program: Path) -> None:
+def bare_root(trial: Trial, programs: list[Path]) -> None:
     """A root with libc, a shell and Debian's Python."""
     for folder in ("dev", "proc", "tmp", "etc", "usr/bin", "usr/lib", "var/lib/dpkg/info", "var/lib/dpkg/updates"):
         (trial.root / folder).mkdir(parents=True, exist_ok=True)
@@ -86,7 +87,8 @@ def bare_root(trial: Trial, program: Path) -> None:
     (trial.root / "var/lib/dpkg/status").touch()
     (trial.root / "dev/null").touch()
     version = os.path.realpath(PYTHON)
-    for file in {PYTHON, version, "/bin/sh", "/usr/bin/env", *libraries(PYTHON), *libraries("/bin/sh"), *libraries("/usr/bin/env"), *libraries(str(program))}:
+    for file in {PYTHON, version, "/bin/sh", "/usr/bin/env", *libraries(PYTHON), *libraries("/bin/sh"), *libraries("/usr/bin/env"),
+                 *(needed for program in programs for needed in libraries(str(program)))}:
         copy_file(trial.root, file)
     shutil.copytree(f"/usr/lib/{Path(version).name}", trial.root / "usr/lib" / Path(version).name, symlinks=True,
                     ignore=shutil.ignore_patterns("__pycache__", "test", "idlelib", "config-*", "ensurepip"), ignore_dangling_symlinks=True)
@@ -113,12 +115,13 @@ def try_installed(trial: Trial, deb: Path) -> None:
     for what, words, status, wanted in (
         ("the program", ["pvtag", "valid", *letter], 0, "valid\n"),
         ("an unknown word", ["pvtag", "--version"], 2, "usage\n"),
+        ("the other program", ["pvlong", "need", *letter], 0, "need 0\n"),
         ("reasons", ["pvtag-why", *swapped], 0, "`closer`"),
         ("a report", ["pvtag-report", *letter], 0, '"verdict": "valid"'),
         ("the page's words", ["pvtag-annotate", "--help"], 0, "usage: "),
         ("flattening without lxml", ["pvtag-flatten", letter[0]], 2, ""),
     ):
-        if (trial.root / "usr/bin" / words[0]).is_symlink() or words[0] == "pvtag":
+        if (trial.root / "usr/bin" / words[0]).is_symlink() or words[0] in ("pvtag", "pvlong"):
             told = trial.inside(*words)
             trial.expect(what, told.returncode == status and wanted in told.stdout, (told.returncode, told.stdout, told.stderr))
         else:
@@ -128,11 +131,11 @@ def try_installed(trial: Trial, deb: Path) -> None:
         told = trial.inside("pvtag-lsp", given=f"Content-Length: {len(body)}\r\n\r\n{body}")
         trial.expect("the language server", '"capabilities"' in told.stdout, (told.returncode, told.stdout, told.stderr))
     opens_page(trial, letter)
-    for name in ("pvtag", "pvtag-annotate", "pvtag-flatten", "pvtag-lsp", "pvtag-report", "pvtag-why"):
+    for name in ("pvtag", "pvlong", "pvtag-annotate", "pvtag-flatten", "pvtag-lsp", "pvtag-report", "pvtag-why"):
         with gzip.open(trial.root / f"usr/share/man/man1/{name}.1.gz", "rt") as file:
             manual = file.read()
-        trial.expect("what the manual tells", "rattle-kit" in manual or name != "pvtag", manual[-600:])
-        told = trial.inside(name, "--help").stdout if name not in ("pvtag", "pvtag-flatten") else ""
+        trial.expect("what the manual tells", "rattle-kit" in manual or name not in ("pvtag", "pvlong"), manual[-600:])
+        told = trial.inside(name, "--help").stdout if name not in ("pvtag", "pvlong", "pvtag-flatten") else ""
         lacking = [it for it in re.findall("--([a-z-]+)", told) if it != "help" and f"Fl -{it}" not in manual]
         trial.expect("the options of the manual", lacking == [], (name, lacking))
         if shutil.which("mandoc"):
@@ -177,12 +180,15 @@ def try_completion(trial: Trial) -> None:
     odd = trial.folder / "a b.dtd"
     shutil.copy(TOP / "examples/letter.dtd", odd)
     script = 'source "$0"; COMP_WORDS=("$@") COMP_CWORD=$(($# - 1)); _pvtag; echo "${COMPREPLY[@]}"'
-    program = str(trial.clone / "build/pvtag")
+    program, other = str(trial.clone / "build/pvtag"), str(trial.clone / "build/pvlong")
     blank, quoted = str(odd).replace(" ", "\\ "), f"'{odd}'"
     for words, wanted in ((["c"], "check complete"), (["check", blank, "l"], "letter lb"), (["check", quoted, "bo"], "body"),
                           (["check", f"$(touch {trial.folder}/run)", "l"], ""), (["check", blank, "letter", "x"], ""), (["drill", ""], "")):
         told = subprocess.run(["bash", "-c", script, TOP / "tools/completion.bash", program, *words], capture_output=True, text=True, check=False)
         trial.expect("a completion", told.stdout == f"{wanted}\n", (words, told))
+    for words, wanted in ((["n"], "need"), ([""], "need complete"), (["need", blank, "l"], "letter lb")):
+        told = subprocess.run(["bash", "-c", script, TOP / "tools/completion.bash", other, *words], capture_output=True, text=True, check=False)
+        trial.expect("a completion of pvlong", told.stdout == f"{wanted}\n", (words, told))
     trial.expect("nothing typed is run", not (trial.folder / "run").exists())
 
 
@@ -195,19 +201,19 @@ def try_lintian(trial: Trial, deb: Path) -> None:
 
 
 def main() -> int:
-    program = Path(sys.argv[1]).resolve()
+    programs = [Path(word).resolve() for word in sys.argv[1:]]
     for tool in ("git", "dpkg-deb", "dpkg", "chroot", "ldd"):
         if not shutil.which(tool):
             print(f"skipped: the package (no {tool})\n0 passed, 0 failed")
             return 0
     with tempfile.TemporaryDirectory(prefix="pvtag-package-") as folder:
-        trial = Trial(Path(folder), program)
+        trial = Trial(Path(folder), programs)
         try_completion(trial)
         deb, tar = same_bytes(trial)
         runs_from_folder(trial, tar)
         try_lintian(trial, deb)
         if os.geteuid() == 0 and os.path.exists(PYTHON):
-            bare_root(trial, program)
+            bare_root(trial, programs)
             try_installed(trial, deb)
         else:
             print("skipped: the package in a bare root (it needs root's rights and Debian's Python)")

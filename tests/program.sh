@@ -42,6 +42,7 @@ head -c 67108864 long.xml | tr ' ' '\n' >lines.txt
 head -c 67108864 long.xml | tr ' ' x >long.txt
 printf 'show\n' >show.txt
 pvtag=$top/pvtag
+pvlong=$top/pvlong
 lf=$'\n'
 
 "$pvtag" valid text.dtd doc hello.xml >/dev/null || {
@@ -103,6 +104,14 @@ export -f script
 expect "the longest script" 0 "4096 no command$lf" bash -c 'script 268435456 | timeout 600 "$0" session a.dtd doc hello.xml | uniq -c | sed "s/^ *//"' "$pvtag"
 expect "a longer script" 0 "4096 no command${lf}1 limit script$lf" bash -c 'script 268435457 | timeout 600 "$0" session a.dtd doc hello.xml | uniq -c | sed "s/^ *//"' "$pvtag"
 expect "its status" 8 "" bash -c 'script 268435457 | timeout 600 "$0" session a.dtd doc hello.xml >/dev/null' "$pvtag"
+
+# The program for wide lists.
+expect "pvlong, no words" 2 "usage$lf" "$pvlong"
+expect "pvlong, another question" 2 "usage$lf" "$pvlong" check a.dtd doc hello.xml
+expect "pvlong, a missing DTD" 3 "" "$pvlong" need nothing.dtd doc hello.xml
+expect "pvlong, a missing document" 3 "" "$pvlong" need a.dtd doc nothing.xml
+expect "pvlong, by a pipe" 0 "need 2$lf" bash -c 'printf "<doc><head/>t</doc>" | "$0" need a.dtd doc /dev/stdin' "$pvlong"
+expect "pvlong, a full device" 4 "" bash -c '"$0" complete a.dtd doc hello.xml >/dev/full' "$pvlong"
 
 # Drills.
 expect "a drill" 0 "drill 3 lines 7 ok 4 refused 3 open 1 checked 7$lf" "$pvtag" drill 3
@@ -330,7 +339,7 @@ session "an edit past the width" "$(lines 'no limit' 'history 0' 'verdicts 2' '.
     'addtext 0 0 y' history verdicts
 
 # The pages. shows COMMAND OUTPUT: it prints this, in which a line of three dots is any lines
-mkdir page && ln -s "$pvtag" "$top/examples" "$top/clients" page/ || exit 1
+mkdir page && ln -s "$pvtag" "$pvlong" "$top/examples" "$top/clients" page/ || exit 1
 where=page
 shows() {
     local got
@@ -370,19 +379,21 @@ page <"$top/docs/ARCHIVES.md"
 page <"$top/docs/HOWTO.md"
 page <"$top/docs/CLIENTS.md"
 expect "the first of the two commands" 0 "valid$lf" bash -c "cd page && $(sed -n 's/^- `\(\.\/pvtag [^`]*\)`.*/\1/p' "$top/README.md")"
-# The manual shows commands among the examples, a long one over two lines.
+# The manuals show commands among the examples, a long one over two lines.
 where=page/examples
-page < <(sed -n '/^\.Bd -literal/,/^\.Ed/ { s/^\.\(Bd\|Ed\).*/```/; s/\\e/\\/g; p }' "$top/docs/pvtag.1" | sed ':join; /|$/ { N; s/\n */ /; b join }')
-if command -v groff >/dev/null; then
-    expect "the manual page" 0 "" groff -ww -mdoc -Tutf8 -z "$top/docs/pvtag.1"
-else
-    echo "skipped: the manual page (no groff)"
-fi
-if command -v mandoc >/dev/null; then
-    # Whether the manual that it refers to is installed is the machine's business.
-    expect "the manual page, by mandoc" 0 "" bash -c 'mandoc -Tlint "$0" 2>&1 | grep -v ": outdated mandoc.db\|STYLE: referenced manual not found" || true' "$top/docs/pvtag.1"
-else
-    echo "skipped: the manual page, by mandoc (no mandoc)"
-fi
+for manual in "$top/docs/pvtag.1" "$top/docs/pvlong.1"; do
+    page < <(sed -n '/^\.Bd -literal/,/^\.Ed/ { s/^\.\(Bd\|Ed\).*/```/; s/\\e/\\/g; p }' "$manual" | sed ':join; /|$/ { N; s/\n */ /; b join }')
+    if command -v groff >/dev/null; then
+        expect "the manual page" 0 "" groff -ww -mdoc -Tutf8 -z "$manual"
+    else
+        echo "skipped: the manual page (no groff)"
+    fi
+    if command -v mandoc >/dev/null; then
+        # Whether the manual that it refers to is installed is the machine's business.
+        expect "the manual page, by mandoc" 0 "" bash -c 'mandoc -Tlint "$0" 2>&1 | grep -v ": outdated mandoc.db\|STYLE: referenced manual not found" || true' "$manual"
+    else
+        echo "skipped: the manual page, by mandoc (no mandoc)"
+    fi
+done
 echo "program: $passed passed, $failed failed"
 [ "$failed" -eq 0 ]

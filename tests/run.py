@@ -1,4 +1,4 @@
-"""Runs the checks behind the proofs on the built program, side by side as far as processors go. Words: names of checks, all where none are
+"""Runs the checks behind the proofs on the built programs, side by side as far as processors go. Words: names of checks, all where none are
 given; `--list` lists them. The last lines tell how long each took, and how many tests passed.
 
 A check is a command whose last line of the form `N passed, M failed`, or `NAME: N passed, M failed`, tells what it tried; it is ended after its
@@ -26,7 +26,7 @@ from processes import end_all  # noqa: E402
 
 COUNT = re.compile(r"^(?:[\w' -]+: )?(\d+) passed, (\d+) failed", re.MULTILINE)
 SKIPPED = re.compile(r"^skipped: ", re.MULTILINE)
-PROGRAM = "build/pvtag"
+PROGRAMS = {"PVTAG": "build/pvtag", "PVLONG": "build/pvlong"}
 
 
 class Check(NamedTuple):
@@ -39,7 +39,7 @@ class Check(NamedTuple):
 
 
 def row(name: str, what: str, tools: str, seconds: int, words: str) -> Check:
-    return Check(name, what, tools.split(), seconds, words.replace("PVTAG", PROGRAM).split())
+    return Check(name, what, tools.split(), seconds, [PROGRAMS.get(it, it) for it in words.split()])
 
 
 # The longest first, so that the last to end isn't one of them. The seconds end what hangs: they are many times what the check takes on a machine that
@@ -65,10 +65,11 @@ CHECKS = [
     row("lists", "verdicts of lists against derivations by spans", "", 3600, "python3 tests/possible_lists.py PVTAG 120 1"),
     row("weights", "weights against derivations", "", 3600, "python3 tests/weights.py PVTAG 200 1 100"),
     row("least", "least numbers against a search", "", 3600, "python3 tests/least_numbers.py PVTAG 850 1"),
+    row("long", "wide lists: bounds and completions", "", 3600, "python3 tests/long.py PVLONG PVTAG 1 150"),
     row("completions", "completions: valid, whole, least", "", 3600, "python3 tests/completions.py PVTAG 400 1 60"),
     row("cuts", "cuts of texts against a model", "", 3600, "python3 tests/cuts.py PVTAG 40 1"),
     row("report", "reports on documents", "", 3600, "python3 tests/report.py PVTAG 1 40"),
-    row("package", "the package, in a bare root", "", 3600, "python3 tests/package.py PVTAG"),
+    row("package", "the package, in a bare root", "", 3600, "python3 tests/package.py PVTAG PVLONG"),
     row("check-session", "check against the opening of a session", "", 3600, "python3 tests/check_by_session.py PVTAG 300 1"),
     row("model", "sessions against a model", "", 3600, "python3 tests/against_a_model.py PVTAG 20000 7"),
     row("expansions", "parameter entities against a model", "", 3600, "python3 tests/expansions.py PVTAG 3000 1"),
@@ -84,6 +85,7 @@ CHECKS = [
     row("page-parts", "the parts of the page", "", 3600, "python3 tests/annotate_parts.py PVTAG 1"),
     row("page-asks", "what the page asks for, behind random moves", "", 3600, "python3 tests/annotate_asks.py PVTAG 1"),
     row("page-requests", "the requests of the page", "", 3600, "python3 tests/annotate_requests.py PVTAG"),
+    row("wide-clients", "what clients say of wide lists", "", 3600, "python3 tests/wide_clients.py PVTAG PVLONG"),
     row("build", "the build, with a stand-in for the kit", "", 1200, "python3 tests/build.py"),
     row("runner", "the run of these checks", "", 1200, "python3 tests/runner.py"),
     row("style", "files by pyflakes and shellcheck, pages by their width", "", 1200, "python3 tests/style.py"),

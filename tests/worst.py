@@ -36,12 +36,11 @@ class Bound(NamedTuple):
 SPANS = "a table has a row for each span of the list, and goes over its cuts: cubic in the kids"
 CUTS = "a pack's entries are held against each rule over each cut: cubic in the kids"
 PLACES = "a model of m parts that isn't deterministic, over a word of n tokens, costs n * m / 64"
-ROUNDS = "the tables are raised in rounds over all rules, until none changes"
-ORDER = "weights are settled in rounds, in the order of declarations"
 LIST = "an edit costs the list in which it is made"
 CACHE = "the nodes no longer fit the processor's nearer memory"
 THREADS = "behind 65,536 tokens of long lists that aren't valid the document is opened for threads: a step in time and memory, and linear beyond"
 KNOWN: dict[str, Bound] = {
+    "`check`, every other kid missing, (b, c)*": Bound(THREADS, 1.8, 1.9),
     "`check`, left recursion": Bound(THREADS, 1.8, 1.9),
     "`check`, right recursion": Bound(THREADS, 1.8, 1.9),
     "`check`, recursion in the middle": Bound(THREADS, 1.8, 1.9),
@@ -57,17 +56,7 @@ KNOWN: dict[str, Bound] = {
     "`check`, one optional name again and again": Bound(PLACES, 2.2),
     "`valid`, a name, and many of two behind it": Bound(PLACES, 2.2),
     "`check`, a name, and many of two behind it": Bound(PLACES, 2.2),
-    "`check`, a chain below a choice of all, declared from the top": Bound(ROUNDS, 2.2),
-    "`check`, a chain below a choice of all, declared from the end": Bound(ROUNDS, 2.2),
-    "`check`, a chain below a choice, each name mentioned 14 times": Bound(ROUNDS, 2.5),
-    "a session's `need`, a chain below a choice of all, declared from the top": Bound(ROUNDS, 2.2),
-    "a session's `need`, a chain below a choice of all, declared from the end": Bound(ROUNDS, 2.2),
-    "an edit, under a chain below a choice of all": Bound(ROUNDS, 2.4),
-    "`offer`, names with six optional others": Bound("each name's edit is judged from nothing, and " + ROUNDS, 2.5),
-    "a session's `need`, a chain of names, declared from the top": Bound(ORDER, 2.2),
-    "a session's `need`, 50 kids at the end of a chain, declared from the top": Bound(ORDER, 2.2),
-    "a session's `complete`, 50 kids at the end of a chain, declared from the top": Bound(ORDER, 2.2),
-    "a session's `need`, names each of which needs two of the next": Bound(ORDER, 2.2),
+    "`offer`, names with six optional others": Bound("each name's edit is judged from nothing", 1.6),
     "a session's `need`, a list of each of many names": Bound("columns are told apart for each owner, names times lists", 2.2),
     "a session, insertions at a list's end": Bound(LIST, 2.2),
     "a session, cuts of a text from its front": Bound(LIST, 2.2),

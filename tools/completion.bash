@@ -1,9 +1,11 @@
-# Completion of `pvtag` for bash: commands, files, and the declared names of the DTD for ROOT.
+# Completion of `pvtag` and `pvlong` for bash: commands, files, and the declared names of the DTD for ROOT.
 _pvtag() {
     local word=${COMP_WORDS[COMP_CWORD]} command=${COMP_WORDS[1]} dtd=${COMP_WORDS[2]} told name rest
+    local program=${COMP_WORDS[0]} commands='valid check session complete verify why deny standoff dtd drill'
+    [[ ${program##*/} != pvlong ]] || program=${program%pvlong}pvtag commands='need complete'
     COMPREPLY=()
     case $command.$COMP_CWORD in
-    *.1) mapfile -t COMPREPLY < <(compgen -W 'valid check session complete verify why deny standoff dtd drill' -- "$word") ;;
+    *.1) mapfile -t COMPREPLY < <(compgen -W "$commands" -- "$word") ;;
     drill.* | dtd.[3-9]) ;;
     *.3)
         # The word as it is typed, without its quotes: nothing in it is run.
@@ -13,7 +15,7 @@ _pvtag() {
         *) dtd=${dtd//\\/} ;;
         esac
         # The last line counts the names.
-        told=$("${COMP_WORDS[0]}" dtd "$dtd" 2>/dev/null </dev/null) || return
+        told=$("$program" dtd "$dtd" 2>/dev/null </dev/null) || return
         while read -r name rest; do
             [[ $name != "$word"* ]] || COMPREPLY+=("$name")
         done < <(sed '$d' <<<"$told")
@@ -24,4 +26,4 @@ _pvtag() {
         ;;
     esac
 }
-complete -F _pvtag pvtag
+complete -F _pvtag pvtag pvlong

@@ -7,8 +7,8 @@ use std::test::Fail;
 use test_fixture::documents::{document_of, repeated};
 use test_fixture::dtds::{ARTICLE, DOUBLING, NESTED, REALISTIC};
 
-// Documents, and how many elements each misses.
-static NEEDS: [(Texts, u64); 12] = [
+/// Documents, and how many elements each misses.
+pub static NEEDS: [(Texts, u64); 12] = [
     ((ARTICLE, "doc", "<doc>Hello</doc>"), 2),
     ((ARTICLE, "doc", "<doc><em>x</em></doc>"), 3),
     ((ARTICLE, "doc", "<doc><p>a</p><title>b</title></doc>"), 3),
@@ -30,7 +30,8 @@ static NEEDS: [(Texts, u64); 12] = [
     ((NESTED, "x", "<x><y/><y/><y/></x>"), 3),
 ];
 
-fn need_of(alloc: Global, texts: Texts) -> Result<u64, Fail> {
+/// How many elements a document misses.
+pub fn need_of(alloc: Global, texts: Texts) -> Result<u64, Fail> {
     let (dtd, root, text) = texts;
     let grammar = grammar_of(alloc, dtd)?;
     let doc = document_of(alloc, text, root)?;
@@ -45,11 +46,11 @@ fn needs(rt: HostRuntime) -> Result<(), Fail> {
     Ok(())
 }
 
-// A document that is refused: a DTD, a root, what stands before and behind so many sections, a word
-// for why it is refused, and the path that is told.
-struct Refused {
-    dtd: &'static str,
-    root: &'static str,
+/// A document that is refused: a DTD, a root, what stands before and behind so many sections, a
+/// word for why it is refused, and the path that is told.
+pub struct Refused {
+    pub dtd: &'static str,
+    pub root: &'static str,
     before: &'static str,
     sections: usize,
     behind: &'static str,
@@ -57,7 +58,8 @@ struct Refused {
     places: &'static [u32],
 }
 
-static REFUSED: [Refused; 3] = [
+/// Documents of which nothing is told.
+pub static REFUSED: [Refused; 3] = [
     Refused {
         dtd: ARTICLE,
         root: "doc",
@@ -99,7 +101,8 @@ fn is_told(refused: &NeedError, why: &str, places: &[u32]) -> bool {
     }
 }
 
-fn document(alloc: Global, row: &Refused) -> Result<String, AllocError> {
+/// The text of such a document.
+pub fn document(alloc: Global, row: &Refused) -> Result<String, AllocError> {
     repeated(alloc, row.sections, row.before, "<sec/>", row.behind)
 }
 

@@ -1,6 +1,7 @@
 """The page of `clients/annotate`: its files, and what a window says of them. Cases of `annotate.py`."""
+from lib.beside import WIDE, Beside
 from .browser import Page
-from .fixture import Server, need, same, soon
+from .fixture import ARTICLE, Server, need, same, soon
 from selenium.webdriver.common.keys import Keys
 
 LETTER = "<letter><opener><salute>Dear brother,</salute></opener>\n<body><p>I have met Mr Adams in Delft.</p></body></letter>\n"
@@ -58,14 +59,29 @@ def goes_on_behind_dialogs(driver, program):
 
 
 def names_wide_lists(driver, program):
-    """The head names the element that holds too much to count what is missing."""
-    with Server(program, "<letter><opener><salute>Dear</salute></opener>" + "<p>one</p>" * 1100 + "</letter>") as server:
-        page = Page(driver, server.url)
-        soon(page.status, lambda text: "⟨letter⟩ holds too much" in text, "the head")
-        page.keys(Keys.F8)
-        soon(lambda: page.find("#reason").text, lambda text: "too wide to tell" in text, "at the tag")
-        page.find("#preview").click()
-        soon(lambda: page.find("#completed .view").text, lambda text: "⟨letter⟩ holds too much" in text, "the preview")
+    """Where no program tells what is missing, the head names the element that holds too much to count it."""
+    with Beside(program) as beside:
+        beside.tells("8 no limit", "8 no limit")
+        with Server(beside.program, "<letter><opener><salute>Dear</salute></opener>" + "<p>one</p>" * 1100 + "</letter>") as server:
+            page = Page(driver, server.url)
+            soon(page.status, lambda text: "⟨letter⟩ holds too much" in text, "the head")
+            page.keys(Keys.F8)
+            soon(lambda: page.find("#reason").text, lambda text: "too wide to tell" in text, "at the tag")
+            page.find("#preview").click()
+            soon(lambda: page.find("#completed .view").text, lambda text: "⟨letter⟩ holds too much" in text, "the preview")
 
 
-CASES = [saves_beside, asks_before_it_closes, goes_on_behind_dialogs, names_wide_lists]
+def counts_wide_lists(driver, program):
+    """Where another program tells a range, the head, the tag and the preview do."""
+    with Beside(program) as beside:
+        beside.tells("0 need 1 to 2", "1 ")
+        with Server(beside.program, WIDE, ARTICLE, "doc") as server:
+            page = Page(driver, server.url)
+            soon(page.status, lambda text: "1 to 2 elements missing" in text and "in 1 place" in text, "the head")
+            page.keys(Keys.F8)
+            soon(lambda: page.find("#reason").text, lambda text: text.startswith("Missing here, though fewer may do: ⟨"), "at the tag")
+            page.find("#preview").click()
+            soon(lambda: page.find("#completed h2").text, lambda text: "Valid with 2 new elements; fewer may do." in text, "the preview")
+
+
+CASES = [saves_beside, asks_before_it_closes, goes_on_behind_dialogs, names_wide_lists, counts_wide_lists]

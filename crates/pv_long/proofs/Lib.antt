@@ -1,0 +1,3 @@
+-- of this crate:
+pub mod Adding
+pub mod Exact

@@ -1,0 +1,5 @@
+use Rattle.pv_long.proofs.Exact.{one_least}
+use Rattle.pv_long.proofs.laws.one_least_law.Goals as goal
+
+pub returns : goal.returns
+returns c = one_least

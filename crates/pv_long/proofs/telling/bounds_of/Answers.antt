@@ -1,0 +1,14 @@
+use Rattle.pv_dtd.proofs.Proper.{proper}
+use Rattle.pv_productive.specs.PlainForms.{dtd_of}
+use Rattle.pv_tree.specs.PlainDocs.{plain_doc}
+use Rattle.pv_long.proofs.Exact.{are_missing}
+use Rattle.pv_long.proofs.telling.bounds_of.Goals as goal
+
+pub returns-clause-least : goal.returns-clause-least
+returns-clause-least c =
+    are_missing (dtd_of c.args.grammar.now) c.args.root.now (plain_doc c.args.doc.now) c.bounds_add_up_law.ensures c.in_ok-found.found.least
+    (proper c.args.grammar.now.layout.dtd) c.proper_doc_law.ensures
+    (rw (c.in_ok-plan.ensures, c.in_ok-layout.ensures) at c.in_ok-found.ensures)
+
+pub returns-clause-completion : goal.returns-clause-completion
+returns-clause-completion c = rw c.dtd-dtd.ensures at (c.in_ok-completion.ensures (plain_doc c.args.doc.now) c.requires)

@@ -1,0 +1,131 @@
+//! How many elements are missing in a document, told by two bounds.
+
+ghost use Rattle.std.specs.Prelude.{◌≡◌, ◌<◌, IfErr, IfOk};
+ghost use Rattle.pv_dtd.specs.PlainForms.{plain_dtd};
+ghost use Rattle.pv_productive.specs.PlainForms.{dtd_of};
+ghost use Rattle.pv_tree.specs.Marks.{blank_mark};
+ghost use Rattle.pv_tree.specs.Plain.{PlainDoc};
+ghost use Rattle.pv_tree.specs.PlainDocs.{plain_doc};
+ghost use Rattle.pv_tree.specs.declared.nodes.Mark.{Mark};
+ghost use Rattle.pv_read.specs.Meaning.{DocumentMeans, is_document};
+ghost use Rattle.pv_long.specs.Told.{AreMissing, IsCompletion, IsMissing, TellsNone};
+
+use crate::answers::{Completion, Missing};
+use crate::bounding::bound_doc;
+use crate::checking::is_completion;
+use crate::errors::{LongError, MakeError};
+use crate::making::plan::plan_of;
+use crate::making::writing::{Plenty, Text, write_doc};
+use pv_dtd::Dtd;
+use pv_fresh::{PossibleError, possible_verdicts};
+use pv_missing::Verdicts;
+use pv_missing::laws::documents::bounds_add_up_law;
+use pv_missing::laws::proper::proper_doc_law;
+use pv_productive::Grammar;
+use pv_span::lay_out;
+use pv_steps::Steps;
+use pv_tree::{Doc, Mark};
+use std::alloc::Global;
+use std::marker::Brand;
+use std::sync::ledger::{Blank, Ledger};
+
+// The verdicts of the lists of a document that isn't impossible, on a counter of their own.
+fn verdicts_of<L: Ledger>(
+    alloc: Global,
+    grammar: &Grammar,
+    root: &[u8],
+    doc: &Doc,
+    blank: Blank,
+) -> Result<Verdicts, LongError>
+    requires name { blank.name ≡ L.name }
+    requires parts { blank.parts ≡ L.parts }
+    requires some { 0 < L.parts }
+    ensures { IfErr result (TellsNone (dtd_of grammar.now) root.now (plain_doc doc.now)) }
+{
+    let mut steps = Steps::<L>::start(blank);
+    match possible_verdicts(alloc, grammar, root, doc, &mut steps) {
+        Ok(verdicts) => Ok(verdicts),
+        Err(PossibleError::TooWide(path)) => Err(LongError::TooWide(path)),
+        Err(PossibleError::Impossible(path)) => Err(LongError::Impossible(path)),
+        Err(PossibleError::NoMemory) => Err(LongError::NoMemory),
+    }
+}
+
+// What was written, where it is a completion.
+fn completion_of(
+    alloc: Global,
+    dtd: &Dtd,
+    root: &[u8],
+    bytes: &[u8],
+    text: Text,
+) -> Result<Completion, MakeError>
+    ensures { IfOk result (λ c. (doc : PlainDoc Mark) →
+        DocumentMeans blank_mark root.now bytes.now (is_document doc) →
+        IsCompletion (plain_dtd dtd.now) root.now doc c) }
+{
+    let Text { body, marks, .. } = text;
+    let Ok(count) = u32::try_from(marks.len()) else {
+        return Err(MakeError::TooMany);
+    };
+    if !is_completion(alloc, dtd, root, bytes, marks.as_slice(), body.as_slice())? {
+        return Err(MakeError::Unproved);
+    }
+    Ok(Completion { count, marks, body })
+}
+
+// A number that no completion of a document passes from above, and one of them.
+fn bounds_of(
+    alloc: Global,
+    grammar: &Grammar,
+    root: &[u8],
+    doc: &Doc,
+    bytes: &[u8],
+    verdicts: &Verdicts,
+) -> Result<(u32, Completion), MakeError>
+    requires { DocumentMeans blank_mark root.now bytes.now (is_document (plain_doc doc.now)) }
+    ensures least { IfOk result (λ found.
+        AreMissing (dtd_of grammar.now) root.now (plain_doc doc.now) found.0) }
+    ensures completion { IfOk result (λ found.
+        IsCompletion (dtd_of grammar.now) root.now (plain_doc doc.now) found.1) }
+{
+    bounds_add_up_law::<Mark>();
+    proper_doc_law(doc);
+    let dtd = grammar.dtd();
+    let layout = lay_out(alloc, grammar)?;
+    let plan = plan_of(alloc, &layout)?;
+    let found = bound_doc(alloc, &plan, root, doc, verdicts)?;
+    let plenty = Plenty {
+        dtd,
+        verdicts,
+        pieces: &found.pieces,
+    };
+    let text = write_doc(alloc, plenty, doc)?;
+    let completion = completion_of(alloc, dtd, root, bytes, text)?;
+    Ok((found.least, completion))
+}
+
+/// How many elements are missing in a document, which these bytes are, where the root's name is
+/// this one: a completion, whose number is known to be least, or a bound that no completion passes
+/// from above and a completion that inserts more. The document stays as it is.
+///
+/// A list may be as wide as a verdict allows. New elements are written as `complete` of pv_complete
+/// writes them. That something is told isn't promised: see `LongError`.
+pub fn missing(
+    alloc: Global,
+    grammar: &Grammar,
+    root: &[u8],
+    doc: &Doc,
+    bytes: &[u8],
+) -> Result<Missing, LongError>
+    requires { DocumentMeans blank_mark root.now bytes.now (is_document (plain_doc doc.now)) }
+    ensures told { IfOk result (IsMissing (dtd_of grammar.now) root.now (plain_doc doc.now)) }
+    ensures refused { IfErr result (TellsNone (dtd_of grammar.now) root.now (plain_doc doc.now)) }
+{
+    let verdicts = verdicts_of::<Brand>(alloc, grammar, root, doc, Blank::new(1))?;
+    let (least, completion) = bounds_of(alloc, grammar, root, doc, bytes, &verdicts)?;
+    if least < completion.count {
+        Ok(Missing::Between(least, completion))
+    } else {
+        Ok(Missing::Exactly(completion))
+    }
+}

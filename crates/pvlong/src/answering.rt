@@ -1,0 +1,81 @@
+//! Answers a request: opens its files, and tells what is missing in the document.
+
+ghost use Rattle.std.specs.Prelude.{Contains, Some, ◌≡◌};
+ghost use Rattle.pv_dtd.specs.PlainForms.{plain_dtd};
+ghost use Rattle.pv_tree.specs.Marks.{blank_mark};
+ghost use Rattle.pv_tree.specs.PlainDocs.{plain_doc};
+ghost use Rattle.pv_read.specs.Meaning.{DocumentMeans, is_document};
+ghost use Rattle.pv_stages.specs.Devices.{shelf_at};
+ghost use Rattle.pv_stages.specs.Returns.{TakesCourse, TellsBy, plain_fetched};
+ghost use Rattle.pvlong.specs.Answering.{FindsAnswer, AnswersFetched};
+ghost use Rattle.pvlong.specs.Requests.{plain_request};
+ghost use Rattle.pvlong.specs.Telling.{TellsFor};
+
+use crate::requests::{Question, Request};
+use crate::telling::{refuse_missing, response_to};
+use pv_dtd::Dtd;
+use pv_io::Shelf;
+use pv_long::missing;
+use pv_productive::build;
+use pv_read::read_doc;
+use pv_stages::{Fetched, Response, Stop, fetch_files, refuse_document};
+use pv_tree::Doc;
+use std::alloc::Global;
+use std::mem::forget;
+
+// Tells what is missing in a document, which these bytes are.
+fn tell(
+    alloc: Global,
+    question: Question,
+    dtd: Dtd,
+    root: &[u8],
+    doc: &Doc,
+    bytes: &[u8],
+) -> Result<Response, Stop>
+    requires { DocumentMeans blank_mark root.now bytes.now (is_document (plain_doc doc.now)) }
+    ensures { TellsBy (TellsFor question root.now (plain_dtd dtd) (plain_doc doc.now)) result }
+{
+    let grammar = build(alloc, dtd)?;
+    match missing(alloc, &grammar, root, doc, bytes) {
+        Ok(told) => Ok(response_to(alloc, question, told)?),
+        Err(error) => Err(refuse_missing(alloc, error)),
+    }
+}
+
+// Reads the document, and tells what is missing in it. It is never freed.
+fn answer_fetched(
+    alloc: Global,
+    question: Question,
+    fetched: Fetched,
+    root: &[u8],
+) -> Result<Response, Stop>
+    ensures { TakesCourse (AnswersFetched question root.now (plain_fetched fetched)) result }
+{
+    let Fetched { dtd, bytes } = fetched;
+    match read_doc(alloc, &bytes, root) {
+        Ok(doc) => {
+            let response = tell(alloc, question, dtd, root, &doc, &bytes);
+            forget(doc);
+            response
+        }
+        Err(error) => Err(refuse_document(alloc, error)),
+    }
+}
+
+/// Answers a request over the files that it names.
+pub fn answer<H: Shelf>(
+    alloc: Global,
+    shelf: &mut H,
+    request: &Request<'_>,
+) -> Result<Response, Stop>
+    requires dtd_named { Contains (H.names shelf.old) request.now.named.dtd.now }
+    requires doc_named { Contains (H.names shelf.old) request.now.named.doc.now }
+    ensures finds { FindsAnswer (Some (plain_request request.now))
+        (shelf_at (H.files shelf.old) (H.calls shelf.old) (H.faults shelf.old))
+        (shelf_at (H.files shelf.new) (H.calls shelf.new) (H.faults shelf.new)) result }
+    ensures names { H.names shelf.new ≡ H.names shelf.old }
+    ensures files { H.files shelf.new ≡ H.files shelf.old }
+{
+    let fetched = fetch_files(alloc, shelf, &request.named)?;
+    answer_fetched(alloc, request.question, fetched, request.named.root)
+}

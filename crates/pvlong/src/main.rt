@@ -1,0 +1,70 @@
+//! The program over the machine's files and its output: `run` ends with the exit status of what
+//! `pvlong` answers, whatever the devices are. It tells how many elements are missing in a
+//! document, also where a list is too wide to weigh, and prints a completed document
+//! (`specs/Telling.antt`): by two bounds, which mostly meet (of `pv_long`). By its words it opens
+//! the files in the order of work (of `pv_stages`); `specs/Answering.antt` says what comes of them.
+#![tactic(auto)]
+
+mod answering;
+mod program;
+mod requests;
+mod telling;
+
+ghost use Rattle.std.specs.Prelude.{◌≡◌, true};
+ghost use Rattle.std.specs.Process.{exit_status};
+ghost use Rattle.pv_io.specs.Files.{byte_lists, fetch_names};
+ghost use Rattle.pv_stages.specs.Devices.{output_at, shelf_at};
+ghost use Rattle.pv_stages.specs.Status.{code_of};
+ghost use Rattle.pvlong.specs.Answering.{AnswersHere, AnswersWords};
+
+use crate::program::pvlong;
+use pv_io::{FolderShelf, Shelf, Sink, WriteSink};
+use pv_stages::Status;
+use std::alloc::Global;
+use std::process::ExitCode;
+use std::rt::{Env, Files};
+use std::{env, io};
+
+/// The exit status where the words after the program's name can't be fetched.
+const NO_WORDS: u8 = 10;
+
+fn words_of(rt: &(impl Env + AllocGlobal), alloc: Global) -> io::Result<Vec<String>> {
+    let mut words = Vec::new(alloc);
+    for word in env::args(rt)?.skip(1) {
+        words.push(word)?;
+    }
+    Ok(words)
+}
+
+/// Runs the program over these devices, and ends with the number of its status.
+fn run<H: Shelf, K: Sink>(alloc: Global, words: &[String], shelf: &mut H, out: &mut K) -> ExitCode
+    requires names { H.names shelf.old ≡ fetch_names words.now }
+    requires ready { K.ready out.old ≡ true }
+    ensures { (status : Status) × (exit_status result ≡ code_of status) ×
+        AnswersWords (byte_lists words.now)
+        (shelf_at (H.files shelf.old) (H.calls shelf.old) (H.faults shelf.old))
+        (shelf_at (H.files shelf.new) (H.calls shelf.new) (H.faults shelf.new))
+        (output_at (K.written out.old) (K.faults out.old))
+        (output_at (K.written out.new) (K.faults out.new)) status }
+{
+    let status = pvlong(alloc, words, shelf, out);
+    ExitCode::from(status.code())
+}
+
+// The same over the machine's files and its output: what these hold isn't told, but what their
+// counts show is that of an answer.
+fn run_here<R: Files + AllocGlobal + Print>(rt: &R, words: &[String]) -> ExitCode
+    ensures { (status : Status) × (exit_status result ≡ code_of status)
+        × AnswersHere (byte_lists words.now) status }
+{
+    let mut shelf = FolderShelf::new(rt, words);
+    let mut out = WriteSink::new(io::writer(rt));
+    run(rt.alloc(), words, &mut shelf, &mut out)
+}
+
+fn main(rt: HostRuntime) -> ExitCode {
+    let Ok(words) = words_of(&rt, rt.alloc()) else {
+        return ExitCode::from(NO_WORDS);
+    };
+    run_here(&rt, &words)
+}

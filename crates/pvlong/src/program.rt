@@ -1,0 +1,53 @@
+//! All that the program does.
+
+ghost use Rattle.std.specs.Prelude.{[], codes, true, ◌≡◌};
+ghost use Rattle.pv_io.specs.Files.{byte_lists, fetch_names};
+ghost use Rattle.pv_stages.specs.Devices.{output_at, shelf_at};
+ghost use Rattle.pv_stages.specs.Response.{with_line};
+ghost use Rattle.pv_stages.specs.Returns.{TellsBy};
+ghost use Rattle.pv_stages.specs.declared.status.Status.TheVariants.{Usage};
+ghost use Rattle.pvlong.specs.Answering.{AnswersWords};
+ghost use Rattle.pvlong.specs.Requests.{files_asked, request_of};
+
+use crate::answering::answer;
+use crate::requests::request_of;
+use pv_io::{Shelf, Sink};
+use pv_stages::{Response, Status, Stop, respond};
+use std::alloc::Global;
+
+fn usage(alloc: Global) -> Result<Response, Stop>
+    ensures { TellsBy (λ r. r ≡ with_line Usage (codes "usage")) result }
+{
+    Ok(Response::with_line(alloc, Status::Usage, b"usage")?)
+}
+
+/// All that the program does: the words are those after its name.
+///
+/// The shelf's names are the words but number 0 and number 2, counted from 0.
+pub fn pvlong<H: Shelf, K: Sink>(
+    alloc: Global,
+    words: &[String],
+    shelf: &mut H,
+    out: &mut K,
+) -> Status
+    requires names { H.names shelf.old ≡ fetch_names words.now }
+    requires ready { K.ready out.old ≡ true }
+
+    // The status, the output, the causes of faults, and how often the shelf is asked.
+    ensures answers { AnswersWords (byte_lists words.now)
+        (shelf_at (H.files shelf.old) (H.calls shelf.old) (H.faults shelf.old))
+        (shelf_at (H.files shelf.new) (H.calls shelf.new) (H.faults shelf.new))
+        (output_at (K.written out.old) (K.faults out.old))
+        (output_at (K.written out.new) (K.faults out.new)) result }
+
+    // What stays.
+    ensures unasked { files_asked (request_of (byte_lists words.now)) ≡ [] →
+        shelf.new ≡ shelf.old }
+    ensures names { H.names shelf.new ≡ H.names shelf.old }
+    ensures files { H.files shelf.new ≡ H.files shelf.old }
+{
+    match request_of(words) {
+        Some(request) => respond(out, answer(alloc, shelf, &request)),
+        None => respond(out, usage(alloc)),
+    }
+}

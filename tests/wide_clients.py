@@ -1,0 +1,147 @@
+"""Tries what clients say of a document with a list that is too wide for `pvtag` to count: the page, the language server and reports ask `pvlong`, a
+stand-in for which tells a number, a range or nothing, or takes its time.
+
+Words: the program, and `pvlong`, which is then asked too. Prints each difference, and how many cases passed; ends with 1 where one failed.
+"""
+import contextlib
+import functools
+import json
+import os
+import subprocess
+import sys
+import threading
+
+sys.dont_write_bytecode = True
+
+from lib.annotate.fixture import ARTICLE, FOLDER, TOP, Server, need, run_cases, same  # noqa: E402
+from lib.beside import VALID, WIDE, Beside  # noqa: E402
+from lib.lsp_client import CAPABILITIES, Client, edited, edits_of, finished, uri_of  # noqa: E402
+from lib.waiting import PATIENCE, until  # noqa: E402
+
+sys.path[:0] = [FOLDER, os.path.dirname(FOLDER)]
+
+from completions import Completions  # noqa: E402
+from editor import Editor  # noqa: E402
+from script import Script  # noqa: E402
+
+
+@contextlib.contextmanager
+def asked_on(beside):
+    """What the page asks of a wide document."""
+    path = os.path.join(beside.folder, "doc.xml")
+    with open(path, "w", encoding="utf-8") as file:
+        file.write(WIDE)
+    editor = Editor([beside.program], ARTICLE, "doc", Script(path))
+    try:
+        yield Completions(editor), editor
+    finally:
+        editor.close()
+
+
+def page_asks(program, other=None):
+    """The head's number, the preview, and what is taken over."""
+    with Beside(program, other) as beside, asked_on(beside) as (completions, editor):
+        same(editor.need()["no"], "wide", "the session")
+        same(completions.wide.need(editor.version), {"version": editor.version, "least": 2, "most": 2}, "a number")
+        list_ = editor.document.there("0").id
+        told = completions.missing({"node": list_})
+        same(({each["name"] for each in told["missing"]}, told["least"]), ({"head", "sec"}, True), "what is missing in the list")
+        told = completions.preview()
+        same((told["new"], told["least"]), (2, True), "the preview")
+        completions.take({"version": editor.version})
+        same((editor.session.need(), editor.shown().decode()), (0, VALID), "it is taken over")
+
+
+def page_tells_ranges(program):
+    """A range, and nothing where nothing is told."""
+    with Beside(program) as beside, asked_on(beside) as (completions, editor):
+        beside.tells("0 need 1 to 2", "1 ")
+        same(completions.wide.need(editor.version), {"version": editor.version, "least": 1, "most": 2}, "a range")
+        told = completions.preview()
+        same((told["new"], told["least"]), (2, False), "a completion that may not be least")
+        beside.tells("8 no limit", "1 no impossible 0")
+        editor.move({"version": editor.version, "kind": "rename", "node": editor.document.there("0.0").id, "name": "list"})
+        editor.undo({"version": editor.version})
+        same(completions.wide.need(editor.version), {"version": editor.version}, "no number")
+        told = completions.preview()
+        same((told["no"], "tree" in told), ("wide", False), "no completion")
+
+
+def moves_end_it(program):
+    """A move waits for no answer, and ends what is under way."""
+    with Beside(program) as beside, beside.held(), Server(beside.program, WIDE, ARTICLE, "doc") as server:
+        state, answers = server.ask("state"), []
+        version, node = state["version"], next(row["id"] for row in state["tree"] if row.get("name") == "p")
+        for name, what in (("preview", {}), ("need-wide", {"version": version})):
+            threading.Thread(target=lambda name=name, what=what: answers.append(server.ask(name, what)), daemon=True).start()
+            need(until(beside.is_running), "it is asked")
+        need("changes" in server.ask("move", {"version": version, "kind": "unwrap", "node": node}), "a move")
+        until(lambda: len(answers) == 2)
+        same(answers, [{"stale": True}] * 2, "what was asked before")
+        same(server.ask("need-wide", {"version": version}), {"stale": True}, "a version that is gone")
+        with open(f"{beside.other}.runs", encoding="utf-8") as file:
+            same(len(file.readlines()), 1, "one at a time")
+
+
+def server_tells(program, other=None):
+    """The language server's number, and its action."""
+    with Beside(program, other) as beside, Client(beside.program, CAPABILITIES) as client:
+        text, uri = f"<!DOCTYPE doc SYSTEM 'article.dtd'>\n{WIDE}\n", uri_of("wide.xml")
+        for version, (count, told, title) in enumerate((
+            ("0 need 2", ": 2 elements are missing.", "Insert 2 missing elements"),
+            ("0 need 1 to 2", ": 1 to 2 elements are missing.", "Insert 2 elements, of which 1 or more are missing"),
+            ("8 no limit", "isn't known: a list is too wide, or there are too many.", "Insert all missing elements"),
+        )[:1 if other else 3]):
+            if other is None:
+                beside.tells(count, "0 ")
+            client.open(uri, text, version)
+            (message,) = [each["message"] for each in client.diagnostics(uri, finished) if each["code"] == "missing"]
+            need(message.endswith(told), message)
+            action = client.ask("codeAction/resolve", client.actions(uri, (0, 0))[title])
+            same(edited(text, edits_of(action["edit"])), text.replace(WIDE, VALID), "completed")
+
+
+def server_ends_it(program):
+    """A newer text doesn't wait for what is asked of an older one."""
+    with Beside(program) as beside, beside.held(), Client(beside.program) as client:
+        uri = uri_of("wide.xml")
+        client.open(uri, f"<!DOCTYPE doc SYSTEM 'article.dtd'>\n{WIDE}\n")
+        need(until(beside.is_running), "it is asked")
+        client.open(uri, f"<!DOCTYPE doc SYSTEM 'article.dtd'>\n{VALID}\n", 2)
+        same(client.diagnostics(uri), [], "a valid text")
+
+
+def reports_tell(program, other=None):
+    """The report's number; of a range the least, with the range beside it."""
+    with Beside(program, other) as beside:
+        path = os.path.join(beside.folder, "doc.xml")
+        with open(path, "w", encoding="utf-8") as file:
+            file.write(WIDE)
+        for count, told in (("0 need 2", (2, None)), ("0 need 1 to 2", (1, "1 to 2 elements are missing")), ("8 no limit", (None, None)))[:1 if other else 3]:
+            if other is None:
+                beside.tells(count, "0 ")
+            row, = rows_of(beside, path)
+            same((row["verdict"], row.get("missing"), row.get("sentence")), ("possible", *told), "a row")
+
+
+def rows_of(beside, path):
+    words = [sys.executable, os.path.join(TOP, "clients", "report"), "--program", beside.program, "--need", ARTICLE, "doc", path]
+    ran = subprocess.run(words, capture_output=True, text=True, timeout=PATIENCE)
+    same((ran.returncode, ran.stderr), (0, ""), "a report")
+    return [json.loads(line) for line in ran.stdout.splitlines()[1:]]
+
+
+CASES = [page_asks, page_tells_ranges, moves_end_it, server_tells, server_ends_it, reports_tell]
+OF_BOTH = [page_asks, server_tells, reports_tell]
+
+
+def main():
+    program = os.path.abspath(sys.argv[1])
+    cases = [functools.update_wrapper(functools.partial(case, program), case) for case in CASES]
+    for other in map(os.path.abspath, sys.argv[2:3]):
+        cases += [functools.update_wrapper(functools.partial(case, program, other), case) for case in OF_BOTH]
+    return run_cases("what clients say of wide lists", cases)
+
+
+if __name__ == "__main__":
+    sys.exit(main())
