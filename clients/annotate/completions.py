@@ -1,4 +1,5 @@
-"""What is missing, by least completions, and how it is taken over: the new elements of a completed document, as edits.
+"""What is missing, by completions, and how it is taken over: the new elements of a completed document, as edits. A
+completion is a least one, but where a list is too wide for that: there it is that of `pvlong`, which tells whether it is.
 
 A completion keeps all that is there, in its order. So its new elements have places in the lists that are there, which
 are found by walking through both side by side.
@@ -11,8 +12,10 @@ from editor import Editor
 from moves import short
 from pvtag.document import TEXT, Node, Told, shown
 from pvtag.program import Trouble, file_of
-from pvtag.session import Completed, Ended, Refused, Session
+from pvtag.long import Inserted
+from pvtag.session import Ended, Refused, Session
 from runs import Spot, Stale, below, element_of, run_between
+from wide import Wide
 
 
 class New(NamedTuple):
@@ -106,20 +109,28 @@ def lines_for(path: str, news: list[New]) -> list[str]:
 
 class Completions:
     def __init__(self, editor: Editor) -> None:
-        self.editor = editor
+        self.editor, self.wide = editor, Wide(editor)
         self.asked: Session | None = None
         self.version, self.news = -1, dict[int, tuple[Node, New]]()
         self.lists: list[tuple[Node, list[New]]] = []
         # What was told to be missing in lists, by version and number.
         self.told: dict[tuple[int, int], list[New]] = {}
 
-    def complete(self, source: bytes, root: str) -> Completed | Refused:
-        """A least completion, by a session of its own; `stop` ends it."""
+    def complete(self, source: bytes, root: str, version: int) -> Inserted | Refused:
+        """A completion; `stop` ends what finds it."""
         self.stop()
+        reply = self.complete_least(source, root)
+        if not isinstance(reply, Refused) or reply.why != "wide":
+            return reply
+        return self.wide.complete(source, root, version) or reply
+
+    def complete_least(self, source: bytes, root: str) -> Inserted | Refused:
+        """A least completion, by a session of its own."""
         try:
             with file_of(source) as path, Session(self.editor.program, self.editor.dtd, root, path) as session:
                 self.asked = session
-                return session.complete()
+                reply = session.complete()
+                return reply if isinstance(reply, Refused) else Inserted(reply.document, True)
         except Ended as ended:
             if ended.status is not None and ended.status < 0:
                 raise Stale from None
@@ -128,14 +139,15 @@ class Completions:
     def stop(self) -> None:
         if self.asked is not None:
             self.asked.process.kill()
+        self.wide.end("complete")
 
     # The whole document.
     def preview(self) -> Told:
-        """A least completion, its new elements told apart; each may be taken over then, or all of them."""
+        """A completion, its new elements told apart; each may be taken over then, or all of them."""
         editor = self.editor
         with editor.lock:
             source, version = whole(editor.document), editor.version
-        reply = self.complete(source, editor.root)
+        reply = self.complete(source, editor.root, version)
         if isinstance(reply, Refused):
             return editor.refusal(reply)
         tree = completed(reply.document)
@@ -145,7 +157,7 @@ class Completions:
             self.version = version
             self.lists = list(lists_in(editor.document.top, tree.top))
         self.news = {new.node.id: (owner, new) for owner, news in self.lists for new in news}
-        return {"tree": tree.told(), "new": reply.new, "version": version}
+        return {"tree": tree.told(), "new": len(self.news), "least": reply.is_least, "version": version}
 
     # One list.
     def missing(self, ask: Any) -> Told:
@@ -154,7 +166,7 @@ class Completions:
         with editor.lock:
             owner, _ = element_of(editor.document, ask["node"])
             there, version = bare(owner, editor.root), editor.version
-        reply = self.complete(there.source, there.root)
+        reply = self.complete(there.source, there.root, version)
         if isinstance(reply, Refused):
             return {"no": reply.why}
         with editor.lock:
@@ -162,7 +174,7 @@ class Completions:
                 raise Stale
             news = news_of(owner, reply)
         self.told = {key: value for key, value in self.told.items() if key[0] == version} | {(version, owner.id): news}
-        return {"missing": [told_of(owner, new) for new in sorted(news, key=order_of)]}
+        return {"missing": [told_of(owner, new) for new in sorted(news, key=order_of)], "least": reply.is_least}
 
     # Taking over.
     def take(self, ask: Any) -> Told:
@@ -200,7 +212,7 @@ class Completions:
         return [*cuts, f"wrap {path} {start} {end} {new.node.name}"]
 
 
-def news_of(owner: Node, reply: Completed) -> list[New]:
+def news_of(owner: Node, reply: Inserted) -> list[New]:
     """The new elements of a list that was completed by itself."""
     tree = completed(reply.document)
     return news_in(owner, tree.top if owner.owner is None else tree.there("0"))[0]

@@ -31,6 +31,8 @@ class Editor:
         # told.
         self.explain: Callable[[Document, list[str], str], Told] = lambda *_: {}
         self.failed: list[str] = []
+        # Called where the document has changed.
+        self.outdated: Callable[[], None] = lambda: None
         self.begin()
         self.note = self.make_again() if script.earlier else ""
 
@@ -65,6 +67,7 @@ class Editor:
             self.session.close()
             raise
         self.changes, self.version = [], self.version + 1
+        self.outdated()
         self.saved = self.made[:] if hash_of(self.shown()) == self.script.on_disk else None
         self.judge_all()
 
@@ -254,6 +257,7 @@ class Editor:
         if reply is not None:
             self.open, self.bad = reply.open, reply.bad
         self.version += 1
+        self.outdated()
         self.changes.append({"changes": changes, "verdicts": verdicts})
         del self.changes[:-KEPT]
 

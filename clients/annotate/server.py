@@ -87,6 +87,7 @@ class Server(ThreadingHTTPServer):
     def close(self) -> None:
         """Ends what runs beside the session."""
         self.completions.stop()
+        self.completions.wide.end("need")
         self.costs.close()
 
     def handle_error(self, request: Any, client_address: Any) -> None:
@@ -225,6 +226,7 @@ ASKED: dict[str, Callable[[Server, Any], Told]] = {
     "state": lambda server, ask: server.editor.state(ask.get("since")),
     "history": lambda server, _: server.editor.history(),
     "need": lambda server, _: server.editor.need(),
+    "need-wide": lambda server, ask: server.completions.wide.need(ask["version"]),
     "move": lambda server, ask: server.editor.move(ask),
     "undo": lambda server, ask: server.editor.undo(ask),
     "redo": lambda server, ask: server.editor.redo(ask),

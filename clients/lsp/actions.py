@@ -8,6 +8,7 @@ from grammar import Grammar
 from lists import WHITE, alone_with, cut, is_too_deep, names, wraps
 from missing import Completed, completed
 from nodes import Element
+from pvtag.long import Counted
 from pvtag.session import Ended, Made
 from text import Json
 from wire import INVALID_PARAMS, Error
@@ -154,10 +155,12 @@ def inserting(asked: Asked, work: Work, context: Json) -> list[Json]:
     )
 
 
-def title_of(missing: int | None) -> str:
-    return (
-        "Insert all missing elements" if missing is None else f"Insert {missing} missing element{'s' * (missing > 1)}"
-    )
+def title_of(missing: Counted | None) -> str:
+    if missing is None:
+        return "Insert all missing elements"
+    if missing.least < missing.most:
+        return f"Insert {missing.most} elements, of which {missing.least} or more are missing"
+    return f"Insert {missing} missing element{'s' * (missing.most > 1)}"
 
 
 def uri_of(params: Json) -> str:

@@ -10,6 +10,7 @@ from grammar import Finder, Grammar
 from lists import WHITE, kids_of
 from nodes import Element, Node, Tree
 from pvtag.faults import fault_of
+from pvtag.long import Counted
 from pvtag.places import Source
 from pvtag.program import Trouble
 from pvtag.reasons import Reason
@@ -140,15 +141,23 @@ class Judging:
             wanted = [(path, node.label, kids_of(node, tree.data)) for path, node in lists if isinstance(node, Element)]
             with contextlib.suppress(Trouble):
                 self.work.aside(lambda: grammar.find_reasons(wanted))
-            missing = session.need() if not bad else None
+            missing = self.missing(session, grammar) if not bad else None
         finally:
             timer.cancel()
-        judged.missing = missing if isinstance(missing, int) else None
+        judged.missing = missing if isinstance(missing, Counted) else None
         self.tell(tree, grammar, len(found), missing)
         return None
 
+    def missing(self, session: Session, grammar: Grammar) -> Counted | Refused:
+        """How many elements are missing."""
+        reply = session.need()
+        if isinstance(reply, int):
+            return Counted(reply, reply)
+        wide = self.work.need_wide(grammar, grammar.root, self.document.data) if reply.why == "wide" else None
+        return wide or reply
+
     def tell(
-        self, tree: Tree, grammar: Grammar, count: int, missing: int | Refused | None, is_last: bool = True
+        self, tree: Tree, grammar: Grammar, count: int, missing: Counted | Refused | None, is_last: bool = True
     ) -> None:
         """All diagnostics, as far as the reasons are known; nothing behind the last ones."""
         with self.order:
@@ -156,7 +165,7 @@ class Judging:
                 self.is_told = is_last
                 self.watch.publish(self.document, self.work, self.diagnostics(tree, grammar, count, missing))
 
-    def diagnostics(self, tree: Tree, grammar: Grammar, count: int, missing: int | Refused | None) -> list[Json]:
+    def diagnostics(self, tree: Tree, grammar: Grammar, count: int, missing: Counted | Refused | None) -> list[Json]:
         told: list[Json] = []
         for path, is_bad in self.rows:
             node = tree.node(path)
@@ -235,8 +244,8 @@ def span_of(node: Node, data: bytes) -> tuple[int, int]:
     return start, start + len(inner or text)
 
 
-def missing_sentence(missing: int | Refused, count: int) -> str:
+def missing_sentence(missing: Counted | Refused, count: int) -> str:
     lists = "1 list isn't valid yet" if count == 1 else f"{count} lists aren't valid yet"
     if isinstance(missing, Refused):
         return f"{lists}. How many elements are missing isn't known: a list is too wide, or there are too many."
-    return f"{lists}: 1 element is missing." if missing == 1 else f"{lists}: {missing} elements are missing."
+    return f"{lists}: {missing.sentence}."

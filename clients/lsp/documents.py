@@ -5,6 +5,7 @@ from typing import Any
 
 from grammar import Finder, Grammar
 from nodes import Tree
+from pvtag.long import Counted
 from reading import Typed, Whole
 from text import Json, Text
 from wire import INVALID_PARAMS, Error
@@ -31,7 +32,7 @@ class Judged:
 
     lists: int
     bad: int
-    missing: int | None = None
+    missing: Counted | None = None
 
 
 class Accepted:

@@ -1,4 +1,5 @@
-"""A least completion as text edits that insert tags and touch nothing else."""
+"""A completion as text edits that insert tags and touch nothing else: a least one, but where a list is too wide for a
+session that of `pvlong`."""
 import re
 from typing import NamedTuple
 
@@ -6,6 +7,7 @@ from documents import Document
 from grammar import Grammar
 from lists import Alone
 from nodes import END, ITEM, NAME, SLASH, START
+from pvtag.long import Inserted
 from pvtag.session import Ended, Refused
 from text import Json
 from work import Work
@@ -86,8 +88,7 @@ def completed(document: Document, grammar: Grammar, work: Work) -> Completed | s
     """The edits, or why there are none."""
     numbered = Numbered(document.data)
     try:
-        with work.session(grammar, grammar.root, numbered.data) as session:
-            answer = session.complete()
+        answer = inserted(grammar, grammar.root, numbered.data, work)
     except Ended as ended:
         return f"the document can't be read: {ended.line}"
     if isinstance(answer, Refused):
@@ -96,18 +97,29 @@ def completed(document: Document, grammar: Grammar, work: Work) -> Completed | s
     return Completed([document.put(change.start, change.end, change.text.decode()) for change in changes])
 
 
+def inserted(grammar: Grammar, root: str, data: bytes, work: Work) -> Inserted | Refused:
+    """The completed document."""
+    with work.session(grammar, root, data) as session:
+        answer = session.complete()
+    if not isinstance(answer, Refused):
+        return Inserted(answer.document, True)
+    return (work.complete_wide(grammar, root, data) if answer.why == "wide" else None) or answer
+
+
 def missing_in(alone: Alone, grammar: Grammar, work: Work) -> list[str] | None:
     """The names of the elements that a list alone needs inserted in it, those in its kids left out; none where it can't
     be told."""
     try:
-        with work.session(grammar, alone.root(grammar), alone.data) as session:
-            answer = session.complete()
+        done = inserted(grammar, alone.root(grammar), alone.data, work)
     except Ended:
         return None
-    if isinstance(answer, Refused):
-        return None
+    return new_names(done.document) if isinstance(done, Inserted) and done.is_least else None
+
+
+def new_names(done: bytes) -> list[str]:
+    """The names of the new elements of a completed list, those in its kids left out."""
     found, kept, depth = list[str](), list[int](), 0
-    for item in ITEM.finditer(answer.document):
+    for item in ITEM.finditer(done):
         is_short = item[0].endswith(b"/>")
         if item.lastindex == END:
             depth -= 1

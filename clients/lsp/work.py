@@ -1,11 +1,13 @@
-"""Work that may be ended from another thread: its sessions are ended with it."""
+"""Work that may be ended from another thread: its sessions and other runs are ended with it."""
 import contextlib
 import threading
 from collections.abc import Callable, Iterator
 
 import memory
 from grammar import Grammar
-from pvtag.program import Trouble
+from pvtag import long
+from pvtag.long import Counted, Inserted
+from pvtag.program import Running, Stopped, Trouble
 from pvtag.session import Ended, Session
 
 
@@ -20,6 +22,7 @@ class Work:
         self.lock, self.is_over = threading.Lock(), False
         self.sessions: list[Session] = []
         self.waits: list[threading.Event] = []
+        self.runs = Running()
 
     def cancel(self) -> None:
         with self.lock:
@@ -28,6 +31,7 @@ class Work:
                 session.process.kill()
             for wait in self.waits:
                 wait.set()
+        self.runs.stop()
 
     def check(self) -> None:
         if self.is_over:
@@ -51,6 +55,26 @@ class Work:
         self.check()
         if faults:
             raise faults[0]
+
+    # Where a list of a document is too wide for a session.
+    def need_wide(self, grammar: Grammar, root: str, data: bytes) -> Counted | None:
+        """How many elements are missing."""
+        with self.file_of(data) as path:
+            return long.need(grammar.program, grammar.path, root, path, self.runs)
+
+    def complete_wide(self, grammar: Grammar, root: str, data: bytes) -> Inserted | None:
+        """The document with what is missing."""
+        with self.file_of(data) as path:
+            return long.complete(grammar.program, grammar.path, root, path, self.runs)
+
+    @contextlib.contextmanager
+    def file_of(self, data: bytes) -> Iterator[str]:
+        """A file for a run that ends with this work."""
+        try:
+            with memory.file_of(data) as path:
+                yield path
+        except Stopped:
+            raise Cancelled from None
 
     @contextlib.contextmanager
     def session(self, grammar: Grammar, root: str, data: bytes) -> Iterator[Session]:

@@ -2,6 +2,7 @@
 can be asked.
 
     program   where the program is, one run of it, and the files that it is given
+    long      the second program, `pvlong`, which is asked where a list is too wide for `need` and `complete`
     session   a session, kept open through two pipes: a method a line, replies as values
     document  the tree of a document beside a session, kept by the edits that are made
     places    lines and columns of a file, and back, and the items that faults are counted in

@@ -15,6 +15,8 @@ HERE = os.path.dirname(os.path.realpath(__file__))
 TOP = os.path.dirname(os.path.dirname(HERE))
 # The repository's script, which builds the program where there is none, and where it is then.
 SCRIPT, BUILT = os.path.join(TOP, "pvtag"), os.path.join(TOP, "build", "pvtag")
+# The same of the second program.
+LONG_SCRIPT, LONG_BUILT = os.path.join(TOP, "pvlong"), os.path.join(TOP, "build", "pvlong")
 # The status of words that are no command.
 USAGE = 2
 
@@ -68,6 +70,18 @@ def built() -> str:
     return BUILT if os.access(BUILT, os.X_OK) else SCRIPT
 
 
+def find_long(program: list[str]) -> list[str] | None:
+    """The words that begin `pvlong`: beside this `pvtag`, in the repository, or on the path; none where there is none that
+    has been built."""
+    told = shutil.which(program[-1]) or program[-1]
+    beside = [os.path.join(os.path.dirname(name), "pvlong") for name in (os.path.abspath(told), os.path.realpath(told))]
+    for file in (*beside, LONG_BUILT, shutil.which("pvlong")):
+        # The repository's script would build it, which takes too long for somebody who waits.
+        if file is not None and os.path.realpath(file) != LONG_SCRIPT and os.path.isfile(file) and os.access(file, os.X_OK):
+            return [file]
+    return None
+
+
 def add_option(reader: argparse.ArgumentParser) -> None:
     """The option by which a user tells the program."""
     reader.add_argument("--program", metavar="FILE", help="the program pvtag, where it isn't found by itself")
@@ -103,10 +117,11 @@ class Running:
 RUNNING = Running()
 
 
-def run(program: list[str], *words: str, given: bytes = b"", files: Sequence[int] = (), most: float | None = None) -> Answer:
+def run(program: list[str], *words: str, given: bytes = b"", files: Sequence[int] = (), most: float | None = None,
+        runs: Running = RUNNING) -> Answer:
     """Runs one command to its end, or for at most so many seconds: past them the status is -1. `given` is its input,
-    `files` are handed over open."""
-    begun = RUNNING.begin([*program, *words], files)
+    `files` are handed over open; it ends with these `runs`."""
+    begun = runs.begin([*program, *words], files)
     try:
         output, _ = begun.communicate(given, timeout=most)
     except BaseException as fault:
@@ -116,9 +131,9 @@ def run(program: list[str], *words: str, given: bytes = b"", files: Sequence[int
             return Answer(-1, b"")
         raise
     finally:
-        with RUNNING.lock:
-            RUNNING.runs.discard(begun)
-    if RUNNING.stopped:
+        with runs.lock:
+            runs.runs.discard(begun)
+    if runs.stopped:
         raise Stopped
     return Answer(begun.returncode, output)
 

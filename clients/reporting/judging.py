@@ -12,8 +12,9 @@ from pathlib import Path
 from pvtag.dtd import Dtd
 from pvtag.faults import fault_of
 from pvtag.layout import Layout
+from pvtag.long import Counted, counted
 from pvtag.places import Place, Source
-from pvtag.program import Answer, Stopped, Trouble, read_file, run
+from pvtag.program import Answer, Stopped, Trouble, find_long, read_file, run
 from pvtag.reasons import Reasons
 
 from .earlier import sum_of
@@ -29,6 +30,8 @@ class Judge:
 
     def __init__(self, program: list[str], dtd: str, root: str, need: bool, most: float) -> None:
         self.program, self.dtd, self.root, self.need, self.most = program, dtd, root, need, most
+        # What is asked where a list is too wide for `need`.
+        self.long = find_long(program) if need else None
         self.reasons = Reasons(program, Dtd(program, dtd), root)
         self.dtd_seen: tuple[int, ...] | None = None
 
@@ -44,12 +47,12 @@ class Judge:
             raise Trouble(f"{self.root!r} is no name of an element")
         return Head(hashlib.sha256(data).hexdigest(), self.root, sum_of_program(self.program[-1]), self.need)
 
-    def run(self, *words: str, given: bytes = b"") -> Answer:
-        """One run of the program. It takes no words that aren't UTF-8, so that such a name is handed over as an open file."""
+    def run(self, *words: str, given: bytes = b"", program: list[str] | None = None) -> Answer:
+        """One run of the program, or of another. It takes no words that aren't UTF-8, so that such a name is handed over as an open file."""
         with contextlib.ExitStack() as files:
             named = [files.enter_context(utf_8(word)) for word in words]
             handed = [it for _, it in named if it is not None]
-            return run(self.program, *[word for word, _ in named], given=given, files=handed, most=self.most)
+            return run(program or self.program, *[word for word, _ in named], given=given, files=handed, most=self.most)
 
     def row(self, path: str) -> Row:
         """What this document comes to."""
@@ -86,7 +89,7 @@ class Judge:
             case 0, "valid":
                 return replace(row, verdict="valid", open=0, missing=0 if self.need else None)
             case 0, "possible":
-                return replace(row, verdict="possible", open=int(words[1]), missing=self.missing(row.path))
+                return self.possible(replace(row, verdict="possible", open=int(words[1])))
             case 1, "impossible":
                 return self.impossible(row, words[1])
             case 2, _:
@@ -97,12 +100,24 @@ class Judge:
                 return replace(row, verdict="failed", sentence=f"it took more than {self.most:.0f} seconds")
         return self.refused(row, answer)
 
-    def missing(self, path: str) -> int | None:
-        """How many elements are missing, where that is asked for and can be told."""
-        if not self.need:
-            return None
+    def possible(self, row: Row) -> Row:
+        """The row with how many elements are missing, where that is asked for and can be told: of a range the least number, and the range in the
+        sentence."""
+        found = self.missing(row.path) if self.need else None
+        if found is None:
+            return row
+        return replace(row, missing=found.least, sentence=found.sentence if found.least < found.most else None)
+
+    def missing(self, path: str) -> Counted | None:
+        """How many elements are missing."""
         words = self.run("session", self.dtd, self.root, path, given=b"need\n").line.split(" ")
-        return int(words[1]) if words[0] == "need" else None
+        if words[0] == "need":
+            return Counted(int(words[1]), int(words[1]))
+        if words[:2] != ["no", "wide"] or self.long is None:
+            return None
+        with contextlib.suppress(Trouble):
+            return counted(self.run("need", self.dtd, self.root, path, program=self.long))
+        return None
 
     def impossible(self, row: Row, path: str) -> Row:
         """The row with the place and the reason of an impossible list; without them where they can't be had."""

@@ -46,14 +46,15 @@ document.querySelectorAll("th button").forEach((button, at) => button.addEventLi
 
 def parts(head: Head, rows: Callable[[], Iterable[Row]]) -> Iterator[str]:
     """The page piece by piece; the rows are gone over twice, so that none of them is kept."""
-    counts, missing = Counter[str](), 0
+    counts, missing, is_exact = Counter[str](), 0, True
     for row in rows():
         counts[row.verdict] += 1
         missing += row.missing or 0
+        is_exact = is_exact and (row.verdict != "possible" or row.missing is not None and row.sentence is None)
     told = ", ".join(f"{count} {verdict}" for verdict, count in counts.most_common()) or "no documents"
     yield "<!DOCTYPE html>\n<html lang=en><meta charset=utf-8><meta name=viewport content='width=device-width'><title>Report</title>"
     yield f"<style>{STYLE}</style>\n<h1>{sum(counts.values())} documents</h1>\n<p>{told}"
-    yield f"; elements that are missing: {missing}" if head.need else ""
+    yield f"; elements that are missing: {'' if is_exact else 'at least '}{missing}" if head.need else ""
     yield f". Root: <code>{html.escape(head.root)}</code>.</p>\n<table><thead><tr>"
     yield "".join(f"<th scope=col data-kind={kind}><button type=button>{title}</button></th>" for title, kind in TITLES)
     yield "</tr></thead>\n<tbody>\n"

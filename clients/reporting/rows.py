@@ -39,7 +39,7 @@ class Row:
 
     `size` is in bytes, `time` that of the last change in nanoseconds, `sum` the SHA-256 of the bytes; `open` counts the lists that aren't valid
     by themselves, `missing` the elements, where that was asked for and told. `line` and `column` are counted from 1; `sentence` says what stands
-    there, or why there is no verdict. `seconds` is how long it took."""
+    there, or why there is no verdict, or between which numbers `missing` is, which is the least of them. `seconds` is how long it took."""
 
     path: str
     size: int | None = None

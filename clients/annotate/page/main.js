@@ -1,7 +1,7 @@
 // The page: its head, and what its buttons do.
 import { tagAgain, tagEverywhere } from "./again.js"
 import { app, catchUp, change, listeners, question, tell } from "./app.js"
-import { Gone, hello, sayBye } from "./ask.js"
+import { ask, Gone, hello, sayBye } from "./ask.js"
 import { choose, chooseElement, rest, setTouch, takeSelection } from "./choose.js"
 import { openFinder } from "./find.js"
 import { closeMenu, isMenuOpen } from "./menu.js"
@@ -32,7 +32,7 @@ function showNext(need) {
   const { open, bad } = app.state
   const parts = []
   if (bad) parts.push(`${counted(bad, "place")} can't be finished`)
-  if (need !== null && open) parts.push(`${counted(need, "element")} missing`)
+  if (need !== null && open) parts.push(`${need} missing`)
   else if (open) parts.push(`${counted(open, "place")} not finished`)
   button("next").textContent = parts.join(", ") || "Valid"
 }
@@ -53,12 +53,26 @@ function countMissing() {
 
 async function count() {
   const started = performance.now()
-  const answer = await question("need")
+  const told = await question("need")
+  const answer = told?.no === "wide" ? await countWide(told) : told
   isSlow = performance.now() - started > 2000
-  if (answer?.version !== app.state.version) return
-  if (answer.need !== undefined) showNext(answer.need)
-  const isCounted = answer.need !== undefined
-  button("missing").textContent = isCounted ? `in ${counted(app.state.open, "place")}` : whyUncounted(answer)
+  if (answer?.version !== app.state.version || app.state.open === 0) return
+  const need = neededOf(answer)
+  if (need !== null) showNext(need)
+  button("missing").textContent = need !== null ? `in ${counted(app.state.open, "place")}` : whyUncounted(answer)
+}
+
+// Where a list is too wide another program is asked, and no move waits for it; what was told before stays where it tells
+// nothing.
+async function countWide(told) {
+  const answer = await ask("need-wide", { version: told.version })
+  return answer.stale || answer.trouble ? null : { ...told, ...answer }
+}
+
+// How many elements are missing, in words; none where that isn't told.
+function neededOf({ need, least = need, most = need }) {
+  if (most === undefined) return null
+  return least === most ? counted(most, "element") : `${least} to ${most} elements`
 }
 
 function whyUncounted({ no, list }) {

@@ -79,13 +79,13 @@ export async function missingIn(node) {
 export const takeOver = (node) => make({ node: node.id }, "take")
 const namesOf = ({ missing }) => missing.map(({ name }) => name).join(", ")
 
-export function missingText({ missing, no }) {
+export function missingText({ missing, no, least }) {
   if (no === "wide") return "Elements are missing here; the list is too wide to tell which."
   if (no) return "Elements are missing here."
   if (missing.length === 0) return "Nothing is missing here."
   const where = ({ around, behind }) => (around ? ` round ${around}` : behind ? ` behind ${behind}` : "")
   const each = (element) => `⟨${element.name}⟩${where(element)}`
-  return `Missing here: ${missing.map(each).join(", ")}.`
+  return `Missing here${least ? "" : ", though fewer may do"}: ${missing.map(each).join(", ")}.`
 }
 
 // The names that the session offers for a move, as their costs come in; another that is typed is tried.

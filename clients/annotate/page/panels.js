@@ -97,7 +97,7 @@ export async function showPreview() {
     return
   }
   const count = `${answer.new} new element${answer.new === 1 ? "" : "s"}`
-  const told = `Valid with ${count}, and no fewer. The document itself is as it was.`
+  const told = `Valid with ${count}${answer.least ? ", and no fewer" : "; fewer may do"}. The document itself is as it was.`
   title.textContent = answer.new ? told : "The document is valid as it is"
   all.hidden = completed.querySelector(".about").hidden = answer.new === 0
   new View(view, view, "new").draw(new Tree(answer.tree, "valid"))

@@ -1,0 +1,74 @@
+"""The program `pvlong`, which is asked where `need` and `complete` find a list too wide: how many elements are missing, or
+between which numbers, and a document with so many inserted.
+
+Where it isn't there, can't be run, takes too long or tells nothing, the answer is none.
+"""
+import threading
+from typing import NamedTuple
+
+from .program import Answer, Running, Stopped, Trouble, find_long, run
+
+# The most that a run may take, in seconds.
+MOST = 60.0
+# One run at a time.
+TURN = threading.Lock()
+
+
+class Counted(NamedTuple):
+    """How many elements are missing: at least so many, and so many are enough. Mostly both are the same."""
+
+    least: int
+    most: int
+
+    def __str__(self) -> str:
+        return f"{self.least}" if self.least == self.most else f"{self.least} to {self.most}"
+
+    @property
+    def sentence(self) -> str:
+        return "1 element is missing" if self.most == 1 else f"{self} elements are missing"
+
+
+class Inserted(NamedTuple):
+    """A document with elements inserted that make it valid, and whether no fewer could."""
+
+    document: bytes
+    is_least: bool
+
+
+def need(program: list[str], dtd: str, root: str, document: str, runs: Running) -> Counted | None:
+    """How many elements are missing in a document; the program is that of `pvtag`."""
+    return counted(asked(program, runs, "need", dtd, root, document))
+
+
+def complete(program: list[str], dtd: str, root: str, document: str, runs: Running) -> Inserted | None:
+    """The document with what is missing."""
+    answer = asked(program, runs, "complete", dtd, root, document)
+    if answer is None or answer.status not in (0, 1) or answer.output.startswith(b"no "):
+        return None
+    return Inserted(answer.output, answer.status == 0)
+
+
+def counted(answer: Answer | None) -> Counted | None:
+    """What an answer to its `need` tells."""
+    match answer.line.split(" ") if answer is not None and answer.status == 0 else ():
+        case ["need", count]:
+            return Counted(int(count), int(count))
+        case ["need", least, "to", most]:
+            return Counted(int(least), int(most))
+    return None
+
+
+def asked(program: list[str], runs: Running, *words: str) -> Answer | None:
+    """What it answers, once no other run is under way. It ends with these runs, also while it waits."""
+    found = find_long(program)
+    if found is None:
+        return None
+    while not TURN.acquire(timeout=0.1):
+        if runs.stopped:
+            raise Stopped
+    try:
+        return run(found, *words, most=MOST, runs=runs)
+    except Trouble:
+        return None
+    finally:
+        TURN.release()
