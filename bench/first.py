@@ -15,7 +15,7 @@ from page import put
 
 COMMAND = re.compile(r"^- `(\./pvtag [^`]*)`", re.MULTILINE)
 # What README tells of it: measured on idle processors, or not.
-TOLD = re.compile(r"in \d+ minutes on four (?:idle processors|busy processors, by reckoning in \d+ on idle ones)")
+TOLD = re.compile(r"in \d+ minutes on four (?:idle processors|processors that did little else)")
 NAME = "bench/run first"
 
 
