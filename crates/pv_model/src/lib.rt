@@ -27,4 +27,5 @@ mod spans;
 pub use laid::LaidModel;
 pub use matching::matches;
 pub use models::{ContentModel, NameId, Names, NoMemory, Part, Parts, Token};
+pub use positions::{Moved, advance, may_be_empty, push_positions};
 pub use spans::{is_element_over, is_text_at};

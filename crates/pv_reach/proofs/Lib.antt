@@ -25,4 +25,5 @@ pub mod Resting
 pub mod Replacing
 pub mod SitesReach
 pub mod Sweeping
+pub mod Taking
 pub mod Within

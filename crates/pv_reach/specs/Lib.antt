@@ -9,3 +9,5 @@ pub mod Cuts
 pub mod Plans
 pub mod Reached
 pub mod Ending
+pub mod Contents
+pub mod Taking

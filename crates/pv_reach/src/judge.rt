@@ -1,6 +1,8 @@
 //! What verdicts are found by.
 
+use crate::free_content::FreeContent;
 use crate::plan::Plan;
+use pv_model::NameId;
 use pv_productive::Grammar;
 use std::alloc::Global;
 use std::marker::Model;
@@ -35,6 +37,7 @@ impl<'a> Judge<'a> {
     ghost use Rattle.std.specs.Prelude.{◌≡◌, IfSome};
     ghost use Rattle.pv_productive.specs.PlainForms.{dtd_of};
     ghost use Rattle.pv_reach.specs.Plans.{IsPlan};
+    ghost use Rattle.pv_reach.specs.Taking.{IsFreeContent};
 
     /// Judges by a grammar, whose plan this is.
     pub fn new(alloc: Global, grammar: &'a Grammar, plan: &'a Plan) -> Judge<'a>
@@ -77,5 +80,15 @@ impl<'a> Judge<'a> {
         ensures { IfSome result (λ plan. IsPlan (dtd_of self.now) plan.now) }
     {
         self.plan
+    }
+
+    /// The content of a name, where it is found to be free and the rules are laid out.
+    pub fn free_content(&self, id: NameId) -> Option<FreeContent<'a>>
+        ensures free { IfSome result (λ _. IsFreeContent (dtd_of self.now) id.0) }
+        ensures content { IfSome result (λ content.
+            content ≡ record { grammar = self.now; name = id.0 }) }
+    {
+        let plan = self.plan?;
+        FreeContent::of(self.grammar, plan, id)
     }
 }

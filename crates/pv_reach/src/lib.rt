@@ -10,13 +10,15 @@
 //! grammar, in a plan (`specs/Plans.antt`), over one column for all that lead to one another
 //! (`specs/Leading.antt`, `Merging.antt`). Most contents are free: they derive each word of tokens
 //! that they take, so a plan has the sets of free columns, and a word is tried against one set in
-//! place of a table. Where a content isn't free, the table has only the columns that are needed
-//! before free ones are come to (`specs/Cuts.antt`). A grammar with its plan is a `Judge`, by which
-//! many verdicts are found.
+//! place of a table; a `FreeContent` tells of one token whether it is taken (`specs/Taking.antt`).
+//! Where a content isn't free, the table has only the columns that are needed before free ones are
+//! come to (`specs/Cuts.antt`). A grammar with its plan is a `Judge`, by which many verdicts are
+//! found.
 #![tactic(auto)]
 
 mod columns;
 mod errors;
+mod free_content;
 mod graph;
 mod judge;
 pub mod laws;
@@ -28,8 +30,9 @@ mod verdict;
 mod words;
 
 pub use errors::ReachError;
+pub use free_content::FreeContent;
 pub use judge::Judge;
 pub use plan::Plan;
 pub use reaches::{Reaches, furthest, furthest_by};
 pub use verdict::{list_verdict, list_verdict_by, word_verdict};
-pub use words::possible;
+pub use words::{content_derives, possible};

@@ -49,13 +49,9 @@ fn derives_by(
     column_reaches(judge.alloc(), plan, word, column)
 }
 
-/// Whether the content of a name derives the whole word. Where the rules of the grammar aren't laid
-/// out, they are laid out for this word.
-pub(crate) fn content_derives(
-    judge: &Judge<'_>,
-    id: NameId,
-    word: &[Token],
-) -> Result<bool, NoMemory>
+/// Whether the content of a name derives the whole word, which isn't too wide and has productive
+/// names only. Where the rules of the grammar aren't laid out, they are laid out for this word.
+pub fn content_derives(judge: &Judge<'_>, id: NameId, word: &[Token]) -> Result<bool, NoMemory>
     requires fits { FitsVerdict (dtd_of judge.now) (length word.now) }
     requires productive { AreProductiveTokens (dtd_of judge.now) (map plain_token word.now) }
     ensures { IfOk result (λ b. IsTrue b ↔ DerivesAt (dtd_of judge.now)
