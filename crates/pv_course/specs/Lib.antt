@@ -1,0 +1,6 @@
+pub mod Counts
+pub mod Courses
+pub mod Points
+pub mod States
+pub mod Stretches
+pub mod Walks

@@ -1,0 +1,29 @@
+//! Numbers at random.
+
+use std::test::Fail;
+
+/// Numbers at random, by a linear congruential generator.
+#[derive(Drop)]
+pub struct Random {
+    pub state: u32,
+}
+
+impl Random {
+    /// A number below the bound; 0 where that is 0.
+    pub fn below(&mut self, bound: usize) -> usize {
+        self.state = self
+            .state
+            .wrapping_mul(1_664_525)
+            .wrapping_add(1_013_904_223);
+        if bound == 0 {
+            return 0;
+        }
+        (self.state >> 8) as usize % bound
+    }
+
+    /// One of the items.
+    pub fn pick<'a, T>(&mut self, items: &'a [T]) -> Result<&'a T, Fail> {
+        let at = self.below(items.len());
+        Ok(items.get(at).ok_or("nothing to pick from")?)
+    }
+}
