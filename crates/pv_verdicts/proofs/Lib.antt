@@ -1,0 +1,7 @@
+-- for other crates:
+pub mod Splicing
+-- of this crate:
+pub mod Answering
+pub mod Changing
+pub mod Counting
+pub mod Differing

@@ -1,0 +1,151 @@
+//! How many tokens of a word keep it from being possible.
+
+ghost use Rattle.std.specs.Prelude.{◌≡◌, ◌≤◌, ◌+◌, ◌↔◌, IfSome, IsTrue, length, map};
+ghost use Rattle.std.specs.List.{splice};
+ghost use Rattle.pv_model.specs.PlainForms.{plain_token};
+ghost use Rattle.pv_productive.specs.PlainForms.{dtd_of};
+ghost use Rattle.pv_missing.specs.LiveWords.{IsProductiveToken};
+ghost use Rattle.pv_reach.specs.Taking.{IsFreeContent};
+ghost use Rattle.pv_verdicts.specs.Counting.{AreWithout, IsTakenToken};
+
+use pv_missing::are_productive;
+use pv_model::{NameId, Token};
+use pv_reach::{FreeContent, Judge};
+
+/// How many tokens of a word keep it from being possible for the content of a name.
+#[derive(Clone, Copy, Debug)]
+pub struct Counts {
+    /// Those of names that aren't productive.
+    pub unproductive: usize,
+    /// Where the content is free, these and those that it doesn't take.
+    pub untaken: Option<usize>,
+}
+
+fn is_productive(judge: &Judge<'_>, token: Token) -> bool
+    ensures { IsTrue result ↔ IsProductiveToken (dtd_of judge.now) (plain_token token) }
+{
+    are_productive(judge.grammar(), &[token])
+}
+
+fn is_taken(judge: &Judge<'_>, id: NameId, content: &FreeContent<'_>, token: Token) -> bool
+    requires { content.now ≡ record { grammar = judge.now; name = id.0 } }
+    ensures { IsTrue result ↔ IsTakenToken (dtd_of judge.now) id.0 (plain_token token) }
+{
+    is_productive(judge, token) && content.takes(token)
+}
+
+/// How many tokens of the word stand for elements whose names aren't productive.
+fn unproductive_in(judge: &Judge<'_>, word: &[Token]) -> usize
+    ensures { AreWithout (IsProductiveToken (dtd_of judge.now)) (map plain_token word.now) result }
+{
+    let mut count = 0;
+    for token in word {
+        if !is_productive(judge, *token) {
+            count += 1;
+        }
+    }
+    count
+}
+
+/// How many aren't taken by the content of a name, which is free.
+fn untaken_in(judge: &Judge<'_>, id: NameId, content: &FreeContent<'_>, word: &[Token]) -> usize
+    requires { content.now ≡ record { grammar = judge.now; name = id.0 } }
+    ensures { AreWithout (IsTakenToken (dtd_of judge.now) id.0) (map plain_token word.now) result }
+{
+    let mut count = 0;
+    for token in word {
+        if !is_taken(judge, id, content, *token) {
+            count += 1;
+        }
+    }
+    count
+}
+
+/// How many tokens of a word stand for elements whose names aren't productive, where so many tokens
+/// came in place of others, by how many of the word before do.
+fn unproductive_after(
+    judge: &Judge<'_>,
+    before: usize,
+    word: &[Token],
+    from: usize,
+    gone: &[Token],
+    came: usize,
+) -> usize
+    requires range { from + came ≤ length word.now }
+    requires before { AreWithout (IsProductiveToken (dtd_of judge.now))
+        (map plain_token (splice word.now from (from + came) gone.now)) before }
+    ensures { AreWithout (IsProductiveToken (dtd_of judge.now)) (map plain_token word.now) result }
+{
+    let old = unproductive_in(judge, gone);
+    let new = unproductive_in(judge, &word[from..from + came]);
+    before - old + new
+}
+
+/// How many aren't taken by the content of a name, where that is free and so many of the word
+/// before are known.
+fn untaken_after(
+    judge: &Judge<'_>,
+    id: NameId,
+    before: Option<usize>,
+    word: &[Token],
+    from: usize,
+    gone: &[Token],
+    came: usize,
+) -> Option<usize>
+    requires range { from + came ≤ length word.now }
+    requires before { IfSome before (AreWithout (IsTakenToken (dtd_of judge.now) id.0)
+        (map plain_token (splice word.now from (from + came) gone.now))) }
+    ensures { IfSome result (λ n. IsFreeContent (dtd_of judge.now) id.0 ×
+        AreWithout (IsTakenToken (dtd_of judge.now) id.0) (map plain_token word.now) n) }
+{
+    let all = before?;
+    let content = judge.free_content(id)?;
+    let old = untaken_in(judge, id, &content, gone);
+    let new = untaken_in(judge, id, &content, &word[from..from + came]);
+    Some(all - old + new)
+}
+
+/// How many aren't taken by the content of a name, where that is free.
+fn untaken_of(judge: &Judge<'_>, id: NameId, word: &[Token]) -> Option<usize>
+    ensures { IfSome result (λ n. IsFreeContent (dtd_of judge.now) id.0 ×
+        AreWithout (IsTakenToken (dtd_of judge.now) id.0) (map plain_token word.now) n) }
+{
+    let content = judge.free_content(id)?;
+    Some(untaken_in(judge, id, &content, word))
+}
+
+impl Counts {
+    ghost use Rattle.pv_verdicts.specs.Counting.{AreCounts};
+
+    /// The counts of a word for the content of a name.
+    pub(crate) fn of(judge: &Judge<'_>, id: NameId, word: &[Token]) -> Counts
+        ensures { AreCounts (dtd_of judge.now) id.0 (map plain_token word.now) result }
+    {
+        Counts {
+            unproductive: unproductive_in(judge, word),
+            untaken: untaken_of(judge, id, word),
+        }
+    }
+
+    /// The counts of a word in which so many tokens came in place of others, by those of the word
+    /// before.
+    pub(crate) fn after(
+        &self,
+        judge: &Judge<'_>,
+        id: NameId,
+        word: &[Token],
+        from: usize,
+        gone: &[Token],
+        came: usize,
+    ) -> Counts
+        requires range { from + came ≤ length word.now }
+        requires before { AreCounts (dtd_of judge.now) id.0
+            (map plain_token (splice word.now from (from + came) gone.now)) self.now }
+        ensures { AreCounts (dtd_of judge.now) id.0 (map plain_token word.now) result }
+    {
+        Counts {
+            unproductive: unproductive_after(judge, self.unproductive, word, from, gone, came),
+            untaken: untaken_after(judge, id, self.untaken, word, from, gone, came),
+        }
+    }
+}
