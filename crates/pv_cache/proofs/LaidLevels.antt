@@ -1,8 +1,8 @@
 -- One level of a tree whose marks are laid out.
-use Rattle.std.proofs.Common.{List, None, [], ap, append_assoc, append-nil, arith, drop, false, get_or, length, refl, slice_get, slice_set, suc, subst, sym, take, zero, ℕ, ◌*◌, ◌+◌, ◌++◌, ◌<◌, ◌≤◌, ◌∙◌, ◌∷◌, ◌≡◌}
+use Rattle.std.proofs.Common.{List, None, [], ap, append_assoc, append-nil, arith, drop, get_or, length, refl, slice_get, slice_set, suc, sym, take, zero, ℕ, ◌*◌, ◌+◌, ◌++◌, ◌<◌, ◌≤◌, ◌∙◌, ◌∷◌, ◌≡◌}
 use Rattle.std.proofs.lemmas.List.{drop-drop, drop-set-lt, drop_all, length-set, take_all, take_more_set}
 use Rattle.pv_tree.specs.Legal.{MAX_NODES}
-use Rattle.pv_tree.specs.Plain.{Ending, Forest, PlainDoc, Tree, cdata_node, element, is_element, misc_node, no_trees, nodes_in, nodes_in_all, text_node, tree}
+use Rattle.pv_tree.specs.Plain.{Forest, PlainDoc, Tree, cdata_node, element, misc_node, no_trees, nodes_in, nodes_in_all, text_node, tree}
 use Rattle.pv_tree.specs.PlainForms.{forest, plain}
 use Rattle.pv_tree.proofs.Forests.{forest-drop}
 use Rattle.pv_tree.specs.declared.nodes.Mark.{Mark}
@@ -10,7 +10,7 @@ use Rattle.pv_tree.specs.declared.nodes.Node.{Node}
 use Rattle.pv_tree.specs.declared.nodes.Verdict.{Verdict}
 use Rattle.pv_tree.specs.declared.nodes.Verdict.TheVariants as verdict
 use Rattle.pv_cache.specs.Laying.{lay_node, lay_kids, lists_in, lists_in_all, nth_verdict}
-use Rattle.pv_cache.specs.Mending.{IsCounted, IsDocCounted, mend_element, mend_doc}
+use Rattle.pv_cache.specs.Mending.{IsCounted, IsDocCounted, mend_doc}
 use Rattle.pv_cache.specs.WellMarked.{own_left, told_left, told_left_in, told_nodes, told_nodes_in}
 
 pub none_numbered : (vs : List Verdict) (n : ℕ) → slice_get vs n ≡ None → verdict.Valid ≡ nth_verdict vs n

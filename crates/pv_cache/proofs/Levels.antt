@@ -51,16 +51,16 @@ told-same : (m : Mark) (a b c d : ℕ) → a ≡ c → b ≡ d → record m { le
 told-same m a b c d p q = ap (λ n. record m { left = n; nodes = b }) p ∙ ap (λ n. record m { left = c; nodes = n }) q
 
 -- what a mend below needs at a kid, and what it finds there
-pub record Below (inner : Option InnerVerdict) (path : List ℕ) (f : Tree Mark → Tree Mark) (t : Tree Mark) (i : ℕ) (k : Tree Mark) : Type 0 where
-  pub can : CanMend inner path k
+pub record Below (P : Tree Mark → Type 0) (path : List ℕ) (f : Tree Mark → Tree Mark) (t : Tree Mark) (i : ℕ) (k : Tree Mark) : Type 0 where
+  pub can : CanMend P path k
   pub counted : IsCounted (mend_below path f k)
   pub at_least : (told_left k ≤ told_left t) × (told_nodes k ≤ told_nodes t)
   pub told_again : (before after : Told) → before.left ≡ told_left k → before.nodes ≡ told_nodes k → after.left ≡ told_left (mend_below path f k) → after.nodes ≡ told_nodes (mend_below path f k) →
       with_told before after (change_below (i ∷ []) (mend_below path f) t) ≡ mend_below (i ∷ path) f t
 
-below-kid : (inner : Option InnerVerdict) (path : List ℕ) (f : Tree Mark → Tree Mark) (x attrs : List ℕ) (kids : Forest Mark) (m : Mark) (i : ℕ) (k : Tree Mark) → KidAt i kids k → CanMend inner path k → told_left_in kids ≤ m.left → told_nodes_in kids ≤ m.nodes →
-    (e : _) → IsCounted (mend_below (i ∷ path) f (element x attrs e kids m)) → Below inner path f (element x attrs e kids m) i k
-below-kid inner path f x attrs kids m i k q can l n e c =
+below-kid : (P : Tree Mark → Type 0) (path : List ℕ) (f : Tree Mark → Tree Mark) (x attrs : List ℕ) (kids : Forest Mark) (m : Mark) (i : ℕ) (k : Tree Mark) → KidAt i kids k → CanMend P path k → told_left_in kids ≤ m.left → told_nodes_in kids ≤ m.nodes →
+    (e : _) → IsCounted (mend_below (i ∷ path) f (element x attrs e kids m)) → Below P path f (element x attrs e kids m) i k
+below-kid P path f x attrs kids m i k q can l n e c =
     let h = mend_below path f in
     let sl = sum-left h q in
     let sn = sum-nodes h q in
@@ -78,23 +78,23 @@ below-kid inner path f x attrs kids m i k q can l n e c =
           ap (element x attrs e (change_kid h i kids)) (told-same m _ _ _ _ a b);
     }
 
-found : (P : Tree Mark → Type 0) (i : ℕ) (kids : Forest Mark) (o : Option (Tree Mark)) → slice_get (trees_of kids) i ≡ o → IsSomeAnd o P → IsSomeAnd o (λ k. KidAt i kids k × P k)
-found P i kids None e h = h
-found P i kids (Some k) e h = (kid_at i kids k e, h)
+found : (Q : Tree Mark → Type 0) (i : ℕ) (kids : Forest Mark) (o : Option (Tree Mark)) → slice_get (trees_of kids) i ≡ o → IsSomeAnd o Q → IsSomeAnd o (λ k. KidAt i kids k × Q k)
+found Q i kids None e h = h
+found Q i kids (Some k) e h = (kid_at i kids k e, h)
 
-place-below : (inner : Option InnerVerdict) (path : List ℕ) (f : Tree Mark → Tree Mark) (t : Tree Mark) (i : ℕ) (ks : List Node) (d : Node) → plain_all ks ≡ kids_of t → CanMend inner (i ∷ path) t → IsCounted (mend_below (i ∷ path) f t) →
-    (i < length ks) × Below inner path f t i (plain (get_or ks i d))
-place-below inner path f (element x attrs e kids m) i ks d s can c =
-    let p = at-place (λ k. KidAt i kids k × CanMend inner path k) i (trees_of kids) ks d s (found (CanMend inner path) i kids (slice_get (trees_of kids) i) refl can.2) in
-    (p.0, below-kid inner path f x attrs kids m i (plain (get_or ks i d)) p.1.0 p.1.1 can.0 can.1 e c)
-place-below inner path f (text_node us) i ks d s can c = absurd can
-place-below inner path f (cdata_node b) i ks d s can c = absurd can
-place-below inner path f (misc_node b) i ks d s can c = absurd can
+place-below : (P : Tree Mark → Type 0) (path : List ℕ) (f : Tree Mark → Tree Mark) (t : Tree Mark) (i : ℕ) (ks : List Node) (d : Node) → plain_all ks ≡ kids_of t → CanMend P (i ∷ path) t → IsCounted (mend_below (i ∷ path) f t) →
+    (i < length ks) × Below P path f t i (plain (get_or ks i d))
+place-below P path f (element x attrs e kids m) i ks d s can c =
+    let p = at-place (λ k. KidAt i kids k × CanMend P path k) i (trees_of kids) ks d s (found (CanMend P path) i kids (slice_get (trees_of kids) i) refl can.2) in
+    (p.0, below-kid P path f x attrs kids m i (plain (get_or ks i d)) p.1.0 p.1.1 can.0 can.1 e c)
+place-below P path f (text_node us) i ks d s can c = absurd can
+place-below P path f (cdata_node b) i ks d s can c = absurd can
+place-below P path f (misc_node b) i ks d s can c = absurd can
 
-pub first-below : (inner : Option InnerVerdict) (path : List ℕ) (f : Tree Mark → Tree Mark) (t : Tree Mark) (ks : List Node) (d : Node) → 1 ≤ length path → plain_all ks ≡ kids_of t → CanMend inner path t → IsCounted (mend_below path f t) →
-    (get_or path 0 0 < length ks) × Below inner (take (length path - 1) (drop 1 path)) f t (get_or path 0 0) (plain (get_or ks (get_or path 0 0) d))
-first-below inner path f t ks d n s can c =
-    place-below inner (take (length path - 1) (drop 1 path)) f t (get_or path 0 0) ks d s (subst (λ (q : List ℕ). CanMend inner q t) (path-split path n) can) (subst (λ (q : List ℕ). IsCounted (mend_below q f t)) (path-split path n) c)
+pub first-below : (P : Tree Mark → Type 0) (path : List ℕ) (f : Tree Mark → Tree Mark) (t : Tree Mark) (ks : List Node) (d : Node) → 1 ≤ length path → plain_all ks ≡ kids_of t → CanMend P path t → IsCounted (mend_below path f t) →
+    (get_or path 0 0 < length ks) × Below P (take (length path - 1) (drop 1 path)) f t (get_or path 0 0) (plain (get_or ks (get_or path 0 0) d))
+first-below P path f t ks d n s can c =
+    place-below P (take (length path - 1) (drop 1 path)) f t (get_or path 0 0) ks d s (subst (λ (q : List ℕ). CanMend P q t) (path-split path n) can) (subst (λ (q : List ℕ). IsCounted (mend_below q f t)) (path-split path n) c)
 
 pub kid-mended : (inner : InnerVerdict) (stamp : ℕ) (t : Tree Mark) → IsTrue (is_element t) → change_below (inner.place ∷ []) (mend_element inner.verdict stamp) t ≡ mend_kid inner stamp t
 kid-mended inner stamp (element x attrs e kids m) h = refl
@@ -123,13 +123,13 @@ same-told i h (cdata_node b) = (refl, refl)
 same-told i h (misc_node b) = (refl, refl)
 
 -- one level of the mending of a tree: its kids taken out, one of them mended, put back, and its mark told again
-module _ (inner : Option InnerVerdict) (path : List ℕ) (f : Tree Mark → Tree Mark) (old bare put : Tree Mark) (ks : List Node) (kid new : Node) (before after : Told)
+module _ (P : Tree Mark → Type 0) (path : List ℕ) (f : Tree Mark → Tree Mark) (old bare put : Tree Mark) (ks : List Node) (kid new : Node) (before after : Told)
     (n : 1 ≤ length path) (taken : plain_all ks ≡ kids_of old) (rest : bare ≡ with_kids [] old) (is_put : put ≡ with_kids (plain_all (slice_set ks (get_or path 0 0) new)) bare)
     (is_kid : kid ≡ get_or ks (get_or path 0 0) kid) (made : plain new ≡ mend_below (take (length path - 1) (drop 1 path)) f (plain kid))
     (bl : before.left ≡ told_left (plain kid)) (bn : before.nodes ≡ told_nodes (plain kid)) (al : after.left ≡ told_left (plain new)) (an : after.nodes ≡ told_nodes (plain new))
-    (can : CanMend inner path old) (counted : IsCounted (mend_below path f old)) where
-  below-it : (get_or path 0 0 < length ks) × Below inner (take (length path - 1) (drop 1 path)) f old (get_or path 0 0) (plain kid)
-  below-it = rw is_kid (first-below inner path f old ks kid n taken can counted)
+    (can : CanMend P path old) (counted : IsCounted (mend_below path f old)) where
+  below-it : (get_or path 0 0 < length ks) × Below P (take (length path - 1) (drop 1 path)) f old (get_or path 0 0) (plain kid)
+  below-it = rw is_kid (first-below P path f old ks kid n taken can counted)
 
   is-changed : put ≡ change_below (get_or path 0 0 ∷ []) (mend_below (take (length path - 1) (drop 1 path)) f) old
   is-changed = put_back old bare put (plain_all (slice_set ks (get_or path 0 0) new)) rest is_put ∙ kid-put (mend_below (take (length path - 1) (drop 1 path)) f) (get_or path 0 0) old ks kid new taken below-it.0 is_kid made

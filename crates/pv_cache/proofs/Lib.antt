@@ -9,6 +9,7 @@ pub mod Marking
 pub mod Around
 pub mod Telling
 pub mod Owning
+pub mod Exchanging
 pub mod Docs
 pub mod Levels
 pub mod Unmarked
@@ -18,6 +19,7 @@ pub mod Kept
 pub mod Found
 pub mod Tasks
 pub mod Ready
+pub mod Leaving
 pub mod ListPlaces
 pub mod Stamping
 pub mod Limits

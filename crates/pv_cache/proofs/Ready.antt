@@ -1,11 +1,12 @@
 -- A changed document can be mended, and is well marked then.
-use Rattle.std.proofs.Common.{◌≡◌, ◌∙◌, ap, sym, refl, ℕ, zero, suc, ◌<◌, ◌≤◌, ◌^◌, true, List, [], ◌∷◌, ◌++◌, length, take, drop, Option, Some, None, slice_get, arith, subst, IsTrue}
-use Rattle.std.specs.Coded.{×_prop, Unit-prop}
+use Rattle.std.proofs.Common.{◌≡◌, ◌∙◌, ap, sym, refl, ℕ, zero, suc, ◌+◌, ◌<◌, ◌≤◌, ◌^◌, true, List, [], ◌∷◌, ◌++◌, length, take, drop, Option, Some, None, slice_get, arith, subst, IsTrue}
+use Rattle.std.specs.Coded.{Unit-prop}
 use Rattle.std.specs.Prelude.{IfSome, IsSomeAnd, false}
 use Rattle.std.specs.List.{between}
 use Rattle.std.proofs.Math.Bool.{Bool-set}
 use Rattle.std.proofs.Math.Bridge.{le_prop}
 use Rattle.std.proofs.Math.Logic.{∥∥₁_elim, ∥∥₁_map}
+use Rattle.std.proofs.Math.Nat.{ℕ_set}
 use Rattle.pv_dtd.specs.Plain.{PlainDtd}
 use Rattle.pv_edit.specs.Brought.{BringsBare}
 use Rattle.pv_edit.specs.Changes.{Change, doc_after, in_place_of, list_after, owner_after, root_after}
@@ -23,11 +24,14 @@ use Rattle.pv_tree.proofs.Levels.{trees-forest}
 use Rattle.pv_tree.specs.declared.nodes.Mark.{Mark}
 use Rattle.pv_tree.specs.declared.nodes.Verdict.{Verdict}
 use Rattle.pv_cache.specs.Changed.{AreJudged, IsInnerJudged, owner_at}
-use Rattle.pv_cache.specs.Mending.{CanMend, CanMendDoc, HasElement, IsDocCounted, mend_doc}
-use Rattle.pv_cache.specs.WellMarked.{IsWellMarked, told_left, told_left_in, told_nodes, told_nodes_in}
+use Rattle.pv_cache.specs.Mending.{CanMend, CanMendDoc, CanMendOwner, HasElement, IsDocCounted, IsExchange, OwnerTellsBefore, mend_doc, mend_inner}
+use Rattle.pv_cache.specs.WellMarked.{IsWellMarked, TellsList, told_left, told_left_in, told_nodes, told_nodes_in}
+use Rattle.pv_cache.specs.declared.mending.Exchange.{Exchange}
 use Rattle.pv_cache.specs.declared.mending.InnerVerdict.{InnerVerdict}
 use Rattle.pv_cache.proofs.Around.{Around, below-shows, beside-kid, changed-around, further, right-here}
 use Rattle.pv_cache.proofs.Docs.{in-root, mended-marked, owner-shows}
+use Rattle.pv_cache.proofs.Exchanging.{owner-tells}
+use Rattle.pv_cache.proofs.Marking.{node-has}
 use Rattle.pv_cache.proofs.Telling.{doc-nodes, left-within, nodes-told, own-small}
 use Rattle.pv_cache.proofs.Unmarked.{doc-as, still-kept}
 
@@ -49,28 +53,38 @@ inner-prop (Some i) t = some-prop (λ k. IsTrue (is_element k)) element-prop (sl
 flat-prop : {A B C : Type 0} → IsProp A → IsProp B → IsProp C → IsProp (A × B × C)
 flat-prop {A} {B} {C} p q r = λ x y. ap (λ (z : A). (z, x.1, x.2)) (p x.0 y.0) ∙ ap (λ (z : B). (y.0, z, x.2)) (q x.1 y.1) ∙ ap (λ (z : C). (y.0, y.1, z)) (r x.2 y.2)
 
-can-prop : (inner : Option InnerVerdict) (path : List ℕ) (t : Tree Mark) → IsProp (CanMend inner path t)
-can-prop inner [] t = ×_prop (element-prop t) (inner-prop inner t)
-can-prop inner (i ∷ path) (element x a e kids m) = flat-prop (le_prop {n = told_left_in kids} {m = m.left}) (le_prop {n = told_nodes_in kids} {m = m.nodes}) (some-prop (CanMend inner path) (can-prop inner path) (slice_get (trees_of kids) i))
-can-prop inner (i ∷ path) (text_node us) = no-prop
-can-prop inner (i ∷ path) (cdata_node b) = no-prop
-can-prop inner (i ∷ path) (misc_node b) = no-prop
+tells-prop : (e : Exchange) (t : Tree Mark) → IsProp (OwnerTellsBefore e t)
+tells-prop e (element x a en kids m) = flat-prop (le_prop {n = e.from + e.behind} {m = length (trees_of kids)}) (ℕ_set _ _) (ℕ_set _ _)
+tells-prop e (text_node us) = no-prop
+tells-prop e (cdata_node b) = no-prop
+tells-prop e (misc_node b) = no-prop
 
-doc-prop : (inner : Option InnerVerdict) (path : List ℕ) (doc : PlainDoc Mark) → IsProp (CanMendDoc inner path doc)
-doc-prop inner [] doc = Unit-prop
-doc-prop inner (i ∷ path) doc = flat-prop (le_prop {n = told_left doc.root} {m = doc.mark.left}) (le_prop {n = told_nodes doc.root} {m = doc.mark.nodes}) (can-prop inner path doc.root)
+owner-prop : (inner : Option InnerVerdict) (stamp : ℕ) (e : Exchange) (t : Tree Mark) → IsProp (CanMendOwner inner stamp e t)
+owner-prop inner stamp e t = flat-prop (element-prop t) (inner-prop inner t) (tells-prop e (mend_inner inner stamp t))
+
+module _ (P : Tree Mark → Type 0) (p : (t : Tree Mark) → IsProp (P t)) where
+  can-prop : (path : List ℕ) (t : Tree Mark) → IsProp (CanMend P path t)
+  can-prop [] t = p t
+  can-prop (i ∷ path) (element x a e kids m) = flat-prop (le_prop {n = told_left_in kids} {m = m.left}) (le_prop {n = told_nodes_in kids} {m = m.nodes}) (some-prop (CanMend P path) (can-prop path) (slice_get (trees_of kids) i))
+  can-prop (i ∷ path) (text_node us) = no-prop
+  can-prop (i ∷ path) (cdata_node b) = no-prop
+  can-prop (i ∷ path) (misc_node b) = no-prop
+
+  doc-prop : (path : List ℕ) (doc : PlainDoc Mark) → IsProp (CanMendDoc P path doc)
+  doc-prop [] doc = Unit-prop
+  doc-prop (i ∷ path) doc = flat-prop (le_prop {n = told_left doc.root} {m = doc.mark.left}) (le_prop {n = told_nodes doc.root} {m = doc.mark.nodes}) (can-prop path doc.root)
 
 pub get-middle : {X : Type 0} (xs ys : List X) (n : X) → slice_get (xs ++ (n ∷ ys)) (length xs) ≡ Some n
 get-middle [] ys n = refl
 get-middle (x ∷ xs) ys n = get-middle xs ys n
 
 module _ (g : PlainDtd) (root : List ℕ) where
-  around-can : (inner : Option InnerVerdict) {path : List ℕ} {t u : Tree Mark} → Around g root path t u → CanMend inner [] u → CanMend inner path t
-  around-can inner right-here c = c
-  around-can inner (further {i = i} {path = path} {kids = kids} {m = m} h b a) c =
+  around-can : (P : Tree Mark → Type 0) {path : List ℕ} {t u : Tree Mark} → Around g root path t u → P u → CanMend P path t
+  around-can P right-here c = c
+  around-can P (further {i = i} {path = path} {kids = kids} {m = m} h b a) c =
       let l = h.left in
       let n = h.nodes in
-      (omega arith, omega arith, subst (λ (o : Option (Tree Mark)). IsSomeAnd o (CanMend inner path)) (sym (at_kid (beside-kid g root b))) (around-can inner a c))
+      (omega arith, omega arith, subst (λ (o : Option (Tree Mark)). IsSomeAnd o (CanMend P path)) (sym (at_kid (beside-kid g root b))) (around-can P a c))
 
   inner-stands : (c : Change Mark) (ts : List (Tree Mark)) (inner : Option InnerVerdict) → c.from ≤ c.to → c.to ≤ length ts → IsInnerJudged g root c (in_place_of c.filling (between c.from c.to ts)) inner → IfSome inner (λ i. HasElement (list_after c ts) i.place)
   inner-stands c ts None h w j = tt
@@ -82,10 +96,13 @@ module _ (g : PlainDtd) (root : List ℕ) where
       let get : slice_get (list_after c ts) i.place ≡ Some n = ap (λ (l : List (Tree Mark)). slice_get l i.place) is ∙ ap (slice_get (take c.from ts ++ (n ∷ drop c.to ts))) place ∙ get-middle (take c.from ts) (drop c.to ts) n in
       subst (λ (o : Option (Tree Mark)). IsSomeAnd o (λ t. IsTrue (is_element t))) (sym get) refl
 
-  module _ (doc : PlainDoc Mark) (c : Change Mark) (v : Verdict) (inner : Option InnerVerdict) (stamp : ℕ) where
-    can-inside : IsWellMarked g root doc → (path : List ℕ) (ts : List (Tree Mark)) → Made doc.mark (zero ∷ path) c doc.root ts → IsInnerJudged g root c (in_place_of c.filling (between c.from c.to ts)) inner →
-        CanMendDoc inner (zero ∷ path) (record doc { root = root_after (zero ∷ path) c doc.root })
-    can-inside w path ts d j =
+  module _ (doc : PlainDoc Mark) (c : Change Mark) (v : Verdict) (inner : Option InnerVerdict) (stamp : ℕ) (ex : Exchange) where
+    abbrev Mendable : Tree Mark → Type 0
+    Mendable = CanMendOwner inner stamp ex
+
+    can-inside : IsWellMarked g root doc → (path : List ℕ) (ts : List (Tree Mark)) → Made doc.mark (zero ∷ path) c doc.root ts → IsInnerJudged g root c (in_place_of c.filling (between c.from c.to ts)) inner → IsExchange c ts ex →
+        CanMendDoc Mendable (zero ∷ path) (record doc { root = root_after (zero ∷ path) c doc.root })
+    can-inside w path ts d j x =
         let o = d.owner in
         let n = in-root o.node in
         let shows = owner-shows c o.name o.attrs o.ending o.kids o.mark in
@@ -97,20 +114,27 @@ module _ (g : PlainDtd) (root : List ℕ) where
         let sn = s.nodes in
         let stands = inner-stands c ts inner d.order d.within j in
         let kids : kids_of (owner_after c (element o.name o.attrs o.ending o.kids o.mark)) ≡ list_after c ts = trees-forest (list_after c (trees_of o.kids)) ∙ ap (list_after c) o.are in
-        let here : CanMend inner [] (owner_after c (element o.name o.attrs o.ending o.kids o.mark)) = (refl, subst (λ (ks : List (Tree Mark)). IfSome inner (λ i. HasElement ks i.place)) (sym kids) stands) in
-        (omega arith, omega arith, around-can inner a here)
+        let own = node-has (TellsList g root) n w.elements in
+        let within : c.to ≤ length (trees_of o.kids) = subst (λ (k : List (Tree Mark)). c.to ≤ length k) (sym o.are) d.within in
+        let inner-judged = subst (λ (k : List (Tree Mark)). IsInnerJudged g root c (in_place_of c.filling (between c.from c.to k)) inner) (sym o.are) j in
+        let exchanged = subst (λ (k : List (Tree Mark)). IsExchange c k ex) (sym o.are) x in
+        let tells = owner-tells g root c o.name o.attrs o.ending o.kids o.mark stamp ex d.order within exchanged own.0 inner inner-judged in
+        let here : Mendable (owner_after c (element o.name o.attrs o.ending o.kids o.mark)) = (refl, subst (λ (ks : List (Tree Mark)). IfSome inner (λ i. HasElement ks i.place)) (sym kids) stands, tells) in
+        (omega arith, omega arith, around-can Mendable a here)
 
-    can-by : IsWellMarked g root doc → (list : List ℕ) (ts : List (Tree Mark)) → Made doc.mark list c doc.root ts → IsInnerJudged g root c (in_place_of c.filling (between c.from c.to ts)) inner → CanMendDoc inner list (record doc { root = root_after list c doc.root })
-    can-by w [] ts d j = tt
-    can-by w (zero ∷ path) ts d j = can-inside w path ts d j
-    can-by w (suc k ∷ path) ts d j = let h = at_node d.owner.node in absurd cc
+    can-by : IsWellMarked g root doc → (list : List ℕ) (ts : List (Tree Mark)) → Made doc.mark list c doc.root ts → IsInnerJudged g root c (in_place_of c.filling (between c.from c.to ts)) inner → IsExchange c ts ex →
+        CanMendDoc Mendable list (record doc { root = root_after list c doc.root })
+    can-by w [] ts d j x = tt
+    can-by w (zero ∷ path) ts d j x = can-inside w path ts d j x
+    can-by w (suc k ∷ path) ts d j x = let h = at_node d.owner.node in absurd cc
 
     module _ (can : CanChange c.list c doc.root) (unshort : is_top c.list ≡ true → c.shorten ≡ false) (bare : BringsBare c.filling)
         (j : AreJudged g root (owner_at c.list doc.root) (kids_at c.list doc.root) c v inner) where
-      pub ready-can : ∥ IsWellMarked g root doc ∥₁ → CanMendDoc inner c.list (doc_after c doc)
-      ready-can m = ∥∥₁_elim m (doc-prop inner c.list (doc_after c doc)) (λ w.
+      pub ready-can : ∥ IsWellMarked g root doc ∥₁ → IsExchange c (kids_at c.list doc.root) ex → CanMendDoc Mendable c.list (doc_after c doc)
+      ready-can m x = ∥∥₁_elim m (doc-prop Mendable (owner-prop inner stamp ex) c.list (doc_after c doc)) (λ w.
           let d = can-made doc.mark c.list c doc.root can unshort in
-          can-by w c.list d.0 d.1 (subst (λ (ts : List (Tree Mark)). IsInnerJudged g root c (in_place_of c.filling (between c.from c.to ts)) inner) (owner-kids d.1.owner) j.within))
+          let same = owner-kids d.1.owner in
+          can-by w c.list d.0 d.1 (subst (λ (ts : List (Tree Mark)). IsInnerJudged g root c (in_place_of c.filling (between c.from c.to ts)) inner) same j.within) (subst (λ (ts : List (Tree Mark)). IsExchange c ts ex) same x))
 
       pub ready-marked : ∥ IsWellMarked g root doc ∥₁ → ∥ IsWellMarked g root (mend_doc c.list v inner stamp (doc_after c doc)) ∥₁
       ready-marked m = ∥∥₁_map m (λ w. mended-marked g root doc c v inner stamp w can unshort bare j)

@@ -1,15 +1,17 @@
 -- Marks mended where a list has changed, and above it.
-use Rattle.std.specs.Prelude.{IfSome, IsSomeAnd, IsTrue, List, [], Option, Some, None, slice_get, ℕ}
-use Rattle.std.specs.Prelude.{◌+◌, ◌-◌, ◌<◌, ◌≤◌, ◌^◌, ◌∷◌}
+use Rattle.std.specs.Prelude.{IfSome, IsSomeAnd, IsTrue, List, [], Option, Some, None, drop, length}
+use Rattle.std.specs.Prelude.{slice_get, take, ℕ, ◌+◌, ◌++◌, ◌-◌, ◌<◌, ◌≡◌, ◌≤◌, ◌^◌, ◌∷◌}
+use Rattle.std.specs.List.{between}
 use Rattle.pv_cache.specs.WellMarked.{own_left, own_node, told_left, told_left_in, told_nodes}
 use Rattle.pv_cache.specs.WellMarked.{told_nodes_in}
-use Rattle.pv_edit.specs.Changes.{change_kid}
+use Rattle.pv_edit.specs.Changes.{Change, change_kid}
 use Rattle.pv_tree.specs.Lists.{Owner, an_element, the_document}
 use Rattle.pv_tree.specs.Places.{kids_of}
-use Rattle.pv_tree.specs.Plain.{Forest, PlainDoc, Tree, cdata_node, element, is_element, misc_node}
-use Rattle.pv_tree.specs.Plain.{no_trees, text_node, tree, trees_of}
+use Rattle.pv_tree.specs.Plain.{Forest, PlainDoc, Tree, cdata_node, element, forest_of, is_element}
+use Rattle.pv_tree.specs.Plain.{misc_node, no_trees, text_node, tree, trees_of}
 use Rattle.pv_tree.specs.declared.nodes.Mark.{Mark}
 use Rattle.pv_tree.specs.declared.nodes.Verdict.{Verdict}
+use Rattle.pv_cache.specs.declared.mending.Exchange.{Exchange}
 use Rattle.pv_cache.specs.declared.mending.InnerVerdict.{InnerVerdict}
 use Rattle.pv_cache.specs.declared.told.Told.{Told}
 
@@ -50,6 +52,11 @@ mend_kid inner stamp (element x attrs ending kids mark) =
 mend_kid inner stamp (text_node units) = text_node units
 mend_kid inner stamp (cdata_node bytes) = cdata_node bytes
 mend_kid inner stamp (misc_node bytes) = misc_node bytes
+
+-- the same, where there is such a kid
+abbrev pub mend_inner : Option InnerVerdict → ℕ → Tree Mark → Tree Mark
+mend_inner None stamp t = t
+mend_inner (Some inner) stamp t = mend_kid inner stamp t
 
 -- the mark of a list whose kids tell other numbers than before
 abbrev pub count_again : Forest Mark → Forest Mark → Mark → Mark
@@ -94,16 +101,50 @@ mend_doc (i ∷ path) v inner stamp doc =
 abbrev pub HasElement : List (Tree Mark) → ℕ → Type 0
 HasElement kids i = IsSomeAnd (slice_get kids i) (λ t. IsTrue (is_element t))
 
+-- of these kids, those beside the ones that came: the first and the last ones
+abbrev pub kids_beside : Exchange → List (Tree Mark) → List (Tree Mark)
+kids_beside e kids = take e.from kids ++ drop (length kids - e.behind) kids
+
+-- A mark tells of the list as it was before some kids came: of those beside them, and of those that
+-- gave way.
+abbrev pub TellsBefore : Exchange → List (Tree Mark) → Mark → Type 0
+TellsBefore e kids mark =
+    (e.from + e.behind ≤ length kids) ×
+    (mark.left ≡ own_left mark.verdict
+    + (e.gone.left + told_left_in (forest_of (kids_beside e kids)))) ×
+    (mark.nodes ≡ 1 + (e.gone.nodes + told_nodes_in (forest_of (kids_beside e kids))))
+
+-- the mark of an element tells of its list before some kids came
+abbrev pub OwnerTellsBefore : Exchange → Tree Mark → Type 0
+OwnerTellsBefore e (element x attrs ending kids mark) = TellsBefore e (trees_of kids) mark
+OwnerTellsBefore e (text_node units) = ⊥
+OwnerTellsBefore e (cdata_node bytes) = ⊥
+OwnerTellsBefore e (misc_node bytes) = ⊥
+
+-- This is what a change of these kids exchanges.
+pub record IsExchange (c : Change Mark) (kids : List (Tree Mark)) (e : Exchange) : Type 0 where
+  pub from : e.from ≡ c.from
+  pub behind : e.behind + c.to ≡ length kids
+  pub left : e.gone.left ≡ told_left_in (forest_of (between c.from c.to kids))
+  pub nodes : e.gone.nodes ≡ told_nodes_in (forest_of (between c.from c.to kids))
+
+-- The owner of a changed list can be mended: an element stands where the list has an inner one, and
+-- the mark tells of the list before.
+abbrev pub CanMendOwner : Option InnerVerdict → ℕ → Exchange → Tree Mark → Type 0
+CanMendOwner inner stamp e t = IsTrue (is_element t) ×
+    IfSome inner (λ i. HasElement (kids_of t) i.place) ×
+    OwnerTellsBefore e (mend_inner inner stamp t)
+
 -- The marks on the way to a list tell no less than those of their kids, so that they can be told
--- again. An element stands where the list has an inner one.
-abbrev pub CanMend : Option InnerVerdict → List ℕ → Tree Mark → Type 0
-CanMend inner [] t = IsTrue (is_element t) × IfSome inner (λ i. HasElement (kids_of t) i.place)
-CanMend inner (i ∷ path) (element x attrs ending kids mark) =
+-- again, and this holds of its owner.
+abbrev pub CanMend : (Tree Mark → Type 0) → List ℕ → Tree Mark → Type 0
+CanMend P [] t = P t
+CanMend P (i ∷ path) (element x attrs ending kids mark) =
     (told_left_in kids ≤ mark.left) × (told_nodes_in kids ≤ mark.nodes) ×
-    IsSomeAnd (slice_get (trees_of kids) i) (CanMend inner path)
-CanMend inner (i ∷ path) (text_node units) = ⊥
-CanMend inner (i ∷ path) (cdata_node bytes) = ⊥
-CanMend inner (i ∷ path) (misc_node bytes) = ⊥
+    IsSomeAnd (slice_get (trees_of kids) i) (CanMend P path)
+CanMend P (i ∷ path) (text_node units) = ⊥
+CanMend P (i ∷ path) (cdata_node bytes) = ⊥
+CanMend P (i ∷ path) (misc_node bytes) = ⊥
 
 -- an element, of which another number is told
 abbrev pub with_told : Told → Told → Tree Mark → Tree Mark
@@ -120,6 +161,11 @@ with_told before after (misc_node bytes) = misc_node bytes
 abbrev pub TellsAtLeast : Told → Tree Mark → Type 0
 TellsAtLeast told t = (told.left ≤ told_left t) × (told.nodes ≤ told_nodes t)
 
+-- what a mark tells can be counted
+pub record IsMarkCounted (mark : Mark) : Type 0 where
+  pub left : mark.left < 2 ^ 64
+  pub nodes : mark.nodes < 2 ^ 64
+
 -- what is told of a tree can be counted
 pub record IsCounted (t : Tree Mark) : Type 0 where
   pub left : told_left t < 2 ^ 64
@@ -132,11 +178,11 @@ KidIsCounted inner stamp t =
     (λ k. IsCounted (mend_element inner.verdict stamp k))
 
 -- the same of a document
-abbrev pub CanMendDoc : Option InnerVerdict → List ℕ → PlainDoc Mark → Type 0
-CanMendDoc inner [] doc = Unit {0}
-CanMendDoc inner (i ∷ path) doc =
+abbrev pub CanMendDoc : (Tree Mark → Type 0) → List ℕ → PlainDoc Mark → Type 0
+CanMendDoc P [] doc = Unit {0}
+CanMendDoc P (i ∷ path) doc =
     (told_left doc.root ≤ doc.mark.left) × (told_nodes doc.root ≤ doc.mark.nodes) ×
-    CanMend inner path doc.root
+    CanMend P path doc.root
 
 -- what the mark of a document tells can be counted
 pub record IsDocCounted (doc : PlainDoc Mark) : Type 0 where

@@ -1,16 +1,19 @@
 //! A change of one list of a well marked document.
 
-ghost use Rattle.std.specs.Prelude.{◌≡◌, ◌≤◌, ◌+◌, [], false, IfErr, IfOk, IfSome, OnErr, OnOk};
-ghost use Rattle.std.specs.Prelude.{length};
+ghost use Rattle.std.specs.Prelude.{◌≡◌, ◌≤◌, ◌<◌, ◌+◌, ◌^◌, [], false, IfErr, IfOk, IfSome};
+ghost use Rattle.std.specs.Prelude.{OnErr, OnOk, length};
+ghost use Rattle.std.specs.List.{between};
 ghost use Rattle.std.specs.Option.{option_map};
 ghost use Rattle.pv_cache.specs.BadLists.{bad_gained, bad_lost, own_at};
 ghost use Rattle.pv_cache.specs.Changed.{AreJudged, owner_at};
 ghost use Rattle.pv_cache.specs.Changing.{AreNarrowAfter, IsChanged, IsTaskFor};
 ghost use Rattle.pv_cache.specs.Judging.{AreListTokens, AreWords};
+ghost use Rattle.pv_cache.specs.Mending.{IsExchange};
 ghost use Rattle.pv_cache.specs.PlainMarked.{plain_marked};
 ghost use Rattle.pv_cache.specs.Stamps.{changed_by};
+ghost use Rattle.pv_cache.specs.WellMarked.{told_left_in, told_nodes_in};
 ghost use Rattle.pv_edit.specs.Changes.{list_after};
-ghost use Rattle.pv_edit.specs.Fitting.{plain_task};
+ghost use Rattle.pv_edit.specs.Fitting.{SuitsChange, plain_change, plain_task};
 ghost use Rattle.pv_edit.specs.Reasons.{kids_at, lacks_list};
 ghost use Rattle.pv_missing.specs.PlainForms.{plain_of};
 ghost use Rattle.pv_missing.specs.Weighing.{site_of};
@@ -19,14 +22,16 @@ ghost use Rattle.pv_rules.specs.Sites.{HasSite};
 ghost use Rattle.pv_tree.specs.Places.{spot_at};
 ghost use Rattle.pv_tree.specs.Plain.{forest_of};
 ghost use Rattle.pv_tree.specs.PlainDocs.{plain_doc};
+ghost use Rattle.pv_tree.specs.PlainForms.{plain_all};
 
 use crate::bad_lists::{bad_taken, own_bad, own_inner, own_of};
 use crate::judging::judge_words;
-use crate::mending::{ChangedVerdicts, Mend, mend_doc};
+use crate::mending::{ChangedVerdicts, Exchange, Mend, mend_doc};
+use crate::told::told_in;
 use crate::well_marked::WellMarked;
 use crate::words::{KeptTokens, ListTokens, Words};
 use pv_chars::NoMemory;
-use pv_edit::{Task, make};
+use pv_edit::{Change, Task, make};
 use pv_missing::{Of, element_owner, root_owner};
 use pv_reach::ReachError;
 use pv_steps::Steps;
@@ -40,6 +45,24 @@ fn number_of(mend: &Mend) -> u32
     match mend.inner {
         None => 1,
         Some(_) => 2,
+    }
+}
+
+// What a change of these kids exchanges.
+fn exchange_of(kids: &[Node], change: &Change) -> Exchange
+    requires suits { SuitsChange (plain_change [] change.now) (plain_all kids.now) }
+    requires left { told_left_in (forest_of (between change.now.from change.now.to
+        (plain_all kids.now))) < 2 ^ 64 }
+    requires nodes { told_nodes_in (forest_of (between change.now.from change.now.to
+        (plain_all kids.now))) < 2 ^ 64 }
+    ensures { IsExchange (plain_change [] change.now) (plain_all kids.now) result }
+{
+    let behind = kids.len() - change.to;
+    let gone = told_in(&kids[change.from..change.to]);
+    Exchange {
+        from: change.from,
+        behind,
+        gone,
     }
 }
 
@@ -130,12 +153,20 @@ impl WellMarked {
         self.bad + gained - self.bad_lost(task)
     }
 
-    /// Makes a change whose lists have these verdicts, and mends the marks. Without memory the
-    /// document is left.
-    ///
-    /// The changed lists get the stamp; their number is given. The tokens are kept, which are those
-    /// of the list after the change.
-    pub(crate) fn make_judged(
+    // What a task's change exchanges in its list.
+    fn exchange(&self, task: &Task) -> Exchange
+        requires { IsTaskFor (plain_doc self.now.doc) task.now }
+        ensures { IsExchange (plain_task task.now)
+            (kids_at task.now.list (plain_doc self.now.doc).root) result }
+    {
+        let Some(kids) = self.doc.kids_at(&task.list) else {
+            unreachable!()
+        };
+        exchange_of(kids, &task.change)
+    }
+
+    // Makes a change as `make_judged` does, and remembers nothing behind the grammar.
+    fn make_marked(
         &mut self,
         task: Task,
         verdicts: ChangedVerdicts,
@@ -160,10 +191,41 @@ impl WellMarked {
         };
         let list = Path::new(self.alloc, task.list.places())?;
         let bad = self.bad_after(&task, &verdicts);
+        let exchange = self.exchange(&task);
         make(self.alloc, &mut self.doc, task)?;
-        mend_doc(self.alloc, &mut self.doc, list.places(), &mend);
+        mend_doc(self.alloc, &mut self.doc, list.places(), &mend, &exchange);
         self.bad = bad;
         self.kept = Some(KeptTokens { list, tokens });
         Ok(number_of(&mend))
+    }
+
+    /// Makes a change whose lists have these verdicts, and mends the marks. Without memory the
+    /// document is left.
+    ///
+    /// The changed lists get the stamp; their number is given. The tokens are kept, which are those
+    /// of the list after the change, and a long word of it is remembered behind the grammar.
+    pub(crate) fn make_judged(
+        &mut self,
+        task: Task,
+        verdicts: ChangedVerdicts,
+        tokens: ListTokens,
+        stamp: u64,
+    ) -> Result<u32, NoMemory>
+        requires task { IsTaskFor (plain_doc self.old.doc) task }
+        requires judged { AreJudged self.old.grammar self.old.root
+            (owner_at task.list (plain_doc self.old.doc).root)
+            (kids_at task.list (plain_doc self.old.doc).root)
+            (plain_task task) verdicts.outer verdicts.inner }
+        requires tokens { AreListTokens self.old.grammar (forest_of (list_after (plain_task task)
+            (kids_at task.list (plain_doc self.old.doc).root))) tokens }
+        ensures changed { IfOk result (λ lists.
+            IsChanged (plain_marked self.old) task stamp lists (plain_marked self.new)) }
+        ensures unchanged { OnErr result (plain_marked self.new ≡ plain_marked self.old) }
+    {
+        let owner = self.owner_of(&task.list);
+        let is_again = self.kept_at(&task.list).is_some();
+        let lists = self.make_marked(task, verdicts, tokens, stamp)?;
+        self.remember_kept(owner, is_again);
+        Ok(lists)
     }
 }

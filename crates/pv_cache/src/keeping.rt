@@ -4,6 +4,7 @@
 ghost use Rattle.std.specs.Prelude.{◌≡◌, IfOk, IfSome};
 ghost use Rattle.pv_cache.specs.Changing.{IsTaskFor};
 ghost use Rattle.pv_cache.specs.Judging.{AreListTokens, AreWords};
+ghost use Rattle.pv_cache.specs.PlainMarked.{plain_marked};
 ghost use Rattle.pv_edit.specs.Fitting.{plain_task};
 ghost use Rattle.pv_edit.specs.Reasons.{kids_at};
 ghost use Rattle.pv_tree.specs.Plain.{forest_of};
@@ -13,11 +14,12 @@ use crate::well_marked::WellMarked;
 use crate::words::{ListTokens, Words, tokens_of, words_after};
 use pv_chars::NoMemory;
 use pv_edit::Task;
+use pv_missing::Of;
 use pv_tree::Path;
 
 impl WellMarked {
-    // The tokens of the list at a path, where they are kept.
-    fn kept_at(&self, list: &Path) -> Option<&ListTokens>
+    /// The tokens of the list at a path, where they are kept.
+    pub(crate) fn kept_at(&self, list: &Path) -> Option<&ListTokens>
         ensures { IfSome result (λ tokens. AreListTokens self.now.grammar
             (forest_of (kids_at list.now (plain_doc self.now.doc).root)) tokens.now) }
     {
@@ -71,5 +73,16 @@ impl WellMarked {
         }
         let before = self.tokens_before(task)?;
         self.words_by(task, &before)
+    }
+
+    /// Remembers the word of the list whose tokens are kept, which has this owner, behind the
+    /// grammar.
+    pub(crate) fn remember_kept(&mut self, owner: Option<Of>, is_again: bool)
+        ensures marked { plain_marked self.new ≡ plain_marked self.old }
+    {
+        if let Some(kept) = &self.kept {
+            let word = &kept.tokens.word.tokens;
+            self.grammar.remember(self.alloc, owner, word, is_again);
+        }
     }
 }

@@ -8,10 +8,9 @@ ghost use Rattle.pv_tree.specs.Plain.{nodes_in, nodes_in_all};
 ghost use Rattle.pv_tree.specs.PlainDocs.{plain_doc};
 ghost use Rattle.pv_tree.specs.PlainForms.{forest, plain};
 
-use crate::mending::{Mend, mend_doc, mend_element};
+use crate::mending::{Mend, mend_element, mend_top};
 use pv_missing::Verdicts;
 use pv_tree::{Doc, Node, Nodes, Verdict};
-use std::alloc::Global;
 
 // The verdict of this number; there is one for each list.
 fn nth_verdict(verdicts: &Verdicts, number: u64) -> Verdict
@@ -57,7 +56,7 @@ fn lay_kids(kids: &mut Nodes, verdicts: &Verdicts, number: u64) -> u64
 }
 
 /// Marks all lists of a document by their verdicts in document order, with stamps of 0.
-pub(crate) fn lay_doc(alloc: Global, doc: &mut Doc, verdicts: &Verdicts)
+pub(crate) fn lay_doc(doc: &mut Doc, verdicts: &Verdicts)
     ensures { plain_doc doc.new ≡ lay_doc verdicts.now.verdicts (plain_doc doc.old) }
 {
     lay_node(&mut doc.root, verdicts, 1);
@@ -66,5 +65,5 @@ pub(crate) fn lay_doc(alloc: Global, doc: &mut Doc, verdicts: &Verdicts)
         inner: None,
         stamp: 0,
     };
-    mend_doc(alloc, doc, &[], &mend);
+    mend_top(doc, &mend);
 }

@@ -93,7 +93,7 @@ impl Marked {
             ≡ record { dtd = grammar; root = root; doc = doc_as (λ _. 0) (plain_doc doc) } }
     {
         let mut doc = doc;
-        lay_doc(alloc, &mut doc, &verdicts);
+        lay_doc(&mut doc, &verdicts);
         let bad = bad_by(&doc, &verdicts);
         let document = WellMarked {
             alloc,

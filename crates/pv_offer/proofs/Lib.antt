@@ -2,3 +2,4 @@
 mod Alike
 mod Choosing
 mod Outlines
+pub mod Shared

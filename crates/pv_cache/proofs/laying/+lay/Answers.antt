@@ -1,4 +1,4 @@
-use Rattle.std.proofs.Common.{Global, Vec, ap, arith, rules, subst, suc, sym, ◌+◌, ◌∙◌, ◌≡◌}
+use Rattle.std.proofs.Common.{Global, Vec, ap, arith, rules, subst, suc, ◌+◌, ◌∙◌, ◌≡◌}
 use Rattle.pv_tree.specs.Plain.{element, nodes_in}
 use Rattle.pv_tree.specs.PlainForms.{forest, plain, plain_end}
 use Rattle.pv_tree.specs.declared.nodes.Node.{Node, the_lemmas}

@@ -26,7 +26,7 @@ invariant_of-doc c =
       epilog = doc.epilog;
     }
 
-pub mend_doc-requires-clause-counted : goal.mend_doc-requires-clause-counted
-mend_doc-requires-clause-counted c =
+pub mend_top-requires : goal.mend_top-requires
+mend_top-requires c =
     let doc = plain_doc c.args.doc.now in
     root_counted c.args.verdicts.now.verdicts doc.root c.nth_verdict.result (record doc { root = plain c.lay_node.new.node }) c.args.doc.now.small c.lay_node.ensures.laid
