@@ -17,6 +17,10 @@ use Rattle.pv_span.proofs.ColumnFacts.{column_spans}
 use Rattle.pv_span.proofs.Numbering.{strictly_within, within}
 use Rattle.pv_span.proofs.Putting.{cell_sum, each_cell, same_or_not}
 
+-- the least sum of all rules is one
+pub least_sum : (g : List PlainForm) (w : List PlainToken) (t : Cell → ℕ) (x : Cell) (k : ℕ) → IsLeastAt g w t x k → IsSumAt g w t x k
+least_sum g w t x k l = record { below = λ c xs d r h. l.below c xs r; attained = l.attained }
+
 module _ (g : List PlainForm) (w : List PlainToken) where
   -- a chart with other rows whose values over the spans that are done are those of this one
   module _ (t : PlainChart) (rows : List (List ℕ)) (row : List ℕ) (long : t.tokens ≡ length w) where
@@ -121,7 +125,7 @@ module _ (g : List PlainForm) (w : List PlainToken) (i j : ℕ) where
   one_settling old row s k true a lt l f =
       let d = f.lowered refl in
       let e = ap (λ r. with_row old r) d.1 in
-      changed (At s) old (with_row old row) (rw e (put_attained old s (capped k) a lt (sum_attained old a s k (record { attained = l.attained }))))
+      changed (At s) old (with_row old row) (rw e (put_attained old s (capped k) a lt (sum_attained old a s k (record { below = λ c xs d r h. l.below c xs r; attained = l.attained }))))
       (let z = cell_sum old.row s (capped k) lt d.0 in rw d.1 z)
   one_settling old row s k false a lt l f =
       let d = f.kept refl in kept (At s) old (with_row old row) a (ap (λ r. with_row old r) d.1) (sum_settled old a s k l d.0)

@@ -16,6 +16,11 @@ pub record Cell : Type 0 where
 abbrev pub cell : ℕ → ℕ → ℕ → Cell
 cell c i j = record { column = c; from = i; to = j }
 
+-- the cell is among these
+abbrev pub IsRightSide : Cell → List Cell → Type 0
+IsRightSide x [] = ⊥
+IsRightSide x (y ∷ ys) = (x ≡ y) ⊎ IsRightSide x ys
+
 -- the column is among these
 abbrev pub IsOneOf : ℕ → List ℕ → Type 0
 IsOneOf d ds = (k : ℕ) × (slice_get ds k ≡ Some d)

@@ -3,12 +3,15 @@ use Rattle.std.specs.Prelude.{Bool, List, Some, slice_get, suc, true, ℕ, ◌+�
 use Rattle.pv_model.specs.Plain.{PlainToken, text}
 use Rattle.pv_rules.specs.Derivations.{sum_of}
 use Rattle.pv_productive.specs.Tables.{no_size}
-use Rattle.pv_span.specs.ColumnRules.{Cell, ColumnRule, IsOneOf, cell}
+use Rattle.pv_span.specs.ColumnRules.{Cell, ColumnRule, IsRightSide, IsOneOf, cell}
 use Rattle.pv_span.specs.Forms.{PlainForm}
 
--- k is the sum of cost and right sides of a rule of a cell, where it is less than no derivation's
+-- k is the sum of cost and right sides of a rule of a cell, where it is less than no derivation's,
+-- and no more than that of a rule with a right side over the whole span
 pub record IsSumAt (f : List PlainForm) (w : List PlainToken) (t : Cell → ℕ) (x : Cell) (k : ℕ) :
     Type 0 where
+  pub below : (c : ℕ) (xs : List Cell) (d : ℕ) → ColumnRule f w x c xs →
+      IsRightSide (cell d x.from x.to) xs → k ≤ c + sum_of t xs
   pub attained : k < no_size → (c : ℕ) × (xs : List Cell) × ColumnRule f w x c xs ×
       (k ≡ c + sum_of t xs)
 

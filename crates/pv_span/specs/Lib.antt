@@ -1,10 +1,12 @@
 pub mod Forms
 pub mod ColumnRules
 pub mod Columns
+pub mod Mentions
 pub mod KeptColumns
 pub mod Making
 pub mod Charts
 pub mod Least
+pub mod Waits
 pub mod Lines
 pub mod DoneSpans
 pub mod FormForms

@@ -4,15 +4,15 @@ ghost use Rattle.std.specs.Prelude.{◌<◌, ◌^◌, IfOk, length, map};
 ghost use Rattle.pv_model.specs.PlainForms.{plain_token};
 ghost use Rattle.pv_span.specs.Charts.{IsFilled};
 ghost use Rattle.pv_span.specs.FormForms.{plain_all};
+ghost use Rattle.pv_span.specs.Mentions.{AreTold};
 ghost use Rattle.pv_span.specs.PlainForms.{plain_chart};
 
 use crate::charts::Chart;
-use crate::fallen::Fallen;
 use crate::forms::Form;
-use crate::lowering::settle;
 use crate::mentions::Mentions;
 use crate::pairs::lines_of;
-use crate::spreading::spread;
+use crate::spreading::fill_span;
+use crate::waiting::Waiting;
 use pv_chars::NoMemory;
 use pv_model::Token;
 use std::alloc::Global;
@@ -28,16 +28,16 @@ fn fill(
 ) -> Result<Chart, NoMemory>
     requires short { length word.now < 2 ^ 13 }
     requires few { length forms.now < 2 ^ 32 }
+    requires told { ∥ AreTold (plain_all forms.now) mentions.now ∥₁ }
     ensures { IfOk result (λ chart. IsFilled (plain_all forms.now) (map plain_token word.now)
         (plain_chart chart)) }
 {
     let tokens = word.len() as u32;
     let lines = lines_of(alloc, forms, tokens)?;
     let mut chart = Chart::new(alloc, tokens, forms.len() as u32, lines)?;
-    let mut fallen = Fallen::new(alloc)?;
+    let mut waiting = Waiting::new(alloc, forms.len())?;
     while !chart.is_full() {
-        spread(forms, mentions, word, &mut fallen, &mut chart)?;
-        settle(forms, names, word, &mut chart);
+        fill_span(forms, mentions, names, word, &mut waiting, &mut chart)?;
         chart.next();
     }
     Ok(chart)
@@ -52,6 +52,7 @@ pub fn chart_of(
     word: &[Token],
 ) -> Result<Chart, NoMemory>
     requires few { length forms.now < 2 ^ 32 }
+    requires told { ∥ AreTold (plain_all forms.now) mentions.now ∥₁ }
     ensures { IfOk result (λ chart. length word.now < 2 ^ 13 → IsFilled (plain_all forms.now)
         (map plain_token word.now) (plain_chart chart)) }
 {

@@ -6,6 +6,7 @@ ghost use Rattle.pv_productive.specs.PlainForms.{dtd_of};
 ghost use Rattle.pv_span.specs.Columns.{AreFit, no_column};
 ghost use Rattle.pv_span.specs.FormForms.{plain_all};
 ghost use Rattle.pv_span.specs.Making.{AreLaid, element_forms};
+ghost use Rattle.pv_span.specs.Mentions.{AreTold};
 ghost use Rattle.pv_span.specs.SiteForms.{plain_sites};
 
 use crate::forms::Form;
@@ -30,6 +31,7 @@ pub struct ColumnLayout<'a> {
     pub(crate) mentions: Mentions,
     pub ghost fit: { ∥ AreFit (dtd_of grammar.now) (plain_sites sites) (plain_all forms.items) ∥₁ },
     pub ghost few: { length forms.items ≤ no_column },
+    pub ghost told: { ∥ AreTold (plain_all forms.items) mentions ∥₁ },
 }
 
 /// The columns of a grammar, kept without it.
@@ -39,6 +41,7 @@ pub struct Columns {
     forms: Vec<Form>,
     mentions: Mentions,
     pub ghost few: { length forms.items ≤ no_column },
+    pub ghost told: { ∥ AreTold (plain_all forms.items) mentions ∥₁ },
 }
 
 impl<'a> ColumnLayout<'a> {

@@ -34,6 +34,7 @@ mod spans;
 mod spreading;
 mod values;
 mod verdict;
+mod waiting;
 mod weighing;
 
 pub use errors::SpanError;

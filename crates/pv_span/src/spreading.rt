@@ -1,19 +1,30 @@
 //! Lowering the values over the span at hand in the order of their size, so that nearly each is
 //! found once (Knuth, "A generalization of Dijkstra's algorithm", 1977): first what is told within
 //! the span, then from each value, the least first, those of the columns that mention its column.
+//! A column whose value fell waits until these are lowered, so where none waits the rules lower
+//! nothing.
 
-ghost use Rattle.std.specs.Prelude.{◌≡◌, ◌<◌, ◌^◌, length, map};
+ghost use Rattle.std.specs.Prelude.{◌≡◌, ◌<◌, ◌^◌, ◌⊎◌, ℕ, IfOk, IsTrue, List, OnOk, length, map};
 ghost use Rattle.pv_model.specs.PlainForms.{plain_token};
-ghost use Rattle.pv_span.specs.FormForms.{plain_all};
-ghost use Rattle.pv_span.specs.PlainForms.{DiffersInRow, IsAttainedSoFar};
+ghost use Rattle.pv_productive.specs.Tables.{no_size, size_at};
+ghost use Rattle.pv_span.specs.Charts.{AreSettled, value_of};
+ghost use Rattle.pv_span.specs.ColumnRules.{cell};
+ghost use Rattle.pv_span.specs.FormForms.{plain_all, plain_form};
+ghost use Rattle.pv_span.specs.Forms.{of_one};
+ghost use Rattle.pv_span.specs.Least.{IsLeastAt, IsSumAt};
+ghost use Rattle.pv_span.specs.Mentions.{AreTold};
+ghost use Rattle.pv_span.specs.PlainForms.{DiffersInRow, IsAttainedSoFar, plain_chart};
+ghost use Rattle.pv_span.specs.Waits.{AllWait, AreHeld, HaveFallen, IsHeld, IsHeldFrom};
+ghost use Rattle.pv_span.specs.Waits.{IsLoweredTo, Waits};
 
 use crate::charts::Chart;
 use crate::ends::sum_at_ends;
-use crate::fallen::Fallen;
 use crate::forms::Form;
-use crate::lowering::{cut, lower_column};
+use crate::least::least_of;
+use crate::lowering::{cut, settle};
 use crate::mentions::Mentions;
 use crate::values::{lower, value_at};
+use crate::waiting::Waiting;
 use pv_chars::NoMemory;
 use pv_model::Token;
 
@@ -24,65 +35,18 @@ fn lower_one(forms: &[Form], word: &[Token], number: u32, chart: &mut Chart) -> 
     requires number { number < length forms.now }
     ensures attained { IsAttainedSoFar (plain_all forms.now) (map plain_token word.now) chart.new }
     ensures same { DiffersInRow chart.old chart.new }
+    ensures lowered { IsLoweredTo (IsLeastAt (plain_all forms.now) (map plain_token word.now)
+        (value_of (plain_chart chart.old)) (cell number chart.old.from chart.old.to))
+        chart.old.row.items chart.new.row.items number result }
 {
-    lower_column(forms, word, number, chart)
-}
-
-/// The same, and puts the column with those that fell where it does.
-fn lower_first(
-    forms: &[Form],
-    word: &[Token],
-    number: u32,
-    fallen: &mut Fallen,
-    chart: &mut Chart,
-) -> Result<(), NoMemory>
-    requires attained { IsAttainedSoFar (plain_all forms.now) (map plain_token word.now) chart.old }
-    requires number { number < length forms.now }
-    ensures attained { IsAttainedSoFar (plain_all forms.now) (map plain_token word.now) chart.new }
-    ensures same { DiffersInRow chart.old chart.new }
-{
-    if lower_one(forms, word, number, chart) {
-        fallen.push(number, value_at(&chart.row, number as usize))?;
-    }
-    Ok(())
-}
-
-/// Lowers the value of a column where values over the whole span give less, and tells whether they
-/// do.
-#[inline(always)]
-fn lower_by_ends(forms: &[Form], word: &[Token], number: u32, chart: &mut Chart) -> bool
-    requires attained { IsAttainedSoFar (plain_all forms.now) (map plain_token word.now) chart.old }
-    requires number { number < length forms.now }
-    ensures attained { IsAttainedSoFar (plain_all forms.now) (map plain_token word.now) chart.new }
-    ensures same { DiffersInRow chart.old chart.new }
-{
-    let sum = cut(sum_at_ends(forms, word, chart, number));
-    lower(&mut chart.row, number as usize, sum)
-}
-
-/// The same, and puts the column with those that fell where it does.
-fn lower_next(
-    forms: &[Form],
-    word: &[Token],
-    number: u32,
-    fallen: &mut Fallen,
-    chart: &mut Chart,
-) -> Result<(), NoMemory>
-    requires attained { IsAttainedSoFar (plain_all forms.now) (map plain_token word.now) chart.old }
-    ensures attained { IsAttainedSoFar (plain_all forms.now) (map plain_token word.now) chart.new }
-    ensures same { DiffersInRow chart.old chart.new }
-{
-    if number as usize >= forms.len() {
-        return Ok(());
-    }
-    if lower_by_ends(forms, word, number, chart) {
-        fallen.push(number, value_at(&chart.row, number as usize))?;
-    }
-    Ok(())
+    let least = cut(least_of(forms, word, chart, number));
+    lower(&mut chart.row, number as usize, least)
 }
 
 /// Whether one of other columns stands in a column: its value is told by theirs alone.
-fn is_one_of(form: &Form) -> bool {
+fn is_one_of(form: &Form) -> bool
+    ensures { IsTrue result → (ds : List ℕ) × (plain_form form.now ≡ of_one ds) }
+{
     match form {
         Form::OneOf(_) => true,
         Form::Never => false,
@@ -95,72 +59,219 @@ fn is_one_of(form: &Form) -> bool {
     }
 }
 
-/// Lowers the values of all columns but those in which one of others stands, each once.
+/// Lowers the value of a column but one in which one of others stands, which waits where it fell.
+fn lower_first(
+    forms: &[Form],
+    word: &[Token],
+    number: u32,
+    waiting: &mut Waiting,
+    chart: &mut Chart,
+) -> Result<(), NoMemory>
+    requires attained { IsAttainedSoFar (plain_all forms.now) (map plain_token word.now) chart.old }
+    requires number { number < length forms.now }
+    requires long { length waiting.old.flags.items ≡ length forms.now }
+    requires wait { AllWait waiting.old chart.old.row.items }
+    ensures attained { IsAttainedSoFar (plain_all forms.now) (map plain_token word.now) chart.new }
+    ensures same { DiffersInRow chart.old chart.new }
+    ensures fallen { HaveFallen waiting.old waiting.new chart.old.row.items chart.new.row.items }
+    ensures held { IsHeld (plain_all forms.now) (map plain_token word.now) chart.old.from
+        chart.old.to (Waits waiting.new) (plain_chart chart.new) number }
+{
+    if is_one_of(&forms[number as usize]) {
+        return Ok(());
+    }
+    if !lower_one(forms, word, number, chart) {
+        return Ok(());
+    }
+    let value = value_at(&chart.row, number as usize);
+    waiting.push(number, value)
+}
+
+/// The same for all columns, each once.
 fn begin(
     forms: &[Form],
     word: &[Token],
-    fallen: &mut Fallen,
+    waiting: &mut Waiting,
     chart: &mut Chart,
 ) -> Result<(), NoMemory>
     requires attained { IsAttainedSoFar (plain_all forms.now) (map plain_token word.now) chart.old }
     requires few { length forms.now < 2 ^ 32 }
+    requires long { length waiting.old.flags.items ≡ length forms.now }
+    requires blank { (s : ℕ) → size_at chart.old.row.items s ≡ no_size }
     ensures attained { IsAttainedSoFar (plain_all forms.now) (map plain_token word.now) chart.new }
     ensures same { DiffersInRow chart.old chart.new }
+    ensures long { length waiting.new.flags.items ≡ length waiting.old.flags.items }
+    ensures held { OnOk result (AreHeld (plain_all forms.now) (map plain_token word.now)
+        chart.old.from chart.old.to (Waits waiting.new) (plain_chart chart.new)) }
 {
     for number in 0..forms.len() {
-        if !is_one_of(&forms[number]) {
-            lower_first(forms, word, number as u32, fallen, chart)?;
-        }
+        lower_first(forms, word, number as u32, waiting, chart)?;
     }
     Ok(())
 }
 
-/// Lowers the values of these columns, which mention one of this value, where they are more.
-fn lower_above(
+/// Lowers the value of a column where values over the whole span give less, and tells whether they
+/// do.
+#[inline(always)]
+fn lower_by_ends(forms: &[Form], word: &[Token], number: u32, chart: &mut Chart) -> bool
+    requires attained { IsAttainedSoFar (plain_all forms.now) (map plain_token word.now) chart.old }
+    requires number { number < length forms.now }
+    ensures attained { IsAttainedSoFar (plain_all forms.now) (map plain_token word.now) chart.new }
+    ensures same { DiffersInRow chart.old chart.new }
+    ensures lowered { IsLoweredTo (IsSumAt (plain_all forms.now) (map plain_token word.now)
+        (value_of (plain_chart chart.old)) (cell number chart.old.from chart.old.to))
+        chart.old.row.items chart.new.row.items number result }
+{
+    let sum = cut(sum_at_ends(forms, word, chart, number));
+    lower(&mut chart.row, number as usize, sum)
+}
+
+/// The same where it is more than a value; the column waits where it fell.
+fn lower_next(
     forms: &[Form],
     word: &[Token],
-    columns: &[u32],
+    number: u32,
     value: u32,
-    fallen: &mut Fallen,
+    waiting: &mut Waiting,
     chart: &mut Chart,
 ) -> Result<(), NoMemory>
     requires attained { IsAttainedSoFar (plain_all forms.now) (map plain_token word.now) chart.old }
+    requires long { length waiting.old.flags.items ≡ length forms.now }
     ensures attained { IsAttainedSoFar (plain_all forms.now) (map plain_token word.now) chart.new }
     ensures same { DiffersInRow chart.old chart.new }
+    ensures fallen { HaveFallen waiting.old waiting.new chart.old.row.items chart.new.row.items }
+    ensures held { IsHeldFrom (plain_all forms.now) (map plain_token word.now) chart.old.from
+        chart.old.to (Waits waiting.new) (plain_chart chart.old) (plain_chart chart.new) number
+        value }
 {
-    for place in 0..columns.len() {
-        let number = columns[place];
-        if value < value_at(&chart.row, number as usize) {
-            lower_next(forms, word, number, fallen, chart)?;
-        }
+    if number as usize >= forms.len() {
+        return Ok(());
     }
-    Ok(())
+    if value_at(&chart.row, number as usize) <= value {
+        return Ok(());
+    }
+    if !lower_by_ends(forms, word, number, chart) {
+        return Ok(());
+    }
+    let fallen = value_at(&chart.row, number as usize);
+    waiting.push(number, fallen)
 }
 
-/// Lowers the values over the span at hand, as far as mentions are laid out.
-pub fn spread(
+/// Lowers the values of the columns that mention this one, where they are more than its own.
+fn lower_above(
     forms: &[Form],
     mentions: &Mentions,
     word: &[Token],
-    fallen: &mut Fallen,
+    column: u32,
+    waiting: &mut Waiting,
+    chart: &mut Chart,
+) -> Result<(), NoMemory>
+    requires attained { IsAttainedSoFar (plain_all forms.now) (map plain_token word.now) chart.old }
+    requires long { length waiting.old.flags.items ≡ length forms.now }
+    requires column { column < length forms.now }
+    requires some { 0 < length mentions.now.above.items }
+    requires told { ∥ AreTold (plain_all forms.now) mentions.now ∥₁ }
+    requires held { AreHeld (plain_all forms.now) (map plain_token word.now) chart.old.from
+        chart.old.to (λ d. (column ≡ d) ⊎ Waits waiting.old d) (plain_chart chart.old) }
+    ensures attained { IsAttainedSoFar (plain_all forms.now) (map plain_token word.now) chart.new }
+    ensures same { DiffersInRow chart.old chart.new }
+    ensures long { length waiting.new.flags.items ≡ length waiting.old.flags.items }
+    ensures held { OnOk result (AreHeld (plain_all forms.now) (map plain_token word.now)
+        chart.old.from chart.old.to (Waits waiting.new) (plain_chart chart.new)) }
+{
+    let value = value_at(&chart.row, column as usize);
+    let above = mentions.above(column);
+    for place in 0..above.len() {
+        lower_next(forms, word, above[place], value, waiting, chart)?;
+    }
+    Ok(())
+}
+
+/// The same for the column of the least value of those that wait, and tells whether there is one.
+fn spread_next(
+    forms: &[Form],
+    mentions: &Mentions,
+    word: &[Token],
+    waiting: &mut Waiting,
+    chart: &mut Chart,
+) -> Result<bool, NoMemory>
+    requires attained { IsAttainedSoFar (plain_all forms.now) (map plain_token word.now) chart.old }
+    requires long { length waiting.old.flags.items ≡ length forms.now }
+    requires some { 0 < length mentions.now.above.items }
+    requires told { ∥ AreTold (plain_all forms.now) mentions.now ∥₁ }
+    requires held { AreHeld (plain_all forms.now) (map plain_token word.now) chart.old.from
+        chart.old.to (Waits waiting.old) (plain_chart chart.old) }
+    ensures attained { IsAttainedSoFar (plain_all forms.now) (map plain_token word.now) chart.new }
+    ensures same { DiffersInRow chart.old chart.new }
+    ensures long { length waiting.new.flags.items ≡ length waiting.old.flags.items }
+    ensures held { IfOk result (λ _. AreHeld (plain_all forms.now) (map plain_token word.now)
+        chart.old.from chart.old.to (Waits waiting.new) (plain_chart chart.new)) }
+{
+    let Some(column) = waiting.next(&chart.row) else {
+        return Ok(false);
+    };
+    lower_above(forms, mentions, word, column, waiting, chart)?;
+    Ok(true)
+}
+
+/// Lowers the values over the span at hand, as far as mentions are laid out, and tells whether the
+/// rules lower none any more.
+fn spread(
+    forms: &[Form],
+    mentions: &Mentions,
+    word: &[Token],
+    waiting: &mut Waiting,
+    chart: &mut Chart,
+) -> Result<bool, NoMemory>
+    requires attained { IsAttainedSoFar (plain_all forms.now) (map plain_token word.now) chart.old }
+    requires few { length forms.now < 2 ^ 32 }
+    requires long { length waiting.old.flags.items ≡ length forms.now }
+    requires told { ∥ AreTold (plain_all forms.now) mentions.now ∥₁ }
+    requires blank { (s : ℕ) → size_at chart.old.row.items s ≡ no_size }
+    ensures attained { IsAttainedSoFar (plain_all forms.now) (map plain_token word.now) chart.new }
+    ensures same { DiffersInRow chart.old chart.new }
+    ensures long { length waiting.new.flags.items ≡ length waiting.old.flags.items }
+    ensures settled { IfOk result (λ b. IsTrue b → AreSettled (plain_all forms.now)
+        (map plain_token word.now) chart.old.from chart.old.to (length forms.now)
+        (plain_chart chart.new)) }
+{
+    if mentions.is_empty() {
+        return Ok(false);
+    }
+    waiting.clear();
+    begin(forms, word, waiting, chart)?;
+    for _ in 0..u64::MAX {
+        if !spread_next(forms, mentions, word, waiting, chart)? {
+            return Ok(waiting.is_empty());
+        }
+    }
+    Ok(false)
+}
+
+/// Lowers the values over the span at hand until the rules lower none. So many columns, the first
+/// ones, are of names.
+pub fn fill_span(
+    forms: &[Form],
+    mentions: &Mentions,
+    names: u32,
+    word: &[Token],
+    waiting: &mut Waiting,
     chart: &mut Chart,
 ) -> Result<(), NoMemory>
     requires attained { IsAttainedSoFar (plain_all forms.now) (map plain_token word.now) chart.old }
     requires few { length forms.now < 2 ^ 32 }
+    requires long { length waiting.old.flags.items ≡ length forms.now }
+    requires told { ∥ AreTold (plain_all forms.now) mentions.now ∥₁ }
+    requires blank { (s : ℕ) → size_at chart.old.row.items s ≡ no_size }
     ensures attained { IsAttainedSoFar (plain_all forms.now) (map plain_token word.now) chart.new }
     ensures same { DiffersInRow chart.old chart.new }
+    ensures long { length waiting.new.flags.items ≡ length waiting.old.flags.items }
+    ensures settled { OnOk result (AreSettled (plain_all forms.now) (map plain_token word.now)
+        chart.new.from chart.new.to (length forms.now) (plain_chart chart.new)) }
 {
-    if mentions.is_empty() {
+    if spread(forms, mentions, word, waiting, chart)? {
         return Ok(());
     }
-    fallen.clear();
-    begin(forms, word, fallen, chart)?;
-    for _ in 0..u64::MAX {
-        let Some(column) = fallen.pop(&chart.row) else {
-            break;
-        };
-        let value = value_at(&chart.row, column as usize);
-        lower_above(forms, word, mentions.above(column), value, fallen, chart)?;
-    }
+    settle(forms, names, word, chart);
     Ok(())
 }

@@ -1,9 +1,9 @@
-use Rattle.std.proofs.Common.{map}
+use Rattle.std.proofs.Common.{arith, map}
 use Rattle.pv_model.specs.PlainForms.{plain_token}
 use Rattle.pv_span.specs.Charts.{value_of}
 use Rattle.pv_span.specs.FormForms.{plain_all}
 use Rattle.pv_span.specs.PlainForms.{plain_chart}
-use Rattle.pv_span.proofs.Whole.{sum_member}
+use Rattle.pv_span.proofs.Whole.{sum_member, sum_none, sum_nothing}
 use Rattle.pv_span.proofs.Flats.{spanned}
 use Rattle.pv_span.proofs.Reading.{form_read}
 use Rattle.pv_span.proofs.ends.sum_at_ends.Goals as goal
@@ -21,3 +21,17 @@ returns-in-Star c =
     let t = c.args.chart.now in
     c.sum_of_star.ensures (plain_all c.args.forms.now) (map plain_token c.args.word.now) c.in-Star.field-1 (spanned c.args.word.now t.tokens t.from t.to t.place c.requires.long).1
     (rw c.in-Star.is at (form_read c.args.forms.now c.args.number c.index-forms-number.result c.requires.number c.index-forms-number.is))
+
+pub returns-in-Never : goal.returns-in-Never
+returns-in-Never c =
+    let t = c.args.chart.now in
+    sum_none (plain_all c.args.forms.now) (map plain_token c.args.word.now) (value_of (plain_chart t)) c.args.number t.from t.to
+    (spanned c.args.word.now t.tokens t.from t.to t.place c.requires.long) _
+    (rw c.in-Never.is at (form_read c.args.forms.now c.args.number c.index-forms-number.result c.requires.number c.index-forms-number.is)) (omega arith)
+
+pub returns-in-Nothing : goal.returns-in-Nothing
+returns-in-Nothing c =
+    let t = c.args.chart.now in
+    sum_nothing (plain_all c.args.forms.now) (map plain_token c.args.word.now) (value_of (plain_chart t)) c.args.number t.from t.to
+    (spanned c.args.word.now t.tokens t.from t.to t.place c.requires.long) _
+    (rw c.in-Nothing.is at (form_read c.args.forms.now c.args.number c.index-forms-number.result c.requires.number c.index-forms-number.is)) (omega arith)

@@ -1,4 +1,4 @@
-use Rattle.std.proofs.Common.{ap, length, sym, ◌∙◌, ◌≡◌}
+use Rattle.std.proofs.Common.{ap, arith, length, sym, ◌∙◌, ◌≡◌}
 use Rattle.std.proofs.lemmas.List.{length-map}
 use Rattle.pv_dtd.specs.Plain.{PlainDtd, parts_in_models}
 use Rattle.pv_productive.specs.PlainForms.{dtd_of}
@@ -33,3 +33,17 @@ invariant_of-result-clause-few c =
     let same : c.names-names.result ≡ c.lay_contents.new.making.names = n ∙ sym laid.named in
     few_forms c.deref.result.now c.names-names.result c.in_ok-forms.forms.items c.lay_contents.new.making.forms.items c.in_ok-forms.ensures
     (let f = c.lay_contents.new.making.few in rw same f)
+
+pub of-requires : goal.of-requires
+of-requires c =
+    let g = dtd_of c.args.grammar.now in
+    let laid = c.in_ok-lay_contents.ensures in
+    let n : c.names-names.result ≡ length g.names = c.names-names.ensures ∙ ap (λ (d : PlainDtd). length d.names) c.dtd.ensures in
+    let same : c.names-names.result ≡ c.lay_contents.new.making.names = n ∙ sym laid.named in
+    let l = few_forms c.deref.result.now c.names-names.result c.in_ok-forms.forms.items c.lay_contents.new.making.forms.items c.in_ok-forms.ensures
+    (let f = c.lay_contents.new.making.few in rw same f) in
+    let v = ap length c.deref-2.ensures.value in
+    omega arith
+
+pub invariant_of-result-clause-told : goal.invariant_of-result-clause-told
+invariant_of-result-clause-told c = ∣ rw c.deref-2.ensures.value at c.in_ok-mentions.ensures ∣₁

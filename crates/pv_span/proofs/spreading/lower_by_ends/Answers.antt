@@ -22,3 +22,16 @@ returns-clause-attained c =
     one_attained (plain_all c.args.forms.now) (map plain_token c.args.word.now) t.from t.to (plain_chart t) row c.args.number c.sum_at_ends.result c.lower.result
     c.requires.attained (let l = c.requires.number in let a = c.requires.attained.is_row in let n = simp length-map at a in omega arith) c.sum_at_ends.ensures
     (subst (λ z. IsLowered t.row.items z c.args.number (capped c.sum_at_ends.result) c.lower.result) (sym e) q)
+
+pub returns-clause-lowered : goal.returns-clause-lowered
+returns-clause-lowered c =
+    let t = c.args.chart.now in
+    let e : (with_items t.row c.lower.new.values).items ≡ c.lower.new.values = with_items_is t.row _ (let l = c.lower.auto.values in let m = c.deref_mut.ensures.len in omega arith) in
+    let d : IsLowered t.row.items c.lower.new.values c.args.number c.cut-sum.result c.lower.result = rw c.deref_mut.ensures.value at c.lower.ensures in
+    let q : IsLowered t.row.items c.lower.new.values c.args.number (capped c.sum_at_ends.result) c.lower.result =
+    subst (λ x. IsLowered t.row.items c.lower.new.values c.args.number x c.lower.result) c.cut-sum.ensures d in
+    record {
+      sum = c.sum_at_ends.result;
+      is_sum = c.sum_at_ends.ensures;
+      lowered = subst (λ z. IsLowered t.row.items z c.args.number (capped c.sum_at_ends.result) c.lower.result) (sym e) q;
+    }

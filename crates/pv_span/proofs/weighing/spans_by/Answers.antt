@@ -7,3 +7,6 @@ returns-clause-weights c = chart_weighs c.args.layout.now c.args.word.now c.in_o
 
 pub returns-clause-values : goal.returns-clause-values
 returns-clause-values c = chart_tells c.args.layout.now c.args.word.now c.in_ok-chart.chart _ refl c.requires.fits (rw c.deref.ensures.value at c.in_ok-chart.ensures)
+
+pub chart_of-requires-clause-told : goal.chart_of-requires-clause-told
+chart_of-requires-clause-told c = rw c.deref.ensures.value c.args.layout.now.told
