@@ -1,6 +1,6 @@
 -- The counts of a drill, and its response.
 use Rattle.std.proofs.Common.{ap, arith, sym, ℕ, ◌∙◌, ◌/◌, ◌≡◌}
-use Rattle.pv_cli.proofs.OneDrill.{asks_none}
+use Rattle.pv_cli.proofs.DrillStages.{asks_none}
 use Rattle.pv_cli.specs.CommandLine.{IsDrillSize}
 use Rattle.pv_stages.specs.Course.{Course, responds}
 use Rattle.pv_cli.specs.Drill.{TellsCounts, counts_text, drill_stage}

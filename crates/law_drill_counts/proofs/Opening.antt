@@ -5,7 +5,7 @@ use Rattle.std.specs.List.{AllByRecursion}
 use Rattle.std.proofs.lemmas.List.{length-map}
 use Rattle.pv_cache.proofs.Alike.{twice}
 use Rattle.pv_cache.proofs.ListMarks.{all_narrow_to}
-use Rattle.pv_cli.proofs.OneDrill.{drill_sure}
+use Rattle.law_program.proofs.OneDrill.{drill_sure}
 use Rattle.pv_stages.proofs.OneOpening.{ReadsOne}
 use Rattle.pv_cli.specs.CommandLine.{IsDrillSize}
 use Rattle.pv_stages.specs.Documents.{PlainOpened}

@@ -1,33 +1,16 @@
 -- for other crates:
-pub mod OneDrill
+pub mod DrillStages
 -- of this crate:
-pub mod Accepting
-pub mod AnnotationCauses
 pub mod Annotations
-pub mod Causes
-pub mod CertificateCauses
 pub mod Certificates
 pub mod CommandLines
 pub mod Completeness
 pub mod Counting
-pub mod DenialCauses
-pub mod Denying
 pub mod Drilling
 pub mod DtdLines
 pub mod Headline
 pub mod MadePacks
-pub mod OneAnnotation
-pub mod OneCheck
-pub mod OneDenial
-pub mod OneDtd
-pub mod OnePack
-pub mod OneResponse
-pub mod OneVerdict
-pub mod OneVerification
 pub mod PackLines
 pub mod Packing
-pub mod Refusals
-pub mod ResponseCauses
 pub mod Runs
 pub mod Validities
-pub mod Within

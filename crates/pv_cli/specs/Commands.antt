@@ -1,6 +1,5 @@
--- The commands on a DTD and a document, a line for each verb in each table, and those that check a
--- certificate.
-use Rattle.std.specs.Prelude.{ℕ, Bool, true, false, List}
+-- The commands on a DTD and a document, a line for each verb, and those that check a certificate.
+use Rattle.std.specs.Prelude.{ℕ, List}
 use Rattle.pv_dtd.specs.Plain.{PlainDtd}
 use Rattle.pv_cli.specs.Check.{IsCheckCourse}
 use Rattle.pv_cli.specs.Complete.{IsCompleteCourse}
@@ -25,39 +24,6 @@ VerbTells Check root opened = IsCheckCourse root opened
 VerbTells Session root opened = IsSessionCourse root opened
 VerbTells Complete root opened = IsCompleteCourse root opened
 VerbTells Why root opened = IsWhyCourse root opened
-
--- what a verb tests of its document: that it is valid; that no list is too wide; or that, and that
--- inserting elements can make it valid, or can't
-pub data Test : Type 0 where
-  validity : Test
-  width : Test
-  possibility : Test
-  impossibility : Test
-
--- what each verb tests of its document
-abbrev pub test_of : Verb → Test
-test_of Valid = validity
-test_of Check = possibility
-test_of Session = width
-test_of Complete = possibility
-test_of Why = impossibility
-
--- whether a test looks at the width of lists
-abbrev pub tests_width : Test → Bool
-tests_width validity = false
-tests_width width = true
-tests_width possibility = true
-tests_width impossibility = true
-
--- whether a verb reads a script, and so asks its input
-abbrev pub reads_script : Verb → Bool
-reads_script Session = true
-reads_script other = false
-
--- whether a verb weighs the lists of its document, and makes their tables
-abbrev pub makes_tables : Verb → Bool
-makes_tables Complete = true
-makes_tables other = false
 
 -- a command on a document: its files are opened, and then it does what its verb does
 abbrev pub IsDocumentCourse : Verb → List ℕ → Files → Course → Type 0

@@ -57,10 +57,3 @@ pub data TellsPack {M : Type 0} (root : List ℕ) (g : PlainDtd) (doc : PlainDoc
 abbrev pub IsCompleteCourse : List ℕ → PlainOpened → Course → Type 0
 IsCompleteCourse root opened = Behind (possibility_stage root opened.dtd opened.doc)
     (λ _. Responds (TellsPack root opened.dtd opened.doc))
-
--- one response, or the packs of two least completions, with the same total and the same tables
-pub data PacksAlike (r also : PlainResponse) : Type 0 where
-  are_one : r ≡ also → PacksAlike r also
-  are_packs : (pack other : Pack) → pack.total ≡ other.total → pack.tables ≡ other.tables →
-      r ≡ record { status = Done; output = lines_text (lines_of_pack pack) } →
-      also ≡ record { status = Done; output = lines_text (lines_of_pack other) } → PacksAlike r also

@@ -1,6 +1,4 @@
-pub mod Alike
 pub mod Annotations
-pub mod Causes
 pub mod Certificates
 pub mod Check
 pub mod Checking
@@ -22,4 +20,3 @@ pub mod Valid
 pub mod Validity
 pub mod Verify
 pub mod Why
-pub mod Within

@@ -4,7 +4,7 @@ ghost use Rattle.std.specs.Prelude.{◌≡◌};
 ghost use Rattle.pv_cli.specs.CommandLine.{checker_of};
 
 /// A command that checks a certificate, whoever made it.
-#[derive(Clone, Copy, Debug, PartialEq, Eq)]
+#[derive(Clone, Copy)]
 pub enum Checker {
     /// Tells whether a pack shows a least completion.
     Verify,

@@ -13,10 +13,14 @@ ghost use Rattle.pv_productive.specs.PlainForms.{dtd_of};
 ghost use Rattle.pv_tree.specs.Lists.{lists_of};
 ghost use Rattle.pv_tree.specs.PlainDocs.{plain_doc};
 
+use pv_cache::PlannedGrammar;
 use pv_denial_text::write_denial;
-use pv_deny::{DenyError, denial_at};
-use pv_productive::{Grammar, build};
-use pv_stages::{Fetched, Opened, Response, Status, Stop, narrow_verdicts, open_document, refuse};
+use pv_deny::{DenyError, denial_by};
+use pv_productive::build;
+use pv_reach::Judge;
+use pv_stages::{
+    Fetched, Opened, Response, Status, Stop, narrow_verdicts_by, open_document, refuse,
+};
 use pv_steps::Steps;
 use pv_tree::{Doc, Path};
 use std::alloc::Global;
@@ -25,18 +29,13 @@ use std::sync::ledger::Ledger;
 use std::thread::Threads;
 
 // The text of what denies a document whose first impossible list is at this path.
-fn explain(
-    alloc: Global,
-    grammar: &Grammar,
-    doc: &Doc,
-    root: &[u8],
-    path: &Path,
-) -> Result<Response, Stop>
-    requires { IsImpossibleAt root.now (dtd_of grammar.now) (plain_doc doc.now) path.now }
-    ensures { TellsBy (TellsWhy root.now (dtd_of grammar.now) (plain_doc doc.now)) result }
+fn explain(judge: &Judge<'_>, doc: &Doc, root: &[u8], path: &Path) -> Result<Response, Stop>
+    requires { IsImpossibleAt root.now (dtd_of judge.now) (plain_doc doc.now) path.now }
+    ensures { TellsBy (TellsWhy root.now (dtd_of judge.now) (plain_doc doc.now)) result }
 {
+    let alloc = judge.alloc();
     let path = Path::new(alloc, path.places())?;
-    match denial_at(alloc, grammar, root, doc, path) {
+    match denial_by(judge, root, doc, path) {
         Ok(denial) => Ok(Response {
             status: Status::Done,
             output: write_denial(alloc, &denial)?,
@@ -52,26 +51,27 @@ fn explain(
 fn tell<L: Ledger>(
     rt: &(impl Threads + Sync),
     alloc: Global,
-    grammar: &Grammar,
+    grammar: &PlannedGrammar,
     doc: &Doc,
     root: &[u8],
     steps: &mut Steps<L>,
 ) -> Result<Response, Stop>
-    ensures tells { (opened : PlainOpened) → opened.dtd ≡ dtd_of grammar.now →
+    ensures tells { (opened : PlainOpened) → opened.dtd ≡ grammar.now →
         opened.doc ≡ plain_doc doc.now → TakesCourse (IsWhyCourse root.now opened) result }
-    ensures counts { CountsJudged (width_stage (dtd_of grammar.now) (plain_doc doc.now))
+    ensures counts { CountsJudged (width_stage grammar.now (plain_doc doc.now))
         (λ _. length (lists_of (plain_doc doc.now))) CountsNoMore (ending_of result)
         steps.old steps.new }
 {
-    let verdicts = narrow_verdicts(rt, alloc, grammar, doc, root, steps)?;
+    let verdicts = narrow_verdicts_by(rt, alloc, grammar, doc, root, steps)?;
     match verdicts.first_impossible() {
-        Some(path) => explain(alloc, grammar, doc, root, path),
+        Some(path) => explain(&grammar.judge(alloc), doc, root, path),
         None => Ok(Response::with_line(alloc, Status::Negative, b"possible")?),
     }
 }
 
 /// Why no insertions can make a document valid for a DTD: its first impossible list, the cause, and
-/// where that is its word a table that shows it. The document is never freed.
+/// where that is its word a table that shows it. The rules of the grammar are laid out once, for
+/// the verdicts and for the table. The document is never freed.
 pub fn why<L: Ledger>(
     rt: &(impl Threads + Sync),
     alloc: Global,
@@ -85,7 +85,8 @@ pub fn why<L: Ledger>(
         steps.old steps.new }
 {
     let Opened { dtd, doc, .. } = open_document(alloc, fetched, root)?;
-    let grammar = build(alloc, dtd)?;
+    let built = build(alloc, dtd)?;
+    let grammar = PlannedGrammar::of(alloc, built)?;
     let response = tell(rt, alloc, &grammar, &doc, root, steps);
     forget(doc);
     response

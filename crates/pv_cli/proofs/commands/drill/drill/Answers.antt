@@ -8,7 +8,7 @@ use Rattle.pv_stages.specs.Judging.{lists_judged}
 use Rattle.pv_stages.specs.Returns.{ending_of}
 use Rattle.pv_cli.proofs.Counting.{drill_stopped}
 use Rattle.pv_stages.proofs.JudgedLists.{opened_goes}
-use Rattle.pv_cli.proofs.OneDrill.{asks_none}
+use Rattle.pv_cli.proofs.DrillStages.{asks_none}
 use Rattle.pv_stages.proofs.Stages.{found_behind, stop_found, tells_found}
 use Rattle.pv_cli.proofs.commands.drill.drill.Goals as goal
 

@@ -18,12 +18,12 @@ returns-in_ok-write_denial-in-Ok c =
 pub returns-in-Err-TooMany : goal.returns-in-Err-TooMany
 returns-in-Err-TooMany c =
     let many = rw c.in-Err-TooMany.field-0-is at c.in-Err-TooMany.ensures.refused in
-    stops_as (λ r. r ≡ with_line Limit (codes "limit tables")) (TellsWhy c.args.root.now (dtd_of c.args.grammar.now) (plain_doc c.args.doc.now)) c.refuse.result
+    stops_as (λ r. r ≡ with_line Limit (codes "limit tables")) (TellsWhy c.args.root.now (dtd_of c.args.judge.now) (plain_doc c.args.doc.now)) c.refuse.result
     (λ r is. has_too_many c.requires.impossible many is) c.refuse.ensures
 
 pub unreachable-requires : goal.unreachable-requires
 unreachable-requires c =
-    let d = dtd_of c.args.grammar.now in
+    let d = dtd_of c.args.judge.now in
     let wide = rw c.in-Err-TooWide.field-0-is at c.in-Err-TooWide.ensures.refused in
     none_first (IsListForVerdict d) (lists_of (plain_doc c.args.doc.now)) _ c.requires.narrow wide
 

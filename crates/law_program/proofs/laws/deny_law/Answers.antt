@@ -1,0 +1,5 @@
+use Rattle.law_program.proofs.Denying.{denies_impossible}
+use Rattle.law_program.proofs.laws.deny_law.Goals as goal
+
+pub returns : goal.returns
+returns g c = denies_impossible _

@@ -1,0 +1,5 @@
+use Rattle.law_program.proofs.Accepting.{accepts_least}
+use Rattle.law_program.proofs.laws.verify_law.Goals as goal
+
+pub returns : goal.returns
+returns g c = accepts_least _

@@ -1,0 +1,5 @@
+pub mod Alike
+pub mod Causes
+pub mod Laws
+pub mod Tests
+pub mod Within
