@@ -13,26 +13,43 @@ from pathlib import Path
 
 from page import put
 
+sys.path.append(str(Path(__file__).resolve().parent.parent / "tools"))
+sys.dont_write_bytecode = True
+from kit import kept_by_kit  # noqa: E402
+
 COMMAND = re.compile(r"^- `(\./pvtag [^`]*)`", re.MULTILINE)
 # What README tells of it: measured on idle processors, or not.
 TOLD = re.compile(r"in \d+ minutes on four (?:idle processors|processors that did little else)")
 NAME = "bench/run first"
-
-
-def kept_by_kit() -> Path:
-    """The folder beside the kit in which `rt ci` keeps what passed on this machine."""
-    page = subprocess.run(["rt", "doc"], capture_output=True, text=True, check=True).stdout.strip()
-    return Path(page).resolve().parent.parent / "rattle-kept"
+# Covers the folder in which the kit and what it keeps stand by one with all else that is there, nothing kept, and a place for temporary files: in one mount,
+# so that files can be linked from one to the other, as where both are on one disk.
+COVER = """
+set -e
+cover=$1 top=$2 kept=$3
+for it in "$top"/*; do
+    [ "$it" != "$kept" ] || continue
+    at=$cover/${it##*/}
+    if [ -d "$it" ]; then mkdir "$at"; else : >"$at"; fi
+    mount --bind "$it" "$at"
+done
+mkdir -m 700 "$cover/${kept##*/}"
+mkdir -m 755 "$cover/pvtag-first"
+mount --rbind "$cover" "$top"
+export TMPDIR="$top/pvtag-first"
+"""
 
 
 def seconds_to(command: str, clone: Path, count: int) -> float:
-    """Runs the command in the clone on so many processors, over an empty folder in place of what the kit keeps."""
+    """Runs the command in the clone on so many processors, where the kit has kept nothing."""
     kept = kept_by_kit()
-    kept.mkdir(mode=0o700, exist_ok=True)
-    with tempfile.TemporaryDirectory(prefix="pvtag-kept-", dir=kept.parent) as empty:
-        script = f'mount --bind "{empty}" "{kept}" && exec taskset -c 0-{count - 1} {command}'
+    if not kept:
+        sys.exit("bench/run first: the kit doesn't tell where it is")
+    with tempfile.TemporaryDirectory(prefix="pvtag-kept-") as cover:
+        os.chmod(cover, 0o755)
+        script = f"{COVER}exec taskset -c 0-{count - 1} {command}"
         start = time.monotonic()
-        answer = subprocess.run(["unshare", "--mount", "sh", "-c", script], cwd=clone, stdout=subprocess.PIPE, check=True).stdout
+        words = ["unshare", "--mount", "sh", "-c", script, "first", cover, str(kept.parent), str(kept)]
+        answer = subprocess.run(words, cwd=clone, stdout=subprocess.PIPE, check=True).stdout
         took = time.monotonic() - start
     if answer != b"valid\n":
         sys.exit(f"bench/run first: the answer was {answer!r}")

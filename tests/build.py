@@ -1,39 +1,47 @@
 """Tries `./pvtag`, `./pvlong` and tools/build with a stand-in for the kit's `rt`, in a copy of what they read. The last line tells how many passed."""
 import contextlib
+import json
 import os
+import pty
+import re
 import signal
 import shutil
 import subprocess
 import sys
 import tempfile
 from pathlib import Path
-from typing import IO
+from typing import IO, NamedTuple
 
 from lib.counting import Expecting
 from lib.waiting import PATIENCE, until
 
+sys.path.append(str(Path(__file__).resolve().parent.parent / "tools"))
+sys.dont_write_bytecode = True
+from sources import needs  # noqa: E402
+
 TOP = Path(__file__).resolve().parent.parent
-# It proves nothing: it tells what a run tells, and makes a program that prints the sum of a source. It waits for the file HELD, where one is named.
-RT = """#!/bin/sh
-[ "$1" = ci ] || exit 9
-echo run >>"$RUNS"
-echo "rt: pv_steps proved"
-echo "rt: pv_chars is kept: an earlier run proved it"
-if [ -n "$HELD" ]; then { while [ ! -e "$HELD" ]; do sleep 0.1; done; } & echo $! >"$RUNS.asleep"; wait; fi
-if [ -n "$DIES" ]; then sleep 4321 & echo $! >"$RUNS.asleep"; kill -9 $$; fi
-if [ -n "$WRONG" ]; then
-    printf '== pv_model\\nan open goal\\nrt: pv_model NOT PROVED\\n== pv_dtd\\nrt: pv_dtd NOT PROVED\\n0 passed, 2 failed\\n'
-    exit 1
-fi
-for it in pvtag pvlong; do
-    [ -d crates/$it ] || continue
-    mkdir -p crates/$it/out
-    { echo '#!/bin/sh'; echo "echo built of $(cksum <crates/pv_steps/src/lib.rt), \\"\\$@\\""; } >crates/$it/out/$it
-    chmod +x crates/$it/out/$it
-done
-[ ! -e crates/pv_steps/must-fail ] || exit 8
-echo "38 passed, 0 failed"
+TOOLS = ("build", "kit.py", "machine.py", "processes.py", "progress.py", "proving.py", "sources.py")
+# It is tools/build on a machine with so many processors, and memory for several runs of the kit or for one, which waits less for the kit.
+BUILD = """#!/usr/bin/env python3
+import os, runpy, sys
+sys.dont_write_bytecode = True
+import machine
+machine.processors = lambda: int(os.environ.get("PROCESSORS", "4"))
+machine.has_room = lambda: "NO_ROOM" not in os.environ
+import proving
+proving.GOES_ON, proving.SURELY = 0.4, float(os.environ.get("SURELY", "0.4"))
+runpy.run_path(os.path.join(os.path.dirname(os.path.realpath(__file__)), "build-here"), run_name="__main__")
 """
+
+
+class Note(NamedTuple):
+    """What the stand-in did: when, in the run of which crate (of none in the run over all), at which priority, what, and with which crate."""
+    at: float
+    run: str
+    nice: int
+    what: str
+    crate: str
+    CI: str | None
 
 
 class Trial(Expecting):
@@ -45,17 +53,34 @@ class Trial(Expecting):
         shutil.copytree(TOP / "crates", self.top / "crates", ignore=shutil.ignore_patterns("out", "proofs", "specs"))
         (self.top / "docs").mkdir()
         (self.top / "tools").mkdir()
-        for name in ("crates.txt", "HANDLES", "pvtag", "pvlong", "tools/build", "tools/processes.py", "docs/DEVELOPING.md"):
+        for name in ("crates.txt", "HANDLES", "pvtag", "pvlong", "docs/DEVELOPING.md", *(f"tools/{it}" for it in TOOLS)):
             shutil.copy(TOP / name, self.top / name)
-        self.bin, self.runs, self.never = folder / "bin", folder / "runs", folder / "never"
+        (self.top / "tools/build").rename(self.top / "tools/build-here")
+        (self.top / "tools/build").write_text(BUILD)
+        (self.top / "tools/build").chmod(0o755)
+        self.bin, self.kept, self.noted, self.never = (folder / it for it in ("bin", "rattle-kept", "notes", "never"))
         self.bin.mkdir()
-        (self.bin / "rt").write_text(RT)
+        shutil.copy(TOP / "tests/lib/kit.py", self.bin / "rt")
         (self.bin / "rt").chmod(0o755)
-        self.runs.write_text("")
+        self.forget()
+
+    def forget(self) -> None:
+        """Has the stand-in begin anew, and nothing built."""
+        shutil.rmtree(self.kept, ignore_errors=True)
+        self.kept.mkdir()
+        self.noted.write_text("")
+        self.wake()
+        shutil.rmtree(self.top / "build", ignore_errors=True)
+
+    def wake(self) -> None:
+        """Forgets what slept in earlier runs."""
+        for it in self.noted.parent.glob("asleep-*"):
+            it.unlink()
 
     def start(self, *words: str, errors: int | IO[str] = subprocess.PIPE, **more: str) -> subprocess.Popen[str]:
-        self.runs.with_name("runs.asleep").unlink(missing_ok=True)
-        variables = {**os.environ, "PATH": f"{self.bin}:{os.environ['PATH']}", "RUNS": str(self.runs), **more}
+        variables = {name: value for name, value in os.environ.items() if name not in ("CI", "RT_JOBS")}
+        variables |= {"PATH": f"{self.bin}:{os.environ['PATH']}", "PAGE": str(self.kept.with_name("kit") / "page"), "STORE": str(self.kept),
+                      "NOTES": str(self.noted), "HELD": str(self.never), **more}
         return subprocess.Popen([words[0] if words[0] == "sh" else str(self.top / words[0]), *words[1:]], env=variables, text=True, stdout=subprocess.PIPE,
                                 stderr=errors, start_new_session=True)
 
@@ -64,20 +89,31 @@ class Trial(Expecting):
         said, errors = run.communicate(timeout=PATIENCE)
         return run.returncode, said, errors
 
-    def asleep(self) -> int:
-        """The process that a stand-in has begun, once it has."""
-        told = self.runs.with_name("runs.asleep")
-        if not until(lambda: told.exists() and told.read_text().endswith("\n")):
+    def asleep(self, crate: str) -> int:
+        """The process that a stand-in has begun at this crate, once it has."""
+        def told() -> Path | None:
+            return next((it for it in self.noted.parent.glob(f"asleep-{crate}-*") if it.read_text().endswith("\n")), None)
+
+        file = until(told)
+        if not file:
             raise TimeoutError("no stand-in has begun")
-        number = int(told.read_text())
-        told.unlink()
+        number = int(file.read_text())
+        file.unlink()
         return number
 
     def has_ended(self, number: int) -> bool:
         return until(lambda: not runs_still(number))
 
+    def notes(self) -> list[Note]:
+        return [Note(**json.loads(line)) for line in self.noted.read_text().splitlines()]
+
     def count(self) -> int:
-        return len(self.runs.read_text().splitlines())
+        """How many programs were built."""
+        return sum(note.what == "builds" for note in self.notes())
+
+    def runs(self) -> list[str]:
+        """The crates that had a run of their own which proved something."""
+        return [note.crate for note in self.notes() if note.what == "begins" and note.run == note.crate]
 
 
 def runs_still(number: int) -> bool:
@@ -88,19 +124,21 @@ def runs_still(number: int) -> bool:
 
 def try_failures(trial: Trial) -> None:
     """A build that fails, is ended, or finds no kit: it says so, and leaves no program."""
-    told = trial.run("pvtag", "a", WRONG="1")
+    told = trial.run("pvtag", "a", WRONG="pv_model")
     trial.expect("a failed build", told[0] == 10 and told[1] == "" and "pv_model couldn't be built:\n== pv_model\nan open goal" in told[2], told)
     for number in (signal.SIGINT, signal.SIGTERM, signal.SIGHUP):
-        run = trial.start("pvtag", "a", HELD=str(trial.never))
-        asleep = trial.asleep()
+        trial.wake()
+        run = trial.start("pvtag", "a", HOLDS="pv_model")
+        asleep = trial.asleep("pv_model")
         os.killpg(run.pid, number)
         run.communicate(timeout=PATIENCE)
         trial.expect("an interrupted build ends", run.returncode != 0 and trial.has_ended(asleep), (number, run.returncode))
-    told = trial.run("pvtag", "a", DIES="1")
-    trial.expect("a killed run of the kit", told[0] == 10 and "ended by signal 9" in told[2] and trial.has_ended(trial.asleep()), told)
+    trial.wake()
+    told = trial.run("pvtag", "a", DIES="pv_model")
+    trial.expect("a killed run of the kit", told[0] == 10 and "ended by signal 9" in told[2] and trial.has_ended(trial.asleep("pv_model")), told)
     told = trial.run("sh", "-c", f"ulimit -f 8; {trial.top}/pvtag a")
     trial.expect("no room to write", told[0] == 10 and len(told[2].splitlines()) == 3 and "couldn't be built: [Errno" in told[2], told)
-    told = trial.run("sh", "-c", f"{trial.top}/pvtag a 2>&-", WRONG="1")
+    told = trial.run("sh", "-c", f"{trial.top}/pvtag a 2>&-", WRONG="pv_model")
     trial.expect("no standard error", told == (10, "", ""), told)
     # The folders of the system alone, in which the kit isn't.
     told = trial.run("pvtag", "a", PATH=str(Path(sys.executable).parent) + ":/usr/bin:/bin")
@@ -116,7 +154,7 @@ def try_builds(trial: Trial) -> None:
     both = []
     for file in errors:
         with file.open("w") as to:
-            both.append(trial.start("pvtag", "a", "b c", errors=to, HELD=str(go)))
+            both.append(trial.start("pvtag", "a", "b c", errors=to, HOLDS="pv_model", HELD=str(go)))
     until(lambda: any("waiting for a build" in file.read_text() for file in errors))
     go.touch()
     told = [(run.communicate(timeout=PATIENCE)[0], file.read_text(), run.returncode) for run, file in zip(both, errors)]
@@ -139,8 +177,9 @@ def try_changes(trial: Trial) -> None:
     before = source.read_bytes()
     source.write_bytes(before + b"// for a while\n")
     go = trial.top / "go on"
-    run = trial.start("tools/build", HELD=str(go))
-    trial.asleep()
+    trial.wake()
+    run = trial.start("tools/build", HOLDS="pv_steps", HELD=str(go))
+    trial.asleep("pv_steps")
     source.write_bytes(before)
     go.touch()
     run.communicate(timeout=PATIENCE)
@@ -195,18 +234,109 @@ def try_other(trial: Trial) -> None:
     trial.expect("what was built elsewhere, of it", told[0] == 0 and trial.run("pvlong")[1] == "other\n", told)
     trial.expect("one is put at a time", trial.run("tools/build", "pvtag", "pvlong", "--put", str(trial.top / "other"))[0] == 2)
     (trial.top / "build/pvlong").unlink()
-    told = trial.run("pvlong", "a", WRONG="1")
+    shutil.rmtree(trial.kept)
+    trial.kept.mkdir()
+    told = trial.run("pvlong", "a", WRONG="pv_model")
     trial.expect("a failed build of it", told[0] == 10 and told[1] == "" and "pvlong: pv_model couldn't be built:" in told[2], told)
+
+
+def by_name(trial: Trial, what: str) -> dict[str, Note]:
+    return {note.crate: note for note in trial.notes() if note.what == what}
+
+
+def try_order(trial: Trial) -> None:
+    """From nothing: a run a crate, side by side, none before those below it are proved."""
+    trial.forget()
+    told = trial.run("tools/build", TAKES="0.5", CI="true")
+    trial.expect("from nothing", told[0] == 0 and trial.count() == 1, told)
+    begins, ends = by_name(trial, "begins"), by_name(trial, "ends")
+    crates, notes, runs = needs("pvtag"), trial.notes(), trial.runs()
+    proved = sorted(note.crate for note in notes if note.what == "ends")
+    trial.expect("each crate is proved once", proved == sorted(crates), proved)
+    early = [(name, it) for name, below in crates.items() for it in below if begins[name].at < ends[it].at]
+    trial.expect("none before those below it", not early, early)
+    trial.expect("by runs of their own, but the last", len(runs) > len(crates) / 2 and begins["pvtag"].run == "", runs)
+    beside = [sum(begins[one].at <= begins[other].at < ends[one].at for one in runs) for other in runs]
+    # Three that were begun at once, beside others that had waited, or have a dearer chain behind them.
+    trial.expect("several side by side, at most six", 3 <= max(beside) <= 6 and len(runs) - beside.count(1) > 5, beside)
+    trial.expect("runs that begin ahead of time wait", any(note.what == "waits" for note in notes))
+    trial.expect("not as a gate", {note.CI for note in notes} == {None})
+
+
+def try_priorities(trial: Trial) -> None:
+    """Several runs that are under way: the one with the most behind it goes first; whatever ends the build ends them all."""
+    held = ["pv_productive", "pv_edit", "pv_read"]
+    for number in (signal.SIGINT, signal.SIGTERM):
+        trial.forget()
+        run = trial.start("tools/build", HOLDS=" ".join(held), SURELY="1000")
+        asleep = [trial.asleep(crate) for crate in held]
+        steps = [os.getpriority(os.PRIO_PROCESS, pid) for pid in asleep]
+        trial.expect("by what is behind", steps == sorted(steps) and steps[0] < steps[2], steps)
+        os.killpg(run.pid, number)
+        run.communicate(timeout=PATIENCE)
+        trial.expect("all are ended", run.returncode == 128 + number and all(map(trial.has_ended, asleep)), (number, run.returncode))
+    trial.wake()
+    run = trial.start("tools/build", HOLDS="pv_edit", WRONG="pv_missing", TAKES="3", SURELY="1000")
+    asleep = [trial.asleep("pv_edit")]
+    told = run.communicate(timeout=PATIENCE)[1]
+    trial.expect("a crate in the middle fails", run.returncode == 1 and "pvtag: pv_missing couldn't be built:\n== pv_missing\nan open goal\n" in told, told)
+    trial.expect("and all others end", all(map(trial.has_ended, asleep)) and not (trial.top / "build/pvtag").exists())
+
+
+def try_progress(trial: Trial) -> None:
+    """On a terminal, one line tells in place how far a build has come."""
+    trial.forget()
+    reads, writes = pty.openpty()
+    with os.fdopen(writes, "w") as errors:
+        run = trial.start("tools/build", errors=errors, HOLDS="pv_model")
+    said = b""
+    with contextlib.suppress(OSError):
+        while b" left" not in said:
+            said += os.read(reads, 1000)
+    os.killpg(run.pid, signal.SIGINT)
+    run.communicate(timeout=PATIENCE)
+    os.close(reads)
+    told = re.search(rb"\r\x1b\[Kpvtag: \d+ of (\d+) crates proved, 0 minutes so far, about \d+ left", said)
+    trial.expect("one line tells how far it has come", told is not None and int(told[1]) == len(needs("pvtag")), said)
+
+
+def try_kept(trial: Trial) -> None:
+    """What was proved is taken over; where nothing is kept, one run proves all."""
+    before = [note.crate for note in trial.notes() if note.what == "ends" and note.crate != "pv_missing"]
+    told = trial.run("tools/build")
+    ended = [note.crate for note in trial.notes() if note.what == "ends" and note.crate != "pv_missing"]
+    trial.expect("a build goes on where it was", told[0] == 0 and len(before) > 5 and len(ended) == len(set(ended)), (told, sorted(ended)))
+    with (trial.top / "crates/pv_cli/src/lib.rt").open("a") as source:
+        source.write("// changed\n")
+    before = len(trial.runs())
+    told = trial.run("tools/build", TAKES="1")
+    trial.expect("a chain that changed has one run", told[0] == 0 and len(trial.runs()) == before and trial.count() == 2, told)
+    for words in ("and says so", "silently"):
+        trial.forget()
+        told = trial.run("tools/build", TAKES="0.1", LOSES=words)
+        trial.expect(f"a kit that keeps nothing, {words}", told[0] == 0 and trial.count() == 1 and len(trial.runs()) < 8, (told, trial.runs()))
+    for name, value in (("PROCESSORS", "3"), ("RT_JOBS", "4"), ("PAGE", "/proc/kit/page")):
+        trial.forget()
+        told = trial.run("tools/build", TAKES="0.1", **{name: value})
+        trial.expect(f"one run, {name}", told[0] == 0 and trial.runs() == [], (told, trial.runs()))
+    trial.forget()
+
+
+def try_both(trial: Trial) -> None:
+    """Both programs at once, with memory for one run at a time."""
+    told = trial.run("tools/build", "pvtag", "pvlong", TAKES="0.1", NO_ROOM="1")
+    trial.expect("both at once", told[0] == 0 and trial.run("tools/build", "pvtag", "pvlong", "--check")[0] == 0, told)
+    begins, ends = by_name(trial, "begins"), by_name(trial, "ends")
+    trial.expect("each crate once", sum(note.what == "ends" for note in trial.notes()) == len(needs("pvtag", "pvlong")))
+    runs = trial.runs()
+    trial.expect("one after another", all(ends[one].at <= begins[other].at for one, other in zip(runs, runs[1:])), runs)
 
 
 def main() -> int:
     with tempfile.TemporaryDirectory(prefix="pvtag-trial-") as folder:
         trial = Trial(Path(folder))
-        try_failures(trial)
-        try_builds(trial)
-        try_changes(trial)
-        try_placing(trial)
-        try_other(trial)
+        for part in (try_failures, try_builds, try_changes, try_placing, try_other, try_progress, try_order, try_priorities, try_kept, try_both):
+            part(trial)
     return trial.ended()
 
 

@@ -72,6 +72,8 @@ CHECKS = [
     row("package", "the package, in a bare root", "", 3600, "python3 tests/package.py PVTAG PVLONG"),
     row("check-session", "check against the opening of a session", "", 3600, "python3 tests/check_by_session.py PVTAG 300 1"),
     row("model", "sessions against a model", "", 3600, "python3 tests/against_a_model.py PVTAG 20000 7"),
+    row("remembered", "what a session remembers of weights", "", 3600, "python3 tests/remembered.py PVTAG 1"),
+    row("long-lists", "long lists of sessions against fresh sessions", "", 3600, "python3 tests/long_lists.py PVTAG 54 1 45"),
     row("expansions", "parameter entities against a model", "", 3600, "python3 tests/expansions.py PVTAG 3000 1"),
     row("standoff", "the nesting of ranges against a model", "", 3600, "python3 tests/standoff.py PVTAG 1500 1"),
     row("client-places", "the places that clients tell", "", 3600, "python3 tests/client_places.py PVTAG 100 1"),
@@ -127,7 +129,7 @@ class Runs:
             except subprocess.TimeoutExpired:
                 status = None
             finally:
-                end_all(run, signal.SIGKILL)
+                end_all(run, first=signal.SIGKILL)
                 with self.lock:
                     self.running.discard(run)
             said.seek(0)
@@ -154,7 +156,7 @@ class Runs:
         with self.lock:
             self.stopped = True
             for run in self.running:
-                end_all(run, signal.SIGKILL)
+                end_all(run, first=signal.SIGKILL)
 
 
 def counted(shown: str, status: int | None) -> tuple[int, int]:

@@ -1,21 +1,67 @@
-"""Ends a run with all that it has started, also what has a session of its own."""
+"""Runs that lead sessions of their own: how one is started, given way to others, and ended with all that it has started, also with what has a
+session of its own; and the signals that end who started them."""
 import contextlib
 import os
 import signal
 import subprocess
+import sys
 import time
+from collections.abc import Iterator
 from pathlib import Path
 
 
-def end_all(run: subprocess.Popen[bytes], first: int = signal.SIGTERM) -> None:
-    """Ends a run that leads a session: each process of that session, and each that stands below one of them. What doesn't end by the first signal
+class Held:
+    """Signals that end a build, each as an exception; while something is being started or ended they wait."""
+
+    def __init__(self) -> None:
+        self.number, self.holds = 0, False
+        for number in (signal.SIGINT, signal.SIGTERM, signal.SIGHUP):
+            # What is ignored from the start, as by `nohup`, stays so.
+            if signal.getsignal(number) is not signal.SIG_IGN:
+                signal.signal(number, self.take)
+
+    def take(self, number: int, _: object) -> None:
+        # The first one alone counts: what it has begun to end is ended whole.
+        if self.number:
+            return
+        self.number = number
+        if not self.holds:
+            sys.exit(128 + number)
+
+    @contextlib.contextmanager
+    def hold(self) -> Iterator[None]:
+        """Within its block they wait."""
+        was_held, self.holds = self.holds, True
+        try:
+            yield
+        finally:
+            self.holds = was_held
+            if self.number and not was_held:
+                sys.exit(128 + self.number)
+
+
+def give_way(run: subprocess.Popen[bytes], by: int) -> int:
+    """Has a run and all of its session stand back by so many steps of `nice` from where this process stands, and gives by how many it does: who may not
+    lets no run forward again. Where the system shares processors among sessions first, the session's own number is what counts."""
+    here = os.nice(0)
+    number = str(min(here + by, 19))
+    with contextlib.suppress(OSError):
+        Path(f"/proc/{run.pid}/autogroup").write_text(number)
+    for pid in session_of(run.pid):
+        with contextlib.suppress(OSError):
+            os.setpriority(os.PRIO_PGRP, os.getpgid(pid), int(number))
+    return os.getpriority(os.PRIO_PROCESS, run.pid) - here
+
+
+def end_all(*runs: subprocess.Popen[bytes], first: int = signal.SIGTERM) -> None:
+    """Ends runs that lead a session each: each process of these sessions, and each that stands below one of them. What doesn't end by the first signal
     within two seconds is killed."""
     for number in (first, signal.SIGKILL):
-        for pid in session_of(run.pid):
+        for pid in [pid for run in runs for pid in session_of(run.pid)]:
             with contextlib.suppress(ProcessLookupError):
                 os.kill(pid, number)
         end = time.monotonic() + 2
-        while run.poll() is None or session_of(run.pid):
+        while any(run.poll() is None or session_of(run.pid) for run in runs):
             if time.monotonic() > end:
                 break
             time.sleep(0.05)
