@@ -145,15 +145,16 @@ def of_missing(at):
     """`need`, `complete` and `verify`, on short lists and on one long list."""
     for title, told, make, sizes, growth, most in (
         ("short lists", "2,000, 20,000 lists", need.short_lists, (2_000, 20_000), LINEAR, None),
-        ("one list", "100, 1,000 tokens", need.one_list, (100, 1_000), None, 0.2),
+        ("one list", "100, 1,000 tokens", need.one_list, (100, 1_000), None, 0.1),
     ):
         docs = both(lambda size: at.file(f"need.{size}", make(size)), *sizes)
-        check = at.run("check", at.article, "doc", docs[1])
+        check, opened = (at.run(command, at.article, "doc", docs[1]) for command in ("check", "session"))
         asked = both(lambda doc: at.run("session", at.article, "doc", doc, given=b"need\n"), *docs)
         complete = both(lambda doc: at.run("complete", at.article, "doc", doc), *docs)
         packs = both(lambda taken: printed(taken, f"{taken.work.words[-1]}.pack"), *complete)
         verify = tuple(at.run("verify", at.article, "doc", *files) for files in zip(docs, packs))
-        yield Row(f"`need`, {title}", told, asked, {"`check`": (check, 2 if growth else None)}, growth, most)
+        beside = {"`check`": (check, 1.5 if growth else None), "the opening": (opened, None)}
+        yield Row(f"`need`, {title}", told, asked, beside, growth, most)
         yield Row(f"`complete`, {title}", told, complete, {"`need`": (asked[1], None)}, growth)
         yield Row(f"`verify`, {title}", told, verify, {"`complete`": (complete[1], 1)}, growth)
 

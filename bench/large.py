@@ -5,10 +5,10 @@ of DocBook, of 400 names and some 15,000 parts, DocBook itself where it is insta
 names and 65,536 parts. Under each: a document of some twenty paragraphs that is checked, and one of 10 KB that a session opens, for the DTD's
 reading and laying out; a document of 18 MB whose lists are within the limit of their width, valid and without every tenth pair of tags (of
 8 MB under the largest DTD, where more is too wide); an edit in a list of 20 and of 2,000 kids (900 under the largest DTD), by an owner
-whose content is free and by one whose content isn't; `need` of a draft of 300 kB with short lists, at first and behind an edit, of one of 3 MB
-behind an edit, and of one list of 40 tokens (20 under the largest), whose kids' lists are valid. The runs are interleaved; told are the
-least processor time of each, without the opening for an edit and for `need`, the memory at the peak, and the time that is aimed at under
-DocBook. PVTAG names another build of the program.
+whose content is free and by one whose content isn't; `need` of a draft of 300 kB with short lists, of one of 300 kB in which little more
+than lists and words is tagged, and of one of 3 MB with short lists, each at first and behind an edit, and of one list of 40 tokens (20 under
+the largest), whose kids' lists are valid. The runs are interleaved; told are the least processor time of each, without the opening for an
+edit and for `need`, the memory at the peak, and the time that is aimed at under DocBook. PVTAG names another build of the program.
 """
 import math
 import os
@@ -25,12 +25,15 @@ from timing import program_of, run, told_time  # noqa: E402
 
 EDITS = 2_000
 
+# The kids of short lists.
+FEW = 4
+
 
 class Form(NamedTuple):
     """The documents under a DTD: the root's name, their begin and end; the names of blocks, one in another, of paragraphs and of inline
-    elements; an owner whose content isn't free, a kid of it, and the name of an element that may be inserted before all kids; the owner and
-    the kids, in turn, of the list that is weighed, and how many; the kids of the longer list of an edit, and the megabytes of the large
-    document."""
+    elements; a block whose texts want elements, and the inline elements among these; an owner whose content isn't free, a kid of it, and the
+    name of an element that may be inserted before all kids; the owner and the kids, in turn, of the list that is weighed, and how many; the
+    kids of the longer list of an edit, and the megabytes of the large document."""
     root: str
     begin: str
     end: str
@@ -38,6 +41,8 @@ class Form(NamedTuple):
     block: str
     para: str
     inline: str
+    listing: str
+    inlines: tuple
     owner: str
     kid: str
     insert: str
@@ -59,11 +64,15 @@ class Case(NamedTuple):
     before: str = ""
 
 
-BOOK = ("book", "<book><title>t</title><b0>", "</b0></book>", "b2", "b4", "para", "i1", "book", "<b0/>", "b0", "book", ("b4", "para", "i1"))
+BOOK = (
+    "book", "<book><title>t</title><b0>", "</b0></book>", "b2", "b4", "para", "i1", "b5", ("i1", "i2", "i3", "i4"), "book", "<b0/>", "b0",
+    "book", ("b4", "para", "i1"),
+)
 SHAPED, LARGEST = Form(*BOOK, 40, 2_000, 18), Form(*BOOK, 20, 900, 8)
 DOCBOOK = Form(
-    "section", "<section><title>t</title>", "</section>", "blockquote", "blockquote", "para", "emphasis", "refentry", "<refsect1/>",
-    "refnamediv", "book", ("title", "para", "emphasis", "xref"), 40, 2_000, 18,
+    "section", "<section><title>t</title>", "</section>", "blockquote", "blockquote", "para", "emphasis", "itemizedlist",
+    ("emphasis", "literal", "command", "filename"), "refentry", "<refsect1/>", "refnamediv", "book", ("title", "para", "emphasis", "xref"), 40,
+    2_000, 18,
 )
 
 
@@ -95,12 +104,33 @@ def text_of(form, bytes):
 
 # The same with short lists: four paragraphs in a block, and four blocks in each further one.
 def short_lists(form, bytes):
-    per = 4
     para = f"<{form.para}>one <{form.inline}>two</{form.inline}> three <{form.inline}>four</{form.inline}></{form.para}>"
-    blocks = [f"<{form.block}>{para * per}</{form.block}>"] * (bytes // 80 // per)
-    while len(blocks) > per:
-        blocks = [f"<{form.outer}>{''.join(blocks[at:at + per])}</{form.outer}>" for at in range(0, len(blocks), per)]
+    return nested(form, [f"<{form.block}>{para * FEW}</{form.block}>"] * (bytes // 80 // FEW))
+
+
+# Blocks in further ones, few in each.
+def nested(form, blocks):
+    while len(blocks) > FEW:
+        blocks = [f"<{form.outer}>{''.join(blocks[at:at + FEW])}</{form.outer}>" for at in range(0, len(blocks), FEW)]
     return form.begin + "".join(blocks) + form.end
+
+
+# A draft in which little more than lists and words is tagged: in each list stand one to nine texts and inline elements in turn, for which
+# elements are missing.
+def few_tags(form, bytes):
+    def kid(at):
+        inline = random.choice(form.inlines)
+        return f"<{inline}>word</{inline}>" if at % 2 else "words "
+
+    def listing():
+        begin = random.randrange(2)
+        return f"<{form.listing}>{''.join(map(kid, range(begin, begin + random.randint(1, 9))))}</{form.listing}>"
+
+    blocks = []
+    while bytes > 0:
+        blocks.append(f"<{form.block}>{''.join(listing() for _ in range(FEW))}</{form.block}>")
+        bytes -= len(blocks[-1])
+    return nested(form, blocks)
 
 
 # Writes a document that a process of its own makes: the peak of a process counts from that of the one which starts it.
@@ -129,15 +159,23 @@ def cases(program, dtd, form):
     tagless = file("tagless", lambda: without_tags(text_of(form, bytes)))
     yield Case(f"{form.size} MB checked, without every tenth pair of tags", words("check", tagless))
     yield from edits(form, words, file)
-    draft = file("draft", lambda: without_tags(short_lists(form, 300_000)))
-    yield Case("a draft of 300 kB of short lists, `need`", words("session", draft), "need\n", 1, 0.35)
-    move = f"wrap 0.{form.begin.count('</')} 0 1 {form.block}\n"
-    yield Case("the same draft, `need` behind an edit", words("session", draft), f"{move}need\n", 1, 0.005, "need\n")
-    large = file("large", lambda: without_tags(short_lists(form, 3_000_000)))
-    yield Case("a draft of 3 MB of short lists, `need` behind an edit", words("session", large), f"{move}need\n", 1, 0.03, "need\n")
+    yield from drafts(form, words, file)
     kids = "".join(f"<{form.kids[at % len(form.kids)]}/>" for at in range(form.width))
     weighed = file("weighed", lambda: f"<{form.weighed}>{kids}</{form.weighed}>")
     yield Case(f"one list of {form.width} tokens weighed", words("session", weighed, form.weighed), "need\n", 1, 0.045)
+
+
+def drafts(form, words, file):
+    """`need` of drafts, at first and behind an edit."""
+    move = f"wrap 0.{form.begin.count('</')} 0 1 {form.block}\n"
+    for title, name, make, first, later in (
+        ("300 kB of short lists", "draft", lambda: without_tags(short_lists(form, 300_000)), 0.35, 0.005),
+        ("300 kB with few tags", "few", lambda: few_tags(form, 300_000), 2, 0.01),
+        ("3 MB of short lists", "large", lambda: without_tags(short_lists(form, 3_000_000)), None, 0.03),
+    ):
+        draft = words("session", file(name, make))
+        yield Case(f"a draft of {title}, `need`", draft, "need\n", 1, first)
+        yield Case("the same draft, `need` behind an edit", draft, f"{move}need\n", 1, later, "need\n")
 
 
 def edits(form, words, file):

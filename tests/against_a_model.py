@@ -4,9 +4,9 @@ Words: PROGRAM LINES SEED. Scripts are played until so many lines have been answ
 it, and undoes by making the edits before again on the document that was opened. It accepts an edit where no more lists are impossible than
 before, which it decides list by list, over all spans of a list. It also tries all insertions of at most `MOST` elements
 (lib/search.py): where some make the document valid, no list may be impossible. The least number of insertions is the reply to
-`need`, which isn't asked where they are more than `MOST` and the document can be made valid. Behind each script `need` is compared with
-that of a fresh session on the same document. Documents are opened whatever their verdicts are. Prints each difference, and how many lines
-passed; ends with 1 where one failed.
+`need`, which isn't asked where they are more than `MOST` and the document can be made valid. The moves of each script are made once more,
+and `need` asked behind each: behind some of them, and at first, it is compared with that of a fresh session on the same document. Documents
+are opened whatever their verdicts are. Prints each difference, and how many lines passed; ends with 1 where one failed.
 """
 import os
 import random
@@ -22,6 +22,9 @@ from lib.grammar import declaration
 from lib.search import NAMES, dotted, grammar, write
 from lib.trees import Element, Grammar, is_text
 
+# The lines that move a session, and at how many places a fresh session is asked what one that has moved was asked.
+MOVES = {*EDITS, "undo", "redo"}
+AFRESH = 3
 TEXTS = ["x", "Hi &amp; bye", " ", "]", "]]", ">", "]]>", "&#32;", "&#10;", "é", "a\tb", "", "a<b", "&nbsp;", "&", "\x01", "a\rb", " y "]
 
 
@@ -131,9 +134,10 @@ def script_line(doc, near=None):
 
 
 def play(session, length):
-    """A script of so many lines, and the replies to it. In some scripts `need` is asked behind each move, so that what the program
-    is asked of a session that has moved. In some the edits stay with one list for a while: in it, in what it stands in, and back."""
-    script, replies, asks = [], [], random.random() < 0.3
+    """A script of so many lines, the replies to it, and the document behind each line. In some scripts `need` is asked behind each move, so
+    that the program is asked it of a session that has moved. In some the edits stay with one list for a while: in it, in what it stands in,
+    and back."""
+    script, replies, documents, asks = [], [], [], random.random() < 0.3
     stays, near = random.random() < 0.5, None
     for _ in range(length):
         moved = replies and replies[-1].startswith("ok")
@@ -147,15 +151,16 @@ def play(session, length):
         if reply is None:
             break
         replies.append(reply)
-    return script, replies
+        documents.append(session.document)
+    return script, replies, documents
 
 
 def expected(session, length):
-    """A script, the bytes that the program must write, and its status."""
-    script, replies = play(session, length)
+    """A script, the bytes that the program must write, the documents behind its lines, and its status."""
+    script, replies, documents = play(session, length)
     if random.random() < 0.1:
         script += ["quit", "show"]
-    return script, replies, 0
+    return script, replies, documents, 0
 
 
 def run(program, root, script, last_feed, document="d.xml"):
@@ -164,12 +169,21 @@ def run(program, root, script, last_feed, document="d.xml"):
     return ran.returncode, ran.stdout
 
 
-def need_afresh(program, root, session, script):
-    """What is replied to `need` behind a script, and by a session that is begun on the document as it is then."""
-    write("n.xml", session.document.written())
-    moves = [line for line in script if line.rstrip("\r") not in ("quit", "show")]
-    told = run(program, root, [*moves, "need"], True)[1].split(b"\n")[-2]
-    return told, run(program, root, ["need"], True, "n.xml")[1].split(b"\n")[-2]
+def without_path(reply):
+    """A reply to `need` without the path in it: texts side by side are one where the document is read, so that those behind have other paths."""
+    return reply.rpartition(b" ")[0] if reply.startswith(b"no ") else reply
+
+
+def needs_afresh(program, root, opened, script, documents):
+    """What a session replies to `need` at first and behind each move, and what is replied to it by sessions that are begun on some of the
+    documents as they are then: the pairs."""
+    moves = [(line, document) for line, document in zip(script, documents) if line.rstrip("\r").partition(" ")[0] in MOVES]
+    asked = ["need"] + [each for line, _ in moves for each in (line, "need")]
+    told = run(program, root, asked, True)[1].split(b"\n")[:-1:2]
+    then = [opened] + [document for _, document in moves]
+    for at in random.sample(range(len(then)), min(AFRESH, len(then))):
+        write("n.xml", then[at].written())
+        yield told[at], run(program, root, ["need"], True, "n.xml")[1].rstrip(b"\n")
 
 
 def first_difference(script, replies, got):
@@ -192,15 +206,15 @@ def game(program, counts):
         write("d.xml", document.written())
         root = named or random.choice([document.root.name] * 8 + declared)
         session = Session(search, root, document)
-        script, replies, status = expected(session, random.randint(20, 60))
+        script, replies, documents, status = expected(session, random.randint(20, 60))
         last_feed = script[-1] == "" or random.random() < 0.8
         got = run(program, root, script, last_feed)
         if got == (status, "".join(replies).encode()):
             count(counts, replies)
-            told, afresh = need_afresh(program, root, session, script)
-            if told == afresh:
+            wrong = [pair for pair in needs_afresh(program, root, document, script, documents) if without_path(pair[0]) != without_path(pair[1])]
+            if not wrong:
                 continue
-            print(f"need: {told} in the session, {afresh} in a fresh one; root {root}")
+            print(f"need: {wrong[0][0]} in the session, {wrong[0][1]} in a fresh one; root {root}")
         else:
             print(f"status {got[0]} for {status}; {first_difference(script, replies, got[1])}; root {root}")
         counts["failed"] += 1

@@ -37,14 +37,16 @@ function showNext(need) {
   button("next").textContent = parts.join(", ") || "Valid"
 }
 
-// Asked for a moment after the last move, since it may take long; where it did, only when it is wanted.
+// Asked for behind the last move: a moment after it, since it may take long, but at once where it took next to nothing;
+// where it did take long, only when it is wanted.
 let asking = 0
+let pause = 250
 let isSlow = false
 function countMissing() {
   clearTimeout(asking)
   button("missing").replaceChildren()
   if (app.state.open === 0 || app.state.bad > 0) return
-  if (!isSlow) return void (asking = setTimeout(count, 250))
+  if (!isSlow) return void (asking = setTimeout(count, pause))
   const wanted = document.createElement("button")
   wanted.textContent = "how many are missing?"
   wanted.addEventListener("click", count)
@@ -55,7 +57,9 @@ async function count() {
   const started = performance.now()
   const told = await question("need")
   const answer = told?.no === "wide" ? await countWide(told) : told
-  isSlow = performance.now() - started > 2000
+  const took = performance.now() - started
+  isSlow = took > 2000
+  pause = took < 50 ? 0 : 250
   if (answer?.version !== app.state.version || app.state.open === 0) return
   const need = neededOf(answer)
   if (need !== null) showNext(need)
