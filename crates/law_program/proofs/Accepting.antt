@@ -2,18 +2,18 @@
 use Rattle.std.proofs.Common.{◌≡◌, ◌∙◌, ◌⊎◌, inl, inr, ℕ, List, Option, Some, ap, refl, subst, sym}
 use Rattle.std.specs.Io.KnownBytes.{Appends}
 use Rattle.pv_cert.specs.declared.packs.Pack.{Pack}
-use Rattle.pv_cli.specs.Certificates.{certificate_stage}
+use Rattle.pv_commands.specs.Certificates.{certificate_stage}
 use Rattle.pv_cli.specs.CommandLine.{PlainCommandLine, on_certificate}
 use Rattle.pv_stages.specs.Course.{Course, RunEnding, input_fault, no_memory, output_fault, responds, shelf_fault}
 use Rattle.pv_stages.specs.Devices.{Devices}
 use Rattle.pv_stages.specs.Documents.{PlainOpened}
 use Rattle.law_program.specs.Laws.{AcceptsLeast, ShowsLeast}
 use Rattle.pv_stages.specs.Opening.{Files}
-use Rattle.pv_cli.specs.PackFiles.{pack_file_stage}
+use Rattle.pv_commands.specs.PackFiles.{pack_file_stage}
 use Rattle.pv_stages.specs.Showing.{WritesEnding, cut_off, wrote}
 use Rattle.pv_stages.specs.Response.{PlainResponse}
 use Rattle.pv_stages.specs.Stage.{Responds}
-use Rattle.pv_cli.specs.Verify.{TellsAcceptance, TellsOfPack, is_accepted, is_rejected, names_wide}
+use Rattle.pv_commands.specs.Verify.{TellsAcceptance, TellsOfPack, is_accepted, is_rejected, names_wide}
 use Rattle.pv_cli.specs.declared.checker.Checker.TheVariants.{Verify}
 use Rattle.pv_stages.specs.declared.status.Status.TheVariants.{Done, Limit, Negative, NoMemory, ReadFault, WriteFault}
 use Rattle.law_program.proofs.CertificateCauses.{pack_reads}

@@ -13,14 +13,14 @@ use Rattle.pv_standoff.specs.declared.ranges.Range.{Range}
 use Rattle.pv_tree.specs.Plain.{PlainDoc}
 use Rattle.pv_tree.specs.declared.nodes.Mark.{Mark}
 use Rattle.law_program.specs.Causes.{ReadsAnnotation, ReadsNested, nested_depth, nested_impossible, nested_width, range_lines, ranges_file, text_file, RespondsBy}
-use Rattle.pv_cli.specs.Check.{TellsPossibility, is_no_more, is_possible}
+use Rattle.pv_commands.specs.Check.{TellsPossibility, is_no_more, is_possible}
 use Rattle.pv_cli.specs.CommandLine.{PlainCommandLine, on_ranges}
 use Rattle.pv_stages.specs.Course.{Course, responds}
 use Rattle.pv_stages.specs.Opening.{Files, file_at}
 use Rattle.pv_stages.specs.Possibility.{RefusesWidth, is_impossible, is_too_wide, width_stage}
 use Rattle.pv_stages.specs.Response.{PlainResponse}
 use Rattle.pv_stages.specs.Stage.{Responds}
-use Rattle.pv_cli.specs.Standoff.{IsShownCourse, RefusesNesting, RefusesRanges, RefusesText, TellsNested, annotation_stage, nested_stage, no_document as no_nesting, no_ranges, no_text}
+use Rattle.pv_commands.specs.Standoff.{IsShownCourse, RefusesNesting, RefusesRanges, RefusesText, TellsNested, annotation_stage, nested_stage, no_document as no_nesting, no_ranges, no_text}
 use Rattle.pv_stages.specs.declared.status.Status.TheVariants.{BadDocument, BadPack, Limit}
 use Rattle.law_program.proofs.ResponseCauses.{behind_by, by_status, file_refused, responds_by}
 

@@ -4,32 +4,32 @@ use Rattle.pv_dtd.specs.Meaning.{DtdTextMeans, is_dtd}
 use Rattle.pv_dtd.specs.Plain.{PlainDtd}
 use Rattle.pv_drill.specs.Drill.{DRILL_DTD, drill_text}
 use Rattle.law_program.specs.Causes.{ReadsScript, HasCause, OneRoseAtMost, ReadsBoth, RespondsBy, of_input, of_shelf}
-use Rattle.pv_cli.specs.Certificates.{certificate_stage}
-use Rattle.pv_cli.specs.Check.{TellsPossibility}
-use Rattle.pv_cli.specs.Complete.{TellsPack}
+use Rattle.pv_commands.specs.Certificates.{certificate_stage}
+use Rattle.pv_commands.specs.Check.{TellsPossibility}
+use Rattle.pv_commands.specs.Complete.{TellsPack}
 use Rattle.pv_cli.specs.CommandLine.{PlainCommandLine, drill, files_named, on_certificate, on_document, on_dtd, on_ranges}
 use Rattle.pv_cli.specs.Commands.{VerbTells}
 use Rattle.law_program.specs.Tests.{impossibility, possibility}
 use Rattle.pv_stages.specs.Course.{Course, RunEnding, input_fault, no_memory, output_fault, responds, shelf_fault}
-use Rattle.pv_cli.specs.DenialFiles.{denial_file_stage}
-use Rattle.pv_cli.specs.Deny.{TellsJudgement}
+use Rattle.pv_commands.specs.DenialFiles.{denial_file_stage}
+use Rattle.pv_commands.specs.Deny.{TellsJudgement}
 use Rattle.pv_stages.specs.Devices.{Devices}
 use Rattle.pv_stages.specs.Documents.{PlainOpened}
 use Rattle.pv_cli.specs.Drill.{DRILL_ROOT, TellsCounts, drill_stage}
-use Rattle.pv_cli.specs.Dtd.{TellsDtd}
+use Rattle.pv_commands.specs.Dtd.{TellsDtd}
 use Rattle.law_program.specs.Laws.{ComesByCause, RaisesOneAtMost}
 use Rattle.pv_stages.specs.Opening.{Files, dtd_file_stage, file_at, opening_stage}
-use Rattle.pv_cli.specs.PackFiles.{pack_file_stage}
+use Rattle.pv_commands.specs.PackFiles.{pack_file_stage}
 use Rattle.pv_stages.specs.Possibility.{possibility_stage, width_stage}
 use Rattle.pv_stages.specs.Showing.{CountsInput, CountsShelf, WritesEnding, cut_off, wrote}
 use Rattle.pv_cli.specs.Program.{IsDefined}
 use Rattle.pv_stages.specs.Response.{PlainResponse}
 use Rattle.pv_conversation.specs.Session.{Converses, guarding_stage}
 use Rattle.pv_stages.specs.Stage.{Stage, Behind, Responds, opened, refused, responded, short_of_memory, short_of_memory as out_of_memory, stopped}
-use Rattle.pv_cli.specs.Standoff.{IsShownCourse, TellsNested, nested_stage}
-use Rattle.pv_cli.specs.Valid.{TellsValidity}
-use Rattle.pv_cli.specs.Verify.{TellsOfPack}
-use Rattle.pv_cli.specs.Why.{TellsWhy}
+use Rattle.pv_commands.specs.Standoff.{IsShownCourse, TellsNested, nested_stage}
+use Rattle.pv_commands.specs.Valid.{TellsValidity}
+use Rattle.pv_commands.specs.Verify.{TellsOfPack}
+use Rattle.pv_commands.specs.Why.{TellsWhy}
 use Rattle.pv_cli.specs.declared.checker.Checker.TheVariants.{Deny, Verify}
 use Rattle.pv_stages.specs.declared.status.Status.{Status}
 use Rattle.pv_stages.specs.declared.status.Status.TheVariants.{Done, Negative, Usage, ReadFault, WriteFault, NoMemory, BadDtd, BadDocument, BadPack, Limit}

@@ -8,13 +8,13 @@ use Rattle.pv_tree.specs.Marks.{blank_mark}
 use Rattle.pv_tree.specs.Plain.{PlainDoc}
 use Rattle.pv_tree.specs.declared.nodes.Mark.{Mark}
 use Rattle.law_program.specs.Causes.{ReadsCertificate, ReadsPack, in_pack, not_accepted, pack_file, pack_width, RespondsBy}
-use Rattle.pv_cli.specs.Certificates.{certificate_stage}
+use Rattle.pv_commands.specs.Certificates.{certificate_stage}
 use Rattle.pv_cli.specs.CommandLine.{PlainCommandLine, on_certificate}
 use Rattle.pv_stages.specs.Documents.{PlainOpened}
 use Rattle.pv_stages.specs.Opening.{Files, opening_stage}
-use Rattle.pv_cli.specs.PackFiles.{RefusesPack, no_pack, pack_file_stage, too_large}
+use Rattle.pv_commands.specs.PackFiles.{RefusesPack, no_pack, pack_file_stage, too_large}
 use Rattle.pv_stages.specs.Response.{PlainResponse}
-use Rattle.pv_cli.specs.Verify.{TellsAcceptance, TellsOfPack, is_accepted, is_rejected, names_wide}
+use Rattle.pv_commands.specs.Verify.{TellsAcceptance, TellsOfPack, is_accepted, is_rejected, names_wide}
 use Rattle.pv_cli.specs.declared.checker.Checker.TheVariants.{Verify}
 use Rattle.pv_stages.specs.declared.status.Status.TheVariants.{Done, Negative, BadPack, Limit}
 use Rattle.law_program.proofs.ResponseCauses.{by_status, opening_reads_as, opening_refused}

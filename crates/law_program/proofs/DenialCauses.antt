@@ -5,15 +5,15 @@ use Rattle.pv_dtd.specs.Plain.{PlainDtd}
 use Rattle.pv_tree.specs.Plain.{PlainDoc}
 use Rattle.pv_tree.specs.declared.nodes.Mark.{Mark}
 use Rattle.law_program.specs.Causes.{ReadsBoth, ReadsCertificate, ReadsDenial, RespondsBy, TestsFor, can_be_valid, denial_file, denial_values, denial_width, in_denial, not_denied}
-use Rattle.pv_cli.specs.Certificates.{certificate_stage}
+use Rattle.pv_commands.specs.Certificates.{certificate_stage}
 use Rattle.pv_cli.specs.CommandLine.{PlainCommandLine, on_certificate}
 use Rattle.law_program.specs.Tests.{impossibility}
-use Rattle.pv_cli.specs.DenialFiles.{RefusesDenial, denial_file_stage, no_denial, too_large}
-use Rattle.pv_cli.specs.Deny.{TellsJudgement, is_denied, is_rejected, is_too_wide}
+use Rattle.pv_commands.specs.DenialFiles.{RefusesDenial, denial_file_stage, no_denial, too_large}
+use Rattle.pv_commands.specs.Deny.{TellsJudgement, is_denied, is_rejected, is_too_wide}
 use Rattle.pv_stages.specs.Documents.{PlainOpened}
 use Rattle.pv_stages.specs.Opening.{Files, opening_stage}
 use Rattle.pv_stages.specs.Response.{PlainResponse}
-use Rattle.pv_cli.specs.Why.{TellsWhy, has_too_many, is_denied as is_explained, is_possible}
+use Rattle.pv_commands.specs.Why.{TellsWhy, has_too_many, is_denied as is_explained, is_possible}
 use Rattle.pv_cli.specs.declared.checker.Checker.TheVariants.{Deny}
 use Rattle.pv_stages.specs.declared.status.Status.TheVariants.{Done, Negative, BadPack, Limit}
 use Rattle.law_program.proofs.ResponseCauses.{by_status, opening_reads, opening_refused}

@@ -2,11 +2,11 @@
 use Rattle.std.proofs.Common.{◌≡◌, ◌∙◌, ◌⊎◌, inl, inr, ℕ, List, Option, Some, ap, refl, subst, sym}
 use Rattle.std.specs.Io.KnownBytes.{Appends}
 use Rattle.pv_denial.specs.declared.denials.Denial.{Denial}
-use Rattle.pv_cli.specs.Certificates.{certificate_stage}
+use Rattle.pv_commands.specs.Certificates.{certificate_stage}
 use Rattle.pv_cli.specs.CommandLine.{PlainCommandLine, on_certificate}
 use Rattle.pv_stages.specs.Course.{Course}
-use Rattle.pv_cli.specs.DenialFiles.{denial_file_stage}
-use Rattle.pv_cli.specs.Deny.{TellsJudgement, is_denied, is_rejected, is_too_wide}
+use Rattle.pv_commands.specs.DenialFiles.{denial_file_stage}
+use Rattle.pv_commands.specs.Deny.{TellsJudgement, is_denied, is_rejected, is_too_wide}
 use Rattle.pv_stages.specs.Devices.{Devices}
 use Rattle.pv_stages.specs.Documents.{PlainOpened}
 use Rattle.law_program.specs.Laws.{DeniesImpossible, ShowsImpossible}

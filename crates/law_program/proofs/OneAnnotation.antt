@@ -20,7 +20,7 @@ use Rattle.pv_stages.specs.Opening.{Files, dtd_file_stage, fetch_stage, file_at}
 use Rattle.pv_stages.specs.Possibility.{width_stage}
 use Rattle.pv_stages.specs.Response.{PlainResponse}
 use Rattle.pv_stages.specs.Stage.{Responds, Stage, beside, followed_by}
-use Rattle.pv_cli.specs.Standoff.{IsNestRefusal, IsRangesRefusal, IsShownCourse, IsTextRefusal, MAX_RANGES_BYTES, MAX_TEXT_BYTES, RefusesNesting, RefusesRanges, RefusesText, TellsNested, annotation_stage, nested_stage, nesting_stage, no_document, no_ranges, no_text, ranges_file_stage, ranges_stage, text_file_stage, text_stage, with_shown}
+use Rattle.pv_commands.specs.Standoff.{IsNestRefusal, IsRangesRefusal, IsShownCourse, IsTextRefusal, MAX_RANGES_BYTES, MAX_TEXT_BYTES, RefusesNesting, RefusesRanges, RefusesText, TellsNested, annotation_stage, nested_stage, nesting_stage, no_document, no_ranges, no_text, ranges_file_stage, ranges_stage, text_file_stage, text_stage, with_shown}
 use Rattle.law_program.proofs.OneCheck.{one_possibility}
 use Rattle.pv_stages.proofs.OnePossibility.{width_sure}
 use Rattle.pv_stages.proofs.OneOpening.{AreSure, IsEqual, IsSamePair, IsSure, ReadsOneDtd, RunsAs, beside_sure, dtd_file_sure, fetch_sure, followed_sure, one_like, reading_sure, sure_at, told}

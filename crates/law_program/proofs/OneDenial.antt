@@ -31,14 +31,14 @@ use Rattle.pv_tree.specs.Plain.{Forest, PlainDoc, map_marks_all, no_trees, tree}
 use Rattle.pv_tree.specs.View.{view}
 use Rattle.pv_tree.specs.declared.nodes.Mark.{Mark}
 use Rattle.pv_stages.specs.Course.{Course}
-use Rattle.pv_cli.specs.DenialFiles.{RefusesDenial, denial_file_stage, denial_stage, no_denial, too_large}
-use Rattle.pv_cli.specs.Deny.{TellsJudgement, flaw_text, is_denied, is_rejected, is_too_wide}
+use Rattle.pv_commands.specs.DenialFiles.{RefusesDenial, denial_file_stage, denial_stage, no_denial, too_large}
+use Rattle.pv_commands.specs.Deny.{TellsJudgement, flaw_text, is_denied, is_rejected, is_too_wide}
 use Rattle.pv_stages.specs.Documents.{PlainOpened}
 use Rattle.pv_stages.specs.Opening.{fetch_stage}
 use Rattle.pv_stages.specs.Possibility.{width_stage}
 use Rattle.pv_stages.specs.Response.{PlainResponse, with_line}
 use Rattle.pv_stages.specs.Stage.{Behind, Responds}
-use Rattle.pv_cli.specs.Why.{IsWhyCourse, TellsWhy, has_too_many, is_denied as is_explained, is_possible}
+use Rattle.pv_commands.specs.Why.{IsWhyCourse, TellsWhy, has_too_many, is_denied as is_explained, is_possible}
 use Rattle.pv_stages.specs.declared.status.Status.TheVariants.{BadPack, Done, Negative}
 use Rattle.pv_stages.proofs.OnePossibility.{width_sure}
 use Rattle.pv_stages.proofs.OneOpening.{AreSameOpened, IsEqual, IsSure, RunsAs, fetch_sure, followed_sure, one_like, reading_sure, sure_at, told, unmarked_same}

@@ -5,7 +5,7 @@ use Rattle.pv_model.specs.Plain.{PlainModel}
 use Rattle.pv_dtd.specs.Plain.{PlainDtd, spelling_of}
 use Rattle.pv_rules.specs.Derivations.{heaviest}
 use Rattle.pv_productive.specs.Sizes.{IsCutSize}
-use Rattle.pv_cli.specs.Dtd.{AreNameLines, IsNameLine, IsTreeText, TellsDtd, counted, model_text, over, unproductive}
+use Rattle.pv_commands.specs.Dtd.{AreNameLines, IsNameLine, IsTreeText, TellsDtd, counted, model_text, over, unproductive}
 use Rattle.pv_stages.specs.Response.{PlainResponse}
 
 no_more : (g : PlainDtd) (y m n : ℕ) → IsCutSize g y m → IsCutSize g y n → n < heaviest → m ≡ n

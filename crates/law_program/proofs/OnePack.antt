@@ -31,7 +31,7 @@ use Rattle.pv_tree.specs.Words.{word_of}
 use Rattle.pv_tree.specs.declared.nodes.Mark.{Mark}
 use Rattle.pv_tree.specs.declared.nodes.Verdict.TheVariants as verdict
 use Rattle.pv_missing.specs.LiveWords.{IsLiveWord}
-use Rattle.pv_cli.specs.Complete.{IsCompleteCourse, IsPackOfCompletion, TellsPack, has_too_many, is_heavy, is_pack, is_wide}
+use Rattle.pv_commands.specs.Complete.{IsCompleteCourse, IsPackOfCompletion, TellsPack, has_too_many, is_heavy, is_pack, is_wide}
 use Rattle.law_program.specs.Alike.{PacksAlike, are_one, are_packs}
 use Rattle.pv_stages.specs.Course.{Course}
 use Rattle.pv_stages.specs.Documents.{PlainOpened}

@@ -5,23 +5,23 @@ use Rattle.pv_tree.specs.Laws.{IsValidByLists}
 use Rattle.pv_tree.specs.declared.nodes.Mark.{Mark}
 use Rattle.pv_read.specs.DocumentLaws.{SpellsOneDocument}
 use Rattle.law_program.specs.Alike.{VerbRespondsAlike, are_one}
-use Rattle.pv_cli.specs.Certificates.{certificate_stage}
+use Rattle.pv_commands.specs.Certificates.{certificate_stage}
 use Rattle.pv_cli.specs.CommandLine.{drill, on_certificate, on_document, on_dtd, on_ranges}
 use Rattle.pv_cli.specs.Commands.{VerbTells}
 use Rattle.pv_stages.specs.Course.{Course}
-use Rattle.pv_cli.specs.DenialFiles.{denial_file_stage}
-use Rattle.pv_cli.specs.Deny.{TellsJudgement}
+use Rattle.pv_commands.specs.DenialFiles.{denial_file_stage}
+use Rattle.pv_commands.specs.Deny.{TellsJudgement}
 use Rattle.pv_stages.specs.Documents.{PlainOpened}
 use Rattle.pv_cli.specs.Drill.{TellsCounts, drill_stage}
-use Rattle.pv_cli.specs.Dtd.{TellsDtd}
+use Rattle.pv_commands.specs.Dtd.{TellsDtd}
 use Rattle.law_program.specs.Laws.{HasOneResponse}
 use Rattle.pv_stages.specs.Opening.{dtd_file_stage, file_at, opening_stage}
 use Rattle.pv_stages.specs.Response.{PlainResponse}
 use Rattle.pv_stages.specs.Stage.{Responds}
-use Rattle.pv_cli.specs.Standoff.{IsShownCourse, nested_stage}
-use Rattle.pv_cli.specs.Valid.{IsValidCourse, TellsValidity}
-use Rattle.pv_cli.specs.PackFiles.{pack_file_stage}
-use Rattle.pv_cli.specs.Verify.{TellsOfPack}
+use Rattle.pv_commands.specs.Standoff.{IsShownCourse, nested_stage}
+use Rattle.pv_commands.specs.Valid.{IsValidCourse, TellsValidity}
+use Rattle.pv_commands.specs.PackFiles.{pack_file_stage}
+use Rattle.pv_commands.specs.Verify.{TellsOfPack}
 use Rattle.pv_cli.specs.declared.checker.Checker.TheVariants.{Deny, Verify}
 use Rattle.pv_cli.specs.declared.verb.Verb.{Verb}
 use Rattle.pv_cli.specs.declared.verb.Verb.TheVariants.{Valid, Check, Session, Complete, Why}

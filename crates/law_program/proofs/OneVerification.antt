@@ -16,13 +16,13 @@ use Rattle.pv_tree.specs.Plain.{PlainDoc}
 use Rattle.pv_tree.specs.declared.nodes.Mark.{Mark}
 use Rattle.pv_tree.proofs.Every.{contains_first, contains_later}
 use Rattle.pv_verify.specs.Laws.{OneAnswer}
-use Rattle.pv_cli.specs.Certificates.{certificate_stage}
+use Rattle.pv_commands.specs.Certificates.{certificate_stage}
 use Rattle.pv_stages.specs.Documents.{PlainOpened}
 use Rattle.pv_stages.specs.Opening.{Files, fetch_stage, file_at, opening_stage}
-use Rattle.pv_cli.specs.PackFiles.{RefusesPack, no_pack, pack_file_stage, pack_stage, too_large}
+use Rattle.pv_commands.specs.PackFiles.{RefusesPack, no_pack, pack_file_stage, pack_stage, too_large}
 use Rattle.pv_stages.specs.Response.{PlainResponse, with_line}
 use Rattle.pv_stages.specs.Stage.{Stage, beside}
-use Rattle.pv_cli.specs.Verify.{TellsAcceptance, TellsOfPack, is_accepted, is_rejected, names_wide, test_text}
+use Rattle.pv_commands.specs.Verify.{TellsAcceptance, TellsOfPack, is_accepted, is_rejected, names_wide, test_text}
 use Rattle.pv_stages.specs.declared.status.Status.TheVariants.{BadPack, Limit, Negative}
 use Rattle.pv_stages.proofs.OneOpening.{AreSameOpened, AreSure, IsEqual, IsSure, ReadsOne, ReadsOneDtd, fetch_sure, followed_sure, opening_sure, reading_sure, sure_at}
 

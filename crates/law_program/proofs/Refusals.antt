@@ -3,10 +3,10 @@ use Rattle.std.proofs.Common.{◌≡◌, ◌∙◌, inl, inr, ℕ, List, Option,
 use Rattle.pv_dtd.specs.Kinds.{parameter, nesting, syntax, twice, mixed_twice, limit}
 use Rattle.pv_params.specs.Meaning.{conditional, external, undeclared, recursive, limit as params_limit, syntax as params_syntax}
 use Rattle.pv_read.specs.Kinds.{subset, syntax as bad_syntax, entity, mismatch, doctype_name, deep}
-use Rattle.pv_cli.specs.DenialFiles.{denial_file_stage, no_denial, too_large as too_large_denial}
+use Rattle.pv_commands.specs.DenialFiles.{denial_file_stage, no_denial, too_large as too_large_denial}
 use Rattle.pv_stages.specs.Documents.{RefusesDocument, no_document, too_many_bytes}
 use Rattle.pv_stages.specs.Opening.{Files, IsFileTooLong, RefusesDtd, dtd_file_stage, no_dtd, opening_stage}
-use Rattle.pv_cli.specs.PackFiles.{no_pack, pack_file_stage, too_large}
+use Rattle.pv_commands.specs.PackFiles.{no_pack, pack_file_stage, too_large}
 use Rattle.pv_stages.specs.Parameters.{RefusesParameters, not_expanded}
 use Rattle.pv_stages.specs.Response.{PlainResponse}
 use Rattle.pv_stages.specs.declared.status.Status.{Status}

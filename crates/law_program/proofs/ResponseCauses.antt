@@ -13,8 +13,8 @@ use Rattle.pv_session.specs.Sessions.{PlainSession}
 use Rattle.pv_params.specs.Meaning.{conditional, external, undeclared, recursive, limit as params_limit, syntax as params_syntax}
 use Rattle.pv_stages.specs.Parameters.{RefusesParameters, not_expanded}
 use Rattle.law_program.specs.Causes.{HoldsText, NeedsTables, ReadsScript, TestsFor, parameters, ReadsBoth, ReadsDocument, ReadsDtd, RespondsBy, is_document_limit, dtd_file, document_file, in_dtd, in_document, document_bytes, list_width, not_possible, not_valid, script_line, whole_script, missing_elements, table_entries, weights_width}
-use Rattle.pv_cli.specs.Check.{TellsPossibility, is_no_more, is_possible}
-use Rattle.pv_cli.specs.Complete.{TellsPack, has_too_many, is_heavy, is_pack, is_wide}
+use Rattle.pv_commands.specs.Check.{TellsPossibility, is_no_more, is_possible}
+use Rattle.pv_commands.specs.Complete.{TellsPack, has_too_many, is_heavy, is_pack, is_wide}
 use Rattle.pv_cli.specs.CommandLine.{PlainCommandLine}
 use Rattle.law_program.specs.Tests.{Test, possibility, tests_width, validity, width}
 use Rattle.pv_stages.specs.Course.{Course, RunEnding, responds}
@@ -24,7 +24,7 @@ use Rattle.pv_stages.specs.Possibility.{RefusesImpossible, RefusesWidth, is_impo
 use Rattle.pv_stages.specs.Response.{PlainResponse}
 use Rattle.pv_conversation.specs.Session.{Converses, ended_over, finished, guarding_stage, input_failed, output_failed, past_line, past_script, quitted, without_room}
 use Rattle.pv_stages.specs.Stage.{Stage, Behind, Responds, opened, refused, responded, short_of_memory, short_of_memory as out_of_memory, stopped}
-use Rattle.pv_cli.specs.Valid.{TellsValidity, is_invalid, is_valid}
+use Rattle.pv_commands.specs.Valid.{TellsValidity, is_invalid, is_valid}
 use Rattle.pv_stages.specs.declared.status.Status.{Status}
 use Rattle.pv_stages.specs.declared.status.Status.TheVariants.{Done, Negative, BadDtd, BadDocument, Limit}
 

@@ -50,7 +50,7 @@ use Rattle.pv_cli.specs.Drill.{DRILL_ROOT}
 use Rattle.pv_stages.specs.Opening.{Files, file_at}
 use Rattle.pv_stages.specs.Parameters.{is_parameters_limit}
 use Rattle.pv_conversation.specs.Script.{MAX_SCRIPT_BYTES, has_long_line}
-use Rattle.pv_cli.specs.Standoff.{MAX_RANGES_BYTES, MAX_TEXT_BYTES}
+use Rattle.pv_commands.specs.Standoff.{MAX_RANGES_BYTES, MAX_TEXT_BYTES}
 use Rattle.pv_cli.specs.declared.checker.Checker.{Checker}
 use Rattle.pv_cli.specs.declared.checker.Checker.TheVariants.{Deny, Verify}
 use Rattle.pv_stages.specs.declared.status.Status.{Status}

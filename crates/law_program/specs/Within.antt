@@ -29,7 +29,7 @@ use Rattle.pv_cli.specs.Headline.{HadNoMemory}
 use Rattle.pv_stages.specs.Opening.{Files, file_at}
 use Rattle.pv_cli.specs.Program.{Runs}
 use Rattle.pv_conversation.specs.Script.{IsWithin}
-use Rattle.pv_cli.specs.Standoff.{MAX_RANGES_BYTES, MAX_TEXT_BYTES}
+use Rattle.pv_commands.specs.Standoff.{MAX_RANGES_BYTES, MAX_TEXT_BYTES}
 use Rattle.pv_cli.specs.declared.checker.Checker.TheVariants.{Deny, Verify}
 use Rattle.pv_stages.specs.declared.status.Status.{Status}
 use Rattle.pv_stages.specs.declared.status.Status.TheVariants.{Done, Limit, Negative}

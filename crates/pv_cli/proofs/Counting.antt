@@ -1,5 +1,5 @@
 -- How many lists a command judged.
-use Rattle.std.proofs.Common.{◌≡◌, ◌⊎◌, inl, inr, ◌≤◌, ◌<◌, ◌+◌, ◌*◌, ◌%◌, ℕ, suc, zero, Bool, true, false, ◌==◌, if◌then◌else◌, List, [], ◌∷◌, length, Result, Ok, Err, refl, subst, arith}
+use Rattle.std.proofs.Common.{◌≡◌, ◌⊎◌, inl, inr, ◌≤◌, ◌<◌, ◌+◌, ◌*◌, ◌%◌, ℕ, suc, zero, Bool, true, false, ◌==◌, if◌then◌else◌, List, [], ◌∷◌, length, Result, Err, refl, arith}
 use Rattle.std.proofs.lemmas.Bool.{cases_lt}
 use Rattle.std.proofs.lemmas.List.{length-append}
 use Rattle.pv_dtd.specs.Plain.{PlainDtd}
@@ -17,16 +17,9 @@ use Rattle.pv_stages.specs.Possibility.{width_stage}
 use Rattle.pv_stages.specs.Returns.{StopsBy, ending_of}
 use Rattle.pv_stages.specs.Stage.{Stage, beside}
 use Rattle.pv_stages.specs.declared.stop.Stop.{Stop}
-use Rattle.pv_stages.proofs.JudgedLists.{judged_beside, judged_second, opening_beside, opening_second, stops_first}
+use Rattle.pv_stages.proofs.JudgedLists.{judged_second, opening_beside, opening_second, stops_first}
 
--- what was counted of a document that was opened, by a grammar of its DTD
-pub judged_document : (root : List ℕ) (g d : PlainDtd) (bytes : List ℕ) (opened : PlainOpened) (ending : RunEnding) (before after : ℕ) → (document_stage root g bytes).Opens opened 0 → d ≡ opened.dtd →
-    CountsJudged (width_stage d opened.doc) (λ _. length (lists_of opened.doc)) CountsNoMore ending before after → CountsJudged (judging_stage root g bytes) lists_judged CountsNoMore ending before after
-judged_document root g d bytes opened ending before after opens same counts =
-    let here = subst (λ (h : PlainDtd). CountsJudged (width_stage h opened.doc) (λ _. length (lists_of opened.doc)) CountsNoMore ending before after) same counts in
-    judged_second (document_stage root g bytes) (λ o. beside o (width_stage o.dtd o.doc)) lists_judged CountsNoMore opened 0 ending before after opens
-    (judged_beside opened (width_stage opened.dtd opened.doc) lists_judged CountsNoMore ending before after here)
-
+-- what was counted before a session on a document that was opened
 pub opened_document : {Z : Type 0} (root : List ℕ) (g : PlainDtd) (bytes : List ℕ) (opened : PlainOpened) (before after : ℕ) (result : Result Z Stop) → (document_stage root g bytes).Opens opened 0 →
     CountsOpening (width_stage opened.dtd opened.doc) (λ _. length (lists_of opened.doc)) before after result → CountsOpening (judging_stage root g bytes) lists_judged before after result
 opened_document root g bytes opened before after result opens counts =

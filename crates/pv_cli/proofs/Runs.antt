@@ -1,8 +1,6 @@
 -- What a command did, as a run that its devices show.
-use Rattle.std.proofs.Common.{◌≡◌, inl, inr, ℕ, ◌+◌, List, [], ◌∷◌, Option, Some, None, Result, Ok, Err, refl, sym, subst, arith}
+use Rattle.std.proofs.Common.{◌≡◌, inl, inr, ℕ, List, [], ◌∷◌, Option, Some, Result, Ok, Err, refl, arith}
 use Rattle.pv_dtd.specs.Plain.{PlainDtd}
-use Rattle.pv_dtd.specs.PlainForms.{plain_dtd}
-use Rattle.pv_dtd.specs.declared.dtd.Dtd.{Dtd}
 use Rattle.pv_stages.specs.declared.opening.Fetched.{Fetched}
 use Rattle.pv_stages.specs.declared.response.Response.{Response}
 use Rattle.pv_stages.specs.declared.status.Status.{Status}
@@ -13,25 +11,24 @@ use Rattle.pv_cli.specs.declared.verb.Verb.TheVariants.{Session}
 use Rattle.pv_session.specs.Sessions.{PlainSession}
 use Rattle.pv_cli.specs.Checking.{CountsVerb}
 use Rattle.pv_conversation.specs.Counting.{CountsScript}
-use Rattle.pv_cli.specs.CommandLine.{PlainCommandLine, files_named, on_document, on_dtd}
+use Rattle.pv_cli.specs.CommandLine.{PlainCommandLine, files_named, on_document}
 use Rattle.pv_cli.specs.Commands.{GoesOn, VerbTells}
 use Rattle.pv_conversation.specs.Conversation.{Talked}
 use Rattle.pv_stages.specs.Course.{Course, after_fetches, responds, without_input}
 use Rattle.pv_stages.specs.Devices.{InputNow, OutputNow, ShelfNow, devices}
 use Rattle.pv_stages.specs.Documents.{PlainOpened, document_stage}
-use Rattle.pv_cli.specs.Dtd.{TellsDtd}
 use Rattle.pv_stages.specs.Judging.{CountsOpening, judging_stage, lists_judged}
-use Rattle.pv_stages.specs.Opening.{AreFiles, IsFile, dtd_file_stage, fetching_stage, opening_stage}
+use Rattle.pv_stages.specs.Opening.{AreFiles, fetching_stage, opening_stage}
 use Rattle.pv_cli.specs.Program.{ChecksLists, IsDefined, Runs}
 use Rattle.pv_stages.specs.Showing.{CountsInput, CountsShelf, ShowsStreams, WritesEnding}
 use Rattle.pv_stages.specs.Response.{plain_response}
 use Rattle.pv_cli.specs.Returns.{DoesRest, FindsResponse, session_stage}
-use Rattle.pv_stages.specs.Returns.{TakesCourse, ReturnsOver, StopsBy, TellsBy, ending_of, plain_fetched}
+use Rattle.pv_stages.specs.Returns.{TakesCourse, ReturnsOver, StopsBy, ending_of, plain_fetched}
 use Rattle.pv_conversation.specs.Session.{guarding_stage}
-use Rattle.pv_stages.specs.Stage.{Responds, opened, refused, short_of_memory}
+use Rattle.pv_stages.specs.Stage.{opened, refused, short_of_memory}
 use Rattle.pv_cli.proofs.Counting.{verb_counts, verb_stopped}
 use Rattle.pv_stages.proofs.JudgedLists.{opened_goes}
-use Rattle.pv_stages.proofs.Stages.{behind_second, finds_goes, finds_stays, stays_from, stop_counts, stop_ends, stopped_first, tells_found}
+use Rattle.pv_stages.proofs.Stages.{behind_second, finds_goes, finds_stays, stays_from, stop_counts, stop_ends, stopped_first}
 
 -- what didn't ask the input left its count
 input_stays : (result : Result Response Stop) (count : ℕ) → CountsInput (ending_of result) count count
@@ -58,7 +55,7 @@ found_runs line before after input old new checked checked_now result status fin
   files = finds.files;
   are_files = finds.are_files;
   course = without_input finds.fetches (ending_of result);
-  is_defined = finds.is_defined;
+  is_defined = finds.takes;
   shelf = finds.shelf;
   streams = quiet_streams finds.fetches result input old new status writes;
   checks = finds.checks;
@@ -71,37 +68,10 @@ found_alone line shelf checked checked_now result none finds checks = record {
   files = [];
   are_files = none;
   fetches = 0;
-  is_defined = finds_goes (IsDefined line []) result finds;
+  takes = finds_goes (IsDefined line []) result finds;
   shelf = record { calls = omega arith; faults = finds_stays (IsDefined line []) result finds shelf.faults };
   checks = checks;
 }
-
--- `dtd`, where it stopped at its file, and behind it
-pub dtd_stopped : (name : List ℕ) (before after : ShelfNow) (checked : ℕ) (stop : Stop) → ReturnsOver {X = Dtd} (IsFile before.files name) plain_dtd dtd_file_stage before after (Err stop) →
-    FindsResponse (Some (on_dtd name)) before after checked checked (Err stop)
-dtd_stopped name before after checked stop over = record {
-  files = over.files ∷ [];
-  are_files = (over.are_such, tt);
-  fetches = over.fetches;
-  is_defined = stop_ends (dtd_file_stage over.files) (λ g. Responds (TellsDtd g)) over.fetches stop over.returns;
-  shelf = record { calls = over.calls; faults = stop_counts before.faults after.faults stop over.faults };
-  checks = refl;
-}
-
-pub dtd_told : (name : List ℕ) (before after : ShelfNow) (checked : ℕ) (dtd : Dtd) (result : Result Response Stop) → ReturnsOver (IsFile before.files name) plain_dtd dtd_file_stage before after (Ok dtd) →
-    TellsBy (TellsDtd (plain_dtd dtd)) result → FindsResponse (Some (on_dtd name)) before after checked checked result
-dtd_told name before after checked dtd result over tells =
-    let finds = tells_found (TellsDtd (plain_dtd dtd)) result tells in
-    let goes = finds_goes (Responds (TellsDtd (plain_dtd dtd))) result finds in
-    let stays = finds_stays (Responds (TellsDtd (plain_dtd dtd))) result finds in
-    record {
-      files = over.files ∷ [];
-      are_files = (over.are_such, tt);
-      fetches = over.fetches + 0;
-      is_defined = opened (plain_dtd dtd) over.fetches (without_input 0 (ending_of result)) over.returns goes refl;
-      shelf = record { calls = omega (arith, over.calls); faults = stays_from (CountsShelf (ending_of result)) before.faults after.faults over.faults stays };
-      checks = refl;
-    }
 
 -- what a verb found, once it is written
 pub found_rest : {S : Type 0} (verb : Verb) (root : List ℕ) (fetched : PlainDtd × List ℕ) (input : InputNow S) (old new : OutputNow) (checked checked_now : ℕ) (result : Result Response Stop) (status : Status) →
@@ -126,7 +96,7 @@ files_stopped verb dtd root doc before after checked stop over = record {
   files = over.files;
   are_files = over.are_such;
   fetches = over.fetches;
-  is_defined = stop_ends (opening_stage root over.files) (VerbTells verb root) over.fetches stop
+  takes = stop_ends (opening_stage root over.files) (VerbTells verb root) over.fetches stop
       (stopped_first (fetching_stage over.files) (λ both. document_stage root both.0 both.1) over.fetches stop over.returns);
   shelf = record { calls = over.calls; faults = stop_counts before.faults after.faults stop over.faults };
   checks = verb_stopped verb root over.files over.fetches stop checked over.returns;

@@ -1,5 +1,5 @@
--- How many lists a run judges, as the counter of the call counts them: one step for each list of its
--- document, and those that the lines of a script judge.
+-- How many lists a run judges, as the counter of the call counts them: one step for each list of
+-- its document, and those that the lines of a script judge.
 use Rattle.std.specs.Prelude.{◌≤◌, ◌+◌, ◌*◌, ℕ, List, length}
 use Rattle.pv_drill.specs.Drill.{DRILL_DTD, drill_lines, drill_text}
 use Rattle.pv_cli.specs.Drill.{DRILL_ROOT}

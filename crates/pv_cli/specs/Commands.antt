@@ -1,17 +1,17 @@
 -- The commands on a DTD and a document, a line for each verb, and those that check a certificate.
 use Rattle.std.specs.Prelude.{ℕ, List}
 use Rattle.pv_dtd.specs.Plain.{PlainDtd}
-use Rattle.pv_cli.specs.Check.{IsCheckCourse}
-use Rattle.pv_cli.specs.Complete.{IsCompleteCourse}
+use Rattle.pv_commands.specs.Check.{IsCheckCourse}
+use Rattle.pv_commands.specs.Complete.{IsCompleteCourse}
 use Rattle.pv_stages.specs.Course.{Course}
-use Rattle.pv_cli.specs.Deny.{IsDenyCourse}
+use Rattle.pv_commands.specs.Deny.{IsDenyCourse}
 use Rattle.pv_stages.specs.Documents.{PlainOpened, document_stage}
 use Rattle.pv_stages.specs.Opening.{Files, opening_stage}
 use Rattle.pv_conversation.specs.Session.{IsSessionCourse}
 use Rattle.pv_stages.specs.Stage.{Behind}
-use Rattle.pv_cli.specs.Valid.{IsValidCourse}
-use Rattle.pv_cli.specs.Verify.{IsVerifyCourse}
-use Rattle.pv_cli.specs.Why.{IsWhyCourse}
+use Rattle.pv_commands.specs.Valid.{IsValidCourse}
+use Rattle.pv_commands.specs.Verify.{IsVerifyCourse}
+use Rattle.pv_commands.specs.Why.{IsWhyCourse}
 use Rattle.pv_cli.specs.declared.checker.Checker.{Checker}
 use Rattle.pv_cli.specs.declared.checker.Checker.TheVariants.{Deny, Verify}
 use Rattle.pv_cli.specs.declared.verb.Verb.{Verb}

@@ -9,12 +9,12 @@ use Rattle.pv_cli.specs.Commands.{IsCheckerCourse, IsDocumentCourse}
 use Rattle.pv_stages.specs.Course.{Course}
 use Rattle.pv_stages.specs.Devices.{Devices}
 use Rattle.pv_cli.specs.Drill.{IsDrillCourse}
-use Rattle.pv_cli.specs.Dtd.{IsDtdCourse}
-use Rattle.pv_stages.specs.Judging.{CountsJudged, CountsNoMore}
+use Rattle.pv_commands.specs.Dtd.{IsDtdCourse}
+use Rattle.pv_stages.specs.Judging.{CountsNoMore}
 use Rattle.pv_stages.specs.Opening.{AreFiles, Files}
 use Rattle.pv_stages.specs.Response.{with_line}
 use Rattle.pv_stages.specs.Stage.{Responds}
-use Rattle.pv_cli.specs.Standoff.{IsStandoffCourse, judging_ranges_stage, nested_lists}
+use Rattle.pv_commands.specs.Standoff.{CountsNested, IsStandoffCourse}
 use Rattle.pv_stages.specs.Showing.{ShowsShelf, ShowsStreams}
 
 -- the courses that a command line may take over its files
@@ -39,8 +39,7 @@ ChecksLists (Some (on_document verb dtd root doc)) files course before after =
 ChecksLists (Some (on_certificate checker dtd root doc file)) files course before after =
     CountsNoMore before after
 ChecksLists (Some (on_ranges dtd root text ranges)) files course before after =
-    CountsJudged (judging_ranges_stage root files) nested_lists CountsNoMore course.ending before
-    after
+    CountsNested root files course before after
 ChecksLists (Some (drill n)) files course before after = CountsDrill n course.ending before after
 
 -- What a run does: there are files, those that the shelf tells where it tells them, and a course

@@ -1,24 +1,22 @@
--- What the commands return.
+-- What the commands return, by the command line.
 use Rattle.std.specs.Prelude.{ℕ, List, Option, Result}
 use Rattle.pv_dtd.specs.Plain.{PlainDtd}
 use Rattle.pv_session.specs.Sessions.{PlainSession}
 use Rattle.pv_cli.specs.Commands.{GoesOn}
 use Rattle.pv_cli.specs.Checking.{CountsVerb}
 use Rattle.pv_cli.specs.CommandLine.{PlainCommandLine, files_named}
-use Rattle.pv_stages.specs.Course.{without_input}
 use Rattle.pv_stages.specs.Devices.{InputNow, OutputNow, ShelfNow}
 use Rattle.pv_stages.specs.Documents.{document_stage}
 use Rattle.pv_stages.specs.Judging.{judging_stage}
-use Rattle.pv_stages.specs.Opening.{AreFiles, Files}
 use Rattle.pv_cli.specs.Program.{ChecksLists, IsDefined}
-use Rattle.pv_stages.specs.Showing.{ShowsShelf}
+use Rattle.pv_commands.specs.Returns.{FindsOver}
 use Rattle.pv_conversation.specs.Session.{guarding_stage}
 use Rattle.pv_stages.specs.Stage.{Stage, followed_by}
 use Rattle.pv_stages.specs.declared.response.Response.{Response}
 use Rattle.pv_stages.specs.declared.status.Status.{Status}
 use Rattle.pv_stages.specs.declared.stop.Stop.{Stop}
 use Rattle.pv_cli.specs.declared.verb.Verb.{Verb}
-use Rattle.pv_stages.specs.Returns.{GoesThrough, ending_of}
+use Rattle.pv_stages.specs.Returns.{GoesThrough}
 
 -- reading a document that was fetched, and beginning a session on it
 abbrev pub session_stage : List ℕ → PlainDtd × List ℕ → Stage PlainSession
@@ -27,14 +25,11 @@ session_stage root fetched =
     (λ opened. guarding_stage root opened.dtd opened.doc)
 
 -- what a command line that leaves the input alone does, up to the writing of its response
-pub record FindsResponse (line : Option PlainCommandLine) (before after : ShelfNow)
-    (checked checked_now : ℕ) (result : Result Response Stop) : Type 0 where
-  pub files : Files
-  pub are_files : AreFiles before.files (files_named line) files
-  pub fetches : ℕ
-  pub is_defined : IsDefined line files (without_input fetches (ending_of result))
-  pub shelf : ShowsShelf (without_input fetches (ending_of result)) before after
-  pub checks : ChecksLists line files (without_input fetches (ending_of result)) checked checked_now
+abbrev pub FindsResponse : Option PlainCommandLine → ShelfNow → ShelfNow → ℕ → ℕ →
+    Result Response Stop → Type 0
+FindsResponse line before after checked checked_now result =
+    FindsOver (files_named line) (IsDefined line) (ChecksLists line) before after checked
+    checked_now result
 
 -- the same, for a verb, with the lists that were checked
 pub record DoesRest {S : Type 0} (verb : Verb) (root : List ℕ) (fetched : PlainDtd × List ℕ)

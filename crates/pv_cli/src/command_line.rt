@@ -10,17 +10,9 @@ ghost use Rattle.pv_cli.specs.CommandLine.{IsDrillSize, IsSized, drill_size};
 use crate::checker::{Checker, checker_of};
 use crate::verb::{Verb, verb_of};
 use pv_chars::is_name;
+use pv_commands::standoff::Annotation;
 use pv_script::written_number;
 use pv_stages::Named;
-
-/// A root name, and the names of a DTD, a text and ranges.
-#[derive(Clone, Copy)]
-pub struct Annotation<'a> {
-    pub dtd: &'a str,
-    pub root: &'a [u8],
-    pub text: &'a str,
-    pub ranges: &'a str,
-}
 
 /// A well-formed command line, by its form.
 #[derive(Clone, Copy)]

@@ -1,12 +1,4 @@
-//! The commands, each behind the files that its form opens.
+//! The commands that answer a script in a session.
 
-pub mod check;
-pub mod complete;
-pub mod deny;
 pub mod drill;
-pub mod dtd;
 pub mod session;
-pub mod standoff;
-pub mod valid;
-pub mod verify;
-pub mod why;

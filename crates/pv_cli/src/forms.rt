@@ -1,42 +1,27 @@
-//! Command lines by form: what each opens, and the command behind it.
+//! Command lines by form: what a document's verb opens, and the command behind it.
 
 ghost use Rattle.std.specs.Prelude.{◌≡◌, ℕ, Some, Contains, true};
-ghost use Rattle.pv_cli.specs.CommandLine.{on_certificate, on_document, on_dtd};
+ghost use Rattle.pv_cli.specs.CommandLine.{on_certificate, on_document};
 ghost use Rattle.pv_stages.specs.Devices.{devices, input_at, output_at, shelf_at};
 ghost use Rattle.pv_cli.specs.Program.{Runs};
 ghost use Rattle.pv_cli.specs.Returns.{DoesRest, FindsResponse};
 ghost use Rattle.pv_stages.specs.Returns.{plain_fetched};
 
 use crate::checker::Checker;
-use crate::commands::check::check;
-use crate::commands::complete::complete;
-use crate::commands::deny::deny;
-use crate::commands::dtd::dtd;
 use crate::commands::session::session;
-use crate::commands::valid::valid;
-use crate::commands::verify::verify;
-use crate::commands::why::why;
 use crate::verb::Verb;
+use pv_commands::check::check;
+use pv_commands::complete::complete;
+use pv_commands::deny::deny;
+use pv_commands::valid::valid;
+use pv_commands::verify::verify;
+use pv_commands::why::why;
 use pv_io::{Shelf, Sink, Source};
-use pv_stages::{Fetched, Named, Response, Status, Stop, fetch_files, open_dtd, respond};
+use pv_stages::{Fetched, Named, Response, Status, Stop, fetch_files, respond};
 use pv_steps::Steps;
 use std::alloc::Global;
 use std::sync::ledger::Ledger;
 use std::thread::Threads;
-
-/// A command on a DTD: `dtd`.
-pub fn run_on_dtd<H: Shelf>(alloc: Global, shelf: &mut H, name: &str) -> Result<Response, Stop>
-    requires { Contains (H.names shelf.old) name.now }
-    ensures finds { (checked : ℕ) → FindsResponse (Some (on_dtd name.now))
-        (shelf_at (H.files shelf.old) (H.calls shelf.old) (H.faults shelf.old))
-        (shelf_at (H.files shelf.new) (H.calls shelf.new) (H.faults shelf.new))
-        checked checked result }
-    ensures names { H.names shelf.new ≡ H.names shelf.old }
-    ensures files { H.files shelf.new ≡ H.files shelf.old }
-{
-    let opened = open_dtd(alloc, shelf, name)?;
-    dtd(alloc, opened)
-}
 
 /// A command on a DTD, a document and a certificate.
 pub fn run_on_certificate<H: Shelf>(

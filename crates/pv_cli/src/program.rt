@@ -12,9 +12,10 @@ ghost use Rattle.pv_io.specs.Files.{byte_lists, fetch_names};
 
 use crate::command_line::{CommandLine, command_line_of};
 use crate::commands::drill::drill;
-use crate::commands::standoff::standoff;
-use crate::forms::{run_on_certificate, run_on_document, run_on_dtd};
+use crate::forms::{run_on_certificate, run_on_document};
 use crate::laws::guarded_session_law;
+use pv_commands::dtd::dtd;
+use pv_commands::standoff::standoff;
 use pv_io::{Shelf, Sink, Source};
 use pv_stages::{Response, Status, Stop, respond};
 use pv_steps::Steps;
@@ -64,7 +65,7 @@ fn run_words<H: Shelf, S: Source, K: Sink, L: Ledger>(
         Some(CommandLine::OnRanges(named)) => {
             respond(out, standoff(rt, alloc, shelf, &named, steps))
         }
-        Some(CommandLine::OnDtd(name)) => respond(out, run_on_dtd(alloc, shelf, name)),
+        Some(CommandLine::OnDtd(name)) => respond(out, dtd(alloc, shelf, name)),
         Some(CommandLine::Drill(n)) => respond(out, drill(rt, alloc, n, steps)),
         None => respond(out, usage(alloc)),
     }

@@ -1,6 +1,0 @@
-use Rattle.pv_productive.specs.PlainForms.{dtd_of}
-use Rattle.pv_cli.proofs.DtdLines.{Begin}
-use Rattle.pv_cli.proofs.commands.dtd.name_lines.Given as goal
-
-abbrev pub invariant-loop-name : goal.invariant-loop-name
-invariant-loop-name l = Begin (dtd_of l.grammar) l.name l.text.items

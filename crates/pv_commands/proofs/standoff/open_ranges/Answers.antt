@@ -1,0 +1,23 @@
+use Rattle.std.proofs.Common.{ℕ, List, Option, Vec, Global, codes}
+use Rattle.std.proofs.lemmas.Result.{err_from_is_err_and}
+use Rattle.pv_standoff.specs.declared.ranges.Range.{Range}
+use Rattle.pv_stages.specs.Opening.{fetch_stage}
+use Rattle.pv_stages.specs.Stage.{Stage}
+use Rattle.pv_commands.specs.Standoff.{MAX_RANGES_BYTES, ranges_stage}
+use Rattle.pv_stages.proofs.Fetching.{behind_over, reading_counts, stopped_over}
+use Rattle.pv_commands.proofs.standoff.open_ranges.Goals as goal
+
+abbrev fetches : Option (List ℕ) → Stage (List ℕ)
+fetches file = fetch_stage file MAX_RANGES_BYTES (codes "limit ranges-file")
+
+pub returns-in_err-bytes-clause-over : goal.returns-in_err-bytes-clause-over
+returns-in_err-bytes-clause-over g c =
+    let p = err_from_is_err_and c.from_residual.result c.from_residual.ensures.1 in
+    rw (p.1, p.2) (stopped_over _ (λ (v : Vec ℕ Global). v.items) fetches (λ (x : List Range). x) ranges_stage _ _ c.in_err-bytes.field-0.0 c.in_err-bytes.ensures.over)
+
+pub returns-clause-over : goal.returns-clause-over
+returns-clause-over g c =
+    let bytes = c.in_ok-bytes.bytes in
+    let read = rw c.deref.ensures.value at c.ranges_of.ensures in
+    behind_over _ (λ (v : Vec ℕ Global). v.items) fetches (λ (x : List Range). x) ranges_stage _ _ bytes c.ranges_of.result c.in_ok-bytes.ensures.over read
+    (reading_counts (λ (x : List Range). x) (ranges_stage bytes.items) 0 _ c.ranges_of.result (λ never. never) read)

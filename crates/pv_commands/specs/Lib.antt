@@ -1,0 +1,15 @@
+pub mod Annotations
+pub mod Certificates
+pub mod Check
+pub mod Complete
+pub mod DenialFiles
+pub mod Deny
+pub mod Dtd
+pub mod PackFiles
+pub mod Packing
+pub mod Returns
+pub mod Standoff
+pub mod Valid
+pub mod Validity
+pub mod Verify
+pub mod Why

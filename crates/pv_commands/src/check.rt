@@ -1,0 +1,212 @@
+//! The command `check`.
+
+ghost use Rattle.std.specs.Prelude.{◌≡◌, IfOk, IfSome, List, length, ℕ};
+ghost use Rattle.pv_check.specs.Answers.{CountsTold, RefusesBytes, Tells};
+ghost use Rattle.pv_read.specs.Meaning.{DocumentMeans};
+ghost use Rattle.pv_tree.specs.Marks.{blank_mark};
+ghost use Rattle.pv_commands.specs.Check.{IsCheckCourse, TellsPossibility, possible_text};
+ghost use Rattle.pv_commands.specs.Returns.{BehindDocument};
+ghost use Rattle.pv_dtd.specs.Plain.{PlainDtd};
+ghost use Rattle.pv_stages.specs.Documents.{PlainOpened};
+ghost use Rattle.pv_stages.specs.Judging.{CountsJudged, CountsNoMore, judging_stage, lists_judged};
+ghost use Rattle.pv_stages.specs.Possibility.{AreVerdictsOf, width_stage};
+ghost use Rattle.pv_stages.specs.Response.{plain_response, with_line};
+ghost use Rattle.pv_stages.specs.Returns.{TakesCourse, ending_of, plain_fetched};
+ghost use Rattle.pv_stages.specs.declared.status.Status.TheVariants.{Done};
+ghost use Rattle.pv_productive.specs.PlainForms.{dtd_of};
+ghost use Rattle.pv_reach.specs.Plans.{IsPlan};
+ghost use Rattle.pv_tree.specs.Lists.{lists_of};
+ghost use Rattle.pv_tree.specs.Plain.{PlainDoc};
+ghost use Rattle.pv_tree.specs.PlainDocs.{plain_doc};
+ghost use Rattle.pv_tree.specs.declared.nodes.Mark.{Mark};
+
+use pv_chars::NoMemory;
+use pv_check::{TextError, Told, check_text};
+use pv_dtd::Dtd;
+use pv_missing::Verdicts;
+use pv_productive::{Grammar, build};
+use pv_reach::{Judge, Plan};
+use pv_read::read_doc;
+use pv_stages::{Fetched, Response, Status, Stop, narrow_verdicts, refuse_document, refuse_path};
+use pv_steps::Steps;
+use pv_tree::Doc;
+use pv_valid::first_invalid_in;
+use std::alloc::{AllocError, Global};
+use std::mem::forget;
+use std::sync::ledger::Ledger;
+use std::thread::Threads;
+
+// A small text has at most so many bytes for each column of the DTD.
+const TEXT_FOR_COLUMN: u64 = 64;
+
+// So many lists are Possible, and none is Impossible.
+fn possible(alloc: Global, left: u64) -> Result<Response, AllocError>
+    ensures { IfOk result (λ r. plain_response r ≡ with_line Done (possible_text left)) }
+{
+    if left == 0 {
+        Response::with_line(alloc, Status::Done, b"valid")
+    } else {
+        Response::with_number(alloc, Status::Done, b"possible ", left)
+    }
+}
+
+/// What `check` tells of a document by its verdicts.
+pub(crate) fn check_line(alloc: Global, verdicts: &Verdicts) -> Result<Response, AllocError>
+    ensures { (root : List ℕ) (g : PlainDtd) (doc : PlainDoc Mark) →
+        AreVerdictsOf root g doc verdicts.now →
+        IfOk result (λ r. TellsPossibility root g doc (plain_response r)) }
+{
+    match verdicts.first_impossible() {
+        Some(path) => {
+            Response::with_path(alloc, Status::Negative, b"impossible ", path.places())
+        }
+        None => possible(alloc, verdicts.left()),
+    }
+}
+
+// Judges the lists of the document, and tells its line.
+fn tell<L: Ledger>(
+    rt: &(impl Threads + Sync),
+    alloc: Global,
+    grammar: &Grammar,
+    doc: &Doc,
+    root: &[u8],
+    steps: &mut Steps<L>,
+) -> Result<Response, Stop>
+    ensures tells { (opened : PlainOpened) → opened.dtd ≡ dtd_of grammar.now →
+        opened.doc ≡ plain_doc doc.now → TakesCourse (IsCheckCourse root.now opened) result }
+    ensures counts { CountsJudged (width_stage (dtd_of grammar.now) (plain_doc doc.now))
+        (λ _. length (lists_of (plain_doc doc.now))) CountsNoMore (ending_of result)
+        steps.old steps.new }
+{
+    let verdicts = narrow_verdicts(rt, alloc, grammar, doc, root, steps)?;
+    Ok(check_line(alloc, &verdicts)?)
+}
+
+// What is told of the lists of a document, all of which are counted unless one is too wide.
+fn respond_told(alloc: Global, told: Told) -> Result<Response, Stop>
+    ensures tells { (root : List ℕ) (opened : PlainOpened) →
+        Tells opened.dtd root opened.doc told → TakesCourse (IsCheckCourse root opened) result }
+    ensures counts { (root : List ℕ) (opened : PlainOpened) (before after : ℕ) →
+        Tells opened.dtd root opened.doc told →
+        CountsTold (lists_of opened.doc) told before after →
+        CountsJudged (width_stage opened.dtd opened.doc) (λ _. length (lists_of opened.doc))
+        CountsNoMore (ending_of result) before after }
+{
+    match told {
+        Told::Possible(left) => Ok(possible(alloc, left)?),
+        Told::Impossible(path) => {
+            let places = path.places();
+            Err(refuse_path(alloc, Status::Negative, b"impossible ", places))
+        }
+        Told::TooWide(path) => {
+            let places = path.places();
+            Err(refuse_path(alloc, Status::Limit, b"limit width ", places))
+        }
+    }
+}
+
+// The same of a document that is opened first, so that threads share its lists. It is never freed.
+fn check_opened<L: Ledger>(
+    rt: &(impl Threads + Sync),
+    alloc: Global,
+    grammar: &Grammar,
+    root: &[u8],
+    bytes: &[u8],
+    steps: &mut Steps<L>,
+) -> Result<Response, Stop>
+    ensures finds { TakesCourse
+        (BehindDocument IsCheckCourse root.now (dtd_of grammar.now, bytes.now)) result }
+    ensures checks { CountsJudged (judging_stage root.now (dtd_of grammar.now) bytes.now)
+        lists_judged CountsNoMore (ending_of result) steps.old steps.new }
+{
+    match read_doc(alloc, bytes, root) {
+        Ok(doc) => {
+            let response = tell(rt, alloc, grammar, &doc, root, steps);
+            forget(doc);
+            response
+        }
+        Err(error) => Err(refuse_document(alloc, error)),
+    }
+}
+
+// What is done where a text has no answer: its fault is told, or it is opened.
+fn check_again<L: Ledger>(
+    rt: &(impl Threads + Sync),
+    alloc: Global,
+    grammar: &Grammar,
+    root: &[u8],
+    bytes: &[u8],
+    error: TextError,
+    steps: &mut Steps<L>,
+) -> Result<Response, Stop>
+    requires { RefusesBytes (DocumentMeans blank_mark root.now bytes.now) error }
+    ensures finds { TakesCourse
+        (BehindDocument IsCheckCourse root.now (dtd_of grammar.now, bytes.now)) result }
+    ensures checks { CountsJudged (judging_stage root.now (dtd_of grammar.now) bytes.now)
+        lists_judged CountsNoMore (ending_of result) steps.old steps.new }
+{
+    match error {
+        TextError::Document(fault) => Err(refuse_document(alloc, fault)),
+        TextError::LongLists => check_opened(rt, alloc, grammar, root, bytes, steps),
+    }
+}
+
+// Whether a small text is a valid document, or none. To find that takes a small part of the time
+// that a plan takes.
+fn needs_no_plan(alloc: Global, dtd: &Dtd, root: &[u8], bytes: &[u8]) -> bool {
+    let most = TEXT_FOR_COLUMN.saturating_mul(u64::from(dtd.columns()));
+    bytes.len() as u64 <= most && !matches!(first_invalid_in(alloc, dtd, root, bytes), Ok(Some(_)))
+}
+
+// The plan of the grammar, but for a text that needs none: the verdicts of a valid document rarely
+// do.
+fn plan_for(
+    alloc: Global,
+    grammar: &Grammar,
+    root: &[u8],
+    bytes: &[u8],
+) -> Result<Option<Plan>, NoMemory>
+    ensures { IfOk result (λ plan. IfSome plan (IsPlan (dtd_of grammar.now))) }
+{
+    if needs_no_plan(alloc, grammar.dtd(), root, bytes) {
+        return Ok(None);
+    }
+    let plan = Plan::of(alloc, grammar)?;
+    Ok(Some(plan))
+}
+
+// What judges by the plan, where there is one.
+fn judge_by<'a>(alloc: Global, grammar: &'a Grammar, plan: &'a Option<Plan>) -> Judge<'a>
+    requires { IfSome plan.now (IsPlan (dtd_of grammar.now)) }
+    ensures { result ≡ grammar.now }
+{
+    match plan {
+        Some(plan) => Judge::new(alloc, grammar, plan),
+        None => Judge::without_plan(alloc, grammar),
+    }
+}
+
+/// Whether inserting elements can make a document valid for a DTD.
+pub fn check<L: Ledger>(
+    rt: &(impl Threads + Sync),
+    alloc: Global,
+    fetched: Fetched,
+    root: &[u8],
+    steps: &mut Steps<L>,
+) -> Result<Response, Stop>
+    ensures finds { TakesCourse (BehindDocument IsCheckCourse root.now (plain_fetched fetched))
+        result }
+    ensures checks { CountsJudged (judging_stage root.now (plain_fetched fetched).0
+        (plain_fetched fetched).1) lists_judged CountsNoMore (ending_of result)
+        steps.old steps.new }
+{
+    let Fetched { dtd, bytes } = fetched;
+    let grammar = build(alloc, dtd)?;
+    let plan = plan_for(alloc, &grammar, root, &bytes)?;
+    let judge = judge_by(alloc, &grammar, &plan);
+    match check_text(&judge, root, &bytes, steps) {
+        Ok(told) => respond_told(alloc, told),
+        Err(error) => check_again(rt, alloc, &grammar, root, &bytes, error, steps),
+    }
+}

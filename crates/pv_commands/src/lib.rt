@@ -1,0 +1,16 @@
+//! The commands that need no session, each behind the command line: what it is given are the names
+//! of its files, or a DTD and a document's bytes that were fetched. `valid`, `check`, `complete`
+//! and `why` read such a document and do what is defined for it (`specs/Valid.antt`, and so on);
+//! `dtd`, `verify`, `deny` and `standoff` open their files themselves. Each returns its response,
+//! which the definition of its course allows over such files, each fault of the shelf with its
+//! cause, how often the shelf was asked, and how many lists were counted (`specs/Returns.antt`).
+#![tactic(auto)]
+
+pub mod check;
+pub mod complete;
+pub mod deny;
+pub mod dtd;
+pub mod standoff;
+pub mod valid;
+pub mod verify;
+pub mod why;
