@@ -24,35 +24,49 @@ module _ (dtd root doc file : List ℕ) (files : Files) where
   abbrev line : Option PlainCommandLine
   line = Some (on_certificate Deny dtd root doc file)
 
-  stage_undone : (r : PlainResponse) (k : ℕ) → (certificate_stage denial_file_stage root files).Refuses r k → IsUndone r
+  stage_undone : (r : PlainResponse) (k : ℕ) →
+      (certificate_stage denial_file_stage root files).Refuses r k → IsUndone r
   stage_undone r k (inl denies) = opening_undone root files r k denies
   stage_undone r k (inr (o, i, j, opens, denies, e)) = denial_file_undone _ r j denies
 
   module _ {S : Type 0} (before after : Devices S) where
-    tells_impossible : (both : PlainOpened × Denial) (k : ℕ) (r : PlainResponse) → (certificate_stage denial_file_stage root files).Opens both k → r.status ≡ Done →
-        Appends before.output.written after.output.written r.output → TellsJudgement root both.0.dtd both.0.doc both.1 r → ShowsImpossible line files root before after
+    tells_impossible : (both : PlainOpened × Denial) (k : ℕ) (r : PlainResponse) →
+        (certificate_stage denial_file_stage root files).Opens both k → r.status ≡ Done →
+        Appends before.output.written after.output.written r.output →
+        TellsJudgement root both.0.dtd both.0.doc both.1 r →
+        ShowsImpossible line files root before after
     tells_impossible both k r opens done written (is_denied judges never is) = record {
       dtd = both.0.dtd;
       doc = both.0.doc;
       denial = both.1;
       reads = denial_reads dtd root doc file files both k opens;
       impossible = never;
-      written = subst (Appends before.output.written after.output.written) (ap (λ (p : PlainResponse). p.output) is) written;
+      written = subst (Appends before.output.written after.output.written)
+          (ap (λ (p : PlainResponse). p.output) is) written;
     }
-    tells_impossible both k r opens done written (is_rejected test fails is) = absurd (undone Negative r _ no_negative_done is refl done)
-    tells_impossible both k r opens done written (is_too_wide wide is) = absurd (undone Limit r _ no_limit_done is refl done)
+    tells_impossible both k r opens done written (is_rejected test fails is) =
+        absurd (undone Negative r _ no_negative_done is refl done)
+    tells_impossible both k r opens done written (is_too_wide wide is) =
+        absurd (undone Limit r _ no_limit_done is refl done)
 
-    shows : (course : Course) (all : WroteAll course.ending before.output.written after.output.written) →
-        GoesWith (certificate_stage denial_file_stage root files) (λ both. Responds (TellsJudgement root both.0.dtd both.0.doc both.1)) course ⊎
-        ((k : ℕ) × (certificate_stage denial_file_stage root files).Refuses all.response k) → ShowsImpossible line files root before after
+    shows : (course : Course)
+        (all : WroteAll course.ending before.output.written after.output.written) →
+        GoesWith (certificate_stage denial_file_stage root files)
+        (λ both. Responds (TellsJudgement root both.0.dtd both.0.doc both.1)) course ⊎
+        ((k : ℕ) × (certificate_stage denial_file_stage root files).Refuses all.response k) →
+        ShowsImpossible line files root before after
     shows course all (inl goes) =
         let both = goes.x in
-        let t = told (TellsJudgement root both.0.dtd both.0.doc both.1) goes.rest all.response goes.goes (sym (ap (λ (c : Course). c.ending) goes.is_rest) ∙ all.is_ending) in
+        let t = told (TellsJudgement root both.0.dtd both.0.doc both.1) goes.rest all.response
+        goes.goes (sym (ap (λ (c : Course). c.ending) goes.is_rest) ∙ all.is_ending) in
         tells_impossible both goes.count all.response goes.opens all.is_done all.written t
-    shows course all (inr refuses) = absurd (stage_undone all.response refuses.0 refuses.1 all.is_done)
+    shows course all (inr refuses) =
+        absurd (stage_undone all.response refuses.0 refuses.1 all.is_done)
 
 pub denies_impossible : (S : Type 0) → DeniesImpossible S
 denies_impossible S dtd root doc file before after run =
     let all = wrote_all run.course.ending _ _ _ _ run.streams.output in
     shows dtd root doc file run.files before after run.course all
-    (went_on (certificate_stage denial_file_stage root run.files) (λ both. Responds (TellsJudgement root both.0.dtd both.0.doc both.1)) run.course all.response run.is_defined all.is_ending)
+    (went_on (certificate_stage denial_file_stage root run.files)
+    (λ both. Responds (TellsJudgement root both.0.dtd both.0.doc both.1)) run.course all.response
+    run.is_defined all.is_ending)

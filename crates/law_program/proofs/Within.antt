@@ -20,7 +20,8 @@ use Rattle.pv_standoff.specs.declared.errors.RangesError.TheVariants.{Limit as T
 use Rattle.law_program.specs.Causes.{PassesLimit, RespondsBy}
 use Rattle.law_program.specs.Causes.{IsBadDtd, HasBadParameters, IsBadDocument, IsBadText}
 use Rattle.law_program.specs.Causes.{IsBadPack, IsBadRanges, AreUnnested}
-use Rattle.law_program.specs.Causes.{IsBadDenial, denial_values, denial_file, in_denial, denial_width}
+use Rattle.law_program.specs.Causes.{IsBadDenial, denial_values, denial_file, in_denial}
+use Rattle.law_program.specs.Causes.{denial_width}
 use Rattle.law_program.specs.Causes.{dtd_file, document_file, parameters, in_dtd, in_document}
 use Rattle.law_program.specs.Causes.{document_bytes, list_width, weights_width, missing_elements}
 use Rattle.law_program.specs.Causes.{table_entries, pack_file, in_pack, pack_width, text_file}

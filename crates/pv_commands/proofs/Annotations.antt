@@ -97,7 +97,7 @@ module _ (dtd root text ranges : List ℕ) (before after : ShelfNow) where
   annotation_found checked checked_now given result over finds counts =
       let files = files_of over.files in
       let Goes = Behind (beside (plain_dtd given.0.0) (nesting_stage root given.0.1 given.1))
-        (λ nested. IsShownCourse root nested.0 nested.1) in
+      (λ nested. IsShownCourse root nested.0 nested.1) in
       record {
         files = files;
         are_files = (over.are_such.0.0, (over.are_such.0.1, (over.are_such.1, tt)));
@@ -126,7 +126,7 @@ pub nested_counts : (root : List ℕ) (g d : PlainDtd) (text : List (List ℕ)) 
     after
 nested_counts root g d text ranges doc ending before after opens same counts =
     let here = subst (λ (h : PlainDtd). CountsJudged (width_stage h doc)
-      (λ _. length (lists_of doc)) CountsNoMore ending before after) same counts in
+    (λ _. length (lists_of doc)) CountsNoMore ending before after) same counts in
     judged_second (beside g (nesting_stage root text ranges))
     (λ nested. beside nested (width_stage nested.0 nested.1)) nested_lists CountsNoMore (g, doc) 0
     ending before after (refl, opens)
@@ -147,7 +147,14 @@ pub record CanNest (text : List (List ℕ)) (ranges : List Range) : Type 0 where
 pub can_nest : TextsHaveNoCloseMark → (files : ThreeFiles)
     (given : (PlainDtd × List (List ℕ)) × List Range) (k : ℕ) →
     (three_stage files).Opens given k → CanNest given.0.1 given.1
-can_nest none files given k (both, i, j, (g, a, b, dtd, (same, (bytes, u, v, fetched, text, e)), f), (are, (lines, x, y, more, ranges, h)), l) = record {
+can_nest none files given k (
+  both,
+  i,
+  j,
+  (g, a, b, dtd, (same, (bytes, u, v, fetched, text, e)), f),
+  (are, (lines, x, y, more, ranges, h)),
+  l,
+) = record {
   named = named _ given.1 ranges.0.0;
   few = ranges.0.1;
   no_close_mark = none bytes given.0.1

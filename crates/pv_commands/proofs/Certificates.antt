@@ -43,8 +43,8 @@ module _ {X Z : Type 0} (Takes : Files → Course → Type 0) (dtd root doc name
     (plain : X → Z) (reading : Option (List ℕ) → Stage Z)
     (Told : PlainOpened × Z → PlainResponse → Type 0)
     (is : (files : Files) (course : Course) →
-        Behind (certificate_stage reading root files) (λ both. Responds (Told both)) course →
-        Takes files course)
+    Behind (certificate_stage reading root files) (λ both. Responds (Told both)) course →
+    Takes files course)
     (before : ShelfNow) (checked : ℕ) where
   abbrev Finds : ShelfNow → Result Response Stop → Type 0
   Finds after result =
@@ -122,9 +122,14 @@ module _ {X Z : Type 0} (Takes : Files → Course → Type 0) (dtd root doc name
               (same_shelf second.files second.are_such);
           fetches = (first.fetches + second.fetches) + 0;
           takes = is files _
-              (opened both (first.fetches + second.fetches) (without_input 0 (ending_of result))
-              (plain_opened o, first.fetches, second.fetches, first.returns, (refl, second.returns),
-              refl) goes refl);
+              (opened both (first.fetches + second.fetches) (without_input 0 (ending_of result)) (
+                plain_opened o,
+                first.fetches,
+                second.fetches,
+                first.returns,
+                (refl, second.returns),
+                refl,
+              ) goes refl);
           shelf = record {
             calls = let one = first.calls in let more = second.calls in omega arith;
             faults = stays_from (CountsShelf (ending_of result)) before.faults after.faults

@@ -18,7 +18,7 @@ pub judged_document : (root : List ℕ) (g d : PlainDtd) (bytes : List ℕ) (ope
     CountsJudged (judging_stage root g bytes) lists_judged CountsNoMore ending before after
 judged_document root g d bytes opened ending before after opens same counts =
     let here = subst (λ (h : PlainDtd). CountsJudged (width_stage h opened.doc)
-      (λ _. length (lists_of opened.doc)) CountsNoMore ending before after) same counts in
+    (λ _. length (lists_of opened.doc)) CountsNoMore ending before after) same counts in
     judged_second (document_stage root g bytes) (λ o. beside o (width_stage o.dtd o.doc))
     lists_judged CountsNoMore opened 0 ending before after opens
     (judged_beside opened (width_stage opened.dtd opened.doc) lists_judged CountsNoMore ending

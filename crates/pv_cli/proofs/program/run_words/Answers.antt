@@ -86,7 +86,8 @@ run_on_certificate-requires-clause-doc_named g c =
     let named = rw c.in-Some-OnCertificate.field-0-is at c.in-Some-OnCertificate.ensures.named in
     rw c.requires.names named.1.0
 
-pub run_on_certificate-requires-clause-file_named : goal.run_on_certificate-requires-clause-file_named
+pub run_on_certificate-requires-clause-file_named :
+    goal.run_on_certificate-requires-clause-file_named
 run_on_certificate-requires-clause-file_named g c =
     let named = rw c.in-Some-OnCertificate.field-0-is at c.in-Some-OnCertificate.ensures.named in
     rw c.requires.names named.1.1.0
@@ -107,7 +108,8 @@ standoff-requires-clause-ranges_named g c =
     rw c.requires.names (λ κs l. named.1.1.0)
 
 pub standoff-requires-clause-root_named : goal.standoff-requires-clause-root_named
-standoff-requires-clause-root_named g c = λ κs l. rw c.in-Some-OnRanges.field-0-is at c.in-Some-OnRanges.ensures.sized
+standoff-requires-clause-root_named g c =
+    λ κs l. rw c.in-Some-OnRanges.field-0-is at c.in-Some-OnRanges.ensures.sized
 
 pub dtd-requires : goal.dtd-requires
 dtd-requires g c =

@@ -28,12 +28,14 @@ returns-in_err-grammar-clause-checks g c =
 
 pub returns-in_err-plan-clause-finds : goal.returns-in_err-plan-clause-finds
 returns-in_err-plan-clause-finds g c =
-    let p = err_from_is_err_and c.from_residual-in_err-plan.result c.from_residual-in_err-plan.ensures.1 in
+    let p = err_from_is_err_and c.from_residual-in_err-plan.result
+    c.from_residual-in_err-plan.ensures.1 in
     rw (p.1, p.2) (short_of_memory 0 refl refl)
 
 pub returns-in_err-plan-clause-checks : goal.returns-in_err-plan-clause-checks
 returns-in_err-plan-clause-checks g c =
-    let p = err_from_is_err_and c.from_residual-in_err-plan.result c.from_residual-in_err-plan.ensures.1 in
+    let p = err_from_is_err_and c.from_residual-in_err-plan.result
+    c.from_residual-in_err-plan.ensures.1 in
     rw (p.1, p.2) (judges_none (without_memory refl) refl)
 
 pub returns-in-Ok-clause-finds : goal.returns-in-Ok-clause-finds
@@ -44,8 +46,12 @@ returns-in-Ok-clause-finds g c =
     let read = rw c.deref-2.ensures.value at c.in-Ok.ensures.read in
     let opened : PlainOpened = record { dtd = d; bytes = bytes; doc = read.0 } in
     let is_text = (spelled_where_meant blank_mark root bytes read.0 read.1).0 in
-    let tells = subst (λ (h : PlainDtd). Tells h root read.0 c.in-Ok.told) (ap dtd_of c.judge_by-judge.ensures ∙ c.in_ok-grammar.ensures) ((rw c.deref-2.ensures.value at c.in-Ok.ensures.tells) read.0 read.1) in
-    found_behind (document_stage root d bytes) (IsCheckCourse root) opened c.respond_told.result (record { is_dtd = refl; are_bytes = refl; is_text = is_text }, refl) (c.respond_told.ensures.tells root opened tells)
+    let tells = subst (λ (h : PlainDtd). Tells h root read.0 c.in-Ok.told)
+    (ap dtd_of c.judge_by-judge.ensures ∙ c.in_ok-grammar.ensures)
+    ((rw c.deref-2.ensures.value at c.in-Ok.ensures.tells) read.0 read.1) in
+    found_behind (document_stage root d bytes) (IsCheckCourse root) opened c.respond_told.result
+    (record { is_dtd = refl; are_bytes = refl; is_text = is_text }, refl)
+    (c.respond_told.ensures.tells root opened tells)
 
 pub returns-in-Ok-clause-checks : goal.returns-in-Ok-clause-checks
 returns-in-Ok-clause-checks g c =
@@ -55,9 +61,15 @@ returns-in-Ok-clause-checks g c =
     let read = rw c.deref-2.ensures.value at c.in-Ok.ensures.read in
     let opened : PlainOpened = record { dtd = d; bytes = bytes; doc = read.0 } in
     let is_text = (spelled_where_meant blank_mark root bytes read.0 read.1).0 in
-    let tells = subst (λ (h : PlainDtd). Tells h root read.0 c.in-Ok.told) (ap dtd_of c.judge_by-judge.ensures ∙ c.in_ok-grammar.ensures) ((rw c.deref-2.ensures.value at c.in-Ok.ensures.tells) read.0 read.1) in
-    judged_document root d d bytes opened _ _ _ (record { is_dtd = refl; are_bytes = refl; is_text = is_text }, refl) refl
-    (c.respond_told.ensures.counts root opened _ _ tells ((rw c.deref-2.ensures.value at c.in-Ok.ensures.counts) read.0 read.1))
+    let tells = subst (λ (h : PlainDtd). Tells h root read.0 c.in-Ok.told)
+    (ap dtd_of c.judge_by-judge.ensures ∙ c.in_ok-grammar.ensures)
+    ((rw c.deref-2.ensures.value at c.in-Ok.ensures.tells) read.0 read.1) in
+    judged_document root d d bytes opened _ _ _
+    (record { is_dtd = refl; are_bytes = refl; is_text = is_text }, refl) refl
+    (c.respond_told.ensures.counts root opened _ _ tells
+    ((rw c.deref-2.ensures.value at c.in-Ok.ensures.counts) read.0 read.1))
 
 pub returns-clause-checks : goal.returns-clause-checks
-returns-clause-checks g c = rw (c.in-Err.ensures.uncounted, c.in_ok-grammar.ensures, c.deref-in-Err.ensures.value) at c.check_again.ensures.checks
+returns-clause-checks g c =
+    rw (c.in-Err.ensures.uncounted, c.in_ok-grammar.ensures, c.deref-in-Err.ensures.value)
+    at c.check_again.ensures.checks

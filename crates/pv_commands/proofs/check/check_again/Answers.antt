@@ -14,13 +14,19 @@ returns-in-Document-clause-finds g c =
     let root = c.args.root.now in
     let d = dtd_of c.args.grammar.now in
     let bytes = c.args.bytes.now in
-    stop_found (document_stage root d bytes) (IsCheckCourse root) c.refuse_document.result (λ never. never)
-    (refusal_stops (OpensDocument root d bytes) (RefusesDocument root bytes) c.refuse_document.result (c.refuse_document.ensures root bytes (rw c.in-Document.is at c.requires)))
+    stop_found (document_stage root d bytes) (IsCheckCourse root) c.refuse_document.result
+    (λ never. never)
+    (refusal_stops (OpensDocument root d bytes) (RefusesDocument root bytes)
+    c.refuse_document.result
+    (c.refuse_document.ensures root bytes (rw c.in-Document.is at c.requires)))
 
 pub returns-in-Document-clause-checks : goal.returns-in-Document-clause-checks
 returns-in-Document-clause-checks g c =
     let root = c.args.root.now in
     let d = dtd_of c.args.grammar.now in
     let bytes = c.args.bytes.now in
-    stops_first (document_stage root d bytes) (λ o. beside o (width_stage o.dtd o.doc)) lists_judged CountsNoMore 0 c.refuse_document.result _ _
-    (refusal_stops (OpensDocument root d bytes) (RefusesDocument root bytes) c.refuse_document.result (c.refuse_document.ensures root bytes (rw c.in-Document.is at c.requires))) refl
+    stops_first (document_stage root d bytes) (λ o. beside o (width_stage o.dtd o.doc)) lists_judged
+    CountsNoMore 0 c.refuse_document.result _ _
+    (refusal_stops (OpensDocument root d bytes) (RefusesDocument root bytes)
+    c.refuse_document.result
+    (c.refuse_document.ensures root bytes (rw c.in-Document.is at c.requires))) refl

@@ -1,4 +1,5 @@
-use Rattle.std.proofs.Common.{◌≡◌, ◌++◌, ◌∙◌, ℕ, List, Some, None, Result, Ok, Err, IfOk, ap, codes, refl, sym}
+use Rattle.std.proofs.Common.{◌≡◌, ◌++◌, ◌∙◌, ℕ, List, Some, None, Result, Ok, Err, IfOk, ap, codes}
+use Rattle.std.proofs.Common.{refl, sym}
 use Rattle.std.specs.Prelude.{IsNone}
 use Rattle.std.specs.Option.{option_copied}
 use Rattle.pv_dtd.specs.Plain.{PlainDtd}
@@ -14,29 +15,45 @@ use Rattle.pv_stages.specs.declared.response.Response.{Response}
 use Rattle.pv_stages.specs.declared.status.Status.TheVariants.{Done, Negative}
 use Rattle.pv_commands.proofs.check.check_line.Goals as goal
 
-module _ (root : List ℕ) (g : PlainDtd) (doc : PlainDoc Mark) (vs : PlainVerdicts) (has : AreVerdictsOf root g doc vs) where
-  impossible_told : (path : List ℕ) (r : PlainResponse) → vs.first ≡ Some path → r ≡ with_line Negative (codes "impossible " ++ path_text path) → TellsPossibility root g doc r
+module _ (root : List ℕ) (g : PlainDtd) (doc : PlainDoc Mark) (vs : PlainVerdicts)
+    (has : AreVerdictsOf root g doc vs) where
+  impossible_told : (path : List ℕ) (r : PlainResponse) → vs.first ≡ Some path →
+      r ≡ with_line Negative (codes "impossible " ++ path_text path) → TellsPossibility root g doc r
   impossible_told path r is told =
       let first : IsFirstImpossible g root (lists_of doc) path = rw is at has.verdicts.is_first in
-      is_no_more (is_impossible path (λ possible. (let none : IsNone (Some path) = rw is at (has.possible.1 possible) in absurd cc)) first told)
+      is_no_more (is_impossible path
+      (λ possible.
+      (let none : IsNone (Some path) = rw is at (has.possible.1 possible) in absurd cc)) first told)
 
-  impossible_line : {E : Type 0} (path : List ℕ) (result : Result Response E) → vs.first ≡ Some path → IfOk result (λ r. plain_response r ≡ with_line Negative (codes "impossible " ++ path_text path)) →
+  impossible_line : {E : Type 0} (path : List ℕ) (result : Result Response E) →
+      vs.first ≡ Some path →
+      IfOk result (λ r. plain_response r ≡ with_line Negative
+      (codes "impossible " ++ path_text path)) →
       IfOk result (λ r. TellsPossibility root g doc (plain_response r))
   impossible_line path (Ok r) is told = impossible_told path (plain_response r) is told
   impossible_line path (Err e) is told = tt
 
-  possible_line : {E : Type 0} (left : ℕ) (result : Result Response E) → vs.first ≡ None → left ≡ possible_in vs.verdicts → IfOk result (λ r. plain_response r ≡ with_line Done (possible_text left)) → IfOk result (λ r. TellsPossibility root g doc (plain_response r))
+  possible_line : {E : Type 0} (left : ℕ) (result : Result Response E) → vs.first ≡ None →
+      left ≡ possible_in vs.verdicts →
+      IfOk result (λ r. plain_response r ≡ with_line Done (possible_text left)) →
+      IfOk result (λ r. TellsPossibility root g doc (plain_response r))
   possible_line left (Ok r) is counts told =
-      is_possible left (has.possible.0 (rw is refl)) (record { verdicts = vs.verdicts; are_verdicts = has.verdicts.are_verdicts; count = counts }) told
+      is_possible left (has.possible.0 (rw is refl))
+      (record { verdicts = vs.verdicts; are_verdicts = has.verdicts.are_verdicts; count = counts })
+      told
   possible_line left (Err e) is counts told = tt
 
 pub returns-in-Some : goal.returns-in-Some
 returns-in-Some c = λ root g doc has.
     let path = c.in-Some.path.now in
-    let first : c.args.verdicts.now.first ≡ Some path = sym c.first_impossible.ensures ∙ ap option_copied c.in-Some.is in
-    impossible_line root g doc c.args.verdicts.now has path c.with_path.result first (rw c.places.ensures at c.with_path.ensures)
+    let first : c.args.verdicts.now.first ≡ Some path =
+    sym c.first_impossible.ensures ∙ ap option_copied c.in-Some.is in
+    impossible_line root g doc c.args.verdicts.now has path c.with_path.result first
+    (rw c.places.ensures at c.with_path.ensures)
 
 pub returns-in-None : goal.returns-in-None
 returns-in-None c = λ root g doc has.
-    let none : c.args.verdicts.now.first ≡ None = sym c.first_impossible.ensures ∙ ap option_copied c.in-None.is in
-    possible_line root g doc c.args.verdicts.now has c.left.result c.possible.result none c.left.ensures c.possible.ensures
+    let none : c.args.verdicts.now.first ≡ None =
+    sym c.first_impossible.ensures ∙ ap option_copied c.in-None.is in
+    possible_line root g doc c.args.verdicts.now has c.left.result c.possible.result none
+    c.left.ensures c.possible.ensures

@@ -18,7 +18,9 @@ returns-in_err-dtd c =
     let root = c.args.root.now in
     let stage = document_stage root (plain_dtd c.args.fetched.dtd) c.args.fetched.bytes.items in
     let p = err_from_is_err_and c.from_residual.result c.from_residual.ensures.1 in
-    rw (p.1, p.2) (stop_found stage (IsCompleteCourse root) c.in_err-dtd.field-0.0 (λ never. never) c.in_err-dtd.ensures)
+    rw (p.1, p.2)
+    (stop_found stage (IsCompleteCourse root) c.in_err-dtd.field-0.0 (λ never. never)
+    c.in_err-dtd.ensures)
 
 pub returns-in_err-grammar : goal.returns-in_err-grammar
 returns-in_err-grammar c =
@@ -30,4 +32,5 @@ returns c =
     let root = c.args.root.now in
     let both = plain_opened c.in_ok-dtd.field-0 in
     let stage = document_stage root (plain_dtd c.args.fetched.dtd) c.args.fetched.bytes.items in
-    found_behind stage (IsCompleteCourse root) both c.tell-response.result c.in_ok-dtd.ensures (c.tell-response.ensures both (sym c.in_ok-grammar.ensures) refl)
+    found_behind stage (IsCompleteCourse root) both c.tell-response.result c.in_ok-dtd.ensures
+    (c.tell-response.ensures both (sym c.in_ok-grammar.ensures) refl)

@@ -13,7 +13,8 @@ returns-in_err-write_pack-in-Ok c = λ opened is are.
 
 pub returns-in_ok-write_pack-in-Ok : goal.returns-in_ok-write_pack-in-Ok
 returns-in_ok-write_pack-in-Ok c = λ opened is are.
-    packs_told c.args.root.now (dtd_of c.args.grammar.now) opened.dtd (plain_doc c.args.doc.now) opened.doc c.in-Ok.pack c.in_ok-write_pack-in-Ok.field-0.items is are c.in-Ok.ensures.least
+    packs_told c.args.root.now (dtd_of c.args.grammar.now) opened.dtd (plain_doc c.args.doc.now)
+    opened.doc c.in-Ok.pack c.in_ok-write_pack-in-Ok.field-0.items is are c.in-Ok.ensures.least
     c.in-Ok.ensures.verifiable c.in_ok-write_pack-in-Ok.ensures.spelled
 
 pub returns-in-Err : goal.returns-in-Err
@@ -21,4 +22,6 @@ returns-in-Err c = λ opened is are.
     let d = dtd_of c.args.grammar.now in
     let doc = plain_doc c.args.doc.now in
     packs_as c.args.root.now d opened.dtd doc opened.doc (Err c.refuse_pack.result) is are
-    (found_refused c.args.root.now d doc c.in-Err.error c.refuse_pack.result (rw c.dtd.ensures at c.proper_dtd_law.ensures) c.proper_doc_law.ensures c.in-Err.ensures.refused c.refuse_pack.ensures)
+    (found_refused c.args.root.now d doc c.in-Err.error c.refuse_pack.result
+    (rw c.dtd.ensures at c.proper_dtd_law.ensures) c.proper_doc_law.ensures c.in-Err.ensures.refused
+    c.refuse_pack.ensures)

@@ -5,4 +5,6 @@ use Rattle.pv_stages.specs.Returns.{TellsBy}
 use Rattle.pv_commands.proofs.dtd.listing.Goals as goal
 
 pub returns : goal.returns
-returns c = subst (λ (d : PlainDtd). TellsBy (TellsDtd d) c.tell.result) c.in_ok-grammar.ensures c.tell.ensures
+returns c =
+    subst (λ (d : PlainDtd). TellsBy (TellsDtd d) c.tell.result) c.in_ok-grammar.ensures
+    c.tell.ensures

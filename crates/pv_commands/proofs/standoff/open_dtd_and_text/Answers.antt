@@ -16,17 +16,25 @@ returns-in_err-dtd-clause-over g c =
     let named = c.args.named.now in
     let third = some_file _ named.text.now in
     let p = err_from_is_err_and c.from_residual.result c.from_residual.ensures.1 in
-    rw (p.1, p.2) (first_stops (OfName named.dtd.now) (OfName named.text.now) plain_dtd dtd_file_stage (λ (u : List (List ℕ)). u) text_file_stage _ _ c.in_err-dtd.field-0.0 third.0 third.1 c.in_err-dtd.ensures.over)
+    rw (p.1, p.2)
+    (first_stops (OfName named.dtd.now) (OfName named.text.now) plain_dtd dtd_file_stage
+    (λ (u : List (List ℕ)). u) text_file_stage _ _ c.in_err-dtd.field-0.0 third.0 third.1
+    c.in_err-dtd.ensures.over)
 
 pub returns-in_err-text-clause-over : goal.returns-in_err-text-clause-over
 returns-in_err-text-clause-over g c =
     let named = c.args.named.now in
-    let p = err_from_is_err_and c.from_residual-in_err-text.result c.from_residual-in_err-text.ensures.1 in
-    rw (p.1, p.2) (second_stops (OfName named.dtd.now) (OfName named.text.now) plain_dtd dtd_file_stage (λ (u : List (List ℕ)). u) text_file_stage _ _ _ c.in_ok-dtd.dtd c.in_ok-dtd.ensures.over
+    let p = err_from_is_err_and c.from_residual-in_err-text.result
+    c.from_residual-in_err-text.ensures.1 in
+    rw (p.1, p.2)
+    (second_stops (OfName named.dtd.now) (OfName named.text.now) plain_dtd dtd_file_stage
+    (λ (u : List (List ℕ)). u) text_file_stage _ _ _ c.in_ok-dtd.dtd c.in_ok-dtd.ensures.over
     c.in_err-text.field-0.0 c.in_err-text.ensures.over)
 
 pub returns-clause-over : goal.returns-clause-over
 returns-clause-over g c =
     let named = c.args.named.now in
-    both_open (OfName named.dtd.now) (OfName named.text.now) plain_dtd dtd_file_stage (λ (u : List (List ℕ)). u) text_file_stage _ _ _ c.in_ok-dtd.dtd c.in_ok-dtd.ensures.over c.in_ok-text.text
+    both_open (OfName named.dtd.now) (OfName named.text.now) plain_dtd dtd_file_stage
+    (λ (u : List (List ℕ)). u) text_file_stage _ _ _ c.in_ok-dtd.dtd c.in_ok-dtd.ensures.over
+    c.in_ok-text.text
     c.in_ok-text.ensures.over

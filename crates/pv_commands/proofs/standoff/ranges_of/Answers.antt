@@ -9,13 +9,21 @@ use Rattle.pv_stages.proofs.Stages.{refusal_stops, stops_as}
 use Rattle.pv_commands.proofs.standoff.ranges_of.Goals as goal
 
 -- a stop with the response to the first line that is none
-refused : (bytes : List ℕ) (e : RangesError) (stop : Stop) → (e ≡ NoMemory) ⊎ RangesMean bytes (Err e) → RefusesWith (IsRangesRefusal e) stop → StopsBy (ranges_stage bytes) 0 stop
+refused : (bytes : List ℕ) (e : RangesError) (stop : Stop) →
+    (e ≡ NoMemory) ⊎ RangesMean bytes (Err e) → RefusesWith (IsRangesRefusal e) stop →
+    StopsBy (ranges_stage bytes) 0 stop
 refused bytes e stop (inl none) told =
-    refusal_stops (λ u. RangesMean bytes (Ok u)) (RefusesRanges bytes) stop (stops_as (IsRangesRefusal e) (RefusesRanges bytes) stop (λ r is. absurd (subst (λ (f : RangesError). IsRangesRefusal f r) none is)) told)
-refused bytes e stop (inr means) told = refusal_stops (λ u. RangesMean bytes (Ok u)) (RefusesRanges bytes) stop (stops_as (IsRangesRefusal e) (RefusesRanges bytes) stop (λ r is. no_ranges e means is) told)
+    refusal_stops (λ u. RangesMean bytes (Ok u)) (RefusesRanges bytes) stop
+    (stops_as (IsRangesRefusal e) (RefusesRanges bytes) stop
+    (λ r is. absurd (subst (λ (f : RangesError). IsRangesRefusal f r) none is)) told)
+refused bytes e stop (inr means) told =
+    refusal_stops (λ u. RangesMean bytes (Ok u)) (RefusesRanges bytes) stop
+    (stops_as (IsRangesRefusal e) (RefusesRanges bytes) stop (λ r is. no_ranges e means is) told)
 
 pub returns-in-Ok : goal.returns-in-Ok
 returns-in-Ok c = (c.in-Ok.ensures.read, refl)
 
 pub returns-in-Err : goal.returns-in-Err
-returns-in-Err c = refused c.args.bytes.now c.in-Err.error c.refuse_ranges.result c.in-Err.ensures.read c.refuse_ranges.ensures
+returns-in-Err c =
+    refused c.args.bytes.now c.in-Err.error c.refuse_ranges.result c.in-Err.ensures.read
+    c.refuse_ranges.ensures

@@ -18,8 +18,11 @@ use Rattle.pv_stages.proofs.Stages.{found_behind, stop_found, tells_found}
 use Rattle.pv_commands.proofs.standoff.show.Goals as goal
 
 -- the same, of the opened DTD
-shows_as : (root : List ℕ) (g d : PlainDtd) (doc : PlainDoc Mark) (result : Result Response Stop) → d ≡ g → TakesCourse (IsShownCourse root g doc) result → TakesCourse (IsShownCourse root d doc) result
-shows_as root g d doc result is finds = subst (λ (h : PlainDtd). TakesCourse (IsShownCourse root h doc) result) (sym is) finds
+shows_as : (root : List ℕ) (g d : PlainDtd) (doc : PlainDoc Mark) (result : Result Response Stop) →
+    d ≡ g → TakesCourse (IsShownCourse root g doc) result →
+    TakesCourse (IsShownCourse root d doc) result
+shows_as root g d doc result is finds =
+    subst (λ (h : PlainDtd). TakesCourse (IsShownCourse root h doc) result) (sym is) finds
 
 pub returns-in_err-verdicts-clause-tells : goal.returns-in_err-verdicts-clause-tells
 returns-in_err-verdicts-clause-tells g c = λ d is.
@@ -27,16 +30,21 @@ returns-in_err-verdicts-clause-tells g c = λ d is.
     let doc = plain_doc c.args.doc.now in
     let p = err_from_is_err_and c.from_residual.result c.from_residual.ensures.1 in
     let stop = c.in_err-verdicts.field-0.0 in
-    rw (p.1, p.2) (shows_as c.args.root.now own d doc (Err stop) is (stop_found (width_stage own doc) (λ _. Responds (TellsNested c.args.root.now own doc)) stop (λ never. never) c.in_err-verdicts.ensures.denied))
+    rw (p.1, p.2)
+    (shows_as c.args.root.now own d doc (Err stop) is
+    (stop_found (width_stage own doc) (λ _. Responds (TellsNested c.args.root.now own doc)) stop
+    (λ never. never) c.in_err-verdicts.ensures.denied))
 
 pub returns-in_err-line-clause-tells : goal.returns-in_err-line-clause-tells
 returns-in_err-line-clause-tells g c = λ d is.
-    let p = err_from_is_err_and c.from_residual-in_err-line.result c.from_residual-in_err-line.ensures.1 in
+    let p = err_from_is_err_and c.from_residual-in_err-line.result
+    c.from_residual-in_err-line.ensures.1 in
     rw (p.1, p.2) (short_of_memory 0 refl refl)
 
 pub returns-in_err-with_document-clause-tells : goal.returns-in_err-with_document-clause-tells
 returns-in_err-with_document-clause-tells g c = λ d is.
-    let p = err_from_is_err_and c.from_residual-in_err-with_document.result c.from_residual-in_err-with_document.ensures.1 in
+    let p = err_from_is_err_and c.from_residual-in_err-with_document.result
+    c.from_residual-in_err-with_document.ensures.1 in
     rw (p.1, p.2) (short_of_memory 0 refl refl)
 
 pub returns-clause-tells : goal.returns-clause-tells
@@ -51,19 +59,27 @@ returns-clause-tells g c = λ d is.
       tells = c.in_ok-line.ensures root own doc has;
       is_response = c.in_ok-with_document.ensures;
     } in
-    shows_as root own d doc result is (found_behind (width_stage own doc) (λ _. Responds (TellsNested root own doc)) tt result (has.narrow, refl) (tells_found (TellsNested root own doc) result told))
+    shows_as root own d doc result is
+    (found_behind (width_stage own doc) (λ _. Responds (TellsNested root own doc)) tt result
+    (has.narrow, refl) (tells_found (TellsNested root own doc) result told))
 
 pub returns-in_err-verdicts-clause-counts : goal.returns-in_err-verdicts-clause-counts
 returns-in_err-verdicts-clause-counts g c =
     let stop = c.in_err-verdicts.field-0.0 in
     let p = err_from_is_err_and c.from_residual.result c.from_residual.ensures.1 in
-    rw (p.1, p.2) (judges_none (stops_within (width_stage (dtd_of c.args.grammar.now) (plain_doc c.args.doc.now)) 0 stop c.in_err-verdicts.ensures.denied) c.in_err-verdicts.ensures.unjudged)
+    rw (p.1, p.2)
+    (judges_none
+    (stops_within (width_stage (dtd_of c.args.grammar.now) (plain_doc c.args.doc.now)) 0 stop
+    c.in_err-verdicts.ensures.denied) c.in_err-verdicts.ensures.unjudged)
 
 pub returns-in_err-line-clause-counts : goal.returns-in_err-line-clause-counts
-returns-in_err-line-clause-counts g c = judges_all tt 0 (c.in_ok-verdicts.ensures.has.narrow, refl) c.in_ok-verdicts.ensures.judged
+returns-in_err-line-clause-counts g c =
+    judges_all tt 0 (c.in_ok-verdicts.ensures.has.narrow, refl) c.in_ok-verdicts.ensures.judged
 
 pub returns-in_err-with_document-clause-counts : goal.returns-in_err-with_document-clause-counts
-returns-in_err-with_document-clause-counts g c = judges_all tt 0 (c.in_ok-verdicts.ensures.has.narrow, refl) c.in_ok-verdicts.ensures.judged
+returns-in_err-with_document-clause-counts g c =
+    judges_all tt 0 (c.in_ok-verdicts.ensures.has.narrow, refl) c.in_ok-verdicts.ensures.judged
 
 pub returns-clause-counts : goal.returns-clause-counts
-returns-clause-counts g c = judges_all tt 0 (c.in_ok-verdicts.ensures.has.narrow, refl) c.in_ok-verdicts.ensures.judged
+returns-clause-counts g c =
+    judges_all tt 0 (c.in_ok-verdicts.ensures.has.narrow, refl) c.in_ok-verdicts.ensures.judged

@@ -24,18 +24,23 @@ returns-in_err-doc-clause-finds g c =
     let stage = nesting_stage c.args.root.now c.args.text.now c.args.ranges.now in
     let stop = c.in_err-doc.field-0.0 in
     let p = err_from_is_err_and c.from_residual.result c.from_residual.ensures.1 in
-    rw (p.1, p.2) (stop_found (beside dtd stage) (Shows c.args.root.now) stop (λ never. never) (stopped_beside dtd stage 0 stop c.in_err-doc.ensures))
+    rw (p.1, p.2)
+    (stop_found (beside dtd stage) (Shows c.args.root.now) stop (λ never. never)
+    (stopped_beside dtd stage 0 stop c.in_err-doc.ensures))
 
 pub returns-in_err-grammar-clause-finds : goal.returns-in_err-grammar-clause-finds
 returns-in_err-grammar-clause-finds g c =
-    let p = err_from_is_err_and c.from_residual-in_err-grammar.result c.from_residual-in_err-grammar.ensures.1 in
+    let p = err_from_is_err_and c.from_residual-in_err-grammar.result
+    c.from_residual-in_err-grammar.ensures.1 in
     rw (p.1, p.2) (short_of_memory 0 refl refl)
 
 pub returns-clause-finds : goal.returns-clause-finds
 returns-clause-finds g c =
     let dtd = plain_dtd c.args.dtd in
     let stage = nesting_stage c.args.root.now c.args.text.now c.args.ranges.now in
-    found_behind (beside dtd stage) (Shows c.args.root.now) (dtd, plain_doc c.in_ok-doc.doc) c.show-response.result (refl, c.in_ok-doc.ensures) (c.show-response.ensures.tells dtd (sym c.in_ok-grammar.ensures))
+    found_behind (beside dtd stage) (Shows c.args.root.now) (dtd, plain_doc c.in_ok-doc.doc)
+    c.show-response.result (refl, c.in_ok-doc.ensures)
+    (c.show-response.ensures.tells dtd (sym c.in_ok-grammar.ensures))
 
 pub returns-in_err-doc-clause-counts : goal.returns-in_err-doc-clause-counts
 returns-in_err-doc-clause-counts g c =
@@ -43,13 +48,19 @@ returns-in_err-doc-clause-counts g c =
     let stage = nesting_stage c.args.root.now c.args.text.now c.args.ranges.now in
     let stop = c.in_err-doc.field-0.0 in
     let p = err_from_is_err_and c.from_residual.result c.from_residual.ensures.1 in
-    rw (p.1, p.2) (stops_first (beside dtd stage) (λ nested. beside nested (width_stage nested.0 nested.1)) nested_lists CountsNoMore 0 stop _ _ (stopped_beside dtd stage 0 stop c.in_err-doc.ensures) refl)
+    rw (p.1, p.2)
+    (stops_first (beside dtd stage) (λ nested. beside nested (width_stage nested.0 nested.1))
+    nested_lists CountsNoMore 0 stop _ _ (stopped_beside dtd stage 0 stop c.in_err-doc.ensures)
+    refl)
 
 pub returns-in_err-grammar-clause-counts : goal.returns-in_err-grammar-clause-counts
 returns-in_err-grammar-clause-counts g c =
-    let p = err_from_is_err_and c.from_residual-in_err-grammar.result c.from_residual-in_err-grammar.ensures.1 in
+    let p = err_from_is_err_and c.from_residual-in_err-grammar.result
+    c.from_residual-in_err-grammar.ensures.1 in
     rw (p.1, p.2) (judges_none (without_memory refl) refl)
 
 pub returns-clause-counts : goal.returns-clause-counts
 returns-clause-counts g c =
-    nested_counts c.args.root.now (plain_dtd c.args.dtd) _ c.args.text.now c.args.ranges.now (plain_doc c.in_ok-doc.doc) _ _ _ c.in_ok-doc.ensures c.in_ok-grammar.ensures c.show-response.ensures.counts
+    nested_counts c.args.root.now (plain_dtd c.args.dtd) _ c.args.text.now c.args.ranges.now
+    (plain_doc c.in_ok-doc.doc) _ _ _ c.in_ok-doc.ensures c.in_ok-grammar.ensures
+    c.show-response.ensures.counts

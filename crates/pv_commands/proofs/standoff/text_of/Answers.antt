@@ -9,13 +9,21 @@ use Rattle.pv_stages.proofs.Stages.{refusal_stops, stops_as}
 use Rattle.pv_commands.proofs.standoff.text_of.Goals as goal
 
 -- a stop with the response to the text's first fault
-refused : (bytes : List ℕ) (e : TextError) (stop : Stop) → (e ≡ NoMemory) ⊎ TextMeans bytes (Err e) → RefusesWith (IsTextRefusal e) stop → StopsBy (text_stage bytes) 0 stop
+refused : (bytes : List ℕ) (e : TextError) (stop : Stop) →
+    (e ≡ NoMemory) ⊎ TextMeans bytes (Err e) → RefusesWith (IsTextRefusal e) stop →
+    StopsBy (text_stage bytes) 0 stop
 refused bytes e stop (inl none) told =
-    refusal_stops (λ u. TextMeans bytes (Ok u)) (RefusesText bytes) stop (stops_as (IsTextRefusal e) (RefusesText bytes) stop (λ r is. absurd (subst (λ (f : TextError). IsTextRefusal f r) none is)) told)
-refused bytes e stop (inr means) told = refusal_stops (λ u. TextMeans bytes (Ok u)) (RefusesText bytes) stop (stops_as (IsTextRefusal e) (RefusesText bytes) stop (λ r is. no_text e means is) told)
+    refusal_stops (λ u. TextMeans bytes (Ok u)) (RefusesText bytes) stop
+    (stops_as (IsTextRefusal e) (RefusesText bytes) stop
+    (λ r is. absurd (subst (λ (f : TextError). IsTextRefusal f r) none is)) told)
+refused bytes e stop (inr means) told =
+    refusal_stops (λ u. TextMeans bytes (Ok u)) (RefusesText bytes) stop
+    (stops_as (IsTextRefusal e) (RefusesText bytes) stop (λ r is. no_text e means is) told)
 
 pub returns-in-Ok : goal.returns-in-Ok
 returns-in-Ok c = (c.in-Ok.ensures, refl)
 
 pub returns-in-Err : goal.returns-in-Err
-returns-in-Err c = refused c.args.bytes.now c.in-Err.error c.refuse_text.result c.in-Err.ensures c.refuse_text.ensures
+returns-in-Err c =
+    refused c.args.bytes.now c.in-Err.error c.refuse_text.result c.in-Err.ensures
+    c.refuse_text.ensures

@@ -14,11 +14,15 @@ fetches file = fetch_stage file MAX_PACK_BYTES (codes "limit pack-file")
 pub returns-in_err-bytes-clause-over : goal.returns-in_err-bytes-clause-over
 returns-in_err-bytes-clause-over g c =
     let p = err_from_is_err_and c.from_residual.result c.from_residual.ensures.1 in
-    rw (p.1, p.2) (stopped_over _ (λ (v : Vec ℕ Global). v.items) fetches (λ (pack : Pack). pack) pack_stage _ _ c.in_err-bytes.field-0.0 c.in_err-bytes.ensures.over)
+    rw (p.1, p.2)
+    (stopped_over _ (λ (v : Vec ℕ Global). v.items) fetches (λ (pack : Pack). pack) pack_stage _ _
+    c.in_err-bytes.field-0.0 c.in_err-bytes.ensures.over)
 
 pub returns-clause-over : goal.returns-clause-over
 returns-clause-over g c =
     let bytes = c.in_ok-bytes.bytes in
     let read = c.pack_of.ensures in
-    behind_over _ (λ (v : Vec ℕ Global). v.items) fetches (λ (pack : Pack). pack) pack_stage _ _ bytes c.pack_of.result c.in_ok-bytes.ensures.over read
-    (reading_counts (λ (pack : Pack). pack) (pack_stage bytes.items) 0 _ c.pack_of.result (λ never. never) read)
+    behind_over _ (λ (v : Vec ℕ Global). v.items) fetches (λ (pack : Pack). pack) pack_stage _ _
+    bytes c.pack_of.result c.in_ok-bytes.ensures.over read
+    (reading_counts (λ (pack : Pack). pack) (pack_stage bytes.items) 0 _ c.pack_of.result
+    (λ never. never) read)

@@ -16,5 +16,6 @@ pub returns-in-Err-clause-returns : goal.returns-in-Err-clause-returns
 returns-in-Err-clause-returns c =
     let root = c.args.root.now in
     let bytes = c.args.fetched.bytes.items in
-    refusal_stops (OpensDocument root (plain_dtd c.args.fetched.dtd) bytes) (RefusesDocument root bytes) c.refuse_document.result
+    refusal_stops (OpensDocument root (plain_dtd c.args.fetched.dtd) bytes)
+    (RefusesDocument root bytes) c.refuse_document.result
     (c.refuse_document.ensures root bytes (rw c.deref.ensures.value at c.in-Err.ensures.refused))

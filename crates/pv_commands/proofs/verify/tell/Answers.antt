@@ -14,7 +14,9 @@ returns-in_ok-with_number-in-Ok-Accepted c = λ bytes means.
     record {
       doc = plain_doc c.args.doc.now;
       means = means;
-      tells = is_accepted told.narrow told.passes told.least (c.in_ok-with_number-in-Ok-Accepted.ensures ∙ ap (λ k. with_line Done (codes "accepted " ++ decimal k)) told.total_is);
+      tells = is_accepted told.narrow told.passes told.least
+          (c.in_ok-with_number-in-Ok-Accepted.ensures
+          ∙ ap (λ k. with_line Done (codes "accepted " ++ decimal k)) told.total_is);
     }
 
 pub returns-in_ok-with_text-in-Ok-Rejected : goal.returns-in_ok-with_text-in-Ok-Rejected
@@ -23,7 +25,9 @@ returns-in_ok-with_text-in-Ok-Rejected c = λ bytes means.
     record {
       doc = plain_doc c.args.doc.now;
       means = means;
-      tells = is_rejected c.in-Ok-Rejected.test told.narrow told.fails (c.in_ok-with_text-in-Ok-Rejected.ensures ∙ ap (λ word. with_line Negative (codes "rejected " ++ word)) c.test_text.ensures);
+      tells = is_rejected c.in-Ok-Rejected.test told.narrow told.fails
+          (c.in_ok-with_text-in-Ok-Rejected.ensures
+          ∙ ap (λ word. with_line Negative (codes "rejected " ++ word)) c.test_text.ensures);
     }
 
 pub returns-in-Err-TooWide : goal.returns-in-Err-TooWide
@@ -31,5 +35,8 @@ returns-in-Err-TooWide c = λ bytes means.
     let doc = plain_doc c.args.doc.now in
     let path = c.in-Err-TooWide.path in
     let first = rw c.in-Err-TooWide.field-0-is at c.in-Err-TooWide.ensures.refused in
-    stops_as (λ r. r ≡ with_line Limit (codes "limit width " ++ path_text path)) (TellsOfPack c.args.root.now (plain_dtd c.args.dtd.now) bytes c.args.pack.now) c.refuse_path.result
-    (λ r is. record { doc = doc; means = means; tells = names_wide path first is }) (rw c.places.ensures at c.refuse_path.ensures)
+    stops_as (λ r. r ≡ with_line Limit (codes "limit width " ++ path_text path))
+    (TellsOfPack c.args.root.now (plain_dtd c.args.dtd.now) bytes c.args.pack.now)
+    c.refuse_path.result
+    (λ r is. record { doc = doc; means = means; tells = names_wide path first is })
+    (rw c.places.ensures at c.refuse_path.ensures)

@@ -13,12 +13,14 @@ use Rattle.pv_commands.proofs.why.explain.Goals as goal
 pub returns-in_ok-write_denial-in-Ok : goal.returns-in_ok-write_denial-in-Ok
 returns-in_ok-write_denial-in-Ok c =
     is_denied c.in-Ok.denial c.requires.impossible c.in-Ok.ensures.denied
-    (ap (λ (out : List ℕ). record { status = Done; output = out }) c.in_ok-write_denial-in-Ok.ensures.spelled)
+    (ap (λ (out : List ℕ). record { status = Done; output = out })
+    c.in_ok-write_denial-in-Ok.ensures.spelled)
 
 pub returns-in-Err-TooMany : goal.returns-in-Err-TooMany
 returns-in-Err-TooMany c =
     let many = rw c.in-Err-TooMany.field-0-is at c.in-Err-TooMany.ensures.refused in
-    stops_as (λ r. r ≡ with_line Limit (codes "limit tables")) (TellsWhy c.args.root.now (dtd_of c.args.judge.now) (plain_doc c.args.doc.now)) c.refuse.result
+    stops_as (λ r. r ≡ with_line Limit (codes "limit tables"))
+    (TellsWhy c.args.root.now (dtd_of c.args.judge.now) (plain_doc c.args.doc.now)) c.refuse.result
     (λ r is. has_too_many c.requires.impossible many is) c.refuse.ensures
 
 pub unreachable-requires : goal.unreachable-requires

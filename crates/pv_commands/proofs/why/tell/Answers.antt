@@ -24,12 +24,20 @@ abbrev Explains : List ℕ → PlainDtd → PlainDoc Mark → Result Response St
 Explains root g doc = TakesCourse (Behind (width_stage g doc) (λ _. Responds (TellsWhy root g doc)))
 
 -- the same, of the opened files
-explains_as : (root : List ℕ) (g d : PlainDtd) (doc same : PlainDoc Mark) (result : Result Response Stop) → d ≡ g → same ≡ doc → Explains root g doc result → Explains root d same result
-explains_as root g d doc same result is are explains = subst (λ (h : PlainDtd). Explains root h same result) (sym is) (subst (λ (s : PlainDoc Mark). Explains root g s result) (sym are) explains)
+explains_as : (root : List ℕ) (g d : PlainDtd) (doc same : PlainDoc Mark)
+    (result : Result Response Stop) → d ≡ g → same ≡ doc → Explains root g doc result →
+    Explains root d same result
+explains_as root g d doc same result is are explains =
+    subst (λ (h : PlainDtd). Explains root h same result) (sym is)
+    (subst (λ (s : PlainDoc Mark). Explains root g s result) (sym are) explains)
 
 -- what was told behind the test of the width
-told_behind : (root : List ℕ) (g : PlainDtd) (doc : PlainDoc Mark) (vs : PlainVerdicts) (result : Result Response Stop) → AreVerdictsOf root g doc vs → TellsBy (TellsWhy root g doc) result → Explains root g doc result
-told_behind root g doc vs result has tells = found_behind (width_stage g doc) (λ _. Responds (TellsWhy root g doc)) tt result (has.narrow, refl) (tells_found (TellsWhy root g doc) result tells)
+told_behind : (root : List ℕ) (g : PlainDtd) (doc : PlainDoc Mark) (vs : PlainVerdicts)
+    (result : Result Response Stop) → AreVerdictsOf root g doc vs →
+    TellsBy (TellsWhy root g doc) result → Explains root g doc result
+told_behind root g doc vs result has tells =
+    found_behind (width_stage g doc) (λ _. Responds (TellsWhy root g doc)) tt result
+    (has.narrow, refl) (tells_found (TellsWhy root g doc) result tells)
 
 pub returns-in_err-verdicts-clause-tells : goal.returns-in_err-verdicts-clause-tells
 returns-in_err-verdicts-clause-tells g c = λ opened is are.
@@ -37,22 +45,30 @@ returns-in_err-verdicts-clause-tells g c = λ opened is are.
     let doc = plain_doc c.args.doc.now in
     let root = c.args.root.now in
     let p = err_from_is_err_and c.from_residual.result c.from_residual.ensures.1 in
-    rw (p.1, p.2) (explains_as root d opened.dtd doc opened.doc (Err c.in_err-verdicts.field-0.0) is are
-    (stop_found (width_stage d doc) (λ _. Responds (TellsWhy root d doc)) c.in_err-verdicts.field-0.0 (λ never. never) c.in_err-verdicts.ensures.denied))
+    rw (p.1, p.2)
+    (explains_as root d opened.dtd doc opened.doc (Err c.in_err-verdicts.field-0.0) is are
+    (stop_found (width_stage d doc) (λ _. Responds (TellsWhy root d doc))
+    c.in_err-verdicts.field-0.0 (λ never. never) c.in_err-verdicts.ensures.denied))
 
 pub explain-requires : goal.explain-requires
 explain-requires g c =
-    let first : c.in_ok-verdicts.verdicts.first ≡ Some c.in-Some.path.now = sym c.first_impossible.ensures ∙ ap option_copied c.in-Some.is in
-    subst (λ (h : PlainDtd). IsImpossibleAt c.args.root.now h (plain_doc c.args.doc.now) c.in-Some.path.now) (sym c.judge.ensures)
-    (impossible_at c.args.root.now c.args.grammar.now (plain_doc c.args.doc.now) c.in_ok-verdicts.verdicts c.in-Some.path.now first c.in_ok-verdicts.ensures.has)
+    let first : c.in_ok-verdicts.verdicts.first ≡ Some c.in-Some.path.now =
+    sym c.first_impossible.ensures ∙ ap option_copied c.in-Some.is in
+    subst (λ (h : PlainDtd). IsImpossibleAt c.args.root.now h (plain_doc c.args.doc.now)
+    c.in-Some.path.now) (sym c.judge.ensures)
+    (impossible_at c.args.root.now c.args.grammar.now (plain_doc c.args.doc.now)
+    c.in_ok-verdicts.verdicts c.in-Some.path.now first c.in_ok-verdicts.ensures.has)
 
 pub returns-in-Some-clause-tells : goal.returns-in-Some-clause-tells
 returns-in-Some-clause-tells g c = λ opened is are.
     let d = c.args.grammar.now in
     let doc = plain_doc c.args.doc.now in
     let root = c.args.root.now in
-    let tells = subst (λ (h : PlainDtd). TellsBy (TellsWhy root h doc) c.explain.result) c.judge.ensures c.explain.ensures in
-    explains_as root d opened.dtd doc opened.doc c.explain.result is are (told_behind root d doc c.in_ok-verdicts.verdicts c.explain.result c.in_ok-verdicts.ensures.has tells)
+    let tells = subst (λ (h : PlainDtd). TellsBy (TellsWhy root h doc) c.explain.result)
+    c.judge.ensures c.explain.ensures in
+    explains_as root d opened.dtd doc opened.doc c.explain.result is are
+    (told_behind root d doc c.in_ok-verdicts.verdicts c.explain.result c.in_ok-verdicts.ensures.has
+    tells)
 
 pub returns-clause-tells : goal.returns-clause-tells
 returns-clause-tells g c = λ opened is are.
@@ -60,27 +76,39 @@ returns-clause-tells g c = λ opened is are.
     let doc = plain_doc c.args.doc.now in
     let root = c.args.root.now in
     let has = c.in_ok-verdicts.ensures.has in
-    let first : c.in_ok-verdicts.verdicts.first ≡ None = sym c.first_impossible.ensures ∙ ap option_copied c.in-None.is in
+    let first : c.in_ok-verdicts.verdicts.first ≡ None =
+    sym c.first_impossible.ensures ∙ ap option_copied c.in-None.is in
     let none : IsNone c.in_ok-verdicts.verdicts.first = rw first refl in
     let result : Result Response Stop = Ok c.in_ok-with_line-in-None.field-0 in
-    explains_as root d opened.dtd doc opened.doc result is are (told_behind root d doc c.in_ok-verdicts.verdicts result has (is_possible (has.possible.0 none) c.in_ok-with_line-in-None.ensures))
+    explains_as root d opened.dtd doc opened.doc result is are
+    (told_behind root d doc c.in_ok-verdicts.verdicts result has
+    (is_possible (has.possible.0 none) c.in_ok-with_line-in-None.ensures))
 
-pub returns-in_err-with_line-in-None-clause-tells : goal.returns-in_err-with_line-in-None-clause-tells
+pub returns-in_err-with_line-in-None-clause-tells :
+    goal.returns-in_err-with_line-in-None-clause-tells
 returns-in_err-with_line-in-None-clause-tells g c = λ opened is are.
-    let p = err_from_is_err_and c.from_residual-in_err-with_line-in-None.result c.from_residual-in_err-with_line-in-None.ensures.1 in
+    let p = err_from_is_err_and c.from_residual-in_err-with_line-in-None.result
+    c.from_residual-in_err-with_line-in-None.ensures.1 in
     rw (p.1, p.2) (short_of_memory 0 refl refl)
 
 pub returns-in_err-verdicts-clause-counts : goal.returns-in_err-verdicts-clause-counts
 returns-in_err-verdicts-clause-counts g c =
     let stop = c.in_err-verdicts.field-0.0 in
     let p = err_from_is_err_and c.from_residual.result c.from_residual.ensures.1 in
-    rw (p.1, p.2) (judges_none (stops_within (width_stage c.args.grammar.now (plain_doc c.args.doc.now)) 0 stop c.in_err-verdicts.ensures.denied) c.in_err-verdicts.ensures.unjudged)
+    rw (p.1, p.2)
+    (judges_none
+    (stops_within (width_stage c.args.grammar.now (plain_doc c.args.doc.now)) 0 stop
+    c.in_err-verdicts.ensures.denied) c.in_err-verdicts.ensures.unjudged)
 
 pub returns-in-Some-clause-counts : goal.returns-in-Some-clause-counts
-returns-in-Some-clause-counts g c = judges_all tt 0 (c.in_ok-verdicts.ensures.has.narrow, refl) c.in_ok-verdicts.ensures.judged
+returns-in-Some-clause-counts g c =
+    judges_all tt 0 (c.in_ok-verdicts.ensures.has.narrow, refl) c.in_ok-verdicts.ensures.judged
 
 pub returns-clause-counts : goal.returns-clause-counts
-returns-clause-counts g c = judges_all tt 0 (c.in_ok-verdicts.ensures.has.narrow, refl) c.in_ok-verdicts.ensures.judged
+returns-clause-counts g c =
+    judges_all tt 0 (c.in_ok-verdicts.ensures.has.narrow, refl) c.in_ok-verdicts.ensures.judged
 
-pub returns-in_err-with_line-in-None-clause-counts : goal.returns-in_err-with_line-in-None-clause-counts
-returns-in_err-with_line-in-None-clause-counts g c = judges_all tt 0 (c.in_ok-verdicts.ensures.has.narrow, refl) c.in_ok-verdicts.ensures.judged
+pub returns-in_err-with_line-in-None-clause-counts :
+    goal.returns-in_err-with_line-in-None-clause-counts
+returns-in_err-with_line-in-None-clause-counts g c =
+    judges_all tt 0 (c.in_ok-verdicts.ensures.has.narrow, refl) c.in_ok-verdicts.ensures.judged

@@ -17,16 +17,20 @@ returns-in_err-dtd-clause-finds g c =
     let root = c.args.root.now in
     let stage = document_stage root (plain_dtd c.args.fetched.dtd) c.args.fetched.bytes.items in
     let p = err_from_is_err_and c.from_residual.result c.from_residual.ensures.1 in
-    rw (p.1, p.2) (stop_found stage (IsWhyCourse root) c.in_err-dtd.field-0.0 (λ never. never) c.in_err-dtd.ensures)
+    rw (p.1, p.2)
+    (stop_found stage (IsWhyCourse root) c.in_err-dtd.field-0.0 (λ never. never)
+    c.in_err-dtd.ensures)
 
 pub returns-in_err-built-clause-finds : goal.returns-in_err-built-clause-finds
 returns-in_err-built-clause-finds g c =
-    let p = err_from_is_err_and c.from_residual-in_err-built.result c.from_residual-in_err-built.ensures.1 in
+    let p = err_from_is_err_and c.from_residual-in_err-built.result
+    c.from_residual-in_err-built.ensures.1 in
     rw (p.1, p.2) (short_of_memory 0 refl refl)
 
 pub returns-in_err-grammar-clause-finds : goal.returns-in_err-grammar-clause-finds
 returns-in_err-grammar-clause-finds g c =
-    let p = err_from_is_err_and c.from_residual-in_err-grammar.result c.from_residual-in_err-grammar.ensures.1 in
+    let p = err_from_is_err_and c.from_residual-in_err-grammar.result
+    c.from_residual-in_err-grammar.ensures.1 in
     rw (p.1, p.2) (short_of_memory 0 refl refl)
 
 pub returns-clause-finds : goal.returns-clause-finds
@@ -34,7 +38,9 @@ returns-clause-finds g c =
     let root = c.args.root.now in
     let both = plain_opened c.in_ok-dtd.field-0 in
     let stage = document_stage root (plain_dtd c.args.fetched.dtd) c.args.fetched.bytes.items in
-    found_behind stage (IsWhyCourse root) both c.tell-response.result c.in_ok-dtd.ensures (c.tell-response.ensures.tells both (sym (c.in_ok-grammar.ensures ∙ c.in_ok-built.ensures)) refl)
+    found_behind stage (IsWhyCourse root) both c.tell-response.result c.in_ok-dtd.ensures
+    (c.tell-response.ensures.tells both (sym (c.in_ok-grammar.ensures ∙ c.in_ok-built.ensures))
+    refl)
 
 pub returns-in_err-dtd-clause-checks : goal.returns-in_err-dtd-clause-checks
 returns-in_err-dtd-clause-checks g c =
@@ -42,18 +48,24 @@ returns-in_err-dtd-clause-checks g c =
     let stage = document_stage root (plain_dtd c.args.fetched.dtd) c.args.fetched.bytes.items in
     let stop = c.in_err-dtd.field-0.0 in
     let p = err_from_is_err_and c.from_residual.result c.from_residual.ensures.1 in
-    rw (p.1, p.2) (stops_first stage (λ o. beside o (width_stage o.dtd o.doc)) lists_judged CountsNoMore 0 stop _ _ c.in_err-dtd.ensures refl)
+    rw (p.1, p.2)
+    (stops_first stage (λ o. beside o (width_stage o.dtd o.doc)) lists_judged CountsNoMore 0 stop _
+    _ c.in_err-dtd.ensures refl)
 
 pub returns-in_err-built-clause-checks : goal.returns-in_err-built-clause-checks
 returns-in_err-built-clause-checks g c =
-    let p = err_from_is_err_and c.from_residual-in_err-built.result c.from_residual-in_err-built.ensures.1 in
+    let p = err_from_is_err_and c.from_residual-in_err-built.result
+    c.from_residual-in_err-built.ensures.1 in
     rw (p.1, p.2) (judges_none (without_memory refl) refl)
 
 pub returns-in_err-grammar-clause-checks : goal.returns-in_err-grammar-clause-checks
 returns-in_err-grammar-clause-checks g c =
-    let p = err_from_is_err_and c.from_residual-in_err-grammar.result c.from_residual-in_err-grammar.ensures.1 in
+    let p = err_from_is_err_and c.from_residual-in_err-grammar.result
+    c.from_residual-in_err-grammar.ensures.1 in
     rw (p.1, p.2) (judges_none (without_memory refl) refl)
 
 pub returns-clause-checks : goal.returns-clause-checks
 returns-clause-checks g c =
-    judged_document c.args.root.now _ _ _ (plain_opened c.in_ok-dtd.field-0) _ _ _ c.in_ok-dtd.ensures (c.in_ok-grammar.ensures ∙ c.in_ok-built.ensures) c.tell-response.ensures.counts
+    judged_document c.args.root.now _ _ _ (plain_opened c.in_ok-dtd.field-0) _ _ _
+    c.in_ok-dtd.ensures (c.in_ok-grammar.ensures ∙ c.in_ok-built.ensures)
+    c.tell-response.ensures.counts

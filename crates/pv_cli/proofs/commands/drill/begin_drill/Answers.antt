@@ -23,8 +23,10 @@ returns-in_err-dtd-clause-returns g c =
     let stop = c.in_err-dtd.field-0.0 in
     let stops = rw c.drill_dtd.ensures at c.in_err-dtd.ensures in
     let p = err_from_is_err_and c.from_residual.result c.from_residual.ensures.1 in
-    rw (p.1, p.2) (stopped_first (reading_stage n) (λ o. guarding_stage DRILL_ROOT o.dtd o.doc) 0 stop
-    (stopped_first (dtd_stage DRILL_DTD) (λ d. document_stage DRILL_ROOT d (drill_text n)) 0 stop stops))
+    rw (p.1, p.2)
+    (stopped_first (reading_stage n) (λ o. guarding_stage DRILL_ROOT o.dtd o.doc) 0 stop
+    (stopped_first (dtd_stage DRILL_DTD) (λ d. document_stage DRILL_ROOT d (drill_text n)) 0 stop
+    stops))
 
 pub returns-in_err-opened-clause-returns : goal.returns-in_err-opened-clause-returns
 returns-in_err-opened-clause-returns g c =
@@ -32,12 +34,16 @@ returns-in_err-opened-clause-returns g c =
     let stop = c.in_err-opened.field-0.0 in
     let read = rw c.drill_dtd.ensures at c.in_ok-dtd.ensures in
     let stops = rw c.in_ok-bytes.ensures at c.in_err-opened.ensures in
-    let p = err_from_is_err_and c.from_residual-in_err-opened.result c.from_residual-in_err-opened.ensures.1 in
-    rw (p.1, p.2) (stopped_first (reading_stage n) (λ o. guarding_stage DRILL_ROOT o.dtd o.doc) 0 stop
-    (stopped_second (dtd_stage DRILL_DTD) (λ d. document_stage DRILL_ROOT d (drill_text n)) (plain_dtd c.in_ok-dtd.dtd) 0 0 stop read stops))
+    let p = err_from_is_err_and c.from_residual-in_err-opened.result
+    c.from_residual-in_err-opened.ensures.1 in
+    rw (p.1, p.2)
+    (stopped_first (reading_stage n) (λ o. guarding_stage DRILL_ROOT o.dtd o.doc) 0 stop
+    (stopped_second (dtd_stage DRILL_DTD) (λ d. document_stage DRILL_ROOT d (drill_text n))
+    (plain_dtd c.in_ok-dtd.dtd) 0 0 stop read stops))
 
 pub begin-requires-clause-few : goal.begin-requires-clause-few
-begin-requires-clause-few g c = omega (arith, few_nodes DRILL_ROOT _ _ c.in_ok-opened.ensures.0.is_text)
+begin-requires-clause-few g c =
+    omega (arith, few_nodes DRILL_ROOT _ _ c.in_ok-opened.ensures.0.is_text)
 
 pub begin-requires-clause-prolog : goal.begin-requires-clause-prolog
 begin-requires-clause-prolog g c κs l = c.in_ok-opened.ensures.0.is_text.spelled.is_prolog
@@ -47,7 +53,8 @@ returns-clause-returns g c =
     let n = c.args.n in
     let read = rw c.drill_dtd.ensures at c.in_ok-dtd.ensures in
     let text = rw c.in_ok-bytes.ensures at c.in_ok-opened.ensures in
-    returned_second (λ s. s) (reading_stage n) (λ o. guarding_stage DRILL_ROOT o.dtd o.doc) (plain_opened c.in_ok-opened.opened) 0 0
+    returned_second (λ s. s) (reading_stage n) (λ o. guarding_stage DRILL_ROOT o.dtd o.doc)
+    (plain_opened c.in_ok-opened.opened) 0 0
     c.begin.result (plain_dtd c.in_ok-dtd.dtd, 0, 0, read, text, refl) c.begin.ensures.returns
 
 pub returns-in_err-dtd-clause-checks : goal.returns-in_err-dtd-clause-checks
@@ -55,11 +62,14 @@ returns-in_err-dtd-clause-checks g c =
     let stop = c.in_err-dtd.field-0.0 in
     let stops = rw c.drill_dtd.ensures at c.in_err-dtd.ensures in
     let p = err_from_is_err_and c.from_residual.result c.from_residual.ensures.1 in
-    rw (p.1, p.2) (opening_first PlainSession (dtd_stage DRILL_DTD) (λ d. judging_stage DRILL_ROOT d (drill_text c.args.n)) lists_judged 0 stop _ _ stops refl)
+    rw (p.1, p.2)
+    (opening_first PlainSession (dtd_stage DRILL_DTD)
+    (λ d. judging_stage DRILL_ROOT d (drill_text c.args.n)) lists_judged 0 stop _ _ stops refl)
 
 pub returns-in_err-bytes-clause-checks : goal.returns-in_err-bytes-clause-checks
 returns-in_err-bytes-clause-checks g c =
-    let p = err_from_is_err_and c.from_residual-in_err-bytes.result c.from_residual-in_err-bytes.ensures.1 in
+    let p = err_from_is_err_and c.from_residual-in_err-bytes.result
+    c.from_residual-in_err-bytes.ensures.1 in
     rw (p.1, p.2) (judges_none (without_memory refl) refl)
 
 pub returns-in_err-opened-clause-checks : goal.returns-in_err-opened-clause-checks
@@ -69,9 +79,13 @@ returns-in_err-opened-clause-checks g c =
     let dtd = plain_dtd c.in_ok-dtd.dtd in
     let read = rw c.drill_dtd.ensures at c.in_ok-dtd.ensures in
     let stops = rw c.in_ok-bytes.ensures at c.in_err-opened.ensures in
-    let p = err_from_is_err_and c.from_residual-in_err-opened.result c.from_residual-in_err-opened.ensures.1 in
-    rw (p.1, p.2) (opening_second {Z = PlainSession} (dtd_stage DRILL_DTD) (λ d. judging_stage DRILL_ROOT d (drill_text n)) lists_judged dtd 0 _ _ (Err stop) read
-    (opening_first PlainSession (document_stage DRILL_ROOT dtd (drill_text n)) (λ o. beside o (width_stage o.dtd o.doc)) lists_judged 0 stop _ _ stops refl))
+    let p = err_from_is_err_and c.from_residual-in_err-opened.result
+    c.from_residual-in_err-opened.ensures.1 in
+    rw (p.1, p.2)
+    (opening_second {Z = PlainSession} (dtd_stage DRILL_DTD)
+    (λ d. judging_stage DRILL_ROOT d (drill_text n)) lists_judged dtd 0 _ _ (Err stop) read
+    (opening_first PlainSession (document_stage DRILL_ROOT dtd (drill_text n))
+    (λ o. beside o (width_stage o.dtd o.doc)) lists_judged 0 stop _ _ stops refl))
 
 pub returns-clause-checks : goal.returns-clause-checks
 returns-clause-checks g c =
@@ -79,5 +93,7 @@ returns-clause-checks g c =
     let dtd = plain_dtd c.in_ok-dtd.dtd in
     let read = rw c.drill_dtd.ensures at c.in_ok-dtd.ensures in
     let text = rw c.in_ok-bytes.ensures at c.in_ok-opened.ensures in
-    opening_second (dtd_stage DRILL_DTD) (λ d. judging_stage DRILL_ROOT d (drill_text n)) lists_judged dtd 0 _ _ c.begin.result read
-    (opened_document DRILL_ROOT dtd (drill_text n) (plain_opened c.in_ok-opened.opened) _ _ c.begin.result text c.begin.ensures.checks)
+    opening_second (dtd_stage DRILL_DTD) (λ d. judging_stage DRILL_ROOT d (drill_text n))
+    lists_judged dtd 0 _ _ c.begin.result read
+    (opened_document DRILL_ROOT dtd (drill_text n) (plain_opened c.in_ok-opened.opened) _ _
+    c.begin.result text c.begin.ensures.checks)

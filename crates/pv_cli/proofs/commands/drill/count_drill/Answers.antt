@@ -21,7 +21,9 @@ loop-k-preserved g c =
     }
 
 pub returns-in_err-counts-clause-steps : goal.returns-in_err-counts-clause-steps
-returns-in_err-counts-clause-steps g c = section_cut _ _ _ _ _ c.loop-k-test.true c.loop-k.invariant.few c.in_err-counts.ensures.steps
+returns-in_err-counts-clause-steps g c =
+    section_cut _ _ _ _ _ c.loop-k-test.true c.loop-k.invariant.few c.in_err-counts.ensures.steps
 
 pub returns-in_err-counts-clause-later : goal.returns-in_err-counts-clause-later
-returns-in_err-counts-clause-later g c = omega (arith, c.loop-k.invariant.later, c.in_err-counts.ensures.later)
+returns-in_err-counts-clause-later g c =
+    omega (arith, c.loop-k.invariant.later, c.in_err-counts.ensures.later)

@@ -16,24 +16,31 @@ pub returns-in_err-session-clause-finds : goal.returns-in_err-session-clause-fin
 returns-in_err-session-clause-finds g c =
     let n = c.args.n in
     let p = err_from_is_err_and c.from_residual.result c.from_residual.ensures.1 in
-    rw (p.1, p.2) (stop_found (drill_stage n) (λ session. Responds (TellsCounts n session)) c.in_err-session.field-0.0 (asks_none n 0) c.in_err-session.ensures.returns)
+    rw (p.1, p.2)
+    (stop_found (drill_stage n) (λ session. Responds (TellsCounts n session))
+    c.in_err-session.field-0.0 (asks_none n 0) c.in_err-session.ensures.returns)
 
 pub returns-clause-finds : goal.returns-clause-finds
 returns-clause-finds g c =
     let n = c.args.n in
     let session = c.in_ok-session.session in
-    found_behind (drill_stage n) (λ s. Responds (TellsCounts n s)) session c.answer_drill-response.result c.in_ok-session.ensures.returns
-    (tells_found (TellsCounts n session) c.answer_drill-response.result c.answer_drill-response.ensures.tells)
+    found_behind (drill_stage n) (λ s. Responds (TellsCounts n s)) session
+    c.answer_drill-response.result c.in_ok-session.ensures.returns
+    (tells_found (TellsCounts n session) c.answer_drill-response.result
+    c.answer_drill-response.ensures.tells)
 
 pub returns-in_err-session-clause-checks : goal.returns-in_err-session-clause-checks
 returns-in_err-session-clause-checks g c =
     let n = c.args.n in
     let p = err_from_is_err_and c.from_residual.result c.from_residual.ensures.1 in
-    rw (p.1, p.2) (drill_stopped (judging_drill_stage n) lists_judged (2 * length (drill_lines n)) (ending_of (Err c.in_err-session.field-0.0)) _ _ c.in_err-session.ensures.checks)
+    rw (p.1, p.2)
+    (drill_stopped (judging_drill_stage n) lists_judged (2 * length (drill_lines n))
+    (ending_of (Err c.in_err-session.field-0.0)) _ _ c.in_err-session.ensures.checks)
 
 pub returns-clause-checks : goal.returns-clause-checks
 returns-clause-checks g c =
     let n = c.args.n in
     let told = c.answer_drill-response in
-    opened_goes (judging_drill_stage n) lists_judged (CountsAtMost (2 * length (drill_lines n))) (ending_of told.result) _ _ _ c.in_ok-session.session c.in_ok-session.ensures.checks
+    opened_goes (judging_drill_stage n) lists_judged (CountsAtMost (2 * length (drill_lines n)))
+    (ending_of told.result) _ _ _ c.in_ok-session.session c.in_ok-session.ensures.checks
     (told.ensures.later, told.ensures.steps)
