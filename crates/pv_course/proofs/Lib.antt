@@ -1,5 +1,8 @@
--- of this crate:
+-- for other crates:
+pub mod Changing
 pub mod Counting
+-- of this crate:
+pub mod Answering
 pub mod Leading
 pub mod Reading
 pub mod Splicing

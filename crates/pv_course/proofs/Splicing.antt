@@ -1,24 +1,26 @@
--- Points put in place of others, one by one.
-use Rattle.std.proofs.Common.{◌≡◌, ℕ, ◌+◌, List, [], ◌∷◌, ◌++◌, length, take, drop, sym, ap, ◌∙◌, append_assoc, length-append}
-use Rattle.std.proofs.lemmas.List.{take_at, drop_at}
-use Rattle.std.specs.List.{insert}
+-- Points put in place of others.
+use Rattle.std.proofs.Common.{◌≡◌, ℕ, List, [], ◌++◌, take, drop, sym, ap, ◌∙◌, append-nil, false}
+use Rattle.std.proofs.Common.{true}
+use Rattle.std.proofs.Common.{Result, Ok, Err, OnErr, OnOk, is_err}
+use Rattle.std.specs.List.{splice}
 use Rattle.pv_course.specs.declared.points.Point.{Point}
 
-module _ (f y t : List Point) (n : ℕ) (e : n ≡ length f + length y) where
-  front : length (f ++ y) ≡ n
-  front = length-append f y ∙ sym e
+module _ (first last : ℕ) (old points : List Point) where
+  pub put_in : (new xs : List Point) → new ≡ splice old first last xs → xs ≡ points →
+      (rest : List Point) × (take first old ++ (points ++ drop last old) ≡ new ++ rest)
+  put_in new xs e x =
+      ([], ap (λ l. take first old ++ (l ++ drop last old)) (sym x) ∙ sym e ∙ sym (append-nil new))
 
-  pub taken : take n (f ++ (y ++ t)) ≡ f ++ y
-  taken = ap (take n) (sym (append_assoc f y t)) ∙ take_at (f ++ y) t n front
+  -- where there is no memory for them
+  pub cut_off : (new : List Point) → new ≡ take first old →
+      (rest : List Point) × (take first old ++ (points ++ drop last old) ≡ new ++ rest)
+  cut_off new e =
+      (points ++ drop last old, ap (λ l. l ++ (points ++ drop last old)) (sym e))
 
-  left : drop n (f ++ (y ++ t)) ≡ t
-  left = ap (drop n) (sym (append_assoc f y t)) ∙ drop_at (f ++ y) t n front
+pub told_ok : {A E : Type 0} (r : Result A E) (P : Type 0) → is_err r ≡ false → OnOk r P → P
+told_ok (Ok x) P e h = h
+told_ok (Err x) P e h = absurd cc
 
-  pub inserted : (x : Point) → insert (f ++ (y ++ t)) n x ≡ f ++ ((y ++ x ∷ []) ++ t)
-  inserted x = rw (taken, left) (append_assoc f y (x ∷ t) ∙ ap (λ l. f ++ l) (sym (append_assoc y (x ∷ []) t)))
-
-  -- where there is no memory for the next one
-  pub cut_off : (z points items new : List Point) → items ≡ f ++ (y ++ t) → new ≡ take n items → y ++ z ≡ points → (rest : List Point) × (f ++ (points ++ t) ≡ new ++ rest)
-  cut_off z points items new i w a =
-      let is : new ≡ f ++ y = w ∙ ap (take n) i ∙ taken in
-      (z ++ t, ap (λ l. f ++ (l ++ t)) (sym a) ∙ ap (λ l. f ++ l) (append_assoc y z t) ∙ sym (append_assoc f y (z ++ t)) ∙ ap (λ l. l ++ (z ++ t)) (sym is))
+pub told_err : {A E : Type 0} (r : Result A E) (P : Type 0) → is_err r ≡ true → OnErr r P → P
+told_err (Ok x) P e h = absurd cc
+told_err (Err x) P e h = h

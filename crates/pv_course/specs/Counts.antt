@@ -1,7 +1,17 @@
--- How many tokens of a word a content model doesn't allow alone.
+-- How many tokens of a word are without a property, as that a content model allows them alone.
 use Rattle.std.specs.Prelude.{◌≡◌, ℕ, suc, ◌⊎◌, List, [], ◌∷◌}
 use Rattle.pv_model.specs.Plain.{PlainModel, empty, any, mixed, children, PlainToken}
 use Rattle.pv_model.specs.Models.{Allows}
+
+-- n of the tokens are without the property
+abbrev pub AreWithout : (PlainToken → Type 0) → List PlainToken → ℕ → Type 0
+AreWithout P [] n = n ≡ 0
+AreWithout P (t ∷ w) n = (P t × AreWithout P w n) ⊎
+    ((m : ℕ) × (P t → ⊥) × (n ≡ suc m) × AreWithout P w m)
+
+-- the model allows the token alone, where so many names are declared
+abbrev pub IsAllowedAlone : ℕ → PlainModel → PlainToken → Type 0
+IsAllowedAlone declared m t = Allows declared m (t ∷ [])
 
 -- EMPTY, ANY and mixed content: the model allows a word exactly if it allows each token alone (XML
 -- 1.0, 3, Element Valid)
@@ -10,11 +20,3 @@ JudgesAlone empty = Unit {0}
 JudgesAlone any = Unit {0}
 JudgesAlone (mixed ys) = Unit {0}
 JudgesAlone (children p) = ⊥
-
--- so many tokens of the word are not allowed alone, where so many names are declared
-abbrev pub HasRefused : ℕ → PlainModel → List PlainToken → ℕ → Type 0
-HasRefused declared m [] n = n ≡ 0
-HasRefused declared m (t ∷ u) n =
-    (Allows declared m (t ∷ []) × HasRefused declared m u n) ⊎
-    ((Allows declared m (t ∷ []) → ⊥) ×
-    ((k : ℕ) × (n ≡ suc k) × HasRefused declared m u k))

@@ -1,7 +1,7 @@
 -- What is kept of a word under a content model, and what a change of the word makes of it.
-use Rattle.std.specs.Prelude.{◌≡◌, ℕ, ◌+◌, List, ◌++◌, take, drop}
+use Rattle.std.specs.Prelude.{◌≡◌, ℕ, List}
 use Rattle.pv_model.specs.Plain.{PlainPart, PlainModel, children, PlainToken}
-use Rattle.pv_course.specs.Counts.{JudgesAlone, HasRefused}
+use Rattle.pv_course.specs.Counts.{AreWithout, IsAllowedAlone, JudgesAlone}
 use Rattle.pv_course.specs.Stretches.{AreOf, ReplacesPoints}
 use Rattle.pv_course.specs.declared.courses.Course.{Course}
 use Rattle.pv_course.specs.declared.courses.Kept.{Kept}
@@ -14,7 +14,7 @@ use Rattle.pv_course.specs.declared.stretches.Points.{Points}
 -- of a model that judges each token alone, the number of those that it doesn't allow; of a
 -- particle, points of the word and whether it is one of the particle
 abbrev pub KeepsWord : ℕ → PlainModel → List PlainToken → Kept → Type 0
-KeepsWord declared m w (kept.Count n) = JudgesAlone m × HasRefused declared m w n
+KeepsWord declared m w (kept.Count n) = JudgesAlone m × AreWithout (IsAllowedAlone declared m) w n
 KeepsWord declared m w (kept.Points ps) = (p : PlainPart) × (m ≡ children p) × AreOf p w ps
 
 -- this is kept of the word under the model, where so many names are declared
@@ -33,7 +33,3 @@ MakesWord declared m w k (made.Part s) =
 pub record IsTurn (declared : ℕ) (m : PlainModel) (w : List PlainToken) (c : Course) (t : Turn) :
     Type 0 where
   pub is : MakesWord declared m w c.kept t.made
-
--- the word before a change, by which so many tokens came in place of those that are gone
-abbrev pub word_before : {T : Type 0} → ℕ → List T → ℕ → List T → List T
-word_before from gone came w = take from w ++ (gone ++ drop (from + came) w)

@@ -1,3 +1,4 @@
+pub mod Changes
 pub mod Counts
 pub mod Courses
 pub mod Points

@@ -25,7 +25,8 @@ pub record ReplacesPoints (p : PlainPart) (w : List PlainToken) (ps : List Point
   pub answer : s.is_allowed ≡ is_word p w
 
 -- the first so many points, up to this place, are ones of the word after too
-pub record StaysBefore (p : PlainPart) (w : List PlainToken) (ps : List Point) (n place : ℕ) : Type 0
+pub record StaysBefore (p : PlainPart) (w : List PlainToken) (ps : List Point)
+    (n place : ℕ) : Type 0
   where
     pub before : List PlainToken
     pub lead : LeadOver p [] (take n ps) before

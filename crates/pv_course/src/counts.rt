@@ -1,10 +1,11 @@
 //! How many tokens of a word a content model doesn't allow alone.
 
-ghost use Rattle.std.specs.Prelude.{◌++◌, List, IfOk, map};
-ghost use Rattle.pv_model.specs.Plain.{PlainToken};
+ghost use Rattle.std.specs.Prelude.{IfOk, map};
 ghost use Rattle.pv_model.specs.PlainForms.{plain_model, plain_token};
-ghost use Rattle.pv_course.specs.Counts.{HasRefused};
+ghost use Rattle.pv_course.specs.Changes.{word_before};
+ghost use Rattle.pv_course.specs.Counts.{AreWithout, IsAllowedAlone};
 
+use crate::changes::WordChange;
 use pv_model::{LaidModel, NoMemory, Token};
 use std::alloc::Global;
 
@@ -16,7 +17,7 @@ pub fn refused_count(
     word: &[Token],
 ) -> Result<usize, NoMemory>
     ensures { IfOk result
-        (HasRefused declared (plain_model model.now) (map plain_token word.now)) }
+        (AreWithout (IsAllowedAlone declared (plain_model model.now)) (map plain_token word.now)) }
 {
     let mut count = 0;
     for token in word {
@@ -27,23 +28,22 @@ pub fn refused_count(
     Ok(count)
 }
 
-/// The same of a word where some tokens have given way to others, by the number before.
+/// The same after a change of the word, by the number before.
 pub fn count_after(
     alloc: Global,
     model: &LaidModel,
     declared: u32,
     count: usize,
-    gone: &[Token],
-    came: &[Token],
+    change: &WordChange<'_>,
 ) -> Result<usize, NoMemory>
-    ensures { IfOk result (λ n. (front back : List PlainToken) →
-        HasRefused declared (plain_model model.now)
-        (front ++ (map plain_token gone.now ++ back)) count →
-        HasRefused declared (plain_model model.now)
-        (front ++ (map plain_token came.now ++ back)) n) }
+    ensures { IfOk result (λ n.
+        AreWithout (IsAllowedAlone declared (plain_model model.now))
+        (map plain_token (word_before change.now)) count →
+        AreWithout (IsAllowedAlone declared (plain_model model.now))
+        (map plain_token change.now.word.now) n) }
 {
-    let gone_count = refused_count(alloc, model, declared, gone)?;
-    let came_count = refused_count(alloc, model, declared, came)?;
+    let gone_count = refused_count(alloc, model, declared, change.gone)?;
+    let came_count = refused_count(alloc, model, declared, change.what_came())?;
     let left = count.saturating_sub(gone_count);
     left.checked_add(came_count).ok_or(NoMemory)
 }

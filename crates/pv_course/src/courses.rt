@@ -1,12 +1,14 @@
 //! Courses of words, and their turns.
 
-ghost use Rattle.std.specs.Prelude.{◌≡◌, ◌+◌, ◌≤◌, ◌↔◌, ℕ, List, IsTrue, IfOk, length, map};
+ghost use Rattle.std.specs.Prelude.{◌≡◌, ◌↔◌, ℕ, List, IsTrue, IfOk, map};
 ghost use Rattle.pv_model.specs.Models.{Allows};
 ghost use Rattle.pv_model.specs.Plain.{PlainModel, PlainToken};
 ghost use Rattle.pv_model.specs.PlainForms.{plain_model, plain_token};
-ghost use Rattle.pv_course.specs.Courses.{IsCourse, IsTurn, KeepsWord, MakesWord, word_before};
+ghost use Rattle.pv_course.specs.Changes.{word_before};
+ghost use Rattle.pv_course.specs.Courses.{IsCourse, IsTurn, KeepsWord, MakesWord};
 ghost use Rattle.pv_course.specs.declared.courses.Course.{Course};
 
+use crate::changes::WordChange;
 use crate::counts::{count_after, refused_count};
 use crate::stretches::{Points, Stretch};
 use pv_model::{ContentModel, LaidModel, NoMemory, Token};
@@ -67,9 +69,7 @@ impl Course {
         self.kept.is_allowed()
     }
 
-    /// What becomes of the course where, at the place `from`, the tokens `gone` gave way to the
-    /// `came` ones that stand there in `word`, the word after the change. The course stays as it
-    /// is.
+    /// What becomes of the course where the word changes. The course stays as it is.
     ///
     /// Under a content particle the word is matched from the last point before the change up to the
     /// first one behind it where the same is reached as before; if there is none, or if no allowed
@@ -79,33 +79,29 @@ impl Course {
         alloc: Global,
         model: &LaidModel,
         declared: u32,
-        word: &[Token],
-        from: usize,
-        gone: &[Token],
-        came: usize,
+        change: &WordChange<'_>,
     ) -> Result<Turn, NoMemory>
-        requires { from + came ≤ length word.now }
         ensures { IfOk result (λ turn.
             IsCourse declared (plain_model model.now)
-            (map plain_token (word_before from gone.now came word.now)) self.now →
-            IsTurn declared (plain_model model.now) (map plain_token word.now) self.now turn) }
+            (map plain_token (word_before change.now)) self.now →
+            IsTurn declared (plain_model model.now)
+            (map plain_token change.now.word.now) self.now turn) }
     {
         match (&self.kept, model.model()) {
             (Kept::Count(count), _) => {
-                let came = &word[from..from + came];
-                let count = count_after(alloc, model, declared, *count, gone, came)?;
+                let count = count_after(alloc, model, declared, *count, change)?;
                 Ok(Turn {
                     made: Made::Whole(Kept::Count(count)),
                 })
             }
             (Kept::Points(points), ContentModel::Children(part)) => {
-                let stretch = points.turn(alloc, part, word, from, gone.len(), came)?;
+                let stretch = points.turn(alloc, part, change)?;
                 Ok(Turn {
                     made: Made::Part(stretch),
                 })
             }
             (Kept::Points(_), _) => {
-                let kept = kept_of(alloc, model, declared, word)?;
+                let kept = kept_of(alloc, model, declared, change.word)?;
                 Ok(Turn {
                     made: Made::Whole(kept),
                 })

@@ -7,10 +7,11 @@
 //! that it is known of each continuation whether it makes a word of the particle
 //! (`specs/Points.antt`). A changed word is walked from the last point before the change to the
 //! first point behind it where the same is reached as before; what stands behind that one is kept,
-//! and so is the answer. `Course::turn` finds this and changes nothing, and `Course::make` makes it
-//! (`specs/Courses.antt`).
+//! and so is the answer. `Course::turn` finds this of a `WordChange` (`specs/Changes.antt`) and
+//! changes nothing, and `Course::make` makes it (`specs/Courses.antt`).
 #![tactic(auto)]
 
+mod changes;
 mod counts;
 mod courses;
 mod points;
@@ -19,4 +20,5 @@ mod stretches;
 mod turns;
 mod walkers;
 
+pub use changes::WordChange;
 pub use courses::{Course, Turn};

@@ -79,22 +79,7 @@ fn replace(items: &mut Vec<Point>, first: usize, last: usize, points: Vec<Point>
         (take first items.old.items ++ (points.items ++ drop last items.old.items) ≡
         items.new.items ++ rest) }
 {
-    remove_range(items, first, last);
-    let mut place = first;
-    for point in points {
-        if items.insert(place, point).is_err() {
-            items.truncate(place);
-            return;
-        }
-        place += 1;
+    if items.splice(first..last, points).is_err() {
+        items.truncate(first);
     }
-}
-
-// Takes out the points from one number up to another.
-fn remove_range(items: &mut Vec<Point>, first: usize, last: usize)
-    requires order { first ≤ last }
-    requires within { last ≤ vec_len items.old }
-    ensures { items.new.items ≡ take first items.old.items ++ drop last items.old.items }
-{
-    for _ in items.drain(first..last) {}
 }

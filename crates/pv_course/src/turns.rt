@@ -5,12 +5,13 @@ ghost use Rattle.std.specs.Prelude.{take, drop};
 ghost use Rattle.pv_model.specs.Plain.{PlainToken};
 ghost use Rattle.pv_model.specs.PlainForms.{plain_part, plain_token};
 ghost use Rattle.pv_model.specs.Positions.{position_count};
-ghost use Rattle.pv_course.specs.Courses.{word_before};
+ghost use Rattle.pv_course.specs.Changes.{word_before};
 ghost use Rattle.pv_course.specs.Points.{LeadOver, span};
 ghost use Rattle.pv_course.specs.States.{IsAfter};
 ghost use Rattle.pv_course.specs.Stretches.{AreOf, ReplacesPoints, StaysBefore};
 ghost use Rattle.pv_course.specs.Walks.{Wait};
 
+use crate::changes::WordChange;
 use crate::points::{Before, Behind, point_behind, points_before};
 use crate::states::State;
 use crate::stretches::{Points, Stretch};
@@ -26,28 +27,29 @@ struct Start {
 }
 
 impl Points {
-    /// What takes the place of some points where, at a place, so many tokens gave way to so many
-    /// that stand there now.
+    /// What takes the place of some points where the word changes.
     pub fn turn(
         &self,
         alloc: Global,
         part: &Part,
-        word: &[Token],
-        from: usize,
-        gone: usize,
-        came: usize,
+        change: &WordChange<'_>,
     ) -> Result<Stretch, NoMemory>
-        requires { from + came ≤ length word.now }
-        ensures { IfOk result (λ s. (before : List PlainToken) →
-            length before ≡ gone →
-            AreOf (plain_part part.now) (word_before from before came (map plain_token word.now))
-            self.now →
-            ReplacesPoints (plain_part part.now) (map plain_token word.now) self.now.items.items s) }
+        ensures { IfOk result (λ s.
+            AreOf (plain_part part.now) (map plain_token (word_before change.now)) self.now →
+            ReplacesPoints (plain_part part.now) (map plain_token change.now.word.now)
+            self.now.items.items s) }
     {
-        let limit = from.checked_add(gone).ok_or(NoMemory)?;
-        let start = self.start(alloc, part, from)?;
+        let limit = change.from.checked_add(change.gone.len()).ok_or(NoMemory)?;
+        let start = self.start(alloc, part, change.from)?;
         let old = point_behind(self.items.as_slice(), start.known, limit);
-        self.walk_on(alloc, part, word, start, from + came, old)
+        self.walk_on(
+            alloc,
+            part,
+            change.word,
+            start,
+            change.from + change.came,
+            old,
+        )
     }
 
     // The walk over a changed word, from a point before the change over the tokens up to a place,
@@ -68,13 +70,14 @@ impl Points {
         requires order { start.known.count ≤ old.number }
         requires old { old.number ≤ length self.now.items.items }
         ensures { IfOk result (λ s. (x : List PlainToken)
-            (stays : StaysBefore (plain_part part.now) (map plain_token word.now) self.now.items.items
-            start.known.count start.known.place) →
+            (stays : StaysBefore (plain_part part.now) (map plain_token word.now)
+            self.now.items.items start.known.count start.known.place) →
             IsAfter (plain_part part.now) stays.before start.state →
             Wait (plain_part part.now) (x ++ map plain_token (drop end word.now))
             self.now.is_allowed (length x + old.distance)
             (drop old.number self.now.items.items) →
-            ReplacesPoints (plain_part part.now) (map plain_token word.now) self.now.items.items s) }
+            ReplacesPoints (plain_part part.now) (map plain_token word.now)
+            self.now.items.items s) }
     {
         let first = start.known.count;
         let mut walker = Walker::at(alloc, start.state);

@@ -2,6 +2,4 @@
 pub mod Splicing
 -- of this crate:
 pub mod Answering
-pub mod Changing
-pub mod Counting
 pub mod Differing

@@ -1,23 +1,18 @@
 -- How many tokens keep a word from being possible.
-use Rattle.std.specs.Prelude.{IfSome, List, [], suc, ℕ, ◌∷◌, ◌≡◌, ◌⊎◌}
+use Rattle.std.specs.Prelude.{IfSome, List, ℕ}
 use Rattle.pv_model.specs.Plain.{PlainToken}
+use Rattle.pv_course.specs.Counts.{AreWithout}
 use Rattle.pv_dtd.specs.Plain.{PlainDtd}
 use Rattle.pv_missing.specs.LiveWords.{IsProductiveToken}
 use Rattle.pv_reach.specs.Taking.{ContentTakes, IsFreeContent}
 use Rattle.pv_verdicts.specs.declared.counts.Counts.{Counts}
 
--- n of the tokens are without the property
-abbrev pub AreWithout : (PlainToken → Type 0) → List PlainToken → ℕ → Type 0
-AreWithout P [] n = n ≡ 0
-AreWithout P (t ∷ w) n = (P t × AreWithout P w n) ⊎
-    ((m : ℕ) × (P t → ⊥) × (n ≡ suc m) × AreWithout P w m)
-
 -- the token stands for no element whose name isn't productive, and the content of the name takes it
 abbrev pub IsTakenToken : PlainDtd → ℕ → PlainToken → Type 0
 IsTakenToken g x t = IsProductiveToken g t × ContentTakes g x t
 
--- So many tokens of the word stand for elements whose names aren't productive; and where the content
--- of the name is known to be free, so many aren't taken by it.
+-- So many tokens of the word stand for elements whose names aren't productive; and where the
+-- content of the name is known to be free, so many aren't taken by it.
 pub record AreCounts (g : PlainDtd) (x : ℕ) (w : List PlainToken) (counts : Counts) : Type 0 where
   pub unproductive : AreWithout (IsProductiveToken g) w counts.unproductive
   pub untaken : IfSome counts.untaken (λ n. IsFreeContent g x × AreWithout (IsTakenToken g x) w n)

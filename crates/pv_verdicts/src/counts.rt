@@ -1,13 +1,15 @@
 //! How many tokens of a word keep it from being possible.
 
-ghost use Rattle.std.specs.Prelude.{◌≡◌, ◌≤◌, ◌+◌, ◌↔◌, IfSome, IsTrue, length, map};
-ghost use Rattle.std.specs.List.{splice};
+ghost use Rattle.std.specs.Prelude.{◌≡◌, ◌↔◌, IfSome, IsTrue, map};
+ghost use Rattle.pv_course.specs.Changes.{word_before};
+ghost use Rattle.pv_course.specs.Counts.{AreWithout};
 ghost use Rattle.pv_model.specs.PlainForms.{plain_token};
 ghost use Rattle.pv_productive.specs.PlainForms.{dtd_of};
 ghost use Rattle.pv_missing.specs.LiveWords.{IsProductiveToken};
 ghost use Rattle.pv_reach.specs.Taking.{IsFreeContent};
-ghost use Rattle.pv_verdicts.specs.Counting.{AreWithout, IsTakenToken};
+ghost use Rattle.pv_verdicts.specs.Counting.{IsTakenToken};
 
+use pv_course::WordChange;
 use pv_missing::are_productive;
 use pv_model::{NameId, Token};
 use pv_reach::{FreeContent, Judge};
@@ -61,23 +63,16 @@ fn untaken_in(judge: &Judge<'_>, id: NameId, content: &FreeContent<'_>, word: &[
     count
 }
 
-/// How many tokens of a word stand for elements whose names aren't productive, where so many tokens
-/// came in place of others, by how many of the word before do.
-fn unproductive_after(
-    judge: &Judge<'_>,
-    before: usize,
-    word: &[Token],
-    from: usize,
-    gone: &[Token],
-    came: usize,
-) -> usize
-    requires range { from + came ≤ length word.now }
-    requires before { AreWithout (IsProductiveToken (dtd_of judge.now))
-        (map plain_token (splice word.now from (from + came) gone.now)) before }
-    ensures { AreWithout (IsProductiveToken (dtd_of judge.now)) (map plain_token word.now) result }
+/// How many tokens of a word stand for elements whose names aren't productive, after a change, by
+/// how many of the word before do.
+fn unproductive_after(judge: &Judge<'_>, before: usize, change: &WordChange<'_>) -> usize
+    requires { AreWithout (IsProductiveToken (dtd_of judge.now))
+        (map plain_token (word_before change.now)) before }
+    ensures { AreWithout (IsProductiveToken (dtd_of judge.now))
+        (map plain_token change.now.word.now) result }
 {
-    let old = unproductive_in(judge, gone);
-    let new = unproductive_in(judge, &word[from..from + came]);
+    let old = unproductive_in(judge, change.gone);
+    let new = unproductive_in(judge, change.what_came());
     before - old + new
 }
 
@@ -87,21 +82,18 @@ fn untaken_after(
     judge: &Judge<'_>,
     id: NameId,
     before: Option<usize>,
-    word: &[Token],
-    from: usize,
-    gone: &[Token],
-    came: usize,
+    change: &WordChange<'_>,
 ) -> Option<usize>
-    requires range { from + came ≤ length word.now }
-    requires before { IfSome before (AreWithout (IsTakenToken (dtd_of judge.now) id.0)
-        (map plain_token (splice word.now from (from + came) gone.now))) }
+    requires { IfSome before (AreWithout (IsTakenToken (dtd_of judge.now) id.0)
+        (map plain_token (word_before change.now))) }
     ensures { IfSome result (λ n. IsFreeContent (dtd_of judge.now) id.0 ×
-        AreWithout (IsTakenToken (dtd_of judge.now) id.0) (map plain_token word.now) n) }
+        AreWithout (IsTakenToken (dtd_of judge.now) id.0)
+        (map plain_token change.now.word.now) n) }
 {
     let all = before?;
     let content = judge.free_content(id)?;
-    let old = untaken_in(judge, id, &content, gone);
-    let new = untaken_in(judge, id, &content, &word[from..from + came]);
+    let old = untaken_in(judge, id, &content, change.gone);
+    let new = untaken_in(judge, id, &content, change.what_came());
     Some(all - old + new)
 }
 
@@ -127,25 +119,16 @@ impl Counts {
         }
     }
 
-    /// The counts of a word in which so many tokens came in place of others, by those of the word
-    /// before.
-    pub(crate) fn after(
-        &self,
-        judge: &Judge<'_>,
-        id: NameId,
-        word: &[Token],
-        from: usize,
-        gone: &[Token],
-        came: usize,
-    ) -> Counts
-        requires range { from + came ≤ length word.now }
-        requires before { AreCounts (dtd_of judge.now) id.0
-            (map plain_token (splice word.now from (from + came) gone.now)) self.now }
-        ensures { AreCounts (dtd_of judge.now) id.0 (map plain_token word.now) result }
+    /// The counts of a word after a change, by those of the word before.
+    pub(crate) fn after(&self, judge: &Judge<'_>, id: NameId, change: &WordChange<'_>) -> Counts
+        requires { AreCounts (dtd_of judge.now) id.0
+            (map plain_token (word_before change.now)) self.now }
+        ensures { AreCounts (dtd_of judge.now) id.0
+            (map plain_token change.now.word.now) result }
     {
         Counts {
-            unproductive: unproductive_after(judge, self.unproductive, word, from, gone, came),
-            untaken: untaken_after(judge, id, self.untaken, word, from, gone, came),
+            unproductive: unproductive_after(judge, self.unproductive, change),
+            untaken: untaken_after(judge, id, self.untaken, change),
         }
     }
 }

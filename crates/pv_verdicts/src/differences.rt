@@ -1,21 +1,10 @@
 //! Where two words differ.
 
 ghost use Rattle.std.specs.Prelude.{◌≡◌, ◌≤◌, ◌+◌, ℕ, take, drop, length};
+ghost use Rattle.pv_course.specs.Changes.{word_before};
 
+use pv_course::WordChange;
 use pv_model::Token;
-
-/// Where a word differs from the one before it.
-#[derive(Clone, Copy)]
-pub struct Difference {
-    /// The place of the first token that differs.
-    pub from: usize,
-
-    /// Behind the last one that is gone, in the word before.
-    pub gone_to: usize,
-
-    /// How many came in their place.
-    pub came: usize,
-}
 
 // How many tokens at the start of two words are the same.
 fn common_front(before: &[Token], after: &[Token]) -> usize
@@ -48,25 +37,18 @@ fn common_back(before: &[Token], after: &[Token]) -> usize
     most
 }
 
-impl Difference {
-    ghost use Rattle.std.specs.Prelude.{◌≡◌, ◌≤◌, ◌+◌, length};
-    ghost use Rattle.std.specs.List.{between, splice};
-
-    /// Where a word differs from the one before it: with those that are gone put in place of those
-    /// that came, it is the one before.
-    pub fn of(before: &[Token], after: &[Token]) -> Difference
-        ensures gone { result.from ≤ result.gone_to }
-        ensures before { result.gone_to ≤ length before.now }
-        ensures came { result.from + result.came ≤ length after.now }
-        ensures same { splice after.now result.from (result.from + result.came)
-            (between result.from result.gone_to before.now) ≡ before.now }
-    {
-        let from = common_front(before, after);
-        let back = common_back(&before[from..], &after[from..]);
-        Difference {
-            from,
-            gone_to: before.len() - back,
-            came: after.len() - back - from,
-        }
+/// The change that makes a word of the one before it: what stands between the tokens that both
+/// begin with and those that both end in.
+pub fn change_between<'a>(before: &'a [Token], after: &'a [Token]) -> WordChange<'a>
+    ensures after { result.word.now ≡ after.now }
+    ensures before { word_before result ≡ before.now }
+{
+    let from = common_front(before, after);
+    let back = common_back(&before[from..], &after[from..]);
+    WordChange {
+        word: after,
+        from,
+        gone: &before[from..before.len() - back],
+        came: after.len() - back - from,
     }
 }

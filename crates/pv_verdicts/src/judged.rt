@@ -13,7 +13,7 @@ ghost use Rattle.pv_verdicts.specs.declared.judged.Kept.{Kept as PlainKept};
 use crate::counts::Counts;
 use crate::deciding::{Content, content_of, verdict_by};
 use pv_chars::NoMemory;
-use pv_course::{Course, Turn};
+use pv_course::{Course, Turn, WordChange};
 use pv_missing::{Of, is_narrow};
 use pv_model::{LaidModel, Token};
 use pv_reach::{Judge, ReachError, word_verdict};
@@ -73,8 +73,8 @@ fn made_of(kept: Option<Kept>, turn: Option<KeptTurn>) -> Option<Kept>
 }
 
 impl Kept {
-    ghost use Rattle.std.specs.Prelude.{◌≡◌, ◌≤◌, ◌+◌, ℕ, Bool, List, IfErr, IfOk, Some, length, map};
-    ghost use Rattle.std.specs.List.{splice};
+    ghost use Rattle.std.specs.Prelude.{◌≡◌, ℕ, Bool, List, IfErr, IfOk, Some, length, map};
+    ghost use Rattle.pv_course.specs.Changes.{word_before};
     ghost use Rattle.pv_model.specs.Plain.{PlainToken};
     ghost use Rattle.pv_model.specs.PlainForms.{plain_model, plain_token};
     ghost use Rattle.pv_dtd.specs.Plain.{PlainDtd};
@@ -101,73 +101,59 @@ impl Kept {
         })
     }
 
-    /// What it becomes where so many tokens came in place of others.
+    /// What a change of the word makes of it.
     fn turn(
         &self,
         judge: &Judge<'_>,
         content: &Content<'_>,
-        word: &[Token],
-        from: usize,
-        gone: &[Token],
-        came: usize,
+        change: &WordChange<'_>,
     ) -> Result<KeptTurn, NoMemory>
         requires content { IsOpenContent (dtd_of judge.now) content.now.id.0
             (plain_model content.now.model.now) }
-        requires range { from + came ≤ length word.now }
         requires kept { IsKeptOf (dtd_of judge.now) content.now.id.0
-            (map plain_token (splice word.now from (from + came) gone.now)) self.now }
-        ensures { IfOk result
-            (IsTurnOf (dtd_of judge.now) content.now.id.0 (map plain_token word.now) self.now) }
+            (map plain_token (word_before change.now)) self.now }
+        ensures { IfOk result (IsTurnOf (dtd_of judge.now) content.now.id.0
+            (map plain_token change.now.word.now) self.now) }
     {
         let declared = judge.grammar().dtd().count();
         let turn = self
             .course
-            .turn(
-                judge.alloc(),
-                content.model,
-                declared,
-                word,
-                from,
-                gone,
-                came,
-            )
+            .turn(judge.alloc(), content.model, declared, change)
             .map_err(|_| NoMemory)?;
         Ok(KeptTurn {
-            counts: self.counts.after(judge, content.id, word, from, gone, came),
+            counts: self.counts.after(judge, content.id, change),
             turn,
         })
     }
 
-    /// The verdict of the word in which so many tokens came in place of others, where it isn't too
-    /// wide, and what is kept then.
+    /// The verdict of the word after a change, where it isn't too wide, and what the change makes
+    /// of what is kept.
     fn verdict_after(
         &self,
         judge: &Judge<'_>,
         content: &Content<'_>,
-        word: &[Token],
-        from: usize,
-        gone: &[Token],
-        came: usize,
+        change: &WordChange<'_>,
     ) -> Result<(Verdict, KeptTurn), ReachError>
         requires content { IsOpenContent (dtd_of judge.now) content.now.id.0
             (plain_model content.now.model.now) }
-        requires range { from + came ≤ length word.now }
         requires kept { IsKeptOf (dtd_of judge.now) content.now.id.0
-            (map plain_token (splice word.now from (from + came) gone.now)) self.now }
+            (map plain_token (word_before change.now)) self.now }
         ensures verdict { IfOk result (λ found. (none : Bool) → IsVerdictByWord (dtd_of judge.now)
-            (Some (content_site content.now.id.0)) (map plain_token word.now) none found.0) }
+            (Some (content_site content.now.id.0)) (map plain_token change.now.word.now) none
+            found.0) }
         ensures turned { IfOk result (λ found. IsTurnOf (dtd_of judge.now) content.now.id.0
-            (map plain_token word.now) self.now found.1) }
-        ensures fits { IfOk result (λ _. FitsVerdict (dtd_of judge.now) (length word.now)) }
+            (map plain_token change.now.word.now) self.now found.1) }
+        ensures fits { IfOk result (λ _.
+            FitsVerdict (dtd_of judge.now) (length change.now.word.now)) }
         ensures wide { IfErr result (λ e. e ≡ too_wide →
-            ¬ FitsVerdict (dtd_of judge.now) (length word.now)) }
+            ¬ FitsVerdict (dtd_of judge.now) (length change.now.word.now)) }
     {
-        if !is_narrow(judge.grammar().dtd(), word.len() as u64) {
+        if !is_narrow(judge.grammar().dtd(), change.word.len() as u64) {
             return Err(ReachError::TooWide);
         }
-        let turn = self.turn(judge, content, word, from, gone, came)?;
+        let turn = self.turn(judge, content, change)?;
         let is_allowed = turn.turn.is_allowed();
-        let verdict = verdict_by(judge, content, &turn.counts, is_allowed, word)?;
+        let verdict = verdict_by(judge, content, &turn.counts, is_allowed, change.word)?;
         Ok((verdict, turn))
     }
 
@@ -186,8 +172,8 @@ impl Kept {
 }
 
 impl Judged {
-    ghost use Rattle.std.specs.Prelude.{◌≡◌, ◌≤◌, ◌+◌, ℕ, List, IfErr, IfOk, Option, length, map};
-    ghost use Rattle.std.specs.List.{splice};
+    ghost use Rattle.std.specs.Prelude.{◌≡◌, ◌+◌, List, IfErr, IfOk, Option, length, map};
+    ghost use Rattle.pv_course.specs.Changes.{word_before};
     ghost use Rattle.std.specs.Option.{option_map};
     ghost use Rattle.pv_model.specs.Plain.{PlainToken};
     ghost use Rattle.pv_model.specs.PlainForms.{plain_token};
@@ -213,63 +199,55 @@ impl Judged {
         Ok(Judged { kept: Some(kept) })
     }
 
-    /// The verdict of a list's word in which so many tokens, from this place on, came in place of
-    /// those that are gone, as `word_verdict` finds it; and what it makes of what is kept, by which
-    /// it is found. Where nothing is kept, all of the word is gone over, as it is for a table.
+    /// The verdict of a list's word after a change, as `word_verdict` finds it; and what the change
+    /// makes of what is kept, by which the verdict is found. Where nothing is kept, all of the word
+    /// is gone over, as it is for a table.
     pub fn verdict_after<L: Ledger>(
         &self,
         judge: &Judge<'_>,
         owner: Option<Of>,
-        word: &[Token],
+        change: &WordChange<'_>,
         is_bare: bool,
-        from: usize,
-        gone: &[Token],
-        came: usize,
         steps: &mut Steps<L>,
     ) -> Result<(Verdict, Turned), ReachError>
-        requires range { from + came ≤ length word.now }
-        requires judged { IsJudged (dtd_of judge.now) (option_map plain_of owner)
-            (map plain_token (splice word.now from (from + came) gone.now)) self.now }
+        requires { IsJudged (dtd_of judge.now) (option_map plain_of owner)
+            (map plain_token (word_before change.now)) self.now }
         ensures verdict { IfOk result (λ found. IsVerdictByWord (dtd_of judge.now)
-            (option_map plain_of owner) (map plain_token word.now) is_bare found.0) }
+            (option_map plain_of owner) (map plain_token change.now.word.now) is_bare found.0) }
         ensures turned { IfOk result (λ found. IsTurned (dtd_of judge.now)
-            (option_map plain_of owner) (map plain_token word.now) self.now found.1) }
-        ensures fits { IfOk result (λ _. FitsVerdict (dtd_of judge.now) (length word.now)) }
+            (option_map plain_of owner) (map plain_token change.now.word.now) self.now found.1) }
+        ensures fits { IfOk result (λ _.
+            FitsVerdict (dtd_of judge.now) (length change.now.word.now)) }
         ensures wide { IfErr result (λ e. e ≡ too_wide →
-            ¬ FitsVerdict (dtd_of judge.now) (length word.now)) }
+            ¬ FitsVerdict (dtd_of judge.now) (length change.now.word.now)) }
         ensures steps { steps.new ≡ steps.old + 1 }
     {
         if let Some(kept) = &self.kept {
             if let Some(content) = content_of(judge.grammar(), owner) {
                 steps.tick();
-                let (verdict, turn) = kept.verdict_after(judge, &content, word, from, gone, came)?;
+                let (verdict, turn) = kept.verdict_after(judge, &content, change)?;
                 return Ok((verdict, Turned { kept: Some(turn) }));
             }
         }
-        let verdict = word_verdict(judge, owner, word, is_bare, steps)?;
+        let verdict = word_verdict(judge, owner, change.word, is_bare, steps)?;
         Ok((verdict, Turned { kept: None }))
     }
 
-    /// What a change makes of what is kept, without a verdict: so many tokens, from this place on,
-    /// came in place of those that are gone.
+    /// What a change of the word makes of what is kept, without a verdict.
     pub fn turned(
         &self,
         judge: &Judge<'_>,
         owner: Option<Of>,
-        word: &[Token],
-        from: usize,
-        gone: &[Token],
-        came: usize,
+        change: &WordChange<'_>,
     ) -> Result<Turned, NoMemory>
-        requires range { from + came ≤ length word.now }
-        requires judged { IsJudged (dtd_of judge.now) (option_map plain_of owner)
-            (map plain_token (splice word.now from (from + came) gone.now)) self.now }
+        requires { IsJudged (dtd_of judge.now) (option_map plain_of owner)
+            (map plain_token (word_before change.now)) self.now }
         ensures { IfOk result (IsTurned (dtd_of judge.now) (option_map plain_of owner)
-            (map plain_token word.now) self.now) }
+            (map plain_token change.now.word.now) self.now) }
     {
         if let Some(kept) = &self.kept {
             if let Some(content) = content_of(judge.grammar(), owner) {
-                let turn = kept.turn(judge, &content, word, from, gone, came)?;
+                let turn = kept.turn(judge, &content, change)?;
                 return Ok(Turned { kept: Some(turn) });
             }
         }

@@ -1,6 +1,6 @@
 //! The word that was judged last, by which one that differs from it little is judged.
 
-use crate::differences::Difference;
+use crate::differences::change_between;
 use crate::judged::Judged;
 use pv_chars::NoMemory;
 use pv_missing::Of;
@@ -10,8 +10,8 @@ use pv_steps::Steps;
 use pv_tree::Verdict;
 use std::sync::ledger::Ledger;
 
-/// A word from which more tokens are gone, or into which more came, is judged anew: by the last word
-/// it takes steps of those, and the last word may be far longer.
+/// A word from which more tokens are gone, or into which more came, is judged anew: by the last
+/// word it takes steps of those, and the last word may be far longer.
 const FEW: usize = 1024;
 
 /// The word of the list that was judged last, with its owner and what is kept of it.
@@ -77,21 +77,13 @@ impl LastWord {
         if !self.is_of(owner) {
             return word_verdict(judge, owner, word, is_bare, steps);
         }
-        let change = Difference::of(&self.tokens, word);
-        let gone = &self.tokens[change.from..change.gone_to];
-        if gone.len() > FEW || change.came > FEW {
+        let change = change_between(&self.tokens, word);
+        if change.gone.len() > FEW || change.came > FEW {
             return word_verdict(judge, owner, word, is_bare, steps);
         }
-        let (verdict, _turned) = self.judged.verdict_after(
-            judge,
-            owner,
-            word,
-            is_bare,
-            change.from,
-            gone,
-            change.came,
-            steps,
-        )?;
+        let (verdict, _turned) = self
+            .judged
+            .verdict_after(judge, owner, &change, is_bare, steps)?;
         Ok(verdict)
     }
 
@@ -108,12 +100,11 @@ impl LastWord {
             mut tokens,
             mut judged,
         } = self;
-        let change = Difference::of(&tokens, word);
-        let gone = &tokens[change.from..change.gone_to];
-        if gone.len() > FEW || change.came > FEW {
+        let change = change_between(&tokens, word);
+        if change.gone.len() > FEW || change.came > FEW {
             return Ok(None);
         }
-        let turned = judged.turned(judge, owner, word, change.from, gone, change.came)?;
+        let turned = judged.turned(judge, owner, &change)?;
         judged.make(turned);
         tokens.clear();
         tokens.extend_from_slice(word)?;

@@ -3,7 +3,7 @@
 use crate::changes::{Change, changed, random_change};
 use crate::models::{BOARDS, Board, model_of, push_tokens, with_model};
 use crate::random::Random;
-use pv_course::{Course, Turn};
+use pv_course::{Course, Turn, WordChange};
 use pv_model::{LaidModel, Token};
 use std::alloc::Global;
 use std::test::Fail;
@@ -47,7 +47,13 @@ fn find(
     if change.from > after.len() || came > after.len() - change.from {
         return Err(Fail::new("a change outside its word"));
     }
-    let turn = course.turn(alloc, model, DECLARED, &after, change.from, &gone, came)?;
+    let word_change = WordChange {
+        word: &after,
+        from: change.from,
+        gone: &gone,
+        came,
+    };
+    let turn = course.turn(alloc, model, DECLARED, &word_change)?;
     expect_allowed(alloc, model, &after, turn.is_allowed())?;
     expect_allowed(alloc, model, word, course.is_allowed())?;
     Ok(Found { turn, after, gone })

@@ -2,9 +2,10 @@
 
 ghost use Rattle.std.specs.Prelude.{◌≡◌, ◌<◌};
 
-use crate::changing::change;
+use crate::changing::{make_change, spliced};
 use crate::last::judge_by;
 use crate::random::Random;
+use pv_course::WordChange;
 use pv_missing::Of;
 use pv_model::{NameId, Token};
 use pv_productive::{Grammar, build};
@@ -62,21 +63,19 @@ fn play<L: Ledger>(
     let mut word = long_word(judge.alloc(), random, names)?;
     let mut judged = Judged::of(judge, owner, word.as_slice())?;
     let mut last = LastWord::of(judge, owner, word.as_slice())?;
-    for _ in 0..CHANGES {
+    for number in 0..CHANGES {
         let from = (random.below(128) as usize).min(word.len());
         let to = (from + random.below(4) as usize).min(word.len());
         let came = tokens(judge.alloc(), random, names)?;
-        let changed = change(
-            judge,
-            owner,
-            word.as_slice(),
-            &mut judged,
+        let after = spliced(judge.alloc(), word.as_slice(), from, to, came.as_slice())?;
+        let change = WordChange {
+            word: after.as_slice(),
             from,
-            to,
-            came.as_slice(),
-            steps,
-        )?;
-        word = changed.word;
+            gone: &word[from..to],
+            came: came.len(),
+        };
+        make_change(judge, owner, &mut judged, &change, number % 2 == 0, steps)?;
+        word = after;
         last = judge_by(judge, owner, last, word.as_slice(), steps)?;
     }
     Ok(())

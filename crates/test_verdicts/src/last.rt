@@ -24,6 +24,9 @@ pub fn judge_by<L: Ledger>(
     requires { IsLast (dtd_of judge.now) last }
     ensures { IfOk result (IsLast (dtd_of judge.now)) }
 {
+    if !last.is_of(owner) {
+        return Err(Fail::new("the last word has another owner"));
+    }
     let is_bare = word.is_empty();
     let verdict = last.verdict(judge, owner, word, is_bare, steps)?;
     if word_verdict(judge, owner, word, is_bare, steps)? != verdict {

@@ -2,7 +2,8 @@
 
 ghost use Rattle.std.specs.Prelude.{◌≡◌, ◌<◌};
 
-use crate::changing::change;
+use crate::changing::{make_change, spliced};
+use pv_course::WordChange;
 use pv_missing::Of;
 use pv_model::{NameId, Token};
 use pv_productive::build;
@@ -65,17 +66,14 @@ fn verdict_of<L: Ledger>(alloc: Global, row: &Row, blank: Blank) -> Result<Verdi
     let judge = Judge::new(alloc, &grammar, &plan);
     let owner = Some(Of::Elem(NameId(*owner)));
     let mut judged = Judged::of(&judge, owner, *word)?;
-    let changed = change(
-        &judge,
-        owner,
-        *word,
-        &mut judged,
-        *from,
-        *to,
-        *came,
-        &mut steps,
-    )?;
-    Ok(changed.verdict)
+    let after = spliced(alloc, *word, *from, *to, *came)?;
+    let change = WordChange {
+        word: after.as_slice(),
+        from: *from,
+        gone: &word[*from..*to],
+        came: came.len(),
+    };
+    make_change(&judge, owner, &mut judged, &change, false, &mut steps)
 }
 
 #[test]

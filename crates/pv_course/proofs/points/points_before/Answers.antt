@@ -8,4 +8,7 @@ loop-count-preserved c =
     let x = c.index-points-count.result in
     let more = span_more c.args.points.now c.loop-count.count x c.loop-count-test.true in
     let gap = ap (λ (r : Point). r.gap) c.index-points-count.is in
-    rw add-one (omega (arith, more, gap, c.loop-count.invariant.0), omega (arith, c.loop-count.invariant.1, c.if-point-from.false))
+    rw add-one (
+      omega (arith, more, gap, c.loop-count.invariant.0),
+      omega (arith, c.loop-count.invariant.1, c.if-point-from.false),
+    )

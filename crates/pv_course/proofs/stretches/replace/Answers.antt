@@ -1,26 +1,21 @@
-use Rattle.std.proofs.Common.{◌≡◌, ◌+◌, ◌++◌, ◌∷◌, [], List, length, take, drop, arith, sym, ap, ◌∙◌, is_ok, true, false, not, append_assoc, length-append, insert}
-use Rattle.std.proofs.lemmas.List.{length-take-le}
-use Rattle.std.specs.Vec.Iter.{into_iter_items}
-use Rattle.pv_course.specs.declared.points.Point.{Point}
-use Rattle.pv_course.proofs.Splicing.{inserted, cut_off}
+use Rattle.std.proofs.Common.{ap, sym, ◌∙◌, take}
+use Rattle.std.proofs.IntoIterSteps.{All-taken}
+use Rattle.pv_course.proofs.Splicing.{cut_off, put_in, told_err, told_ok}
 use Rattle.pv_course.proofs.stretches.replace.Goals as goal
 
 pub returns-then-is_err : goal.returns-then-is_err
 returns-then-is_err c =
-    let old = c.args.items.now.items in
-    let at : c.loop-point.place ≡ length (take c.args.first old) + length c.loop-point.yielded = omega (arith, c.loop-point.invariant.place, length-take-le c.args.first old (omega (arith, c.requires.order, c.requires.within, c.args.items.now.ok.0))) in
-    let okay : is_ok c.insert.result ≡ false = c.is_err.ensures.negation ∙ ap not c.if-is_err.true in
-    cut_off (take c.args.first old) c.loop-point.yielded (drop c.args.last old) c.loop-point.place at (into_iter_items c.loop-point.point-iterator) c.args.points.items c.insert.new.self.items _ (rw okay at c.insert.ensures.items ∙ c.loop-point.invariant.items) c.truncate.ensures.items c.loop-point.invariant.points
+    let a = c.args in
+    let old = a.items.now.items in
+    let is = sym c.is_err.ensures.value ∙ c.if-is_err.true in
+    let same = told_err c.splice.result _ is c.splice.ensures.err in
+    cut_off a.first a.last old a.points.items _ (c.truncate.ensures.items
+    ∙ ap (take a.first) same.0)
 
-pub loop-point-preserved : goal.loop-point-preserved
-loop-point-preserved c =
-    let old = c.args.items.now.items in
-    let y = c.loop-point.yielded in
-    let at : c.loop-point.place ≡ length (take c.args.first old) + length y = omega (arith, c.loop-point.invariant.place, length-take-le c.args.first old (omega (arith, c.requires.order, c.requires.within, c.args.items.now.ok.0))) in
-    let more = inserted (take c.args.first old) y (drop c.args.last old) c.loop-point.place at c.in-Some.point in
-    let okay : is_ok c.insert.result ≡ true = c.is_err.ensures.negation ∙ ap not c.if-is_err.false in
-    record {
-      items = (rw okay at c.insert.ensures.items) ∙ ap (λ (l : List Point). insert l c.loop-point.place c.in-Some.point) c.loop-point.invariant.items ∙ more;
-      place = omega (arith, c.loop-point.invariant.place, length-append y (c.in-Some.point ∷ []));
-      points = append_assoc y (c.in-Some.point ∷ []) _ ∙ ap (λ (l : List Point). y ++ l) (sym c.in-Some.ensures.steps.0) ∙ c.loop-point.invariant.points;
-    }
+pub returns-else-is_err : goal.returns-else-is_err
+returns-else-is_err c =
+    let a = c.args in
+    let is = sym c.is_err.ensures.value ∙ c.if-is_err.false in
+    let done = told_ok c.splice.result _ is c.splice.ensures.items in
+    let all = All-taken done.0 done.1 done.3 ∙ done.2.0 in
+    put_in a.first a.last a.items.now.items a.points.items _ done.1 done.4 all

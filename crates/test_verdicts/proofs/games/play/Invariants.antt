@@ -7,5 +7,9 @@ use Rattle.pv_verdicts.specs.Judged.{IsJudged}
 use Rattle.pv_verdicts.specs.Last.{IsLast}
 use Rattle.test_verdicts.proofs.games.play.Given as goal
 
-abbrev pub invariant-loop : goal.invariant-loop
-invariant-loop g l = (IsJudged (dtd_of l.judge) (option_map plain_of l.owner) (map plain_token l.word.items) l.judged) × IsLast (dtd_of l.judge) l.last
+abbrev pub invariant-loop-number : goal.invariant-loop-number
+invariant-loop-number g l = record {
+  judged : IsJudged (dtd_of l.judge) (option_map plain_of l.owner) (map plain_token l.word.items)
+      l.judged;
+  last : IsLast (dtd_of l.judge) l.last;
+}

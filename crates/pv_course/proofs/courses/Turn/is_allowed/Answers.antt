@@ -1,4 +1,4 @@
-use Rattle.pv_course.proofs.Counting.{word_answer}
+use Rattle.pv_course.proofs.Answering.{word_answer}
 use Rattle.pv_course.proofs.courses.Turn.is_allowed.Goals as goal
 
 pub returns-in-Part : goal.returns-in-Part

@@ -6,4 +6,7 @@ use Rattle.pv_course.proofs.states.State.start.Goals as goal
 
 pub returns : goal.returns
 returns c =
-    after_none (plain_part c.args.part.now) _ refl c.may_be_empty.ensures (c.in_ok-push_positions.ensures ∙ ap (λ l. l ++ unreached_positions (plain_part c.args.part.now)) c.in_ok-positions.ensures.items)
+    after_none (plain_part c.args.part.now) _ refl c.may_be_empty.ensures
+    (c.in_ok-push_positions.ensures
+    ∙ ap (λ l. l ++ unreached_positions (plain_part c.args.part.now))
+    c.in_ok-positions.ensures.items)

@@ -11,5 +11,8 @@ returns c =
     let p = plain_part c.args.part.now in
     let w = c.at-walker in
     let Q : State → Type 0 = λ s. IsAfter p [] s in
-    let start = read_none p [] w.result w.ensures.since w.ensures.points (subst Q (sym w.ensures.state) c.in_ok-start.ensures) in
-    walked_whole p _ c.in_ok-walked.walked _ (c.in_ok-walked.ensures.walked [] [] [] start tt) refl refl
+    let start =
+    read_none p [] w.result w.ensures.since w.ensures.points
+    (subst Q (sym w.ensures.state) c.in_ok-start.ensures) in
+    walked_whole p _ c.in_ok-walked.walked _
+    (c.in_ok-walked.ensures.walked [] [] [] start tt) refl refl

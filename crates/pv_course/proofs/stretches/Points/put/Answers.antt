@@ -3,4 +3,5 @@ use Rattle.pv_course.proofs.Turning.{put_points}
 use Rattle.pv_course.proofs.stretches.Points.put.Goals as goal
 
 pub returns-then-last-len : goal.returns-then-last-len
-returns-then-last-len c = λ p w h. put_points p w c.args.self.now.items.items c.args.stretch _ h refl c.replace.ensures
+returns-then-last-len c =
+    λ p w h. put_points p w c.args.self.now.items.items c.args.stretch _ h refl c.replace.ensures

@@ -8,5 +8,6 @@ use Rattle.pv_course.proofs.walkers.Walker.read_all.Given as goal
 abbrev pub invariant-loop-number : goal.invariant-loop-number
 invariant-loop-number l = record {
   count : length l.self.state.positions.items ≡ position_count (plain_part l.part);
-  read : (u a : List PlainToken) → HasRead (plain_part l.part) u a l.initial.self → HasRead (plain_part l.part) u (a ++ take l.number (map plain_token l.tokens)) l.self;
+  read : (u a : List PlainToken) → HasRead (plain_part l.part) u a l.initial.self →
+      HasRead (plain_part l.part) u (a ++ take l.number (map plain_token l.tokens)) l.self;
 }
