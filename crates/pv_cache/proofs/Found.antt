@@ -1,5 +1,6 @@
 -- Verdicts found by words are those of the lists.
-use Rattle.std.proofs.Common.{◌≡◌, ◌∙◌, ap, sym, ℕ, Bool, List, [], length, Option, Some, None, subst}
+use Rattle.std.proofs.Common.{◌≡◌, ◌∙◌, ap, sym, ℕ, Bool, List, [], length, Option, Some, None}
+use Rattle.std.proofs.Common.{subst}
 use Rattle.std.specs.Prelude.{MatchOption, false}
 use Rattle.std.proofs.lemmas.List.{length-map}
 use Rattle.std.specs.List.{between}
@@ -19,7 +20,8 @@ use Rattle.pv_tree.specs.Words.{word_of}
 use Rattle.pv_tree.specs.declared.nodes.Mark.{Mark}
 use Rattle.pv_tree.specs.declared.nodes.Verdict.{Verdict}
 use Rattle.pv_cache.specs.Changed.{AreJudged, IsInnerJudged, IsJudged}
-use Rattle.pv_cache.specs.Judging.{AreFound, AreWords, IsFound, IsFoundList, IsInnerFound, IsInnerWord, IsWordOf}
+use Rattle.pv_cache.specs.Judging.{AreFound, AreWords, IsFound, IsFoundList, IsInnerFound}
+use Rattle.pv_cache.specs.Judging.{IsInnerWord, IsWordOf}
 use Rattle.pv_cache.specs.declared.mending.InnerVerdict.{InnerVerdict}
 use Rattle.pv_cache.specs.declared.mending.ChangedVerdicts.{ChangedVerdicts}
 use Rattle.pv_cache.specs.declared.words.InnerWord.{InnerWord}
@@ -28,19 +30,36 @@ use Rattle.pv_cache.specs.declared.words.Words.{Words}
 
 module _ (g : PlainDtd) (root : List ℕ) where
   -- what is found by the word of a list is its verdict
-  pub found-verdict : (owner : Owner) (kids : Forest Mark) (word : ListWord) (v : Verdict) → HoldsOne owner kids → IsWordOf g kids word → IsFound g (site_of g root owner) word v → IsVerdict g root (record { path = []; owner = owner; kids = kids }) v
+  pub found-verdict : (owner : Owner) (kids : Forest Mark) (word : ListWord) (v : Verdict) →
+      HoldsOne owner kids → IsWordOf g kids word → IsFound g (site_of g root owner) word v →
+      IsVerdict g root (record { path = []; owner = owner; kids = kids }) v
   found-verdict owner kids word v h w f =
-      let a = subst (λ (u : List PlainToken). IsVerdictByWord g (site_of g root owner) u word.is_bare v) w.tokens f in
-      let b = subst (λ (n : Bool). IsVerdictByWord g (site_of g root owner) (word_of g kids) n v) w.bare a in
+      let a =
+      subst (λ (u : List PlainToken).
+      IsVerdictByWord g (site_of g root owner) u word.is_bare v) w.tokens f in
+      let b =
+      subst (λ (n : Bool).
+      IsVerdictByWord g (site_of g root owner) (word_of g kids) n v) w.bare a in
       (verdict_by_word Mark g root (record { path = []; owner = owner; kids = kids }) v h).1 b
 
-  pub narrow-word : (kids : Forest Mark) (word : ListWord) → IsWordOf g kids word → FitsVerdict g (length word.tokens.items) → FitsVerdict g (length (word_of g kids))
-  narrow-word kids word w f = subst (FitsVerdict g) (sym (length-map word.tokens.items plain_token) ∙ ap length w.tokens) f
+  pub narrow-word : (kids : Forest Mark) (word : ListWord) → IsWordOf g kids word →
+      FitsVerdict g (length word.tokens.items) → FitsVerdict g (length (word_of g kids))
+  narrow-word kids word w f =
+      subst (FitsVerdict g) (sym (length-map word.tokens.items plain_token) ∙ ap length w.tokens) f
 
-  found-list : (owner : Owner) (kids : Forest Mark) (word : ListWord) (v : Verdict) → HoldsOne owner kids → IsWordOf g kids word → IsFoundList g (site_of g root owner) word v → IsJudged g root owner kids v
-  found-list owner kids word v h w f = record { judged = found-verdict owner kids word v h w f.found; narrow = narrow-word kids word w f.narrow }
+  found-list : (owner : Owner) (kids : Forest Mark) (word : ListWord) (v : Verdict) →
+      HoldsOne owner kids → IsWordOf g kids word → IsFoundList g (site_of g root owner) word v →
+      IsJudged g root owner kids v
+  found-list owner kids word v h w f =
+      record {
+        judged = found-verdict owner kids word v h w f.found;
+        narrow = narrow-word kids word w f.narrow;
+      }
 
-  inner-judged : (c : Change Mark) (new : List (Tree Mark)) (inner : Option InnerWord) (i : Option InnerVerdict) → MatchOption inner (brings_element c.filling ≡ false) (IsInnerWord g c.filling new) → IsInnerFound g c.from inner i → IsInnerJudged g root c new i
+  inner-judged : (c : Change Mark) (new : List (Tree Mark)) (inner : Option InnerWord)
+      (i : Option InnerVerdict) →
+      MatchOption inner (brings_element c.filling ≡ false) (IsInnerWord g c.filling new) →
+      IsInnerFound g c.from inner i → IsInnerJudged g root c new i
   inner-judged c new None None w f = w
   inner-judged c new None (Some i) w f = absurd f
   inner-judged c new (Some inner) None w f = absurd f
@@ -59,9 +78,15 @@ module _ (g : PlainDtd) (root : List ℕ) where
   )
 
   -- the verdicts that were found are those of the changed lists
-  pub found-judged : (owner : Owner) (kids : List (Tree Mark)) (c : Change Mark) (words : Words) (vs : ChangedVerdicts) → HoldsOne owner (forest_of (list_after c kids)) → AreWords g c kids words → AreFound g (site_of g root owner) c.from words vs →
+  pub found-judged : (owner : Owner) (kids : List (Tree Mark)) (c : Change Mark) (words : Words)
+      (vs : ChangedVerdicts) → HoldsOne owner (forest_of (list_after c kids)) →
+      AreWords g c kids words → AreFound g (site_of g root owner) c.from words vs →
       AreJudged g root owner kids c vs.outer vs.inner
   found-judged owner kids c words vs h w f = record {
-    outer = found-list owner (forest_of (list_after c kids)) words.outer.word vs.outer h w.outer.word f.outer;
-    within = inner-judged c (in_place_of c.filling (between c.from c.to kids)) words.inner vs.inner w.inner f.inner;
+    outer =
+        found-list owner (forest_of (list_after c kids)) words.outer.word vs.outer h
+        w.outer.word f.outer;
+    within =
+        inner-judged c (in_place_of c.filling (between c.from c.to kids)) words.inner vs.inner
+        w.inner f.inner;
   }

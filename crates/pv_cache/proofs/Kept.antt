@@ -1,5 +1,6 @@
 -- What is kept of a list stays right where others come into it, and where marks are mended.
-use Rattle.std.proofs.Common.{◌≡◌, ◌∙◌, ap, sym, refl, ℕ, true, false, List, [], Option, Some, None, map, subst}
+use Rattle.std.proofs.Common.{◌≡◌, ◌∙◌, ap, sym, refl, ℕ, true, false, List, [], Option, Some, None}
+use Rattle.std.proofs.Common.{map, subst}
 use Rattle.std.specs.Option.{ForSome, option_map}
 use Rattle.pv_dtd.specs.Plain.{PlainDtd}
 use Rattle.pv_edit.specs.Changes.{Change, doc_after, list_after}
@@ -13,7 +14,8 @@ use Rattle.pv_missing.specs.WordVerdicts.{has_no_trees}
 use Rattle.pv_tree.specs.Heads.{Head, heads_of}
 use Rattle.pv_tree.specs.Marks.{unmarked_doc}
 use Rattle.pv_tree.specs.Places.{list_at}
-use Rattle.pv_tree.specs.Plain.{Forest, PlainDoc, Tree, forest_of, map_marks, no_trees, tree, without_marks}
+use Rattle.pv_tree.specs.Plain.{Forest, PlainDoc, Tree, forest_of, map_marks, no_trees, tree}
+use Rattle.pv_tree.specs.Plain.{without_marks}
 use Rattle.pv_tree.specs.declared.nodes.Mark.{Mark}
 use Rattle.pv_tree.specs.declared.nodes.Verdict.{Verdict}
 use Rattle.pv_cache.specs.Judging.{AreListTokens, AreKeptTokens}
@@ -34,9 +36,11 @@ same-bare (tree t rest) no_trees e = absurd cc
 same-bare (tree t rest) (tree u more) e = refl
 
 -- lists of the same heads have the same tokens
-pub tokens-alike : (g : PlainDtd) (a b : Forest Mark) (tokens : ListTokens) → heads_of a ≡ heads_of b → AreListTokens g a tokens → AreListTokens g b tokens
+pub tokens-alike : (g : PlainDtd) (a b : Forest Mark) (tokens : ListTokens) →
+    heads_of a ≡ heads_of b → AreListTokens g a tokens → AreListTokens g b tokens
 tokens-alike g a b tokens e t = record {
-  word = record { tokens = t.word.tokens ∙ same_word g a b e; bare = t.word.bare ∙ same-bare a b e };
+  word =
+      record { tokens = t.word.tokens ∙ same_word g a b e; bare = t.word.bare ∙ same-bare a b e };
   shown = t.shown ∙ ap (map has_token) e;
 }
 
@@ -47,35 +51,57 @@ heads-in ts = heads_of (forest_of ts)
 abbrev no-mark : {M : Type 0} → M → Unit {0}
 no-mark m = tt
 
-heads-all : {M : Type 0} (o : Option (List (Tree M))) → heads-in (items_of (option_map (map (map_marks no-mark)) o)) ≡ heads-in (items_of o)
+heads-all : {M : Type 0} (o : Option (List (Tree M))) →
+    heads-in (items_of (option_map (map (map_marks no-mark)) o)) ≡ heads-in (items_of o)
 heads-all None = refl
 heads-all (Some ts) = ap heads_of (forest-as no-mark ts) ∙ heads_as no-mark (forest_of ts)
 
-heads-bare : (path : List ℕ) (doc : PlainDoc Mark) → heads-in (kids_at path (without_marks doc.root)) ≡ heads-in (kids_at path doc.root)
-heads-bare path doc = ap (λ (o : Option (List (Tree Unit))). heads-in (items_of o)) (list_at_as no-mark doc (record { names = []; models = [] }) [] path) ∙ heads-all (list_at path doc.root)
+heads-bare : (path : List ℕ) (doc : PlainDoc Mark) →
+    heads-in (kids_at path (without_marks doc.root)) ≡ heads-in (kids_at path doc.root)
+heads-bare path doc =
+    ap (λ (o : Option (List (Tree Unit))). heads-in (items_of o))
+    (list_at_as no-mark doc (record { names = []; models = [] }) [] path)
+    ∙ heads-all (list_at path doc.root)
 
 -- so have the lists at a path in documents that differ in marks alone
-pub heads-kids : (path : List ℕ) (doc other : PlainDoc Mark) → unmarked_doc doc ≡ unmarked_doc other → heads-in (kids_at path doc.root) ≡ heads-in (kids_at path other.root)
+pub heads-kids : (path : List ℕ) (doc other : PlainDoc Mark) →
+    unmarked_doc doc ≡ unmarked_doc other →
+    heads-in (kids_at path doc.root) ≡ heads-in (kids_at path other.root)
 heads-kids path doc other e =
-    sym (heads-bare path doc) ∙ ap (λ (d : PlainDoc Unit). heads-in (kids_at path d.root)) e ∙ heads-bare path other
+    sym (heads-bare path doc) ∙ ap (λ (d : PlainDoc Unit). heads-in (kids_at path d.root)) e
+    ∙ heads-bare path other
 
-module _ (g : PlainDtd) (doc : PlainDoc Mark) (c : Change Mark) (can : CanChange c.list c doc.root) (unshort : is_top c.list ≡ true → c.shorten ≡ false)
+module _ (g : PlainDtd) (doc : PlainDoc Mark) (c : Change Mark) (can : CanChange c.list c doc.root)
+    (unshort : is_top c.list ≡ true → c.shorten ≡ false)
     (v : Verdict) (inner : Option InnerVerdict) (stamp : ℕ) where
   list-made : kids_at c.list (doc_after c doc).root ≡ list_after c (kids_at c.list doc.root)
   list-made =
       let d = can-made doc.mark c.list c doc.root can unshort in
-      ap items_of (list_stands doc.mark c.list c doc.root d.0 d.1) ∙ ap (list_after c) (sym (owner-kids d.1.owner))
+      ap items_of (list_stands doc.mark c.list c doc.root d.0 d.1)
+      ∙ ap (list_after c) (sym (owner-kids d.1.owner))
 
   -- the tokens of a changed list are those of the list in the mended document
-  pub kept-after : (tokens : ListTokens) → AreListTokens g (forest_of (list_after c (kids_at c.list doc.root))) tokens → AreListTokens g (forest_of (kids_at c.list (mend_doc c.list v inner stamp (doc_after c doc)).root)) tokens
+  pub kept-after : (tokens : ListTokens) →
+      AreListTokens g (forest_of (list_after c (kids_at c.list doc.root))) tokens →
+      AreListTokens g
+      (forest_of (kids_at c.list (mend_doc c.list v inner stamp (doc_after c doc)).root)) tokens
   kept-after tokens t =
       let new = mend_doc c.list v inner stamp (doc_after c doc) in
-      let e = heads-kids c.list new (doc_after c doc) (doc-as c.list v inner stamp (doc_after c doc)) in
-      tokens-alike g (forest_of (list_after c (kids_at c.list doc.root))) (forest_of (kids_at c.list new.root)) tokens (sym (e ∙ ap heads-in list-made)) t
+      let e =
+      heads-kids c.list new (doc_after c doc) (doc-as c.list v inner stamp (doc_after c doc)) in
+      tokens-alike g (forest_of (list_after c (kids_at c.list doc.root)))
+      (forest_of (kids_at c.list new.root)) tokens (sym (e ∙ ap heads-in list-made)) t
 
 -- what is kept of a list tells its tokens, and the other way round
-pub kept-of : (g : PlainDtd) (doc : PlainDoc Mark) (kept : KeptTokens) → AreListTokens g (forest_of (kids_at kept.list doc.root)) kept.tokens → ForSome (Some kept) (AreKeptTokens g doc)
-kept-of g doc kept t = λ k e. let same : kept ≡ k = cc in subst (AreKeptTokens g doc) same (t.word.tokens, t.word.bare, t.shown)
+pub kept-of : (g : PlainDtd) (doc : PlainDoc Mark) (kept : KeptTokens) →
+    AreListTokens g (forest_of (kids_at kept.list doc.root)) kept.tokens →
+    ForSome (Some kept) (AreKeptTokens g doc)
+kept-of g doc kept t =
+    λ k e. let same : kept ≡ k =
+    cc in subst (AreKeptTokens g doc) same (t.word.tokens, t.word.bare, t.shown)
 
-pub of-kept : (g : PlainDtd) (doc : PlainDoc Mark) (o : Option KeptTokens) (kept : KeptTokens) → ForSome o (AreKeptTokens g doc) → o ≡ Some kept → AreListTokens g (forest_of (kids_at kept.list doc.root)) kept.tokens
-of-kept g doc o kept h e = let k = h kept e in record { word = record { tokens = k.0; bare = k.1 }; shown = k.2 }
+pub of-kept : (g : PlainDtd) (doc : PlainDoc Mark) (o : Option KeptTokens) (kept : KeptTokens) →
+    ForSome o (AreKeptTokens g doc) → o ≡ Some kept →
+    AreListTokens g (forest_of (kids_at kept.list doc.root)) kept.tokens
+of-kept g doc o kept h e =
+    let k = h kept e in record { word = record { tokens = k.0; bare = k.1 }; shown = k.2 }

@@ -21,7 +21,8 @@ live-own verdict.Possible live own j l = omega arith
 live-own verdict.Impossible live own j l = absurd (j l)
 
 module _ (g : PlainDtd) (root : List ℕ) where
-  live-bad : (lists : List (Listed Mark)) (vs : List Verdict) → AreVerdicts g root lists vs → AllByRecursion (IsLive g root) lists → impossible_in vs ≡ 0
+  live-bad : (lists : List (Listed Mark)) (vs : List Verdict) → AreVerdicts g root lists vs →
+      AllByRecursion (IsLive g root) lists → impossible_in vs ≡ 0
   live-bad [] vs e l = rw e (omega arith)
   live-bad (list ∷ lists) vs a l =
       let first = bad-first a.0 a.1 in
@@ -30,8 +31,12 @@ module _ (g : PlainDtd) (root : List ℕ) where
       rw a.2 (omega arith)
 
   -- where no list of a document is, none is told by marks that tell its verdicts
-  pub no-bad-laid : (vs : List Verdict) (doc : PlainDoc Mark) → IsWellMarked g root (lay_doc vs doc) → AllByRecursion (IsLive g root) (lists_of doc) → told_bad (lay_doc vs doc) ≡ 0
+  pub no-bad-laid : (vs : List Verdict) (doc : PlainDoc Mark) →
+      IsWellMarked g root (lay_doc vs doc) → AllByRecursion (IsLive g root) (lists_of doc) →
+      told_bad (lay_doc vs doc) ≡ 0
   no-bad-laid vs doc w l =
       let laid = lay_doc vs doc in
-      let had = same_counts Mark Mark is_impossible g root laid doc (told_bad laid) (laid_same vs doc) (bad_of g root laid w) in
+      let had =
+      same_counts Mark Mark is_impossible g root laid doc (told_bad laid) (laid_same vs doc)
+      (bad_of g root laid w) in
       had.count ∙ live-bad (lists_of doc) had.verdicts had.are_verdicts l

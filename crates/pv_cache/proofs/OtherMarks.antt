@@ -4,21 +4,27 @@ use Rattle.pv_dtd.specs.Hedge.{Hedge, done, elem}
 use Rattle.pv_dtd.specs.Plain.{PlainDtd}
 use Rattle.pv_missing.proofs.VerdictHeads.{same_word}
 use Rattle.pv_tree.specs.Heads.{head_of, heads_of}
-use Rattle.pv_tree.specs.Plain.{Forest, Tree, cdata_node, element, misc_node, nodes_in, nodes_in_all, no_trees, map_marks, map_marks_all, text_node, tree, without_marks}
+use Rattle.pv_tree.specs.Plain.{Forest, Tree, cdata_node, element, misc_node, nodes_in}
+use Rattle.pv_tree.specs.Plain.{nodes_in_all, no_trees, map_marks, map_marks_all, text_node, tree}
+use Rattle.pv_tree.specs.Plain.{without_marks}
 use Rattle.pv_tree.specs.View.{shown_all, shown_before, spread, view}
 use Rattle.pv_tree.specs.Words.{word_of}
 
 module _ {M N : Type 0} (f : M → N) where
   mutual
-    shown_as : (text : List (List ℕ) → Hedge → Hedge) (t : Tree M) (h : Hedge) → shown_before text (map_marks f t) h ≡ shown_before text t h
+    shown_as : (text : List (List ℕ) → Hedge → Hedge) (t : Tree M) (h : Hedge) →
+        shown_before text (map_marks f t) h ≡ shown_before text t h
     shown_as text (element x a e ks m) h = ap (λ k. elem x a k h) (all_shown_as text ks)
     shown_as text (text_node us) h = refl
     shown_as text (cdata_node b) h = refl
     shown_as text (misc_node b) h = refl
 
-    all_shown_as : (text : List (List ℕ) → Hedge → Hedge) (ks : Forest M) → shown_all text (map_marks_all f ks) ≡ shown_all text ks
+    all_shown_as : (text : List (List ℕ) → Hedge → Hedge) (ks : Forest M) →
+        shown_all text (map_marks_all f ks) ≡ shown_all text ks
     all_shown_as text no_trees = refl
-    all_shown_as text (tree t rest) = shown_as text t (shown_all text (map_marks_all f rest)) ∙ ap (shown_before text t) (all_shown_as text rest)
+    all_shown_as text (tree t rest) =
+        shown_as text t (shown_all text (map_marks_all f rest))
+        ∙ ap (shown_before text t) (all_shown_as text rest)
 
   pub view_as : (t : Tree M) → view (map_marks f t) ≡ view t
   view_as t = shown_as spread t done
@@ -32,7 +38,9 @@ module _ {M N : Type 0} (f : M → N) where
 
     all_nodes_as : (ks : Forest M) → nodes_in_all (map_marks_all f ks) ≡ nodes_in_all ks
     all_nodes_as no_trees = refl
-    all_nodes_as (tree t rest) = ap (λ n. n + nodes_in_all (map_marks_all f rest)) (nodes_as t) ∙ ap (λ n. nodes_in t + n) (all_nodes_as rest)
+    all_nodes_as (tree t rest) =
+        ap (λ n. n + nodes_in_all (map_marks_all f rest)) (nodes_as t)
+        ∙ ap (λ n. nodes_in t + n) (all_nodes_as rest)
 
   head_as : (t : Tree M) → head_of (map_marks f t) ≡ head_of t
   head_as (element x a e ks m) = refl
@@ -42,7 +50,9 @@ module _ {M N : Type 0} (f : M → N) where
 
   pub heads_as : (ks : Forest M) → heads_of (map_marks_all f ks) ≡ heads_of ks
   heads_as no_trees = refl
-  heads_as (tree t rest) = ap (λ h. h ∷ heads_of (map_marks_all f rest)) (head_as t) ∙ ap (λ hs. head_of t ∷ hs) (heads_as rest)
+  heads_as (tree t rest) =
+      ap (λ h. h ∷ heads_of (map_marks_all f rest)) (head_as t)
+      ∙ ap (λ hs. head_of t ∷ hs) (heads_as rest)
 
   pub word_as : (g : PlainDtd) (ks : Forest M) → word_of g (map_marks_all f ks) ≡ word_of g ks
   word_as g ks = same_word g (map_marks_all f ks) ks (heads_as ks)

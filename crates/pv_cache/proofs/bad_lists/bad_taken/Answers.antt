@@ -10,13 +10,22 @@ use Rattle.pv_cache.proofs.Counting.{few-between}
 use Rattle.pv_cache.proofs.bad_lists.bad_taken.Goals as goal
 
 pub bad_gone-requires-clause-fits : goal.bad_gone-requires-clause-fits
-bad_gone-requires-clause-fits c = rw (slice_plain c.args.change.now.from c.args.change.now.to c.args.kids.now) c.requires.suits.fits
+bad_gone-requires-clause-fits c =
+    rw (slice_plain c.args.change.now.from c.args.change.now.to c.args.kids.now)
+    c.requires.suits.fits
 
 pub bad_gone-requires-clause-small : goal.bad_gone-requires-clause-small
 bad_gone-requires-clause-small c =
-    let few = few-between (plain_all c.args.kids.now) c.args.change.now.from c.args.change.now.to c.requires.suits.order in
-    let most : nodes_in_all (forest_of (between c.args.change.now.from c.args.change.now.to (plain_all c.args.kids.now))) ≤ MAX_NODES = omega (arith, few, c.requires.small) in
+    let few =
+    few-between (plain_all c.args.kids.now) c.args.change.now.from c.args.change.now.to
+    c.requires.suits.order in
+    let most : nodes_in_all
+    (forest_of (between c.args.change.now.from c.args.change.now.to (plain_all c.args.kids.now)))
+    ≤ MAX_NODES = omega (arith, few, c.requires.small) in
     rw (slice_plain c.args.change.now.from c.args.change.now.to c.args.kids.now) most
 
 pub returns : goal.returns
-returns c = c.bad_gone.ensures ∙ ap (bad_gone (plain_filling c.args.change.now.filling)) (slice_plain c.args.change.now.from c.args.change.now.to c.args.kids.now)
+returns c =
+    c.bad_gone.ensures
+    ∙ ap (bad_gone (plain_filling c.args.change.now.filling))
+    (slice_plain c.args.change.now.from c.args.change.now.to c.args.kids.now)

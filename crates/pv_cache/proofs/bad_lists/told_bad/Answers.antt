@@ -4,4 +4,12 @@ use Rattle.pv_cache.proofs.Telling.{bad-within, own-bad-small}
 use Rattle.pv_cache.proofs.bad_lists.told_bad.Goals as goal
 
 pub overflow_add-result : goal.overflow_add-result
-overflow_add-result c = omega (arith, own-bad-small c.args.doc.now.mark.verdict, c.own_bad.ensures, c.bad_in.ensures, bad-within (plain c.args.doc.now.root), c.args.doc.now.small)
+overflow_add-result c =
+    omega (
+      arith,
+      own-bad-small c.args.doc.now.mark.verdict,
+      c.own_bad.ensures,
+      c.bad_in.ensures,
+      bad-within (plain c.args.doc.now.root),
+      c.args.doc.now.small,
+    )

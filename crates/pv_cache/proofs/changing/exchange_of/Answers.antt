@@ -8,10 +8,12 @@ use Rattle.pv_cache.specs.WellMarked.{told_left_in, told_nodes_in}
 use Rattle.pv_cache.proofs.changing.exchange_of.Goals as goal
 
 pub told_in-gone-requires-clause-left : goal.told_in-gone-requires-clause-left
-told_in-gone-requires-clause-left c = rw (slice_plain c.args.change.now.from c.args.change.now.to c.args.kids.now) c.requires.left
+told_in-gone-requires-clause-left c =
+    rw (slice_plain c.args.change.now.from c.args.change.now.to c.args.kids.now) c.requires.left
 
 pub told_in-gone-requires-clause-nodes : goal.told_in-gone-requires-clause-nodes
-told_in-gone-requires-clause-nodes c = rw (slice_plain c.args.change.now.from c.args.change.now.to c.args.kids.now) c.requires.nodes
+told_in-gone-requires-clause-nodes c =
+    rw (slice_plain c.args.change.now.from c.args.change.now.to c.args.kids.now) c.requires.nodes
 
 pub returns : goal.returns
 returns c =
@@ -19,6 +21,10 @@ returns c =
     record {
       from = refl;
       behind = omega (arith, c.requires.suits.within, length-map c.args.kids.now plain);
-      left = c.told_in-gone.ensures.left ∙ ap (λ (l : List (Tree Mark)). told_left_in (forest_of l)) same;
-      nodes = c.told_in-gone.ensures.nodes ∙ ap (λ (l : List (Tree Mark)). told_nodes_in (forest_of l)) same;
+      left =
+          c.told_in-gone.ensures.left
+          ∙ ap (λ (l : List (Tree Mark)). told_left_in (forest_of l)) same;
+      nodes =
+          c.told_in-gone.ensures.nodes
+          ∙ ap (λ (l : List (Tree Mark)). told_nodes_in (forest_of l)) same;
     }

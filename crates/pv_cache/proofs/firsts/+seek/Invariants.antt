@@ -10,5 +10,6 @@ abbrev pub invariant-seek_in_all-loop-i : goal.invariant-seek_in_all-loop-i
 invariant-seek_in_all-loop-i l = record {
   same_places : l.places.items ≡ l.fn.places.items;
   few_nodes : nodes_in_all (forest (drop l.i l.kids)) ≤ MAX_NODES;
-  rest : first_bad_from l.fn.places.items 0 (forest l.kids) ≡ first_bad_from l.places.items l.i (forest (drop l.i l.kids));
+  rest : first_bad_from l.fn.places.items 0 (forest l.kids) ≡ first_bad_from l.places.items l.i
+      (forest (drop l.i l.kids));
 }

@@ -6,7 +6,8 @@ use Rattle.pv_cache.proofs.laying.+lay.Given as goal
 
 -- the nodes so far are laid out
 abbrev pub invariant-lay_kids-kids : goal.invariant-lay_kids-kids
-invariant-lay_kids-kids l = AreLaid l.verdicts.verdicts l.number l.fn.kids.items l.kids.items l.i l.next
+invariant-lay_kids-kids l =
+    AreLaid l.verdicts.verdicts l.number l.fn.kids.items l.kids.items l.i l.next
 
 abbrev pub decreases-lay_node : goal.decreases-lay_node
 decreases-lay_node l = 2 * nodes_in (plain l.node.now)

@@ -12,7 +12,10 @@ use Rattle.pv_cache.proofs.laying.lay_doc.Goals as goal
 pub invariant_of-doc : goal.invariant_of-doc
 invariant_of-doc c =
     let doc = c.args.doc.now in
-    let k : IsKept (plain c.lay_node.new.node) = still-kept (plain doc.root) (plain c.lay_node.new.node) (ap without_marks c.lay_node.ensures.laid ∙ laid_root c.args.verdicts.now.verdicts (plain_doc doc)) (doc-kept doc) in
+    let k : IsKept (plain c.lay_node.new.node) =
+    still-kept (plain doc.root) (plain c.lay_node.new.node)
+    (ap without_marks c.lay_node.ensures.laid
+    ∙ laid_root c.args.verdicts.now.verdicts (plain_doc doc)) (doc-kept doc) in
     record {
       rooted = k.rooted;
       formed = k.formed;
@@ -29,4 +32,6 @@ invariant_of-doc c =
 pub mend_top-requires : goal.mend_top-requires
 mend_top-requires c =
     let doc = plain_doc c.args.doc.now in
-    root_counted c.args.verdicts.now.verdicts doc.root c.nth_verdict.result (record doc { root = plain c.lay_node.new.node }) c.args.doc.now.small c.lay_node.ensures.laid
+    root_counted c.args.verdicts.now.verdicts doc.root c.nth_verdict.result
+    (record doc { root = plain c.lay_node.new.node }) c.args.doc.now.small
+    c.lay_node.ensures.laid

@@ -10,7 +10,12 @@ use Rattle.pv_cache.proofs.mending.mend_changed.Goals as goal
 pub mark_after-requires-clause-tells : goal.mark_after-requires-clause-tells
 mark_after-requires-clause-tells c =
     let e = c.args.exchange.now in
-    let is = ap plain c.in-Elem.is ∙ plain-Elem c.in-Elem.name c.in-Elem.attrs c.in-Elem.end c.in-Elem.kids c.in-Elem.mark in
+    let is =
+    ap plain c.in-Elem.is
+    ∙ plain-Elem c.in-Elem.name c.in-Elem.attrs c.in-Elem.end c.in-Elem.kids c.in-Elem.mark in
     let owner = subst (OwnerTellsBefore e) is c.requires.tells in
-    let tells = subst (λ (l : List (Tree Mark)). TellsBefore e l c.in-Elem.mark) (trees-forest (plain_all c.in-Elem.kids.items)) owner in
-    tells-there e c.deref.result.now c.in-Elem.kids.items _ c.in-Elem.mark (c.deref.ensures.value ∙ ap (λ k. k.items) c.in-Elem.kids-is) c.in-Elem.mark-is tells
+    let tells =
+    subst (λ (l : List (Tree Mark)). TellsBefore e l c.in-Elem.mark)
+    (trees-forest (plain_all c.in-Elem.kids.items)) owner in
+    tells-there e c.deref.result.now c.in-Elem.kids.items _ c.in-Elem.mark (c.deref.ensures.value
+    ∙ ap (λ k. k.items) c.in-Elem.kids-is) c.in-Elem.mark-is tells

@@ -7,4 +7,6 @@ use Rattle.pv_cache.proofs.mending.mend_doc.Goals as goal
 pub returns-in-len1-up : goal.returns-in-len1-up
 returns-in-len1-up c =
     let m = c.args.mend.now in
-    c.mend_inside.ensures ∙ ap (λ (q : List ℕ). mend_doc q m.verdict m.inner m.stamp (plain_doc c.args.doc.now)) (sym (path-split c.args.list.now (omega arith)))
+    c.mend_inside.ensures
+    ∙ ap (λ (q : List ℕ). mend_doc q m.verdict m.inner m.stamp (plain_doc c.args.doc.now))
+    (sym (path-split c.args.list.now (omega arith)))

@@ -11,8 +11,11 @@ pub invariant_of-doc : goal.invariant_of-doc
 invariant_of-doc c =
     let m = c.args.mend.now in
     let doc = c.args.doc.now in
-    let k : IsKept (plain c.mend_below.new.node) = still-kept (plain doc.root) (plain c.mend_below.new.node)
-    (ap without_marks c.mend_below.ensures ∙ below-as c.args.below.now (mend_owner m.verdict m.inner m.stamp) (owner-as m.verdict m.inner m.stamp) (plain doc.root)) (doc-kept doc) in
+    let k : IsKept (plain c.mend_below.new.node) =
+    still-kept (plain doc.root) (plain c.mend_below.new.node)
+    (ap without_marks c.mend_below.ensures
+    ∙ below-as c.args.below.now (mend_owner m.verdict m.inner m.stamp)
+    (owner-as m.verdict m.inner m.stamp) (plain doc.root)) (doc-kept doc) in
     record {
       rooted = k.rooted;
       formed = k.formed;

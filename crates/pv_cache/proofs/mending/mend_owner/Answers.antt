@@ -9,4 +9,6 @@ pub mend_kid-requires-clause-counted : goal.mend_kid-requires-clause-counted
 mend_kid-requires-clause-counted c =
     let m = c.args.mend.now in
     let t = plain c.args.node.now in
-    inner-counted m.verdict c.in-Some.inner m.stamp t (rw c.in-Some.is at c.requires.within) (subst (λ (o : Option InnerVerdict). IsCounted (mend_owner m.verdict o m.stamp t)) c.in-Some.is c.requires.counted)
+    inner-counted m.verdict c.in-Some.inner m.stamp t (rw c.in-Some.is at c.requires.within)
+    (subst (λ (o : Option InnerVerdict). IsCounted (mend_owner m.verdict o m.stamp t))
+    c.in-Some.is c.requires.counted)

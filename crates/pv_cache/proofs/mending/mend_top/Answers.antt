@@ -10,7 +10,9 @@ pub invariant_of-doc : goal.invariant_of-doc
 invariant_of-doc c =
     let m = c.args.mend.now in
     let doc = c.args.doc.now in
-    let k : IsKept (plain c.mend_root.new.root) = still-kept (plain doc.root) (plain c.mend_root.new.root) (ap without_marks c.mend_root.ensures ∙ root-as m.inner m.stamp (plain doc.root)) (doc-kept doc) in
+    let k : IsKept (plain c.mend_root.new.root) =
+    still-kept (plain doc.root) (plain c.mend_root.new.root) (ap without_marks c.mend_root.ensures
+    ∙ root-as m.inner m.stamp (plain doc.root)) (doc-kept doc) in
     record {
       rooted = k.rooted;
       formed = k.formed;

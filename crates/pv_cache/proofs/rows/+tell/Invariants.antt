@@ -9,7 +9,8 @@ abbrev pub invariant-tell_kids-loop-i : goal.invariant-tell_kids-loop-i
 invariant-tell_kids-loop-i l = record {
   same_places : l.telling.places.items ≡ l.fn.telling.places.items;
   few_nodes : nodes_in_all (forest (drop l.i l.kids)) ≤ nodes_in_all (forest l.kids);
-  goes : l.telling.rows.items ++ rows_from l.telling.places.items l.i (forest (drop l.i l.kids)) ≡ l.fn.telling.rows.items ++ rows_from l.telling.places.items 0 (forest l.kids);
+  goes : l.telling.rows.items ++ rows_from l.telling.places.items l.i (forest (drop l.i l.kids))
+      ≡ l.fn.telling.rows.items ++ rows_from l.telling.places.items 0 (forest l.kids);
 }
 
 abbrev pub decreases-tell_node : goal.decreases-tell_node

@@ -5,5 +5,6 @@ use Rattle.pv_cache.proofs.told.told_in.Given as goal
 
 -- what was told so far, and what is left
 abbrev pub invariant-loop-kid : goal.invariant-loop-kid
-invariant-loop-kid l = (l.left + told_left_in (forest (drop l.kid-index l.kids)) ≡ told_left_in (forest l.kids))
+invariant-loop-kid l =
+    (l.left + told_left_in (forest (drop l.kid-index l.kids)) ≡ told_left_in (forest l.kids))
     × (l.nodes + told_nodes_in (forest (drop l.kid-index l.kids)) ≡ told_nodes_in (forest l.kids))

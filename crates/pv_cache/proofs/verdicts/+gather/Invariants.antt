@@ -8,7 +8,8 @@ use Rattle.pv_cache.proofs.verdicts.+gather.Given as goal
 abbrev pub invariant-gather_kids-loop-kid : goal.invariant-gather_kids-loop-kid
 invariant-gather_kids-loop-kid l = record {
   few_nodes : nodes_in_all (forest (drop l.kid-index l.kids)) ≤ nodes_in_all (forest l.kids);
-  goes : l.verdicts.items ++ told_verdicts_in (forest (drop l.kid-index l.kids)) ≡ l.fn.verdicts.items ++ told_verdicts_in (forest l.kids);
+  goes : l.verdicts.items ++ told_verdicts_in (forest (drop l.kid-index l.kids))
+      ≡ l.fn.verdicts.items ++ told_verdicts_in (forest l.kids);
 }
 
 abbrev pub decreases-gather_node : goal.decreases-gather_node

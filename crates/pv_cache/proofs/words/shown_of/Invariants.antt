@@ -5,4 +5,5 @@ use Rattle.pv_cache.proofs.words.shown_of.Given as goal
 
 -- those so far, and those that are left
 abbrev pub invariant-loop-kid : goal.invariant-loop-kid
-invariant-loop-kid l = l.shown.items ++ shown_of (forest (drop l.kid-index l.kids)) ≡ shown_of (forest l.kids)
+invariant-loop-kid l =
+    l.shown.items ++ shown_of (forest (drop l.kid-index l.kids)) ≡ shown_of (forest l.kids)

@@ -8,5 +8,8 @@ use Rattle.pv_cache.proofs.marked.Marked.bad_count.Goals as goal
 pub returns : goal.returns
 returns c =
     let m = c.self.inside in
-    let told = bad_stamps m.document.grammar m.document.root (plain_doc m.document.doc) c.self.inside.document.marked in
-    subst (λ (s : StampedDoc). HasBad s m.document.bad) c.self.view_is (rw c.self.inside.document.counted told)
+    let told =
+    bad_stamps m.document.grammar m.document.root (plain_doc m.document.doc)
+    c.self.inside.document.marked in
+    subst (λ (s : StampedDoc). HasBad s m.document.bad) c.self.view_is
+    (rw c.self.inside.document.counted told)

@@ -19,15 +19,21 @@ invariant_of-document c =
     let vs = c.args.verdicts.verdicts in
     let w = doc_marked d c.args.root vs doc c.requires.verdicts.are_verdicts c.requires.narrow in
     record {
-      marked = subst (λ (e : PlainDoc Mark). ∥ IsWellMarked d c.args.root e ∥₁) (sym c.lay_doc.ensures) ∣ w ∣₁;
+      marked =
+          subst (λ (e : PlainDoc Mark). ∥ IsWellMarked d c.args.root e ∥₁)
+          (sym c.lay_doc.ensures) ∣ w ∣₁;
       counted = c.bad_by-bad.ensures;
-      few = subst (λ (e : PlainDoc Mark). nodes_in e.root ≤ MAX_EDITED_NODES) (sym c.lay_doc.ensures) (laid_few vs doc c.requires.few);
+      few =
+          subst (λ (e : PlainDoc Mark). nodes_in e.root ≤ MAX_EDITED_NODES) (sym c.lay_doc.ensures)
+          (laid_few vs doc c.requires.few);
       held = λ kept e. absurd cc;
     }
 
 pub returns : goal.returns
 returns c =
-    ap (stamped_doc_of c.args.grammar c.args.root) c.lay_doc.ensures ∙ ap (λ e. record { dtd = c.args.grammar; root = c.args.root; doc = e }) (no_stamps c.args.verdicts.verdicts (plain_doc c.args.doc))
+    ap (stamped_doc_of c.args.grammar c.args.root) c.lay_doc.ensures
+    ∙ ap (λ e. record { dtd = c.args.grammar; root = c.args.root; doc = e })
+    (no_stamps c.args.verdicts.verdicts (plain_doc c.args.doc))
 
 pub bad_by-bad-requires : goal.bad_by-bad-requires
 bad_by-bad-requires c none =
@@ -35,5 +41,6 @@ bad_by-bad-requires c none =
     let doc = plain_doc c.args.doc in
     let vs = c.args.verdicts.verdicts in
     let w = doc_marked d c.args.root vs doc c.requires.verdicts.are_verdicts c.requires.narrow in
-    let live : AllByRecursion (IsLive d c.args.root) (lists_of doc) = rw none at c.requires.verdicts.is_first in
+    let live : AllByRecursion (IsLive d c.args.root) (lists_of doc) =
+    rw none at c.requires.verdicts.is_first in
     ap told_bad c.lay_doc.ensures ∙ no-bad-laid d c.args.root vs doc w live

@@ -6,4 +6,5 @@ use Rattle.pv_cache.proofs.marked.Marked.edit.Goals as goal
 
 pub returns-clause-refused : goal.returns-clause-refused
 returns-clause-refused g c =
-    subst (λ (s : StampedDoc). IfErr c.edit.result (HasGround 0 s.dtd s.root s.doc c.args.edit.now)) c.self.view_is c.edit.ensures.refused
+    subst (λ (s : StampedDoc). IfErr c.edit.result (HasGround 0 s.dtd s.root s.doc c.args.edit.now))
+    c.self.view_is c.edit.ensures.refused

@@ -14,9 +14,12 @@ returns-clause-holdable c =
     let m = c.self.inside in
     let d = m.document.grammar in
     subst (λ (s : StampedDoc). IsHoldable s.dtd s.doc) c.self.view_is
-    (holdable_to stamp_of (plain_doc m.document.doc) d m.document.root (holdable_of d m.document.root (plain_doc m.document.doc) c.self.inside.document.few c.self.inside.document.marked))
+    (holdable_to stamp_of (plain_doc m.document.doc) d m.document.root
+    (holdable_of d m.document.root (plain_doc m.document.doc) c.self.inside.document.few
+    c.self.inside.document.marked))
 
 pub returns-clause-kept : goal.returns-clause-kept
 returns-clause-kept c =
     let m = c.self.inside in
-    subst (λ (s : StampedDoc). IsKept s.doc.root) c.self.view_is (kept-to stamp_of (plain_doc m.document.doc).root (doc-kept m.document.doc))
+    subst (λ (s : StampedDoc). IsKept s.doc.root) c.self.view_is
+    (kept-to stamp_of (plain_doc m.document.doc).root (doc-kept m.document.doc))

@@ -8,4 +8,6 @@ use Rattle.pv_cache.proofs.marked.Marked.open_count.Goals as goal
 pub returns : goal.returns
 returns c =
     let m = c.self.inside in
-    subst (λ (s : StampedDoc). HasOpen s m.document.doc.mark.left) c.self.view_is (open_stamps m.document.grammar m.document.root (plain_doc m.document.doc) c.self.inside.document.marked)
+    subst (λ (s : StampedDoc). HasOpen s m.document.doc.mark.left) c.self.view_is
+    (open_stamps m.document.grammar m.document.root (plain_doc m.document.doc)
+    c.self.inside.document.marked)

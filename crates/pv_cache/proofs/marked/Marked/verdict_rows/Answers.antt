@@ -8,4 +8,6 @@ use Rattle.pv_cache.proofs.marked.Marked.verdict_rows.Goals as goal
 pub returns : goal.returns
 returns c =
     let m = c.self.inside in
-    subst (λ (s : StampedDoc). AreRows s c.of.result) c.self.view_is (told_rows m.document.grammar m.document.root (plain_doc m.document.doc) c.self.inside.document.marked c.of.result (c.of.ensures ∙ c.in_ok-rows_of.ensures))
+    subst (λ (s : StampedDoc). AreRows s c.of.result) c.self.view_is
+    (told_rows m.document.grammar m.document.root (plain_doc m.document.doc)
+    c.self.inside.document.marked c.of.result (c.of.ensures ∙ c.in_ok-rows_of.ensures))

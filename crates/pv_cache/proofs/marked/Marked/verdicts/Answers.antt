@@ -11,6 +11,12 @@ pub returns : goal.returns
 returns c =
     let m = c.self.inside in
     let doc = plain_doc m.document.doc in
-    let told = ap (λ (vs : List Verdict). record { verdicts = vs; first = c.in_ok-first.first }) c.in_ok-verdicts.ensures in
-    let first = ap (λ (f : Option (List ℕ)). record { verdicts = verdicts_told doc; first = f }) c.in_ok-first.ensures in
-    subst (λ (s : StampedDoc). TellVerdicts s c.of.result) c.self.view_is (tell_verdicts m.document.grammar m.document.root doc c.self.inside.document.marked c.of.result (c.of.ensures ∙ told ∙ first))
+    let told =
+    ap (λ (vs : List Verdict). record { verdicts = vs; first = c.in_ok-first.first })
+    c.in_ok-verdicts.ensures in
+    let first =
+    ap (λ (f : Option (List ℕ)). record { verdicts = verdicts_told doc; first = f })
+    c.in_ok-first.ensures in
+    subst (λ (s : StampedDoc). TellVerdicts s c.of.result) c.self.view_is
+    (tell_verdicts m.document.grammar m.document.root doc c.self.inside.document.marked
+    c.of.result (c.of.ensures ∙ told ∙ first))

@@ -17,9 +17,25 @@ returns-clause-edited g c =
     let ready = j.ensures.ready in
     let new = plain_doc c.make_judged.new.self.doc in
     let changed = c.in_ok-checked.ensures.changed in
-    let marked : ∥ IsWellMarked d root new ∥₁ = same_ground c.make_judged.new.self.grammar d c.make_judged.new.self.root root new changed.same_dtd changed.same_root c.make_judged.new.self.marked in
+    let marked : ∥ IsWellMarked d root new ∥₁ =
+    same_ground c.make_judged.new.self.grammar d c.make_judged.new.self.root root new
+    changed.same_dtd changed.same_root c.make_judged.new.self.marked in
     let made =
-    edit_made d root old edit ready.given c.changed_lists_law.ensures.made j.ensures.accepted (plain_task j.judged.task) ready.prepared.change new marked c.args.stamp changed.stamps
-    (record { checked = c.in_ok-checked.checked; left = new.mark.left; bad = c.make_judged.new.self.bad }) changed.counted refl c.make_judged.new.self.counted j.judged.inverse ready.prepared.inverse in
-    let is : stamped_doc_of c.make_judged.new.self.grammar c.make_judged.new.self.root new ≡ stamped_doc_of d root new = stamped_ground new changed.same_dtd changed.same_root in
-    subst (λ (s : StampedDoc). IsEdited (stamped_doc_of d root old) edit c.args.stamp (record { checked = c.in_ok-checked.checked; left = new.mark.left; bad = c.make_judged.new.self.bad }) j.judged.inverse s) (sym is) made
+    edit_made d root old edit ready.given c.changed_lists_law.ensures.made j.ensures.accepted
+    (plain_task j.judged.task) ready.prepared.change new marked c.args.stamp changed.stamps
+    (record {
+      checked = c.in_ok-checked.checked;
+      left = new.mark.left;
+      bad =
+          c.make_judged.new.self.bad;
+    }) changed.counted refl c.make_judged.new.self.counted
+    j.judged.inverse ready.prepared.inverse in
+    let is : stamped_doc_of c.make_judged.new.self.grammar c.make_judged.new.self.root new
+    ≡ stamped_doc_of d root new = stamped_ground new changed.same_dtd changed.same_root in
+    subst (λ (s : StampedDoc).
+    IsEdited (stamped_doc_of d root old) edit c.args.stamp
+    (record {
+      checked = c.in_ok-checked.checked;
+      left = new.mark.left;
+      bad = c.make_judged.new.self.bad;
+    }) j.judged.inverse s) (sym is) made

@@ -17,8 +17,11 @@ exchange_of-requires-clause-suits c =
     let t = c.args.task.now in
     let ch = plain_task t in
     let doc = plain_doc c.args.self.now.doc in
-    let kids : plain_all c.in-Some.kids.now ≡ kids_at t.list doc.root = ap items_of c.in-Some.ensures in
-    let s = subst (SuitsChange ch) (sym kids) (task-suits doc.root ch c.requires.can c.requires.unshort doc.mark) in
+    let kids : plain_all c.in-Some.kids.now ≡ kids_at t.list doc.root =
+    ap items_of c.in-Some.ensures in
+    let s =
+    subst (SuitsChange ch) (sym kids)
+    (task-suits doc.root ch c.requires.can c.requires.unshort doc.mark) in
     record { order = s.order; within = s.within; fits = s.fits }
 
 pub exchange_of-requires-clause-left : goal.exchange_of-requires-clause-left
@@ -27,8 +30,11 @@ exchange_of-requires-clause-left c =
     let ch = plain_task t in
     let m = c.args.self.now in
     let doc = plain_doc m.doc in
-    let kids : plain_all c.in-Some.kids.now ≡ kids_at t.list doc.root = ap items_of c.in-Some.ensures in
-    subst (λ (ts : List (Tree Mark)). told_left_in (forest_of (between ch.from ch.to ts)) < 2 ^ 64) (sym kids) (gone-left m.grammar m.root doc ch c.requires.can c.requires.unshort m.doc.small m.marked)
+    let kids : plain_all c.in-Some.kids.now ≡ kids_at t.list doc.root =
+    ap items_of c.in-Some.ensures in
+    subst (λ (ts : List (Tree Mark)). told_left_in (forest_of (between ch.from ch.to ts)) < 2 ^ 64)
+    (sym kids) (gone-left m.grammar m.root doc ch c.requires.can c.requires.unshort
+    m.doc.small m.marked)
 
 pub exchange_of-requires-clause-nodes : goal.exchange_of-requires-clause-nodes
 exchange_of-requires-clause-nodes c =
@@ -36,15 +42,20 @@ exchange_of-requires-clause-nodes c =
     let ch = plain_task t in
     let m = c.args.self.now in
     let doc = plain_doc m.doc in
-    let kids : plain_all c.in-Some.kids.now ≡ kids_at t.list doc.root = ap items_of c.in-Some.ensures in
-    subst (λ (ts : List (Tree Mark)). told_nodes_in (forest_of (between ch.from ch.to ts)) < 2 ^ 64) (sym kids) (gone-nodes m.grammar m.root doc ch c.requires.can c.requires.unshort m.doc.small m.marked)
+    let kids : plain_all c.in-Some.kids.now ≡ kids_at t.list doc.root =
+    ap items_of c.in-Some.ensures in
+    subst (λ (ts : List (Tree Mark)). told_nodes_in (forest_of (between ch.from ch.to ts)) < 2 ^ 64)
+    (sym kids) (gone-nodes m.grammar m.root doc ch c.requires.can c.requires.unshort
+    m.doc.small m.marked)
 
 pub returns : goal.returns
 returns c =
     let t = c.args.task.now in
     let ch = plain_task t in
     let doc = plain_doc c.args.self.now.doc in
-    let kids : plain_all c.in-Some.kids.now ≡ kids_at t.list doc.root = ap items_of c.in-Some.ensures in
+    let kids : plain_all c.in-Some.kids.now ≡ kids_at t.list doc.root =
+    ap items_of c.in-Some.ensures in
     let e = c.exchange_of.ensures in
-    let is : IsExchange ch (plain_all c.in-Some.kids.now) c.exchange_of.result = record { from = e.from; behind = e.behind; left = e.left; nodes = e.nodes } in
+    let is : IsExchange ch (plain_all c.in-Some.kids.now) c.exchange_of.result =
+    record { from = e.from; behind = e.behind; left = e.left; nodes = e.nodes } in
     subst (λ (ts : List (Tree Mark)). IsExchange ch ts c.exchange_of.result) kids is

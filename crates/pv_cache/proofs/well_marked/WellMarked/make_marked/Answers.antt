@@ -1,4 +1,5 @@
-use Rattle.std.proofs.Common.{◌≡◌, ◌≤◌, ◌∙◌, ap, arith, length, refl, sym, rules, subst, List, Some, ℕ}
+use Rattle.std.proofs.Common.{◌≡◌, ◌≤◌, ◌∙◌, ap, arith, length, refl, sym, rules, subst, List, Some}
+use Rattle.std.proofs.Common.{ℕ}
 use Rattle.std.specs.List.{between}
 use Rattle.std.specs.Option.{ForSome}
 use Rattle.pv_edit.specs.Brought.{lists_changed}
@@ -32,8 +33,14 @@ mend_doc-requires-clause-can c =
     let l : c.places-2.result.now ≡ t.list = search rules in
     let made = c.in_ok-make.ensures.ok in
     let ex = c.exchange-exchange.result in
-    let r = ready-can c.args.self.now.grammar c.args.self.now.root old ch m.outer m.inner c.args.stamp ex c.requires.task.can c.requires.task.unshort c.requires.task.bare c.requires.judged c.args.self.now.marked c.exchange-exchange.ensures in
-    subst (λ (q : List ℕ). CanMendDoc (CanMendOwner m.inner c.args.stamp ex) q (plain_doc c.make.new.doc)) (sym l) (subst (λ (d : PlainDoc Mark). CanMendDoc (CanMendOwner m.inner c.args.stamp ex) t.list d) (sym made) r)
+    let r =
+    ready-can c.args.self.now.grammar c.args.self.now.root old ch m.outer m.inner c.args.stamp ex
+    c.requires.task.can c.requires.task.unshort c.requires.task.bare c.requires.judged
+    c.args.self.now.marked c.exchange-exchange.ensures in
+    subst (λ (q : List ℕ).
+    CanMendDoc (CanMendOwner m.inner c.args.stamp ex) q (plain_doc c.make.new.doc)) (sym l)
+    (subst (λ (d : PlainDoc Mark).
+    CanMendDoc (CanMendOwner m.inner c.args.stamp ex) t.list d) (sym made) r)
 
 pub mend_doc-requires-clause-counted : goal.mend_doc-requires-clause-counted
 mend_doc-requires-clause-counted c =
@@ -43,8 +50,14 @@ mend_doc-requires-clause-counted c =
     let old = plain_doc c.args.self.now.doc in
     let l : c.places-2.result.now ≡ t.list = search rules in
     let made = c.in_ok-make.ensures.ok in
-    let r = ready-counted c.args.self.now.grammar c.args.self.now.root old ch m.outer m.inner c.args.stamp c.exchange-exchange.result c.requires.task.can c.requires.task.unshort c.requires.task.bare c.requires.judged c.requires.task.kept c.args.self.now.marked in
-    subst (λ (q : List ℕ). IsDocCounted (mend_doc q m.outer m.inner c.args.stamp (plain_doc c.make.new.doc))) (sym l) (subst (λ (d : PlainDoc Mark). IsDocCounted (mend_doc t.list m.outer m.inner c.args.stamp d)) (sym made) r)
+    let r =
+    ready-counted c.args.self.now.grammar c.args.self.now.root old ch m.outer m.inner c.args.stamp
+    c.exchange-exchange.result c.requires.task.can c.requires.task.unshort c.requires.task.bare
+    c.requires.judged c.requires.task.kept c.args.self.now.marked in
+    subst (λ (q : List ℕ).
+    IsDocCounted (mend_doc q m.outer m.inner c.args.stamp (plain_doc c.make.new.doc))) (sym l)
+    (subst (λ (d : PlainDoc Mark).
+    IsDocCounted (mend_doc t.list m.outer m.inner c.args.stamp d)) (sym made) r)
 
 abbrev Marked_ : PlainDtd → List ℕ → PlainDoc Mark → Type 0
 Marked_ d root doc = ∥ IsWellMarked d root doc ∥₁
@@ -58,8 +71,12 @@ invariant_of-self c =
     record {
       marked = subst (Marked_ d root) (sym same) c.args.self.now.marked;
       counted = c.args.self.now.counted ∙ ap told_bad (sym same);
-      few = subst (λ (e : PlainDoc Mark). nodes_in e.root ≤ MAX_EDITED_NODES) (sym same) c.args.self.now.few;
-      held = subst (λ (e : PlainDoc Mark). ForSome c.args.self.now.kept (AreKeptTokens d e)) (sym same) c.args.self.now.held;
+      few =
+          subst (λ (e : PlainDoc Mark). nodes_in e.root ≤ MAX_EDITED_NODES)
+          (sym same) c.args.self.now.few;
+      held =
+          subst (λ (e : PlainDoc Mark). ForSome c.args.self.now.kept (AreKeptTokens d e))
+          (sym same) c.args.self.now.held;
     }
 
 -- and after the change
@@ -73,22 +90,38 @@ invariant_of-self-2 c =
     let old = plain_doc c.args.self.now.doc in
     let l : c.places-2.result.now ≡ t.list = search rules in
     let made = c.in_ok-make.ensures.ok in
-    let r = ready-marked d root old ch m.outer m.inner c.args.stamp c.exchange-exchange.result c.requires.task.can c.requires.task.unshort c.requires.task.bare c.requires.judged c.args.self.now.marked in
-    let is : plain_doc c.mend_doc.new.doc ≡ mend_doc t.list m.outer m.inner c.args.stamp (doc_after ch old) =
-    c.mend_doc.ensures ∙ ap (λ (q : List ℕ). mend_doc q m.outer m.inner c.args.stamp (plain_doc c.make.new.doc)) l ∙ ap (mend_doc t.list m.outer m.inner c.args.stamp) made in
-    let count = mended-counted d root old ch m.outer m.inner c.args.stamp c.requires.task.can c.requires.task.unshort c.requires.task.bare c.requires.judged in
+    let r =
+    ready-marked d root old ch m.outer m.inner c.args.stamp c.exchange-exchange.result
+    c.requires.task.can c.requires.task.unshort c.requires.task.bare c.requires.judged
+    c.args.self.now.marked in
+    let is : plain_doc c.mend_doc.new.doc ≡ mend_doc t.list m.outer m.inner c.args.stamp
+    (doc_after ch old) =
+    c.mend_doc.ensures
+    ∙ ap (λ (q : List ℕ). mend_doc q m.outer m.inner c.args.stamp (plain_doc c.make.new.doc)) l
+    ∙ ap (mend_doc t.list m.outer m.inner c.args.stamp) made in
+    let count =
+    mended-counted d root old ch m.outer m.inner c.args.stamp c.requires.task.can
+    c.requires.task.unshort c.requires.task.bare c.requires.judged in
     let after = c.bad_after-bad.ensures in
     let before = c.args.self.now.counted in
     let told = ap told_bad is in
     let k : c.in_ok-list.list ≡ t.list = search rules in
     let new = mend_doc t.list m.outer m.inner c.args.stamp (doc_after ch old) in
     let kept : KeptTokens = record { list = c.in_ok-list.list; tokens = c.args.tokens } in
-    let tokens = kept-after d old ch c.requires.task.can c.requires.task.unshort m.outer m.inner c.args.stamp c.args.tokens c.requires.tokens in
+    let tokens =
+    kept-after d old ch c.requires.task.can c.requires.task.unshort m.outer m.inner c.args.stamp
+    c.args.tokens c.requires.tokens in
     record {
       marked = subst (Marked_ d root) (sym is) r;
       counted = omega arith;
-      few = subst (λ (e : PlainDoc Mark). nodes_in e.root ≤ MAX_EDITED_NODES) (sym is) (few-mended t.list m.outer m.inner c.args.stamp (doc_after ch old) c.requires.task.few);
-      held = subst (λ (e : PlainDoc Mark). ForSome (Some kept) (AreKeptTokens d e)) (sym is) (kept-of d new kept (subst (λ (q : List ℕ). AreListTokens d (forest_of (kids_at q new.root)) c.args.tokens) (sym k) tokens));
+      few =
+          subst (λ (e : PlainDoc Mark). nodes_in e.root ≤ MAX_EDITED_NODES) (sym is)
+          (few-mended t.list m.outer m.inner c.args.stamp (doc_after ch old) c.requires.task.few);
+      held =
+          subst (λ (e : PlainDoc Mark). ForSome (Some kept) (AreKeptTokens d e)) (sym is)
+          (kept-of d new kept
+          (subst (λ (q : List ℕ). AreListTokens d (forest_of (kids_at q new.root)) c.args.tokens)
+          (sym k) tokens));
     }
 
 pub returns-clause-changed : goal.returns-clause-changed
@@ -105,12 +138,20 @@ returns-clause-changed c =
     record {
       same_dtd = refl;
       same_root = refl;
-      made = ap unmarked_doc c.mend_doc.ensures ∙ doc-as c.places-2.result.now m.outer m.inner c.args.stamp (plain_doc c.make.new.doc) ∙ ap unmarked_doc made;
+      made =
+          ap unmarked_doc c.mend_doc.ensures
+          ∙ doc-as c.places-2.result.now m.outer m.inner c.args.stamp (plain_doc c.make.new.doc)
+          ∙ ap unmarked_doc made;
       stamps =
           ap stamps_of c.mend_doc.ensures
-          ∙ stamps_mended c.places-2.result.now m.outer m.inner c.args.stamp (plain_doc c.make.new.doc)
-          ∙ ap (λ (q : List ℕ). stamp_lists c.args.stamp (changed_by q m.inner) (stamps_of (plain_doc c.make.new.doc))) l
-          ∙ ap (λ (ls : List (List ℕ)). stamp_lists c.args.stamp ls (stamps_of (plain_doc c.make.new.doc))) lists
-          ∙ ap (λ (e : PlainDoc Mark). stamp_lists c.args.stamp (lists_changed ch) (stamps_of e)) made;
+          ∙ stamps_mended c.places-2.result.now m.outer m.inner c.args.stamp
+          (plain_doc c.make.new.doc)
+          ∙ ap (λ (q : List ℕ).
+          stamp_lists c.args.stamp (changed_by q m.inner)
+          (stamps_of (plain_doc c.make.new.doc))) l
+          ∙ ap (λ (ls : List (List ℕ)).
+          stamp_lists c.args.stamp ls (stamps_of (plain_doc c.make.new.doc))) lists
+          ∙ ap (λ (e : PlainDoc Mark).
+          stamp_lists c.args.stamp (lists_changed ch) (stamps_of e)) made;
       counted = c.number_of.ensures ∙ sym (same_number t.list m.inner) ∙ ap length lists;
     }

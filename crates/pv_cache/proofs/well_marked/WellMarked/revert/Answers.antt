@@ -22,7 +22,9 @@ words_of-requires g c =
       unshort = c.in_ok-task.ensures.unshort;
       bare = c.in_ok-task.ensures.bare;
       kept = c.in_ok-task.ensures.kept;
-      few = back_few d c.args.self.now.root old c.args.inverse.now l.0 l.1 c.leads_back_law.ensures (plain_task t) c.in_ok-task.ensures.task l.2;
+      few =
+          back_few d c.args.self.now.root old c.args.inverse.now l.0 l.1 c.leads_back_law.ensures
+          (plain_task t) c.in_ok-task.ensures.task l.2;
     }
 
 pub judge_task-requires-clause-task : goal.judge_task-requires-clause-task
@@ -36,7 +38,9 @@ judge_task-requires-clause-task g c =
       unshort = c.in_ok-task.ensures.unshort;
       bare = c.in_ok-task.ensures.bare;
       kept = c.in_ok-task.ensures.kept;
-      few = back_few d c.args.self.now.root old c.args.inverse.now l.0 l.1 c.leads_back_law.ensures (plain_task t) c.in_ok-task.ensures.task l.2;
+      few =
+          back_few d c.args.self.now.root old c.args.inverse.now l.0 l.1 c.leads_back_law.ensures
+          (plain_task t) c.in_ok-task.ensures.task l.2;
     }
 
 pub make_judged-requires-clause-task : goal.make_judged-requires-clause-task
@@ -50,7 +54,9 @@ make_judged-requires-clause-task g c =
       unshort = c.in_ok-task.ensures.unshort;
       bare = c.in_ok-task.ensures.bare;
       kept = c.in_ok-task.ensures.kept;
-      few = back_few d c.args.self.now.root old c.args.inverse.now l.0 l.1 c.leads_back_law.ensures (plain_task t) c.in_ok-task.ensures.task l.2;
+      few =
+          back_few d c.args.self.now.root old c.args.inverse.now l.0 l.1 c.leads_back_law.ensures
+          (plain_task t) c.in_ok-task.ensures.task l.2;
     }
 
 pub make_judged-requires-clause-tokens : goal.make_judged-requires-clause-tokens
@@ -58,7 +64,8 @@ make_judged-requires-clause-tokens g c =
     let d = c.args.self.now.grammar in
     let old = plain_doc c.args.self.now.doc in
     let t = c.in_ok-task.task in
-    subst (AreListTokens d (forest_of (list_after (plain_task t) (kids_at t.list old.root)))) (sym c.into_outer-tokens.ensures) c.in_ok-words.ensures.outer
+    subst (AreListTokens d (forest_of (list_after (plain_task t) (kids_at t.list old.root))))
+    (sym c.into_outer-tokens.ensures) c.in_ok-words.ensures.outer
 
 pub unreachable-requires : goal.unreachable-requires
 unreachable-requires g c =
@@ -67,7 +74,9 @@ unreachable-requires g c =
     let t = c.in_ok-task.task in
     let l = c.requires in
     c.in-Err-TooWide.ensures.wide c.in-Err-TooWide.field-0-is
-    (back_narrow d c.args.self.now.root old c.args.inverse.now l.0 l.1 c.leads_back_law.ensures (plain_task t) c.in_ok-task.ensures.task l.2 c.in_ok-task.ensures.can c.in_ok-task.ensures.unshort c.in_ok-task.ensures.bare)
+    (back_narrow d c.args.self.now.root old c.args.inverse.now l.0 l.1 c.leads_back_law.ensures
+    (plain_task t) c.in_ok-task.ensures.task l.2 c.in_ok-task.ensures.can
+    c.in_ok-task.ensures.unshort c.in_ok-task.ensures.bare)
 
 pub returns-clause-reverted : goal.returns-clause-reverted
 returns-clause-reverted g c = λ before l.
@@ -77,9 +86,24 @@ returns-clause-reverted g c = λ before l.
     let t = c.in_ok-task.task in
     let new = plain_doc c.make_judged.new.self.doc in
     let changed = c.in_ok-checked.ensures.changed in
-    let marked : ∥ IsWellMarked d root new ∥₁ = same_ground c.make_judged.new.self.grammar d c.make_judged.new.self.root root new changed.same_dtd changed.same_root c.make_judged.new.self.marked in
+    let marked : ∥ IsWellMarked d root new ∥₁ =
+    same_ground c.make_judged.new.self.grammar d c.make_judged.new.self.root root new
+    changed.same_dtd changed.same_root c.make_judged.new.self.marked in
     let back =
-    back_made d root old c.args.inverse.now before l c.leads_back_law.ensures (plain_task t) c.in_ok-task.ensures.task c.changed_lists_law.ensures.undone c.args.stamp new marked changed.made changed.stamps
-    (record { checked = c.in_ok-checked.checked; left = new.mark.left; bad = c.make_judged.new.self.bad }) changed.counted refl c.make_judged.new.self.counted in
-    let is : stamped_doc_of c.make_judged.new.self.grammar c.make_judged.new.self.root new ≡ stamped_doc_of d root new = stamped_ground new changed.same_dtd changed.same_root in
-    subst (λ (s : StampedDoc). IsReverted (stamped_doc_of d root old) c.args.inverse.now l.edit before c.args.stamp (record { checked = c.in_ok-checked.checked; left = new.mark.left; bad = c.make_judged.new.self.bad }) s) (sym is) back
+    back_made d root old c.args.inverse.now before l c.leads_back_law.ensures
+    (plain_task t) c.in_ok-task.ensures.task c.changed_lists_law.ensures.undone c.args.stamp new
+    marked changed.made changed.stamps
+    (record {
+      checked = c.in_ok-checked.checked;
+      left = new.mark.left;
+      bad = c.make_judged.new.self.bad;
+    }) changed.counted refl c.make_judged.new.self.counted in
+    let is : stamped_doc_of c.make_judged.new.self.grammar c.make_judged.new.self.root new
+    ≡ stamped_doc_of d root new = stamped_ground new changed.same_dtd changed.same_root in
+    subst (λ (s : StampedDoc).
+    IsReverted (stamped_doc_of d root old) c.args.inverse.now l.edit before c.args.stamp
+    (record {
+      checked = c.in_ok-checked.checked;
+      left = new.mark.left;
+      bad = c.make_judged.new.self.bad;
+    }) s) (sym is) back

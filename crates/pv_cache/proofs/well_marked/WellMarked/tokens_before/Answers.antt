@@ -11,7 +11,13 @@ use Rattle.pv_cache.proofs.well_marked.WellMarked.tokens_before.Goals as goal
 
 pub returns : goal.returns
 returns c =
-    let kids : plain_all c.in-Some.kids.now ≡ kids_at c.args.task.now.list (plain_doc c.args.self.now.doc).root = ap items_of c.in-Some.ensures in
+    let kids : plain_all c.in-Some.kids.now
+    ≡ kids_at c.args.task.now.list (plain_doc c.args.self.now.doc).root =
+    ap items_of c.in-Some.ensures in
     let tokens = c.in_ok-tokens.tokens in
-    subst (λ (e : PlainDtd). AreListTokens e (forest_of (kids_at c.args.task.now.list (plain_doc c.args.self.now.doc).root)) tokens) c.dtd.ensures
-    (subst (λ (ks : List (Tree Mark)). AreListTokens (plain_dtd c.dtd.result.now) (forest_of ks) tokens) kids c.in_ok-tokens.ensures)
+    subst (λ (e : PlainDtd).
+    AreListTokens e
+    (forest_of (kids_at c.args.task.now.list (plain_doc c.args.self.now.doc).root)) tokens)
+    c.dtd.ensures
+    (subst (λ (ks : List (Tree Mark)).
+    AreListTokens (plain_dtd c.dtd.result.now) (forest_of ks) tokens) kids c.in_ok-tokens.ensures)
