@@ -165,40 +165,6 @@ impl WellMarked {
         exchange_of(kids, &task.change)
     }
 
-    // Makes a change as `make_judged` does, and remembers nothing behind the grammar.
-    fn make_marked(
-        &mut self,
-        task: Task,
-        verdicts: ChangedVerdicts,
-        tokens: ListTokens,
-        stamp: u64,
-    ) -> Result<u32, NoMemory>
-        requires task { IsTaskFor (plain_doc self.old.doc) task }
-        requires judged { AreJudged self.old.grammar self.old.root
-            (owner_at task.list (plain_doc self.old.doc).root)
-            (kids_at task.list (plain_doc self.old.doc).root)
-            (plain_task task) verdicts.outer verdicts.inner }
-        requires tokens { AreListTokens self.old.grammar (forest_of (list_after (plain_task task)
-            (kids_at task.list (plain_doc self.old.doc).root))) tokens }
-        ensures changed { IfOk result (λ lists.
-            IsChanged (plain_marked self.old) task stamp lists (plain_marked self.new)) }
-        ensures unchanged { OnErr result (plain_marked self.new ≡ plain_marked self.old) }
-    {
-        let mend = Mend {
-            verdict: verdicts.outer,
-            inner: verdicts.inner,
-            stamp,
-        };
-        let list = Path::new(self.alloc, task.list.places())?;
-        let bad = self.bad_after(&task, &verdicts);
-        let exchange = self.exchange(&task);
-        make(self.alloc, &mut self.doc, task)?;
-        mend_doc(self.alloc, &mut self.doc, list.places(), &mend, &exchange);
-        self.bad = bad;
-        self.kept = Some(KeptTokens { list, tokens });
-        Ok(number_of(&mend))
-    }
-
     /// Makes a change whose lists have these verdicts, and mends the marks. Without memory the
     /// document is left.
     ///
@@ -224,8 +190,19 @@ impl WellMarked {
     {
         let owner = self.owner_of(&task.list);
         let is_again = self.kept_at(&task.list).is_some();
-        let lists = self.make_marked(task, verdicts, tokens, stamp)?;
+        let mend = Mend {
+            verdict: verdicts.outer,
+            inner: verdicts.inner,
+            stamp,
+        };
+        let list = Path::new(self.alloc, task.list.places())?;
+        let bad = self.bad_after(&task, &verdicts);
+        let exchange = self.exchange(&task);
+        make(self.alloc, &mut self.doc, task)?;
+        mend_doc(self.alloc, &mut self.doc, list.places(), &mend, &exchange);
+        self.bad = bad;
+        self.kept = Some(KeptTokens { list, tokens });
         self.remember_kept(owner, is_again);
-        Ok(lists)
+        Ok(number_of(&mend))
     }
 }
