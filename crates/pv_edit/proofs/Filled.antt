@@ -1,81 +1,127 @@
 -- A filling in place of some kids, from vectors to lists of trees.
-use Rattle.std.proofs.Common.{◌≡◌, ℕ, ◌+◌, ◌-◌, ◌≤◌, List, [], ◌∷◌, ◌++◌, Vec, Global, length, take, drop, refl, sym, ap, ◌∙◌, arith, append_assoc}
-use Rattle.std.proofs.Math.Seq.{take-append_seam, drop-append_seam}
-use Rattle.std.proofs.lemmas.List.{length-map, length-append, length-take-le, length-drop, map-append, take-map, drop-map, append-nil}
-use Rattle.std.specs.List.{between}
-use Rattle.pv_tree.specs.Plain.{Tree, Ending, element}
+use Rattle.std.proofs.Common.{◌≡◌, ◌<◌, ◌≤◌, ℕ, suc, ◌+◌, ◌-◌, List, [], ◌∷◌, ◌++◌, Vec, Global, length}
+use Rattle.std.proofs.Common.{take, drop, get_or, slice_set, map, refl, sym, ap, ◌∙◌, IsTrue}
+use Rattle.std.proofs.Common.{arith}
+use Rattle.std.proofs.lemmas.List.{length-map, length-take-le, map-append, take-map, drop-map, append-nil}
+use Rattle.std.proofs.lemmas.List.{set_split, set_at, get_or_at, take-set-le, drop-set-lt, get_or-map}
+use Rattle.std.proofs.lemmas.List.Edits.{length-between, between_none, between_more}
+use Rattle.std.specs.List.{between, splice}
+use Rattle.pv_tree.specs.Plain.{Tree, Ending, element, is_element}
 use Rattle.pv_tree.specs.PlainForms.{plain, plain_all, plain_end, forest}
 use Rattle.pv_tree.specs.declared.nodes.End.{End}
 use Rattle.pv_tree.specs.declared.nodes.Mark.{Mark}
 use Rattle.pv_tree.specs.declared.nodes.Node.{Node, Elem}
-use Rattle.pv_tree.proofs.Levels.{trees-forest, plain-Elem, kids_of-Elem}
+use Rattle.pv_tree.proofs.Levels.{trees-forest, kids_of-Elem}
 use Rattle.pv_tree.specs.Places.{kids_of}
-use Rattle.pv_tree.specs.Marks.{blank_mark}
-use Rattle.pv_edit.specs.Changes as changes
-use Rattle.pv_edit.specs.Changes.{in_place_of, all_kids}
-use Rattle.pv_edit.specs.Fitting.{plain_filling, with_filling}
+use Rattle.pv_edit.specs.Changes.{all_kids, in_place_of, with_name}
+use Rattle.pv_edit.specs.Fitting.{plain_filling, with_kids}
+use Rattle.pv_edit.specs.Reasons.{is_one_element}
 use Rattle.pv_edit.specs.declared.filling.Filling.{Filling}
-use Rattle.pv_edit.specs.declared.filling.Filling.TheVariants.{Around, Inner, Named}
+use Rattle.pv_edit.specs.declared.filling.Filling.TheVariants.{Inner}
 
 -- the kids that give way
-pub slice_plain : (from to : ℕ) (items : List Node) → plain_all (take (to - from) (drop from items)) ≡ between from to (plain_all items)
-slice_plain from to items = sym (take-map plain (to - from) (drop from items)) ∙ ap (take (to - from)) (sym (drop-map plain from items))
+pub slice_plain : (from to : ℕ) (items : List Node) →
+    plain_all (take (to - from) (drop from items)) ≡ between from to (plain_all items)
+slice_plain from to items =
+    sym (take-map plain (to - from) (drop from items))
+    ∙ ap (take (to - from)) (sym (drop-map plain from items))
 
--- the last so many, moved before those from a place on
-rotated : {X : Type 0} (a b f : List X) (from n : ℕ) → length a ≡ from → length b ≡ n → take from ((a ++ b) ++ f) ++ (drop n (drop from ((a ++ b) ++ f)) ++ take n (drop from ((a ++ b) ++ f))) ≡ a ++ (f ++ b)
-rotated a b f from n e g = rw (← e, ← g, append_assoc a b f, take-append_seam a (b ++ f), drop-append_seam a (b ++ f), drop-append_seam b f, take-append_seam b f) refl
-
-plain_three : (a b c : List Node) → plain_all (a ++ (b ++ c)) ≡ plain_all a ++ (plain_all b ++ plain_all c)
-plain_three a b c = map-append plain a (b ++ c) ∙ ap (λ (l : List (Tree Mark)). plain_all a ++ l) (map-append plain b c)
-
-plain_rotated : (from n : ℕ) (ks : List Node) → plain_all (take from ks ++ (drop n (drop from ks) ++ take n (drop from ks))) ≡ take from (plain_all ks) ++ (drop n (drop from (plain_all ks)) ++ take n (drop from (plain_all ks)))
-plain_rotated from n ks =
-    plain_three (take from ks) (drop n (drop from ks)) (take n (drop from ks))
-    ∙ sym (rw (take-map plain from ks, drop-map plain from ks, drop-map plain n (drop from ks), take-map plain n (drop from ks)) refl)
-
-plain_left : (from to : ℕ) (items : List Node) → plain_all (take from items ++ drop to items) ≡ take from (plain_all items) ++ drop to (plain_all items)
-plain_left from to items = map-append plain (take from items) (drop to items) ∙ sym (rw (take-map plain from items, drop-map plain to items) refl)
-
--- what stays, with what comes in place behind it, which is then moved
-pub filled_items : (from to n : ℕ) (filling : changes.Filling Mark) (items left middle put all : List Node) → from ≤ to → to ≤ length items → n ≡ length items - to → left ≡ take from items ++ drop to items
-    → middle ≡ take (to - from) (drop from items) → plain_all put ≡ plain_all left ++ in_place_of filling (plain_all middle) → all ≡ take from put ++ (drop n (drop from put) ++ take n (drop from put))
-    → plain_all all ≡ with_filling from to filling (plain_all items)
-filled_items from to n filling items left middle put all h w c l m p a =
-    let ts = plain_all items in
-    let count : length ts ≡ length items = length-map items plain in
-    let m2 : plain_all middle ≡ between from to ts = ap plain_all m ∙ slice_plain from to items in
-    let p2 : plain_all put ≡ (take from ts ++ drop to ts) ++ in_place_of filling (between from to ts) = p ∙ rw (ap plain_all l ∙ plain_left from to items, m2) refl in
-    ap plain_all a ∙ plain_rotated from n put
-    ∙ ap (λ (l : List (Tree Mark)). take from l ++ (drop n (drop from l) ++ take n (drop from l))) p2
-    ∙ rotated (take from ts) (drop to ts) (in_place_of filling (between from to ts)) from n (length-take-le from ts (omega (arith, count))) (length-drop to ts ∙ ap (λ (k : ℕ). k - to) count ∙ sym c)
-
-pub left_length : (from to : ℕ) (items left : List Node) → from ≤ to → to ≤ length items → left ≡ take from items ++ drop to items → length left ≡ from + (length items - to)
-left_length from to items left h w l = ap length l ∙ rw (length-append (take from items) (drop to items), length-take-le from items (omega arith), length-drop to items) refl
-
-pub filled_length : {M : Type 0} (from to : ℕ) (filling : changes.Filling M) (ts : List (Tree M)) → from ≤ to → to ≤ length ts → length (with_filling from to filling ts) ≡ from + (length (in_place_of filling (between from to ts)) + (length ts - to))
-filled_length from to filling ts h w =
-    let ins = in_place_of filling (between from to ts) in
-    rw (length-append (take from ts) (ins ++ drop to ts), length-append ins (drop to ts), length-take-le from ts (omega arith), length-drop to ts) refl
+-- nodes in place of kids, as trees in place of trees
+pub plain_spliced : (from to : ℕ) (items nodes all : List Node) → all ≡ splice items from to nodes →
+    plain_all all ≡ splice (plain_all items) from to (plain_all nodes)
+plain_spliced from to items nodes all e =
+    ap plain_all e
+    ∙ map-append plain (take from items) (nodes ++ drop to items)
+    ∙ ap (λ (l : List (Tree Mark)). plain_all (take from items) ++ l)
+    (map-append plain nodes (drop to items))
+    ∙ sym (rw (take-map plain from items, drop-map plain to items) refl)
 
 -- the kids of one element
-pub inner_is : (filling : Filling) (ts : List (Tree Mark)) (x attrs : List ℕ) (e : Ending) (ks : List Node) (m : Mark) → filling ≡ Inner → ts ≡ element x attrs e (forest ks) m ∷ [] → in_place_of (plain_filling filling) ts ≡ plain_all ks
+pub inner_is : (filling : Filling) (ts : List (Tree Mark)) (x attrs : List ℕ) (e : Ending)
+    (ks : List Node) (m : Mark) → filling ≡ Inner → ts ≡ element x attrs e (forest ks) m ∷ [] →
+    in_place_of (plain_filling filling) ts ≡ plain_all ks
 inner_is filling ts x attrs e ks m f h = rw (f, h) (append-nil _ ∙ trees-forest (plain_all ks))
 
-pub named_is : (filling : Filling) (ts : List (Tree Mark)) (name x attrs : List ℕ) (e : End) (ks : Vec Node Global) (m : Mark) → filling ≡ Named name → ts ≡ element x attrs (plain_end e) (forest ks.items) m ∷ []
-    → in_place_of (plain_filling filling) ts ≡ plain (Elem name attrs e ks m) ∷ []
-named_is filling ts name x attrs e ks m f h = rw (f, h) (ap (λ t. t ∷ []) (sym (plain-Elem name attrs e ks m)))
+pub kids-length : (name attrs : List ℕ) (e : End) (ks : Vec Node Global) (m : Mark) →
+    length (kids_of (plain (Elem name attrs e ks m))) ≡ length ks.items
+kids-length name attrs e ks m =
+    ap length (sym (kids_of-Elem name attrs e ks m)) ∙ length-map ks.items plain
 
-pub around_is : (filling : Filling) (ks : Vec Node Global) (name attrs : List ℕ) (e : End) (m : Mark) → filling ≡ Around name attrs e → m ≡ blank_mark → in_place_of (plain_filling filling) (plain_all ks.items) ≡ plain (Elem name attrs e ks m) ∷ []
-around_is filling ks name attrs e m f b = rw (f, b) (ap (λ t. t ∷ []) (sym (plain-Elem name attrs e ks blank_mark)))
+-- an element in place of kids, that is given them
+pub around_put : (from to : ℕ) (items once inner all : List Node) (bare old new : Node) →
+    from ≤ length items → once ≡ splice items from to (bare ∷ []) → inner ≡ between from to items →
+    old ≡ get_or once from old → plain new ≡ with_kids (plain_all inner) (plain old) →
+    all ≡ slice_set once from new →
+    plain_all all ≡ splice (plain_all items) from to
+    (with_kids (between from to (plain_all items)) (plain bare) ∷ [])
+around_put from to items once inner all bare old new w o i g n a =
+    let front : length (take from items) ≡ from = length-take-le from items w in
+    let was : old ≡ bare =
+    g ∙ ap (λ (l : List Node). get_or l from old) o
+    ∙ get_or_at (take from items) bare (drop to items) old from front in
+    let is : plain new ≡ with_kids (between from to (plain_all items)) (plain bare) =
+    n ∙ rw (was, i, slice_plain from to items) refl in
+    plain_spliced from to items (new ∷ []) all
+    (a ∙ ap (λ (l : List Node). slice_set l from new) o
+    ∙ set_at (take from items) bare (drop to items) new from front)
+    ∙ ap (λ (t : Tree Mark). splice (plain_all items) from to (t ∷ [])) is
 
-pub pushed : (old all : List Node) (new : Node) (ts : List (Tree Mark)) → all ≡ old ++ new ∷ [] → ts ≡ plain new ∷ [] → plain_all all ≡ plain_all old ++ ts
-pushed old all new ts a e = ap plain_all a ∙ map-append plain old (new ∷ []) ∙ ap (λ l. plain_all old ++ l) (sym e)
+one_length : {M : Type 0} (ts : List (Tree M)) → IsTrue (is_one_element ts) → length ts ≡ 1
+one_length [] h = absurd cc
+one_length (t ∷ []) h = refl
+one_length (t ∷ u ∷ ts) h = absurd cc
 
-pub moved : (old all more : List Node) (ts : List (Tree Mark)) → all ≡ old ++ more → ts ≡ plain_all more → plain_all all ≡ plain_all old ++ ts
-moved old all more ts a e = ap plain_all a ∙ map-append plain old more ∙ ap (λ l. plain_all old ++ l) (sym e)
+-- the only one of the kids that give way, an element
+pub record IsOnly (from to : ℕ) (items : List Node) (old : Node) : Type 0 where
+  pub next : to ≡ from + 1
+  pub only : between from to (plain_all items) ≡ plain old ∷ []
+  pub elem : IsTrue (is_element (plain old))
 
-pub plain_length : (ks : List Node) (ts : List (Tree Mark)) → ts ≡ plain_all ks → length ts ≡ length ks
-plain_length ks ts e = ap length e ∙ length-map ks plain
+pub only_kid : (from to : ℕ) (items : List Node) (old : Node) → to ≤ length items →
+    IsTrue (is_one_element (between from to (plain_all items))) → old ≡ get_or items from old →
+    IsOnly from to items old
+only_kid from to items old w h o =
+    let ts = plain_all items in
+    let count : length ts ≡ length items = length-map items plain in
+    let n : to - from ≡ 1 =
+    sym (length-between ts from to (omega (arith, count))) ∙ one_length (between from to ts) h in
+    let next : to ≡ from + 1 = omega (arith, n) in
+    let is : between from to ts ≡ plain old ∷ [] =
+    ap (λ (k : ℕ). between from k ts) next
+    ∙ between_more ts from from (plain old) (omega arith) (omega (arith, count, n))
+    ∙ rw (
+      between_none ts from,
+      get_or-map plain items from old (plain old) (omega (arith, n)),
+      ← o,
+    ) refl in
+    record { next = next; only = is; elem = rw is at h }
 
-pub kids-length : (name attrs : List ℕ) (e : End) (ks : Vec Node Global) (m : Mark) → length (kids_of (plain (Elem name attrs e ks m))) ≡ length ks.items
-kids-length name attrs e ks m = plain_length ks.items _ (sym (kids_of-Elem name attrs e ks m))
+-- its kids in place of it
+pub inner_put : (from to : ℕ) (items bared inner all : List Node) (old bare : Node) →
+    IsOnly from to items old → bared ≡ slice_set items from bare →
+    plain_all inner ≡ kids_of (plain old) → all ≡ splice bared from to inner →
+    plain_all all ≡ splice (plain_all items) from to
+    (all_kids (between from to (plain_all items)))
+inner_put from to items bared inner all old bare o b k a =
+    let front : take from bared ≡ take from items =
+    ap (take from) b ∙ take-set-le from items from bare (omega arith) in
+    let back : drop to bared ≡ drop to items =
+    ap (drop to) b ∙ drop-set-lt to items from bare (omega (arith, o.next)) in
+    plain_spliced from to items inner all
+    (a ∙ rw (front, back) refl)
+    ∙ ap (λ (l : List (Tree Mark)). splice (plain_all items) from to l)
+    (k ∙ sym (ap all_kids o.only ∙ append-nil (kids_of (plain old))))
+
+-- it under another name
+pub name_put : (from to : ℕ) (items all : List Node) (name : List ℕ) (old new : Node) →
+    IsOnly from to items old → to ≤ length items → plain new ≡ with_name name (plain old) →
+    all ≡ slice_set items from new →
+    plain_all all ≡ splice (plain_all items) from to
+    (map (with_name name) (between from to (plain_all items)))
+name_put from to items all name old new o w n a =
+    let next : suc from ≡ to = omega (arith, o.next) in
+    plain_spliced from to items (new ∷ []) all
+    (a ∙ set_split items from new (omega (arith, o.next))
+    ∙ ap (λ (k : ℕ). take from items ++ new ∷ drop k items) next)
+    ∙ ap (λ (l : List (Tree Mark)). splice (plain_all items) from to l)
+    (ap (λ (t : Tree Mark). t ∷ []) n ∙ sym (ap (map (with_name name)) o.only))

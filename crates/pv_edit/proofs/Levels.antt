@@ -1,6 +1,6 @@
 -- One level of a change in a tree.
 use Rattle.std.proofs.Common.{◌≡◌, ℕ, zero, suc, ◌+◌, ◌-◌, ◌<◌, ◌≤◌, List, [], ◌∷◌, ◌++◌, length, take, drop, get_or, Option, Some, None, slice_get, slice_set, sym, ap, ◌∙◌, arith, refl, subst, IsTrue}
-use Rattle.std.specs.Prelude.{IsSomeAnd}
+use Rattle.std.specs.Prelude.{IsSomeAnd, Result, Ok, Err, OnErr}
 use Rattle.std.specs.Option.{option_map, option_and_then}
 use Rattle.std.proofs.Math.ListN.{get_or-map}
 use Rattle.std.proofs.lemmas.Option.{slice_get-map, slice_get_within, get_or_from_slice_get}
@@ -12,7 +12,7 @@ use Rattle.pv_tree.specs.PlainForms.{plain, plain_all}
 use Rattle.pv_tree.specs.declared.nodes.Mark.{Mark}
 use Rattle.pv_tree.specs.declared.nodes.Node.{Node}
 use Rattle.pv_edit.specs.Changes.{change_kid, change_below, first_tree}
-use Rattle.pv_edit.specs.Fitting.{with_kids}
+use Rattle.pv_edit.specs.Fitting.{if_made, with_kids}
 
 pub forest-trees : {M : Type 0} (f : Forest M) → forest_of (trees_of f) ≡ f
 forest-trees no_trees = refl
@@ -60,6 +60,38 @@ pub first_changed : (path : List ℕ) (f : Tree Mark → Tree Mark) (t : Tree Ma
 first_changed path f t ks old kid n e h o k =
     below_changed (take (length path - 1) (drop 1 path)) f (get_or path 0 0) t ks old kid e h (k ∙ ap (λ (x : Node). change_below (take (length path - 1) (drop 1 path)) f (plain x)) o)
     ∙ ap (λ (q : List ℕ). change_below q f t) (sym (path-split path n))
+
+-- the kids that were taken out, put back
+pub kids_again : {M : Type 0} (t u v : Tree M) (ls : List (Tree M)) → ls ≡ kids_of t →
+    u ≡ with_kids [] t → v ≡ with_kids ls u → v ≡ t
+kids_again (element x attrs e k m) u v ls l f h =
+    put_back (element x attrs e k m) u v ls f h
+    ∙ ap (λ i. element x attrs e (forest_of i) m) l
+    ∙ ap (λ i. element x attrs e i m) (forest-trees k)
+kids_again (text_node units) u v ls l f h = put_back (text_node units) u v ls f h
+kids_again (cdata_node bytes) u v ls l f h = put_back (cdata_node bytes) u v ls f h
+kids_again (misc_node bytes) u v ls l f h = put_back (misc_node bytes) u v ls f h
+
+-- a tree of which nothing below was changed
+kid-same : {M : Type 0} (f : Tree M → Tree M) → ((t : Tree M) → f t ≡ t) → (i : ℕ)
+    (kids : Forest M) → change_kid f i kids ≡ kids
+kid-same f s i no_trees = refl
+kid-same f s zero (tree t rest) = ap (λ u. tree u rest) (s t)
+kid-same f s (suc i) (tree t rest) = ap (tree t) (kid-same f s i rest)
+
+below-same : {M : Type 0} (path : List ℕ) (t : Tree M) → change_below path (λ u. u) t ≡ t
+below-same [] t = refl
+below-same (i ∷ path) (element x attrs e k m) =
+    ap (λ l. element x attrs e l m) (kid-same (change_below path (λ u. u)) (below-same path) i k)
+below-same (i ∷ path) (text_node u) = refl
+below-same (i ∷ path) (cdata_node u) = refl
+below-same (i ∷ path) (misc_node u) = refl
+
+-- what is left without memory
+pub same_unless_made : {T E M : Type 0} (r : Result T E) (path : List ℕ) (f : Tree M → Tree M)
+    (t u : Tree M) → u ≡ change_below path (if_made r f) t → OnErr r (u ≡ t)
+same_unless_made (Ok made) path f t u h = tt
+same_unless_made (Err e) path f t u h = h ∙ below-same path t
 
 -- what stands below
 spot_in : (path : List ℕ) (P : Tree Mark → Type 0) (i : ℕ) (ks : List Node) (o : Option Node) → slice_get ks i ≡ o → IsSomeAnd (option_and_then (node_below path) (option_map plain o)) P

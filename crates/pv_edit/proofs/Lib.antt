@@ -16,7 +16,7 @@ pub mod KeptBack
 pub mod Prepared
 pub mod ListsChanged
 -- of this crate:
-pub mod Roomy
+pub mod Exchanged
 pub mod Paths
 pub mod Searching
 pub mod Depths

@@ -1,5 +1,6 @@
 -- The changes of the program as plain changes, and which of them can be made.
 use Rattle.std.specs.Prelude.{◌≡◌, ◌≤◌, ℕ, zero, suc, List, [], ◌∷◌, length, IsTrue, IsSomeAnd}
+use Rattle.std.specs.Prelude.{Result, Ok, Err}
 use Rattle.std.specs.List.{between, splice}
 use Rattle.pv_tree.specs.Plain.{Tree, element, text_node, cdata_node, misc_node, forest_of}
 use Rattle.pv_tree.specs.Plain.{is_element}
@@ -54,6 +55,11 @@ with_kids ts (element x attrs ending kids mark) = element x attrs ending (forest
 with_kids ts (text_node units) = text_node units
 with_kids ts (cdata_node bytes) = cdata_node bytes
 with_kids ts (misc_node bytes) = misc_node bytes
+
+-- what a change makes of a tree, where there is memory for it
+abbrev pub if_made : {T E M : Type 0} → Result T E → (Tree M → Tree M) → Tree M → Tree M
+if_made (Ok made) f t = f t
+if_made (Err e) f t = t
 
 -- a list in which a change can be made
 pub record SuitsChange {M : Type 0} (c : plain_changes.Change M) (ts : List (Tree M)) : Type 0 where

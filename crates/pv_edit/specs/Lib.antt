@@ -11,7 +11,6 @@ pub mod Places
 pub mod CloseMarks
 pub mod Refusals
 pub mod Fitting
-pub mod Rooms
 pub mod Laws
 pub mod Preparations
 pub mod Leaves

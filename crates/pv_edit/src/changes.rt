@@ -19,7 +19,6 @@ use crate::edits::Edit;
 use crate::inverses::Inverse;
 use crate::preparations::preparation_of;
 use crate::reasons::EditError;
-use crate::rooms::room_for;
 use crate::shapes::first_reason;
 use crate::tasks::{Preparation, Task};
 use crate::ways_back::task_back;
@@ -116,7 +115,5 @@ pub fn make(alloc: Global, doc: &mut Doc, task: Task) -> Result<(), NoMemory>
     ensures err { OnErr result (plain_doc doc.new ≡ plain_doc doc.old) }
 {
     let Task { list, change } = task;
-    let room = room_for(alloc, doc, &list, &change)?;
-    change_root(alloc, &mut doc.root, list.places(), change, room);
-    Ok(())
+    change_root(alloc, &mut doc.root, list.places(), change)
 }

@@ -1,74 +1,84 @@
 //! A change of one list, wherever it stands in a tree.
 
-ghost use Rattle.std.specs.Prelude.{◌≡◌, [], ◌∷◌, IsSomeAnd, IsTrue};
+ghost use Rattle.std.specs.Prelude.{◌≡◌, [], IsSomeAnd, IsTrue, OnErr, OnOk};
 ghost use Rattle.pv_tree.specs.Plain.{is_element};
 ghost use Rattle.pv_tree.specs.Places.{kids_of, node_below};
 ghost use Rattle.pv_tree.specs.PlainForms.{plain, plain_all, plain_end};
 ghost use Rattle.pv_edit.specs.Changes.{change_below, ending_after, owner_after, root_after};
 ghost use Rattle.pv_edit.specs.Changes.{with_list};
-ghost use Rattle.pv_edit.specs.Fitting.{CanChange, TakesTop, plain_change, with_kids};
-ghost use Rattle.pv_edit.specs.Rooms.{HasRoom, HasRoomAt, TakesIn};
+ghost use Rattle.pv_edit.specs.Fitting.{CanChange, TakesChange, TakesTop, if_made, plain_change};
+ghost use Rattle.pv_edit.specs.Fitting.{with_kids};
 
 use crate::filling::fill;
-use crate::rooms::{Room, in_wider};
 use crate::tasks::Change;
-use pv_chars::List;
+use pv_chars::{List, NoMemory};
 use pv_tree::{End, Node};
 use std::alloc::Global;
 use std::mem;
 
-/// Changes the list at a path, in memory that was taken before.
-pub(crate) fn change_root(alloc: Global, root: &mut Node, list: &[u32], change: Change, room: Room)
-    requires can { CanChange list.now (plain_change list.now change) (plain root.old) }
-    requires room { HasRoomAt room list.now (plain_change list.now change) (plain root.old) }
-    ensures { plain root.new ≡ root_after list.now (plain_change list.now change) (plain root.old) }
+/// Changes the list at a path. All memory is taken before; without it the tree stays.
+pub(crate) fn change_root(
+    alloc: Global,
+    root: &mut Node,
+    list: &[u32],
+    change: Change,
+) -> Result<(), NoMemory>
+    requires { CanChange list.now (plain_change list.now change) (plain root.old) }
+    ensures changed { OnOk result
+        (plain root.new ≡ root_after list.now (plain_change list.now change) (plain root.old)) }
+    ensures unchanged { OnErr result (plain root.new ≡ plain root.old) }
 {
     match list {
-        [] => change_top(alloc, root, change, room),
-        [_, below @ ..] => change_below(alloc, root, below, change, room),
+        [] => change_top(alloc, root, change),
+        [_, below @ ..] => change_below(alloc, root, below, change),
     }
 }
 
 // Changes the list of the document node, which holds the root alone.
-fn change_top(alloc: Global, root: &mut Node, change: Change, room: Room)
-    requires can { TakesTop (plain_change [] change) (plain root.old) }
-    requires room { HasRoom room 0 (plain_change [] change) (plain root.old ∷ []) }
-    ensures { plain root.new ≡ root_after [] (plain_change [] change) (plain root.old) }
+fn change_top(alloc: Global, root: &mut Node, change: Change) -> Result<(), NoMemory>
+    requires { TakesTop (plain_change [] change) (plain root.old) }
+    ensures changed { OnOk result
+        (plain root.new ≡ root_after [] (plain_change [] change) (plain root.old)) }
+    ensures unchanged { OnErr result (plain root.new ≡ plain root.old) }
 {
-    let Room {
-        mut kids,
-        taken,
-        ..
-    } = room;
+    let mut kids = Vec::with_capacity(alloc, 1)?;
     kids.push_reserved(mem::replace(root, placeholder(alloc)));
-    fill(&mut kids, change.from, change.to, change.filling, taken);
+    let filled = fill(alloc, &mut kids, change.from, change.to, change.filling);
     let Some(first) = kids.pop() else {
         unreachable!()
     };
     drop(mem::replace(root, first));
+    filled
 }
 
 // Changes the list of the element at a path below a node.
-fn change_below(alloc: Global, node: &mut Node, path: &[u32], change: Change, room: Room)
+fn change_below(
+    alloc: Global,
+    node: &mut Node,
+    path: &[u32],
+    change: Change,
+) -> Result<(), NoMemory>
     requires { IsSomeAnd (node_below path.now (plain node.old))
-        (TakesIn room (plain_change [] change)) }
-    ensures { plain node.new ≡ change_below path.now (owner_after (plain_change [] change))
-        (plain node.old) }
+        (TakesChange (plain_change [] change)) }
+    ensures { plain node.new ≡ change_below path.now
+        (if_made result (owner_after (plain_change [] change))) (plain node.old) }
 {
     match path {
-        [] => change_owner(alloc, node, change, room),
+        [] => change_owner(alloc, node, change),
         [first, rest @ ..] => {
             let mut kids = take_kids(alloc, node);
-            change_below(alloc, &mut kids[*first as usize], rest, change, room);
+            let made = change_below(alloc, &mut kids[*first as usize], rest, change);
             put_kids(alloc, node, kids);
+            made
         }
     }
 }
 
 // Changes the list of an element.
-fn change_owner(alloc: Global, node: &mut Node, change: Change, room: Room)
-    requires { TakesIn room (plain_change [] change) (plain node.old) }
-    ensures { plain node.new ≡ owner_after (plain_change [] change) (plain node.old) }
+fn change_owner(alloc: Global, node: &mut Node, change: Change) -> Result<(), NoMemory>
+    requires { TakesChange (plain_change [] change) (plain node.old) }
+    ensures { plain node.new
+        ≡ if_made result (owner_after (plain_change [] change)) (plain node.old) }
 {
     let Change {
         from,
@@ -76,9 +86,17 @@ fn change_owner(alloc: Global, node: &mut Node, change: Change, room: Room)
         filling,
         shorten,
     } = change;
-    let mut kids = in_wider(take_kids(alloc, node), room.count, room.kids);
-    fill(&mut kids, from, to, filling, room.taken);
-    put_list(alloc, node, kids, shorten);
+    let mut kids = take_kids(alloc, node);
+    match fill(alloc, &mut kids, from, to, filling) {
+        Ok(()) => {
+            put_list(alloc, node, kids, shorten);
+            Ok(())
+        }
+        Err(NoMemory) => {
+            put_kids(alloc, node, kids);
+            Err(NoMemory)
+        }
+    }
 }
 
 // A node that stands nowhere.

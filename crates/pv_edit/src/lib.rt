@@ -21,7 +21,6 @@ pub mod laws;
 mod places;
 mod preparations;
 mod reasons;
-mod rooms;
 mod runs;
 mod shapes;
 mod tasks;
