@@ -189,7 +189,7 @@ impl WellMarked {
         ensures unchanged { OnErr result (plain_marked self.new ≡ plain_marked self.old) }
     {
         let owner = self.owner_of(&task.list);
-        let is_again = self.kept_at(&task.list).is_some();
+        let again = self.again(&task, &tokens);
         let mend = Mend {
             verdict: verdicts.outer,
             inner: verdicts.inner,
@@ -202,7 +202,7 @@ impl WellMarked {
         mend_doc(self.alloc, &mut self.doc, list.places(), &mend, &exchange);
         self.bad = bad;
         self.kept = Some(KeptTokens { list, tokens });
-        self.remember_kept(owner, is_again);
+        self.remember_kept(owner, again);
         Ok(number_of(&mend))
     }
 }

@@ -10,8 +10,9 @@ ghost use Rattle.pv_edit.specs.Reasons.{kids_at};
 ghost use Rattle.pv_tree.specs.Plain.{forest_of};
 ghost use Rattle.pv_tree.specs.PlainDocs.{plain_doc};
 
+use crate::planned::Again;
 use crate::well_marked::WellMarked;
-use crate::words::{ListTokens, Words, tokens_of, words_after};
+use crate::words::{ListTokens, Words, number_shown, tokens_of, words_after};
 use pv_chars::NoMemory;
 use pv_edit::Task;
 use pv_missing::Of;
@@ -75,14 +76,26 @@ impl WellMarked {
         self.words_by(task, &before)
     }
 
+    /// The change of its word, where a task changes the list whose tokens are kept, by the tokens
+    /// afterwards.
+    pub(crate) fn again(&self, task: &Task, after: &ListTokens) -> Option<Again> {
+        let before = self.kept_at(&task.list)?;
+        let change = &task.change;
+        let from = number_shown(before.shown.get(..change.from)?);
+        let gone = number_shown(before.shown.get(change.from..change.to)?);
+        let left = before.word.tokens.len().saturating_sub(gone);
+        let came = after.word.tokens.len().saturating_sub(left);
+        Some(Again { from, gone, came })
+    }
+
     /// Remembers the word of the list whose tokens are kept, which has this owner, behind the
     /// grammar.
-    pub(crate) fn remember_kept(&mut self, owner: Option<Of>, is_again: bool)
+    pub(crate) fn remember_kept(&mut self, owner: Option<Of>, again: Option<Again>)
         ensures marked { plain_marked self.new ≡ plain_marked self.old }
     {
         if let Some(kept) = &self.kept {
             let word = &kept.tokens.word.tokens;
-            self.grammar.remember(self.alloc, owner, word, is_again);
+            self.grammar.remember(self.alloc, owner, word, again);
         }
     }
 }

@@ -38,33 +38,71 @@ pub struct PlannedGrammar {
     last: Option<LastWord>,
 }
 
+/// A change of the word of the list that was changed last: how many tokens gave way, from a place
+/// on, and how many came.
+#[derive(Clone, Copy, Debug)]
+pub(crate) struct Again {
+    pub from: usize,
+    pub gone: usize,
+    pub came: usize,
+}
+
 // What is remembered once this word was judged. Without memory, nothing is.
 fn next_word(
     judge: &Judge<'_>,
     last: Option<LastWord>,
     owner: Option<Of>,
     word: &[Token],
-    is_again: bool,
+    again: Option<Again>,
 ) -> Option<LastWord>
     requires { IfSome last (IsLast (dtd_of judge.now)) }
     ensures { IfSome result (IsLast (dtd_of judge.now)) }
 {
     if let Some(last) = last {
-        if !last.is_of(owner) && !is_again {
+        if !last.is_of(owner) && again.is_none() {
             return Some(last);
         }
         if last.is_of(owner) {
-            match last.next(judge, word) {
+            match behind(judge, last, word, again) {
                 Ok(Some(next)) => return Some(next),
                 Ok(None) => {}
                 Err(NoMemory) => return None,
             }
         }
     }
-    if is_again {
+    if again.is_some() {
         return LastWord::of(judge, owner, word).ok();
     }
     None
+}
+
+// Whether a word is as long as that of the list before the change was.
+fn is_before(last: &LastWord, word: &[Token], again: Again) -> bool {
+    let left = word.len().saturating_sub(again.came);
+    last.count() == left.saturating_add(again.gone)
+}
+
+// What is kept behind the last word, of a list with the same owner. Where that is the word of this
+// very list before the change, as its length tells, the change is made in it, and no more is gone
+// over.
+fn behind(
+    judge: &Judge<'_>,
+    last: LastWord,
+    word: &[Token],
+    again: Option<Again>,
+) -> Result<Option<LastWord>, NoMemory>
+    requires { IsLast (dtd_of judge.now) last }
+    ensures { IfOk result (λ next. IfSome next (IsLast (dtd_of judge.now))) }
+{
+    if let Some(again) = again {
+        let to = again.from.saturating_add(again.came);
+        if is_before(&last, word, again) {
+            if let Some(came) = word.get(again.from..to) {
+                return last.follow(judge, again.from, again.gone, came);
+            }
+        }
+    }
+    last.next(judge, word)
 }
 
 impl Model for PlannedGrammar {
@@ -144,15 +182,26 @@ impl PlannedGrammar {
         alloc: Global,
         owner: Option<Of>,
         word: &[Token],
-        is_again: bool,
+        again: Option<Again>,
     )
         ensures { self.new ≡ self.old }
     {
         if word.len() < LONG_WORD {
+            if self.was_long(owner, word, again) {
+                drop(self.last.take());
+            }
             return;
         }
         let last = self.last.take();
         let judge = Judge::new(alloc, &self.grammar, &self.plan);
-        self.last = next_word(&judge, last, owner, word, is_again);
+        self.last = next_word(&judge, last, owner, word, again);
+    }
+
+    // Whether the last word is that of the changed list, before the change.
+    fn was_long(&self, owner: Option<Of>, word: &[Token], again: Option<Again>) -> bool {
+        match (&self.last, again) {
+            (Some(last), Some(again)) => last.is_of(owner) && is_before(last, word, again),
+            _ => false,
+        }
     }
 }

@@ -184,8 +184,8 @@ fn middle_tokens(alloc: Global, dtd: &Dtd, coming: Coming<'_>) -> Result<ListTok
     }
 }
 
-// How many of some kids have a token.
-fn number_shown(shown: &[bool]) -> usize
+/// How many of some kids have a token.
+pub(crate) fn number_shown(shown: &[bool]) -> usize
     ensures { result ≡ number_shown shown.now }
 {
     let mut number = 0;

@@ -3,3 +3,4 @@ pub mod Splicing
 -- of this crate:
 pub mod Answering
 pub mod Differing
+pub mod Following

@@ -1,13 +1,18 @@
 //! The word that was judged last, by which one that differs from it little is judged.
 
+ghost use Rattle.std.specs.Prelude.{◌≡◌, ◌≤◌, ◌+◌, ◌-◌, ◌++◌, IfOk, OnOk, drop, take, vec_len};
+ghost use Rattle.std.specs.List.{between, splice};
+
 use crate::differences::change_between;
 use crate::judged::Judged;
 use pv_chars::NoMemory;
+use pv_course::WordChange;
 use pv_missing::Of;
 use pv_model::Token;
 use pv_reach::{Judge, ReachError, word_verdict};
 use pv_steps::Steps;
 use pv_tree::Verdict;
+use std::alloc::Global;
 use std::sync::ledger::Ledger;
 
 /// A word from which more tokens are gone, or into which more came, is judged anew: by the last
@@ -114,4 +119,88 @@ impl LastWord {
             judged,
         }))
     }
+
+    /// What is kept once `came` stand in the word in place of so many tokens from a place on; nothing
+    /// where the word hasn't those, or where these are many. The rest of the word isn't gone over.
+    pub fn follow(
+        self,
+        judge: &Judge<'_>,
+        from: usize,
+        gone: usize,
+        came: &[Token],
+    ) -> Result<Option<LastWord>, NoMemory>
+        requires { IsLast (dtd_of judge.now) self }
+        ensures last { IfOk result (λ next. IfSome next (IsLast (dtd_of judge.now))) }
+    {
+        let LastWord {
+            owner,
+            mut tokens,
+            mut judged,
+        } = self;
+        let to = from.saturating_add(gone);
+        if to > tokens.len() || gone > FEW || came.len() > FEW {
+            return Ok(None);
+        }
+        let gone = exchange(judge.alloc(), &mut tokens, from, to, came)?;
+        let change = WordChange {
+            word: &tokens,
+            from,
+            gone: &gone,
+            came: came.len(),
+        };
+        let turned = judged.turned(judge, owner, &change)?;
+        judged.make(turned);
+        Ok(Some(LastWord {
+            owner,
+            tokens,
+            judged,
+        }))
+    }
+
+    /// How many tokens the word has.
+    pub fn count(&self) -> usize
+        ensures { result ≡ length self.now.tokens.items }
+    {
+        self.tokens.len()
+    }
+}
+
+// Puts others in place of the tokens from one place up to another, and gives these.
+fn exchange(
+    alloc: Global,
+    tokens: &mut Vec<Token>,
+    from: usize,
+    to: usize,
+    came: &[Token],
+) -> Result<Vec<Token>, NoMemory>
+    requires order { from ≤ to }
+    requires within { to ≤ vec_len tokens.old }
+    ensures items { OnOk result (tokens.new.items ≡ splice tokens.old.items from to came.now) }
+    ensures gone { IfOk result (λ gone. gone.items ≡ between from to tokens.old.items) }
+{
+    let gone = Vec::from_slice(alloc, &tokens[from..to])?;
+    tokens.extend_from_slice(came)?;
+    move_last(tokens, from, came.len());
+    take_out(tokens, from + came.len(), to + came.len());
+    Ok(gone)
+}
+
+// Moves the last so many tokens before those from a place on.
+fn move_last(tokens: &mut Vec<Token>, from: usize, count: usize)
+    requires { from + count ≤ vec_len tokens.old }
+    ensures items { tokens.new.items ≡ take from tokens.old.items ++
+        (drop (vec_len tokens.old - from - count) (drop from tokens.old.items) ++
+        take (vec_len tokens.old - from - count) (drop from tokens.old.items)) }
+    ensures len { vec_len tokens.new ≡ vec_len tokens.old }
+{
+    tokens[from..].rotate_right(count);
+}
+
+// Takes the tokens from one place up to another out.
+fn take_out(tokens: &mut Vec<Token>, from: usize, to: usize)
+    requires order { from ≤ to }
+    requires within { to ≤ vec_len tokens.old }
+    ensures { tokens.new.items ≡ take from tokens.old.items ++ drop to tokens.old.items }
+{
+    for _ in tokens.drain(from..to) {}
 }

@@ -75,8 +75,8 @@ fn play<L: Ledger>(
             came: came.len(),
         };
         make_change(judge, owner, &mut judged, &change, number % 2 == 0, steps)?;
+        last = judge_by(judge, owner, last, &change, number % 3 == 0, steps)?;
         word = after;
-        last = judge_by(judge, owner, last, word.as_slice(), steps)?;
     }
     Ok(())
 }
