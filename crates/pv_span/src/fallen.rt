@@ -5,8 +5,18 @@ use pv_chars::NoMemory;
 use pv_productive::NO_SIZE;
 use std::alloc::Global;
 
-/// How many shelves there are: the first for the least value, and one for each bit.
-const SHELVES: usize = 33;
+/// How many of the lowest bits of a value tell its shelf, where the others are those of the least
+/// value.
+const LOW_BITS: u32 = 6;
+
+/// The greatest number of so many bits.
+const LAST: u32 = 63;
+
+/// How many shelves there are for these values, one for each.
+const SINGLE: usize = 64;
+
+/// How many shelves there are: those, and one for each other bit.
+const SHELVES: usize = 90;
 
 /// The number of no entry.
 const NO_ENTRY: u32 = u32::MAX;
@@ -18,20 +28,35 @@ struct Entry {
     next: u32,
 }
 
-/// Columns whose values fell, each on the shelf of the highest bit in which its value differs from
-/// the least that was taken, so that only those on the first shelf that isn't empty are compared (a
-/// radix heap: Ahuja, Mehlhorn, Orlin and Tarjan, "Faster algorithms for the shortest path
-/// problem", 1990). A column that fell again is found by its new value.
+/// Columns whose values fell. A value that differs in its lowest bits alone from the least one, by
+/// which the shelves are laid out, has a shelf of its own; another stands on that of the highest
+/// bit in which it differs, so that those of the first such shelf that isn't empty are compared
+/// once for many values (a radix heap: Ahuja, Mehlhorn, Orlin and Tarjan, "Faster algorithms for
+/// the shortest path problem", 1990). A column that fell again is found by its new value.
 #[derive(Debug, Drop)]
 pub struct Fallen {
     shelves: Vec<u32>,
     entries: Vec<Entry>,
     least: u32,
+    /// The shelves of single values before this one are empty.
+    first: usize,
+    /// How many entries are on the shelves.
+    held: usize,
+}
+
+/// The shelf of a value among those of single values.
+fn single_of(value: u32) -> usize {
+    (value & LAST) as usize
 }
 
 /// The shelf of a value.
 fn shelf_of(value: u32, least: u32) -> usize {
-    u32::saturating_sub(32, (value ^ least).leading_zeros()) as usize
+    let other = (value ^ least) >> LOW_BITS;
+    if other == 0 {
+        single_of(value)
+    } else {
+        SINGLE + u32::saturating_sub(31, other.leading_zeros()) as usize
+    }
 }
 
 /// The first entry on a shelf.
@@ -62,14 +87,20 @@ impl Fallen {
             shelves: vec![in alloc; NO_ENTRY; SHELVES]?,
             entries: Vec::new(alloc),
             least: 0,
+            first: 0,
+            held: 0,
         })
     }
 
     /// Forgets all columns.
     pub fn clear(&mut self) {
-        clear_shelves(&mut self.shelves);
+        if self.held > 0 {
+            clear_shelves(&mut self.shelves);
+            self.held = 0;
+        }
         self.entries.truncate(0);
         self.least = 0;
+        self.first = 0;
     }
 
     /// Puts an entry on the shelf of its column's value.
@@ -80,6 +111,8 @@ impl Fallen {
             let next = first_on(&self.shelves, shelf);
             self.entries[place].next = next;
             put_first(&mut self.shelves, shelf, number);
+            self.first = self.first.min(shelf);
+            self.held = usize::saturating_add(self.held, 1);
         }
     }
 
@@ -101,8 +134,8 @@ impl Fallen {
         self.entries.get(number as usize).copied()
     }
 
-    /// The least value on a shelf that is more than the least one so far.
-    fn least_on(&self, shelf: usize, values: &[u32]) -> u32 {
+    /// The least value on a shelf that is more than those that were taken.
+    fn least_on(&self, shelf: usize, taken: u32, values: &[u32]) -> u32 {
         let mut least = NO_SIZE;
         let mut number = first_on(&self.shelves, shelf);
         for _ in 0..u64::MAX {
@@ -110,7 +143,7 @@ impl Fallen {
                 break;
             };
             let value = value_at(values, entry.column as usize);
-            if value > self.least {
+            if value > taken {
                 least = least.min(value);
             }
             number = entry.next;
@@ -126,6 +159,7 @@ impl Fallen {
             let Some(entry) = self.entry(number) else {
                 break;
             };
+            self.held = usize::saturating_sub(self.held, 1);
             let value = value_at(values, entry.column as usize);
             if value > taken {
                 self.link(number, value);
@@ -134,31 +168,48 @@ impl Fallen {
         }
     }
 
-    /// Spreads what is on a shelf over those before it, which are empty.
+    /// Spreads what is on a shelf over those before it, which are empty: all columns of values with
+    /// shelves of their own were taken.
     fn sort(&mut self, shelf: usize, values: &[u32]) {
         let first = first_on(&self.shelves, shelf);
         if first == NO_ENTRY {
             return;
         }
-        let taken = self.least;
-        let least = self.least_on(shelf, values);
+        let taken = self.least | LAST;
+        let least = self.least_on(shelf, taken, values);
         put_first(&mut self.shelves, shelf, NO_ENTRY);
         if least < NO_SIZE {
             self.least = least;
+            self.first = single_of(least);
             self.sort_from(first, taken, values);
         }
     }
 
-    /// Takes a column off the first shelf.
-    fn take(&mut self) -> Option<u32> {
-        let entry = self.entry(first_on(&self.shelves, 0))?;
-        put_first(&mut self.shelves, 0, entry.next);
+    /// Takes a column off a shelf.
+    fn take_off(&mut self, shelf: usize) -> Option<u32> {
+        let entry = self.entry(first_on(&self.shelves, shelf))?;
+        put_first(&mut self.shelves, shelf, entry.next);
+        self.held = usize::saturating_sub(self.held, 1);
         Some(entry.column)
+    }
+
+    /// Takes a column off the first shelf of a single value that isn't empty.
+    fn take(&mut self) -> Option<u32> {
+        for shelf in self.first..SINGLE {
+            self.first = shelf;
+            if let Some(column) = self.take_off(shelf) {
+                return Some(column);
+            }
+        }
+        None
     }
 
     /// Takes a column of the least value, where these are the values of all.
     pub fn pop(&mut self, values: &[u32]) -> Option<u32> {
-        for shelf in 1..SHELVES {
+        for shelf in SINGLE..SHELVES {
+            if self.held == 0 {
+                return None;
+            }
             if let Some(column) = self.take() {
                 return Some(column);
             }
