@@ -44,6 +44,11 @@ module _ (cells : List ℕ) (columns spans k : ℕ) where
       fill_by_all (λ x. size_at old (x * spans + k)) (cells_across cells columns spans k) columns no_size (length-map-range_with_len value 0 columns)
       (λ x lt. get_or-map-range_with_len value 0 columns x x no_size lt (omega arith) ∙ kept (x * spans + k) (λ y e. ne (same_from_place x k y span spans m l e).1))
 
+-- there is a value of each column over each span
+pub place_inside : (columns spans x k : ℕ) → x < columns → k < spans →
+    x * spans + k < columns * spans
+place_inside columns spans x k l m = grind (arith, rows)
+
 -- one more value of each column
 module _ (cells values : List ℕ) (spans span site v : ℕ) (within : span < spans) (long : length cells ≡ length values * spans) (lt : site < length values)
     (e : v ≡ size_at values site) where

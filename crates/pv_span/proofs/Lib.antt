@@ -18,9 +18,11 @@ pub mod Leasts
 pub mod Lined
 pub mod Lining
 pub mod Mentioned
+pub mod Moving
 pub mod Numbering
 pub mod Putting
 pub mod Reading
+pub mod Repeating
 pub mod Settling
 pub mod Sharing
 pub mod Sited

@@ -74,7 +74,7 @@ module _ (g : List PlainForm) (w : List PlainToken) (i j : ℕ) where
       ]
     ]
 
-    all_attained : (xs : List Cell) → AllByRecursion (λ (x : Cell). (i ≤ x.from) × (x.from ≤ x.to) × (x.to ≤ j)) xs → sum_of (value_of t) xs < no_size →
+    pub all_attained : (xs : List Cell) → AllByRecursion (λ (x : Cell). (i ≤ x.from) × (x.from ≤ x.to) × (x.to ≤ j)) xs → sum_of (value_of t) xs < no_size →
         (m : ℕ) × DeriveAll (ColumnRule g w) m xs × (min heaviest (sum_of (value_of t) xs) ≡ min heaviest m)
     all_attained [] n f = (0, none_left 0 refl, refl)
     all_attained (x ∷ xs) n f =

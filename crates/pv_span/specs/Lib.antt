@@ -7,6 +7,7 @@ pub mod Making
 pub mod Charts
 pub mod Least
 pub mod Waits
+pub mod Repeats
 pub mod Lines
 pub mod DoneSpans
 pub mod FormForms

@@ -33,13 +33,15 @@ pub struct Chart {
 }
 
 impl Chart {
-    ghost use Rattle.std.specs.Prelude.{◌≡◌, ◌<◌, ◌≤◌, ◌↔◌, ◌++◌, ◌∷◌, [], ℕ, IfOk, IfSome, IsTrue};
+    ghost use Rattle.std.specs.Prelude.{◌≡◌, ◌<◌, ◌≤◌, ◌↔◌, ◌++◌, ◌∷◌, ◌+◌, ◌-◌, [], ℕ, IfOk};
+    ghost use Rattle.std.specs.Prelude.{IfSome, IsTrue};
     ghost use Rattle.std.specs.Prelude.{length, suc};
     ghost use Rattle.pv_productive.specs.Tables.{no_size, size_at};
     ghost use Rattle.pv_span.specs.Charts.{AreFew, spans_before, value_of};
     ghost use Rattle.pv_span.specs.ColumnRules.{cell};
     ghost use Rattle.pv_span.specs.Least.{IsLeastCut};
-    ghost use Rattle.pv_span.specs.PlainForms.{plain_chart};
+    ghost use Rattle.pv_span.specs.PlainForms.{DiffersInRow, plain_chart};
+    ghost use Rattle.pv_span.specs.Repeats.{IsDoneFrom};
 
     /// The chart of a word of so many tokens in which no span is done, of so many columns.
     pub fn new(
@@ -122,6 +124,30 @@ impl Chart {
             return None;
         }
         Some(line.least[self.to as usize])
+    }
+
+    /// Whether the span from a place on that is as long as the one at hand is done.
+    pub fn is_done_from(&self, place: u32) -> bool
+        ensures { IsTrue result → IsDoneFrom self.now place }
+    {
+        let long = self.to - self.from;
+        if place > self.tokens || long > self.tokens - place {
+            return false;
+        }
+        span_number(self.tokens, place, place + long) < self.done.count
+    }
+
+    /// Takes the values over that span for those over the one at hand.
+    pub fn copy_from(&mut self, place: u32)
+        requires { IsDoneFrom self.old place }
+        ensures copied { (s : ℕ) → size_at self.new.row.items s ≡ value_of (plain_chart self.old)
+            (cell s place (place + (self.old.to - self.old.from))) }
+        ensures same { DiffersInRow self.old self.new }
+        ensures sized { length self.new.row.items ≡ length self.old.row.items }
+    {
+        let long = self.to - self.from;
+        let number = span_number(self.tokens, place, place + long);
+        self.done.take(number, &mut self.row);
     }
 
     /// Puts the row at hand with those that are done, and begins with a blank one.

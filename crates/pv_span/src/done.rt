@@ -39,6 +39,18 @@ fn put_values(cells: &mut [u32], spans: usize, number: usize, values: &[u32])
     }
 }
 
+/// Takes out the values over a span, one for each column.
+fn take_values(cells: &[u32], spans: usize, number: usize, values: &mut [u32])
+    requires number { number < spans }
+    requires long { length cells.now ≡ length values.old * spans }
+    ensures { (x : ℕ) → x < length values.new →
+        size_at values.new x ≡ size_at cells.now (x * spans + number) }
+{
+    for column in 0..values.len() {
+        values[column] = cells[column * spans + number];
+    }
+}
+
 impl DoneSpans {
     ghost use Rattle.std.specs.Prelude.{◌≡◌, ◌<◌, ◌≤◌, ◌+◌, ◌^◌, ℕ, IfOk, [], List, ◌++◌, ◌∷◌};
     ghost use Rattle.std.specs.Prelude.{length};
@@ -85,6 +97,15 @@ impl DoneSpans {
         }
         let start = column as usize * self.spans + first;
         &self.cells[start..start + count]
+    }
+
+    /// Takes out the values over a span, one for each column.
+    pub fn take(&self, number: usize, values: &mut [u32])
+        requires number { number < self.now.count }
+        requires sized { length values.old ≡ self.now.columns }
+        ensures { (s : ℕ) → size_at values.new s ≡ size_at (row_of self.now number) s }
+    {
+        take_values(&self.cells, self.spans, number, values);
     }
 
     /// Puts in the values over the next span.

@@ -1,21 +1,54 @@
 //! Charts of whole words.
 
-ghost use Rattle.std.specs.Prelude.{◌<◌, ◌^◌, IfOk, length, map};
+ghost use Rattle.std.specs.Prelude.{◌≡◌, ◌<◌, ◌^◌, ℕ, IfOk, OnOk, length, map};
 ghost use Rattle.pv_model.specs.PlainForms.{plain_token};
-ghost use Rattle.pv_span.specs.Charts.{IsFilled};
+ghost use Rattle.pv_productive.specs.Tables.{no_size, size_at};
+ghost use Rattle.pv_span.specs.Charts.{AreSettled, IsFilled};
 ghost use Rattle.pv_span.specs.FormForms.{plain_all};
 ghost use Rattle.pv_span.specs.Mentions.{AreTold};
-ghost use Rattle.pv_span.specs.PlainForms.{plain_chart};
+ghost use Rattle.pv_span.specs.PlainForms.{DiffersInRow, IsAttainedSoFar, plain_chart};
+ghost use Rattle.pv_span.specs.Repeats.{AreSameTokens};
 
 use crate::charts::Chart;
 use crate::forms::Form;
 use crate::mentions::Mentions;
 use crate::pairs::lines_of;
+use crate::repeats::Repeats;
 use crate::spreading::fill_span;
 use crate::waiting::Waiting;
 use pv_chars::NoMemory;
 use pv_model::Token;
 use std::alloc::Global;
+
+/// Finds the values over the span at hand: where its tokens stand again in a span that is done, by
+/// those over that one. So many columns, the first ones, are of names.
+fn fill_next(
+    forms: &[Form],
+    mentions: &Mentions,
+    names: u32,
+    word: &[Token],
+    repeats: &Repeats,
+    waiting: &mut Waiting,
+    chart: &mut Chart,
+) -> Result<(), NoMemory>
+    requires attained { IsAttainedSoFar (plain_all forms.now) (map plain_token word.now) chart.old }
+    requires few { length forms.now < 2 ^ 32 }
+    requires long { length waiting.old.flags.items ≡ length forms.now }
+    requires told { ∥ AreTold (plain_all forms.now) mentions.now ∥₁ }
+    requires repeats { AreSameTokens word.now repeats.now }
+    requires blank { (s : ℕ) → size_at chart.old.row.items s ≡ no_size }
+    ensures attained { IsAttainedSoFar (plain_all forms.now) (map plain_token word.now) chart.new }
+    ensures same { DiffersInRow chart.old chart.new }
+    ensures long { length waiting.new.flags.items ≡ length waiting.old.flags.items }
+    ensures settled { OnOk result (AreSettled (plain_all forms.now) (map plain_token word.now)
+        chart.new.from chart.new.to (length forms.now) (plain_chart chart.new)) }
+{
+    if repeats.covers(chart) {
+        chart.copy_from(repeats.again);
+        return Ok(());
+    }
+    fill_span(forms, mentions, names, word, waiting, chart)
+}
 
 /// The values of all columns over all spans of a word: those over each span are found in the order
 /// of their size, and settled then. So many columns, the first ones, are of names.
@@ -36,8 +69,18 @@ fn fill(
     let lines = lines_of(alloc, forms, tokens)?;
     let mut chart = Chart::new(alloc, tokens, forms.len() as u32, lines)?;
     let mut waiting = Waiting::new(alloc, forms.len())?;
-    while !chart.is_full() {
-        fill_span(forms, mentions, names, word, &mut waiting, &mut chart)?;
+    let mut repeats = Repeats::new(alloc, tokens)?;
+    'spans: while !chart.is_full() {
+        repeats.go_to(word, chart.from);
+        fill_next(
+            forms,
+            mentions,
+            names,
+            word,
+            &repeats,
+            &mut waiting,
+            &mut chart,
+        )?;
         chart.next();
     }
     Ok(chart)

@@ -29,6 +29,7 @@ mod membership;
 mod mentions;
 mod owners;
 mod pairs;
+mod repeats;
 mod sites;
 mod spans;
 mod spreading;
