@@ -12,14 +12,10 @@ use Rattle.pv_productive.proofs.Cutting.{cut_below, cut_few, cut_least, cut_mono
 use Rattle.pv_span.specs.Charts.{AreSettled, AreSettledFrom, HasValue, IsAttainedChart, IsDone, IsSettling, IsSettledAt, IsSoundChart, PlainChart, row_of_span, span_number, value_of}
 use Rattle.pv_span.specs.ColumnRules.{Cell, ColumnRule, cell}
 use Rattle.pv_span.specs.Forms.{PlainForm}
-use Rattle.pv_span.specs.Least.{IsLeastAt, IsSumAt}
+use Rattle.pv_span.specs.Least.{IsLeastAt, IsOfRule}
 use Rattle.pv_span.proofs.ColumnFacts.{column_spans}
 use Rattle.pv_span.proofs.Numbering.{strictly_within, within}
 use Rattle.pv_span.proofs.Putting.{cell_sum, each_cell, same_or_not}
-
--- the least sum of all rules is one
-pub least_sum : (g : List PlainForm) (w : List PlainToken) (t : Cell → ℕ) (x : Cell) (k : ℕ) → IsLeastAt g w t x k → IsSumAt g w t x k
-least_sum g w t x k l = record { below = λ c xs d r h. l.below c xs r; attained = l.attained }
 
 module _ (g : List PlainForm) (w : List PlainToken) where
   -- a chart with other rows whose values over the spans that are done are those of this one
@@ -83,12 +79,12 @@ module _ (g : List PlainForm) (w : List PlainToken) (i j : ℕ) where
         let r = all_attained xs n.1 (omega arith) in
         (d.0 + r.0, one_more (d.0 + r.0) d.0 r.0 x xs refl d.1 r.1, let y = d.2 in let z = r.2 in omega arith)
 
-    pub sum_attained : (s k : ℕ) → IsSumAt g w (value_of t) (cell s i j) k → HasValue g w (cell s i j) (capped k)
+    pub sum_attained : (s k : ℕ) → IsOfRule g w (value_of t) (cell s i j) k → HasValue g w (cell s i j) (capped k)
     sum_attained s k l = (
       cut_least k,
       λ f.
           let few = cut_below k f in
-          let b = l.attained few in
+          let b = l few in
           let z = b.3 in
           let r = all_attained b.1 (column_spans g w s i j b.0 b.1 b.2).1 (omega arith) in
           (b.0 + r.0, by_rule (b.0 + r.0) b.0 r.0 (cell s i j) b.1 refl b.2 r.1, let e = cut_few k few in let y = r.2 in omega arith),
@@ -125,13 +121,13 @@ module _ (g : List PlainForm) (w : List PlainToken) (i j : ℕ) where
   one_settling old row s k true a lt l f =
       let d = f.lowered refl in
       let e = ap (λ r. with_row old r) d.1 in
-      changed (At s) old (with_row old row) (rw e (put_attained old s (capped k) a lt (sum_attained old a s k (record { below = λ c xs d r h. l.below c xs r; attained = l.attained }))))
+      changed (At s) old (with_row old row) (rw e (put_attained old s (capped k) a lt (sum_attained old a s k l.attained)))
       (let z = cell_sum old.row s (capped k) lt d.0 in rw d.1 z)
   one_settling old row s k false a lt l f =
       let d = f.kept refl in kept (At s) old (with_row old row) a (ap (λ r. with_row old r) d.1) (sum_settled old a s k l d.0)
 
   -- the same, where only that the value is attained is known
-  pub one_attained : (old : PlainChart) (row : List ℕ) (s k : ℕ) (b : Bool) → IsAttainedChart g w i j old → s < length old.row → IsSumAt g w (value_of old) (cell s i j) k →
+  pub one_attained : (old : PlainChart) (row : List ℕ) (s k : ℕ) (b : Bool) → IsAttainedChart g w i j old → s < length old.row → IsOfRule g w (value_of old) (cell s i j) k →
       IsLowered old.row row s (capped k) b → IsAttainedChart g w i j (with_row old row)
   one_attained old row s k true a lt l f =
       let d = f.lowered refl in

@@ -7,12 +7,13 @@ use Rattle.pv_span.specs.Charts.{IsAttainedChart, value_of}
 use Rattle.pv_span.specs.ColumnRules.{cell}
 use Rattle.pv_span.specs.DoneSpans.{rows_done}
 use Rattle.pv_span.specs.Forms.{PlainForm}
-use Rattle.pv_span.specs.Least.{IsLeastAt, IsSumAt}
+use Rattle.pv_span.specs.Least.{IsLeastAt, IsSumFrom}
 use Rattle.pv_span.specs.PlainForms.{DiffersInRow, IsAttainedSoFar, plain_chart}
 use Rattle.pv_span.specs.Waits.{AreHeld, HaveFallen, IsHeld, IsHeldFrom, IsLoweredTo, Waits}
 use Rattle.pv_span.specs.declared.charts.Chart.{Chart}
 use Rattle.pv_span.specs.declared.waiting.Waiting.{Waiting}
 use Rattle.pv_span.proofs.Holding.{StillWaits, begin_more, less_held, lowered_below, lowered_held, none_held, place_more}
+use Rattle.pv_span.proofs.Settling.{at_hand}
 
 module _ (g : List PlainForm) (w : List PlainToken) (i j : ℕ) (t new : Chart) (a : IsAttainedSoFar g w t) (b : IsAttainedSoFar g w new) (p : t.from ≡ i) (q : t.to ≡ j) (s : DiffersInRow t new)
     (before behind : Waiting) (f : HaveFallen before behind t.row.items new.row.items) where
@@ -38,10 +39,10 @@ module _ (g : List PlainForm) (w : List PlainToken) (i j : ℕ) (t new : Chart) 
       lowered_held g w i j (plain_chart t) (plain_chart new) old_one new_one s.2 same_rows (Waits behind) f.each c n l.sum xs r (lowered_below t.row.items new.row.items c _ x lt l.lowered) (l.is_sum.below n xs r)
 
   -- to that of the rules with a right side over the whole span
-  pub next_held : (c v : ℕ) (x : Bool) → c < length t.row.items → IsLoweredTo (IsSumAt g w (value_of (plain_chart t)) (cell c i j)) t.row.items new.row.items c x →
+  pub next_held : (c v : ℕ) (x : Bool) → c < length t.row.items → IsLoweredTo (IsSumFrom g w (value_of (plain_chart t)) (cell c i j) v) t.row.items new.row.items c x →
       IsHeldFrom g w i j (Waits behind) (plain_chart t) (plain_chart new) c v
   next_held c v x lt l n xs d r h k =
-      lowered_held g w i j (plain_chart t) (plain_chart new) old_one new_one s.2 same_rows (Waits behind) f.each c n l.sum xs r (lowered_below t.row.items new.row.items c _ x lt l.lowered) (l.is_sum.below n xs d r h)
+      lowered_held g w i j (plain_chart t) (plain_chart new) old_one new_one s.2 same_rows (Waits behind) f.each c n l.sum xs r (lowered_below t.row.items new.row.items c _ x lt l.lowered) (l.is_sum.below n xs d r h (let e = at_hand g w i j (plain_chart t) old_one d in omega arith))
 
   pub one_begun : (k : ℕ) → ((c : ℕ) → c < k → IsHeld g w i j (Waits before) (plain_chart t) c) → IsHeld g w i j (Waits behind) (plain_chart new) k →
       (c : ℕ) → c < k + 1 → IsHeld g w i j (Waits behind) (plain_chart new) c

@@ -5,9 +5,9 @@ use Rattle.pv_model.specs.Plain.{PlainToken}
 use Rattle.pv_rules.specs.Derivations.{sum_of}
 use Rattle.pv_rules.specs.Rules.{IsSpan}
 use Rattle.pv_productive.specs.Tables.{no_size}
-use Rattle.pv_span.specs.ColumnRules.{Cell, ColumnRule, FormRule, IsRightSide, ToNone, ToOne, ToText, ToTwo, cell}
+use Rattle.pv_span.specs.ColumnRules.{Cell, ColumnRule, FormRule, IsOneOf, IsRightSide, ToNone, ToOne, ToText, ToTwo, cell}
 use Rattle.pv_span.specs.Forms.{PlainForm, form_at, of_element, of_none, of_nothing, of_one, of_opt, of_plus, of_star, of_two}
-use Rattle.pv_span.specs.Least.{IsLeastMember, IsSumAt}
+use Rattle.pv_span.specs.Least.{IsLeastMember, IsSumAt, IsSumFrom}
 use Rattle.pv_span.proofs.CutSums.{less_or}
 
 module _ (f : List PlainForm) (w : List PlainToken) (t : Cell → ℕ) (c i j : ℕ) (span : IsSpan w i j) where
@@ -145,4 +145,26 @@ module _ (f : List PlainForm) (w : List PlainToken) (t : Cell → ℕ) (c i j : 
       | inl z ↦ two_at d o i k e (omega arith) span.0 (let q = u (omega arith) in omega arith)
       | inr z ↦ two_at d o j k e span.0 (omega arith) (let q = v (omega arith) in omega arith)
     ];
+  }
+
+  -- a sum that counts for all values counts for those from v on
+  pub sum_from_all : (v k : ℕ) → IsSum k → IsSumFrom f w t (cell c i j) v k
+  sum_from_all v k s = record { below = λ n xs d r h l. s.below n xs d r h; attained = s.attained }
+
+  right_sum : (x : Cell) (xs : List Cell) → IsRightSide x xs → t x ≤ sum_of t xs
+  right_sum x [] h = absurd h
+  right_sum x (y ∷ xs) (inl e) = let z = ap t e in omega arith
+  right_sum x (y ∷ xs) (inr h) = let z = right_sum x xs h in omega arith
+
+  -- the value of one of the columns of which one stands in this column
+  pub sum_of_member : (ds : List ℕ) (o v : ℕ) → form_at f c ≡ of_one ds → IsOneOf o ds →
+      t (cell o i j) ≡ v → IsSumFrom f w t (cell c i j) v v
+  sum_of_member ds o v e one z = record {
+    below = λ n xs d r h l. let s = right_sum (cell d i j) xs h in omega arith;
+    attained = λ few. (
+      0,
+      cell o i j ∷ [],
+      by_form (of_one ds) e 0 (cell o i j ∷ []) (o, one, (span, refl, refl)),
+      omega arith,
+    );
   }

@@ -6,6 +6,19 @@ use Rattle.pv_productive.specs.Tables.{no_size}
 use Rattle.pv_span.specs.ColumnRules.{Cell, ColumnRule, IsRightSide, IsOneOf, cell}
 use Rattle.pv_span.specs.Forms.{PlainForm}
 
+-- k is the sum of cost and right sides of a rule of a cell, where it is less than no derivation's
+abbrev pub IsOfRule : List PlainForm → List PlainToken → (Cell → ℕ) → Cell → ℕ → Type 0
+IsOfRule f w t x k = k < no_size → (c : ℕ) × (xs : List Cell) × ColumnRule f w x c xs ×
+    (k ≡ c + sum_of t xs)
+
+-- besides, k is no more than that of a rule with a right side over the whole span whose value isn't
+-- less than v
+pub record IsSumFrom (f : List PlainForm) (w : List PlainToken) (t : Cell → ℕ) (x : Cell)
+    (v k : ℕ) : Type 0 where
+  pub below : (c : ℕ) (xs : List Cell) (d : ℕ) → ColumnRule f w x c xs →
+      IsRightSide (cell d x.from x.to) xs → v ≤ t (cell d x.from x.to) → k ≤ c + sum_of t xs
+  pub attained : IsOfRule f w t x k
+
 -- k is the sum of cost and right sides of a rule of a cell, where it is less than no derivation's,
 -- and no more than that of a rule with a right side over the whole span
 pub record IsSumAt (f : List PlainForm) (w : List PlainToken) (t : Cell → ℕ) (x : Cell) (k : ℕ) :

@@ -6,14 +6,17 @@ ghost use Rattle.pv_span.specs.FormForms.{plain_all, plain_form};
 ghost use Rattle.pv_span.specs.Mentions.{AreToldAll, IsMentionTold, columns_mentioned};
 
 use crate::forms::Form;
+use crate::values::value_at;
 use pv_chars::NoMemory;
 use std::alloc::Global;
 
-/// For each column those that mention it, side by side, from its start up to that of the next one.
+/// For each column those that mention it, side by side, from its start up to that of the next one,
+/// and for each of these the place of the column among those that it mentions.
 #[derive(Debug, Drop)]
 pub struct Mentions {
     starts: Vec<u32>,
     above: Vec<u32>,
+    places: Vec<u32>,
 }
 
 /// The column, at the first place alone.
@@ -46,7 +49,7 @@ fn either(one: u32, two: u32, place: usize) -> Option<u32>
 }
 
 /// The column that is mentioned at a place, or none behind the last one.
-fn mentioned(form: &Form, place: usize) -> Option<u32>
+pub fn mentioned(form: &Form, place: usize) -> Option<u32>
     ensures { result ≡ slice_get (columns_mentioned (plain_form form.now)) place }
 {
     match form {
@@ -98,34 +101,51 @@ fn add_up(counts: &mut [u32]) -> u32 {
     sum
 }
 
-/// Puts a column before those of which it is known that they mention another.
-fn put(number: u32, column: u32, starts: &mut [u32], above: &mut [u32]) {
+/// Puts a number before those that were put for a column, and tells where.
+fn put(number: u32, column: u32, starts: &mut [u32], above: &mut [u32]) -> usize {
     let place = column as usize;
     if place >= starts.len() || starts[place] == 0 {
-        return;
+        return above.len();
     }
     let start = starts[place] - 1;
     if (start as usize) < above.len() {
         starts[place] = start;
         above[start as usize] = number;
     }
+    start as usize
 }
 
-/// Puts a column with all that it mentions.
-fn put_mentioned(form: &Form, number: u32, starts: &mut [u32], above: &mut [u32]) {
+/// Puts a place beside a number that was put.
+fn put_place(place: u32, at: usize, places: &mut [u32]) {
+    if at < places.len() {
+        places[at] = place;
+    }
+}
+
+/// Puts a column with all that it mentions, and their places.
+fn put_mentioned(
+    form: &Form,
+    number: u32,
+    starts: &mut [u32],
+    above: &mut [u32],
+    places: &mut [u32],
+) {
+    let mut last = 0;
     for place in 0..usize::MAX {
         let Some(column) = mentioned(form, place) else {
             break;
         };
-        put(number, column, starts, above);
+        let at = put(number, column, starts, above);
+        put_place(last, at, places);
+        last = u32::saturating_add(last, 1);
     }
 }
 
 /// The same for all columns.
-fn put_all(forms: &[Form], starts: &mut [u32], above: &mut [u32]) {
+fn put_all(forms: &[Form], starts: &mut [u32], above: &mut [u32], places: &mut [u32]) {
     let mut number = 0;
     for form in forms.iter() {
-        put_mentioned(form, number, starts, above);
+        put_mentioned(form, number, starts, above, places);
         number = u32::saturating_add(number, 1);
     }
 }
@@ -143,6 +163,7 @@ impl Mentions {
         Mentions {
             starts: Vec::new(alloc),
             above: Vec::new(alloc),
+            places: Vec::new(alloc),
         }
     }
 
@@ -157,8 +178,13 @@ impl Mentions {
         let all = add_up(&mut starts);
         let mut ends = starts.clone()?;
         let mut above = vec![in alloc; 0u32; all as usize]?;
-        put_all(forms, &mut starts, &mut above);
-        let mentions = Mentions { starts, above };
+        let mut places = vec![in alloc; 0u32; all as usize]?;
+        put_all(forms, &mut starts, &mut above, &mut places);
+        let mentions = Mentions {
+            starts,
+            above,
+            places,
+        };
         if ends.len() != forms.len() {
             return Ok(Mentions::none(alloc));
         }
@@ -196,6 +222,12 @@ impl Mentions {
             return false;
         }
         self.above[place] == number
+    }
+
+    /// The place of a column among those that are mentioned by one that mentions it.
+    pub fn place_in(&self, column: u32, number: usize) -> usize {
+        let at = usize::saturating_add(self.start(column as usize), number);
+        value_at(&self.places, at) as usize
     }
 
     /// The columns that mention this one.

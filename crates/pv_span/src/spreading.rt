@@ -8,10 +8,10 @@ ghost use Rattle.std.specs.Prelude.{◌≡◌, ◌<◌, ◌^◌, ◌⊎◌, ℕ,
 ghost use Rattle.pv_model.specs.PlainForms.{plain_token};
 ghost use Rattle.pv_productive.specs.Tables.{no_size, size_at};
 ghost use Rattle.pv_span.specs.Charts.{AreSettled, value_of};
-ghost use Rattle.pv_span.specs.ColumnRules.{cell};
+ghost use Rattle.pv_span.specs.ColumnRules.{IsOneOf, cell};
 ghost use Rattle.pv_span.specs.FormForms.{plain_all, plain_form};
 ghost use Rattle.pv_span.specs.Forms.{of_one};
-ghost use Rattle.pv_span.specs.Least.{IsLeastAt, IsSumAt};
+ghost use Rattle.pv_span.specs.Least.{IsLeastAt, IsSumFrom};
 ghost use Rattle.pv_span.specs.Mentions.{AreTold};
 ghost use Rattle.pv_span.specs.PlainForms.{DiffersInRow, IsAttainedSoFar, plain_chart};
 ghost use Rattle.pv_span.specs.Waits.{AllWait, AreHeld, HaveFallen, IsHeld, IsHeldFrom};
@@ -22,7 +22,7 @@ use crate::ends::sum_at_ends;
 use crate::forms::Form;
 use crate::least::least_of;
 use crate::lowering::{cut, settle};
-use crate::mentions::Mentions;
+use crate::mentions::{Mentions, mentioned};
 use crate::values::{lower, value_at};
 use crate::waiting::Waiting;
 use pv_chars::NoMemory;
@@ -110,28 +110,77 @@ fn begin(
     Ok(())
 }
 
-/// Lowers the value of a column where values over the whole span give less, and tells whether they
-/// do.
+/// A column from whose value those that mention it are lowered; the one at hand has this number
+/// among these.
+#[derive(Clone, Copy)]
+struct Source<'a> {
+    mentions: &'a Mentions,
+    column: u32,
+    value: u32,
+    number: usize,
+}
+
+/// Whether a column is one of those of which one stands in a column, and stands at this place.
+fn is_member_at(form: &Form, place: usize, column: u32) -> bool
+    ensures { IsTrue result →
+        (ds : List ℕ) × (plain_form form.now ≡ of_one ds) × IsOneOf column ds }
+{
+    if !is_one_of(form) {
+        return false;
+    }
+    match mentioned(form, place) {
+        Some(member) => member == column,
+        None => false,
+    }
+}
+
+/// What the rules of a column give by values over the whole span that aren't less than that of the
+/// source: where this is one of those of which one stands in the column, its value.
 #[inline(always)]
-fn lower_by_ends(forms: &[Form], word: &[Token], number: u32, chart: &mut Chart) -> bool
+fn sum_from(forms: &[Form], word: &[Token], number: u32, source: &Source<'_>, chart: &Chart) -> u64
+    requires long { chart.now.tokens ≡ length word.now }
+    requires number { number < length forms.now }
+    ensures { IsSumFrom (plain_all forms.now) (map plain_token word.now)
+        (value_of (plain_chart chart.now)) (cell number chart.now.from chart.now.to)
+        source.now.value result }
+{
+    let place = source.mentions.place_in(source.column, source.number);
+    if chart.here(source.column) == source.value
+        && is_member_at(&forms[number as usize], place, source.column)
+    {
+        return u64::from(source.value);
+    }
+    sum_at_ends(forms, word, chart, number)
+}
+
+/// Lowers the value of a column where these values give less, and tells whether they do.
+#[inline(always)]
+fn lower_from(
+    forms: &[Form],
+    word: &[Token],
+    number: u32,
+    source: &Source<'_>,
+    chart: &mut Chart,
+) -> bool
     requires attained { IsAttainedSoFar (plain_all forms.now) (map plain_token word.now) chart.old }
     requires number { number < length forms.now }
     ensures attained { IsAttainedSoFar (plain_all forms.now) (map plain_token word.now) chart.new }
     ensures same { DiffersInRow chart.old chart.new }
-    ensures lowered { IsLoweredTo (IsSumAt (plain_all forms.now) (map plain_token word.now)
-        (value_of (plain_chart chart.old)) (cell number chart.old.from chart.old.to))
-        chart.old.row.items chart.new.row.items number result }
+    ensures lowered { IsLoweredTo (IsSumFrom (plain_all forms.now) (map plain_token word.now)
+        (value_of (plain_chart chart.old)) (cell number chart.old.from chart.old.to)
+        source.now.value) chart.old.row.items chart.new.row.items number result }
 {
-    let sum = cut(sum_at_ends(forms, word, chart, number));
+    let sum = cut(sum_from(forms, word, number, source, chart));
     lower(&mut chart.row, number as usize, sum)
 }
 
-/// The same where it is more than a value; the column waits where it fell.
+/// The same where it is more than the source's; the column waits where it fell.
+#[inline(always)]
 fn lower_next(
     forms: &[Form],
     word: &[Token],
     number: u32,
-    value: u32,
+    source: &Source<'_>,
     waiting: &mut Waiting,
     chart: &mut Chart,
 ) -> Result<(), NoMemory>
@@ -142,15 +191,15 @@ fn lower_next(
     ensures fallen { HaveFallen waiting.old waiting.new chart.old.row.items chart.new.row.items }
     ensures held { IsHeldFrom (plain_all forms.now) (map plain_token word.now) chart.old.from
         chart.old.to (Waits waiting.new) (plain_chart chart.old) (plain_chart chart.new) number
-        value }
+        source.now.value }
 {
     if number as usize >= forms.len() {
         return Ok(());
     }
-    if value_at(&chart.row, number as usize) <= value {
+    if value_at(&chart.row, number as usize) <= source.value {
         return Ok(());
     }
-    if !lower_by_ends(forms, word, number, chart) {
+    if !lower_from(forms, word, number, source, chart) {
         return Ok(());
     }
     let fallen = value_at(&chart.row, number as usize);
@@ -181,8 +230,14 @@ fn lower_above(
 {
     let value = value_at(&chart.row, column as usize);
     let above = mentions.above(column);
-    for place in 0..above.len() {
-        lower_next(forms, word, above[place], value, waiting, chart)?;
+    for number in 0..above.len() {
+        let source = Source {
+            mentions,
+            column,
+            value,
+            number,
+        };
+        lower_next(forms, word, above[number], &source, waiting, chart)?;
     }
     Ok(())
 }

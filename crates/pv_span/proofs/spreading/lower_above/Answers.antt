@@ -11,8 +11,8 @@ use Rattle.pv_span.proofs.Mentioned.{told_one}
 use Rattle.pv_span.proofs.Spreads.{one_lowered}
 use Rattle.pv_span.proofs.spreading.lower_above.Goals as goal
 
-pub loop-place-init : goal.loop-place-init
-loop-place-init c =
+pub loop-number-init : goal.loop-number-init
+loop-number-init c =
     let t = c.args.chart.now in
     let m = c.args.mentions.now in
     record {
@@ -25,37 +25,37 @@ loop-place-init c =
     }
 
 pub lower_next-requires-clause-attained : goal.lower_next-requires-clause-attained
-lower_next-requires-clause-attained c = c.loop-place.invariant.attained
+lower_next-requires-clause-attained c = c.loop-number.invariant.attained
 
 pub lower_next-requires-clause-long : goal.lower_next-requires-clause-long
-lower_next-requires-clause-long c = c.loop-place.invariant.fallen.long ∙ c.requires.long
+lower_next-requires-clause-long c = c.loop-number.invariant.fallen.long ∙ c.requires.long
 
-pub loop-place-preserved : goal.loop-place-preserved
-loop-place-preserved c =
-    let i = c.loop-place.invariant in
+pub loop-number-preserved : goal.loop-number-preserved
+loop-number-preserved c =
+    let i = c.loop-number.invariant in
     let t = c.args.chart.now in
     let p = c.lower_next.ensures.same in
     let above = c.above-above.result.now in
     let v : c.value_at-value.result ≡ size_at t.row.items c.args.column = rw c.deref.ensures.value at c.value_at-value.ensures in
-    let first : (c.value_at-value.result ≤ size_at c.loop-place.chart.row.items c.args.column) ⊎ Waits c.loop-place.waiting c.args.column =
+    let first : (c.value_at-value.result ≤ size_at c.loop-number.chart.row.items c.args.column) ⊎ Waits c.loop-number.waiting c.args.column =
     elim (i.fallen.each c.args.column) [ inl e ↦ inl (omega arith) | inr q ↦ inr q.1 ] in
     record {
       attained = c.lower_next.ensures.attained;
       same = (p.0 ∙ i.same.0, p.1 ∙ i.same.1, p.2 ∙ i.same.2, p.3 ∙ i.same.3);
-      fallen = fallen_both c.args.waiting.now c.loop-place.waiting c.lower_next.new.waiting t.row.items c.loop-place.chart.row.items c.lower_next.new.chart.row.items i.fallen c.lower_next.ensures.fallen;
-      held = one_lowered (plain_all c.args.forms.now) (map plain_token c.args.word.now) t.from t.to c.loop-place.chart c.lower_next.new.chart i.attained c.lower_next.ensures.attained i.same.0 i.same.1 p
-          c.loop-place.waiting c.lower_next.new.waiting c.lower_next.ensures.fallen c.args.column c.value_at-value.result above c.loop-place.place (get_or above c.loop-place.place 0)
-          (slice_get-get_or above c.loop-place.place 0 (omega arith)) first
+      fallen = fallen_both c.args.waiting.now c.loop-number.waiting c.lower_next.new.waiting t.row.items c.loop-number.chart.row.items c.lower_next.new.chart.row.items i.fallen c.lower_next.ensures.fallen;
+      held = one_lowered (plain_all c.args.forms.now) (map plain_token c.args.word.now) t.from t.to c.loop-number.chart c.lower_next.new.chart i.attained c.lower_next.ensures.attained i.same.0 i.same.1 p
+          c.loop-number.waiting c.lower_next.new.waiting c.lower_next.ensures.fallen c.args.column c.value_at-value.result above c.loop-number.number (get_or above c.loop-number.number 0)
+          (slice_get-get_or above c.loop-number.number 0 (omega arith)) first
           (rw (i.same.0, i.same.1) at c.lower_next.ensures.held) i.held;
     }
 
 pub returns-in_err-lower_next-clause-long : goal.returns-in_err-lower_next-clause-long
-returns-in_err-lower_next-clause-long c = c.lower_next.ensures.fallen.long ∙ c.loop-place.invariant.fallen.long
+returns-in_err-lower_next-clause-long c = c.lower_next.ensures.fallen.long ∙ c.loop-number.invariant.fallen.long
 
 pub returns-clause-long : goal.returns-clause-long
-returns-clause-long c = c.loop-place.invariant.fallen.long
+returns-clause-long c = c.loop-number.invariant.fallen.long
 
 pub returns-clause-held : goal.returns-clause-held
 returns-clause-held c =
     let t = c.args.chart.now in
-    last_place (plain_all c.args.forms.now) (map plain_token c.args.word.now) t.from t.to c.args.column c.value_at-value.result c.above-above.result.now (plain_chart c.loop-place.chart) c.loop-place.waiting c.loop-place.place (omega arith) c.loop-place.invariant.held
+    last_place (plain_all c.args.forms.now) (map plain_token c.args.word.now) t.from t.to c.args.column c.value_at-value.result c.above-above.result.now (plain_chart c.loop-number.chart) c.loop-number.waiting c.loop-number.number (omega arith) c.loop-number.invariant.held

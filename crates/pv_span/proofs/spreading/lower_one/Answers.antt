@@ -5,7 +5,7 @@ use Rattle.pv_model.specs.PlainForms.{plain_token}
 use Rattle.pv_productive.specs.Tables.{IsLowered, capped}
 use Rattle.pv_span.specs.FormForms.{plain_all}
 use Rattle.pv_span.specs.PlainForms.{plain_chart}
-use Rattle.pv_span.proofs.Settling.{least_sum, one_attained}
+use Rattle.pv_span.proofs.Settling.{one_attained}
 use Rattle.pv_span.proofs.spreading.lower_one.Goals as goal
 
 pub lower-requires : goal.lower-requires
@@ -20,7 +20,7 @@ returns-clause-attained c =
     let q : IsLowered t.row.items c.lower.new.values c.args.number (capped c.least_of.result) c.lower.result =
     subst (λ x. IsLowered t.row.items c.lower.new.values c.args.number x c.lower.result) c.cut-least.ensures d in
     one_attained (plain_all c.args.forms.now) (map plain_token c.args.word.now) t.from t.to (plain_chart t) row c.args.number c.least_of.result c.lower.result
-    c.requires.attained (let l = c.requires.number in let a = c.requires.attained.is_row in let n = simp length-map at a in omega arith) (least_sum (plain_all c.args.forms.now) (map plain_token c.args.word.now) _ _ c.least_of.result c.least_of.ensures)
+    c.requires.attained (let l = c.requires.number in let a = c.requires.attained.is_row in let n = simp length-map at a in omega arith) c.least_of.ensures.attained
     (subst (λ z. IsLowered t.row.items z c.args.number (capped c.least_of.result) c.lower.result) (sym e) q)
 
 pub returns-clause-lowered : goal.returns-clause-lowered

@@ -6,7 +6,7 @@ use Rattle.pv_productive.specs.Tables.{IsLowered, capped}
 use Rattle.pv_span.specs.FormForms.{plain_all}
 use Rattle.pv_span.specs.PlainForms.{plain_chart}
 use Rattle.pv_span.proofs.Settling.{one_attained}
-use Rattle.pv_span.proofs.spreading.lower_by_ends.Goals as goal
+use Rattle.pv_span.proofs.spreading.lower_from.Goals as goal
 
 pub lower-requires : goal.lower-requires
 lower-requires c = let l = c.requires.number in let e = c.requires.attained.is_row in let m = c.deref_mut.ensures.len in let n = simp length-map at e in omega arith
@@ -17,21 +17,21 @@ returns-clause-attained c =
     let row = (with_items t.row c.lower.new.values).items in
     let e : (with_items t.row c.lower.new.values).items ≡ c.lower.new.values = with_items_is t.row _ (let l = c.lower.auto.values in let m = c.deref_mut.ensures.len in omega arith) in
     let d : IsLowered t.row.items c.lower.new.values c.args.number c.cut-sum.result c.lower.result = rw c.deref_mut.ensures.value at c.lower.ensures in
-    let q : IsLowered t.row.items c.lower.new.values c.args.number (capped c.sum_at_ends.result) c.lower.result =
+    let q : IsLowered t.row.items c.lower.new.values c.args.number (capped c.sum_from.result) c.lower.result =
     subst (λ x. IsLowered t.row.items c.lower.new.values c.args.number x c.lower.result) c.cut-sum.ensures d in
-    one_attained (plain_all c.args.forms.now) (map plain_token c.args.word.now) t.from t.to (plain_chart t) row c.args.number c.sum_at_ends.result c.lower.result
-    c.requires.attained (let l = c.requires.number in let a = c.requires.attained.is_row in let n = simp length-map at a in omega arith) c.sum_at_ends.ensures
-    (subst (λ z. IsLowered t.row.items z c.args.number (capped c.sum_at_ends.result) c.lower.result) (sym e) q)
+    one_attained (plain_all c.args.forms.now) (map plain_token c.args.word.now) t.from t.to (plain_chart t) row c.args.number c.sum_from.result c.lower.result
+    c.requires.attained (let l = c.requires.number in let a = c.requires.attained.is_row in let n = simp length-map at a in omega arith) c.sum_from.ensures.attained
+    (subst (λ z. IsLowered t.row.items z c.args.number (capped c.sum_from.result) c.lower.result) (sym e) q)
 
 pub returns-clause-lowered : goal.returns-clause-lowered
 returns-clause-lowered c =
     let t = c.args.chart.now in
     let e : (with_items t.row c.lower.new.values).items ≡ c.lower.new.values = with_items_is t.row _ (let l = c.lower.auto.values in let m = c.deref_mut.ensures.len in omega arith) in
     let d : IsLowered t.row.items c.lower.new.values c.args.number c.cut-sum.result c.lower.result = rw c.deref_mut.ensures.value at c.lower.ensures in
-    let q : IsLowered t.row.items c.lower.new.values c.args.number (capped c.sum_at_ends.result) c.lower.result =
+    let q : IsLowered t.row.items c.lower.new.values c.args.number (capped c.sum_from.result) c.lower.result =
     subst (λ x. IsLowered t.row.items c.lower.new.values c.args.number x c.lower.result) c.cut-sum.ensures d in
     record {
-      sum = c.sum_at_ends.result;
-      is_sum = c.sum_at_ends.ensures;
-      lowered = subst (λ z. IsLowered t.row.items z c.args.number (capped c.sum_at_ends.result) c.lower.result) (sym e) q;
+      sum = c.sum_from.result;
+      is_sum = c.sum_from.ensures;
+      lowered = subst (λ z. IsLowered t.row.items z c.args.number (capped c.sum_from.result) c.lower.result) (sym e) q;
     }
