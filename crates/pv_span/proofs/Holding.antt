@@ -11,9 +11,9 @@ use Rattle.pv_productive.specs.Tables.{IsLowered, capped, no_size, size_at}
 use Rattle.pv_productive.proofs.Cutting.{cut_few, cut_many, cut_mono}
 use Rattle.pv_span.specs.Charts.{AreSettled, IsAttainedChart, PlainChart, span_number, value_of}
 use Rattle.pv_span.specs.ColumnRules.{Cell, ColumnRule, IsRightSide, IsOneOf, cell}
-use Rattle.pv_span.specs.Forms.{PlainForm, form_at, of_none, of_one}
+use Rattle.pv_span.specs.Forms.{PlainForm, form_at, of_none}
 use Rattle.pv_span.specs.Mentions.{columns_mentioned}
-use Rattle.pv_span.specs.Waits.{AllWait, AreHeld, HaveFallen, IsHeld, IsHeldBy, IsHeldFrom, Waits}
+use Rattle.pv_span.specs.Waits.{AllWait, AreHeld, HaveFallen, IsHeld, IsHeldBy, IsHeldFrom, IsToldByOthers, Waits}
 use Rattle.pv_span.specs.declared.waiting.Waiting.{Waiting}
 use Rattle.pv_span.proofs.ColumnFacts.{column_spans}
 use Rattle.pv_span.proofs.Mentioned.{mentions_right}
@@ -86,14 +86,15 @@ module _ (g : List PlainForm) (w : List PlainToken) (i j : ℕ) where
         let h = at_hand g w i j t a c in let s = among_sum d xs m in
         inl (rw h (few_fixed c (n + sum_of (value_of t) xs) (omega arith)))
 
-    -- a column in which one of others stands, where all that have a value wait
-    pub one_held : (P : ℕ → Type 0) (c : ℕ) (ds : List ℕ) → form_at g c ≡ of_one ds → ((d : ℕ) → (no_size ≤ size_at t.row d) ⊎ P d) → IsHeld g w i j P t c
-    one_held P c ds e wait n xs r = one_case (rw e at r)
-      where
-        one_case : ((d : ℕ) × ((k : ℕ) × (slice_get ds k ≡ Some d)) × (((i ≤ j) × (j ≤ length w)) × (n ≡ 0) × (xs ≡ cell d i j ∷ []))) → IsHeldBy g w i j P t c n xs
-        one_case (d, o, (s, z, q)) = elim (wait d) [
-          | inl few ↦ rw q (less_held P c no_size n (cell d i j ∷ []) d ((a.attained c).0) (inl refl) few)
-          | inr p ↦ rw q (inr (d, inl refl, p))
+    -- a column that is told by others, where all that have a value wait
+    pub others_held : (P : ℕ → Type 0) (c : ℕ) → IsToldByOthers w i j (form_at g c) →
+        ((d : ℕ) → (no_size ≤ size_at t.row d) ⊎ P d) → IsHeld g w i j P t c
+    others_held P c told wait n xs r =
+        let o = told c n xs r in
+        elim (wait o.0) [
+          | inl few ↦ rw o.1 (less_held P c no_size n (cell o.0 i j ∷ []) o.0 ((a.attained c).0)
+              (inl refl) few)
+          | inr p ↦ rw o.1 (inr (o.0, inl refl, p))
         ]
 
   module _ (t new : PlainChart) (a : IsAttainedChart g w i j t) (b : IsAttainedChart g w i j new) (tokens : new.tokens ≡ t.tokens) (rows : new.rows ≡ t.rows) (W : ℕ → Type 0)

@@ -20,6 +20,7 @@ pub mod Lining
 pub mod Mentioned
 pub mod Moving
 pub mod Numbering
+pub mod Others
 pub mod Putting
 pub mod Reading
 pub mod Repeating

@@ -1,12 +1,12 @@
 -- Columns whose values over the span at hand fell, which wait until the values of those that
 -- mention them have been lowered.
-use Rattle.std.specs.Prelude.{Bool, List, false, length, slice_index_or, true, ℕ}
-use Rattle.std.specs.Prelude.{◌+◌, ◌≡◌, ◌≤◌, ◌⊎◌}
+use Rattle.std.specs.Prelude.{Bool, List, [], false, length, slice_index_or, true, ℕ}
+use Rattle.std.specs.Prelude.{◌+◌, ◌∷◌, ◌≡◌, ◌≤◌, ◌⊎◌}
 use Rattle.pv_model.specs.Plain.{PlainToken}
 use Rattle.pv_rules.specs.Derivations.{sum_of}
 use Rattle.pv_productive.specs.Tables.{IsLowered, capped, no_size, size_at}
 use Rattle.pv_span.specs.Charts.{PlainChart, value_of}
-use Rattle.pv_span.specs.ColumnRules.{Cell, ColumnRule, IsRightSide, cell}
+use Rattle.pv_span.specs.ColumnRules.{Cell, ColumnRule, FormRule, IsRightSide, cell}
 use Rattle.pv_span.specs.Forms.{PlainForm}
 use Rattle.pv_span.specs.declared.waiting.Waiting.{Waiting}
 
@@ -36,6 +36,11 @@ IsHeldFrom f w i j P old new c v = (n : ℕ) (xs : List Cell) (d : ℕ) →
 -- so do the rules of all columns
 abbrev pub AreHeld : List PlainForm → List PlainToken → ℕ → ℕ → (ℕ → Type 0) → PlainChart → Type 0
 AreHeld f w i j P t = (c : ℕ) → IsHeld f w i j P t c
+
+-- each rule of what stands in a column goes over to one other column over the same span
+abbrev pub IsToldByOthers : List PlainToken → ℕ → ℕ → PlainForm → Type 0
+IsToldByOthers w i j p = (c n : ℕ) (xs : List Cell) → FormRule w c i j n xs p →
+    (d : ℕ) × (xs ≡ cell d i j ∷ [])
 
 -- the columns that have a value wait
 abbrev pub AllWait : Waiting → List ℕ → Type 0

@@ -15,7 +15,7 @@ ghost use Rattle.pv_span.specs.Least.{IsLeastAt, IsSumFrom};
 ghost use Rattle.pv_span.specs.Mentions.{AreTold};
 ghost use Rattle.pv_span.specs.PlainForms.{DiffersInRow, IsAttainedSoFar, plain_chart};
 ghost use Rattle.pv_span.specs.Waits.{AllWait, AreHeld, HaveFallen, IsHeld, IsHeldFrom};
-ghost use Rattle.pv_span.specs.Waits.{IsLoweredTo, Waits};
+ghost use Rattle.pv_span.specs.Waits.{IsLoweredTo, IsToldByOthers, Waits};
 
 use crate::charts::Chart;
 use crate::ends::sum_at_ends;
@@ -26,7 +26,7 @@ use crate::mentions::{Mentions, mentioned};
 use crate::values::{lower, value_at};
 use crate::waiting::Waiting;
 use pv_chars::NoMemory;
-use pv_model::Token;
+use pv_model::{Token, is_element_over};
 
 /// Lowers the value of a column where the rules give less, and tells whether they do.
 #[inline(always)]
@@ -59,7 +59,25 @@ fn is_one_of(form: &Form) -> bool
     }
 }
 
-/// Lowers the value of a column but one in which one of others stands, which waits where it fell.
+/// Whether each rule of a column goes over to one other column over the span at hand.
+fn is_told_by_others(form: &Form, word: &[Token], chart: &Chart) -> bool
+    requires { chart.now.tokens ≡ length word.now }
+    ensures { IsTrue result → IsToldByOthers (map plain_token word.now) chart.now.from chart.now.to
+        (plain_form form.now) }
+{
+    match form {
+        Form::Never => true,
+        Form::Element(id, _) => !is_element_over(word, *id, chart.from, chart.to),
+        Form::Nothing => chart.from < chart.to,
+        Form::OneOf(_) => true,
+        Form::Opt(_) => chart.from < chart.to,
+        Form::Star(_, _) => false,
+        Form::Plus(_) => false,
+        Form::Then(_, _) => false,
+    }
+}
+
+/// Lowers the value of a column but one that is told by others, and has it wait where it fell.
 fn lower_first(
     forms: &[Form],
     word: &[Token],
@@ -77,7 +95,7 @@ fn lower_first(
     ensures held { IsHeld (plain_all forms.now) (map plain_token word.now) chart.old.from
         chart.old.to (Waits waiting.new) (plain_chart chart.new) number }
 {
-    if is_one_of(&forms[number as usize]) {
+    if is_told_by_others(&forms[number as usize], word, chart) {
         return Ok(());
     }
     if !lower_one(forms, word, number, chart) {

@@ -1,23 +1,26 @@
-use Rattle.std.proofs.Common.{arith, map, refl, ◌∙◌}
+use Rattle.std.proofs.Common.{arith, map, refl}
 use Rattle.std.proofs.lemmas.List.{length-map}
 use Rattle.pv_model.specs.PlainForms.{plain_token}
 use Rattle.pv_span.specs.FormForms.{plain_all}
 use Rattle.pv_span.specs.PlainForms.{plain_chart}
 use Rattle.pv_span.specs.Waits.{HaveFallen, Waits}
-use Rattle.pv_span.proofs.Holding.{none_fallen, one_fallen, one_held}
+use Rattle.pv_span.proofs.Holding.{none_fallen, one_fallen, others_held}
 use Rattle.pv_span.proofs.Reading.{form_read}
 use Rattle.pv_span.proofs.Spreads.{first_held}
 use Rattle.pv_span.proofs.spreading.lower_first.Goals as goal
 
-pub returns-then-is_one_of-clause-fallen : goal.returns-then-is_one_of-clause-fallen
-returns-then-is_one_of-clause-fallen c = none_fallen c.args.waiting.now c.args.waiting.now (λ d x. x) refl c.args.chart.now.row.items c.args.chart.now.row.items refl
+pub returns-then-is_told_by_others-clause-fallen : goal.returns-then-is_told_by_others-clause-fallen
+returns-then-is_told_by_others-clause-fallen c = none_fallen c.args.waiting.now c.args.waiting.now (λ d x. x) refl c.args.chart.now.row.items c.args.chart.now.row.items refl
 
-pub returns-then-is_one_of-clause-held : goal.returns-then-is_one_of-clause-held
-returns-then-is_one_of-clause-held c =
+pub returns-then-is_told_by_others-clause-held : goal.returns-then-is_told_by_others-clause-held
+returns-then-is_told_by_others-clause-held c =
     let t = c.args.chart.now in
-    let h = c.is_one_of.ensures c.if-is_one_of.true in
-    one_held (plain_all c.args.forms.now) (map plain_token c.args.word.now) t.from t.to (plain_chart t) c.requires.attained (Waits c.args.waiting.now) c.args.number h.0
-    (form_read c.args.forms.now c.args.number c.index-forms-number.result c.requires.number c.index-forms-number.is ∙ h.1) c.requires.wait
+    let h = c.is_told_by_others.ensures c.if-is_told_by_others.true in
+    let e = form_read c.args.forms.now c.args.number c.index-forms-number.result c.requires.number
+    c.index-forms-number.is in
+    others_held (plain_all c.args.forms.now) (map plain_token c.args.word.now) t.from t.to
+    (plain_chart t) c.requires.attained (Waits c.args.waiting.now) c.args.number (rw e h)
+    c.requires.wait
 
 pub returns-then-not-lower_one-clause-fallen : goal.returns-then-not-lower_one-clause-fallen
 returns-then-not-lower_one-clause-fallen c =
