@@ -176,7 +176,8 @@ impl PlannedGrammar {
     }
 
     /// Remembers the word of a list that was changed, if it is long: once the same list was changed
-    /// twice in turn, or where the last word's list had the same owner.
+    /// twice in turn, or where the last word's list had the same owner. That of a list that isn't
+    /// long any more is forgotten.
     pub(crate) fn remember(
         &mut self,
         alloc: Global,

@@ -112,7 +112,7 @@ impl Session {
 
     /// Makes an edit, where it is accepted. After a refusal the session is as it was.
     ///
-    /// All memory is taken before the document is touched, and at most two lists are checked.
+    /// Without memory the document is as it was. At most two lists are checked.
     pub fn edit<L: Ledger>(&mut self, edit: &Edit, steps: &mut Steps<L>) -> Result<Done, EditAnswer>
         ensures stepped { MatchOption (edit_answer result) (self.new ≡ self.old)
             (λ answer. IsEditStep self.old edit.now answer self.new) }

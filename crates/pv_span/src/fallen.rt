@@ -181,8 +181,8 @@ impl Fallen {
         if least < NO_SIZE {
             self.least = least;
             self.first = single_of(least);
-            self.sort_from(first, taken, values);
         }
+        self.sort_from(first, taken, values);
     }
 
     /// Takes a column off a shelf.

@@ -120,8 +120,8 @@ impl LastWord {
         }))
     }
 
-    /// What is kept once `came` stand in the word in place of so many tokens from a place on; nothing
-    /// where the word hasn't those, or where these are many. The rest of the word isn't gone over.
+    /// What is kept once `came` stand in the word in place of so many tokens from a place on;
+    /// nothing where the word hasn't those, or where they are many. The word isn't compared.
     pub fn follow(
         self,
         judge: &Judge<'_>,
@@ -131,6 +131,8 @@ impl LastWord {
     ) -> Result<Option<LastWord>, NoMemory>
         requires { IsLast (dtd_of judge.now) self }
         ensures last { IfOk result (λ next. IfSome next (IsLast (dtd_of judge.now))) }
+        ensures word { IfOk result (λ next. IfSome next (λ last. (last.owner ≡ self.owner) ×
+            (last.tokens.items ≡ splice self.tokens.items from (from + gone) came.now))) }
     {
         let LastWord {
             owner,

@@ -9,7 +9,7 @@
 //! the word, a table is filled. `Judged::verdict_after` finds a verdict, as `word_verdict` of
 //! pv_reach does, and changes nothing; `Judged::make` makes what it found of what is kept.
 //! `LastWord` holds a word with what is kept of it, and judges another by where the two differ,
-//! which it finds itself.
+//! which it finds itself, or follows a change that it is told.
 #![tactic(auto)]
 
 mod counts;

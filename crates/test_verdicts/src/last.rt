@@ -12,8 +12,8 @@ use pv_verdicts::LastWord;
 use std::sync::ledger::Ledger;
 use std::test::Fail;
 
-/// Judges a changed word by the last one. The verdict is the one that is found anew. The word is the
-/// last one then: it is compared with it, or follows the change.
+/// Judges a changed word by the last one. The verdict is the one that is found anew. The word is
+/// the last one then: it is compared with it, or follows the change.
 pub fn judge_by<L: Ledger>(
     judge: &Judge<'_>,
     owner: Option<Of>,

@@ -1,4 +1,5 @@
-use Rattle.std.proofs.Common.{◌∙◌, ◌+◌, ◌-◌, ◌++◌, ◌≡◌, ap, arith, length, length-append, refl, vec_len}
+use Rattle.std.proofs.Common.{◌∙◌, ◌+◌, ◌-◌, ◌++◌, ◌≡◌, ap, arith, length, length-append, refl}
+use Rattle.std.proofs.Common.{vec_len}
 use Rattle.std.proofs.lemmas.Slice.{pushed}
 use Rattle.pv_verdicts.proofs.Following.{exchanged}
 use Rattle.pv_verdicts.proofs.last.exchange.Goals as goal
