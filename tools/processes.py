@@ -57,14 +57,26 @@ def end_all(*runs: subprocess.Popen[bytes], first: int = signal.SIGTERM) -> None
     """Ends runs that lead a session each: each process of these sessions, and each that stands below one of them. What doesn't end by the first signal
     within two seconds is killed."""
     for number in (first, signal.SIGKILL):
-        for pid in [pid for run in runs for pid in session_of(run.pid)]:
+        for pid in stopped(*runs):
             with contextlib.suppress(ProcessLookupError):
                 os.kill(pid, number)
+                os.kill(pid, signal.SIGCONT)
         end = time.monotonic() + 2
         while any(run.poll() is None or session_of(run.pid) for run in runs):
             if time.monotonic() > end:
                 break
             time.sleep(0.05)
+
+
+def stopped(*runs: subprocess.Popen[bytes]) -> set[int]:
+    """The processes of these runs, which go on no more: so none of them starts another one, which would be lost with the one that ends."""
+    found: set[int] = set()
+    while new := {pid for run in runs for pid in session_of(run.pid)} - found:
+        for pid in new:
+            with contextlib.suppress(ProcessLookupError):
+                os.kill(pid, signal.SIGSTOP)
+        found |= new
+    return found
 
 
 def session_of(leader: int) -> list[int]:
