@@ -5,7 +5,8 @@ use Rattle.std.proofs.Common.{map, refl, subst, sym, ℕ, ◌∙◌}
 use Rattle.std.specs.List.{Contains}
 use Rattle.pv_cache.specs.Stamps.{doc_as}
 use Rattle.pv_cache.proofs.ListMarks.{all_narrow_to, first_to, list_as, lists_as}
-use Rattle.pv_cache.proofs.OtherMarks.{heads_as, view_as, word_as}
+use Rattle.pv_cache.proofs.OtherMarks.{heads_as, word_as}
+use Rattle.pv_reach.proofs.OtherMarks.{view_as}
 use Rattle.pv_denial.specs.Causes.{HasKidsInEmpty, HoldsOfList, IsCause}
 use Rattle.pv_denial.specs.Judging.{IsAbout, IsDenialJudged, IsNarrowFor, IsReached, IsRightCause}
 use Rattle.pv_denial.specs.Judging.{IsRightTable, IsTooWideFor, JudgesAt}

@@ -1,6 +1,5 @@
 -- A document has one response to `complete`, but for the bodies of packs, whatever its marks are.
-use Rattle.std.proofs.Common.{◌≡◌, ◌≤◌, ◌+◌, ◌⊎◌, inl, inr, List, [], ◌∷◌, ◌++◌, ap, arith, codes}
-use Rattle.std.proofs.Common.{get_or, length, map, refl, subst, suc, sym, ℕ, ◌∙◌}
+use Rattle.std.proofs.Common.{◌≡◌, ◌≤◌, ◌+◌, ◌⊎◌, inl, inr, List, [], ◌∷◌, ◌++◌, ap, arith, codes, get_or, length, map, refl, subst, suc, sym, ℕ, ◌∙◌}
 use Rattle.std.specs.List.{AllPairs, Contains}
 use Rattle.std.proofs.lemmas.List.{map-append}
 use Rattle.std.proofs.lemmas.List.Elements.{All-contains}
@@ -18,10 +17,9 @@ use Rattle.pv_missing.specs.Verdicts.{IsVerdict}
 use Rattle.pv_missing.specs.WordLaws.{OneLiveWord}
 use Rattle.pv_model.specs.Plain.{PlainToken}
 use Rattle.pv_read.specs.DocumentLaws.{SpellsOneDocument}
-use Rattle.pv_script.specs.Paths.{path_text}
+use Rattle.pv_words.specs.Paths.{path_text}
 use Rattle.pv_tables.specs.TableLaws.{OneTables}
-use Rattle.pv_tables.specs.Tables.{AreEntries, AreTables, IsBefore, IsEntry, IsTableOf, Precedes}
-use Rattle.pv_tables.specs.Tables.{entries_in, key_of, no_list, other_list, possible_list}
+use Rattle.pv_tables.specs.Tables.{AreEntries, AreTables, IsBefore, IsEntry, IsTableOf, Precedes, entries_in, key_of, no_list, other_list, possible_list}
 use Rattle.pv_tables.specs.declared.tables.Entry.{Entry}
 use Rattle.pv_tables.specs.declared.tables.Table.{Table}
 use Rattle.pv_tree.proofs.Every.{contains_cases, contains_first, contains_later}
@@ -33,8 +31,7 @@ use Rattle.pv_tree.specs.Words.{word_of}
 use Rattle.pv_tree.specs.declared.nodes.Mark.{Mark}
 use Rattle.pv_tree.specs.declared.nodes.Verdict.TheVariants as verdict
 use Rattle.pv_missing.specs.LiveWords.{IsLiveWord}
-use Rattle.pv_commands.specs.Complete.{IsCompleteCourse, IsPackOfCompletion, TellsPack}
-use Rattle.pv_commands.specs.Complete.{has_too_many, is_heavy, is_pack, is_wide}
+use Rattle.pv_commands.specs.Complete.{IsCompleteCourse, IsPackOfCompletion, TellsPack, has_too_many, is_heavy, is_pack, is_wide}
 use Rattle.law_program.specs.Alike.{PacksAlike, are_one, are_packs}
 use Rattle.pv_stages.specs.Course.{Course}
 use Rattle.pv_stages.specs.Documents.{PlainOpened}
@@ -45,8 +42,7 @@ use Rattle.pv_stages.specs.declared.status.Status.TheVariants.{Done, Limit}
 use Rattle.pv_conversation.proofs.Completions.{completion_as, grown_as}
 use Rattle.pv_conversation.proofs.MissingElements.{cause_as, needs_as, wide_as}
 use Rattle.pv_stages.proofs.OnePossibility.{none_first, possibility_sure}
-use Rattle.pv_stages.proofs.OneOpening.{AreSameOpened, IsEqual, RunsAs, one_like, told}
-use Rattle.pv_stages.proofs.OneOpening.{unmarked_same}
+use Rattle.pv_stages.proofs.OneOpening.{AreSameOpened, IsEqual, RunsAs, one_like, told, unmarked_same}
 
 -- no two keys are each before the other
 before_once : (hs ks : List ℕ) → IsBefore hs ks → IsBefore ks hs → ⊥

@@ -13,7 +13,7 @@ use Rattle.pv_tree.proofs.Every.{all_right}
 use Rattle.pv_tree.proofs.Firsts.{one_first}
 use Rattle.pv_tree.specs.Marks.{unmarked_doc}
 use Rattle.pv_stages.specs.Response.{PlainResponse, with_line}
-use Rattle.pv_script.specs.Paths.{path_text}
+use Rattle.pv_words.specs.Paths.{path_text}
 use Rattle.pv_commands.specs.Valid.{TellsValidity, is_valid, is_invalid}
 use Rattle.pv_stages.specs.declared.status.Status.TheVariants.{Negative}
 use Rattle.pv_tree.proofs.Marks.{first_invalid-without_marks}

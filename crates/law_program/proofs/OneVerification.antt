@@ -1,6 +1,5 @@
 -- Over given files `verify` has one response.
-use Rattle.std.proofs.Common.{◌≡◌, [], ◌∷◌, ◌++◌, ◌∙◌, ℕ, List, Option, ap, codes, decimal, subst}
-use Rattle.std.proofs.Common.{sym}
+use Rattle.std.proofs.Common.{◌≡◌, [], ◌∷◌, ◌++◌, ◌∙◌, ℕ, List, Option, ap, codes, decimal, subst, sym}
 use Rattle.std.proofs.lemmas.List.Elements.{All-contains}
 use Rattle.std.specs.List.{Contains}
 use Rattle.pv_cert.specs.Laws.{OneMeaning}
@@ -10,7 +9,7 @@ use Rattle.pv_closed.specs.ClosedTables.{AreNarrowTables, IsFirstWideTable, IsNa
 use Rattle.pv_dtd.specs.Plain.{PlainDtd}
 use Rattle.pv_read.specs.DocumentLaws.{DocumentsMeanOne}
 use Rattle.pv_read.specs.Meaning.{document_limits, is_document}
-use Rattle.pv_script.specs.Paths.{path_text}
+use Rattle.pv_words.specs.Paths.{path_text}
 use Rattle.pv_tables.specs.declared.tables.Table.{Table}
 use Rattle.pv_tree.specs.Lists.{Listed, lists_of}
 use Rattle.pv_tree.specs.Plain.{PlainDoc}
@@ -20,16 +19,12 @@ use Rattle.pv_verify.specs.Laws.{OneAnswer}
 use Rattle.pv_commands.specs.Certificates.{certificate_stage}
 use Rattle.pv_stages.specs.Documents.{PlainOpened}
 use Rattle.pv_stages.specs.Opening.{Files, fetch_stage, file_at, opening_stage}
-use Rattle.pv_commands.specs.PackFiles.{RefusesPack, no_pack, pack_file_stage, pack_stage}
-use Rattle.pv_commands.specs.PackFiles.{too_large}
+use Rattle.pv_commands.specs.PackFiles.{RefusesPack, no_pack, pack_file_stage, pack_stage, too_large}
 use Rattle.pv_stages.specs.Response.{PlainResponse, with_line}
 use Rattle.pv_stages.specs.Stage.{Stage, beside}
-use Rattle.pv_commands.specs.Verify.{TellsAcceptance, TellsOfPack, is_accepted, is_rejected}
-use Rattle.pv_commands.specs.Verify.{names_wide, test_text}
+use Rattle.pv_commands.specs.Verify.{TellsAcceptance, TellsOfPack, is_accepted, is_rejected, names_wide, test_text}
 use Rattle.pv_stages.specs.declared.status.Status.TheVariants.{BadPack, Limit, Negative}
-use Rattle.pv_stages.proofs.OneOpening.{AreSameOpened, AreSure, IsEqual, IsSure, ReadsOne}
-use Rattle.pv_stages.proofs.OneOpening.{ReadsOneDtd, fetch_sure, followed_sure, opening_sure}
-use Rattle.pv_stages.proofs.OneOpening.{reading_sure, sure_at}
+use Rattle.pv_stages.proofs.OneOpening.{AreSameOpened, AreSure, IsEqual, IsSure, ReadsOne, ReadsOneDtd, fetch_sure, followed_sure, opening_sure, reading_sure, sure_at}
 
 -- the same DTD, document and certificate
 abbrev pub AreSameFiles : {Z : Type 0} → PlainOpened × Z → PlainOpened × Z → Type 0

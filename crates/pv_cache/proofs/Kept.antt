@@ -11,7 +11,7 @@ use Rattle.pv_edit.proofs.Remarked.{forest-as}
 use Rattle.pv_edit.proofs.Whole.{owner-kids}
 use Rattle.pv_missing.proofs.VerdictHeads.{same_word}
 use Rattle.pv_missing.specs.WordVerdicts.{has_no_trees}
-use Rattle.pv_tree.specs.Heads.{Head, heads_of}
+use Rattle.pv_tree.specs.Heads.{Head, has_token, heads_of}
 use Rattle.pv_tree.specs.Marks.{unmarked_doc}
 use Rattle.pv_tree.specs.Places.{list_at}
 use Rattle.pv_tree.specs.Plain.{Forest, PlainDoc, Tree, forest_of, map_marks, no_trees, tree}
@@ -20,7 +20,6 @@ use Rattle.pv_tree.specs.declared.nodes.Mark.{Mark}
 use Rattle.pv_tree.specs.declared.nodes.Verdict.{Verdict}
 use Rattle.pv_cache.specs.Judging.{AreListTokens, AreKeptTokens}
 use Rattle.pv_cache.specs.Mending.{mend_doc}
-use Rattle.pv_cache.specs.Shown.{has_token}
 use Rattle.pv_cache.specs.declared.mending.InnerVerdict.{InnerVerdict}
 use Rattle.pv_cache.specs.declared.words.KeptTokens.{KeptTokens}
 use Rattle.pv_cache.specs.declared.words.ListTokens.{ListTokens}

@@ -1,34 +1,16 @@
 -- What a document shows whatever its marks are.
 use Rattle.std.proofs.Common.{List, ap, refl, suc, ℕ, ◌+◌, ◌∙◌, ◌∷◌, ◌≡◌}
-use Rattle.pv_dtd.specs.Hedge.{Hedge, done, elem}
 use Rattle.pv_dtd.specs.Plain.{PlainDtd}
 use Rattle.pv_missing.proofs.VerdictHeads.{same_word}
+use Rattle.pv_reach.proofs.OtherMarks.{view_as}
 use Rattle.pv_tree.specs.Heads.{head_of, heads_of}
 use Rattle.pv_tree.specs.Plain.{Forest, Tree, cdata_node, element, misc_node, nodes_in}
 use Rattle.pv_tree.specs.Plain.{nodes_in_all, no_trees, map_marks, map_marks_all, text_node, tree}
 use Rattle.pv_tree.specs.Plain.{without_marks}
-use Rattle.pv_tree.specs.View.{shown_all, shown_before, spread, view}
+use Rattle.pv_tree.specs.View.{view}
 use Rattle.pv_tree.specs.Words.{word_of}
 
 module _ {M N : Type 0} (f : M → N) where
-  mutual
-    shown_as : (text : List (List ℕ) → Hedge → Hedge) (t : Tree M) (h : Hedge) →
-        shown_before text (map_marks f t) h ≡ shown_before text t h
-    shown_as text (element x a e ks m) h = ap (λ k. elem x a k h) (all_shown_as text ks)
-    shown_as text (text_node us) h = refl
-    shown_as text (cdata_node b) h = refl
-    shown_as text (misc_node b) h = refl
-
-    all_shown_as : (text : List (List ℕ) → Hedge → Hedge) (ks : Forest M) →
-        shown_all text (map_marks_all f ks) ≡ shown_all text ks
-    all_shown_as text no_trees = refl
-    all_shown_as text (tree t rest) =
-        shown_as text t (shown_all text (map_marks_all f rest))
-        ∙ ap (shown_before text t) (all_shown_as text rest)
-
-  pub view_as : (t : Tree M) → view (map_marks f t) ≡ view t
-  view_as t = shown_as spread t done
-
   mutual
     pub nodes_as : (t : Tree M) → nodes_in (map_marks f t) ≡ nodes_in t
     nodes_as (element x a e ks m) = ap suc (all_nodes_as ks)

@@ -5,7 +5,7 @@ ghost use Rattle.std.specs.Prelude.{IsTrue, MatchOption, OnOk, length, map, ◌�
 ghost use Rattle.std.specs.List.{between, list_any, splice};
 ghost use Rattle.pv_cache.specs.Judging.{AreListTokens, AreWords, IsCame, IsComing, IsInnerWord};
 ghost use Rattle.pv_cache.specs.Judging.{IsSpliced, IsWordOf};
-ghost use Rattle.pv_cache.specs.Shown.{has_token, number_shown, shown_of};
+ghost use Rattle.pv_cache.specs.Shown.{number_shown, shown_of};
 ghost use Rattle.pv_dtd.specs.PlainForms.{plain_dtd};
 ghost use Rattle.pv_edit.specs.Brought.{BringsBare, brings_element};
 ghost use Rattle.pv_edit.specs.Changes.{in_place_of, list_after, others};
@@ -13,7 +13,6 @@ ghost use Rattle.pv_edit.specs.Fitting.{CanFill, SuitsChange, plain_change, plai
 ghost use Rattle.pv_edit.specs.Reasons.{is_one_element};
 ghost use Rattle.pv_missing.specs.WordVerdicts.{has_no_trees};
 ghost use Rattle.pv_model.specs.PlainForms.{plain_token};
-ghost use Rattle.pv_tree.specs.Heads.{head_of};
 ghost use Rattle.pv_tree.specs.Plain.{Ending, Tree, element, forest_of, is_element};
 ghost use Rattle.pv_tree.specs.PlainForms.{forest, plain, plain_all};
 ghost use Rattle.pv_tree.specs.Words.{word_of};
@@ -122,25 +121,13 @@ fn what_comes<'a>(filling: &'a Filling, old: &'a [Node]) -> Coming<'a>
     }
 }
 
-// Whether a node has a token.
-fn has_token(node: &Node) -> bool
-    ensures { result ≡ has_token (head_of (plain node.now)) }
-{
-    match node {
-        Node::Elem { .. } => true,
-        Node::Text(units) => units.has_data(),
-        Node::Cdata(_) => true,
-        Node::Misc(_) => false,
-    }
-}
-
 // Of each of some nodes whether it has a token.
 fn shown_of(alloc: Global, kids: &[Node]) -> Result<Vec<bool>, NoMemory>
     ensures { IfOk result (λ shown. shown.items ≡ shown_of (forest kids.now)) }
 {
     let mut shown = Vec::with_capacity(alloc, kids.len())?;
     for kid in kids {
-        shown.push(has_token(kid))?;
+        shown.push(kid.has_token())?;
     }
     Ok(shown)
 }

@@ -1,5 +1,5 @@
 -- At most one line stands at the front of bytes within the limit.
-use Rattle.std.proofs.Common.{◌≡◌, ◌≤◌, ◌<◌, ℕ, ◌+◌, suc, List, [], ◌∷◌, ◌++◌, length, take, refl, sym, ap, ◌∙◌, append_assoc, arith, decimal, codes, Some, None, nat_eq, cond}
+use Rattle.std.proofs.Common.{◌≡◌, ◌≤◌, ◌<◌, ℕ, ◌+◌, suc, List, [], ◌∷◌, ◌++◌, length, take, refl, sym, ap, ◌∙◌, append_assoc, arith, decimal, codes, Some, None, true, nat_eq, cond}
 use Rattle.std.specs.Prelude.{if◌then◌else◌, ◌==◌}
 use Rattle.std.proofs.lemmas.List.{append_cancel_left}
 use Rattle.std.proofs.Math.Seq.{take-append_seam}
@@ -9,18 +9,18 @@ use Rattle.pv_rules.specs.PlainForms.{plain_site}
 use Rattle.pv_rules.specs.Sites.{PlainSite, content_site, name_site, part_site, rest_site}
 use Rattle.pv_rules.specs.declared.sites.Site.{Site}
 use Rattle.pv_rules.specs.declared.sites.Site.TheVariants as site
-use Rattle.pv_script.specs.Edits.{MAX_NUMBER}
-use Rattle.pv_script.specs.Paths.{path_text}
-use Rattle.pv_script.specs.Reading.{path_spelled}
-use Rattle.pv_script.specs.Words.{with_feed, words}
-use Rattle.pv_script.proofs.PathWords.{path-free, path_spelled-path_text}
+use Rattle.pv_words.specs.Numbers.{MAX_NUMBER}
+use Rattle.pv_words.specs.Paths.{path_text, path_spelled}
+use Rattle.pv_words.specs.Words.{with_feed, words}
+use Rattle.pv_words.proofs.PathWords.{path-free, path_spelled-path_text}
 use Rattle.pv_tables.specs.Tables.{site_number}
 use Rattle.pv_tables.specs.declared.tables.Entry.{Entry}
-use Rattle.pv_cert.specs.Fronts.{Begins, IsEntryText, IsKind, IsLineOf, IsNumberLine}
+use Rattle.pv_cert.specs.Fronts.{Begins, IsEntryText, IsKind}
+use Rattle.pv_words.specs.Fronts.{IsLineOf, IsNumberLine, has_no_feed}
 use Rattle.pv_cert.specs.Lines.{IsEntryInRange, IsInRange, PackLine, entry_words, kind_word, line_text, version_line, total_line, mark_line, body_line, list_line, entry_line, end_line}
 use Rattle.pv_cert.specs.Meaning.{MAX_PACK_BYTES}
-use Rattle.pv_cert.proofs.Cuts.{cut-once, feed-behind, one-line-of}
-use Rattle.pv_cert.proofs.EntryWords.{SameNumber, entry-free, has-letter, one-number-before, one-span-and-value, span_text}
+use Rattle.pv_words.proofs.Cuts.{cut-once, feed-behind, one-line-of, SameNumber, one-number-before}
+use Rattle.pv_cert.proofs.EntryWords.{entry-free, has-letter, one-span-and-value, span_text}
 use Rattle.pv_cert.proofs.Fronts.{body-front, one-number-line}
 
 -- the number of a line's kind, and the kind by the first two bytes
@@ -64,7 +64,7 @@ pub record SameLine (l m : PackLine) (x y : List ℕ) : Type 0 where
   pub lines : l ≡ m
   pub rests : x ≡ y
 
-same-total : (word : List ℕ) (most n m : ℕ) (x y : List ℕ) → Rattle.pv_cert.specs.Fronts.has_no_feed word ≡ Rattle.std.proofs.Common.true → most ≤ MAX_NUMBER → n ≤ most → m ≤ most →
+same-total : (word : List ℕ) (most n m : ℕ) (x y : List ℕ) → has_no_feed word ≡ true → most ≤ MAX_NUMBER → n ≤ most → m ≤ most →
     with_feed (word ++ decimal n) ++ x ≡ with_feed (word ++ decimal m) ++ y → SameNumber n m x y
 same-total word most n m x y test small r s e =
     one-number-line word most (with_feed (word ++ decimal n) ++ x) n m x y test small record { within = r; whole = refl } record { within = s; whole = e }

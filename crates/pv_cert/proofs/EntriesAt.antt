@@ -4,14 +4,15 @@ use Rattle.std.proofs.lemmas.List.{length-append}
 use Rattle.pv_rules.specs.Derivations.{most_missing}
 use Rattle.pv_rules.specs.PlainForms.{plain_site}
 use Rattle.pv_rules.specs.declared.sites.Site.{Site}
-use Rattle.pv_script.specs.Words.{with_feed, words}
+use Rattle.pv_words.specs.Words.{with_feed, words}
 use Rattle.pv_tables.specs.Tables.{site_number}
 use Rattle.pv_tables.specs.declared.tables.Entry.{Entry}
-use Rattle.pv_cert.specs.Fronts.{Begins, IsKind, IsNumberBefore}
+use Rattle.pv_cert.specs.Fronts.{Begins, IsKind, IsSpanThen}
+use Rattle.pv_words.specs.Numbers.{IsNumberBefore, IsNumberThen}
 use Rattle.pv_cert.specs.Lines.{entry_line, entry_words, kind_word}
-use Rattle.pv_cert.specs.Numbers.{IsNumberThen, IsSpanThen}
-use Rattle.pv_cert.proofs.EntryWords.{letter-by, one-number-before}
-use Rattle.pv_cert.proofs.DigitsRead.{one-number-then}
+use Rattle.pv_cert.proofs.EntryWords.{letter-by}
+use Rattle.pv_words.proofs.Cuts.{one-number-before}
+use Rattle.pv_words.proofs.DigitsRead.{one-number-then}
 
 -- ---- a span and its value
 from-before : (bytes : List ℕ) (from to value : ℕ) (rest : List ℕ) → IsSpanThen bytes from to value rest → IsNumberBefore bytes from (decimal to ++ (32 ∷ (decimal value ++ (10 ∷ rest))))

@@ -1,34 +1,16 @@
 -- The words of an entry are read as they are written.
-use Rattle.std.proofs.Common.{◌≡◌, ◌≤◌, ℕ, List, [], ◌∷◌, ◌++◌, refl, sym, ap, ◌∙◌, arith, decimal}
+use Rattle.std.proofs.Common.{◌≡◌, ℕ, List, [], ◌∷◌, ◌++◌, refl, ap, ◌∙◌, arith, decimal}
 use Rattle.pv_rules.specs.PlainForms.{plain_site}
 use Rattle.pv_rules.specs.Sites.{PlainSite, content_site, name_site, part_site, rest_site}
-use Rattle.pv_script.specs.Edits.{MAX_NUMBER}
-use Rattle.pv_script.specs.Reading.{number_spelled}
-use Rattle.pv_script.specs.Words.{words}
-use Rattle.pv_script.proofs.Numbers.{decimal-free, number_spelled-decimal}
-use Rattle.pv_script.proofs.Words.{Free, Free-append}
+use Rattle.pv_words.specs.Numbers.{IsNumberBefore}
+use Rattle.pv_words.specs.Words.{words}
+use Rattle.pv_words.proofs.NumberWords.{decimal-free}
+use Rattle.pv_words.proofs.FirstWords.{Free, Free-append}
 use Rattle.pv_tables.specs.Tables.{site_number}
 use Rattle.pv_tables.specs.declared.tables.Entry.{Entry}
-use Rattle.pv_cert.specs.Fronts.{AreSpanAndValue, IsEntryText, IsKind, IsNumberBefore}
+use Rattle.pv_cert.specs.Fronts.{AreSpanAndValue, IsEntryText, IsKind}
 use Rattle.pv_cert.specs.Lines.{IsEntryInRange, entry_words, kind_word}
-use Rattle.pv_cert.proofs.Cuts.{cut-once}
-
--- numbers before a blank are the same
-pub record SameNumber (n m : ℕ) (x y : List ℕ) : Type 0 where
-  pub numbers : n ≡ m
-  pub rests : x ≡ y
-
-pub same-decimal : (n m : ℕ) → n ≤ MAX_NUMBER → m ≤ MAX_NUMBER → decimal n ≡ decimal m → n ≡ m
-same-decimal n m small tiny is =
-    let one = number_spelled-decimal n small in
-    let other = number_spelled-decimal m tiny in
-    let these = ap number_spelled is in
-    cc
-
-pub one-number-before : (bytes : List ℕ) (n m : ℕ) (x y : List ℕ) → IsNumberBefore bytes n x → IsNumberBefore bytes m y → SameNumber n m x y
-one-number-before bytes n m x y one other =
-    let same = cut-once 32 (decimal n) (decimal m) x y (decimal-free 32 n (omega arith) one.within) (decimal-free 32 m (omega arith) other.within) (sym one.whole ∙ other.whole) in
-    record { numbers = same-decimal n m one.within other.within same.fronts; rests = same.rests }
+use Rattle.pv_words.proofs.Cuts.{one-number-before, same-decimal}
 
 -- what stands before a blank in a span and its value
 from-before : (bytes : List ℕ) (from to value : ℕ) → AreSpanAndValue bytes from to value → IsNumberBefore bytes from (decimal to ++ (32 ∷ decimal value))

@@ -2,16 +2,15 @@
 use Rattle.std.proofs.Common.{◌≡◌, ◌≢◌, ◌≤◌, ◌<◌, ℕ, List, ◌∷◌, ◌++◌, length, take, drop, refl, sym, ap, ◌∙◌, append_assoc, arith, decimal, codes, Some, None, true, Option, MatchOption}
 use Rattle.std.proofs.lemmas.List.{length-append, take-append-drop, length-take}
 use Rattle.std.proofs.Math.Seq.{drop-append_seam}
-use Rattle.pv_script.specs.Edits.{MAX_NUMBER}
-use Rattle.pv_script.specs.Paths.{path_text}
-use Rattle.pv_script.specs.Reading.{path_spelled}
-use Rattle.pv_script.specs.Words.{with_feed}
-use Rattle.pv_script.proofs.PathWords.{path-free, path-word, path_spelled-path_text}
-use Rattle.pv_cert.specs.Fronts.{Begins, BeginsNone, IsLineOf, IsNumberLine, has_no_feed}
+use Rattle.pv_words.specs.Numbers.{MAX_NUMBER}
+use Rattle.pv_words.specs.Paths.{path_text, path_spelled}
+use Rattle.pv_words.specs.Words.{with_feed}
+use Rattle.pv_words.proofs.PathWords.{path-free, path-word, path_spelled-path_text}
+use Rattle.pv_cert.specs.Fronts.{Begins, BeginsNone}
+use Rattle.pv_words.specs.Fronts.{IsLineOf, IsNumberLine, has_no_feed}
 use Rattle.pv_cert.specs.Lines.{body_line, list_line}
 use Rattle.pv_cert.specs.Meaning.{MAX_PACK_BYTES}
-use Rattle.pv_cert.proofs.Cuts.{feed-behind, number-is-line, one-line-of}
-use Rattle.pv_cert.proofs.EntryWords.{SameNumber, same-decimal}
+use Rattle.pv_words.proofs.Cuts.{feed-behind, number-is-line, one-line-of, SameNumber, same-decimal}
 
 -- what follows where none is found, and where one is found
 pub by-match : {X : Type 0} (r : Option X) (P Q : Type 0) (F G : X → Type 0) → MatchOption r P F → (P → Q) → ((x : X) → F x → G x) → MatchOption r Q G

@@ -1,7 +1,7 @@
 -- The lines of a pack up to its body, and a whole pack.
 use Rattle.std.proofs.Common.{◌≡◌, ◌≤◌, ℕ, ◌+◌, List, [], ◌∷◌, ◌++◌, ◌-◌, codes, decimal, drop, map, length, take, refl, sym, ap, subst, ◌∙◌, append_assoc, append-nil, arith, Option, Some, None, inr, Ok, Err, Result, IfOk, IfErr}
 use Rattle.std.proofs.lemmas.List.{drop_at, length-append, length-map, take_at}
-use Rattle.pv_script.specs.Words.{with_feed, words}
+use Rattle.pv_words.specs.Words.{with_feed, words}
 use Rattle.pv_tables.specs.declared.tables.Table.{Table}
 use Rattle.pv_cert.specs.Fronts.{Begins, BeginsNone, BeginsNot}
 use Rattle.pv_cert.specs.Lines.{PackLine, version_line, total_line, mark_line, body_line, entry_line, end_line}

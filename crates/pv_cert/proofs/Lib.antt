@@ -1,9 +1,7 @@
 -- for other crates:
-pub mod Cuts
 pub mod EntryWords
 pub mod Determined
 -- of this crate:
-pub mod DigitsRead
 pub mod EntriesAt
 pub mod Fronts
 pub mod Stands

@@ -1,6 +1,6 @@
 -- What is written of a pack.
 use Rattle.std.proofs.Common.{◌≡◌, ◌<◌, ℕ, ◌+◌, suc, List, [], ◌∷◌, ◌++◌, map, length, drop, get_or, sym, ap, ◌∙◌, append_assoc, codes, decimal, arith, drop-cons}
-use Rattle.pv_script.specs.Words.{with_feed}
+use Rattle.pv_words.specs.Words.{with_feed}
 use Rattle.pv_tables.specs.declared.tables.Table.{Table}
 use Rattle.pv_cert.specs.Lines.{body_line, end_line, line_text, mark_line}
 use Rattle.pv_cert.specs.Packs.{lines_of_pack, lines_of_table, lines_text, table_lines}

@@ -1,13 +1,13 @@
 -- The lines of a pack.
-use Rattle.std.specs.Prelude.{◌≤◌, ℕ, List, [], ◌∷◌, ◌++◌, length, codes, decimal}
+use Rattle.std.specs.Prelude.{◌≤◌, ℕ, List, [], ◌∷◌, codes, decimal}
 use Rattle.pv_rules.specs.Derivations.{most_missing}
 use Rattle.pv_rules.specs.PlainForms.{plain_site}
 use Rattle.pv_rules.specs.Sites.{PlainSite, content_site, name_site, part_site, rest_site}
 use Rattle.pv_tables.specs.Tables.{site_number}
 use Rattle.pv_tables.specs.declared.tables.Entry.{Entry}
-use Rattle.pv_script.specs.Edits.{AreNumbers, MAX_NUMBER}
-use Rattle.pv_script.specs.Paths.{path_text}
-use Rattle.pv_script.specs.Words.{with_feed, words}
+use Rattle.pv_words.specs.Numbers.{AreNumbers, MAX_NUMBER}
+use Rattle.pv_words.specs.Paths.{path_text}
+use Rattle.pv_words.specs.Words.{counted_text, with_feed, words}
 
 pub data PackLine : Type 0 where
   version_line : PackLine
@@ -37,8 +37,7 @@ abbrev pub line_text : PackLine → List ℕ
 line_text version_line = with_feed (codes "pvpack 1")
 line_text (total_line k) = with_feed (words (codes "total" ∷ decimal k ∷ []))
 line_text (mark_line m) = with_feed (words (codes "mark" ∷ decimal m ∷ []))
-line_text (body_line bytes) =
-    with_feed (words (codes "body" ∷ decimal (length bytes) ∷ [])) ++ with_feed bytes
+line_text (body_line bytes) = counted_text (codes "body") bytes
 line_text (list_line path) = with_feed (words (codes "list" ∷ path_text path ∷ []))
 line_text (entry_line e) = with_feed (words (entry_words e))
 line_text end_line = with_feed (codes "end")

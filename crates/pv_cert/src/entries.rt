@@ -5,14 +5,13 @@ ghost use Rattle.pv_rules.specs.PlainForms.{plain_site};
 ghost use Rattle.pv_rules.specs.declared.sites.Site.{Site};
 ghost use Rattle.pv_tables.specs.Tables.{site_number};
 ghost use Rattle.pv_tables.specs.declared.tables.Entry.{Entry};
-ghost use Rattle.pv_cert.specs.Fronts.{Begins, BeginsNone, IsKind};
+ghost use Rattle.pv_cert.specs.Fronts.{Begins, BeginsNone, IsKind, IsSpanThen};
 ghost use Rattle.pv_cert.specs.Lines.{entry_line};
-ghost use Rattle.pv_cert.specs.Numbers.{IsSpanThen};
 
-use crate::numbers::{last_number, next_number};
 use pv_model::NameId;
 use pv_rules::{MAX_MISSING, Site};
 use pv_tables::Entry;
+use pv_words::{last_number, next_number};
 
 // Where a span begins and ends, and a value, before a LF, and what stands behind that.
 fn span_and_value(bytes: &[u8]) -> Option<(u32, u32, u32, &[u8])>

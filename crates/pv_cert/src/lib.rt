@@ -1,7 +1,7 @@
 //! Packs as text: a least completion, with the tables that show it to be least.
 //!
 //! A pack text is lines, each of which may stand behind the one before it (`specs/Lines.antt`,
-//! `specs/Packs.antt`). `write_pack` writes the text of a pack. `read_pack` gives the pack that
+//! `specs/Packs.antt`). `write_pack` writes the text of a pack. `take_pack` gives the pack that
 //! bytes are the text of, or the first line at fault, or tells that a limit is passed: what bytes
 //! mean (`PackMeans`, `specs/Meaning.antt`), which is one thing only, as `laws` says. What its
 //! lines have in common with those of a denial is given away piece by piece.
@@ -9,9 +9,9 @@
 
 mod entries;
 mod errors;
+mod fixed;
 pub mod laws;
 mod lines;
-mod numbers;
 mod packs;
 mod reading;
 mod tables;
@@ -19,8 +19,7 @@ mod writing;
 
 pub use entries::{letter_at, site_of};
 pub use errors::PackError;
-pub use lines::line_of;
-pub use numbers::next_number;
+pub use fixed::read_pack;
 pub use packs::{MAX_PACK_BYTES, Pack};
-pub use reading::{read_pack, take_pack};
-pub use writing::{kind_word, push_next_number, write_pack};
+pub use reading::take_pack;
+pub use writing::{kind_word, write_pack};

@@ -11,7 +11,7 @@ use crate::errors::PackError;
 use crate::lines::{body_at, mark_at, total_at, version_at};
 use crate::packs::{MAX_PACK_BYTES, Pack};
 use crate::tables::read_tables;
-use pv_chars::{List, NoMemory, bytes_of};
+use pv_chars::{List, NoMemory};
 use pv_tables::Table;
 use std::alloc::Global;
 
@@ -108,33 +108,6 @@ fn read_parts(alloc: Global, bytes: &[u8]) -> Result<Parts, PackError>
     })
 }
 
-// The pack that bytes within the limit are the text of.
-fn read_within(alloc: Global, bytes: &[u8]) -> Result<Pack, PackError>
-    requires { length bytes.now ≤ MAX_BYTES }
-    ensures read { IfOk result (λ pack. PackMeans bytes.now (is_pack pack)) }
-    ensures refused { IfErr result (λ error. Refuses bytes.now error) }
-{
-    let parts = read_parts(alloc, bytes)?;
-    Ok(Pack {
-        total: u64::from(parts.total),
-        marks: List::of(parts.marks),
-        body: bytes_of(alloc, &bytes[parts.start..parts.end])?,
-        tables: List::of(parts.tables),
-    })
-}
-
-/// The pack that the bytes are the text of.
-pub fn read_pack(alloc: Global, bytes: &[u8]) -> Result<Pack, PackError>
-    ensures read { IfOk result (λ pack. PackMeans bytes.now (is_pack pack)) }
-    ensures refused { IfErr result (λ error. Refuses bytes.now error) }
-    ensures exactly { (o : Outcome) → PackMeans bytes.now o → Answers o result }
-{
-    if MAX_PACK_BYTES < bytes.len() {
-        return Err(PackError::Limit);
-    }
-    read_within(alloc, bytes)
-}
-
 // What stands from one place up to another, in the memory of the whole.
 fn cut(mut bytes: Vec<u8>, start: usize, end: usize) -> Vec<u8>
     requires order { start ≤ end }
@@ -162,8 +135,8 @@ fn take_within(alloc: Global, bytes: Vec<u8>) -> Result<Pack, PackError>
     })
 }
 
-/// The pack that the bytes are the text of, as `read_pack` gives it; its body stays in the memory
-/// of the text, and isn't copied.
+/// The pack that the bytes are the text of; its body stays in the memory of the text, and isn't
+/// copied.
 pub fn take_pack(alloc: Global, bytes: Vec<u8>) -> Result<Pack, PackError>
     ensures read { IfOk result (λ pack. PackMeans bytes.items (is_pack pack)) }
     ensures refused { IfErr result (λ error. Refuses bytes.items error) }

@@ -1,39 +1,18 @@
 //! Writes packs.
 
-ghost use Rattle.std.specs.Prelude.{◌≡◌, ◌++◌, map, codes, decimal, IfOk, OnOk, None};
+ghost use Rattle.std.specs.Prelude.{◌≡◌, ◌++◌, map, IfOk, OnOk, None};
 ghost use Rattle.pv_rules.specs.PlainForms.{plain_site};
-ghost use Rattle.pv_script.specs.Words.{with_feed};
 ghost use Rattle.pv_tables.specs.declared.tables.Table.{Table};
-ghost use Rattle.pv_cert.specs.Lines.{kind_word, line_text, mark_line, body_line, entry_line};
+ghost use Rattle.pv_cert.specs.Lines.{kind_word, line_text, mark_line, entry_line};
 ghost use Rattle.pv_cert.specs.Packs.{AreLines, IsPackText, lines_of_pack, lines_of_table};
-ghost use Rattle.pv_cert.specs.Packs.{lines_text};
-ghost use Rattle.pv_cert.specs.Packs.{table_lines};
+ghost use Rattle.pv_cert.specs.Packs.{lines_text, table_lines};
 
 use crate::packs::Pack;
 use pv_chars::NoMemory;
 use pv_rules::Site;
-use pv_script::{push_number, push_path};
 use pv_tables::{Entry, Table, site_number};
+use pv_words::{push_counted, push_next_number, push_number_line, push_path};
 use std::alloc::{AllocError, Global};
-
-// Appends a line of a word and a number.
-fn push_number_line(text: &mut Vec<u8>, word: &[u8], number: u64) -> Result<(), AllocError>
-    ensures { OnOk result (text.new.items ≡
-        text.old.items ++ with_feed (word.now ++ decimal number)) }
-{
-    text.extend_from_slice(word)?;
-    push_number(text, number)?;
-    text.push(b'\n')?;
-    Ok(())
-}
-
-/// Appends a number behind a blank.
-pub fn push_next_number(text: &mut Vec<u8>, number: u32) -> Result<(), AllocError>
-    ensures { OnOk result (text.new.items ≡ text.old.items ++ (codes " " ++ decimal number)) }
-{
-    text.push(b' ')?;
-    push_number(text, u64::from(number))
-}
 
 // Appends the line of each mark.
 fn push_marks(text: &mut Vec<u8>, marks: &[u32]) -> Result<(), AllocError>
@@ -41,18 +20,8 @@ fn push_marks(text: &mut Vec<u8>, marks: &[u32]) -> Result<(), AllocError>
         text.old.items ++ lines_text (map mark_line marks.now)) }
 {
     for mark in marks {
-        push_number_line(text, b"mark ", u64::from(*mark))?;
+        push_number_line(text, b"mark", u64::from(*mark))?;
     }
-    Ok(())
-}
-
-// Appends the line that tells a body's length, and the body.
-fn push_body(text: &mut Vec<u8>, body: &[u8]) -> Result<(), AllocError>
-    ensures { OnOk result (text.new.items ≡ text.old.items ++ line_text (body_line body.now)) }
-{
-    push_number_line(text, b"body ", body.len() as u64)?;
-    text.extend_from_slice(body)?;
-    text.push(b'\n')?;
     Ok(())
 }
 
@@ -73,10 +42,10 @@ fn push_entry(text: &mut Vec<u8>, entry: &Entry) -> Result<(), AllocError>
     ensures { OnOk result (text.new.items ≡ text.old.items ++ line_text (entry_line entry.now)) }
 {
     text.extend_from_slice(kind_word(entry.site))?;
-    push_next_number(text, site_number(entry.site))?;
-    push_next_number(text, entry.from)?;
-    push_next_number(text, entry.to)?;
-    push_next_number(text, entry.value)?;
+    push_next_number(text, u64::from(site_number(entry.site)))?;
+    push_next_number(text, u64::from(entry.from))?;
+    push_next_number(text, u64::from(entry.to))?;
+    push_next_number(text, u64::from(entry.value))?;
     text.push(b'\n')?;
     Ok(())
 }
@@ -123,9 +92,9 @@ pub fn write_pack(alloc: Global, pack: &Pack) -> Result<Vec<u8>, NoMemory>
 {
     let mut text = Vec::new(alloc);
     text.extend_from_slice(b"pvpack 1\n")?;
-    push_number_line(&mut text, b"total ", pack.total)?;
+    push_number_line(&mut text, b"total", pack.total)?;
     push_marks(&mut text, pack.marks.as_slice())?;
-    push_body(&mut text, pack.body.as_slice())?;
+    push_counted(&mut text, b"body", pack.body.as_slice())?;
     push_tables(&mut text, pack.tables.as_slice())?;
     text.extend_from_slice(b"end\n")?;
     Ok(text)

@@ -1,5 +1,5 @@
 -- How many lists are Possible where one more stands among them.
-use Rattle.std.proofs.Common.{◌≡◌, ℕ, ◌+◌, List, [], ◌∷◌, ◌++◌, cond, Bool, refl, ap, ◌∙◌, arith}
+use Rattle.std.proofs.Common.{◌≡◌, ◌≤◌, ℕ, ◌+◌, List, [], ◌∷◌, ◌++◌, cond, Bool, true, false, refl, ap, ◌∙◌, arith}
 use Rattle.std.proofs.lemmas.List.Sums.{sum_by-cons}
 use Rattle.pv_dtd.specs.Plain.{PlainDtd}
 use Rattle.pv_tree.specs.Lists.{Listed}
@@ -10,6 +10,10 @@ use Rattle.pv_missing.specs.Verdicts.{AreVerdicts, HavePossible, IsVerdict, is_p
 -- one for a list that is Possible
 abbrev pub one_if : Bool → ℕ
 one_if b = cond b 1 0
+
+pub one_if_few : (b : Bool) → one_if b ≤ 1
+one_if_few true = omega arith
+one_if_few false = omega arith
 
 possible_cons : (v : Verdict) (vs : List Verdict) → possible_in (v ∷ vs) ≡ one_if (is_possible v) + possible_in vs
 possible_cons v vs = sum_by-cons (λ w. cond (is_possible w) 1 0) v vs

@@ -8,12 +8,12 @@ use Rattle.pv_tree.specs.declared.nodes.Verdict.{Verdict}
 use Rattle.pv_tree.proofs.Every.{all_left, all_right}
 use Rattle.pv_missing.specs.Verdicts.{IsLive, IsVerdict, is_possible}
 use Rattle.pv_missing.specs.Widths.{IsListForVerdict}
-use Rattle.pv_valid.specs.WholeLists.{TellsFirst, TellsWhether}
-use Rattle.pv_valid.proofs.Judged.{put_so, put_not, put_behind}
+use Rattle.pv_lists.specs.WholeLists.{TellsFirst, TellsWhether}
+use Rattle.pv_lists.proofs.Judged.{put_so, put_not, put_behind}
 use Rattle.pv_check.specs.Findings.{HasFound}
 use Rattle.pv_check.specs.Judging.{IsNarrowAndLive}
 use Rattle.pv_check.specs.declared.findings.Findings.{Findings}
-use Rattle.pv_check.proofs.Counting.{one_if, possible_more}
+use Rattle.pv_check.proofs.Counting.{one_if, one_if_few, possible_more}
 
 pub narrow_all : (g : PlainDtd) (root : List ℕ) (xs : List (Listed Mark)) → AllByRecursion (IsNarrowAndLive g root) xs → AllByRecursion (IsListForVerdict g) xs
 narrow_all g root [] all = tt
@@ -37,13 +37,14 @@ module _ (g : PlainDtd) (root : List ℕ) (xs ys : List (Listed Mark)) (x : List
 
   -- it stands behind one that is too wide or impossible
   pub kept_behind : TellsWhether (IsNarrowAndLive g root) xs true → TellsFirst (IsListForVerdict g) (xs ++ x ∷ ys) new.wide
-      → new.first ≡ old.first → new.lists ≡ old.lists + 1 → HasFound g root (xs ++ x ∷ ys) new
-  kept_behind behind wide first_is count_is =
+      → new.first ≡ old.first → new.possible ≡ old.possible → new.lists ≡ old.lists + 1 → HasFound g root (xs ++ x ∷ ys) new
+  kept_behind behind wide first_is possible_is count_is =
       let never : new.first ≡ None → ⊥ = λ none. not_none (IsNarrowAndLive g root) xs ys behind.0 old.first behind.1 f.first (sym first_is ∙ none) in
       record {
         first_wide = wide;
         first = rw first_is (put_behind (IsNarrowAndLive g root) xs ys x old.first behind.0 behind.1 f.first);
         possible = λ none. absurd (never none);
+        few_possible = omega (arith, f.few_possible, possible_is, count_is);
         count = omega (arith, f.count, many, count_is);
       }
 
@@ -60,11 +61,12 @@ module _ (g : PlainDtd) (root : List ℕ) (xs ys : List (Listed Mark)) (x : List
 
   -- no list before it is too wide or impossible
   module _ (all : AllByRecursion (IsNarrowAndLive g root) xs) where
-    pub put_wide : (IsListForVerdict g x → ⊥) → new.wide ≡ Some x.path → new.first ≡ Some x.path → new.lists ≡ old.lists + 1 → HasFound g root (xs ++ x ∷ ys) new
-    put_wide wide wide_is first_is count_is = record {
+    pub put_wide : (IsListForVerdict g x → ⊥) → new.wide ≡ Some x.path → new.first ≡ Some x.path → new.possible ≡ old.possible → new.lists ≡ old.lists + 1 → HasFound g root (xs ++ x ∷ ys) new
+    put_wide wide wide_is first_is possible_is count_is = record {
       first_wide = rw wide_is (put_not (IsListForVerdict g) xs ys x (narrow_all g root xs all) wide);
       first = rw first_is (put_not (IsNarrowAndLive g root) xs ys x all (λ so. wide so.0));
       possible = λ none. absurd (some_is_none x.path new.first first_is none);
+      few_possible = omega (arith, f.few_possible, possible_is, count_is);
       count = omega (arith, f.count, many, count_is);
     }
 
@@ -72,11 +74,12 @@ module _ (g : PlainDtd) (root : List ℕ) (xs ys : List (Listed Mark)) (x : List
       same_wide : TellsFirst (IsListForVerdict g) (xs ++ x ∷ ys) new.wide
       same_wide = rw wide_is (put_so (IsListForVerdict g) xs ys x old.wide (narrow_all g root xs all) narrow f.first_wide)
 
-      pub put_impossible : (IsLive g root x → ⊥) → new.first ≡ Some x.path → HasFound g root (xs ++ x ∷ ys) new
-      put_impossible dead first_is = record {
+      pub put_impossible : (IsLive g root x → ⊥) → new.first ≡ Some x.path → new.possible ≡ old.possible → HasFound g root (xs ++ x ∷ ys) new
+      put_impossible dead first_is possible_is = record {
         first_wide = same_wide;
         first = rw first_is (put_not (IsNarrowAndLive g root) xs ys x all (λ so. dead so.1));
         possible = λ none. absurd (some_is_none x.path new.first first_is none);
+        few_possible = omega (arith, f.few_possible, possible_is, count_is);
         count = omega (arith, f.count, many, count_is);
       }
 
@@ -85,5 +88,6 @@ module _ (g : PlainDtd) (root : List ℕ) (xs ys : List (Listed Mark)) (x : List
         first_wide = same_wide;
         first = rw first_is (put_so (IsNarrowAndLive g root) xs ys x old.first all (narrow, live) f.first);
         possible = λ none. possible_more g root x v is xs ys old.possible new.possible (f.possible (sym first_is ∙ none)) possible_is;
+        few_possible = let few = one_if_few (is_possible v) in omega (arith, f.few_possible, possible_is, count_is, few);
         count = omega (arith, f.count, many, count_is);
       }

@@ -14,6 +14,8 @@ use Rattle.pv_missing.specs.Completing.{IsPotentiallyValid}
 use Rattle.pv_missing.specs.Verdicts.{HavePossible, IsFirstImpossible, IsLive}
 use Rattle.pv_missing.specs.Widths.{IsFirstTooWide, IsListForVerdict}
 use Rattle.pv_fresh.specs.Answers.{IsImpossibleAt}
+use Rattle.pv_lists.specs.declared.errors.ReadError.{ReadError}
+use Rattle.pv_lists.specs.declared.errors.ReadError.TheVariants as read_error
 use Rattle.pv_check.specs.declared.checking.Told.{Told}
 use Rattle.pv_check.specs.declared.checking.Told.TheVariants as told
 use Rattle.pv_check.specs.declared.errors.ListError.{ListError}
@@ -69,6 +71,11 @@ TellsLists g root lists (told.TooWide path) = IsFirstTooWide g lists path
 abbrev pub refusal_of : ListError → TextError
 refusal_of list_error.LongLists = text_error.LongLists
 refusal_of list_error.NoMemory = text_error.Document unread.NoMemory
+
+-- and the refusal of a text where its lists weren't read
+abbrev pub read_refusal_of : ReadError ListError → TextError
+read_refusal_of (read_error.Document error) = text_error.Document error
+read_refusal_of (read_error.Judge cause) = refusal_of cause
 
 -- a refusal, other than for long lists, is one of the reader
 abbrev pub RefusesBytes : {M : Type 0} → (Outcome M → Type 0) → TextError → Type 0

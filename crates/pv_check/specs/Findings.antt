@@ -1,13 +1,15 @@
 -- What was found of lists.
-use Rattle.std.specs.Prelude.{◌≡◌, ◌≤◌, ℕ, suc, List, length, None}
+use Rattle.std.specs.Prelude.{◌≡◌, ◌≤◌, ℕ, List, length, None}
 use Rattle.pv_dtd.specs.Plain.{PlainDtd}
 use Rattle.pv_tree.specs.Lists.{Listed}
 use Rattle.pv_tree.specs.declared.nodes.Mark.{Mark}
 use Rattle.pv_missing.specs.Verdicts.{HavePossible}
 use Rattle.pv_missing.specs.Widths.{IsListForVerdict}
-use Rattle.pv_valid.specs.WholeLists.{TellsFirst}
+use Rattle.pv_lists.specs.Judging.{Judgement}
+use Rattle.pv_lists.specs.WholeLists.{TellsFirst, TellsWhether}
 use Rattle.pv_check.specs.Judging.{IsNarrowAndLive}
 use Rattle.pv_check.specs.declared.findings.Findings.{Findings}
+use Rattle.pv_check.specs.declared.findings.Noted.{Noted}
 
 -- The first of these lists that is too wide was found, and the first that is too wide or
 -- impossible, and the lists were counted. Where none is too wide or impossible, the Possible ones
@@ -17,14 +19,15 @@ pub record HasFound (g : PlainDtd) (root : List ℕ) (lists : List (Listed Mark)
   pub first_wide : TellsFirst (IsListForVerdict g) lists found.wide
   pub first : TellsFirst (IsNarrowAndLive g root) lists found.first
   pub possible : found.first ≡ None → HavePossible g root lists found.possible
+  pub few_possible : found.possible ≤ found.lists
   pub count : found.lists ≡ length lists
 
--- The numbers are at most this one.
-pub record AreCountedTo (found : Findings) (most : ℕ) : Type 0 where
-  pub lists : found.lists ≤ most
-  pub possible : found.possible ≤ most
+-- It is noted whether one of these lists is too wide, and whether one is too wide or impossible.
+pub record HasNoted (g : PlainDtd) (root : List ℕ) (lists : List (Listed Mark)) (noted : Noted)
+    : Type 0 where
+  pub wide : TellsWhether (IsListForVerdict g) lists noted.wide
+  pub any : TellsWhether (IsNarrowAndLive g root) lists noted.any
 
--- The numbers grow by one at most.
-pub record GrowsByOne (old new : Findings) : Type 0 where
-  pub lists : new.lists ≤ suc old.lists
-  pub possible : new.possible ≤ suc old.possible
+-- what is found and noted of lists by this DTD
+abbrev pub verdicts_by : PlainDtd → Judgement Noted Findings
+verdicts_by g = record { dtd = g; finds = HasFound g; notes = HasNoted g }

@@ -3,7 +3,8 @@ use Rattle.std.specs.Prelude.{◌≡◌, ℕ, Bool, List, length, Option, Some, 
 use Rattle.pv_model.specs.Plain.{PlainToken, named, text, other}
 use Rattle.pv_dtd.specs.Plain.{PlainDtd}
 use Rattle.pv_rules.specs.Sites.{PlainSite, content_site}
-use Rattle.pv_tree.specs.Lists.{Listed}
+use Rattle.pv_tree.specs.Lists.{Listed, an_element}
+use Rattle.pv_tree.specs.Plain.{Tree, forest_of}
 use Rattle.pv_tree.specs.declared.nodes.Mark.{Mark}
 use Rattle.pv_tree.specs.declared.nodes.Verdict.{Verdict}
 use Rattle.pv_tree.specs.declared.nodes.Verdict.TheVariants as verdict
@@ -15,6 +16,11 @@ use Rattle.pv_missing.specs.WordVerdicts.{IsVerdictByWord}
 abbrev pub JudgesList : PlainDtd → List ℕ → Listed Mark → Option Verdict → Type 0
 JudgesList g root list None = IsListForVerdict g list → ⊥
 JudgesList g root list (Some v) = IsListForVerdict g list × IsVerdict g root list v
+
+-- the same of the list of an element of this name with these kids, wherever it stands
+abbrev pub JudgesOwn : PlainDtd → List ℕ → List (Tree Mark) → Option Verdict → Type 0
+JudgesOwn g name kids v = (root path : List ℕ) → JudgesList g root
+    (record { path = path; owner = an_element name; kids = forest_of kids }) v
 
 -- the same of a list whose owner has this site and whose word is this one
 abbrev pub JudgesWord : PlainDtd → Option PlainSite → List PlainToken → Bool → Option Verdict →

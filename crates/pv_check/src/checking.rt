@@ -1,6 +1,6 @@
 //! Judges the lists of a document while it is read, in one pass from left to right.
 
-ghost use Rattle.std.specs.Prelude.{◌≡◌, ◌≤◌, ◌<◌, ◌+◌, ℕ, List, IfOk, IfErr, OnErr};
+ghost use Rattle.std.specs.Prelude.{◌≡◌, ◌+◌, List, IfOk, IfErr, OnErr, ℕ};
 ghost use Rattle.pv_dtd.specs.Plain.{PlainDtd};
 ghost use Rattle.pv_productive.specs.PlainForms.{dtd_of};
 ghost use Rattle.pv_tree.specs.Lists.{Listed, lists_of};
@@ -8,25 +8,22 @@ ghost use Rattle.pv_tree.specs.Marks.{blank_mark};
 ghost use Rattle.pv_tree.specs.Plain.{PlainDoc, Tree};
 ghost use Rattle.pv_tree.specs.declared.nodes.Mark.{Mark};
 ghost use Rattle.pv_read.specs.Meaning.{DocumentMeans, Outcome, is_document};
-ghost use Rattle.pv_valid.specs.OpenLists.{MAX_KIDS};
+ghost use Rattle.pv_lists.specs.Answers.{ReadsLists};
 ghost use Rattle.pv_check.specs.Answers.{AnswersText, CountsTold, RefusesBytes, Tells, TellsLists};
 ghost use Rattle.pv_check.specs.Answers.{root_lists};
-ghost use Rattle.pv_check.specs.Findings.{AreCountedTo, HasFound};
-ghost use Rattle.pv_check.specs.OpenLists.{HasRoot};
+ghost use Rattle.pv_check.specs.Findings.{HasFound, verdicts_by};
 
-use crate::content::read_root;
 use crate::errors::{ListError, TextError};
-use crate::findings::Findings;
-use crate::open::OpenLists;
+use crate::findings::{Findings, Noted};
+use crate::judging::Verdicts;
 use crate::words::judge_word;
-use pv_chars::scan::after_byte_order_mark;
 use pv_dtd::laws::proper_dtd_law;
+use pv_fresh::count_lists;
+use pv_lists::{OpenLists, read_lists};
 use pv_missing::laws::documents::live_lists_law;
 use pv_missing::root_owner;
 use pv_reach::Judge;
-use pv_read::epilog::read_epilog;
-use pv_read::prolog::root_tag;
-use pv_read::{DocError, MAX_DEPTH, MAX_DOC_BYTES};
+use pv_read::{MAX_DEPTH, MAX_DOC_BYTES};
 use pv_steps::Steps;
 use pv_tree::{Mark, Path};
 use std::sync::ledger::Ledger;
@@ -45,9 +42,14 @@ pub enum Told {
 }
 
 // What is found with the document node's list, where the root is whole.
-fn judge_root(judge: &Judge<'_>, root: &[u8], lists: OpenLists<'_>) -> Result<Findings, ListError>
-    requires { (most : ℕ) × (most < MAX_KIDS) × AreCountedTo lists.found most }
-    ensures { (t : Tree Mark) → HasRoot (dtd_of judge.now) root.now lists.entry t →
+fn judge_root(
+    judge: &Judge<'_>,
+    root: &[u8],
+    lists: OpenLists<'_, Noted, Findings>,
+) -> Result<Findings, ListError>
+    requires { (t : Tree Mark) ×
+        ReadsLists (verdicts_by (dtd_of judge.now)) root.now lists t }
+    ensures { (t : Tree Mark) → ReadsLists (verdicts_by (dtd_of judge.now)) root.now lists.entry t →
         IfOk result (HasFound (dtd_of judge.now) root.now (root_lists t)) }
 {
     let owner = root_owner(judge.grammar().dtd(), root);
@@ -58,7 +60,7 @@ fn judge_root(judge: &Judge<'_>, root: &[u8], lists: OpenLists<'_>) -> Result<Fi
 }
 
 // What is found of all lists of the document that the bytes are.
-fn read_lists(judge: &Judge<'_>, root: &[u8], bytes: &[u8]) -> Result<Findings, TextError>
+fn find_lists(judge: &Judge<'_>, root: &[u8], bytes: &[u8]) -> Result<Findings, TextError>
     ensures read { IfOk result (λ _. (doc : PlainDoc Mark) ×
         DocumentMeans blank_mark root.now bytes.now (is_document doc)) }
     ensures finds { IfOk result (λ found. (doc : PlainDoc Mark) →
@@ -68,23 +70,17 @@ fn read_lists(judge: &Judge<'_>, root: &[u8], bytes: &[u8]) -> Result<Findings, 
     ensures exactly { (o : Outcome Mark) → DocumentMeans blank_mark root.now bytes.now o →
         IfErr result (AnswersText o) }
 {
-    if bytes.len() > MAX_DOC_BYTES {
-        return Err(TextError::Document(DocError::Limit));
-    }
-    let opening = root_tag(Some(MAX_DEPTH), root, after_byte_order_mark(bytes))?;
-    let (lists, after, count) = read_root(judge, Some(MAX_DEPTH), root, &opening)?;
-    read_epilog(Some(MAX_DEPTH), root, after, count)?;
+    let verdicts = Verdicts { judge };
+    let lists = read_lists(
+        judge.alloc(),
+        &verdicts,
+        Some(MAX_DEPTH),
+        MAX_DOC_BYTES,
+        root,
+        bytes,
+    )?;
     let found = judge_root(judge, root, lists)?;
     Ok(found)
-}
-
-// Takes so many steps.
-fn count_lists<L: Ledger>(count: u64, steps: &mut Steps<L>)
-    ensures { steps.new ≡ steps.old + count }
-{
-    for _one in 0..count {
-        steps.tick();
-    }
 }
 
 // What these findings tell of the lists, which are counted unless one is too wide.
@@ -99,6 +95,7 @@ fn tell<L: Ledger>(found: Findings, steps: &mut Steps<L>) -> Told
         first,
         possible,
         lists,
+        ..
     } = found;
     match wide {
         Some(path) => Told::TooWide(path),
@@ -117,7 +114,7 @@ fn tell<L: Ledger>(found: Findings, steps: &mut Steps<L>) -> Told
 ///
 /// What `read_doc` refuses is refused, with the same error; a fault anywhere in the bytes comes
 /// before any answer, unless long lists come before it. Each list is one step, as `check_doc`
-/// counts them, though those that begin behind an Impossible one aren't judged.
+/// counts them, though those that begin after an Impossible one aren't judged.
 pub fn check_text<L: Ledger>(
     judge: &Judge<'_>,
     root: &[u8],
@@ -139,6 +136,6 @@ pub fn check_text<L: Ledger>(
 {
     live_lists_law::<Mark>();
     proper_dtd_law(judge.grammar().dtd());
-    let found = read_lists(judge, root, bytes)?;
+    let found = find_lists(judge, root, bytes)?;
     Ok(tell(found, steps))
 }

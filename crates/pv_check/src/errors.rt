@@ -1,11 +1,11 @@
 //! Why a text has no answer.
 
 ghost use Rattle.std.specs.Prelude.{◌≡◌};
-ghost use Rattle.pv_check.specs.Answers.{refusal_of};
+ghost use Rattle.pv_check.specs.Answers.{read_refusal_of, refusal_of};
 ghost use Rattle.pv_check.specs.declared.errors.ListError.TheVariants.{NoMemory as no_memory};
-ghost use Rattle.pv_check.specs.declared.errors.TextError.TheVariants.{Document as unread};
 
 use pv_chars::NoMemory;
+use pv_lists::ReadError;
 use pv_read::DocError;
 use std::alloc::{AllocError, AllocFailed};
 use thiserror::Error;
@@ -67,10 +67,13 @@ impl From<ListError> for TextError {
     }
 }
 
-impl From<DocError> for TextError {
-    ghost from_gives = { λ cause e. e ≡ unread cause };
+impl From<ReadError<ListError>> for TextError {
+    ghost from_gives = { λ cause e. e ≡ read_refusal_of cause };
 
-    fn from(cause: DocError) -> TextError {
-        TextError::Document(cause)
+    fn from(cause: ReadError<ListError>) -> TextError {
+        match cause {
+            ReadError::Document(error) => TextError::Document(error),
+            ReadError::Judge(cause) => TextError::from(cause),
+        }
     }
 }

@@ -5,13 +5,29 @@ ghost use Rattle.std.specs.List.{AllByRecursion};
 ghost use Rattle.pv_dtd.specs.Plain.{PlainDtd};
 ghost use Rattle.pv_tree.specs.Lists.{Listed};
 ghost use Rattle.pv_tree.specs.declared.nodes.Mark.{Mark};
-ghost use Rattle.pv_valid.specs.OpenLists.{MAX_KIDS};
-ghost use Rattle.pv_check.specs.Findings.{HasFound, GrowsByOne};
+ghost use Rattle.pv_lists.specs.Judging.{MAX_KIDS};
+ghost use Rattle.pv_check.specs.Findings.{HasFound, HasNoted};
 ghost use Rattle.pv_check.specs.Judging.{IsNarrowAndLive, IsPlaced, JudgesList};
 
+use crate::errors::ListError;
 use pv_chars::NoMemory;
 use pv_tree::{Path, Verdict};
 use std::alloc::Global;
+
+// The fewest tokens of a list that is long.
+const LONG: usize = 64;
+
+// The most tokens of long lists that aren't valid which one thread judges.
+const MANY: usize = 65_536;
+
+/// What is noted of lists where an element begins behind them.
+#[derive(Clone, Copy)]
+pub struct Noted {
+    /// Whether one is too wide.
+    pub wide: bool,
+    /// Whether one is too wide or Impossible.
+    pub any: bool,
+}
 
 /// What was found of some lists.
 #[derive(Drop)]
@@ -24,23 +40,46 @@ pub struct Findings {
     pub possible: u64,
     /// How many lists they are.
     pub lists: u64,
+    /// How many tokens of long lists that aren't valid may still be judged.
+    pub left: usize,
 }
 
 impl Findings {
     /// Those of no lists.
     pub fn none() -> Findings
-        ensures finds { (g : PlainDtd) (root : List ℕ) → HasFound g root [] result }
-        ensures lists { result.lists ≡ 0 }
-        ensures possible { result.possible ≡ 0 }
-        ensures wide { result.wide ≡ None }
-        ensures first { result.first ≡ None }
+        ensures { (g : PlainDtd) (root : List ℕ) → HasFound g root [] result }
     {
         Findings {
             wide: None,
             first: None,
             possible: 0,
             lists: 0,
+            left: MANY,
         }
+    }
+
+    /// What is noted of these lists.
+    pub fn noted(&self) -> Noted
+        ensures { (g : PlainDtd) (root : List ℕ) (lists : List (Listed Mark)) →
+            HasFound g root lists self.now → HasNoted g root lists result }
+    {
+        Noted {
+            wide: self.wide.is_some(),
+            any: self.first.is_some(),
+        }
+    }
+
+    /// Takes so many tokens of a list, where it is long and isn't valid, as it was judged, from
+    /// those that may still be judged.
+    pub fn spend(&mut self, tokens: usize, judged: Option<Verdict>) -> Result<(), ListError>
+        ensures { (g : PlainDtd) (root : List ℕ) (lists : List (Listed Mark)) →
+            HasFound g root lists self.old → HasFound g root lists self.new }
+    {
+        if tokens < LONG || matches!(judged, Some(Verdict::Valid)) {
+            return Ok(());
+        }
+        self.left = self.left.checked_sub(tokens).ok_or(ListError::LongLists)?;
+        Ok(())
     }
 
     /// One more list, which stands among these, before none of them that is too wide or Impossible:
@@ -54,12 +93,11 @@ impl Findings {
     ) -> Result<(), NoMemory>
         requires few_lists { self.old.lists < MAX_KIDS }
         requires few_possible { self.old.possible < MAX_KIDS }
-        ensures finds { (g : PlainDtd) (root : List ℕ) (before after : List (Listed Mark))
+        ensures { (g : PlainDtd) (root : List ℕ) (before after : List (Listed Mark))
             (list : Listed Mark) → HasFound g root (before ++ after) self.old →
             AllByRecursion (IsNarrowAndLive g root) before → JudgesList g root list judged →
             IsPlaced judged list.path places.now →
             OnOk result (HasFound g root (before ++ list ∷ after) self.new) }
-        ensures grows { OnOk result (GrowsByOne self.old self.new) }
     {
         match judged {
             None => {
@@ -81,13 +119,12 @@ impl Findings {
     ) -> Result<(), NoMemory>
         requires few_lists { self.old.lists < MAX_KIDS }
         requires few_possible { self.old.possible < MAX_KIDS }
-        ensures finds { (g : PlainDtd) (root : List ℕ) (before after : List (Listed Mark))
+        ensures { (g : PlainDtd) (root : List ℕ) (before after : List (Listed Mark))
             (list : Listed Mark) → HasFound g root (before ++ after) self.old →
             AllByRecursion (IsNarrowAndLive g root) before →
             JudgesList g root list (Some verdict) →
             IsPlaced (Some verdict) list.path places.now →
             OnOk result (HasFound g root (before ++ list ∷ after) self.new) }
-        ensures grows { OnOk result (GrowsByOne self.old self.new) }
     {
         match verdict {
             Verdict::Impossible => {

@@ -1,20 +1,17 @@
 //! The verdicts of a document, found while its text is read, without a tree.
 //!
 //! `check_text` answers what `check_doc` of `pv_fresh` answers of the document that `read_doc` of
-//! `pv_read` reads from the bytes, and refuses what `read_doc` refuses, with its numbers. Of each
-//! open element the word of its list so far is kept (`IsOpen`, specs/OpenLists.antt); an element's
-//! list is judged where the element ends, by its word alone, and beside is kept what was found of
-//! the lists that are whole (`HasFound`, specs/Findings.antt). Where long lists would take tables,
-//! so that several threads are worth it, the call says so in place of an answer.
+//! `pv_read` reads from the bytes, and refuses what `read_doc` refuses, with its numbers. The lists
+//! are those that `pv_lists` reads; each is judged where its element ends, by its word alone, and
+//! beside is kept what was found of the lists that are whole (`HasFound`, specs/Findings.antt).
+//! Where long lists would take tables, so that several threads are worth it, the call says so in
+//! place of an answer.
 #![tactic(auto)]
 
 mod checking;
-mod content;
 mod errors;
 mod findings;
-mod items;
-mod open;
-mod types;
+mod judging;
 mod words;
 
 pub use checking::{Told, check_text};

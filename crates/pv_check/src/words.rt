@@ -1,6 +1,6 @@
 //! Lists judged by their words.
 
-ghost use Rattle.std.specs.Prelude.{◌≡◌, ◌<◌, IfOk, map};
+ghost use Rattle.std.specs.Prelude.{◌≡◌, IfOk, map};
 ghost use Rattle.std.specs.Option.{option_map};
 ghost use Rattle.pv_model.specs.PlainForms.{plain_token};
 ghost use Rattle.pv_productive.specs.PlainForms.{dtd_of};
@@ -10,11 +10,8 @@ ghost use Rattle.pv_check.specs.Judging.{JudgesWord, site_of_token};
 use pv_chars::NoMemory;
 use pv_missing::Of;
 use pv_model::Token;
-use pv_reach::{Judge, ReachError, word_verdict};
-use pv_steps::Steps;
+use pv_reach::{Judge, ReachError};
 use pv_tree::Verdict;
-use std::marker::Brand;
-use std::sync::ledger::{Blank, Ledger};
 
 /// Whose list that of an element is which has this token in the list that it stands in.
 pub fn owner_of(token: Token) -> Option<Of>
@@ -24,28 +21,6 @@ pub fn owner_of(token: Token) -> Option<Of>
         Token::Name(id) => Some(Of::Elem(id)),
         Token::Text => None,
         Token::Other => None,
-    }
-}
-
-// The verdict of a list, found on a counter of its own.
-fn verdict_on<L: Ledger>(
-    judge: &Judge<'_>,
-    owner: Option<Of>,
-    word: &[Token],
-    is_bare: bool,
-    blank: Blank,
-) -> Result<Option<Verdict>, NoMemory>
-    requires name { blank.name ≡ L.name }
-    requires parts { blank.parts ≡ L.parts }
-    requires some { 0 < L.parts }
-    ensures { IfOk result (JudgesWord (dtd_of judge.now) (option_map plain_of owner)
-        (map plain_token word.now) is_bare) }
-{
-    let mut steps = Steps::<L>::start(blank);
-    match word_verdict(judge, owner, word, is_bare, &mut steps) {
-        Ok(verdict) => Ok(Some(verdict)),
-        Err(ReachError::TooWide) => Ok(None),
-        Err(ReachError::NoMemory) => Err(NoMemory),
     }
 }
 
@@ -60,5 +35,9 @@ pub fn judge_word(
     ensures { IfOk result (JudgesWord (dtd_of judge.now) (option_map plain_of owner)
         (map plain_token word.now) is_bare) }
 {
-    verdict_on::<Brand>(judge, owner, word, is_bare, Blank::new(1))
+    match pv_reach::judge_word(judge, owner, word, is_bare) {
+        Ok(verdict) => Ok(Some(verdict)),
+        Err(ReachError::TooWide) => Ok(None),
+        Err(ReachError::NoMemory) => Err(NoMemory),
+    }
 }

@@ -1,12 +1,11 @@
 -- A session that was begun answers its whole script.
-use Rattle.std.proofs.Common.{◌≡◌, ◌⊎◌, inl, inr, ℕ, Bool, true, false, List, [], ◌∷◌, ◌++◌, Option}
-use Rattle.std.proofs.Common.{Some, None, ap, refl, sym, ◌∙◌, subst}
+use Rattle.std.proofs.Common.{◌≡◌, ◌⊎◌, inl, inr, ℕ, Bool, true, false, List, [], ◌∷◌, ◌++◌, Option, Some, None, ap, refl, sym, ◌∙◌, subst}
 use Rattle.std.proofs.lemmas.List.{append-nil}
 use Rattle.std.specs.Io.KnownBytes.{Appends, Consumes, IsAtEnd}
 use Rattle.pv_dtd.specs.Laws.{MeansDtd}
 use Rattle.pv_dtd.specs.Plain.{PlainDtd}
 use Rattle.pv_io.specs.Files.{file_named}
-use Rattle.pv_script.specs.Lines.{lines_of}
+use Rattle.pv_words.specs.Lines.{lines_of}
 use Rattle.pv_session.specs.Sessions.{PlainSession, session_on}
 use Rattle.pv_tree.specs.Marks.{unmarked_doc}
 use Rattle.pv_tree.specs.Plain.{PlainDoc}
@@ -23,17 +22,13 @@ use Rattle.pv_stages.specs.Showing.{ReadsAll, TakesInput}
 use Rattle.pv_cli.specs.Program.{Runs}
 use Rattle.pv_stages.specs.Response.{PlainResponse}
 use Rattle.pv_conversation.specs.Script.{IsWithin}
-use Rattle.pv_conversation.specs.Session.{Converses, EndsSession, IsSessionCourse, Place, Replies}
-use Rattle.pv_conversation.specs.Session.{at_quit, ended_over, finished, guarding_stage}
-use Rattle.pv_conversation.specs.Session.{input_failed, output_failed, past_line, past_script}
-use Rattle.pv_conversation.specs.Session.{quitted, without_room}
+use Rattle.pv_conversation.specs.Session.{Converses, EndsSession, IsSessionCourse, Place, Replies, at_quit, ended_over, finished, guarding_stage, input_failed, output_failed, past_line, past_script, quitted, without_room}
 use Rattle.pv_stages.specs.declared.status.Status.{Status}
 use Rattle.pv_stages.specs.declared.status.Status.TheVariants.{Done}
 use Rattle.pv_cli.specs.declared.verb.Verb.TheVariants.{Session}
 use Rattle.pv_conversation.proofs.Beginnings.{session_begins}
 use Rattle.pv_conversation.proofs.GoingOn.{more_changes_nothing}
-use Rattle.pv_stages.proofs.OneOpening.{AreSameOpened, GoesWith, ReadsOne, ReadsOneDtd}
-use Rattle.pv_stages.proofs.OneOpening.{opening_sure, went_on}
+use Rattle.pv_stages.proofs.OneOpening.{AreSameOpened, GoesWith, ReadsOne, ReadsOneDtd, opening_sure, went_on}
 use Rattle.pv_conversation.proofs.OneSession.{guarding_sure, quit_on, within_or_past}
 
 -- the replies to a whole script, and that they are the response

@@ -3,13 +3,12 @@ use Rattle.std.specs.Prelude.{◌≤◌, ◌&&◌, nat_le, option_and_then, opti
 use Rattle.std.specs.Prelude.{codes, if◌then◌else◌, Option, Some, None}
 use Rattle.std.specs.Str.{bytes_eq}
 use Rattle.pv_chars.specs.Names.{IsName, is_name}
-use Rattle.pv_script.specs.Reading.{number_spelled}
+use Rattle.pv_words.specs.Numbers.{number_spelled}
 use Rattle.pv_cli.specs.declared.checker.Checker.{Checker}
 use Rattle.pv_cli.specs.declared.checker.Checker.TheVariants.{Deny, Verify}
 use Rattle.pv_cli.specs.declared.command_line.CommandLine.{CommandLine}
 use Rattle.pv_cli.specs.declared.command_line.CommandLine.TheVariants.{Drill, OnCertificate}
-use Rattle.pv_cli.specs.declared.command_line.CommandLine.TheVariants.{OnDocument, OnDtd}
-use Rattle.pv_cli.specs.declared.command_line.CommandLine.TheVariants.{OnRanges}
+use Rattle.pv_cli.specs.declared.command_line.CommandLine.TheVariants.{OnDocument, OnDtd, OnRanges}
 use Rattle.pv_cli.specs.declared.verb.Verb.{Verb}
 use Rattle.pv_cli.specs.declared.verb.Verb.TheVariants.{Valid, Check, Session, Complete, Why}
 

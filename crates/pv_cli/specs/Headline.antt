@@ -10,7 +10,7 @@ use Rattle.pv_io.specs.Files.{file_named}
 use Rattle.pv_params.specs.Meaning.{Expands, expanded}
 use Rattle.pv_read.specs.Grammar.{IsDocumentText}
 use Rattle.pv_read.specs.Meaning.{MAX_DOC_BYTES}
-use Rattle.pv_script.specs.Lines.{lines_of}
+use Rattle.pv_words.specs.Lines.{lines_of}
 use Rattle.pv_session.specs.Sessions.{PlainSession, session_on}
 use Rattle.pv_tree.specs.Marks.{unmarked_doc}
 use Rattle.pv_tree.specs.Plain.{PlainDoc}

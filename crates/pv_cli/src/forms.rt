@@ -2,7 +2,7 @@
 
 ghost use Rattle.std.specs.Prelude.{◌≡◌, ℕ, Some, Contains, true};
 ghost use Rattle.pv_cli.specs.CommandLine.{on_certificate, on_document};
-ghost use Rattle.pv_stages.specs.Devices.{devices, input_at, output_at, shelf_at};
+ghost use Rattle.pv_stages.specs.Devices.{devices, input_at, output_at};
 ghost use Rattle.pv_cli.specs.Program.{Runs};
 ghost use Rattle.pv_cli.specs.Returns.{DoesRest, FindsResponse};
 ghost use Rattle.pv_stages.specs.Returns.{plain_fetched};
@@ -36,11 +36,10 @@ pub fn run_on_certificate<H: Shelf>(
     requires file_named { Contains (H.names shelf.old) file.now }
     ensures finds { (checked : ℕ) → FindsResponse (Some (on_certificate checker
         named.now.dtd.now named.now.root.now named.now.doc.now file.now))
-        (shelf_at (H.files shelf.old) (H.calls shelf.old) (H.faults shelf.old))
-        (shelf_at (H.files shelf.new) (H.calls shelf.new) (H.faults shelf.new))
+        (H.moment shelf.old) (H.moment shelf.new)
         checked checked result }
     ensures names { H.names shelf.new ≡ H.names shelf.old }
-    ensures files { H.files shelf.new ≡ H.files shelf.old }
+    ensures files { (H.moment shelf.new).files ≡ (H.moment shelf.old).files }
 {
     match checker {
         Checker::Verify => verify(alloc, shelf, named, file),
@@ -91,14 +90,14 @@ pub fn run_on_document<H: Shelf, S: Source, K: Sink, L: Ledger>(
     requires doc_named { Contains (H.names shelf.old) named.now.doc.now }
     ensures runs { Runs (Some (on_document verb named.now.dtd.now named.now.root.now
         named.now.doc.now))
-        (devices (shelf_at (H.files shelf.old) (H.calls shelf.old) (H.faults shelf.old))
+        (devices (H.moment shelf.old)
         (input_at input.old (S.left input.old) (S.calls input.old) (S.faults input.old))
         (output_at (K.written out.old) (K.faults out.old)) steps.old)
-        (devices (shelf_at (H.files shelf.new) (H.calls shelf.new) (H.faults shelf.new))
+        (devices (H.moment shelf.new)
         (input_at input.new (S.left input.new) (S.calls input.new) (S.faults input.new))
         (output_at (K.written out.new) (K.faults out.new)) steps.new) result }
     ensures names { H.names shelf.new ≡ H.names shelf.old }
-    ensures files { H.files shelf.new ≡ H.files shelf.old }
+    ensures files { (H.moment shelf.new).files ≡ (H.moment shelf.old).files }
 {
     match fetch_files(alloc, shelf, named) {
         Ok(fetched) => do_rest(rt, alloc, verb, fetched, named.root, input, out, steps),

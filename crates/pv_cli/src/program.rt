@@ -3,7 +3,7 @@
 ghost use Rattle.std.specs.Prelude.{◌≡◌, [], codes, true};
 ghost use Rattle.pv_cli.specs.CommandLine.{command_line_of, files_named};
 ghost use Rattle.pv_cli.specs.Headline.{GuardsSession};
-ghost use Rattle.pv_stages.specs.Devices.{devices, input_at, output_at, shelf_at};
+ghost use Rattle.pv_stages.specs.Devices.{devices, input_at, output_at};
 ghost use Rattle.pv_cli.specs.Program.{Runs};
 ghost use Rattle.pv_stages.specs.Response.{with_line};
 ghost use Rattle.pv_stages.specs.Returns.{TellsBy};
@@ -43,16 +43,16 @@ fn run_words<H: Shelf, S: Source, K: Sink, L: Ledger>(
     requires ready { K.ready out.old ≡ true }
 
     ensures runs { Runs (command_line_of (byte_lists words.now))
-        (devices (shelf_at (H.files shelf.old) (H.calls shelf.old) (H.faults shelf.old))
+        (devices (H.moment shelf.old)
         (input_at input.old (S.left input.old) (S.calls input.old) (S.faults input.old))
         (output_at (K.written out.old) (K.faults out.old)) steps.old)
-        (devices (shelf_at (H.files shelf.new) (H.calls shelf.new) (H.faults shelf.new))
+        (devices (H.moment shelf.new)
         (input_at input.new (S.left input.new) (S.calls input.new) (S.faults input.new))
         (output_at (K.written out.new) (K.faults out.new)) steps.new) result }
     ensures unasked { files_named (command_line_of (byte_lists words.now)) ≡ [] →
         shelf.new ≡ shelf.old }
     ensures names { H.names shelf.new ≡ H.names shelf.old }
-    ensures files { H.files shelf.new ≡ H.files shelf.old }
+    ensures files { (H.moment shelf.new).files ≡ (H.moment shelf.old).files }
 {
     match command_line_of(words) {
         Some(CommandLine::OnDocument(verb, named)) => {
@@ -90,19 +90,19 @@ pub fn pvtag<H: Shelf, S: Source, K: Sink, L: Ledger>(
 
     // The status, the output, the causes of faults, and how often the devices are asked.
     ensures runs { Runs (command_line_of (byte_lists words.now))
-        (devices (shelf_at (H.files shelf.old) (H.calls shelf.old) (H.faults shelf.old))
+        (devices (H.moment shelf.old)
         (input_at input.old (S.left input.old) (S.calls input.old) (S.faults input.old))
         (output_at (K.written out.old) (K.faults out.old)) steps.old)
-        (devices (shelf_at (H.files shelf.new) (H.calls shelf.new) (H.faults shelf.new))
+        (devices (H.moment shelf.new)
         (input_at input.new (S.left input.new) (S.calls input.new) (S.faults input.new))
         (output_at (K.written out.new) (K.faults out.new)) steps.new) result }
 
     // The guarded session, in one statement.
     ensures guarded { GuardsSession (command_line_of (byte_lists words.now))
-        (devices (shelf_at (H.files shelf.old) (H.calls shelf.old) (H.faults shelf.old))
+        (devices (H.moment shelf.old)
         (input_at input.old (S.left input.old) (S.calls input.old) (S.faults input.old))
         (output_at (K.written out.old) (K.faults out.old)) steps.old)
-        (devices (shelf_at (H.files shelf.new) (H.calls shelf.new) (H.faults shelf.new))
+        (devices (H.moment shelf.new)
         (input_at input.new (S.left input.new) (S.calls input.new) (S.faults input.new))
         (output_at (K.written out.new) (K.faults out.new)) steps.new) result }
 
@@ -110,7 +110,7 @@ pub fn pvtag<H: Shelf, S: Source, K: Sink, L: Ledger>(
     ensures unasked { files_named (command_line_of (byte_lists words.now)) ≡ [] →
         shelf.new ≡ shelf.old }
     ensures names { H.names shelf.new ≡ H.names shelf.old }
-    ensures files { H.files shelf.new ≡ H.files shelf.old }
+    ensures files { (H.moment shelf.new).files ≡ (H.moment shelf.old).files }
 {
     guarded_session_law::<S>();
     run_words(rt, alloc, words, shelf, input, out, steps)

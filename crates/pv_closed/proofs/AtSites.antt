@@ -59,7 +59,7 @@ module _ (cases : ListedOrNot) (g : PlainDtd) (w : List PlainToken) (es : List E
       λ h. one_from cases g w es are C (part_site (first_part g x)) 0 (λ i j span. h i j 0 (over (part_site (first_part g x)) i j ∷ []) (children_part x i j p span e)),
     )
 
-    -- each of these has the content behind it
+    -- each of these has the content after it
     abbrev pub TakesBefore : PlainSite → Type 0
     TakesBefore s = WeighsAsTwo es C s C true false
 
@@ -115,7 +115,7 @@ module _ (cases : ListedOrNot) (g : PlainDtd) (w : List PlainToken) (es : List E
     abbrev I : PlainSite
     I = part_site (suc q)
 
-    -- the part behind, by a number
+    -- the part after, by a number
     module _ (n : ℕ) (is : n ≡ suc q) where
       pub one_inner : WeighsAsOne es P (part_site n) 0 → WeighsAsOne es P I 0
       one_inner h = subst (λ k. WeighsAsOne es P (part_site k) 0) is h

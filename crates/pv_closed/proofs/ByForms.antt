@@ -71,7 +71,7 @@ module _ (cases : ListedOrNot) (g : PlainDtd) (w : List PlainToken) (es : List E
           by_case (inl (has, span)) (inr v) = let l = light (over s i j) in omega arith
           by_case (inr v) m = let l = light (over s i j) in omega arith
 
-  -- ---- behind a text
+  -- ---- after a text
   module _ (x : ℕ) where
     pub text_to : WeighsAsBehindText es w x → (i j c : ℕ) (xs : List Goal) → slice_get w i ≡ Some text → c ≡ 0 → xs ≡ over (content_site x) (suc i) j ∷ [] → Led (content_site x) i j c xs
     text_to h i j c xs at z n = let v = h i j at in rw (z, n) (omega arith)

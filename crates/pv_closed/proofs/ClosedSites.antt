@@ -17,7 +17,7 @@ use Rattle.pv_closed.specs.ClosedForms.{WeighsAsBehindText, WeighsAsOne, WeighsA
 use Rattle.pv_closed.specs.Lookup.{AreAscendingEntries, AreLike, IsLike}
 use Rattle.pv_closed.proofs.EntryOrder.{absent_value, own_value}
 
--- the entry that stands for what is behind the end of a list
+-- the entry that stands for what is after the end of a list
 abbrev pub no_entry : Entry
 no_entry = record { site = site.Name (record { 0 = 0 }); from = 0; to = 0; value = 0 }
 
@@ -104,7 +104,7 @@ module _ (cases : ListedOrNot) (es : List Entry) (o : AreAscendingEntries es) wh
     pub one_within : WeighsAsOne es left (plain_site probe.site) cost → (e : Entry) → Contains found e → IsWithin e
     one_within h e m = let l = a.like e m in let v = like_value true probe e l.0 l.1 in let x = h e.from e.to in omega arith
 
-  -- ---- a second site behind an entry, by the entries of the first site
+  -- ---- a second site after an entry, by the entries of the first site
   module _ (ls : List Entry) (lo : AreAscendingEntries ls) (left : PlainSite) (one : Entry) (inner : Bool) (probe : Entry) (from : probe.from ≡ one.to) (found : List Entry) (a : AreLike es false probe found) where
     abbrev pub IsWithinBoth : Entry → Type 0
     IsWithinBoth e = (inner ≡ true → one.to < e.to) → listed_value ls (over left one.from e.to) ≤ one.value + e.value
@@ -156,7 +156,7 @@ module _ (cases : ListedOrNot) (es : List Entry) (o : AreAscendingEntries es) wh
         let v = like_value true probe e l.0 l.1 in
         subst (λ n. listed_value es (over left e.from j) ≤ min heaviest (n + listed_value es (over second e.to j))) v (h e.from e.to j more behind)
 
-  -- ---- content behind a text
+  -- ---- content after a text
   module _ (w : List PlainToken) (x : ℕ) (probe : Entry) (site : plain_site probe.site ≡ content_site x) (found : List Entry) (a : AreLike es true probe found) where
     abbrev pub IsWithinText : Entry → Type 0
     IsWithinText e = (i : ℕ) → suc i ≡ e.from → slice_get w i ≡ Some text → listed_value es (over (content_site x) i e.to) ≤ e.value
@@ -179,7 +179,7 @@ module _ (cases : ListedOrNot) (es : List Entry) (o : AreAscendingEntries es) wh
         let z : listed_value es (over (content_site x) (suc i) e.to) ≡ e.value = subst (λ k. listed_value es (over (content_site x) k e.to) ≡ e.value) (sym f) v in
         let b = h i e.to at in omega arith
 
--- what is behind an entry is so by the entries of the two sites, where these give the values that all give
+-- what is after an entry is so by the entries of the two sites, where these give the values that all give
 pub behind_as : (ls ss es : List Entry) (left second : PlainSite) → ((i j : ℕ) → listed_value ls (over left i j) ≡ listed_value es (over left i j)) →
     ((i j : ℕ) → listed_value ss (over second i j) ≡ listed_value es (over second i j)) → (i k v : ℕ) (inner : Bool) →
     WeighsBehind ls ss left i k v second inner ↔ WeighsBehind es es left i k v second inner

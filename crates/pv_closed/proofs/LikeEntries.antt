@@ -90,7 +90,7 @@ pub record IsRun (es : List Entry) (anywhere : Bool) (probe : Entry) (start end 
   pub within : end ≤ length es
   pub like : (k : ℕ) (e : Entry) → start ≤ k → k < end → slice_get es k ≡ Some e → IsLike anywhere probe e
 
--- what stands between the first place that the probe isn't behind and an entry that is like it is like it
+-- what stands between the first place that the probe isn't after and an entry that is like it is like it
 pub run_up_to : SitesAreTold → (es : List Entry) (anywhere : Bool) (probe e : Entry) (start end m : ℕ) → AllPairs Precedes es → IsLeastProbe anywhere probe →
     ((k : ℕ) (d : Entry) → start ≤ k → slice_get es k ≡ Some d → Precedes d probe → ⊥) →
     IsRun es anywhere probe start end → end ≤ m → slice_get es m ≡ Some e → IsLike anywhere probe e → IsRun es anywhere probe start (m + 1)

@@ -38,7 +38,7 @@ module _ (cases : ListedOrNot) (es : List Entry) (most : ℕ) (o : AreOverPlaces
           inl ((let x = p.0 in omega arith), (let x = p.1 in omega arith))
       by_case (inr (v, none)) = inr v
 
-  -- a site behind an entry weighs no less exactly where no sum of two values is less
+  -- a site after an entry weighs no less exactly where no sum of two values is less
   module _ (l s : PlainSite) (from to v : ℕ) (inner : Bool) (ls ss : List ℕ) (lv : AreValuesFrom es l most from ls) (sv : AreValuesFrom es s most to ss) (rise : from ≤ to) (n : ℕ) (is : n ≡ (if inner then 1 else 0)) where
     abbrev start : ℕ
     start = (to - from) + n

@@ -16,21 +16,21 @@ abbrev pub WeighsAsOne : List Entry → PlainSite → PlainSite → ℕ → Type
 WeighsAsOne es left right cost = (i j : ℕ) →
     listed_value es (over left i j) ≤ min heaviest (cost + listed_value es (over right i j))
 
--- a site from here on weighs no more than this and a second one behind that, by the entries of the
+-- a site from here on weighs no more than this and a second one after that, by the entries of the
 -- one and of the other; the second may have to take some token
 abbrev pub WeighsBehind : List Entry → List Entry → PlainSite → ℕ → ℕ → ℕ → PlainSite → Bool →
     Type 0
 WeighsBehind ls es left i k value second inner = (j : ℕ) → (inner ≡ true → k < j) →
     listed_value ls (over left i j) ≤ min heaviest (value + listed_value es (over second k j))
 
--- a site weighs no more than a first and a second one behind it, each of which may have to take
+-- a site weighs no more than a first and a second one after it, each of which may have to take
 -- some token
 abbrev pub WeighsAsTwo : List Entry → PlainSite → PlainSite → PlainSite → Bool → Bool → Type 0
 WeighsAsTwo es left first second outer inner = (i k j : ℕ) → (outer ≡ true → i < k) →
     (inner ≡ true → k < j) → listed_value es (over left i j) ≤
     min heaviest (listed_value es (over first i k) + listed_value es (over second k j))
 
--- content from a text on weighs no more than the content behind the text
+-- content from a text on weighs no more than the content after the text
 abbrev pub WeighsAsBehindText : List Entry → List PlainToken → ℕ → Type 0
 WeighsAsBehindText es w x = (i j : ℕ) → slice_get w i ≡ Some text →
     listed_value es (over (content_site x) i j) ≤

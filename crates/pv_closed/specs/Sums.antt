@@ -1,11 +1,11 @@
--- Sums of a first site and a second one behind it, by the entries of the first.
+-- Sums of a first site and a second one after it, by the entries of the first.
 use Rattle.std.specs.Prelude.{List, get_or, length, true, ℕ, ◌<◌, ◌≡◌}
 use Rattle.pv_rules.specs.PlainForms.{plain_site}
 use Rattle.pv_tables.specs.declared.tables.Entry.{Entry}
 use Rattle.pv_closed.specs.ClosedForms.{WeighsBehind}
 use Rattle.pv_closed.specs.declared.sums.Pair.{Pair}
 
--- the left site weighs no more than this entry of a first one and the second site behind it
+-- the left site weighs no more than this entry of a first one and the second site after it
 abbrev pub IsNoLess : List Entry → Pair → Entry → Type 0
 IsNoLess es p e = (p.outer ≡ true → e.from < e.to) →
     WeighsBehind es es (plain_site p.left) e.from e.to e.value (plain_site p.second) p.inner

@@ -62,7 +62,7 @@ pub fn one_holds(entries: &[Entry], left: Site, right: Site, cost: u32) -> bool
     true
 }
 
-/// Whether a site weighs no more than a first one and a second one behind it; the first has to take
+/// Whether a site weighs no more than a first one and a second one after it; the first has to take
 /// a token where `outer` says so, and the second where `inner` does.
 pub fn two_holds(
     tested: &Tested<'_>,
@@ -87,7 +87,7 @@ pub fn two_holds(
 }
 
 /// Whether a site weighs no more than each of some members, which have to take a token, and itself
-/// behind it; these are entries of the members, as few as tell it.
+/// after it; these are entries of the members, as few as tell it.
 pub fn members_hold(tested: &Tested<'_>, left: Site, low: Site, high: Site, found: &[Entry]) -> bool
     requires sound { CanBeTested tested.now }
     requires members { AreMembers tested.now.entries.now (plain_site low) (plain_site high)

@@ -203,7 +203,7 @@ pub fn row_of<'a>(entries: &'a [Entry], site: Site, from: u32) -> &'a [Entry]
 }
 
 /// Where the entry that ends at a place stands among those of a site that begin at one, if each of
-/// these ends one token behind the one before it.
+/// these ends one token after the one before it.
 pub fn place_of(row: &[Entry], to: u32) -> usize {
     let Some(first) = row.first() else {
         return 0;

@@ -1,4 +1,4 @@
-//! Whether a site weighs no more than entries of a first site and a second site behind each.
+//! Whether a site weighs no more than entries of a first site and a second site after each.
 
 ghost use Rattle.std.specs.Prelude.{◌≡◌, ◌<◌, ◌≤◌, ◌+◌, ◌-◌, ◌↔◌, IfSome, IsTrue, get_or, true};
 ghost use Rattle.std.specs.Prelude.{List, length, ℕ, if◌then◌else◌};
@@ -34,7 +34,7 @@ pub struct Pair {
 }
 
 // Whether a site, whose entries from a place on these are, weighs no more than two entries say of
-// which the second is behind the first.
+// which the second is after the first.
 fn is_within_both(row: &[Entry], left: Site, one: &Entry, inner: bool, two: &Entry) -> bool
     requires { AllPairs Precedes row.now }
     ensures { IsTrue result ↔ ((inner ≡ true → one.now.to < two.now.to) →
@@ -48,7 +48,7 @@ fn is_within_both(row: &[Entry], left: Site, one: &Entry, inner: bool, two: &Ent
     u64::from(value) <= u64::from(one.value) + u64::from(two.value)
 }
 
-// Whether a site weighs no more than an entry says and a second site behind it, by the entries of
+// Whether a site weighs no more than an entry says and a second site after it, by the entries of
 // the one and of the other.
 fn behind_holds(
     lefts: &[Entry],
@@ -93,7 +93,7 @@ fn first_holds(
     outer && one.to <= one.from || behind_holds(lefts, left, one, seconds, second, inner)
 }
 
-// Whether the site weighs no more than each entry and the second site behind it, looked up entry by
+// Whether the site weighs no more than each entry and the second site after it, looked up entry by
 // entry.
 fn listed_sums_hold(entries: &[Entry], pair: &Pair, firsts: &[Entry]) -> bool
     requires { AreAscendingEntries entries.now }
@@ -139,7 +139,7 @@ fn least_taken(inner: bool) -> usize
     if inner { 1 } else { 0 }
 }
 
-// Whether the left site weighs no more than an entry and the second site behind it, by the values
+// Whether the left site weighs no more than an entry and the second site after it, by the values
 // of the one from where the entry begins and of the other from where it ends.
 fn row_holds(one: &Entry, inner: bool, lefts: &Row, seconds: &Row) -> bool
     requires span { one.now.from ≤ one.now.to }
@@ -161,7 +161,7 @@ fn row_holds(one: &Entry, inner: bool, lefts: &Row, seconds: &Row) -> bool
     )
 }
 
-// Whether the site weighs no more than an entry and the second site behind it, by their values.
+// Whether the site weighs no more than an entry and the second site after it, by their values.
 fn laid_sum_holds(
     entries: &[Entry],
     pair: &Pair,
@@ -239,7 +239,7 @@ fn are_many(tested: &Tested<'_>, pair: &Pair, firsts: &[Entry]) -> bool
     firsts.len() as u64 > places && seconds > spans / 4
 }
 
-/// Whether the left site weighs no more than each of some entries and the second site behind it.
+/// Whether the left site weighs no more than each of some entries and the second site after it.
 ///
 /// Where most spans are listed, the values of the two sites are laid out by their places, so that
 /// a sum takes two reads and no search.

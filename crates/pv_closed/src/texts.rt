@@ -39,7 +39,7 @@ fn is_within_text(entries: &[Entry], word: &[Token], name: NameId, entry: &Entry
         || value_at(entries, Site::Content(name), before, entry.to) <= entry.value
 }
 
-/// Whether content from a text on weighs no more than the content behind the text.
+/// Whether content from a text on weighs no more than the content after the text.
 pub fn text_holds(entries: &[Entry], word: &[Token], name: NameId) -> bool
     requires { AreAscendingEntries entries.now }
     ensures { IsTrue result ↔ WeighsAsBehindText entries.now (map plain_token word.now) name.0 }

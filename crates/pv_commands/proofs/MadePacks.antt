@@ -1,6 +1,5 @@
 -- The pack of a least completion and of the tables of its document can be verified.
-use Rattle.std.proofs.Common.{List, [], arith, refl, subst, sym, ℕ, ◌+◌, ◌<◌, ◌^◌, ◌∙◌, ◌∷◌, ◌≡◌}
-use Rattle.std.proofs.Common.{◌≤◌, length}
+use Rattle.std.proofs.Common.{List, [], arith, refl, subst, sym, ℕ, ◌+◌, ◌<◌, ◌^◌, ◌∙◌, ◌∷◌, ◌≡◌, ◌≤◌, length}
 use Rattle.std.specs.List.{All, AllByRecursion, Contains}
 use Rattle.std.proofs.lemmas.List.Elements.{All-cons, All-head, All-nil, All-tail}
 use Rattle.pv_dtd.specs.Hedge.{Hedge, IsValid, elements}
@@ -29,11 +28,11 @@ use Rattle.pv_tables.specs.declared.tables.Table.{Table}
 use Rattle.pv_flat.specs.Coming.{flat_limits}
 use Rattle.pv_kept.specs.Kept.{IsBodyText}
 use Rattle.pv_closed.specs.ClosedTables.{AreClosedTables, AreNarrowTables, IsNarrowTable}
-use Rattle.pv_cache.proofs.OtherMarks.{view_as}
+use Rattle.pv_reach.proofs.OtherMarks.{view_as}
 use Rattle.pv_complete.specs.Growing.{IsBounded}
 use Rattle.pv_complete.specs.Needing.{CanWeigh}
 use Rattle.pv_complete.proofs.FewMarks.{few_marks}
-use Rattle.pv_script.specs.Edits.{AreNumbers}
+use Rattle.pv_words.specs.Numbers.{AreNumbers}
 use Rattle.pv_cert.specs.declared.packs.Pack.{Pack}
 use Rattle.pv_verify.specs.Laws.{MadeIsAccepted}
 use Rattle.pv_verify.specs.Tests.{PassesAllTests}

@@ -1,6 +1,5 @@
 -- The lines of a pack whose numbers are in range and whose entries ascend.
-use Rattle.std.proofs.Common.{List, Option, Some, None, [], append_assoc, arith, inl, inr, map}
-use Rattle.std.proofs.Common.{subst, suc, sym, zero, ℕ, ◌*◌, ◌+◌, ◌++◌, ◌/◌, ◌<◌, ◌∷◌, ◌≤◌, length}
+use Rattle.std.proofs.Common.{List, Option, Some, None, [], append_assoc, arith, inl, inr, map, subst, suc, sym, zero, ℕ, ◌*◌, ◌+◌, ◌++◌, ◌/◌, ◌<◌, ◌∷◌, ◌≤◌, length}
 use Rattle.std.specs.List.{All, AllByRecursion, AllPairs, Contains}
 use Rattle.std.specs.Prelude.{IsSome, option_and_then, option_map, slice_get}
 use Rattle.std.proofs.Math.Nat.{mul-le-mul}
@@ -14,19 +13,16 @@ use Rattle.pv_rules.specs.PlainForms.{plain_site}
 use Rattle.pv_rules.specs.Sites.{HasSite, PlainSite, content_site, name_site, part_site, rest_site}
 use Rattle.pv_rules.proofs.Facts.{parts_by_number}
 use Rattle.pv_tree.specs.Lists.{Listed, lists_at, lists_from, lists_of}
-use Rattle.pv_tree.specs.Plain.{Forest, PlainDoc, Tree, cdata_node, element, misc_node, no_trees}
-use Rattle.pv_tree.specs.Plain.{nodes_in, nodes_in_all, text_node, tree}
+use Rattle.pv_tree.specs.Plain.{Forest, PlainDoc, Tree, cdata_node, element, misc_node, no_trees, nodes_in, nodes_in_all, text_node, tree}
 use Rattle.pv_tree.proofs.Every.{all_joined, contains_cases}
 use Rattle.pv_missing.specs.Widths.{FitsWeights, columns_of}
 use Rattle.pv_tables.specs.Tables.{Precedes, site_number}
 use Rattle.pv_tables.specs.declared.tables.Entry.{Entry}
 use Rattle.pv_tables.specs.declared.tables.Table.{Table}
 use Rattle.pv_closed.specs.ClosedEntries.{IsEntryOver}
-use Rattle.pv_closed.specs.ClosedTables.{AreClosedTables, AreNarrowTables, IsClosedTable}
-use Rattle.pv_closed.specs.ClosedTables.{IsNarrowTable}
-use Rattle.pv_script.specs.Edits.{AreNumbers, MAX_NUMBER}
-use Rattle.pv_cert.specs.Lines.{IsEntryInRange, PackLine, body_line, end_line, entry_line}
-use Rattle.pv_cert.specs.Lines.{list_line, mark_line, total_line}
+use Rattle.pv_closed.specs.ClosedTables.{AreClosedTables, AreNarrowTables, IsClosedTable, IsNarrowTable}
+use Rattle.pv_words.specs.Numbers.{AreNumbers, MAX_NUMBER}
+use Rattle.pv_cert.specs.Lines.{IsEntryInRange, PackLine, body_line, end_line, entry_line, list_line, mark_line, total_line}
 use Rattle.pv_cert.specs.Packs.{AreLines, IsMarkOrBody, MayFollow, lines_of_pack, table_lines}
 use Rattle.pv_cert.specs.declared.packs.Pack.{Pack}
 

@@ -8,7 +8,7 @@ use Rattle.pv_complete.specs.Growing.{IsGrownText}
 use Rattle.pv_complete.specs.Needing.{IsHeavy, StopsAtWide}
 use Rattle.pv_complete.specs.Tables.{HasTables, HasTooMany}
 use Rattle.pv_dtd.specs.Plain.{PlainDtd}
-use Rattle.pv_script.specs.Paths.{path_text}
+use Rattle.pv_words.specs.Paths.{path_text}
 use Rattle.pv_tree.specs.Lists.{lists_of}
 use Rattle.pv_tree.specs.Plain.{PlainDoc}
 use Rattle.pv_verify.specs.Tests.{PassesAllTests}

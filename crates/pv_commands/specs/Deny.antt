@@ -7,7 +7,7 @@ use Rattle.pv_denial.specs.declared.denials.Flaw.TheVariants as flaw
 use Rattle.pv_denial.specs.declared.denials.Judged.TheVariants as judged
 use Rattle.pv_dtd.specs.Plain.{PlainDtd}
 use Rattle.pv_missing.specs.Completing.{IsPotentiallyValid}
-use Rattle.pv_script.specs.Paths.{path_text}
+use Rattle.pv_words.specs.Paths.{path_text}
 use Rattle.pv_tree.specs.Plain.{PlainDoc}
 use Rattle.pv_tree.specs.View.{view}
 use Rattle.pv_stages.specs.declared.status.Status.TheVariants.{Done, Limit, Negative}

@@ -1,12 +1,9 @@
 -- What `standoff DTD ROOT TEXT RANGES` responds.
-use Rattle.std.specs.Prelude.{◌≡◌, ℕ, List, [], ◌∷◌, ◌++◌, length, codes, decimal}
-use Rattle.std.specs.Prelude.{Option, Ok, Err}
+use Rattle.std.specs.Prelude.{◌≡◌, ℕ, List, [], ◌∷◌, ◌++◌, length, codes, decimal, Option, Ok, Err}
 use Rattle.pv_chars.specs.Units.{TextMeans}
 use Rattle.pv_chars.specs.declared.errors.TextError.{TextError}
 use Rattle.pv_chars.specs.declared.errors.TextError.TheVariants as fault
 use Rattle.pv_dtd.specs.Plain.{PlainDtd}
-use Rattle.pv_script.specs.Replies.{reply_bytes}
-use Rattle.pv_script.specs.declared.replies.Reply.TheVariants as reply
 use Rattle.pv_standoff.specs.Lines.{RangesMean}
 use Rattle.pv_standoff.specs.Nested.{NestMeans}
 use Rattle.pv_standoff.specs.declared.errors.NestError.{NestError}
@@ -16,6 +13,7 @@ use Rattle.pv_standoff.specs.declared.errors.RangesError.TheVariants as line
 use Rattle.pv_standoff.specs.declared.ranges.Range.{Range}
 use Rattle.pv_tree.specs.Lists.{lists_of}
 use Rattle.pv_tree.specs.Plain.{PlainDoc}
+use Rattle.pv_words.specs.Words.{counted_text}
 use Rattle.pv_write.specs.Text.{doc_text}
 use Rattle.pv_tree.specs.declared.nodes.Mark.{Mark}
 use Rattle.pv_stages.specs.declared.status.Status.TheVariants.{BadDocument, BadPack, Limit}
@@ -24,7 +22,8 @@ use Rattle.pv_stages.specs.Course.{Course}
 use Rattle.pv_stages.specs.Judging.{CountsJudged, CountsNoMore}
 use Rattle.pv_stages.specs.Opening.{Files, dtd_file_stage, file_at, file_stage}
 use Rattle.pv_stages.specs.Possibility.{width_stage}
-use Rattle.pv_stages.specs.Response.{PlainResponse, numbers_text, with_line}
+use Rattle.pv_stages.specs.Response.{PlainResponse, with_line}
+use Rattle.pv_words.specs.Numbers.{numbers_text}
 use Rattle.pv_stages.specs.Stage.{Behind, Responds, Stage, beside, followed_by, without_fetch}
 
 -- the most bytes of the file of a text, and of the file of ranges
@@ -112,7 +111,7 @@ nested_stage root files = followed_by (annotation_stage files)
 -- a response with what `show` replies of a document behind it
 abbrev pub with_shown : PlainResponse → PlainDoc Mark → PlainResponse
 with_shown r doc =
-    record r { output = r.output ++ reply_bytes (reply.Show (doc_text doc)) }
+    record r { output = r.output ++ counted_text (codes "show") (doc_text doc) }
 
 -- What `check` would respond of the document, and behind its line what `show` replies of it.
 pub record TellsNested (root : List ℕ) (g : PlainDtd) (doc : PlainDoc Mark) (r : PlainResponse) :

@@ -9,7 +9,7 @@ use Rattle.pv_tree.specs.declared.nodes.Mark.{Mark}
 use Rattle.pv_stages.specs.declared.status.Status.TheVariants.{Done, Negative}
 use Rattle.pv_stages.specs.Course.{Course}
 use Rattle.pv_stages.specs.Documents.{PlainOpened}
-use Rattle.pv_script.specs.Paths.{path_text}
+use Rattle.pv_words.specs.Paths.{path_text}
 use Rattle.pv_stages.specs.Response.{PlainResponse, with_line}
 use Rattle.pv_stages.specs.Stage.{Responds}
 

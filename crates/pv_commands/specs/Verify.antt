@@ -4,11 +4,10 @@ use Rattle.pv_cert.specs.declared.packs.Pack.{Pack}
 use Rattle.pv_closed.specs.ClosedTables.{AreNarrowTables, IsFirstWideTable}
 use Rattle.pv_dtd.specs.Plain.{PlainDtd}
 use Rattle.pv_read.specs.Meaning.{DocumentMeans, is_document}
-use Rattle.pv_script.specs.Paths.{path_text}
+use Rattle.pv_words.specs.Paths.{path_text}
 use Rattle.pv_tree.specs.Lists.{lists_of}
 use Rattle.pv_tree.specs.Marks.{blank_mark}
 use Rattle.pv_tree.specs.Plain.{PlainDoc}
-use Rattle.pv_tree.specs.PlainDocs.{plain_doc}
 use Rattle.pv_tree.specs.declared.nodes.Mark.{Mark}
 use Rattle.pv_verify.specs.Laws.{IsLeastPack}
 use Rattle.pv_verify.specs.Tests.{PassesAllTests, IsRejected}
@@ -20,7 +19,6 @@ use Rattle.pv_stages.specs.Course.{Course}
 use Rattle.pv_stages.specs.Opening.{Files}
 use Rattle.pv_commands.specs.PackFiles.{pack_file_stage}
 use Rattle.pv_stages.specs.Response.{PlainResponse, with_line}
-use Rattle.pv_stages.specs.declared.opening.Opened.{Opened}
 use Rattle.pv_stages.specs.Stage.{Behind, Responds}
 
 -- the word of a test
@@ -55,11 +53,6 @@ pub record TellsOfPack (root : List ℕ) (g : PlainDtd) (bytes : List ℕ) (pack
   pub doc : PlainDoc Mark
   pub means : DocumentMeans blank_mark root bytes (is_document doc)
   pub tells : TellsAcceptance root g doc pack r
-
--- the opened bytes mean the opened document
-abbrev pub IsOpenedBy : List ℕ → Opened → Type 0
-IsOpenedBy root opened =
-    DocumentMeans blank_mark root opened.bytes.items (is_document (plain_doc opened.doc))
 
 -- behind the opened files and the pack: the width of the lists that its tables name, and the tests
 abbrev pub IsVerifyCourse : List ℕ → Files → Course → Type 0

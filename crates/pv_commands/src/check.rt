@@ -27,7 +27,9 @@ use pv_missing::Verdicts;
 use pv_productive::{Grammar, build};
 use pv_reach::{Judge, Plan};
 use pv_read::read_doc;
-use pv_stages::{Fetched, Response, Status, Stop, narrow_verdicts, refuse_document, refuse_path};
+use pv_stages::{
+    Fetched, Response, Status, Stop, narrow_verdicts_by, refuse_document, refuse_path,
+};
 use pv_steps::Steps;
 use pv_tree::Doc;
 use pv_valid::first_invalid_in;
@@ -67,20 +69,19 @@ pub(crate) fn check_line(alloc: Global, verdicts: &Verdicts) -> Result<Response,
 // Judges the lists of the document, and tells its line.
 fn tell<L: Ledger>(
     rt: &(impl Threads + Sync),
-    alloc: Global,
-    grammar: &Grammar,
+    judge: &Judge<'_>,
     doc: &Doc,
     root: &[u8],
     steps: &mut Steps<L>,
 ) -> Result<Response, Stop>
-    ensures tells { (opened : PlainOpened) → opened.dtd ≡ dtd_of grammar.now →
+    ensures tells { (opened : PlainOpened) → opened.dtd ≡ dtd_of judge.now →
         opened.doc ≡ plain_doc doc.now → TakesCourse (IsCheckCourse root.now opened) result }
-    ensures counts { CountsJudged (width_stage (dtd_of grammar.now) (plain_doc doc.now))
+    ensures counts { CountsJudged (width_stage (dtd_of judge.now) (plain_doc doc.now))
         (λ _. length (lists_of (plain_doc doc.now))) CountsNoMore (ending_of result)
         steps.old steps.new }
 {
-    let verdicts = narrow_verdicts(rt, alloc, grammar, doc, root, steps)?;
-    Ok(check_line(alloc, &verdicts)?)
+    let verdicts = narrow_verdicts_by(rt, judge, doc, root, steps)?;
+    Ok(check_line(judge.alloc(), &verdicts)?)
 }
 
 // What is told of the lists of a document, all of which are counted unless one is too wide.
@@ -106,35 +107,34 @@ fn respond_told(alloc: Global, told: Told) -> Result<Response, Stop>
     }
 }
 
-// The same of a document that is opened first, so that threads share its lists. It is never freed.
+// The same of a document that is opened first, so that threads share its lists, by the plan that is
+// there. It is never freed.
 fn check_opened<L: Ledger>(
     rt: &(impl Threads + Sync),
-    alloc: Global,
-    grammar: &Grammar,
+    judge: &Judge<'_>,
     root: &[u8],
     bytes: &[u8],
     steps: &mut Steps<L>,
 ) -> Result<Response, Stop>
     ensures finds { TakesCourse
-        (BehindDocument IsCheckCourse root.now (dtd_of grammar.now, bytes.now)) result }
-    ensures checks { CountsJudged (judging_stage root.now (dtd_of grammar.now) bytes.now)
+        (BehindDocument IsCheckCourse root.now (dtd_of judge.now, bytes.now)) result }
+    ensures checks { CountsJudged (judging_stage root.now (dtd_of judge.now) bytes.now)
         lists_judged CountsNoMore (ending_of result) steps.old steps.new }
 {
-    match read_doc(alloc, bytes, root) {
+    match read_doc(judge.alloc(), bytes, root) {
         Ok(doc) => {
-            let response = tell(rt, alloc, grammar, &doc, root, steps);
+            let response = tell(rt, judge, &doc, root, steps);
             forget(doc);
             response
         }
-        Err(error) => Err(refuse_document(alloc, error)),
+        Err(error) => Err(refuse_document(judge.alloc(), error)),
     }
 }
 
 // What is done where a text has no answer: its fault is told, or it is opened.
 fn check_again<L: Ledger>(
     rt: &(impl Threads + Sync),
-    alloc: Global,
-    grammar: &Grammar,
+    judge: &Judge<'_>,
     root: &[u8],
     bytes: &[u8],
     error: TextError,
@@ -142,13 +142,13 @@ fn check_again<L: Ledger>(
 ) -> Result<Response, Stop>
     requires { RefusesBytes (DocumentMeans blank_mark root.now bytes.now) error }
     ensures finds { TakesCourse
-        (BehindDocument IsCheckCourse root.now (dtd_of grammar.now, bytes.now)) result }
-    ensures checks { CountsJudged (judging_stage root.now (dtd_of grammar.now) bytes.now)
+        (BehindDocument IsCheckCourse root.now (dtd_of judge.now, bytes.now)) result }
+    ensures checks { CountsJudged (judging_stage root.now (dtd_of judge.now) bytes.now)
         lists_judged CountsNoMore (ending_of result) steps.old steps.new }
 {
     match error {
-        TextError::Document(fault) => Err(refuse_document(alloc, fault)),
-        TextError::LongLists => check_opened(rt, alloc, grammar, root, bytes, steps),
+        TextError::Document(fault) => Err(refuse_document(judge.alloc(), fault)),
+        TextError::LongLists => check_opened(rt, judge, root, bytes, steps),
     }
 }
 
@@ -207,6 +207,6 @@ pub fn check<L: Ledger>(
     let judge = judge_by(alloc, &grammar, &plan);
     match check_text(&judge, root, &bytes, steps) {
         Ok(told) => respond_told(alloc, told),
-        Err(error) => check_again(rt, alloc, &grammar, root, &bytes, error, steps),
+        Err(error) => check_again(rt, &judge, root, &bytes, error, steps),
     }
 }

@@ -4,7 +4,6 @@ ghost use Rattle.std.specs.Prelude.{◌≡◌, ◌∷◌, [], ℕ, Contains};
 ghost use Rattle.pv_denial.specs.declared.denials.Denial.{Denial as PlainDenial};
 ghost use Rattle.pv_commands.specs.DenialFiles.{denial_file_stage, denial_stage};
 ghost use Rattle.pv_commands.specs.Deny.{IsDenyCourse, TellsJudgement, flaw_text};
-ghost use Rattle.pv_stages.specs.Devices.{shelf_at};
 ghost use Rattle.pv_stages.specs.Opening.{IsFile};
 ghost use Rattle.pv_commands.specs.Returns.{CountsNone, FindsOver};
 ghost use Rattle.pv_stages.specs.Returns.{Returns, ReturnsOver, TellsBy};
@@ -43,10 +42,9 @@ fn denial_of(alloc: Global, bytes: &[u8]) -> Result<Denial, Stop>
 // The denial in the file of this name.
 fn open_denial<H: Shelf>(alloc: Global, shelf: &mut H, name: &str) -> Result<Denial, Stop>
     requires { Contains (H.names shelf.old) name.now }
-    ensures over { ReturnsOver (IsFile (H.files shelf.old) name.now)
+    ensures over { ReturnsOver (IsFile (H.moment shelf.old).files name.now)
         (λ (denial : PlainDenial). denial) denial_file_stage
-        (shelf_at (H.files shelf.old) (H.calls shelf.old) (H.faults shelf.old))
-        (shelf_at (H.files shelf.new) (H.calls shelf.new) (H.faults shelf.new)) result }
+        (H.moment shelf.old) (H.moment shelf.new) result }
     ensures names { H.names shelf.new ≡ H.names shelf.old }
 {
     let bytes = fetch(alloc, shelf, name, MAX_DENIAL_BYTES, b"limit table-file")?;
@@ -111,11 +109,10 @@ pub fn deny<H: Shelf>(
     ensures finds { (checked : ℕ) → FindsOver
         (named.now.dtd.now ∷ named.now.doc.now ∷ name.now ∷ [])
         (IsDenyCourse named.now.root.now) CountsNone
-        (shelf_at (H.files shelf.old) (H.calls shelf.old) (H.faults shelf.old))
-        (shelf_at (H.files shelf.new) (H.calls shelf.new) (H.faults shelf.new))
+        (H.moment shelf.old) (H.moment shelf.new)
         checked checked result }
     ensures names { H.names shelf.new ≡ H.names shelf.old }
-    ensures files { H.files shelf.new ≡ H.files shelf.old }
+    ensures files { (H.moment shelf.new).files ≡ (H.moment shelf.old).files }
 {
     let Opened { dtd, doc, .. } = open_files(alloc, shelf, named)?;
     let denial = open_denial(alloc, shelf, name)?;

@@ -5,7 +5,6 @@ ghost use Rattle.std.specs.Prelude.{List, ℕ, ◌∷◌, [], Contains};
 ghost use Rattle.pv_commands.specs.Dtd.{AreNameLines, IsDtdCourse, IsNameLine, IsTreeText};
 ghost use Rattle.pv_commands.specs.Dtd.{TellsDtd, model_text, totals};
 ghost use Rattle.pv_commands.specs.Returns.{CountsNone, FindsOver};
-ghost use Rattle.pv_stages.specs.Devices.{shelf_at};
 ghost use Rattle.pv_stages.specs.Returns.{TellsBy};
 ghost use Rattle.pv_dtd.specs.Plain.{declared, model_of};
 ghost use Rattle.pv_dtd.specs.PlainForms.{plain_dtd};
@@ -18,8 +17,8 @@ use pv_io::Shelf;
 use pv_model::{ContentModel, NameId};
 use pv_productive::{Grammar, build};
 use pv_rules::HEAVIEST;
-use pv_script::push_number;
 use pv_stages::{Response, Status, Stop, open_dtd};
+use pv_words::push_number;
 use std::alloc::{AllocError, Global};
 
 // The word for what a content model is.
@@ -122,11 +121,10 @@ fn listing(alloc: Global, opened: Dtd) -> Result<Response, Stop>
 pub fn dtd<H: Shelf>(alloc: Global, shelf: &mut H, name: &str) -> Result<Response, Stop>
     requires { Contains (H.names shelf.old) name.now }
     ensures finds { (checked : ℕ) → FindsOver (name.now ∷ []) IsDtdCourse CountsNone
-        (shelf_at (H.files shelf.old) (H.calls shelf.old) (H.faults shelf.old))
-        (shelf_at (H.files shelf.new) (H.calls shelf.new) (H.faults shelf.new))
+        (H.moment shelf.old) (H.moment shelf.new)
         checked checked result }
     ensures names { H.names shelf.new ≡ H.names shelf.old }
-    ensures files { H.files shelf.new ≡ H.files shelf.old }
+    ensures files { (H.moment shelf.new).files ≡ (H.moment shelf.old).files }
 {
     let opened = open_dtd(alloc, shelf, name)?;
     listing(alloc, opened)

@@ -4,7 +4,6 @@ ghost use Rattle.std.specs.Prelude.{◌≡◌, ◌≤◌, ◌∷◌, [], ℕ, Li
 ghost use Rattle.std.specs.Prelude.{length};
 ghost use Rattle.pv_chars.specs.Names.{IsName};
 ghost use Rattle.pv_chars.specs.Texts.{holds_close_mark};
-ghost use Rattle.pv_stages.specs.Devices.{shelf_at};
 ghost use Rattle.pv_stages.specs.Opening.{IsFile};
 ghost use Rattle.pv_stages.specs.Judging.{CountsJudged, CountsNoMore};
 ghost use Rattle.pv_stages.specs.Possibility.{width_stage};
@@ -28,11 +27,10 @@ ghost use Rattle.pv_tree.specs.Lists.{lists_of};
 ghost use Rattle.pv_tree.specs.PlainDocs.{plain_doc};
 
 use crate::check::check_line;
-use pv_chars::{Bytes, NoMemory, TextError, Units, text_units};
+use pv_chars::{NoMemory, TextError, Units, text_units};
 use pv_dtd::Dtd;
 use pv_io::Shelf;
 use pv_productive::{Grammar, build};
-use pv_script::{Reply, reply_text};
 use pv_stages::{
     Response, Status, Stop, fetch, narrow_verdicts, open_dtd, refuse, refuse_item, refuse_numbers,
 };
@@ -40,6 +38,7 @@ use pv_standoff::laws::text_law;
 use pv_standoff::{NestError, Ranges, RangesError, nest, read_ranges};
 use pv_steps::Steps;
 use pv_tree::Doc;
+use pv_words::push_counted;
 use pv_write::doc_bytes;
 use std::alloc::Global;
 use std::mem::forget;
@@ -92,10 +91,9 @@ fn text_of(alloc: Global, bytes: &[u8]) -> Result<Units, Stop>
 // The text in the file of this name.
 fn open_text<H: Shelf>(alloc: Global, shelf: &mut H, name: &str) -> Result<Units, Stop>
     requires { Contains (H.names shelf.old) name.now }
-    ensures over { ReturnsOver (IsFile (H.files shelf.old) name.now)
+    ensures over { ReturnsOver (IsFile (H.moment shelf.old).files name.now)
         (λ (units : List (List ℕ)). units) text_file_stage
-        (shelf_at (H.files shelf.old) (H.calls shelf.old) (H.faults shelf.old))
-        (shelf_at (H.files shelf.new) (H.calls shelf.new) (H.faults shelf.new)) result }
+        (H.moment shelf.old) (H.moment shelf.new) result }
     ensures names { H.names shelf.new ≡ H.names shelf.old }
 {
     let bytes = fetch(alloc, shelf, name, MAX_TEXT_BYTES, b"limit text-file")?;
@@ -126,10 +124,9 @@ fn ranges_of(alloc: Global, bytes: &[u8]) -> Result<Ranges, Stop>
 // The ranges in the file of this name.
 fn open_ranges<H: Shelf>(alloc: Global, shelf: &mut H, name: &str) -> Result<Ranges, Stop>
     requires { Contains (H.names shelf.old) name.now }
-    ensures over { ReturnsOver (IsFile (H.files shelf.old) name.now)
+    ensures over { ReturnsOver (IsFile (H.moment shelf.old).files name.now)
         (λ (ranges : List PlainRange). ranges) ranges_file_stage
-        (shelf_at (H.files shelf.old) (H.calls shelf.old) (H.faults shelf.old))
-        (shelf_at (H.files shelf.new) (H.calls shelf.new) (H.faults shelf.new)) result }
+        (H.moment shelf.old) (H.moment shelf.new) result }
     ensures names { H.names shelf.new ≡ H.names shelf.old }
 {
     let bytes = fetch(alloc, shelf, name, MAX_RANGES_BYTES, b"limit ranges-file")?;
@@ -182,13 +179,12 @@ fn with_document(alloc: Global, line: Response, doc: &Doc) -> Result<Response, N
         ≡ with_shown (plain_response line) (plain_doc doc.now)) }
 {
     let bytes = doc_bytes(alloc, doc)?;
-    let shown = reply_text(alloc, &Reply::Show(Bytes::of(bytes)))?;
     let Response {
         status,
         mut output,
         ..
     } = line;
-    output.extend_from_slice(&shown)?;
+    push_counted(&mut output, b"show", &bytes)?;
     Ok(Response { status, output })
 }
 
@@ -247,10 +243,9 @@ fn open_dtd_and_text<H: Shelf>(
 ) -> Result<(Dtd, Units), Stop>
     requires dtd_named { Contains (H.names shelf.old) named.now.dtd.now }
     requires text_named { Contains (H.names shelf.old) named.now.text.now }
-    ensures over { ReturnsOver (AreTwo named.now.dtd.now named.now.text.now (H.files shelf.old))
+    ensures over { ReturnsOver (AreTwo named.now.dtd.now named.now.text.now (H.moment shelf.old).files)
         plain_two two_stage
-        (shelf_at (H.files shelf.old) (H.calls shelf.old) (H.faults shelf.old))
-        (shelf_at (H.files shelf.new) (H.calls shelf.new) (H.faults shelf.new)) result }
+        (H.moment shelf.old) (H.moment shelf.new) result }
     ensures names { H.names shelf.new ≡ H.names shelf.old }
 {
     let dtd = open_dtd(alloc, shelf, named.dtd)?;
@@ -274,11 +269,10 @@ pub fn standoff<H: Shelf, L: Ledger>(
     ensures finds { FindsOver
         (named.now.dtd.now ∷ named.now.text.now ∷ named.now.ranges.now ∷ [])
         (IsStandoffCourse named.now.root.now) (CountsNested named.now.root.now)
-        (shelf_at (H.files shelf.old) (H.calls shelf.old) (H.faults shelf.old))
-        (shelf_at (H.files shelf.new) (H.calls shelf.new) (H.faults shelf.new))
+        (H.moment shelf.old) (H.moment shelf.new)
         steps.old steps.new result }
     ensures names { H.names shelf.new ≡ H.names shelf.old }
-    ensures files { H.files shelf.new ≡ H.files shelf.old }
+    ensures files { (H.moment shelf.new).files ≡ (H.moment shelf.old).files }
 {
     text_law();
     let (dtd, text) = open_dtd_and_text(alloc, shelf, named)?;

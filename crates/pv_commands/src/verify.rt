@@ -1,15 +1,12 @@
 //! The command `verify`.
 
-ghost use Rattle.std.specs.Prelude.{◌≡◌, ◌∷◌, [], List, ℕ, Contains, IfOk};
+ghost use Rattle.std.specs.Prelude.{◌≡◌, ◌∷◌, [], List, ℕ, Contains};
 ghost use Rattle.pv_cert.specs.declared.packs.Pack.{Pack as PlainPack};
-ghost use Rattle.pv_stages.specs.Devices.{shelf_at};
-ghost use Rattle.pv_stages.specs.Documents.{document_stage};
-ghost use Rattle.pv_stages.specs.Opening.{AreFiles, IsFile, opening_stage};
+ghost use Rattle.pv_stages.specs.Opening.{IsFile};
 ghost use Rattle.pv_commands.specs.PackFiles.{pack_file_stage, pack_stage};
 ghost use Rattle.pv_commands.specs.Returns.{CountsNone, FindsOver};
-ghost use Rattle.pv_stages.specs.Returns.{Returns, ReturnsOver, TellsBy, plain_fetched};
-ghost use Rattle.pv_stages.specs.Returns.{plain_opened};
-ghost use Rattle.pv_commands.specs.Verify.{IsOpenedBy, IsVerifyCourse, TellsOfPack, test_text};
+ghost use Rattle.pv_stages.specs.Returns.{Returns, ReturnsOver, TellsBy};
+ghost use Rattle.pv_commands.specs.Verify.{IsVerifyCourse, TellsOfPack, test_text};
 ghost use Rattle.pv_dtd.specs.PlainForms.{plain_dtd};
 ghost use Rattle.pv_read.specs.Meaning.{DocumentMeans, is_document};
 ghost use Rattle.pv_tree.specs.Marks.{blank_mark};
@@ -19,44 +16,13 @@ ghost use Rattle.pv_verify.specs.Reading.{IsMeant};
 use pv_cert::{MAX_PACK_BYTES, Pack, PackError, take_pack};
 use pv_dtd::Dtd;
 use pv_io::Shelf;
-use pv_read::read_doc;
 use pv_stages::{
-    Fetched, Named, Opened, Response, Status, Stop, fetch, fetch_files, refuse, refuse_document,
-    refuse_item, refuse_path,
+    Named, Opened, Response, Status, Stop, fetch, open_files, refuse, refuse_item, refuse_path,
 };
 use pv_tree::Doc;
 use pv_verify::{Answer, VerifyError, Why, verify_read};
 use std::alloc::Global;
 use std::mem::forget;
-
-// The DTD, and the document with its bytes, which mean it.
-fn read_fetched(alloc: Global, fetched: Fetched, root: &[u8]) -> Result<Opened, Stop>
-    ensures returns { Returns plain_opened (document_stage root.now (plain_fetched fetched).0
-        (plain_fetched fetched).1) 0 result }
-    ensures means { IfOk result (λ opened. IsOpenedBy root.now opened) }
-{
-    let Fetched { dtd, bytes } = fetched;
-    match read_doc(alloc, &bytes, root) {
-        Ok(doc) => Ok(Opened { dtd, bytes, doc }),
-        Err(error) => Err(refuse_document(alloc, error)),
-    }
-}
-
-// The same of the files of these names.
-fn read_files<H: Shelf>(alloc: Global, shelf: &mut H, named: &Named<'_>) -> Result<Opened, Stop>
-    requires dtd_named { Contains (H.names shelf.old) named.now.dtd.now }
-    requires doc_named { Contains (H.names shelf.old) named.now.doc.now }
-    ensures over { ReturnsOver (AreFiles (H.files shelf.old)
-        (named.now.dtd.now ∷ named.now.doc.now ∷ [])) plain_opened
-        (opening_stage named.now.root.now)
-        (shelf_at (H.files shelf.old) (H.calls shelf.old) (H.faults shelf.old))
-        (shelf_at (H.files shelf.new) (H.calls shelf.new) (H.faults shelf.new)) result }
-    ensures means { IfOk result (λ opened. IsOpenedBy named.now.root.now opened) }
-    ensures names { H.names shelf.new ≡ H.names shelf.old }
-{
-    let fetched = fetch_files(alloc, shelf, named)?;
-    read_fetched(alloc, fetched, named.root)
-}
 
 // The pack that the bytes are the text of.
 fn pack_of(alloc: Global, bytes: Vec<u8>) -> Result<Pack, Stop>
@@ -75,10 +41,9 @@ fn pack_of(alloc: Global, bytes: Vec<u8>) -> Result<Pack, Stop>
 // The pack in the file of this name.
 fn open_pack<H: Shelf>(alloc: Global, shelf: &mut H, name: &str) -> Result<Pack, Stop>
     requires { Contains (H.names shelf.old) name.now }
-    ensures over { ReturnsOver (IsFile (H.files shelf.old) name.now)
+    ensures over { ReturnsOver (IsFile (H.moment shelf.old).files name.now)
         (λ (pack : PlainPack). pack) pack_file_stage
-        (shelf_at (H.files shelf.old) (H.calls shelf.old) (H.faults shelf.old))
-        (shelf_at (H.files shelf.new) (H.calls shelf.new) (H.faults shelf.new)) result }
+        (H.moment shelf.old) (H.moment shelf.new) result }
     ensures names { H.names shelf.new ≡ H.names shelf.old }
 {
     let bytes = fetch(alloc, shelf, name, MAX_PACK_BYTES, b"limit pack-file")?;
@@ -144,13 +109,12 @@ pub fn verify<H: Shelf>(
     ensures finds { (checked : ℕ) → FindsOver
         (named.now.dtd.now ∷ named.now.doc.now ∷ name.now ∷ [])
         (IsVerifyCourse named.now.root.now) CountsNone
-        (shelf_at (H.files shelf.old) (H.calls shelf.old) (H.faults shelf.old))
-        (shelf_at (H.files shelf.new) (H.calls shelf.new) (H.faults shelf.new))
+        (H.moment shelf.old) (H.moment shelf.new)
         checked checked result }
     ensures names { H.names shelf.new ≡ H.names shelf.old }
-    ensures files { H.files shelf.new ≡ H.files shelf.old }
+    ensures files { (H.moment shelf.new).files ≡ (H.moment shelf.old).files }
 {
-    let Opened { dtd, doc, .. } = read_files(alloc, shelf, named)?;
+    let Opened { dtd, doc, .. } = open_files(alloc, shelf, named)?;
     let pack = open_pack(alloc, shelf, name)?;
     let response = tell(alloc, &dtd, named.root, &doc, &pack);
     forget(doc);

@@ -12,11 +12,10 @@ ghost use Rattle.pv_productive.specs.PlainForms.{dtd_of};
 ghost use Rattle.pv_tree.specs.Lists.{lists_of};
 ghost use Rattle.pv_tree.specs.PlainDocs.{plain_doc};
 
-use pv_cache::PlannedGrammar;
 use pv_denial_text::write_denial;
 use pv_deny::{DenyError, denial_by};
 use pv_productive::build;
-use pv_reach::Judge;
+use pv_reach::{Judge, Plan};
 use pv_stages::{
     Fetched, Opened, Response, Status, Stop, narrow_verdicts_by, open_document, refuse,
 };
@@ -49,22 +48,21 @@ fn explain(judge: &Judge<'_>, doc: &Doc, root: &[u8], path: &Path) -> Result<Res
 // Why no insertions can make the document valid, or that they can.
 fn tell<L: Ledger>(
     rt: &(impl Threads + Sync),
-    alloc: Global,
-    grammar: &PlannedGrammar,
+    judge: &Judge<'_>,
     doc: &Doc,
     root: &[u8],
     steps: &mut Steps<L>,
 ) -> Result<Response, Stop>
-    ensures tells { (opened : PlainOpened) → opened.dtd ≡ grammar.now →
+    ensures tells { (opened : PlainOpened) → opened.dtd ≡ dtd_of judge.now →
         opened.doc ≡ plain_doc doc.now → TakesCourse (IsWhyCourse root.now opened) result }
-    ensures counts { CountsJudged (width_stage grammar.now (plain_doc doc.now))
+    ensures counts { CountsJudged (width_stage (dtd_of judge.now) (plain_doc doc.now))
         (λ _. length (lists_of (plain_doc doc.now))) CountsNoMore (ending_of result)
         steps.old steps.new }
 {
-    let verdicts = narrow_verdicts_by(rt, alloc, grammar, doc, root, steps)?;
+    let verdicts = narrow_verdicts_by(rt, judge, doc, root, steps)?;
     match verdicts.first_impossible() {
-        Some(path) => explain(&grammar.judge(alloc), doc, root, path),
-        None => Ok(Response::with_line(alloc, Status::Negative, b"possible")?),
+        Some(path) => explain(judge, doc, root, path),
+        None => Ok(Response::with_line(judge.alloc(), Status::Negative, b"possible")?),
     }
 }
 
@@ -85,9 +83,10 @@ pub fn why<L: Ledger>(
         steps.old steps.new }
 {
     let Opened { dtd, doc, .. } = open_document(alloc, fetched, root)?;
-    let built = build(alloc, dtd)?;
-    let grammar = PlannedGrammar::of(alloc, built)?;
-    let response = tell(rt, alloc, &grammar, &doc, root, steps);
+    let grammar = build(alloc, dtd)?;
+    let plan = Plan::of(alloc, &grammar)?;
+    let judge = Judge::new(alloc, &grammar, &plan);
+    let response = tell(rt, &judge, &doc, root, steps);
     forget(doc);
     response
 }

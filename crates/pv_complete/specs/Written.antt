@@ -3,10 +3,10 @@ use Rattle.std.specs.Prelude.{Bool, List, Option, Some, [], false, length, suc, 
 use Rattle.std.specs.Prelude.{◌++◌, ◌<◌, ◌∷◌, ◌≡◌, ◌≢◌}
 use Rattle.std.specs.List.{AllByRecursion}
 use Rattle.std.specs.Prelude.{drop}
-use Rattle.pv_chars.specs.Texts.{has_data}
 use Rattle.pv_model.specs.Plain.{PlainToken}
 use Rattle.pv_dtd.specs.Plain.{PlainDtd}
 use Rattle.pv_rules.specs.Sites.{PlainSite}
+use Rattle.pv_tree.specs.Heads.{has_token, head_of}
 use Rattle.pv_tree.specs.Lists.{Listed, lists_at, lists_from, lists_of, the_document}
 use Rattle.pv_tree.specs.Plain.{Forest, PlainDoc, Tree, cdata_node, element, misc_node, no_trees}
 use Rattle.pv_tree.specs.Plain.{text_node, tree}
@@ -77,10 +77,7 @@ AwaitsNode (finish y ∷ ps) = ⊥
 
 -- whether the node is a token of its list's word
 abbrev pub is_token : Tree Mark → Bool
-is_token (element x attrs ending kids mark) = true
-is_token (text_node units) = has_data units
-is_token (cdata_node bytes) = true
-is_token (misc_node bytes) = false
+is_token t = has_token (head_of t)
 
 -- the node is a token, or nothing in a word
 abbrev pub HasToken : Bool → Tree Mark → Type 0

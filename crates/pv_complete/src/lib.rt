@@ -14,6 +14,7 @@
 #![tactic(auto)]
 
 mod errors;
+mod fixed;
 pub mod laws;
 mod listings;
 mod missing;
@@ -22,10 +23,7 @@ mod words;
 mod writing;
 
 pub use errors::NeedError;
-pub use listings::making::{tables, tables_by};
-pub use missing::needing::{need, need_by};
+pub use fixed::{complete, need, tables};
 pub use missing::remembering::{Remembered, need_remembering};
 pub use tabled::{TabledCompletion, complete_with_tables};
-pub use words::completing::list_pieces;
-pub use words::pieces::Piece;
-pub use writing::completion::{Completion, complete, complete_by};
+pub use writing::completion::{Completion, complete_by};

@@ -12,15 +12,13 @@ ghost use Rattle.pv_complete.specs.Tables.{HasTables, HasTablesCause};
 use crate::errors::NeedError;
 use crate::listings::making::{TabledNeed, tables_under};
 use crate::missing::known::KnownWeights;
-use crate::missing::needing::uncounted_verdicts;
+use crate::missing::needing::live_verdicts;
 use crate::writing::completion::{Completion, completion_under};
 use pv_missing::Verdicts;
 use pv_productive::Grammar;
 use pv_span::{Tables, lay_out};
 use pv_tree::Doc;
 use std::alloc::Global;
-use std::marker::Brand;
-use std::sync::ledger::Blank;
 
 /// A least completion of a document, and its tables.
 #[derive(Debug, Drop)]
@@ -94,6 +92,6 @@ pub fn complete_with_tables(
     ensures refused { IfErr result (HasTablesCause (dtd_of grammar.now)
         root.now (plain_doc doc.now)) }
 {
-    let verdicts = uncounted_verdicts::<Brand>(alloc, grammar, root, doc, Blank::new(1))?;
+    let verdicts = live_verdicts(alloc, grammar, root, doc)?;
     tabled_by(alloc, grammar, root, doc, &verdicts)
 }

@@ -4,7 +4,7 @@ use Rattle.std.proofs.Math.Logic.{∥∥₁_map}
 use Rattle.pv_cache.specs.Rows.{TellVerdicts}
 use Rattle.pv_cache.specs.Stamps.{doc_as, stamp_of, stamps_of}
 use Rattle.pv_cache.proofs.Alike.{unmarked_as}
-use Rattle.pv_cache.proofs.OtherMarks.{view_as}
+use Rattle.pv_reach.proofs.OtherMarks.{view_as}
 use Rattle.pv_complete.specs.Completing.{IsLeastCompletion}
 use Rattle.pv_complete.specs.Needing.{AreLiveVerdicts}
 use Rattle.pv_complete.specs.Growing.{Grows, IsGrownText, KeepsEnding, trees_and, grows_kept, grows_leaf, grows_new, grows_none}

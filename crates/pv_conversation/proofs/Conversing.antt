@@ -2,10 +2,10 @@
 use Rattle.std.proofs.Common.{◌≡◌, ◌≢◌, ◌⊎◌, ℕ, suc, ◌<◌, ◌≤◌, Bool, true, false, List, [], ◌∷◌, ◌++◌, map, length, codes, decimal, Option, refl, sym, ap, ◌∙◌, append_assoc, arith}
 use Rattle.std.proofs.lemmas.List.{append-nil, length-append, map-append}
 use Rattle.std.specs.Io.KnownBytes.{Appends}
-use Rattle.pv_script.proofs.RawLines.{raw_lines_of-part}
-use Rattle.pv_script.proofs.Words.{Free-append}
+use Rattle.pv_words.proofs.RawLines.{raw_lines_of-part}
+use Rattle.pv_words.proofs.FirstWords.{Free-append}
 use Rattle.pv_script.specs.Commands.{SpellsCommand}
-use Rattle.pv_script.specs.Lines.{FEED, HasNoFeed, lines_of, raw_lines_of, with_feeds, without_returns}
+use Rattle.pv_words.specs.Lines.{FEED, HasNoFeed, lines_of, raw_lines_of, with_feeds, without_returns}
 use Rattle.pv_script.specs.Taking.{HeldLine, MAX_LINE_BYTES, nothing_held, begun_line, TakesWhole, TakesLine, IsTooLong}
 use Rattle.pv_script.specs.declared.commands.Command.TheVariants.{Quit}
 use Rattle.pv_session.specs.Sessions.{PlainSession}

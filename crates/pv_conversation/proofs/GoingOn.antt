@@ -5,8 +5,8 @@ use Rattle.std.proofs.lemmas.Bool.{cases_lt}
 use Rattle.std.proofs.lemmas.List.{append-nil, length-append, map-append, take-append-le, take_all}
 use Rattle.std.proofs.lemmas.List.Folds.{list_any-append}
 use Rattle.std.specs.List.{list_any}
-use Rattle.pv_script.proofs.RawLines.{BeginsRawLines, cut_of, ended_raw_lines-front, ended_raw_lines-lines, raw_lines_of-front, raw_lines_of-lines, raw_lines_of-part}
-use Rattle.pv_script.specs.Lines.{ended_raw_lines, lines_of, raw_lines_of, without_returns, HasNoFeed, with_feeds}
+use Rattle.pv_words.proofs.RawLines.{BeginsRawLines, cut_of, ended_raw_lines-front, ended_raw_lines-lines, raw_lines_of-front, raw_lines_of-lines, raw_lines_of-part}
+use Rattle.pv_words.specs.Lines.{ended_raw_lines, lines_of, raw_lines_of, without_returns, HasNoFeed, with_feeds}
 use Rattle.pv_conversation.specs.Laws.{MoreChangesNothing}
 use Rattle.pv_conversation.specs.Script.{MAX_SCRIPT_BYTES, IsWithin, before_too_long, has_long_line, is_line_too_long, lines_within}
 use Rattle.pv_conversation.specs.Session.{finished, quitted, past_line, past_script, input_failed, output_failed}

@@ -3,8 +3,8 @@ use Rattle.std.proofs.Common.{◌≡◌, ℕ, ◌<◌, ◌++◌, Bool, List, cod
 use Rattle.pv_dtd.specs.Plain.{PlainDtd}
 use Rattle.pv_tree.specs.Marks.{unmarked_doc}
 use Rattle.pv_read.specs.DocumentLaws.{SpellsOneDocument}
-use Rattle.pv_script.specs.Lines.{lines_of}
-use Rattle.pv_script.specs.Words.{with_feed}
+use Rattle.pv_words.specs.Lines.{lines_of}
+use Rattle.pv_words.specs.Words.{with_feed}
 use Rattle.pv_session.specs.Sessions.{PlainSession, session_on}
 use Rattle.pv_stages.specs.declared.status.Status.TheVariants.{Done, Limit}
 use Rattle.pv_conversation.specs.Alike.{OutputsAlike, ResponsesAlike}
@@ -14,7 +14,7 @@ use Rattle.pv_stages.specs.Possibility.{width_stage}
 use Rattle.pv_stages.specs.Response.{PlainResponse}
 use Rattle.pv_conversation.specs.Script.{MAX_SCRIPT_BYTES, IsWithin, lines_within}
 use Rattle.pv_conversation.specs.Session.{Converses, EndsSession, IsSessionCourse, Place, Replies, at_line, at_quit, beginning_stage, ended_over, finished, guarding_stage, input_failed, limited, output_failed, past_line, past_script, quitted, without_room}
-use Rattle.pv_script.proofs.RawLines.{cut_of}
+use Rattle.pv_words.proofs.RawLines.{cut_of}
 use Rattle.pv_conversation.proofs.GoingOn.{lines_and_last}
 use Rattle.pv_conversation.proofs.Likeness.{alike_behind, endings_alike, one_response_alike}
 use Rattle.pv_stages.proofs.OnePossibility.{width_sure}

@@ -9,9 +9,9 @@ use Rattle.pv_cache.specs.WellMarked.{IsWellMarked}
 use Rattle.pv_cache.proofs.ToldRows.{told_rows}
 use Rattle.pv_edit.specs.declared.answers.VerdictRow.{VerdictRow}
 use Rattle.pv_script.specs.Commands.{SpellsCommand}
-use Rattle.pv_script.specs.Paths.{path_text, places_text}
+use Rattle.pv_words.specs.Paths.{path_text, places_text}
 use Rattle.pv_script.specs.Replies.{reply_bytes, row_lines, row_text}
-use Rattle.pv_script.specs.Words.{with_feed}
+use Rattle.pv_words.specs.Words.{with_feed}
 use Rattle.pv_script.specs.declared.commands.Command.TheVariants.{Verdicts as tells_verdicts}
 use Rattle.pv_script.specs.declared.replies.Reply.TheVariants.{Verdicts}
 use Rattle.pv_session.specs.Sessions.{PlainSession}

@@ -1,13 +1,12 @@
 -- What the parts of a conversation return.
-use Rattle.std.specs.Prelude.{◌≡◌, ◌≢◌, ◌⊎◌, ◌≤◌, ◌<◌, ℕ, suc, Bool, true, false, List}
-use Rattle.std.specs.Prelude.{[], ◌++◌}
+use Rattle.std.specs.Prelude.{◌≡◌, ◌≢◌, ◌⊎◌, ◌≤◌, ◌<◌, ℕ, suc, Bool, true, false, List, [], ◌++◌}
 use Rattle.std.specs.Prelude.{length, map, codes, decimal, Option, Result, Ok, Err}
 use Rattle.std.specs.List.{AllByRecursion}
 use Rattle.std.specs.Io.KnownBytes.{Appends}
 use Rattle.pv_io.specs.Causes.{AppendsFront}
 use Rattle.pv_io.specs.declared.source.Failed.{Failed}
 use Rattle.pv_script.specs.Commands.{SpellsCommand}
-use Rattle.pv_script.specs.Lines.{FEED, without_returns, HasNoFeed, with_feeds}
+use Rattle.pv_words.specs.Lines.{FEED, without_returns, HasNoFeed, with_feeds}
 use Rattle.pv_script.specs.Replies.{reply_bytes}
 use Rattle.pv_script.specs.Taking.{HeldLine, MAX_LINE_BYTES}
 use Rattle.pv_script.specs.declared.commands.Command.TheVariants.{Quit}

@@ -2,7 +2,7 @@
 use Rattle.std.specs.Prelude.{◌≡◌, ◌≤◌, ℕ, suc, Bool, false, nat_lt, List, [], ◌∷◌, length, map}
 use Rattle.std.specs.Prelude.{take, if◌then◌else◌}
 use Rattle.std.specs.List.{list_any}
-use Rattle.pv_script.specs.Lines.{ended_raw_lines, raw_lines_of, without_returns}
+use Rattle.pv_words.specs.Lines.{ended_raw_lines, raw_lines_of, without_returns}
 use Rattle.pv_script.specs.Taking.{MAX_LINE_BYTES}
 
 abbrev pub MAX_SCRIPT_BYTES : ℕ

@@ -1,7 +1,6 @@
 -- What `session DTD ROOT DOC` responds: one reply for each line of its script.
 use Rattle.std.specs.Prelude.{◌≡◌, ◌<◌, ◌≤◌, ◌↔◌, ℕ, suc, Bool, true, false, nat_eq, List, []}
-use Rattle.std.specs.Prelude.{◌∷◌, ◌++◌, IfSome}
-use Rattle.std.specs.Prelude.{length, codes, decimal, Option, Some, None}
+use Rattle.std.specs.Prelude.{◌∷◌, ◌++◌, IfSome, length, codes, decimal, Option, Some, None}
 use Rattle.std.specs.List.{list_any}
 use Rattle.pv_dtd.specs.Plain.{PlainDtd}
 use Rattle.pv_tree.specs.Marks.{unmarked_doc}
@@ -12,9 +11,9 @@ use Rattle.pv_tree.specs.declared.nodes.Mark.{Mark}
 use Rattle.pv_write.specs.Text.{doc_text}
 use Rattle.pv_edit.specs.declared.answers.Done.{Done as WhatWasDone}
 use Rattle.pv_script.specs.Commands.{IsNoCommand, SpellsCommand}
-use Rattle.pv_script.specs.Lines.{lines_of}
+use Rattle.pv_words.specs.Lines.{lines_of}
 use Rattle.pv_script.specs.Replies.{reply_bytes}
-use Rattle.pv_script.specs.Words.{with_feed}
+use Rattle.pv_words.specs.Words.{with_feed}
 use Rattle.pv_script.specs.declared.commands.Command.{Command}
 use Rattle.pv_script.specs.declared.commands.Command.TheVariants as command
 use Rattle.pv_script.specs.declared.replies.Reply.{Reply}

@@ -4,7 +4,7 @@ use Rattle.pv_cache.specs.Laying.{lists_in}
 use Rattle.pv_cache.specs.Rows.{AreRows}
 use Rattle.pv_edit.specs.declared.answers.VerdictRow.{VerdictRow}
 use Rattle.pv_script.specs.Replies.{reply_bytes, verdict_word}
-use Rattle.pv_script.specs.Words.{words, with_feed}
+use Rattle.pv_words.specs.Words.{words, with_feed}
 use Rattle.pv_script.specs.declared.replies.Reply.TheVariants.{NoMemory, Verdicts}
 use Rattle.pv_session.specs.Sessions.{PlainSession, stamped_document}
 use Rattle.pv_tree.specs.Plain.{Forest, PlainDoc, Tree, cdata_node, element, misc_node, no_trees}

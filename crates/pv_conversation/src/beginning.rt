@@ -42,7 +42,8 @@ pub fn begin<L: Ledger>(
     let Opened { dtd, doc, .. } = opened;
     let built = build(alloc, dtd)?;
     let grammar = PlannedGrammar::of(alloc, built)?;
-    let verdicts = narrow_verdicts_by(rt, alloc, &grammar, &doc, root, steps)?;
+    let judge = grammar.judge(alloc);
+    let verdicts = narrow_verdicts_by(rt, &judge, &doc, root, steps)?;
     let root = bytes_of(alloc, root)?;
     let session = Session::begin_by(alloc, grammar, root, doc, verdicts);
     Ok(OpenedSession::of(alloc, session))

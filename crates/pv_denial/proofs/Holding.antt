@@ -54,7 +54,7 @@ module _ (g : PlainDtd) (w : List PlainToken) (n : ℕ) (size : n ≡ length w) 
           let b = past_bounds g n rows each r i k e in
           let a = within_past rows s i k (h i k 0 (over r i k ∷ []) ((b.0, fit k b.1), refl, refl) (past_some (row_value rows r i) k e, tt)) in omega arith
 
-  -- the second of two sites behind the first
+  -- the second of two sites after the first
   two_past : (s r q : PlainSite) (i k j : ℕ) → HoldsTwoSides rows s r q n → i ≤ n → row_value rows r i ≡ Some k → row_value rows q k ≡ Some j → IsWithinRows (row_value rows) (over s i j)
   two_past s r q i k j h l e f =
       let a = at_past r i k e in let b = at_past q k j f in

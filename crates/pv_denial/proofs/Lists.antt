@@ -61,7 +61,7 @@ module _ {A : Type 0} (R : A → A → Type 0) (never : (a b : A) → R a b → 
   first_same x y xs ys up vp (suc m) e zero f = cc
   first_same x y xs ys up vp (suc m) e (suc n) f = absurd (never y x (vp 0 (suc m) y x (omega arith) refl e) (up 0 (suc n) x y (omega arith) refl f))
 
-  -- those that are among others behind one first
+  -- those that are among others after one first
   others : (x y : A) (xs ys : List A) → Ascend (x ∷ xs) → x ≡ y → AreAmong (x ∷ xs) (y ∷ ys) → AreAmong xs ys
   others x y xs ys up same among k z e = go (among (suc k) z e)
     where

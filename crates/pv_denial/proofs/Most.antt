@@ -1,4 +1,4 @@
--- Content that goes on behind one name or another asks for the most of the names alone.
+-- Content that goes on after one name or another asks for the most of the names alone.
 use Rattle.std.proofs.Common.{List, Some, [], ap, arith, inl, inr, length, refl, slice_get, subst, suc, sym, zero, ℕ, ◌<◌, ◌∙◌, ◌≡◌, ◌≤◌, ◌⊎◌, ◌+◌, ◌++◌, ◌∷◌}
 use Rattle.std.proofs.lemmas.Bool.{cases_lt}
 use Rattle.std.proofs.lemmas.Option.{slice_get_within}
@@ -22,14 +22,14 @@ module _ (g : PlainDtd) (n : ℕ) (rows : List Row) (each : EachRow (IsRow g n) 
           let f : past_at rows s j ≡ suc r.0 = ap one_past r.1 in
           let m = r.2 in omega arith
 
-  -- what stands behind a value isn't more than what stands behind a greater one
+  -- what stands after a value isn't more than what stands after a greater one
   behind_rises : (s : PlainSite) (p q : ℕ) → p ≤ q → q ≤ suc n → value_then p (past_at rows s) ≤ value_then q (past_at rows s)
   behind_rises s zero q le short = omega arith
   behind_rises s (suc i) zero le short = absurd (omega arith)
   behind_rises s (suc i) (suc j) le short = past_rises s i j (omega arith) (omega arith)
 
   module _ (ms : List ℕ) (most : AreMost g rows n ms) where
-    -- no most leads behind the word
+    -- no most leads after the word
     most_short : (i m : ℕ) → IsMost g rows i m → m ≤ suc n
     most_short i m is = by is.attained
       where

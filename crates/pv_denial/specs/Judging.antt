@@ -40,7 +40,7 @@ abbrev pub IsRightTable : {M : Type 0} → PlainDtd → Denial → Listed M → 
 IsRightTable g d list = d.cause ≡ cause.Word → (w : List PlainToken) →
     IsLiveWord g (word_of g list.kids) w → AreBarrierRows g w d.rows
 
--- the row of the owner's site leads from the first token to behind the last
+-- the row of the owner's site leads from the first token to after the last
 pub record IsReached {M : Type 0} (g : PlainDtd) (root : List ℕ) (d : Denial) (list : Listed M)
     : Type 0 where
   pub by_word : d.cause ≡ cause.Word

@@ -18,7 +18,7 @@ one_past (Some k) = suc k
 abbrev pub past_at : List Row → PlainSite → ℕ → ℕ
 past_at rows s i = one_past (row_value rows s i)
 
--- what stands behind a value, where there is one
+-- what stands after a value, where there is one
 abbrev pub value_then : ℕ → (ℕ → ℕ) → ℕ
 value_then zero f = 0
 value_then (suc k) f = f k
@@ -36,7 +36,7 @@ abbrev pub HoldsTwoSides : List Row → PlainSite → PlainSite → PlainSite �
 HoldsTwoSides rows s r q n = (i : ℕ) → i ≤ n →
     value_then (past_at rows r i) (past_at rows q) ≤ past_at rows s i
 
--- before each text it is at least itself behind the text
+-- before each text it is at least itself after the text
 abbrev pub HoldsOverTexts : List Row → PlainSite → List PlainToken → Type 0
 HoldsOverTexts rows s w = (i : ℕ) → slice_get w i ≡ Some text →
     past_at rows s (suc i) ≤ past_at rows s i

@@ -20,14 +20,14 @@ row_of_site (r ∷ rows) s =
 abbrev pub row_value : List Row → PlainSite → ℕ → Option ℕ
 row_value rows s i = option_and_then (λ (r : Row). slice_get r.values i) (row_of_site rows s)
 
--- Each value is its place or one behind it in a word of n tokens, and they don't fall.
+-- Each value is its place or one after it in a word of n tokens, and they don't fall.
 pub record AreRisingValues (values : List ℕ) (n : ℕ) : Type 0 where
   pub bounded : (i v : ℕ) → slice_get values i ≡ Some v → (i ≤ v) × (v ≤ n)
   pub rising : (i j u v : ℕ) → i ≤ j → slice_get values i ≡ Some u →
       slice_get values j ≡ Some v → u ≤ v
 
 -- A row for a word of n tokens: its site is one of the DTD; it has a value for each place, which is
--- that place or one behind it in the word; and its values don't fall.
+-- that place or one after it in the word; and its values don't fall.
 pub record IsRow (g : PlainDtd) (n : ℕ) (r : Row) : Type 0 where
   pub has : HasSite g (plain_site r.site)
   pub long : length r.values ≡ suc n

@@ -71,7 +71,7 @@ pub fn two_holds(
     true
 }
 
-/// Whether a site is at least itself behind this token, where the token is a text.
+/// Whether a site is at least itself after this token, where the token is a text.
 fn text_here_holds(barrier: &Barrier<'_>, left: Site, token: Token, place: usize) -> bool
     requires { place < 2 ^ 62 }
     ensures { IsTrue result ↔ (plain_token token ≡ text →
@@ -85,7 +85,7 @@ fn text_here_holds(barrier: &Barrier<'_>, left: Site, token: Token, place: usize
     }
 }
 
-/// Whether a site is before each text at least itself behind the text.
+/// Whether a site is before each text at least itself after the text.
 pub fn text_holds(barrier: &Barrier<'_>, left: Site, word: &[Token]) -> bool
     requires { length word.now < 2 ^ 62 }
     ensures { IsTrue result ↔

@@ -13,14 +13,14 @@ use crate::index::Index;
 use pv_productive::Grammar;
 use std::alloc::{AllocError, Global};
 
-/// Whether a value is its place or behind it, not past the last place nor less than another.
+/// Whether a value is its place or after it, not past the last place nor less than another.
 fn may_stand(value: usize, place: usize, tokens: usize, last: usize) -> bool
     ensures { IsTrue result ↔ ((place ≤ value) × (value ≤ tokens) × (last ≤ value)) }
 {
     place <= value && value <= tokens && last <= value
 }
 
-/// Whether each value is its place or behind it, none is past the last place, and they don't fall.
+/// Whether each value is its place or after it, none is past the last place, and they don't fall.
 fn are_rising(values: &[u32], tokens: usize) -> bool
     ensures { IsTrue result ↔ AreRisingValues values.now tokens }
 {

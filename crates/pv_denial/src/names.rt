@@ -24,7 +24,7 @@ fn most_at(grammar: &Grammar, barrier: &Barrier<'_>, place: usize) -> u64
     most
 }
 
-/// The same for each place of a word of so many tokens. Any content goes on behind one declared
+/// The same for each place of a word of so many tokens. Any content goes on after one declared
 /// name or another, so that each such content asks for this alone.
 pub fn most_of_names(
     alloc: Global,

@@ -43,7 +43,7 @@ fn name_holds(grammar: &Grammar, barrier: &Barrier<'_>, id: NameId, word: &[Toke
     element_holds(barrier, id, word)
 }
 
-/// Whether some content is at least itself behind each part from `first` up to `end`.
+/// Whether some content is at least itself after each part from `first` up to `end`.
 fn parts_hold(barrier: &Barrier<'_>, id: NameId, first: u32, end: u32, tokens: usize) -> bool
     requires { tokens < 2 ^ 62 }
     ensures { IsTrue result ↔ ((q : ℕ) → first ≤ q → q < end →
@@ -58,7 +58,7 @@ fn parts_hold(barrier: &Barrier<'_>, id: NameId, first: u32, end: u32, tokens: u
     true
 }
 
-/// Whether some content is at least itself behind each declared name, by the most of these.
+/// Whether some content is at least itself after each declared name, by the most of these.
 fn names_hold(
     grammar: &Grammar,
     barrier: &Barrier<'_>,

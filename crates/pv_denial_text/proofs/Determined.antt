@@ -4,14 +4,13 @@ use Rattle.std.specs.Prelude.{if◌then◌else◌, ◌==◌}
 use Rattle.std.proofs.lemmas.List.{append_cancel_left}
 use Rattle.pv_rules.specs.PlainForms.{plain_site}
 use Rattle.pv_rules.specs.Sites.{PlainSite, content_site, name_site, part_site, rest_site}
-use Rattle.pv_script.specs.Paths.{path_text}
-use Rattle.pv_script.specs.Reading.{path_spelled}
-use Rattle.pv_script.specs.Words.{words}
-use Rattle.pv_script.proofs.PathWords.{path-free, path_spelled-path_text}
-use Rattle.pv_cert.specs.Fronts.{IsLineOf}
+use Rattle.pv_words.specs.Paths.{path_text, path_spelled}
+use Rattle.pv_words.specs.Words.{words}
+use Rattle.pv_words.proofs.PathWords.{path-free, path_spelled-path_text}
+use Rattle.pv_words.specs.Fronts.{IsLineOf}
 use Rattle.pv_cert.specs.Lines.{kind_word}
-use Rattle.pv_cert.proofs.Cuts.{feed-behind, free-by-test, one-line-of}
-use Rattle.pv_script.proofs.Words.{Free}
+use Rattle.pv_words.proofs.Cuts.{feed-behind, free-by-test, one-line-of}
+use Rattle.pv_words.proofs.FirstWords.{Free}
 use Rattle.pv_denial.specs.declared.denials.Cause.{Cause}
 use Rattle.pv_denial.specs.declared.denials.Cause.TheVariants as cause
 use Rattle.pv_denial_text.specs.Lines.{DenialLine, IsInRange, cause_line, cause_word, end_line, line_text, list_line, row_line, row_words, version_line}

@@ -1,12 +1,11 @@
 -- The lines of a denial's text up to its rows, and a whole text.
 use Rattle.std.proofs.Common.{◌≡◌, ◌≤◌, ℕ, List, [], ◌∷◌, ◌++◌, map, length, refl, sym, ap, subst, ◌∙◌, append-nil, arith, Some, None, inr, Ok, Err, Result, IfOk, IfErr, codes}
 use Rattle.std.proofs.lemmas.List.{length-append}
-use Rattle.pv_script.specs.Paths.{path_text}
-use Rattle.pv_script.specs.Reading.{path_spelled}
-use Rattle.pv_script.specs.Words.{with_feed}
-use Rattle.pv_script.proofs.PathWords.{path-free, path-word, path_spelled-path_text}
-use Rattle.pv_cert.specs.Fronts.{IsLineOf}
-use Rattle.pv_cert.proofs.Cuts.{one-line-of}
+use Rattle.pv_words.specs.Paths.{path_text, path_spelled}
+use Rattle.pv_words.specs.Words.{with_feed}
+use Rattle.pv_words.proofs.PathWords.{path-free, path-word, path_spelled-path_text}
+use Rattle.pv_words.specs.Fronts.{IsLineOf}
+use Rattle.pv_words.proofs.Cuts.{one-line-of}
 use Rattle.pv_denial.specs.declared.denials.Cause.{Cause}
 use Rattle.pv_denial.specs.declared.denials.Denial.{Denial}
 use Rattle.pv_denial.specs.declared.denials.Row.{Row}

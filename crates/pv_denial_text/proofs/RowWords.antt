@@ -4,15 +4,16 @@ use Rattle.pv_chars.specs.Fronts.{ContainsBytes, EndsAt}
 use Rattle.pv_rules.specs.PlainForms.{plain_site}
 use Rattle.pv_rules.specs.Sites.{PlainSite, content_site, name_site, part_site, rest_site}
 use Rattle.pv_rules.specs.declared.sites.Site.{Site}
-use Rattle.pv_script.specs.Words.{with_feed, words}
-use Rattle.pv_script.proofs.Numbers.{decimal-free}
-use Rattle.pv_script.proofs.Words.{Free, Free-append}
+use Rattle.pv_words.specs.Words.{with_feed, words}
+use Rattle.pv_words.proofs.NumberWords.{decimal-free}
+use Rattle.pv_words.proofs.FirstWords.{Free, Free-append}
 use Rattle.pv_tables.specs.Tables.{site_number}
-use Rattle.pv_cert.specs.Fronts.{IsKind, IsNumberBefore}
+use Rattle.pv_cert.specs.Fronts.{IsKind}
+use Rattle.pv_words.specs.Numbers.{IsNumberBefore}
 use Rattle.pv_cert.specs.Lines.{kind_word}
-use Rattle.pv_cert.proofs.Cuts.{cut-once, ends-once, feed-behind, holds-none}
+use Rattle.pv_words.proofs.Cuts.{cut-once, ends-once, feed-behind, holds-none, one-number-before}
 use Rattle.pv_cert.proofs.Determined.{same-site}
-use Rattle.pv_cert.proofs.EntryWords.{letter-by, one-number-before}
+use Rattle.pv_cert.proofs.EntryWords.{letter-by}
 use Rattle.pv_denial.specs.declared.denials.Row.{Row}
 use Rattle.pv_denial_text.specs.Fronts.{AreValueWords, Begins, BeginsNone, IsRowText, IsSiteBehind}
 use Rattle.pv_denial_text.specs.Lines.{IsRowInRange, line_text, row_line, row_words}

@@ -1,12 +1,10 @@
 -- The values of a row, read one by one.
 use Rattle.std.proofs.Common.{◌≡◌, ◌<◌, ◌≤◌, ℕ, List, [], ◌∷◌, ◌++◌, map, refl, sym, ap, ◌∙◌, append_assoc, arith, decimal, subst, None}
-use Rattle.pv_script.specs.Edits.{AreNumbers, MAX_NUMBER}
-use Rattle.pv_script.specs.Reading.{number_spelled}
-use Rattle.pv_script.specs.Words.{words}
-use Rattle.pv_script.proofs.Numbers.{decimal-free, number_spelled-decimal}
-use Rattle.pv_script.proofs.Words.{Free, Free-append}
-use Rattle.pv_cert.specs.Fronts.{IsNumberBefore}
-use Rattle.pv_cert.proofs.EntryWords.{one-number-before, same-decimal}
+use Rattle.pv_words.specs.Numbers.{AreNumbers, MAX_NUMBER, number_spelled, IsNumberBefore}
+use Rattle.pv_words.specs.Words.{words}
+use Rattle.pv_words.proofs.NumberWords.{decimal-free, number_spelled-decimal}
+use Rattle.pv_words.proofs.FirstWords.{Free, Free-append}
+use Rattle.pv_words.proofs.Cuts.{one-number-before, same-decimal}
 use Rattle.pv_denial_text.specs.Fronts.{AreValueWords}
 
 -- a byte that isn't in some bytes doesn't stand among them

@@ -3,9 +3,9 @@ use Rattle.std.proofs.Common.{List, None, Some, [], ap, append-nil, append_assoc
 use Rattle.std.proofs.lemmas.Bool.{cases_lt}
 use Rattle.std.proofs.lemmas.Option.{slice_get-get_or, slice_get_within}
 use Rattle.pv_rules.specs.PlainForms.{plain_site}
-use Rattle.pv_script.specs.Edits.{AreNumbers}
-use Rattle.pv_script.specs.Paths.{path_text}
-use Rattle.pv_script.specs.Words.{words}
+use Rattle.pv_words.specs.Numbers.{AreNumbers, numbers_text}
+use Rattle.pv_words.specs.Paths.{path_text}
+use Rattle.pv_words.specs.Words.{words}
 use Rattle.pv_tables.specs.Tables.{site_number}
 use Rattle.pv_cert.specs.Lines.{kind_word}
 use Rattle.pv_denial.specs.Rows.{AreInOrder, EachRow}
@@ -15,20 +15,19 @@ use Rattle.pv_denial.specs.declared.denials.Row.{Row}
 use Rattle.pv_denial_text.specs.Lines.{IsRowInRange, cause_line, cause_word, end_line, line_text, row_line}
 use Rattle.pv_denial_text.specs.Steps.{head_lines}
 use Rattle.pv_denial_text.specs.Texts.{AreLines, IsRowBefore, lines_of_denial, lines_text}
-use Rattle.pv_denial_text.specs.Written.{values_text}
 use Rattle.pv_denial_text.proofs.Stands.{text-append}
 
 -- a word, and numbers behind it
-words-text : (a : List ℕ) (vs : List ℕ) → words (a ∷ map decimal vs) ≡ a ++ values_text vs
+words-text : (a : List ℕ) (vs : List ℕ) → words (a ∷ map decimal vs) ≡ a ++ numbers_text vs
 words-text a [] = sym (append-nil a)
 words-text a (v ∷ vs) = ap (λ l. a ++ (codes " " ++ l)) (words-text (decimal v) vs)
 
-pub row-written : (r : Row) (t0 t1 t2 t3 t4 : List ℕ) → t1 ≡ t0 ++ kind_word (plain_site r.site) → t2 ≡ t1 ++ (codes " " ++ decimal (site_number (plain_site r.site))) → t3 ≡ t2 ++ values_text r.values →
+pub row-written : (r : Row) (t0 t1 t2 t3 t4 : List ℕ) → t1 ≡ t0 ++ kind_word (plain_site r.site) → t2 ≡ t1 ++ (codes " " ++ decimal (site_number (plain_site r.site))) → t3 ≡ t2 ++ numbers_text r.values →
     t4 ≡ t3 ++ codes "\n" → t4 ≡ t0 ++ line_text (row_line r)
 row-written r t0 t1 t2 t3 t4 e1 e2 e3 e4 =
     let k = kind_word (plain_site r.site) in
     let n = decimal (site_number (plain_site r.site)) in
-    let v = values_text r.values in
+    let v = numbers_text r.values in
     let f2 = e2 ∙ ap (λ l. l ++ (codes " " ++ n)) e1 in
     let f3 = e3 ∙ ap (λ l. l ++ v) f2 in
     let f4 = e4 ∙ ap (λ l. l ++ codes "\n") f3 in

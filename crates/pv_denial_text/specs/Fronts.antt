@@ -2,8 +2,8 @@
 use Rattle.std.specs.Prelude.{◌≡◌, ◌≢◌, ◌≤◌, ℕ, List, [], ◌∷◌, ◌++◌, map, decimal}
 use Rattle.pv_rules.specs.PlainForms.{plain_site}
 use Rattle.pv_rules.specs.declared.sites.Site.{Site}
-use Rattle.pv_script.specs.Edits.{AreNumbers, MAX_NUMBER}
-use Rattle.pv_script.specs.Words.{words}
+use Rattle.pv_words.specs.Numbers.{AreNumbers, MAX_NUMBER}
+use Rattle.pv_words.specs.Words.{words}
 use Rattle.pv_tables.specs.Tables.{site_number}
 use Rattle.pv_cert.specs.Lines.{kind_word}
 use Rattle.pv_denial.specs.declared.denials.Row.{Row}

@@ -4,4 +4,3 @@ pub mod Texts
 pub mod Meaning
 pub mod Steps
 pub mod Laws
-pub mod Written

@@ -1,9 +1,9 @@
 -- The lines of a denial's text.
 use Rattle.std.specs.Prelude.{◌≢◌, ◌≤◌, ℕ, List, [], ◌∷◌, map, codes, decimal}
 use Rattle.pv_rules.specs.PlainForms.{plain_site}
-use Rattle.pv_script.specs.Edits.{AreNumbers, MAX_NUMBER}
-use Rattle.pv_script.specs.Paths.{path_text}
-use Rattle.pv_script.specs.Words.{with_feed, words}
+use Rattle.pv_words.specs.Numbers.{AreNumbers, MAX_NUMBER}
+use Rattle.pv_words.specs.Paths.{path_text}
+use Rattle.pv_words.specs.Words.{with_feed, words}
 use Rattle.pv_tables.specs.Tables.{site_number}
 use Rattle.pv_cert.specs.Lines.{kind_word}
 use Rattle.pv_denial.specs.declared.denials.Cause.{Cause}

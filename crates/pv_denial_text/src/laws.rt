@@ -1,6 +1,6 @@
 //! The laws of denials' texts, each the contract of a function that does nothing.
 
-ghost use Rattle.pv_script.specs.Edits.{AreNumbers};
+ghost use Rattle.pv_words.specs.Numbers.{AreNumbers};
 ghost use Rattle.pv_denial_text.specs.Laws.{OneMeaning};
 
 /// Bytes mean one thing at most: a denial, a fault, or that a limit is passed.

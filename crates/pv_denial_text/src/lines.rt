@@ -6,12 +6,11 @@ ghost use Rattle.pv_denial_text.specs.Lines.{cause_line, end_line, list_line};
 ghost use Rattle.pv_denial_text.specs.Lines.{version_line};
 
 use crate::causes::cause_by;
-use pv_cert::line_of;
 use pv_chars::NoMemory;
 use pv_chars::scan::after_bytes;
 use pv_denial::Cause;
-use pv_script::written_path;
 use pv_tree::Path;
+use pv_words::{line_of, written_path};
 use std::alloc::Global;
 
 /// What stands behind the version at the front.

@@ -16,12 +16,13 @@ ghost use Rattle.pv_denial_text.specs.Steps.{StandsRow};
 use crate::errors::TableError;
 use crate::lines::end_at;
 use crate::values::values_of;
-use pv_cert::{letter_at, next_number, site_of};
+use pv_cert::{letter_at, site_of};
 use pv_chars::delimiters::up_to_byte;
 use pv_chars::{List, NoMemory};
 use pv_denial::{MAX_VALUES, Row};
 use pv_rules::Site;
 use pv_tables::site_number;
+use pv_words::next_number;
 use std::alloc::Global;
 
 // The place of a site's kind in the order of kinds.

@@ -3,10 +3,9 @@
 ghost use Rattle.std.specs.Prelude.{ℕ, List, IfOk, MatchOption};
 ghost use Rattle.pv_denial_text.specs.Fronts.{AreValueWords};
 
-use pv_cert::next_number;
 use pv_chars::NoMemory;
 use pv_denial::MAX_VALUES;
-use pv_script::written_number;
+use pv_words::{next_number, written_number};
 use std::alloc::Global;
 
 // At most how many values some bytes are.

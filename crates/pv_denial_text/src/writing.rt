@@ -1,33 +1,22 @@
 //! Writes denials.
 
 ghost use Rattle.std.specs.Prelude.{◌≡◌, ◌≢◌, ◌≤◌, ◌++◌, [], map, IfOk, OnOk, None, length};
-ghost use Rattle.pv_script.specs.Edits.{AreNumbers};
+ghost use Rattle.pv_words.specs.Numbers.{AreNumbers};
 ghost use Rattle.pv_denial.specs.Rows.{AreInOrder, EachRow};
 ghost use Rattle.pv_denial_text.specs.Lines.{IsRowInRange, line_text, row_line};
 ghost use Rattle.pv_denial_text.specs.Meaning.{DenialMeans, MAX_DENIAL_BYTES as MAX_BYTES};
 ghost use Rattle.pv_denial_text.specs.Meaning.{is_denial};
 ghost use Rattle.pv_denial_text.specs.Steps.{head_lines};
 ghost use Rattle.pv_denial_text.specs.Texts.{AreLines, IsDenialText, lines_of_denial, lines_text};
-ghost use Rattle.pv_denial_text.specs.Written.{values_text};
 
 use crate::causes::cause_word;
 use crate::laws::numbers_law;
-use pv_cert::{kind_word, push_next_number};
+use pv_cert::kind_word;
 use pv_chars::NoMemory;
 use pv_denial::{Denial, Row};
-use pv_script::push_path;
 use pv_tables::site_number;
+use pv_words::{push_next_number, push_numbers, push_path};
 use std::alloc::{AllocError, Global};
-
-// Appends each value behind a blank.
-fn push_values(text: &mut Vec<u8>, values: &[u32]) -> Result<(), AllocError>
-    ensures { OnOk result (text.new.items ≡ text.old.items ++ values_text values.now) }
-{
-    for value in values {
-        push_next_number(text, *value)?;
-    }
-    Ok(())
-}
 
 // Appends the line of a row.
 fn push_row(text: &mut Vec<u8>, row: &Row) -> Result<(), AllocError>
@@ -39,8 +28,8 @@ fn push_row(text: &mut Vec<u8>, row: &Row) -> Result<(), AllocError>
     let number = site_number(row.site);
     numbers_law(values);
     text.extend_from_slice(kind_word(row.site))?;
-    push_next_number(text, number)?;
-    push_values(text, values)?;
+    push_next_number(text, u64::from(number))?;
+    push_numbers(text, values)?;
     text.push(b'\n')?;
     Ok(())
 }

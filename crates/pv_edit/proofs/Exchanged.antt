@@ -61,7 +61,7 @@ module _ {X : Type 0} (from mid to more : ℕ) (ks ns traded : List X) (a : from
       ap (drop mid) t ∙ drop_at (take mid ks) (drop more ns ++ drop to ks) mid l in
       rw (front, back) refl
 
-  -- the others are moved behind it, and then before it
+  -- the others are moved after it, and then before it
   pub exchanged_items : (n : ℕ) (left put all : List X) → more ≤ length ns →
       from + (more + n) ≡ length put → left ≡ take from traded ++ drop mid traded →
       put ≡ left ++ take more ns →

@@ -60,7 +60,7 @@ first_is : {M : Type 0} (ts : List (Tree M)) → option_map at_spot (slice_get t
 first_is [] = refl
 first_is (t ∷ ts) = refl
 
--- what stands behind a node
+-- what stands after a node
 pub next_is : {M : Type 0} (path : List ℕ) (root : Tree M) (front : List (Tree M)) (node : Tree M) (back : List (Tree M)) → IsParted (kids_at (parent_of path) root) (kid_place path) front node back → spot_at (next_of path) root ≡ first_spot back
 next_is path root front node back p = spot-kid (parent_of path) (kid_place path + 1) root ∙ ap (option_map at_spot) (parted-next p) ∙ first_is back
 

@@ -57,7 +57,7 @@ element-node path root (misc_node bytes) s h = absurd cc
 pub element-at : {M : Type 0} (path : List ℕ) (root : Tree M) → lacks_element path root ≡ false → ElementAt path root
 element-at path root h = let i = inner_element path root h in element-node path root i.node i.there (subst (λ o. not (is_spot is_element o) ≡ false) i.there h)
 
--- the kid behind a node
+-- the kid after a node
 pub next-kid : {M : Type 0} (path : List ℕ) (root : Tree M) (t : TextAt (next_of path) root) → slice_get (kids_at (parent_of path) root) (kid_place path + 1) ≡ Some (text_node t.units)
 next-kid path root t =
     let p = parent-kid (parent_of path) (kid_place path + 1) in

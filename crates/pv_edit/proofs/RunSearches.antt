@@ -52,7 +52,7 @@ cut-back at kids back ts k f h =
     subst (λ (l : List Node). spells_close_mark (forest_of (plain_all l)) ≡ false) (sym f)
     (back-none (plain_all (take at kids)) (plain_all (drop at kids)) (subst (λ l. spells_close_mark (forest_of l) ≡ false) (sym k ∙ cut-whole at kids) h))
 
--- behind other texts, the run at the front tells all
+-- after other texts, the run at the front tells all
 run-alone : {M : Type 0} (b : Brackets) (ts : List (Tree M)) → spells_close_mark (forest_of ts) ≡ false → is_none (search_trees b ts) ≡ is_none (search_run b ts)
 run-alone b [] h = refl
 run-alone b (element x attrs e kids m ∷ ts) h = run_searched ts ∙ h
@@ -93,7 +93,7 @@ stops-in (text_node units) b (Some c) h e = absurd cc
 stops-behind : {M : Type 0} (ts : List (Tree M)) (t : Tree M) (b : Brackets) → is_text t ≡ false → search_trees Zero (ts ++ t ∷ []) ≡ Some b → b ≡ Zero
 stops-behind ts t b h e = stops-in t b (search_trees Zero ts) h (sym (searched_on Zero ts (t ∷ [])) ∙ e)
 
--- the run behind the last node that is no text
+-- the run after the last node that is no text
 pub last-run : (nodes run : List Node) (n : ℕ) (node : Node) → n < length nodes → node ≡ get_or nodes n node → is_text (plain node) ≡ false → run ≡ take (length nodes - (n + 1)) (drop (n + 1) nodes) → EndsBy (plain_all nodes) (plain_all run)
 last-run nodes run n node h g t e =
     let r : run ≡ drop (n + 1) nodes = e ∙ ap (λ (k : ℕ). take k (drop (n + 1) nodes)) (sym (length-drop (n + 1) nodes)) ∙ take-length (drop (n + 1) nodes) in

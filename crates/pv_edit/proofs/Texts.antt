@@ -170,7 +170,7 @@ means-units before (u ∷ us) all h =
     unit u (joined us) (record { is_unit = all.0; whole = refl; no_close_mark = λ m. let t = mark-begins (u ∷ us) all m in let f = p.0 in cc })
     (subst (λ (l : List (List ℕ)). TextRestMeans (before ++ u ∷ []) (joined us) (Ok l)) (append_assoc before (u ∷ []) us) (means-units (before ++ u ∷ []) us all.1 p.1))
 
--- units behind some, without a `]]>`
+-- units after some, without a `]]>`
 pub record AreText (before : List (List ℕ)) (rest : List ℕ) (out : List (List ℕ)) : Type 0 where
   pub us : List (List ℕ)
   pub whole : out ≡ before ++ us

@@ -153,7 +153,7 @@ not-top : (path : List ℕ) (root : Tree Unit) → lacks_text path root ≡ fals
 not-top [] root h = absurd cc
 not-top (i ∷ path) root h = refl
 
--- a text of the changed list, and the one behind it
+-- a text of the changed list, and the one after it
 spot-first : (path : List ℕ) (root : Tree Unit) (front back : List (Tree Unit)) (u : List (List ℕ)) → is_top path ≡ false → kids_at (parent_of path) root ≡ front ++ text_node u ∷ back → length front ≡ kid_place path → spot_at path root ≡ Some (at_spot (text_node u))
 spot-first path root front back u t k n =
     spot-parent path root t ∙ ap (λ l. option_map at_spot (slice_get l (kid_place path))) k ∙ ap (λ i. option_map at_spot (slice_get (front ++ text_node u ∷ back) i)) (sym n)

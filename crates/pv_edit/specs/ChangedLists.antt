@@ -11,7 +11,7 @@ pub data Move : Type 0 where
   makes : (edit : Edit) → Move
   undoes : (edit : Edit) → Move
 
--- the lists that a move changes, by their paths behind it
+-- the lists that a move changes, by their paths after it
 abbrev pub changed_lists : Move → List (List ℕ)
 changed_lists (makes (Wrap path from to name)) = path ∷ (path ++ from ∷ []) ∷ []
 changed_lists (makes (Insert path at name)) = path ∷ (path ++ at ∷ []) ∷ []

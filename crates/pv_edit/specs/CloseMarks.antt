@@ -17,7 +17,7 @@ are_two Zero = false
 are_two One = false
 are_two Two = true
 
--- what stands at the end behind one more unit, where that is a `]`, and where it is a `>`; none
+-- what stands at the end after one more unit, where that is a `]`, and where it is a `>`; none
 -- where that ends a `]]>`
 abbrev pub behind : Brackets → Bool → Bool → Option Brackets
 behind b is_bracket is_angle =
@@ -43,7 +43,7 @@ abbrev pub search_trees : {M : Type 0} → Brackets → List (Tree M) → Option
 search_trees b [] = Some b
 search_trees b (t ∷ ts) = option_and_then (λ c. search_trees c ts) (search_tree b t)
 
--- three parts of a list, one behind the other
+-- three parts of a list, one after the other
 abbrev pub search_parts : {M : Type 0} → List (Tree M) → List (Tree M) → List (Tree M) →
     Option Brackets
 search_parts front middle back =
@@ -64,7 +64,7 @@ pub record EndsBy {M : Type 0} (ts run : List (Tree M)) : Type 0 where
   pub whole : ts ≡ front ++ run
   pub stops : (b : Brackets) → search_trees Zero front ≡ Some b → b ≡ Zero
 
--- a run, what stands behind it, and the run at the front of what stands behind that
+-- a run, what stands after it, and the run at the front of what stands after that
 abbrev pub search_near : {M : Type 0} → List (Tree M) → List (Tree M) → List (Tree M) →
     Option Brackets
 search_near run middle back =

@@ -1,4 +1,4 @@
--- How many nodes an edit makes, and how many it takes away.
+-- How many nodes an edit makes, and how many it removes.
 use Rattle.std.specs.Prelude.{ℕ}
 use Rattle.pv_edit.specs.declared.edits.Edit.{Edit}
 use Rattle.pv_edit.specs.declared.edits.Edit.TheVariants.{Wrap, Insert, Unwrap, Rename, Split, Join}
@@ -16,7 +16,7 @@ nodes_made (SetText path text) = 0
 nodes_made (AddText path at text) = 1
 nodes_made (DelText path) = 0
 
--- how many nodes an edit takes away
+-- how many nodes an edit removes
 abbrev pub nodes_taken : Edit → ℕ
 nodes_taken (Wrap path from to name) = 0
 nodes_taken (Insert path at name) = 0

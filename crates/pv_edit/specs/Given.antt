@@ -32,7 +32,7 @@ abbrev pub are_char_digits : ℕ → List ℕ → Bool
 are_char_digits base digits =
     is_some_bytes digits && list_all (λ d. is_digit d base) digits && is_char (number base digits)
 
--- a reference by digits in this base behind this front
+-- a reference by digits in this base after this front
 abbrev pub is_char_ref_in : ℕ → List ℕ → List ℕ → Bool
 is_char_ref_in base front bytes =
     are_char_digits base (inner_part front bytes) &&

@@ -19,7 +19,7 @@ origin_inside (around name attrs ending mark) from k (j ∷ path) = Some ((from 
 origin_inside inner from k path = Some (from ∷ k ∷ path)
 origin_inside (named name) from k path = Some ((from + k) ∷ path)
 
--- below the changed list, into which so many kids came: those before them stay, and those behind
+-- below the changed list, into which so many kids came: those before them stay, and those after
 -- them have moved
 abbrev pub origin_below : {M : Type 0} → Change M → ℕ → List ℕ → Option (List ℕ)
 origin_below c count [] = Some []

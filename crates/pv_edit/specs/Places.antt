@@ -8,7 +8,7 @@ pub record IsInner {M : Type 0} (path : List ℕ) (root : Tree M) : Type 0 where
   pub node : Tree M
   pub there : spot_at path root ≡ Some (at_node node)
 
--- a list in three parts: what stands before a place, there, and behind it
+-- a list in three parts: what stands before a place, there, and after it
 pub record IsParted {M : Type 0} (ts : List (Tree M)) (place : ℕ) (front : List (Tree M))
     (node : Tree M) (back : List (Tree M)) : Type 0 where
   pub whole : ts ≡ front ++ node ∷ back

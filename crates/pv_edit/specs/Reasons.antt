@@ -70,7 +70,7 @@ goes_too_deep c root = nat_lt MAX_DEPTH (depth_of (root_after c.list c root))
 abbrev pub makes_close_mark : {M : Type 0} → Change M → Tree M → Bool
 makes_close_mark c root = spells_close_mark (forest_of (list_after c (kids_at c.list root)))
 
--- a test that has to be false, its reason, and the tests behind it
+-- a test that has to be false, its reason, and the tests after it
 abbrev pub unless : Bool → Reason → Option Reason → Option Reason
 unless true reason later = Some reason
 unless false reason later = later

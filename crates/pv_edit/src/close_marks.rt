@@ -19,7 +19,7 @@ pub(crate) enum Brackets {
     Two,
 }
 
-/// What stands at the end behind one more byte; none where that ends a `]]>`.
+/// What stands at the end after one more byte; none where that ends a `]]>`.
 fn after_byte(before: Brackets, byte: u8) -> Option<Brackets>
     ensures { result ≡ after_byte before byte }
 {
@@ -36,7 +36,7 @@ fn after_byte(before: Brackets, byte: u8) -> Option<Brackets>
     Some(Brackets::Zero)
 }
 
-// What stands at the end behind some bytes of a text; none where `]]>` was found.
+// What stands at the end after some bytes of a text; none where `]]>` was found.
 fn search_bytes(before: Brackets, bytes: &[u8]) -> Option<Brackets>
     ensures { result ≡ search_bytes before bytes.now }
 {
@@ -47,14 +47,14 @@ fn search_bytes(before: Brackets, bytes: &[u8]) -> Option<Brackets>
     Some(at_end)
 }
 
-/// What stands at the end behind a text; none where `]]>` was found.
+/// What stands at the end after a text; none where `]]>` was found.
 pub(crate) fn search_text(before: Brackets, text: &Units) -> Option<Brackets>
     ensures { result ≡ search_units before text.now }
 {
     search_bytes(before, text.bytes())
 }
 
-/// What stands at the end behind some nodes; none where `]]>` was found. All nodes but texts end
+/// What stands at the end after some nodes; none where `]]>` was found. All nodes but texts end
 /// the run.
 pub(crate) fn search_nodes(before: Brackets, nodes: &[Node]) -> Option<Brackets>
     ensures { result ≡ search_trees before (plain_all nodes.now) }
@@ -77,7 +77,7 @@ fn search_node(before: Brackets, node: &Node) -> Option<Brackets>
     }
 }
 
-// What stands at the end behind the texts at the front of some nodes; none where `]]>` was found.
+// What stands at the end after the texts at the front of some nodes; none where `]]>` was found.
 fn search_run(before: Brackets, nodes: &[Node]) -> Option<Brackets>
     ensures { result ≡ search_run before (plain_all nodes.now) }
 {
@@ -110,7 +110,7 @@ fn last_run(nodes: &[Node]) -> &[Node]
 }
 
 /// Whether texts that stand side by side among these nodes, in this order, spell `]]>`; those in
-/// front and behind don't by themselves.
+/// front and after don't by themselves.
 pub(crate) fn spell_close_mark(front: &[Node], middle: &[Node], back: &[Node]) -> bool
     requires front { spells_close_mark (forest_of (plain_all front.now)) ≡ false }
     requires back { spells_close_mark (forest_of (plain_all back.now)) ≡ false }

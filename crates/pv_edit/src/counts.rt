@@ -1,4 +1,4 @@
-//! How many nodes an edit makes and takes away.
+//! How many nodes an edit makes and removes.
 
 ghost use Rattle.std.specs.Prelude.{◌≡◌};
 ghost use Rattle.pv_edit.specs.Counts.{nodes_made, nodes_taken};

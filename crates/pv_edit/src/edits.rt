@@ -37,7 +37,7 @@ pub enum Edit {
         path: Path,
         at: u32,
     },
-    /// Joins a text and the text behind it.
+    /// Joins a text and the text after it.
     Join {
         path: Path,
     },

@@ -163,7 +163,7 @@ pub(crate) fn kid_count(node: &Node) -> usize
 
 // Puts nodes in place of the kids from one place up to another, in a list that has room for them,
 // and gives these kids, in a vector that has room for them. As many as can be change places, so
-// that the kids behind them are moved once at most.
+// that the kids after them are moved once at most.
 fn exchange(
     kids: &mut Vec<Node>,
     from: usize,
@@ -233,7 +233,7 @@ fn move_last(kids: &mut Vec<Node>, from: usize, count: usize)
     kids[from..].rotate_right(count);
 }
 
-// Moves the nodes of another vector behind those of one that has room for them.
+// Moves the nodes of another vector after those of one that has room for them.
 fn move_behind(kids: &mut Vec<Node>, more: &mut Vec<Node>)
     requires { vec_len kids.old + vec_len more.old ≤ vec_capacity kids.old }
     ensures items { kids.new.items ≡ kids.old.items ++ more.old.items }

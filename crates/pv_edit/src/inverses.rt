@@ -26,7 +26,7 @@ pub enum Inverse {
         path: Path,
         name: Bytes,
     },
-    /// Joins a text and the text behind it.
+    /// Joins a text and the text after it.
     Merge {
         path: Path,
     },

@@ -83,7 +83,7 @@ pub(crate) fn kids_of(node: &Node) -> &[Node]
     }
 }
 
-/// The kids before the node at a path, that node, and the kids behind it.
+/// The kids before the node at a path, that node, and the kids after it.
 pub(crate) fn part_at<'a>(
     doc: &'a Doc,
     parent: &Path,
@@ -101,7 +101,7 @@ pub(crate) fn part_at<'a>(
     }
 }
 
-/// The text behind the node at a path.
+/// The text after the node at a path.
 pub(crate) fn next_text<'a>(doc: &'a Doc, parent: &Path, path: &Path) -> Option<&'a Units>
     requires parent { parent.now ≡ parent_of path.now }
     requires there { IsInner path.now (plain_doc doc.now).root }

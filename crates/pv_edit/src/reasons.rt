@@ -14,7 +14,7 @@ pub enum Reason {
     NoNode,
     /// No element stands there.
     NotElement,
-    /// No text stands there, or none behind it.
+    /// No text stands there, or none after it.
     NotText,
     /// A number is past the last kid or unit, or two are in the wrong order.
     Range,

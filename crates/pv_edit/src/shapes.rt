@@ -227,7 +227,7 @@ pub(crate) fn split_shape(doc: &Doc, path: &Path, at: u32) -> Result<(), EditErr
     unless(at == 0 || units.len() <= at as usize, Reason::Range)
 }
 
-/// Whether a text can be joined with what stands behind it.
+/// Whether a text can be joined with what stands after it.
 pub(crate) fn join_shape(alloc: Global, doc: &Doc, path: &Path) -> Result<(), EditError>
     ensures { let reason = reason_of blank_mark (plain_doc doc.now).root (edit.Join path.now) in
         MatchResult result (λ _. reason ≡ None) (IsRefusal reason) }
@@ -286,7 +286,7 @@ pub(crate) fn add_text_shape(
     )
 }
 
-/// Whether a text can be taken away.
+/// Whether a text can be removed.
 pub(crate) fn del_text_shape(alloc: Global, doc: &Doc, path: &Path) -> Result<(), EditError>
     ensures { let reason = reason_of blank_mark (plain_doc doc.now).root (edit.DelText path.now) in
         MatchResult result (λ _. reason ≡ None) (IsRefusal reason) }

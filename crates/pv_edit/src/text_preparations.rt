@@ -85,7 +85,7 @@ pub(crate) fn prepare_join(alloc: Global, doc: &Doc, path: &Path) -> Result<Prep
     Ok(Preparation { task, inverse })
 }
 
-/// A text joined with the text behind it.
+/// A text joined with the text after it.
 pub(crate) fn join_task(alloc: Global, doc: &Doc, path: &Path) -> Result<Task, NoMemory>
     requires text { lacks_text path.now (plain_doc doc.now).root ≡ false }
     requires next { lacks_text (next_of path.now) (plain_doc doc.now).root ≡ false }
@@ -169,7 +169,7 @@ pub(crate) fn prepare_add_text(
     Ok(Preparation { task, inverse })
 }
 
-/// The preparation of a text taken away.
+/// The preparation of a text removed.
 pub(crate) fn prepare_del_text(
     alloc: Global,
     doc: &Doc,

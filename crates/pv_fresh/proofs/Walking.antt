@@ -1,6 +1,6 @@
 -- Walks over lists, part by part.
-use Rattle.std.proofs.Common.{Err, List, None, Ok, Option, Result, Some, [], append-nil, append_assoc, arith, length, length-append, refl, subst, sym, ℕ, ◌+◌, ◌++◌, ◌≤◌, ◌∷◌, ◌≡◌}
-use Rattle.std.specs.Prelude.{IsNone, MatchOption, MatchResult, OnOk, ◌↔◌}
+use Rattle.std.proofs.Common.{Err, List, None, Ok, Option, Result, Some, [], ap, append-nil, append_assoc, length, refl, subst, suc, sym, ℕ, ◌++◌, ◌∙◌, ◌∷◌, ◌≡◌}
+use Rattle.std.specs.Prelude.{IsNone, MatchOption, OnOk, ◌↔◌}
 use Rattle.std.specs.List.{AllByRecursion}
 use Rattle.pv_dtd.specs.Plain.{PlainDtd}
 use Rattle.pv_tree.specs.Lists.{Listed, lists_of}
@@ -38,45 +38,35 @@ pub have_none : (g : PlainDtd) (root : List ℕ) (vs : PlainVerdicts) → vs.ver
 have_none g root vs e f = record { are_verdicts = e; is_first = rw f tt }
 
 -- one list more
-pub goes_one : (g : PlainDtd) (root : List ℕ) (list : Listed Mark) (before after : PlainVerdicts) (from to : ℕ) (v : Verdict) → after.verdicts ≡ before.verdicts ++ v ∷ [] → after.first ≡ first_after before.first v list.path →
-    IsVerdict g root list v → to ≡ from + 1 → GoesOver g root (list ∷ []) before after from to
-goes_one g root list before after from to v vs f j n = record {
-  finds = λ past have. record {
-    are_verdicts = rw vs (verdicts_more g root past before.verdicts list v have.are_verdicts j);
-    is_first = rw f (first_more g root past before.first list v have.is_first j);
-  };
-  counts = n;
+pub goes_one : (g : PlainDtd) (root : List ℕ) (list : Listed Mark) (before after : PlainVerdicts) (v : Verdict) → after.verdicts ≡ before.verdicts ++ v ∷ [] → after.first ≡ first_after before.first v list.path →
+    IsVerdict g root list v → GoesOver g root (list ∷ []) before after
+goes_one g root list before after v vs f j = λ past have. record {
+  are_verdicts = rw vs (verdicts_more g root past before.verdicts list v have.are_verdicts j);
+  is_first = rw f (first_more g root past before.first list v have.is_first j);
 }
 
-pub goes_nowhere : (g : PlainDtd) (root : List ℕ) (state : PlainVerdicts) (from : ℕ) → GoesOver g root [] state state from from
-goes_nowhere g root state from = record { finds = λ past have. rw append-nil have; counts = omega arith }
+pub goes_nowhere : (g : PlainDtd) (root : List ℕ) (state : PlainVerdicts) → GoesOver g root [] state state
+goes_nowhere g root state = λ past have. rw append-nil have
 
-pub goes_on : (g : PlainDtd) (root : List ℕ) (lists more : List (Listed Mark)) (first middle last : PlainVerdicts) (from at to : ℕ) → GoesOver g root lists first middle from at → GoesOver g root more middle last at to →
-    GoesOver g root (lists ++ more) first last from to
-goes_on g root lists more first middle last from at to a b = record {
-  finds = λ past have. rw (sym (append_assoc past lists more)) (b.finds (past ++ lists) (a.finds past have));
-  counts = let m = a.counts in let n = b.counts in let k = length-append lists more in omega arith;
-}
-
--- a walk that breaks off behind these lists took no more steps than there are lists
-pub breaks_off : (lists more : List (Listed Mark)) (from at to : ℕ) → at ≡ from + length lists → to ≤ at + length more → to ≤ from + length (lists ++ more)
-breaks_off lists more from at to n h = let k = length-append lists more in omega arith
-
--- and among them
-pub breaks_early : (lists more : List (Listed Mark)) (from to : ℕ) → to ≤ from + length lists → to ≤ from + length (lists ++ more)
-breaks_early lists more from to h = let k = length-append lists more in omega arith
+pub goes_on : (g : PlainDtd) (root : List ℕ) (lists more : List (Listed Mark)) (first middle last : PlainVerdicts) → GoesOver g root lists first middle → GoesOver g root more middle last →
+    GoesOver g root (lists ++ more) first last
+goes_on g root lists more first middle last a b = λ past have. rw (sym (append_assoc past lists more)) (b (past ++ lists) (a past have))
 
 -- a list, and then what a call says of others
-pub goes_match : {E : Type 0} (g : PlainDtd) (r : Result (Unit {0}) E) (lists more : List (Listed Mark)) (first middle last : PlainVerdicts) (from at to : ℕ) →
-    ((root : List ℕ) → GoesOver g root lists first middle from at) →
-    MatchResult r (λ _. (root : List ℕ) → GoesOver g root more middle last at to) (λ _. to ≤ at + length more) →
-    MatchResult r (λ _. (root : List ℕ) → GoesOver g root (lists ++ more) first last from to) (λ _. to ≤ from + length (lists ++ more))
-goes_match g (Ok u) lists more first middle last from at to a b = λ root. goes_on g root lists more first middle last from at to (a root) (b root)
-goes_match g (Err e) lists more first middle last from at to a b = breaks_off lists more from at to (a []).counts b
+pub goes_ok : {E : Type 0} (g : PlainDtd) (r : Result (Unit {0}) E) (lists more : List (Listed Mark)) (first middle last : PlainVerdicts) →
+    ((root : List ℕ) → GoesOver g root lists first middle) → OnOk r ((root : List ℕ) → GoesOver g root more middle last) →
+    OnOk r ((root : List ℕ) → GoesOver g root (lists ++ more) first last)
+goes_ok g (Ok u) lists more first middle last a b = λ root. goes_on g root lists more first middle last (a root) (b root)
+goes_ok g (Err e) lists more first middle last a b = tt
 
 pub on_ok_both : {E A B C : Type 0} (r : Result (Unit {0}) E) → (A → B → C) → OnOk r A → OnOk r B → OnOk r C
 on_ok_both (Ok u) f a b = f a b
 on_ok_both (Err e) f a b = tt
+
+-- there are as many verdicts as lists
+pub as_many : {M : Type 0} (g : PlainDtd) (root : List ℕ) (lists : List (Listed M)) (vs : List Verdict) → AreVerdicts g root lists vs → length vs ≡ length lists
+as_many g root [] vs a = ap length a
+as_many g root (list ∷ lists) vs a = ap length a.2 ∙ ap suc (as_many g root lists a.1 a.4)
 
 -- there is no impossible list exactly where the document is potentially valid
 pub none_is_possible : {M : Type 0} (by_lists : IsPotentiallyValidByLists M) (g : PlainDtd) (root : List ℕ) (doc : PlainDoc M) (first : Option (List ℕ)) → IsProperDtd g → IsProperDoc doc →

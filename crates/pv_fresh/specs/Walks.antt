@@ -1,5 +1,5 @@
 -- A walk over lists, as it carries the proof.
-use Rattle.std.specs.Prelude.{List, None, Option, Some, length, ℕ, ◌+◌, ◌++◌, ◌≡◌}
+use Rattle.std.specs.Prelude.{List, None, Option, Some, ℕ, ◌++◌}
 use Rattle.pv_dtd.specs.Plain.{PlainDtd}
 use Rattle.pv_tree.specs.Lists.{Listed}
 use Rattle.pv_missing.specs.Verdicts.{HaveVerdicts, PlainVerdicts}
@@ -19,9 +19,7 @@ abbrev pub verdicts_of : Walk → PlainVerdicts
 verdicts_of w = record { verdicts = w.verdicts.items; first = w.first }
 
 -- The walk goes over these lists of a document with this root's name: what was found before them
--- becomes what is found with them, in one step for each.
-pub record GoesOver (g : PlainDtd) (root : List ℕ) (lists : List (Listed Mark))
-    (before after : PlainVerdicts) (from to : ℕ) : Type 0 where
-  pub finds : (past : List (Listed Mark)) → HaveVerdicts g root past before →
-      HaveVerdicts g root (past ++ lists) after
-  pub counts : to ≡ from + length lists
+-- becomes what is found with them.
+abbrev pub GoesOver : PlainDtd → List ℕ → List (Listed Mark) → PlainVerdicts → PlainVerdicts → Type 0
+GoesOver g root lists before after = (past : List (Listed Mark)) →
+    HaveVerdicts g root past before → HaveVerdicts g root (past ++ lists) after

@@ -28,10 +28,62 @@ use std::alloc::Global;
 use std::sync::ledger::Ledger;
 
 /// The verdicts of all lists of a document, in document order, and the path of the first Impossible
-/// one. There is none exactly where the document is potentially valid.
+/// one, on no counter.
 ///
 /// The widths of all lists come first, and take no memory but for a path. Then the rules of the
 /// grammar are laid out, once for all lists.
+pub fn find_verdicts(
+    alloc: Global,
+    grammar: &Grammar,
+    root: &[u8],
+    doc: &Doc,
+) -> Result<Verdicts, FreshError>
+    ensures verdicts { FindsVerdicts (dtd_of grammar.now) root.now (plain_doc doc.now) result }
+    ensures possible { FindsPossible (dtd_of grammar.now) root.now (plain_doc doc.now) result }
+    ensures narrow { FindsNarrow (dtd_of grammar.now) (plain_doc doc.now) result }
+    ensures refused { FindsCause (dtd_of grammar.now) (plain_doc doc.now) result }
+{
+    live_lists_law::<Mark>();
+    proper_dtd_law(grammar.dtd());
+    proper_doc_law(doc);
+    if let Some(path) = first_too_wide(alloc, grammar.dtd(), doc)? {
+        return Err(FreshError::TooWide(path));
+    }
+    let plan = Plan::of(alloc, grammar)?;
+    let judge = Judge::new(alloc, grammar, &plan);
+    let walk = judge_doc(&judge, root, doc)?;
+    Ok(Verdicts::of(walk.verdicts, walk.first))
+}
+
+// The walk over all lists, of which none is too wide.
+fn judge_doc(judge: &Judge<'_>, root: &[u8], doc: &Doc) -> Result<Walk, NoMemory>
+    requires fits { AllByRecursion (IsListForVerdict (dtd_of judge.now))
+        (lists_of (plain_doc doc.now)) }
+    ensures { IfOk result (λ walk. HaveVerdicts (dtd_of judge.now) root.now
+        (lists_of (plain_doc doc.now)) (verdicts_of walk)) }
+{
+    let mut walk = Walk::new(judge.alloc());
+    let owner = root_owner(judge.grammar().dtd(), root);
+    judge_list(judge, owner, std::slice::from_ref(&doc.root), &mut walk)?;
+    walk.places.push(0)?;
+    judge_node(judge, &doc.root, &mut walk)?;
+    Ok(walk)
+}
+
+/// Takes one step for each of so many lists.
+pub fn count_lists<L: Ledger>(count: u64, steps: &mut Steps<L>)
+    ensures { steps.new ≡ steps.old + count }
+{
+    for _list in 0..count {
+        steps.tick();
+    }
+}
+
+/// The verdicts of all lists of a document, in document order, and the path of the first Impossible
+/// one. There is none exactly where the document is potentially valid.
+///
+/// The widths of all lists come first, and take no memory but for a path. Then the rules of the
+/// grammar are laid out, once for all lists. Where there are no verdicts, no list is counted.
 pub fn check_doc<L: Ledger>(
     alloc: Global,
     grammar: &Grammar,
@@ -46,42 +98,7 @@ pub fn check_doc<L: Ledger>(
     ensures steps { CountsLists (plain_doc doc.now) steps.old steps.new result }
     ensures few_steps { CountsFewLists (plain_doc doc.now) steps.old steps.new }
 {
-    live_lists_law::<Mark>();
-    proper_dtd_law(grammar.dtd());
-    proper_doc_law(doc);
-    if let Some(path) = first_too_wide(alloc, grammar.dtd(), doc)? {
-        return Err(FreshError::TooWide(path));
-    }
-    let plan = Plan::of(alloc, grammar)?;
-    let judge = Judge::new(alloc, grammar, &plan);
-    let walk = judge_doc(&judge, root, doc, steps)?;
-    Ok(Verdicts::of(walk.verdicts, walk.first))
-}
-
-// The walk over all lists, of which none is too wide.
-fn judge_doc<L: Ledger>(
-    judge: &Judge<'_>,
-    root: &[u8],
-    doc: &Doc,
-    steps: &mut Steps<L>,
-) -> Result<Walk, NoMemory>
-    requires fits { AllByRecursion (IsListForVerdict (dtd_of judge.now))
-        (lists_of (plain_doc doc.now)) }
-    ensures verdicts { IfOk result (λ walk. HaveVerdicts (dtd_of judge.now) root.now
-        (lists_of (plain_doc doc.now)) (verdicts_of walk)) }
-    ensures steps { OnOk result (steps.new ≡ steps.old + length (lists_of (plain_doc doc.now))) }
-    ensures few_steps { steps.new ≤ steps.old + length (lists_of (plain_doc doc.now)) }
-{
-    let mut walk = Walk::new(judge.alloc());
-    let owner = root_owner(judge.grammar().dtd(), root);
-    judge_list(
-        judge,
-        owner,
-        std::slice::from_ref(&doc.root),
-        &mut walk,
-        steps,
-    )?;
-    walk.places.push(0)?;
-    judge_node(judge, &doc.root, &mut walk, steps)?;
-    Ok(walk)
+    let verdicts = find_verdicts(alloc, grammar, root, doc)?;
+    count_lists(verdicts.len(), steps);
+    Ok(verdicts)
 }

@@ -1,7 +1,6 @@
 //! The verdicts of lists, in document order.
 
-ghost use Rattle.std.specs.Prelude.{◌≡◌, ◌≤◌, ◌+◌, ◌∷◌, [], List, ℕ, IfOk, MatchResult, OnOk};
-ghost use Rattle.std.specs.Prelude.{length};
+ghost use Rattle.std.specs.Prelude.{◌≡◌, ◌≤◌, ◌∷◌, [], List, ℕ, IfOk, OnOk, length};
 ghost use Rattle.std.specs.List.{AllByRecursion};
 ghost use Rattle.pv_productive.specs.PlainForms.{dtd_of};
 ghost use Rattle.pv_tree.specs.Legal.{MAX_NODES};
@@ -14,31 +13,23 @@ ghost use Rattle.pv_missing.specs.Verdicts.{IsVerdict};
 ghost use Rattle.pv_missing.specs.Widths.{FitsVerdict, IsListForVerdict};
 ghost use Rattle.pv_missing.specs.WordVerdicts.{HoldsOne};
 ghost use Rattle.pv_missing.specs.Owners.{IsOwner};
-ghost use Rattle.pv_fresh.specs.Walks.{GoesOver, first_after, verdicts_of};
+ghost use Rattle.pv_fresh.specs.Walks.{GoesOver, verdicts_of};
 
 use crate::walk::Walk;
 use pv_chars::NoMemory;
 use pv_missing::{Of, element_owner};
-use pv_reach::{Judge, ReachError, list_verdict_by};
-use pv_steps::Steps;
+use pv_reach::{Judge, ReachError, judge_kids};
 use pv_tree::{Node, Verdict};
-use std::sync::ledger::Ledger;
 
 // The verdict of a list that isn't too wide.
-fn verdict_of<L: Ledger>(
-    judge: &Judge<'_>,
-    owner: Option<Of>,
-    kids: &[Node],
-    steps: &mut Steps<L>,
-) -> Result<Verdict, NoMemory>
+fn verdict_of(judge: &Judge<'_>, owner: Option<Of>, kids: &[Node]) -> Result<Verdict, NoMemory>
     requires fits { FitsVerdict (dtd_of judge.now)
         (length (word_of (dtd_of judge.now) (forest kids.now))) }
-    ensures verdict { IfOk result (λ verdict. (root : List ℕ) (list : Listed Mark) →
+    ensures { IfOk result (λ verdict. (root : List ℕ) (list : Listed Mark) →
         list.kids ≡ forest kids.now → IsOwner (dtd_of judge.now) root list owner →
         HoldsOne list.owner list.kids → IsVerdict (dtd_of judge.now) root list verdict) }
-    ensures steps { steps.new ≡ steps.old + 1 }
 {
-    match list_verdict_by(judge, owner, kids, steps) {
+    match judge_kids(judge, owner, kids) {
         Ok(verdict) => Ok(verdict),
         Err(ReachError::TooWide) => unreachable!(),
         Err(ReachError::NoMemory) => Err(NoMemory),
@@ -46,12 +37,11 @@ fn verdict_of<L: Ledger>(
 }
 
 /// Judges the list of these kids, at the places of the walk.
-pub fn judge_list<L: Ledger>(
+pub fn judge_list(
     judge: &Judge<'_>,
     owner: Option<Of>,
     kids: &[Node],
     walk: &mut Walk,
-    steps: &mut Steps<L>,
 ) -> Result<(), NoMemory>
     requires fits { FitsVerdict (dtd_of judge.now)
         (length (word_of (dtd_of judge.now) (forest kids.now))) }
@@ -59,62 +49,46 @@ pub fn judge_list<L: Ledger>(
         list.path ≡ walk.old.places.items → list.kids ≡ forest kids.now →
         IsOwner (dtd_of judge.now) root list owner → HoldsOne list.owner list.kids →
         GoesOver (dtd_of judge.now) root (list ∷ [])
-        (verdicts_of walk.old) (verdicts_of walk.new) steps.old steps.new) }
+        (verdicts_of walk.old) (verdicts_of walk.new)) }
     ensures places { walk.new.places ≡ walk.old.places }
-    ensures steps { steps.new ≡ steps.old + 1 }
 {
-    let verdict = verdict_of(judge, owner, kids, steps)?;
+    let verdict = verdict_of(judge, owner, kids)?;
     walk.push(judge.alloc(), verdict)
 }
 
 /// Judges the lists of this subtree. The places of the walk are those of its node.
 #[cycle(judge)]
-pub fn judge_node<L: Ledger>(
-    judge: &Judge<'_>,
-    node: &Node,
-    walk: &mut Walk,
-    steps: &mut Steps<L>,
-) -> Result<(), NoMemory>
+pub fn judge_node(judge: &Judge<'_>, node: &Node, walk: &mut Walk) -> Result<(), NoMemory>
     requires small { nodes_in (plain node.now) ≤ MAX_NODES }
     requires fits { AllByRecursion (IsListForVerdict (dtd_of judge.now))
         (lists_at walk.old.places.items (plain node.now)) }
-    ensures judged { MatchResult result
-        (λ _. (root : List ℕ) → GoesOver (dtd_of judge.now) root
+    ensures judged { OnOk result ((root : List ℕ) → GoesOver (dtd_of judge.now) root
         (lists_at walk.old.places.items (plain node.now))
-        (verdicts_of walk.old) (verdicts_of walk.new) steps.old steps.new)
-        (λ _. steps.new ≤ steps.old + length (lists_at walk.old.places.items (plain node.now))) }
+        (verdicts_of walk.old) (verdicts_of walk.new)) }
     ensures places { OnOk result (walk.new.places.items ≡ walk.old.places.items) }
 {
     let Node::Elem { name, kids, .. } = node else {
         return Ok(());
     };
     let owner = element_owner(judge.grammar().dtd(), name.as_slice());
-    judge_list(judge, owner, kids, walk, steps)?;
-    judge_kids(judge, kids, walk, steps)
+    judge_list(judge, owner, kids, walk)?;
+    judge_below(judge, kids, walk)
 }
 
 // The same of nodes side by side, at the places of their list.
 #[cycle(judge)]
-fn judge_kids<L: Ledger>(
-    judge: &Judge<'_>,
-    kids: &[Node],
-    walk: &mut Walk,
-    steps: &mut Steps<L>,
-) -> Result<(), NoMemory>
+fn judge_below(judge: &Judge<'_>, kids: &[Node], walk: &mut Walk) -> Result<(), NoMemory>
     requires small { nodes_in_all (forest kids.now) ≤ MAX_NODES }
     requires fits { AllByRecursion (IsListForVerdict (dtd_of judge.now))
         (lists_from walk.old.places.items 0 (forest kids.now)) }
-    ensures judged { MatchResult result
-        (λ _. (root : List ℕ) → GoesOver (dtd_of judge.now) root
+    ensures judged { OnOk result ((root : List ℕ) → GoesOver (dtd_of judge.now) root
         (lists_from walk.old.places.items 0 (forest kids.now))
-        (verdicts_of walk.old) (verdicts_of walk.new) steps.old steps.new)
-        (λ _. steps.new ≤ steps.old +
-        length (lists_from walk.old.places.items 0 (forest kids.now))) }
+        (verdicts_of walk.old) (verdicts_of walk.new)) }
     ensures places { OnOk result (walk.new.places.items ≡ walk.old.places.items) }
 {
     for (i, kid) in kids.iter().enumerate() {
         walk.places.push(i as u32)?;
-        judge_node(judge, kid, walk, steps)?;
+        judge_node(judge, kid, walk)?;
         walk.places.pop();
     }
     Ok(())

@@ -1,9 +1,9 @@
 //! The verdicts of all lists of a document, each found afresh.
 //!
 //! `check_doc` looks at the widths of all lists, and then finds each list's verdict, in document
-//! order (`HaveVerdicts` of pv_missing). A document is potentially valid exactly where none of them
-//! is Impossible; `possible_verdicts` gives its verdicts then. `first_too_wide` looks at the widths
-//! alone.
+//! order (`HaveVerdicts` of pv_missing), in one step for each. A document is potentially valid
+//! exactly where none of them is Impossible; `possible_verdicts` gives its verdicts then, and counts
+//! nothing. `first_too_wide` looks at the widths alone.
 #![tactic(auto)]
 
 mod check;
@@ -13,7 +13,7 @@ mod possible;
 mod walk;
 mod widths;
 
-pub use check::check_doc;
+pub use check::{check_doc, count_lists};
 pub use errors::{FreshError, PossibleError};
 pub use possible::possible_verdicts;
 pub use widths::first_too_wide;

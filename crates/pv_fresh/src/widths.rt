@@ -1,22 +1,21 @@
 //! The first list that is too wide for a verdict.
 
 ghost use Rattle.std.specs.Prelude.{◌≡◌, ◌≤◌, ◌<◌, ◌^◌, ◌↔◌, List, ℕ, IfOk, IsTrue, MatchOption};
-ghost use Rattle.std.specs.Prelude.{length, suc, if◌then◌else◌};
+ghost use Rattle.std.specs.Prelude.{length};
 ghost use Rattle.std.specs.List.{AllByRecursion};
-ghost use Rattle.pv_model.specs.Plain.{PlainToken};
 ghost use Rattle.pv_dtd.specs.Plain.{PlainDtd};
 ghost use Rattle.pv_dtd.specs.PlainForms.{plain_dtd};
 ghost use Rattle.pv_tree.specs.Legal.{MAX_NODES};
 ghost use Rattle.pv_tree.specs.Lists.{lists_of};
 ghost use Rattle.pv_tree.specs.PlainDocs.{plain_doc};
-ghost use Rattle.pv_tree.specs.PlainForms.{plain, forest};
-ghost use Rattle.pv_tree.specs.Words.{node_before, word_of};
+ghost use Rattle.pv_tree.specs.PlainForms.{forest};
+ghost use Rattle.pv_tree.specs.Words.{word_of};
 ghost use Rattle.pv_missing.specs.Widths.{FitsVerdict, IsFirstTooWide, IsListForVerdict};
 
 use pv_chars::NoMemory;
 use pv_dtd::Dtd;
 use pv_missing::is_narrow;
-use pv_tree::{Doc, ListTest, Node, Path, first_list};
+use pv_tree::{Doc, DocList, ListTest, Node, Path, first_list};
 use std::alloc::Global;
 
 /// The path of the first list that is too wide for a verdict.
@@ -41,12 +40,8 @@ impl ListTest for Widths<'_> {
 
     ghost awaits = { λ _ _ _ _. Unit {0} };
 
-    fn passes_document(&self, root: &Node, _: &mut ()) -> Result<bool, NoMemory> {
-        Ok(is_list_narrow(self.dtd, std::slice::from_ref(root)))
-    }
-
-    fn passes_element(&self, _: &[u8], kids: &[Node], _: &mut ()) -> Result<bool, NoMemory> {
-        Ok(is_list_narrow(self.dtd, kids))
+    fn passes_list(&self, list: &DocList<'_>, _: &mut ()) -> Result<bool, NoMemory> {
+        Ok(is_list_narrow(self.dtd, list.kids))
     }
 }
 
@@ -71,21 +66,9 @@ fn tokens_in(kids: &[Node]) -> u64
 {
     let mut count = 0;
     for kid in kids {
-        if has_token(kid) {
+        if kid.has_token() {
             count += 1;
         }
     }
     count
-}
-
-// Whether the node has a token in the word of its list.
-fn has_token(node: &Node) -> bool
-    ensures { (g : PlainDtd) (rest : List PlainToken) → length (node_before g (plain node.now) rest)
-        ≡ (if result then suc (length rest) else length rest) }
-{
-    match node {
-        Node::Elem { .. } | Node::Cdata(_) => true,
-        Node::Text(units) => units.has_data(),
-        Node::Misc(_) => false,
-    }
 }

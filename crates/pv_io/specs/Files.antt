@@ -8,6 +8,13 @@ use Rattle.pv_io.specs.Causes.{CountStays, Rose}
 use Rattle.pv_io.specs.declared.shelf.FetchError.{FetchError}
 use Rattle.pv_io.specs.declared.shelf.FetchError.TheVariants.{Failed, TooLong, NoMemory}
 
+-- what a shelf tells of its files, where it tells them: the first with a name is the file of that
+-- name; how often it was asked, whatever it answered; and how often it failed
+pub record ShelfNow : Type 0 where
+  pub files : Option (List (List ℕ × List ℕ))
+  pub calls : ℕ
+  pub faults : ℕ
+
 -- the file of the first pair with this name
 abbrev pub file_named : List ℕ → List (List ℕ × List ℕ) → Option (List ℕ)
 file_named name [] = None

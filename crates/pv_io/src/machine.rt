@@ -178,11 +178,7 @@ impl<'a, R: Files> Shelf for FolderShelf<'a, R> {
 
     ghost names = { λ s. s.names };
 
-    ghost files = { λ _. None };
-
-    ghost faults = { λ s. s.faults };
-
-    ghost calls = { λ s. s.calls };
+    ghost moment = { λ s. record { files = None; calls = s.calls; faults = s.faults } };
 
     fn fetch(&mut self, alloc: Global, name: &str, most: usize) -> Result<Vec<u8>, FetchError>
         ensures bound { IfOk result (λ v. vec_len v ≤ most) }

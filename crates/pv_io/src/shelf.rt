@@ -1,8 +1,8 @@
 //! Files by their names.
 
-ghost use Rattle.std.specs.Prelude.{◌≡◌, ◌≤◌, List, ℕ, Option, IfOk, Contains, vec_len};
+ghost use Rattle.std.specs.Prelude.{◌≡◌, ◌≤◌, List, ℕ, IfOk, Contains, vec_len};
 ghost use Rattle.pv_io.specs.Causes.{MadeCalls};
-ghost use Rattle.pv_io.specs.Files.{FetchTells, FetchCountsFault};
+ghost use Rattle.pv_io.specs.Files.{FetchTells, FetchCountsFault, ShelfNow};
 
 use std::alloc::Global;
 use thiserror::Error;
@@ -26,22 +26,16 @@ pub trait Shelf {
     /// The names that may be fetched.
     ghost names: { Self → List (List ℕ) };
 
-    /// The files, where they are known: the first with a name is the file of that name.
-    ghost files: { Self → Option (List (List ℕ × List ℕ)) };
-
-    /// How often the shelf has failed.
-    ghost faults: { Self → ℕ };
-
-    /// How often the shelf was asked, whatever it answered.
-    ghost calls: { Self → ℕ };
+    /// What it tells of its files, how often it was asked, and how often it failed.
+    ghost moment: { Self → ShelfNow };
 
     /// The bytes of a file of at most so many.
     fn fetch(&mut self, alloc: Global, name: &str, most: usize) -> Result<Vec<u8>, FetchError>
         requires { Contains (names self.old) name.now }
         ensures bound { IfOk result (λ v. vec_len v ≤ most) }
-        ensures bytes { FetchTells (files self.old) name.now most result }
-        ensures cause { FetchCountsFault (faults self.old) (faults self.new) result }
-        ensures calls { MadeCalls 1 (calls self.old) (calls self.new) }
+        ensures bytes { FetchTells (moment self.old).files name.now most result }
+        ensures cause { FetchCountsFault (moment self.old).faults (moment self.new).faults result }
+        ensures calls { MadeCalls 1 (moment self.old).calls (moment self.new).calls }
         ensures names { names self.new ≡ names self.old }
-        ensures files { files self.new ≡ files self.old };
+        ensures files { (moment self.new).files ≡ (moment self.old).files };
 }

@@ -1,13 +1,11 @@
 -- What a reader of events has given, from one event to the next and at the end.
-use Rattle.std.proofs.Common.{List, [], append-nil, append_assoc, length, ◌≤◌, refl, subst, sym, ℕ, ◌++◌, ◌∷◌, ◌≡◌}
+use Rattle.std.proofs.Common.{List, [], append-nil, append_assoc, refl, subst, sym, ℕ, ◌++◌, ◌∷◌, ◌≡◌}
 use Rattle.pv_tree.specs.Marks.{blank_mark}
-use Rattle.pv_tree.specs.Plain.{PlainDoc}
-use Rattle.pv_tree.specs.declared.nodes.Mark.{Mark}
 use Rattle.pv_read.specs.Errors.{Refuses}
-use Rattle.pv_read.specs.Meaning.{DocumentMeansWithin, Outcome, is_document, items, long}
+use Rattle.pv_read.specs.Meaning.{DocumentMeansWithin}
 use Rattle.pv_read.specs.declared.errors.DocError.{DocError}
 use Rattle.pv_read.specs.declared.errors.DocError.TheVariants.{Deep, DoctypeName, Entity, Limit, Mismatch, NoMemory, Subset, Syntax}
-use Rattle.pv_flat.specs.Coming.{MAX_FLAT_BYTES, EventsCome, ComesAt, TextEnd, LeadsBy, RefusesRest, TextComes, ends_with, flat_limits}
+use Rattle.pv_flat.specs.Coming.{EventsCome, ComesAt, TextEnd, LeadsBy, RefusesRest, TextComes, ends_with, flat_limits}
 use Rattle.pv_flat.specs.Plain.{PlainEvent}
 use Rattle.pv_flat.specs.declared.state.Events.{Events}
 use Rattle.pv_flat.specs.declared.state.Stage.TheVariants as stage
@@ -36,8 +34,3 @@ module _ (root bytes : List ℕ) (given : List PlainEvent) (old : Events) (g : H
   given-refused (Deep k) r = g.comes [] _ (r [])
   given-refused Limit r = g.comes [] _ (r [])
   given-refused NoMemory r = tt
-
--- a document within the limits has no more bytes than they allow
-pub few-bytes : {root bytes : List ℕ} {o : Outcome Mark} → DocumentMeansWithin flat_limits blank_mark root bytes o → (doc : PlainDoc Mark) → o ≡ is_document doc → length bytes ≤ MAX_FLAT_BYTES
-few-bytes (long many) doc e = absurd (cc)
-few-bytes (items few mark means) doc e = few

@@ -164,10 +164,12 @@ pub struct BodyRead {
     pub kept: bool,
 }
 
-/// Reads a body of any depth once, beside the tree of a document: what `plain_elements` tells of
-/// it, and what `is_kept` does where these are marks.
+/// Reads a body of any depth once, beside the tree of a document: of each of its elements, in
+/// document order, whether it has no attribute bytes, and what `is_kept` tells where these are
+/// marks.
 ///
-/// An error, but for want of memory, tells why the bytes aren't the text of a document.
+/// An error, but for want of memory, tells why the bytes aren't the text of a document; a fault
+/// anywhere in the bytes comes before any answer.
 pub fn read_body(
     alloc: Global,
     root: &[u8],

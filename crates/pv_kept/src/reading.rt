@@ -1,15 +1,11 @@
 //! Documents of any depth, read by events.
 
-ghost use Rattle.std.specs.Prelude.{◌≡◌, ◌≤◌, ◌++◌, IfOk, IfErr, length};
+ghost use Rattle.std.specs.Prelude.{◌≡◌, ◌++◌, IfOk, IfErr};
 ghost use Rattle.pv_tree.specs.Marks.{blank_mark};
-ghost use Rattle.pv_tree.specs.Plain.{PlainDoc};
-ghost use Rattle.pv_tree.specs.View.{view};
-ghost use Rattle.pv_tree.specs.declared.nodes.Mark.{Mark};
 ghost use Rattle.pv_read.specs.Errors.{Refuses};
 ghost use Rattle.pv_read.specs.Meaning.{DocumentMeansWithin};
-ghost use Rattle.pv_flat.specs.Coming.{MAX_FLAT_BYTES, flat_limits};
+ghost use Rattle.pv_flat.specs.Coming.{flat_limits};
 ghost use Rattle.pv_flat.specs.Plain.{plain_event};
-ghost use Rattle.pv_kept.specs.Kept.{IsBodyText, are_plain, attributes_of};
 ghost use Rattle.pv_kept.specs.Reading.{is_plain_start};
 
 use pv_chars::NoMemory;
@@ -29,26 +25,6 @@ pub fn note(plain: &mut Vec<bool>, event: &Event<'_>) -> Result<(), NoMemory>
         }
         Event::Stop | Event::Text(_) | Event::Cdata(_) | Event::Misc(_) => Ok(()),
     }
-}
-
-/// Of each element of the document that the bytes are, in document order, whether it has no
-/// attribute bytes. Elements may stand at any depth.
-///
-/// A fault anywhere in the bytes comes before any answer.
-pub fn plain_elements(alloc: Global, root: &[u8], bytes: &[u8]) -> Result<Vec<bool>, DocError>
-    ensures read { IfOk result (λ plain. (body : PlainDoc Mark) ×
-        IsBodyText root.now bytes.now body ×
-        (plain.items ≡ are_plain (attributes_of (view body.root)))) }
-    ensures few { IfOk result (λ _. length bytes.now ≤ MAX_FLAT_BYTES) }
-    ensures refused { IfErr result (λ error.
-        Refuses (DocumentMeansWithin flat_limits blank_mark root.now bytes.now) error) }
-{
-    let mut events = Events::new(alloc, bytes, root)?;
-    let mut plain = Vec::new(alloc);
-    'events: while let Some(event) = events.next()? {
-        note(&mut plain, &event)?;
-    }
-    Ok(plain)
 }
 
 /// A document by its events: the bytes before its root, the events, and the bytes behind it.

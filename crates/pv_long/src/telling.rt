@@ -23,27 +23,19 @@ use pv_missing::laws::documents::bounds_add_up_law;
 use pv_missing::laws::proper::proper_doc_law;
 use pv_productive::Grammar;
 use pv_span::lay_out;
-use pv_steps::Steps;
 use pv_tree::{Doc, Mark};
 use std::alloc::Global;
-use std::marker::Brand;
-use std::sync::ledger::{Blank, Ledger};
 
-// The verdicts of the lists of a document that isn't impossible, on a counter of their own.
-fn verdicts_of<L: Ledger>(
+// The verdicts of the lists of a document that isn't impossible.
+fn verdicts_of(
     alloc: Global,
     grammar: &Grammar,
     root: &[u8],
     doc: &Doc,
-    blank: Blank,
 ) -> Result<Verdicts, LongError>
-    requires name { blank.name ≡ L.name }
-    requires parts { blank.parts ≡ L.parts }
-    requires some { 0 < L.parts }
     ensures { IfErr result (TellsNone (dtd_of grammar.now) root.now (plain_doc doc.now)) }
 {
-    let mut steps = Steps::<L>::start(blank);
-    match possible_verdicts(alloc, grammar, root, doc, &mut steps) {
+    match possible_verdicts(alloc, grammar, root, doc) {
         Ok(verdicts) => Ok(verdicts),
         Err(PossibleError::TooWide(path)) => Err(LongError::TooWide(path)),
         Err(PossibleError::Impossible(path)) => Err(LongError::Impossible(path)),
@@ -121,7 +113,7 @@ pub fn missing(
     ensures told { IfOk result (IsMissing (dtd_of grammar.now) root.now (plain_doc doc.now)) }
     ensures refused { IfErr result (TellsNone (dtd_of grammar.now) root.now (plain_doc doc.now)) }
 {
-    let verdicts = verdicts_of::<Brand>(alloc, grammar, root, doc, Blank::new(1))?;
+    let verdicts = verdicts_of(alloc, grammar, root, doc)?;
     let (least, completion) = bounds_of(alloc, grammar, root, doc, bytes, &verdicts)?;
     if least < completion.count {
         Ok(Missing::Between(least, completion))

@@ -22,7 +22,7 @@ known_at g [] i d h k = absurd (omega arith)
 known_at g (t ∷ ts) zero d h k = one_known g (plain_token t) (λ y e. k 0 y (ap (λ v. Some v) e))
 known_at g (t ∷ ts) (suc i) d h k = known_at g ts i d (omega arith) (λ j y e. k (suc j) y e)
 
--- the live word of all, where that of the tokens behind one follows its own
+-- the live word of all, where that of the tokens after one follows its own
 pub follows_more : (g : PlainDtd) (tokens live : List Token) (i : ℕ) (d t : Token) (now : List Token) (rest : List PlainToken) → i < length tokens → now ≡ live ++ t ∷ [] →
     ((r : List PlainToken) → IsLiveWord g (map plain_token (drop i tokens)) r → IsLiveWord g (map plain_token tokens) (map plain_token live ++ r)) →
     ((w l : List PlainToken) → IsLiveWord g w l → IsLiveWord g (plain_token (get_or tokens i d) ∷ w) (plain_token t ∷ l)) →

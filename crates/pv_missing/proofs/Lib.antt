@@ -42,6 +42,7 @@ pub mod Known
 pub mod ListDerivations
 pub mod Locality
 pub mod NoneImpossible
+pub mod NoneMissing
 pub mod NonePossible
 pub mod Repeats
 pub mod Shrinking

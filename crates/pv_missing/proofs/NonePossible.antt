@@ -13,10 +13,10 @@ use Rattle.pv_missing.proofs.OneList.{extends_refl}
 use Rattle.pv_tree.specs.declared.nodes.Verdict.{Verdict}
 use Rattle.pv_tree.specs.declared.nodes.Verdict.TheVariants as verdict
 
-abbrev counted : Verdict → ℕ
+abbrev pub counted : Verdict → ℕ
 counted v = cond (is_possible v) 1 0
 
-count_more : (v : Verdict) (vs : List Verdict) → possible_in (v ∷ vs) ≡ counted v + possible_in vs
+pub count_more : (v : Verdict) (vs : List Verdict) → possible_in (v ∷ vs) ≡ counted v + possible_in vs
 count_more v vs = sum_by-cons counted v vs
 
 -- a list that is valid by itself isn't Possible

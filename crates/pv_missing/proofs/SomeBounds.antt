@@ -27,7 +27,7 @@ others_ascend R x xs p i j d h k = p (suc i) (suc j) d (omega arith) (omega arit
 before_listed : {X : Type 0} (R : X → X → Type 0) (x y : X) (xs : List X) → AllPairs R (x ∷ xs) → Contains xs y → R x y
 before_listed {X = X} R x y xs p (k, l, e) = let P : X → Type 0 = R x in subst P e (p 0 (suc k) y (omega arith) (omega arith))
 
--- no path behind one is the one
+-- no path after one is the one
 behind_not : (path : List ℕ) (b : BoundAt) (bs : List BoundAt) → path ≡ b.path → AllByRecursion (IsBefore b) bs → AllByRecursion (λ c. path ≡ c.path → ⊥) bs
 behind_not path b [] e a = tt
 behind_not path b (c ∷ bs) e a =

@@ -40,7 +40,7 @@ contains_more v vs w c = (suc c.0, let h = c.1 in omega arith, c.2)
 contains_none : (vs : List Verdict) (w : Verdict) → vs ≡ [] → Contains vs w → ⊥
 contains_none vs w e c = let h = c.1 in let z : length vs ≡ 0 = ap length e in omega arith
 
--- the first impossible list is behind a list that isn't impossible
+-- the first impossible list is after a list that isn't impossible
 first_later : {M : Type 0} (g : PlainDtd) (root : List ℕ) (list : Listed M) (lists : List (Listed M)) (v : Verdict) (vs : List Verdict) → v ≢ verdict.Impossible → IsVerdict g root list v →
     (Contains vs verdict.Impossible → (path : List ℕ) × IsFirstImpossible g root lists path) → Contains (v ∷ vs) verdict.Impossible → (path : List ℕ) × IsFirstImpossible g root (list ∷ lists) path
 first_later g root list lists v vs n j below c =

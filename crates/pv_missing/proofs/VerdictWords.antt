@@ -68,7 +68,7 @@ text_or_none : (b : Bool) (y : ℕ) → (if b then text ∷ [] else []) ≡ name
 text_or_none true y e = cc
 text_or_none false y e = cc
 
-root_of_word : {M : Type 0} (g : PlainDtd) (root : List ℕ) (y : ℕ) (t : Tree M) → number_of g root ≡ Some y → node_before g t [] ≡ named y ∷ [] → IsRootElement root t
+pub root_of_word : {M : Type 0} (g : PlainDtd) (root : List ℕ) (y : ℕ) (t : Tree M) → number_of g root ≡ Some y → node_before g t [] ≡ named y ∷ [] → IsRootElement root t
 root_of_word g root y (element x a e k m) n w = one_name g x root y (token_number (number_of g x) y cc) n
 root_of_word g root y (text_node us) n w = absurd (text_or_none (has_data us) y w)
 root_of_word g root y (cdata_node b) n w = absurd cc

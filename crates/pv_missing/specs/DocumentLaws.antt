@@ -14,7 +14,7 @@ use Rattle.pv_missing.specs.Extending.{Extends, leaves_of}
 use Rattle.pv_missing.specs.Levels.{Inserts, IsCompleted, IsGoodExtension}
 use Rattle.pv_missing.specs.Missing.{MissInAll}
 use Rattle.pv_missing.specs.SameMissing.{SameMissing, bare, uncut}
-use Rattle.pv_missing.specs.Verdicts.{AreVerdicts, IsLive}
+use Rattle.pv_missing.specs.Verdicts.{AreVerdicts, HavePossible, IsLive}
 use Rattle.pv_missing.specs.Weighing.{AscendBounds, BoundAt, BoundInAll, IsBoundAt, SumIsLeast}
 use Rattle.pv_missing.specs.Weighing.{WeighInAll, sum_of_bounds}
 use Rattle.pv_tree.specs.declared.nodes.Verdict.{Verdict}
@@ -49,6 +49,12 @@ abbrev pub BoundsAddUp : (M : Type 0) → Type 0
 BoundsAddUp M = (g : PlainDtd) (root : List ℕ) (doc : PlainDoc M) (s : ℕ) →
     IsProperDtd g → IsProperDoc doc → BoundInAll g root (lists_of doc) s →
     (n : ℕ) → HasCompletion g root n (view doc.root) → s ≤ n
+
+-- So is the number of its Possible lists.
+abbrev pub PossibleAreMissing : (M : Type 0) → Type 0
+PossibleAreMissing M = (g : PlainDtd) (root : List ℕ) (doc : PlainDoc M) (possible : ℕ) →
+    IsProperDtd g → IsProperDoc doc → HavePossible g root (lists_of doc) possible →
+    (n : ℕ) → HasCompletion g root n (view doc.root) → possible ≤ n
 
 -- So is a sum of bounds at ascending paths of some of the lists.
 abbrev pub SomeBounds : (M : Type 0) → Type 0

@@ -15,6 +15,7 @@ use Rattle.pv_missing.specs.Verdicts.{AreProductiveKids, IsFirstImpossible, IsLi
 use Rattle.pv_missing.specs.Verdicts.{IsProductiveOwner, IsVerdict}
 use Rattle.pv_missing.specs.Missing.{Misses}
 use Rattle.pv_missing.specs.Weighing.{IsBound, Weighs, site_of, whole}
+use Rattle.pv_missing.specs.WordVerdicts.{HoldsOne}
 use Rattle.pv_rules.specs.Derivations.{Derives, IsClosed, heaviest}
 use Rattle.pv_rules.specs.Rules.{Goal, IsKnownWord, Rule}
 use Rattle.pv_rules.specs.Sites.{PlainSite}
@@ -58,6 +59,11 @@ abbrev pub ValidMissesNone : (M : Type 0) → Type 0
 ValidMissesNone M = (g : PlainDtd) (root : List ℕ) (list : Listed M) →
     IsProperDtd g → IsVerdict g root list verdict.Valid →
     Misses g root list 0 × Weighs g root list 0
+
+-- and a list in which nothing is missing is valid by itself
+abbrev pub NoneMissingIsValid : (M : Type 0) → Type 0
+NoneMissingIsValid M = (g : PlainDtd) (root : List ℕ) (list : Listed M) →
+    HoldsOne list.owner list.kids → Misses g root list 0 → IsValidList g root list
 
 -- The whole word of a live list has a derivation of a weight only where so many elements are
 -- missing in the list; where n are missing, it has one that weighs no more.

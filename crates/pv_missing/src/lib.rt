@@ -3,7 +3,7 @@
 //!
 //! The definitions are in `specs/`: extensions of a document and its completions, the words that
 //! are possible for the content of an element, the verdict of a list of kids, and how many elements
-//! are missing in one. The crate gives away the types that verdicts are told in (`Of`, `Verdicts`,
+//! are missing in one. The crate exports the types that verdicts are told in (`Of`, `Verdicts`,
 //! by specs/Verdicts.antt), whose list one is (`element_owner`, `root_owner`, by
 //! specs/Owners.antt), the word that verdicts are found by (`live_word`, by specs/LiveWords.antt)
 //! and whether its names are productive (`are_productive`), and whether it is short enough

@@ -23,13 +23,10 @@ use crate::gate::Gate;
 use crate::jobs::{Job, OwnerName, Run};
 use pv_chars::NoMemory;
 use pv_missing::{Of, element_owner, root_owner};
-use pv_reach::{Judge, ReachError, list_verdict_by};
-use pv_steps::Steps;
+use pv_reach::{Judge, ReachError, judge_kids};
 use pv_tree::{Node, Verdict};
 use rayon::prelude::*;
 use std::alloc::{AllocError, Global};
-use std::marker::Brand;
-use std::sync::ledger::{Blank, Ledger};
 use std::thread::Threads;
 
 /// What came of a piece of work.
@@ -40,26 +37,6 @@ const PIECES: usize = 8;
 
 // The fewest that are worth more threads than one.
 const MANY: usize = 4;
-
-// The verdict of a list, found on a counter of its own.
-fn verdict_on<L: Ledger>(
-    judge: &Judge<'_>,
-    owner: Option<Of>,
-    kids: &[Node],
-    blank: Blank,
-) -> Result<Verdict, ReachError>
-    requires name { blank.name ≡ L.name }
-    requires parts { blank.parts ≡ L.parts }
-    requires some { 0 < L.parts }
-    ensures verdict { IfOk result (λ verdict. (root : List ℕ) (list : Listed Mark) →
-        list.kids ≡ forest kids.now → IsOwner (dtd_of judge.now) root list owner →
-        HoldsOne list.owner list.kids → IsVerdict (dtd_of judge.now) root list verdict) }
-    ensures wide { IfErr result (λ e. e ≡ too_wide → ¬ FitsVerdict (dtd_of judge.now)
-        (length (word_of (dtd_of judge.now) (forest kids.now)))) }
-{
-    let mut steps = Steps::<L>::start(blank);
-    list_verdict_by(judge, owner, kids, &mut steps)
-}
 
 // Judges a list behind those judged so far, when its number is told.
 fn judge_list<G: Gate>(
@@ -79,7 +56,7 @@ fn judge_list<G: Gate>(
         (length (word_of (dtd_of judge.now) (forest kids.now)))) }
 {
     gate.enter(first.wrapping_add(verdicts.len() as u64));
-    let verdict = verdict_on::<Brand>(judge, owner, kids, Blank::new(1))?;
+    let verdict = judge_kids(judge, owner, kids)?;
     verdicts.push(verdict)?;
     Ok(())
 }
@@ -226,13 +203,4 @@ pub fn join_judged(alloc: Global, judged: &[Judged]) -> Result<Vec<Verdict>, NoM
         verdicts.extend_from_slice(verdicts_in(one)?)?;
     }
     Ok(verdicts)
-}
-
-/// Takes one step for each verdict.
-pub fn count_lists<L: Ledger>(verdicts: &[Verdict], steps: &mut Steps<L>)
-    ensures { steps.new ≡ steps.old + length verdicts.now }
-{
-    for _one in verdicts {
-        steps.tick();
-    }
 }

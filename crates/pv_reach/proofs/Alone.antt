@@ -1,4 +1,4 @@
--- A rule with a token has no columns behind it, or its own.
+-- A rule with a token has no columns after it, or its own.
 use Rattle.std.proofs.Common.{List, None, Option, Some, [], ap, inl, inr, subst, sym, ℕ, ◌∙◌, ◌∷◌, ◌≡◌, ◌⊎◌}
 use Rattle.pv_model.specs.Plain.{PlainModel, PlainPart, any, children, choice, empty, mixed, name, opt, plus, seq, star}
 use Rattle.pv_model.specs.declared.models.Token.{Token}

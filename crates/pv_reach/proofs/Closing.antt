@@ -76,7 +76,7 @@ module _ (rules : List ColumnRule) (word : List Token) (width : ℕ) (table : Li
         (past_beyond from full cs (all_rest width c cs range) k j (omega arith) (reaches_within rules word (c ∷ []) i k one lt) f)
         (λ p l kp short g. past_beyond from full cs (all_rest width c cs range) p l (omega arith) short g)
 
-    -- a place that is closed is complete if those behind it are
+    -- a place that is closed is complete if those after it are
     module _ (place : ℕ) (range : InRange width rules) (closed : IsClosedAt rules word width table place) (full : IsComplete rules word width table (suc place)) (short : place ≤ length word) where
       -- what a rule reaches is no further than its cell
       offer : (r : ColumnRule) (o : Option Token) (m k : ℕ) → Contains rules r → r.token ≡ o → ReadsToken word o place m →

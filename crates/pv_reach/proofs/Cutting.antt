@@ -15,7 +15,7 @@ use Rattle.pv_reach.specs.Merging.{column_head, column_heads}
 use Rattle.pv_reach.proofs.Emptied.{moved}
 use Rattle.pv_reach.proofs.Replacing.{by_has, its_own}
 
--- behind the end of a word nothing is read
+-- after the end of a word nothing is read
 reads_nothing : (word : List Token) (o : Option Token) (i m : ℕ) → ReadsToken word o i m → length word ≤ i → m ≡ i
 reads_nothing word None i m e le = e
 reads_nothing word (Some t) i m (g, e) le = absurd (let h = slice_get_within word i t g in omega arith)

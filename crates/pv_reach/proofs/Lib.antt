@@ -27,3 +27,5 @@ pub mod SitesReach
 pub mod Sweeping
 pub mod Taking
 pub mod Within
+-- for other crates:
+pub mod OtherMarks

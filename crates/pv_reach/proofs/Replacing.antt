@@ -219,7 +219,7 @@ module _ (rules : List ColumnRule) (m : Merging) (i : ℕ) (lt : i < length rule
       let P : ColumnRule → Type 0 = λ v. Has new (column_head m.heads.items v.left) v.token (column_heads m.heads.items v.columns.items) in
       subst P (sym z) (has_as new (column_head m.heads.items r.left) l r.token r.token (column_heads m.heads.items r.columns.items) cs (sym e) refl (sym f) h)
 
-  -- what stands behind its own place may follow
+  -- what stands after its own place may follow
   pub behind_own : IsMerging rules m → (place further : ℕ) → r.token ≡ None → ((k : ℕ) → k < length r.columns.items → get_or m.bare.items (get_or r.columns.items k 0) false ≡ true) → place < length r.columns.items →
       column_head m.heads.items (get_or r.columns.items place 0) ≡ column_head m.heads.items r.left → (n : ℕ) → n < length m.led.items → further ≡ length m.heads.items + n → get_or m.led.items n 0 ≡ column_head m.heads.items r.left →
       MayStandBehind rules m i (place + 1) further

@@ -34,7 +34,7 @@ module _ (g : PlainDtd) (e : Ends) where
     holds = λ q i ps le h k. absurd (let a = rest_number q ps h in omega arith);
   }
 
-  -- the rows behind part n are filled, and its own up to a place
+  -- the rows after part n are filled, and its own up to a place
   pub record IsFilled (rests : List ℕ) (n from : ℕ) : Type 0 where
     pub behind : AreRests g e rests (suc n)
     pub row : (i : ℕ) (ps : PlainParts) → i < from → rest_at g n ≡ Some ps → past_rest e rests n i ≡ past_members g e n ps i
@@ -87,7 +87,7 @@ module _ (g : PlainDtd) (e : Ends) where
   past_outside q i no_parts n h = refl
   past_outside q i (part p ps) n h = absurd (rw h at n)
 
-  -- the members from one on lead where the last of them does, or where those behind it lead from there
+  -- the members from one on lead where the last of them does, or where those after it lead from there
   module _ (q i : ℕ) (named : e.names ≡ length g.names) where
     pub past_last : (p : PlainPart) (ps : PlainParts) → rest_at g q ≡ Some (part p no_parts) → rest_at g q ≡ Some ps → past_column e (e.names + q) i ≡ past_members g e q ps i
     past_last p ps h s =

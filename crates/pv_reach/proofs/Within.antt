@@ -53,7 +53,7 @@ module _ (g : PlainDtd) (w : List PlainToken) (proper : IsProperDtd g) (producti
   one : (c : ℕ) (s o : PlainSite) (i j : ℕ) → ((a b : ℕ) → IsSpan w a b → Rule g w (over s a b) c (over o a b ∷ [])) → Within o i j → Within s i j
   one c s o i j rule h a b le short within = to_one g w c s o a b a b (rule a b (le, short)) (h a b le short within)
 
-  -- a site up to a place between, and one behind it
+  -- a site up to a place between, and one after it
   two : (s o r : PlainSite) (i k j : ℕ) → i ≤ k → ((a m b : ℕ) → a ≤ m → m ≤ b → b ≤ length w → DerivesAt g w o a m → DerivesAt g w r m b → DerivesAt g w s a b) → Within o i k → Within r k j → Within s i j
   two s o r i k j ik join u v a b le short (inl e) = join a b b le (omega arith) short (u a b le short (inl e)) (v b b (omega arith) short (inl refl))
   two s o r i k j ik join u v a b le short (inr (ia, bj)) = elim (cases_lt k b) [
@@ -64,7 +64,7 @@ module _ (g : PlainDtd) (w : List PlainToken) (proper : IsProperDtd g) (producti
     ]
   ]
 
-  -- a text, and the content behind it
+  -- a text, and the content after it
   behind_text : (s : PlainSite) (i j : ℕ) → ((a : ℕ) → a ≤ length w → Rule g w (over s a a) 0 []) →
       ((b : ℕ) → i < b → b ≤ length w → Rule g w (over s i b) 0 (over s (suc i) b ∷ [])) → Within s (suc i) j → Within s i j
   behind_text s i j empty rule h a b le short (inl e) = at_end s a b e (to_none g w s a (empty a (omega arith)))

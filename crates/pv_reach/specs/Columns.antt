@@ -27,7 +27,7 @@ abbrev pub member_columns : PlainDtd → ℕ → PlainParts → List ℕ
 member_columns g q no_parts = []
 member_columns g q (part p ps) = part_column g q ∷ member_columns g (q + parts_in p) ps
 
--- what a rule has on its right, for a token that it reads and the columns behind it
+-- what a rule has on its right, for a token that it reads and the columns after it
 abbrev pub RightSide : Type 1
 RightSide = Option Token → List ℕ → Type 0
 

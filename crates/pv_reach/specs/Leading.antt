@@ -11,7 +11,7 @@ abbrev pub ReadsWhatever : List ColumnRule → ℕ → ℕ → Type 0
 ReadsWhatever rules c d = (word : List Token) (i j : ℕ) → ReadThrough rules word (d ∷ []) i j →
     ReadThrough rules word (c ∷ []) i j
 
--- what column a reaches, it reaches with what q reaches behind it
+-- what column a reaches, it reaches with what q reaches after it
 abbrev pub LeadsOnTo : List ColumnRule → ℕ → ℕ → Type 0
 LeadsOnTo rules a q = (word : List Token) (h i j : ℕ) → ReadThrough rules word (a ∷ []) h i →
     ReadThrough rules word (q ∷ []) i j → ReadThrough rules word (a ∷ []) h j

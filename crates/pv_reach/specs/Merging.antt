@@ -1,4 +1,4 @@
--- Rules over the columns that stand for others, and over further columns for what may stand behind
+-- Rules over the columns that stand for others, and over further columns for what may stand after
 -- those.
 use Rattle.std.specs.Prelude.{All, Bool, List, None, Option, [], get_or, length, map, ℕ, ◌+◌}
 use Rattle.std.specs.Prelude.{◌<◌, ◌^◌, ◌∷◌, ◌≡◌, ◌≤◌, ◌⊎◌, ◌↔◌}
@@ -29,7 +29,7 @@ pub record IsMergedRule (rules : List ColumnRule) (heads : List ℕ) (l : ℕ) (
   pub are_columns : cs ≡ column_heads heads columns
 
 -- the rules of the further column of the k-th column that has one, and the rule by which it stands
--- behind that one
+-- after that one
 pub data IsFurtherRule (rules : List ColumnRule) (width : ℕ) (led : List ℕ) (l : ℕ)
     (o : Option Token) (cs : List ℕ) : Type 0 where
   none : (k : ℕ) → k < length led → l ≡ width + k → o ≡ None → cs ≡ [] →

@@ -23,7 +23,7 @@ is_of_name (Some (Name id)) x = nat_eq id.0 x
 is_of_name (Some Text) x = false
 is_of_name (Some Other) x = false
 
--- one past the place behind a token of this name, where it stands at place i, or 0
+-- one past the place after a token of this name, where it stands at place i, or 0
 abbrev pub kept_past : Option Token → ℕ → ℕ → ℕ
 kept_past t x i = cond (is_of_name t x) (suc (suc i)) 0
 
@@ -38,7 +38,7 @@ past_members g e q (part p ps) i =
     past e.width e.table.items (column_heads e.heads.items (member_columns g q (part p ps))) i
 
 -- a row for each part; those from a number on have, for members of sequences, where that member and
--- those behind it lead
+-- those after it lead
 pub record AreRests (g : PlainDtd) (e : Ends) (rests : List ℕ) (from : ℕ) : Type 0 where
   pub long : length rests ≡ parts_in_models g.models * suc (length e.word.items)
   pub holds : (q i : ℕ) (ps : PlainParts) → from ≤ q → rest_at g q ≡ Some ps →

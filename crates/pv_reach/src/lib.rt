@@ -13,7 +13,7 @@
 //! place of a table; a `FreeContent` tells of one token whether it is taken (`specs/Taking.antt`).
 //! Where a content isn't free, the table has only the columns that are needed before free ones are
 //! come to (`specs/Cuts.antt`). A grammar with its plan is a `Judge`, by which many verdicts are
-//! found.
+//! found: `judge_kids` and `judge_word` count nothing, the other calls take one step each.
 #![tactic(auto)]
 
 mod columns;
@@ -34,5 +34,5 @@ pub use free_content::FreeContent;
 pub use judge::Judge;
 pub use plan::Plan;
 pub use reaches::{Reaches, furthest, furthest_by};
-pub use verdict::{list_verdict, list_verdict_by, word_verdict};
+pub use verdict::{judge_kids, judge_word, list_verdict, word_verdict};
 pub use words::{content_derives, possible};

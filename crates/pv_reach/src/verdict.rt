@@ -136,8 +136,9 @@ fn judge_owned(
     }
 }
 
-/// The verdict of a list whose owner may have no site, where the list isn't too wide.
-fn judge_word(
+/// The verdict of a list by its owner, its word, and whether it has no kids of any kind: as that of
+/// `list_verdict`, without a tree, by a plan that is laid out once, and on no counter.
+pub fn judge_word(
     judge: &Judge<'_>,
     owner: Option<Of>,
     word: &[Token],
@@ -159,8 +160,13 @@ fn judge_word(
     Ok(verdict)
 }
 
-/// The verdict of the list of these kids, where it isn't too wide.
-fn judge_kids(judge: &Judge<'_>, owner: Option<Of>, kids: &[Node]) -> Result<Verdict, ReachError>
+/// The verdict of a list by its owner and its kids, as `list_verdict` finds it, by a plan that is
+/// laid out once, and on no counter.
+pub fn judge_kids(
+    judge: &Judge<'_>,
+    owner: Option<Of>,
+    kids: &[Node],
+) -> Result<Verdict, ReachError>
     ensures verdict { IfOk result (λ verdict. (root : List ℕ) (list : Listed Mark) →
         list.kids ≡ forest kids.now → IsOwner (dtd_of judge.now) root list owner →
         HoldsOne list.owner list.kids → IsVerdict (dtd_of judge.now) root list verdict) }
@@ -174,8 +180,7 @@ fn judge_kids(judge: &Judge<'_>, owner: Option<Of>, kids: &[Node]) -> Result<Ver
     Ok(verdict)
 }
 
-/// The verdict of a list by its owner, its word, and whether it has no kids of any kind: as that of
-/// `list_verdict`, without a tree.
+/// What `judge_word` answers, in one step.
 pub fn word_verdict<L: Ledger>(
     judge: &Judge<'_>,
     owner: Option<Of>,
@@ -194,33 +199,13 @@ pub fn word_verdict<L: Ledger>(
     judge_word(judge, owner, word, is_bare)
 }
 
-/// The verdict of a list, as `list_verdict` finds it.
-pub fn list_verdict_by<L: Ledger>(
-    judge: &Judge<'_>,
-    owner: Option<Of>,
-    kids: &[Node],
-    steps: &mut Steps<L>,
-) -> Result<Verdict, ReachError>
-    ensures verdict { IfOk result (λ verdict. (root : List ℕ) (list : Listed Mark) →
-        list.kids ≡ forest kids.now → IsOwner (dtd_of judge.now) root list owner →
-        HoldsOne list.owner list.kids → IsVerdict (dtd_of judge.now) root list verdict) }
-    ensures fits { IfOk result (λ _. FitsVerdict (dtd_of judge.now)
-        (length (word_of (dtd_of judge.now) (forest kids.now)))) }
-    ensures wide { IfErr result (λ e. e ≡ too_wide → ¬ FitsVerdict (dtd_of judge.now)
-        (length (word_of (dtd_of judge.now) (forest kids.now)))) }
-    ensures steps { steps.new ≡ steps.old + 1 }
-{
-    steps.tick();
-    judge_kids(judge, owner, kids)
-}
-
 /// The verdict of a list: `owner` is `None` where the DTD doesn't have the name of the element that
 /// owns it, or, for the document node, the root's name.
 ///
 /// `TooWide` is asked before the verdict. A list that is valid by itself, whose owner and names are
 /// productive, takes no table. The call lays out a plan of the grammar; who asks for many verdicts
-/// lays it out once, and asks `list_verdict_by`. The document node's list is its root alone; of
-/// other kids with this owner nothing is said.
+/// lays it out once, and asks `judge_kids`. The document node's list is its root alone; of other
+/// kids with this owner nothing is said.
 pub fn list_verdict<L: Ledger>(
     alloc: Global,
     grammar: &Grammar,

@@ -92,7 +92,7 @@ x_has_no b m = ne_eqb 120 b (λ e. let is : is_name_char 120 ≡ false = subst (
 closed_have_no : (b : ℕ) (inner : List ℕ) → (59 == b) ≡ false → has_no b inner ≡ true → has_no b (inner ++ codes ";") ≡ true
 closed_have_no b inner semicolon e = both_have_no b inner (codes ";") e (rw semicolon refl)
 
--- what stands behind the `&` of a reference
+-- what stands after the `&` of a reference
 pub record Behind (b : ℕ) (bytes : List ℕ) : Type 0 where
   pub inner : List ℕ
   pub whole : bytes ≡ 38 ∷ (inner ++ codes ";")

@@ -22,7 +22,7 @@ use Rattle.pv_read.proofs.AgreeNodes.{HoldsBefore, within_of, empty_means, tagge
 use Rattle.pv_read.proofs.AgreeMeans.{ItemsAreOne, MeansAt, means_before}
 use Rattle.pv_read.proofs.AgreeProlog.{prolog_means, epilog_means}
 
--- the root behind the prolog
+-- the root after the prolog
 root_means : {M : Type 0} (m : M) (root before rest : List ℕ) (limit : ℕ) (P : Left M → List ℕ → Type 0) (stage : PlainStage) → HoldsBefore m root limit P → (t : Tree M) (bytes : List ℕ) → IsElement t → SpellsNode t bytes → depth_of t ≤ limit
     → P (in_epilog before (map_marks (λ _. m) t) []) rest → P (in_prolog stage before) (bytes ++ rest)
 root_means m root before rest limit P stage steps (element x attrs short kids mark) bytes is (name, are, none, whole) within behind =
@@ -96,7 +96,7 @@ starts_with bytes mark rest (inl none) low e =
     subst (λ r. TakesByteOrderMark bytes mark r) same (subst (λ k. TakesByteOrderMark bytes k bytes) (sym none) (unmarked (λ more is. no_mark rest more low (sym same ∙ is))))
 starts_with bytes mark rest (inr is) low e = subst (λ k. TakesByteOrderMark bytes k rest) (sym is) (marked (e ∙ ap (λ m. m ++ rest) is))
 
--- What holds behind all items of a document holds before them.
+-- What holds after all items of a document holds before them.
 pub record HoldsAtStart {M : Type 0} (bytes : List ℕ) (P : Left M → List ℕ → Type 0) (end : Left M) : Type 0 where
   pub mark : List ℕ
   pub rest : List ℕ

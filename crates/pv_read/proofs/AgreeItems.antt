@@ -9,7 +9,7 @@ use Rattle.pv_read.proofs.DoctypeLemmas.{front_steps, same_front}
 use Rattle.pv_read.proofs.OneItem.{sort_is, one_item}
 use Rattle.pv_read.proofs.AgreeMeans.{ItemsAreOne}
 
--- what stands behind the front of a document type declaration is determined
+-- what stands after the front of a document type declaration is determined
 same_end : (bytes name front rest other another more : List ℕ) → IsDoctypeFront name front → IsDoctypeFront other another → bytes ≡ front ++ (codes ">" ++ rest) → bytes ≡ another ++ (codes "[" ++ more) → ⊥
 same_end bytes name front rest other another more i j e f =
     let inside = (i.space ++ (name ++ (i.external ++ i.gap))) ++ (codes ">" ++ rest) in

@@ -31,7 +31,7 @@ too_deep : (most : Option ℕ) (n limit : ℕ) → suc n ≤ limit → IsWithinD
 too_deep None n limit less within past = past
 too_deep (Some depth) n limit less within past = omega arith
 
--- items that stand mean, with the rest, what the rest means behind them
+-- items that stand mean, with the rest, what the rest means after them
 pub means_before : {M : Type 0} (most : Option ℕ) (m : M) (root : List ℕ) (o : Outcome M) → ItemsAreOne → (limit : ℕ) → IsWithinDepth most limit → HoldsBefore m root limit (λ left rest. MeansAt most m root left rest o)
 means_before most m root o only limit may = record {
   step = λ i left next rest form ends stands is behind k.

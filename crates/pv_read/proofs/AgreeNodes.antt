@@ -23,7 +23,7 @@ pub record IsInPlace {M : Type 0} (root : List ℕ) (limit : ℕ) (left : Left M
   pub names : IsOtherDoctype root i → ⊥
   pub within : IsTrue (opens_element i) → suc (open_elements left) ≤ limit
 
--- What holds behind an item that stands in its place holds before it.
+-- What holds after an item that stands in its place holds before it.
 pub record HoldsBefore {M : Type 0} (m : M) (root : List ℕ) (limit : ℕ) (P : Left M → List ℕ → Type 0) : Type 0 where
   pub step : (i : Item) (left next : Left M) (rest : List ℕ) → HasForm i → EndsWell i rest → left_by m left i ≡ Some next → IsInPlace root limit left i → P next rest → P left (bytes_of i ++ rest)
 
@@ -82,7 +82,7 @@ text_then_none (cdata_node section) kids whole_run is = cc
 text_then_none (misc_node misc) kids whole_run is = cc
 
 mutual
-  -- a node behind what is left in the root, where a text is a whole run
+  -- a node after what is left in the root, where a text is a whole run
   pub node_means : {M : Type 0} (m : M) (root before : List ℕ) (limit : ℕ) (P : Left M → List ℕ → Type 0) → HoldsBefore m root limit P → (t : Tree M) (inner : Open M) (outer : List (Open M)) (bytes rest : List ℕ) → SpellsNode t bytes → (is_text t ≡ true → IsRunEnd rest)
       → suc (length outer) + depth_of t ≤ limit → P (in_content before (with_kid inner (map_marks (λ _. m) t)) outer) rest → P (in_content before inner outer) (bytes ++ rest)
   node_means m root before limit P steps (element x attrs short kids mark) inner outer bytes rest (name, are, none, whole) run within behind =
@@ -106,7 +106,7 @@ mutual
       (steps.step (comment_or_instruction misc) (in_content before inner outer) (in_content before (with_kid inner (misc_node misc)) outer) rest is tt refl
       (record { known = tt; matches = λ is. is; names = λ is. is; within = λ is. let no_open : false ≡ true = is in cc }) behind)
 
-  -- content behind what is left in the root
+  -- content after what is left in the root
   pub content_means : {M : Type 0} (m : M) (root before : List ℕ) (limit : ℕ) (P : Left M → List ℕ → Type 0) → HoldsBefore m root limit P → (kids : Forest M) (inner : Open M) (outer : List (Open M)) (bytes rest : List ℕ) → SpellsContent kids bytes → IsRunEnd rest
       → suc (length outer) + depth_of_all kids ≤ limit → P (in_content before (more_kids inner (trees_of (map_marks_all (λ _. m) kids))) outer) rest
       → P (in_content before inner outer) (bytes ++ rest)

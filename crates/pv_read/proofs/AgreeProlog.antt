@@ -15,7 +15,7 @@ use Rattle.pv_read.proofs.AgreeInvariant.{made_of_both}
 use Rattle.pv_read.proofs.AgreeForms.{data_form, space_data, misc_ends_run}
 use Rattle.pv_read.proofs.AgreeNodes.{HoldsBefore}
 
--- Where so many bytes leave this, a misc behind them leaves what they leave with it.
+-- Where so many bytes leave this, a misc after them leaves what they leave with it.
 record TakesMisc {M : Type 0} (m : M) (IsLeft : List ℕ → Left M → Type 0) : Type 0 where
   comment : (bytes b : List ℕ) (left : Left M) → IsLeft b left → (next : Left M) × (left_by m left (comment_or_instruction bytes) ≡ Some next) × IsLeft (b ++ bytes) next
   white : (bytes b : List ℕ) (left : Left M) → IsLeft b left → list_all is_space bytes ≡ true → (next : Left M) × (left_by m left (text_run bytes) ≡ Some next) × IsLeft (b ++ bytes) next
@@ -38,7 +38,7 @@ module _ {M : Type 0} (m : M) (root : List ℕ) (limit : ℕ) (P : Left M → Li
       steps.step (comment_or_instruction bytes) left step.0 rest is tt step.1
       (record { known = tt; matches = λ is. is; names = λ is. is; within = λ is. let no_open : false ≡ true = is in cc }) (behind step.0 step.2)
 
-  -- Misc*, behind white space that isn't a whole run yet
+  -- Misc*, after white space that isn't a whole run yet
   misc_means : (IsLeft : List ℕ → Left M → Type 0) → TakesMisc m IsLeft → (pieces : List (List ℕ)) → AllByRecursion IsMisc pieces → (white b rest : List ℕ) (left : Left M) → IsOptionalSpace white → IsLeft b left → IsRunEnd rest
       → ((next : Left M) → IsLeft (b ++ (white ++ joined pieces)) next → P next rest) → P left (white ++ (joined pieces ++ rest))
   misc_means IsLeft takes [] all white b rest left space at ends behind =
@@ -122,7 +122,7 @@ module _ {M : Type 0} (m : M) (root : List ℕ) (limit : ℕ) (P : Left M → Li
       (prolog_misc_means false more ((b ++ misc) ++ declared) rest (in_prolog behind_doctype ((b ++ misc) ++ declared)) is_more (behind_doctype, refl, refl) ends
       (λ last is_last. subst (λ l. P l rest) (sym is_last.1) (subst (λ l. P (in_prolog is_last.0 l) rest) (sym (simp append_assoc refl)) (behind is_last.0)))))
 
-  -- the prolog, behind the byte order mark or nothing
+  -- the prolog, after the byte order mark or nothing
   pub prolog_means : (before rest : List ℕ) (p : IsProlog root before) → IsRunEnd rest → ((stage : PlainStage) → P (in_prolog stage before) rest)
       → P (in_prolog at_front p.mark) (p.declaration ++ (p.misc ++ (p.doctype ++ (p.more_misc ++ rest))))
   prolog_means before rest p ends behind =
@@ -131,7 +131,7 @@ module _ {M : Type 0} (m : M) (root : List ℕ) (limit : ℕ) (P : Left M → Li
       (λ next at. doctype_part_means p.misc p.doctype p.more_misc (p.mark ++ p.declaration) rest next p.is_misc p.is_doctype p.is_more_misc at ends
       (λ stage. subst (λ l. P (in_prolog stage l) rest) (sym whole) (behind stage)))
 
-  -- ---- behind the root
+  -- ---- after the root
   epilog_takes : (before : List ℕ) (t : Tree M) → TakesMisc m (λ b left. left ≡ in_epilog before t b)
   epilog_takes before t = record {
     comment = λ bytes b left at. (in_epilog before t (b ++ bytes), subst (λ l. left_by m l (comment_or_instruction bytes) ≡ Some (in_epilog before t (b ++ bytes))) (sym at) refl, refl);

@@ -198,7 +198,7 @@ open_inner most m root done before inner outer rest more name attrs said is_name
   run = λ e. cc;
 }
 
--- an end tag behind the kids of the innermost element
+-- an end tag after the kids of the innermost element
 closed_spelled : {M : Type 0} (m : M) (o : Open M) (content gap : List ℕ) → IsName o.name → IsAttributes IsKnownReference o.attrs → IsOptionalSpace gap → SpellsContent (forest_of o.kids) content
     → SpellsNode (closed_element m o gap) (bytes_of (start_tag o.name o.attrs) ++ (content ++ bytes_of (end_tag o.name gap)))
 closed_spelled m o content gap is_name are_attrs white spells = (content, is_name, are_attrs, white, spells, sym (simp append_assoc refl))
@@ -259,7 +259,7 @@ step_in_content most m root done before inner outer rest more next (text_run byt
     said most m root (done ++ bytes) more (in_content before (with_kid inner (text_node (units_in bytes))) outer) next stands
     (text_stands most m root done before inner outer rest more bytes prior proper.known begins.whole begins.ends_well prior.spells.5)
 
--- ---- behind the root
+-- ---- after the root
 misc_stands : {M : Type 0} (most : Option ℕ) (m : M) (root done before after misc : List ℕ) (t : Tree M) → InEpilog most m root done before t after → IsMisc misc → InEpilog most m root (done ++ misc) before t (after ++ misc)
 misc_stands most m root done before after misc t prior is = record {
   element = prior.element;

@@ -83,7 +83,7 @@ long : (xs : List ℕ) → xs ≢ [] → 0 < length xs
 long [] some = absurd (some refl)
 long (x ∷ xs) some = omega arith
 
--- ---- pieces one behind another
+-- ---- pieces one after another
 -- So far such pieces stood at the front.
 pub record HasPieces (P : List ℕ → Type 0) (bytes rest : List ℕ) : Type 0 where
   pub front : List ℕ

@@ -1,4 +1,4 @@
--- The items of a root, one behind another.
+-- The items of a root, one after another.
 use Rattle.std.proofs.Common.{◌≡◌, ℕ, suc, List, [], true, false, IsTrue, Option, Some, None, refl, sym, ap, ◌∙◌, subst, rules}
 use Rattle.pv_chars.specs.Units.{units_in}
 use Rattle.pv_tree.specs.Plain.{text_node}

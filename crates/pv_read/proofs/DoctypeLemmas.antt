@@ -24,7 +24,7 @@ use Rattle.pv_read.specs.Takes.{ends_front, BeginsNoDoctypeFront, TakesDoctypeFr
 use Rattle.pv_read.proofs.AttributeLemmas.{Ends, name_black, black_is_no_blank}
 use Rattle.pv_read.proofs.ExternalLemmas.{system_steps, public_steps, word_start, one_external}
 
--- ---- what may stand behind a front
+-- ---- what may stand after a front
 ends_by : (b : ℕ) (bs : List ℕ) → ends_front (b ∷ bs) ≡ true → Ends b
 ends_by b bs e = record { low = grind (arith, nat_tests); black = grind (arith, nat_tests); no_name = grind (arith, nat_tests) }
 
@@ -42,7 +42,7 @@ external_ends_name : (external rest : List ℕ) → IsExternalId external → Be
 external_ends_name external rest (inl is) = subst (λ (l : List ℕ). BeginsNo is_name_char l) (sym (ap (λ l. l ++ rest) is.whole ∙ append_assoc is.space _ rest)) (space_ends_name is.space _ is.is_space)
 external_ends_name external rest (inr is) = subst (λ (l : List ℕ). BeginsNo is_name_char l) (sym (ap (λ l. l ++ rest) is.whole ∙ append_assoc is.space _ rest)) (space_ends_name is.space _ is.is_space)
 
--- the word of an external identifier stands behind its white space
+-- the word of an external identifier stands after its white space
 external_starts : (bytes rest start : List ℕ) → Begins IsExternalId bytes rest → after_blank bytes ≡ Some start → ends_front start ≡ false
 external_starts bytes rest start b e = by b.is_item
   where

@@ -1,4 +1,4 @@
--- Items of fixed marks, cut off by what stands behind them.
+-- Items of fixed marks, cut off by what stands after them.
 use Rattle.std.proofs.Common.{◌≡◌, ℕ, ◌-◌, List, length, take, inl, inr, ◌∙◌}
 use Rattle.pv_chars.specs.Fronts.{Begins}
 use Rattle.pv_chars.specs.Markup.{IsComment, IsInstruction, IsCdata}

@@ -11,7 +11,7 @@ use Rattle.pv_read.proofs.OneItem.{one_item}
 use Rattle.pv_read.proofs.AgreeNodes.{HoldsBefore}
 use Rattle.pv_read.proofs.AgreeDocuments.{holds_at_start}
 
--- The items of the rest, one behind another, leave this at its end.
+-- The items of the rest, one after another, leave this at its end.
 data EndsIn {M : Type 0} (m : M) : Left M → List ℕ → Left M → Type 0 where
   none_left : {left : Left M} {rest : List ℕ} → rest ≡ [] → EndsIn m left rest left
   one_more : {left next end : Left M} {rest more : List ℕ} (i : Item) → BeginsItem i rest more → left_by m left i ≡ Some next → EndsIn m next more end → EndsIn m left rest end

@@ -44,7 +44,7 @@ module _ {M : Type 0} (one_item : ItemsAreDetermined) (most : Option ℕ) (m : M
       let left_is : next ≡ other = same_some (sym stands ∙ ap (left_by m left) same.0 ∙ there) in
       subst (λ r. DocumentRestMeans most m root (suc k) other r o) same.1 (subst (λ l. DocumentRestMeans most m root (suc k) l more o) left_is means)
 
-  -- behind these items, the rest has one meaning
+  -- after these items, the rest has one meaning
   pub same_meaning : {k : ℕ} {left : Left M} {rest : List ℕ} {o p : Outcome M} → DocumentRestMeans most m root k left rest o → DocumentRestMeans most m root k left rest p → o ≡ p
   same_meaning (ends a) (ends b) = refl
   same_meaning (ends a) (item i begins stands none means) = absurd (no_item_in_nothing a begins)

@@ -1,4 +1,4 @@
--- Characters that stand for themselves and references, one behind another.
+-- Characters that stand for themselves and references, one after another.
 use Rattle.std.proofs.Common.{◌≡◌, ℕ, ◌<◌, ◌⊎◌, inl, inr, ⊎_elim, List, [], ◌∷◌, ◌++◌, true, false, ◌==◌, length, refl, sym, ap, subst, ◌∙◌, arith, append_assoc, length-append}
 use Rattle.std.proofs.lemmas.Bool.{and_parts, and_from, cases_lt}
 use Rattle.std.proofs.lemmas.List.{append-nil}
@@ -121,7 +121,7 @@ module _ (R : List ℕ → Type 0) (are_references : (bytes : List ℕ) → R by
   pub made_have_no : (b : ℕ) (bytes : List ℕ) → IsMark b → is_literal b ≡ false → (38 == b) ≡ false → (59 == b) ≡ false → AreMadeOf P bytes → has_no b bytes ≡ true
   made_have_no b bytes m other ampersand semicolon a = rw a.whole (pieces_have_no b m other ampersand semicolon a.pieces a.are_pieces)
 
-  -- ---- a run of literals, and what stands behind it
+  -- ---- a run of literals, and what stands after it
   pub front_literals : (bytes before more : List ℕ) → IsCutBefore 38 bytes before more → AreMadeOf P bytes → AreAll is_literal before
   front_literals bytes before more cut a = by cut.ends
     where

@@ -126,7 +126,7 @@ module _ (most : Option ℕ) (root rest : List ℕ) (k : ℕ) where
   by_subset left (inl is) others = faulty_here left subset (subset_is_first one_item most blank_mark root left rest is)
   by_subset left (inr none) others = others none
 
--- where no item begins the rest means something, and where one begins, if what is behind it does
+-- where no item begins the rest means something, and where one begins, if what is after it does
 pub none_means : (root rest : List ℕ) → Decided (BeginsSubset rest) → BeginsNoItem rest → MeansSomething root rest
 none_means root rest is no_item most k left = by_subset most root rest k left (subset_decided most root rest left is) (λ none. ends_here most root rest k left none no_item)
 

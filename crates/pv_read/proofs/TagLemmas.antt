@@ -53,7 +53,7 @@ closing_ends_name : (closing rest : List ℕ) → IsClosing closing → BeginsNo
 closing_ends_name closing rest (inl e) = rw e (ascii_ends is_name_char 62 rest (omega arith) refl)
 closing_ends_name closing rest (inr e) = rw e (ascii_ends is_name_char 47 (62 ∷ rest) (omega arith) refl)
 
--- the name of a tag is the longest behind its `<`
+-- the name of a tag is the longest after its `<`
 pub tag_name : (name attrs closing bytes rest start : List ℕ) → IsClosing closing → bytes ≡ codes "<" ++ start → HasTag name attrs closing bytes rest → TakesName start name (attrs ++ (closing ++ rest))
 tag_name name attrs closing bytes rest start is e h = record {
   is_name = h.is_name;
@@ -69,7 +69,7 @@ same_tag name attrs closing rest other others end more bytes is ends h k =
     let inside = same_attributes IsReference reference_is attrs others (closing ++ rest) (end ++ more) h.are_attributes k.are_attributes (closing_ends closing rest is) (closing_ends end more ends) names.1 in
     (names.0, inside.0, inside.1)
 
--- ---- a tag by what stands behind its name
+-- ---- a tag by what stands after its name
 module _ (name bytes : List ℕ) (named : IsName name) (black : BeginsNo is_name_char bytes) where
   -- the attributes and the end that were read are the tag's
   own_end : (other attrs closing rest own end : List ℕ) → IsClosing closing → TakesAttributes IsReference bytes own end → HasTag other attrs closing (codes "<" ++ (name ++ bytes)) rest → end ≡ closing ++ rest

@@ -1,4 +1,4 @@
--- What was read behind the root.
+-- What was read after the root.
 use Rattle.std.specs.Prelude.{◌≡◌, ◌≤◌, ℕ, ◌+◌, List, [], ◌++◌, length, Option}
 use Rattle.pv_tree.specs.Plain.{Tree, PlainDoc}
 use Rattle.pv_tree.specs.Marks.{blank_mark}
@@ -7,7 +7,7 @@ use Rattle.pv_read.specs.Left.{in_epilog}
 use Rattle.pv_read.specs.Meaning.{is_document, DocumentRestMeans}
 use Rattle.pv_read.specs.Steps.{LeadsBehind}
 
--- Items behind the root, which so many items end, up to this rest.
+-- Items after the root, which so many items end, up to this rest.
 pub record ReadsEpilog (most : Option ℕ) (root end : List ℕ) (first : ℕ) (rest : List ℕ)
     (count : ℕ) : Type 0 where
   pub after : List ℕ

@@ -44,7 +44,7 @@ abbrev mutual
   SpellsNode (cdata_node section) bytes = IsCdata section × (bytes ≡ section)
   SpellsNode (misc_node misc) bytes = IsCommentOrInstruction misc × (bytes ≡ misc)
 
-  -- content: elements, character data with references, CDSects, Comments and PIs, one behind
+  -- content: elements, character data with references, CDSects, Comments and PIs, one after
   -- another (XML 1.0, 3.1)
   pub SpellsContent : {M : Type 0} → Forest M → List ℕ → Type 0
   SpellsContent no_trees bytes = bytes ≡ []

@@ -10,13 +10,13 @@ use Rattle.pv_tree.specs.Plain.{forest_of, no_trees}
 use Rattle.pv_read.specs.Items.{Item, xml_declaration, doctype, comment_or_instruction}
 use Rattle.pv_read.specs.Items.{cdata_section, start_tag, empty_tag, end_tag, text_run}
 
--- An open element: its name, the bytes behind it in its tag, and its kids so far.
+-- An open element: its name, the bytes after it in its tag, and its kids so far.
 pub record Open (M : Type 0) : Type 0 where
   pub name : List ℕ
   pub attrs : List ℕ
   pub kids : List (Tree M)
 
--- where in the prolog: at its front, with no item yet; before a document type declaration; behind
+-- where in the prolog: at its front, with no item yet; before a document type declaration; after
 -- one
 pub data PlainStage : Type 0 where
   at_front : PlainStage
@@ -24,13 +24,13 @@ pub data PlainStage : Type 0 where
   behind_doctype : PlainStage
 
 -- in the prolog, with its bytes so far; in the root, with the innermost open element and those
--- around it, innermost first; behind the root, with the bytes since (XML 1.0, 2.1, 2.8, 3.1)
+-- around it, innermost first; after the root, with the bytes since (XML 1.0, 2.1, 2.8, 3.1)
 pub data Left (M : Type 0) : Type 0 where
   in_prolog : (stage : PlainStage) → (before : List ℕ) → Left M
   in_content : (before : List ℕ) → (inner : Open M) → (outer : List (Open M)) → Left M
   in_epilog : (before : List ℕ) → (root : Tree M) → (after : List ℕ) → Left M
 
--- the stage behind a misc
+-- the stage after a misc
 abbrev pub behind_misc : PlainStage → PlainStage
 behind_misc at_front = before_doctype
 behind_misc before_doctype = before_doctype
@@ -105,7 +105,7 @@ left_in_content m before inner outer (end_tag name gap) =
 left_in_content m before inner outer (text_run bytes) =
     Some (in_content before (with_kid inner (text_node (units_in bytes))) outer)
 
--- What an item behind the root leaves; none where it may not stand there.
+-- What an item after the root leaves; none where it may not stand there.
 abbrev pub left_in_epilog : {M : Type 0} → List ℕ → Tree M → List ℕ → Item → Option (Left M)
 left_in_epilog before root after (xml_declaration bytes) = None
 left_in_epilog before root after (doctype name bytes) = None
@@ -130,7 +130,7 @@ open_elements (in_prolog stage before) = 0
 open_elements (in_content before inner outer) = suc (length outer)
 open_elements (in_epilog before root after) = 0
 
--- the document is whole where nothing more stands behind its root
+-- the document is whole where nothing more stands after its root
 abbrev pub IsWholeAt : {M : Type 0} → Left M → List ℕ → Type 0
 IsWholeAt (in_prolog stage before) rest = ⊥
 IsWholeAt (in_content before inner outer) rest = ⊥

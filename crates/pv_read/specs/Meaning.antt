@@ -23,7 +23,7 @@ pub data Outcome (M : Type 0) : Type 0 where
   faulty : Kind → ℕ → Outcome M
   too_long : Outcome M
 
--- behind so many items, which leave this, the rest means this, where elements stand at most so
+-- after so many items, which leave this, the rest means this, where elements stand at most so
 -- deep
 pub data DocumentRestMeans {M : Type 0} (most : Option ℕ) (m : M) (root : List ℕ)
     : ℕ → Left M → List ℕ → Outcome M → Type 0 where

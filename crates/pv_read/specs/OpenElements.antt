@@ -16,11 +16,11 @@ plain_open e = record { name = e.name.now; attrs = e.attrs.now; kids = plain_all
 abbrev pub opens_of : List OpenElement → List (Open Mark)
 opens_of elements = reverse (map plain_open elements)
 
--- what is left in these elements, behind this prolog
+-- what is left in these elements, after this prolog
 abbrev pub left_in : List ℕ → OpenElements → Left Mark
 left_in before e = in_content before (plain_open e.inner) (opens_of e.outer.items)
 
--- what is left in these elements, or behind the root, where it is whole
+-- what is left in these elements, or after the root, where it is whole
 abbrev pub left_after : List ℕ → OpenElements → Option Node → Left Mark
 left_after before e None = left_in before e
 left_after before e (Some root) = in_epilog before (plain root) []

@@ -7,7 +7,7 @@ use Rattle.pv_read.specs.Items.{cdata_section, start_tag, empty_tag, end_tag, te
 use Rattle.pv_read.specs.Left.{Left, PlainStage, before_doctype, behind_doctype, in_prolog}
 use Rattle.pv_read.specs.Left.{in_content, in_epilog, takes_doctype, is_at_front, behind_misc}
 
--- in the prolog at this stage; in an element of this name, with so many open ones; behind the root
+-- in the prolog at this stage; in an element of this name, with so many open ones; after the root
 pub data PlainPlace : Type 0 where
   prolog : (stage : PlainStage) → PlainPlace
   content : (name : List ℕ) → (open_elements : ℕ) → PlainPlace
@@ -31,7 +31,7 @@ open_at (prolog stage) = 0
 open_at (content name open_elements) = open_elements
 open_at epilog = 0
 
--- An item is to stand here: an element is open in content, and something is left behind the root.
+-- An item is to stand here: an element is open in content, and something is left after the root.
 abbrev pub AsksForItem : PlainPlace → List ℕ → Type 0
 AsksForItem (prolog stage) rest = Unit {0}
 AsksForItem (content name open_elements) rest = 0 < open_elements
@@ -59,7 +59,7 @@ may_stand_in_content (empty_tag name attrs) = true
 may_stand_in_content (end_tag name gap) = true
 may_stand_in_content (text_run bytes) = true
 
--- the item may stand behind the root
+-- the item may stand after the root
 abbrev pub may_stand_in_epilog : Item → Bool
 may_stand_in_epilog (xml_declaration bytes) = false
 may_stand_in_epilog (doctype name bytes) = false
@@ -93,7 +93,7 @@ IsMismatchAt (prolog stage) i = ⊥
 IsMismatchAt (content name open_elements) i = IsMismatchIn name i
 IsMismatchAt epilog i = ⊥
 
--- the stage behind an item that may stand in the prolog
+-- the stage after an item that may stand in the prolog
 abbrev pub stage_behind : PlainStage → Item → PlainStage
 stage_behind stage (xml_declaration bytes) = before_doctype
 stage_behind stage (doctype name bytes) = behind_doctype

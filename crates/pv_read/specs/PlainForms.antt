@@ -9,7 +9,7 @@ use Rattle.pv_read.specs.declared.errors.DocError.{DocError}
 use Rattle.pv_read.specs.declared.errors.DocError.TheVariants.{Syntax, Mismatch, Entity, Subset}
 use Rattle.pv_read.specs.declared.errors.DocError.TheVariants.{DoctypeName, Deep, Limit, NoMemory}
 
--- the refusal of a text whose first fault is of this kind, behind so many items
+-- the refusal of a text whose first fault is of this kind, after so many items
 abbrev pub refusal : Kind → ℕ → DocError
 refusal subset k = Subset
 refusal syntax k = Syntax k

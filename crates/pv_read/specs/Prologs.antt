@@ -18,7 +18,7 @@ pub record ReadsProlog (most : Option ℕ) (root text : List ℕ) (stage : Plain
       LeadsBehind most blank_mark root 0 (in_prolog at_front mark) text
       count (in_prolog stage (mark ++ before)) rest
 
--- what is left behind the tag that opens the root
+-- what is left after the tag that opens the root
 abbrev pub behind_tag : List ℕ → Bool → List ℕ → List ℕ → Left Mark
 behind_tag before true name attrs = in_epilog before (empty_element blank_mark name attrs) []
 behind_tag before false name attrs = in_content before (just_opened name attrs) []

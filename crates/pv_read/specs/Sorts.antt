@@ -6,12 +6,12 @@ use Rattle.pv_read.specs.declared.forms.sorts.Sort.{Sort}
 use Rattle.pv_read.specs.declared.forms.sorts.Sort.TheVariants.{Text, Tag, EndTag, Misc, Section}
 use Rattle.pv_read.specs.declared.forms.sorts.Sort.TheVariants.{Doctype}
 
--- by what stands behind `<!`
+-- by what stands after `<!`
 abbrev pub sort_behind_mark : List ℕ → Sort
 sort_behind_mark [] = Doctype
 sort_behind_mark (b ∷ bs) = if b == 45 then Misc else (if b == 91 then Section else Doctype)
 
--- by what stands behind `<`
+-- by what stands after `<`
 abbrev pub sort_behind_less : List ℕ → Sort
 sort_behind_less [] = Tag
 sort_behind_less (b ∷ bs) = if b == 47 then EndTag

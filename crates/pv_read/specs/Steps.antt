@@ -1,4 +1,4 @@
--- One item behind others, and what a text means where its rest means something.
+-- One item after others, and what a text means where its rest means something.
 use Rattle.std.specs.Prelude.{◌≡◌, ℕ, List, Option, Some}
 use Rattle.pv_tree.specs.Marks.{blank_mark}
 use Rattle.pv_tree.specs.declared.nodes.Mark.{Mark}
@@ -15,14 +15,14 @@ pub record TakesItem {M : Type 0} (most : Option ℕ) (m : M) (root : List ℕ) 
   pub stands : left_by m left i ≡ Some next
   pub no_fault : (kind : Kind) → HasFault most m root left rest kind → ⊥
 
--- the rest means whatever is meant behind further items
+-- the rest means whatever is meant after further items
 abbrev pub LeadsBehind : {M : Type 0} → Option ℕ → M → List ℕ → ℕ → Left M → List ℕ → ℕ → Left M →
     List ℕ → Type 0
 LeadsBehind {M} most m root k left rest j next more =
     (o : Outcome M) → DocumentRestMeans most m root j next more o →
     DocumentRestMeans most m root k left rest o
 
--- behind any items, the rest means something
+-- after any items, the rest means something
 abbrev pub MeansSomething : List ℕ → List ℕ → Type 0
 MeansSomething root rest = (most : Option ℕ) (k : ℕ) (left : Left Mark) →
     (o : Outcome Mark) × DocumentRestMeans most blank_mark root k left rest o

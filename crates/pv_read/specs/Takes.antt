@@ -40,7 +40,7 @@ pub record TakesWord (word bytes rest : List ℕ) : Type 0 where
   pub is_gap : IsSpace gap
   pub whole : bytes ≡ space ++ (word ++ (gap ++ rest))
 
--- what may stand behind the front of a document type declaration: its end, or an internal subset
+-- what may stand after the front of a document type declaration: its end, or an internal subset
 abbrev pub ends_front : List ℕ → Bool
 ends_front [] = false
 ends_front (b ∷ bs) = (b == 62) || (b == 91)

@@ -4,7 +4,7 @@ use Rattle.pv_chars.specs.Units.{units_in}
 use Rattle.pv_tree.specs.Attributes.{IsCharacterData, IsKnownReference}
 use Rattle.pv_read.specs.Items.{text_run, BeginsItem}
 
--- A text run in which each reference is known stands at the front, and this behind it; these are
+-- A text run in which each reference is known stands at the front, and this after it; these are
 -- its units.
 pub record BeginsText (bytes : List ℕ) (units : List (List ℕ)) (rest : List ℕ) : Type 0 where
   pub run : List ℕ

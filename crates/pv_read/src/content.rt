@@ -18,7 +18,7 @@ use crate::texts::text_at;
 use pv_tree::Node;
 use std::alloc::Global;
 
-// Reads one item behind so many: the root, where it is whole then, and what stands after the item.
+// Reads one item after so many: the root, where it is whole then, and what stands after the item.
 fn read_item<'a>(
     alloc: Global,
     most_depth: Option<usize>,

@@ -13,7 +13,7 @@ use crate::errors::DocError;
 use crate::faults::next_item;
 use crate::places::Place;
 
-/// Whether what stands behind the root, which so many items end, may stand there. Elements stand
+/// Whether what stands after the root, which so many items end, may stand there. Elements stand
 /// at most so deep, or at any depth.
 pub fn read_epilog(
     most_depth: Option<usize>,

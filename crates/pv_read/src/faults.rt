@@ -43,7 +43,7 @@ fn is_too_deep(most_depth: Option<usize>, place: &Place<'_>, item: &Item<'_>) ->
     opens_element(item) && is_deepest(most_depth, place.open_elements())
 }
 
-/// The item at the front and what stands after it, or the first kind of fault there, behind so
+/// The item at the front and what stands after it, or the first kind of fault there, after so
 /// many items at this place, where an item is to stand. Elements stand at most so deep, or at any
 /// depth.
 pub fn next_item<'a>(

@@ -1,6 +1,6 @@
 //! Reads documents (XML 1.0, sections 2 and 3.1).
 //!
-//! A document text is items, one behind another (`BeginsItem`, specs/Items.antt): `forms` reads
+//! A document text is items, one after another (`BeginsItem`, specs/Items.antt): `forms` reads
 //! one from the front. What the items so far leave is the place and the open elements with their
 //! kids (`Left`, specs/Left.antt). `read_doc` reads item by item with a stack of open elements,
 //! and gives the document that the text means, or its first item in fault (`DocumentMeans`,

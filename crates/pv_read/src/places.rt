@@ -14,7 +14,7 @@ ghost use Rattle.pv_read.specs.Places.{IsMismatchIn, IsMismatchAt, stage_behind}
 use crate::forms::Item;
 use pv_chars::scan::is_space;
 
-/// Where in the prolog: at its front, with no item yet; before a document type declaration; behind
+/// Where in the prolog: at its front, with no item yet; before a document type declaration; after
 /// one.
 #[derive(Clone, Copy)]
 pub enum PrologStage {
@@ -54,7 +54,7 @@ impl PrologStage {
         }
     }
 
-    /// The stage behind an item that may stand here.
+    /// The stage after an item that may stand here.
     pub fn behind(self, item: &Item<'_>) -> PrologStage
         ensures { plain_stage result ≡ stage_behind (plain_stage self) (plain_item item.now) }
     {
@@ -178,7 +178,7 @@ pub enum Place<'a> {
     Prolog(PrologStage),
     /// In the root, with the name of the innermost open element and the number of open ones.
     Content(&'a [u8], usize),
-    /// Behind the root.
+    /// After the root.
     Epilog,
 }
 

@@ -20,13 +20,13 @@ pub struct RootTag<'a> {
     pub tag: Tag<'a>,
     /// Whether it is an empty-element tag.
     pub is_short: bool,
-    /// What stands behind the tag.
+    /// What stands after the tag.
     pub rest: &'a [u8],
     /// The number of items before the tag.
     pub count: u64,
 }
 
-/// The tag that opens the root of a text, which begins behind the byte order mark. Elements stand
+/// The tag that opens the root of a text, which begins after the byte order mark. Elements stand
 /// at most so deep, or at any depth.
 pub fn root_tag<'a>(
     most_depth: Option<usize>,

@@ -34,7 +34,7 @@ pub const MAX_DEPTH: usize = 512;
 /// The most bytes of a document.
 pub const MAX_DOC_BYTES: usize = 67_108_864;
 
-// The root that this tag opens, what stands behind it, and the number of items up to its end.
+// The root that this tag opens, what stands after it, and the number of items up to its end.
 fn root_at<'a>(
     alloc: Global,
     most_depth: Option<usize>,

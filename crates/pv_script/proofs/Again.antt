@@ -15,15 +15,16 @@ use Rattle.pv_edit.specs.declared.edits.Edit.TheVariants.{Wrap, Insert, Unwrap, 
 use Rattle.pv_edit.specs.declared.reasons.Reason.{Reason}
 use Rattle.pv_edit.specs.declared.reasons.Reason.TheVariants.{NoNode, NotElement, NotText, Range, BadName, BadText}
 use Rattle.pv_tree.specs.Plain.{Tree}
-use Rattle.pv_script.specs.Edits.{AreNumbers, edit_text, numbers_in}
+use Rattle.pv_words.specs.Numbers.{AreNumbers}
+use Rattle.pv_script.specs.Edits.{edit_text, numbers_in}
 use Rattle.pv_script.specs.Laws.{EditsAreReadAgain}
-use Rattle.pv_script.specs.Lines.{without_returns, with_byte_before, lines_of}
-use Rattle.pv_script.specs.Paths.{path_text}
-use Rattle.pv_script.specs.Words.{words}
-use Rattle.pv_script.proofs.Numbers.{decimal-free}
-use Rattle.pv_script.proofs.PathWords.{path-free}
-use Rattle.pv_script.proofs.RawLines.{raw_lines_of-line}
-use Rattle.pv_script.proofs.Words.{Free, Free-append, not-eq}
+use Rattle.pv_words.specs.Lines.{without_returns, with_byte_before, lines_of}
+use Rattle.pv_words.specs.Paths.{path_text}
+use Rattle.pv_words.specs.Words.{words}
+use Rattle.pv_words.proofs.NumberWords.{decimal-free}
+use Rattle.pv_words.proofs.PathWords.{path-free}
+use Rattle.pv_words.proofs.RawLines.{raw_lines_of-line}
+use Rattle.pv_words.proofs.FirstWords.{Free, Free-append, not-eq}
 
 -- a byte of ASCII stands in the bytes of its own code point alone
 code-free : (d c : ℕ) → d < 128 → (c ≡ d → ⊥) → Free d (encode c)

@@ -1,12 +1,13 @@
 -- The arguments of edits are read as they are written.
 use Rattle.std.proofs.Common.{◌≡◌, ℕ, ◌≤◌, List, ◌∷◌, ◌++◌, Option, Some, None, refl, ap, ◌∙◌, arith, decimal}
 use Rattle.std.specs.Option.{option_and_then}
-use Rattle.pv_script.specs.Edits.{MAX_NUMBER, AreNumbers}
-use Rattle.pv_script.specs.Paths.{path_text}
-use Rattle.pv_script.specs.Reading.{first_word, number_spelled, path_spelled, on_path, on_number}
-use Rattle.pv_script.proofs.Numbers.{decimal-free, number_spelled-decimal, number-word}
-use Rattle.pv_script.proofs.PathWords.{path-free, path_spelled-path_text, path-word}
-use Rattle.pv_script.proofs.Words.{first_word-free, first_word-whole}
+use Rattle.pv_words.specs.Numbers.{MAX_NUMBER, AreNumbers, number_spelled}
+use Rattle.pv_words.specs.Paths.{path_text, path_spelled}
+use Rattle.pv_words.specs.Words.{first_word}
+use Rattle.pv_script.specs.Reading.{on_path, on_number}
+use Rattle.pv_words.proofs.NumberWords.{decimal-free, number_spelled-decimal, number-word}
+use Rattle.pv_words.proofs.PathWords.{path-free, path_spelled-path_text, path-word}
+use Rattle.pv_words.proofs.FirstWords.{first_word-free, first_word-whole}
 
 pub on_path-written : {A : Type 0} (f : List ℕ → List ℕ → Option A) (path rest : List ℕ) → AreNumbers path → on_path f (path_text path ++ (32 ∷ rest)) ≡ f path rest
 on_path-written f path rest all = rw (first_word-free (path_text path) rest (path-free 32 path (omega arith) all), path_spelled-path_text path all) refl

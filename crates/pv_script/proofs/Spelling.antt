@@ -10,16 +10,18 @@ use Rattle.pv_edit.specs.declared.edits.Edit.{Edit}
 use Rattle.pv_edit.specs.declared.edits.Edit.TheVariants.{Wrap, Insert, Unwrap, Rename, Split, Join, SetText, AddText, DelText}
 use Rattle.pv_script.specs.Asks.{ask_text, numbers_asked}
 use Rattle.pv_script.specs.Commands.{command_text, command_numbers, SpellsCommand, IsNoCommand}
-use Rattle.pv_script.specs.Edits.{AreNumbers, edit_text, numbers_in}
+use Rattle.pv_words.specs.Numbers.{AreNumbers, number_spelled}
+use Rattle.pv_script.specs.Edits.{edit_text, numbers_in}
 use Rattle.pv_script.specs.Laws.{OneCommand, CommandOrNone}
-use Rattle.pv_script.specs.Paths.{path_text}
-use Rattle.pv_script.specs.Reading.{first_word, number_spelled, path_spelled, on_number, wrap_of, insert_of, rename_of, split_of, set_text_of, add_text_of, edit_of, wrap_asked_of, ask_by, ask_of, command_in, command_of}
+use Rattle.pv_words.specs.Paths.{path_text, path_spelled}
+use Rattle.pv_words.specs.Words.{first_word}
+use Rattle.pv_script.specs.Reading.{on_number, wrap_of, insert_of, rename_of, split_of, set_text_of, add_text_of, edit_of, wrap_asked_of, ask_by, ask_of, command_in, command_of}
 use Rattle.pv_script.specs.declared.commands.Command.{Command}
 use Rattle.pv_script.specs.declared.commands.Command.TheVariants as commands
 use Rattle.pv_script.proofs.ArgumentWords.{on_path-written, on_number-written, on-path, on-number}
-use Rattle.pv_script.proofs.Numbers.{number_spelled-decimal, number-word}
-use Rattle.pv_script.proofs.PathWords.{path-free, path_spelled-path_text, path-word}
-use Rattle.pv_script.proofs.Words.{first_word-free, first_word-none, first_word-whole}
+use Rattle.pv_words.proofs.NumberWords.{number_spelled-decimal, number-word}
+use Rattle.pv_words.proofs.PathWords.{path-free, path_spelled-path_text, path-word}
+use Rattle.pv_words.proofs.FirstWords.{first_word-free, first_word-none, first_word-whole}
 
 -- the edit that a line spells
 abbrev edit_in : List ℕ → Option Edit

@@ -2,8 +2,8 @@
 use Rattle.std.specs.Prelude.{ℕ, List, [], ◌∷◌, codes, decimal}
 use Rattle.pv_edit.specs.declared.asks.Ask.{Ask}
 use Rattle.pv_edit.specs.declared.asks.Ask.TheVariants.{Wrap, Rename}
-use Rattle.pv_script.specs.Paths.{path_text}
-use Rattle.pv_script.specs.Words.{words}
+use Rattle.pv_words.specs.Paths.{path_text}
+use Rattle.pv_words.specs.Words.{words}
 
 -- The line of a question: `offer`, the path, and, where a new element is asked of, from which kid
 -- up to which it is to hold. Numbers are written as in the line of an edit.

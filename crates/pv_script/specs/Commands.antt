@@ -1,7 +1,8 @@
 -- The commands of a script, and the lines that spell them.
 use Rattle.std.specs.Prelude.{◌≡◌, ℕ, List, [], codes, Option, Some, None, Result, Ok, Err}
 use Rattle.pv_script.specs.Asks.{ask_text, numbers_asked}
-use Rattle.pv_script.specs.Edits.{edit_text, numbers_in, AreNumbers}
+use Rattle.pv_script.specs.Edits.{edit_text, numbers_in}
+use Rattle.pv_words.specs.Numbers.{AreNumbers}
 use Rattle.pv_script.specs.declared.commands.Command.{Command}
 use Rattle.pv_script.specs.declared.commands.Command.TheVariants as command
 use Rattle.pv_script.specs.declared.errors.CommandError.{CommandError}

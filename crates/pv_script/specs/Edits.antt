@@ -1,11 +1,10 @@
 -- Edits as lines of a script.
-use Rattle.std.specs.Prelude.{ℕ, ◌≤◌, List, [], ◌∷◌, codes, decimal}
-use Rattle.std.specs.List.{AllByRecursion}
+use Rattle.std.specs.Prelude.{ℕ, List, [], ◌∷◌, codes, decimal}
 use Rattle.pv_edit.specs.declared.edits.Edit.{Edit}
 use Rattle.pv_edit.specs.declared.edits.Edit.TheVariants.{Wrap, Insert, Unwrap, Rename, Split}
 use Rattle.pv_edit.specs.declared.edits.Edit.TheVariants.{Join, SetText, AddText, DelText}
-use Rattle.pv_script.specs.Paths.{path_text}
-use Rattle.pv_script.specs.Words.{words}
+use Rattle.pv_words.specs.Paths.{path_text}
+use Rattle.pv_words.specs.Words.{words}
 
 -- The line of an edit: its word, the path, and what else it takes. Numbers are written in decimal
 -- digits without leading zeros.
@@ -33,11 +32,3 @@ numbers_in (Join path) = path
 numbers_in (SetText path text) = path
 numbers_in (AddText path at text) = at ∷ path
 numbers_in (DelText path) = path
-
--- the largest number that a line may hold
-abbrev pub MAX_NUMBER : ℕ
-MAX_NUMBER = 4294967295
-
--- each number is small enough for a line
-abbrev pub AreNumbers : List ℕ → Type 0
-AreNumbers numbers = AllByRecursion (λ n. n ≤ MAX_NUMBER) numbers

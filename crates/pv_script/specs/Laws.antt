@@ -4,10 +4,10 @@ use Rattle.pv_tree.specs.Plain.{PlainDoc}
 use Rattle.pv_edit.specs.Reasons.{edit_outcome, gives}
 use Rattle.pv_edit.specs.declared.edits.Edit.{Edit}
 use Rattle.pv_script.specs.Commands.{SpellsCommand, IsNoCommand}
-use Rattle.pv_script.specs.Edits.{edit_text, numbers_in, AreNumbers}
-use Rattle.pv_script.specs.Lines.{FEED, ended_lines, ended_raw_lines, lines_of, without_returns}
-use Rattle.pv_script.specs.Lines.{HasNoFeed, with_feeds}
-use Rattle.pv_script.specs.Words.{with_feed}
+use Rattle.pv_script.specs.Edits.{edit_text, numbers_in}
+use Rattle.pv_words.specs.Numbers.{AreNumbers}
+use Rattle.pv_words.specs.Lines.{lines_of}
+use Rattle.pv_words.specs.Words.{with_feed}
 use Rattle.pv_script.specs.declared.commands.Command.{Command}
 use Rattle.pv_script.specs.declared.commands.Command.TheVariants as command
 
@@ -29,20 +29,3 @@ EditsAreReadAgain M =
     AreNumbers (numbers_in edit) → (more : List ℕ) →
     (lines_of (with_feed (edit_text edit) ++ more) ≡ edit_text edit ∷ lines_of more)
     × SpellsCommand (edit_text edit) (command.Edit edit)
-
--- Bytes are their lines that an LF ends, and part of a line. With what comes behind them, their
--- lines are those, and then the lines of that part and what comes.
-pub record JoinsLines (first more : List ℕ) : Type 0 where
-  pub part : List ℕ
-  pub is_cut : first ≡ with_feeds (ended_raw_lines first) ++ part
-  pub no_feed : HasNoFeed part
-  pub lines : lines_of (first ++ more) ≡ ended_lines first ++ lines_of (part ++ more)
-  pub ended : ended_lines (first ++ more) ≡ ended_lines first ++ ended_lines (part ++ more)
-
-abbrev pub JoinLines : Type 0
-JoinLines = (first more : List ℕ) → JoinsLines first more
-
--- bytes up to an LF are a line, and what is behind it is cut on
-abbrev pub LinesEndAtFeeds : Type 0
-LinesEndAtFeeds = (line more : List ℕ) → HasNoFeed line → lines_of (line ++ FEED ∷ more) ≡
-    without_returns line ∷ lines_of more

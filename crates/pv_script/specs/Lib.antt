@@ -1,6 +1,3 @@
-pub mod Paths
-pub mod Words
-pub mod Lines
 pub mod Taking
 pub mod Edits
 pub mod Asks

@@ -1,49 +1,18 @@
 -- Lines read from the left, as functions on lists. Which command a line spells is said in
 -- Commands.antt.
-use Rattle.std.specs.Prelude.{ℕ, ◌&&◌, ◌==◌, nat_le, List, [], ◌∷◌, codes, decimal, Option, Some}
-use Rattle.std.specs.Prelude.{None, option_and_then, option_map, if◌then◌else◌}
+use Rattle.std.specs.Prelude.{ℕ, List, codes, Option, Some, None, option_and_then, option_map}
+use Rattle.std.specs.Prelude.{if◌then◌else◌}
 use Rattle.std.specs.Str.{bytes_eq}
-use Rattle.std.specs.Str.Parse.{digits_value}
 use Rattle.pv_edit.specs.declared.asks.Ask.{Ask}
 use Rattle.pv_edit.specs.declared.asks.Ask.TheVariants as ask
 use Rattle.pv_edit.specs.declared.edits.Edit.{Edit}
 use Rattle.pv_edit.specs.declared.edits.Edit.TheVariants.{Wrap, Insert, Unwrap, Rename, Split}
 use Rattle.pv_edit.specs.declared.edits.Edit.TheVariants.{Join, SetText, AddText, DelText}
-use Rattle.pv_script.specs.Edits.{MAX_NUMBER}
-use Rattle.pv_script.specs.Lines.{with_first_byte}
+use Rattle.pv_words.specs.Numbers.{number_spelled}
+use Rattle.pv_words.specs.Paths.{path_spelled}
+use Rattle.pv_words.specs.Words.{first_word}
 use Rattle.pv_script.specs.declared.commands.Command.{Command}
 use Rattle.pv_script.specs.declared.commands.Command.TheVariants as command
-
-abbrev pub with_byte_in_front : ℕ → List ℕ × List ℕ → List ℕ × List ℕ
-with_byte_in_front b cut = (b ∷ cut.0, cut.1)
-
--- the word before the first blank, and what stands behind the blank
-abbrev pub first_word : List ℕ → Option (List ℕ × List ℕ)
-first_word [] = None
-first_word (b ∷ bs) =
-    if b == 32 then Some ([], bs) else option_map (with_byte_in_front b) (first_word bs)
-
--- the number that is written so
-abbrev pub number_spelled : List ℕ → Option ℕ
-number_spelled word =
-    if bytes_eq (decimal (digits_value 10 word)) word && nat_le (digits_value 10 word) MAX_NUMBER
-    then Some (digits_value 10 word) else None
-
--- what stands between dots
-abbrev pub between_dots : List ℕ → List (List ℕ)
-between_dots [] = [] ∷ []
-between_dots (b ∷ bs) =
-    if b == 46 then [] ∷ between_dots bs else with_first_byte b (between_dots bs)
-
-abbrev pub numbers_spelled : List (List ℕ) → Option (List ℕ)
-numbers_spelled [] = Some []
-numbers_spelled (word ∷ others) =
-    option_and_then (λ n. option_map (λ ns. n ∷ ns) (numbers_spelled others)) (number_spelled word)
-
--- the path that is written so
-abbrev pub path_spelled : List ℕ → Option (List ℕ)
-path_spelled word =
-    if bytes_eq word (codes ".") then Some [] else numbers_spelled (between_dots word)
 
 -- what is made of a first word that is a path, or a number, and of the words behind it
 abbrev pub on_path : {A : Type 0} → (List ℕ → List ℕ → Option A) → List ℕ → Option A

@@ -10,9 +10,9 @@ use Rattle.pv_edit.specs.declared.reasons.Reason.TheVariants.{NoNode, NotElement
 use Rattle.pv_edit.specs.declared.reasons.Reason.TheVariants.{BadName, BadText, RootShape, Deep}
 use Rattle.pv_edit.specs.declared.reasons.Reason.TheVariants.{CloseMark}
 use Rattle.pv_script.specs.Edits.{edit_text}
-use Rattle.pv_script.specs.Lines.{with_feeds}
-use Rattle.pv_script.specs.Paths.{path_text}
-use Rattle.pv_script.specs.Words.{words, with_feed}
+use Rattle.pv_words.specs.Lines.{with_feeds}
+use Rattle.pv_words.specs.Paths.{path_text}
+use Rattle.pv_words.specs.Words.{counted_text, words, with_feed}
 use Rattle.pv_script.specs.declared.replies.Reply.{Reply}
 use Rattle.pv_script.specs.declared.replies.Reply.TheVariants as reply
 
@@ -60,8 +60,7 @@ reply_bytes reply.NoCommand = with_feed (codes "no command")
 reply_bytes (reply.Need k) = with_feed (words (codes "need" ∷ decimal k ∷ []))
 reply_bytes (reply.Wide path) = with_feed (words (codes "no wide" ∷ path_text path ∷ []))
 reply_bytes reply.Heavy = with_feed (codes "no heavy")
-reply_bytes (reply.Show bytes) =
-    with_feed (words (codes "show" ∷ decimal (length bytes) ∷ [])) ++ with_feed bytes
+reply_bytes (reply.Show bytes) = counted_text (codes "show") bytes
 reply_bytes (reply.Completed k bytes) =
     with_feed (words (codes "completed" ∷ decimal k ∷ decimal (length bytes) ∷ [])) ++
     with_feed bytes

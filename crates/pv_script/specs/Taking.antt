@@ -1,7 +1,7 @@
 -- A line that is taken from the pieces of a script.
 use Rattle.std.specs.Prelude.{◌≡◌, ◌≤◌, ◌<◌, ℕ, suc, Bool, true, false, List, [], ◌∷◌, ◌++◌}
 use Rattle.std.specs.Prelude.{length, if◌then◌else◌}
-use Rattle.pv_script.specs.Lines.{FEED, HasNoFeed}
+use Rattle.pv_words.specs.Lines.{FEED, HasNoFeed}
 use Rattle.pv_script.specs.declared.lines.Took.{Took}
 use Rattle.pv_script.specs.declared.lines.Took.TheVariants.{More, Line, TooLong}
 

@@ -3,15 +3,18 @@
 ghost use Rattle.std.specs.Prelude.{◌≡◌, Some, None, MatchResult};
 ghost use Rattle.std.specs.Str.{bytes_eq};
 ghost use Rattle.pv_script.specs.Commands.{ReadsAs};
-ghost use Rattle.pv_script.specs.Reading.{first_word, wrap_of, insert_of, unwrap_of, rename_of};
+ghost use Rattle.pv_script.specs.Reading.{wrap_of, insert_of, unwrap_of, rename_of};
 ghost use Rattle.pv_script.specs.Reading.{split_of, join_of, set_text_of, add_text_of};
 ghost use Rattle.pv_script.specs.Reading.{del_text_of, edit_of};
+ghost use Rattle.pv_words.specs.Numbers.{number_spelled};
+ghost use Rattle.pv_words.specs.Paths.{path_spelled};
+ghost use Rattle.pv_words.specs.Words.{first_word};
 
 use crate::errors::CommandError;
-use crate::paths::{read_number, read_path};
 use pv_chars::bytes_of;
-use pv_chars::delimiters::up_to_byte;
 use pv_edit::Edit;
+use pv_tree::Path;
+use pv_words::{written_number, written_path};
 use std::alloc::Global;
 
 /// The word before the first blank, and what stands behind the blank.
@@ -19,7 +22,27 @@ pub(crate) fn first_word(bytes: &[u8]) -> Result<(&[u8], &[u8]), CommandError>
     ensures { MatchResult result (λ cut. first_word bytes.now ≡ Some (cut.0.now, cut.1.now))
         (λ error. (error ≡ CommandError.Unknown) × (first_word bytes.now ≡ None)) }
 {
-    up_to_byte(b' ', bytes).ok_or(CommandError::Unknown)
+    pv_words::first_word(bytes).ok_or(CommandError::Unknown)
+}
+
+/// The number that a word of a line is.
+pub(crate) fn read_number(word: &[u8]) -> Result<u32, CommandError>
+    ensures { ReadsAs (number_spelled word.now) result }
+{
+    match written_number(word) {
+        Some(number) => Ok(number),
+        None => Err(CommandError::Unknown),
+    }
+}
+
+/// The path that a word of a line is.
+pub(crate) fn read_path(alloc: Global, word: &[u8]) -> Result<Path, CommandError>
+    ensures { ReadsAs (path_spelled word.now) result }
+{
+    match written_path(alloc, word)? {
+        Some(path) => Ok(path),
+        None => Err(CommandError::Unknown),
+    }
 }
 
 /// Whether a word is this one.

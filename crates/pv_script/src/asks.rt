@@ -3,9 +3,8 @@
 ghost use Rattle.pv_script.specs.Commands.{ReadsAs};
 ghost use Rattle.pv_script.specs.Reading.{ask_of, rename_asked_of, wrap_asked_of};
 
-use crate::arguments::first_word;
+use crate::arguments::{first_word, read_number, read_path};
 use crate::errors::CommandError;
-use crate::paths::{read_number, read_path};
 use pv_edit::Ask;
 use std::alloc::Global;
 

@@ -1,15 +1,14 @@
 //! Edits written as lines.
 
-ghost use Rattle.std.specs.Prelude.{◌≡◌, [], ◌∷◌, ◌++◌, codes, decimal, IfOk, OnOk};
+ghost use Rattle.std.specs.Prelude.{◌≡◌, [], ◌∷◌, ◌++◌, OnOk};
 ghost use Rattle.pv_script.specs.Edits.{edit_text};
-ghost use Rattle.pv_script.specs.Paths.{path_text};
-ghost use Rattle.pv_script.specs.Words.{words};
+ghost use Rattle.pv_words.specs.Paths.{path_text};
+ghost use Rattle.pv_words.specs.Words.{words};
 
-use crate::paths::{push_number, push_path};
-use pv_chars::{Bytes, NoMemory};
 use pv_edit::Edit;
 use pv_tree::Path;
-use std::alloc::{AllocError, Global};
+use pv_words::{push_next_number, push_next_word, push_path};
+use std::alloc::AllocError;
 
 // Appends the word of an edit, and its path.
 fn push_front(text: &mut Vec<u8>, word: &[u8], path: &Path) -> Result<(), AllocError>
@@ -19,22 +18,6 @@ fn push_front(text: &mut Vec<u8>, word: &[u8], path: &Path) -> Result<(), AllocE
     text.extend_from_slice(word)?;
     text.push(b' ')?;
     push_path(text, path.places())
-}
-
-/// Appends a number behind a blank.
-pub(crate) fn push_next_number(text: &mut Vec<u8>, number: u64) -> Result<(), AllocError>
-    ensures { OnOk result (text.new.items ≡ text.old.items ++ (codes " " ++ decimal number)) }
-{
-    text.push(b' ')?;
-    push_number(text, number)
-}
-
-/// Appends a word behind a blank.
-pub(crate) fn push_next_word(text: &mut Vec<u8>, word: &[u8]) -> Result<(), AllocError>
-    ensures { OnOk result (text.new.items ≡ text.old.items ++ (codes " " ++ word.now)) }
-{
-    text.push(b' ')?;
-    text.extend_from_slice(word)
 }
 
 /// Appends the line of an edit, without its LF.
@@ -83,13 +66,4 @@ pub(crate) fn push_edit(text: &mut Vec<u8>, edit: &Edit) -> Result<(), AllocErro
         }
         Edit::DelText { path } => push_front(text, b"deltext", path),
     }
-}
-
-/// The line of an edit, without its LF.
-pub fn edit_line(alloc: Global, edit: &Edit) -> Result<Bytes, NoMemory>
-    ensures { IfOk result (λ line. line ≡ edit_text edit.now) }
-{
-    let mut text = Vec::new(alloc);
-    push_edit(&mut text, edit)?;
-    Ok(Bytes::of(text))
 }

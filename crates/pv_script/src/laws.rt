@@ -1,7 +1,8 @@
 //! Laws on lines and commands. Their functions do nothing.
 
-ghost use Rattle.pv_script.specs.Laws.{OneCommand, CommandOrNone, EditsAreReadAgain, JoinLines};
-ghost use Rattle.pv_script.specs.Laws.{LinesEndAtFeeds};
+ghost use Rattle.pv_script.specs.Laws.{OneCommand, CommandOrNone, EditsAreReadAgain};
+
+pub use pv_words::laws::lines_law;
 
 /// A line spells exactly one command, or none.
 pub fn one_command_law()
@@ -14,10 +15,4 @@ pub fn one_command_law()
 /// type of marks.
 pub fn edit_line_law<M>()
     ensures { EditsAreReadAgain M }
-{}
-
-/// The lines of a script, in whatever pieces it comes.
-pub fn lines_law()
-    ensures joined { JoinLines }
-    ensures end { LinesEndAtFeeds }
 {}

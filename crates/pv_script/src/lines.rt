@@ -1,12 +1,13 @@
 //! Takes the lines of a script from its pieces.
 
 ghost use Rattle.std.specs.Prelude.{◌≡◌, ◌++◌, IfOk, length, nat_le, false, if◌then◌else◌};
-ghost use Rattle.pv_script.specs.Lines.{without_returns};
+ghost use Rattle.pv_words.specs.Lines.{without_returns};
 ghost use Rattle.pv_script.specs.Taking.{TakesPiece, MAX_LINE_BYTES as MAX_BYTES, nothing_held};
 ghost use Rattle.pv_script.specs.Taking.{begun_line};
 
 use memchr::memchr;
 use pv_chars::NoMemory;
+use pv_words::without_returns;
 use std::alloc::Global;
 use std::marker::Model;
 
@@ -22,17 +23,6 @@ pub enum Took {
     Line(usize),
     /// The line would be too long.
     TooLong,
-}
-
-/// The line without the CR bytes at its end.
-pub fn without_returns(line: &[u8]) -> &[u8]
-    ensures { result.now ≡ without_returns line.now }
-{
-    let mut end = line.len();
-    while end > 0 && line[end - 1] == b'\r' {
-        end -= 1;
-    }
-    &line[..end]
 }
 
 /// A line that is taken from pieces, with room for the longest.

@@ -2,7 +2,7 @@
 
 ghost use Rattle.std.specs.Prelude.{◌≡◌, ◌+◌, ◌≤◌, ◌++◌, length, take, drop, codes, decimal};
 ghost use Rattle.pv_script.specs.Replies.{reply_bytes};
-ghost use Rattle.pv_script.specs.Words.{with_feed};
+ghost use Rattle.pv_words.specs.Words.{with_feed};
 ghost use Rattle.pv_script.specs.declared.replies.Reply.TheVariants as reply;
 
 use itoa::Buffer;

@@ -1,18 +1,18 @@
 //! The replies to a script's lines.
 
 ghost use Rattle.std.specs.Prelude.{◌≡◌, [], ◌∷◌, ◌++◌, codes, decimal, length, IfOk, OnOk};
-ghost use Rattle.pv_script.specs.Lines.{with_feeds};
-ghost use Rattle.pv_script.specs.Paths.{path_text};
+ghost use Rattle.pv_words.specs.Lines.{with_feeds};
+ghost use Rattle.pv_words.specs.Paths.{path_text};
 ghost use Rattle.pv_script.specs.Replies.{reply_bytes, reason_word, verdict_word, edit_lines};
 ghost use Rattle.pv_script.specs.Replies.{row_text, row_lines};
-ghost use Rattle.pv_script.specs.Words.{words, with_feed};
+ghost use Rattle.pv_words.specs.Words.{words, with_feed};
 
-use crate::edits::{push_edit, push_next_number, push_next_word};
+use crate::edits::push_edit;
 use crate::okay::okay_text;
-use crate::paths::{push_number, push_path};
 use pv_chars::{Bytes, Labels, NoMemory};
 use pv_edit::{Done, Edit, Edits, Reason, VerdictRow, VerdictRows};
 use pv_tree::{Path, Verdict};
+use pv_words::{push_counted, push_next_number, push_next_word, push_number_line, push_path};
 use std::alloc::{AllocError, Global};
 
 /// The answer to a line.
@@ -112,17 +112,6 @@ fn push_with_path(text: &mut Vec<u8>, word: &[u8], path: &Path) -> Result<(), Al
     Ok(())
 }
 
-// Appends a line of a word and a number.
-fn push_with_number(text: &mut Vec<u8>, word: &[u8], number: u64) -> Result<(), AllocError>
-    ensures { OnOk result (text.new.items ≡
-        text.old.items ++ with_feed (words (word.now ∷ decimal number ∷ []))) }
-{
-    text.extend_from_slice(word)?;
-    push_next_number(text, number)?;
-    text.push(b'\n')?;
-    Ok(())
-}
-
 // Appends a line of a word and two numbers.
 fn push_with_numbers(
     text: &mut Vec<u8>,
@@ -138,14 +127,6 @@ fn push_with_numbers(
     push_next_number(text, next)?;
     text.push(b'\n')?;
     Ok(())
-}
-
-// Appends a document's bytes, with an LF.
-fn push_body(text: &mut Vec<u8>, bytes: &[u8]) -> Result<(), AllocError>
-    ensures { OnOk result (text.new.items ≡ text.old.items ++ with_feed bytes.now) }
-{
-    text.reserve_exact(bytes.len() + 1)?;
-    push_line(text, bytes)
 }
 
 // Appends the line of each edit.
@@ -197,16 +178,8 @@ fn push_completed(text: &mut Vec<u8>, inserted: u64, bytes: &[u8]) -> Result<(),
         ++ with_feed bytes.now)) }
 {
     push_with_numbers(text, b"completed", inserted, bytes.len() as u64)?;
-    push_body(text, bytes)
-}
-
-fn push_shown(text: &mut Vec<u8>, bytes: &[u8]) -> Result<(), AllocError>
-    ensures { OnOk result (text.new.items ≡ text.old.items ++
-        (with_feed (words (codes "show" ∷ decimal (length bytes.now) ∷ []))
-        ++ with_feed bytes.now)) }
-{
-    push_with_number(text, b"show", bytes.len() as u64)?;
-    push_body(text, bytes)
+    text.reserve_exact(bytes.len() + 1)?;
+    push_line(text, bytes)
 }
 
 fn push_history(text: &mut Vec<u8>, edits: &[Edit]) -> Result<(), AllocError>
@@ -214,7 +187,7 @@ fn push_history(text: &mut Vec<u8>, edits: &[Edit]) -> Result<(), AllocError>
         (with_feed (words (codes "history" ∷ decimal (length edits.now) ∷ []))
         ++ edit_lines edits.now)) }
 {
-    push_with_number(text, b"history", edits.len() as u64)?;
+    push_number_line(text, b"history", edits.len() as u64)?;
     push_edits(text, edits)
 }
 
@@ -223,7 +196,7 @@ fn push_verdicts(text: &mut Vec<u8>, rows: &[VerdictRow]) -> Result<(), AllocErr
         (with_feed (words (codes "verdicts" ∷ decimal (length rows.now) ∷ []))
         ++ row_lines rows.now)) }
 {
-    push_with_number(text, b"verdicts", rows.len() as u64)?;
+    push_number_line(text, b"verdicts", rows.len() as u64)?;
     push_rows(text, rows)
 }
 
@@ -232,7 +205,7 @@ fn push_offer(text: &mut Vec<u8>, names: &[Bytes]) -> Result<(), AllocError>
         (with_feed (words (codes "offer" ∷ decimal (length names.now) ∷ []))
         ++ with_feeds names.now)) }
 {
-    push_with_number(text, b"offer", names.len() as u64)?;
+    push_number_line(text, b"offer", names.len() as u64)?;
     push_names(text, names)
 }
 
@@ -271,10 +244,10 @@ fn push_reply(text: &mut Vec<u8>, reply: &Reply) -> Result<(), AllocError>
         Reply::Limit => push_line(text, b"no limit"),
         Reply::NoMemory => text.extend_from_slice(no_memory_text()),
         Reply::NoCommand => text.extend_from_slice(no_command_text()),
-        Reply::Need(number) => push_with_number(text, b"need", *number),
+        Reply::Need(number) => push_number_line(text, b"need", *number),
         Reply::Wide(path) => push_with_path(text, b"no wide", path),
         Reply::Heavy => push_line(text, b"no heavy"),
-        Reply::Show(bytes) => push_shown(text, bytes.as_slice()),
+        Reply::Show(bytes) => push_counted(text, b"show", bytes.as_slice()),
         Reply::Completed(inserted, bytes) => push_completed(text, *inserted, bytes.as_slice()),
         Reply::History(edits) => push_history(text, edits.as_slice()),
         Reply::Verdicts(rows) => push_verdicts(text, rows.as_slice()),

@@ -1,4 +1,4 @@
--- What a session keeps behind each move, and that the move is a step.
+-- What a session keeps after each move, and that the move is a step.
 use Rattle.std.proofs.Common.{List, [], ap, refl, subst, sym, ◌++◌, ◌∙◌, ◌∷◌, ◌≡◌, ℕ}
 use Rattle.std.specs.Prelude.{Err, None, Option, Some}
 use Rattle.std.specs.Option.{MatchOption}
@@ -81,7 +81,7 @@ module _ (one : LeadsToOne Unit) (marks : HoldsByOtherMarks ℕ Unit) (m : Stamp
     still_opened : opened_doc (ways ++ way ∷ []) later ≡ s.opened
     still_opened = led_opened one s.dtd s.root s.opened later (edits ++ edit ∷ []) (ways ++ way ∷ []) longer
 
-    -- the session behind it
+    -- the session after it
     module _ (past' undone' : List Edit) (ways' : List Inverse) (p : past' ≡ edits ++ edit ∷ []) (w : ways' ≡ ways ++ way ∷ []) where
       abbrev t : PlainSession
       t = session_of after past' ways' undone' n

@@ -1,4 +1,4 @@
--- A move has one answer, and there is one session behind it.
+-- A move has one answer, and there is one session after it.
 use Rattle.std.proofs.Common.{List, None, Some, [], ap, length, refl, subst, sym, ◌++◌, ◌∙◌, ◌∷◌, ◌≡◌, ℕ}
 use Rattle.std.proofs.lemmas.List.{same_from_push}
 use Rattle.pv_edit.specs.ChangedLists.{changed_lists, makes, undoes}
@@ -61,7 +61,7 @@ not_empty (y ∷ xs) ys x e f = absurd cc
 same_last : (xs ys all : List Edit) (x y : Edit) → all ≡ xs ++ x ∷ [] → all ≡ ys ++ y ∷ [] → (xs ≡ ys) × (x ≡ y)
 same_last xs ys all x y e f = same_from_push xs ys x y (sym e ∙ f)
 
--- the sessions behind an undo and a redo
+-- the sessions after an undo and a redo
 abbrev behind : PlainSession → List Edit → Edit → PlainDoc Unit → PlainSession
 behind before past edit doc = record before {
   past = past;

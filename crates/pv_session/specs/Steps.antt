@@ -1,5 +1,5 @@
 -- The steps of a session: what an edit, an undo or a redo is answered, and what the session is at
--- behind it.
+-- after it.
 use Rattle.std.specs.Prelude.{◌≡◌, ◌++◌, List, None, Option, Some, [], length, ℕ, ◌∷◌}
 use Rattle.pv_cache.specs.Accepting.{IsAccepted}
 use Rattle.pv_cache.specs.Moves.{HasBad, HasGround, HasOpen}
@@ -24,7 +24,7 @@ pub data PlainAnswer : Type 0 where
   is_impossible : (path : List ℕ) → PlainAnswer
   lacks_history : PlainAnswer
 
--- the document behind a move that changed these lists: they have the move's number for a stamp, and
+-- the document after a move that changed these lists: they have the move's number for a stamp, and
 -- each other list keeps its own
 abbrev pub behind_move : PlainSession → List (List ℕ) → PlainDoc ℕ → PlainDoc ℕ
 behind_move s changed doc = stamp_lists (next_move s.moves) changed doc

@@ -11,7 +11,7 @@ pub fn replay_law()
     ensures { ReplaysToOne }
 {}
 
-/// A move has one answer, and there is one session behind it.
+/// A move has one answer, and there is one session after it.
 pub fn one_answer_law()
     ensures { StepsHaveOneAnswer }
 {

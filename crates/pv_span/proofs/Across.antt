@@ -72,7 +72,7 @@ module _ (cells values : List ℕ) (spans span site v : ℕ) (within : span < sp
   pub few_more : AreFew values → AreFew cells → AreFew (set cells (site * spans + span) v)
   few_more few all = each_cell (λ m k. k ≤ no_size) cells (site * spans + span) v inside (let h = few site in omega arith) all
 
--- one row more, behind rows that stay
+-- one row more, after rows that stay
 pub rows_more : (f h : ℕ → List ℕ) (n : ℕ) (row : List ℕ) → ((k : ℕ) → k < n → h k ≡ f k) → h n ≡ row →
     map h (range_with_len 0 (n + 1)) ≡ map f (range_with_len 0 n) ++ (row ∷ [])
 rows_more f h n row same e =

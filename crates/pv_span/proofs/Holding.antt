@@ -160,7 +160,7 @@ module _ (g : List PlainForm) (w : List PlainToken) (i j : ℕ) where
 pub fallen_wait : (before behind : Waiting) (old new : List ℕ) → HaveFallen before behind old new → ((s : ℕ) → size_at old s ≡ no_size) → AllWait behind new
 fallen_wait before behind old new f blank d = elim (f.each d) [ inl e ↦ inl (let z = blank d in omega arith) | inr p ↦ inr p.1 ]
 
--- the number stands among these, at place k or behind it
+-- the number stands among these, at place k or after it
 abbrev pub IsFrom : List ℕ → ℕ → ℕ → Type 0
 IsFrom xs k s = (m : ℕ) × (k ≤ m) × (slice_get xs m ≡ Some s)
 
@@ -210,7 +210,7 @@ module _ (g : List PlainForm) (w : List PlainToken) (i j : ℕ) (column value : 
         after_place s n xs r (still_held g w i j t new a b tokens rows (StillWaits behind column above k s) (fell_still s) (StillWaits before column above k s) (kept_still s) s n xs r (h s n xs r))
 
   module _ (t : PlainChart) (v : Waiting) where
-    -- before the first place, and behind the last one
+    -- before the first place, and after the last one
     pub first_place : ((s d : ℕ) → IsOneOf d (columns_mentioned (form_at g s)) → column ≡ d → IsOneOf s above) → AreHeld g w i j (λ d. (column ≡ d) ⊎ Waits v d) t → IsHeldStill v 0 t
     first_place told h s n xs r = elim (h s n xs r) [
       | inl l ↦ inl l

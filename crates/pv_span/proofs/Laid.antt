@@ -29,7 +29,7 @@ columns_kept P a b ds same are = record {
 }
 
 module _ (g : PlainDtd) (a b : PlainSites) (H K : ℕ → PlainForm → Type 0) (more : (c : ℕ) (f : PlainForm) → H c f → K c f) (names : (k : ℕ) → column_at a.names k ≡ column_at b.names k) (c q : ℕ) where
-  -- what is said of a part stays, where the columns behind it do
+  -- what is said of a part stays, where the columns after it do
   module _ (above : (k : ℕ) → q < k → (column_at a.parts k ≡ column_at b.parts k) × (column_at a.rests k ≡ column_at b.rests k)) where
     pub part_kept : (o : Option PlainPart) → FitsPart g a H c q o → FitsPart g b K c q o
     part_kept None f = more c of_none f

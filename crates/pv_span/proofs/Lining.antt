@@ -101,7 +101,7 @@ module _ (n : ℕ) (rows : List (List ℕ)) (i j : ℕ) where
       let y : i + suc (j - suc i) ≡ j = omega arith in
       rw (eo, et, x, y) (omega arith)
 
-  -- a row behind those that are done changes no line
+  -- a row after those that are done changes no line
   module _ (row : List ℕ) (le : i ≤ j) (within : j ≤ n) (next : span_number n i j ≡ length rows) where
     earlier : (a b : ℕ) → span_number n a b < length rows → (s : ℕ) → done_value n rows (cell s a b) ≡ done_value n (rows ++ (row ∷ [])) (cell s a b)
     earlier a b l s = ap (λ r. size_at r s) (sym (get_or-append rows (row ∷ []) [] (span_number n a b) l))

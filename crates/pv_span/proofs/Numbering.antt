@@ -18,7 +18,7 @@ more_spans a (suc b) l = elim (cases_lt b a) [
 pub later_spans : (a b : ℕ) → a < b → spans_before a + suc a ≤ spans_before b
 later_spans a b l = more_spans (suc a) b l
 
--- a span within another is not behind it, and before it where they differ
+-- a span within another is not after it, and before it where they differ
 pub within : (n i j a b : ℕ) → i ≤ a → a ≤ b → b ≤ j → j ≤ n → span_number n a b ≤ span_number n i j
 within n i j a b p q r s = elim (cases_lt i a) [
   | inl lt ↦ (let h = later_spans (n - a) (n - i) (omega arith) in omega arith)
@@ -36,7 +36,7 @@ strictly_within n i j a b p q r s (inr lt) = elim (cases_lt i a) [
 pub later_before : (n i j k : ℕ) → i < j → j ≤ n → span_number n i j < k → span_number n j n < k
 later_before n i j k p q l = let h = later_spans (n - j) (n - i) (omega arith) in omega arith
 
--- the span behind one from the same place, and the first one from the place before
+-- the span after one from the same place, and the first one from the place before
 pub next_number : (n i j : ℕ) → i ≤ j → span_number n i (suc j) ≡ suc (span_number n i j)
 next_number n i j l = omega arith
 

@@ -63,7 +63,7 @@ module _ (g : PlainDtd) (w : List PlainToken) (m : PlainSites) (f : List PlainFo
         made_two C (at_site s i j) (c + k) 0 d.0 d.1 (at_site o i n) (at_site r n j) (let y = d.2 in omega arith)
         (made (column_of m s) i j 0 (at_site o i n ∷ at_site r n j ∷ []) p e u) (d.3 one) (d.4 two)
 
-    -- one of the columns of a mixed model, and the content behind it
+    -- one of the columns of a mixed model, and the content after it
     item_case : (s o : PlainSite) (d n : ℕ) (ds : List ℕ) → form_at f (column_of m s) ≡ of_star d true → form_at f d ≡ of_one ds → IsOneOf (column_of m o) ds →
         HasSite g o → HasSite g s → i < n → ToTwo g w i j c xs o s n → Derives C (c + k) (at_site s i j)
     item_case s o d n ds e u among one two lt (a, l, z, q) =

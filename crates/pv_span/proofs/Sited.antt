@@ -1,4 +1,4 @@
--- What is within and behind a site is a site of the DTD.
+-- What is within and after a site is a site of the DTD.
 use Rattle.std.proofs.Common.{List, Some, get_or, refl, ℕ, ◌+◌, ◌<◌, ◌≡◌, length}
 use Rattle.std.proofs.lemmas.Option.{slice_get-get_or}
 use Rattle.pv_model.specs.Plain.{PlainPart, PlainParts, children, mixed, name}

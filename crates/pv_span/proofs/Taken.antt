@@ -90,7 +90,7 @@ module _ (column : ℕ → ℕ) (first n : ℕ) (ds : List ℕ) (v : ℕ) (le : 
 pub numbers_none : (column : ℕ → ℕ) (first : ℕ) → AreColumns (λ e. first + e < first) (λ e. column (first + e)) []
 numbers_none column first = record { each = λ k l. absurd (omega arith); only = λ k d h. absurd cc }
 
--- a number more behind those from 0 on
+-- a number more after those from 0 on
 pub count_more : (ns : List ℕ) (n : ℕ) → length ns ≡ n → ((x : ℕ) → x < n → column_at ns x ≡ x) → (x : ℕ) → x < suc n → column_at (ns ++ (n ∷ [])) x ≡ x
 count_more ns n e each x l = elim (cases_lt x n) [
   | inl lt ↦ get_or-append ns (n ∷ []) no_column x (omega arith) ∙ each x lt

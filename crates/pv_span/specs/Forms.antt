@@ -17,7 +17,7 @@ pub data PlainForm : Type 0 where
   of_star : ℕ → Bool → PlainForm
   -- one of a column, or more
   of_plus : ℕ → PlainForm
-  -- one column, and another behind it
+  -- one column, and another after it
   of_two : ℕ → ℕ → PlainForm
 
 -- what stands in the column of this number, or nothing where there is none

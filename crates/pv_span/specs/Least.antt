@@ -47,7 +47,7 @@ pub record IsLeastMember (t : Cell → ℕ) (ds : List ℕ) (i j k : ℕ) : Type
   pub below : (d : ℕ) → IsOneOf d ds → k ≤ t (cell d i j)
   pub attained : k < no_size → (d : ℕ) × IsOneOf d ds × (k ≡ t (cell d i j))
 
--- s is the value of a column behind a text, where texts may stand there
+-- s is the value of a column after a text, where texts may stand there
 pub record IsTextValue (w : List PlainToken) (t : Cell → ℕ) (c : ℕ) (texts : Bool) (i j s : ℕ) :
     Type 0 where
   pub below : texts ≡ true → slice_get w i ≡ Some text → s ≤ t (cell c (suc i) j)

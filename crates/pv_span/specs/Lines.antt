@@ -1,4 +1,4 @@
--- Lines: for two columns, one behind the other, the least sums over the spans from one place, of
+-- Lines: for two columns, one after the other, the least sums over the spans from one place, of
 -- the cuts before the span at hand.
 use Rattle.std.specs.Prelude.{List, Some, [], length, min, slice_get, slice_index_or, suc, zero, ℕ}
 use Rattle.std.specs.Prelude.{◌+◌, ◌-◌, ◌<◌, ◌≡◌, ◌≤◌}
@@ -11,13 +11,13 @@ use Rattle.pv_span.specs.declared.lines.Line.{Line}
 abbrev pub done_value : ℕ → List (List ℕ) → Cell → ℕ
 done_value n rows x = size_at (slice_index_or rows (span_number n x.from x.to) []) x.column
 
--- the least sum of two values where a span is cut at one of so many places behind its first
+-- the least sum of two values where a span is cut at one of so many places after its first
 abbrev pub least_cut : (Cell → ℕ) → ℕ → ℕ → ℕ → ℕ → ℕ → ℕ
 least_cut t one two i j zero = no_size
 least_cut t one two i j (suc k) = min (least_cut t one two i j k)
     (t (cell one i (i + suc k)) + t (cell two (i + suc k) j))
 
--- for each span from place i up to j or a later place, the least sum of the cuts behind i and
+-- for each span from place i up to j or a later place, the least sum of the cuts after i and
 -- before j
 abbrev pub IsLine : ℕ → List (List ℕ) → ℕ → ℕ → Line → Type 0
 IsLine n rows i j l = (p : ℕ) → j ≤ p → p ≤ n → p < length l.least.items →

@@ -7,7 +7,7 @@ use Rattle.pv_rules.specs.Sites.{HasSite, part_site, rest_site}
 use Rattle.pv_span.specs.Columns.{FitsContent, FitsPart, FitsRest, PlainSites, column_at}
 use Rattle.pv_span.specs.Forms.{PlainForm, form_at, of_element}
 
--- the form f stands in column c, where the first of these forms stands behind the columns of n
+-- the form f stands in column c, where the first of these forms stands after the columns of n
 -- names
 abbrev pub IsMade : ℕ → List PlainForm → ℕ → PlainForm → Type 0
 IsMade n forms c f = (n ≤ c) × (c < n + length forms) × (form_at forms (c - n) ≡ f)

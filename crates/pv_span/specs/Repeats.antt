@@ -1,4 +1,4 @@
--- Tokens of a word that stand there again, further behind.
+-- Tokens of a word that stand there again, further after.
 use Rattle.std.specs.Prelude.{List, slice_get, ℕ, ◌+◌, ◌-◌, ◌<◌, ◌≡◌, ◌≤◌}
 use Rattle.pv_model.specs.declared.models.Token.{Token}
 use Rattle.pv_span.specs.Charts.{span_number}

@@ -10,8 +10,8 @@ ghost use Rattle.pv_span.specs.PlainForms.{plain_chart};
 use crate::charts::Chart;
 use pv_productive::NO_SIZE;
 
-/// The sum where the span is cut at a place: `one` before it, `two` behind. What has no value
-/// before the place isn't looked for behind it.
+/// The sum where the span is cut at a place: `one` before it, `two` after. What has no value
+/// before the place isn't looked for after it.
 #[inline(always)]
 fn sum_at(chart: &Chart, one: u32, two: u32, place: u32) -> u64
     requires { (chart.now.from ≤ place) × (place ≤ chart.now.to) }
@@ -90,7 +90,7 @@ pub fn least_within(chart: &Chart, number: u32, one: u32, two: u32) -> u64
     }
 }
 
-/// The least sum of the cuts behind the first place of the span, its last place among them.
+/// The least sum of the cuts after the first place of the span, its last place among them.
 #[inline(always)]
 pub fn least_behind(chart: &Chart, number: u32, one: u32, two: u32) -> u64
     requires { chart.now.from < chart.now.to }

@@ -21,7 +21,7 @@ const SHELVES: usize = 90;
 /// The number of no entry.
 const NO_ENTRY: u32 = u32::MAX;
 
-/// A column on a shelf, and the number of the entry behind it.
+/// A column on a shelf, and the number of the entry after it.
 #[derive(Clone, Copy, Debug)]
 struct Entry {
     column: u32,

@@ -20,6 +20,6 @@ pub enum Form {
     Star(u32, bool),
     /// One of a column, or more.
     Plus(u32),
-    /// One column, and another behind it.
+    /// One column, and another after it.
     Then(u32, u32),
 }

@@ -62,7 +62,7 @@ fn columns_from(alloc: Global, columns: &[u32], first: u32, end: u32) -> Result<
     Ok(found)
 }
 
-/// The column of a part, where what is within it and behind it has its columns.
+/// The column of a part, where what is within it and after it has its columns.
 fn column_of_part(
     alloc: Global,
     grammar: &Grammar,
@@ -122,7 +122,7 @@ fn column_of_rest(
     }
 }
 
-/// Gives a part its columns, where all parts behind it have theirs.
+/// Gives a part its columns, where all parts after it have theirs.
 pub fn lay_part(
     alloc: Global,
     grammar: &Grammar,

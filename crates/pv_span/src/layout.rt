@@ -92,7 +92,7 @@ impl<'a> ColumnLayout<'a> {
 }
 
 /// Gives all parts their columns, the last part first: what is within a part has higher numbers,
-/// and so have the members behind it.
+/// and so have the members after it.
 fn lay_parts(
     alloc: Global,
     grammar: &Grammar,

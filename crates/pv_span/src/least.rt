@@ -69,7 +69,7 @@ fn least_of_opt(chart: &Chart, number: u32, one: u32) -> u64
     }
 }
 
-/// The value of a column behind a text, where texts may stand there.
+/// The value of a column after a text, where texts may stand there.
 fn behind_text(word: &[Token], chart: &Chart, number: u32, texts: bool) -> u64
     requires long { chart.now.tokens ≡ length word.now }
     requires some { chart.now.from < chart.now.to }
@@ -107,7 +107,7 @@ fn least_of_plus(chart: &Chart, number: u32, one: u32) -> u64
     alone.min(least_within(chart, number, one, number))
 }
 
-/// One column, and another behind it.
+/// One column, and another after it.
 fn least_of_two(chart: &Chart, number: u32, one: u32, two: u32) -> u64
     ensures { (f : List PlainForm) (w : List PlainToken) → chart.now.to ≤ length w →
         form_at f number ≡ of_two one two → IsLeastAt f w

@@ -1,4 +1,4 @@
-//! Lines: for two columns, one behind the other, the least sums of cuts, so that a cut is looked at
+//! Lines: for two columns, one after the other, the least sums of cuts, so that a cut is looked at
 //! once for all spans from its first place.
 
 ghost use Rattle.std.specs.Prelude.{◌≡◌, ◌≤◌, ◌<◌, ◌+◌, ◌-◌, ◌^◌, ℕ, length, min, suc};
@@ -12,7 +12,7 @@ use crate::done::DoneSpans;
 use crate::spans::span_number;
 use pv_productive::NO_SIZE;
 
-/// The least sums of a value of `one` before a place and a value of `two` behind it, by the last
+/// The least sums of a value of `one` before a place and a value of `two` after it, by the last
 /// place of the span.
 #[derive(Debug, Drop)]
 pub struct Line {
@@ -49,7 +49,7 @@ impl Finished<'_> {
     }
 }
 
-/// Lowers what stands from a place on to the sums of `before` and the values behind, where these
+/// Lowers what stands from a place on to the sums of `before` and the values after, where these
 /// are less.
 fn lower_sums(least: &mut [u32], place: usize, before: u32, behind: &[u32])
     requires long { place + length behind.now ≤ length least.old }
@@ -88,7 +88,7 @@ fn add_cut(last: &Finished<'_>, line: &mut Line, before: u32)
     }
 }
 
-/// Takes in the cut at the last place of a span that is done, as all spans behind it are.
+/// Takes in the cut at the last place of a span that is done, as all spans after it are.
 fn extend_line(last: &Finished<'_>, line: &mut Line)
     requires { IsLine last.now.tokens (rows_done last.now.done.now) last.now.from last.now.to
         line.old }

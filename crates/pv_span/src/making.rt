@@ -11,7 +11,7 @@ use std::alloc::Global;
 /// How many slots there are.
 const SLOTS: usize = 16_384;
 
-/// The columns that are made, numbered behind those of the names. A slot has the number of a column
+/// The columns that are made, numbered after those of the names. A slot has the number of a column
 /// whose form has the slot's hash.
 #[derive(Debug, Drop)]
 pub struct Making {

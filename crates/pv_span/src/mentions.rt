@@ -48,7 +48,7 @@ fn either(one: u32, two: u32, place: usize) -> Option<u32>
     }
 }
 
-/// The column that is mentioned at a place, or none behind the last one.
+/// The column that is mentioned at a place, or none after the last one.
 pub fn mentioned(form: &Form, place: usize) -> Option<u32>
     ensures { result ≡ slice_get (columns_mentioned (plain_form form.now)) place }
 {

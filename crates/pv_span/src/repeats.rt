@@ -1,4 +1,4 @@
-//! Tokens of a word that stand there again, further behind: the values over spans of the same
+//! Tokens of a word that stand there again, further after: the values over spans of the same
 //! tokens are the same.
 
 ghost use Rattle.std.specs.Prelude.{◌≡◌, ◌≤◌, ◌<◌, ◌+◌, IsTrue, length};
@@ -11,7 +11,7 @@ use pv_model::Token;
 use std::alloc::Global;
 
 /// So many tokens from the place `from` on are those from the place `again` on, which is the place
-/// behind `from` where the most are. The runs count for each place behind `from` how many are.
+/// after `from` where the most are. The runs count for each place after `from` how many are.
 #[derive(Debug, Drop)]
 pub struct Repeats {
     pub from: u32,
@@ -41,7 +41,7 @@ fn count_same(word: &[Token], from: usize, again: usize, most: usize) -> usize
     most
 }
 
-/// How many tokens from a place on are those from `from` on, by the run of the place behind it.
+/// How many tokens from a place on are those from `from` on, by the run of the place after it.
 fn run_at(word: &[Token], from: usize, place: usize, runs: &[u32]) -> u32
     requires from { from < length word.now }
     requires place { place < length word.now }
@@ -52,7 +52,7 @@ fn run_at(word: &[Token], from: usize, place: usize, runs: &[u32]) -> u32
     u32::saturating_add(runs[place + 1], 1)
 }
 
-/// Counts the runs for a place, where those for the place behind it were counted.
+/// Counts the runs for a place, where those for the place after it were counted.
 fn count_runs(word: &[Token], from: usize, runs: &mut [u32])
     requires { from < length word.now }
 {

@@ -14,7 +14,7 @@ use Rattle.pv_missing.specs.Completing.{IsPotentiallyValid}
 use Rattle.pv_missing.specs.Verdicts.{IsLive}
 use Rattle.pv_missing.specs.Widths.{FitsVerdict, IsFirstTooWide, IsListForVerdict}
 use Rattle.pv_stages.specs.Possibility.{AreAllNarrow, RefusesImpossible, RefusesWidth, is_impossible, is_too_wide, possibility_stage, verdict_stage, width_stage}
-use Rattle.pv_script.specs.Paths.{path_text}
+use Rattle.pv_words.specs.Paths.{path_text}
 use Rattle.pv_stages.specs.Response.{PlainResponse, with_line}
 use Rattle.pv_stages.specs.declared.status.Status.TheVariants.{Limit, Negative}
 use Rattle.pv_tree.proofs.Marks.{view-without_marks, all_without_marks, all-without_marks, first-without_marks, heads-without_marks, unmarked_list, word_of-without_marks}

@@ -1,12 +1,7 @@
 -- The devices of a run, each at one moment.
 use Rattle.std.specs.Prelude.{ℕ, List, Option}
 use Rattle.pv_io.specs.Causes.{Asked}
-
--- what a shelf tells of its files, how often it was asked, and how often it failed
-pub record ShelfNow : Type 0 where
-  pub files : Option (List (List ℕ × List ℕ))
-  pub calls : ℕ
-  pub faults : ℕ
+pub use Rattle.pv_io.specs.Files.{ShelfNow}
 
 -- an input: itself, what it tells to be left, how often it was asked and gave no byte, and how
 -- often it failed

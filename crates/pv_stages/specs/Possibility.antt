@@ -9,7 +9,7 @@ use Rattle.pv_tree.specs.declared.nodes.Mark.{Mark}
 use Rattle.pv_missing.specs.Completing.{IsPotentiallyValid}
 use Rattle.pv_missing.specs.Verdicts.{HaveVerdicts, IsFirstImpossible, PlainVerdicts}
 use Rattle.pv_missing.specs.Widths.{IsFirstTooWide, IsListForVerdict}
-use Rattle.pv_script.specs.Paths.{path_text}
+use Rattle.pv_words.specs.Paths.{path_text}
 use Rattle.pv_stages.specs.declared.status.Status.TheVariants.{Limit, Negative}
 use Rattle.pv_stages.specs.Response.{PlainResponse, with_line}
 use Rattle.pv_stages.specs.Stage.{Stage, followed_by, test_stage}

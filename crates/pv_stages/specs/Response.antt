@@ -1,5 +1,5 @@
 -- What a command writes.
-use Rattle.std.specs.Prelude.{ℕ, List, [], ◌∷◌, ◌++◌, codes, decimal}
+use Rattle.std.specs.Prelude.{ℕ, List, ◌++◌, codes}
 use Rattle.pv_stages.specs.declared.status.Status.{Status}
 use Rattle.pv_stages.specs.declared.response.Response.{Response}
 
@@ -11,11 +11,6 @@ pub record PlainResponse : Type 0 where
 -- one line, with its LF
 abbrev pub with_line : Status → List ℕ → PlainResponse
 with_line status text = record { status = status; output = text ++ codes "\n" }
-
--- numbers in decimal digits, each behind a blank
-abbrev pub numbers_text : List ℕ → List ℕ
-numbers_text [] = []
-numbers_text (n ∷ ns) = codes " " ++ decimal n ++ numbers_text ns
 
 -- a response, seen as plain data
 abbrev pub plain_response : Response → PlainResponse

@@ -3,6 +3,8 @@ use Rattle.std.specs.Prelude.{◌≡◌, ℕ, List, Result, Ok, Err}
 use Rattle.pv_dtd.specs.Plain.{PlainDtd}
 use Rattle.pv_dtd.specs.PlainForms.{plain_dtd}
 use Rattle.pv_io.specs.Causes.{CountStays, MadeCalls, Rose}
+use Rattle.pv_read.specs.Meaning.{DocumentMeans, is_document}
+use Rattle.pv_tree.specs.Marks.{blank_mark}
 use Rattle.pv_tree.specs.PlainDocs.{plain_doc}
 use Rattle.pv_stages.specs.Course.{Course, RunEnding, no_memory, responds, shelf_fault}
 use Rattle.pv_stages.specs.Course.{without_input}
@@ -29,6 +31,11 @@ plain_opened opened = record {
   bytes = opened.bytes.items;
   doc = plain_doc opened.doc;
 }
+
+-- the opened bytes mean the opened document
+abbrev pub IsOpenedBy : List ℕ → Opened → Type 0
+IsOpenedBy root opened =
+    DocumentMeans blank_mark root opened.bytes.items (is_document (plain_doc opened.doc))
 
 -- a stop with such a response, or for want of memory
 abbrev pub RefusesWith : (PlainResponse → Type 0) → Stop → Type 0

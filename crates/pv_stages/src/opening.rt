@@ -1,7 +1,6 @@
 //! Opens the files of a command: fetches their bytes and reads them.
 
-ghost use Rattle.std.specs.Prelude.{◌≡◌, ◌++◌, List, [], ◌∷◌, ℕ, decimal, Contains, false};
-ghost use Rattle.pv_stages.specs.Devices.{shelf_at};
+ghost use Rattle.std.specs.Prelude.{◌≡◌, ◌++◌, List, [], ◌∷◌, ℕ, decimal, Contains, IfOk, false};
 ghost use Rattle.pv_stages.specs.Opening.{AreFiles, IsFile, fetch_stage, dtd_stage, dtd_file_stage};
 ghost use Rattle.pv_stages.specs.Opening.{expanded_dtd_stage};
 ghost use Rattle.pv_stages.specs.Parameters.{RefusesParameters};
@@ -9,10 +8,11 @@ ghost use Rattle.pv_params.specs.Answers.{Tells};
 ghost use Rattle.pv_params.specs.Meaning.{Expands, faulty};
 ghost use Rattle.pv_stages.specs.Opening.{document_fetch_stage, fetching_stage, opening_stage};
 ghost use Rattle.pv_stages.specs.Documents.{document_stage, RefusesDocument};
-ghost use Rattle.pv_script.specs.Paths.{path_text};
-ghost use Rattle.pv_stages.specs.Response.{numbers_text, with_line};
+ghost use Rattle.pv_words.specs.Paths.{path_text};
+ghost use Rattle.pv_words.specs.Numbers.{numbers_text};
+ghost use Rattle.pv_stages.specs.Response.{with_line};
 ghost use Rattle.pv_stages.specs.Returns.{RefusesWith, Returns, ReturnsOver, plain_fetched};
-ghost use Rattle.pv_stages.specs.Returns.{plain_opened};
+ghost use Rattle.pv_stages.specs.Returns.{IsOpenedBy, plain_opened};
 ghost use Rattle.pv_stages.specs.Status.{needs_cause};
 ghost use Rattle.pv_dtd.specs.PlainForms.{plain_dtd};
 ghost use Rattle.pv_read.specs.Errors.{Refuses};
@@ -106,10 +106,9 @@ pub fn fetch<H: Shelf>(
     passed: &[u8],
 ) -> Result<Vec<u8>, Stop>
     requires { Contains (H.names shelf.old) name.now }
-    ensures over { ReturnsOver (IsFile (H.files shelf.old) name.now) (λ v. v.items)
+    ensures over { ReturnsOver (IsFile (H.moment shelf.old).files name.now) (λ v. v.items)
         (λ file. fetch_stage file most passed.now)
-        (shelf_at (H.files shelf.old) (H.calls shelf.old) (H.faults shelf.old))
-        (shelf_at (H.files shelf.new) (H.calls shelf.new) (H.faults shelf.new)) result }
+        (H.moment shelf.old) (H.moment shelf.new) result }
     ensures names { H.names shelf.new ≡ H.names shelf.old }
 {
     match shelf.fetch(alloc, name, most) {
@@ -202,8 +201,9 @@ pub fn refuse_document(alloc: Global, error: DocError) -> Stop
 
 /// The document that the bytes are, beside the DTD and them.
 pub fn open_document(alloc: Global, fetched: Fetched, root: &[u8]) -> Result<Opened, Stop>
-    ensures { Returns plain_opened (document_stage root.now (plain_fetched fetched).0
+    ensures returns { Returns plain_opened (document_stage root.now (plain_fetched fetched).0
         (plain_fetched fetched).1) 0 result }
+    ensures means { IfOk result (IsOpenedBy root.now) }
 {
     let Fetched { dtd, bytes } = fetched;
     match read_doc(alloc, &bytes, root) {
@@ -215,9 +215,8 @@ pub fn open_document(alloc: Global, fetched: Fetched, root: &[u8]) -> Result<Ope
 /// The DTD in the file of this name.
 pub fn open_dtd<H: Shelf>(alloc: Global, shelf: &mut H, name: &str) -> Result<Dtd, Stop>
     requires { Contains (H.names shelf.old) name.now }
-    ensures over { ReturnsOver (IsFile (H.files shelf.old) name.now) plain_dtd dtd_file_stage
-        (shelf_at (H.files shelf.old) (H.calls shelf.old) (H.faults shelf.old))
-        (shelf_at (H.files shelf.new) (H.calls shelf.new) (H.faults shelf.new)) result }
+    ensures over { ReturnsOver (IsFile (H.moment shelf.old).files name.now) plain_dtd dtd_file_stage
+        (H.moment shelf.old) (H.moment shelf.new) result }
     ensures names { H.names shelf.new ≡ H.names shelf.old }
 {
     let bytes = fetch(alloc, shelf, name, MAX_DTD_BYTES, b"limit dtd-file")?;
@@ -227,10 +226,9 @@ pub fn open_dtd<H: Shelf>(alloc: Global, shelf: &mut H, name: &str) -> Result<Dt
 // The bytes of the document in the file of this name.
 fn fetch_document<H: Shelf>(alloc: Global, shelf: &mut H, name: &str) -> Result<Vec<u8>, Stop>
     requires { Contains (H.names shelf.old) name.now }
-    ensures over { ReturnsOver (IsFile (H.files shelf.old) name.now) (λ v. v.items)
+    ensures over { ReturnsOver (IsFile (H.moment shelf.old).files name.now) (λ v. v.items)
         document_fetch_stage
-        (shelf_at (H.files shelf.old) (H.calls shelf.old) (H.faults shelf.old))
-        (shelf_at (H.files shelf.new) (H.calls shelf.new) (H.faults shelf.new)) result }
+        (H.moment shelf.old) (H.moment shelf.new) result }
     ensures names { H.names shelf.new ≡ H.names shelf.old }
 {
     fetch(alloc, shelf, name, MAX_DOC_BYTES, b"limit document-file")
@@ -244,10 +242,9 @@ pub fn fetch_files<H: Shelf>(
 ) -> Result<Fetched, Stop>
     requires dtd_named { Contains (H.names shelf.old) named.now.dtd.now }
     requires doc_named { Contains (H.names shelf.old) named.now.doc.now }
-    ensures over { ReturnsOver (AreFiles (H.files shelf.old)
+    ensures over { ReturnsOver (AreFiles (H.moment shelf.old).files
         (named.now.dtd.now ∷ named.now.doc.now ∷ [])) plain_fetched fetching_stage
-        (shelf_at (H.files shelf.old) (H.calls shelf.old) (H.faults shelf.old))
-        (shelf_at (H.files shelf.new) (H.calls shelf.new) (H.faults shelf.new)) result }
+        (H.moment shelf.old) (H.moment shelf.new) result }
     ensures names { H.names shelf.new ≡ H.names shelf.old }
 {
     let dtd = open_dtd(alloc, shelf, named.dtd)?;
@@ -259,11 +256,11 @@ pub fn fetch_files<H: Shelf>(
 pub fn open_files<H: Shelf>(alloc: Global, shelf: &mut H, named: &Named<'_>) -> Result<Opened, Stop>
     requires dtd_named { Contains (H.names shelf.old) named.now.dtd.now }
     requires doc_named { Contains (H.names shelf.old) named.now.doc.now }
-    ensures over { ReturnsOver (AreFiles (H.files shelf.old)
+    ensures over { ReturnsOver (AreFiles (H.moment shelf.old).files
         (named.now.dtd.now ∷ named.now.doc.now ∷ [])) plain_opened
         (opening_stage named.now.root.now)
-        (shelf_at (H.files shelf.old) (H.calls shelf.old) (H.faults shelf.old))
-        (shelf_at (H.files shelf.new) (H.calls shelf.new) (H.faults shelf.new)) result }
+        (H.moment shelf.old) (H.moment shelf.new) result }
+    ensures means { IfOk result (IsOpenedBy named.now.root.now) }
     ensures names { H.names shelf.new ≡ H.names shelf.old }
 {
     let fetched = fetch_files(alloc, shelf, named)?;

@@ -14,11 +14,11 @@ ghost use Rattle.pv_tree.specs.declared.nodes.Mark.{Mark};
 use crate::opening::refuse_path;
 use crate::status::Status;
 use crate::stop::Stop;
-use pv_cache::PlannedGrammar;
 use pv_fresh::FreshError;
 use pv_missing::Verdicts;
 use pv_parallel::{NoGate, check_doc_par, check_doc_par_by};
 use pv_productive::Grammar;
+use pv_reach::Judge;
 use pv_steps::Steps;
 use pv_tree::Doc;
 use std::alloc::Global;
@@ -60,23 +60,22 @@ pub fn narrow_verdicts<L: Ledger>(
     }
 }
 
-/// The same by a grammar whose rules are laid out.
+/// The same by a judge, which has the plan of a grammar where its rules are laid out.
 pub fn narrow_verdicts_by<L: Ledger>(
     rt: &(impl Threads + Sync),
-    alloc: Global,
-    grammar: &PlannedGrammar,
+    judge: &Judge<'_>,
     doc: &Doc,
     root: &[u8],
     steps: &mut Steps<L>,
 ) -> Result<Verdicts, Stop>
-    ensures has { IfOk result (AreVerdictsOf root.now grammar.now (plain_doc doc.now)) }
-    ensures denied { IfErr result (StopsBy (width_stage grammar.now (plain_doc doc.now)) 0) }
+    ensures has { IfOk result (AreVerdictsOf root.now (dtd_of judge.now) (plain_doc doc.now)) }
+    ensures denied { IfErr result (StopsBy (width_stage (dtd_of judge.now)
+        (plain_doc doc.now)) 0) }
     ensures judged { OnOk result (steps.new ≡ steps.old + length (lists_of (plain_doc doc.now))) }
     ensures unjudged { OnErr result (steps.new ≡ steps.old) }
 {
-    let judge = grammar.judge(alloc);
-    match check_doc_par_by(rt, &judge, root, doc, &NoGate, steps) {
+    match check_doc_par_by(rt, judge, root, doc, &NoGate, steps) {
         Ok(verdicts) => Ok(verdicts),
-        Err(error) => Err(refuse_wide(alloc, error)),
+        Err(error) => Err(refuse_wide(judge.alloc(), error)),
     }
 }

@@ -1,11 +1,11 @@
 //! What a command writes.
 
 ghost use Rattle.std.specs.Prelude.{◌≡◌, ◌++◌, IfOk, OnOk, decimal, false};
-ghost use Rattle.pv_script.specs.Paths.{path_text};
+ghost use Rattle.pv_words.specs.Paths.{path_text};
 ghost use Rattle.pv_stages.specs.Status.{needs_cause};
 
 use crate::status::Status;
-use pv_script::{push_number, push_path};
+use pv_words::{push_number, push_numbers, push_path};
 use std::alloc::{AllocError, Global};
 
 /// What a command writes: a status, and bytes.
@@ -17,7 +17,8 @@ pub struct Response {
 }
 
 impl Response {
-    ghost use Rattle.pv_stages.specs.Response.{numbers_text, plain_response, with_line};
+    ghost use Rattle.pv_words.specs.Numbers.{numbers_text};
+    ghost use Rattle.pv_stages.specs.Response.{plain_response, with_line};
 
     // The line of this text, which is ended here.
     fn of_text(status: Status, mut text: Vec<u8>) -> Result<Response, AllocError>
@@ -55,17 +56,6 @@ impl Response {
         Response::of_text(status, line)
     }
 
-    // Appends numbers in decimal digits, each behind a blank.
-    fn push_numbers(text: &mut Vec<u8>, numbers: &[u32]) -> Result<(), AllocError>
-        ensures { OnOk result (text.new.items ≡ text.old.items ++ numbers_text numbers.now) }
-    {
-        for number in numbers {
-            text.extend_from_slice(b" ")?;
-            push_number(text, u64::from(*number))?;
-        }
-        Ok(())
-    }
-
     /// The line of this text and some numbers.
     pub fn with_numbers(
         alloc: Global,
@@ -78,7 +68,7 @@ impl Response {
             ≡ with_line status (text.now ++ numbers_text numbers.now)) }
     {
         let mut line = Vec::from_slice(alloc, text)?;
-        Response::push_numbers(&mut line, numbers)?;
+        push_numbers(&mut line, numbers)?;
         Response::of_text(status, line)
     }
 

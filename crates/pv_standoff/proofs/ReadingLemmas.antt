@@ -5,12 +5,12 @@ use Rattle.std.proofs.lemmas.List.{append-nil}
 use Rattle.pv_chars.specs.Fronts.{ContainsBytes, EndsAt}
 use Rattle.pv_chars.specs.Names.{is_name}
 use Rattle.pv_chars.proofs.NameLemmas.{is_name-IsName, IsName-is_name}
-use Rattle.pv_script.specs.Edits.{MAX_NUMBER}
-use Rattle.pv_script.specs.Lines.{HasNoFeed, lines_of, without_returns}
-use Rattle.pv_script.specs.Reading.{first_word, number_spelled}
-use Rattle.pv_script.proofs.Numbers.{decimal-free, number_spelled-decimal, number-word}
-use Rattle.pv_script.proofs.Words.{Free, ends-free, none-free, first_word-free, first_word-none, first_word-whole}
-use Rattle.pv_script.proofs.RawLines.{ends_line, raw_lines_of-part}
+use Rattle.pv_words.specs.Numbers.{MAX_NUMBER, number_spelled}
+use Rattle.pv_words.specs.Lines.{HasNoFeed, lines_of, without_returns}
+use Rattle.pv_words.specs.Words.{first_word}
+use Rattle.pv_words.proofs.NumberWords.{decimal-free, number_spelled-decimal, number-word}
+use Rattle.pv_words.proofs.FirstWords.{Free, ends-free, none-free, first_word-free, first_word-none, first_word-whole}
+use Rattle.pv_words.proofs.RawLines.{ends_line, raw_lines_of-part}
 use Rattle.pv_standoff.specs.Laws.{OneReading}
 use Rattle.pv_standoff.specs.Lines.{SpellsRange, IsNoRange, SpellRanges, IsFirstNoRange, HasTooMany, RangesMean, number_at, range_with, range_of}
 use Rattle.pv_standoff.specs.Ranges.{AreNamed, MAX_RANGES}

@@ -4,7 +4,7 @@ use Rattle.std.specs.List.{AllByRecursion, All}
 use Rattle.std.proofs.lemmas.Bool.{cases_eq, cases_lt}
 use Rattle.std.proofs.lemmas.List.{append-nil}
 use Rattle.std.proofs.lemmas.List.Sorted.{Contains-permutation, IsPermutation-sym}
-use Rattle.pv_script.specs.Lines.{lines_of}
+use Rattle.pv_words.specs.Lines.{lines_of}
 use Rattle.pv_tree.specs.Legal.{MAX_DEPTH}
 use Rattle.pv_tree.specs.Plain.{PlainDoc, depth_of}
 use Rattle.pv_tree.specs.declared.nodes.Mark.{Mark}

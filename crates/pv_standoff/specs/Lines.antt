@@ -2,10 +2,9 @@
 use Rattle.std.specs.Prelude.{◌≡◌, ◌<◌, ◌≤◌, ℕ, List, [], ◌∷◌, ◌++◌, length, decimal, Option, Some}
 use Rattle.std.specs.Prelude.{None, Result, Ok, Err, option_and_then, option_map, if◌then◌else◌}
 use Rattle.pv_chars.specs.Names.{IsName, is_name}
-use Rattle.pv_script.specs.Edits.{AreNumbers}
-use Rattle.pv_script.specs.Lines.{lines_of}
-use Rattle.pv_script.specs.Reading.{first_word, number_spelled}
-use Rattle.pv_script.specs.Words.{words}
+use Rattle.pv_words.specs.Numbers.{AreNumbers, number_spelled}
+use Rattle.pv_words.specs.Lines.{lines_of}
+use Rattle.pv_words.specs.Words.{first_word, words}
 use Rattle.pv_standoff.specs.Ranges.{MAX_RANGES}
 use Rattle.pv_standoff.specs.declared.errors.RangesError.{RangesError}
 use Rattle.pv_standoff.specs.declared.errors.RangesError.TheVariants.{Syntax, Limit, NoMemory}

@@ -2,7 +2,7 @@
 
 ghost use Rattle.std.specs.Prelude.{◌≡◌, ◌≤◌, ◌<◌, [], ◌∷◌, ◌⊎◌, length, None, Some, Ok, Err, IfOk};
 ghost use Rattle.std.specs.Prelude.{IfSome, MatchOption, MatchResult};
-ghost use Rattle.pv_script.specs.Lines.{lines_of};
+ghost use Rattle.pv_words.specs.Lines.{lines_of};
 ghost use Rattle.pv_standoff.specs.Lines.{RangesMean, number_at, range_of};
 ghost use Rattle.pv_standoff.specs.Ranges.{AreNamed, MAX_RANGES as MAX_RANGE_COUNT};
 
@@ -10,7 +10,7 @@ use crate::errors::RangesError;
 use crate::ranges::{Range, Ranges};
 use pv_chars::delimiters::up_to_byte;
 use pv_chars::{NoMemory, bytes_of, is_name};
-use pv_script::{without_returns, written_number};
+use pv_words::{without_returns, written_number};
 use std::alloc::Global;
 
 // The most ranges.

@@ -38,7 +38,7 @@ same_first e f es fs a b (inl h) y = sym h
 same_first e f es fs a b (inr x) (inl h) = h
 same_first e f es fs a b (inr x) (inr y) = absurd (before_once (key_of e) (key_of f) (first_before e es f a y) (first_before f fs e b x))
 
--- what stands behind the first of one list stands behind the first of the other
+-- what stands after the first of one list stands after the first of the other
 other_behind : (e f : Entry) (es fs : List Entry) (x : Entry) → e ≡ f → AllPairs Precedes (e ∷ es) → Contains es x → (f ≡ x) ⊎ Contains fs x → Contains fs x
 other_behind e f es fs x same a m (inl h) = absurd (let p = first_before e es x a m in let q : Precedes x x = subst (λ (y : Entry). Precedes y x) (same ∙ h) p in before_once (key_of x) (key_of x) q q)
 other_behind e f es fs x same a m (inr n) = n

@@ -24,7 +24,7 @@ use Rattle.pv_tree.specs.Plain.{Ending, short, tagged, Tree, element, text_node,
 use Rattle.pv_tree.specs.Legal.{IsLegal, AreLegal, IsLegalEnding}
 use Rattle.pv_tree.proofs.Decidable.{are_same, both, decided_by, either, holds, in_parts, is_true, made, never, Parts}
 
--- ---- fixed bytes in front, or behind
+-- ---- fixed bytes in front, or after
 record Lead (front : List ℕ) (P : List ℕ → Type 0) (bytes : List ℕ) : Type 0 where
   rest : List ℕ
   is_rest : P rest

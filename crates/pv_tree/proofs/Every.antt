@@ -1,4 +1,4 @@
--- What holds of each element of joined lists, and the elements of a list behind its first.
+-- What holds of each element of joined lists, and the elements of a list after its first.
 use Rattle.std.proofs.Common.{◌≡◌, ◌⊎◌, inl, inr, zero, suc, List, [], ◌∷◌, ◌++◌, refl, arith}
 use Rattle.std.specs.List.{AllByRecursion, Contains}
 

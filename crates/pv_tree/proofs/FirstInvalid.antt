@@ -30,7 +30,7 @@ root_invalid g root doc bad = record {
   is_path = refl;
 }
 
--- the others come behind it
+-- the others come after it
 pub below_invalid : {M : Type 0} (g : PlainDtd) (root path : List ℕ) (doc : PlainDoc M) → IsRootElement root doc.root → IsFirstNot (IsValidList g root) (lists_at (0 ∷ []) doc.root) path → IsFirstNot (IsValidList g root) (lists_of doc) path
 below_invalid g root path doc is f =
     first_behind (IsValidList g root) (record { path = []; owner = the_document; kids = tree doc.root no_trees } ∷ []) (lists_at (0 ∷ []) doc.root) path ((is, refl), tt) f

@@ -16,7 +16,7 @@ first_before P xs ys path f = record {
   is_path = f.is_path;
 }
 
--- the first behind lists that all are so
+-- the first after lists that all are so
 pub first_behind : {M : Type 0} (P : Listed M → Type 0) (xs ys : List (Listed M)) (path : List ℕ) → AllByRecursion P xs → IsFirstNot P ys path → IsFirstNot P (xs ++ ys) path
 first_behind P xs ys path all f = record {
   before = xs ++ f.before;

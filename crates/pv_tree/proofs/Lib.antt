@@ -8,6 +8,7 @@ pub mod PathOrder
 pub mod Finding
 pub mod Searching
 pub mod Marks
+pub mod Walks
 pub mod ValidLists
 pub mod FirstInvalid
 pub mod CharacterData

@@ -15,7 +15,7 @@ use Rattle.pv_chars.specs.Units.{IsLiteral, IsPredefinedRef}
 abbrev pub IsKnownReference : List ℕ → Type 0
 IsKnownReference bytes = IsCharRef bytes ⊎ IsPredefinedRef bytes
 
--- These bytes are such pieces, one behind another.
+-- These bytes are such pieces, one after another.
 pub record AreMadeOf (IsPiece : List ℕ → Type 0) (bytes : List ℕ) : Type 0 where
   pub pieces : List (List ℕ)
   pub are_pieces : AllByRecursion IsPiece pieces

@@ -4,6 +4,9 @@ pub mod Words
 pub mod Heads
 pub mod Tokens
 pub mod Lists
+pub mod MarkedLists
+pub mod Walks
+pub mod Walking
 pub mod Search
 pub mod Places
 pub mod PathOrder

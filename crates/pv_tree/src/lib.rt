@@ -16,6 +16,7 @@ mod paths;
 mod places;
 mod search;
 mod validity;
+mod walk;
 mod words;
 
 pub use document::Doc;
@@ -24,4 +25,5 @@ pub use paths::Path;
 pub use places::Found;
 pub use search::{ListTest, first_list};
 pub use validity::first_invalid;
+pub use walk::{DocList, Lists, OwnerName};
 pub use words::{Tokens, name_token, word};

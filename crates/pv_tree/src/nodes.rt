@@ -1,11 +1,15 @@
 //! Nodes, and the marks that elements carry.
 
-ghost use Rattle.std.specs.Prelude.{◌≡◌, ◌≤◌, IfOk};
+ghost use Rattle.std.specs.Prelude.{◌≡◌, ◌≤◌, IfOk, List, length, suc, if◌then◌else◌};
 ghost use Rattle.std.specs.Option.{option_copied, option_map};
+ghost use Rattle.pv_model.specs.Plain.{PlainToken};
+ghost use Rattle.pv_dtd.specs.Plain.{PlainDtd};
+ghost use Rattle.pv_tree.specs.Heads.{has_token, head_of};
 ghost use Rattle.pv_tree.specs.Plain.{depth_of, nodes_in};
 ghost use Rattle.pv_tree.specs.Legal.{MAX_DEPTH, MAX_NODES};
 ghost use Rattle.pv_tree.specs.Places.{kids_of, list_of, node_below};
 ghost use Rattle.pv_tree.specs.PlainForms.{plain, plain_all, plain_end};
+ghost use Rattle.pv_tree.specs.Words.{node_before};
 
 use pv_chars::{Bytes, NoMemory, Units, bytes_of};
 use std::alloc::Global;
@@ -76,6 +80,20 @@ pub enum Node {
 }
 
 impl Node {
+    /// Whether the node is a token in the word of its list.
+    pub fn has_token(&self) -> bool
+        ensures shown { result ≡ has_token (head_of (plain self.now)) }
+        ensures counted { (g : PlainDtd) (rest : List PlainToken) →
+            length (node_before g (plain self.now) rest)
+            ≡ (if result then suc (length rest) else length rest) }
+    {
+        match self {
+            Node::Elem { .. } | Node::Cdata(_) => true,
+            Node::Text(units) => units.has_data(),
+            Node::Misc(_) => false,
+        }
+    }
+
     // The node at a path below this one.
     pub(crate) fn find(&self, path: &[u32]) -> Option<&Node>
         ensures { option_map plain (option_copied result) ≡ node_below path.now (plain self.now) }

@@ -7,7 +7,7 @@ ghost use Rattle.pv_dtd.specs.Plain.{number_of, model_of};
 ghost use Rattle.pv_dtd.specs.PlainForms.{plain_dtd};
 ghost use Rattle.pv_dtd.specs.Hedge.{IsValid};
 ghost use Rattle.pv_tree.specs.View.{view};
-ghost use Rattle.pv_tree.specs.Lists.{IsFirstNot, IsOwnValid, IsRootElement, IsValidList};
+ghost use Rattle.pv_tree.specs.Lists.{IsFirstNot, IsOwnValid, IsRootElement, IsRootList, IsValidList};
 ghost use Rattle.pv_tree.specs.Lists.{lists_of};
 ghost use Rattle.pv_tree.specs.PlainForms.{plain, forest};
 ghost use Rattle.pv_tree.specs.PlainDocs.{plain_doc};
@@ -16,6 +16,7 @@ use crate::document::Doc;
 use crate::nodes::Node;
 use crate::paths::Path;
 use crate::search::{ListTest, first_list};
+use crate::walk::{DocList, OwnerName};
 use crate::words::append_word;
 use pv_chars::NoMemory;
 use pv_dtd::Dtd;
@@ -54,17 +55,23 @@ impl ListTest for Validity<'_> {
 
     ghost awaits = { λ test _ root _. root ≡ test.root.now };
 
-    fn passes_document(&self, root: &Node, _: &mut Vec<Token>) -> Result<bool, NoMemory> {
-        Ok(is_root(self.root, root))
+    fn passes_list(&self, list: &DocList<'_>, tokens: &mut Vec<Token>) -> Result<bool, NoMemory> {
+        match list.owner {
+            OwnerName::Document => Ok(is_root_list(self.root, list.kids)),
+            OwnerName::Element(name) => {
+                is_own_valid(self.alloc, self.dtd, name, list.kids, tokens)
+            }
+        }
     }
+}
 
-    fn passes_element(
-        &self,
-        name: &[u8],
-        kids: &[Node],
-        tokens: &mut Vec<Token>,
-    ) -> Result<bool, NoMemory> {
-        is_own_valid(self.alloc, self.dtd, name, kids, tokens)
+// Whether these kids are one element of this name.
+fn is_root_list(root: &[u8], kids: &[Node]) -> bool
+    ensures { IsTrue result ↔ IsRootList root.now (forest kids.now) }
+{
+    match kids {
+        [node] => is_root(root, node),
+        _ => false,
     }
 }
 

@@ -1,6 +1,1 @@
-pub mod WholeLists
-pub mod Types
-pub mod OpenLists
-pub mod Contents
-pub mod Runs
-pub mod Tags
+pub mod Validity

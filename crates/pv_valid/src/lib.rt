@@ -3,16 +3,12 @@
 //!
 //! `first_invalid_in` answers as `first_invalid` of `pv_tree` does of the document that `read_doc`
 //! of `pv_read` reads from the bytes, and refuses what `read_doc` refuses, with its numbers;
-//! `first_invalid_within` does so within other limits. Of each open element the word of its list so
-//! far is kept (`IsOpen`, specs/OpenLists.antt); an element's list is judged where the element
-//! ends.
+//! `first_invalid_within` does so within other limits. The lists are those that `pv_lists` reads;
+//! each is judged where its element ends (`validity_by`, specs/Validity.antt).
 #![tactic(auto)]
 
-mod content;
 mod fitting;
-mod items;
-mod open;
+mod judging;
 mod reading;
-mod types;
 
 pub use reading::{first_invalid_in, first_invalid_within};

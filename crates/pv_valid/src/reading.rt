@@ -1,6 +1,6 @@
 //! Judges the lists of a document while it is read, in one pass from left to right.
 
-ghost use Rattle.std.specs.Prelude.{◌≡◌, ◌<◌, ◌+◌, ◌↔◌, ℕ, suc, List, length, IsTrue, IsNone};
+ghost use Rattle.std.specs.Prelude.{◌≡◌, ◌<◌, ◌↔◌, IsTrue, IsNone};
 ghost use Rattle.std.specs.Prelude.{IfOk, IfErr, IfSome, Err};
 ghost use Rattle.pv_dtd.specs.Hedge.{IsValid};
 ghost use Rattle.pv_dtd.specs.PlainForms.{plain_dtd};
@@ -10,61 +10,21 @@ ghost use Rattle.pv_tree.specs.Plain.{PlainDoc};
 ghost use Rattle.pv_tree.specs.View.{view};
 ghost use Rattle.pv_tree.specs.declared.nodes.Mark.{Mark};
 ghost use Rattle.pv_read.specs.Errors.{Refuses};
-ghost use Rattle.pv_read.specs.Meaning.{DocumentMeans, DocumentMeansWithin, DocumentRestMeans};
-ghost use Rattle.pv_read.specs.Meaning.{Outcome, is_document};
+ghost use Rattle.pv_read.specs.Meaning.{DocumentMeans, DocumentMeansWithin, Outcome, is_document};
 ghost use Rattle.pv_read.specs.PlainForms.{Answers};
-ghost use Rattle.pv_read.specs.Prologs.{behind_tag};
-ghost use Rattle.pv_valid.specs.Contents.{ReadsRoot, limits_of};
-ghost use Rattle.pv_valid.specs.OpenLists.{MAX_KIDS};
+ghost use Rattle.pv_lists.specs.Answers.{limits_of};
+ghost use Rattle.pv_lists.specs.Judging.{MAX_KIDS};
 
-use crate::content::read_content;
-use crate::open::OpenLists;
-use pv_chars::scan::after_byte_order_mark;
+use crate::judging::Validity;
+use pv_chars::NoMemory;
 use pv_dtd::Dtd;
-use pv_read::epilog::read_epilog;
-use pv_read::prolog::{RootTag, root_tag};
+use pv_lists::{OpenLists, ReadError, read_lists};
 use pv_read::{DocError, MAX_DEPTH, MAX_DOC_BYTES};
 use pv_tree::Path;
 use std::alloc::Global;
 
-// The lists of the root that this tag opens, what stands behind it, and the number of items up to
-// its end.
-fn read_root<'a>(
-    alloc: Global,
-    most_depth: Option<usize>,
-    dtd: &'a Dtd,
-    root: &[u8],
-    opening: &RootTag<'a>,
-) -> Result<(OpenLists<'a>, &'a [u8], u64), DocError>
-    requires { suc opening.now.count + length opening.now.rest.now < MAX_KIDS }
-    ensures read { IfOk result (λ r. ReadsRoot most_depth (plain_dtd dtd.now) root.now
-        opening.now.is_short opening.now.tag.name.now opening.now.tag.attrs.now opening.now.rest.now
-        (suc opening.now.count) r.0 r.1.now r.2) }
-    ensures refused { IfErr result (λ e. (before : List ℕ) →
-        Refuses (DocumentRestMeans most_depth blank_mark root.now
-        (suc opening.now.count)
-        (behind_tag before opening.now.is_short opening.now.tag.name.now
-        opening.now.tag.attrs.now) opening.now.rest.now) e) }
-{
-    let count = opening.count + 1;
-    if opening.is_short {
-        let mut lists = OpenLists::of(alloc, dtd, opening.tag.name)?;
-        lists.close(alloc, dtd)?;
-        return Ok((lists, opening.rest, count));
-    }
-    read_content(
-        alloc,
-        most_depth,
-        dtd,
-        root,
-        &opening.tag,
-        opening.rest,
-        count,
-    )
-}
-
 // Whether the root, which is whole, has this name.
-fn has_name(lists: &OpenLists<'_>, root: &[u8]) -> bool
+fn has_name<B, F>(lists: &OpenLists<'_, B, F>, root: &[u8]) -> bool
     ensures { IsTrue result ↔ (lists.now.inner.name.now ≡ root.now) }
 {
     lists.inner.name == root
@@ -102,12 +62,12 @@ pub fn first_invalid_within(
         DocumentMeansWithin (limits_of most_depth most_bytes) blank_mark root.now bytes.now o →
         IfErr result (λ error. Answers o (Err error)) }
 {
-    if bytes.len() > most_bytes {
-        return Err(DocError::Limit);
-    }
-    let opening = root_tag(most_depth, root, after_byte_order_mark(bytes))?;
-    let (lists, after, count) = read_root(alloc, most_depth, dtd, root, &opening)?;
-    read_epilog(most_depth, root, after, count)?;
+    let judge = Validity { alloc, dtd };
+    let lists = match read_lists(alloc, &judge, most_depth, most_bytes, root, bytes) {
+        Ok(lists) => lists,
+        Err(ReadError::Document(error)) => return Err(error),
+        Err(ReadError::Judge(NoMemory)) => return Err(DocError::NoMemory),
+    };
     if !has_name(&lists, root) {
         return Ok(Some(Path::new(alloc, &[])?));
     }

@@ -23,7 +23,7 @@ rest_is f xs = take_all (length xs - f) (drop f xs) (omega (arith, length-drop f
 rest_long : {A : Type 0} (f : ℕ) (xs : List A) → length (rest f xs) ≡ length xs - f
 rest_long f xs = ap length (rest_is f xs) ∙ length-drop f xs
 
--- such a slice's last k elements stand behind f
+-- such a slice's last k elements stand after f
 pub ends_behind : {A : Type 0} (xs : List A) (f k : ℕ) → f ≤ length xs → k ≤ length (rest f xs) →
     f ≤ length xs - k
 ends_behind xs f k fx kx = omega (arith, rest_long f xs, fx, kx)

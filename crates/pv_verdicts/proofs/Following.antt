@@ -39,7 +39,7 @@ rotated a b f from n e g =
       take-append_seam b f,
     ) refl
 
--- what came is put at the end, moved to its place, and what is gone behind it taken out
+-- what came is put at the end, moved to its place, and what is gone after it taken out
 pub exchanged : {A : Type 0} (xs came put moved all : List A) (from to n start end : ℕ) →
     from ≤ to → to ≤ length xs → put ≡ xs ++ came → from + n ≡ length xs →
     moved ≡ take from put ++ (drop n (drop from put) ++ take n (drop from put)) →

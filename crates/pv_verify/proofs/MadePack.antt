@@ -54,7 +54,7 @@ record Marked (m e : ℕ) (added : List ℕ) (h : Hedge) : Type 0 where
   ascend : AllPairs (λ a b. a < b) added
   each : All (IsPlainAt m e h) added
 
--- marks within an element, and behind it
+-- marks within an element, and after it
 module _ (m i e : ℕ) (one two x t : List ℕ) (k h : Hedge) (a : Marked (suc m) i one k) (b : Marked i e two h) where
   last : e ≡ m + elements (elem x t k h)
   last = let p = a.ends in let q = b.ends in omega arith

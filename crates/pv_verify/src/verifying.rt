@@ -1,4 +1,4 @@
-//! The tests of a pack, one behind another.
+//! The tests of a pack, one after another.
 
 ghost use Rattle.std.specs.Prelude.{◌↔◌, IfErr, IfOk, IsTrue, MatchOption};
 ghost use Rattle.pv_dtd.specs.Hedge.{IsValid};

@@ -5,7 +5,6 @@ ghost use Rattle.pv_dtd.specs.PlainForms.{plain_dtd};
 ghost use Rattle.pv_tree.specs.Marks.{blank_mark};
 ghost use Rattle.pv_tree.specs.PlainDocs.{plain_doc};
 ghost use Rattle.pv_read.specs.Meaning.{DocumentMeans, is_document};
-ghost use Rattle.pv_stages.specs.Devices.{shelf_at};
 ghost use Rattle.pv_stages.specs.Returns.{TakesCourse, TellsBy, plain_fetched};
 ghost use Rattle.pvlong.specs.Answering.{FindsAnswer, AnswersFetched};
 ghost use Rattle.pvlong.specs.Requests.{plain_request};
@@ -17,8 +16,7 @@ use pv_dtd::Dtd;
 use pv_io::Shelf;
 use pv_long::missing;
 use pv_productive::build;
-use pv_read::read_doc;
-use pv_stages::{Fetched, Response, Stop, fetch_files, refuse_document};
+use pv_stages::{Fetched, Opened, Response, Stop, fetch_files, open_document};
 use pv_tree::Doc;
 use std::alloc::Global;
 use std::mem::forget;
@@ -51,15 +49,10 @@ fn answer_fetched(
 ) -> Result<Response, Stop>
     ensures { TakesCourse (AnswersFetched question root.now (plain_fetched fetched)) result }
 {
-    let Fetched { dtd, bytes } = fetched;
-    match read_doc(alloc, &bytes, root) {
-        Ok(doc) => {
-            let response = tell(alloc, question, dtd, root, &doc, &bytes);
-            forget(doc);
-            response
-        }
-        Err(error) => Err(refuse_document(alloc, error)),
-    }
+    let Opened { dtd, bytes, doc } = open_document(alloc, fetched, root)?;
+    let response = tell(alloc, question, dtd, root, &doc, &bytes);
+    forget(doc);
+    response
 }
 
 /// Answers a request over the files that it names.
@@ -71,10 +64,9 @@ pub fn answer<H: Shelf>(
     requires dtd_named { Contains (H.names shelf.old) request.now.named.dtd.now }
     requires doc_named { Contains (H.names shelf.old) request.now.named.doc.now }
     ensures finds { FindsAnswer (Some (plain_request request.now))
-        (shelf_at (H.files shelf.old) (H.calls shelf.old) (H.faults shelf.old))
-        (shelf_at (H.files shelf.new) (H.calls shelf.new) (H.faults shelf.new)) result }
+        (H.moment shelf.old) (H.moment shelf.new) result }
     ensures names { H.names shelf.new ≡ H.names shelf.old }
-    ensures files { H.files shelf.new ≡ H.files shelf.old }
+    ensures files { (H.moment shelf.new).files ≡ (H.moment shelf.old).files }
 {
     let fetched = fetch_files(alloc, shelf, &request.named)?;
     answer_fetched(alloc, request.question, fetched, request.named.root)

@@ -13,7 +13,7 @@ mod telling;
 ghost use Rattle.std.specs.Prelude.{◌≡◌, true};
 ghost use Rattle.std.specs.Process.{exit_status};
 ghost use Rattle.pv_io.specs.Files.{byte_lists, fetch_names};
-ghost use Rattle.pv_stages.specs.Devices.{output_at, shelf_at};
+ghost use Rattle.pv_stages.specs.Devices.{output_at};
 ghost use Rattle.pv_stages.specs.Status.{code_of};
 ghost use Rattle.pvlong.specs.Answering.{AnswersHere, AnswersWords};
 
@@ -42,8 +42,7 @@ fn run<H: Shelf, K: Sink>(alloc: Global, words: &[String], shelf: &mut H, out: &
     requires ready { K.ready out.old ≡ true }
     ensures { (status : Status) × (exit_status result ≡ code_of status) ×
         AnswersWords (byte_lists words.now)
-        (shelf_at (H.files shelf.old) (H.calls shelf.old) (H.faults shelf.old))
-        (shelf_at (H.files shelf.new) (H.calls shelf.new) (H.faults shelf.new))
+        (H.moment shelf.old) (H.moment shelf.new)
         (output_at (K.written out.old) (K.faults out.old))
         (output_at (K.written out.new) (K.faults out.new)) status }
 {

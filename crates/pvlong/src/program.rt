@@ -2,7 +2,7 @@
 
 ghost use Rattle.std.specs.Prelude.{[], codes, true, ◌≡◌};
 ghost use Rattle.pv_io.specs.Files.{byte_lists, fetch_names};
-ghost use Rattle.pv_stages.specs.Devices.{output_at, shelf_at};
+ghost use Rattle.pv_stages.specs.Devices.{output_at};
 ghost use Rattle.pv_stages.specs.Response.{with_line};
 ghost use Rattle.pv_stages.specs.Returns.{TellsBy};
 ghost use Rattle.pv_stages.specs.declared.status.Status.TheVariants.{Usage};
@@ -35,8 +35,7 @@ pub fn pvlong<H: Shelf, K: Sink>(
 
     // The status, the output, the causes of faults, and how often the shelf is asked.
     ensures answers { AnswersWords (byte_lists words.now)
-        (shelf_at (H.files shelf.old) (H.calls shelf.old) (H.faults shelf.old))
-        (shelf_at (H.files shelf.new) (H.calls shelf.new) (H.faults shelf.new))
+        (H.moment shelf.old) (H.moment shelf.new)
         (output_at (K.written out.old) (K.faults out.old))
         (output_at (K.written out.new) (K.faults out.new)) result }
 
@@ -44,7 +43,7 @@ pub fn pvlong<H: Shelf, K: Sink>(
     ensures unasked { files_asked (request_of (byte_lists words.now)) ≡ [] →
         shelf.new ≡ shelf.old }
     ensures names { H.names shelf.new ≡ H.names shelf.old }
-    ensures files { H.files shelf.new ≡ H.files shelf.old }
+    ensures files { (H.moment shelf.new).files ≡ (H.moment shelf.old).files }
 {
     match request_of(words) {
         Some(request) => respond(out, answer(alloc, shelf, &request)),

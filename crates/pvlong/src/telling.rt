@@ -13,8 +13,8 @@ ghost use Rattle.pvlong.specs.Telling.{bounds_text};
 
 use crate::requests::Question;
 use pv_long::{Completion, LongError, Missing};
-use pv_script::push_number;
 use pv_stages::{Response, Status, Stop, refuse, refuse_path};
+use pv_words::push_number;
 use std::alloc::{AllocError, Global};
 
 // The line of two bounds.

@@ -5,7 +5,7 @@
 ghost use Rattle.std.specs.Prelude.{◌≡◌, ◌<◌, true};
 ghost use Rattle.std.specs.Process.{exit_status};
 ghost use Rattle.pv_cli.specs.CommandLine.{command_line_of};
-ghost use Rattle.pv_stages.specs.Devices.{devices, input_at, output_at, shelf_at};
+ghost use Rattle.pv_stages.specs.Devices.{devices, input_at, output_at};
 ghost use Rattle.pv_cli.specs.Program.{Runs};
 ghost use Rattle.pv_stages.specs.Status.{code_of};
 ghost use Rattle.pv_io.specs.Files.{byte_lists, fetch_names};
@@ -47,10 +47,10 @@ fn run<H: Shelf, S: Source, K: Sink, L: Ledger>(
     requires ready { K.ready out.old ≡ true }
     ensures { (status : Status) × (exit_status result ≡ code_of status) ×
         Runs (command_line_of (byte_lists words.now))
-        (devices (shelf_at (H.files shelf.old) (H.calls shelf.old) (H.faults shelf.old))
+        (devices (H.moment shelf.old)
         (input_at input.old (S.left input.old) (S.calls input.old) (S.faults input.old))
         (output_at (K.written out.old) (K.faults out.old)) steps.old)
-        (devices (shelf_at (H.files shelf.new) (H.calls shelf.new) (H.faults shelf.new))
+        (devices (H.moment shelf.new)
         (input_at input.new (S.left input.new) (S.calls input.new) (S.faults input.new))
         (output_at (K.written out.new) (K.faults out.new)) steps.new) status }
 {

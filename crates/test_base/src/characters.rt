@@ -13,7 +13,7 @@ use pv_chars::{
 use std::alloc::Global;
 use std::process::Abort;
 use std::test::Fail;
-use test_expect::expect;
+use test_fixture::rows::expect;
 
 /// A set of characters.
 #[derive(Clone, Copy)]

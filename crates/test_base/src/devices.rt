@@ -8,7 +8,7 @@ use std::alloc::{AllocError, Global};
 use std::io::{Read, Write};
 use std::test::Fail;
 use std::{fs, io};
-use test_expect::expect;
+use test_fixture::rows::expect;
 
 const FOLDER: &str = "test_base_folder";
 

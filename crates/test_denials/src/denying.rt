@@ -1,27 +1,17 @@
 //! What denies documents, as text.
 
-ghost use Rattle.std.specs.Prelude.{◌≡◌, ◌<◌};
-
 use crate::calls::{PAIR, TURNED, Texts, grammar_of, judged};
 use pv_denial::{Denial, Judged};
 use pv_denial_text::write_denial;
-use pv_deny::{DenyError, denial_at, denial_by, deny};
+use pv_deny::{DenyError, denial_by, deny};
 use pv_fresh::{PossibleError, possible_verdicts};
 use pv_productive::Grammar;
 use pv_reach::{Judge, Plan};
-use pv_steps::Steps;
 use pv_tree::Doc;
 use std::alloc::Global;
-use std::marker::Brand;
-use std::sync::ledger::{Blank, Ledger};
 use std::test::Fail;
 use test_fixture::documents::document_of;
-
-/// The DTD of articles.
-const ARTICLE: &str = "<!ELEMENT doc (head, sec+)>\n<!ELEMENT head (#PCDATA)>\n\
-    <!ELEMENT sec (title?, (p|list)*)>\n<!ELEMENT title (#PCDATA)>\n\
-    <!ELEMENT p (#PCDATA|em|br)*>\n<!ELEMENT em (#PCDATA|em)*>\n<!ELEMENT br EMPTY>\n\
-    <!ELEMENT list (item, item+)>\n<!ELEMENT item (p+)>\n";
+use test_fixture::dtds::ARTICLE;
 
 /// What denies the pair the wrong way round.
 const TURNED_TEXT: &str = "pvdeny 1\nlist 0\ncause word\nc 0 1 2 2\nc 1 0 1 2\nc 2 0 1 2\n\
@@ -110,52 +100,17 @@ fn outcomes(rt: HostRuntime) -> Result<(), Fail> {
     Ok(())
 }
 
-/// The denial of a document, made behind a check that found its first impossible list.
-fn denied_behind<L: Ledger>(
+/// The denial of a document by the plan of its grammar, made after a check that found its first
+/// impossible list.
+fn denied_by_plan(
     alloc: Global,
     grammar: &Grammar,
     root: &[u8],
     doc: &Doc,
-    blank: Blank,
-) -> Result<Denial, Fail>
-    requires name { blank.name ≡ L.name }
-    requires parts { blank.parts ≡ L.parts }
-    requires some { 0 < L.parts }
-{
-    let mut steps = Steps::<L>::start(blank);
-    match possible_verdicts(alloc, grammar, root, doc, &mut steps) {
-        Err(PossibleError::Impossible(path)) => Ok(denial_at(alloc, grammar, root, doc, path)?),
-        Err(PossibleError::TooWide(_path)) => Err(Fail::new("too wide")),
-        Err(PossibleError::NoMemory) => Err(Fail::new("no memory")),
-        Ok(_verdicts) => Err(Fail::new("possible")),
-    }
-}
-
-fn is_denied_behind(alloc: Global, texts: Texts, text: &str) -> Result<bool, Fail> {
-    let (dtd, root, doc) = texts;
-    let grammar = grammar_of(alloc, dtd)?;
-    let doc = document_of(alloc, doc, root)?;
-    let root = root.as_bytes();
-    let denial = denied_behind::<Brand>(alloc, &grammar, root, &doc, Blank::new(1))?;
-    is_text(alloc, &denial, text)
-}
-
-/// The same by the plan of the grammar.
-fn denied_by_plan<L: Ledger>(
-    alloc: Global,
-    grammar: &Grammar,
-    root: &[u8],
-    doc: &Doc,
-    blank: Blank,
-) -> Result<Denial, Fail>
-    requires name { blank.name ≡ L.name }
-    requires parts { blank.parts ≡ L.parts }
-    requires some { 0 < L.parts }
-{
+) -> Result<Denial, Fail> {
     let plan = Plan::of(alloc, grammar)?;
     let judge = Judge::new(alloc, grammar, &plan);
-    let mut steps = Steps::<L>::start(blank);
-    match possible_verdicts(alloc, grammar, root, doc, &mut steps) {
+    match possible_verdicts(alloc, grammar, root, doc) {
         Err(PossibleError::Impossible(path)) => Ok(denial_by(&judge, root, doc, path)?),
         Err(PossibleError::TooWide(_path)) => Err(Fail::new("too wide")),
         Err(PossibleError::NoMemory) => Err(Fail::new("no memory")),
@@ -168,16 +123,12 @@ fn is_denied_by_plan(alloc: Global, texts: Texts, text: &str) -> Result<bool, Fa
     let grammar = grammar_of(alloc, dtd)?;
     let doc = document_of(alloc, doc, root)?;
     let root = root.as_bytes();
-    let denial = denied_by_plan::<Brand>(alloc, &grammar, root, &doc, Blank::new(1))?;
+    let denial = denied_by_plan(alloc, &grammar, root, &doc)?;
     is_text(alloc, &denial, text)
 }
 
 #[test]
 fn denied_behind_a_check(rt: HostRuntime) -> Result<(), Fail> {
-    assert!(rt; is_denied_behind(rt.alloc(), TURNED, TURNED_TEXT)?);
-    assert!(rt;
-        is_denied_by_plan(rt.alloc(), TURNED, TURNED_TEXT)?,
-        "planned"
-    );
+    assert!(rt; is_denied_by_plan(rt.alloc(), TURNED, TURNED_TEXT)?);
     Ok(())
 }

@@ -1,5 +1,8 @@
-//! What the crates of rows share: DTDs under plain names, and DTDs and documents read for a test.
+//! What tests share: DTDs under plain names, DTDs and documents read for a test, and what a row of
+//! a table is to be. What runs the program is `test_runs`, so that tests of lower crates don't
+//! stand on the program.
 #![tactic(auto)]
 
 pub mod documents;
 pub mod dtds;
+pub mod rows;

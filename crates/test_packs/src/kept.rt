@@ -1,30 +1,10 @@
 //! Documents without the tags of marked elements.
 
 use pv_flat::MAX_FLAT_BYTES;
-use pv_kept::{are_marks, is_kept, plain_elements, read_body};
-use pv_read::{DocError, read_doc};
+use pv_kept::{are_marks, is_kept, read_body};
+use pv_read::read_doc;
 use std::alloc::Global;
 use std::test::Fail;
-
-// Whether each element of a document has no attributes.
-fn has_plain(alloc: Global, text: &[u8], plain: &[bool]) -> Result<bool, DocError> {
-    Ok(plain_elements(alloc, b"a", text)?.as_slice() == plain)
-}
-
-fn is_mismatch(alloc: Global, text: &[u8]) -> bool {
-    matches!(
-        plain_elements(alloc, b"a", text),
-        Err(DocError::Mismatch(2))
-    )
-}
-
-#[test]
-fn elements_without_attributes(rt: HostRuntime) -> Result<(), Fail> {
-    let text = b"<a><b x='1'/><c ><d></d></c></a>";
-    assert!(rt; has_plain(rt.alloc(), text, &[true, false, false, true])?);
-    assert!(rt; is_mismatch(rt.alloc(), b"<a><b></a>"));
-    Ok(())
-}
 
 // Whether elements have no attributes.
 static PLAIN: [bool; 4] = [true, false, true, true];

@@ -3,7 +3,7 @@
 use pv_drill::{drill_doc, drill_line};
 use std::alloc::Global;
 use std::test::Fail;
-use test_expect::expect;
+use test_fixture::rows::expect;
 
 #[test]
 fn two_sections(rt: HostRuntime) -> Result<(), Fail> {

@@ -6,7 +6,7 @@ use pv_script::{Reply, okay_text, reply_text};
 use pv_tree::{Path, Verdict};
 use std::alloc::Global;
 use std::test::Fail;
-use test_expect::expect;
+use test_fixture::rows::expect;
 
 // Whether the reply is written so.
 fn is_written(alloc: Global, reply: &Reply, text: &str) -> bool {

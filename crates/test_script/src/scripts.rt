@@ -4,7 +4,7 @@ use pv_edit::{Ask, Edit};
 use pv_script::{Command, CommandError, Lines, Took, edit_line, read_command};
 use std::alloc::Global;
 use std::test::Fail;
-use test_expect::expect;
+use test_fixture::rows::expect;
 
 /// Pieces of a script, one behind the other, each with what is told of it, and the line that is
 /// held then.

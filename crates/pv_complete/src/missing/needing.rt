@@ -17,31 +17,23 @@ use pv_missing::Verdicts;
 use pv_missing::laws::proper::proper_doc_law;
 use pv_productive::Grammar;
 use pv_rules::HEAVIEST;
-use pv_span::{ColumnLayout, SpanError, lay_out};
-use pv_steps::Steps;
+use pv_span::{ColumnLayout, SpanError};
 use pv_tables::laws::possible_weights_law;
 use pv_tree::{Doc, Mark, Path};
 use std::alloc::Global;
-use std::marker::Brand;
-use std::sync::ledger::{Blank, Ledger};
 
-/// The verdicts of the lists of a document that isn't impossible, found on a counter of its own.
-pub(crate) fn uncounted_verdicts<L: Ledger>(
+/// The verdicts of the lists of a document that isn't impossible.
+pub(crate) fn live_verdicts(
     alloc: Global,
     grammar: &Grammar,
     root: &[u8],
     doc: &Doc,
-    blank: Blank,
 ) -> Result<Verdicts, NeedError>
-    requires name { blank.name ≡ L.name }
-    requires parts { blank.parts ≡ L.parts }
-    requires some { 0 < L.parts }
     ensures verdicts { IfOk result (λ verdicts. AreLiveVerdicts (dtd_of grammar.now) root.now
         (plain_doc doc.now) verdicts.verdicts) }
     ensures refused { IfErr result (HasCause (dtd_of grammar.now) root.now (plain_doc doc.now)) }
 {
-    let mut steps = Steps::<L>::start(blank);
-    match possible_verdicts(alloc, grammar, root, doc, &mut steps) {
+    match possible_verdicts(alloc, grammar, root, doc) {
         Ok(verdicts) => Ok(verdicts),
         Err(PossibleError::TooWide(path)) => Err(NeedError::TooWide(path)),
         Err(PossibleError::Impossible(path)) => Err(NeedError::Impossible(path)),
@@ -110,37 +102,4 @@ pub(crate) fn need_under(
     } else {
         Err(NeedError::TooHeavy)
     }
-}
-
-/// The least number of elements whose insertion makes a document valid, by the verdicts of its
-/// lists, none of which is Impossible or too wide for one. The document stays as it is.
-///
-/// The grammar is laid out once for all lists, and lists of one owner and one word are weighed once.
-pub fn need_by(
-    alloc: Global,
-    grammar: &Grammar,
-    root: &[u8],
-    doc: &Doc,
-    verdicts: &Verdicts,
-) -> Result<u64, NeedError>
-    ensures needs { IfOk result (λ n. AreLiveVerdicts (dtd_of grammar.now) root.now
-        (plain_doc doc.now) verdicts.now.verdicts →
-        Needs (dtd_of grammar.now) root.now (plain_doc doc.now) n) }
-    ensures refused { IfErr result (λ error. AreLiveVerdicts (dtd_of grammar.now) root.now
-        (plain_doc doc.now) verdicts.now.verdicts →
-        HasCause (dtd_of grammar.now) root.now (plain_doc doc.now) error) }
-{
-    let layout = lay_out(alloc, grammar)?;
-    let mut known = KnownWeights::none(alloc);
-    need_under(alloc, &layout, root, doc, verdicts, &mut known)
-}
-
-/// The least number of elements whose insertion makes a document valid: finds the verdicts of its
-/// lists, and then does what `need_by` does.
-pub fn need(alloc: Global, grammar: &Grammar, root: &[u8], doc: &Doc) -> Result<u64, NeedError>
-    ensures needs { IfOk result (Needs (dtd_of grammar.now) root.now (plain_doc doc.now)) }
-    ensures refused { IfErr result (HasCause (dtd_of grammar.now) root.now (plain_doc doc.now)) }
-{
-    let verdicts = uncounted_verdicts::<Brand>(alloc, grammar, root, doc, Blank::new(1))?;
-    need_by(alloc, grammar, root, doc, &verdicts)
 }

@@ -58,9 +58,10 @@ impl Remembered {
     }
 }
 
-/// What `need_by` tells, by what is remembered of the grammar, which is then remembered too. Of
-/// lists whose owner and word were weighed before none is weighed again; want of memory for
-/// remembering only means that it isn't remembered.
+/// The least number of elements whose insertion makes a document valid, by the verdicts of its
+/// lists, none of which is Impossible or too wide for one, and by what is remembered of the grammar,
+/// which is then remembered too. Of lists whose owner and word were weighed before none is weighed
+/// again; want of memory for remembering only means that it isn't remembered.
 pub fn need_remembering(
     alloc: Global,
     grammar: &Grammar,

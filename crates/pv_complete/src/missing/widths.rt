@@ -19,7 +19,7 @@ use crate::missing::load::next_is_possible;
 use pv_chars::NoMemory;
 use pv_dtd::Dtd;
 use pv_missing::{Verdicts, is_narrow_for_weights};
-use pv_tree::{Doc, ListTest, Node, Path, first_list, word};
+use pv_tree::{Doc, DocList, ListTest, Node, Path, first_list, word};
 use std::alloc::Global;
 
 /// The path of the first Possible list of a document that is too wide for weights, by the verdicts
@@ -61,12 +61,8 @@ impl ListTest for Widths<'_> {
     ghost awaits = { λ test. HaveVerdictsFrom (plain_dtd test.dtd.now)
         test.verdicts.now.verdicts };
 
-    fn passes_document(&self, root: &Node, used: &mut u64) -> Result<bool, NoMemory> {
-        self.can_weigh(std::slice::from_ref(root), used)
-    }
-
-    fn passes_element(&self, _: &[u8], kids: &[Node], used: &mut u64) -> Result<bool, NoMemory> {
-        self.can_weigh(kids, used)
+    fn passes_list(&self, list: &DocList<'_>, used: &mut u64) -> Result<bool, NoMemory> {
+        self.can_weigh(list.kids, used)
     }
 }
 

@@ -75,7 +75,7 @@ pub fn spell(
 ///
 /// `TooWide` is asked first. Each piece is read off the weights of all sites over all spans of the
 /// word.
-pub fn list_pieces(
+pub(crate) fn list_pieces(
     alloc: Global,
     owner: &ListOwner<'_>,
     word: &[Token],

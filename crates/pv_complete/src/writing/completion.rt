@@ -1,26 +1,23 @@
 //! A least completion of a document.
 
-ghost use Rattle.std.specs.Prelude.{◌≡◌, ℕ, IfErr, IfOk};
+ghost use Rattle.std.specs.Prelude.{IfErr, IfOk};
 ghost use Rattle.pv_productive.specs.PlainForms.{dtd_of};
 ghost use Rattle.pv_tree.specs.PlainDocs.{plain_doc};
 ghost use Rattle.pv_tree.specs.Prolog.{IsProlog};
 ghost use Rattle.pv_complete.specs.Completing.{IsLeastCompletion};
 ghost use Rattle.pv_complete.specs.Growing.{IsBounded, IsGrownText};
 ghost use Rattle.pv_complete.specs.KnownWeights.{AreKnown};
-ghost use Rattle.pv_complete.specs.Needing.{AreLiveVerdicts, HasCause, HasVerdicts, Needs};
-ghost use Rattle.pv_complete.specs.declared.errors.NeedError.TheVariants.{NoMemory as no_memory};
+ghost use Rattle.pv_complete.specs.Needing.{AreLiveVerdicts, HasCause, Needs};
 
 use crate::errors::NeedError;
 use crate::missing::known::KnownWeights;
-use crate::missing::needing::{need_under, uncounted_verdicts};
+use crate::missing::needing::need_under;
 use crate::writing::text::numbers_of;
 use crate::writing::walk::write_doc;
 use pv_chars::{Bytes, NoMemory, Numbers};
 use pv_dtd::laws::proper_dtd_law;
 use pv_missing::Verdicts;
-use pv_missing::laws::documents::{
-    bounds_add_up_law, live_lists_law, locality_law, tags_extend_law,
-};
+use pv_missing::laws::documents::{bounds_add_up_law, locality_law, tags_extend_law};
 use pv_missing::laws::lists::weight_is_least_law;
 use pv_missing::laws::proper::proper_doc_law;
 use pv_productive::Grammar;
@@ -29,8 +26,6 @@ use pv_tables::laws::{live_weight_law, possible_weights_law};
 use pv_tree::{Doc, Mark};
 use pv_write::laws::every_view_is_written_law;
 use std::alloc::Global;
-use std::marker::Brand;
-use std::sync::ledger::Blank;
 
 /// A least completion of a document.
 #[derive(Debug, Drop)]
@@ -43,38 +38,14 @@ pub struct Completion {
     pub body: Bytes,
 }
 
-/// A least completion of a document: finds the verdicts of its lists, and then does what
-/// `complete_by` does. The refusals are those of `need`.
-pub fn complete(
-    alloc: Global,
-    grammar: &Grammar,
-    root: &[u8],
-    doc: &Doc,
-) -> Result<Completion, NeedError>
-    requires names { IsProlog root.now (plain_doc doc.now).before }
-    ensures completed { IfOk result (λ c. IsLeastCompletion (dtd_of grammar.now)
-        root.now (plain_doc doc.now) c.count c.marks c.body) }
-    ensures written { IfOk result (λ c. IsGrownText (plain_doc doc.now) c.body) }
-    ensures bounded { IfOk result (λ c. IsBounded (plain_doc doc.now) c.count c.body) }
-    ensures judged { IfOk result (λ _.
-        HasVerdicts (dtd_of grammar.now) root.now (plain_doc doc.now)) }
-    ensures refused { IfErr result (HasCause (dtd_of grammar.now) root.now (plain_doc doc.now)) }
-    ensures succeeds { (n : ℕ) → Needs (dtd_of grammar.now) root.now (plain_doc doc.now) n →
-        IfErr result (λ e. e ≡ no_memory) }
-{
-    live_lists_law::<Mark>();
-    proper_doc_law(doc);
-    let verdicts = uncounted_verdicts::<Brand>(alloc, grammar, root, doc, Blank::new(1))?;
-    complete_by(alloc, grammar, root, doc, &verdicts)
-}
-
 /// A least completion of a document, by the verdicts of its lists, none of which is Impossible or
 /// too wide for one: the text of a valid document that is this one with as few elements as can be
 /// inserted. The document stays as it is.
 ///
 /// New elements are written as `<NAME>` and `</NAME>`, and all else as it is, but that an
 /// empty-element tag that gets content becomes a pair of tags. The body is at most twice as long as
-/// the document, and 517 bytes for each new element. The refusals are those of `need_by`. One walk
+/// the document, and 517 bytes for each new element. The refusals are those of
+/// `need_remembering`. One walk
 /// weighs the lists, and one writes them.
 pub fn complete_by(
     alloc: Global,

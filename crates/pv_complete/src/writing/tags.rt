@@ -7,7 +7,7 @@ ghost use Rattle.pv_tree.specs.Plain.{no_trees, short};
 ghost use Rattle.pv_tree.specs.PlainForms.{forest, plain, plain_end};
 ghost use Rattle.pv_complete.specs.Growing.{gap_of};
 ghost use Rattle.pv_complete.specs.PieceForms.{plain_pieces};
-ghost use Rattle.pv_complete.specs.Written.{SuitsWord, WritesTags, is_token};
+ghost use Rattle.pv_complete.specs.Written.{SuitsWord, WritesTags};
 ghost use Rattle.pv_complete.specs.WritingForms.{writing_of};
 
 use crate::words::pieces::Piece;
@@ -41,17 +41,6 @@ pub fn write_tags(
         }
     }
     Ok(pieces.len())
-}
-
-/// Whether a node is a token of its list's word.
-pub fn has_token(node: &Node) -> bool
-    ensures { result ≡ is_token (plain node.now) }
-{
-    match node {
-        Node::Elem { .. } | Node::Cdata(_) => true,
-        Node::Text(units) => units.has_data(),
-        Node::Misc(_) => false,
-    }
 }
 
 /// The bytes between the name of an element's end tag and its `>`.

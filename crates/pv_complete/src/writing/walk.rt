@@ -18,7 +18,7 @@ ghost use Rattle.pv_complete.specs.WritingForms.{writing_of};
 use crate::missing::known::KnownWeights;
 use crate::words::pieces::Piece;
 use crate::writing::by_verdict::take_pieces;
-use crate::writing::tags::{gap_of, has_token, is_bare, write_tags};
+use crate::writing::tags::{gap_of, is_bare, write_tags};
 use crate::writing::text::Writing;
 use pv_chars::NoMemory;
 use pv_missing::{Verdicts, element_owner, root_owner};
@@ -97,7 +97,7 @@ pub fn write_list(
     for kid in kids {
         next = write_tags(layout.grammar, pieces, next, out)?;
         write_node(alloc, layout, kid, verdicts, known, out)?;
-        if has_token(kid) {
+        if kid.has_token() {
             next += 1;
         }
     }

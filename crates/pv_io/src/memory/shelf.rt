@@ -96,11 +96,7 @@ impl MemShelf {
 impl Shelf for MemShelf {
     ghost names = { λ s. s.names };
 
-    ghost files = { λ s. Some s.files };
-
-    ghost faults = { λ s. s.calls.faults };
-
-    ghost calls = { λ s. s.calls.made };
+    ghost moment = { λ s. record { files = Some s.files; calls = s.calls.made; faults = s.calls.faults } };
 
     fn fetch(&mut self, alloc: Global, name: &str, most: usize) -> Result<Vec<u8>, FetchError>
         ensures bound { IfOk result (λ v. vec_len v ≤ most) }

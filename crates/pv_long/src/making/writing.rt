@@ -113,16 +113,6 @@ fn write_tags(
     Ok(pieces.len())
 }
 
-// Whether a node is a token of its list's word.
-fn has_token(node: &Node) -> bool {
-    match node {
-        Node::Elem { .. } => true,
-        Node::Text(units) => units.has_data(),
-        Node::Cdata(_) => true,
-        Node::Misc(_) => false,
-    }
-}
-
 // Whether an element stays an empty-element tag.
 fn is_bare(end: &End, kids: &[Node], pieces: &[Piece]) -> bool {
     match end {
@@ -176,7 +166,7 @@ fn write_list(
     for kid in kids {
         next = write_tags(plenty, pieces, next, out)?;
         write_node(plenty, kid, out)?;
-        if has_token(kid) {
+        if kid.has_token() {
             next = usize::saturating_add(next, 1);
         }
     }

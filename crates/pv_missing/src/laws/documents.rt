@@ -5,6 +5,7 @@ ghost use Rattle.pv_missing.specs.DocumentLaws.{CompletionsInsert};
 ghost use Rattle.pv_missing.specs.DocumentLaws.{CutsChangeNothing, ExtensionsComplete};
 ghost use Rattle.pv_missing.specs.DocumentLaws.{ExtensionsHaveTags, IsPotentiallyValidByLists};
 ghost use Rattle.pv_missing.specs.DocumentLaws.{KeepsLeaves, LevelsAgree, Locality, NumbersAddUp};
+ghost use Rattle.pv_missing.specs.DocumentLaws.{PossibleAreMissing};
 ghost use Rattle.pv_missing.specs.DocumentLaws.{SomeBounds, SomeNumber, TagsExtend, WeightsAddUp};
 
 /// A document is potentially valid exactly where each of its lists is live.
@@ -30,6 +31,11 @@ pub fn weights_add_up_law<M>()
 /// A sum of bounds of the lists is at most the number of each completion.
 pub fn bounds_add_up_law<M>()
     ensures { BoundsAddUp M }
+{}
+
+/// So is the number of the lists that are Possible.
+pub fn possible_missing_law<M>()
+    ensures { PossibleAreMissing M }
 {}
 
 /// So is a sum of bounds at ascending paths of some of the lists.

@@ -1,7 +1,8 @@
 //! Laws of one list. `M` is the type of marks.
 
 ghost use Rattle.pv_missing.specs.ListLaws.{ClosedIsBound, DerivationsMiss, HereExtends, KnownWord};
-ghost use Rattle.pv_missing.specs.ListLaws.{LiveMisses, OneFirst, OneList, OneVerdict};
+ghost use Rattle.pv_missing.specs.ListLaws.{LiveMisses, NoneMissingIsValid, OneFirst, OneList};
+ghost use Rattle.pv_missing.specs.ListLaws.{OneVerdict};
 ghost use Rattle.pv_missing.specs.ListLaws.{OwnValidIsLive, RootList, ValidMissesNone};
 ghost use Rattle.pv_missing.specs.ListLaws.{WeightIsLeast};
 
@@ -34,6 +35,11 @@ pub fn live_misses_law<M>()
 /// In a list that is valid nothing is missing, and it weighs 0.
 pub fn valid_misses_none_law<M>()
     ensures { ValidMissesNone M }
+{}
+
+/// A list in which nothing is missing is valid by itself.
+pub fn none_missing_law<M>()
+    ensures { NoneMissingIsValid M }
 {}
 
 /// What the whole word of a live list derives is what is missing in the list.

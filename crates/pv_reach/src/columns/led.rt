@@ -1,4 +1,4 @@
-//! The columns that have a further column for what may stand behind them.
+//! The columns that have a further column for what may stand after them.
 
 ghost use Rattle.std.specs.Prelude.{◌≡◌, ◌<◌, ◌≤◌, All, IfOk, length};
 
@@ -7,8 +7,8 @@ use crate::graph::flags::set_flag;
 use pv_columns::{ColumnRule, is_marked, is_open};
 use std::alloc::{AllocError, Global};
 
-/// For what stands behind its own place in a rule, flags the rule's column among those that stand
-/// behind themselves, or among the others.
+/// For what stands after its own place in a rule, flags the rule's column among those that stand
+/// after themselves, or among the others.
 fn set_behind(heads: &[usize], rule: &ColumnRule, own: &mut Vec<bool>, others: &mut Vec<bool>) {
     let head = column_head(heads, rule.left);
     let Some(place) = own_place(heads, rule) else {
@@ -42,8 +42,8 @@ fn set_alone(
     Ok(led)
 }
 
-/// The columns that others may stand behind, each standing for its component. Where it may stand
-/// behind itself it has no use for a further column: it goes as far by itself.
+/// The columns that others may stand after, each standing for its component. Where it may stand
+/// after itself it has no use for a further column: it goes as far by itself.
 fn led_columns(
     alloc: Global,
     rules: &[ColumnRule],

@@ -3,7 +3,7 @@
 //! Columns that lead to one another reach the same, so one of them stands for all: its rules are
 //! theirs, over the columns that stand for others. With `a` declared as `(b, c?)` and `b` as
 //! `(a?)`, the content of `a` derives itself, inside a missing `b` and a missing `a`, with a `c`
-//! behind it. Each place that it reaches gives the next one, so over n times `c` each place would
+//! after it. Each place that it reaches gives the next one, so over n times `c` each place would
 //! take n rounds. A further column for any number of such followers gives the furthest place in a
 //! few rounds, and reaches nothing new.
 
@@ -24,7 +24,7 @@ pub struct Merging {
     pub bare: Vec<bool>,
     /// For each column the one that stands for it.
     pub heads: Vec<usize>,
-    /// The columns that have a further column: that of the k-th is the k-th behind all columns.
+    /// The columns that have a further column: that of the k-th is the k-th after all columns.
     pub led: Vec<usize>,
     /// For each of these its place among them.
     pub places: Vec<usize>,
@@ -147,7 +147,7 @@ fn add_followers(
     Ok(())
 }
 
-/// Adds the rule by which the further column of a column stands behind it, and the one by which it
+/// Adds the rule by which the further column of a column stands after it, and the one by which it
 /// reaches nothing more.
 fn add_further(
     alloc: Global,
@@ -177,7 +177,7 @@ fn is_last(rules: &[ColumnRule], heads: &[usize], order: &[usize], place: usize)
     head_at(place) != head_at(place.saturating_add(1))
 }
 
-/// Adds what stands for a rule, and behind the last one of a component what stands for its further
+/// Adds what stands for a rule, and after the last one of a component what stands for its further
 /// column.
 fn add_rule(
     alloc: Global,

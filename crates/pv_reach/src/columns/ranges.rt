@@ -9,7 +9,7 @@ use pv_columns::ColumnRule;
 use std::alloc::{AllocError, Global};
 
 /// For each column the numbers of rules among which its own stand: those from the first of them up
-/// to behind the last one.
+/// to after the last one.
 #[derive(Debug, Drop)]
 pub struct RuleRanges {
     first: Vec<usize>,
@@ -40,7 +40,7 @@ fn firsts_of(alloc: Global, rules: &[ColumnRule], width: usize) -> Result<Vec<us
     Ok(firsts)
 }
 
-/// For each column the number behind that of its last rule.
+/// For each column the number after that of its last rule.
 fn ends_of(alloc: Global, rules: &[ColumnRule], width: usize) -> Result<Vec<usize>, AllocError>
     requires { InRange width rules.now }
     ensures { IfOk result (λ ends. (k : ℕ) (d : PlainRule) → k < length rules.now →

@@ -2,7 +2,7 @@
 
 use std::alloc::{AllocError, Global};
 
-/// The numbers of a list of keys, chained by key: the first of each key, and the next one behind
+/// The numbers of a list of keys, chained by key: the first of each key, and the next one after
 /// each number.
 #[derive(Debug, Drop)]
 pub struct Chains {

@@ -35,7 +35,7 @@ impl Visits {
         Ok(())
     }
 
-    /// Goes on behind the next edge of a column, and enters the column that it leads to; or leaves
+    /// Goes on after the next edge of a column, and enters the column that it leads to; or leaves
     /// the column.
     fn go_on(&mut self, edges: &[Edge], chains: &Chains, visit: Visit) -> Result<(), AllocError> {
         let Some(number) = visit.next else {
@@ -70,7 +70,7 @@ fn leave_from(
     Ok(())
 }
 
-/// All columns, each behind those that it leads to, but where they lead back to it.
+/// All columns, each after those that it leads to, but where they lead back to it.
 pub fn leaving_order(
     alloc: Global,
     edges: &[Edge],

@@ -48,7 +48,7 @@ impl Ends {
         self.column_past(self.names as usize + number as usize, from)
     }
 
-    /// One past the place behind a token of this name, where the word has that here, or 0.
+    /// One past the place after a token of this name, where the word has that here, or 0.
     pub fn kept_past(&self, id: NameId, from: u32) -> u32
         ensures { result ≡ kept_past (slice_get self.now.word.items from) id.0 from }
     {

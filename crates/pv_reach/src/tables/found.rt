@@ -98,7 +98,7 @@ impl FoundColumns {
 }
 
 /// Finds the columns that a column of a plan needs: itself, and whatever stands in the rules of those
-/// that aren't free. What they lead to at one place comes behind them, as in the plan.
+/// that aren't free. What they lead to at one place comes after them, as in the plan.
 pub fn find_needed(plan: &Plan, column: usize, found: &mut FoundColumns) -> Result<(), AllocError> {
     found.names.clear();
     found.find(column)?;

@@ -30,7 +30,7 @@ pub fn rest_past(ends: &Ends, rests: &[u32], number: u32, from: u32) -> u32
         .unwrap_or(0)
 }
 
-/// The same by the rows of the members behind this one.
+/// The same by the rows of the members after this one.
 fn members_past(grammar: &Grammar, ends: &Ends, rests: &[u32], number: u32, from: u32) -> u32
     requires within { from ≤ length ends.now.word.items }
     requires names { ends.now.names ≡ length (dtd_of grammar.now).names }
@@ -52,7 +52,7 @@ fn members_past(grammar: &Grammar, ends: &Ends, rests: &[u32], number: u32, from
     }
 }
 
-/// Fills the row of a part, where those behind it are filled.
+/// Fills the row of a part, where those after it are filled.
 fn fill_rest(grammar: &Grammar, ends: &Ends, number: u32, rests: &mut [u32])
     requires number { number < parts_in_models (dtd_of grammar.now).models }
     requires names { ends.now.names ≡ length (dtd_of grammar.now).names }

@@ -37,7 +37,7 @@ fn after_attributes(references: References, bytes: &[u8]) -> &[u8]
     rest
 }
 
-/// The attributes at the front with the white space behind them, and what stands after it.
+/// The attributes at the front with the white space after them, and what stands after it.
 pub fn attributes_at(references: References, bytes: &[u8]) -> (&[u8], &[u8])
     ensures { TakesAttributes (IsReferenceOf references) bytes.now result.0.now result.1.now }
 {

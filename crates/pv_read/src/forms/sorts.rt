@@ -20,7 +20,7 @@ pub enum Sort {
     Doctype,
 }
 
-// By what stands behind `<!`.
+// By what stands after `<!`.
 fn sort_behind_mark(bytes: &[u8]) -> Sort
     ensures { result ≡ sort_behind_mark bytes.now }
 {
@@ -31,7 +31,7 @@ fn sort_behind_mark(bytes: &[u8]) -> Sort
     }
 }
 
-// By what stands behind `<`.
+// By what stands after `<`.
 fn sort_behind_less(bytes: &[u8]) -> Sort
     ensures { result ≡ sort_behind_less bytes.now }
 {

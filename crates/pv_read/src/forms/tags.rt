@@ -13,7 +13,7 @@ use crate::forms::references::References;
 use pv_chars::name_at;
 use pv_chars::scan::{after_bytes, after_space};
 
-// The tag that begins with `<` and this name, by the bytes behind its name.
+// The tag that begins with `<` and this name, by the bytes after its name.
 fn tag_named<'a>(name: &'a [u8], bytes: &'a [u8]) -> Option<(Item<'a>, &'a [u8])>
     requires named { IsName name.now }
     requires ends { BeginsNo is_name_char bytes.now }
@@ -39,7 +39,7 @@ pub fn tag_at(bytes: &[u8]) -> Option<(Item<'_>, &[u8])>
     tag_named(name, inside)
 }
 
-// The end tag that begins with `</` and this name, by the bytes behind its name.
+// The end tag that begins with `</` and this name, by the bytes after its name.
 fn end_tag_named<'a>(name: &'a [u8], bytes: &'a [u8]) -> Option<(Item<'a>, &'a [u8])>
     requires named { IsName name.now }
     requires ends { BeginsNo is_name_char bytes.now }

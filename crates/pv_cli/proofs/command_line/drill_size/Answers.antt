@@ -1,5 +1,5 @@
 use Rattle.std.proofs.Common.{◌≡◌, None, refl}
-use Rattle.pv_script.specs.Reading.{number_spelled}
+use Rattle.pv_words.specs.Numbers.{number_spelled}
 use Rattle.pv_cli.proofs.command_line.drill_size.Goals as goal
 
 pub returns-in-None-clause-size : goal.returns-in-None-clause-size

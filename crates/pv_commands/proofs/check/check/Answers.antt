@@ -71,5 +71,5 @@ returns-in-Ok-clause-checks g c =
 
 pub returns-clause-checks : goal.returns-clause-checks
 returns-clause-checks g c =
-    rw (c.in-Err.ensures.uncounted, c.in_ok-grammar.ensures, c.deref-in-Err.ensures.value)
+    rw (c.in-Err.ensures.uncounted, c.judge_by-judge.ensures, c.in_ok-grammar.ensures, c.deref-in-Err.ensures.value)
     at c.check_again.ensures.checks

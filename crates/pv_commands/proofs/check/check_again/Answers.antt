@@ -12,7 +12,7 @@ use Rattle.pv_commands.proofs.check.check_again.Goals as goal
 pub returns-in-Document-clause-finds : goal.returns-in-Document-clause-finds
 returns-in-Document-clause-finds g c =
     let root = c.args.root.now in
-    let d = dtd_of c.args.grammar.now in
+    let d = dtd_of c.args.judge.now in
     let bytes = c.args.bytes.now in
     stop_found (document_stage root d bytes) (IsCheckCourse root) c.refuse_document.result
     (λ never. never)
@@ -23,7 +23,7 @@ returns-in-Document-clause-finds g c =
 pub returns-in-Document-clause-checks : goal.returns-in-Document-clause-checks
 returns-in-Document-clause-checks g c =
     let root = c.args.root.now in
-    let d = dtd_of c.args.grammar.now in
+    let d = dtd_of c.args.judge.now in
     let bytes = c.args.bytes.now in
     stops_first (document_stage root d bytes) (λ o. beside o (width_stage o.dtd o.doc)) lists_judged
     CountsNoMore 0 c.refuse_document.result _ _

@@ -1,10 +1,9 @@
-use Rattle.std.proofs.Common.{◌≡◌, ◌++◌, ◌∙◌, ℕ, List, Some, None, Result, Ok, Err, IfOk, ap, codes}
-use Rattle.std.proofs.Common.{refl, sym}
+use Rattle.std.proofs.Common.{◌≡◌, ◌++◌, ◌∙◌, ℕ, List, Some, None, Result, Ok, Err, IfOk, ap, codes, refl, sym}
 use Rattle.std.specs.Prelude.{IsNone}
 use Rattle.std.specs.Option.{option_copied}
 use Rattle.pv_dtd.specs.Plain.{PlainDtd}
 use Rattle.pv_missing.specs.Verdicts.{IsFirstImpossible, PlainVerdicts, possible_in}
-use Rattle.pv_script.specs.Paths.{path_text}
+use Rattle.pv_words.specs.Paths.{path_text}
 use Rattle.pv_tree.specs.Lists.{lists_of}
 use Rattle.pv_tree.specs.Plain.{PlainDoc}
 use Rattle.pv_tree.specs.declared.nodes.Mark.{Mark}

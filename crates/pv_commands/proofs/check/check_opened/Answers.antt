@@ -14,7 +14,7 @@ use Rattle.pv_commands.proofs.check.check_opened.Goals as goal
 pub returns-in-Ok-clause-finds : goal.returns-in-Ok-clause-finds
 returns-in-Ok-clause-finds g c =
     let root = c.args.root.now in
-    let d = dtd_of c.args.grammar.now in
+    let d = dtd_of c.args.judge.now in
     let opened : PlainOpened =
     record { dtd = d; bytes = c.args.bytes.now; doc = plain_doc c.in-Ok.doc } in
     found_behind (document_stage root d c.args.bytes.now) (IsCheckCourse root) opened
@@ -25,7 +25,7 @@ returns-in-Ok-clause-finds g c =
 pub returns-in-Err-clause-finds : goal.returns-in-Err-clause-finds
 returns-in-Err-clause-finds g c =
     let root = c.args.root.now in
-    let d = dtd_of c.args.grammar.now in
+    let d = dtd_of c.args.judge.now in
     let bytes = c.args.bytes.now in
     stop_found (document_stage root d bytes) (IsCheckCourse root) c.refuse_document.result
     (λ never. never)
@@ -34,7 +34,7 @@ returns-in-Err-clause-finds g c =
 
 pub returns-in-Ok-clause-checks : goal.returns-in-Ok-clause-checks
 returns-in-Ok-clause-checks g c =
-    let d = dtd_of c.args.grammar.now in
+    let d = dtd_of c.args.judge.now in
     let opened : PlainOpened =
     record { dtd = d; bytes = c.args.bytes.now; doc = plain_doc c.in-Ok.doc } in
     judged_document c.args.root.now d d c.args.bytes.now opened _ _ _
@@ -44,7 +44,7 @@ returns-in-Ok-clause-checks g c =
 pub returns-in-Err-clause-checks : goal.returns-in-Err-clause-checks
 returns-in-Err-clause-checks g c =
     let root = c.args.root.now in
-    let d = dtd_of c.args.grammar.now in
+    let d = dtd_of c.args.judge.now in
     let bytes = c.args.bytes.now in
     stops_first (document_stage root d bytes) (λ o. beside o (width_stage o.dtd o.doc)) lists_judged
     CountsNoMore 0 c.refuse_document.result _ _

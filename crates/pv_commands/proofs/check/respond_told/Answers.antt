@@ -1,10 +1,9 @@
 use Rattle.std.proofs.Common.{◌≡◌, ◌++◌, codes, refl, Result, Err, Ok}
 use Rattle.std.proofs.lemmas.Result.{err_from_is_err_and}
-use Rattle.pv_script.specs.Paths.{path_text}
+use Rattle.pv_words.specs.Paths.{path_text}
 use Rattle.pv_commands.specs.Check.{TellsPossibility, is_no_more, is_possible}
 use Rattle.pv_stages.specs.Judging.{judges_all, judges_none}
-use Rattle.pv_stages.specs.Possibility.{AreAllNarrow, RefusesWidth, is_impossible, is_too_wide}
-use Rattle.pv_stages.specs.Possibility.{width_stage}
+use Rattle.pv_stages.specs.Possibility.{AreAllNarrow, RefusesWidth, is_impossible, is_too_wide, width_stage}
 use Rattle.pv_stages.specs.Response.{plain_response, with_line}
 use Rattle.pv_stages.specs.Returns.{RefusesWith}
 use Rattle.pv_stages.specs.Stage.{Responds, short_of_memory}

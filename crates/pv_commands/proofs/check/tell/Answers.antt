@@ -30,7 +30,7 @@ checks_as root g d doc same result is are checks =
 
 pub returns-in_err-verdicts-clause-tells : goal.returns-in_err-verdicts-clause-tells
 returns-in_err-verdicts-clause-tells g c = λ opened is are.
-    let d = dtd_of c.args.grammar.now in
+    let d = dtd_of c.args.judge.now in
     let doc = plain_doc c.args.doc.now in
     let root = c.args.root.now in
     let stop = c.in_err-verdicts.field-0.0 in
@@ -41,7 +41,7 @@ returns-in_err-verdicts-clause-tells g c = λ opened is are.
 
 pub returns-clause-tells : goal.returns-clause-tells
 returns-clause-tells g c = λ opened is are.
-    let d = dtd_of c.args.grammar.now in
+    let d = dtd_of c.args.judge.now in
     let doc = plain_doc c.args.doc.now in
     let root = c.args.root.now in
     let has = c.in_ok-verdicts.ensures.has in
@@ -64,7 +64,7 @@ returns-in_err-verdicts-clause-counts g c =
     let p = err_from_is_err_and c.from_residual.result c.from_residual.ensures.1 in
     rw (p.1, p.2)
     (judges_none
-    (stops_within (width_stage (dtd_of c.args.grammar.now) (plain_doc c.args.doc.now)) 0 stop
+    (stops_within (width_stage (dtd_of c.args.judge.now) (plain_doc c.args.doc.now)) 0 stop
     c.in_err-verdicts.ensures.denied) c.in_err-verdicts.ensures.unjudged)
 
 pub returns-clause-counts : goal.returns-clause-counts

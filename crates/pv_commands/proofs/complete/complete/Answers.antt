@@ -11,7 +11,7 @@ use Rattle.pv_stages.proofs.Stages.{found_behind, stop_found}
 use Rattle.pv_commands.proofs.complete.complete.Goals as goal
 
 pub tell-response-requires : goal.tell-response-requires
-tell-response-requires c = record { bytes = _; is_text = c.in_ok-dtd.ensures.0.is_text }
+tell-response-requires c = record { bytes = _; is_text = c.in_ok-dtd.ensures.returns.0.is_text }
 
 pub returns-in_err-dtd : goal.returns-in_err-dtd
 returns-in_err-dtd c =
@@ -20,7 +20,7 @@ returns-in_err-dtd c =
     let p = err_from_is_err_and c.from_residual.result c.from_residual.ensures.1 in
     rw (p.1, p.2)
     (stop_found stage (IsCompleteCourse root) c.in_err-dtd.field-0.0 (λ never. never)
-    c.in_err-dtd.ensures)
+    c.in_err-dtd.ensures.returns)
 
 pub returns-in_err-grammar : goal.returns-in_err-grammar
 returns-in_err-grammar c =
@@ -32,5 +32,5 @@ returns c =
     let root = c.args.root.now in
     let both = plain_opened c.in_ok-dtd.field-0 in
     let stage = document_stage root (plain_dtd c.args.fetched.dtd) c.args.fetched.bytes.items in
-    found_behind stage (IsCompleteCourse root) both c.tell-response.result c.in_ok-dtd.ensures
+    found_behind stage (IsCompleteCourse root) both c.tell-response.result c.in_ok-dtd.ensures.returns
     (c.tell-response.ensures both (sym c.in_ok-grammar.ensures) refl)

@@ -6,7 +6,7 @@ use Rattle.pv_stages.specs.Documents.{RefusesDocument}
 use Rattle.pv_stages.specs.Response.{with_line}
 use Rattle.pv_commands.specs.Validity.{TellsValidityOf}
 use Rattle.pv_stages.proofs.Stages.{refusal_stops}
-use Rattle.pv_script.specs.Paths.{path_text}
+use Rattle.pv_words.specs.Paths.{path_text}
 use Rattle.pv_commands.specs.Valid.{is_valid, is_invalid}
 use Rattle.pv_stages.specs.declared.status.Status.TheVariants.{Negative}
 use Rattle.pv_commands.proofs.valid.tell.Goals as goal

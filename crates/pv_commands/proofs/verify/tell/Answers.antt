@@ -1,6 +1,6 @@
 use Rattle.std.proofs.Common.{◌≡◌, ◌++◌, ◌∙◌, ap, codes, decimal}
 use Rattle.pv_dtd.specs.PlainForms.{plain_dtd}
-use Rattle.pv_script.specs.Paths.{path_text}
+use Rattle.pv_words.specs.Paths.{path_text}
 use Rattle.pv_tree.specs.PlainDocs.{plain_doc}
 use Rattle.pv_stages.specs.Response.{with_line}
 use Rattle.pv_commands.specs.Verify.{TellsOfPack, is_accepted, is_rejected, names_wide}

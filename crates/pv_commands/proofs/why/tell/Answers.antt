@@ -4,7 +4,7 @@ use Rattle.std.specs.Option.{option_copied}
 use Rattle.std.specs.Prelude.{IsNone}
 use Rattle.pv_dtd.specs.Plain.{PlainDtd}
 use Rattle.pv_missing.specs.Verdicts.{PlainVerdicts}
-use Rattle.pv_fresh.specs.Answers.{IsImpossibleAt}
+use Rattle.pv_productive.specs.PlainForms.{dtd_of}
 use Rattle.pv_tree.specs.Plain.{PlainDoc}
 use Rattle.pv_tree.specs.PlainDocs.{plain_doc}
 use Rattle.pv_tree.specs.declared.nodes.Mark.{Mark}
@@ -41,7 +41,7 @@ told_behind root g doc vs result has tells =
 
 pub returns-in_err-verdicts-clause-tells : goal.returns-in_err-verdicts-clause-tells
 returns-in_err-verdicts-clause-tells g c = λ opened is are.
-    let d = c.args.grammar.now in
+    let d = dtd_of c.args.judge.now in
     let doc = plain_doc c.args.doc.now in
     let root = c.args.root.now in
     let p = err_from_is_err_and c.from_residual.result c.from_residual.ensures.1 in
@@ -54,25 +54,21 @@ pub explain-requires : goal.explain-requires
 explain-requires g c =
     let first : c.in_ok-verdicts.verdicts.first ≡ Some c.in-Some.path.now =
     sym c.first_impossible.ensures ∙ ap option_copied c.in-Some.is in
-    subst (λ (h : PlainDtd). IsImpossibleAt c.args.root.now h (plain_doc c.args.doc.now)
-    c.in-Some.path.now) (sym c.judge.ensures)
-    (impossible_at c.args.root.now c.args.grammar.now (plain_doc c.args.doc.now)
-    c.in_ok-verdicts.verdicts c.in-Some.path.now first c.in_ok-verdicts.ensures.has)
+    impossible_at c.args.root.now (dtd_of c.args.judge.now) (plain_doc c.args.doc.now)
+    c.in_ok-verdicts.verdicts c.in-Some.path.now first c.in_ok-verdicts.ensures.has
 
 pub returns-in-Some-clause-tells : goal.returns-in-Some-clause-tells
 returns-in-Some-clause-tells g c = λ opened is are.
-    let d = c.args.grammar.now in
+    let d = dtd_of c.args.judge.now in
     let doc = plain_doc c.args.doc.now in
     let root = c.args.root.now in
-    let tells = subst (λ (h : PlainDtd). TellsBy (TellsWhy root h doc) c.explain.result)
-    c.judge.ensures c.explain.ensures in
     explains_as root d opened.dtd doc opened.doc c.explain.result is are
     (told_behind root d doc c.in_ok-verdicts.verdicts c.explain.result c.in_ok-verdicts.ensures.has
-    tells)
+    c.explain.ensures)
 
 pub returns-clause-tells : goal.returns-clause-tells
 returns-clause-tells g c = λ opened is are.
-    let d = c.args.grammar.now in
+    let d = dtd_of c.args.judge.now in
     let doc = plain_doc c.args.doc.now in
     let root = c.args.root.now in
     let has = c.in_ok-verdicts.ensures.has in
@@ -97,7 +93,7 @@ returns-in_err-verdicts-clause-counts g c =
     let p = err_from_is_err_and c.from_residual.result c.from_residual.ensures.1 in
     rw (p.1, p.2)
     (judges_none
-    (stops_within (width_stage c.args.grammar.now (plain_doc c.args.doc.now)) 0 stop
+    (stops_within (width_stage (dtd_of c.args.judge.now) (plain_doc c.args.doc.now)) 0 stop
     c.in_err-verdicts.ensures.denied) c.in_err-verdicts.ensures.unjudged)
 
 pub returns-in-Some-clause-counts : goal.returns-in-Some-clause-counts

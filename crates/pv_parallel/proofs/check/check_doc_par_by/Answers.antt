@@ -1,4 +1,4 @@
-use Rattle.std.proofs.Common.{ap, arith, length, ◌≡◌}
+use Rattle.std.proofs.Common.{arith, length, ◌≡◌}
 use Rattle.pv_productive.specs.PlainForms.{dtd_of}
 use Rattle.pv_tree.specs.Lists.{lists_of}
 use Rattle.pv_tree.specs.PlainDocs.{plain_doc}
@@ -23,7 +23,7 @@ returns-clause-possible g c =
 pub returns-clause-steps : goal.returns-clause-steps
 returns-clause-steps g c =
     let n : length c.in_ok-verdicts.verdicts.items ≡ length (lists_of (plain_doc c.args.doc.now)) = c.in_ok-verdicts.ensures.as_many in
-    let m = ap length c.deref-2.ensures.value in
+    let m = c.len.ensures in
     let k = c.count_lists.ensures in
     omega arith
 

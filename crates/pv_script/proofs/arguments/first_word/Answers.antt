@@ -1,8 +1,9 @@
-use Rattle.std.proofs.Common.{List, ℕ, Bor}
-use Rattle.pv_script.proofs.Words.{first_word-found}
+use Rattle.std.proofs.Common.{◌≡◌, Some, None}
+use Rattle.pv_words.specs.Words.{first_word}
+use Rattle.pv_script.proofs.Failing.{unknown-or}
 use Rattle.pv_script.proofs.arguments.first_word.Goals as goal
 
 pub returns : goal.returns
 returns c =
-    rw c.ok_or.ensures.value
-    (first_word-found (λ (x : Bor (List ℕ) × Bor (List ℕ)). x.0.now) (λ (x : Bor (List ℕ) × Bor (List ℕ)). x.1.now) c.args.bytes.now c.up_to_byte.result c.up_to_byte.ensures)
+    let bytes = c.args.bytes.now in
+    rw c.ok_or.ensures.value (unknown-or c.first_word.result (first_word bytes ≡ None) (λ cut. first_word bytes ≡ Some (cut.0.now, cut.1.now)) c.first_word.ensures)

@@ -1,5 +1,5 @@
 use Rattle.std.proofs.Common.{◌≡◌, ◌++◌, drop}
-use Rattle.pv_script.specs.Lines.{with_feeds}
+use Rattle.pv_words.specs.Lines.{with_feeds}
 use Rattle.pv_script.proofs.replies.push_names.Given as goal
 
 -- what is written so far, and what is left to write, is all

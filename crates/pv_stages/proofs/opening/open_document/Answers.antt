@@ -4,13 +4,16 @@ use Rattle.pv_stages.specs.Documents.{OpensDocument, RefusesDocument}
 use Rattle.pv_stages.proofs.Stages.{refusal_stops}
 use Rattle.pv_stages.proofs.opening.open_document.Goals as goal
 
-pub returns-in-Ok : goal.returns-in-Ok
-returns-in-Ok c =
+pub returns-in-Ok-clause-returns : goal.returns-in-Ok-clause-returns
+returns-in-Ok-clause-returns c =
     let text = rw c.deref.ensures.value at c.in-Ok.ensures.read in
     (record { is_dtd = refl; are_bytes = refl; is_text = text }, refl)
 
-pub returns-in-Err : goal.returns-in-Err
-returns-in-Err c =
+pub returns-in-Ok-clause-means : goal.returns-in-Ok-clause-means
+returns-in-Ok-clause-means c = rw c.deref.ensures.value at c.in-Ok.ensures.means
+
+pub returns-in-Err-clause-returns : goal.returns-in-Err-clause-returns
+returns-in-Err-clause-returns c =
     let root = c.args.root.now in
     let bytes = c.args.fetched.bytes.items in
     refusal_stops (OpensDocument root (plain_dtd c.args.fetched.dtd) bytes) (RefusesDocument root bytes) c.refuse_document.result

@@ -16,5 +16,5 @@ returns-clause-over g c =
     let root = c.args.named.now.root.now in
     let fetched = c.in_ok-fetched.fetched in
     let both = plain_fetched fetched in
-    behind_over _ plain_fetched fetching_stage plain_opened (λ b. document_stage root b.0 b.1) _ _ fetched c.open_document.result c.in_ok-fetched.ensures.over c.open_document.ensures
-    (reading_counts plain_opened (document_stage root both.0 both.1) 0 _ c.open_document.result (λ never. never) c.open_document.ensures)
+    behind_over _ plain_fetched fetching_stage plain_opened (λ b. document_stage root b.0 b.1) _ _ fetched c.open_document.result c.in_ok-fetched.ensures.over c.open_document.ensures.returns
+    (reading_counts plain_opened (document_stage root both.0 both.1) 0 _ c.open_document.result (λ never. never) c.open_document.ensures.returns)

@@ -1,6 +1,6 @@
 use Rattle.std.proofs.Common.{codes, refl, ◌++◌, ◌≡◌}
 use Rattle.pv_missing.specs.Widths.{IsFirstTooWide}
-use Rattle.pv_script.specs.Paths.{path_text}
+use Rattle.pv_words.specs.Paths.{path_text}
 use Rattle.pv_tree.specs.Lists.{lists_of}
 use Rattle.pv_stages.specs.Possibility.{AreAllNarrow, RefusesWidth, is_too_wide}
 use Rattle.pv_stages.specs.Response.{with_line}

@@ -1,6 +1,6 @@
 use Rattle.std.proofs.Common.{[], ◌∷◌, sym, ap, ◌∙◌}
 use Rattle.pv_chars.proofs.MeansLemmas.{not_empty}
-use Rattle.pv_script.specs.Lines.{lines_of}
+use Rattle.pv_words.specs.Lines.{lines_of}
 use Rattle.pv_standoff.proofs.ReadingLemmas.{line_cut_off, line_ended}
 use Rattle.pv_standoff.proofs.reading.line_at.Goals as goal
 

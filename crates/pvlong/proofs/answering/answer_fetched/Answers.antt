@@ -1,28 +1,24 @@
-use Rattle.std.proofs.Common.{refl}
+use Rattle.std.proofs.lemmas.Result.{err_from_is_err_and}
 use Rattle.pv_dtd.specs.PlainForms.{plain_dtd}
-use Rattle.pv_tree.specs.PlainDocs.{plain_doc}
-use Rattle.pv_stages.specs.Documents.{OpensDocument, PlainOpened, RefusesDocument, document_stage}
-use Rattle.pv_stages.proofs.Stages.{found_behind, refusal_stops, stop_found, tells_found}
+use Rattle.pv_stages.specs.Documents.{document_stage}
+use Rattle.pv_stages.specs.Returns.{plain_opened}
+use Rattle.pv_stages.proofs.Stages.{found_behind, stop_found, tells_found}
 use Rattle.pvlong.specs.Answering.{IsToldOf}
 use Rattle.pvlong.specs.Telling.{TellsFor}
 use Rattle.pvlong.proofs.answering.answer_fetched.Goals as goal
 
-pub returns-in-Ok : goal.returns-in-Ok
-returns-in-Ok c =
+pub returns-in_err-dtd : goal.returns-in_err-dtd
+returns-in_err-dtd c =
     let root = c.args.root.now in
-    let d = plain_dtd c.args.fetched.dtd in
-    let bytes = c.args.fetched.bytes.items in
-    let question = c.args.question in
-    let opened : PlainOpened = record { dtd = d; bytes = bytes; doc = plain_doc c.in-Ok.doc } in
-    let text = rw c.deref.ensures.value at c.in-Ok.ensures.read in
-    found_behind (document_stage root d bytes) (IsToldOf question root) opened c.tell-response.result (record { is_dtd = refl; are_bytes = refl; is_text = text }, refl)
-    (tells_found (TellsFor question root d opened.doc) c.tell-response.result c.tell-response.ensures)
+    let stage = document_stage root (plain_dtd c.args.fetched.dtd) c.args.fetched.bytes.items in
+    let p = err_from_is_err_and c.from_residual.result c.from_residual.ensures.1 in
+    rw (p.1, p.2) (stop_found stage (IsToldOf c.args.question root) c.in_err-dtd.field-0.0 (λ never. never) c.in_err-dtd.ensures.returns)
 
-pub returns-in-Err : goal.returns-in-Err
-returns-in-Err c =
+pub returns : goal.returns
+returns c =
     let root = c.args.root.now in
-    let d = plain_dtd c.args.fetched.dtd in
-    let bytes = c.args.fetched.bytes.items in
-    let refused = c.refuse_document.ensures root bytes (rw c.deref.ensures.value at c.in-Err.ensures.refused) in
-    stop_found (document_stage root d bytes) (IsToldOf c.args.question root) c.refuse_document.result (λ never. never)
-    (refusal_stops (OpensDocument root d bytes) (RefusesDocument root bytes) c.refuse_document.result refused)
+    let question = c.args.question in
+    let stage = document_stage root (plain_dtd c.args.fetched.dtd) c.args.fetched.bytes.items in
+    let both = plain_opened c.in_ok-dtd.field-0 in
+    found_behind stage (IsToldOf question root) both c.tell-response.result c.in_ok-dtd.ensures.returns
+    (tells_found (TellsFor question root both.dtd both.doc) c.tell-response.result c.tell-response.ensures)

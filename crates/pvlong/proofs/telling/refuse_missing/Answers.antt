@@ -1,5 +1,5 @@
 use Rattle.std.proofs.Common.{◌≡◌, ◌++◌, codes}
-use Rattle.pv_script.specs.Paths.{path_text}
+use Rattle.pv_words.specs.Paths.{path_text}
 use Rattle.pv_stages.specs.Response.{with_line}
 use Rattle.pv_stages.specs.Returns.{RefusesWith}
 use Rattle.pv_stages.specs.declared.status.Status.TheVariants.{Limit, Negative}

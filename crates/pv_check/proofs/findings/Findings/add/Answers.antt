@@ -2,11 +2,11 @@ use Rattle.std.proofs.Common.{Some, ap, ◌∙◌, refl}
 use Rattle.pv_check.proofs.Inserting.{put_wide}
 use Rattle.pv_check.proofs.findings.Findings.add.Goals as goal
 
-pub returns-in_ok-new-in-None-2-clause-finds : goal.returns-in_ok-new-in-None-2-clause-finds
-returns-in_ok-new-in-None-2-clause-finds c = λ g root before after list f all judges placed.
+pub returns-in_ok-new-in-None-2 : goal.returns-in_ok-new-in-None-2
+returns-in_ok-new-in-None-2 c = λ g root before after list f all judges placed.
     let is = rw c.in-None.is at placed in
-    put_wide g root before after list c.args.self.now _ f all (rw c.in-None.is at judges) (ap Some (c.in_ok-new-in-None.ensures ∙ is)) (ap Some (c.in_ok-new-in-None-2.ensures ∙ is)) refl
+    put_wide g root before after list c.args.self.now _ f all (rw c.in-None.is at judges) (ap Some (c.in_ok-new-in-None.ensures ∙ is)) (ap Some (c.in_ok-new-in-None-2.ensures ∙ is)) refl refl
 
-pub returns-in-Some-clause-finds : goal.returns-in-Some-clause-finds
-returns-in-Some-clause-finds c = λ g root before after list f all judges placed.
-    c.add_judged.ensures.finds g root before after list f all (rw c.in-Some.is at judges) (rw c.in-Some.is at placed)
+pub returns-in-Some : goal.returns-in-Some
+returns-in-Some c = λ g root before after list f all judges placed.
+    c.add_judged.ensures g root before after list f all (rw c.in-Some.is at judges) (rw c.in-Some.is at placed)

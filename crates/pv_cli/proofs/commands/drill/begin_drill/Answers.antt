@@ -33,7 +33,7 @@ returns-in_err-opened-clause-returns g c =
     let n = c.args.n in
     let stop = c.in_err-opened.field-0.0 in
     let read = rw c.drill_dtd.ensures at c.in_ok-dtd.ensures in
-    let stops = rw c.in_ok-bytes.ensures at c.in_err-opened.ensures in
+    let stops = rw c.in_ok-bytes.ensures at c.in_err-opened.ensures.returns in
     let p = err_from_is_err_and c.from_residual-in_err-opened.result
     c.from_residual-in_err-opened.ensures.1 in
     rw (p.1, p.2)
@@ -43,16 +43,16 @@ returns-in_err-opened-clause-returns g c =
 
 pub begin-requires-clause-few : goal.begin-requires-clause-few
 begin-requires-clause-few g c =
-    omega (arith, few_nodes DRILL_ROOT _ _ c.in_ok-opened.ensures.0.is_text)
+    omega (arith, few_nodes DRILL_ROOT _ _ c.in_ok-opened.ensures.returns.0.is_text)
 
 pub begin-requires-clause-prolog : goal.begin-requires-clause-prolog
-begin-requires-clause-prolog g c κs l = c.in_ok-opened.ensures.0.is_text.spelled.is_prolog
+begin-requires-clause-prolog g c κs l = c.in_ok-opened.ensures.returns.0.is_text.spelled.is_prolog
 
 pub returns-clause-returns : goal.returns-clause-returns
 returns-clause-returns g c =
     let n = c.args.n in
     let read = rw c.drill_dtd.ensures at c.in_ok-dtd.ensures in
-    let text = rw c.in_ok-bytes.ensures at c.in_ok-opened.ensures in
+    let text = rw c.in_ok-bytes.ensures at c.in_ok-opened.ensures.returns in
     returned_second (λ s. s) (reading_stage n) (λ o. guarding_stage DRILL_ROOT o.dtd o.doc)
     (plain_opened c.in_ok-opened.opened) 0 0
     c.begin.result (plain_dtd c.in_ok-dtd.dtd, 0, 0, read, text, refl) c.begin.ensures.returns
@@ -78,7 +78,7 @@ returns-in_err-opened-clause-checks g c =
     let stop = c.in_err-opened.field-0.0 in
     let dtd = plain_dtd c.in_ok-dtd.dtd in
     let read = rw c.drill_dtd.ensures at c.in_ok-dtd.ensures in
-    let stops = rw c.in_ok-bytes.ensures at c.in_err-opened.ensures in
+    let stops = rw c.in_ok-bytes.ensures at c.in_err-opened.ensures.returns in
     let p = err_from_is_err_and c.from_residual-in_err-opened.result
     c.from_residual-in_err-opened.ensures.1 in
     rw (p.1, p.2)
@@ -92,7 +92,7 @@ returns-clause-checks g c =
     let n = c.args.n in
     let dtd = plain_dtd c.in_ok-dtd.dtd in
     let read = rw c.drill_dtd.ensures at c.in_ok-dtd.ensures in
-    let text = rw c.in_ok-bytes.ensures at c.in_ok-opened.ensures in
+    let text = rw c.in_ok-bytes.ensures at c.in_ok-opened.ensures.returns in
     opening_second (dtd_stage DRILL_DTD) (λ d. judging_stage DRILL_ROOT d (drill_text n))
     lists_judged dtd 0 _ _ c.begin.result read
     (opened_document DRILL_ROOT dtd (drill_text n) (plain_opened c.in_ok-opened.opened) _ _

@@ -85,7 +85,7 @@ write_list-loop-kid-preserved t c =
     let pieces = c.args.pieces.now in
     let b = c.has_token.result in
     let next : IsNext b c.in_ok-next.next c.if-has_token.next = elim c.if-has_token.branch [ write_list-then-has_token w ↦ rw w.if-has_token.true w.next-is | write_list-else-has_token w ↦ rw w.if-has_token.false w.next-is ] in
-    let token = let e = c.has_token.ensures in rw (← e) at (tells_token (plain kid)) in
+    let token = let e = c.has_token.ensures.shown in rw (← e) at (tells_token (plain kid)) in
     let suits : SuitsWord d (plain_pieces (drop c.in_ok-next.next pieces)) (word_of d (tree (plain kid) rest)) = rw step at (tags.front.suits (word_of d (forest (drop i c.args.kids.now))) c.loop-kid.invariant.suits) in
     let after = after_node d pieces c.in_ok-next.next c.if-has_token.next b (plain kid) rest c.in_ok-next.ensures.within tags.awaits token suits next in
     record {

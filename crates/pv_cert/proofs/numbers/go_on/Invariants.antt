@@ -1,9 +1,0 @@
-use Rattle.std.proofs.Common.{length}
-use Rattle.pv_cert.proofs.DigitsRead.{IsPartRead}
-use Rattle.pv_cert.proofs.numbers.go_on.Given as goal
-
-abbrev pub invariant-digits : goal.invariant-digits
-invariant-digits l = IsPartRead l.first l.bytes l.number l.rest
-
-abbrev pub decreases-digits : goal.decreases-digits
-decreases-digits l = length l.rest

@@ -1,0 +1,11 @@
+-- of this crate:
+pub mod Growing
+pub mod SimpleRuns
+pub mod KnownTags
+pub mod Stack
+pub mod TypesFound
+pub mod Behind
+pub mod Taken
+pub mod Refusals
+pub mod Whole
+pub mod Judged

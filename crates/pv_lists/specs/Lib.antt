@@ -1,0 +1,8 @@
+pub mod Runs
+pub mod Types
+pub mod Tags
+pub mod WholeLists
+pub mod Judging
+pub mod OpenLists
+pub mod Contents
+pub mod Answers

@@ -1,0 +1,5 @@
+use Rattle.pv_missing.proofs.NoneMissing.{none_missing_valid}
+use Rattle.pv_missing.proofs.laws.lists.none_missing_law.Goals as goal
+
+pub returns : goal.returns
+returns g c = none_missing_valid _

@@ -1,8 +1,0 @@
-use Rattle.pv_script.proofs.RawLines.{joins_lines, ends_line}
-use Rattle.pv_script.proofs.laws.lines_law.Goals as goal
-
-pub returns-clause-joined : goal.returns-clause-joined
-returns-clause-joined c = joins_lines
-
-pub returns-clause-end : goal.returns-clause-end
-returns-clause-end c = ends_line

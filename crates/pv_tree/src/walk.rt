@@ -1,0 +1,151 @@
+//! A walk over the lists of a document, in document order.
+
+ghost use Rattle.std.specs.Prelude.{◌≡◌, ◌≤◌, IfOk, IfSome, length, map};
+ghost use Rattle.pv_tree.specs.Legal.{MAX_NODES};
+ghost use Rattle.pv_tree.specs.Lists.{lists_of};
+ghost use Rattle.pv_tree.specs.MarkedLists.{marked_of, list_alone};
+ghost use Rattle.pv_tree.specs.PlainDocs.{plain_doc};
+ghost use Rattle.pv_tree.specs.Walks.{ComesTo, left_of, nodes_of, places_above};
+
+use crate::document::Doc;
+use crate::nodes::{Mark, Node};
+use crate::paths::Path;
+use pv_chars::NoMemory;
+use std::alloc::Global;
+
+/// Whose list it is.
+#[derive(Clone, Copy, Debug)]
+pub enum OwnerName<'a> {
+    /// That of the document node.
+    Document,
+    /// That of an element of this name.
+    Element(&'a [u8]),
+}
+
+/// A list of a document.
+#[derive(Clone, Copy, Debug)]
+pub struct DocList<'a> {
+    pub owner: OwnerName<'a>,
+    pub kids: &'a [Node],
+    /// The mark of its owner.
+    pub mark: Mark,
+}
+
+// Nodes side by side that a walk hasn't come to, and the place of the first of them.
+#[derive(Clone, Copy, Debug)]
+struct Siblings<'a> {
+    next: u32,
+    nodes: &'a [Node],
+}
+
+// A walk over the lists of elements: the nodes that are left in the list that it came to last, and
+// those that are left at each level above, from the document node down.
+#[derive(Drop)]
+struct Levels<'a> {
+    above: Vec<Siblings<'a>>,
+    here: Siblings<'a>,
+    ghost small: { nodes_of above.items here ≤ MAX_NODES },
+}
+
+impl<'a> Levels<'a> {
+    // Goes to the next list of an element.
+    fn next(&mut self) -> Result<Option<DocList<'a>>, NoMemory>
+        ensures given { IfOk result (ComesTo (left_of self.old.above.items self.old.here)
+            (places_above self.new.above.items) (left_of self.new.above.items self.new.here)) }
+        ensures few { IfOk result (λ given. IfSome given (λ list.
+            length list.kids.now ≤ MAX_NODES)) }
+    {
+        'nodes: loop {
+            let Some((node, nodes)) = self.here.nodes.split_first() else {
+                let Some(above) = self.above.pop() else {
+                    return Ok(None);
+                };
+                self.here = above;
+                continue;
+            };
+            self.here = Siblings {
+                next: self.here.next + 1,
+                nodes,
+            };
+            if let Node::Elem {
+                name,
+                kids,
+                mark,
+                ..
+            } = node
+            {
+                self.above.push(self.here)?;
+                self.here = Siblings {
+                    next: 0,
+                    nodes: kids,
+                };
+                return Ok(Some(DocList {
+                    owner: OwnerName::Element(name.as_slice()),
+                    kids,
+                    mark: *mark,
+                }));
+            }
+        }
+    }
+}
+
+/// A walk over the lists of a document, in document order: the lists that it hasn't come to, and the
+/// path of the list that it came to last.
+///
+/// It keeps the levels above a list and no lists, so that its memory grows with the depth of the
+/// document alone.
+#[derive(Drop)]
+pub struct Lists<'a> {
+    levels: Levels<'a>,
+    // The mark of the document node, where its list is the next.
+    first: Option<Mark>,
+}
+
+impl<'a> Lists<'a> {
+    ghost use Rattle.pv_tree.specs.Walking.{ComesToNext, lists_left, path_come_to};
+
+    /// The walk at its beginning.
+    pub fn of(alloc: Global, doc: &'a Doc) -> Lists<'a>
+        ensures marked { lists_left result ≡ marked_of (plain_doc doc.now) }
+        ensures lists { map list_alone (lists_left result) ≡ lists_of (plain_doc doc.now) }
+    {
+        Lists {
+            levels: Levels {
+                above: Vec::new(alloc),
+                here: Siblings {
+                    next: 0,
+                    nodes: std::slice::from_ref(&doc.root),
+                },
+            },
+            first: Some(doc.mark),
+        }
+    }
+
+    /// Goes to the next list.
+    pub fn next(&mut self) -> Result<Option<DocList<'a>>, NoMemory>
+        ensures given { IfOk result (ComesToNext self.old self.new) }
+        ensures few { IfOk result (λ given. IfSome given (λ list.
+            length list.kids.now ≤ MAX_NODES)) }
+    {
+        match self.first.take() {
+            Some(mark) => Ok(Some(DocList {
+                owner: OwnerName::Document,
+                kids: self.levels.here.nodes,
+                mark,
+            })),
+            None => self.levels.next(),
+        }
+    }
+
+    /// The path of the list that the walk came to last.
+    pub fn path(&self, alloc: Global) -> Result<Path, NoMemory>
+        ensures { IfOk result (λ path. path ≡ path_come_to self.now) }
+    {
+        let above = &self.levels.above;
+        let mut places = Vec::with_capacity(alloc, above.len())?;
+        for nodes in above {
+            places.push(u32::saturating_sub(nodes.next, 1))?;
+        }
+        Path::new(alloc, &places)
+    }
+}
