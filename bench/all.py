@@ -5,7 +5,7 @@ Words: the repository's folder, how many rounds, the most seconds, and `--write`
 A row is one measure at a size N and at 10 N. Told are the least processor times of the rounds, the exponent by which the time grows, which
 is the logarithm to base 10 of their ratio, and what part it is, at 10 N, of the time of a peer: another program where it is installed, or
 a command that does a part of the work. In brackets stands what is aimed at. Of a line of a session the time is the difference between a
-session with many such lines and one with none. In a round each run is made once, those of a row one behind another; a run that several
+session with many such lines and one with none. In a round each run is made once, those of a row one after another; a run that several
 rows tell is made once. Behind the most seconds, which count from the start, no round begins, and in the first one no run; a run ends after
 a minute.
 
@@ -124,8 +124,8 @@ def of_documents(at):
 
 
 def denials(at, told, docs):
-    """`why` and `deny`, on documents that a head behind their sections makes impossible."""
-    ends = both(lambda doc: at.file(f"{os.path.basename(doc)}.head", deny.behind_all(open(doc).read())), *docs)
+    """`why` and `deny`, on documents that a head after their sections makes impossible."""
+    ends = both(lambda doc: at.file(f"{os.path.basename(doc)}.head", deny.after_all(open(doc).read())), *docs)
     check = at.run("check", at.article, "doc", ends[1], status=1)
     why = both(lambda doc: at.run("why", at.article, "doc", doc), *ends)
     tables = both(lambda taken: printed(taken, f"{taken.work.words[-1]}.den"), *why)

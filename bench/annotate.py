@@ -62,7 +62,7 @@ def used_by(process):
 
 
 def measure(top, program, doc):
-    """The times of opening, of a move and of its undo, behind a first one that isn't measured."""
+    """The times of opening, of a move and of its undo, after a first one that isn't measured."""
     words = [sys.executable, os.path.join(top, "clients", "annotate", "annotate"), ARTICLE, "doc", doc, "--program", program]
     driver = browser()
     driver.set_script_timeout(120)

@@ -30,7 +30,7 @@ FREE_LISTS = f"<!ELEMENT r (a*)>{ROW}"
 TABLE_LISTS = f"<!ELEMENT r (a*)>{LEFT}"
 
 
-# Cycles in a chain: each name's content leads back to it, with an `x` behind it, and on to the next name.
+# Cycles in a chain: each name's content leads back to it, with an `x` after it, and on to the next name.
 def chain(count):
     names = "".join(f"<!ELEMENT a{i} (b{i}, x?)><!ELEMENT b{i} (a{i}?, a{i + 1}?)>" for i in range(count))
     return f"{names}<!ELEMENT a{count} EMPTY><!ELEMENT x EMPTY>"

@@ -16,8 +16,8 @@ MANY = "<!ELEMENT r (a, b)><!ELEMENT a EMPTY><!ELEMENT b EMPTY>" + "".join(f"<!E
 MOST_KIDS = 8_388_608 // 211 - 1
 
 
-def behind_all(text):
-    """A document of sections with a head behind them all: its root's list is impossible."""
+def after_all(text):
+    """A document of sections with a head after them all: its root's list is impossible."""
     return text.rstrip().removesuffix("</doc>") + "<head/></doc>"
 
 
@@ -27,7 +27,7 @@ def cases(top, folder):
         article = file.read()
     with open(made("nodes", 18_000_000, f"{folder}/plain.xml"), encoding="utf-8") as file:
         text = file.read().rstrip()
-    yield "18 MB, a head behind all sections", article, "doc", behind_all(text)
+    yield "18 MB, a head after all sections", article, "doc", after_all(text)
     yield "18 MB, a blank in an EMPTY element at the end", article, "doc", text.removesuffix("</doc>") + "<sec><p><br> </br></p></sec></doc>"
     yield "the most values", MANY, "r", f"<r>{'<a/>' * MOST_KIDS}</r>"
 

@@ -20,7 +20,7 @@ def wide():
     return "".join(f"<!ELEMENT e{number} {'EMPTY' if number < 8 else f'({others})'}>\n" for number in range(TYPES))
 
 
-# Types each of which needs the next, the first declared first: each size rests on all that come behind it.
+# Types each of which needs the next, the first declared first: each size rests on all that come after it.
 def chain(count=TYPES):
     return "".join(f"<!ELEMENT e{number} (e{number + 1})>\n" for number in range(count - 1)) + f"<!ELEMENT e{count - 1} EMPTY>\n"
 

@@ -6,7 +6,7 @@ names and 65,536 parts. Under each: a document of some twenty paragraphs that is
 reading and laying out; a document of 18 MB whose lists are within the limit of their width, valid and without every tenth pair of tags (of
 8 MB under the largest DTD, where more is too wide); an edit in a list of 20 and of 2,000 kids (900 under the largest DTD), by an owner
 whose content is free and by one whose content isn't; `need` of a draft of 300 kB with short lists, of one of 300 kB in which little more
-than lists and words is tagged, and of one of 3 MB with short lists, each at first and behind an edit or its undo; and of one list of 40
+than lists and words is tagged, and of one of 3 MB with short lists, each at first and after an edit or its undo; and of one list of 40
 tokens (20 under the largest), whose kids' lists are valid. The runs are interleaved; told are the least processor time of each, without
 the opening for an edit and for `need`, the memory at the peak, and the time that is aimed at under DocBook. PVTAG names another build of
 the program.
@@ -169,7 +169,7 @@ def cases(program, dtd, form):
 
 
 def drafts(form, words, file):
-    """`need` of drafts, at first and behind an edit."""
+    """`need` of drafts, at first and after an edit."""
     moves = f"wrap 0.{form.begin.count('</')} 0 1 {form.block}\nneed\nundo\nneed\n" * (MOVES // 2)
     for title, name, make, first, later in (
         ("300 kB of short lists", "draft", lambda: without_tags(short_lists(form, 300_000)), 0.35, 0.005),
@@ -178,7 +178,7 @@ def drafts(form, words, file):
     ):
         draft = words("session", file(name, make))
         yield Case(f"a draft of {title}, `need`", draft, "need\n", 1, first)
-        yield Case("the same draft, `need` behind an edit or its undo", draft, moves, MOVES, later, "need\n")
+        yield Case("the same draft, `need` after an edit or its undo", draft, moves, MOVES, later, "need\n")
 
 
 def edits(form, words, file):

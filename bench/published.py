@@ -108,7 +108,7 @@ def main():
         rows = [row(program, python, title, dtd, root, path, runs) for title, dtd, root, path in CASES if os.path.exists(dtd)]
         os.chdir("/")
     print("| DTD | Names | Parts | `check` | `need` |", "|---|---|---|---|---|", *dict.fromkeys(limits for limits, _ in rows), sep="\n")
-    print("| DTD | Document | `flatten` | `dtd` | `valid` | `check` | `need` | Pairs taken away |", "|---|---|---|---|---|---|---|---|", sep="\n")
+    print("| DTD | Document | `flatten` | `dtd` | `valid` | `check` | `need` | Pairs removed |", "|---|---|---|---|---|---|---|---|", sep="\n")
     print(*(times for _, times in rows), sep="\n")
 
 

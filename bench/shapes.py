@@ -41,7 +41,7 @@ class Shape(NamedTuple):
 
 
 def on(commands: str, title: str, size: int, unit: str, made: Callable[[int], Doc]) -> Iterator[Shape]:
-    """The same under several commands; `need`, `complete` and the like are those of a session where they stand behind a colon."""
+    """The same under several commands; `need`, `complete` and the like are those of a session where they stand after a colon."""
     for command in commands.split():
         name, _, line = command.partition(":")
         told = f"a session's `{line}`" if line else f"`{name}`" if name != "session" else "an opening"
@@ -102,7 +102,7 @@ def of_documents() -> Iterator[Shape]:
     for title, dtd in (("left recursion", LEFT), ("right recursion", RIGHT), ("recursion in the middle", MIDDLE)):
         yield from on("check session", title, 20_000, "kids", wide("<c/>", dtd))
     yield from on("check", "left recursion through 100 names", 5_000, "kids", through_a_chain)
-    yield from on("valid check", "60 stars in one another", 20_000, "kids", nested_stars)
+    yield from on("valid check", "60 nested stars", 20_000, "kids", nested_stars)
     yield from on(plain, "towers of 511 elements", 200, "towers", towers)
     yield from on(plain, "texts beside comments", 100_000, "texts", wide("x<!---->", TEXT))
     yield from on(plain, "a text of references", 200_000, "references", wide("&amp;", TEXT))
@@ -166,10 +166,10 @@ def same_in_order(size: int) -> Doc:
     return Doc(f"<!ELEMENT a ({', '.join(['b?'] * size)})><!ELEMENT b EMPTY>", "a", f"<a>{'<b/>' * size}</a>")
 
 
-def behind_a_star(size: int) -> Doc:
-    """A model whose deterministic form is exponential: a b, and so many of either behind it."""
-    behind = ", (b|c)" * size
-    return Doc(f"<!ELEMENT a ((b|c)*, b{behind})><!ELEMENT b EMPTY><!ELEMENT c EMPTY>", "a", f"<a>{'<b/><c/>' * size}</a>")
+def after_a_star(size: int) -> Doc:
+    """A model whose deterministic form is exponential: a b, and so many of either after it."""
+    rest = ", (b|c)" * size
+    return Doc(f"<!ELEMENT a ((b|c)*, b{rest})><!ELEMENT b EMPTY><!ELEMENT c EMPTY>", "a", f"<a>{'<b/><c/>' * size}</a>")
 
 
 def each_with_all(size: int) -> Doc:
@@ -214,7 +214,7 @@ def of_models() -> Iterator[Shape]:
     yield from on("valid check", "a mixed model of names, a list of the last", 400, "names and kids", mixed)
     yield from on("valid check", "optional names in order, one of each", 400, "names and kids", in_order)
     yield from on("valid check", "one optional name again and again", 300, "parts and kids", same_in_order)
-    yield from on("valid check", "a name, and many of two behind it", 200, "parts and kids", behind_a_star)
+    yield from on("valid check", "a name, and many of two after it", 200, "parts and kids", after_a_star)
     yield from on("dtd check session:need", "names that may hold 60 others", 100, "names", each_with_all)
     yield from on("dtd check", "names in a circle", 400, "names", round_and_round)
     yield from on("check session:need", "a list of each of many names", 400, "names and lists", own_names)
@@ -236,9 +236,9 @@ def of_dtds() -> Iterator[Shape]:
         ("types", 400, "types", lambda size: "".join(f"<!ELEMENT {name} EMPTY>" for name in names_of(size))),
         ("parts of one model", 6_500, "parts", lambda size: f"<!ELEMENT a ({'|'.join(names_of(size))})>"),
         ("names of a mixed model", 6_500, "names", lambda size: f"<!ELEMENT a (#PCDATA|{'|'.join(names_of(size))})*>"),
-        ("groups in one another", 100, "models of 60 groups", lambda size: "".join(f"<!ELEMENT n{at} {'(' * 60}b{')' * 60}>" for at in range(size))),
+        ("nested groups", 100, "models of 60 groups", lambda size: "".join(f"<!ELEMENT n{at} {'(' * 60}b{')' * 60}>" for at in range(size))),
         ("references to one entity", 6_000, "references", lambda size: "<!ENTITY % e '<!-- -->'>" + "%e;" * size),
-        ("entities in one another", 6_000, "entities", lambda size: "<!ENTITY % e0 ''>" + "".join(
+        ("nested entities", 6_000, "entities", lambda size: "<!ENTITY % e0 ''>" + "".join(
             f"<!ENTITY % e{at} '&#37;e{at - 1};'>" for at in range(1, size)) + f"%e{size - 1};"),
         ("many entities, the last one used", 3_000, "entities and references", lambda size: "".join(
             f"<!ENTITY % e{at} ''>" for at in range(size)) + f"%e{size - 1};" * size),
@@ -335,7 +335,7 @@ def all_spans(pack: bytes, size: int) -> bytes:
 
 
 def larger_body(unit: bytes) -> Callable[[bytes, int], bytes]:
-    """A pack whose body has so many of these behind its root's start."""
+    """A pack whose body has so many of these after its root's start."""
     def changed(pack: bytes, size: int) -> bytes:
         lines = pack.split(b"\n")
         body = b"<a>" + unit * size + b"</a>"

@@ -4,6 +4,8 @@ import subprocess
 import tempfile
 from pathlib import Path
 
+from scratch import scratch
+
 
 def kept_by_kit() -> Path | None:
     """The folder beside the kit in which `rt ci` keeps what passed on this machine, where there is a kit."""
@@ -22,9 +24,8 @@ def can_link(kept: Path, place: Path) -> bool:
     try:
         kept.mkdir(mode=0o700, exist_ok=True)
         # The kit removes what is left under such a name.
-        with (tempfile.NamedTemporaryFile(prefix=f"rt-new-{os.getpid()}-", dir=kept) as file,
-              tempfile.TemporaryDirectory(prefix="pvtag-link-", dir=place) as folder):
-            os.link(file.name, f"{folder}/link")
+        with tempfile.NamedTemporaryFile(prefix=f"rt-new-{os.getpid()}-", dir=kept) as file, scratch(place) as (folder, _):
+            os.link(file.name, folder / "link")
     except OSError:
         return False
     return True

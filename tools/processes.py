@@ -79,6 +79,15 @@ def stopped(*runs: subprocess.Popen[bytes]) -> set[int]:
     return found
 
 
+def spent_by(run: subprocess.Popen[bytes]) -> float:
+    """The seconds of a processor that a run has taken so far, with all that it has started."""
+    ticks = 0
+    for pid in session_of(run.pid):
+        with contextlib.suppress(OSError):
+            ticks += sum(map(int, Path(f"/proc/{pid}/stat").read_bytes().rpartition(b")")[2].split()[11:15]))
+    return ticks / os.sysconf("SC_CLK_TCK")
+
+
 def session_of(leader: int) -> list[int]:
     """The processes of the session that this one leads, and those that stand below them."""
     parents, found = {}, {leader}

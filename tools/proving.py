@@ -11,10 +11,10 @@ from collections.abc import Callable
 from dataclasses import dataclass, field
 from pathlib import Path
 
-from machine import has_room, runs_at_once
-from processes import Held, end_all, give_way
+from machine import has_room, processors, runs_at_once
+from processes import Held, end_all, give_way, spent_by
 from progress import Progress
-from sources import chains_behind
+from sources import chains_behind, keep_minutes
 
 TOLD = re.compile(rb"^rt: (\w+) (proved$|is kept:)", re.MULTILINE)
 FAILED = re.compile(r"^rt: (\w+) NOT PROVED")
@@ -25,6 +25,9 @@ STEP = 6
 BEGINS, GOES_ON = 30, 4
 # So many seconds after its start a run surely proves its crate, so that another one waits for that.
 SURELY = 20
+# A crate gets two processors where the chain behind it takes so many times what each processor has left, else one: two take up to a quarter more of
+# their time.
+DEAR = 1.2
 
 
 class Failed(Exception):
@@ -40,6 +43,8 @@ class Run:
     log: Path
     # The crates that were proved when it began.
     known: frozenset[str]
+    # How many processors it uses.
+    jobs: int
     start: float = field(default_factory=time.monotonic)
     last: float = field(default_factory=time.monotonic)
     read: int = 0
@@ -83,8 +88,8 @@ class Run:
 class Runs:
     """The runs of a room that are under way. However the block of these ends, so do they, with all that they started."""
 
-    def __init__(self, room: Path, progress: Progress, held: Held) -> None:
-        self.room, self.progress, self.held = room, progress, held
+    def __init__(self, room: Path, progress: Progress, held: Held, lock: int) -> None:
+        self.room, self.progress, self.held, self.lock = room, progress, held, lock
         self.under_way: list[Run] = []
         self.behind = chains_behind(progress.crates, progress.minutes)
         # This is no gate, which alone `CI` asks for: there, the kit refuses a run of one crate. What an ended run leaves is removed with the room.
@@ -98,18 +103,29 @@ class Runs:
         with self.held.hold():
             self.end(self.under_way)
             self.progress.end()
+            keep_minutes(self.progress.taken)
 
     def start(self, crate: str = "") -> Run:
         """Starts a run that is to prove a crate, or all. That of the last crate goes over all too, and so builds the programs here."""
         is_over_all = not crate or self.unbegun() == {crate}
         words = ["rt", "ci"] if is_over_all else ["rt", "ci", crate]
-        log = self.room.with_name(f"log-{crate}")
+        log, jobs = self.room.with_name(f"log-{crate}"), self.jobs_for(crate)
+        # The kit uses two where it isn't told how many.
+        variables = self.variables | ({"RT_JOBS": "1"} if jobs == 1 and not is_over_all else {})
         with self.held.hold(), log.open("wb") as said:
-            process = subprocess.Popen(words, cwd=self.room, env=self.variables, stdin=subprocess.DEVNULL, stdout=said, stderr=said, start_new_session=True)
-            run = Run(crate, is_over_all, process, log, frozenset(self.progress.done))
+            process = subprocess.Popen(words, cwd=self.room, env=variables, stdin=subprocess.DEVNULL, stdout=said, stderr=said, start_new_session=True,
+                                       pass_fds=[self.lock])
+            run = Run(crate, is_over_all, process, log, frozenset(self.progress.done), jobs)
             self.under_way.append(run)
         self.rank()
         return run
+
+    def jobs_for(self, crate: str) -> int:
+        """How many processors a crate is to have."""
+        left = self.progress.left()
+        ready = [name for name in left if not left.intersection(self.progress.crates[name])]
+        share = sum(self.progress.minutes[name] for name in left) / processors()
+        return 2 if len(ready) < processors() or self.behind.get(crate, share) > DEAR * share else 1
 
     def unbegun(self) -> set[str]:
         """The crates that no run has proved, or is to prove."""
@@ -135,11 +151,13 @@ class Runs:
     def look(self) -> list[Run]:
         """Takes in what all have told meanwhile, and gives those that have ended by themselves. Where one has failed, so does the build."""
         time.sleep(0.2)
-        ended = [run for run in self.under_way if run.process.poll() is not None]
+        ended = [run for run in self.under_way if self.has_ended(run)]
         for run in self.under_way:
             run.listen()
             self.progress.done |= (run.proved | run.kept) & self.progress.crates.keys()
-        self.progress.tell()
+        if self.progress.is_due():
+            self.progress.spent = {run.crate: spent_by(run.process) / 60 for run in self.under_way if run.process.returncode is None}
+            self.progress.tell()
         failed = next((run for run in ended if run.process.returncode), None)
         if failed:
             raise Failed(failed.why(self.progress.name))
@@ -149,6 +167,18 @@ class Runs:
             self.rank()
         return ended
 
+    def has_ended(self, run: Run) -> bool:
+        """Whether a run has ended. One that proved its crate alone tells what that takes."""
+        if run.process.returncode is not None:
+            return True
+        number, state, used = os.wait4(run.process.pid, os.WNOHANG)
+        if number:
+            run.process.returncode = os.waitstatus_to_exitcode(state)
+            run.listen()
+            if run.proved == {run.crate}:
+                self.progress.taken[run.crate] = (used.ru_utime + used.ru_stime) / 60
+        return number != 0
+
     def next(self) -> str | None:
         """The crate that is to be begun now, if there is one: of those that stand on proved ones that with the dearest chain behind it, though enough are
         at work where theirs are all cheaper; or, ahead of time, since the kit takes a while to begin, one that stands also on crates that other runs are
@@ -156,13 +186,15 @@ class Runs:
         at_work, left = self.at_work(), self.progress.left()
         surely = {run.crate for run in at_work if time.monotonic() - run.start > SURELY}
         waiting = len(left.intersection(run.crate for run in self.under_way)) - len(at_work)
-        if at_work and not has_room() or len(self.under_way) >= 2 * runs_at_once():
+        if at_work and not has_room() or len(self.under_way) >= 2 * processors():
             return None
+        is_full = sum(run.jobs for run in at_work) > processors()
         lacking = {name: left.intersection(self.progress.crates[name]) for name in self.unbegun()}
-        dearest = max((self.behind[run.crate] for run in at_work), default=0.0) if len(at_work) >= runs_at_once() else 0.0
+        dearest = max((self.behind[run.crate] for run in at_work), default=0.0) if is_full else 0.0
         ready = [name for name, lacks in lacking.items() if not lacks and self.behind[name] > dearest]
         soon = [name for name, lacks in lacking.items() if lacks and lacks <= surely] if waiting + 1 < runs_at_once() else []
-        return max(ready or soon, key=lambda name: (self.behind[name], name), default=None)
+        found = ready or soon
+        return max(found, key=lambda name: (self.behind[name], name)) if found else None
 
 
 def over_all(runs: Runs, is_enough: Callable[[Run], bool] = lambda _: False) -> bool:
@@ -187,8 +219,8 @@ def one_by_one(runs: Runs, is_enough: Callable[[Run], bool]) -> Run | None:
     return None
 
 
-def prove(room: Path, progress: Progress, held: Held, is_beside: bool) -> None:
-    """Proves all crates of the room, and builds its programs. Unless the room is beside what the kit keeps, one run does it all."""
+def prove(room: Path, progress: Progress, held: Held, lock: int, is_beside: bool) -> None:
+    """Proves all crates of the room, whose folder has this lock, and builds its programs. Unless the room is beside what the kit keeps, one run does it all."""
     def has_told_kept(run: Run) -> bool:
         """Whether the run over all has told what is kept, and more is left than it proves as fast: than crates that stand on one another."""
         left = progress.left()
@@ -196,7 +228,7 @@ def prove(room: Path, progress: Progress, held: Held, is_beside: bool) -> None:
         quiet = time.monotonic() - run.last
         return quiet > (GOES_ON if run.proved or run.kept else BEGINS) and not is_chain
 
-    with Runs(room, progress, held) as runs:
+    with Runs(room, progress, held, lock) as runs:
         if is_beside and runs_at_once() > 1:
             ended_by = one_by_one(runs, lambda run: run.is_vain() or run.takes_over())
             if ended_by and not ended_by.is_vain():

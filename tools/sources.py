@@ -9,9 +9,12 @@ from pathlib import Path
 TOP = Path(__file__).resolve().parent.parent
 # Crates by their names, each with those of the repository that it uses.
 Crates = dict[str, list[str]]
-# What of a crate the build reads: not its edits, which the gate tries.
+# What of a crate the build reads: not its edits.
 PARTS = ("src", "specs", "proofs", "data", "stdin", "stdout", "args", "status")
-TABLE = re.compile(r"^\| `(\w+)` \| (\d+(?:\.\d+)?) \|", re.MULTILINE)
+# Minutes of a processor that each crate takes to be proved: on the machine of the gate's table, and as the last builds here took.
+MINUTES, MINUTES_HERE = TOP / "tools" / "minutes", TOP / "build" / "minutes"
+# What a crate takes of which there are no minutes: so many at least, and so many for each line of its source.
+LEAST, A_LINE = 0.3, 0.00125
 
 
 def needs(*programs: str) -> Crates:
@@ -61,11 +64,46 @@ def copy(crates: Crates, to: Path) -> None:
         shutil.copyfile(file, at)
 
 
+def read_minutes(file: Path) -> dict[str, float]:
+    """The minutes that stand in a file, a line a crate; those after a `~` were reckoned."""
+    lines = [line.partition("#")[0].split() for line in file.read_text().splitlines()] if file.is_file() else []
+    return {line[0]: float(line[1].removeprefix("~")) for line in lines if line}
+
+
+def by_lines(name: str) -> float:
+    """About how many minutes a crate takes, by the lines of its source."""
+    return LEAST + A_LINE * sum(it.read_bytes().count(b"\n") for it in (TOP / "crates" / name / "src").rglob("*.rt"))
+
+
 def minutes_of(crates: Crates) -> dict[str, float]:
-    """The minutes that each crate's proof took when the gate was measured; one where that isn't known."""
-    page = TOP / "docs" / "DEVELOPING.md"
-    told = dict(TABLE.findall(page.read_text() if page.is_file() else ""))
-    return {name: max(float(told.get(name, 1)), 0.1) for name in crates}
+    """The minutes of a processor that each crate takes: as it was here, if it was built here; else as in the table, or by its lines, where what was
+    built here tells how fast this machine is."""
+    here, table = read_minutes(MINUTES_HERE), read_minutes(MINUTES)
+    told = {name: table.get(name) or by_lines(name) for name in crates}
+    both = [name for name in here if name in table]
+    pace = sum(here[name] for name in both) / max(sum(table[name] for name in both), 0.1) if both else 1.0
+    return {name: max(here.get(name, pace * told[name]), 0.1) for name in crates}
+
+
+def keep_minutes(taken: dict[str, float]) -> None:
+    """Notes the minutes that crates took here, beside those of earlier builds."""
+    if taken:
+        told = {**read_minutes(MINUTES_HERE), **taken}
+        MINUTES_HERE.parent.mkdir(exist_ok=True)
+        MINUTES_HERE.write_text("".join(f"{name} {minutes:.2f}\n" for name, minutes in sorted(told.items())))
+
+
+def write_table(crates: Crates) -> None:
+    """Writes the table anew: the minutes of each crate that was built here, by the pace of the table's machine, those that stood there, and by lines."""
+    here, table = read_minutes(MINUTES_HERE), read_minutes(MINUTES)
+    told = minutes_of(crates)
+    both = [name for name in here if name in table]
+    pace = sum(here[name] for name in both) / max(sum(table[name] for name in both), 0.1) if both else 1.0
+    lines = MINUTES.read_text().splitlines(True) if MINUTES.is_file() else []
+    measured = here.keys() | {line.split()[0] for line in lines if "~" not in line}
+    rows = [f"{name} {'' if name in measured else '~'}{told[name] / pace:.2f}\n" for name in crates]
+    head = "".join(line for line in lines if line.startswith("#"))
+    MINUTES.write_text(head + "".join(sorted(rows)))
 
 
 def chains_behind(crates: Crates, minutes: dict[str, float]) -> dict[str, float]:
