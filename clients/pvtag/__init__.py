@@ -1,12 +1,15 @@
-"""What all clients of `pvtag` stand on. Python 3.11, the standard library alone; nothing here decides what the program
-can be asked.
+"""What all clients of `pvtag` stand on. Python 3.11, the standard library alone, but for `libxml`, a process that needs
+`lxml`; nothing here decides what the program can be asked.
 
     program   where the program is, one run of it, and the files that it is given
     long      the second program, `pvlong`, which is asked where a list is too wide for `need` and `complete`
     session   a session, kept open through two pipes: a method a line, replies as values
     document  the tree of a document beside a session, kept by the edits that are made
     places    lines and columns of a file, and back, and the items that faults are counted in
-    entities  the same items of a DTD, with its parameter entities
+    entities  the same items of a DTD, with its parameter entities, and the entities that documents refer to
+    masks     a document with an internal subset or entities as the program reads it, and the way back
+    attributes  what a DTD declares of attributes, and what is wrong with those of a document, by libxml2; it stands on
+              `libxml`, which asks it, and on `masks`
     layout    where the nodes of a document stand in its bytes
     dtd       the names of a DTD as the program tells them, and declarations as their author wrote them
     denial    what `why` prints
@@ -14,6 +17,8 @@ can be asked.
               `tries`, which asks the program of lists, `search`, `needs` and `sentences`
     faults    what the program says of a file that it refuses: where, and in a sentence; it stands on
               `document_fault` and `dtd_fault`
+    costs     what each name that is offered costs: how many more elements are missing with it
+    filling   the attributes of a completion's new elements
     command   what the commands beside this folder share
 
 Each client puts the folder above this one on its path.

@@ -10,9 +10,12 @@ import sys
 from collections.abc import Callable, Iterator, Mapping
 from typing import NamedTuple, NoReturn
 
+from .attributes import Attributes, Checked
 from .dtd import Dtd
 from .faults import Refusal, fault_of
+from .finder import is_utf_8
 from .layout import Layout, Node
+from .masks import Masked, MaskedSource, mask
 from .places import Source
 from .program import Answer, Trouble, add_option, file_of, find, read_file, shown_name
 from .reasons import Reason, Reasons
@@ -26,13 +29,20 @@ BELOW = "\n  "
 
 
 class Given(NamedTuple):
-    """A file of a command: its name, and a path by which it can be read again and again."""
+    """A file of a command: its name, a path by which it can be read again and again, and of a document what was masked of
+    it, where the program is given another text than that of the file."""
 
     name: str
     path: str
+    masked: Masked | None = None
 
     def source(self) -> Source:
-        return Source(self.name, read_file(self.path))
+        """The file as the program is given it, with the lines and columns of the file as it is written."""
+        return Source(self.name, read_file(self.path)) if self.masked is None else MaskedSource(self.name, self.masked)
+
+    def restored(self, printed: bytes) -> bytes:
+        """What the program printed of it, as it is written."""
+        return self.masked.restored(printed) if self.masked is not None else printed
 
 
 class Asked(NamedTuple):
@@ -42,6 +52,11 @@ class Asked(NamedTuple):
     dtd: Given
     root: str
     doc: Given
+
+    def checked(self) -> Checked:
+        """What is wrong with the document's attributes."""
+        with Attributes(read_file(self.dtd.path)) as attributes:
+            return attributes.check(self.doc.masked or read_file(self.doc.path))
 
     def reasons(self) -> Reasons:
         return Reasons(self.program, Dtd(self.program, self.dtd.path, self.dtd.name), self.root)
@@ -58,8 +73,12 @@ def reader(description: str, *words: tuple[str, str]) -> argparse.ArgumentParser
 
 @contextlib.contextmanager
 def given(path: str) -> Iterator[Given]:
-    """A file, of which a copy is kept where it is a pipe or the like."""
-    if os.path.isfile(path):
+    """A file, of which a copy is kept where it is a pipe or the like. One whose name isn't UTF-8 is handed over open: the
+    program takes no such words."""
+    if os.path.isfile(path) and not is_utf_8(path):
+        with open(path, "rb") as file:
+            yield Given(shown_name(path), f"/proc/{os.getpid()}/fd/{file.fileno()}")
+    elif os.path.isfile(path):
         yield Given(shown_name(path), path)
     else:
         with file_of(read_file(path)) as copy:
@@ -69,8 +88,36 @@ def given(path: str) -> Iterator[Given]:
 @contextlib.contextmanager
 def asked_of(words: argparse.Namespace) -> Iterator[Asked]:
     """What the words DTD, ROOT and DOC of a command ask about."""
-    with given(words.dtd) as dtd, given(words.doc) as doc:
+    with given(words.dtd) as dtd, given(words.doc) as file, masked_of(file, dtd) as doc:
         yield Asked(find(words.program), dtd, words.root, doc)
+
+
+@contextlib.contextmanager
+def masked_of(file: Given, dtd: Given) -> Iterator[Given]:
+    """A document as the program reads it: the file, or a copy in which its subset and its entities are masked. What is to
+    be said of these is said on the error output."""
+    masked = mask(read_file(file.path), read_file(dtd.path))
+    if masked.is_plain:
+        yield file
+        return
+    source = Source(file.name, masked.source)
+    for remark in masked.remarks:
+        print(f"{file.name}:{source.place(remark.span.start)}: warning: {remark.sentence}", file=sys.stderr)
+    with file_of(masked.data) as copy:
+        yield Given(file.name, copy, masked)
+
+
+def say_attributes(asked: Asked, most: int | None) -> None:
+    """Says on the error output what is wrong with attributes, at most so many of them, or that they weren't looked at."""
+    checked = asked.checked()
+    masked = asked.doc.masked
+    source = Source(asked.doc.name, masked.source if masked is not None else read_file(asked.doc.path))
+    for fault in checked.faults[:most]:
+        where = f":{source.place(fault.span.start)}" if fault.span is not None else ""
+        print(f"{source.name}{where}: {fault.sentence}", file=sys.stderr)
+    if not checked.are_valid:
+        more = "; --all tells each" if most is not None and len(checked.faults) > most else ""
+        said(f"{checked.sentence}{more}", 0)
 
 
 def answered(answer: Answer, files: Mapping[str, Given]) -> Answer:

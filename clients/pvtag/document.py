@@ -66,7 +66,12 @@ def shown(unit: str) -> str:
         return unit
     if unit in NAMED:
         return NAMED[unit]
-    return chr(int(unit[3:-1], 16) if unit[2] == "x" else int(unit[2:-1]))
+    return chr(int(unit[3:-1], 16) if unit[2] == "x" else decimal(unit[2:-1]))
+
+
+def decimal(digits: str) -> int:
+    """A number in decimal digits, however many zeros it begins with."""
+    return int(digits.lstrip("0") or "0")
 
 
 def units_of(text: str) -> Units:
@@ -78,9 +83,9 @@ def dotted(path: Iterable[int]) -> str:
 
 
 class Document:
-    def __init__(self, source: bytes) -> None:
-        """Reads bytes that the session has read."""
-        self.numbers = itertools.count(1)
+    def __init__(self, source: bytes, first: int = 1) -> None:
+        """Reads bytes that the session has read; its nodes are numbered from there on."""
+        self.numbers = itertools.count(first)
         self.nodes: dict[int, Node] = {}
         # The attributes that elements had before they were edited: a session knows of no others.
         self.given: dict[int, str] = {}

@@ -11,6 +11,32 @@ REFERENCE = rb"""&(?:#[0-9]+|#x[0-9a-fA-F]+|[^\s&;<#"'0-9][^\s&;<"']*);"""
 RUN = re.compile(rb"(?:(?![<&])(?!\]\]>)(?:" + CHAR + rb")|" + REFERENCE + rb")*")
 ENTITY = re.compile(rb"&(?!#|(?:lt|gt|amp|apos|quot);)[^\s&;<]*;")
 NAME = re.compile(rb"</?([^\s/<>]*)")
+# A character of several bytes in UTF-8, which other encodings write by chance alone; and bytes that Latin-1 has no letter for.
+MULTIBYTE = re.compile(rb"[\xc2-\xdf][\x80-\xbf]|[\xe0-\xef][\x80-\xbf]{2}|[\xf0-\xf4][\x80-\xbf]{3}")
+WINDOWS = re.compile(rb"[\x80-\x9f]")
+
+
+# How texts that aren't UTF-8 begin: with a byte order mark, or with `<` in two bytes.
+UTF_16 = (b"\xff\xfe", b"\xfe\xff", b"<\0", b"\0<")
+ENCODING = re.compile(rb"""<\?xml\s[^>]*?encoding\s*=\s*["']([-A-Za-z0-9._]+)["']""")
+
+
+def encoding_fault(data: bytes) -> str | None:
+    """What a document's encoding is, where it isn't UTF-8, with the line that converts it."""
+    if data.startswith(UTF_16):
+        return "the file is in UTF-16, and UTF-8 alone is read; `xmllint --encode UTF-8 FILE` converts it"
+    declared = ENCODING.match(data, front_mark(data))
+    name = declared[1].decode().upper() if declared is not None else ""
+    if name and name not in ("UTF-8", "US-ASCII"):
+        return f"the file is in {name}, and UTF-8 alone is read; `xmllint --encode UTF-8 FILE` converts it"
+    try:
+        data.decode()
+    except UnicodeDecodeError:
+        if MULTIBYTE.search(data) is None and b"\0" not in data:
+            name = "WINDOWS-1252" if WINDOWS.search(data) is not None else "ISO-8859-1"
+            word = "Windows-1252" if name == "WINDOWS-1252" else "Latin-1"
+            return f"the file isn't UTF-8 and looks like {word}; `iconv -f {name} -t UTF-8 FILE` converts it"
+    return None
 
 
 class Front:
@@ -101,6 +127,10 @@ BEGINS: tuple[tuple[bytes, str], ...] = (
 def syntax(front: Front, source: Source) -> Remark:
     data, at = source.data, front.at
     here = Span(at, front.item.end if front.item is not None else min(at + 1, len(data)))
+    if data.startswith(UTF_16) or ENCODING.match(data, at) is not None:
+        what = encoding_fault(data)
+        if what is not None:
+            return here, what
     if at == len(data):
         ended = f"the file ends before {opened(front, source)} has ended" if front.open else "there is no root element"
         return Span(at, at), ended
@@ -112,7 +142,7 @@ def syntax(front: Front, source: Source) -> Remark:
         if data.startswith(begin, at):
             return here, sentence
     if front.has_root and not front.open:
-        return here, "a second element stands behind the root"
+        return here, "a second element stands after the root"
     if front.item is None:
         return here, "a tag is `<`, a name, attributes with values in quotes, and `>` or `/>`"
     return attribute(front.item, data)
@@ -148,6 +178,6 @@ def character(data: bytes, at: int) -> str:
         return "`&` begins no reference"
     if at == len(data):
         return "the file ends here"
-    return "this is no character of XML, or isn't UTF-8"
+    return (encoding_fault(data) if data[at] >= 0x80 else None) or "this is no character of XML, or isn't UTF-8"
 
 

@@ -9,7 +9,7 @@ from typing import NamedTuple
 
 from .faults import Refusal, fault_of
 from .places import Source
-from .program import read_file, run, shown_name
+from .program import Answer, read_file, run, shown_name
 
 
 class Type(NamedTuple):
@@ -58,7 +58,10 @@ class Dtd:
     @functools.cached_property
     def types(self) -> dict[str, Type]:
         """The declared names, in order of declaration."""
-        answer = run(self.program, "dtd", self.path)
+        return self.types_of(run(self.program, "dtd", self.path))
+
+    def types_of(self, answer: Answer) -> dict[str, Type]:
+        """The same by what `dtd` has answered."""
         if answer.status:
             raise Refusal(fault_of(answer.status, answer.line, {"dtd": self.source}))
         rows = (line.split(" ") for line in answer.output.decode().splitlines()[:-1])
@@ -86,6 +89,11 @@ class Dtd:
     def nearest(self, name: str, most: int = 3) -> list[str]:
         """The declared names that look most like this one, the nearest first; none where none does."""
         return difflib.get_close_matches(name, self.types, most)
+
+    def behind_prefix(self, name: str) -> str | None:
+        """The declared name that differs from this one in its prefix alone: to a DTD a prefix is part of the name."""
+        local = name.rpartition(":")[2]
+        return next((each for each in self.types if each != name and each.rpartition(":")[2] == local), None)
 
     def is_productive(self, name: str) -> bool:
         """Whether the name is declared and some finite element of it is valid."""

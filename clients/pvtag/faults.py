@@ -168,7 +168,7 @@ def ranges_fault(words: list[str], source: Source | None) -> Remark:
     kind, numbers = words[1], words[2:]
     if kind == "outside":
         span = line_span(source, int(numbers[0])) if source is not None else None
-        return span, "the range is empty, or ends behind the text"
+        return span, "the range is empty, or ends after the text"
     if kind == "twice":
         return None, f"two ranges from {numbers[0]} to {numbers[1]} have the level {numbers[2]}"
     return None, f"the range from {numbers[2]} to {numbers[3]} crosses that from {numbers[0]} to {numbers[1]}"

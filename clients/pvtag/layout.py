@@ -206,6 +206,10 @@ class Layout:
         """The document node and all elements, in document order: that of a session's verdicts."""
         return (Node(self, number) for number, kids in enumerate(self.kids) if kids is not None)
 
+    def texts(self) -> Iterator[Node]:
+        """All texts, in document order."""
+        return (node for node in (Node(self, number) for number in range(len(self.kids))) if node.kind == TEXT)
+
     def at(self, offset: int) -> Node:
         """The innermost node with this offset in it, its end left out; the document node outside the root."""
         number = 0

@@ -109,7 +109,7 @@ TAG = rb"""[^\s/>!?"'=<][^\s/>"'=<]*(?:\s+[^\s=<>"'/]+\s*=\s*(?:"[^"<]*"|'[^'<]*
 DOCUMENT_ITEM = re.compile(
     rb"""(?P<text>[^<]+)|(?P<end></[^\s<>]+\s*>)|(?P<start><""" + TAG + rb"""(?P<empty>/)?>)"""
     rb"""|(?P<comment><!--.*?-->)|(?P<instruction><\?.*?\?>)|(?P<cdata><!\[CDATA\[.*?\]\]>)"""
-    rb"""|(?P<doctype><!DOCTYPE(?:[^>"'\[]|"[^"]*"|'[^']*')*>)""",
+    rb"""|(?P<doctype><!DOCTYPE(?:[^>"'\[]++|"[^"]*"|'[^']*')*+>)""",
     re.S,
 )
 DECLARATION = re.compile(rb"<\?xml\s.*?\?>", re.S)
@@ -126,8 +126,7 @@ def document_items(data: bytes) -> Iterator[Item]:
     if found := DECLARATION.match(data, at):
         yield Item("declaration", at, found.end())
         at = found.end()
-    for found in DOCUMENT_ITEM.finditer(data, at):
-        if found.start() != at:
-            return
+    # No search from there on: each comment that doesn't end would be looked for again.
+    while (found := DOCUMENT_ITEM.match(data, at)) is not None:
         yield Item("empty" if found["empty"] else found.lastgroup or "", at, found.end())
         at = found.end()

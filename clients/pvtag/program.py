@@ -8,17 +8,23 @@ import subprocess
 import sys
 import tempfile
 import threading
-from collections.abc import Iterator, Sequence
+from collections.abc import Callable, Iterator, Sequence
 from typing import NamedTuple
 
 HERE = os.path.dirname(os.path.realpath(__file__))
 TOP = os.path.dirname(os.path.dirname(HERE))
-# The repository's script, which builds the program where there is none, and where it is then.
+# The repository's script, where the program is once it is proved and built, and what is added to that until then: the
+# script makes one without proofs first, in a minute or two, and runs that.
 SCRIPT, BUILT = os.path.join(TOP, "pvtag"), os.path.join(TOP, "build", "pvtag")
+UNPROVED = ".unproved"
 # The same of the second program.
 LONG_SCRIPT, LONG_BUILT = os.path.join(TOP, "pvlong"), os.path.join(TOP, "build", "pvlong")
 # The status of words that are no command.
 USAGE = 2
+
+
+# How a process is begun. A client whose processes end with it, also when it is killed, puts another here.
+popen: "Callable[..., subprocess.Popen[bytes]]" = subprocess.Popen
 
 
 class Trouble(Exception):
@@ -43,8 +49,8 @@ class Answer(NamedTuple):
 
 def find(told: str | None = None, builds: bool = True) -> list[str]:
     """The words that begin the program: the file that is told; else `pvtag` beside the client or the link by which it
-    was called, in the repository, or on the path. Where the repository has none yet, its script builds it here, unless
-    the caller can't wait for that."""
+    was called, in the repository, or on the path. Where the repository has none yet, its script makes it here, unless the
+    caller can't wait for that."""
     if resource.getrlimit(resource.RLIMIT_AS)[0] != resource.RLIM_INFINITY:
         # As the repository's script does: threads then share what the C library would set aside for each.
         os.environ.setdefault("MALLOC_ARENA_MAX", "1")
@@ -57,16 +63,23 @@ def find(told: str | None = None, builds: bool = True) -> list[str]:
             continue
         if os.path.realpath(file) != SCRIPT:
             return [file]
-        if builds:
-            return [built()]
-    hint = f"run {SCRIPT} once, which builds it" if os.path.isfile(SCRIPT) else "--program tells it"
+        if builds or is_made(BUILT):
+            return [made()]
+    hint = f"run {SCRIPT} once, which makes it" if os.path.isfile(SCRIPT) else "--program says where it is"
     raise Trouble(f"the program pvtag isn't found; {hint}")
 
 
-def built() -> str:
-    """The program, which the repository's script builds first. Without words it says how it is used."""
+def is_made(built: str) -> bool:
+    """Whether there is one without proofs, which may be run."""
+    return os.access(built + UNPROVED, os.X_OK) and not os.environ.get("PVTAG_PROVED")
+
+
+def made() -> str:
+    """The program, which the repository's script makes first. Without words it says how it is used. As long as it isn't
+    proved the script says so, here once, and is what is run."""
     if run([SCRIPT]).status != USAGE:
-        raise Trouble("the program pvtag couldn't be built")
+        raise Trouble("the program pvtag couldn't be made")
+    os.environ["PVTAG_TOLD"] = "1"
     return BUILT if os.access(BUILT, os.X_OK) else SCRIPT
 
 
@@ -79,7 +92,7 @@ def find_long(program: list[str]) -> list[str] | None:
         # The repository's script would build it, which takes too long for somebody who waits.
         if file is not None and os.path.realpath(file) != LONG_SCRIPT and os.path.isfile(file) and os.access(file, os.X_OK):
             return [file]
-    return None
+    return [LONG_SCRIPT] if is_made(LONG_BUILT) else None
 
 
 def add_option(reader: argparse.ArgumentParser) -> None:
@@ -88,10 +101,11 @@ def add_option(reader: argparse.ArgumentParser) -> None:
 
 
 class Running:
-    """The runs of the program that haven't ended yet, of all threads."""
+    """The runs of the program that haven't ended yet, of all threads. Each may take so many seconds, where that is told."""
 
-    def __init__(self) -> None:
+    def __init__(self, most: float | None = None) -> None:
         self.lock, self.runs, self.stopped = threading.Lock(), set[subprocess.Popen[bytes]](), False
+        self.most = most
 
     def begin(self, words: list[str], files: Sequence[int]) -> subprocess.Popen[bytes]:
         """Begins one, unless all have been ended."""
@@ -99,8 +113,7 @@ class Running:
             if self.stopped:
                 raise Stopped
             try:
-                begun = subprocess.Popen(words, stdin=subprocess.PIPE, stdout=subprocess.PIPE, pass_fds=files,
-                                         start_new_session=True)
+                begun = popen(words, stdin=subprocess.PIPE, stdout=subprocess.PIPE, pass_fds=files, start_new_session=True)
             except OSError as fault:
                 raise Trouble(f"{words[0]} can't be run: {fault.strerror}") from None
             self.runs.add(begun)
@@ -120,14 +133,16 @@ RUNNING = Running()
 def run(program: list[str], *words: str, given: bytes = b"", files: Sequence[int] = (), most: float | None = None,
         runs: Running = RUNNING) -> Answer:
     """Runs one command to its end, or for at most so many seconds: past them the status is -1. `given` is its input,
-    `files` are handed over open; it ends with these `runs`."""
+    `files` are handed over open; it ends with these `runs`. A run that takes longer than these allow is a trouble."""
     begun = runs.begin([*program, *words], files)
     try:
-        output, _ = begun.communicate(given, timeout=most)
+        output, _ = begun.communicate(given, timeout=runs.most if most is None else most)
     except BaseException as fault:
         begun.kill()
         begun.communicate()
         if isinstance(fault, subprocess.TimeoutExpired):
+            if most is None:
+                raise Trouble(took_too_long(words, runs.most)) from None
             return Answer(-1, b"")
         raise
     finally:
@@ -136,6 +151,10 @@ def run(program: list[str], *words: str, given: bytes = b"", files: Sequence[int
     if runs.stopped:
         raise Stopped
     return Answer(begun.returncode, output)
+
+
+def took_too_long(words: Sequence[str], most: float | None) -> str:
+    return f"the program takes more than {most:g} seconds for {words[0]}"
 
 
 def read_file(path: str) -> bytes:

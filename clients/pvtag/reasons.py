@@ -3,7 +3,7 @@
     reasons = Reasons(["./pvtag"], Dtd(["./pvtag"], "article.dtd"), "doc")
     reason = reasons.of_list("0", "doc", kids)      # kids: a Kid for each kid of the list, in order
     reason.kids                                     # (0, 1): the numbers of the kids in each other's way
-    reason.sentence()                               # "The second `head` has no place behind the first: .."
+    reason.sentence()                               # "The second `head` has no place after the first: .."
 
 The set of kids is smallest in that no kid can be left out of it: the program finds the list of these kids alone
 impossible, and possible without any one of them.
@@ -16,7 +16,7 @@ from .document import Document
 from .dtd import Dtd
 from .layout import Layout
 from .needs import needs
-from .program import file_of, run
+from .program import RUNNING, Running, file_of, run
 from .search import Asking, Found, search
 from .sentences import Pieces
 from .tries import Judge, Kid, Try, stub
@@ -83,11 +83,11 @@ def kids_of(nodes: Iterable[Listed]) -> list[Kid]:
 
 class Reasons:
     """Reasons under one DTD and ROOT. It keeps what it was answered, and no process; a DTD that has changed needs
-    another one."""
+    another one. Its runs of the program end with `runs`."""
 
-    def __init__(self, program: list[str], dtd: Dtd, root: str) -> None:
-        self.program, self.dtd, self.root = program, dtd, root
-        self.judge = Judge(program, dtd, root)
+    def __init__(self, program: list[str], dtd: Dtd, root: str, runs: Running = RUNNING) -> None:
+        self.program, self.dtd, self.root, self.runs = program, dtd, root, runs
+        self.judge = Judge(program, dtd, root, runs)
 
     def of_list(self, path: str, owner: str, kids: Sequence[Kid]) -> Reason | None:
         """Why this list is impossible, or none where it isn't. `owner` is "" for the list of the document node, path
@@ -109,6 +109,10 @@ class Reasons:
     def of_edit(self, tree: Document, lines: Sequence[str], path: str) -> RefusedEdit | None:
         """Why the last of these lines was refused with `no impossible PATH`, those before it having been made but not
         in the tree yet. The tree is as it was afterwards."""
+        return self.about_edit(tree, lines, path)()
+
+    def about_edit(self, tree: Document, lines: Sequence[str], path: str) -> Callable[[], RefusedEdit | None]:
+        """The same in two parts: the tree is needed here, and the program by what this returns."""
         last, backs = next(reversed(tree.nodes)), []
         origin: dict[int, int] = {}
         try:
@@ -118,16 +122,20 @@ class Reasons:
                 parts = [kid for kid in change.get("kids", ()) if isinstance(kid, dict) and "of" in kid]
                 origin.update({kid["id"]: origin.get(kid["of"][0][0], kid["of"][0][0]) for kid in parts})
             owner = tree.there(path)
-            name, kids = owner.name, kids_of(owner.kids)
+            number, name, kids = owner.id, owner.name, kids_of(owner.kids)
             nodes = [origin.get(node.id, node.id) for node in owner.kids]
         finally:
             for back in reversed(backs):
                 back()
             while next(reversed(tree.nodes)) > last:
                 tree.nodes.popitem()
-        reason = self.of_list(path, name, kids)
         ids = [number if number <= last else None for number in nodes]
-        return None if reason is None else RefusedEdit(reason, owner.id if owner.id <= last else None, ids)
+
+        def refused() -> RefusedEdit | None:
+            reason = self.of_list(path, name, kids)
+            return None if reason is None else RefusedEdit(reason, number if number <= last else None, ids)
+
+        return refused
 
     # ---- what was found ----
 
@@ -198,7 +206,8 @@ class Reasons:
     def name_worded(self, name: str, at: int | None) -> tuple[Cause, Pieces, Pieces]:
         """Of a name of which no element can be valid."""
         if name not in self.dtd.types:
-            nearest = sentences.nearest(self.dtd.nearest(name))
+            other = self.dtd.behind_prefix(name)
+            nearest = sentences.prefixed(other) if other else sentences.nearest(self.dtd.nearest(name))
             return "undeclared", sentences.undeclared(name, at, self.is_mentioned(name)), nearest
         why = needs(self.program, self.dtd, name)
         return "unproductive", sentences.unproductive(name, at, why), ()
@@ -206,5 +215,5 @@ class Reasons:
     def is_mentioned(self, name: str) -> bool:
         """Whether the DTD has a name that it doesn't declare, by the cause that `why` tells of an element of it."""
         with file_of(stub(Kid("element", name))) as path:
-            answer = run(self.program, "why", self.dtd.path, name, path)
+            answer = run(self.program, "why", self.dtd.path, name, path, runs=self.runs)
         return denial.read(answer.output).cause == "unproductive"

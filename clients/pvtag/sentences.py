@@ -52,6 +52,10 @@ def nearest(names: Sequence[str]) -> Pieces:
     return (f"The declared {what} most like it: {joined(list(map(named, names)), 'and')}.",)
 
 
+def prefixed(other: str) -> Pieces:
+    return (f"The DTD has it as {named(other)}: a prefix is part of the name.",)
+
+
 def unproductive(name: str, at: int | None, why: Sequence[Need]) -> Pieces:
     known = {need.name for need in why}
     clauses = []
@@ -83,8 +87,8 @@ def too_many(owner: str, kid: Kid, at: Sequence[int]) -> Pieces:
     count, what = len(at), kid_named(kid)
     room = f": whatever is inserted, {named(owner)} has room for {counted(count - 1)}."
     if count == 2:
-        return (f"The second {what}", at[1], " has no place behind the first", at[0], room)
-    return (f"The {ordinal(count)} {what}", at[-1], " has no place behind those before it", *at[:-1], room)
+        return (f"The second {what}", at[1], " has no place after the first", at[0], room)
+    return (f"The {ordinal(count)} {what}", at[-1], " has no place after those before it", *at[:-1], room)
 
 
 def counted(number: int) -> str:

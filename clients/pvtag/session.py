@@ -9,10 +9,16 @@ An edit, undo or redo answers `Made` or `Refused`; what else is asked answers it
 none. A path is text, as in a line: "." is the document node, "0" the root. Where the program ends, also before it
 began, each call raises `Ended`, which has its status and what it wrote last. One thread at a time may use a session.
 """
+import contextlib
+import html
 import re
 import subprocess
-from collections.abc import Sequence
-from typing import NamedTuple, NoReturn
+from collections.abc import Iterator, Sequence
+from typing import Literal, NamedTuple, NoReturn
+
+from .layout import UNIT, Layout
+
+from . import program as programs
 
 
 class Made(NamedTuple):
@@ -25,11 +31,14 @@ class Made(NamedTuple):
 
 
 class Refused(NamedTuple):
-    """A line that nothing came of. `why` is "shape", "impossible", "limit", "history", "command", "memory", "wide" or
-    "heavy"; `what` the reason of a shape, or the path of a list."""
+    """A line that nothing came of, false in a condition. `why` is "shape", "impossible", "limit", "history", "command",
+    "memory", "wide" or "heavy"; `what` the reason of a shape, or the path of a list."""
 
     why: str
     what: str = ""
+
+    def __bool__(self) -> Literal[False]:
+        return False
 
 
 class Verdict(NamedTuple):
@@ -59,7 +68,7 @@ class Session:
     def __init__(self, program: Sequence[str], dtd: str, root: str, document: str) -> None:
         """Begins; `program` is a list of words. A session of its own keeps the terminal's Ctrl-C from it."""
         words = [*program, "session", dtd, root, document]
-        self.process = subprocess.Popen(words, stdin=subprocess.PIPE, stdout=subprocess.PIPE, start_new_session=True)
+        self.process = programs.popen(words, stdin=subprocess.PIPE, stdout=subprocess.PIPE, start_new_session=True)
         assert self.process.stdin is not None and self.process.stdout is not None
         self.input, self.output = self.process.stdin, self.process.stdout
         self.moves = 0
@@ -98,6 +107,34 @@ class Session:
     def redo(self) -> Made | Refused:
         return self.edit("redo")
 
+    def wrap_text(self, path: str, start: int, end: int, name: str) -> Made | Refused:
+        """Wraps these units of a text, which is cut for that. All is done, and is two or three moves of the history at
+        most, or nothing: where the element is refused the cuts are undone, and what could be redone before is lost."""
+        owner, _, last = path.rpartition(".")
+        if not 0 <= start < end or not last.isdecimal():
+            return Refused("shape", "range")
+        steps = [f"split {path} {end}"] * (not self.ends_at(path, end)) + [f"split {path} {start}"] * (start > 0)
+        at, cuts = int(last) + (start > 0), 0
+        for line in [*steps, f"wrap {owner} {at} {at + 1} {name}"]:
+            done = self.edit(line)
+            if isinstance(done, Refused):
+                for _ in range(cuts):
+                    self.undo()
+                return done
+            cuts += 1
+        return done
+
+    def ends_at(self, path: str, at: int) -> bool:
+        """Whether a text has so many units: it can't be cut there, and can be one before."""
+        if not isinstance(done := self.split(path, at), Refused):
+            self.undo()
+            return False
+        if done != Refused("shape", "range") or at > 1 and isinstance(self.split(path, at - 1), Refused):
+            return False
+        if at > 1:
+            self.undo()
+        return True
+
     def edit(self, line: str) -> Made | Refused:
         """The same by a line of a script."""
         words = self.ask(line)
@@ -109,11 +146,21 @@ class Session:
     # What changes nothing.
     def history(self) -> list[str]:
         """The edits that were made and aren't undone, as lines."""
-        return [self.line() for _ in range(int(self.ask("history")[1]))]
+        with self.whole():
+            return [self.line() for _ in range(int(self.ask("history")[1]))]
 
     def show(self) -> bytes | Refused:
-        words = self.ask("show")
-        return refused(words) if words[0] == "no" else self.body(int(words[1]))
+        with self.whole():
+            words = self.ask("show")
+            return refused(words) if words[0] == "no" else self.body(int(words[1]))
+
+    def texts(self) -> list[tuple[str, str]] | Refused:
+        """The texts in document order, each with its path and with one character for each of its units, as `wrap_text`
+        counts them. A text that has been cut, and neither wrapped nor joined, is one here."""
+        shown = self.show()
+        if isinstance(shown, Refused):
+            return shown
+        return [(node.path, "".join(map(character, UNIT.findall(node.source)))) for node in Layout(shown).texts()]
 
     def verdicts(self) -> list[Verdict] | Refused:
         """All lists, in document order."""
@@ -134,13 +181,15 @@ class Session:
         return refused(words) if words[0] == "no" else int(words[1])
 
     def complete(self) -> Completed | Refused:
-        words = self.ask("complete")
-        return refused(words) if words[0] == "no" else Completed(int(words[1]), self.body(int(words[2])))
+        with self.whole():
+            words = self.ask("complete")
+            return refused(words) if words[0] == "no" else Completed(int(words[1]), self.body(int(words[2])))
 
     def offer(self, path: str, start: int | None = None, end: int | None = None) -> list[str] | Refused:
         """The names that this run of kids may be wrapped in; without a run, those that the element may have."""
-        words = self.ask(f"offer {path}" if start is None else f"offer {path} {start} {end}")
-        return refused(words) if words[0] == "no" else [self.line() for _ in range(int(words[1]))]
+        with self.whole():
+            words = self.ask(f"offer {path}" if start is None else f"offer {path} {start} {end}")
+            return refused(words) if words[0] == "no" else [self.line() for _ in range(int(words[1]))]
 
     # The pipes.
     def ask(self, line: str) -> list[str]:
@@ -149,16 +198,30 @@ class Session:
             raise ValueError("a line holds no line end")
         if self.output.closed:
             raise Ended(self.process.returncode, "")
-        try:
-            self.input.write(line.encode() + b"\n")
-            self.input.flush()
-        except BrokenPipeError:
-            pass
-        first = self.line()
+        data = line.encode() + b"\n"
+        with self.whole():
+            try:
+                self.input.write(data)
+                self.input.flush()
+            except BrokenPipeError:
+                pass
+            first = self.line()
         words = first.split(" ", 2) if first.startswith("no ") else first.split(" ")
         if words[0] not in REPLIES:
             self.ended(first)
         return words
+
+    @contextlib.contextmanager
+    def whole(self) -> Iterator[None]:
+        """What is raised in here ends the program: what is left of a reply would be taken for the next one."""
+        try:
+            yield
+        except Ended:
+            raise
+        except BaseException:
+            self.process.kill()
+            self.close()
+            raise
 
     def line(self) -> str:
         line = self.output.readline()
@@ -175,10 +238,14 @@ class Session:
 
     def verdict_lines(self) -> bytes | Refused:
         """The rows of all lists, as they come."""
-        words = self.ask("verdicts")
-        if words[0] == "no":
-            return refused(words)
-        return b"".join([self.output.readline() for _ in range(int(words[1]))])
+        with self.whole():
+            words = self.ask("verdicts")
+            if words[0] == "no":
+                return refused(words)
+            rows = [self.output.readline() for _ in range(int(words[1]))]
+        if rows and not rows[-1].endswith(b"\n"):
+            self.ended("")
+        return b"".join(rows)
 
     def ended(self, line: str) -> NoReturn:
         raise Ended(self.close(), line)
@@ -204,6 +271,12 @@ class Session:
 
 
 REPLIES = ("ok", "no", "show", "history", "verdicts", "need", "completed", "offer")
+
+
+def character(unit: bytes) -> str:
+    """The character that a unit of a text stands for."""
+    text = html.unescape(unit.decode()) if unit.startswith(b"&") else unit.decode()
+    return text if len(text) == 1 else "\ufffd"
 
 
 def refused(words: list[str]) -> Refused:

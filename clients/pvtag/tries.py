@@ -11,7 +11,7 @@ from collections.abc import Mapping, Sequence
 from typing import NamedTuple
 
 from .dtd import Dtd
-from .program import Trouble, file_of, run
+from .program import RUNNING, Running, Trouble, file_of, run
 
 
 class Kid(NamedTuple):
@@ -53,8 +53,8 @@ def written(owner: str, kids: Sequence[Kid]) -> bytes:
 class Judge:
     """Asks the program of tries, under one DTD and ROOT. What it answered is kept."""
 
-    def __init__(self, program: list[str], dtd: Dtd, root: str) -> None:
-        self.program, self.dtd, self.root = program, dtd, root
+    def __init__(self, program: list[str], dtd: Dtd, root: str, runs: Running = RUNNING) -> None:
+        self.program, self.dtd, self.root, self.runs = program, dtd, root, runs
         self.known: dict[Try, bool] = {}
         self.kept = 0
 
@@ -79,7 +79,7 @@ class Judge:
         """By a `check` of its own."""
         document = written(each.owner, each.kids) if each.owner else stub(each.kids[0])
         with file_of(document) as path:
-            answer = run(self.program, "check", self.dtd.path, each.owner or self.root, path)
+            answer = run(self.program, "check", self.dtd.path, each.owner or self.root, path, runs=self.runs)
         first = b"impossible ." if not each.owner else b"impossible "
         if answer.status > 1:
             raise Trouble(f"a list can't be tried: {answer.line}")
@@ -91,7 +91,7 @@ class Judge:
         dtd = self.dtd.data + b"\n<!ELEMENT %s ANY>" % name.encode()
         document = b"<%s>%s</%s>" % (name.encode(), b"".join(written(*each) for each in tries), name.encode())
         with file_of(dtd, ".dtd") as dtd_path, file_of(document) as path:
-            answer = run(self.program, "session", dtd_path, name, path, given=b"verdicts\n")
+            answer = run(self.program, "session", dtd_path, name, path, given=b"verdicts\n", runs=self.runs)
         if answer.status or not answer.output.startswith(b"verdicts "):
             return list(map(self.one, tries))
         verdicts = {int(found[1]): found[2] == b"impossible" for found in ROW.finditer(answer.output)}

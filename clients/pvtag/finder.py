@@ -1,0 +1,163 @@
+"""Which DTD and which root a document names, and that DTD as one plain file.
+
+    named, root = names_in(data, folder)     # by `<?pvtag dtd="letter.dtd" root="letter"?>`, then by the DOCTYPE
+    plain = Finder(program).plain(named)     # found in the folder or by catalogs, made plain where it is in modules
+"""
+import os
+import re
+import subprocess
+import sys
+import threading
+import urllib.parse
+from concurrent.futures import Future
+from dataclasses import dataclass, field
+from xml.sax.saxutils import quoteattr
+
+from .faults import Refusal, fault_of
+from .memory import MemoryFile
+from .places import BOM, Source
+from .program import TOP, Stopped, Trouble, read_file, run, shown_name
+
+FLATTEN = os.path.join(TOP, "tools", "flatten")
+NAME = rb"[:A-Z_a-z\x80-\xff][-.0-9:A-Z_a-z\x80-\xff]*"
+LITERAL = rb"\"[^\"]*\"|'[^']*'"
+# What may stand before the first element, and its name.
+FRONT = re.compile(rb"\s+|(?P<instruction><\?(?s:.*?)\?>)|<!--(?s:.*?)-->"
+                   rb"|(?P<doctype><!DOCTYPE(?>(?:[^<>\"'\[]|" + LITERAL + rb")*)(?:\[(?s:.*?)\]\s*)?>)|<(?P<element>" + NAME + rb")")
+DOCTYPE = re.compile(rb"<!DOCTYPE\s+(?P<name>" + NAME + rb")(?:\s+SYSTEM\s+(?P<system>" + LITERAL
+                     + rb")|\s+PUBLIC\s+(?P<public>" + LITERAL + rb")\s+(?P<address>" + LITERAL + rb"))?")
+INSTRUCTION = re.compile(rb"<\?pvtag\s+(.*?)\s*\?>\Z", re.S)
+PART = re.compile(rb"(dtd|root)\s*=\s*(" + LITERAL + rb")")
+# What the program doesn't read of XML, and `tools/flatten` does.
+MODULES = re.compile(r"dtd param (conditional|external)|dtd parameter \d")
+
+
+@dataclass(frozen=True)
+class Named:
+    """What names a DTD: a path or an address, with the public identifier where there is one, and the folder that it
+    counts from."""
+
+    system: str
+    public: str
+    folder: str
+
+    @property
+    def file(self) -> str | None:
+        """The path, where it is none of an address."""
+        scheme, _, rest = self.system.partition(":")
+        if scheme == "file":
+            return urllib.parse.unquote(rest[2:] if rest.startswith("//") else rest)
+        if "://" in self.system or scheme == "urn":
+            return None
+        plain, told = (os.path.join(self.folder, path) for path in (self.system, urllib.parse.unquote(self.system)))
+        return plain if os.path.exists(plain) else told
+
+
+@dataclass(frozen=True)
+class Plain:
+    """A plain DTD: the path by which the program reads it, and the name by which people know it. What is held is there
+    for as long as this is."""
+
+    path: str
+    name: str
+    held: MemoryFile | None = field(default=None, compare=False)
+
+
+def unquoted(literal: bytes | None) -> str:
+    return os.fsdecode(literal[1:-1]) if literal else ""
+
+
+def names_in(data: bytes, folder: str) -> tuple[Named | None, str]:
+    """The DTD that a document in a folder names, none where it names none, and its root."""
+    told, doctype, first = dict[str, str](), None, ""
+    at = len(BOM) if data.startswith(BOM) else 0
+    while (item := FRONT.match(data, at)) is not None:
+        at = item.end()
+        if item["element"]:
+            first = item["element"].decode(errors="replace")
+            break
+        if item["instruction"] and (found := INSTRUCTION.match(item[0])):
+            told |= {part[1].decode(): unquoted(part[2]) for part in PART.finditer(found[1])}
+        if item["doctype"]:
+            doctype = doctype or DOCTYPE.match(item[0])
+    root = told.get("root") or (doctype["name"].decode(errors="replace") if doctype else first)
+    if told.get("dtd"):
+        return Named(told["dtd"], "", folder), root
+    if doctype and (doctype["system"] or doctype["address"]):
+        return Named(unquoted(doctype["system"] or doctype["address"]), unquoted(doctype["public"]), folder), root
+    return None, root
+
+
+class Finder:
+    """Finds DTDs, each once: one in modules is made plain, and kept in memory. Several threads may ask at once."""
+
+    def __init__(self, program: list[str]) -> None:
+        self.program, self.lock = program, threading.Lock()
+        self.known: dict[object, Future[Plain]] = {}
+
+    def plain(self, named: Named) -> Plain:
+        """The DTD as a plain file, or a trouble that says why there is none."""
+        file = named.file
+        is_there = file is not None and os.path.isfile(file)
+        key = os.path.realpath(file) if file is not None and is_there else named
+        with self.lock:
+            future = self.known.get(key)
+            is_new = future is None
+            if future is None:
+                future = self.known[key] = Future()
+        if is_new:
+            try:
+                future.set_result(self.read(file) if file is not None and is_there else self.by_catalog(named))
+            except BaseException as fault:  # pylint: disable=broad-except
+                future.set_exception(fault if isinstance(fault, (Trouble, Stopped)) else Trouble(f"{named.system}: {fault}"))
+        told = future.exception()
+        if told is not None:
+            raise told.with_traceback(None)
+        return future.result()
+
+    def read(self, file: str) -> Plain:
+        """A DTD's file, made plain where it needs to be."""
+        name = shown_name(file)
+        data = read_file(file)
+        # The program takes no words that aren't UTF-8.
+        held = None if is_utf_8(file) else MemoryFile(data)
+        path = held.path if held is not None else file
+        answer = run(self.program, "dtd", path)
+        if answer.status == 0:
+            return Plain(path, name, held)
+        if MODULES.match(answer.line):
+            return self.flattened(file, name)
+        raise Refusal(fault_of(answer.status, answer.line, {"dtd": Source(name, data)}))
+
+    def by_catalog(self, named: Named) -> Plain:
+        """A DTD that the catalogs of this machine know by its address or its public identifier."""
+        if named.file is not None and not named.public:
+            raise Trouble(f"{shown_name(named.file)}: there is no such DTD")
+        system = named.system if named.file is None else f"file://{urllib.parse.quote(os.fsencode(named.file))}"
+        identifier = f"PUBLIC {quoteattr(named.public)} {quoteattr(system)}" if named.public else f"SYSTEM {quoteattr(system)}"
+        whole = MemoryFile(os.fsencode(f"<!ENTITY % all {identifier}>\n%all;\n"))
+        try:
+            return self.flattened(whole.path, shown_name(named.system))
+        finally:
+            whole.close()
+
+    def flattened(self, path: str, name: str) -> Plain:
+        """What `tools/flatten` makes of a DTD, in memory."""
+        said = ""
+        for python in dict.fromkeys((sys.executable, "/usr/bin/python3")):
+            try:
+                ran = subprocess.run([python, FLATTEN, path], capture_output=True, stdin=subprocess.DEVNULL, check=False,
+                                     start_new_session=True)
+            except OSError:
+                continue
+            if ran.returncode == 0:
+                held = MemoryFile(ran.stdout)
+                return Plain(held.path, name, held)
+            said = said if ran.returncode == 2 and said else ran.stderr.decode(errors="replace")
+        lines = [line.removeprefix("flatten: ").replace(shown_name(path), name) for line in said.splitlines()]
+        raise Trouble(f"{name}: the DTD can't be made plain: " + "; ".join(lines[:3]))
+
+
+def is_utf_8(word: str) -> bool:
+    """Whether the program takes a word."""
+    return not any("\udc80" <= char <= "\udcff" for char in word)
